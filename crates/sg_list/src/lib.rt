@@ -1,0 +1,23 @@
+//! The list types of the whole program: a short own type over one `Vec`, which clauses see as the
+//! list of its items.
+//!
+//! `Numbers` holds small items that are copied, as spin values, couplings or bond numbers, and `at`
+//! gives the item. `Records` holds items with parts of their own, as bonds or loops, and `at` lends
+//! the item. The other crates give them names: `pub type Couplings = Numbers<i64>;`.
+//!
+//! For the next engineer: each clause speaks of the whole list, and nothing of a capacity. Both
+//! types keep the allocator that `new` was given; only `push` asks it for memory.
+#![tactic(auto)]
+
+mod numbers;
+mod records;
+
+pub use numbers::Numbers;
+pub use records::Records;
+use std::alloc::AllocError;
+
+/// The allocator had no memory left.
+pub type NoMemory = AllocError;
+
+#[cfg(test)]
+mod tests;

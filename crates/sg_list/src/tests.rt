@@ -1,0 +1,19 @@
+use super::{Numbers, Records};
+use std::test::Fail;
+
+#[test]
+fn both_lists_keep_their_items_in_order(rt: HostRuntime) -> Result<(), Fail> {
+    let mut list = Numbers::new(rt.alloc());
+    assert!(rt; list.is_empty());
+    list.push(7u32)?;
+    list.push(9)?;
+    assert_eq!(rt; list.len(), 2);
+    assert_eq!(rt; list.at(1), 9);
+    let mut rows = Records::new(rt.alloc());
+    rows.push(list)?;
+    assert_eq!(rt; rows.len(), 1);
+    assert!(rt; !rows.is_empty());
+    assert_eq!(rt; rows.at(0).as_slice(), [7, 9].as_slice());
+    assert_eq!(rt; rows.as_slice().len(), 1);
+    Ok(())
+}
