@@ -1,0 +1,4 @@
+pub mod Ising
+pub mod Spins
+pub mod Energy
+pub mod Broken
