@@ -27,3 +27,6 @@ pub type NoMemory = AllocError;
 
 /// Couplings, in the order of the bonds.
 pub type Couplings = Numbers<i64>;
+
+/// Bonds by number: a seam, or the bonds of a loop.
+pub type BondList = Numbers<u32>;
