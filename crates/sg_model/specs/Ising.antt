@@ -1,5 +1,5 @@
 -- An instance of the Ising model without a field, as contracts see it.
-use Rattle.std.specs.Prelude.{◌≡◌, ◌≢◌, ℕ, ◌^◌, ◌<◌, ◌≤◌, pos, List, length, slice_index_or, All, unsigned_abs}
+use Rattle.std.specs.Prelude.{◌≢◌, ℕ, ◌^◌, ◌<◌, ◌≤◌, pos, List, length, slice_index_or, All, unsigned_abs}
 use Rattle.sg_model.specs.declared.bond.Bond.{Bond}
 
 -- `n` spins, numbered from 0, and the bonds, numbered in their order

@@ -1,9 +1,9 @@
-ghost use Rattle.std.specs.Prelude.{◌≡◌, ◌≤◌, ◌^◌, ℤ, pos, length, All};
+ghost use Rattle.std.specs.Prelude.{◌≡◌, ◌≤◌, ◌<◌, ◌*◌, ◌^◌, ◌+ℤ◌, ◌*ℤ◌, ℤ, pos, fold, length, All, unsigned_abs};
 ghost use Rattle.sg_model.specs.Ising.{IsBond, IsInstance};
 ghost use Rattle.sg_model.specs.Spins.{IsAssignment};
-ghost use Rattle.sg_model.specs.Energy.{energy, weight as weight_of};
+ghost use Rattle.sg_model.specs.Energy.{energy, product, weight as weight_of};
 
-use super::{Bonds, Spins};
+use super::{Bond, Bonds, Spins};
 use std::marker::Model;
 
 /// An instance: at least one spin and at most 2^24 spins and bonds, each bond between two
@@ -59,15 +59,7 @@ impl Instance {
         requires { length s.now ≡ self.now.n }
         ensures { result ≡ energy self.now s.now }
     {
-        let mut total: i128 = 0;
-        for bond in self.bonds.as_slice() {
-            if s.at(bond.u as usize) == s.at(bond.v as usize) {
-                total -= i128::from(bond.j);
-            } else {
-                total += i128::from(bond.j);
-            }
-        }
-        total
+        -alignment(self.bonds.as_slice(), s)
     }
 
     /// The sum of the couplings' sizes, in time linear in the bonds. It takes no memory.
@@ -80,4 +72,32 @@ impl Instance {
         }
         total
     }
+}
+
+// The coupling times the product of the two spins.
+fn coupled_product(bond: Bond, s: &Spins) -> i128
+    requires { IsBond (length s.now) bond }
+    ensures value { result ≡ bond.j *ℤ product s.now bond }
+    ensures size { unsigned_abs result < 2 ^ 63 }
+{
+    let j = i128::from(bond.j);
+    if s.at(bond.u as usize) == s.at(bond.v as usize) {
+        j
+    } else {
+        -j
+    }
+}
+
+// The sum over the bonds of the coupling times the product of the two spins.
+fn alignment(bonds: &[Bond], s: &Spins) -> i128
+    requires few { length bonds.now ≤ 2 ^ 24 }
+    requires joined { All (IsBond (length s.now)) bonds.now }
+    ensures value { result ≡ fold (λ total b. total +ℤ (b.j *ℤ product s.now b)) (pos 0) bonds.now }
+    ensures size { unsigned_abs result ≤ 2 ^ 24 * 2 ^ 63 }
+{
+    let mut total: i128 = 0;
+    for bond in bonds {
+        total += coupled_product(*bond, s);
+    }
+    total
 }

@@ -17,9 +17,8 @@ mod spins;
 pub use bond::{Bond, Bonds};
 pub use instance::Instance;
 pub use refusal::{Fault, Refusal};
-pub use spins::Spins;
-
 use sg_list::Numbers;
+pub use spins::Spins;
 use std::alloc::AllocError;
 
 /// The allocator had no memory left.
