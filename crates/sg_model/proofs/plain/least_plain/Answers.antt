@@ -1,7 +1,7 @@
-use Rattle.std.proofs.Common.{arith, ◌≡◌, subst, sym, ap, ◌∙◌, List, ℤ, ◌*◌}
+use Rattle.std.proofs.Common.{◌≡◌, subst, sym, ap, ◌∙◌, ◌*◌}
 use Rattle.sg_model.specs.Energy.{IsGroundState}
 use Rattle.sg_model.specs.Codes.{coded}
-use Rattle.sg_model.proofs.PlainSearch.{ground_state, coded-first_up}
+use Rattle.sg_model.proofs.PlainSearch.{ground_state}
 use Rattle.sg_model.proofs.plain.least_plain.Goals as goal
 
 pub returns-clause-least : goal.returns-clause-least
