@@ -7,7 +7,8 @@ use super::{Instance, NoMemory, Spins};
 use std::alloc::Global;
 
 /// A ground state with spin 0 up, and its energy, by trying every assignment with spin 0 up: the
-/// reference for each faster solver. The time is 2^(n-1) times the number of bonds.
+/// reference for each faster solver. The time is 2^(n-1) times the number of bonds. It asks for
+/// memory once, for the spins, before the first try; the only error is that there is none.
 pub fn least_plain(alloc: Global, inst: &Instance) -> Result<(Spins, i128), NoMemory>
     requires { inst.now.n ≤ 16 }
     ensures least { IfOk result (λ r. IsGroundState inst.now r.0) }

@@ -1,5 +1,4 @@
-ghost use Rattle.std.specs.Prelude.{◌≡◌, ◌≤◌, ◌^◌, IfOk, length, All};
-ghost use Rattle.sg_model.specs.Ising.{IsBond};
+ghost use Rattle.std.specs.Prelude.{◌≡◌, IfOk};
 
 use super::{Bond, Bonds, Fault, Instance, Spins, least_plain};
 use std::alloc::{AllocError, Global};
