@@ -1,6 +1,5 @@
-ghost use Rattle.std.specs.Prelude.{◌≡◌, ◌≤◌, ◌<◌, ◌*◌, ◌^◌, ◌+ℤ◌, ◌*ℤ◌, ℤ, pos, fold, length, All, unsigned_abs};
+ghost use Rattle.std.specs.Prelude.{◌≡◌, ◌≤◌, ◌<◌, ◌*◌, ◌^◌, ◌+ℤ◌, ◌*ℤ◌, pos, fold, length, All, unsigned_abs};
 ghost use Rattle.sg_model.specs.Ising.{IsBond, IsInstance};
-ghost use Rattle.sg_model.specs.Spins.{IsAssignment};
 ghost use Rattle.sg_model.specs.Energy.{energy, product, weight as weight_of};
 
 use super::{Bond, Bonds, Spins};

@@ -11,11 +11,13 @@
 
 mod bond;
 mod instance;
+mod plain;
 mod refusal;
 mod spins;
 
 pub use bond::{Bond, Bonds};
 pub use instance::Instance;
+pub use plain::least_plain;
 pub use refusal::{Fault, Refusal};
 use sg_list::Numbers;
 pub use spins::Spins;
@@ -29,3 +31,6 @@ pub type Couplings = Numbers<i64>;
 
 /// Bonds by number: a seam, or the bonds of a loop.
 pub type BondList = Numbers<u32>;
+
+#[cfg(test)]
+mod tests;

@@ -1,5 +1,6 @@
-ghost use Rattle.std.specs.Prelude.{◌≡◌, ◌==◌, [], ◌∷◌, ◌++◌, ◌<◌, Some, length, All, OnOk, OnErr, slice_get};
+ghost use Rattle.std.specs.Prelude.{◌≡◌, ◌==◌, [], ◌∷◌, ◌++◌, ◌<◌, Some, pos, length, replicate, All, OnOk, OnErr, IfOk, slice_get};
 ghost use Rattle.sg_model.specs.Spins.{IsUpOrDown};
+ghost use Rattle.sg_model.specs.Codes.{coded};
 
 use super::NoMemory;
 use std::alloc::Global;
@@ -72,5 +73,34 @@ impl Spins {
         ensures up_or_down { All IsUpOrDown self.now }
     {
         self.values.as_slice()
+    }
+
+    /// `n` spins, all up.
+    pub(crate) fn all_up(alloc: Global, n: usize) -> Result<Self, NoMemory>
+        ensures { IfOk result (λ s. s ≡ replicate n (pos 1)) }
+    {
+        Ok(Spins {
+            values: vec![in alloc; 1i8; n]?,
+        })
+    }
+
+    /// Overwrites all values: spin `i` is down where bit `i` of the code, from the lowest, is 1.
+    pub(crate) fn assign(&mut self, code: u32)
+        ensures value { self.new ≡ coded (length self.old) code }
+        ensures count { length self.new ≡ length self.old }
+    {
+        write_code(&mut self.values, code);
+    }
+}
+
+// Writes the spins of a code.
+fn write_code(values: &mut [i8], code: u32)
+    ensures value { values.new ≡ coded (length values.old) code }
+    ensures count { length values.new ≡ length values.old }
+{
+    let mut rest = code;
+    for i in 0..values.len() {
+        values[i] = if rest % 2 == 0 { 1 } else { -1 };
+        rest /= 2;
     }
 }

@@ -1,0 +1,4 @@
+pub mod Codes
+pub mod Opposites
+pub mod PlainSearch
+pub mod BrokenEnergy
