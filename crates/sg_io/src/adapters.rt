@@ -1,0 +1,117 @@
+// Std's readers and writers as devices.
+ghost use Rattle.std.specs.Prelude.{◌≡◌, None, ◌<◌, length};
+ghost use Rattle.sg_io.specs.Devices.{counted, CountsOn, ReadFaultShown, Reads, read_faults, ReadsWithin, WriteFaultShown, Writes, write_faults, WritesWithin};
+
+use super::{Gave, Sink, Source, Took};
+use std::io::{Read, Write};
+use std::marker::Model;
+
+/// A reader of std as a source.
+///
+/// Clauses see it as its count of failed reads. It tells nothing of bytes: what a file, a pipe or a
+/// terminal gives is open, and whether the reader is what it should be is trusted.
+#[derive(Drop)]
+pub struct ReadSource<R> {
+    inner: R,
+    faults: u64,
+}
+
+impl<R> Model for ReadSource<R> {
+    ghost use Rattle.std.specs.Prelude.{ℕ};
+
+    ghost Value = { ℕ };
+
+    ghost view = { λ s. s.faults };
+}
+
+impl<R: Read> ReadSource<R> {
+    /// The source that reads from this reader. No read has failed yet.
+    pub fn new(inner: R) -> Self
+        ensures { result ≡ 0 }
+    {
+        ReadSource { inner, faults: 0 }
+    }
+}
+
+impl<R: Read> Source for ReadSource<R> {
+    ghost left = { λ _. None };
+
+    ghost faults = { λ s. s };
+
+    fn read(&mut self, into: &mut [u8]) -> Took
+        ensures count { ReadsWithin result into.new }
+        ensures bytes { Reads result into.new None None }
+        ensures failed { ReadFaultShown result self.old self.new }
+        ensures faults { CountsOn self.old self.new }
+
+        // Exactly the reads that fail are counted.
+        ensures counted { self.new ≡ read_faults result self.old }
+    {
+        match self.inner.read(into) {
+            Ok(0) => Took::End,
+            Ok(count) => Took::Got(count),
+            Err(_) => {
+                self.faults = self.faults.saturating_add(1);
+                Took::Failed
+            }
+        }
+    }
+}
+
+/// A writer of std as a sink.
+///
+/// Clauses see it as its count of failed writes. It tells nothing of bytes, and does not flush.
+#[derive(Drop)]
+pub struct WriteSink<W> {
+    inner: W,
+    faults: u64,
+}
+
+impl<W> Model for WriteSink<W> {
+    ghost use Rattle.std.specs.Prelude.{ℕ};
+
+    ghost Value = { ℕ };
+
+    ghost view = { λ s. s.faults };
+}
+
+impl<W: Write> WriteSink<W> {
+    /// The sink that writes to this writer. No write has failed yet.
+    pub fn new(inner: W) -> Self
+        ensures { result ≡ 0 }
+    {
+        WriteSink { inner, faults: 0 }
+    }
+}
+
+impl<W: Write> Sink for WriteSink<W> {
+    ghost written = { λ _. None };
+
+    ghost faults = { λ s. s };
+
+    fn write(&mut self, bytes: &[u8]) -> Gave
+        ensures count { WritesWithin result bytes.now }
+        ensures bytes { Writes result bytes.now None None }
+        ensures failed { WriteFaultShown result self.old self.new }
+        ensures faults { CountsOn self.old self.new }
+
+        // Exactly the writes that fail are counted.
+        ensures counted { self.new ≡ write_faults result self.old }
+    {
+        match self.inner.write(bytes) {
+            Ok(0) => self.fail(),
+            Ok(count) => Gave::Took(count),
+            Err(_) => self.fail(),
+        }
+    }
+}
+
+impl<W> WriteSink<W> {
+    fn fail(&mut self) -> Gave
+        ensures result { result ≡ Gave.Failed }
+        ensures counted { self.new ≡ counted self.old }
+    {
+        self.faults = self.faults.saturating_add(1);
+        Gave::Failed
+    }
+}
