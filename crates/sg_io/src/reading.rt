@@ -1,7 +1,6 @@
 // Reading a source to its end.
-ghost use Rattle.std.specs.Prelude.{◌≡◌, ◌+◌, ◌^◌, ◌<◌, ◌≤◌, [], length, IfOk, OnOk, IsErrOf};
-ghost use Rattle.sg_io.specs.Devices.{FaultShown, Loses};
-ghost use Rattle.sg_io.specs.Reading.{Empties, LosesAtMost};
+ghost use Rattle.std.specs.Prelude.{◌≡◌, ◌+◌, ◌^◌, ◌<◌, ◌≤◌, [], length, IfErr, IfOk, OnOk};
+ghost use Rattle.sg_io.specs.Reading.{Empties, EndFaultShown, Stops};
 
 use super::{Source, Took};
 use std::alloc::{AllocError, Global};
@@ -41,12 +40,10 @@ pub fn read_all<S: Source>(alloc: Global, source: &mut S, limit: usize) -> Resul
     ensures whole { IfOk result (λ bytes. Empties bytes.items (S.left source.old) (S.left source.new)) }
     ensures within { IfOk result (λ bytes. length bytes.items ≤ limit) }
 
-    ensures too_long { IsErrOf result ReadEnd.TooLong → Loses (limit + 1) (S.left source.old) (S.left source.new) }
-    ensures stopped { IsErrOf result ReadEnd.ReadFault → LosesAtMost limit (S.left source.old) (S.left source.new) }
-    ensures no_memory { IsErrOf result ReadEnd.NoMemory → LosesAtMost limit (S.left source.old) (S.left source.new) }
+    ensures stopped { IfErr result (λ end. Stops end limit (S.left source.old) (S.left source.new)) }
 
     // A fault is answered only where the source counted one.
-    ensures fault { IsErrOf result ReadEnd.ReadFault → FaultShown (S.faults source.old) (S.faults source.new) }
+    ensures fault { IfErr result (λ end. EndFaultShown end (S.faults source.old) (S.faults source.new)) }
     ensures faults { S.faults source.old ≤ S.faults source.new }
 {
     let mut piece = vec![in alloc; 0u8; PIECE]?;
@@ -67,10 +64,8 @@ fn gather<S: Source>(
     requires empty { bytes.old.items ≡ [] }
     ensures whole { OnOk result (Empties bytes.new.items (S.left source.old) (S.left source.new)) }
     ensures within { OnOk result (length bytes.new.items ≤ limit) }
-    ensures too_long { IsErrOf result ReadEnd.TooLong → Loses (limit + 1) (S.left source.old) (S.left source.new) }
-    ensures stopped { IsErrOf result ReadEnd.ReadFault → LosesAtMost limit (S.left source.old) (S.left source.new) }
-    ensures no_memory { IsErrOf result ReadEnd.NoMemory → LosesAtMost limit (S.left source.old) (S.left source.new) }
-    ensures fault { IsErrOf result ReadEnd.ReadFault → FaultShown (S.faults source.old) (S.faults source.new) }
+    ensures stopped { IfErr result (λ end. Stops end limit (S.left source.old) (S.left source.new)) }
+    ensures fault { IfErr result (λ end. EndFaultShown end (S.faults source.old) (S.faults source.new)) }
     ensures faults { S.faults source.old ≤ S.faults source.new }
 {
     loop {
