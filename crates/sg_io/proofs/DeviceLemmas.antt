@@ -1,9 +1,9 @@
 -- Calls of a device, one after another.
-use Rattle.std.proofs.Common.{◌≡◌, ℕ, ◌+◌, ◌-◌, ◌≤◌, ◌<◌, ◌⊎◌, List, [], ◌∷◌, ◌++◌, length, take, drop, Option, None, Some, refl, sym, ap, subst, ◌∙◌, inl, inr, arith, append_assoc, length-append, length-drop}
+use Rattle.std.proofs.Common.{◌≡◌, ℕ, ◌+◌, ◌-◌, ◌≤◌, List, [], ◌++◌, length, take, drop, Option, None, Some, refl, sym, ap, subst, ◌∙◌, inl, inr, arith, append_assoc, length-append, length-drop}
 use Rattle.std.proofs.Math.Seq.{drop-append-add, drop-append_seam, take-append-add, take-length}
 use Rattle.std.proofs.lemmas.List.{take-append-drop, append-nil, length-take-le}
-use Rattle.sg_io.specs.Devices.{last_count, FaultShown, Loses, Delivers, IsSpent, Grows}
-use Rattle.sg_io.specs.Reading.{Empties, LosesAtMost}
+use Rattle.sg_io.specs.Devices.{FaultShown, Loses, Delivers, IsSpent, Grows}
+use Rattle.sg_io.specs.Reading.{Empties}
 
 -- these bytes, and no others, are gone from the front of those still to come, where they are told
 abbrev pub Takes : List ℕ → Option (List ℕ) → Option (List ℕ) → Type 0

@@ -1,5 +1,5 @@
 -- What writing bytes to a sink does.
-use Rattle.std.specs.Prelude.{◌≡◌, ℕ, ◌≤◌, List, length, take, Option}
+use Rattle.std.specs.Prelude.{ℕ, ◌≤◌, List, length, take, Option}
 use Rattle.sg_io.specs.Devices.{Grows}
 
 -- the bytes written, where they are told, have grown by a prefix of these

@@ -12,14 +12,22 @@
 
 mod adapters;
 mod devices;
+mod memory_sink;
+mod memory_source;
 mod reading;
 mod writing;
 
 pub use adapters::{ReadSource, WriteSink};
 pub use devices::{Gave, Sink, Source, Took};
+pub use memory_sink::MemSink;
+pub use memory_source::MemSource;
 pub use reading::{ReadEnd, read_all};
+use sg_list::Numbers;
 use std::alloc::AllocError;
 pub use writing::{WriteFault, put};
 
 /// The allocator had no memory left.
 pub type NoMemory = AllocError;
+
+/// The numbers of calls, counted from 0: those at which a device in memory fails.
+pub type CallList = Numbers<u64>;

@@ -1,4 +1,4 @@
-use Rattle.std.proofs.Common.{◌≡◌, ◌+◌, ◌-◌, ◌≤◌, length}
+use Rattle.std.proofs.Common.{◌+◌, ◌-◌, ◌≤◌, length}
 use Rattle.sg_io.proofs.DeviceLemmas.{Takes}
 use Rattle.sg_io.proofs.reading.gather.Given as goal
 

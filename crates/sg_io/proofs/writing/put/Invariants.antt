@@ -1,4 +1,4 @@
-use Rattle.std.proofs.Common.{◌≡◌, ◌-◌, ◌≤◌, length, take}
+use Rattle.std.proofs.Common.{◌-◌, ◌≤◌, length, take}
 use Rattle.sg_io.specs.Devices.{Grows}
 use Rattle.sg_io.proofs.writing.put.Given as goal
 
