@@ -1,5 +1,6 @@
 // Std's readers and writers as devices.
 ghost use Rattle.std.specs.Prelude.{◌≡◌, None, ◌<◌, length};
+ghost use Rattle.sg_io.specs.Adapters.{PassesRead, PassesWrite};
 ghost use Rattle.sg_io.specs.Devices.{counted, CountsOn, ReadFaultShown, Reads, read_faults, ReadsWithin, WriteFaultShown, Writes, write_faults, WritesWithin};
 
 use super::{Gave, Sink, Source, Took};
@@ -17,12 +18,13 @@ pub struct ReadSource<R> {
 }
 
 impl<R> Model for ReadSource<R> {
-    ghost use Rattle.std.specs.Prelude.{ℕ, ◌≤◌};
+    ghost use Rattle.std.specs.Prelude.{◌≤◌};
+    ghost use Rattle.sg_io.specs.Adapters.{Adapter};
     ghost use Rattle.sg_io.specs.Devices.{last_count};
 
-    ghost Value = { ℕ };
+    ghost Value = { Adapter R };
 
-    ghost view = { λ s. s.faults };
+    ghost view = { λ s. record { inner = s.inner; faults = s.faults } };
 
     ghost invariant = { λ s. s.faults ≤ last_count };
 }
@@ -30,7 +32,7 @@ impl<R> Model for ReadSource<R> {
 impl<R: Read> ReadSource<R> {
     /// The source that reads from this reader. No read has failed yet.
     pub fn new(inner: R) -> Self
-        ensures { result ≡ 0 }
+        ensures { result ≡ record { inner = inner; faults = 0 } }
     {
         ReadSource { inner, faults: 0 }
     }
@@ -39,16 +41,20 @@ impl<R: Read> ReadSource<R> {
 impl<R: Read> Source for ReadSource<R> {
     ghost left = { λ _. None };
 
-    ghost faults = { λ s. s };
+    ghost faults = { λ s. s.faults };
 
     fn read(&mut self, into: &mut [u8]) -> Took
+        requires { 0 < length into.old }
         ensures count { ReadsWithin result into.new }
         ensures bytes { Reads result into.new None None }
-        ensures failed { ReadFaultShown result self.old self.new }
-        ensures faults { CountsOn self.old self.new }
+        ensures failed { ReadFaultShown result self.old.faults self.new.faults }
+        ensures faults { CountsOn self.old.faults self.new.faults }
 
         // Exactly the reads that fail are counted.
-        ensures counted { self.new ≡ read_faults result self.old }
+        ensures counted { self.new.faults ≡ read_faults result self.old.faults }
+
+        // What std knows of the reader's bytes.
+        ensures passed { PassesRead result into.new (R.remaining self.old.inner) (R.remaining self.new.inner) }
     {
         match self.inner.read(into) {
             Ok(0) => Took::End,
@@ -71,12 +77,13 @@ pub struct WriteSink<W> {
 }
 
 impl<W> Model for WriteSink<W> {
-    ghost use Rattle.std.specs.Prelude.{ℕ, ◌≤◌};
+    ghost use Rattle.std.specs.Prelude.{◌≤◌};
+    ghost use Rattle.sg_io.specs.Adapters.{Adapter};
     ghost use Rattle.sg_io.specs.Devices.{last_count};
 
-    ghost Value = { ℕ };
+    ghost Value = { Adapter W };
 
-    ghost view = { λ s. s.faults };
+    ghost view = { λ s. record { inner = s.inner; faults = s.faults } };
 
     ghost invariant = { λ s. s.faults ≤ last_count };
 }
@@ -84,7 +91,7 @@ impl<W> Model for WriteSink<W> {
 impl<W: Write> WriteSink<W> {
     /// The sink that writes to this writer. No write has failed yet.
     pub fn new(inner: W) -> Self
-        ensures { result ≡ 0 }
+        ensures { result ≡ record { inner = inner; faults = 0 } }
     {
         WriteSink { inner, faults: 0 }
     }
@@ -93,16 +100,20 @@ impl<W: Write> WriteSink<W> {
 impl<W: Write> Sink for WriteSink<W> {
     ghost written = { λ _. None };
 
-    ghost faults = { λ s. s };
+    ghost faults = { λ s. s.faults };
 
     fn write(&mut self, bytes: &[u8]) -> Gave
+        requires { 0 < length bytes.now }
         ensures count { WritesWithin result bytes.now }
         ensures bytes { Writes result bytes.now None None }
-        ensures failed { WriteFaultShown result self.old self.new }
-        ensures faults { CountsOn self.old self.new }
+        ensures failed { WriteFaultShown result self.old.faults self.new.faults }
+        ensures faults { CountsOn self.old.faults self.new.faults }
 
         // Exactly the writes that fail are counted.
-        ensures counted { self.new ≡ write_faults result self.old }
+        ensures counted { self.new.faults ≡ write_faults result self.old.faults }
+
+        // What std knows of the writer's bytes.
+        ensures passed { PassesWrite result bytes.now (W.contents self.old.inner) (W.contents self.new.inner) }
     {
         match self.inner.write(bytes) {
             Ok(0) => self.fail(),
@@ -115,7 +126,7 @@ impl<W: Write> Sink for WriteSink<W> {
 impl<W> WriteSink<W> {
     fn fail(&mut self) -> Gave
         ensures result { result ≡ Gave.Failed }
-        ensures counted { self.new ≡ counted self.old }
+        ensures counted { self.new ≡ record { inner = self.old.inner; faults = counted self.old.faults } }
     {
         self.faults = self.faults.saturating_add(1);
         Gave::Failed
