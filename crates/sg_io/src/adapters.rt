@@ -9,8 +9,9 @@ use std::marker::Model;
 
 /// A reader of std as a source.
 ///
-/// Clauses see it as its count of failed reads. It tells nothing of bytes: what a file, a pipe or a
-/// terminal gives is open, and whether the reader is what it should be is trusted.
+/// A read of 0 bytes is the end, and each `Err` is a failure and counts. Clauses see the reader and
+/// the failed reads so far. As a source it tells nothing of bytes: what a file, a pipe or a terminal
+/// gives is trusted.
 #[derive(Drop)]
 pub struct ReadSource<R> {
     inner: R,
@@ -69,7 +70,8 @@ impl<R: Read> Source for ReadSource<R> {
 
 /// A writer of std as a sink.
 ///
-/// Clauses see it as its count of failed writes. It tells nothing of bytes, and does not flush.
+/// A write of 0 bytes and each `Err` is a failure and counts. Clauses see the writer and the failed
+/// writes so far. As a sink it tells nothing of bytes. It does not flush.
 #[derive(Drop)]
 pub struct WriteSink<W> {
     inner: W,
@@ -116,9 +118,8 @@ impl<W: Write> Sink for WriteSink<W> {
         ensures passed { PassesWrite result bytes.now (W.contents self.old.inner) (W.contents self.new.inner) }
     {
         match self.inner.write(bytes) {
-            Ok(0) => self.fail(),
+            Ok(0) | Err(_) => self.fail(),
             Ok(count) => Gave::Took(count),
-            Err(_) => self.fail(),
         }
     }
 }
