@@ -10,8 +10,8 @@ abbrev pub last_count : ℕ
 last_count = 18446744073709551615
 
 -- one more, but never past the last value
-abbrev pub counted : ℕ → ℕ
-counted n = min (n + 1) last_count
+abbrev pub next_count : ℕ → ℕ
+next_count n = min (n + 1) last_count
 
 -- a failed call is shown: the count of faults rose, or stands at its last value
 abbrev pub FaultShown : ℕ → ℕ → Type 0
@@ -62,7 +62,7 @@ ReadFaultShown took.Failed old new = FaultShown old new
 abbrev pub read_faults : Took → ℕ → ℕ
 read_faults (took.Got n) faults = faults
 read_faults took.End faults = faults
-read_faults took.Failed faults = counted faults
+read_faults took.Failed faults = next_count faults
 
 -- the bytes written, where they are told, have grown by these
 abbrev pub Grows : List ℕ → Option (List ℕ) → Option (List ℕ) → Type 0
@@ -87,4 +87,4 @@ WriteFaultShown gave.Failed old new = FaultShown old new
 -- the count of faults behind a write: one more where it failed, and never past the last value
 abbrev pub write_faults : Gave → ℕ → ℕ
 write_faults (gave.Took n) faults = faults
-write_faults gave.Failed faults = counted faults
+write_faults gave.Failed faults = next_count faults

@@ -1,7 +1,7 @@
 // Std's readers and writers as devices.
 ghost use Rattle.std.specs.Prelude.{◌≡◌, None, ◌<◌, length};
 ghost use Rattle.sg_io.specs.Adapters.{PassesRead, PassesWrite};
-ghost use Rattle.sg_io.specs.Devices.{counted, CountsOn, ReadFaultShown, Reads, read_faults, ReadsWithin, WriteFaultShown, Writes, write_faults, WritesWithin};
+ghost use Rattle.sg_io.specs.Devices.{next_count, CountsOn, ReadFaultShown, Reads, read_faults, ReadsWithin, WriteFaultShown, Writes, write_faults, WritesWithin};
 
 use super::{Gave, Sink, Source, Took};
 use std::io::{Read, Write};
@@ -127,7 +127,7 @@ impl<W: Write> Sink for WriteSink<W> {
 impl<W> WriteSink<W> {
     fn fail(&mut self) -> Gave
         ensures result { result ≡ Gave.Failed }
-        ensures counted { self.new ≡ record { inner = self.old.inner; faults = counted self.old.faults } }
+        ensures counted { self.new ≡ record { inner = self.old.inner; faults = next_count self.old.faults } }
     {
         self.faults = self.faults.saturating_add(1);
         Gave::Failed

@@ -1,7 +1,7 @@
 // A sink in memory.
 ghost use Rattle.std.specs.Prelude.{◌≡◌, ◌<◌, ◌≤◌, [], Some, IfOk, length};
 ghost use Rattle.sg_io.specs.Devices.{CountsOn, WriteFaultShown, Writes, WritesWithin};
-ghost use Rattle.sg_io.specs.Memory.{after_write, write_answer};
+ghost use Rattle.sg_io.specs.Memory.{sink_after, write_answer};
 
 use super::{CallList, Gave, NoMemory, Sink};
 use std::alloc::Global;
@@ -81,7 +81,7 @@ impl Sink for MemSink {
 
         // Which calls fail, how many bytes a write takes, and all that a call changes.
         ensures answer { result ≡ write_answer self.old (length bytes.now) }
-        ensures after { self.new ≡ after_write result bytes.now self.old }
+        ensures after { self.new ≡ sink_after result bytes.now self.old }
     {
         let fails = self.fails.as_slice().contains(&self.calls) || self.room == 0;
         self.calls = self.calls.saturating_add(1);

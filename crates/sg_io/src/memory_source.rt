@@ -1,7 +1,7 @@
 // A source in memory.
 ghost use Rattle.std.specs.Prelude.{◌≡◌, ◌<◌, ◌≤◌, Some, length};
 ghost use Rattle.sg_io.specs.Devices.{CountsOn, ReadFaultShown, Reads, ReadsWithin};
-ghost use Rattle.sg_io.specs.Memory.{after_read, read_answer};
+ghost use Rattle.sg_io.specs.Memory.{source_after, read_answer};
 
 use super::{CallList, Source, Took};
 use std::marker::Model;
@@ -71,7 +71,7 @@ impl Source for MemSource {
 
         // Which calls fail, how many bytes a read gives, and all that a call changes.
         ensures answer { result ≡ read_answer self.old (length into.old) }
-        ensures after { self.new ≡ after_read result self.old }
+        ensures after { self.new ≡ source_after result self.old }
     {
         let fails = self.fails.as_slice().contains(&self.calls);
         self.calls = self.calls.saturating_add(1);
