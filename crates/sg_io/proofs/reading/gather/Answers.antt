@@ -1,0 +1,27 @@
+use Rattle.std.proofs.Common.{◌≡◌, ◌+◌, ℕ, length, subst, arith}
+use Rattle.std.proofs.lemmas.List.{length-take}
+use Rattle.std.proofs.lemmas.Result.{err_from_is_err_and}
+use Rattle.sg_io.specs.Devices.{Loses}
+use Rattle.sg_io.proofs.DeviceLemmas.{Loses-more}
+use Rattle.sg_io.proofs.reading.gather.Goals as goal
+
+pub returns-then-len-count-clause-stopped : goal.returns-then-len-count-clause-stopped
+returns-then-len-count-clause-stopped g c =
+    let left = g.S.Source.left in
+    let bytes = c.loop-count.bytes.items in
+    let full : length bytes + c.in-Got.count ≡ c.args.limit + 1 =
+    omega (arith, c.in-Got.ensures.count.1, c.read.auto.into, length-take c.min-room.result c.loop-count.piece) in
+    subst (λ (n : ℕ). Loses n (left c.args.source.now) (left c.read.new.self)) full
+    (Loses-more bytes c.in-Got.count (left c.args.source.now) (left c.loop-count.source) (left c.read.new.self) c.loop-count.invariant.taken c.in-Got.ensures.bytes.1)
+
+pub returns-in_err-extend_from_slice-in-Got-clause-stopped :
+    goal.returns-in_err-extend_from_slice-in-Got-clause-stopped
+returns-in_err-extend_from_slice-in-Got-clause-stopped g c =
+    let left = g.S.Source.left in
+    let bytes = c.loop-count.bytes.items in
+    let p = err_from_is_err_and c.from_residual.result c.from_residual.ensures.1 in
+    rw (p.1, p.2) (
+      length bytes + c.in-Got.count,
+      omega arith,
+      Loses-more bytes c.in-Got.count (left c.args.source.now) (left c.loop-count.source) (left c.read.new.self) c.loop-count.invariant.taken c.in-Got.ensures.bytes.1,
+    )

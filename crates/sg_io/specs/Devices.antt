@@ -1,0 +1,90 @@
+-- What one call does to a device: the bytes still to come, the bytes written, the count of faults.
+use Rattle.std.specs.Prelude.{◌≡◌, ℕ, ◌+◌, ◌<◌, ◌≤◌, ◌⊎◌, min, List, [], ◌++◌, length, take, drop, Option, None, Some, ⊤}
+use Rattle.sg_io.specs.declared.devices.Took.{Took}
+use Rattle.sg_io.specs.declared.devices.Took.TheVariants as took
+use Rattle.sg_io.specs.declared.devices.Gave.{Gave}
+use Rattle.sg_io.specs.declared.devices.Gave.TheVariants as gave
+
+-- where a count of 64 bits stays, once it is there
+abbrev pub last_count : ℕ
+last_count = 18446744073709551615
+
+-- one more, but never past the last value
+abbrev pub next_count : ℕ → ℕ
+next_count n = min (n + 1) last_count
+
+-- a failed call is shown: the count of faults rose, or stands at its last value
+abbrev pub FaultShown : ℕ → ℕ → Type 0
+FaultShown old new = (old < new) ⊎ (new ≡ last_count)
+
+-- a count of faults never falls, and stays in its range
+abbrev pub CountsOn : ℕ → ℕ → Type 0
+CountsOn old new = (old ≤ new) × (new ≤ last_count)
+
+-- the bytes still to come, where they are told, have lost the first n
+abbrev pub Loses : ℕ → Option (List ℕ) → Option (List ℕ) → Type 0
+Loses n None new = new ≡ None
+Loses n (Some left) new = (n ≤ length left) × (new ≡ Some (drop n left))
+
+-- the first n bytes of the buffer are the first n of those still to come, where they are told
+abbrev pub Delivers : ℕ → List ℕ → Option (List ℕ) → Type 0
+Delivers n into None = ⊤
+Delivers n into (Some left) = take n into ≡ take n left
+
+-- no byte is still to come, where that is told
+abbrev pub IsSpent : Option (List ℕ) → Type 0
+IsSpent None = ⊤
+IsSpent (Some left) = left ≡ []
+
+-- at least one of at most `room`
+abbrev pub IsCount : ℕ → ℕ → Type 0
+IsCount n room = (1 ≤ n) × (n ≤ room)
+
+-- how many bytes a read gave: at least one, and no more than the buffer holds
+abbrev pub ReadsWithin : Took → List ℕ → Type 0
+ReadsWithin (took.Got n) into = IsCount n (length into)
+ReadsWithin took.End into = ⊤
+ReadsWithin took.Failed into = ⊤
+
+-- what a read did: it moved bytes from the source into the buffer, found none to come, or failed and left them all
+abbrev pub Reads : Took → List ℕ → Option (List ℕ) → Option (List ℕ) → Type 0
+Reads (took.Got n) into old new = Delivers n into old × Loses n old new
+Reads took.End into old new = IsSpent old × (new ≡ old)
+Reads took.Failed into old new = new ≡ old
+
+-- a read says that it failed only where the count of faults shows it
+abbrev pub ReadFaultShown : Took → ℕ → ℕ → Type 0
+ReadFaultShown (took.Got n) old new = ⊤
+ReadFaultShown took.End old new = ⊤
+ReadFaultShown took.Failed old new = FaultShown old new
+
+-- the count of faults behind a read: one more where it failed, and never past the last value
+abbrev pub read_faults : Took → ℕ → ℕ
+read_faults (took.Got n) faults = faults
+read_faults took.End faults = faults
+read_faults took.Failed faults = next_count faults
+
+-- the bytes written, where they are told, have grown by these
+abbrev pub Grows : List ℕ → Option (List ℕ) → Option (List ℕ) → Type 0
+Grows bytes None new = new ≡ None
+Grows bytes (Some written) new = new ≡ Some (written ++ bytes)
+
+-- how many bytes a write took: at least one, and no more than were offered
+abbrev pub WritesWithin : Gave → List ℕ → Type 0
+WritesWithin (gave.Took n) bytes = IsCount n (length bytes)
+WritesWithin gave.Failed bytes = ⊤
+
+-- what a write did: it took the first of the bytes, or failed and wrote nothing
+abbrev pub Writes : Gave → List ℕ → Option (List ℕ) → Option (List ℕ) → Type 0
+Writes (gave.Took n) bytes old new = Grows (take n bytes) old new
+Writes gave.Failed bytes old new = new ≡ old
+
+-- a write says that it failed only where the count of faults shows it
+abbrev pub WriteFaultShown : Gave → ℕ → ℕ → Type 0
+WriteFaultShown (gave.Took n) old new = ⊤
+WriteFaultShown gave.Failed old new = FaultShown old new
+
+-- the count of faults behind a write: one more where it failed, and never past the last value
+abbrev pub write_faults : Gave → ℕ → ℕ
+write_faults (gave.Took n) faults = faults
+write_faults gave.Failed faults = next_count faults
