@@ -1,2 +1,4 @@
 pub mod NumberLaws
+pub mod RecordLaws
+mod CursorLaws
 mod WorkedTexts

@@ -1,3 +1,4 @@
 pub mod Number
 pub mod Records
+pub mod Cursor
 pub mod SquareForm
