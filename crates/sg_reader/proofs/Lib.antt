@@ -1,4 +1,5 @@
 pub mod NumberLaws
 pub mod RecordLaws
 mod CursorLaws
+pub mod LatticeLaws
 mod WorkedTexts

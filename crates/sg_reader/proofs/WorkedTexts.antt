@@ -4,7 +4,8 @@ use Rattle.csv.proofs.OnLiterals.{csv_on_literals}
 use Rattle.sg_model.specs.declared.bond.Bond.{Bond}
 use Rattle.sg_model.specs.Ising.{Ising}
 use Rattle.sg_reader.specs.Number.{number_of, numbers_of}
-use Rattle.sg_reader.specs.SquareForm.{square_form, lattice_of, couplings_of, is_end, shape_of, row_bonds, column_bonds}
+use Rattle.sg_reader.specs.SquareForm.{square_form, lattice_of, couplings_of, is_end, shape_of}
+use Rattle.sg_reader.specs.SquareLattice.{row_bonds, column_bonds}
 
 -- numbers
 plus-five : number_of (codes "+5") ≡ Some (pos 5)

@@ -1,46 +1,16 @@
 -- The first form of a text: a square lattice of at most 16 spins, its couplings, and `end`.
-use Rattle.std.specs.Prelude.{◌≡◌, ⊤, ℕ, ◌+◌, ◌-◌, ◌*◌, ◌==◌, ◌&&◌, nat_eq, nat_le, if◌then◌else◌, Bool, true, false, ℤ, pos, negsuc, List, [], ◌∷◌, ◌++◌, length, take, map, slice_index_or, codes, Option, Some, None}
-use Rattle.std.specs.List.{flat_map, range_with_len, starts_with}
+use Rattle.std.specs.Prelude.{◌≡◌, ⊤, ℕ, ◌-◌, ◌*◌, ◌==◌, ◌&&◌, nat_eq, nat_le, if◌then◌else◌, Bool, false, ℤ, pos, List, [], ◌∷◌, length, take, slice_index_or, codes, Option, Some, None}
+use Rattle.std.specs.List.{flat_map, starts_with}
 use Rattle.std.specs.Option.{option_and_then}
 use Rattle.std.specs.Str.{bytes_eq}
-use Rattle.sg_model.specs.declared.bond.Bond.{Bond}
 use Rattle.sg_model.specs.declared.refusal.Fault.{Fault}
 use Rattle.sg_model.specs.declared.refusal.Fault.TheVariants.{Refused, NoMemory}
 use Rattle.sg_model.specs.declared.refusal.Refusal.TheVariants.{TooLong, SumTooLarge, NotBuilt}
 use Rattle.sg_model.specs.Ising.{Ising}
 use Rattle.sg_reader.specs.Number.{number_of, numbers_of}
 use Rattle.sg_reader.specs.Records.{records_of}
-
--- the bond from spin u to spin v with coupling k of the list
-abbrev pub bond_with : List ℤ → ℕ → ℕ → ℕ → Bond
-bond_with couplings k u v = record { u = u; v = v; j = slice_index_or couplings k (pos 0) }
-
--- the bonds (r,c)-(r,c+1) of R rows and C columns, numbered r(C-1) + c; spin (r,c) is rC + c
-unfoldable pub row_bonds : ℕ → ℕ → List ℤ → List Bond
-row_bonds rows cols couplings = flat_map (λ r. map (λ c.
-    bond_with couplings (r * (cols - 1) + c) (r * cols + c) (r * cols + (c + 1))) (range_with_len 0 (cols - 1))) (range_with_len 0 rows)
-
--- the bonds (r,c)-(r+1,c), numbered R(C-1) + rC + c
-unfoldable pub column_bonds : ℕ → ℕ → List ℤ → List Bond
-column_bonds rows cols couplings = flat_map (λ r. map (λ c.
-    bond_with couplings (rows * (cols - 1) + r * cols + c) (r * cols + c) ((r + 1) * cols + c)) (range_with_len 0 cols)) (range_with_len 0 (rows - 1))
-
--- the bonds of the square lattice in the order of their numbers
-abbrev pub square_bonds : ℕ → ℕ → List ℤ → List Bond
-square_bonds rows cols couplings = row_bonds rows cols couplings ++ column_bonds rows cols couplings
-
--- R rows and C columns
-pub record Shape : Type 0 where
-  pub rows : ℕ
-  pub cols : ℕ
-
--- the number of bonds of the square lattice
-abbrev pub bonds_in : Shape → ℕ
-bonds_in s = s.rows * (s.cols - 1) + (s.rows - 1) * s.cols
-
--- the square lattice with these couplings
-abbrev pub square_lattice : Shape → List ℤ → Ising
-square_lattice s couplings = record { n = s.rows * s.cols; bonds = square_bonds s.rows s.cols couplings }
+use Rattle.sg_reader.specs.SquareLattice.{bonds_in, square_lattice}
+use Rattle.sg_reader.specs.declared.lattice.Shape.{Shape}
 
 -- a row or more and a column or more, with at most 16 spins
 abbrev pub small_shape : Option ℤ → Option ℤ → Option Shape

@@ -2,6 +2,7 @@
 #![tactic(auto)]
 
 mod cursor;
+mod lattice;
 mod numeral;
 
 pub use numeral::number;
