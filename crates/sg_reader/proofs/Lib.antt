@@ -2,4 +2,5 @@ pub mod NumberLaws
 pub mod RecordLaws
 mod CursorLaws
 pub mod LatticeLaws
+pub mod FormLaws
 mod WorkedTexts

@@ -4,8 +4,10 @@
 mod cursor;
 mod lattice;
 mod numeral;
+mod square;
 
 pub use numeral::number;
+pub use square::read_square;
 
 use std::alloc::AllocError;
 
