@@ -5,14 +5,18 @@ use Rattle.std.specs.List.{All, flat_map}
 use Rattle.std.specs.Option.{option_and_then}
 use Rattle.std.specs.Str.{bytes_eq}
 use Rattle.std.proofs.lemmas.Bool.{cases_Bool, false≢true, ne_eqb}
+use Rattle.std.proofs.lemmas.Bool.Decides.{nat_tests}
 use Rattle.std.proofs.lemmas.List.{length-append, append-nil, drop_all}
 use Rattle.std.proofs.lemmas.List.Elements.{All-nil, All-cons, All-same}
 use Rattle.std.proofs.lemmas.Option.{none-some, same_Some}
 use Rattle.std.proofs.lemmas.Slice.Eq.{bytes_eq-Decides}
+use Rattle.sg_model.specs.declared.bond.Bond.{Bond}
 use Rattle.sg_model.specs.Ising.{Ising}
 use Rattle.sg_reader.specs.Number.{number_of, numbers_of}
 use Rattle.csv.specs.Records.{field_at}
-use Rattle.sg_reader.specs.SquareForm.{couplings_of, fields_before_last, filled, is_end, last_of, shape_of, small_shape}
+use Rattle.sg_reader.specs.SquareForm.{couplings_of, fields_before_last, filled, has_mark, is_end, last_of, lattice_of, shape_of, small_shape, square_form}
+use Rattle.sg_reader.specs.Records.{records_of}
+use Rattle.csv.specs.Reading.{is_bom, strip_bom}
 use Rattle.sg_reader.specs.SquareLattice.{bonds_in, square_lattice}
 use Rattle.sg_reader.specs.declared.lattice.Shape.{Shape}
 use Rattle.sg_reader.proofs.NumberLaws.{size-of_number}
@@ -253,3 +257,59 @@ pub many-read : (front now : List ℤ) (most : ℕ) (fields : List (List ℕ)) (
     → after front (numbers_of fields) ≡ after now (numbers_of (drop i fields)) → IfSome (numbers_of fields) (λ js. most < length (front ++ js))
 many-read front now most fields i field j here value full h =
     too-many front now most (numbers_of fields) (numbers_of (drop i fields)) h (rw (drop-field fields i field here) (one-more now most field (drop (i + 1) fields) j value full))
+
+-- the lattice of a text, by what its first record and the others give
+pub lattice_of-nil : lattice_of [] ≡ None
+unfolding lattice_of
+lattice_of-nil = refl
+
+pub lattice_of-no_shape : (first : List (List ℕ)) (rest : List (List (List ℕ))) → shape_of first ≡ None → lattice_of (first ∷ rest) ≡ None
+unfolding lattice_of
+lattice_of-no_shape first rest h = rw h refl
+
+pub lattice_of-shape : (first : List (List ℕ)) (rest : List (List (List ℕ))) (s : Shape) → shape_of first ≡ Some s
+    → lattice_of (first ∷ rest) ≡ option_and_then (filled s) (couplings_of rest)
+unfolding lattice_of
+lattice_of-shape first rest s h = rw h refl
+
+-- a lattice is filled exactly by as many couplings as it has bonds
+pub filled-all : (s : Shape) (couplings : List ℤ) → length couplings ≡ bonds_in s → filled s couplings ≡ Some (square_lattice s couplings)
+filled-all s couplings h = let same : (length couplings == bonds_in s) ≡ true = grind (arith, nat_tests) in rw same refl
+
+pub filled-other : (s : Shape) (couplings : List ℤ) → (length couplings ≡ bonds_in s → ⊥) → filled s couplings ≡ None
+filled-other s couplings h = rw (ne_eqb _ _ h) refl
+
+-- each coupling of a text has a size that fits
+pub couplings_of-small : (rest : List (List (List ℕ))) (couplings : List ℤ) → couplings_of rest ≡ Some couplings → All (λ j. unsigned_abs j < 2 ^ 63) couplings
+unfolding couplings_of
+couplings_of-small rest couplings h = elim (cases_Bool (is_end (last_of rest))) [
+  | inl e ↦ numbers_of-small (fields_before_last rest) couplings (rw e at h)
+  | inr e ↦ absurd (none-some couplings (rw e at h))
+]
+
+-- an instance is its spins and its bonds
+pub same-instance : (inst : Ising) (n : ℕ) (bonds : List Bond) → inst.n ≡ n → inst.bonds ≡ bonds → inst ≡ record { n = n; bonds = bonds }
+same-instance inst n bonds e f = λ i. record { n = e i; bonds = f i }
+
+-- a text with a byte-order mark at the front, and one without
+pub square_form-mark : (bytes : List ℕ) → has_mark bytes ≡ true → square_form bytes ≡ None
+unfolding square_form
+square_form-mark bytes h = rw h refl
+
+strip_bom-no_mark : (bytes : List ℕ) → has_mark bytes ≡ false → strip_bom bytes ≡ bytes
+unfolding strip_bom
+strip_bom-no_mark [] h = refl
+strip_bom-no_mark (a ∷ []) h = refl
+strip_bom-no_mark (a ∷ b ∷ []) h = refl
+strip_bom-no_mark (a ∷ b ∷ c ∷ rest) h = elim (cases_Bool (is_bom a b c)) [
+  | inl e ↦
+      let first : a ≡ 0xEF = grind (arith, nat_tests) in
+      let second : b ≡ 0xBB = grind (arith, nat_tests) in
+      let third : c ≡ 0xBF = grind (arith, nat_tests) in
+      absurd (false≢true (sym (rw (first, second, third) at h)))
+  | inr e ↦ rw e refl
+]
+
+pub square_form-no_mark : (bytes : List ℕ) → has_mark bytes ≡ false → square_form bytes ≡ lattice_of (records_of (strip_bom bytes))
+unfolding square_form
+square_form-no_mark bytes h = rw h (ap (λ (b : List ℕ). lattice_of (records_of b)) (sym (strip_bom-no_mark bytes h)))
