@@ -1,0 +1,6 @@
+pub mod NumberLaws
+pub mod RecordLaws
+mod CursorLaws
+pub mod LatticeLaws
+pub mod FormLaws
+mod WorkedTexts

@@ -1,0 +1,5 @@
+pub mod Number
+pub mod Records
+pub mod Cursor
+pub mod SquareLattice
+pub mod SquareForm
