@@ -1,0 +1,5 @@
+pub mod Command
+pub mod Exit
+pub mod Text
+pub mod Served
+pub mod Promises

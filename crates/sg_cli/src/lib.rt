@@ -1,0 +1,25 @@
+//! The top call: words, a source and a sink in, one status out.
+//!
+//! `run` reads an instance, finds a ground state and writes its energy and its spins; every other
+//! input is refused with the number of its first fault.
+//!
+//! For the next engineer: the contract of `run` is the headline of the whole project. Its clauses
+//! stand in `specs/Promises.antt`, over one definition of what is answered, `specs/Served.antt`. A
+//! further command is one more variant of `Command`, one more arm here, and one more case there.
+#![tactic(auto)]
+
+mod command;
+mod limits;
+mod reply;
+mod serve;
+mod status;
+mod text;
+
+pub use command::Command;
+pub use limits::{INPUT_LIMIT, SUM_LIMIT};
+pub use serve::run;
+pub use status::Status;
+use std::alloc::AllocError;
+
+/// The allocator had no memory left.
+pub type NoMemory = AllocError;
