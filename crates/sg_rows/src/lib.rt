@@ -1,0 +1,12 @@
+//! Tests that cross crates: whole runs of the top call over the devices in memory.
+//!
+//! Each row is a list of words, an input, and the status and the text that belong to them. Their
+//! values come from outside the program: worked by hand, from the literature or by other programs.
+#![tactic(auto)]
+
+#[cfg(test)]
+mod devices;
+#[cfg(test)]
+mod rows;
+#[cfg(test)]
+mod runs;

@@ -1,0 +1,33 @@
+// One run over the devices in memory.
+use sg_cli::{Status, run};
+use sg_io::{CallList, MemSink, MemSource};
+use std::alloc::{AllocError, Global};
+use std::test::Fail;
+
+// The words as the program gets them.
+pub fn words(alloc: Global, line: &str) -> Result<Vec<String>, AllocError> {
+    let mut words = Vec::new(alloc);
+    for word in line.split_whitespace() {
+        words.push(String::from_str(alloc, word)?)?;
+    }
+    Ok(words)
+}
+
+// The numbers of the calls that fail: one, or none.
+pub fn calls(alloc: Global, fail: Option<u64>) -> Result<CallList, AllocError> {
+    let mut list = CallList::new(alloc);
+    if let Some(call) = fail {
+        list.push(call)?;
+    }
+    Ok(list)
+}
+
+// The status of a run without faults, and the text that it wrote.
+pub fn answer(alloc: Global, line: &str, input: &[u8]) -> Result<(Status, Vec<u8>), Fail> {
+    let words = words(alloc, line)?;
+    let bytes = Vec::from_slice(alloc, input)?;
+    let mut source = MemSource::new(bytes, 7, CallList::new(alloc));
+    let mut sink = MemSink::new(alloc, 4096, 5, CallList::new(alloc))?;
+    let status = run(alloc, words.as_slice(), &mut source, &mut sink);
+    Ok((status, Vec::from_slice(alloc, sink.bytes())?))
+}
