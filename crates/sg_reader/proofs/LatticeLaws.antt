@@ -1,5 +1,5 @@
 -- The bonds of square lattices.
-use Rattle.std.proofs.Common.{◌≡◌, ℕ, zero, suc, ◌+◌, ◌-◌, ◌*◌, ◌<◌, ◌≤◌, ◌^◌, ℤ, pos, List, [], ◌∷◌, ◌++◌, length, map, refl, sym, ap, ◌∙◌, arith, negsuc, Bool, Option, Some, None, inl, inr}
+use Rattle.std.proofs.Common.{◌≡◌, ℕ, zero, suc, ◌+◌, ◌-◌, ◌*◌, ◌<◌, ◌≤◌, ◌^◌, ℤ, pos, List, [], ◌∷◌, ◌++◌, length, map, refl, sym, ap, ◌∙◌, arith, negsuc, Some, None, inl, inr}
 use Rattle.std.specs.Prelude.{◌&&◌, nat_le, slice_index_or, unsigned_abs}
 use Rattle.std.proofs.lemmas.Bool.{cases_Bool}
 use Rattle.std.proofs.lemmas.Bool.Decides.{nat_tests}
@@ -12,8 +12,7 @@ use Rattle.std.proofs.lemmas.List.FromFn.{length-map-range_with_len}
 use Rattle.std.proofs.Math.Nat.{suc-mul}
 use native.Mathlib.Decide.{dec_lt}
 use Rattle.sg_model.specs.Ising.{IsBond}
-use Rattle.sg_model.specs.declared.bond.Bond.{Bond}
-use Rattle.sg_reader.specs.SquareLattice.{IsSmall, bond_with, bonds_in, column_bonds, row_bonds, square_bonds}
+use Rattle.sg_reader.specs.SquareLattice.{bond_with, column_bonds, row_bonds, square_bonds}
 
 -- row r of n rows of m places ends with them at the latest
 pub row-end : (r n m : ℕ) → r < n → r * m + m ≤ n * m
@@ -80,8 +79,8 @@ All-grid : {X : Type 0} (P : X → Type 0) (b : ℕ → ℕ → X) (m a n : ℕ)
 All-grid P b m a zero h = All-nil P
 All-grid P b m a (suc n) h =
     All-append P (map (b a) (range_with_len 0 m)) (flat_map (λ r. map (b r) (range_with_len 0 m)) (range_with_len (a + 1) n))
-      (All-map P (b a) (range_with_len 0 m) (All-range (λ c. P (b a c)) 0 m (λ c low high. h a c (omega arith) (omega arith) (omega arith))))
-      (All-grid P b m (a + 1) n (λ r c low high inside. h r c (omega arith) (omega arith) inside))
+    (All-map P (b a) (range_with_len 0 m) (All-range (λ c. P (b a c)) 0 m (λ c low high. h a c (omega arith) (omega arith) (omega arith))))
+    (All-grid P b m (a + 1) n (λ r c low high inside. h r c (omega arith) (omega arith) inside))
 
 -- the coupling of a bond fits
 small-coupling : (couplings : List ℤ) (k : ℕ) → All (λ j. unsigned_abs j < 2 ^ 63) couplings → unsigned_abs (slice_index_or couplings k (pos 0)) < 2 ^ 63
@@ -95,12 +94,12 @@ pub square_bonds-joined : (rows cols : ℕ) (couplings : List ℤ) → All (λ j
 unfolding row_bonds column_bonds
 square_bonds-joined rows cols couplings h =
     All-append (IsBond (rows * cols)) (row_bonds rows cols couplings) (column_bonds rows cols couplings)
-      (All-grid (IsBond (rows * cols)) (λ r c. bond_with couplings (r * (cols - 1) + c) (r * cols + c) (r * cols + c + 1)) (cols - 1) 0 rows (λ r c low high inside.
-          let here = mul-add-lt r cols c rows (omega arith) (omega arith) in
-          let there = mul-add-lt r cols (c + 1) rows (omega arith) (omega arith) in
-          record { first_end = omega arith; second_end = omega arith; ends_differ = λ e. absurd (omega (arith, e)); size = small-coupling couplings (r * (cols - 1) + c) h }))
-      (All-grid (IsBond (rows * cols)) (λ r c. bond_with couplings (rows * (cols - 1) + r * cols + c) (r * cols + c) ((r + 1) * cols + c)) cols 0 (rows - 1) (λ r c low high inside.
-          let here = mul-add-lt r cols c rows (omega arith) (omega arith) in
-          let there = mul-add-lt (r + 1) cols c rows (omega arith) (omega arith) in
-          let below = spin-below r cols c in
-          record { first_end = omega arith; second_end = omega arith; ends_differ = λ e. absurd (omega (arith, e)); size = small-coupling couplings (rows * (cols - 1) + r * cols + c) h }))
+    (All-grid (IsBond (rows * cols)) (λ r c. bond_with couplings (r * (cols - 1) + c) (r * cols + c) (r * cols + c + 1)) (cols - 1) 0 rows (λ r c low high inside.
+    let here = mul-add-lt r cols c rows (omega arith) (omega arith) in
+    let there = mul-add-lt r cols (c + 1) rows (omega arith) (omega arith) in
+    record { first_end = omega arith; second_end = omega arith; ends_differ = λ e. absurd (omega (arith, e)); size = small-coupling couplings (r * (cols - 1) + c) h }))
+    (All-grid (IsBond (rows * cols)) (λ r c. bond_with couplings (rows * (cols - 1) + r * cols + c) (r * cols + c) ((r + 1) * cols + c)) cols 0 (rows - 1) (λ r c low high inside.
+    let here = mul-add-lt r cols c rows (omega arith) (omega arith) in
+    let there = mul-add-lt (r + 1) cols c rows (omega arith) (omega arith) in
+    let below = spin-below r cols c in
+    record { first_end = omega arith; second_end = omega arith; ends_differ = λ e. absurd (omega (arith, e)); size = small-coupling couplings (rows * (cols - 1) + r * cols + c) h }))

@@ -3,4 +3,5 @@ pub mod RecordLaws
 mod CursorLaws
 pub mod LatticeLaws
 pub mod FormLaws
+pub mod FormInstance
 mod WorkedTexts

@@ -1,8 +1,6 @@
 -- What the first form says of texts that were worked out by hand.
-use Rattle.std.proofs.Common.{◌≡◌, refl, ℕ, ℤ, pos, negsuc, List, [], ◌∷◌, ◌++◌, codes, Option, Some, None}
+use Rattle.std.proofs.Common.{◌≡◌, refl, pos, negsuc, [], ◌∷◌, codes, Some, None}
 use Rattle.csv.proofs.OnLiterals.{csv_on_literals}
-use Rattle.sg_model.specs.declared.bond.Bond.{Bond}
-use Rattle.sg_model.specs.Ising.{Ising}
 use Rattle.sg_reader.specs.Number.{number_of, numbers_of}
 use Rattle.sg_reader.specs.SquareForm.{square_form, lattice_of, couplings_of, is_end, shape_of}
 use Rattle.sg_reader.specs.SquareLattice.{row_bonds, column_bonds}

@@ -8,7 +8,7 @@ use sg_model::{Bond, Bonds, Couplings};
 use std::alloc::Global;
 
 /// The sides of a square lattice.
-#[derive(Clone, Copy)]
+#[derive(Clone, Copy, Debug)]
 pub struct Shape {
     pub rows: u32,
     pub cols: u32,
@@ -84,11 +84,7 @@ fn push_line(
 }
 
 /// Adds the bonds along the rows.
-fn push_row_bonds(
-    bonds: &mut Bonds,
-    couplings: &Couplings,
-    shape: Shape,
-) -> Result<(), NoMemory>
+fn push_row_bonds(bonds: &mut Bonds, couplings: &Couplings, shape: Shape) -> Result<(), NoMemory>
     requires small { IsSmall shape }
     requires count { length couplings.now ≡ bonds_in shape }
     ensures { OnOk result (bonds.new ≡ bonds.old ++ row_bonds shape.rows shape.cols couplings.now) }
@@ -107,11 +103,7 @@ fn push_row_bonds(
 }
 
 /// Adds the bonds along the columns.
-fn push_column_bonds(
-    bonds: &mut Bonds,
-    couplings: &Couplings,
-    shape: Shape,
-) -> Result<(), NoMemory>
+fn push_column_bonds(bonds: &mut Bonds, couplings: &Couplings, shape: Shape) -> Result<(), NoMemory>
     requires small { IsSmall shape }
     requires count { length couplings.now ≡ bonds_in shape }
     ensures { OnOk result (bonds.new ≡ bonds.old ++ column_bonds shape.rows shape.cols couplings.now) }

@@ -62,11 +62,7 @@ fn is_end(row: &ByteRecord) -> bool
 
 /// Adds the numbers of a record, up to `most` in all. It answers false where a field spells no
 /// number, or where there are too many.
-fn push_numbers(
-    couplings: &mut Couplings,
-    row: &ByteRecord,
-    most: usize,
-) -> Result<bool, NoMemory>
+fn push_numbers(couplings: &mut Couplings, row: &ByteRecord, most: usize) -> Result<bool, NoMemory>
     ensures added { IfOk result (λ all. all ≡ true → option_map (λ js. couplings.old ++ js) (numbers_of (fields_of row.now)) ≡ Some couplings.new) }
     ensures refused { IfOk result (λ all. all ≡ false → IfSome (numbers_of (fields_of row.now)) (λ js. most < length (couplings.old ++ js))) }
 {
@@ -131,7 +127,28 @@ fn read_lattice(alloc: Global, cursor: &mut Cursor<'_>) -> Result<Option<Instanc
     Ok(Some(Instance::simple(shape.spins(), bonds)))
 }
 
-/// Reads a square lattice of at most 16 spins.
+/// Reads a square lattice of at most 16 spins with its couplings.
+///
+/// The text has this form. It does not begin with a byte-order mark. Its records, as `csv` gives them
+/// without a header row, are these three; fields are taken as they stand, with no blanks removed.
+///
+/// 1. The first record is `square`, R and C: the rows and the columns, each 1 or more, with R times C
+///    at most 16.
+/// 2. The records up to the last hold numbers only: the couplings, one for each of the
+///    R(C-1) + (R-1)C bonds, in the order of the bonds, on any number of lines.
+/// 3. The last record is the one field `end`.
+///
+/// A number is as `number` reads it. The spin in row r and column c has the number rC + c. First come
+/// the bonds along the rows, row by row, then those between the rows: bond r(C-1) + c joins (r,c) to
+/// (r,c+1), and bond R(C-1) + rC + c joins (r,c) to (r+1,c).
+///
+/// # Errors
+///
+/// `Refused(NotBuilt)` exactly where the text has another form, as soon as a record or a field shows
+/// it. `NoMemory` where memory ran out.
+///
+/// The time is linear in the bytes. The bytes are not copied; the memory is that of the longest record
+/// and of at most 24 couplings and bonds.
 pub fn read_square(alloc: Global, bytes: &[u8]) -> Result<Instance, Fault>
     requires { length bytes.now < 2 ^ 30 }
     ensures read { IfOk result (λ inst. square_form bytes.now ≡ Some inst) }

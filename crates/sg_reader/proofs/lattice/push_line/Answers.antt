@@ -1,4 +1,4 @@
-use Rattle.std.proofs.Common.{◌≡◌, ℕ, ◌+◌, ◌++◌, ◌∷◌, [], List, map, ℤ, pos, sym, ap, ◌∙◌, arith, rules, append_assoc, FitsSigned, w64}
+use Rattle.std.proofs.Common.{ℕ, ◌+◌, ◌++◌, ◌∷◌, [], List, map, ℤ, pos, sym, ap, ◌∙◌, arith, rules, append_assoc, FitsSigned, w64}
 use Rattle.std.specs.List.{range_with_len}
 use Rattle.std.proofs.lemmas.Int.{to_z-of_z}
 use Rattle.std.proofs.lemmas.List.FromFn.{map-range_with_len_more}

@@ -1,4 +1,4 @@
-use Rattle.std.proofs.Common.{◌≡◌, ◌∙◌, sym, refl, w64}
+use Rattle.std.proofs.Common.{◌∙◌, sym, refl, w64}
 use Rattle.std.proofs.lemmas.Int.{to_z-of_z}
 use Rattle.sg_reader.proofs.LatticeLaws.{small_shape-no_rows}
 use Rattle.sg_reader.proofs.lattice.small_shape.Goals as goal

@@ -1,4 +1,4 @@
-use Rattle.std.proofs.Common.{◌≡◌, ◌∷◌, [], ◌++◌, ◌≤◌, ℕ, ℤ, List, Some, None, drop, length, sym, ◌∙◌, ap, arith, rules, FitsSigned, w64, to_z, of_z}
+use Rattle.std.proofs.Common.{◌≡◌, ◌∷◌, [], ◌++◌, ◌≤◌, ℕ, ℤ, List, Some, None, drop, length, sym, ◌∙◌, ap, arith, rules, FitsSigned, w64}
 use Rattle.std.proofs.lemmas.Int.{to_z-of_z}
 use Rattle.csv.specs.Records.{field_at, fields_of}
 use Rattle.sg_reader.specs.Number.{numbers_of}

@@ -1,4 +1,4 @@
-use Rattle.std.proofs.Common.{◌≡◌, ◌∷◌, [], List, ℕ, true, false, sym, ◌∙◌, ap, Some, Option, ℤ}
+use Rattle.std.proofs.Common.{◌∷◌, List, sym, ◌∙◌, ap, Some, Option, ℤ}
 use Rattle.std.proofs.lemmas.List.{append-nil}
 use Rattle.std.specs.Option.{option_and_then}
 use Rattle.csv.specs.Records.{fields_of}

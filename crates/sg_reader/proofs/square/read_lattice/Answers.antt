@@ -1,9 +1,9 @@
-use Rattle.std.proofs.Common.{◌≡◌, ◌≤◌, ◌^◌, ◌*◌, ◌+◌, ◌-◌, length, sym, ◌∙◌, ap, arith, Some}
+use Rattle.std.proofs.Common.{◌≡◌, ◌*◌, ◌-◌, length, sym, ◌∙◌, ap, arith, Some}
 use Rattle.std.specs.Option.{option_and_then}
 use Rattle.csv.specs.Records.{fields_of}
 use Rattle.sg_reader.specs.SquareForm.{filled, lattice_of}
 use Rattle.std.proofs.lemmas.Nat.{mul-le}
-use Rattle.sg_reader.specs.SquareLattice.{bonds_in, square_bonds, square_lattice}
+use Rattle.sg_reader.specs.SquareLattice.{bonds_in, square_bonds}
 use Rattle.sg_reader.proofs.FormLaws.{couplings_of-small, filled-all, filled-other, lattice_of-nil, lattice_of-no_shape, lattice_of-shape, same-instance}
 use Rattle.sg_reader.proofs.LatticeLaws.{length-square_bonds, square_bonds-joined}
 use Rattle.sg_reader.proofs.square.read_lattice.Goals as goal

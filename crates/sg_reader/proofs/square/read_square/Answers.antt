@@ -1,4 +1,4 @@
-use Rattle.std.proofs.Common.{◌≡◌, sym, ◌∙◌, ap}
+use Rattle.std.proofs.Common.{sym, ◌∙◌, ap}
 use Rattle.sg_reader.specs.SquareForm.{lattice_of}
 use Rattle.sg_reader.proofs.FormLaws.{square_form-mark, square_form-no_mark}
 use Rattle.sg_reader.proofs.square.read_square.Goals as goal

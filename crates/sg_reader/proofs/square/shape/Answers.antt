@@ -1,4 +1,4 @@
-use Rattle.std.proofs.Common.{◌≡◌, ℕ, ◌≤◌, length, sym, ◌∙◌, ap, arith}
+use Rattle.std.proofs.Common.{◌≡◌, length, sym, ◌∙◌, ap, arith}
 use Rattle.csv.specs.Records.{fields_of}
 use Rattle.sg_reader.specs.SquareForm.{shape_of}
 use Rattle.sg_reader.proofs.FormLaws.{field_at-none, shape_of-short, three-fields}

@@ -1,7 +1,5 @@
-use Rattle.std.proofs.Common.{◌≡◌, Bool, true, false, sym, ◌∙◌, ap, codes, rules, ℤ, Option, Some, FitsSigned, w64, to_z, of_z}
+use Rattle.std.proofs.Common.{sym, ◌∙◌, ap, rules, ℤ, Option, Some, FitsSigned, w64, to_z, of_z}
 use Rattle.std.proofs.lemmas.Int.{to_z-of_z}
-use Rattle.std.specs.Prelude.{not}
-use Rattle.std.specs.Str.{bytes_eq}
 use Rattle.sg_reader.specs.Number.{number_of}
 use Rattle.sg_reader.specs.SquareForm.{small_shape}
 use Rattle.sg_reader.proofs.FormLaws.{not-is_true, not-is_false, shape_of-other, shape_of-word, small_shape-no_second}
