@@ -1,16 +1,37 @@
-//! Nested blossoms over leaves, in one slab.
+//! Nested blossoms, the data structure of Edmonds' least perfect matching (Edmonds 1965).
+//!
+//! For a physicist: the frustrated plaquettes of a planar spin glass are to be joined in pairs at the
+//! least total cost. Here they are the *leaves*, numbered from 0. Edmonds proves a pairing least by
+//! numbers, *duals*, on sets of leaves: each leaf alone is a set, and an odd cycle of sets may be
+//! shrunk into one set more, a *blossom*. So the sets are nested and each has an odd number of
+//! leaves. The *total* of a leaf is the sum of the duals of all sets that hold it. Where no cost of
+//! two leaves is below the sum of the duals of the sets that hold exactly one of them, no pairing
+//! costs less than the sum of all duals. This crate keeps the sets and their duals; it knows no costs.
+//!
+//! For the next engineer: contracts see an [`Arena`] as a `Family` (`specs/Family.antt`), a list
+//! with a node or nothing under each name. `specs/Changes.antt` says what the calls that change it
+//! make of a family, each in one equation, so that all that they do not name stays; `specs/Slack.antt`
+//! has the duals between two leaves. How the cells of the slab stand for a family is private:
+//! `specs/Forest.antt`, and what an arena keeps between calls, `specs/Sound.antt`. The lemmas that a
+//! caller needs stand in `proofs/FamilyLemmas.antt` (of any family), `proofs/LeavesFamily.antt`,
+//! `ShrunkFamily`, `ExpandedFamily`, `RaisedFamily` (after each call) and `DualLemmas`.
+//!
+//! ```text
+//! let mut arena = Arena::open(alloc, 3)?;          // three leaves, each its own top, duals 0
+//! let cycle = [0, 1, 2].map(|leaf| Link { node: arena.leaf_node(leaf), from: leaf, to: (leaf + 1) % 3 });
+//! let blossom = arena.shrink(&cycle, &mut steps);  // one top for all three leaves
+//! arena.raise(&[blossom], &[], 5, &mut steps);     // each total is 5 now
+//! arena.raise(&[], &[blossom], 5, &mut steps);     // and 0 again,
+//! arena.expand(blossom, &mut steps);               // so the blossom may go
+//! ```
 #![tactic(auto)]
 
-ghost use Rattle.std.specs.Prelude.{◌≡◌, ℕ, ◌+◌, ◌-◌, ◌*◌, ◌<◌, ◌≤◌, ◌↔◌, ◌^◌, length, IsTrue, IfOk, pos, Some, None, slice_index_or, slice_index, ◌≤ℤ◌};
-ghost use Rattle.slab.specs.Slab.{ContainsKey, get};
-ghost use Rattle.sg_arena.specs.declared.Cell.{Cell};
-ghost use Rattle.sg_arena.specs.Family.{link_at, nat_of};
-ghost use Rattle.sg_arena.specs.Forest.{links};
-ghost use Rattle.sg_arena.specs.Seats.{Seats, Frees, Rewrites, grown, fallen};
+ghost use Rattle.std.specs.Prelude.{◌≡◌, ℕ, pos, ◌≤ℤ◌};
+ghost use Rattle.sg_arena.specs.Changes.{nat_of};
 
-#[cfg(test)]
-mod tests;
+mod cells;
 
+use cells::{Cell, Kind, free_children, lower_duals, raise_duals, seat_children};
 use sg_steps::Steps;
 use slab::Slab;
 use std::alloc::{AllocError, Global};
@@ -20,40 +41,34 @@ use std::sync::ledger::Ledger;
 /// Memory ran out.
 pub type NoMemory = AllocError;
 
-/// A child of a blossom, a leaf in it, and a leaf in the child that follows.
-#[derive(Clone, Copy)]
+/// One step of a blossom's cycle: a child, a leaf in it, and a leaf in the child that follows.
+#[derive(Clone, Copy, Debug, PartialEq, Eq)]
 pub struct Link {
+    /// The name of the child.
     pub node: usize,
+    /// A leaf in the child.
     pub from: u32,
+    /// A leaf in the child that follows, to which `from` is joined.
     pub to: u32,
 }
 
-#[derive(Clone, Copy)]
-enum Kind {
-    Spare,
-    Leaf,
-    Blossom { first: usize, count: usize },
-}
-
-// A slot of the slab. A top has no parent, and its `next`, `from` and `to` mean nothing.
-#[derive(Clone, Copy)]
-struct Cell {
-    kind: Kind,
-    parent: Option<usize>,
-    next: usize,
-    from: u32,
-    to: u32,
-    dual: u64,
-    // A leaf below this node, whose spare slot the node may give to a blossom.
-    spare: u32,
-}
-
-/// Nested sets of leaves, each with a dual.
+/// Nested sets of leaves, each of odd size and with a dual, a whole number of at least 0.
+///
+/// A node stands for each set: a leaf's node, or a blossom with its cycle of children. A node is
+/// called by its name, and a top is a node that no other node holds. Where a family is meant, see
+/// `IsFamily`; it holds after every call.
+///
+/// One slab keeps all nodes. A child knows its blossom, the sibling that follows and the link to it;
+/// a blossom knows its first child and how many there are. All cells are made by [`Arena::open`]:
+/// one for each leaf, and as many spare ones. Each node owns the spare cell of one of its leaves,
+/// so a new blossom takes the spare cell of its first child and owns that of its second.
 #[derive(Drop)]
 pub struct Arena {
     cells: Slab<Cell>,
+    // The name of each leaf's node.
     leaves: Vec<usize>,
-    blossoms: Vec<usize>,
+    // The key of each leaf's spare cell.
+    spares: Vec<usize>,
 }
 
 impl Model for Arena {
@@ -66,102 +81,29 @@ impl Model for Arena {
 
     ghost view = { λ a. family_of a.cells a.leaves.items };
 
-    ghost invariant = { λ a. IsSound a.cells a.leaves.items a.blossoms.items };
-}
-
-// Makes the nodes of a cycle children of a blossom.
-fn seat(cells: &mut Slab<Cell>, cycle: &[Link], blossom: usize)
-    requires present { (i : ℕ) → i < length cycle.now → ContainsKey cells.old (link_at cycle.now i).node }
-    requires differ { (i j : ℕ) → i < length cycle.now → j < length cycle.now → (link_at cycle.now i).node ≡ (link_at cycle.now j).node → i ≡ j }
-    ensures { Seats cells.old cells.new cycle.now blossom (length cycle.now) }
-{
-    let count = cycle.len();
-    for i in 0..count {
-        let next = if i + 1 == count { 0 } else { i + 1 };
-        let link = cycle[i];
-        let cell = cells[link.node];
-        cells[link.node] = Cell {
-            parent: Some(blossom),
-            next: cycle[next].node,
-            from: link.from,
-            to: link.to,
-            ..cell
-        };
-    }
-}
-
-// Takes the parent from so many siblings, from the first on.
-fn unseat(cells: &mut Slab<Cell>, first: usize, count: usize)
-    requires present { (i : ℕ) → i < count → ContainsKey cells.old (link_at (links cells.old count first) i).node }
-    requires differ { (i j : ℕ) → i < count → j < count → (link_at (links cells.old count first) i).node ≡ (link_at (links cells.old count first) j).node → i ≡ j }
-    ensures { Frees cells.old cells.new (links cells.old count first) count }
-{
-    let mut child = first;
-    for _i in 0..count {
-        let cell = cells[child];
-        cells[child] = Cell {
-            parent: None,
-            ..cell
-        };
-        child = cell.next;
-    }
-}
-
-// A positive number without its sign.
-fn amount_of(delta: i64) -> u64
-    requires { pos 1 ≤ℤ delta }
-    ensures { result ≡ nat_of delta }
-{
-    delta as u64
-}
-
-// Adds to the duals of these nodes.
-fn grow(cells: &mut Slab<Cell>, nodes: &[usize], delta: u64)
-    requires present { (i : ℕ) → i < length nodes.now → ContainsKey cells.old (slice_index nodes.now i) }
-    requires differ { (i j : ℕ) → i < length nodes.now → j < length nodes.now → slice_index nodes.now i ≡ slice_index nodes.now j → i ≡ j }
-    requires fits { (i : ℕ) (c : Cell) → i < length nodes.now → get cells.old (slice_index nodes.now i) ≡ Some c → c.dual + delta < 2 ^ 64 }
-    ensures { Rewrites (grown delta) cells.old cells.new nodes.now (length nodes.now) }
-{
-    for i in 0..nodes.len() {
-        let cell = cells[nodes[i]];
-        cells[nodes[i]] = Cell {
-            dual: cell.dual + delta,
-            ..cell
-        };
-    }
-}
-
-// Takes from the duals of these nodes.
-fn fall(cells: &mut Slab<Cell>, nodes: &[usize], delta: u64)
-    requires present { (i : ℕ) → i < length nodes.now → ContainsKey cells.old (slice_index nodes.now i) }
-    requires differ { (i j : ℕ) → i < length nodes.now → j < length nodes.now → slice_index nodes.now i ≡ slice_index nodes.now j → i ≡ j }
-    requires enough { (i : ℕ) (c : Cell) → i < length nodes.now → get cells.old (slice_index nodes.now i) ≡ Some c → delta ≤ c.dual }
-    ensures { Rewrites (fallen delta) cells.old cells.new nodes.now (length nodes.now) }
-{
-    for i in 0..nodes.len() {
-        let cell = cells[nodes[i]];
-        cells[nodes[i]] = Cell {
-            dual: cell.dual - delta,
-            ..cell
-        };
-    }
+    ghost invariant = { λ a. IsSound a.cells a.leaves.items a.spares.items };
 }
 
 impl Arena {
-    ghost use Rattle.std.specs.Prelude.{◌≡◌, ℕ, length, slice_index, ◌+◌, ◌<◌, ◌↔◌, IsTrue, pos, ◌≤ℤ◌, ◌≤◌, ◌^◌, IfOk, MatchOption, [], Some, None};
-    ghost use Rattle.sg_arena.specs.Family.{nat_of, OnlyLeaves, Family, IsFamily, leaf_count, node_at, IsAlive, Holds, IsTop, dual_of, total_of, cycle_of, IsBlossom, link_at, IsChild, IsChildAt, after_index, CanShrink, with_slot, blossom_of, CanRaise, raised};
+    ghost use Rattle.std.specs.Prelude.{◌≡◌, ℕ, length, ◌+◌, ◌*◌, ◌<◌, ◌↔◌, IsTrue, pos, ◌≤ℤ◌, ◌≤◌, ◌^◌, IfOk, MatchOption, [], Some, None};
+    ghost use Rattle.sg_arena.specs.Family.{Family, IsFamily, leaf_count, leaf_node, node_at, IsAlive, Holds, IsTop, dual_of, total_of, cycle_of, IsBlossom, link_at, IsChild, IsChildAt, after_index};
+    ghost use Rattle.sg_arena.specs.Changes.{nat_of, OnlyLeaves, CanShrink, with_slot, blossom_of, CanRaise, raised};
 
-    /// As many leaves as asked for, each with dual 0, and all the memory that later calls need.
+    /// An arena of the leaves 0 to `k - 1`, each a top with dual 0. It takes all the memory that
+    /// later calls need: there is a name for each leaf and for each blossom over them.
+    ///
+    /// Cost: proportional to `k`.
     pub fn open(alloc: Global, k: u32) -> Result<Arena, NoMemory>
         requires { k ≤ 2 ^ 24 }
         ensures leaves { IfOk result (λ a. leaf_count a ≡ k) }
         ensures alone { IfOk result OnlyLeaves }
+        ensures room { IfOk result (λ a. 2 * k ≤ length a.nodes) }
         ensures family { IfOk result IsFamily }
     {
         let count = k as usize;
         let mut cells = Slab::with_capacity(alloc, 2 * count)?;
         let mut leaves = Vec::with_capacity(alloc, count)?;
-        let mut blossoms = Vec::with_capacity(alloc, count)?;
+        let mut spares = Vec::with_capacity(alloc, count)?;
         for leaf in 0..k {
             leaves.push_reserved(cells.insert_reserved(Cell {
                 kind: Kind::Leaf,
@@ -173,26 +115,22 @@ impl Arena {
                 spare: leaf,
             }));
         }
-        for _blossom in 0..k {
-            blossoms.push_reserved(cells.insert_reserved(Cell {
-                kind: Kind::Spare,
-                parent: None,
-                next: 0,
-                from: 0,
-                to: 0,
-                dual: 0,
-                spare: 0,
-            }));
+        for _spare in 0..k {
+            spares.push_reserved(cells.insert_reserved(Cell::SPARE));
         }
-        let _ = cells.capacity();
+        let room = cells.capacity();
+        prove!(2 * count <= room);
         Ok(Arena {
             cells,
             leaves,
-            blossoms,
+            spares,
         })
     }
 
-    /// A number that the name of every node is below.
+    /// A number that the name of every node is below. No call changes it: it is the length of the
+    /// family's list of nodes, which each call keeps.
+    ///
+    /// Cost: constant.
     pub fn room(&self) -> usize
         ensures value { result ≡ length self.now.nodes }
         ensures below { (name : ℕ) → IsAlive self.now name → name < result }
@@ -201,16 +139,21 @@ impl Arena {
         self.cells.capacity()
     }
 
-    /// The node of a leaf.
+    /// The node that holds a leaf alone.
+    ///
+    /// Cost: constant.
     pub fn leaf_node(&self, leaf: u32) -> usize
         requires { leaf < leaf_count self.now }
-        ensures value { result ≡ slice_index self.now.leaf_nodes leaf }
+        ensures value { result ≡ leaf_node self.now leaf }
         ensures alive { IsAlive self.now result }
+        ensures holds { Holds self.now result leaf }
     {
         self.leaves[leaf as usize]
     }
 
     /// The top that holds a leaf.
+    ///
+    /// Cost: the number of sets that hold the leaf.
     pub fn top(&self, leaf: u32) -> usize
         requires { leaf < leaf_count self.now }
         ensures top { IsTop self.now result }
@@ -224,6 +167,8 @@ impl Arena {
     }
 
     /// The sum of the duals of all sets that hold a leaf.
+    ///
+    /// Cost: the number of these sets.
     pub fn total(&self, leaf: u32) -> i64
         requires { leaf < leaf_count self.now }
         ensures { result ≡ pos (total_of self.now leaf) }
@@ -237,7 +182,32 @@ impl Arena {
         sum as i64
     }
 
+    /// The dual of a node.
+    ///
+    /// Cost: constant.
+    pub fn dual(&self, node: usize) -> i64
+        requires { IsAlive self.now node }
+        ensures { result ≡ pos (dual_of self.now node) }
+    {
+        self.cells[node].dual as i64
+    }
+
+    /// Whether a node holds one leaf alone, so that it has no children.
+    ///
+    /// Cost: constant.
+    pub fn is_leaf(&self, node: usize) -> bool
+        requires { IsAlive self.now node }
+        ensures { IsTrue result ↔ (cycle_of self.now node ≡ []) }
+    {
+        match self.cells[node].kind {
+            Kind::Leaf => true,
+            _ => false,
+        }
+    }
+
     /// The blossom that a node is a child of; none where it is a top.
+    ///
+    /// Cost: constant.
     pub fn parent(&self, node: usize) -> Option<usize>
         requires { IsAlive self.now node }
         ensures { MatchOption result (IsTop self.now node) (λ p. (i : ℕ) × IsChildAt self.now p i node) }
@@ -245,7 +215,9 @@ impl Arena {
         self.cells[node].parent
     }
 
-    /// The child of a blossom that holds a leaf.
+    /// The child of a blossom that holds a leaf of it.
+    ///
+    /// Cost: the number of sets inside the blossom that hold the leaf.
     pub fn child(&self, node: usize, leaf: u32) -> usize
         requires blossom { IsBlossom self.now node }
         requires holds { Holds self.now node leaf }
@@ -262,26 +234,9 @@ impl Arena {
         unreachable!()
     }
 
-    /// The dual of a node.
-    pub fn dual(&self, node: usize) -> i64
-        requires { IsAlive self.now node }
-        ensures { result ≡ pos (dual_of self.now node) }
-    {
-        self.cells[node].dual as i64
-    }
-
-    /// Whether a node is a leaf's own.
-    pub fn is_leaf(&self, node: usize) -> bool
-        requires { IsAlive self.now node }
-        ensures { IsTrue result ↔ (cycle_of self.now node ≡ []) }
-    {
-        match self.cells[node].kind {
-            Kind::Leaf => true,
-            _ => false,
-        }
-    }
-
-    /// The child of the first link of a blossom.
+    /// The child of the first link of a blossom's cycle.
+    ///
+    /// Cost: constant.
     pub fn first_child(&self, node: usize) -> usize
         requires { IsBlossom self.now node }
         ensures value { result ≡ (link_at (cycle_of self.now node) 0).node }
@@ -293,7 +248,9 @@ impl Arena {
         }
     }
 
-    /// The sibling that follows a child of a blossom.
+    /// The sibling that follows a child in its blossom's cycle; the first follows the last.
+    ///
+    /// Cost: constant.
     pub fn after(&self, node: usize) -> usize
         requires { IsChild self.now node }
         ensures { (blossom i : ℕ) → IsChildAt self.now blossom i node → IsChildAt self.now blossom (after_index (length (cycle_of self.now blossom)) i) result }
@@ -301,7 +258,10 @@ impl Arena {
         self.cells[node].next
     }
 
-    /// The link from a child of a blossom to the sibling that follows.
+    /// The link of a child in its blossom's cycle: the child, and the two leaves that join it to the
+    /// sibling that follows.
+    ///
+    /// Cost: constant.
     pub fn link(&self, node: usize) -> Link
         requires { IsChild self.now node }
         ensures { (blossom i : ℕ) → IsChildAt self.now blossom i node → result ≡ link_at (cycle_of self.now blossom) i }
@@ -314,7 +274,10 @@ impl Arena {
         }
     }
 
-    /// Makes a blossom of a cycle of tops, with dual 0, and gives its name. Counts one step.
+    /// Makes a blossom of an odd cycle of tops, and gives its name, under which there was no node.
+    /// It has dual 0 and is a top; its children are no longer tops. Counts one step.
+    ///
+    /// Cost: the number of links.
     pub fn shrink<L: Ledger>(&mut self, cycle: &[Link], steps: &mut Steps<L>) -> usize
         requires { CanShrink self.old cycle.now }
         ensures unused { node_at self.old result ≡ None }
@@ -325,25 +288,23 @@ impl Arena {
     {
         steps.tick();
         let first = cycle[0].node;
-        let name = self.blossoms[self.cells[first].spare as usize];
+        let name = self.spares[self.cells[first].spare as usize];
         let spare = self.cells[cycle[1].node].spare;
-        seat(&mut self.cells, cycle, name);
+        seat_children(&mut self.cells, cycle, name);
         self.cells[name] = Cell {
             kind: Kind::Blossom {
                 first,
                 count: cycle.len(),
             },
-            parent: None,
-            next: 0,
-            from: 0,
-            to: 0,
-            dual: 0,
             spare,
+            ..Cell::SPARE
         };
         name
     }
 
-    /// Takes a blossom of dual 0 away, and leaves its children as tops. Counts one step.
+    /// Takes a blossom of dual 0 that is a top away, and leaves its children as tops. Counts one step.
+    ///
+    /// Cost: the number of children.
     pub fn expand<L: Ledger>(&mut self, node: usize, steps: &mut Steps<L>)
         requires top { IsTop self.old node }
         requires blossom { IsBlossom self.old node }
@@ -357,19 +318,14 @@ impl Arena {
         let Kind::Blossom { first, count } = self.cells[node].kind else {
             unreachable!()
         };
-        unseat(&mut self.cells, first, count);
-        self.cells[node] = Cell {
-            kind: Kind::Spare,
-            parent: None,
-            next: 0,
-            from: 0,
-            to: 0,
-            dual: 0,
-            spare: 0,
-        };
+        free_children(&mut self.cells, first, count);
+        self.cells[node] = Cell::SPARE;
     }
 
-    /// Raises the duals of the outer tops, and lowers those of the inner ones. Counts one step.
+    /// Raises the duals of the outer tops by `delta`, and lowers those of the inner ones by it. Either
+    /// list may be empty. Counts one step.
+    ///
+    /// Cost: the number of these tops.
     pub fn raise<L: Ledger>(
         &mut self,
         outer: &[usize],
@@ -385,7 +341,15 @@ impl Arena {
     {
         steps.tick();
         let amount = amount_of(delta);
-        grow(&mut self.cells, outer, amount);
-        fall(&mut self.cells, inner, amount);
+        raise_duals(&mut self.cells, outer, amount);
+        lower_duals(&mut self.cells, inner, amount);
     }
+}
+
+// A positive number without its sign.
+fn amount_of(delta: i64) -> u64
+    requires { pos 1 ≤ℤ delta }
+    ensures { result ≡ nat_of delta }
+{
+    delta as u64
 }

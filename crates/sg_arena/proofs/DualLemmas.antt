@@ -1,0 +1,139 @@
+-- The duals between two leaves and their totals.
+use Rattle.std.proofs.Common.{Bool, List, None, Option, Some, [], ap, arith, cond, eq-eqb, eqb, false, get_or, inl, inr, length, refl, subst, sum_by, sym, true, ℕ, ◌*◌, ◌+◌, ◌-◌, ◌<◌, ◌||◌, ◌∙◌, ◌∷◌, ◌≡◌, ◌≢◌, ◌≤◌}
+use Rattle.std.proofs.lemmas.Bool.{cases_eq, cases_lt, eqb-true, false_from_ne_true, ne_eqb}
+use Rattle.std.proofs.lemmas.List.{get_or_past}
+use Rattle.std.proofs.lemmas.List.FromFn.{fill_by_all}
+use Rattle.std.proofs.lemmas.List.Sums.{sum_by-cons}
+use Rattle.std.specs.List.{range_with_len}
+use Rattle.std.specs.Option.{option_map_or}
+use Rattle.sg_arena.specs.Family.{Covers, Family, Holds, IsFamily, IsTop, Node, dual_of, has_leaf, holds, leaf_count, node_at, share, total_of}
+use Rattle.sg_arena.specs.Slack.{cut_share, duals_between, exactly_one}
+use Rattle.sg_arena.proofs.FamilyLemmas.{not_dead, top-covers, total-names}
+use Rattle.sg_arena.proofs.ListLemmas.{sum_by-agree, sum_by-map_of, sum_by-point, sum_by-zero}
+
+-- the duals between two leaves are the same both ways
+pub duals_between-back : (f : Family) (u v : ℕ) → duals_between f u v ≡ duals_between f v u
+duals_between-back f u v = sum_by-agree (cut_share u v) (cut_share v u) f.nodes each
+  where
+    turned : (a b : Bool) → exactly_one a b ≡ exactly_one b a
+    turned true true = refl
+    turned true false = refl
+    turned false true = refl
+    turned false false = refl
+
+    each : (o : Option Node) → cut_share u v o ≡ cut_share v u o
+    each None = refl
+    each (Some x) = ap (λ t. cond t x.dual 0) (turned (has_leaf x.leaves u) (has_leaf x.leaves v))
+
+-- the two totals count the duals between, and twice those of the sets that hold both
+abbrev pub both_share : ℕ → ℕ → Option Node → ℕ
+both_share u v slot = option_map_or (λ n. cond (has_leaf n.leaves u) (cond (has_leaf n.leaves v) n.dual 0) 0) slot 0
+
+pub total-between : (f : Family) (u v : ℕ) → total_of f u + total_of f v ≡ duals_between f u v + 2 * sum_by (both_share u v) f.nodes
+total-between f u v = go f.nodes
+  where
+    cases : (a b : Bool) (d : ℕ) → cond a d 0 + cond b d 0 ≡ cond (exactly_one a b) d 0 + 2 * cond a (cond b d 0) 0
+    cases true true d = omega arith
+    cases true false d = omega arith
+    cases false true d = omega arith
+    cases false false d = omega arith
+
+    each : (o : Option Node) → share u o + share v o ≡ cut_share u v o + 2 * both_share u v o
+    each None = refl
+    each (Some x) = cases (has_leaf x.leaves u) (has_leaf x.leaves v) x.dual
+
+    go : (slots : List (Option Node)) → sum_by (share u) slots + sum_by (share v) slots ≡ sum_by (cut_share u v) slots + 2 * sum_by (both_share u v) slots
+    go [] = refl
+    go (o ∷ rest) = omega (arith, go rest, each o, sum_by-cons (share u) o rest, sum_by-cons (share v) o rest, sum_by-cons (cut_share u v) o rest, sum_by-cons (both_share u v) o rest)
+
+-- no set holds leaves of two different tops
+pub both-none : (f : Family) → IsFamily f → (s t u v : ℕ) → IsTop f s → IsTop f t → s ≢ t → Holds f s u → Holds f t v → sum_by (both_share u v) f.nodes ≡ 0
+both-none f fam s t u v top_s top_t differ in_s in_t =
+    ap (sum_by (both_share u v)) (fill_by_all (node_at f) f.nodes (length f.nodes) None refl (λ k low. refl))
+    ∙ sum_by-map_of (both_share u v) (node_at f) (range_with_len 0 (length f.nodes))
+    ∙ sum_by-zero (λ n. both_share u v (node_at f n)) (range_with_len 0 (length f.nodes)) zero_at
+  where
+    each : (o : Option Node) → (has_leaf (option_map_or (λ x. x.leaves) o []) u ≡ true → has_leaf (option_map_or (λ x. x.leaves) o []) v ≡ true → ⊥) → both_share u v o ≡ 0
+    each None apart = refl
+    each (Some x) apart = cases (has_leaf x.leaves u) (has_leaf x.leaves v) x.dual apart
+      where
+        cases : (a b : Bool) (d : ℕ) → (a ≡ true → b ≡ true → ⊥) → cond a (cond b d 0) 0 ≡ 0
+        cases true true d h = absurd (h refl refl)
+        cases true false d h = refl
+        cases false b d h = refl
+
+    zero_at : (n : ℕ) → both_share u v (node_at f n) ≡ 0
+    zero_at n = each (node_at f n) (λ has_u has_v. differ (top_t.outermost s (λ l h. both_in n has_u has_v l h)))
+      where
+        both_in : (n : ℕ) → Holds f n u → Holds f n v → Covers f s t
+        both_in n has_u has_v =
+            let in_top : Covers f s n = top-covers f fam s n u top_s in_s has_u in
+            let meets : Holds f s v = in_top v has_v in
+            top-covers f fam s t v top_s meets in_t
+
+-- so between two tops the duals are the two totals
+pub between-tops : (f : Family) → IsFamily f → (s t u v : ℕ) → IsTop f s → IsTop f t → s ≢ t → Holds f s u → Holds f t v → duals_between f u v ≡ total_of f u + total_of f v
+between-tops f fam s t u v top_s top_t differ in_s in_t =
+    omega (arith, total-between f u v, both-none f fam s t u v top_s top_t differ in_s in_t)
+
+-- a leaf that is its own top has its dual for its total
+pub total-leaf_top : (f : Family) → IsFamily f → (l : ℕ) → l < leaf_count f → IsTop f (get_or f.leaf_nodes l 0) → total_of f l ≡ dual_of f (get_or f.leaf_nodes l 0)
+total-leaf_top f fam l low top =
+    let t = get_or f.leaf_nodes l 0 in
+    total-names f l
+    ∙ sum_by-agree (λ n. share l (node_at f n)) (λ n. cond (eqb t n) (dual_of f n) 0) (range_with_len 0 (length f.nodes)) each
+    ∙ sum_by-point (dual_of f) t 0 (length f.nodes) (omega arith) (low_top (length f.nodes) refl)
+  where
+    holds_own_leaf : Holds f (get_or f.leaf_nodes l 0) l
+    holds_own_leaf = ap (λ o. has_leaf (option_map_or (λ x. x.leaves) o []) l) (fam.leaf_set l low) ∙ rw (eq-eqb l l refl) refl
+
+    low_top : (k : ℕ) → k ≡ length f.nodes → get_or f.leaf_nodes l 0 < 0 + k
+    low_top k same =
+        elim (cases_lt (get_or f.leaf_nodes l 0) (length f.nodes)) [
+          | inl low ↦ omega (arith, low, same)
+          | inr high ↦ absurd (not_dead f (get_or f.leaf_nodes l 0) top.alive (get_or_past f.nodes (get_or f.leaf_nodes l 0) None high))
+        ]
+
+    share_as : (o : Option Node) (t : Bool) → has_leaf (option_map_or (λ (x : Node). x.leaves) o []) l ≡ t → share l o ≡ cond t (option_map_or (λ (x : Node). x.dual) o 0) 0
+    share_as None true e = refl
+    share_as None false e = refl
+    share_as (Some x) t e = rw e refl
+
+    each : (n : ℕ) → share l (node_at f n) ≡ cond (eqb (get_or f.leaf_nodes l 0) n) (dual_of f n) 0
+    each n =
+        elim (cases_eq (get_or f.leaf_nodes l 0) n) [
+          | inl same ↦
+              share_as (node_at f n) true (ap (λ m. holds f m l) (sym same) ∙ holds_own_leaf)
+              ∙ sym (ap (λ t. cond t (dual_of f n) 0) (eq-eqb (get_or f.leaf_nodes l 0) n same))
+          | inr differs ↦
+              share_as (node_at f n) false (false_from_ne_true (holds f n l) (λ held. differs (only_own n held)))
+              ∙ sym (ap (λ t. cond t (dual_of f n) 0) (ne_eqb (get_or f.leaf_nodes l 0) n differs))
+        ]
+      where
+        only_own : (n : ℕ) → Holds f n l → get_or f.leaf_nodes l 0 ≡ n
+        only_own n held =
+            fam.apart (get_or f.leaf_nodes l 0) n top.alive (top-covers f fam (get_or f.leaf_nodes l 0) n l top holds_own_leaf held)
+            (λ leaf h. subst (λ x. Holds f n x) (single leaf h) held)
+          where
+            single : (leaf : ℕ) → Holds f (get_or f.leaf_nodes l 0) leaf → l ≡ leaf
+            single leaf h = eqb-true l leaf (or_false (eqb l leaf) (sym (ap (λ o. has_leaf (option_map_or (λ x. x.leaves) o []) leaf) (fam.leaf_set l low)) ∙ h))
+              where
+                or_false : (b : Bool) → (b || false) ≡ true → b ≡ true
+                or_false true e = refl
+                or_false false e = e
+
+-- an inner leaf between two outer tops has a dual of at least delta, if the outer ones keep that distance
+pub inner-leaf_enough : (f : Family) → IsFamily f → (cost : ℕ → ℕ → ℕ) (l y z s r delta : ℕ) → l < leaf_count f → IsTop f (get_or f.leaf_nodes l 0) → IsTop f s → IsTop f r → s ≢ r → get_or f.leaf_nodes l 0 ≢ s → get_or f.leaf_nodes l 0 ≢ r → Holds f (get_or f.leaf_nodes l 0) l → Holds f s y → Holds f r z → duals_between f l y ≡ cost l y → duals_between f l z ≡ cost l z → cost y z ≤ cost l y + cost l z → duals_between f y z + 2 * delta ≤ cost y z → delta ≤ dual_of f (get_or f.leaf_nodes l 0)
+inner-leaf_enough f fam cost l y z s r delta low top top_s top_r apart_sr apart_s apart_r in_l in_s in_r tight_y tight_z triangle far =
+    let t = get_or f.leaf_nodes l 0 in
+    omega (
+      arith,
+      between-tops f fam t s l y top top_s apart_s in_l in_s,
+      between-tops f fam t r l z top top_r apart_r in_l in_r,
+      between-tops f fam s r y z top_s top_r apart_sr in_s in_r,
+      total-leaf_top f fam l low top,
+      tight_y,
+      tight_z,
+      triangle,
+      far,
+    )
