@@ -1,5 +1,5 @@
 -- The family without a blossom of dual 0, as `expand` leaves it: what it keeps and what it gains.
-use Rattle.std.proofs.Common.{IsSome, None, Option, Some, [], ap, arith, get_or, inl, inr, length, refl, subst, sym, ℕ, ◌%◌, ◌-◌, ◌<◌, ◌∙◌, ◌∷◌, ◌≡◌, ◌≢◌, ◌⊎◌}
+use Rattle.std.proofs.Common.{IsSome, None, Option, Some, [], ap, arith, get_or, inl, inr, length, refl, subst, sym, ℕ, ◌%◌, ◌<◌, ◌∙◌, ◌∷◌, ◌≡◌, ◌≢◌, ◌⊎◌}
 use Rattle.std.proofs.lemmas.Bool.{cases_Bool, cases_eq, false≢true}
 use Rattle.std.proofs.lemmas.List.{get_or-set_other, get_or-set_same}
 use Rattle.std.proofs.lemmas.List.Elements.{filter_agree}

@@ -1,5 +1,5 @@
 -- The family of leaves alone, as `open` makes it.
-use Rattle.std.proofs.Common.{Bool, IsSome, List, Some, [], ap, arith, eq-eqb, eqb, false, get_or, inl, inr, length, refl, subst, suc, sym, true, zero, ℕ, ◌%◌, ◌-◌, ◌<◌, ◌||◌, ◌∙◌, ◌∷◌, ◌≡◌}
+use Rattle.std.proofs.Common.{Bool, IsSome, List, Some, [], ap, arith, eq-eqb, eqb, false, get_or, inl, inr, length, refl, subst, suc, sym, true, zero, ℕ, ◌%◌, ◌<◌, ◌||◌, ◌∙◌, ◌∷◌, ◌≡◌}
 use Rattle.std.proofs.lemmas.Bool.{eqb-true}
 use Rattle.std.specs.List.{range_with_len}
 use Rattle.std.specs.Option.{option_map_or}

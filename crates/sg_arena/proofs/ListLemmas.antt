@@ -1,5 +1,5 @@
 -- Lists and options: tests, sums and parts, as far as the library has no lemma.
-use Rattle.std.proofs.Common.{Bool, IsSome, List, None, Option, Some, [], add-zero, ap, arith, cond, count_by, eq-eqb, eqb, false, filter, get_or, inl, inr, length, map, refl, suc, sum_by, sym, true, zero, zero-add, ℕ, ◌+◌, ◌-◌, ◌<◌, ◌||◌, ◌∙◌, ◌∷◌, ◌≡◌, ◌≢◌, ◌≤◌, ◌⊎◌}
+use Rattle.std.proofs.Common.{Bool, IsSome, List, None, Option, Some, [], add-zero, ap, arith, cond, count_by, eq-eqb, eqb, false, filter, get_or, inl, inr, length, map, refl, suc, sum_by, sym, true, zero, zero-add, ℕ, ◌+◌, ◌<◌, ◌||◌, ◌∙◌, ◌∷◌, ◌≡◌, ◌≢◌, ◌≤◌, ◌⊎◌}
 use Rattle.std.proofs.lemmas.Bool.{cases_Bool, cases_eq, cond-false, cond-true, eqb-true, false≢true, ne_eqb, or_cases}
 use Rattle.std.proofs.lemmas.List.Folds.{list_any_at}
 use Rattle.std.proofs.lemmas.List.Sums.{sum_by-cons, sum_by-le-sum_by}

@@ -1,5 +1,5 @@
 -- The family with other duals, as `raise` leaves it: what it keeps, and how totals change.
-use Rattle.std.proofs.Common.{Bool, Contains, IsSome, List, None, Option, Some, [], ap, arith, cond, eq-eqb, eqb, false, filter, get_or, inl, inr, length, map, refl, subst, sum_by, sym, true, ℕ, ◌%◌, ◌+◌, ◌-◌, ◌<◌, ◌^◌, ◌∙◌, ◌∷◌, ◌≡◌, ◌≢◌, ◌≤◌, ◌⊎◌}
+use Rattle.std.proofs.Common.{Bool, Contains, IsSome, List, None, Option, Some, [], ap, arith, cond, eq-eqb, eqb, false, filter, get_or, inl, inr, length, map, refl, subst, sum_by, sym, true, ℕ, ◌%◌, ◌+◌, ◌-◌, ◌<◌, ◌^◌, ◌∙◌, ◌∷◌, ◌≡◌, ◌≤◌, ◌⊎◌}
 use Rattle.std.proofs.lemmas.Bool.{cases_Bool, cases_eq, cases_lt, eqb-true, false_from_ne_true, false≢true, ne_eqb}
 use Rattle.std.proofs.lemmas.List.{get_or_past}
 use Rattle.std.proofs.lemmas.List.Elements.{filter_agree}

@@ -1,5 +1,5 @@
 -- The family with a new blossom, as `shrink` leaves it: what it keeps and what it gains.
-use Rattle.std.proofs.Common.{IsSome, List, None, Some, [], ap, arith, filter, get_or, inl, inr, length, refl, subst, sym, true, ℕ, ◌%◌, ◌-◌, ◌<◌, ◌∙◌, ◌∷◌, ◌≡◌, ◌≢◌}
+use Rattle.std.proofs.Common.{IsSome, List, None, Some, [], ap, arith, filter, get_or, inl, inr, length, refl, subst, sym, true, ℕ, ◌%◌, ◌<◌, ◌∙◌, ◌∷◌, ◌≡◌, ◌≢◌}
 use Rattle.std.proofs.lemmas.Bool.{cases_eq, cases_lt, false_from_ne_true}
 use Rattle.std.proofs.lemmas.List.{get_or-set_other, get_or-set_same}
 use Rattle.std.proofs.lemmas.List.Elements.{filter_agree}

@@ -1,5 +1,5 @@
 -- What `open`, `shrink`, `expand` and `raise` make of a family.
-use Rattle.std.specs.Prelude.{◌≡◌, ◌≢◌, ℕ, ◌+◌, ◌-◌, ◌<◌, ◌≤◌, ◌^◌, List, length, Option, Some, None, filter, slice_set, slice_index, map, ℤ, pos, negsuc, if◌then◌else◌, ◌==◌}
+use Rattle.std.specs.Prelude.{◌≡◌, ◌≢◌, ℕ, ◌+◌, ◌-◌, ◌<◌, ◌≤◌, ◌^◌, List, length, Option, Some, filter, slice_set, slice_index, map, ℤ, pos, negsuc, if◌then◌else◌, ◌==◌}
 use Rattle.std.specs.List.{list_any, range_with_len}
 use Rattle.std.specs.Option.{option_map}
 use Rattle.sg_arena.specs.declared.Link.{Link}
