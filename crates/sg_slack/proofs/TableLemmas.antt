@@ -1,0 +1,48 @@
+-- Entries of a square table that is kept row by row.
+use Rattle.std.proofs.Common.{◌≡◌, ◌≢◌, ℕ, ◌+◌, ◌*◌, ◌<◌, ◌≤◌, List, ℤ, pos, length, get_or, set, refl, sym, ap, ◌∙◌, inl, inr, arith, ◌⊎◌}
+use Rattle.std.proofs.lemmas.Bool.{cases_eq, cases_lt}
+use Rattle.std.proofs.lemmas.List.{get_or-set_same, get_or-set_other, length-set}
+use Rattle.std.proofs.Math.Nat.{mul-le-mul_right}
+use Rattle.sg_slack.specs.Table.{IsPairOf, SetsPair}
+
+-- a later row begins past the end of this one
+row_past : (n u a : ℕ) → u < a → u * n + n ≤ a * n
+row_past n u a less =
+    let most : (u + 1) * n ≤ a * n = mul-le-mul_right n (omega arith) in
+    let more : (u + 1) * n ≡ u * n + n = grind arith in
+    omega (arith, most, more)
+
+-- an entry is within the table
+pub entry-within : (n u v : ℕ) → u < n → v < n → u * n + v < n * n
+entry-within n u v low_u low_v = omega (arith, row_past n u n low_u)
+
+-- each entry has one row and one place in it
+pub entry-unique : (n u v a b : ℕ) → v < n → b < n → u * n + v ≡ a * n + b → (u ≡ a) × (v ≡ b)
+entry-unique n u v a b low_v low_b same =
+    elim (cases_eq u a) [
+      | inl row ↦ (row, omega (arith, same, ap (λ x. x * n) row))
+      | inr differs ↦ elim (cases_lt u a) [
+        | inl less ↦ absurd (omega (arith, row_past n u a less))
+        | inr more ↦ absurd (omega (arith, row_past n a u (omega arith)))
+      ]
+    ]
+
+pub SetsPair-written : (n : ℕ) (entries : List ℤ) (u v : ℕ) (cost : ℤ) → length entries ≡ n * n → u < n → v < n → SetsPair (record { size = n; entries = entries }) (record { size = n; entries = set (set entries (u * n + v) cost) (v * n + u) cost }) u v cost
+SetsPair-written n entries u v cost whole low_u low_v =
+    record {
+      size = refl;
+      forth = elim (cases_eq (u * n + v) (v * n + u)) [
+        | inl same ↦ ap (λ k. get_or (set first (v * n + u) cost) k (pos 0)) same ∙ last
+        | inr differs ↦ get_or-set_other first (v * n + u) (u * n + v) cost (pos 0) differs ∙ get_or-set_same entries (u * n + v) cost (pos 0) (omega (arith, whole, entry-within n u v low_u low_v))
+      ];
+      back = last;
+      others = λ a b low_a low_b other.
+          get_or-set_other first (v * n + u) (a * n + b) cost (pos 0) (λ same. let e = entry-unique n a b v u low_b low_u same in other (inr e))
+          ∙ get_or-set_other entries (u * n + v) (a * n + b) cost (pos 0) (λ same. let e = entry-unique n a b u v low_b low_v same in other (inl e));
+    }
+  where
+    first : List ℤ
+    first = set entries (u * n + v) cost
+
+    last : get_or (set (set entries (u * n + v) cost) (v * n + u) cost) (v * n + u) (pos 0) ≡ cost
+    last = get_or-set_same (set entries (u * n + v) cost) (v * n + u) cost (pos 0) (omega (arith, whole, length-set entries (u * n + v) cost, entry-within n v u low_v low_u))

@@ -1,0 +1,20 @@
+-- The parts of a scan over all pairs: one row, and the nearer of two pairs.
+use Rattle.std.specs.Prelude.{◌≡◌, ℕ, List, ◌≤ℤ◌, Option, Some, None, ◌⊎◌}
+use Rattle.sg_slack.specs.declared.Mark.{Mark}
+use Rattle.sg_slack.specs.declared.Pair.{Pair}
+use Rattle.sg_slack.specs.Table.{Table}
+use Rattle.sg_slack.specs.Slack.{IsOuterFree, IsOuterOuter}
+
+-- such a pair of this row
+abbrev pub IsOuterFreeOf : Table → List Mark → ℕ → ℕ → ℕ → Type 0
+IsOuterFreeOf t marks row u v = (u ≡ row) × IsOuterFree t marks u v
+
+-- such a pair of this row
+abbrev pub IsOuterOuterOf : Table → List ℕ → List Mark → ℕ → ℕ → ℕ → Type 0
+IsOuterOuterOf t tops marks row u v = (u ≡ row) × IsOuterOuter t tops marks u v
+
+-- the pair of less slack, where there are two
+abbrev pub IsNearer : Option Pair → Option Pair → Option Pair → Type 0
+IsNearer None more result = result ≡ more
+IsNearer (Some p) None result = result ≡ Some p
+IsNearer (Some p) (Some q) result = ((result ≡ Some p) × (p.slack ≤ℤ q.slack)) ⊎ ((result ≡ Some q) × (q.slack ≤ℤ p.slack))

@@ -1,0 +1,223 @@
+//! Costs of pairs of leaves, and the pair of least slack, for Edmonds' least perfect matching
+//! (Edmonds 1965).
+//!
+//! For a physicist: the leaves are the frustrated plaquettes that are to be joined in pairs, and
+//! [`Costs`] has the cost of joining each two of them. Each leaf has a *total*, the sum of the duals
+//! of the sets that hold it. The *slack* of two leaves that no set holds together is their cost less
+//! their two totals. Edmonds' method grows a tree from an unpaired leaf; it next needs the pair of
+//! least slack between the tree's outer leaves and the leaves outside, and that between two outer
+//! leaves of different sets. These are [`least_outer_free`] and [`least_outer_outer`].
+//!
+//! For the next engineer: the clause that matters is `Least` of `specs/Slack.antt`: a pair of least
+//! slack among those meant, and none exactly where there is none. Which of several such pairs is
+//! given is free. A table is seen by its entries, `cost_of` of `specs/Table.antt`. Both scans go over
+//! all pairs and take no memory.
+#![tactic(auto)]
+
+ghost use Rattle.std.specs.Prelude.{◌≡◌, ◌<◌, length};
+ghost use Rattle.sg_slack.specs.Slack.{mark_at, slack_of, IsOuterFree, IsOuterOuter, Least, SumsFit};
+ghost use Rattle.sg_slack.specs.Scan.{IsNearer, IsOuterFreeOf, IsOuterOuterOf};
+
+use std::alloc::{AllocError, Global};
+use std::marker::Model;
+
+/// Memory ran out.
+pub type NoMemory = AllocError;
+
+/// Where a leaf stands: the mark of the top that holds it.
+#[derive(Clone, Copy, Debug, PartialEq, Eq)]
+pub enum Mark {
+    /// Outside the tree.
+    Free,
+    /// An even number of edges from the tree's root; the root itself is outer.
+    Outer,
+    /// An odd number of edges from the tree's root.
+    Inner,
+}
+
+/// Two leaves and their slack.
+#[derive(Clone, Copy, Debug, PartialEq, Eq)]
+pub struct Pair {
+    pub u: u32,
+    pub v: u32,
+    /// The cost of `u` and `v` less the totals of both.
+    pub slack: i64,
+}
+
+/// A square table of costs, one for each two leaves.
+#[derive(Drop)]
+pub struct Costs {
+    size: u32,
+    // The rows one after another.
+    entries: Vec<i64>,
+}
+
+impl Model for Costs {
+    ghost use Rattle.std.specs.Prelude.{◌≡◌, ◌≤◌, ◌*◌, ◌^◌, length};
+    ghost use Rattle.sg_slack.specs.Table.{Table};
+
+    ghost Value = { Table };
+
+    ghost view = { λ c. record { size = c.size; entries = c.entries.items } };
+
+    ghost invariant = { λ c. (length c.entries.items ≡ c.size * c.size) × (c.size ≤ 2 ^ 24) };
+}
+
+impl Costs {
+    ghost use Rattle.std.specs.Prelude.{◌≡◌, ℕ, ◌<◌, ◌≤◌, ◌^◌, IfOk, pos};
+    ghost use Rattle.sg_slack.specs.Table.{cost_of, SetsPair};
+
+    /// A table of `k` rows with all entries 0.
+    ///
+    /// Cost: proportional to the square of `k`.
+    pub fn new(alloc: Global, k: u32) -> Result<Costs, NoMemory>
+        requires { k ≤ 2 ^ 24 }
+        ensures size { IfOk result (λ c. c.size ≡ k) }
+        ensures zero { IfOk result (λ c. (u v : ℕ) → cost_of c u v ≡ pos 0) }
+    {
+        let count = k as usize;
+        let entries = vec![in alloc; 0i64; count * count]?;
+        Ok(Costs { size: k, entries })
+    }
+
+    /// The number of rows.
+    pub fn size(&self) -> u32
+        ensures value { result ≡ self.now.size }
+        ensures small { result ≤ 2 ^ 24 }
+    {
+        self.size
+    }
+
+    /// The cost of two leaves.
+    pub fn cost(&self, u: u32, v: u32) -> i64
+        requires u { u < self.now.size }
+        requires v { v < self.now.size }
+        ensures { result ≡ cost_of self.now u v }
+    {
+        self.entries[u as usize * self.size as usize + v as usize]
+    }
+
+    /// Sets the cost of two leaves, in both orders. All other entries stay.
+    pub fn set(&mut self, u: u32, v: u32, cost: i64)
+        requires u { u < self.old.size }
+        requires v { v < self.old.size }
+        ensures { SetsPair self.old self.new u v cost }
+    {
+        let size = self.size as usize;
+        self.entries[u as usize * size + v as usize] = cost;
+        self.entries[v as usize * size + u as usize] = cost;
+    }
+}
+
+/// A pair of least slack of an outer leaf `u` and a free leaf `v`, none where there is no such pair.
+/// The three slices have an entry for each leaf; `top` isn't read.
+///
+/// Cost: the number of outer leaves times the number of leaves.
+pub fn least_outer_free(costs: &Costs, total: &[i64], top: &[usize], mark: &[Mark]) -> Option<Pair>
+    requires totals { length total.now ≡ costs.now.size }
+    requires tops { length top.now ≡ costs.now.size }
+    requires marks { length mark.now ≡ costs.now.size }
+    requires fits { SumsFit costs.now total.now }
+    ensures { Least costs.now total.now (IsOuterFree costs.now mark.now) result }
+{
+    let mut best = None;
+    for u in 0..costs.size() {
+        if let Mark::Outer = mark[u as usize] {
+            best = nearer(best, nearest_free(costs, total, mark, u));
+        }
+    }
+    best
+}
+
+/// A pair of least slack of two outer leaves of different tops, none where there is no such pair.
+/// The three slices have an entry for each leaf.
+///
+/// Cost: the number of outer leaves times the number of leaves.
+pub fn least_outer_outer(costs: &Costs, total: &[i64], top: &[usize], mark: &[Mark]) -> Option<Pair>
+    requires totals { length total.now ≡ costs.now.size }
+    requires tops { length top.now ≡ costs.now.size }
+    requires marks { length mark.now ≡ costs.now.size }
+    requires fits { SumsFit costs.now total.now }
+    ensures { Least costs.now total.now (IsOuterOuter costs.now top.now mark.now) result }
+{
+    let mut best = None;
+    for u in 0..costs.size() {
+        if let Mark::Outer = mark[u as usize] {
+            best = nearer(best, nearest_outer(costs, total, top, mark, u));
+        }
+    }
+    best
+}
+
+// The pair of least slack of an outer leaf and a free one.
+fn nearest_free(costs: &Costs, total: &[i64], mark: &[Mark], u: u32) -> Option<Pair>
+    requires totals { length total.now ≡ costs.now.size }
+    requires marks { length mark.now ≡ costs.now.size }
+    requires fits { SumsFit costs.now total.now }
+    requires leaf { u < costs.now.size }
+    requires outer { mark_at mark.now u ≡ Mark.Outer }
+    ensures { Least costs.now total.now (IsOuterFreeOf costs.now mark.now u) result }
+{
+    let mut best = None;
+    for v in 0..costs.size() {
+        if let Mark::Free = mark[v as usize] {
+            best = nearer(best, Some(pair_of(costs, total, u, v)));
+        }
+    }
+    best
+}
+
+// The pair of least slack of an outer leaf and one of another top.
+fn nearest_outer(costs: &Costs, total: &[i64], top: &[usize], mark: &[Mark], u: u32) -> Option<Pair>
+    requires totals { length total.now ≡ costs.now.size }
+    requires tops { length top.now ≡ costs.now.size }
+    requires marks { length mark.now ≡ costs.now.size }
+    requires fits { SumsFit costs.now total.now }
+    requires leaf { u < costs.now.size }
+    requires outer { mark_at mark.now u ≡ Mark.Outer }
+    ensures { Least costs.now total.now (IsOuterOuterOf costs.now top.now mark.now u) result }
+{
+    let mut best = None;
+    for v in 0..costs.size() {
+        if top[u as usize] != top[v as usize] {
+            if let Mark::Outer = mark[v as usize] {
+                best = nearer(best, Some(pair_of(costs, total, u, v)));
+            }
+        }
+    }
+    best
+}
+
+// Two leaves with their slack.
+fn pair_of(costs: &Costs, total: &[i64], u: u32, v: u32) -> Pair
+    requires totals { length total.now ≡ costs.now.size }
+    requires fits { SumsFit costs.now total.now }
+    requires u { u < costs.now.size }
+    requires v { v < costs.now.size }
+    ensures { result ≡ record { u = u; v = v; slack = slack_of costs.now total.now u v } }
+{
+    let slack = slack(costs, total, u, v);
+    Pair { u, v, slack }
+}
+
+// The slack of two leaves.
+fn slack(costs: &Costs, total: &[i64], u: u32, v: u32) -> i64
+    requires totals { length total.now ≡ costs.now.size }
+    requires fits { SumsFit costs.now total.now }
+    requires u { u < costs.now.size }
+    requires v { v < costs.now.size }
+    ensures { result ≡ slack_of costs.now total.now u v }
+{
+    costs.cost(u, v) - total[u as usize] - total[v as usize]
+}
+
+// The pair of less slack; the first where they are equal.
+fn nearer(best: Option<Pair>, more: Option<Pair>) -> Option<Pair>
+    ensures { IsNearer best more result }
+{
+    match (best, more) {
+        (Some(first), Some(second)) if second.slack < first.slack => more,
+        (None, _) => more,
+        _ => best,
+    }
+}
