@@ -159,11 +159,11 @@ impl Arena {
         ensures top { IsTop self.now result }
         ensures holds { Holds self.now result leaf }
     {
-        let mut node = self.leaves[leaf as usize];
-        while let Some(parent) = self.cells[node].parent {
-            node = parent;
+        let mut top = self.leaves[leaf as usize];
+        while let Some(parent) = self.cells[top].parent {
+            top = parent;
         }
-        node
+        top
     }
 
     /// The sum of the duals of all sets that hold a leaf.

@@ -1,3 +1,4 @@
 pub mod Table
 pub mod Slack
 pub mod Scan
+pub mod Small

@@ -221,3 +221,6 @@ fn nearer(best: Option<Pair>, more: Option<Pair>) -> Option<Pair>
         _ => best,
     }
 }
+
+#[cfg(test)]
+mod tests;

@@ -1,6 +1,5 @@
-use Rattle.std.proofs.Common.{◌≡◌, ◌<◌, ◌+◌, Some, ap, arith, refl, subst, sym, ◌∙◌}
-use Rattle.sg_slack.specs.declared.Mark.TheVariants.{Free}
-use Rattle.sg_slack.specs.Slack.{Least, mark_at}
+use Rattle.std.proofs.Common.{◌<◌, ◌+◌, Some, arith, refl, subst, sym}
+use Rattle.sg_slack.specs.Slack.{Least}
 use Rattle.sg_slack.specs.Scan.{IsNearer, IsOuterFreeOf}
 use Rattle.sg_slack.proofs.ScanLemmas.{Row-none, Row-pair}
 use Rattle.sg_slack.proofs.nearest_free.Goals as goal

@@ -1,4 +1,4 @@
-use Rattle.std.proofs.Common.{◌≡◌, ◌<◌, ◌+◌, Some, arith, refl, subst, sym}
+use Rattle.std.proofs.Common.{◌<◌, ◌+◌, Some, arith, refl, subst, sym}
 use Rattle.sg_slack.specs.Slack.{Least}
 use Rattle.sg_slack.specs.Scan.{IsNearer, IsOuterOuterOf}
 use Rattle.sg_slack.proofs.ScanLemmas.{Row-none, Row-pair}
