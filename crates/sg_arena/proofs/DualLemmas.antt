@@ -29,6 +29,7 @@ duals_between-back f u v = sum_by-agree (cut_share u v) (cut_share v u) f.nodes 
 abbrev pub both_share : ℕ → ℕ → Option Node → ℕ
 both_share u v slot = option_map_or (λ n. cond (has_leaf n.leaves u) (cond (has_leaf n.leaves v) n.dual 0) 0) slot 0
 
+-- the totals of two leaves are the duals between them and twice those of the sets that hold both
 pub total-between : (f : Family) (u v : ℕ) → total_of f u + total_of f v ≡ duals_between f u v + 2 * sum_by (both_share u v) f.nodes
 total-between f u v = go f.nodes
   where

@@ -24,6 +24,7 @@ module _ (f : Family) (b : ℕ) (fam : IsFamily f) (top : IsTop f b) (blossom : 
   at_rest : (n : ℕ) → n ≢ b → node_at without n ≡ node_at f n
   at_rest n differs = get_or-set_other f.nodes b n None None differs
 
+  -- every other node holds what it held
   pub holds_rest : (n leaf : ℕ) → n ≢ b → holds without n leaf ≡ holds f n leaf
   holds_rest n leaf differs = ap (λ o. has_leaf (option_map_or (λ x. x.leaves) o []) leaf) (at_rest n differs)
 
@@ -62,6 +63,7 @@ module _ (f : Family) (b : ℕ) (fam : IsFamily f) (top : IsTop f b) (blossom : 
         to = λ i within. child_stays n (after_index (length (cycle_of f n)) i) (link_at (cycle_of f n) i).to (after_within (length (cycle_of f n)) i within) ∙ is.to i within;
       }
 
+  -- it is a family
   pub IsFamily-expand : IsFamily without
   IsFamily-expand =
       record {
@@ -175,6 +177,7 @@ module _ (f : Family) (b : ℕ) (fam : IsFamily f) (top : IsTop f b) (blossom : 
 
 -- a set of dual 0 takes nothing away
 module _ (f : Family) (b : ℕ) (flat : dual_of f b ≡ 0) (room : b < length f.nodes) where
+  -- each total stays
   pub total-expand : (u : ℕ) → total_of (with_slot f b None) u ≡ total_of f u
   total-expand u = omega (arith, sum_by-set (share u) f.nodes b None None room, go (node_at f b) flat)
     where
@@ -182,6 +185,7 @@ module _ (f : Family) (b : ℕ) (flat : dual_of f b ≡ 0) (room : b < length f.
       go None e = refl
       go (Some x) e = rw e (cond-same (has_leaf x.leaves u) 0)
 
+  -- and so do the duals between two leaves
   pub duals_between-expand : (u v : ℕ) → duals_between (with_slot f b None) u v ≡ duals_between f u v
   duals_between-expand u v = omega (arith, sum_by-set (cut_share u v) f.nodes b None None room, go (node_at f b) flat)
     where

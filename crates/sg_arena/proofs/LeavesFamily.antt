@@ -24,6 +24,7 @@ module _ (f : Family) (only : OnlyLeaves f) where
       or_false true = refl
       or_false false = refl
 
+  -- a leaf's node holds it
   pub holds_own : (l : ℕ) → l < leaf_count f → Holds f (get_or f.leaf_nodes l 0) l
   holds_own l low = ap (λ xs. has_leaf xs l) (leaf_of l low) ∙ rw (eq-eqb l l refl) refl
 
@@ -36,9 +37,11 @@ module _ (f : Family) (only : OnlyLeaves f) where
             ap (cycle_of f) (sym at.2) ∙ ap (λ o. option_map_or (λ x. x.cycle) o []) (only.leaves at.0 at.1)
       ]
 
+  -- there is no child
   pub leaves-no_child : (n i : ℕ) → i < length (cycle_of f n) → ⊥
   leaves-no_child n i within = omega (arith, within, ap length (no_cycle n))
 
+  -- every dual is 0
   pub no_share : (leaf n : ℕ) → share leaf (node_at f n) ≡ 0
   no_share leaf n =
       elim (cases_option (node_at f n)) [
@@ -48,6 +51,7 @@ module _ (f : Family) (only : OnlyLeaves f) where
             ap (λ m. share leaf (node_at f m)) (sym at.2) ∙ ap (share leaf) (only.leaves at.0 at.1) ∙ cond-same (has_leaf (at.0 ∷ []) leaf) 0
       ]
 
+  -- it is a family
   pub IsFamily-leaves : IsFamily f
   IsFamily-leaves =
       record {

@@ -27,18 +27,22 @@ or_swap false true false d = refl
 or_swap false false c d = refl
 
 module _ {X : Type 0} where
+  -- some element passes one of two tests
   pub list_any-or : (p q : X → Bool) (xs : List X) → list_any (λ x. p x || q x) xs ≡ (list_any p xs || list_any q xs)
   list_any-or p q [] = refl
   list_any-or p q (x ∷ xs) = ap (λ b. (p x || q x) || b) (list_any-or p q xs) ∙ or_swap (p x) (q x) (list_any p xs) (list_any q xs)
 
+  -- tests that agree on all find the same
   pub list_any-agree : (p q : X → Bool) (xs : List X) → ((x : X) → p x ≡ q x) → list_any p xs ≡ list_any q xs
   list_any-agree p q [] same = refl
   list_any-agree p q (x ∷ xs) same = rw (same x, list_any-agree p q xs same) refl
 
+  -- what nothing passes, no element passes
   pub list_any-never : (xs : List X) → list_any (λ _. false) xs ≡ false
   list_any-never [] = refl
   list_any-never (x ∷ xs) = list_any-never xs
 
+-- an image passes where an element does
 pub list_any-map : {X Y : Type 0} (p : Y → Bool) (f : X → Y) (xs : List X) → list_any p (map f xs) ≡ list_any (λ x. p (f x)) xs
 list_any-map p f [] = refl
 list_any-map p f (x ∷ xs) = ap (λ b. p (f x) || b) (list_any-map p f xs)
@@ -53,6 +57,7 @@ module _ {X : Type 0} where
         | inr there ↦ let later = place_of_any p xs d there in (suc later.0, omega (arith, later.1), later.2)
       ]
 
+  -- tests that agree at each place find the same
   pub list_any-agree_at : (p q : X → Bool) (xs : List X) (d : X) → ((i : ℕ) → i < length xs → p (get_or xs i d) ≡ q (get_or xs i d)) → list_any p xs ≡ list_any q xs
   list_any-agree_at p q [] d same = refl
   list_any-agree_at p q (x ∷ xs) d same =
@@ -66,10 +71,12 @@ cases_in xs n =
       | inr none ↦ inr (λ i within same. false≢true (sym none ∙ list_any_at (λ m. eqb m n) xs i 0 within (eq-eqb (get_or xs i 0) n same)), none)
     ]
 
+-- functions that agree make the same list
 pub map-agree : {X Y : Type 0} (f g : X → Y) (xs : List X) → ((x : X) → f x ≡ g x) → map f xs ≡ map g xs
 map-agree f g [] same = refl
 map-agree f g (x ∷ xs) same = rw (same x, map-agree f g xs same) refl
 
+-- what nothing passes keeps nothing
 pub filter-never : {X : Type 0} (p : X → Bool) (xs : List X) → ((x : X) → p x ≡ false) → filter p xs ≡ []
 filter-never p [] never = refl
 filter-never p (x ∷ xs) never = rw (never x) (filter-never p xs never)
@@ -95,6 +102,7 @@ filter-single p a (suc n) l low high is =
     none_after b zero above within = refl
     none_after b (suc m) above within = rw (is b (omega arith), ne_eqb l b (λ e. omega arith)) (none_after (b + 1) m (omega arith) (omega arith))
 
+-- the weaker test passes more
 pub count_by-mono : (p q : ℕ → Bool) → ((x : ℕ) → p x ≡ true → q x ≡ true) → (xs : List ℕ) → count_by p xs ≤ count_by q xs
 count_by-mono p q implies xs = sum_by-le-sum_by (λ x. cond (p x) 1 0) (λ x. cond (q x) 1 0) xs (λ x. go (p x) (q x) (implies x))
   where
@@ -102,18 +110,22 @@ count_by-mono p q implies xs = sum_by-le-sum_by (λ x. cond (p x) 1 0) (λ x. co
     go false b h = omega arith
     go true b h = rw (h refl) (omega arith)
 
+-- the sum of sums
 pub sum_by-plus : {X : Type 0} (f g : X → ℕ) (xs : List X) → sum_by (λ x. f x + g x) xs ≡ sum_by f xs + sum_by g xs
 sum_by-plus f g [] = refl
 sum_by-plus f g (x ∷ xs) = omega (arith, sum_by-plus f g xs, sum_by-cons (λ x. f x + g x) x xs, sum_by-cons f x xs, sum_by-cons g x xs)
 
+-- terms that agree have the same sum
 pub sum_by-agree : {X : Type 0} (f g : X → ℕ) (xs : List X) → ((x : X) → f x ≡ g x) → sum_by f xs ≡ sum_by g xs
 sum_by-agree f g [] same = refl
 sum_by-agree f g (x ∷ xs) same = omega (arith, same x, sum_by-agree f g xs same, sum_by-cons f x xs, sum_by-cons g x xs)
 
+-- the sum over an image
 pub sum_by-map_of : {X Y : Type 0} (f : Y → ℕ) (h : X → Y) (xs : List X) → sum_by f (map h xs) ≡ sum_by (λ x. f (h x)) xs
 sum_by-map_of f h [] = refl
 sum_by-map_of f h (x ∷ xs) = omega (arith, sum_by-map_of f h xs, sum_by-cons f (h x) (map h xs), sum_by-cons (λ x. f (h x)) x xs)
 
+-- a sum of zeros
 pub sum_by-zero : {X : Type 0} (f : X → ℕ) (xs : List X) → ((x : X) → f x ≡ 0) → sum_by f xs ≡ 0
 sum_by-zero f [] zeros = refl
 sum_by-zero f (x ∷ xs) zeros = omega (arith, zeros x, sum_by-zero f xs zeros, sum_by-cons f x xs)
@@ -124,6 +136,7 @@ point_out d n a zero low = refl
 point_out d n a (suc count) low =
     omega (arith, point_out d n (a + 1) count (omega arith), sum_by-cons (λ t. cond (eqb n t) (d t) 0) a (range_with_len (a + 1) count), cond-false (eqb n a) (d a) 0 (ne_eqb n a (λ e. omega arith)))
 
+-- a sum in which one term alone isn't 0
 pub sum_by-point : (d : ℕ → ℕ) (n a count : ℕ) → a ≤ n → n < a + count → sum_by (λ t. cond (eqb n t) (d t) 0) (range_with_len a count) ≡ d n
 sum_by-point d n a zero low high = absurd (omega arith)
 sum_by-point d n a (suc count) low high =
@@ -134,6 +147,7 @@ sum_by-point d n a (suc count) low high =
           omega (arith, sum_by-point d n (a + 1) count (omega arith) (omega arith), sum_by-cons (λ t. cond (eqb n t) (d t) 0) a (range_with_len (a + 1) count), cond-false (eqb n a) (d a) 0 (ne_eqb n a differs))
     ]
 
+-- a term counted in one of two cases that exclude each other
 pub cond-either : (a b : Bool) (x : ℕ) → (a ≡ true → b ≡ true → ⊥) → cond (a || b) x 0 ≡ cond a x 0 + cond b x 0
 cond-either true true x apart = absurd (apart refl refl)
 cond-either true false x apart = sym (add-zero x)

@@ -16,11 +16,13 @@ use Rattle.sg_arena.specs.Slack.{cut_share, duals_between, exactly_one}
 use Rattle.sg_arena.proofs.FamilyLemmas.{alive_from_holds, not_dead, some_leaf, top-apart, total-names}
 use Rattle.sg_arena.proofs.ListLemmas.{cases_in, list_any-agree_at, place_of_any, sum_by-agree, sum_by-map_of, sum_by-plus, sum_by-point}
 
+-- a node with this dual
 abbrev pub redual : ℕ → Node → Node
 redual d x = record x { dual = d }
 
 -- a family in which only the duals differ
 module _ (f g : Family) (fam : IsFamily f) (same_leaves : g.leaf_nodes ≡ f.leaf_nodes) (dual : ℕ → ℕ) (at : (n : ℕ) → node_at g n ≡ option_map (redual (dual n)) (node_at f n)) (fits : (leaf : ℕ) → total_of g leaf ≤ 2 ^ 61) where
+  -- each set is as it was
   pub leaves_same : (n : ℕ) → leaves_of g n ≡ leaves_of f n
   leaves_same n = ap (λ o. option_map_or (λ x. x.leaves) o []) (at n) ∙ go (node_at f n)
     where
@@ -28,6 +30,7 @@ module _ (f g : Family) (fam : IsFamily f) (same_leaves : g.leaf_nodes ≡ f.lea
       go None = refl
       go (Some x) = refl
 
+  -- each cycle is as it was
   pub cycle_same : (n : ℕ) → cycle_of g n ≡ cycle_of f n
   cycle_same n = ap (λ o. option_map_or (λ x. x.cycle) o []) (at n) ∙ go (node_at f n)
     where
@@ -35,6 +38,7 @@ module _ (f g : Family) (fam : IsFamily f) (same_leaves : g.leaf_nodes ≡ f.lea
       go None = refl
       go (Some x) = refl
 
+  -- no node is new
   pub alive_same : (n : ℕ) → IsAlive g n → IsAlive f n
   alive_same n alive = go (node_at f n) (subst (λ o. IsSome o) (at n) alive)
     where
@@ -51,6 +55,7 @@ module _ (f g : Family) (fam : IsFamily f) (same_leaves : g.leaf_nodes ≡ f.lea
   any_same : (links : List Link) (leaf : ℕ) → any_holds g links leaf ≡ any_holds f links leaf
   any_same links leaf = list_any-agree_at (λ link. holds g link.node leaf) (λ link. holds f link.node leaf) links blank_link (λ i within. held (link_at links i).node leaf)
 
+  -- it is a family
   pub IsFamily-redual : IsFamily g
   IsFamily-redual =
       record {
@@ -94,6 +99,7 @@ module _ (f g : Family) (fam : IsFamily f) (same_leaves : g.leaf_nodes ≡ f.lea
       }
 
 module _ (f : Family) (outer inner : List ℕ) (delta : ℕ) where
+  -- the node under a name after a raise
   pub node_at-raised : (n : ℕ) → node_at (raised f outer inner delta) n ≡ option_map (with_dual (raised_dual outer inner delta n)) (node_at f n)
   node_at-raised n =
       elim (cases_lt n (length f.nodes)) [
@@ -137,6 +143,7 @@ module _ (f : Family) (outer inner : List ℕ) (delta : ℕ) where
         go (Some x) e (inl plain) = both (has_leaf x.leaves leaf) (raised_dual outer inner delta n x.dual) x.dual (rw plain (bound (list_any (λ m. eqb m n) inner) x.dual))
         go (Some x) e (inr away) = rw away (omega arith)
 
+    -- no total passes its bound
     pub total-raised : (leaf : ℕ) → total_of (raised f outer inner delta) leaf ≤ 2 ^ 61
     total-raised leaf =
         elim (cases_Bool (list_any (λ n. holds f n leaf) outer)) [
@@ -197,15 +204,19 @@ module _ (f : Family) (outer inner : List ℕ) (delta : ℕ) where
         go None = refl
         go (Some x) = refl
 
+    -- a raise leaves a family
     pub IsFamily-raised : IsFamily (raised f outer inner delta)
     IsFamily-raised = IsFamily-redual f (raised f outer inner delta) fam refl (λ n. raised_dual outer inner delta n (dual_of f n)) redual-raised total-raised
 
+    -- each set stays
     pub leaves-raised : (n : ℕ) → leaves_of (raised f outer inner delta) n ≡ leaves_of f n
     leaves-raised = leaves_same f (raised f outer inner delta) fam refl (λ n. raised_dual outer inner delta n (dual_of f n)) redual-raised total-raised
 
+    -- each cycle stays
     pub cycle-raised : (n : ℕ) → cycle_of (raised f outer inner delta) n ≡ cycle_of f n
     cycle-raised = cycle_same f (raised f outer inner delta) fam refl (λ n. raised_dual outer inner delta n (dual_of f n)) redual-raised total-raised
 
+    -- no node is new
     pub alive-raised : (n : ℕ) → IsAlive (raised f outer inner delta) n → IsAlive f n
     alive-raised = alive_same f (raised f outer inner delta) fam refl (λ n. raised_dual outer inner delta n (dual_of f n)) redual-raised total-raised
 

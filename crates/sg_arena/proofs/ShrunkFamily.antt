@@ -27,6 +27,7 @@ module _ (f : Family) (b : ℕ) (cycle : List Link) (fam : IsFamily f) (can : Ca
   at_other : (n : ℕ) → n ≢ b → node_at after n ≡ node_at f n
   at_other n differs = get_or-set_other f.nodes b n (Some (blossom_of f cycle)) None differs
 
+  -- every other node holds what it held
   pub holds_other : (n leaf : ℕ) → n ≢ b → holds after n leaf ≡ holds f n leaf
   holds_other n leaf differs = ap (λ o. has_leaf (option_map_or (λ x. x.leaves) o []) leaf) (at_other n differs)
 
@@ -40,6 +41,7 @@ module _ (f : Family) (b : ℕ) (cycle : List Link) (fam : IsFamily f) (can : Ca
   child_holding : (leaf : ℕ) → any_holds f cycle leaf ≡ true → (i : ℕ) × (i < length cycle) × Holds f (link_at cycle i).node leaf
   child_holding leaf some = place_of_any (λ link. holds f link.node leaf) cycle blank_link some
 
+  -- the new blossom holds what its children hold
   pub holds_new : (leaf : ℕ) → holds after b leaf ≡ any_holds f cycle leaf
   holds_new leaf =
       ap (λ o. has_leaf (option_map_or (λ x. x.leaves) o []) leaf) at_new
@@ -70,6 +72,7 @@ module _ (f : Family) (b : ℕ) (cycle : List Link) (fam : IsFamily f) (can : Ca
       let same : 0 ≡ 1 = can.closed.differ 0 1 (omega arith) (omega arith) (sym (over 0 (omega arith)) ∙ over 1 (omega arith)) in
       omega (arith, same)
 
+  -- the new blossom is a top
   pub IsTop-shrink : IsTop after b
   IsTop-shrink =
       record {
@@ -133,6 +136,7 @@ module _ (f : Family) (b : ℕ) (cycle : List Link) (fam : IsFamily f) (can : Ca
       (sym (holds_other (link_at (cycle_of f n) i).node leaf (not_new (link_at (cycle_of f n) i).node (old_cycle_alive n i a))) ∙ p)
       (sym (holds_other (link_at (cycle_of f n) j).node leaf (not_new (link_at (cycle_of f n) j).node (old_cycle_alive n j c))) ∙ q)
 
+  -- it is a family
   pub IsFamily-shrink : IsFamily after
   IsFamily-shrink =
       record {

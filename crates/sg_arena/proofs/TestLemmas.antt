@@ -5,6 +5,7 @@ use Rattle.std.specs.Prelude.{ℤ, pos, negsuc, ◌≤ℤ◌, slice_index}
 use Rattle.sg_arena.specs.Family.{Family, Holds, IsTop, dual_of, total_of}
 use Rattle.sg_arena.specs.Changes.{CanRaise, nat_of}
 
+-- a whole number's natural part is no larger
 pub nat_of-bound : (z : ℤ) (n : ℕ) → z ≤ℤ pos n → nat_of z ≤ n
 nat_of-bound (pos m) n below = omega (arith, ints, below)
 nat_of-bound (negsuc m) n below = omega arith

@@ -27,6 +27,7 @@ entry-unique n u v a b low_v low_b same =
       ]
     ]
 
+-- two writes set both entries of a pair
 pub SetsPair-written : (n : ℕ) (entries : List ℤ) (u v : ℕ) (cost : ℤ) → length entries ≡ n * n → u < n → v < n → SetsPair (record { size = n; entries = entries }) (record { size = n; entries = set (set entries (u * n + v) cost) (v * n + u) cost }) u v cost
 SetsPair-written n entries u v cost whole low_u low_v =
     record {

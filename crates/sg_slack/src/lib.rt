@@ -81,6 +81,8 @@ impl Costs {
     }
 
     /// The number of rows.
+    ///
+    /// Cost: constant.
     pub fn size(&self) -> u32
         ensures value { result ≡ self.now.size }
         ensures small { result ≤ 2 ^ 24 }
@@ -89,6 +91,8 @@ impl Costs {
     }
 
     /// The cost of two leaves.
+    ///
+    /// Cost: constant.
     pub fn cost(&self, u: u32, v: u32) -> i64
         requires u { u < self.now.size }
         requires v { v < self.now.size }
@@ -98,6 +102,8 @@ impl Costs {
     }
 
     /// Sets the cost of two leaves, in both orders. All other entries stay.
+    ///
+    /// Cost: constant.
     pub fn set(&mut self, u: u32, v: u32, cost: i64)
         requires u { u < self.old.size }
         requires v { v < self.old.size }
