@@ -52,7 +52,8 @@ impl Cell {
 /// Makes the nodes of a cycle the children of a blossom.
 pub(crate) fn seat_children(cells: &mut Slab<Cell>, cycle: &[Link], blossom: usize)
     requires present { (i : ℕ) → i < length cycle.now → ContainsKey cells.old (link_at cycle.now i).node }
-    requires differ { (i j : ℕ) → i < length cycle.now → j < length cycle.now → (link_at cycle.now i).node ≡ (link_at cycle.now j).node → i ≡ j }
+    requires differ { (i j : ℕ) → i < length cycle.now → j < length cycle.now →
+        (link_at cycle.now i).node ≡ (link_at cycle.now j).node → i ≡ j }
     ensures { Seats cells.old cells.new cycle.now blossom (length cycle.now) }
 {
     let count = cycle.len();
@@ -73,7 +74,9 @@ pub(crate) fn seat_children(cells: &mut Slab<Cell>, cycle: &[Link], blossom: usi
 /// Takes the parent from so many siblings, from the first one on.
 pub(crate) fn free_children(cells: &mut Slab<Cell>, first: usize, count: usize)
     requires present { (i : ℕ) → i < count → ContainsKey cells.old (link_at (links cells.old count first) i).node }
-    requires differ { (i j : ℕ) → i < count → j < count → (link_at (links cells.old count first) i).node ≡ (link_at (links cells.old count first) j).node → i ≡ j }
+    requires differ { (i j : ℕ) → i < count → j < count →
+        (link_at (links cells.old count first) i).node ≡ (link_at (links cells.old count first) j).node →
+        i ≡ j }
     ensures { Frees cells.old cells.new (links cells.old count first) count }
 {
     let mut child = first;
@@ -90,8 +93,10 @@ pub(crate) fn free_children(cells: &mut Slab<Cell>, first: usize, count: usize)
 /// Adds `delta` to the dual of each of these nodes.
 pub(crate) fn raise_duals(cells: &mut Slab<Cell>, nodes: &[usize], delta: u64)
     requires present { (i : ℕ) → i < length nodes.now → ContainsKey cells.old (slice_index nodes.now i) }
-    requires differ { (i j : ℕ) → i < length nodes.now → j < length nodes.now → slice_index nodes.now i ≡ slice_index nodes.now j → i ≡ j }
-    requires fits { (i : ℕ) (c : Cell) → i < length nodes.now → get cells.old (slice_index nodes.now i) ≡ Some c → c.dual + delta < 2 ^ 64 }
+    requires differ { (i j : ℕ) → i < length nodes.now → j < length nodes.now →
+        slice_index nodes.now i ≡ slice_index nodes.now j → i ≡ j }
+    requires fits { (i : ℕ) (c : Cell) → i < length nodes.now →
+        get cells.old (slice_index nodes.now i) ≡ Some c → c.dual + delta < 2 ^ 64 }
     ensures { Rewrites (grown delta) cells.old cells.new nodes.now (length nodes.now) }
 {
     for &node in nodes {
@@ -106,8 +111,10 @@ pub(crate) fn raise_duals(cells: &mut Slab<Cell>, nodes: &[usize], delta: u64)
 /// Takes `delta` from the dual of each of these nodes.
 pub(crate) fn lower_duals(cells: &mut Slab<Cell>, nodes: &[usize], delta: u64)
     requires present { (i : ℕ) → i < length nodes.now → ContainsKey cells.old (slice_index nodes.now i) }
-    requires differ { (i j : ℕ) → i < length nodes.now → j < length nodes.now → slice_index nodes.now i ≡ slice_index nodes.now j → i ≡ j }
-    requires enough { (i : ℕ) (c : Cell) → i < length nodes.now → get cells.old (slice_index nodes.now i) ≡ Some c → delta ≤ c.dual }
+    requires differ { (i j : ℕ) → i < length nodes.now → j < length nodes.now →
+        slice_index nodes.now i ≡ slice_index nodes.now j → i ≡ j }
+    requires enough { (i : ℕ) (c : Cell) → i < length nodes.now →
+        get cells.old (slice_index nodes.now i) ≡ Some c → delta ≤ c.dual }
     ensures { Rewrites (fallen delta) cells.old cells.new nodes.now (length nodes.now) }
 {
     for &node in nodes {

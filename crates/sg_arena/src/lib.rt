@@ -1,24 +1,26 @@
 //! Nested blossoms, the data structure of Edmonds' least perfect matching (Edmonds 1965).
 //!
-//! For a physicist: the frustrated plaquettes of a planar spin glass are to be joined in pairs at the
-//! least total cost. Here they are the *leaves*, numbered from 0. Edmonds proves a pairing least by
-//! numbers, *duals*, on sets of leaves: each leaf alone is a set, and an odd cycle of sets may be
+//! For a physicist: the frustrated plaquettes of a planar spin glass are to be joined in pairs at
+//! the least total cost. Here they are the *leaves*, numbered from 0. Edmonds proves a pairing least
+//! by numbers, *duals*, on sets of leaves: each leaf alone is a set, and an odd cycle of sets may be
 //! shrunk into one set more, a *blossom*. So the sets are nested and each has an odd number of
-//! leaves. The *total* of a leaf is the sum of the duals of all sets that hold it. Where no cost of
-//! two leaves is below the sum of the duals of the sets that hold exactly one of them, no pairing
-//! costs less than the sum of all duals. This crate keeps the sets and their duals; it knows no costs.
+//! leaves. The *total* of a leaf is the sum of the duals of all sets that hold it. The *slack* of two
+//! leaves is their cost less the duals of the sets that hold exactly one of them. Where no slack is
+//! negative, no pairing costs less than the sum of all duals, since each set is odd and some pair
+//! leaves it. This crate keeps the sets and their duals; it knows no costs.
 //!
 //! For the next engineer: contracts see an [`Arena`] as a `Family` (`specs/Family.antt`), a list
 //! with a node or nothing under each name. `specs/Changes.antt` says what the calls that change it
-//! make of a family, each in one equation, so that all that they do not name stays; `specs/Slack.antt`
-//! has the duals between two leaves. How the cells of the slab stand for a family is private:
-//! `specs/Forest.antt`, and what an arena keeps between calls, `specs/Sound.antt`. The lemmas that a
-//! caller needs stand in `proofs/FamilyLemmas.antt` (of any family), `proofs/LeavesFamily.antt`,
-//! `ShrunkFamily`, `ExpandedFamily`, `RaisedFamily` (after each call) and `DualLemmas`.
+//! make of a family, each in one equation, so that all that they do not name stays;
+//! `specs/Slack.antt` has the duals between two leaves. How the cells of the slab stand for a family
+//! is private: `specs/Forest.antt`, and what an arena keeps between calls, `specs/Sound.antt`. The
+//! lemmas that a caller needs stand in `proofs/`: `FamilyLemmas` on any family, `LeavesFamily`,
+//! `ShrunkFamily`, `ExpandedFamily` and `RaisedFamily` on the family after each call, `DualLemmas`.
 //!
 //! ```text
 //! let mut arena = Arena::open(alloc, 3)?;          // three leaves, each its own top, duals 0
-//! let cycle = [0, 1, 2].map(|leaf| Link { node: arena.leaf_node(leaf), from: leaf, to: (leaf + 1) % 3 });
+//! let [a, b, c] = [0, 1, 2].map(|leaf| arena.leaf_node(leaf));
+//! let cycle = [link(a, 0, 1), link(b, 1, 2), link(c, 2, 0)];
 //! let blossom = arena.shrink(&cycle, &mut steps);  // one top for all three leaves
 //! arena.raise(&[blossom], &[], 5, &mut steps);     // each total is 5 now
 //! arena.raise(&[], &[blossom], 5, &mut steps);     // and 0 again,
@@ -58,10 +60,11 @@ pub struct Link {
 /// called by its name, and a top is a node that no other node holds. Where a family is meant, see
 /// `IsFamily`; it holds after every call.
 ///
-/// One slab keeps all nodes. A child knows its blossom, the sibling that follows and the link to it;
-/// a blossom knows its first child and how many there are. All cells are made by [`Arena::open`]:
-/// one for each leaf, and as many spare ones. Each node owns the spare cell of one of its leaves,
-/// so a new blossom takes the spare cell of its first child and owns that of its second.
+/// One slab keeps all nodes. A child knows its blossom, the sibling that follows and the link to
+/// it; a blossom knows its first child and how many there are. All cells are made by
+/// [`Arena::open`]: one for each leaf, and as many spare ones. Each node owns the spare cell of one
+/// of its leaves, so a new blossom takes the spare cell of its first child and owns that of its
+/// second.
 #[derive(Drop)]
 pub struct Arena {
     cells: Slab<Cell>,
@@ -86,7 +89,7 @@ impl Model for Arena {
 
 impl Arena {
     ghost use Rattle.std.specs.Prelude.{◌≡◌, ℕ, length, ◌+◌, ◌*◌, ◌<◌, ◌↔◌, IsTrue, pos, ◌≤ℤ◌, ◌≤◌, ◌^◌, IfOk, MatchOption, [], Some, None};
-    ghost use Rattle.sg_arena.specs.Family.{Family, IsFamily, leaf_count, leaf_node, node_at, IsAlive, Holds, IsTop, dual_of, total_of, cycle_of, IsBlossom, link_at, IsChild, IsChildAt, after_index};
+    ghost use Rattle.sg_arena.specs.Family.{Family, IsFamily, leaf_count, leaf_node, node_at, IsAlive, Holds, IsTop, dual_of, total_of, cycle_of, IsBlossom, link_at, IsChild, IsChildAt, IsChildOf, Follows, IsLinkOf};
     ghost use Rattle.sg_arena.specs.Changes.{nat_of, OnlyLeaves, CanShrink, with_slot, blossom_of, CanRaise, raised};
 
     /// An arena of the leaves 0 to `k - 1`, each a top with dual 0. It takes all the memory that
@@ -210,7 +213,7 @@ impl Arena {
     /// Cost: constant.
     pub fn parent(&self, node: usize) -> Option<usize>
         requires { IsAlive self.now node }
-        ensures { MatchOption result (IsTop self.now node) (λ p. (i : ℕ) × IsChildAt self.now p i node) }
+        ensures { MatchOption result (IsTop self.now node) (λ p. IsChildOf self.now p node) }
     {
         self.cells[node].parent
     }
@@ -221,7 +224,7 @@ impl Arena {
     pub fn child(&self, node: usize, leaf: u32) -> usize
         requires blossom { IsBlossom self.now node }
         requires holds { Holds self.now node leaf }
-        ensures child { (i : ℕ) × IsChildAt self.now node i result }
+        ensures child { IsChildOf self.now node result }
         ensures holds { Holds self.now result leaf }
     {
         let mut child = self.leaves[leaf as usize];
@@ -253,18 +256,18 @@ impl Arena {
     /// Cost: constant.
     pub fn after(&self, node: usize) -> usize
         requires { IsChild self.now node }
-        ensures { (blossom i : ℕ) → IsChildAt self.now blossom i node → IsChildAt self.now blossom (after_index (length (cycle_of self.now blossom)) i) result }
+        ensures { Follows self.now node result }
     {
         self.cells[node].next
     }
 
-    /// The link of a child in its blossom's cycle: the child, and the two leaves that join it to the
-    /// sibling that follows.
+    /// The link of a child in its blossom's cycle: the child, and the two leaves that join it to
+    /// the sibling that follows.
     ///
     /// Cost: constant.
     pub fn link(&self, node: usize) -> Link
         requires { IsChild self.now node }
-        ensures { (blossom i : ℕ) → IsChildAt self.now blossom i node → result ≡ link_at (cycle_of self.now blossom) i }
+        ensures { IsLinkOf self.now node result }
     {
         let cell = self.cells[node];
         Link {
@@ -302,7 +305,8 @@ impl Arena {
         name
     }
 
-    /// Takes a blossom of dual 0 that is a top away, and leaves its children as tops. Counts one step.
+    /// Takes a blossom of dual 0 that is a top away, and leaves its children as tops. Counts one
+    /// step.
     ///
     /// Cost: the number of children.
     pub fn expand<L: Ledger>(&mut self, node: usize, steps: &mut Steps<L>)
@@ -310,7 +314,7 @@ impl Arena {
         requires blossom { IsBlossom self.old node }
         requires flat { dual_of self.old node ≡ 0 }
         ensures gone { self.new ≡ with_slot self.old node None }
-        ensures children { (i : ℕ) → i < length (cycle_of self.old node) → IsTop self.new (link_at (cycle_of self.old node) i).node }
+        ensures children { (child : ℕ) → IsChildOf self.old node child → IsTop self.new child }
         ensures family { IsFamily self.new }
         ensures counted { steps.new ≡ steps.old + 1 }
     {
@@ -322,8 +326,8 @@ impl Arena {
         self.cells[node] = Cell::SPARE;
     }
 
-    /// Raises the duals of the outer tops by `delta`, and lowers those of the inner ones by it. Either
-    /// list may be empty. Counts one step.
+    /// Raises the duals of the outer tops by `delta`, and lowers those of the inner ones by it.
+    /// Either list may be empty. Counts one step.
     ///
     /// Cost: the number of these tops.
     pub fn raise<L: Ledger>(

@@ -3,15 +3,15 @@
 //!
 //! For a physicist: the leaves are the frustrated plaquettes that are to be joined in pairs, and
 //! [`Costs`] has the cost of joining each two of them. Each leaf has a *total*, the sum of the duals
-//! of the sets that hold it. The *slack* of two leaves that no set holds together is their cost less
-//! their two totals. Edmonds' method grows a tree from an unpaired leaf; it next needs the pair of
-//! least slack between the tree's outer leaves and the leaves outside, and that between two outer
+//! of the sets that hold it. The *slack* of two leaves that no set holds together is their cost
+//! less their two totals. Edmonds' method grows a tree from an unpaired leaf; it next needs the pair
+//! of least slack between the tree's outer leaves and the leaves outside, and that between two outer
 //! leaves of different sets. These are [`least_outer_free`] and [`least_outer_outer`].
 //!
 //! For the next engineer: the clause that matters is `Least` of `specs/Slack.antt`: a pair of least
 //! slack among those meant, and none exactly where there is none. Which of several such pairs is
-//! given is free. A table is seen by its entries, `cost_of` of `specs/Table.antt`. Both scans go over
-//! all pairs and take no memory.
+//! given is free. A table is seen by its entries, `cost_of` of `specs/Table.antt`. Both scans go
+//! over all pairs and take no memory.
 #![tactic(auto)]
 
 ghost use Rattle.std.specs.Prelude.{◌≡◌, ◌<◌, length};
@@ -115,8 +115,8 @@ impl Costs {
     }
 }
 
-/// A pair of least slack of an outer leaf `u` and a free leaf `v`, none where there is no such pair.
-/// The three slices have an entry for each leaf; `top` isn't read.
+/// A pair of least slack of an outer leaf `u` and a free leaf `v`, none where there is no such
+/// pair. The three slices have an entry for each leaf; `top` isn't read.
 ///
 /// Cost: the number of outer leaves times the number of leaves.
 pub fn least_outer_free(costs: &Costs, total: &[i64], top: &[usize], mark: &[Mark]) -> Option<Pair>
