@@ -110,12 +110,8 @@ impl Arena {
         for leaf in 0..k {
             leaves.push_reserved(cells.insert_reserved(Cell {
                 kind: Kind::Leaf,
-                parent: None,
-                next: 0,
-                from: 0,
-                to: 0,
-                dual: 0,
                 spare: leaf,
+                ..Cell::SPARE
             }));
         }
         for _spare in 0..k {
