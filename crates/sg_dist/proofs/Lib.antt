@@ -1,0 +1,6 @@
+mod Leads
+mod Steps
+mod Ends
+mod Pushes
+mod Pops
+mod Ways

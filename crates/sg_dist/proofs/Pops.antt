@@ -1,0 +1,92 @@
+-- One candidate popped, in the terms of the code.
+use Rattle.std.proofs.Common.{◌≡◌, ◌≢◌, ℕ, ◌+◌, ◌-◌, ◌*◌, ◌<◌, ◌≤◌, ◌^◌, ◌∷◌, [], true, false, List, All, refl, sym, ◌∙◌, ap, subst, arith, pos, ℤ, Option, is_some, to_z, w64}
+use Rattle.std.specs.declared.cmp.Ordering.{Ordering}
+use Rattle.std.specs.declared.cmp.Ordering.TheVariants.{Less, Equal, Greater}
+use Rattle.std.specs.declared.cmp.Reverse.{Reverse}
+use Rattle.std.specs.BinaryHeap.{IsUpperBound}
+use Rattle.std.specs.List.Sorted.{IsPermutation}
+use Rattle.std.specs.Ordering.{is_lt, nat_cmp, ordering_then}
+use Rattle.std.proofs.lemmas.Int.{to_z_pos}
+use Rattle.std.proofs.lemmas.List.Sums.{count_by-le-length}
+use Rattle.std.proofs.lemmas.List.Elements.{All-cons, All-head, All-nil}
+use Rattle.std.proofs.lemmas.List.Sorted.{IsPermutation-map, le_from_greatest}
+use Rattle.sg_graph.specs.Web.{Graph, IsWeb}
+use Rattle.sg_graph.specs.Table.{Route, Routes, is_reached, length_to, with_route}
+use Rattle.sg_graph.proofs.Walks.{leads_low}
+use Rattle.sg_dist.specs.declared.candidate.Candidate.{Candidate}
+use Rattle.sg_dist.specs.Order.{nearest_last}
+use Rattle.sg_dist.specs.Search.{IsCandidate, Searches, Spreads, candidates, reached_count}
+use Rattle.sg_dist.proofs.Steps.{Searches-skip, Spreads-found, candidate_small, new_length, one_more, taken}
+
+-- what comes first decides unless it is `Equal`
+first_not_less : (a b : Ordering) → is_lt (ordering_then a b) ≡ false → is_lt a ≡ false
+first_not_less Less b e = e
+first_not_less Equal b e = refl
+first_not_less Greater b e = e
+
+-- the greatest element of the heap has the least distance
+nearest : (x : Reverse Candidate) (ys : List (Reverse Candidate)) → IsUpperBound nearest_last x ys → All (λ c. x.0.distance ≤ c.distance) (candidates ys)
+nearest x [] h = All-nil (λ (c : Candidate). x.0.distance ≤ c.distance)
+nearest x (y ∷ ys) h =
+    All-cons (λ (c : Candidate). x.0.distance ≤ c.distance) y.0 (candidates ys)
+    (All-head (λ d. d ≤ y.0.distance) x.0.distance [] (le_from_greatest y.0.distance (x.0.distance ∷ []) (first_not_less (nat_cmp y.0.distance x.0.distance) _ h.0, tt)))
+    (nearest x ys h.1)
+
+-- the measure falls: a node more is found, and its edges give at most m candidates
+pub work_falls : (n r r' m h p h' : ℕ) → r' ≡ r + 1 → r' ≤ n → p + 1 ≡ h → h' ≤ p + m → (n - r') * (m + 1) + h' < (n - r) * (m + 1) + h
+work_falls n r r' m h p h' more most pop push =
+    let k : n - r ≡ (n - r') + 1 = omega arith in
+    let e : (n - r) * (m + 1) ≡ ((n - r') + 1) * (m + 1) = ap (λ z. z * (m + 1)) k in
+    split (n - r') ((n - r) * (m + 1)) e
+  where
+    split : (j z : ℕ) → z ≡ (j + 1) * (m + 1) → j * (m + 1) + h' < z + h
+    split j z e = omega arith
+
+module _ (g : Graph) (t : Routes) (old new : List (Reverse Candidate)) (x : Reverse Candidate) (web : IsWeb g) (s : Searches g t (candidates old)) (perm : IsPermutation old (x ∷ new)) where
+  perm' : IsPermutation (candidates old) (x.0 ∷ candidates new)
+  perm' = IsPermutation-map (λ (y : Reverse Candidate). y.0) old (x ∷ new) perm
+
+  is : IsCandidate g t x.0
+  is = taken g t (candidates old) (candidates new) x.0 s perm' (IsCandidate g t) s.finds.candidates
+
+  pub popped_low : x.0.node < g.nodes
+  popped_low = (let l = leads_low g x.0.edge is.from x.0.node web is.leads in l.1)
+
+  -- the node was found meanwhile
+  pub Searches-dropped : is_reached t x.0.node ≡ true → Searches g t (candidates new)
+  Searches-dropped known = Searches-skip g t (candidates old) (candidates new) x.0 s perm' known
+
+  -- the node is found now
+  module _ (fresh : is_reached t x.0.node ≡ false) where
+    pub popped_small : x.0.distance ≤ 2 ^ 60
+    popped_small = omega (arith, candidate_small g t (candidates old) x.0 s.finds is fresh, web.light)
+
+    pub popped_not_source : x.0.node ≢ t.source
+    popped_not_source e = absurd (let h : false ≡ true = sym fresh ∙ ap (is_reached t) e ∙ s.finds.home in cc)
+
+    module _ (top : IsUpperBound nearest_last x new) (next : Routes) (d : ℤ) (set : next ≡ with_route t x.0.node d x.0.edge) (cast : d ≡ pos x.0.distance) where
+      set' : next ≡ with_route t x.0.node (pos x.0.distance) x.0.edge
+      set' = set ∙ ap (λ (z : ℤ). with_route t x.0.node z x.0.edge) cast
+
+      least : All (λ b. x.0.distance ≤ b.distance) (candidates new)
+      least = nearest x new top
+
+      pub Spreads-popped : Spreads g next (candidates new) x.0.node []
+      Spreads-popped = subst (λ u. Spreads g u (candidates new) x.0.node []) (sym set') (Spreads-found g t (candidates old) (candidates new) x.0 s perm' web least fresh)
+
+      pub popped_distance : x.0.distance ≡ length_to next x.0.node
+      popped_distance = sym (ap (λ (u : Routes). length_to u x.0.node) set' ∙ new_length g t (candidates old) (candidates new) x.0 s perm' web least fresh x.0.node refl)
+
+      pub popped_count : reached_count next ≡ reached_count t + 1
+      popped_count = ap reached_count set' ∙ one_more g t (candidates old) (candidates new) x.0 s perm' web least fresh
+
+      pub popped_source : next.source ≡ t.source
+      popped_source = ap (λ (u : Routes). u.source) set
+
+      -- no more nodes are found than there are
+      pub popped_most : reached_count next ≤ g.nodes
+      popped_most = omega (arith, count_by-le-length (λ (r : Option Route). is_some r) next.to, (let f = Spreads-popped in f.finds.count))
+
+-- as a signed number the distance is the same
+pub cast_same : (n : ℕ) → n ≤ 2 ^ 60 → to_z w64 n ≡ pos n
+cast_same n small = to_z_pos w64 n (omega arith)

@@ -1,0 +1,340 @@
+-- One step of a search: the least candidate is taken, and its node is found already, or is found now and its edges are
+-- spread one by one.
+use Rattle.std.proofs.Common.{inl, inr, ◌≡◌, ◌≢◌, ◌⊎◌, ℕ, zero, suc, ◌+◌, ◌<◌, ◌≤◌, pos, Bool, true, false, ◌&&◌, cond, Option, None, Some, is_some, List, [], ◌∷◌, ◌++◌, All, Contains, refl, sym, ◌∙◌, ap, subst, arith, length, get_or}
+use Rattle.std.specs.List.Sorted.{IsPermutation}
+use Rattle.std.proofs.lemmas.Bool.{cases_eq, false≢true}
+use Rattle.std.proofs.lemmas.List.{length-set}
+use Rattle.std.proofs.lemmas.List.Elements.{All-cons, All-head, All-tail, All-weaker, Contains-get_or, Contains-push_cases}
+use Rattle.std.proofs.lemmas.List.Sorted.{All-permutation, Contains-permutation}
+use Rattle.std.proofs.lemmas.List.Sums.{sum_by-set}
+use Rattle.sg_sums.proofs.SumLaws.{sum_by-gain}
+use Rattle.sg_graph.specs.declared.web.Edge.{Edge}
+use Rattle.sg_graph.specs.Web.{Graph, IsWeb, edge_at, edge_weight, total_weight, weight_at}
+use Rattle.sg_graph.specs.Walk.{IsDistance, Leads}
+use Rattle.sg_graph.specs.Table.{IsNearer, IsWayBack, Route, Routes, distance_at, is_reached, length_to, parent_at, with_route}
+use Rattle.sg_graph.proofs.Walks.{leads_low, other_only, turned}
+use Rattle.sg_graph.proofs.Tables.{distance_here, distance_there, length_here, length_there, parent_here, parent_reached, parent_there, reached_here, reached_kept, reached_there}
+use Rattle.sg_dist.specs.declared.candidate.Candidate.{Candidate}
+use Rattle.sg_dist.specs.Search.{Finds, IsCandidate, Searches, Spreads, candidate_over, inner_at, inner_weight, reached_count}
+use Rattle.sg_dist.proofs.Leads.{least_candidate}
+
+-- an edge that leads out of the nodes found is not between them
+module _ (g : Graph) (t : Routes) where
+  not_inner : (e v u : ℕ) → Leads g e v u → is_reached t u ≡ false → inner_at t (edge_at g e) ≡ 0
+  not_inner e v u l new = by_ways (edge_at g e) l.ways
+    where
+      none_left : (p q : Bool) (w : ℕ) → p ≡ false → cond (p && q) w 0 ≡ 0
+      none_left true q w h = absurd (false≢true (sym h))
+      none_left false q w h = refl
+
+      none_right : (p q : Bool) (w : ℕ) → q ≡ false → cond (p && q) w 0 ≡ 0
+      none_right true true w h = absurd (false≢true (sym h))
+      none_right true false w h = refl
+      none_right false q w h = refl
+
+      by_ways : (edge : Edge) → ((edge.a ≡ v) × (edge.b ≡ u)) ⊎ ((edge.a ≡ u) × (edge.b ≡ v)) → inner_at t edge ≡ 0
+      by_ways edge (inl w) = none_right (is_reached t edge.a) (is_reached t edge.b) (weight_at edge) (ap (is_reached t) w.1 ∙ new)
+      by_ways edge (inr w) = none_left (is_reached t edge.a) (is_reached t edge.b) (weight_at edge) (ap (is_reached t) w.0 ∙ new)
+
+  inner-le : (edge : Edge) → inner_at t edge ≤ weight_at edge
+  inner-le edge = by_both (is_reached t edge.a && is_reached t edge.b) (weight_at edge)
+    where
+      by_both : (b : Bool) (w : ℕ) → cond b w 0 ≤ w
+      by_both true w = omega arith
+      by_both false w = omega arith
+
+  -- a step out of the nodes found weighs no more than all edges
+  pub outward : (heap : List Candidate) (e v u : ℕ) → Finds g t heap → is_reached t v ≡ true → Leads g e v u → is_reached t u ≡ false → length_to t v + edge_weight g e ≤ total_weight g
+  outward heap e v u f found l new =
+      let none : inner_at t (get_or g.edges e (record { a = 0; b = 0; w = pos 0 })) ≡ 0 = not_inner e v u l new in
+      let gain : inner_weight g t + edge_weight g e ≤ total_weight g =
+      sum_by-gain (inner_at t) weight_at (edge_weight g e) g.edges e (record { a = 0; b = 0; w = pos 0 }) l.below (λ k d q. inner-le (get_or g.edges k d)) (omega arith) in
+      omega (arith, f.light v found)
+
+  pub candidate_small : (heap : List Candidate) (c : Candidate) → Finds g t heap → IsCandidate g t c → is_reached t c.node ≡ false → c.distance ≤ total_weight g
+  candidate_small heap c f is new = omega (arith, is.distance, outward heap c.edge is.from c.node f is.reached is.leads new)
+
+in_rest : (c x : Candidate) (rest : List Candidate) → Contains (c ∷ rest) x → (x ≡ c) ⊎ Contains rest x
+in_rest c x rest (zero, l, e) = inl (sym e)
+in_rest c x rest (suc k, l, e) = inr (k, omega arith, e)
+
+-- the candidate c is taken from the heap
+module _ (g : Graph) (t : Routes) (heap rest : List Candidate) (c : Candidate) (s : Searches g t heap) (perm : IsPermutation heap (c ∷ rest)) where
+  left : (x : Candidate) → x.node ≢ c.node → Contains heap x → Contains rest x
+  left x ne h = elim (in_rest c x rest (Contains-permutation heap (c ∷ rest) x perm h)) [
+    | inl e ↦ absurd (ne (ap (λ (z : Candidate). z.node) e))
+    | inr k ↦ k
+  ]
+
+  rest_all : (P : Candidate → Type 0) → All P heap → All P rest
+  rest_all P h = All-tail P c rest (All-permutation P heap (c ∷ rest) perm h)
+
+  pub taken : (P : Candidate → Type 0) → All P heap → P c
+  taken P h = All-head P c rest (All-permutation P heap (c ∷ rest) perm h)
+
+  -- its node is found already
+  pub Searches-skip : is_reached t c.node ≡ true → Searches g t rest
+  Searches-skip found = record {
+    finds = record {
+      count = s.finds.count;
+      home = s.finds.home;
+      home_distance = s.finds.home_distance;
+      signed = s.finds.signed;
+      right = s.finds.right;
+      light = s.finds.light;
+      parents = s.finds.parents;
+      back = s.finds.back;
+      candidates = rest_all (IsCandidate g t) s.finds.candidates;
+      order = λ x h. rest_all (λ b. length_to t x ≤ b.distance) (s.finds.order x h);
+    };
+    frontier = λ v e h u l new. left (candidate_over g t v e u) (λ q. false≢true (sym new ∙ ap (is_reached t) q ∙ found)) (s.frontier v e h u l new);
+  }
+
+  -- its node is new, and c is least: the node is found at its distance
+  module _ (web : IsWeb g) (least : All (λ b. c.distance ≤ b.distance) rest) (new : is_reached t c.node ≡ false) where
+    abbrev pub found : Routes
+    found = with_route t c.node (pos c.distance) c.edge
+
+    c_is : IsCandidate g t c
+    c_is = taken (IsCandidate g t) s.finds.candidates
+
+    pub low : c.node < length t.to
+    low = let l = leads_low g c.edge c_is.from c.node web c_is.leads in omega (arith, l.1, s.finds.count)
+
+    not_source : c.node ≢ t.source
+    not_source e = false≢true (sym new ∙ ap (is_reached t) e ∙ s.finds.home)
+
+    other : (x : ℕ) → is_reached t x ≡ true → x ≢ c.node
+    other x h e = false≢true (sym new ∙ ap (is_reached t) (sym e) ∙ h)
+
+    was_found : (x : ℕ) → is_reached found x ≡ true → x ≢ c.node → is_reached t x ≡ true
+    was_found x h ne = sym (reached_there t c.node (pos c.distance) c.edge low x ne) ∙ h
+
+    kept : (x : ℕ) → is_reached t x ≡ true → is_reached found x ≡ true
+    kept x h = reached_kept t c.node (pos c.distance) c.edge low x h
+
+    same_length : (x : ℕ) → is_reached t x ≡ true → length_to found x ≡ length_to t x
+    same_length x h = length_there t c.node (pos c.distance) c.edge low x (other x h)
+
+    pub new_length : (x : ℕ) → x ≡ c.node → length_to found x ≡ c.distance
+    new_length x e = ap (length_to found) e ∙ length_here t c.node (pos c.distance) c.edge low
+
+    least_all : All (λ b. c.distance ≤ b.distance) heap
+    least_all k d l = elim (in_rest c (get_or heap k d) rest (Contains-permutation heap (c ∷ rest) (get_or heap k d) perm (Contains-get_or heap k d l))) [
+      | inl e ↦ (let q : (get_or heap k d).distance ≡ c.distance = ap (λ (z : Candidate). z.distance) e in omega arith)
+      | inr h ↦ (let q : c.distance ≤ (get_or rest h.0 (get_or heap k d)).distance = least h.0 (get_or heap k d) h.1 in subst (λ (z : Candidate). c.distance ≤ z.distance) h.2 q)
+    ]
+
+    pub one_more : reached_count found ≡ reached_count t + 1
+    one_more =
+        let s' : reached_count found + cond (is_reached t c.node) 1 0 ≡ reached_count t + 1 = sum_by-set (λ (r : Option Route). cond (is_some r) 1 0) t.to c.node (Some (record { distance = pos c.distance; edge = c.edge })) None low in
+        let none : cond {A = ℕ} (is_reached t c.node) 1 0 ≡ 0 = ap (λ b. cond b 1 0) new in
+        omega arith
+
+    -- the edge of the candidate is between nodes found now
+    heavier : inner_weight g t + edge_weight g c.edge ≤ inner_weight g found
+    heavier =
+        let none : inner_at t (get_or g.edges c.edge (record { a = 0; b = 0; w = pos 0 })) ≡ 0 = not_inner g t c.edge c_is.from c.node c_is.leads new in
+        let all : inner_at found (get_or g.edges c.edge (record { a = 0; b = 0; w = pos 0 })) ≡ edge_weight g c.edge = by_ways (edge_at g c.edge) c_is.leads.ways in
+        sum_by-gain (inner_at t) (inner_at found) (edge_weight g c.edge) g.edges c.edge (record { a = 0; b = 0; w = pos 0 }) c_is.leads.below (λ k d q. grows (get_or g.edges k d)) (omega arith)
+      where
+        both : (p q : Bool) (w : ℕ) → p ≡ true → q ≡ true → cond (p && q) w 0 ≡ w
+        both true true w h k = refl
+        both true false w h k = absurd (false≢true k)
+        both false q w h k = absurd (false≢true h)
+
+        here : is_reached found c.node ≡ true
+        here = reached_here t c.node (pos c.distance) c.edge low
+
+        by_ways : (edge : Edge) → ((edge.a ≡ c_is.from) × (edge.b ≡ c.node)) ⊎ ((edge.a ≡ c.node) × (edge.b ≡ c_is.from)) → inner_at found edge ≡ weight_at edge
+        by_ways edge (inl w) = both (is_reached found edge.a) (is_reached found edge.b) (weight_at edge) (ap (is_reached found) w.0 ∙ kept c_is.from c_is.reached) (ap (is_reached found) w.1 ∙ here)
+        by_ways edge (inr w) = both (is_reached found edge.a) (is_reached found edge.b) (weight_at edge) (ap (is_reached found) w.0 ∙ here) (ap (is_reached found) w.1 ∙ kept c_is.from c_is.reached)
+
+        wider : (p q p' q' : Bool) (w : ℕ) → (p ≡ true → p' ≡ true) → (q ≡ true → q' ≡ true) → cond (p && q) w 0 ≤ cond (p' && q') w 0
+        wider true true p' q' w h k = omega (arith, both p' q' w (h refl) (k refl))
+        wider true false p' q' w h k = omega arith
+        wider false q p' q' w h k = omega arith
+
+        grows : (edge : Edge) → inner_at t edge ≤ inner_at found edge
+        grows edge = wider (is_reached t edge.a) (is_reached t edge.b) (is_reached found edge.a) (is_reached found edge.b) (weight_at edge) (kept edge.a) (kept edge.b)
+
+    nearer : (x e : ℕ) → is_reached t x ≡ true → IsNearer g t x e → IsNearer g found x e
+    nearer x e h n = record {
+      from = n.from;
+      leads = n.leads;
+      reached = kept n.from n.reached;
+      distance = omega (arith, n.distance, same_length n.from n.reached, same_length x h);
+    }
+
+    way_kept : (es : List ℕ) (x y : ℕ) → is_reached t x ≡ true → IsWayBack g t x es y → IsWayBack g found x es y
+    way_kept [] x y h w = w
+    way_kept (e ∷ es) x y h w =
+        let near = s.finds.parents x e w.1 in
+        (w.0, parent_there t c.node (pos c.distance) c.edge low x (other x h) ∙ w.1, w.2, way_kept es w.0 y (on w.0 w.2 near) w.3)
+      where
+        on : (z : ℕ) → Leads g e z x → IsNearer g t x e → is_reached t z ≡ true
+        on z l near = ap (is_reached t) (other_only g e x z (turned g e z x l) ∙ sym (other_only g e x near.from (turned g e near.from x near.leads))) ∙ near.reached
+
+    -- what was found stays right
+    Finds-found : Finds g found rest
+    Finds-found = record {
+      count = length-set t.to c.node (Some (record { distance = pos c.distance; edge = c.edge })) ∙ s.finds.count;
+      home = kept t.source s.finds.home;
+      home_distance = same_length t.source s.finds.home ∙ s.finds.home_distance;
+      signed = λ x h. elim (cases_eq x c.node) [
+        | inl e ↦ ap (distance_at found) e ∙ distance_here t c.node (pos c.distance) c.edge low ∙ sym (ap pos (new_length x e))
+        | inr ne ↦ distance_there t c.node (pos c.distance) c.edge low x ne ∙ s.finds.signed x (was_found x h ne) ∙ ap pos (sym (same_length x (was_found x h ne)))
+      ];
+      right = λ x h. elim (cases_eq x c.node) [
+        | inl e ↦ subst (λ z. IsDistance g t.source z (length_to found x)) (sym e) (subst (IsDistance g t.source c.node) (sym (new_length x e)) (least_candidate g t heap s c c_is least_all new))
+        | inr ne ↦ subst (IsDistance g t.source x) (sym (same_length x (was_found x h ne))) (s.finds.right x (was_found x h ne))
+      ];
+      light = λ x h. elim (cases_eq x c.node) [
+        | inl e ↦ omega (arith, new_length x e, c_is.distance, s.finds.light c_is.from c_is.reached, heavier)
+        | inr ne ↦ omega (arith, same_length x (was_found x h ne), s.finds.light x (was_found x h ne), heavier)
+      ];
+      parents = λ x e h. elim (cases_eq x c.node) [
+        | inl same ↦ parent_new x e same h
+        | inr ne ↦ parent_old x e ne (sym (parent_there t c.node (pos c.distance) c.edge low x ne) ∙ h)
+      ];
+      back = λ x h. elim (cases_eq x c.node) [
+        | inl same ↦ back_new x same
+        | inr ne ↦ (let way = s.finds.back x (was_found x h ne) in (way.0, way_kept way.0 x t.source (was_found x h ne) way.1, omega (arith, way.2, one_more)))
+      ];
+      candidates = All-weaker (IsCandidate g t) (IsCandidate g found) still rest (rest_all (IsCandidate g t) s.finds.candidates);
+      order = λ x h. elim (cases_eq x c.node) [
+        | inl e ↦ subst (λ n. All (λ b. n ≤ b.distance) rest) (sym (new_length x e)) least
+        | inr ne ↦ subst (λ n. All (λ b. n ≤ b.distance) rest) (sym (same_length x (was_found x h ne))) (rest_all (λ b. length_to t x ≤ b.distance) (s.finds.order x (was_found x h ne)))
+      ];
+    }
+      where
+        own_parent : parent_at found c.node ≡ Some c.edge
+        own_parent = parent_here t c.node (pos c.distance) c.edge low not_source
+
+        same_edge : (e : ℕ) → Some c.edge ≡ Some e → c.edge ≡ e
+        same_edge e h = cc
+
+        parent_new : (x e : ℕ) → x ≡ c.node → parent_at found x ≡ Some e → IsNearer g found x e
+        parent_new x e same h =
+            let edge_is : c.edge ≡ e = same_edge e (sym own_parent ∙ ap (parent_at found) (sym same) ∙ h) in
+            record {
+              from = c_is.from;
+              leads = subst (λ k. Leads g k c_is.from x) edge_is (subst (λ z. Leads g c.edge c_is.from z) (sym same) c_is.leads);
+              reached = kept c_is.from c_is.reached;
+              distance = omega (arith, new_length x same, c_is.distance, same_length c_is.from c_is.reached, ap (edge_weight g) edge_is);
+            }
+
+        parent_old : (x e : ℕ) → x ≢ c.node → parent_at t x ≡ Some e → IsNearer g found x e
+        parent_old x e ne h = nearer x e (let known = parent_reached t x e h in known.1) (s.finds.parents x e h)
+
+        back_new : (x : ℕ) → x ≡ c.node → (es : List ℕ) × IsWayBack g found x es t.source × (length es < reached_count found)
+        back_new x same =
+            let way = s.finds.back c_is.from c_is.reached in (
+              c.edge ∷ way.0,
+              (c_is.from, ap (parent_at found) same ∙ own_parent, subst (λ z. Leads g c.edge c_is.from z) (sym same) c_is.leads, way_kept way.0 c_is.from t.source c_is.reached way.1),
+              omega (arith, way.2, one_more),
+            )
+
+        still : (b : Candidate) → IsCandidate g t b → IsCandidate g found b
+        still b is = record {
+          from = is.from;
+          reached = kept is.from is.reached;
+          leads = is.leads;
+          distance = omega (arith, is.distance, same_length is.from is.reached);
+        }
+
+    pub Spreads-found : Spreads g found rest c.node []
+    Spreads-found = record {
+      finds = Finds-found;
+      here = reached_here t c.node (pos c.distance) c.edge low;
+      latest = λ x h. elim (cases_eq x c.node) [
+        | inl e ↦ omega (arith, ap (length_to found) e)
+        | inr ne ↦ (let before : length_to t x ≤ c.distance = taken (λ b. length_to t x ≤ b.distance) (s.finds.order x (was_found x h ne)) in omega (arith, same_length x (was_found x h ne), new_length c.node refl))
+      ];
+      frontier = λ v e h but u l fresh. elim (cases_eq v c.node) [
+        | inl same ↦ (let none = but same in absurd (omega (arith, none.1)))
+        | inr ne ↦ waits v e u (was_found v h ne) l fresh
+      ];
+    }
+      where
+        not_new : (u : ℕ) → is_reached found u ≡ false → u ≢ c.node
+        not_new u fresh e = false≢true (sym fresh ∙ ap (is_reached found) e ∙ reached_here t c.node (pos c.distance) c.edge low)
+
+        waits : (v e u : ℕ) → is_reached t v ≡ true → Leads g e v u → is_reached found u ≡ false → Contains rest (candidate_over g found v e u)
+        waits v e u h l fresh =
+            let old : Contains rest (candidate_over g t v e u) = left (candidate_over g t v e u) (not_new u fresh) (s.frontier v e h u l (sym (reached_there t c.node (pos c.distance) c.edge low u (not_new u fresh)) ∙ fresh)) in
+            let same : candidate_over g t v e u ≡ candidate_over g found v e u = ap (at_distance u e) (let q : length_to t v + edge_weight g e ≡ length_to found v + edge_weight g e = omega (arith, same_length v h) in q) in
+            subst (Contains rest) same old
+          where
+            at_distance : ℕ → ℕ → ℕ → Candidate
+            at_distance u e d = record { distance = d; node = u; edge = e }
+
+-- one edge of the latest node more
+module _ (g : Graph) (t : Routes) (heap : List Candidate) (node e u : ℕ) (done : List ℕ) (s : Spreads g t heap node done) (l : Leads g e node u) where
+  only : (z : ℕ) → Leads g e node z → z ≡ u
+  only z lz = other_only g e node z lz ∙ sym (other_only g e node u l)
+
+  -- it leads to a node found already
+  pub Spreads-known : is_reached t u ≡ true → Spreads g t heap node (done ++ e ∷ [])
+  Spreads-known found = record {
+    finds = s.finds;
+    here = s.here;
+    latest = s.latest;
+    frontier = λ v k h but z lz fresh. elim (cases_eq v node) [
+      | inr ne ↦ s.frontier v k h (λ same. absurd (ne same)) z lz fresh
+      | inl same ↦ elim (Contains-push_cases done e k (but same)) [
+        | inl old ↦ s.frontier v k h (λ _. old) z lz fresh
+        | inr this ↦ absurd (false≢true (sym fresh ∙ ap (is_reached t) (only z (subst (λ j. Leads g j node z) (sym this) (subst (λ n. Leads g k n z) same lz))) ∙ found))
+      ]
+    ];
+  }
+
+  -- it gives a candidate
+  pub Spreads-more : (new : List Candidate) → IsPermutation (candidate_over g t node e u ∷ heap) new → Spreads g t new node (done ++ e ∷ [])
+  Spreads-more new perm = record {
+    finds = record {
+      count = s.finds.count;
+      home = s.finds.home;
+      home_distance = s.finds.home_distance;
+      signed = s.finds.signed;
+      right = s.finds.right;
+      light = s.finds.light;
+      parents = s.finds.parents;
+      back = s.finds.back;
+      candidates = added (IsCandidate g t) (record { from = node; reached = s.here; leads = l; distance = refl }) s.finds.candidates;
+      order = λ x h. added (λ b. length_to t x ≤ b.distance) (omega (arith, s.latest x h)) (s.finds.order x h);
+    };
+    here = s.here;
+    latest = s.latest;
+    frontier = λ v k h but z lz fresh. elim (cases_eq v node) [
+      | inr ne ↦ kept_in (candidate_over g t v k z) (s.frontier v k h (λ same. absurd (ne same)) z lz fresh)
+      | inl same ↦ elim (Contains-push_cases done e k (but same)) [
+        | inl old ↦ kept_in (candidate_over g t v k z) (s.frontier v k h (λ _. old) z lz fresh)
+        | inr this ↦ latest_one v k z same this lz
+      ]
+    ];
+  }
+    where
+      fresh_one : Candidate
+      fresh_one = candidate_over g t node e u
+
+      added : (P : Candidate → Type 0) → P (candidate_over g t node e u) → All P heap → All P new
+      added P p h = All-permutation P (candidate_over g t node e u ∷ heap) new perm (All-cons P (candidate_over g t node e u) heap p h)
+
+      kept_in : (x : Candidate) → Contains heap x → Contains new x
+      kept_in x h = Contains-permutation (candidate_over g t node e u ∷ heap) new x perm (suc h.0, omega (arith, h.1), h.2)
+
+      latest_one : (v k z : ℕ) → v ≡ node → e ≡ k → Leads g k v z → Contains new (candidate_over g t v k z)
+      latest_one v k z same this lz =
+          let zu : z ≡ u = only z (subst (λ j. Leads g j node z) (sym this) (subst (λ n. Leads g k n z) same lz)) in
+          let base : Contains new (candidate_over g t node e u) = Contains-permutation (candidate_over g t node e u ∷ heap) new (candidate_over g t node e u) perm (0, omega arith, refl) in
+          let by_node : Contains new (candidate_over g t node e z) = subst (λ y. Contains new (candidate_over g t node e y)) (sym zu) base in
+          let by_edge : Contains new (candidate_over g t node k z) = subst (λ j. Contains new (candidate_over g t node j z)) this by_node in
+          subst (λ n. Contains new (candidate_over g t n k z)) (sym same) by_edge
+
+-- all edges of the latest node are spread
+pub Searches-spread : (g : Graph) (t : Routes) (heap : List Candidate) (node : ℕ) (done : List ℕ) → Spreads g t heap node done → ((e u : ℕ) → Leads g e node u → Contains done e) → Searches g t heap
+Searches-spread g t heap node done s all = record {
+  finds = s.finds;
+  frontier = λ v e h u l fresh. s.frontier v e h (λ same. all e u (subst (λ z. Leads g e z u) same l)) u l fresh;
+}

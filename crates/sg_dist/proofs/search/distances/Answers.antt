@@ -1,0 +1,76 @@
+use Rattle.std.proofs.Common.{◌≡◌, [], arith, subst, sym, ap, ℕ, to_z, w64, ◌∙◌}
+use Rattle.std.specs.BinaryHeap.{heap_items, heap_len}
+use Rattle.std.proofs.lemmas.Int.{ints}
+use Rattle.std.proofs.lemmas.List.{nil_from_length}
+use Rattle.sg_graph.proofs.Tables.{first_routes}
+use Rattle.sg_graph.specs.Web.{edge_count}
+use Rattle.sg_graph.specs.Table.{Routes}
+use Rattle.sg_dist.specs.Search.{Searches, candidates, reached_count}
+use Rattle.sg_dist.proofs.Ends.{IsTableOf-end, Spreads-start, first_table, start_distance}
+use Rattle.sg_dist.proofs.Pops.{Searches-dropped, Spreads-popped, cast_same, popped_count, popped_distance, popped_low, popped_most, popped_not_source, popped_small, popped_source, work_falls}
+use Rattle.sg_dist.proofs.search.distances.Goals as goal
+
+pub spread-requires-clause-latest : goal.spread-requires-clause-latest
+spread-requires-clause-latest c =
+    let made : ℕ → Routes = λ n. record { source = c.args.source; to = first_routes n c.args.source } in
+    let is : c.in_ok-table.table ≡ first_table c.args.web.now c.args.source c.requires = c.in_ok-table.ensures ∙ ap made c.nodes.ensures.value in
+    Spreads-start c.args.web.now c.args.source c.requires c.in_ok-table.table is (heap_items c.new-heap.result) c.new-heap.ensures.items
+
+pub spread-requires-clause-distance : goal.spread-requires-clause-distance
+spread-requires-clause-distance c =
+    let made : ℕ → Routes = λ n. record { source = c.args.source; to = first_routes n c.args.source } in
+    let is : c.in_ok-table.table ≡ first_table c.args.web.now c.args.source c.requires = c.in_ok-table.ensures ∙ ap made c.nodes.ensures.value in
+    start_distance c.args.web.now c.args.source c.requires c.in_ok-table.table is (heap_items c.new-heap.result) c.new-heap.ensures.items
+
+pub loop-candidate-init : goal.loop-candidate-init
+loop-candidate-init c = record {
+  searching = c.in_ok-spread.ensures.spread;
+  order = c.in_ok-spread.ensures.order c.new-heap.ensures.heap_order;
+  source = ap (λ (t : Routes). t.source) c.in_ok-table.ensures;
+}
+
+pub reached-requires : goal.reached-requires
+reached-requires c = omega (arith, popped_low c.args.web.now c.loop-candidate.table (heap_items c.loop-candidate.heap) (heap_items c.pop.new.self) c.in-Some.field-0 c.nodes.ensures.web c.loop-candidate.invariant.searching c.in-Some.ensures.permutation, c.loop-candidate.invariant.searching.finds.count)
+
+pub overflow_cast-distance : goal.overflow_cast-distance
+overflow_cast-distance c = omega (arith, ints, popped_small c.args.web.now c.loop-candidate.table (heap_items c.loop-candidate.heap) (heap_items c.pop.new.self) c.in-Some.field-0 c.nodes.ensures.web c.loop-candidate.invariant.searching c.in-Some.ensures.permutation (sym c.reached.ensures.value ∙ c.if-not-reached.true))
+
+pub set-requires : goal.set-requires
+set-requires c = record {
+  node_in = omega (arith, popped_low c.args.web.now c.loop-candidate.table (heap_items c.loop-candidate.heap) (heap_items c.pop.new.self) c.in-Some.field-0 c.nodes.ensures.web c.loop-candidate.invariant.searching c.in-Some.ensures.permutation, c.loop-candidate.invariant.searching.finds.count);
+  not_source = popped_not_source c.args.web.now c.loop-candidate.table (heap_items c.loop-candidate.heap) (heap_items c.pop.new.self) c.in-Some.field-0 c.nodes.ensures.web c.loop-candidate.invariant.searching c.in-Some.ensures.permutation (sym c.reached.ensures.value ∙ c.if-not-reached.true);
+}
+
+pub spread-requires-then-not-reached-clause-distance : goal.spread-requires-then-not-reached-clause-distance
+spread-requires-then-not-reached-clause-distance c = popped_distance c.args.web.now c.loop-candidate.table (heap_items c.loop-candidate.heap) (heap_items c.pop.new.self) c.in-Some.field-0 c.nodes.ensures.web c.loop-candidate.invariant.searching c.in-Some.ensures.permutation (sym c.reached.ensures.value ∙ c.if-not-reached.true) (c.in-Some.ensures.below_top c.loop-candidate.invariant.order) c.set.new.self (to_z w64 c.in-Some.field-0.0.distance) c.set.ensures (cast_same c.in-Some.field-0.0.distance (popped_small c.args.web.now c.loop-candidate.table (heap_items c.loop-candidate.heap) (heap_items c.pop.new.self) c.in-Some.field-0 c.nodes.ensures.web c.loop-candidate.invariant.searching c.in-Some.ensures.permutation (sym c.reached.ensures.value ∙ c.if-not-reached.true)))
+
+pub spread-requires-then-not-reached-clause-latest : goal.spread-requires-then-not-reached-clause-latest
+spread-requires-then-not-reached-clause-latest c = Spreads-popped c.args.web.now c.loop-candidate.table (heap_items c.loop-candidate.heap) (heap_items c.pop.new.self) c.in-Some.field-0 c.nodes.ensures.web c.loop-candidate.invariant.searching c.in-Some.ensures.permutation (sym c.reached.ensures.value ∙ c.if-not-reached.true) (c.in-Some.ensures.below_top c.loop-candidate.invariant.order) c.set.new.self (to_z w64 c.in-Some.field-0.0.distance) c.set.ensures (cast_same c.in-Some.field-0.0.distance (popped_small c.args.web.now c.loop-candidate.table (heap_items c.loop-candidate.heap) (heap_items c.pop.new.self) c.in-Some.field-0 c.nodes.ensures.web c.loop-candidate.invariant.searching c.in-Some.ensures.permutation (sym c.reached.ensures.value ∙ c.if-not-reached.true)))
+
+pub loop-candidate-smaller-in-Continue-branch-4 : goal.loop-candidate-smaller-in-Continue-branch-4
+loop-candidate-smaller-in-Continue-branch-4 c =
+    let count = popped_count c.args.web.now c.loop-candidate.table (heap_items c.loop-candidate.heap) (heap_items c.pop.new.self) c.in-Some.field-0 c.nodes.ensures.web c.loop-candidate.invariant.searching c.in-Some.ensures.permutation (sym c.reached.ensures.value ∙ c.if-not-reached.true) (c.in-Some.ensures.below_top c.loop-candidate.invariant.order) c.set.new.self (to_z w64 c.in-Some.field-0.0.distance) c.set.ensures (cast_same c.in-Some.field-0.0.distance (popped_small c.args.web.now c.loop-candidate.table (heap_items c.loop-candidate.heap) (heap_items c.pop.new.self) c.in-Some.field-0 c.nodes.ensures.web c.loop-candidate.invariant.searching c.in-Some.ensures.permutation (sym c.reached.ensures.value ∙ c.if-not-reached.true))) in
+    let most = popped_most c.args.web.now c.loop-candidate.table (heap_items c.loop-candidate.heap) (heap_items c.pop.new.self) c.in-Some.field-0 c.nodes.ensures.web c.loop-candidate.invariant.searching c.in-Some.ensures.permutation (sym c.reached.ensures.value ∙ c.if-not-reached.true) (c.in-Some.ensures.below_top c.loop-candidate.invariant.order) c.set.new.self (to_z w64 c.in-Some.field-0.0.distance) c.set.ensures (cast_same c.in-Some.field-0.0.distance (popped_small c.args.web.now c.loop-candidate.table (heap_items c.loop-candidate.heap) (heap_items c.pop.new.self) c.in-Some.field-0 c.nodes.ensures.web c.loop-candidate.invariant.searching c.in-Some.ensures.permutation (sym c.reached.ensures.value ∙ c.if-not-reached.true))) in
+    work_falls c.args.web.now.nodes (reached_count c.loop-candidate.table) (reached_count c.set.new.self) (edge_count c.args.web.now) (heap_len c.loop-candidate.heap) (heap_len c.pop.new.self) (heap_len c.spread-then-not-reached.new.heap) count most c.in-Some.ensures.len c.in_ok-spread-2.ensures.few
+
+pub loop-candidate-preserved-in-Continue-branch-4 : goal.loop-candidate-preserved-in-Continue-branch-4
+loop-candidate-preserved-in-Continue-branch-4 c = record {
+  searching = c.in_ok-spread-2.ensures.spread;
+  order = c.in_ok-spread-2.ensures.order (c.in-Some.ensures.heap_order c.loop-candidate.invariant.order).0;
+  source = popped_source c.args.web.now c.loop-candidate.table (heap_items c.loop-candidate.heap) (heap_items c.pop.new.self) c.in-Some.field-0 c.nodes.ensures.web c.loop-candidate.invariant.searching c.in-Some.ensures.permutation (sym c.reached.ensures.value ∙ c.if-not-reached.true) (c.in-Some.ensures.below_top c.loop-candidate.invariant.order) c.set.new.self (to_z w64 c.in-Some.field-0.0.distance) c.set.ensures (cast_same c.in-Some.field-0.0.distance (popped_small c.args.web.now c.loop-candidate.table (heap_items c.loop-candidate.heap) (heap_items c.pop.new.self) c.in-Some.field-0 c.nodes.ensures.web c.loop-candidate.invariant.searching c.in-Some.ensures.permutation (sym c.reached.ensures.value ∙ c.if-not-reached.true))) ∙ c.loop-candidate.invariant.source;
+}
+
+pub loop-candidate-preserved : goal.loop-candidate-preserved
+loop-candidate-preserved c = record {
+  searching = Searches-dropped c.args.web.now c.loop-candidate.table (heap_items c.loop-candidate.heap) (heap_items c.pop.new.self) c.in-Some.field-0 c.nodes.ensures.web c.loop-candidate.invariant.searching c.in-Some.ensures.permutation (sym c.reached.ensures.value ∙ c.if-not-reached.false);
+  order = (c.in-Some.ensures.heap_order c.loop-candidate.invariant.order).0;
+  source = c.loop-candidate.invariant.source;
+}
+
+pub returns : goal.returns
+returns c =
+    let none : heap_items c.loop-candidate.heap ≡ [] = nil_from_length (heap_items c.loop-candidate.heap) (omega (arith, c.in_default.ensures.none, c.loop-candidate.heap.data.ok)) in
+    record {
+      table = IsTableOf-end c.args.web.now c.loop-candidate.table (subst (λ xs. Searches c.args.web.now c.loop-candidate.table (candidates xs)) none c.loop-candidate.invariant.searching);
+      source = c.loop-candidate.invariant.source;
+    }

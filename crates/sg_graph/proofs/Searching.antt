@@ -1,0 +1,206 @@
+-- A search from node 0, edge by edge and node by node.
+use Rattle.std.proofs.Common.{inl, inr, ⊎_elim, ◌≡◌, ◌≢◌, ◌↔◌, ℕ, ◌+◌, ◌<◌, ◌≤◌, Bool, true, false, cond, List, [], ◌∷◌, ◌++◌, set, take, replicate, All, Contains, refl, sym, ◌∙◌, ap, subst, arith, length, get_or, pos}
+use Rattle.std.proofs.lemmas.Bool.{cases_eq, cases_lt, false≢true}
+use Rattle.std.proofs.lemmas.List.{length-set, length_push, get_or-set_same, get_or-set_other, get_or_append_left, get_or-replicate, get_or_past, length-replicate, get_or_default}
+use Rattle.std.proofs.lemmas.List.Elements.{All-cons, All-more, All-nil, All-push, All-weaker, Contains-append_left, Contains-push}
+use Rattle.std.proofs.lemmas.List.Sums.{sum_by-set}
+use Rattle.sg_sums.specs.Sets.{holds, is_marked}
+use Rattle.sg_graph.specs.declared.web.Edge.{Edge}
+use Rattle.sg_graph.specs.Web.{Graph, IsWeb, edge_at}
+use Rattle.sg_graph.specs.Walk.{IsConnected, IsReached, IsWalk, Leads, other_end}
+use Rattle.sg_graph.specs.Incidence.{AreIncident, EndsAt, list_at}
+use Rattle.sg_sums.proofs.RisingLists.{All-holds}
+use Rattle.sg_graph.specs.Search.{MarksReached, Visits, unmarked}
+use Rattle.sg_graph.proofs.Walks.{leads_other, other_low, other_only, walk-append, walk-one}
+use Rattle.sg_graph.proofs.Incidences.{edges_at_leads}
+
+pub Visits-none : (g : Graph) (node : ℕ) (marks : List Bool) (found : List ℕ) → Visits g node [] marks marks found found
+Visits-none g node marks found = record {
+  count = refl;
+  kept = λ x h. h;
+  longer = omega arith;
+  stays = λ k l. refl;
+  sound = λ x h. inl h;
+  listed = λ x h. inl h;
+  noted = λ h. h;
+  spread = All-nil (λ e. is_marked marks (other_end node (edge_at g e)) ≡ true);
+  total = refl;
+}
+
+module _ (g : Graph) (node : ℕ) (list : List ℕ) (i : ℕ) (old marks : List Bool) (before found : List ℕ) (low : i < length list) (v : Visits g node (take i list) old marks before found) where
+  abbrev pub this : ℕ
+  this = get_or list i 0
+
+  abbrev pub far : ℕ
+  far = other_end node (edge_at g this)
+
+  -- the far end is marked already
+  pub Visits-same : is_marked marks far ≡ true → Visits g node (take (i + 1) list) old marks before found
+  Visits-same marked = record {
+    count = v.count;
+    kept = v.kept;
+    longer = v.longer;
+    stays = v.stays;
+    sound = v.sound;
+    listed = v.listed;
+    noted = v.noted;
+    spread = All-more (λ e. is_marked marks (other_end node (edge_at g e)) ≡ true) list i 0 low v.spread marked;
+    total = v.total;
+  }
+
+  -- the far end is new
+  module _ (ends : EndsAt g node this) (far_in : far < length marks) (fresh : is_marked marks far ≡ false) where
+    abbrev after : List Bool
+    after = set marks far true
+
+    at_far : is_marked after far ≡ true
+    at_far = get_or-set_same marks far true false far_in
+
+    still : (x : ℕ) → is_marked marks x ≡ true → is_marked after x ≡ true
+    still x h = elim (cases_eq x far) [
+      | inl e ↦ ap (is_marked after) e ∙ at_far
+      | inr ne ↦ get_or-set_other marks far x true false ne ∙ h
+    ]
+
+    before_that : (x : ℕ) → x ≢ far → is_marked after x ≡ true → is_marked marks x ≡ true
+    before_that x ne h = sym (get_or-set_other marks far x true false ne) ∙ h
+
+    one_less : unmarked after + 1 ≡ unmarked marks
+    one_less =
+        let s : unmarked after + cond (is_marked marks far) 0 1 ≡ unmarked marks + 0 = sum_by-set (λ b. cond b 0 1) marks far true false far_in in
+        let one : cond {A = ℕ} (is_marked marks far) 0 1 ≡ 1 = ap (λ b. cond b 0 1) fresh in
+        omega arith
+
+    pub Visits-new : Visits g node (take (i + 1) list) old after before (found ++ far ∷ [])
+    Visits-new = record {
+      count = length-set marks far true ∙ v.count;
+      kept = λ x h. still x (v.kept x h);
+      longer = omega (arith, length_push found far, v.longer);
+      stays = λ k l. get_or_append_left found (far ∷ []) 0 k (omega (arith, v.longer)) ∙ v.stays k l;
+      sound = λ x h. elim (cases_eq x far) [
+        | inl e ↦ inr (this, subst (λ z. Leads g this node z) (sym e) (leads_other g this node ends))
+        | inr ne ↦ v.sound x (before_that x ne h)
+      ];
+      listed = λ x h. elim (cases_eq x far) [
+        | inl e ↦ inr (subst (Contains (found ++ far ∷ [])) (sym e) (Contains-push found far))
+        | inr ne ↦ ⊎_elim (λ (o : is_marked old x ≡ true). inl o) (λ (c : Contains found x). inr (Contains-append_left found (far ∷ []) x c)) (v.listed x (before_that x ne h))
+      ];
+      noted = λ h. All-push (λ x. is_marked after x ≡ true) found far (All-weaker (λ x. is_marked marks x ≡ true) (λ x. is_marked after x ≡ true) still found (v.noted h)) at_far;
+      spread = All-more (λ e. is_marked after (other_end node (edge_at g e)) ≡ true) list i 0 low
+          (All-weaker (λ e. is_marked marks (other_end node (edge_at g e)) ≡ true) (λ e. is_marked after (other_end node (edge_at g e)) ≡ true) (λ e h. still (other_end node (edge_at g e)) h) (take i list) v.spread) at_far;
+      total = omega (arith, one_less, length_push found far, v.total);
+    }
+
+-- the search as far as it has come: the nodes found before `next` are spread
+pub record Explores (g : Graph) (marks : List Bool) (found : List ℕ) (next : ℕ) : Type 0 where
+  pub count : length marks ≡ g.nodes
+  pub sound : (x : ℕ) → is_marked marks x ≡ true → IsReached g 0 x
+  pub noted : All (λ x. is_marked marks x ≡ true) found
+  pub listed : (x : ℕ) → is_marked marks x ≡ true → Contains found x
+  pub first : is_marked marks 0 ≡ true
+  pub spread : (k e y : ℕ) → k < next → Leads g e (get_or found k 0) y → is_marked marks y ≡ true
+  pub within : next ≤ length found
+
+pub marked_low : (marks : List Bool) (x : ℕ) → is_marked marks x ≡ true → x < length marks
+marked_low marks x h = elim (cases_lt x (length marks)) [ inl l ↦ l | inr l ↦ absurd (false≢true (sym (get_or_past marks x false l) ∙ h)) ]
+
+-- node 0 alone
+pub Explores-first : (g : Graph) (marks : List Bool) → 1 ≤ g.nodes → marks ≡ replicate g.nodes false → Explores g (set marks 0 true) (0 ∷ []) 0
+Explores-first g marks some is = record {
+  count = length-set marks 0 true ∙ count;
+  sound = λ x h. ([], sym (only x h));
+  noted = All-cons (λ x. is_marked (set marks 0 true) x ≡ true) 0 [] here (All-nil (λ x. is_marked (set marks 0 true) x ≡ true));
+  listed = λ x h. (0, omega arith, sym (only x h));
+  first = here;
+  spread = λ k e y l. absurd (omega arith);
+  within = omega arith;
+}
+  where
+    count : length marks ≡ g.nodes
+    count = ap length is ∙ length-replicate g.nodes false
+
+    here : is_marked (set marks 0 true) 0 ≡ true
+    here = get_or-set_same marks 0 true false (omega (arith, count))
+
+    only : (x : ℕ) → is_marked (set marks 0 true) x ≡ true → x ≡ 0
+    only x h = elim (cases_eq x 0) [
+      | inl e ↦ e
+      | inr ne ↦ absurd (false≢true (sym (none x) ∙ sym (get_or-set_other marks 0 x true false ne) ∙ h))
+    ]
+      where
+        none : (x : ℕ) → is_marked marks x ≡ false
+        none x = ap (λ (ms : List Bool). is_marked ms x) is ∙ elim (cases_lt x g.nodes) [
+          | inl l ↦ get_or-replicate g.nodes x false false l
+          | inr l ↦ get_or_past (replicate g.nodes false) x false (omega (arith, length-replicate g.nodes false))
+        ]
+
+-- the next node is spread
+pub Explores-more : (g : Graph) (old new : List Bool) (before after : List ℕ) (next node : ℕ) (lists : List (List ℕ)) → AreIncident g lists → next < length before → node ≡ get_or before next 0 → Explores g old before next → Visits g node (list_at lists node) old new before after → Explores g new after (next + 1)
+Explores-more g old new before after next node lists incident low is s v = record {
+  count = v.count ∙ s.count;
+  sound = λ x h. elim (v.sound x h) [
+    | inl was ↦ s.sound x was
+    | inr led ↦ (let way = s.sound node at_node in (way.0 ++ led.0 ∷ [], walk-append g way.0 (led.0 ∷ []) 0 node x way.1 (walk-one g led.0 node x led.1)))
+  ];
+  noted = v.noted s.noted;
+  listed = λ x h. elim (v.listed x h) [ inl was ↦ longer x (s.listed x was) | inr new ↦ new ];
+  first = v.kept 0 s.first;
+  spread = λ k e y l leads. elim (cases_eq k next) [
+    | inl here ↦ spread_here e y (subst (λ n. Leads g e n y) (ap (λ j. get_or after j 0) here ∙ v.stays next low ∙ sym is) leads)
+    | inr there ↦ v.kept y (s.spread k e y (omega arith) (subst (λ n. Leads g e n y) (v.stays k (omega arith)) leads))
+  ];
+  within = omega (arith, v.longer);
+}
+  where
+    at_node : is_marked old node ≡ true
+    at_node = ap (is_marked old) is ∙ s.noted next 0 low
+
+    longer : (x : ℕ) → Contains before x → Contains after x
+    longer x c = (c.0, omega (arith, c.1, v.longer), get_or_default after c.0 x 0 (omega (arith, c.1, v.longer)) ∙ v.stays c.0 c.1 ∙ sym (get_or_default before c.0 x 0 c.1) ∙ c.2)
+
+    spread_here : (e y : ℕ) → Leads g e node y → is_marked new y ≡ true
+    spread_here e y leads =
+        let in_list : holds (list_at lists node) e ≡ true = ap (λ es. holds es e) (incident.each node (omega (arith, marked_low old node at_node, s.count))) ∙ edges_at_leads g node e y leads in
+        let at_e : is_marked new (other_end node (edge_at g e)) ≡ true = All-holds (λ k. is_marked new (other_end node (edge_at g k)) ≡ true) (list_at lists node) e v.spread in_list in
+        ap (is_marked new) (other_only g e node y leads) ∙ at_e
+
+-- all that were found are spread
+pub MarksReached-all : (g : Graph) (marks : List Bool) (found : List ℕ) (next : ℕ) → Explores g marks found next → length found ≤ next → MarksReached g marks
+MarksReached-all g marks found next s done = record {
+  count = s.count;
+  right = λ x l. (λ h. s.sound x h, λ way. along way.0 0 x s.first way.1);
+}
+  where
+    along : (es : List ℕ) (x y : ℕ) → is_marked marks x ≡ true → IsWalk g x es y → is_marked marks y ≡ true
+    along [] x y h w = ap (is_marked marks) (sym w) ∙ h
+    along (e ∷ es) x y h w =
+        let c : Contains found x = s.listed x h in
+        let here : get_or found c.0 0 ≡ x = sym (get_or_default found c.0 x 0 c.1) ∙ c.2 in
+        along es w.0 y (s.spread c.0 e w.0 (omega (arith, c.1)) (subst (λ n. Leads g e n w.0) (sym here) w.1)) w.2
+
+-- one edge more, in the code's terms
+module _ (g : Graph) (node : ℕ) (list : List ℕ) (i other : ℕ) (edges : List Edge) (old marks : List Bool) (before found : List ℕ) (low : i < length list) (same : edges ≡ g.edges) (is : other ≡ other_end node (get_or edges (get_or list i 0) (record { a = 0; b = 0; w = pos 0 }))) (v : Visits g node (take i list) old marks before found) where
+  is_far : other ≡ far g node list i old marks before found low v
+  is_far = is ∙ ap (λ (es : List Edge). other_end node (get_or es (get_or list i 0) (record { a = 0; b = 0; w = pos 0 }))) same
+
+  pub Visits-more_same : (new : List Bool) (after : List ℕ) → is_marked marks other ≡ true → new ≡ marks → after ≡ found → Visits g node (take (i + 1) list) old new before after
+  Visits-more_same new after h m f =
+      subst (λ ms. Visits g node (take (i + 1) list) old ms before after) (sym m)
+      (subst (λ fs. Visits g node (take (i + 1) list) old marks before fs) (sym f) (Visits-same g node list i old marks before found low v (ap (is_marked marks) (sym is_far) ∙ h)))
+
+  pub Visits-more_new : (new : List Bool) (after : List ℕ) → EndsAt g node (get_or list i 0) → other < length marks → is_marked marks other ≡ false → new ≡ set marks other true → after ≡ found ++ other ∷ [] → Visits g node (take (i + 1) list) old new before after
+  Visits-more_new new after ends in' h m f =
+      let made = Visits-new g node list i old marks before found low v ends (subst (λ n. n < length marks) is_far in') (ap (is_marked marks) (sym is_far) ∙ h) in
+      subst (λ ms. Visits g node (take (i + 1) list) old ms before after) (sym (m ∙ ap (λ n. set marks n true) is_far))
+      (subst (λ fs. Visits g node (take (i + 1) list) old (set marks (far g node list i old marks before found low v) true) before fs) (sym (f ∙ ap (λ n. found ++ n ∷ []) is_far)) made)
+
+-- all are marked exactly where the graph is connected
+pub connected_is : (g : Graph) (marks : List Bool) → MarksReached g marks → All (λ m. m ≡ true) marks ↔ IsConnected g
+connected_is g marks m = (
+  λ all x l. (m.right x l).0 (all x false (omega (arith, m.count))),
+  λ connected k d l. get_or_default marks k d false l ∙ (m.right k (omega (arith, m.count))).1 (connected k (omega (arith, m.count))),
+)
+
+pub other_in : (g : Graph) (node : ℕ) (list : List ℕ) (i other : ℕ) (edges : List Edge) → IsWeb g → edges ≡ g.edges → other ≡ other_end node (get_or edges (get_or list i 0) (record { a = 0; b = 0; w = pos 0 })) → EndsAt g node (get_or list i 0) → other < g.nodes
+other_in g node list i other edges web same is ends =
+    subst (λ n. n < g.nodes) (sym (is ∙ ap (λ (es : List Edge). other_end node (get_or es (get_or list i 0) (record { a = 0; b = 0; w = pos 0 }))) same)) (other_low g (get_or list i 0) node web ends.0)

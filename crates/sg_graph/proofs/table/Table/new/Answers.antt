@@ -1,0 +1,15 @@
+use Rattle.std.proofs.Common.{List, Option, ap, sym, subst}
+use Rattle.sg_graph.specs.Table.{IsTable, Route, Routes}
+use Rattle.sg_graph.proofs.Tables.{IsTable-first, first_routes_is}
+use Rattle.sg_graph.proofs.table.Table.new.Goals as goal
+
+pub invariant_of-result : goal.invariant_of-result
+invariant_of-result c =
+    let is = first_routes_is c.args.nodes c.args.source c.in_ok-slots.slots.items (c.in_ok-slots.ensures.items_if_clones_equal (λ y e. e)) in
+    let P : List (Option Route) → Type 0 = λ rs. IsTable (record { source = c.args.source; to = rs }) in
+    subst P (sym is) (IsTable-first c.args.nodes c.args.source c.requires.source_in c.requires.few)
+
+pub returns : goal.returns
+returns c =
+    let made : List (Option Route) → Routes = λ rs. record { source = c.args.source; to = rs } in
+    ap made (first_routes_is c.args.nodes c.args.source c.in_ok-slots.slots.items (c.in_ok-slots.ensures.items_if_clones_equal (λ y e. e)))

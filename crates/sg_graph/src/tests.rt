@@ -1,0 +1,96 @@
+ghost use Rattle.std.specs.Prelude.{◌≡◌, ◌≤◌, IfOk};
+ghost use Rattle.sg_graph.specs.Web.{IsEdge, weight_at};
+
+use super::{Edge, Edges, Incidence, NoMemory, Table, Web, connected};
+use std::alloc::Global;
+use std::process::Abort;
+use std::test::Fail;
+
+// An edge of small weight.
+fn edge(rt: &impl Abort, nodes: u32, a: u32, b: u32, w: i64) -> Edge
+    ensures joined { IsEdge nodes result }
+    ensures small { weight_at result ≤ 100 }
+{
+    assert!(rt; a < nodes);
+    assert!(rt; b < nodes);
+    assert!(rt; w >= 0);
+    assert!(rt; w <= 100);
+    Edge { a, b, w }
+}
+
+// The web of these edges.
+fn web(
+    rt: &impl Abort,
+    alloc: Global,
+    nodes: u32,
+    list: &[(u32, u32, i64)],
+) -> Result<Web, NoMemory>
+    ensures { IfOk result (λ made. made.nodes ≡ nodes) }
+{
+    assert!(rt; nodes >= 1 && nodes <= 100 && list.len() <= 100);
+    let mut edges = Edges::new(alloc);
+    for (a, b, w) in list {
+        edges.push(edge(rt, nodes, *a, *b, *w))?;
+    }
+    Ok(Web::new(nodes, edges))
+}
+
+#[test]
+fn nodes_without_edges_are_not_connected(rt: HostRuntime) -> Result<(), Fail> {
+    let apart = web(&rt, rt.alloc(), 2, &[])?;
+    assert!(rt; !connected(rt.alloc(), &apart)?);
+    let joined = web(
+        &rt,
+        rt.alloc(),
+        2,
+        &[(0, 1, 3), (1, 0, 4), (1, 0, 2), (0, 1, 5)],
+    )?;
+    assert!(rt; connected(rt.alloc(), &joined)?);
+    assert_eq!(rt; joined.edges().len(), 4);
+    Ok(())
+}
+
+#[test]
+fn an_edge_to_itself_counts_twice(rt: HostRuntime) -> Result<(), Fail> {
+    let ring = web(&rt, rt.alloc(), 1, &[(0, 0, 1)])?;
+    assert_eq!(rt; ring.degree(0), 2);
+    let star = web(
+        &rt,
+        rt.alloc(),
+        4,
+        &[(0, 1, 1), (2, 0, 1), (0, 0, 1), (2, 1, 1)],
+    )?;
+    assert_eq!(rt; star.nodes(), 4);
+    assert_eq!(rt; star.degree(0), 4);
+    assert_eq!(rt; star.degree(3), 0);
+    Ok(())
+}
+
+#[test]
+fn incidence_lists_edges_by_their_ends(rt: HostRuntime) -> Result<(), Fail> {
+    let star = web(
+        &rt,
+        rt.alloc(),
+        4,
+        &[(0, 1, 1), (2, 0, 1), (0, 0, 1), (2, 1, 1)],
+    )?;
+    let incidence = Incidence::new(rt.alloc(), &star)?;
+    assert_eq!(rt; incidence.at(0), [0, 1, 2].as_slice());
+    assert_eq!(rt; incidence.at(2), [1, 3].as_slice());
+    assert_eq!(rt; Edge { a: 2, b: 0, w: 1 }.other(2), 0);
+    Ok(())
+}
+
+#[test]
+fn a_table_keeps_what_is_set(rt: HostRuntime) -> Result<(), Fail> {
+    let mut table = Table::new(rt.alloc(), 3, 1)?;
+    table.set(2, 7, 4);
+    assert_eq!(rt; table.source(), 1);
+    assert!(rt; !table.reached(0));
+    assert_eq!(rt; table.distance(1), 0);
+    assert_eq!(rt; table.distance(2), 7);
+    assert_eq!(rt; table.parent(0), None);
+    assert_eq!(rt; table.parent(1), None);
+    assert_eq!(rt; table.parent(2), Some(4));
+    Ok(())
+}

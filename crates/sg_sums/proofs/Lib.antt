@@ -1,0 +1,6 @@
+pub mod ParityLaws
+pub mod SumLaws
+pub mod Handshake
+pub mod Capacity
+pub mod RisingLists
+pub mod Choosing

@@ -1,0 +1,163 @@
+-- The laws of parity: `xor`, the parity of a count over a list and over the numbers below n, and two counts exchanged.
+use Rattle.std.proofs.Common.{get_or, inl, inr, ap₂, ◌≡◌, ℕ, zero, suc, ◌+◌, ◌%◌, ◌<◌, Bool, true, false, cond, not, ◌&&◌, eqb, List, [], ◌∷◌, ◌++◌, refl, sym, ◌∙◌, ap, arith, count_by, All, length}
+use Rattle.std.proofs.lemmas.List.Elements.{All-head, All-tail}
+use Rattle.std.proofs.lemmas.List.Sums.{sum_by-cons}
+use Rattle.std.proofs.lemmas.Bool.{eq-eqb, ne_eqb, cases_eq, cases_Bool, false≢true}
+use Rattle.sg_sums.specs.Parity.{xor, odd, parity_by, parity_below}
+
+pub xor_comm : (a b : Bool) → xor a b ≡ xor b a
+xor_comm true true = refl
+xor_comm true false = refl
+xor_comm false true = refl
+xor_comm false false = refl
+
+pub xor_assoc : (a b c : Bool) → xor (xor a b) c ≡ xor a (xor b c)
+xor_assoc a b c = grind arith
+
+pub xor_self : (a : Bool) → xor a a ≡ false
+xor_self true = refl
+xor_self false = refl
+
+pub xor-false : (a : Bool) → xor a false ≡ a
+xor-false true = refl
+xor-false false = refl
+
+pub xor_cancel : (a b : Bool) → xor a b ≡ false → a ≡ b
+xor_cancel true true e = refl
+xor_cancel true false e = cc
+xor_cancel false true e = cc
+xor_cancel false false e = refl
+
+pub xor_swap4 : (a b c d : Bool) → xor (xor a b) (xor c d) ≡ xor (xor a c) (xor b d)
+xor_swap4 a b c d = grind arith
+
+pub and-xor : (a b c : Bool) → (a && xor b c) ≡ xor (a && b) (a && c)
+and-xor a b c = grind arith
+
+pub and-true : (a : Bool) → (a && true) ≡ a
+and-true true = refl
+and-true false = refl
+
+pub and-false : (a : Bool) → (a && false) ≡ false
+and-false true = refl
+and-false false = refl
+
+module _ {X : Type 0} where
+  pub parity_by-xor : (p q : X → Bool) (xs : List X) → parity_by (λ x. xor (p x) (q x)) xs ≡ xor (parity_by p xs) (parity_by q xs)
+  parity_by-xor p q [] = refl
+  parity_by-xor p q (x ∷ xs) = ap (xor (xor (p x) (q x))) (parity_by-xor p q xs) ∙ xor_swap4 (p x) (q x) (parity_by p xs) (parity_by q xs)
+
+  pub parity_by-same : (p q : X → Bool) (xs : List X) → All (λ x. p x ≡ q x) xs → parity_by p xs ≡ parity_by q xs
+  parity_by-same p q [] h = refl
+  parity_by-same p q (x ∷ xs) h =
+      let e : p x ≡ q x = All-head (λ x. p x ≡ q x) x xs h in
+      let r : parity_by p xs ≡ parity_by q xs = parity_by-same p q xs (All-tail (λ x. p x ≡ q x) x xs h) in
+      cc
+
+  pub parity_by-none : (p : X → Bool) (xs : List X) → All (λ x. p x ≡ false) xs → parity_by p xs ≡ false
+  parity_by-none p [] h = refl
+  parity_by-none p (x ∷ xs) h =
+      let e : p x ≡ false = All-head (λ x. p x ≡ false) x xs h in
+      let r : parity_by p xs ≡ false = parity_by-none p xs (All-tail (λ x. p x ≡ false) x xs h) in
+      rw e r
+
+  pub parity_by-append : (p : X → Bool) (xs ys : List X) → parity_by p (xs ++ ys) ≡ xor (parity_by p xs) (parity_by p ys)
+  parity_by-append p [] ys = refl
+  parity_by-append p (x ∷ xs) ys = ap (xor (p x)) (parity_by-append p xs ys) ∙ sym (xor_assoc (p x) (parity_by p xs) (parity_by p ys))
+
+  pub parity_by-and : (b : Bool) (p : X → Bool) (xs : List X) → parity_by (λ x. b && p x) xs ≡ (b && parity_by p xs)
+  parity_by-and true p xs = refl
+  parity_by-and false p [] = refl
+  parity_by-and false p (x ∷ xs) = parity_by-and false p xs
+
+pub parity_below-xor : (p q : ℕ → Bool) (n : ℕ) → parity_below (λ k. xor (p k) (q k)) n ≡ xor (parity_below p n) (parity_below q n)
+parity_below-xor p q zero = refl
+parity_below-xor p q (suc n) = ap (xor (xor (p n) (q n))) (parity_below-xor p q n) ∙ xor_swap4 (p n) (q n) (parity_below p n) (parity_below q n)
+
+pub parity_below-same : (p q : ℕ → Bool) (n : ℕ) → ((k : ℕ) → k < n → p k ≡ q k) → parity_below p n ≡ parity_below q n
+parity_below-same p q zero h = refl
+parity_below-same p q (suc n) h =
+    let e : p n ≡ q n = h n (omega arith) in
+    let r : parity_below p n ≡ parity_below q n = parity_below-same p q n (λ k l. h k (omega arith)) in
+    cc
+
+pub parity_below-none : (p : ℕ → Bool) (n : ℕ) → ((k : ℕ) → k < n → p k ≡ false) → parity_below p n ≡ false
+parity_below-none p zero h = refl
+parity_below-none p (suc n) h =
+    let e : p n ≡ false = h n (omega arith) in
+    rw e (parity_below-none p n (λ k l. h k (omega arith)))
+
+pub parity_below-and : (b : Bool) (p : ℕ → Bool) (n : ℕ) → parity_below (λ k. b && p k) n ≡ (b && parity_below p n)
+parity_below-and true p n = refl
+parity_below-and false p zero = refl
+parity_below-and false p (suc n) = parity_below-and false p n
+
+-- the order of two sums is free
+pub parity_exchange : {X : Type 0} (f : X → ℕ → Bool) (xs : List X) (n : ℕ) → parity_by (λ x. parity_below (f x) n) xs ≡ parity_below (λ k. parity_by (λ x. f x k) xs) n
+parity_exchange f [] n = sym (parity_below-none (λ k. false) n (λ k l. refl))
+parity_exchange f (x ∷ xs) n =
+    ap (xor (parity_below (f x) n)) (parity_exchange f xs n)
+    ∙ sym (parity_below-xor (f x) (λ k. parity_by (λ y. f y k) xs) n)
+
+past : (t : ℕ → Bool) (u k : ℕ) → eqb u k ≡ false → (t k && eqb u k) ≡ false
+past t u k e = rw e (and-false (t k))
+
+at : (t : ℕ → Bool) (u k : ℕ) → u ≡ k → eqb u k ≡ true → (t k && eqb u k) ≡ t u
+at t u k d e = rw (e, d) (and-true (t k))
+
+-- of the numbers below n, only u is u
+pub parity_below_pick : (t : ℕ → Bool) (u n : ℕ) → u < n → parity_below (λ k. t k && eqb u k) n ≡ t u
+parity_below_pick t u zero h = absurd (omega arith)
+parity_below_pick t u (suc n) h = elim (cases_eq u n) [
+  | inl e ↦
+      let here : eqb u n ≡ true = eq-eqb u n e in
+      let rest : parity_below (λ k. t k && eqb u k) n ≡ false = parity_below-none (λ k. t k && eqb u k) n (λ k l. past t u k (ne_eqb u k (λ (d : u ≡ k). omega arith))) in
+      let last : (t n && eqb u n) ≡ t u = at t u n e here in
+      ap₂ xor last rest ∙ xor-false (t u)
+  | inr ne ↦
+      let here : eqb u n ≡ false = ne_eqb u n ne in
+      let last : (t n && eqb u n) ≡ false = past t u n here in
+      ap₂ xor last (parity_below_pick t u n (omega arith))
+]
+
+pub odd_is : (n : ℕ) → n % 2 ≡ cond (odd n) 1 0
+odd_is zero = refl
+odd_is (suc n) = step (odd n) n (odd_is n)
+  where
+    step : (b : Bool) (n : ℕ) → n % 2 ≡ cond b 1 0 → suc n % 2 ≡ cond (not b) 1 0
+    step true n h = omega arith
+    step false n h = omega arith
+
+pub even_from_mod : (n : ℕ) → n % 2 ≡ 0 → odd n ≡ false
+even_from_mod n h = back (odd n) (odd_is n)
+  where
+    back : (b : Bool) → n % 2 ≡ cond b 1 0 → b ≡ false
+    back true e = absurd (omega arith)
+    back false e = refl
+
+pub odd_from_mod : (n : ℕ) → n % 2 ≡ 1 → odd n ≡ true
+odd_from_mod n h = back (odd n) (odd_is n)
+  where
+    back : (b : Bool) → n % 2 ≡ cond b 1 0 → b ≡ true
+    back true e = refl
+    back false e = absurd (omega arith)
+
+one_more : (b : Bool) (n : ℕ) (r : Bool) → odd n ≡ r → odd (cond b 1 0 + n) ≡ xor b r
+one_more true n r e = let s : 1 + n ≡ suc n = omega arith in rw s (ap not e)
+one_more false n r e = let s : 0 + n ≡ n = omega arith in rw s e
+
+-- the parity of a count
+pub odd-count_by : {X : Type 0} (p : X → Bool) (xs : List X) → odd (count_by p xs) ≡ parity_by p xs
+odd-count_by p [] = refl
+odd-count_by p (x ∷ xs) = ap odd (sum_by-cons (λ x. cond (p x) 1 0) x xs) ∙ one_more (p x) (count_by p xs) (parity_by p xs) (odd-count_by p xs)
+
+-- where an odd number pass, one passes
+pub some_from_odd : {X : Type 0} (p : X → Bool) (xs : List X) → parity_by p xs ≡ true → (k : ℕ) × (k < length xs) × ((d : X) → p (get_or xs k d) ≡ true)
+some_from_odd p [] e = absurd (false≢true e)
+some_from_odd {X = X} p (x ∷ xs) e = elim (cases_Bool (p x)) [
+  | inl passes ↦ (0, omega arith, λ d. passes)
+  | inr fails ↦
+      let rest : parity_by p xs ≡ true = ap (λ b. xor b (parity_by p xs)) (sym fails) ∙ e in
+      let found : (k : ℕ) × (k < length xs) × ((d : X) → p (get_or xs k d) ≡ true) = some_from_odd p xs rest in
+      (suc found.0, omega (arith, found.1), found.2)
+]

@@ -1,0 +1,97 @@
+-- The laws of sums: over the numbers below n, over a list by its places, and two sums exchanged.
+use Rattle.std.proofs.Common.{subst, take, get_or, inl, inr, ◌≡◌, ℕ, zero, suc, ◌+◌, ◌<◌, ◌≤◌, cond, eqb, List, [], ◌∷◌, refl, sym, ◌∙◌, ap, arith, sum_by, All, length}
+use Rattle.std.proofs.lemmas.List.Elements.{All-head, All-tail}
+use Rattle.std.proofs.lemmas.List.{take_all}
+use Rattle.std.proofs.lemmas.List.Sums.{sum_by-cons, sum_by_more}
+use Rattle.std.proofs.lemmas.Bool.{eq-eqb, ne_eqb, cases_eq}
+use Rattle.sg_sums.specs.Sums.{sum_below}
+
+pub sum_below-add : (f g : ℕ → ℕ) (n : ℕ) → sum_below (λ k. f k + g k) n ≡ sum_below f n + sum_below g n
+sum_below-add f g zero = refl
+sum_below-add f g (suc n) = omega (arith, sum_below-add f g n)
+
+pub sum_below-zero : (f : ℕ → ℕ) (n : ℕ) → ((k : ℕ) → k < n → f k ≡ 0) → sum_below f n ≡ 0
+sum_below-zero f zero h = refl
+sum_below-zero f (suc n) h = omega (arith, sum_below-zero f n (λ k l. h k (omega arith)), h n (omega arith))
+
+pub sum_below-le : (f g : ℕ → ℕ) (n : ℕ) → ((k : ℕ) → k < n → f k ≤ g k) → sum_below f n ≤ sum_below g n
+sum_below-le f g zero h = omega arith
+sum_below-le f g (suc n) h = omega (arith, sum_below-le f g n (λ k l. h k (omega arith)), h n (omega arith))
+
+pub sum_below-same : (f g : ℕ → ℕ) (n : ℕ) → ((k : ℕ) → k < n → f k ≡ g k) → sum_below f n ≡ sum_below g n
+sum_below-same f g zero h = refl
+sum_below-same f g (suc n) h = omega (arith, sum_below-same f g n (λ k l. h k (omega arith)), h n (omega arith))
+
+-- of the numbers below n, only u is u
+pub sum_below_pick : (c : ℕ) (u n : ℕ) → u < n → sum_below (λ k. cond (eqb u k) c 0) n ≡ c
+sum_below_pick c u zero h = absurd (omega arith)
+sum_below_pick c u (suc n) h = elim (cases_eq u n) [
+  | inl e ↦
+      let here : cond (eqb u n) c 0 ≡ c = ap (λ b. cond b c 0) (eq-eqb u n e) in
+      let rest : sum_below (λ k. cond (eqb u k) c 0) n ≡ 0 = sum_below-zero (λ k. cond (eqb u k) c 0) n (λ k l. ap (λ b. cond b c 0) (ne_eqb u k (λ (d : u ≡ k). omega arith))) in
+      omega arith
+  | inr ne ↦
+      let here : cond (eqb u n) c 0 ≡ 0 = ap (λ b. cond b c 0) (ne_eqb u n ne) in
+      let rest : sum_below (λ k. cond (eqb u k) c 0) n ≡ c = sum_below_pick c u n (omega arith) in
+      omega arith
+]
+
+module _ {X : Type 0} where
+  pub sum_by-le-all : (f g : X → ℕ) (xs : List X) → All (λ x. f x ≤ g x) xs → sum_by f xs ≤ sum_by g xs
+  sum_by-le-all f g [] h = omega arith
+  sum_by-le-all f g (x ∷ xs) h =
+      let e : f x ≤ g x = All-head (λ x. f x ≤ g x) x xs h in
+      let r : sum_by f xs ≤ sum_by g xs = sum_by-le-all f g xs (All-tail (λ x. f x ≤ g x) x xs h) in
+      omega (arith, sum_by-cons f x xs, sum_by-cons g x xs)
+
+  pub sum_by-same : (f g : X → ℕ) (xs : List X) → All (λ x. f x ≡ g x) xs → sum_by f xs ≡ sum_by g xs
+  sum_by-same f g [] h = refl
+  sum_by-same f g (x ∷ xs) h =
+      let e : f x ≡ g x = All-head (λ x. f x ≡ g x) x xs h in
+      let r : sum_by f xs ≡ sum_by g xs = sum_by-same f g xs (All-tail (λ x. f x ≡ g x) x xs h) in
+      omega (arith, sum_by-cons f x xs, sum_by-cons g x xs)
+
+  -- the order of two sums is free
+  pub sum_exchange : (f : X → ℕ → ℕ) (xs : List X) (n : ℕ) → sum_by (λ x. sum_below (f x) n) xs ≡ sum_below (λ k. sum_by (λ x. f x k) xs) n
+  sum_exchange f [] n = sym (sum_below-zero (λ k. 0) n (λ k l. refl))
+  sum_exchange f (x ∷ xs) n =
+      let r : sum_by (λ x. sum_below (f x) n) xs ≡ sum_below (λ k. sum_by (λ x. f x k) xs) n = sum_exchange f xs n in
+      let s : sum_below (λ k. sum_by (λ y. f y k) (x ∷ xs)) n ≡ sum_below (λ k. f x k + sum_by (λ y. f y k) xs) n = sum_below-same (λ k. sum_by (λ y. f y k) (x ∷ xs)) (λ k. f x k + sum_by (λ y. f y k) xs) n (λ k l. sum_by-cons (λ y. f y k) x xs) in
+      omega (arith, sum_by-cons (λ x. sum_below (f x) n) x xs, sum_below-add (f x) (λ k. sum_by (λ y. f y k) xs) n)
+
+pub at-le-sum_below : (f : ℕ → ℕ) (k n : ℕ) → k < n → f k ≤ sum_below f n
+at-le-sum_below f k zero h = absurd (omega arith)
+at-le-sum_below f k (suc n) h = elim (cases_eq k n) [
+  | inl e ↦ let same : f k ≡ f n = ap f e in omega arith
+  | inr ne ↦ let r : f k ≤ sum_below f n = at-le-sum_below f k n (omega arith) in omega arith
+]
+
+pub sum_below-sum_by : {X : Type 0} (f : X → ℕ) (xs : List X) (d : X) (i : ℕ) → i ≤ length xs → sum_by f (take i xs) ≡ sum_below (λ k. f (get_or xs k d)) i
+sum_below-sum_by f xs d zero h = refl
+sum_below-sum_by f xs d (suc i) h =
+    let r : sum_by f (take i xs) ≡ sum_below (λ k. f (get_or xs k d)) i = sum_below-sum_by f xs d i (omega arith) in
+    let step : sum_by f (take (i + 1) xs) ≡ sum_by f (take i xs) + f (get_or xs i d) = sum_by_more f xs i d (omega arith) in
+    let same : i + 1 ≡ suc i = omega arith in
+    let step' : sum_by f (take (suc i) xs) ≡ sum_by f (take i xs) + f (get_or xs i d) = subst (λ j. sum_by f (take j xs) ≡ sum_by f (take i xs) + f (get_or xs i d)) same step in
+    omega arith
+
+pub sum_by_is_sum_below : {X : Type 0} (f : X → ℕ) (xs : List X) (d : X) → sum_by f xs ≡ sum_below (λ k. f (get_or xs k d)) (length xs)
+sum_by_is_sum_below f xs d = ap (sum_by f) (sym (take_all (length xs) xs (omega arith))) ∙ sum_below-sum_by f xs d (length xs) (omega arith)
+
+-- a sum that gains c at one place, and loses nowhere
+pub sum_below-gain : (f g : ℕ → ℕ) (c u n : ℕ) → u < n → ((k : ℕ) → k < n → f k ≤ g k) → f u + c ≤ g u → sum_below f n + c ≤ sum_below g n
+sum_below-gain f g c u zero l h more = absurd (omega arith)
+sum_below-gain f g c u (suc n) l h more = elim (cases_eq u n) [
+  | inl e ↦ (let here : f n + c ≤ g n = subst (λ k. f k + c ≤ g k) e more in omega (arith, sum_below-le f g n (λ k q. h k (omega arith))))
+  | inr ne ↦ (let rest : sum_below f n + c ≤ sum_below g n = sum_below-gain f g c u n (omega arith) (λ k q. h k (omega arith)) more in omega (arith, h n (omega arith)))
+]
+
+-- the same over a list
+pub sum_by-gain : {X : Type 0} (f g : X → ℕ) (c : ℕ) (xs : List X) (u : ℕ) (d : X) → u < length xs → All (λ x. f x ≤ g x) xs → f (get_or xs u d) + c ≤ g (get_or xs u d) → sum_by f xs + c ≤ sum_by g xs
+sum_by-gain f g c xs u d l h more =
+    omega (
+      arith,
+      sum_by_is_sum_below f xs d,
+      sum_by_is_sum_below g xs d,
+      sum_below-gain (λ k. f (get_or xs k d)) (λ k. g (get_or xs k d)) c u (length xs) l (λ k q. h k d q) more,
+    )

@@ -1,0 +1,5 @@
+pub mod Parity
+pub mod Sums
+pub mod Sets
+pub mod Ends
+pub mod Loads

@@ -1,0 +1,20 @@
+-- Sets of numbers as rising lists.
+use Rattle.std.specs.Prelude.{ℕ, ◌==◌, ◌<◌, Bool, false, List, [], ◌∷◌, filter, slice_index_or}
+use Rattle.std.specs.List.{range_with_len, list_any}
+
+-- whether the list holds the number
+abbrev pub holds : List ℕ → ℕ → Bool
+holds xs x = list_any (λ y. y == x) xs
+
+-- the numbers below n that pass, rising
+abbrev pub chosen_below : (ℕ → Bool) → ℕ → List ℕ
+chosen_below p n = filter p (range_with_len 0 n)
+
+-- whether place i is marked
+abbrev pub is_marked : List Bool → ℕ → Bool
+is_marked marks i = slice_index_or marks i false
+
+-- the entries rise, each above the last, all of them above a
+abbrev pub RisesOver : ℕ → List ℕ → Type 0
+RisesOver a [] = Unit {0}
+RisesOver a (x ∷ xs) = (a < x) × RisesOver x xs

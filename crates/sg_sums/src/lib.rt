@@ -1,0 +1,24 @@
+//! Counting: finite sums, parities and sets of numbers, on which the proofs of the crates above rest.
+//!
+//! In planar spin glasses nearly every argument counts something in two ways. A set of bonds that
+//! meets each spin an even number of times crosses each cut an even number of times; the weights of
+//! loops or cuts that pack are at most the weight of what they all meet. Here these facts stand once,
+//! over lists of edges and of numbers, with no spin in sight. Two small tools go with them: to turn
+//! marks, and to list what is marked.
+//!
+//! For the next engineer: parity is a `Bool`, and a set is a test of numbers or a strictly rising
+//! list. `specs/` has the words, a file for each; `proofs/Handshake.antt` and `proofs/Capacity.antt`
+//! have the two laws that the crates above cite most, `proofs/ParityLaws.antt`,
+//! `proofs/SumLaws.antt` and `proofs/RisingLists.antt` the small ones.
+#![tactic(auto)]
+
+mod marks;
+
+pub use marks::{flip, places};
+use std::alloc::AllocError;
+
+/// The allocator had no memory left.
+pub type NoMemory = AllocError;
+
+#[cfg(test)]
+mod tests;
