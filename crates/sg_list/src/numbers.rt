@@ -1,7 +1,7 @@
 ghost use Rattle.std.specs.Prelude.{◌≡◌, ◌==◌, [], ◌∷◌, ◌++◌, ◌<◌, length, OnOk, OnErr, slice_get};
 
 use super::NoMemory;
-use std::alloc::Global;
+use std::alloc::{AllocError, Global};
 use std::marker::Model;
 
 /// A list of items that are copied: numbers, and small structs of numbers.
@@ -64,5 +64,16 @@ impl<T: Copy> Numbers<T> {
         ensures { result.now ≡ self.now }
     {
         self.items.as_slice()
+    }
+}
+
+impl<T: Copy> Clone for Numbers<T> {
+    ghost use Rattle.std.specs.Prelude.{◌≡◌};
+
+    ghost is_clone = { λ list copy. copy ≡ list };
+
+    fn clone(&self) -> Result<Numbers<T>, AllocError> {
+        let items = Vec::from_slice(*self.items.allocator(), self.items.as_slice())?;
+        Ok(Numbers { items })
     }
 }

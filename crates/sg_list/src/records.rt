@@ -1,7 +1,7 @@
-ghost use Rattle.std.specs.Prelude.{◌≡◌, ◌==◌, [], ◌∷◌, ◌++◌, ◌<◌, length, OnOk, OnErr, slice_get};
+ghost use Rattle.std.specs.Prelude.{◌≡◌, ◌==◌, [], ◌∷◌, ◌++◌, ◌<◌, length, OnOk, OnErr, slice_get, slice_set};
 
 use super::NoMemory;
-use std::alloc::Global;
+use std::alloc::{AllocError, Global};
 use std::marker::Model;
 
 /// A list of items with parts of their own, as lists of lists.
@@ -59,10 +59,34 @@ impl<T: Drop> Records<T> {
         &self.items[i]
     }
 
+    /// Puts another item in place `i`, counted from 0.
+    pub fn set(&mut self, i: usize, item: T)
+        requires { i < length self.old }
+        ensures { self.new ≡ slice_set self.old i item }
+    {
+        self.items[i] = item;
+    }
+
+    /// The allocator that `new` was given.
+    pub fn allocator(&self) -> Global {
+        *self.items.allocator()
+    }
+
     /// The whole list, in order. It takes no memory.
     pub fn as_slice(&self) -> &[T]
         ensures { result.now ≡ self.now }
     {
         self.items.as_slice()
+    }
+}
+
+impl<T: Drop + Clone> Clone for Records<T> {
+    ghost use Rattle.std.specs.List.{AllZip};
+
+    ghost is_clone = { λ list copy. AllZip T.is_clone list copy };
+
+    fn clone(&self) -> Result<Records<T>, AllocError> {
+        let items = self.items.clone()?;
+        Ok(Records { items })
     }
 }

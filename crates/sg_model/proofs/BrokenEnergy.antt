@@ -7,7 +7,8 @@ use Rattle.std.proofs.lemmas.Bool.{le-ltb}
 use Rattle.std.proofs.lemmas.List.Elements.{All-head, All-tail, All-weaker}
 use Rattle.std.proofs.lemmas.List.Sums.{sum_by-cons}
 use Rattle.sg_model.specs.declared.bond.Bond.{Bond}
-use Rattle.sg_model.specs.Ising.{Ising, IsBond, IsInstance}
+use Rattle.sg_model.specs.Ising.{Ising, IsBond}
+use Rattle.sg_model.specs.WellFormed.{IsInstance}
 use Rattle.sg_model.specs.Spins.{IsUpOrDown, IsAssignment, spin}
 use Rattle.sg_model.specs.Energy.{product, energy, weight}
 use Rattle.sg_model.specs.Broken.{is_broken}

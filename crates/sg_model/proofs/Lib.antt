@@ -1,4 +1,12 @@
 pub mod Codes
 pub mod Opposites
-pub mod PlainSearch
 pub mod BrokenEnergy
+pub mod PlainSearch
+pub mod Darts
+pub mod EachOnce
+pub mod RotationFaults
+pub mod SameEnds
+pub mod Recoupled
+pub mod BrokenParity
+pub mod EnergyBounds
+pub mod CoupledEnergy

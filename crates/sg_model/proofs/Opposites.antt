@@ -3,7 +3,8 @@ use Rattle.std.proofs.Common.{◌≡◌, ℕ, ◌<◌, inl, inr, ℤ, pos, neg_�
 use Rattle.std.proofs.lemmas.List.{get_or-map, length-map}
 use Rattle.std.proofs.lemmas.List.Elements.{All-head, All-tail, All-map, All-weaker}
 use Rattle.sg_model.specs.declared.bond.Bond.{Bond}
-use Rattle.sg_model.specs.Ising.{Ising, IsBond, IsInstance}
+use Rattle.sg_model.specs.Ising.{Ising, IsBond}
+use Rattle.sg_model.specs.WellFormed.{IsInstance}
 use Rattle.sg_model.specs.Spins.{IsUpOrDown, IsAssignment, spin}
 use Rattle.sg_model.specs.Energy.{product, energy}
 

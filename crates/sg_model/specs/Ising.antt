@@ -1,11 +1,13 @@
 -- An instance of the Ising model without a field, as contracts see it.
-use Rattle.std.specs.Prelude.{◌≢◌, ℕ, ◌^◌, ◌<◌, ◌≤◌, pos, List, length, slice_index_or, All, unsigned_abs}
+use Rattle.std.specs.Prelude.{◌≢◌, ℕ, ◌^◌, ◌<◌, pos, List, length, slice_index_or, unsigned_abs}
 use Rattle.sg_model.specs.declared.bond.Bond.{Bond}
 
--- `n` spins, numbered from 0, and the bonds, numbered in their order
+-- `n` spins, numbered from 0; the bonds, numbered in their order; for each spin the cyclic list of its darts; the seam, a list of bonds
 pub record Ising : Type 0 where
   pub n : ℕ
   pub bonds : List Bond
+  pub rotation : List (List ℕ)
+  pub seam : List ℕ
 
 -- the number of bonds
 abbrev pub bond_count : Ising → ℕ
@@ -21,10 +23,3 @@ pub record IsBond (n : ℕ) (b : Bond) : Type 0 where
   pub second_end : b.v < n
   pub ends_differ : b.u ≢ b.v
   pub size : unsigned_abs b.j < 2 ^ 63
-
--- what every instance keeps: one spin or more, bonds between different spins, and neither beyond 2^24
-pub record IsInstance (inst : Ising) : Type 0 where
-  pub has_spin : 1 ≤ inst.n
-  pub few_spins : inst.n ≤ 2 ^ 24
-  pub few_bonds : bond_count inst ≤ 2 ^ 24
-  pub joined : All (IsBond inst.n) inst.bonds

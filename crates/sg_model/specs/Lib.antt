@@ -1,4 +1,14 @@
 pub mod Ising
+pub mod Rotation
+pub mod Connected
+pub mod Seam
+pub mod Misplaced
+pub mod BadRotation
+pub mod BadSeam
+pub mod Faults
+pub mod Marks
+pub mod WellFormed
+pub mod Changes
 pub mod Spins
 pub mod Energy
 pub mod Broken

@@ -1,39 +1,93 @@
-ghost use Rattle.std.specs.Prelude.{◌≡◌, ◌≤◌, ◌<◌, ◌*◌, ◌^◌, ◌+ℤ◌, ◌*ℤ◌, pos, fold, length, All, unsigned_abs};
-ghost use Rattle.sg_model.specs.Ising.{IsBond, IsInstance};
+ghost use Rattle.std.specs.Prelude.{◌≡◌, ◌≤◌, ◌<◌, ◌*◌, ◌^◌, ◌+ℤ◌, ◌*ℤ◌, ℕ, pos, if◌then◌else◌, fold, length, All, IfOk, IfErr, vec_len, unsigned_abs};
+ghost use Rattle.sg_model.specs.Ising.{IsBond, bond_count};
+ghost use Rattle.sg_model.specs.WellFormed.{IsInstance};
+ghost use Rattle.sg_model.specs.Faults.{IsFaultOf};
+ghost use Rattle.sg_model.specs.Misplaced.{holds};
+ghost use Rattle.sg_model.specs.Marks.{is_marked};
+ghost use Rattle.sg_model.specs.Changes.{HasSameEnds, opposite, recoupled, with_bonds, with_coupling, with_seam, with_seam_flipped};
 ghost use Rattle.sg_model.specs.Energy.{energy, product, weight as weight_of};
 
-use super::{Bond, Bonds, Spins};
+use super::draft::Draft;
+use super::{Bond, BondList, Bonds, Fault, NoMemory, Refusal, Rotation, Spins};
+use std::alloc::Global;
 use std::marker::Model;
 
 /// An instance: at least one spin and at most 2^24 spins and bonds, each bond between two
-/// different spins, no coupling the least i64.
+/// different spins, no coupling the least i64; for each spin the cyclic order of its darts; and a
+/// seam of different bonds.
 #[derive(Drop)]
 pub struct Instance {
     n: u32,
     bonds: Bonds,
+    rotation: Rotation,
+    seam: BondList,
 }
 
 impl Model for Instance {
-    ghost use Rattle.sg_model.specs.Ising.{Ising, IsInstance};
+    ghost use Rattle.sg_model.specs.Ising.{Ising};
+    ghost use Rattle.sg_model.specs.WellFormed.{IsInstance};
 
     ghost Value = { Ising };
 
-    ghost view = { λ i. record { n = i.n; bonds = i.bonds } };
+    ghost view = { λ i. record { n = i.n; bonds = i.bonds; rotation = i.rotation; seam = i.seam } };
 
-    ghost invariant = { λ i. IsInstance (record { n = i.n; bonds = i.bonds }) };
+    ghost invariant = { λ i.
+        IsInstance (record { n = i.n; bonds = i.bonds; rotation = i.rotation; seam = i.seam }) };
 }
 
 impl Instance {
-    /// An instance of `n` spins with these bonds. It takes no memory.
-    pub fn simple(n: u32, bonds: Bonds) -> Self
+    /// An instance of its parts, tested in time linear in the bonds and darts. The rotation has one
+    /// list for each spin.
+    ///
+    /// # Errors
+    /// `BadRotation` where a list is not the darts of its spin, each once, with the least such spin
+    /// and the dart that shows it; then `BadSeam` with the first entry of the seam that is not a bond
+    /// or stands earlier too. The parts are then dropped.
+    pub fn new(
+        alloc: Global,
+        n: u32,
+        bonds: Bonds,
+        rotation: Rotation,
+        seam: BondList,
+    ) -> Result<Self, Fault>
         requires has_spin { 1 ≤ n }
         requires few_spins { n ≤ 2 ^ 24 }
         requires few_bonds { length bonds ≤ 2 ^ 24 }
         requires joined { All (IsBond n) bonds }
-        ensures spins { result.n ≡ n }
-        ensures bonds { result.bonds ≡ bonds }
+        requires lists { length rotation ≡ n }
+        ensures ok { IfOk result
+            (λ inst. inst ≡ record { n = n; bonds = bonds; rotation = rotation; seam = seam }) }
+        ensures well_formed { IfOk result IsInstance }
+        ensures refused { IfErr result
+            (IsFaultOf (record { n = n; bonds = bonds; rotation = rotation; seam = seam })) }
     {
-        Instance { n, bonds }
+        let draft = Draft {
+            n,
+            bonds,
+            rotation,
+            seam,
+        };
+        if let Some(wrong) = draft.wrong_dart(alloc)? {
+            return Err(Fault::Refused(Refusal::BadRotation {
+                spin: wrong.spin,
+                dart: wrong.dart,
+            }));
+        }
+        if let Some(bond) = draft.wrong_bond(alloc)? {
+            return Err(Fault::Refused(Refusal::BadSeam { bond }));
+        }
+        let Draft {
+            n,
+            bonds,
+            rotation,
+            seam,
+        } = draft;
+        Ok(Instance {
+            n,
+            bonds,
+            rotation,
+            seam,
+        })
     }
 
     /// The number of spins.
@@ -50,6 +104,22 @@ impl Instance {
         ensures instance { IsInstance self.now }
     {
         &self.bonds
+    }
+
+    /// For each spin its darts, in their cyclic order.
+    pub fn rotation(&self) -> &Rotation
+        ensures value { result.now ≡ self.now.rotation }
+        ensures instance { IsInstance self.now }
+    {
+        &self.rotation
+    }
+
+    /// The bonds of the seam, in the order in which they were given.
+    pub fn seam(&self) -> &BondList
+        ensures value { result.now ≡ self.now.seam }
+        ensures instance { IsInstance self.now }
+    {
+        &self.seam
     }
 
     /// The energy of an assignment, `- sum of J s(u) s(v)`, in time linear in the bonds. It takes
@@ -70,6 +140,110 @@ impl Instance {
             total += i128::from(bond.j.unsigned_abs());
         }
         total
+    }
+
+    /// A copy in which the sign of the coupling is changed on each bond of the seam, in time linear
+    /// in the bonds and darts.
+    pub fn flip_seam(&self) -> Result<Instance, NoMemory>
+        ensures { IfOk result (λ copy. copy ≡ with_seam_flipped self.now) }
+    {
+        let on_seam = self.on_seam()?;
+        let mut bonds = Bonds::new(self.bonds.allocator());
+        for (k, bond) in self.bonds.as_slice().iter().enumerate() {
+            bonds.push(flipped_if(*bond, on_seam[k]))?;
+        }
+        self.with_bonds(bonds)
+    }
+
+    /// A copy in which one bond has the coupling `j`, in time linear in the bonds and darts.
+    pub fn with_coupling(&self, bond: u32, j: i64) -> Result<Instance, NoMemory>
+        requires bond_in { bond < bond_count self.now }
+        requires size { unsigned_abs j < 2 ^ 63 }
+        ensures { IfOk result (λ copy. copy ≡ with_coupling self.now bond j) }
+    {
+        let mut bonds = Bonds::new(self.bonds.allocator());
+        for (k, old) in self.bonds.as_slice().iter().enumerate() {
+            bonds.push(recoupled_if(*old, k == bond as usize, j))?;
+        }
+        self.with_bonds(bonds)
+    }
+
+    /// The same instance with another seam, in time linear in the bonds and darts.
+    ///
+    /// # Errors
+    /// `BadSeam` with the first entry that is not a bond or stands earlier too.
+    pub fn with_seam(self, seam: BondList) -> Result<Instance, Fault>
+        ensures ok { IfOk result (λ copy. copy ≡ with_seam self seam) }
+        ensures well_formed { IfOk result IsInstance }
+        ensures refused { IfErr result (IsFaultOf (with_seam self seam)) }
+    {
+        let alloc = self.bonds.allocator();
+        let Instance {
+            n,
+            bonds,
+            rotation,
+            seam: _,
+        } = self;
+        Instance::new(alloc, n, bonds, rotation, seam)
+    }
+
+    // For each bond whether it is on the seam.
+    fn on_seam(&self) -> Result<Vec<bool>, NoMemory>
+        ensures len { IfOk result (λ marked. vec_len marked ≡ bond_count self.now) }
+        ensures marks { IfOk result
+            (λ marked. (k : ℕ) → k < bond_count self.now → is_marked marked.items k ≡ holds self.now.seam k) }
+    {
+        let mut marked = vec![in self.bonds.allocator(); false; self.bonds.len()]?;
+        for bond in self.seam.as_slice() {
+            marked[*bond as usize] = true;
+        }
+        Ok(marked)
+    }
+
+    // A copy with these bonds, which join the same spins.
+    fn with_bonds(&self, bonds: Bonds) -> Result<Instance, NoMemory>
+        requires { HasSameEnds self.now bonds }
+        ensures { IfOk result (λ copy. copy ≡ with_bonds self.now bonds) }
+    {
+        let rotation = self.rotation.clone()?;
+        let seam = self.seam.clone()?;
+        Ok(Instance {
+            n: self.n,
+            bonds,
+            rotation,
+            seam,
+        })
+    }
+}
+
+// The bond, with the sign of its coupling changed if so asked.
+fn flipped_if(bond: Bond, flips: bool) -> Bond
+    requires { unsigned_abs bond.j < 2 ^ 63 }
+    ensures { result ≡ (if flips then opposite bond else bond) }
+{
+    if flips {
+        Bond {
+            u: bond.u,
+            v: bond.v,
+            j: -bond.j,
+        }
+    } else {
+        bond
+    }
+}
+
+// The bond, with the coupling `j` if so asked.
+fn recoupled_if(bond: Bond, changes: bool, j: i64) -> Bond
+    ensures { result ≡ (if changes then recoupled bond j else bond) }
+{
+    if changes {
+        Bond {
+            u: bond.u,
+            v: bond.v,
+            j,
+        }
+    } else {
+        bond
     }
 }
 

@@ -1,19 +1,62 @@
 use std::alloc::AllocError;
 use thiserror::Error;
 
-/// Why an input is refused, with the numbers that show it. Each is printed as
-/// `refused,<number>` and its kept numbers.
+/// Why an input is refused, with the numbers that show it. Records, fields, spins, bonds and darts
+/// are numbered from 0.
 #[derive(Debug, Drop, Error)]
 pub enum Refusal {
     /// Number 1: the input has more bytes than the limit.
     #[error("TooLong")]
     TooLong { limit: u64 },
+    /// Number 2: the records end before the awaited `end`.
+    #[error("Unended")]
+    Unended,
+    /// Number 3: this field is not a number, or is out of the range of its place.
+    #[error("BadNumber")]
+    BadNumber { at: u32, field: u32 },
+    /// Number 4: the first field of this record is not a word that may stand there.
+    #[error("UnknownKind")]
+    UnknownKind { at: u32 },
+    /// Number 5: this record has a wrong number of fields or comes a second time.
+    #[error("BadShape")]
+    BadShape { at: u32 },
+    /// Number 6: a lattice has another number of couplings than bonds.
+    #[error("CouplingCount")]
+    CouplingCount { found: u32, wanted: u32 },
+    /// Number 7: the number of spins is above the limit.
+    #[error("TooManySpins")]
+    TooManySpins { n: i128 },
+    /// Number 8: one more bond stands than the limit; `m` is the limit plus 1.
+    #[error("TooManyBonds")]
+    TooManyBonds { m: u32 },
+    /// Number 9: both ends of this bond are the same spin.
+    #[error("SelfBond")]
+    SelfBond { bond: u32 },
+    /// Number 10: the list of this spin, the least such, is not its darts, each once. The dart is
+    /// the first entry that is none of them or stands earlier too; else the least that is missing.
+    #[error("BadRotation")]
+    BadRotation { spin: u32, dart: u32 },
+    /// Number 11: this entry of the seam, the first such, is not a bond or stands earlier too.
+    #[error("BadSeam")]
+    BadSeam { bond: u32 },
+    /// Number 12: this record, the first such, stands after the last awaited `end`.
+    #[error("Trailing")]
+    Trailing { at: u32 },
     /// Number 13: the sum of the couplings' sizes is above the limit.
     #[error("SumTooLarge")]
     SumTooLarge { sum: i128 },
-    /// Number 99: the input is not in the one form that is read so far.
-    #[error("NotBuilt")]
-    NotBuilt,
+    /// Number 14: this spin, the least such, is not reached from spin 0 over bonds.
+    #[error("NotConnected")]
+    NotConnected { spin: u32 },
+    /// Number 15: the Euler number, spins minus bonds plus faces, is not 2.
+    #[error("NotPlanar")]
+    NotPlanar { euler: i64 },
+    /// Number 16: a domain wall is asked for, and the seam is empty.
+    #[error("NoSeam")]
+    NoSeam,
+    /// Number 17: no law of disorder has the name that was given.
+    #[error("UnknownLaw")]
+    UnknownLaw,
 }
 
 /// Why a call that reads or builds an instance has none to give.
@@ -33,5 +76,16 @@ impl From<AllocError> for Fault {
 
     fn from(_: AllocError) -> Self {
         Fault::NoMemory
+    }
+}
+
+impl From<Refusal> for Fault {
+    ghost use Rattle.std.specs.Prelude.{◌≡◌};
+    ghost use Rattle.sg_model.specs.declared.refusal.Fault.TheVariants.{Refused as IsRefused};
+
+    ghost from_gives = { λ r e. e ≡ IsRefused r };
+
+    fn from(refusal: Refusal) -> Self {
+        Fault::Refused(refusal)
     }
 }

@@ -4,3 +4,4 @@ pub mod Handshake
 pub mod Capacity
 pub mod RisingLists
 pub mod Choosing
+pub mod OneMore

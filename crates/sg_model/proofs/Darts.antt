@@ -1,0 +1,46 @@
+-- The spins that darts leave.
+use Rattle.std.proofs.Common.{◌≡◌, ◌≢◌, ℕ, ◌+◌, ◌*◌, ◌/◌, ◌%◌, ◌<◌, true, false, eqb, ltb, refl, sym, ◌∙◌, ap, arith}
+use Rattle.std.proofs.lemmas.Bool.{eq-eqb, ne_eqb, eqb-true, ltb-true, lt-ltb, and_parts, and_from, and_right}
+use Rattle.sg_model.specs.Ising.{Ising, bond_at}
+use Rattle.sg_model.specs.Rotation.{dart_count, is_dart_of, rev, tail}
+
+module _ (inst : Ising) where
+  pub tail_even : (d : ℕ) → d % 2 ≡ 0 → tail inst d ≡ (bond_at inst (d / 2)).u
+  unfolding tail
+  tail_even d even = rw even refl
+
+  pub tail_odd : (d : ℕ) → d % 2 ≢ 0 → tail inst d ≡ (bond_at inst (d / 2)).v
+  unfolding tail
+  tail_odd d odd = let e : d % 2 ≡ 1 = omega arith in rw e refl
+
+  pub tail_first : (k : ℕ) → tail inst (2 * k) ≡ (bond_at inst k).u
+  tail_first k = let half : 2 * k / 2 ≡ k = omega arith in tail_even (2 * k) (omega arith) ∙ ap (λ b. (bond_at inst b).u) half
+
+  pub tail_second : (k : ℕ) → tail inst (2 * k + 1) ≡ (bond_at inst k).v
+  tail_second k =
+      let half : (2 * k + 1) / 2 ≡ k = omega arith in
+      let odd : (2 * k + 1) % 2 ≢ 0 = omega arith in
+      tail_odd (2 * k + 1) odd ∙ ap (λ b. (bond_at inst b).v) half
+
+  -- a dart of spin i
+  pub is_dart_of-parts : (i d : ℕ) → is_dart_of inst i d ≡ true → (d < dart_count inst) × (tail inst d ≡ i)
+  is_dart_of-parts i d h =
+      let both : (ltb d (dart_count inst) ≡ true) × (eqb (tail inst d) i ≡ true) = and_parts (ltb d (dart_count inst)) (eqb (tail inst d) i) h in
+      (ltb-true d (dart_count inst) both.0, eqb-true (tail inst d) i both.1)
+
+  pub is_dart_of-from : (i d : ℕ) → d < dart_count inst → tail inst d ≡ i → is_dart_of inst i d ≡ true
+  is_dart_of-from i d l e = and_from (ltb d (dart_count inst)) (eqb (tail inst d) i) (lt-ltb d (dart_count inst) l) (eq-eqb (tail inst d) i e)
+
+  -- a dart leaves one spin alone
+  pub is_dart_of-other : (i k d : ℕ) → i ≢ k → is_dart_of inst i d ≡ true → is_dart_of inst k d ≡ false
+  is_dart_of-other i k d ne h =
+      let t : tail inst d ≡ i = (is_dart_of-parts i d h).1 in
+      and_right (ltb d (dart_count inst)) (eqb (tail inst d) k) (ne_eqb (tail inst d) k (λ (e : tail inst d ≡ k). ne (sym t ∙ e)))
+
+pub rev_first : (k : ℕ) → rev (2 * k) ≡ 2 * k + 1
+unfolding rev
+rev_first k = let even : 2 * k % 2 ≡ 0 = omega arith in rw even refl
+
+pub rev_second : (k : ℕ) → rev (2 * k + 1) ≡ 2 * k
+unfolding rev
+rev_second k = let odd : (2 * k + 1) % 2 ≡ 1 = omega arith in rw odd (omega arith)

@@ -1,0 +1,114 @@
+-- Bonds with other couplings, one after another.
+use Rattle.std.proofs.Common.{◌≡◌, ◌⊎◌, inl, inr, ℕ, ℤ, ◌+◌, ◌<◌, ◌^◌, Bool, true, false, cond, eqb, pos, List, [], ◌∷◌, ◌++◌, length, get_or, take, map, refl, sym, ◌∙◌, ap, ap₂, arith, All}
+use Rattle.std.specs.Prelude.{unsigned_abs}
+use Rattle.std.specs.List.{range_with_len}
+use Rattle.std.proofs.lemmas.Bool.{cases_lt, cases_eq, eq-eqb, ne_eqb}
+use Rattle.std.proofs.lemmas.Int.{ints}
+use Rattle.std.proofs.lemmas.List.{get_or_past, get_or-set_same, get_or-set_other, length-set, take_more}
+use Rattle.std.proofs.lemmas.List.Elements.{All-from_get_or}
+use Rattle.std.proofs.lemmas.List.FromFn.{get_or-map-range_with_len, length-map-range_with_len, map-range_with_len_more}
+use Rattle.sg_model.specs.declared.bond.Bond.{Bond}
+use Rattle.sg_model.specs.Ising.{Ising, IsBond, bond_at, bond_count}
+use Rattle.sg_model.specs.Misplaced.{holds}
+use Rattle.sg_model.specs.Changes.{HasSameEnds, flipped_at, opposite, recoupled, with_coupling}
+
+abbrev no_bond : Bond
+no_bond = record { u = 0; v = 0; j = pos 0 }
+
+size_opposite : (b : Bond) → unsigned_abs b.j < 2 ^ 63 → unsigned_abs (opposite b).j < 2 ^ 63
+size_opposite b h = omega (arith, ints)
+
+module _ (inst : Ising) where
+  -- one more bond of the flipped instance
+  pub flip_step : (items : List Bond) (k : ℕ) (on : Bool) → items ≡ inst.bonds → on ≡ holds inst.seam k
+      → map (flipped_at inst) (range_with_len 0 k) ++ cond on (opposite (get_or items k no_bond)) (get_or items k no_bond) ∷ [] ≡ map (flipped_at inst) (range_with_len 0 (k + 1))
+  flip_step items k on same e =
+      ap₂ (λ t (c : List Bond). map (flipped_at inst) (range_with_len 0 k) ++ cond t (opposite (get_or c k no_bond)) (get_or c k no_bond) ∷ []) e same
+      ∙ sym (map-range_with_len_more (flipped_at inst) 0 k k (omega arith))
+
+  pub flipped_ends : All (IsBond inst.n) inst.bonds → HasSameEnds inst (map (flipped_at inst) (range_with_len 0 (bond_count inst)))
+  flipped_ends joined = record {
+    count = long;
+    first = λ k. ends (λ b. b.u) (λ b. refl) k;
+    second = λ k. ends (λ b. b.v) (λ b. refl) k;
+    sizes = All-from_get_or (λ b. unsigned_abs b.j < 2 ^ 63) (map (flipped_at inst) (range_with_len 0 (bond_count inst))) no_bond sizes_at;
+  }
+    where
+      long : length (map (flipped_at inst) (range_with_len 0 (bond_count inst))) ≡ bond_count inst
+      long = length-map-range_with_len (flipped_at inst) 0 (bond_count inst)
+
+      at : (k : ℕ) → k < bond_count inst → get_or (map (flipped_at inst) (range_with_len 0 (bond_count inst))) k no_bond ≡ flipped_at inst k
+      at k l = get_or-map-range_with_len (flipped_at inst) 0 (bond_count inst) k k no_bond l (omega arith)
+
+      kept : (f : Bond → ℕ) → ((b : Bond) → f (opposite b) ≡ f b) → (t : Bool) (b : Bond) → f (cond t (opposite b) b) ≡ f b
+      kept f e true b = e b
+      kept f e false b = refl
+
+      ends : (f : Bond → ℕ) → ((b : Bond) → f (opposite b) ≡ f b) → (k : ℕ) → f (get_or (map (flipped_at inst) (range_with_len 0 (bond_count inst))) k no_bond) ≡ f (bond_at inst k)
+      ends f e k = elim (cases_lt k (bond_count inst)) [
+        | inl l ↦ ap f (at k l) ∙ kept f e (holds inst.seam k) (bond_at inst k)
+        | inr past ↦ ap f (get_or_past (map (flipped_at inst) (range_with_len 0 (bond_count inst))) k no_bond (omega (arith, long)) ∙ sym (get_or_past inst.bonds k no_bond past))
+      ]
+
+      sized : (t : Bool) (b : Bond) → unsigned_abs b.j < 2 ^ 63 → unsigned_abs (cond t (opposite b) b).j < 2 ^ 63
+      sized true b h = size_opposite b h
+      sized false b h = h
+
+      sizes_at : (k : ℕ) → k < length (map (flipped_at inst) (range_with_len 0 (bond_count inst))) → unsigned_abs (get_or (map (flipped_at inst) (range_with_len 0 (bond_count inst))) k no_bond).j < 2 ^ 63
+      sizes_at k b =
+          let l : k < bond_count inst = omega (arith, long) in
+          let h : unsigned_abs (cond (holds inst.seam k) (opposite (bond_at inst k)) (bond_at inst k)).j < 2 ^ 63 = sized (holds inst.seam k) (bond_at inst k) (joined k no_bond l).size in
+          omega (arith, ap (λ (b : Bond). unsigned_abs b.j) (at k l))
+
+  module _ (bond : ℕ) (z : ℤ) (within : bond < bond_count inst) where
+    long : length (with_coupling inst bond z).bonds ≡ bond_count inst
+    long = length-set inst.bonds bond (recoupled (bond_at inst bond) z)
+
+    at : (k : ℕ) → k < bond_count inst → get_or (with_coupling inst bond z).bonds k no_bond ≡ cond (eqb k bond) (recoupled (bond_at inst k) z) (bond_at inst k)
+    at k l = by_case (cases_eq k bond)
+      where
+        by_case : (k ≡ bond) ⊎ (k ≡ bond → ⊥) → get_or (with_coupling inst bond z).bonds k no_bond ≡ cond (eqb k bond) (recoupled (bond_at inst k) z) (bond_at inst k)
+        by_case (inl e) =
+            ap (λ i. get_or (with_coupling inst bond z).bonds i no_bond) e
+            ∙ get_or-set_same inst.bonds bond (recoupled (bond_at inst bond) z) no_bond within
+            ∙ ap (λ i. recoupled (bond_at inst i) z) (sym e)
+            ∙ sym (ap (λ t. cond t (recoupled (bond_at inst k) z) (bond_at inst k)) (eq-eqb k bond e))
+        by_case (inr ne) =
+            get_or-set_other inst.bonds bond k (recoupled (bond_at inst bond) z) no_bond ne
+            ∙ sym (ap (λ t. cond t (recoupled (bond_at inst k) z) (bond_at inst k)) (ne_eqb k bond ne))
+
+    -- one more bond of the instance with the other coupling
+    pub coupling_step : (items : List Bond) (k : ℕ) → items ≡ inst.bonds → k < bond_count inst
+        → take k (with_coupling inst bond z).bonds ++ cond (eqb k bond) (recoupled (get_or items k no_bond) z) (get_or items k no_bond) ∷ [] ≡ take (k + 1) (with_coupling inst bond z).bonds
+    coupling_step items k same l =
+        ap (λ (c : List Bond). take k (with_coupling inst bond z).bonds ++ cond (eqb k bond) (recoupled (get_or c k no_bond) z) (get_or c k no_bond) ∷ []) same
+        ∙ ap (λ (b : Bond). take k (with_coupling inst bond z).bonds ++ b ∷ []) (sym (at k l))
+        ∙ sym (take_more (with_coupling inst bond z).bonds k no_bond (omega (arith, long)))
+
+    pub coupling_ends : All (IsBond inst.n) inst.bonds → unsigned_abs z < 2 ^ 63 → HasSameEnds inst (with_coupling inst bond z).bonds
+    coupling_ends joined size = record {
+      count = long;
+      first = λ k. ends (λ b. b.u) (λ b. refl) k;
+      second = λ k. ends (λ b. b.v) (λ b. refl) k;
+      sizes = All-from_get_or (λ b. unsigned_abs b.j < 2 ^ 63) (with_coupling inst bond z).bonds no_bond sizes_at;
+    }
+      where
+        kept : (f : Bond → ℕ) → ((b : Bond) → f (recoupled b z) ≡ f b) → (t : Bool) (b : Bond) → f (cond t (recoupled b z) b) ≡ f b
+        kept f e true b = e b
+        kept f e false b = refl
+
+        ends : (f : Bond → ℕ) → ((b : Bond) → f (recoupled b z) ≡ f b) → (k : ℕ) → f (get_or (with_coupling inst bond z).bonds k no_bond) ≡ f (bond_at inst k)
+        ends f e k = elim (cases_lt k (bond_count inst)) [
+          | inl l ↦ ap f (at k l) ∙ kept f e (eqb k bond) (bond_at inst k)
+          | inr past ↦ ap f (get_or_past (with_coupling inst bond z).bonds k no_bond (omega (arith, long)) ∙ sym (get_or_past inst.bonds k no_bond past))
+        ]
+
+        sized : (t : Bool) (b : Bond) → unsigned_abs b.j < 2 ^ 63 → unsigned_abs (cond t (recoupled b z) b).j < 2 ^ 63
+        sized true b h = size
+        sized false b h = h
+
+        sizes_at : (k : ℕ) → k < length (with_coupling inst bond z).bonds → unsigned_abs (get_or (with_coupling inst bond z).bonds k no_bond).j < 2 ^ 63
+        sizes_at k b =
+            let l : k < bond_count inst = omega (arith, long) in
+            let h : unsigned_abs (cond (eqb k bond) (recoupled (bond_at inst k) z) (bond_at inst k)).j < 2 ^ 63 = sized (eqb k bond) (bond_at inst k) (joined k no_bond l).size in
+            omega (arith, ap (λ (b : Bond). unsigned_abs b.j) (at k l))

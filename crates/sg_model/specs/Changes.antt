@@ -1,0 +1,41 @@
+-- Instances that differ from another one in couplings alone.
+use Rattle.std.specs.Prelude.{◌≡◌, ℕ, ℤ, ◌^◌, ◌<◌, neg_ℤ, if◌then◌else◌, List, length, map, slice_set, unsigned_abs, All}
+use Rattle.std.specs.List.{range_with_len}
+use Rattle.sg_model.specs.declared.bond.Bond.{Bond}
+use Rattle.sg_model.specs.Ising.{Ising, bond_at, bond_count}
+use Rattle.sg_model.specs.Misplaced.{holds}
+
+-- the bond with the sign of its coupling changed
+abbrev pub opposite : Bond → Bond
+opposite b = record { u = b.u; v = b.v; j = neg_ℤ b.j }
+
+-- bond k with another coupling
+abbrev pub recoupled : Bond → ℤ → Bond
+recoupled b z = record { u = b.u; v = b.v; j = z }
+
+-- other bonds, and nothing else
+abbrev pub with_bonds : Ising → List Bond → Ising
+with_bonds inst bonds = record { n = inst.n; bonds = bonds; rotation = inst.rotation; seam = inst.seam }
+
+-- another seam, and nothing else
+abbrev pub with_seam : Ising → List ℕ → Ising
+with_seam inst seam = record { n = inst.n; bonds = inst.bonds; rotation = inst.rotation; seam = seam }
+
+-- bond k, with its sign changed if it is on the seam
+abbrev pub flipped_at : Ising → ℕ → Bond
+flipped_at inst k = if holds inst.seam k then opposite (bond_at inst k) else bond_at inst k
+
+-- the signs of the seam's couplings changed, and nothing else
+abbrev pub with_seam_flipped : Ising → Ising
+with_seam_flipped inst = with_bonds inst (map (flipped_at inst) (range_with_len 0 (bond_count inst)))
+
+-- the coupling of bond k changed, and nothing else
+abbrev pub with_coupling : Ising → ℕ → ℤ → Ising
+with_coupling inst k z = with_bonds inst (slice_set inst.bonds k (recoupled (bond_at inst k) z))
+
+-- the bonds differ from those of the instance in their couplings alone, whose sizes fit
+pub record HasSameEnds (inst : Ising) (bonds : List Bond) : Type 0 where
+  pub count : length bonds ≡ bond_count inst
+  pub first : (k : ℕ) → (bond_at (with_bonds inst bonds) k).u ≡ (bond_at inst k).u
+  pub second : (k : ℕ) → (bond_at (with_bonds inst bonds) k).v ≡ (bond_at inst k).v
+  pub sizes : All (λ (b : Bond). unsigned_abs b.j < 2 ^ 63) bonds

@@ -1,0 +1,33 @@
+-- Spins that paths of bonds join.
+use Rattle.std.specs.Prelude.{◌≡◌, ◌⊎◌, ℕ, ◌<◌, Bool, true, List, [], ◌∷◌}
+use Rattle.sg_model.specs.Ising.{Ising, bond_at, bond_count}
+
+-- a bond of the set joins the spins a and b
+pub record JoinedBy (inst : Ising) (bonds : ℕ → Bool) (a b : ℕ) : Type 0 where
+  pub bond : ℕ
+  pub below : bond < bond_count inst
+  pub in_set : bonds bond ≡ true
+  pub ends : (((bond_at inst bond).u ≡ a) × ((bond_at inst bond).v ≡ b)) ⊎ (((bond_at inst bond).u ≡ b) × ((bond_at inst bond).v ≡ a))
+
+-- from spin a through the spins of the list, the last of which is b, each step over a bond of the set
+abbrev pub IsWalk : Ising → (ℕ → Bool) → ℕ → List ℕ → ℕ → Type 0
+IsWalk inst bonds a [] b = a ≡ b
+IsWalk inst bonds a (c ∷ cs) b = JoinedBy inst bonds a c × IsWalk inst bonds c cs b
+
+-- spin b is reached from spin a over bonds of the set
+abbrev pub Reached : Ising → (ℕ → Bool) → ℕ → ℕ → Type 0
+Reached inst bonds a b = (path : List ℕ) × IsWalk inst bonds a path b
+
+-- the set of all bonds
+abbrev pub all_bonds : ℕ → Bool
+all_bonds _ = true
+
+-- each spin is reached from spin 0
+abbrev pub IsConnected : Ising → Type 0
+IsConnected inst = (i : ℕ) → i < inst.n → Reached inst all_bonds 0 i
+
+-- the least spin that is not reached from spin 0
+pub record IsLeastUnreached (inst : Ising) (i : ℕ) : Type 0 where
+  pub below : i < inst.n
+  pub unreached : Reached inst all_bonds 0 i → ⊥
+  pub earlier : (k : ℕ) → k < i → Reached inst all_bonds 0 k

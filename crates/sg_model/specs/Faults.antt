@@ -1,0 +1,20 @@
+-- Why no instance is made of its parts.
+use Rattle.sg_model.specs.declared.refusal.Fault.{Fault}
+use Rattle.sg_model.specs.declared.refusal.Fault.TheVariants.{Refused, NoMemory}
+use Rattle.sg_model.specs.declared.refusal.Refusal.{Refusal}
+use Rattle.sg_model.specs.declared.refusal.Refusal.TheVariants.{BadRotation, BadSeam}
+use Rattle.sg_model.specs.Ising.{Ising}
+use Rattle.sg_model.specs.Rotation.{IsRotation}
+use Rattle.sg_model.specs.BadRotation.{IsBadRotation}
+use Rattle.sg_model.specs.BadSeam.{IsBadSeam}
+
+-- the two refusals: the rotation is tested first, and then the seam
+abbrev pub IsRefusalOf : Ising → Refusal → Type 0
+IsRefusalOf inst (BadRotation spin dart) = IsBadRotation inst spin dart
+IsRefusalOf inst (BadSeam bond) = IsRotation inst × IsBadSeam inst bond
+IsRefusalOf inst _ = ⊥
+
+-- a refusal, or want of memory, which may come at any time
+abbrev pub IsFaultOf : Ising → Fault → Type 0
+IsFaultOf inst (Refused refusal) = IsRefusalOf inst refusal
+IsFaultOf inst NoMemory = Unit {0}

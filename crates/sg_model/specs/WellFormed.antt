@@ -1,0 +1,22 @@
+-- What every instance keeps.
+use Rattle.std.specs.Prelude.{◌≡◌, ◌^◌, ◌≤◌, length, All}
+use Rattle.sg_model.specs.Ising.{Ising, IsBond, bond_count}
+use Rattle.sg_model.specs.Rotation.{IsRotation}
+use Rattle.sg_model.specs.Seam.{IsSeam}
+
+-- one spin or more, bonds between different spins, neither beyond 2^24, a rotation and a seam
+pub record IsInstance (inst : Ising) : Type 0 where
+  pub has_spin : 1 ≤ inst.n
+  pub few_spins : inst.n ≤ 2 ^ 24
+  pub few_bonds : bond_count inst ≤ 2 ^ 24
+  pub joined : All (IsBond inst.n) inst.bonds
+  pub rotation : IsRotation inst
+  pub seam : IsSeam inst
+
+-- what holds of the parts before the rotation and the seam are tested
+pub record IsDraft (inst : Ising) : Type 0 where
+  pub has_spin : 1 ≤ inst.n
+  pub few_spins : inst.n ≤ 2 ^ 24
+  pub few_bonds : bond_count inst ≤ 2 ^ 24
+  pub joined : All (IsBond inst.n) inst.bonds
+  pub lists : length inst.rotation ≡ inst.n

@@ -1,0 +1,35 @@
+-- One element more of a list: the parity of what passes, and that a rising list has not held the next entry before.
+use Rattle.std.proofs.Common.{inl, inr, ◌≡◌, ℕ, zero, suc, ◌+◌, ◌<◌, Bool, false, eqb, List, [], ◌∷◌, take, sym, ◌∙◌, ap, subst, arith, length, get_or}
+use Rattle.std.specs.List.Sorted.{IsStrictlyIncreasing}
+use Rattle.std.proofs.lemmas.Bool.{cases_eq, ne_eqb}
+use Rattle.std.proofs.lemmas.List.{take_more, get_or-take, get_or_default, length-take}
+use Rattle.std.proofs.lemmas.List.Folds.{list_any_none}
+use Rattle.sg_sums.specs.Parity.{xor, parity_by}
+use Rattle.sg_sums.specs.Sets.{holds}
+use Rattle.sg_sums.proofs.ParityLaws.{parity_by-append, xor-false}
+
+pub parity_by_more : {X : Type 0} (p : X → Bool) (xs : List X) (i : ℕ) (d : X) → i < length xs → parity_by p (take (i + 1) xs) ≡ xor (parity_by p (take i xs)) (p (get_or xs i d))
+parity_by_more p xs i d l =
+    ap (parity_by p) (take_more xs i d l)
+    ∙ parity_by-append p (take i xs) (get_or xs i d ∷ [])
+    ∙ ap (xor (parity_by p (take i xs))) (xor-false (p (get_or xs i d)))
+
+-- the entries of a rising list stand in their order
+pub rising_order : (xs : List ℕ) → IsStrictlyIncreasing xs → (i j : ℕ) → i < j → j < length xs → get_or xs i 0 < get_or xs j 0
+rising_order xs up i zero l h = absurd (omega arith)
+rising_order xs up i (suc j) l h =
+    let next : get_or xs j 0 < get_or xs (suc j) 0 = subst (λ n. get_or xs j 0 < get_or xs n 0) (let e : j + 1 ≡ suc j = omega arith in e) (up j (omega arith)) in
+    elim (cases_eq i j) [
+      | inl e ↦ subst (λ n. get_or xs n 0 < get_or xs (suc j) 0) (sym e) next
+      | inr ne ↦ let before : get_or xs i 0 < get_or xs j 0 = rising_order xs up i j (omega arith) (omega arith) in omega arith
+    ]
+
+-- the next entry of a rising list is not among those before it
+pub rising_is_new : (xs : List ℕ) → IsStrictlyIncreasing xs → (j : ℕ) → j < length xs → holds (take j xs) (get_or xs j 0) ≡ false
+rising_is_new xs up j h =
+    list_any_none (λ y. eqb y (get_or xs j 0)) (take j xs)
+    (λ k d l.
+    let below : k < j = omega (arith, length-take j xs) in
+    let same : get_or (take j xs) k d ≡ get_or xs k 0 = get_or-take j xs k d below ∙ get_or_default xs k d 0 (omega arith) in
+    let less : get_or xs k 0 < get_or xs j 0 = rising_order xs up k j below h in
+    ne_eqb (get_or (take j xs) k d) (get_or xs j 0) (λ (e : get_or (take j xs) k d ≡ get_or xs j 0). omega arith))
