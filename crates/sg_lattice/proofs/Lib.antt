@@ -1,0 +1,9 @@
+pub mod Ranks
+pub mod Grids
+pub mod Laid
+pub mod Steps
+pub mod Counts
+pub mod KindSteps
+pub mod LatticeBonds
+pub mod LatticeRotation
+pub mod LatticeSizes

@@ -1,0 +1,267 @@
+ghost use Rattle.std.specs.Prelude.{◌≡◌, ◌<◌, ◌≤◌, ◌+◌, ◌-◌, ◌*◌, ◌/◌, ◌%◌, ◌^◌, [], ◌∷◌, ◌++◌, if◌then◌else◌, map, length, OnOk, IfOk, All, unsigned_abs};
+ghost use Rattle.std.specs.List.{range_with_len};
+ghost use Rattle.sg_lattice.specs.declared.kind.Kind.TheVariants.{Square, Triangular, Hexagonal, Cylinder};
+ghost use Rattle.sg_lattice.specs.Tables.{IsSize, bond_total, coupled, darts, ends_from, ends_of, forth, has_bond, back, lattice, north, north_west, seam_of, starts, west};
+
+use super::NoMemory;
+use super::kind::{Ends, Kind, Step};
+use super::shape::Shape;
+use sg_model::{Bond, BondList, Bonds, Couplings, DartList, Fault, Instance, Rotation};
+use std::alloc::{AllocError, Global};
+
+/// The number of bonds of a lattice. It takes no memory.
+pub fn bond_count(kind: Kind, rows: u32, cols: u32) -> u32
+    requires { IsSize kind rows cols }
+    ensures { result ≡ bond_total kind rows cols }
+{
+    Shape::new(kind, rows, cols).bond_total()
+}
+
+/// The lattice with these couplings, which follow the order of the bonds, in time linear in the
+/// spins. Its seam is that of the cylinder, and empty otherwise.
+///
+/// # Errors
+/// Only want of memory; the couplings are then dropped.
+pub fn build(
+    alloc: Global,
+    kind: Kind,
+    rows: u32,
+    cols: u32,
+    j: Couplings,
+) -> Result<Instance, NoMemory>
+    requires size { IsSize kind rows cols }
+    requires count { length j ≡ bond_total kind rows cols }
+    requires sizes { All (λ z. unsigned_abs z < 2 ^ 63) j }
+    ensures { IfOk result (λ inst. inst ≡ lattice kind rows cols j) }
+{
+    Shape::new(kind, rows, cols).lattice(alloc, &j)
+}
+
+/// The square lattice: `build` for `Kind::Square`.
+pub fn square(alloc: Global, rows: u32, cols: u32, j: Couplings) -> Result<Instance, NoMemory>
+    requires size { IsSize Square rows cols }
+    requires count { length j ≡ bond_total Square rows cols }
+    requires sizes { All (λ z. unsigned_abs z < 2 ^ 63) j }
+    ensures { IfOk result (λ inst. inst ≡ lattice Square rows cols j) }
+{
+    build(alloc, Kind::Square, rows, cols, j)
+}
+
+/// The triangular lattice: `build` for `Kind::Triangular`.
+pub fn triangular(alloc: Global, rows: u32, cols: u32, j: Couplings) -> Result<Instance, NoMemory>
+    requires size { IsSize Triangular rows cols }
+    requires count { length j ≡ bond_total Triangular rows cols }
+    requires sizes { All (λ z. unsigned_abs z < 2 ^ 63) j }
+    ensures { IfOk result (λ inst. inst ≡ lattice Triangular rows cols j) }
+{
+    build(alloc, Kind::Triangular, rows, cols, j)
+}
+
+/// The hexagonal lattice: `build` for `Kind::Hexagonal`.
+pub fn hexagonal(alloc: Global, rows: u32, cols: u32, j: Couplings) -> Result<Instance, NoMemory>
+    requires size { IsSize Hexagonal rows cols }
+    requires count { length j ≡ bond_total Hexagonal rows cols }
+    requires sizes { All (λ z. unsigned_abs z < 2 ^ 63) j }
+    ensures { IfOk result (λ inst. inst ≡ lattice Hexagonal rows cols j) }
+{
+    build(alloc, Kind::Hexagonal, rows, cols, j)
+}
+
+/// The cylinder: `build` for `Kind::Cylinder`.
+pub fn cylinder(alloc: Global, rows: u32, cols: u32, j: Couplings) -> Result<Instance, NoMemory>
+    requires size { IsSize Cylinder rows cols }
+    requires count { length j ≡ bond_total Cylinder rows cols }
+    requires sizes { All (λ z. unsigned_abs z < 2 ^ 63) j }
+    ensures { IfOk result (λ inst. inst ≡ lattice Cylinder rows cols j) }
+{
+    build(alloc, Kind::Cylinder, rows, cols, j)
+}
+
+// The bonds between these ends, with these couplings.
+fn couple(alloc: Global, ends: &[Ends], j: &Couplings) -> Result<Bonds, NoMemory>
+    requires { length ends.now ≤ length j.now }
+    ensures { IfOk result (λ bonds. bonds ≡ coupled ends.now j.now) }
+{
+    let mut bonds = Bonds::new(alloc);
+    for (k, pair) in ends.iter().enumerate() {
+        bonds.push(Bond {
+            u: pair.u,
+            v: pair.v,
+            j: j.at(k),
+        })?;
+    }
+    Ok(bonds)
+}
+
+impl Shape {
+    // The whole instance. Its parts are a rotation and a seam, so that only memory may be wanting.
+    fn lattice(self, alloc: Global, j: &Couplings) -> Result<Instance, NoMemory>
+        requires count { length j.now ≡ bond_total self.kind self.rows self.cols }
+        requires sizes { All (λ z. unsigned_abs z < 2 ^ 63) j.now }
+        ensures { IfOk result (λ inst. inst ≡ lattice self.kind self.rows self.cols j.now) }
+    {
+        let bonds = self.bonds(alloc, j)?;
+        let rotation = self.rotation(alloc)?;
+        let seam = self.seam(alloc)?;
+        match Instance::new(alloc, self.spins(), bonds, rotation, seam) {
+            Ok(lattice) => Ok(lattice),
+            Err(Fault::NoMemory) => Err(AllocError),
+            Err(Fault::Refused(_)) => unreachable!(),
+        }
+    }
+
+    fn bonds(self, alloc: Global, j: &Couplings) -> Result<Bonds, NoMemory>
+        requires { length j.now ≡ bond_total self.kind self.rows self.cols }
+        ensures { IfOk result (λ bonds. bonds ≡ coupled (ends_of self.kind self.rows self.cols) j.now) }
+    {
+        let ends = self.ends(alloc)?;
+        couple(alloc, &ends, j)
+    }
+
+    // The ends of all bonds.
+    fn ends(self, alloc: Global) -> Result<Vec<Ends>, NoMemory>
+        ensures { IfOk result (λ ends. ends.items ≡ ends_of self.kind self.rows self.cols) }
+    {
+        let mut ends = Vec::new(alloc);
+        self.push_ends(Step::East, &mut ends)?;
+        self.push_ends(Step::South, &mut ends)?;
+        self.push_ends(Step::SouthEast, &mut ends)?;
+        Ok(ends)
+    }
+
+    // Adds the ends of the bonds of one step.
+    fn push_ends(self, step: Step, ends: &mut Vec<Ends>) -> Result<(), NoMemory>
+        ensures { OnOk result (ends.new.items ≡ ends.old.items
+            ++ map (ends_from self.kind step self.rows self.cols) (starts self.kind step self.rows self.cols)) }
+    {
+        for i in 0..self.spins() {
+            self.push_ends_from(step, i, ends)?;
+        }
+        Ok(())
+    }
+
+    // Adds the ends of the bond of this step that runs from spin `i`, if there is one.
+    fn push_ends_from(self, step: Step, i: u32, ends: &mut Vec<Ends>) -> Result<(), NoMemory>
+        requires { i < self.rows * self.cols }
+        ensures { OnOk result (ends.new.items ≡ ends.old.items
+            ++ (if has_bond self.kind step self.rows self.cols (i / self.cols) (i % self.cols)
+            then ends_from self.kind step self.rows self.cols i ∷ [] else [])) }
+    {
+        let r = i / self.cols;
+        let c = i % self.cols;
+        if self.has_bond(step, r, c) {
+            ends.push(Ends {
+                u: i,
+                v: self.neighbour(step, r, c),
+            })?;
+        }
+        Ok(())
+    }
+
+    // The darts of each spin.
+    fn rotation(self, alloc: Global) -> Result<Rotation, NoMemory>
+        ensures { IfOk result (λ rotation. rotation ≡
+            map (λ i. darts self.kind self.rows self.cols (i / self.cols) (i % self.cols)) (range_with_len 0 (self.rows * self.cols))) }
+    {
+        let mut rotation = Rotation::new(alloc);
+        for i in 0..self.spins() {
+            rotation.push(self.darts(alloc, i / self.cols, i % self.cols)?)?;
+        }
+        Ok(rotation)
+    }
+
+    // The darts of one spin.
+    fn darts(self, alloc: Global, r: u32, c: u32) -> Result<DartList, NoMemory>
+        requires row { r < self.rows }
+        requires col { c < self.cols }
+        ensures { IfOk result (λ list. list ≡ darts self.kind self.rows self.cols r c) }
+    {
+        let mut list = DartList::new(alloc);
+        self.push_forth(&mut list, Step::East, r, c)?;
+        self.push_north(&mut list, r, c)?;
+        self.push_north_west(&mut list, r, c)?;
+        self.push_west(&mut list, r, c)?;
+        self.push_forth(&mut list, Step::South, r, c)?;
+        self.push_forth(&mut list, Step::SouthEast, r, c)?;
+        Ok(list)
+    }
+
+    fn push_forth(self, list: &mut DartList, step: Step, r: u32, c: u32) -> Result<(), NoMemory>
+        requires row { r < self.rows }
+        requires col { c < self.cols }
+        ensures { OnOk result (list.new ≡ list.old ++ forth self.kind step self.rows self.cols r c) }
+    {
+        if self.has_bond(step, r, c) {
+            list.push(2 * self.bond_number(step, r, c))?;
+        }
+        Ok(())
+    }
+
+    fn push_back(self, list: &mut DartList, step: Step, r: u32, c: u32) -> Result<(), NoMemory>
+        requires row { r < self.rows }
+        requires col { c < self.cols }
+        ensures { OnOk result (list.new ≡ list.old ++ back self.kind step self.rows self.cols r c) }
+    {
+        if self.has_bond(step, r, c) {
+            list.push(2 * self.bond_number(step, r, c) + 1)?;
+        }
+        Ok(())
+    }
+
+    fn push_north(self, list: &mut DartList, r: u32, c: u32) -> Result<(), NoMemory>
+        requires row { r < self.rows }
+        requires col { c < self.cols }
+        ensures { OnOk result (list.new ≡ list.old ++ north self.kind self.rows self.cols r c) }
+    {
+        if r >= 1 {
+            self.push_back(list, Step::South, r - 1, c)?;
+        }
+        Ok(())
+    }
+
+    fn push_north_west(self, list: &mut DartList, r: u32, c: u32) -> Result<(), NoMemory>
+        requires row { r < self.rows }
+        requires col { c < self.cols }
+        ensures { OnOk result (list.new ≡ list.old ++ north_west self.kind self.rows self.cols r c) }
+    {
+        if r >= 1 && c >= 1 {
+            self.push_back(list, Step::SouthEast, r - 1, c - 1)?;
+        }
+        Ok(())
+    }
+
+    fn push_west(self, list: &mut DartList, r: u32, c: u32) -> Result<(), NoMemory>
+        requires row { r < self.rows }
+        requires col { c < self.cols }
+        ensures { OnOk result (list.new ≡ list.old ++ west self.kind self.rows self.cols r c) }
+    {
+        if c >= 1 {
+            return self.push_back(list, Step::East, r, c - 1);
+        }
+        match self.kind {
+            Kind::Cylinder => self.push_back(list, Step::East, r, self.cols - 1),
+            Kind::Square | Kind::Triangular | Kind::Hexagonal => Ok(()),
+        }
+    }
+
+    // The bonds from the last column to the first.
+    fn seam(self, alloc: Global) -> Result<BondList, NoMemory>
+        ensures { IfOk result (λ seam. seam ≡ seam_of self.kind self.rows self.cols) }
+    {
+        match self.kind {
+            Kind::Cylinder => self.round_seam(alloc),
+            Kind::Square | Kind::Triangular | Kind::Hexagonal => Ok(BondList::new(alloc)),
+        }
+    }
+
+    fn round_seam(self, alloc: Global) -> Result<BondList, NoMemory>
+        ensures { IfOk result (λ seam. seam ≡
+            map (λ r. r * self.cols + (self.cols - 1)) (range_with_len 0 self.rows)) }
+    {
+        let mut seam = BondList::new(alloc);
+        for r in 0..self.rows {
+            seam.push(self.area(r, self.cols) + (self.cols - 1))?;
+        }
+        Ok(seam)
+    }
+}
