@@ -1,105 +1,124 @@
--- The bonds of square lattices.
-use Rattle.std.proofs.Common.{◌≡◌, ℕ, zero, suc, ◌+◌, ◌-◌, ◌*◌, ◌<◌, ◌≤◌, ◌^◌, ℤ, pos, List, [], ◌∷◌, ◌++◌, length, map, refl, sym, ap, ◌∙◌, arith, negsuc, Some, None, inl, inr}
-use Rattle.std.specs.Prelude.{◌&&◌, nat_le, slice_index_or, unsigned_abs}
-use Rattle.std.proofs.lemmas.Bool.{cases_Bool}
-use Rattle.std.proofs.lemmas.Bool.Decides.{nat_tests}
-use Rattle.sg_reader.specs.SquareForm.{small_shape}
-use Rattle.std.specs.List.{All, flat_map, range_with_len}
-use Rattle.std.proofs.lemmas.Nat.{mul-le, mul-add-lt}
-use Rattle.std.proofs.lemmas.List.{flat_map_more, get_or_past, length-append}
-use Rattle.std.proofs.lemmas.List.Elements.{All-nil, All-cons, All-append, All-map, All-get_or}
-use Rattle.std.proofs.lemmas.List.FromFn.{length-map-range_with_len}
-use Rattle.std.proofs.Math.Nat.{suc-mul}
-use native.Mathlib.Decide.{dec_lt}
-use Rattle.sg_model.specs.Ising.{IsBond}
-use Rattle.sg_reader.specs.SquareLattice.{bond_with, column_bonds, row_bonds, square_bonds}
+-- The records of a lattice behind the first, up to its `end`.
+use Rattle.std.proofs.Common.{◌≡◌, ℕ, ℤ, ◌+◌, ◌-◌, ◌<◌, ◌≤◌, ◌^◌, Bool, true, false, List, [], ◌∷◌, ◌++◌, length, Option, Some, None, refl, sym, ap, ◌∙◌, arith, inl, inr, append_assoc, codes}
+use Rattle.std.specs.Prelude.{is_some}
+use Rattle.std.specs.List.{list_any, sum_by}
+use Rattle.std.specs.Str.{bytes_eq}
+use Rattle.std.proofs.lemmas.Bool.{cases_Bool, false≢true}
+use Rattle.std.proofs.lemmas.List.Sums.{sum_by-cons}
+use Rattle.std.proofs.lemmas.Option.{none-some}
+use Rattle.std.proofs.lemmas.Slice.Eq.{bytes_eq-Decides}
+use Rattle.sg_model.specs.declared.refusal.Refusal.{Refusal}
+use Rattle.sg_lattice.specs.declared.kind.Kind.{Kind}
+use Rattle.sg_lattice.specs.Tables.{bond_total, lattice}
+use Rattle.sg_model.specs.Ising.{Ising}
+use Rattle.sg_reader.specs.declared.header.Header.{Header}
+use Rattle.sg_reader.specs.declared.header.Header.TheVariants as header
+use Rattle.sg_reader.specs.declared.lattice.LatticeBody.{LatticeBody}
+use Rattle.sg_reader.specs.Kept.{Kept, field}
+use Rattle.sg_reader.specs.Tests.{any_number, bad_number}
+use Rattle.sg_reader.specs.Body.{couplings_in, instance_of, is_end, is_seam, lattice_end_fault, lattice_fault, numbers_from, record_fault, reseamed, seam_fault, seam_in, sizes_from}
+use Rattle.sg_reader.specs.ReadInstance.{IsBody, IsEnded}
+use Rattle.sg_reader.specs.Holds.{HoldsLattice}
+use Rattle.sg_reader.proofs.BodyLaws.{IsBody-more, IsBody-none, couplings_in-more, couplings_in-seam, seam_in-first, seam_in-other, seam_in-seen}
+use Rattle.sg_reader.proofs.RecordCounts.{field_total}
 
--- row r of n rows of m places ends with them at the latest
-pub row-end : (r n m : ℕ) → r < n → r * m + m ≤ n * m
-row-end r n m h = let e : (r + 1) * m ≡ r * m + m = grind arith in let le = mul-le (r + 1) m n m (omega arith) (omega arith) in omega arith
+-- which test a record of a lattice meets
+pub lattice_fault-seam : (wanted : ℕ) (body : List Kept) (r : Kept) → is_seam r ≡ true → lattice_fault wanted body r ≡ seam_fault (list_any is_seam body) r
+unfolding lattice_fault
+lattice_fault-seam wanted body r h = rw h refl
 
--- the spin below
-pub spin-below : (r cols c : ℕ) → r * cols + c + cols ≡ (r + 1) * cols + c
-spin-below r cols c = let e : (r + 1) * cols ≡ r * cols + cols = grind arith in omega arith
+pub lattice_fault-couplings : (wanted : ℕ) (body : List Kept) (r : Kept) → is_seam r ≡ false → is_end r ≡ false
+    → lattice_fault wanted body r ≡ bad_number r 0 (λ i. any_number)
+unfolding lattice_fault
+lattice_fault-couplings wanted body r h e = rw (h, e) refl
 
--- a side that is none is no shape
-pub small_shape-no_rows : (a b : ℤ) → ((n : ℕ) → a ≡ pos n → 1 ≤ n → n ≤ 16 → ⊥) → small_shape (Some a) (Some b) ≡ None
-small_shape-no_rows (negsuc m) b h = refl
-small_shape-no_rows (pos m) (negsuc n) h = refl
-small_shape-no_rows (pos m) (pos n) h = elim (cases_Bool (nat_le 1 m && nat_le 1 n && nat_le (m * n) 16)) [
-  | inl e ↦
-      let low : 1 ≤ m = grind (arith, nat_tests) in
-      let col : 1 ≤ n = grind (arith, nat_tests) in
-      let few : m * n ≤ 16 = grind (arith, nat_tests) in
-      let wide = mul-le m 1 m n (omega arith) col in
-      let one : m * 1 ≡ m = grind arith in
-      absurd (h m refl low (omega arith))
-  | inr e ↦ rw e refl
-]
+-- `end` is no seam
+end-no_seam : (r : Kept) → is_end r ≡ true → is_seam r ≡ false
+end-no_seam r h = let word = (bytes_eq-Decides (field r 0) (codes "end")).0 h in ap (λ (w : List ℕ). bytes_eq w (codes "seam")) word
 
--- one more row
-range_with_len-more : (a n : ℕ) → range_with_len a (n + 1) ≡ range_with_len a n ++ (a + n) ∷ []
-range_with_len-more a zero = let e : a + 0 ≡ a = omega arith in rw e refl
-range_with_len-more a (suc n) =
-    let count : suc n + 1 ≡ suc (n + 1) = omega arith in
-    let last : a + 1 + n ≡ a + suc n = omega arith in
-    rw count (ap (λ (rs : List ℕ). a ∷ rs) (range_with_len-more (a + 1) n ∙ ap (λ (k : ℕ). range_with_len (a + 1) n ++ k ∷ []) last))
+pub lattice_fault-end : (wanted : ℕ) (body : List Kept) (r : Kept) → is_end r ≡ true
+    → lattice_fault wanted body r ≡ lattice_end_fault wanted (length (couplings_in body)) r
+unfolding lattice_fault
+lattice_fault-end wanted body r h = rw (end-no_seam r h, h) refl
 
-pub flat_map-range_more : {X : Type 0} (f : ℕ → List X) (before : List X) (n : ℕ)
-    → (before ++ flat_map f (range_with_len 0 n)) ++ f n ≡ before ++ flat_map f (range_with_len 0 (n + 1))
-flat_map-range_more f before n =
-    let zero_on : 0 + n ≡ n = omega arith in
-    flat_map_more f before (range_with_len 0 n) n ∙ ap (λ (rs : List ℕ). before ++ flat_map f rs) (sym (range_with_len-more 0 n ∙ ap (λ (k : ℕ). range_with_len 0 n ++ k ∷ []) zero_on))
+pub instance_of-lattice : (kind : Kind) (rows cols : ℕ) (body : List Kept)
+    → instance_of (header.Lattice kind rows cols) body ≡ reseamed (seam_in body) (lattice kind rows cols (couplings_in body))
+unfolding instance_of
+instance_of-lattice kind rows cols body = refl
 
--- how many bonds there are
-length-grid : {X : Type 0} (b : ℕ → ℕ → X) (m a n : ℕ) → length (flat_map (λ r. map (b r) (range_with_len 0 m)) (range_with_len a n)) ≡ n * m
-length-grid b m a zero = let e : 0 * m ≡ 0 = grind arith in sym e
-length-grid b m a (suc n) =
-    let row = length-map-range_with_len (b a) 0 m in
-    let rest = length-grid b m (a + 1) n in
-    let both = length-append (map (b a) (range_with_len 0 m)) (flat_map (λ r. map (b r) (range_with_len 0 m)) (range_with_len (a + 1) n)) in
-    let product = suc-mul n m in
-    omega (arith, row, rest, both, product)
+-- whether a seam was seen
+pub seen-seam : (body : List Kept) (state : LatticeBody) → HoldsLattice body state → is_some state.seam ≡ list_any is_seam body
+seen-seam body state h = ap is_some h.bonds ∙ seam_in-seen body
 
-pub length-square_bonds : (rows cols : ℕ) (couplings : List ℤ) → length (square_bonds rows cols couplings) ≡ rows * (cols - 1) + (rows - 1) * cols
-unfolding row_bonds column_bonds
-length-square_bonds rows cols couplings =
-    let in_rows = length-grid (λ r c. bond_with couplings (r * (cols - 1) + c) (r * cols + c) (r * cols + c + 1)) (cols - 1) 0 rows in
-    let in_cols = length-grid (λ r c. bond_with couplings (rows * (cols - 1) + r * cols + c) (r * cols + c) ((r + 1) * cols + c)) cols 0 (rows - 1) in
-    let both = length-append (row_bonds rows cols couplings) (column_bonds rows cols couplings) in
-    omega (arith, in_rows, in_cols, both)
+pub seam_fault-passes : (seen : Bool) (r : Kept) → seam_fault seen r ≡ None → seen ≡ false
+seam_fault-passes true r h = absurd (none-some _ (sym h))
+seam_fault-passes false r h = refl
 
--- what holds at each place of a range, and at each place of a grid
-All-range : (Q : ℕ → Type 0) (a n : ℕ) → ((k : ℕ) → a ≤ k → k < a + n → Q k) → All Q (range_with_len a n)
-All-range Q a zero h = All-nil Q
-All-range Q a (suc n) h = All-cons Q a (range_with_len (a + 1) n) (h a (omega arith) (omega arith)) (All-range Q (a + 1) n (λ k low high. h k (omega arith) (omega arith)))
+-- what is kept behind one more record
+pub holds-seam : (body : List Kept) (r : Kept) (old new : LatticeBody) → HoldsLattice body old → is_seam r ≡ true → is_some old.seam ≡ false
+    → new.couplings ≡ old.couplings → new.seam ≡ Some (sizes_from r 1) → HoldsLattice (body ++ r ∷ []) new
+holds-seam body r old new h seam first same bonds = record {
+  couplings = same ∙ h.couplings ∙ sym (couplings_in-seam body r seam);
+  bonds = bonds ∙ sym (seam_in-first body r (sym (seen-seam body old h) ∙ first) seam);
+}
 
-All-grid : {X : Type 0} (P : X → Type 0) (b : ℕ → ℕ → X) (m a n : ℕ) → ((r c : ℕ) → a ≤ r → r < a + n → c < m → P (b r c))
-    → All P (flat_map (λ r. map (b r) (range_with_len 0 m)) (range_with_len a n))
-All-grid P b m a zero h = All-nil P
-All-grid P b m a (suc n) h =
-    All-append P (map (b a) (range_with_len 0 m)) (flat_map (λ r. map (b r) (range_with_len 0 m)) (range_with_len (a + 1) n))
-    (All-map P (b a) (range_with_len 0 m) (All-range (λ c. P (b a c)) 0 m (λ c low high. h a c (omega arith) (omega arith) (omega arith))))
-    (All-grid P b m (a + 1) n (λ r c low high inside. h r c (omega arith) (omega arith) inside))
+pub holds-couplings : (body : List Kept) (r : Kept) (old new : LatticeBody) → HoldsLattice body old → is_seam r ≡ false
+    → new.couplings ≡ old.couplings ++ numbers_from r 0 → new.seam ≡ old.seam → HoldsLattice (body ++ r ∷ []) new
+holds-couplings body r old new h other added same = record {
+  couplings = added ∙ ap (λ (l : List ℤ). l ++ numbers_from r 0) h.couplings ∙ sym (couplings_in-more body r other);
+  bonds = same ∙ h.bonds ∙ sym (seam_in-other body r other);
+}
 
--- the coupling of a bond fits
-small-coupling : (couplings : List ℤ) (k : ℕ) → All (λ j. unsigned_abs j < 2 ^ 63) couplings → unsigned_abs (slice_index_or couplings k (pos 0)) < 2 ^ 63
-small-coupling couplings k h = elim (dec_lt k (length couplings)) [
-  | yes inside ↦ All-get_or (λ j. unsigned_abs j < 2 ^ 63) couplings k (pos 0) inside h
-  | no outside ↦ rw (get_or_past couplings k (pos 0) (omega arith)) (omega arith)
-]
+-- the records so far, which are the body, and what is left of all of them
+pub record LatticeSoFar (head : Header) (all left : List Kept) (state : LatticeBody) : Type 0 where
+  pub body : List Kept
+  pub split : all ≡ body ++ left
+  pub is_body : IsBody head body
+  pub holds : HoldsLattice body state
+  pub few : length state.couplings + field_total left < 2 ^ 32
 
--- each bond joins two spins of the lattice
-pub square_bonds-joined : (rows cols : ℕ) (couplings : List ℤ) → All (λ j. unsigned_abs j < 2 ^ 63) couplings → All (IsBond (rows * cols)) (square_bonds rows cols couplings)
-unfolding row_bonds column_bonds
-square_bonds-joined rows cols couplings h =
-    All-append (IsBond (rows * cols)) (row_bonds rows cols couplings) (column_bonds rows cols couplings)
-    (All-grid (IsBond (rows * cols)) (λ r c. bond_with couplings (r * (cols - 1) + c) (r * cols + c) (r * cols + c + 1)) (cols - 1) 0 rows (λ r c low high inside.
-    let here = mul-add-lt r cols c rows (omega arith) (omega arith) in
-    let there = mul-add-lt r cols (c + 1) rows (omega arith) (omega arith) in
-    record { first_end = omega arith; second_end = omega arith; ends_differ = λ e. absurd (omega (arith, e)); size = small-coupling couplings (r * (cols - 1) + c) h }))
-    (All-grid (IsBond (rows * cols)) (λ r c. bond_with couplings (rows * (cols - 1) + r * cols + c) (r * cols + c) ((r + 1) * cols + c)) cols 0 (rows - 1) (λ r c low high inside.
-    let here = mul-add-lt r cols c rows (omega arith) (omega arith) in
-    let there = mul-add-lt (r + 1) cols c rows (omega arith) (omega arith) in
-    let below = spin-below r cols c in
-    record { first_end = omega arith; second_end = omega arith; ends_differ = λ e. absurd (omega (arith, e)); size = small-coupling couplings (rows * (cols - 1) + r * cols + c) h }))
+pub one-more : (head : Header) (all left rest : List Kept) (r : Kept) (old new : LatticeBody) → (sf : LatticeSoFar head all left old) → left ≡ r ∷ rest
+    → is_end r ≡ false → record_fault head sf.body r ≡ None → HoldsLattice (sf.body ++ r ∷ []) new
+    → length new.couplings ≤ length old.couplings + length r.fields → LatticeSoFar head all rest new
+one-more head all left rest r old new sf next other good holds count =
+    let total : field_total left ≡ length r.fields + field_total rest = ap field_total next ∙ sum_by-cons (λ (q : Kept). length q.fields) r rest in
+    let few = sf.few in
+    record {
+      body = sf.body ++ r ∷ [];
+      split = sf.split ∙ ap (λ (l : List Kept). sf.body ++ l) next ∙ sym (append_assoc sf.body (r ∷ []) rest);
+      is_body = IsBody-more head sf.body r sf.is_body other good;
+      holds = holds;
+      few = omega (arith, total, few, count);
+    }
+
+pub none-yet : (head : Header) (all : List Kept) (state : LatticeBody) → state.couplings ≡ [] → state.seam ≡ None → field_total all < 2 ^ 32 → LatticeSoFar head all all state
+unfolding couplings_in seam_in
+none-yet head all state couplings bonds few =
+    let count = ap length couplings in
+    record {
+      body = [];
+      split = refl;
+      is_body = IsBody-none head;
+      holds = record { couplings = couplings; bonds = bonds };
+      few = omega (arith, count, few);
+    }
+
+-- the record that ends the lattice
+pub ended-lattice : (kind : Kind) (rows cols : ℕ) (all left rest : List Kept) (r : Kept) (state : LatticeBody) (sf : LatticeSoFar (header.Lattice kind rows cols) all left state)
+    → left ≡ r ∷ rest → is_end r ≡ true → lattice_end_fault (bond_total kind rows cols) (length state.couplings) r ≡ None
+    → IsEnded (header.Lattice kind rows cols) all sf.body r
+ended-lattice kind rows cols all left rest r state sf next end pass = record {
+  more = rest;
+  split = sf.split ∙ ap (λ (l : List Kept). sf.body ++ l) next;
+  is_body = sf.is_body;
+  ends = end;
+  passes = lattice_fault-end (bond_total kind rows cols) sf.body r end
+      ∙ ap (λ (js : List ℤ). lattice_end_fault (bond_total kind rows cols) (length js) r) (sym sf.holds.couplings) ∙ pass;
+}
+
+pub instance-lattice : (kind : Kind) (rows cols : ℕ) (body : List Kept) (state : LatticeBody) → HoldsLattice body state
+    → reseamed state.seam (lattice kind rows cols state.couplings) ≡ instance_of (header.Lattice kind rows cols) body
+instance-lattice kind rows cols body state h =
+    ap (λ (s : Option (List ℕ)). reseamed s (lattice kind rows cols state.couplings)) h.bonds
+    ∙ ap (λ (js : List ℤ). reseamed (seam_in body) (lattice kind rows cols js)) h.couplings
+    ∙ sym (instance_of-lattice kind rows cols body)

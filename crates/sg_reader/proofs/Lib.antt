@@ -1,7 +1,13 @@
 pub mod NumberLaws
 pub mod RecordLaws
 mod CursorLaws
+pub mod FieldLaws
+pub mod TestLaws
+pub mod BodyLaws
 pub mod LatticeLaws
-pub mod FormLaws
-pub mod FormInstance
-mod WorkedTexts
+pub mod GeneralLaws
+pub mod ReadLaws
+pub mod HeaderLaws
+pub mod RecordCounts
+mod WorkedRecords
+pub mod SmallReads

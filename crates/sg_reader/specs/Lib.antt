@@ -1,5 +1,12 @@
 pub mod Number
 pub mod Records
 pub mod Cursor
-pub mod SquareLattice
-pub mod SquareForm
+pub mod Field
+pub mod Kept
+pub mod Tests
+pub mod Header
+pub mod Body
+pub mod ReadInstance
+pub mod NoMore
+pub mod Holds
+pub mod GeneralHolds

@@ -1,135 +1,120 @@
-ghost use Rattle.std.specs.Prelude.{◌≡◌, ℕ, ◌+◌, ◌*◌, ◌<◌, ◌≤◌, ◌^◌, ◌++◌, length, map, pos, Some, OnOk, IfOk, IfSome, IsNone};
-ghost use Rattle.std.specs.List.{range_with_len};
-ghost use Rattle.sg_reader.specs.SquareForm.{small_shape as small_shape_of};
-ghost use Rattle.sg_reader.specs.SquareLattice.{IsSmall, bond_with, bonds_in, column_bonds, row_bonds, square_bonds as bonds_of};
+ghost use Rattle.std.specs.Prelude.{◌≡◌, ◌<◌, ◌≤◌, ◌+◌, ◌++◌, ◌∷◌, [], ◌^◌, ℕ, List, false, true, None, Some, length, All, IfOk, IfErr, OnOk, unsigned_abs};
+ghost use Rattle.std.specs.List.{sum_by};
+ghost use Rattle.sg_model.specs.Faults.{IsFaultOf};
+ghost use Rattle.sg_model.specs.WellFormed.{IsInstance};
+ghost use Rattle.sg_lattice.specs.Tables.{IsSize, bond_total, lattice};
+ghost use Rattle.sg_reader.specs.declared.header.Header.TheVariants as header;
+ghost use Rattle.sg_reader.specs.Kept.{Kept};
+ghost use Rattle.sg_reader.specs.Tests.{IsTestFault};
+ghost use Rattle.sg_reader.specs.Body.{is_end, lattice_end_fault, lattice_fault, reseamed};
+ghost use Rattle.sg_reader.specs.ReadInstance.{IsBodyFault, ReadsBody};
+ghost use Rattle.sg_reader.specs.Holds.{HoldsLattice};
 
-use super::NoMemory;
-use sg_model::{Bond, Bonds, Couplings};
+use super::body::{END, SEAM, push_couplings, seam};
+use super::row::Row;
+use super::rows::Rows;
+use sg_lattice::{Kind, bond_count, build};
+use sg_model::{BondList, Couplings, Fault, Instance, Refusal};
 use std::alloc::Global;
 
-/// The sides of a square lattice.
-#[derive(Clone, Copy, Debug)]
-pub struct Shape {
-    pub rows: u32,
-    pub cols: u32,
+/// What the records of a lattice have given so far.
+#[derive(Drop)]
+pub(crate) struct LatticeBody {
+    couplings: Couplings,
+    seam: Option<BondList>,
 }
 
-impl Shape {
-    /// The number of spins.
-    pub fn spins(self) -> u32
-        requires { IsSmall self }
-        ensures { result ≡ self.rows * self.cols }
+impl LatticeBody {
+    /// Takes a record that is not the `end`.
+    fn take(&mut self, alloc: Global, row: &Row) -> Result<(), Fault>
+        requires { is_end row.now ≡ false }
+        ensures passes { OnOk result ((body : List Kept) (wanted : ℕ) → HoldsLattice body self.old → lattice_fault wanted body row.now ≡ None) }
+        ensures holds { OnOk result ((body : List Kept) → HoldsLattice body self.old → HoldsLattice (body ++ row.now ∷ []) self.new) }
+        ensures count { OnOk result (length self.new.couplings ≤ length self.old.couplings + length row.now.fields) }
+        ensures fault { IfErr result (λ e. (body : List Kept) (wanted : ℕ) → HoldsLattice body self.old → IsTestFault (lattice_fault wanted body row.now) e) }
     {
-        self.rows * self.cols
-    }
-
-    /// The number of bonds.
-    pub fn bonds(self) -> u32
-        requires { IsSmall self }
-        ensures { result ≡ bonds_in self }
-    {
-        self.rows * (self.cols - 1) + (self.rows - 1) * self.cols
+        if row.begins(SEAM) {
+            let bonds = seam(alloc, row, self.seam.is_some())?;
+            self.seam = Some(bonds);
+            return Ok(());
+        }
+        push_couplings(&mut self.couplings, row)
     }
 }
 
-/// A side of 1 to 16 spins.
-fn side(length: i64) -> Option<u32>
-    ensures some { IfSome result (λ n. (length ≡ pos n) × (1 ≤ n) × (n ≤ 16)) }
-    ensures none { IsNone result → (n : ℕ) → length ≡ pos n → 1 ≤ n → n ≤ 16 → ⊥ }
+// The tests of the record `end`, where `found` couplings stand before it.
+fn end_lattice(row: &Row, found: u32, wanted: u32) -> Result<(), Refusal>
+    ensures passes { OnOk result (lattice_end_fault wanted found row.now ≡ None) }
+    ensures count { OnOk result (found ≡ wanted) }
+    ensures refused { IfErr result (λ e. lattice_end_fault wanted found row.now ≡ Some e) }
 {
-    if 1 <= length && length <= 16 {
-        Some(length as u32)
-    } else {
-        None
+    if row.len() != 1 {
+        return Err(Refusal::BadShape { at: row.at() });
     }
-}
-
-/// The shape of these sides, where each is 1 or more and the spins are at most 16.
-pub fn small_shape(rows: i64, cols: i64) -> Option<Shape>
-    ensures value { result ≡ small_shape_of (Some rows) (Some cols) }
-    ensures small { IfSome result IsSmall }
-{
-    let rows = side(rows)?;
-    let cols = side(cols)?;
-    if rows * cols <= 16 {
-        Some(Shape { rows, cols })
-    } else {
-        None
-    }
-}
-
-/// Adds `count` bonds in a line, from `spin` on, each to the spin `step` further, with the couplings
-/// from number `first` on.
-fn push_line(
-    bonds: &mut Bonds,
-    couplings: &Couplings,
-    first: u32,
-    spin: u32,
-    step: u32,
-    count: u32,
-) -> Result<(), NoMemory>
-    requires couplings { first + count ≤ length couplings.now }
-    requires numbers { first + count < 2 ^ 32 }
-    requires spins { spin + count + step < 2 ^ 32 }
-    ensures { OnOk result (bonds.new ≡ bonds.old ++ map (λ c. bond_with couplings.now (first + c) (spin + c) (spin + c + step)) (range_with_len 0 count)) }
-{
-    for c in 0..count {
-        bonds.push(Bond {
-            u: spin + c,
-            v: spin + c + step,
-            j: couplings.at((first + c) as usize),
-        })?;
+    if found != wanted {
+        return Err(Refusal::CouplingCount { found, wanted });
     }
     Ok(())
 }
 
-/// Adds the bonds along the rows.
-fn push_row_bonds(bonds: &mut Bonds, couplings: &Couplings, shape: Shape) -> Result<(), NoMemory>
-    requires small { IsSmall shape }
-    requires count { length couplings.now ≡ bonds_in shape }
-    ensures { OnOk result (bonds.new ≡ bonds.old ++ row_bonds shape.rows shape.cols couplings.now) }
+// The lattice, with its own seam or with the one that is given.
+fn lattice_of(
+    alloc: Global,
+    kind: Kind,
+    rows: u32,
+    cols: u32,
+    body: LatticeBody,
+) -> Result<Instance, Fault>
+    requires size { IsSize kind rows cols }
+    requires count { length body.couplings ≡ bond_total kind rows cols }
+    requires fit { All (λ j. unsigned_abs j < 2 ^ 63) body.couplings }
+    ensures ok { IfOk result (λ inst. inst ≡ reseamed body.seam (lattice kind rows cols body.couplings)) }
+    ensures instance { IfOk result IsInstance }
+    ensures fault { IfErr result (IsFaultOf (reseamed body.seam (lattice kind rows cols body.couplings))) }
 {
-    for r in 0..shape.rows {
-        push_line(
-            bonds,
-            couplings,
-            r * (shape.cols - 1),
-            r * shape.cols,
-            1,
-            shape.cols - 1,
-        )?;
+    let LatticeBody { couplings, seam } = body;
+    let inst = build(alloc, kind, rows, cols, couplings)?;
+    match seam {
+        Some(bonds) => inst.with_seam(bonds),
+        None => Ok(inst),
     }
-    Ok(())
 }
 
-/// Adds the bonds along the columns.
-fn push_column_bonds(bonds: &mut Bonds, couplings: &Couplings, shape: Shape) -> Result<(), NoMemory>
-    requires small { IsSmall shape }
-    requires count { length couplings.now ≡ bonds_in shape }
-    ensures { OnOk result (bonds.new ≡ bonds.old ++ column_bonds shape.rows shape.cols couplings.now) }
+/// Reads the records of a lattice behind the first, up to its `end`, and gives the instance and the
+/// number of records of the text up to and with the `end`.
+///
+/// # Errors
+/// The first test that a record fails: `BadShape`, `BadNumber`, `CouplingCount`, `BadSeam`; `Unended`
+/// where the records run out.
+pub(crate) fn read_lattice(
+    alloc: Global,
+    records: &mut Rows<'_>,
+    row: &mut Row,
+    kind: Kind,
+    rows: u32,
+    cols: u32,
+) -> Result<(Instance, u32), Fault>
+    requires size { IsSize kind rows cols }
+    requires few { sum_by (λ r. length r.fields) records.old < 2 ^ 32 }
+    ensures read { IfOk result (λ r. ReadsBody (header.Lattice kind rows cols) records.old r.0 r.1) }
+    ensures instance { IfOk result (λ r. IsInstance r.0) }
+    ensures fault { IfErr result (IsBodyFault (header.Lattice kind rows cols) records.old) }
 {
-    let first = shape.rows * (shape.cols - 1);
-    for r in 0..shape.rows - 1 {
-        push_line(
-            bonds,
-            couplings,
-            first + r * shape.cols,
-            r * shape.cols,
-            shape.cols,
-            shape.cols,
-        )?;
+    let mut body = LatticeBody {
+        couplings: Couplings::new(alloc),
+        seam: None,
+    };
+    while records.next(row)? {
+        if row.begins(END) {
+            end_lattice(
+                row,
+                body.couplings.len() as u32,
+                bond_count(kind, rows, cols),
+            )?;
+            let inst = lattice_of(alloc, kind, rows, cols, body)?;
+            return Ok((inst, row.at() + 1));
+        }
+        body.take(alloc, row)?;
     }
-    Ok(())
-}
-
-/// The bonds of the lattice, in the order of their numbers.
-pub fn square_bonds(alloc: Global, shape: Shape, couplings: &Couplings) -> Result<Bonds, NoMemory>
-    requires small { IsSmall shape }
-    requires count { length couplings.now ≡ bonds_in shape }
-    ensures { IfOk result (λ bonds. bonds ≡ bonds_of shape.rows shape.cols couplings.now) }
-{
-    let mut bonds = Bonds::new(alloc);
-    push_row_bonds(&mut bonds, couplings, shape)?;
-    push_column_bonds(&mut bonds, couplings, shape)?;
-    Ok(bonds)
+    Err(Fault::Refused(Refusal::Unended))
 }

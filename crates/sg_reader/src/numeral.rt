@@ -3,9 +3,6 @@ ghost use Rattle.sg_reader.specs.Number.{number_of};
 
 use std::str;
 
-/// The least number. The least i64 is left out, so that the negative of each number is one too.
-const LEAST: i64 = -i64::MAX;
-
 /// The whole number that a field spells: one decimal digit or more after a `+`, a `-` or no sign,
 /// from -9223372036854775807 to 9223372036854775807. Leading zeros may stand, blanks may not. In
 /// time linear in the field, and without memory.
@@ -16,7 +13,7 @@ pub fn number(field: &[u8]) -> Option<i64>
         return None;
     };
     match text.parse::<i64>() {
-        Ok(value) if value >= LEAST => Some(value),
+        Ok(value) if value > i64::MIN => Some(value),
         _ => None,
     }
 }

@@ -1,5 +1,4 @@
-use super::{number, read_square};
-use sg_model::{Fault, Refusal};
+use super::{number, read_instance};
 use std::test::Fail;
 
 #[test]
@@ -19,51 +18,18 @@ fn reads_numbers(rt: HostRuntime) {
     }
 }
 
+// A spreadsheet's export, with a comment, blanks and empty fields at the ends.
 #[test]
-fn reads_lattices(rt: HostRuntime) -> Result<(), Fail> {
-    for text in [
-        b"square,2,2\n3,4\n2,-5\nend\n".as_slice(),
-        b"square,+2,002\r\n\r\n\"3\",4,2\n-5\nend".as_slice(),
-    ] {
-        match read_square(rt.alloc(), text) {
-            Ok(instance) => {
-                assert_eq!(rt; instance.n(), 4);
-                assert_eq!(rt; instance.bonds().len(), 4);
-                for (i, (u, v, j)) in [(0, 1, 3), (2, 3, 4), (0, 2, 2), (1, 3, -5)]
-                    .into_iter()
-                    .enumerate()
-                {
-                    let bond = instance.bonds().as_slice().get(i).expect(&rt, "a bond");
-                    assert_eq!(rt; (bond.u, bond.v, bond.j), (u, v, j));
-                }
-            }
-            Err(_) => assert!(rt; false),
+fn reads_a_lattice(rt: HostRuntime) -> Result<(), Fail> {
+    let text = b"# a spreadsheet's export\nsquare,2,2,\n 3 ,\t4,\n2,-5,,\nseam,0\nend\nmore\n";
+    match read_instance(rt.alloc(), text.as_slice()) {
+        Ok((instance, after)) => {
+            assert_eq!(rt; instance.n(), 4);
+            assert_eq!(rt; instance.weight(), 14);
+            assert_eq!(rt; instance.seam().as_slice(), [0].as_slice());
+            assert_eq!(rt; after, 6);
         }
+        Err(_) => assert!(rt; false),
     }
-    assert!(rt;
-        read_square(rt.alloc(), b"square,1,1\nend").is_ok_and(|instance| instance.n() == 1)
-    );
     Ok(())
-}
-
-#[test]
-fn refuses_other_texts(rt: HostRuntime) {
-    for text in [
-        b"".as_slice(),
-        b"general,2\nend\n".as_slice(),
-        b"square,17,1\nend\n".as_slice(),
-        b"square,2,2\n3,4,2\nend\n".as_slice(),
-        b"square,2,2\n3,4,2,-5,6\nend\n".as_slice(),
-        b"square,1,2\n 3\nend\n".as_slice(),
-        b"square,1,2\n3\n".as_slice(),
-        b"end\n".as_slice(),
-        b"square,1,1\nend\nend\n".as_slice(),
-        b"\xEF\xBB\xBFsquare,1,1\nend\n".as_slice(),
-        b"square,1,2\n9223372036854775808\nend\n".as_slice(),
-    ] {
-        match read_square(rt.alloc(), text) {
-            Err(Fault::Refused(Refusal::NotBuilt)) => {}
-            _ => assert!(rt; false),
-        }
-    }
 }

@@ -1,0 +1,140 @@
+-- The records of an instance, one more at a time.
+use Rattle.std.proofs.Common.{◌≡◌, ℕ, ℤ, pos, zero, suc, ◌+◌, ◌-◌, ◌<◌, ◌≤◌, ◌^◌, Bool, true, false, List, [], ◌∷◌, ◌++◌, length, take, map, get_or, Option, Some, None, refl, sym, ap, ◌∙◌, arith, inl, inr, append_assoc, codes}
+use Rattle.std.specs.Prelude.{All, ◌||◌, cond, filter, find, is_some, not, option_map, unsigned_abs, unwrap_or}
+use Rattle.std.specs.List.{flat_map, list_any, range_with_len}
+use Rattle.std.specs.Option.{option_or}
+use Rattle.std.specs.Str.{bytes_eq}
+use Rattle.std.proofs.lemmas.Bool.{cases_eq, false≢true, or_parts}
+use Rattle.std.proofs.lemmas.Grind.{flat_map-append}
+use Rattle.std.proofs.lemmas.List.{append-nil, get_or-append_right, get_or_append_left, get_or_at, length_push, take-append-le, take_at}
+use Rattle.std.proofs.lemmas.List.Elements.{All-append, All-cons, All-nil, All-same, filter-append}
+use Rattle.std.proofs.lemmas.List.Folds.{find-append, list_any-append}
+use Rattle.std.proofs.lemmas.List.FromFn.{length-map-range_with_len}
+use Rattle.std.proofs.lemmas.Option.{same_Some}
+use Rattle.sg_model.specs.declared.refusal.Fault.{Fault}
+use Rattle.sg_model.specs.declared.refusal.Fault.TheVariants.{Refused, NoMemory}
+use Rattle.sg_model.specs.Faults.{IsFaultOf}
+use Rattle.sg_reader.specs.declared.header.Header.{Header}
+use Rattle.sg_reader.specs.Kept.{Kept, begins, field}
+use Rattle.sg_reader.specs.Number.{number_of}
+use Rattle.sg_reader.specs.Tests.{IsTestFault, number_in}
+use Rattle.sg_reader.specs.Body.{couplings_in, instance_of, is_end, is_seam, numbers_from, record_fault, seam_in, sizes_from}
+use Rattle.sg_reader.specs.ReadInstance.{AtEnd, AtRecord, IsBody, IsBodyFault, IsEnded, record_at}
+use Rattle.sg_reader.proofs.NumberLaws.{size-of_number}
+
+-- a record that begins with `seam` has a field
+pub seam_inside : (r : Kept) → is_seam r ≡ true → 1 ≤ length r.fields
+seam_inside r h = go r.fields h
+  where
+    go : (fields : List (List ℕ)) → bytes_eq (get_or fields 0 []) (codes "seam") ≡ true → 1 ≤ length fields
+    go [] e = absurd (false≢true e)
+    go (f ∷ fs) e = omega arith
+
+-- one more record of the body
+pub IsBody-none : (header : Header) → IsBody header []
+IsBody-none header = record { goes_on = All-nil (λ (r : Kept). is_end r ≡ false); passes = λ k inside. absurd (omega arith) }
+
+pub IsBody-more : (header : Header) (body : List Kept) (r : Kept) → IsBody header body → is_end r ≡ false → record_fault header body r ≡ None
+    → IsBody header (body ++ r ∷ [])
+IsBody-more header body r h other good = record {
+  goes_on = All-append (λ (q : Kept). is_end q ≡ false) body (r ∷ []) h.goes_on (All-cons (λ (q : Kept). is_end q ≡ false) r [] other (All-nil (λ (q : Kept). is_end q ≡ false)));
+  passes = λ k inside. at k inside;
+}
+  where
+    at : (k : ℕ) → k < length (body ++ r ∷ []) → record_fault header (take k (body ++ r ∷ [])) (record_at (body ++ r ∷ []) k) ≡ None
+    at k inside =
+        let count = length_push body r in
+        elim (cases_eq k (length body)) [
+          | inl e ↦
+              let front : take k (body ++ r ∷ []) ≡ body = take_at body (r ∷ []) k (sym e) in
+              let here : record_at (body ++ r ∷ []) k ≡ r = get_or_at body r [] (record { at = 0; fields = [] }) k (sym e) in
+              rw (front, here) good
+          | inr other ↦
+              let below : k < length body = omega (arith, count) in
+              let front : take k (body ++ r ∷ []) ≡ take k body = take-append-le k body (r ∷ []) (omega arith) in
+              let here : record_at (body ++ r ∷ []) k ≡ record_at body k = get_or_append_left body (r ∷ []) (record { at = 0; fields = [] }) k below in
+              rw (front, here) (h.passes k below)
+        ]
+
+-- whether the body has a seam
+pub seam_in-seen : (body : List Kept) → is_some (seam_in body) ≡ list_any is_seam body
+unfolding seam_in
+seam_in-seen [] = refl
+seam_in-seen (r ∷ rest) = by (is_seam r) (seam_in-seen rest)
+  where
+    by : (b : Bool) → is_some (option_map (λ q. sizes_from q 1) (find is_seam rest)) ≡ list_any is_seam rest
+        → is_some (option_map (λ q. sizes_from q 1) (cond b (Some r) (find is_seam rest))) ≡ (b || list_any is_seam rest)
+    by true e = refl
+    by false e = e
+
+find-none : (p : Kept → Bool) (body : List Kept) → list_any p body ≡ false → find p body ≡ None
+find-none p [] h = refl
+find-none p (r ∷ rest) h =
+    let parts = or_parts (p r) (list_any p rest) h in
+    rw (parts.0) (find-none p rest parts.1)
+
+-- a seam behind a body without one, and another record
+pub seam_in-first : (body : List Kept) (r : Kept) → list_any is_seam body ≡ false → is_seam r ≡ true → seam_in (body ++ r ∷ []) ≡ Some (sizes_from r 1)
+unfolding seam_in
+seam_in-first body r none seam = rw (find-append is_seam body (r ∷ [])) (rw (find-none is_seam body none) (rw seam refl))
+
+pub seam_in-other : (body : List Kept) (r : Kept) → is_seam r ≡ false → seam_in (body ++ r ∷ []) ≡ seam_in body
+unfolding seam_in
+seam_in-other body r other = rw (find-append is_seam body (r ∷ [])) (rw other (by (find is_seam body)))
+  where
+    by : (o : Option Kept) → option_map (λ q. sizes_from q 1) (option_or o None) ≡ option_map (λ q. sizes_from q 1) o
+    by None = refl
+    by (Some q) = refl
+
+-- the couplings of one more record
+pub couplings_in-more : (body : List Kept) (r : Kept) → is_seam r ≡ false → couplings_in (body ++ r ∷ []) ≡ couplings_in body ++ numbers_from r 0
+unfolding couplings_in
+couplings_in-more body r other =
+    let test : Kept → Bool = λ q. not (is_seam q) in
+    let f : Kept → List ℤ = λ q. numbers_from q 0 in
+    ap (flat_map f) (filter-append test body (r ∷ [])) ∙ flat_map-append f (filter test body) (filter test (r ∷ []))
+    ∙ ap (λ (b : Bool). flat_map f (filter test body) ++ flat_map f (cond (not b) (r ∷ []) [])) other
+    ∙ ap (λ (l : List ℤ). flat_map f (filter test body) ++ l) (append-nil (f r))
+
+pub couplings_in-seam : (body : List Kept) (r : Kept) → is_seam r ≡ true → couplings_in (body ++ r ∷ []) ≡ couplings_in body
+unfolding couplings_in
+couplings_in-seam body r seam =
+    let test : Kept → Bool = λ q. not (is_seam q) in
+    let f : Kept → List ℤ = λ q. numbers_from q 0 in
+    ap (flat_map f) (filter-append test body (r ∷ [])) ∙ flat_map-append f (filter test body) (filter test (r ∷ []))
+    ∙ ap (λ (b : Bool). flat_map f (filter test body) ++ flat_map f (cond (not b) (r ∷ []) [])) seam
+    ∙ append-nil (flat_map f (filter test body))
+
+pub length-numbers_from : (r : Kept) (from : ℕ) → length (numbers_from r from) ≡ length r.fields - from
+length-numbers_from r from = length-map-range_with_len (λ i. number_in r i) from (length r.fields - from)
+
+-- each number that is read has a size that fits
+pub number_in-small : (r : Kept) (i : ℕ) → unsigned_abs (number_in r i) < 2 ^ 63
+number_in-small r i = by (number_of (field r i)) (λ z e. size-of_number (field r i) z e)
+  where
+    by : (o : Option ℤ) → ((z : ℤ) → o ≡ Some z → unsigned_abs z < 2 ^ 63) → unsigned_abs (unwrap_or o (pos 0)) < 2 ^ 63
+    by None small = omega arith
+    by (Some z) small = small z refl
+
+numbers-small : (r : Kept) (a n : ℕ) → All (λ j. unsigned_abs j < 2 ^ 63) (map (λ i. number_in r i) (range_with_len a n))
+numbers-small r a zero = All-nil (λ j. unsigned_abs j < 2 ^ 63)
+numbers-small r a (suc n) = All-cons (λ j. unsigned_abs j < 2 ^ 63) (number_in r a) (map (λ i. number_in r i) (range_with_len (a + 1) n)) (number_in-small r a) (numbers-small r (a + 1) n)
+
+all-small : (rs : List Kept) → All (λ j. unsigned_abs j < 2 ^ 63) (flat_map (λ q. numbers_from q 0) rs)
+all-small [] = All-nil (λ j. unsigned_abs j < 2 ^ 63)
+all-small (r ∷ rs) =
+    All-append (λ j. unsigned_abs j < 2 ^ 63) (numbers_from r 0) (flat_map (λ q. numbers_from q 0) rs) (numbers-small r 0 (length r.fields - 0)) (all-small rs)
+
+pub couplings_in-small : (body : List Kept) → All (λ j. unsigned_abs j < 2 ^ 63) (couplings_in body)
+unfolding couplings_in
+couplings_in-small body = all-small (filter (λ q. not (is_seam q)) body)
+
+-- a record fails a test, and an instance that is whole does
+pub record-fault : (head : Header) (all body rest : List Kept) (r : Kept) (e : Fault) → all ≡ body ++ r ∷ rest → IsBody head body
+    → IsTestFault (record_fault head body r) e → IsBodyFault head all e
+record-fault head all body rest r (Refused x) split is_body bad = AtRecord body r rest split is_body bad
+record-fault head all body rest r NoMemory split is_body bad = tt
+
+pub end-fault : (head : Header) (all body : List Kept) (last : Kept) (e : Fault) → IsEnded head all body last → IsFaultOf (instance_of head body) e → IsBodyFault head all e
+end-fault head all body last (Refused x) ended bad = AtEnd body last ended bad
+end-fault head all body last NoMemory ended bad = tt

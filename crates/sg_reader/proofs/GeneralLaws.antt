@@ -1,0 +1,317 @@
+-- The records of a general instance behind the first, up to its `end`.
+use Rattle.std.proofs.Common.{◌≡◌, ◌≢◌, ℕ, ℤ, ◌+◌, ◌-◌, ◌<◌, ◌≤◌, ◌^◌, Bool, true, false, List, [], ◌∷◌, ◌++◌, length, map, get_or, set, Option, Some, None, refl, sym, ap, ◌∙◌, subst, arith, inl, inr, append_assoc, codes}
+use Rattle.std.specs.Prelude.{All, ◌&&◌, ◌||◌, ◌==◌, cond, filter, find, is_some, option_map, unwrap_or}
+use Rattle.std.specs.List.{list_any, range_with_len}
+use Rattle.std.specs.Option.{option_or}
+use Rattle.std.specs.Str.{bytes_eq}
+use Rattle.std.proofs.lemmas.Bool.{cases_eq, eq-eqb, false≢true, le-leb, lt-leb, ne_eqb, or_parts}
+use Rattle.std.proofs.lemmas.List.{append-nil, length-append, length-set, map-append, same_lists, get_or-set_same, get_or-set_other}
+use Rattle.std.proofs.lemmas.List.Elements.{All-append, All-cons, All-nil, All-same, filter-append}
+use Rattle.std.proofs.lemmas.List.Folds.{find-append, list_any-append}
+use Rattle.std.proofs.lemmas.List.FromFn.{get_or-map-range_with_len, length-map-range_with_len, map-range_with_len_more}
+use Rattle.std.proofs.lemmas.Option.{none-some}
+use Rattle.std.proofs.lemmas.Slice.Eq.{bytes_eq-Decides}
+use Rattle.sg_model.specs.declared.bond.Bond.{Bond}
+use Rattle.sg_model.specs.declared.refusal.Fault.{Fault}
+use Rattle.sg_model.specs.declared.refusal.Fault.TheVariants.{Refused, NoMemory}
+use Rattle.sg_model.specs.declared.refusal.Refusal.{Refusal}
+use Rattle.sg_model.specs.declared.refusal.Refusal.TheVariants.{BadNumber, BadShape, SelfBond, TooManyBonds, UnknownKind}
+use Rattle.sg_model.specs.Ising.{Ising, IsBond}
+use Rattle.sg_reader.specs.declared.header.Header.{Header}
+use Rattle.sg_reader.specs.declared.header.Header.TheVariants as header
+use Rattle.sg_reader.specs.declared.general.GeneralBody.{GeneralBody}
+use Rattle.sg_reader.specs.declared.limits.TheConstants.{BOND_LIMIT}
+use Rattle.sg_reader.specs.Kept.{Kept, field}
+use Rattle.sg_reader.specs.Tests.{IsTestFault, any_index, bad_field, bad_number, is_number_in, size_in, spin_below}
+use Rattle.sg_reader.specs.Body.{bond_fault, bond_of, bond_range, bonds_in, darts_in, general_end_fault, general_fault, has_rot, instance_of, is_bond, is_end, is_rot, is_rot_of, is_seam, rot_fault, rot_range, seam_fault, seam_in, sizes_from}
+use Rattle.sg_reader.specs.ReadInstance.{IsBody, IsEnded}
+use Rattle.sg_reader.specs.GeneralHolds.{HoldsGeneral}
+use Rattle.sg_reader.proofs.TestLaws.{bad_field-rest, is-not, is-other}
+use Rattle.sg_reader.proofs.BodyLaws.{IsBody-more, IsBody-none, seam_in-first, seam_in-other, seam_in-seen}
+
+-- the tests of a bond
+pub bond_fault-number : (n m : ℕ) (r : Kept) (k : ℕ) → length r.fields ≡ 4 → bad_field r 1 (bond_range n) ≡ Some k → bond_fault n m r ≡ Some (BadNumber r.at k)
+bond_fault-number n m r k count bad = rw (is-not (length r.fields) 4 count, bad) refl
+
+pub bond_fault-many : (n m : ℕ) (r : Kept) → length r.fields ≡ 4 → bad_field r 1 (bond_range n) ≡ None → BOND_LIMIT ≤ m → bond_fault n m r ≡ Some (TooManyBonds (BOND_LIMIT + 1))
+bond_fault-many n m r count good many = rw (is-not (length r.fields) 4 count, good, le-leb BOND_LIMIT m many) refl
+
+pub bond_fault-self : (n m : ℕ) (r : Kept) → length r.fields ≡ 4 → bad_field r 1 (bond_range n) ≡ None → m < BOND_LIMIT → size_in r 1 ≡ size_in r 2
+    → bond_fault n m r ≡ Some (SelfBond m)
+bond_fault-self n m r count good few same = rw (is-not (length r.fields) 4 count, good, lt-leb BOND_LIMIT m few, eq-eqb (size_in r 1) (size_in r 2) same) refl
+
+pub bond_fault-none : (n m : ℕ) (r : Kept) → length r.fields ≡ 4 → bad_field r 1 (bond_range n) ≡ None → m < BOND_LIMIT → (size_in r 1 ≡ size_in r 2 → ⊥)
+    → bond_fault n m r ≡ None
+bond_fault-none n m r count good few other = rw (is-not (length r.fields) 4 count, good, lt-leb BOND_LIMIT m few, ne_eqb (size_in r 1) (size_in r 2) other) refl
+
+-- the tests of a rotation
+pub rot_fault-number : (n : ℕ) (seen : Bool) (r : Kept) (k : ℕ) → (length r.fields ≡ 1 → ⊥) → bad_field r 1 (rot_range n) ≡ Some k → rot_fault n seen r ≡ Some (BadNumber r.at k)
+rot_fault-number n seen r k count bad = rw (ne_eqb (length r.fields) 1 count, bad) refl
+
+pub rot_fault-seen : (n : ℕ) (seen : Bool) (r : Kept) → (length r.fields ≡ 1 → ⊥) → bad_field r 1 (rot_range n) ≡ None → seen ≡ true → rot_fault n seen r ≡ Some (BadShape r.at)
+rot_fault-seen n seen r count good twice = rw (ne_eqb (length r.fields) 1 count, good, twice) refl
+
+pub rot_fault-none : (n : ℕ) (seen : Bool) (r : Kept) → (length r.fields ≡ 1 → ⊥) → bad_field r 1 (rot_range n) ≡ None → seen ≡ false → rot_fault n seen r ≡ None
+rot_fault-none n seen r count good first = rw (ne_eqb (length r.fields) 1 count, good, first) refl
+
+pub rot_range-rest : (n : ℕ) (r : Kept) → 2 ≤ length r.fields → is_number_in (spin_below n) (field r 1) ≡ true
+    → bad_field r 1 (rot_range n) ≡ bad_field r 2 (λ i. any_index)
+rot_range-rest n r long good = bad_field-rest r (rot_range n) (λ i. any_index) long good
+    (λ i low. let other : (i == 1) ≡ false = ne_eqb i 1 (λ e. absurd (omega (arith, e, low))) in rw other refl)
+
+pub rot_fault-darts : (n : ℕ) (seen : Bool) (r : Kept) → (length r.fields ≡ 1 → ⊥) → bad_field r 1 (rot_range n) ≡ bad_field r 2 (λ i. any_index) → (e : Fault)
+    → IsTestFault (bad_number r 2 (λ i. any_index)) e → IsTestFault (rot_fault n seen r) e
+rot_fault-darts n seen r count rest (Refused x) h = rw (ne_eqb (length r.fields) 1 count, rest, h) refl
+rot_fault-darts n seen r count rest NoMemory h = tt
+
+-- which test a record meets
+word-of : (r : Kept) (w : List ℕ) → bytes_eq (field r 0) w ≡ true → field r 0 ≡ w
+word-of r w h = (bytes_eq-Decides (field r 0) w).0 h
+
+pub general_fault-bond : (n : ℕ) (body : List Kept) (r : Kept) → is_bond r ≡ true → general_fault n body r ≡ bond_fault n (length (bonds_in body)) r
+unfolding general_fault
+general_fault-bond n body r h = rw h refl
+
+rot-no_bond : (r : Kept) → is_rot r ≡ true → is_bond r ≡ false
+rot-no_bond r h = ap (λ (w : List ℕ). bytes_eq w (codes "bond")) (word-of r (codes "rot") h)
+
+bond-no_rot : (r : Kept) → is_bond r ≡ true → is_rot r ≡ false
+bond-no_rot r h = ap (λ (w : List ℕ). bytes_eq w (codes "rot")) (word-of r (codes "bond") h)
+
+bond-no_seam : (r : Kept) → is_bond r ≡ true → is_seam r ≡ false
+bond-no_seam r h = ap (λ (w : List ℕ). bytes_eq w (codes "seam")) (word-of r (codes "bond") h)
+
+rot-no_seam : (r : Kept) → is_rot r ≡ true → is_seam r ≡ false
+rot-no_seam r h = ap (λ (w : List ℕ). bytes_eq w (codes "seam")) (word-of r (codes "rot") h)
+
+seam-no_bond : (r : Kept) → is_seam r ≡ true → is_bond r ≡ false
+seam-no_bond r h = ap (λ (w : List ℕ). bytes_eq w (codes "bond")) (word-of r (codes "seam") h)
+
+seam-no_rot : (r : Kept) → is_seam r ≡ true → is_rot r ≡ false
+seam-no_rot r h = ap (λ (w : List ℕ). bytes_eq w (codes "rot")) (word-of r (codes "seam") h)
+
+end-no : (r : Kept) → is_end r ≡ true → (is_bond r ≡ false) × (is_rot r ≡ false) × (is_seam r ≡ false)
+end-no r h =
+    let w = word-of r (codes "end") h in
+    (ap (λ (v : List ℕ). bytes_eq v (codes "bond")) w, ap (λ (v : List ℕ). bytes_eq v (codes "rot")) w, ap (λ (v : List ℕ). bytes_eq v (codes "seam")) w)
+
+pub general_fault-rot : (n : ℕ) (body : List Kept) (r : Kept) → is_rot r ≡ true → general_fault n body r ≡ rot_fault n (has_rot body (size_in r 1)) r
+unfolding general_fault
+general_fault-rot n body r h = rw (rot-no_bond r h, h) refl
+
+pub general_fault-seam : (n : ℕ) (body : List Kept) (r : Kept) → is_seam r ≡ true → general_fault n body r ≡ seam_fault (list_any is_seam body) r
+unfolding general_fault
+general_fault-seam n body r h = rw (seam-no_bond r h, seam-no_rot r h, h) refl
+
+pub general_fault-end : (n : ℕ) (body : List Kept) (r : Kept) → is_end r ≡ true → general_fault n body r ≡ general_end_fault r
+unfolding general_fault
+general_fault-end n body r h = let no = end-no r h in rw (no.0, no.1, no.2, h) refl
+
+pub general_fault-other : (n : ℕ) (body : List Kept) (r : Kept) → is_bond r ≡ false → is_rot r ≡ false → is_seam r ≡ false → is_end r ≡ false
+    → general_fault n body r ≡ Some (UnknownKind r.at)
+unfolding general_fault
+general_fault-other n body r a b c d = rw (a, b, c, d) refl
+
+-- the bonds of one more record
+pub bonds_in-more : (body : List Kept) (r : Kept) → is_bond r ≡ true → bonds_in (body ++ r ∷ []) ≡ bonds_in body ++ bond_of r ∷ []
+unfolding bonds_in
+bonds_in-more body r h =
+    ap (map bond_of) (filter-append is_bond body (r ∷ [])) ∙ map-append bond_of (filter is_bond body) (filter is_bond (r ∷ []))
+    ∙ ap (λ (b : Bool). map bond_of (filter is_bond body) ++ map bond_of (cond b (r ∷ []) [])) h
+
+pub bonds_in-other : (body : List Kept) (r : Kept) → is_bond r ≡ false → bonds_in (body ++ r ∷ []) ≡ bonds_in body
+unfolding bonds_in
+bonds_in-other body r h =
+    ap (map bond_of) (filter-append is_bond body (r ∷ [])) ∙ map-append bond_of (filter is_bond body) (filter is_bond (r ∷ []))
+    ∙ ap (λ (b : Bool). map bond_of (filter is_bond body) ++ map bond_of (cond b (r ∷ []) [])) h ∙ append-nil (map bond_of (filter is_bond body))
+
+-- whether a spin has its darts, and which, with one more record
+has_rot-more : (body : List Kept) (r : Kept) (i : ℕ) (b : Bool) → is_rot_of i r ≡ b → has_rot (body ++ r ∷ []) i ≡ (has_rot body i || (b || false))
+unfolding has_rot
+has_rot-more body r i b h = list_any-append (is_rot_of i) body (r ∷ []) ∙ ap (λ (c : Bool). list_any (is_rot_of i) body || (c || false)) h
+
+or-none : (b : Bool) → (b || (false || false)) ≡ b
+or-none true = refl
+or-none false = refl
+
+or-some : (b : Bool) → (b || (true || false)) ≡ true
+or-some true = refl
+or-some false = refl
+
+pub has_rot-other : (body : List Kept) (r : Kept) (i : ℕ) → is_rot_of i r ≡ false → has_rot (body ++ r ∷ []) i ≡ has_rot body i
+has_rot-other body r i h = has_rot-more body r i false h ∙ or-none (has_rot body i)
+
+pub has_rot-own : (body : List Kept) (r : Kept) (i : ℕ) → is_rot_of i r ≡ true → has_rot (body ++ r ∷ []) i ≡ true
+has_rot-own body r i h = has_rot-more body r i true h ∙ or-some (has_rot body i)
+
+pub darts_in-other : (body : List Kept) (r : Kept) (i : ℕ) → is_rot_of i r ≡ false → darts_in (body ++ r ∷ []) i ≡ darts_in body i
+unfolding darts_in
+darts_in-other body r i h = rw (find-append (is_rot_of i) body (r ∷ [])) (rw h (by (find (is_rot_of i) body)))
+  where
+    by : (o : Option Kept) → unwrap_or (option_map (λ q. sizes_from q 2) (option_or o None)) [] ≡ unwrap_or (option_map (λ q. sizes_from q 2) o) []
+    by None = refl
+    by (Some q) = refl
+
+find-none : (p : Kept → Bool) (body : List Kept) → list_any p body ≡ false → find p body ≡ None
+find-none p [] h = refl
+find-none p (r ∷ rest) h = let parts = or_parts (p r) (list_any p rest) h in rw (parts.0) (find-none p rest parts.1)
+
+pub darts_in-own : (body : List Kept) (r : Kept) (i : ℕ) → is_rot_of i r ≡ true → has_rot body i ≡ false → darts_in (body ++ r ∷ []) i ≡ sizes_from r 2
+unfolding darts_in has_rot
+darts_in-own body r i h first = rw (find-append (is_rot_of i) body (r ∷ [])) (rw (find-none (is_rot_of i) body first) (rw h refl))
+
+-- a table over the spins with one entry changed
+table-set : {X : Type 0} (f g : ℕ → X) (n s : ℕ) (v : X) → s < n → g s ≡ v → ((i : ℕ) → (i ≡ s → ⊥) → g i ≡ f i)
+    → set (map f (range_with_len 0 n)) s v ≡ map g (range_with_len 0 n)
+table-set {X} f g n s v inside here others =
+    let count = length-map-range_with_len f 0 n in
+    let count_g = length-map-range_with_len g 0 n in
+    let count_s = length-set (map f (range_with_len 0 n)) s v in
+    same_lists (set (map f (range_with_len 0 n)) s v) (map g (range_with_len 0 n)) (count_s ∙ count ∙ sym count_g) (λ k d k_in.
+    let below : k < n = omega (arith, count, count_s) in
+    let right = get_or-map-range_with_len g 0 n k k d below (omega arith) in
+    elim (cases_eq k s) [
+      | inl e ↦ rw e (get_or-set_same (map f (range_with_len 0 n)) s v d (omega (arith, count)) ∙ sym here ∙ sym (get_or-map-range_with_len g 0 n s s d inside (omega arith)))
+      | inr other ↦ get_or-set_other (map f (range_with_len 0 n)) s k v d other ∙ get_or-map-range_with_len f 0 n k k d below (omega arith) ∙ sym (others k other) ∙ sym right
+    ])
+
+table-same : {X : Type 0} (f g : ℕ → X) (n : ℕ) → ((i : ℕ) → g i ≡ f i) → map f (range_with_len 0 n) ≡ map g (range_with_len 0 n)
+table-same f g n same = λ j. map (λ i. sym (same i) j) (range_with_len 0 n)
+
+no-rot_of : (r : Kept) (i : ℕ) → is_rot r ≡ false → is_rot_of i r ≡ false
+no-rot_of r i h = rw h refl
+
+own-rot_of : (r : Kept) → is_rot r ≡ true → is_rot_of (size_in r 1) r ≡ true
+own-rot_of r h = rw (h, eq-eqb (size_in r 1) (size_in r 1) refl) refl
+
+other-rot_of : (r : Kept) (i : ℕ) → is_rot r ≡ true → (i ≡ size_in r 1 → ⊥) → is_rot_of i r ≡ false
+other-rot_of r i h other = rw (h, ne_eqb (size_in r 1) i (λ e. other (sym e))) refl
+
+-- what is kept behind a record that gives no darts
+darts-kept : (body : List Kept) (r : Kept) (n : ℕ) → is_rot r ≡ false → map (darts_in body) (range_with_len 0 n) ≡ map (darts_in (body ++ r ∷ [])) (range_with_len 0 n)
+darts-kept body r n h = table-same (darts_in body) (darts_in (body ++ r ∷ [])) n (λ i. darts_in-other body r i (no-rot_of r i h))
+
+marks-kept : (body : List Kept) (r : Kept) (n : ℕ) → is_rot r ≡ false → map (has_rot body) (range_with_len 0 n) ≡ map (has_rot (body ++ r ∷ [])) (range_with_len 0 n)
+marks-kept body r n h = table-same (has_rot body) (has_rot (body ++ r ∷ [])) n (λ i. has_rot-other body r i (no-rot_of r i h))
+
+pub holds-bond : (body : List Kept) (r : Kept) (old : GeneralBody) (bonds : List Bond) → HoldsGeneral body old → is_bond r ≡ true
+    → bonds ≡ old.bonds ++ bond_of r ∷ [] → IsBond old.n (bond_of r) → length old.bonds < BOND_LIMIT
+    → HoldsGeneral (body ++ r ∷ []) (record { n = old.n; bonds = bonds; rotation = old.rotation; seen = old.seen; seam = old.seam })
+holds-bond body r old bonds h is added sound room =
+    let count = length-append old.bonds (bond_of r ∷ []) in
+    let all = ap length added in
+    record {
+      bonds = added ∙ ap (λ (l : List Bond). l ++ bond_of r ∷ []) h.bonds ∙ sym (bonds_in-more body r is);
+      few = omega (arith, all, count);
+      joined = All-same (IsBond old.n) bonds (old.bonds ++ bond_of r ∷ []) added
+          (All-append (IsBond old.n) old.bonds (bond_of r ∷ []) h.joined (All-cons (IsBond old.n) (bond_of r) [] sound (All-nil (IsBond old.n))));
+      darts = h.darts ∙ darts-kept body r old.n (bond-no_rot r is);
+      marks = h.marks ∙ marks-kept body r old.n (bond-no_rot r is);
+      cut = h.cut ∙ sym (seam_in-other body r (bond-no_seam r is));
+    }
+
+pub seen-seam : (body : List Kept) (state : GeneralBody) → HoldsGeneral body state → is_some state.seam ≡ list_any is_seam body
+seen-seam body state h = ap is_some h.cut ∙ seam_in-seen body
+
+pub holds-seam : (body : List Kept) (r : Kept) (old : GeneralBody) (seam : List ℕ) → HoldsGeneral body old → is_seam r ≡ true → is_some old.seam ≡ false
+    → seam ≡ sizes_from r 1
+    → HoldsGeneral (body ++ r ∷ []) (record { n = old.n; bonds = old.bonds; rotation = old.rotation; seen = old.seen; seam = Some seam })
+holds-seam body r old seam h is first value = record {
+  bonds = h.bonds ∙ sym (bonds_in-other body r (seam-no_bond r is));
+  few = h.few;
+  joined = h.joined;
+  darts = h.darts ∙ darts-kept body r old.n (seam-no_rot r is);
+  marks = h.marks ∙ marks-kept body r old.n (seam-no_rot r is);
+  cut = ap Some value ∙ sym (seam_in-first body r (sym (seen-seam body old h) ∙ first) is);
+}
+
+-- the entry of a spin among the marks
+pub mark-of : (body : List Kept) (state : GeneralBody) (i : ℕ) (d : Bool) → HoldsGeneral body state → i < state.n → get_or state.seen.items i d ≡ has_rot body i
+mark-of body state i d h inside = ap (λ (l : List Bool). get_or l i d) h.marks ∙ get_or-map-range_with_len (has_rot body) 0 state.n i i d inside (omega arith)
+
+pub holds-rot : (body : List Kept) (r : Kept) (old new : GeneralBody) → HoldsGeneral body old → is_rot r ≡ true → size_in r 1 < old.n → has_rot body (size_in r 1) ≡ false
+    → new.n ≡ old.n → new.bonds ≡ old.bonds → new.seam ≡ old.seam → new.rotation ≡ set old.rotation (size_in r 1) (sizes_from r 2)
+    → new.seen.items ≡ set old.seen.items (size_in r 1) true → HoldsGeneral (body ++ r ∷ []) new
+holds-rot body r old new h is inside first same_n same_bonds same_seam lists marks =
+    let s = size_in r 1 in
+    let count = ap length same_bonds in
+    let few = h.few in
+    record {
+      bonds = same_bonds ∙ h.bonds ∙ sym (bonds_in-other body r (rot-no_bond r is));
+      few = omega (arith, count, few);
+      joined = rw (same_n, same_bonds) h.joined;
+      darts = lists ∙ ap (λ (l : List (List ℕ)). set l s (sizes_from r 2)) h.darts
+          ∙ table-set (darts_in body) (darts_in (body ++ r ∷ [])) old.n s (sizes_from r 2) inside (darts_in-own body r s (own-rot_of r is) first) (λ i other. darts_in-other body r i (other-rot_of r i is other))
+          ∙ ap (λ (n : ℕ). map (darts_in (body ++ r ∷ [])) (range_with_len 0 n)) (sym same_n);
+      marks = marks ∙ ap (λ (l : List Bool). set l s true) h.marks
+          ∙ table-set (has_rot body) (has_rot (body ++ r ∷ [])) old.n s true inside (has_rot-own body r s (own-rot_of r is)) (λ i other. has_rot-other body r i (other-rot_of r i is other))
+          ∙ ap (λ (n : ℕ). map (has_rot (body ++ r ∷ [])) (range_with_len 0 n)) (sym same_n);
+      cut = same_seam ∙ h.cut ∙ sym (seam_in-other body r (rot-no_seam r is));
+    }
+
+-- how many lists and marks there are
+pub lists-count : (body : List Kept) (state : GeneralBody) → HoldsGeneral body state → length state.rotation ≡ state.n
+lists-count body state h = ap length h.darts ∙ length-map-range_with_len (darts_in body) 0 state.n
+
+pub marks-count : (body : List Kept) (state : GeneralBody) → HoldsGeneral body state → length state.seen.items ≡ state.n
+marks-count body state h = ap length h.marks ∙ length-map-range_with_len (has_rot body) 0 state.n
+
+-- the instance that is kept
+pub instance-general : (body : List Kept) (state : GeneralBody) (seam : List ℕ) → HoldsGeneral body state → seam ≡ unwrap_or state.seam []
+    → record { n = state.n; bonds = state.bonds; rotation = state.rotation; seam = seam } ≡ instance_of (header.General state.n) body
+unfolding instance_of
+instance-general body state seam h cut =
+    let same : seam ≡ unwrap_or (seam_in body) [] = cut ∙ ap (λ (o : Option (List ℕ)). unwrap_or o []) h.cut in
+    λ i. record { n = state.n; bonds = h.bonds i; rotation = h.darts i; seam = same i }
+
+-- the records so far, which are the body, and what is left of all of them
+pub record GeneralSoFar (n : ℕ) (all left : List Kept) (state : GeneralBody) : Type 0 where
+  pub body : List Kept
+  pub split : all ≡ body ++ left
+  pub is_body : IsBody (header.General n) body
+  pub holds : HoldsGeneral body state
+  pub spins : state.n ≡ n
+
+pub ended-general : (n : ℕ) (all left rest : List Kept) (r : Kept) (state : GeneralBody) (sf : GeneralSoFar n all left state) → left ≡ r ∷ rest → is_end r ≡ true
+    → general_end_fault r ≡ None → IsEnded (header.General n) all sf.body r
+ended-general n all left rest r state sf next end pass = record {
+  more = rest;
+  split = sf.split ∙ ap (λ (l : List Kept). sf.body ++ l) next;
+  is_body = sf.is_body;
+  ends = end;
+  passes = general_fault-end n sf.body r end ∙ pass;
+}
+
+pub one-more : (n : ℕ) (all left rest : List Kept) (r : Kept) (old new : GeneralBody) → (sf : GeneralSoFar n all left old) → left ≡ r ∷ rest
+    → is_end r ≡ false → general_fault old.n sf.body r ≡ None → HoldsGeneral (sf.body ++ r ∷ []) new → new.n ≡ old.n → GeneralSoFar n all rest new
+one-more n all left rest r old new sf next other good holds same = record {
+  body = sf.body ++ r ∷ [];
+  split = sf.split ∙ ap (λ (l : List Kept). sf.body ++ l) next ∙ sym (append_assoc sf.body (r ∷ []) rest);
+  is_body = IsBody-more (header.General n) sf.body r sf.is_body other (ap (λ (k : ℕ). general_fault k sf.body r) (sym sf.spins) ∙ good);
+  holds = holds;
+  spins = same ∙ sf.spins;
+}
+
+-- nothing was read yet
+pub holds-none : (state : GeneralBody) → state.bonds ≡ [] → state.seam ≡ None → state.rotation ≡ map (darts_in []) (range_with_len 0 state.n)
+    → state.seen.items ≡ map (has_rot []) (range_with_len 0 state.n) → HoldsGeneral [] state
+unfolding bonds_in seam_in
+holds-none state none cut darts marks =
+    let count = ap length none in
+    record {
+      bonds = none;
+      few = omega (arith, count);
+      joined = All-same (IsBond state.n) state.bonds [] none (All-nil (IsBond state.n));
+      darts = darts;
+      marks = marks;
+      cut = cut;
+    }
+
+-- one more spin without darts
+pub no_darts-more : (lists : List (List ℕ)) (i : ℕ) → lists ≡ map (darts_in []) (range_with_len 0 i) → lists ++ [] ∷ [] ≡ map (darts_in []) (range_with_len 0 (i + 1))
+unfolding darts_in
+no_darts-more lists i h = ap (λ (l : List (List ℕ)). l ++ [] ∷ []) h ∙ sym (map-range_with_len_more (darts_in []) 0 i i (omega arith))
+
+pub no_marks-more : (marks : List Bool) (i : ℕ) → marks ≡ map (has_rot []) (range_with_len 0 i) → marks ++ false ∷ [] ≡ map (has_rot []) (range_with_len 0 (i + 1))
+unfolding has_rot
+no_marks-more marks i h = ap (λ (l : List Bool). l ++ false ∷ []) h ∙ sym (map-range_with_len_more (has_rot []) 0 i i (omega arith))

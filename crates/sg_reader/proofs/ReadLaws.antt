@@ -1,0 +1,17 @@
+-- Faults of a text, by those of its first record and of the records behind it.
+use Rattle.std.proofs.Common.{◌≡◌, ℕ, List, [], ◌∷◌, Some, None}
+use Rattle.sg_model.specs.declared.refusal.Fault.{Fault}
+use Rattle.sg_model.specs.declared.refusal.Fault.TheVariants.{Refused, NoMemory}
+use Rattle.sg_model.specs.declared.refusal.Refusal.{Refusal}
+use Rattle.sg_reader.specs.declared.header.Header.{Header}
+use Rattle.sg_reader.specs.Kept.{Kept}
+use Rattle.sg_reader.specs.Header.{header_fault, header_of}
+use Rattle.sg_reader.specs.ReadInstance.{AtFirst, Behind, IsBodyFault, IsReadFault}
+
+pub first-fault : (kept : List Kept) (first : Kept) (rest : List Kept) (refusal : Refusal) → kept ≡ first ∷ rest → header_fault first ≡ Some refusal → IsReadFault kept (Refused refusal)
+first-fault kept first rest refusal split bad = AtFirst first rest split bad
+
+pub behind-fault : (kept : List Kept) (first : Kept) (rest : List Kept) (head : Header) (e : Fault) → kept ≡ first ∷ rest → header_fault first ≡ None
+    → header_of first ≡ Some head → IsBodyFault head rest e → IsReadFault kept e
+behind-fault kept first rest head (Refused refusal) split good says bad = Behind first rest head split good says bad
+behind-fault kept first rest head NoMemory split good says bad = tt

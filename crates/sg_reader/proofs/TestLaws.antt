@@ -1,0 +1,97 @@
+-- Tests in order, and the first field that is no number of its range.
+use Rattle.std.proofs.Common.{◌≡◌, ℕ, zero, suc, ◌+◌, ◌-◌, ◌<◌, ◌≤◌, Bool, true, false, List, [], ◌∷◌, length, Option, Some, None, refl, sym, ap, ◌∙◌, arith, inl, inr}
+use Rattle.std.specs.Prelude.{◌==◌, nat_lt, nat_le, cond, not, find, option_map}
+use Rattle.std.specs.List.{range_with_len}
+use Rattle.std.proofs.lemmas.Bool.{cases_Bool, cases_order, cases_eq, false≢true, eq-eqb, ne_eqb, lt-ltb, le-ltb, le-leb, lt-leb, not_from_true, not_from_false}
+use Rattle.sg_model.specs.declared.refusal.Refusal.{Refusal}
+use Rattle.sg_model.specs.declared.refusal.Refusal.TheVariants.{BadNumber}
+use Rattle.sg_reader.specs.declared.range.Range.{Range}
+use Rattle.sg_reader.specs.Kept.{Kept, field}
+use Rattle.sg_reader.specs.Tests.{bad_field, bad_number, first_of, is_number_in, refuse_if}
+
+-- the first number of a range that passes
+find_range-none : (p : ℕ → Bool) (a n : ℕ) → ((i : ℕ) → a ≤ i → i < a + n → p i ≡ false) → find p (range_with_len a n) ≡ None
+find_range-none p a zero h = refl
+find_range-none p a (suc n) h = rw (h a (omega arith) (omega arith)) (find_range-none p (a + 1) n (λ i low high. h i (omega arith) (omega arith)))
+
+find_range-some : (p : ℕ → Bool) (a n k : ℕ) → a ≤ k → k < a + n → ((i : ℕ) → a ≤ i → i < k → p i ≡ false) → p k ≡ true → find p (range_with_len a n) ≡ Some k
+find_range-some p a zero k low high h e = absurd (omega arith)
+find_range-some p a (suc n) k low high h e = elim (cases_eq a k) [
+  | inl same ↦ rw (← same) (rw (ap p same ∙ e) refl)
+  | inr other ↦
+      let less : a < k = omega arith in
+      rw (h a (omega arith) less) (find_range-some p (a + 1) n k (omega arith) (omega arith) (λ i l u. h i (omega arith) u) e)
+]
+
+-- all fields from `from` on are numbers of their ranges
+pub bad_field-none : (r : Kept) (from : ℕ) (range : ℕ → Range) → ((i : ℕ) → from ≤ i → i < length r.fields → is_number_in (range i) (field r i) ≡ true)
+    → bad_field r from range ≡ None
+unfolding bad_field
+bad_field-none r from range h =
+    find_range-none (λ i. not (is_number_in (range i) (field r i))) from (length r.fields - from) (λ i low high. not_from_true _ (h i low (omega arith)))
+
+-- field k is the first that is none
+pub bad_field-some : (r : Kept) (from : ℕ) (range : ℕ → Range) (k : ℕ) → from ≤ k → k < length r.fields
+    → ((i : ℕ) → from ≤ i → i < k → is_number_in (range i) (field r i) ≡ true) → is_number_in (range k) (field r k) ≡ false
+    → bad_field r from range ≡ Some k
+unfolding bad_field
+bad_field-some r from range k low high h e =
+    find_range-some (λ i. not (is_number_in (range i) (field r i))) from (length r.fields - from) k low (omega arith) (λ i l u. not_from_true _ (h i l u)) (not_from_false _ e)
+
+-- the numbers of fields 1 and 2, one after the other
+pub bad_field-first : (r : Kept) (range : ℕ → Range) → 1 < length r.fields → is_number_in (range 1) (field r 1) ≡ false → bad_field r 1 range ≡ Some 1
+bad_field-first r range one bad = bad_field-some r 1 range 1 (omega arith) one (λ i low high. absurd (omega arith)) bad
+
+pub bad_field-second : (r : Kept) (range : ℕ → Range) → 2 < length r.fields → is_number_in (range 1) (field r 1) ≡ true → is_number_in (range 2) (field r 2) ≡ false
+    → bad_field r 1 range ≡ Some 2
+bad_field-second r range two good bad = bad_field-some r 1 range 2 (omega arith) two
+    (λ i low high. let e : i ≡ 1 = omega arith in rw e good) bad
+
+pub bad_field-one : (r : Kept) (range : ℕ → Range) → length r.fields ≡ 2 → is_number_in (range 1) (field r 1) ≡ true → bad_field r 1 range ≡ None
+bad_field-one r range count good = bad_field-none r 1 range (λ i low high. let e : i ≡ 1 = omega arith in rw e good)
+
+pub bad_field-two : (r : Kept) (range : ℕ → Range) → length r.fields ≡ 3 → is_number_in (range 1) (field r 1) ≡ true → is_number_in (range 2) (field r 2) ≡ true
+    → bad_field r 1 range ≡ None
+bad_field-two r range count first second = bad_field-none r 1 range (λ i low high. elim (cases_eq i 1) [
+  | inl e ↦ rw e first
+  | inr other ↦ let e : i ≡ 2 = omega arith in rw e second
+])
+
+-- the first number, and then the others
+find-agree : (p q : ℕ → Bool) (a n : ℕ) → ((i : ℕ) → a ≤ i → p i ≡ q i) → find p (range_with_len a n) ≡ find q (range_with_len a n)
+find-agree p q a zero h = refl
+find-agree p q a (suc n) h = rw (h a (omega arith)) (ap (λ (o : Option ℕ). cond (q a) (Some a) o) (find-agree p q (a + 1) n (λ i low. h i (omega arith))))
+
+pub bad_field-rest : (r : Kept) (range other : ℕ → Range) → 2 ≤ length r.fields → is_number_in (range 1) (field r 1) ≡ true → ((i : ℕ) → 2 ≤ i → range i ≡ other i)
+    → bad_field r 1 range ≡ bad_field r 2 other
+unfolding bad_field
+bad_field-rest r range other long good same =
+    let count : length r.fields - 1 ≡ suc (length r.fields - 2) = omega arith in
+    rw count (rw (not_from_true (is_number_in (range 1) (field r 1)) good)
+    (find-agree (λ i. not (is_number_in (range i) (field r i))) (λ i. not (is_number_in (other i) (field r i))) 2 (length r.fields - 2)
+    (λ i low. ap (λ (g : Range). not (is_number_in g (field r i))) (same i low))))
+
+-- a record of four fields
+pub bad_field-third : (r : Kept) (range : ℕ → Range) → length r.fields ≡ 4 → is_number_in (range 1) (field r 1) ≡ true → is_number_in (range 2) (field r 2) ≡ true
+    → is_number_in (range 3) (field r 3) ≡ false → bad_field r 1 range ≡ Some 3
+bad_field-third r range count first second bad = bad_field-some r 1 range 3 (omega arith) (omega arith) (λ i low high. elim (cases_eq i 1) [
+  | inl e ↦ rw e first
+  | inr other ↦ let e : i ≡ 2 = omega arith in rw e second
+]) bad
+
+pub bad_field-three : (r : Kept) (range : ℕ → Range) → length r.fields ≡ 4 → is_number_in (range 1) (field r 1) ≡ true → is_number_in (range 2) (field r 2) ≡ true
+    → is_number_in (range 3) (field r 3) ≡ true → bad_field r 1 range ≡ None
+bad_field-three r range count first second third = bad_field-none r 1 range (λ i low high. elim (cases_eq i 1) [
+  | inl e ↦ rw e first
+  | inr other ↦ elim (cases_eq i 2) [
+    | inl e ↦ rw e second
+    | inr more ↦ let e : i ≡ 3 = omega arith in rw e third
+  ]
+])
+
+-- tests on numbers
+pub is-not : (a b : ℕ) → a ≡ b → not (a == b) ≡ false
+is-not a b h = not_from_true _ (eq-eqb a b h)
+
+pub is-other : (a b : ℕ) → (a ≡ b → ⊥) → not (a == b) ≡ true
+is-other a b h = not_from_false _ (ne_eqb a b h)

@@ -1,0 +1,7 @@
+use Rattle.std.proofs.Common.{◌≡◌, ◌<◌, ◌≤◌, ◌-◌, ◌+◌, ◌∷◌, ◌++◌, [], ℕ, Bool, true, false, Some, None, length, get_or, take, drop, map, sym, ◌∙◌, ap, arith, rules, refl}
+use Rattle.sg_reader.specs.Field.{before_end, is_blank, trimmed}
+use Rattle.sg_reader.proofs.field.trimmed.Goals as goal
+
+pub returns : goal.returns
+unfolding trimmed
+returns c = c.before_blanks.ensures ∙ ap (before_end is_blank) c.after_blanks.ensures

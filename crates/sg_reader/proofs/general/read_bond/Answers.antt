@@ -1,0 +1,71 @@
+use Rattle.std.proofs.Common.{◌≡◌, ◌<◌, ◌≤◌, ◌-◌, ◌+◌, ◌*◌, ◌^◌, ◌∷◌, ◌++◌, [], ℕ, ℤ, pos, Bool, List, true, false, Some, None, Option, length, get_or, set, map, sym, ◌∙◌, ap, arith, rules, refl}
+use Rattle.std.specs.Prelude.{is_some, option_map, unwrap_or}
+use Rattle.std.specs.List.{list_any, range_with_len}
+use Rattle.std.proofs.lemmas.Result.{IfErr-weaker, IfOk-weaker, err_from_is_err_and}
+use Rattle.sg_model.specs.declared.refusal.Fault.TheVariants.{Refused}
+use Rattle.sg_model.specs.declared.refusal.Refusal.{Refusal}
+use Rattle.sg_model.specs.declared.refusal.Refusal.TheVariants.{BadNumber, BadShape, SelfBond, UnknownKind}
+use Rattle.sg_reader.specs.declared.header.Header.TheVariants as header
+use Rattle.sg_reader.specs.declared.range.Range.{Range}
+use Rattle.sg_reader.specs.Kept.{Kept, field, kept_of}
+use Rattle.sg_reader.specs.Tests.{IsTestFault, any_index, any_number, bad_field, is_number_in, size_in, spin_below}
+use Rattle.sg_reader.specs.Body.{bond_fault, bond_of, bond_range, bonds_in, darts_in, general_fault, has_rot, is_bond, is_end, is_rot, is_seam, record_fault, rot_fault, rot_range, seam_fault, sizes_from}
+use Rattle.sg_reader.proofs.TestLaws.{bad_field-first, bad_field-second, bad_field-third, bad_field-three}
+use Rattle.sg_reader.proofs.GeneralLaws.{bond_fault-many, bond_fault-none, bond_fault-number, bond_fault-self}
+use Rattle.sg_reader.proofs.general.read_bond.Goals as goal
+
+pub returns-in_err-u-clause-refused : goal.returns-in_err-u-clause-refused
+returns-in_err-u-clause-refused c =
+    let p = err_from_is_err_and c.from_residual.result c.from_residual.ensures.1 in
+    let r = c.args.row.now in
+    let count : length r.fields ≡ 4 = omega arith in
+    let bad = ap (λ (g : Range). is_number_in g (field r 1)) (sym c.spin_below.ensures) ∙ c.in_err-u.ensures.refused.1 in
+    rw (p.1, p.2) (bond_fault-number c.args.n c.args.m r 1 count (bad_field-first r (bond_range c.args.n) (omega arith) bad) ∙ ap Some (sym c.in_err-u.ensures.refused.0))
+
+pub returns-in_err-v-clause-refused : goal.returns-in_err-v-clause-refused
+returns-in_err-v-clause-refused c =
+    let p = err_from_is_err_and c.from_residual-in_err-v.result c.from_residual-in_err-v.ensures.1 in
+    let r = c.args.row.now in
+    let count : length r.fields ≡ 4 = omega arith in
+    let first = ap (λ (g : Range). is_number_in g (field r 1)) (sym c.spin_below.ensures) ∙ c.in_ok-u.ensures.ok.1 in
+    let bad = ap (λ (g : Range). is_number_in g (field r 2)) (sym c.spin_below-2.ensures) ∙ c.in_err-v.ensures.refused.1 in
+    rw (p.1, p.2) (bond_fault-number c.args.n c.args.m r 2 count (bad_field-second r (bond_range c.args.n) (omega arith) first bad) ∙ ap Some (sym c.in_err-v.ensures.refused.0))
+
+pub returns-in_err-j-clause-refused : goal.returns-in_err-j-clause-refused
+returns-in_err-j-clause-refused c =
+    let p = err_from_is_err_and c.from_residual-in_err-j.result c.from_residual-in_err-j.ensures.1 in
+    let r = c.args.row.now in
+    let count : length r.fields ≡ 4 = omega arith in
+    let first = ap (λ (g : Range). is_number_in g (field r 1)) (sym c.spin_below.ensures) ∙ c.in_ok-u.ensures.ok.1 in
+    let second = ap (λ (g : Range). is_number_in g (field r 2)) (sym c.spin_below-2.ensures) ∙ c.in_ok-v.ensures.ok.1 in
+    let bad = ap (λ (g : Range). is_number_in g (field r 3)) (sym c.any_number.ensures) ∙ c.in_err-j.ensures.refused.1 in
+    rw (p.1, p.2) (bond_fault-number c.args.n c.args.m r 3 count (bad_field-third r (bond_range c.args.n) count first second bad) ∙ ap Some (sym c.in_err-j.ensures.refused.0))
+
+pub returns-then-m-clause-refused : goal.returns-then-m-clause-refused
+returns-then-m-clause-refused c =
+    let r = c.args.row.now in
+    let count : length r.fields ≡ 4 = omega arith in
+    let first = ap (λ (g : Range). is_number_in g (field r 1)) (sym c.spin_below.ensures) ∙ c.in_ok-u.ensures.ok.1 in
+    let second = ap (λ (g : Range). is_number_in g (field r 2)) (sym c.spin_below-2.ensures) ∙ c.in_ok-v.ensures.ok.1 in
+    let third = ap (λ (g : Range). is_number_in g (field r 3)) (sym c.any_number.ensures) ∙ c.in_ok-j.ensures.ok.1 in
+    bond_fault-many c.args.n c.args.m r count (bad_field-three r (bond_range c.args.n) count first second third) (omega arith)
+
+pub returns-then-u-v-clause-refused : goal.returns-then-u-v-clause-refused
+returns-then-u-v-clause-refused c =
+    let r = c.args.row.now in
+    let count : length r.fields ≡ 4 = omega arith in
+    let first = ap (λ (g : Range). is_number_in g (field r 1)) (sym c.spin_below.ensures) ∙ c.in_ok-u.ensures.ok.1 in
+    let second = ap (λ (g : Range). is_number_in g (field r 2)) (sym c.spin_below-2.ensures) ∙ c.in_ok-v.ensures.ok.1 in
+    let third = ap (λ (g : Range). is_number_in g (field r 3)) (sym c.any_number.ensures) ∙ c.in_ok-j.ensures.ok.1 in
+    bond_fault-self c.args.n c.args.m r count (bad_field-three r (bond_range c.args.n) count first second third) (omega arith)
+    (sym c.in_ok-u.ensures.ok.0 ∙ c.if-u-v.true ∙ c.in_ok-v.ensures.ok.0)
+
+pub returns-clause-passes : goal.returns-clause-passes
+returns-clause-passes c =
+    let r = c.args.row.now in
+    let count : length r.fields ≡ 4 = omega arith in
+    let first = ap (λ (g : Range). is_number_in g (field r 1)) (sym c.spin_below.ensures) ∙ c.in_ok-u.ensures.ok.1 in
+    let second = ap (λ (g : Range). is_number_in g (field r 2)) (sym c.spin_below-2.ensures) ∙ c.in_ok-v.ensures.ok.1 in
+    let third = ap (λ (g : Range). is_number_in g (field r 3)) (sym c.any_number.ensures) ∙ c.in_ok-j.ensures.ok.1 in
+    bond_fault-none c.args.n c.args.m r count (bad_field-three r (bond_range c.args.n) count first second third) (omega arith)
+    (λ e. c.if-u-v.false (c.in_ok-u.ensures.ok.0 ∙ e ∙ sym c.in_ok-v.ensures.ok.0))

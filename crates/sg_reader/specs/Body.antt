@@ -1,0 +1,138 @@
+-- The records of an instance after the first, up to its `end`: each is tested from the records between the first and itself, its `body`.
+use Rattle.std.specs.Prelude.{ℕ, ◌+◌, ◌-◌, ◌==◌, ◌&&◌, Bool, not, nat_le, if◌then◌else◌, ℤ, List, [], ◌∷◌, length, map, filter, drop, find, codes, Option, Some, None, option_map, unwrap_or}
+use Rattle.std.specs.List.{flat_map, list_any, range_with_len}
+use Rattle.sg_model.specs.declared.bond.Bond.{Bond}
+use Rattle.sg_model.specs.declared.refusal.Refusal.{Refusal}
+use Rattle.sg_model.specs.declared.refusal.Refusal.TheVariants.{BadShape, CouplingCount, SelfBond, TooManyBonds, UnknownKind}
+use Rattle.sg_model.specs.Ising.{Ising}
+use Rattle.sg_model.specs.Changes.{with_seam}
+use Rattle.sg_lattice.specs.Tables.{bond_total, lattice}
+use Rattle.sg_reader.specs.declared.header.Header.{Header}
+use Rattle.sg_reader.specs.declared.header.Header.TheVariants as header
+use Rattle.sg_reader.specs.declared.limits.TheConstants.{BOND_LIMIT}
+use Rattle.sg_reader.specs.declared.range.Range.{Range}
+use Rattle.sg_reader.specs.Kept.{Kept, begins, field}
+use Rattle.sg_reader.specs.Tests.{any_index, any_number, bad_number, first_of, number_in, refuse_if, size_in, spin_below}
+
+-- what a record begins with
+abbrev pub is_end : Kept → Bool
+is_end r = begins (codes "end") r
+
+abbrev pub is_seam : Kept → Bool
+is_seam r = begins (codes "seam") r
+
+abbrev pub is_bond : Kept → Bool
+is_bond r = begins (codes "bond") r
+
+abbrev pub is_rot : Kept → Bool
+is_rot r = begins (codes "rot") r
+
+-- the numbers in the fields from field `from` on
+abbrev pub numbers_from : Kept → ℕ → List ℤ
+numbers_from r from = map (λ i. number_in r i) (range_with_len from (length r.fields - from))
+
+abbrev pub sizes_from : Kept → ℕ → List ℕ
+sizes_from r from = map (λ i. size_in r i) (range_with_len from (length r.fields - from))
+
+-- the seam, if a record gives one
+unfoldable pub seam_in : List Kept → Option (List ℕ)
+seam_in body = option_map (λ r. sizes_from r 1) (find is_seam body)
+
+-- the couplings of a lattice: all fields of the records that are no seam
+unfoldable pub couplings_in : List Kept → List ℤ
+couplings_in body = flat_map (λ r. numbers_from r 0) (filter (λ r. not (is_seam r)) body)
+
+-- the bonds `bond,U,V,J`
+abbrev pub bond_of : Kept → Bond
+bond_of r = record { u = size_in r 1; v = size_in r 2; j = number_in r 3 }
+
+unfoldable pub bonds_in : List Kept → List Bond
+bonds_in body = map bond_of (filter is_bond body)
+
+-- the darts of spin i, by its record `rot,I,D,D,D`; the empty list where it has none
+abbrev pub is_rot_of : ℕ → Kept → Bool
+is_rot_of i r = is_rot r && (size_in r 1 == i)
+
+unfoldable pub has_rot : List Kept → ℕ → Bool
+has_rot body i = list_any (is_rot_of i) body
+
+unfoldable pub darts_in : List Kept → ℕ → List ℕ
+darts_in body i = unwrap_or (option_map (λ r. sizes_from r 2) (find (is_rot_of i) body)) []
+
+-- a record that begins with `seam`, where one may stand before: it is the second, or a field is no bond's number
+abbrev pub seam_fault : Bool → Kept → Option Refusal
+seam_fault seen r = first_of (
+    refuse_if seen (BadShape r.at)
+    ∷ bad_number r 1 (λ i. any_index)
+    ∷ [])
+
+-- the record that ends a lattice of `wanted` bonds with the couplings that were found
+abbrev pub lattice_end_fault : ℕ → ℕ → Kept → Option Refusal
+lattice_end_fault wanted found r = first_of (
+    refuse_if (not (length r.fields == 1)) (BadShape r.at)
+    ∷ refuse_if (not (found == wanted)) (CouplingCount found wanted)
+    ∷ [])
+
+-- the tests of a record of a lattice
+unfoldable pub lattice_fault : ℕ → List Kept → Kept → Option Refusal
+lattice_fault wanted body r =
+    if is_seam r then seam_fault (list_any is_seam body) r
+    else (if is_end r then lattice_end_fault wanted (length (couplings_in body)) r
+    else bad_number r 0 (λ i. any_number))
+
+-- the range of field i of a `bond` and of a `rot`
+abbrev pub bond_range : ℕ → ℕ → Range
+bond_range n i = if i == 3 then any_number else spin_below n
+
+abbrev pub rot_range : ℕ → ℕ → Range
+rot_range n i = if i == 1 then spin_below n else any_index
+
+-- a bond of an instance of n spins, behind m bonds
+abbrev pub bond_fault : ℕ → ℕ → Kept → Option Refusal
+bond_fault n m r = first_of (
+    refuse_if (not (length r.fields == 4)) (BadShape r.at)
+    ∷ bad_number r 1 (bond_range n)
+    ∷ refuse_if (nat_le BOND_LIMIT m) (TooManyBonds (BOND_LIMIT + 1))
+    ∷ refuse_if (size_in r 1 == size_in r 2) (SelfBond m)
+    ∷ [])
+
+-- the darts of a spin, which may have been given before
+abbrev pub rot_fault : ℕ → Bool → Kept → Option Refusal
+rot_fault n seen r = first_of (
+    refuse_if (length r.fields == 1) (BadShape r.at)
+    ∷ bad_number r 1 (rot_range n)
+    ∷ refuse_if seen (BadShape r.at)
+    ∷ [])
+
+-- the record that ends a general instance
+abbrev pub general_end_fault : Kept → Option Refusal
+general_end_fault r = refuse_if (not (length r.fields == 1)) (BadShape r.at)
+
+-- the tests of a record of a general instance of n spins
+unfoldable pub general_fault : ℕ → List Kept → Kept → Option Refusal
+general_fault n body r =
+    if is_bond r then bond_fault n (length (bonds_in body)) r
+    else (if is_rot r then rot_fault n (has_rot body (size_in r 1)) r
+    else (if is_seam r then seam_fault (list_any is_seam body) r
+    else (if is_end r then general_end_fault r
+    else Some (UnknownKind r.at))))
+
+-- the first test that a record fails
+abbrev pub record_fault : Header → List Kept → Kept → Option Refusal
+record_fault (header.Lattice kind rows cols) body r = lattice_fault (bond_total kind rows cols) body r
+record_fault (header.General n) body r = general_fault n body r
+
+-- the instance with another seam, if there is one
+abbrev pub reseamed : Option (List ℕ) → Ising → Ising
+reseamed None inst = inst
+reseamed (Some seam) inst = with_seam inst seam
+
+-- the instance that the records give
+unfoldable pub instance_of : Header → List Kept → Ising
+instance_of (header.Lattice kind rows cols) body = reseamed (seam_in body) (lattice kind rows cols (couplings_in body))
+instance_of (header.General n) body = record {
+  n = n;
+  bonds = bonds_in body;
+  rotation = map (darts_in body) (range_with_len 0 n);
+  seam = unwrap_or (seam_in body) [];
+}

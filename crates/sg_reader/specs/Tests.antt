@@ -1,0 +1,61 @@
+-- Tests of a record: each gives its refusal where it fails, and of several the first that fails counts.
+use Rattle.std.specs.Prelude.{◌≡◌, ⊤, ℕ, ◌-◌, ◌^◌, ◌&&◌, Bool, false, not, ℤ, pos, neg_ℤ, int_le, unsigned_abs, if◌then◌else◌, List, [], ◌∷◌, length, find, Option, Some, None, option_map, unwrap_or}
+use Rattle.std.specs.List.{range_with_len}
+use Rattle.std.specs.Option.{option_or}
+use Rattle.sg_model.specs.declared.refusal.Fault.{Fault}
+use Rattle.sg_model.specs.declared.refusal.Fault.TheVariants.{Refused, NoMemory}
+use Rattle.sg_model.specs.declared.refusal.Refusal.{Refusal}
+use Rattle.sg_model.specs.declared.refusal.Refusal.TheVariants.{BadNumber}
+use Rattle.sg_reader.specs.declared.range.Range.{Range}
+use Rattle.sg_reader.specs.Number.{number_of}
+use Rattle.sg_reader.specs.Kept.{Kept, field}
+
+-- the refusal, if the test fails
+abbrev pub refuse_if : Bool → Refusal → Option Refusal
+refuse_if fails refusal = if fails then Some refusal else None
+
+-- the first of the tests that fails
+abbrev pub first_of : List (Option Refusal) → Option Refusal
+first_of [] = None
+first_of (test ∷ tests) = option_or test (first_of tests)
+
+-- the ranges of the places: couplings, rows and columns and spins in all, spins by number, darts and bonds by number
+abbrev pub any_number : Range
+any_number = record { low = neg_ℤ (pos (2 ^ 63 - 1)); high = pos (2 ^ 63 - 1) }
+
+abbrev pub at_least : ℕ → Range
+at_least least = record { low = pos least; high = pos (2 ^ 63 - 1) }
+
+abbrev pub spin_below : ℕ → Range
+spin_below n = record { low = pos 0; high = pos (n - 1) }
+
+abbrev pub any_index : Range
+any_index = record { low = pos 0; high = pos (2 ^ 32 - 1) }
+
+-- whether a field is a number of the range
+abbrev pub is_in : Range → Option ℤ → Bool
+is_in range None = false
+is_in range (Some number) = int_le range.low number && int_le number range.high
+
+abbrev pub is_number_in : Range → List ℕ → Bool
+is_number_in range text = is_in range (number_of text)
+
+-- the number in a field, and its size
+abbrev pub number_in : Kept → ℕ → ℤ
+number_in r i = unwrap_or (number_of (field r i)) (pos 0)
+
+abbrev pub size_in : Kept → ℕ → ℕ
+size_in r i = unsigned_abs (number_in r i)
+
+-- the first field from field `from` on that is no number of the range of its place
+unfoldable pub bad_field : Kept → ℕ → (ℕ → Range) → Option ℕ
+bad_field r from range = find (λ i. not (is_number_in (range i) (field r i))) (range_with_len from (length r.fields - from))
+
+-- the test of the numbers of a record
+abbrev pub bad_number : Kept → ℕ → (ℕ → Range) → Option Refusal
+bad_number r from range = option_map (λ i. BadNumber r.at i) (bad_field r from range)
+
+-- what a fault says of a test: its refusal, or want of memory, which may come at any time
+abbrev pub IsTestFault : Option Refusal → Fault → Type 0
+IsTestFault test (Refused refusal) = test ≡ Some refusal
+IsTestFault test NoMemory = ⊤

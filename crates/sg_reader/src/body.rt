@@ -1,0 +1,58 @@
+ghost use Rattle.std.specs.Prelude.{◌≡◌, ◌≤◌, ◌++◌, length, None, IfOk, IfErr, OnOk};
+ghost use Rattle.sg_reader.specs.Body.{numbers_from, seam_fault, sizes_from};
+ghost use Rattle.sg_reader.specs.Tests.{any_index, any_number, bad_field, bad_number, IsTestFault};
+
+use super::range::Range;
+use super::row::Row;
+use sg_model::{BondList, Couplings, Fault, Refusal};
+use std::alloc::Global;
+
+/// The word that ends an instance.
+pub(crate) const END: &[u8] = b"end";
+
+/// The word of a record that gives the seam.
+pub(crate) const SEAM: &[u8] = b"seam";
+
+/// Adds the couplings of a record, which are all its fields.
+pub(crate) fn push_couplings(couplings: &mut Couplings, row: &Row) -> Result<(), Fault>
+    ensures passes { OnOk result (bad_field row.now 0 (λ i. any_number) ≡ None) }
+    ensures added { OnOk result (couplings.new ≡ couplings.old ++ numbers_from row.now 0) }
+    ensures fault { IfErr result (IsTestFault (bad_number row.now 0 (λ i. any_number))) }
+{
+    for i in 0..row.len() {
+        let coupling = row.number(i, Range::any_number())?;
+        couplings.push(coupling)?;
+    }
+    Ok(())
+}
+
+/// The numbers of bonds or darts in the fields of a record from field `from` on.
+pub(crate) fn indices(alloc: Global, row: &Row, from: usize) -> Result<BondList, Fault>
+    requires { from ≤ length row.now.fields }
+    ensures passes { IfOk result (λ l. bad_field row.now from (λ i. any_index) ≡ None) }
+    ensures value { IfOk result (λ l. l ≡ sizes_from row.now from) }
+    ensures fault { IfErr result (IsTestFault (bad_number row.now from (λ i. any_index))) }
+{
+    let mut list = BondList::new(alloc);
+    for i in from..row.len() {
+        let index = row.size(i, Range::any_index())?;
+        list.push(index as u32)?;
+    }
+    Ok(list)
+}
+
+/// The bonds of a record `seam,..`.
+///
+/// # Errors
+/// In this order: `BadShape` where a seam was seen before, and `BadNumber`.
+pub(crate) fn seam(alloc: Global, row: &Row, seen: bool) -> Result<BondList, Fault>
+    requires { 1 ≤ length row.now.fields }
+    ensures passes { IfOk result (λ l. seam_fault seen row.now ≡ None) }
+    ensures value { IfOk result (λ l. l ≡ sizes_from row.now 1) }
+    ensures fault { IfErr result (IsTestFault (seam_fault seen row.now)) }
+{
+    if seen {
+        return Err(Fault::Refused(Refusal::BadShape { at: row.at() }));
+    }
+    indices(alloc, row, 1)
+}

@@ -1,0 +1,94 @@
+ghost use Rattle.std.specs.Prelude.{◌≡◌, ◌<◌, ◌+◌, ◌^◌, [], ◌∷◌, length, IfOk, MatchBool};
+ghost use Rattle.std.specs.List.{sum_by};
+ghost use Rattle.sg_reader.specs.Kept.{kept_of, numbered_from};
+ghost use Rattle.sg_reader.specs.Field.{without_marks as without_marks_of};
+ghost use Rattle.sg_reader.specs.Records.{records_of};
+
+use super::NoMemory;
+use super::cursor::Cursor;
+use super::field::without_marks;
+use super::row::Row;
+use std::alloc::Global;
+use std::marker::Model;
+
+/// The records of a text that are left, with their numbers.
+#[derive(Drop)]
+struct Numbered<'a> {
+    cursor: Cursor<'a>,
+    taken: u32,
+}
+
+impl<'a> Model for Numbered<'a> {
+    ghost use Rattle.std.specs.Prelude.{◌+◌, ◌<◌, ◌^◌, List, length};
+    ghost use Rattle.std.specs.List.{sum_by};
+    ghost use Rattle.sg_reader.specs.Kept.{Kept, numbered_from};
+
+    ghost Value = { List Kept };
+
+    ghost view = { λ r. numbered_from r.taken r.cursor };
+
+    ghost invariant = { λ r. (r.taken + length r.cursor + 1 < 2 ^ 32) × (sum_by length r.cursor < 2 ^ 32) };
+}
+
+impl<'a> Numbered<'a> {
+    fn new(alloc: Global, bytes: &'a [u8]) -> Self
+        requires { length bytes.now < 2 ^ 30 }
+        ensures { result ≡ numbered_from 0 (records_of (without_marks_of bytes.now)) }
+    {
+        Numbered {
+            cursor: Cursor::new(alloc, without_marks(bytes)),
+            taken: 0,
+        }
+    }
+
+    fn next(&mut self, row: &mut Row) -> Result<bool, NoMemory>
+        ensures { IfOk result (λ found. MatchBool found (self.old ≡ row.new ∷ self.new) ((self.old ≡ []) × (self.new ≡ []))) }
+    {
+        if !row.fill(&mut self.cursor, self.taken)? {
+            return Ok(false);
+        }
+        self.taken += 1;
+        Ok(true)
+    }
+}
+
+/// The records of a text that are left, without those that are skipped: blank ones and comments.
+/// After want of memory none is left.
+#[derive(Drop)]
+pub(crate) struct Rows<'a> {
+    records: Numbered<'a>,
+}
+
+impl<'a> Model for Rows<'a> {
+    ghost use Rattle.std.specs.Prelude.{List, filter};
+    ghost use Rattle.sg_reader.specs.Kept.{Kept, is_kept};
+
+    ghost Value = { List Kept };
+
+    ghost view = { λ r. filter is_kept r.records };
+}
+
+impl<'a> Rows<'a> {
+    /// In front of the first record of a text.
+    pub(crate) fn new(alloc: Global, bytes: &'a [u8]) -> Self
+        requires { length bytes.now < 2 ^ 30 }
+        ensures value { result ≡ kept_of bytes.now }
+        ensures few { sum_by (λ r. length r.fields) result < 2 ^ 32 }
+    {
+        Rows {
+            records: Numbered::new(alloc, bytes),
+        }
+    }
+
+    /// Reads the next record that is not skipped into `row`, or answers false where there is none.
+    pub(crate) fn next(&mut self, row: &mut Row) -> Result<bool, NoMemory>
+        ensures { IfOk result (λ found. MatchBool found (self.old ≡ row.new ∷ self.new) ((self.old ≡ []) × (self.new ≡ []))) }
+    {
+        while self.records.next(row)? {
+            if row.is_kept() {
+                return Ok(true);
+            }
+        }
+        Ok(false)
+    }
+}
