@@ -1,0 +1,9 @@
+pub mod DartPairs
+pub mod CyclicLists
+pub mod Rotations
+pub mod Cycles
+pub mod FaceOrbits
+pub mod OrbitWalks
+pub mod PhiTables
+pub mod Traced
+pub mod SameFaces

@@ -1,0 +1,88 @@
+-- Labels of the orbits of the table of `phi` are labels of the faces.
+use Rattle.std.proofs.Common.{ap₂, ◌≡◌, ℕ, zero, suc, ◌<◌, ◌≤◌, Bool, cond, ◌&&◌, leb, List, [], ◌∷◌, refl, sym, ◌∙◌, ap, arith, length, get_or}
+use Rattle.std.specs.List.{range_with_len, list_all}
+use Rattle.std.proofs.lemmas.Bool.{ne_eqb, eq-eqb}
+use Rattle.std.proofs.lemmas.List.FromFn.{length-range_with_len, get_or-range_with_len}
+use Rattle.sg_sums.proofs.SumLaws.{sum_by-same}
+use Rattle.sg_model.specs.Ising.{Ising, bond_count}
+use Rattle.sg_model.specs.Rotation.{dart_count}
+use Rattle.sg_model.specs.WellFormed.{IsInstance}
+use Rattle.sg_faces.specs.Orbits.{after_steps, SameOrbit, is_least_in, orbits_before, IsOneToOne}
+use Rattle.sg_faces.specs.Faces.{phi, is_least, faces_before, Labelling, SameFace, IsFaceLabels}
+use Rattle.sg_faces.specs.Tables.{entry, IsMove, is_least_of, least_before, IsOrbitLabels, IsPhiTable}
+use Rattle.sg_faces.proofs.Rotations.{phi_one_to_one}
+
+list_all_same : (p q : ℕ → Bool) → ((x : ℕ) → p x ≡ q x) → (xs : List ℕ) → list_all p xs ≡ list_all q xs
+list_all_same p q h [] = refl
+list_all_same p q h (x ∷ xs) = ap₂ (λ a b. a && b) (h x) (list_all_same p q h xs)
+
+-- two maps that agree below k have the same orbits there
+module _ (f g : ℕ → ℕ) (k : ℕ) (one : IsOneToOne g k) (same : (d : ℕ) → d < k → f d ≡ g d) where
+  pub one_to_one_same : IsOneToOne f k
+  one_to_one_same = record {
+    below = λ d l. (let b : g d < k = one.below d l in omega (arith, same d l));
+    apart = λ d e l m p. one.apart d e l m (sym (same d l) ∙ p ∙ same e m);
+  }
+
+  steps_in : (j d : ℕ) → d < k → after_steps g j d < k
+  steps_in zero d l = l
+  steps_in (suc j) d l = one.below (after_steps g j d) (steps_in j d l)
+
+  pub after_steps_same : (j d : ℕ) → d < k → after_steps f j d ≡ after_steps g j d
+  after_steps_same zero d l = refl
+  after_steps_same (suc j) d l = ap f (after_steps_same j d l) ∙ same (after_steps g j d) (steps_in j d l)
+
+  pub is_least_same : (d : ℕ) → d < k → is_least_in f k d ≡ is_least_in g k d
+  is_least_same d l = list_all_same (λ j. leb d (after_steps f j d)) (λ j. leb d (after_steps g j d)) (λ j. ap (leb d) (after_steps_same j d l)) (range_with_len 0 k)
+
+  pub orbits_before_same : (n : ℕ) → n ≤ k → orbits_before f k n ≡ orbits_before g k n
+  orbits_before_same n l = sum_by-same (λ d. cond (is_least_in f k d) 1 0) (λ d. cond (is_least_in g k d) 1 0) (range_with_len 0 n) each
+    where
+      at_number : (d : ℕ) → d < n → cond {A = ℕ} (is_least_in f k d) 1 0 ≡ cond (is_least_in g k d) 1 0
+      at_number d b = ap (λ b. cond {A = ℕ} b 1 0) (is_least_same d (omega arith))
+
+      each : (i x : ℕ) → i < length (range_with_len 0 n) → cond {A = ℕ} (is_least_in f k (get_or (range_with_len 0 n) i x)) 1 0 ≡ cond (is_least_in g k (get_or (range_with_len 0 n) i x)) 1 0
+      each i x b = at_number (get_or (range_with_len 0 n) i x) (omega (arith, length-range_with_len 0 n, get_or-range_with_len 0 n i x (omega (arith, length-range_with_len 0 n))))
+
+module _ (inst : Ising) (good : IsInstance inst) (table : List ℕ) (is : IsPhiTable inst table) where
+  at_dart : (d : ℕ) → d < length table → entry table d ≡ phi inst d
+  at_dart d l = is.entries d (omega (arith, is.lengths))
+
+  one : IsOneToOne (phi inst) (length table)
+  one = rw is.lengths (phi_one_to_one inst good)
+
+  pub phi_table_moves : IsMove table
+  phi_table_moves = one_to_one_same (entry table) (phi inst) (length table) one at_dart
+
+  least_same : (d : ℕ) → d < dart_count inst → is_least_of table d ≡ is_least inst d
+  least_same d l = is_least_same (entry table) (phi inst) (length table) one at_dart d (omega (arith, is.lengths)) ∙ ap (λ k. is_least_in (phi inst) k d) is.lengths
+
+  counted : (n : ℕ) → n ≤ dart_count inst → least_before table n ≡ faces_before inst n
+  counted n l = orbits_before_same (entry table) (phi inst) (length table) one at_dart n (omega (arith, is.lengths)) ∙ ap (λ k. orbits_before (phi inst) k n) is.lengths
+
+  pub faces_from_orbits : (faces : Labelling) → IsOrbitLabels table faces.labels faces.count → 0 < bond_count inst → IsFaceLabels inst faces
+  faces_from_orbits faces h some = record {
+    lengths = h.lengths ∙ is.lengths;
+    below = λ d l. h.below d (omega (arith, is.lengths));
+    same = λ d e l m. ((λ s. there d e l ((h.same d e (omega (arith, is.lengths)) (omega (arith, is.lengths))).0 s)), (λ s. back d e l m s));
+    used = λ f l _. (let u : (d : ℕ) × (d < length table) × (get_or faces.labels d 0 ≡ f) = h.used f l in (u.0, omega (arith, u.1, is.lengths), u.2));
+    order = λ d l least. h.order d (omega (arith, is.lengths)) (least_same d l ∙ least) ∙ counted d (omega arith);
+    counts = h.counts ∙ ap (least_before table) is.lengths ∙ counted (dart_count inst) (omega arith) ∙ sym (ap (λ b. cond b 1 (faces_before inst (dart_count inst))) (ne_eqb (bond_count inst) 0 (λ (e : bond_count inst ≡ 0). omega arith)));
+  }
+    where
+      there : (d e : ℕ) → d < dart_count inst → SameOrbit (entry table) d e → SameFace inst d e
+      there d e l (j, s) = (j, sym (after_steps_same (entry table) (phi inst) (length table) one at_dart j d (omega (arith, is.lengths))) ∙ s)
+
+      back : (d e : ℕ) → d < dart_count inst → e < dart_count inst → SameFace inst d e → get_or faces.labels d 0 ≡ get_or faces.labels e 0
+      back d e l m (j, s) = (h.same d e (omega (arith, is.lengths)) (omega (arith, is.lengths))).1 (j, after_steps_same (entry table) (phi inst) (length table) one at_dart j d (omega (arith, is.lengths)) ∙ s)
+
+-- without a bond there is one face and no dart
+pub no_darts : (inst : Ising) (faces : Labelling) → bond_count inst ≡ 0 → faces.labels ≡ [] → faces.count ≡ 1 → IsFaceLabels inst faces
+no_darts inst faces none no_labels one = record {
+  lengths = ap length no_labels ∙ omega arith;
+  below = λ d l. absurd (omega arith);
+  same = λ d e l m. absurd (omega arith);
+  used = λ f l some. absurd (omega arith);
+  order = λ d l least. absurd (omega arith);
+  counts = one ∙ sym (ap (λ b. cond {A = ℕ} b 1 (faces_before inst (dart_count inst))) (eq-eqb (bond_count inst) 0 none));
+}

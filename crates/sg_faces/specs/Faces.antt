@@ -1,0 +1,43 @@
+-- The faces of a rotation system (Heffter 1891, Edmonds 1960): the orbits of its darts, and labels of them.
+use Rattle.std.specs.Prelude.{◌≡◌, ℕ, ◌<◌, ◌==◌, ◌↔◌, Bool, true, if◌then◌else◌, List, length, slice_index}
+use Rattle.sg_model.specs.Ising.{Ising, bond_count}
+use Rattle.sg_model.specs.Rotation.{dart_count, next, rev}
+use Rattle.sg_faces.specs.Orbits.{after_steps, SameOrbit, is_least_in, orbits_before}
+
+-- the dart behind d along the face on its side: over the bond, and on to the next dart round the spin there
+abbrev pub phi : Ising → ℕ → ℕ
+phi inst d = next inst (rev d)
+
+-- the dart that j steps of `phi` lead to
+abbrev pub steps : Ising → ℕ → ℕ → ℕ
+steps inst j d = after_steps (phi inst) j d
+
+-- some number of steps leads from dart d to dart e
+abbrev pub SameFace : Ising → ℕ → ℕ → Type 0
+SameFace inst d e = SameOrbit (phi inst) d e
+
+-- whether no dart of the face of d is less than d; a face has no more darts than there are
+abbrev pub is_least : Ising → ℕ → Bool
+is_least inst d = is_least_in (phi inst) (dart_count inst) d
+
+-- how many darts before d are the least of their faces
+abbrev pub faces_before : Ising → ℕ → ℕ
+faces_before inst d = orbits_before (phi inst) (dart_count inst) d
+
+-- each face has one least dart; round the spins of an instance without a bond lies one face
+abbrev pub face_count : Ising → ℕ
+face_count inst = if bond_count inst == 0 then 1 else faces_before inst (dart_count inst)
+
+-- a label for each dart, and the number of labels
+pub record Labelling : Type 0 where
+  pub labels : List ℕ
+  pub count : ℕ
+
+-- the labels of the faces: one for the darts of each face, in the order of the faces' least darts
+pub record IsFaceLabels (inst : Ising) (faces : Labelling) : Type 0 where
+  pub lengths : length faces.labels ≡ dart_count inst
+  pub below : (d : ℕ) → d < dart_count inst → slice_index faces.labels d < faces.count
+  pub same : (d e : ℕ) → d < dart_count inst → e < dart_count inst → (slice_index faces.labels d ≡ slice_index faces.labels e) ↔ SameFace inst d e
+  pub used : (f : ℕ) → f < faces.count → 0 < bond_count inst → (d : ℕ) × (d < dart_count inst) × (slice_index faces.labels d ≡ f)
+  pub order : (d : ℕ) → d < dart_count inst → is_least inst d ≡ true → slice_index faces.labels d ≡ faces_before inst d
+  pub counts : faces.count ≡ face_count inst

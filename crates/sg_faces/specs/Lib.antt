@@ -1,0 +1,5 @@
+pub mod Orbits
+pub mod Faces
+pub mod Euler
+pub mod Tables
+pub mod Sides

@@ -1,0 +1,26 @@
+//! The faces of a graph that is drawn on a surface: a walk along the boundary of each region.
+//!
+//! The drawing is given as a rotation system: for each spin the cyclic order of the darts that
+//! leave it (Heffter 1891, Edmonds 1960). From a dart one walks over its bond to the spin at the
+//! other end, and leaves that by the dart next in its order; the darts met until the walk is back
+//! are one face. Frustration lives on these faces, and their number gives the genus of the surface
+//! by Euler's formula.
+//!
+//! For the next engineer: `trace` is the contract that matters, `IsFaceLabels` in
+//! `specs/Faces.antt`: two darts have one label exactly where they lie in one orbit. The crates
+//! above cite the lemmas on orbits in `proofs/FaceOrbits.antt` and on the darts of a rotation in
+//! `proofs/Rotations.antt`.
+#![tactic(auto)]
+
+mod faces;
+mod labels;
+mod table;
+
+pub use faces::{Faces, trace};
+use std::alloc::AllocError;
+
+/// The allocator had no memory left.
+pub type NoMemory = AllocError;
+
+#[cfg(test)]
+mod tests;

@@ -1,0 +1,45 @@
+ghost use Rattle.std.specs.Prelude.{◌≡◌, ◌≢◌, ℕ, ◌<◌, length, slice_index, All, IfOk};
+ghost use Rattle.sg_model.specs.Rotation.{following, rev};
+ghost use Rattle.sg_model.specs.Seam.{IsDistinct};
+ghost use Rattle.sg_faces.specs.Tables.{IsPhiTable};
+
+use super::NoMemory;
+use sg_model::Instance;
+use std::alloc::Global;
+
+// The other dart of the same bond.
+#[tactic(auto, unfolding(sg_model::specs::Rotation::rev))]
+fn reverse(dart: u32) -> u32
+    ensures { result ≡ rev dart }
+{
+    if dart % 2 == 0 { dart + 1 } else { dart - 1 }
+}
+
+// Enters, at the reverse of each dart of a spin, the dart that follows it round the spin.
+fn link(darts: &[u32], table: &mut [u32])
+    requires distinct { IsDistinct darts.now }
+    requires below { All (λ d. rev d < length table.old) darts.now }
+    ensures follows { All (λ d. slice_index table.new (rev d) ≡ following darts.now d) darts.now }
+    ensures kept { (x : ℕ) → All (λ d. rev d ≢ x) darts.now →
+        slice_index table.new x ≡ slice_index table.old x }
+{
+    for (place, dart) in darts.iter().enumerate() {
+        let after = if place + 1 < darts.len() {
+            place + 1
+        } else {
+            0
+        };
+        table[reverse(*dart) as usize] = darts[after];
+    }
+}
+
+/// For each dart the dart behind it along its face.
+pub(crate) fn phi_table(alloc: Global, inst: &Instance) -> Result<Vec<u32>, NoMemory>
+    ensures { IfOk result (λ t. IsPhiTable inst.now t.items) }
+{
+    let mut table = vec![in alloc; 0u32; 2 * inst.bonds().len()]?;
+    for list in inst.rotation().as_slice() {
+        link(list.as_slice(), &mut table);
+    }
+    Ok(table)
+}
