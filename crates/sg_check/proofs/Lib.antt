@@ -1,0 +1,4 @@
+pub mod WeakDuality
+pub mod Verdicts
+mod OddSpins
+mod LoopLoads

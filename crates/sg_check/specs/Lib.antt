@@ -1,0 +1,3 @@
+pub mod Loop
+pub mod Packing
+pub mod Verdict
