@@ -1,0 +1,5 @@
+pub mod Ranges
+pub mod DualWebs
+pub mod Frustration
+pub mod IsingWalks
+pub mod FacesJoined
