@@ -1,0 +1,4 @@
+pub mod ForcedMinimum
+pub mod RigidProducts
+pub mod CostNumbers
+pub mod ClusterNames

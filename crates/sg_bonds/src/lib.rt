@@ -1,0 +1,27 @@
+//! What it costs to break a bond of a planar spin glass, which bonds are rigid, and the clusters
+//! that rigid bonds hold together.
+//!
+//! The cost of a bond is how far the least energies lie apart that the lattice has with its two
+//! spins alike and with them unlike. A bond of cost above 0 is rigid: its two spins stand to each
+//! other in the same way in every ground state (Barahona, Maynard, Rammal and Uhry 1982). Spins that
+//! rigid bonds join form clusters, which a lattice with many ground states keeps in all of them.
+//!
+//! For the next engineer: `specs/Cost.antt` and `specs/Cluster.antt` say what is computed. `costs` rests
+//! on the law `forced_minimum` and on the contract of `solve`, and on nothing of its body.
+#![tactic(auto)]
+
+mod breaking;
+mod law;
+mod naming;
+
+pub use breaking::{costs, rigid};
+pub use law::{forced_minimum, rigid_clusters_agree};
+pub use naming::clusters;
+use sg_list::Numbers;
+use std::alloc::AllocError;
+
+/// The allocator had no memory left.
+pub type NoMemory = AllocError;
+
+/// What it costs to break each bond, in the order of the bonds.
+pub type CostList = Numbers<i64>;

@@ -1,0 +1,2 @@
+pub mod EmptySeams
+pub mod WallNumbers

@@ -1,0 +1,48 @@
+-- The three numbers of a wall, from two ground states.
+use Rattle.std.proofs.Common.{◌≡◌, ℕ, ◌≤◌, ◌+◌, ◌^◌, ℤ, ◌-ℤ◌, List, [], sym, ◌∙◌, ap, subst, to_z, of_z, w64, pos, arith}
+use Rattle.std.specs.Prelude.{FitsSigned, unsigned_abs}
+use Rattle.std.proofs.lemmas.Int.{ints, to_z-of_z, fits_signed_from_abs}
+use Rattle.sg_model.specs.Ising.{Ising}
+use Rattle.sg_model.specs.Energy.{IsGroundState, IsLeastEnergy, energy, weight}
+use Rattle.sg_model.specs.Changes.{with_seam_flipped}
+use Rattle.sg_model.proofs.EnergyBounds.{least_of_ground_state}
+use Rattle.sg_planar.specs.Fit.{Embedding, IsPlanar}
+use Rattle.sg_planar.proofs.OtherCouplings.{weight_flipped}
+use Rattle.sg_wall.specs.Wall.{IsWall}
+use Rattle.sg_wall.proofs.EmptySeams.{no_wall}
+
+module _
+    (p q : Embedding) (s t : List ℤ) (e f : ℤ)
+    (planar : IsPlanar q) (flipped : q ≡ record { instance = with_seam_flipped p.instance; faces = p.faces })
+    (old : IsGroundState p.instance s) (old_energy : e ≡ energy p.instance s) (old_size : unsigned_abs e ≤ weight p.instance)
+    (new : IsGroundState q.instance t) (new_energy : f ≡ energy q.instance t) (new_size : unsigned_abs f ≤ weight q.instance) where
+  same_weight : weight q.instance ≡ weight p.instance
+  same_weight = ap (λ (r : Embedding). weight r.instance) flipped ∙ weight_flipped p.instance
+
+  first_kept : to_z w64 (of_z w64 e) ≡ e
+  first_kept = to_z-of_z w64 e (fits_signed_from_abs w64 e (omega (arith, old_size, same_weight, planar.sum)))
+
+  second_kept : to_z w64 (of_z w64 f) ≡ f
+  second_kept = to_z-of_z w64 f (fits_signed_from_abs w64 f (omega (arith, new_size, planar.sum)))
+
+  small : (x y : ℤ) (w : ℕ) → unsigned_abs x ≤ w → unsigned_abs y ≤ w → w ≤ 2 ^ 41 + 1 → unsigned_abs (y -ℤ x) ≤ 2 ^ 43
+  small x y w a b c = omega (arith, ints)
+
+  difference_size : unsigned_abs (to_z w64 (of_z w64 f) -ℤ to_z w64 (of_z w64 e)) ≤ 2 ^ 43
+  difference_size = rw (first_kept, second_kept) (small e f (weight q.instance) (omega (arith, old_size, same_weight)) new_size planar.sum)
+
+  pub difference_fits : FitsSigned w64 (to_z w64 (of_z w64 f) -ℤ to_z w64 (of_z w64 e))
+  difference_fits = fits_signed_from_abs w64 (to_z w64 (of_z w64 f) -ℤ to_z w64 (of_z w64 e)) (omega (arith, difference_size))
+
+  third_kept : to_z w64 (of_z w64 (to_z w64 (of_z w64 f) -ℤ to_z w64 (of_z w64 e))) ≡ to_z w64 (of_z w64 f) -ℤ to_z w64 (of_z w64 e)
+  third_kept = to_z-of_z w64 (to_z w64 (of_z w64 f) -ℤ to_z w64 (of_z w64 e)) difference_fits
+
+  pub is_wall : IsWall p.instance (to_z w64 (of_z w64 e)) (to_z w64 (of_z w64 f)) (to_z w64 (of_z w64 (to_z w64 (of_z w64 f) -ℤ to_z w64 (of_z w64 e))))
+  is_wall = record {
+    least = least_of_ground_state p.instance s (to_z w64 (of_z w64 e)) old (first_kept ∙ old_energy);
+    least_flipped = subst (λ (r : Embedding). IsLeastEnergy r.instance (to_z w64 (of_z w64 f))) flipped (least_of_ground_state q.instance t (to_z w64 (of_z w64 f)) new (second_kept ∙ new_energy));
+    gain = third_kept;
+  }
+
+  pub no_gain : p.instance.seam ≡ [] → to_z w64 (of_z w64 (to_z w64 (of_z w64 f) -ℤ to_z w64 (of_z w64 e))) ≡ pos 0
+  no_gain none = no_wall p.instance _ _ _ is_wall.least is_wall.least_flipped is_wall.gain none

@@ -1,0 +1,35 @@
+ghost use Rattle.std.specs.Prelude.{◌≡◌, ◌≤◌, [], pos, IfOk};
+ghost use Rattle.sg_wall.specs.Wall.{IsWall};
+
+use super::NoMemory;
+use sg_ground::solve;
+use sg_planar::Planar;
+use std::alloc::Global;
+
+/// The least energies under the two boundaries, and the energy of the domain wall.
+#[derive(Clone, Copy, Debug)]
+pub struct WallAnswer {
+    /// The least energy.
+    pub periodic: i64,
+    /// The least energy with the signs of the seam's couplings changed.
+    pub antiperiodic: i64,
+    /// `antiperiodic - periodic`, of either sign.
+    pub difference: i64,
+}
+
+/// The energy of the domain wall that the seam forces, in the time of two ground states of at most
+/// 16 spins. With an empty seam it is 0. The only error is want of memory.
+pub fn wall(alloc: Global, planar: &Planar) -> Result<WallAnswer, NoMemory>
+    requires { planar.now.instance.n ≤ 16 }
+    ensures wall { IfOk result
+        (λ w. IsWall planar.now.instance w.periodic w.antiperiodic w.difference) }
+    ensures no_seam { IfOk result (λ w. planar.now.instance.seam ≡ [] → w.difference ≡ pos 0) }
+{
+    let periodic = solve(alloc, planar)?.energy;
+    let antiperiodic = solve(alloc, &planar.flip_seam()?)?.energy;
+    Ok(WallAnswer {
+        periodic,
+        antiperiodic,
+        difference: antiperiodic - periodic,
+    })
+}
