@@ -1,0 +1,4 @@
+pub mod Line
+pub mod Refusals
+pub mod Verdicts
+pub mod Text

@@ -1,0 +1,25 @@
+//! The texts of answers: exact bytes, line by line.
+//!
+//! A line is a word, the numbers behind it, each after a comma, and one line feed. Numbers are
+//! decimal, with `-` before a negative one and no leading zeros.
+//!
+//! For the next engineer: each public function makes just the bytes of the definition of its name in
+//! `specs/Text.antt`; the numbers of refusals and verdicts stand in `specs/Refusals.antt` and
+//! `specs/Verdicts.antt`. The functions take the memory of their text and nothing else.
+#![tactic(auto)]
+
+mod answers;
+mod faults;
+mod line;
+mod studies;
+
+pub use answers::energy_text;
+pub use faults::{refusal_text, verdict_text};
+use std::alloc::AllocError;
+pub use studies::{bonds_text, clusters_text, wall_text};
+
+/// The allocator had no memory left.
+pub type NoMemory = AllocError;
+
+#[cfg(test)]
+mod tests;

@@ -1,0 +1,44 @@
+use super::{bonds_text, clusters_text, energy_text, refusal_text, verdict_text, wall_text};
+use sg_check::Verdict;
+use sg_model::{Refusal, Spins};
+use std::test::Fail;
+
+#[test]
+fn each_text_has_its_bytes(rt: HostRuntime) -> Result<(), Fail> {
+    let alloc = rt.alloc();
+    let mut spins = Spins::new(alloc);
+    spins.push(1)?;
+    spins.push(-1)?;
+    let texts = [
+        (
+            energy_text(alloc, -3, &spins)?,
+            "energy,-3\nspins,1,-1\nend\n",
+        ),
+        (
+            wall_text(alloc, [-14, -10, 4])?,
+            "periodic,-14\nantiperiodic,-10\nwall,4\nend\n",
+        ),
+        (
+            bonds_text(alloc, &[6, 0])?,
+            "cost,0,6,rigid\ncost,1,0,loose\nend\n",
+        ),
+        (
+            clusters_text(alloc, &[0, 1])?,
+            "cluster,0,0\ncluster,1,1\nend\n",
+        ),
+        (
+            refusal_text(alloc, &Refusal::NotPlanar { euler: -2 })?,
+            "refused,15,-2\n",
+        ),
+        (refusal_text(alloc, &Refusal::NoSeam)?, "refused,16\n"),
+        (verdict_text(alloc, &Verdict::Yes)?, "yes\n"),
+        (
+            verdict_text(alloc, &Verdict::Load { bond: 2, load: 5 })?,
+            "no,6,2,5\n",
+        ),
+    ];
+    for (text, wanted) in &texts {
+        assert_eq!(rt; text.as_slice(), wanted.as_bytes());
+    }
+    Ok(())
+}
