@@ -3,8 +3,7 @@ use Rattle.std.proofs.Common.{◌≡◌, ℕ, List, Option, None, refl}
 use Rattle.sg_io.specs.Writing.{GrowsByPrefix}
 use Rattle.sg_cli.specs.Command.{command_of}
 use Rattle.sg_cli.specs.Promises.{AnswersInPart}
-use Rattle.sg_cli.specs.Served.{Served}
-use Rattle.sg_cli.specs.Text.{usage_text}
+use Rattle.sg_cli.specs.Served.{Served, usage_text}
 use Rattle.sg_cli.specs.declared.status.Status.TheVariants.{Usage}
 
 pub usage-served : (words : List (List ℕ)) (bytes : List ℕ) → command_of words ≡ None → Served words bytes usage_text Usage

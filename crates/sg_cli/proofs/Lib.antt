@@ -1,2 +1,3 @@
 mod TakesLemmas
 mod AnswerLemmas
+mod InputLemmas

@@ -1,5 +1,5 @@
 pub mod Command
 pub mod Exit
-pub mod Text
+pub mod Input
 pub mod Served
 pub mod Promises

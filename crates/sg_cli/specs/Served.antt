@@ -1,50 +1,94 @@
 -- What is answered: the status and the whole text that belong to the words and the bytes.
-use Rattle.std.specs.Prelude.{◌≡◌, ℕ, ℤ, pos, Bool, true, false, Option, Some, None, Result, Ok, Err, List, length, nat_lt, int_lt, if◌then◌else◌}
+use Rattle.std.specs.Prelude.{◌≡◌, ◌≢◌, ◌<◌, ◌≤◌, ℕ, ℤ, pos, Bool, true, false, Option, Some, None, List, [], length, codes}
+use Rattle.sg_model.specs.declared.refusal.Refusal.{Refusal}
+use Rattle.sg_model.specs.declared.refusal.Refusal.TheVariants.{TooLong, NoSeam}
 use Rattle.sg_model.specs.Ising.{Ising}
 use Rattle.sg_model.specs.Spins.{spin}
-use Rattle.sg_model.specs.Energy.{IsGroundState, energy, weight}
-use Rattle.sg_model.specs.declared.refusal.Refusal.{Refusal}
-use Rattle.sg_model.specs.declared.refusal.Refusal.TheVariants.{TooLong, SumTooLarge, NotBuilt}
-use Rattle.sg_reader.specs.SquareForm.{square_form}
+use Rattle.sg_model.specs.Energy.{IsGroundState, energy}
+use Rattle.sg_wall.specs.Wall.{IsWall}
+use Rattle.sg_bonds.specs.Cost.{AreCosts}
+use Rattle.sg_bonds.specs.Cluster.{AreClusters}
+use Rattle.sg_report.specs.Text.{bonds_text, clusters_text, energy_text, refusal_text, wall_text}
 use Rattle.sg_cli.specs.Command.{command_of}
-use Rattle.sg_cli.specs.Text.{energy_text, refusal_text, usage_text}
+use Rattle.sg_cli.specs.Input.{GivesFit, RefusesText}
 use Rattle.sg_cli.specs.declared.command.Command.{Command}
-use Rattle.sg_cli.specs.declared.command.Command.TheVariants.{Energy}
-use Rattle.sg_cli.specs.declared.limits.TheConstants.{INPUT_LIMIT, SUM_LIMIT}
+use Rattle.sg_cli.specs.declared.command.Command.TheVariants.{Energy, Wall, Bonds, Clusters}
+use Rattle.sg_cli.specs.declared.limits.TheConstants.{INPUT_LIMIT}
 use Rattle.sg_cli.specs.declared.status.Status.{Status}
 use Rattle.sg_cli.specs.declared.status.Status.TheVariants.{Done, Refused, Usage}
 
--- an instance that is read is answered where its couplings' sizes sum to no more than the limit
-abbrev pub judged_instance : Option Ising → Result Ising Refusal
-judged_instance None = Err NotBuilt
-judged_instance (Some inst) = if int_lt SUM_LIMIT (pos (weight inst)) then Err (SumTooLarge (pos (weight inst))) else Ok inst
+-- the line where the words have no shape
+abbrev pub usage_text : List ℕ
+usage_text = codes "usage\n"
 
--- the instance of an input, or its first fault
-abbrev pub judged : List ℕ → Result Ising Refusal
-judged bytes = if nat_lt INPUT_LIMIT (length bytes) then Err (TooLong INPUT_LIMIT) else judged_instance (square_form bytes)
+-- the line of a refusal
+pub record IsRefused (refusal : Refusal) (text : List ℕ) (status : Status) : Type 0 where
+  pub ended : status ≡ Refused
+  pub printed : text ≡ refusal_text refusal
 
--- the text prints a ground state with spin 0 up, and its energy
-pub record PrintsGroundState (inst : Ising) (text : List ℕ) : Type 0 where
+-- a ground state with spin 0 up, and its energy
+pub record PrintsGroundState (inst : Ising) (text : List ℕ) (status : Status) : Type 0 where
   pub spins : List ℤ
   pub least : IsGroundState inst spins
   pub first_up : spin spins 0 ≡ pos 1
   pub printed : text ≡ energy_text (energy inst spins) spins
+  pub done : status ≡ Done
 
--- the command `energy`: a refusal with its numbers, or a ground state
-abbrev pub ServedEnergy : Result Ising Refusal → List ℕ → Status → Type 0
-ServedEnergy (Err refusal) text status = (status ≡ Refused) × (text ≡ refusal_text refusal)
-ServedEnergy (Ok inst) text status = (status ≡ Done) × PrintsGroundState inst text
+-- the energies of a domain wall
+pub record PrintsWall (inst : Ising) (text : List ℕ) (status : Status) : Type 0 where
+  pub periodic : ℤ
+  pub antiperiodic : ℤ
+  pub difference : ℤ
+  pub wall : IsWall inst periodic antiperiodic difference
+  pub printed : text ≡ wall_text periodic antiperiodic difference
+  pub done : status ≡ Done
+
+-- the cost of each bond
+pub record PrintsCosts (inst : Ising) (text : List ℕ) (status : Status) : Type 0 where
+  pub costs : List ℤ
+  pub exact : AreCosts inst costs
+  pub printed : text ≡ bonds_text costs
+  pub done : status ≡ Done
+
+-- the cluster of each spin
+pub record PrintsClusters (inst : Ising) (text : List ℕ) (status : Status) : Type 0 where
+  pub names : List ℕ
+  pub exact : AreClusters inst names
+  pub printed : text ≡ clusters_text names
+  pub done : status ≡ Done
+
+-- a wall where the seam is empty is refused
+pub record AnswersWall (inst : Ising) (text : List ℕ) (status : Status) : Type 0 where
+  pub without_seam : inst.seam ≡ [] → IsRefused NoSeam text status
+  pub with_seam : inst.seam ≢ [] → PrintsWall inst text status
+
+-- what a command answers to an instance that is fit
+abbrev pub AnswersFit : Command → Ising → List ℕ → Status → Type 0
+AnswersFit Energy inst text status = PrintsGroundState inst text status
+AnswersFit Wall inst text status = AnswersWall inst text status
+AnswersFit Bonds inst text status = PrintsCosts inst text status
+AnswersFit Clusters inst text status = PrintsClusters inst text status
+
+-- what a command answers to a text: the first fault, or the answer to its instance
+pub data AnswersText (command : Command) (bytes text : List ℕ) (status : Status) : Type 0 where
+  Refuses : (refusal : Refusal) → RefusesText bytes refusal → IsRefused refusal text status → AnswersText command bytes text status
+  Answers : (inst : Ising) → GivesFit bytes inst → AnswersFit command inst text status → AnswersText command bytes text status
+
+-- what a command answers to an input: an input that is too long is not looked at further
+pub record AnswersInput (command : Command) (bytes text : List ℕ) (status : Status) : Type 0 where
+  pub too_long : INPUT_LIMIT < length bytes → IsRefused (TooLong INPUT_LIMIT) text status
+  pub short : length bytes ≤ INPUT_LIMIT → AnswersText command bytes text status
 
 -- what a command answers to the bytes; without a command the answer is the usage
 abbrev pub ServedBy : Option Command → List ℕ → List ℕ → Status → Type 0
 ServedBy None bytes text status = (status ≡ Usage) × (text ≡ usage_text)
-ServedBy (Some Energy) bytes text status = ServedEnergy (judged bytes) text status
+ServedBy (Some command) bytes text status = AnswersInput command bytes text status
 
 -- what the words answer to the bytes
 abbrev pub Served : List (List ℕ) → List ℕ → List ℕ → Status → Type 0
 Served words bytes text status = ServedBy (command_of words) bytes text status
 
--- the command reads its source
+-- whether the source is read: each command so far reads it
 abbrev pub is_reading : Option Command → Bool
 is_reading None = false
-is_reading (Some Energy) = true
+is_reading (Some command) = true

@@ -1,11 +1,17 @@
 ghost use Rattle.std.specs.Prelude.{◌≡◌, map, string_bytes};
-ghost use Rattle.sg_cli.specs.Command.{command_of};
+ghost use Rattle.sg_cli.specs.Command.{command_named, command_of};
 
 /// A command of the program.
 #[derive(Clone, Copy)]
 pub enum Command {
     /// The least energy of an instance, and spins that have it.
     Energy,
+    /// The least energy, the least energy with the signs of the seam changed, and their difference.
+    Wall,
+    /// The cost of each bond.
+    Bonds,
+    /// The rigid cluster of each spin.
+    Clusters,
 }
 
 /// The command that the words after the program's name ask for. It takes no memory.
@@ -13,7 +19,24 @@ pub fn parse_command(words: &[String]) -> Option<Command>
     ensures { result ≡ command_of (map string_bytes words.now) }
 {
     match words {
-        [word] if word.as_str() == "energy" => Some(Command::Energy),
+        [word] => command_named(word.as_str()),
         _ => None,
+    }
+}
+
+// The command that a word names.
+fn command_named(word: &str) -> Option<Command>
+    ensures { result ≡ command_named word.now }
+{
+    if word == "energy" {
+        Some(Command::Energy)
+    } else if word == "wall" {
+        Some(Command::Wall)
+    } else if word == "bonds" {
+        Some(Command::Bonds)
+    } else if word == "clusters" {
+        Some(Command::Clusters)
+    } else {
+        None
     }
 }

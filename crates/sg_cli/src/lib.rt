@@ -1,7 +1,7 @@
 //! The top call: words, a source and a sink in, one status out.
 //!
-//! `run` reads an instance, finds a ground state and writes its energy and its spins; every other
-//! input is refused with the number of its first fault.
+//! `run` reads an instance and answers a command: a ground state, a domain wall, the costs of the
+//! bonds, or the rigid clusters. Every other input is refused with the number of its first fault.
 //!
 //! For the next engineer: the contract of `run` is the headline of the whole project. Its clauses
 //! stand in `specs/Promises.antt`, over one definition of what is answered, `specs/Served.antt`. A
@@ -13,10 +13,10 @@ mod limits;
 mod reply;
 mod serve;
 mod status;
-mod text;
+mod studies;
 
 pub use command::Command;
-pub use limits::{INPUT_LIMIT, SUM_LIMIT};
+pub use limits::INPUT_LIMIT;
 pub use serve::run;
 pub use status::Status;
 use std::alloc::AllocError;

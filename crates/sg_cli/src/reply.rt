@@ -1,13 +1,15 @@
-ghost use Rattle.std.specs.Prelude.{◌≡◌, ◌≤◌, ◌<◌, ◌^◌, length, IfOk, Some};
+ghost use Rattle.std.specs.Prelude.{◌≡◌, ◌≤◌, ◌<◌, ◌^◌, length, IfOk, IfErr};
+ghost use Rattle.sg_planar.specs.Fit.{IsFit};
+ghost use Rattle.sg_cli.specs.Input.{GivesFit, GivesInstance, RefusesBy};
 ghost use Rattle.sg_cli.specs.Promises.{IsAnswered};
-ghost use Rattle.sg_cli.specs.Served.{PrintsGroundState, ServedEnergy, judged_instance};
-ghost use Rattle.sg_reader.specs.SquareForm.{square_form};
-ghost use Rattle.sg_cli.specs.Text.{refusal_text};
+ghost use Rattle.sg_cli.specs.Served.{AnswersFit, AnswersText, IsRefused};
 
-use super::text::{energy_text, refusal_text};
-use super::{NoMemory, SUM_LIMIT, Status};
-use sg_model::{Fault, Instance, Refusal, least_plain};
-use sg_reader::read_square;
+use super::studies::{bonds_reply, clusters_reply, energy_reply, wall_reply};
+use super::{Command, NoMemory, Status};
+use sg_model::{Fault, Instance, Refusal};
+use sg_planar::{NotFit, Planar};
+use sg_reader::{no_more, read_instance};
+use sg_report::refusal_text;
 use std::alloc::{AllocError, Global};
 
 /// A status that answers the words, and its whole text.
@@ -19,8 +21,8 @@ pub struct Reply {
 
 /// The line of a refusal, and its status.
 pub fn refuse(alloc: Global, refusal: &Refusal) -> Result<Reply, NoMemory>
-    ensures status { IfOk result (λ reply. reply.status ≡ Status.Refused) }
-    ensures text { IfOk result (λ reply. reply.text.items ≡ refusal_text refusal.now) }
+    ensures refused { IfOk result (λ reply. IsRefused refusal.now reply.text.items reply.status) }
+    ensures answered { IfOk result (λ reply. IsAnswered reply.status) }
 {
     let text = refusal_text(alloc, refusal)?;
     Ok(Reply {
@@ -29,43 +31,62 @@ pub fn refuse(alloc: Global, refusal: &Refusal) -> Result<Reply, NoMemory>
     })
 }
 
-/// What the command `energy` answers to an input within the limit of bytes.
-pub fn energy_reply(alloc: Global, bytes: &[u8]) -> Result<Reply, NoMemory>
+/// What a command answers to a text within the limit of bytes.
+pub fn text_reply(alloc: Global, command: Command, bytes: &[u8]) -> Result<Reply, NoMemory>
     requires { length bytes.now < 2 ^ 30 }
-    ensures served { IfOk result (λ reply. ServedEnergy (judged_instance (square_form bytes.now)) reply.text.items reply.status) }
+    ensures served { IfOk result (λ reply. AnswersText command bytes.now reply.text.items reply.status) }
     ensures answered { IfOk result (λ reply. IsAnswered reply.status) }
 {
-    match read_square(alloc, bytes) {
-        Ok(instance) => judge(alloc, &instance),
+    match read_planar(alloc, bytes) {
+        Ok(planar) => fit_reply(alloc, command, &planar),
         Err(Fault::Refused(refusal)) => refuse(alloc, &refusal),
         Err(Fault::NoMemory) => Err(AllocError),
     }
 }
 
-/// Refuses an instance whose couplings are too large in sum, and solves every other.
-fn judge(alloc: Global, instance: &Instance) -> Result<Reply, NoMemory>
-    requires { instance.now.n ≤ 16 }
-    ensures served { IfOk result (λ reply. ServedEnergy (judged_instance (Some instance.now)) reply.text.items reply.status) }
-    ensures answered { IfOk result (λ reply. IsAnswered reply.status) }
+// The instance of a text, fit for a planar solver, or the first fault of the text.
+fn read_planar(alloc: Global, bytes: &[u8]) -> Result<Planar, Fault>
+    requires { length bytes.now < 2 ^ 30 }
+    ensures gives { IfOk result (λ planar. GivesFit bytes.now planar.instance) }
+    ensures small { IfOk result (λ planar. planar.instance.n ≤ 16) }
+    ensures refuses { IfErr result (RefusesBy bytes.now) }
 {
-    let sum = instance.weight();
-    if sum > SUM_LIMIT {
-        refuse(alloc, &Refusal::SumTooLarge { sum })
-    } else {
-        solve(alloc, instance)
+    match read_alone(alloc, bytes) {
+        Ok(instance) => match Planar::new(alloc, instance) {
+            Ok(planar) => Ok(planar),
+            Err(NotFit { fault, instance: _ }) => Err(fault),
+        },
+        Err(fault) => Err(fault),
     }
 }
 
-/// Solves an instance, and prints its least energy and the spins that have it.
-fn solve(alloc: Global, instance: &Instance) -> Result<Reply, NoMemory>
-    requires { instance.now.n ≤ 16 }
-    ensures status { IfOk result (λ reply. reply.status ≡ Status.Done) }
-    ensures text { IfOk result (λ reply. PrintsGroundState instance.now reply.text.items) }
+// The instance of a text with nothing behind it, or the first fault of the records.
+fn read_alone(alloc: Global, bytes: &[u8]) -> Result<Instance, Fault>
+    requires { length bytes.now < 2 ^ 30 }
+    ensures gives { IfOk result (GivesInstance bytes.now) }
+    ensures small { IfOk result (λ inst. inst.n ≤ 16) }
+    ensures refuses { IfErr result (RefusesBy bytes.now) }
 {
-    let (spins, energy) = least_plain(alloc, instance)?;
-    let text = energy_text(alloc, energy, &spins)?;
-    Ok(Reply {
-        status: Status::Done,
-        text,
-    })
+    match read_instance(alloc, bytes) {
+        Ok((instance, after)) => match no_more(alloc, bytes, after) {
+            Ok(()) => Ok(instance),
+            Err(fault) => Err(fault),
+        },
+        Err(fault) => Err(fault),
+    }
+}
+
+// What a command answers to an instance that is fit.
+fn fit_reply(alloc: Global, command: Command, planar: &Planar) -> Result<Reply, NoMemory>
+    requires few { planar.now.instance.n ≤ 16 }
+    requires fit { IsFit planar.now.instance }
+    ensures served { IfOk result (λ reply. AnswersFit command planar.now.instance reply.text.items reply.status) }
+    ensures answered { IfOk result (λ reply. IsAnswered reply.status) }
+{
+    match command {
+        Command::Energy => energy_reply(alloc, planar),
+        Command::Wall => wall_reply(alloc, planar),
+        Command::Bonds => bonds_reply(alloc, planar),
+        Command::Clusters => clusters_reply(alloc, planar),
+    }
 }

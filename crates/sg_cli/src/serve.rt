@@ -3,11 +3,11 @@ ghost use Rattle.sg_io.specs.Devices.{FaultShown, Grows};
 ghost use Rattle.sg_io.specs.Reading.{LosesAtMost};
 ghost use Rattle.sg_io.specs.Writing.{GrowsByPrefix};
 ghost use Rattle.sg_cli.specs.Command.{command_of};
-ghost use Rattle.sg_cli.specs.Served.{ServedEnergy, judged};
+ghost use Rattle.sg_cli.specs.Served.{AnswersInput};
 ghost use Rattle.sg_cli.specs.Promises.{Answers, AnswersInPart, IsAnswered, Leaves, Takes, reads};
 
 use super::command::parse_command;
-use super::reply::{Reply, energy_reply, refuse};
+use super::reply::{Reply, refuse, text_reply};
 use super::{Command, INPUT_LIMIT, Status};
 use sg_io::{ReadEnd, Sink, Source, WriteFault, put, read_all};
 use sg_model::Refusal;
@@ -51,7 +51,7 @@ pub fn run<S: Source, K: Sink>(
 {
     match parse_command(words) {
         None => send(sink, b"usage\n", Status::Usage),
-        Some(Command::Energy) => match serve_energy(alloc, source) {
+        Some(command) => match serve(alloc, command, source) {
             Ok(reply) => send(sink, reply.text.as_slice(), reply.status),
             Err(stop) => stop.status(),
         },
@@ -88,17 +88,17 @@ impl From<AllocError> for Stop {
     }
 }
 
-/// Reads the source to its end, and answers what was read by the command `energy`.
-fn serve_energy<S: Source>(alloc: Global, source: &mut S) -> Result<Reply, Stop>
+/// Reads the source to its end, and answers what was read.
+fn serve<S: Source>(alloc: Global, command: Command, source: &mut S) -> Result<Reply, Stop>
     ensures served { IfOk result (λ reply. (bytes : List ℕ) → S.left source.old ≡ Some bytes →
-        ServedEnergy (judged bytes) reply.text.items reply.status) }
+        AnswersInput command bytes reply.text.items reply.status) }
     ensures answered { IfOk result (λ reply. IsAnswered reply.status) }
     ensures taken { OnOk result (Takes (S.left source.old) (S.left source.new)) }
     ensures stopped { OnErr result (LosesAtMost (INPUT_LIMIT + 1) (S.left source.old) (S.left source.new)) }
     ensures fault { IsErrOf result Stop.ReadFault → FaultShown (S.faults source.old) (S.faults source.new) }
 {
     match read_all(alloc, source, INPUT_LIMIT) {
-        Ok(bytes) => Ok(energy_reply(alloc, bytes.as_slice())?),
+        Ok(bytes) => Ok(text_reply(alloc, command, bytes.as_slice())?),
         Err(ReadEnd::TooLong) => Ok(refuse(
             alloc,
             &Refusal::TooLong {

@@ -7,6 +7,8 @@
 #[cfg(test)]
 mod devices;
 #[cfg(test)]
+mod refusals;
+#[cfg(test)]
 mod rows;
 #[cfg(test)]
 mod runs;

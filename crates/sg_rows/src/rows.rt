@@ -20,12 +20,24 @@ fn expect_row<R: Abort>(
 }
 
 #[test]
-fn ground_states_of_small_squares(rt: HostRuntime) -> Result<(), Fail> {
+fn ground_states_of_lattices(rt: HostRuntime) -> Result<(), Fail> {
     let rows = [
         ("square,1,1\nend\n", "energy,0\nspins,1\nend\n"),
         (
             "square,2,2\n3,4\n2,-5\nend\n",
             "energy,-10\nspins,1,1,-1,-1\nend\n",
+        ),
+        (
+            "triangular,2,2\n-1,-1,-1,-1,-1\nend\n",
+            "energy,-3\nspins,1,-1,-1,1\nend\n",
+        ),
+        (
+            "hexagonal,2,3\n4,5,6,7\n3,-8\nend\n",
+            "energy,-27\nspins,1,1,1,-1,-1,-1\nend\n",
+        ),
+        (
+            "general,2\nbond,0,1,3\nbond,0,1,-2\nbond,0,1,1\nrot,0,0,2,4\nrot,1,1,5,3\nend\n",
+            "energy,-2\nspins,1,1\nend\n",
         ),
         (
             "square,1,2\n1099511627776\nend\n",
@@ -36,8 +48,8 @@ fn ground_states_of_small_squares(rt: HostRuntime) -> Result<(), Fail> {
             "energy,-22\nspins,1,1,1,1,1,1,1,1,1,1,1,1,1,1,1,1\nend\n",
         ),
         (
-            "square,1,2\r\n\"+007\"\r\n\r\nend",
-            "energy,-7\nspins,1,1\nend\n",
+            "# a spreadsheet's export\nsquare,2,2,\n 3 , 4,\n2,-5,,\nseam,0\nend\n",
+            "energy,-10\nspins,1,1,-1,-1\nend\n",
         ),
     ];
     for (input, text) in rows {
@@ -47,21 +59,46 @@ fn ground_states_of_small_squares(rt: HostRuntime) -> Result<(), Fail> {
 }
 
 #[test]
-fn inputs_that_are_refused(rt: HostRuntime) -> Result<(), Fail> {
+fn walls_bonds_and_clusters(rt: HostRuntime) -> Result<(), Fail> {
     let rows = [
         (
-            "square,1,2\n1099511627777\nend\n",
-            "refused,13,1099511627777\n",
+            "wall",
+            "cylinder,1,3\n5,7,2\nend\n",
+            "periodic,-14\nantiperiodic,-10\nwall,4\nend\n",
         ),
-        ("general,2\nend\n", "refused,99\n"),
-        ("square,2,2\n3,4,2\nend\n", "refused,99\n"),
-        ("square,17,1\nend\n", "refused,99\n"),
-        ("square,2,2\n3,4\n2, -5\nend\n", "refused,99\n"),
-        ("square,2,2\n3,4\n2,-5\n", "refused,99\n"),
-        ("", "refused,99\n"),
+        (
+            "wall",
+            "square,2,2\n3,4\n2,-5\nseam,0\nend\n",
+            "periodic,-10\nantiperiodic,-14\nwall,-4\nend\n",
+        ),
+        (
+            "bonds",
+            "cylinder,1,3\n5,7,-2\nend\n",
+            "cost,0,6,rigid\ncost,1,10,rigid\ncost,2,6,rigid\nend\n",
+        ),
+        (
+            "clusters",
+            "cylinder,1,3\n5,7,-2\nend\n",
+            "cluster,0,0\ncluster,1,0\ncluster,2,0\nend\n",
+        ),
+        (
+            "bonds",
+            "cylinder,1,3\n1,1,-1\nend\n",
+            "cost,0,0,loose\ncost,1,0,loose\ncost,2,0,loose\nend\n",
+        ),
+        (
+            "clusters",
+            "cylinder,1,3\n1,1,-1\nend\n",
+            "cluster,0,0\ncluster,1,1\ncluster,2,2\nend\n",
+        ),
+        (
+            "bonds",
+            "square,1,2\n1099511627776\nend\n",
+            "cost,0,2199023255552,rigid\nend\n",
+        ),
     ];
-    for (input, text) in rows {
-        expect_row(&rt, rt.alloc(), "energy", input, (Status::Refused, text))?;
+    for (line, input, text) in rows {
+        expect_row(&rt, rt.alloc(), line, input, (Status::Done, text))?;
     }
     Ok(())
 }

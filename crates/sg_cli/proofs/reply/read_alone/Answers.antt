@@ -1,0 +1,14 @@
+use Rattle.sg_reader.specs.Kept.{kept_of}
+use Rattle.sg_reader.proofs.SmallReads.{reads-small}
+use Rattle.sg_cli.proofs.InputLemmas.{by_record, by_trailing}
+use Rattle.sg_cli.proofs.reply.read_alone.Goals as goal
+
+pub returns-in-Ok-no_more-clause-small : goal.returns-in-Ok-no_more-clause-small
+returns-in-Ok-no_more-clause-small c = reads-small (kept_of c.args.bytes.now) c.in-Ok.instance c.in-Ok.after c.in-Ok.ensures.read
+
+pub returns-in-Err-no_more-clause-refuses : goal.returns-in-Err-no_more-clause-refuses
+returns-in-Err-no_more-clause-refuses c =
+    by_trailing c.args.bytes.now c.in-Ok.instance c.in-Ok.after c.in-Err-no_more.fault c.in-Ok.ensures.read c.in-Err-no_more.ensures.fault
+
+pub returns-in-Err-clause-refuses : goal.returns-in-Err-clause-refuses
+returns-in-Err-clause-refuses c = by_record c.args.bytes.now c.in-Err.fault c.in-Err.ensures.fault

@@ -1,8 +1,0 @@
-use Rattle.std.proofs.Common.{◌≡◌, ◌++◌, take}
-use Rattle.std.specs.List.{flat_map}
-use Rattle.sg_cli.specs.Text.{entry}
-use Rattle.sg_cli.proofs.text.push_spins.Given as goal
-
--- the entries of the spins so far
-abbrev pub invariant-loop-value : goal.invariant-loop-value
-invariant-loop-value l = l.text.items ≡ l.initial.text.items ++ flat_map entry (take l.value-index l.value-items)

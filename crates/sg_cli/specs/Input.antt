@@ -1,0 +1,33 @@
+-- What an input gives to a solver: an instance that is fit for it, or the first fault.
+use Rattle.std.specs.Prelude.{◌≡◌, ℕ, None, Some, List, ⊤}
+use Rattle.sg_model.specs.declared.refusal.Fault.{Fault}
+use Rattle.sg_model.specs.declared.refusal.Fault.TheVariants.{Refused, NoMemory}
+use Rattle.sg_model.specs.declared.refusal.Refusal.{Refusal}
+use Rattle.sg_model.specs.Ising.{Ising}
+use Rattle.sg_reader.specs.Kept.{kept_of}
+use Rattle.sg_reader.specs.ReadInstance.{ReadsInstance, RefusesInstance}
+use Rattle.sg_reader.specs.NoMore.{trailing_fault}
+use Rattle.sg_planar.specs.Fit.{IsFit, IsUnfit}
+
+-- the records of the text give the instance, and nothing stands behind its `end`
+pub record GivesInstance (bytes : List ℕ) (inst : Ising) : Type 0 where
+  pub after : ℕ
+  pub reads : ReadsInstance (kept_of bytes) inst after
+  pub ends : trailing_fault (kept_of bytes) after ≡ None
+
+-- the text gives an instance that a planar solver can take
+pub record GivesFit (bytes : List ℕ) (inst : Ising) : Type 0 where
+  pub gives : GivesInstance bytes inst
+  pub fit : IsFit inst
+
+-- the first fault of a text: at a record, behind the `end` of its instance, or of the instance as a whole
+pub data RefusesText (bytes : List ℕ) (refusal : Refusal) : Type 0 where
+  AtRecord : RefusesInstance (kept_of bytes) refusal → RefusesText bytes refusal
+  AtTrailing : (inst : Ising) (after : ℕ) → ReadsInstance (kept_of bytes) inst after → trailing_fault (kept_of bytes) after ≡ Some refusal
+      → RefusesText bytes refusal
+  AtFitness : (inst : Ising) → GivesInstance bytes inst → IsUnfit inst refusal → RefusesText bytes refusal
+
+-- why a text gives no instance to a solver: its first fault, or want of memory, which may come at any time
+abbrev pub RefusesBy : List ℕ → Fault → Type 0
+RefusesBy bytes (Refused refusal) = RefusesText bytes refusal
+RefusesBy bytes NoMemory = ⊤

@@ -1,0 +1,85 @@
+// Inputs that are refused, with the line of their first fault.
+use super::runs::answer;
+use sg_cli::Status;
+use std::alloc::{AllocError, Global};
+use std::process::Abort;
+use std::test::Fail;
+
+// Runs `energy` and compares the line of the refusal.
+fn expect_refusal<R: Abort>(rt: &R, alloc: Global, input: &[u8], line: &str) -> Result<(), Fail> {
+    let (status, text) = answer(alloc, "energy", input)?;
+    assert_eq!(rt; status, Status::Refused, "{line}");
+    assert_eq!(rt; text.as_slice(), line.as_bytes(), "{line}");
+    Ok(())
+}
+
+#[test]
+fn lattices_that_are_refused(rt: HostRuntime) -> Result<(), Fail> {
+    let rows = [
+        (
+            "square,1,2\n1099511627777\nend\n",
+            "refused,13,1099511627777\n",
+        ),
+        ("square,2,2\n3,4,2\nend\n", "refused,6,3,4\n"),
+        ("square,2,2\n3,4,2\n", "refused,2\n"),
+        ("", "refused,2\n"),
+        ("cube,2,2\nend\n", "refused,4,0\n"),
+        ("square,2\nend\n", "refused,5,0\n"),
+        ("square,2,x\nend\n", "refused,3,0,2\n"),
+        ("square,33,32\nend\n", "refused,7,1056\n"),
+        ("square,2,2\n3,4\n2,-5\nseam,4\nend\n", "refused,11,4\n"),
+        ("square,1,1\nend\nx\n", "refused,12,2\n"),
+        ("square,2,2\n3,4\n2,-5\nseam,0,0\nend\n", "refused,11,0\n"),
+        ("square,1,2\n1\nseam\nseam\nend\n", "refused,5,3\n"),
+        ("cylinder,1,2\n1,1\nend\n", "refused,3,0,2\n"),
+        ("square,1,2\n-9223372036854775808\nend\n", "refused,3,1,0\n"),
+    ];
+    for (input, line) in rows {
+        expect_refusal(&rt, rt.alloc(), input.as_bytes(), line)?;
+    }
+    Ok(())
+}
+
+#[test]
+fn general_instances_that_are_refused(rt: HostRuntime) -> Result<(), Fail> {
+    let rows = [
+        ("general,2\nbond,0,0,1\nend\n", "refused,9,0\n"),
+        (
+            "general,2\nbond,0,1,3\nbond,0,1,-2\nbond,0,1,1\nrot,0,0,2,4\nrot,1,1,5\nend\n",
+            "refused,10,1,3\n",
+        ),
+        (
+            "general,2\nbond,0,1,3\nbond,0,1,-2\nbond,0,1,1\nrot,0,0,2,4\nrot,1,1,3,5\nend\n",
+            "refused,15,0\n",
+        ),
+        ("general,2\nend\n", "refused,14,1\n"),
+        (
+            "general,2\nbond,0,1,7\nrot,0,0\nrot,1,1\nrot,1,1\nend\n",
+            "refused,5,4\n",
+        ),
+        (
+            "general,3\nbond,0,1,7\nrot,0,0\nrot,1,1\nend\n",
+            "refused,14,2\n",
+        ),
+    ];
+    for (input, line) in rows {
+        expect_refusal(&rt, rt.alloc(), input.as_bytes(), line)?;
+    }
+    Ok(())
+}
+
+// A text of so many bonds between two spins.
+fn many_bonds(alloc: Global, bonds: u32) -> Result<Vec<u8>, AllocError> {
+    let mut text = Vec::from_slice(alloc, b"general,2\n")?;
+    for _ in 0..bonds {
+        text.extend_from_slice(b"bond,0,1,1\n")?;
+    }
+    text.extend_from_slice(b"end\n")?;
+    Ok(text)
+}
+
+#[test]
+fn one_bond_too_many(rt: HostRuntime) -> Result<(), Fail> {
+    let text = many_bonds(rt.alloc(), 3073)?;
+    expect_refusal(&rt, rt.alloc(), text.as_slice(), "refused,8,3073\n")
+}
