@@ -37,6 +37,9 @@ fn lattices_that_are_refused(rt: HostRuntime) -> Result<(), Fail> {
     for (input, line) in rows {
         expect_refusal(&rt, rt.alloc(), input.as_bytes(), line)?;
     }
+    let (status, text) = answer(rt.alloc(), "wall", b"square,1,1\nend\n")?;
+    assert_eq!(rt; status, Status::Refused);
+    assert_eq!(rt; text.as_slice(), b"refused,16\n".as_slice());
     Ok(())
 }
 
@@ -54,12 +57,53 @@ fn general_instances_that_are_refused(rt: HostRuntime) -> Result<(), Fail> {
         ),
         ("general,2\nend\n", "refused,14,1\n"),
         (
+            "general,2\nbond,0,1,1\nbond,0,1,1\nbond,0,1,1\nbond,0,1,1\nbond,0,1,1\nrot,0,0,2,4,6,8\nrot,1,1,3,5,7,9\nend\n",
+            "refused,15,-2\n",
+        ),
+        (
+            "# a grid of three by three, closed in both directions\ngeneral,9\nbond,0,1,1\nbond,0,3,1\nbond,1,2,1\nbond,1,4,1\nbond,2,0,1\nbond,2,5,1\nbond,3,4,1\nbond,3,6,1\nbond,4,5,1\nbond,4,7,1\nbond,5,3,1\nbond,5,8,1\nbond,6,7,1\nbond,6,0,1\nbond,7,8,1\nbond,7,1,1\nbond,8,6,1\nbond,8,2,1\nrot,0,0,2,9,27\nrot,1,4,6,1,31\nrot,2,8,10,5,35\nrot,3,12,14,21,3\nrot,4,16,18,13,7\nrot,5,20,22,17,11\nrot,6,24,26,33,15\nrot,7,28,30,25,19\nrot,8,32,34,29,23\nend\n",
+            "refused,15,0\n",
+        ),
+        (
+            "general,6\nbond,0,1,-1\nbond,1,2,-1\nbond,2,0,-1\nbond,3,4,-1\nbond,4,5,-1\nbond,5,3,-1\nrot,0,0,5\nrot,1,1,2\nrot,2,3,4\nrot,3,6,11\nrot,4,7,8\nrot,5,9,10\nend\n",
+            "refused,14,3\n",
+        ),
+        (
             "general,2\nbond,0,1,7\nrot,0,0\nrot,1,1\nrot,1,1\nend\n",
             "refused,5,4\n",
         ),
         (
             "general,3\nbond,0,1,7\nrot,0,0\nrot,1,1\nend\n",
             "refused,14,2\n",
+        ),
+    ];
+    for (input, line) in rows {
+        expect_refusal(&rt, rt.alloc(), input.as_bytes(), line)?;
+    }
+    Ok(())
+}
+
+#[test]
+fn of_two_faults_the_first_is_named(rt: HostRuntime) -> Result<(), Fail> {
+    let rows = [
+        ("cube,2\nx", "refused,4,0\n"),
+        ("square,2\nx", "refused,5,0\n"),
+        ("square,0,x\nend\n", "refused,3,0,1\n"),
+        ("square,1,2\n1,y\nz", "refused,3,1,1\n"),
+        ("square,1,2\n1\nseam,x\nseam\nend", "refused,3,2,1\n"),
+        ("square,1,2\nseam,9\n1,2\nend\n", "refused,6,2,1\n"),
+        ("square,1,2\n1\nseam,9\nend\nmore\n", "refused,11,9\n"),
+        ("square,1,2\n1099511627777\nend\nmore\n", "refused,12,3\n"),
+        ("square,1,2\n1,2\nend,1\n", "refused,5,2\n"),
+        ("general,2\nbond,0,0,1\nbond,0,9,1\nend\n", "refused,9,0\n"),
+        ("general,2\nbond,0,1,1\nseam,7\nend\n", "refused,10,0,0\n"),
+        (
+            "general,3\nbond,0,1,1099511627777\nrot,0,0\nrot,1,1\nend\n",
+            "refused,13,1099511627777\n",
+        ),
+        (
+            "general,3\nbond,0,1,1\nrot,0,0\nrot,1,1\nend\nx",
+            "refused,12,5\n",
         ),
     ];
     for (input, line) in rows {

@@ -44,6 +44,14 @@ fn ground_states_of_lattices(rt: HostRuntime) -> Result<(), Fail> {
             "energy,-1099511627776\nspins,1,1\nend\n",
         ),
         (
+            "general,4\nbond,0,1,2\nbond,1,2,-3\nbond,1,3,4\nrot,0,0\nrot,1,1,2,4\nrot,2,3\nrot,3,5\nend\n",
+            "energy,-9\nspins,1,1,-1,1\nend\n",
+        ),
+        (
+            "# a wheel: spin 0 is the hub, spins 1 to 6 the rim\ngeneral,7\nbond,0,1,1\nbond,0,2,1\nbond,0,3,1\nbond,0,4,1\nbond,0,5,1\nbond,0,6,1\nbond,1,2,-1\nbond,2,3,-1\nbond,3,4,-1\nbond,4,5,-1\nbond,5,6,-1\nbond,6,1,-1\nrot,0,0,2,4,6,8,10\nrot,1,1,23,12\nrot,2,3,13,14\nrot,3,5,15,16\nrot,4,7,17,18\nrot,5,9,19,20\nrot,6,11,21,22\nend\n",
+            "energy,-6\nspins,1,-1,1,-1,1,-1,1\nend\n",
+        ),
+        (
             "square,4,4\n1,1,1,1,-1,1,1,1,1,1,1,1,1,1,1,1,1,1,1,1,1,1,1,1\nend\n",
             "energy,-22\nspins,1,1,1,1,1,1,1,1,1,1,1,1,1,1,1,1\nend\n",
         ),
