@@ -13,4 +13,6 @@ mod rows;
 #[cfg(test)]
 mod runs;
 #[cfg(test)]
+mod studies;
+#[cfg(test)]
 mod written_out;
