@@ -5,14 +5,15 @@ use Rattle.sg_io.specs.Devices.{Loses}
 use Rattle.sg_io.specs.Reading.{Empties}
 use Rattle.sg_model.specs.declared.refusal.Fault.{Fault}
 use Rattle.sg_model.specs.declared.refusal.Fault.TheVariants.{Refused, NoMemory}
-use Rattle.sg_model.specs.declared.refusal.Refusal.{Refusal}
 use Rattle.sg_model.specs.declared.refusal.Refusal.TheVariants.{TooLong}
 use Rattle.sg_model.specs.Ising.{Ising}
 use Rattle.sg_reader.specs.Kept.{kept_of}
 use Rattle.sg_reader.specs.ReadInstance.{ReadsInstance, IsReadFault}
 use Rattle.sg_reader.specs.NoMore.{IsTrailingFault}
 use Rattle.sg_planar.specs.Fit.{IsUnfitFault}
-use Rattle.sg_cli.specs.Input.{AtFitness, AtRecord, AtTrailing, GivesInstance, RefusesBy}
+use Rattle.sg_check.specs.declared.packing.ResultText.{ResultText}
+use Rattle.sg_reader.specs.ReadResult.{IsResultFault, ReadsResult, behind}
+use Rattle.sg_cli.specs.Input.{AtFitness, AtRecord, AtTrailing, BehindResult, GivesInstance, InInstance, InResult, RefusesBy, RefusesProofBy}
 use Rattle.sg_cli.specs.Served.{AnswersInput, AnswersText, IsRefused}
 use Rattle.sg_cli.specs.declared.command.Command.{Command}
 use Rattle.sg_cli.specs.declared.limits.TheConstants.{INPUT_LIMIT}
@@ -30,6 +31,20 @@ by_trailing bytes inst after NoMemory reads shown = tt
 pub by_fitness : (bytes : List ℕ) (inst : Ising) (fault : Fault) → GivesInstance bytes inst → IsUnfitFault inst fault → RefusesBy bytes fault
 by_fitness bytes inst (Refused refusal) gives shown = AtFitness inst gives shown
 by_fitness bytes inst NoMemory gives shown = tt
+
+pub by_instance : (bytes : List ℕ) (fault : Fault) → IsReadFault (kept_of bytes) fault → RefusesProofBy bytes fault
+by_instance bytes (Refused refusal) shown = InInstance shown
+by_instance bytes NoMemory shown = tt
+
+pub by_result : (bytes : List ℕ) (inst : Ising) (after : ℕ) (fault : Fault) → ReadsInstance (kept_of bytes) inst after →
+    IsResultFault (behind after (kept_of bytes)) fault → RefusesProofBy bytes fault
+by_result bytes inst after (Refused refusal) reads shown = InResult inst after reads shown
+by_result bytes inst after NoMemory reads shown = tt
+
+pub by_end : (bytes : List ℕ) (inst : Ising) (after : ℕ) (stated : ResultText) (next : ℕ) (fault : Fault) → ReadsInstance (kept_of bytes) inst after →
+    ReadsResult (behind after (kept_of bytes)) stated next → IsTrailingFault (kept_of bytes) next fault → RefusesProofBy bytes fault
+by_end bytes inst after stated next (Refused refusal) reads states shown = BehindResult inst after stated next reads states shown
+by_end bytes inst after stated next NoMemory reads states shown = tt
 
 -- an input within the limit
 pub answers-short : (command : Command) (bytes text : List ℕ) (status : Status) → length bytes ≤ INPUT_LIMIT → AnswersText command bytes text status →

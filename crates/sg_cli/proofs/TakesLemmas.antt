@@ -1,5 +1,5 @@
 -- What a read leaves of its source, from what `read_all` says.
-use Rattle.std.proofs.Common.{◌≡◌, ℕ, ◌+◌, ◌<◌, ◌≤◌, List, [], length, drop, Option, None, Some, sym, ◌∙◌, ap, arith}
+use Rattle.std.proofs.Common.{◌≡◌, ℕ, ◌+◌, ◌≤◌, List, length, drop, Option, None, Some, ◌∙◌, ap, arith}
 use Rattle.sg_io.specs.Devices.{Loses}
 use Rattle.sg_io.specs.Reading.{Empties}
 use Rattle.sg_cli.specs.Promises.{Takes}

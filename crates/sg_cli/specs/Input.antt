@@ -1,4 +1,4 @@
--- What an input gives to a solver: an instance that is fit for it, or the first fault.
+-- What an input gives to a solver, an instance that is fit for it, and what it gives to the checker, an instance with a proof; or its first fault.
 use Rattle.std.specs.Prelude.{◌≡◌, ℕ, None, Some, List, ⊤}
 use Rattle.sg_model.specs.declared.refusal.Fault.{Fault}
 use Rattle.sg_model.specs.declared.refusal.Fault.TheVariants.{Refused, NoMemory}
@@ -6,6 +6,8 @@ use Rattle.sg_model.specs.declared.refusal.Refusal.{Refusal}
 use Rattle.sg_model.specs.Ising.{Ising}
 use Rattle.sg_reader.specs.Kept.{kept_of}
 use Rattle.sg_reader.specs.ReadInstance.{ReadsInstance, RefusesInstance}
+use Rattle.sg_check.specs.declared.packing.ResultText.{ResultText}
+use Rattle.sg_reader.specs.ReadResult.{ReadsResult, RefusesResult, behind}
 use Rattle.sg_reader.specs.NoMore.{trailing_fault}
 use Rattle.sg_planar.specs.Fit.{IsFit, IsUnfit}
 
@@ -31,3 +33,23 @@ pub data RefusesText (bytes : List ℕ) (refusal : Refusal) : Type 0 where
 abbrev pub RefusesBy : List ℕ → Fault → Type 0
 RefusesBy bytes (Refused refusal) = RefusesText bytes refusal
 RefusesBy bytes NoMemory = ⊤
+
+-- the records of the text give the instance and, behind it, what a proof states; nothing stands behind the last `end`
+pub record GivesProof (bytes : List ℕ) (inst : Ising) (stated : ResultText) : Type 0 where
+  pub after : ℕ
+  pub next : ℕ
+  pub reads : ReadsInstance (kept_of bytes) inst after
+  pub states : ReadsResult (behind after (kept_of bytes)) stated next
+  pub ends : trailing_fault (kept_of bytes) next ≡ None
+
+-- the first fault of a text with a proof: in the instance, in what is stated, or behind the last `end`. The instance as a whole is not tested
+pub data RefusesProof (bytes : List ℕ) (refusal : Refusal) : Type 0 where
+  InInstance : RefusesInstance (kept_of bytes) refusal → RefusesProof bytes refusal
+  InResult : (inst : Ising) (after : ℕ) → ReadsInstance (kept_of bytes) inst after → RefusesResult (behind after (kept_of bytes)) refusal → RefusesProof bytes refusal
+  BehindResult : (inst : Ising) (after : ℕ) (stated : ResultText) (next : ℕ) → ReadsInstance (kept_of bytes) inst after
+      → ReadsResult (behind after (kept_of bytes)) stated next → trailing_fault (kept_of bytes) next ≡ Some refusal → RefusesProof bytes refusal
+
+-- why a text gives no proof to judge: its first fault, or want of memory, which may come at any time
+abbrev pub RefusesProofBy : List ℕ → Fault → Type 0
+RefusesProofBy bytes (Refused refusal) = RefusesProof bytes refusal
+RefusesProofBy bytes NoMemory = ⊤

@@ -5,17 +5,23 @@ use Rattle.sg_model.specs.declared.refusal.Refusal.TheVariants.{TooLong, NoSeam}
 use Rattle.sg_model.specs.Ising.{Ising}
 use Rattle.sg_model.specs.Spins.{spin}
 use Rattle.sg_model.specs.Energy.{IsGroundState, energy}
+use Rattle.sg_check.specs.declared.packing.ResultText.{ResultText}
+use Rattle.sg_check.specs.declared.verdict.Verdict.{Verdict}
+use Rattle.sg_check.specs.declared.verdict.Verdict.TheVariants as verdict
+use Rattle.sg_check.specs.Verdict.{IsVerdict}
 use Rattle.sg_wall.specs.Wall.{IsWall}
 use Rattle.sg_bonds.specs.Cost.{AreCosts}
 use Rattle.sg_bonds.specs.Cluster.{AreClusters}
-use Rattle.sg_report.specs.Text.{bonds_text, clusters_text, energy_text, refusal_text, wall_text}
+use Rattle.sg_report.specs.Text.{bonds_text, clusters_text, energy_text, refusal_text, verdict_text, wall_text}
 use Rattle.sg_cli.specs.Command.{command_of}
-use Rattle.sg_cli.specs.Input.{GivesFit, RefusesText}
+use Rattle.sg_cli.specs.Input.{GivesFit, GivesProof, RefusesProof, RefusesText}
 use Rattle.sg_cli.specs.declared.command.Command.{Command}
-use Rattle.sg_cli.specs.declared.command.Command.TheVariants.{Energy, Wall, Bonds, Clusters}
+use Rattle.sg_cli.specs.declared.command.Command.TheVariants as command
+use Rattle.sg_cli.specs.declared.command.Study.{Study}
+use Rattle.sg_cli.specs.declared.command.Study.TheVariants.{Energy, Wall, Bonds, Clusters}
 use Rattle.sg_cli.specs.declared.limits.TheConstants.{INPUT_LIMIT}
 use Rattle.sg_cli.specs.declared.status.Status.{Status}
-use Rattle.sg_cli.specs.declared.status.Status.TheVariants.{Done, Refused, Usage}
+use Rattle.sg_cli.specs.declared.status.Status.TheVariants.{Done, Refused, Usage, No}
 
 -- the line where the words have no shape
 abbrev pub usage_text : List ℕ
@@ -62,17 +68,39 @@ pub record AnswersWall (inst : Ising) (text : List ℕ) (status : Status) : Type
   pub without_seam : inst.seam ≡ [] → IsRefused NoSeam text status
   pub with_seam : inst.seam ≢ [] → PrintsWall inst text status
 
--- what a command answers to an instance that is fit
-abbrev pub AnswersFit : Command → Ising → List ℕ → Status → Type 0
+-- how a run ends by the verdict on a proof
+abbrev pub status_by : Verdict → Status
+status_by verdict.Yes = Done
+status_by _ = No
+
+-- the verdict on a proof: yes where it holds, else the first of its tests that fails
+pub record PrintsVerdict (inst : Ising) (stated : ResultText) (text : List ℕ) (status : Status) : Type 0 where
+  pub judged : Verdict
+  pub found : IsVerdict inst stated judged
+  pub printed : text ≡ verdict_text judged
+  pub ended : status ≡ status_by judged
+
+-- what a study answers to an instance that is fit
+abbrev pub AnswersFit : Study → Ising → List ℕ → Status → Type 0
 AnswersFit Energy inst text status = PrintsGroundState inst text status
 AnswersFit Wall inst text status = AnswersWall inst text status
 AnswersFit Bonds inst text status = PrintsCosts inst text status
 AnswersFit Clusters inst text status = PrintsClusters inst text status
 
--- what a command answers to a text: the first fault, or the answer to its instance
-pub data AnswersText (command : Command) (bytes text : List ℕ) (status : Status) : Type 0 where
-  Refuses : (refusal : Refusal) → RefusesText bytes refusal → IsRefused refusal text status → AnswersText command bytes text status
-  Answers : (inst : Ising) → GivesFit bytes inst → AnswersFit command inst text status → AnswersText command bytes text status
+-- what a study answers to a text: the first fault, or the answer to its instance
+pub data AnswersStudy (study : Study) (bytes text : List ℕ) (status : Status) : Type 0 where
+  Refuses : (refusal : Refusal) → RefusesText bytes refusal → IsRefused refusal text status → AnswersStudy study bytes text status
+  Answers : (inst : Ising) → GivesFit bytes inst → AnswersFit study inst text status → AnswersStudy study bytes text status
+
+-- what `check` answers to a text: the first fault, or the verdict on its proof; the instance need not be fit
+pub data AnswersCheck (bytes text : List ℕ) (status : Status) : Type 0 where
+  RefusesCheck : (refusal : Refusal) → RefusesProof bytes refusal → IsRefused refusal text status → AnswersCheck bytes text status
+  Judges : (inst : Ising) (stated : ResultText) → GivesProof bytes inst stated → PrintsVerdict inst stated text status → AnswersCheck bytes text status
+
+-- what a command answers to a text
+abbrev pub AnswersText : Command → List ℕ → List ℕ → Status → Type 0
+AnswersText (command.Study study) bytes text status = AnswersStudy study bytes text status
+AnswersText command.Check bytes text status = AnswersCheck bytes text status
 
 -- what a command answers to an input: an input that is too long is not looked at further
 pub record AnswersInput (command : Command) (bytes text : List ℕ) (status : Status) : Type 0 where

@@ -4,6 +4,15 @@ ghost use Rattle.sg_cli.specs.Command.{command_named, command_of};
 /// A command of the program.
 #[derive(Clone, Copy)]
 pub enum Command {
+    /// A study of an instance that is fit for a planar solver.
+    Study(Study),
+    /// The verdict on a proof, for an instance of any kind.
+    Check,
+}
+
+/// What is asked of an instance that is fit.
+#[derive(Clone, Copy)]
+pub enum Study {
     /// The least energy of an instance, and spins that have it.
     Energy,
     /// The least energy, the least energy with the signs of the seam changed, and their difference.
@@ -29,13 +38,15 @@ fn command_named(word: &str) -> Option<Command>
     ensures { result ≡ command_named word.now }
 {
     if word == "energy" {
-        Some(Command::Energy)
+        Some(Command::Study(Study::Energy))
     } else if word == "wall" {
-        Some(Command::Wall)
+        Some(Command::Study(Study::Wall))
     } else if word == "bonds" {
-        Some(Command::Bonds)
+        Some(Command::Study(Study::Bonds))
     } else if word == "clusters" {
-        Some(Command::Clusters)
+        Some(Command::Study(Study::Clusters))
+    } else if word == "check" {
+        Some(Command::Check)
     } else {
         None
     }

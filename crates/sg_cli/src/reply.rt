@@ -2,10 +2,11 @@ ghost use Rattle.std.specs.Prelude.{◌≡◌, ◌≤◌, ◌<◌, ◌^◌, leng
 ghost use Rattle.sg_planar.specs.Fit.{IsFit};
 ghost use Rattle.sg_cli.specs.Input.{GivesFit, GivesInstance, RefusesBy};
 ghost use Rattle.sg_cli.specs.Promises.{IsAnswered};
-ghost use Rattle.sg_cli.specs.Served.{AnswersFit, AnswersText, IsRefused};
+ghost use Rattle.sg_cli.specs.Served.{AnswersFit, AnswersStudy, AnswersText, IsRefused};
 
+use super::check::check_reply;
 use super::studies::{bonds_reply, clusters_reply, energy_reply, wall_reply};
-use super::{Command, NoMemory, Status};
+use super::{Command, NoMemory, Status, Study};
 use sg_model::{Fault, Instance, Refusal};
 use sg_planar::{NotFit, Planar};
 use sg_reader::{no_more, read_instance};
@@ -37,8 +38,20 @@ pub fn text_reply(alloc: Global, command: Command, bytes: &[u8]) -> Result<Reply
     ensures served { IfOk result (λ reply. AnswersText command bytes.now reply.text.items reply.status) }
     ensures answered { IfOk result (λ reply. IsAnswered reply.status) }
 {
+    match command {
+        Command::Study(study) => study_reply(alloc, study, bytes),
+        Command::Check => check_reply(alloc, bytes),
+    }
+}
+
+// What a study answers to a text.
+fn study_reply(alloc: Global, study: Study, bytes: &[u8]) -> Result<Reply, NoMemory>
+    requires { length bytes.now < 2 ^ 30 }
+    ensures served { IfOk result (λ reply. AnswersStudy study bytes.now reply.text.items reply.status) }
+    ensures answered { IfOk result (λ reply. IsAnswered reply.status) }
+{
     match read_planar(alloc, bytes) {
-        Ok(planar) => fit_reply(alloc, command, &planar),
+        Ok(planar) => fit_reply(alloc, study, &planar),
         Err(Fault::Refused(refusal)) => refuse(alloc, &refusal),
         Err(Fault::NoMemory) => Err(AllocError),
     }
@@ -76,17 +89,17 @@ fn read_alone(alloc: Global, bytes: &[u8]) -> Result<Instance, Fault>
     }
 }
 
-// What a command answers to an instance that is fit.
-fn fit_reply(alloc: Global, command: Command, planar: &Planar) -> Result<Reply, NoMemory>
+// What a study answers to an instance that is fit.
+fn fit_reply(alloc: Global, study: Study, planar: &Planar) -> Result<Reply, NoMemory>
     requires few { planar.now.instance.n ≤ 16 }
     requires fit { IsFit planar.now.instance }
-    ensures served { IfOk result (λ reply. AnswersFit command planar.now.instance reply.text.items reply.status) }
+    ensures served { IfOk result (λ reply. AnswersFit study planar.now.instance reply.text.items reply.status) }
     ensures answered { IfOk result (λ reply. IsAnswered reply.status) }
 {
-    match command {
-        Command::Energy => energy_reply(alloc, planar),
-        Command::Wall => wall_reply(alloc, planar),
-        Command::Bonds => bonds_reply(alloc, planar),
-        Command::Clusters => clusters_reply(alloc, planar),
+    match study {
+        Study::Energy => energy_reply(alloc, planar),
+        Study::Wall => wall_reply(alloc, planar),
+        Study::Bonds => bonds_reply(alloc, planar),
+        Study::Clusters => clusters_reply(alloc, planar),
     }
 }

@@ -1,47 +1,51 @@
 -- The records of an instance, one more at a time.
-use Rattle.std.proofs.Common.{◌≡◌, ℕ, ℤ, pos, zero, suc, ◌+◌, ◌-◌, ◌<◌, ◌≤◌, ◌^◌, Bool, true, false, List, [], ◌∷◌, ◌++◌, length, take, map, get_or, Option, Some, None, refl, sym, ap, ◌∙◌, arith, inl, inr, append_assoc, codes}
+use Rattle.std.proofs.Common.{◌≡◌, ℕ, ℤ, pos, zero, suc, ◌+◌, ◌-◌, ◌<◌, ◌≤◌, ◌^◌, Bool, true, false, List, [], ◌∷◌, ◌++◌, length, take, map, get_or, Option, Some, None, refl, sym, ap, ◌∙◌, arith, inl, inr, codes}
 use Rattle.std.specs.Prelude.{All, ◌||◌, cond, filter, find, is_some, not, option_map, unsigned_abs, unwrap_or}
 use Rattle.std.specs.List.{flat_map, list_any, range_with_len}
 use Rattle.std.specs.Option.{option_or}
 use Rattle.std.specs.Str.{bytes_eq}
 use Rattle.std.proofs.lemmas.Bool.{cases_eq, false≢true, or_parts}
 use Rattle.std.proofs.lemmas.Grind.{flat_map-append}
-use Rattle.std.proofs.lemmas.List.{append-nil, get_or-append_right, get_or_append_left, get_or_at, length_push, take-append-le, take_at}
-use Rattle.std.proofs.lemmas.List.Elements.{All-append, All-cons, All-nil, All-same, filter-append}
-use Rattle.std.proofs.lemmas.List.Folds.{find-append, list_any-append}
+use Rattle.std.proofs.lemmas.List.{append-nil, get_or_append_left, get_or_at, length_push, take-append-le, take_at}
+use Rattle.std.proofs.lemmas.List.Elements.{All-append, All-cons, All-nil, filter-append}
+use Rattle.std.proofs.lemmas.List.Folds.{find-append}
 use Rattle.std.proofs.lemmas.List.FromFn.{length-map-range_with_len}
-use Rattle.std.proofs.lemmas.Option.{same_Some}
 use Rattle.sg_model.specs.declared.refusal.Fault.{Fault}
 use Rattle.sg_model.specs.declared.refusal.Fault.TheVariants.{Refused, NoMemory}
+use Rattle.sg_model.specs.declared.refusal.Refusal.{Refusal}
 use Rattle.sg_model.specs.Faults.{IsFaultOf}
 use Rattle.sg_reader.specs.declared.header.Header.{Header}
 use Rattle.sg_reader.specs.Kept.{Kept, begins, field}
 use Rattle.sg_reader.specs.Number.{number_of}
 use Rattle.sg_reader.specs.Tests.{IsTestFault, number_in}
 use Rattle.sg_reader.specs.Body.{couplings_in, instance_of, is_end, is_seam, numbers_from, record_fault, seam_in, sizes_from}
-use Rattle.sg_reader.specs.ReadInstance.{AtEnd, AtRecord, IsBody, IsBodyFault, IsEnded, record_at}
+use Rattle.sg_reader.specs.Ended.{IsBody, IsEnded, record_at}
+use Rattle.sg_reader.specs.ReadInstance.{AtEnd, AtRecord, IsBodyFault}
 use Rattle.sg_reader.proofs.NumberLaws.{size-of_number}
 
--- a record that begins with `seam` has a field
-pub seam_inside : (r : Kept) → is_seam r ≡ true → 1 ≤ length r.fields
-seam_inside r h = go r.fields h
+-- a record that begins with a word has a field
+pub word-inside : (w : List ℕ) → bytes_eq [] w ≡ false → (r : Kept) → begins w r ≡ true → 1 ≤ length r.fields
+word-inside w some r h = go r.fields h
   where
-    go : (fields : List (List ℕ)) → bytes_eq (get_or fields 0 []) (codes "seam") ≡ true → 1 ≤ length fields
-    go [] e = absurd (false≢true e)
+    go : (fields : List (List ℕ)) → bytes_eq (get_or fields 0 []) w ≡ true → 1 ≤ length fields
+    go [] e = absurd (false≢true (sym some ∙ e))
     go (f ∷ fs) e = omega arith
 
--- one more record of the body
-pub IsBody-none : (header : Header) → IsBody header []
-IsBody-none header = record { goes_on = All-nil (λ (r : Kept). is_end r ≡ false); passes = λ k inside. absurd (omega arith) }
+pub seam_inside : (r : Kept) → is_seam r ≡ true → 1 ≤ length r.fields
+seam_inside r h = word-inside (codes "seam") refl r h
 
-pub IsBody-more : (header : Header) (body : List Kept) (r : Kept) → IsBody header body → is_end r ≡ false → record_fault header body r ≡ None
-    → IsBody header (body ++ r ∷ [])
-IsBody-more header body r h other good = record {
+-- one more record of the body
+pub IsBody-none : (fault : List Kept → Kept → Option Refusal) → IsBody fault []
+IsBody-none fault = record { goes_on = All-nil (λ (r : Kept). is_end r ≡ false); passes = λ k inside. absurd (omega arith) }
+
+pub IsBody-more : (fault : List Kept → Kept → Option Refusal) (body : List Kept) (r : Kept) → IsBody fault body → is_end r ≡ false → fault body r ≡ None
+    → IsBody fault (body ++ r ∷ [])
+IsBody-more fault body r h other good = record {
   goes_on = All-append (λ (q : Kept). is_end q ≡ false) body (r ∷ []) h.goes_on (All-cons (λ (q : Kept). is_end q ≡ false) r [] other (All-nil (λ (q : Kept). is_end q ≡ false)));
   passes = λ k inside. at k inside;
 }
   where
-    at : (k : ℕ) → k < length (body ++ r ∷ []) → record_fault header (take k (body ++ r ∷ [])) (record_at (body ++ r ∷ []) k) ≡ None
+    at : (k : ℕ) → k < length (body ++ r ∷ []) → fault (take k (body ++ r ∷ [])) (record_at (body ++ r ∷ []) k) ≡ None
     at k inside =
         let count = length_push body r in
         elim (cases_eq k (length body)) [
@@ -130,11 +134,11 @@ unfolding couplings_in
 couplings_in-small body = all-small (filter (λ q. not (is_seam q)) body)
 
 -- a record fails a test, and an instance that is whole does
-pub record-fault : (head : Header) (all body rest : List Kept) (r : Kept) (e : Fault) → all ≡ body ++ r ∷ rest → IsBody head body
+pub record-fault : (head : Header) (all body rest : List Kept) (r : Kept) (e : Fault) → all ≡ body ++ r ∷ rest → IsBody (record_fault head) body
     → IsTestFault (record_fault head body r) e → IsBodyFault head all e
 record-fault head all body rest r (Refused x) split is_body bad = AtRecord body r rest split is_body bad
 record-fault head all body rest r NoMemory split is_body bad = tt
 
-pub end-fault : (head : Header) (all body : List Kept) (last : Kept) (e : Fault) → IsEnded head all body last → IsFaultOf (instance_of head body) e → IsBodyFault head all e
+pub end-fault : (head : Header) (all body : List Kept) (last : Kept) (e : Fault) → IsEnded (record_fault head) all body last → IsFaultOf (instance_of head body) e → IsBodyFault head all e
 end-fault head all body last (Refused x) ended bad = AtEnd body last ended bad
 end-fault head all body last NoMemory ended bad = tt

@@ -1,13 +1,13 @@
 -- What a read of a record does to what is left.
-use Rattle.std.proofs.Common.{◌≡◌, ℕ, ◌+◌, true, false, List, [], ◌∷◌, ◌++◌, length, Option, Some, None, Bor, refl, sym, ap, ◌∙◌, inl, inr}
+use Rattle.std.proofs.Common.{◌≡◌, ℕ, ◌+◌, true, false, List, [], ◌∷◌, length, Option, Some, None, Bor, refl, ◌∙◌, inl}
 use Rattle.std.specs.Prelude.{IsSome}
 use Rattle.std.proofs.lemmas.Bool.{false≢true}
-use Rattle.csv.specs.Machine.{Read, ends_at_end, next_record}
-use Rattle.csv.specs.Reading.{Reached, ReadRecord, Ready, default_config, is_flexible, records_from, reader_state, source_of, took_first}
+use Rattle.csv.specs.Machine.{ends_at_end}
+use Rattle.csv.specs.Reading.{Reached, ReadRecord, default_config, is_flexible, records_from, reader_state, took_first}
 use Rattle.csv.specs.declared.reader.Reader.{Reader}
 use Rattle.csv.specs.declared.parser.State.{State}
 use Rattle.csv.proofs.ReadFacts.{rows-more, rows-end}
-use Rattle.sg_reader.specs.Cursor.{IsBetweenRecords, bytes_left, records_left}
+use Rattle.sg_reader.specs.Cursor.{IsBetweenRecords, records_left}
 use Rattle.sg_reader.proofs.RecordLaws.{ends_at_end-after_record, records_from-some, records_from-none}
 
 known-bytes : {A : Type 0} (o : Option A) → IsSome o → (x : A) × (o ≡ Some x)

@@ -1,7 +1,7 @@
 -- Fields without their blanks, and records without their last empty fields.
-use Rattle.std.proofs.Common.{◌≡◌, ℕ, zero, suc, ◌+◌, ◌-◌, ◌<◌, ◌≤◌, Bool, true, false, List, [], ◌∷◌, ◌++◌, length, take, drop, map, get_or, Option, Some, None, refl, sym, ap, ◌∙◌, arith, inl, inr}
-use Rattle.std.specs.Prelude.{◌==◌, nat_eq}
-use Rattle.std.specs.List.{prefix_len, suffix_len, starts_with}
+use Rattle.std.proofs.Common.{◌≡◌, ℕ, zero, suc, ◌-◌, ◌<◌, ◌≤◌, Bool, true, false, List, [], ◌∷◌, length, take, drop, map, get_or, Some, None, refl, sym, ap, arith, inl, inr}
+use Rattle.std.specs.Prelude.{nat_eq}
+use Rattle.std.specs.List.{suffix_len, starts_with}
 use Rattle.std.proofs.lemmas.Bool.{cases_Bool, false≢true}
 use Rattle.std.proofs.lemmas.Bool.Decides.{nat_tests}
 use Rattle.std.proofs.lemmas.List.{length-map, length-take, get_or-map, take_rest}

@@ -1,33 +1,30 @@
 -- The records of a general instance behind the first, up to its `end`.
-use Rattle.std.proofs.Common.{◌≡◌, ◌≢◌, ℕ, ℤ, ◌+◌, ◌-◌, ◌<◌, ◌≤◌, ◌^◌, Bool, true, false, List, [], ◌∷◌, ◌++◌, length, map, get_or, set, Option, Some, None, refl, sym, ap, ◌∙◌, subst, arith, inl, inr, append_assoc, codes}
-use Rattle.std.specs.Prelude.{All, ◌&&◌, ◌||◌, ◌==◌, cond, filter, find, is_some, option_map, unwrap_or}
+use Rattle.std.proofs.Common.{◌≡◌, ℕ, ◌+◌, ◌<◌, ◌≤◌, Bool, true, false, List, [], ◌∷◌, ◌++◌, length, map, get_or, set, Option, Some, None, refl, sym, ap, ◌∙◌, arith, inl, inr, append_assoc, codes}
+use Rattle.std.specs.Prelude.{◌||◌, ◌==◌, cond, filter, find, is_some, option_map, unwrap_or}
 use Rattle.std.specs.List.{list_any, range_with_len}
 use Rattle.std.specs.Option.{option_or}
 use Rattle.std.specs.Str.{bytes_eq}
-use Rattle.std.proofs.lemmas.Bool.{cases_eq, eq-eqb, false≢true, le-leb, lt-leb, ne_eqb, or_parts}
+use Rattle.std.proofs.lemmas.Bool.{cases_eq, eq-eqb, le-leb, lt-leb, ne_eqb, or_parts}
 use Rattle.std.proofs.lemmas.List.{append-nil, length-append, length-set, map-append, same_lists, get_or-set_same, get_or-set_other}
 use Rattle.std.proofs.lemmas.List.Elements.{All-append, All-cons, All-nil, All-same, filter-append}
 use Rattle.std.proofs.lemmas.List.Folds.{find-append, list_any-append}
 use Rattle.std.proofs.lemmas.List.FromFn.{get_or-map-range_with_len, length-map-range_with_len, map-range_with_len_more}
-use Rattle.std.proofs.lemmas.Option.{none-some}
 use Rattle.std.proofs.lemmas.Slice.Eq.{bytes_eq-Decides}
 use Rattle.sg_model.specs.declared.bond.Bond.{Bond}
 use Rattle.sg_model.specs.declared.refusal.Fault.{Fault}
 use Rattle.sg_model.specs.declared.refusal.Fault.TheVariants.{Refused, NoMemory}
-use Rattle.sg_model.specs.declared.refusal.Refusal.{Refusal}
 use Rattle.sg_model.specs.declared.refusal.Refusal.TheVariants.{BadNumber, BadShape, SelfBond, TooManyBonds, UnknownKind}
-use Rattle.sg_model.specs.Ising.{Ising, IsBond}
-use Rattle.sg_reader.specs.declared.header.Header.{Header}
+use Rattle.sg_model.specs.Ising.{IsBond}
 use Rattle.sg_reader.specs.declared.header.Header.TheVariants as header
 use Rattle.sg_reader.specs.declared.general.GeneralBody.{GeneralBody}
 use Rattle.sg_reader.specs.declared.limits.TheConstants.{BOND_LIMIT}
 use Rattle.sg_reader.specs.Kept.{Kept, field}
 use Rattle.sg_reader.specs.Tests.{IsTestFault, any_index, bad_field, bad_number, is_number_in, size_in, spin_below}
-use Rattle.sg_reader.specs.Body.{bond_fault, bond_of, bond_range, bonds_in, darts_in, general_end_fault, general_fault, has_rot, instance_of, is_bond, is_end, is_rot, is_rot_of, is_seam, rot_fault, rot_range, seam_fault, seam_in, sizes_from}
-use Rattle.sg_reader.specs.ReadInstance.{IsBody, IsEnded}
+use Rattle.sg_reader.specs.Body.{bond_fault, bond_of, bond_range, bonds_in, darts_in, bare_end_fault, general_fault, has_rot, instance_of, is_bond, is_end, is_rot, is_rot_of, is_seam, record_fault, rot_fault, rot_range, seam_fault, seam_in, sizes_from}
+use Rattle.sg_reader.specs.Ended.{IsBody, IsEnded}
 use Rattle.sg_reader.specs.GeneralHolds.{HoldsGeneral}
-use Rattle.sg_reader.proofs.TestLaws.{bad_field-rest, is-not, is-other}
-use Rattle.sg_reader.proofs.BodyLaws.{IsBody-more, IsBody-none, seam_in-first, seam_in-other, seam_in-seen}
+use Rattle.sg_reader.proofs.TestLaws.{bad_field-rest, is-not}
+use Rattle.sg_reader.proofs.BodyLaws.{IsBody-more, seam_in-first, seam_in-other, seam_in-seen}
 
 -- the tests of a bond
 pub bond_fault-number : (n m : ℕ) (r : Kept) (k : ℕ) → length r.fields ≡ 4 → bad_field r 1 (bond_range n) ≡ Some k → bond_fault n m r ≡ Some (BadNumber r.at k)
@@ -103,7 +100,7 @@ pub general_fault-seam : (n : ℕ) (body : List Kept) (r : Kept) → is_seam r �
 unfolding general_fault
 general_fault-seam n body r h = rw (seam-no_bond r h, seam-no_rot r h, h) refl
 
-pub general_fault-end : (n : ℕ) (body : List Kept) (r : Kept) → is_end r ≡ true → general_fault n body r ≡ general_end_fault r
+pub general_fault-end : (n : ℕ) (body : List Kept) (r : Kept) → is_end r ≡ true → general_fault n body r ≡ bare_end_fault r
 unfolding general_fault
 general_fault-end n body r h = let no = end-no r h in rw (no.0, no.1, no.2, h) refl
 
@@ -268,12 +265,12 @@ instance-general body state seam h cut =
 pub record GeneralSoFar (n : ℕ) (all left : List Kept) (state : GeneralBody) : Type 0 where
   pub body : List Kept
   pub split : all ≡ body ++ left
-  pub is_body : IsBody (header.General n) body
+  pub is_body : IsBody (record_fault (header.General n)) body
   pub holds : HoldsGeneral body state
   pub spins : state.n ≡ n
 
 pub ended-general : (n : ℕ) (all left rest : List Kept) (r : Kept) (state : GeneralBody) (sf : GeneralSoFar n all left state) → left ≡ r ∷ rest → is_end r ≡ true
-    → general_end_fault r ≡ None → IsEnded (header.General n) all sf.body r
+    → bare_end_fault r ≡ None → IsEnded (record_fault (header.General n)) all sf.body r
 ended-general n all left rest r state sf next end pass = record {
   more = rest;
   split = sf.split ∙ ap (λ (l : List Kept). sf.body ++ l) next;
@@ -287,7 +284,7 @@ pub one-more : (n : ℕ) (all left rest : List Kept) (r : Kept) (old new : Gener
 one-more n all left rest r old new sf next other good holds same = record {
   body = sf.body ++ r ∷ [];
   split = sf.split ∙ ap (λ (l : List Kept). sf.body ++ l) next ∙ sym (append_assoc sf.body (r ∷ []) rest);
-  is_body = IsBody-more (header.General n) sf.body r sf.is_body other (ap (λ (k : ℕ). general_fault k sf.body r) (sym sf.spins) ∙ good);
+  is_body = IsBody-more (record_fault (header.General n)) sf.body r sf.is_body other (ap (λ (k : ℕ). general_fault k sf.body r) (sym sf.spins) ∙ good);
   holds = holds;
   spins = same ∙ sf.spins;
 }

@@ -1,9 +1,8 @@
 -- The tests of a first record.
-use Rattle.std.proofs.Common.{◌≡◌, ℕ, ◌+◌, ◌*◌, ◌<◌, ◌≤◌, Bool, true, false, pos, List, [], ◌∷◌, length, Option, Some, None, refl, sym, ap, ◌∙◌, arith}
+use Rattle.std.proofs.Common.{◌≡◌, ℕ, ◌<◌, ◌≤◌, pos, length, Option, Some, None, refl, ap}
 use Rattle.std.proofs.lemmas.Bool.{le-ltb, lt-ltb}
 use Rattle.sg_model.specs.declared.refusal.Refusal.TheVariants.{BadNumber, BadShape, TooManySpins}
 use Rattle.sg_reader.specs.declared.header.Form.{Form}
-use Rattle.sg_reader.specs.declared.header.Header.{Header}
 use Rattle.sg_reader.specs.declared.limits.TheConstants.{SPIN_LIMIT}
 use Rattle.sg_reader.specs.Kept.{Kept, field}
 use Rattle.sg_reader.specs.Tests.{bad_field}

@@ -1,23 +1,20 @@
 -- The records of a lattice behind the first, up to its `end`.
-use Rattle.std.proofs.Common.{◌≡◌, ℕ, ℤ, ◌+◌, ◌-◌, ◌<◌, ◌≤◌, ◌^◌, Bool, true, false, List, [], ◌∷◌, ◌++◌, length, Option, Some, None, refl, sym, ap, ◌∙◌, arith, inl, inr, append_assoc, codes}
+use Rattle.std.proofs.Common.{◌≡◌, ℕ, ℤ, ◌+◌, ◌<◌, ◌≤◌, ◌^◌, Bool, true, false, List, [], ◌∷◌, ◌++◌, length, Option, Some, None, refl, sym, ap, ◌∙◌, arith, append_assoc, codes}
 use Rattle.std.specs.Prelude.{is_some}
-use Rattle.std.specs.List.{list_any, sum_by}
+use Rattle.std.specs.List.{list_any}
 use Rattle.std.specs.Str.{bytes_eq}
-use Rattle.std.proofs.lemmas.Bool.{cases_Bool, false≢true}
 use Rattle.std.proofs.lemmas.List.Sums.{sum_by-cons}
 use Rattle.std.proofs.lemmas.Option.{none-some}
 use Rattle.std.proofs.lemmas.Slice.Eq.{bytes_eq-Decides}
-use Rattle.sg_model.specs.declared.refusal.Refusal.{Refusal}
 use Rattle.sg_lattice.specs.declared.kind.Kind.{Kind}
 use Rattle.sg_lattice.specs.Tables.{bond_total, lattice}
-use Rattle.sg_model.specs.Ising.{Ising}
 use Rattle.sg_reader.specs.declared.header.Header.{Header}
 use Rattle.sg_reader.specs.declared.header.Header.TheVariants as header
 use Rattle.sg_reader.specs.declared.lattice.LatticeBody.{LatticeBody}
 use Rattle.sg_reader.specs.Kept.{Kept, field}
 use Rattle.sg_reader.specs.Tests.{any_number, bad_number}
 use Rattle.sg_reader.specs.Body.{couplings_in, instance_of, is_end, is_seam, lattice_end_fault, lattice_fault, numbers_from, record_fault, reseamed, seam_fault, seam_in, sizes_from}
-use Rattle.sg_reader.specs.ReadInstance.{IsBody, IsEnded}
+use Rattle.sg_reader.specs.Ended.{IsBody, IsEnded}
 use Rattle.sg_reader.specs.Holds.{HoldsLattice}
 use Rattle.sg_reader.proofs.BodyLaws.{IsBody-more, IsBody-none, couplings_in-more, couplings_in-seam, seam_in-first, seam_in-other, seam_in-seen}
 use Rattle.sg_reader.proofs.RecordCounts.{field_total}
@@ -73,7 +70,7 @@ holds-couplings body r old new h other added same = record {
 pub record LatticeSoFar (head : Header) (all left : List Kept) (state : LatticeBody) : Type 0 where
   pub body : List Kept
   pub split : all ≡ body ++ left
-  pub is_body : IsBody head body
+  pub is_body : IsBody (record_fault head) body
   pub holds : HoldsLattice body state
   pub few : length state.couplings + field_total left < 2 ^ 32
 
@@ -86,7 +83,7 @@ one-more head all left rest r old new sf next other good holds count =
     record {
       body = sf.body ++ r ∷ [];
       split = sf.split ∙ ap (λ (l : List Kept). sf.body ++ l) next ∙ sym (append_assoc sf.body (r ∷ []) rest);
-      is_body = IsBody-more head sf.body r sf.is_body other good;
+      is_body = IsBody-more (record_fault head) sf.body r sf.is_body other good;
       holds = holds;
       few = omega (arith, total, few, count);
     }
@@ -98,7 +95,7 @@ none-yet head all state couplings bonds few =
     record {
       body = [];
       split = refl;
-      is_body = IsBody-none head;
+      is_body = IsBody-none (record_fault head);
       holds = record { couplings = couplings; bonds = bonds };
       few = omega (arith, count, few);
     }
@@ -106,7 +103,7 @@ none-yet head all state couplings bonds few =
 -- the record that ends the lattice
 pub ended-lattice : (kind : Kind) (rows cols : ℕ) (all left rest : List Kept) (r : Kept) (state : LatticeBody) (sf : LatticeSoFar (header.Lattice kind rows cols) all left state)
     → left ≡ r ∷ rest → is_end r ≡ true → lattice_end_fault (bond_total kind rows cols) (length state.couplings) r ≡ None
-    → IsEnded (header.Lattice kind rows cols) all sf.body r
+    → IsEnded (record_fault (header.Lattice kind rows cols)) all sf.body r
 ended-lattice kind rows cols all left rest r state sf next end pass = record {
   more = rest;
   split = sf.split ∙ ap (λ (l : List Kept). sf.body ++ l) next;

@@ -6,8 +6,10 @@ pub mod TestLaws
 pub mod BodyLaws
 pub mod LatticeLaws
 pub mod GeneralLaws
+pub mod ResultLaws
 pub mod ReadLaws
 pub mod HeaderLaws
 pub mod RecordCounts
+mod BehindLaws
 mod WorkedRecords
 pub mod SmallReads

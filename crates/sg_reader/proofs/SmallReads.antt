@@ -1,5 +1,5 @@
 -- An instance that is read is within the limit of spins.
-use Rattle.std.proofs.Common.{◌≡◌, ℕ, ◌≤◌, Bool, true, false, List, [], ◌∷◌, Option, None, Some, refl, sym, ◌∙◌, ap, subst, inl, inr, pos}
+use Rattle.std.proofs.Common.{◌≡◌, ℕ, ◌≤◌, List, [], ◌∷◌, Option, None, Some, refl, sym, ◌∙◌, ap, subst, inl, inr, pos}
 use Rattle.std.specs.Prelude.{nat_lt, option_map, ◌*◌}
 use Rattle.sg_lattice.specs.Tables.{lattice}
 use Rattle.std.proofs.lemmas.Bool.{cases_Bool}

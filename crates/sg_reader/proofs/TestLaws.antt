@@ -1,20 +1,18 @@
 -- Tests in order, and the first field that is no number of its range.
-use Rattle.std.proofs.Common.{◌≡◌, ℕ, zero, suc, ◌+◌, ◌-◌, ◌<◌, ◌≤◌, Bool, true, false, List, [], ◌∷◌, length, Option, Some, None, refl, sym, ap, ◌∙◌, arith, inl, inr}
-use Rattle.std.specs.Prelude.{◌==◌, nat_lt, nat_le, cond, not, find, option_map}
+use Rattle.std.proofs.Common.{◌≡◌, ℕ, zero, suc, ◌+◌, ◌-◌, ◌<◌, ◌≤◌, Bool, true, false, length, Option, Some, None, refl, ap, ◌∙◌, arith, inl, inr}
+use Rattle.std.specs.Prelude.{◌==◌, cond, not, find}
 use Rattle.std.specs.List.{range_with_len}
-use Rattle.std.proofs.lemmas.Bool.{cases_Bool, cases_order, cases_eq, false≢true, eq-eqb, ne_eqb, lt-ltb, le-ltb, le-leb, lt-leb, not_from_true, not_from_false}
-use Rattle.sg_model.specs.declared.refusal.Refusal.{Refusal}
-use Rattle.sg_model.specs.declared.refusal.Refusal.TheVariants.{BadNumber}
+use Rattle.std.proofs.lemmas.Bool.{cases_eq, eq-eqb, ne_eqb, not_from_true, not_from_false}
 use Rattle.sg_reader.specs.declared.range.Range.{Range}
 use Rattle.sg_reader.specs.Kept.{Kept, field}
-use Rattle.sg_reader.specs.Tests.{bad_field, bad_number, first_of, is_number_in, refuse_if}
+use Rattle.sg_reader.specs.Tests.{bad_field, is_number_in}
 
 -- the first number of a range that passes
-find_range-none : (p : ℕ → Bool) (a n : ℕ) → ((i : ℕ) → a ≤ i → i < a + n → p i ≡ false) → find p (range_with_len a n) ≡ None
+pub find_range-none : (p : ℕ → Bool) (a n : ℕ) → ((i : ℕ) → a ≤ i → i < a + n → p i ≡ false) → find p (range_with_len a n) ≡ None
 find_range-none p a zero h = refl
 find_range-none p a (suc n) h = rw (h a (omega arith) (omega arith)) (find_range-none p (a + 1) n (λ i low high. h i (omega arith) (omega arith)))
 
-find_range-some : (p : ℕ → Bool) (a n k : ℕ) → a ≤ k → k < a + n → ((i : ℕ) → a ≤ i → i < k → p i ≡ false) → p k ≡ true → find p (range_with_len a n) ≡ Some k
+pub find_range-some : (p : ℕ → Bool) (a n k : ℕ) → a ≤ k → k < a + n → ((i : ℕ) → a ≤ i → i < k → p i ≡ false) → p k ≡ true → find p (range_with_len a n) ≡ Some k
 find_range-some p a zero k low high h e = absurd (omega arith)
 find_range-some p a (suc n) k low high h e = elim (cases_eq a k) [
   | inl same ↦ rw (← same) (rw (ap p same ∙ e) refl)

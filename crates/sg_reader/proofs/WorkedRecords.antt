@@ -1,7 +1,7 @@
 -- The tests at records written out, as a reader would work them by hand.
-use Rattle.std.proofs.Common.{◌≡◌, ℕ, ℤ, pos, negsuc, List, [], ◌∷◌, Some, None, refl, codes}
+use Rattle.std.proofs.Common.{◌≡◌, ℕ, pos, negsuc, List, [], ◌∷◌, take, Some, None, refl, codes}
 use Rattle.sg_model.specs.declared.refusal.Refusal.TheVariants.{BadNumber, BadShape, CouplingCount, SelfBond, TooManySpins, UnknownKind}
-use Rattle.sg_lattice.specs.declared.kind.Kind.TheVariants.{Square, Cylinder}
+use Rattle.sg_lattice.specs.declared.kind.Kind.TheVariants.{Cylinder}
 use Rattle.sg_reader.specs.declared.header.Header.TheVariants as header
 use Rattle.sg_reader.specs.Field.{fields_in, trimmed, without_marks}
 use Rattle.sg_reader.specs.Kept.{Kept}
@@ -9,6 +9,8 @@ use Rattle.sg_reader.specs.Number.{number_of}
 use Rattle.sg_reader.specs.Tests.{bad_field}
 use Rattle.sg_reader.specs.Header.{form_of, header_fault, header_of}
 use Rattle.sg_reader.specs.Body.{bonds_in, couplings_in, darts_in, general_fault, has_rot, lattice_fault, seam_in}
+use Rattle.sg_reader.specs.Result.{bad_spin, result_fault, result_of}
+use Rattle.sg_reader.specs.ReadResult.{behind}
 
 abbrev row : ℕ → List (List ℕ) → Kept
 row at fields = record { at = at; fields = fields }
@@ -108,3 +110,46 @@ past-spin = refl
 other-word : general_fault 2 pair (row 4 (codes "3" ∷ [])) ≡ Some (UnknownKind 4)
 unfolding general_fault
 other-word = refl
+
+-- what a proof states, and what it may not
+abbrev stated : List Kept
+stated = row 4 (codes "energy" ∷ codes "-10" ∷ []) ∷ row 5 (codes "spins" ∷ codes "1" ∷ codes "-01" ∷ []) ∷ row 7 (codes "loop" ∷ codes "4" ∷ codes "0" ∷ codes "3" ∷ []) ∷ []
+
+result : result_of stated ≡ record { energy = negsuc 9; spins = pos 1 ∷ negsuc 0 ∷ []; loops = record { y = pos 4; bonds = 0 ∷ 3 ∷ [] } ∷ [] }
+unfolding result_of number_of
+result = refl
+
+result-ends : result_fault stated (row 8 (codes "end" ∷ [])) ≡ None
+unfolding result_fault
+result-ends = refl
+
+result-number : result_fault stated (row 8 (codes "end" ∷ codes "1" ∷ [])) ≡ Some (BadShape 8)
+unfolding result_fault
+result-number = refl
+
+no-energy : result_fault [] (row 4 (codes "spins" ∷ codes "1" ∷ [])) ≡ Some (UnknownKind 4)
+unfolding result_fault
+no-energy = refl
+
+energy-letter : result_fault [] (row 4 (codes "energy" ∷ codes "x" ∷ [])) ≡ Some (BadNumber 4 1)
+unfolding result_fault bad_field number_of
+energy-letter = refl
+
+spin-two : result_fault (take 1 stated) (row 5 (codes "spins" ∷ codes "+1" ∷ codes "2" ∷ codes "0" ∷ [])) ≡ Some (BadNumber 5 2)
+unfolding result_fault bad_spin number_of
+spin-two = refl
+
+loop-alone : result_fault (take 2 stated) (row 6 (codes "loop" ∷ [])) ≡ Some (BadShape 6)
+unfolding result_fault
+loop-alone = refl
+
+loop-range : result_fault stated (row 8 (codes "loop" ∷ codes "-4" ∷ codes "4294967295" ∷ codes "4294967296" ∷ [])) ≡ Some (BadNumber 8 3)
+unfolding result_fault bad_field number_of
+loop-range = refl
+
+loop-bare : result_fault stated (row 8 (codes "loop" ∷ codes "0" ∷ [])) ≡ None
+unfolding result_fault bad_field number_of
+loop-bare = refl
+
+behind-four : behind 4 (row 1 (codes "3" ∷ []) ∷ row 4 (codes "energy" ∷ []) ∷ row 6 (codes "end" ∷ []) ∷ []) ≡ row 4 (codes "energy" ∷ []) ∷ row 6 (codes "end" ∷ []) ∷ []
+behind-four = refl

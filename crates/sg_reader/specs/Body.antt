@@ -1,5 +1,5 @@
 -- The records of an instance after the first, up to its `end`: each is tested from the records between the first and itself, its `body`.
-use Rattle.std.specs.Prelude.{ℕ, ◌+◌, ◌-◌, ◌==◌, ◌&&◌, Bool, not, nat_le, if◌then◌else◌, ℤ, List, [], ◌∷◌, length, map, filter, drop, find, codes, Option, Some, None, option_map, unwrap_or}
+use Rattle.std.specs.Prelude.{ℕ, ◌+◌, ◌-◌, ◌==◌, ◌&&◌, Bool, not, nat_le, if◌then◌else◌, ℤ, List, [], ◌∷◌, length, map, filter, find, codes, Option, Some, None, option_map, unwrap_or}
 use Rattle.std.specs.List.{flat_map, list_any, range_with_len}
 use Rattle.sg_model.specs.declared.bond.Bond.{Bond}
 use Rattle.sg_model.specs.declared.refusal.Refusal.{Refusal}
@@ -11,7 +11,7 @@ use Rattle.sg_reader.specs.declared.header.Header.{Header}
 use Rattle.sg_reader.specs.declared.header.Header.TheVariants as header
 use Rattle.sg_reader.specs.declared.limits.TheConstants.{BOND_LIMIT}
 use Rattle.sg_reader.specs.declared.range.Range.{Range}
-use Rattle.sg_reader.specs.Kept.{Kept, begins, field}
+use Rattle.sg_reader.specs.Kept.{Kept, begins}
 use Rattle.sg_reader.specs.Tests.{any_index, any_number, bad_number, first_of, number_in, refuse_if, size_in, spin_below}
 
 -- what a record begins with
@@ -104,9 +104,9 @@ rot_fault n seen r = first_of (
     ∷ refuse_if seen (BadShape r.at)
     ∷ [])
 
--- the record that ends a general instance
-abbrev pub general_end_fault : Kept → Option Refusal
-general_end_fault r = refuse_if (not (length r.fields == 1)) (BadShape r.at)
+-- an `end` with no other field
+abbrev pub bare_end_fault : Kept → Option Refusal
+bare_end_fault r = refuse_if (not (length r.fields == 1)) (BadShape r.at)
 
 -- the tests of a record of a general instance of n spins
 unfoldable pub general_fault : ℕ → List Kept → Kept → Option Refusal
@@ -114,7 +114,7 @@ general_fault n body r =
     if is_bond r then bond_fault n (length (bonds_in body)) r
     else (if is_rot r then rot_fault n (has_rot body (size_in r 1)) r
     else (if is_seam r then seam_fault (list_any is_seam body) r
-    else (if is_end r then general_end_fault r
+    else (if is_end r then bare_end_fault r
     else Some (UnknownKind r.at))))
 
 -- the first test that a record fails

@@ -1,9 +1,9 @@
 -- The records of a text that count, with their numbers.
-use Rattle.std.specs.Prelude.{ℕ, ◌==◌, ◌&&◌, Bool, false, not, List, [], ◌∷◌, length, map, filter, slice_index_or, codes}
+use Rattle.std.specs.Prelude.{ℕ, ◌==◌, ◌&&◌, Bool, false, not, List, [], ◌∷◌, length, map, filter, slice_index_or}
 use Rattle.std.specs.List.{enumerate_from}
 use Rattle.std.specs.Str.{bytes_eq}
 use Rattle.sg_reader.specs.Records.{records_of}
-use Rattle.sg_reader.specs.Field.{fields_in, is_empty, without_marks}
+use Rattle.sg_reader.specs.Field.{fields_in, without_marks}
 
 -- a record: its number among the records of the text, counted from 0, and its fields
 pub record Kept : Type 0 where

@@ -6,7 +6,10 @@ pub mod Kept
 pub mod Tests
 pub mod Header
 pub mod Body
+pub mod Ended
 pub mod ReadInstance
+pub mod Result
+pub mod ReadResult
 pub mod NoMore
 pub mod Holds
 pub mod GeneralHolds

@@ -1,5 +1,5 @@
 -- What may stand behind the last `end` of a text.
-use Rattle.std.specs.Prelude.{◌≡◌, ℕ, nat_le, List, find, Option, Some, None, option_map, ⊤}
+use Rattle.std.specs.Prelude.{◌≡◌, ℕ, nat_le, List, find, Option, Some, option_map, ⊤}
 use Rattle.sg_model.specs.declared.refusal.Fault.{Fault}
 use Rattle.sg_model.specs.declared.refusal.Fault.TheVariants.{Refused, NoMemory}
 use Rattle.sg_model.specs.declared.refusal.Refusal.{Refusal}

@@ -1,5 +1,5 @@
 -- Which instance a text gives, or why it is refused: the first test that a record fails, in the order of the records.
-use Rattle.std.specs.Prelude.{◌≡◌, ℕ, ◌+◌, ◌<◌, Bool, true, false, List, [], ◌∷◌, ◌++◌, length, take, All, slice_index_or, Option, Some, None, ⊤}
+use Rattle.std.specs.Prelude.{◌≡◌, ℕ, ◌+◌, List, [], ◌∷◌, ◌++◌, Some, None, ⊤}
 use Rattle.sg_model.specs.declared.refusal.Fault.{Fault}
 use Rattle.sg_model.specs.declared.refusal.Fault.TheVariants.{Refused, NoMemory}
 use Rattle.sg_model.specs.declared.refusal.Refusal.{Refusal}
@@ -11,30 +11,14 @@ use Rattle.sg_model.specs.Faults.{IsRefusalOf}
 use Rattle.sg_reader.specs.declared.header.Header.{Header}
 use Rattle.sg_reader.specs.Kept.{Kept}
 use Rattle.sg_reader.specs.Header.{header_fault, header_of}
-use Rattle.sg_reader.specs.Body.{instance_of, is_end, record_fault}
-
--- record k, and an empty one past the last
-abbrev pub record_at : List Kept → ℕ → Kept
-record_at records k = slice_index_or records k (record { at = 0; fields = [] })
-
--- the records of an instance between its first and its `end`: none of them ends it, and none fails a test
-pub record IsBody (header : Header) (body : List Kept) : Type 0 where
-  pub goes_on : All (λ r. is_end r ≡ false) body
-  pub passes : (k : ℕ) → k < length body → record_fault header (take k body) (record_at body k) ≡ None
-
--- `last` ends the instance: it stands behind the body and fails no test
-pub record IsEnded (header : Header) (rest body : List Kept) (last : Kept) : Type 0 where
-  pub more : List Kept
-  pub split : rest ≡ body ++ last ∷ more
-  pub is_body : IsBody header body
-  pub ends : is_end last ≡ true
-  pub passes : record_fault header body last ≡ None
+use Rattle.sg_reader.specs.Body.{instance_of, record_fault}
+use Rattle.sg_reader.specs.Ended.{IsBody, IsEnded}
 
 -- the records behind the first give the instance, which passes the tests of an instance; `after` records of the text were read
 pub record ReadsBody (header : Header) (rest : List Kept) (inst : Ising) (after : ℕ) : Type 0 where
   pub body : List Kept
   pub last : Kept
-  pub ended : IsEnded header rest body last
+  pub ended : IsEnded (record_fault header) rest body last
   pub value : inst ≡ instance_of header body
   pub rotation : IsRotation inst
   pub seam : IsSeam inst
@@ -52,11 +36,11 @@ pub record ReadsInstance (kept : List Kept) (inst : Ising) (after : ℕ) : Type 
 
 -- the records behind the first are refused: at a record that fails a test, at the `end` by the tests of an instance, or because they run out
 pub data RefusesBody (header : Header) (rest : List Kept) (refusal : Refusal) : Type 0 where
-  AtRecord : (body : List Kept) (r : Kept) (more : List Kept) → rest ≡ body ++ r ∷ more → IsBody header body
+  AtRecord : (body : List Kept) (r : Kept) (more : List Kept) → rest ≡ body ++ r ∷ more → IsBody (record_fault header) body
       → record_fault header body r ≡ Some refusal → RefusesBody header rest refusal
-  AtEnd : (body : List Kept) (last : Kept) → IsEnded header rest body last
+  AtEnd : (body : List Kept) (last : Kept) → IsEnded (record_fault header) rest body last
       → IsRefusalOf (instance_of header body) refusal → RefusesBody header rest refusal
-  WithoutEnd : IsBody header rest → refusal ≡ Unended → RefusesBody header rest refusal
+  WithoutEnd : IsBody (record_fault header) rest → refusal ≡ Unended → RefusesBody header rest refusal
 
 -- the records are refused: there is none, the first fails a test, or those behind it are refused
 pub data RefusesInstance (kept : List Kept) (refusal : Refusal) : Type 0 where

@@ -1,5 +1,5 @@
-ghost use Rattle.std.specs.Prelude.{◌≡◌, ◌≤◌, ◌++◌, length, None, IfOk, IfErr, OnOk};
-ghost use Rattle.sg_reader.specs.Body.{numbers_from, seam_fault, sizes_from};
+ghost use Rattle.std.specs.Prelude.{◌≡◌, ◌≤◌, ◌++◌, length, None, Some, IfOk, IfErr, OnOk};
+ghost use Rattle.sg_reader.specs.Body.{bare_end_fault, numbers_from, seam_fault, sizes_from};
 ghost use Rattle.sg_reader.specs.Tests.{any_index, any_number, bad_field, bad_number, IsTestFault};
 
 use super::range::Range;
@@ -7,7 +7,7 @@ use super::row::Row;
 use sg_model::{BondList, Couplings, Fault, Refusal};
 use std::alloc::Global;
 
-/// The word that ends an instance.
+/// The word that ends an instance, and a result.
 pub(crate) const END: &[u8] = b"end";
 
 /// The word of a record that gives the seam.
@@ -55,4 +55,15 @@ pub(crate) fn seam(alloc: Global, row: &Row, seen: bool) -> Result<BondList, Fau
         return Err(Fault::Refused(Refusal::BadShape { at: row.at() }));
     }
     indices(alloc, row, 1)
+}
+
+/// The tests of an `end` that has no numbers beside it.
+pub(crate) fn bare_end(row: &Row) -> Result<(), Refusal>
+    ensures passes { OnOk result (bare_end_fault row.now ≡ None) }
+    ensures refused { IfErr result (λ e. bare_end_fault row.now ≡ Some e) }
+{
+    if row.len() != 1 {
+        return Err(Refusal::BadShape { at: row.at() });
+    }
+    Ok(())
 }

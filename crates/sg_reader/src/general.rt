@@ -5,13 +5,13 @@ ghost use Rattle.sg_model.specs.WellFormed.{IsInstance};
 ghost use Rattle.sg_reader.specs.declared.header.Header.TheVariants as header;
 ghost use Rattle.sg_reader.specs.Kept.{Kept, field};
 ghost use Rattle.sg_reader.specs.Tests.{IsTestFault, is_number_in, size_in, spin_below};
-ghost use Rattle.sg_reader.specs.Body.{bond_fault, bond_of, general_end_fault, general_fault, instance_of, is_bond, is_end, is_rot, is_seam, rot_fault};
+ghost use Rattle.sg_reader.specs.Body.{bond_fault, bond_of, general_fault, instance_of, is_bond, is_end, is_rot, is_seam, rot_fault};
 ghost use Rattle.sg_reader.specs.ReadInstance.{IsBodyFault, ReadsBody};
 ghost use Rattle.sg_reader.specs.GeneralHolds.{HoldsGeneral, HoldsSome};
 ghost use Rattle.sg_model.specs.Faults.{IsFaultOf};
 
 use super::NoMemory;
-use super::body::{END, SEAM, indices, seam};
+use super::body::{END, SEAM, bare_end, indices, seam};
 use super::limits::BOND_LIMIT;
 use super::range::Range;
 use super::row::Row;
@@ -194,17 +194,6 @@ impl GeneralBody {
     }
 }
 
-// The tests of the record `end`.
-fn end_general(row: &Row) -> Result<(), Refusal>
-    ensures passes { OnOk result (general_end_fault row.now ≡ None) }
-    ensures refused { IfErr result (λ e. general_end_fault row.now ≡ Some e) }
-{
-    if row.len() != 1 {
-        return Err(Refusal::BadShape { at: row.at() });
-    }
-    Ok(())
-}
-
 /// Reads the records of a general instance of `n` spins behind the first, up to its `end`, and gives
 /// the instance and the number of records of the text up to and with the `end`.
 ///
@@ -226,7 +215,7 @@ pub(crate) fn read_general(
     let mut body = GeneralBody::new(alloc, n)?;
     while records.next(row)? {
         if row.begins(END) {
-            end_general(row)?;
+            bare_end(row)?;
             let inst = body.instance(alloc)?;
             return Ok((inst, row.at() + 1));
         }

@@ -1,15 +1,18 @@
 //! Reads the texts that describe Ising instances: lattices with their couplings, and general graphs
-//! with their bonds and the cyclic order of the darts round each spin.
+//! with their bonds and the cyclic order of the darts round each spin; and the results behind them,
+//! which state an energy, spins and loops.
 //!
 //! A text is a list of `csv` records. `read_instance` gives the instance at its front, or the one
-//! refusal that names its first fault, by record and field; `no_more` tells what stands behind it.
+//! refusal that names its first fault, by record and field; `read_result` does so for the result
+//! behind an instance, and `no_more` tells what stands behind both.
 //!
-//! For the next engineer: `specs/ReadInstance.antt` says which instance a text gives and why it is
-//! refused, over the whole list of its records; `specs/Header.antt` and `specs/Body.antt` are the
-//! tables of tests, `specs/Kept.antt` and `specs/Field.antt` say which records and fields count. The
-//! contract that matters is that of `read_instance`. In the code `rows.rt` gives the records that
-//! count, `header.rt` reads the first, `lattice.rt` and `general.rt` those behind it; `cursor.rt`
-//! alone speaks to `csv`.
+//! For the next engineer: `specs/ReadInstance.antt` and `specs/ReadResult.antt` say what a text gives
+//! and why it is refused, over the whole list of its records; `specs/Header.antt`, `specs/Body.antt`
+//! and `specs/Result.antt` are the tables of tests, `specs/Kept.antt` and `specs/Field.antt` say which
+//! records and fields count. The contracts that matter are those of `read_instance` and
+//! `read_result`. In the code `rows.rt` gives the records that count, `header.rt` reads the first of
+//! an instance, `lattice.rt` and `general.rt` those behind it, `result.rt` those of a result;
+//! `cursor.rt` alone speaks to `csv`.
 #![tactic(auto)]
 
 mod body;
@@ -22,12 +25,14 @@ mod limits;
 mod numeral;
 mod range;
 mod read;
+mod result;
 mod row;
 mod rows;
 
 pub use limits::{BOND_LIMIT, SPIN_LIMIT};
 pub use numeral::number;
 pub use read::{no_more, read_instance};
+pub use result::read_result;
 use std::alloc::AllocError;
 
 /// The allocator had no memory left.

@@ -4,6 +4,9 @@ ghost use Rattle.std.specs.List.{sum_by};
 ghost use Rattle.sg_model.specs.declared.refusal.Refusal.TheVariants.{BadNumber as IsBadNumber};
 ghost use Rattle.sg_reader.specs.Field.{fields_in};
 ghost use Rattle.sg_reader.specs.Kept.{field as field_of, is_kept as is_kept_row, is_comment as is_comment_field};
+ghost use Rattle.sg_model.specs.Spins.{IsUpOrDown};
+ghost use Rattle.sg_reader.specs.Number.{number_of};
+ghost use Rattle.sg_reader.specs.Result.{is_spin_value};
 ghost use Rattle.sg_reader.specs.Tests.{is_number_in, number_in, size_in};
 
 use super::cursor::Cursor;
@@ -122,6 +125,23 @@ impl Row {
     {
         match number(self.field(i)) {
             Some(value) if range.holds(value) => Ok(value),
+            _ => Err(Refusal::BadNumber {
+                at: self.at,
+                field: i as u32,
+            }),
+        }
+    }
+
+    /// The value of a spin in field `i`, 1 or -1.
+    pub(crate) fn spin(&self, i: usize) -> Result<i8, Refusal>
+        requires { i < length self.now.fields }
+        ensures ok { IfOk result (λ z. (z ≡ number_in self.now i) × (is_spin_value (number_of (field_of self.now i)) ≡ true)) }
+        ensures up_or_down { IfOk result IsUpOrDown }
+        ensures refused { IfErr result (λ e. (e ≡ IsBadNumber self.now.at i) × (is_spin_value (number_of (field_of self.now i)) ≡ false)) }
+    {
+        match number(self.field(i)) {
+            Some(1) => Ok(1),
+            Some(-1) => Ok(-1),
             _ => Err(Refusal::BadNumber {
                 at: self.at,
                 field: i as u32,

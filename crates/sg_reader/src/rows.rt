@@ -1,7 +1,8 @@
-ghost use Rattle.std.specs.Prelude.{◌≡◌, ◌<◌, ◌+◌, ◌^◌, [], ◌∷◌, length, IfOk, MatchBool};
+ghost use Rattle.std.specs.Prelude.{◌≡◌, ◌<◌, ◌≤◌, ◌+◌, ◌^◌, [], ◌∷◌, drop, length, IfOk, OnOk, MatchBool};
 ghost use Rattle.std.specs.List.{sum_by};
 ghost use Rattle.sg_reader.specs.Kept.{kept_of, numbered_from};
 ghost use Rattle.sg_reader.specs.Field.{without_marks as without_marks_of};
+ghost use Rattle.sg_reader.specs.ReadResult.{behind};
 ghost use Rattle.sg_reader.specs.Records.{records_of};
 
 use super::NoMemory;
@@ -41,6 +42,19 @@ impl<'a> Numbered<'a> {
         }
     }
 
+    // Passes over the first `count` records.
+    fn skip(&mut self, alloc: Global, count: u32) -> Result<(), NoMemory>
+        ensures { OnOk result (self.new ≡ drop count self.old) }
+    {
+        let mut row = Row::new(alloc);
+        for _record in 0..count {
+            if !self.next(&mut row)? {
+                return Ok(());
+            }
+        }
+        Ok(())
+    }
+
     fn next(&mut self, row: &mut Row) -> Result<bool, NoMemory>
         ensures { IfOk result (λ found. MatchBool found (self.old ≡ row.new ∷ self.new) ((self.old ≡ []) × (self.new ≡ []))) }
     {
@@ -73,11 +87,22 @@ impl<'a> Rows<'a> {
     pub(crate) fn new(alloc: Global, bytes: &'a [u8]) -> Self
         requires { length bytes.now < 2 ^ 30 }
         ensures value { result ≡ kept_of bytes.now }
-        ensures few { sum_by (λ r. length r.fields) result < 2 ^ 32 }
+        ensures few { sum_by (λ r. length r.fields) result ≤ 2 ^ 30 }
     {
         Rows {
             records: Numbered::new(alloc, bytes),
         }
+    }
+
+    /// Behind the first `after` records of a text, those that are skipped among them.
+    pub(crate) fn behind(alloc: Global, bytes: &'a [u8], after: u32) -> Result<Self, NoMemory>
+        requires { length bytes.now < 2 ^ 30 }
+        ensures value { IfOk result (λ rows. rows ≡ behind after (kept_of bytes.now)) }
+        ensures few { IfOk result (λ rows. sum_by (λ r. length r.fields) rows ≤ 2 ^ 30) }
+    {
+        let mut records = Numbered::new(alloc, bytes);
+        records.skip(alloc, after)?;
+        Ok(Rows { records })
     }
 
     /// Reads the next record that is not skipped into `row`, or answers false where there is none.

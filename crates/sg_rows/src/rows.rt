@@ -1,23 +1,7 @@
 // Rows of words, input, status and text.
-use super::runs::answer;
+use super::runs::expect_row;
 use sg_cli::Status;
-use std::alloc::Global;
-use std::process::Abort;
 use std::test::Fail;
-
-// Runs a row and compares what came of it.
-fn expect_row<R: Abort>(
-    rt: &R,
-    alloc: Global,
-    line: &str,
-    input: &str,
-    wanted: (Status, &str),
-) -> Result<(), Fail> {
-    let (status, text) = answer(alloc, line, input.as_bytes())?;
-    assert_eq!(rt; status, wanted.0, "{line}, {input}");
-    assert_eq!(rt; text.as_slice(), wanted.1.as_bytes(), "{line}, {input}");
-    Ok(())
-}
 
 #[test]
 fn ground_states_of_lattices(rt: HostRuntime) -> Result<(), Fail> {

@@ -2,6 +2,7 @@
 use sg_cli::{Status, run};
 use sg_io::{CallList, MemSink, MemSource};
 use std::alloc::{AllocError, Global};
+use std::process::Abort;
 use std::test::Fail;
 
 // The words as the program gets them.
@@ -30,4 +31,18 @@ pub fn answer(alloc: Global, line: &str, input: &[u8]) -> Result<(Status, Vec<u8
     let mut sink = MemSink::new(alloc, 4096, 5, CallList::new(alloc))?;
     let status = run(alloc, words.as_slice(), &mut source, &mut sink);
     Ok((status, Vec::from_slice(alloc, sink.bytes())?))
+}
+
+// Runs a row and compares what came of it.
+pub fn expect_row<R: Abort>(
+    rt: &R,
+    alloc: Global,
+    line: &str,
+    input: &str,
+    wanted: (Status, &str),
+) -> Result<(), Fail> {
+    let (status, text) = answer(alloc, line, input.as_bytes())?;
+    assert_eq!(rt; status, wanted.0, "{line}, {input}");
+    assert_eq!(rt; text.as_slice(), wanted.1.as_bytes(), "{line}, {input}");
+    Ok(())
 }

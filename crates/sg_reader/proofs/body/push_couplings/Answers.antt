@@ -1,4 +1,4 @@
-use Rattle.std.proofs.Common.{◌≡◌, ◌<◌, ◌≤◌, ◌-◌, ◌+◌, ◌∷◌, ◌++◌, [], ℕ, ℤ, List, true, Some, Option, length, map, sym, ◌∙◌, ap, arith, rules, refl, append_assoc, FitsSigned, w64, to_z, of_z, below_more}
+use Rattle.std.proofs.Common.{◌≡◌, ◌∷◌, ◌++◌, [], ℕ, ℤ, List, Some, Option, map, sym, ◌∙◌, ap, arith, rules, append_assoc, FitsSigned, w64, to_z, of_z, below_more}
 use Rattle.std.specs.Prelude.{option_map}
 use Rattle.std.specs.List.{range_with_len}
 use Rattle.std.proofs.lemmas.Int.{to_z-of_z}

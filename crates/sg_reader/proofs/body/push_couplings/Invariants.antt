@@ -1,4 +1,4 @@
-use Rattle.std.proofs.Common.{◌≡◌, ◌≤◌, ◌<◌, ◌++◌, ℕ, true, map}
+use Rattle.std.proofs.Common.{◌≡◌, ◌<◌, ◌++◌, ℕ, true, map}
 use Rattle.std.specs.List.{range_with_len}
 use Rattle.sg_reader.specs.Kept.{field}
 use Rattle.sg_reader.specs.Tests.{any_number, is_number_in, number_in}

@@ -1,6 +1,5 @@
-use Rattle.std.proofs.Common.{◌≡◌, ◌<◌, ◌≤◌, ◌-◌, ◌+◌, ◌∷◌, ◌++◌, [], ℕ, Bool, true, false, Some, None, length, get_or, take, drop, map, sym, ◌∙◌, ap, arith, rules, refl}
+use Rattle.std.proofs.Common.{◌≡◌, ◌<◌, false, length, get_or, sym, ◌∙◌, arith}
 use Rattle.std.proofs.lemmas.List.{take_rest}
-use Rattle.std.proofs.lemmas.Bool.{false≢true}
 use Rattle.sg_reader.specs.Field.{is_blank}
 use Rattle.sg_reader.proofs.FieldLaws.{after_front_is}
 use Rattle.sg_reader.proofs.field.after_blanks.Goals as goal

@@ -1,4 +1,4 @@
-use Rattle.std.proofs.Common.{◌≡◌, ◌<◌, ◌≤◌, ◌-◌, ◌+◌, ◌∷◌, ◌++◌, [], ℕ, Bool, true, false, Some, None, length, get_or, take, drop, map, sym, ◌∙◌, ap, arith, rules, refl}
+use Rattle.std.proofs.Common.{◌≡◌, ◌<◌, ◌-◌, false, get_or, sym, ◌∙◌, arith}
 use Rattle.sg_reader.specs.Field.{is_blank}
 use Rattle.sg_reader.proofs.FieldLaws.{before_end_is}
 use Rattle.sg_reader.proofs.field.before_blanks.Goals as goal

@@ -1,4 +1,4 @@
-use Rattle.std.proofs.Common.{◌≡◌, ◌<◌, ◌≤◌, ◌-◌, ◌+◌, ◌∷◌, ◌++◌, [], ℕ, Bool, true, false, Some, None, length, get_or, take, drop, map, sym, ◌∙◌, ap, arith, rules, refl}
+use Rattle.std.proofs.Common.{sym, ◌∙◌, ap, arith}
 use Rattle.csv.specs.Records.{fields_of}
 use Rattle.sg_reader.specs.Field.{is_empty}
 use Rattle.sg_reader.proofs.FieldLaws.{fields_in_is}

@@ -1,4 +1,4 @@
-use Rattle.std.proofs.Common.{◌≡◌, ◌<◌, ◌≤◌, ◌-◌, ◌+◌, ◌∷◌, ◌++◌, [], ℕ, Bool, true, false, Some, None, length, get_or, take, drop, map, sym, ◌∙◌, ap, arith, rules, refl}
+use Rattle.std.proofs.Common.{◌∙◌, ap}
 use Rattle.sg_reader.specs.Field.{before_end, is_blank, trimmed}
 use Rattle.sg_reader.proofs.field.trimmed.Goals as goal
 

@@ -1,4 +1,4 @@
-use Rattle.std.proofs.Common.{◌≡◌, ◌<◌, ◌≤◌, ◌-◌, ◌+◌, ◌∷◌, ◌++◌, [], ℕ, Bool, true, false, Some, None, length, get_or, take, drop, map, sym, ◌∙◌, ap, arith, rules, refl}
+use Rattle.std.proofs.Common.{sym, ◌∙◌, ap}
 use Rattle.sg_reader.specs.Field.{without_marks}
 use Rattle.sg_reader.proofs.FieldLaws.{take-drop_3, without_marks-mark, without_marks-no_mark}
 use Rattle.sg_reader.proofs.field.without_marks.Goals as goal

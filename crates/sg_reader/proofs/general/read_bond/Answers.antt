@@ -1,15 +1,9 @@
-use Rattle.std.proofs.Common.{◌≡◌, ◌<◌, ◌≤◌, ◌-◌, ◌+◌, ◌*◌, ◌^◌, ◌∷◌, ◌++◌, [], ℕ, ℤ, pos, Bool, List, true, false, Some, None, Option, length, get_or, set, map, sym, ◌∙◌, ap, arith, rules, refl}
-use Rattle.std.specs.Prelude.{is_some, option_map, unwrap_or}
-use Rattle.std.specs.List.{list_any, range_with_len}
-use Rattle.std.proofs.lemmas.Result.{IfErr-weaker, IfOk-weaker, err_from_is_err_and}
-use Rattle.sg_model.specs.declared.refusal.Fault.TheVariants.{Refused}
-use Rattle.sg_model.specs.declared.refusal.Refusal.{Refusal}
-use Rattle.sg_model.specs.declared.refusal.Refusal.TheVariants.{BadNumber, BadShape, SelfBond, UnknownKind}
-use Rattle.sg_reader.specs.declared.header.Header.TheVariants as header
+use Rattle.std.proofs.Common.{◌≡◌, Some, length, sym, ◌∙◌, ap, arith}
+use Rattle.std.proofs.lemmas.Result.{err_from_is_err_and}
 use Rattle.sg_reader.specs.declared.range.Range.{Range}
-use Rattle.sg_reader.specs.Kept.{Kept, field, kept_of}
-use Rattle.sg_reader.specs.Tests.{IsTestFault, any_index, any_number, bad_field, is_number_in, size_in, spin_below}
-use Rattle.sg_reader.specs.Body.{bond_fault, bond_of, bond_range, bonds_in, darts_in, general_fault, has_rot, is_bond, is_end, is_rot, is_seam, record_fault, rot_fault, rot_range, seam_fault, sizes_from}
+use Rattle.sg_reader.specs.Kept.{field}
+use Rattle.sg_reader.specs.Tests.{is_number_in}
+use Rattle.sg_reader.specs.Body.{bond_range}
 use Rattle.sg_reader.proofs.TestLaws.{bad_field-first, bad_field-second, bad_field-third, bad_field-three}
 use Rattle.sg_reader.proofs.GeneralLaws.{bond_fault-many, bond_fault-none, bond_fault-number, bond_fault-self}
 use Rattle.sg_reader.proofs.general.read_bond.Goals as goal

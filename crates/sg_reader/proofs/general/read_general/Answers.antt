@@ -1,31 +1,26 @@
-use Rattle.std.proofs.Common.{◌≡◌, ◌<◌, ◌≤◌, ◌-◌, ◌+◌, ◌*◌, ◌^◌, ◌∷◌, ◌++◌, [], ℕ, ℤ, pos, Bool, List, true, false, Some, None, Option, length, get_or, set, map, sym, ◌∙◌, ap, arith, rules, refl}
-use Rattle.std.specs.Prelude.{is_some, option_map, unwrap_or}
-use Rattle.std.specs.List.{list_any, range_with_len}
-use Rattle.std.proofs.lemmas.Result.{IfErr-weaker, IfOk-weaker, err_from_is_err_and}
+use Rattle.std.proofs.Common.{◌≡◌, ◌+◌, ◌++◌, ℕ, List, true, false, Some, sym, ◌∙◌, ap, arith}
+use Rattle.std.proofs.lemmas.Result.{err_from_is_err_and}
 use Rattle.sg_model.specs.declared.refusal.Fault.TheVariants.{Refused}
-use Rattle.sg_model.specs.declared.refusal.Refusal.{Refusal}
-use Rattle.sg_model.specs.declared.refusal.Refusal.TheVariants.{BadNumber, BadShape, SelfBond, UnknownKind}
 use Rattle.sg_reader.specs.declared.header.Header.TheVariants as header
-use Rattle.sg_reader.specs.declared.range.Range.{Range}
-use Rattle.sg_reader.specs.Kept.{Kept, field, kept_of}
-use Rattle.sg_reader.specs.Tests.{IsTestFault, any_index, any_number, bad_field, is_number_in, size_in, spin_below}
-use Rattle.sg_reader.specs.Body.{bond_fault, bond_of, bond_range, bonds_in, darts_in, general_fault, has_rot, is_bond, is_end, is_rot, is_seam, record_fault, rot_fault, rot_range, seam_fault, sizes_from}
-use Rattle.std.proofs.Common.{subst, Vec}
+use Rattle.sg_reader.specs.Kept.{Kept}
+use Rattle.sg_reader.specs.Tests.{IsTestFault}
+use Rattle.sg_reader.specs.Body.{general_fault, is_end, record_fault}
+use Rattle.std.proofs.Common.{subst}
 use Rattle.sg_model.specs.Faults.{IsFaultOf}
 use Rattle.sg_reader.specs.Body.{instance_of}
 use Rattle.sg_reader.proofs.BodyLaws.{end-fault, record-fault}
 use Rattle.sg_reader.proofs.GeneralLaws.{ended-general, general_fault-end, lists-count, marks-count, one-more}
 use Rattle.sg_reader.proofs.general.read_general.Goals as goal
 
-pub returns-in_err-end_general-clause-fault : goal.returns-in_err-end_general-clause-fault
-returns-in_err-end_general-clause-fault c =
-    let p = err_from_is_err_and c.from_residual-in_err-end_general.result c.from_residual-in_err-end_general.ensures.1 in
+pub returns-in_err-bare_end-clause-fault : goal.returns-in_err-bare_end-clause-fault
+returns-in_err-bare_end-clause-fault c =
+    let p = err_from_is_err_and c.from_residual-in_err-bare_end.result c.from_residual-in_err-bare_end.ensures.1 in
     let sf = c.loop-body.invariant in
     let r = c.next.new.row in
     let next = rw c.if-branch.true at c.in_ok-next.ensures in
     let end : is_end r ≡ true = sym c.begins.ensures ∙ c.if-begins.true in
-    let bad : record_fault (header.General c.args.n) sf.body r ≡ Some c.in_err-end_general.field-0.0 = general_fault-end c.args.n sf.body r end ∙ c.in_err-end_general.ensures.refused in
-    rw (p.1, p.2) (record-fault (header.General c.args.n) c.args.records.now sf.body c.next.new.self r (Refused c.in_err-end_general.field-0.0)
+    let bad : record_fault (header.General c.args.n) sf.body r ≡ Some c.in_err-bare_end.field-0.0 = general_fault-end c.args.n sf.body r end ∙ c.in_err-bare_end.ensures.refused in
+    rw (p.1, p.2) (record-fault (header.General c.args.n) c.args.records.now sf.body c.next.new.self r (Refused c.in_err-bare_end.field-0.0)
     (sf.split ∙ ap (λ (l : List Kept). sf.body ++ l) next) sf.is_body bad)
 
 pub returns-in_err-inst-clause-fault : goal.returns-in_err-inst-clause-fault
@@ -35,7 +30,7 @@ returns-in_err-inst-clause-fault c =
     let r = c.next.new.row in
     let next = rw c.if-branch.true at c.in_ok-next.ensures in
     let end : is_end r ≡ true = sym c.begins.ensures ∙ c.if-begins.true in
-    let is_ended = ended-general c.args.n c.args.records.now c.loop-body.records c.next.new.self r c.loop-body.body sf next end c.in_ok-end_general.ensures.passes in
+    let is_ended = ended-general c.args.n c.args.records.now c.loop-body.records c.next.new.self r c.loop-body.body sf next end c.in_ok-bare_end.ensures.passes in
     let fault = subst (λ (k : ℕ). IsFaultOf (instance_of (header.General k) sf.body) c.in_err-inst.field-0.0) sf.spins (c.in_err-inst.ensures.fault sf.body sf.holds) in
     rw (p.1, p.2) (end-fault (header.General c.args.n) c.args.records.now sf.body r c.in_err-inst.field-0.0 is_ended fault)
 
@@ -48,7 +43,7 @@ returns-then-begins-clause-read c =
     record {
       body = sf.body;
       last = r;
-      ended = ended-general c.args.n c.args.records.now c.loop-body.records c.next.new.self r c.loop-body.body sf next end c.in_ok-end_general.ensures.passes;
+      ended = ended-general c.args.n c.args.records.now c.loop-body.records c.next.new.self r c.loop-body.body sf next end c.in_ok-bare_end.ensures.passes;
       value = c.in_ok-inst.ensures.ok sf.body sf.holds ∙ ap (λ (k : ℕ). instance_of (header.General k) sf.body) sf.spins;
       rotation = c.in_ok-inst.ensures.instance.rotation;
       seam = c.in_ok-inst.ensures.instance.seam;

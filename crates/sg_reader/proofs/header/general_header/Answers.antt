@@ -1,12 +1,11 @@
-use Rattle.std.proofs.Common.{◌^◌, ◌≡◌, ◌<◌, ◌≤◌, ◌-◌, ◌+◌, ◌*◌, ℕ, ℤ, pos, Bool, true, false, Some, None, Option, length, sym, ◌∙◌, ap, arith, rules, refl}
-use Rattle.std.specs.Int.{w128}
+use Rattle.std.proofs.Common.{◌≡◌, ℤ, pos, Some, None, length, sym, ◌∙◌, ap, arith}
 use Rattle.std.proofs.lemmas.Result.{err_from_is_err_and}
 use Rattle.std.proofs.lemmas.Int.{ints}
 use Rattle.sg_model.specs.declared.refusal.Refusal.TheVariants.{TooManySpins}
 use Rattle.sg_reader.specs.declared.header.Form.TheVariants as form
 use Rattle.sg_reader.specs.declared.range.Range.{Range}
 use Rattle.sg_reader.specs.Kept.{field}
-use Rattle.sg_reader.specs.Tests.{bad_field, is_number_in, size_in}
+use Rattle.sg_reader.specs.Tests.{bad_field, is_number_in}
 use Rattle.sg_reader.specs.Header.{header_range}
 use Rattle.sg_reader.proofs.TestLaws.{bad_field-first, bad_field-one}
 use Rattle.sg_reader.proofs.HeaderLaws.{form_fault-none, form_fault-number, form_fault-spins}

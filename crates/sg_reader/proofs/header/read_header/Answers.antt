@@ -1,9 +1,8 @@
-use Rattle.std.proofs.Common.{◌≡◌, ℕ, Some, None, Option, sym, ◌∙◌, ap, rules, refl}
-use Rattle.std.proofs.lemmas.Result.{IfErr-weaker, IfOk-weaker}
+use Rattle.std.proofs.Common.{ℕ, Some, None, sym, ◌∙◌, ap}
+use Rattle.std.proofs.lemmas.Result.{IfOk-weaker}
 use Rattle.sg_model.specs.declared.refusal.Refusal.TheVariants.{UnknownKind}
-use Rattle.sg_reader.specs.declared.header.Form.{Form}
 use Rattle.sg_reader.specs.declared.header.Form.TheVariants as form
-use Rattle.sg_reader.specs.Header.{form_fault, form_of}
+use Rattle.sg_reader.specs.Header.{form_of}
 use Rattle.sg_reader.proofs.HeaderLaws.{header_fault-of, header_of-some}
 use Rattle.sg_reader.proofs.header.read_header.Goals as goal
 

@@ -1,16 +1,12 @@
-use Rattle.std.proofs.Common.{◌≡◌, ◌<◌, ◌≤◌, ◌-◌, ◌+◌, ◌∷◌, ◌++◌, [], ℕ, ℤ, Bool, List, true, false, Some, None, Option, length, sym, ◌∙◌, ap, arith, rules, refl}
+use Rattle.std.proofs.Common.{◌≡◌, ◌+◌, ◌++◌, ℕ, ℤ, List, true, Some, None, length, sym, ◌∙◌, ap, refl}
 use Rattle.std.proofs.lemmas.Result.{err_from_is_err_and}
 use Rattle.sg_model.specs.declared.refusal.Fault.TheVariants.{Refused}
-use Rattle.sg_model.specs.Faults.{IsFaultOf}
-use Rattle.sg_model.specs.Ising.{Ising}
 use Rattle.sg_lattice.specs.Tables.{bond_total}
-use Rattle.sg_reader.specs.declared.header.Header.{Header}
 use Rattle.sg_reader.specs.declared.header.Header.TheVariants as header
 use Rattle.sg_reader.specs.Kept.{Kept}
-use Rattle.sg_reader.specs.Body.{is_end, lattice_end_fault, record_fault, couplings_in}
-use Rattle.sg_reader.specs.ReadInstance.{IsEnded, ReadsBody}
+use Rattle.sg_reader.specs.Body.{is_end, lattice_end_fault, record_fault}
 use Rattle.sg_reader.proofs.BodyLaws.{couplings_in-small, end-fault, record-fault}
-use Rattle.sg_reader.proofs.LatticeLaws.{ended-lattice, instance-lattice, lattice_fault-end, none-yet, one-more}
+use Rattle.sg_reader.proofs.LatticeLaws.{ended-lattice, instance-lattice, lattice_fault-end, none-yet}
 use Rattle.sg_reader.proofs.lattice.read_lattice.Goals as goal
 
 pub loop-body-init : goal.loop-body-init

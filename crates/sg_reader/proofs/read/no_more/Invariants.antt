@@ -1,6 +1,5 @@
 use Rattle.std.proofs.Common.{◌≡◌, length}
-use Rattle.std.specs.Prelude.{find, nat_le}
-use Rattle.sg_reader.specs.Kept.{Kept, kept_of}
+use Rattle.sg_reader.specs.Kept.{kept_of}
 use Rattle.sg_reader.specs.NoMore.{trailing_fault}
 use Rattle.sg_reader.proofs.read.no_more.Given as goal
 

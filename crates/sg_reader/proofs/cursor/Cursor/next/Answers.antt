@@ -1,7 +1,7 @@
-use Rattle.std.proofs.Common.{◌≡◌, ◌∷◌, sym, refl, ◌∙◌, List, ℕ}
+use Rattle.std.proofs.Common.{◌≡◌, sym, refl, ◌∙◌}
 use Rattle.csv.specs.Records.{fields_of}
 use Rattle.sg_reader.proofs.CursorLaws.{records_left-more, records_left-none}
-use Rattle.sg_reader.specs.Cursor.{left_of, records_left}
+use Rattle.sg_reader.specs.Cursor.{records_left}
 use Rattle.sg_reader.proofs.cursor.Cursor.next.Goals as goal
 
 pub invariant_of-self : goal.invariant_of-self

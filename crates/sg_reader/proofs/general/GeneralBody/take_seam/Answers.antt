@@ -1,15 +1,6 @@
-use Rattle.std.proofs.Common.{◌≡◌, ◌<◌, ◌≤◌, ◌-◌, ◌+◌, ◌*◌, ◌^◌, ◌∷◌, ◌++◌, [], ℕ, ℤ, pos, Bool, List, true, false, Some, None, Option, length, get_or, set, map, sym, ◌∙◌, ap, arith, rules, refl}
-use Rattle.std.specs.Prelude.{is_some, option_map, unwrap_or}
-use Rattle.std.specs.List.{list_any, range_with_len}
-use Rattle.std.proofs.lemmas.Result.{IfErr-weaker, IfOk-weaker, err_from_is_err_and}
-use Rattle.sg_model.specs.declared.refusal.Fault.TheVariants.{Refused}
-use Rattle.sg_model.specs.declared.refusal.Refusal.{Refusal}
-use Rattle.sg_model.specs.declared.refusal.Refusal.TheVariants.{BadNumber, BadShape, SelfBond, UnknownKind}
-use Rattle.sg_reader.specs.declared.header.Header.TheVariants as header
-use Rattle.sg_reader.specs.declared.range.Range.{Range}
-use Rattle.sg_reader.specs.Kept.{Kept, field, kept_of}
-use Rattle.sg_reader.specs.Tests.{IsTestFault, any_index, any_number, bad_field, is_number_in, size_in, spin_below}
-use Rattle.sg_reader.specs.Body.{bond_fault, bond_of, bond_range, bonds_in, darts_in, general_fault, has_rot, is_bond, is_end, is_rot, is_seam, record_fault, rot_fault, rot_range, seam_fault, sizes_from}
+use Rattle.std.proofs.Common.{◌≡◌, Bool, sym, ◌∙◌, ap}
+use Rattle.std.proofs.lemmas.Result.{err_from_is_err_and}
+use Rattle.sg_reader.specs.Body.{general_fault, seam_fault}
 use Rattle.sg_reader.proofs.LatticeLaws.{seam_fault-passes}
 use Rattle.sg_reader.proofs.GeneralLaws.{general_fault-seam, holds-seam, seen-seam}
 use Rattle.sg_reader.proofs.general.GeneralBody.take_seam.Goals as goal

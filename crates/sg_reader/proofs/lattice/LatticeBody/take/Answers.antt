@@ -1,15 +1,10 @@
-use Rattle.std.proofs.Common.{◌≡◌, ◌<◌, ◌≤◌, ◌-◌, ◌+◌, ◌∷◌, ◌++◌, [], ℕ, ℤ, Bool, List, true, false, Some, None, Option, length, sym, ◌∙◌, ap, arith, rules, refl}
-use Rattle.std.specs.Prelude.{is_some, option_map, OnOk, IfErr}
+use Rattle.std.proofs.Common.{◌≡◌, ℕ, Bool, true, false, Some, Option, length, sym, ◌∙◌, ap, arith, refl}
+use Rattle.std.specs.Prelude.{option_map}
 use Rattle.sg_model.specs.declared.refusal.Refusal.TheVariants.{BadNumber}
-use Rattle.sg_reader.specs.Kept.{Kept}
-use Rattle.sg_reader.specs.Holds.{HoldsLattice}
-use Rattle.std.specs.List.{list_any}
 use Rattle.std.proofs.lemmas.List.{length-append}
 use Rattle.std.proofs.lemmas.Result.{IfErr-weaker, err_from_is_err_and, on_ok_weaker}
-use Rattle.sg_model.specs.declared.refusal.Fault.{Fault}
-use Rattle.sg_reader.specs.Tests.{IsTestFault, any_number, bad_field}
 use Rattle.sg_reader.specs.Body.{is_seam, lattice_fault, numbers_from, seam_fault}
-use Rattle.sg_reader.proofs.BodyLaws.{length-numbers_from, seam_inside}
+use Rattle.sg_reader.proofs.BodyLaws.{length-numbers_from}
 use Rattle.sg_reader.proofs.LatticeLaws.{seam_fault-passes, holds-couplings, holds-seam, lattice_fault-couplings, lattice_fault-seam, seen-seam}
 use Rattle.sg_reader.proofs.lattice.LatticeBody.take.Goals as goal
 

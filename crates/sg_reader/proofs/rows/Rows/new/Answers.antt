@@ -1,4 +1,4 @@
-use Rattle.std.proofs.Common.{◌≡◌, ◌+◌, ◌*◌, ◌<◌, ◌≤◌, ◌^◌, ℕ, List, length, sym, ◌∙◌, ap, arith}
+use Rattle.std.proofs.Common.{◌≡◌, List, ap, arith}
 use Rattle.std.specs.Prelude.{filter}
 use Rattle.sg_reader.specs.Kept.{Kept, is_kept, kept_of, numbered_from}
 use Rattle.sg_reader.specs.Records.{records_of}

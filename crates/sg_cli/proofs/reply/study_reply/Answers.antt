@@ -1,13 +1,13 @@
 use Rattle.std.proofs.lemmas.Result.{IfOk-weaker}
 use Rattle.sg_cli.specs.declared.reply.Reply.{Reply}
-use Rattle.sg_cli.specs.Served.{Answers, AnswersFit, AnswersText, IsRefused, Refuses}
-use Rattle.sg_cli.proofs.reply.text_reply.Goals as goal
+use Rattle.sg_cli.specs.Served.{Answers, AnswersFit, AnswersStudy, IsRefused, Refuses}
+use Rattle.sg_cli.proofs.reply.study_reply.Goals as goal
 
 pub returns-in-Ok-clause-served : goal.returns-in-Ok-clause-served
 returns-in-Ok-clause-served c =
     IfOk-weaker c.fit_reply.result
-    (λ (reply : Reply). AnswersFit c.args.command c.in-Ok.planar.instance reply.text.items reply.status)
-    (λ (reply : Reply). AnswersText c.args.command c.args.bytes.now reply.text.items reply.status)
+    (λ (reply : Reply). AnswersFit c.args.study c.in-Ok.planar.instance reply.text.items reply.status)
+    (λ (reply : Reply). AnswersStudy c.args.study c.args.bytes.now reply.text.items reply.status)
     (λ reply served. Answers c.in-Ok.planar.instance c.in-Ok.ensures.gives served)
     c.fit_reply.ensures.served
 
@@ -15,6 +15,6 @@ pub returns-in-Err-Refused-clause-served : goal.returns-in-Err-Refused-clause-se
 returns-in-Err-Refused-clause-served c =
     IfOk-weaker c.refuse.result
     (λ (reply : Reply). IsRefused c.in-Err-Refused.refusal reply.text.items reply.status)
-    (λ (reply : Reply). AnswersText c.args.command c.args.bytes.now reply.text.items reply.status)
+    (λ (reply : Reply). AnswersStudy c.args.study c.args.bytes.now reply.text.items reply.status)
     (λ reply refused. Refuses c.in-Err-Refused.refusal (rw c.in-Err-Refused.field-0-is at c.in-Err-Refused.ensures.refuses) refused)
     (rw c.in-Err-Refused.refusal-is at c.refuse.ensures.refused)

@@ -1,0 +1,68 @@
+// What `check` answers: the verdict on a proof. No planar instance is made, so a proof is judged on
+// every graph.
+ghost use Rattle.std.specs.Prelude.{◌≡◌, ◌<◌, ◌^◌, length, IfOk, IfErr};
+ghost use Rattle.sg_cli.specs.Input.{GivesProof, RefusesProofBy};
+ghost use Rattle.sg_cli.specs.Promises.{IsAnswered};
+ghost use Rattle.sg_cli.specs.Served.{AnswersCheck, PrintsVerdict, status_by};
+
+use super::reply::{Reply, refuse};
+use super::{NoMemory, Status};
+use sg_check::{Checker, ResultText, Verdict};
+use sg_model::{Fault, Instance};
+use sg_reader::{no_more, read_instance, read_result};
+use sg_report::verdict_text;
+use std::alloc::{AllocError, Global};
+
+/// What `check` answers to a text within the limit of bytes.
+pub fn check_reply(alloc: Global, bytes: &[u8]) -> Result<Reply, NoMemory>
+    requires { length bytes.now < 2 ^ 30 }
+    ensures served { IfOk result (λ reply. AnswersCheck bytes.now reply.text.items reply.status) }
+    ensures answered { IfOk result (λ reply. IsAnswered reply.status) }
+{
+    match read_proof(alloc, bytes) {
+        Ok((instance, stated)) => verdict_reply(alloc, &instance, &stated),
+        Err(Fault::Refused(refusal)) => refuse(alloc, &refusal),
+        Err(Fault::NoMemory) => Err(AllocError),
+    }
+}
+
+// The instance of a text and what is stated behind it, or the first fault of the records.
+fn read_proof(alloc: Global, bytes: &[u8]) -> Result<(Instance, ResultText), Fault>
+    requires { length bytes.now < 2 ^ 30 }
+    ensures gives { IfOk result (λ r. GivesProof bytes.now r.0 r.1) }
+    ensures few_spins { IfOk result (λ r. length r.1.spins < 2 ^ 30) }
+    ensures few_loops { IfOk result (λ r. length r.1.loops < 2 ^ 30) }
+    ensures refuses { IfErr result (RefusesProofBy bytes.now) }
+{
+    let (instance, after) = read_instance(alloc, bytes)?;
+    let (stated, next) = read_result(alloc, bytes, after)?;
+    no_more(alloc, bytes, next)?;
+    Ok((instance, stated))
+}
+
+// The verdict on a proof, as its line and its status.
+fn verdict_reply(alloc: Global, instance: &Instance, stated: &ResultText) -> Result<Reply, NoMemory>
+    requires few_spins { length stated.now.spins < 2 ^ 30 }
+    requires few_loops { length stated.now.loops < 2 ^ 30 }
+    ensures served { IfOk result (λ reply. PrintsVerdict instance.now stated.now reply.text.items reply.status) }
+    ensures answered { IfOk result (λ reply. IsAnswered reply.status) }
+{
+    let mut checker = Checker::open(alloc, instance)?;
+    let verdict = checker.check(stated);
+    let text = verdict_text(alloc, &verdict)?;
+    Ok(Reply {
+        status: verdict_status(verdict),
+        text,
+    })
+}
+
+// How a run ends by a verdict.
+fn verdict_status(verdict: Verdict) -> Status
+    ensures by_verdict { result ≡ status_by verdict }
+    ensures answered { IsAnswered result }
+{
+    match verdict {
+        Verdict::Yes => Status::Done,
+        _ => Status::No,
+    }
+}

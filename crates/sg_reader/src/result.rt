@@ -1,0 +1,120 @@
+ghost use Rattle.std.specs.Prelude.{◌≡◌, ◌<◌, ◌^◌, None, length, IfOk, IfErr};
+ghost use Rattle.sg_reader.specs.Body.{numbers_from};
+ghost use Rattle.sg_reader.specs.Kept.{kept_of};
+ghost use Rattle.sg_reader.specs.Result.{energy_fault, loop_fault, loop_of, spins_fault};
+ghost use Rattle.sg_reader.specs.ReadResult.{IsResultFault, ReadsResult, behind};
+ghost use Rattle.sg_reader.specs.Tests.{IsTestFault, number_in};
+
+use super::body::{END, bare_end, indices};
+use super::range::Range;
+use super::row::Row;
+use super::rows::Rows;
+use sg_check::{Loop, Loops, ResultText};
+use sg_model::{Fault, Refusal, Spins};
+use std::alloc::Global;
+
+const ENERGY: &[u8] = b"energy";
+
+const SPINS: &[u8] = b"spins";
+
+const LOOP: &[u8] = b"loop";
+
+// The energy of a record `energy,E`.
+fn read_energy(row: &Row) -> Result<i64, Refusal>
+    ensures passes { IfOk result (λ e. energy_fault row.now ≡ None) }
+    ensures value { IfOk result (λ e. e ≡ number_in row.now 1) }
+    ensures count { IfOk result (λ e. length row.now.fields ≡ 2) }
+    ensures refused { IfErr result (λ e. energy_fault row.now ≡ Some e) }
+{
+    if !row.begins(ENERGY) {
+        return Err(Refusal::UnknownKind { at: row.at() });
+    }
+    if row.len() != 2 {
+        return Err(Refusal::BadShape { at: row.at() });
+    }
+    row.number(1, Range::any_number())
+}
+
+// The values of a record `spins,S,S,..`.
+fn read_spins(alloc: Global, row: &Row) -> Result<Spins, Fault>
+    ensures passes { IfOk result (λ s. spins_fault row.now ≡ None) }
+    ensures value { IfOk result (λ s. s ≡ numbers_from row.now 1) }
+    ensures count { IfOk result (λ s. length s < length row.now.fields) }
+    ensures fault { IfErr result (IsTestFault (spins_fault row.now)) }
+{
+    if !row.begins(SPINS) {
+        return Err(Fault::Refused(Refusal::UnknownKind { at: row.at() }));
+    }
+    let mut spins = Spins::new(alloc);
+    for i in 1..row.len() {
+        let value = row.spin(i)?;
+        spins.push(value)?;
+    }
+    Ok(spins)
+}
+
+// The weight and the bonds of a record `loop,Y,B,B,..`.
+fn read_loop(alloc: Global, row: &Row) -> Result<Loop, Fault>
+    ensures passes { IfOk result (λ l. loop_fault row.now ≡ None) }
+    ensures value { IfOk result (λ l. l ≡ loop_of row.now) }
+    ensures count { IfOk result (λ l. 1 < length row.now.fields) }
+    ensures fault { IfErr result (IsTestFault (loop_fault row.now)) }
+{
+    if !row.begins(LOOP) {
+        return Err(Fault::Refused(Refusal::UnknownKind { at: row.at() }));
+    }
+    if row.len() == 1 {
+        return Err(Fault::Refused(Refusal::BadShape { at: row.at() }));
+    }
+    let y = row.number(1, Range::any_number())?;
+    let bonds = indices(alloc, row, 2)?;
+    Ok(Loop { y, bonds })
+}
+
+/// Reads a result behind the first `after` records of a text, and gives it with the number of `csv`
+/// records of the text up to and with its `end`.
+///
+/// The records count as those of an instance do. The first is `energy,E`; the second is `spins,S,..`
+/// with the value 1 or -1 of each spin; then come the loops, each `loop,Y,B,..` with its weight and
+/// its bonds, and the `end`. What they say is not judged here.
+///
+/// # Errors
+/// The refusal of the first record that fails a test, and of its tests the first that fails:
+/// `UnknownKind` for another word than may stand in its place; `BadShape` for an energy without its
+/// one number, a loop without a weight, an `end` with a number; `BadNumber`. `Unended` where the
+/// records run out. `NoMemory` may come at any time.
+///
+/// The time is linear in the bytes, and the memory is that of the result and of the longest record.
+pub fn read_result(alloc: Global, bytes: &[u8], after: u32) -> Result<(ResultText, u32), Fault>
+    requires { length bytes.now < 2 ^ 30 }
+    ensures read { IfOk result (λ r. ReadsResult (behind after (kept_of bytes.now)) r.0 r.1) }
+    ensures few_spins { IfOk result (λ r. length r.0.spins < 2 ^ 30) }
+    ensures few_loops { IfOk result (λ r. length r.0.loops < 2 ^ 30) }
+    ensures fault { IfErr result (IsResultFault (behind after (kept_of bytes.now))) }
+{
+    let mut rows = Rows::behind(alloc, bytes, after)?;
+    let mut row = Row::new(alloc);
+    if !rows.next(&mut row)? {
+        return Err(Fault::Refused(Refusal::Unended));
+    }
+    let energy = read_energy(&row)?;
+    if !rows.next(&mut row)? {
+        return Err(Fault::Refused(Refusal::Unended));
+    }
+    let spins = read_spins(alloc, &row)?;
+    let mut loops = Loops::new(alloc);
+    while rows.next(&mut row)? {
+        if row.begins(END) {
+            bare_end(&row)?;
+            let text = ResultText {
+                energy,
+                spins,
+                loops,
+            };
+            return Ok((text, row.at() + 1));
+        }
+        let entry = read_loop(alloc, &row)?;
+        loops.push(entry)?;
+    }
+    Err(Fault::Refused(Refusal::Unended))
+}
