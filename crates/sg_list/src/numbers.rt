@@ -28,6 +28,13 @@ impl<T: Copy> Numbers<T> {
         }
     }
 
+    /// The list of these items. It takes no memory.
+    pub fn from_vec(items: Vec<T>) -> Self
+        ensures { result ≡ items.items }
+    {
+        Numbers { items }
+    }
+
     /// Adds one item at the end. After want of memory the list is as it was.
     pub fn push(&mut self, item: T) -> Result<(), NoMemory>
         ensures ok { OnOk result (self.new ≡ self.old ++ item ∷ []) }

@@ -1,0 +1,293 @@
+-- The engine's invariant after a blossom is made of two outer tops and the tops between them.
+use Rattle.std.proofs.Common.{◌≡◌, ◌≢◌, ◌⊎◌, ℕ, zero, suc, ◌+◌, ◌*◌, ◌<◌, ◌≤◌, ◌%◌, true, false, List, [], length, get_or, set, Option, Some, None, MatchOption, Contains, refl, sym, ap, ◌∙◌, subst, inl, inr, arith}
+use Rattle.std.proofs.lemmas.Bool.{cases_Bool, cases_eq}
+use Rattle.std.proofs.lemmas.List.Folds.{list_any_at}
+use Rattle.std.proofs.lemmas.List.{get_or-set_other, get_or-set_same, get_or_default}
+use Rattle.std.proofs.Math.ListN.{length-set}
+use Rattle.sg_arena.proofs.FamilyLemmas.{leaf_bound, length-with_slot, name_bound, not_dead, some_leaf, top-apart}
+use Rattle.sg_arena.proofs.ListLemmas.{place_of_any}
+use Rattle.sg_arena.proofs.ShrunkFamily.{IsTop-shrink, IsTop-shrink_old, IsTop-shrink_other, in_new, new_holds}
+use Rattle.sg_arena.specs.Changes.{CanShrink, blossom_of, with_slot}
+use Rattle.sg_arena.specs.Family.{Family, Holds, IsFamily, IsTop, holds, leaf_count, link_at, node_at}
+use Rattle.sg_arena.specs.declared.Link.{Link}
+use Rattle.sg_match.proofs.NameLemmas.{short}
+use Rattle.sg_match.proofs.PruneStep.{IsTree-shrunk, closed, inner_taken, moved, open_base}
+use Rattle.sg_match.proofs.ShrinkStep.{CanShrink-climb, IsFeasible-shrunk, IsPaired-shrunk, node_in, path_head, place_in}
+use Rattle.sg_match.proofs.StepsStep.{blossoms-shrunk, rest-one_fewer}
+use Rattle.sg_match.proofs.TreeLemmas.{bond_from, bond_tight, inner_at, inner_top, length-inners, length-outers, outer_at, outer_cases, outer_pair, outer_top}
+use Rattle.sg_match.specs.Engine.{IsEngine}
+use Rattle.sg_match.specs.Lonely.{IsLonely, one_if}
+use Rattle.sg_match.specs.Metric.{cost}
+use Rattle.sg_match.specs.Pairs.{pair_of}
+use Rattle.sg_match.specs.Path.{AreTight, HasTight, IsClimb, nodes_of}
+use Rattle.sg_match.specs.Pruned.{CanRegraft, IsRegraft}
+use Rattle.sg_match.specs.State.{State}
+use Rattle.sg_match.specs.Steps.{blossoms_of, rest_of, steps_left, tree_left}
+use Rattle.sg_match.specs.Tree.{IsShape, IsTree, any_top, inners, limb_at, outers}
+use Rattle.sg_match.specs.declared.Edge.{Edge}
+use Rattle.sg_match.specs.declared.Limb.{Limb}
+
+none_some : {x : Edge} → ◌≡◌ {A = Option Edge} None (Some x) → ⊥
+none_some e = cc
+
+name_same : {a b : ℕ} → ◌≡◌ {A = Option ℕ} (Some a) (Some b) → a ≡ b
+name_same e = cc
+
+module _ (s : State) (root : ℕ) (engine : IsEngine s) (rooted : s.root ≡ Some root) where
+  abbrev f : Family
+  f = s.family
+
+  abbrev price : ℕ → ℕ → ℕ
+  price = cost s.table
+
+  fam : IsFamily f
+  fam = engine.feasible.family
+
+  tree : IsTree f price s.pairs root s.limbs
+  tree = subst (λ o. MatchOption o (s.limbs ≡ []) (λ r. IsTree f price s.pairs r s.limbs)) rooted engine.tree
+
+  pub shape : IsShape f root s.limbs
+  shape = record {
+    outer_tops = tree.outer_tops;
+    inner_tops = tree.inner_tops;
+    outer_differ = tree.outer_differ;
+    inner_differ = tree.inner_differ;
+    apart = tree.apart;
+    bond_from = bond_from f price s.pairs root s.limbs fam engine.paired tree;
+    bond_to = tree.bond_to;
+    edge_from = tree.edge_from;
+    edge_to = tree.edge_to;
+  }
+
+  -- there are no more limbs than names
+  pub few_limbs : length s.limbs ≤ length f.nodes
+  few_limbs =
+      omega (arith, length-inners s.limbs, short (inners s.limbs) (length f.nodes) tree.inner_differ (λ i low. name_bound f (get_or (inners s.limbs) i 0) (tree.inner_tops i low).alive))
+
+  pub all_tight : HasTight f price s.limbs
+  all_tight = record {
+    edge = tree.edge_tight;
+    bond = bond_tight f price s.pairs root s.limbs fam engine.paired tree;
+    symmetric = λ u v low_u low_v. engine.costs.symmetric u v (omega (arith, low_u, engine.leaves)) (omega (arith, low_v, engine.leaves));
+  }
+
+  even : (u v : ℕ) → u < leaf_count f → v < leaf_count f → price u v % 2 ≡ 0
+  even u v low_u low_v = engine.costs.even u v (omega (arith, low_u, engine.leaves)) (omega (arith, low_v, engine.leaves))
+
+  pub edge_leaf : (i : ℕ) → i < length s.limbs → (limb_at s.limbs i).edge.from < leaf_count f
+  edge_leaf i low = leaf_bound f fam (limb_at s.limbs i).inner (limb_at s.limbs i).edge.from (tree.edge_from i low)
+
+  pub bond_leaf : (i : ℕ) → i < length s.limbs → (limb_at s.limbs i).bond.to < leaf_count f
+  bond_leaf i low = leaf_bound f fam (limb_at s.limbs i).outer (limb_at s.limbs i).bond.to (tree.bond_to i low)
+
+  -- of the outer tops the root alone is unpaired
+  lone_outer : (j n : ℕ) → j < length (outers root s.limbs) → get_or (outers root s.limbs) j 0 ≡ n → pair_of s.pairs n ≡ None → n ≡ root
+  lone_outer j n low at none = elim (outer_cases f price s.pairs root s.limbs fam engine.paired tree j low) [
+    | inl first ↦ sym at ∙ first.1
+    | inr limb ↦ absurd (none_some (sym none ∙ ap (λ m. pair_of s.pairs m) (sym at ∙ limb.3) ∙ outer_pair f price s.pairs root s.limbs fam engine.paired tree limb.0 limb.1))
+  ]
+
+  module _ (cycle : List Link) (place base : ℕ) (climb : IsClimb f root s.limbs cycle place base base) where
+    pub can : CanShrink f cycle
+    can = CanShrink-climb f root s.limbs cycle place base climb
+
+    some : 0 < length cycle
+    some = omega (arith, can.closed.long)
+
+    base_first : (link_at cycle 0).node ≡ base
+    base_first = path_head f cycle base base some climb.path
+
+    base_in : Contains (nodes_of cycle) base
+    base_in = subst (λ n. Contains (nodes_of cycle) n) base_first (node_in cycle 0 some)
+
+    pub base_low : base < length s.pairs
+    base_low = omega (arith, name_bound f base (subst (λ n. IsTop f n) base_first (can.tops 0 some)).alive, engine.room)
+
+    -- an unpaired top of the cycle is the root
+    lone_node : (n : ℕ) → Contains (nodes_of cycle) n → pair_of s.pairs n ≡ None → n ≡ root
+    lone_node n is none = elim (climb.spot n is) [
+      | inl head ↦ lone_outer climb.head_at.0 n (omega (arith, climb.head_at.1, climb.within, length-outers root s.limbs)) (climb.head_at.2 ∙ sym head) none
+      | inr rest ↦ elim rest [
+        | inl out ↦ lone_outer out.0 n out.2 out.3 none
+        | inr inn ↦
+            let low : inn.0 < length s.limbs = omega (arith, inn.2, length-inners s.limbs) in
+            absurd (none_some (sym none ∙ ap (λ m. pair_of s.pairs m) (sym inn.3 ∙ inner_at s.limbs inn.0 low) ∙ tree.bond inn.0 low))
+      ]
+    ]
+
+    -- a limb whose inner top is in the cycle
+    limb_in : (m : ℕ) × (place ≤ m) × (m < length s.limbs) × Contains (nodes_of cycle) (limb_at s.limbs m).inner
+    limb_in = elim (climb.spot second (node_in cycle 1 two)) [
+      | inl head ↦ absurd (zero_one (can.closed.differ 0 1 some two (base_first ∙ sym head)))
+      | inr rest ↦ elim rest [
+        | inl out ↦ from_outer out.0 out.1 out.2 out.3
+        | inr inn ↦
+            let low : inn.0 < length s.limbs = omega (arith, inn.2, length-inners s.limbs) in
+            (inn.0, inn.1, low, subst (λ n. Contains (nodes_of cycle) n) (sym inn.3 ∙ inner_at s.limbs inn.0 low) (node_in cycle 1 two))
+      ]
+    ]
+      where
+        two : 1 < length cycle
+        two = omega (arith, can.closed.long)
+
+        second : ℕ
+        second = (link_at cycle 1).node
+
+        zero_one : ◌≡◌ {A = ℕ} 0 1 → ⊥
+        zero_one e = omega (arith, e)
+
+        from_outer : (j : ℕ) → place < j → j < length (outers root s.limbs) → get_or (outers root s.limbs) j 0 ≡ (link_at cycle 1).node → (m : ℕ) × (place ≤ m) × (m < length s.limbs) × Contains (nodes_of cycle) (limb_at s.limbs m).inner
+        from_outer zero far low at = absurd (omega (arith, far))
+        from_outer (suc m) far low at =
+            let low_m : m < length s.limbs = omega (arith, low, length-outers root s.limbs) in
+            let late : place ≤ m = omega (arith, far) in
+            (m, late, low_m, (climb.whole m late low_m).1 (subst (λ n. Contains (nodes_of cycle) n) (sym at ∙ outer_at root s.limbs m low_m) (node_in cycle 1 two)))
+
+    -- an outer top of the cycle whose inner top is not in it is the base
+    outer_is_base : (i : ℕ) → i < length s.limbs → (Contains (nodes_of cycle) (limb_at s.limbs i).inner → ⊥) → Contains (nodes_of cycle) (limb_at s.limbs i).outer → (limb_at s.limbs i).outer ≡ base
+    outer_is_base i low away is = elim (climb.spot (limb_at s.limbs i).outer is) [
+      | inl head ↦ head
+      | inr rest ↦ elim rest [
+        | inl out ↦
+            let place_is : out.0 ≡ suc i = tree.outer_differ out.0 (suc i) out.2 within (out.3 ∙ sym (outer_at root s.limbs i low)) in
+            absurd (away ((climb.whole i (omega (arith, place_is, out.1)) low).1 is))
+        | inr inn ↦ absurd (tree.apart (suc i) inn.0 within inn.2 (outer_at root s.limbs i low ∙ sym inn.3))
+      ]
+    ]
+      where
+        within : suc i < length (outers root s.limbs)
+        within = omega (arith, low, length-outers root s.limbs)
+
+    module _ (b : ℕ) (dead : node_at f b ≡ None) (room : b < length f.nodes) where
+      abbrev g : Family
+      g = with_slot f b (Some (blossom_of f cycle))
+
+      -- a top that shares a leaf with the new blossom is in the cycle
+      in_cycle : (t l : ℕ) → IsTop f t → Holds f t l → Holds g b l → Contains (nodes_of cycle) t
+      in_cycle t l top held is =
+          let at = in_new f b cycle fam can dead room l is in
+          subst (λ n. Contains (nodes_of cycle) n) (top-apart f fam (link_at cycle at.0).node t l (can.tops at.0 at.1) top at.2 held) (node_in cycle at.0 at.1)
+
+      in_blossom : (n l : ℕ) → Contains (nodes_of cycle) n → Holds f n l → Holds g b l
+      in_blossom n l is held =
+          let at = place_in cycle n is in
+          new_holds f b cycle fam can dead room at.0 l at.1 (subst (λ m. Holds f m l) (sym at.2) held)
+
+      pub CanRegraft-shrunk : CanRegraft g (nodes_of cycle) base b s.limbs
+      CanRegraft-shrunk = record {
+        top = IsTop-shrink f b cycle fam can dead room;
+        hit = λ i low is. in_cycle (limb_at s.limbs i).inner (limb_at s.limbs i).edge.from (inner_top f price s.pairs root s.limbs fam engine.paired tree i low) (tree.edge_from i low) is;
+        miss = λ i low no is. no (in_blossom (limb_at s.limbs i).inner (limb_at s.limbs i).edge.from is (tree.edge_from i low));
+        outer_hit = λ i low away is. outer_is_base i low away (in_cycle (limb_at s.limbs i).outer (limb_at s.limbs i).bond.to (outer_top f price s.pairs root s.limbs fam engine.paired tree i low) (tree.bond_to i low) is);
+        outer_miss = λ i low same. in_blossom (limb_at s.limbs i).outer (limb_at s.limbs i).bond.to (subst (λ n. Contains (nodes_of cycle) n) (sym same) base_in) (tree.bond_to i low);
+      }
+
+      module _ (tight : AreTight f price cycle) (top_root : ℕ) (root_base : root ≡ base → top_root ≡ b) (root_other : root ≢ base → top_root ≡ root) (new : List Limb) (reg : IsRegraft b base (nodes_of cycle) s.limbs new) where
+        abbrev now : List (Option Edge)
+        now = set s.pairs b (pair_of s.pairs base)
+
+        names : b < length s.pairs
+        names = omega (arith, room, engine.room)
+
+        differs_b : (t : ℕ) → IsTop f t → t ≢ b
+        differs_b t top same = not_dead f t top.alive (ap (λ n. node_at f n) same ∙ dead)
+
+        now_other : (n : ℕ) → n ≢ b → pair_of now n ≡ pair_of s.pairs n
+        now_other n away = get_or-set_other s.pairs b n (pair_of s.pairs base) None away
+
+        now_new : pair_of now b ≡ pair_of s.pairs base
+        now_new = get_or-set_same s.pairs b (pair_of s.pairs base) None names
+
+        -- an unpaired top but for the root is not in the cycle
+        out_of_cycle : (i k : ℕ) → i < length s.lonely → k < length cycle → (link_at cycle k).node ≢ get_or s.lonely i 0
+        out_of_cycle i k low low_k same =
+            let is_root : get_or s.lonely i 0 ≡ root = lone_node (get_or s.lonely i 0) (subst (λ n. Contains (nodes_of cycle) n) same (node_in cycle k low_k)) (engine.lonely.unpaired i low) in
+            engine.lonely.rootless i low (rooted ∙ ap (λ n. Some n) (sym is_root))
+
+        pub IsLonely-shrunk : IsLonely g now (Some top_root) s.lonely
+        IsLonely-shrunk =
+            record {
+              tops = λ i low. IsTop-shrink_other f b cycle fam can dead room (get_or s.lonely i 0) (engine.lonely.tops i low) (λ k low_k. out_of_cycle i k low low_k);
+              unpaired = λ i low. now_other (get_or s.lonely i 0) (differs_b (get_or s.lonely i 0) (engine.lonely.tops i low)) ∙ engine.lonely.unpaired i low;
+              differ = engine.lonely.differ;
+              rootless = λ i low same. elim (cases_eq root base) [
+                | inl e ↦ differs_b (get_or s.lonely i 0) (engine.lonely.tops i low) (sym (name_same same) ∙ root_base e)
+                | inr e ↦ engine.lonely.rootless i low (rooted ∙ ap (λ n. Some n) (sym (root_other e)) ∙ same)
+              ];
+              every = λ t top none. elim (cases_eq t b) [
+                | inl same ↦ inl (ap (λ n. Some n) (root_base (sym (lone_node base base_in (sym now_new ∙ ap (λ n. pair_of now n) (sym same) ∙ none))) ∙ sym same))
+                | inr away ↦ from_old t (IsTop-shrink_old f b cycle fam can dead room t top away) (sym (now_other t away) ∙ none)
+              ];
+              even = even_again;
+            }
+          where
+            from_old : (t : ℕ) → IsTop f t × ((i : ℕ) → i < length cycle → (link_at cycle i).node ≢ t) → pair_of s.pairs t ≡ None → (◌≡◌ {A = Option ℕ} (Some top_root) (Some t)) ⊎ ((i : ℕ) × (i < length s.lonely) × (get_or s.lonely i 0 ≡ t))
+            from_old t old none = elim (engine.lonely.every t old.0 none) [
+              | inl is ↦
+                  let same : root ≡ t = name_same (sym rooted ∙ is) in
+                  inl (ap (λ n. Some n) (root_other (λ e. old.1 0 some (base_first ∙ sym e ∙ same)) ∙ same))
+              | inr at ↦ inr at
+            ]
+
+            even_again : (length s.lonely + 1) % 2 ≡ 0
+            even_again = subst (λ o. (length s.lonely + one_if o) % 2 ≡ 0) rooted engine.lonely.even
+
+        abbrev after : State
+        after = record { family = g; table = s.table; pairs = now; lonely = s.lonely; root = Some top_root; limbs = new }
+
+        -- a leaf of an inner top of the cycle is an outer leaf now
+        rest_falls : rest_of g top_root new + 1 ≤ rest_of f root s.limbs
+        rest_falls =
+            rest-one_fewer f g root top_root s.limbs new leaf.0 refl (leaf_bound f fam (limb_at s.limbs limb_in.0).inner leaf.0 leaf.1)
+            kept before gained
+          where
+            inner_is_top : IsTop f (limb_at s.limbs limb_in.0).inner
+            inner_is_top = inner_top f price s.pairs root s.limbs fam engine.paired tree limb_in.0 limb_in.2
+
+            leaf : (l : ℕ) × Holds f (limb_at s.limbs limb_in.0).inner l
+            leaf = some_leaf f fam (limb_at s.limbs limb_in.0).inner inner_is_top.alive
+
+            kept : (l : ℕ) → any_top f (outers root s.limbs) l ≡ true → any_top g (outers top_root new) l ≡ true
+            kept l is =
+                let at = place_of_any (λ t. holds f t l) (outers root s.limbs) 0 is in
+                let here = moved f price b cycle engine.feasible dead room tight even s.pairs engine.paired root s.limbs tree place base climb names top_root root_base root_other new reg at.0 l at.1 at.2 in
+                list_any_at (λ t. holds g t l) (outers top_root new) here.0 0 here.1 here.2
+
+            gained : any_top g (outers top_root new) leaf.0 ≡ true
+            gained =
+                let here = inner_taken f price b cycle engine.feasible dead room tight even s.pairs engine.paired root s.limbs tree place base climb names top_root root_base root_other new reg limb_in.0 leaf.0 limb_in.1 limb_in.2 limb_in.3 leaf.1 in
+                list_any_at (λ t. holds g t leaf.0) (outers top_root new) here.0 0 here.1 here.2
+
+            before : any_top f (outers root s.limbs) leaf.0 ≡ false
+            before = elim (cases_Bool (any_top f (outers root s.limbs) leaf.0)) [
+              | inl is ↦
+                  let at = place_of_any (λ t. holds f t leaf.0) (outers root s.limbs) 0 is in
+                  absurd (tree.apart at.0 limb_in.0 at.1 (omega (arith, limb_in.2, length-inners s.limbs)) (top-apart f fam (get_or (outers root s.limbs) at.0 0) (limb_at s.limbs limb_in.0).inner leaf.0 (tree.outer_tops at.0 at.1) inner_is_top at.2 leaf.1 ∙ sym (inner_at s.limbs limb_in.0 limb_in.2)))
+              | inr away ↦ away
+            ]
+
+        pub fewer_left : steps_left after + 2 ≤ steps_left s
+        fewer_left =
+            let was : steps_left s ≡ tree_left f s.lonely (Some root) s.limbs + 2 * blossoms_of f = ap (λ o. tree_left f s.lonely o s.limbs + 2 * blossoms_of f) rooted in
+            omega (arith, was, rest_falls, blossoms-shrunk f b cycle dead room some)
+
+        pub IsEngine-shrunk : IsEngine after
+        IsEngine-shrunk = record {
+          costs = engine.costs;
+          leaves = engine.leaves;
+          room = length-set s.pairs b (pair_of s.pairs base) ∙ engine.room ∙ sym (length-with_slot f b (Some (blossom_of f cycle)));
+          feasible = IsFeasible-shrunk f price b cycle engine.feasible can dead room tight even;
+          paired = IsPaired-shrunk f price b cycle engine.feasible can dead room tight even s.pairs engine.paired base 0 some base_first names
+              (closed f price b cycle engine.feasible dead room tight even s.pairs engine.paired root s.limbs tree place base climb)
+              (open_base f price b cycle engine.feasible dead room tight even s.pairs engine.paired root s.limbs tree place base climb);
+          lonely = IsLonely-shrunk;
+          tree = IsTree-shrunk f price b cycle engine.feasible dead room tight even s.pairs engine.paired root s.limbs tree place base climb names top_root root_base root_other new reg;
+          left = omega (arith, fewer_left, engine.left);
+        }
+
+        -- the same, where the family and the pair are only known to be these
+        pub shrunk : (h : Family) → h ≡ g → (p : Option Edge) → p ≡ get_or s.pairs base p → IsEngine (record { family = h; table = s.table; pairs = set s.pairs b p; lonely = s.lonely; root = Some top_root; limbs = new }) × (steps_left (record { family = h; table = s.table; pairs = set s.pairs b p; lonely = s.lonely; root = Some top_root; limbs = new }) + 2 ≤ steps_left s)
+        shrunk h made p read =
+            subst (λ x. IsEngine (record { family = x; table = s.table; pairs = set s.pairs b p; lonely = s.lonely; root = Some top_root; limbs = new }) × (steps_left (record { family = x; table = s.table; pairs = set s.pairs b p; lonely = s.lonely; root = Some top_root; limbs = new }) + 2 ≤ steps_left s)) (sym made)
+            (subst (λ x. IsEngine (record { family = g; table = s.table; pairs = set s.pairs b x; lonely = s.lonely; root = Some top_root; limbs = new }) × (steps_left (record { family = g; table = s.table; pairs = set s.pairs b x; lonely = s.lonely; root = Some top_root; limbs = new }) + 2 ≤ steps_left s)) (sym (read ∙ get_or_default s.pairs base p None base_low))
+            (IsEngine-shrunk, fewer_left))

@@ -1,0 +1,27 @@
+use Rattle.std.proofs.Common.{rules, List, sym, subst}
+use Rattle.sg_match.proofs.Engine.grow.Goals as goal
+use Rattle.sg_match.proofs.ReachStep.{IsAfter, bond_leaf, grown, limb_room, with_tree}
+use Rattle.sg_match.specs.declared.Limb.{Limb}
+
+pub top-outer-requires : goal.top-outer-requires
+top-outer-requires c = bond_leaf _ _ _ _ _ _ c.self.invariant.0 _ c.self.view_is _ _ _ _ c.requires.reach _ c.requires.bond
+
+pub push_reserved-requires : goal.push_reserved-requires
+push_reserved-requires c =
+    let low = limb_room _ _ _ _ _ _ c.self.invariant.0 _ c.self.view_is _ _ _ _ c.requires.reach in
+    let room = c.self.invariant.1.limbs in
+    search rules
+
+after : (c : goal.After-push_reserved) → IsAfter (with_tree c.self.inside.arena c.self.inside.costs c.self.inside.pairs.items c.self.inside.lonely.items c.self.inside.root c.push_reserved.new.self.items) c.args.self.now
+after c =
+    subst (λ (xs : List Limb). IsAfter (with_tree c.self.inside.arena c.self.inside.costs c.self.inside.pairs.items c.self.inside.lonely.items c.self.inside.root xs) c.args.self.now) (sym c.push_reserved.ensures.items)
+    (grown _ _ _ _ _ _ c.self.invariant.0 _ c.self.view_is _ _ _ _ c.requires.reach _ c.requires.bond c.top-outer.result c.top-outer.ensures.top c.top-outer.ensures.holds)
+
+pub invariant_of-self : goal.invariant_of-self
+invariant_of-self c = ((after c).0, search rules)
+
+pub returns-clause-engine : goal.returns-clause-engine
+returns-clause-engine c = (after c).0
+
+pub returns-clause-less : goal.returns-clause-less
+returns-clause-less c = (after c).1

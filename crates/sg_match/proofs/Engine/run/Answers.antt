@@ -1,0 +1,48 @@
+use Rattle.std.proofs.Common.{◌≡◌, ◌<◌, ℕ, List, Option, ap, ◌∙◌, subst, sym}
+use Rattle.std.proofs.lemmas.List.{with_items_is}
+use Rattle.sg_arena.specs.Family.{leaf_count}
+use Rattle.sg_match.proofs.Engine.run.Given.{Over}
+use Rattle.sg_match.proofs.Engine.run.Goals as goal
+use Rattle.sg_match.specs.Feasible.{IsFeasible, IsTight}
+use Rattle.sg_match.proofs.DualBound.{cost-is_duals, matching_least}
+use Rattle.sg_match.specs.Matching.{IsMatching, IsPairing}
+use Rattle.sg_match.specs.Metric.{cost}
+use Rattle.sg_match.specs.Pairs.{IsPaired}
+use Rattle.sg_match.specs.State.{State}
+use Rattle.sg_match.specs.declared.Edge.{Edge}
+use Rattle.sg_slack.specs.Table.{Table}
+
+pub settle-requires-clause-paired : goal.settle-requires-clause-paired
+settle-requires-clause-paired g c =
+    subst (λ (xs : List (Option Edge)). IsPaired c.self.inside.arena (λ u v. Unit {0}) xs) (sym c.deref_mut.ensures.value)
+    (record { own = c.self.invariant.0.paired.own; other = c.self.invariant.0.paired.other; tight = λ t p top some. tt })
+
+same_table : (g : Over) (c : goal.After-drop-self-inside-8 g) → c.self.inside.costs ≡ c.args.self.table
+same_table g c = ap (λ (s : State). s.table) c.self.view_is ∙ c.advance.ensures.table ∙ c.loop-node.invariant.0
+
+pub returns-clause-slack : goal.returns-clause-slack
+returns-clause-slack g c =
+    let feasible = subst (λ (t : Table). (IsFeasible c.self.inside.arena (cost t))) (same_table g c) c.self.invariant.0.feasible in
+    feasible.slack
+
+pub returns-clause-matching : goal.returns-clause-matching
+returns-clause-matching g c =
+    let engine = c.self.invariant.0 in
+    let paired = subst (λ (xs : List (Option Edge)). IsPaired c.self.inside.arena (IsTight c.self.inside.arena (cost c.self.inside.costs)) xs) (sym c.deref_mut.ensures.value) engine.paired in
+    let symmetric : (u v : ℕ) → u < leaf_count c.self.inside.arena → v < leaf_count c.self.inside.arena → cost c.self.inside.costs u v ≡ cost c.self.inside.costs v u =
+    (λ u v low_u low_v. engine.costs.symmetric u v (subst (λ k. u < k) engine.leaves low_u) (subst (λ k. v < k) engine.leaves low_v)) in
+    let settled = c.settle.ensures (cost c.self.inside.costs) symmetric engine.feasible paired in
+    let written = with_items_is c.self.inside.mates c.settle.new.mates (c.settle.auto.mates ∙ c.deref_mut-2.ensures.len) in
+    subst (λ (t : Table). IsMatching c.self.inside.arena (cost t) c.from_vec.result) (same_table g c)
+    (subst (λ (xs : List ℕ). IsMatching c.self.inside.arena (cost c.self.inside.costs) xs) (sym (c.from_vec.ensures ∙ written)) settled)
+
+matched : (g : Over) (c : goal.After-drop-self-inside-8 g) → IsMatching c.self.inside.arena (cost c.args.self.table) c.from_vec.result
+matched g c = returns-clause-matching g c
+
+pub returns-clause-duals : goal.returns-clause-duals
+returns-clause-duals g c = cost-is_duals c.self.inside.arena c.from_vec.result (cost c.args.self.table) (matched g c)
+
+pub returns-clause-least : goal.returns-clause-least
+returns-clause-least g c other pairing =
+    let size : leaf_count c.self.inside.arena ≡ c.args.self.table.size = c.self.invariant.0.leaves ∙ ap (λ (t : Table). t.size) (same_table g c) in
+    matching_least c.self.inside.arena (cost c.args.self.table) c.from_vec.result other c.self.invariant.0.feasible.family (returns-clause-slack g c) (matched g c) (subst (λ k. IsPairing k other) (sym size) pairing)

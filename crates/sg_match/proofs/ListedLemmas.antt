@@ -1,0 +1,135 @@
+-- Listing the tops by name, and writing the mates of the leaves.
+use Rattle.std.proofs.Common.{List, Option, Some, [], ap, arith, get_or, inl, inr, length, length-append, refl, set, subst, sym, ℕ, ◌+◌, ◌++◌, ◌-◌, ◌<◌, ◌∙◌, ◌∷◌, ◌≡◌, ◌≤◌, ◌⊎◌}
+use Rattle.std.proofs.Math.ListN.{length-set}
+use Rattle.std.proofs.lemmas.Bool.{cases_eq, cases_lt}
+use Rattle.std.proofs.lemmas.List.{get_or-append_right, get_or-set_other, get_or-set_same, get_or_append_left}
+use Rattle.sg_arena.proofs.FamilyLemmas.{leaf_bound, name_bound}
+use Rattle.sg_arena.specs.Family.{Family, Holds, IsFamily, IsTop, cycle_of, leaf_count, leaf_node}
+use Rattle.sg_arena.specs.declared.Link.{Link}
+use Rattle.sg_match.proofs.AboveLemmas.{plain_is}
+use Rattle.sg_match.proofs.NameLemmas.{short}
+use Rattle.sg_match.proofs.SettledLemmas.{some_same}
+use Rattle.sg_match.proofs.SettlingLemmas.{Stands-left}
+use Rattle.sg_match.specs.Pairs.{pair_of}
+use Rattle.sg_match.specs.Path.{Differ}
+use Rattle.sg_match.specs.Settled.{HasOwn, ListsTops, Stands}
+use Rattle.sg_match.specs.declared.Edge.{Edge}
+
+-- the list has each top with a name below a number once, and nothing else
+pub record ListsBelow (f : Family) (names : List ℕ) (count : ℕ) : Type 0 where
+  pub tops : (k : ℕ) → k < length names → IsTop f (get_or names k 0)
+  pub below : (k : ℕ) → k < length names → get_or names k 0 < count
+  pub differ : Differ names
+  pub every : (t : ℕ) → IsTop f t → t < count → Stands names t
+
+module _ (f : Family) where
+  pub ListsBelow-init : ListsBelow f [] 0
+  ListsBelow-init = record {
+    tops = λ k none. absurd (omega arith);
+    below = λ k none. absurd (omega arith);
+    differ = λ i j none low same. absurd (omega arith);
+    every = λ t top none. absurd (omega arith);
+  }
+
+  module _ (names : List ℕ) (count : ℕ) (was : ListsBelow f names count) where
+    pub below_room : length names ≤ count
+    below_room = short names count was.differ was.below
+
+    pub ListsBelow-skip : (IsTop f count → ⊥) → ListsBelow f names (count + 1)
+    ListsBelow-skip no_top = record {
+      tops = was.tops;
+      below = λ k low. omega (arith, was.below k low);
+      differ = was.differ;
+      every = λ t top low. elim (cases_eq t count) [
+        | inl same ↦ absurd (no_top (subst (λ n. IsTop f n) same top))
+        | inr differs ↦ was.every t top (omega (arith, low, differs))
+      ];
+    }
+
+    pub ListsBelow-more : IsTop f count → ListsBelow f (names ++ count ∷ []) (count + 1)
+    ListsBelow-more top = record {
+      tops = λ k low. elim (cases_entry k low) [
+        | inl at ↦ subst (λ n. IsTop f n) (sym at.1) (was.tops k at.0)
+        | inr at ↦ subst (λ n. IsTop f n) (sym at.1) top
+      ];
+      below = λ k low. elim (cases_entry k low) [
+        | inl at ↦ omega (arith, at.1, was.below k at.0)
+        | inr at ↦ omega (arith, at.1)
+      ];
+      differ = λ i j low_i low_j same. elim (cases_entry i low_i) [
+        | inl a ↦ elim (cases_entry j low_j) [
+          | inl b ↦ was.differ i j a.0 b.0 (sym a.1 ∙ same ∙ b.1)
+          | inr b ↦ absurd (omega (arith, a.1, b.1, same, was.below i a.0))
+        ]
+        | inr a ↦ elim (cases_entry j low_j) [
+          | inl b ↦ absurd (omega (arith, a.1, b.1, same, was.below j b.0))
+          | inr b ↦ omega (arith, a.0, b.0)
+        ]
+      ];
+      every = λ t is low. elim (cases_eq t count) [
+        | inl same ↦ (length names, omega (arith, length-append names (count ∷ [])), get_or-append_right names (count ∷ []) (length names) (length names) 0 refl (omega arith) ∙ ap (λ k. get_or (count ∷ []) k 0) none ∙ sym same)
+        | inr differs ↦ Stands-left names (count ∷ []) t (was.every t is (omega (arith, low, differs)))
+      ];
+    }
+      where
+        none : length names - length names ≡ 0
+        none = omega arith
+
+        cases_entry : (k : ℕ) → k < length (names ++ count ∷ []) → ((k < length names) × (get_or (names ++ count ∷ []) k 0 ≡ get_or names k 0)) ⊎ ((k ≡ length names) × (get_or (names ++ count ∷ []) k 0 ≡ count))
+        cases_entry k low = elim (cases_lt k (length names)) [
+          | inl old ↦ inl (old, get_or_append_left names (count ∷ []) 0 k old)
+          | inr new ↦
+              let here : k ≡ length names = omega (arith, new, low, length-append names (count ∷ [])) in
+              let first : k - length names ≡ 0 = omega (arith, here) in
+              inr (here, get_or-append_right names (count ∷ []) (length names) k 0 refl new ∙ ap (λ j. get_or (count ∷ []) j 0) first)
+        ]
+
+    pub ListsTops-done : (fam : IsFamily f) → length f.nodes ≤ count → ListsTops f names
+    ListsTops-done fam whole = record {
+      tops = was.tops;
+      differ = was.differ;
+      every = λ t top. was.every t top (omega (arith, whole, name_bound f t top.alive));
+    }
+
+-- the mates of the leaves whose nodes stand before a place are written
+pub record IsWriting (f : Family) (pairs : List (Option Edge)) (nodes mates : List ℕ) (k : ℕ) : Type 0 where
+  pub count : length mates ≡ leaf_count f
+  pub written : (j : ℕ) (p : Edge) → j < k → cycle_of f (get_or nodes j 0) ≡ [] → pair_of pairs (get_or nodes j 0) ≡ Some p → get_or mates p.from 0 ≡ p.to
+
+module _ (f : Family) (fam : IsFamily f) (pairs : List (Option Edge)) (nodes : List ℕ) (own : (k : ℕ) → k < length nodes → HasOwn f pairs (get_or nodes k 0)) (differ : Differ nodes) where
+  own_from : (k : ℕ) (p : Edge) → k < length nodes → pair_of pairs (get_or nodes k 0) ≡ Some p → Holds f (get_or nodes k 0) p.from
+  own_from k p low is =
+      let mine = own k low in
+      subst (λ (x : Edge). Holds f (get_or nodes k 0) x.from) (some_same (sym mine.is ∙ is)) mine.from
+
+  pub written_low : (k : ℕ) (p : Edge) → k < length nodes → pair_of pairs (get_or nodes k 0) ≡ Some p → p.from < leaf_count f
+  written_low k p low is = leaf_bound f fam (get_or nodes k 0) p.from (own_from k p low is)
+
+  module _ (mates : List ℕ) (k : ℕ) (low : k < length nodes) (was : IsWriting f pairs nodes mates k) where
+    pub IsWriting-blossom : (cycle_of f (get_or nodes k 0) ≡ [] → ⊥) → IsWriting f pairs nodes mates (k + 1)
+    IsWriting-blossom some = record {
+      count = was.count;
+      written = λ j p below plain is. elim (cases_eq j k) [
+        | inl same ↦ absurd (some (ap (λ i. cycle_of f (get_or nodes i 0)) (sym same) ∙ plain))
+        | inr differs ↦ was.written j p (omega (arith, below, differs)) plain is
+      ];
+    }
+
+    pub IsWriting-leaf : cycle_of f (get_or nodes k 0) ≡ [] → (p : Edge) → pair_of pairs (get_or nodes k 0) ≡ Some p → IsWriting f pairs nodes (set mates p.from p.to) (k + 1)
+    IsWriting-leaf leaf p is = record {
+      count = length-set mates p.from p.to ∙ was.count;
+      written = λ j q below plain is_q. elim (cases_eq j k) [
+        | inl same ↦
+            let e : p ≡ q = some_same (sym is ∙ ap (λ i. pair_of pairs (get_or nodes i 0)) (sym same) ∙ is_q) in
+            ap (λ (x : Edge). get_or (set mates p.from p.to) x.from 0) (sym e) ∙ get_or-set_same mates p.from p.to 0 (omega (arith, written_low k p low is, was.count)) ∙ ap (λ (x : Edge). x.to) e
+        | inr differs ↦
+            let less : j < k = omega (arith, below, differs) in
+            let in_j : j < length nodes = omega (arith, less, low) in
+            get_or-set_other mates p.from q.from p.to 0 (λ same. differs (differ j k in_j low
+            (sym (plain_is f fam (get_or nodes j 0) q.from (none j plain) (own_from j q in_j is_q)) ∙ ap (λ l. leaf_node f l) same ∙ plain_is f fam (get_or nodes k 0) p.from (none k leaf) (own_from k p low is))))
+            ∙ was.written j q less plain is_q
+      ];
+    }
+      where
+        none : (i : ℕ) → cycle_of f (get_or nodes i 0) ≡ [] → length (cycle_of f (get_or nodes i 0)) ≤ 0
+        none i plain = omega (arith, ap (λ (c : List Link). length c) plain)

@@ -1,0 +1,146 @@
+-- A tree of one unpaired top.
+use Rattle.std.proofs.Common.{◌≡◌, ℕ, zero, suc, ◌+◌, ◌*◌, ◌-◌, ◌<◌, ◌≤◌, ◌%◌, true, false, not, List, [], ◌∷◌, ◌++◌, length, get_or, count_by, Option, Some, None, IsSome, refl, sym, ap, ◌∙◌, subst, inl, inr, arith}
+use Rattle.std.specs.List.{range_with_len}
+use Rattle.std.proofs.lemmas.Bool.{cases_lt}
+use Rattle.std.proofs.lemmas.List.{get_or_append_left, length-append}
+use Rattle.std.proofs.lemmas.List.FromFn.{get_or-range_with_len, length-range_with_len}
+use Rattle.std.proofs.lemmas.List.Sums.{count_by-le-length}
+use Rattle.std.proofs.Common.{zero-add}
+use Rattle.std.proofs.Math.Seq.{get_or-append_seam}
+use Rattle.sg_arena.proofs.FamilyLemmas.{leaf_bound, some_leaf}
+use Rattle.sg_arena.proofs.ListLemmas.{cases_option}
+use Rattle.sg_arena.specs.Family.{Family, IsTop, leaf_count}
+use Rattle.sg_match.proofs.OpeningLemmas.{none-some}
+use Rattle.sg_match.proofs.StepsStep.{count_by-one_fewer}
+use Rattle.sg_match.specs.Engine.{IsEngine}
+use Rattle.sg_match.specs.Lonely.{IsLonely}
+use Rattle.sg_match.specs.Metric.{cost}
+use Rattle.sg_match.specs.Pairs.{AllPaired, pair_of}
+use Rattle.sg_match.specs.Steps.{rest_of, steps_left}
+use Rattle.sg_match.specs.Tree.{IsTree, any_top, outers}
+use Rattle.sg_match.specs.declared.Edge.{Edge}
+use Rattle.sg_match.specs.declared.Limb.{Limb}
+use Rattle.sg_slack.specs.Table.{Table}
+
+some-same : {A : Type 0} (x y : A) → Some x ≡ Some y → x ≡ y
+some-same x y e = cc e
+
+-- 2 k (n + 1) covers 2 k (n - 1), four for each of k - 1 leaves, and one
+fall : (k n rest : ℕ) → (n + 1) % 2 ≡ 0 → rest + 1 ≤ k → 2 * k * (n - 1) + 4 * rest + 1 ≤ 2 * k * (n + 1)
+fall k zero rest even few = absurd (omega (arith, even))
+fall k (suc n) rest even few =
+    let wide : 2 * k * (suc n + 1) ≡ 2 * k * n + 4 * k = omega (arith, spread k n) in
+    let low : 2 * k * (suc n - 1) ≡ 2 * k * n = ap (λ m. 2 * k * m) (omega arith) in
+    omega arith
+  where
+    spread : (k n : ℕ) → 2 * k * (suc n + 1) ≡ 2 * k * n + 4 * k
+    spread k n = grind arith
+
+module _ (f : Family) (t : Table) (pairs : List (Option Edge)) (names : List ℕ) (limbs : List Limb) (engine : IsEngine (record { family = f; table = t; pairs = pairs; lonely = names; root = None; limbs = limbs })) where
+  -- no unpaired top is left
+  pub paired-none : names ≡ [] → AllPaired f pairs
+  paired-none none top is =
+      elim (cases_option (pair_of pairs top)) [
+        | inl free ↦
+            elim (engine.lonely.every top is free) [
+              | inl root ↦ absurd (none-some top root)
+              | inr at ↦ absurd (omega (arith, at.1, ap (λ xs. length xs) none))
+            ]
+        | inr some ↦ subst (λ o. IsSome o) (sym some.1) refl
+      ]
+
+  module _ (rest : List ℕ) (root : ℕ) (is : names ≡ rest ++ root ∷ []) where
+    count : length names ≡ length rest + 1
+    count = ap (λ xs. length xs) is ∙ length-append rest (root ∷ [])
+
+    root_at : get_or names (length rest) 0 ≡ root
+    root_at = ap (λ xs. get_or xs (length rest) 0) is ∙ get_or-append_seam rest root [] 0
+
+    rest_at : (i : ℕ) → i < length rest → get_or names i 0 ≡ get_or rest i 0
+    rest_at i low = ap (λ xs. get_or xs i 0) is ∙ get_or_append_left rest (root ∷ []) 0 i low
+
+    root_top : IsTop f root
+    root_top = subst (λ n. IsTop f n) root_at (engine.lonely.tops (length rest) (omega (arith, count)))
+
+    root_free : pair_of pairs root ≡ None
+    root_free = subst (λ n. pair_of pairs n ≡ None) root_at (engine.lonely.unpaired (length rest) (omega (arith, count)))
+
+    lonely : IsLonely f pairs (Some root) rest
+    lonely =
+        record {
+          tops = λ i low. subst (λ n. IsTop f n) (rest_at i low) (engine.lonely.tops i (omega (arith, count, low)));
+          unpaired = λ i low. subst (λ n. pair_of pairs n ≡ None) (rest_at i low) (engine.lonely.unpaired i (omega (arith, count, low)));
+          differ = λ i j low_i low_j same. engine.lonely.differ i j (omega (arith, count, low_i)) (omega (arith, count, low_j)) (rest_at i low_i ∙ same ∙ sym (rest_at j low_j));
+          rootless = λ i low e.
+              let same : i ≡ length rest = engine.lonely.differ i (length rest) (omega (arith, count, low)) (omega (arith, count)) (rest_at i low ∙ sym (some-same root (get_or rest i 0) e) ∙ sym root_at) in
+              absurd (omega (arith, same, low));
+          every = λ n top free. elim (engine.lonely.every n top free) [
+            | inl e ↦ absurd (none-some n e)
+            | inr at ↦ elim (cases_lt at.0 (length rest)) [
+              | inl low ↦ inr (at.0, low, sym (rest_at at.0 low) ∙ at.2)
+              | inr past ↦
+                  let here : at.0 ≡ length rest = omega (arith, past, at.1, count) in
+                  inl (ap Some (sym root_at ∙ ap (λ i. get_or names i 0) (sym here) ∙ at.2))
+            ]
+          ];
+          even = subst (λ n. n % 2 ≡ 0) (omega (arith, count)) engine.lonely.even;
+        }
+
+    bare : limbs ≡ []
+    bare = engine.tree
+
+    tree : IsTree f (cost t) pairs root []
+    tree =
+        record {
+          outer_tops = λ i low. only (λ n. IsTop f n) root_top i low;
+          inner_tops = λ i low. absurd (omega (arith, low));
+          outer_differ = λ i j low_i low_j same. omega (arith, low_i, low_j);
+          inner_differ = λ i j low_i low_j same. absurd (omega (arith, low_i));
+          apart = λ i j low_i low_j same. absurd (omega (arith, low_j));
+          lone_root = root_free;
+          bond = λ i low. absurd (omega (arith, low));
+          bond_to = λ i low. absurd (omega (arith, low));
+          edge_from = λ i low. absurd (omega (arith, low));
+          edge_to = λ i low. absurd (omega (arith, low));
+          edge_tight = λ i low. absurd (omega (arith, low));
+        }
+      where
+        only : (P : ℕ → Type 0) → P root → (i : ℕ) → i < length (root ∷ []) → P (get_or (root ∷ []) i 0)
+        only P p zero low = p
+        only P p (suc i) low = absurd (omega (arith, low))
+
+    few : rest_of f root [] + 1 ≤ leaf_count f
+    few =
+        let fam = engine.feasible.family in
+        let leaf = some_leaf f fam root root_top.alive in
+        let low = leaf_bound f fam root leaf.0 leaf.1 in
+        let all = range_with_len 0 (leaf_count f) in
+        let long : length all ≡ leaf_count f = length-range_with_len 0 (leaf_count f) in
+        let out : not (any_top f (outers root []) leaf.0) ≡ false = rw leaf.1 refl in
+        let fewer : count_by (λ l. not (any_top f (outers root []) l)) all + 1 ≤ count_by (λ (l : ℕ). true) all = count_by-one_fewer (λ l. not (any_top f (outers root []) l)) (λ l. true) all leaf.0 0 (omega (arith, low, long)) (λ l e. refl)
+        (ap (λ l. not (any_top f (outers root []) l)) (get_or-range_with_len 0 (leaf_count f) leaf.0 0 low ∙ zero-add leaf.0) ∙ out) refl in
+        omega (arith, fewer, long, count_by-le-length (λ (l : ℕ). true) all)
+
+    left : steps_left (record { family = f; table = t; pairs = pairs; lonely = rest; root = Some root; limbs = limbs }) ≤ steps_left (record { family = f; table = t; pairs = pairs; lonely = names; root = None; limbs = limbs })
+    left =
+        let here = subst (λ ls. rest_of f root ls + 1 ≤ leaf_count f) (sym bare) few in
+        let even : (length rest + 1) % 2 ≡ 0 = subst (λ n. n % 2 ≡ 0) (omega (arith, count)) engine.lonely.even in
+        let fallen = fall (leaf_count f) (length rest) (rest_of f root limbs) even here in
+        let whole : 2 * leaf_count f * length names ≡ 2 * leaf_count f * (length rest + 1) = ap (λ n. 2 * leaf_count f * n) count in
+        omega (arith, fallen, whole)
+
+    -- the tree is planted, and no step is taken
+    pub planted : IsEngine (record { family = f; table = t; pairs = pairs; lonely = rest; root = Some root; limbs = limbs }) × (steps_left (record { family = f; table = t; pairs = pairs; lonely = rest; root = Some root; limbs = limbs }) ≤ steps_left (record { family = f; table = t; pairs = pairs; lonely = names; root = None; limbs = limbs }))
+    planted = (
+      record {
+        costs = engine.costs;
+        leaves = engine.leaves;
+        room = engine.room;
+        feasible = engine.feasible;
+        paired = engine.paired;
+        lonely = lonely;
+        tree = subst (λ ls. IsTree f (cost t) pairs root ls) (sym bare) tree;
+        left = omega (arith, left, engine.left);
+      },
+      left,
+    )

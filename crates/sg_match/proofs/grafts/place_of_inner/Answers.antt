@@ -1,0 +1,10 @@
+use Rattle.std.proofs.Common.{◌<◌, length, sym, ◌∙◌, arith}
+use Rattle.std.proofs.lemmas.List.{get_or-map}
+use Rattle.sg_match.proofs.TreeLemmas.{length-inners}
+use Rattle.sg_match.proofs.grafts.place_of_inner.Goals as goal
+use Rattle.sg_match.specs.Tree.{blank_limb}
+
+pub unreachable-requires : goal.unreachable-requires
+unreachable-requires c =
+    let low : c.requires.0 < length c.args.limbs.now = omega (arith, c.requires.1, length-inners c.args.limbs.now) in
+    c.loop-i.invariant c.requires.0 (omega (arith, low, c.loop-i-test.false)) (sym (get_or-map (λ l. l.inner) c.args.limbs.now c.requires.0 blank_limb c.args.node low) ∙ c.requires.2)

@@ -1,0 +1,111 @@
+use Rattle.std.proofs.Common.{ap, arith, get_or, length, refl, subst, sym, ◌+◌, ◌<◌, ◌∙◌, ◌≡◌, ◌≤◌}
+use Rattle.std.proofs.lemmas.Bool.{false≢true}
+use Rattle.std.proofs.lemmas.List.{get_or_default}
+use Rattle.sg_arena.specs.Family.{IsAlive, cycle_of}
+use Rattle.sg_match.proofs.SettledLemmas.{is_matching}
+use Rattle.sg_match.proofs.SettlingLemmas.{IsSettled-done, IsSettling, IsSettling-blossom, IsSettling-init, IsSettling-leaf, all_listed, entries_room, entry_alive, more_room, own_top, some_links}
+use Rattle.sg_match.specs.Pairs.{pair_of}
+use Rattle.sg_match.specs.Path.{Differ}
+use Rattle.sg_match.specs.Settled.{HasOwn}
+use Rattle.sg_match.proofs.mates.settle.Goals as goal
+
+pub loop-next-init : goal.loop-next-init
+loop-next-init c = record {
+  room = c.list_tops.ensures.capacity;
+  ring_room = refl;
+  settling = IsSettling-init c.args.arena.now c.requires.family c.args.pairs.now c.list_tops.new.nodes.items c.list_tops.ensures.tops
+      (own_top c.args.arena.now (λ u v. Unit {0}) c.args.pairs.now c.requires.paired c.requires.all);
+}
+
+pub is_leaf-requires : goal.is_leaf-requires
+is_leaf-requires c =
+    let was = c.loop-next.invariant.settling in
+    let nodes = c.loop-next.nodes.items in
+    let low : c.loop-next.next < length nodes = omega (arith, c.loop-next-test.true, c.len.ensures) in
+    let at : c.index-node.result.now ≡ get_or nodes c.loop-next.next 0 = c.index-node.ensures ∙ get_or_default nodes c.loop-next.next c.index-node.result.now 0 low in
+    subst (λ n. IsAlive c.args.arena.now n) (sym at) (entry_alive c.args.arena.now c.requires.family c.args.pairs.now c.loop-next.pairs nodes c.loop-next.next was c.loop-next.next low)
+
+pub pair_children-requires-clause-own : goal.pair_children-requires-clause-own
+pair_children-requires-clause-own c =
+    let nodes = c.loop-next.nodes.items in
+    let low : c.loop-next.next < length nodes = omega (arith, c.loop-next-test.true, c.len.ensures) in
+    let at : c.index-node.result.now ≡ get_or nodes c.loop-next.next 0 = c.index-node.ensures ∙ get_or_default nodes c.loop-next.next c.index-node.result.now 0 low in
+    subst (λ n. HasOwn c.args.arena.now c.loop-next.pairs n) (sym at) (c.loop-next.invariant.settling.own c.loop-next.next low)
+
+pub pair_children-requires-clause-nodes : goal.pair_children-requires-clause-nodes
+pair_children-requires-clause-nodes c =
+    let f = c.args.arena.now in
+    let b = c.index-node.result.now in
+    let nodes = c.loop-next.nodes.items in
+    let low : c.loop-next.next < length nodes = omega (arith, c.loop-next-test.true, c.len.ensures) in
+    let at : b ≡ get_or nodes c.loop-next.next 0 = c.index-node.ensures ∙ get_or_default nodes c.loop-next.next b 0 low in
+    let some : 0 < length (cycle_of f b) = some_links (cycle_of f b) (λ none. false≢true (sym c.if-not-is_leaf.true ∙ c.is_leaf.ensures.1 none)) in
+    let room : length nodes + length (cycle_of f b) ≤ length f.nodes = more_room f c.requires.family c.args.pairs.now c.loop-next.pairs nodes c.loop-next.next c.loop-next.invariant.settling low b (sym at) 0 some in
+    omega (arith, room, c.requires.nodes, c.loop-next.invariant.room)
+
+pub pair_children-requires-clause-ring : goal.pair_children-requires-clause-ring
+pair_children-requires-clause-ring c = omega (arith, c.requires.ring, c.loop-next.invariant.ring_room)
+
+pub loop-next-smaller-then-not-is_leaf : goal.loop-next-smaller-then-not-is_leaf
+loop-next-smaller-then-not-is_leaf c =
+    let nodes = c.loop-next.nodes.items in
+    let room : length nodes ≤ length c.args.arena.now.nodes = entries_room c.args.arena.now c.requires.family c.args.pairs.now c.loop-next.pairs nodes c.loop-next.next c.loop-next.invariant.settling in
+    omega (arith, room, c.loop-next-test.true, c.len.ensures)
+
+pub loop-next-preserved-then-not-is_leaf : goal.loop-next-preserved-then-not-is_leaf
+loop-next-preserved-then-not-is_leaf c =
+    let f = c.args.arena.now in
+    let b = c.index-node.result.now in
+    let nodes = c.loop-next.nodes.items in
+    let low : c.loop-next.next < length nodes = omega (arith, c.loop-next-test.true, c.len.ensures) in
+    let at : b ≡ get_or nodes c.loop-next.next 0 = c.index-node.ensures ∙ get_or_default nodes c.loop-next.next b 0 low in
+    let made = c.pair_children.ensures.listed in
+    record {
+      room = c.pair_children.ensures.room ∙ c.loop-next.invariant.room;
+      ring_room = c.pair_children.ensures.ring_room ∙ c.loop-next.invariant.ring_room;
+      settling = subst (λ xs. IsSettling f c.args.pairs.now c.pair_children.new.pairs xs (c.loop-next.next + 1)) (sym made.2)
+          (IsSettling-blossom f c.requires.family c.args.pairs.now c.loop-next.pairs nodes c.loop-next.next c.loop-next.invariant.settling low b (sym at) made.0 made.1 c.pair_children.new.pairs
+          c.pair_children.ensures.length c.pair_children.ensures.inside c.pair_children.ensures.others);
+    }
+
+pub loop-next-smaller : goal.loop-next-smaller
+loop-next-smaller c =
+    let nodes = c.loop-next.nodes.items in
+    let room : length nodes ≤ length c.args.arena.now.nodes = entries_room c.args.arena.now c.requires.family c.args.pairs.now c.loop-next.pairs nodes c.loop-next.next c.loop-next.invariant.settling in
+    omega (arith, room, c.loop-next-test.true, c.len.ensures)
+
+pub loop-next-preserved : goal.loop-next-preserved
+loop-next-preserved c =
+    let f = c.args.arena.now in
+    let nodes = c.loop-next.nodes.items in
+    let low : c.loop-next.next < length nodes = omega (arith, c.loop-next-test.true, c.len.ensures) in
+    let at : c.index-node.result.now ≡ get_or nodes c.loop-next.next 0 = c.index-node.ensures ∙ get_or_default nodes c.loop-next.next c.index-node.result.now 0 low in
+    record {
+      room = c.loop-next.invariant.room;
+      ring_room = c.loop-next.invariant.ring_room;
+      settling = IsSettling-leaf f c.requires.family c.args.pairs.now c.loop-next.pairs nodes c.loop-next.next c.loop-next.invariant.settling low
+          (ap (λ n. cycle_of f n) (sym at) ∙ c.is_leaf.ensures.0 c.if-not-is_leaf.false);
+    }
+
+pub write_mates-requires-clause-own : goal.write_mates-requires-clause-own
+write_mates-requires-clause-own c k low =
+    subst (λ xs. HasOwn c.args.arena.now c.loop-next.pairs (get_or xs k 0)) (sym c.deref.ensures.value)
+    (c.loop-next.invariant.settling.own k (subst (λ xs. k < length xs) c.deref.ensures.value low))
+
+pub write_mates-requires-clause-differ : goal.write_mates-requires-clause-differ
+write_mates-requires-clause-differ c = subst (λ xs. Differ xs) (sym c.deref.ensures.value) c.loop-next.invariant.settling.differ
+
+pub returns : goal.returns
+returns c cost symmetric feasible paired =
+    let f = c.args.arena.now in
+    let nodes = c.loop-next.nodes.items in
+    let pairs = c.loop-next.pairs in
+    let was = c.loop-next.invariant.settling in
+    let same = c.deref.ensures.value in
+    let end : length nodes ≤ c.loop-next.next = omega (arith, c.loop-next-test.false, c.len.ensures) in
+    is_matching f cost symmetric feasible c.args.pairs.now pairs paired (IsSettled-done f c.requires.family c.args.pairs.now pairs nodes c.loop-next.next was end) c.write_mates.new.mates
+    (c.write_mates.ensures.length ∙ c.requires.mates)
+    (λ n p alive plain is.
+    let at = all_listed f c.requires.family c.args.pairs.now pairs nodes c.loop-next.next was end n alive in
+    let here : get_or c.deref.result.now at.0 0 ≡ n = ap (λ xs. get_or xs at.0 0) same ∙ at.2 in
+    c.write_mates.ensures.written at.0 p (subst (λ xs. at.0 < length xs) (sym same) at.1) (ap (λ m. cycle_of f m) here ∙ plain) (ap (λ m. pair_of pairs m) here ∙ is))

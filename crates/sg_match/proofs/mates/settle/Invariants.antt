@@ -1,0 +1,13 @@
+use Rattle.std.proofs.Common.{length, vec_capacity, ◌-◌, ◌≡◌}
+use Rattle.sg_match.proofs.SettlingLemmas.{IsSettling}
+use Rattle.sg_match.proofs.mates.settle.Given as goal
+
+abbrev pub invariant-loop-next : goal.invariant-loop-next
+invariant-loop-next l = record {
+  room : vec_capacity l.nodes ≡ vec_capacity l.fn.nodes;
+  ring_room : vec_capacity l.ring ≡ vec_capacity l.fn.ring;
+  settling : IsSettling l.arena l.fn.pairs l.pairs l.nodes.items l.next;
+}
+
+abbrev pub decreases-loop-next : goal.decreases-loop-next
+decreases-loop-next l = length l.arena.nodes - l.next

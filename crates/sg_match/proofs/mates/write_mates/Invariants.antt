@@ -1,0 +1,5 @@
+use Rattle.sg_match.proofs.ListedLemmas.{IsWriting}
+use Rattle.sg_match.proofs.mates.write_mates.Given as goal
+
+abbrev pub invariant-loop-k : goal.invariant-loop-k
+invariant-loop-k l = IsWriting l.arena l.pairs l.nodes l.mates l.k

@@ -1,0 +1,12 @@
+use Rattle.std.proofs.Common.{length, ◌-◌, ◌≡◌, ℕ, ◌≤◌, ◌+◌, ◌*◌}
+use Rattle.sg_match.proofs.RungLemmas.{IsRungTo}
+use Rattle.sg_match.proofs.rings.pair_ring.Given as goal
+
+abbrev pub invariant-loop-i : goal.invariant-loop-i
+invariant-loop-i l = record {
+  within : l.i ≤ length l.ring;
+  twos : (count : ℕ) × (l.i ≡ 2 * count + 1) × IsRungTo l.fn.pairs l.pairs l.ring l.fn.pair count;
+}
+
+abbrev pub decreases-loop-i : goal.decreases-loop-i
+decreases-loop-i l = length l.ring - l.i

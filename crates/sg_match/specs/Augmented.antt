@@ -1,0 +1,30 @@
+-- The pairs after an augmentation.
+use Rattle.std.specs.Prelude.{◌≡◌, ◌≢◌, ℕ, ◌<◌, List, length, Option, None, slice_index}
+use Rattle.sg_arena.specs.Family.{Family, Holds, IsTop, leaf_count}
+use Rattle.sg_match.specs.Feasible.{IsTight}
+use Rattle.sg_match.specs.Pairs.{IsPaired, pair_of}
+use Rattle.sg_match.specs.Tree.{IsOut, IsTree, outers}
+use Rattle.sg_match.specs.declared.Edge.{Edge}
+use Rattle.sg_match.specs.declared.Limb.{Limb}
+
+-- a limb's names are tops and the end of its edge is a leaf
+pub record HasTops (f : Family) (limb : Limb) : Type 0 where
+  pub inner : IsTop f limb.inner
+  pub outer : IsTop f limb.outer
+  pub to : limb.edge.to < leaf_count f
+
+-- a tight pair from a leaf of an outer top to one of an unpaired top outside the tree
+pub record CanFlip (f : Family) (cost : ℕ → ℕ → ℕ) (pairs : List (Option Edge)) (root : ℕ) (limbs : List Limb) (u v : ℕ) : Type 0 where
+  pub paired : IsPaired f (IsTight f cost) pairs
+  pub tree : IsTree f cost pairs root limbs
+  pub symmetric : (a b : ℕ) → a < leaf_count f → b < leaf_count f → cost a b ≡ cost b a
+  pub outer : (i : ℕ) × (i < length (outers root limbs)) × Holds f (slice_index (outers root limbs) i) u
+  pub lone : (t : ℕ) → IsTop f t → Holds f t v → IsOut root limbs t × (pair_of pairs t ≡ None)
+  pub tight : IsTight f cost u v
+
+-- a pairing in which the root and the top of a leaf are paired too, and no other
+pub record Flipped (f : Family) (cost : ℕ → ℕ → ℕ) (old new : List (Option Edge)) (root v : ℕ) : Type 0 where
+  pub length : length new ≡ length old
+  pub paired : IsPaired f (IsTight f cost) new
+  pub fewer : (n : ℕ) → pair_of new n ≡ None → (pair_of old n ≡ None) × (n ≢ root) × ((IsTop f n × Holds f n v) → ⊥)
+  pub others : (n : ℕ) → IsTop f n → pair_of old n ≡ None → n ≢ root → (Holds f n v → ⊥) → pair_of new n ≡ None

@@ -1,0 +1,21 @@
+-- What an engine keeps between its steps.
+use Rattle.std.specs.Prelude.{◌≡◌, ◌*◌, ◌≤◌, [], length, MatchOption}
+use Rattle.sg_arena.specs.Family.{leaf_count}
+use Rattle.sg_match.specs.Feasible.{IsFeasible, IsTight}
+use Rattle.sg_match.specs.Lonely.{IsLonely}
+use Rattle.sg_match.specs.Metric.{IsMetric, cost}
+use Rattle.sg_match.specs.Pairs.{IsPaired}
+use Rattle.sg_match.specs.State.{State}
+use Rattle.sg_match.specs.Steps.{steps_left}
+use Rattle.sg_match.specs.Tree.{IsTree}
+
+-- what holds between two steps
+pub record IsEngine (s : State) : Type 0 where
+  pub costs : IsMetric s.table
+  pub leaves : leaf_count s.family ≡ s.table.size
+  pub room : length s.pairs ≡ length s.family.nodes
+  pub feasible : IsFeasible s.family (cost s.table)
+  pub paired : IsPaired s.family (IsTight s.family (cost s.table)) s.pairs
+  pub lonely : IsLonely s.family s.pairs s.root s.lonely
+  pub tree : MatchOption s.root (s.limbs ≡ []) (λ r. IsTree s.family (cost s.table) s.pairs r s.limbs)
+  pub left : steps_left s ≤ 2 * s.table.size * s.table.size

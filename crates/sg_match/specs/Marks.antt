@@ -1,0 +1,22 @@
+-- Where each leaf stands.
+use Rattle.std.specs.Prelude.{◌≡◌, ℕ, ◌<◌, List, length, slice_index, slice_index_or, pos, ℤ}
+use Rattle.sg_arena.specs.Family.{Family, Holds, IsTop, leaf_count, total_of}
+use Rattle.sg_match.specs.Tree.{inners, outers}
+use Rattle.sg_match.specs.declared.Limb.{Limb}
+use Rattle.sg_slack.specs.declared.Mark.{Mark}
+use Rattle.sg_slack.specs.declared.Mark.TheVariants.{Free, Inner, Outer}
+
+-- the mark of each leaf says where its top stands
+pub record IsMarked (f : Family) (root : ℕ) (limbs : List Limb) (marks : List Mark) : Type 0 where
+  pub count : length marks ≡ leaf_count f
+  pub outer : (leaf : ℕ) → leaf < leaf_count f → slice_index_or marks leaf Free ≡ Outer → (i : ℕ) × (i < length (outers root limbs)) × Holds f (slice_index (outers root limbs) i) leaf
+  pub inner : (leaf : ℕ) → leaf < leaf_count f → slice_index_or marks leaf Free ≡ Inner → (i : ℕ) × (i < length (inners limbs)) × Holds f (slice_index (inners limbs) i) leaf
+  pub free : (leaf : ℕ) → leaf < leaf_count f → slice_index_or marks leaf Free ≡ Free → ((i : ℕ) → i < length (outers root limbs) → Holds f (slice_index (outers root limbs) i) leaf → ⊥) × ((i : ℕ) → i < length (inners limbs) → Holds f (slice_index (inners limbs) i) leaf → ⊥)
+
+-- the tables that the slack search reads are those of the family
+pub record IsListed (f : Family) (tops : List ℕ) (totals : List ℤ) : Type 0 where
+  pub top_count : length tops ≡ leaf_count f
+  pub total_count : length totals ≡ leaf_count f
+  pub top : (leaf : ℕ) → leaf < leaf_count f → IsTop f (slice_index tops leaf)
+  pub held : (leaf : ℕ) → leaf < leaf_count f → Holds f (slice_index tops leaf) leaf
+  pub total : (leaf : ℕ) → leaf < leaf_count f → slice_index_or totals leaf (pos 0) ≡ pos (total_of f leaf)

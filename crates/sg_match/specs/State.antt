@@ -1,0 +1,25 @@
+-- What contracts see of an engine.
+use Rattle.std.specs.Prelude.{◌≡◌, ℕ, List, Option}
+use Rattle.sg_arena.specs.Family.{Family, leaf_count}
+use Rattle.sg_match.specs.declared.Edge.{Edge}
+use Rattle.sg_match.specs.declared.Limb.{Limb}
+use Rattle.sg_slack.specs.Table.{Table}
+
+-- the sets with their duals, the costs, the pair under each top's name, the unpaired tops but for
+-- the root, and the tree
+pub record State : Type 0 where
+  pub family : Family
+  pub table : Table
+  pub pairs : List (Option Edge)
+  pub lonely : List ℕ
+  pub root : Option ℕ
+  pub limbs : List Limb
+
+-- all but the duals is as it was
+pub record KeepsTree (old new : State) : Type 0 where
+  pub leaves : leaf_count new.family ≡ leaf_count old.family
+  pub table : new.table ≡ old.table
+  pub pairs : new.pairs ≡ old.pairs
+  pub lonely : new.lonely ≡ old.lonely
+  pub root : new.root ≡ old.root
+  pub limbs : new.limbs ≡ old.limbs

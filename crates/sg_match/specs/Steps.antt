@@ -1,0 +1,39 @@
+-- How many steps a state has left at most.
+use Rattle.std.specs.Prelude.{ℕ, ◌+◌, ◌*◌, ◌-◌, Bool, true, false, not, List, [], ◌∷◌, length, Option, Some, None, count_by}
+use Rattle.std.specs.List.{range_with_len}
+use Rattle.sg_arena.specs.Family.{Family, Node, leaf_count}
+use Rattle.sg_match.specs.State.{State}
+use Rattle.sg_match.specs.Tree.{any_top, outers}
+use Rattle.sg_match.specs.declared.Limb.{Limb}
+use Rattle.sg_match.specs.declared.Stage.{Stage}
+use Rattle.sg_match.specs.declared.Stage.TheVariants.{InnerZero, Matched}
+
+abbrev pub has_children : Option Node → Bool
+has_children None = false
+has_children (Some n) = has_some n.cycle
+  where
+    has_some : {A : Type 0} → List A → Bool
+    has_some [] = false
+    has_some (x ∷ xs) = true
+
+-- how many blossoms the family has
+abbrev pub blossoms_of : Family → ℕ
+blossoms_of f = count_by has_children f.nodes
+
+-- how many leaves no outer top holds
+abbrev pub rest_of : Family → ℕ → List Limb → ℕ
+rest_of f root limbs = count_by (λ leaf. not (any_top f (outers root limbs) leaf)) (range_with_len 0 (leaf_count f))
+
+-- 2 k for each unpaired top, or while a tree stands four for each leaf that isn't outer; and two for
+-- each blossom
+abbrev pub tree_left : Family → List ℕ → Option ℕ → List Limb → ℕ
+tree_left f lonely None limbs = 2 * leaf_count f * length lonely
+tree_left f lonely (Some root) limbs = 2 * leaf_count f * (length lonely - 1) + 4 * rest_of f root limbs + 1
+
+abbrev pub steps_left : State → ℕ
+steps_left s = tree_left s.family s.lonely s.root s.limbs + 2 * blossoms_of s.family
+
+-- how many steps an answer leaves open: one, where a blossom is to be expanded
+abbrev pub owed : Stage → ℕ
+owed Matched = 0
+owed (InnerZero node) = 1

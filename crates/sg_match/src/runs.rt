@@ -1,0 +1,207 @@
+ghost use Rattle.std.specs.Prelude.{◌≡◌, ◌≤◌, IfOk, None, replicate, vec_capacity};
+ghost use Rattle.sg_arena.specs.Family.{leaf_count};
+
+use super::inner::least_flat;
+use super::mates::settle;
+use super::{Edge, Engine, Event, Matched, Mates, NoMemory, Stage};
+use sg_arena::Arena;
+use sg_slack::{Costs, Mark};
+use sg_steps::Steps;
+use std::alloc::Global;
+use std::sync::ledger::Ledger;
+
+// The names of the nodes of leaves, with room for more names.
+fn leaf_names(alloc: Global, arena: &Arena, k: u32, room: usize) -> Result<Vec<usize>, NoMemory>
+    requires leaves { k ≡ leaf_count arena.now }
+    requires room { k ≤ room }
+    ensures items { IfOk result (λ names. names.items ≡ arena.now.leaf_nodes) }
+    ensures room { IfOk result (λ names. room ≤ vec_capacity names) }
+{
+    let mut names = Vec::with_capacity(alloc, room)?;
+    for leaf in 0..k {
+        names.push_reserved(arena.leaf_node(leaf));
+    }
+    Ok(names)
+}
+
+// No pair under each name below the room.
+fn no_pairs(alloc: Global, room: usize) -> Result<Vec<Option<Edge>>, NoMemory>
+    ensures { IfOk result (λ pairs. pairs.items ≡ replicate room None) }
+{
+    Ok(vec![in alloc; None; room]?)
+}
+
+impl Engine {
+    ghost use Rattle.std.specs.Prelude.{◌≡◌, ◌↔◌, ℕ, ◌+◌, ◌*◌, ◌≤◌, List, IfOk, IfSome, IfNone, Some, None};
+    ghost use Rattle.sg_arena.specs.Changes.{OnlyLeaves};
+    ghost use Rattle.sg_arena.specs.Family.{IsFamily, leaf_count};
+    ghost use Rattle.sg_match.specs.Amount.{IsLeastFlat};
+    ghost use Rattle.sg_match.specs.Matching.{IsMatching, IsPairing, NoSlackIsNegative, pairing_cost, sum_of_duals};
+    ghost use Rattle.sg_match.specs.Metric.{IsMetric, cost};
+    ghost use Rattle.sg_match.specs.Pairs.{AllPaired};
+    ghost use Rattle.sg_match.specs.Engine.{IsEngine};
+    ghost use Rattle.sg_match.specs.Events.{IsStage};
+    ghost use Rattle.sg_match.specs.Steps.{steps_left, owed};
+
+    /// An engine over these costs, which it keeps, with all the memory that it will need. Each leaf
+    /// is an unpaired top with dual 0.
+    ///
+    /// Cost: proportional to the number of leaves.
+    pub fn open(alloc: Global, costs: Costs) -> Result<Engine, NoMemory>
+        requires { IsMetric costs }
+        ensures table { IfOk result (λ e. e.table ≡ costs) }
+        ensures leaves { IfOk result (λ e. OnlyLeaves e.family) }
+        ensures engine { IfOk result IsEngine }
+        ensures left { IfOk result (λ e. steps_left e ≡ 2 * costs.size * costs.size) }
+    {
+        let k = costs.size();
+        let count = k as usize;
+        let arena = Arena::open(alloc, k)?;
+        let room = arena.room();
+        let pairs = no_pairs(alloc, room)?;
+        let lonely = leaf_names(alloc, &arena, k, room)?;
+        let limbs = Vec::with_capacity(alloc, room)?;
+        let tops = vec![in alloc; 0usize; count]?;
+        let totals = vec![in alloc; 0i64; count]?;
+        let marks = vec![in alloc; Mark::Free; count]?;
+        let outer = Vec::with_capacity(alloc, room + 1)?;
+        let inner = Vec::with_capacity(alloc, room)?;
+        let cycle = Vec::with_capacity(alloc, 2 * room + 1)?;
+        let ring = Vec::with_capacity(alloc, 2 * room + 1)?;
+        let mates = vec![in alloc; 0u32; count]?;
+        Ok(Engine {
+            costs,
+            arena,
+            pairs,
+            lonely,
+            root: None,
+            limbs,
+            tops,
+            totals,
+            marks,
+            outer,
+            inner,
+            cycle,
+            ring,
+            mates,
+        })
+    }
+
+    /// The sets of leaves with their duals, as they stand.
+    ///
+    /// Cost: constant.
+    pub fn family(&self) -> &Arena
+        ensures value { result.now ≡ self.now.family }
+        ensures engine { IsEngine self.now }
+    {
+        &self.arena
+    }
+
+    /// Goes on until every top is paired, or an inner blossom of the tree has dual 0. Where such a
+    /// blossom stands already, the least one is named and nothing changes. It takes no memory.
+    ///
+    /// Cost: each round takes time proportional to the square of the number of leaves.
+    pub fn advance<L: Ledger>(&mut self, steps: &mut Steps<L>) -> Stage
+        ensures table { self.new.table ≡ self.old.table }
+        ensures engine { IsEngine self.new }
+        ensures matched { (result ≡ Stage.Matched) ↔ AllPaired self.new.family self.new.pairs }
+        ensures flat { (node : ℕ) → result ≡ Stage.InnerZero node → IsLeastFlat self.new.family self.new.limbs node }
+        ensures already { (node : ℕ) → IsLeastFlat self.old.family self.old.limbs node → (result ≡ Stage.InnerZero node) × (self.new ≡ self.old) × (steps.new ≡ steps.old) }
+        ensures bound { steps_left self.old ≤ 2 * self.old.table.size * self.old.table.size }
+        ensures left { steps_left self.new ≤ steps_left self.old }
+        ensures counted { steps.new + steps_left self.new ≤ steps.old + steps_left self.old + owed result }
+    {
+        match least_flat(&self.arena, &self.limbs) {
+            Some(node) => Stage::InnerZero { node },
+            None => self.proceed(steps),
+        }
+    }
+
+    // Round by round: raises the duals of the tree, and follows what is tight then.
+    fn proceed<L: Ledger>(&mut self, steps: &mut Steps<L>) -> Stage
+        ensures table { self.new.table ≡ self.old.table }
+        ensures engine { IsEngine self.new }
+        ensures stage { IsStage self.new result }
+        ensures left { steps_left self.new ≤ steps_left self.old }
+        ensures counted { steps.new + steps_left self.new ≤ steps.old + steps_left self.old + owed result }
+    {
+        while let Some(root) = self.plant() {
+            match self.press(root, steps) {
+                Event::Flat { node } => return Stage::InnerZero { node },
+                Event::Reach { u, v } => self.reach(root, u, v),
+                Event::Join { u, v } => self.close(root, u, v, steps),
+            }
+        }
+        Stage::Matched
+    }
+
+    // The root of the tree. Where no tree stands, one is planted at an unpaired top; none where every
+    // top is paired.
+    fn plant(&mut self) -> Option<usize>
+        ensures family { self.new.family ≡ self.old.family }
+        ensures table { self.new.table ≡ self.old.table }
+        ensures engine { IsEngine self.new }
+        ensures root { IfSome result (λ root. self.new.root ≡ Some root) }
+        ensures none { IfNone result (AllPaired self.new.family self.new.pairs) }
+        ensures left { steps_left self.new ≤ steps_left self.old }
+    {
+        match self.root {
+            Some(root) => Some(root),
+            None => self.plant_anew(),
+        }
+    }
+
+    // Plants a tree at an unpaired top; none where there is no such top.
+    fn plant_anew(&mut self) -> Option<usize>
+        requires bare { self.old.root ≡ None }
+        ensures family { self.new.family ≡ self.old.family }
+        ensures table { self.new.table ≡ self.old.table }
+        ensures engine { IsEngine self.new }
+        ensures root { IfSome result (λ root. self.new.root ≡ Some root) }
+        ensures none { IfNone result (AllPaired self.new.family self.new.pairs) }
+        ensures left { steps_left self.new ≤ steps_left self.old }
+    {
+        match self.lonely.pop() {
+            Some(root) => {
+                self.root = Some(root);
+                Some(root)
+            }
+            None => None,
+        }
+    }
+
+    /// A perfect matching of least cost, with the sets and duals that prove it. It takes no memory.
+    ///
+    /// Each leaf has a mate. No slack is negative, mates have slack 0, and each set is left by
+    /// exactly one pair of mates; so the mates cost as much as all duals together, and no pairing
+    /// costs less ([`super::matching_is_least`]). For `k` leaves it takes at most `2 k^2` steps, where
+    /// a step is one `shrink`, `expand` or `raise`. The method is that of Edmonds (1965).
+    ///
+    /// Cost: a step takes time proportional to the square of the number of leaves.
+    pub fn run<L: Ledger>(mut self, steps: &mut Steps<L>) -> Matched
+        ensures counted { steps.new ≤ steps.old + 2 * self.table.size * self.table.size }
+        ensures leaves { leaf_count result.family ≡ self.table.size }
+        ensures family { IsFamily result.family }
+        ensures slack { NoSlackIsNegative result.family (cost self.table) }
+        ensures matching { IsMatching result.family (cost self.table) result.mates }
+        ensures duals { pairing_cost (cost self.table) result.mates ≡ sum_of_duals result.family }
+        ensures least { (other : List ℕ) → IsPairing self.table.size other → pairing_cost (cost self.table) result.mates ≤ pairing_cost (cost self.table) other }
+    {
+        while let Stage::InnerZero { node } = self.advance(steps) {
+            self.split(node, steps);
+        }
+        let Engine {
+            arena,
+            mut pairs,
+            mut outer,
+            mut ring,
+            mut mates,
+            ..
+        } = self;
+        settle(&arena, &mut pairs, &mut outer, &mut ring, &mut mates);
+        Matched {
+            mates: Mates::from_vec(mates),
+            family: arena,
+        }
+    }
+}
