@@ -9,6 +9,8 @@ fn both_lists_keep_their_items_in_order(rt: HostRuntime) -> Result<(), Fail> {
     list.push(9)?;
     assert_eq!(rt; list.len(), 2);
     assert_eq!(rt; list.at(1), 9);
+    let same = Numbers::from_vec(Vec::from_slice(rt.alloc(), list.as_slice())?);
+    assert_eq!(rt; same.as_slice(), [7, 9].as_slice());
     let mut rows = Records::new(rt.alloc());
     rows.push(list)?;
     assert_eq!(rt; rows.len(), 1);
