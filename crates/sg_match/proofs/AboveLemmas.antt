@@ -1,11 +1,13 @@
--- Each set is a top or a child: what holds of tops and passes to children holds of all sets.
-use Rattle.std.proofs.Common.{Bool, [], ap, arith, eqb, false, inl, inr, length, refl, subst, suc, sym, true, zero, ℕ, ◌<◌, ◌||◌, ◌∙◌, ◌≡◌, ◌≤◌}
-use Rattle.std.proofs.lemmas.Bool.{cases_Bool, cases_eq, cases_lt, eqb-true, false≢true}
+-- What holds of tops and passes to children holds of all sets.
+use Rattle.std.proofs.Common.{[], ap, arith, eqb, inl, inr, length, subst, suc, sym, zero, ℕ, ◌<◌, ◌∙◌, ◌≡◌, ◌≤◌}
+use Rattle.std.proofs.lemmas.Bool.{cases_lt, eqb-true}
 use Rattle.std.proofs.lemmas.List.{get_or_read}
+use Rattle.std.proofs.Math.Bool.{or-false}
 use Rattle.std.specs.Option.{option_map_or}
-use Rattle.sg_arena.proofs.FamilyLemmas.{alive_from_holds, child-covered, child-smaller, leaf-held, leaf_bound, name_bound, size-positive, some_leaf, top-covers}
+use Rattle.sg_arena.proofs.FamilyLemmas.{alive_from_holds, child-covered, child-smaller, leaf_bound, size-positive, some_leaf, top-covers}
 use Rattle.sg_arena.proofs.ListLemmas.{place_of_any}
 use Rattle.sg_arena.specs.Family.{Covers, Family, Holds, IsAlive, IsFamily, IsTop, blank_link, cycle_of, has_leaf, holds, leaf_count, leaf_node, leaves_of, link_at}
+use Rattle.sg_match.proofs.TopLemmas.{top_of}
 
 module _ (f : Family) (fam : IsFamily f) where
   pub child_alive : (b i : ℕ) → i < length (cycle_of f b) → IsAlive f (link_at (cycle_of f b) i).node
@@ -15,14 +17,10 @@ module _ (f : Family) (fam : IsFamily f) where
   pub not_own_child : (b i : ℕ) → i < length (cycle_of f b) → (link_at (cycle_of f b) i).node ≡ b → ⊥
   not_own_child b i low same = omega (arith, child-smaller f fam b i low, ap (λ n. length (leaves_of f n)) same)
 
-  or_false : (b : Bool) → (b || false) ≡ true → b ≡ true
-  or_false true e = refl
-  or_false false e = e
-
   -- a leaf's node holds that leaf alone
   pub leaf-only : (l u : ℕ) → l < leaf_count f → Holds f (leaf_node f l) u → l ≡ u
   leaf-only l u low held =
-      eqb-true l u (or_false (eqb l u) (sym (ap (λ o. has_leaf (option_map_or (λ x. x.leaves) o []) u) (fam.leaf_set l low)) ∙ held))
+      eqb-true l u (sym (or-false (eqb l u)) ∙ sym (ap (λ o. has_leaf (option_map_or (λ x. x.leaves) o []) u) (fam.leaf_set l low)) ∙ held)
 
   pub leaf-plain : (l : ℕ) → l < leaf_count f → cycle_of f (leaf_node f l) ≡ []
   leaf-plain l low = ap (λ o. option_map_or (λ x. x.cycle) o []) (fam.leaf_set l low)
@@ -45,60 +43,12 @@ module _ (f : Family) (fam : IsFamily f) where
       let is : leaf_node f l ≡ e = plain_is e l plain (covers l held) in
       fam.apart n e (alive_from_holds f n l held) (λ u h. leaf-covered n l low held u (subst (λ m. Holds f m u) (sym is) h)) covers
 
-  -- of the sets under the first names that hold a leaf, one covers all others
-  widest : (leaf start : ℕ) → Holds f start leaf → (count : ℕ) → (t : ℕ) × Holds f t leaf × ((n : ℕ) → n < count → Holds f n leaf → Covers f t n)
-  widest leaf start held zero = (start, held, λ n none. absurd (omega arith))
-  widest leaf start held (suc count) =
-      let was = widest leaf start held count in
-      elim (cases_Bool (holds f count leaf)) [
-        | inl is ↦ elim (fam.nested was.0 count leaf was.1 is) [
-          | inl over ↦ (
-            was.0,
-            was.1,
-            λ n low h. elim (cases_eq n count) [
-              | inl same ↦ subst (λ m. Covers f was.0 m) (sym same) over
-              | inr differs ↦ was.2 n (omega arith) h
-            ],
-          )
-          | inr under ↦ (
-            count,
-            is,
-            λ n low h. elim (cases_eq n count) [
-              | inl same ↦ subst (λ m. Covers f count m) (sym same) (λ l is. is)
-              | inr differs ↦ λ l is. under l (was.2 n (omega arith) h l is)
-            ],
-          )
-        ]
-        | inr not_held ↦ (
-          was.0,
-          was.1,
-          λ n low h. elim (cases_eq n count) [
-            | inl same ↦ absurd (false≢true (sym not_held ∙ subst (λ m. Holds f m leaf) same h))
-            | inr differs ↦ was.2 n (omega arith) h
-          ],
-        )
-      ]
-
-  -- each leaf lies in a top
-  pub some_top : (leaf : ℕ) → leaf < leaf_count f → (t : ℕ) × IsTop f t × Holds f t leaf
-  some_top leaf low =
-      let at = widest leaf (leaf_node f leaf) (leaf-held f fam leaf low) (length f.nodes) in (
-        at.0,
-        record {
-          alive = alive_from_holds f at.0 leaf at.1;
-          outermost = λ other covers.
-              let alive = alive_from_holds f other leaf (covers leaf at.1) in
-              fam.apart other at.0 alive covers (at.2 other (name_bound f other alive) (covers leaf at.1));
-        },
-        at.1,
-      )
-
   -- what holds of tops and passes from blossoms to children holds of all
   pub from_above : (P : ℕ → Type 0) → ((t : ℕ) → IsTop f t → P t) → ((b i : ℕ) → i < length (cycle_of f b) → P b → P (link_at (cycle_of f b) i).node) → (n : ℕ) → IsAlive f n → P n
   from_above P tops kids n alive =
       let leaf = some_leaf f fam n alive in
       let low = leaf_bound f fam n leaf.0 leaf.1 in
-      let t = some_top leaf.0 low in
+      let t = top_of f fam leaf.0 low in
       go leaf.0 low leaf.1 (length (leaves_of f t.0)) t.0 (omega arith) t.1.alive (top-covers f fam t.0 n leaf.0 t.1 t.2 leaf.1) (tops t.0 t.1)
     where
       go : (leaf : ℕ) → leaf < leaf_count f → Holds f n leaf → (fuel e : ℕ) → length (leaves_of f e) ≤ fuel → IsAlive f e → Covers f e n → P e → P n

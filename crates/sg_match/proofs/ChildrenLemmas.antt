@@ -5,13 +5,13 @@ use Rattle.sg_arena.specs.Family.{Family, Holds, IsCycle, IsFamily, after_index,
 use Rattle.sg_arena.specs.declared.Link.{Link}
 use Rattle.sg_match.proofs.AboveLemmas.{child_alive, not_own_child}
 use Rattle.sg_match.proofs.RotateLemmas.{IsCycle-rotated, cases_after, cases_wrapped, length-rotated, link_at-rotated, to_ring, unwrapped, wrapped, wrapped-differ, wrapped-within}
-use Rattle.sg_match.specs.Pairs.{flipped, pair_of}
+use Rattle.sg_match.specs.Pairs.{edge_of, flipped, pair_of}
 use Rattle.sg_match.specs.Rings.{IsRung, rotated}
-use Rattle.sg_match.specs.Settled.{IsJoined, IsPairedInside, edge_of}
+use Rattle.sg_match.specs.Settled.{IsJoined, IsPairedInside}
 use Rattle.sg_match.specs.declared.Edge.{Edge}
 
 -- a place is the first one, or the first or second of a two behind it
-pub cases_two : (r : ℕ) → (r ≡ 0) ⊎ (((j : ℕ) × (r ≡ 2 * j + 1)) ⊎ ((j : ℕ) × (r ≡ 2 * j + 2)))
+cases_two : (r : ℕ) → (r ≡ 0) ⊎ (((j : ℕ) × (r ≡ 2 * j + 1)) ⊎ ((j : ℕ) × (r ≡ 2 * j + 2)))
 cases_two zero = inl refl
 cases_two (suc r) = elim (cases_two r) [
   | inl none ↦ inr (inl (0, omega (arith, none)))

@@ -1,53 +1,29 @@
 -- A path that grows over one more limb at either end.
-use Rattle.std.proofs.Common.{◌≡◌, ◌≢◌, ◌⊎◌, ℕ, zero, suc, ◌+◌, ◌-◌, ◌<◌, ◌≤◌, ◌%◌, List, [], ◌∷◌, ◌++◌, length, get_or, Contains, refl, sym, ap, ◌∙◌, subst, inl, inr, arith, length-append}
+use Rattle.std.proofs.Common.{◌≡◌, ◌≢◌, ℕ, zero, suc, ◌+◌, ◌-◌, ◌<◌, ◌≤◌, ◌%◌, List, [], ◌∷◌, ◌++◌, length, get_or, Contains, refl, sym, ap, ◌∙◌, subst, inl, inr, arith, length-append}
 use Rattle.std.proofs.lemmas.Bool.{cases_eq, cases_lt}
 use Rattle.std.proofs.lemmas.List.{get_or_append_left, map-append}
-use Rattle.std.proofs.lemmas.List.Elements.{Contains-get_or, Contains-append_left, Contains-append_right, Contains-append_cases}
+use Rattle.std.proofs.lemmas.List.Elements.{Contains-append_left, Contains-append_right, Contains-append_cases}
 use Rattle.std.proofs.Math.Seq.{get_or-append_right}
 use Rattle.sg_arena.proofs.FamilyLemmas.{leaf_bound, top-apart}
 use Rattle.sg_arena.specs.Family.{Family, Holds, IsFamily, IsTop, blank_link}
 use Rattle.sg_arena.specs.declared.Link.{Link}
-use Rattle.sg_match.proofs.FlipLemmas.{tight-back}
+use Rattle.sg_match.proofs.NameLemmas.{Contains-two, Differ-append, Differ-two}
+use Rattle.sg_match.proofs.TightLemmas.{tight-back}
 use Rattle.sg_match.proofs.TreeLemmas.{inner_at, length-inners, length-outers, outer_at}
 use Rattle.sg_match.specs.Feasible.{IsTight}
 use Rattle.sg_match.specs.Links.{bond_link, down_link, step_link, up_link}
-use Rattle.sg_match.specs.Path.{AreTight, Differ, HasTight, IsClimb, IsPath, nodes_of}
+use Rattle.sg_match.specs.Path.{AreTight, IsPath, nodes_of}
+use Rattle.sg_match.specs.Names.{Differ}
+use Rattle.sg_match.specs.Climb.{HasTight, IsClimb}
 use Rattle.sg_match.specs.Tree.{IsShape, inners, limb_at, outers}
 use Rattle.sg_match.specs.declared.Limb.{Limb}
 
-pub IsPath-append : (f : Family) (xs ys : List Link) (head mid tail : ℕ) → IsPath f xs head mid → IsPath f ys mid tail → IsPath f (xs ++ ys) head tail
+IsPath-append : (f : Family) (xs ys : List Link) (head mid tail : ℕ) → IsPath f xs head mid → IsPath f ys mid tail → IsPath f (xs ++ ys) head tail
 IsPath-append f [] ys head mid tail p q = subst (λ n. IsPath f ys n tail) (sym p) q
 IsPath-append f (x ∷ xs) ys head mid tail p q = (p.0, p.1, p.2, (p.3.0, p.3.1, IsPath-append f xs ys p.3.0 mid tail p.3.2 q))
 
-pub Differ-append : (xs ys : List ℕ) → Differ xs → Differ ys → ((n : ℕ) → Contains xs n → Contains ys n → ⊥) → Differ (xs ++ ys)
-Differ-append xs ys dx dy apart i j low_i low_j same =
-    elim (cases_lt i (length xs)) [
-      | inl a ↦ elim (cases_lt j (length xs)) [
-        | inl b ↦ dx i j a b (sym (get_or_append_left xs ys 0 i a) ∙ same ∙ get_or_append_left xs ys 0 j b)
-        | inr b ↦ absurd (apart (get_or xs i 0) (Contains-get_or xs i 0 a) (subst (λ n. Contains ys n) (sym (sym (get_or_append_left xs ys 0 i a) ∙ same ∙ get_or-append_right xs ys j 0 b)) (Contains-get_or ys (j - length xs) 0 (omega (arith, low_j, b, length-append xs ys)))))
-      ]
-      | inr a ↦ elim (cases_lt j (length xs)) [
-        | inl b ↦ absurd (apart (get_or xs j 0) (Contains-get_or xs j 0 b) (subst (λ n. Contains ys n) (sym (get_or-append_right xs ys i 0 a) ∙ same ∙ get_or_append_left xs ys 0 j b) (Contains-get_or ys (i - length xs) 0 (omega (arith, low_i, a, length-append xs ys)))))
-        | inr b ↦ omega (arith, a, b, dy (i - length xs) (j - length xs) (omega (arith, low_i, a, length-append xs ys)) (omega (arith, low_j, b, length-append xs ys)) (sym (get_or-append_right xs ys i 0 a) ∙ same ∙ get_or-append_right xs ys j 0 b))
-      ]
-    ]
-
-pub Differ-two : (a b : ℕ) → a ≢ b → Differ (a ∷ b ∷ [])
-Differ-two a b apart zero zero i j same = refl
-Differ-two a b apart zero (suc zero) i j same = absurd (apart same)
-Differ-two a b apart zero (suc (suc j)) i low same = absurd (omega (arith, low))
-Differ-two a b apart (suc zero) zero i j same = absurd (apart (sym same))
-Differ-two a b apart (suc zero) (suc zero) i j same = refl
-Differ-two a b apart (suc zero) (suc (suc j)) i low same = absurd (omega (arith, low))
-Differ-two a b apart (suc (suc i)) j low k same = absurd (omega (arith, low))
-
-pub Contains-two : (a b n : ℕ) → Contains (a ∷ b ∷ []) n → (n ≡ a) ⊎ (n ≡ b)
-Contains-two a b n (zero, low, at) = inl (sym at)
-Contains-two a b n (suc zero, low, at) = inr (sym at)
-Contains-two a b n (suc (suc k), low, at) = absurd (omega (arith, low))
-
 module _ (f : Family) (cost : ℕ → ℕ → ℕ) where
-  pub AreTight-append : (xs ys : List Link) → AreTight f cost xs → AreTight f cost ys → AreTight f cost (xs ++ ys)
+  AreTight-append : (xs ys : List Link) → AreTight f cost xs → AreTight f cost ys → AreTight f cost (xs ++ ys)
   AreTight-append xs ys tx ty i low =
       elim (cases_lt i (length xs)) [
         | inl a ↦ subst (λ (l : Link). IsTight f cost l.from l.to) (sym (get_or_append_left xs ys blank_link i a)) (tx i a)
@@ -58,7 +34,7 @@ module _ (f : Family) (cost : ℕ → ℕ → ℕ) where
   AreTight-one a ta zero low = ta
   AreTight-one a ta (suc i) low = absurd (omega (arith, low))
 
-  pub AreTight-two : (a b : Link) → IsTight f cost a.from a.to → IsTight f cost b.from b.to → AreTight f cost (a ∷ b ∷ [])
+  AreTight-two : (a b : Link) → IsTight f cost a.from a.to → IsTight f cost b.from b.to → AreTight f cost (a ∷ b ∷ [])
   AreTight-two a b ta tb zero low = ta
   AreTight-two a b ta tb (suc zero) low = tb
   AreTight-two a b ta tb (suc (suc i)) low = absurd (omega (arith, low))
@@ -100,7 +76,7 @@ module _ (f : Family) (root : ℕ) (limbs : List Limb) (fam : IsFamily f) (shape
       single n (suc k, low, at) = absurd (omega (arith, low))
 
   -- while the ends differ, a limb is left
-  pub climb-positive : (cycle : List Link) (i head tail : ℕ) → head ≢ tail → IsClimb f root limbs cycle i head tail → i ≡ (i - 1) + 1
+  climb-positive : (cycle : List Link) (i head tail : ℕ) → head ≢ tail → IsClimb f root limbs cycle i head tail → i ≡ (i - 1) + 1
   climb-positive cycle i head tail apart is =
       elim (cases_lt 0 i) [
         | inl more ↦ omega (arith, more)
@@ -109,6 +85,12 @@ module _ (f : Family) (root : ℕ) (limbs : List Limb) (fam : IsFamily f) (shape
     where
       same : (a b : ℕ) → i ≤ 0 → a ≤ i → b ≤ i → a ≡ b
       same a b none x y = omega (arith, none, x, y)
+
+  -- the climb is behind one limb more
+  pub climb-back : (cycle : List Link) (i head tail : ℕ) → head ≢ tail → i ≤ length limbs → IsClimb f root limbs cycle i head tail → (i ≡ (i - 1) + 1) × (i - 1 < length limbs) × IsClimb f root limbs cycle (i - 1 + 1) head tail
+  climb-back cycle i head tail apart within is =
+      let back = climb-positive cycle i head tail apart is in
+      (back, omega (arith, within, back), subst (λ n. IsClimb f root limbs cycle n head tail) back is)
 
   module _ (cycle : List Link) (i head tail : ℕ) (within : i < length limbs) (apart : head ≢ tail) (is : IsClimb f root limbs cycle (i + 1) head tail) where
     abbrev limb : Limb

@@ -1,37 +1,34 @@
 -- The engine's invariant after a blossom is made of two outer tops and the tops between them.
-use Rattle.std.proofs.Common.{◌≡◌, ◌≢◌, ◌⊎◌, ℕ, zero, suc, ◌+◌, ◌*◌, ◌<◌, ◌≤◌, ◌%◌, true, false, List, [], length, get_or, set, Option, Some, None, MatchOption, Contains, refl, sym, ap, ◌∙◌, subst, inl, inr, arith}
+use Rattle.std.proofs.Common.{◌≡◌, ◌≢◌, ◌⊎◌, ℕ, zero, suc, ◌+◌, ◌*◌, ◌<◌, ◌≤◌, ◌%◌, true, false, List, length, get_or, set, Option, Some, None, Contains, refl, sym, ap, ◌∙◌, subst, inl, inr, arith}
+use Rattle.std.proofs.lemmas.Option.{none-some, same_Some}
 use Rattle.std.proofs.lemmas.Bool.{cases_Bool, cases_eq}
 use Rattle.std.proofs.lemmas.List.Folds.{list_any_at}
 use Rattle.std.proofs.lemmas.List.{get_or-set_other, get_or-set_same, get_or_default}
 use Rattle.std.proofs.Math.ListN.{length-set}
-use Rattle.sg_arena.proofs.FamilyLemmas.{leaf_bound, length-with_slot, name_bound, not_dead, some_leaf, top-apart}
+use Rattle.sg_arena.proofs.FamilyLemmas.{leaf_bound, length-with_slot, name_bound, some_leaf, top-apart}
 use Rattle.sg_arena.proofs.ListLemmas.{place_of_any}
 use Rattle.sg_arena.proofs.ShrunkFamily.{IsTop-shrink, IsTop-shrink_old, IsTop-shrink_other, in_new, new_holds}
 use Rattle.sg_arena.specs.Changes.{CanShrink, blossom_of, with_slot}
-use Rattle.sg_arena.specs.Family.{Family, Holds, IsFamily, IsTop, holds, leaf_count, link_at, node_at}
+use Rattle.sg_arena.specs.Family.{Family, Holds, IsFamily, IsTop, holds, link_at, node_at}
 use Rattle.sg_arena.specs.declared.Link.{Link}
-use Rattle.sg_match.proofs.NameLemmas.{short}
+use Rattle.sg_match.proofs.EngineLemmas.{even, symmetric, tree_of}
+use Rattle.sg_match.proofs.NodeLemmas.{node_in, place_in}
 use Rattle.sg_match.proofs.PruneStep.{IsTree-shrunk, closed, inner_taken, moved, open_base}
-use Rattle.sg_match.proofs.ShrinkStep.{CanShrink-climb, IsFeasible-shrunk, IsPaired-shrunk, node_in, path_head, place_in}
+use Rattle.sg_match.proofs.ShrinkStep.{CanShrink-climb, IsFeasible-shrunk, IsPaired-shrunk, path_head, top-not_dead}
 use Rattle.sg_match.proofs.StepsStep.{blossoms-shrunk, rest-one_fewer}
-use Rattle.sg_match.proofs.TreeLemmas.{bond_from, bond_tight, inner_at, inner_top, length-inners, length-outers, outer_at, outer_cases, outer_pair, outer_top}
+use Rattle.sg_match.proofs.TreeLemmas.{bond_tight, inner_at, inner_top, length-inners, length-outers, outer_at, outer_cases, outer_pair, outer_top}
 use Rattle.sg_match.specs.Engine.{IsEngine}
 use Rattle.sg_match.specs.Lonely.{IsLonely, one_if}
 use Rattle.sg_match.specs.Metric.{cost}
 use Rattle.sg_match.specs.Pairs.{pair_of}
-use Rattle.sg_match.specs.Path.{AreTight, HasTight, IsClimb, nodes_of}
+use Rattle.sg_match.specs.Path.{AreTight, nodes_of}
+use Rattle.sg_match.specs.Climb.{HasTight, IsClimb}
 use Rattle.sg_match.specs.Pruned.{CanRegraft, IsRegraft}
 use Rattle.sg_match.specs.State.{State}
 use Rattle.sg_match.specs.Steps.{blossoms_of, rest_of, steps_left, tree_left}
-use Rattle.sg_match.specs.Tree.{IsShape, IsTree, any_top, inners, limb_at, outers}
+use Rattle.sg_match.specs.Tree.{IsTree, any_top, limb_at, outers}
 use Rattle.sg_match.specs.declared.Edge.{Edge}
 use Rattle.sg_match.specs.declared.Limb.{Limb}
-
-none_some : {x : Edge} → ◌≡◌ {A = Option Edge} None (Some x) → ⊥
-none_some e = cc
-
-name_same : {a b : ℕ} → ◌≡◌ {A = Option ℕ} (Some a) (Some b) → a ≡ b
-name_same e = cc
 
 module _ (s : State) (root : ℕ) (engine : IsEngine s) (rooted : s.root ≡ Some root) where
   abbrev f : Family
@@ -44,47 +41,20 @@ module _ (s : State) (root : ℕ) (engine : IsEngine s) (rooted : s.root ≡ Som
   fam = engine.feasible.family
 
   tree : IsTree f price s.pairs root s.limbs
-  tree = subst (λ o. MatchOption o (s.limbs ≡ []) (λ r. IsTree f price s.pairs r s.limbs)) rooted engine.tree
-
-  pub shape : IsShape f root s.limbs
-  shape = record {
-    outer_tops = tree.outer_tops;
-    inner_tops = tree.inner_tops;
-    outer_differ = tree.outer_differ;
-    inner_differ = tree.inner_differ;
-    apart = tree.apart;
-    bond_from = bond_from f price s.pairs root s.limbs fam engine.paired tree;
-    bond_to = tree.bond_to;
-    edge_from = tree.edge_from;
-    edge_to = tree.edge_to;
-  }
-
-  -- there are no more limbs than names
-  pub few_limbs : length s.limbs ≤ length f.nodes
-  few_limbs =
-      omega (arith, length-inners s.limbs, short (inners s.limbs) (length f.nodes) tree.inner_differ (λ i low. name_bound f (get_or (inners s.limbs) i 0) (tree.inner_tops i low).alive))
+  tree = tree_of s engine root rooted
 
   pub all_tight : HasTight f price s.limbs
   all_tight = record {
     edge = tree.edge_tight;
     bond = bond_tight f price s.pairs root s.limbs fam engine.paired tree;
-    symmetric = λ u v low_u low_v. engine.costs.symmetric u v (omega (arith, low_u, engine.leaves)) (omega (arith, low_v, engine.leaves));
+    symmetric = symmetric s engine;
   }
-
-  even : (u v : ℕ) → u < leaf_count f → v < leaf_count f → price u v % 2 ≡ 0
-  even u v low_u low_v = engine.costs.even u v (omega (arith, low_u, engine.leaves)) (omega (arith, low_v, engine.leaves))
-
-  pub edge_leaf : (i : ℕ) → i < length s.limbs → (limb_at s.limbs i).edge.from < leaf_count f
-  edge_leaf i low = leaf_bound f fam (limb_at s.limbs i).inner (limb_at s.limbs i).edge.from (tree.edge_from i low)
-
-  pub bond_leaf : (i : ℕ) → i < length s.limbs → (limb_at s.limbs i).bond.to < leaf_count f
-  bond_leaf i low = leaf_bound f fam (limb_at s.limbs i).outer (limb_at s.limbs i).bond.to (tree.bond_to i low)
 
   -- of the outer tops the root alone is unpaired
   lone_outer : (j n : ℕ) → j < length (outers root s.limbs) → get_or (outers root s.limbs) j 0 ≡ n → pair_of s.pairs n ≡ None → n ≡ root
-  lone_outer j n low at none = elim (outer_cases f price s.pairs root s.limbs fam engine.paired tree j low) [
+  lone_outer j n low at none = elim (outer_cases root s.limbs j low) [
     | inl first ↦ sym at ∙ first.1
-    | inr limb ↦ absurd (none_some (sym none ∙ ap (λ m. pair_of s.pairs m) (sym at ∙ limb.3) ∙ outer_pair f price s.pairs root s.limbs fam engine.paired tree limb.0 limb.1))
+    | inr limb ↦ absurd (none-some _ (sym none ∙ ap (λ m. pair_of s.pairs m) (sym at ∙ limb.3) ∙ outer_pair f price s.pairs root s.limbs fam engine.paired tree limb.0 limb.1))
   ]
 
   module _ (cycle : List Link) (place base : ℕ) (climb : IsClimb f root s.limbs cycle place base base) where
@@ -111,7 +81,7 @@ module _ (s : State) (root : ℕ) (engine : IsEngine s) (rooted : s.root ≡ Som
         | inl out ↦ lone_outer out.0 n out.2 out.3 none
         | inr inn ↦
             let low : inn.0 < length s.limbs = omega (arith, inn.2, length-inners s.limbs) in
-            absurd (none_some (sym none ∙ ap (λ m. pair_of s.pairs m) (sym inn.3 ∙ inner_at s.limbs inn.0 low) ∙ tree.bond inn.0 low))
+            absurd (none-some _ (sym none ∙ ap (λ m. pair_of s.pairs m) (sym inn.3 ∙ inner_at s.limbs inn.0 low) ∙ tree.bond inn.0 low))
       ]
     ]
 
@@ -149,9 +119,9 @@ module _ (s : State) (root : ℕ) (engine : IsEngine s) (rooted : s.root ≡ Som
       | inl head ↦ head
       | inr rest ↦ elim rest [
         | inl out ↦
-            let place_is : out.0 ≡ suc i = tree.outer_differ out.0 (suc i) out.2 within (out.3 ∙ sym (outer_at root s.limbs i low)) in
+            let place_is : out.0 ≡ suc i = tree.shape.outer_differ out.0 (suc i) out.2 within (out.3 ∙ sym (outer_at root s.limbs i low)) in
             absurd (away ((climb.whole i (omega (arith, place_is, out.1)) low).1 is))
-        | inr inn ↦ absurd (tree.apart (suc i) inn.0 within inn.2 (outer_at root s.limbs i low ∙ sym inn.3))
+        | inr inn ↦ absurd (tree.shape.apart (suc i) inn.0 within inn.2 (outer_at root s.limbs i low ∙ sym inn.3))
       ]
     ]
       where
@@ -176,10 +146,10 @@ module _ (s : State) (root : ℕ) (engine : IsEngine s) (rooted : s.root ≡ Som
       pub CanRegraft-shrunk : CanRegraft g (nodes_of cycle) base b s.limbs
       CanRegraft-shrunk = record {
         top = IsTop-shrink f b cycle fam can dead room;
-        hit = λ i low is. in_cycle (limb_at s.limbs i).inner (limb_at s.limbs i).edge.from (inner_top f price s.pairs root s.limbs fam engine.paired tree i low) (tree.edge_from i low) is;
-        miss = λ i low no is. no (in_blossom (limb_at s.limbs i).inner (limb_at s.limbs i).edge.from is (tree.edge_from i low));
-        outer_hit = λ i low away is. outer_is_base i low away (in_cycle (limb_at s.limbs i).outer (limb_at s.limbs i).bond.to (outer_top f price s.pairs root s.limbs fam engine.paired tree i low) (tree.bond_to i low) is);
-        outer_miss = λ i low same. in_blossom (limb_at s.limbs i).outer (limb_at s.limbs i).bond.to (subst (λ n. Contains (nodes_of cycle) n) (sym same) base_in) (tree.bond_to i low);
+        hit = λ i low is. in_cycle (limb_at s.limbs i).inner (limb_at s.limbs i).edge.from (inner_top f root s.limbs tree.shape i low) (tree.shape.edge_from i low) is;
+        miss = λ i low no is. no (in_blossom (limb_at s.limbs i).inner (limb_at s.limbs i).edge.from is (tree.shape.edge_from i low));
+        outer_hit = λ i low away is. outer_is_base i low away (in_cycle (limb_at s.limbs i).outer (limb_at s.limbs i).bond.to (outer_top f root s.limbs tree.shape i low) (tree.shape.bond_to i low) is);
+        outer_miss = λ i low same. in_blossom (limb_at s.limbs i).outer (limb_at s.limbs i).bond.to (subst (λ n. Contains (nodes_of cycle) n) (sym same) base_in) (tree.shape.bond_to i low);
       }
 
       module _ (tight : AreTight f price cycle) (top_root : ℕ) (root_base : root ≡ base → top_root ≡ b) (root_other : root ≢ base → top_root ≡ root) (new : List Limb) (reg : IsRegraft b base (nodes_of cycle) s.limbs new) where
@@ -188,9 +158,6 @@ module _ (s : State) (root : ℕ) (engine : IsEngine s) (rooted : s.root ≡ Som
 
         names : b < length s.pairs
         names = omega (arith, room, engine.room)
-
-        differs_b : (t : ℕ) → IsTop f t → t ≢ b
-        differs_b t top same = not_dead f t top.alive (ap (λ n. node_at f n) same ∙ dead)
 
         now_other : (n : ℕ) → n ≢ b → pair_of now n ≡ pair_of s.pairs n
         now_other n away = get_or-set_other s.pairs b n (pair_of s.pairs base) None away
@@ -204,14 +171,14 @@ module _ (s : State) (root : ℕ) (engine : IsEngine s) (rooted : s.root ≡ Som
             let is_root : get_or s.lonely i 0 ≡ root = lone_node (get_or s.lonely i 0) (subst (λ n. Contains (nodes_of cycle) n) same (node_in cycle k low_k)) (engine.lonely.unpaired i low) in
             engine.lonely.rootless i low (rooted ∙ ap (λ n. Some n) (sym is_root))
 
-        pub IsLonely-shrunk : IsLonely g now (Some top_root) s.lonely
+        IsLonely-shrunk : IsLonely g now (Some top_root) s.lonely
         IsLonely-shrunk =
             record {
               tops = λ i low. IsTop-shrink_other f b cycle fam can dead room (get_or s.lonely i 0) (engine.lonely.tops i low) (λ k low_k. out_of_cycle i k low low_k);
-              unpaired = λ i low. now_other (get_or s.lonely i 0) (differs_b (get_or s.lonely i 0) (engine.lonely.tops i low)) ∙ engine.lonely.unpaired i low;
+              unpaired = λ i low. now_other (get_or s.lonely i 0) (top-not_dead f b dead (get_or s.lonely i 0) (engine.lonely.tops i low)) ∙ engine.lonely.unpaired i low;
               differ = engine.lonely.differ;
               rootless = λ i low same. elim (cases_eq root base) [
-                | inl e ↦ differs_b (get_or s.lonely i 0) (engine.lonely.tops i low) (sym (name_same same) ∙ root_base e)
+                | inl e ↦ top-not_dead f b dead (get_or s.lonely i 0) (engine.lonely.tops i low) (sym (same_Some _ _ same) ∙ root_base e)
                 | inr e ↦ engine.lonely.rootless i low (rooted ∙ ap (λ n. Some n) (sym (root_other e)) ∙ same)
               ];
               every = λ t top none. elim (cases_eq t b) [
@@ -224,7 +191,7 @@ module _ (s : State) (root : ℕ) (engine : IsEngine s) (rooted : s.root ≡ Som
             from_old : (t : ℕ) → IsTop f t × ((i : ℕ) → i < length cycle → (link_at cycle i).node ≢ t) → pair_of s.pairs t ≡ None → (◌≡◌ {A = Option ℕ} (Some top_root) (Some t)) ⊎ ((i : ℕ) × (i < length s.lonely) × (get_or s.lonely i 0 ≡ t))
             from_old t old none = elim (engine.lonely.every t old.0 none) [
               | inl is ↦
-                  let same : root ≡ t = name_same (sym rooted ∙ is) in
+                  let same : root ≡ t = same_Some _ _ (sym rooted ∙ is) in
                   inl (ap (λ n. Some n) (root_other (λ e. old.1 0 some (base_first ∙ sym e ∙ same)) ∙ same))
               | inr at ↦ inr at
             ]
@@ -242,7 +209,7 @@ module _ (s : State) (root : ℕ) (engine : IsEngine s) (rooted : s.root ≡ Som
             kept before gained
           where
             inner_is_top : IsTop f (limb_at s.limbs limb_in.0).inner
-            inner_is_top = inner_top f price s.pairs root s.limbs fam engine.paired tree limb_in.0 limb_in.2
+            inner_is_top = inner_top f root s.limbs tree.shape limb_in.0 limb_in.2
 
             leaf : (l : ℕ) × Holds f (limb_at s.limbs limb_in.0).inner l
             leaf = some_leaf f fam (limb_at s.limbs limb_in.0).inner inner_is_top.alive
@@ -250,38 +217,38 @@ module _ (s : State) (root : ℕ) (engine : IsEngine s) (rooted : s.root ≡ Som
             kept : (l : ℕ) → any_top f (outers root s.limbs) l ≡ true → any_top g (outers top_root new) l ≡ true
             kept l is =
                 let at = place_of_any (λ t. holds f t l) (outers root s.limbs) 0 is in
-                let here = moved f price b cycle engine.feasible dead room tight even s.pairs engine.paired root s.limbs tree place base climb names top_root root_base root_other new reg at.0 l at.1 at.2 in
+                let here = moved f price b cycle engine.feasible dead room tight (even s engine) s.pairs engine.paired root s.limbs tree place base climb names top_root root_base root_other new reg at.0 l at.1 at.2 in
                 list_any_at (λ t. holds g t l) (outers top_root new) here.0 0 here.1 here.2
 
             gained : any_top g (outers top_root new) leaf.0 ≡ true
             gained =
-                let here = inner_taken f price b cycle engine.feasible dead room tight even s.pairs engine.paired root s.limbs tree place base climb names top_root root_base root_other new reg limb_in.0 leaf.0 limb_in.1 limb_in.2 limb_in.3 leaf.1 in
+                let here = inner_taken f price b cycle engine.feasible dead room tight (even s engine) s.pairs engine.paired root s.limbs tree place base climb names top_root root_base root_other new reg limb_in.0 leaf.0 limb_in.1 limb_in.2 limb_in.3 leaf.1 in
                 list_any_at (λ t. holds g t leaf.0) (outers top_root new) here.0 0 here.1 here.2
 
             before : any_top f (outers root s.limbs) leaf.0 ≡ false
             before = elim (cases_Bool (any_top f (outers root s.limbs) leaf.0)) [
               | inl is ↦
                   let at = place_of_any (λ t. holds f t leaf.0) (outers root s.limbs) 0 is in
-                  absurd (tree.apart at.0 limb_in.0 at.1 (omega (arith, limb_in.2, length-inners s.limbs)) (top-apart f fam (get_or (outers root s.limbs) at.0 0) (limb_at s.limbs limb_in.0).inner leaf.0 (tree.outer_tops at.0 at.1) inner_is_top at.2 leaf.1 ∙ sym (inner_at s.limbs limb_in.0 limb_in.2)))
+                  absurd (tree.shape.apart at.0 limb_in.0 at.1 (omega (arith, limb_in.2, length-inners s.limbs)) (top-apart f fam (get_or (outers root s.limbs) at.0 0) (limb_at s.limbs limb_in.0).inner leaf.0 (tree.shape.outer_tops at.0 at.1) inner_is_top at.2 leaf.1 ∙ sym (inner_at s.limbs limb_in.0 limb_in.2)))
               | inr away ↦ away
             ]
 
-        pub fewer_left : steps_left after + 2 ≤ steps_left s
+        fewer_left : steps_left after + 2 ≤ steps_left s
         fewer_left =
             let was : steps_left s ≡ tree_left f s.lonely (Some root) s.limbs + 2 * blossoms_of f = ap (λ o. tree_left f s.lonely o s.limbs + 2 * blossoms_of f) rooted in
             omega (arith, was, rest_falls, blossoms-shrunk f b cycle dead room some)
 
-        pub IsEngine-shrunk : IsEngine after
+        IsEngine-shrunk : IsEngine after
         IsEngine-shrunk = record {
           costs = engine.costs;
           leaves = engine.leaves;
           room = length-set s.pairs b (pair_of s.pairs base) ∙ engine.room ∙ sym (length-with_slot f b (Some (blossom_of f cycle)));
-          feasible = IsFeasible-shrunk f price b cycle engine.feasible can dead room tight even;
-          paired = IsPaired-shrunk f price b cycle engine.feasible can dead room tight even s.pairs engine.paired base 0 some base_first names
-              (closed f price b cycle engine.feasible dead room tight even s.pairs engine.paired root s.limbs tree place base climb)
-              (open_base f price b cycle engine.feasible dead room tight even s.pairs engine.paired root s.limbs tree place base climb);
+          feasible = IsFeasible-shrunk f price b cycle engine.feasible can dead room tight (even s engine);
+          paired = IsPaired-shrunk f price b cycle engine.feasible can dead room tight (even s engine) s.pairs engine.paired base 0 some base_first names
+              (closed f price b cycle engine.feasible dead room tight (even s engine) s.pairs engine.paired root s.limbs tree place base climb)
+              (open_base f price b cycle engine.feasible dead room tight (even s engine) s.pairs engine.paired root s.limbs tree place base climb);
           lonely = IsLonely-shrunk;
-          tree = IsTree-shrunk f price b cycle engine.feasible dead room tight even s.pairs engine.paired root s.limbs tree place base climb names top_root root_base root_other new reg;
+          tree = IsTree-shrunk f price b cycle engine.feasible dead room tight (even s engine) s.pairs engine.paired root s.limbs tree place base climb names top_root root_base root_other new reg;
           left = omega (arith, fewer_left, engine.left);
         }
 

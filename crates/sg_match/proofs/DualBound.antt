@@ -9,7 +9,7 @@ use Rattle.sg_arena.specs.Family.{Family, IsFamily, Node, has_leaf, holds, leaf_
 use Rattle.sg_arena.specs.Slack.{cut_share, duals_between, exactly_one}
 use Rattle.sg_arena.proofs.FamilyLemmas.{size-is}
 use Rattle.sg_arena.proofs.ListLemmas.{cond-same, sum_by-zero}
-use Rattle.sg_match.specs.Matching.{IsLeftOnce, IsMatching, IsPairing, Leaves, NoSlackIsNegative, dual_in, pairing_cost, sum_of_duals}
+use Rattle.sg_match.specs.Matching.{IsLeftOnce, IsMatching, IsPairing, IsExit, NoSlackIsNegative, dual_in, pairing_cost, sum_of_duals}
 use Rattle.sg_match.proofs.PairingSums.{crossings, one_crosses, some_crosses, sum_below-times, sum_by-range}
 
 -- a choice goes into a sum
@@ -46,7 +46,7 @@ module _ (f : Family) (mates : List ℕ) where
       each u (Some n) = weigh (ltb u (mate u)) (exactly_one (has_leaf n.leaves u) (has_leaf n.leaves (mate u))) n.dual
 
   -- the sum over all sets of what the pairs add
-  pub paid-between : sum_below (λ u. cond (ltb u (mate u)) (duals_between f u (mate u)) 0) (leaf_count f) ≡ sum_by paid f.nodes
+  paid-between : sum_below (λ u. cond (ltb u (mate u)) (duals_between f u (mate u)) 0) (leaf_count f) ≡ sum_by paid f.nodes
   paid-between =
       sum_below-same (λ u. cond (ltb u (mate u)) (duals_between f u (mate u)) 0) (λ u. sum_by (λ s. cond (ltb u (mate u)) (cut_share u (mate u) s) 0) f.nodes) (leaf_count f) (λ u l. cond-sum_by (ltb u (mate u)) (cut_share u (mate u)) f.nodes)
       ∙ sym (sum_exchange (λ s u. cond (ltb u (mate u)) (cut_share u (mate u) s) 0) f.nodes (leaf_count f))
@@ -92,7 +92,7 @@ module _ (f : Family) (mates : List ℕ) where
           let pairing = matching.pairing in
           let once : IsLeftOnce f mates name = matching.left name (rw e refl) in
           let w : ℕ = once.one.0 in
-          let exit : Leaves f mates name w = once.one.1 in
+          let exit : IsExit f mates name w = once.one.1 in
           let crossed : crossings (leaf_count f) mate (holds f name) ≡ 1 =
           one_crosses (leaf_count f) mate pairing.low pairing.back pairing.other (holds f name) w exit.low exit.inside (false_from_ne_true (holds f name (mate w)) exit.outside)
           (λ u l in_u out_u. once.only w u exit (record { low = l; inside = in_u; outside = λ h. false≢true (sym out_u ∙ h) })) in

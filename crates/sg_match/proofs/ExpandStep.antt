@@ -1,5 +1,6 @@
 -- What the expansion of an inner blossom of dual 0 makes of the engine's invariant.
 use Rattle.std.proofs.Common.{◌≡◌, ◌≢◌, ◌⊎◌, ℕ, zero, suc, ◌+◌, ◌*◌, ◌<◌, List, [], length, Option, Some, None, refl, sym, ap, ◌∙◌, subst, inl, inr, arith}
+use Rattle.std.proofs.lemmas.Option.{same_Some}
 use Rattle.std.specs.Option.{option_map_or}
 use Rattle.std.proofs.lemmas.Bool.{cases_eq, ne_eqb}
 use Rattle.std.proofs.lemmas.List.{get_or-set_same, get_or-set_other}
@@ -34,12 +35,9 @@ module _ (f : Family) (b : ℕ) (fam : IsFamily f) (top : IsTop f b) (blossom : 
   kid_in : (i l : ℕ) → i < length (cycle_of f b) → Holds g (link_at (cycle_of f b) i).node l → Holds f b l
   kid_in i l low h = child-covered f fam b i low l (sym (holds_rest f b fam top blossom room (link_at (cycle_of f b) i).node l (not_b (link_at (cycle_of f b) i).node (IsTop-expand_child f b fam top blossom room i low))) ∙ h)
 
-  -- part 3: over any ring of the children
+  -- over any ring of the children
   module _ (good : ℕ → ℕ → Type 0) (pairs now : List (Option Edge)) (ring : List Link) (bond : Edge) (paired : IsPaired f good pairs) (is_bond : pair_of pairs b ≡ Some bond) (can : CanShrink g ring) (rung : IsRung pairs now ring bond) (from_kid : (i : ℕ) → i < length ring → (j : ℕ) × (j < length (cycle_of f b)) × ((link_at (cycle_of f b) j).node ≡ (link_at ring i).node)) (to_ring : (j : ℕ) → j < length (cycle_of f b) → (i : ℕ) × (i < length ring) × ((link_at ring i).node ≡ (link_at (cycle_of f b) j).node)) (stem : Holds g (link_at ring 0).node bond.from)
       (fine : (i : ℕ) → i < length ring → good (link_at ring i).from (link_at ring i).to × good (link_at ring i).to (link_at ring i).from) where
-    some_same : {x y : Edge} → ◌≡◌ {A = Option Edge} (Some x) (Some y) → x ≡ y
-    some_same e = cc
-
     -- an old top but the blossom isn't in the ring
     old_out : (t : ℕ) → IsTop f t → (i : ℕ) → i < length ring → (link_at ring i).node ≢ t
     old_out t is i low same = let kid = from_kid i low in top-no_child f fam t b kid.0 is kid.1 (kid.2 ∙ same)
@@ -57,7 +55,7 @@ module _ (f : Family) (b : ℕ) (fam : IsFamily f) (top : IsTop f b) (blossom : 
     in_ring : (i : ℕ) → i < length ring → (p : Edge) → pair_of now (link_at ring i).node ≡ Some p → Pairing (link_at ring i).node p
     unfolding Pairing
     in_ring zero low p is =
-        let e : bond ≡ p = some_same (sym rung.first ∙ is) in
+        let e : bond ≡ p = same_Some _ _ (sym rung.first ∙ is) in
         subst (λ x. Holds g (link_at ring 0).node x.from × good x.from x.to × ((s : ℕ) × IsTop g s × (s ≢ (link_at ring 0).node) × Holds g s x.to × (pair_of now s ≡ Some (flipped x)))) e (
           stem,
           paired.tight b bond top is_bond,
@@ -69,7 +67,7 @@ module _ (f : Family) (b : ℕ) (fam : IsFamily f) (top : IsTop f b) (blossom : 
           let more : 2 * at.0 + 2 < length ring = omega (arith, low, here, can.closed.odd) in
           let a = link_at ring (2 * at.0 + 1) in
           let c = link_at ring (2 * at.0 + 2) in
-          let e : record { from = a.from; to = a.to } ≡ p = some_same (sym (rung.odd at.0 more) ∙ ap (λ k. pair_of now (link_at ring k).node) (sym here) ∙ is) in
+          let e : record { from = a.from; to = a.to } ≡ p = same_Some _ _ (sym (rung.odd at.0 more) ∙ ap (λ k. pair_of now (link_at ring k).node) (sym here) ∙ is) in
           let low_a : 2 * at.0 + 1 < length ring = omega (arith, more) in
           let to : Holds g c.node a.to = subst (λ k. Holds g (link_at ring k).node a.to) (after_is (2 * at.0 + 1) (omega (arith, more)) ∙ plus (2 * at.0)) (can.closed.to (2 * at.0 + 1) low_a) in
           subst (λ k. Holds g (link_at ring k).node p.from × good p.from p.to × ((s : ℕ) × IsTop g s × (s ≢ (link_at ring k).node) × Holds g s p.to × (pair_of now s ≡ Some (flipped p)))) (sym here)
@@ -83,7 +81,7 @@ module _ (f : Family) (b : ℕ) (fam : IsFamily f) (top : IsTop f b) (blossom : 
           let more : 2 * at.0 + 2 < length ring = omega (arith, low, here) in
           let a = link_at ring (2 * at.0 + 1) in
           let c = link_at ring (2 * at.0 + 2) in
-          let e : record { from = a.to; to = a.from } ≡ p = some_same (sym (rung.even at.0 more) ∙ ap (λ k. pair_of now (link_at ring k).node) (sym here) ∙ is) in
+          let e : record { from = a.to; to = a.from } ≡ p = same_Some _ _ (sym (rung.even at.0 more) ∙ ap (λ k. pair_of now (link_at ring k).node) (sym here) ∙ is) in
           let low_a : 2 * at.0 + 1 < length ring = omega (arith, more) in
           let to : Holds g c.node a.to = subst (λ k. Holds g (link_at ring k).node a.to) (after_is (2 * at.0 + 1) (omega (arith, more)) ∙ plus (2 * at.0)) (can.closed.to (2 * at.0 + 1) low_a) in
           subst (λ k. Holds g (link_at ring k).node p.from × good p.from p.to × ((s : ℕ) × IsTop g s × (s ≢ (link_at ring k).node) × Holds g s p.to × (pair_of now s ≡ Some (flipped p)))) (sym here)
@@ -106,7 +104,7 @@ module _ (f : Family) (b : ℕ) (fam : IsFamily f) (top : IsTop f b) (blossom : 
           paired.tight t p is was,
           elim (cases_eq s.0 b) [
             | inl same ↦
-                let e : bond ≡ flipped p = some_same (sym is_bond ∙ ap (λ n. pair_of pairs n) (sym same) ∙ s.4) in
+                let e : bond ≡ flipped p = same_Some _ _ (sym is_bond ∙ ap (λ n. pair_of pairs n) (sym same) ∙ s.4) in
                 ((link_at ring 0).node, can.tops 0 (omega (arith, can.closed.long)), old_out t is 0 (omega (arith, can.closed.long)), subst (λ (x : Edge). Holds g (link_at ring 0).node x.from) e stem, rung.first ∙ ap (λ x. Some x) e)
             | inr differs ↦ (s.0, old_top s.0 s.1 differs, s.2, holds_rest f b fam top blossom room s.0 p.to differs ∙ s.3, rung.others s.0 (old_out s.0 s.1) ∙ s.4)
           ],

@@ -1,12 +1,12 @@
 -- One limb of the way to the root, turned over.
-use Rattle.std.proofs.Common.{◌≡◌, ◌≢◌, Bool, true, false, cond, sum_by, ℕ, suc, ◌+◌, ◌<◌, ◌≤◌, List, [], ◌∷◌, length, Option, Some, None, get_or, set, refl, sym, ap, ◌∙◌, subst, ◌⊎◌, inl, inr, arith}
+use Rattle.std.proofs.Common.{◌≡◌, ◌≢◌, ℕ, suc, ◌+◌, ◌<◌, ◌≤◌, List, length, Option, Some, None, get_or, set, sym, ap, ◌∙◌, subst, ◌⊎◌, inl, inr, arith}
+use Rattle.std.proofs.lemmas.Option.{none-some}
 use Rattle.std.proofs.lemmas.Bool.{cases_eq}
-use Rattle.std.proofs.lemmas.List.Sums.{sum_by-cons}
 use Rattle.std.proofs.Math.ListN.{length-set}
 use Rattle.sg_arena.proofs.FamilyLemmas.{leaf_bound, top-apart}
-use Rattle.sg_arena.specs.Family.{Family, Holds, IsFamily, IsTop, Node, has_leaf}
-use Rattle.sg_arena.specs.Slack.{cut_share, duals_between, exactly_one}
+use Rattle.sg_arena.specs.Family.{Family, Holds, IsFamily, IsTop}
 use Rattle.sg_match.proofs.PairLemmas.{IsPaired-part, IsPaired-wed, twice_first, twice_other, twice_second}
+use Rattle.sg_match.proofs.TightLemmas.{tight-back}
 use Rattle.sg_match.proofs.TreeLemmas.{inner_at, inner_top, length-inners, length-outers, outer_at, outer_pair, outer_top}
 use Rattle.sg_match.specs.Augmented.{CanFlip, Flipped}
 use Rattle.sg_match.specs.Feasible.{IsTight}
@@ -34,27 +34,6 @@ pub record IsFlipping (f : Family) (cost : ℕ → ℕ → ℕ) (old now : List 
   pub fewer : (n : ℕ) → pair_of now n ≡ None → (n ≡ there) ⊎ ((pair_of old n ≡ None) × ((IsTop f n × Holds f n v) → ⊥))
   pub others : (n : ℕ) → IsTop f n → pair_of old n ≡ None → (Holds f n v → ⊥) → pair_of now n ≡ None
 
--- the duals between two leaves, either way round
-pub between-back : (f : Family) (u v : ℕ) → duals_between f u v ≡ duals_between f v u
-between-back f u v = go f.nodes
-  where
-    either : (a b : Bool) → exactly_one a b ≡ exactly_one b a
-    either true true = refl
-    either true false = refl
-    either false true = refl
-    either false false = refl
-
-    each : (o : Option Node) → cut_share u v o ≡ cut_share v u o
-    each None = refl
-    each (Some n) = ap (λ t. cond t n.dual 0) (either (has_leaf n.leaves u) (has_leaf n.leaves v))
-
-    go : (slots : List (Option Node)) → sum_by (cut_share u v) slots ≡ sum_by (cut_share v u) slots
-    go [] = refl
-    go (o ∷ rest) = omega (arith, go rest, each o, sum_by-cons (cut_share u v) o rest, sum_by-cons (cut_share v u) o rest)
-
-pub tight-back : (f : Family) (cost : ℕ → ℕ → ℕ) (u v : ℕ) → cost u v ≡ cost v u → IsTight f cost u v → IsTight f cost v u
-tight-back f cost u v same tight = between-back f v u ∙ tight ∙ same
-
 module _ (f : Family) (cost : ℕ → ℕ → ℕ) (old now : List (Option Edge)) (root : ℕ) (limbs : List Limb) (u v : ℕ) (fam : IsFamily f) (can : CanFlip f cost old root limbs u v) (names : (t : ℕ) → IsTop f t → t < length now) where
   -- before the first limb
   pub IsFlipping-init : now ≡ old → (here there : ℕ) → IsTop f here → IsTop f there → Holds f here u → Holds f there v → IsFlipping f cost old now root limbs v (length limbs) here there (record { from = u; to = v })
@@ -65,7 +44,7 @@ module _ (f : Family) (cost : ℕ → ℕ → ℕ) (old now : List (Option Edge)
         paired = subst (λ p. IsPaired f (IsTight f cost) p) (sym same) can.paired;
         place = at.0;
         low = omega (arith, at.1, length-outers root limbs);
-        at = top-apart f fam (get_or (outers root limbs) at.0 0) here u (can.tree.outer_tops at.0 at.1) top_here at.2 in_here;
+        at = top-apart f fam (get_or (outers root limbs) at.0 0) here u (can.tree.shape.outer_tops at.0 at.1) top_here at.2 in_here;
         lone = ap (λ p. pair_of p there) same ∙ out.1;
         fresh = inl in_there;
         out_outer = λ j low. out.0.outer j (omega (arith, low, length-outers root limbs));
@@ -118,10 +97,10 @@ module _ (f : Family) (cost : ℕ → ℕ → ℕ) (old now : List (Option Edge)
     wedded = set (set parted limb.outer (Some edge)) there (Some (flipped edge))
 
     top_in : IsTop f limb.inner
-    top_in = inner_top f cost old root limbs fam can.paired can.tree i within
+    top_in = inner_top f root limbs can.tree.shape i within
 
     top_out : IsTop f limb.outer
-    top_out = outer_top f cost old root limbs fam can.paired can.tree i within
+    top_out = outer_top f root limbs can.tree.shape i within
 
     low_in : i < length (inners limbs)
     low_in = omega (arith, within, length-inners limbs)
@@ -133,7 +112,7 @@ module _ (f : Family) (cost : ℕ → ℕ → ℕ) (old now : List (Option Edge)
     count = length-set (set now limb.inner None) limb.outer None ∙ length-set now limb.inner None
 
     in_out : limb.inner ≢ limb.outer
-    in_out e = can.tree.apart (suc i) i low_out low_in (outer_at root limbs i within ∙ sym e ∙ sym (inner_at limbs i within))
+    in_out e = can.tree.shape.apart (suc i) i low_out low_in (outer_at root limbs i within ∙ sym e ∙ sym (inner_at limbs i within))
 
     out_there : limb.outer ≢ there
     out_there e = is.out_outer (suc i) (omega arith) (outer_at root limbs i within ∙ e)
@@ -145,7 +124,7 @@ module _ (f : Family) (cost : ℕ → ℕ → ℕ) (old now : List (Option Edge)
     bonded = ap (λ n. pair_of now n) (sym (inner_at limbs i within)) ∙ is.same_inner i (omega arith) ∙ ap (λ n. pair_of old n) (inner_at limbs i within) ∙ can.tree.bond i within
 
     paired_parted : IsPaired f (IsTight f cost) parted
-    paired_parted = IsPaired-part f (IsTight f cost) now fam is.paired limb.inner limb.outer top_in top_out (names limb.inner top_in) (names limb.outer top_out) limb.bond bonded (can.tree.bond_to i within)
+    paired_parted = IsPaired-part f (IsTight f cost) now fam is.paired limb.inner limb.outer top_in top_out (names limb.inner top_in) (names limb.outer top_out) limb.bond bonded (can.tree.shape.bond_to i within)
 
     from_out : Holds f limb.outer edge.from
     from_out = subst (λ n. Holds f n edge.from) (sym same) is.from
@@ -167,38 +146,38 @@ module _ (f : Family) (cost : ℕ → ℕ → ℕ) (old now : List (Option Edge)
 
     pub IsFlipping-turn : (next : ℕ) → IsTop f next → Holds f next limb.edge.to → IsFlipping f cost old wedded root limbs v i next limb.inner (flipped limb.edge)
     IsFlipping-turn next top_next in_next =
-        let up = can.tree.edge_to i within in
+        let up = can.tree.shape.edge_to i within in
         let low_up : up.0 < length (outers root limbs) = omega (arith, up.1, within, length-outers root limbs) in
         record {
           paired = paired_wedded;
           place = up.0;
           low = up.1;
-          at = top-apart f fam (get_or (outers root limbs) up.0 0) next limb.edge.to (can.tree.outer_tops up.0 low_up) top_next up.2 in_next;
+          at = top-apart f fam (get_or (outers root limbs) up.0 0) next limb.edge.to (can.tree.shape.outer_tops up.0 low_up) top_next up.2 in_next;
           lone = new_lone;
-          fresh = inr (λ none. some_none (sym (can.tree.bond i within) ∙ none));
-          out_outer = λ j low e. can.tree.apart j i (omega (arith, low, within, length-outers root limbs)) low_in (e ∙ sym (inner_at limbs i within));
-          out_inner = λ j low e. absurd (omega (arith, low, can.tree.inner_differ j i (omega (arith, low, low_in)) low_in (e ∙ sym (inner_at limbs i within))));
+          fresh = inr (λ none. none-some _ (sym (sym (can.tree.bond i within) ∙ none)));
+          out_outer = λ j low e. can.tree.shape.apart j i (omega (arith, low, within, length-outers root limbs)) low_in (e ∙ sym (inner_at limbs i within));
+          out_inner = λ j low e. absurd (omega (arith, low, can.tree.shape.inner_differ j i (omega (arith, low, low_in)) low_in (e ∙ sym (inner_at limbs i within))));
           from = in_next;
-          to = can.tree.edge_from i within;
-          tight = tight-back f cost limb.edge.from limb.edge.to (can.symmetric limb.edge.from limb.edge.to (leaf_bound f fam limb.inner limb.edge.from (can.tree.edge_from i within)) (leaf_bound f fam next limb.edge.to in_next)) (can.tree.edge_tight i within);
+          to = can.tree.shape.edge_from i within;
+          tight = tight-back f cost limb.edge.from limb.edge.to (can.symmetric limb.edge.from limb.edge.to (leaf_bound f fam limb.inner limb.edge.from (can.tree.shape.edge_from i within)) (leaf_bound f fam next limb.edge.to in_next)) (can.tree.edge_tight i within);
           same_outer = λ j low.
               kept (get_or (outers root limbs) j 0)
-              (λ e. can.tree.apart j i (omega (arith, low, within, length-outers root limbs)) low_in (e ∙ sym (inner_at limbs i within)))
-              (λ e. absurd (omega (arith, low, can.tree.outer_differ j (suc i) (omega (arith, low, within, length-outers root limbs)) low_out (e ∙ sym (outer_at root limbs i within)))))
+              (λ e. can.tree.shape.apart j i (omega (arith, low, within, length-outers root limbs)) low_in (e ∙ sym (inner_at limbs i within)))
+              (λ e. absurd (omega (arith, low, can.tree.shape.outer_differ j (suc i) (omega (arith, low, within, length-outers root limbs)) low_out (e ∙ sym (outer_at root limbs i within)))))
               (is.out_outer j (omega (arith, low)))
               ∙ is.same_outer j (omega (arith, low));
           same_inner = λ j low.
               kept (get_or (inners limbs) j 0)
-              (λ e. absurd (omega (arith, low, can.tree.inner_differ j i (omega (arith, low, low_in)) low_in (e ∙ sym (inner_at limbs i within)))))
-              (λ e. can.tree.apart (suc i) j low_out (omega (arith, low, low_in)) (outer_at root limbs i within ∙ sym e))
+              (λ e. absurd (omega (arith, low, can.tree.shape.inner_differ j i (omega (arith, low, low_in)) low_in (e ∙ sym (inner_at limbs i within)))))
+              (λ e. can.tree.shape.apart (suc i) j low_out (omega (arith, low, low_in)) (outer_at root limbs i within ∙ sym e))
               (is.out_inner j (omega (arith, low)))
               ∙ is.same_inner j (omega (arith, low));
           fewer = λ n none. elim (cases_eq n limb.inner) [
             | inl here ↦ inl here
             | inr a ↦ elim (cases_eq n there) [
-              | inl at ↦ absurd (some_none (sym (twice_second parted limb.outer there (Some edge) (Some (flipped edge)) (omega (arith, names there top_there, count))) ∙ ap (λ m. pair_of wedded m) (sym at) ∙ none))
+              | inl at ↦ absurd (none-some _ (sym (sym (twice_second parted limb.outer there (Some edge) (Some (flipped edge)) (omega (arith, names there top_there, count))) ∙ ap (λ m. pair_of wedded m) (sym at) ∙ none)))
               | inr c ↦ elim (cases_eq n limb.outer) [
-                | inl at ↦ absurd (some_none (sym (twice_first parted limb.outer there (Some edge) (Some (flipped edge)) (omega (arith, names limb.outer top_out, count)) out_there) ∙ ap (λ m. pair_of wedded m) (sym at) ∙ none))
+                | inl at ↦ absurd (none-some _ (sym (sym (twice_first parted limb.outer there (Some edge) (Some (flipped edge)) (omega (arith, names limb.outer top_out, count)) out_there) ∙ ap (λ m. pair_of wedded m) (sym at) ∙ none)))
                 | inr b ↦ elim (is.fewer n (sym (kept n a b c) ∙ none)) [ inl clash ↦ absurd (c clash) | inr rest ↦ inr rest ]
               ]
             ]
@@ -206,15 +185,12 @@ module _ (f : Family) (cost : ℕ → ℕ → ℕ) (old now : List (Option Edge)
           others = λ n top none away.
               let was = is.others n top none away in
               kept n
-              (λ e. absurd (some_none (sym bonded ∙ ap (λ m. pair_of now m) (sym e) ∙ was)))
-              (λ e. absurd (some_none (sym (out_bonded) ∙ ap (λ m. pair_of now m) (sym e) ∙ was)))
+              (λ e. absurd (none-some _ (sym (sym bonded ∙ ap (λ m. pair_of now m) (sym e) ∙ was))))
+              (λ e. absurd (none-some _ (sym (sym (out_bonded) ∙ ap (λ m. pair_of now m) (sym e) ∙ was))))
               (λ e. elim is.fresh [ inl holds ↦ away (subst (λ m. Holds f m v) (sym e) holds) | inr some ↦ some (ap (λ m. pair_of old m) (sym e) ∙ none) ])
               ∙ was;
         }
       where
-        some_none : {x : Edge} → ◌≡◌ {A = Option Edge} (Some x) None → ⊥
-        some_none e = cc
-
         out_bonded : pair_of now limb.outer ≡ Some (flipped limb.bond)
         out_bonded =
             ap (λ n. pair_of now n) (sym (outer_at root limbs i within)) ∙ is.same_outer (suc i) (omega arith) ∙ ap (λ n. pair_of old n) (outer_at root limbs i within)
@@ -226,7 +202,7 @@ module _ (f : Family) (cost : ℕ → ℕ → ℕ) (old now : List (Option Edge)
     done = set (set now root (Some edge)) there (Some (flipped edge))
 
     root_top : IsTop f root
-    root_top = can.tree.outer_tops 0 (omega (arith, length-outers root limbs))
+    root_top = can.tree.shape.outer_tops 0 (omega (arith, length-outers root limbs))
 
     here_root : root ≡ here
     here_root = ap (λ j. get_or (outers root limbs) j 0) (zero_is is.place is.low) ∙ is.at
@@ -250,9 +226,9 @@ module _ (f : Family) (cost : ℕ → ℕ → ℕ) (old now : List (Option Edge)
           paired = IsPaired-wed f (IsTight f cost) now fam is.paired root there root_top top_there (names root root_top) (names there top_there) edge apart lone_root is.lone in_root is.to is.tight
               (tight-back f cost edge.from edge.to (can.symmetric edge.from edge.to (leaf_bound f fam root edge.from in_root) (leaf_bound f fam there edge.to is.to)) is.tight);
           fewer = λ n none. elim (cases_eq n there) [
-            | inl at ↦ absurd (some_none (sym (twice_second now root there (Some edge) (Some (flipped edge)) (names there top_there)) ∙ ap (λ m. pair_of done m) (sym at) ∙ none))
+            | inl at ↦ absurd (none-some _ (sym (sym (twice_second now root there (Some edge) (Some (flipped edge)) (names there top_there)) ∙ ap (λ m. pair_of done m) (sym at) ∙ none)))
             | inr a ↦ elim (cases_eq n root) [
-              | inl at ↦ absurd (some_none (sym (twice_first now root there (Some edge) (Some (flipped edge)) (names root root_top) apart) ∙ ap (λ m. pair_of done m) (sym at) ∙ none))
+              | inl at ↦ absurd (none-some _ (sym (sym (twice_first now root there (Some edge) (Some (flipped edge)) (names root root_top) apart) ∙ ap (λ m. pair_of done m) (sym at) ∙ none)))
               | inr b ↦ elim (is.fewer n (sym (twice_other now root there n (Some edge) (Some (flipped edge)) b a) ∙ none)) [ inl clash ↦ absurd (a clash) | inr rest ↦ (rest.0, b, rest.1) ]
             ]
           ];
@@ -261,6 +237,3 @@ module _ (f : Family) (cost : ℕ → ℕ → ℕ) (old now : List (Option Edge)
               (λ e. elim is.fresh [ inl holds ↦ away (subst (λ m. Holds f m v) (sym e) holds) | inr some ↦ some (ap (λ m. pair_of old m) (sym e) ∙ none) ])
               ∙ is.others n top none away;
         }
-      where
-        some_none : {x : Edge} → ◌≡◌ {A = Option Edge} (Some x) None → ⊥
-        some_none e = cc

@@ -6,7 +6,8 @@ use Rattle.sg_arena.specs.Family.{Family, Holds, IsTop, link_at}
 use Rattle.sg_arena.specs.declared.Link.{Link}
 use Rattle.sg_match.proofs.TreeLemmas.{inner_at, length-inners, length-outers, outer_at}
 use Rattle.sg_match.specs.Feasible.{IsTight}
-use Rattle.sg_match.specs.Grafts.{IsGraft, IsRegrow}
+use Rattle.sg_match.specs.Grafts.{IsGraft}
+use Rattle.sg_match.specs.Regrown.{IsRegrow}
 use Rattle.sg_match.specs.Pairs.{pair_of}
 use Rattle.sg_match.specs.Tree.{IsOut, IsTree, inners, limb_at, outers}
 use Rattle.sg_match.specs.declared.Edge.{Edge}
@@ -16,19 +17,22 @@ use Rattle.sg_match.specs.declared.Limb.{Limb}
 pub IsTree-regrown : (g : Family) (cost : ℕ → ℕ → ℕ) (now : List (Option Edge)) (root : ℕ) (limbs : List Limb) (ring : List Link) (place : ℕ) → IsRegrow g cost now root limbs ring place 0 → IsTree g cost now root limbs
 IsTree-regrown g cost now root limbs ring place is =
     record {
-      outer_tops = is.outer_tops;
-      inner_tops = is.inner_tops;
-      outer_differ = is.outer_differ;
-      inner_differ = is.inner_differ;
-      apart = is.apart;
+      shape = record {
+        outer_tops = is.outer_tops;
+        inner_tops = is.inner_tops;
+        outer_differ = is.outer_differ;
+        inner_differ = is.inner_differ;
+        apart = is.apart;
+        bond_from = is.bond_from;
+        bond_to = is.bond_to;
+        edge_from = λ i low. elim (cases_eq i place) [
+          | inl same ↦ subst (λ k. Holds g (limb_at limbs k).inner (limb_at limbs k).edge.from) (sym same) (subst (λ n. Holds g n (limb_at limbs place).edge.from) (sym is.stem) is.edge_door)
+          | inr differs ↦ is.edge_from i low differs
+        ];
+        edge_to = is.edge_to;
+      };
       lone_root = is.lone_root;
       bond = is.bond;
-      bond_to = is.bond_to;
-      edge_from = λ i low. elim (cases_eq i place) [
-        | inl same ↦ subst (λ k. Holds g (limb_at limbs k).inner (limb_at limbs k).edge.from) (sym same) (subst (λ n. Holds g n (limb_at limbs place).edge.from) (sym is.stem) is.edge_door)
-        | inr differs ↦ is.edge_from i low differs
-      ];
-      edge_to = is.edge_to;
       edge_tight = is.edge_tight;
     }
 
@@ -139,6 +143,10 @@ module _ (g : Family) (cost : ℕ → ℕ → ℕ) (now : List (Option Edge)) (r
     bond = λ k low. elim (slot k low) [
       | is_new same ↦ subst (λ x. pair_of now (limb_at new x).inner ≡ Some (limb_at new x).bond) (sym same) (subst (λ (l : Limb). pair_of now l.inner ≡ Some l.bond) (sym graft.first) paired)
       | is_old j low_j at a o b e ↦ ap (λ n. pair_of now n) a ∙ is.bond j low_j ∙ ap (λ x. Some x) (sym b)
+    ];
+    bond_from = λ k low. elim (slot k low) [
+      | is_new same ↦ subst (λ x. Holds g (limb_at new x).inner (limb_at new x).bond.from) (sym same) (subst (λ (l : Limb). Holds g l.inner l.bond.from) (sym graft.first) (can.closed.from d low_d))
+      | is_old j low_j at a o b e ↦ subst (λ (x : Edge). Holds g (limb_at new k).inner x.from) (sym b) (subst (λ n. Holds g n (limb_at limbs j).bond.from) (sym a) (is.bond_from j low_j))
     ];
     bond_to = λ k low. elim (slot k low) [
       | is_new same ↦ subst (λ x. Holds g (limb_at new x).outer (limb_at new x).bond.to) (sym same) (subst (λ (l : Limb). Holds g l.outer l.bond.to) (sym graft.first) to_one)

@@ -5,7 +5,7 @@ use Rattle.std.proofs.lemmas.Int.{ints}
 use Rattle.std.specs.Int.{int_min}
 use Rattle.sg_arena.specs.Family.{Family, IsBlossom, cycle_of, dual_of}
 use Rattle.sg_arena.specs.declared.Link.{Link}
-use Rattle.sg_match.specs.Amount.{IsFlat, IsLeastFlat}
+use Rattle.sg_match.specs.Flat.{IsFlat, IsLeastFlat}
 use Rattle.sg_match.specs.Tree.{limb_at}
 use Rattle.sg_match.specs.declared.Limb.{Limb}
 

@@ -1,5 +1,6 @@
 pub mod PairLemmas
 pub mod TreeLemmas
+pub mod EngineLemmas
 pub mod RaiseStep
 pub mod FlipLemmas
 pub mod ClimbLemmas
@@ -13,6 +14,8 @@ pub mod GrowStep
 pub mod RegraftLemmas
 pub mod ParityLemmas
 pub mod NameLemmas
+pub mod NodeLemmas
+pub mod TightLemmas
 pub mod OpeningLemmas
 pub mod CloseStep
 pub mod ReachStep

@@ -1,18 +1,19 @@
--- Listing the tops by name, and writing the mates of the leaves.
-use Rattle.std.proofs.Common.{List, Option, Some, [], ap, arith, get_or, inl, inr, length, length-append, refl, set, subst, sym, ℕ, ◌+◌, ◌++◌, ◌-◌, ◌<◌, ◌∙◌, ◌∷◌, ◌≡◌, ◌≤◌, ◌⊎◌}
+-- Listing the tops by name, and writing the mates of the leaves listed.
+use Rattle.std.proofs.Common.{List, Option, Some, [], ap, arith, get_or, inl, inr, length, length-append, set, subst, sym, ℕ, ◌+◌, ◌++◌, ◌<◌, ◌∙◌, ◌∷◌, ◌≡◌, ◌≤◌}
+use Rattle.std.proofs.lemmas.Option.{same_Some}
 use Rattle.std.proofs.Math.ListN.{length-set}
-use Rattle.std.proofs.lemmas.Bool.{cases_eq, cases_lt}
-use Rattle.std.proofs.lemmas.List.{get_or-append_right, get_or-set_other, get_or-set_same, get_or_append_left}
+use Rattle.std.proofs.lemmas.Bool.{cases_eq}
+use Rattle.std.proofs.lemmas.List.{get_or-set_other, get_or-set_same}
+use Rattle.std.proofs.Math.Seq.{get_or-append_seam}
 use Rattle.sg_arena.proofs.FamilyLemmas.{leaf_bound, name_bound}
 use Rattle.sg_arena.specs.Family.{Family, Holds, IsFamily, IsTop, cycle_of, leaf_count, leaf_node}
 use Rattle.sg_arena.specs.declared.Link.{Link}
 use Rattle.sg_match.proofs.AboveLemmas.{plain_is}
-use Rattle.sg_match.proofs.NameLemmas.{short}
-use Rattle.sg_match.proofs.SettledLemmas.{some_same}
+use Rattle.sg_match.proofs.NameLemmas.{Differ-last, at_end, short}
 use Rattle.sg_match.proofs.SettlingLemmas.{Stands-left}
 use Rattle.sg_match.specs.Pairs.{pair_of}
-use Rattle.sg_match.specs.Path.{Differ}
-use Rattle.sg_match.specs.Settled.{HasOwn, ListsTops, Stands}
+use Rattle.sg_match.specs.Names.{Differ, Stands}
+use Rattle.sg_match.specs.Settled.{HasOwn, ListsTops}
 use Rattle.sg_match.specs.declared.Edge.{Edge}
 
 -- the list has each top with a name below a number once, and nothing else
@@ -48,41 +49,20 @@ module _ (f : Family) where
 
     pub ListsBelow-more : IsTop f count → ListsBelow f (names ++ count ∷ []) (count + 1)
     ListsBelow-more top = record {
-      tops = λ k low. elim (cases_entry k low) [
+      tops = λ k low. elim (at_end names count 0 k low) [
         | inl at ↦ subst (λ n. IsTop f n) (sym at.1) (was.tops k at.0)
         | inr at ↦ subst (λ n. IsTop f n) (sym at.1) top
       ];
-      below = λ k low. elim (cases_entry k low) [
+      below = λ k low. elim (at_end names count 0 k low) [
         | inl at ↦ omega (arith, at.1, was.below k at.0)
         | inr at ↦ omega (arith, at.1)
       ];
-      differ = λ i j low_i low_j same. elim (cases_entry i low_i) [
-        | inl a ↦ elim (cases_entry j low_j) [
-          | inl b ↦ was.differ i j a.0 b.0 (sym a.1 ∙ same ∙ b.1)
-          | inr b ↦ absurd (omega (arith, a.1, b.1, same, was.below i a.0))
-        ]
-        | inr a ↦ elim (cases_entry j low_j) [
-          | inl b ↦ absurd (omega (arith, a.1, b.1, same, was.below j b.0))
-          | inr b ↦ omega (arith, a.0, b.0)
-        ]
-      ];
+      differ = Differ-last names count was.differ (λ i low same. absurd (omega (arith, same, was.below i low)));
       every = λ t is low. elim (cases_eq t count) [
-        | inl same ↦ (length names, omega (arith, length-append names (count ∷ [])), get_or-append_right names (count ∷ []) (length names) (length names) 0 refl (omega arith) ∙ ap (λ k. get_or (count ∷ []) k 0) none ∙ sym same)
+        | inl same ↦ (length names, omega (arith, length-append names (count ∷ [])), get_or-append_seam names count [] 0 ∙ sym same)
         | inr differs ↦ Stands-left names (count ∷ []) t (was.every t is (omega (arith, low, differs)))
       ];
     }
-      where
-        none : length names - length names ≡ 0
-        none = omega arith
-
-        cases_entry : (k : ℕ) → k < length (names ++ count ∷ []) → ((k < length names) × (get_or (names ++ count ∷ []) k 0 ≡ get_or names k 0)) ⊎ ((k ≡ length names) × (get_or (names ++ count ∷ []) k 0 ≡ count))
-        cases_entry k low = elim (cases_lt k (length names)) [
-          | inl old ↦ inl (old, get_or_append_left names (count ∷ []) 0 k old)
-          | inr new ↦
-              let here : k ≡ length names = omega (arith, new, low, length-append names (count ∷ [])) in
-              let first : k - length names ≡ 0 = omega (arith, here) in
-              inr (here, get_or-append_right names (count ∷ []) (length names) k 0 refl new ∙ ap (λ j. get_or (count ∷ []) j 0) first)
-        ]
 
     pub ListsTops-done : (fam : IsFamily f) → length f.nodes ≤ count → ListsTops f names
     ListsTops-done fam whole = record {
@@ -100,7 +80,7 @@ module _ (f : Family) (fam : IsFamily f) (pairs : List (Option Edge)) (nodes : L
   own_from : (k : ℕ) (p : Edge) → k < length nodes → pair_of pairs (get_or nodes k 0) ≡ Some p → Holds f (get_or nodes k 0) p.from
   own_from k p low is =
       let mine = own k low in
-      subst (λ (x : Edge). Holds f (get_or nodes k 0) x.from) (some_same (sym mine.is ∙ is)) mine.from
+      subst (λ (x : Edge). Holds f (get_or nodes k 0) x.from) (same_Some _ _ (sym mine.is ∙ is)) mine.from
 
   pub written_low : (k : ℕ) (p : Edge) → k < length nodes → pair_of pairs (get_or nodes k 0) ≡ Some p → p.from < leaf_count f
   written_low k p low is = leaf_bound f fam (get_or nodes k 0) p.from (own_from k p low is)
@@ -120,7 +100,7 @@ module _ (f : Family) (fam : IsFamily f) (pairs : List (Option Edge)) (nodes : L
       count = length-set mates p.from p.to ∙ was.count;
       written = λ j q below plain is_q. elim (cases_eq j k) [
         | inl same ↦
-            let e : p ≡ q = some_same (sym is ∙ ap (λ i. pair_of pairs (get_or nodes i 0)) (sym same) ∙ is_q) in
+            let e : p ≡ q = same_Some _ _ (sym is ∙ ap (λ i. pair_of pairs (get_or nodes i 0)) (sym same) ∙ is_q) in
             ap (λ (x : Edge). get_or (set mates p.from p.to) x.from 0) (sym e) ∙ get_or-set_same mates p.from p.to 0 (omega (arith, written_low k p low is, was.count)) ∙ ap (λ (x : Edge). x.to) e
         | inr differs ↦
             let less : j < k = omega (arith, below, differs) in

@@ -1,11 +1,14 @@
--- Different names below a room are no more than the room.
-use Rattle.std.proofs.Common.{◌≡◌, ◌≢◌, ℕ, suc, ◌<◌, ◌≤◌, false, eqb, List, [], ◌∷◌, length, get_or, sym, subst, arith}
+-- Lists of different names.
+use Rattle.std.proofs.Common.{ap, ◌≡◌, ◌≢◌, ℕ, suc, ◌<◌, ◌≤◌, false, eqb, List, [], ◌∷◌, length, get_or, sym, subst, arith, zero, ◌-◌, ◌⊎◌, ◌++◌, Contains, refl, ◌∙◌, inl, inr, length-append}
 use Rattle.std.specs.List.{AllByRecursion, IsDistinct}
-use Rattle.std.proofs.lemmas.Bool.{eqb-true, ne_eqb}
+use Rattle.std.proofs.lemmas.Bool.{cases_lt, eqb-true, ne_eqb}
+use Rattle.std.proofs.lemmas.List.{get_or_append_left, get_or_default}
+use Rattle.std.proofs.lemmas.List.Elements.{Contains-get_or}
+use Rattle.std.proofs.Math.Seq.{get_or-append_right, get_or-append_seam}
 use Rattle.std.proofs.lemmas.Map.Keys.{IsDistinct-cons}
 use Rattle.std.proofs.lemmas.Map.Steps.{length-le_from_distinct_below}
 use Rattle.sg_arena.proofs.ListLemmas.{place_of_any}
-use Rattle.sg_match.specs.Path.{Differ}
+use Rattle.sg_match.specs.Names.{Differ}
 
 -- a number that differs from each entry
 apart : (x : ℕ) (xs : List ℕ) → ((i : ℕ) → i < length xs → x ≢ get_or xs i 0) → AllByRecursion (λ y. eqb x y ≡ false) xs
@@ -17,7 +20,7 @@ unfolding IsDistinct
 none = tt
 
 -- entries that differ by place are distinct
-pub distinct : (xs : List ℕ) → Differ xs → IsDistinct eqb xs
+distinct : (xs : List ℕ) → Differ xs → IsDistinct eqb xs
 distinct [] differ = none
 distinct (x ∷ xs) differ =
     IsDistinct-cons eqb x xs
@@ -33,3 +36,58 @@ short xs n differ below =
     length-le_from_distinct_below xs n (distinct xs differ) (λ q found.
     let at = place_of_any (eqb q) xs 0 found in
     subst (λ y. y < n) (sym (eqb-true q (get_or xs at.0 0) at.2)) (below at.0 at.1))
+
+-- an entry has a place
+pub place_of_name : (xs : List ℕ) (n : ℕ) → Contains xs n → (i : ℕ) × (i < length xs) × (get_or xs i 0 ≡ n)
+place_of_name xs n at = (at.0, at.1, get_or_default xs at.0 0 n at.1 ∙ at.2)
+
+-- an index of a list with one entry more
+pub at_end : {X : Type 0} (xs : List X) (y d : X) (k : ℕ) → k < length (xs ++ y ∷ []) → ((k < length xs) × (get_or (xs ++ y ∷ []) k d ≡ get_or xs k d)) ⊎ ((k ≡ length xs) × (get_or (xs ++ y ∷ []) k d ≡ y))
+at_end xs y d k low =
+    elim (cases_lt k (length xs)) [
+      | inl less ↦ inl (less, get_or_append_left xs (y ∷ []) d k less)
+      | inr more ↦
+          let same : k ≡ length xs = omega (arith, low, more, length-append xs (y ∷ [])) in
+          inr (same, ap (λ n. get_or (xs ++ y ∷ []) n d) same ∙ get_or-append_seam xs y [] d)
+    ]
+
+-- two lists that share no name
+pub Differ-append : (xs ys : List ℕ) → Differ xs → Differ ys → ((n : ℕ) → Contains xs n → Contains ys n → ⊥) → Differ (xs ++ ys)
+Differ-append xs ys dx dy apart i j low_i low_j same =
+    elim (cases_lt i (length xs)) [
+      | inl a ↦ elim (cases_lt j (length xs)) [
+        | inl b ↦ dx i j a b (sym (get_or_append_left xs ys 0 i a) ∙ same ∙ get_or_append_left xs ys 0 j b)
+        | inr b ↦ absurd (apart (get_or xs i 0) (Contains-get_or xs i 0 a) (subst (λ n. Contains ys n) (sym (sym (get_or_append_left xs ys 0 i a) ∙ same ∙ get_or-append_right xs ys j 0 b)) (Contains-get_or ys (j - length xs) 0 (omega (arith, low_j, b, length-append xs ys)))))
+      ]
+      | inr a ↦ elim (cases_lt j (length xs)) [
+        | inl b ↦ absurd (apart (get_or xs j 0) (Contains-get_or xs j 0 b) (subst (λ n. Contains ys n) (sym (get_or-append_right xs ys i 0 a) ∙ same ∙ get_or_append_left xs ys 0 j b) (Contains-get_or ys (i - length xs) 0 (omega (arith, low_i, a, length-append xs ys)))))
+        | inr b ↦ omega (arith, a, b, dy (i - length xs) (j - length xs) (omega (arith, low_i, a, length-append xs ys)) (omega (arith, low_j, b, length-append xs ys)) (sym (get_or-append_right xs ys i 0 a) ∙ same ∙ get_or-append_right xs ys j 0 b))
+      ]
+    ]
+
+pub Differ-two : (a b : ℕ) → a ≢ b → Differ (a ∷ b ∷ [])
+Differ-two a b apart zero zero i j same = refl
+Differ-two a b apart zero (suc zero) i j same = absurd (apart same)
+Differ-two a b apart zero (suc (suc j)) i low same = absurd (omega (arith, low))
+Differ-two a b apart (suc zero) zero i j same = absurd (apart (sym same))
+Differ-two a b apart (suc zero) (suc zero) i j same = refl
+Differ-two a b apart (suc zero) (suc (suc j)) i low same = absurd (omega (arith, low))
+Differ-two a b apart (suc (suc i)) j low k same = absurd (omega (arith, low))
+
+pub Contains-two : (a b n : ℕ) → Contains (a ∷ b ∷ []) n → (n ≡ a) ⊎ (n ≡ b)
+Contains-two a b n (zero, low, at) = inl (sym at)
+Contains-two a b n (suc zero, low, at) = inr (sym at)
+Contains-two a b n (suc (suc k), low, at) = absurd (omega (arith, low))
+
+-- one more name
+pub Differ-last : (xs : List ℕ) (y : ℕ) → Differ xs → ((i : ℕ) → i < length xs → get_or xs i 0 ≢ y) → Differ (xs ++ y ∷ [])
+Differ-last xs y differ away i j low_i low_j same = elim (at_end xs y 0 i low_i) [
+  | inl a ↦ elim (at_end xs y 0 j low_j) [
+    | inl b ↦ differ i j a.0 b.0 (sym a.1 ∙ same ∙ b.1)
+    | inr b ↦ absurd (away i a.0 (sym a.1 ∙ same ∙ b.1))
+  ]
+  | inr a ↦ elim (at_end xs y 0 j low_j) [
+    | inl b ↦ absurd (away j b.0 (sym b.1 ∙ sym same ∙ a.1))
+    | inr b ↦ a.0 ∙ sym b.0
+  ]
+]

@@ -1,8 +1,8 @@
 -- An engine over leaves alone, as it is opened.
-use Rattle.std.proofs.Common.{◌≡◌, ◌≢◌, ℕ, suc, ◌+◌, ◌*◌, ◌<◌, ◌%◌, false, cond, List, [], ◌∷◌, length, get_or, count_by, Option, Some, None, refl, sym, ap, ◌∙◌, subst, inr, arith}
+use Rattle.std.proofs.Common.{◌≡◌, ℕ, ◌+◌, ◌*◌, ◌<◌, ◌%◌, false, cond, List, [], ◌∷◌, length, get_or, Option, Some, None, refl, sym, ap, ◌∙◌, subst, inr, arith}
+use Rattle.std.proofs.lemmas.Option.{none-some}
 use Rattle.std.specs.List.{range_with_len}
 use Rattle.std.specs.Option.{option_map_or}
-use Rattle.std.proofs.lemmas.List.Sums.{sum_by-cons}
 use Rattle.sg_arena.proofs.DualLemmas.{total-between}
 use Rattle.sg_arena.proofs.FamilyLemmas.{total-names}
 use Rattle.sg_arena.proofs.LeavesFamily.{IsFamily-leaves, IsTop-leaf, leaves-no_child, no_share}
@@ -20,15 +20,7 @@ use Rattle.sg_match.specs.Steps.{blossoms_of, has_children, steps_left}
 use Rattle.sg_match.specs.declared.Edge.{Edge}
 use Rattle.sg_match.specs.declared.Limb.{Limb}
 use Rattle.sg_slack.specs.Table.{Table}
-
-pub none-some : {A : Type 0} (x : A) → None ≢ Some x
-none-some x e = absurd (cc e)
-
--- no blossom in a list without children
-pub count_none : (nodes : List (Option Node)) → ((i : ℕ) → i < length nodes → has_children (get_or nodes i None) ≡ false) → count_by has_children nodes ≡ 0
-count_none [] plain = refl
-count_none (x ∷ xs) plain =
-    omega (arith, sum_by-cons (λ o. cond (has_children o) 1 0) x xs, ap (λ b. cond {A = ℕ} b 1 0) (plain 0 (omega arith)), count_none xs (λ i low. plain (suc i) (omega arith)))
+use Rattle.sg_sums.proofs.SumLaws.{sum_below-zero, sum_by_is_sum_below}
 
 module _ (f : Family) (only : OnlyLeaves f) (t : Table) (metric : IsMetric t) (size : leaf_count f ≡ t.size) (pairs : List (Option Edge)) (room : length pairs ≡ length f.nodes) (free : (n : ℕ) → pair_of pairs n ≡ None) where
   fam : IsFamily f
@@ -75,8 +67,10 @@ module _ (f : Family) (only : OnlyLeaves f) (t : Table) (metric : IsMetric t) (s
           ap (λ xs. get_or xs 0 0) (sym (leaves_at i low_i) ∙ ap (λ n. option_map_or (λ (x : Node). x.leaves) (node_at f n) []) same ∙ leaves_at j low_j)
 
   -- no blossom stands
-  pub no_blossoms : blossoms_of f ≡ 0
-  no_blossoms = count_none f.nodes (λ i low. plain (node_at f i) (λ k. leaves-no_child f only i k))
+  no_blossoms : blossoms_of f ≡ 0
+  no_blossoms =
+      sum_by_is_sum_below (λ o. cond (has_children o) 1 0) f.nodes None
+      ∙ sum_below-zero (λ i. cond (has_children (node_at f i)) 1 0) (length f.nodes) (λ i low. ap (λ b. cond b 1 0) (plain (node_at f i) (λ k. leaves-no_child f only i k)))
     where
       plain : (o : Option Node) → ((k : ℕ) → k < length (option_map_or (λ (n : Node). n.cycle) o []) → ⊥) → has_children o ≡ false
       plain None none = refl

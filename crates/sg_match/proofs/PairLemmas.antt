@@ -1,5 +1,6 @@
 -- Parting and wedding two tops keeps the pairing.
 use Rattle.std.proofs.Common.{◌≡◌, ◌≢◌, ℕ, ◌<◌, List, length, Option, Some, None, set, sym, ap, ◌∙◌, subst, ◌⊎◌, inl, inr, arith}
+use Rattle.std.proofs.lemmas.Option.{none-some, same_Some}
 use Rattle.std.proofs.lemmas.Bool.{cases_eq}
 use Rattle.std.proofs.lemmas.List.{get_or-set_same, get_or-set_other}
 use Rattle.std.proofs.Math.ListN.{length-set}
@@ -40,26 +41,20 @@ module _ (f : Family) (good : ℕ → ℕ → Type 0) (pairs : List (Option Edge
               let was = old n q at in
               let m = paired.other n q top was.0 in
               let away_s : m.0 ≢ s = λ same.
-              let e : flipped q ≡ p = some_same (sym (ap (λ x. pair_of pairs x) same ∙ is) ∙ m.4) in
+              let e : flipped q ≡ p = sym (same_Some _ _ (sym (ap (λ x. pair_of pairs x) same ∙ is) ∙ m.4)) in
               was.2 (top-apart f fam n t q.from top top_t (paired.own n q top was.0) (subst (λ x. Holds f t x.to) (sym e) held)) in
               let away_t : m.0 ≢ t = λ same.
-              let e : flipped q ≡ flipped p = some_same (sym (ap (λ x. pair_of pairs x) same ∙ mate_is s t p top_s top_t is held) ∙ m.4) in
+              let e : flipped q ≡ flipped p = sym (same_Some _ _ (sym (ap (λ x. pair_of pairs x) same ∙ mate_is s t p top_s top_t is held) ∙ m.4)) in
               was.1 (top-apart f fam n s q.from top top_s (paired.own n q top was.0) (subst (λ x. Holds f s x.to) (sym e) (paired.own s p top_s is))) in
               (m.0, m.1, m.2, m.3, twice_other pairs s t m.0 None None away_s away_t ∙ m.4);
           tight = λ n q top at. paired.tight n q top (old n q at).0;
         }
       where
-        some_same : {x y : Edge} → ◌≡◌ {A = Option Edge} (Some x) (Some y) → y ≡ x
-        some_same e = cc
-
         old : (n : ℕ) (q : Edge) → pair_of (set (set pairs s None) t None) n ≡ Some q → (pair_of pairs n ≡ Some q) × (n ≢ s) × (n ≢ t)
         old n q at =
-            let away_t : n ≢ t = λ same. absurd (none_some (sym (twice_second pairs s t None None low_t) ∙ sym (ap (λ x. pair_of (set (set pairs s None) t None) x) same) ∙ at)) in
-            let away_s : n ≢ s = λ same. absurd (none_some (sym (twice_first pairs s t None None low_s (λ e. away_t (same ∙ e))) ∙ sym (ap (λ x. pair_of (set (set pairs s None) t None) x) same) ∙ at)) in
+            let away_t : n ≢ t = λ same. absurd (none-some _ (sym (twice_second pairs s t None None low_t) ∙ sym (ap (λ x. pair_of (set (set pairs s None) t None) x) same) ∙ at)) in
+            let away_s : n ≢ s = λ same. absurd (none-some _ (sym (twice_first pairs s t None None low_s (λ e. away_t (same ∙ e))) ∙ sym (ap (λ x. pair_of (set (set pairs s None) t None) x) same) ∙ at)) in
             (sym (twice_other pairs s t n None None away_s away_t) ∙ at, away_s, away_t)
-          where
-            none_some : ◌≡◌ {A = Option Edge} None (Some q) → ⊥
-            none_some e = cc
 
     -- pairing two unpaired tops
     pub IsPaired-wed : (e : Edge) → s ≢ t → pair_of pairs s ≡ None → pair_of pairs t ≡ None → Holds f s e.from → Holds f t e.to → good e.from e.to → good e.to e.from → IsPaired f good (set (set pairs s (Some e)) t (Some (flipped e)))
@@ -78,7 +73,7 @@ module _ (f : Family) (good : ℕ → ℕ → Type 0) (pairs : List (Option Edge
               | inl second ↦ (s, top_s, (λ same. apart (same ∙ second.0)), subst (λ x. Holds f s x.to) second.1 in_s, twice_first pairs s t (Some e) (Some (flipped e)) low_s apart ∙ ap (λ x. Some (flipped x)) second.1)
               | inr was ↦
                   let m = paired.other n q top was.0 in
-                  (m.0, m.1, m.2, m.3, twice_other pairs s t m.0 (Some e) (Some (flipped e)) (λ same. absurd (some_none (sym m.4 ∙ ap (λ x. pair_of pairs x) same ∙ none_s))) (λ same. absurd (some_none (sym m.4 ∙ ap (λ x. pair_of pairs x) same ∙ none_t))) ∙ m.4)
+                  (m.0, m.1, m.2, m.3, twice_other pairs s t m.0 (Some e) (Some (flipped e)) (λ same. absurd (none-some _ (sym (sym m.4 ∙ ap (λ x. pair_of pairs x) same ∙ none_s)))) (λ same. absurd (none-some _ (sym (sym m.4 ∙ ap (λ x. pair_of pairs x) same ∙ none_t)))) ∙ m.4)
             ]
           ];
           tight = λ n q top at. elim (cases n q at) [
@@ -90,18 +85,12 @@ module _ (f : Family) (good : ℕ → ℕ → Type 0) (pairs : List (Option Edge
           ];
         }
       where
-        some_none : {x : Edge} → ◌≡◌ {A = Option Edge} (Some x) None → ⊥
-        some_none e = cc
-
-        some_same : {x y : Edge} → ◌≡◌ {A = Option Edge} (Some x) (Some y) → x ≡ y
-        some_same e = cc
-
         cases : (n : ℕ) (q : Edge) → pair_of (set (set pairs s (Some e)) t (Some (flipped e))) n ≡ Some q → ((n ≡ s) × (e ≡ q)) ⊎ (((n ≡ t) × (flipped e ≡ q)) ⊎ ((pair_of pairs n ≡ Some q) × (n ≢ s) × (n ≢ t)))
         cases n q at =
             elim (cases_eq n t) [
-              | inl same ↦ inr (inl (same, some_same (sym (twice_second pairs s t (Some e) (Some (flipped e)) low_t) ∙ sym (ap (λ x. pair_of (set (set pairs s (Some e)) t (Some (flipped e))) x) same) ∙ at)))
+              | inl same ↦ inr (inl (same, same_Some _ _ (sym (twice_second pairs s t (Some e) (Some (flipped e)) low_t) ∙ sym (ap (λ x. pair_of (set (set pairs s (Some e)) t (Some (flipped e))) x) same) ∙ at)))
               | inr away_t ↦ elim (cases_eq n s) [
-                | inl same ↦ inl (same, some_same (sym (twice_first pairs s t (Some e) (Some (flipped e)) low_s apart) ∙ sym (ap (λ x. pair_of (set (set pairs s (Some e)) t (Some (flipped e))) x) same) ∙ at))
+                | inl same ↦ inl (same, same_Some _ _ (sym (twice_first pairs s t (Some e) (Some (flipped e)) low_s apart) ∙ sym (ap (λ x. pair_of (set (set pairs s (Some e)) t (Some (flipped e))) x) same) ∙ at))
                 | inr away_s ↦ inr (inr (sym (twice_other pairs s t n (Some e) (Some (flipped e)) away_s away_t) ∙ at, away_s, away_t))
               ]
             ]

@@ -61,7 +61,7 @@ crossings k m p = sum_below (λ u. cond (ltb u (m u)) (cond (exactly_one (p u) (
 
 module _ (k : ℕ) (m : ℕ → ℕ) (low : (u : ℕ) → u < k → m u < k) (back : (u : ℕ) → u < k → m (m u) ≡ u) where
   -- a sum over the mates is a sum over the leaves
-  pub sum-mates : (h : ℕ → ℕ) → sum_below (λ u. h (m u)) k ≡ sum_below h k
+  sum-mates : (h : ℕ → ℕ) → sum_below (λ u. h (m u)) k ≡ sum_below h k
   sum-mates h =
       sum_below-same (λ u. h (m u)) (λ u. sum_below (λ v. cond (eqb (m u) v) (h v) 0) k) k (λ u l. sym (pick h (m u) k (low u l)))
       ∙ sum_below-swap (λ u v. cond (eqb (m u) v) (h v) 0) k k
@@ -76,7 +76,7 @@ module _ (k : ℕ) (m : ℕ → ℕ) (low : (u : ℕ) → u < k → m u < k) (ba
 
   module _ (other : (u : ℕ) → u < k → m u ≢ u) where
     -- a sum over the leaves goes over the pairs, each once, with both leaves
-    pub sum-pairs : (h : ℕ → ℕ) → sum_below h k ≡ sum_below (λ u. cond (ltb u (m u)) (h u + h (m u)) 0) k
+    sum-pairs : (h : ℕ → ℕ) → sum_below h k ≡ sum_below (λ u. cond (ltb u (m u)) (h u + h (m u)) 0) k
     sum-pairs h =
         sum_below-same h (λ u. cond (ltb u (m u)) (h u) 0 + cond (ltb (m u) u) (h u) 0) k (λ u l. split u (other u l))
         ∙ sum_below-add (λ u. cond (ltb u (m u)) (h u) 0) (λ u. cond (ltb (m u) u) (h u) 0) k
@@ -111,7 +111,7 @@ module _ (k : ℕ) (m : ℕ → ℕ) (low : (u : ℕ) → u < k → m u < k) (ba
           some (suc c) i e = omega arith
 
       -- the pairs that cross, by the leaf that passes
-      pub crossings-exits : crossings k m p ≡ sum_below (λ u. cond (p u && not (p (m u))) 1 0) k
+      crossings-exits : crossings k m p ≡ sum_below (λ u. cond (p u && not (p (m u))) 1 0) k
       crossings-exits =
           sym (
           sum-pairs (λ u. cond (p u && not (p (m u))) 1 0)

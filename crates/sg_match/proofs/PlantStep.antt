@@ -1,5 +1,6 @@
 -- A tree of one unpaired top.
-use Rattle.std.proofs.Common.{◌≡◌, ℕ, zero, suc, ◌+◌, ◌*◌, ◌-◌, ◌<◌, ◌≤◌, ◌%◌, true, false, not, List, [], ◌∷◌, ◌++◌, length, get_or, count_by, Option, Some, None, IsSome, refl, sym, ap, ◌∙◌, subst, inl, inr, arith}
+use Rattle.std.proofs.Common.{◌≡◌, ℕ, zero, suc, ◌+◌, ◌*◌, ◌-◌, ◌<◌, ◌≤◌, ◌%◌, true, false, not, List, [], ◌∷◌, ◌++◌, length, get_or, count_by, Option, Some, None, refl, sym, ap, ◌∙◌, subst, inl, inr, arith}
+use Rattle.std.proofs.lemmas.Option.{none-some, same_Some}
 use Rattle.std.specs.List.{range_with_len}
 use Rattle.std.proofs.lemmas.Bool.{cases_lt}
 use Rattle.std.proofs.lemmas.List.{get_or_append_left, length-append}
@@ -8,22 +9,17 @@ use Rattle.std.proofs.lemmas.List.Sums.{count_by-le-length}
 use Rattle.std.proofs.Common.{zero-add}
 use Rattle.std.proofs.Math.Seq.{get_or-append_seam}
 use Rattle.sg_arena.proofs.FamilyLemmas.{leaf_bound, some_leaf}
-use Rattle.sg_arena.proofs.ListLemmas.{cases_option}
 use Rattle.sg_arena.specs.Family.{Family, IsTop, leaf_count}
-use Rattle.sg_match.proofs.OpeningLemmas.{none-some}
 use Rattle.sg_match.proofs.StepsStep.{count_by-one_fewer}
 use Rattle.sg_match.specs.Engine.{IsEngine}
 use Rattle.sg_match.specs.Lonely.{IsLonely}
 use Rattle.sg_match.specs.Metric.{cost}
-use Rattle.sg_match.specs.Pairs.{AllPaired, pair_of}
+use Rattle.sg_match.specs.Pairs.{pair_of}
 use Rattle.sg_match.specs.Steps.{rest_of, steps_left}
 use Rattle.sg_match.specs.Tree.{IsTree, any_top, outers}
 use Rattle.sg_match.specs.declared.Edge.{Edge}
 use Rattle.sg_match.specs.declared.Limb.{Limb}
 use Rattle.sg_slack.specs.Table.{Table}
-
-some-same : {A : Type 0} (x y : A) → Some x ≡ Some y → x ≡ y
-some-same x y e = cc e
 
 -- 2 k (n + 1) covers 2 k (n - 1), four for each of k - 1 leaves, and one
 fall : (k n rest : ℕ) → (n + 1) % 2 ≡ 0 → rest + 1 ≤ k → 2 * k * (n - 1) + 4 * rest + 1 ≤ 2 * k * (n + 1)
@@ -37,18 +33,6 @@ fall k (suc n) rest even few =
     spread k n = grind arith
 
 module _ (f : Family) (t : Table) (pairs : List (Option Edge)) (names : List ℕ) (limbs : List Limb) (engine : IsEngine (record { family = f; table = t; pairs = pairs; lonely = names; root = None; limbs = limbs })) where
-  -- no unpaired top is left
-  pub paired-none : names ≡ [] → AllPaired f pairs
-  paired-none none top is =
-      elim (cases_option (pair_of pairs top)) [
-        | inl free ↦
-            elim (engine.lonely.every top is free) [
-              | inl root ↦ absurd (none-some top root)
-              | inr at ↦ absurd (omega (arith, at.1, ap (λ xs. length xs) none))
-            ]
-        | inr some ↦ subst (λ o. IsSome o) (sym some.1) refl
-      ]
-
   module _ (rest : List ℕ) (root : ℕ) (is : names ≡ rest ++ root ∷ []) where
     count : length names ≡ length rest + 1
     count = ap (λ xs. length xs) is ∙ length-append rest (root ∷ [])
@@ -72,7 +56,7 @@ module _ (f : Family) (t : Table) (pairs : List (Option Edge)) (names : List ℕ
           unpaired = λ i low. subst (λ n. pair_of pairs n ≡ None) (rest_at i low) (engine.lonely.unpaired i (omega (arith, count, low)));
           differ = λ i j low_i low_j same. engine.lonely.differ i j (omega (arith, count, low_i)) (omega (arith, count, low_j)) (rest_at i low_i ∙ same ∙ sym (rest_at j low_j));
           rootless = λ i low e.
-              let same : i ≡ length rest = engine.lonely.differ i (length rest) (omega (arith, count, low)) (omega (arith, count)) (rest_at i low ∙ sym (some-same root (get_or rest i 0) e) ∙ sym root_at) in
+              let same : i ≡ length rest = engine.lonely.differ i (length rest) (omega (arith, count, low)) (omega (arith, count)) (rest_at i low ∙ sym (same_Some root (get_or rest i 0) e) ∙ sym root_at) in
               absurd (omega (arith, same, low));
           every = λ n top free. elim (engine.lonely.every n top free) [
             | inl e ↦ absurd (none-some n e)
@@ -92,16 +76,19 @@ module _ (f : Family) (t : Table) (pairs : List (Option Edge)) (names : List ℕ
     tree : IsTree f (cost t) pairs root []
     tree =
         record {
-          outer_tops = λ i low. only (λ n. IsTop f n) root_top i low;
-          inner_tops = λ i low. absurd (omega (arith, low));
-          outer_differ = λ i j low_i low_j same. omega (arith, low_i, low_j);
-          inner_differ = λ i j low_i low_j same. absurd (omega (arith, low_i));
-          apart = λ i j low_i low_j same. absurd (omega (arith, low_j));
+          shape = record {
+            outer_tops = λ i low. only (λ n. IsTop f n) root_top i low;
+            inner_tops = λ i low. absurd (omega (arith, low));
+            outer_differ = λ i j low_i low_j same. omega (arith, low_i, low_j);
+            inner_differ = λ i j low_i low_j same. absurd (omega (arith, low_i));
+            apart = λ i j low_i low_j same. absurd (omega (arith, low_j));
+            bond_from = λ i low. absurd (omega (arith, low));
+            bond_to = λ i low. absurd (omega (arith, low));
+            edge_from = λ i low. absurd (omega (arith, low));
+            edge_to = λ i low. absurd (omega (arith, low));
+          };
           lone_root = root_free;
           bond = λ i low. absurd (omega (arith, low));
-          bond_to = λ i low. absurd (omega (arith, low));
-          edge_from = λ i low. absurd (omega (arith, low));
-          edge_to = λ i low. absurd (omega (arith, low));
           edge_tight = λ i low. absurd (omega (arith, low));
         }
       where
@@ -117,7 +104,7 @@ module _ (f : Family) (t : Table) (pairs : List (Option Edge)) (names : List ℕ
         let all = range_with_len 0 (leaf_count f) in
         let long : length all ≡ leaf_count f = length-range_with_len 0 (leaf_count f) in
         let out : not (any_top f (outers root []) leaf.0) ≡ false = rw leaf.1 refl in
-        let fewer : count_by (λ l. not (any_top f (outers root []) l)) all + 1 ≤ count_by (λ (l : ℕ). true) all = count_by-one_fewer (λ l. not (any_top f (outers root []) l)) (λ l. true) all leaf.0 0 (omega (arith, low, long)) (λ l e. refl)
+        let fewer : count_by (λ l. not (any_top f (outers root []) l)) all + 1 ≤ count_by (λ (l : ℕ). true) all = count_by-one_fewer (λ l. not (any_top f (outers root []) l)) (λ l. true) all leaf.0 (omega (arith, low, long)) (λ l e. refl)
         (ap (λ l. not (any_top f (outers root []) l)) (get_or-range_with_len 0 (leaf_count f) leaf.0 0 low ∙ zero-add leaf.0) ∙ out) refl in
         omega (arith, fewer, long, count_by-le-length (λ (l : ℕ). true) all)
 

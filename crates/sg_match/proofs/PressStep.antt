@@ -5,10 +5,12 @@ use Rattle.sg_arena.proofs.DualLemmas.{between-tops}
 use Rattle.sg_arena.proofs.FamilyLemmas.{leaf_bound, some_leaf, top-apart}
 use Rattle.sg_arena.specs.Family.{Family, Holds, IsBlossom, IsFamily, IsTop, dual_of, leaf_count, total_of}
 use Rattle.sg_arena.specs.Slack.{duals_between}
+use Rattle.sg_match.proofs.TreeLemmas.{out_holds}
 use Rattle.sg_match.specs.Amount.{CanGrow}
 use Rattle.sg_match.specs.declared.Event.{Event}
 use Rattle.sg_match.specs.declared.Event.TheVariants.{Flat, Join, Reach}
-use Rattle.sg_match.specs.Reaches.{CanScan, IsAt, IsNearest, IsScanned, IsScannedAt}
+use Rattle.sg_match.specs.Scans.{CanScan, IsScanned, IsScannedAt}
+use Rattle.sg_match.specs.Reaches.{IsAt, IsNearest}
 use Rattle.sg_match.specs.Feasible.{IsFeasible}
 use Rattle.sg_match.specs.Marks.{IsListed, IsMarked}
 use Rattle.sg_match.specs.Metric.{IsMetric, cost}
@@ -27,10 +29,8 @@ IsMarked-stands f root limbs tops totals marks fam shape listed count stands =
       outer = λ leaf low is. let at = subst (λ m. StandsAt root limbs (get_or tops leaf 0) m) is (stands leaf low) in (at.0, at.1, subst (λ n. Holds f n leaf) (sym at.2) (listed.held leaf low));
       inner = λ leaf low is. let at = subst (λ m. StandsAt root limbs (get_or tops leaf 0) m) is (stands leaf low) in (at.0, at.1, subst (λ n. Holds f n leaf) (sym at.2) (listed.held leaf low));
       free = λ leaf low is.
-          let out = subst (λ m. StandsAt root limbs (get_or tops leaf 0) m) is (stands leaf low) in (
-            (λ i within held. out.outer i within (top-apart f fam (get_or (outers root limbs) i 0) (get_or tops leaf 0) leaf (shape.outer_tops i within) (listed.top leaf low) held (listed.held leaf low))),
-            (λ i within held. out.inner i within (top-apart f fam (get_or (inners limbs) i 0) (get_or tops leaf 0) leaf (shape.inner_tops i within) (listed.top leaf low) held (listed.held leaf low))),
-          );
+          out_holds f fam root limbs shape.outer_tops shape.inner_tops (get_or tops leaf 0) leaf (listed.top leaf low) (listed.held leaf low)
+          (subst (λ m. StandsAt root limbs (get_or tops leaf 0) m) is (stands leaf low));
     }
 
 -- a raise may go as far as the nearest pair and the blossoms' duals let it
@@ -50,13 +50,13 @@ module _ (f : Family) (table : Table) (root : ℕ) (limbs : List Limb) (tops : L
   size_low u low = omega (arith, low, count)
 
   -- the slack that a scan finds is the cost less the duals between
-  pub slack_is : (u v : ℕ) → u < leaf_count f → v < leaf_count f → get_or tops u 0 ≢ get_or tops v 0 → slack_of table totals u v ≡ pos (cost table u v - duals_between f u v)
+  slack_is : (u v : ℕ) → u < leaf_count f → v < leaf_count f → get_or tops u 0 ≢ get_or tops v 0 → slack_of table totals u v ≡ pos (cost table u v - duals_between f u v)
   slack_is u v low_u low_v apart =
       let between = between-tops f fam (get_or tops u 0) (get_or tops v 0) u v (listed.top u low_u) (listed.top v low_v) apart (listed.held u low_u) (listed.held v low_v) in
       omega (arith, ints, between, listed.total u low_u, listed.total v low_v, costs.whole u v (size_low u low_u) (size_low v low_v), feasible.slack u v low_u low_v)
 
   -- the mark of a leaf whose top stands in the tree
-  pub mark_outer : (u i : ℕ) → u < leaf_count f → i < length (outers root limbs) → Holds f (get_or (outers root limbs) i 0) u → mark_at marks u ≡ Outer
+  mark_outer : (u i : ℕ) → u < leaf_count f → i < length (outers root limbs) → Holds f (get_or (outers root limbs) i 0) u → mark_at marks u ≡ Outer
   mark_outer u i low within held = go (mark_at marks u) refl
     where
       go : (m : Mark) → mark_at marks u ≡ m → mark_at marks u ≡ Outer
@@ -64,7 +64,7 @@ module _ (f : Family) (table : Table) (root : ℕ) (limbs : List Limb) (tops : L
       go Free e = absurd ((marked.free u low e).0 i within held)
       go Inner e = let at = marked.inner u low e in absurd (shape.apart i at.0 within at.1 (top-apart f fam (get_or (outers root limbs) i 0) (get_or (inners limbs) at.0 0) u (shape.outer_tops i within) (shape.inner_tops at.0 at.1) held at.2))
 
-  pub mark_free : (v : ℕ) → v < leaf_count f → ((j : ℕ) → j < length (outers root limbs) → Holds f (get_or (outers root limbs) j 0) v → ⊥) → ((j : ℕ) → j < length (inners limbs) → Holds f (get_or (inners limbs) j 0) v → ⊥) → mark_at marks v ≡ Free
+  mark_free : (v : ℕ) → v < leaf_count f → ((j : ℕ) → j < length (outers root limbs) → Holds f (get_or (outers root limbs) j 0) v → ⊥) → ((j : ℕ) → j < length (inners limbs) → Holds f (get_or (inners limbs) j 0) v → ⊥) → mark_at marks v ≡ Free
   mark_free v low no_outer no_inner = go (mark_at marks v) refl
     where
       go : (m : Mark) → mark_at marks v ≡ m → mark_at marks v ≡ Free
@@ -73,11 +73,11 @@ module _ (f : Family) (table : Table) (root : ℕ) (limbs : List Limb) (tops : L
       go Inner e = let at = marked.inner v low e in absurd (no_inner at.0 at.1 at.2)
 
   -- an outer and a free leaf, and two outer ones in different tops, have different tops
-  pub tops_free : (u v i : ℕ) → u < leaf_count f → v < leaf_count f → i < length (outers root limbs) → Holds f (get_or (outers root limbs) i 0) u → ((j : ℕ) → j < length (outers root limbs) → Holds f (get_or (outers root limbs) j 0) v → ⊥) → get_or tops u 0 ≢ get_or tops v 0
+  tops_free : (u v i : ℕ) → u < leaf_count f → v < leaf_count f → i < length (outers root limbs) → Holds f (get_or (outers root limbs) i 0) u → ((j : ℕ) → j < length (outers root limbs) → Holds f (get_or (outers root limbs) j 0) v → ⊥) → get_or tops u 0 ≢ get_or tops v 0
   tops_free u v i low_u low_v within held no_outer same =
       no_outer i within (subst (λ n. Holds f n v) (sym same ∙ sym (top-apart f fam (get_or (outers root limbs) i 0) (get_or tops u 0) u (shape.outer_tops i within) (listed.top u low_u) held (listed.held u low_u))) (listed.held v low_v))
 
-  pub tops_apart : (u v i j : ℕ) → u < leaf_count f → v < leaf_count f → i < length (outers root limbs) → j < length (outers root limbs) → i ≢ j → Holds f (get_or (outers root limbs) i 0) u → Holds f (get_or (outers root limbs) j 0) v → get_or tops u 0 ≢ get_or tops v 0
+  tops_apart : (u v i j : ℕ) → u < leaf_count f → v < leaf_count f → i < length (outers root limbs) → j < length (outers root limbs) → i ≢ j → Holds f (get_or (outers root limbs) i 0) u → Holds f (get_or (outers root limbs) j 0) v → get_or tops u 0 ≢ get_or tops v 0
   tops_apart u v i j low_u low_v in_i in_j differ held_u held_v same =
       differ (shape.outer_differ i j in_i in_j
       (top-apart f fam (get_or (outers root limbs) i 0) (get_or tops u 0) u (shape.outer_tops i in_i) (listed.top u low_u) held_u (listed.held u low_u)
@@ -131,7 +131,7 @@ module _ (f : Family) (table : Table) (root : ℕ) (limbs : List Limb) (tops : L
               u_leaf = size_low u.0 low_u;
               v_leaf = size_low v low;
               outer = mark_outer u.0 0 low_u first u.1;
-              free = mark_free v low (λ j within h. out.outer j within (top-apart f fam (get_or (outers root limbs) j 0) t v (shape.outer_tops j within) top h held)) (λ j within h. out.inner j within (top-apart f fam (get_or (inners limbs) j 0) t v (shape.inner_tops j within) top h held));
+              free = let none = out_holds f feasible.family root limbs shape.outer_tops shape.inner_tops t v top held out in mark_free v low none.0 none.1;
             },
           );
           free = λ a b pair. (cost table a b - duals_between f a b, slack_is a b (leaf_low a pair.u_leaf) (leaf_low b pair.v_leaf) (free_apart a b pair));

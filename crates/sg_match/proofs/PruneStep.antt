@@ -1,19 +1,22 @@
 -- The tree after the limbs of a new blossom are gone.
 use Rattle.std.proofs.Common.{◌≡◌, ◌≢◌, ℕ, zero, suc, ◌<◌, ◌≤◌, ◌%◌, List, length, get_or, set, Option, Some, None, Contains, refl, sym, ap, ◌∙◌, subst, inl, inr, arith}
+use Rattle.std.proofs.lemmas.Option.{none-some, same_Some}
 use Rattle.std.proofs.lemmas.Bool.{cases_eq, cases_lt}
 use Rattle.std.proofs.lemmas.List.{get_or-set_other, get_or-set_same, get_or_default}
 use Rattle.std.proofs.lemmas.List.Elements.{Contains-get_or}
-use Rattle.sg_arena.proofs.FamilyLemmas.{not_dead, top-apart}
+use Rattle.sg_arena.proofs.FamilyLemmas.{top-apart}
 use Rattle.sg_arena.proofs.ListLemmas.{cases_in}
 use Rattle.sg_arena.proofs.ShrunkFamily.{IsTop-shrink, IsTop-shrink_other, duals_between-shrink, holds_other, new_holds}
 use Rattle.sg_arena.specs.Changes.{CanShrink, blossom_of, with_slot}
 use Rattle.sg_arena.specs.Family.{Family, Holds, IsFamily, IsTop, leaf_count, link_at, node_at}
 use Rattle.sg_arena.specs.declared.Link.{Link}
-use Rattle.sg_match.proofs.ShrinkStep.{CanShrink-climb, node_in, path_head, place_in}
-use Rattle.sg_match.proofs.TreeLemmas.{bond_from, inner_at, inner_top, length-inners, length-outers, outer_at, outer_pair}
+use Rattle.sg_match.proofs.NodeLemmas.{node_in, place_in}
+use Rattle.sg_match.proofs.ShrinkStep.{CanShrink-climb, path_head, top-not_dead}
+use Rattle.sg_match.proofs.TreeLemmas.{inner_at, inner_top, length-inners, length-outers, outer_at, outer_pair}
 use Rattle.sg_match.specs.Feasible.{IsFeasible, IsTight}
 use Rattle.sg_match.specs.Pairs.{IsPaired, flipped, pair_of}
-use Rattle.sg_match.specs.Path.{AreTight, IsClimb, nodes_of}
+use Rattle.sg_match.specs.Path.{AreTight, nodes_of}
+use Rattle.sg_match.specs.Climb.{IsClimb}
 use Rattle.sg_match.specs.Pruned.{IsRegraft}
 use Rattle.sg_match.specs.Tree.{IsTree, inners, limb_at, outers}
 use Rattle.sg_match.specs.declared.Edge.{Edge}
@@ -26,20 +29,11 @@ module _ (f : Family) (cost : ℕ → ℕ → ℕ) (b : ℕ) (cycle : List Link)
   can : CanShrink f cycle
   can = CanShrink-climb f root limbs cycle place base climb
 
-  low_outer : (i : ℕ) → i < length limbs → suc i < length (outers root limbs)
-  low_outer i low = omega (arith, low, length-outers root limbs)
-
   low_inner : (i : ℕ) → i < length limbs → i < length (inners limbs)
   low_inner i low = omega (arith, low, length-inners limbs)
 
   limb_low : (i : ℕ) → i < length (inners limbs) → i < length limbs
   limb_low i low = omega (arith, low, length-inners limbs)
-
-  some_same : {x y : Edge} → ◌≡◌ {A = Option Edge} (Some x) (Some y) → x ≡ y
-  some_same e = cc
-
-  none_some : {x : Edge} → ◌≡◌ {A = Option Edge} None (Some x) → ⊥
-  none_some e = cc
 
   -- in the cycle each top but the base is paired with another of it
   pub closed : (i : ℕ) (p : Edge) → i < length cycle → (link_at cycle i).node ≢ base → pair_of pairs (link_at cycle i).node ≡ Some p → (j : ℕ) × (j < length cycle) × Holds f (link_at cycle j).node p.to
@@ -50,9 +44,9 @@ module _ (f : Family) (cost : ℕ → ℕ → ℕ) (b : ℕ) (cycle : List Link)
           | inl out ↦ outer_case out.0 out.1 out.2 out.3
           | inr inn ↦
               let m = limb_low inn.0 inn.2 in
-              let e : (limb_at limbs inn.0).bond ≡ p = some_same (sym (tree.bond inn.0 m) ∙ ap (λ n. pair_of pairs n) (sym (inner_at limbs inn.0 m) ∙ inn.3) ∙ is) in
+              let e : (limb_at limbs inn.0).bond ≡ p = same_Some _ _ (sym (tree.bond inn.0 m) ∙ ap (λ n. pair_of pairs n) (sym (inner_at limbs inn.0 m) ∙ inn.3) ∙ is) in
               let hit = place_in cycle (limb_at limbs inn.0).outer ((climb.whole inn.0 inn.1 m).0 (subst (λ n. Contains (nodes_of cycle) n) (sym inn.3 ∙ inner_at limbs inn.0 m) (node_in cycle i low))) in
-              (hit.0, hit.1, subst (λ x. Holds f (link_at cycle hit.0).node x.to) e (subst (λ n. Holds f n (limb_at limbs inn.0).bond.to) (sym hit.2) (tree.bond_to inn.0 m)))
+              (hit.0, hit.1, subst (λ x. Holds f (link_at cycle hit.0).node x.to) e (subst (λ n. Holds f n (limb_at limbs inn.0).bond.to) (sym hit.2) (tree.shape.bond_to inn.0 m)))
         ]
       ]
     where
@@ -60,18 +54,18 @@ module _ (f : Family) (cost : ℕ → ℕ → ℕ) (b : ℕ) (cycle : List Link)
       outer_case zero from low_j at = absurd (omega (arith, from))
       outer_case (suc m) from low_j at =
           let low_m : m < length limbs = omega (arith, low_j, length-outers root limbs) in
-          let e : flipped (limb_at limbs m).bond ≡ p = some_same (sym (outer_pair f cost pairs root limbs fam paired tree m low_m) ∙ ap (λ n. pair_of pairs n) (sym (outer_at root limbs m low_m) ∙ at) ∙ is) in
+          let e : flipped (limb_at limbs m).bond ≡ p = same_Some _ _ (sym (outer_pair f cost pairs root limbs fam paired tree m low_m) ∙ ap (λ n. pair_of pairs n) (sym (outer_at root limbs m low_m) ∙ at) ∙ is) in
           let hit = place_in cycle (limb_at limbs m).inner ((climb.whole m (omega (arith, from)) low_m).1 (subst (λ n. Contains (nodes_of cycle) n) (sym at ∙ outer_at root limbs m low_m) (node_in cycle i low))) in
-          (hit.0, hit.1, subst (λ x. Holds f (link_at cycle hit.0).node x.to) e (subst (λ n. Holds f n (limb_at limbs m).bond.from) (sym hit.2) (bond_from f cost pairs root limbs fam paired tree m low_m)))
+          (hit.0, hit.1, subst (λ x. Holds f (link_at cycle hit.0).node x.to) e (subst (λ n. Holds f n (limb_at limbs m).bond.from) (sym hit.2) (tree.shape.bond_from m low_m)))
 
   -- a limb before the place keeps its inner top out of the cycle
-  pub inner_out : (m : ℕ) → m < place → m < length limbs → Contains (nodes_of cycle) (limb_at limbs m).inner → ⊥
+  inner_out : (m : ℕ) → m < place → m < length limbs → Contains (nodes_of cycle) (limb_at limbs m).inner → ⊥
   inner_out m before low is =
       elim (climb.spot (limb_at limbs m).inner is) [
-        | inl e ↦ tree.apart climb.head_at.0 m (omega (arith, climb.head_at.1, bound)) (low_inner m low) (climb.head_at.2 ∙ sym e ∙ sym (inner_at limbs m low))
+        | inl e ↦ tree.shape.apart climb.head_at.0 m (omega (arith, climb.head_at.1, bound)) (low_inner m low) (climb.head_at.2 ∙ sym e ∙ sym (inner_at limbs m low))
         | inr rest ↦ elim rest [
-          | inl out ↦ tree.apart out.0 m out.2 (low_inner m low) (out.3 ∙ sym (inner_at limbs m low))
-          | inr inn ↦ absurd (omega (arith, before, inn.1, tree.inner_differ m inn.0 (low_inner m low) inn.2 (inner_at limbs m low ∙ sym inn.3)))
+          | inl out ↦ tree.shape.apart out.0 m out.2 (low_inner m low) (out.3 ∙ sym (inner_at limbs m low))
+          | inr inn ↦ absurd (omega (arith, before, inn.1, tree.shape.inner_differ m inn.0 (low_inner m low) inn.2 (inner_at limbs m low ∙ sym inn.3)))
         ]
       ]
     where
@@ -83,11 +77,11 @@ module _ (f : Family) (cost : ℕ → ℕ → ℕ) (b : ℕ) (cycle : List Link)
   open_base j p low is held = go climb.head_at.0 climb.head_at.1 climb.head_at.2
     where
       go : (h : ℕ) → h ≤ place → get_or (outers root limbs) h 0 ≡ base → ⊥
-      go zero below at = none_some (sym tree.lone_root ∙ ap (λ n. pair_of pairs n) at ∙ is)
+      go zero below at = none-some _ (sym tree.lone_root ∙ ap (λ n. pair_of pairs n) at ∙ is)
       go (suc m) below at =
           let low_m : m < length limbs = omega (arith, below, climb.within) in
-          let e : flipped (limb_at limbs m).bond ≡ p = some_same (sym (outer_pair f cost pairs root limbs fam paired tree m low_m) ∙ ap (λ n. pair_of pairs n) (sym (outer_at root limbs m low_m) ∙ at) ∙ is) in
-          let same = top-apart f fam (link_at cycle j).node (limb_at limbs m).inner (limb_at limbs m).bond.from (can.tops j low) (inner_top f cost pairs root limbs fam paired tree m low_m) (subst (λ x. Holds f (link_at cycle j).node x.to) (sym e) held) (bond_from f cost pairs root limbs fam paired tree m low_m) in
+          let e : flipped (limb_at limbs m).bond ≡ p = same_Some _ _ (sym (outer_pair f cost pairs root limbs fam paired tree m low_m) ∙ ap (λ n. pair_of pairs n) (sym (outer_at root limbs m low_m) ∙ at) ∙ is) in
+          let same = top-apart f fam (link_at cycle j).node (limb_at limbs m).inner (limb_at limbs m).bond.from (can.tops j low) (inner_top f root limbs tree.shape m low_m) (subst (λ x. Holds f (link_at cycle j).node x.to) (sym e) held) (tree.shape.bond_from m low_m) in
           inner_out m (omega (arith, below)) low_m (subst (λ n. Contains (nodes_of cycle) n) same (node_in cycle j low))
 
   module _ (names : b < length pairs) (top_root : ℕ) (root_base : root ≡ base → top_root ≡ b) (root_other : root ≢ base → top_root ≡ root) (new : List Limb) (reg : IsRegraft b base (nodes_of cycle) limbs new) where
@@ -111,14 +105,8 @@ module _ (f : Family) (cost : ℕ → ℕ → ℕ) (b : ℕ) (cycle : List Link)
     was_low zero low = omega (arith, length-outers root limbs)
     was_low (suc k) low = omega (arith, reg.low k (omega (arith, low, length-outers top_root new)), length-outers root limbs)
 
-    was_same : (i j : ℕ) → i < length (outers top_root new) → j < length (outers top_root new) → was i ≡ was j → i ≡ j
-    unfolding was
-    was_same zero zero a c e = refl
-    was_same zero (suc j) a c e = absurd (omega (arith, e))
-    was_same (suc i) zero a c e = absurd (omega (arith, e))
-    was_same (suc i) (suc j) a c e =
-        let low_i : i < length new = omega (arith, a, length-outers top_root new) in
-        let low_j : j < length new = omega (arith, c, length-outers top_root new) in
+    at_same : (i j : ℕ) → i < length new → j < length new → reg.at i ≡ reg.at j → i ≡ j
+    at_same i j low_i low_j e =
         elim (cases_lt i j) [
           | inl less ↦ absurd (omega (arith, e, reg.rises i j less low_j))
           | inr more ↦ elim (cases_lt j i) [
@@ -126,6 +114,13 @@ module _ (f : Family) (cost : ℕ → ℕ → ℕ) (b : ℕ) (cycle : List Link)
             | inr other ↦ omega (arith, more, other)
           ]
         ]
+
+    was_same : (i j : ℕ) → i < length (outers top_root new) → j < length (outers top_root new) → was i ≡ was j → i ≡ j
+    unfolding was
+    was_same zero zero a c e = refl
+    was_same zero (suc j) a c e = absurd (omega (arith, e))
+    was_same (suc i) zero a c e = absurd (omega (arith, e))
+    was_same (suc i) (suc j) a c e = ap suc (at_same i j (omega (arith, a, length-outers top_root new)) (omega (arith, c, length-outers top_root new)) (omega (arith, e)))
 
     image : (k : ℕ) → k < length (outers top_root new) → Image k
     unfolding was
@@ -144,8 +139,8 @@ module _ (f : Family) (cost : ℕ → ℕ → ℕ) (b : ℕ) (cycle : List Link)
     stays k low is = elim (climb.spot (get_or (outers root limbs) (was k) 0) is) [
       | inl e ↦ e
       | inr rest ↦ elim rest [
-        | inl out ↦ absurd (late k low (subst (λ x. place < x) (tree.outer_differ out.0 (was k) out.2 (was_low k low) out.3) out.1) is)
-        | inr inn ↦ absurd (tree.apart (was k) inn.0 (was_low k low) inn.2 (sym inn.3))
+        | inl out ↦ absurd (late k low (subst (λ x. place < x) (tree.shape.outer_differ out.0 (was k) out.2 (was_low k low) out.3) out.1) is)
+        | inr inn ↦ absurd (tree.shape.apart (was k) inn.0 (was_low k low) inn.2 (sym inn.3))
       ]
     ]
       where
@@ -183,9 +178,6 @@ module _ (f : Family) (cost : ℕ → ℕ → ℕ) (b : ℕ) (cycle : List Link)
     base_first : (link_at cycle 0).node ≡ base
     base_first = path_head f cycle base base (omega (arith, can.closed.long)) climb.path
 
-    differs_b : (t : ℕ) → IsTop f t → t ≢ b
-    differs_b t top same = not_dead f t top.alive (ap (λ n. node_at f n) same ∙ dead)
-
     in_blossom : (i l : ℕ) → i < length cycle → Holds f (link_at cycle i).node l → Holds g b l
     in_blossom i l low h = new_holds f b cycle fam can dead room i l low h
 
@@ -193,7 +185,7 @@ module _ (f : Family) (cost : ℕ → ℕ → ℕ) (b : ℕ) (cycle : List Link)
     image_holds : (k to : ℕ) → k < length (outers top_root new) → Holds f (get_or (outers root limbs) (was k) 0) to → Holds g (get_or (outers top_root new) k 0) to
     image_holds k to low held = elim (image k low) [
       | changed e is ↦ subst (λ n. Holds g n to) (sym is) (in_blossom 0 to (omega (arith, can.closed.long)) (subst (λ n. Holds f n to) (e ∙ sym base_first) held))
-      | same_name e is ↦ subst (λ n. Holds g n to) (sym is) (holds_other f b cycle fam can dead room (get_or (outers root limbs) (was k) 0) to (differs_b (get_or (outers root limbs) (was k) 0) (tree.outer_tops (was k) (was_low k low))) ∙ held)
+      | same_name e is ↦ subst (λ n. Holds g n to) (sym is) (holds_other f b cycle fam can dead room (get_or (outers root limbs) (was k) 0) to (top-not_dead f b dead (get_or (outers root limbs) (was k) 0) (tree.shape.outer_tops (was k) (was_low k low))) ∙ held)
     ]
 
     -- where the leaves of an outer top went, before all limbs that came behind it
@@ -236,70 +228,65 @@ module _ (f : Family) (cost : ℕ → ℕ → ℕ) (b : ℕ) (cycle : List Link)
     inner_old k low = inner_at new k low ∙ reg.inner k low
 
     old_top : (k : ℕ) → k < length new → IsTop f (limb_at limbs (reg.at k)).inner
-    old_top k low = inner_top f cost pairs root limbs fam paired tree (reg.at k) (reg.low k low)
-
-    at_same : (i j : ℕ) → i < length new → j < length new → reg.at i ≡ reg.at j → i ≡ j
-    at_same i j low_i low_j e =
-        elim (cases_lt i j) [
-          | inl less ↦ absurd (omega (arith, e, reg.rises i j less low_j))
-          | inr more ↦ elim (cases_lt j i) [
-            | inl less ↦ absurd (omega (arith, e, reg.rises j i less low_i))
-            | inr other ↦ omega (arith, more, other)
-          ]
-        ]
+    old_top k low = inner_top f root limbs tree.shape (reg.at k) (reg.low k low)
 
     new_low : (k : ℕ) → k < length (inners new) → k < length new
     new_low k low = omega (arith, low, length-inners new)
 
     outer_pick : (i j : ℕ) → i < length (outers top_root new) → j < length (outers top_root new) → Image i → Image j → get_or (outers top_root new) i 0 ≡ get_or (outers top_root new) j 0 → i ≡ j
-    outer_pick i j low_i low_j (changed e is) (changed d at) same = was_same i j low_i low_j (tree.outer_differ (was i) (was j) (was_low i low_i) (was_low j low_j) (e ∙ sym d))
-    outer_pick i j low_i low_j (changed e is) (same_name d at) same = absurd (differs_b (get_or (outers root limbs) (was j) 0) (tree.outer_tops (was j) (was_low j low_j)) (sym at ∙ sym same ∙ is))
-    outer_pick i j low_i low_j (same_name e is) (changed d at) same = absurd (differs_b (get_or (outers root limbs) (was i) 0) (tree.outer_tops (was i) (was_low i low_i)) (sym is ∙ same ∙ at))
-    outer_pick i j low_i low_j (same_name e is) (same_name d at) same = was_same i j low_i low_j (tree.outer_differ (was i) (was j) (was_low i low_i) (was_low j low_j) (sym is ∙ same ∙ at))
+    outer_pick i j low_i low_j (changed e is) (changed d at) same = was_same i j low_i low_j (tree.shape.outer_differ (was i) (was j) (was_low i low_i) (was_low j low_j) (e ∙ sym d))
+    outer_pick i j low_i low_j (changed e is) (same_name d at) same = absurd (top-not_dead f b dead (get_or (outers root limbs) (was j) 0) (tree.shape.outer_tops (was j) (was_low j low_j)) (sym at ∙ sym same ∙ is))
+    outer_pick i j low_i low_j (same_name e is) (changed d at) same = absurd (top-not_dead f b dead (get_or (outers root limbs) (was i) 0) (tree.shape.outer_tops (was i) (was_low i low_i)) (sym is ∙ same ∙ at))
+    outer_pick i j low_i low_j (same_name e is) (same_name d at) same = was_same i j low_i low_j (tree.shape.outer_differ (was i) (was j) (was_low i low_i) (was_low j low_j) (sym is ∙ same ∙ at))
 
     bond_image : (k : ℕ) → k < length new → Holds g (limb_at new k).outer (limb_at new k).bond.to
     unfolding was
     bond_image k low =
         subst (λ n. Holds g n (limb_at new k).bond.to) (outer_at top_root new k low)
         (image_holds (suc k) (limb_at new k).bond.to (omega (arith, low, length-outers top_root new))
-        (subst (λ n. Holds f n (limb_at new k).bond.to) (sym (outer_at root limbs (reg.at k) (reg.low k low))) (subst (λ (x : Edge). Holds f (limb_at limbs (reg.at k)).outer x.to) (sym (reg.bond k low)) (tree.bond_to (reg.at k) (reg.low k low)))))
+        (subst (λ n. Holds f n (limb_at new k).bond.to) (sym (outer_at root limbs (reg.at k) (reg.low k low))) (subst (λ (x : Edge). Holds f (limb_at limbs (reg.at k)).outer x.to) (sym (reg.bond k low)) (tree.shape.bond_to (reg.at k) (reg.low k low)))))
 
     pub IsTree-shrunk : IsTree g cost now top_root new
     IsTree-shrunk =
         record {
-          outer_tops = λ i low. elim (image i low) [
-            | changed e is ↦ subst (λ n. IsTop g n) (sym is) (IsTop-shrink f b cycle fam can dead room)
-            | same_name e is ↦ subst (λ n. IsTop g n) (sym is) (IsTop-shrink_other f b cycle fam can dead room (get_or (outers root limbs) (was i) 0) (tree.outer_tops (was i) (was_low i low)) (away_from (get_or (outers root limbs) (was i) 0) (λ h. e (stays i low h))))
-          ];
-          inner_tops = λ k low. let low_k = new_low k low in
-              subst (λ n. IsTop g n) (sym (inner_old k low_k))
-              (IsTop-shrink_other f b cycle fam can dead room (limb_at limbs (reg.at k)).inner (old_top k low_k) (away_from (limb_at limbs (reg.at k)).inner (λ h. reg.kept k low_k (subst (λ n. Contains (nodes_of cycle) n) (sym (reg.inner k low_k)) h))));
-          outer_differ = λ i j low_i low_j same. outer_pick i j low_i low_j (image i low_i) (image j low_j) same;
-          inner_differ = λ i j low_i low_j same.
-              at_same i j (new_low i low_i) (new_low j low_j)
-              (tree.inner_differ (reg.at i) (reg.at j) (low_inner (reg.at i) (reg.low i (new_low i low_i))) (low_inner (reg.at j) (reg.low j (new_low j low_j)))
-              (inner_at limbs (reg.at i) (reg.low i (new_low i low_i)) ∙ sym (inner_old i (new_low i low_i)) ∙ same ∙ inner_old j (new_low j low_j) ∙ sym (inner_at limbs (reg.at j) (reg.low j (new_low j low_j)))));
-          apart = λ i k low_i low same. let low_k = new_low k low in elim (image i low_i) [
-            | changed e is ↦ differs_b (limb_at limbs (reg.at k)).inner (old_top k low_k) (sym (inner_old k low_k) ∙ sym same ∙ is)
-            | same_name e is ↦ tree.apart (was i) (reg.at k) (was_low i low_i) (low_inner (reg.at k) (reg.low k low_k)) (sym is ∙ same ∙ inner_old k low_k ∙ sym (inner_at limbs (reg.at k) (reg.low k low_k)))
-          ];
+          shape = record {
+            outer_tops = λ i low. elim (image i low) [
+              | changed e is ↦ subst (λ n. IsTop g n) (sym is) (IsTop-shrink f b cycle fam can dead room)
+              | same_name e is ↦ subst (λ n. IsTop g n) (sym is) (IsTop-shrink_other f b cycle fam can dead room (get_or (outers root limbs) (was i) 0) (tree.shape.outer_tops (was i) (was_low i low)) (away_from (get_or (outers root limbs) (was i) 0) (λ h. e (stays i low h))))
+            ];
+            inner_tops = λ k low. let low_k = new_low k low in
+                subst (λ n. IsTop g n) (sym (inner_old k low_k))
+                (IsTop-shrink_other f b cycle fam can dead room (limb_at limbs (reg.at k)).inner (old_top k low_k) (away_from (limb_at limbs (reg.at k)).inner (λ h. reg.kept k low_k (subst (λ n. Contains (nodes_of cycle) n) (sym (reg.inner k low_k)) h))));
+            outer_differ = λ i j low_i low_j same. outer_pick i j low_i low_j (image i low_i) (image j low_j) same;
+            inner_differ = λ i j low_i low_j same.
+                at_same i j (new_low i low_i) (new_low j low_j)
+                (tree.shape.inner_differ (reg.at i) (reg.at j) (low_inner (reg.at i) (reg.low i (new_low i low_i))) (low_inner (reg.at j) (reg.low j (new_low j low_j)))
+                (inner_at limbs (reg.at i) (reg.low i (new_low i low_i)) ∙ sym (inner_old i (new_low i low_i)) ∙ same ∙ inner_old j (new_low j low_j) ∙ sym (inner_at limbs (reg.at j) (reg.low j (new_low j low_j)))));
+            apart = λ i k low_i low same. let low_k = new_low k low in elim (image i low_i) [
+              | changed e is ↦ top-not_dead f b dead (limb_at limbs (reg.at k)).inner (old_top k low_k) (sym (inner_old k low_k) ∙ sym same ∙ is)
+              | same_name e is ↦ tree.shape.apart (was i) (reg.at k) (was_low i low_i) (low_inner (reg.at k) (reg.low k low_k)) (sym is ∙ same ∙ inner_old k low_k ∙ sym (inner_at limbs (reg.at k) (reg.low k low_k)))
+            ];
+            bond_from = λ k low.
+                holds_other f b cycle fam can dead room (limb_at new k).inner (limb_at new k).bond.from (λ e. top-not_dead f b dead (limb_at limbs (reg.at k)).inner (old_top k low) (sym (reg.inner k low) ∙ e))
+                ∙ subst (λ n. Holds f n (limb_at new k).bond.from) (sym (reg.inner k low)) (subst (λ (x : Edge). Holds f (limb_at limbs (reg.at k)).inner x.from) (sym (reg.bond k low)) (tree.shape.bond_from (reg.at k) (reg.low k low)));
+            bond_to = bond_image;
+            edge_from = λ k low.
+                holds_other f b cycle fam can dead room (limb_at new k).inner (limb_at new k).edge.from (λ e. top-not_dead f b dead (limb_at limbs (reg.at k)).inner (old_top k low) (sym (reg.inner k low) ∙ e))
+                ∙ subst (λ n. Holds f n (limb_at new k).edge.from) (sym (reg.inner k low)) (subst (λ (x : Edge). Holds f (limb_at limbs (reg.at k)).inner x.from) (sym (reg.edge k low)) (tree.shape.edge_from (reg.at k) (reg.low k low)));
+            edge_to = λ k low.
+                let old = tree.shape.edge_to (reg.at k) (reg.low k low) in
+                let at = moved old.0 (limb_at new k).edge.to (omega (arith, old.1, reg.low k low, length-outers root limbs)) (subst (λ (x : Edge). Holds f (get_or (outers root limbs) old.0 0) x.to) (sym (reg.edge k low)) old.2) in
+                (at.0, at.3 k low old.1, at.2);
+          };
           lone_root = elim (cases_eq root base) [
             | inl e ↦ ap (λ n. pair_of now n) (root_base e) ∙ get_or-set_same pairs b (pair_of pairs base) None names ∙ ap (λ n. pair_of pairs n) (sym e) ∙ tree.lone_root
-            | inr e ↦ ap (λ n. pair_of now n) (root_other e) ∙ get_or-set_other pairs b root (pair_of pairs base) None (differs_b root (tree.outer_tops 0 (omega (arith, length-outers root limbs)))) ∙ tree.lone_root
+            | inr e ↦ ap (λ n. pair_of now n) (root_other e) ∙ get_or-set_other pairs b root (pair_of pairs base) None (top-not_dead f b dead root (tree.shape.outer_tops 0 (omega (arith, length-outers root limbs)))) ∙ tree.lone_root
           ];
           bond = λ k low.
               ap (λ n. pair_of now n) (reg.inner k low)
-              ∙ get_or-set_other pairs b (limb_at limbs (reg.at k)).inner (pair_of pairs base) None (differs_b (limb_at limbs (reg.at k)).inner (old_top k low))
+              ∙ get_or-set_other pairs b (limb_at limbs (reg.at k)).inner (pair_of pairs base) None (top-not_dead f b dead (limb_at limbs (reg.at k)).inner (old_top k low))
               ∙ tree.bond (reg.at k) (reg.low k low)
               ∙ ap (λ x. Some x) (sym (reg.bond k low));
-          bond_to = bond_image;
-          edge_from = λ k low.
-              holds_other f b cycle fam can dead room (limb_at new k).inner (limb_at new k).edge.from (λ e. differs_b (limb_at limbs (reg.at k)).inner (old_top k low) (sym (reg.inner k low) ∙ e))
-              ∙ subst (λ n. Holds f n (limb_at new k).edge.from) (sym (reg.inner k low)) (subst (λ (x : Edge). Holds f (limb_at limbs (reg.at k)).inner x.from) (sym (reg.edge k low)) (tree.edge_from (reg.at k) (reg.low k low)));
-          edge_to = λ k low.
-              let old = tree.edge_to (reg.at k) (reg.low k low) in
-              let at = moved old.0 (limb_at new k).edge.to (omega (arith, old.1, reg.low k low, length-outers root limbs)) (subst (λ (x : Edge). Holds f (get_or (outers root limbs) old.0 0) x.to) (sym (reg.edge k low)) old.2) in
-              (at.0, at.3 k low old.1, at.2);
           edge_tight = λ k low.
               duals_between-shrink f b cycle fam can dead room (limb_at new k).edge.from (limb_at new k).edge.to
               ∙ subst (λ (x : Edge). IsTight f cost x.from x.to) (sym (reg.edge k low)) (tree.edge_tight (reg.at k) (reg.low k low));

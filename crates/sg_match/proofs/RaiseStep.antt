@@ -1,16 +1,17 @@
 -- A raise of the tree's tops keeps the engine's invariant.
-use Rattle.std.proofs.Common.{◌≡◌, ◌≢◌, ℕ, suc, ◌+◌, ◌-◌, ◌<◌, ◌≤◌, ◌%◌, ◌^◌, ◌||◌, Bool, true, false, eqb, List, [], length, get_or, Option, Some, None, refl, sym, ap, ◌∙◌, subst, inl, inr, arith}
-use Rattle.std.specs.Option.{option_map_or}
+use Rattle.std.proofs.Common.{◌≡◌, ◌≢◌, ℕ, suc, ◌+◌, ◌-◌, ◌<◌, ◌≤◌, ◌%◌, ◌^◌, List, length, get_or, Option, Some, refl, sym, ap, ◌∙◌, subst, inl, inr, arith}
+use Rattle.std.proofs.lemmas.Option.{none-some, same_Some}
 use Rattle.std.proofs.lemmas.List.{get_or_default}
-use Rattle.std.proofs.lemmas.Bool.{cases_eq, cases_lt, eqb-true}
+use Rattle.std.proofs.lemmas.Bool.{cases_eq, cases_lt}
 use Rattle.sg_arena.proofs.DualLemmas.{between-tops, inner-leaf_enough}
-use Rattle.sg_arena.proofs.FamilyLemmas.{after_within, child-covered, leaf_bound, top-apart, top-covers}
+use Rattle.sg_arena.proofs.FamilyLemmas.{after_within, child-covered, leaf_bound, top-covers}
 use Rattle.sg_arena.proofs.ListLemmas.{cases_in}
-use Rattle.sg_arena.proofs.RaisedFamily.{IsFamily-raised, IsTop-raised, alive-raised, between-raised_same, cycle-raised, leaves-raised, total-raised_is}
+use Rattle.sg_arena.proofs.RaisedFamily.{IsFamily-raised, IsTop-raised, IsTop-raised_old, between-raised_same, cycle-raised, leaves-raised, total-raised_is}
 use Rattle.sg_arena.specs.Changes.{CanRaise, raised, raised_dual}
 use Rattle.sg_arena.specs.Family.{Family, Holds, IsBlossom, IsFamily, IsTop, after_index, cycle_of, dual_of, has_leaf, holds, leaf_count, link_at, total_of}
 use Rattle.sg_arena.specs.Slack.{duals_between}
-use Rattle.sg_match.proofs.TreeLemmas.{bond_from, bond_tight, inner_at, length-inners, length-outers, mate_out, outer_at, outer_cases, outer_pair}
+use Rattle.sg_match.proofs.AboveLemmas.{leaf-only}
+use Rattle.sg_match.proofs.TreeLemmas.{bond_tight, inner_at, length-inners, length-outers, mate_out, out_holds, outer_at, outer_cases, outer_pair}
 use Rattle.sg_match.specs.Amount.{CanGrow}
 use Rattle.sg_match.specs.Feasible.{IsFeasible, IsTight}
 use Rattle.sg_match.specs.Lonely.{IsLonely}
@@ -31,13 +32,6 @@ module _ (f : Family) (cost : ℕ → ℕ → ℕ) (r : ℕ) (limbs : List Limb)
 
   pub held : (n l : ℕ) → holds g n l ≡ holds f n l
   held n l = ap (λ xs. has_leaf xs l) (leaves-raised f outer inner delta fam can n)
-
-  pub IsTop-back : (t : ℕ) → IsTop g t → IsTop f t
-  IsTop-back t top =
-      record {
-        alive = alive-raised f outer inner delta fam can t top.alive;
-        outermost = λ other covers. top.outermost other (λ l h. held other l ∙ covers l (sym (held t l) ∙ h));
-      }
 
   -- where a top stands
   data Stand (t : ℕ) : Type 0 where
@@ -65,7 +59,7 @@ module _ (f : Family) (cost : ℕ → ℕ → ℕ) (r : ℕ) (limbs : List Limb)
         | inr none ↦ absurd (none.0 i low at)
       ]
 
-  pub total_inner : (t l i : ℕ) → i < length inner → get_or inner i 0 ≡ t → Holds f t l → total_of g l + delta ≡ total_of f l
+  total_inner : (t l i : ℕ) → i < length inner → get_or inner i 0 ≡ t → Holds f t l → total_of g l + delta ≡ total_of f l
   total_inner t l i low at in_t =
       elim (cases_in outer t) [
         | inl clash ↦ absurd (can.apart clash.0 i clash.1 low (clash.2 ∙ sym at))
@@ -94,31 +88,31 @@ module _ (f : Family) (cost : ℕ → ℕ → ℕ) (r : ℕ) (limbs : List Limb)
       between-tops g (IsFamily-raised f outer inner delta fam can) s t u v (IsTop-raised f outer inner delta fam can s top_s) (IsTop-raised f outer inner delta fam can t top_t) differ (held s u ∙ in_s) (held t v ∙ in_t)
 
   -- an edge between an inner and an outer top stays tight, either way round
-  pub tight_tree : (s t u v i j : ℕ) → i < length inner → get_or inner i 0 ≡ s → j < length outer → get_or outer j 0 ≡ t → Holds f s u → Holds f t v → IsTight f cost u v → IsTight g cost u v
+  tight_tree : (s t u v i j : ℕ) → i < length inner → get_or inner i 0 ≡ s → j < length outer → get_or outer j 0 ≡ t → Holds f s u → Holds f t v → IsTight f cost u v → IsTight g cost u v
   tight_tree s t u v i j low_i at_i low_j at_j in_s in_t tight =
       let top_s = subst (λ n. IsTop f n) at_i (can.inner_tops i low_i) in
       let top_t = subst (λ n. IsTop f n) at_j (can.outer_tops j low_j) in
       let differ : s ≢ t = λ same. absurd (can.apart j i low_j low_i (at_j ∙ sym same ∙ sym at_i)) in
       omega (arith, between_after s t u v top_s top_t differ in_s in_t, between-tops f fam s t u v top_s top_t differ in_s in_t, total_inner s u i low_i at_i in_s, total_outer t v j low_j at_j in_t, tight)
 
-  pub tight_tree_back : (s t u v i j : ℕ) → i < length inner → get_or inner i 0 ≡ s → j < length outer → get_or outer j 0 ≡ t → Holds f s u → Holds f t v → IsTight f cost v u → IsTight g cost v u
+  tight_tree_back : (s t u v i j : ℕ) → i < length inner → get_or inner i 0 ≡ s → j < length outer → get_or outer j 0 ≡ t → Holds f s u → Holds f t v → IsTight f cost v u → IsTight g cost v u
   tight_tree_back s t u v i j low_i at_i low_j at_j in_s in_t tight =
       let top_s = subst (λ n. IsTop f n) at_i (can.inner_tops i low_i) in
       let top_t = subst (λ n. IsTop f n) at_j (can.outer_tops j low_j) in
       let differ : t ≢ s = λ same. absurd (can.apart j i low_j low_i (at_j ∙ same ∙ sym at_i)) in
       omega (arith, between_after t s v u top_t top_s differ in_t in_s, between-tops f fam t s v u top_t top_s differ in_t in_s, total_inner s u i low_i at_i in_s, total_outer t v j low_j at_j in_t, tight)
 
-  pub tight_free : (s t u v : ℕ) → IsTop f s → IsTop f t → s ≢ t → IsOut r limbs s → IsOut r limbs t → Holds f s u → Holds f t v → IsTight f cost u v → IsTight g cost u v
+  tight_free : (s t u v : ℕ) → IsTop f s → IsTop f t → s ≢ t → IsOut r limbs s → IsOut r limbs t → Holds f s u → Holds f t v → IsTight f cost u v → IsTight g cost u v
   tight_free s t u v top_s top_t differ out_s out_t in_s in_t tight =
       omega (arith, between_after s t u v top_s top_t differ in_s in_t, between-tops f fam s t u v top_s top_t differ in_s in_t, total_free s u top_s out_s in_s, total_free t v top_t out_t in_t, tight)
 
   -- the totals in one top change alike
-  pub shift_same : (t u v : ℕ) → IsTop f t → Holds f t u → Holds f t v → total_of f u % 2 ≡ total_of f v % 2 → total_of g u % 2 ≡ total_of g v % 2
+  shift_same : (t u v : ℕ) → IsTop f t → Holds f t u → Holds f t v → total_of f u % 2 ≡ total_of f v % 2 → total_of g u % 2 ≡ total_of g v % 2
   shift_same t u v top in_u in_v same =
       omega (arith, total-raised_is f outer inner delta fam can t u top in_u, total-raised_is f outer inner delta fam can t v top in_v, same)
 
   -- no slack turns negative
-  pub slack-raised : CanGrow f cost r limbs delta → ((u v : ℕ) → u < leaf_count f → v < leaf_count f → duals_between f u v ≤ cost u v) → ((u v : ℕ) → u < leaf_count f → v < leaf_count f → cost u v ≡ cost v u) → (s t u v : ℕ) → u < leaf_count f → v < leaf_count f → IsTop f s → IsTop f t → Holds f s u → Holds f t v → duals_between g u v ≤ cost u v
+  slack-raised : CanGrow f cost r limbs delta → ((u v : ℕ) → u < leaf_count f → v < leaf_count f → duals_between f u v ≤ cost u v) → ((u v : ℕ) → u < leaf_count f → v < leaf_count f → cost u v ≡ cost v u) → (s t u v : ℕ) → u < leaf_count f → v < leaf_count f → IsTop f s → IsTop f t → Holds f s u → Holds f t v → duals_between g u v ≤ cost u v
   slack-raised grows slack symmetric s t u v low_u low_v top_s top_t in_s in_t =
       elim (cases_eq s t) [
         | inl same ↦ omega (arith, between-raised_same f outer inner delta fam can s u v top_s in_s (subst (λ n. Holds f n v) (sym same) in_t), slack u v low_u low_v)
@@ -130,12 +124,6 @@ module _ (f : Family) (cost : ℕ → ℕ → ℕ) (r : ℕ) (limbs : List Limb)
 
       before : s ≢ t → duals_between f u v ≡ total_of f u + total_of f v
       before differ = between-tops f fam s t u v top_s top_t differ in_s in_t
-
-      out_holds : (n l : ℕ) → IsTop f n → Holds f n l → IsOut r limbs n → ((j : ℕ) → j < length outer → Holds f (get_or outer j 0) l → ⊥) × ((j : ℕ) → j < length inner → Holds f (get_or inner j 0) l → ⊥)
-      out_holds n l top in_n out = (
-        (λ j low h. out.outer j low (top-apart f fam (get_or outer j 0) n l (can.outer_tops j low) top h in_n)),
-        (λ j low h. out.inner j low (top-apart f fam (get_or inner j 0) n l (can.inner_tops j low) top h in_n)),
-      )
 
       go : s ≢ t → Stand s → Stand t → duals_between g u v ≤ cost u v
       go differ (in_outer i low_i at_i) (in_outer j low_j at_j) =
@@ -150,7 +138,7 @@ module _ (f : Family) (cost : ℕ → ℕ → ℕ) (r : ℕ) (limbs : List Limb)
       go differ (in_outer i low_i at_i) (in_inner j low_j at_j) =
           omega (arith, after differ, before differ, total_outer s u i low_i at_i in_s, total_inner t v j low_j at_j in_t, slack u v low_u low_v)
       go differ (in_outer i low_i at_i) (in_free out) =
-          let away = out_holds t v top_t in_t out in
+          let away = out_holds f fam r limbs can.outer_tops can.inner_tops t v top_t in_t out in
           omega (
             arith,
             after differ,
@@ -166,7 +154,7 @@ module _ (f : Family) (cost : ℕ → ℕ → ℕ) (r : ℕ) (limbs : List Limb)
       go differ (in_inner i low_i at_i) (in_free out) =
           omega (arith, after differ, before differ, total_inner s u i low_i at_i in_s, total_free t v top_t out in_t, slack u v low_u low_v)
       go differ (in_free out) (in_outer j low_j at_j) =
-          let away = out_holds s u top_s in_s out in
+          let away = out_holds f fam r limbs can.outer_tops can.inner_tops s u top_s in_s out in
           omega (
             arith,
             after differ,
@@ -188,7 +176,7 @@ module _ (f : Family) (cost : ℕ → ℕ → ℕ) (r : ℕ) (limbs : List Limb)
         family = IsFamily-raised f outer inner delta fam can;
         slack = λ u v low_u low_v. let s = tops u low_u in let t = tops v low_v in slack-raised grows feasible.slack symmetric s.0 t.0 u v low_u low_v s.1 t.1 s.2 t.2;
         links = λ name i low. link_tight name i (subst (λ c. i < length c) (cycle-raised f outer inner delta fam can name) low) (cycle-raised f outer inner delta fam can name);
-        parity = λ t u v top in_u in_v. shift_same t u v (IsTop-back t top) (sym (held t u) ∙ in_u) (sym (held t v) ∙ in_v) (feasible.parity t u v (IsTop-back t top) (sym (held t u) ∙ in_u) (sym (held t v) ∙ in_v));
+        parity = λ t u v top in_u in_v. shift_same t u v (IsTop-raised_old f outer inner delta fam can t top) (sym (held t u) ∙ in_u) (sym (held t v) ∙ in_v) (feasible.parity t u v (IsTop-raised_old f outer inner delta fam can t top) (sym (held t u) ∙ in_u) (sym (held t v) ∙ in_v));
       }
     where
       link_tight : (name i : ℕ) → i < length (cycle_of f name) → cycle_of g name ≡ cycle_of f name → IsTight g cost (link_at (cycle_of g name) i).from (link_at (cycle_of g name) i).to
@@ -205,58 +193,55 @@ module _ (f : Family) (cost : ℕ → ℕ → ℕ) (r : ℕ) (limbs : List Limb)
           (between-raised_same f outer inner delta fam can t.0 (link_at c i).from (link_at c i).to t.1 t.2 also ∙ feasible.links name i low)
 
   module _ (pairs : List (Option Edge)) (paired : IsPaired f (IsTight f cost) pairs) (tree : IsTree f cost pairs r limbs) where
-    -- part 4
+    -- the tree stays one
     pub IsTree-raised : IsTree g cost pairs r limbs
     IsTree-raised =
         record {
-          outer_tops = λ i low. IsTop-raised f outer inner delta fam can (get_or outer i 0) (tree.outer_tops i low);
-          inner_tops = λ i low. IsTop-raised f outer inner delta fam can (get_or inner i 0) (tree.inner_tops i low);
-          outer_differ = tree.outer_differ;
-          inner_differ = tree.inner_differ;
-          apart = tree.apart;
+          shape = record {
+            outer_tops = λ i low. IsTop-raised f outer inner delta fam can (get_or outer i 0) (tree.shape.outer_tops i low);
+            inner_tops = λ i low. IsTop-raised f outer inner delta fam can (get_or inner i 0) (tree.shape.inner_tops i low);
+            outer_differ = tree.shape.outer_differ;
+            inner_differ = tree.shape.inner_differ;
+            apart = tree.shape.apart;
+            bond_from = λ i low. held (limb_at limbs i).inner (limb_at limbs i).bond.from ∙ tree.shape.bond_from i low;
+            bond_to = λ i low. held (limb_at limbs i).outer (limb_at limbs i).bond.to ∙ tree.shape.bond_to i low;
+            edge_from = λ i low. held (limb_at limbs i).inner (limb_at limbs i).edge.from ∙ tree.shape.edge_from i low;
+            edge_to = λ i low. let at = tree.shape.edge_to i low in (at.0, at.1, held (get_or outer at.0 0) (limb_at limbs i).edge.to ∙ at.2);
+          };
           lone_root = tree.lone_root;
           bond = tree.bond;
-          bond_to = λ i low. held (limb_at limbs i).outer (limb_at limbs i).bond.to ∙ tree.bond_to i low;
-          edge_from = λ i low. held (limb_at limbs i).inner (limb_at limbs i).edge.from ∙ tree.edge_from i low;
-          edge_to = λ i low. let at = tree.edge_to i low in (at.0, at.1, held (get_or outer at.0 0) (limb_at limbs i).edge.to ∙ at.2);
           edge_tight = λ i low.
-              let at = tree.edge_to i low in
-              tight_tree (limb_at limbs i).inner (get_or outer at.0 0) (limb_at limbs i).edge.from (limb_at limbs i).edge.to i at.0 (omega (arith, low, length-inners limbs)) (inner_at limbs i low) (omega (arith, low, at.1, length-outers r limbs)) refl (tree.edge_from i low) at.2 (tree.edge_tight i low);
+              let at = tree.shape.edge_to i low in
+              tight_tree (limb_at limbs i).inner (get_or outer at.0 0) (limb_at limbs i).edge.from (limb_at limbs i).edge.to i at.0 (omega (arith, low, length-inners limbs)) (inner_at limbs i low) (omega (arith, low, at.1, length-outers r limbs)) refl (tree.shape.edge_from i low) at.2 (tree.edge_tight i low);
         }
 
-    -- part 3
+    -- the pairs stay tight
     pub IsPaired-raised : IsPaired g (IsTight g cost) pairs
     IsPaired-raised =
         record {
-          own = λ t p top is. held t p.from ∙ paired.own t p (IsTop-back t top) is;
-          other = λ t p top is. let m = paired.other t p (IsTop-back t top) is in (m.0, IsTop-raised f outer inner delta fam can m.0 m.1, m.2, held m.0 p.to ∙ m.3, m.4);
-          tight = λ t p top is. go t p (IsTop-back t top) is (stand t);
+          own = λ t p top is. held t p.from ∙ paired.own t p (IsTop-raised_old f outer inner delta fam can t top) is;
+          other = λ t p top is. let m = paired.other t p (IsTop-raised_old f outer inner delta fam can t top) is in (m.0, IsTop-raised f outer inner delta fam can m.0 m.1, m.2, held m.0 p.to ∙ m.3, m.4);
+          tight = λ t p top is. go t p (IsTop-raised_old f outer inner delta fam can t top) is (stand t);
         }
       where
-        some_same : {x y : Edge} → ◌≡◌ {A = Option Edge} (Some x) (Some y) → x ≡ y
-        some_same e = cc
-
-        none_some : {x : Edge} → ◌≡◌ {A = Option Edge} None (Some x) → ⊥
-        none_some e = cc
-
         go : (t : ℕ) (p : Edge) → IsTop f t → pair_of pairs t ≡ Some p → Stand t → IsTight g cost p.from p.to
         go t p top is (in_outer i low at) =
-            elim (outer_cases f cost pairs r limbs fam paired tree i low) [
-              | inl root ↦ absurd (none_some (sym tree.lone_root ∙ ap (λ n. pair_of pairs n) (sym root.1 ∙ at) ∙ is))
+            elim (outer_cases r limbs i low) [
+              | inl root ↦ absurd (none-some _ (sym tree.lone_root ∙ ap (λ n. pair_of pairs n) (sym root.1 ∙ at) ∙ is))
               | inr limb ↦
-                  let e : flipped (limb_at limbs limb.0).bond ≡ p = some_same (sym (outer_pair f cost pairs r limbs fam paired tree limb.0 limb.1) ∙ ap (λ n. pair_of pairs n) (sym limb.3 ∙ at) ∙ is) in
+                  let e : flipped (limb_at limbs limb.0).bond ≡ p = same_Some _ _ (sym (outer_pair f cost pairs r limbs fam paired tree limb.0 limb.1) ∙ ap (λ n. pair_of pairs n) (sym limb.3 ∙ at) ∙ is) in
                   subst (λ x. IsTight g cost x.from x.to) e
                   (tight_tree_back (limb_at limbs limb.0).inner t (limb_at limbs limb.0).bond.from (limb_at limbs limb.0).bond.to limb.0 i (omega (arith, limb.1, length-inners limbs)) (inner_at limbs limb.0 limb.1) low at
-                  (bond_from f cost pairs r limbs fam paired tree limb.0 limb.1)
-                  (subst (λ n. Holds f n (limb_at limbs limb.0).bond.to) (sym limb.3 ∙ at) (tree.bond_to limb.0 limb.1))
+                  (tree.shape.bond_from limb.0 limb.1)
+                  (subst (λ n. Holds f n (limb_at limbs limb.0).bond.to) (sym limb.3 ∙ at) (tree.shape.bond_to limb.0 limb.1))
                   (subst (λ x. IsTight f cost x.from x.to) (sym e) (paired.tight t p top is)))
             ]
         go t p top is (in_inner i low at) =
             let within : i < length limbs = omega (arith, low, length-inners limbs) in
-            let e : (limb_at limbs i).bond ≡ p = some_same (sym (tree.bond i within) ∙ ap (λ n. pair_of pairs n) (sym (inner_at limbs i within) ∙ at) ∙ is) in
+            let e : (limb_at limbs i).bond ≡ p = same_Some _ _ (sym (tree.bond i within) ∙ ap (λ n. pair_of pairs n) (sym (inner_at limbs i within) ∙ at) ∙ is) in
             subst (λ x. IsTight g cost x.from x.to) e
             (tight_tree (limb_at limbs i).inner (limb_at limbs i).outer (limb_at limbs i).bond.from (limb_at limbs i).bond.to i (suc i) low (inner_at limbs i within) (omega (arith, within, length-outers r limbs)) (outer_at r limbs i within)
-            (bond_from f cost pairs r limbs fam paired tree i within) (tree.bond_to i within) (bond_tight f cost pairs r limbs fam paired tree i within))
+            (tree.shape.bond_from i within) (tree.shape.bond_to i within) (bond_tight f cost pairs r limbs fam paired tree i within))
         go t p top is (in_free out) =
             let m = paired.other t p top is in
             tight_free t m.0 p.from p.to top m.1 (λ e. m.2 (sym e)) out (mate_out f cost pairs r limbs fam paired tree t m.0 p top m.1 is m.3 out) (paired.own t p top is) m.3 (paired.tight t p top is)
@@ -269,7 +254,7 @@ module _ (f : Family) (cost : ℕ → ℕ → ℕ) (r : ℕ) (limbs : List Limb)
         unpaired = is.unpaired;
         differ = is.differ;
         rootless = is.rootless;
-        every = λ t top none. is.every t (IsTop-back t top) none;
+        every = λ t top none. is.every t (IsTop-raised_old f outer inner delta fam can t top) none;
         even = is.even;
       }
 
@@ -282,11 +267,11 @@ pub record CanTree (f : Family) (cost : ℕ → ℕ → ℕ) : Type 0 where
 pub CanRaise-tree : (f : Family) (cost : ℕ → ℕ → ℕ) (pairs : List (Option Edge)) (r : ℕ) (limbs : List Limb) (delta : ℕ) → IsFeasible f cost → IsPaired f (IsTight f cost) pairs → IsTree f cost pairs r limbs → CanGrow f cost r limbs delta → CanTree f cost → (w free : ℕ) → IsTop f w → IsOut r limbs w → Holds f w free → CanRaise f (outers r limbs) (inners limbs) delta
 CanRaise-tree f cost pairs r limbs delta feasible paired tree grows law w free top_w out_w in_w =
     record {
-      outer_tops = tree.outer_tops;
-      inner_tops = tree.inner_tops;
-      outer_differ = tree.outer_differ;
-      inner_differ = tree.inner_differ;
-      apart = tree.apart;
+      outer_tops = tree.shape.outer_tops;
+      inner_tops = tree.shape.inner_tops;
+      outer_differ = tree.shape.outer_differ;
+      inner_differ = tree.shape.inner_differ;
+      apart = tree.shape.apart;
       enough = λ i low. elim (cases_lt 0 (length (cycle_of f (get_or (inners limbs) i 0)))) [
         | inl blossom ↦ grows.blossoms i low blossom
         | inr none ↦ leaf i low (λ b. absurd (omega (arith, none, b)))
@@ -294,10 +279,11 @@ CanRaise-tree f cost pairs r limbs delta feasible paired tree grows law w free t
       fits = λ i l low in_l.
           let low_l = leaf_bound f fam (get_or (outers r limbs) i 0) l in_l in
           let low_w = leaf_bound f fam w free in_w in
+          let away = out_holds f fam r limbs tree.shape.outer_tops tree.shape.inner_tops w free top_w in_w out_w in
           omega (
             arith,
-            grows.free l free i low_l low_w low in_l (λ j within h. out_w.outer j within (top-apart f fam (get_or (outers r limbs) j 0) w free (tree.outer_tops j within) top_w h in_w)) (λ j within h. out_w.inner j within (top-apart f fam (get_or (inners limbs) j 0) w free (tree.inner_tops j within) top_w h in_w)),
-            between-tops f fam (get_or (outers r limbs) i 0) w l free (tree.outer_tops i low) top_w (out_w.outer i low) in_l in_w,
+            grows.free l free i low_l low_w low in_l away.0 away.1,
+            between-tops f fam (get_or (outers r limbs) i 0) w l free (tree.shape.outer_tops i low) top_w (out_w.outer i low) in_l in_w,
             law.small l free low_l low_w,
           );
     }
@@ -309,29 +295,29 @@ CanRaise-tree f cost pairs r limbs delta feasible paired tree grows law w free t
     leaf i low plain =
         let n = get_or (inners limbs) i 0 in
         let within : i < length limbs = omega (arith, low, length-inners limbs) in
-        let top = tree.inner_tops i low in
+        let top = tree.shape.inner_tops i low in
         let named = fam.leaf_named n top.alive plain in
         let l = named.0 in
         let n_is : get_or f.leaf_nodes l 0 ≡ n = get_or_default f.leaf_nodes l 0 n named.1 ∙ named.2 in
         let b = limb_at limbs i in
-        let at = tree.edge_to i within in
-        let from_edge : Holds f n b.edge.from = subst (λ m. Holds f m b.edge.from) (sym (inner_at limbs i within)) (tree.edge_from i within) in
-        let from_bond : Holds f n b.bond.from = subst (λ m. Holds f m b.bond.from) (sym (inner_at limbs i within)) (bond_from f cost pairs r limbs fam paired tree i within) in
-        let e : l ≡ b.edge.from = single l (named.1) (subst (λ m. Holds f m b.edge.from) (sym n_is) from_edge) in
-        let d : l ≡ b.bond.from = single l (named.1) (subst (λ m. Holds f m b.bond.from) (sym n_is) from_bond) in
+        let at = tree.shape.edge_to i within in
+        let from_edge : Holds f n b.edge.from = subst (λ m. Holds f m b.edge.from) (sym (inner_at limbs i within)) (tree.shape.edge_from i within) in
+        let from_bond : Holds f n b.bond.from = subst (λ m. Holds f m b.bond.from) (sym (inner_at limbs i within)) (tree.shape.bond_from i within) in
+        let e : l ≡ b.edge.from = leaf-only f fam l b.edge.from named.1 (subst (λ m. Holds f m b.edge.from) (sym n_is) from_edge) in
+        let d : l ≡ b.bond.from = leaf-only f fam l b.bond.from named.1 (subst (λ m. Holds f m b.bond.from) (sym n_is) from_bond) in
         let s = get_or (outers r limbs) at.0 0 in
         let q = get_or (outers r limbs) (suc i) 0 in
         let low_s : at.0 < length (outers r limbs) = omega (arith, at.1, within, length-outers r limbs) in
         let low_q : suc i < length (outers r limbs) = omega (arith, within, length-outers r limbs) in
-        let in_q : Holds f q b.bond.to = subst (λ m. Holds f m b.bond.to) (sym (outer_at r limbs i within)) (tree.bond_to i within) in
+        let in_q : Holds f q b.bond.to = subst (λ m. Holds f m b.bond.to) (sym (outer_at r limbs i within)) (tree.shape.bond_to i within) in
         let low_y = leaf_bound f fam s b.edge.to at.2 in
         let low_z = leaf_bound f fam q b.bond.to in_q in
         subst (λ m. delta ≤ dual_of f m) n_is
         (inner-leaf_enough f fam cost l b.edge.to b.bond.to s q delta named.1 (subst (λ m. IsTop f m) (sym n_is) top)
-        (tree.outer_tops at.0 low_s) (tree.outer_tops (suc i) low_q)
-        (λ same. absurd (apart_places at.0 i at.1 (tree.outer_differ at.0 (suc i) low_s low_q same)))
-        (λ same. absurd (tree.apart at.0 i low_s low (sym same ∙ n_is)))
-        (λ same. absurd (tree.apart (suc i) i low_q low (sym same ∙ n_is)))
+        (tree.shape.outer_tops at.0 low_s) (tree.shape.outer_tops (suc i) low_q)
+        (λ same. absurd (apart_places at.0 i at.1 (tree.shape.outer_differ at.0 (suc i) low_s low_q same)))
+        (λ same. absurd (tree.shape.apart at.0 i low_s low (sym same ∙ n_is)))
+        (λ same. absurd (tree.shape.apart (suc i) i low_q low (sym same ∙ n_is)))
         (subst (λ m. Holds f m l) (sym n_is) (subst (λ x. Holds f n x) (sym e) from_edge)) at.2 in_q
         (subst (λ x. IsTight f cost x b.edge.to) (sym e) (tree.edge_tight i within))
         (subst (λ x. IsTight f cost x b.bond.to) (sym d) (bond_tight f cost pairs r limbs fam paired tree i within))
@@ -340,10 +326,3 @@ CanRaise-tree f cost pairs r limbs delta feasible paired tree grows law w free t
       where
         apart_places : (j i : ℕ) → j ≤ i → j ≡ suc i → ⊥
         apart_places j i less same = omega (arith, less, same)
-
-        or_false : (b : Bool) → (b || false) ≡ true → b ≡ true
-        or_false true e = refl
-        or_false false e = e
-
-        single : (l : ℕ) → l < leaf_count f → {x : ℕ} → Holds f (get_or f.leaf_nodes l 0) x → l ≡ x
-        single l low {x} h = eqb-true l x (or_false (eqb l x) (sym (ap (λ o. has_leaf (option_map_or (λ n. n.leaves) o []) x) (fam.leaf_set l low)) ∙ h))

@@ -1,23 +1,26 @@
 -- An engine after a tight pair out of the tree was followed.
 use Rattle.std.proofs.Common.{◌≡◌, ℕ, ◌+◌, ◌*◌, ◌-◌, ◌<◌, ◌≤◌, ◌||◌, Bool, false, List, [], ◌∷◌, ◌++◌, length, get_or, Contains, Option, Some, None, refl, sym, ap, ◌∙◌, subst, inl, inr, arith}
+use Rattle.std.proofs.lemmas.Option.{none-some, same_Some}
 use Rattle.std.proofs.lemmas.Bool.{cases_Bool}
 use Rattle.std.proofs.lemmas.List.{get_or_default, map-append}
 use Rattle.std.proofs.lemmas.List.Elements.{Contains-get_or}
 use Rattle.std.proofs.lemmas.List.Folds.{list_any-append}
-use Rattle.sg_arena.proofs.FamilyLemmas.{leaf_bound, name_bound, top-apart}
+use Rattle.sg_arena.proofs.FamilyLemmas.{leaf_bound, top-apart}
 use Rattle.sg_arena.proofs.ListLemmas.{place_of_any}
 use Rattle.sg_arena.specs.Family.{Family, Holds, IsFamily, IsTop, holds, leaf_count}
-use Rattle.sg_match.proofs.FlipLemmas.{tight-back}
+use Rattle.sg_match.proofs.EngineLemmas.{symmetric}
 use Rattle.sg_match.proofs.GrowStep.{IsTree-grown}
-use Rattle.sg_match.proofs.NameLemmas.{short}
+use Rattle.sg_match.proofs.NameLemmas.{place_of_name}
 use Rattle.sg_match.proofs.PairLemmas.{mate_differs}
 use Rattle.sg_match.proofs.StepsStep.{rest-one_fewer}
-use Rattle.sg_match.proofs.TreeLemmas.{inner_top, length-outers, mate_out, outer_top}
+use Rattle.sg_match.proofs.TightLemmas.{tight-back}
+use Rattle.sg_match.proofs.TreeLemmas.{inner_top, length-outers, limb_room, mate_out, outer_top}
 use Rattle.sg_match.specs.Augmented.{CanFlip, Flipped, HasTops}
 use Rattle.sg_match.specs.Engine.{IsEngine}
 use Rattle.sg_match.specs.Events.{IsReach, IsReachInto}
 use Rattle.sg_match.specs.Feasible.{IsTight}
-use Rattle.sg_match.specs.Lonely.{IsLonely, IsTaken}
+use Rattle.sg_match.specs.Lonely.{IsLonely}
+use Rattle.sg_match.specs.Names.{IsTaken}
 use Rattle.sg_match.specs.Metric.{cost}
 use Rattle.sg_match.specs.Pairs.{pair_of}
 use Rattle.sg_match.specs.State.{State}
@@ -32,7 +35,7 @@ abbrev pub IsAfter : State → State → Type 0
 IsAfter new old = IsEngine new × (steps_left new + 1 ≤ steps_left old)
 
 -- a limb for a top and its mate
-abbrev pub grown_limb : (u v top outer : ℕ) → Edge → Limb
+abbrev grown_limb : (u v top outer : ℕ) → Edge → Limb
 grown_limb u v top outer bond = record { inner = top; outer = outer; edge = record { from = v; to = u }; bond = bond }
 
 module _ (f : Family) (table : Table) (pairs : List (Option Edge)) (lonely : List ℕ) where
@@ -46,24 +49,12 @@ module _ (f : Family) (table : Table) (pairs : List (Option Edge)) (lonely : Lis
     tree : IsTree f (cost table) pairs root limbs
     tree = engine.tree
 
-    symmetric : (a b : ℕ) → a < leaf_count f → b < leaf_count f → cost table a b ≡ cost table b a
-    symmetric a b low_a low_b = engine.costs.symmetric a b (omega (arith, low_a, engine.leaves)) (omega (arith, low_b, engine.leaves))
-
-    -- the outer tops are different names
-    room : length limbs < length f.nodes
-    room =
-        omega (
-          arith,
-          length-outers root limbs,
-          short (outers root limbs) (length f.nodes) tree.outer_differ (λ i low. name_bound f (get_or (outers root limbs) i 0) (tree.outer_tops i low).alive),
-        )
-
     tops : (i : ℕ) → i < length limbs → HasTops f (limb_at limbs i)
     tops i low =
-        let to = tree.edge_to i low in
+        let to = tree.shape.edge_to i low in
         record {
-          inner = inner_top f (cost table) pairs root limbs fam engine.paired tree i low;
-          outer = outer_top f (cost table) pairs root limbs fam engine.paired tree i low;
+          inner = inner_top f root limbs tree.shape i low;
+          outer = outer_top f root limbs tree.shape i low;
           to = leaf_bound f fam (get_or (outers root limbs) to.0 0) (limb_at limbs i).edge.to to.2;
         }
 
@@ -95,7 +86,7 @@ module _ (f : Family) (table : Table) (pairs : List (Option Edge)) (lonely : Lis
           not_held = elim (cases_Bool (any_top f (outers root limbs) bond.to)) [
             | inl some ↦
                 let at = place_of_any (has bond.to) (outers root limbs) 0 some in
-                absurd (mate.outer at.0 at.1 (top-apart f fam (get_or (outers root limbs) at.0 0) outer bond.to (tree.outer_tops at.0 at.1) top_outer at.2 bond_to))
+                absurd (mate.outer at.0 at.1 (top-apart f fam (get_or (outers root limbs) at.0 0) outer bond.to (tree.shape.outer_tops at.0 at.1) top_outer at.2 bond_to))
             | inr none ↦ none
           ]
 
@@ -123,8 +114,8 @@ module _ (f : Family) (table : Table) (pairs : List (Option Edge)) (lonely : Lis
                 lonely = engine.lonely;
                 tree = IsTree-grown f (cost table) pairs root limbs tree limb out mate is_top top_outer
                     (mate_differs f (IsTight f (cost table)) pairs fam engine.paired top outer bond is_top top_outer bonded bond_to)
-                    bonded bond_to held reach.outer
-                    (tight-back f (cost table) u v (symmetric u v reach.low_u reach.low_v) reach.tight);
+                    bonded (engine.paired.own top bond is_top bonded) bond_to held reach.outer
+                    (tight-back f (cost table) u v (symmetric (with_tree (Some root) limbs) engine u v reach.low_u reach.low_v) reach.tight);
                 left = omega (arith, less, engine.left);
               }
 
@@ -134,7 +125,7 @@ module _ (f : Family) (table : Table) (pairs : List (Option Edge)) (lonely : Lis
             record {
               paired = engine.paired;
               tree = tree;
-              symmetric = symmetric;
+              symmetric = symmetric (with_tree (Some root) limbs) engine;
               outer = reach.outer;
               lone = λ t top_t holds_t. (reach.out t top_t holds_t, ap (λ n. pair_of pairs n) (top-apart f fam t top v top_t is_top holds_t held) ∙ unpaired);
               tight = reach.tight;
@@ -143,23 +134,17 @@ module _ (f : Family) (table : Table) (pairs : List (Option Edge)) (lonely : Lis
         -- the top is one of the unpaired ones
         listed : Contains lonely top
         listed = elim (engine.lonely.every top is_top unpaired) [
-          | inl is_root ↦ absurd (out.outer 0 (omega (arith, length-outers root limbs)) (some_same is_root))
+          | inl is_root ↦ absurd (out.outer 0 (omega (arith, length-outers root limbs)) (same_Some _ _ is_root))
           | inr at ↦ (at.0, at.1, get_or_default lonely at.0 top 0 at.1 ∙ at.2)
         ]
-          where
-            some_same : {x y : ℕ} → ◌≡◌ {A = Option ℕ} (Some x) (Some y) → x ≡ y
-            some_same e = cc
 
         module _ (now : List (Option Edge)) (rest : List ℕ) (flip : Flipped f (cost table) pairs now root v) (taken : IsTaken lonely rest top) where
           abbrev done : State
           done = record { family = f; table = table; pairs = now; lonely = rest; root = None; limbs = [] }
 
-          place_in : (xs : List ℕ) (n : ℕ) → Contains xs n → (i : ℕ) × (i < length xs) × (get_or xs i 0 ≡ n)
-          place_in xs n at = (at.0, at.1, get_or_default xs at.0 0 n at.1 ∙ at.2)
-
           -- each that is left was there before
           was : (i : ℕ) → i < length rest → (j : ℕ) × (j < length lonely) × (get_or lonely j 0 ≡ get_or rest i 0)
-          was i low = place_in lonely (get_or rest i 0) (taken.within (get_or rest i 0) (Contains-get_or rest i 0 low))
+          was i low = place_of_name lonely (get_or rest i 0) (taken.within (get_or rest i 0) (Contains-get_or rest i 0 low))
 
           top_at : (i : ℕ) → i < length rest → IsTop f (get_or rest i 0)
           top_at i low = let at = was i low in subst (λ n. IsTop f n) at.2 (engine.lonely.tops at.0 at.1)
@@ -180,22 +165,16 @@ module _ (f : Family) (table : Table) (pairs : List (Option Edge)) (lonely : Lis
                     (λ same. engine.lonely.rootless at.0 at.1 (ap (λ n. Some n) (sym same ∙ sym at.2)))
                     (away i low);
                 differ = taken.differ engine.lonely.differ;
-                rootless = λ i low same. none_some same;
+                rootless = λ i low same. none-some _ same;
                 every = λ t top_t none.
                     let old = flip.fewer t none in
                     elim (engine.lonely.every t top_t old.0) [
-                      | inl is_root ↦ absurd (old.1 (sym (some_same is_root)))
+                      | inl is_root ↦ absurd (old.1 (sym (same_Some _ _ is_root)))
                       | inr at ↦
-                          inr (place_in rest t (taken.rest t (at.0, at.1, get_or_default lonely at.0 t 0 at.1 ∙ at.2) (λ same. old.2 (top_t, subst (λ n. Holds f n v) (sym same) held))))
+                          inr (place_of_name rest t (taken.rest t (at.0, at.1, get_or_default lonely at.0 t 0 at.1 ∙ at.2) (λ same. old.2 (top_t, subst (λ n. Holds f n v) (sym same) held))))
                     ];
                 even = omega (arith, taken.count listed, engine.lonely.even);
               }
-            where
-              none_some : {x : ℕ} → ◌≡◌ {A = Option ℕ} None (Some x) → ⊥
-              none_some e = cc
-
-              some_same : {x y : ℕ} → ◌≡◌ {A = Option ℕ} (Some x) (Some y) → x ≡ y
-              some_same e = cc
 
           ended : steps_left done + 1 ≤ steps_left (with_tree (Some root) limbs)
           ended = fall (2 * leaf_count f) (length rest) (length lonely) (rest_of f root limbs) (2 * blossoms_of f) (taken.count listed)
@@ -228,13 +207,13 @@ module _ (f : Family) (table : Table) (pairs : List (Option Edge)) (lonely : Lis
   reached = subst (λ (x : Option ℕ). IsReach (with_tree f table pairs lonely x limbs) root u v) here.root_is here.reach
 
   pub root_top : IsTop f root
-  root_top = rooted.tree.outer_tops 0 (omega (arith, length-outers root limbs))
+  root_top = rooted.tree.shape.outer_tops 0 (omega (arith, length-outers root limbs))
 
   pub limb_tops : (i : ℕ) → i < length limbs → HasTops f (limb_at limbs i)
   limb_tops = tops f table pairs lonely root limbs rooted
 
-  pub limb_room : length limbs < length f.nodes
-  limb_room = room f table pairs lonely root limbs rooted
+  pub limb_fits : length limbs < length f.nodes
+  limb_fits = limb_room f root limbs rooted.tree.shape
 
   module _ (bond : Edge) (bonded : pair_of s.pairs top ≡ Some bond) where
     bonded_here : pair_of pairs top ≡ Some bond

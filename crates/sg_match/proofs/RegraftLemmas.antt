@@ -6,7 +6,7 @@ use Rattle.sg_match.specs.Tree.{limb_at}
 use Rattle.sg_match.specs.declared.Limb.{Limb}
 
 -- a map with one value changed to its own argument
-abbrev pub put_at : ℕ → (ℕ → ℕ) → ℕ → ℕ
+abbrev put_at : ℕ → (ℕ → ℕ) → ℕ → ℕ
 put_at i at k = cond (eqb k i) i (at k)
 
 pub record IsRegrafting (nodes : List ℕ) (base blossom : ℕ) (old now : List Limb) (i : ℕ) : Type 0 where

@@ -8,7 +8,9 @@ use Rattle.sg_arena.specs.declared.Link.{Link}
 use Rattle.sg_match.proofs.ExpandStep.{halves}
 use Rattle.sg_match.proofs.GraftStep.{IsRegrow-graft, IsTree-regrown}
 use Rattle.sg_match.proofs.RotateLemmas.{cases_after}
-use Rattle.sg_match.specs.Grafts.{CanRegrow, IsGraft, IsOdd, IsRegrow, OuterStays, hung_limb, new_limb, with_inner}
+use Rattle.sg_match.specs.Regrown.{CanRegrow, IsRegrow, with_inner}
+use Rattle.sg_match.specs.Grafts.{IsGraft, OuterStays, hung_limb, new_limb}
+use Rattle.sg_match.specs.Rings.{IsOdd}
 use Rattle.sg_match.specs.Pairs.{pair_of}
 use Rattle.sg_match.specs.Tree.{IsTree, blank_limb, limb_at}
 use Rattle.sg_match.specs.declared.Edge.{Edge}

@@ -4,11 +4,10 @@ use Rattle.std.proofs.lemmas.Bool.{cases_eq, ne_eqb}
 use Rattle.sg_arena.proofs.FamilyLemmas.{leaf_bound}
 use Rattle.sg_arena.specs.Family.{Family, Holds, IsCycle, after_index, cycle_of, leaf_count, link_at}
 use Rattle.sg_arena.specs.declared.Link.{Link}
-use Rattle.sg_match.proofs.FlipLemmas.{tight-back}
 use Rattle.sg_match.proofs.RotateLemmas.{IsCycle-rotated, cases_after, from_ring, to_ring}
+use Rattle.sg_match.proofs.TightLemmas.{tight-back}
 use Rattle.sg_match.specs.Feasible.{IsFeasible, IsTight}
-use Rattle.sg_match.specs.Grafts.{IsFaced}
-use Rattle.sg_match.specs.Rings.{IsBackwards, rotated}
+use Rattle.sg_match.specs.Rings.{IsBackwards, IsFaced, rotated}
 
 -- the children of a blossom as a ring of tight links
 pub record IsRing (f : Family) (cost : ℕ → ℕ → ℕ) (b : ℕ) (ring : List Link) : Type 0 where
@@ -42,10 +41,10 @@ IsRing-rotated f cost b i feasible symmetric low =
     tight j low_j = let x = to_ring i c j low low_j in subst (λ (l : Link). IsTight f cost l.from l.to) x.2 (feasible.links b x.0 x.1)
 
 module _ (ring turned : List Link) (is : IsBackwards ring turned) where
-  pub first_back : 0 < length ring → (link_at turned 0).node ≡ (link_at ring 0).node
+  first_back : 0 < length ring → (link_at turned 0).node ≡ (link_at ring 0).node
   first_back some = is.node 0 some
 
-  pub later_back : (i : ℕ) → 0 < i → i < length ring → (link_at turned i).node ≡ (link_at ring (length ring - i)).node
+  later_back : (i : ℕ) → 0 < i → i < length ring → (link_at turned i).node ≡ (link_at ring (length ring - i)).node
   later_back i positive low = let away : i ≢ 0 = omega (arith, positive) in rw (ne_eqb i 0 away) at (is.node i low)
 
   -- where each node stood
@@ -85,7 +84,7 @@ module _ (ring turned : List Link) (is : IsBackwards ring turned) where
   back_differ a b x y low_a low_b (inr p) (inr q) same = omega (arith, p.1, q.1, same)
 
   -- the other way round
-  pub IsRing-back : (f : Family) (cost : ℕ → ℕ → ℕ) (b : ℕ) → IsRing f cost b ring → IsRing f cost b turned
+  IsRing-back : (f : Family) (cost : ℕ → ℕ → ℕ) (b : ℕ) → IsRing f cost b ring → IsRing f cost b turned
   IsRing-back f cost b old =
       record {
         cycle = record {

@@ -1,14 +1,14 @@
 -- A ring read from another place on.
-use Rattle.std.proofs.Common.{Contains, List, [], ap, arith, cond, drop, eq-eqb, inl, inr, length, length-append, ltb, refl, subst, sym, take, ℕ, ◌%◌, ◌+◌, ◌++◌, ◌-◌, ◌<◌, ◌∙◌, ◌∷◌, ◌≡◌, ◌≢◌, ◌≤◌, ◌⊎◌}
+use Rattle.std.proofs.Common.{List, [], ap, arith, cond, drop, eq-eqb, inl, inr, length, length-append, ltb, refl, subst, sym, take, ℕ, ◌%◌, ◌+◌, ◌++◌, ◌-◌, ◌<◌, ◌∙◌, ◌∷◌, ◌≡◌, ◌≢◌, ◌≤◌, ◌⊎◌}
 use Rattle.std.proofs.lemmas.Bool.{cases_eq, cases_lt, le-ltb, lt-ltb, ne_eqb}
-use Rattle.std.proofs.lemmas.List.{get_or-append_right, get_or-drop, get_or-take, get_or_append_left, get_or_default, length-drop, length-take-le, take_all, take_more}
-use Rattle.std.proofs.lemmas.List.Elements.{Contains-get_or}
+use Rattle.std.proofs.lemmas.List.{get_or-append_right, get_or-drop, get_or-take, get_or_append_left, length-drop, length-take-le, take_all, take_more}
 use Rattle.sg_arena.proofs.FamilyLemmas.{after_within, alive_from_holds, name_bound}
 use Rattle.sg_arena.specs.Family.{Family, Holds, IsChildAt, IsCycle, IsFamily, after_index, blank_link, cycle_of, link_at}
 use Rattle.sg_arena.specs.declared.Link.{Link}
 use Rattle.sg_match.proofs.NameLemmas.{short}
-use Rattle.sg_match.proofs.ShrinkStep.{length-nodes, node_at_place}
-use Rattle.sg_match.specs.Path.{Differ, nodes_of}
+use Rattle.sg_match.proofs.NodeLemmas.{length-nodes, node_at_place}
+use Rattle.sg_match.specs.Names.{Differ}
+use Rattle.sg_match.specs.Path.{nodes_of}
 use Rattle.sg_match.specs.Rings.{rotated}
 
 -- the place that stands j places behind place i of n, where both are below n
@@ -46,7 +46,7 @@ cases_after n i = elim (cases_eq (i + 1) n) [
   | inr differs ↦ inr (differs, rw (ne_eqb (i + 1) n differs) refl)
 ]
 
-pub wrapped-after : (n i j : ℕ) → i < n → j < n → after_index n (wrapped n i j) ≡ wrapped n i (after_index n j)
+wrapped-after : (n i j : ℕ) → i < n → j < n → after_index n (wrapped n i j) ≡ wrapped n i (after_index n j)
 wrapped-after n i j low_i low_j =
     after_all (wrapped n i j) (after_index n (wrapped n i j)) (after_index n j) (wrapped n i (after_index n j))
     (cases_wrapped n i j) (cases_after n (wrapped n i j)) (cases_after n j) (cases_wrapped n i (after_index n j))
@@ -121,22 +121,6 @@ IsCycle-rotated f c i low is =
           subst (λ (l : Link). Holds f l.node (link_at (rotated i c) j).to) here
           (subst (λ (l : Link). Holds f (link_at c (after_index n (wrapped n i j))).node l.to) (sym (link_at-rotated i c j low low_j)) held);
     }
-
--- the nodes of a ring, by place
-pub node_in : (c : List Link) (i : ℕ) → i < length c → Contains (nodes_of c) (link_at c i).node
-node_in c i low = subst (λ n. Contains (nodes_of c) n) (node_at_place c i low) (Contains-get_or (nodes_of c) i 0 (omega (arith, low, length-nodes c)))
-
-pub place_in : (c : List Link) (n : ℕ) → Contains (nodes_of c) n → (i : ℕ) × (i < length c) × ((link_at c i).node ≡ n)
-place_in c n at =
-    let low : at.0 < length c = omega (arith, at.1, length-nodes c) in
-    (at.0, low, sym (node_at_place c at.0 low) ∙ get_or_default (nodes_of c) at.0 0 n at.1 ∙ at.2)
-
--- a node of the ring is one of the rotated ring
-pub in_rotated : (i : ℕ) (c : List Link) (n : ℕ) → i < length c → Contains (nodes_of c) n → Contains (nodes_of (rotated i c)) n
-in_rotated i c n low is =
-    let at = place_in c n is in
-    let new = from_ring i c at.0 low at.1 in
-    subst (λ m. Contains (nodes_of (rotated i c)) m) (ap (λ (l : Link). l.node) new.2 ∙ at.2) (node_in (rotated i c) new.0 new.1)
 
 -- the nodes of a cycle differ
 pub Differ-cycle : (f : Family) (c : List Link) → IsCycle f c → Differ (nodes_of c)

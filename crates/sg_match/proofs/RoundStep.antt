@@ -1,24 +1,27 @@
--- What a raise of the tree makes of an engine's state.
-use Rattle.std.proofs.Common.{◌≡◌, ◌≢◌, ℕ, suc, ◌+◌, ◌*◌, ◌-◌, ◌<◌, ◌≤◌, ◌%◌, Bool, true, false, not, cond, eqb, ℤ, pos, List, [], ◌∷◌, length, get_or, count_by, MatchOption, Option, Some, None, refl, sym, ap, ◌∙◌, subst, inl, inr, arith}
-use Rattle.std.proofs.lemmas.List.Sums.{sum_by-cons}
+-- The engine's state after a round: a raise of the tree, and what is tight then.
+use Rattle.std.proofs.Common.{◌≡◌, ◌≢◌, ℕ, ◌+◌, ◌*◌, ◌-◌, ◌<◌, ◌≤◌, ◌%◌, Bool, true, false, not, cond, eqb, ℤ, pos, List, [], length, get_or, MatchOption, Option, Some, None, refl, sym, ap, ◌∙◌, subst, inl, inr, arith}
+use Rattle.std.proofs.lemmas.Option.{none-some}
 use Rattle.std.specs.List.{list_any, range_with_len}
 use Rattle.std.specs.Option.{option_map, option_map_or}
 use Rattle.std.proofs.lemmas.Int.{ints}
 use Rattle.std.proofs.lemmas.List.{ext_get_or}
 use Rattle.sg_arena.proofs.DualLemmas.{between-tops}
-use Rattle.sg_arena.proofs.FamilyLemmas.{name_bound, some_leaf}
+use Rattle.sg_arena.proofs.FamilyLemmas.{some_leaf}
 use Rattle.sg_arena.proofs.ListLemmas.{cases_in, list_any-agree, sum_by-agree}
-use Rattle.sg_arena.proofs.RaisedFamily.{cycle-raised, length-raised, node_at-raised}
+use Rattle.sg_arena.proofs.RaisedFamily.{IsTop-raised_old, cycle-raised, length-raised, node_at-raised}
 use Rattle.sg_arena.specs.Changes.{CanRaise, nat_of, raised, raised_dual, with_dual}
-use Rattle.sg_arena.specs.Family.{Family, Holds, IsAlive, IsBlossom, IsFamily, IsTop, Node, dual_of, holds, leaf_count, node_at}
+use Rattle.sg_arena.specs.Family.{Family, Holds, IsBlossom, IsFamily, IsTop, Node, dual_of, holds, leaf_count, node_at}
 use Rattle.sg_match.proofs.InnerLemmas.{IsLeastDual}
-use Rattle.sg_match.proofs.NameLemmas.{short}
+use Rattle.sg_sums.proofs.SumLaws.{sum_below-same, sum_by_is_sum_below}
+use Rattle.sg_sums.specs.Sums.{sum_below}
+use Rattle.sg_match.proofs.EngineLemmas.{even, lonely_of, symmetric, tree_of}
 use Rattle.sg_match.proofs.ParityLemmas.{tree_parity}
 use Rattle.sg_match.proofs.PressStep.{CanGrow-nearest}
-use Rattle.sg_match.proofs.RaiseStep.{CanRaise-tree, IsFeasible-raised, IsLonely-raised, IsPaired-raised, IsTop-back, IsTree-raised, between_after, held, total_free, total_outer}
-use Rattle.sg_match.proofs.TreeLemmas.{bond_from, inner_at, inner_top, length-inners, outer_cases, outer_pair}
+use Rattle.sg_match.proofs.RaiseStep.{CanRaise-tree, IsFeasible-raised, IsLonely-raised, IsPaired-raised, IsTree-raised, between_after, held, total_free, total_outer}
+use Rattle.sg_match.proofs.TreeLemmas.{inner_at, length-inners, outer_cases, outer_pair}
 use Rattle.sg_match.proofs.TopLemmas.{top_of}
-use Rattle.sg_match.specs.Amount.{CanGrow, IsFlat}
+use Rattle.sg_match.specs.Amount.{CanGrow}
+use Rattle.sg_match.specs.Flat.{IsFlat}
 use Rattle.sg_match.specs.Engine.{IsEngine}
 use Rattle.sg_match.specs.Events.{IsNext}
 use Rattle.sg_match.specs.Feasible.{IsFeasible, IsTight}
@@ -28,7 +31,7 @@ use Rattle.sg_match.specs.Pairs.{IsPaired, pair_of}
 use Rattle.sg_match.specs.Reaches.{CanReach, IsAt, IsAway, IsHalfway, IsNearest}
 use Rattle.sg_match.specs.State.{State}
 use Rattle.sg_match.specs.Steps.{blossoms_of, has_children, rest_of, steps_left, tree_left}
-use Rattle.sg_match.specs.Tree.{IsOut, IsShape, IsTree, any_top, inners, limb_at, outers}
+use Rattle.sg_match.specs.Tree.{IsOut, IsTree, any_top, inners, limb_at, outers}
 use Rattle.sg_match.specs.declared.Edge.{Edge}
 use Rattle.sg_match.specs.declared.Event.{Event}
 use Rattle.sg_match.specs.declared.Event.TheVariants.{Flat, Join, Reach}
@@ -50,38 +53,21 @@ raised-none f outer inner =
     same n (Some x) = ap (λ d. Some (record { leaves = x.leaves; dual = d; cycle = x.cycle })) (dual_same (list_any (λ m. eqb m n) outer) (list_any (λ m. eqb m n) inner) x.dual)
 
 module _ (f : Family) (cost : ℕ → ℕ → ℕ) (pairs : List (Option Edge)) (r : ℕ) (limbs : List Limb) (fam : IsFamily f) (paired : IsPaired f (IsTight f cost) pairs) (tree : IsTree f cost pairs r limbs) where
-  pub IsShape-tree : IsShape f r limbs
-  IsShape-tree =
-      record {
-        outer_tops = tree.outer_tops;
-        inner_tops = tree.inner_tops;
-        outer_differ = tree.outer_differ;
-        inner_differ = tree.inner_differ;
-        apart = tree.apart;
-        bond_from = bond_from f cost pairs r limbs fam paired tree;
-        bond_to = tree.bond_to;
-        edge_from = tree.edge_from;
-        edge_to = tree.edge_to;
-      }
-
   -- an unpaired top that isn't the root is outside the tree
-  pub out_of_unpaired : (t : ℕ) → pair_of pairs t ≡ None → r ≢ t → IsOut r limbs t
+  out_of_unpaired : (t : ℕ) → pair_of pairs t ≡ None → r ≢ t → IsOut r limbs t
   out_of_unpaired t none differ =
       record {
-        outer = λ i low same. elim (outer_cases f cost pairs r limbs fam paired tree i low) [
+        outer = λ i low same. elim (outer_cases r limbs i low) [
           | inl root ↦ differ (sym root.1 ∙ same)
-          | inr at ↦ none_some (sym none ∙ ap (λ n. pair_of pairs n) (sym same ∙ at.3) ∙ outer_pair f cost pairs r limbs fam paired tree at.0 at.1)
+          | inr at ↦ none-some _ (sym none ∙ ap (λ n. pair_of pairs n) (sym same ∙ at.3) ∙ outer_pair f cost pairs r limbs fam paired tree at.0 at.1)
         ];
         inner = λ i low same.
             let within : i < length limbs = omega (arith, low, length-inners limbs) in
-            none_some (sym none ∙ ap (λ n. pair_of pairs n) (sym same ∙ inner_at limbs i within) ∙ tree.bond i within);
+            none-some _ (sym none ∙ ap (λ n. pair_of pairs n) (sym same ∙ inner_at limbs i within) ∙ tree.bond i within);
       }
-    where
-      none_some : {x : Edge} → ◌≡◌ {A = Option Edge} None (Some x) → ⊥
-      none_some e = cc
 
   -- a leaf outside the tree
-  pub some_free : (lonely : List ℕ) → IsLonely f pairs (Some r) lonely → (t : ℕ) × (v : ℕ) × IsTop f t × IsOut r limbs t × Holds f t v
+  some_free : (lonely : List ℕ) → IsLonely f pairs (Some r) lonely → (t : ℕ) × (v : ℕ) × IsTop f t × IsOut r limbs t × Holds f t v
   some_free lonely is =
       let first : 0 < length lonely = omega (arith, is.even) in
       let t = get_or lonely 0 0 in
@@ -89,36 +75,28 @@ module _ (f : Family) (cost : ℕ → ℕ → ℕ) (pairs : List (Option Edge)) 
       let v = some_leaf f fam t top.alive in
       (t, v.0, top, out_of_unpaired t (is.unpaired 0 first) (λ e. is.rootless 0 first (ap Some e)), v.1)
 
-  pub CanReach-tree : IsFeasible f cost → (lonely : List ℕ) → IsLonely f pairs (Some r) lonely → ((u v : ℕ) → u < leaf_count f → v < leaf_count f → cost u v % 2 ≡ 0) → CanReach f cost r limbs
+  CanReach-tree : IsFeasible f cost → (lonely : List ℕ) → IsLonely f pairs (Some r) lonely → ((u v : ℕ) → u < leaf_count f → v < leaf_count f → cost u v % 2 ≡ 0) → CanReach f cost r limbs
   CanReach-tree feasible lonely is even =
       let first : 0 < length (outers r limbs) = omega arith in
-      let w = some_leaf f fam r (tree.outer_tops 0 first).alive in
+      let w = some_leaf f fam r (tree.shape.outer_tops 0 first).alive in
       record {
         feasible = feasible;
-        shape = IsShape-tree;
+        shape = tree.shape;
         free = some_free lonely is;
         alike = λ i j u v low_i low_j in_u in_v. tree_parity f cost pairs r limbs feasible paired tree even i j u v w.0 w.1 low_i low_j in_u in_v;
       }
 
--- tests that agree at each place count the same
-count_by-alike : {X : Type 0} (p : X → Bool) (d : X) (xs ys : List X) → length xs ≡ length ys → ((i : ℕ) → i < length xs → p (get_or xs i d) ≡ p (get_or ys i d)) → count_by p xs ≡ count_by p ys
-count_by-alike p d [] [] count same = refl
-count_by-alike p d [] (y ∷ ys) count same = absurd (omega (arith, count))
-count_by-alike p d (x ∷ xs) [] count same = absurd (omega (arith, count))
-count_by-alike p d (x ∷ xs) (y ∷ ys) count same =
-    omega (
-      arith,
-      count_by-alike p d xs ys (omega (arith, count)) (λ i low. same (suc i) (omega (arith, low))),
-      sum_by-cons (λ z. cond (p z) 1 0) x xs,
-      sum_by-cons (λ z. cond (p z) 1 0) y ys,
-      ap (λ b. cond {A = ℕ} b 1 0) (same 0 (omega arith)),
-    )
-
 -- a raise keeps the blossoms
-pub blossoms-raised : (f : Family) (outer inner : List ℕ) (delta : ℕ) → blossoms_of (raised f outer inner delta) ≡ blossoms_of f
+blossoms-raised : (f : Family) (outer inner : List ℕ) (delta : ℕ) → blossoms_of (raised f outer inner delta) ≡ blossoms_of f
 blossoms-raised f outer inner delta =
-    count_by-alike has_children None (raised f outer inner delta).nodes f.nodes (length-raised f outer inner delta) (λ n low. ap has_children (node_at-raised f outer inner delta n) ∙ same n (node_at f n))
+    sum_by_is_sum_below one (raised f outer inner delta).nodes None
+    ∙ ap (λ k. sum_below (λ n. one (node_at (raised f outer inner delta) n)) k) (length-raised f outer inner delta)
+    ∙ sum_below-same (λ n. one (node_at (raised f outer inner delta) n)) (λ n. one (node_at f n)) (length f.nodes) (λ n low. ap one (node_at-raised f outer inner delta n) ∙ ap (λ b. cond b 1 0) (same n (node_at f n)))
+    ∙ sym (sum_by_is_sum_below one f.nodes None)
   where
+    one : Option Node → ℕ
+    one = λ o. cond (has_children o) 1 0
+
     same_list : (x : Node) (d : ℕ) → has_children (Some (record { leaves = x.leaves; dual = d; cycle = x.cycle })) ≡ has_children (Some x)
     same_list x d = refl
 
@@ -131,7 +109,7 @@ module _ (f : Family) (cost : ℕ → ℕ → ℕ) (r : ℕ) (limbs : List Limb)
   g = raised f (outers r limbs) (inners limbs) delta
 
   -- and the leaves that the outer tops hold
-  pub rest-raised : rest_of g r limbs ≡ rest_of f r limbs
+  rest-raised : rest_of g r limbs ≡ rest_of f r limbs
   rest-raised =
       sum_by-agree (λ l. cond (not (any_top g (outers r limbs) l)) 1 0) (λ l. cond (not (any_top f (outers r limbs) l)) 1 0) (range_with_len 0 (leaf_count f))
       (λ l. ap (λ b. cond (not b) 1 0) (list_any-agree (λ t. holds g t l) (λ t. holds f t l) (outers r limbs) (λ t. held f cost r limbs delta fam can t l)))
@@ -152,7 +130,7 @@ module _ (f : Family) (cost : ℕ → ℕ → ℕ) (r : ℕ) (limbs : List Limb)
       lowered n out in_inner (Some x) = rw (out, in_inner) refl
 
   -- an inner blossom whose dual the raise took is flat now
-  pub IsFlat-raised : (i : ℕ) → i < length limbs → IsBlossom f (limb_at limbs i).inner → dual_of f (limb_at limbs i).inner ≡ delta → IsFlat g limbs (limb_at limbs i).inner
+  IsFlat-raised : (i : ℕ) → i < length limbs → IsBlossom f (limb_at limbs i).inner → dual_of f (limb_at limbs i).inner ≡ delta → IsFlat g limbs (limb_at limbs i).inner
   IsFlat-raised i low blossom all =
       record {
         place = i;
@@ -214,18 +192,15 @@ module _ (s : State) (r delta : ℕ) (engine : IsEngine s) (rooted : s.root ≡ 
   low : (u : ℕ) → u < leaf_count s.family → u < s.table.size
   low u less = omega (arith, less, engine.leaves)
 
-  symmetric : (u v : ℕ) → u < leaf_count s.family → v < leaf_count s.family → cost s.table u v ≡ cost s.table v u
-  symmetric u v low_u low_v = engine.costs.symmetric u v (low u low_u) (low v low_v)
-
   tree : IsTree s.family (cost s.table) s.pairs r s.limbs
-  tree = subst (λ o. MatchOption o (s.limbs ≡ []) (λ q. IsTree s.family (cost s.table) s.pairs q s.limbs)) rooted engine.tree
+  tree = tree_of s engine r rooted
 
-  pub CanRaise-engine : CanRaise s.family (outers r s.limbs) (inners s.limbs) delta
+  CanRaise-engine : CanRaise s.family (outers r s.limbs) (inners s.limbs) delta
   CanRaise-engine =
-      let at = some_free s.family (cost s.table) s.pairs r s.limbs fam engine.paired tree s.lonely (subst (λ o. IsLonely s.family s.pairs o s.lonely) rooted engine.lonely) in
+      let at = some_free s.family (cost s.table) s.pairs r s.limbs fam engine.paired tree s.lonely (lonely_of s engine r rooted) in
       CanRaise-tree s.family (cost s.table) s.pairs r s.limbs delta engine.feasible engine.paired tree grows
       (record {
-        symmetric = symmetric;
+        symmetric = symmetric s engine;
         triangle = λ u v w low_u low_v low_w. engine.costs.triangle u v w (low u low_u) (low v low_v) (low w low_w);
         small = λ u v low_u low_v. omega (arith, engine.costs.bounded u v (low u low_u) (low v low_v));
       })
@@ -236,14 +211,14 @@ module _ (s : State) (r delta : ℕ) (engine : IsEngine s) (rooted : s.root ≡ 
       subst (λ o. tree_left g' s.lonely o s.limbs + 2 * blossoms_of g' ≡ tree_left s.family s.lonely o s.limbs + 2 * blossoms_of s.family) (sym rooted)
       (omega (arith, rest-raised s.family (cost s.table) r s.limbs delta fam CanRaise-engine, blossoms-raised s.family (outers r s.limbs) (inners s.limbs) delta))
 
-  pub IsEngine-raised : IsEngine after
+  IsEngine-raised : IsEngine after
   IsEngine-raised =
       let can = CanRaise-engine in
       record {
         costs = engine.costs;
         leaves = engine.leaves;
         room = engine.room ∙ sym (length-raised s.family (outers r s.limbs) (inners s.limbs) delta);
-        feasible = IsFeasible-raised s.family (cost s.table) r s.limbs delta fam can engine.feasible grows symmetric (λ l less. top_of s.family fam l less);
+        feasible = IsFeasible-raised s.family (cost s.table) r s.limbs delta fam can engine.feasible grows (symmetric s engine) (λ l less. top_of s.family fam l less);
         paired = IsPaired-raised s.family (cost s.table) r s.limbs delta fam can s.pairs engine.paired tree;
         lonely = IsLonely-raised s.family (cost s.table) r s.limbs delta fam can s.pairs s.root s.lonely engine.lonely;
         tree = subst (λ o. MatchOption o (s.limbs ≡ []) (λ q. IsTree g' (cost s.table) s.pairs q s.limbs)) (sym rooted)
@@ -252,7 +227,7 @@ module _ (s : State) (r delta : ℕ) (engine : IsEngine s) (rooted : s.root ≡ 
       }
 
   -- the pair at this reach comes next
-  pub IsNext-raised : (event : Event) → IsAt s.family (cost s.table) r s.limbs delta event → IsNext after r event
+  IsNext-raised : (event : Event) → IsAt s.family (cost s.table) r s.limbs delta event → IsNext after r event
   IsNext-raised (Flat node) none = absurd none
   IsNext-raised (Reach u v) at =
       let can = CanRaise-engine in
@@ -260,7 +235,7 @@ module _ (s : State) (r delta : ℕ) (engine : IsEngine s) (rooted : s.root ≡ 
         low_u = at.low_u;
         low_v = at.low_v;
         outer = (at.outer.0, at.outer.1, held s.family (cost s.table) r s.limbs delta fam can (get_or (outers r s.limbs) at.outer.0 0) u ∙ at.outer.2);
-        out = λ t top in_t. at.out t (IsTop-back s.family (cost s.table) r s.limbs delta fam can t top) (sym (held s.family (cost s.table) r s.limbs delta fam can t v) ∙ in_t);
+        out = λ t top in_t. at.out t (IsTop-raised_old s.family (outers r s.limbs) (inners s.limbs) delta fam can t top) (sym (held s.family (cost s.table) r s.limbs delta fam can t v) ∙ in_t);
         tight = tight_away s.family (cost s.table) r s.limbs delta fam can u v at;
       }
   IsNext-raised (Join u v) at =
@@ -270,7 +245,7 @@ module _ (s : State) (r delta : ℕ) (engine : IsEngine s) (rooted : s.root ≡ 
         low_v = at.low_v;
         outer_u = (at.outer_u.0, at.outer_u.1, held s.family (cost s.table) r s.limbs delta fam can (get_or (outers r s.limbs) at.outer_u.0 0) u ∙ at.outer_u.2);
         outer_v = (at.outer_v.0, at.outer_v.1, held s.family (cost s.table) r s.limbs delta fam can (get_or (outers r s.limbs) at.outer_v.0 0) v ∙ at.outer_v.2);
-        apart = λ t top in_u in_v. at.apart t (IsTop-back s.family (cost s.table) r s.limbs delta fam can t top) (sym (held s.family (cost s.table) r s.limbs delta fam can t u) ∙ in_u) (sym (held s.family (cost s.table) r s.limbs delta fam can t v) ∙ in_v);
+        apart = λ t top in_u in_v. at.apart t (IsTop-raised_old s.family (outers r s.limbs) (inners s.limbs) delta fam can t top) (sym (held s.family (cost s.table) r s.limbs delta fam can t u) ∙ in_u) (sym (held s.family (cost s.table) r s.limbs delta fam can t v) ∙ in_v);
         tight = tight_halfway s.family (cost s.table) r s.limbs delta fam can u v at;
       }
 
@@ -287,37 +262,10 @@ whole_least f limbs n reach delta least =
       | inr at ↦ subst (λ z. z ≡ pos (nat_of z)) (sym at.3) refl
     ]
 
-pub IsPressed-made : (s : State) (r : ℕ) (event : Event) (near reached : List Limb) (reach most delta given : ℤ) → near ≡ s.limbs → reached ≡ s.limbs → reach ≡ pos (nat_of reach) → most ≡ reach → given ≡ delta → IsNearest s.family (cost s.table) r near (nat_of reach) event → IsLeastDual s.family reached (length reached) most delta → (given ≡ pos (nat_of given)) × IsPressed s r event (nat_of reach) (nat_of given)
-IsPressed-made s r event near reached reach most delta given same_near same_reached whole same_most same_delta nearest least =
-    let all : IsLeastDual s.family s.limbs (length s.limbs) (pos (nat_of reach)) given =
-    subst (λ z. IsLeastDual s.family s.limbs (length s.limbs) (pos (nat_of reach)) z) (sym same_delta)
-    (subst (λ z. IsLeastDual s.family s.limbs (length s.limbs) z delta) (same_most ∙ whole)
-    (subst (λ xs. IsLeastDual s.family xs (length xs) most delta) same_reached least)) in
-    let is = whole_least s.family s.limbs (length s.limbs) (nat_of reach) given all in (
-      is,
-      record {
-        near = subst (λ xs. IsNearest s.family (cost s.table) r xs (nat_of reach) event) same_near nearest;
-        least = subst (λ z. IsLeastDual s.family s.limbs (length s.limbs) (pos (nat_of reach)) z) is all;
-      },
-    )
-
 module _ (s : State) (r : ℕ) (engine : IsEngine s) (rooted : s.root ≡ Some r) where
-  tree_of : IsTree s.family (cost s.table) s.pairs r s.limbs
-  tree_of = subst (λ o. MatchOption o (s.limbs ≡ []) (λ q. IsTree s.family (cost s.table) s.pairs q s.limbs)) rooted engine.tree
-
   pub CanReach-engine : CanReach s.family (cost s.table) r s.limbs
   CanReach-engine =
-      CanReach-tree s.family (cost s.table) s.pairs r s.limbs engine.feasible.family engine.paired tree_of engine.feasible s.lonely (subst (λ o. IsLonely s.family s.pairs o s.lonely) rooted engine.lonely)
-      (λ u v low_u low_v. engine.costs.even u v (omega (arith, low_u, engine.leaves)) (omega (arith, low_v, engine.leaves)))
-
-  pub inner_alive : (i : ℕ) → i < length s.limbs → IsAlive s.family (limb_at s.limbs i).inner
-  inner_alive i low = (inner_top s.family (cost s.table) s.pairs r s.limbs engine.feasible.family engine.paired tree_of i low).alive
-
-  -- there are no more limbs than names
-  pub few_limbs : length s.limbs ≤ length s.family.nodes
-  few_limbs =
-      let few = short (inners s.limbs) (length s.family.nodes) tree_of.inner_differ (λ i low. name_bound s.family (get_or (inners s.limbs) i 0) (tree_of.inner_tops i low).alive) in
-      omega (arith, few, length-inners s.limbs)
+      CanReach-tree s.family (cost s.table) s.pairs r s.limbs engine.feasible.family engine.paired (tree_of s engine r rooted) engine.feasible s.lonely (lonely_of s engine r rooted) (even s engine)
 
   pub CanGrow-pressed : (event : Event) (reach delta : ℕ) → IsPressed s r event reach delta → CanGrow s.family (cost s.table) r s.limbs delta
   CanGrow-pressed event reach delta pressed =
@@ -335,3 +283,37 @@ module _ (s : State) (r : ℕ) (engine : IsEngine s) (rooted : s.root ≡ Some r
         | inl same ↦ IsNext-raised s r delta engine rooted (CanGrow-pressed event reach delta pressed) event (subst (λ n. IsAt s.family (cost s.table) r s.limbs n event) (omega (arith, ints, same)) pressed.near.one)
         | inr at ↦ absurd (none (limb_at s.limbs at.0).inner (IsFlat-raised s.family (cost s.table) r s.limbs delta engine.feasible.family (CanRaise-engine s r delta engine rooted (CanGrow-pressed event reach delta pressed)) at.0 at.1 at.2 (omega (arith, ints, at.3))))
       ]
+
+-- a round over the values as the calls hand them on: what is raised by is a whole number
+pub record IsPressing (s : State) (root : ℕ) (event : Event) (reach given : ℤ) : Type 0 where
+  pub engine : IsEngine s
+  pub rooted : s.root ≡ Some root
+  pub whole : given ≡ pos (nat_of given)
+  pub pressed : IsPressed s root event (nat_of reach) (nat_of given)
+
+pub IsPressing-made : (s now : State) (root : ℕ) (event : Event) (near reached : List Limb) (reach most delta given : ℤ) → IsEngine s → s ≡ now → now.root ≡ Some root → near ≡ s.limbs → reached ≡ s.limbs → reach ≡ pos (nat_of reach) → most ≡ reach → given ≡ delta → IsNearest s.family (cost s.table) root near (nat_of reach) event → IsLeastDual s.family reached (length reached) most delta → IsPressing s root event reach given
+IsPressing-made s now root event near reached reach most delta given engine same rooted same_near same_reached whole same_most same_delta nearest least =
+    let all : IsLeastDual s.family s.limbs (length s.limbs) (pos (nat_of reach)) given =
+    subst (λ z. IsLeastDual s.family s.limbs (length s.limbs) (pos (nat_of reach)) z) (sym same_delta)
+    (subst (λ z. IsLeastDual s.family s.limbs (length s.limbs) z delta) (same_most ∙ whole)
+    (subst (λ xs. IsLeastDual s.family xs (length xs) most delta) same_reached least)) in
+    let is = whole_least s.family s.limbs (length s.limbs) (nat_of reach) given all in
+    record {
+      engine = engine;
+      rooted = ap (λ (x : State). x.root) same ∙ rooted;
+      whole = is;
+      pressed = record {
+        near = subst (λ xs. IsNearest s.family (cost s.table) root xs (nat_of reach) event) same_near nearest;
+        least = subst (λ z. IsLeastDual s.family s.limbs (length s.limbs) (pos (nat_of reach)) z) is all;
+      };
+    }
+
+module _ {s : State} {root : ℕ} {event : Event} {reach given : ℤ} (p : IsPressing s root event reach given) where
+  pub grows : CanGrow s.family (cost s.table) root s.limbs (nat_of given)
+  grows = CanGrow-pressed s root p.engine p.rooted event (nat_of reach) (nat_of given) p.pressed
+
+  pub pressed_can : CanRaise s.family (outers root s.limbs) (inners s.limbs) (nat_of given)
+  pressed_can = CanRaise-engine s root (nat_of given) p.engine p.rooted grows
+
+  pub pressed_engine : IsEngine (after s root (nat_of given) p.engine p.rooted grows)
+  pressed_engine = IsEngine-raised s root (nat_of given) p.engine p.rooted grows

@@ -5,12 +5,12 @@ use Rattle.std.proofs.lemmas.Bool.{cases_eq}
 use Rattle.std.proofs.lemmas.List.{get_or-set_other, get_or-set_same}
 use Rattle.sg_arena.specs.Family.{link_at}
 use Rattle.sg_arena.specs.declared.Link.{Link}
+use Rattle.sg_match.proofs.NodeLemmas.{length-nodes, node_at_place}
 use Rattle.sg_match.proofs.PairLemmas.{twice_first, twice_other, twice_second}
-use Rattle.sg_match.proofs.ShrinkStep.{length-nodes, node_at_place}
-use Rattle.sg_match.specs.Pairs.{flipped, pair_of}
-use Rattle.sg_match.specs.Path.{Differ, nodes_of}
+use Rattle.sg_match.specs.Pairs.{edge_of, flipped, pair_of}
+use Rattle.sg_match.specs.Names.{Differ}
+use Rattle.sg_match.specs.Path.{nodes_of}
 use Rattle.sg_match.specs.Rings.{IsRung}
-use Rattle.sg_match.specs.Settled.{edge_of}
 use Rattle.sg_match.specs.declared.Edge.{Edge}
 
 -- the first node and this many twos of nodes behind it have their pairs

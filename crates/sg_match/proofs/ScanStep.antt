@@ -2,7 +2,7 @@
 use Rattle.std.proofs.Common.{◌≡◌, ℕ, ◌*◌, ◌/◌, ◌<◌, ◌≤◌, true, false, List, ℤ, pos, ◌≤ℤ◌, Option, Some, None, FitsSigned, to_z, of_z, w64, refl, sym, ap, ◌∙◌, subst, arith}
 use Rattle.std.specs.Int.Signed.{lt_z, quot_z}
 use Rattle.std.proofs.lemmas.Int.{ints, to_z-of_z}
-use Rattle.sg_match.specs.Reaches.{IsScanned}
+use Rattle.sg_match.specs.Scans.{IsScanned}
 use Rattle.sg_match.specs.declared.Event.TheVariants.{Reach, Join}
 use Rattle.sg_slack.specs.Slack.{IsLeast, IsOuterFree, IsOuterOuter, Least, slack_of}
 use Rattle.sg_slack.specs.Table.{Table}

@@ -1,19 +1,17 @@
 -- Pairs of all sets make a matching that leaves each set once.
 use Rattle.std.proofs.Common.{List, Option, Some, [], ap, arith, get_or, inl, inr, length, subst, suc, sym, zero, ℕ, ◌<◌, ◌∙◌, ◌≡◌, ◌≢◌, ◌≤◌, ◌⊎◌}
+use Rattle.std.proofs.lemmas.Option.{same_Some}
 use Rattle.std.proofs.lemmas.Bool.{cases_lt}
 use Rattle.sg_arena.proofs.FamilyLemmas.{alive_from_holds, child-covered, child-smaller, leaf-held, leaf_bound, size-positive, top-apart, top-covers}
 use Rattle.sg_arena.proofs.ListLemmas.{place_of_any}
 use Rattle.sg_arena.specs.Family.{Covers, Family, Holds, IsAlive, IsFamily, IsTop, blank_link, cycle_of, holds, leaf_count, leaf_node, leaves_of, link_at}
 use Rattle.sg_match.proofs.AboveLemmas.{child_alive, from_above, leaf-covered, leaf-only, leaf-plain, plain-covered, plain_is}
-use Rattle.sg_match.proofs.FlipLemmas.{tight-back}
+use Rattle.sg_match.proofs.TightLemmas.{tight-back}
 use Rattle.sg_match.specs.Feasible.{IsFeasible, IsTight}
 use Rattle.sg_match.specs.Matching.{IsLeftOnce, IsMatching, IsPairing}
 use Rattle.sg_match.specs.Pairs.{IsPaired, flipped, pair_of}
 use Rattle.sg_match.specs.Settled.{IsJoined, IsSettled}
 use Rattle.sg_match.specs.declared.Edge.{Edge}
-
-pub some_same : {x y : Edge} → ◌≡◌ {A = Option Edge} (Some x) (Some y) → x ≡ y
-some_same e = cc
 
 module _ (f : Family) (fam : IsFamily f) (good : ℕ → ℕ → Type 0) (old pairs : List (Option Edge)) (paired : IsPaired f good old) (settled : IsSettled f old pairs) where
   abbrev Has : ℕ → Edge → Type 0
@@ -22,7 +20,7 @@ module _ (f : Family) (fam : IsFamily f) (good : ℕ → ℕ → Type 0) (old pa
   own_from : (n : ℕ) (p : Edge) → IsAlive f n → Has n p → Holds f n p.from
   own_from n p alive is =
       let own = settled.own n alive in
-      subst (λ (x : Edge). Holds f n x.from) (some_same (sym own.is ∙ is)) own.from
+      subst (λ (x : Edge). Holds f n x.from) (same_Some _ _ (sym own.is ∙ is)) own.from
 
   partner : (t : ℕ) (p : Edge) → IsTop f t → Has t p → (s : ℕ) × IsTop f s × (s ≢ t) × Holds f s p.to × Has s (flipped p)
   partner t p top is =
@@ -33,7 +31,7 @@ module _ (f : Family) (fam : IsFamily f) (good : ℕ → ℕ → Type 0) (old pa
   sides b i low = (settled.inside b (omega arith)).child i low
 
   -- a set's pair leads out of it
-  pub leads_out : (n : ℕ) → IsAlive f n → (p : Edge) → Has n p → (p.to < leaf_count f) × (Holds f n p.to → ⊥)
+  leads_out : (n : ℕ) → IsAlive f n → (p : Edge) → Has n p → (p.to < leaf_count f) × (Holds f n p.to → ⊥)
   leads_out = from_above f fam (λ n. (p : Edge) → Has n p → (p.to < leaf_count f) × (Holds f n p.to → ⊥))
       (λ t top p is.
       let m = partner t p top is in
@@ -41,12 +39,12 @@ module _ (f : Family) (fam : IsFamily f) (good : ℕ → ℕ → Type 0) (old pa
       (λ b i low was p is. elim (sides b i low) [
         | inl same ↦ let up = was p (sym same ∙ is) in (up.0, λ h. up.1 (child-covered f fam b i low p.to h))
         | inr j ↦
-            let to : Holds f (link_at (cycle_of f b) j.other).node p.to = subst (λ (x : Edge). Holds f (link_at (cycle_of f b) j.other).node x.to) (some_same (sym j.is ∙ is)) j.to in
+            let to : Holds f (link_at (cycle_of f b) j.other).node p.to = subst (λ (x : Edge). Holds f (link_at (cycle_of f b) j.other).node x.to) (same_Some _ _ (sym j.is ∙ is)) j.to in
             (leaf_bound f fam (link_at (cycle_of f b) j.other).node p.to to, λ h. j.differs (fam.disjoint b i j.other p.to low j.low h to))
       ])
 
   -- the sets inside a set that hold the leaf from which its pair leads have this pair too
-  pub passes_down : (fuel e s : ℕ) (q : Edge) → length (leaves_of f e) ≤ fuel → IsAlive f e → Has e q → Covers f e s → Holds f s q.from → Has s q
+  passes_down : (fuel e s : ℕ) (q : Edge) → length (leaves_of f e) ≤ fuel → IsAlive f e → Has e q → Covers f e s → Holds f s q.from → Has s q
   passes_down zero e s q small alive is covers held = absurd (omega (arith, size-positive f fam e alive, small))
   passes_down (suc fuel) e s q small alive is covers held = elim (cases_lt 0 (length (cycle_of f e))) [
     | inl some ↦
@@ -65,7 +63,7 @@ module _ (f : Family) (fam : IsFamily f) (good : ℕ → ℕ → Type 0) (old pa
   ]
 
   -- a set that holds the other end of a pair, but not the first, has the pair the other way round
-  pub way_back : (n : ℕ) → IsAlive f n → (p : Edge) → Has n p → (s : ℕ) → Holds f s p.to → (Holds f s p.from → ⊥) → Has s (flipped p)
+  way_back : (n : ℕ) → IsAlive f n → (p : Edge) → Has n p → (s : ℕ) → Holds f s p.to → (Holds f s p.from → ⊥) → Has s (flipped p)
   way_back = from_above f fam (λ n. (p : Edge) → Has n p → (s : ℕ) → Holds f s p.to → (Holds f s p.from → ⊥) → Has s (flipped p))
       (λ t top p is s held out.
       let m = partner t p top is in
@@ -73,7 +71,7 @@ module _ (f : Family) (fam : IsFamily f) (good : ℕ → ℕ → Type 0) (old pa
       (λ b i low was p is s held out. elim (sides b i low) [
         | inl same ↦ was p (sym same ∙ is) s held out
         | inr j ↦
-            let e : j.pair ≡ p = some_same (sym j.is ∙ is) in
+            let e : j.pair ≡ p = same_Some _ _ (sym j.is ∙ is) in
             let c = (link_at (cycle_of f b) j.other).node in
             let to : Holds f c p.to = subst (λ (x : Edge). Holds f c x.to) e j.to in
             let back : Has c (flipped p) = subst (λ (x : Edge). Has c (flipped x)) e j.back in
@@ -92,7 +90,7 @@ module _ (f : Family) (fam : IsFamily f) (good : ℕ → ℕ → Type 0) (old pa
 
   module _ (mates : List ℕ) (count : length mates ≡ leaf_count f) (written : (n : ℕ) (p : Edge) → IsAlive f n → cycle_of f n ≡ [] → Has n p → get_or mates p.from 0 ≡ p.to) where
     -- a set's pair is a pair of mates
-    pub mate_of : (n : ℕ) (p : Edge) → IsAlive f n → Has n p → get_or mates p.from 0 ≡ p.to
+    mate_of : (n : ℕ) (p : Edge) → IsAlive f n → Has n p → get_or mates p.from 0 ≡ p.to
     mate_of n p alive is =
         let from = own_from n p alive is in
         let low = leaf_bound f fam n p.from from in
@@ -102,7 +100,7 @@ module _ (f : Family) (fam : IsFamily f) (good : ℕ → ℕ → Type 0) (old pa
         (passes_down (length (leaves_of f n)) n s p (omega arith) alive is (leaf-covered f fam n p.from low from) held)
 
     -- a leaf of a set whose mate is outside is the one from which the set's pair leads
-    pub leaves_at : (fuel n u : ℕ) (p : Edge) → length (leaves_of f n) ≤ fuel → Has n p → Holds f n u → (Holds f n (get_or mates u 0) → ⊥) → u ≡ p.from
+    leaves_at : (fuel n u : ℕ) (p : Edge) → length (leaves_of f n) ≤ fuel → Has n p → Holds f n u → (Holds f n (get_or mates u 0) → ⊥) → u ≡ p.from
     leaves_at zero n u p small is held out = absurd (omega (arith, size-positive f fam n (alive_from_holds f n u held), small))
     leaves_at (suc fuel) n u p small is held out = elim (cases_lt 0 (length (cycle_of f n))) [
       | inl some ↦
@@ -111,9 +109,9 @@ module _ (f : Family) (fam : IsFamily f) (good : ℕ → ℕ → Type 0) (old pa
           let own = settled.own c (child_alive f fam n at.0 at.1) in
           let u_is : u ≡ own.pair.from = leaves_at fuel c u own.pair (omega (arith, child-smaller f fam n at.0 at.1, small)) own.is at.2 (λ h. out (child-covered f fam n at.0 at.1 (get_or mates u 0) h)) in
           elim (sides n at.0 at.1) [
-            | inl same ↦ u_is ∙ ap (λ (x : Edge). x.from) (some_same (sym own.is ∙ same ∙ is))
+            | inl same ↦ u_is ∙ ap (λ (x : Edge). x.from) (same_Some _ _ (sym own.is ∙ same ∙ is))
             | inr j ↦
-                let m : get_or mates u 0 ≡ j.pair.to = ap (λ k. get_or mates k 0) u_is ∙ mate_of c own.pair (child_alive f fam n at.0 at.1) own.is ∙ ap (λ (x : Edge). x.to) (some_same (sym own.is ∙ j.is)) in
+                let m : get_or mates u 0 ≡ j.pair.to = ap (λ k. get_or mates k 0) u_is ∙ mate_of c own.pair (child_alive f fam n at.0 at.1) own.is ∙ ap (λ (x : Edge). x.to) (same_Some _ _ (sym own.is ∙ j.is)) in
                 absurd (out (subst (λ k. Holds f n k) (sym m) (child-covered f fam n j.other j.low j.pair.to j.to)))
           ]
       | inr plain ↦
@@ -123,7 +121,7 @@ module _ (f : Family) (fam : IsFamily f) (good : ℕ → ℕ → Type 0) (old pa
     ]
 
     -- exactly one pair of mates leaves a set
-    pub left_once : (n : ℕ) → IsAlive f n → IsLeftOnce f mates n
+    left_once : (n : ℕ) → IsAlive f n → IsLeftOnce f mates n
     left_once n alive =
         let own = settled.own n alive in
         let out = leads_out n alive own.pair own.is in
@@ -150,7 +148,7 @@ module _ (f : Family) (fam : IsFamily f) (good : ℕ → ℕ → Type 0) (old pa
         let from : own.pair.from ≡ u = sym (leaf-only f fam u own.pair.from low own.from) in
         (own.pair, own.is, from, ap (λ k. get_or mates k 0) (sym from) ∙ mate_of (leaf_node f u) own.pair alive own.is, alive)
 
-    pub is_pairing : IsPairing (leaf_count f) mates
+    is_pairing : IsPairing (leaf_count f) mates
     is_pairing = record {
       count = count;
       low = λ u low.
@@ -177,7 +175,7 @@ module _ (f : Family) (cost : ℕ → ℕ → ℕ) (symmetric : (u v : ℕ) → 
       (λ b i low was p is. elim (sides f feasible.family (IsTight f cost) old pairs paired settled b i low) [
         | inl same ↦ was p (sym same ∙ is)
         | inr j ↦
-            let e : j.pair ≡ p = some_same (sym j.is ∙ is) in
+            let e : j.pair ≡ p = same_Some _ _ (sym j.is ∙ is) in
             let l = link_at (cycle_of f b) j.along in
             let tight : IsTight f cost l.from l.to = feasible.links b j.along j.low_along in
             subst (λ (x : Edge). IsTight f cost x.from x.to) e (elim j.link [

@@ -7,44 +7,20 @@ use Rattle.sg_arena.proofs.ListLemmas.{cases_option, some≢none}
 use Rattle.sg_arena.specs.Family.{Family, IsAlive, IsFamily, IsTop, cycle_of, link_at}
 use Rattle.sg_arena.specs.declared.Link.{Link}
 use Rattle.sg_match.proofs.AboveLemmas.{child_alive, from_above, one_parent}
-use Rattle.sg_match.proofs.NameLemmas.{short}
+use Rattle.sg_match.proofs.NameLemmas.{Differ-append, place_of_name, short}
+use Rattle.sg_match.proofs.NodeLemmas.{length-nodes, node_at_place}
 use Rattle.sg_match.proofs.RotateLemmas.{Differ-cycle, IsCycle-rotated, from_ring, length-rotated, to_ring}
-use Rattle.sg_match.proofs.ShrinkStep.{length-nodes, node_at_place}
 use Rattle.sg_match.specs.Pairs.{AllPaired, IsPaired, pair_of}
-use Rattle.sg_match.specs.Path.{Differ, nodes_of}
+use Rattle.sg_match.specs.Names.{Differ, Stands}
+use Rattle.sg_match.specs.Path.{nodes_of}
 use Rattle.sg_match.specs.Rings.{rotated}
-use Rattle.sg_match.specs.Settled.{HasOwn, IsPairedInside, IsSettled, ListsTops, Stands}
+use Rattle.sg_match.specs.Settled.{HasOwn, IsPairedInside, IsSettled, ListsTops}
 use Rattle.sg_match.specs.declared.Edge.{Edge}
-
--- two lists that share no name
-pub Differ-append : (xs ys : List ℕ) → Differ xs → Differ ys → ((i j : ℕ) → i < length xs → j < length ys → get_or xs i 0 ≢ get_or ys j 0) → Differ (xs ++ ys)
-Differ-append xs ys left right apart i j low_i low_j same =
-    elim (cases_lt i (length xs)) [
-      | inl in_i ↦ elim (cases_lt j (length xs)) [
-        | inl in_j ↦ left i j in_i in_j (sym (at_left i in_i) ∙ same ∙ at_left j in_j)
-        | inr out_j ↦ absurd (apart i (j - length xs) in_i (past j low_j out_j) (sym (at_left i in_i) ∙ same ∙ at_right j out_j))
-      ]
-      | inr out_i ↦ elim (cases_lt j (length xs)) [
-        | inl in_j ↦ absurd (apart j (i - length xs) in_j (past i low_i out_i) (sym (at_left j in_j) ∙ sym same ∙ at_right i out_i))
-        | inr out_j ↦
-            let e : i - length xs ≡ j - length xs = right (i - length xs) (j - length xs) (past i low_i out_i) (past j low_j out_j) (sym (at_right i out_i) ∙ same ∙ at_right j out_j) in
-            omega (arith, e, out_i, out_j)
-      ]
-    ]
-  where
-    at_left : (k : ℕ) → k < length xs → get_or (xs ++ ys) k 0 ≡ get_or xs k 0
-    at_left k low = get_or_append_left xs ys 0 k low
-
-    at_right : (k : ℕ) → length xs ≤ k → get_or (xs ++ ys) k 0 ≡ get_or ys (k - length xs) 0
-    at_right k out = get_or-append_right xs ys (length xs) k 0 refl out
-
-    past : (k : ℕ) → k < length (xs ++ ys) → length xs ≤ k → k - length xs < length ys
-    past k low out = omega (arith, low, out, length-append xs ys)
 
 pub Stands-left : (xs ys : List ℕ) (n : ℕ) → Stands xs n → Stands (xs ++ ys) n
 Stands-left xs ys n at = (at.0, omega (arith, at.1, length-append xs ys), get_or_append_left xs ys 0 at.0 at.1 ∙ at.2)
 
-pub Stands-right : (xs ys : List ℕ) (n : ℕ) → Stands ys n → Stands (xs ++ ys) n
+Stands-right : (xs ys : List ℕ) (n : ℕ) → Stands ys n → Stands (xs ++ ys) n
 Stands-right xs ys n at =
     let back : length xs + at.0 - length xs ≡ at.0 = omega arith in
     (length xs + at.0, omega (arith, at.1, length-append xs ys), get_or-append_right xs ys (length xs) (length xs + at.0) 0 refl (omega arith) ∙ ap (λ k. get_or ys k 0) back ∙ at.2)
@@ -63,7 +39,7 @@ pub record IsSettling (f : Family) (old pairs : List (Option Edge)) (nodes : Lis
   pub top_pairs : (t : ℕ) → IsTop f t → pair_of pairs t ≡ pair_of old t
 
 -- a blossom whose pair and whose children's pairs stay
-pub IsPairedInside-same : (f : Family) (old new : List (Option Edge)) (b : ℕ) → pair_of new b ≡ pair_of old b → ((i : ℕ) → i < length (cycle_of f b) → pair_of new (link_at (cycle_of f b) i).node ≡ pair_of old (link_at (cycle_of f b) i).node) → IsPairedInside f old b → IsPairedInside f new b
+IsPairedInside-same : (f : Family) (old new : List (Option Edge)) (b : ℕ) → pair_of new b ≡ pair_of old b → ((i : ℕ) → i < length (cycle_of f b) → pair_of new (link_at (cycle_of f b) i).node ≡ pair_of old (link_at (cycle_of f b) i).node) → IsPairedInside f old b → IsPairedInside f new b
 IsPairedInside-same f old new b same kids was = record {
   own = λ i low. let own = was.own i low in record {
     pair = own.pair;
@@ -171,7 +147,7 @@ module _ (f : Family) (fam : IsFamily f) (old : List (Option Edge)) where
 
     module _ (low : next < length nodes) (b : ℕ) (next_is : get_or nodes next 0 ≡ b) where
       -- no entry is a child of the next one yet
-      pub not_listed : (k i : ℕ) → k < length nodes → i < length (cycle_of f b) → (link_at (cycle_of f b) i).node ≢ get_or nodes k 0
+      not_listed : (k i : ℕ) → k < length nodes → i < length (cycle_of f b) → (link_at (cycle_of f b) i).node ≢ get_or nodes k 0
       not_listed k i in_k in_i same = elim (was.kind k in_k) [
         | inl top ↦ top-no_child f fam (get_or nodes k 0) b i top in_i same
         | inr at ↦
@@ -203,9 +179,11 @@ module _ (f : Family) (fam : IsFamily f) (old : List (Option Edge)) where
             (at.0, omega (arith, at.1, length-nodes ring), node_at_place ring at.0 at.1 ∙ ap (λ (l : Link). l.node) at.2)
 
         more_differ : Differ (nodes ++ kids)
-        more_differ = Differ-append nodes kids was.differ kids_differ (λ i j in_i in_j same.
-            let at = kid_at j in_j in
-            not_listed i at.0 in_i at.1 (at.2 ∙ sym same))
+        more_differ = Differ-append nodes kids was.differ kids_differ (λ n in_nodes in_kids.
+            let i = place_of_name nodes n in_nodes in
+            let j = place_of_name kids n in_kids in
+            let at = kid_at j.0 j.1 in
+            not_listed i.0 at.0 i.1 at.1 (at.2 ∙ j.2 ∙ sym i.2))
 
         -- an entry of the longer list is an old one or a child
         cases_entry : (k : ℕ) → k < length (nodes ++ kids) → ((k < length nodes) × (get_or (nodes ++ kids) k 0 ≡ get_or nodes k 0)) ⊎ ((i : ℕ) × (i < length (cycle_of f b)) × ((link_at (cycle_of f b) i).node ≡ get_or (nodes ++ kids) k 0))

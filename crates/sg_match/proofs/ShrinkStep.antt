@@ -1,30 +1,30 @@
 -- What a shrink of a closed climb makes of the engine's invariant.
-use Rattle.std.proofs.Common.{◌≡◌, ◌≢◌, ◌⊎◌, ℕ, zero, suc, ◌+◌, ◌<◌, ◌%◌, List, [], ◌∷◌, length, get_or, set, Option, Some, None, Contains, refl, sym, ap, ◌∙◌, subst, inl, inr, arith, eq-eqb}
+use Rattle.std.proofs.Common.{◌≡◌, ◌≢◌, ◌⊎◌, ℕ, zero, suc, ◌+◌, ◌<◌, ◌%◌, List, [], ◌∷◌, length, set, Option, Some, None, refl, sym, ap, ◌∙◌, subst, inl, inr, arith, eq-eqb}
 use Rattle.std.proofs.lemmas.Bool.{cases_eq, ne_eqb}
-use Rattle.std.proofs.lemmas.List.{get_or-map, get_or-set_other, get_or-set_same, get_or_default}
-use Rattle.std.proofs.lemmas.List.Elements.{Contains-get_or}
-use Rattle.std.proofs.Math.ListN.{length-map}
+use Rattle.std.proofs.lemmas.List.{get_or-set_other, get_or-set_same}
 use Rattle.std.specs.Option.{option_map_or}
 use Rattle.sg_arena.proofs.DualLemmas.{between-tops}
 use Rattle.sg_arena.proofs.FamilyLemmas.{cases_place, leaf_bound, not_dead, some_leaf, top-apart}
 use Rattle.sg_arena.proofs.ShrunkFamily.{IsFamily-shrink, IsTop-shrink, IsTop-shrink_old, IsTop-shrink_other, duals_between-shrink, holds_other, in_new, new_holds, total-shrink}
 use Rattle.sg_arena.specs.Changes.{CanShrink, blossom_of, with_slot}
-use Rattle.sg_arena.specs.Family.{Family, Holds, IsFamily, IsTop, Node, after_index, blank_link, cycle_of, leaf_count, link_at, node_at, total_of}
+use Rattle.sg_arena.specs.Family.{Family, Holds, IsFamily, IsTop, Node, after_index, cycle_of, leaf_count, link_at, node_at, total_of}
 use Rattle.sg_arena.specs.declared.Link.{Link}
+use Rattle.sg_match.proofs.NodeLemmas.{length-nodes, node_at_place}
 use Rattle.sg_match.specs.Feasible.{IsFeasible, IsTight}
 use Rattle.sg_match.specs.Pairs.{IsPaired, flipped, pair_of}
-use Rattle.sg_match.specs.Path.{AreTight, IsClimb, IsPath, nodes_of}
+use Rattle.sg_match.specs.Path.{AreTight, IsPath}
+use Rattle.sg_match.specs.Climb.{IsClimb}
 use Rattle.sg_match.specs.declared.Edge.{Edge}
 use Rattle.sg_match.specs.declared.Limb.{Limb}
 
 -- a link of a path
-pub record LinkAt (f : Family) (path : List Link) (tail i : ℕ) : Type 0 where
+record LinkAt (f : Family) (path : List Link) (tail i : ℕ) : Type 0 where
   pub top : IsTop f (link_at path i).node
   pub from : Holds f (link_at path i).node (link_at path i).from
   pub next : suc i < length path → Holds f (link_at path (suc i)).node (link_at path i).to
   pub last : suc i ≡ length path → Holds f tail (link_at path i).to
 
-pub path_at : (f : Family) (path : List Link) (head tail i : ℕ) → i < length path → IsPath f path head tail → LinkAt f path tail i
+path_at : (f : Family) (path : List Link) (head tail i : ℕ) → i < length path → IsPath f path head tail → LinkAt f path tail i
 path_at f [] head tail i low p = absurd (omega (arith, low))
 path_at f (l ∷ []) head tail zero low p =
     record {
@@ -53,19 +53,9 @@ pub path_head : (f : Family) (path : List Link) (head tail : ℕ) → 0 < length
 path_head f [] head tail low p = absurd (omega (arith, low))
 path_head f (l ∷ rest) head tail low p = p.0
 
-pub node_at_place : (cycle : List Link) (i : ℕ) → i < length cycle → get_or (nodes_of cycle) i 0 ≡ (link_at cycle i).node
-node_at_place cycle i low = get_or-map (λ (l : Link). l.node) cycle i blank_link 0 low
-
-pub length-nodes : (cycle : List Link) → length (nodes_of cycle) ≡ length cycle
-length-nodes cycle = length-map cycle (λ (l : Link). l.node)
-
-pub node_in : (cycle : List Link) (i : ℕ) → i < length cycle → Contains (nodes_of cycle) (link_at cycle i).node
-node_in cycle i low = subst (λ n. Contains (nodes_of cycle) n) (node_at_place cycle i low) (Contains-get_or (nodes_of cycle) i 0 (omega (arith, low, length-nodes cycle)))
-
-pub place_in : (cycle : List Link) (n : ℕ) → Contains (nodes_of cycle) n → (i : ℕ) × (i < length cycle) × ((link_at cycle i).node ≡ n)
-place_in cycle n at =
-    let low : at.0 < length cycle = omega (arith, at.1, length-nodes cycle) in
-    (at.0, low, sym (node_at_place cycle at.0 low) ∙ get_or_default (nodes_of cycle) at.0 0 n at.1 ∙ at.2)
+-- a name that is free is no top
+pub top-not_dead : (f : Family) (b : ℕ) → node_at f b ≡ None → (t : ℕ) → IsTop f t → t ≢ b
+top-not_dead f b dead t top same = not_dead f t top.alive (ap (λ n. node_at f n) same ∙ dead)
 
 -- a closed climb is a cycle of tops
 pub CanShrink-climb : (f : Family) (root : ℕ) (limbs : List Limb) (cycle : List Link) (place base : ℕ) → IsClimb f root limbs cycle place base base → CanShrink f cycle
@@ -145,7 +135,7 @@ module _ (f : Family) (cost : ℕ → ℕ → ℕ) (b : ℕ) (cycle : List Link)
           subst (λ c. IsTight g cost (link_at c i).from (link_at c i).to) (sym e)
           (duals_between-shrink f b cycle fam can dead room (link_at (cycle_of f name) i).from (link_at (cycle_of f name) i).to ∙ feasible.links name i (subst (λ c. i < length c) e low))
 
-  -- part 3: the base's pair becomes the blossom's, and the others of the cycle are paired in it
+  -- the base's pair becomes the blossom's, and the others of the cycle are paired in it
   module _ (pairs : List (Option Edge)) (paired : IsPaired f (IsTight f cost) pairs) (base : ℕ) (place : ℕ) (at : place < length cycle) (is_base : (link_at cycle place).node ≡ base) (names : b < length pairs)
       (closed : (i : ℕ) (p : Edge) → i < length cycle → (link_at cycle i).node ≢ base → pair_of pairs (link_at cycle i).node ≡ Some p → (j : ℕ) × (j < length cycle) × Holds f (link_at cycle j).node p.to)
       (open_base : (j : ℕ) (p : Edge) → j < length cycle → pair_of pairs base ≡ Some p → Holds f (link_at cycle j).node p.to → ⊥) where
@@ -161,9 +151,6 @@ module _ (f : Family) (cost : ℕ → ℕ → ℕ) (b : ℕ) (cycle : List Link)
     base_top : IsTop f base
     base_top = subst (λ n. IsTop f n) is_base (can.tops place at)
 
-    old_differs : (s : ℕ) → IsTop f s → s ≢ b
-    old_differs s top same = not_dead f s top.alive (ap (λ n. node_at f n) same ∙ dead)
-
     pub IsPaired-shrunk : IsPaired g (IsTight g cost) now
     IsPaired-shrunk =
         record {
@@ -175,7 +162,7 @@ module _ (f : Family) (cost : ℕ → ℕ → ℕ) (b : ℕ) (cycle : List Link)
             | inl same ↦
                 let was : pair_of pairs base ≡ Some p = sym now_new ∙ ap (λ n. pair_of now n) (sym same) ∙ is in
                 let m = paired.other base p base_top was in
-                let away = old_differs m.0 m.1 in
+                let away = top-not_dead f b dead m.0 m.1 in
                 (m.0, IsTop-shrink_other f b cycle fam can dead room m.0 m.1 (λ i low e. open_base i p low was (subst (λ n. Holds f n p.to) (sym e) m.3)), (λ e. away (e ∙ same)), holds_other f b cycle fam can dead room m.0 p.to away ∙ m.3, now_other m.0 away ∙ m.4)
             | inr away ↦
                 let old = IsTop-shrink_old f b cycle fam can dead room t top away in
@@ -189,7 +176,7 @@ module _ (f : Family) (cost : ℕ → ℕ → ℕ) (b : ℕ) (cycle : List Link)
                         absurd (old.1 back.0 back.1 (top-apart f fam (link_at cycle back.0).node t p.from (can.tops back.0 back.1) old.0 back.2 (paired.own t p old.0 was)))
                   ]
                   | inr miss ↦
-                      let fresh = old_differs m.0 m.1 in
+                      let fresh = top-not_dead f b dead m.0 m.1 in
                       (m.0, IsTop-shrink_other f b cycle fam can dead room m.0 m.1 miss, m.2, holds_other f b cycle fam can dead room m.0 p.to fresh ∙ m.3, now_other m.0 fresh ∙ m.4)
                 ]
           ];

@@ -1,28 +1,31 @@
--- What `split` meets on its way: an inner blossom of a sound state, its ring, and the state after it.
-use Rattle.std.proofs.Common.{◌≡◌, ◌⊎◌, ℕ, ◌+◌, ◌*◌, ◌<◌, ◌≤◌, List, [], length, get_or, Contains, MatchOption, Option, Some, None, refl, sym, ap, ◌∙◌, subst, inl, inr, arith}
+-- What `split` meets: an inner blossom of a sound state, its ring, and the state after it.
+use Rattle.std.proofs.Common.{◌≡◌, ◌⊎◌, ℕ, ◌+◌, ◌*◌, ◌<◌, ◌≤◌, List, [], length, get_or, Contains, MatchOption, Option, Some, None, sym, ap, ◌∙◌, subst, inl, inr, arith}
 use Rattle.std.proofs.lemmas.List.{get_or_default}
 use Rattle.std.proofs.lemmas.List.Elements.{Contains-get_or}
 use Rattle.sg_arena.specs.Changes.{with_slot}
-use Rattle.sg_arena.specs.Family.{Family, Holds, IsChildAt, IsChildOf, IsTop, cycle_of, leaf_count, link_at}
+use Rattle.sg_arena.specs.Family.{Family, Holds, IsChildAt, IsChildOf, IsTop, cycle_of, link_at}
 use Rattle.sg_arena.specs.declared.Link.{Link}
 use Rattle.sg_arena.proofs.FamilyLemmas.{length-with_slot}
+use Rattle.sg_arena.proofs.ListLemmas.{cases_option}
+use Rattle.sg_match.proofs.EngineLemmas.{lonely_of, no_limbs, symmetric, tree_of}
+use Rattle.sg_match.proofs.NodeLemmas.{length-nodes, node_at_place}
 use Rattle.sg_match.proofs.RingLemmas.{IsFacing-from, IsRing, IsRing-rotated}
 use Rattle.sg_match.proofs.RotateLemmas.{Differ-cycle, cases_wrapped, link_at-rotated, wrapped}
-use Rattle.sg_match.proofs.ShrinkStep.{length-nodes, node_at_place}
 use Rattle.sg_match.proofs.SplitStep.{CanRegrow-split, IsFeasible-split, IsLonely-expanded, IsPaired-split, node_bound, ring_room, steps-split}
-use Rattle.sg_match.proofs.TreeLemmas.{bond_from, inner_at, inner_top, length-inners}
-use Rattle.sg_match.specs.Amount.{IsFlat}
+use Rattle.sg_match.proofs.TreeLemmas.{inner_at, inner_top, length-inners}
+use Rattle.sg_match.specs.Flat.{IsFlat}
 use Rattle.sg_match.specs.Engine.{IsEngine}
-use Rattle.sg_match.specs.Grafts.{CanRegrow, IsFaced, IsOdd, OuterStays}
+use Rattle.sg_match.specs.Regrown.{CanRegrow}
+use Rattle.sg_match.specs.Rings.{IsFaced, IsOdd, IsRung, rotated}
+use Rattle.sg_match.specs.Grafts.{OuterStays}
 use Rattle.sg_match.specs.Lonely.{IsLonely}
 use Rattle.sg_match.specs.Metric.{cost}
-use Rattle.sg_match.specs.Path.{Differ, nodes_of}
-use Rattle.sg_match.specs.Rings.{IsRung, rotated}
+use Rattle.sg_match.specs.Names.{Differ}
+use Rattle.sg_match.specs.Path.{nodes_of}
 use Rattle.sg_match.specs.State.{State}
 use Rattle.sg_match.specs.Steps.{blossoms_of, steps_left, tree_left}
 use Rattle.sg_match.specs.Tree.{IsTree, blank_limb, inners, limb_at}
 use Rattle.sg_match.specs.declared.Edge.{Edge}
-use Rattle.sg_match.specs.declared.Engine.TheInside.{Inside}
 use Rattle.sg_match.specs.declared.Limb.{Limb}
 
 module _ (s : State) (b : ℕ) (engine : IsEngine s) (flat : IsFlat s.family s.limbs b) where
@@ -40,14 +43,10 @@ module _ (s : State) (b : ℕ) (engine : IsEngine s) (flat : IsFlat s.family s.l
     lonely : IsLonely f s.pairs (Some root) s.lonely
 
   rooted : IsRooted
-  rooted = go s.root refl engine.tree engine.lonely
-    where
-      go : (o : Option ℕ) → s.root ≡ o → MatchOption o (s.limbs ≡ []) (λ r. IsTree f price s.pairs r s.limbs) → IsLonely f s.pairs o s.lonely → IsRooted
-      go None e none lonely = absurd (omega (arith, flat.within, ap (λ xs. length xs) none))
-      go (Some r) e tree lonely = record { root = r; is = e; tree = tree; lonely = lonely }
-
-  symmetric : (u v : ℕ) → u < leaf_count f → v < leaf_count f → price u v ≡ price v u
-  symmetric u v low_u low_v = engine.costs.symmetric u v (omega (arith, low_u, engine.leaves)) (omega (arith, low_v, engine.leaves))
+  rooted = elim (cases_option s.root) [
+    | inl none ↦ absurd (omega (arith, flat.within, ap (λ xs. length xs) (no_limbs s engine none)))
+    | inr some ↦ record { root = some.0; is = some.1; tree = tree_of s engine some.0 some.1; lonely = lonely_of s engine some.0 some.1 }
+  ]
 
   pub is_inner : Contains (inners s.limbs) b
   is_inner =
@@ -55,21 +54,21 @@ module _ (s : State) (b : ℕ) (engine : IsEngine s) (flat : IsFlat s.family s.l
       subst (λ n. Contains (inners s.limbs) n) (inner_at s.limbs flat.place flat.within ∙ flat.here) (Contains-get_or (inners s.limbs) flat.place 0 low)
 
   pub blossom_top : IsTop f b
-  blossom_top = subst (λ n. IsTop f n) flat.here (inner_top f price s.pairs rooted.root s.limbs engine.feasible.family engine.paired rooted.tree flat.place flat.within)
+  blossom_top = subst (λ n. IsTop f n) flat.here (inner_top f rooted.root s.limbs rooted.tree.shape flat.place flat.within)
 
   module _ (at : ℕ) (low : at < length s.limbs) (here : (limb_at s.limbs at).inner ≡ b) where
-    pub bond_in : Holds f b (limb_at s.limbs at).bond.from
-    bond_in = subst (λ n. Holds f n (limb_at s.limbs at).bond.from) here (bond_from f price s.pairs rooted.root s.limbs engine.feasible.family engine.paired rooted.tree at low)
+    bond_in : Holds f b (limb_at s.limbs at).bond.from
+    bond_in = subst (λ n. Holds f n (limb_at s.limbs at).bond.from) here (rooted.tree.shape.bond_from at low)
 
-    pub edge_in : Holds f b (limb_at s.limbs at).edge.from
-    edge_in = subst (λ n. Holds f n (limb_at s.limbs at).edge.from) here (rooted.tree.edge_from at low)
+    edge_in : Holds f b (limb_at s.limbs at).edge.from
+    edge_in = subst (λ n. Holds f n (limb_at s.limbs at).edge.from) here (rooted.tree.shape.edge_from at low)
 
   -- the ring from a child on
   module _ (stem : ℕ) (child : IsChildOf f b stem) (ring : List Link) (made : (blossom i : ℕ) → IsChildAt f blossom i stem → ring ≡ rotated i (cycle_of f blossom)) where
     pub ring_is : IsRing f price b ring
-    ring_is = subst (λ xs. IsRing f price b xs) (sym (made b child.0 child.1)) (IsRing-rotated f price b child.0 engine.feasible symmetric child.1.within)
+    ring_is = subst (λ xs. IsRing f price b xs) (sym (made b child.0 child.1)) (IsRing-rotated f price b child.0 engine.feasible (symmetric s engine) child.1.within)
 
-    pub ring_first : (link_at ring 0).node ≡ stem
+    ring_first : (link_at ring 0).node ≡ stem
     ring_first =
         let start : wrapped (length (cycle_of f b)) child.0 0 ≡ child.0 = elim (cases_wrapped (length (cycle_of f b)) child.0 0) [
           | inl front ↦ omega (arith, front.1)
@@ -86,10 +85,10 @@ module _ (s : State) (b : ℕ) (engine : IsEngine s) (flat : IsFlat s.family s.l
         subst (λ m. Contains (nodes_of ring) m) (node_at_place ring at.0 at.1 ∙ at.2 ∙ kid.1.here) (Contains-get_or (nodes_of ring) at.0 0 (omega (arith, at.1, length-nodes ring)))
 
   module _ (ring : List Link) (is : IsRing f price b ring) where
-    pub names_differ : Differ (nodes_of ring)
+    names_differ : Differ (nodes_of ring)
     names_differ = Differ-cycle f ring is.cycle
 
-    pub names_low : (i : ℕ) → i < length ring → (link_at ring i).node < length s.pairs
+    names_low : (i : ℕ) → i < length ring → (link_at ring i).node < length s.pairs
     names_low i low = omega (arith, node_bound f price b ring engine.feasible.family blossom_top is i low, engine.room)
 
     pub limbs_fit : length s.limbs + length ring ≤ length f.nodes
@@ -105,14 +104,14 @@ module _ (s : State) (b : ℕ) (engine : IsEngine s) (flat : IsFlat s.family s.l
       after = record { family = g; table = s.table; pairs = now; lonely = s.lonely; root = s.root; limbs = grown }
 
       tree : IsTree g price now rooted.root grown
-      tree = regrown g price now rooted.root (CanRegrow-split f price s.pairs now rooted.root s.limbs b at ring engine.feasible rooted.tree low here flat.blossom flat.flat is rung door within at_door facing)
+      tree = regrown g price now rooted.root (CanRegrow-split f price s.pairs now rooted.root s.limbs b at ring engine.feasible rooted.tree low here flat.blossom flat.flat is rung door stem within at_door facing)
 
-      pub less-split : steps_left after + 2 ≤ steps_left s
+      less-split : steps_left after + 2 ≤ steps_left s
       less-split =
           subst (λ o. tree_left g s.lonely o grown + 2 * blossoms_of g + 2 ≤ tree_left f s.lonely o s.limbs + 2 * blossoms_of f) (sym rooted.is)
           (steps-split f price s.pairs now rooted.root s.limbs b at ring engine.feasible rooted.tree low here flat.blossom flat.flat is rung s.lonely grown stays)
 
-      pub IsEngine-split : IsEngine after
+      IsEngine-split : IsEngine after
       IsEngine-split =
           record {
             costs = engine.costs;
@@ -124,10 +123,6 @@ module _ (s : State) (b : ℕ) (engine : IsEngine s) (flat : IsFlat s.family s.l
             tree = subst (λ o. MatchOption o (grown ≡ []) (λ r. IsTree g price now r grown)) (sym rooted.is) tree;
             left = omega (arith, less-split, engine.left);
           }
-
--- what contracts see of the fields
-abbrev pub state_of : Inside → State
-state_of e = record { family = e.arena; table = e.costs; pairs = e.pairs.items; lonely = e.lonely.items; root = e.root; limbs = e.limbs.items }
 
 -- the blossom's limb is found
 pub record IsFound (s : State) (b at : ℕ) (limb : Limb) : Type 0 where
@@ -148,7 +143,7 @@ found s t b at limbs limb same engine flat lent low here read =
       read = read ∙ get_or_default s.limbs at limb blank_limb within;
     }
 
-module _ (s : State) (b at : ℕ) (limb : Limb) (is : IsFound s b at limb) where
+module _ {s : State} {b at : ℕ} {limb : Limb} (is : IsFound s b at limb) where
   pub bond_held : Holds s.family b limb.bond.from
   bond_held = subst (λ (l : Limb). Holds s.family b l.bond.from) (sym is.read) (bond_in s b is.engine is.flat at is.low is.here)
 
@@ -178,7 +173,7 @@ cut s b at limb stem end ring lent place faced door is child holds_stem made hol
       facing = facing;
     }
 
-module _ (s : State) (b at : ℕ) (limb : Limb) (ring : List Link) (door : ℕ) (is : IsCut s b at limb ring door) where
+module _ {s : State} {b at : ℕ} {limb : Limb} {ring : List Link} {door : ℕ} (is : IsCut s b at limb ring door) where
   pub ring_fits : length s.limbs + length ring ≤ length s.family.nodes
   ring_fits = limbs_fit s b is.found.engine is.found.flat ring is.is
 

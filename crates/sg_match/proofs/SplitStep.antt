@@ -1,9 +1,9 @@
--- An inner blossom of dual 0 is taken apart: what becomes of the pairs, the tree, the unpaired tops
--- and the steps that are left.
+-- The parts of the engine's invariant after an inner blossom of dual 0 is taken apart.
 use Rattle.std.proofs.Common.{◌≡◌, ◌≢◌, ◌⊎◌, ℕ, zero, suc, ◌+◌, ◌*◌, ◌-◌, ◌<◌, ◌≤◌, true, List, ◌++◌, length, get_or, set, Contains, Option, Some, None, refl, sym, ap, ◌∙◌, subst, inl, inr, arith, length-append}
+use Rattle.std.proofs.lemmas.Option.{none-some}
 use Rattle.std.proofs.Math.ListN.{length-set}
 use Rattle.std.proofs.lemmas.Bool.{cases_eq, cases_lt}
-use Rattle.std.proofs.lemmas.List.{get_or-append_right, get_or-set_other, get_or-set_same, get_or_append_left, get_or_default}
+use Rattle.std.proofs.lemmas.List.{get_or-append_right, get_or-set_other, get_or-set_same, get_or_append_left}
 use Rattle.std.proofs.lemmas.List.Folds.{list_any_at}
 use Rattle.sg_arena.proofs.ExpandedFamily.{IsTop-expand_child, IsTop-expand_old, IsTop-expand_other, duals_between-expand, holds_rest}
 use Rattle.sg_arena.proofs.FamilyLemmas.{after_within, alive_from_holds, name_bound, top-no_child}
@@ -11,20 +11,20 @@ use Rattle.sg_arena.proofs.ListLemmas.{place_of_any}
 use Rattle.sg_arena.specs.Changes.{CanShrink, with_slot}
 use Rattle.sg_arena.specs.Family.{Family, Holds, IsBlossom, IsFamily, IsTop, after_index, cycle_of, dual_of, holds, link_at}
 use Rattle.sg_arena.specs.declared.Link.{Link}
-use Rattle.sg_match.proofs.ClimbLemmas.{Differ-append}
 use Rattle.sg_match.proofs.ExpandStep.{IsFeasible-expanded, IsPaired-expanded, halves}
-use Rattle.sg_match.proofs.NameLemmas.{short}
+use Rattle.sg_match.proofs.NameLemmas.{Differ-append, place_of_name, short}
+use Rattle.sg_match.proofs.NodeLemmas.{length-nodes, node_at_place, place_in}
 use Rattle.sg_match.proofs.RingLemmas.{IsRing}
 use Rattle.sg_match.proofs.RotateLemmas.{Differ-cycle}
-use Rattle.sg_match.proofs.ShrinkStep.{length-nodes, node_at_place}
 use Rattle.sg_match.proofs.StepsStep.{blossoms-expanded, rest-fewer}
-use Rattle.sg_match.proofs.TreeLemmas.{inner_at, length-inners, length-outers, outer_at}
+use Rattle.sg_match.proofs.TreeLemmas.{inner_at, inner_top, length-inners, length-outers, outer_at}
 use Rattle.sg_match.specs.Feasible.{IsFeasible, IsTight}
-use Rattle.sg_match.specs.Grafts.{CanRegrow, IsOdd, IsRegrow, OuterStays, with_inner}
+use Rattle.sg_match.specs.Regrown.{CanRegrow, IsRegrow, with_inner}
+use Rattle.sg_match.specs.Rings.{IsOdd, IsRung}
+use Rattle.sg_match.specs.Grafts.{OuterStays}
 use Rattle.sg_match.specs.Lonely.{IsLonely}
 use Rattle.sg_match.specs.Pairs.{IsPaired, pair_of}
 use Rattle.sg_match.specs.Path.{nodes_of}
-use Rattle.sg_match.specs.Rings.{IsRung}
 use Rattle.sg_match.specs.Steps.{blossoms_of, rest_of, tree_left}
 use Rattle.sg_match.specs.Tree.{IsTree, any_top, blank_limb, inners, limb_at, outers}
 use Rattle.sg_match.specs.declared.Edge.{Edge}
@@ -43,18 +43,17 @@ module _ (f : Family) (cost : ℕ → ℕ → ℕ) (b : ℕ) (ring : List Link) 
   ring_room pairs root limbs tree =
       let names = inners limbs ++ nodes_of ring in
       let count : length names ≡ length limbs + length ring = length-append (inners limbs) (nodes_of ring) ∙ omega (arith, length-inners limbs, length-nodes ring) in
-      omega (arith, count, short names (length f.nodes) (Differ-append (inners limbs) (nodes_of ring) tree.inner_differ (Differ-cycle f ring is.cycle) apart) below)
+      omega (arith, count, short names (length f.nodes) (Differ-append (inners limbs) (nodes_of ring) tree.shape.inner_differ (Differ-cycle f ring is.cycle) apart) below)
     where
       apart : (n : ℕ) → Contains (inners limbs) n → Contains (nodes_of ring) n → ⊥
       apart n in_tree in_ring =
-          let less : in_ring.0 < length ring = omega (arith, in_ring.1, length-nodes ring) in
-          let is_n : get_or (inners limbs) in_tree.0 0 ≡ n = sym (get_or_default (inners limbs) in_tree.0 n 0 in_tree.1) ∙ in_tree.2 in
-          node_out n (subst (λ t. IsTop f t) is_n (tree.inner_tops in_tree.0 in_tree.1)) in_ring.0 less
-          (sym (node_at_place ring in_ring.0 less) ∙ sym (get_or_default (nodes_of ring) in_ring.0 n 0 in_ring.1) ∙ in_ring.2)
+          let i = place_of_name (inners limbs) n in_tree in
+          let k = place_in ring n in_ring in
+          node_out n (subst (λ t. IsTop f t) i.2 (tree.shape.inner_tops i.0 i.1)) k.0 k.1 k.2
 
       below : (i : ℕ) → i < length (inners limbs ++ nodes_of ring) → get_or (inners limbs ++ nodes_of ring) i 0 < length f.nodes
       below i low = elim (cases_lt i (length (inners limbs))) [
-        | inl front ↦ subst (λ n. n < length f.nodes) (sym (get_or_append_left (inners limbs) (nodes_of ring) 0 i front)) (name_bound f (get_or (inners limbs) i 0) (tree.inner_tops i front).alive)
+        | inl front ↦ subst (λ n. n < length f.nodes) (sym (get_or_append_left (inners limbs) (nodes_of ring) 0 i front)) (name_bound f (get_or (inners limbs) i 0) (tree.shape.inner_tops i front).alive)
         | inr past ↦
             let less : i - length (inners limbs) < length ring = omega (arith, low, past, length-append (inners limbs) (nodes_of ring), length-nodes ring) in
             subst (λ n. n < length f.nodes) (sym (get_or-append_right (inners limbs) (nodes_of ring) (length (inners limbs)) i 0 refl past ∙ node_at_place ring (i - length (inners limbs)) less)) (node_bound (i - length (inners limbs)) less)
@@ -67,14 +66,11 @@ module _ (f : Family) (cost : ℕ → ℕ → ℕ) (pairs now : List (Option Edg
   abbrev fam : IsFamily f
   fam = feasible.family
 
-  some_none : {x : Edge} → ◌≡◌ {A = Option Edge} (Some x) None → ⊥
-  some_none e = cc
-
   inner_is : get_or (inners limbs) at 0 ≡ b
   inner_is = inner_at limbs at low ∙ here
 
   top : IsTop f b
-  top = subst (λ n. IsTop f n) inner_is (tree.inner_tops at (omega (arith, low, length-inners limbs)))
+  top = subst (λ n. IsTop f n) inner_is (tree.shape.inner_tops at (omega (arith, low, length-inners limbs)))
 
   room : b < length f.nodes
   room = name_bound f b top.alive
@@ -95,7 +91,7 @@ module _ (f : Family) (cost : ℕ → ℕ → ℕ) (pairs now : List (Option Edg
   same_pair t is_top = rung.others t (λ i low_i. out t is_top i low_i)
 
   outer_away : (i : ℕ) → i < length (outers root limbs) → get_or (outers root limbs) i 0 ≢ b
-  outer_away i low_i same = tree.apart i at low_i (omega (arith, low, length-inners limbs)) (same ∙ sym inner_is)
+  outer_away i low_i same = tree.shape.apart i at low_i (omega (arith, low, length-inners limbs)) (same ∙ sym inner_is)
 
   -- the ring is a cycle of tops now
   can : CanShrink g ring
@@ -112,21 +108,21 @@ module _ (f : Family) (cost : ℕ → ℕ → ℕ) (pairs now : List (Option Edg
 
   -- each node of the ring is paired
   ring_paired : (i : ℕ) → i < length ring → pair_of now (link_at ring i).node ≢ None
-  ring_paired zero low_i none = some_none (sym rung.first ∙ none)
+  ring_paired zero low_i none = none-some _ (sym (sym rung.first ∙ none))
   ring_paired (suc i) low_i none = elim (halves i) [
     | inl even ↦
         let place : suc i ≡ 2 * even.0 + 1 = omega (arith, even.1) in
-        some_none (sym (rung.odd even.0 (omega (arith, low_i, place, is.cycle.odd))) ∙ ap (λ k. pair_of now (link_at ring k).node) (sym place) ∙ none)
+        none-some _ (sym (sym (rung.odd even.0 (omega (arith, low_i, place, is.cycle.odd))) ∙ ap (λ k. pair_of now (link_at ring k).node) (sym place) ∙ none))
     | inr odd ↦
         let place : suc i ≡ 2 * odd.0 + 2 = omega (arith, odd.1) in
-        some_none (sym (rung.even odd.0 (omega (arith, low_i, place))) ∙ ap (λ k. pair_of now (link_at ring k).node) (sym place) ∙ none)
+        none-some _ (sym (sym (rung.even odd.0 (omega (arith, low_i, place))) ∙ ap (λ k. pair_of now (link_at ring k).node) (sym place) ∙ none))
   ]
 
   -- the unpaired tops are those that were
   pub IsLonely-expanded : (lonely : List ℕ) → IsLonely f pairs (Some root) lonely → IsLonely g now (Some root) lonely
   IsLonely-expanded lonely old =
       record {
-        tops = λ i low_i. IsTop-expand_other f b fam top blossom room (get_or lonely i 0) (old.tops i low_i) (λ same. some_none (sym (tree.bond at low) ∙ ap (λ n. pair_of pairs n) (here ∙ sym same) ∙ old.unpaired i low_i));
+        tops = λ i low_i. IsTop-expand_other f b fam top blossom room (get_or lonely i 0) (old.tops i low_i) (λ same. none-some _ (sym (sym (tree.bond at low) ∙ ap (λ n. pair_of pairs n) (here ∙ sym same) ∙ old.unpaired i low_i)));
         unpaired = λ i low_i. same_pair (get_or lonely i 0) (old.tops i low_i) ∙ old.unpaired i low_i;
         differ = old.differ;
         rootless = old.rootless;
@@ -149,7 +145,7 @@ module _ (f : Family) (cost : ℕ → ℕ → ℕ) (pairs now : List (Option Edg
   pub IsFeasible-split : IsFeasible g cost
   IsFeasible-split = IsFeasible-expanded f cost b feasible top blossom flat room
 
-  module _ (door : ℕ) (door_low : door < length ring) (at_door : Holds f (link_at ring door).node (limb_at limbs at).edge.from) where
+  module _ (door : ℕ) (stem : Holds f (link_at ring 0).node (limb_at limbs at).bond.from) (door_low : door < length ring) (at_door : Holds f (link_at ring door).node (limb_at limbs at).edge.from) where
     abbrev first : ℕ
     first = (link_at ring 0).node
 
@@ -199,10 +195,10 @@ module _ (f : Family) (cost : ℕ → ℕ → ℕ) (pairs now : List (Option Edg
         ]
 
     old_outer : (i : ℕ) → i < length (outers root limbs) → IsTop g (get_or (outers root limbs) i 0)
-    old_outer i less = IsTop-expand_other f b fam top blossom room (get_or (outers root limbs) i 0) (tree.outer_tops i less) (outer_away i less)
+    old_outer i less = IsTop-expand_other f b fam top blossom room (get_or (outers root limbs) i 0) (tree.shape.outer_tops i less) (outer_away i less)
 
     inner_away : (i : ℕ) → i < length (inners limbs) → i ≢ at → get_or (inners limbs) i 0 ≢ b
-    inner_away i less away same = away (tree.inner_differ i at less (omega (arith, low, length-inners limbs)) (same ∙ sym inner_is))
+    inner_away i less away same = away (tree.shape.inner_differ i at less (omega (arith, low, length-inners limbs)) (same ∙ sym inner_is))
 
     zero_low : 0 < length ring
     zero_low = omega (arith, is.cycle.long)
@@ -217,32 +213,39 @@ module _ (f : Family) (cost : ℕ → ℕ → ℕ) (pairs now : List (Option Edg
           outer_tops = λ i less. subst (λ n. IsTop g n) (sym (outer_same i less)) (old_outer i (outer_low i less));
           inner_tops = λ i less. elim (inner_case i less) [
             | inl a ↦ subst (λ n. IsTop g n) (sym a.1) (can.tops 0 zero_low)
-            | inr a ↦ subst (λ n. IsTop g n) (sym a.1) (IsTop-expand_other f b fam top blossom room (get_or (inners limbs) i 0) (tree.inner_tops i (inner_low i less)) (inner_away i (inner_low i less) a.0))
+            | inr a ↦ subst (λ n. IsTop g n) (sym a.1) (IsTop-expand_other f b fam top blossom room (get_or (inners limbs) i 0) (tree.shape.inner_tops i (inner_low i less)) (inner_away i (inner_low i less) a.0))
           ];
-          outer_differ = λ i j low_i low_j same. tree.outer_differ i j (outer_low i low_i) (outer_low j low_j) (sym (outer_same i low_i) ∙ same ∙ outer_same j low_j);
+          outer_differ = λ i j low_i low_j same. tree.shape.outer_differ i j (outer_low i low_i) (outer_low j low_j) (sym (outer_same i low_i) ∙ same ∙ outer_same j low_j);
           inner_differ = λ i j low_i low_j same. pick i j (inner_low i low_i) (inner_low j low_j) (inner_case i low_i) (inner_case j low_j) same;
           apart = λ i j low_i low_j same. elim (inner_case j low_j) [
-            | inl a ↦ out (get_or (outers root limbs) i 0) (tree.outer_tops i (outer_low i low_i)) 0 zero_low (sym a.1 ∙ sym same ∙ outer_same i low_i)
-            | inr a ↦ tree.apart i j (outer_low i low_i) (inner_low j low_j) (sym (outer_same i low_i) ∙ same ∙ a.1)
+            | inl a ↦ out (get_or (outers root limbs) i 0) (tree.shape.outer_tops i (outer_low i low_i)) 0 zero_low (sym a.1 ∙ sym same ∙ outer_same i low_i)
+            | inr a ↦ tree.shape.apart i j (outer_low i low_i) (inner_low j low_j) (sym (outer_same i low_i) ∙ same ∙ a.1)
           ];
-          lone_root = same_pair root (tree.outer_tops 0 (omega (arith, length-outers root limbs))) ∙ tree.lone_root;
+          lone_root = same_pair root (tree.shape.outer_tops 0 (omega (arith, length-outers root limbs))) ∙ tree.lone_root;
           bond = λ i less. elim (cases_eq i at) [
             | inl same ↦ subst (λ x. pair_of now (limb_at new x).inner ≡ Some (limb_at new x).bond) (sym same) (subst (λ (l : Limb). pair_of now l.inner ≡ Some l.bond) (sym written) rung.first)
-            | inr away ↦ subst (λ (l : Limb). pair_of now l.inner ≡ Some l.bond) (sym (other i away)) (same_pair (limb_at limbs i).inner (inner_top i (omega (arith, less, count))) ∙ tree.bond i (omega (arith, less, count)))
+            | inr away ↦ subst (λ (l : Limb). pair_of now l.inner ≡ Some l.bond) (sym (other i away)) (same_pair (limb_at limbs i).inner (inner_top f root limbs tree.shape i (omega (arith, less, count))) ∙ tree.bond i (omega (arith, less, count)))
+          ];
+          bond_from = λ i less. elim (cases_eq i at) [
+            | inl same ↦ subst (λ x. Holds g (limb_at new x).inner (limb_at new x).bond.from) (sym same) (subst (λ (l : Limb). Holds g l.inner l.bond.from) (sym written) (rest first limb.bond.from (out b top 0 zero_low) stem))
+            | inr away ↦
+                let low_i : i < length limbs = omega (arith, less, count) in
+                subst (λ (l : Limb). Holds g l.inner l.bond.from) (sym (other i away))
+                (rest (limb_at limbs i).inner (limb_at limbs i).bond.from (λ same. inner_away i (omega (arith, low_i, length-inners limbs)) away (inner_at limbs i low_i ∙ same)) (tree.shape.bond_from i low_i))
           ];
           bond_to = λ i less.
               let low_i : i < length limbs = omega (arith, less, count) in
               subst (λ n. Holds g n (limb_at new i).bond.to) (sym (kept (λ l. l.outer) refl i))
               (subst (λ (e : Edge). Holds g (limb_at limbs i).outer e.to) (sym (kept (λ l. l.bond) refl i))
-              (rest (limb_at limbs i).outer (limb_at limbs i).bond.to (λ same. outer_away (suc i) (omega (arith, low_i, length-outers root limbs)) (outer_at root limbs i low_i ∙ same)) (tree.bond_to i low_i)));
+              (rest (limb_at limbs i).outer (limb_at limbs i).bond.to (λ same. outer_away (suc i) (omega (arith, low_i, length-outers root limbs)) (outer_at root limbs i low_i ∙ same)) (tree.shape.bond_to i low_i)));
           edge_from = λ i less away.
               let low_i : i < length limbs = omega (arith, less, count) in
               subst (λ (l : Limb). Holds g l.inner l.edge.from) (sym (other i away))
-              (rest (limb_at limbs i).inner (limb_at limbs i).edge.from (λ same. inner_away i (omega (arith, low_i, length-inners limbs)) away (inner_at limbs i low_i ∙ same)) (tree.edge_from i low_i));
+              (rest (limb_at limbs i).inner (limb_at limbs i).edge.from (λ same. inner_away i (omega (arith, low_i, length-inners limbs)) away (inner_at limbs i low_i ∙ same)) (tree.shape.edge_from i low_i));
           edge_door = subst (λ (l : Limb). Holds g (link_at ring door).node l.edge.from) (sym written) (rest (link_at ring door).node limb.edge.from (out b top door door_low) at_door);
           edge_to = λ i less.
               let low_i : i < length limbs = omega (arith, less, count) in
-              let old = tree.edge_to i low_i in
+              let old = tree.shape.edge_to i low_i in
               let outer_i : old.0 < length (outers root limbs) = omega (arith, old.1, low_i, length-outers root limbs) in (
                 old.0,
                 old.1,
@@ -253,22 +256,19 @@ module _ (f : Family) (cost : ℕ → ℕ → ℕ) (pairs now : List (Option Edg
           stem = ap (λ l. l.inner) written;
           fresh = λ e positive from less some.
               record {
-                outer = λ i low_i same. out (get_or (outers root limbs) i 0) (tree.outer_tops i (outer_low i low_i)) e less (sym same ∙ outer_same i low_i);
+                outer = λ i low_i same. out (get_or (outers root limbs) i 0) (tree.shape.outer_tops i (outer_low i low_i)) e less (sym same ∙ outer_same i low_i);
                 inner = λ i low_i same. elim (inner_case i low_i) [
                   | inl a ↦ absurd (omega (arith, positive, is.cycle.differ 0 e zero_low less (sym a.1 ∙ same)))
-                  | inr a ↦ out (get_or (inners limbs) i 0) (tree.inner_tops i (inner_low i low_i)) e less (sym same ∙ a.1)
+                  | inr a ↦ out (get_or (inners limbs) i 0) (tree.shape.inner_tops i (inner_low i low_i)) e less (sym same ∙ a.1)
                 ];
               };
         }
       where
-        inner_top : (i : ℕ) → i < length limbs → IsTop f (limb_at limbs i).inner
-        inner_top i low_i = subst (λ n. IsTop f n) (inner_at limbs i low_i) (tree.inner_tops i (omega (arith, low_i, length-inners limbs)))
-
         pick : (i j : ℕ) → i < length (inners limbs) → j < length (inners limbs) → Inner i → Inner j → get_or (inners new) i 0 ≡ get_or (inners new) j 0 → i ≡ j
         pick i j low_i low_j (inl a) (inl c) same = a.0 ∙ sym c.0
-        pick i j low_i low_j (inl a) (inr c) same = absurd (out (get_or (inners limbs) j 0) (tree.inner_tops j low_j) 0 zero_low (sym a.1 ∙ same ∙ c.1))
-        pick i j low_i low_j (inr a) (inl c) same = absurd (out (get_or (inners limbs) i 0) (tree.inner_tops i low_i) 0 zero_low (sym c.1 ∙ sym same ∙ a.1))
-        pick i j low_i low_j (inr a) (inr c) same = tree.inner_differ i j low_i low_j (sym a.1 ∙ same ∙ c.1)
+        pick i j low_i low_j (inl a) (inr c) same = absurd (out (get_or (inners limbs) j 0) (tree.shape.inner_tops j low_j) 0 zero_low (sym a.1 ∙ same ∙ c.1))
+        pick i j low_i low_j (inr a) (inl c) same = absurd (out (get_or (inners limbs) i 0) (tree.shape.inner_tops i low_i) 0 zero_low (sym c.1 ∙ sym same ∙ a.1))
+        pick i j low_i low_j (inr a) (inr c) same = tree.shape.inner_differ i j low_i low_j (sym a.1 ∙ same ∙ c.1)
 
     pub CanRegrow-split : (door ≡ 0) ⊎ IsOdd door → CanRegrow g cost now root limbs ring at door
     CanRegrow-split facing =

@@ -1,15 +1,14 @@
 -- What an answer of the engine says of its pairs.
-use Rattle.std.proofs.Common.{◌≡◌, ℕ, List, [], length, Option, Some, None, IsSome, MatchOption, refl, ap, subst, inl, inr, arith}
+use Rattle.std.proofs.Common.{◌≡◌, ℕ, List, length, Option, Some, None, IsSome, refl, ap, inl, inr, arith}
 use Rattle.std.proofs.lemmas.Bool.{false≢true}
 use Rattle.sg_arena.proofs.ListLemmas.{cases_option}
 use Rattle.sg_arena.specs.Family.{Family}
-use Rattle.sg_match.specs.Amount.{IsFlat, IsLeastFlat}
+use Rattle.sg_match.proofs.EngineLemmas.{no_limbs, tree_of}
+use Rattle.sg_match.specs.Flat.{IsFlat, IsLeastFlat}
 use Rattle.sg_match.specs.Engine.{IsEngine}
-use Rattle.sg_match.specs.Events.{IsStage}
-use Rattle.sg_match.specs.Metric.{cost}
+use Rattle.sg_match.specs.Stages.{IsStage}
 use Rattle.sg_match.specs.Pairs.{AllPaired, pair_of}
 use Rattle.sg_match.specs.State.{State}
-use Rattle.sg_match.specs.Tree.{IsTree}
 use Rattle.sg_match.specs.declared.Edge.{Edge}
 use Rattle.sg_match.specs.declared.Limb.{Limb}
 use Rattle.sg_match.specs.declared.Stage.{Stage}
@@ -20,15 +19,13 @@ no_pair None e some = false≢true some
 no_pair (Some p) e some = cc e
 
 -- where the tree has an inner top, its root is unpaired
-pub not_all : (s : State) → IsEngine s → (node : ℕ) → IsFlat s.family s.limbs node → AllPaired s.family s.pairs → ⊥
+not_all : (s : State) → IsEngine s → (node : ℕ) → IsFlat s.family s.limbs node → AllPaired s.family s.pairs → ⊥
 not_all s engine node flat all =
     elim (cases_option s.root) [
-      | inl none ↦
-          let bare : s.limbs ≡ [] = subst (λ o. MatchOption o (s.limbs ≡ []) (λ r. IsTree s.family (cost s.table) s.pairs r s.limbs)) none engine.tree in
-          omega (arith, flat.within, ap (λ xs. length xs) bare)
+      | inl none ↦ omega (arith, flat.within, ap (λ xs. length xs) (no_limbs s engine none))
       | inr some ↦
-          let tree : IsTree s.family (cost s.table) s.pairs some.0 s.limbs = subst (λ o. MatchOption o (s.limbs ≡ []) (λ r. IsTree s.family (cost s.table) s.pairs r s.limbs)) some.1 engine.tree in
-          no_pair (pair_of s.pairs some.0) tree.lone_root (all some.0 (tree.outer_tops 0 (omega arith)))
+          let tree = tree_of s engine some.0 some.1 in
+          no_pair (pair_of s.pairs some.0) tree.lone_root (all some.0 (tree.shape.outer_tops 0 (omega arith)))
     ]
 
 -- all tops are paired exactly where the answer says so

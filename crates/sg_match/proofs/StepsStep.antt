@@ -1,11 +1,13 @@
 -- How the bound on the steps that are left falls.
-use Rattle.std.proofs.Common.{◌≡◌, ℕ, zero, suc, ◌+◌, ◌<◌, ◌≤◌, Bool, true, false, not, cond, List, [], ◌∷◌, length, get_or, count_by, Option, Some, None, refl, sym, ap, ◌∙◌, subst, arith}
+use Rattle.std.proofs.Common.{◌≡◌, ℕ, ◌+◌, ◌<◌, ◌≤◌, Bool, true, false, not, cond, List, [], ◌∷◌, length, get_or, count_by, Option, Some, None, refl, sym, ap, ◌∙◌, subst, arith}
 use Rattle.std.specs.List.{range_with_len}
 use Rattle.std.proofs.lemmas.Bool.{false≢true}
 use Rattle.std.specs.Option.{option_map_or}
-use Rattle.std.proofs.lemmas.List.Sums.{sum_by-cons, sum_by-set}
+use Rattle.std.proofs.lemmas.List.Sums.{sum_by-set}
 use Rattle.std.proofs.lemmas.List.FromFn.{get_or-range_with_len, length-range_with_len}
 use Rattle.std.proofs.Common.{zero-add}
+use Rattle.sg_arena.proofs.ListLemmas.{count_by-mono}
+use Rattle.sg_sums.proofs.SumLaws.{sum_by-gain}
 use Rattle.sg_arena.specs.Changes.{blossom_of, with_slot}
 use Rattle.sg_arena.specs.Family.{Family, IsBlossom, Node, leaf_count, node_at}
 use Rattle.sg_arena.specs.declared.Link.{Link}
@@ -13,26 +15,14 @@ use Rattle.sg_match.specs.Steps.{blossoms_of, has_children, rest_of}
 use Rattle.sg_match.specs.Tree.{any_top, outers}
 use Rattle.sg_match.specs.declared.Limb.{Limb}
 
-at_most : (a b : Bool) → (a ≡ true → b ≡ true) → cond {A = ℕ} a 1 0 ≤ cond b 1 0
-at_most true true sub = omega arith
-at_most true false sub = absurd (false≢true (sub refl))
-at_most false b sub = omega arith
-
--- fewer that meet a test
-pub count_by-fewer : {X : Type 0} (p q : X → Bool) (xs : List X) → ((x : X) → p x ≡ true → q x ≡ true) → count_by p xs ≤ count_by q xs
-count_by-fewer p q [] sub = omega arith
-count_by-fewer p q (x ∷ xs) sub =
-    omega (arith, count_by-fewer p q xs sub, at_most (p x) (q x) (sub x), sum_by-cons (λ y. cond (p y) 1 0) x xs, sum_by-cons (λ y. cond (q y) 1 0) x xs)
-
-none_one : (a b : Bool) → a ≡ false → b ≡ true → cond {A = ℕ} a 1 0 + 1 ≤ cond b 1 0
-none_one a b e h = rw (e, h) (omega arith)
-
-pub count_by-one_fewer : {X : Type 0} (p q : X → Bool) (xs : List X) (k : ℕ) (d : X) → k < length xs → ((x : X) → p x ≡ true → q x ≡ true) → p (get_or xs k d) ≡ false → q (get_or xs k d) ≡ true → count_by p xs + 1 ≤ count_by q xs
-count_by-one_fewer p q [] k d low sub out is = absurd (omega (arith, low))
-count_by-one_fewer p q (x ∷ xs) zero d low sub out is =
-    omega (arith, count_by-fewer p q xs sub, none_one (p x) (q x) out is, sum_by-cons (λ y. cond (p y) 1 0) x xs, sum_by-cons (λ y. cond (q y) 1 0) x xs)
-count_by-one_fewer p q (x ∷ xs) (suc k) d low sub out is =
-    omega (arith, count_by-one_fewer p q xs k d (omega (arith, low)) sub out is, at_most (p x) (q x) (sub x), sum_by-cons (λ y. cond (p y) 1 0) x xs, sum_by-cons (λ y. cond (q y) 1 0) x xs)
+pub count_by-one_fewer : (p q : ℕ → Bool) (xs : List ℕ) (k : ℕ) → k < length xs → ((x : ℕ) → p x ≡ true → q x ≡ true) → p (get_or xs k 0) ≡ false → q (get_or xs k 0) ≡ true → count_by p xs + 1 ≤ count_by q xs
+count_by-one_fewer p q xs k low sub out is =
+    sum_by-gain (λ x. cond (p x) 1 0) (λ x. cond (q x) 1 0) 1 xs k 0 low (λ j d l. at_most (p (get_or xs j d)) (q (get_or xs j d)) (sub (get_or xs j d))) (rw (out, is) (omega arith))
+  where
+    at_most : (a b : Bool) → (a ≡ true → b ≡ true) → cond {A = ℕ} a 1 0 ≤ cond b 1 0
+    at_most true true sub = omega arith
+    at_most true false sub = absurd (false≢true (sub refl))
+    at_most false b sub = omega arith
 
 pub blossoms-shrunk : (f : Family) (b : ℕ) (cycle : List Link) → node_at f b ≡ None → b < length f.nodes → 0 < length cycle → blossoms_of (with_slot f b (Some (blossom_of f cycle))) ≡ blossoms_of f + 1
 blossoms-shrunk f b cycle dead room some =
@@ -54,29 +44,21 @@ blossoms-expanded f b blossom room =
     go None less = absurd (omega (arith, less))
     go (Some n) less = some n.cycle less n refl
 
+turn : (a b : Bool) → (a ≡ true → b ≡ true) → not b ≡ true → not a ≡ true
+turn true true sub e = e
+turn true false sub e = absurd (false≢true (sub refl))
+turn false b sub e = refl
+
 -- the leaves that no outer top holds are fewer once more leaves are held, and one is for the first time
 pub rest-fewer : (f g : Family) (r s : ℕ) (old new : List Limb) → leaf_count g ≡ leaf_count f → ((l : ℕ) → any_top f (outers r old) l ≡ true → any_top g (outers s new) l ≡ true) → rest_of g s new ≤ rest_of f r old
 rest-fewer f g r s old new same more =
     subst (λ k. count_by (λ l. not (any_top g (outers s new) l)) (range_with_len 0 k) ≤ rest_of f r old) (sym same)
-    (count_by-fewer (λ l. not (any_top g (outers s new) l)) (λ l. not (any_top f (outers r old) l)) (range_with_len 0 (leaf_count f)) (λ l. turn (any_top f (outers r old) l) (any_top g (outers s new) l) (more l)))
-  where
-    turn : (a b : Bool) → (a ≡ true → b ≡ true) → not b ≡ true → not a ≡ true
-    turn true true sub e = e
-    turn true false sub e = absurd (false≢true (sub refl))
-    turn false b sub e = refl
+    (count_by-mono (λ l. not (any_top g (outers s new) l)) (λ l. not (any_top f (outers r old) l)) (λ l. turn (any_top f (outers r old) l) (any_top g (outers s new) l) (more l)) (range_with_len 0 (leaf_count f)))
 
 pub rest-one_fewer : (f g : Family) (r s : ℕ) (old new : List Limb) (leaf : ℕ) → leaf_count g ≡ leaf_count f → leaf < leaf_count f → ((l : ℕ) → any_top f (outers r old) l ≡ true → any_top g (outers s new) l ≡ true) → any_top f (outers r old) leaf ≡ false → any_top g (outers s new) leaf ≡ true → rest_of g s new + 1 ≤ rest_of f r old
 rest-one_fewer f g r s old new leaf same low more out held =
     subst (λ k. count_by (λ l. not (any_top g (outers s new) l)) (range_with_len 0 k) + 1 ≤ rest_of f r old) (sym same)
-    (count_by-one_fewer (λ l. not (any_top g (outers s new) l)) (λ l. not (any_top f (outers r old) l)) (range_with_len 0 (leaf_count f)) leaf 0 (omega (arith, low, length-range 0 (leaf_count f)))
+    (count_by-one_fewer (λ l. not (any_top g (outers s new) l)) (λ l. not (any_top f (outers r old) l)) (range_with_len 0 (leaf_count f)) leaf (omega (arith, low, length-range_with_len 0 (leaf_count f)))
     (λ l. turn (any_top f (outers r old) l) (any_top g (outers s new) l) (more l))
     (ap (λ l. not (any_top g (outers s new) l)) (get_or-range_with_len 0 (leaf_count f) leaf 0 low ∙ zero-add leaf) ∙ ap not held)
     (ap (λ l. not (any_top f (outers r old) l)) (get_or-range_with_len 0 (leaf_count f) leaf 0 low ∙ zero-add leaf) ∙ ap not out))
-  where
-    turn : (a b : Bool) → (a ≡ true → b ≡ true) → not b ≡ true → not a ≡ true
-    turn true true sub e = e
-    turn true false sub e = absurd (false≢true (sub refl))
-    turn false b sub e = refl
-
-    length-range : (a n : ℕ) → length (range_with_len a n) ≡ n
-    length-range a n = length-range_with_len a n

@@ -1,9 +1,9 @@
 -- The pairs after an augmentation.
-use Rattle.std.specs.Prelude.{◌≡◌, ◌≢◌, ℕ, ◌<◌, List, length, Option, None, slice_index}
-use Rattle.sg_arena.specs.Family.{Family, Holds, IsTop, leaf_count}
+use Rattle.std.specs.Prelude.{◌≡◌, ◌≢◌, ℕ, ◌<◌, List, length, slice_index, Option, None}
+use Rattle.sg_arena.specs.Family.{Family, Holds, leaf_count, IsTop}
 use Rattle.sg_match.specs.Feasible.{IsTight}
-use Rattle.sg_match.specs.Pairs.{IsPaired, pair_of}
-use Rattle.sg_match.specs.Tree.{IsOut, IsTree, outers}
+use Rattle.sg_match.specs.Pairs.{pair_of, IsPaired}
+use Rattle.sg_match.specs.Tree.{outers, IsTree, IsOut}
 use Rattle.sg_match.specs.declared.Edge.{Edge}
 use Rattle.sg_match.specs.declared.Limb.{Limb}
 

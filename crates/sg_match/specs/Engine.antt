@@ -1,9 +1,9 @@
 -- What an engine keeps between its steps.
-use Rattle.std.specs.Prelude.{◌≡◌, ◌*◌, ◌≤◌, [], length, MatchOption}
+use Rattle.std.specs.Prelude.{◌≡◌, ◌*◌, ◌≤◌, length, [], MatchOption}
 use Rattle.sg_arena.specs.Family.{leaf_count}
-use Rattle.sg_match.specs.Feasible.{IsFeasible, IsTight}
+use Rattle.sg_match.specs.Feasible.{IsTight, IsFeasible}
 use Rattle.sg_match.specs.Lonely.{IsLonely}
-use Rattle.sg_match.specs.Metric.{IsMetric, cost}
+use Rattle.sg_match.specs.Metric.{cost, IsMetric}
 use Rattle.sg_match.specs.Pairs.{IsPaired}
 use Rattle.sg_match.specs.State.{State}
 use Rattle.sg_match.specs.Steps.{steps_left}

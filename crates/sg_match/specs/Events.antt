@@ -1,16 +1,13 @@
 -- What comes next at the tree: an inner blossom of dual 0, or a pair of leaves of slack 0.
-use Rattle.std.specs.Prelude.{◌≡◌, ℕ, ◌<◌, Some, length, slice_index}
-use Rattle.sg_arena.specs.Family.{Holds, IsTop, leaf_count}
-use Rattle.sg_match.specs.Amount.{IsLeastFlat}
+use Rattle.std.specs.Prelude.{◌≡◌, ℕ, ◌<◌, length, slice_index, Some}
+use Rattle.sg_arena.specs.Family.{Holds, leaf_count, IsTop}
 use Rattle.sg_match.specs.Feasible.{IsTight}
+use Rattle.sg_match.specs.Flat.{IsLeastFlat}
 use Rattle.sg_match.specs.Metric.{cost}
 use Rattle.sg_match.specs.State.{State}
-use Rattle.sg_match.specs.Tree.{IsOut, outers}
-use Rattle.sg_match.specs.Pairs.{AllPaired}
+use Rattle.sg_match.specs.Tree.{outers, IsOut}
 use Rattle.sg_match.specs.declared.Event.{Event}
 use Rattle.sg_match.specs.declared.Event.TheVariants.{Flat, Reach, Join}
-use Rattle.sg_match.specs.declared.Stage.{Stage}
-use Rattle.sg_match.specs.declared.Stage.TheVariants.{InnerZero, Matched}
 
 -- a tight pair from a leaf of the tree's outer tops to a leaf outside the tree
 pub record IsReach (s : State) (root u v : ℕ) : Type 0 where
@@ -41,8 +38,3 @@ abbrev pub IsNext : State → ℕ → Event → Type 0
 IsNext s root (Flat node) = IsLeastFlat s.family s.limbs node
 IsNext s root (Reach u v) = IsReach s root u v
 IsNext s root (Join u v) = IsJoin s root u v
-
--- what an answer of the engine says of the state
-abbrev pub IsStage : State → Stage → Type 0
-IsStage s Matched = AllPaired s.family s.pairs
-IsStage s (InnerZero node) = IsLeastFlat s.family s.limbs node

@@ -1,6 +1,6 @@
 -- Duals under which no slack is negative, and pairs of leaves of slack 0.
-use Rattle.std.specs.Prelude.{◌≡◌, ℕ, ◌<◌, ◌≤◌, ◌%◌, length}
-use Rattle.sg_arena.specs.Family.{Family, Holds, IsFamily, IsTop, cycle_of, leaf_count, link_at, total_of}
+use Rattle.std.specs.Prelude.{◌≡◌, ℕ, ◌<◌, ◌≤◌, length, ◌%◌}
+use Rattle.sg_arena.specs.Family.{Family, Holds, leaf_count, IsTop, IsFamily, cycle_of, link_at, total_of}
 use Rattle.sg_arena.specs.Slack.{duals_between}
 use Rattle.sg_match.specs.Metric.{cost}
 
@@ -8,8 +8,7 @@ use Rattle.sg_match.specs.Metric.{cost}
 abbrev pub IsTight : Family → (ℕ → ℕ → ℕ) → ℕ → ℕ → Type 0
 IsTight f cost u v = duals_between f u v ≡ cost u v
 
--- no slack is negative, each link of a cycle is tight, and the totals within a top
--- have one parity
+-- no slack is negative, links of cycles are tight, and totals within a top have one parity
 pub record IsFeasible (f : Family) (cost : ℕ → ℕ → ℕ) : Type 0 where
   pub family : IsFamily f
   pub slack : (u v : ℕ) → u < leaf_count f → v < leaf_count f → duals_between f u v ≤ cost u v

@@ -10,7 +10,7 @@ pub record IsEvenCost (c : ℤ) : Type 0 where
   pub even : nat_of c % 2 ≡ 0
   pub bounded : nat_of c ≤ 2 ^ 47
 
--- such a cost, the same both ways
+-- an even cost, the same both ways
 pub record IsFit (t : Table) (u v : ℕ) : Type 0 where
   pub even : IsEvenCost (cost_of t u v)
   pub symmetric : cost_of t u v ≡ cost_of t v u
@@ -20,7 +20,7 @@ pub record IsFitRow (t : Table) (u : ℕ) : Type 0 where
   pub diagonal : cost_of t u u ≡ pos 0
   pub fit : (v : ℕ) → v < t.size → IsFit t u v
 
--- all rows are fit
+-- all leaves' costs are fit
 pub record AreFit (t : Table) : Type 0 where
   pub rows : (u : ℕ) → u < t.size → IsFitRow t u
 

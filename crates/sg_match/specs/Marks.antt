@@ -1,10 +1,10 @@
--- Where each leaf stands.
-use Rattle.std.specs.Prelude.{◌≡◌, ℕ, ◌<◌, List, length, slice_index, slice_index_or, pos, ℤ}
-use Rattle.sg_arena.specs.Family.{Family, Holds, IsTop, leaf_count, total_of}
-use Rattle.sg_match.specs.Tree.{inners, outers}
-use Rattle.sg_match.specs.declared.Limb.{Limb}
+-- What the tables of the leaves say.
+use Rattle.std.specs.Prelude.{◌≡◌, ℕ, ◌<◌, List, length, slice_index, ℤ, pos, slice_index_or}
+use Rattle.sg_arena.specs.Family.{Family, Holds, leaf_count, IsTop, total_of}
 use Rattle.sg_slack.specs.declared.Mark.{Mark}
 use Rattle.sg_slack.specs.declared.Mark.TheVariants.{Free, Inner, Outer}
+use Rattle.sg_match.specs.Tree.{outers, inners}
+use Rattle.sg_match.specs.declared.Limb.{Limb}
 
 -- the mark of each leaf says where its top stands
 pub record IsMarked (f : Family) (root : ℕ) (limbs : List Limb) (marks : List Mark) : Type 0 where
@@ -13,7 +13,7 @@ pub record IsMarked (f : Family) (root : ℕ) (limbs : List Limb) (marks : List 
   pub inner : (leaf : ℕ) → leaf < leaf_count f → slice_index_or marks leaf Free ≡ Inner → (i : ℕ) × (i < length (inners limbs)) × Holds f (slice_index (inners limbs) i) leaf
   pub free : (leaf : ℕ) → leaf < leaf_count f → slice_index_or marks leaf Free ≡ Free → ((i : ℕ) → i < length (outers root limbs) → Holds f (slice_index (outers root limbs) i) leaf → ⊥) × ((i : ℕ) → i < length (inners limbs) → Holds f (slice_index (inners limbs) i) leaf → ⊥)
 
--- the tables that the slack search reads are those of the family
+-- each leaf's top and its total
 pub record IsListed (f : Family) (tops : List ℕ) (totals : List ℤ) : Type 0 where
   pub top_count : length tops ≡ leaf_count f
   pub total_count : length totals ≡ leaf_count f

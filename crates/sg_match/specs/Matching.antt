@@ -1,10 +1,11 @@
 -- Pairings of the leaves, and what makes one least.
-use Rattle.std.specs.Prelude.{◌≡◌, ◌≢◌, ℕ, ◌<◌, ◌≤◌, List, length, Option, sum_by, slice_index, if◌then◌else◌, nat_lt}
 use Rattle.std.specs.List.{range_with_len}
 use Rattle.std.specs.Option.{option_map_or}
-use Rattle.sg_arena.specs.Family.{Family, Holds, IsAlive, Node, leaf_count}
+use Rattle.std.specs.Prelude.{◌≡◌, ◌≢◌, ℕ, ◌<◌, ◌≤◌, List, length, slice_index, Option, sum_by, if◌then◌else◌, nat_lt}
+use Rattle.sg_arena.specs.Family.{Family, Holds, leaf_count, IsAlive, Node}
 use Rattle.sg_arena.specs.Slack.{duals_between}
 use Rattle.sg_match.specs.Feasible.{IsTight}
+use Rattle.sg_match.specs.Metric.{cost}
 
 -- each of k leaves has a mate, another leaf, whose own mate it is
 pub record IsPairing (k : ℕ) (mates : List ℕ) : Type 0 where
@@ -14,15 +15,15 @@ pub record IsPairing (k : ℕ) (mates : List ℕ) : Type 0 where
   pub back : (u : ℕ) → u < k → slice_index mates (slice_index mates u) ≡ u
 
 -- the leaf is in the set and its mate is not
-pub record Leaves (f : Family) (mates : List ℕ) (name u : ℕ) : Type 0 where
+pub record IsExit (f : Family) (mates : List ℕ) (name u : ℕ) : Type 0 where
   pub low : u < leaf_count f
   pub inside : Holds f name u
   pub outside : ¬ Holds f name (slice_index mates u)
 
 -- exactly one pair of mates leaves the set
 pub record IsLeftOnce (f : Family) (mates : List ℕ) (name : ℕ) : Type 0 where
-  pub one : (u : ℕ) × Leaves f mates name u
-  pub only : (u v : ℕ) → Leaves f mates name u → Leaves f mates name v → u ≡ v
+  pub one : (u : ℕ) × IsExit f mates name u
+  pub only : (u v : ℕ) → IsExit f mates name u → IsExit f mates name v → u ≡ v
 
 -- a pairing along pairs of slack 0 that leaves each set just once
 pub record IsMatching (f : Family) (cost : ℕ → ℕ → ℕ) (mates : List ℕ) : Type 0 where

@@ -7,8 +7,7 @@ use Rattle.sg_slack.specs.Table.{Table, cost_of}
 abbrev pub cost : Table → ℕ → ℕ → ℕ
 cost t u v = nat_of (cost_of t u v)
 
--- even costs of an even number of leaves: symmetric, 0 on the diagonal, and no way round is cheaper
--- than the direct one
+-- even costs, symmetric, 0 on the diagonal, and no way round is cheaper than the direct one
 pub record IsMetric (t : Table) : Type 0 where
   pub even_size : t.size % 2 ≡ 0
   pub small : t.size ≤ 2 ^ 24

@@ -1,45 +1,19 @@
 -- Paths of links between tops of the tree.
-use Rattle.std.specs.Prelude.{◌≡◌, ℕ, ◌<◌, ◌≤◌, ◌%◌, List, [], ◌∷◌, length, map, ◌⊎◌, slice_index, slice_index_or, Contains}
-use Rattle.sg_arena.specs.Family.{Family, Holds, IsTop, leaf_count}
+use Rattle.std.specs.Prelude.{◌≡◌, ℕ, ◌<◌, List, length, [], ◌∷◌, map}
+use Rattle.sg_arena.specs.Family.{Family, Holds, IsTop, link_at}
 use Rattle.sg_arena.specs.declared.Link.{Link}
 use Rattle.sg_match.specs.Feasible.{IsTight}
 use Rattle.sg_match.specs.Metric.{cost}
-use Rattle.sg_match.specs.Tree.{inners, limb_at, outers}
-use Rattle.sg_match.specs.declared.Limb.{Limb}
 
--- the links lead from one top to another, each from a leaf of its node to a leaf of the next one
+-- from one top to another, each link from a leaf of its node to a leaf of the next node
 abbrev pub IsPath : Family → List Link → ℕ → ℕ → Type 0
 IsPath f [] head tail = head ≡ tail
 IsPath f (l ∷ rest) head tail = (l.node ≡ head) × IsTop f head × Holds f head l.from × ((next : ℕ) × Holds f next l.to × IsPath f rest next tail)
 
+-- the nodes along a path
 abbrev pub nodes_of : List Link → List ℕ
 nodes_of path = map (λ l. l.node) path
 
-abbrev pub Differ : List ℕ → Type 0
-Differ xs = (i j : ℕ) → i < length xs → j < length xs → slice_index xs i ≡ slice_index xs j → i ≡ j
-
--- the head, or a top of the limbs from a place on
-abbrev pub IsSpot : ℕ → List Limb → ℕ → ℕ → ℕ → Type 0
-IsSpot root limbs place head n = (n ≡ head) ⊎ (((j : ℕ) × (place < j) × (j < length (outers root limbs)) × (slice_index (outers root limbs) j ≡ n)) ⊎ ((j : ℕ) × (place ≤ j) × (j < length (inners limbs)) × (slice_index (inners limbs) j ≡ n)))
-
--- a path between two outer tops over limbs that stand at a place or behind it
-pub record IsClimb (f : Family) (root : ℕ) (limbs : List Limb) (cycle : List Link) (place head tail : ℕ) : Type 0 where
-  pub path : IsPath f cycle head tail
-  pub within : place ≤ length limbs
-  pub odd : length cycle % 2 ≡ 1
-  pub differ : Differ (nodes_of cycle)
-  pub spot : (n : ℕ) → Contains (nodes_of cycle) n → IsSpot root limbs place head n
-  pub head_at : (j : ℕ) × (j ≤ place) × (slice_index (outers root limbs) j ≡ head)
-  pub tail_at : (j : ℕ) × (j ≤ place) × (slice_index (outers root limbs) j ≡ tail)
-  pub whole : (j : ℕ) → place ≤ j → j < length limbs → (Contains (nodes_of cycle) (limb_at limbs j).inner → Contains (nodes_of cycle) (limb_at limbs j).outer) × (Contains (nodes_of cycle) (limb_at limbs j).outer → Contains (nodes_of cycle) (limb_at limbs j).inner)
-  pub some : head ≡ tail → 2 ≤ length cycle
-
 -- each link of a path is tight
 abbrev pub AreTight : Family → (ℕ → ℕ → ℕ) → List Link → Type 0
-AreTight f cost path = (i : ℕ) → i < length path → IsTight f cost (slice_index_or path i (record { node = 0; from = 0; to = 0 })).from (slice_index_or path i (record { node = 0; from = 0; to = 0 })).to
-
--- the tree's edges and bonds are tight, and costs are symmetric
-pub record HasTight (f : Family) (cost : ℕ → ℕ → ℕ) (limbs : List Limb) : Type 0 where
-  pub edge : (i : ℕ) → i < length limbs → IsTight f cost (limb_at limbs i).edge.from (limb_at limbs i).edge.to
-  pub bond : (i : ℕ) → i < length limbs → IsTight f cost (limb_at limbs i).bond.from (limb_at limbs i).bond.to
-  pub symmetric : (a b : ℕ) → a < leaf_count f → b < leaf_count f → cost a b ≡ cost b a
+AreTight f cost path = (i : ℕ) → i < length path → IsTight f cost (link_at path i).from (link_at path i).to

@@ -4,7 +4,7 @@ use Rattle.sg_arena.specs.Family.{Family, Holds, IsTop}
 use Rattle.sg_match.specs.Tree.{limb_at}
 use Rattle.sg_match.specs.declared.Limb.{Limb}
 
--- the limbs whose inner tops aren't in a cycle, in order, with the blossom's name in place of the base's
+-- the limbs whose inner tops aren't in a cycle, in order, with the blossom in place of its base
 pub record IsRegraft (blossom base : ℕ) (nodes : List ℕ) (old new : List Limb) : Type 0 where
   pub at : ℕ → ℕ
   pub low : (k : ℕ) → k < length new → at k < length old

@@ -1,17 +1,15 @@
 -- How near the tree's outer leaves come to each other and to the leaves outside.
-use Rattle.std.specs.Prelude.{◌≡◌, ◌≢◌, ℕ, ◌+◌, ◌*◌, ◌<◌, ◌≤◌, ◌%◌, List, length, slice_index, ℤ, pos, ◌≤ℤ◌}
-use Rattle.sg_arena.specs.Family.{Family, Holds, IsTop, leaf_count, total_of}
+use Rattle.std.specs.Prelude.{◌≡◌, ◌≢◌, ℕ, ◌+◌, ◌*◌, ◌<◌, ◌≤◌, List, length, slice_index, ◌%◌}
+use Rattle.sg_arena.specs.Family.{Family, Holds, leaf_count, IsTop, total_of}
 use Rattle.sg_arena.specs.Slack.{duals_between}
 use Rattle.sg_match.specs.Feasible.{IsFeasible}
-use Rattle.sg_match.specs.Tree.{IsOut, IsShape, inners, outers}
+use Rattle.sg_match.specs.Metric.{cost}
+use Rattle.sg_match.specs.Tree.{outers, inners, IsShape, IsOut}
 use Rattle.sg_match.specs.declared.Event.{Event}
 use Rattle.sg_match.specs.declared.Event.TheVariants.{Flat, Reach, Join}
 use Rattle.sg_match.specs.declared.Limb.{Limb}
-use Rattle.sg_slack.specs.Slack.{IsOuterFree, IsOuterOuter, slack_of}
-use Rattle.sg_slack.specs.Table.{Table}
-use Rattle.sg_slack.specs.declared.Mark.{Mark}
 
--- a tree whose next pair can be told: some leaf is outside, and slacks between outer tops are even
+-- a tree with some leaf outside, and with even slacks between its outer tops
 pub record CanReach (f : Family) (cost : ℕ → ℕ → ℕ) (root : ℕ) (limbs : List Limb) : Type 0 where
   pub feasible : IsFeasible f cost
   pub shape : IsShape f root limbs
@@ -35,33 +33,14 @@ pub record IsHalfway (f : Family) (cost : ℕ → ℕ → ℕ) (root : ℕ) (lim
   pub apart : (t : ℕ) → IsTop f t → Holds f t u → Holds f t v → ⊥
   pub slack : duals_between f u v + 2 * reach ≡ cost u v
 
--- the pair that stands at this reach
+-- the pair of leaves that has this reach
 abbrev pub IsAt : Family → (ℕ → ℕ → ℕ) → ℕ → List Limb → ℕ → Event → Type 0
 IsAt f cost root limbs reach (Flat node) = ⊥
 IsAt f cost root limbs reach (Reach u v) = IsAway f cost root limbs reach u v
 IsAt f cost root limbs reach (Join u v) = IsHalfway f cost root limbs reach u v
 
--- the least slack of an outer leaf and one outside, or half that of two outer leaves if that is
--- less, and a pair that has it
+-- the least slack of an outer leaf and one outside, or half that of two outer leaves, and its pair
 pub record IsNearest (f : Family) (cost : ℕ → ℕ → ℕ) (root : ℕ) (limbs : List Limb) (reach : ℕ) (event : Event) : Type 0 where
   pub free : (u v i : ℕ) → u < leaf_count f → v < leaf_count f → i < length (outers root limbs) → Holds f (slice_index (outers root limbs) i) u → ((j : ℕ) → j < length (outers root limbs) → Holds f (slice_index (outers root limbs) j) v → ⊥) → ((j : ℕ) → j < length (inners limbs) → Holds f (slice_index (inners limbs) j) v → ⊥) → duals_between f u v + reach ≤ cost u v
   pub between : (u v i j : ℕ) → u < leaf_count f → v < leaf_count f → i < length (outers root limbs) → j < length (outers root limbs) → i ≢ j → Holds f (slice_index (outers root limbs) i) u → Holds f (slice_index (outers root limbs) j) v → duals_between f u v + 2 * reach ≤ cost u v
   pub one : IsAt f cost root limbs reach event
-
--- in tables: slacks are whole, those of two outer leaves are even, and there is a free leaf
-pub record CanScan (t : Table) (tops : List ℕ) (totals : List ℤ) (marks : List Mark) : Type 0 where
-  pub some : (u : ℕ) × (v : ℕ) × IsOuterFree t marks u v
-  pub free : (u v : ℕ) → IsOuterFree t marks u v → (n : ℕ) × (slack_of t totals u v ≡ pos n)
-  pub both : (u v : ℕ) → IsOuterOuter t tops marks u v → (n : ℕ) × (slack_of t totals u v ≡ pos (2 * n))
-
--- the pair of leaves that stands at this reach
-abbrev pub IsScannedAt : Table → List ℕ → List ℤ → List Mark → ℕ → Event → Type 0
-IsScannedAt t tops totals marks reach (Flat node) = ⊥
-IsScannedAt t tops totals marks reach (Reach u v) = IsOuterFree t marks u v × (slack_of t totals u v ≡ pos reach)
-IsScannedAt t tops totals marks reach (Join u v) = IsOuterOuter t tops marks u v × (slack_of t totals u v ≡ pos (2 * reach))
-
--- the same in tables
-pub record IsScanned (t : Table) (tops : List ℕ) (totals : List ℤ) (marks : List Mark) (reach : ℕ) (event : Event) : Type 0 where
-  pub free : (u v : ℕ) → IsOuterFree t marks u v → pos reach ≤ℤ slack_of t totals u v
-  pub between : (u v : ℕ) → IsOuterOuter t tops marks u v → pos (2 * reach) ≤ℤ slack_of t totals u v
-  pub one : IsScannedAt t tops totals marks reach event

@@ -1,8 +1,8 @@
 -- The children of a blossom as a ring: from one child on, either way round, and paired two by two.
-use Rattle.std.specs.Prelude.{◌≡◌, ◌≢◌, ℕ, ◌+◌, ◌*◌, ◌-◌, ◌<◌, List, ◌++◌, length, Option, Some, drop, take, if◌then◌else◌, ◌==◌}
+use Rattle.std.specs.Prelude.{◌≡◌, ◌≢◌, ℕ, ◌+◌, ◌*◌, ◌<◌, List, length, Option, Some, ◌%◌, ◌⊎◌, ◌-◌, if◌then◌else◌, ◌++◌, drop, take, ◌==◌}
 use Rattle.sg_arena.specs.Family.{link_at}
 use Rattle.sg_arena.specs.declared.Link.{Link}
-use Rattle.sg_match.specs.Pairs.{pair_of}
+use Rattle.sg_match.specs.Pairs.{pair_of, flipped, edge_of}
 use Rattle.sg_match.specs.declared.Edge.{Edge}
 
 -- the list from place i on, and then what stood before
@@ -16,9 +16,17 @@ pub record IsBackwards (ring turned : List Link) : Type 0 where
   pub from : (i : ℕ) → i < length ring → (link_at turned i).from ≡ (link_at ring (length ring - 1 - i)).to
   pub to : (i : ℕ) → i < length ring → (link_at turned i).to ≡ (link_at ring (length ring - 1 - i)).from
 
+-- an odd number
+abbrev pub IsOdd : ℕ → Type 0
+IsOdd n = n % 2 ≡ 1
+
+-- a ring and the place of its door, as they were or the other way round
+abbrev pub IsFaced : List Link → ℕ → List Link → ℕ → Type 0
+IsFaced ring door faced place = ((faced ≡ ring) × (place ≡ door)) ⊎ (IsBackwards ring faced × (0 < door) × (place ≡ length ring - door))
+
 -- the first node of a ring has this pair, and the others are paired along their links, two by two
 pub record IsRung (old new : List (Option Edge)) (ring : List Link) (bond : Edge) : Type 0 where
   pub first : pair_of new (link_at ring 0).node ≡ Some bond
-  pub odd : (j : ℕ) → 2 * j + 2 < length ring → pair_of new (link_at ring (2 * j + 1)).node ≡ Some (record { from = (link_at ring (2 * j + 1)).from; to = (link_at ring (2 * j + 1)).to })
-  pub even : (j : ℕ) → 2 * j + 2 < length ring → pair_of new (link_at ring (2 * j + 2)).node ≡ Some (record { from = (link_at ring (2 * j + 1)).to; to = (link_at ring (2 * j + 1)).from })
+  pub odd : (j : ℕ) → 2 * j + 2 < length ring → pair_of new (link_at ring (2 * j + 1)).node ≡ Some (edge_of (link_at ring (2 * j + 1)))
+  pub even : (j : ℕ) → 2 * j + 2 < length ring → pair_of new (link_at ring (2 * j + 2)).node ≡ Some (flipped (edge_of (link_at ring (2 * j + 1))))
   pub others : (n : ℕ) → ((i : ℕ) → i < length ring → (link_at ring i).node ≢ n) → pair_of new n ≡ pair_of old n

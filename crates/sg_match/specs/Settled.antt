@@ -1,18 +1,10 @@
 -- Pairs of all sets, from the tops down to the leaves.
-use Rattle.std.specs.Prelude.{◌≡◌, ◌≢◌, ℕ, ◌<◌, List, length, Option, Some, ◌⊎◌, slice_index}
-use Rattle.sg_arena.specs.Family.{Family, Holds, IsAlive, IsBlossom, IsTop, cycle_of, link_at}
+use Rattle.std.specs.Prelude.{◌≡◌, ◌≢◌, ℕ, ◌<◌, List, length, slice_index, Option, Some, ◌⊎◌}
+use Rattle.sg_arena.specs.Family.{Family, Holds, IsBlossom, IsTop, cycle_of, link_at, IsAlive}
 use Rattle.sg_arena.specs.declared.Link.{Link}
-use Rattle.sg_match.specs.Pairs.{flipped, pair_of}
-use Rattle.sg_match.specs.Path.{Differ}
+use Rattle.sg_match.specs.Names.{Differ, Stands}
+use Rattle.sg_match.specs.Pairs.{pair_of, flipped, edge_of}
 use Rattle.sg_match.specs.declared.Edge.{Edge}
-
--- the edge that a link is
-abbrev pub edge_of : Link → Edge
-edge_of l = record { from = l.from; to = l.to }
-
--- the name stands in the list
-abbrev pub Stands : List ℕ → ℕ → Type 0
-Stands names n = (k : ℕ) × (k < length names) × (slice_index names k ≡ n)
 
 -- the list has each top once, and nothing else
 pub record ListsTops (f : Family) (names : List ℕ) : Type 0 where
@@ -39,8 +31,7 @@ pub record IsJoined (f : Family) (pairs : List (Option Edge)) (cycle : List Link
   pub low_along : along < length cycle
   pub link : (pair ≡ edge_of (link_at cycle along)) ⊎ (pair ≡ flipped (edge_of (link_at cycle along)))
 
--- each child of a blossom has a pair of its own: the blossom's, as at least one has, or one with a
--- sibling
+-- each child of a blossom has the blossom's pair, as at least one has, or one with a sibling
 pub record IsPairedInside (f : Family) (pairs : List (Option Edge)) (blossom : ℕ) : Type 0 where
   pub own : (i : ℕ) → i < length (cycle_of f blossom) → HasOwn f pairs (link_at (cycle_of f blossom) i).node
   pub child : (i : ℕ) → i < length (cycle_of f blossom) → (pair_of pairs (link_at (cycle_of f blossom) i).node ≡ pair_of pairs blossom) ⊎ IsJoined f pairs (cycle_of f blossom) i

@@ -1,12 +1,11 @@
 -- What contracts see of an engine.
 use Rattle.std.specs.Prelude.{◌≡◌, ℕ, List, Option}
 use Rattle.sg_arena.specs.Family.{Family, leaf_count}
+use Rattle.sg_slack.specs.Table.{Table}
 use Rattle.sg_match.specs.declared.Edge.{Edge}
 use Rattle.sg_match.specs.declared.Limb.{Limb}
-use Rattle.sg_slack.specs.Table.{Table}
 
--- the sets with their duals, the costs, the pair under each top's name, the unpaired tops but for
--- the root, and the tree
+-- the family, the costs, the pairs, the unpaired tops but for the root, and the tree
 pub record State : Type 0 where
   pub family : Family
   pub table : Table

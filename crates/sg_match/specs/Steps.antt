@@ -1,13 +1,12 @@
 -- How many steps a state has left at most.
-use Rattle.std.specs.Prelude.{ℕ, ◌+◌, ◌*◌, ◌-◌, Bool, true, false, not, List, [], ◌∷◌, length, Option, Some, None, count_by}
 use Rattle.std.specs.List.{range_with_len}
-use Rattle.sg_arena.specs.Family.{Family, Node, leaf_count}
+use Rattle.std.specs.Prelude.{ℕ, ◌+◌, ◌*◌, List, length, Option, None, [], Some, ◌-◌, ◌∷◌, Bool, true, false, not, count_by}
+use Rattle.sg_arena.specs.Family.{Family, leaf_count, Node}
 use Rattle.sg_match.specs.State.{State}
-use Rattle.sg_match.specs.Tree.{any_top, outers}
+use Rattle.sg_match.specs.Tree.{outers, any_top}
 use Rattle.sg_match.specs.declared.Limb.{Limb}
-use Rattle.sg_match.specs.declared.Stage.{Stage}
-use Rattle.sg_match.specs.declared.Stage.TheVariants.{InnerZero, Matched}
 
+-- whether a slot of the family holds a blossom
 abbrev pub has_children : Option Node → Bool
 has_children None = false
 has_children (Some n) = has_some n.cycle
@@ -24,16 +23,11 @@ blossoms_of f = count_by has_children f.nodes
 abbrev pub rest_of : Family → ℕ → List Limb → ℕ
 rest_of f root limbs = count_by (λ leaf. not (any_top f (outers root limbs) leaf)) (range_with_len 0 (leaf_count f))
 
--- 2 k for each unpaired top, or while a tree stands four for each leaf that isn't outer; and two for
--- each blossom
+-- 2 k for each unpaired top, for k leaves; a tree counts 4 for each leaf not outer in place of two
 abbrev pub tree_left : Family → List ℕ → Option ℕ → List Limb → ℕ
 tree_left f lonely None limbs = 2 * leaf_count f * length lonely
 tree_left f lonely (Some root) limbs = 2 * leaf_count f * (length lonely - 1) + 4 * rest_of f root limbs + 1
 
+-- the steps of the tree and 2 for each blossom
 abbrev pub steps_left : State → ℕ
 steps_left s = tree_left s.family s.lonely s.root s.limbs + 2 * blossoms_of s.family
-
--- how many steps an answer leaves open: one, where a blossom is to be expanded
-abbrev pub owed : Stage → ℕ
-owed Matched = 0
-owed (InnerZero node) = 1

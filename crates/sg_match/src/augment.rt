@@ -2,7 +2,7 @@ ghost use Rattle.std.specs.Prelude.{◌≡◌, ◌≢◌, ℕ, ◌<◌, ◌≤�
 ghost use Rattle.sg_arena.specs.Family.{IsFamily, IsTop, leaf_count};
 ghost use Rattle.sg_match.specs.Tree.{limb_at};
 ghost use Rattle.sg_match.specs.Augmented.{HasTops, CanFlip, Flipped};
-ghost use Rattle.sg_match.specs.Lonely.{IsTaken};
+ghost use Rattle.sg_match.specs.Names.{IsTaken};
 
 use super::pairs::{flipped, part, wed};
 use super::{Edge, Limb};

@@ -2,7 +2,8 @@ ghost use Rattle.std.specs.Prelude.{◌≡◌, ℕ, ◌+◌, ◌*◌, ◌<◌, �
 ghost use Rattle.sg_arena.specs.Family.{IsFamily, IsTop, Holds};
 ghost use Rattle.sg_arena.specs.Slack.{duals_between};
 ghost use Rattle.sg_match.specs.Links.{down_link, up_link, step_link, bond_link};
-ghost use Rattle.sg_match.specs.Path.{IsClimb, AreTight, HasTight};
+ghost use Rattle.sg_match.specs.Climb.{IsClimb, HasTight};
+ghost use Rattle.sg_match.specs.Path.{AreTight};
 ghost use Rattle.sg_match.specs.Tree.{IsShape, outers};
 
 use super::Limb;

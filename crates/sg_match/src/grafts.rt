@@ -1,7 +1,9 @@
 ghost use Rattle.std.specs.Prelude.{◌≡◌, ℕ, ◌+◌, ◌-◌, ◌<◌, ◌≤◌, ◌⊎◌, List, Option, length, vec_capacity, Contains};
 ghost use Rattle.std.specs.List.{insert};
 ghost use Rattle.sg_arena.specs.Family.{Family};
-ghost use Rattle.sg_match.specs.Grafts.{CanRegrow, IsFaced, IsGraft, IsOdd, OuterStays, hung_limb, new_limb};
+ghost use Rattle.sg_match.specs.Regrown.{CanRegrow};
+ghost use Rattle.sg_match.specs.Rings.{IsFaced, IsOdd};
+ghost use Rattle.sg_match.specs.Grafts.{IsGraft, OuterStays, hung_limb, new_limb};
 ghost use Rattle.sg_match.specs.Tree.{IsTree, inners, limb_at};
 ghost use Rattle.sg_match.specs.declared.Edge.{Edge};
 

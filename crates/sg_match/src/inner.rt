@@ -1,6 +1,6 @@
 ghost use Rattle.std.specs.Prelude.{◌≡◌, ℕ, ◌<◌, ◌≤ℤ◌, ◌⊎◌, length, pos, IfSome, IfNone, Some, None};
 ghost use Rattle.sg_arena.specs.Family.{IsAlive, IsBlossom, dual_of};
-ghost use Rattle.sg_match.specs.Amount.{IsFlat, IsLeastFlat};
+ghost use Rattle.sg_match.specs.Flat.{IsFlat, IsLeastFlat};
 ghost use Rattle.sg_match.specs.Tree.{limb_at};
 
 use super::Limb;

@@ -3,7 +3,8 @@ ghost use Rattle.sg_arena.specs.Family.{Holds, IsBlossom, IsFamily, IsTop, cycle
 ghost use Rattle.sg_match.specs.Feasible.{IsFeasible, IsTight};
 ghost use Rattle.sg_match.specs.Matching.{IsMatching};
 ghost use Rattle.sg_match.specs.Pairs.{IsPaired, AllPaired, pair_of};
-ghost use Rattle.sg_match.specs.Path.{Differ, nodes_of};
+ghost use Rattle.sg_match.specs.Names.{Differ};
+ghost use Rattle.sg_match.specs.Path.{nodes_of};
 ghost use Rattle.sg_match.specs.Rings.{rotated};
 ghost use Rattle.sg_match.specs.Settled.{HasOwn, IsPairedInside, ListsTops};
 ghost use Rattle.sg_match.specs.declared.Edge.{Edge as the_edge};

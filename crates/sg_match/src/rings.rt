@@ -1,6 +1,7 @@
 ghost use Rattle.std.specs.Prelude.{◌≡◌, ℕ, ◌<◌, ◌≤◌, length, vec_capacity, Contains};
 ghost use Rattle.sg_arena.specs.Family.{IsFamily, IsChild, IsChildAt, cycle_of, link_at};
-ghost use Rattle.sg_match.specs.Path.{Differ, nodes_of};
+ghost use Rattle.sg_match.specs.Names.{Differ};
+ghost use Rattle.sg_match.specs.Path.{nodes_of};
 ghost use Rattle.sg_match.specs.Rings.{IsBackwards, IsRung, rotated};
 
 use super::Edge;

@@ -2,7 +2,8 @@ ghost use Rattle.std.specs.Prelude.{◌≡◌, ◌+◌, ◌≤◌, ◌≤ℤ◌,
 ghost use Rattle.sg_arena.specs.Changes.{CanRaise, nat_of, raised};
 ghost use Rattle.sg_arena.specs.Family.{leaf_count};
 ghost use Rattle.sg_match.specs.Metric.{IsMetric, cost};
-ghost use Rattle.sg_match.specs.Reaches.{CanReach, CanScan, IsNearest, IsScanned};
+ghost use Rattle.sg_match.specs.Reaches.{CanReach, IsNearest};
+ghost use Rattle.sg_match.specs.Scans.{CanScan, IsScanned};
 ghost use Rattle.sg_match.specs.Tree.{inners, outers};
 ghost use Rattle.sg_slack.specs.Slack.{SumsFit};
 

@@ -35,13 +35,13 @@ impl Engine {
     ghost use Rattle.std.specs.Prelude.{◌≡◌, ◌↔◌, ℕ, ◌+◌, ◌*◌, ◌≤◌, List, IfOk, IfSome, IfNone, Some, None};
     ghost use Rattle.sg_arena.specs.Changes.{OnlyLeaves};
     ghost use Rattle.sg_arena.specs.Family.{IsFamily, leaf_count};
-    ghost use Rattle.sg_match.specs.Amount.{IsLeastFlat};
+    ghost use Rattle.sg_match.specs.Flat.{IsLeastFlat};
     ghost use Rattle.sg_match.specs.Matching.{IsMatching, IsPairing, NoSlackIsNegative, pairing_cost, sum_of_duals};
     ghost use Rattle.sg_match.specs.Metric.{IsMetric, cost};
     ghost use Rattle.sg_match.specs.Pairs.{AllPaired};
     ghost use Rattle.sg_match.specs.Engine.{IsEngine};
-    ghost use Rattle.sg_match.specs.Events.{IsStage};
-    ghost use Rattle.sg_match.specs.Steps.{steps_left, owed};
+    ghost use Rattle.sg_match.specs.Stages.{IsStage, owed};
+    ghost use Rattle.sg_match.specs.Steps.{steps_left};
 
     /// An engine over these costs, which it keeps, with all the memory that it will need. Each leaf
     /// is an unpaired top with dual 0.

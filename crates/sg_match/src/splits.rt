@@ -6,7 +6,7 @@ use std::sync::ledger::Ledger;
 
 impl Engine {
     ghost use Rattle.std.specs.Prelude.{◌≡◌, ◌+◌, ◌≤◌};
-    ghost use Rattle.sg_match.specs.Amount.{IsFlat};
+    ghost use Rattle.sg_match.specs.Flat.{IsFlat};
     ghost use Rattle.sg_match.specs.Engine.{IsEngine};
     ghost use Rattle.sg_match.specs.Steps.{steps_left};
 

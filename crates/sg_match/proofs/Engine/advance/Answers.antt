@@ -1,8 +1,9 @@
+-- `advance`: a flat node is told at once, and else the steps up to one.
 use Rattle.std.proofs.Common.{List, ap, refl, subst, sym}
 use Rattle.sg_match.proofs.Engine.advance.Goals as goal
 use Rattle.sg_match.proofs.Engine.advance.Given.{Over}
 use Rattle.sg_match.proofs.StageLemmas.{least-one, matched}
-use Rattle.sg_match.specs.Amount.{IsLeastFlat}
+use Rattle.sg_match.specs.Flat.{IsLeastFlat}
 use Rattle.sg_match.specs.Engine.{IsEngine}
 use Rattle.sg_match.specs.State.{State}
 use Rattle.sg_match.specs.declared.Limb.{Limb}

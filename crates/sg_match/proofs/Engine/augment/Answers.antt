@@ -1,3 +1,4 @@
+-- `augment`: the pairs are flipped, and no tree stands.
 use Rattle.std.proofs.Common.{rules, ◌<◌, List, None, length, sym, subst, ℕ, ◌∙◌}
 use Rattle.std.proofs.lemmas.List.{with_items_is}
 use Rattle.std.specs.Vec.{with_items}

@@ -1,6 +1,7 @@
+-- `grow`: a limb for a top and its mate.
 use Rattle.std.proofs.Common.{rules, List, sym, subst}
 use Rattle.sg_match.proofs.Engine.grow.Goals as goal
-use Rattle.sg_match.proofs.ReachStep.{IsAfter, bond_leaf, grown, limb_room, with_tree}
+use Rattle.sg_match.proofs.ReachStep.{IsAfter, bond_leaf, grown, limb_fits, with_tree}
 use Rattle.sg_match.specs.declared.Limb.{Limb}
 
 pub top-outer-requires : goal.top-outer-requires
@@ -8,7 +9,7 @@ top-outer-requires c = bond_leaf _ _ _ _ _ _ c.self.invariant.0 _ c.self.view_is
 
 pub push_reserved-requires : goal.push_reserved-requires
 push_reserved-requires c =
-    let low = limb_room _ _ _ _ _ _ c.self.invariant.0 _ c.self.view_is _ _ _ _ c.requires.reach in
+    let low = limb_fits _ _ _ _ _ _ c.self.invariant.0 _ c.self.view_is _ _ _ _ c.requires.reach in
     let room = c.self.invariant.1.limbs in
     search rules
 

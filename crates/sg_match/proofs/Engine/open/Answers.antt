@@ -1,3 +1,4 @@
+-- `open`: leaves alone, and room for all lists.
 use Rattle.std.proofs.Common.{◌≡◌, ℕ, length, get_or, None, sym, ap, ◌∙◌, arith, subst, replicate, Option, zero, suc, refl}
 use Rattle.sg_match.specs.declared.Edge.{Edge}
 use Rattle.std.proofs.lemmas.List.{length-replicate}

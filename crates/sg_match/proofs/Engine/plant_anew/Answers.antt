@@ -1,3 +1,4 @@
+-- `plant_anew`: an unpaired top is taken from the list as the root.
 use Rattle.std.proofs.Common.{◌≡◌, ◌≤◌, None, Option, Some, ℕ, ap, ◌∙◌, subst, rules}
 use Rattle.sg_match.proofs.Engine.plant_anew.Goals as goal
 use Rattle.sg_match.proofs.PlantStep.{planted}

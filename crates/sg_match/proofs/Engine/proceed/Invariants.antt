@@ -1,3 +1,4 @@
+-- `proceed`: steps done and steps left together do not rise.
 use Rattle.std.proofs.Common.{◌≡◌, ◌+◌, ◌≤◌}
 use Rattle.sg_match.specs.Steps.{steps_left}
 use Rattle.sg_match.proofs.Engine.proceed.Given as goal

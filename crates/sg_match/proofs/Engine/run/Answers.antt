@@ -1,8 +1,10 @@
-use Rattle.std.proofs.Common.{◌≡◌, ◌<◌, ℕ, List, Option, ap, ◌∙◌, subst, sym}
+-- `run`: with all tops paired, the settled pairs are a matching of the costs given.
+use Rattle.std.proofs.Common.{◌≡◌, ℕ, List, Option, ap, ◌∙◌, subst, sym}
 use Rattle.std.proofs.lemmas.List.{with_items_is}
 use Rattle.sg_arena.specs.Family.{leaf_count}
 use Rattle.sg_match.proofs.Engine.run.Given.{Over}
 use Rattle.sg_match.proofs.Engine.run.Goals as goal
+use Rattle.sg_match.proofs.EngineLemmas.{state_of, symmetric}
 use Rattle.sg_match.specs.Feasible.{IsFeasible, IsTight}
 use Rattle.sg_match.proofs.DualBound.{cost-is_duals, matching_least}
 use Rattle.sg_match.specs.Matching.{IsMatching, IsPairing}
@@ -29,9 +31,7 @@ pub returns-clause-matching : goal.returns-clause-matching
 returns-clause-matching g c =
     let engine = c.self.invariant.0 in
     let paired = subst (λ (xs : List (Option Edge)). IsPaired c.self.inside.arena (IsTight c.self.inside.arena (cost c.self.inside.costs)) xs) (sym c.deref_mut.ensures.value) engine.paired in
-    let symmetric : (u v : ℕ) → u < leaf_count c.self.inside.arena → v < leaf_count c.self.inside.arena → cost c.self.inside.costs u v ≡ cost c.self.inside.costs v u =
-    (λ u v low_u low_v. engine.costs.symmetric u v (subst (λ k. u < k) engine.leaves low_u) (subst (λ k. v < k) engine.leaves low_v)) in
-    let settled = c.settle.ensures (cost c.self.inside.costs) symmetric engine.feasible paired in
+    let settled = c.settle.ensures (cost c.self.inside.costs) (symmetric (state_of c.self.inside) engine) engine.feasible paired in
     let written = with_items_is c.self.inside.mates c.settle.new.mates (c.settle.auto.mates ∙ c.deref_mut-2.ensures.len) in
     subst (λ (t : Table). IsMatching c.self.inside.arena (cost t) c.from_vec.result) (same_table g c)
     (subst (λ (xs : List ℕ). IsMatching c.self.inside.arena (cost c.self.inside.costs) xs) (sym (c.from_vec.ensures ∙ written)) settled)

@@ -1,3 +1,4 @@
+-- `run`: steps done and steps left together do not rise.
 use Rattle.std.proofs.Common.{◌≡◌, ◌+◌, ◌≤◌}
 use Rattle.sg_match.proofs.Engine.run.Given as goal
 use Rattle.sg_match.specs.Steps.{steps_left}

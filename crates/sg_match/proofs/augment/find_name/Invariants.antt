@@ -1,3 +1,4 @@
+-- `find_name`: no entry so far is the name.
 use Rattle.std.proofs.Common.{◌≢◌, ℕ, ◌<◌, get_or}
 use Rattle.sg_match.proofs.augment.find_name.Given as goal
 

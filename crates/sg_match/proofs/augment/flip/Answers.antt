@@ -1,3 +1,4 @@
+-- `flip`: each limb on the way to the root is turned over.
 use Rattle.std.proofs.Common.{◌≡◌, ℕ, ◌+◌, ◌-◌, ◌<◌, List, Option, length, Some, None, set, refl, sym, ap, ◌∙◌, subst, arith}
 use Rattle.std.proofs.Math.ListN.{length-set}
 use Rattle.sg_match.proofs.augment.flip.Goals as goal

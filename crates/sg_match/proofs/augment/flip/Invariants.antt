@@ -1,3 +1,4 @@
+-- `flip`: behind limb i the way is turned over.
 use Rattle.std.proofs.Common.{ℕ, length, ◌≡◌, ◌≤◌}
 use Rattle.sg_match.proofs.augment.flip.Given as goal
 use Rattle.sg_arena.specs.Family.{IsTop}

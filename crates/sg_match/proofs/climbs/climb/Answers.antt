@@ -1,12 +1,15 @@
+-- `climb`: from the last limb down, the path grows where a limb ends at its head or its tail.
 use Rattle.std.proofs.Common.{◌≡◌, ◌+◌, ◌-◌, ◌<◌, List, [], ◌∷◌, ◌++◌, length, sym, ap, ◌∙◌, subst, arith, length-append}
+use Rattle.sg_match.proofs.TightLemmas.{tight-back}
 use Rattle.sg_match.proofs.climbs.climb.Goals as goal
+use Rattle.sg_match.proofs.climbs.climb.Goals.{In-loop-head}
 use Rattle.sg_arena.proofs.FamilyLemmas.{leaf_bound}
 use Rattle.sg_arena.specs.Family.{Holds}
 use Rattle.sg_arena.specs.declared.Link.{Link}
-use Rattle.sg_match.proofs.ClimbLemmas.{AreTight-head, AreTight-one, AreTight-tail, IsClimb-head, IsClimb-init, IsClimb-skip, IsClimb-tail, climb-positive}
-use Rattle.sg_match.proofs.FlipLemmas.{tight-back}
+use Rattle.sg_match.proofs.ClimbLemmas.{AreTight-head, AreTight-one, AreTight-tail, IsClimb-head, IsClimb-init, IsClimb-skip, IsClimb-tail, climb-back}
 use Rattle.sg_match.specs.Links.{down_link, up_link}
-use Rattle.sg_match.specs.Path.{AreTight, IsClimb}
+use Rattle.sg_match.specs.Path.{AreTight}
+use Rattle.sg_match.specs.Climb.{IsClimb}
 use Rattle.sg_match.specs.Tree.{limb_at}
 
 pub top-head-requires : goal.top-head-requires
@@ -30,33 +33,34 @@ loop-head-init c =
           (AreTight-one c.args.arena.now cost (record { node = c.top-head.result; from = c.args.v; to = c.args.u }) (tight-back c.args.arena.now cost c.args.u c.args.v back is));
     }
 
+-- the climb is behind one limb more
+next_limb : (c : In-loop-head) → (c.loop-head.i ≡ (c.loop-head.i - 1) + 1) × (c.loop-head.i - 1 < length c.args.limbs.now) × IsClimb c.args.arena.now c.args.root c.args.limbs.now c.loop-head.cycle.items (c.loop-head.i - 1 + 1) c.loop-head.head c.loop-head.tail
+next_limb c = climb-back c.args.arena.now c.args.root c.args.limbs.now c.requires.family c.requires.shape c.loop-head.cycle.items c.loop-head.i c.loop-head.head c.loop-head.tail c.loop-head-test.true c.loop-head.invariant.within c.loop-head.invariant.climb
+
 pub top-tail-requires-then-limb-tail : goal.top-tail-requires-then-limb-tail
 top-tail-requires-then-limb-tail c =
     let f = c.args.arena.now in
     let limbs = c.args.limbs.now in
     let i = c.loop-head.i - 1 in
-    let back : c.loop-head.i ≡ i + 1 = climb-positive f c.args.root limbs c.requires.family c.requires.shape c.loop-head.cycle.items c.loop-head.i c.loop-head.head c.loop-head.tail c.loop-head-test.true c.loop-head.invariant.climb in
-    let within : i < length limbs = omega (arith, c.loop-head.invariant.within, back) in
-    leaf_bound f c.requires.family _ (limb_at limbs i).edge.to (c.requires.shape.edge_to i within).2
+    let at = next_limb (goal.at.top-tail-requires-then-limb-tail c).In-loop-head in
+    leaf_bound f c.requires.family _ (limb_at limbs i).edge.to (c.requires.shape.edge_to i at.1).2
 
 pub loop-head-preserved-then-limb-tail : goal.loop-head-preserved-then-limb-tail
 loop-head-preserved-then-limb-tail c =
     let f = c.args.arena.now in
     let limbs = c.args.limbs.now in
     let i = c.loop-head.i - 1 in
-    let back : c.loop-head.i ≡ i + 1 = climb-positive f c.args.root limbs c.requires.family c.requires.shape c.loop-head.cycle.items c.loop-head.i c.loop-head.head c.loop-head.tail c.loop-head-test.true c.loop-head.invariant.climb in
-    let within : i < length limbs = omega (arith, c.loop-head.invariant.within, back) in
-    let was = subst (λ n. IsClimb f c.args.root limbs c.loop-head.cycle.items n c.loop-head.head c.loop-head.tail) back c.loop-head.invariant.climb in
+    let at = next_limb (goal.at.loop-head-preserved-then-limb-tail c).In-loop-head in
     let next = c.top-tail-then-limb-tail in
     let made = c.climb_tail.ensures.items in
     record {
-      within = omega (arith, within);
-      count = omega (arith, c.loop-head.invariant.count, back, ap (λ xs. length xs) made, length-append c.loop-head.cycle.items (down_link (limb_at limbs i) ∷ up_link (limb_at limbs i) ∷ []));
+      within = omega (arith, at.1);
+      count = omega (arith, c.loop-head.invariant.count, at.0, ap (λ xs. length xs) made, length-append c.loop-head.cycle.items (down_link (limb_at limbs i) ∷ up_link (limb_at limbs i) ∷ []));
       room = c.climb_tail.ensures.capacity ∙ c.loop-head.invariant.room;
       climb = subst (λ xs. IsClimb f c.args.root limbs xs i c.loop-head.head next.result) (sym made)
-          (IsClimb-tail f c.args.root limbs c.requires.family c.requires.shape c.loop-head.cycle.items i c.loop-head.head c.loop-head.tail within c.loop-head-test.true was c.if-limb-tail.true next.result next.ensures.top next.ensures.holds);
+          (IsClimb-tail f c.args.root limbs c.requires.family c.requires.shape c.loop-head.cycle.items i c.loop-head.head c.loop-head.tail at.1 c.loop-head-test.true at.2 c.if-limb-tail.true next.result next.ensures.top next.ensures.holds);
       tight = λ cost has sides is. subst (λ xs. AreTight f cost xs) (sym made)
-          (AreTight-tail f cost c.args.root limbs c.requires.family c.requires.shape has i within c.loop-head.cycle.items (c.loop-head.invariant.tight cost has sides is));
+          (AreTight-tail f cost c.args.root limbs c.requires.family c.requires.shape has i at.1 c.loop-head.cycle.items (c.loop-head.invariant.tight cost has sides is));
     }
 
 pub top-head-requires-then-limb-head : goal.top-head-requires-then-limb-head
@@ -64,28 +68,25 @@ top-head-requires-then-limb-head c =
     let f = c.args.arena.now in
     let limbs = c.args.limbs.now in
     let i = c.loop-head.i - 1 in
-    let back : c.loop-head.i ≡ i + 1 = climb-positive f c.args.root limbs c.requires.family c.requires.shape c.loop-head.cycle.items c.loop-head.i c.loop-head.head c.loop-head.tail c.loop-head-test.true c.loop-head.invariant.climb in
-    let within : i < length limbs = omega (arith, c.loop-head.invariant.within, back) in
-    leaf_bound f c.requires.family _ (limb_at limbs i).edge.to (c.requires.shape.edge_to i within).2
+    let at = next_limb (goal.at.top-head-requires-then-limb-head c).In-loop-head in
+    leaf_bound f c.requires.family _ (limb_at limbs i).edge.to (c.requires.shape.edge_to i at.1).2
 
 pub loop-head-preserved-then-limb-head : goal.loop-head-preserved-then-limb-head
 loop-head-preserved-then-limb-head c =
     let f = c.args.arena.now in
     let limbs = c.args.limbs.now in
     let i = c.loop-head.i - 1 in
-    let back : c.loop-head.i ≡ i + 1 = climb-positive f c.args.root limbs c.requires.family c.requires.shape c.loop-head.cycle.items c.loop-head.i c.loop-head.head c.loop-head.tail c.loop-head-test.true c.loop-head.invariant.climb in
-    let within : i < length limbs = omega (arith, c.loop-head.invariant.within, back) in
-    let was = subst (λ n. IsClimb f c.args.root limbs c.loop-head.cycle.items n c.loop-head.head c.loop-head.tail) back c.loop-head.invariant.climb in
+    let at = next_limb (goal.at.loop-head-preserved-then-limb-head c).In-loop-head in
     let next = c.top-head-then-limb-head in
     let made = c.climb_head.ensures.items in
     record {
-      within = omega (arith, within);
-      count = omega (arith, c.loop-head.invariant.count, back, ap (λ xs. length xs) made);
+      within = omega (arith, at.1);
+      count = omega (arith, c.loop-head.invariant.count, at.0, ap (λ xs. length xs) made);
       room = c.climb_head.ensures.capacity ∙ c.loop-head.invariant.room;
       climb = subst (λ xs. IsClimb f c.args.root limbs xs i next.result c.loop-head.tail) (sym made)
-          (IsClimb-head f c.args.root limbs c.requires.family c.requires.shape c.loop-head.cycle.items i c.loop-head.head c.loop-head.tail within c.loop-head-test.true was c.if-limb-head.true next.result next.ensures.top next.ensures.holds);
+          (IsClimb-head f c.args.root limbs c.requires.family c.requires.shape c.loop-head.cycle.items i c.loop-head.head c.loop-head.tail at.1 c.loop-head-test.true at.2 c.if-limb-head.true next.result next.ensures.top next.ensures.holds);
       tight = λ cost has sides is. subst (λ xs. AreTight f cost xs) (sym made)
-          (AreTight-head f cost c.args.root limbs c.requires.family c.requires.shape has i within c.loop-head.cycle.items next.result (c.loop-head.invariant.tight cost has sides is));
+          (AreTight-head f cost c.args.root limbs c.requires.family c.requires.shape has i at.1 c.loop-head.cycle.items next.result (c.loop-head.invariant.tight cost has sides is));
     }
 
 pub loop-head-preserved : goal.loop-head-preserved
@@ -93,13 +94,11 @@ loop-head-preserved c =
     let f = c.args.arena.now in
     let limbs = c.args.limbs.now in
     let i = c.loop-head.i - 1 in
-    let back : c.loop-head.i ≡ i + 1 = climb-positive f c.args.root limbs c.requires.family c.requires.shape c.loop-head.cycle.items c.loop-head.i c.loop-head.head c.loop-head.tail c.loop-head-test.true c.loop-head.invariant.climb in
-    let within : i < length limbs = omega (arith, c.loop-head.invariant.within, back) in
-    let was = subst (λ n. IsClimb f c.args.root limbs c.loop-head.cycle.items n c.loop-head.head c.loop-head.tail) back c.loop-head.invariant.climb in
+    let at = next_limb (goal.at.loop-head-preserved c).In-loop-head in
     record {
-      within = omega (arith, within);
-      count = omega (arith, c.loop-head.invariant.count, back);
+      within = omega (arith, at.1);
+      count = omega (arith, c.loop-head.invariant.count, at.0);
       room = c.loop-head.invariant.room;
-      climb = IsClimb-skip f c.args.root limbs c.requires.family c.requires.shape c.loop-head.cycle.items i c.loop-head.head c.loop-head.tail within c.loop-head-test.true was c.if-limb-tail.false c.if-limb-head.false;
+      climb = IsClimb-skip f c.args.root limbs c.requires.family c.requires.shape c.loop-head.cycle.items i c.loop-head.head c.loop-head.tail at.1 c.loop-head-test.true at.2 c.if-limb-tail.false c.if-limb-head.false;
       tight = c.loop-head.invariant.tight;
     }

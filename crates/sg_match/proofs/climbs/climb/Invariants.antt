@@ -1,7 +1,9 @@
+-- `climb`: the path so far is a climb over the limbs from i on.
 use Rattle.std.proofs.Common.{ℕ, length, ◌≡◌, ◌≤◌, ◌+◌, ◌*◌, vec_capacity}
 use Rattle.sg_match.proofs.climbs.climb.Given as goal
 use Rattle.sg_arena.specs.Slack.{duals_between}
-use Rattle.sg_match.specs.Path.{AreTight, HasTight, IsClimb}
+use Rattle.sg_match.specs.Path.{AreTight}
+use Rattle.sg_match.specs.Climb.{HasTight, IsClimb}
 
 abbrev pub invariant-loop-head : goal.invariant-loop-head
 invariant-loop-head l = record {

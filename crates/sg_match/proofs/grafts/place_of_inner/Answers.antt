@@ -1,3 +1,4 @@
+-- `place_of_inner`: the node stands in some limb.
 use Rattle.std.proofs.Common.{◌<◌, length, sym, ◌∙◌, arith}
 use Rattle.std.proofs.lemmas.List.{get_or-map}
 use Rattle.sg_match.proofs.TreeLemmas.{length-inners}

@@ -1,3 +1,4 @@
+-- `place_of_inner`: no limb so far has the node.
 use Rattle.std.proofs.Common.{◌≢◌, ℕ, ◌<◌}
 use Rattle.sg_match.specs.Tree.{limb_at}
 use Rattle.sg_match.proofs.grafts.place_of_inner.Given as goal

@@ -1,3 +1,4 @@
+-- `regrow`: two nodes of the ring at a time, until the door is the first node.
 use Rattle.std.proofs.Common.{rules, ◌+◌, ◌≡◌, ◌≢◌, ◌⊎◌, length, set, sym, ap, ◌∙◌, subst, inl, inr, arith}
 use Rattle.std.proofs.Math.ListN.{length-set}
 use Rattle.std.proofs.lemmas.List.{get_or_default}
@@ -5,7 +6,8 @@ use Rattle.sg_arena.specs.Family.{link_at}
 use Rattle.sg_match.proofs.grafts.regrow.Goals as goal
 use Rattle.sg_match.proofs.grafts.regrow.Goals.{then-door-eq0, else-door-eq0}
 use Rattle.sg_match.proofs.RegrowLemmas.{IsRegrowing-done, IsRegrowing-graft, IsRegrowing-init, OuterStays-graft, OuterStays-init}
-use Rattle.sg_match.specs.Grafts.{OuterStays, with_inner}
+use Rattle.sg_match.specs.Grafts.{OuterStays}
+use Rattle.sg_match.specs.Regrown.{with_inner}
 use Rattle.sg_match.specs.Tree.{blank_limb, limb_at}
 use Rattle.sg_match.specs.declared.Limb.{Limb}
 

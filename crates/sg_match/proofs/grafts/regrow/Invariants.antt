@@ -1,8 +1,10 @@
+-- `regrow`: from place i of the ring on, the way to its end is wanting.
 use Rattle.std.proofs.Common.{◌≡◌, ℕ, ◌+◌, ◌-◌, ◌<◌, ◌≤◌, List, Option, length, vec_capacity}
 use Rattle.sg_arena.specs.Family.{Family}
 use Rattle.sg_match.proofs.RegrowLemmas.{IsRegrowing}
 use Rattle.sg_match.proofs.grafts.regrow.Given as goal
-use Rattle.sg_match.specs.Grafts.{CanRegrow, OuterStays}
+use Rattle.sg_match.specs.Regrown.{CanRegrow}
+use Rattle.sg_match.specs.Grafts.{OuterStays}
 use Rattle.sg_match.specs.declared.Edge.{Edge}
 
 abbrev pub invariant-loop-i : goal.invariant-loop-i

@@ -1,3 +1,4 @@
+-- `least_dual`: the least dual of the limbs seen.
 use Rattle.std.proofs.Common.{◌≡◌, ◌⊎◌, ◌+◌, ◌≤ℤ◌, pos, refl, inl, inr, sym, ◌∙◌, subst, arith, rules, to_z, of_z, w64}
 use Rattle.std.proofs.lemmas.Bool.{false≢true}
 use Rattle.std.proofs.lemmas.Int.{to_z-of_z}

@@ -1,3 +1,4 @@
+-- `least_dual`: the least dual of the limbs so far.
 use Rattle.sg_match.proofs.inner.least_dual.Given as goal
 use Rattle.sg_match.proofs.InnerLemmas.{IsLeastDual}
 

@@ -1,17 +1,13 @@
-use Rattle.std.proofs.Common.{◌≡◌, ℕ, ◌+◌, ◌≤◌, Option, Some, None, length, pos, refl, sym, ap, ◌∙◌, subst, arith, of_z, w64}
+-- `least_flat`: the least flat node of the limbs seen.
+use Rattle.std.proofs.Common.{◌≡◌, ◌+◌, length, pos, refl, sym, ap, ◌∙◌, subst, arith, of_z, w64}
 use Rattle.std.proofs.lemmas.Bool.{false≢true}
 use Rattle.std.proofs.lemmas.Int.{ints}
+use Rattle.std.proofs.lemmas.Option.{none-some, same_Some}
 use Rattle.sg_match.proofs.inner.least_flat.Goals as goal
 use Rattle.sg_match.proofs.inner.least_flat.Goals.{then-not-is_leaf+then-dual-eq0+in-Some, then-not-is_leaf+then-dual-eq0+in_default-2, then-not-is_leaf+then-dual-eq0+in_default, else-not-is_leaf, else-not-is_leaf-via-then-not-is_leaf+else-dual-eq0, else-not-is_leaf-via-else-not-is_leaf}
 use Rattle.sg_arena.specs.Family.{dual_of}
 use Rattle.sg_match.proofs.InnerLemmas.{IsBest, IsBest-init, IsBest-less, IsBest-none, IsBest-skip, IsBest-some, IsBest-take, no_cycle, some_cycle}
 use Rattle.sg_match.specs.Tree.{limb_at}
-
-none_some : (n m : ℕ) → ◌≡◌ {A = Option ℕ} None (Some n) → m ≤ n
-none_some n m e = cc
-
-some_same : (n m : ℕ) → ◌≡◌ {A = Option ℕ} (Some n) (Some m) → n ≡ m
-some_same n m e = cc
 
 pub loop-limb-init : goal.loop-limb-init
 loop-limb-init c = IsBest-init c.args.arena.now c.args.limbs.now
@@ -29,11 +25,11 @@ loop-limb-preserved c =
       | then-not-is_leaf+then-dual-eq0+in_default-2 w ↦
           let flat : dual_of f node ≡ 0 = omega (arith, ints) in
           subst (λ o. IsBest f limbs (i + 1) o) (sym w.least-is)
-          (IsBest-take f limbs i c.loop-limb.least (omega arith) (some_cycle f node (λ e. absurd (false≢true (w.if-not-is_leaf.ensures.1 e)))) flat (λ name is. let same = some_same w.in-Some.name name (sym w.in-Some.is ∙ is) in omega arith) c.loop-limb.invariant)
+          (IsBest-take f limbs i c.loop-limb.least (omega arith) (some_cycle f node (λ e. absurd (false≢true (w.if-not-is_leaf.ensures.1 e)))) flat (λ name is. let same = same_Some w.in-Some.name name (sym w.in-Some.is ∙ is) in omega arith) c.loop-limb.invariant)
       | then-not-is_leaf+then-dual-eq0+in_default w ↦
           let flat : dual_of f node ≡ 0 = omega (arith, ints) in
           subst (λ o. IsBest f limbs (i + 1) o) (sym w.least-is)
-          (IsBest-take f limbs i c.loop-limb.least (omega arith) (some_cycle f node (λ e. absurd (false≢true (w.if-not-is_leaf.ensures.1 e)))) flat (λ name is. none_some name node (sym w.in_default.is ∙ is)) c.loop-limb.invariant)
+          (IsBest-take f limbs i c.loop-limb.least (omega arith) (some_cycle f node (λ e. absurd (false≢true (w.if-not-is_leaf.ensures.1 e)))) flat (λ name is. absurd (none-some name (sym w.in_default.is ∙ is))) c.loop-limb.invariant)
       | else-not-is_leaf w ↦
           subst (λ o. IsBest f limbs (i + 1) o) (sym w.least-is)
           (elim w.else-not-is_leaf.branch [

@@ -1,3 +1,4 @@
+-- `least_flat`: the least flat node of the limbs so far.
 use Rattle.sg_match.proofs.inner.least_flat.Given as goal
 use Rattle.sg_match.proofs.InnerLemmas.{IsBest}
 

@@ -1,3 +1,4 @@
+-- `matching_is_least`: weak duality, and equality for a matching.
 use Rattle.sg_match.proofs.DualBound.{cost-is_duals, duals-le_cost, matching_least}
 use Rattle.sg_match.proofs.law.matching_is_least.Goals as goal
 

@@ -1,3 +1,4 @@
+-- `list_leaves`: the tables say of the leaves so far what they are to say.
 use Rattle.std.proofs.Common.{◌≡◌, ℕ, ◌<◌, get_or, pos}
 use Rattle.sg_match.proofs.leaves.list_leaves.Given as goal
 use Rattle.sg_arena.specs.Family.{Holds, IsTop, total_of}

@@ -1,3 +1,4 @@
+-- `list_tree`: the tops of the limbs so far.
 use Rattle.std.proofs.Common.{◌≡◌, take, vec_capacity}
 use Rattle.sg_match.proofs.leaves.list_tree.Given as goal
 use Rattle.sg_match.specs.Tree.{inners, outers}

@@ -1,3 +1,4 @@
+-- `mark_of`: a top that no limb names is outside the tree.
 use Rattle.std.proofs.Common.{◌≢◌, ℕ, zero, suc, ◌<◌, length, get_or, sym, ◌∙◌, arith}
 use Rattle.std.proofs.Common.{List}
 use Rattle.sg_match.proofs.leaves.mark_of.Goals as goal

@@ -1,3 +1,4 @@
+-- `mark_of`: no limb so far has the top.
 use Rattle.std.proofs.Common.{◌≢◌, ℕ, ◌<◌}
 use Rattle.sg_match.proofs.leaves.mark_of.Given as goal
 use Rattle.sg_match.specs.Tree.{limb_at}

@@ -1,3 +1,4 @@
+-- `list_nodes`: the nodes of the links so far are added.
 use Rattle.std.proofs.Common.{take, vec_capacity, ◌++◌, ◌≡◌}
 use Rattle.sg_match.proofs.mates.list_nodes.Given as goal
 use Rattle.sg_match.specs.Path.{nodes_of}

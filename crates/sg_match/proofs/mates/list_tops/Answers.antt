@@ -1,3 +1,4 @@
+-- `list_tops`: each name below the bound was tried.
 use Rattle.std.proofs.Common.{ap, arith, length, subst, sym, vec_capacity, ◌+◌, ◌∙◌, ◌≤◌}
 use Rattle.std.proofs.lemmas.Bool.{false≢true}
 use Rattle.sg_match.proofs.ListedLemmas.{ListsBelow, ListsBelow-init, ListsBelow-more, ListsBelow-skip, ListsTops-done, below_room}

@@ -1,3 +1,4 @@
+-- `list_tops`: the tops below this name are listed.
 use Rattle.std.proofs.Common.{vec_capacity, ◌≡◌}
 use Rattle.sg_match.proofs.ListedLemmas.{ListsBelow}
 use Rattle.sg_match.proofs.mates.list_tops.Given as goal

@@ -1,3 +1,4 @@
+-- `settle`: each set is listed before its children, and all end with pairs.
 use Rattle.std.proofs.Common.{ap, arith, get_or, length, refl, subst, sym, ◌+◌, ◌<◌, ◌∙◌, ◌≡◌, ◌≤◌}
 use Rattle.std.proofs.lemmas.Bool.{false≢true}
 use Rattle.std.proofs.lemmas.List.{get_or_default}
@@ -5,9 +6,10 @@ use Rattle.sg_arena.specs.Family.{IsAlive, cycle_of}
 use Rattle.sg_match.proofs.SettledLemmas.{is_matching}
 use Rattle.sg_match.proofs.SettlingLemmas.{IsSettled-done, IsSettling, IsSettling-blossom, IsSettling-init, IsSettling-leaf, all_listed, entries_room, entry_alive, more_room, own_top, some_links}
 use Rattle.sg_match.specs.Pairs.{pair_of}
-use Rattle.sg_match.specs.Path.{Differ}
+use Rattle.sg_match.specs.Names.{Differ}
 use Rattle.sg_match.specs.Settled.{HasOwn}
 use Rattle.sg_match.proofs.mates.settle.Goals as goal
+use Rattle.sg_match.proofs.mates.settle.Goals.{After-index-node}
 
 pub loop-next-init : goal.loop-next-init
 loop-next-init c = record {
@@ -17,30 +19,33 @@ loop-next-init c = record {
       (own_top c.args.arena.now (λ u v. Unit {0}) c.args.pairs.now c.requires.paired c.requires.all);
 }
 
+-- the entry that is read
+next_node : (c : After-index-node) → (c.loop-next.next < length c.loop-next.nodes.items) × (c.index-node.result.now ≡ get_or c.loop-next.nodes.items c.loop-next.next 0)
+next_node c =
+    let low : c.loop-next.next < length c.loop-next.nodes.items = omega (arith, c.loop-next-test.true, c.len.ensures) in
+    (low, c.index-node.ensures ∙ get_or_default c.loop-next.nodes.items c.loop-next.next c.index-node.result.now 0 low)
+
 pub is_leaf-requires : goal.is_leaf-requires
 is_leaf-requires c =
     let was = c.loop-next.invariant.settling in
     let nodes = c.loop-next.nodes.items in
-    let low : c.loop-next.next < length nodes = omega (arith, c.loop-next-test.true, c.len.ensures) in
-    let at : c.index-node.result.now ≡ get_or nodes c.loop-next.next 0 = c.index-node.ensures ∙ get_or_default nodes c.loop-next.next c.index-node.result.now 0 low in
-    subst (λ n. IsAlive c.args.arena.now n) (sym at) (entry_alive c.args.arena.now c.requires.family c.args.pairs.now c.loop-next.pairs nodes c.loop-next.next was c.loop-next.next low)
+    let here = next_node (goal.at.is_leaf-requires c).After-index-node in
+    subst (λ n. IsAlive c.args.arena.now n) (sym here.1) (entry_alive c.args.arena.now c.requires.family c.args.pairs.now c.loop-next.pairs nodes c.loop-next.next was c.loop-next.next here.0)
 
 pub pair_children-requires-clause-own : goal.pair_children-requires-clause-own
 pair_children-requires-clause-own c =
     let nodes = c.loop-next.nodes.items in
-    let low : c.loop-next.next < length nodes = omega (arith, c.loop-next-test.true, c.len.ensures) in
-    let at : c.index-node.result.now ≡ get_or nodes c.loop-next.next 0 = c.index-node.ensures ∙ get_or_default nodes c.loop-next.next c.index-node.result.now 0 low in
-    subst (λ n. HasOwn c.args.arena.now c.loop-next.pairs n) (sym at) (c.loop-next.invariant.settling.own c.loop-next.next low)
+    let here = next_node (goal.at.pair_children-requires-clause-own c).After-index-node in
+    subst (λ n. HasOwn c.args.arena.now c.loop-next.pairs n) (sym here.1) (c.loop-next.invariant.settling.own c.loop-next.next here.0)
 
 pub pair_children-requires-clause-nodes : goal.pair_children-requires-clause-nodes
 pair_children-requires-clause-nodes c =
     let f = c.args.arena.now in
     let b = c.index-node.result.now in
     let nodes = c.loop-next.nodes.items in
-    let low : c.loop-next.next < length nodes = omega (arith, c.loop-next-test.true, c.len.ensures) in
-    let at : b ≡ get_or nodes c.loop-next.next 0 = c.index-node.ensures ∙ get_or_default nodes c.loop-next.next b 0 low in
+    let here = next_node (goal.at.pair_children-requires-clause-nodes c).After-index-node in
     let some : 0 < length (cycle_of f b) = some_links (cycle_of f b) (λ none. false≢true (sym c.if-not-is_leaf.true ∙ c.is_leaf.ensures.1 none)) in
-    let room : length nodes + length (cycle_of f b) ≤ length f.nodes = more_room f c.requires.family c.args.pairs.now c.loop-next.pairs nodes c.loop-next.next c.loop-next.invariant.settling low b (sym at) 0 some in
+    let room : length nodes + length (cycle_of f b) ≤ length f.nodes = more_room f c.requires.family c.args.pairs.now c.loop-next.pairs nodes c.loop-next.next c.loop-next.invariant.settling here.0 b (sym here.1) 0 some in
     omega (arith, room, c.requires.nodes, c.loop-next.invariant.room)
 
 pub pair_children-requires-clause-ring : goal.pair_children-requires-clause-ring
@@ -57,14 +62,13 @@ loop-next-preserved-then-not-is_leaf c =
     let f = c.args.arena.now in
     let b = c.index-node.result.now in
     let nodes = c.loop-next.nodes.items in
-    let low : c.loop-next.next < length nodes = omega (arith, c.loop-next-test.true, c.len.ensures) in
-    let at : b ≡ get_or nodes c.loop-next.next 0 = c.index-node.ensures ∙ get_or_default nodes c.loop-next.next b 0 low in
+    let here = next_node (goal.at.loop-next-preserved-then-not-is_leaf c).After-index-node in
     let made = c.pair_children.ensures.listed in
     record {
       room = c.pair_children.ensures.room ∙ c.loop-next.invariant.room;
       ring_room = c.pair_children.ensures.ring_room ∙ c.loop-next.invariant.ring_room;
       settling = subst (λ xs. IsSettling f c.args.pairs.now c.pair_children.new.pairs xs (c.loop-next.next + 1)) (sym made.2)
-          (IsSettling-blossom f c.requires.family c.args.pairs.now c.loop-next.pairs nodes c.loop-next.next c.loop-next.invariant.settling low b (sym at) made.0 made.1 c.pair_children.new.pairs
+          (IsSettling-blossom f c.requires.family c.args.pairs.now c.loop-next.pairs nodes c.loop-next.next c.loop-next.invariant.settling here.0 b (sym here.1) made.0 made.1 c.pair_children.new.pairs
           c.pair_children.ensures.length c.pair_children.ensures.inside c.pair_children.ensures.others);
     }
 
@@ -78,13 +82,12 @@ pub loop-next-preserved : goal.loop-next-preserved
 loop-next-preserved c =
     let f = c.args.arena.now in
     let nodes = c.loop-next.nodes.items in
-    let low : c.loop-next.next < length nodes = omega (arith, c.loop-next-test.true, c.len.ensures) in
-    let at : c.index-node.result.now ≡ get_or nodes c.loop-next.next 0 = c.index-node.ensures ∙ get_or_default nodes c.loop-next.next c.index-node.result.now 0 low in
+    let here = next_node (goal.at.loop-next-preserved c).After-index-node in
     record {
       room = c.loop-next.invariant.room;
       ring_room = c.loop-next.invariant.ring_room;
-      settling = IsSettling-leaf f c.requires.family c.args.pairs.now c.loop-next.pairs nodes c.loop-next.next c.loop-next.invariant.settling low
-          (ap (λ n. cycle_of f n) (sym at) ∙ c.is_leaf.ensures.0 c.if-not-is_leaf.false);
+      settling = IsSettling-leaf f c.requires.family c.args.pairs.now c.loop-next.pairs nodes c.loop-next.next c.loop-next.invariant.settling here.0
+          (ap (λ n. cycle_of f n) (sym here.1) ∙ c.is_leaf.ensures.0 c.if-not-is_leaf.false);
     }
 
 pub write_mates-requires-clause-own : goal.write_mates-requires-clause-own

@@ -1,3 +1,4 @@
+-- `settle`: the entries so far have passed their pairs on to their children.
 use Rattle.std.proofs.Common.{length, vec_capacity, ◌-◌, ◌≡◌}
 use Rattle.sg_match.proofs.SettlingLemmas.{IsSettling}
 use Rattle.sg_match.proofs.mates.settle.Given as goal

@@ -1,3 +1,4 @@
+-- `write_mates`: each leaf is some entry of the list.
 use Rattle.std.proofs.Common.{arith, subst, sym, ◌+◌, ◌∙◌}
 use Rattle.std.proofs.lemmas.Bool.{false≢true}
 use Rattle.sg_match.proofs.ListedLemmas.{IsWriting, IsWriting-blossom, IsWriting-leaf}

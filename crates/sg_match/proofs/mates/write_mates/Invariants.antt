@@ -1,3 +1,4 @@
+-- `write_mates`: the leaves among the entries so far have their mates.
 use Rattle.sg_match.proofs.ListedLemmas.{IsWriting}
 use Rattle.sg_match.proofs.mates.write_mates.Given as goal
 

@@ -1,3 +1,4 @@
+-- `are_direct`: each leaf was tried as a start.
 use Rattle.std.proofs.Common.{below_more, rules}
 use Rattle.sg_match.specs.Fit.{IsDirect}
 use Rattle.sg_match.proofs.metric.are_direct.Goals as goal

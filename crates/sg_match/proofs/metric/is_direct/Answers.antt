@@ -1,3 +1,4 @@
+-- `is_direct`: each leaf was tried as a way round.
 use Rattle.std.proofs.Common.{below_more, rules}
 use Rattle.sg_match.specs.Fit.{IsNoShortcut}
 use Rattle.sg_match.proofs.metric.is_direct.Goals as goal

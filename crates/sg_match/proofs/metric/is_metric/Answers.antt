@@ -1,3 +1,4 @@
+-- `is_metric`: the parts of the test are the whole of `IsMetric`.
 use Rattle.std.proofs.Common.{rules}
 use Rattle.sg_match.proofs.MetricLemmas.{IsDirect-metric, IsMetric-parts}
 use Rattle.sg_match.proofs.metric.is_metric.Goals as goal

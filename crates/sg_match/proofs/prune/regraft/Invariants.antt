@@ -1,3 +1,4 @@
+-- `regraft`: from limb i on, the limbs of the blossom are gone.
 use Rattle.std.proofs.Common.{◌≡◌, ℕ, ◌<◌, ◌≤◌, List, length, vec_capacity}
 use Rattle.sg_match.proofs.prune.regraft.Given as goal
 use Rattle.sg_match.proofs.RegraftLemmas.{IsRegrafting}

@@ -1,3 +1,4 @@
+-- `list_ring`: the ring so far is the cycle from the child on.
 use Rattle.std.proofs.Common.{length, vec_capacity, ◌-◌, ◌≡◌, ℕ}
 use Rattle.sg_arena.specs.Family.{IsChildAt}
 use Rattle.sg_match.proofs.RotateLemmas.{IsTurning}

@@ -1,8 +1,8 @@
+-- `pair_ring`: two nodes at a time are paired along a link.
 use Rattle.std.proofs.Common.{ap, set, Some, ◌∙◌, length, refl, subst, sym, ◌+◌, ◌*◌, ◌<◌, ◌≡◌, arith}
 use Rattle.sg_arena.specs.Family.{link_at}
-use Rattle.sg_match.specs.Pairs.{flipped}
+use Rattle.sg_match.specs.Pairs.{edge_of, flipped}
 use Rattle.sg_match.proofs.RungLemmas.{IsRung-done, IsRungTo, IsRungTo-init, IsRungTo-more}
-use Rattle.sg_match.specs.Settled.{edge_of}
 use Rattle.sg_match.proofs.rings.pair_ring.Goals as goal
 
 pub loop-i-init : goal.loop-i-init

@@ -1,3 +1,4 @@
+-- `pair_ring`: the nodes so far are paired.
 use Rattle.std.proofs.Common.{length, ◌-◌, ◌≡◌, ℕ, ◌≤◌, ◌+◌, ◌*◌}
 use Rattle.sg_match.proofs.RungLemmas.{IsRungTo}
 use Rattle.sg_match.proofs.rings.pair_ring.Given as goal

@@ -1,3 +1,4 @@
+-- `place_of`: no link so far has the node.
 use Rattle.std.proofs.Common.{◌≢◌, ℕ, ◌<◌}
 use Rattle.sg_arena.specs.Family.{link_at}
 use Rattle.sg_match.proofs.rings.place_of.Given as goal

@@ -1,3 +1,4 @@
+-- `turn_back`: the links so far are turned.
 use Rattle.std.proofs.Common.{◌≡◌, ℕ, ◌-◌, ◌<◌, length, vec_capacity, cond, eqb}
 use Rattle.sg_arena.specs.Family.{link_at}
 use Rattle.sg_match.proofs.rings.turn_back.Given as goal

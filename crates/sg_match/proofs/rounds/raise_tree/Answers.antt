@@ -1,3 +1,4 @@
+-- `raise_tree`: a raise by 0 changes nothing.
 use Rattle.std.proofs.Common.{◌≡◌, pos, sym, ap, ◌∙◌, arith}
 use Rattle.std.proofs.lemmas.Int.{ints}
 use Rattle.sg_arena.specs.Changes.{nat_of, raised}

@@ -1,3 +1,4 @@
+-- `leaf_names`: the names of the leaves so far.
 use Rattle.std.proofs.Common.{◌≡◌, ◌≤◌, take, vec_capacity}
 use Rattle.sg_match.proofs.runs.leaf_names.Given as goal
 
