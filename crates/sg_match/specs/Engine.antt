@@ -12,10 +12,14 @@ use Rattle.sg_match.specs.Tree.{IsTree}
 -- what holds between two steps
 pub record IsEngine (s : State) : Type 0 where
   pub costs : IsMetric s.table
+  -- a leaf for each row of the costs, and room for a pair under each name
   pub leaves : leaf_count s.family ≡ s.table.size
   pub room : length s.pairs ≡ length s.family.nodes
+  -- the sets with their duals, the pairs of tops, and the tops without one
   pub feasible : IsFeasible s.family (cost s.table)
   pub paired : IsPaired s.family (IsTight s.family (cost s.table)) s.pairs
   pub lonely : IsLonely s.family s.pairs s.root s.lonely
+  -- the tree from the root; no limb where there is no root
   pub tree : MatchOption s.root (s.limbs ≡ []) (λ r. IsTree s.family (cost s.table) s.pairs r s.limbs)
+  -- the bound on all steps, which no event raises
   pub left : steps_left s ≤ 2 * s.table.size * s.table.size
