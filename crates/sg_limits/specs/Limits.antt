@@ -1,0 +1,30 @@
+-- The limits of the program as numerals: what contracts mean by them.
+use Rattle.std.specs.Prelude.{ℕ, ◌+◌, ◌^◌}
+
+-- the most spins of an instance
+abbrev pub spin_limit : ℕ
+spin_limit = 2048
+
+-- the most bonds of an instance
+abbrev pub bond_limit : ℕ
+bond_limit = 6144
+
+-- the largest sum of the couplings' sizes of an instance that is solved
+abbrev pub sum_limit : ℕ
+sum_limit = 2 ^ 44
+
+-- the largest such sum where one bond is forced
+abbrev pub forced_limit : ℕ
+forced_limit = 2 ^ 45 + 1
+
+-- the largest cost of two leaves of the matching
+abbrev pub cost_limit : ℕ
+cost_limit = 2 ^ 47
+
+-- the most bytes of an input
+abbrev pub input_limit : ℕ
+input_limit = 536870912
+
+-- what the length of every text that is read is below
+abbrev pub text_limit : ℕ
+text_limit = 2 ^ 30

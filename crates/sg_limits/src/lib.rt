@@ -1,0 +1,41 @@
+//! The limits of the program, each once, with its reason.
+//!
+//! Contracts cite the numerals of `specs/Limits.antt`, so that no constant of the code can change a
+//! theorem; the code uses the constants here, and [`limits_are_as_stated`] shows the two equal.
+#![tactic(auto)]
+
+ghost use Rattle.std.specs.Prelude.{◌≡◌, pos};
+ghost use Rattle.sg_limits.specs.Limits.{spin_limit, bond_limit, sum_limit, forced_limit, cost_limit, input_limit, text_limit};
+
+/// The most spins of an instance: a lattice of 45 by 45 fits.
+pub const SPIN_LIMIT: u32 = 2048;
+
+/// The most bonds of an instance, three for each spin.
+pub const BOND_LIMIT: u32 = 6144;
+
+/// The largest sum of the couplings' sizes of an instance that is solved.
+pub const SUM_LIMIT: i128 = 1 << 44;
+
+/// The largest such sum where one coupling is made larger than all others together, to force its bond.
+pub const FORCED_LIMIT: i128 = (1 << 45) + 1;
+
+/// The largest cost of two leaves of the matching: twice a distance, with room to spare.
+pub const COST_LIMIT: i64 = 1 << 47;
+
+/// The most bytes of an input, 512 MiB.
+pub const INPUT_LIMIT: usize = 536_870_912;
+
+/// Every text that is read has fewer bytes, so its records, fields and items are numbered in 32 bits.
+pub const TEXT_LIMIT: usize = 1 << 30;
+
+/// The constants are the numerals of the definitions. It computes nothing.
+pub fn limits_are_as_stated()
+    ensures spins { SPIN_LIMIT ≡ spin_limit }
+    ensures bonds { BOND_LIMIT ≡ bond_limit }
+    ensures sum { SUM_LIMIT ≡ pos sum_limit }
+    ensures forced { FORCED_LIMIT ≡ pos forced_limit }
+    ensures cost { COST_LIMIT ≡ pos cost_limit }
+    ensures input { INPUT_LIMIT ≡ input_limit }
+    ensures text { TEXT_LIMIT ≡ text_limit }
+{
+}
