@@ -1,8 +1,9 @@
 -- Odd cuts, and weights of them that pack: the dual of least joins.
-use Rattle.std.specs.Prelude.{◌≡◌, ℕ, ◌+◌, ◌*◌, ◌%◌, ◌<◌, ◌≤◌, ◌≤ℤ◌, ℤ, pos, Bool, List, length, All, count_by, unsigned_abs}
+use Rattle.std.specs.Prelude.{◌≡◌, ℕ, ◌+◌, ◌*◌, ◌%◌, ◌<◌, ◌≤◌, ◌≤ℤ◌, pos, Bool, List, length, All, count_by, unsigned_abs}
 use Rattle.sg_sums.specs.Parity.{xor}
 use Rattle.sg_sums.specs.Sets.{holds, chosen_below}
 use Rattle.sg_sums.specs.Loads.{load_at}
+use Rattle.sg_graph.specs.declared.cut.Cut.{Cut}
 use Rattle.sg_graph.specs.Web.{Graph, edge_at, edge_count, edge_weight}
 
 -- exactly one end of edge e is inside
@@ -15,19 +16,16 @@ pub record IsOddCut (g : Graph) (terminals edges : List ℕ) : Type 0 where
   pub odd : count_by inside terminals % 2 ≡ 1
   pub is : edges ≡ chosen_below (crosses g inside) (edge_count g)
 
-pub record WeightedCut : Type 0 where
-  pub y : ℤ
-  pub edges : List ℕ
-
-abbrev pub cut_weight : WeightedCut → ℕ
+-- the weight of a cut, a natural number where it is at least 1
+abbrev pub cut_weight : Cut → ℕ
 cut_weight c = unsigned_abs c.y
 
 -- the weights of the cuts that hold edge e
-abbrev pub cut_load : List WeightedCut → ℕ → ℕ
+abbrev pub cut_load : List Cut → ℕ → ℕ
 cut_load cuts e = load_at cut_weight (λ c. holds c.edges) cuts e
 
 -- weighted odd cuts that load no edge with more than twice its weight, and not too many of them
-pub record CutsPack (g : Graph) (terminals : List ℕ) (cuts : List WeightedCut) : Type 0 where
+pub record CutsPack (g : Graph) (terminals : List ℕ) (cuts : List Cut) : Type 0 where
   pub positive : All (λ c. pos 1 ≤ℤ c.y) cuts
   pub odd_cuts : All (λ c. IsOddCut g terminals c.edges) cuts
   pub within : (e : ℕ) → e < edge_count g → cut_load cuts e ≤ 2 * edge_weight g e

@@ -12,11 +12,13 @@
 //! weigh. `connected` and `Incidence` are the calls with an algorithm in them.
 #![tactic(auto)]
 
+mod cut;
 mod incidence;
 mod search;
 mod table;
 mod web;
 
+pub use cut::{Cut, Cuts};
 pub use incidence::Incidence;
 pub use search::connected;
 use std::alloc::AllocError;
