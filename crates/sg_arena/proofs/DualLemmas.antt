@@ -9,7 +9,7 @@ use Rattle.std.specs.Option.{option_map_or}
 use Rattle.sg_arena.specs.Family.{Covers, Family, Holds, IsFamily, IsTop, Node, dual_of, has_leaf, holds, leaf_count, node_at, share, total_of}
 use Rattle.sg_arena.specs.Slack.{cut_share, duals_between, exactly_one}
 use Rattle.sg_arena.proofs.FamilyLemmas.{not_dead, top-covers, total-names}
-use Rattle.sg_arena.proofs.ListLemmas.{sum_by-agree, sum_by-map_of, sum_by-point, sum_by-zero}
+use Rattle.sg_sums.proofs.ListLaws.{sum_by-agree, sum_by-map_of, sum_by-point, sum_by-zero}
 
 -- the duals between two leaves are the same both ways
 pub duals_between-back : (f : Family) (u v : ℕ) → duals_between f u v ≡ duals_between f v u

@@ -11,7 +11,7 @@ use Rattle.sg_arena.specs.Changes.{with_slot}
 use Rattle.sg_arena.specs.Family.{Covers, Family, Holds, IsAlive, IsBlossom, IsCycle, IsFamily, IsTop, Node, after_index, any_holds, blank_link, cycle_of, dual_of, has_leaf, holds, leaf_count, link_at, node_at, share, total_of}
 use Rattle.sg_arena.specs.Slack.{cut_share, duals_between, exactly_one}
 use Rattle.sg_arena.proofs.FamilyLemmas.{after_within, alive_from_holds, child-covered, not_dead, some_leaf, top-apart, top-covers, top-no_child}
-use Rattle.sg_arena.proofs.ListLemmas.{cond-same, filter-never, list_any-agree_at, place_of_any}
+use Rattle.sg_sums.proofs.ListLaws.{cond-same, filter-never, list_any-agree_at, place_of_any}
 
 -- a family from which a top of dual 0 is taken, its children left as tops
 module _ (f : Family) (b : ℕ) (fam : IsFamily f) (top : IsTop f b) (blossom : IsBlossom f b) (room : b < length f.nodes) where

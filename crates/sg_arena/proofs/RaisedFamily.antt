@@ -14,7 +14,7 @@ use Rattle.sg_arena.specs.Family.{Covers, Family, Holds, IsAlive, IsCycle, IsFam
 use Rattle.sg_arena.specs.Forest.{links}
 use Rattle.sg_arena.specs.Slack.{cut_share, duals_between, exactly_one}
 use Rattle.sg_arena.proofs.FamilyLemmas.{alive_from_holds, not_dead, some_leaf, top-apart, total-names}
-use Rattle.sg_arena.proofs.ListLemmas.{cases_in, list_any-agree_at, place_of_any, sum_by-agree, sum_by-map_of, sum_by-plus, sum_by-point}
+use Rattle.sg_sums.proofs.ListLaws.{cases_in, list_any-agree_at, place_of_any, sum_by-agree, sum_by-map_of, sum_by-plus, sum_by-point}
 
 -- a node with this dual
 abbrev pub redual : ℕ → Node → Node

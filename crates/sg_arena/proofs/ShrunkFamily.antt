@@ -13,7 +13,7 @@ use Rattle.sg_arena.specs.Family.{Covers, Family, Holds, IsAlive, IsBlossom, IsC
 use Rattle.sg_arena.specs.Forest.{links}
 use Rattle.sg_arena.specs.Slack.{cut_share, duals_between, exactly_one}
 use Rattle.sg_arena.proofs.FamilyLemmas.{alive_from_holds, leaf_bound, not_dead, some_leaf, top-apart, top-covers, union-odd}
-use Rattle.sg_arena.proofs.ListLemmas.{cond-same, list_any-agree_at, place_of_any}
+use Rattle.sg_sums.proofs.ListLaws.{cond-same, list_any-agree_at, place_of_any}
 use Rattle.sg_arena.proofs.SetLemmas.{has_leaf-filter, has_leaf-filter_out}
 
 -- a family whose tops are made into a blossom at a dead name

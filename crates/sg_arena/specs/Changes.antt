@@ -1,5 +1,5 @@
 -- What `open`, `shrink`, `expand` and `raise` make of a family.
-use Rattle.std.specs.Prelude.{◌≡◌, ◌≢◌, ℕ, ◌+◌, ◌-◌, ◌<◌, ◌≤◌, ◌^◌, List, length, Option, Some, filter, slice_set, slice_index, map, ℤ, pos, negsuc, if◌then◌else◌, ◌==◌}
+use Rattle.std.specs.Prelude.{◌≡◌, ◌≢◌, ℕ, ◌+◌, ◌-◌, ◌<◌, ◌≤◌, ◌^◌, List, length, Option, Some, filter, slice_set, slice_index, map, if◌then◌else◌, ◌==◌}
 use Rattle.std.specs.List.{list_any, range_with_len}
 use Rattle.std.specs.Option.{option_map}
 use Rattle.sg_arena.specs.declared.Link.{Link}
@@ -26,11 +26,6 @@ blossom_of f cycle = record {
 -- the family with this under the name, and all else as it was
 abbrev pub with_slot : Family → ℕ → Option Node → Family
 with_slot f name slot = record f { nodes = slice_set f.nodes name slot }
-
--- the natural number that a whole number is, 0 where it is negative
-abbrev pub nat_of : ℤ → ℕ
-nat_of (pos n) = n
-nat_of (negsuc n) = 0
 
 -- the dual of a node after these outer nodes were raised and these inner ones lowered
 abbrev pub raised_dual : List ℕ → List ℕ → ℕ → ℕ → ℕ → ℕ

@@ -8,9 +8,9 @@ use Rattle.sg_arena.proofs.FamilyLemmas.{leaf_bound, top-apart}
 use Rattle.sg_arena.specs.Family.{Family, Holds, IsFamily, IsTop, blank_link}
 use Rattle.sg_arena.specs.declared.Link.{Link}
 use Rattle.sg_match.proofs.NameLemmas.{Contains-two, Differ-append, Differ-two}
-use Rattle.sg_match.proofs.TightLemmas.{tight-back}
+use Rattle.sg_pairing.proofs.TightLemmas.{tight-back}
 use Rattle.sg_match.proofs.TreeLemmas.{inner_at, length-inners, length-outers, outer_at}
-use Rattle.sg_match.specs.Feasible.{IsTight}
+use Rattle.sg_pairing.specs.Tight.{IsTight}
 use Rattle.sg_match.specs.Links.{bond_link, down_link, step_link, up_link}
 use Rattle.sg_match.specs.Path.{AreTight, IsPath, nodes_of}
 use Rattle.sg_match.specs.Names.{Differ}

@@ -6,7 +6,7 @@ use Rattle.std.proofs.lemmas.List.Folds.{list_any_at}
 use Rattle.std.proofs.lemmas.List.{get_or-set_other, get_or-set_same, get_or_default}
 use Rattle.std.proofs.Math.ListN.{length-set}
 use Rattle.sg_arena.proofs.FamilyLemmas.{leaf_bound, length-with_slot, name_bound, some_leaf, top-apart}
-use Rattle.sg_arena.proofs.ListLemmas.{place_of_any}
+use Rattle.sg_sums.proofs.ListLaws.{place_of_any}
 use Rattle.sg_arena.proofs.ShrunkFamily.{IsTop-shrink, IsTop-shrink_old, IsTop-shrink_other, in_new, new_holds}
 use Rattle.sg_arena.specs.Changes.{CanShrink, blossom_of, with_slot}
 use Rattle.sg_arena.specs.Family.{Family, Holds, IsFamily, IsTop, holds, link_at, node_at}
@@ -19,7 +19,7 @@ use Rattle.sg_match.proofs.StepsStep.{blossoms-shrunk, rest-one_fewer}
 use Rattle.sg_match.proofs.TreeLemmas.{bond_tight, inner_at, inner_top, length-inners, length-outers, outer_at, outer_cases, outer_pair, outer_top}
 use Rattle.sg_match.specs.Engine.{IsEngine}
 use Rattle.sg_match.specs.Lonely.{IsLonely, one_if}
-use Rattle.sg_match.specs.Metric.{cost}
+use Rattle.sg_pairing.specs.Metric.{cost}
 use Rattle.sg_match.specs.Pairs.{pair_of}
 use Rattle.sg_match.specs.Path.{AreTight, nodes_of}
 use Rattle.sg_match.specs.Climb.{HasTight, IsClimb}

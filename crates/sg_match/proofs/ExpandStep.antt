@@ -9,7 +9,8 @@ use Rattle.sg_arena.proofs.FamilyLemmas.{child-covered, top-no_child}
 use Rattle.sg_arena.specs.Changes.{CanShrink, with_slot}
 use Rattle.sg_arena.specs.Family.{Family, Holds, IsBlossom, IsFamily, IsTop, Node, after_index, cycle_of, dual_of, link_at, node_at, total_of}
 use Rattle.sg_arena.specs.declared.Link.{Link}
-use Rattle.sg_match.specs.Feasible.{IsFeasible, IsTight}
+use Rattle.sg_match.specs.Feasible.{IsFeasible}
+use Rattle.sg_pairing.specs.Tight.{IsTight}
 use Rattle.sg_match.specs.Pairs.{IsPaired, flipped, pair_of}
 use Rattle.sg_match.specs.Rings.{IsRung}
 use Rattle.sg_match.specs.declared.Edge.{Edge}

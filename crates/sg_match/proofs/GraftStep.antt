@@ -5,7 +5,7 @@ use Rattle.sg_arena.specs.Changes.{CanShrink}
 use Rattle.sg_arena.specs.Family.{Family, Holds, IsTop, link_at}
 use Rattle.sg_arena.specs.declared.Link.{Link}
 use Rattle.sg_match.proofs.TreeLemmas.{inner_at, length-inners, length-outers, outer_at}
-use Rattle.sg_match.specs.Feasible.{IsTight}
+use Rattle.sg_pairing.specs.Tight.{IsTight}
 use Rattle.sg_match.specs.Grafts.{IsGraft}
 use Rattle.sg_match.specs.Regrown.{IsRegrow}
 use Rattle.sg_match.specs.Pairs.{pair_of}

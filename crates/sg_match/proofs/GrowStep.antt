@@ -4,7 +4,7 @@ use Rattle.std.proofs.lemmas.List.{get_or_append_left, map-append}
 use Rattle.sg_arena.specs.Family.{Family, Holds, IsTop}
 use Rattle.sg_match.proofs.NameLemmas.{Differ-last, at_end}
 use Rattle.sg_match.proofs.TreeLemmas.{length-outers}
-use Rattle.sg_match.specs.Feasible.{IsTight}
+use Rattle.sg_pairing.specs.Tight.{IsTight}
 use Rattle.sg_match.specs.Names.{Differ}
 use Rattle.sg_match.specs.Pairs.{pair_of}
 use Rattle.sg_match.specs.Tree.{IsOut, IsTree, blank_limb, inners, limb_at, outers}

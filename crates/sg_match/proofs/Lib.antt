@@ -15,7 +15,6 @@ pub mod RegraftLemmas
 pub mod ParityLemmas
 pub mod NameLemmas
 pub mod NodeLemmas
-pub mod TightLemmas
 pub mod OpeningLemmas
 pub mod CloseStep
 pub mod ReachStep
@@ -36,6 +35,3 @@ pub mod SettledLemmas
 pub mod ChildrenLemmas
 pub mod SettlingLemmas
 pub mod ListedLemmas
-pub mod PairingSums
-pub mod DualBound
-pub mod MetricLemmas

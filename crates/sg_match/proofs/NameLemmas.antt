@@ -7,7 +7,7 @@ use Rattle.std.proofs.lemmas.List.Elements.{Contains-get_or}
 use Rattle.std.proofs.Math.Seq.{get_or-append_right, get_or-append_seam}
 use Rattle.std.proofs.lemmas.Map.Keys.{IsDistinct-cons}
 use Rattle.std.proofs.lemmas.Map.Steps.{length-le_from_distinct_below}
-use Rattle.sg_arena.proofs.ListLemmas.{place_of_any}
+use Rattle.sg_sums.proofs.ListLaws.{place_of_any}
 use Rattle.sg_match.specs.Names.{Differ}
 
 -- a number that differs from each entry

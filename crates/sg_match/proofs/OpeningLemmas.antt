@@ -6,15 +6,16 @@ use Rattle.std.specs.Option.{option_map_or}
 use Rattle.sg_arena.proofs.DualLemmas.{total-between}
 use Rattle.sg_arena.proofs.FamilyLemmas.{total-names}
 use Rattle.sg_arena.proofs.LeavesFamily.{IsFamily-leaves, IsTop-leaf, leaves-no_child, no_share}
-use Rattle.sg_arena.proofs.ListLemmas.{sum_by-zero}
+use Rattle.sg_sums.proofs.ListLaws.{sum_by-zero}
 use Rattle.sg_arena.specs.Changes.{OnlyLeaves}
 use Rattle.sg_arena.specs.Family.{Family, IsFamily, Node, leaf_count, node_at, share, total_of}
 use Rattle.sg_arena.specs.Slack.{duals_between}
 use Rattle.sg_arena.specs.declared.Link.{Link}
 use Rattle.sg_match.specs.Engine.{IsEngine}
-use Rattle.sg_match.specs.Feasible.{IsFeasible, IsTight}
+use Rattle.sg_match.specs.Feasible.{IsFeasible}
+use Rattle.sg_pairing.specs.Tight.{IsTight}
 use Rattle.sg_match.specs.Lonely.{IsLonely}
-use Rattle.sg_match.specs.Metric.{IsMetric, cost}
+use Rattle.sg_pairing.specs.Metric.{IsMetric, cost}
 use Rattle.sg_match.specs.Pairs.{IsPaired, pair_of}
 use Rattle.sg_match.specs.Steps.{blossoms_of, has_children, steps_left}
 use Rattle.sg_match.specs.declared.Edge.{Edge}

@@ -13,7 +13,7 @@ use Rattle.sg_arena.specs.Family.{Family, IsTop, leaf_count}
 use Rattle.sg_match.proofs.StepsStep.{count_by-one_fewer}
 use Rattle.sg_match.specs.Engine.{IsEngine}
 use Rattle.sg_match.specs.Lonely.{IsLonely}
-use Rattle.sg_match.specs.Metric.{cost}
+use Rattle.sg_pairing.specs.Metric.{cost}
 use Rattle.sg_match.specs.Pairs.{pair_of}
 use Rattle.sg_match.specs.Steps.{rest_of, steps_left}
 use Rattle.sg_match.specs.Tree.{IsTree, any_top, outers}

@@ -5,7 +5,7 @@ use Rattle.std.proofs.lemmas.Bool.{cases_eq, cases_lt}
 use Rattle.std.proofs.lemmas.List.{get_or-set_other, get_or-set_same, get_or_default}
 use Rattle.std.proofs.lemmas.List.Elements.{Contains-get_or}
 use Rattle.sg_arena.proofs.FamilyLemmas.{top-apart}
-use Rattle.sg_arena.proofs.ListLemmas.{cases_in}
+use Rattle.sg_sums.proofs.ListLaws.{cases_in}
 use Rattle.sg_arena.proofs.ShrunkFamily.{IsTop-shrink, IsTop-shrink_other, duals_between-shrink, holds_other, new_holds}
 use Rattle.sg_arena.specs.Changes.{CanShrink, blossom_of, with_slot}
 use Rattle.sg_arena.specs.Family.{Family, Holds, IsFamily, IsTop, leaf_count, link_at, node_at}
@@ -13,7 +13,8 @@ use Rattle.sg_arena.specs.declared.Link.{Link}
 use Rattle.sg_match.proofs.NodeLemmas.{node_in, place_in}
 use Rattle.sg_match.proofs.ShrinkStep.{CanShrink-climb, path_head, top-not_dead}
 use Rattle.sg_match.proofs.TreeLemmas.{inner_at, inner_top, length-inners, length-outers, outer_at, outer_pair}
-use Rattle.sg_match.specs.Feasible.{IsFeasible, IsTight}
+use Rattle.sg_match.specs.Feasible.{IsFeasible}
+use Rattle.sg_pairing.specs.Tight.{IsTight}
 use Rattle.sg_match.specs.Pairs.{IsPaired, flipped, pair_of}
 use Rattle.sg_match.specs.Path.{AreTight, nodes_of}
 use Rattle.sg_match.specs.Climb.{IsClimb}

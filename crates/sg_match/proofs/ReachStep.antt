@@ -6,22 +6,22 @@ use Rattle.std.proofs.lemmas.List.{get_or_default, map-append}
 use Rattle.std.proofs.lemmas.List.Elements.{Contains-get_or}
 use Rattle.std.proofs.lemmas.List.Folds.{list_any-append}
 use Rattle.sg_arena.proofs.FamilyLemmas.{leaf_bound, top-apart}
-use Rattle.sg_arena.proofs.ListLemmas.{place_of_any}
+use Rattle.sg_sums.proofs.ListLaws.{place_of_any}
 use Rattle.sg_arena.specs.Family.{Family, Holds, IsFamily, IsTop, holds, leaf_count}
 use Rattle.sg_match.proofs.EngineLemmas.{symmetric}
 use Rattle.sg_match.proofs.GrowStep.{IsTree-grown}
 use Rattle.sg_match.proofs.NameLemmas.{place_of_name}
 use Rattle.sg_match.proofs.PairLemmas.{mate_differs}
 use Rattle.sg_match.proofs.StepsStep.{rest-one_fewer}
-use Rattle.sg_match.proofs.TightLemmas.{tight-back}
+use Rattle.sg_pairing.proofs.TightLemmas.{tight-back}
 use Rattle.sg_match.proofs.TreeLemmas.{inner_top, length-outers, limb_room, mate_out, outer_top}
 use Rattle.sg_match.specs.Augmented.{CanFlip, Flipped, HasTops}
 use Rattle.sg_match.specs.Engine.{IsEngine}
 use Rattle.sg_match.specs.Events.{IsReach, IsReachInto}
-use Rattle.sg_match.specs.Feasible.{IsTight}
+use Rattle.sg_pairing.specs.Tight.{IsTight}
 use Rattle.sg_match.specs.Lonely.{IsLonely}
 use Rattle.sg_match.specs.Names.{IsTaken}
-use Rattle.sg_match.specs.Metric.{cost}
+use Rattle.sg_pairing.specs.Metric.{cost}
 use Rattle.sg_match.specs.Pairs.{pair_of}
 use Rattle.sg_match.specs.State.{State}
 use Rattle.sg_match.specs.Steps.{blossoms_of, rest_of, steps_left}

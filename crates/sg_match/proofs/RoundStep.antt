@@ -7,9 +7,10 @@ use Rattle.std.proofs.lemmas.Int.{ints}
 use Rattle.std.proofs.lemmas.List.{ext_get_or}
 use Rattle.sg_arena.proofs.DualLemmas.{between-tops}
 use Rattle.sg_arena.proofs.FamilyLemmas.{some_leaf}
-use Rattle.sg_arena.proofs.ListLemmas.{cases_in, list_any-agree, sum_by-agree}
+use Rattle.sg_sums.proofs.ListLaws.{cases_in, list_any-agree, sum_by-agree}
 use Rattle.sg_arena.proofs.RaisedFamily.{IsTop-raised_old, cycle-raised, length-raised, node_at-raised}
-use Rattle.sg_arena.specs.Changes.{CanRaise, nat_of, raised, raised_dual, with_dual}
+use Rattle.sg_arena.specs.Changes.{CanRaise, raised, raised_dual, with_dual}
+use Rattle.sg_sums.specs.Naturals.{nat_of}
 use Rattle.sg_arena.specs.Family.{Family, Holds, IsBlossom, IsFamily, IsTop, Node, dual_of, holds, leaf_count, node_at}
 use Rattle.sg_match.proofs.InnerLemmas.{IsLeastDual}
 use Rattle.sg_sums.proofs.SumLaws.{sum_below-same, sum_by_is_sum_below}
@@ -24,9 +25,10 @@ use Rattle.sg_match.specs.Amount.{CanGrow}
 use Rattle.sg_match.specs.Flat.{IsFlat}
 use Rattle.sg_match.specs.Engine.{IsEngine}
 use Rattle.sg_match.specs.Events.{IsNext}
-use Rattle.sg_match.specs.Feasible.{IsFeasible, IsTight}
+use Rattle.sg_match.specs.Feasible.{IsFeasible}
+use Rattle.sg_pairing.specs.Tight.{IsTight}
 use Rattle.sg_match.specs.Lonely.{IsLonely}
-use Rattle.sg_match.specs.Metric.{cost}
+use Rattle.sg_pairing.specs.Metric.{cost}
 use Rattle.sg_match.specs.Pairs.{IsPaired, pair_of}
 use Rattle.sg_match.specs.Reaches.{CanReach, IsAt, IsAway, IsHalfway, IsNearest}
 use Rattle.sg_match.specs.State.{State}

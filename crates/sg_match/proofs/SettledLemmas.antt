@@ -3,12 +3,13 @@ use Rattle.std.proofs.Common.{List, Option, Some, [], ap, arith, get_or, inl, in
 use Rattle.std.proofs.lemmas.Option.{same_Some}
 use Rattle.std.proofs.lemmas.Bool.{cases_lt}
 use Rattle.sg_arena.proofs.FamilyLemmas.{alive_from_holds, child-covered, child-smaller, leaf-held, leaf_bound, size-positive, top-apart, top-covers}
-use Rattle.sg_arena.proofs.ListLemmas.{place_of_any}
+use Rattle.sg_sums.proofs.ListLaws.{place_of_any}
 use Rattle.sg_arena.specs.Family.{Covers, Family, Holds, IsAlive, IsFamily, IsTop, blank_link, cycle_of, holds, leaf_count, leaf_node, leaves_of, link_at}
 use Rattle.sg_match.proofs.AboveLemmas.{child_alive, from_above, leaf-covered, leaf-only, leaf-plain, plain-covered, plain_is}
-use Rattle.sg_match.proofs.TightLemmas.{tight-back}
-use Rattle.sg_match.specs.Feasible.{IsFeasible, IsTight}
-use Rattle.sg_match.specs.Matching.{IsLeftOnce, IsMatching, IsPairing}
+use Rattle.sg_pairing.proofs.TightLemmas.{tight-back}
+use Rattle.sg_match.specs.Feasible.{IsFeasible}
+use Rattle.sg_pairing.specs.Tight.{IsTight}
+use Rattle.sg_pairing.specs.Matching.{IsLeftOnce, IsMatching, IsPairing}
 use Rattle.sg_match.specs.Pairs.{IsPaired, flipped, pair_of}
 use Rattle.sg_match.specs.Settled.{IsJoined, IsSettled}
 use Rattle.sg_match.specs.declared.Edge.{Edge}

@@ -3,7 +3,7 @@ use Rattle.std.proofs.Common.{List, Option, [], ap, arith, get_or, inl, inr, len
 use Rattle.std.proofs.lemmas.Bool.{cases_eq, cases_lt}
 use Rattle.std.proofs.lemmas.List.{get_or-append_right, get_or_append_left}
 use Rattle.sg_arena.proofs.FamilyLemmas.{alive_from_blossom, alive_from_holds, name_bound, top-no_child}
-use Rattle.sg_arena.proofs.ListLemmas.{cases_option, some≢none}
+use Rattle.sg_sums.proofs.ListLaws.{cases_option, some≢none}
 use Rattle.sg_arena.specs.Family.{Family, IsAlive, IsFamily, IsTop, cycle_of, link_at}
 use Rattle.sg_arena.specs.declared.Link.{Link}
 use Rattle.sg_match.proofs.AboveLemmas.{child_alive, from_above, one_parent}

@@ -6,7 +6,7 @@ use Rattle.sg_arena.specs.Changes.{with_slot}
 use Rattle.sg_arena.specs.Family.{Family, Holds, IsChildAt, IsChildOf, IsTop, cycle_of, link_at}
 use Rattle.sg_arena.specs.declared.Link.{Link}
 use Rattle.sg_arena.proofs.FamilyLemmas.{length-with_slot}
-use Rattle.sg_arena.proofs.ListLemmas.{cases_option}
+use Rattle.sg_sums.proofs.ListLaws.{cases_option}
 use Rattle.sg_match.proofs.EngineLemmas.{lonely_of, no_limbs, symmetric, tree_of}
 use Rattle.sg_match.proofs.NodeLemmas.{length-nodes, node_at_place}
 use Rattle.sg_match.proofs.RingLemmas.{IsFacing-from, IsRing, IsRing-rotated}
@@ -19,7 +19,7 @@ use Rattle.sg_match.specs.Regrown.{CanRegrow}
 use Rattle.sg_match.specs.Rings.{IsFaced, IsOdd, IsRung, rotated}
 use Rattle.sg_match.specs.Grafts.{OuterStays}
 use Rattle.sg_match.specs.Lonely.{IsLonely}
-use Rattle.sg_match.specs.Metric.{cost}
+use Rattle.sg_pairing.specs.Metric.{cost}
 use Rattle.sg_match.specs.Names.{Differ}
 use Rattle.sg_match.specs.Path.{nodes_of}
 use Rattle.sg_match.specs.State.{State}

@@ -7,7 +7,7 @@ use Rattle.std.proofs.lemmas.List.{get_or-append_right, get_or-set_other, get_or
 use Rattle.std.proofs.lemmas.List.Folds.{list_any_at}
 use Rattle.sg_arena.proofs.ExpandedFamily.{IsTop-expand_child, IsTop-expand_old, IsTop-expand_other, duals_between-expand, holds_rest}
 use Rattle.sg_arena.proofs.FamilyLemmas.{after_within, alive_from_holds, name_bound, top-no_child}
-use Rattle.sg_arena.proofs.ListLemmas.{place_of_any}
+use Rattle.sg_sums.proofs.ListLaws.{place_of_any}
 use Rattle.sg_arena.specs.Changes.{CanShrink, with_slot}
 use Rattle.sg_arena.specs.Family.{Family, Holds, IsBlossom, IsFamily, IsTop, after_index, cycle_of, dual_of, holds, link_at}
 use Rattle.sg_arena.specs.declared.Link.{Link}
@@ -18,7 +18,8 @@ use Rattle.sg_match.proofs.RingLemmas.{IsRing}
 use Rattle.sg_match.proofs.RotateLemmas.{Differ-cycle}
 use Rattle.sg_match.proofs.StepsStep.{blossoms-expanded, rest-fewer}
 use Rattle.sg_match.proofs.TreeLemmas.{inner_at, inner_top, length-inners, length-outers, outer_at}
-use Rattle.sg_match.specs.Feasible.{IsFeasible, IsTight}
+use Rattle.sg_match.specs.Feasible.{IsFeasible}
+use Rattle.sg_pairing.specs.Tight.{IsTight}
 use Rattle.sg_match.specs.Regrown.{CanRegrow, IsRegrow, with_inner}
 use Rattle.sg_match.specs.Rings.{IsOdd, IsRung}
 use Rattle.sg_match.specs.Grafts.{OuterStays}

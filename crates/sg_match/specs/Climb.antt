@@ -2,7 +2,7 @@
 use Rattle.std.specs.Prelude.{◌≡◌, ℕ, ◌<◌, ◌≤◌, List, length, slice_index, ◌%◌, ◌⊎◌, Contains}
 use Rattle.sg_arena.specs.Family.{Family, leaf_count}
 use Rattle.sg_arena.specs.declared.Link.{Link}
-use Rattle.sg_match.specs.Feasible.{IsTight}
+use Rattle.sg_pairing.specs.Tight.{IsTight}
 use Rattle.sg_match.specs.Names.{Differ}
 use Rattle.sg_match.specs.Path.{IsPath, nodes_of}
 use Rattle.sg_match.specs.Tree.{limb_at, outers, inners}

@@ -1,9 +1,10 @@
 -- What an engine keeps between its steps.
 use Rattle.std.specs.Prelude.{◌≡◌, ◌*◌, ◌≤◌, length, [], MatchOption}
 use Rattle.sg_arena.specs.Family.{leaf_count}
-use Rattle.sg_match.specs.Feasible.{IsTight, IsFeasible}
+use Rattle.sg_match.specs.Feasible.{IsFeasible}
+use Rattle.sg_pairing.specs.Tight.{IsTight}
 use Rattle.sg_match.specs.Lonely.{IsLonely}
-use Rattle.sg_match.specs.Metric.{cost, IsMetric}
+use Rattle.sg_pairing.specs.Metric.{cost, IsMetric}
 use Rattle.sg_match.specs.Pairs.{IsPaired}
 use Rattle.sg_match.specs.State.{State}
 use Rattle.sg_match.specs.Steps.{steps_left}

@@ -1,9 +1,9 @@
 -- What comes next at the tree: an inner blossom of dual 0, or a pair of leaves of slack 0.
 use Rattle.std.specs.Prelude.{◌≡◌, ℕ, ◌<◌, length, slice_index, Some}
 use Rattle.sg_arena.specs.Family.{Holds, leaf_count, IsTop}
-use Rattle.sg_match.specs.Feasible.{IsTight}
+use Rattle.sg_pairing.specs.Tight.{IsTight}
 use Rattle.sg_match.specs.Flat.{IsLeastFlat}
-use Rattle.sg_match.specs.Metric.{cost}
+use Rattle.sg_pairing.specs.Metric.{cost}
 use Rattle.sg_match.specs.State.{State}
 use Rattle.sg_match.specs.Tree.{outers, IsOut}
 use Rattle.sg_match.specs.declared.Event.{Event}

@@ -1,12 +1,8 @@
--- Duals under which no slack is negative, and pairs of leaves of slack 0.
+-- Duals under which no slack is negative, and links of cycles have slack 0.
 use Rattle.std.specs.Prelude.{◌≡◌, ℕ, ◌<◌, ◌≤◌, length, ◌%◌}
 use Rattle.sg_arena.specs.Family.{Family, Holds, leaf_count, IsTop, IsFamily, cycle_of, link_at, total_of}
 use Rattle.sg_arena.specs.Slack.{duals_between}
-use Rattle.sg_match.specs.Metric.{cost}
-
--- the pair's slack is 0
-abbrev pub IsTight : Family → (ℕ → ℕ → ℕ) → ℕ → ℕ → Type 0
-IsTight f cost u v = duals_between f u v ≡ cost u v
+use Rattle.sg_pairing.specs.Tight.{IsTight}
 
 -- no slack is negative, links of cycles are tight, and totals within a top have one parity
 pub record IsFeasible (f : Family) (cost : ℕ → ℕ → ℕ) : Type 0 where

@@ -1,5 +1,3 @@
-pub mod Metric
-pub mod Fit
 pub mod Feasible
 pub mod Pairs
 pub mod Names
@@ -24,5 +22,4 @@ pub mod Rings
 pub mod Grafts
 pub mod Regrown
 pub mod Rooms
-pub mod Matching
 pub mod Settled

@@ -3,7 +3,7 @@ use Rattle.std.specs.Prelude.{◌≡◌, ◌≢◌, ℕ, ◌+◌, ◌*◌, ◌<�
 use Rattle.sg_arena.specs.Family.{Family, Holds, leaf_count, IsTop, total_of}
 use Rattle.sg_arena.specs.Slack.{duals_between}
 use Rattle.sg_match.specs.Feasible.{IsFeasible}
-use Rattle.sg_match.specs.Metric.{cost}
+use Rattle.sg_pairing.specs.Metric.{cost}
 use Rattle.sg_match.specs.Tree.{outers, inners, IsShape, IsOut}
 use Rattle.sg_match.specs.declared.Event.{Event}
 use Rattle.sg_match.specs.declared.Event.TheVariants.{Flat, Reach, Join}

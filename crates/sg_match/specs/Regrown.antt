@@ -3,7 +3,7 @@ use Rattle.std.specs.Prelude.{◌≡◌, ◌≢◌, ℕ, ◌+◌, ◌*◌, ◌<�
 use Rattle.sg_arena.specs.Changes.{CanShrink}
 use Rattle.sg_arena.specs.Family.{Family, Holds, IsTop, link_at}
 use Rattle.sg_arena.specs.declared.Link.{Link}
-use Rattle.sg_match.specs.Feasible.{IsTight}
+use Rattle.sg_pairing.specs.Tight.{IsTight}
 use Rattle.sg_match.specs.Names.{Differ}
 use Rattle.sg_match.specs.Pairs.{pair_of, edge_of}
 use Rattle.sg_match.specs.Rings.{IsOdd}

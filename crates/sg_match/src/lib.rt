@@ -6,11 +6,11 @@
 //! proof that no other pairing costs less: a family of nested odd sets of leaves with *duals*, such
 //! that no two leaves have a cost below the duals of the sets that hold just one of them (their
 //! *slack* is not negative), mates have slack 0, and each set is left by exactly one pair of mates.
-//! So the mates cost as much as all duals together, and [`matching_is_least`] says why no pairing
+//! So the mates cost as much as all duals together, and `sg_pairing::matching_is_least` says why no pairing
 //! costs less: each set is odd, so some pair leaves it and pays for its dual.
 //!
 //! For the next engineer: the contract that matters is that of [`Engine::run`], over
-//! `specs/Matching.antt`; nothing in it names the tree or a buffer. What the engine keeps between
+//! `Matching` and `Metric` of `sg_pairing`; nothing in it names the tree or a buffer. What the engine keeps between
 //! two steps is `IsEngine` of `specs/Engine.antt`, one record for each part: `Feasible`, `Pairs`,
 //! `Lonely`, `Tree`. A round is [`Engine::advance`] in `runs`, and each event has a file: `rounds`
 //! raises the duals, `reaches` grows the tree or augments, `closes` shrinks, `splits` expands, and
@@ -33,10 +33,8 @@ mod climbs;
 mod closes;
 mod grafts;
 mod inner;
-mod law;
 mod leaves;
 mod mates;
-mod metric;
 mod pairs;
 mod prune;
 mod reaches;
@@ -45,8 +43,6 @@ mod rounds;
 mod runs;
 mod splits;
 
-pub use law::matching_is_least;
-pub use metric::is_metric;
 use sg_arena::{Arena, Link};
 use sg_list::Numbers;
 use sg_slack::{Costs, Mark};

@@ -1,7 +1,8 @@
 ghost use Rattle.std.specs.Prelude.{◌≡◌, ◌≢◌, ℕ, ◌+◌, ◌<◌, ◌≤◌, ◌++◌, [], IsTrue, Some, length, slice_index, vec_capacity, vec_len};
 ghost use Rattle.sg_arena.specs.Family.{Holds, IsBlossom, IsFamily, IsTop, cycle_of, leaf_count, link_at};
-ghost use Rattle.sg_match.specs.Feasible.{IsFeasible, IsTight};
-ghost use Rattle.sg_match.specs.Matching.{IsMatching};
+ghost use Rattle.sg_match.specs.Feasible.{IsFeasible};
+ghost use Rattle.sg_pairing.specs.Tight.{IsTight};
+ghost use Rattle.sg_pairing.specs.Matching.{IsMatching};
 ghost use Rattle.sg_match.specs.Pairs.{IsPaired, AllPaired, pair_of};
 ghost use Rattle.sg_match.specs.Names.{Differ};
 ghost use Rattle.sg_match.specs.Path.{nodes_of};

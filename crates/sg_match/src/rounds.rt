@@ -1,7 +1,8 @@
 ghost use Rattle.std.specs.Prelude.{◌≡◌, ◌+◌, ◌≤◌, ◌≤ℤ◌, length, pos, vec_capacity};
-ghost use Rattle.sg_arena.specs.Changes.{CanRaise, nat_of, raised};
+ghost use Rattle.sg_arena.specs.Changes.{CanRaise, raised};
+ghost use Rattle.sg_sums.specs.Naturals.{nat_of};
 ghost use Rattle.sg_arena.specs.Family.{leaf_count};
-ghost use Rattle.sg_match.specs.Metric.{IsMetric, cost};
+ghost use Rattle.sg_pairing.specs.Metric.{IsMetric, cost};
 ghost use Rattle.sg_match.specs.Reaches.{CanReach, IsNearest};
 ghost use Rattle.sg_match.specs.Scans.{CanScan, IsScanned};
 ghost use Rattle.sg_match.specs.Tree.{inners, outers};

@@ -36,8 +36,8 @@ impl Engine {
     ghost use Rattle.sg_arena.specs.Changes.{OnlyLeaves};
     ghost use Rattle.sg_arena.specs.Family.{IsFamily, leaf_count};
     ghost use Rattle.sg_match.specs.Flat.{IsLeastFlat};
-    ghost use Rattle.sg_match.specs.Matching.{IsMatching, IsPairing, NoSlackIsNegative, pairing_cost, sum_of_duals};
-    ghost use Rattle.sg_match.specs.Metric.{IsMetric, cost};
+    ghost use Rattle.sg_pairing.specs.Matching.{IsMatching, IsPairing, NoSlackIsNegative, pairing_cost, sum_of_duals};
+    ghost use Rattle.sg_pairing.specs.Metric.{IsMetric, cost};
     ghost use Rattle.sg_match.specs.Pairs.{AllPaired};
     ghost use Rattle.sg_match.specs.Engine.{IsEngine};
     ghost use Rattle.sg_match.specs.Stages.{IsStage, owed};
@@ -174,7 +174,7 @@ impl Engine {
     ///
     /// Each leaf has a mate. No slack is negative, mates have slack 0, and each set is left by
     /// exactly one pair of mates; so the mates cost as much as all duals together, and no pairing
-    /// costs less ([`super::matching_is_least`]). For `k` leaves it takes at most `2 k^2` steps, where
+    /// costs less ([`sg_pairing::matching_is_least`]). For `k` leaves it takes at most `2 k^2` steps, where
     /// a step is one `shrink`, `expand` or `raise`. The method is that of Edmonds (1965).
     ///
     /// Cost: a step takes time proportional to the square of the number of leaves.

@@ -2,6 +2,7 @@ ghost use Rattle.std.specs.Prelude.{◌≡◌, ◌<◌, ◌≤◌, ◌^◌, leng
 ghost use Rattle.sg_arena.specs.Family.{leaf_count};
 
 use super::*;
+use sg_pairing::is_metric;
 use sg_steps::Steps;
 use std::marker::Brand;
 use std::process::Abort;
@@ -382,20 +383,5 @@ fn matches_ties<L: Ledger, R: Abort>(rt: &R, alloc: Global, blank: Blank) -> Res
 #[test]
 fn a_hundred_sets_with_ties_are_matched_at_least_cost(rt: HostRuntime) -> Result<(), Fail> {
     matches_ties::<Brand, HostRuntime>(&rt, rt.alloc(), Blank::new(1))?;
-    Ok(())
-}
-
-#[test]
-fn costs_are_taken_or_not(rt: HostRuntime) -> Result<(), Fail> {
-    let rows = [
-        ([6, 10, 16, 4, 10, 6], true),
-        ([6, 10, 15, 4, 10, 6], false),
-        ([6, 10, 18, 4, 10, 6], false),
-        ([0, -2, 0, 0, 0, 0], false),
-    ];
-    for (entries, good) in rows {
-        assert_eq!(rt; is_metric(&table(rt.alloc(), entries)?), good);
-    }
-    assert!(rt; !is_metric(&Costs::new(rt.alloc(), 3)?));
     Ok(())
 }

@@ -5,3 +5,4 @@ pub mod Capacity
 pub mod RisingLists
 pub mod Choosing
 pub mod OneMore
+pub mod ListLaws

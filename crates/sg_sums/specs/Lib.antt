@@ -3,3 +3,4 @@ pub mod Sums
 pub mod Sets
 pub mod Ends
 pub mod Loads
+pub mod Naturals

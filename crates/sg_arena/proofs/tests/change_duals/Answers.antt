@@ -1,5 +1,5 @@
 use Rattle.std.proofs.Common.{◌<◌, ◌≤◌, arith, of_z, rules, to_z, w64}
-use Rattle.sg_arena.specs.Changes.{nat_of}
+use Rattle.sg_sums.specs.Naturals.{nat_of}
 use Rattle.sg_arena.proofs.FamilyLemmas.{leaf_bound}
 use Rattle.sg_arena.proofs.TestLemmas.{CanRaise-one, CanRaise-two, nat_of-bound}
 use Rattle.sg_arena.proofs.tests.change_duals.Goals as goal

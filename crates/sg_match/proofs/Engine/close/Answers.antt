@@ -11,7 +11,7 @@ use Rattle.sg_match.proofs.Engine.close.Goals as goal
 use Rattle.sg_match.proofs.Engine.close.Goals.{After-climb-base, After-self}
 use Rattle.sg_match.specs.Engine.{IsEngine}
 use Rattle.sg_match.specs.Events.{IsJoin}
-use Rattle.sg_match.specs.Metric.{cost}
+use Rattle.sg_pairing.specs.Metric.{cost}
 use Rattle.sg_match.specs.Path.{AreTight, nodes_of}
 use Rattle.sg_match.specs.Climb.{HasTight, IsClimb}
 use Rattle.sg_match.specs.Pruned.{CanRegraft}

@@ -3,7 +3,8 @@ use Rattle.std.proofs.Common.{◌≡◌, ℕ, ◌<◌, ℤ, List, length, Some, 
 use Rattle.std.proofs.lemmas.Int.{ints, to_z-of_z}
 use Rattle.std.specs.Vec.{with_items}
 use Rattle.sg_arena.proofs.RaisedFamily.{length-raised}
-use Rattle.sg_arena.specs.Changes.{CanRaise, nat_of, raised}
+use Rattle.sg_arena.specs.Changes.{CanRaise, raised}
+use Rattle.sg_sums.specs.Naturals.{nat_of}
 use Rattle.sg_arena.specs.Family.{Family, IsAlive, leaf_count}
 use Rattle.sg_match.proofs.Engine.press.Given.{Over}
 use Rattle.sg_match.proofs.Engine.press.Goals as goal
@@ -15,7 +16,7 @@ use Rattle.sg_match.specs.Flat.{IsFlat, IsLeastFlat}
 use Rattle.sg_match.specs.Engine.{IsEngine}
 use Rattle.sg_match.specs.Events.{IsNext}
 use Rattle.sg_match.specs.Reaches.{CanReach}
-use Rattle.sg_match.specs.Metric.{cost}
+use Rattle.sg_pairing.specs.Metric.{cost}
 use Rattle.sg_match.specs.State.{State}
 use Rattle.sg_match.specs.Steps.{steps_left}
 use Rattle.sg_match.specs.Tree.{inners, limb_at, outers}

@@ -5,10 +5,11 @@ use Rattle.sg_arena.specs.Family.{leaf_count}
 use Rattle.sg_match.proofs.Engine.run.Given.{Over}
 use Rattle.sg_match.proofs.Engine.run.Goals as goal
 use Rattle.sg_match.proofs.EngineLemmas.{state_of, symmetric}
-use Rattle.sg_match.specs.Feasible.{IsFeasible, IsTight}
-use Rattle.sg_match.proofs.DualBound.{cost-is_duals, matching_least}
-use Rattle.sg_match.specs.Matching.{IsMatching, IsPairing}
-use Rattle.sg_match.specs.Metric.{cost}
+use Rattle.sg_match.specs.Feasible.{IsFeasible}
+use Rattle.sg_pairing.specs.Tight.{IsTight}
+use Rattle.sg_pairing.proofs.DualBound.{cost-is_duals, matching_least}
+use Rattle.sg_pairing.specs.Matching.{IsMatching, IsPairing}
+use Rattle.sg_pairing.specs.Metric.{cost}
 use Rattle.sg_match.specs.Pairs.{IsPaired}
 use Rattle.sg_match.specs.State.{State}
 use Rattle.sg_match.specs.declared.Edge.{Edge}

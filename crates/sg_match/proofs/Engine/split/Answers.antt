@@ -12,7 +12,7 @@ use Rattle.sg_match.proofs.RingLemmas.{IsRing}
 use Rattle.sg_match.proofs.SplitLemmas.{IsCut, IsEngine-after, IsFound, blossom_top, bond_held, cut, edge_held, found, is_inner, limbs_fit, ring_differs, ring_fits, ring_has, ring_is, ring_named}
 use Rattle.sg_match.specs.Flat.{IsFlat}
 use Rattle.sg_match.specs.Engine.{IsEngine}
-use Rattle.sg_match.specs.Metric.{cost}
+use Rattle.sg_pairing.specs.Metric.{cost}
 use Rattle.sg_match.specs.Path.{nodes_of}
 use Rattle.sg_match.specs.State.{State}
 use Rattle.sg_match.specs.Steps.{steps_left}

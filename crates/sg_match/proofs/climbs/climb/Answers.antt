@@ -1,6 +1,6 @@
 -- `climb`: from the last limb down, the path grows where a limb ends at its head or its tail.
 use Rattle.std.proofs.Common.{◌≡◌, ◌+◌, ◌-◌, ◌<◌, List, [], ◌∷◌, ◌++◌, length, sym, ap, ◌∙◌, subst, arith, length-append}
-use Rattle.sg_match.proofs.TightLemmas.{tight-back}
+use Rattle.sg_pairing.proofs.TightLemmas.{tight-back}
 use Rattle.sg_match.proofs.climbs.climb.Goals as goal
 use Rattle.sg_match.proofs.climbs.climb.Goals.{In-loop-head}
 use Rattle.sg_arena.proofs.FamilyLemmas.{leaf_bound}

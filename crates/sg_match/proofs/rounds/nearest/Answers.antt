@@ -1,6 +1,6 @@
 -- `nearest`: the tables say of the leaves what the tree says.
 use Rattle.std.proofs.Common.{arith}
-use Rattle.sg_arena.specs.Changes.{nat_of}
+use Rattle.sg_sums.specs.Naturals.{nat_of}
 use Rattle.sg_match.proofs.PressStep.{CanScan-listed, IsMarked-stands, IsNearest-scanned, SumsFit-listed}
 use Rattle.sg_match.specs.Marks.{IsMarked}
 use Rattle.sg_match.proofs.rounds.nearest.Goals as goal

@@ -1,7 +1,8 @@
 -- `raise_tree`: a raise by 0 changes nothing.
 use Rattle.std.proofs.Common.{◌≡◌, pos, sym, ap, ◌∙◌, arith}
 use Rattle.std.proofs.lemmas.Int.{ints}
-use Rattle.sg_arena.specs.Changes.{nat_of, raised}
+use Rattle.sg_arena.specs.Changes.{raised}
+use Rattle.sg_sums.specs.Naturals.{nat_of}
 use Rattle.sg_match.proofs.RoundStep.{raised-none}
 use Rattle.sg_match.proofs.rounds.raise_tree.Goals as goal
 use Rattle.sg_match.specs.Tree.{inners, outers}

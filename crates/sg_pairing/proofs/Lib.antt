@@ -1,0 +1,4 @@
+pub mod TightLemmas
+pub mod PairingSums
+pub mod DualBound
+pub mod MetricLemmas

@@ -1,0 +1,4 @@
+pub mod Metric
+pub mod Fit
+pub mod Tight
+pub mod Matching
