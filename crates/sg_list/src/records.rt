@@ -67,6 +67,13 @@ impl<T: Drop> Records<T> {
         self.items[i] = item;
     }
 
+    /// The items in order, to be taken out one by one. It takes no memory.
+    pub fn into_vec(self) -> Vec<T>
+        ensures { result.items ≡ self }
+    {
+        self.items
+    }
+
     /// The allocator that `new` was given.
     pub fn allocator(&self) -> Global {
         *self.items.allocator()

@@ -17,5 +17,6 @@ fn both_lists_keep_their_items_in_order(rt: HostRuntime) -> Result<(), Fail> {
     assert!(rt; !rows.is_empty());
     assert_eq!(rt; rows.at(0).as_slice(), [7, 9].as_slice());
     assert_eq!(rt; rows.as_slice().len(), 1);
+    assert_eq!(rt; rows.into_vec().len(), 1);
     Ok(())
 }
