@@ -52,6 +52,9 @@ module _ (g : Graph) (t : Routes) (old new : List (Reverse Candidate)) (x : Reve
   pub popped_low : x.0.node < g.nodes
   popped_low = (let l = leads_low g x.0.edge is.from x.0.node web is.leads in l.1)
 
+  pub popped_edge : x.0.edge < 2 ^ 24
+  popped_edge = omega (arith, is.leads.below, web.few_edges)
+
   -- the node was found meanwhile
   pub Searches-dropped : is_reached t x.0.node ≡ true → Searches g t (candidates new)
   Searches-dropped known = Searches-skip g t (candidates old) (candidates new) x.0 s perm' known

@@ -13,19 +13,39 @@ use std::alloc::Global;
 use std::cmp::Reverse;
 use std::collections::BinaryHeap;
 
-/// The distances of all nodes from the source (Dijkstra 1959), in time `m log m` for `m` edges.
+/// The distances of all nodes from the source (Dijkstra 1959).
 ///
-/// Each edge out of the nodes found gives a candidate. The least candidate is taken from the heap
-/// again and again; one whose node was found meanwhile is dropped.
+/// Cost: `(n + m) log m` in time for `n` nodes and `m` edges, and memory for `m` candidates and the
+/// incidence lists beside the table. For several sources see [`distances_over`].
 pub fn distances(alloc: Global, web: &Web, source: u32) -> Result<Table, NoMemory>
     requires { source < web.now.nodes }
     ensures table { IfOk result (IsTableOf web.now) }
     ensures source { IfOk result (λ t. t.source ≡ source) }
 {
     let incidence = Incidence::new(alloc, web)?;
+    distances_over(alloc, web, &incidence, source)
+}
+
+/// The same over the incidence lists of the web, so that searches from many sources share them.
+///
+/// Each edge out of the nodes found gives a candidate. The least candidate is taken from the heap
+/// again and again; one whose node was found meanwhile is dropped.
+///
+/// Cost: as [`distances`], but for the incidence lists.
+pub fn distances_over(
+    alloc: Global,
+    web: &Web,
+    incidence: &Incidence,
+    source: u32,
+) -> Result<Table, NoMemory>
+    requires source { source < web.now.nodes }
+    requires incidence { AreIncident web.now incidence.now }
+    ensures table { IfOk result (IsTableOf web.now) }
+    ensures source { IfOk result (λ t. t.source ≡ source) }
+{
     let mut table = Table::new(alloc, web.nodes(), source)?;
     let mut heap = BinaryHeap::new(alloc);
-    spread(web, &incidence, &table, source, 0, &mut heap)?;
+    spread(web, incidence, &table, source, 0, &mut heap)?;
     while let Some(Reverse(candidate)) = heap.pop() {
         let Candidate {
             distance,
@@ -34,7 +54,7 @@ pub fn distances(alloc: Global, web: &Web, source: u32) -> Result<Table, NoMemor
         } = candidate;
         if !table.reached(node) {
             table.set(node, distance as i64, edge);
-            spread(web, &incidence, &table, node, distance, &mut heap)?;
+            spread(web, incidence, &table, node, distance, &mut heap)?;
         }
     }
     Ok(table)

@@ -1,16 +1,41 @@
 -- The laws of tables: what a new table says, and a table in which one node was set.
-use Rattle.std.proofs.Common.{◌≡◌, ◌≢◌, ◌^◌, ℕ, zero, suc, ◌<◌, ◌≤◌, ℤ, pos, Bool, true, false, cond, eqb, eq-eqb, inl, inr, is_some, unsigned_abs, Option, None, Some, List, set, replicate, refl, sym, ◌∙◌, ap, subst, arith, length}
+use Rattle.std.proofs.Common.{[], ◌∷◌, ap₂, ◌≡◌, ◌≢◌, ◌^◌, ℕ, zero, suc, ◌<◌, ◌≤◌, ℤ, pos, Bool, true, false, cond, not, eqb, eq-eqb, get_or, inl, inr, is_some, unsigned_abs, Option, None, Some, List, set, replicate, refl, sym, ◌∙◌, ap, subst, arith, length}
 use Rattle.std.specs.Option.{option_map_or}
 use Rattle.std.proofs.lemmas.Bool.{cases_eq, cases_lt, false≢true, ne_eqb, true≢false}
 use Rattle.std.proofs.lemmas.List.{get_or_past, length-set, map-set, length-replicate, get_or-set_same, get_or-set_other}
-use Rattle.sg_graph.specs.declared.table.Slot.{Slot}
-use Rattle.sg_graph.specs.Slots.{route_of, routes_of}
+use Rattle.sg_graph.specs.Slots.{route_of, routes_of, unreached}
 use Rattle.sg_graph.specs.Table.{IsTable, Route, Routes, at_home, distance_at, is_reached, length_to, parent_at, route_at, route_edge, with_route}
 
--- slots without a route
-pub routes_of-replicate : (n : ℕ) (slot : Slot) → route_of slot ≡ None → routes_of (replicate n slot) ≡ replicate n None
-routes_of-replicate zero slot e = refl
-routes_of-replicate (suc n) slot e = rw (e, routes_of-replicate n slot e) refl
+-- no node reached
+pub routes_of-replicate : (n : ℕ) → routes_of (replicate n (pos 0)) (replicate n unreached) ≡ replicate n None
+routes_of-replicate zero = refl
+routes_of-replicate (suc n) = ap (λ (rs : List (Option Route)). None ∷ rs) (routes_of-replicate n)
+
+pub routes_of-length : (ds : List ℤ) (es : List ℕ) → length ds ≡ length es → length (routes_of ds es) ≡ length es
+routes_of-length [] [] same = refl
+routes_of-length [] (e ∷ es) same = absurd (omega arith)
+routes_of-length (d ∷ ds) [] same = absurd (omega arith)
+routes_of-length (d ∷ ds) (e ∷ es) same = ap suc (routes_of-length ds es (omega arith))
+
+-- the route at a place
+pub routes_of-at : (ds : List ℤ) (es : List ℕ) (x : ℕ) → length ds ≡ length es → x < length es → get_or (routes_of ds es) x None ≡ route_of (get_or ds x (pos 0)) (get_or es x 0)
+routes_of-at [] [] x same low = absurd (omega arith)
+routes_of-at [] (e ∷ es) x same low = absurd (omega arith)
+routes_of-at (d ∷ ds) [] x same low = absurd (omega arith)
+routes_of-at (d ∷ ds) (e ∷ es) zero same low = refl
+routes_of-at (d ∷ ds) (e ∷ es) (suc x) same low = routes_of-at ds es x (omega arith) (omega arith)
+
+-- both lists set at a place
+pub routes_of-set : (ds : List ℤ) (es : List ℕ) (x : ℕ) (d : ℤ) (e : ℕ) → length ds ≡ length es → routes_of (set ds x d) (set es x e) ≡ set (routes_of ds es) x (route_of d e)
+routes_of-set [] [] x d e same = refl
+routes_of-set [] (e' ∷ es) x d e same = absurd (omega arith)
+routes_of-set (d' ∷ ds) [] x d e same = absurd (omega arith)
+routes_of-set (d' ∷ ds) (e' ∷ es) zero d e same = refl
+routes_of-set (d' ∷ ds) (e' ∷ es) (suc x) d e same = ap (λ (rs : List (Option Route)). route_of d' e' ∷ rs) (routes_of-set ds es x d e (omega arith))
+
+-- an edge of a web is not the mark of a node that is not reached
+pub route_of-edge : (d : ℤ) (e : ℕ) → e < 2 ^ 24 → route_of d e ≡ Some (record { distance = d; edge = e })
+route_of-edge d e low = ap (λ (b : Bool). cond b None (Some (record { distance = d; edge = e }))) (ne_eqb e unreached (λ (h : e ≡ unreached). omega arith))
 
 -- the routes of a new table
 abbrev pub first_routes : ℕ → ℕ → List (Option Route)
@@ -35,30 +60,72 @@ IsTable-with_route t x d e ne is =
       home = get_or-set_other t.to x t.source (Some (record { distance = d; edge = e })) None (λ h. ne (sym h)) ∙ is.home;
     }
 
--- a slot that is set, as a route that is set
-abbrev pub slot_for : ℤ → ℕ → Slot
-slot_for d e = record { distance = d; edge = e; is_reached = true }
-
-pub with_route_is : (t : Routes) (source : ℕ) (slots : List Slot) (x e : ℕ) (d d' : ℤ) → record { source = source; to = routes_of slots } ≡ t → d' ≡ d → record { source = source; to = routes_of (set slots x (slot_for d' e)) } ≡ with_route t x d e
-with_route_is t source slots x e d d' is same =
-    ap (λ (rs : List (Option Route)). made source rs) (map-set route_of slots x (slot_for d' e))
-    ∙ ap (λ (z : ℤ). with_route (made source (routes_of slots)) x z e) same
+-- both lists set at a place make the table with that route
+pub with_route_is : (t : Routes) (source : ℕ) (ds : List ℤ) (es : List ℕ) (x e : ℕ) (d d' : ℤ) → length ds ≡ length es → e < 2 ^ 24 → record { source = source; to = routes_of ds es } ≡ t → d' ≡ d → record { source = source; to = routes_of (set ds x d') (set es x e) } ≡ with_route t x d e
+with_route_is t source ds es x e d d' count low is same =
+    ap (λ (rs : List (Option Route)). made source rs) (routes_of-set ds es x d' e count ∙ ap (set (routes_of ds es) x) (route_of-edge d' e low))
+    ∙ ap (λ (z : ℤ). with_route (made source (routes_of ds es)) x z e) same
     ∙ ap (λ (u : Routes). with_route u x d e) is
   where
     made : ℕ → List (Option Route) → Routes
     made s rs = record { source = s; to = rs }
 
-pub IsTable-set : (t : Routes) (source : ℕ) (slots : List Slot) (x e : ℕ) (d d' : ℤ) → record { source = source; to = routes_of slots } ≡ t → d' ≡ d → x ≢ t.source → IsTable (record { source = source; to = routes_of slots }) → IsTable (record { source = source; to = routes_of (set slots x (slot_for d' e)) })
-IsTable-set t source slots x e d d' is same ne table =
+pub IsTable-set : (t : Routes) (source : ℕ) (ds : List ℤ) (es : List ℕ) (x e : ℕ) (d d' : ℤ) → length ds ≡ length es → e < 2 ^ 24 → record { source = source; to = routes_of ds es } ≡ t → d' ≡ d → x ≢ t.source → IsTable (record { source = source; to = routes_of ds es }) → IsTable (record { source = source; to = routes_of (set ds x d') (set es x e) })
+IsTable-set t source ds es x e d d' count low is same ne table =
     let P : Routes → Type 0 = λ u. IsTable u in
-    subst P (sym (with_route_is t source slots x e d d' is same)) (IsTable-with_route t x d e ne (subst P is table))
+    subst P (sym (with_route_is t source ds es x e d d' count low is same)) (IsTable-with_route t x d e ne (subst P is table))
 
--- the slots of a new table
-pub first_routes_is : (n source : ℕ) (slots : List Slot) → slots ≡ replicate n (record { distance = pos 0; edge = 0; is_reached = false }) → routes_of (set slots source (slot_for (pos 0) 0)) ≡ first_routes n source
-first_routes_is n source slots is =
-    ap (λ (xs : List Slot). routes_of (set xs source (slot_for (pos 0) 0))) is
-    ∙ map-set route_of (replicate n (record { distance = pos 0; edge = 0; is_reached = false })) source (slot_for (pos 0) 0)
-    ∙ ap (λ (rs : List (Option Route)). set rs source (Some at_home)) (routes_of-replicate n (record { distance = pos 0; edge = 0; is_reached = false }) refl)
+-- the lists of a new table
+pub first_routes_is : (n source : ℕ) (ds : List ℤ) (es : List ℕ) → ds ≡ replicate n (pos 0) → es ≡ replicate n unreached → routes_of ds (set es source 0) ≡ first_routes n source
+first_routes_is n source ds es is_ds is_es = ap₂ (λ xs ys. routes_of xs (set ys source 0)) is_ds is_es ∙ first_set n source
+  where
+    first_set : (n source : ℕ) → routes_of (replicate n (pos 0)) (set (replicate n unreached) source 0) ≡ first_routes n source
+    first_set zero source = refl
+    first_set (suc n) zero = ap (λ (rs : List (Option Route)). Some at_home ∷ rs) (routes_of-replicate n)
+    first_set (suc n) (suc source) = ap (λ (rs : List (Option Route)). None ∷ rs) (first_set n source)
+
+-- what is read of a table's lists
+module _ (t : Routes) (source : ℕ) (ds : List ℤ) (es : List ℕ) (same : length ds ≡ length es) (is : record { source = source; to = routes_of ds es } ≡ t) where
+  pub lists_long : length t.to ≡ length es
+  lists_long = sym (ap (λ (u : Routes). length u.to) is) ∙ routes_of-length ds es same
+
+  module _ (x : ℕ) (low : x < length t.to) where
+    read_route : route_at t x ≡ route_of (get_or ds x (pos 0)) (get_or es x 0)
+    read_route = sym (ap (λ (u : Routes). route_at u x) is) ∙ routes_of-at ds es x same (omega (arith, lists_long))
+
+    pub read_reached : is_reached t x ≡ not (eqb (get_or es x 0) unreached)
+    read_reached = ap (λ (r : Option Route). is_some r) read_route ∙ by_test (eqb (get_or es x 0) unreached)
+      where
+        by_test : (b : Bool) → is_some {T = Route} (cond b None (Some (record { distance = get_or ds x (pos 0); edge = get_or es x 0 }))) ≡ not b
+        by_test true = refl
+        by_test false = refl
+
+    pub read_distance : is_reached t x ≡ true → get_or ds x (pos 0) ≡ distance_at t x
+    read_distance h = sym (ap (λ (r : Option Route). option_map_or (λ (q : Route). q.distance) r (pos 0)) read_route ∙ by_test (eqb (get_or es x 0) unreached) (sym read_reached ∙ h))
+      where
+        by_test : (b : Bool) → not b ≡ true → option_map_or (λ (q : Route). q.distance) (cond {A = Option Route} b None (Some (record { distance = get_or ds x (pos 0); edge = get_or es x 0 }))) (pos 0) ≡ get_or ds x (pos 0)
+        by_test true h = absurd (false≢true h)
+        by_test false h = refl
+
+    pub read_parent : source ≢ x → get_or es x 0 ≢ unreached → Some (get_or es x 0) ≡ parent_at t x
+    read_parent not_source ne = sym (
+        ap (λ (b : Bool). cond b None (route_edge (route_at t x))) (ne_eqb t.source x (λ (h : t.source ≡ x). not_source (ap (λ (u : Routes). u.source) is ∙ h)))
+        ∙ ap (λ (r : Option Route). route_edge r) read_route
+        ∙ ap (λ (b : Bool). route_edge (cond b None (Some (record { distance = get_or ds x (pos 0); edge = get_or es x 0 })))) (ne_eqb (get_or es x 0) unreached ne)
+        )
+
+    pub no_parent_source : source ≡ x → None ≡ parent_at t x
+    no_parent_source h = sym (ap (λ (b : Bool). cond b None (route_edge (route_at t x))) (eq-eqb t.source x (sym (ap (λ (u : Routes). u.source) is) ∙ h)))
+
+    pub no_parent_unreached : get_or es x 0 ≡ unreached → None ≡ parent_at t x
+    no_parent_unreached h = sym (
+        ap (λ (r : Option Route). cond (eqb t.source x) None (route_edge r)) (read_route ∙ ap (λ (b : Bool). cond b None (Some (record { distance = get_or ds x (pos 0); edge = get_or es x 0 }))) (eq-eqb (get_or es x 0) unreached h))
+        ∙ by_test (eqb t.source x)
+        )
+      where
+        by_test : (b : Bool) → cond b None (route_edge None) ≡ None
+        by_test true = refl
+        by_test false = refl
 
 -- one node is reached, or reached anew, and all else stays
 module _ (t : Routes) (x : ℕ) (d : ℤ) (e : ℕ) (low : x < length t.to) where

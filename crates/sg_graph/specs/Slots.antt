@@ -1,14 +1,16 @@
--- What a table's slots say: a route where the node is reached.
-use Rattle.std.specs.Prelude.{Bool, true, false, Option, None, Some, List, map}
-use Rattle.sg_graph.specs.declared.table.Slot.{Slot}
+-- What the two lists of a table say: a route to each node, but for a node that is marked as not reached.
+use Rattle.std.specs.Prelude.{ℕ, ◌==◌, ◌^◌, ℤ, pos, Bool, true, false, cond, Option, None, Some, List, [], ◌∷◌}
 use Rattle.sg_graph.specs.Table.{Route}
 
-abbrev pub route_of : Slot → Option Route
-route_of slot = by_mark slot.is_reached
-  where
-    by_mark : Bool → Option Route
-    by_mark true = Some (record { distance = slot.distance; edge = slot.edge })
-    by_mark false = None
+-- where an edge would stand, that the node is not reached: the largest number of 32 bits, which is no edge of a web
+abbrev pub unreached : ℕ
+unreached = 4294967295
 
-abbrev pub routes_of : List Slot → List (Option Route)
-routes_of slots = map route_of slots
+abbrev pub route_of : ℤ → ℕ → Option Route
+route_of distance edge = cond (edge == unreached) None (Some (record { distance = distance; edge = edge }))
+
+-- the distance and the edge at one place make the route of that node
+abbrev pub routes_of : List ℤ → List ℕ → List (Option Route)
+routes_of [] edges = []
+routes_of (d ∷ ds) [] = []
+routes_of (d ∷ ds) (e ∷ es) = route_of d e ∷ routes_of ds es

@@ -5,20 +5,17 @@ use super::NoMemory;
 use std::alloc::Global;
 use std::marker::Model;
 
+// What stands for the edge of a node that is not reached.
+const UNREACHED: u32 = u32::MAX;
+
 /// For one source, which nodes are reached from it, at which distance, and over which edge each was
-/// reached: 16 bytes a node.
+/// reached: 12 bytes a node.
 #[derive(Drop)]
 pub struct Table {
     source: u32,
-    slots: Vec<Slot>,
-}
-
-// What is noted of a node; the distance and the edge say something where it is reached.
-#[derive(Clone, Copy)]
-struct Slot {
-    distance: i64,
-    edge: u32,
-    is_reached: bool,
+    // Both have an entry for each node. The source's edge says only that it is reached.
+    distances: Vec<i64>,
+    edges: Vec<u32>,
 }
 
 impl Model for Table {
@@ -26,11 +23,12 @@ impl Model for Table {
 
     ghost Value = { Routes };
 
+    ghost use Rattle.std.specs.Prelude.{◌≡◌, length};
     ghost use Rattle.sg_graph.specs.Slots.{routes_of};
 
-    ghost view = { λ t. record { source = t.source; to = routes_of t.slots.items } };
+    ghost view = { λ t. record { source = t.source; to = routes_of t.distances.items t.edges.items } };
 
-    ghost invariant = { λ t. IsTable (record { source = t.source; to = routes_of t.slots.items }) };
+    ghost invariant = { λ t. (length t.distances.items ≡ length t.edges.items) × IsTable (record { source = t.source; to = routes_of t.distances.items t.edges.items }) };
 }
 
 impl Table {
@@ -40,31 +38,26 @@ impl Table {
         requires few { nodes ≤ 2 ^ 24 }
         ensures { IfOk result (λ t. t ≡ record { source = source; to = slice_set (replicate nodes None) source (Some at_home) }) }
     {
-        let unreached = Slot {
-            distance: 0,
-            edge: 0,
-            is_reached: false,
-        };
-        let mut slots = vec![in alloc; unreached; nodes as usize]?;
-        slots[source as usize] = Slot {
-            is_reached: true,
-            ..unreached
-        };
-        Ok(Table { source, slots })
+        let distances = vec![in alloc; 0i64; nodes as usize]?;
+        let mut edges = vec![in alloc; UNREACHED; nodes as usize]?;
+        edges[source as usize] = 0;
+        Ok(Table {
+            source,
+            distances,
+            edges,
+        })
     }
 
     /// Notes that the node is reached at this distance over this edge, in place of what was noted of
-    /// it before. It takes no memory.
+    /// it before. No web has an edge of a number beyond the limit. It takes no memory.
     pub fn set(&mut self, node: u32, distance: i64, edge: u32)
         requires node_in { node < length self.old.to }
         requires not_source { node ≢ self.old.source }
+        requires edge { edge < 2 ^ 24 }
         ensures { self.new ≡ with_route self.old node distance edge }
     {
-        self.slots[node as usize] = Slot {
-            distance,
-            edge,
-            is_reached: true,
-        };
+        self.distances[node as usize] = distance;
+        self.edges[node as usize] = edge;
     }
 
     /// The source.
@@ -81,7 +74,7 @@ impl Table {
         ensures value { result ≡ is_reached self.now node }
         ensures table { IsTable self.now }
     {
-        self.slots[node as usize].is_reached
+        self.edges[node as usize] != UNREACHED
     }
 
     /// The distance of a node that is reached.
@@ -90,7 +83,7 @@ impl Table {
         requires reached { IsTrue (is_reached self.now node) }
         ensures { result ≡ distance_at self.now node }
     {
-        self.slots[node as usize].distance
+        self.distances[node as usize]
     }
 
     /// The edge over which the node was reached: none for the source, and for nodes not reached.
@@ -98,9 +91,9 @@ impl Table {
         requires { node < length self.now.to }
         ensures { result ≡ parent_at self.now node }
     {
-        let slot = self.slots[node as usize];
-        if node != self.source && slot.is_reached {
-            Some(slot.edge)
+        let edge = self.edges[node as usize];
+        if node != self.source && edge != UNREACHED {
+            Some(edge)
         } else {
             None
         }

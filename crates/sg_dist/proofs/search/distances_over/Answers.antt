@@ -7,20 +7,20 @@ use Rattle.sg_graph.specs.Web.{edge_count}
 use Rattle.sg_graph.specs.Table.{Routes}
 use Rattle.sg_dist.specs.Search.{Searches, candidates, reached_count}
 use Rattle.sg_dist.proofs.Ends.{IsTableOf-end, Spreads-start, first_table, start_distance}
-use Rattle.sg_dist.proofs.Pops.{Searches-dropped, Spreads-popped, cast_same, popped_count, popped_distance, popped_low, popped_most, popped_not_source, popped_small, popped_source, work_falls}
-use Rattle.sg_dist.proofs.search.distances.Goals as goal
+use Rattle.sg_dist.proofs.Pops.{Searches-dropped, Spreads-popped, cast_same, popped_count, popped_distance, popped_edge, popped_low, popped_most, popped_not_source, popped_small, popped_source, work_falls}
+use Rattle.sg_dist.proofs.search.distances_over.Goals as goal
 
 pub spread-requires-clause-latest : goal.spread-requires-clause-latest
 spread-requires-clause-latest c =
     let made : ℕ → Routes = λ n. record { source = c.args.source; to = first_routes n c.args.source } in
-    let is : c.in_ok-table.table ≡ first_table c.args.web.now c.args.source c.requires = c.in_ok-table.ensures ∙ ap made c.nodes.ensures.value in
-    Spreads-start c.args.web.now c.args.source c.requires c.in_ok-table.table is (heap_items c.new-heap.result) c.new-heap.ensures.items
+    let is : c.in_ok-table.table ≡ first_table c.args.web.now c.args.source c.requires.source = c.in_ok-table.ensures ∙ ap made c.nodes.ensures.value in
+    Spreads-start c.args.web.now c.args.source c.requires.source c.in_ok-table.table is (heap_items c.new-heap.result) c.new-heap.ensures.items
 
 pub spread-requires-clause-distance : goal.spread-requires-clause-distance
 spread-requires-clause-distance c =
     let made : ℕ → Routes = λ n. record { source = c.args.source; to = first_routes n c.args.source } in
-    let is : c.in_ok-table.table ≡ first_table c.args.web.now c.args.source c.requires = c.in_ok-table.ensures ∙ ap made c.nodes.ensures.value in
-    start_distance c.args.web.now c.args.source c.requires c.in_ok-table.table is (heap_items c.new-heap.result) c.new-heap.ensures.items
+    let is : c.in_ok-table.table ≡ first_table c.args.web.now c.args.source c.requires.source = c.in_ok-table.ensures ∙ ap made c.nodes.ensures.value in
+    start_distance c.args.web.now c.args.source c.requires.source c.in_ok-table.table is (heap_items c.new-heap.result) c.new-heap.ensures.items
 
 pub loop-candidate-init : goal.loop-candidate-init
 loop-candidate-init c = record {
@@ -39,6 +39,7 @@ pub set-requires : goal.set-requires
 set-requires c = record {
   node_in = omega (arith, popped_low c.args.web.now c.loop-candidate.table (heap_items c.loop-candidate.heap) (heap_items c.pop.new.self) c.in-Some.field-0 c.nodes.ensures.web c.loop-candidate.invariant.searching c.in-Some.ensures.permutation, c.loop-candidate.invariant.searching.finds.count);
   not_source = popped_not_source c.args.web.now c.loop-candidate.table (heap_items c.loop-candidate.heap) (heap_items c.pop.new.self) c.in-Some.field-0 c.nodes.ensures.web c.loop-candidate.invariant.searching c.in-Some.ensures.permutation (sym c.reached.ensures.value ∙ c.if-not-reached.true);
+  edge = popped_edge c.args.web.now c.loop-candidate.table (heap_items c.loop-candidate.heap) (heap_items c.pop.new.self) c.in-Some.field-0 c.nodes.ensures.web c.loop-candidate.invariant.searching c.in-Some.ensures.permutation;
 }
 
 pub spread-requires-then-not-reached-clause-distance : goal.spread-requires-then-not-reached-clause-distance
@@ -47,14 +48,14 @@ spread-requires-then-not-reached-clause-distance c = popped_distance c.args.web.
 pub spread-requires-then-not-reached-clause-latest : goal.spread-requires-then-not-reached-clause-latest
 spread-requires-then-not-reached-clause-latest c = Spreads-popped c.args.web.now c.loop-candidate.table (heap_items c.loop-candidate.heap) (heap_items c.pop.new.self) c.in-Some.field-0 c.nodes.ensures.web c.loop-candidate.invariant.searching c.in-Some.ensures.permutation (sym c.reached.ensures.value ∙ c.if-not-reached.true) (c.in-Some.ensures.below_top c.loop-candidate.invariant.order) c.set.new.self (to_z w64 c.in-Some.field-0.0.distance) c.set.ensures (cast_same c.in-Some.field-0.0.distance (popped_small c.args.web.now c.loop-candidate.table (heap_items c.loop-candidate.heap) (heap_items c.pop.new.self) c.in-Some.field-0 c.nodes.ensures.web c.loop-candidate.invariant.searching c.in-Some.ensures.permutation (sym c.reached.ensures.value ∙ c.if-not-reached.true)))
 
-pub loop-candidate-smaller-in-Continue-branch-4 : goal.loop-candidate-smaller-in-Continue-branch-4
-loop-candidate-smaller-in-Continue-branch-4 c =
+pub loop-candidate-smaller-in-Continue-branch-3 : goal.loop-candidate-smaller-in-Continue-branch-3
+loop-candidate-smaller-in-Continue-branch-3 c =
     let count = popped_count c.args.web.now c.loop-candidate.table (heap_items c.loop-candidate.heap) (heap_items c.pop.new.self) c.in-Some.field-0 c.nodes.ensures.web c.loop-candidate.invariant.searching c.in-Some.ensures.permutation (sym c.reached.ensures.value ∙ c.if-not-reached.true) (c.in-Some.ensures.below_top c.loop-candidate.invariant.order) c.set.new.self (to_z w64 c.in-Some.field-0.0.distance) c.set.ensures (cast_same c.in-Some.field-0.0.distance (popped_small c.args.web.now c.loop-candidate.table (heap_items c.loop-candidate.heap) (heap_items c.pop.new.self) c.in-Some.field-0 c.nodes.ensures.web c.loop-candidate.invariant.searching c.in-Some.ensures.permutation (sym c.reached.ensures.value ∙ c.if-not-reached.true))) in
     let most = popped_most c.args.web.now c.loop-candidate.table (heap_items c.loop-candidate.heap) (heap_items c.pop.new.self) c.in-Some.field-0 c.nodes.ensures.web c.loop-candidate.invariant.searching c.in-Some.ensures.permutation (sym c.reached.ensures.value ∙ c.if-not-reached.true) (c.in-Some.ensures.below_top c.loop-candidate.invariant.order) c.set.new.self (to_z w64 c.in-Some.field-0.0.distance) c.set.ensures (cast_same c.in-Some.field-0.0.distance (popped_small c.args.web.now c.loop-candidate.table (heap_items c.loop-candidate.heap) (heap_items c.pop.new.self) c.in-Some.field-0 c.nodes.ensures.web c.loop-candidate.invariant.searching c.in-Some.ensures.permutation (sym c.reached.ensures.value ∙ c.if-not-reached.true))) in
     work_falls c.args.web.now.nodes (reached_count c.loop-candidate.table) (reached_count c.set.new.self) (edge_count c.args.web.now) (heap_len c.loop-candidate.heap) (heap_len c.pop.new.self) (heap_len c.spread-then-not-reached.new.heap) count most c.in-Some.ensures.len c.in_ok-spread-2.ensures.few
 
-pub loop-candidate-preserved-in-Continue-branch-4 : goal.loop-candidate-preserved-in-Continue-branch-4
-loop-candidate-preserved-in-Continue-branch-4 c = record {
+pub loop-candidate-preserved-in-Continue-branch-3 : goal.loop-candidate-preserved-in-Continue-branch-3
+loop-candidate-preserved-in-Continue-branch-3 c = record {
   searching = c.in_ok-spread-2.ensures.spread;
   order = c.in_ok-spread-2.ensures.order (c.in-Some.ensures.heap_order c.loop-candidate.invariant.order).0;
   source = popped_source c.args.web.now c.loop-candidate.table (heap_items c.loop-candidate.heap) (heap_items c.pop.new.self) c.in-Some.field-0 c.nodes.ensures.web c.loop-candidate.invariant.searching c.in-Some.ensures.permutation (sym c.reached.ensures.value ∙ c.if-not-reached.true) (c.in-Some.ensures.below_top c.loop-candidate.invariant.order) c.set.new.self (to_z w64 c.in-Some.field-0.0.distance) c.set.ensures (cast_same c.in-Some.field-0.0.distance (popped_small c.args.web.now c.loop-candidate.table (heap_items c.loop-candidate.heap) (heap_items c.pop.new.self) c.in-Some.field-0 c.nodes.ensures.web c.loop-candidate.invariant.searching c.in-Some.ensures.permutation (sym c.reached.ensures.value ∙ c.if-not-reached.true))) ∙ c.loop-candidate.invariant.source;

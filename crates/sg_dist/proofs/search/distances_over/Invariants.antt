@@ -3,7 +3,7 @@ use Rattle.std.specs.BinaryHeap.{IsHeap, heap_items, heap_len}
 use Rattle.sg_graph.specs.Web.{edge_count}
 use Rattle.sg_dist.specs.Order.{nearest_last}
 use Rattle.sg_dist.specs.Search.{Searches, candidates, reached_count}
-use Rattle.sg_dist.proofs.search.distances.Given as goal
+use Rattle.sg_dist.proofs.search.distances_over.Given as goal
 
 abbrev pub invariant-loop-candidate : goal.invariant-loop-candidate
 invariant-loop-candidate l = record {
