@@ -3,13 +3,15 @@ use Rattle.std.proofs.Common.{⊎_elim, ◌≡◌, ◌≢◌, ◌⊎◌, ◌↔�
 use Rattle.std.specs.Prelude.{IsTrue, unsigned_abs}
 use Rattle.std.proofs.lemmas.Int.{ints}
 use Rattle.std.proofs.lemmas.Bool.{cases_eq, cases_lt}
-use Rattle.std.proofs.lemmas.List.{get_or-replicate, get_or_append_left, get_or_past, get_or_push, length-replicate, length_push}
+use Rattle.std.proofs.lemmas.List.{get_or_append_left, get_or_push, length-replicate, length_push}
+use Rattle.sg_sums.specs.Sets.{IsMarked}
+use Rattle.sg_sums.proofs.MarkLaws.{none_marked}
 use Rattle.sg_model.specs.Ising.{Ising, bond_count}
 use Rattle.sg_model.specs.Energy.{energy}
 use Rattle.sg_model.specs.Connected.{JoinedBy, Reached}
-use Rattle.sg_walk.specs.Walk.{IsClosed, IsMarked, IsNoted, IsWalked, has}
-use Rattle.sg_walk.proofs.Paths.{reached_back, reached_on}
-use Rattle.sg_walk.proofs.Searches.{marked_along}
+use Rattle.sg_model.proofs.Paths.{reached_back, reached_on}
+use Rattle.sg_walk.specs.Walk.{IsClosed, IsNoted, IsWalked, has}
+use Rattle.sg_walk.proofs.Searches.{marked_along, none_closed}
 use Rattle.sg_bonds.specs.Cost.{AreCosts, IsCost, IsLeastWith, IsRigid}
 use Rattle.sg_bonds.specs.Cluster.{AreClusters, HasRigid, IsCluster}
 use Rattle.sg_bonds.specs.Naming.{AllNamed, IsNamed, NamedTo, ShowsRigid}
@@ -66,16 +68,10 @@ pub named_none : (inst : Ising) (set : ℕ → Bool) (names : List ℕ) → leng
 named_none inst set names count = record {
   marks_count = length-replicate inst.n false;
   names_count = count;
-  named = λ x h. absurd (unset x h);
-  closed = λ a b j h. absurd (unset a h);
+  named = λ x h. absurd (none_marked inst.n x h);
+  closed = none_closed inst set inst.n;
   done = λ x l. absurd (omega arith);
 }
-  where
-    unset : (x : ℕ) → IsMarked (replicate inst.n false) x → ⊥
-    unset x h = elim (cases_lt x inst.n) [
-      | inl l ↦ let e : false ≡ true = sym (get_or-replicate inst.n x false false l) ∙ h in cc
-      | inr past ↦ let e : false ≡ true = sym (get_or_past (replicate inst.n false) x false (omega (arith, length-replicate inst.n false))) ∙ h in cc
-    ]
 
 module _ (inst : Ising) (set : ℕ → Bool) (spin : ℕ) (old now : List Bool) (order before after : List ℕ) (was : NamedTo inst set old before spin) where
   -- a spin that has a name needs no walk

@@ -5,6 +5,7 @@ use Rattle.std.proofs.lemmas.Int.{ints, fits_signed_from_abs, to_z-of_z}
 use Rattle.std.proofs.lemmas.Bool.{cases_lt}
 use Rattle.std.proofs.lemmas.List.{get_or_append_left, get_or_push}
 use Rattle.std.proofs.lemmas.Option.{get_or_from_slice_get}
+use Rattle.sg_limits.specs.Limits.{sum_limit, forced_limit}
 use Rattle.sg_model.specs.declared.bond.Bond.{Bond}
 use Rattle.sg_model.specs.Ising.{Ising, bond_at, bond_count}
 use Rattle.sg_model.specs.WellFormed.{IsInstance}
@@ -90,7 +91,7 @@ read_bond inst same bonds k b found list instance =
     ∙ ap (λ (bs : List Bond). get_or bs k (record { u = 0; v = 0; j = pos 0 })) (sym list)
     ∙ get_or_from_slice_get bonds k b (record { u = 0; v = 0; j = pos 0 }) found
 
-module _ (inst : Ising) (good : IsInstance inst) (k : ℕ) (inside : k < bond_count inst) (small : weight inst ≤ 2 ^ 40) where
+module _ (inst : Ising) (good : IsInstance inst) (k : ℕ) (inside : k < bond_count inst) (small : weight inst ≤ sum_limit) where
   pub coupling_fits : (j : ℤ) → (bond_at inst k).j ≡ j → unsigned_abs (to_z w64 (of_z w64 j)) < 2 ^ 63
   coupling_fits j e =
       let size : unsigned_abs j ≤ weight inst = omega (arith, coupling_size inst good k inside, ap unsigned_abs e) in
@@ -112,22 +113,22 @@ module _ (inst : Ising) (good : IsInstance inst) (k : ℕ) (inside : k < bond_co
     copy_is : forced ≡ with_coupling inst k (p *ℤ pos (weight inst + 1))
     copy_is = copy ∙ ap (with_coupling inst k) new_kept
 
-    energy_bound : unsigned_abs e ≤ 2 * 2 ^ 40 + 1
-    energy_bound = omega (arith, size, ap weight copy_is, forced_sum inst k p (2 ^ 40) inside up small)
+    energy_bound : unsigned_abs e ≤ forced_limit
+    energy_bound = omega (arith, size, ap weight copy_is, forced_sum inst k p sum_limit inside up small)
 
     own_is : x ≡ p *ℤ (bond_at inst k).j
     own_is =
         let bound : unsigned_abs j ≤ weight inst = omega (arith, coupling_size inst good k inside, ap unsigned_abs coupling) in
         own ∙ ap₂ (λ a b. a *ℤ b) (kept_unit p up) (kept_small j (weight inst) bound (omega arith) ∙ sym coupling)
 
-    own_bound : unsigned_abs x ≤ 2 ^ 40
+    own_bound : unsigned_abs x ≤ sum_limit
     own_bound = omega (arith, ap unsigned_abs own_is, signed_size p (bond_at inst k).j up, coupling_size inst good k inside)
 
     energy_kept : kept e ≡ e
-    energy_kept = kept_small e (2 * 2 ^ 40 + 1) energy_bound (omega arith)
+    energy_kept = kept_small e forced_limit energy_bound (omega arith)
 
     own_kept : kept x ≡ x
-    own_kept = kept_small x (2 ^ 40) own_bound (omega arith)
+    own_kept = kept_small x sum_limit own_bound (omega arith)
 
     sum_size : (a b : ℤ) (m n : ℕ) → unsigned_abs a ≤ m → unsigned_abs b ≤ n → unsigned_abs (a +ℤ b) ≤ m + n
     sum_size a b m n l r = omega (arith, ints)
@@ -138,18 +139,18 @@ module _ (inst : Ising) (good : IsInstance inst) (k : ℕ) (inside : k < bond_co
     inner : kept e +ℤ kept f ≡ e +ℤ pos (weight inst + 1)
     inner = ap₂ (λ a b. a +ℤ b) energy_kept force_kept
 
-    inner_bound : unsigned_abs (e +ℤ pos (weight inst + 1)) ≤ (2 * 2 ^ 40 + 1) + (2 ^ 40 + 1)
-    inner_bound = sum_size e (pos (weight inst + 1)) (2 * 2 ^ 40 + 1) (2 ^ 40 + 1) energy_bound (omega arith)
+    inner_bound : unsigned_abs (e +ℤ pos (weight inst + 1)) ≤ forced_limit + (sum_limit + 1)
+    inner_bound = sum_size e (pos (weight inst + 1)) forced_limit (sum_limit + 1) energy_bound (omega arith)
 
     inner_kept : kept (kept e +ℤ kept f) ≡ e +ℤ pos (weight inst + 1)
-    inner_kept = ap kept inner ∙ kept_small (e +ℤ pos (weight inst + 1)) ((2 * 2 ^ 40 + 1) + (2 ^ 40 + 1)) inner_bound (omega arith)
+    inner_kept = ap kept inner ∙ kept_small (e +ℤ pos (weight inst + 1)) (forced_limit + (sum_limit + 1)) inner_bound (omega arith)
 
     outer : kept (kept e +ℤ kept f) -ℤ kept x ≡ (e +ℤ pos (weight inst + 1)) -ℤ (p *ℤ (bond_at inst k).j)
     outer = ap₂ (λ a b. a -ℤ b) inner_kept (own_kept ∙ own_is)
 
-    outer_bound : unsigned_abs (kept (kept e +ℤ kept f) -ℤ kept x) ≤ ((2 * 2 ^ 40 + 1) + (2 ^ 40 + 1)) + 2 ^ 40
+    outer_bound : unsigned_abs (kept (kept e +ℤ kept f) -ℤ kept x) ≤ (forced_limit + (sum_limit + 1)) + sum_limit
     outer_bound =
-        gap_size (kept (kept e +ℤ kept f)) (kept x) ((2 * 2 ^ 40 + 1) + (2 ^ 40 + 1)) (2 ^ 40)
+        gap_size (kept (kept e +ℤ kept f)) (kept x) (forced_limit + (sum_limit + 1)) sum_limit
         (omega (arith, ap unsigned_abs inner_kept, inner_bound)) (omega (arith, ap unsigned_abs own_kept, own_bound))
 
     pub gap_fits : FitsSigned w64 (to_z w64 (of_z w64 (to_z w64 (of_z w64 e) +ℤ to_z w64 (of_z w64 f))) -ℤ to_z w64 (of_z w64 x))
@@ -161,7 +162,7 @@ module _ (inst : Ising) (good : IsInstance inst) (k : ℕ) (inside : k < bond_co
         (forced_minimum inst good k inside p up (weight inst + 1) (omega arith) e
         (subst (λ i. IsLeastEnergy i e) copy_is (least_of_ground_state forced s e ground value)))
 
-module _ (inst : Ising) (good : IsInstance inst) (k : ℕ) (small : weight inst ≤ 2 ^ 40)
+module _ (inst : Ising) (good : IsInstance inst) (k : ℕ) (small : weight inst ≤ sum_limit)
     (s : List ℤ) (q e l : ℤ) (ground : IsGroundState inst s) (up : IsUpOrDown q) (own : product s (bond_at inst k) ≡ neg_ℤ q)
     (other : IsLeastWith inst k (kept q) e) (value : l ≡ energy inst s) where
   other_bound : unsigned_abs e ≤ weight inst

@@ -1,8 +1,9 @@
 -- How the clusters are found: the rigid bonds as a set, and the names that the walks give.
 use Rattle.std.specs.Prelude.{◌≡◌, ◌↔◌, ℕ, ◌<◌, ◌≤◌, ℤ, pos, ◌<ℤ◌, Bool, true, List, length, slice_index, slice_index_or}
+use Rattle.sg_sums.specs.Sets.{IsMarked}
 use Rattle.sg_model.specs.Ising.{Ising}
 use Rattle.sg_model.specs.Connected.{Reached}
-use Rattle.sg_walk.specs.Walk.{IsClosed, IsMarked, has}
+use Rattle.sg_walk.specs.Walk.{IsClosed, has}
 
 -- of the costs before `stop`, the set holds `true` at those above 0
 pub record ShowsRigid (costs : List ℤ) (set : List Bool) (stop : ℕ) : Type 0 where

@@ -1,4 +1,5 @@
-ghost use Rattle.std.specs.Prelude.{◌≡◌, ◌↔◌, ◌+◌, ◌<◌, ◌≤◌, ◌^◌, ◌*ℤ◌, ◌<ℤ◌, ◌≤ℤ◌, neg_ℤ, pos, length, IfOk, IsTrue, unsigned_abs};
+ghost use Rattle.std.specs.Prelude.{◌≡◌, ◌↔◌, ◌+◌, ◌<◌, ◌≤◌, ◌^◌, ◌*ℤ◌, ◌<ℤ◌, neg_ℤ, pos, length, IfOk, IsTrue, unsigned_abs};
+ghost use Rattle.sg_limits.specs.Limits.{sum_limit};
 ghost use Rattle.sg_model.specs.Ising.{IsBond, bond_count};
 ghost use Rattle.sg_model.specs.Spins.{IsUpOrDown};
 ghost use Rattle.sg_model.specs.Energy.{IsGroundState, energy, product, weight};
@@ -7,7 +8,7 @@ ghost use Rattle.sg_bonds.specs.Cost.{AreCosts, IsCost, IsLeastWith};
 use super::{CostList, NoMemory};
 use sg_ground::{Answer, solve};
 use sg_model::{Bond, Spins};
-use sg_planar::{Planar, SUM_LIMIT};
+use sg_planar::Planar;
 use std::alloc::Global;
 
 /// The cost of each bond, in the time of one ground state of at most 16 spins for each bond and one
@@ -18,7 +19,7 @@ use std::alloc::Global;
 /// least energy with that product.
 pub fn costs(alloc: Global, planar: &Planar) -> Result<CostList, NoMemory>
     requires few { planar.now.instance.n ≤ 16 }
-    requires sum { pos (weight planar.now.instance) ≤ℤ SUM_LIMIT }
+    requires sum { weight planar.now.instance ≤ sum_limit }
     ensures { IfOk result (AreCosts planar.now.instance) }
 {
     let least = solve(alloc, planar)?;
@@ -40,7 +41,7 @@ pub fn rigid(cost: i64) -> bool
 // there lies above the least energy.
 fn cost(alloc: Global, planar: &Planar, least: &Answer, bond: u32) -> Result<i64, NoMemory>
     requires few { planar.now.instance.n ≤ 16 }
-    requires sum { pos (weight planar.now.instance) ≤ℤ SUM_LIMIT }
+    requires sum { weight planar.now.instance ≤ sum_limit }
     requires bond_in { bond < bond_count planar.now.instance }
     requires ground_state { IsGroundState planar.now.instance least.now.spins }
     requires energy { least.now.energy ≡ energy planar.now.instance least.now.spins }
@@ -67,7 +68,7 @@ fn other_product(spins: &Spins, bond: &Bond) -> i64
 // The least energy among the assignments with this product at the bond.
 fn least_with(alloc: Global, planar: &Planar, bond: u32, product: i64) -> Result<i64, NoMemory>
     requires few { planar.now.instance.n ≤ 16 }
-    requires sum { pos (weight planar.now.instance) ≤ℤ SUM_LIMIT }
+    requires sum { weight planar.now.instance ≤ sum_limit }
     requires bond_in { bond < bond_count planar.now.instance }
     requires up_or_down { IsUpOrDown product }
     ensures { IfOk result (IsLeastWith planar.now.instance bond product) }
@@ -81,7 +82,7 @@ fn least_with(alloc: Global, planar: &Planar, bond: u32, product: i64) -> Result
 
 // One more than the sum of all sizes.
 fn force(planar: &Planar) -> i64
-    requires { pos (weight planar.now.instance) ≤ℤ SUM_LIMIT }
+    requires { weight planar.now.instance ≤ sum_limit }
     ensures { result ≡ pos (weight planar.now.instance + 1) }
 {
     planar.instance().weight() as i64 + 1

@@ -1,4 +1,5 @@
-ghost use Rattle.std.specs.Prelude.{◌≡◌, ◌≢◌, ◌+◌, ◌<◌, ◌≤◌, ◌≤ℤ◌, ℕ, pos, length, slice_index, All, IfOk, OnOk};
+ghost use Rattle.std.specs.Prelude.{◌≡◌, ◌≢◌, ◌+◌, ◌<◌, ◌≤◌, ℕ, length, slice_index, All, IfOk, OnOk};
+ghost use Rattle.sg_limits.specs.Limits.{sum_limit};
 ghost use Rattle.sg_model.specs.Ising.{bond_count};
 ghost use Rattle.sg_model.specs.Energy.{weight};
 ghost use Rattle.sg_walk.specs.Walk.{has};
@@ -8,7 +9,7 @@ ghost use Rattle.sg_bonds.specs.Naming.{AllNamed, NamedTo, ShowsRigid};
 use super::NoMemory;
 use super::breaking::{costs, rigid};
 use sg_model::{ClusterList, Instance};
-use sg_planar::{Planar, SUM_LIMIT};
+use sg_planar::Planar;
 use sg_walk::walk;
 use std::alloc::Global;
 
@@ -17,7 +18,7 @@ use std::alloc::Global;
 /// want of memory.
 pub fn clusters(alloc: Global, planar: &Planar) -> Result<ClusterList, NoMemory>
     requires few { planar.now.instance.n ≤ 16 }
-    requires sum { pos (weight planar.now.instance) ≤ℤ SUM_LIMIT }
+    requires sum { weight planar.now.instance ≤ sum_limit }
     ensures { IfOk result (AreClusters planar.now.instance) }
 {
     let costs = costs(alloc, planar)?;

@@ -17,7 +17,7 @@ use Rattle.sg_graph.specs.Web.{Graph, IsWeb, IsEdge, edge_at, edge_count, weight
 use Rattle.sg_graph.specs.Walk.{Leads}
 use Rattle.sg_sums.proofs.SumLaws.{sum_by_is_sum_below}
 use Rattle.sg_dual.specs.Dual.{face_of, dual_edge, dual_web}
-use Rattle.sg_dual.proofs.Ranges.{sum_by-map_range}
+use Rattle.sg_sums.proofs.Ranges.{sum_by-map_range}
 
 size_positive : (n : ℕ) → pos 0 ≤ℤ pos n
 size_positive n = omega (arith, ints)

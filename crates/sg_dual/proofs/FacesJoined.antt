@@ -8,14 +8,14 @@ use Rattle.sg_model.specs.Connected.{JoinedBy, IsWalk, all_bonds}
 use Rattle.sg_model.specs.Connected.{IsConnected as IsConnectedInstance}
 use Rattle.sg_model.proofs.Darts.{tail_first, tail_second, rev_first, rev_second}
 use Rattle.sg_faces.specs.Faces.{Labelling, IsFaceLabels}
-use Rattle.sg_faces.proofs.DartPairs.{dart_cases, rev_rev, rev_below}
-use Rattle.sg_faces.proofs.CyclicLists.{following_inner}
-use Rattle.sg_faces.proofs.Rotations.{spin_distinct, in_list, tail_below, place_at, next_is, next_in_list}
+use Rattle.sg_model.proofs.DartPairs.{dart_cases, rev_rev, rev_below}
+use Rattle.sg_model.proofs.CyclicLists.{following_inner}
+use Rattle.sg_model.proofs.Rotations.{spin_distinct, in_list, tail_below, place_at, next_is, next_in_list}
 use Rattle.sg_graph.specs.Walk.{IsReached, IsConnected}
 use Rattle.sg_graph.proofs.Walks.{walk-append, walk-back, walk-one}
 use Rattle.sg_dual.specs.Dual.{face_of, dual_web}
 use Rattle.sg_dual.proofs.DualWebs.{dual_leads, one_face_alone}
-use Rattle.sg_dual.proofs.IsingWalks.{reached_across}
+use Rattle.sg_model.proofs.Paths.{reached_across}
 
 -- where a bond joins two spins, a dart leaves the first and its reverse the second
 dart_of_step : (inst : Ising) (a b : ℕ) → JoinedBy inst all_bonds a b → (d : ℕ) × (d < dart_count inst) × (tail inst d ≡ a) × (tail inst (rev d) ≡ b)

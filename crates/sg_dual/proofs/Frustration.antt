@@ -9,32 +9,11 @@ use Rattle.sg_faces.specs.Faces.{Labelling, IsFaceLabels}
 use Rattle.sg_graph.specs.Join.{AreTerminals}
 use Rattle.sg_sums.specs.Parity.{odd, parity_by, parity_below}
 use Rattle.sg_sums.specs.Sets.{chosen_below, is_marked}
-use Rattle.sg_sums.proofs.ParityLaws.{odd_is, odd-count_by, parity_below-same, parity_exchange, parity_below_pick}
-use Rattle.sg_sums.proofs.Choosing.{chosen_below_more}
+use Rattle.sg_sums.proofs.ParityLaws.{even_mod, odd_test, odd-count_by, parity_below-same, parity_exchange, parity_below_pick}
+use Rattle.sg_sums.proofs.Choosing.{chosen_below_same}
+use Rattle.sg_sums.proofs.Ranges.{parity_by_range, parity_below_pairs}
 use Rattle.sg_sums.proofs.RisingLists.{chosen_below_low, chosen_below_rises}
 use Rattle.sg_dual.specs.Dual.{face_of, dual_web, is_negative_bond, negative_sides, is_frustrated, frustrated_faces}
-use Rattle.sg_dual.proofs.Ranges.{parity_by_range, parity_below_pairs}
-
--- an odd number as a test of its remainder
-pub odd_test : (n : ℕ) → eqb (n % 2) 1 ≡ odd n
-odd_test n = by_parity (odd n) (odd_is n)
-  where
-    by_parity : (b : Bool) → n % 2 ≡ cond b 1 0 → eqb (n % 2) 1 ≡ b
-    by_parity true e = eq-eqb (n % 2) 1 e
-    by_parity false e = ne_eqb (n % 2) 1 (λ (f : n % 2 ≡ 1). omega arith)
-
--- a number without remainder
-even_mod : (n : ℕ) → odd n ≡ false → n % 2 ≡ 0
-even_mod n h = odd_is n ∙ ap (λ b. cond {A = ℕ} b 1 0) h
-
--- two tests that agree below n choose the same numbers
-chosen_below_same : (p q : ℕ → Bool) (n : ℕ) → ((k : ℕ) → k < n → p k ≡ q k) → chosen_below p n ≡ chosen_below q n
-chosen_below_same p q zero h = refl
-chosen_below_same p q (suc n) h =
-    let e : suc n ≡ n + 1 = omega arith in
-    ap (chosen_below p) e ∙ chosen_below_more p n
-    ∙ ap₂ (λ (xs : List ℕ) (b : Bool). xs ++ cond b (n ∷ []) []) (chosen_below_same p q n (λ k l. h k (omega arith))) (h n (omega arith))
-    ∙ sym (ap (chosen_below q) e ∙ chosen_below_more q n)
 
 module _ (inst : Ising) (faces : Labelling) where
   -- whether the bond of dart d is negative

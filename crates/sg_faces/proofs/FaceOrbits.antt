@@ -5,7 +5,7 @@ use Rattle.sg_model.specs.Rotation.{dart_count}
 use Rattle.sg_model.specs.WellFormed.{IsInstance}
 use Rattle.sg_faces.specs.Faces.{phi, steps, SameFace, is_least}
 use Rattle.sg_faces.proofs.Cycles.{cycle, short_way, least_means, orbit_symmetric, orbit_transitive, steps_below}
-use Rattle.sg_faces.proofs.Rotations.{phi_one_to_one}
+use Rattle.sg_faces.proofs.PhiPermutes.{phi_one_to_one}
 
 module _ (inst : Ising) (good : IsInstance inst) where
   -- steps along a face lead to darts

@@ -1,6 +1,4 @@
-pub mod DartPairs
-pub mod CyclicLists
-pub mod Rotations
+pub mod PhiPermutes
 pub mod Cycles
 pub mod FaceOrbits
 pub mod OrbitWalks

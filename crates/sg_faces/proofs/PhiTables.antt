@@ -9,9 +9,9 @@ use Rattle.sg_model.specs.Seam.{IsDistinct}
 use Rattle.sg_model.specs.WellFormed.{IsInstance}
 use Rattle.sg_faces.specs.Faces.{phi}
 use Rattle.sg_faces.specs.Tables.{HasPhi, IsPhiTable}
-use Rattle.sg_faces.proofs.DartPairs.{rev_apart, rev_below, rev_rev}
-use Rattle.sg_faces.proofs.CyclicLists.{same_place, following_inner, following_last}
-use Rattle.sg_faces.proofs.Rotations.{in_list, place_at, next_is, tail_below}
+use Rattle.sg_model.proofs.DartPairs.{rev_apart, rev_below, rev_rev}
+use Rattle.sg_model.proofs.CyclicLists.{same_place, following_inner, following_last}
+use Rattle.sg_model.proofs.Rotations.{in_list, place_at, next_is, tail_below}
 
 -- the place of the entry that follows the one at i
 pub record IsAfter (n i after : ℕ) : Type 0 where

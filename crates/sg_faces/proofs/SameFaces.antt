@@ -10,7 +10,7 @@ use Rattle.sg_model.proofs.SameEnds.{tail_same}
 use Rattle.sg_faces.specs.Orbits.{is_least_in, orbits_before, SameOrbit}
 use Rattle.sg_faces.specs.Faces.{phi, is_least, faces_before, face_count, Labelling, SameFace, IsFaceLabels}
 use Rattle.sg_faces.specs.Euler.{euler}
-use Rattle.sg_faces.proofs.Rotations.{phi_one_to_one}
+use Rattle.sg_faces.proofs.PhiPermutes.{phi_one_to_one}
 use Rattle.sg_faces.proofs.Traced.{after_steps_same, is_least_same, orbits_before_same}
 
 module _ (inst : Ising) (bonds : List Bond) (same : HasSameEnds inst bonds) where

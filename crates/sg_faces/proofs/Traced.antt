@@ -10,7 +10,7 @@ use Rattle.sg_model.specs.WellFormed.{IsInstance}
 use Rattle.sg_faces.specs.Orbits.{after_steps, SameOrbit, is_least_in, orbits_before, IsOneToOne}
 use Rattle.sg_faces.specs.Faces.{phi, is_least, faces_before, Labelling, SameFace, IsFaceLabels}
 use Rattle.sg_faces.specs.Tables.{entry, IsMove, is_least_of, least_before, IsOrbitLabels, IsPhiTable}
-use Rattle.sg_faces.proofs.Rotations.{phi_one_to_one}
+use Rattle.sg_faces.proofs.PhiPermutes.{phi_one_to_one}
 
 list_all_same : (p q : ℕ → Bool) → ((x : ℕ) → p x ≡ q x) → (xs : List ℕ) → list_all p xs ≡ list_all q xs
 list_all_same p q h [] = refl

@@ -2,7 +2,7 @@
 use Rattle.std.proofs.Common.{◌≡◌, ◌≢◌, ℕ, ◌+◌, ◌*◌, ◌/◌, ◌%◌, ◌<◌, true, false, eqb, ltb, refl, sym, ◌∙◌, ap, arith}
 use Rattle.std.proofs.lemmas.Bool.{eq-eqb, ne_eqb, eqb-true, ltb-true, lt-ltb, and_parts, and_from, and_right}
 use Rattle.sg_model.specs.Ising.{Ising, bond_at}
-use Rattle.sg_model.specs.Rotation.{dart_count, is_dart_of, rev, tail}
+use Rattle.sg_model.specs.Rotation.{dart_count, is_dart_of, rev, tail, head_of}
 
 module _ (inst : Ising) where
   pub tail_even : (d : ℕ) → d % 2 ≡ 0 → tail inst d ≡ (bond_at inst (d / 2)).u
@@ -44,3 +44,15 @@ rev_first k = let even : 2 * k % 2 ≡ 0 = omega arith in rw even refl
 pub rev_second : (k : ℕ) → rev (2 * k + 1) ≡ 2 * k
 unfolding rev
 rev_second k = let odd : (2 * k + 1) % 2 ≡ 1 = omega arith in rw odd (omega arith)
+
+module _ (inst : Ising) where
+  -- the spin that a dart leads to is the other end of its bond
+  pub head_even : (d : ℕ) → d % 2 ≡ 0 → head_of inst d ≡ (bond_at inst (d / 2)).v
+  head_even d even =
+      let e : d ≡ 2 * (d / 2) = omega arith in
+      ap (head_of inst) e ∙ ap (tail inst) (rev_first (d / 2)) ∙ tail_second inst (d / 2)
+
+  pub head_odd : (d : ℕ) → d % 2 ≢ 0 → head_of inst d ≡ (bond_at inst (d / 2)).u
+  head_odd d odd =
+      let e : d ≡ 2 * (d / 2) + 1 = omega arith in
+      ap (head_of inst) e ∙ ap (tail inst) (rev_second (d / 2)) ∙ tail_first inst (d / 2)

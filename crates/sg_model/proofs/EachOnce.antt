@@ -5,7 +5,8 @@ use Rattle.std.proofs.lemmas.List.{take_all, get_or_read}
 use Rattle.std.proofs.lemmas.List.Folds.{list_any_more, Any-from_list_any}
 use Rattle.std.proofs.lemmas.List.Sums.{get_or-le-sum_by, sum_by-cons, sum_by_more, sum_by_more_le}
 use Rattle.std.proofs.lemmas.Bool.{or_parts, not-false, eq-eqb, eqb-true}
-use Rattle.sg_model.specs.Misplaced.{holds, IsInPlace, IsFirstMisplaced}
+use Rattle.sg_sums.specs.Sets.{holds}
+use Rattle.sg_model.specs.Misplaced.{IsInPlace, IsFirstMisplaced}
 
 -- a number that a list holds has a place there
 pub place_held : (xs : List ℕ) (d : ℕ) → holds xs d ≡ true → (k : ℕ) × (k < length xs) × (get_or xs k 0 ≡ d)

@@ -3,6 +3,10 @@ pub mod Opposites
 pub mod BrokenEnergy
 pub mod PlainSearch
 pub mod Darts
+pub mod DartPairs
+pub mod CyclicLists
+pub mod Rotations
+pub mod Paths
 pub mod EachOnce
 pub mod RotationFaults
 pub mod SameEnds

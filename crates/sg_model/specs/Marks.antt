@@ -1,12 +1,9 @@
 -- Marks on numbers: how the tests of an instance note which entries they have passed.
-use Rattle.std.specs.Prelude.{◌≡◌, ℕ, ◌<◌, Bool, true, false, List, slice_index_or}
+use Rattle.std.specs.Prelude.{◌≡◌, ℕ, ◌<◌, Bool, true, false, List}
+use Rattle.sg_sums.specs.Sets.{holds, is_marked}
 use Rattle.sg_model.specs.Ising.{Ising}
 use Rattle.sg_model.specs.Rotation.{darts_of, is_dart_of}
-use Rattle.sg_model.specs.Misplaced.{holds, IsInPlace}
-
--- whether x is marked
-abbrev pub is_marked : List Bool → ℕ → Bool
-is_marked marked x = slice_index_or marked x false
+use Rattle.sg_model.specs.Misplaced.{IsInPlace}
 
 -- the marked ones among the allowed numbers are those of the list
 abbrev pub MarksList : (ℕ → Bool) → List Bool → List ℕ → Type 0

@@ -1,10 +1,6 @@
 -- Lists of numbers that may hold only some numbers, and each of them once.
-use Rattle.std.specs.Prelude.{◌≡◌, ℕ, ◌<◌, ◌==◌, ◌||◌, Bool, true, false, not, List, length, take, slice_index}
-use Rattle.std.specs.List.{list_any}
-
--- whether x stands in the list
-abbrev pub holds : List ℕ → ℕ → Bool
-holds xs x = list_any (λ y. y == x) xs
+use Rattle.std.specs.Prelude.{◌≡◌, ℕ, ◌<◌, ◌||◌, Bool, true, false, not, List, length, take, slice_index}
+use Rattle.sg_sums.specs.Sets.{holds}
 
 -- whether the entry at place j is none of the allowed numbers, or stands earlier too
 abbrev pub is_misplaced : (ℕ → Bool) → List ℕ → ℕ → Bool

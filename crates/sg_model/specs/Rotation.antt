@@ -15,6 +15,10 @@ rev d = if d % 2 == 0 then d + 1 else (d - 1)
 unfoldable pub tail : Ising → ℕ → ℕ
 tail inst d = if d % 2 == 0 then (bond_at inst (d / 2)).u else (bond_at inst (d / 2)).v
 
+-- the spin that dart d leads to
+abbrev pub head_of : Ising → ℕ → ℕ
+head_of inst d = tail inst (rev d)
+
 -- whether d is a dart that leaves spin i
 abbrev pub is_dart_of : Ising → ℕ → ℕ → Bool
 is_dart_of inst i d = nat_lt d (dart_count inst) && (tail inst d == i)

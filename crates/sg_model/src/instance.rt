@@ -2,8 +2,7 @@ ghost use Rattle.std.specs.Prelude.{◌≡◌, ◌≤◌, ◌<◌, ◌*◌, ◌^
 ghost use Rattle.sg_model.specs.Ising.{IsBond, bond_count};
 ghost use Rattle.sg_model.specs.WellFormed.{IsInstance};
 ghost use Rattle.sg_model.specs.Faults.{IsFaultOf};
-ghost use Rattle.sg_model.specs.Misplaced.{holds};
-ghost use Rattle.sg_model.specs.Marks.{is_marked};
+ghost use Rattle.sg_sums.specs.Sets.{holds, is_marked};
 ghost use Rattle.sg_model.specs.Changes.{HasSameEnds, opposite, recoupled, with_bonds, with_coupling, with_seam, with_seam_flipped};
 ghost use Rattle.sg_model.specs.Energy.{energy, product, weight as weight_of};
 

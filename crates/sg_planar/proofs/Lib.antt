@@ -1,3 +1,2 @@
-pub mod Walks
-pub mod Searches
 pub mod OtherCouplings
+pub mod WalkFromFirst

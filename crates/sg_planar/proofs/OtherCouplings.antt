@@ -11,13 +11,14 @@ use Rattle.sg_sums.proofs.SumLaws.{sum_by_is_sum_below, sum_below-same}
 use Rattle.sg_model.specs.declared.bond.Bond.{Bond}
 use Rattle.sg_model.specs.Ising.{Ising, bond_at, bond_count}
 use Rattle.sg_model.specs.Energy.{weight}
-use Rattle.sg_model.specs.Misplaced.{holds}
+use Rattle.sg_sums.specs.Sets.{holds}
 use Rattle.sg_model.specs.Connected.{JoinedBy, IsWalk, Reached, IsConnected, all_bonds}
 use Rattle.sg_model.specs.Changes.{HasSameEnds, flipped_at, opposite, recoupled, with_bonds, with_coupling, with_seam_flipped}
 use Rattle.sg_model.proofs.SameEnds.{recoupled_instance}
 use Rattle.sg_model.proofs.Recoupled.{flipped_ends, coupling_ends}
 use Rattle.sg_faces.proofs.SameFaces.{euler_same, faces_same}
-use Rattle.sg_planar.specs.Fit.{Embedding, IsPlanar, forced_limit}
+use Rattle.sg_limits.specs.Limits.{forced_limit}
+use Rattle.sg_planar.specs.Fit.{Embedding, IsPlanar}
 
 abbrev no_bond : Bond
 no_bond = record { u = 0; v = 0; j = pos 0 }

@@ -1,5 +1,5 @@
 -- Fit for the planar method: a sum within the limit, connected, and of genus zero by Euler's formula.
-use Rattle.std.specs.Prelude.{ℕ, ◌≡◌, ◌≢◌, ◌+◌, ◌^◌, ◌≤◌, pos, ◌≤ℤ◌, ◌<ℤ◌}
+use Rattle.std.specs.Prelude.{◌≡◌, ◌≢◌, ◌<◌, ◌≤◌, pos}
 use Rattle.sg_model.specs.declared.refusal.Fault.{Fault}
 use Rattle.sg_model.specs.declared.refusal.Fault.TheVariants.{Refused, NoMemory}
 use Rattle.sg_model.specs.declared.refusal.Refusal.{Refusal}
@@ -10,19 +10,19 @@ use Rattle.sg_model.specs.Energy.{weight}
 use Rattle.sg_model.specs.Connected.{IsConnected, IsLeastUnreached}
 use Rattle.sg_faces.specs.Faces.{Labelling, IsFaceLabels}
 use Rattle.sg_faces.specs.Euler.{euler}
-use Rattle.sg_planar.specs.declared.fitness.TheConstants.{SUM_LIMIT}
+use Rattle.sg_limits.specs.Limits.{sum_limit, forced_limit}
 
 -- the three facts that every planar solver asks for
 pub record IsFit (inst : Ising) : Type 0 where
-  pub small : pos (weight inst) ≤ℤ SUM_LIMIT
+  pub small : weight inst ≤ sum_limit
   pub connected : IsConnected inst
   pub genus_zero : euler inst ≡ pos 2
 
 -- the first of the three facts that fails, with the number that shows it
 abbrev pub IsUnfit : Ising → Refusal → Type 0
-IsUnfit inst (SumTooLarge sum) = (SUM_LIMIT <ℤ pos (weight inst)) × (sum ≡ pos (weight inst))
-IsUnfit inst (NotConnected spin) = (pos (weight inst) ≤ℤ SUM_LIMIT) × IsLeastUnreached inst spin
-IsUnfit inst (NotPlanar e) = (pos (weight inst) ≤ℤ SUM_LIMIT) × IsConnected inst × (e ≡ euler inst) × (e ≢ pos 2)
+IsUnfit inst (SumTooLarge sum) = (sum_limit < weight inst) × (sum ≡ pos (weight inst))
+IsUnfit inst (NotConnected spin) = (weight inst ≤ sum_limit) × IsLeastUnreached inst spin
+IsUnfit inst (NotPlanar e) = (weight inst ≤ sum_limit) × IsConnected inst × (e ≡ euler inst) × (e ≢ pos 2)
 IsUnfit inst _ = ⊥
 
 -- the fact that fails, or want of memory, which may come at any time
@@ -34,10 +34,6 @@ IsUnfitFault inst NoMemory = Unit {0}
 pub record Embedding : Type 0 where
   pub instance : Ising
   pub faces : Labelling
-
--- the largest sum that a planar instance may have: that of an instance at the limit in which one bond is forced
-abbrev pub forced_limit : ℕ
-forced_limit = 2 ^ 41 + 1
 
 -- what every planar instance keeps
 pub record IsPlanar (p : Embedding) : Type 0 where

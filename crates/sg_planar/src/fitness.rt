@@ -5,11 +5,9 @@ ghost use Rattle.sg_planar.specs.Fit.{IsFit, IsUnfitFault};
 
 use super::connected::least_unreached;
 use sg_faces::{Faces, trace};
+use sg_limits::SUM_LIMIT;
 use sg_model::{Fault, Instance, Refusal};
 use std::alloc::Global;
-
-/// The largest sum of the couplings' sizes that an instance may have.
-pub const SUM_LIMIT: i128 = 1 << 40;
 
 // Spins minus bonds plus faces.
 fn euler_number(inst: &Instance, faces: &Faces) -> i64

@@ -13,7 +13,6 @@ mod connected;
 mod fitness;
 mod planar;
 
-pub use fitness::SUM_LIMIT;
 pub use planar::{NotFit, Planar};
 use std::alloc::AllocError;
 

@@ -1,8 +1,9 @@
-ghost use Rattle.std.specs.Prelude.{◌≡◌, ◌<◌, ◌≤◌, ◌+◌, ◌^◌, unsigned_abs, IfOk, IfErr};
+ghost use Rattle.std.specs.Prelude.{◌≡◌, ◌<◌, ◌≤◌, IfOk, IfErr};
+ghost use Rattle.sg_limits.specs.Limits.{forced_limit};
 ghost use Rattle.sg_model.specs.Ising.{bond_count};
 ghost use Rattle.sg_model.specs.Energy.{weight};
 ghost use Rattle.sg_model.specs.Changes.{with_coupling, with_seam_flipped};
-ghost use Rattle.sg_planar.specs.Fit.{IsFit, IsPlanar, IsUnfitFault, forced_limit};
+ghost use Rattle.sg_planar.specs.Fit.{IsFit, IsPlanar, IsUnfitFault};
 
 use super::NoMemory;
 use super::fitness::judge;
@@ -12,7 +13,7 @@ use std::alloc::Global;
 use std::marker::Model;
 
 /// An instance that is connected and drawn on a sphere, with its faces. The sum of the couplings'
-/// sizes is at most 2^41 + 1.
+/// sizes is at most 2^45 + 1.
 #[derive(Drop)]
 pub struct Planar {
     instance: Instance,
@@ -84,7 +85,7 @@ impl Planar {
     }
 
     /// A copy in which one bond has the coupling `j`. The faces stay. The sum of the couplings' sizes
-    /// may pass `SUM_LIMIT`, up to 2^41 + 1.
+    /// may pass `SUM_LIMIT`, up to 2^45 + 1.
     pub fn with_coupling(&self, bond: u32, j: i64) -> Result<Planar, NoMemory>
         requires bond_in { bond < bond_count self.now.instance }
         requires sum { weight (with_coupling self.now.instance bond j) ≤ forced_limit }

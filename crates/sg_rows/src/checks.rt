@@ -35,7 +35,7 @@ fn proofs_that_hold(rt: HostRuntime) -> Result<(), Fail> {
         "square,2,2\n0,0,0,0\nend\nenergy,0\nspins,1,-1,1,1\nend\n",
         "# the embedding is not planar\ngeneral,2\nbond,0,1,3\nbond,0,1,-2\nbond,0,1,1\nrot,0,0,2,4\nrot,1,1,3,5\nend\nenergy,-2\nspins,1,1\nloop,4,0,1\nend\n",
         "# not connected\ngeneral,2\nend\nenergy,0\nspins,1,-1\nend\n",
-        "# a sum above the limit of the solver\nsquare,1,2\n1099511627777\nend\nenergy,-1099511627777\nspins,-1,-1\nend\n",
+        "# a sum above the limit of the solver\nsquare,1,2\n17592186044417\nend\nenergy,-17592186044417\nspins,-1,-1\nend\n",
         "square,1,2\n9223372036854775807\nend\nenergy,-9223372036854775807\nspins,1,1\nend\n",
         "square,2,2\n3,4\n2,-5\nend\n\n# by hand\n energy , -010,\n\tspins,+1,1,-01,-1,,\nloop,4,0,1,2,3\n# the end\nend,\n# behind it\n",
     ];

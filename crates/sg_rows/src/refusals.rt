@@ -17,8 +17,8 @@ fn expect_refusal<R: Abort>(rt: &R, alloc: Global, input: &[u8], line: &str) -> 
 fn lattices_that_are_refused(rt: HostRuntime) -> Result<(), Fail> {
     let rows = [
         (
-            "square,1,2\n1099511627777\nend\n",
-            "refused,13,1099511627777\n",
+            "square,1,2\n17592186044417\nend\n",
+            "refused,13,17592186044417\n",
         ),
         ("square,2,2\n3,4,2\nend\n", "refused,6,3,4\n"),
         ("square,2,2\n3,4,2\n", "refused,2\n"),
@@ -93,13 +93,13 @@ fn of_two_faults_the_first_is_named(rt: HostRuntime) -> Result<(), Fail> {
         ("square,1,2\n1\nseam,x\nseam\nend", "refused,3,2,1\n"),
         ("square,1,2\nseam,9\n1,2\nend\n", "refused,6,2,1\n"),
         ("square,1,2\n1\nseam,9\nend\nmore\n", "refused,11,9\n"),
-        ("square,1,2\n1099511627777\nend\nmore\n", "refused,12,3\n"),
+        ("square,1,2\n17592186044417\nend\nmore\n", "refused,12,3\n"),
         ("square,1,2\n1,2\nend,1\n", "refused,5,2\n"),
         ("general,2\nbond,0,0,1\nbond,0,9,1\nend\n", "refused,9,0\n"),
         ("general,2\nbond,0,1,1\nseam,7\nend\n", "refused,10,0,0\n"),
         (
-            "general,3\nbond,0,1,1099511627777\nrot,0,0\nrot,1,1\nend\n",
-            "refused,13,1099511627777\n",
+            "general,3\nbond,0,1,17592186044417\nrot,0,0\nrot,1,1\nend\n",
+            "refused,13,17592186044417\n",
         ),
         (
             "general,3\nbond,0,1,1\nrot,0,0\nrot,1,1\nend\nx",

@@ -24,8 +24,8 @@ fn ground_states_of_lattices(rt: HostRuntime) -> Result<(), Fail> {
             "energy,-2\nspins,1,1\nend\n",
         ),
         (
-            "square,1,2\n1099511627776\nend\n",
-            "energy,-1099511627776\nspins,1,1\nend\n",
+            "square,1,2\n17592186044416\nend\n",
+            "energy,-17592186044416\nspins,1,1\nend\n",
         ),
         (
             "general,4\nbond,0,1,2\nbond,1,2,-3\nbond,1,3,4\nrot,0,0\nrot,1,1,2,4\nrot,2,3\nrot,3,5\nend\n",
@@ -85,8 +85,8 @@ fn walls_bonds_and_clusters(rt: HostRuntime) -> Result<(), Fail> {
         ),
         (
             "bonds",
-            "square,1,2\n1099511627776\nend\n",
-            "cost,0,2199023255552,rigid\nend\n",
+            "square,1,2\n17592186044416\nend\n",
+            "cost,0,35184372088832,rigid\nend\n",
         ),
     ];
     for (line, input, text) in rows {

@@ -1,5 +1,5 @@
 -- One number more: a choice below it, and a mark turned.
-use Rattle.std.proofs.Common.{inl, inr, ◌≡◌, ℕ, ◌+◌, ◌<◌, Bool, true, false, cond, not, eqb, List, [], ◌∷◌, ◌++◌, filter, set, sym, ◌∙◌, ap, subst, refl, arith, length, get_or, eq-eqb, take}
+use Rattle.std.proofs.Common.{inl, inr, ◌≡◌, ℕ, zero, suc, ◌+◌, ◌<◌, Bool, true, false, cond, not, eqb, List, [], ◌∷◌, ◌++◌, filter, set, sym, ◌∙◌, ap, ap₂, subst, refl, arith, length, get_or, eq-eqb, take}
 use Rattle.std.specs.List.{range_with_len}
 use Rattle.std.proofs.lemmas.Bool.{cases_eq, ne_eqb}
 use Rattle.std.proofs.lemmas.List.{append-nil, map-id, take_more, get_or-set_same, get_or-set_other}
@@ -21,6 +21,15 @@ chosen_below_yes p k h = chosen_below_more p k ∙ ap (λ b. chosen_below p k ++
 
 pub chosen_below_no : (p : ℕ → Bool) (k : ℕ) → p k ≡ false → chosen_below p (k + 1) ≡ chosen_below p k
 chosen_below_no p k h = chosen_below_more p k ∙ ap (λ b. chosen_below p k ++ cond b (k ∷ []) []) h ∙ append-nil (chosen_below p k)
+
+-- two tests that agree below n choose the same numbers
+pub chosen_below_same : (p q : ℕ → Bool) (n : ℕ) → ((k : ℕ) → k < n → p k ≡ q k) → chosen_below p n ≡ chosen_below q n
+chosen_below_same p q zero h = refl
+chosen_below_same p q (suc n) h =
+    let e : suc n ≡ n + 1 = omega arith in
+    ap (chosen_below p) e ∙ chosen_below_more p n
+    ∙ ap₂ (λ (xs : List ℕ) (b : Bool). xs ++ cond b (n ∷ []) []) (chosen_below_same p q n (λ k l. h k (omega arith))) (h n (omega arith))
+    ∙ sym (ap (chosen_below q) e ∙ chosen_below_more q n)
 
 turned : (b c : Bool) → not (xor b c) ≡ xor b (xor c (xor true false))
 turned true true = refl

@@ -6,3 +6,5 @@ pub mod RisingLists
 pub mod Choosing
 pub mod OneMore
 pub mod ListLaws
+pub mod Ranges
+pub mod MarkLaws

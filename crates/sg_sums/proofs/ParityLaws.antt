@@ -142,6 +142,18 @@ odd_from_mod n h = back (odd n) (odd_is n)
     back true e = refl
     back false e = absurd (omega arith)
 
+-- an odd number as a test of its remainder
+pub odd_test : (n : ℕ) → eqb (n % 2) 1 ≡ odd n
+odd_test n = by_parity (odd n) (odd_is n)
+  where
+    by_parity : (b : Bool) → n % 2 ≡ cond b 1 0 → eqb (n % 2) 1 ≡ b
+    by_parity true e = eq-eqb (n % 2) 1 e
+    by_parity false e = ne_eqb (n % 2) 1 (λ (f : n % 2 ≡ 1). omega arith)
+
+-- a number without remainder
+pub even_mod : (n : ℕ) → odd n ≡ false → n % 2 ≡ 0
+even_mod n h = odd_is n ∙ ap (λ b. cond {A = ℕ} b 1 0) h
+
 one_more : (b : Bool) (n : ℕ) (r : Bool) → odd n ≡ r → odd (cond b 1 0 + n) ≡ xor b r
 one_more true n r e = let s : 1 + n ≡ suc n = omega arith in rw s (ap not e)
 one_more false n r e = let s : 0 + n ≡ n = omega arith in rw s e

@@ -1,5 +1,5 @@
 -- Sets of numbers as rising lists.
-use Rattle.std.specs.Prelude.{ℕ, ◌==◌, ◌<◌, Bool, false, List, [], ◌∷◌, filter, slice_index_or}
+use Rattle.std.specs.Prelude.{◌≡◌, ℕ, ◌==◌, ◌<◌, Bool, true, false, List, [], ◌∷◌, filter, slice_index_or}
 use Rattle.std.specs.List.{range_with_len, list_any}
 
 -- whether the list holds the number
@@ -13,6 +13,10 @@ chosen_below p n = filter p (range_with_len 0 n)
 -- whether place i is marked
 abbrev pub is_marked : List Bool → ℕ → Bool
 is_marked marks i = slice_index_or marks i false
+
+-- place i is marked
+abbrev pub IsMarked : List Bool → ℕ → Type 0
+IsMarked marks i = is_marked marks i ≡ true
 
 -- the entries rise, each above the last, all of them above a
 abbrev pub RisesOver : ℕ → List ℕ → Type 0

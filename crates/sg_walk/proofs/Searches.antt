@@ -1,21 +1,19 @@
 -- A search: one dart of a visit, one visit, and the whole.
-use Rattle.std.proofs.Common.{⊎_elim, subst, inl, inr, ◌≡◌, ◌≢◌, ◌⊎◌, ℕ, ◌+◌, ◌/◌, ◌<◌, ◌≤◌, Bool, true, false, not, ◌&&◌, cond, List, [], ◌∷◌, ◌++◌, set, take, refl, sym, ◌∙◌, ap, arith, All, length, get_or}
-use Rattle.std.proofs.lemmas.List.{length-set, get_or-set_same, get_or-set_other, length_push, get_or_push, get_or_append_left, get_or_past}
+use Rattle.std.proofs.Common.{⊎_elim, subst, inl, inr, ◌≡◌, ◌≢◌, ◌⊎◌, ℕ, ◌+◌, ◌/◌, ◌<◌, ◌≤◌, Bool, true, false, not, ◌&&◌, cond, List, [], ◌∷◌, ◌++◌, set, take, replicate, refl, sym, ◌∙◌, ap, arith, All, length, get_or}
+use Rattle.std.proofs.lemmas.List.{length-set, length_push, get_or_push, get_or_append_left}
 use Rattle.std.proofs.lemmas.List.Elements.{All-nil, All-more, All-weaker}
 use Rattle.std.proofs.lemmas.List.Sums.{sum_by-set}
 use Rattle.std.proofs.lemmas.Bool.{cases_eq, cases_lt}
+use Rattle.sg_sums.specs.Sets.{IsMarked}
+use Rattle.sg_sums.proofs.MarkLaws.{marked_in, marked_here, marked_still, marked_or_here, none_marked}
 use Rattle.sg_model.specs.Ising.{Ising}
-use Rattle.sg_model.specs.Rotation.{darts_of, dart_count, tail}
+use Rattle.sg_model.specs.Rotation.{darts_of, dart_count, head_of, tail}
 use Rattle.sg_model.specs.Connected.{JoinedBy, IsWalk, Reached}
 use Rattle.sg_model.specs.WellFormed.{IsInstance}
-use Rattle.sg_faces.proofs.Rotations.{place_at}
-use Rattle.sg_walk.specs.Walk.{IsClosed, IsMarked, IsNoted, IsWalked}
-use Rattle.sg_walk.specs.Search.{head_of, unmarked_count, IsSeen, Visits, SearchedTo}
-use Rattle.sg_walk.proofs.Paths.{reached_more, dart_of_step}
-
--- a marked spin has a place among the marks
-pub marked_in : (marks : List Bool) (x : ℕ) → IsMarked marks x → x < length marks
-marked_in marks x h = elim (cases_lt x (length marks)) [ inl l ↦ l | inr m ↦ let e : false ≡ true = sym (get_or_past marks x false m) ∙ h in cc ]
+use Rattle.sg_model.proofs.Rotations.{place_at}
+use Rattle.sg_model.proofs.Paths.{reached_more, dart_of_step}
+use Rattle.sg_walk.specs.Walk.{IsClosed, IsNoted, IsWalked}
+use Rattle.sg_walk.specs.Search.{unmarked_count, IsSeen, Visits, SearchedTo}
 
 noted_push : (order : List ℕ) (y x : ℕ) → y ≡ x → IsNoted (order ++ y ∷ []) x
 noted_push order y x e = (length order, omega (arith, length_push order y), get_or_push order y 0 (length order) refl ∙ e)
@@ -29,22 +27,6 @@ one_marked marks x l free =
     let s : unmarked_count (set marks x true) + cond (not (get_or marks x false)) 1 0 ≡ unmarked_count marks + 0 = sum_by-set (λ z. cond (not z) 1 0) marks x true false l in
     let one : cond {A = ℕ} (not (get_or marks x false)) 1 0 ≡ 1 = ap (λ z. cond {A = ℕ} (not z) 1 0) free in
     omega arith
-
--- the marks after spin x is marked
-pub marked_here : (marks : List Bool) (x : ℕ) → x < length marks → IsMarked (set marks x true) x
-marked_here marks x l = get_or-set_same marks x true false l
-
-pub marked_still : (marks : List Bool) (x y : ℕ) → x < length marks → IsMarked marks y → IsMarked (set marks x true) y
-marked_still marks x y l h = elim (cases_eq y x) [
-  | inl e ↦ ap (λ z. get_or (set marks x true) z false) e ∙ marked_here marks x l
-  | inr ne ↦ get_or-set_other marks x y true false ne ∙ h
-]
-
-pub marked_or_here : (marks : List Bool) (x y : ℕ) → IsMarked (set marks x true) y → IsMarked marks y ⊎ (y ≡ x)
-marked_or_here marks x y h = elim (cases_eq y x) [
-  | inl e ↦ inr e
-  | inr ne ↦ inl (sym (get_or-set_other marks x y true false ne) ∙ h)
-]
 
 -- a spin that is not marked now was not before
 pub free_before : (old now : List Bool) (x : ℕ) → ((y : ℕ) → IsMarked old y → IsMarked now y) → get_or now x false ≡ false → get_or old x false ≡ false
@@ -77,6 +59,7 @@ module _ (inst : Ising) (bonds : ℕ → Bool) (spin : ℕ) where
     sound = λ k a b. absurd (omega arith);
     fresh = λ k a b. absurd (omega arith);
     joined = λ k a b. absurd (omega arith);
+    once = λ j k a b c. absurd (omega arith);
     count = refl;
   }
 
@@ -93,6 +76,7 @@ module _ (inst : Ising) (bonds : ℕ → Bool) (spin : ℕ) where
       sound = w.sound;
       fresh = w.fresh;
       joined = w.joined;
+      once = w.once;
       count = w.count;
     }
 
@@ -121,9 +105,22 @@ module _ (inst : Ising) (bonds : ℕ → Bool) (spin : ℕ) where
         sound = each (IsMarked (set now to true)) (λ k b c. still (get_or after k 0) (w.sound k b c)) (marked_here now to to_in);
         fresh = each (λ x. get_or old x false ≡ false) w.fresh (free_before old now to w.kept free);
         joined = each (JoinedBy inst bonds spin) w.joined joins;
+        once = once';
         count = omega (arith, one_marked now to to_in free, length_push after to, w.count);
       }
         where
+          -- an old entry is marked, and the new one was not
+          once' : (j k : ℕ) → length before ≤ j → j < k → k < length (after ++ to ∷ []) → get_or (after ++ to ∷ []) j 0 ≢ get_or (after ++ to ∷ []) k 0
+          once' j k a b c e =
+              let long : length (after ++ to ∷ []) ≡ length after + 1 = length_push after to in
+              let first : get_or (after ++ to ∷ []) j 0 ≡ get_or after j 0 = get_or_append_left after (to ∷ []) 0 j (omega arith) in
+              elim (cases_lt k (length after)) [
+                | inl d ↦ w.once j k a b d (sym first ∙ e ∙ get_or_append_left after (to ∷ []) 0 k d)
+                | inr d ↦
+                    let same : get_or after j 0 ≡ to = sym first ∙ e ∙ get_or_push after to 0 k (omega arith) in
+                    let w : false ≡ true = sym free ∙ ap (λ x. get_or now x false) (sym same) ∙ w.sound j a (omega arith) in cc
+              ]
+
           found' : (x : ℕ) → IsMarked (set now to true) x → IsMarked old x ⊎ IsNoted (after ++ to ∷ []) x
           found' x h = ⊎_elim
               (λ (m : IsMarked now x). ⊎_elim (λ (o : IsMarked old x). inl o) (λ (c : IsNoted after x). inr (noted_still after to x c)) (w.found x m))
@@ -139,6 +136,7 @@ module _ (inst : Ising) (good : IsInstance inst) (bonds : ℕ → Bool) (root : 
     sound = λ k b. only (IsMarked (set base root true)) k (omega arith) (marked_here base root l);
     fresh = λ k b. only (λ x. get_or base x false ≡ false) k (omega arith) free;
     reached = λ k b. only (Reached inst bonds root) k (omega arith) ([], refl);
+    once = λ j k b c. absurd (omega arith);
     noted = λ x h. ⊎_elim (λ (m : IsMarked base x). inl m) (λ (e : x ≡ root). inr (0, omega arith, sym e)) (marked_or_here base root x h);
     done = λ k b. absurd (omega arith);
     count = omega (arith, one_marked base root l free);
@@ -163,6 +161,7 @@ module _ (inst : Ising) (good : IsInstance inst) (bonds : ℕ → Bool) (root : 
     fresh = both (λ x. get_or base x false ≡ false) h.fresh (λ k b c. free_before base old (get_or after k 0) h.kept (v.fresh k b c));
     reached = both (Reached inst bonds root) h.reached (λ k b c. reached_more inst bonds root (get_or before next 0) (get_or after k 0) (h.reached next l) (v.joined k b c));
     noted = λ x m. ⊎_elim (λ (o : IsMarked old x). keep x (h.noted x o)) (λ (c : IsNoted after x). inr c) (v.found x m);
+    once = once';
     done = done';
     count = omega (arith, v.count, h.count);
     at_most = omega (arith, v.longer);
@@ -177,6 +176,17 @@ module _ (inst : Ising) (good : IsInstance inst) (bonds : ℕ → Bool) (root : 
       keep : (x : ℕ) → IsMarked base x ⊎ IsNoted before x → IsMarked base x ⊎ IsNoted after x
       keep x (inl m) = inl m
       keep x (inr (k, b, e)) = inr (k, omega (arith, b, v.longer), v.stays k b ∙ e)
+
+      -- an old entry was marked before the visit, and a new one was not
+      once' : (j k : ℕ) → j < k → k < length after → get_or after j 0 ≢ get_or after k 0
+      once' j k b c e = elim (cases_lt j (length before)) [
+        | inr new ↦ v.once j k new b c e
+        | inl was ↦ by_place was (cases_lt k (length before))
+      ]
+        where
+          by_place : j < length before → (k < length before) ⊎ (length before ≤ k) → ⊥
+          by_place was (inl l) = h.once j k b l (sym (v.stays j was) ∙ e ∙ v.stays k l)
+          by_place was (inr l) = let w : false ≡ true = sym (v.fresh k l c) ∙ ap (λ x. get_or old x false) (sym e ∙ v.stays j was) ∙ h.sound j was in cc
 
       done' : (k : ℕ) → k < next + 1 → All (IsSeen inst bonds now) (darts_of inst (get_or after k 0))
       done' k b = subst (λ s. All (IsSeen inst bonds now) (darts_of inst s)) (sym (v.stays k (omega arith))) (elim (cases_eq k next) [
@@ -194,6 +204,7 @@ module _ (inst : Ising) (good : IsInstance inst) (bonds : ℕ → Bool) (root : 
     marked = h.sound;
     fresh = h.fresh;
     reached = h.reached;
+    once = h.once;
     closed = λ a b j m. ⊎_elim (λ (o : IsMarked base a). h.kept b (closed a b j o)) (λ (n : IsNoted order a). step a b j (dart_of_step inst bonds a b j) n) (h.noted a m);
   }
     where
@@ -202,6 +213,10 @@ module _ (inst : Ising) (good : IsInstance inst) (bonds : ℕ → Bool) (root : 
           let heads : All (IsSeen inst bonds marks) (darts_of inst a) = subst (λ s. All (IsSeen inst bonds marks) (darts_of inst s)) e (h.done k (omega (arith, kl))) in
           let place : (j : ℕ) × (j < length (darts_of inst a)) × (get_or (darts_of inst a) j 0 ≡ d) = place_at inst good a d l leaves in
           subst (IsMarked marks) (ap (head_of inst) place.2 ∙ leads) (heads place.0 0 place.1 (ap (λ x. bonds (x / 2)) place.2 ∙ inside))
+
+-- where nothing is marked, no bond leaves a marked spin
+pub none_closed : (inst : Ising) (bonds : ℕ → Bool) (n : ℕ) → IsClosed inst bonds (replicate n false)
+none_closed inst bonds n a b j m = absurd (none_marked n a m)
 
 -- marks that no bond of the set leaves hold what their spins reach
 pub marked_along : (inst : Ising) (bonds : ℕ → Bool) (marks : List Bool) → IsClosed inst bonds marks → (a b : ℕ) → Reached inst bonds a b → IsMarked marks a → IsMarked marks b

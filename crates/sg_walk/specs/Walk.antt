@@ -1,15 +1,12 @@
 -- What a walk over a set of bonds leaves: which spins are marked, and the list of those that it found.
-use Rattle.std.specs.Prelude.{◌≡◌, ◌⊎◌, ℕ, ◌<◌, Bool, true, false, List, length, slice_index, slice_index_or}
+use Rattle.std.specs.Prelude.{◌≡◌, ◌≢◌, ◌⊎◌, ℕ, ◌<◌, Bool, false, List, length, slice_index}
+use Rattle.sg_sums.specs.Sets.{is_marked, IsMarked}
 use Rattle.sg_model.specs.Ising.{Ising}
 use Rattle.sg_model.specs.Connected.{JoinedBy, Reached}
 
 -- whether bond b is in the set
 abbrev pub has : List Bool → ℕ → Bool
-has set b = slice_index_or set b false
-
--- spin x is marked
-abbrev pub IsMarked : List Bool → ℕ → Type 0
-IsMarked marks x = slice_index_or marks x false ≡ true
+has set b = is_marked set b
 
 -- spin x stands in the list
 abbrev pub IsNoted : List ℕ → ℕ → Type 0
@@ -19,13 +16,15 @@ IsNoted order x = (k : ℕ) × (k < length order) × (slice_index order k ≡ x)
 abbrev pub IsClosed : Ising → (ℕ → Bool) → List Bool → Type 0
 IsClosed inst set marks = (a b : ℕ) → JoinedBy inst set a b → IsMarked marks a → IsMarked marks b
 
--- the spins of the list are those that the root reaches, none of which was marked before; they and the old ones are marked, and no others
+-- the list has, each once, the spins that the root reaches, none of which was marked before
+-- they and the old ones are marked, and no others
 pub record IsWalked (inst : Ising) (set : ℕ → Bool) (root : ℕ) (old now : List Bool) (order : List ℕ) : Type 0 where
   pub lengths : length now ≡ length old
   pub kept : (x : ℕ) → IsMarked old x → IsMarked now x
   pub root_marked : IsMarked now root
   pub noted : (x : ℕ) → IsMarked now x → IsMarked old x ⊎ IsNoted order x
   pub marked : (k : ℕ) → k < length order → IsMarked now (slice_index order k)
-  pub fresh : (k : ℕ) → k < length order → slice_index_or old (slice_index order k) false ≡ false
+  pub fresh : (k : ℕ) → k < length order → is_marked old (slice_index order k) ≡ false
   pub reached : (k : ℕ) → k < length order → Reached inst set root (slice_index order k)
+  pub once : (j k : ℕ) → j < k → k < length order → slice_index order j ≢ slice_index order k
   pub closed : IsClosed inst set now

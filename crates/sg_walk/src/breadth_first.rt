@@ -1,8 +1,9 @@
-ghost use Rattle.std.specs.Prelude.{◌≡◌, ◌<◌, ◌/◌, ◌&&◌, false, not, length, slice_index_or, OnOk};
+ghost use Rattle.std.specs.Prelude.{◌≡◌, ◌<◌, ◌/◌, ◌&&◌, false, not, length, OnOk};
+ghost use Rattle.sg_sums.specs.Sets.{is_marked};
 ghost use Rattle.sg_model.specs.Ising.{bond_count};
-ghost use Rattle.sg_model.specs.Rotation.{darts_of, dart_count};
+ghost use Rattle.sg_model.specs.Rotation.{darts_of, dart_count, head_of};
 ghost use Rattle.sg_walk.specs.Walk.{IsClosed, IsWalked, has};
-ghost use Rattle.sg_walk.specs.Search.{Visits, head_of};
+ghost use Rattle.sg_walk.specs.Search.{Visits};
 
 use super::NoMemory;
 use sg_model::Instance;
@@ -21,7 +22,7 @@ pub fn walk(
     requires root_in { root < inst.now.n }
     requires lengths { length marks.old ≡ inst.now.n }
     requires set_length { length set.now ≡ bond_count inst.now }
-    requires free { slice_index_or marks.old root false ≡ false }
+    requires free { is_marked marks.old root ≡ false }
     requires closed { IsClosed inst.now (has set.now) marks.old }
     ensures { OnOk result (IsWalked inst.now (has set.now) root marks.old marks.new order.new.items) }
 {
@@ -53,7 +54,7 @@ fn head(inst: &Instance, dart: u32) -> u32
 fn leads_on(set: &[bool], marks: &[bool], dart: u32, to: u32) -> bool
     requires dart_in { dart / 2 < length set.now }
     requires to_in { to < length marks.now }
-    ensures { result ≡ (has set.now (dart / 2) && not (slice_index_or marks.now to false)) }
+    ensures { result ≡ (has set.now (dart / 2) && not (is_marked marks.now to)) }
 {
     set[(dart / 2) as usize] && !marks[to as usize]
 }

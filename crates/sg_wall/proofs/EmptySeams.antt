@@ -7,7 +7,7 @@ use Rattle.std.proofs.lemmas.List.FromFn.{get_or-map-range_with_len, length-map-
 use Rattle.sg_model.specs.declared.bond.Bond.{Bond}
 use Rattle.sg_model.specs.Ising.{Ising, bond_at, bond_count}
 use Rattle.sg_model.specs.Energy.{IsLeastEnergy, energy}
-use Rattle.sg_model.specs.Misplaced.{holds}
+use Rattle.sg_sums.specs.Sets.{holds}
 use Rattle.sg_model.specs.Changes.{flipped_at, opposite, with_bonds, with_seam_flipped}
 
 abbrev no_bond : Bond

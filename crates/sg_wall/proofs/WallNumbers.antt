@@ -1,7 +1,8 @@
 -- The three numbers of a wall, from two ground states.
-use Rattle.std.proofs.Common.{◌≡◌, ℕ, ◌≤◌, ◌+◌, ◌^◌, ℤ, ◌-ℤ◌, List, [], sym, ◌∙◌, ap, subst, to_z, of_z, w64, pos, arith}
+use Rattle.std.proofs.Common.{◌≡◌, ℕ, ◌≤◌, ◌*◌, ℤ, ◌-ℤ◌, List, [], sym, ◌∙◌, ap, subst, to_z, of_z, w64, pos, arith}
 use Rattle.std.specs.Prelude.{FitsSigned, unsigned_abs}
 use Rattle.std.proofs.lemmas.Int.{ints, to_z-of_z, fits_signed_from_abs}
+use Rattle.sg_limits.specs.Limits.{forced_limit}
 use Rattle.sg_model.specs.Ising.{Ising}
 use Rattle.sg_model.specs.Energy.{IsGroundState, IsLeastEnergy, energy, weight}
 use Rattle.sg_model.specs.Changes.{with_seam_flipped}
@@ -25,10 +26,10 @@ module _
   second_kept : to_z w64 (of_z w64 f) ≡ f
   second_kept = to_z-of_z w64 f (fits_signed_from_abs w64 f (omega (arith, new_size, planar.sum)))
 
-  small : (x y : ℤ) (w : ℕ) → unsigned_abs x ≤ w → unsigned_abs y ≤ w → w ≤ 2 ^ 41 + 1 → unsigned_abs (y -ℤ x) ≤ 2 ^ 43
+  small : (x y : ℤ) (w : ℕ) → unsigned_abs x ≤ w → unsigned_abs y ≤ w → w ≤ forced_limit → unsigned_abs (y -ℤ x) ≤ 2 * forced_limit
   small x y w a b c = omega (arith, ints)
 
-  difference_size : unsigned_abs (to_z w64 (of_z w64 f) -ℤ to_z w64 (of_z w64 e)) ≤ 2 ^ 43
+  difference_size : unsigned_abs (to_z w64 (of_z w64 f) -ℤ to_z w64 (of_z w64 e)) ≤ 2 * forced_limit
   difference_size = rw (first_kept, second_kept) (small e f (weight q.instance) (omega (arith, old_size, same_weight)) new_size planar.sum)
 
   pub difference_fits : FitsSigned w64 (to_z w64 (of_z w64 f) -ℤ to_z w64 (of_z w64 e))

@@ -9,15 +9,13 @@ use Rattle.sg_bonds.proofs.breaking.cost.Goals as goal
 pub overflow_sub-result : goal.overflow_sub-result
 overflow_sub-result c =
     let good : IsInstance c.args.planar.now.instance = subst IsInstance c.instance.ensures.value c.bonds.ensures.instance in
-    let small : weight c.args.planar.now.instance ≤ 2 ^ 40 = omega (arith, ints, c.requires.sum) in
     let read : bond_at c.args.planar.now.instance c.args.bond ≡ c.at-ends.result.now = read_bond c.args.planar.now.instance c.instance.result.now c.bonds.result.now c.args.bond c.at-ends.result.now c.at-ends.ensures c.bonds.ensures.value c.instance.ensures.value in
-    cost_fits c.args.planar.now.instance good c.args.bond small c.args.least.now.spins c.other_product-other.result c.in_ok-least_with.field-0 c.args.least.now.energy
+    cost_fits c.args.planar.now.instance good c.args.bond c.requires.sum c.args.least.now.spins c.other_product-other.result c.in_ok-least_with.field-0 c.args.least.now.energy
     c.requires.ground_state c.other_product-other.ensures.up_or_down (ap (product c.args.least.now.spins) read ∙ c.other_product-other.ensures.other) c.in_ok-least_with.ensures c.requires.energy
 
 pub returns : goal.returns
 returns c =
     let good : IsInstance c.args.planar.now.instance = subst IsInstance c.instance.ensures.value c.bonds.ensures.instance in
-    let small : weight c.args.planar.now.instance ≤ 2 ^ 40 = omega (arith, ints, c.requires.sum) in
     let read : bond_at c.args.planar.now.instance c.args.bond ≡ c.at-ends.result.now = read_bond c.args.planar.now.instance c.instance.result.now c.bonds.result.now c.args.bond c.at-ends.result.now c.at-ends.ensures c.bonds.ensures.value c.instance.ensures.value in
-    cost_found c.args.planar.now.instance good c.args.bond small c.args.least.now.spins c.other_product-other.result c.in_ok-least_with.field-0 c.args.least.now.energy
+    cost_found c.args.planar.now.instance good c.args.bond c.requires.sum c.args.least.now.spins c.other_product-other.result c.in_ok-least_with.field-0 c.args.least.now.energy
     c.requires.ground_state c.other_product-other.ensures.up_or_down (ap (product c.args.least.now.spins) read ∙ c.other_product-other.ensures.other) c.in_ok-least_with.ensures c.requires.energy

@@ -1,7 +1,7 @@
 use Rattle.std.proofs.Common.{◌≡◌, ◌≢◌, ℕ, ◌<◌, length, get_or, false, ap, sym, ◌∙◌, subst, arith}
 use Rattle.std.proofs.lemmas.List.{get_or_default}
 use Rattle.sg_walk.specs.Walk.{has}
-use Rattle.sg_walk.proofs.Searches.{marked_in}
+use Rattle.sg_sums.proofs.MarkLaws.{marked_in}
 use Rattle.sg_bonds.proofs.ClusterNames.{named_more}
 use Rattle.sg_bonds.proofs.naming.name_from.Goals as goal
 

@@ -3,7 +3,7 @@ use Rattle.std.proofs.lemmas.List.{get_or_read, with_items_is}
 use Rattle.sg_model.specs.Rotation.{darts_of, rev}
 use Rattle.sg_model.specs.Seam.{IsDistinct}
 use Rattle.sg_faces.proofs.PhiTables.{darts_room, has_phi_more, has_phi_all}
-use Rattle.sg_faces.proofs.Rotations.{spin_distinct}
+use Rattle.sg_model.proofs.Rotations.{spin_distinct}
 use Rattle.sg_faces.proofs.table.phi_table.Goals as goal
 
 pub loop-list-init : goal.loop-list-init

@@ -2,8 +2,9 @@ use Rattle.std.proofs.Common.{pos, ◌≡◌, ◌/◌, List, get_or, sym, ◌∙
 use Rattle.std.proofs.lemmas.Option.{get_or_from_slice_get}
 use Rattle.sg_model.specs.declared.bond.Bond.{Bond}
 use Rattle.sg_model.specs.Ising.{bond_at}
-use Rattle.sg_walk.specs.Search.{head_of}
-use Rattle.sg_walk.proofs.Paths.{head_even, head_odd, head_below}
+use Rattle.sg_model.specs.Rotation.{head_of}
+use Rattle.sg_model.proofs.Darts.{head_even, head_odd}
+use Rattle.sg_model.proofs.Rotations.{head_below}
 use Rattle.sg_walk.proofs.breadth_first.head.Goals as goal
 
 pub returns-then-dart-eq0 : goal.returns-then-dart-eq0

@@ -2,12 +2,11 @@ use Rattle.std.proofs.Common.{◌≡◌, ◌<◌, ◌/◌, ◌*◌, Bool, true, 
 use Rattle.std.proofs.lemmas.List.{take_all}
 use Rattle.std.proofs.lemmas.Option.{get_or_from_slice_get}
 use Rattle.sg_model.specs.Ising.{Ising, bond_count}
-use Rattle.sg_model.specs.Rotation.{dart_count, darts_of, tail}
+use Rattle.sg_model.specs.Rotation.{dart_count, darts_of, head_of, tail}
 use Rattle.sg_model.specs.WellFormed.{IsInstance}
-use Rattle.sg_faces.proofs.Rotations.{in_list}
-use Rattle.sg_walk.specs.Walk.{has, IsMarked}
-use Rattle.sg_walk.specs.Search.{head_of}
-use Rattle.sg_walk.proofs.Paths.{joined_along}
+use Rattle.sg_model.proofs.Rotations.{in_list}
+use Rattle.sg_model.proofs.Paths.{joined_along}
+use Rattle.sg_walk.specs.Walk.{has}
 use Rattle.sg_walk.proofs.Searches.{visits_same, visits_new, seen_or_new, leads_parts}
 use Rattle.sg_walk.proofs.breadth_first.visit.Goals as goal
 use Rattle.sg_walk.proofs.breadth_first.visit.Goals.{then-leads_on+in_ok-push, else-leads_on}

@@ -1,6 +1,7 @@
 use Rattle.std.proofs.Common.{◌≡◌, ◌⊎◌, ℕ, ◌<◌, ◌≤◌, true}
 use Rattle.sg_model.specs.Rotation.{is_dart_of}
-use Rattle.sg_model.specs.Marks.{is_marked, IsLeastUnmarked}
+use Rattle.sg_sums.specs.Sets.{is_marked}
+use Rattle.sg_model.specs.Marks.{IsLeastUnmarked}
 use Rattle.sg_model.proofs.draft.Draft.least_unmarked.Given as goal
 
 abbrev pub invariant-loop-dart : goal.invariant-loop-dart

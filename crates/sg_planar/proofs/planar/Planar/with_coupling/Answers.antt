@@ -3,7 +3,7 @@ use Rattle.std.proofs.lemmas.Int.{to_z-of_z}
 use Rattle.sg_model.specs.Ising.{bond_count}
 use Rattle.sg_model.specs.Energy.{weight}
 use Rattle.sg_model.specs.Changes.{with_coupling}
-use Rattle.sg_planar.specs.Fit.{forced_limit}
+use Rattle.sg_limits.specs.Limits.{forced_limit}
 use Rattle.sg_planar.proofs.OtherCouplings.{planar_coupled}
 use Rattle.sg_planar.proofs.planar.Planar.with_coupling.Goals as goal
 

@@ -1,16 +1,14 @@
--- The darts of a rotation: each stands in the list of the spin that it leaves, and `next` and `phi` are one-to-one.
+-- The darts of a rotation: each stands in the list of the spin that it leaves, and `next` is one-to-one.
 use Rattle.std.proofs.Common.{pos, inl, inr, ap₂, subst, ◌≡◌, ◌⊎◌, ℕ, ◌+◌, ◌*◌, ◌%◌, ◌<◌, ◌≤◌, Bool, true, false, cond, eqb, ltb, refl, sym, ◌∙◌, ap, arith, length, get_or, count_by}
 use Rattle.std.proofs.Math.Nat.{mod-lt}
 use Rattle.std.proofs.lemmas.Bool.{eq-eqb, eqb-true, ltb-true, lt-ltb, and_parts, and_from}
 use Rattle.sg_model.specs.Ising.{Ising, IsBond, bond_at}
-use Rattle.sg_model.specs.Rotation.{dart_count, rev, tail, is_dart_of, darts_of, following, next}
+use Rattle.sg_model.specs.Rotation.{dart_count, rev, tail, head_of, is_dart_of, darts_of, following, next}
 use Rattle.sg_model.specs.Seam.{IsDistinct}
 use Rattle.sg_model.specs.WellFormed.{IsInstance}
-use Rattle.sg_faces.specs.Orbits.{IsOneToOne}
-use Rattle.sg_faces.specs.Faces.{phi}
 use Rattle.sg_model.proofs.Darts.{tail_first, tail_second}
-use Rattle.sg_faces.proofs.DartPairs.{dart_cases, rev_below, rev_apart}
-use Rattle.sg_faces.proofs.CyclicLists.{following_at, following_apart, place_from_count, count_at_place}
+use Rattle.sg_model.proofs.DartPairs.{dart_cases, rev_below}
+use Rattle.sg_model.proofs.CyclicLists.{following_at, following_apart, place_from_count, count_at_place}
 
 module _ (inst : Ising) (good : IsInstance inst) where
   one_or_none : (b : Bool) (n : ℕ) → n ≡ cond b 1 0 → n ≤ 1
@@ -86,12 +84,5 @@ module _ (inst : Ising) (good : IsInstance inst) where
           (ap (following (darts_of inst i)) ja ∙ ap (λ s. following (darts_of inst s) a) (sym t) ∙ sym (next_is a) ∙ e ∙ next_is b ∙ ap (λ s. following (darts_of inst s) b) (sym tails ∙ t) ∙ ap (following (darts_of inst i)) (sym kb)) in
           sym ja ∙ ap (λ x. get_or (darts_of inst i) x 0) same ∙ kb
 
-  pub phi_below : (d : ℕ) → d < dart_count inst → phi inst d < dart_count inst
-  phi_below d l = (next_in_list (rev d) (rev_below inst d l)).0
-
-  pub phi_apart : (d e : ℕ) → d < dart_count inst → e < dart_count inst → phi inst d ≡ phi inst e → d ≡ e
-  phi_apart d e ld le p = rev_apart d e (next_apart (rev d) (rev e) (rev_below inst d ld) (rev_below inst e le) p)
-
-  -- `phi` permutes the darts
-  pub phi_one_to_one : IsOneToOne (phi inst) (dart_count inst)
-  phi_one_to_one = record { below = phi_below; apart = phi_apart }
+  pub head_below : (d : ℕ) → d < dart_count inst → head_of inst d < inst.n
+  head_below d l = tail_below (rev d) (rev_below inst d l)

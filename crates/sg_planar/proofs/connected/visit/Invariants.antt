@@ -1,7 +1,0 @@
-use Rattle.std.proofs.Common.{take}
-use Rattle.sg_model.specs.Rotation.{darts_of}
-use Rattle.sg_planar.specs.Search.{Visits}
-use Rattle.sg_planar.proofs.connected.visit.Given as goal
-
-abbrev pub invariant-loop-dart : goal.invariant-loop-dart
-invariant-loop-dart l = Visits l.inst l.spin (take l.dart-index (darts_of l.inst l.spin)) l.initial.reached l.reached l.initial.order.items l.order.items

@@ -1,0 +1,35 @@
+-- Marks: which places are marked where none was set, and after one more is set.
+use Rattle.std.proofs.Common.{◌≡◌, ◌⊎◌, inl, inr, ℕ, ◌<◌, Bool, true, false, List, length, get_or, replicate, set, sym, ◌∙◌, ap, arith}
+use Rattle.std.proofs.lemmas.Bool.{cases_eq, cases_lt}
+use Rattle.std.proofs.lemmas.List.{get_or-set_same, get_or-set_other, get_or_past, get_or-replicate, length-replicate}
+use Rattle.sg_sums.specs.Sets.{is_marked, IsMarked}
+
+-- a list of `false` has no mark
+pub none_free : (n x : ℕ) → is_marked (replicate n false) x ≡ false
+none_free n x = elim (cases_lt x n) [
+  | inl l ↦ get_or-replicate n x false false l
+  | inr past ↦ get_or_past (replicate n false) x false (omega (arith, length-replicate n false))
+]
+
+pub none_marked : (n x : ℕ) → IsMarked (replicate n false) x → ⊥
+none_marked n x h = let e : false ≡ true = sym (none_free n x) ∙ h in cc
+
+-- a marked place is one of the list
+pub marked_in : (marks : List Bool) (x : ℕ) → IsMarked marks x → x < length marks
+marked_in marks x h = elim (cases_lt x (length marks)) [ inl l ↦ l | inr m ↦ let e : false ≡ true = sym (get_or_past marks x false m) ∙ h in cc ]
+
+-- the marks after place x is marked
+pub marked_here : (marks : List Bool) (x : ℕ) → x < length marks → IsMarked (set marks x true) x
+marked_here marks x l = get_or-set_same marks x true false l
+
+pub marked_still : (marks : List Bool) (x y : ℕ) → x < length marks → IsMarked marks y → IsMarked (set marks x true) y
+marked_still marks x y l h = elim (cases_eq y x) [
+  | inl e ↦ ap (λ z. get_or (set marks x true) z false) e ∙ marked_here marks x l
+  | inr ne ↦ get_or-set_other marks x y true false ne ∙ h
+]
+
+pub marked_or_here : (marks : List Bool) (x y : ℕ) → IsMarked (set marks x true) y → IsMarked marks y ⊎ (y ≡ x)
+marked_or_here marks x y h = elim (cases_eq y x) [
+  | inl e ↦ inr e
+  | inr ne ↦ inl (sym (get_or-set_other marks x y true false ne) ∙ h)
+]
