@@ -1,2 +1,9 @@
 pub mod OtherCouplings
 pub mod WalkFromFirst
+pub mod GrowingSets
+pub mod SpanningTrees
+pub mod Embeddings
+pub mod PlanarDuality
+pub mod RotationSums
+pub mod EulerBounds
+pub mod FittingBonds

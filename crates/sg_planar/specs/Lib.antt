@@ -1,2 +1,4 @@
 pub mod Fit
 pub mod Reached
+pub mod BrokenLists
+pub mod Unlike

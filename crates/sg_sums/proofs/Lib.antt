@@ -8,3 +8,4 @@ pub mod OneMore
 pub mod ListLaws
 pub mod Ranges
 pub mod MarkLaws
+pub mod Recounting

@@ -1,0 +1,56 @@
+-- Bounds by Euler's formula on a connected rotation system.
+use Rattle.std.proofs.Common.{inl, inr, cond, ◌≡◌, ◌≢◌, ℕ, ◌+◌, ◌<◌, ◌≤◌, pos, ◌-ℤ◌, [], ◌∷◌, ◌∙◌, ap, arith, get_or}
+use Rattle.std.proofs.lemmas.Int.{ints}
+use Rattle.std.proofs.lemmas.Bool.{cases_eq, cases_lt, eq-eqb}
+use Rattle.sg_model.specs.Ising.{Ising, IsBond, bond_at, bond_count}
+use Rattle.sg_model.specs.Rotation.{dart_count, next, tail}
+use Rattle.sg_model.specs.WellFormed.{IsInstance}
+use Rattle.sg_model.specs.Connected.{IsConnected, Reached, all_bonds}
+use Rattle.sg_faces.specs.Faces.{Labelling, IsFaceLabels, face_count, faces_before}
+use Rattle.sg_faces.specs.Euler.{euler}
+use Rattle.sg_planar.proofs.PlanarDuality.{euler_bound_embedding}
+use Rattle.sg_planar.proofs.RotationSums.{embedding, spins_connected}
+
+-- where the Euler number is 2: spins and faces are two more than bonds
+pub euler_sum : (n f m : ℕ) → pos (n + f) -ℤ pos m ≡ pos 2 → n + f ≡ m + 2
+euler_sum n f m h = omega (arith, ints)
+
+module _ (inst : Ising) (good : IsInstance inst) where
+  -- a bond has two ends
+  two_spins : 0 < bond_count inst → 2 ≤ inst.n
+  two_spins some =
+      let b : IsBond inst.n (bond_at inst 0) = good.joined 0 (record { u = 0; v = 0; j = pos 0 }) some in
+      apart (bond_at inst 0).u (bond_at inst 0).v b.first_end b.second_end b.ends_differ
+    where
+      apart : (u v : ℕ) → u < inst.n → v < inst.n → u ≢ v → 2 ≤ inst.n
+      apart u v p q ne = omega arith
+
+  -- a connected instance without a bond has one spin
+  one_spin : bond_count inst ≡ 0 → IsConnected inst → inst.n ≤ 1
+  one_spin none connected = elim (cases_lt 1 inst.n) [
+    | inl more ↦ absurd (alone (connected 1 more))
+    | inr few ↦ few
+  ]
+    where
+      alone : Reached inst all_bonds 0 1 → ⊥
+      alone ([], e) = omega arith
+      alone (c ∷ path, w) = let l : w.0.bond < bond_count inst = w.0.below in omega arith
+
+  module _ (faces : Labelling) (labels : IsFaceLabels inst faces) (connected : IsConnected inst) where
+    -- no connected rotation system has an Euler number above 2
+    pub euler_bound : inst.n + faces.count ≤ bond_count inst + 2
+    euler_bound = elim (cases_eq (bond_count inst) 0) [
+      | inl none ↦
+          let one : faces.count ≡ 1 = labels.counts ∙ ap (λ b. cond {A = ℕ} b 1 (faces_before inst (dart_count inst))) (eq-eqb (bond_count inst) 0 none) in
+          omega (arith, one_spin none connected)
+      | inr ne ↦
+          euler_bound_embedding inst.n (bond_count inst) faces.count (tail inst) (next inst) (λ d. get_or faces.labels d 0)
+          (embedding inst good faces (omega arith) labels) good.has_spin (spins_connected inst good connected)
+          (let f : get_or faces.labels 0 0 < faces.count = labels.below 0 (omega arith) in omega arith)
+    ]
+
+    -- in the plane a connected instance with a bond has no more faces than bonds
+    pub faces_few : euler inst ≡ pos 2 → 0 < bond_count inst → faces.count ≤ bond_count inst
+    faces_few genus_zero some =
+        let sum : inst.n + face_count inst ≡ bond_count inst + 2 = euler_sum inst.n (face_count inst) (bond_count inst) genus_zero in
+        omega (arith, two_spins some, labels.counts)
