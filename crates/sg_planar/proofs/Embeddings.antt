@@ -76,7 +76,8 @@ module _ (n m F : ℕ) (tail next face : ℕ → ℕ) (emb : IsEmbedding n m F t
   right = second face
 
   -- every cut of the spins meets every cut of the faces in an even number of bonds
-  pub cuts_meet_evenly : (t B : ℕ → Bool) → parity_below (λ k. xor (t (first tail k)) (t (second tail k)) && xor (B (first face k)) (B (second face k))) m ≡ false
+  pub cuts_meet_evenly : (t B : ℕ → Bool) →
+      parity_below (λ k. xor (t (first tail k)) (t (second tail k)) && xor (B (first face k)) (B (second face k))) m ≡ false
   cuts_meet_evenly t B =
       parity_below-same (λ k. xor (t (u k)) (t (v k)) && xor (B (left k)) (B (right k))) (λ k. xor (here k) (behind k)) m each
       ∙ parity_below-xor here behind m

@@ -21,7 +21,7 @@ use Rattle.sg_faces.specs.Faces.{Labelling, IsFaceLabels, face_count}
 use Rattle.sg_faces.specs.Sides.{sides_on}
 use Rattle.sg_faces.specs.Euler.{euler}
 use Rattle.sg_planar.specs.BrokenLists.{FitsFaces, BreaksExactly}
-use Rattle.sg_planar.specs.Unlike.{is_unlike, Follows}
+use Rattle.sg_planar.specs.Following.{is_unlike, Follows}
 use Rattle.sg_planar.proofs.PlanarDuality.{planar_duality, CutBy}
 use Rattle.sg_planar.proofs.RotationSums.{embedding, spins_connected}
 use Rattle.sg_planar.proofs.EulerBounds.{euler_sum}
@@ -37,7 +37,8 @@ sides_parity inst faces f p =
     odd-count_by side (range_with_len 0 (dart_count inst))
     ∙ parity_by_range side (dart_count inst)
     ∙ parity_below_by_pairs side (bond_count inst)
-    ∙ parity_below-same (λ k. xor (side (2 * k)) (side (2 * k + 1))) (λ k. p k && is_end (face_at faces (2 * k)) (face_at faces (2 * k + 1)) f) (bond_count inst) each
+    ∙ parity_below-same (λ k. xor (side (2 * k)) (side (2 * k + 1))) (λ k. p k && is_end (face_at faces (2 * k)) (face_at faces (2 * k + 1)) f)
+    (bond_count inst) each
   where
     side : ℕ → Bool
     side d = p (d / 2) && eqb (face_at faces d) f
@@ -71,10 +72,12 @@ module _ (inst : Ising) (good : IsInstance inst) where
   breaks_from_follows list down follows s assigned same k l =
       let bond : IsBond inst.n (bond_at inst k) = good.joined k (record { u = 0; v = 0; j = pos 0 }) l in
       is_broken_xor s (bond_at inst k) (unit_ends inst s good assigned k (record { u = 0; v = 0; j = pos 0 }) l)
-      ∙ ap (xor (is_negative (bond_at inst k))) (ap₂ xor (same (bond_at inst k).u bond.first_end) (same (bond_at inst k).v bond.second_end) ∙ sym (follows.across k l))
+      ∙ ap (xor (is_negative (bond_at inst k)))
+      (ap₂ xor (same (bond_at inst k).u bond.first_end) (same (bond_at inst k).v bond.second_end) ∙ sym (follows.across k l))
       ∙ undone (is_negative (bond_at inst k)) (holds list k)
 
-  module _ (faces : Labelling) (labels : IsFaceLabels inst faces) (connected : IsConnected inst) (genus_zero : euler inst ≡ pos 2) (list : List ℕ) (fits : FitsFaces inst faces list) where
+  module _ (faces : Labelling) (labels : IsFaceLabels inst faces) (connected : IsConnected inst) (genus_zero : euler inst ≡ pos 2)
+      (list : List ℕ) (fits : FitsFaces inst faces list) where
     abbrev near : ℕ → ℕ
     near k = face_at faces (2 * k)
 
@@ -109,7 +112,10 @@ module _ (inst : Ising) (good : IsInstance inst) where
             (is_unlike inst list) good.has_spin (spins_connected inst good connected) (omega (arith, labels.counts)) (omega arith) even_on_faces
 
         from_cut : CutBy (bond_count inst) (tail inst) (is_unlike inst list) → (down : ℕ → Bool) × Follows inst (is_unlike inst list) down
-        from_cut c = (c.values, record {
-          first_up = c.at_root;
-          across = λ k l. c.cuts k l ∙ ap₂ (λ x y. xor (c.values x) (c.values y)) (tail_first inst k) (tail_second inst k);
-        })
+        from_cut c = (
+          c.values,
+          record {
+            first_up = c.at_root;
+            across = λ k l. c.cuts k l ∙ ap₂ (λ x y. xor (c.values x) (c.values y)) (tail_first inst k) (tail_second inst k);
+          },
+        )

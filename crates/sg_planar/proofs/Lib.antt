@@ -7,3 +7,5 @@ pub mod PlanarDuality
 pub mod RotationSums
 pub mod EulerBounds
 pub mod FittingBonds
+pub mod FollowedBonds
+pub mod WalkOrders

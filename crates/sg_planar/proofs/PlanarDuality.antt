@@ -1,6 +1,6 @@
 -- Planar duality: in a connected embedding the bonds outside a spanning tree connect the faces, so that Euler's number is
 -- at most 2; where it is 2, a set of bonds that is even on each face is a cut of the spins.
-use Rattle.std.proofs.Common.{ap₂, ◌≡◌, ℕ, zero, suc, ◌+◌, ◌*◌, ◌<◌, ◌≤◌, Bool, true, false, ◌&&◌, eqb, List, [], ◌∷◌, ◌++◌, refl, sym, ◌∙◌, ap, arith, All, length}
+use Rattle.std.proofs.Common.{ap₂, ◌≡◌, ℕ, zero, suc, ◌+◌, ◌*◌, ◌<◌, ◌≤◌, Bool, false, ◌&&◌, eqb, List, [], ◌∷◌, ◌++◌, refl, sym, ◌∙◌, ap, arith, All, length}
 use Rattle.std.proofs.lemmas.List.{length-append}
 use Rattle.std.proofs.lemmas.List.Elements.{All-head, All-tail, All-cons, All-nil, All-append, All-weaker}
 use Rattle.std.proofs.lemmas.List.FromFn.{length-range_with_len}
@@ -36,7 +36,8 @@ outside_none (suc n) = omega (arith, outside_none n)
 -- all nodes but one are outside the root
 outside_root : (r : ℕ) → count_outside root (suc r) ≡ r
 outside_root r =
-    let e : suc (count_outside (joined (λ x. false) 0) (suc r)) ≡ count_outside (λ x. false) (suc r) = count_outside-joined (λ x. false) 0 (suc r) (omega arith) refl in
+    let e : suc (count_outside (joined (λ x. false) 0) (suc r)) ≡ count_outside (λ x. false) (suc r) =
+    count_outside-joined (λ x. false) 0 (suc r) (omega arith) refl in
     let w : count_outside (λ x. false) (suc r) ≡ suc r = outside_none (suc r) in
     omega arith
 
@@ -83,7 +84,8 @@ module _ (n m F : ℕ) (tail next face : ℕ → ℕ) (emb : IsEmbedding n m F t
     right_on_tree : All (λ k. wrong k ≡ false) found.tree
     right_on_tree =
         All-weaker (λ k. c k ≡ xor (found.values (u k)) (found.values (v k))) (λ k. wrong k ≡ false)
-        (λ k e. ap (λ w. xor w (xor (found.values (u k)) (found.values (v k)))) e ∙ xor_self (xor (found.values (u k)) (found.values (v k)))) found.tree found.fits
+        (λ k e. ap (λ w. xor w (xor (found.values (u k)) (found.values (v k)))) e ∙ xor_self (xor (found.values (u k)) (found.values (v k))))
+        found.tree found.fits
 
     of_tree : (P : ℕ → Type 0) → All P (bonds m) → All P found.tree
     of_tree P h = All-append_left P found.tree found.rest (All-permutation P (bonds m) (found.tree ++ found.rest) found.is h)
@@ -166,7 +168,8 @@ module _ (n m F : ℕ) (tail next face : ℕ → ℕ) (emb : IsEmbedding n m F t
             ap (λ w. xor w (degree_parity left right wrong found.rest f)) (sym (no_degree wrong left right f found.tree right_on_tree))
             ∙ sym (parts_of_sum (λ k. wrong k && is_end (left k) (right k) f))
             ∙ parity_below-same (λ k. wrong k && is_end (left k) (right k) f)
-            (λ k. xor (c k && is_end (left k) (right k) f) (cut k && is_end (left k) (right k) f)) m (λ k b'. xor-and (c k) (cut k) (is_end (left k) (right k) f))
+            (λ k. xor (c k && is_end (left k) (right k) f) (cut k && is_end (left k) (right k) f)) m
+            (λ k b'. xor-and (c k) (cut k) (is_end (left k) (right k) f))
             ∙ parity_below-xor (λ k. c k && is_end (left k) (right k) f) (λ k. cut k && is_end (left k) (right k) f) m
             ∙ ap₂ xor (even f b) (cuts_meet_evenly n m F tail next face emb found.values (λ g. eqb g f))
 

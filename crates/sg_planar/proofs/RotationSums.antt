@@ -1,6 +1,6 @@
 -- Sums over the darts of a rotation: `next` only moves them, round one cycle at each spin. So an instance with labelled
 -- faces is an embedding.
-use Rattle.std.proofs.Common.{inl, inr, ap₂, ◌≡◌, ◌⊎◌, ℕ, zero, suc, ◌+◌, ◌*◌, ◌%◌, ◌<◌, Bool, true, false, cond, ◌&&◌, eqb, List, [], ◌∷◌, refl, sym, ◌∙◌, ap, arith, All, length, get_or, count_by}
+use Rattle.std.proofs.Common.{inl, inr, ap₂, ◌≡◌, ℕ, zero, suc, ◌+◌, ◌*◌, ◌%◌, ◌<◌, Bool, true, false, cond, ◌&&◌, eqb, List, [], ◌∷◌, refl, sym, ◌∙◌, ap, arith, All, length, get_or}
 use Rattle.std.specs.List.{range_with_len}
 use Rattle.std.proofs.Math.Nat.{mod_self, mod-eq_of_lt}
 use Rattle.std.proofs.lemmas.List.Elements.{All-from_get_or}
@@ -10,7 +10,7 @@ use Rattle.sg_sums.proofs.ParityLaws.{odd-count_by, parity_by-same, parity_below
 use Rattle.sg_sums.proofs.Ranges.{parity_by_range}
 use Rattle.sg_sums.proofs.Recounting.{parity_below_first, parity_by_index, parity_by_counts, parity_below_by_pairs, All_range_at}
 use Rattle.sg_model.specs.Ising.{Ising, bond_at, bond_count}
-use Rattle.sg_model.specs.Rotation.{dart_count, rev, tail, is_dart_of, darts_of, following, next}
+use Rattle.sg_model.specs.Rotation.{dart_count, tail, is_dart_of, darts_of, following, next}
 use Rattle.sg_model.specs.Seam.{IsDistinct}
 use Rattle.sg_model.specs.WellFormed.{IsInstance}
 use Rattle.sg_model.specs.Connected.{JoinedBy, IsWalk, Reached, IsConnected, all_bonds}
@@ -18,7 +18,7 @@ use Rattle.sg_model.proofs.Darts.{tail_first, tail_second, rev_first, rev_second
 use Rattle.sg_faces.specs.Faces.{phi, Labelling, IsFaceLabels}
 use Rattle.sg_model.proofs.CyclicLists.{following_at}
 use Rattle.sg_model.proofs.Rotations.{spin_distinct, in_list, tail_below, place_of, next_is, next_in_list}
-use Rattle.sg_planar.proofs.Embeddings.{root, IsEmbedding, SpinsConnected}
+use Rattle.sg_planar.proofs.Embeddings.{IsEmbedding, SpinsConnected}
 
 -- to go one step on round a cycle changes no sum over it
 pub following_sum : (h : ℕ → Bool) (xs : List ℕ) → IsDistinct xs → parity_by (λ d. h (following xs d)) xs ≡ parity_by h xs
@@ -93,7 +93,8 @@ module _ (inst : Ising) (good : IsInstance inst) where
       (d e : ℕ) → d < dart_count inst → e < dart_count inst → tail inst d ≡ tail inst e → g d ≡ g e
   one_cycle g same d e ld le t = at_first d ld ∙ ap (λ i. g (get_or (darts_of inst i) 0 0)) t ∙ sym (at_first e le)
     where
-      at_place : (i : ℕ) → i < inst.n → (j : ℕ) → j < length (darts_of inst i) → g (following (darts_of inst i) (get_or (darts_of inst i) j 0)) ≡ g (get_or (darts_of inst i) j 0)
+      at_place : (i : ℕ) → i < inst.n → (j : ℕ) → j < length (darts_of inst i) →
+          g (following (darts_of inst i) (get_or (darts_of inst i) j 0)) ≡ g (get_or (darts_of inst i) j 0)
       at_place i b j q =
           ap (λ i'. g (following (darts_of inst i') (get_or (darts_of inst i) j 0))) (sym (in_list inst good i j b q).1)
           ∙ ap g (sym (next_is inst good (get_or (darts_of inst i) j 0))) ∙ same (get_or (darts_of inst i) j 0) (in_list inst good i j b q).0

@@ -9,7 +9,8 @@ use Rattle.sg_faces.specs.Sides.{sides_on}
 -- on each face as many darts of bonds of the list as darts of negative bonds, up to an even number
 abbrev pub FitsFaces : Ising → Labelling → List ℕ → Type 0
 FitsFaces inst faces bonds =
-    (f : ℕ) → f < faces.count → sides_on inst faces f (holds bonds) % 2 ≡ sides_on inst faces f (λ k. is_negative (bond_at inst k)) % 2
+    (f : ℕ) → f < faces.count →
+    sides_on inst faces f (holds bonds) % 2 ≡ sides_on inst faces f (λ k. is_negative (bond_at inst k)) % 2
 
 -- the broken bonds are those of the list
 abbrev pub BreaksExactly : Ising → List ℤ → List ℕ → Type 0

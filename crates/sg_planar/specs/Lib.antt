@@ -1,4 +1,4 @@
 pub mod Fit
 pub mod Reached
 pub mod BrokenLists
-pub mod Unlike
+pub mod Following

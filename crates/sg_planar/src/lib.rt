@@ -9,10 +9,12 @@
 //! is fit, which fact fails first, and what a `Planar` keeps.
 #![tactic(auto)]
 
+mod assignment;
 mod connected;
 mod fitness;
 mod planar;
 
+pub use assignment::spin_walk;
 pub use planar::{NotFit, Planar};
 use std::alloc::AllocError;
 

@@ -12,7 +12,7 @@ use Rattle.sg_model.specs.Connected.{JoinedBy, IsWalk, Reached}
 use Rattle.sg_model.specs.WellFormed.{IsInstance}
 use Rattle.sg_model.proofs.Rotations.{place_at}
 use Rattle.sg_model.proofs.Paths.{reached_more, dart_of_step}
-use Rattle.sg_walk.specs.Walk.{IsClosed, IsNoted, IsWalked}
+use Rattle.sg_walk.specs.Walk.{IsClosed, IsFoundFrom, IsNoted, IsWalked}
 use Rattle.sg_walk.specs.Search.{unmarked_count, IsSeen, Visits, SearchedTo}
 
 noted_push : (order : List ℕ) (y x : ℕ) → y ≡ x → IsNoted (order ++ y ∷ []) x
@@ -136,6 +136,8 @@ module _ (inst : Ising) (good : IsInstance inst) (bonds : ℕ → Bool) (root : 
     sound = λ k b. only (IsMarked (set base root true)) k (omega arith) (marked_here base root l);
     fresh = λ k b. only (λ x. get_or base x false ≡ false) k (omega arith) free;
     reached = λ k b. only (Reached inst bonds root) k (omega arith) ([], refl);
+    root_first = (omega arith, refl);
+    found_from = λ k p b. absurd (omega arith);
     once = λ j k b c. absurd (omega arith);
     noted = λ x h. ⊎_elim (λ (m : IsMarked base x). inl m) (λ (e : x ≡ root). inr (0, omega arith, sym e)) (marked_or_here base root x h);
     done = λ k b. absurd (omega arith);
@@ -160,6 +162,8 @@ module _ (inst : Ising) (good : IsInstance inst) (bonds : ℕ → Bool) (root : 
     sound = both (IsMarked now) (λ k c. v.kept (get_or before k 0) (h.sound k c)) v.sound;
     fresh = both (λ x. get_or base x false ≡ false) h.fresh (λ k b c. free_before base old (get_or after k 0) h.kept (v.fresh k b c));
     reached = both (Reached inst bonds root) h.reached (λ k b c. reached_more inst bonds root (get_or before next 0) (get_or after k 0) (h.reached next l) (v.joined k b c));
+    root_first = (omega (arith, h.root_first.0, v.longer), v.stays 0 h.root_first.0 ∙ h.root_first.1);
+    found_from = found_from';
     noted = λ x m. ⊎_elim (λ (o : IsMarked old x). keep x (h.noted x o)) (λ (c : IsNoted after x). inr c) (v.found x m);
     once = once';
     done = done';
@@ -188,6 +192,14 @@ module _ (inst : Ising) (good : IsInstance inst) (bonds : ℕ → Bool) (root : 
           by_place was (inl l) = h.once j k b l (sym (v.stays j was) ∙ e ∙ v.stays k l)
           by_place was (inr l) = let w : false ≡ true = sym (v.fresh k l c) ∙ ap (λ x. get_or old x false) (sym e ∙ v.stays j was) ∙ h.sound j was in cc
 
+      found_from' : (k : ℕ) → 0 < k → k < length after → IsFoundFrom inst bonds after k
+      found_from' k p b = elim (cases_lt k (length before)) [
+        | inl c ↦ (let f : IsFoundFrom inst bonds before k = h.found_from k p c in
+            (f.0, f.1, subst (λ x. JoinedBy inst bonds x (get_or after k 0)) (sym (v.stays f.0 (omega (arith, f.1))))
+            (subst (JoinedBy inst bonds (get_or before f.0 0)) (sym (v.stays k c)) f.2)))
+        | inr c ↦ (next, omega arith, subst (λ x. JoinedBy inst bonds x (get_or after k 0)) (sym (v.stays next l)) (v.joined k c b))
+      ]
+
       done' : (k : ℕ) → k < next + 1 → All (IsSeen inst bonds now) (darts_of inst (get_or after k 0))
       done' k b = subst (λ s. All (IsSeen inst bonds now) (darts_of inst s)) (sym (v.stays k (omega arith))) (elim (cases_eq k next) [
         | inl e ↦ subst (λ j. All (IsSeen inst bonds now) (darts_of inst (get_or before j 0))) (sym e) v.heads
@@ -204,6 +216,8 @@ module _ (inst : Ising) (good : IsInstance inst) (bonds : ℕ → Bool) (root : 
     marked = h.sound;
     fresh = h.fresh;
     reached = h.reached;
+    root_first = h.root_first;
+    found_from = h.found_from;
     once = h.once;
     closed = λ a b j m. ⊎_elim (λ (o : IsMarked base a). h.kept b (closed a b j o)) (λ (n : IsNoted order a). step a b j (dart_of_step inst bonds a b j) n) (h.noted a m);
   }

@@ -4,7 +4,7 @@ use Rattle.sg_sums.specs.Sets.{is_marked, IsMarked}
 use Rattle.sg_model.specs.Ising.{Ising}
 use Rattle.sg_model.specs.Rotation.{darts_of, head_of}
 use Rattle.sg_model.specs.Connected.{JoinedBy, Reached}
-use Rattle.sg_walk.specs.Walk.{IsNoted}
+use Rattle.sg_walk.specs.Walk.{IsFoundFrom, IsNoted}
 
 -- how many spins are not marked
 abbrev pub unmarked_count : List Bool → ℕ
@@ -39,6 +39,8 @@ pub record SearchedTo (inst : Ising) (set : ℕ → Bool) (root : ℕ) (base mar
   pub sound : (k : ℕ) → k < length order → IsMarked marks (slice_index order k)
   pub fresh : (k : ℕ) → k < length order → is_marked base (slice_index order k) ≡ false
   pub reached : (k : ℕ) → k < length order → Reached inst set root (slice_index order k)
+  pub root_first : (0 < length order) × (slice_index order 0 ≡ root)
+  pub found_from : (k : ℕ) → 0 < k → k < length order → IsFoundFrom inst set order k
   pub noted : (x : ℕ) → IsMarked marks x → IsMarked base x ⊎ IsNoted order x
   pub once : (j k : ℕ) → j < k → k < length order → slice_index order j ≢ slice_index order k
   pub done : (k : ℕ) → k < next → All (IsSeen inst set marks) (darts_of inst (slice_index order k))

@@ -16,7 +16,12 @@ IsNoted order x = (k : ℕ) × (k < length order) × (slice_index order k ≡ x)
 abbrev pub IsClosed : Ising → (ℕ → Bool) → List Bool → Type 0
 IsClosed inst set marks = (a b : ℕ) → JoinedBy inst set a b → IsMarked marks a → IsMarked marks b
 
--- the list has, each once, the spins that the root reaches, none of which was marked before
+-- a bond of the set joins the spin at place k with one that stands before it
+abbrev pub IsFoundFrom : Ising → (ℕ → Bool) → List ℕ → ℕ → Type 0
+IsFoundFrom inst set order k = (j : ℕ) × (j < k) × JoinedBy inst set (slice_index order j) (slice_index order k)
+
+-- the list has, each once, the spins that the root reaches, none of which was marked before: the root first, and each
+-- other one behind a spin that it is joined with
 -- they and the old ones are marked, and no others
 pub record IsWalked (inst : Ising) (set : ℕ → Bool) (root : ℕ) (old now : List Bool) (order : List ℕ) : Type 0 where
   pub lengths : length now ≡ length old
@@ -26,5 +31,7 @@ pub record IsWalked (inst : Ising) (set : ℕ → Bool) (root : ℕ) (old now : 
   pub marked : (k : ℕ) → k < length order → IsMarked now (slice_index order k)
   pub fresh : (k : ℕ) → k < length order → is_marked old (slice_index order k) ≡ false
   pub reached : (k : ℕ) → k < length order → Reached inst set root (slice_index order k)
+  pub root_first : (0 < length order) × (slice_index order 0 ≡ root)
+  pub found_from : (k : ℕ) → 0 < k → k < length order → IsFoundFrom inst set order k
   pub once : (j k : ℕ) → j < k → k < length order → slice_index order j ≢ slice_index order k
   pub closed : IsClosed inst set now

@@ -40,8 +40,8 @@ pub fn walk(
     Ok(())
 }
 
-// The spin that a dart leads to.
-fn head(inst: &Instance, dart: u32) -> u32
+/// The spin that a dart leads to.
+pub fn head(inst: &Instance, dart: u32) -> u32
     requires { dart < dart_count inst.now }
     ensures value { result ≡ head_of inst.now dart }
     ensures below { result < inst.now.n }

@@ -7,7 +7,7 @@
 
 mod breadth_first;
 
-pub use breadth_first::walk;
+pub use breadth_first::{head, walk};
 use std::alloc::AllocError;
 
 /// The allocator had no memory left.
