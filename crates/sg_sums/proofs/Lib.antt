@@ -9,3 +9,4 @@ pub mod ListLaws
 pub mod Ranges
 pub mod MarkLaws
 pub mod Recounting
+pub mod Tallies

@@ -1,0 +1,8 @@
+pub mod SetCount
+pub mod UnitSteps
+pub mod SetDuals
+pub mod EdgeReach
+pub mod Packing
+pub mod Cutting
+pub mod Climb
+pub mod SetDepths

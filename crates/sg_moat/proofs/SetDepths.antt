@@ -1,0 +1,194 @@
+-- The members of a set and the depths by them, and the cuts of one set more.
+use Rattle.std.proofs.Common.{◌≡◌, ◌==◌, ap₂, eq-eqb, ltb, true, Bool, ℕ, zero, suc, ◌+◌, ◌-◌, ◌*◌, ◌^◌, ◌<◌, ◌≤◌, ◌++◌, min, fold, cond, List, [], ◌∷◌, map, length, get_or, sum_by, pos, refl, sym, ap, ◌∙◌, subst, arith, All, Option, Some, None, IsSome}
+use Rattle.std.specs.Option.{option_map_or}
+use Rattle.std.specs.List.{range_with_len}
+use Rattle.std.specs.List.Sorted.{IsStrictlyIncreasing}
+use Rattle.std.proofs.lemmas.List.FromFn.{get_or-map-range_with_len, length-map-range_with_len}
+use Rattle.std.proofs.lemmas.List.{length-append, length-map}
+use Rattle.std.proofs.lemmas.List.Elements.{All-append, All-map, All-nil, All-weaker, All-from_get_or}
+use Rattle.std.proofs.lemmas.List.Sums.{sum_by-append}
+use Rattle.std.proofs.lemmas.List.Folds.{list_any_at}
+use Rattle.sg_sums.specs.Parity.{xor}
+use Rattle.sg_sums.specs.Sums.{sum_below}
+use Rattle.sg_sums.specs.Sets.{chosen_below, holds}
+use Rattle.sg_sums.proofs.SumLaws.{sum_below-same}
+use Rattle.sg_sums.proofs.Choosing.{chosen_below_more}
+use Rattle.sg_graph.specs.declared.cut.Cut.{Cut}
+use Rattle.sg_graph.specs.Web.{Graph, IsEdge, IsWeb, edge_at, edge_count}
+use Rattle.sg_graph.specs.OddCut.{crosses, cut_load, cut_weight}
+use Rattle.sg_graph.specs.Join.{AreTerminals}
+use Rattle.sg_graph.specs.Walk.{IsConnected}
+use Rattle.sg_graph.specs.Table.{IsTableOf, Routes, is_reached}
+use Rattle.sg_graph.proofs.TableLaws.{connected_reached, distance_signed, reached_if}
+use Rattle.sg_arena.specs.Family.{Family, Holds, IsAlive, IsFamily, Node, dual_of, has_leaf, leaf_count, leaves_of, node_at}
+use Rattle.sg_arena.proofs.FamilyLemmas.{alive_from_holds, leaf_bound, share-total, size-positive, some_leaf}
+use Rattle.sg_moat.specs.declared.members.Member.{Member}
+use Rattle.sg_moat.specs.Depths.{IsWhole, depth_by}
+use Rattle.sg_moat.specs.Input.{AreTerminalTables, distance_from, table_at}
+use Rattle.sg_moat.specs.Members.{member_of}
+use Rattle.sg_moat.specs.Sets.{alive_at, inner_of}
+use Rattle.sg_moat.specs.Slices.{IsSlice, Sliced, Slices, change_over, gap, inside_count, is_below, is_inside}
+use Rattle.sg_moat.specs.Gathers.{Adds, Gathers, IsMoatCut, reach_from, set_depth}
+use Rattle.sg_moat.proofs.Packing.{depth_full, dual_alive}
+use Rattle.sg_moat.proofs.SetCount.{alive_one}
+
+-- the depth by the list of members is that by the leaves
+pub depth_by_members : (f : Family) (tables : List Routes) (s x : ℕ) (leaves : List ℕ) (y : ℕ) → depth_by tables (map (member_of f s) leaves) y x ≡ fold (λ d leaf. min d (reach_from f tables s x leaf)) y leaves
+depth_by_members f tables s x [] y = refl
+depth_by_members f tables s x (l ∷ ls) y = depth_by_members f tables s x ls (min y (reach_from f tables s x l))
+
+module _ (f : Family) (fam : IsFamily f) (s : ℕ) where
+  -- the members are leaves
+  pub members_low : All (λ (m : Member). m.leaf < leaf_count f) (map (member_of f s) (leaves_of f s))
+  members_low = All-map (λ (m : Member). m.leaf < leaf_count f) (member_of f s) (leaves_of f s)
+      (All-from_get_or (λ l. l < leaf_count f) (leaves_of f s) 0 (λ i h. leaf_bound f fam s (get_or (leaves_of f s) i 0) (list_any_at (λ x. x == get_or (leaves_of f s) i 0) (leaves_of f s) i 0 h (eq-eqb (get_or (leaves_of f s) i 0) (get_or (leaves_of f s) i 0) refl))))
+
+  -- where there is a member there is a node, and its dual is small
+  pub members_alive : 0 < length (map (member_of f s) (leaves_of f s)) → IsAlive f s
+  members_alive some = go (node_at f s) (omega (arith, length-map (leaves_of f s) (member_of f s)))
+    where
+      go : (o : Option Node) → 0 < length (option_map_or (λ (n : Node). n.leaves) o []) → IsSome o
+      go (Some n) h = refl
+      go None h = absurd (omega arith)
+
+  pub dual_small : IsAlive f s → dual_of f s ≤ 2 ^ 61
+  dual_small alive =
+      let held = some_leaf f fam s alive in
+      omega (arith, share-total f s held.0 held.1, fam.bounded held.0)
+
+  -- a name without members has no dual
+  pub members_none : length (map (member_of f s) (leaves_of f s)) ≡ 0 → dual_of f s ≡ 0
+  members_none none = go (node_at f s) refl
+    where
+      go : (o : Option Node) → node_at f s ≡ o → option_map_or (λ (n : Node). n.dual) o 0 ≡ 0
+      go None e = refl
+      go (Some n) e =
+          let alive : IsAlive f s = subst (λ o. IsSome o) (sym e) refl in
+          absurd (omega (arith, length-map (leaves_of f s) (member_of f s), size-positive f fam s alive))
+
+-- tests that agree below n choose the same
+chosen_below_same : (p q : ℕ → Bool) (n : ℕ) → ((k : ℕ) → k < n → p k ≡ q k) → chosen_below p n ≡ chosen_below q n
+chosen_below_same p q zero h = refl
+chosen_below_same p q (suc n) h =
+    let rest : chosen_below p n ≡ chosen_below q n = chosen_below_same p q n (λ k l. h k (omega arith)) in
+    let one : n + 1 ≡ suc n = omega arith in
+    subst (λ k. chosen_below p k ≡ chosen_below q k) one
+    (chosen_below_more p n ∙ ap₂ (λ xs b. xs ++ cond b (n ∷ []) []) rest (h n (omega arith)) ∙ sym (chosen_below_more q n))
+
+-- what depths that agree at the nodes give
+module _ (g : Graph) (joined : All (IsEdge g.nodes) g.edges) (d c : ℕ → ℕ) (same : (x : ℕ) → x < g.nodes → d x ≡ c x) (y : ℕ) where
+  crosses_same : (level e : ℕ) → e < edge_count g → crosses g (is_below d level) e ≡ crosses g (is_below c level) e
+  crosses_same level e l =
+      let edge : IsEdge g.nodes (edge_at g e) = joined e (record { a = 0; b = 0; w = pos 0 }) l in
+      ap₂ (λ u v. xor (ltb u level) (ltb v level)) (same (edge_at g e).a edge.first_end) (same (edge_at g e).b edge.second_end)
+
+  slice_same : (cut : Cut) → IsSlice g d y cut → IsSlice g c y cut
+  slice_same cut h = record {
+    positive = h.positive;
+    level = h.level;
+    above = h.above;
+    up_to = h.up_to;
+    is = h.is ∙ chosen_below_same (crosses g (is_below d h.level)) (crosses g (is_below c h.level)) (edge_count g) (crosses_same h.level);
+  }
+
+  pub Slices-same : (cuts : List Cut) → Slices g d y cuts → Slices g c y cuts
+  Slices-same cuts h = record {
+    are = All-weaker (IsSlice g d y) (IsSlice g c y) slice_same cuts h.are;
+    total = h.total;
+    loads = λ e l.
+        let edge : IsEdge g.nodes (edge_at g e) = joined e (record { a = 0; b = 0; w = pos 0 }) l in
+        h.loads e l ∙ ap₂ gap (same (edge_at g e).a edge.first_end) (same (edge_at g e).b edge.second_end);
+    few =
+        let counted : inside_count g d y ≡ inside_count g c y =
+        sum_below-same (λ x. cond (is_inside y (d x)) 1 0) (λ x. cond (is_inside y (c x)) 1 0) g.nodes (λ x l. ap (λ v. cond (is_inside y v) 1 0) (same x l)) in
+        omega (arith, h.few);
+  }
+
+-- the depths of all nodes at a set, as a list
+pub record AreDepths (f : Family) (g : Graph) (tables : List Routes) (s : ℕ) (depths : List ℕ) : Type 0 where
+  pub count : length depths ≡ g.nodes
+  pub each : (x : ℕ) → x < g.nodes → get_or depths x 0 ≡ set_depth f tables s x
+  pub full : All (λ d. d ≤ dual_of f s) depths
+
+pub AreDepths-from : (f : Family) (g : Graph) (tables : List Routes) (s : ℕ) (depths : List ℕ) (members : List Member) (y n : ℕ) →
+    depths ≡ map (depth_by tables members y) (range_with_len 0 n) → members ≡ map (member_of f s) (leaves_of f s) → y ≡ dual_of f s → n ≡ g.nodes → AreDepths f g tables s depths
+AreDepths-from f g tables s depths members y n is set_is dual_is nodes_are =
+    let all : depths ≡ map (depth_by tables (map (member_of f s) (leaves_of f s)) (dual_of f s)) (range_with_len 0 g.nodes) =
+    is ∙ ap (λ ms. map (depth_by tables ms y) (range_with_len 0 n)) set_is
+    ∙ ap (λ d. map (depth_by tables (map (member_of f s) (leaves_of f s)) d) (range_with_len 0 n)) dual_is
+    ∙ ap (λ k. map (depth_by tables (map (member_of f s) (leaves_of f s)) (dual_of f s)) (range_with_len 0 k)) nodes_are in
+    let depth : ℕ → ℕ = depth_by tables (map (member_of f s) (leaves_of f s)) (dual_of f s) in
+    let count : length depths ≡ g.nodes = ap length all ∙ length-map-range_with_len depth 0 g.nodes in
+    let each : (x : ℕ) → x < g.nodes → get_or depths x 0 ≡ set_depth f tables s x =
+    λ x l. ap (λ ds. get_or ds x 0) all ∙ get_or-map-range_with_len depth 0 g.nodes x x 0 l (omega arith) ∙ depth_by_members f tables s x (leaves_of f s) (dual_of f s) in
+    record {
+      count = count;
+      each = each;
+      full = All-from_get_or (λ d. d ≤ dual_of f s) depths 0 (λ x l. (let low : x < g.nodes = omega arith in omega (arith, each x low, depth_full f tables s x)));
+    }
+
+-- in a connected graph the tables of terminals have a distance for every node
+pub tables_whole : (g : Graph) (terminals : List ℕ) (tables : List Routes) → IsConnected g → AreTerminals g terminals → AreTerminalTables g terminals tables → All (IsWhole g.nodes) tables
+tables_whole g terminals tables connected chosen are =
+    All-from_get_or (IsWhole g.nodes) tables (record { source = 0; to = [] })
+    (λ i l. (
+    let t : Routes = table_at tables i in
+    let is : IsTableOf g t = are.each i (record { source = 0; to = [] }) l in
+    let low : i < length terminals = omega (arith, are.count) in
+    let source : t.source < g.nodes = subst (λ z. z < g.nodes) (sym (are.sources i low)) (chosen.below i 0 low) in
+    let reached : (x : ℕ) → x < g.nodes → is_reached t x ≡ true = λ x lx. reached_if g t is x lx (connected_reached g connected t.source x source lx) in
+    record { count = is.nodes; reached = reached; signed = λ x lx. distance_signed g t is x lx (reached x lx) }
+    ))
+
+-- a rising list of numbers below n has at most n of them
+pub rising_short : (xs : List ℕ) (n : ℕ) → IsStrictlyIncreasing xs → All (λ x. x < n) xs → length xs ≤ n
+rising_short xs n up low = by_last (length xs) refl
+  where
+    above : (i : ℕ) → i < length xs → i ≤ get_or xs i 0
+    above zero l = omega arith
+    above (suc i) l =
+        let one : i + 1 ≡ suc i = omega arith in
+        let next : get_or xs i 0 < get_or xs (suc i) 0 = subst (λ k. get_or xs i 0 < get_or xs k 0) one (up i (omega arith)) in
+        omega (arith, above i (omega arith))
+
+    by_last : (k : ℕ) → length xs ≡ k → length xs ≤ n
+    by_last zero e = omega arith
+    by_last (suc k) e = omega (arith, above k (omega arith), low k 0 (omega arith))
+
+module _ (f : Family) (g : Graph) (tables : List Routes) (name : ℕ) where
+  -- a set of dual 0 adds no cut
+  pub Adds-none : (old : List Cut) → dual_of f name ≡ 0 → Adds f g tables name old old
+  Adds-none old none = record {
+    are = λ h. h;
+    total = omega arith;
+    loads = λ e l. omega (arith, depth_full f tables name (edge_at g e).a, depth_full f tables name (edge_at g e).b);
+    few = omega arith;
+  }
+
+  pub Adds-slices : (old new : List Cut) → 0 < dual_of f name → alive_at f name ≡ 1 → Sliced g (set_depth f tables name) (dual_of f name) old new → Adds f g tables name old new
+  Adds-slices old new some alive s =
+      subst (λ xs. Adds f g tables name old xs) (sym s.is) (record {
+        are = λ h.
+            All-append (IsMoatCut f g tables) old s.more h
+            (All-weaker (IsSlice g (set_depth f tables name) (dual_of f name)) (IsMoatCut f g tables) (λ c i. record { name = name; positive = some; slice = i }) s.more s.slices.are);
+        total = omega (arith, sum_by-append cut_weight old s.more, s.slices.total);
+        loads = λ e l. omega (arith, sum_by-append (λ c. cond (holds c.edges e) (cut_weight c) 0) old s.more, s.slices.loads e l);
+        few = omega (arith, length-append old s.more, s.slices.few, alive);
+      })
+
+  pub Adds-by : (old new : List Cut) (d : ℕ → ℕ) → IsWeb g → 0 < dual_of f name → IsFamily f → ((x : ℕ) → x < g.nodes → d x ≡ set_depth f tables name x) →
+      Sliced g d (dual_of f name) old new → Adds f g tables name old new
+  Adds-by old new d web some fam same s =
+      Adds-slices old new some (alive_one f fam name (dual_alive f name some))
+      (record { more = s.more; is = s.is; slices = Slices-same g web.joined d (set_depth f tables name) same (dual_of f name) s.more s.slices })
+
+pub Gathers-start : (f : Family) (g : Graph) (tables : List Routes) → Gathers f g tables 0 []
+Gathers-start f g tables = record { are = All-nil (IsMoatCut f g tables); total = refl; loads = λ e l. refl; few = omega arith }
+
+pub Gathers-more : (f : Family) (g : Graph) (tables : List Routes) (name : ℕ) (old new : List Cut) → Gathers f g tables name old → Adds f g tables name old new → Gathers f g tables (suc name) new
+Gathers-more f g tables name old new h a = record {
+  are = a.are h.are;
+  total = omega (arith, a.total, h.total);
+  loads = λ e l. omega (arith, a.loads e l, h.loads e l);
+  few = omega (arith, a.few, h.few);
+}

@@ -1,0 +1,6 @@
+pub mod Input
+pub mod Sets
+pub mod Slices
+pub mod Gathers
+pub mod Members
+pub mod Depths
