@@ -33,6 +33,3 @@ pub use verdict::Verdict;
 
 /// The allocator had no memory left.
 pub type NoMemory = AllocError;
-
-#[cfg(test)]
-mod tests;

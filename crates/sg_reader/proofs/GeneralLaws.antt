@@ -4,7 +4,7 @@ use Rattle.std.specs.Prelude.{◌||◌, ◌==◌, cond, filter, find, is_some, o
 use Rattle.std.specs.List.{list_any, range_with_len}
 use Rattle.std.specs.Option.{option_or}
 use Rattle.std.specs.Str.{bytes_eq}
-use Rattle.std.proofs.lemmas.Bool.{cases_eq, eq-eqb, le-leb, lt-leb, ne_eqb, or_parts}
+use Rattle.std.proofs.lemmas.Bool.{cases_eq, eq-eqb, lt-leb, ne_eqb, or_parts}
 use Rattle.std.proofs.lemmas.List.{append-nil, length-append, length-set, map-append, same_lists, get_or-set_same, get_or-set_other}
 use Rattle.std.proofs.lemmas.List.Elements.{All-append, All-cons, All-nil, All-same, filter-append}
 use Rattle.std.proofs.lemmas.List.Folds.{find-append, list_any-append}
@@ -13,14 +13,15 @@ use Rattle.std.proofs.lemmas.Slice.Eq.{bytes_eq-Decides}
 use Rattle.sg_model.specs.declared.bond.Bond.{Bond}
 use Rattle.sg_model.specs.declared.refusal.Fault.{Fault}
 use Rattle.sg_model.specs.declared.refusal.Fault.TheVariants.{Refused, NoMemory}
-use Rattle.sg_model.specs.declared.refusal.Refusal.TheVariants.{BadNumber, BadShape, SelfBond, TooManyBonds, UnknownKind}
+use Rattle.sg_model.specs.declared.refusal.Refusal.{Refusal}
+use Rattle.sg_model.specs.declared.refusal.Refusal.TheVariants.{BadNumber, BadShape, UnknownKind}
 use Rattle.sg_model.specs.Ising.{IsBond}
 use Rattle.sg_reader.specs.declared.header.Header.TheVariants as header
 use Rattle.sg_reader.specs.declared.general.GeneralBody.{GeneralBody}
-use Rattle.sg_reader.specs.declared.limits.TheConstants.{BOND_LIMIT}
+use Rattle.sg_limits.specs.Limits.{bond_limit}
 use Rattle.sg_reader.specs.Kept.{Kept, field}
 use Rattle.sg_reader.specs.Tests.{IsTestFault, any_index, bad_field, bad_number, is_number_in, size_in, spin_below}
-use Rattle.sg_reader.specs.Body.{bond_fault, bond_of, bond_range, bonds_in, darts_in, bare_end_fault, general_fault, has_rot, instance_of, is_bond, is_end, is_rot, is_rot_of, is_seam, record_fault, rot_fault, rot_range, seam_fault, seam_in, sizes_from}
+use Rattle.sg_reader.specs.Body.{bond_fault, bond_of, bond_range, ends_fault, bonds_in, darts_in, bare_end_fault, general_fault, has_rot, instance_of, is_bond, is_end, is_rot, is_rot_of, is_seam, record_fault, rot_fault, rot_range, seam_fault, seam_in, sizes_from}
 use Rattle.sg_reader.specs.Ended.{IsBody, IsEnded}
 use Rattle.sg_reader.specs.GeneralHolds.{HoldsGeneral}
 use Rattle.sg_reader.proofs.TestLaws.{bad_field-rest, is-not}
@@ -30,16 +31,18 @@ use Rattle.sg_reader.proofs.BodyLaws.{IsBody-more, seam_in-first, seam_in-other,
 pub bond_fault-number : (n m : ℕ) (r : Kept) (k : ℕ) → length r.fields ≡ 4 → bad_field r 1 (bond_range n) ≡ Some k → bond_fault n m r ≡ Some (BadNumber r.at k)
 bond_fault-number n m r k count bad = rw (is-not (length r.fields) 4 count, bad) refl
 
-pub bond_fault-many : (n m : ℕ) (r : Kept) → length r.fields ≡ 4 → bad_field r 1 (bond_range n) ≡ None → BOND_LIMIT ≤ m → bond_fault n m r ≡ Some (TooManyBonds (BOND_LIMIT + 1))
-bond_fault-many n m r count good many = rw (is-not (length r.fields) 4 count, good, le-leb BOND_LIMIT m many) refl
+one-test : (test : Option Refusal) → option_or test None ≡ test
+one-test None = refl
+one-test (Some refusal) = refl
 
-pub bond_fault-self : (n m : ℕ) (r : Kept) → length r.fields ≡ 4 → bad_field r 1 (bond_range n) ≡ None → m < BOND_LIMIT → size_in r 1 ≡ size_in r 2
-    → bond_fault n m r ≡ Some (SelfBond m)
-bond_fault-self n m r count good few same = rw (is-not (length r.fields) 4 count, good, lt-leb BOND_LIMIT m few, eq-eqb (size_in r 1) (size_in r 2) same) refl
+pub bond_fault-ends : (n m : ℕ) (r : Kept) (test : Option Refusal) → length r.fields ≡ 4
+    → bad_field r 1 (bond_range n) ≡ None → ends_fault (size_in r 1) (size_in r 2) m ≡ test → bond_fault n m r ≡ test
+bond_fault-ends n m r test count good ends =
+    rw (is-not (length r.fields) 4 count, good) (ap (λ (o : Option Refusal). option_or o None) ends ∙ one-test test)
 
-pub bond_fault-none : (n m : ℕ) (r : Kept) → length r.fields ≡ 4 → bad_field r 1 (bond_range n) ≡ None → m < BOND_LIMIT → (size_in r 1 ≡ size_in r 2 → ⊥)
+pub bond_fault-none : (n m : ℕ) (r : Kept) → length r.fields ≡ 4 → bad_field r 1 (bond_range n) ≡ None → m < bond_limit → (size_in r 1 ≡ size_in r 2 → ⊥)
     → bond_fault n m r ≡ None
-bond_fault-none n m r count good few other = rw (is-not (length r.fields) 4 count, good, lt-leb BOND_LIMIT m few, ne_eqb (size_in r 1) (size_in r 2) other) refl
+bond_fault-none n m r count good few other = rw (is-not (length r.fields) 4 count, good, lt-leb bond_limit m few, ne_eqb (size_in r 1) (size_in r 2) other) refl
 
 -- the tests of a rotation
 pub rot_fault-number : (n : ℕ) (seen : Bool) (r : Kept) (k : ℕ) → (length r.fields ≡ 1 → ⊥) → bad_field r 1 (rot_range n) ≡ Some k → rot_fault n seen r ≡ Some (BadNumber r.at k)
@@ -192,7 +195,7 @@ marks-kept : (body : List Kept) (r : Kept) (n : ℕ) → is_rot r ≡ false → 
 marks-kept body r n h = table-same (has_rot body) (has_rot (body ++ r ∷ [])) n (λ i. has_rot-other body r i (no-rot_of r i h))
 
 pub holds-bond : (body : List Kept) (r : Kept) (old : GeneralBody) (bonds : List Bond) → HoldsGeneral body old → is_bond r ≡ true
-    → bonds ≡ old.bonds ++ bond_of r ∷ [] → IsBond old.n (bond_of r) → length old.bonds < BOND_LIMIT
+    → bonds ≡ old.bonds ++ bond_of r ∷ [] → IsBond old.n (bond_of r) → length old.bonds < bond_limit
     → HoldsGeneral (body ++ r ∷ []) (record { n = old.n; bonds = bonds; rotation = old.rotation; seen = old.seen; seam = old.seam })
 holds-bond body r old bonds h is added sound room =
     let count = length-append old.bonds (bond_of r ∷ []) in

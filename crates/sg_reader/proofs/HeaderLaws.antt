@@ -3,10 +3,9 @@ use Rattle.std.proofs.Common.{◌≡◌, ℕ, ◌<◌, ◌≤◌, pos, length, O
 use Rattle.std.proofs.lemmas.Bool.{le-ltb, lt-ltb}
 use Rattle.sg_model.specs.declared.refusal.Refusal.TheVariants.{BadNumber, BadShape, TooManySpins}
 use Rattle.sg_reader.specs.declared.header.Form.{Form}
-use Rattle.sg_reader.specs.declared.limits.TheConstants.{SPIN_LIMIT}
 use Rattle.sg_reader.specs.Kept.{Kept, field}
 use Rattle.sg_reader.specs.Tests.{bad_field}
-use Rattle.sg_reader.specs.Header.{field_count, form_fault, form_of, header_fault, header_of, header_range, header_with, spins_in}
+use Rattle.sg_reader.specs.Header.{field_count, form_fault, form_of, header_fault, header_of, header_range, header_with, spin_limit, spins_in}
 use Rattle.sg_reader.proofs.TestLaws.{is-not, is-other}
 
 pub form_fault-shape : (form : Form) (r : Kept) → (length r.fields ≡ field_count form → ⊥) → form_fault (Some form) r ≡ Some (BadShape r.at)
@@ -17,14 +16,14 @@ pub form_fault-number : (form : Form) (r : Kept) (k : ℕ) → length r.fields �
 form_fault-number form r k count bad = rw (is-not (length r.fields) (field_count form) count, bad) refl
 
 pub form_fault-spins : (form : Form) (r : Kept) → length r.fields ≡ field_count form → bad_field r 1 (header_range form) ≡ None
-    → SPIN_LIMIT < spins_in form r → form_fault (Some form) r ≡ Some (TooManySpins (pos (spins_in form r)))
+    → spin_limit < spins_in form r → form_fault (Some form) r ≡ Some (TooManySpins (pos (spins_in form r)))
 form_fault-spins form r count good many =
-    rw (is-not (length r.fields) (field_count form) count, good, lt-ltb SPIN_LIMIT (spins_in form r) many) refl
+    rw (is-not (length r.fields) (field_count form) count, good, lt-ltb spin_limit (spins_in form r) many) refl
 
 pub form_fault-none : (form : Form) (r : Kept) → length r.fields ≡ field_count form → bad_field r 1 (header_range form) ≡ None
-    → spins_in form r ≤ SPIN_LIMIT → form_fault (Some form) r ≡ None
+    → spins_in form r ≤ spin_limit → form_fault (Some form) r ≡ None
 form_fault-none form r count good few =
-    rw (is-not (length r.fields) (field_count form) count, good, le-ltb SPIN_LIMIT (spins_in form r) few) refl
+    rw (is-not (length r.fields) (field_count form) count, good, le-ltb spin_limit (spins_in form r) few) refl
 
 -- a first record whose word is known
 pub header_fault-of : (r : Kept) (form : Option Form) → form_of (field r 0) ≡ form → header_fault r ≡ form_fault form r

@@ -12,4 +12,4 @@ pub mod HeaderLaws
 pub mod RecordCounts
 mod BehindLaws
 mod WorkedRecords
-pub mod SmallReads
+pub mod SizeLaws

@@ -1,9 +1,11 @@
 -- The records of a result, one more at a time.
-use Rattle.std.proofs.Common.{◌≡◌, ℕ, ℤ, ◌+◌, ◌-◌, ◌<◌, ◌≤◌, ◌^◌, Bool, true, false, List, [], ◌∷◌, ◌++◌, length, map, Option, Some, None, refl, sym, ap, ◌∙◌, arith, append_assoc, codes, inl, inr}
+use Rattle.std.proofs.Common.{◌≡◌, ℕ, ℤ, zero, suc, ◌+◌, ◌-◌, ◌*◌, ◌<◌, ◌≤◌, Bool, true, false, List, [], ◌∷◌, ◌++◌, length, take}
+use Rattle.std.proofs.Common.{Option, Some, None, refl, sym, ap, ◌∙◌, arith, append_assoc, codes, inl, inr}
 use Rattle.std.specs.Prelude.{◌==◌, not, option_map}
 use Rattle.std.specs.Str.{bytes_eq}
 use Rattle.std.proofs.lemmas.Bool.{cases_eq, ne_eqb, not_from_false, not_from_true}
 use Rattle.std.proofs.lemmas.List.{append-nil, length-append, map-append}
+use Rattle.std.proofs.lemmas.List.Elements.{All-cons}
 use Rattle.std.proofs.lemmas.List.Sums.{sum_by-cons}
 use Rattle.std.proofs.lemmas.Option.{none-some}
 use Rattle.std.proofs.lemmas.Slice.Eq.{bytes_eq-Decides}
@@ -16,9 +18,10 @@ use Rattle.sg_reader.specs.Kept.{Kept, field}
 use Rattle.sg_reader.specs.Number.{number_of}
 use Rattle.sg_reader.specs.Tests.{IsTestFault, any_index, any_number, bad_field, bad_number, first_of, is_number_in, number_in, refuse_if}
 use Rattle.sg_reader.specs.Body.{bare_end_fault, is_end, numbers_from}
-use Rattle.sg_reader.specs.Ended.{IsBody}
-use Rattle.sg_reader.specs.Result.{bad_spin, energy_fault, is_energy, is_loop, is_spin_value, is_spins, loop_fault, loop_of, loop_range, result_fault, result_of, spins_fault}
-use Rattle.sg_reader.specs.ReadResult.{AtRecord, IsResultFault, ReadsResult, WithoutEnd}
+use Rattle.sg_limits.specs.Limits.{text_limit}
+use Rattle.sg_reader.specs.Ended.{AtRecord, IsBody, IsEnded, IsRecordsFault, RefusesRecords, StatesToEnd, Table, WithoutEnd, record_at}
+use Rattle.sg_reader.specs.Result.{bad_spin, energy_fault, is_energy, is_loop, is_spin_value, is_spins, loop_fault, loop_of, loop_range, loops_fault, loops_of, result_fault, result_of, spins_fault}
+use Rattle.sg_reader.specs.ReadResult.{IsResultFault, ReadsResult}
 use Rattle.sg_reader.proofs.TestLaws.{bad_field-first, bad_field-one, bad_field-rest, find_range-none, find_range-some, is-not}
 use Rattle.sg_reader.proofs.BodyLaws.{IsBody-more, IsBody-none, word-inside}
 use Rattle.sg_reader.proofs.RecordCounts.{field_total}
@@ -92,128 +95,175 @@ spins-no_end : (r : Kept) → spins_fault r ≡ None → is_end r ≡ false
 spins-no_end r h =
     other-word (codes "spins") r refl (first-passes (is_spins r) (UnknownKind r.at) (option_map (λ i. BadNumber r.at i) (bad_spin r) ∷ []) h)
 
--- a record fails a test
-pub record-fault : (all body rest : List Kept) (r : Kept) (e : Fault) → all ≡ body ++ r ∷ rest → IsBody result_fault body → IsTestFault (result_fault body r) e → IsResultFault all e
-record-fault all body rest r (Refused x) split is_body bad = AtRecord body r rest split is_body bad
-record-fault all body rest r NoMemory split is_body bad = tt
+-- a record fails a test, or they run out
+pub record-fault : (fault : Table) (all body rest : List Kept) (r : Kept) (e : Fault)
+    → all ≡ body ++ r ∷ rest → IsBody fault body → IsTestFault (fault body r) e → IsRecordsFault fault all e
+record-fault fault all body rest r (Refused x) split is_body bad = AtRecord body r rest split is_body bad
+record-fault fault all body rest r NoMemory split is_body bad = tt
 
-pub energy-fault : (all rest : List Kept) (r : Kept) (refusal : Refusal) → all ≡ r ∷ rest → energy_fault r ≡ Some refusal → IsResultFault all (Refused refusal)
+-- one more record in front, which is no `end` and fails no test
+IsBody-cons : (fault : Table) (q : Kept) (body : List Kept) → is_end q ≡ false → fault [] q ≡ None
+    → IsBody (λ b r. fault (q ∷ b) r) body → IsBody fault (q ∷ body)
+IsBody-cons fault q body other good h = record {
+  goes_on = All-cons (λ (r : Kept). is_end r ≡ false) q body other h.goes_on;
+  passes = at;
+}
+  where
+    at : (k : ℕ) → k < length (q ∷ body) → fault (take k (q ∷ body)) (record_at (q ∷ body) k) ≡ None
+    at zero inside = good
+    at (suc k) inside = h.passes k (omega arith)
+
+IsEnded-cons : (fault : Table) (q : Kept) (rest body : List Kept) (last : Kept) → is_end q ≡ false → fault [] q ≡ None
+    → IsEnded (λ b r. fault (q ∷ b) r) rest body last → IsEnded fault (q ∷ rest) (q ∷ body) last
+IsEnded-cons fault q rest body last other good h = record {
+  more = h.more;
+  split = ap (λ (l : List Kept). q ∷ l) h.split;
+  is_body = IsBody-cons fault q body other good h.is_body;
+  ends = h.ends;
+  passes = h.passes;
+}
+
+Refuses-cons : (fault : Table) (q : Kept) (rest : List Kept) (x : Refusal) → is_end q ≡ false → fault [] q ≡ None
+    → RefusesRecords (λ b r. fault (q ∷ b) r) rest x → RefusesRecords fault (q ∷ rest) x
+Refuses-cons fault q rest x other good (AtRecord body r more split is_body bad) =
+    AtRecord (q ∷ body) r more (ap (λ (l : List Kept). q ∷ l) split) (IsBody-cons fault q body other good is_body) bad
+Refuses-cons fault q rest x other good (WithoutEnd is_body none) =
+    WithoutEnd (IsBody-cons fault q rest other good is_body) none
+
+-- the energy
+pub energy-fault : (all rest : List Kept) (r : Kept) (refusal : Refusal) → all ≡ r ∷ rest → energy_fault r ≡ Some refusal
+    → IsResultFault all (Refused refusal)
 unfolding result_fault
 energy-fault all rest r refusal split bad = AtRecord [] r rest split (IsBody-none result_fault) bad
 
-begun-energy : (r : Kept) → energy_fault r ≡ None → IsBody result_fault (r ∷ [])
-unfolding result_fault
-begun-energy r good = IsBody-more result_fault [] r (IsBody-none result_fault) (energy-no_end r good) good
-
-pub spins-fault : (all rest : List Kept) (q r : Kept) (e : Fault) → all ≡ q ∷ r ∷ rest → energy_fault q ≡ None → IsTestFault (spins_fault r) e → IsResultFault all e
-unfolding result_fault
-spins-fault all rest q r e split good bad = record-fault all (q ∷ []) rest r e split (begun-energy q good) bad
-
--- the records run out
 pub without-energy : (all : List Kept) → all ≡ [] → IsResultFault all (Refused Unended)
 without-energy all none = rw none (WithoutEnd (IsBody-none result_fault) refl)
 
-pub without-spins : (all : List Kept) (q : Kept) → all ≡ q ∷ [] → energy_fault q ≡ None → IsResultFault all (Refused Unended)
-without-spins all q only good = rw only (WithoutEnd (begun-energy q good) refl)
-
--- the records so far: an energy, spins and loops, what they state, and what is left of all of them
-pub record ResultSoFar (all left : List Kept) (energy : ℤ) (spins : List ℤ) (loops : List Loop) : Type 0 where
-  pub first : Kept
-  pub second : Kept
-  pub others : List Kept
-  pub split : all ≡ (first ∷ second ∷ others) ++ left
-  pub is_body : IsBody result_fault (first ∷ second ∷ others)
-  pub stated : energy ≡ number_in first 1
-  pub valued : spins ≡ numbers_from second 1
-  pub listed : loops ≡ map loop_of others
-  pub few : length spins + length loops + field_total left < 2 ^ 30
-
-pub begun : (all left : List Kept) (q r : Kept) (energy : ℤ) (spins : List ℤ) (loops : List Loop) → all ≡ q ∷ r ∷ left → energy_fault q ≡ None → spins_fault r ≡ None
-    → energy ≡ number_in q 1 → spins ≡ numbers_from r 1 → loops ≡ [] → field_total all ≤ 2 ^ 30 → length q.fields ≡ 2 → length spins < length r.fields
-    → ResultSoFar all left energy spins loops
+begun-energy : (q : Kept) → energy_fault q ≡ None → IsBody result_fault (q ∷ [])
 unfolding result_fault
-begun all left q r energy spins loops split good_q good_r stated valued none few two most =
-    let total : field_total all ≡ length q.fields + field_total (r ∷ left) = ap field_total split ∙ sum_by-cons (λ (p : Kept). length p.fields) q (r ∷ left) in
-    let rest = sum_by-cons (λ (p : Kept). length p.fields) r left in
+begun-energy q good = IsBody-cons result_fault q [] (energy-no_end q good) good (IsBody-none (λ b r. result_fault (q ∷ b) r))
+
+-- the spins behind an energy
+pub spins-fault : (all rest : List Kept) (q r : Kept) (e : Fault) → all ≡ r ∷ rest → energy_fault q ≡ None
+    → IsTestFault (spins_fault r) e → IsResultFault (q ∷ all) e
+unfolding result_fault
+spins-fault all rest q r e split good bad =
+    record-fault result_fault (q ∷ all) (q ∷ []) rest r e (ap (λ (l : List Kept). q ∷ l) split) (begun-energy q good) bad
+
+pub without-spins : (all : List Kept) (q : Kept) → all ≡ [] → energy_fault q ≡ None → IsResultFault (q ∷ all) (Refused Unended)
+without-spins all q none good = rw none (WithoutEnd (begun-energy q good) refl)
+
+-- the fields that are left behind a record
+pub fields-behind : (all rest : List Kept) (r : Kept) → all ≡ r ∷ rest → field_total all ≡ length r.fields + field_total rest
+fields-behind all rest r split = ap field_total split ∙ sum_by-cons (λ (p : Kept). length p.fields) r rest
+
+-- the loops so far, and what is left of all records behind the spins
+pub record LoopsSoFar (all left : List Kept) (loops : List Loop) : Type 0 where
+  pub body : List Kept
+  pub split : all ≡ body ++ left
+  pub is_body : IsBody loops_fault body
+  pub listed : loops ≡ loops_of body
+  pub few : 2 * length loops + field_total left ≤ text_limit
+
+pub no-loops : (all : List Kept) (loops : List Loop) → loops ≡ [] → field_total all ≤ text_limit → LoopsSoFar all all loops
+no-loops all loops none few =
     let count = ap length none in
     record {
-      first = q;
-      second = r;
-      others = [];
-      split = split;
-      is_body = IsBody-more result_fault (q ∷ []) r (begun-energy q good_q) (spins-no_end r good_r) good_r;
-      stated = stated;
-      valued = valued;
+      body = [];
+      split = refl;
+      is_body = IsBody-none loops_fault;
       listed = none;
-      few = omega (arith, total, rest, few, two, most, count);
+      few = omega (arith, few, count);
     }
 
--- the test of a record behind the spins
-pub result_fault-end : (q r : Kept) (others : List Kept) (last : Kept) → is_end last ≡ true → result_fault (q ∷ r ∷ others) last ≡ bare_end_fault last
-unfolding result_fault
-result_fault-end q r others last h = rw h refl
+loops_fault-end : (body : List Kept) (r : Kept) → is_end r ≡ true → loops_fault body r ≡ bare_end_fault r
+loops_fault-end body r h = rw h refl
 
-pub result_fault-loop : (q r : Kept) (others : List Kept) (last : Kept) → is_end last ≡ false → result_fault (q ∷ r ∷ others) last ≡ loop_fault last
-unfolding result_fault
-result_fault-loop q r others last h = rw h refl
+loops_fault-loop : (body : List Kept) (r : Kept) → is_end r ≡ false → loops_fault body r ≡ loop_fault r
+loops_fault-loop body r h = rw h refl
 
 -- one more loop
-pub one-more : (all left rest : List Kept) (p : Kept) (energy : ℤ) (spins : List ℤ) (loops new : List Loop) → ResultSoFar all left energy spins loops → left ≡ p ∷ rest
-    → is_end p ≡ false → loop_fault p ≡ None → new ≡ loops ++ loop_of p ∷ [] → 1 < length p.fields → ResultSoFar all rest energy spins new
-one-more all left rest p energy spins loops new sf next other good added long =
-    let total : field_total left ≡ length p.fields + field_total rest = ap field_total next ∙ sum_by-cons (λ (q : Kept). length q.fields) p rest in
+pub one-more : (all left rest : List Kept) (p : Kept) (loops new : List Loop) → LoopsSoFar all left loops → left ≡ p ∷ rest
+    → is_end p ≡ false → loop_fault p ≡ None → new ≡ loops ++ loop_of p ∷ [] → 1 < length p.fields → LoopsSoFar all rest new
+one-more all left rest p loops new sf next other good added long =
+    let total = fields-behind left rest p next in
     let few = sf.few in
     let count = ap length added ∙ length-append loops (loop_of p ∷ []) in
     record {
-      first = sf.first;
-      second = sf.second;
-      others = sf.others ++ p ∷ [];
-      split = sf.split ∙ ap (λ (l : List Kept). (sf.first ∷ sf.second ∷ sf.others) ++ l) next ∙ sym (append_assoc (sf.first ∷ sf.second ∷ sf.others) (p ∷ []) rest);
-      is_body = IsBody-more result_fault (sf.first ∷ sf.second ∷ sf.others) p sf.is_body other (result_fault-loop sf.first sf.second sf.others p other ∙ good);
-      stated = sf.stated;
-      valued = sf.valued;
-      listed = added ∙ ap (λ (l : List Loop). l ++ loop_of p ∷ []) sf.listed ∙ sym (map-append loop_of sf.others (p ∷ []));
+      body = sf.body ++ p ∷ [];
+      split = sf.split ∙ ap (λ (l : List Kept). sf.body ++ l) next ∙ sym (append_assoc sf.body (p ∷ []) rest);
+      is_body = IsBody-more loops_fault sf.body p sf.is_body other (loops_fault-loop sf.body p other ∙ good);
+      listed = added ∙ ap (λ (l : List Loop). l ++ loop_of p ∷ []) sf.listed ∙ sym (map-append loop_of sf.body (p ∷ []));
       few = omega (arith, total, few, count, long);
     }
 
--- a record behind the spins fails a test
-pub end-fault : (all left rest : List Kept) (p : Kept) (energy : ℤ) (spins : List ℤ) (loops : List Loop) (refusal : Refusal) → ResultSoFar all left energy spins loops
-    → left ≡ p ∷ rest → is_end p ≡ true → bare_end_fault p ≡ Some refusal → IsResultFault all (Refused refusal)
-end-fault all left rest p energy spins loops refusal sf next end bad =
-    AtRecord (sf.first ∷ sf.second ∷ sf.others) p rest (sf.split ∙ ap (λ (l : List Kept). (sf.first ∷ sf.second ∷ sf.others) ++ l) next) sf.is_body
-    (result_fault-end sf.first sf.second sf.others p end ∙ bad)
+-- a record behind the spins fails a test, or they run out
+pub end-fault : (all left rest : List Kept) (p : Kept) (loops : List Loop) (refusal : Refusal) → LoopsSoFar all left loops
+    → left ≡ p ∷ rest → is_end p ≡ true → bare_end_fault p ≡ Some refusal → IsRecordsFault loops_fault all (Refused refusal)
+end-fault all left rest p loops refusal sf next end bad =
+    AtRecord sf.body p rest (sf.split ∙ ap (λ (l : List Kept). sf.body ++ l) next) sf.is_body (loops_fault-end sf.body p end ∙ bad)
 
-pub loop-fault : (all left rest : List Kept) (p : Kept) (energy : ℤ) (spins : List ℤ) (loops : List Loop) (e : Fault) → ResultSoFar all left energy spins loops
-    → left ≡ p ∷ rest → is_end p ≡ false → IsTestFault (loop_fault p) e → IsResultFault all e
-loop-fault all left rest p energy spins loops e sf next other bad =
-    record-fault all (sf.first ∷ sf.second ∷ sf.others) rest p e (sf.split ∙ ap (λ (l : List Kept). (sf.first ∷ sf.second ∷ sf.others) ++ l) next) sf.is_body
-    (rw (result_fault-loop sf.first sf.second sf.others p other) bad)
+pub loop-fault : (all left rest : List Kept) (p : Kept) (loops : List Loop) (e : Fault) → LoopsSoFar all left loops
+    → left ≡ p ∷ rest → is_end p ≡ false → IsTestFault (loop_fault p) e → IsRecordsFault loops_fault all e
+loop-fault all left rest p loops e sf next other bad =
+    record-fault loops_fault all sf.body rest p e (sf.split ∙ ap (λ (l : List Kept). sf.body ++ l) next) sf.is_body
+    (rw (loops_fault-loop sf.body p other) bad)
 
-pub without-end : (all left : List Kept) (energy : ℤ) (spins : List ℤ) (loops : List Loop) → ResultSoFar all left energy spins loops → left ≡ [] → IsResultFault all (Refused Unended)
-without-end all left energy spins loops sf none =
-    let same : all ≡ sf.first ∷ sf.second ∷ sf.others =
-    sf.split ∙ ap (λ (l : List Kept). (sf.first ∷ sf.second ∷ sf.others) ++ l) none ∙ append-nil (sf.first ∷ sf.second ∷ sf.others) in
+pub without-end : (all left : List Kept) (loops : List Loop) → LoopsSoFar all left loops → left ≡ []
+    → IsRecordsFault loops_fault all (Refused Unended)
+without-end all left loops sf none =
+    let same : all ≡ sf.body = sf.split ∙ ap (λ (l : List Kept). sf.body ++ l) none ∙ append-nil sf.body in
     rw same (WithoutEnd sf.is_body refl)
 
 -- the `end`
-stated-result : (q r : Kept) (others : List Kept) (energy : ℤ) (spins : List ℤ) (loops : List Loop) → energy ≡ number_in q 1 → spins ≡ numbers_from r 1 → loops ≡ map loop_of others
-    → record { energy = energy; spins = spins; loops = loops } ≡ result_of (q ∷ r ∷ others)
-unfolding result_of
-stated-result q r others energy spins loops stated valued listed = λ i. record { energy = stated i; spins = valued i; loops = listed i }
-
-pub ended-result : (all left rest : List Kept) (last : Kept) (energy : ℤ) (spins : List ℤ) (loops : List Loop) (next_at : ℕ) → ResultSoFar all left energy spins loops
+pub ended-loops : (all left rest : List Kept) (last : Kept) (loops : List Loop) (next_at : ℕ) → LoopsSoFar all left loops
     → left ≡ last ∷ rest → is_end last ≡ true → bare_end_fault last ≡ None → next_at ≡ last.at + 1
-    → ReadsResult all (record { energy = energy; spins = spins; loops = loops }) next_at
-ended-result all left rest last energy spins loops next_at sf next end pass count = record {
-  body = sf.first ∷ sf.second ∷ sf.others;
+    → StatesToEnd loops_fault loops_of all loops next_at
+ended-loops all left rest last loops next_at sf next end pass count = record {
+  body = sf.body;
   last = last;
   ended = record {
     more = rest;
-    split = sf.split ∙ ap (λ (l : List Kept). (sf.first ∷ sf.second ∷ sf.others) ++ l) next;
+    split = sf.split ∙ ap (λ (l : List Kept). sf.body ++ l) next;
     is_body = sf.is_body;
     ends = end;
-    passes = result_fault-end sf.first sf.second sf.others last end ∙ pass;
+    passes = loops_fault-end sf.body last end ∙ pass;
   };
-  value = stated-result sf.first sf.second sf.others energy spins loops sf.stated sf.valued sf.listed;
+  value = sf.listed;
   count = count;
+}
+
+-- an energy, spins and what is behind them
+pub record IsFront (all left : List Kept) (q r : Kept) : Type 0 where
+  pub split : all ≡ q ∷ r ∷ left
+  pub energy : energy_fault q ≡ None
+  pub spins : spins_fault r ≡ None
+
+pub loops-fault : (all left : List Kept) (q r : Kept) (e : Fault) → IsFront all left q r → IsRecordsFault loops_fault left e
+    → IsResultFault all e
+unfolding result_fault
+loops-fault all left q r (Refused x) front bad =
+    rw front.split (Refuses-cons result_fault q (r ∷ left) x (energy-no_end q front.energy) front.energy
+    (Refuses-cons (λ b p. result_fault (q ∷ b) p) r left x (spins-no_end r front.spins) front.spins bad))
+loops-fault all left q r NoMemory front bad = tt
+
+stated-result : (q r : Kept) (body : List Kept) (energy : ℤ) (spins : List ℤ) (loops : List Loop)
+    → energy ≡ number_in q 1 → spins ≡ numbers_from r 1 → loops ≡ loops_of body
+    → record { energy = energy; spins = spins; loops = loops } ≡ result_of (q ∷ r ∷ body)
+unfolding result_of
+stated-result q r body energy spins loops stated valued listed =
+    λ i. record { energy = stated i; spins = valued i; loops = listed i }
+
+pub stated : (all left : List Kept) (q r : Kept) (energy : ℤ) (spins : List ℤ) (loops : List Loop) (next : ℕ)
+    → IsFront all left q r → energy ≡ number_in q 1 → spins ≡ numbers_from r 1
+    → StatesToEnd loops_fault loops_of left loops next
+    → ReadsResult all (record { energy = energy; spins = spins; loops = loops }) next
+unfolding result_fault
+stated all left q r energy spins loops next front is_energy are_spins st = record {
+  body = q ∷ r ∷ st.body;
+  last = st.last;
+  ended = rw front.split (IsEnded-cons result_fault q (r ∷ left) (r ∷ st.body) st.last (energy-no_end q front.energy) front.energy
+      (IsEnded-cons (λ b p. result_fault (q ∷ b) p) r left st.body st.last (spins-no_end r front.spins) front.spins st.ended));
+  value = stated-result q r st.body energy spins loops is_energy are_spins st.value;
+  count = st.count;
 }

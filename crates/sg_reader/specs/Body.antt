@@ -6,10 +6,10 @@ use Rattle.sg_model.specs.declared.refusal.Refusal.{Refusal}
 use Rattle.sg_model.specs.declared.refusal.Refusal.TheVariants.{BadShape, CouplingCount, SelfBond, TooManyBonds, UnknownKind}
 use Rattle.sg_model.specs.Ising.{Ising}
 use Rattle.sg_model.specs.Changes.{with_seam}
+use Rattle.sg_limits.specs.Limits.{bond_limit}
 use Rattle.sg_lattice.specs.Tables.{bond_total, lattice}
 use Rattle.sg_reader.specs.declared.header.Header.{Header}
 use Rattle.sg_reader.specs.declared.header.Header.TheVariants as header
-use Rattle.sg_reader.specs.declared.limits.TheConstants.{BOND_LIMIT}
 use Rattle.sg_reader.specs.declared.range.Range.{Range}
 use Rattle.sg_reader.specs.Kept.{Kept, begins}
 use Rattle.sg_reader.specs.Tests.{any_index, any_number, bad_number, first_of, number_in, refuse_if, size_in, spin_below}
@@ -87,13 +87,19 @@ bond_range n i = if i == 3 then any_number else spin_below n
 abbrev pub rot_range : ℕ → ℕ → Range
 rot_range n i = if i == 1 then spin_below n else any_index
 
+-- bond m between spins u and v: it is one too many, or it joins a spin to itself
+abbrev pub ends_fault : ℕ → ℕ → ℕ → Option Refusal
+ends_fault u v m = first_of (
+    refuse_if (nat_le bond_limit m) (TooManyBonds (bond_limit + 1))
+    ∷ refuse_if (u == v) (SelfBond m)
+    ∷ [])
+
 -- a bond of an instance of n spins, behind m bonds
 abbrev pub bond_fault : ℕ → ℕ → Kept → Option Refusal
 bond_fault n m r = first_of (
     refuse_if (not (length r.fields == 4)) (BadShape r.at)
     ∷ bad_number r 1 (bond_range n)
-    ∷ refuse_if (nat_le BOND_LIMIT m) (TooManyBonds (BOND_LIMIT + 1))
-    ∷ refuse_if (size_in r 1 == size_in r 2) (SelfBond m)
+    ∷ ends_fault (size_in r 1) (size_in r 2) m
     ∷ [])
 
 -- the darts of a spin, which may have been given before

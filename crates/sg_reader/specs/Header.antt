@@ -9,10 +9,13 @@ use Rattle.sg_reader.specs.declared.header.Form.{Form}
 use Rattle.sg_reader.specs.declared.header.Form.TheVariants as form
 use Rattle.sg_reader.specs.declared.header.Header.{Header}
 use Rattle.sg_reader.specs.declared.header.Header.TheVariants as header
-use Rattle.sg_reader.specs.declared.limits.TheConstants.{SPIN_LIMIT}
 use Rattle.sg_reader.specs.declared.range.Range.{Range}
 use Rattle.sg_reader.specs.Kept.{Kept, field}
 use Rattle.sg_reader.specs.Tests.{at_least, bad_number, first_of, refuse_if, size_in}
+
+-- the most spins of an instance that is read
+abbrev pub spin_limit : ℕ
+spin_limit = 16
 
 -- the form of an instance that a word names
 unfoldable pub form_of : List ℕ → Option Form
@@ -45,7 +48,7 @@ form_fault None r = Some (UnknownKind r.at)
 form_fault (Some form) r = first_of (
     refuse_if (not (length r.fields == field_count form)) (BadShape r.at)
     ∷ bad_number r 1 (header_range form)
-    ∷ refuse_if (nat_lt SPIN_LIMIT (spins_in form r)) (TooManySpins (pos (spins_in form r)))
+    ∷ refuse_if (nat_lt spin_limit (spins_in form r)) (TooManySpins (pos (spins_in form r)))
     ∷ [])
 
 unfoldable pub header_fault : Kept → Option Refusal
@@ -61,5 +64,5 @@ header_of r = option_map (header_with r) (form_of (field r 0))
 
 -- what a first record that passes its tests says: a lattice of a size that it may have, or a number of spins, within the limit
 abbrev pub IsHeader : Header → Type 0
-IsHeader (header.Lattice kind rows cols) = IsSize kind rows cols × (rows * cols ≤ SPIN_LIMIT)
-IsHeader (header.General n) = (1 ≤ n) × (n ≤ SPIN_LIMIT)
+IsHeader (header.Lattice kind rows cols) = IsSize kind rows cols × (rows * cols ≤ spin_limit)
+IsHeader (header.General n) = (1 ≤ n) × (n ≤ spin_limit)

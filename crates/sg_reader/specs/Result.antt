@@ -58,20 +58,27 @@ loop_fault r = first_of (
     ∷ bad_number r 1 loop_range
     ∷ [])
 
+-- the tests of a record behind the energy and the spins: a loop, or the `end`
+abbrev pub loops_fault : List Kept → Kept → Option Refusal
+loops_fault loops r = if is_end r then bare_end_fault r else loop_fault r
+
 -- the tests of a record of a result: the energy comes first, then the spins, then loops up to the `end`
 unfoldable pub result_fault : List Kept → Kept → Option Refusal
 result_fault [] r = energy_fault r
 result_fault (energy ∷ []) r = spins_fault r
-result_fault (energy ∷ spins ∷ loops) r = if is_end r then bare_end_fault r else loop_fault r
+result_fault (energy ∷ spins ∷ loops) r = loops_fault loops r
 
 -- the loop of a record
 abbrev pub loop_of : Kept → Loop
 loop_of r = record { y = number_in r 1; bonds = sizes_from r 2 }
+
+abbrev pub loops_of : List Kept → List Loop
+loops_of body = map loop_of body
 
 -- what the records in front of the `end` state
 unfoldable pub result_of : List Kept → ResultText
 result_of body = record {
   energy = number_in (record_at body 0) 1;
   spins = numbers_from (record_at body 1) 1;
-  loops = map loop_of (drop 2 body);
+  loops = loops_of (drop 2 body);
 }

@@ -1,21 +1,22 @@
-ghost use Rattle.std.specs.Prelude.{Bool, ◌≡◌, ◌<◌, ◌≤◌, ◌+◌, ◌++◌, ◌∷◌, [], ◌^◌, ℕ, List, false, true, None, Some, length, vec_len, IfOk, IfErr, OnOk};
+ghost use Rattle.std.specs.Prelude.{Bool, ◌≡◌, ◌≢◌, ◌<◌, ◌≤◌, ◌+◌, ◌++◌, ◌∷◌, [], ◌^◌, ℕ, List, false, true, None, Some, length, vec_len, IfOk, IfErr, OnOk};
 ghost use Rattle.std.specs.List.{sum_by};
-ghost use Rattle.sg_model.specs.Ising.{IsBond};
+ghost use Rattle.sg_limits.specs.Limits.{bond_limit};
+ghost use Rattle.sg_model.specs.Ising.{IsBond, bond_count};
 ghost use Rattle.sg_model.specs.WellFormed.{IsInstance};
 ghost use Rattle.sg_reader.specs.declared.header.Header.TheVariants as header;
 ghost use Rattle.sg_reader.specs.Kept.{Kept, field};
 ghost use Rattle.sg_reader.specs.Tests.{IsTestFault, is_number_in, size_in, spin_below};
-ghost use Rattle.sg_reader.specs.Body.{bond_fault, bond_of, general_fault, instance_of, is_bond, is_end, is_rot, is_seam, rot_fault};
+ghost use Rattle.sg_reader.specs.Body.{bond_fault, bond_of, ends_fault, general_fault, instance_of, is_bond, is_end, is_rot, is_seam, rot_fault};
 ghost use Rattle.sg_reader.specs.ReadInstance.{IsBodyFault, ReadsBody};
 ghost use Rattle.sg_reader.specs.GeneralHolds.{HoldsGeneral, HoldsSome};
 ghost use Rattle.sg_model.specs.Faults.{IsFaultOf};
 
 use super::NoMemory;
 use super::body::{END, SEAM, bare_end, indices, seam};
-use super::limits::BOND_LIMIT;
 use super::range::Range;
 use super::row::Row;
 use super::rows::Rows;
+use sg_limits::BOND_LIMIT;
 use sg_model::{Bond, BondList, Bonds, DartList, Fault, Instance, Refusal, Rotation};
 use std::alloc::Global;
 
@@ -34,14 +35,30 @@ pub(crate) struct GeneralBody {
     seam: Option<BondList>,
 }
 
+// The tests of bond `m` between two spins: there is room for it, and its ends differ.
+fn check_ends(u: u64, v: u64, m: usize) -> Result<(), Refusal>
+    requires { m ≤ bond_limit }
+    ensures room { OnOk result (m < bond_limit) }
+    ensures differ { OnOk result (u ≢ v) }
+    ensures refused { IfErr result (λ e. ends_fault u v m ≡ Some e) }
+{
+    if m >= BOND_LIMIT as usize {
+        return Err(Refusal::TooManyBonds { m: BOND_LIMIT + 1 });
+    }
+    if u == v {
+        return Err(Refusal::SelfBond { bond: m as u32 });
+    }
+    Ok(())
+}
+
 // The bond of a record `bond,U,V,J`, where `m` bonds stand before it.
 fn read_bond(row: &Row, n: u32, m: usize) -> Result<Bond, Refusal>
     requires some { 1 ≤ n }
-    requires few { m ≤ BOND_LIMIT }
+    requires few { m ≤ bond_limit }
     ensures passes { IfOk result (λ b. bond_fault n m row.now ≡ None) }
     ensures value { IfOk result (λ b. b ≡ bond_of row.now) }
     ensures sound { IfOk result (IsBond n) }
-    ensures room { IfOk result (λ b. m < BOND_LIMIT) }
+    ensures room { IfOk result (λ b. m < bond_limit) }
     ensures refused { IfErr result (λ e. bond_fault n m row.now ≡ Some e) }
 {
     if row.len() != 4 {
@@ -50,12 +67,7 @@ fn read_bond(row: &Row, n: u32, m: usize) -> Result<Bond, Refusal>
     let u = row.size(1, Range::spin_below(n))?;
     let v = row.size(2, Range::spin_below(n))?;
     let j = row.number(3, Range::any_number())?;
-    if m >= BOND_LIMIT as usize {
-        return Err(Refusal::TooManyBonds { m: BOND_LIMIT + 1 });
-    }
-    if u == v {
-        return Err(Refusal::SelfBond { bond: m as u32 });
-    }
+    check_ends(u, v, m)?;
     Ok(Bond {
         u: u as u32,
         v: v as u32,
@@ -103,7 +115,7 @@ impl GeneralBody {
 
     fn take_bond(&mut self, row: &Row) -> Result<(), Fault>
         requires some { 1 ≤ self.old.n }
-        requires few { length self.old.bonds ≤ BOND_LIMIT }
+        requires few { length self.old.bonds ≤ bond_limit }
         requires word { is_bond row.now ≡ true }
         ensures passes { OnOk result ((body : List Kept) → HoldsGeneral body self.old → general_fault self.old.n body row.now ≡ None) }
         ensures holds { OnOk result ((body : List Kept) → HoldsGeneral body self.old → HoldsGeneral (body ++ row.now ∷ []) self.new) }
@@ -150,7 +162,7 @@ impl GeneralBody {
     // Takes a record that is not the `end`.
     fn take(&mut self, alloc: Global, row: &Row) -> Result<(), Fault>
         requires some { 1 ≤ self.old.n }
-        requires few { length self.old.bonds ≤ BOND_LIMIT }
+        requires few { length self.old.bonds ≤ bond_limit }
         requires lists { length self.old.rotation ≡ self.old.n }
         requires marks { vec_len self.old.seen ≡ self.old.n }
         requires other { is_end row.now ≡ false }
@@ -210,6 +222,8 @@ pub(crate) fn read_general(
     requires small { n ≤ 2 ^ 24 }
     ensures read { IfOk result (λ r. ReadsBody (header.General n) records.old r.0 r.1) }
     ensures instance { IfOk result (λ r. IsInstance r.0) }
+    ensures spins { IfOk result (λ r. (r.0).n ≡ n) }
+    ensures bonds { IfOk result (λ r. bond_count r.0 ≤ bond_limit) }
     ensures fault { IfErr result (IsBodyFault (header.General n) records.old) }
 {
     let mut body = GeneralBody::new(alloc, n)?;

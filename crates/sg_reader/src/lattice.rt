@@ -1,6 +1,7 @@
-ghost use Rattle.std.specs.Prelude.{◌≡◌, ◌<◌, ◌≤◌, ◌+◌, ◌++◌, ◌∷◌, [], ◌^◌, ℕ, List, false, true, None, Some, length, All, IfOk, IfErr, OnOk, unsigned_abs};
+ghost use Rattle.std.specs.Prelude.{◌≡◌, ◌<◌, ◌≤◌, ◌+◌, ◌*◌, ◌++◌, ◌∷◌, [], ◌^◌, ℕ, List, false, true, None, Some, length, All, IfOk, IfErr, OnOk, unsigned_abs};
 ghost use Rattle.std.specs.List.{sum_by};
 ghost use Rattle.sg_model.specs.Faults.{IsFaultOf};
+ghost use Rattle.sg_model.specs.Ising.{bond_count};
 ghost use Rattle.sg_model.specs.WellFormed.{IsInstance};
 ghost use Rattle.sg_lattice.specs.Tables.{IsSize, bond_total, lattice};
 ghost use Rattle.sg_reader.specs.declared.header.Header.TheVariants as header;
@@ -98,6 +99,8 @@ pub(crate) fn read_lattice(
     requires few { sum_by (λ r. length r.fields) records.old < 2 ^ 32 }
     ensures read { IfOk result (λ r. ReadsBody (header.Lattice kind rows cols) records.old r.0 r.1) }
     ensures instance { IfOk result (λ r. IsInstance r.0) }
+    ensures spins { IfOk result (λ r. (r.0).n ≡ rows * cols) }
+    ensures bonds { IfOk result (λ r. bond_count r.0 ≤ 3 * (rows * cols)) }
     ensures fault { IfErr result (IsBodyFault (header.Lattice kind rows cols) records.old) }
 {
     let mut body = LatticeBody {

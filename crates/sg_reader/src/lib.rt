@@ -29,7 +29,6 @@ mod result;
 mod row;
 mod rows;
 
-pub use limits::{BOND_LIMIT, SPIN_LIMIT};
 pub use numeral::number;
 pub use read::{no_more, read_instance};
 pub use result::read_result;
@@ -37,6 +36,3 @@ use std::alloc::AllocError;
 
 /// The allocator had no memory left.
 pub type NoMemory = AllocError;
-
-#[cfg(test)]
-mod tests;

@@ -1,5 +1,2 @@
-/// The greatest number of spins of an instance.
+/// The most spins of an instance that is read.
 pub const SPIN_LIMIT: u32 = 16;
-
-/// The greatest number of bonds of a general instance.
-pub const BOND_LIMIT: u32 = 3072;

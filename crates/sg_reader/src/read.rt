@@ -1,5 +1,8 @@
-ghost use Rattle.std.specs.Prelude.{◌≡◌, ◌<◌, ◌≤◌, ◌^◌, None, length, IfOk, IfErr, OnOk};
+ghost use Rattle.std.specs.Prelude.{◌≡◌, ◌<◌, ◌≤◌, None, length, IfOk, IfErr, OnOk};
+ghost use Rattle.sg_limits.specs.Limits.{bond_limit, text_limit};
+ghost use Rattle.sg_model.specs.Ising.{bond_count};
 ghost use Rattle.sg_model.specs.WellFormed.{IsInstance};
+ghost use Rattle.sg_reader.specs.Header.{spin_limit};
 ghost use Rattle.sg_reader.specs.Kept.{kept_of};
 ghost use Rattle.sg_reader.specs.ReadInstance.{IsReadFault, ReadsInstance};
 ghost use Rattle.sg_reader.specs.NoMore.{IsTrailingFault, trailing_fault};
@@ -37,9 +40,11 @@ use std::alloc::Global;
 ///
 /// The time is linear in the bytes, and the memory is that of the instance and of the longest record.
 pub fn read_instance(alloc: Global, bytes: &[u8]) -> Result<(Instance, u32), Fault>
-    requires { length bytes.now < 2 ^ 30 }
+    requires { length bytes.now < text_limit }
     ensures read { IfOk result (λ r. ReadsInstance (kept_of bytes.now) r.0 r.1) }
     ensures instance { IfOk result (λ r. IsInstance r.0) }
+    ensures few_spins { IfOk result (λ r. (r.0).n ≤ spin_limit) }
+    ensures few_bonds { IfOk result (λ r. bond_count r.0 ≤ bond_limit) }
     ensures fault { IfErr result (IsReadFault (kept_of bytes.now)) }
 {
     let mut rows = Rows::new(alloc, bytes);
@@ -64,7 +69,7 @@ pub fn read_instance(alloc: Global, bytes: &[u8]) -> Result<(Instance, u32), Fau
 ///
 /// The time is linear in the bytes, and the memory that of the longest record.
 pub fn no_more(alloc: Global, bytes: &[u8], after: u32) -> Result<(), Fault>
-    requires { length bytes.now < 2 ^ 30 }
+    requires { length bytes.now < text_limit }
     ensures none { OnOk result (trailing_fault (kept_of bytes.now) after ≡ None) }
     ensures fault { IfErr result (IsTrailingFault (kept_of bytes.now) after) }
 {

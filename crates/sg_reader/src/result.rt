@@ -1,7 +1,10 @@
-ghost use Rattle.std.specs.Prelude.{◌≡◌, ◌<◌, ◌^◌, None, length, IfOk, IfErr};
+ghost use Rattle.std.specs.Prelude.{◌≡◌, ◌<◌, ◌≤◌, ◌∷◌, None, length, IfOk, IfErr};
+ghost use Rattle.std.specs.List.{sum_by};
+ghost use Rattle.sg_limits.specs.Limits.{text_limit};
 ghost use Rattle.sg_reader.specs.Body.{numbers_from};
-ghost use Rattle.sg_reader.specs.Kept.{kept_of};
-ghost use Rattle.sg_reader.specs.Result.{energy_fault, loop_fault, loop_of, spins_fault};
+ghost use Rattle.sg_reader.specs.Ended.{IsRecordsFault, StatesToEnd};
+ghost use Rattle.sg_reader.specs.Kept.{Kept, kept_of};
+ghost use Rattle.sg_reader.specs.Result.{energy_fault, loop_fault, loop_of, loops_fault, loops_of, spins_fault};
 ghost use Rattle.sg_reader.specs.ReadResult.{IsResultFault, ReadsResult, behind};
 ghost use Rattle.sg_reader.specs.Tests.{IsTestFault, number_in};
 
@@ -71,6 +74,58 @@ fn read_loop(alloc: Global, row: &Row) -> Result<Loop, Fault>
     Ok(Loop { y, bonds })
 }
 
+// The energy, in the next record.
+fn next_energy(rows: &mut Rows<'_>, row: &mut Row) -> Result<i64, Fault>
+    requires { sum_by (λ r. length r.fields) rows.old ≤ text_limit }
+    ensures split { IfOk result (λ e. rows.old ≡ row.new ∷ rows.new) }
+    ensures passes { IfOk result (λ e. energy_fault row.new ≡ None) }
+    ensures value { IfOk result (λ e. e ≡ number_in row.new 1) }
+    ensures few { IfOk result (λ e. sum_by (λ r. length r.fields) rows.new ≤ text_limit) }
+    ensures fault { IfErr result (IsResultFault rows.old) }
+{
+    if !rows.next(row)? {
+        return Err(Fault::Refused(Refusal::Unended));
+    }
+    let energy = read_energy(row)?;
+    Ok(energy)
+}
+
+// The spins, in the next record, which stands behind an energy.
+fn next_spins(alloc: Global, rows: &mut Rows<'_>, row: &mut Row) -> Result<Spins, Fault>
+    requires { sum_by (λ r. length r.fields) rows.old ≤ text_limit }
+    ensures split { IfOk result (λ s. rows.old ≡ row.new ∷ rows.new) }
+    ensures passes { IfOk result (λ s. spins_fault row.new ≡ None) }
+    ensures value { IfOk result (λ s. s ≡ numbers_from row.new 1) }
+    ensures count { IfOk result (λ s. length s < text_limit) }
+    ensures few { IfOk result (λ s. sum_by (λ r. length r.fields) rows.new ≤ text_limit) }
+    ensures fault { IfErr result (λ e. (energy : Kept) → energy_fault energy ≡ None →
+        IsResultFault (energy ∷ rows.old) e) }
+{
+    if !rows.next(row)? {
+        return Err(Fault::Refused(Refusal::Unended));
+    }
+    read_spins(alloc, row)
+}
+
+// The loops up to the `end`, with the number of records of the text up to and with it.
+fn read_loops(alloc: Global, rows: &mut Rows<'_>, row: &mut Row) -> Result<(Loops, u32), Fault>
+    requires { sum_by (λ r. length r.fields) rows.old ≤ text_limit }
+    ensures read { IfOk result (λ r. StatesToEnd loops_fault loops_of rows.old r.0 r.1) }
+    ensures few { IfOk result (λ r. length r.0 < text_limit) }
+    ensures fault { IfErr result (IsRecordsFault loops_fault rows.old) }
+{
+    let mut loops = Loops::new(alloc);
+    while rows.next(row)? {
+        if row.begins(END) {
+            bare_end(row)?;
+            return Ok((loops, row.at() + 1));
+        }
+        let entry = read_loop(alloc, row)?;
+        loops.push(entry)?;
+    }
+    Err(Fault::Refused(Refusal::Unended))
+}
+
 /// Reads a result behind the first `after` records of a text, and gives it with the number of `csv`
 /// records of the text up to and with its `end`.
 ///
@@ -86,35 +141,21 @@ fn read_loop(alloc: Global, row: &Row) -> Result<Loop, Fault>
 ///
 /// The time is linear in the bytes, and the memory is that of the result and of the longest record.
 pub fn read_result(alloc: Global, bytes: &[u8], after: u32) -> Result<(ResultText, u32), Fault>
-    requires { length bytes.now < 2 ^ 30 }
+    requires { length bytes.now < text_limit }
     ensures read { IfOk result (λ r. ReadsResult (behind after (kept_of bytes.now)) r.0 r.1) }
-    ensures few_spins { IfOk result (λ r. length r.0.spins < 2 ^ 30) }
-    ensures few_loops { IfOk result (λ r. length r.0.loops < 2 ^ 30) }
+    ensures few_spins { IfOk result (λ r. length r.0.spins < text_limit) }
+    ensures few_loops { IfOk result (λ r. length r.0.loops < text_limit) }
     ensures fault { IfErr result (IsResultFault (behind after (kept_of bytes.now))) }
 {
     let mut rows = Rows::behind(alloc, bytes, after)?;
     let mut row = Row::new(alloc);
-    if !rows.next(&mut row)? {
-        return Err(Fault::Refused(Refusal::Unended));
-    }
-    let energy = read_energy(&row)?;
-    if !rows.next(&mut row)? {
-        return Err(Fault::Refused(Refusal::Unended));
-    }
-    let spins = read_spins(alloc, &row)?;
-    let mut loops = Loops::new(alloc);
-    while rows.next(&mut row)? {
-        if row.begins(END) {
-            bare_end(&row)?;
-            let text = ResultText {
-                energy,
-                spins,
-                loops,
-            };
-            return Ok((text, row.at() + 1));
-        }
-        let entry = read_loop(alloc, &row)?;
-        loops.push(entry)?;
-    }
-    Err(Fault::Refused(Refusal::Unended))
+    let energy = next_energy(&mut rows, &mut row)?;
+    let spins = next_spins(alloc, &mut rows, &mut row)?;
+    let (loops, next) = read_loops(alloc, &mut rows, &mut row)?;
+    let text = ResultText {
+        energy,
+        spins,
+        loops,
+    };
+    Ok((text, next))
 }

@@ -1,5 +1,6 @@
 ghost use Rattle.std.specs.Prelude.{◌≡◌, ◌<◌, ◌≤◌, ◌+◌, ◌^◌, [], ◌∷◌, drop, length, IfOk, OnOk, MatchBool};
 ghost use Rattle.std.specs.List.{sum_by};
+ghost use Rattle.sg_limits.specs.Limits.{text_limit};
 ghost use Rattle.sg_reader.specs.Kept.{kept_of, numbered_from};
 ghost use Rattle.sg_reader.specs.Field.{without_marks as without_marks_of};
 ghost use Rattle.sg_reader.specs.ReadResult.{behind};
@@ -33,7 +34,7 @@ impl<'a> Model for Numbered<'a> {
 
 impl<'a> Numbered<'a> {
     fn new(alloc: Global, bytes: &'a [u8]) -> Self
-        requires { length bytes.now < 2 ^ 30 }
+        requires { length bytes.now < text_limit }
         ensures { result ≡ numbered_from 0 (records_of (without_marks_of bytes.now)) }
     {
         Numbered {
@@ -85,9 +86,9 @@ impl<'a> Model for Rows<'a> {
 impl<'a> Rows<'a> {
     /// In front of the first record of a text.
     pub(crate) fn new(alloc: Global, bytes: &'a [u8]) -> Self
-        requires { length bytes.now < 2 ^ 30 }
+        requires { length bytes.now < text_limit }
         ensures value { result ≡ kept_of bytes.now }
-        ensures few { sum_by (λ r. length r.fields) result ≤ 2 ^ 30 }
+        ensures few { sum_by (λ r. length r.fields) result ≤ text_limit }
     {
         Rows {
             records: Numbered::new(alloc, bytes),
@@ -96,9 +97,9 @@ impl<'a> Rows<'a> {
 
     /// Behind the first `after` records of a text, those that are skipped among them.
     pub(crate) fn behind(alloc: Global, bytes: &'a [u8], after: u32) -> Result<Self, NoMemory>
-        requires { length bytes.now < 2 ^ 30 }
+        requires { length bytes.now < text_limit }
         ensures value { IfOk result (λ rows. rows ≡ behind after (kept_of bytes.now)) }
-        ensures few { IfOk result (λ rows. sum_by (λ r. length r.fields) rows ≤ 2 ^ 30) }
+        ensures few { IfOk result (λ rows. sum_by (λ r. length r.fields) rows ≤ text_limit) }
     {
         let mut records = Numbered::new(alloc, bytes);
         records.skip(alloc, after)?;

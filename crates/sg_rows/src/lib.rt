@@ -9,6 +9,8 @@ mod checks;
 #[cfg(test)]
 mod devices;
 #[cfg(test)]
+mod numerals;
+#[cfg(test)]
 mod refusals;
 #[cfg(test)]
 mod rows;

@@ -124,6 +124,6 @@ fn many_bonds(alloc: Global, bonds: u32) -> Result<Vec<u8>, AllocError> {
 
 #[test]
 fn one_bond_too_many(rt: HostRuntime) -> Result<(), Fail> {
-    let text = many_bonds(rt.alloc(), 3073)?;
-    expect_refusal(&rt, rt.alloc(), text.as_slice(), "refused,8,3073\n")
+    let text = many_bonds(rt.alloc(), 6145)?;
+    expect_refusal(&rt, rt.alloc(), text.as_slice(), "refused,8,6145\n")
 }

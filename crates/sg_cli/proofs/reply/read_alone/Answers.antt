@@ -1,10 +1,8 @@
-use Rattle.sg_reader.specs.Kept.{kept_of}
-use Rattle.sg_reader.proofs.SmallReads.{reads-small}
 use Rattle.sg_cli.proofs.InputLemmas.{by_record, by_trailing}
 use Rattle.sg_cli.proofs.reply.read_alone.Goals as goal
 
 pub returns-in-Ok-no_more-clause-small : goal.returns-in-Ok-no_more-clause-small
-returns-in-Ok-no_more-clause-small c = reads-small (kept_of c.args.bytes.now) c.in-Ok.instance c.in-Ok.after c.in-Ok.ensures.read
+returns-in-Ok-no_more-clause-small c = c.in-Ok.ensures.few_spins
 
 pub returns-in-Err-no_more-clause-refuses : goal.returns-in-Err-no_more-clause-refuses
 returns-in-Err-no_more-clause-refuses c =

@@ -1,11 +1,11 @@
-use Rattle.std.proofs.Common.{◌≡◌, Some, length, sym, ◌∙◌, ap, arith}
+use Rattle.std.proofs.Common.{◌≡◌, ℕ, Some, length, sym, ◌∙◌, ap, arith}
 use Rattle.std.proofs.lemmas.Result.{err_from_is_err_and}
 use Rattle.sg_reader.specs.declared.range.Range.{Range}
 use Rattle.sg_reader.specs.Kept.{field}
-use Rattle.sg_reader.specs.Tests.{is_number_in}
-use Rattle.sg_reader.specs.Body.{bond_range}
+use Rattle.sg_reader.specs.Tests.{is_number_in, size_in}
+use Rattle.sg_reader.specs.Body.{bond_range, ends_fault}
 use Rattle.sg_reader.proofs.TestLaws.{bad_field-first, bad_field-second, bad_field-third, bad_field-three}
-use Rattle.sg_reader.proofs.GeneralLaws.{bond_fault-many, bond_fault-none, bond_fault-number, bond_fault-self}
+use Rattle.sg_reader.proofs.GeneralLaws.{bond_fault-ends, bond_fault-none, bond_fault-number}
 use Rattle.sg_reader.proofs.general.read_bond.Goals as goal
 
 pub returns-in_err-u-clause-refused : goal.returns-in_err-u-clause-refused
@@ -35,24 +35,18 @@ returns-in_err-j-clause-refused c =
     let bad = ap (λ (g : Range). is_number_in g (field r 3)) (sym c.any_number.ensures) ∙ c.in_err-j.ensures.refused.1 in
     rw (p.1, p.2) (bond_fault-number c.args.n c.args.m r 3 count (bad_field-third r (bond_range c.args.n) count first second bad) ∙ ap Some (sym c.in_err-j.ensures.refused.0))
 
-pub returns-then-m-clause-refused : goal.returns-then-m-clause-refused
-returns-then-m-clause-refused c =
+pub returns-in_err-check_ends-clause-refused : goal.returns-in_err-check_ends-clause-refused
+returns-in_err-check_ends-clause-refused c =
+    let p = err_from_is_err_and c.from_residual-in_err-check_ends.result c.from_residual-in_err-check_ends.ensures.1 in
     let r = c.args.row.now in
+    let m = c.args.m in
     let count : length r.fields ≡ 4 = omega arith in
     let first = ap (λ (g : Range). is_number_in g (field r 1)) (sym c.spin_below.ensures) ∙ c.in_ok-u.ensures.ok.1 in
     let second = ap (λ (g : Range). is_number_in g (field r 2)) (sym c.spin_below-2.ensures) ∙ c.in_ok-v.ensures.ok.1 in
     let third = ap (λ (g : Range). is_number_in g (field r 3)) (sym c.any_number.ensures) ∙ c.in_ok-j.ensures.ok.1 in
-    bond_fault-many c.args.n c.args.m r count (bad_field-three r (bond_range c.args.n) count first second third) (omega arith)
-
-pub returns-then-u-v-clause-refused : goal.returns-then-u-v-clause-refused
-returns-then-u-v-clause-refused c =
-    let r = c.args.row.now in
-    let count : length r.fields ≡ 4 = omega arith in
-    let first = ap (λ (g : Range). is_number_in g (field r 1)) (sym c.spin_below.ensures) ∙ c.in_ok-u.ensures.ok.1 in
-    let second = ap (λ (g : Range). is_number_in g (field r 2)) (sym c.spin_below-2.ensures) ∙ c.in_ok-v.ensures.ok.1 in
-    let third = ap (λ (g : Range). is_number_in g (field r 3)) (sym c.any_number.ensures) ∙ c.in_ok-j.ensures.ok.1 in
-    bond_fault-self c.args.n c.args.m r count (bad_field-three r (bond_range c.args.n) count first second third) (omega arith)
-    (sym c.in_ok-u.ensures.ok.0 ∙ c.if-u-v.true ∙ c.in_ok-v.ensures.ok.0)
+    let ends = ap (λ (u : ℕ). ends_fault u (size_in r 2) m) (sym c.in_ok-u.ensures.ok.0)
+    ∙ ap (λ (v : ℕ). ends_fault c.in_ok-u.u v m) (sym c.in_ok-v.ensures.ok.0) ∙ c.in_err-check_ends.ensures.refused in
+    rw (p.1, p.2) (bond_fault-ends c.args.n m r _ count (bad_field-three r (bond_range c.args.n) count first second third) ends)
 
 pub returns-clause-passes : goal.returns-clause-passes
 returns-clause-passes c =
@@ -61,5 +55,5 @@ returns-clause-passes c =
     let first = ap (λ (g : Range). is_number_in g (field r 1)) (sym c.spin_below.ensures) ∙ c.in_ok-u.ensures.ok.1 in
     let second = ap (λ (g : Range). is_number_in g (field r 2)) (sym c.spin_below-2.ensures) ∙ c.in_ok-v.ensures.ok.1 in
     let third = ap (λ (g : Range). is_number_in g (field r 3)) (sym c.any_number.ensures) ∙ c.in_ok-j.ensures.ok.1 in
-    bond_fault-none c.args.n c.args.m r count (bad_field-three r (bond_range c.args.n) count first second third) (omega arith)
-    (λ e. c.if-u-v.false (c.in_ok-u.ensures.ok.0 ∙ e ∙ sym c.in_ok-v.ensures.ok.0))
+    bond_fault-none c.args.n c.args.m r count (bad_field-three r (bond_range c.args.n) count first second third) c.in_ok-check_ends.ensures.room
+    (λ e. c.in_ok-check_ends.ensures.differ (c.in_ok-u.ensures.ok.0 ∙ e ∙ sym c.in_ok-v.ensures.ok.0))

@@ -10,6 +10,7 @@ use Rattle.sg_model.specs.Faults.{IsFaultOf}
 use Rattle.sg_reader.specs.Body.{instance_of}
 use Rattle.sg_reader.proofs.BodyLaws.{end-fault, record-fault}
 use Rattle.sg_reader.proofs.GeneralLaws.{ended-general, general_fault-end, lists-count, marks-count, one-more}
+use Rattle.sg_reader.proofs.SizeLaws.{general-bonds, general-spins}
 use Rattle.sg_reader.proofs.general.read_general.Goals as goal
 
 pub returns-in_err-bare_end-clause-fault : goal.returns-in_err-bare_end-clause-fault
@@ -76,3 +77,15 @@ returns-in_err-take-clause-fault c =
     let fault = subst (λ (k : ℕ). IsTestFault (general_fault k sf.body c.next.new.row) c.in_err-take.field-0.0) sf.spins (c.in_err-take.ensures.fault sf.body sf.holds) in
     rw (p.1, p.2) (record-fault (header.General c.args.n) c.args.records.now sf.body c.next.new.self c.next.new.row c.in_err-take.field-0.0
     (sf.split ∙ ap (λ (l : List Kept). sf.body ++ l) next) sf.is_body fault)
+
+pub returns-then-begins-clause-spins : goal.returns-then-begins-clause-spins
+returns-then-begins-clause-spins c =
+    let sf = c.loop-body.invariant in
+    let value = c.in_ok-inst.ensures.ok sf.body sf.holds ∙ ap (λ (k : ℕ). instance_of (header.General k) sf.body) sf.spins in
+    general-spins c.args.n sf.body c.in_ok-inst.inst value
+
+pub returns-then-begins-clause-bonds : goal.returns-then-begins-clause-bonds
+returns-then-begins-clause-bonds c =
+    let sf = c.loop-body.invariant in
+    let value = c.in_ok-inst.ensures.ok sf.body sf.holds ∙ ap (λ (k : ℕ). instance_of (header.General k) sf.body) sf.spins in
+    general-bonds c.args.n sf.body c.loop-body.body c.in_ok-inst.inst sf.holds value

@@ -7,6 +7,7 @@ use Rattle.sg_reader.specs.Kept.{Kept}
 use Rattle.sg_reader.specs.Body.{is_end, lattice_end_fault, record_fault}
 use Rattle.sg_reader.proofs.BodyLaws.{couplings_in-small, end-fault, record-fault}
 use Rattle.sg_reader.proofs.LatticeLaws.{ended-lattice, instance-lattice, lattice_fault-end, none-yet}
+use Rattle.sg_reader.proofs.SizeLaws.{lattice-bonds, lattice-spins}
 use Rattle.sg_reader.proofs.lattice.read_lattice.Goals as goal
 
 pub loop-body-init : goal.loop-body-init
@@ -77,3 +78,11 @@ returns-in_err-take-clause-fault c =
     let fault = c.in_err-take.ensures.fault sf.body (bond_total c.args.kind c.args.rows c.args.cols) sf.holds in
     rw (p.1, p.2) (record-fault (header.Lattice c.args.kind c.args.rows c.args.cols) c.args.records.now sf.body c.next.new.self c.next.new.row c.in_err-take.field-0.0
     (sf.split ∙ ap (λ (l : List Kept). sf.body ++ l) next) sf.is_body fault)
+
+pub returns-then-begins-clause-spins : goal.returns-then-begins-clause-spins
+returns-then-begins-clause-spins c =
+    lattice-spins c.args.kind c.args.rows c.args.cols c.loop-body.body.couplings c.loop-body.body.seam c.in_ok-inst.inst c.in_ok-inst.ensures.ok
+
+pub returns-then-begins-clause-bonds : goal.returns-then-begins-clause-bonds
+returns-then-begins-clause-bonds c =
+    lattice-bonds c.args.kind c.args.rows c.args.cols c.loop-body.body.couplings c.loop-body.body.seam c.in_ok-inst.inst c.requires.size c.in_ok-inst.ensures.ok

@@ -1,6 +1,7 @@
-use Rattle.std.proofs.Common.{Some, sym, ◌∙◌, ap}
-use Rattle.std.proofs.lemmas.Result.{IfErr-weaker, err_from_is_err_and}
+use Rattle.std.proofs.Common.{Some, sym, ◌∙◌, ap, arith, subst}
+use Rattle.std.proofs.lemmas.Result.{IfErr-weaker, IfOk-weaker, err_from_is_err_and}
 use Rattle.sg_reader.specs.declared.header.Header.TheVariants as header
+use Rattle.sg_reader.specs.Header.{IsHeader}
 use Rattle.sg_reader.specs.Kept.{kept_of}
 use Rattle.sg_reader.proofs.ReadLaws.{behind-fault, first-fault}
 use Rattle.sg_reader.proofs.read.read_instance.Goals as goal
@@ -28,3 +29,21 @@ returns-clause-fault c =
     (λ e fault. behind-fault (kept_of c.args.bytes.now) c.next.new.row c.next.new.self (header.General c.in-General.n) e
     (sym c.new-rows.ensures.value ∙ next) c.in_ok-kind.ensures.passes says fault)
     c.read_general.ensures.fault
+
+pub returns-in-Lattice-clause-few_spins : goal.returns-in-Lattice-clause-few_spins
+returns-in-Lattice-clause-few_spins c =
+    let sound : IsHeader (header.Lattice c.in-Lattice.kind c.in-Lattice.high c.in-Lattice.wide) = subst IsHeader c.in-Lattice.is c.in_ok-kind.ensures.sound in
+    let few = sound.1 in
+    IfOk-weaker c.read_lattice.result _ _ (λ r spins. omega (arith, spins, few)) c.read_lattice.ensures.spins
+
+pub returns-in-Lattice-clause-few_bonds : goal.returns-in-Lattice-clause-few_bonds
+returns-in-Lattice-clause-few_bonds c =
+    let sound : IsHeader (header.Lattice c.in-Lattice.kind c.in-Lattice.high c.in-Lattice.wide) = subst IsHeader c.in-Lattice.is c.in_ok-kind.ensures.sound in
+    let few = sound.1 in
+    IfOk-weaker c.read_lattice.result _ _ (λ r bonds. omega (arith, bonds, few)) c.read_lattice.ensures.bonds
+
+pub returns-clause-few_spins : goal.returns-clause-few_spins
+returns-clause-few_spins c =
+    let sound : IsHeader (header.General c.in-General.n) = subst IsHeader c.in-General.is c.in_ok-kind.ensures.sound in
+    let few = sound.1 in
+    IfOk-weaker c.read_general.result _ _ (λ r spins. omega (arith, spins, few)) c.read_general.ensures.spins

@@ -1,0 +1,76 @@
+-- How many spins and bonds an instance has that is read.
+use Rattle.std.proofs.Common.{◌≡◌, ℕ, ◌+◌, ◌-◌, ◌*◌, ◌/◌, ◌%◌, ◌≤◌, Bool, true, false, cond, eqb, List, length, Option, None, Some, refl, ap, ◌∙◌, arith, ℤ}
+use Rattle.std.proofs.lemmas.Nat.{mul-le}
+use Rattle.sg_limits.specs.Limits.{bond_limit}
+use Rattle.sg_model.specs.Ising.{Ising, bond_count}
+use Rattle.sg_lattice.specs.declared.kind.Kind.{Kind}
+use Rattle.sg_lattice.specs.declared.kind.Kind.TheVariants.{Square, Triangular, Hexagonal, Cylinder}
+use Rattle.sg_lattice.specs.Tables.{IsSize, bond_total, lattice, south_before}
+use Rattle.sg_lattice.proofs.LatticeBonds.{bond_count_is}
+use Rattle.sg_reader.specs.declared.general.GeneralBody.{GeneralBody}
+use Rattle.sg_reader.specs.declared.header.Header.TheVariants as header
+use Rattle.sg_reader.specs.Kept.{Kept}
+use Rattle.sg_reader.specs.Body.{bonds_in, instance_of, reseamed}
+use Rattle.sg_reader.specs.GeneralHolds.{HoldsGeneral}
+
+-- a lattice has three bonds for each spin at most
+row-more : (k C : ℕ) → (k + 1) * C ≡ k * C + C
+row-more k C = grind arith
+
+half_rows : (R C : ℕ) → 1 ≤ R → south_before C (R - 1) ≤ R * C
+half_rows R C some =
+    let rows = mul-le ((R - 1) / 2) C (R - 1) C (omega arith) (omega arith) in
+    let before : R ≡ R - 1 + 1 = omega arith in
+    let one_more : R * C ≡ (R - 1) * C + C = ap (λ (n : ℕ). n * C) before ∙ row-more (R - 1) C in
+    omega (arith, rows, one_more, most (eqb ((R - 1) % 2) 1))
+  where
+    most : (t : Bool) → cond t ((C + 1) / 2) 0 ≤ C
+    most true = omega arith
+    most false = omega arith
+
+pub bonds-of_lattice : (kind : Kind) (R C : ℕ) → IsSize kind R C → bond_total kind R C ≤ 3 * (R * C)
+bonds-of_lattice Square R C size =
+    omega (arith, mul-le R (C - 1) R C (omega arith) (omega arith), mul-le (R - 1) C R C (omega arith) (omega arith))
+bonds-of_lattice Triangular R C size =
+    omega (
+      arith,
+      mul-le R (C - 1) R C (omega arith) (omega arith),
+      mul-le (R - 1) C R C (omega arith) (omega arith),
+      mul-le (R - 1) (C - 1) R C (omega arith) (omega arith),
+    )
+bonds-of_lattice Hexagonal R C size =
+    omega (arith, mul-le R (C - 1) R C (omega arith) (omega arith), half_rows R C size.rows)
+bonds-of_lattice Cylinder R C size = omega (arith, mul-le (R - 1) C R C (omega arith) (omega arith))
+
+-- another seam changes neither number
+reseamed-spins : (seam : Option (List ℕ)) (inst : Ising) → (reseamed seam inst).n ≡ inst.n
+reseamed-spins None inst = refl
+reseamed-spins (Some seam) inst = refl
+
+reseamed-bonds : (seam : Option (List ℕ)) (inst : Ising) → bond_count (reseamed seam inst) ≡ bond_count inst
+reseamed-bonds None inst = refl
+reseamed-bonds (Some seam) inst = refl
+
+pub lattice-spins : (kind : Kind) (R C : ℕ) (js : List ℤ) (seam : Option (List ℕ)) (inst : Ising)
+    → inst ≡ reseamed seam (lattice kind R C js) → inst.n ≡ R * C
+lattice-spins kind R C js seam inst is = ap (λ (i : Ising). i.n) is ∙ reseamed-spins seam (lattice kind R C js)
+
+pub lattice-bonds : (kind : Kind) (R C : ℕ) (js : List ℤ) (seam : Option (List ℕ)) (inst : Ising) → IsSize kind R C
+    → inst ≡ reseamed seam (lattice kind R C js) → bond_count inst ≤ 3 * (R * C)
+lattice-bonds kind R C js seam inst size is =
+    let count = ap bond_count is ∙ reseamed-bonds seam (lattice kind R C js) ∙ bond_count_is kind R C size js in
+    omega (arith, count, bonds-of_lattice kind R C size)
+
+-- a general instance has the spins that its first record says, and no more bonds than were taken
+pub general-spins : (n : ℕ) (body : List Kept) (inst : Ising) → inst ≡ instance_of (header.General n) body → inst.n ≡ n
+unfolding instance_of
+general-spins n body inst is = ap (λ (i : Ising). i.n) is
+
+pub general-bonds : (n : ℕ) (body : List Kept) (state : GeneralBody) (inst : Ising) → HoldsGeneral body state
+    → inst ≡ instance_of (header.General n) body → bond_count inst ≤ bond_limit
+unfolding instance_of
+general-bonds n body state inst h is =
+    let count : bond_count inst ≡ length (bonds_in body) = ap bond_count is in
+    let held = ap length h.bonds in
+    let few = h.few in
+    omega (arith, count, held, few)
