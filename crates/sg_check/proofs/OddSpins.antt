@@ -31,7 +31,8 @@ module _ (inst : Ising) where
       is_marked new i ≡ xor (is_marked now i) (xor (eqb b.u i) (xor (eqb b.v i) false)) →
       is_marked new i ≡ xor (is_marked old i) (parity_by (ends_at i) (take (j + 1) list))
   is_marked_more list j b old now new i low same ne was turned =
-      let ends : xor (eqb b.u i) (xor (eqb b.v i) false) ≡ ends_at i (get_or list j 0) = ap (xor (eqb b.u i)) (xor-false (eqb b.v i)) ∙ one_end b.u b.v i ne ∙ ap (λ (b : Bond). is_end_of b i) same in
+      let ends : xor (eqb b.u i) (xor (eqb b.v i) false) ≡ ends_at i (get_or list j 0) = ap (xor (eqb b.u i)) (xor-false (eqb b.v i)) ∙ one_end b.u b.v i ne
+      ∙ ap (λ (b : Bond). is_end_of b i) same in
       turned
       ∙ ap (λ z. xor z (xor (eqb b.u i) (xor (eqb b.v i) false))) was
       ∙ xor_assoc (is_marked old i) (parity_by (ends_at i) (take j list)) (xor (eqb b.u i) (xor (eqb b.v i) false))
@@ -46,7 +47,8 @@ module _ (inst : Ising) where
 
   -- some bond ends at an odd spin
   has_end : (list : List ℕ) (i : ℕ) → parity_by (ends_at i) list ≡ true → list_any (ends_at i) list ≡ true
-  has_end list i e = let some : (k : ℕ) × (k < length list) × ((d : ℕ) → ends_at i (get_or list k d) ≡ true) = some_from_odd (ends_at i) list e in list_any_at (ends_at i) list some.0 0 some.1 (some.2 0)
+  has_end list i e = let some : (k : ℕ) × (k < length list) × ((d : ℕ) → ends_at i (get_or list k d) ≡ true) = some_from_odd (ends_at i) list e in list_any_at
+      (ends_at i) list some.0 0 some.1 (some.2 0)
 
   -- the least marked end of a bond is the least odd spin
   pub least_odd : (list : List ℕ) (marks : List Bool) (r : Option ℕ) →
@@ -67,7 +69,8 @@ module _ (inst : Ising) where
       below = found.0;
       fails = λ even. false≢true (sym (even_from_mod (count_by (ends_at x) list) even) ∙ odd-count_by (ends_at x) list ∙ sym (odd x found.0) ∙ found.1);
       earlier = λ k l. elim (cases_Bool (parity_by (ends_at k) list)) [
-        | inl odd_here ↦ (let low : k < inst.n = omega (arith, found.0) in let le : x ≤ k = least k low (odd k low ∙ odd_here) (has_end list k odd_here) in absurd (omega arith))
+        | inl odd_here ↦ (let low : k < inst.n = omega (arith, found.0) in let le : x ≤ k = least k low (odd k low
+            ∙ odd_here) (has_end list k odd_here) in absurd (omega arith))
         | inr even_here ↦ count_by-mod (ends_at k) list false even_here
       ];
     },
@@ -83,7 +86,8 @@ module _ (inst : Ising) where
       ∙ sym (parity_by_more (λ k. is_negative (bond_at inst k)) list j 0 low)
 
   -- the parity decides whether an odd number are negative
-  pub odd_sign : (list : List ℕ) (r : Bool) → r ≡ parity_by (λ k. is_negative (bond_at inst k)) list → (r ≡ true → IsOddlyNegative inst list) × (IsOddlyNegative inst list → r ≡ true)
+  pub odd_sign : (list : List ℕ) (r : Bool) → r ≡ parity_by (λ k. is_negative (bond_at inst k)) list
+      → (r ≡ true → IsOddlyNegative inst list) × (IsOddlyNegative inst list → r ≡ true)
   odd_sign list r e = (
     λ t. count_by-mod (λ k. is_negative (bond_at inst k)) list true (sym e ∙ t),
     λ h. e ∙ sym (odd-count_by (λ k. is_negative (bond_at inst k)) list) ∙ odd_from_mod (count_by (λ k. is_negative (bond_at inst k)) list) h,
@@ -96,4 +100,5 @@ pub turned_twice : (n : ℕ) (p : ℕ → Bool) (old mid new : List Bool) → le
 turned_twice n p old mid new a b e first second =
     ext_get_or false new old (e ∙ sym a) (λ i l.
     (let low : i < n = omega arith in
-    second i low ∙ ap (λ z. xor z (p i)) (first i low) ∙ xor_assoc (is_marked old i) (p i) (p i) ∙ ap (xor (is_marked old i)) (xor_self (p i)) ∙ xor-false (is_marked old i)))
+    second i low ∙ ap (λ z. xor z (p i)) (first i low) ∙ xor_assoc (is_marked old i) (p i) (p i) ∙ ap (xor (is_marked old i)) (xor_self (p i))
+    ∙ xor-false (is_marked old i)))

@@ -41,9 +41,11 @@ module _ (inst : Ising) (good : IsInstance inst) where
   ends_at t spins k l = unit_ends inst t good spins k (record { u = 0; v = 0; j = pos 0 }) l
 
   -- an odd number of the bonds of a frustrated loop are broken
-  pub loop_breaks_oddly : (t : List ℤ) → IsAssignment inst t → (bonds : List ℕ) → IsFrustratedLoop inst bonds → parity_by (λ k. is_broken t (bond_at inst k)) bonds ≡ true
+  pub loop_breaks_oddly : (t : List ℤ) → IsAssignment inst t → (bonds : List ℕ) → IsFrustratedLoop inst bonds
+      → parity_by (λ k. is_broken t (bond_at inst k)) bonds ≡ true
   loop_breaks_oddly t spins bonds loop =
-      parity_by-same (λ k. is_broken t (bond_at inst k)) (λ k. xor (is_negative (bond_at inst k)) (unlike k)) bonds (λ k d l. is_broken_xor t (bond_at inst (get_or bonds k d)) (ends_at t spins (get_or bonds k d) (loop.set.below k d l)))
+      parity_by-same (λ k. is_broken t (bond_at inst k)) (λ k. xor (is_negative (bond_at inst k)) (unlike k)) bonds
+      (λ k d l. is_broken_xor t (bond_at inst (get_or bonds k d)) (ends_at t spins (get_or bonds k d) (loop.set.below k d l)))
       ∙ parity_by-xor (λ k. is_negative (bond_at inst k)) unlike bonds
       ∙ ap₂ xor (sym (odd-count_by (λ k. is_negative (bond_at inst k)) bonds) ∙ odd_from_mod _ loop.odd) cut
     where
@@ -54,7 +56,8 @@ module _ (inst : Ising) (good : IsInstance inst) where
       cut = even_set_meets_cut_evenly (λ k. (bond_at inst k).u) (λ k. (bond_at inst k).v) (λ k. true) (λ i. is_down (spin t i)) inst.n bonds
           (λ k d l. (let w : IsBond inst.n (bond_at inst (get_or bonds k d)) = joins (get_or bonds k d) (loop.set.below k d l) in (w.first_end, w.second_end)))
           (λ x l. parity_by-same (λ k. is_end (bond_at inst k).u (bond_at inst k).v x) (λ k. is_end_of (bond_at inst k) x) bonds
-          (λ k d l'. one_end (bond_at inst (get_or bonds k d)).u (bond_at inst (get_or bonds k d)).v x (joins (get_or bonds k d) (loop.set.below k d l')).ends_differ)
+          (λ k d l'. one_end (bond_at inst (get_or bonds k d)).u (bond_at inst (get_or bonds k d)).v x
+          (joins (get_or bonds k d) (loop.set.below k d l')).ends_differ)
           ∙ sym (odd-count_by (λ k. is_end_of (bond_at inst k) x) bonds)
           ∙ even_from_mod _ (loop.even x l))
 
@@ -62,24 +65,37 @@ module _ (inst : Ising) (good : IsInstance inst) where
   pub no_less : (s : List ℤ) (e : ℤ) (loops : List Loop) → Proves inst s e loops → (t : List ℤ) → IsAssignment inst t → e ≤ℤ energy inst t
   no_less s e loops h t spins =
       let bound : total_weight loops ≤ sum_below (λ k. cond (is_broken t (bond_at inst k)) (2 * unsigned_abs (bond_at inst k).j) 0) (bond_count inst) =
-      weights_below_capacity loop_weight (λ l. holds l.bonds) (λ k. is_broken t (bond_at inst k)) (λ k. 2 * unsigned_abs (bond_at inst k).j) (bond_count inst) loops
+      weights_below_capacity loop_weight (λ l. holds l.bonds) (λ k. is_broken t (bond_at inst k)) (λ k. 2 * unsigned_abs (bond_at inst k).j)
+      (bond_count inst) loops
       (λ i d l. marked t spins (get_or loops i d) (h.packs.frustrated i d l)) h.packs.within in
-      let total : sum_by (broken_cost t) inst.bonds ≡ sum_below (λ k. cond (is_broken t (bond_at inst k)) (2 * unsigned_abs (bond_at inst k).j) 0) (bond_count inst) =
+      let total : sum_by (broken_cost t) inst.bonds ≡ sum_below (λ k. cond (is_broken t (bond_at inst k)) (2 * unsigned_abs (bond_at inst k).j) 0)
+      (bond_count inst) =
       sum_by_is_sum_below (broken_cost t) inst.bonds (record { u = 0; v = 0; j = pos 0 }) in
       below e (energy inst t) (total_weight loops) (weight inst) (sum_by (broken_cost t) inst.bonds) h.tight (energy_from_costs inst t good spins) (omega arith)
     where
-      marked : (t : List ℤ) → IsAssignment inst t → (l : Loop) → IsFrustratedLoop inst l.bonds → HasMarked loop_weight (λ (l : Loop). holds l.bonds) (λ k. is_broken t (bond_at inst k)) (bond_count inst) l
+      marked : (t : List ℤ) → IsAssignment inst t → (l : Loop) → IsFrustratedLoop inst l.bonds
+          → HasMarked loop_weight (λ (l : Loop). holds l.bonds) (λ k. is_broken t (bond_at inst k)) (bond_count inst) l
       marked t spins l loop =
-          let found : (i : ℕ) × (i < length l.bonds) × ((d : ℕ) → is_broken t (bond_at inst (get_or l.bonds i d)) ≡ true) = some_from_odd (λ k. is_broken t (bond_at inst k)) l.bonds (loop_breaks_oddly t spins l.bonds loop) in
-          let k : ℕ = get_or l.bonds found.0 0 in
-          (k, loop.set.below found.0 0 found.1, found.2 0, or_at (λ bs. holds bs k) (λ b. eqb b k) refl (λ _ _. refl) l.bonds found.0 0 found.1 (eq-eqb k k refl))
+          let found : (i : ℕ) × (i < length l.bonds) × ((d : ℕ) → is_broken t (bond_at inst (get_or l.bonds i d)) ≡ true) = some_from_odd
+          (λ k. is_broken t (bond_at inst k)) l.bonds (loop_breaks_oddly t spins l.bonds loop) in
+          let k : ℕ = get_or l.bonds found.0 0 in (
+            k,
+            loop.set.below found.0 0 found.1,
+            found.2 0,
+            or_at (λ bs. holds bs k) (λ b. eqb b k) refl (λ _ _. refl) l.bonds found.0 0 found.1
+                (eq-eqb k k refl),
+          )
 
       below : (e f : ℤ) (y w b : ℕ) → pos y ≡ e +ℤ pos w → f ≡ pos b -ℤ pos w → y ≤ b → e ≤ℤ f
       below e f y w b p q r = omega (arith, ints)
 
   -- the spins of a proof are a ground state
   pub proves_ground_state : (s : List ℤ) (e : ℤ) (loops : List Loop) → Proves inst s e loops → IsGroundState inst s
-  proves_ground_state s e loops h = record { assignment = h.assignment; least = λ t spins. subst (λ x. x ≤ℤ energy inst t) (sym h.stated) (no_less s e loops h t spins) }
+  proves_ground_state s e loops h = record {
+    assignment = h.assignment;
+    least = λ t spins. subst (λ x. x ≤ℤ energy inst t) (sym h.stated)
+        (no_less s e loops h t spins);
+  }
 
   -- the energy of a proof is the least
   pub proves_least_energy : (s : List ℤ) (e : ℤ) (loops : List Loop) → Proves inst s e loops → IsLeastEnergy inst e

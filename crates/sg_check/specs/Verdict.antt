@@ -48,7 +48,8 @@ PassesLoads inst loops = (k : ℕ) → k < bond_count inst → IsWithin inst loo
 abbrev pub IsVerdict : Ising → ResultText → Verdict → Type 0
 IsVerdict inst text Yes = Proves inst text.spins text.energy text.loops
 IsVerdict inst text (SpinCount found) = (found ≡ length text.spins) × (found ≢ inst.n)
-IsVerdict inst text (Energy found) = IsAssignment inst text.spins × (found ≡ energy inst text.spins) × (found ≢ text.energy)
+IsVerdict inst text (Energy found) =
+    IsAssignment inst text.spins × (found ≡ energy inst text.spins) × (found ≢ text.energy)
 IsVerdict inst text (LoopShape index) = StatesEnergy inst text × IsFirstBadLoop (HasShape inst) text.loops index
 IsVerdict inst text (LoopEven index spin) =
     StatesEnergy inst text × All (HasShape inst) text.loops

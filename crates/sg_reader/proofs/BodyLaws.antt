@@ -41,7 +41,8 @@ IsBody-none fault = record { goes_on = All-nil (λ (r : Kept). is_end r ≡ fals
 pub IsBody-more : (fault : List Kept → Kept → Option Refusal) (body : List Kept) (r : Kept) → IsBody fault body → is_end r ≡ false → fault body r ≡ None
     → IsBody fault (body ++ r ∷ [])
 IsBody-more fault body r h other good = record {
-  goes_on = All-append (λ (q : Kept). is_end q ≡ false) body (r ∷ []) h.goes_on (All-cons (λ (q : Kept). is_end q ≡ false) r [] other (All-nil (λ (q : Kept). is_end q ≡ false)));
+  goes_on = All-append (λ (q : Kept). is_end q ≡ false) body (r ∷ []) h.goes_on
+      (All-cons (λ (q : Kept). is_end q ≡ false) r [] other (All-nil (λ (q : Kept). is_end q ≡ false)));
   passes = λ k inside. at k inside;
 }
   where
@@ -122,7 +123,9 @@ number_in-small r i = by (number_of (field r i)) (λ z e. size-of_number (field 
 
 numbers-small : (r : Kept) (a n : ℕ) → All (λ j. unsigned_abs j < 2 ^ 63) (map (λ i. number_in r i) (range_with_len a n))
 numbers-small r a zero = All-nil (λ j. unsigned_abs j < 2 ^ 63)
-numbers-small r a (suc n) = All-cons (λ j. unsigned_abs j < 2 ^ 63) (number_in r a) (map (λ i. number_in r i) (range_with_len (a + 1) n)) (number_in-small r a) (numbers-small r (a + 1) n)
+numbers-small r a (suc n) =
+    All-cons (λ j. unsigned_abs j < 2 ^ 63) (number_in r a) (map (λ i. number_in r i) (range_with_len (a + 1) n)) (number_in-small r a)
+    (numbers-small r (a + 1) n)
 
 all-small : (rs : List Kept) → All (λ j. unsigned_abs j < 2 ^ 63) (flat_map (λ q. numbers_from q 0) rs)
 all-small [] = All-nil (λ j. unsigned_abs j < 2 ^ 63)
@@ -139,6 +142,7 @@ pub record-fault : (head : Header) (all body rest : List Kept) (r : Kept) (e : F
 record-fault head all body rest r (Refused x) split is_body bad = AtRecord body r rest split is_body bad
 record-fault head all body rest r NoMemory split is_body bad = tt
 
-pub end-fault : (head : Header) (all body : List Kept) (last : Kept) (e : Fault) → IsEnded (record_fault head) all body last → IsFaultOf (instance_of head body) e → IsBodyFault head all e
+pub end-fault : (head : Header) (all body : List Kept) (last : Kept) (e : Fault) → IsEnded (record_fault head) all body last
+    → IsFaultOf (instance_of head body) e → IsBodyFault head all e
 end-fault head all body last (Refused x) ended bad = AtEnd body last ended bad
 end-fault head all body last NoMemory ended bad = tt

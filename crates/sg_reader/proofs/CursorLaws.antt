@@ -31,9 +31,20 @@ pub records_left-more : (a b : Reader (Bor (List ℕ))) (row : List (List ℕ)) 
     → (records_left a ≡ row ∷ records_left b) × IsBetweenRecords b
 records_left-more a b row h read first flexible =
     let (xs, at) = known-bytes _ h.known in
-    let (ys, after, reached) = rows-more (λ (s : Bor (List ℕ)). Some s.now) a b row default_config (reader_state a) xs xs [] h.setup at (none-reached (reader_state a) xs) read in
-    let (left, between) = first-reached (reader_state a) (reader_state b) xs ys row h.between reached in
-    (rw (at, after) left, record { known = rw after refl; between = between; setup = read.2 ∙ h.setup; untrimmed = read.3 ∙ h.untrimmed; any_length = flexible ∙ h.any_length; ready = inl first })
+    let (ys, after, reached) = rows-more (λ (s : Bor (List ℕ)). Some s.now) a b row default_config (reader_state a) xs xs [] h.setup at
+    (none-reached (reader_state a) xs) read in
+    let (left, between) = first-reached (reader_state a) (reader_state b) xs ys row h.between reached in (
+      rw (at, after) left,
+      record {
+        known = rw after refl;
+        between = between;
+        setup = read.2 ∙ h.setup;
+        untrimmed = read.3 ∙ h.untrimmed;
+        any_length = flexible
+            ∙ h.any_length;
+        ready = inl first;
+      },
+    )
 
 -- no record was read: none was left
 pub records_left-none : (a b : Reader (Bor (List ℕ))) (row : List (List ℕ)) → IsBetweenRecords a

@@ -45,13 +45,16 @@ pub bond_fault-none : (n m : ℕ) (r : Kept) → length r.fields ≡ 4 → bad_f
 bond_fault-none n m r count good few other = rw (is-not (length r.fields) 4 count, good, lt-leb bond_limit m few, ne_eqb (size_in r 1) (size_in r 2) other) refl
 
 -- the tests of a rotation
-pub rot_fault-number : (n : ℕ) (seen : Bool) (r : Kept) (k : ℕ) → (length r.fields ≡ 1 → ⊥) → bad_field r 1 (rot_range n) ≡ Some k → rot_fault n seen r ≡ Some (BadNumber r.at k)
+pub rot_fault-number : (n : ℕ) (seen : Bool) (r : Kept) (k : ℕ) → (length r.fields ≡ 1 → ⊥) → bad_field r 1 (rot_range n) ≡ Some k
+    → rot_fault n seen r ≡ Some (BadNumber r.at k)
 rot_fault-number n seen r k count bad = rw (ne_eqb (length r.fields) 1 count, bad) refl
 
-pub rot_fault-seen : (n : ℕ) (seen : Bool) (r : Kept) → (length r.fields ≡ 1 → ⊥) → bad_field r 1 (rot_range n) ≡ None → seen ≡ true → rot_fault n seen r ≡ Some (BadShape r.at)
+pub rot_fault-seen : (n : ℕ) (seen : Bool) (r : Kept) → (length r.fields ≡ 1 → ⊥) → bad_field r 1 (rot_range n) ≡ None → seen ≡ true
+    → rot_fault n seen r ≡ Some (BadShape r.at)
 rot_fault-seen n seen r count good twice = rw (ne_eqb (length r.fields) 1 count, good, twice) refl
 
-pub rot_fault-none : (n : ℕ) (seen : Bool) (r : Kept) → (length r.fields ≡ 1 → ⊥) → bad_field r 1 (rot_range n) ≡ None → seen ≡ false → rot_fault n seen r ≡ None
+pub rot_fault-none : (n : ℕ) (seen : Bool) (r : Kept) → (length r.fields ≡ 1 → ⊥) → bad_field r 1 (rot_range n) ≡ None → seen ≡ false
+    → rot_fault n seen r ≡ None
 rot_fault-none n seen r count good first = rw (ne_eqb (length r.fields) 1 count, good, first) refl
 
 pub rot_range-rest : (n : ℕ) (r : Kept) → 2 ≤ length r.fields → is_number_in (spin_below n) (field r 1) ≡ true
@@ -171,8 +174,10 @@ table-set {X} f g n s v inside here others =
     let below : k < n = omega (arith, count, count_s) in
     let right = get_or-map-range_with_len g 0 n k k d below (omega arith) in
     elim (cases_eq k s) [
-      | inl e ↦ rw e (get_or-set_same (map f (range_with_len 0 n)) s v d (omega (arith, count)) ∙ sym here ∙ sym (get_or-map-range_with_len g 0 n s s d inside (omega arith)))
-      | inr other ↦ get_or-set_other (map f (range_with_len 0 n)) s k v d other ∙ get_or-map-range_with_len f 0 n k k d below (omega arith) ∙ sym (others k other) ∙ sym right
+      | inl e ↦ rw e (get_or-set_same (map f (range_with_len 0 n)) s v d (omega (arith, count)) ∙ sym here
+          ∙ sym (get_or-map-range_with_len g 0 n s s d inside (omega arith)))
+      | inr other ↦ get_or-set_other (map f (range_with_len 0 n)) s k v d other ∙ get_or-map-range_with_len f 0 n k k d below (omega arith)
+          ∙ sym (others k other) ∙ sym right
     ])
 
 table-same : {X : Type 0} (f g : ℕ → X) (n : ℕ) → ((i : ℕ) → g i ≡ f i) → map f (range_with_len 0 n) ≡ map g (range_with_len 0 n)
@@ -188,10 +193,12 @@ other-rot_of : (r : Kept) (i : ℕ) → is_rot r ≡ true → (i ≡ size_in r 1
 other-rot_of r i h other = rw (h, ne_eqb (size_in r 1) i (λ e. other (sym e))) refl
 
 -- what is kept behind a record that gives no darts
-darts-kept : (body : List Kept) (r : Kept) (n : ℕ) → is_rot r ≡ false → map (darts_in body) (range_with_len 0 n) ≡ map (darts_in (body ++ r ∷ [])) (range_with_len 0 n)
+darts-kept : (body : List Kept) (r : Kept) (n : ℕ) → is_rot r ≡ false
+    → map (darts_in body) (range_with_len 0 n) ≡ map (darts_in (body ++ r ∷ [])) (range_with_len 0 n)
 darts-kept body r n h = table-same (darts_in body) (darts_in (body ++ r ∷ [])) n (λ i. darts_in-other body r i (no-rot_of r i h))
 
-marks-kept : (body : List Kept) (r : Kept) (n : ℕ) → is_rot r ≡ false → map (has_rot body) (range_with_len 0 n) ≡ map (has_rot (body ++ r ∷ [])) (range_with_len 0 n)
+marks-kept : (body : List Kept) (r : Kept) (n : ℕ) → is_rot r ≡ false
+    → map (has_rot body) (range_with_len 0 n) ≡ map (has_rot (body ++ r ∷ [])) (range_with_len 0 n)
 marks-kept body r n h = table-same (has_rot body) (has_rot (body ++ r ∷ [])) n (λ i. has_rot-other body r i (no-rot_of r i h))
 
 pub holds-bond : (body : List Kept) (r : Kept) (old : GeneralBody) (bonds : List Bond) → HoldsGeneral body old → is_bond r ≡ true
@@ -229,7 +236,8 @@ holds-seam body r old seam h is first value = record {
 pub mark-of : (body : List Kept) (state : GeneralBody) (i : ℕ) (d : Bool) → HoldsGeneral body state → i < state.n → get_or state.seen.items i d ≡ has_rot body i
 mark-of body state i d h inside = ap (λ (l : List Bool). get_or l i d) h.marks ∙ get_or-map-range_with_len (has_rot body) 0 state.n i i d inside (omega arith)
 
-pub holds-rot : (body : List Kept) (r : Kept) (old new : GeneralBody) → HoldsGeneral body old → is_rot r ≡ true → size_in r 1 < old.n → has_rot body (size_in r 1) ≡ false
+pub holds-rot : (body : List Kept) (r : Kept) (old new : GeneralBody) → HoldsGeneral body old → is_rot r ≡ true → size_in r 1 < old.n
+    → has_rot body (size_in r 1) ≡ false
     → new.n ≡ old.n → new.bonds ≡ old.bonds → new.seam ≡ old.seam → new.rotation ≡ set old.rotation (size_in r 1) (sizes_from r 2)
     → new.seen.items ≡ set old.seen.items (size_in r 1) true → HoldsGeneral (body ++ r ∷ []) new
 holds-rot body r old new h is inside first same_n same_bonds same_seam lists marks =
@@ -241,10 +249,12 @@ holds-rot body r old new h is inside first same_n same_bonds same_seam lists mar
       few = omega (arith, count, few);
       joined = rw (same_n, same_bonds) h.joined;
       darts = lists ∙ ap (λ (l : List (List ℕ)). set l s (sizes_from r 2)) h.darts
-          ∙ table-set (darts_in body) (darts_in (body ++ r ∷ [])) old.n s (sizes_from r 2) inside (darts_in-own body r s (own-rot_of r is) first) (λ i other. darts_in-other body r i (other-rot_of r i is other))
+          ∙ table-set (darts_in body) (darts_in (body ++ r ∷ [])) old.n s (sizes_from r 2) inside (darts_in-own body r s (own-rot_of r is) first)
+          (λ i other. darts_in-other body r i (other-rot_of r i is other))
           ∙ ap (λ (n : ℕ). map (darts_in (body ++ r ∷ [])) (range_with_len 0 n)) (sym same_n);
       marks = marks ∙ ap (λ (l : List Bool). set l s true) h.marks
-          ∙ table-set (has_rot body) (has_rot (body ++ r ∷ [])) old.n s true inside (has_rot-own body r s (own-rot_of r is)) (λ i other. has_rot-other body r i (other-rot_of r i is other))
+          ∙ table-set (has_rot body) (has_rot (body ++ r ∷ [])) old.n s true inside (has_rot-own body r s (own-rot_of r is))
+          (λ i other. has_rot-other body r i (other-rot_of r i is other))
           ∙ ap (λ (n : ℕ). map (has_rot (body ++ r ∷ [])) (range_with_len 0 n)) (sym same_n);
       cut = same_seam ∙ h.cut ∙ sym (seam_in-other body r (rot-no_seam r is));
     }
@@ -272,7 +282,8 @@ pub record GeneralSoFar (n : ℕ) (all left : List Kept) (state : GeneralBody) :
   pub holds : HoldsGeneral body state
   pub spins : state.n ≡ n
 
-pub ended-general : (n : ℕ) (all left rest : List Kept) (r : Kept) (state : GeneralBody) (sf : GeneralSoFar n all left state) → left ≡ r ∷ rest → is_end r ≡ true
+pub ended-general : (n : ℕ) (all left rest : List Kept) (r : Kept) (state : GeneralBody) (sf : GeneralSoFar n all left state) → left ≡ r ∷ rest
+    → is_end r ≡ true
     → bare_end_fault r ≡ None → IsEnded (record_fault (header.General n)) all sf.body r
 ended-general n all left rest r state sf next end pass = record {
   more = rest;
@@ -308,10 +319,12 @@ holds-none state none cut darts marks =
     }
 
 -- one more spin without darts
-pub no_darts-more : (lists : List (List ℕ)) (i : ℕ) → lists ≡ map (darts_in []) (range_with_len 0 i) → lists ++ [] ∷ [] ≡ map (darts_in []) (range_with_len 0 (i + 1))
+pub no_darts-more : (lists : List (List ℕ)) (i : ℕ) → lists ≡ map (darts_in []) (range_with_len 0 i)
+    → lists ++ [] ∷ [] ≡ map (darts_in []) (range_with_len 0 (i + 1))
 unfolding darts_in
 no_darts-more lists i h = ap (λ (l : List (List ℕ)). l ++ [] ∷ []) h ∙ sym (map-range_with_len_more (darts_in []) 0 i i (omega arith))
 
-pub no_marks-more : (marks : List Bool) (i : ℕ) → marks ≡ map (has_rot []) (range_with_len 0 i) → marks ++ false ∷ [] ≡ map (has_rot []) (range_with_len 0 (i + 1))
+pub no_marks-more : (marks : List Bool) (i : ℕ) → marks ≡ map (has_rot []) (range_with_len 0 i)
+    → marks ++ false ∷ [] ≡ map (has_rot []) (range_with_len 0 (i + 1))
 unfolding has_rot
 no_marks-more marks i h = ap (λ (l : List Bool). l ++ false ∷ []) h ∙ sym (map-range_with_len_more (has_rot []) 0 i i (omega arith))

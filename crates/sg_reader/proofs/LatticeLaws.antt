@@ -88,7 +88,8 @@ one-more head all left rest r old new sf next other good holds count =
       few = omega (arith, total, few, count);
     }
 
-pub none-yet : (head : Header) (all : List Kept) (state : LatticeBody) → state.couplings ≡ [] → state.seam ≡ None → field_total all < 2 ^ 32 → LatticeSoFar head all all state
+pub none-yet : (head : Header) (all : List Kept) (state : LatticeBody) → state.couplings ≡ [] → state.seam ≡ None → field_total all < 2 ^ 32
+    → LatticeSoFar head all all state
 unfolding couplings_in seam_in
 none-yet head all state couplings bonds few =
     let count = ap length couplings in
@@ -101,7 +102,8 @@ none-yet head all state couplings bonds few =
     }
 
 -- the record that ends the lattice
-pub ended-lattice : (kind : Kind) (rows cols : ℕ) (all left rest : List Kept) (r : Kept) (state : LatticeBody) (sf : LatticeSoFar (header.Lattice kind rows cols) all left state)
+pub ended-lattice : (kind : Kind) (rows cols : ℕ) (all left rest : List Kept) (r : Kept) (state : LatticeBody)
+    (sf : LatticeSoFar (header.Lattice kind rows cols) all left state)
     → left ≡ r ∷ rest → is_end r ≡ true → lattice_end_fault (bond_total kind rows cols) (length state.couplings) r ≡ None
     → IsEnded (record_fault (header.Lattice kind rows cols)) all sf.body r
 ended-lattice kind rows cols all left rest r state sf next end pass = record {

@@ -49,7 +49,8 @@ IsNumeral-from_true field h = elim (cases_Bool (nat_lt 0 (length (without_leadin
 ]
 
 -- a field that spells a number, and its value
-pub number_of-some : (field : List ℕ) → IsNumeral 10 (without_leading_sign field) → size_of field < 2 ^ 63 → number_of field ≡ Some (signed_digits_value 10 field)
+pub number_of-some : (field : List ℕ) → IsNumeral 10 (without_leading_sign field) → size_of field < 2 ^ 63
+    → number_of field ≡ Some (signed_digits_value 10 field)
 unfolding number_of
 number_of-some field h small =
     let fits : nat_lt (size_of field) (2 ^ 63) ≡ true = grind (arith, nat_tests) in
@@ -67,7 +68,8 @@ number_of-none field h = elim (cases_Bool (is_numeral field)) [
 ]
 
 -- a number fits i64 and is not its least value exactly where its size is below 2^63
-size-from_fits : (b : Bool) (n : ℕ) → FitsSigned w64 (cond b (neg_ℤ (pos n)) (pos n)) → negsuc 9223372036854775807 <ℤ cond b (neg_ℤ (pos n)) (pos n) → n < 2 ^ 63
+size-from_fits : (b : Bool) (n : ℕ) → FitsSigned w64 (cond b (neg_ℤ (pos n)) (pos n)) → negsuc 9223372036854775807 <ℤ cond b (neg_ℤ (pos n)) (pos n)
+    → n < 2 ^ 63
 size-from_fits true zero f h = omega arith
 size-from_fits true (suc n) f h = omega (arith, ints)
 size-from_fits false n f h = omega (arith, ints)
@@ -110,7 +112,8 @@ pub number_of-no_text : (field : List ℕ) → (IsUtf8 field → ⊥) → number
 number_of-no_text field h = number_of-none field (λ numeral size. h (IsUtf8-from_numeral field numeral))
 
 -- what a parsed text spells, where its value is above the least i64 and where it is not
-pub number_of-parsed : (field : List ℕ) (z : ℤ) → IsNumeral 10 (without_leading_sign field) → FitsSigned w64 (signed_digits_value 10 field) → z ≡ signed_digits_value 10 field → negsuc 9223372036854775807 <ℤ z → Some z ≡ number_of field
+pub number_of-parsed : (field : List ℕ) (z : ℤ) → IsNumeral 10 (without_leading_sign field) → FitsSigned w64 (signed_digits_value 10 field)
+    → z ≡ signed_digits_value 10 field → negsuc 9223372036854775807 <ℤ z → Some z ≡ number_of field
 number_of-parsed field z numeral fits e above =
     sym (number_of-some field numeral (size-from_fits (starts_with_minus field) (size_of field) fits (rw e at above)) ∙ ap Some (sym e))
 
@@ -121,7 +124,8 @@ number_of-least field z e low = number_of-none field (λ numeral size.
     absurd (omega (arith, ints, above, low2)))
 
 -- what is not parsed spells no number
-pub number_of-unparsed : (field : List ℕ) → (IsNumeral 10 (without_leading_sign field) × FitsSigned w64 (signed_digits_value 10 field) → ⊥) → number_of field ≡ None
+pub number_of-unparsed : (field : List ℕ) → (IsNumeral 10 (without_leading_sign field) × FitsSigned w64 (signed_digits_value 10 field) → ⊥)
+    → number_of field ≡ None
 number_of-unparsed field h = number_of-none field (λ numeral size. h (numeral, fits-from_size (starts_with_minus field) (size_of field) size))
 
 -- the size of a number that a field spells

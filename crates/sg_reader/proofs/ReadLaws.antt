@@ -8,7 +8,8 @@ use Rattle.sg_reader.specs.Kept.{Kept}
 use Rattle.sg_reader.specs.Header.{header_fault, header_of}
 use Rattle.sg_reader.specs.ReadInstance.{AtFirst, Behind, IsBodyFault, IsReadFault}
 
-pub first-fault : (kept : List Kept) (first : Kept) (rest : List Kept) (refusal : Refusal) → kept ≡ first ∷ rest → header_fault first ≡ Some refusal → IsReadFault kept (Refused refusal)
+pub first-fault : (kept : List Kept) (first : Kept) (rest : List Kept) (refusal : Refusal) → kept ≡ first ∷ rest → header_fault first ≡ Some refusal
+    → IsReadFault kept (Refused refusal)
 first-fault kept first rest refusal split bad = AtFirst first rest split bad
 
 pub behind-fault : (kept : List Kept) (first : Kept) (rest : List Kept) (head : Header) (e : Fault) → kept ≡ first ∷ rest → header_fault first ≡ None

@@ -65,7 +65,9 @@ fields-records_from : (n : ℕ) (s : State) (xs : List ℕ) → sum_by length (r
 unfolding records_from
 fields-records_from zero s xs = omega arith
 fields-records_from (suc n) s xs =
-    by (next_record default_config s [] [] xs) (λ r e. (tight-more _ (length xs) r (omega arith) (length-record default_config s [] [] xs r e), ends_at_end-after_record s [] [] xs r e)) (λ r. fields-records_from n r.1 r.2)
+    by (next_record default_config s [] [] xs)
+    (λ r e. (tight-more _ (length xs) r (omega arith) (length-record default_config s [] [] xs r e), ends_at_end-after_record s [] [] xs r e))
+    (λ r. fields-records_from n r.1 r.2)
   where
     by : (o : Option Read) → ((r : Read) → o ≡ Some r → IsTight (length xs) r × (ends_at_end r.1 ≡ false))
         → ((r : Read) → sum_by length (records_from default_config n r.1 r.2) ≤ length r.2 + 1)
@@ -109,9 +111,11 @@ field_total-numbered at (r ∷ raw) =
     let first = fields_in-short r in
     let others = field_total-numbered (at + 1) raw in
     let all = sum_by-cons length r raw in
-    by (is_kept (record { at = at; fields = fields_in r })) (filter is_kept (numbered_from (at + 1) raw)) (omega (arith, others)) (omega (arith, first)) (omega (arith, all))
+    by (is_kept (record { at = at; fields = fields_in r })) (filter is_kept (numbered_from (at + 1) raw)) (omega (arith, others)) (omega (arith, first))
+    (omega (arith, all))
   where
-    by : (b : Bool) (rest : List Kept) → field_total rest ≤ sum_by length raw → length (fields_in r) ≤ length r → length r + sum_by length raw ≤ sum_by length (r ∷ raw)
+    by : (b : Bool) (rest : List Kept) → field_total rest ≤ sum_by length raw → length (fields_in r) ≤ length r
+        → length r + sum_by length raw ≤ sum_by length (r ∷ raw)
         → field_total (cond b (record { at = at; fields = fields_in r } ∷ rest) rest) ≤ sum_by length (r ∷ raw)
     by true rest others first all = let e = sum_by-cons (λ (q : Kept). length q.fields) (record { at = at; fields = fields_in r }) rest in omega (arith, e)
     by false rest others first all = omega arith
@@ -122,5 +126,7 @@ field_total-filter p [] = omega arith
 field_total-filter p (r ∷ rs) = by (p r) (field_total-filter p rs)
   where
     by : (b : Bool) → field_total (filter p rs) ≤ field_total rs → field_total (cond b (r ∷ filter p rs) (filter p rs)) ≤ field_total (r ∷ rs)
-    by true less = let a = sum_by-cons (λ (q : Kept). length q.fields) r (filter p rs) in let b = sum_by-cons (λ (q : Kept). length q.fields) r rs in omega (arith, less, a, b)
+    by true less =
+        let a = sum_by-cons (λ (q : Kept). length q.fields) r (filter p rs) in let b = sum_by-cons (λ (q : Kept). length q.fields) r rs in omega
+        (arith, less, a, b)
     by false less = let b = sum_by-cons (λ (q : Kept). length q.fields) r rs in omega (arith, less, b)

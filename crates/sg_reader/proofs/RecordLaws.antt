@@ -35,7 +35,8 @@ length-after_record cfg s fields field c [] r h = elim (cases_Bool (is_end (step
 length-after_record cfg s fields field c (d ∷ rest) r h = elim (cases_Bool (is_end (step cfg s c).1)) [
   | inl e ↦ let same = same_Some _ _ (rw e at h) in rw (← same) (omega arith)
   | inr e ↦
-      let more = length-after_record cfg (step cfg s c).0 (fields_after (step cfg s c).1 fields field) (field_after (step cfg s c).1 c field) d rest r (rw e at h) in
+      let more = length-after_record cfg (step cfg s c).0 (fields_after (step cfg s c).1 fields field) (field_after (step cfg s c).1 c field) d rest r
+      (rw e at h) in
       omega arith
 ]
 
@@ -52,7 +53,8 @@ between-end true h = refl
 between-end false h = refl
 
 between-in_field : (c : ℕ) → EndsBetween (in_field default_config c)
-between-in_field c = either-step (c == 44) _ _ (λ h. absurd (false≢true h)) (either-step ((c == 13) || (c == 10)) _ _ (between-end (c == 13)) (λ h. absurd (false≢true h)))
+between-in_field c =
+    either-step (c == 44) _ _ (λ h. absurd (false≢true h)) (either-step ((c == 13) || (c == 10)) _ _ (between-end (c == 13)) (λ h. absurd (false≢true h)))
 
 between-start_field : (c : ℕ) → EndsBetween (start_field default_config c)
 between-start_field c = either-step (c == 34) _ _ (λ h. absurd (false≢true h)) (between-in_field c)
@@ -77,7 +79,8 @@ unfolding next_record
 ends_at_end-after_record s fields field [] r h = rw (last-record default_config s fields field r h).0 refl
 ends_at_end-after_record s fields field (c ∷ rest) r h = elim (cases_Bool (is_end (step default_config s c).1)) [
   | inl e ↦ let same = same_Some _ _ (rw e at h) in rw (← same) (between-step s c e)
-  | inr e ↦ ends_at_end-after_record (step default_config s c).0 (fields_after (step default_config s c).1 fields field) (field_after (step default_config s c).1 c field) rest r (rw e at h)
+  | inr e ↦ ends_at_end-after_record (step default_config s c).0 (fields_after (step default_config s c).1 fields field)
+      (field_after (step default_config s c).1 c field) rest r (rw e at h)
 ]
 
 -- what is left is shorter

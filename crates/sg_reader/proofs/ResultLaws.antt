@@ -27,7 +27,8 @@ use Rattle.sg_reader.proofs.BodyLaws.{IsBody-more, IsBody-none, word-inside}
 use Rattle.sg_reader.proofs.RecordCounts.{field_total}
 
 -- the tests of an energy
-pub energy_fault-number : (r : Kept) → is_energy r ≡ true → length r.fields ≡ 2 → is_number_in any_number (field r 1) ≡ false → energy_fault r ≡ Some (BadNumber r.at 1)
+pub energy_fault-number : (r : Kept) → is_energy r ≡ true → length r.fields ≡ 2 → is_number_in any_number (field r 1) ≡ false
+    → energy_fault r ≡ Some (BadNumber r.at 1)
 energy_fault-number r word count bad = rw (word, is-not (length r.fields) 2 count, bad_field-first r (λ i. any_number) (omega arith) bad) refl
 
 pub energy_fault-none : (r : Kept) → is_energy r ≡ true → length r.fields ≡ 2 → is_number_in any_number (field r 1) ≡ true → energy_fault r ≡ None
@@ -46,7 +47,8 @@ pub bad_spin-some : (r : Kept) (k : ℕ) → 1 ≤ k → k < length r.fields →
     → is_spin_value (number_of (field r k)) ≡ false → bad_spin r ≡ Some k
 unfolding bad_spin
 bad_spin-some r k low high h e =
-    find_range-some (λ i. not (is_spin_value (number_of (field r i)))) 1 (length r.fields - 1) k low (omega arith) (λ i l u. not_from_true _ (h i l u)) (not_from_false _ e)
+    find_range-some (λ i. not (is_spin_value (number_of (field r i)))) 1 (length r.fields - 1) k low (omega arith) (λ i l u. not_from_true _ (h i l u))
+    (not_from_false _ e)
 
 pub spins_fault-number : (r : Kept) (k : ℕ) → is_spins r ≡ true → bad_spin r ≡ Some k → spins_fault r ≡ Some (BadNumber r.at k)
 spins_fault-number r k word bad = rw (word, bad) refl
@@ -67,7 +69,8 @@ pub loop_range-rest : (r : Kept) → 2 ≤ length r.fields → is_number_in any_
 loop_range-rest r long good = bad_field-rest r loop_range (λ i. any_index) long good
     (λ i low. let other : (i == 1) ≡ false = ne_eqb i 1 (λ e. absurd (omega (arith, e, low))) in rw other refl)
 
-pub loop_fault-number : (r : Kept) (k : ℕ) → is_loop r ≡ true → (length r.fields ≡ 1 → ⊥) → bad_field r 1 loop_range ≡ Some k → loop_fault r ≡ Some (BadNumber r.at k)
+pub loop_fault-number : (r : Kept) (k : ℕ) → is_loop r ≡ true → (length r.fields ≡ 1 → ⊥) → bad_field r 1 loop_range ≡ Some k
+    → loop_fault r ≡ Some (BadNumber r.at k)
 loop_fault-number r k word count bad = rw (word, ne_eqb (length r.fields) 1 count, bad) refl
 
 pub loop_fault-none : (r : Kept) → is_loop r ≡ true → (length r.fields ≡ 1 → ⊥) → bad_field r 1 loop_range ≡ None → loop_fault r ≡ None

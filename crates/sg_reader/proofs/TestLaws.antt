@@ -12,7 +12,8 @@ pub find_range-none : (p : ℕ → Bool) (a n : ℕ) → ((i : ℕ) → a ≤ i 
 find_range-none p a zero h = refl
 find_range-none p a (suc n) h = rw (h a (omega arith) (omega arith)) (find_range-none p (a + 1) n (λ i low high. h i (omega arith) (omega arith)))
 
-pub find_range-some : (p : ℕ → Bool) (a n k : ℕ) → a ≤ k → k < a + n → ((i : ℕ) → a ≤ i → i < k → p i ≡ false) → p k ≡ true → find p (range_with_len a n) ≡ Some k
+pub find_range-some : (p : ℕ → Bool) (a n k : ℕ) → a ≤ k → k < a + n → ((i : ℕ) → a ≤ i → i < k → p i ≡ false) → p k ≡ true
+    → find p (range_with_len a n) ≡ Some k
 find_range-some p a zero k low high h e = absurd (omega arith)
 find_range-some p a (suc n) k low high h e = elim (cases_eq a k) [
   | inl same ↦ rw (← same) (rw (ap p same ∙ e) refl)
@@ -34,13 +35,15 @@ pub bad_field-some : (r : Kept) (from : ℕ) (range : ℕ → Range) (k : ℕ) �
     → bad_field r from range ≡ Some k
 unfolding bad_field
 bad_field-some r from range k low high h e =
-    find_range-some (λ i. not (is_number_in (range i) (field r i))) from (length r.fields - from) k low (omega arith) (λ i l u. not_from_true _ (h i l u)) (not_from_false _ e)
+    find_range-some (λ i. not (is_number_in (range i) (field r i))) from (length r.fields - from) k low (omega arith) (λ i l u. not_from_true _ (h i l u))
+    (not_from_false _ e)
 
 -- the numbers of fields 1 and 2, one after the other
 pub bad_field-first : (r : Kept) (range : ℕ → Range) → 1 < length r.fields → is_number_in (range 1) (field r 1) ≡ false → bad_field r 1 range ≡ Some 1
 bad_field-first r range one bad = bad_field-some r 1 range 1 (omega arith) one (λ i low high. absurd (omega arith)) bad
 
-pub bad_field-second : (r : Kept) (range : ℕ → Range) → 2 < length r.fields → is_number_in (range 1) (field r 1) ≡ true → is_number_in (range 2) (field r 2) ≡ false
+pub bad_field-second : (r : Kept) (range : ℕ → Range) → 2 < length r.fields → is_number_in (range 1) (field r 1) ≡ true
+    → is_number_in (range 2) (field r 2) ≡ false
     → bad_field r 1 range ≡ Some 2
 bad_field-second r range two good bad = bad_field-some r 1 range 2 (omega arith) two
     (λ i low high. let e : i ≡ 1 = omega arith in rw e good) bad
@@ -60,7 +63,8 @@ find-agree : (p q : ℕ → Bool) (a n : ℕ) → ((i : ℕ) → a ≤ i → p i
 find-agree p q a zero h = refl
 find-agree p q a (suc n) h = rw (h a (omega arith)) (ap (λ (o : Option ℕ). cond (q a) (Some a) o) (find-agree p q (a + 1) n (λ i low. h i (omega arith))))
 
-pub bad_field-rest : (r : Kept) (range other : ℕ → Range) → 2 ≤ length r.fields → is_number_in (range 1) (field r 1) ≡ true → ((i : ℕ) → 2 ≤ i → range i ≡ other i)
+pub bad_field-rest : (r : Kept) (range other : ℕ → Range) → 2 ≤ length r.fields → is_number_in (range 1) (field r 1) ≡ true
+    → ((i : ℕ) → 2 ≤ i → range i ≡ other i)
     → bad_field r 1 range ≡ bad_field r 2 other
 unfolding bad_field
 bad_field-rest r range other long good same =
@@ -70,14 +74,16 @@ bad_field-rest r range other long good same =
     (λ i low. ap (λ (g : Range). not (is_number_in g (field r i))) (same i low))))
 
 -- a record of four fields
-pub bad_field-third : (r : Kept) (range : ℕ → Range) → length r.fields ≡ 4 → is_number_in (range 1) (field r 1) ≡ true → is_number_in (range 2) (field r 2) ≡ true
+pub bad_field-third : (r : Kept) (range : ℕ → Range) → length r.fields ≡ 4 → is_number_in (range 1) (field r 1) ≡ true
+    → is_number_in (range 2) (field r 2) ≡ true
     → is_number_in (range 3) (field r 3) ≡ false → bad_field r 1 range ≡ Some 3
 bad_field-third r range count first second bad = bad_field-some r 1 range 3 (omega arith) (omega arith) (λ i low high. elim (cases_eq i 1) [
   | inl e ↦ rw e first
   | inr other ↦ let e : i ≡ 2 = omega arith in rw e second
 ]) bad
 
-pub bad_field-three : (r : Kept) (range : ℕ → Range) → length r.fields ≡ 4 → is_number_in (range 1) (field r 1) ≡ true → is_number_in (range 2) (field r 2) ≡ true
+pub bad_field-three : (r : Kept) (range : ℕ → Range) → length r.fields ≡ 4 → is_number_in (range 1) (field r 1) ≡ true
+    → is_number_in (range 2) (field r 2) ≡ true
     → is_number_in (range 3) (field r 3) ≡ true → bad_field r 1 range ≡ None
 bad_field-three r range count first second third = bad_field-none r 1 range (λ i low high. elim (cases_eq i 1) [
   | inl e ↦ rw e first

@@ -113,7 +113,9 @@ other-word = refl
 
 -- what a proof states, and what it may not
 abbrev stated : List Kept
-stated = row 4 (codes "energy" ∷ codes "-10" ∷ []) ∷ row 5 (codes "spins" ∷ codes "1" ∷ codes "-01" ∷ []) ∷ row 7 (codes "loop" ∷ codes "4" ∷ codes "0" ∷ codes "3" ∷ []) ∷ []
+stated =
+    row 4 (codes "energy" ∷ codes "-10" ∷ []) ∷ row 5 (codes "spins" ∷ codes "1" ∷ codes "-01" ∷ []) ∷ row 7
+    (codes "loop" ∷ codes "4" ∷ codes "0" ∷ codes "3" ∷ []) ∷ []
 
 result : result_of stated ≡ record { energy = negsuc 9; spins = pos 1 ∷ negsuc 0 ∷ []; loops = record { y = pos 4; bonds = 0 ∷ 3 ∷ [] } ∷ [] }
 unfolding result_of number_of
@@ -151,5 +153,6 @@ loop-bare : result_fault stated (row 8 (codes "loop" ∷ codes "0" ∷ [])) ≡ 
 unfolding result_fault bad_field number_of
 loop-bare = refl
 
-behind-four : behind 4 (row 1 (codes "3" ∷ []) ∷ row 4 (codes "energy" ∷ []) ∷ row 6 (codes "end" ∷ []) ∷ []) ≡ row 4 (codes "energy" ∷ []) ∷ row 6 (codes "end" ∷ []) ∷ []
+behind-four : behind 4 (row 1 (codes "3" ∷ []) ∷ row 4 (codes "energy" ∷ []) ∷ row 6 (codes "end" ∷ []) ∷ [])
+    ≡ row 4 (codes "energy" ∷ []) ∷ row 6 (codes "end" ∷ []) ∷ []
 behind-four = refl

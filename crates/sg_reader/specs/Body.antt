@@ -1,4 +1,5 @@
--- The records of an instance after the first, up to its `end`: each is tested from the records between the first and itself, its `body`.
+-- The records of an instance after the first, up to its `end`: each is tested from the records between the first and
+-- itself, its `body`.
 use Rattle.std.specs.Prelude.{ℕ, ◌+◌, ◌-◌, ◌==◌, ◌&&◌, Bool, not, nat_le, if◌then◌else◌, ℤ, List, [], ◌∷◌, length, map, filter, find, codes, Option, Some, None, option_map, unwrap_or}
 use Rattle.std.specs.List.{flat_map, list_any, range_with_len}
 use Rattle.sg_model.specs.declared.bond.Bond.{Bond}

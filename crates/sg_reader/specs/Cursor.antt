@@ -14,7 +14,8 @@ bytes_left reader = unwrap_or (source_of (λ (s : Bor (List ℕ)). Some s.now) r
 
 -- the records of those bytes
 abbrev pub records_left : Reader (Bor (List ℕ)) → List (List (List ℕ))
-records_left reader = records_from default_config (length (bytes_left reader) + 1) (reader_state reader) (bytes_left reader)
+records_left reader =
+    records_from default_config (length (bytes_left reader) + 1) (reader_state reader) (bytes_left reader)
 
 -- the reader stands between two records, and reads on with the defaults but without a header row and at any length
 pub record IsBetweenRecords (reader : Reader (Bor (List ℕ))) : Type 0 where

@@ -1,4 +1,5 @@
--- The fields of a record, as they are read: without the blanks at their ends, and without the empty ones at the end of the record.
+-- The fields of a record, as they are read: without the blanks at their ends, and without the empty ones at the end of
+-- the record.
 use Rattle.std.specs.Prelude.{ℕ, ◌-◌, ◌==◌, ◌||◌, Bool, List, [], ◌∷◌, length, take, drop, map, if◌then◌else◌}
 use Rattle.std.specs.List.{prefix_len, suffix_len}
 use Rattle.csv.specs.Reading.{is_bom}

@@ -1,4 +1,5 @@
--- The first record of an instance: the kind of a lattice with its rows and columns, or `general` with the number of spins.
+-- The first record of an instance: the kind of a lattice with its rows and columns, or `general` with the number of
+-- spins.
 use Rattle.std.specs.Prelude.{ℕ, ◌*◌, ◌≤◌, ◌==◌, not, nat_lt, pos, if◌then◌else◌, List, [], ◌∷◌, length, codes, Option, Some, None, option_map}
 use Rattle.std.specs.Str.{bytes_eq}
 use Rattle.sg_model.specs.declared.refusal.Refusal.{Refusal}
@@ -62,7 +63,8 @@ header_with r form.General = header.General (size_in r 1)
 unfoldable pub header_of : Kept → Option Header
 header_of r = option_map (header_with r) (form_of (field r 0))
 
--- what a first record that passes its tests says: a lattice of a size that it may have, or a number of spins, within the limit
+-- what a first record that passes its tests says: a lattice of a size that it may have, or a number of spins, within
+-- the limit
 abbrev pub IsHeader : Header → Type 0
 IsHeader (header.Lattice kind rows cols) = IsSize kind rows cols × (rows * cols ≤ spin_limit)
 IsHeader (header.General n) = (1 ≤ n) × (n ≤ spin_limit)

@@ -1,23 +1,23 @@
 -- What is kept of the records of an instance while they are read.
-use Rattle.std.specs.Prelude.{◌≡◌, ⊤, ◌⊎◌, List, Some, None}
+use Rattle.std.specs.Prelude.{◌≡◌, ℕ, List, [], ◌∷◌, ◌++◌, None}
 use Rattle.sg_model.specs.declared.refusal.Fault.{Fault}
-use Rattle.sg_model.specs.declared.refusal.Fault.TheVariants.{Refused, NoMemory}
-use Rattle.sg_model.specs.declared.refusal.Refusal.{Refusal}
-use Rattle.sg_model.specs.Faults.{IsRefusalOf}
-use Rattle.sg_reader.specs.declared.header.Header.{Header}
 use Rattle.sg_reader.specs.declared.lattice.LatticeBody.{LatticeBody}
 use Rattle.sg_reader.specs.Kept.{Kept}
-use Rattle.sg_reader.specs.Body.{couplings_in, instance_of, record_fault, seam_in}
+use Rattle.sg_reader.specs.Body.{couplings_in, lattice_fault, seam_in}
+use Rattle.sg_reader.specs.Tests.{IsTestFault}
 
 -- the couplings and the seam of the records
 pub record HoldsLattice (body : List Kept) (state : LatticeBody) : Type 0 where
   pub couplings : state.couplings ≡ couplings_in body
   pub bonds : state.seam ≡ seam_in body
 
--- at the `end`: the record fails a test, or it passes and the instance fails one
-abbrev pub IsEndRefusal : Header → List Kept → Kept → Refusal → Type 0
-IsEndRefusal header body last refusal = (record_fault header body last ≡ Some refusal) ⊎ ((record_fault header body last ≡ None) × IsRefusalOf (instance_of header body) refusal)
+-- behind records that gave the state: the next one passes its tests; it gives the new state; it is refused
+abbrev pub PassesBehind : LatticeBody → Kept → Type 0
+PassesBehind old r = (body : List Kept) (wanted : ℕ) → HoldsLattice body old → lattice_fault wanted body r ≡ None
 
-abbrev pub IsEndFault : Header → List Kept → Kept → Fault → Type 0
-IsEndFault header body last (Refused refusal) = IsEndRefusal header body last refusal
-IsEndFault header body last NoMemory = ⊤
+abbrev pub HoldsBehind : LatticeBody → Kept → LatticeBody → Type 0
+HoldsBehind old r new = (body : List Kept) → HoldsLattice body old → HoldsLattice (body ++ r ∷ []) new
+
+abbrev pub IsFaultBehind : LatticeBody → Kept → Fault → Type 0
+IsFaultBehind old r fault =
+    (body : List Kept) (wanted : ℕ) → HoldsLattice body old → IsTestFault (lattice_fault wanted body r) fault

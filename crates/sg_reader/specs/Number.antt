@@ -1,6 +1,5 @@
 -- Whole numbers in the fields of a text.
-use Rattle.std.specs.Prelude.{ℕ, ◌^◌, ◌&&◌, nat_lt, if◌then◌else◌, Bool, ℤ, List, [], ◌∷◌, length, Option, Some, None, option_map}
-use Rattle.std.specs.Option.{option_and_then}
+use Rattle.std.specs.Prelude.{ℕ, ◌^◌, ◌&&◌, nat_lt, if◌then◌else◌, Bool, ℤ, List, length, Option, Some, None}
 use Rattle.std.specs.Str.{all_ascii_digits}
 use Rattle.std.specs.Str.Parse.{digits_value, signed_digits_value, without_leading_sign}
 
@@ -14,9 +13,5 @@ size_of field = digits_value 10 (without_leading_sign field)
 
 -- the number that a field spells, from -9223372036854775807 to 9223372036854775807; None where it spells none of these
 unfoldable pub number_of : List ℕ → Option ℤ
-number_of field = if is_numeral field && nat_lt (size_of field) (2 ^ 63) then Some (signed_digits_value 10 field) else None
-
--- the numbers that the fields spell, in order; None where some field spells none
-unfoldable pub numbers_of : List (List ℕ) → Option (List ℤ)
-numbers_of [] = Some []
-numbers_of (field ∷ fields) = option_and_then (λ number. option_map (λ numbers. number ∷ numbers) (numbers_of fields)) (number_of field)
+number_of field =
+    if is_numeral field && nat_lt (size_of field) (2 ^ 63) then Some (signed_digits_value 10 field) else None

@@ -1,4 +1,5 @@
--- The records of a result, which states an energy, spins and loops: which word stands in which place, the tests of each record, and what they state.
+-- The records of a result, which states an energy, spins and loops: which word stands in which place, the tests of each
+-- record, and what they state.
 use Rattle.std.specs.Prelude.{ℕ, ◌-◌, ◌==◌, Bool, false, not, ℤ, unsigned_abs, if◌then◌else◌, List, [], ◌∷◌, length, map, drop, find, codes, Option, Some, None, option_map}
 use Rattle.std.specs.List.{range_with_len}
 use Rattle.sg_model.specs.declared.refusal.Refusal.{Refusal}

@@ -49,7 +49,8 @@ size_in r i = unsigned_abs (number_in r i)
 
 -- the first field from field `from` on that is no number of the range of its place
 unfoldable pub bad_field : Kept → ℕ → (ℕ → Range) → Option ℕ
-bad_field r from range = find (λ i. not (is_number_in (range i) (field r i))) (range_with_len from (length r.fields - from))
+bad_field r from range =
+    find (λ i. not (is_number_in (range i) (field r i))) (range_with_len from (length r.fields - from))
 
 -- the test of the numbers of a record
 abbrev pub bad_number : Kept → ℕ → (ℕ → Range) → Option Refusal

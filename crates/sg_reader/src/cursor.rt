@@ -45,7 +45,9 @@ impl<'a> Cursor<'a> {
     /// Reads the next record into `row`, or answers false where there is none. After want of memory
     /// none is left.
     pub fn next(&mut self, row: &mut ByteRecord) -> Result<bool, NoMemory>
-        ensures found { IfOk result (λ found. MatchBool found (self.old ≡ fields_of row.new ∷ self.new) ((self.old ≡ []) × (self.new ≡ []))) }
+        ensures found { IfOk result (λ found. MatchBool found
+            (self.old ≡ fields_of row.new ∷ self.new)
+            ((self.old ≡ []) × (self.new ≡ []))) }
         ensures failed { OnErr result (self.new ≡ []) }
     {
         if self.is_done {

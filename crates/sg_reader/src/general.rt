@@ -6,10 +6,9 @@ ghost use Rattle.sg_model.specs.WellFormed.{IsInstance};
 ghost use Rattle.sg_reader.specs.declared.header.Header.TheVariants as header;
 ghost use Rattle.sg_reader.specs.Kept.{Kept, field};
 ghost use Rattle.sg_reader.specs.Tests.{IsTestFault, is_number_in, size_in, spin_below};
-ghost use Rattle.sg_reader.specs.Body.{bond_fault, bond_of, ends_fault, general_fault, instance_of, is_bond, is_end, is_rot, is_seam, rot_fault};
+ghost use Rattle.sg_reader.specs.Body.{bond_fault, bond_of, ends_fault, is_bond, is_end, is_rot, is_seam, rot_fault};
 ghost use Rattle.sg_reader.specs.ReadInstance.{IsBodyFault, ReadsBody};
-ghost use Rattle.sg_reader.specs.GeneralHolds.{HoldsGeneral, HoldsSome};
-ghost use Rattle.sg_model.specs.Faults.{IsFaultOf};
+ghost use Rattle.sg_reader.specs.GeneralHolds.{HoldsGeneral, HoldsNext, HoldsSome, IsHeldFault, IsHeldInstance, IsNextFault, PassesNext};
 
 use super::NoMemory;
 use super::body::{END, SEAM, bare_end, indices, seam};
@@ -117,10 +116,10 @@ impl GeneralBody {
         requires some { 1 ≤ self.old.n }
         requires few { length self.old.bonds ≤ bond_limit }
         requires word { is_bond row.now ≡ true }
-        ensures passes { OnOk result ((body : List Kept) → HoldsGeneral body self.old → general_fault self.old.n body row.now ≡ None) }
-        ensures holds { OnOk result ((body : List Kept) → HoldsGeneral body self.old → HoldsGeneral (body ++ row.now ∷ []) self.new) }
+        ensures passes { OnOk result (PassesNext self.old row.now) }
+        ensures holds { OnOk result (HoldsNext self.old row.now self.new) }
         ensures same { OnOk result (self.new.n ≡ self.old.n) }
-        ensures fault { IfErr result (λ e. (body : List Kept) → HoldsGeneral body self.old → IsTestFault (general_fault self.old.n body row.now) e) }
+        ensures fault { IfErr result (IsNextFault self.old row.now) }
     {
         let bond = read_bond(row, self.n, self.bonds.len())?;
         self.bonds.push(bond)?;
@@ -132,10 +131,10 @@ impl GeneralBody {
         requires lists { length self.old.rotation ≡ self.old.n }
         requires marks { vec_len self.old.seen ≡ self.old.n }
         requires word { is_rot row.now ≡ true }
-        ensures passes { OnOk result ((body : List Kept) → HoldsGeneral body self.old → general_fault self.old.n body row.now ≡ None) }
-        ensures holds { OnOk result ((body : List Kept) → HoldsGeneral body self.old → HoldsGeneral (body ++ row.now ∷ []) self.new) }
+        ensures passes { OnOk result (PassesNext self.old row.now) }
+        ensures holds { OnOk result (HoldsNext self.old row.now self.new) }
         ensures same { OnOk result (self.new.n ≡ self.old.n) }
-        ensures fault { IfErr result (λ e. (body : List Kept) → HoldsGeneral body self.old → IsTestFault (general_fault self.old.n body row.now) e) }
+        ensures fault { IfErr result (IsNextFault self.old row.now) }
     {
         let spin = rot_spin(row, self.n)?;
         let darts = indices(alloc, row, 2)?;
@@ -149,10 +148,10 @@ impl GeneralBody {
 
     fn take_seam(&mut self, alloc: Global, row: &Row) -> Result<(), Fault>
         requires { is_seam row.now ≡ true }
-        ensures passes { OnOk result ((body : List Kept) → HoldsGeneral body self.old → general_fault self.old.n body row.now ≡ None) }
-        ensures holds { OnOk result ((body : List Kept) → HoldsGeneral body self.old → HoldsGeneral (body ++ row.now ∷ []) self.new) }
+        ensures passes { OnOk result (PassesNext self.old row.now) }
+        ensures holds { OnOk result (HoldsNext self.old row.now self.new) }
         ensures same { OnOk result (self.new.n ≡ self.old.n) }
-        ensures fault { IfErr result (λ e. (body : List Kept) → HoldsGeneral body self.old → IsTestFault (general_fault self.old.n body row.now) e) }
+        ensures fault { IfErr result (IsNextFault self.old row.now) }
     {
         let bonds = seam(alloc, row, self.seam.is_some())?;
         self.seam = Some(bonds);
@@ -166,10 +165,10 @@ impl GeneralBody {
         requires lists { length self.old.rotation ≡ self.old.n }
         requires marks { vec_len self.old.seen ≡ self.old.n }
         requires other { is_end row.now ≡ false }
-        ensures passes { OnOk result ((body : List Kept) → HoldsGeneral body self.old → general_fault self.old.n body row.now ≡ None) }
-        ensures holds { OnOk result ((body : List Kept) → HoldsGeneral body self.old → HoldsGeneral (body ++ row.now ∷ []) self.new) }
+        ensures passes { OnOk result (PassesNext self.old row.now) }
+        ensures holds { OnOk result (HoldsNext self.old row.now self.new) }
         ensures same { OnOk result (self.new.n ≡ self.old.n) }
-        ensures fault { IfErr result (λ e. (body : List Kept) → HoldsGeneral body self.old → IsTestFault (general_fault self.old.n body row.now) e) }
+        ensures fault { IfErr result (IsNextFault self.old row.now) }
     {
         if row.begins(BOND) {
             self.take_bond(row)
@@ -187,9 +186,9 @@ impl GeneralBody {
         requires some { 1 ≤ self.n }
         requires small { self.n ≤ 2 ^ 24 }
         requires held { HoldsSome self }
-        ensures ok { IfOk result (λ inst. (body : List Kept) → HoldsGeneral body self → inst ≡ instance_of (header.General self.n) body) }
+        ensures ok { IfOk result (IsHeldInstance self) }
         ensures instance { IfOk result IsInstance }
-        ensures fault { IfErr result (λ e. (body : List Kept) → HoldsGeneral body self → IsFaultOf (instance_of (header.General self.n) body) e) }
+        ensures fault { IfErr result (IsHeldFault self) }
     {
         let GeneralBody {
             n,

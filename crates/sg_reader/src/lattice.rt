@@ -5,11 +5,10 @@ ghost use Rattle.sg_model.specs.Ising.{bond_count};
 ghost use Rattle.sg_model.specs.WellFormed.{IsInstance};
 ghost use Rattle.sg_lattice.specs.Tables.{IsSize, bond_total, lattice};
 ghost use Rattle.sg_reader.specs.declared.header.Header.TheVariants as header;
-ghost use Rattle.sg_reader.specs.Kept.{Kept};
 ghost use Rattle.sg_reader.specs.Tests.{IsTestFault};
-ghost use Rattle.sg_reader.specs.Body.{is_end, lattice_end_fault, lattice_fault, reseamed};
+ghost use Rattle.sg_reader.specs.Body.{is_end, lattice_end_fault, reseamed};
 ghost use Rattle.sg_reader.specs.ReadInstance.{IsBodyFault, ReadsBody};
-ghost use Rattle.sg_reader.specs.Holds.{HoldsLattice};
+ghost use Rattle.sg_reader.specs.Holds.{HoldsBehind, IsFaultBehind, PassesBehind};
 
 use super::body::{END, SEAM, push_couplings, seam};
 use super::row::Row;
@@ -29,10 +28,10 @@ impl LatticeBody {
     /// Takes a record that is not the `end`.
     fn take(&mut self, alloc: Global, row: &Row) -> Result<(), Fault>
         requires { is_end row.now ≡ false }
-        ensures passes { OnOk result ((body : List Kept) (wanted : ℕ) → HoldsLattice body self.old → lattice_fault wanted body row.now ≡ None) }
-        ensures holds { OnOk result ((body : List Kept) → HoldsLattice body self.old → HoldsLattice (body ++ row.now ∷ []) self.new) }
+        ensures passes { OnOk result (PassesBehind self.old row.now) }
+        ensures holds { OnOk result (HoldsBehind self.old row.now self.new) }
         ensures count { OnOk result (length self.new.couplings ≤ length self.old.couplings + length row.now.fields) }
-        ensures fault { IfErr result (λ e. (body : List Kept) (wanted : ℕ) → HoldsLattice body self.old → IsTestFault (lattice_fault wanted body row.now) e) }
+        ensures fault { IfErr result (IsFaultBehind self.old row.now) }
     {
         if row.begins(SEAM) {
             let bonds = seam(alloc, row, self.seam.is_some())?;

@@ -56,7 +56,8 @@ impl Row {
         requires at_fits { at + 1 < 2 ^ 32 }
         requires short { sum_by length cursor.old < 2 ^ 32 }
         ensures found { IfOk result (λ found. MatchBool found
-            ((raw : List (List ℕ)) × (cursor.old ≡ raw ∷ cursor.new) × (self.new ≡ record { at = at; fields = fields_in raw }))
+            ((raw : List (List ℕ)) × (cursor.old ≡ raw ∷ cursor.new)
+            × (self.new ≡ record { at = at; fields = fields_in raw }))
             ((cursor.old ≡ []) × (cursor.new ≡ []))) }
         ensures failed { OnErr result (cursor.new ≡ []) }
     {
@@ -121,7 +122,8 @@ impl Row {
     pub(crate) fn number(&self, i: usize, range: Range) -> Result<i64, Refusal>
         requires { i < length self.now.fields }
         ensures ok { IfOk result (λ z. (z ≡ number_in self.now i) × (is_number_in range (field_of self.now i) ≡ true)) }
-        ensures refused { IfErr result (λ e. (e ≡ IsBadNumber self.now.at i) × (is_number_in range (field_of self.now i) ≡ false)) }
+        ensures refused { IfErr result (λ e. (e ≡ IsBadNumber self.now.at i)
+            × (is_number_in range (field_of self.now i) ≡ false)) }
     {
         match number(self.field(i)) {
             Some(value) if range.holds(value) => Ok(value),
@@ -135,9 +137,11 @@ impl Row {
     /// The value of a spin in field `i`, 1 or -1.
     pub(crate) fn spin(&self, i: usize) -> Result<i8, Refusal>
         requires { i < length self.now.fields }
-        ensures ok { IfOk result (λ z. (z ≡ number_in self.now i) × (is_spin_value (number_of (field_of self.now i)) ≡ true)) }
+        ensures ok { IfOk result (λ z. (z ≡ number_in self.now i)
+            × (is_spin_value (number_of (field_of self.now i)) ≡ true)) }
         ensures up_or_down { IfOk result IsUpOrDown }
-        ensures refused { IfErr result (λ e. (e ≡ IsBadNumber self.now.at i) × (is_spin_value (number_of (field_of self.now i)) ≡ false)) }
+        ensures refused { IfErr result (λ e. (e ≡ IsBadNumber self.now.at i)
+            × (is_spin_value (number_of (field_of self.now i)) ≡ false)) }
     {
         match number(self.field(i)) {
             Some(1) => Ok(1),
@@ -156,7 +160,8 @@ impl Row {
         ensures ok { IfOk result (λ n. (n ≡ size_in self.now i) × (is_number_in range (field_of self.now i) ≡ true)) }
         ensures fits { IfOk result (λ n. n < 2 ^ 63) }
         ensures bounds { IfOk result (λ n. (range.low ≤ℤ pos n) × (pos n ≤ℤ range.high)) }
-        ensures refused { IfErr result (λ e. (e ≡ IsBadNumber self.now.at i) × (is_number_in range (field_of self.now i) ≡ false)) }
+        ensures refused { IfErr result (λ e. (e ≡ IsBadNumber self.now.at i)
+            × (is_number_in range (field_of self.now i) ≡ false)) }
     {
         let value = self.number(i, range)?;
         Ok(value as u64)

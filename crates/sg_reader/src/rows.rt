@@ -57,7 +57,9 @@ impl<'a> Numbered<'a> {
     }
 
     fn next(&mut self, row: &mut Row) -> Result<bool, NoMemory>
-        ensures { IfOk result (λ found. MatchBool found (self.old ≡ row.new ∷ self.new) ((self.old ≡ []) × (self.new ≡ []))) }
+        ensures { IfOk result (λ found. MatchBool found
+            (self.old ≡ row.new ∷ self.new)
+            ((self.old ≡ []) × (self.new ≡ []))) }
     {
         if !row.fill(&mut self.cursor, self.taken)? {
             return Ok(false);
@@ -108,7 +110,9 @@ impl<'a> Rows<'a> {
 
     /// Reads the next record that is not skipped into `row`, or answers false where there is none.
     pub(crate) fn next(&mut self, row: &mut Row) -> Result<bool, NoMemory>
-        ensures { IfOk result (λ found. MatchBool found (self.old ≡ row.new ∷ self.new) ((self.old ≡ []) × (self.new ≡ []))) }
+        ensures { IfOk result (λ found. MatchBool found
+            (self.old ≡ row.new ∷ self.new)
+            ((self.old ≡ []) × (self.new ≡ []))) }
     {
         while self.records.next(row)? {
             if row.is_kept() {

@@ -15,34 +15,41 @@ computed r v = cast_signed w128 (cast_unsigned w128 r) +ℤ cast_signed w128 (ca
 computed_is : (e r v : ℤ) (w : ℕ) → FitsSigned w64 e → r ≡ cast_signed w64 (cast_unsigned w64 e) → v ≡ pos w → w ≤ 2 ^ 24 * 2 ^ 63 → computed r v ≡ e +ℤ pos w
 computed_is e r v w fits p q bound = omega (arith, ints)
 
-computed_fits : (e r v : ℤ) (w : ℕ) → FitsSigned w64 e → r ≡ cast_signed w64 (cast_unsigned w64 e) → v ≡ pos w → w ≤ 2 ^ 24 * 2 ^ 63 → FitsSigned w128 (computed r v)
+computed_fits : (e r v : ℤ) (w : ℕ) → FitsSigned w64 e → r ≡ cast_signed w64 (cast_unsigned w64 e) → v ≡ pos w → w ≤ 2 ^ 24 * 2 ^ 63
+    → FitsSigned w128 (computed r v)
 computed_fits e r v w fits p q bound = omega (arith, ints)
 
 pub overflow_add-wanted : goal.overflow_add-wanted
 overflow_add-wanted c =
     let fits : FitsSigned w64 c.args.text.now.energy = search rules in
-    computed_fits c.args.text.now.energy c.from.result c.weight.result (weight c.args.inst.now) fits c.from.ensures c.weight.ensures (weight-le c.args.inst.now c.requires.instance)
+    computed_fits c.args.text.now.energy c.from.result c.weight.result (weight c.args.inst.now) fits c.from.ensures c.weight.ensures
+    (weight-le c.args.inst.now c.requires.instance)
 
 pub returns-then-found-wanted : goal.returns-then-found-wanted
 returns-then-found-wanted c =
     let fits : FitsSigned w64 c.args.text.now.energy = search rules in
     let bound : weight c.args.inst.now ≤ 2 ^ 24 * 2 ^ 63 = weight-le c.args.inst.now c.requires.instance in
-    let total : c.sum_of_weights-found.result ≡ total_weight c.args.text.now.loops = c.sum_of_weights-found.ensures.value ∙ ap total_weight c.as_slice.ensures in
+    let total : c.sum_of_weights-found.result ≡ total_weight c.args.text.now.loops = c.sum_of_weights-found.ensures.value
+    ∙ ap total_weight c.as_slice.ensures in
     proof_from_tests c.args.inst.now c.args.text.now c.requires.energy c.requires.loops c.requires.loads
     (ap pos (sym total)
     ∙ sym (to_z_pos w128 c.sum_of_weights-found.result (omega (arith, c.sum_of_weights-found.ensures.size)))
     ∙ ap (cast_signed w128) c.if-found-wanted.true
-    ∙ to_z-of_z w128 (computed c.from.result c.weight.result) (computed_fits c.args.text.now.energy c.from.result c.weight.result (weight c.args.inst.now) fits c.from.ensures c.weight.ensures bound)
+    ∙ to_z-of_z w128 (computed c.from.result c.weight.result)
+    (computed_fits c.args.text.now.energy c.from.result c.weight.result (weight c.args.inst.now) fits c.from.ensures c.weight.ensures bound)
     ∙ computed_is c.args.text.now.energy c.from.result c.weight.result (weight c.args.inst.now) fits c.from.ensures c.weight.ensures bound)
 
 pub returns-else-found-wanted : goal.returns-else-found-wanted
 returns-else-found-wanted c =
     let fits : FitsSigned w64 c.args.text.now.energy = search rules in
     let bound : weight c.args.inst.now ≤ 2 ^ 24 * 2 ^ 63 = weight-le c.args.inst.now c.requires.instance in
-    let total : c.sum_of_weights-found.result ≡ total_weight c.args.text.now.loops = c.sum_of_weights-found.ensures.value ∙ ap total_weight c.as_slice.ensures in
-    let found : cast_signed w128 c.sum_of_weights-found.result ≡ pos c.sum_of_weights-found.result = to_z_pos w128 c.sum_of_weights-found.result (omega (arith, c.sum_of_weights-found.ensures.size)) in
+    let total : c.sum_of_weights-found.result ≡ total_weight c.args.text.now.loops = c.sum_of_weights-found.ensures.value
+    ∙ ap total_weight c.as_slice.ensures in
+    let found : cast_signed w128 c.sum_of_weights-found.result ≡ pos c.sum_of_weights-found.result = to_z_pos w128 c.sum_of_weights-found.result
+    (omega (arith, c.sum_of_weights-found.ensures.size)) in
     let wanted : cast_signed w128 (cast_unsigned w128 (computed c.from.result c.weight.result)) ≡ computed c.from.result c.weight.result =
-    to_z-of_z w128 (computed c.from.result c.weight.result) (computed_fits c.args.text.now.energy c.from.result c.weight.result (weight c.args.inst.now) fits c.from.ensures c.weight.ensures bound) in (
+    to_z-of_z w128 (computed c.from.result c.weight.result)
+    (computed_fits c.args.text.now.energy c.from.result c.weight.result (weight c.args.inst.now) fits c.from.ensures c.weight.ensures bound) in (
       c.requires.energy,
       c.requires.loops,
       c.requires.loads,

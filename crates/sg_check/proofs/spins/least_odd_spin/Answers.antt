@@ -20,4 +20,5 @@ pub returns-clause-marks : goal.returns-clause-marks
 returns-clause-marks c =
     let all : length c.args.marks.now ≡ c.args.inst.now.n = ap length c.requires.no_marks ∙ length-replicate c.args.inst.now.n false in
     turned_twice c.args.inst.now.n (λ i. parity_by (ends_at c.args.inst.now i) c.args.list.now) c.args.marks.now c.flip_ends.new.marks c.flip_ends-2.new.marks
-    all (omega (arith, all, c.flip_ends.auto.marks)) (omega (arith, all, c.flip_ends.auto.marks, c.flip_ends-2.auto.marks)) c.flip_ends.ensures c.flip_ends-2.ensures
+    all (omega (arith, all, c.flip_ends.auto.marks))
+    (omega (arith, all, c.flip_ends.auto.marks, c.flip_ends-2.auto.marks)) c.flip_ends.ensures c.flip_ends-2.ensures

@@ -8,6 +8,11 @@ use Rattle.sg_reader.proofs.field.after_blanks.Goals.{then-loop-start-test+else-
 pub returns : goal.returns
 returns c =
     let stop : c.loop-start.start < length c.args.field.now → is_blank (get_or c.args.field.now c.loop-start.start 0) ≡ false
-    = elim c.loop-start-test.branch [ then-loop-start-test+else-is_blank w ↦ (λ inside. sym w.is_blank.ensures ∙ w.if-is_blank.false) | else-loop-start-test w ↦ (λ inside. absurd (omega arith)) ] in
+    =
+    elim c.loop-start-test.branch [
+      | then-loop-start-test+else-is_blank w ↦ (λ inside. sym w.is_blank.ensures
+          ∙ w.if-is_blank.false)
+      | else-loop-start-test w ↦ (λ inside. absurd (omega arith))
+    ] in
     take_rest c.args.field.now c.loop-start.start
     ∙ after_front_is is_blank c.args.field.now c.loop-start.start 0 c.loop-start.invariant.inside c.loop-start.invariant.blanks stop

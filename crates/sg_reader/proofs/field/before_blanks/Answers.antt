@@ -7,5 +7,10 @@ use Rattle.sg_reader.proofs.field.before_blanks.Goals.{then-loop-end-test+else-i
 pub returns : goal.returns
 returns c =
     let stop : 0 < c.loop-end.end → is_blank (get_or c.args.field.now (c.loop-end.end - 1) 0) ≡ false
-    = elim c.loop-end-test.branch [ then-loop-end-test+else-is_blank w ↦ (λ some. sym w.is_blank.ensures ∙ w.if-is_blank.false) | else-loop-end-test w ↦ (λ some. absurd (omega arith)) ] in
+    =
+    elim c.loop-end-test.branch [
+      | then-loop-end-test+else-is_blank w ↦ (λ some. sym w.is_blank.ensures
+          ∙ w.if-is_blank.false)
+      | else-loop-end-test w ↦ (λ some. absurd (omega arith))
+    ] in
     sym (before_end_is is_blank c.args.field.now c.loop-end.end 0 c.loop-end.invariant.inside c.loop-end.invariant.blanks stop)

@@ -14,7 +14,8 @@ returns-in_err-u-clause-refused c =
     let r = c.args.row.now in
     let count : length r.fields ≡ 4 = omega arith in
     let bad = ap (λ (g : Range). is_number_in g (field r 1)) (sym c.spin_below.ensures) ∙ c.in_err-u.ensures.refused.1 in
-    rw (p.1, p.2) (bond_fault-number c.args.n c.args.m r 1 count (bad_field-first r (bond_range c.args.n) (omega arith) bad) ∙ ap Some (sym c.in_err-u.ensures.refused.0))
+    rw (p.1, p.2) (bond_fault-number c.args.n c.args.m r 1 count (bad_field-first r (bond_range c.args.n) (omega arith) bad)
+    ∙ ap Some (sym c.in_err-u.ensures.refused.0))
 
 pub returns-in_err-v-clause-refused : goal.returns-in_err-v-clause-refused
 returns-in_err-v-clause-refused c =
@@ -23,7 +24,8 @@ returns-in_err-v-clause-refused c =
     let count : length r.fields ≡ 4 = omega arith in
     let first = ap (λ (g : Range). is_number_in g (field r 1)) (sym c.spin_below.ensures) ∙ c.in_ok-u.ensures.ok.1 in
     let bad = ap (λ (g : Range). is_number_in g (field r 2)) (sym c.spin_below-2.ensures) ∙ c.in_err-v.ensures.refused.1 in
-    rw (p.1, p.2) (bond_fault-number c.args.n c.args.m r 2 count (bad_field-second r (bond_range c.args.n) (omega arith) first bad) ∙ ap Some (sym c.in_err-v.ensures.refused.0))
+    rw (p.1, p.2) (bond_fault-number c.args.n c.args.m r 2 count (bad_field-second r (bond_range c.args.n) (omega arith) first bad)
+    ∙ ap Some (sym c.in_err-v.ensures.refused.0))
 
 pub returns-in_err-j-clause-refused : goal.returns-in_err-j-clause-refused
 returns-in_err-j-clause-refused c =
@@ -33,7 +35,8 @@ returns-in_err-j-clause-refused c =
     let first = ap (λ (g : Range). is_number_in g (field r 1)) (sym c.spin_below.ensures) ∙ c.in_ok-u.ensures.ok.1 in
     let second = ap (λ (g : Range). is_number_in g (field r 2)) (sym c.spin_below-2.ensures) ∙ c.in_ok-v.ensures.ok.1 in
     let bad = ap (λ (g : Range). is_number_in g (field r 3)) (sym c.any_number.ensures) ∙ c.in_err-j.ensures.refused.1 in
-    rw (p.1, p.2) (bond_fault-number c.args.n c.args.m r 3 count (bad_field-third r (bond_range c.args.n) count first second bad) ∙ ap Some (sym c.in_err-j.ensures.refused.0))
+    rw (p.1, p.2) (bond_fault-number c.args.n c.args.m r 3 count (bad_field-third r (bond_range c.args.n) count first second bad)
+    ∙ ap Some (sym c.in_err-j.ensures.refused.0))
 
 pub returns-in_err-check_ends-clause-refused : goal.returns-in_err-check_ends-clause-refused
 returns-in_err-check_ends-clause-refused c =

@@ -20,7 +20,8 @@ returns-in_err-bare_end-clause-fault c =
     let r = c.next.new.row in
     let next = rw c.if-branch.true at c.in_ok-next.ensures in
     let end : is_end r ≡ true = sym c.begins.ensures ∙ c.if-begins.true in
-    let bad : record_fault (header.General c.args.n) sf.body r ≡ Some c.in_err-bare_end.field-0.0 = general_fault-end c.args.n sf.body r end ∙ c.in_err-bare_end.ensures.refused in
+    let bad : record_fault (header.General c.args.n) sf.body r ≡ Some c.in_err-bare_end.field-0.0 = general_fault-end c.args.n sf.body r end
+    ∙ c.in_err-bare_end.ensures.refused in
     rw (p.1, p.2) (record-fault (header.General c.args.n) c.args.records.now sf.body c.next.new.self r (Refused c.in_err-bare_end.field-0.0)
     (sf.split ∙ ap (λ (l : List Kept). sf.body ++ l) next) sf.is_body bad)
 
@@ -31,8 +32,10 @@ returns-in_err-inst-clause-fault c =
     let r = c.next.new.row in
     let next = rw c.if-branch.true at c.in_ok-next.ensures in
     let end : is_end r ≡ true = sym c.begins.ensures ∙ c.if-begins.true in
-    let is_ended = ended-general c.args.n c.args.records.now c.loop-body.records c.next.new.self r c.loop-body.body sf next end c.in_ok-bare_end.ensures.passes in
-    let fault = subst (λ (k : ℕ). IsFaultOf (instance_of (header.General k) sf.body) c.in_err-inst.field-0.0) sf.spins (c.in_err-inst.ensures.fault sf.body sf.holds) in
+    let is_ended = ended-general c.args.n c.args.records.now c.loop-body.records c.next.new.self r c.loop-body.body sf next end
+    c.in_ok-bare_end.ensures.passes in
+    let fault = subst (λ (k : ℕ). IsFaultOf (instance_of (header.General k) sf.body) c.in_err-inst.field-0.0) sf.spins
+    (c.in_err-inst.ensures.fault sf.body sf.holds) in
     rw (p.1, p.2) (end-fault (header.General c.args.n) c.args.records.now sf.body r c.in_err-inst.field-0.0 is_ended fault)
 
 pub returns-then-begins-clause-read : goal.returns-then-begins-clause-read
@@ -74,7 +77,8 @@ returns-in_err-take-clause-fault c =
     let p = err_from_is_err_and c.from_residual-in_err-take.result c.from_residual-in_err-take.ensures.1 in
     let sf = c.loop-body.invariant in
     let next = rw c.if-branch.true at c.in_ok-next.ensures in
-    let fault = subst (λ (k : ℕ). IsTestFault (general_fault k sf.body c.next.new.row) c.in_err-take.field-0.0) sf.spins (c.in_err-take.ensures.fault sf.body sf.holds) in
+    let fault = subst (λ (k : ℕ). IsTestFault (general_fault k sf.body c.next.new.row) c.in_err-take.field-0.0) sf.spins
+    (c.in_err-take.ensures.fault sf.body sf.holds) in
     rw (p.1, p.2) (record-fault (header.General c.args.n) c.args.records.now sf.body c.next.new.self c.next.new.row c.in_err-take.field-0.0
     (sf.split ∙ ap (λ (l : List Kept). sf.body ++ l) next) sf.is_body fault)
 

@@ -13,5 +13,6 @@ returns-in_err-spin-clause-refused c =
     let p = err_from_is_err_and c.from_residual.result c.from_residual.ensures.1 in
     let r = c.args.row.now in
     let bad = ap (λ (g : Range). is_number_in g (field r 1)) (sym c.spin_below.ensures) ∙ c.in_err-spin.ensures.refused.1 in
-    rw (p.1, p.2) (λ seen. rot_fault-number c.args.n seen r 1 (λ e. c.if-len-eq1.false (c.len.ensures.value ∙ e)) (bad_field-first r (rot_range c.args.n) (omega arith) bad)
+    rw (p.1, p.2) (λ seen. rot_fault-number c.args.n seen r 1 (λ e. c.if-len-eq1.false (c.len.ensures.value
+    ∙ e)) (bad_field-first r (rot_range c.args.n) (omega arith) bad)
     ∙ ap Some (sym c.in_err-spin.ensures.refused.0))

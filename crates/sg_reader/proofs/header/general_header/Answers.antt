@@ -17,7 +17,8 @@ returns-in_err-spins-clause-refused c =
     let r = c.args.row.now in
     let count : length r.fields ≡ 2 = omega arith in
     let bad = ap (λ (g : Range). is_number_in g (field r 1)) (sym c.at_least.ensures) ∙ c.in_err-spins.ensures.refused.1 in
-    rw (p.1, p.2) (form_fault-number form.General r 1 count (bad_field-first r (header_range form.General) (omega arith) bad) ∙ ap Some (sym c.in_err-spins.ensures.refused.0))
+    rw (p.1, p.2) (form_fault-number form.General r 1 count (bad_field-first r (header_range form.General) (omega arith) bad)
+    ∙ ap Some (sym c.in_err-spins.ensures.refused.0))
 
 pub returns-then-spins-from-clause-refused : goal.returns-then-spins-from-clause-refused
 returns-then-spins-from-clause-refused c =

@@ -19,7 +19,8 @@ returns-in_err-rows-clause-refused c =
     let r = c.args.row.now in
     let count : length r.fields ≡ 3 = omega arith in
     let bad = ap (λ (g : Range). is_number_in g (field r 1)) (sym c.at_least.ensures) ∙ c.in_err-rows.ensures.refused.1 in
-    rw (p.1, p.2) (form_fault-number (form.Lattice c.args.kind) r 1 count (bad_field-first r (header_range (form.Lattice c.args.kind)) (omega arith) bad) ∙ ap Some (sym c.in_err-rows.ensures.refused.0))
+    rw (p.1, p.2) (form_fault-number (form.Lattice c.args.kind) r 1 count (bad_field-first r (header_range (form.Lattice c.args.kind)) (omega arith) bad)
+    ∙ ap Some (sym c.in_err-rows.ensures.refused.0))
 
 pub returns-in_err-cols-clause-refused : goal.returns-in_err-cols-clause-refused
 returns-in_err-cols-clause-refused c =
@@ -27,18 +28,23 @@ returns-in_err-cols-clause-refused c =
     let r = c.args.row.now in
     let count : length r.fields ≡ 3 = omega arith in
     let first = ap (λ (g : Range). is_number_in g (field r 1)) (sym c.at_least.ensures) ∙ c.in_ok-rows.ensures.ok.1 in
-    let second = ap (λ (n : ℕ). is_number_in (at_least n) (field r 2)) (sym c.least_cols.ensures.value) ∙ ap (λ (g : Range). is_number_in g (field r 2)) (sym c.at_least-2.ensures) ∙ c.in_err-cols.ensures.refused.1 in
-    rw (p.1, p.2) (form_fault-number (form.Lattice c.args.kind) r 2 count (bad_field-second r (header_range (form.Lattice c.args.kind)) (omega arith) first second) ∙ ap Some (sym c.in_err-cols.ensures.refused.0))
+    let second = ap (λ (n : ℕ). is_number_in (at_least n) (field r 2)) (sym c.least_cols.ensures.value)
+    ∙ ap (λ (g : Range). is_number_in g (field r 2)) (sym c.at_least-2.ensures) ∙ c.in_err-cols.ensures.refused.1 in
+    rw (p.1, p.2)
+    (form_fault-number (form.Lattice c.args.kind) r 2 count (bad_field-second r (header_range (form.Lattice c.args.kind)) (omega arith) first second)
+    ∙ ap Some (sym c.in_err-cols.ensures.refused.0))
 
 pub returns-then-spins-from-clause-refused : goal.returns-then-spins-from-clause-refused
 returns-then-spins-from-clause-refused c =
     let r = c.args.row.now in
     let count : length r.fields ≡ 3 = omega arith in
     let first = ap (λ (g : Range). is_number_in g (field r 1)) (sym c.at_least.ensures) ∙ c.in_ok-rows.ensures.ok.1 in
-    let second = ap (λ (n : ℕ). is_number_in (at_least n) (field r 2)) (sym c.least_cols.ensures.value) ∙ ap (λ (g : Range). is_number_in g (field r 2)) (sym c.at_least-2.ensures) ∙ c.in_ok-cols.ensures.ok.1 in
+    let second = ap (λ (n : ℕ). is_number_in (at_least n) (field r 2)) (sym c.least_cols.ensures.value)
+    ∙ ap (λ (g : Range). is_number_in g (field r 2)) (sym c.at_least-2.ensures) ∙ c.in_ok-cols.ensures.ok.1 in
     let good : bad_field r 1 (header_range (form.Lattice c.args.kind)) ≡ None = bad_field-two r (header_range (form.Lattice c.args.kind)) count first second in
     let spins : c.from.result * c.from-2.result ≡ size_in r 1 * size_in r 2 =
-    ap (λ (n : ℕ). n * c.from-2.result) (c.from.ensures ∙ c.in_ok-rows.ensures.ok.0) ∙ ap (λ (n : ℕ). size_in r 1 * n) (c.from-2.ensures ∙ c.in_ok-cols.ensures.ok.0) in
+    ap (λ (n : ℕ). n * c.from-2.result) (c.from.ensures ∙ c.in_ok-rows.ensures.ok.0)
+    ∙ ap (λ (n : ℕ). size_in r 1 * n) (c.from-2.ensures ∙ c.in_ok-cols.ensures.ok.0) in
     let rows_fit : c.from.result ≤ 2 ^ 63 - 1 = omega (arith, c.in_ok-rows.ensures.fits) in
     let cols_fit : c.from-2.result ≤ 2 ^ 63 - 1 = omega (arith, c.in_ok-cols.ensures.fits) in
     let product = mul-le c.from.result c.from-2.result (2 ^ 63 - 1) (2 ^ 63 - 1) rows_fit cols_fit in
@@ -51,8 +57,10 @@ returns-clause-passes c =
     let r = c.args.row.now in
     let count : length r.fields ≡ 3 = omega arith in
     let first = ap (λ (g : Range). is_number_in g (field r 1)) (sym c.at_least.ensures) ∙ c.in_ok-rows.ensures.ok.1 in
-    let second = ap (λ (n : ℕ). is_number_in (at_least n) (field r 2)) (sym c.least_cols.ensures.value) ∙ ap (λ (g : Range). is_number_in g (field r 2)) (sym c.at_least-2.ensures) ∙ c.in_ok-cols.ensures.ok.1 in
+    let second = ap (λ (n : ℕ). is_number_in (at_least n) (field r 2)) (sym c.least_cols.ensures.value)
+    ∙ ap (λ (g : Range). is_number_in g (field r 2)) (sym c.at_least-2.ensures) ∙ c.in_ok-cols.ensures.ok.1 in
     let good : bad_field r 1 (header_range (form.Lattice c.args.kind)) ≡ None = bad_field-two r (header_range (form.Lattice c.args.kind)) count first second in
     let spins : c.from.result * c.from-2.result ≡ size_in r 1 * size_in r 2 =
-    ap (λ (n : ℕ). n * c.from-2.result) (c.from.ensures ∙ c.in_ok-rows.ensures.ok.0) ∙ ap (λ (n : ℕ). size_in r 1 * n) (c.from-2.ensures ∙ c.in_ok-cols.ensures.ok.0) in
+    ap (λ (n : ℕ). n * c.from-2.result) (c.from.ensures ∙ c.in_ok-rows.ensures.ok.0)
+    ∙ ap (λ (n : ℕ). size_in r 1 * n) (c.from-2.ensures ∙ c.in_ok-cols.ensures.ok.0) in
     form_fault-none (form.Lattice c.args.kind) r count good (rw (← spins) (omega arith))

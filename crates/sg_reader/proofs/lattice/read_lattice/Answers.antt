@@ -27,7 +27,8 @@ returns-in_err-end_lattice-clause-fault c =
     ∙ ap (λ (n : ℕ). lattice_end_fault wanted n r) (sym c.len.ensures)
     ∙ ap (λ (n : ℕ). lattice_end_fault n c.len.result r) (sym c.bond_count.ensures)
     ∙ c.in_err-end_lattice.ensures.refused in
-    rw (p.1, p.2) (record-fault (header.Lattice c.args.kind c.args.rows c.args.cols) c.args.records.now sf.body c.next.new.self r (Refused c.in_err-end_lattice.field-0.0)
+    rw (p.1, p.2)
+    (record-fault (header.Lattice c.args.kind c.args.rows c.args.cols) c.args.records.now sf.body c.next.new.self r (Refused c.in_err-end_lattice.field-0.0)
     (sf.split ∙ ap (λ (l : List Kept). sf.body ++ l) next) sf.is_body bad)
 
 pub lattice_of-requires-clause-fit : goal.lattice_of-requires-clause-fit
@@ -44,7 +45,8 @@ returns-in_err-inst-clause-fault c =
     let pass : lattice_end_fault wanted (length c.loop-body.body.couplings) r ≡ None =
     ap (λ (n : ℕ). lattice_end_fault wanted n r) (sym c.len.ensures) ∙ ap (λ (n : ℕ). lattice_end_fault n c.len.result r) (sym c.bond_count.ensures)
     ∙ c.in_ok-end_lattice.ensures.passes in
-    let is_ended = ended-lattice c.args.kind c.args.rows c.args.cols c.args.records.now c.loop-body.records c.next.new.self r c.loop-body.body sf next end pass in
+    let is_ended = ended-lattice c.args.kind c.args.rows c.args.cols c.args.records.now c.loop-body.records c.next.new.self r c.loop-body.body sf next end
+    pass in
     let same = instance-lattice c.args.kind c.args.rows c.args.cols sf.body c.loop-body.body sf.holds in
     let fault = c.in_err-inst.ensures.fault in
     rw (p.1, p.2) (end-fault (header.Lattice c.args.kind c.args.rows c.args.cols) c.args.records.now sf.body r c.in_err-inst.field-0.0 is_ended
@@ -76,7 +78,8 @@ returns-in_err-take-clause-fault c =
     let sf = c.loop-body.invariant in
     let next = rw c.if-branch.true at c.in_ok-next.ensures in
     let fault = c.in_err-take.ensures.fault sf.body (bond_total c.args.kind c.args.rows c.args.cols) sf.holds in
-    rw (p.1, p.2) (record-fault (header.Lattice c.args.kind c.args.rows c.args.cols) c.args.records.now sf.body c.next.new.self c.next.new.row c.in_err-take.field-0.0
+    rw (p.1, p.2)
+    (record-fault (header.Lattice c.args.kind c.args.rows c.args.cols) c.args.records.now sf.body c.next.new.self c.next.new.row c.in_err-take.field-0.0
     (sf.split ∙ ap (λ (l : List Kept). sf.body ++ l) next) sf.is_body fault)
 
 pub returns-then-begins-clause-spins : goal.returns-then-begins-clause-spins

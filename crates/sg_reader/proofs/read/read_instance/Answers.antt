@@ -10,7 +10,8 @@ pub returns-in_err-kind-clause-fault : goal.returns-in_err-kind-clause-fault
 returns-in_err-kind-clause-fault c =
     let p = err_from_is_err_and c.from_residual-in_err-kind.result c.from_residual-in_err-kind.ensures.1 in
     let next = rw c.if-not-branch.false at c.in_ok-next.ensures in
-    rw (p.1, p.2) (first-fault (kept_of c.args.bytes.now) c.next.new.row c.next.new.self c.in_err-kind.field-0.0 (sym c.new-rows.ensures.value ∙ next) c.in_err-kind.ensures.refused)
+    rw (p.1, p.2) (first-fault (kept_of c.args.bytes.now) c.next.new.row c.next.new.self c.in_err-kind.field-0.0 (sym c.new-rows.ensures.value
+    ∙ next) c.in_err-kind.ensures.refused)
 
 pub returns-in-Lattice-clause-fault : goal.returns-in-Lattice-clause-fault
 returns-in-Lattice-clause-fault c =

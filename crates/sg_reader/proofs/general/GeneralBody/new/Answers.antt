@@ -12,6 +12,7 @@ returns-clause-holds c =
 
 pub loop-spin-preserved : goal.loop-spin-preserved
 loop-spin-preserved c = record {
-  darts = c.in_ok-push.ensures.ok ∙ ap (λ (l : List ℕ). c.loop-spin.rotation ++ l ∷ []) c.new.ensures ∙ no_darts-more c.loop-spin.rotation c.loop-spin._spin c.loop-spin.invariant.darts;
+  darts = c.in_ok-push.ensures.ok ∙ ap (λ (l : List ℕ). c.loop-spin.rotation ++ l ∷ []) c.new.ensures
+      ∙ no_darts-more c.loop-spin.rotation c.loop-spin._spin c.loop-spin.invariant.darts;
   marks = c.in_ok-push-2.ensures.items ∙ no_marks-more c.loop-spin.seen.items c.loop-spin._spin c.loop-spin.invariant.marks;
 }

@@ -28,7 +28,8 @@ returns-then-index-clause-fault c = λ body h.
     let n = c.args.self.now.n in
     let long = c.in_ok-spin.ensures.count in
     let good = rot_range-rest n r long c.in_ok-spin.ensures.good ∙ c.in_ok-darts.ensures.passes in
-    let twice = ap (has_rot body) (sym c.in_ok-spin.ensures.value) ∙ sym (mark-of body c.args.self.now c.in_ok-spin.spin c.index.result.now h c.in_ok-spin.ensures.below)
+    let twice = ap (has_rot body) (sym c.in_ok-spin.ensures.value)
+    ∙ sym (mark-of body c.args.self.now c.in_ok-spin.spin c.index.result.now h c.in_ok-spin.ensures.below)
     ∙ sym c.index.ensures ∙ c.if-index.true in
     general_fault-rot n body r c.requires.word ∙ rot_fault-seen n (has_rot body (size_in r 1)) r (λ e. absurd (omega (arith, e, long))) good twice
     ∙ ap (λ (k : ℕ). Some (BadShape k)) (sym c.at.ensures.value)
@@ -39,7 +40,8 @@ returns-clause-passes c = λ body h.
     let n = c.args.self.now.n in
     let long = c.in_ok-spin.ensures.count in
     let good = rot_range-rest n r long c.in_ok-spin.ensures.good ∙ c.in_ok-darts.ensures.passes in
-    let first = ap (has_rot body) (sym c.in_ok-spin.ensures.value) ∙ sym (mark-of body c.args.self.now c.in_ok-spin.spin c.index.result.now h c.in_ok-spin.ensures.below)
+    let first = ap (has_rot body) (sym c.in_ok-spin.ensures.value)
+    ∙ sym (mark-of body c.args.self.now c.in_ok-spin.spin c.index.result.now h c.in_ok-spin.ensures.below)
     ∙ sym c.index.ensures ∙ c.if-index.false in
     general_fault-rot n body r c.requires.word ∙ rot_fault-none n (has_rot body (size_in r 1)) r (λ e. absurd (omega (arith, e, long))) good first
 

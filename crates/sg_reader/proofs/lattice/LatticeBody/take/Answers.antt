@@ -62,4 +62,5 @@ pub returns-clause-fault : goal.returns-clause-fault
 returns-clause-fault c =
     let r = c.args.row.now in
     let other : is_seam r ≡ false = sym c.begins.ensures ∙ c.if-begins.false in
-    IfErr-weaker c.push_couplings.result _ _ (λ e fault body wanted h. rw (lattice_fault-couplings wanted body r other c.requires) fault) c.push_couplings.ensures.fault
+    IfErr-weaker c.push_couplings.result _ _
+    (λ e fault body wanted h. rw (lattice_fault-couplings wanted body r other c.requires) fault) c.push_couplings.ensures.fault

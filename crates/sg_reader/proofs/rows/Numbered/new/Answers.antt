@@ -11,7 +11,8 @@ use Rattle.sg_reader.proofs.rows.Numbered.new.Goals as goal
 pub invariant_of-result : goal.invariant_of-result
 invariant_of-result c =
     let text = without_marks c.args.bytes.now in
-    let same : c.new.result ≡ records_of text = c.new.ensures ∙ ap (λ (t : List ℕ). records_of (strip_bom t)) c.without_marks.ensures ∙ ap records_of (strip_bom-without_marks c.args.bytes.now) in
+    let same : c.new.result ≡ records_of text = c.new.ensures ∙ ap (λ (t : List ℕ). records_of (strip_bom t)) c.without_marks.ensures
+    ∙ ap records_of (strip_bom-without_marks c.args.bytes.now) in
     let short = length-without_marks c.args.bytes.now in
     let count = count-records_of text in
     let fields = fields-records_of text in
@@ -21,4 +22,5 @@ invariant_of-result c =
 
 pub returns : goal.returns
 returns c =
-    ap (numbered_from 0) (c.new.ensures ∙ ap (λ (t : List ℕ). records_of (strip_bom t)) c.without_marks.ensures ∙ ap records_of (strip_bom-without_marks c.args.bytes.now))
+    ap (numbered_from 0) (c.new.ensures ∙ ap (λ (t : List ℕ). records_of (strip_bom t)) c.without_marks.ensures
+    ∙ ap records_of (strip_bom-without_marks c.args.bytes.now))

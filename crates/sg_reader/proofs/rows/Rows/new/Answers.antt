@@ -14,7 +14,8 @@ returns-clause-value c = ap (λ (r : List Kept). filter is_kept r) c.new.ensures
 pub returns-clause-few : goal.returns-clause-few
 returns-clause-few c =
     let text = without_marks c.args.bytes.now in
-    let same : field_total (filter is_kept c.new.result) ≡ field_total (filter is_kept (numbered_from 0 (records_of text))) = ap (λ (r : List Kept). field_total (filter is_kept r)) c.new.ensures in
+    let same : field_total (filter is_kept c.new.result) ≡ field_total (filter is_kept (numbered_from 0 (records_of text))) = ap
+    (λ (r : List Kept). field_total (filter is_kept r)) c.new.ensures in
     let fields = field_total-numbered 0 (records_of text) in
     let all = fields-records_of text in
     let short = length-without_marks c.args.bytes.now in
