@@ -1,0 +1,5 @@
+pub mod Drawn
+pub mod Alternations
+pub mod Rounds
+pub mod Naming
+pub mod Streams

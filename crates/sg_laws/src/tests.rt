@@ -1,0 +1,51 @@
+use super::{Alternate, Disorder, One, PlusMinus, Table, Uniform, draws, named, start};
+use std::alloc::Global;
+use std::test::Fail;
+
+// A law of a caller's own.
+fn table(alloc: Global) -> Result<Table, Fail> {
+    let name = String::from_str(alloc, "t")?;
+    Ok(Table::new(name, vec![in alloc; 2, -3, 5]?))
+}
+
+// The first six draws of the law of this name after the seed.
+fn drawn(alloc: Global, name: &str, seed: u64) -> Result<Option<Vec<i64>>, Fail> {
+    let mut laws: Vec<Box<dyn Disorder>> = Vec::new(alloc);
+    laws.push(Box::new(alloc, One::new())?)?;
+    laws.push(Box::new(alloc, Alternate::new())?)?;
+    laws.push(Box::new(alloc, PlusMinus::new())?)?;
+    laws.push(Box::new(alloc, Uniform::new())?)?;
+    laws.push(Box::new(alloc, table(alloc)?)?)?;
+    match named(laws, name) {
+        Some(law) => {
+            let mut law = law;
+            start(&mut law, seed);
+            Ok(Some(draws(alloc, &mut law, 6)?))
+        }
+        None => Ok(None),
+    }
+}
+
+// The words of the generator after the seed 42 are a15c02b7, 7b47f409, ba1d3330, 83d2f293, bfa4784b,
+// cbed606e.
+#[test]
+fn each_law_gives_its_stream(rt: HostRuntime) -> Result<(), Fail> {
+    let rows: [(&str, u64, [i64; 6]); 6] = [
+        ("one", 7, [1, 1, 1, 1, 1, 1]),
+        ("alternate", 0, [1, -1, 1, -1, 1, -1]),
+        ("alternate", 7, [-1, 1, -1, 1, -1, 1]),
+        ("pm", 42, [-1, -1, 1, -1, -1, 1]),
+        (
+            "uniform",
+            42,
+            [787127, -527351, 865072, 193171, -755637, -171922],
+        ),
+        ("t", 4, [-3, 5, 2, -3, 5, 2]),
+    ];
+    for (name, seed, wanted) in &rows {
+        let found = drawn(rt.alloc(), name, *seed)?;
+        assert!(rt; found.is_some_and(|draws| draws.as_slice() == wanted.as_slice()));
+    }
+    assert!(rt; drawn(rt.alloc(), "none", 1)?.is_none());
+    Ok(())
+}
