@@ -4,3 +4,4 @@ mod Ends
 mod Pushes
 mod Pops
 mod Ways
+pub mod LightWays

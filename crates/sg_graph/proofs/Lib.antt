@@ -4,3 +4,6 @@ pub mod Incidences
 pub mod Tables
 pub mod TableLaws
 pub mod Searching
+pub mod OddLists
+pub mod OnceLists
+pub mod WalkEnds

@@ -1,0 +1,18 @@
+-- No distance is more than the weight of all edges: the way back has no edge twice.
+use Rattle.std.proofs.Common.{◌≡◌, ℕ, ◌<◌, ◌≤◌, true, List, [], ◌∷◌, arith, All}
+use Rattle.std.proofs.lemmas.List.Elements.{All-cons, All-nil}
+use Rattle.sg_graph.specs.Web.{Graph, edge_count, total_weight}
+use Rattle.sg_graph.specs.Table.{IsTableOf, IsWayBack, Routes, is_reached, length_to}
+use Rattle.sg_graph.proofs.OnceLists.{once_light}
+use Rattle.sg_graph.proofs.Tables.{reached_low}
+use Rattle.sg_dist.proofs.Ways.{way_distance, way_once}
+
+module _ (g : Graph) (t : Routes) where
+  way_below : (es : List ℕ) (x y : ℕ) → IsWayBack g t x es y → All (λ e. e < edge_count g) es
+  way_below [] x y w = All-nil (λ e. e < edge_count g)
+  way_below (e ∷ es) x y w = All-cons (λ e. e < edge_count g) e es w.2.below (way_below es w.0 y w.3)
+
+  pub distance_light : IsTableOf g t → (x : ℕ) → is_reached t x ≡ true → length_to t x ≤ total_weight g
+  distance_light is x h =
+      let way = is.back x (omega (arith, reached_low t x h, is.nodes)) h in
+      omega (arith, way_distance g t is way.0 x h way.1, once_light g way.0 (way_below way.0 x t.source way.1) (way_once g t way.0 x way.1))

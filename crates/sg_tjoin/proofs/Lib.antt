@@ -1,0 +1,6 @@
+pub mod TableRows
+pub mod MetricLaws
+pub mod CostRows
+pub mod PairEnds
+pub mod Turning
+pub mod CutLeast

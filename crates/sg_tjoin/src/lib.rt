@@ -1,0 +1,84 @@
+//! Least joins on any weighted graph, with the packing of odd cuts that proves them (Edmonds and
+//! Johnson 1973).
+//!
+//! For a physicist: in the dual web of a planar spin glass the terminals are the frustrated faces, an
+//! edge weighs the `|J|` of the bond that it crosses, and the bonds that a ground state breaks are a
+//! least join. [`least_join`] finds one on every connected web, planar or not: the terminals are
+//! matched at costs of twice their distances, and an edge belongs to the join where it stands in an
+//! odd number of the mates' shortest walks. The duals of the matching become odd cuts that weigh twice
+//! as much as the join, and by [`cuts_bound_joins`] no join weighs less.
+//!
+//! For the next engineer: nothing here looks into the engine. `tables` searches from each terminal
+//! over one incidence, `matching` lets the engine match them, `walks` marks what the mates' walks
+//! cross, and `sg_moat` draws the cuts. That a join is least follows from the cuts alone: no join is
+//! taken apart into walks.
+#![tactic(auto)]
+
+mod law;
+mod matching;
+mod tables;
+mod walks;
+mod weight;
+
+ghost use Rattle.std.specs.Prelude.{◌≡◌, ◌*◌, ◌%◌, ◌≤◌, length, pos, sum_by, IfOk};
+ghost use Rattle.sg_graph.specs.Join.{AreTerminals, IsLeastJoin};
+ghost use Rattle.sg_graph.specs.OddCut.{CutsPack, cut_weight};
+ghost use Rattle.sg_graph.specs.Walk.{IsConnected};
+ghost use Rattle.sg_graph.specs.Web.{total_weight, weight_of};
+ghost use Rattle.sg_limits.specs.Limits.{forced_limit};
+
+pub use law::cuts_bound_joins;
+use matching::matching;
+use sg_graph::{Cuts, EdgeList, Terminals, Web};
+use sg_moat::levels;
+use std::alloc::{AllocError, Global};
+use tables::terminal_tables;
+use walks::odd_edges;
+use weight::weight;
+
+/// The allocator had no memory left.
+pub type NoMemory = AllocError;
+
+/// A join, its weight, and weighted odd cuts whose weights sum to twice that.
+#[derive(Drop)]
+pub struct Join {
+    pub edges: EdgeList,
+    pub weight: i64,
+    pub cuts: Cuts,
+}
+
+/// A join of the terminals than which none weighs less, with the odd cuts that prove it.
+///
+/// The edges rise, and a node meets an odd number of their ends exactly where it is a terminal. Each
+/// cut holds all edges that leave some set with an odd number of terminals, and no edge is loaded
+/// with more than twice its weight. Without terminals there is no edge, and no cut.
+///
+/// Cost: for `k` terminals in a web of `n` nodes and `m` edges, `k` searches in `k (n + m) log m`,
+/// the matching in at most `2 k^2` steps of `k^2`, and the cuts as `sg_moat::levels` says. Memory:
+/// `12 k n + 8 k^2` bytes, and what the cuts take.
+pub fn least_join(alloc: Global, web: &Web, terminals: &Terminals) -> Result<Join, NoMemory>
+    requires connected { IsConnected web.now }
+    requires terminals { AreTerminals web.now terminals.now }
+    requires even { length terminals.now % 2 ≡ 0 }
+    requires light { total_weight web.now ≤ forced_limit }
+    ensures least { IfOk result (λ j. IsLeastJoin web.now terminals.now j.edges) }
+    ensures weight { IfOk result (λ j. j.weight ≡ pos (weight_of web.now j.edges)) }
+    ensures packs { IfOk result (λ j. CutsPack web.now terminals.now j.cuts) }
+    ensures tight { IfOk result (λ j. sum_by cut_weight j.cuts ≡ 2 * weight_of web.now j.edges) }
+{
+    let all = web.edges().as_slice();
+    let nodes = terminals.as_slice();
+    let tables = terminal_tables(alloc, web, nodes)?;
+    let matched = matching(alloc, nodes, &tables)?;
+    let edges = odd_edges(alloc, web, nodes, &tables, matched.mates.as_slice())?;
+    let weight = weight(all, edges.as_slice());
+    let cuts = levels(alloc, web, terminals, &tables, &matched.family)?;
+    Ok(Join {
+        edges,
+        weight,
+        cuts,
+    })
+}
+
+
+
