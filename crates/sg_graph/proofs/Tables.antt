@@ -2,7 +2,7 @@
 use Rattle.std.proofs.Common.{[], ◌∷◌, ap₂, ◌≡◌, ◌≢◌, ◌^◌, ℕ, zero, suc, ◌<◌, ◌≤◌, ℤ, pos, Bool, true, false, cond, not, eqb, eq-eqb, get_or, inl, inr, is_some, unsigned_abs, Option, None, Some, List, set, replicate, refl, sym, ◌∙◌, ap, subst, arith, length}
 use Rattle.std.specs.Option.{option_map_or}
 use Rattle.std.proofs.lemmas.Bool.{cases_eq, cases_lt, false≢true, ne_eqb, true≢false}
-use Rattle.std.proofs.lemmas.List.{get_or_past, length-set, map-set, length-replicate, get_or-set_same, get_or-set_other}
+use Rattle.std.proofs.lemmas.List.{get_or_past, length-set, length-replicate, get_or-set_same, get_or-set_other}
 use Rattle.sg_graph.specs.Slots.{route_of, routes_of, unreached}
 use Rattle.sg_graph.specs.Table.{IsTable, Route, Routes, at_home, distance_at, is_reached, length_to, parent_at, route_at, route_edge, with_route}
 

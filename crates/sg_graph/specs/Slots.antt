@@ -1,5 +1,5 @@
 -- What the two lists of a table say: a route to each node, but for a node that is marked as not reached.
-use Rattle.std.specs.Prelude.{ℕ, ◌==◌, ◌^◌, ℤ, pos, Bool, true, false, cond, Option, None, Some, List, [], ◌∷◌}
+use Rattle.std.specs.Prelude.{ℕ, ◌==◌, ℤ, cond, Option, None, Some, List, [], ◌∷◌}
 use Rattle.sg_graph.specs.Table.{Route}
 
 -- where an edge would stand, that the node is not reached: the largest number of 32 bits, which is no edge of a web

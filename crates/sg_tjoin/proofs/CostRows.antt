@@ -1,10 +1,10 @@
 -- A table of costs as it fills, row by row.
-use Rattle.std.proofs.Common.{inl, inr, ◌≡◌, ◌≢◌, ◌⊎◌, ℕ, ℤ, ◌+◌, ◌*◌, ◌<◌, ◌≤◌, List, ◌∙◌, sym, ap, arith, length, get_or, subst, pos, refl}
+use Rattle.std.proofs.Common.{inl, inr, ◌≡◌, ◌≢◌, ℕ, ℤ, ◌+◌, ◌*◌, ◌<◌, List, ◌∙◌, sym, arith, length, get_or, subst, pos, refl}
 use Rattle.std.proofs.lemmas.Bool.{cases_eq}
 use Rattle.sg_graph.specs.Table.{Routes, length_to}
 use Rattle.sg_slack.specs.Table.{IsPairOf, SetsPair, Table, cost_of}
-use Rattle.sg_moat.specs.Input.{table_at}
-use Rattle.sg_tjoin.specs.Doubled.{FillsRow, FillsRows, doubled}
+use Rattle.sg_moat.specs.Input.{table_at, terminal_cost}
+use Rattle.sg_tjoin.specs.Doubled.{FillsRow, FillsRows}
 
 pub FillsRow-none : (terminals : List ℕ) (t : Routes) (i : ℕ) (table : Table) → FillsRow terminals t i 0 table table
 FillsRow-none terminals t i table = record {
@@ -45,11 +45,11 @@ module _ (terminals : List ℕ) (tables : List Routes) (i : ℕ) (old new : Tabl
   FillsRows-more = record {
     size = row.size ∙ h.size;
     forth = λ a b l m. elim (cases_eq a i) [
-      | inl same ↦ subst (λ z. cost_of new z b ≡ pos (doubled terminals tables z b)) (sym same) (row.forth b (omega arith))
+      | inl same ↦ subst (λ z. cost_of new z b ≡ pos (terminal_cost terminals tables z b)) (sym same) (row.forth b (omega arith))
       | inr differs ↦ row.before a b (omega arith) (omega arith) ∙ h.forth a b (omega arith) m
     ];
     back = λ a b l m. elim (cases_eq a i) [
-      | inl same ↦ subst (λ z. cost_of new b z ≡ pos (doubled terminals tables z b)) (sym same) (row.back b (omega arith))
+      | inl same ↦ subst (λ z. cost_of new b z ≡ pos (terminal_cost terminals tables z b)) (sym same) (row.back b (omega arith))
       | inr differs ↦ row.before b a (omega arith) (omega arith) ∙ h.back a b (omega arith) m
     ];
     diagonal = λ a l. row.diagonal a (omega (arith, h.size)) ∙ h.diagonal a l;

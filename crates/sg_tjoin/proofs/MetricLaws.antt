@@ -1,13 +1,13 @@
 -- Distances of terminals are those of a metric space, and twice them are costs that an engine takes.
-use Rattle.std.proofs.Common.{inl, inr, ◌≡◌, ℕ, ◌+◌, ◌*◌, ◌%◌, ◌<◌, ◌≤◌, ◌^◌, true, List, ◌∙◌, sym, ap, arith, All, length, get_or, subst, pos, cond, ltb, Result, Ok, Err}
+use Rattle.std.proofs.Common.{inl, inr, ◌≡◌, ℕ, ◌+◌, ◌%◌, ◌<◌, ◌≤◌, true, List, ◌∙◌, sym, ap, arith, length, get_or, subst, pos, cond, ltb, Result, Ok, Err}
 use Rattle.std.proofs.lemmas.Bool.{cases_eq, cases_lt}
 use Rattle.std.specs.Result.{IfOk}
-use Rattle.sg_limits.specs.Limits.{cost_limit, forced_limit}
+use Rattle.sg_limits.specs.Limits.{forced_limit}
 use Rattle.sg_sums.specs.Naturals.{nat_of}
 use Rattle.sg_graph.specs.Web.{Graph, IsWeb, total_weight}
 use Rattle.sg_graph.specs.Walk.{IsConnected, IsDistance}
 use Rattle.sg_graph.specs.Join.{AreTerminals}
-use Rattle.sg_graph.specs.Table.{IsTableOf, Routes, is_reached, length_to}
+use Rattle.sg_graph.specs.Table.{IsTableOf, Routes, is_reached}
 use Rattle.sg_graph.proofs.OnceLists.{rising_few}
 use Rattle.sg_graph.proofs.TableLaws.{connected_distance, connected_reached, distance_signed, reached_if}
 use Rattle.sg_graph.proofs.Walks.{distance-itself, distance-joined}
@@ -18,8 +18,8 @@ use Rattle.sg_pairing.specs.Matching.{IsMatching, IsPairing, NoSlackIsNegative, 
 use Rattle.sg_pairing.specs.Metric.{IsMetric, cost}
 use Rattle.sg_pairing.proofs.PairingSums.{sum_by-range}
 use Rattle.sg_sums.proofs.SumLaws.{sum_below-same}
-use Rattle.sg_moat.specs.Input.{AreTerminalTables, NoTwoAreTooNear, blank_table, table_at}
-use Rattle.sg_tjoin.specs.Doubled.{AreMetric, FillsRows, Reaches, apart, doubled}
+use Rattle.sg_moat.specs.Input.{AreTerminalTables, blank_table, table_at, terminal_cost}
+use Rattle.sg_tjoin.specs.Doubled.{AreMetric, FillsRows, Reaches, apart}
 
 module _ (g : Graph) (terminals : List ℕ) (tables : List Routes) (connected : IsConnected g) (are : AreTerminals g terminals) (is : AreTerminalTables g terminals tables) where
   low : (i : ℕ) → i < length terminals → get_or terminals i 0 < g.nodes
@@ -82,7 +82,7 @@ module _ (g : Graph) (terminals : List ℕ) (tables : List Routes) (connected : 
   }
 
 module _ (terminals : List ℕ) (tables : List Routes) (t : Table) (metric : AreMetric terminals tables) (rows : FillsRows terminals tables (length terminals) t) where
-  entry : (i j : ℕ) → i < t.size → j < t.size → cost_of t i j ≡ pos (doubled terminals tables i j)
+  entry : (i j : ℕ) → i < t.size → j < t.size → cost_of t i j ≡ pos (terminal_cost terminals tables i j)
   entry i j l m =
       let low_i : i < length terminals = omega (arith, rows.size) in
       let low_j : j < length terminals = omega (arith, rows.size) in
@@ -90,15 +90,15 @@ module _ (terminals : List ℕ) (tables : List Routes) (t : Table) (metric : Are
         | inl less ↦ rows.forth i j low_i less
         | inr more ↦ elim (cases_eq i j) [
           | inl same ↦
-              let zero : doubled terminals tables i j ≡ 0 = omega (arith, ap (apart terminals tables i) (sym same), metric.diagonal i low_i) in
+              let zero : terminal_cost terminals tables i j ≡ 0 = omega (arith, ap (apart terminals tables i) (sym same), metric.diagonal i low_i) in
               ap (cost_of t i) (sym same) ∙ rows.diagonal i low_i ∙ sym (ap pos zero)
           | inr differs ↦
-              let turned : doubled terminals tables j i ≡ doubled terminals tables i j = omega (arith, metric.symmetric i j low_i low_j) in
+              let turned : terminal_cost terminals tables j i ≡ terminal_cost terminals tables i j = omega (arith, metric.symmetric i j low_i low_j) in
               rows.back j i low_j (omega arith) ∙ ap pos turned
         ]
       ]
 
-  pub cost_is : (i j : ℕ) → i < t.size → j < t.size → cost t i j ≡ doubled terminals tables i j
+  pub cost_is : (i j : ℕ) → i < t.size → j < t.size → cost t i j ≡ terminal_cost terminals tables i j
   cost_is i j l m = ap nat_of (entry i j l m)
 
   pub IsMetric-rows : IsMetric t
@@ -115,19 +115,19 @@ module _ (terminals : List ℕ) (tables : List Routes) (t : Table) (metric : Are
 
   -- what a family of the engine says of the terminals
   module _ (f : Family) (leaves : leaf_count f ≡ t.size) where
-    pub NoTwoAreTooNear-matched : NoSlackIsNegative f (cost t) → NoTwoAreTooNear f terminals tables
-    NoTwoAreTooNear-matched slack = λ i j l m. omega (arith, slack i j l m, cost_is i j (omega (arith, leaves)) (omega (arith, leaves)))
+    pub NoSlackIsNegative-matched : NoSlackIsNegative f (cost t) → NoSlackIsNegative f (terminal_cost terminals tables)
+    NoSlackIsNegative-matched slack = λ i j l m. omega (arith, slack i j l m, cost_is i j (omega (arith, leaves)) (omega (arith, leaves)))
 
     pub IsPairing-matched : (mates : List ℕ) → IsMatching f (cost t) mates → IsPairing (length terminals) mates
     IsPairing-matched mates matching = subst (λ n. IsPairing n mates) (leaves ∙ rows.size) matching.pairing
 
   -- and what the pairs cost
-  pub same_cost : (mates : List ℕ) → IsPairing (length terminals) mates → pairing_cost (cost t) mates ≡ pairing_cost (doubled terminals tables) mates
+  pub same_cost : (mates : List ℕ) → IsPairing (length terminals) mates → pairing_cost (cost t) mates ≡ pairing_cost (terminal_cost terminals tables) mates
   same_cost mates pairing =
       sum_by-range (λ u. cond (ltb u (get_or mates u 0)) (cost t u (get_or mates u 0)) 0) (length mates)
-      ∙ sum_below-same (λ u. cond (ltb u (get_or mates u 0)) (cost t u (get_or mates u 0)) 0) (λ u. cond (ltb u (get_or mates u 0)) (doubled terminals tables u (get_or mates u 0)) 0) (length mates)
+      ∙ sum_below-same (λ u. cond (ltb u (get_or mates u 0)) (cost t u (get_or mates u 0)) 0) (λ u. cond (ltb u (get_or mates u 0)) (terminal_cost terminals tables u (get_or mates u 0)) 0) (length mates)
       (λ u l. ap (λ c. cond (ltb u (get_or mates u 0)) c 0) (cost_is u (get_or mates u 0) (omega (arith, rows.size, pairing.count)) (omega (arith, rows.size, pairing.low u (omega (arith, pairing.count))))))
-      ∙ sym (sum_by-range (λ u. cond (ltb u (get_or mates u 0)) (doubled terminals tables u (get_or mates u 0)) 0) (length mates))
+      ∙ sym (sum_by-range (λ u. cond (ltb u (get_or mates u 0)) (terminal_cost terminals tables u (get_or mates u 0)) 0) (length mates))
 
 -- two clauses on a value, where there is one
 pub both : {X E : Type 0} (r : Result X E) (P Q R : X → Type 0) → ((x : X) → P x → Q x → R x) → IfOk r P → IfOk r Q → IfOk r R

@@ -1,5 +1,5 @@
 -- The ends of all pairs of mates are the terminals, each once.
-use Rattle.std.proofs.Common.{inl, inr, ap₂, ◌≡◌, ◌≢◌, ℕ, ◌<◌, ◌≤◌, Bool, true, false, ◌&&◌, eqb, eq-eqb, ltb, List, refl, ◌∙◌, sym, ap, arith, length, get_or, subst}
+use Rattle.std.proofs.Common.{inl, inr, ap₂, ◌≡◌, ◌≢◌, ℕ, ◌<◌, Bool, true, false, ◌&&◌, eqb, eq-eqb, ltb, List, refl, ◌∙◌, sym, ap, arith, length, get_or, subst}
 use Rattle.std.specs.List.Sorted.{IsStrictlyIncreasing}
 use Rattle.std.proofs.lemmas.Bool.{cases_eq, cases_lt, eqb-true, le-ltb, lt-ltb, ne_eqb}
 use Rattle.sg_sums.specs.Parity.{parity_below, xor}

@@ -1,6 +1,6 @@
 -- The edges that are marked when the walks of all pairs of mates were turned: a join of the terminals, of half the cost
 -- of the pairs at most.
-use Rattle.std.proofs.Common.{ap₂, ◌≡◌, ◌≢◌, ℕ, zero, suc, ◌+◌, ◌*◌, ◌<◌, ◌≤◌, ◌++◌, add-one, Bool, true, false, cond, ◌&&◌, eqb, ltb, List, [], refl, ◌∙◌, sym, ap, arith, All, length, get_or, replicate, subst, sum_by}
+use Rattle.std.proofs.Common.{ap₂, ◌≡◌, ℕ, zero, suc, ◌+◌, ◌*◌, ◌<◌, ◌≤◌, ◌++◌, add-one, Bool, true, false, cond, ◌&&◌, eqb, List, [], refl, ◌∙◌, sym, ap, arith, length, get_or, replicate, sum_by}
 use Rattle.std.proofs.lemmas.Bool.{le-ltb, lt-ltb}
 use Rattle.std.proofs.lemmas.List.Elements.{All-append, All-nil}
 use Rattle.std.proofs.lemmas.List.Sums.{sum_by-append}
@@ -18,7 +18,8 @@ use Rattle.sg_graph.proofs.OddLists.{chosen_below-parity, chosen_below-weight, i
 use Rattle.sg_graph.proofs.WalkEnds.{walk_below, walk_parity}
 use Rattle.sg_pairing.specs.Matching.{IsPairing, pairing_cost}
 use Rattle.sg_pairing.proofs.PairingSums.{sum_by-range}
-use Rattle.sg_tjoin.specs.Doubled.{apart, doubled}
+use Rattle.sg_moat.specs.Input.{terminal_cost}
+use Rattle.sg_tjoin.specs.Doubled.{apart}
 use Rattle.sg_tjoin.specs.Turns.{AreTurned, TurnsWalk, ends_pair, is_end_of, leads_pair}
 use Rattle.sg_tjoin.proofs.PairEnds.{pairs_parity}
 
@@ -91,7 +92,7 @@ module _ (g : Graph) (terminals : List ℕ) (tables : List Routes) (mates : List
       odd_at = λ x l. odd_is (sum_by (ends_at g x) chosen) ∙ ap (λ b. cond b 1 0) (ends_parity g x chosen ∙ chosen_parity x);
     }
 
-    pub turned_weight : 2 * weight_of g chosen ≤ pairing_cost (doubled terminals tables) mates
+    pub turned_weight : 2 * weight_of g chosen ≤ pairing_cost (terminal_cost terminals tables) mates
     turned_weight =
         omega (
           arith,
@@ -103,7 +104,7 @@ module _ (g : Graph) (terminals : List ℕ) (tables : List Routes) (mates : List
           costs,
         )
       where
-        twice : (n : ℕ) → 2 * sum_below (λ i. cond (leads_pair mates i) (apart terminals tables i (get_or mates i 0)) 0) n ≡ sum_below (λ i. cond (leads_pair mates i) (doubled terminals tables i (get_or mates i 0)) 0) n
+        twice : (n : ℕ) → 2 * sum_below (λ i. cond (leads_pair mates i) (apart terminals tables i (get_or mates i 0)) 0) n ≡ sum_below (λ i. cond (leads_pair mates i) (terminal_cost terminals tables i (get_or mates i 0)) 0) n
         twice zero = refl
         twice (suc n) = omega (arith, twice n, one (leads_pair mates n) (apart terminals tables n (get_or mates n 0)))
           where
@@ -111,7 +112,7 @@ module _ (g : Graph) (terminals : List ℕ) (tables : List Routes) (mates : List
             one true v = refl
             one false v = refl
 
-        costs : pairing_cost (doubled terminals tables) mates ≡ sum_below (λ i. cond (leads_pair mates i) (doubled terminals tables i (get_or mates i 0)) 0) (length terminals)
+        costs : pairing_cost (terminal_cost terminals tables) mates ≡ sum_below (λ i. cond (leads_pair mates i) (terminal_cost terminals tables i (get_or mates i 0)) 0) (length terminals)
         costs =
-            sum_by-range (λ i. cond (leads_pair mates i) (doubled terminals tables i (get_or mates i 0)) 0) (length mates)
-            ∙ ap (sum_below (λ i. cond (leads_pair mates i) (doubled terminals tables i (get_or mates i 0)) 0)) pairing.count
+            sum_by-range (λ i. cond (leads_pair mates i) (terminal_cost terminals tables i (get_or mates i 0)) 0) (length mates)
+            ∙ ap (sum_below (λ i. cond (leads_pair mates i) (terminal_cost terminals tables i (get_or mates i 0)) 0)) pairing.count

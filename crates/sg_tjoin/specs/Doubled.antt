@@ -3,15 +3,11 @@ use Rattle.std.specs.Prelude.{◌≡◌, ℕ, ◌+◌, ◌*◌, ◌%◌, ◌<◌
 use Rattle.sg_limits.specs.Limits.{cost_limit}
 use Rattle.sg_graph.specs.Table.{Routes, distance_at, is_reached, length_to}
 use Rattle.sg_slack.specs.Table.{Table, cost_of}
-use Rattle.sg_moat.specs.Input.{distance_from, table_at}
+use Rattle.sg_moat.specs.Input.{distance_from, table_at, terminal_cost}
 
 -- the distance of two terminals, given by their places
 abbrev pub apart : List ℕ → List Routes → ℕ → ℕ → ℕ
 apart terminals tables i j = distance_from tables i (slice_index terminals j)
-
--- twice that
-abbrev pub doubled : List ℕ → List Routes → ℕ → ℕ → ℕ
-doubled terminals tables i j = 2 * apart terminals tables i j
 
 -- the table has the node's distance, and twice this is a cost that an engine takes
 pub record Reaches (t : Routes) (x : ℕ) : Type 0 where
@@ -29,7 +25,7 @@ pub record AreMetric (terminals : List ℕ) (tables : List Routes) : Type 0 wher
   pub symmetric : (i j : ℕ) → i < length terminals → j < length terminals → apart terminals tables i j ≡ apart terminals tables j i
   pub diagonal : (i : ℕ) → i < length terminals → apart terminals tables i i ≡ 0
   pub triangle : (i j k : ℕ) → i < length terminals → j < length terminals → k < length terminals →
-    apart terminals tables i k ≤ apart terminals tables i j + apart terminals tables j k
+      apart terminals tables i k ≤ apart terminals tables i j + apart terminals tables j k
 
 -- the costs of terminal i and the first few others, both ways; the costs of two terminals before i stay
 pub record FillsRow (terminals : List ℕ) (t : Routes) (i upto : ℕ) (old new : Table) : Type 0 where
@@ -42,6 +38,6 @@ pub record FillsRow (terminals : List ℕ) (t : Routes) (i upto : ℕ) (old new 
 -- the costs of the first few terminals, each two by the table of the later one
 pub record FillsRows (terminals : List ℕ) (tables : List Routes) (upto : ℕ) (t : Table) : Type 0 where
   pub size : t.size ≡ length terminals
-  pub forth : (i j : ℕ) → i < upto → j < i → cost_of t i j ≡ pos (doubled terminals tables i j)
-  pub back : (i j : ℕ) → i < upto → j < i → cost_of t j i ≡ pos (doubled terminals tables i j)
+  pub forth : (i j : ℕ) → i < upto → j < i → cost_of t i j ≡ pos (terminal_cost terminals tables i j)
+  pub back : (i j : ℕ) → i < upto → j < i → cost_of t j i ≡ pos (terminal_cost terminals tables i j)
   pub diagonal : (i : ℕ) → i < length terminals → cost_of t i i ≡ pos 0

@@ -1,5 +1,5 @@
 -- Marks on the edges that walks cross, turned at each crossing.
-use Rattle.std.specs.Prelude.{◌≡◌, ℕ, ◌<◌, ◌==◌, ◌&&◌, Bool, cond, nat_lt, List, length, slice_index, sum_by, All}
+use Rattle.std.specs.Prelude.{◌≡◌, ℕ, ◌<◌, ◌==◌, ◌&&◌, Bool, cond, nat_lt, List, length, slice_index, All}
 use Rattle.sg_sums.specs.Ends.{is_end}
 use Rattle.sg_sums.specs.Parity.{parity_by, parity_below, xor}
 use Rattle.sg_sums.specs.Sets.{is_marked}

@@ -66,12 +66,12 @@ pub fn least_join(alloc: Global, web: &Web, terminals: &Terminals) -> Result<Joi
     ensures packs { IfOk result (λ j. CutsPack web.now terminals.now j.cuts) }
     ensures tight { IfOk result (λ j. sum_by cut_weight j.cuts ≡ 2 * weight_of web.now j.edges) }
 {
-    let all = web.edges().as_slice();
+    let all = web.edges();
     let nodes = terminals.as_slice();
     let tables = terminal_tables(alloc, web, nodes)?;
     let matched = matching(alloc, nodes, &tables)?;
     let edges = odd_edges(alloc, web, nodes, &tables, matched.mates.as_slice())?;
-    let weight = weight(all, edges.as_slice());
+    let weight = weight(all.as_slice(), edges.as_slice());
     let cuts = levels(alloc, web, terminals, &tables, &matched.family)?;
     Ok(Join {
         edges,
@@ -79,6 +79,3 @@ pub fn least_join(alloc: Global, web: &Web, terminals: &Terminals) -> Result<Joi
         cuts,
     })
 }
-
-
-

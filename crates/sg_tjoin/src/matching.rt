@@ -2,8 +2,8 @@ ghost use Rattle.std.specs.Prelude.{◌≡◌, ◌<◌, length, All, IfOk};
 ghost use Rattle.sg_arena.specs.Family.{leaf_count};
 ghost use Rattle.sg_pairing.specs.Matching.{IsMatching, IsPairing, NoSlackIsNegative, pairing_cost, sum_of_duals};
 ghost use Rattle.sg_pairing.specs.Metric.{IsMetric, cost};
-ghost use Rattle.sg_moat.specs.Input.{NoTwoAreTooNear};
-ghost use Rattle.sg_tjoin.specs.Doubled.{AreMetric, FillsRow, FillsRows, Reaches, doubled};
+ghost use Rattle.sg_moat.specs.Input.{terminal_cost};
+ghost use Rattle.sg_tjoin.specs.Doubled.{AreMetric, FillsRow, FillsRows, Reaches};
 
 use super::NoMemory;
 use sg_graph::Table;
@@ -18,9 +18,9 @@ use std::sync::ledger::{Blank, Ledger};
 pub fn matching(alloc: Global, terminals: &[u32], tables: &[Table]) -> Result<Matched, NoMemory>
     requires { AreMetric terminals.now tables.now }
     ensures leaves { IfOk result (λ m. leaf_count m.family ≡ length terminals.now) }
-    ensures near { IfOk result (λ m. NoTwoAreTooNear m.family terminals.now tables.now) }
+    ensures near { IfOk result (λ m. NoSlackIsNegative m.family (terminal_cost terminals.now tables.now)) }
     ensures pairing { IfOk result (λ m. IsPairing (length terminals.now) m.mates) }
-    ensures duals { IfOk result (λ m. pairing_cost (doubled terminals.now tables.now) m.mates ≡ sum_of_duals m.family) }
+    ensures duals { IfOk result (λ m. pairing_cost (terminal_cost terminals.now tables.now) m.mates ≡ sum_of_duals m.family) }
 {
     let costs = doubled_distances(alloc, terminals, tables)?;
     run::<Brand>(alloc, costs, Blank::new(1))
@@ -43,11 +43,7 @@ fn run<L: Ledger>(alloc: Global, costs: Costs, blank: Blank) -> Result<Matched, 
 }
 
 // A table of twice the distances of each two terminals.
-fn doubled_distances(
-    alloc: Global,
-    terminals: &[u32],
-    tables: &[Table],
-) -> Result<Costs, NoMemory>
+fn doubled_distances(alloc: Global, terminals: &[u32], tables: &[Table]) -> Result<Costs, NoMemory>
     requires { AreMetric terminals.now tables.now }
     ensures { IfOk result (FillsRows terminals.now tables.now (length terminals.now)) }
 {

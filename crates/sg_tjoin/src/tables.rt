@@ -7,11 +7,7 @@ use sg_graph::{Incidence, Table, Web};
 use std::alloc::Global;
 
 /// A table of distances from each terminal, by searches over one incidence of the web.
-pub fn terminal_tables(
-    alloc: Global,
-    web: &Web,
-    terminals: &[u32],
-) -> Result<Vec<Table>, NoMemory>
+pub fn terminal_tables(alloc: Global, web: &Web, terminals: &[u32]) -> Result<Vec<Table>, NoMemory>
     requires { All (λ t. t < web.now.nodes) terminals.now }
     ensures { IfOk result (λ tables. AreTerminalTables web.now terminals.now tables.items) }
 {

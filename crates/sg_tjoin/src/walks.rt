@@ -3,8 +3,8 @@ ghost use Rattle.sg_graph.specs.Join.{AreTerminals, IsJoin};
 ghost use Rattle.sg_graph.specs.Table.{IsTableOf, is_reached, length_to};
 ghost use Rattle.sg_graph.specs.Web.{edge_count, weight_of};
 ghost use Rattle.sg_pairing.specs.Matching.{IsPairing, pairing_cost};
-ghost use Rattle.sg_moat.specs.Input.{AreTerminalTables};
-ghost use Rattle.sg_tjoin.specs.Doubled.{AreMetric, doubled};
+ghost use Rattle.sg_moat.specs.Input.{AreTerminalTables, terminal_cost};
+ghost use Rattle.sg_tjoin.specs.Doubled.{AreMetric};
 ghost use Rattle.sg_tjoin.specs.Turns.{TurnsWalk};
 
 use super::NoMemory;
@@ -26,7 +26,7 @@ pub fn odd_edges(
     requires metric { AreMetric terminals.now tables.now }
     requires pairing { IsPairing (length terminals.now) mates.now }
     ensures join { IfOk result (IsJoin web.now terminals.now) }
-    ensures light { IfOk result (λ edges. 2 * weight_of web.now edges ≤ pairing_cost (doubled terminals.now tables.now) mates.now) }
+    ensures light { IfOk result (λ edges. 2 * weight_of web.now edges ≤ pairing_cost (terminal_cost terminals.now tables.now) mates.now) }
 {
     let mut odd = vec![in alloc; false; web.edges().len()]?;
     for i in 0..mates.len() {

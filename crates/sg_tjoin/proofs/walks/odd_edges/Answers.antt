@@ -6,8 +6,8 @@ use Rattle.sg_graph.specs.Join.{IsJoin}
 use Rattle.sg_graph.specs.Table.{length_to}
 use Rattle.sg_graph.specs.Web.{edge_count, weight_of}
 use Rattle.sg_pairing.specs.Matching.{pairing_cost}
-use Rattle.sg_moat.specs.Input.{blank_table, table_at}
-use Rattle.sg_tjoin.specs.Doubled.{apart, doubled}
+use Rattle.sg_moat.specs.Input.{blank_table, table_at, terminal_cost}
+use Rattle.sg_tjoin.specs.Doubled.{apart}
 use Rattle.sg_tjoin.specs.Turns.{AreTurned, TurnsWalk}
 use Rattle.sg_tjoin.proofs.Turning.{AreTurned-more, AreTurned-skip, IsJoin-turned, turned_weight}
 use Rattle.sg_tjoin.proofs.walks.odd_edges.Goals as goal
@@ -54,5 +54,5 @@ returns-clause-light c =
     let light = turned_weight g c.args.terminals.now c.args.tables.now c.args.mates.now marks c.requires.terminals c.requires.pairing turned in
     let chosen : List ℕ = chosen_below (is_marked c.deref.result.now) (length c.deref.result.now) in
     let is : chosen ≡ chosen_below (is_marked marks) (edge_count g) = ap (λ ms. chosen_below (is_marked ms) (length ms)) c.deref.ensures.value ∙ ap (chosen_below (is_marked marks)) turned.count in
-    let Light : List ℕ → Type 0 = λ list. 2 * weight_of g list ≤ pairing_cost (doubled c.args.terminals.now c.args.tables.now) c.args.mates.now in
+    let Light : List ℕ → Type 0 = λ list. 2 * weight_of g list ≤ pairing_cost (terminal_cost c.args.terminals.now c.args.tables.now) c.args.mates.now in
     IfOk-weaker c.places.result (λ (list : List ℕ). list ≡ chosen) Light (λ list same. subst Light (sym (same ∙ is)) light) c.places.ensures

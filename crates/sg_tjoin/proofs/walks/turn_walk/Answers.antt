@@ -1,5 +1,4 @@
-use Rattle.std.proofs.Common.{◌<◌, ◌≡◌, ◌∙◌, All, arith, length, subst, sym}
-use Rattle.sg_graph.specs.Web.{edge_count}
+use Rattle.std.proofs.Common.{◌<◌, All, length, subst, sym}
 use Rattle.sg_graph.proofs.WalkEnds.{walk_below}
 use Rattle.sg_tjoin.proofs.walks.turn_walk.Goals as goal
 

@@ -1,4 +1,4 @@
-use Rattle.std.proofs.Common.{arith, pos, sym, FitsSigned, w64, to_z-of_z, rules, ◌∙◌}
+use Rattle.std.proofs.Common.{arith, pos, FitsSigned, w64, to_z-of_z, rules, ◌∙◌}
 use Rattle.std.proofs.lemmas.List.{get_or_read_under}
 use Rattle.sg_graph.proofs.Tables.{lists_long, read_distance}
 use Rattle.sg_graph.proofs.table.Table.distance.Goals as goal
