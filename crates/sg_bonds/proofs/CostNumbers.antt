@@ -15,7 +15,7 @@ use Rattle.sg_model.specs.Changes.{with_coupling}
 use Rattle.sg_model.proofs.EnergyBounds.{energy_size, least_of_ground_state}
 use Rattle.sg_planar.proofs.OtherCouplings.{weight_coupled}
 use Rattle.sg_bonds.specs.Cost.{IsCost, IsLeastWith}
-use Rattle.sg_bonds.proofs.ForcedMinimum.{coupling_size, forced_minimum}
+use Rattle.sg_bonds.proofs.ForcedMinimum.{coupling_size, forced_energy, forced_minimum, forced_product}
 
 -- a unit leaves a size as it is
 pub signed_size : (p x : ℤ) → IsUpOrDown p → unsigned_abs (p *ℤ x) ≡ unsigned_abs x
@@ -162,6 +162,16 @@ module _ (inst : Ising) (good : IsInstance inst) (k : ℕ) (inside : k < bond_co
         (forced_minimum inst good k inside p up (weight inst + 1) (omega arith) e
         (subst (λ i. IsLeastEnergy i e) copy_is (least_of_ground_state forced s e ground value)))
 
+    -- the spins have the product, and the energy that was found
+    pub product_found : product s (bond_at inst k) ≡ p
+    product_found = forced_product inst good k inside p up (weight inst + 1) (omega arith) s (subst (λ i. IsGroundState i s) copy_is ground)
+
+    pub energy_found : to_z w64 (of_z w64 (to_z w64 (of_z w64 (to_z w64 (of_z w64 e) +ℤ to_z w64 (of_z w64 f))) -ℤ to_z w64 (of_z w64 x))) ≡ energy inst s
+    energy_found =
+        to_z-of_z w64 (kept (kept e +ℤ kept f) -ℤ kept x) gap_fits ∙ outer
+        ∙ ap (λ n. (n +ℤ pos (weight inst + 1)) -ℤ (p *ℤ (bond_at inst k).j)) (value ∙ ap (λ i. energy i s) copy_is)
+        ∙ sym (forced_energy inst good k inside p up (weight inst + 1) (omega arith) s product_found)
+
 module _ (inst : Ising) (good : IsInstance inst) (k : ℕ) (small : weight inst ≤ sum_limit)
     (s : List ℤ) (q e l : ℤ) (ground : IsGroundState inst s) (up : IsUpOrDown q) (own : product s (bond_at inst k) ≡ neg_ℤ q)
     (other : IsLeastWith inst k (kept q) e) (value : l ≡ energy inst s) where
@@ -184,3 +194,11 @@ module _ (inst : Ising) (good : IsInstance inst) (k : ℕ) (small : weight inst 
   cost_found =
       cost_from_other inst good k s q e (kept (kept e -ℤ kept l)) ground up own (subst (λ p. IsLeastWith inst k p e) (kept_unit q up) other)
       (to_z-of_z w64 (kept e -ℤ kept l) cost_fits ∙ both_kept ∙ ap (λ x. e -ℤ x) value)
+
+  -- an assignment of that energy lies as far above the ground state as the bond costs
+  pub above_found : (t : List ℤ) → e ≡ energy inst t → energy inst t ≡ energy inst s +ℤ to_z w64 (of_z w64 (to_z w64 (of_z w64 e) -ℤ to_z w64 (of_z w64 l)))
+  above_found t same =
+      sym same ∙ apart_again e l (kept (kept e -ℤ kept l)) (energy inst s) (to_z-of_z w64 (kept e -ℤ kept l) cost_fits ∙ both_kept) value
+    where
+      apart_again : (a b c d : ℤ) → c ≡ a -ℤ b → b ≡ d → a ≡ d +ℤ c
+      apart_again a b c d x y = omega (arith, ints)

@@ -130,6 +130,16 @@ module _ (inst : Ising) (good : IsInstance inst) (k : ℕ) (inside : k < bond_co
     pub forced_product : (s : List ℤ) → IsGroundState (with_coupling inst k (p *ℤ pos m)) s → product s (bond_at inst k) ≡ p
     forced_product s g = least_has_product s (record { count = g.assignment.count; values = g.assignment.values }) (λ t h. g.least t (record { count = h.count; values = h.values }))
 
+    -- the energy as it was, from that under the force
+    pub forced_energy : (t : List ℤ) → product t (bond_at inst k) ≡ p
+        → energy inst t ≡ (energy (with_coupling inst k (p *ℤ pos m)) t +ℤ pos m) -ℤ (p *ℤ (bond_at inst k).j)
+    forced_energy t same =
+        value (energy (with_coupling inst k (p *ℤ pos m)) t) (energy inst t) (rest t) (p *ℤ (bond_at inst k).j) (with_product t same)
+        (old_energy t ∙ ap (λ q. rest t -ℤ ((bond_at inst k).j *ℤ q)) same ∙ ap (λ x. rest t -ℤ x) (*ℤ_comm (bond_at inst k).j p))
+      where
+        value : (n o r x : ℤ) → n ≡ r -ℤ pos m → o ≡ r -ℤ x → o ≡ (n +ℤ pos m) -ℤ x
+        value n o r x a b = omega (arith, ints)
+
     pub forced_minimum : (e : ℤ) → IsLeastEnergy (with_coupling inst k (p *ℤ pos m)) e → IsLeastWith inst k p ((e +ℤ pos m) -ℤ (p *ℤ (bond_at inst k).j))
     forced_minimum e h = record {
       reached = (s, here, has, value (energy (with_coupling inst k (p *ℤ pos m)) s) (energy inst s) (rest s) (p *ℤ (bond_at inst k).j) (with_product s has) (old_by s has) h.reached.2);

@@ -1,3 +1,4 @@
 pub mod Cost
 pub mod Cluster
 pub mod Naming
+pub mod Known

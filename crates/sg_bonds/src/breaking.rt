@@ -1,33 +1,38 @@
-ghost use Rattle.std.specs.Prelude.{◌≡◌, ◌↔◌, ◌+◌, ◌<◌, ◌≤◌, ◌^◌, ◌*ℤ◌, ◌<ℤ◌, neg_ℤ, pos, length, IfOk, IsTrue, unsigned_abs};
+ghost use Rattle.std.specs.Prelude.{◌≡◌, ◌↔◌, ◌+ℤ◌, ◌<◌, ◌≤◌, ◌<ℤ◌, pos, length, slice_index_or, IfOk, IfSome, OnOk, IsTrue};
 ghost use Rattle.sg_limits.specs.Limits.{sum_limit};
-ghost use Rattle.sg_model.specs.Ising.{IsBond, bond_count};
-ghost use Rattle.sg_model.specs.Spins.{IsUpOrDown};
-ghost use Rattle.sg_model.specs.Energy.{IsGroundState, energy, product, weight};
-ghost use Rattle.sg_bonds.specs.Cost.{AreCosts, IsCost, IsLeastWith};
+ghost use Rattle.sg_model.specs.Ising.{bond_count};
+ghost use Rattle.sg_model.specs.Spins.{IsAssignment};
+ghost use Rattle.sg_model.specs.Energy.{IsGroundState, energy, weight};
+ghost use Rattle.sg_bonds.specs.Cost.{AreCosts, IsCost};
+ghost use Rattle.sg_bonds.specs.Known.{AreKnown};
 
+use super::forcing::{least_with, other_product};
+use super::known::{Known, Turned, note, widest};
+use super::paths::met;
 use super::{CostList, NoMemory};
 use sg_ground::{Answer, solve};
-use sg_model::{Bond, Spins};
 use sg_planar::Planar;
 use std::alloc::Global;
 
-/// The cost of each bond, in the time of one ground state of at most 16 spins for each bond and one
-/// more. The only error is want of memory.
+/// The cost of each bond. The only error is want of memory.
 ///
-/// To each bond comes, in a copy, a coupling larger than the sum of all sizes, of the sign that the
-/// ground state at hand does not follow. It forces the bond, and the new least energy tells the
-/// least energy with that product.
+/// A bond is forced by a coupling, in a copy, that is larger than the sum of all sizes, and the new
+/// ground state tells the least energy with the product that the ground state at hand does not have.
+/// Few bonds have to be forced. Each such state turns many bonds, and its energy bounds their costs
+/// from above. And where other bonds, each of which costs at least so much, lead from one end of a
+/// bond to the other, the bond costs at least so much too: who turns it turns one of them. So the
+/// bond with the largest bound is asked first, and where the two bounds meet, nothing is solved.
+///
+/// Cost: in practice about one ground state for each spin, and at most one for each bond and one
+/// more; beside them a walk over the bonds for each bond.
 pub fn costs(alloc: Global, planar: &Planar) -> Result<CostList, NoMemory>
     requires few { planar.now.instance.n ≤ 16 }
     requires sum { weight planar.now.instance ≤ sum_limit }
     ensures { IfOk result (AreCosts planar.now.instance) }
 {
     let least = solve(alloc, planar)?;
-    let mut costs = CostList::new(alloc);
-    for bond in 0..planar.instance().bonds().len() {
-        costs.push(cost(alloc, planar, &least, bond as u32)?)?;
-    }
-    Ok(costs)
+    let known = gather(alloc, planar, &least)?;
+    listed(alloc, planar, &least, &known)
 }
 
 /// Whether a bond of this cost is rigid.
@@ -37,62 +42,113 @@ pub fn rigid(cost: i64) -> bool
     cost > 0
 }
 
-// The cost of a bond: how far the least energy with the product that the ground state does not have
-// there lies above the least energy.
-fn cost(alloc: Global, planar: &Planar, least: &Answer, bond: u32) -> Result<i64, NoMemory>
+// Finds the costs one by one, that with the widest bound first.
+fn gather(alloc: Global, planar: &Planar, least: &Answer) -> Result<Vec<Known>, NoMemory>
+    requires few { planar.now.instance.n ≤ 16 }
+    requires sum { weight planar.now.instance ≤ sum_limit }
+    requires ground_state { IsGroundState planar.now.instance least.now.spins }
+    requires energy { least.now.energy ≡ energy planar.now.instance least.now.spins }
+    ensures { IfOk result (λ known. AreKnown planar.now.instance least.now.spins known.items) }
+{
+    let count = planar.instance().bonds().len();
+    let mut known = vec![in alloc; Known::Nothing; count]?;
+    for _ in 0..count {
+        match widest(&known) {
+            Some(bond) => settle(alloc, planar, least, bond as u32, &mut known)?,
+            None => break,
+        }
+    }
+    Ok(known)
+}
+
+// Finds the cost of a bond: by its bounds where they meet, and else by a state that turns it.
+fn settle(
+    alloc: Global,
+    planar: &Planar,
+    least: &Answer,
+    bond: u32,
+    known: &mut [Known],
+) -> Result<(), NoMemory>
     requires few { planar.now.instance.n ≤ 16 }
     requires sum { weight planar.now.instance ≤ sum_limit }
     requires bond_in { bond < bond_count planar.now.instance }
     requires ground_state { IsGroundState planar.now.instance least.now.spins }
     requires energy { least.now.energy ≡ energy planar.now.instance least.now.spins }
-    ensures { IfOk result (IsCost planar.now.instance bond) }
+    requires known { AreKnown planar.now.instance least.now.spins known.old }
+    ensures { OnOk result (AreKnown planar.now.instance least.now.spins known.new) }
 {
-    let ends = planar.instance().bonds().at(bond as usize);
-    let other = other_product(&least.spins, ends);
-    Ok(least_with(alloc, planar, bond, other)? - least.energy)
-}
-
-// The product that the spins do not have at the bond.
-fn other_product(spins: &Spins, bond: &Bond) -> i64
-    requires { IsBond (length spins.now) bond.now }
-    ensures up_or_down { IsUpOrDown result }
-    ensures other { product spins.now bond.now ≡ neg_ℤ result }
-{
-    if spins.at(bond.u as usize) == spins.at(bond.v as usize) {
-        -1
-    } else {
-        1
+    match met(alloc, planar.instance(), known, bond)? {
+        Some(cost) => {
+            known[bond as usize] = Known::Exact(cost);
+        }
+        None => {
+            let turned = turn(alloc, planar, least, bond)?;
+            note(planar.instance(), &least.spins, &turned, known);
+            known[bond as usize] = Known::Exact(turned.cost);
+        }
     }
+    Ok(())
 }
 
-// The least energy among the assignments with this product at the bond.
-fn least_with(alloc: Global, planar: &Planar, bond: u32, product: i64) -> Result<i64, NoMemory>
+// A state of least energy among those that turn the bond, and so the cost of the bond.
+fn turn(alloc: Global, planar: &Planar, least: &Answer, bond: u32) -> Result<Turned, NoMemory>
     requires few { planar.now.instance.n ≤ 16 }
     requires sum { weight planar.now.instance ≤ sum_limit }
     requires bond_in { bond < bond_count planar.now.instance }
-    requires up_or_down { IsUpOrDown product }
-    ensures { IfOk result (IsLeastWith planar.now.instance bond product) }
+    requires ground_state { IsGroundState planar.now.instance least.now.spins }
+    requires energy { least.now.energy ≡ energy planar.now.instance least.now.spins }
+    ensures cost { IfOk result (λ t. IsCost planar.now.instance bond t.cost) }
+    ensures assignment { IfOk result (λ t. IsAssignment planar.now.instance t.spins) }
+    ensures above { IfOk result (λ t. energy planar.now.instance t.spins ≡ energy planar.now.instance least.now.spins +ℤ t.cost) }
 {
-    let force = force(planar);
-    let forced = planar.with_coupling(bond, signed(product, force))?;
-    let least = solve(alloc, &forced)?.energy;
-    let coupling = planar.instance().bonds().at(bond as usize).j;
-    Ok(least + force - signed(product, coupling))
+    let ends = planar.instance().bonds().at(bond as usize);
+    let other = other_product(&least.spins, ends);
+    let state = least_with(alloc, planar, bond, other)?;
+    Ok(Turned {
+        cost: state.energy - least.energy,
+        spins: state.spins,
+    })
 }
 
-// One more than the sum of all sizes.
-fn force(planar: &Planar) -> i64
-    requires { weight planar.now.instance ≤ sum_limit }
-    ensures { result ≡ pos (weight planar.now.instance + 1) }
+// The cost of a bond where it is known, and else by a state that turns it.
+fn cost(
+    alloc: Global,
+    planar: &Planar,
+    least: &Answer,
+    known: &[Known],
+    bond: u32,
+) -> Result<i64, NoMemory>
+    requires few { planar.now.instance.n ≤ 16 }
+    requires sum { weight planar.now.instance ≤ sum_limit }
+    requires bond_in { bond < bond_count planar.now.instance }
+    requires ground_state { IsGroundState planar.now.instance least.now.spins }
+    requires energy { least.now.energy ≡ energy planar.now.instance least.now.spins }
+    requires known { AreKnown planar.now.instance least.now.spins known.now }
+    ensures { IfOk result (IsCost planar.now.instance bond) }
 {
-    planar.instance().weight() as i64 + 1
+    match known[bond as usize] {
+        Known::Exact(cost) => Ok(cost),
+        _ => Ok(turn(alloc, planar, least, bond)?.cost),
+    }
 }
 
-// A number with the sign of a product.
-fn signed(product: i64, x: i64) -> i64
-    requires up_or_down { IsUpOrDown product }
-    requires size { unsigned_abs x < 2 ^ 63 }
-    ensures { result ≡ product *ℤ x }
+// The costs as a list. All of them are known by now, but nothing rests on that.
+fn listed(
+    alloc: Global,
+    planar: &Planar,
+    least: &Answer,
+    known: &[Known],
+) -> Result<CostList, NoMemory>
+    requires few { planar.now.instance.n ≤ 16 }
+    requires sum { weight planar.now.instance ≤ sum_limit }
+    requires ground_state { IsGroundState planar.now.instance least.now.spins }
+    requires energy { least.now.energy ≡ energy planar.now.instance least.now.spins }
+    requires known { AreKnown planar.now.instance least.now.spins known.now }
+    ensures { IfOk result (AreCosts planar.now.instance) }
 {
-    if product == 1 { x } else { -x }
+    let mut costs = CostList::new(alloc);
+    for bond in 0..planar.instance().bonds().len() {
+        costs.push(cost(alloc, planar, least, known, bond as u32)?)?;
+    }
+    Ok(costs)
 }

@@ -11,8 +11,11 @@
 #![tactic(auto)]
 
 mod breaking;
+mod forcing;
+mod known;
 mod law;
 mod naming;
+mod paths;
 
 pub use breaking::{costs, rigid};
 pub use law::{forced_minimum, rigid_clusters_agree};

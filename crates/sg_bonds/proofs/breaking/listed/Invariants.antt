@@ -1,6 +1,6 @@
 use Rattle.std.proofs.Common.{◌≡◌, ℕ, ◌<◌, pos, length, get_or}
 use Rattle.sg_bonds.specs.Cost.{IsCost}
-use Rattle.sg_bonds.proofs.breaking.costs.Given as goal
+use Rattle.sg_bonds.proofs.breaking.listed.Given as goal
 
 abbrev pub invariant-loop-bond : goal.invariant-loop-bond
 invariant-loop-bond l = record {

@@ -4,7 +4,7 @@ use Rattle.std.proofs.lemmas.Int.{to_z-of_z}
 use Rattle.std.proofs.lemmas.List.{length_push}
 use Rattle.sg_bonds.specs.Cost.{IsCost}
 use Rattle.sg_bonds.proofs.CostNumbers.{costs_more}
-use Rattle.sg_bonds.proofs.breaking.costs.Goals as goal
+use Rattle.sg_bonds.proofs.breaking.listed.Goals as goal
 
 pub loop-bond-preserved : goal.loop-bond-preserved
 loop-bond-preserved c =

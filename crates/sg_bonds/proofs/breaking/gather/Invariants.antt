@@ -1,0 +1,5 @@
+use Rattle.sg_bonds.specs.Known.{AreKnown}
+use Rattle.sg_bonds.proofs.breaking.gather.Given as goal
+
+abbrev pub invariant-loop : goal.invariant-loop
+invariant-loop l = AreKnown l.planar.instance l.least.spins l.known.items

@@ -1,0 +1,77 @@
+// The least energy with a product at a bond, by a coupling that forces it.
+ghost use Rattle.std.specs.Prelude.{◌≡◌, ◌+◌, ◌<◌, ◌≤◌, ◌^◌, ◌*ℤ◌, neg_ℤ, pos, length, IfOk, unsigned_abs};
+ghost use Rattle.sg_limits.specs.Limits.{sum_limit};
+ghost use Rattle.sg_model.specs.Ising.{IsBond, bond_at, bond_count};
+ghost use Rattle.sg_model.specs.Spins.{IsAssignment, IsUpOrDown};
+ghost use Rattle.sg_model.specs.Energy.{energy, product, weight};
+ghost use Rattle.sg_bonds.specs.Cost.{IsLeastWith};
+
+use super::NoMemory;
+use sg_ground::solve;
+use sg_model::{Bond, Spins};
+use sg_planar::Planar;
+use std::alloc::Global;
+
+/// Spins and their energy, the least with some product at some bond.
+#[derive(Drop)]
+pub(crate) struct LeastState {
+    pub energy: i64,
+    pub spins: Spins,
+}
+
+/// The product that the spins do not have at the bond.
+pub(crate) fn other_product(spins: &Spins, bond: &Bond) -> i64
+    requires { IsBond (length spins.now) bond.now }
+    ensures up_or_down { IsUpOrDown result }
+    ensures other { product spins.now bond.now ≡ neg_ℤ result }
+{
+    if spins.at(bond.u as usize) == spins.at(bond.v as usize) {
+        -1
+    } else {
+        1
+    }
+}
+
+/// An assignment of the least energy among those with this product at the bond.
+pub(crate) fn least_with(
+    alloc: Global,
+    planar: &Planar,
+    bond: u32,
+    wanted: i64,
+) -> Result<LeastState, NoMemory>
+    requires few { planar.now.instance.n ≤ 16 }
+    requires sum { weight planar.now.instance ≤ sum_limit }
+    requires bond_in { bond < bond_count planar.now.instance }
+    requires up_or_down { IsUpOrDown wanted }
+    ensures least { IfOk result (λ t. IsLeastWith planar.now.instance bond wanted t.energy) }
+    ensures assignment { IfOk result (λ t. IsAssignment planar.now.instance t.spins) }
+    ensures product { IfOk result (λ t. product t.spins (bond_at planar.now.instance bond) ≡ wanted) }
+    ensures energy { IfOk result (λ t. t.energy ≡ energy planar.now.instance t.spins) }
+{
+    let force = force(planar);
+    let forced = planar.with_coupling(bond, signed(wanted, force))?;
+    let least = solve(alloc, &forced)?;
+    let coupling = planar.instance().bonds().at(bond as usize).j;
+    let energy = least.energy + force - signed(wanted, coupling);
+    Ok(LeastState {
+        energy,
+        spins: least.spins,
+    })
+}
+
+// One more than the sum of all sizes.
+fn force(planar: &Planar) -> i64
+    requires { weight planar.now.instance ≤ sum_limit }
+    ensures { result ≡ pos (weight planar.now.instance + 1) }
+{
+    planar.instance().weight() as i64 + 1
+}
+
+// A number with the sign of a product.
+fn signed(product: i64, x: i64) -> i64
+    requires up_or_down { IsUpOrDown product }
+    requires size { unsigned_abs x < 2 ^ 63 }
+    ensures { result ≡ product *ℤ x }
+{
+    if product == 1 { x } else { -x }
+}
