@@ -1,8 +1,9 @@
 -- From what the calls of the readers and of the planar test say to the first fault of a text.
-use Rattle.std.proofs.Common.{◌≡◌, ℕ, ◌+◌, ◌<◌, ◌≤◌, List, length, Option, None, Some, ◌∙◌, ap, arith}
-use Rattle.std.proofs.lemmas.Option.{none-some, same_Some}
-use Rattle.sg_io.specs.Devices.{Loses}
-use Rattle.sg_io.specs.Reading.{Empties}
+use Rattle.std.proofs.Common.{ℕ, ◌<◌, ◌≤◌, List, length, Option, None, Some, arith}
+use Rattle.sg_limits.specs.Limits.{input_limit}
+use Rattle.sg_io.specs.Devices.{Told}
+use Rattle.sg_io.specs.Reading.{Empties, IsTooLong}
+use Rattle.sg_io.specs.declared.reading.ReadEnd.TheVariants as ends
 use Rattle.sg_model.specs.declared.refusal.Fault.{Fault}
 use Rattle.sg_model.specs.declared.refusal.Fault.TheVariants.{Refused, NoMemory}
 use Rattle.sg_model.specs.declared.refusal.Refusal.TheVariants.{TooLong}
@@ -14,9 +15,9 @@ use Rattle.sg_planar.specs.Fit.{IsUnfitFault}
 use Rattle.sg_check.specs.declared.packing.ResultText.{ResultText}
 use Rattle.sg_reader.specs.ReadResult.{IsResultFault, ReadsResult, behind}
 use Rattle.sg_cli.specs.Input.{AtFitness, AtRecord, AtTrailing, BehindResult, GivesInstance, InInstance, InResult, RefusesBy, RefusesProofBy}
-use Rattle.sg_cli.specs.Served.{AnswersInput, AnswersText, IsRefused}
+use Rattle.sg_cli.specs.Promises.{AnswersSource}
+use Rattle.sg_cli.specs.Served.{AnswersText, IsRefused}
 use Rattle.sg_cli.specs.declared.command.Command.{Command}
-use Rattle.sg_cli.specs.declared.limits.TheConstants.{INPUT_LIMIT}
 use Rattle.sg_cli.specs.declared.status.Status.{Status}
 
 pub by_record : (bytes : List ℕ) (fault : Fault) → IsReadFault (kept_of bytes) fault → RefusesBy bytes fault
@@ -46,23 +47,27 @@ pub by_end : (bytes : List ℕ) (inst : Ising) (after : ℕ) (stated : ResultTex
 by_end bytes inst after stated next (Refused refusal) reads states shown = BehindResult inst after stated next reads states shown
 by_end bytes inst after stated next NoMemory reads states shown = tt
 
+-- the bytes that were read are those that the source told
+pub empties-told : (items : List ℕ) (old new : Option (List ℕ)) → Empties items old new → Told old items
+empties-told items None new emptied = tt
+empties-told items (Some left) new emptied = emptied.0
+
 -- an input within the limit
-pub answers-short : (command : Command) (bytes text : List ℕ) (status : Status) → length bytes ≤ INPUT_LIMIT → AnswersText command bytes text status →
-    AnswersInput command bytes text status
-answers-short command bytes text status short answers = record { too_long = λ long. absurd (omega arith); short = λ _. answers }
+pub answers-short : (command : Command) (old new : Option (List ℕ)) (bytes text : List ℕ) (status : Status) → Empties bytes old new →
+    length bytes ≤ input_limit → AnswersText command bytes text status → AnswersSource command old text status
+answers-short command old new bytes text status emptied short answers = record {
+  bytes = bytes;
+  told = empties-told bytes old new emptied;
+  answers = record { too_long = λ long. absurd (omega arith); short = λ _. answers };
+}
 
 -- an input beyond the limit
-pub answers-long : (command : Command) (bytes text : List ℕ) (status : Status) → INPUT_LIMIT < length bytes → IsRefused (TooLong INPUT_LIMIT) text status →
-    AnswersInput command bytes text status
-answers-long command bytes text status long refused = record { too_long = λ _. refused; short = λ short. absurd (omega arith) }
-
--- the bytes that were read are those that the source told
-pub empties-same : (items : List ℕ) (old new : Option (List ℕ)) (bytes : List ℕ) → Empties items old new → old ≡ Some bytes → items ≡ bytes
-empties-same items None new bytes emptied told = absurd (none-some bytes told)
-empties-same items (Some left) new bytes emptied told = emptied.0 ∙ same_Some left bytes told
-
--- one byte more than the limit was there to take
-pub loses-long : (limit : ℕ) (old new : Option (List ℕ)) (bytes : List ℕ) → Loses (limit + 1) old new → old ≡ Some bytes → limit < length bytes
-loses-long limit None new bytes lost told = absurd (none-some bytes told)
-loses-long limit (Some left) new bytes lost told =
-    let same : length left ≡ length bytes = ap length (same_Some left bytes told) in omega (arith, lost.0)
+pub answers-long : (command : Command) (old : Option (List ℕ)) (text : List ℕ) (status : Status) → IsTooLong ends.TooLong input_limit old →
+    IsRefused (TooLong input_limit) text status → AnswersSource command old text status
+answers-long command old text status too_long refused =
+    let long : input_limit < length too_long.0 = too_long.2 in
+    record {
+      bytes = too_long.0;
+      told = too_long.1;
+      answers = record { too_long = λ _. refused; short = λ short. absurd (omega arith) };
+    }

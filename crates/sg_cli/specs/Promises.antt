@@ -1,11 +1,14 @@
 -- What a run owes, besides its status: the promises of the top call.
-use Rattle.std.specs.Prelude.{◌≡◌, ℕ, ◌+◌, ◌<◌, ◌≤◌, Bool, true, false, Option, None, Some, List, [], length, drop, ⊤}
-use Rattle.sg_io.specs.Devices.{Grows}
+use Rattle.std.specs.Prelude.{◌≡◌, ℕ, ◌+◌, ◌<◌, ◌≤◌, Bool, Option, None, Some, List, [], length, drop, ⊤}
+use Rattle.sg_limits.specs.Limits.{input_limit}
+use Rattle.sg_io.specs.Devices.{Grows, Told, next_count}
 use Rattle.sg_io.specs.Reading.{LosesAtMost}
 use Rattle.sg_io.specs.Writing.{GrowsByPrefix}
 use Rattle.sg_cli.specs.Command.{command_of}
-use Rattle.sg_cli.specs.Served.{Served, is_reading}
-use Rattle.sg_cli.specs.declared.limits.TheConstants.{INPUT_LIMIT}
+use Rattle.sg_cli.specs.Served.{AnswersInput, Served, is_reading}
+use Rattle.sg_cli.specs.declared.command.Command.{Command}
+use Rattle.sg_cli.specs.declared.serve.Stop.{Stop}
+use Rattle.sg_cli.specs.declared.serve.Stop.TheVariants as stop
 use Rattle.sg_cli.specs.declared.status.Status.{Status}
 use Rattle.sg_cli.specs.declared.status.Status.TheVariants.{Done, Refused, Usage, No, ReadFault, WriteFault, NoMemory}
 
@@ -23,30 +26,55 @@ IsAnswered NoMemory = ⊥
 abbrev pub reads : List (List ℕ) → Bool
 reads words = is_reading (command_of words)
 
--- the bytes that an answer speaks of: those that the source tells, and any where it is not read
-abbrev pub IsInput : Bool → Option (List ℕ) → List ℕ → Type 0
-IsInput true left bytes = left ≡ Some bytes
-IsInput false left bytes = ⊤
+-- what a command answers to a source: there are bytes, those that the source tells where it tells them, and this is the answer to them
+pub record AnswersSource (command : Command) (left : Option (List ℕ)) (text : List ℕ) (status : Status) : Type 0 where
+  pub bytes : List ℕ
+  pub told : Told left bytes
+  pub answers : AnswersInput command bytes text status
 
--- the sink has got exactly one text, and it is what the words answer to the input
-abbrev pub Answers : List (List ℕ) → Status → Option (List ℕ) → Option (List ℕ) → Option (List ℕ) → Type 0
-Answers words status left before after =
-    (bytes : List ℕ) → IsInput (reads words) left bytes → (text : List ℕ) × Served words bytes text status × Grows text before after
+-- what the words answer: there are bytes, those that the source tells where it tells them, and a text that is served to them
+pub record IsServed (words : List (List ℕ)) (left : Option (List ℕ)) (text : List ℕ) (status : Status) : Type 0 where
+  pub bytes : List ℕ
+  pub told : Told left bytes
+  pub served : Served words bytes text status
+
+-- the sink has got exactly one text, and it is what the words answer to the input with this status
+pub record AnswersWhole (words : List (List ℕ)) (status : Status) (left before after : Option (List ℕ)) : Type 0 where
+  pub text : List ℕ
+  pub served : IsServed words left text status
+  pub written : Grows text before after
 
 -- the sink has got a prefix of a text that the words answer to the input
-abbrev pub AnswersInPart : List (List ℕ) → Option (List ℕ) → Option (List ℕ) → Option (List ℕ) → Type 0
-AnswersInPart words left before after =
-    (bytes : List ℕ) → IsInput (reads words) left bytes →
-    (text : List ℕ) × (status : Status) × IsAnswered status × Served words bytes text status × GrowsByPrefix text before after
+pub record AnswersInPart (words : List (List ℕ)) (left before after : Option (List ℕ)) : Type 0 where
+  pub text : List ℕ
+  pub status : Status
+  pub answered : IsAnswered status
+  pub served : IsServed words left text status
+  pub written : GrowsByPrefix text before after
+
+-- the count of faults of the source behind a run: one more after a read fault
+abbrev pub source_faults : Status → ℕ → ℕ
+source_faults ReadFault faults = next_count faults
+source_faults _ faults = faults
+
+-- the count of faults of the sink behind a run: one more after a write fault
+abbrev pub sink_faults : Status → ℕ → ℕ
+sink_faults WriteFault faults = next_count faults
+sink_faults _ faults = faults
+
+-- the count of faults of the source where there is no reply
+abbrev pub stop_faults : Stop → ℕ → ℕ
+stop_faults stop.ReadFault faults = next_count faults
+stop_faults stop.NoMemory faults = faults
 
 -- a reading command has taken its whole input, or one byte more than the limit where it is longer
 pub record Takes (old new : Option (List ℕ)) : Type 0 where
   pub untold : old ≡ None → new ≡ None
-  pub whole : (bytes : List ℕ) → old ≡ Some bytes → length bytes ≤ INPUT_LIMIT → new ≡ Some []
-  pub too_long : (bytes : List ℕ) → old ≡ Some bytes → INPUT_LIMIT < length bytes → new ≡ Some (drop (INPUT_LIMIT + 1) bytes)
+  pub whole : (bytes : List ℕ) → old ≡ Some bytes → length bytes ≤ input_limit → new ≡ Some []
+  pub too_long : (bytes : List ℕ) → old ≡ Some bytes → input_limit < length bytes → new ≡ Some (drop (input_limit + 1) bytes)
 
 -- what a reading command has taken, by how the run ended: where it was stopped, no more than that, from the front
 abbrev pub Leaves : Status → Option (List ℕ) → Option (List ℕ) → Type 0
-Leaves ReadFault old new = LosesAtMost (INPUT_LIMIT + 1) old new
-Leaves NoMemory old new = LosesAtMost (INPUT_LIMIT + 1) old new
+Leaves ReadFault old new = LosesAtMost (input_limit + 1) old new
+Leaves NoMemory old new = LosesAtMost (input_limit + 1) old new
 Leaves _ old new = Takes old new

@@ -1,5 +1,6 @@
 -- What is answered: the status and the whole text that belong to the words and the bytes.
 use Rattle.std.specs.Prelude.{◌≡◌, ◌≢◌, ◌<◌, ◌≤◌, ℕ, ℤ, pos, Bool, true, false, Option, Some, None, List, [], length, codes}
+use Rattle.sg_limits.specs.Limits.{input_limit}
 use Rattle.sg_model.specs.declared.refusal.Refusal.{Refusal}
 use Rattle.sg_model.specs.declared.refusal.Refusal.TheVariants.{TooLong, NoSeam}
 use Rattle.sg_model.specs.Ising.{Ising}
@@ -19,7 +20,6 @@ use Rattle.sg_cli.specs.declared.command.Command.{Command}
 use Rattle.sg_cli.specs.declared.command.Command.TheVariants as command
 use Rattle.sg_cli.specs.declared.command.Study.{Study}
 use Rattle.sg_cli.specs.declared.command.Study.TheVariants.{Energy, Wall, Bonds, Clusters}
-use Rattle.sg_cli.specs.declared.limits.TheConstants.{INPUT_LIMIT}
 use Rattle.sg_cli.specs.declared.status.Status.{Status}
 use Rattle.sg_cli.specs.declared.status.Status.TheVariants.{Done, Refused, Usage, No}
 
@@ -89,13 +89,14 @@ AnswersFit Clusters inst text status = PrintsClusters inst text status
 
 -- what a study answers to a text: the first fault, or the answer to its instance
 pub data AnswersStudy (study : Study) (bytes text : List ℕ) (status : Status) : Type 0 where
-  Refuses : (refusal : Refusal) → RefusesText bytes refusal → IsRefused refusal text status → AnswersStudy study bytes text status
-  Answers : (inst : Ising) → GivesFit bytes inst → AnswersFit study inst text status → AnswersStudy study bytes text status
+  FaultNamed : (refusal : Refusal) → RefusesText bytes refusal → IsRefused refusal text status → AnswersStudy study bytes text status
+  Studied : (inst : Ising) → GivesFit bytes inst → AnswersFit study inst text status → AnswersStudy study bytes text status
 
 -- what `check` answers to a text: the first fault, or the verdict on its proof; the instance need not be fit
 pub data AnswersCheck (bytes text : List ℕ) (status : Status) : Type 0 where
-  RefusesCheck : (refusal : Refusal) → RefusesProof bytes refusal → IsRefused refusal text status → AnswersCheck bytes text status
-  Judges : (inst : Ising) (stated : ResultText) → GivesProof bytes inst stated → PrintsVerdict inst stated text status → AnswersCheck bytes text status
+  ProofFaultNamed : (refusal : Refusal) → RefusesProof bytes refusal → IsRefused refusal text status → AnswersCheck bytes text status
+  Judged : (inst : Ising) (stated : ResultText) → GivesProof bytes inst stated → PrintsVerdict inst stated text status
+      → AnswersCheck bytes text status
 
 -- what a command answers to a text
 abbrev pub AnswersText : Command → List ℕ → List ℕ → Status → Type 0
@@ -104,8 +105,8 @@ AnswersText command.Check bytes text status = AnswersCheck bytes text status
 
 -- what a command answers to an input: an input that is too long is not looked at further
 pub record AnswersInput (command : Command) (bytes text : List ℕ) (status : Status) : Type 0 where
-  pub too_long : INPUT_LIMIT < length bytes → IsRefused (TooLong INPUT_LIMIT) text status
-  pub short : length bytes ≤ INPUT_LIMIT → AnswersText command bytes text status
+  pub too_long : input_limit < length bytes → IsRefused (TooLong input_limit) text status
+  pub short : length bytes ≤ input_limit → AnswersText command bytes text status
 
 -- what a command answers to the bytes; without a command the answer is the usage
 abbrev pub ServedBy : Option Command → List ℕ → List ℕ → Status → Type 0

@@ -1,12 +1,13 @@
 // What `check` answers: the verdict on a proof. No planar instance is made, so a proof is judged on
 // every graph.
-ghost use Rattle.std.specs.Prelude.{◌≡◌, ◌<◌, ◌^◌, length, IfOk, IfErr};
+ghost use Rattle.std.specs.Prelude.{◌≡◌, ◌<◌, length, IfOk, IfErr};
+ghost use Rattle.sg_limits.specs.Limits.{text_limit};
 ghost use Rattle.sg_cli.specs.Input.{GivesProof, RefusesProofBy};
 ghost use Rattle.sg_cli.specs.Promises.{IsAnswered};
 ghost use Rattle.sg_cli.specs.Served.{AnswersCheck, PrintsVerdict, status_by};
 
-use super::reply::{Reply, refuse};
-use super::{NoMemory, Status};
+use super::reply::{NoMemory, Reply, refuse};
+use super::status::Status;
 use sg_check::{Checker, ResultText, Verdict};
 use sg_model::{Fault, Instance};
 use sg_reader::{no_more, read_instance, read_result};
@@ -15,7 +16,7 @@ use std::alloc::{AllocError, Global};
 
 /// What `check` answers to a text within the limit of bytes.
 pub fn check_reply(alloc: Global, bytes: &[u8]) -> Result<Reply, NoMemory>
-    requires { length bytes.now < 2 ^ 30 }
+    requires { length bytes.now < text_limit }
     ensures served { IfOk result (λ reply. AnswersCheck bytes.now reply.text.items reply.status) }
     ensures answered { IfOk result (λ reply. IsAnswered reply.status) }
 {
@@ -28,10 +29,10 @@ pub fn check_reply(alloc: Global, bytes: &[u8]) -> Result<Reply, NoMemory>
 
 // The instance of a text and what is stated behind it, or the first fault of the records.
 fn read_proof(alloc: Global, bytes: &[u8]) -> Result<(Instance, ResultText), Fault>
-    requires { length bytes.now < 2 ^ 30 }
+    requires { length bytes.now < text_limit }
     ensures gives { IfOk result (λ r. GivesProof bytes.now r.0 r.1) }
-    ensures few_spins { IfOk result (λ r. length r.1.spins < 2 ^ 30) }
-    ensures few_loops { IfOk result (λ r. length r.1.loops < 2 ^ 30) }
+    ensures few_spins { IfOk result (λ r. length r.1.spins < text_limit) }
+    ensures few_loops { IfOk result (λ r. length r.1.loops < text_limit) }
     ensures refuses { IfErr result (RefusesProofBy bytes.now) }
 {
     let (instance, after) = read_instance(alloc, bytes)?;
@@ -42,8 +43,8 @@ fn read_proof(alloc: Global, bytes: &[u8]) -> Result<(Instance, ResultText), Fau
 
 // The verdict on a proof, as its line and its status.
 fn verdict_reply(alloc: Global, instance: &Instance, stated: &ResultText) -> Result<Reply, NoMemory>
-    requires few_spins { length stated.now.spins < 2 ^ 30 }
-    requires few_loops { length stated.now.loops < 2 ^ 30 }
+    requires few_spins { length stated.now.spins < text_limit }
+    requires few_loops { length stated.now.loops < text_limit }
     ensures served { IfOk result (λ reply. PrintsVerdict instance.now stated.now reply.text.items reply.status) }
     ensures answered { IfOk result (λ reply. IsAnswered reply.status) }
 {

@@ -5,24 +5,23 @@
 //! Every other input is refused with the number of its first fault.
 //!
 //! For the next engineer: the contract of `run` is the headline of the whole project. Its clauses
-//! stand in `specs/Promises.antt`, over one definition of what is answered, `specs/Served.antt`. A
-//! further command is one more variant of `Study` or of `Command`, one more arm here, and one more
-//! case there. `check.rt` is the one command that makes no planar instance.
+//! stand in `specs/Promises.antt`, over one definition of what is answered, `specs/Served.antt`.
+//! Each command has a file of its own, which finds its answer: a further one is one more file, one
+//! more variant in `command.rt`, one more text in `sg_report`, and one more case in `Served`.
+//! `check.rt` is the one command that makes no planar instance.
 #![tactic(auto)]
 
+mod bonds;
 mod check;
+mod clusters;
 mod command;
-mod limits;
+mod energy;
 mod reply;
 mod serve;
 mod status;
-mod studies;
+mod study;
+mod wall;
 
 pub use command::{Command, Study};
-pub use limits::INPUT_LIMIT;
 pub use serve::run;
 pub use status::Status;
-use std::alloc::AllocError;
-
-/// The allocator had no memory left.
-pub type NoMemory = AllocError;

@@ -1,17 +1,15 @@
-ghost use Rattle.std.specs.Prelude.{◌≡◌, ◌≤◌, ◌<◌, ◌^◌, length, IfOk, IfErr};
-ghost use Rattle.sg_planar.specs.Fit.{IsFit};
-ghost use Rattle.sg_cli.specs.Input.{GivesFit, GivesInstance, RefusesBy};
+// A reply, and the two ways in which one is made everywhere: a refusal, and a text that answers.
+ghost use Rattle.std.specs.Prelude.{◌≡◌, IfOk};
 ghost use Rattle.sg_cli.specs.Promises.{IsAnswered};
-ghost use Rattle.sg_cli.specs.Served.{AnswersFit, AnswersStudy, AnswersText, IsRefused};
+ghost use Rattle.sg_cli.specs.Served.{IsRefused};
 
-use super::check::check_reply;
-use super::studies::{bonds_reply, clusters_reply, energy_reply, wall_reply};
-use super::{Command, NoMemory, Status, Study};
-use sg_model::{Fault, Instance, Refusal};
-use sg_planar::{NotFit, Planar};
-use sg_reader::{no_more, read_instance};
+use super::status::Status;
+use sg_model::Refusal;
 use sg_report::refusal_text;
 use std::alloc::{AllocError, Global};
+
+/// The allocator had no memory left.
+pub type NoMemory = AllocError;
 
 /// A status that answers the words, and its whole text.
 #[derive(Drop)]
@@ -32,74 +30,13 @@ pub fn refuse(alloc: Global, refusal: &Refusal) -> Result<Reply, NoMemory>
     })
 }
 
-/// What a command answers to a text within the limit of bytes.
-pub fn text_reply(alloc: Global, command: Command, bytes: &[u8]) -> Result<Reply, NoMemory>
-    requires { length bytes.now < 2 ^ 30 }
-    ensures served { IfOk result (λ reply. AnswersText command bytes.now reply.text.items reply.status) }
-    ensures answered { IfOk result (λ reply. IsAnswered reply.status) }
+/// A text that answers the command.
+pub fn done(text: Vec<u8>) -> Reply
+    ensures status { result.status ≡ Status.Done }
+    ensures text { result.text ≡ text }
 {
-    match command {
-        Command::Study(study) => study_reply(alloc, study, bytes),
-        Command::Check => check_reply(alloc, bytes),
-    }
-}
-
-// What a study answers to a text.
-fn study_reply(alloc: Global, study: Study, bytes: &[u8]) -> Result<Reply, NoMemory>
-    requires { length bytes.now < 2 ^ 30 }
-    ensures served { IfOk result (λ reply. AnswersStudy study bytes.now reply.text.items reply.status) }
-    ensures answered { IfOk result (λ reply. IsAnswered reply.status) }
-{
-    match read_planar(alloc, bytes) {
-        Ok(planar) => fit_reply(alloc, study, &planar),
-        Err(Fault::Refused(refusal)) => refuse(alloc, &refusal),
-        Err(Fault::NoMemory) => Err(AllocError),
-    }
-}
-
-// The instance of a text, fit for a planar solver, or the first fault of the text.
-fn read_planar(alloc: Global, bytes: &[u8]) -> Result<Planar, Fault>
-    requires { length bytes.now < 2 ^ 30 }
-    ensures gives { IfOk result (λ planar. GivesFit bytes.now planar.instance) }
-    ensures small { IfOk result (λ planar. planar.instance.n ≤ 16) }
-    ensures refuses { IfErr result (RefusesBy bytes.now) }
-{
-    match read_alone(alloc, bytes) {
-        Ok(instance) => match Planar::new(alloc, instance) {
-            Ok(planar) => Ok(planar),
-            Err(NotFit { fault, instance: _ }) => Err(fault),
-        },
-        Err(fault) => Err(fault),
-    }
-}
-
-// The instance of a text with nothing behind it, or the first fault of the records.
-fn read_alone(alloc: Global, bytes: &[u8]) -> Result<Instance, Fault>
-    requires { length bytes.now < 2 ^ 30 }
-    ensures gives { IfOk result (GivesInstance bytes.now) }
-    ensures small { IfOk result (λ inst. inst.n ≤ 16) }
-    ensures refuses { IfErr result (RefusesBy bytes.now) }
-{
-    match read_instance(alloc, bytes) {
-        Ok((instance, after)) => match no_more(alloc, bytes, after) {
-            Ok(()) => Ok(instance),
-            Err(fault) => Err(fault),
-        },
-        Err(fault) => Err(fault),
-    }
-}
-
-// What a study answers to an instance that is fit.
-fn fit_reply(alloc: Global, study: Study, planar: &Planar) -> Result<Reply, NoMemory>
-    requires few { planar.now.instance.n ≤ 16 }
-    requires fit { IsFit planar.now.instance }
-    ensures served { IfOk result (λ reply. AnswersFit study planar.now.instance reply.text.items reply.status) }
-    ensures answered { IfOk result (λ reply. IsAnswered reply.status) }
-{
-    match study {
-        Study::Energy => energy_reply(alloc, planar),
-        Study::Wall => wall_reply(alloc, planar),
-        Study::Bonds => bonds_reply(alloc, planar),
-        Study::Clusters => clusters_reply(alloc, planar),
+    Reply {
+        status: Status::Done,
+        text,
     }
 }

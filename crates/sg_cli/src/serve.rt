@@ -1,15 +1,19 @@
-ghost use Rattle.std.specs.Prelude.{◌≡◌, ◌≢◌, ◌⊎◌, ◌↔◌, ◌+◌, ℕ, true, false, List, Some, IsSome, IfOk, OnOk, OnErr, IsErrOf, map, string_bytes};
+ghost use Rattle.std.specs.Prelude.{◌≡◌, ◌≢◌, ◌⊎◌, ◌↔◌, ◌+◌, ◌<◌, true, false, length, IsSome, IfOk, IfErr, OnOk, OnErr, map, string_bytes};
+ghost use Rattle.sg_limits.specs.Limits.{input_limit, text_limit};
 ghost use Rattle.sg_io.specs.Devices.{FaultShown, Grows};
 ghost use Rattle.sg_io.specs.Reading.{LosesAtMost};
 ghost use Rattle.sg_io.specs.Writing.{GrowsByPrefix};
 ghost use Rattle.sg_cli.specs.Command.{command_of};
-ghost use Rattle.sg_cli.specs.Served.{AnswersInput};
-ghost use Rattle.sg_cli.specs.Promises.{Answers, AnswersInPart, IsAnswered, Leaves, Takes, reads};
+ghost use Rattle.sg_cli.specs.Served.{AnswersText};
+ghost use Rattle.sg_cli.specs.Promises.{AnswersInPart, AnswersSource, AnswersWhole, IsAnswered, Leaves, reads, sink_faults, source_faults, stop_faults, Takes};
 
-use super::command::parse_command;
-use super::reply::{Reply, refuse, text_reply};
-use super::{Command, INPUT_LIMIT, Status};
+use super::check::check_reply;
+use super::command::{Command, parse_command};
+use super::reply::{NoMemory, Reply, refuse};
+use super::status::Status;
+use super::study::study_reply;
 use sg_io::{ReadEnd, Sink, Source, WriteFault, put, read_all};
+use sg_limits::INPUT_LIMIT;
 use sg_model::Refusal;
 use std::alloc::{AllocError, Global};
 
@@ -25,18 +29,21 @@ pub fn run<S: Source, K: Sink>(
     source: &mut S,
     sink: &mut K,
 ) -> Status
-    // The text written is exactly the answer.
+    // The sink has grown by exactly a text that the words answer to the input with this status.
     ensures answer { IsAnswered result →
-        Answers (map string_bytes words.now) result (S.left source.old) (K.written sink.old) (K.written sink.new) }
+        AnswersWhole (map string_bytes words.now) result (S.left source.old) (K.written sink.old) (K.written sink.new) }
 
-    // A source that failed is the one cause of a read fault, and nothing is written then.
+    // After a read fault the last read failed, and nothing is written.
     ensures read_fault { result ≡ Status.ReadFault →
-        (reads (map string_bytes words.now) ≡ true) × FaultShown (S.faults source.old) (S.faults source.new) × (sink.new ≡ sink.old) }
+        (reads (map string_bytes words.now) ≡ true) × (S.failed source.new ≡ true) × (sink.new ≡ sink.old) }
 
-    // A sink that failed is the one cause of a write fault, and it has a prefix of the answer then.
-    ensures write_fault { result ≡ Status.WriteFault →
-        FaultShown (K.faults sink.old) (K.faults sink.new) ×
+    // After a write fault the last write failed, and the sink has grown by a prefix of such a text.
+    ensures write_fault { result ≡ Status.WriteFault → (K.failed sink.new ≡ true) ×
         AnswersInPart (map string_bytes words.now) (S.left source.old) (K.written sink.old) (K.written sink.new) }
+
+    // The status names the device that failed: one call of it failed, and no call of another.
+    ensures source_faults { S.faults source.new ≡ source_faults result (S.faults source.old) }
+    ensures sink_faults { K.faults sink.new ≡ sink_faults result (K.faults sink.old) }
 
     // Words of no shape take no memory, and nothing is written where it is wanting.
     ensures memory { result ≡ Status.NoMemory → IsSome (command_of (map string_bytes words.now)) × (sink.new ≡ sink.old) }
@@ -90,12 +97,13 @@ impl From<AllocError> for Stop {
 
 /// Reads the source to its end, and answers what was read.
 fn serve<S: Source>(alloc: Global, command: Command, source: &mut S) -> Result<Reply, Stop>
-    ensures served { IfOk result (λ reply. (bytes : List ℕ) → S.left source.old ≡ Some bytes →
-        AnswersInput command bytes reply.text.items reply.status) }
+    ensures served { IfOk result (λ reply. AnswersSource command (S.left source.old) reply.text.items reply.status) }
     ensures answered { IfOk result (λ reply. IsAnswered reply.status) }
     ensures taken { OnOk result (Takes (S.left source.old) (S.left source.new)) }
-    ensures stopped { OnErr result (LosesAtMost (INPUT_LIMIT + 1) (S.left source.old) (S.left source.new)) }
-    ensures fault { IsErrOf result Stop.ReadFault → FaultShown (S.faults source.old) (S.faults source.new) }
+    ensures stopped { OnErr result (LosesAtMost (input_limit + 1) (S.left source.old) (S.left source.new)) }
+    ensures faultless { OnOk result (S.faults source.new ≡ S.faults source.old) }
+    ensures fault { IfErr result (λ stop. S.faults source.new ≡ stop_faults stop (S.faults source.old)) }
+    ensures last { result ≡ Err Stop.ReadFault → S.failed source.new ≡ true }
 {
     match read_all(alloc, source, INPUT_LIMIT) {
         Ok(bytes) => Ok(text_reply(alloc, command, bytes.as_slice())?),
@@ -110,11 +118,24 @@ fn serve<S: Source>(alloc: Global, command: Command, source: &mut S) -> Result<R
     }
 }
 
+/// What a command answers to a text within the limit of bytes.
+fn text_reply(alloc: Global, command: Command, bytes: &[u8]) -> Result<Reply, NoMemory>
+    requires { length bytes.now < text_limit }
+    ensures served { IfOk result (λ reply. AnswersText command bytes.now reply.text.items reply.status) }
+    ensures answered { IfOk result (λ reply. IsAnswered reply.status) }
+{
+    match command {
+        Command::Study(study) => study_reply(alloc, study, bytes),
+        Command::Check => check_reply(alloc, bytes),
+    }
+}
+
 /// Writes a whole text, and ends with the status, or with the fault of the sink in its place.
 fn send<K: Sink>(sink: &mut K, text: &[u8], status: Status) -> Status
     requires { IsAnswered status }
     ensures sent { IsAnswered result → (result ≡ status) × Grows text.now (K.written sink.old) (K.written sink.new) }
-    ensures fault { result ≡ Status.WriteFault → FaultShown (K.faults sink.old) (K.faults sink.new) × GrowsByPrefix text.now (K.written sink.old) (K.written sink.new) }
+    ensures fault { result ≡ Status.WriteFault → (K.failed sink.new ≡ true) × GrowsByPrefix text.now (K.written sink.old) (K.written sink.new) }
+    ensures faults { K.faults sink.new ≡ sink_faults result (K.faults sink.old) }
     ensures ends { IsAnswered result ⊎ (result ≡ Status.WriteFault) }
 {
     match put(sink, text) {

@@ -1,5 +1,5 @@
 -- What one call does to a device: the bytes still to come, the bytes written, the count of faults.
-use Rattle.std.specs.Prelude.{◌≡◌, ℕ, ◌+◌, ◌<◌, ◌≤◌, ◌⊎◌, min, List, [], ◌++◌, length, take, drop, Option, None, Some, ⊤}
+use Rattle.std.specs.Prelude.{◌≡◌, ℕ, ◌+◌, ◌≤◌, min, Bool, true, false, List, [], ◌++◌, length, take, drop, Option, None, Some, ⊤}
 use Rattle.sg_io.specs.declared.devices.Took.{Took}
 use Rattle.sg_io.specs.declared.devices.Took.TheVariants as took
 use Rattle.sg_io.specs.declared.devices.Gave.{Gave}
@@ -13,18 +13,19 @@ last_count = 18446744073709551615
 abbrev pub next_count : ℕ → ℕ
 next_count n = min (n + 1) last_count
 
--- a failed call is shown: the count of faults rose, or stands at its last value
+-- one failed call is counted
 abbrev pub FaultShown : ℕ → ℕ → Type 0
-FaultShown old new = (old < new) ⊎ (new ≡ last_count)
-
--- a count of faults never falls, and stays in its range
-abbrev pub CountsOn : ℕ → ℕ → Type 0
-CountsOn old new = (old ≤ new) × (new ≤ last_count)
+FaultShown old new = new ≡ next_count old
 
 -- the bytes still to come, where they are told, have lost the first n
 abbrev pub Loses : ℕ → Option (List ℕ) → Option (List ℕ) → Type 0
 Loses n None new = new ≡ None
 Loses n (Some left) new = (n ≤ length left) × (new ≡ Some (drop n left))
+
+-- these are the bytes that the device has, where it tells them
+abbrev pub Told : Option (List ℕ) → List ℕ → Type 0
+Told None bytes = ⊤
+Told (Some known) bytes = bytes ≡ known
 
 -- the first n bytes of the buffer are the first n of those still to come, where they are told
 abbrev pub Delivers : ℕ → List ℕ → Option (List ℕ) → Type 0
@@ -52,11 +53,11 @@ Reads (took.Got n) into old new = Delivers n into old × Loses n old new
 Reads took.End into old new = IsSpent old × (new ≡ old)
 Reads took.Failed into old new = new ≡ old
 
--- a read says that it failed only where the count of faults shows it
-abbrev pub ReadFaultShown : Took → ℕ → ℕ → Type 0
-ReadFaultShown (took.Got n) old new = ⊤
-ReadFaultShown took.End old new = ⊤
-ReadFaultShown took.Failed old new = FaultShown old new
+-- whether a read failed
+abbrev pub read_failed : Took → Bool
+read_failed (took.Got n) = false
+read_failed took.End = false
+read_failed took.Failed = true
 
 -- the count of faults behind a read: one more where it failed, and never past the last value
 abbrev pub read_faults : Took → ℕ → ℕ
@@ -79,10 +80,10 @@ abbrev pub Writes : Gave → List ℕ → Option (List ℕ) → Option (List ℕ
 Writes (gave.Took n) bytes old new = Grows (take n bytes) old new
 Writes gave.Failed bytes old new = new ≡ old
 
--- a write says that it failed only where the count of faults shows it
-abbrev pub WriteFaultShown : Gave → ℕ → ℕ → Type 0
-WriteFaultShown (gave.Took n) old new = ⊤
-WriteFaultShown gave.Failed old new = FaultShown old new
+-- whether a write failed
+abbrev pub write_failed : Gave → Bool
+write_failed (gave.Took n) = false
+write_failed gave.Failed = true
 
 -- the count of faults behind a write: one more where it failed, and never past the last value
 abbrev pub write_faults : Gave → ℕ → ℕ

@@ -1,5 +1,5 @@
 -- The devices in memory, as clauses see them.
-use Rattle.std.specs.Prelude.{ℕ, ◌-◌, ◌==◌, ◌||◌, Bool, if◌then◌else◌, min, List, ◌++◌, length, take, drop}
+use Rattle.std.specs.Prelude.{ℕ, ◌-◌, ◌==◌, ◌||◌, Bool, true, false, if◌then◌else◌, min, List, ◌++◌, length, take, drop}
 use Rattle.std.specs.List.{list_any}
 use Rattle.sg_io.specs.Devices.{next_count}
 use Rattle.sg_io.specs.declared.devices.Took.{Took}
@@ -19,9 +19,10 @@ pub record SourceState : Type 0 where
   pub piece : ℕ
   -- the numbers of the calls that fail
   pub fails : List ℕ
-  -- the calls so far, and those of them that failed
+  -- the calls so far, those of them that failed, and whether the last one did
   pub calls : ℕ
   pub faults : ℕ
+  pub failed : Bool
 
 -- a read into `room` bytes fails exactly where it is listed, else ends exactly where no byte is left, else gives what piece, buffer and rest allow
 abbrev pub read_answer : SourceState → ℕ → Took
@@ -31,9 +32,9 @@ read_answer s room =
 
 -- the source behind a read with this answer
 abbrev pub source_after : Took → SourceState → SourceState
-source_after (took.Got n) s = record s { left = drop n s.left; calls = next_count s.calls }
-source_after took.End s = record s { calls = next_count s.calls }
-source_after took.Failed s = record s { calls = next_count s.calls; faults = next_count s.faults }
+source_after (took.Got n) s = record s { left = drop n s.left; calls = next_count s.calls; failed = false }
+source_after took.End s = record s { calls = next_count s.calls; failed = false }
+source_after took.Failed s = record s { calls = next_count s.calls; faults = next_count s.faults; failed = true }
 
 -- a sink in memory
 pub record SinkState : Type 0 where
@@ -44,9 +45,10 @@ pub record SinkState : Type 0 where
   pub piece : ℕ
   -- the numbers of the calls that fail
   pub fails : List ℕ
-  -- the calls so far, and those of them that failed
+  -- the calls so far, those of them that failed, and whether the last one did
   pub calls : ℕ
   pub faults : ℕ
+  pub failed : Bool
 
 -- a write of so many bytes fails exactly where it is listed or no room is left, else takes what piece, room and offer allow
 abbrev pub write_answer : SinkState → ℕ → Gave
@@ -55,5 +57,10 @@ write_answer s offered =
 
 -- the sink behind a write of these bytes with this answer
 abbrev pub sink_after : Gave → List ℕ → SinkState → SinkState
-sink_after (gave.Took n) bytes s = record s { written = s.written ++ take n bytes; room = s.room - n; calls = next_count s.calls }
-sink_after gave.Failed bytes s = record s { calls = next_count s.calls; faults = next_count s.faults }
+sink_after (gave.Took n) bytes s = record s {
+  written = s.written ++ take n bytes;
+  room = s.room - n;
+  calls = next_count s.calls;
+  failed = false;
+}
+sink_after gave.Failed bytes s = record s { calls = next_count s.calls; faults = next_count s.faults; failed = true }

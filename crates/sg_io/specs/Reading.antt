@@ -1,6 +1,6 @@
 -- What reading a source to its end does.
-use Rattle.std.specs.Prelude.{◌≡◌, ℕ, ◌+◌, ◌≤◌, List, [], Option, None, Some, ⊤}
-use Rattle.sg_io.specs.Devices.{FaultShown, Loses}
+use Rattle.std.specs.Prelude.{◌≡◌, ℕ, ◌+◌, ◌<◌, ◌≤◌, List, [], length, Option, None, Some, ⊤}
+use Rattle.sg_io.specs.Devices.{Loses, Told, next_count}
 use Rattle.sg_io.specs.declared.reading.ReadEnd.{ReadEnd}
 use Rattle.sg_io.specs.declared.reading.ReadEnd.TheVariants as ends
 
@@ -19,8 +19,14 @@ Stops ends.ReadFault limit old new = LosesAtMost limit old new
 Stops ends.TooLong limit old new = Loses (limit + 1) old new
 Stops ends.NoMemory limit old new = LosesAtMost limit old new
 
--- a read fault is answered only where the count of faults shows it
-abbrev pub EndFaultShown : ReadEnd → ℕ → ℕ → Type 0
-EndFaultShown ends.ReadFault old new = FaultShown old new
-EndFaultShown ends.TooLong old new = ⊤
-EndFaultShown ends.NoMemory old new = ⊤
+-- there are more bytes than the limit
+abbrev pub IsTooLong : ReadEnd → ℕ → Option (List ℕ) → Type 0
+IsTooLong ends.TooLong limit old = (bytes : List ℕ) × Told old bytes × (limit < length bytes)
+IsTooLong ends.ReadFault limit old = ⊤
+IsTooLong ends.NoMemory limit old = ⊤
+
+-- the count of faults where a source was not read to its end: one more where a read failed
+abbrev pub end_faults : ReadEnd → ℕ → ℕ
+end_faults ends.ReadFault faults = next_count faults
+end_faults ends.TooLong faults = faults
+end_faults ends.NoMemory faults = faults

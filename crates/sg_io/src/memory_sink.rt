@@ -1,6 +1,6 @@
 // A sink in memory.
-ghost use Rattle.std.specs.Prelude.{◌≡◌, ◌<◌, ◌≤◌, [], Some, IfOk, length};
-ghost use Rattle.sg_io.specs.Devices.{CountsOn, WriteFaultShown, Writes, WritesWithin};
+ghost use Rattle.std.specs.Prelude.{◌≡◌, ◌<◌, ◌≤◌, [], false, Some, IfOk, length};
+ghost use Rattle.sg_io.specs.Devices.{write_failed, write_faults, Writes, WritesWithin};
 ghost use Rattle.sg_io.specs.Memory.{sink_after, write_answer};
 
 use super::{CallList, Gave, NoMemory, Sink};
@@ -11,8 +11,8 @@ use std::marker::Model;
 /// where its room is used up.
 ///
 /// Its calls are numbered from 0. Clauses see it as the bytes written, the room that is left, the
-/// piece, the numbers of the calls that fail, and the numbers of calls and of failed calls so far.
-/// These two stay at `u64::MAX` once they are there.
+/// piece, the numbers of the calls that fail, the numbers of calls and of failed calls so far, and
+/// whether the last call failed. The two numbers stay at `u64::MAX` once they are there.
 #[derive(Drop)]
 pub struct MemSink {
     bytes: Vec<u8>,
@@ -21,6 +21,7 @@ pub struct MemSink {
     fails: CallList,
     calls: u64,
     faults: u64,
+    failed: bool,
 }
 
 impl Model for MemSink {
@@ -31,7 +32,7 @@ impl Model for MemSink {
 
     ghost Value = { SinkState };
 
-    ghost view = { λ s. record { written = s.bytes.items; room = s.room; piece = s.piece; fails = s.fails; calls = s.calls; faults = s.faults } };
+    ghost view = { λ s. record { written = s.bytes.items; room = s.room; piece = s.piece; fails = s.fails; calls = s.calls; faults = s.faults; failed = s.failed } };
 
     ghost invariant = { λ s. record {
       reserved : length s.bytes.items + s.room ≤ vec_capacity s.bytes;
@@ -46,7 +47,7 @@ impl MemSink {
     /// one write. Exactly the calls whose numbers stand in `fails`, and those without room, fail.
     pub fn new(alloc: Global, room: usize, piece: usize, fails: CallList) -> Result<Self, NoMemory>
         requires { 1 ≤ piece }
-        ensures { IfOk result (λ sink. sink ≡ record { written = []; room = room; piece = piece; fails = fails; calls = 0; faults = 0 }) }
+        ensures { IfOk result (λ sink. sink ≡ record { written = []; room = room; piece = piece; fails = fails; calls = 0; faults = 0; failed = false }) }
     {
         Ok(MemSink {
             bytes: Vec::with_capacity(alloc, room)?,
@@ -55,6 +56,7 @@ impl MemSink {
             fails,
             calls: 0,
             faults: 0,
+            failed: false,
         })
     }
 
@@ -71,13 +73,15 @@ impl Sink for MemSink {
 
     ghost faults = { λ s. s.faults };
 
+    ghost failed = { λ s. s.failed };
+
     /// Takes the least of the piece, the room that is left and the bytes offered. It takes no memory.
     fn write(&mut self, bytes: &[u8]) -> Gave
         requires { 0 < length bytes.now }
         ensures count { WritesWithin result bytes.now }
         ensures bytes { Writes result bytes.now (Some self.old.written) (Some self.new.written) }
-        ensures failed { WriteFaultShown result self.old.faults self.new.faults }
-        ensures faults { CountsOn self.old.faults self.new.faults }
+        ensures counted { self.new.faults ≡ write_faults result self.old.faults }
+        ensures last { self.new.failed ≡ write_failed result }
 
         // Which calls fail, how many bytes a write takes, and all that a call changes.
         ensures answer { result ≡ write_answer self.old (length bytes.now) }
@@ -85,6 +89,7 @@ impl Sink for MemSink {
     {
         let fails = self.fails.as_slice().contains(&self.calls) || self.room == 0;
         self.calls = self.calls.saturating_add(1);
+        self.failed = fails;
         if fails {
             self.faults = self.faults.saturating_add(1);
             return Gave::Failed;

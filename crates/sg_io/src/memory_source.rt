@@ -1,6 +1,6 @@
 // A source in memory.
-ghost use Rattle.std.specs.Prelude.{◌≡◌, ◌<◌, ◌≤◌, Some, length};
-ghost use Rattle.sg_io.specs.Devices.{CountsOn, ReadFaultShown, Reads, ReadsWithin};
+ghost use Rattle.std.specs.Prelude.{◌≡◌, ◌<◌, ◌≤◌, false, Some, length};
+ghost use Rattle.sg_io.specs.Devices.{read_failed, read_faults, Reads, ReadsWithin};
 ghost use Rattle.sg_io.specs.Memory.{source_after, read_answer};
 
 use super::{CallList, Source, Took};
@@ -9,8 +9,8 @@ use std::marker::Model;
 /// A source in memory: it gives bytes that are handed in, in pieces, and fails at chosen calls.
 ///
 /// Its calls are numbered from 0. Clauses see it as the bytes still to come, the piece, the numbers
-/// of the calls that fail, and the numbers of calls and of failed calls so far. These two stay at
-/// `u64::MAX` once they are there.
+/// of the calls that fail, the numbers of calls and of failed calls so far, and whether the last call
+/// failed. The two numbers stay at `u64::MAX` once they are there.
 #[derive(Drop)]
 pub struct MemSource {
     bytes: Vec<u8>,
@@ -19,6 +19,7 @@ pub struct MemSource {
     fails: CallList,
     calls: u64,
     faults: u64,
+    failed: bool,
 }
 
 impl Model for MemSource {
@@ -28,7 +29,7 @@ impl Model for MemSource {
 
     ghost Value = { SourceState };
 
-    ghost view = { λ s. record { left = drop s.at s.bytes.items; piece = s.piece; fails = s.fails; calls = s.calls; faults = s.faults } };
+    ghost view = { λ s. record { left = drop s.at s.bytes.items; piece = s.piece; fails = s.fails; calls = s.calls; faults = s.faults; failed = s.failed } };
 
     ghost invariant = { λ s. record {
       within : s.at ≤ length s.bytes.items;
@@ -43,7 +44,7 @@ impl MemSource {
     /// numbers stand in `fails` fail. It takes no memory.
     pub fn new(bytes: Vec<u8>, piece: usize, fails: CallList) -> Self
         requires { 1 ≤ piece }
-        ensures { result ≡ record { left = bytes.items; piece = piece; fails = fails; calls = 0; faults = 0 } }
+        ensures { result ≡ record { left = bytes.items; piece = piece; fails = fails; calls = 0; faults = 0; failed = false } }
     {
         MemSource {
             bytes,
@@ -52,6 +53,7 @@ impl MemSource {
             fails,
             calls: 0,
             faults: 0,
+            failed: false,
         }
     }
 }
@@ -61,13 +63,15 @@ impl Source for MemSource {
 
     ghost faults = { λ s. s.faults };
 
+    ghost failed = { λ s. s.failed };
+
     /// Gives the least of the piece, the buffer and the bytes that are left. It takes no memory.
     fn read(&mut self, into: &mut [u8]) -> Took
         requires { 0 < length into.old }
         ensures count { ReadsWithin result into.new }
         ensures bytes { Reads result into.new (Some self.old.left) (Some self.new.left) }
-        ensures failed { ReadFaultShown result self.old.faults self.new.faults }
-        ensures faults { CountsOn self.old.faults self.new.faults }
+        ensures counted { self.new.faults ≡ read_faults result self.old.faults }
+        ensures last { self.new.failed ≡ read_failed result }
 
         // Which calls fail, how many bytes a read gives, and all that a call changes.
         ensures answer { result ≡ read_answer self.old (length into.old) }
@@ -75,6 +79,7 @@ impl Source for MemSource {
     {
         let fails = self.fails.as_slice().contains(&self.calls);
         self.calls = self.calls.saturating_add(1);
+        self.failed = fails;
         if fails {
             self.faults = self.faults.saturating_add(1);
             return Took::Failed;

@@ -1,6 +1,8 @@
 // Reading a source to its end.
-ghost use Rattle.std.specs.Prelude.{◌≡◌, ◌+◌, ◌^◌, ◌<◌, ◌≤◌, [], length, IfErr, IfOk, OnOk};
-ghost use Rattle.sg_io.specs.Reading.{Empties, EndFaultShown, Stops};
+ghost use Rattle.std.specs.Prelude.{◌≡◌, ◌+◌, ◌<◌, ◌≤◌, [], length, true, IfErr, IfOk, OnOk};
+ghost use Rattle.sg_limits.specs.Limits.{text_limit};
+ghost use Rattle.sg_io.specs.Devices.{Told};
+ghost use Rattle.sg_io.specs.Reading.{Empties, end_faults, IsTooLong, Stops};
 
 use super::{Source, Took};
 use std::alloc::{AllocError, Global};
@@ -36,15 +38,18 @@ const PIECE: usize = 65536;
 /// `TooLong` exactly these are gone from the source. After `ReadFault` or `NoMemory` no more than
 /// `limit` bytes are gone, from the front. The memory grows with what is read.
 pub fn read_all<S: Source>(alloc: Global, source: &mut S, limit: usize) -> Result<Vec<u8>, ReadEnd>
-    requires { limit < 2 ^ 30 }
+    requires { limit < text_limit }
     ensures whole { IfOk result (λ bytes. Empties bytes.items (S.left source.old) (S.left source.new)) }
     ensures within { IfOk result (λ bytes. length bytes.items ≤ limit) }
 
+    // Too many bytes is said only where there are too many.
+    ensures too_long { IfErr result (λ end. IsTooLong end limit (S.left source.old)) }
     ensures stopped { IfErr result (λ end. Stops end limit (S.left source.old) (S.left source.new)) }
 
-    // A fault is answered only where the source counted one.
-    ensures fault { IfErr result (λ end. EndFaultShown end (S.faults source.old) (S.faults source.new)) }
-    ensures faults { S.faults source.old ≤ S.faults source.new }
+    // A read fault is answered exactly where a read failed, and that was the last one.
+    ensures faultless { OnOk result (S.faults source.new ≡ S.faults source.old) }
+    ensures fault { IfErr result (λ end. S.faults source.new ≡ end_faults end (S.faults source.old)) }
+    ensures last { result ≡ Err ReadEnd.ReadFault → S.failed source.new ≡ true }
 {
     let mut piece = vec![in alloc; 0u8; PIECE]?;
     let mut bytes = Vec::new(alloc);
@@ -59,14 +64,16 @@ fn gather<S: Source>(
     piece: &mut [u8],
     bytes: &mut Vec<u8>,
 ) -> Result<(), ReadEnd>
-    requires limit { limit < 2 ^ 30 }
+    requires limit { limit < text_limit }
     requires piece { 0 < length piece.old }
     requires empty { bytes.old.items ≡ [] }
     ensures whole { OnOk result (Empties bytes.new.items (S.left source.old) (S.left source.new)) }
     ensures within { OnOk result (length bytes.new.items ≤ limit) }
     ensures stopped { IfErr result (λ end. Stops end limit (S.left source.old) (S.left source.new)) }
-    ensures fault { IfErr result (λ end. EndFaultShown end (S.faults source.old) (S.faults source.new)) }
-    ensures faults { S.faults source.old ≤ S.faults source.new }
+    ensures too_long { IfErr result (λ end. IsTooLong end limit (S.left source.old)) }
+    ensures faultless { OnOk result (S.faults source.new ≡ S.faults source.old) }
+    ensures fault { IfErr result (λ end. S.faults source.new ≡ end_faults end (S.faults source.old)) }
+    ensures last { result ≡ Err ReadEnd.ReadFault → S.failed source.new ≡ true }
 {
     loop {
         let room = piece.len().min(limit + 1 - bytes.len());

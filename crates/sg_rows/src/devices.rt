@@ -1,6 +1,6 @@
-// Runs over devices that fail, and an input beyond the limit of bytes.
+// Runs over devices that fail.
 use super::runs::{calls, words};
-use sg_cli::{INPUT_LIMIT, Status, run};
+use sg_cli::{Status, run};
 use sg_io::{CallList, MemSink, MemSource};
 use std::test::Fail;
 
@@ -27,17 +27,5 @@ fn a_sink_that_fails(rt: HostRuntime) -> Result<(), Fail> {
     let status = run(rt.alloc(), words.as_slice(), &mut source, &mut sink);
     assert_eq!(rt; status, Status::WriteFault);
     assert_eq!(rt; sink.bytes(), b"energ".as_slice());
-    Ok(())
-}
-
-#[test]
-fn an_input_of_one_byte_too_many(rt: HostRuntime) -> Result<(), Fail> {
-    let words = words(rt.alloc(), "energy")?;
-    let bytes = vec![in rt.alloc(); b'#'; INPUT_LIMIT + 1]?;
-    let mut source = MemSource::new(bytes, INPUT_LIMIT, CallList::new(rt.alloc()));
-    let mut sink = MemSink::new(rt.alloc(), 100, 100, CallList::new(rt.alloc()))?;
-    let status = run(rt.alloc(), words.as_slice(), &mut source, &mut sink);
-    assert_eq!(rt; status, Status::Refused);
-    assert_eq!(rt; sink.bytes(), b"refused,1,134217728\n".as_slice());
     Ok(())
 }

@@ -1,4 +1,4 @@
-use Rattle.std.proofs.Common.{◌-◌, List, ℕ, length, take, drop, sym, subst, arith, length-drop}
+use Rattle.std.proofs.Common.{◌-◌, List, ℕ, length, take, drop, sym, subst, ◌∙◌, arith, length-drop}
 use Rattle.std.proofs.lemmas.List.{length-take}
 use Rattle.sg_io.specs.Devices.{Grows}
 use Rattle.sg_io.proofs.DeviceLemmas.{Grows-more, take-joined}
@@ -14,5 +14,5 @@ loop-at-preserved g c =
       within = omega (arith, c.in-Took.ensures.count, length-take (length bytes - at) (drop at bytes), length-drop at bytes);
       grown = subst (λ (w : List ℕ). Grows w (written c.args.sink.now) (written c.write.new.self)) (sym (take-joined at c.in-Took.count bytes c.loop-at.invariant.within))
           (Grows-more (take at bytes) more (written c.args.sink.now) (written c.loop-at.sink) (written c.write.new.self) c.loop-at.invariant.grown c.in-Took.ensures.bytes);
-      counted = omega (arith, c.in-Took.ensures.faults.0);
+      counted = c.in-Took.ensures.counted ∙ c.loop-at.invariant.counted;
     }

@@ -1,5 +1,5 @@
 use Rattle.sg_cli.proofs.InputLemmas.{by_fitness}
-use Rattle.sg_cli.proofs.reply.read_planar.Goals as goal
+use Rattle.sg_cli.proofs.study.read_planar.Goals as goal
 
 pub returns-in-Ok-clause-refuses : goal.returns-in-Ok-clause-refuses
 returns-in-Ok-clause-refuses c =

@@ -1,5 +1,5 @@
 use Rattle.sg_cli.proofs.InputLemmas.{by_record, by_trailing}
-use Rattle.sg_cli.proofs.reply.read_alone.Goals as goal
+use Rattle.sg_cli.proofs.study.read_alone.Goals as goal
 
 pub returns-in-Ok-no_more-clause-small : goal.returns-in-Ok-no_more-clause-small
 returns-in-Ok-no_more-clause-small c = c.in-Ok.ensures.few_spins

@@ -1,0 +1,23 @@
+// What `clusters` answers.
+ghost use Rattle.std.specs.Prelude.{◌≤◌, IfOk};
+ghost use Rattle.sg_planar.specs.Fit.{IsFit};
+ghost use Rattle.sg_cli.specs.Promises.{IsAnswered};
+ghost use Rattle.sg_cli.specs.Served.{PrintsClusters};
+
+use super::reply::{NoMemory, Reply, done};
+use sg_bonds::clusters;
+use sg_planar::Planar;
+use sg_report::clusters_text;
+use std::alloc::Global;
+
+/// The cluster of each spin.
+pub fn clusters_reply(alloc: Global, planar: &Planar) -> Result<Reply, NoMemory>
+    requires few { planar.now.instance.n ≤ 16 }
+    requires fit { IsFit planar.now.instance }
+    ensures served { IfOk result (λ reply. PrintsClusters planar.now.instance reply.text.items reply.status) }
+    ensures answered { IfOk result (λ reply. IsAnswered reply.status) }
+{
+    let found = clusters(alloc, planar)?;
+    let text = clusters_text(alloc, found.as_slice())?;
+    Ok(done(text))
+}

@@ -1,0 +1,21 @@
+// What `energy` answers.
+ghost use Rattle.std.specs.Prelude.{◌≤◌, IfOk};
+ghost use Rattle.sg_cli.specs.Promises.{IsAnswered};
+ghost use Rattle.sg_cli.specs.Served.{PrintsGroundState};
+
+use super::reply::{NoMemory, Reply, done};
+use sg_ground::solve;
+use sg_planar::Planar;
+use sg_report::energy_text;
+use std::alloc::Global;
+
+/// The least energy, and spins that have it.
+pub fn energy_reply(alloc: Global, planar: &Planar) -> Result<Reply, NoMemory>
+    requires { planar.now.instance.n ≤ 16 }
+    ensures served { IfOk result (λ reply. PrintsGroundState planar.now.instance reply.text.items reply.status) }
+    ensures answered { IfOk result (λ reply. IsAnswered reply.status) }
+{
+    let answer = solve(alloc, planar)?;
+    let text = energy_text(alloc, answer.energy, &answer.spins)?;
+    Ok(done(text))
+}

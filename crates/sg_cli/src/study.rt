@@ -1,0 +1,78 @@
+// What a study answers to a text: its first fault, or the answer to its instance.
+ghost use Rattle.std.specs.Prelude.{◌≤◌, ◌<◌, length, IfOk, IfErr};
+ghost use Rattle.sg_limits.specs.Limits.{text_limit};
+ghost use Rattle.sg_planar.specs.Fit.{IsFit};
+ghost use Rattle.sg_cli.specs.Input.{GivesFit, GivesInstance, RefusesBy};
+ghost use Rattle.sg_cli.specs.Promises.{IsAnswered};
+ghost use Rattle.sg_cli.specs.Served.{AnswersFit, AnswersStudy};
+
+use super::bonds::bonds_reply;
+use super::clusters::clusters_reply;
+use super::command::Study;
+use super::energy::energy_reply;
+use super::reply::{NoMemory, Reply, refuse};
+use super::wall::wall_reply;
+use sg_model::{Fault, Instance};
+use sg_planar::{NotFit, Planar};
+use sg_reader::{no_more, read_instance};
+use std::alloc::{AllocError, Global};
+
+/// What a study answers to a text within the limit of bytes.
+pub fn study_reply(alloc: Global, study: Study, bytes: &[u8]) -> Result<Reply, NoMemory>
+    requires { length bytes.now < text_limit }
+    ensures served { IfOk result (λ reply. AnswersStudy study bytes.now reply.text.items reply.status) }
+    ensures answered { IfOk result (λ reply. IsAnswered reply.status) }
+{
+    match read_planar(alloc, bytes) {
+        Ok(planar) => fit_reply(alloc, study, &planar),
+        Err(Fault::Refused(refusal)) => refuse(alloc, &refusal),
+        Err(Fault::NoMemory) => Err(AllocError),
+    }
+}
+
+// The instance of a text, fit for a planar solver, or the first fault of the text.
+fn read_planar(alloc: Global, bytes: &[u8]) -> Result<Planar, Fault>
+    requires { length bytes.now < text_limit }
+    ensures gives { IfOk result (λ planar. GivesFit bytes.now planar.instance) }
+    ensures small { IfOk result (λ planar. planar.instance.n ≤ 16) }
+    ensures refuses { IfErr result (RefusesBy bytes.now) }
+{
+    match read_alone(alloc, bytes) {
+        Ok(instance) => match Planar::new(alloc, instance) {
+            Ok(planar) => Ok(planar),
+            Err(NotFit { fault, instance: _ }) => Err(fault),
+        },
+        Err(fault) => Err(fault),
+    }
+}
+
+// The instance of a text with nothing behind it, or the first fault of the records.
+fn read_alone(alloc: Global, bytes: &[u8]) -> Result<Instance, Fault>
+    requires { length bytes.now < text_limit }
+    ensures gives { IfOk result (GivesInstance bytes.now) }
+    ensures small { IfOk result (λ inst. inst.n ≤ 16) }
+    ensures refuses { IfErr result (RefusesBy bytes.now) }
+{
+    match read_instance(alloc, bytes) {
+        Ok((instance, after)) => match no_more(alloc, bytes, after) {
+            Ok(()) => Ok(instance),
+            Err(fault) => Err(fault),
+        },
+        Err(fault) => Err(fault),
+    }
+}
+
+// What a study answers to an instance that is fit.
+fn fit_reply(alloc: Global, study: Study, planar: &Planar) -> Result<Reply, NoMemory>
+    requires few { planar.now.instance.n ≤ 16 }
+    requires fit { IsFit planar.now.instance }
+    ensures served { IfOk result (λ reply. AnswersFit study planar.now.instance reply.text.items reply.status) }
+    ensures answered { IfOk result (λ reply. IsAnswered reply.status) }
+{
+    match study {
+        Study::Energy => energy_reply(alloc, planar),
+        Study::Wall => wall_reply(alloc, planar),
+        Study::Bonds => bonds_reply(alloc, planar),
+        Study::Clusters => clusters_reply(alloc, planar),
+    }
+}

@@ -1,0 +1,38 @@
+// What `wall` answers.
+ghost use Rattle.std.specs.Prelude.{◌≤◌, IfOk};
+ghost use Rattle.sg_cli.specs.Promises.{IsAnswered};
+ghost use Rattle.sg_cli.specs.Served.{AnswersWall, PrintsWall};
+
+use super::reply::{NoMemory, Reply, done, refuse};
+use sg_model::Refusal;
+use sg_planar::Planar;
+use sg_report::wall_text;
+use sg_wall::wall;
+use std::alloc::Global;
+
+/// The energies of the domain wall at the seam, or the refusal of an empty seam.
+pub fn wall_reply(alloc: Global, planar: &Planar) -> Result<Reply, NoMemory>
+    requires { planar.now.instance.n ≤ 16 }
+    ensures served { IfOk result (λ reply. AnswersWall planar.now.instance reply.text.items reply.status) }
+    ensures answered { IfOk result (λ reply. IsAnswered reply.status) }
+{
+    if planar.instance().seam().is_empty() {
+        refuse(alloc, &Refusal::NoSeam)
+    } else {
+        seam_reply(alloc, planar)
+    }
+}
+
+// The energies of the domain wall at a seam that is not empty.
+fn seam_reply(alloc: Global, planar: &Planar) -> Result<Reply, NoMemory>
+    requires { planar.now.instance.n ≤ 16 }
+    ensures served { IfOk result (λ reply. PrintsWall planar.now.instance reply.text.items reply.status) }
+    ensures answered { IfOk result (λ reply. IsAnswered reply.status) }
+{
+    let found = wall(alloc, planar)?;
+    let text = wall_text(
+        alloc,
+        [found.periodic, found.antiperiodic, found.difference],
+    )?;
+    Ok(done(text))
+}
