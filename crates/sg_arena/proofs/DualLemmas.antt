@@ -1,5 +1,6 @@
 -- The duals between two leaves and their totals.
-use Rattle.std.proofs.Common.{Bool, List, None, Option, Some, [], ap, arith, cond, eq-eqb, eqb, false, get_or, inl, inr, length, refl, subst, sum_by, sym, true, ℕ, ◌*◌, ◌+◌, ◌<◌, ◌||◌, ◌∙◌, ◌∷◌, ◌≡◌, ◌≢◌, ◌≤◌}
+use Rattle.std.proofs.Common.{Bool, List, None, Option, Some, [], ap, arith, cond, eq-eqb, eqb, false, get_or, inl, inr, length, refl, subst, sum_by, sym}
+use Rattle.std.proofs.Common.{true, ℕ, ◌*◌, ◌+◌, ◌<◌, ◌||◌, ◌∙◌, ◌∷◌, ◌≡◌, ◌≢◌, ◌≤◌}
 use Rattle.std.proofs.lemmas.Bool.{cases_eq, cases_lt, eqb-true, false_from_ne_true, ne_eqb}
 use Rattle.std.proofs.lemmas.List.{get_or_past}
 use Rattle.std.proofs.lemmas.List.FromFn.{fill_by_all}
@@ -45,7 +46,15 @@ total-between f u v = go f.nodes
 
     go : (slots : List (Option Node)) → sum_by (share u) slots + sum_by (share v) slots ≡ sum_by (cut_share u v) slots + 2 * sum_by (both_share u v) slots
     go [] = refl
-    go (o ∷ rest) = omega (arith, go rest, each o, sum_by-cons (share u) o rest, sum_by-cons (share v) o rest, sum_by-cons (cut_share u v) o rest, sum_by-cons (both_share u v) o rest)
+    go (o ∷ rest) = omega (
+      arith,
+      go rest,
+      each o,
+      sum_by-cons (share u) o rest,
+      sum_by-cons (share v) o rest,
+      sum_by-cons (cut_share u v) o rest,
+      sum_by-cons (both_share u v) o rest,
+    )
 
 -- no set holds leaves of two different tops
 pub both-none : (f : Family) → IsFamily f → (s t u v : ℕ) → IsTop f s → IsTop f t → s ≢ t → Holds f s u → Holds f t v → sum_by (both_share u v) f.nodes ≡ 0
@@ -54,7 +63,8 @@ both-none f fam s t u v top_s top_t differ in_s in_t =
     ∙ sum_by-map_of (both_share u v) (node_at f) (range_with_len 0 (length f.nodes))
     ∙ sum_by-zero (λ n. both_share u v (node_at f n)) (range_with_len 0 (length f.nodes)) zero_at
   where
-    each : (o : Option Node) → (has_leaf (option_map_or (λ x. x.leaves) o []) u ≡ true → has_leaf (option_map_or (λ x. x.leaves) o []) v ≡ true → ⊥) → both_share u v o ≡ 0
+    each : (o : Option Node) → (has_leaf (option_map_or (λ x. x.leaves) o []) u ≡ true → has_leaf (option_map_or (λ x. x.leaves) o []) v ≡ true → ⊥) →
+        both_share u v o ≡ 0
     each None apart = refl
     each (Some x) apart = cases (has_leaf x.leaves u) (has_leaf x.leaves v) x.dual apart
       where
@@ -73,12 +83,14 @@ both-none f fam s t u v top_s top_t differ in_s in_t =
             top-covers f fam s t v top_s meets in_t
 
 -- so between two tops the duals are the two totals
-pub between-tops : (f : Family) → IsFamily f → (s t u v : ℕ) → IsTop f s → IsTop f t → s ≢ t → Holds f s u → Holds f t v → duals_between f u v ≡ total_of f u + total_of f v
+pub between-tops : (f : Family) → IsFamily f → (s t u v : ℕ) → IsTop f s → IsTop f t → s ≢ t → Holds f s u → Holds f t v →
+    duals_between f u v ≡ total_of f u + total_of f v
 between-tops f fam s t u v top_s top_t differ in_s in_t =
     omega (arith, total-between f u v, both-none f fam s t u v top_s top_t differ in_s in_t)
 
 -- a leaf that is its own top has its dual for its total
-pub total-leaf_top : (f : Family) → IsFamily f → (l : ℕ) → l < leaf_count f → IsTop f (get_or f.leaf_nodes l 0) → total_of f l ≡ dual_of f (get_or f.leaf_nodes l 0)
+pub total-leaf_top : (f : Family) → IsFamily f → (l : ℕ) → l < leaf_count f → IsTop f (get_or f.leaf_nodes l 0) →
+    total_of f l ≡ dual_of f (get_or f.leaf_nodes l 0)
 total-leaf_top f fam l low top =
     let t = get_or f.leaf_nodes l 0 in
     total-names f l
@@ -95,7 +107,8 @@ total-leaf_top f fam l low top =
           | inr high ↦ absurd (not_dead f (get_or f.leaf_nodes l 0) top.alive (get_or_past f.nodes (get_or f.leaf_nodes l 0) None high))
         ]
 
-    share_as : (o : Option Node) (t : Bool) → has_leaf (option_map_or (λ (x : Node). x.leaves) o []) l ≡ t → share l o ≡ cond t (option_map_or (λ (x : Node). x.dual) o 0) 0
+    share_as : (o : Option Node) (t : Bool) → has_leaf (option_map_or (λ (x : Node). x.leaves) o []) l ≡ t →
+        share l o ≡ cond t (option_map_or (λ (x : Node). x.dual) o 0) 0
     share_as None true e = refl
     share_as None false e = refl
     share_as (Some x) t e = rw e refl
@@ -117,14 +130,18 @@ total-leaf_top f fam l low top =
             (λ leaf h. subst (λ x. Holds f n x) (single leaf h) held)
           where
             single : (leaf : ℕ) → Holds f (get_or f.leaf_nodes l 0) leaf → l ≡ leaf
-            single leaf h = eqb-true l leaf (or_false (eqb l leaf) (sym (ap (λ o. has_leaf (option_map_or (λ x. x.leaves) o []) leaf) (fam.leaf_set l low)) ∙ h))
+            single leaf h = eqb-true l leaf
+                (or_false (eqb l leaf) (sym (ap (λ o. has_leaf (option_map_or (λ x. x.leaves) o []) leaf) (fam.leaf_set l low)) ∙ h))
               where
                 or_false : (b : Bool) → (b || false) ≡ true → b ≡ true
                 or_false true e = refl
                 or_false false e = e
 
 -- an inner leaf between two outer tops has a dual of at least delta, if the outer ones keep that distance
-pub inner-leaf_enough : (f : Family) → IsFamily f → (cost : ℕ → ℕ → ℕ) (l y z s r delta : ℕ) → l < leaf_count f → IsTop f (get_or f.leaf_nodes l 0) → IsTop f s → IsTop f r → s ≢ r → get_or f.leaf_nodes l 0 ≢ s → get_or f.leaf_nodes l 0 ≢ r → Holds f (get_or f.leaf_nodes l 0) l → Holds f s y → Holds f r z → duals_between f l y ≡ cost l y → duals_between f l z ≡ cost l z → cost y z ≤ cost l y + cost l z → duals_between f y z + 2 * delta ≤ cost y z → delta ≤ dual_of f (get_or f.leaf_nodes l 0)
+pub inner-leaf_enough : (f : Family) → IsFamily f → (cost : ℕ → ℕ → ℕ) (l y z s r delta : ℕ) → l < leaf_count f → IsTop f (get_or f.leaf_nodes l 0) →
+    IsTop f s → IsTop f r → s ≢ r → get_or f.leaf_nodes l 0 ≢ s → get_or f.leaf_nodes l 0 ≢ r → Holds f (get_or f.leaf_nodes l 0) l → Holds f s y →
+    Holds f r z → duals_between f l y ≡ cost l y → duals_between f l z ≡ cost l z → cost y z ≤ cost l y + cost l z →
+    duals_between f y z + 2 * delta ≤ cost y z → delta ≤ dual_of f (get_or f.leaf_nodes l 0)
 inner-leaf_enough f fam cost l y z s r delta low top top_s top_r apart_sr apart_s apart_r in_l in_s in_r tight_y tight_z triangle far =
     let t = get_or f.leaf_nodes l 0 in
     omega (

@@ -8,7 +8,8 @@ use Rattle.std.specs.List.{range_with_len}
 use Rattle.std.specs.Option.{option_map_or}
 use Rattle.sg_arena.specs.declared.Link.{Link}
 use Rattle.sg_arena.specs.Changes.{with_slot}
-use Rattle.sg_arena.specs.Family.{Covers, Family, Holds, IsAlive, IsBlossom, IsCycle, IsFamily, IsTop, Node, after_index, any_holds, blank_link, cycle_of, dual_of, has_leaf, holds, leaf_count, link_at, node_at, share, total_of}
+use Rattle.sg_arena.specs.Family.{Covers, Family, Holds, IsAlive, IsBlossom, IsCycle, IsFamily, IsTop, Node, after_index, any_holds, blank_link, cycle_of}
+use Rattle.sg_arena.specs.Family.{dual_of, has_leaf, holds, leaf_count, link_at, node_at, share, total_of}
 use Rattle.sg_arena.specs.Slack.{cut_share, duals_between, exactly_one}
 use Rattle.sg_arena.proofs.FamilyLemmas.{after_within, alive_from_holds, child-covered, not_dead, some_leaf, top-apart, top-covers, top-no_child}
 use Rattle.sg_sums.proofs.ListLaws.{cond-same, filter-never, list_any-agree_at, place_of_any}
@@ -38,7 +39,8 @@ module _ (f : Family) (b : ℕ) (fam : IsFamily f) (top : IsTop f b) (blossom : 
   cycle_rest n differs = ap (λ o. option_map_or (λ x. x.cycle) o []) (at_rest n differs)
 
   blossom_stays : (n : ℕ) → IsBlossom without n → n ≢ b
-  blossom_stays n some same = let e : cycle_of without n ≡ [] = ap (λ o. option_map_or (λ x. x.cycle) o []) (ap (node_at without) same ∙ gone) in omega (arith, some, ap length e)
+  blossom_stays n some same = let e : cycle_of without n ≡ [] = ap (λ o. option_map_or (λ x. x.cycle) o []) (ap (node_at without) same ∙ gone) in omega
+      (arith, some, ap length e)
 
   was_blossom : (n : ℕ) → IsBlossom without n → IsBlossom f n
   was_blossom n some = subst (λ xs. 0 < length xs) (cycle_rest n (blossom_stays n some)) some
@@ -60,7 +62,8 @@ module _ (f : Family) (b : ℕ) (fam : IsFamily f) (top : IsTop f b) (blossom : 
         odd = is.odd;
         differ = is.differ;
         from = λ i within. child_stays n i (link_at (cycle_of f n) i).from within ∙ is.from i within;
-        to = λ i within. child_stays n (after_index (length (cycle_of f n)) i) (link_at (cycle_of f n) i).to (after_within (length (cycle_of f n)) i within) ∙ is.to i within;
+        to = λ i within. child_stays n (after_index (length (cycle_of f n)) i) (link_at (cycle_of f n) i).to
+            (after_within (length (cycle_of f n)) i within) ∙ is.to i within;
       }
 
   -- it is a family
@@ -70,14 +73,17 @@ module _ (f : Family) (b : ℕ) (fam : IsFamily f) (top : IsTop f b) (blossom : 
         leaf_set = λ leaf low.
             let named = fam.leaf_set leaf low in
             let n = get_or f.leaf_nodes leaf 0 in
-            let plain : n ≢ b = (λ same. let e : cycle_of f b ≡ [] = ap (cycle_of f) (sym same) ∙ ap (λ o. option_map_or (λ x. x.cycle) o []) named in omega (arith, blossom, ap length e)) in
+            let plain : n ≢ b = (λ same. let e : cycle_of f b ≡ [] = ap (cycle_of f) (sym same) ∙ ap (λ o. option_map_or (λ x. x.cycle) o []) named in omega
+            (arith, blossom, ap length e)) in
             let e = at_rest n plain in
             e ∙ named ∙ ap (λ d. Some (record { leaves = leaf ∷ []; dual = d; cycle = [] })) (sym (ap (λ o. option_map_or (λ x. x.dual) o 0) e));
         in_order = λ n. elim (cases_eq n b) [
           | inl same ↦
               let e : node_at without n ≡ None = ap (node_at without) same ∙ gone in
-              ap (λ o. option_map_or (λ x. x.leaves) o []) e ∙ sym (filter-never (holds without n) (range_with_len 0 (leaf_count f)) (λ l. ap (λ o. has_leaf (option_map_or (λ x. x.leaves) o []) l) e))
-          | inr differs ↦ ap (λ o. option_map_or (λ x. x.leaves) o []) (at_rest n differs) ∙ fam.in_order n ∙ filter_agree (holds f n) (holds without n) (λ l. sym (holds_rest n l differs)) (range_with_len 0 (leaf_count f))
+              ap (λ o. option_map_or (λ x. x.leaves) o []) e ∙
+              sym (filter-never (holds without n) (range_with_len 0 (leaf_count f)) (λ l. ap (λ o. has_leaf (option_map_or (λ x. x.leaves) o []) l) e))
+          | inr differs ↦ ap (λ o. option_map_or (λ x. x.leaves) o []) (at_rest n differs) ∙ fam.in_order n ∙ filter_agree (holds f n) (holds without n)
+              (λ l. sym (holds_rest n l differs)) (range_with_len 0 (leaf_count f))
         ];
         nested = λ a c leaf in_a in_c.
             let a_stays = holder_stays a leaf in_a in
@@ -90,25 +96,32 @@ module _ (f : Family) (b : ℕ) (fam : IsFamily f) (top : IsTop f b) (blossom : 
             let a_stays = not_gone a alive in
             let leaf = some_leaf f fam a (was_alive a alive) in
             let c_stays = holder_stays c leaf.0 (under leaf.0 (holds_rest a leaf.0 a_stays ∙ leaf.1)) in
-            fam.apart a c (was_alive a alive) (λ l h. was_held a l (over l (holds_rest c l c_stays ∙ h))) (λ l h. was_held c l (under l (holds_rest a l a_stays ∙ h)));
+            fam.apart a c (was_alive a alive) (λ l h. was_held a l (over l (holds_rest c l c_stays ∙ h)))
+            (λ l h. was_held c l (under l (holds_rest a l a_stays ∙ h)));
         odd = λ n alive. ap (λ o. length (option_map_or (λ x. x.leaves) o []) % 2) (at_rest n (not_gone n alive)) ∙ fam.odd n (was_alive n alive);
-        leaf_named = λ n alive plain. fam.leaf_named n (was_alive n alive) (λ some. plain (subst (λ xs. 0 < length xs) (sym (cycle_rest n (not_gone n alive))) some));
+        leaf_named = λ n alive plain. fam.leaf_named n (was_alive n alive)
+            (λ some. plain (subst (λ xs. 0 < length xs) (sym (cycle_rest n (not_gone n alive))) some));
         cycles = λ n some. subst (λ xs. IsCycle without xs) (sym (cycle_rest n (blossom_stays n some))) (cycle_stays n (was_blossom n some));
         union = λ n leaf some.
             let n_stays = blossom_stays n some in
             holds_rest n leaf n_stays ∙ fam.union n leaf (was_blossom n some)
-            ∙ sym (ap (λ xs. any_holds without xs leaf) (cycle_rest n n_stays) ∙ list_any-agree_at (λ link. holds without link.node leaf) (λ link. holds f link.node leaf) (cycle_of f n) blank_link (λ i within. child_stays n i leaf within));
+            ∙ sym (ap (λ xs. any_holds without xs leaf) (cycle_rest n n_stays) ∙ list_any-agree_at (λ link. holds without link.node leaf)
+            (λ link. holds f link.node leaf) (cycle_of f n) blank_link (λ i within. child_stays n i leaf within));
         disjoint = λ n i j leaf a c p q.
             let e = cycle_rest n (blossom_stays n (omega arith)) in
             let a' = subst (λ xs. i < length xs) e a in
             let c' = subst (λ xs. j < length xs) e c in
-            fam.disjoint n i j leaf a' c' (sym (child_stays n i leaf a') ∙ subst (λ xs. Holds without (link_at xs i).node leaf) e p) (sym (child_stays n j leaf c') ∙ subst (λ xs. Holds without (link_at xs j).node leaf) e q);
+            fam.disjoint n i j leaf a' c' (sym (child_stays n i leaf a') ∙ subst (λ xs. Holds without (link_at xs i).node leaf) e p)
+            (sym (child_stays n j leaf c') ∙ subst (λ xs. Holds without (link_at xs j).node leaf) e q);
         between = λ n i o within over under.
             let e = cycle_rest n (blossom_stays n (omega arith)) in
             let within' : i < length (cycle_of f n) = subst (λ xs. i < length xs) e within in
             let under' : Covers without o (link_at (cycle_of f n) i).node = subst (λ xs. Covers without o (link_at xs i).node) e under in
-            let o_stays = holder_stays o (link_at (cycle_of f n) i).from (under' (link_at (cycle_of f n) i).from (child_stays n i (link_at (cycle_of f n) i).from within' ∙ (fam.cycles n (omega arith)).from i within')) in
-            elim (fam.between n i o within' (λ l h. was_held n l (over l (holds_rest o l o_stays ∙ h))) (λ l h. was_held o l (under' l (child_stays n i l within' ∙ h)))) [
+            let o_stays = holder_stays o (link_at (cycle_of f n) i).from
+            (under' (link_at (cycle_of f n) i).from
+            (child_stays n i (link_at (cycle_of f n) i).from within' ∙ (fam.cycles n (omega arith)).from i within')) in
+            elim (fam.between n i o within' (λ l h. was_held n l (over l (holds_rest o l o_stays ∙ h)))
+            (λ l h. was_held o l (under' l (child_stays n i l within' ∙ h)))) [
               | inl x ↦ inl x
               | inr y ↦ inr (y ∙ ap (λ xs. (link_at xs i).node) (sym e))
             ];
@@ -132,7 +145,8 @@ module _ (f : Family) (b : ℕ) (fam : IsFamily f) (top : IsTop f b) (blossom : 
         outermost = λ other covers.
             let leaf = some_leaf f fam t old.alive in
             let away = expand-apart other (alive_from_holds g other leaf.0 (covers leaf.0 (holds_rest f b fam top blossom room t leaf.0 differs ∙ leaf.1))) in
-            old.outermost other (λ l h. sym (holds_rest f b fam top blossom room other l away) ∙ covers l (holds_rest f b fam top blossom room t l differs ∙ h));
+            old.outermost other (λ l h. sym (holds_rest f b fam top blossom room other l away) ∙
+            covers l (holds_rest f b fam top blossom room t l differs ∙ h));
       }
 
   -- each child becomes a top, since no set lies between it and the blossom
@@ -146,7 +160,8 @@ module _ (f : Family) (b : ℕ) (fam : IsFamily f) (top : IsTop f b) (blossom : 
         alive = alive_from_holds g n l (holds_rest f b fam top blossom room n l differs ∙ in_n);
         outermost = λ other covers.
             let away = expand-apart other (alive_from_holds g other l (covers l (holds_rest f b fam top blossom room n l differs ∙ in_n))) in
-            let over : Covers f other n = (λ k h. sym (holds_rest f b fam top blossom room other k away) ∙ covers k (holds_rest f b fam top blossom room n k differs ∙ h)) in
+            let over : Covers f other n = (λ k h. sym (holds_rest f b fam top blossom room other k away) ∙
+            covers k (holds_rest f b fam top blossom room n k differs ∙ h)) in
             elim (fam.between b i other within (top-covers f fam b other l top (child-covered f fam b i within l in_n) (over l in_n)) over) [
               | inl same ↦ absurd (away same)
               | inr here ↦ here
@@ -165,12 +180,18 @@ module _ (f : Family) (b : ℕ) (fam : IsFamily f) (top : IsTop f b) (blossom : 
             let child = place_of_any (λ (link : Link). holds f link.node leaf.0) (cycle_of f b) blank_link (sym (fam.union b leaf.0 blossom) ∙ inside) in
             let n = (link_at (cycle_of f b) child.0).node in
             let kid = IsTop-expand_child child.0 child.1 in
-            inr (child.0, child.1, top-apart g fam_g n t leaf.0 kid is (holds_rest f b fam top blossom room n leaf.0 (expand-apart n kid.alive) ∙ child.2) leaf.1)
+            inr (
+              child.0,
+              child.1,
+              top-apart g fam_g n t leaf.0 kid is (holds_rest f b fam top blossom room n leaf.0 (expand-apart n kid.alive) ∙ child.2)
+                  leaf.1,
+            )
         | inr outside ↦ inl (record {
           alive = alive_from_holds f t leaf.0 in_t;
           outermost = λ other covers. elim (cases_eq other b) [
             | inl same ↦ absurd (false≢true (sym outside ∙ ap (λ n. holds f n leaf.0) (sym same) ∙ covers leaf.0 in_t))
-            | inr differs ↦ is.outermost other (λ l h. holds_rest f b fam top blossom room other l differs ∙ covers l (sym (holds_rest f b fam top blossom room t l away) ∙ h))
+            | inr differs ↦ is.outermost other
+                (λ l h. holds_rest f b fam top blossom room other l differs ∙ covers l (sym (holds_rest f b fam top blossom room t l away) ∙ h))
           ];
         })
       ]

@@ -1,5 +1,6 @@
 -- The family of leaves alone, as `open` makes it.
-use Rattle.std.proofs.Common.{Bool, IsSome, List, Some, [], ap, arith, eq-eqb, eqb, false, get_or, inl, inr, length, refl, subst, suc, sym, true, zero, ℕ, ◌%◌, ◌<◌, ◌||◌, ◌∙◌, ◌∷◌, ◌≡◌}
+use Rattle.std.proofs.Common.{Bool, IsSome, List, Some, [], ap, arith, eq-eqb, eqb, false, get_or, inl, inr, length, refl, subst, suc, sym, true, zero, ℕ}
+use Rattle.std.proofs.Common.{◌%◌, ◌<◌, ◌||◌, ◌∙◌, ◌∷◌, ◌≡◌}
 use Rattle.std.proofs.lemmas.Bool.{eqb-true}
 use Rattle.std.specs.List.{range_with_len}
 use Rattle.std.specs.Option.{option_map_or}
@@ -55,13 +56,16 @@ module _ (f : Family) (only : OnlyLeaves f) where
   pub IsFamily-leaves : IsFamily f
   IsFamily-leaves =
       record {
-        leaf_set = λ l low. only.leaves l low ∙ ap (λ d. Some (record { leaves = l ∷ []; dual = d; cycle = [] })) (sym (ap (λ o. option_map_or (λ x. x.dual) o 0) (only.leaves l low)));
+        leaf_set = λ l low. only.leaves l low ∙ ap (λ d. Some (record { leaves = l ∷ []; dual = d; cycle = [] }))
+            (sym (ap (λ o. option_map_or (λ x. x.dual) o 0) (only.leaves l low)));
         in_order = λ n. elim (cases_option (node_at f n)) [
-          | inl none ↦ ap (λ o. option_map_or (λ x. x.leaves) o []) none ∙ sym (filter-never (holds f n) (range_with_len 0 (leaf_count f)) (λ l. ap (λ o. has_leaf (option_map_or (λ x. x.leaves) o []) l) none))
+          | inl none ↦ ap (λ o. option_map_or (λ x. x.leaves) o []) none ∙
+              sym (filter-never (holds f n) (range_with_len 0 (leaf_count f)) (λ l. ap (λ o. has_leaf (option_map_or (λ x. x.leaves) o []) l) none))
           | inr some ↦
               let at = only.named n (subst (λ o. IsSome o) (sym some.1) refl) in
               let whole : leaves_of f n ≡ at.0 ∷ [] = ap (leaves_of f) (sym at.2) ∙ leaf_of at.0 at.1 in
-              whole ∙ sym (filter-single (holds f n) 0 (leaf_count f) at.0 (omega arith) (omega (arith, at.1)) (λ x within. ap (λ xs. has_leaf xs x) whole ∙ or_false (eqb at.0 x)))
+              whole ∙ sym (filter-single (holds f n) 0 (leaf_count f) at.0 (omega arith) (omega (arith, at.1))
+              (λ x within. ap (λ xs. has_leaf xs x) whole ∙ or_false (eqb at.0 x)))
         ];
         nested = λ a b leaf in_a in_b. inl (λ l h. subst (λ n. Holds f n l) ((own b leaf in_b).1 ∙ sym (own a leaf in_a).1) h);
         apart = λ a b alive over under.

@@ -1,5 +1,6 @@
 -- The family with a new blossom, as `shrink` leaves it: what it keeps and what it gains.
-use Rattle.std.proofs.Common.{IsSome, List, None, Some, [], ap, arith, filter, get_or, inl, inr, length, refl, subst, sym, true, ℕ, ◌%◌, ◌<◌, ◌∙◌, ◌∷◌, ◌≡◌, ◌≢◌}
+use Rattle.std.proofs.Common.{IsSome, List, None, Some, [], ap, arith, filter, get_or, inl, inr, length, refl, subst, sym, true, ℕ, ◌%◌, ◌<◌, ◌∙◌, ◌∷◌, ◌≡◌}
+use Rattle.std.proofs.Common.{◌≢◌}
 use Rattle.std.proofs.lemmas.Bool.{cases_eq, cases_lt, false_from_ne_true}
 use Rattle.std.proofs.lemmas.List.{get_or-set_other, get_or-set_same}
 use Rattle.std.proofs.lemmas.List.Elements.{filter_agree}
@@ -9,7 +10,8 @@ use Rattle.std.specs.List.{range_with_len}
 use Rattle.std.specs.Option.{option_map_or}
 use Rattle.sg_arena.specs.declared.Link.{Link}
 use Rattle.sg_arena.specs.Changes.{CanShrink, blossom_of, with_slot}
-use Rattle.sg_arena.specs.Family.{Covers, Family, Holds, IsAlive, IsBlossom, IsCycle, IsFamily, IsTop, after_index, any_holds, blank_link, cycle_of, has_leaf, holds, leaf_count, leaves_of, link_at, node_at, share, total_of}
+use Rattle.sg_arena.specs.Family.{Covers, Family, Holds, IsAlive, IsBlossom, IsCycle, IsFamily, IsTop, after_index, any_holds, blank_link, cycle_of, has_leaf}
+use Rattle.sg_arena.specs.Family.{holds, leaf_count, leaves_of, link_at, node_at, share, total_of}
 use Rattle.sg_arena.specs.Forest.{links}
 use Rattle.sg_arena.specs.Slack.{cut_share, duals_between, exactly_one}
 use Rattle.sg_arena.proofs.FamilyLemmas.{alive_from_holds, leaf_bound, not_dead, some_leaf, top-apart, top-covers, union-odd}
@@ -49,7 +51,8 @@ module _ (f : Family) (b : ℕ) (cycle : List Link) (fam : IsFamily f) (can : Ca
         | inl low ↦ has_leaf-filter (any_holds f cycle) 0 (leaf_count f) leaf (omega arith) (omega arith)
         | inr high ↦
             has_leaf-filter_out (any_holds f cycle) 0 (leaf_count f) leaf (inr (omega arith))
-            ∙ sym (false_from_ne_true (any_holds f cycle leaf) (λ some. let at = child_holding leaf some in let low = leaf_bound f fam (link_at cycle at.0).node leaf at.2 in absurd (omega arith)))
+            ∙ sym (false_from_ne_true (any_holds f cycle leaf)
+            (λ some. let at = child_holding leaf some in let low = leaf_bound f fam (link_at cycle at.0).node leaf at.2 in absurd (omega arith)))
       ]
 
   apart_children : (i j leaf : ℕ) → i < length cycle → j < length cycle → Holds f (link_at cycle i).node leaf → Holds f (link_at cycle j).node leaf → i ≡ j
@@ -67,7 +70,8 @@ module _ (f : Family) (b : ℕ) (cycle : List Link) (fam : IsFamily f) (can : Ca
   covers_no : (c : ℕ) → c ≢ b → Covers after c b → ⊥
   covers_no c differs covers =
       let over : (i : ℕ) → i < length cycle → c ≡ (link_at cycle i).node =
-      (λ i within. (can.tops i within).outermost c (λ l h. sym (holds_other c l differs) ∙ covers l (holds_new l ∙ list_any_at (λ link. holds f link.node l) cycle i blank_link within h))) in
+      (λ i within. (can.tops i within).outermost c
+      (λ l h. sym (holds_other c l differs) ∙ covers l (holds_new l ∙ list_any_at (λ link. holds f link.node l) cycle i blank_link within h))) in
       let long = can.closed.long in
       let same : 0 ≡ 1 = can.closed.differ 0 1 (omega arith) (omega arith) (sym (over 0 (omega arith)) ∙ over 1 (omega arith)) in
       omega (arith, same)
@@ -83,9 +87,11 @@ module _ (f : Family) (b : ℕ) (cycle : List Link) (fam : IsFamily f) (can : Ca
         ];
       }
 
-  any_kept : (links : List Link) → ((i : ℕ) → i < length links → IsAlive f (link_at links i).node) → (leaf : ℕ) → any_holds after links leaf ≡ any_holds f links leaf
+  any_kept : (links : List Link) → ((i : ℕ) → i < length links → IsAlive f (link_at links i).node) → (leaf : ℕ) →
+      any_holds after links leaf ≡ any_holds f links leaf
   any_kept links alive leaf =
-      list_any-agree_at (λ link. holds after link.node leaf) (λ link. holds f link.node leaf) links blank_link (λ i within. holds_other (link_at links i).node leaf (not_new (link_at links i).node (alive i within)))
+      list_any-agree_at (λ link. holds after link.node leaf) (λ link. holds f link.node leaf) links blank_link
+      (λ i within. holds_other (link_at links i).node leaf (not_new (link_at links i).node (alive i within)))
 
   kept : (n leaf : ℕ) → Holds f n leaf → Holds after n leaf
   kept n leaf held = holds_other n leaf (not_new n (alive_from_holds f n leaf held)) ∙ held
@@ -124,13 +130,15 @@ module _ (f : Family) (b : ℕ) (cycle : List Link) (fam : IsFamily f) (can : Ca
   leaf_not_new : (leaf : ℕ) → leaf < leaf_count f → get_or f.leaf_nodes leaf 0 ≢ b
   leaf_not_new leaf low = not_new (get_or f.leaf_nodes leaf 0) (subst (λ o. IsSome o) (sym (fam.leaf_set leaf low)) refl)
 
-  new_disjoint : (i j leaf : ℕ) → i < length cycle → j < length cycle → Holds after (link_at cycle i).node leaf → Holds after (link_at cycle j).node leaf → i ≡ j
+  new_disjoint : (i j leaf : ℕ) → i < length cycle → j < length cycle → Holds after (link_at cycle i).node leaf → Holds after (link_at cycle j).node leaf →
+      i ≡ j
   new_disjoint i j leaf a c p q =
       apart_children i j leaf a c
       (sym (holds_other (link_at cycle i).node leaf (not_new (link_at cycle i).node (child_alive i a))) ∙ p)
       (sym (holds_other (link_at cycle j).node leaf (not_new (link_at cycle j).node (child_alive j c))) ∙ q)
 
-  old_disjoint : (n i j leaf : ℕ) → i < length (cycle_of f n) → j < length (cycle_of f n) → Holds after (link_at (cycle_of f n) i).node leaf → Holds after (link_at (cycle_of f n) j).node leaf → i ≡ j
+  old_disjoint : (n i j leaf : ℕ) → i < length (cycle_of f n) → j < length (cycle_of f n) → Holds after (link_at (cycle_of f n) i).node leaf →
+      Holds after (link_at (cycle_of f n) j).node leaf → i ≡ j
   old_disjoint n i j leaf a c p q =
       fam.disjoint n i j leaf a c
       (sym (holds_other (link_at (cycle_of f n) i).node leaf (not_new (link_at (cycle_of f n) i).node (old_cycle_alive n i a))) ∙ p)
@@ -142,10 +150,13 @@ module _ (f : Family) (b : ℕ) (cycle : List Link) (fam : IsFamily f) (can : Ca
       record {
         leaf_set = λ leaf low.
             let e = at_other (get_or f.leaf_nodes leaf 0) (leaf_not_new leaf low) in
-            e ∙ fam.leaf_set leaf low ∙ ap (λ d. Some (record { leaves = leaf ∷ []; dual = d; cycle = [] })) (sym (ap (λ o. option_map_or (λ x. x.dual) o 0) e));
+            e ∙ fam.leaf_set leaf low ∙ ap (λ d. Some (record { leaves = leaf ∷ []; dual = d; cycle = [] }))
+            (sym (ap (λ o. option_map_or (λ x. x.dual) o 0) e));
         in_order = λ n. elim (cases_eq n b) [
-          | inl same ↦ subst (λ m. leaves_of after m ≡ filter (holds after m) (range_with_len 0 (leaf_count f))) (sym same) (leaves_new ∙ filter_agree (any_holds f cycle) (holds after b) (λ l. sym (holds_new l)) (range_with_len 0 (leaf_count f)))
-          | inr differs ↦ leaves_other n differs ∙ fam.in_order n ∙ filter_agree (holds f n) (holds after n) (λ l. sym (holds_other n l differs)) (range_with_len 0 (leaf_count f))
+          | inl same ↦ subst (λ m. leaves_of after m ≡ filter (holds after m) (range_with_len 0 (leaf_count f))) (sym same)
+              (leaves_new ∙ filter_agree (any_holds f cycle) (holds after b) (λ l. sym (holds_new l)) (range_with_len 0 (leaf_count f)))
+          | inr differs ↦ leaves_other n differs ∙ fam.in_order n ∙ filter_agree (holds f n) (holds after n) (λ l. sym (holds_other n l differs))
+              (range_with_len 0 (leaf_count f))
         ];
         nested = λ a c leaf in_a in_c. elim (cases_eq a b) [
           | inl a_new ↦ elim (cases_eq c b) [
@@ -167,34 +178,43 @@ module _ (f : Family) (b : ℕ) (cycle : List Link) (fam : IsFamily f) (can : Ca
           ]
           | inr a_old ↦ elim (cases_eq c b) [
             | inl c_new ↦ absurd (covers_no a a_old (subst (λ n. Covers after a n) c_new over))
-            | inr c_old ↦ fam.apart a c (alive_other a a_old alive) (λ l h. sym (holds_other a l a_old) ∙ over l (holds_other c l c_old ∙ h)) (λ l h. sym (holds_other c l c_old) ∙ under l (holds_other a l a_old ∙ h))
+            | inr c_old ↦ fam.apart a c (alive_other a a_old alive) (λ l h. sym (holds_other a l a_old) ∙ over l (holds_other c l c_old ∙ h))
+                (λ l h. sym (holds_other c l c_old) ∙ under l (holds_other a l a_old ∙ h))
           ]
         ];
         odd = λ n alive. elim (cases_eq n b) [
-          | inl same ↦ subst (λ m. length (leaves_of after m) % 2 ≡ 1) (sym same) (ap (λ xs. length xs % 2) leaves_new ∙ ap (λ x. x % 2) (length-filter (any_holds f cycle) (range_with_len 0 (leaf_count f))) ∙ union-odd f fam cycle apart_children child_alive can.closed.odd)
+          | inl same ↦ subst (λ m. length (leaves_of after m) % 2 ≡ 1) (sym same)
+              (ap (λ xs. length xs % 2) leaves_new ∙ ap (λ x. x % 2) (length-filter (any_holds f cycle) (range_with_len 0 (leaf_count f))) ∙
+              union-odd f fam cycle apart_children child_alive can.closed.odd)
           | inr differs ↦ ap (λ xs. length xs % 2) (leaves_other n differs) ∙ fam.odd n (alive_other n differs alive)
         ];
         leaf_named = λ n alive plain. elim (cases_eq n b) [
           | inl same ↦
               let long = can.closed.long in
               absurd (plain (subst (λ m. IsBlossom after m) (sym same) (subst (λ xs. 0 < length xs) (sym cycle_new) (omega arith))))
-          | inr differs ↦ fam.leaf_named n (alive_other n differs alive) (λ blossom. plain (subst (λ xs. 0 < length xs) (sym (cycle_other n differs)) blossom))
+          | inr differs ↦ fam.leaf_named n (alive_other n differs alive)
+              (λ blossom. plain (subst (λ xs. 0 < length xs) (sym (cycle_other n differs)) blossom))
         ];
         cycles = λ n blossom. elim (cases_eq n b) [
           | inl same ↦ subst (λ m. IsCycle after (cycle_of after m)) (sym same) (subst (λ xs. IsCycle after xs) (sym cycle_new) (cycle_kept cycle can.closed))
-          | inr differs ↦ subst (λ xs. IsCycle after xs) (sym (cycle_other n differs)) (cycle_kept (cycle_of f n) (fam.cycles n (blossom_other n differs blossom)))
+          | inr differs ↦ subst (λ xs. IsCycle after xs) (sym (cycle_other n differs))
+              (cycle_kept (cycle_of f n) (fam.cycles n (blossom_other n differs blossom)))
         ];
         union = λ n leaf blossom. elim (cases_eq n b) [
-          | inl same ↦ subst (λ m. holds after m leaf ≡ any_holds after (cycle_of after m) leaf) (sym same) (holds_new leaf ∙ sym (ap (λ xs. any_holds after xs leaf) cycle_new ∙ any_kept cycle child_alive leaf))
-          | inr differs ↦ holds_other n leaf differs ∙ fam.union n leaf (blossom_other n differs blossom) ∙ sym (ap (λ xs. any_holds after xs leaf) (cycle_other n differs) ∙ any_kept (cycle_of f n) (old_cycle_alive n) leaf)
+          | inl same ↦ subst (λ m. holds after m leaf ≡ any_holds after (cycle_of after m) leaf) (sym same)
+              (holds_new leaf ∙ sym (ap (λ xs. any_holds after xs leaf) cycle_new ∙ any_kept cycle child_alive leaf))
+          | inr differs ↦ holds_other n leaf differs ∙ fam.union n leaf (blossom_other n differs blossom) ∙
+              sym (ap (λ xs. any_holds after xs leaf) (cycle_other n differs) ∙ any_kept (cycle_of f n) (old_cycle_alive n) leaf)
         ];
         disjoint = λ n i j leaf a c p q. elim (cases_eq n b) [
           | inl same ↦
               let e : cycle_of after n ≡ cycle = ap (cycle_of after) same ∙ cycle_new in
-              new_disjoint i j leaf (subst (λ xs. i < length xs) e a) (subst (λ xs. j < length xs) e c) (subst (λ xs. Holds after (link_at xs i).node leaf) e p) (subst (λ xs. Holds after (link_at xs j).node leaf) e q)
+              new_disjoint i j leaf (subst (λ xs. i < length xs) e a) (subst (λ xs. j < length xs) e c)
+              (subst (λ xs. Holds after (link_at xs i).node leaf) e p) (subst (λ xs. Holds after (link_at xs j).node leaf) e q)
           | inr differs ↦
               let e = cycle_other n differs in
-              old_disjoint n i j leaf (subst (λ xs. i < length xs) e a) (subst (λ xs. j < length xs) e c) (subst (λ xs. Holds after (link_at xs i).node leaf) e p) (subst (λ xs. Holds after (link_at xs j).node leaf) e q)
+              old_disjoint n i j leaf (subst (λ xs. i < length xs) e a) (subst (λ xs. j < length xs) e c)
+              (subst (λ xs. Holds after (link_at xs i).node leaf) e p) (subst (λ xs. Holds after (link_at xs j).node leaf) e q)
         ];
         between = λ n i o within over under. elim (cases_eq n b) [
           | inl same ↦
@@ -203,7 +223,8 @@ module _ (f : Family) (b : ℕ) (cycle : List Link) (fam : IsFamily f) (can : Ca
               let under' : Covers after o (link_at cycle i).node = subst (λ xs. Covers after o (link_at xs i).node) e under in
               elim (cases_eq o b) [
                 | inl new ↦ inl (new ∙ sym same)
-                | inr old ↦ inr ((can.tops i within').outermost o (λ l h. sym (holds_other o l old) ∙ under' l (kept (link_at cycle i).node l h)) ∙ ap (λ xs. (link_at xs i).node) (sym e))
+                | inr old ↦ inr ((can.tops i within').outermost o (λ l h. sym (holds_other o l old) ∙ under' l (kept (link_at cycle i).node l h)) ∙
+                    ap (λ xs. (link_at xs i).node) (sym e))
               ]
           | inr differs ↦
               let e = cycle_other n differs in
@@ -211,13 +232,20 @@ module _ (f : Family) (b : ℕ) (cycle : List Link) (fam : IsFamily f) (can : Ca
               let under' : Covers after o (link_at (cycle_of f n) i).node = subst (λ xs. Covers after o (link_at xs i).node) e under in
               elim (cases_eq o b) [
                 | inl new ↦ absurd (covers_no n differs (subst (λ m. Covers after n m) new over))
-                | inr old ↦ elim (fam.between n i o within' (λ l h. sym (holds_other n l differs) ∙ over l (holds_other o l old ∙ h)) (λ l h. sym (holds_other o l old) ∙ under' l (kept (link_at (cycle_of f n) i).node l h))) [
-                  | inl x ↦ inl x
-                  | inr y ↦ inr (y ∙ ap (λ xs. (link_at xs i).node) (sym e))
-                ]
+                | inr old ↦ elim (fam.between n i o within' (λ l h. sym (holds_other n l differs) ∙ over l (holds_other o l old ∙ h))
+                    (λ l h. sym (holds_other o l old) ∙ under' l (kept (link_at (cycle_of f n) i).node l h))) [
+                      | inl x ↦ inl x
+                      | inr y ↦ inr (y ∙ ap (λ xs. (link_at xs i).node) (sym e))
+                    ]
               ]
         ];
-        bounded = λ leaf. omega (arith, fam.bounded leaf, sum_by-set (share leaf) f.nodes b (Some (blossom_of f cycle)) None room, ap (share leaf) dead, zero_share leaf);
+        bounded = λ leaf. omega (
+          arith,
+          fam.bounded leaf,
+          sum_by-set (share leaf) f.nodes b (Some (blossom_of f cycle)) None room,
+          ap (share leaf) dead,
+          zero_share leaf,
+        );
       }
     where
       zero_share : (leaf : ℕ) → share leaf (Some (blossom_of f cycle)) ≡ 0
@@ -247,9 +275,11 @@ module _ (f : Family) (b : ℕ) (cycle : List Link) (fam : IsFamily f) (can : Ca
             elim (cases_eq other b) [
               | inl same ↦
                   let leaf = some_leaf f fam t top.alive in
-                  let at = in_new leaf.0 (subst (λ n. Holds g n leaf.0) same (covers leaf.0 (holds_other f b cycle fam can dead room t leaf.0 differs ∙ leaf.1))) in
+                  let at = in_new leaf.0 (subst (λ n. Holds g n leaf.0) same
+                  (covers leaf.0 (holds_other f b cycle fam can dead room t leaf.0 differs ∙ leaf.1))) in
                   absurd (apart at.0 at.1 (top-apart f fam (link_at cycle at.0).node t leaf.0 (can.tops at.0 at.1) top at.2 leaf.1))
-              | inr away ↦ top.outermost other (λ l h. sym (holds_other f b cycle fam can dead room other l away) ∙ covers l (holds_other f b cycle fam can dead room t l differs ∙ h))
+              | inr away ↦ top.outermost other
+                  (λ l h. sym (holds_other f b cycle fam can dead room other l away) ∙ covers l (holds_other f b cycle fam can dead room t l differs ∙ h))
             ];
       }
 
@@ -261,18 +291,31 @@ module _ (f : Family) (b : ℕ) (cycle : List Link) (fam : IsFamily f) (can : Ca
           alive = alive;
           outermost = λ other covers.
               let leaf = some_leaf f fam t alive in
-              let differs : other ≢ b = (λ same. not_dead f other (alive_from_holds f other leaf.0 (covers leaf.0 leaf.1)) (ap (λ n. node_at f n) same ∙ dead)) in
-              top.outermost other (λ l h. holds_other f b cycle fam can dead room other l differs ∙ covers l (sym (holds_other f b cycle fam can dead room t l away) ∙ h));
+              let differs : other ≢ b = (λ same. not_dead f other (alive_from_holds f other leaf.0 (covers leaf.0 leaf.1))
+              (ap (λ n. node_at f n) same ∙ dead)) in
+              top.outermost other (λ l h. holds_other f b cycle fam can dead room other l differs ∙
+              covers l (sym (holds_other f b cycle fam can dead room t l away) ∙ h));
         },
-        λ i within same. away (sym (top.outermost b (λ l h. new_holds i l within (subst (λ n. Holds f n l) (sym same) (sym (holds_other f b cycle fam can dead room t l away) ∙ h))))),
+        λ i within same. away (sym (top.outermost b
+            (λ l h. new_holds i l within (subst (λ n. Holds f n l) (sym same) (sym (holds_other f b cycle fam can dead room t l away) ∙ h))))),
       )
 
   -- the new blossom adds nothing to a total
   pub total-shrink : (u : ℕ) → total_of g u ≡ total_of f u
   total-shrink u =
-      omega (arith, sum_by-set (share u) f.nodes b (Some (blossom_of f cycle)) None room, ap (share u) dead, cond-same (has_leaf (blossom_of f cycle).leaves u) 0)
+      omega (
+        arith,
+        sum_by-set (share u) f.nodes b (Some (blossom_of f cycle)) None room,
+        ap (share u) dead,
+        cond-same (has_leaf (blossom_of f cycle).leaves u) 0,
+      )
 
   -- nor between two leaves
   pub duals_between-shrink : (u v : ℕ) → duals_between g u v ≡ duals_between f u v
   duals_between-shrink u v =
-      omega (arith, sum_by-set (cut_share u v) f.nodes b (Some (blossom_of f cycle)) None room, ap (cut_share u v) dead, cond-same (exactly_one (has_leaf (blossom_of f cycle).leaves u) (has_leaf (blossom_of f cycle).leaves v)) 0)
+      omega (
+        arith,
+        sum_by-set (cut_share u v) f.nodes b (Some (blossom_of f cycle)) None room,
+        ap (cut_share u v) dead,
+        cond-same (exactly_one (has_leaf (blossom_of f cycle).leaves u) (has_leaf (blossom_of f cycle).leaves v)) 0,
+      )

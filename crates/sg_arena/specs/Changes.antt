@@ -1,9 +1,11 @@
 -- What `open`, `shrink`, `expand` and `raise` make of a family.
-use Rattle.std.specs.Prelude.{◌≡◌, ◌≢◌, ℕ, ◌+◌, ◌-◌, ◌<◌, ◌≤◌, ◌^◌, List, length, Option, Some, filter, slice_set, slice_index, map, if◌then◌else◌, ◌==◌}
+use Rattle.std.specs.Prelude.{◌≡◌, ◌≢◌, ℕ, ◌+◌, ◌-◌, ◌<◌, ◌≤◌, ◌^◌, List, length, Option, Some, filter, slice_set}
+use Rattle.std.specs.Prelude.{slice_index, map, if◌then◌else◌, ◌==◌}
 use Rattle.std.specs.List.{list_any, range_with_len}
 use Rattle.std.specs.Option.{option_map}
 use Rattle.sg_arena.specs.declared.Link.{Link}
-use Rattle.sg_arena.specs.Family.{Node, Family, leaf_count, leaf_node, node_at, IsAlive, dual_of, total_of, Holds, IsTop, link_at, IsCycle, any_holds, single}
+use Rattle.sg_arena.specs.Family.{Node, Family, leaf_count, leaf_node, node_at, IsAlive, dual_of, total_of, Holds}
+use Rattle.sg_arena.specs.Family.{IsTop, link_at, IsCycle, any_holds, single}
 
 -- each leaf has a node of its own with dual 0, and there is no other node
 pub record OnlyLeaves (f : Family) : Type 0 where
@@ -41,15 +43,22 @@ with_dual change node = record node { dual = change node.dual }
 -- have fallen by it, and all else is as it was
 abbrev pub raised : Family → List ℕ → List ℕ → ℕ → Family
 raised f outer inner delta = record f {
-  nodes = map (λ name. option_map (with_dual (raised_dual outer inner delta name)) (node_at f name)) (range_with_len 0 (length f.nodes));
+  nodes = map (λ name. option_map (with_dual (raised_dual outer inner delta name)) (node_at f name))
+      (range_with_len 0 (length f.nodes));
 }
 
--- different tops; the inner ones have duals of at least delta, and the totals room to grow by it
-pub record CanRaise (f : Family) (outer inner : List ℕ) (delta : ℕ) : Type 0 where
+-- two lists of tops, all of them different
+pub record AreTops (f : Family) (outer inner : List ℕ) : Type 0 where
   pub outer_tops : (i : ℕ) → i < length outer → IsTop f (slice_index outer i)
   pub inner_tops : (i : ℕ) → i < length inner → IsTop f (slice_index inner i)
-  pub outer_differ : (i j : ℕ) → i < length outer → j < length outer → slice_index outer i ≡ slice_index outer j → i ≡ j
-  pub inner_differ : (i j : ℕ) → i < length inner → j < length inner → slice_index inner i ≡ slice_index inner j → i ≡ j
+  pub outer_differ : (i j : ℕ) → i < length outer → j < length outer →
+      slice_index outer i ≡ slice_index outer j → i ≡ j
+  pub inner_differ : (i j : ℕ) → i < length inner → j < length inner →
+      slice_index inner i ≡ slice_index inner j → i ≡ j
   pub apart : (i j : ℕ) → i < length outer → j < length inner → slice_index outer i ≢ slice_index inner j
+
+-- such tops; the inner ones have duals of at least delta, and the totals room to grow by it
+pub record CanRaise (f : Family) (outer inner : List ℕ) (delta : ℕ) : Type 0 where
+  pub tops : AreTops f outer inner
   pub enough : (i : ℕ) → i < length inner → delta ≤ dual_of f (slice_index inner i)
   pub fits : (i leaf : ℕ) → i < length outer → Holds f (slice_index outer i) leaf → total_of f leaf + delta ≤ 2 ^ 61

@@ -10,7 +10,8 @@ exactly_one false other = other
 
 -- what a node adds: its dual where its set has exactly one of the two leaves
 abbrev pub cut_share : ℕ → ℕ → Option Node → ℕ
-cut_share u v slot = option_map_or (λ n. if exactly_one (has_leaf n.leaves u) (has_leaf n.leaves v) then n.dual else 0) slot 0
+cut_share u v slot = option_map_or
+    (λ n. if exactly_one (has_leaf n.leaves u) (has_leaf n.leaves v) then n.dual else 0) slot 0
 
 -- the sum of the duals of the sets that hold exactly one of two leaves
 abbrev pub duals_between : Family → ℕ → ℕ → ℕ

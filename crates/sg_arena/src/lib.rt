@@ -354,6 +354,3 @@ fn amount_of(delta: i64) -> u64
 {
     delta as u64
 }
-
-#[cfg(test)]
-mod tests;

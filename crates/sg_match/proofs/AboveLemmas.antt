@@ -6,7 +6,8 @@ use Rattle.std.proofs.Math.Bool.{or-false}
 use Rattle.std.specs.Option.{option_map_or}
 use Rattle.sg_arena.proofs.FamilyLemmas.{alive_from_holds, child-covered, child-smaller, leaf_bound, size-positive, some_leaf, top-covers}
 use Rattle.sg_sums.proofs.ListLaws.{place_of_any}
-use Rattle.sg_arena.specs.Family.{Covers, Family, Holds, IsAlive, IsFamily, IsTop, blank_link, cycle_of, has_leaf, holds, leaf_count, leaf_node, leaves_of, link_at}
+use Rattle.sg_arena.specs.Family.{Covers, Family, Holds, IsAlive, IsFamily, IsTop, blank_link, cycle_of, has_leaf, holds, leaf_count, leaf_node, leaves_of}
+use Rattle.sg_arena.specs.Family.{link_at}
 use Rattle.sg_match.proofs.TopLemmas.{top_of}
 
 module _ (f : Family) (fam : IsFamily f) where
@@ -44,7 +45,8 @@ module _ (f : Family) (fam : IsFamily f) where
       fam.apart n e (alive_from_holds f n l held) (λ u h. leaf-covered n l low held u (subst (λ m. Holds f m u) (sym is) h)) covers
 
   -- what holds of tops and passes from blossoms to children holds of all
-  pub from_above : (P : ℕ → Type 0) → ((t : ℕ) → IsTop f t → P t) → ((b i : ℕ) → i < length (cycle_of f b) → P b → P (link_at (cycle_of f b) i).node) → (n : ℕ) → IsAlive f n → P n
+  pub from_above : (P : ℕ → Type 0) → ((t : ℕ) → IsTop f t → P t) → ((b i : ℕ) → i < length (cycle_of f b) → P b → P (link_at (cycle_of f b) i).node) →
+      (n : ℕ) → IsAlive f n → P n
   from_above P tops kids n alive =
       let leaf = some_leaf f fam n alive in
       let low = leaf_bound f fam n leaf.0 leaf.1 in
@@ -57,7 +59,8 @@ module _ (f : Family) (fam : IsFamily f) where
         | inl some ↦
             let at = place_of_any (λ link. holds f link.node leaf) (cycle_of f e) blank_link (sym (fam.union e leaf some) ∙ covers leaf held) in
             elim (fam.nested (link_at (cycle_of f e) at.0).node n leaf at.2 held) [
-              | inl over ↦ go leaf low held fuel (link_at (cycle_of f e) at.0).node (omega (arith, child-smaller f fam e at.0 at.1, small)) (child_alive e at.0 at.1) over (kids e at.0 at.1 is)
+              | inl over ↦ go leaf low held fuel (link_at (cycle_of f e) at.0).node (omega (arith, child-smaller f fam e at.0 at.1, small))
+                  (child_alive e at.0 at.1) over (kids e at.0 at.1 is)
               | inr under ↦ elim (fam.between e at.0 n at.1 covers under) [
                 | inl same ↦ subst (λ m. P m) (sym same) is
                 | inr same ↦ subst (λ m. P m) (sym same) (kids e at.0 at.1 is)
@@ -67,7 +70,8 @@ module _ (f : Family) (fam : IsFamily f) where
       ]
 
   -- a child has one blossom
-  pub one_parent : (b d i j : ℕ) → i < length (cycle_of f b) → j < length (cycle_of f d) → (link_at (cycle_of f b) i).node ≡ (link_at (cycle_of f d) j).node → b ≡ d
+  pub one_parent : (b d i j : ℕ) → i < length (cycle_of f b) → j < length (cycle_of f d) →
+      (link_at (cycle_of f b) i).node ≡ (link_at (cycle_of f d) j).node → b ≡ d
   one_parent b d i j low_i low_j same =
       let c = (link_at (cycle_of f b) i).node in
       let leaf = (link_at (cycle_of f b) i).from in

@@ -4,10 +4,11 @@ use Rattle.sg_arena.proofs.FamilyLemmas.{name_bound}
 use Rattle.sg_arena.specs.Family.{Family, Holds, IsCycle, IsFamily, after_index, cycle_of, link_at}
 use Rattle.sg_arena.specs.declared.Link.{Link}
 use Rattle.sg_match.proofs.AboveLemmas.{child_alive, not_own_child}
-use Rattle.sg_match.proofs.RotateLemmas.{IsCycle-rotated, cases_after, cases_wrapped, length-rotated, link_at-rotated, to_ring, unwrapped, wrapped, wrapped-differ, wrapped-within}
+use Rattle.sg_match.proofs.RotateLemmas.{IsCycle-rotated, cases_after, cases_wrapped, length-rotated, link_at-rotated, to_ring, unwrapped, wrapped}
+use Rattle.sg_match.proofs.RotateLemmas.{wrapped-differ, wrapped-within}
 use Rattle.sg_match.specs.Pairs.{edge_of, flipped, pair_of}
-use Rattle.sg_match.specs.Rings.{IsRung, rotated}
-use Rattle.sg_match.specs.Settled.{IsJoined, IsPairedInside}
+use Rattle.sg_match.specs.Rings.{IsRingPaired, rotated}
+use Rattle.sg_match.specs.MatePairs.{IsJoined, IsPairedInside}
 use Rattle.sg_match.specs.declared.Edge.{Edge}
 
 -- a place is the first one, or the first or second of a two behind it
@@ -21,7 +22,9 @@ cases_two (suc r) = elim (cases_two r) [
   ]
 ]
 
-module _ (f : Family) (fam : IsFamily f) (b start : ℕ) (low_start : start < length (cycle_of f b)) (old new : List (Option Edge)) (bond : Edge) (is_bond : pair_of old b ≡ Some bond) (held : Holds f (link_at (rotated start (cycle_of f b)) 0).node bond.from) (rung : IsRung old new (rotated start (cycle_of f b)) bond) where
+module _ (f : Family) (fam : IsFamily f) (b start : ℕ) (low_start : start < length (cycle_of f b)) (old new : List (Option Edge)) (pair : Edge)
+    (is_pair : pair_of old b ≡ Some pair) (held : Holds f (link_at (rotated start (cycle_of f b)) 0).node pair.from)
+    (ring_pairs : IsRingPaired old new (rotated start (cycle_of f b)) pair) where
   abbrev cycle : List Link
   cycle = cycle_of f b
 
@@ -39,19 +42,20 @@ module _ (f : Family) (fam : IsFamily f) (b start : ℕ) (low_start : start < le
 
   pub others : (m : ℕ) → ((i : ℕ) → i < length cycle → (link_at cycle i).node ≢ m) → pair_of new m ≡ pair_of old m
   others m away =
-      rung.others m (λ i low same.
+      ring_pairs.others m (λ i low same.
       let at = to_ring start cycle i low_start low in
       away at.0 at.1 (ap (λ (l : Link). l.node) at.2 ∙ same))
 
-  kept : pair_of new b ≡ Some bond
-  kept = others b (λ i low same. not_own_child f fam b i low same) ∙ is_bond
+  kept : pair_of new b ≡ Some pair
+  kept = others b (λ i low same. not_own_child f fam b i low same) ∙ is_pair
 
   -- a child has the blossom's pair or one with a sibling, from a leaf of it
   abbrev IsSide : ℕ → Type 0
-  IsSide i = ((pair_of new (link_at cycle i).node ≡ Some bond) × Holds f (link_at cycle i).node bond.from) ⊎ ((j : IsJoined f new cycle i) × Holds f (link_at cycle i).node j.pair.from)
+  IsSide i = ((pair_of new (link_at cycle i).node ≡ Some pair) × Holds f (link_at cycle i).node pair.from) ⊎
+      ((j : IsJoined f new cycle i) × Holds f (link_at cycle i).node j.pair.from)
 
   first_side : (i : ℕ) → link_at ring 0 ≡ link_at cycle i → IsSide i
-  first_side i read = inl (ap (λ (l : Link). pair_of new l.node) (sym read) ∙ rung.first, subst (λ (l : Link). Holds f l.node bond.from) read held)
+  first_side i read = inl (ap (λ (l : Link). pair_of new l.node) (sym read) ∙ ring_pairs.first, subst (λ (l : Link). Holds f l.node pair.from) read held)
 
   module _ (j : ℕ) (low : 2 * j + 2 < length cycle) where
     abbrev a : ℕ
@@ -84,10 +88,10 @@ module _ (f : Family) (fam : IsFamily f) (b start : ℕ) (low_start : start < le
     edge = edge_of (link_at ring (2 * j + 1))
 
     is_a : pair_of new (link_at cycle a).node ≡ Some edge
-    is_a = ap (λ (l : Link). pair_of new l.node) (sym read_a) ∙ rung.odd j low_ring
+    is_a = ap (λ (l : Link). pair_of new l.node) (sym read_a) ∙ ring_pairs.odd j low_ring
 
     is_z : pair_of new (link_at cycle z).node ≡ Some (flipped edge)
-    is_z = ap (λ (l : Link). pair_of new l.node) (sym read_z) ∙ rung.even j low_ring
+    is_z = ap (λ (l : Link). pair_of new l.node) (sym read_z) ∙ ring_pairs.even j low_ring
 
     from_a : Holds f (link_at cycle a).node edge.from
     from_a = subst (λ (l : Link). Holds f l.node edge.from) read_a (round.from (2 * j + 1) (omega (arith, low_ring)))
@@ -155,7 +159,7 @@ module _ (f : Family) (fam : IsFamily f) (b start : ℕ) (low_start : start < le
   IsPairedInside-ring = record {
     own = λ i low. elim (side i low) [
       | inl first ↦ record {
-        pair = bond;
+        pair = pair;
         is = first.0;
         from = first.1;
       }
@@ -171,7 +175,7 @@ module _ (f : Family) (fam : IsFamily f) (b start : ℕ) (low_start : start < le
     ];
     base = λ some.
         let at = to_ring start cycle 0 low_start (omega (arith, some, count)) in
-        (at.0, at.1, ap (λ (l : Link). pair_of new l.node) at.2 ∙ rung.first ∙ sym kept);
+        (at.0, at.1, ap (λ (l : Link). pair_of new l.node) at.2 ∙ ring_pairs.first ∙ sym kept);
   }
 
 -- the rotated ring begins at its place
@@ -185,7 +189,8 @@ first_rotated c start low = link_at-rotated start c 0 low (omega (arith, low)) �
     ]
 
 -- the nodes of a ring of children are names
-pub ring_names : (f : Family) → IsFamily f → (b start : ℕ) → start < length (cycle_of f b) → (i : ℕ) → i < length (rotated start (cycle_of f b)) → (link_at (rotated start (cycle_of f b)) i).node < length f.nodes
+pub ring_names : (f : Family) → IsFamily f → (b start : ℕ) → start < length (cycle_of f b) → (i : ℕ) → i < length (rotated start (cycle_of f b)) →
+    (link_at (rotated start (cycle_of f b)) i).node < length f.nodes
 ring_names f fam b start low_start i low =
     let at = to_ring start (cycle_of f b) i low_start low in
     subst (λ (l : Link). l.node < length f.nodes) at.2 (name_bound f (link_at (cycle_of f b) at.0).node (child_alive f fam b at.0 at.1))

@@ -1,5 +1,6 @@
 -- Listing the tops by name, and writing the mates of the leaves listed.
-use Rattle.std.proofs.Common.{List, Option, Some, [], ap, arith, get_or, inl, inr, length, length-append, set, subst, sym, ℕ, ◌+◌, ◌++◌, ◌<◌, ◌∙◌, ◌∷◌, ◌≡◌, ◌≤◌}
+use Rattle.std.proofs.Common.{List, Option, Some, [], ap, arith, get_or, inl, inr, length, length-append, set, subst, sym, ℕ, ◌+◌, ◌++◌, ◌<◌, ◌∙◌, ◌∷◌, ◌≡◌}
+use Rattle.std.proofs.Common.{◌≤◌}
 use Rattle.std.proofs.lemmas.Option.{same_Some}
 use Rattle.std.proofs.Math.ListN.{length-set}
 use Rattle.std.proofs.lemmas.Bool.{cases_eq}
@@ -10,10 +11,10 @@ use Rattle.sg_arena.specs.Family.{Family, Holds, IsFamily, IsTop, cycle_of, leaf
 use Rattle.sg_arena.specs.declared.Link.{Link}
 use Rattle.sg_match.proofs.AboveLemmas.{plain_is}
 use Rattle.sg_match.proofs.NameLemmas.{Differ-last, at_end, short}
-use Rattle.sg_match.proofs.SettlingLemmas.{Stands-left}
+use Rattle.sg_match.proofs.MatesStep.{Stands-left}
 use Rattle.sg_match.specs.Pairs.{pair_of}
 use Rattle.sg_match.specs.Names.{Differ, Stands}
-use Rattle.sg_match.specs.Settled.{HasOwn, ListsTops}
+use Rattle.sg_match.specs.MatePairs.{HasOwn, ListsTops}
 use Rattle.sg_match.specs.declared.Edge.{Edge}
 
 -- the list has each top with a name below a number once, and nothing else
@@ -76,7 +77,8 @@ pub record IsWriting (f : Family) (pairs : List (Option Edge)) (nodes mates : Li
   pub count : length mates ≡ leaf_count f
   pub written : (j : ℕ) (p : Edge) → j < k → cycle_of f (get_or nodes j 0) ≡ [] → pair_of pairs (get_or nodes j 0) ≡ Some p → get_or mates p.from 0 ≡ p.to
 
-module _ (f : Family) (fam : IsFamily f) (pairs : List (Option Edge)) (nodes : List ℕ) (own : (k : ℕ) → k < length nodes → HasOwn f pairs (get_or nodes k 0)) (differ : Differ nodes) where
+module _ (f : Family) (fam : IsFamily f) (pairs : List (Option Edge)) (nodes : List ℕ)
+    (own : (k : ℕ) → k < length nodes → HasOwn f pairs (get_or nodes k 0)) (differ : Differ nodes) where
   own_from : (k : ℕ) (p : Edge) → k < length nodes → pair_of pairs (get_or nodes k 0) ≡ Some p → Holds f (get_or nodes k 0) p.from
   own_from k p low is =
       let mine = own k low in
@@ -95,18 +97,21 @@ module _ (f : Family) (fam : IsFamily f) (pairs : List (Option Edge)) (nodes : L
       ];
     }
 
-    pub IsWriting-leaf : cycle_of f (get_or nodes k 0) ≡ [] → (p : Edge) → pair_of pairs (get_or nodes k 0) ≡ Some p → IsWriting f pairs nodes (set mates p.from p.to) (k + 1)
+    pub IsWriting-leaf : cycle_of f (get_or nodes k 0) ≡ [] → (p : Edge) → pair_of pairs (get_or nodes k 0) ≡ Some p →
+        IsWriting f pairs nodes (set mates p.from p.to) (k + 1)
     IsWriting-leaf leaf p is = record {
       count = length-set mates p.from p.to ∙ was.count;
       written = λ j q below plain is_q. elim (cases_eq j k) [
         | inl same ↦
             let e : p ≡ q = same_Some _ _ (sym is ∙ ap (λ i. pair_of pairs (get_or nodes i 0)) (sym same) ∙ is_q) in
-            ap (λ (x : Edge). get_or (set mates p.from p.to) x.from 0) (sym e) ∙ get_or-set_same mates p.from p.to 0 (omega (arith, written_low k p low is, was.count)) ∙ ap (λ (x : Edge). x.to) e
+            ap (λ (x : Edge). get_or (set mates p.from p.to) x.from 0) (sym e) ∙ get_or-set_same mates p.from p.to 0
+            (omega (arith, written_low k p low is, was.count)) ∙ ap (λ (x : Edge). x.to) e
         | inr differs ↦
             let less : j < k = omega (arith, below, differs) in
             let in_j : j < length nodes = omega (arith, less, low) in
             get_or-set_other mates p.from q.from p.to 0 (λ same. differs (differ j k in_j low
-            (sym (plain_is f fam (get_or nodes j 0) q.from (none j plain) (own_from j q in_j is_q)) ∙ ap (λ l. leaf_node f l) same ∙ plain_is f fam (get_or nodes k 0) p.from (none k leaf) (own_from k p low is))))
+            (sym (plain_is f fam (get_or nodes j 0) q.from (none j plain) (own_from j q in_j is_q)) ∙ ap (λ l. leaf_node f l) same ∙
+            plain_is f fam (get_or nodes k 0) p.from (none k leaf) (own_from k p low is))))
             ∙ was.written j q less plain is_q
       ];
     }

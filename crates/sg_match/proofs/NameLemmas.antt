@@ -1,5 +1,6 @@
 -- Lists of different names.
-use Rattle.std.proofs.Common.{ap, ◌≡◌, ◌≢◌, ℕ, suc, ◌<◌, ◌≤◌, false, eqb, List, [], ◌∷◌, length, get_or, sym, subst, arith, zero, ◌-◌, ◌⊎◌, ◌++◌, Contains, refl, ◌∙◌, inl, inr, length-append}
+use Rattle.std.proofs.Common.{ap, ◌≡◌, ◌≢◌, ℕ, suc, ◌<◌, ◌≤◌, false, eqb, List, [], ◌∷◌, length, get_or, sym, subst, arith, zero, ◌-◌, ◌⊎◌, ◌++◌, Contains}
+use Rattle.std.proofs.Common.{refl, ◌∙◌, inl, inr, length-append}
 use Rattle.std.specs.List.{AllByRecursion, IsDistinct}
 use Rattle.std.proofs.lemmas.Bool.{cases_lt, eqb-true, ne_eqb}
 use Rattle.std.proofs.lemmas.List.{get_or_append_left, get_or_default}
@@ -42,7 +43,8 @@ pub place_of_name : (xs : List ℕ) (n : ℕ) → Contains xs n → (i : ℕ) ×
 place_of_name xs n at = (at.0, at.1, get_or_default xs at.0 0 n at.1 ∙ at.2)
 
 -- an index of a list with one entry more
-pub at_end : {X : Type 0} (xs : List X) (y d : X) (k : ℕ) → k < length (xs ++ y ∷ []) → ((k < length xs) × (get_or (xs ++ y ∷ []) k d ≡ get_or xs k d)) ⊎ ((k ≡ length xs) × (get_or (xs ++ y ∷ []) k d ≡ y))
+pub at_end : {X : Type 0} (xs : List X) (y d : X) (k : ℕ) → k < length (xs ++ y ∷ []) → ((k < length xs) × (get_or (xs ++ y ∷ []) k d ≡ get_or xs k d)) ⊎
+    ((k ≡ length xs) × (get_or (xs ++ y ∷ []) k d ≡ y))
 at_end xs y d k low =
     elim (cases_lt k (length xs)) [
       | inl less ↦ inl (less, get_or_append_left xs (y ∷ []) d k less)
@@ -57,11 +59,21 @@ Differ-append xs ys dx dy apart i j low_i low_j same =
     elim (cases_lt i (length xs)) [
       | inl a ↦ elim (cases_lt j (length xs)) [
         | inl b ↦ dx i j a b (sym (get_or_append_left xs ys 0 i a) ∙ same ∙ get_or_append_left xs ys 0 j b)
-        | inr b ↦ absurd (apart (get_or xs i 0) (Contains-get_or xs i 0 a) (subst (λ n. Contains ys n) (sym (sym (get_or_append_left xs ys 0 i a) ∙ same ∙ get_or-append_right xs ys j 0 b)) (Contains-get_or ys (j - length xs) 0 (omega (arith, low_j, b, length-append xs ys)))))
+        | inr b ↦ absurd (apart (get_or xs i 0) (Contains-get_or xs i 0 a)
+            (subst (λ n. Contains ys n) (sym (sym (get_or_append_left xs ys 0 i a) ∙ same ∙ get_or-append_right xs ys j 0 b))
+            (Contains-get_or ys (j - length xs) 0 (omega (arith, low_j, b, length-append xs ys)))))
       ]
       | inr a ↦ elim (cases_lt j (length xs)) [
-        | inl b ↦ absurd (apart (get_or xs j 0) (Contains-get_or xs j 0 b) (subst (λ n. Contains ys n) (sym (get_or-append_right xs ys i 0 a) ∙ same ∙ get_or_append_left xs ys 0 j b) (Contains-get_or ys (i - length xs) 0 (omega (arith, low_i, a, length-append xs ys)))))
-        | inr b ↦ omega (arith, a, b, dy (i - length xs) (j - length xs) (omega (arith, low_i, a, length-append xs ys)) (omega (arith, low_j, b, length-append xs ys)) (sym (get_or-append_right xs ys i 0 a) ∙ same ∙ get_or-append_right xs ys j 0 b))
+        | inl b ↦ absurd (apart (get_or xs j 0) (Contains-get_or xs j 0 b)
+            (subst (λ n. Contains ys n) (sym (get_or-append_right xs ys i 0 a) ∙ same ∙ get_or_append_left xs ys 0 j b)
+            (Contains-get_or ys (i - length xs) 0 (omega (arith, low_i, a, length-append xs ys)))))
+        | inr b ↦ omega (
+          arith,
+          a,
+          b,
+          dy (i - length xs) (j - length xs) (omega (arith, low_i, a, length-append xs ys))
+              (omega (arith, low_j, b, length-append xs ys)) (sym (get_or-append_right xs ys i 0 a) ∙ same ∙ get_or-append_right xs ys j 0 b),
+        )
       ]
     ]
 

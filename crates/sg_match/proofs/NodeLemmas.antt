@@ -14,7 +14,8 @@ pub length-nodes : (cycle : List Link) → length (nodes_of cycle) ≡ length cy
 length-nodes cycle = length-map cycle (λ (l : Link). l.node)
 
 pub node_in : (cycle : List Link) (i : ℕ) → i < length cycle → Contains (nodes_of cycle) (link_at cycle i).node
-node_in cycle i low = subst (λ n. Contains (nodes_of cycle) n) (node_at_place cycle i low) (Contains-get_or (nodes_of cycle) i 0 (omega (arith, low, length-nodes cycle)))
+node_in cycle i low = subst (λ n. Contains (nodes_of cycle) n) (node_at_place cycle i low)
+    (Contains-get_or (nodes_of cycle) i 0 (omega (arith, low, length-nodes cycle)))
 
 pub place_in : (cycle : List Link) (n : ℕ) → Contains (nodes_of cycle) n → (i : ℕ) × (i < length cycle) × ((link_at cycle i).node ≡ n)
 place_in cycle n at =

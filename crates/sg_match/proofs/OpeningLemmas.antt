@@ -1,5 +1,6 @@
 -- An engine over leaves alone, as it is opened.
-use Rattle.std.proofs.Common.{◌≡◌, ℕ, ◌+◌, ◌*◌, ◌<◌, ◌%◌, false, cond, List, [], ◌∷◌, length, get_or, Option, Some, None, refl, sym, ap, ◌∙◌, subst, inr, arith}
+use Rattle.std.proofs.Common.{◌≡◌, ℕ, ◌+◌, ◌*◌, ◌<◌, ◌%◌, false, cond, List, [], ◌∷◌, length, get_or, Option, Some, None, refl, sym, ap, ◌∙◌, subst, inr}
+use Rattle.std.proofs.Common.{arith}
 use Rattle.std.proofs.lemmas.Option.{none-some}
 use Rattle.std.specs.List.{range_with_len}
 use Rattle.std.specs.Option.{option_map_or}
@@ -14,16 +15,17 @@ use Rattle.sg_arena.specs.declared.Link.{Link}
 use Rattle.sg_match.specs.Engine.{IsEngine}
 use Rattle.sg_match.specs.Feasible.{IsFeasible}
 use Rattle.sg_pairing.specs.Tight.{IsTight}
-use Rattle.sg_match.specs.Lonely.{IsLonely}
+use Rattle.sg_match.specs.Exposed.{IsExposed}
 use Rattle.sg_pairing.specs.Metric.{IsMetric, cost}
 use Rattle.sg_match.specs.Pairs.{IsPaired, pair_of}
 use Rattle.sg_match.specs.Steps.{blossoms_of, has_children, steps_left}
 use Rattle.sg_match.specs.declared.Edge.{Edge}
-use Rattle.sg_match.specs.declared.Limb.{Limb}
+use Rattle.sg_match.specs.declared.TreeEdge.{TreeEdge}
 use Rattle.sg_slack.specs.Table.{Table}
 use Rattle.sg_sums.proofs.SumLaws.{sum_below-zero, sum_by_is_sum_below}
 
-module _ (f : Family) (only : OnlyLeaves f) (t : Table) (metric : IsMetric t) (size : leaf_count f ≡ t.size) (pairs : List (Option Edge)) (room : length pairs ≡ length f.nodes) (free : (n : ℕ) → pair_of pairs n ≡ None) where
+module _ (f : Family) (only : OnlyLeaves f) (t : Table) (metric : IsMetric t) (size : leaf_count f ≡ t.size) (pairs : List (Option Edge))
+    (room : length pairs ≡ length f.nodes) (free : (n : ℕ) → pair_of pairs n ≡ None) where
   fam : IsFamily f
   fam = IsFamily-leaves f only
 
@@ -50,8 +52,8 @@ module _ (f : Family) (only : OnlyLeaves f) (t : Table) (metric : IsMetric t) (s
         tight = λ n p is some. absurd (none-some p (sym (free n) ∙ some));
       }
 
-  lonely : IsLonely f pairs None f.leaf_nodes
-  lonely =
+  exposed : IsExposed f pairs None f.leaf_nodes
+  exposed =
       record {
         tops = λ i low. IsTop-leaf f only i low;
         unpaired = λ i low. free (get_or f.leaf_nodes i 0);
@@ -71,7 +73,8 @@ module _ (f : Family) (only : OnlyLeaves f) (t : Table) (metric : IsMetric t) (s
   no_blossoms : blossoms_of f ≡ 0
   no_blossoms =
       sum_by_is_sum_below (λ o. cond (has_children o) 1 0) f.nodes None
-      ∙ sum_below-zero (λ i. cond (has_children (node_at f i)) 1 0) (length f.nodes) (λ i low. ap (λ b. cond b 1 0) (plain (node_at f i) (λ k. leaves-no_child f only i k)))
+      ∙ sum_below-zero (λ i. cond (has_children (node_at f i)) 1 0) (length f.nodes)
+      (λ i low. ap (λ b. cond b 1 0) (plain (node_at f i) (λ k. leaves-no_child f only i k)))
     where
       plain : (o : Option Node) → ((k : ℕ) → k < length (option_map_or (λ (n : Node). n.cycle) o []) → ⊥) → has_children o ≡ false
       plain None none = refl
@@ -82,19 +85,21 @@ module _ (f : Family) (only : OnlyLeaves f) (t : Table) (metric : IsMetric t) (s
           go (l ∷ rest) e bare = absurd (bare 0 (omega arith))
 
   -- the bound on the steps
-  pub steps_left-opened : (names : List ℕ) (limbs : List Limb) → names ≡ f.leaf_nodes → limbs ≡ [] → steps_left (record { family = f; table = t; pairs = pairs; lonely = names; root = None; limbs = limbs }) ≡ 2 * t.size * t.size
-  steps_left-opened names limbs named bare = rw (no_blossoms, named, size) (omega arith)
+  pub steps_left-opened : (names : List ℕ) (edges : List TreeEdge) → names ≡ f.leaf_nodes → edges ≡ [] →
+      steps_left (record { family = f; table = t; pairs = pairs; exposed = names; root = None; edges = edges }) ≡ 2 * t.size * t.size
+  steps_left-opened names edges named bare = rw (no_blossoms, named, size) (omega arith)
 
   -- the invariant holds
-  pub IsEngine-opened : (names : List ℕ) (limbs : List Limb) → names ≡ f.leaf_nodes → limbs ≡ [] → IsEngine (record { family = f; table = t; pairs = pairs; lonely = names; root = None; limbs = limbs })
-  IsEngine-opened names limbs named bare =
+  pub IsEngine-opened : (names : List ℕ) (edges : List TreeEdge) → names ≡ f.leaf_nodes → edges ≡ [] →
+      IsEngine (record { family = f; table = t; pairs = pairs; exposed = names; root = None; edges = edges })
+  IsEngine-opened names edges named bare =
       record {
         costs = metric;
         leaves = size;
         room = room;
         feasible = feasible;
         paired = paired;
-        lonely = subst (λ ns. IsLonely f pairs None ns) (sym named) lonely;
+        exposed = subst (λ ns. IsExposed f pairs None ns) (sym named) exposed;
         tree = bare;
-        left = omega (arith, steps_left-opened names limbs named bare);
+        left = omega (arith, steps_left-opened names edges named bare);
       }

@@ -33,8 +33,8 @@ module _ (f : Family) (good : ℕ → ℕ → Type 0) (pairs : List (Option Edge
 
   module _ (s t : ℕ) (top_s : IsTop f s) (top_t : IsTop f t) (low_s : s < length pairs) (low_t : t < length pairs) where
     -- taking the pair from two paired tops
-    pub IsPaired-part : (p : Edge) → pair_of pairs s ≡ Some p → Holds f t p.to → IsPaired f good (set (set pairs s None) t None)
-    IsPaired-part p is held =
+    pub IsPaired-unpair_tops : (p : Edge) → pair_of pairs s ≡ Some p → Holds f t p.to → IsPaired f good (set (set pairs s None) t None)
+    IsPaired-unpair_tops p is held =
         record {
           own = λ n q top at. paired.own n q top (old n q at).0;
           other = λ n q top at.
@@ -52,13 +52,17 @@ module _ (f : Family) (good : ℕ → ℕ → Type 0) (pairs : List (Option Edge
       where
         old : (n : ℕ) (q : Edge) → pair_of (set (set pairs s None) t None) n ≡ Some q → (pair_of pairs n ≡ Some q) × (n ≢ s) × (n ≢ t)
         old n q at =
-            let away_t : n ≢ t = λ same. absurd (none-some _ (sym (twice_second pairs s t None None low_t) ∙ sym (ap (λ x. pair_of (set (set pairs s None) t None) x) same) ∙ at)) in
-            let away_s : n ≢ s = λ same. absurd (none-some _ (sym (twice_first pairs s t None None low_s (λ e. away_t (same ∙ e))) ∙ sym (ap (λ x. pair_of (set (set pairs s None) t None) x) same) ∙ at)) in
+            let away_t : n ≢ t = λ same. absurd
+            (none-some _ (sym (twice_second pairs s t None None low_t) ∙ sym (ap (λ x. pair_of (set (set pairs s None) t None) x) same) ∙ at)) in
+            let away_s : n ≢ s = λ same. absurd
+            (none-some _ (sym (twice_first pairs s t None None low_s (λ e. away_t (same ∙ e))) ∙
+            sym (ap (λ x. pair_of (set (set pairs s None) t None) x) same) ∙ at)) in
             (sym (twice_other pairs s t n None None away_s away_t) ∙ at, away_s, away_t)
 
     -- pairing two unpaired tops
-    pub IsPaired-wed : (e : Edge) → s ≢ t → pair_of pairs s ≡ None → pair_of pairs t ≡ None → Holds f s e.from → Holds f t e.to → good e.from e.to → good e.to e.from → IsPaired f good (set (set pairs s (Some e)) t (Some (flipped e)))
-    IsPaired-wed e apart none_s none_t in_s in_t fine fine_back =
+    pub IsPaired-pair_tops : (e : Edge) → s ≢ t → pair_of pairs s ≡ None → pair_of pairs t ≡ None → Holds f s e.from → Holds f t e.to → good e.from e.to →
+        good e.to e.from → IsPaired f good (set (set pairs s (Some e)) t (Some (flipped e)))
+    IsPaired-pair_tops e apart none_s none_t in_s in_t fine fine_back =
         record {
           own = λ n q top at. elim (cases n q at) [
             | inl first ↦ subst (λ x. Holds f n x.from) first.1 (subst (λ m. Holds f m e.from) (sym first.0) in_s)
@@ -68,12 +72,32 @@ module _ (f : Family) (good : ℕ → ℕ → Type 0) (pairs : List (Option Edge
             ]
           ];
           other = λ n q top at. elim (cases n q at) [
-            | inl first ↦ (t, top_t, (λ same. apart (sym (same ∙ first.0))), subst (λ x. Holds f t x.to) first.1 in_t, twice_second pairs s t (Some e) (Some (flipped e)) low_t ∙ ap (λ x. Some (flipped x)) first.1)
+            | inl first ↦ (
+              t,
+              top_t,
+              (λ same. apart (sym (same ∙ first.0))),
+              subst (λ x. Holds f t x.to) first.1 in_t,
+              twice_second pairs s t (Some e)
+                  (Some (flipped e)) low_t ∙ ap (λ x. Some (flipped x)) first.1,
+            )
             | inr rest ↦ elim rest [
-              | inl second ↦ (s, top_s, (λ same. apart (same ∙ second.0)), subst (λ x. Holds f s x.to) second.1 in_s, twice_first pairs s t (Some e) (Some (flipped e)) low_s apart ∙ ap (λ x. Some (flipped x)) second.1)
+              | inl second ↦ (
+                s,
+                top_s,
+                (λ same. apart (same ∙ second.0)),
+                subst (λ x. Holds f s x.to) second.1 in_s,
+                twice_first pairs s t (Some e) (Some (flipped e)) low_s apart ∙ ap (λ x. Some (flipped x)) second.1,
+              )
               | inr was ↦
-                  let m = paired.other n q top was.0 in
-                  (m.0, m.1, m.2, m.3, twice_other pairs s t m.0 (Some e) (Some (flipped e)) (λ same. absurd (none-some _ (sym (sym m.4 ∙ ap (λ x. pair_of pairs x) same ∙ none_s)))) (λ same. absurd (none-some _ (sym (sym m.4 ∙ ap (λ x. pair_of pairs x) same ∙ none_t)))) ∙ m.4)
+                  let m = paired.other n q top was.0 in (
+                    m.0,
+                    m.1,
+                    m.2,
+                    m.3,
+                    twice_other pairs s t m.0 (Some e) (Some (flipped e))
+                        (λ same. absurd (none-some _ (sym (sym m.4 ∙ ap (λ x. pair_of pairs x) same ∙ none_s))))
+                        (λ same. absurd (none-some _ (sym (sym m.4 ∙ ap (λ x. pair_of pairs x) same ∙ none_t)))) ∙ m.4,
+                  )
             ]
           ];
           tight = λ n q top at. elim (cases n q at) [
@@ -85,12 +109,23 @@ module _ (f : Family) (good : ℕ → ℕ → Type 0) (pairs : List (Option Edge
           ];
         }
       where
-        cases : (n : ℕ) (q : Edge) → pair_of (set (set pairs s (Some e)) t (Some (flipped e))) n ≡ Some q → ((n ≡ s) × (e ≡ q)) ⊎ (((n ≡ t) × (flipped e ≡ q)) ⊎ ((pair_of pairs n ≡ Some q) × (n ≢ s) × (n ≢ t)))
+        cases : (n : ℕ) (q : Edge) → pair_of (set (set pairs s (Some e)) t (Some (flipped e))) n ≡ Some q → ((n ≡ s) × (e ≡ q)) ⊎
+            (((n ≡ t) × (flipped e ≡ q)) ⊎ ((pair_of pairs n ≡ Some q) × (n ≢ s) × (n ≢ t)))
         cases n q at =
             elim (cases_eq n t) [
-              | inl same ↦ inr (inl (same, same_Some _ _ (sym (twice_second pairs s t (Some e) (Some (flipped e)) low_t) ∙ sym (ap (λ x. pair_of (set (set pairs s (Some e)) t (Some (flipped e))) x) same) ∙ at)))
+              | inl same ↦ inr (inl (
+                same,
+                same_Some _ _
+                    (sym (twice_second pairs s t (Some e) (Some (flipped e)) low_t) ∙
+                    sym (ap (λ x. pair_of (set (set pairs s (Some e)) t (Some (flipped e))) x) same) ∙ at),
+              ))
               | inr away_t ↦ elim (cases_eq n s) [
-                | inl same ↦ inl (same, same_Some _ _ (sym (twice_first pairs s t (Some e) (Some (flipped e)) low_s apart) ∙ sym (ap (λ x. pair_of (set (set pairs s (Some e)) t (Some (flipped e))) x) same) ∙ at))
+                | inl same ↦ inl (
+                  same,
+                  same_Some _ _
+                      (sym (twice_first pairs s t (Some e) (Some (flipped e)) low_s apart) ∙
+                      sym (ap (λ x. pair_of (set (set pairs s (Some e)) t (Some (flipped e))) x) same) ∙ at),
+                )
                 | inr away_s ↦ inr (inr (sym (twice_other pairs s t n (Some e) (Some (flipped e)) away_s away_t) ∙ at, away_s, away_t))
               ]
             ]

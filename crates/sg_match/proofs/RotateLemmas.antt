@@ -1,5 +1,6 @@
 -- A ring read from another place on.
-use Rattle.std.proofs.Common.{List, [], ap, arith, cond, drop, eq-eqb, inl, inr, length, length-append, ltb, refl, subst, sym, take, ℕ, ◌%◌, ◌+◌, ◌++◌, ◌-◌, ◌<◌, ◌∙◌, ◌∷◌, ◌≡◌, ◌≢◌, ◌≤◌, ◌⊎◌}
+use Rattle.std.proofs.Common.{List, [], ap, arith, cond, drop, eq-eqb, inl, inr, length, length-append, ltb, refl, subst, sym, take, ℕ, ◌%◌, ◌+◌, ◌++◌, ◌-◌}
+use Rattle.std.proofs.Common.{◌<◌, ◌∙◌, ◌∷◌, ◌≡◌, ◌≢◌, ◌≤◌, ◌⊎◌}
 use Rattle.std.proofs.lemmas.Bool.{cases_eq, cases_lt, le-ltb, lt-ltb, ne_eqb}
 use Rattle.std.proofs.lemmas.List.{get_or-append_right, get_or-drop, get_or-take, get_or_append_left, length-drop, length-take-le, take_all, take_more}
 use Rattle.sg_arena.proofs.FamilyLemmas.{after_within, alive_from_holds, name_bound}
@@ -51,7 +52,9 @@ wrapped-after n i j low_i low_j =
     after_all (wrapped n i j) (after_index n (wrapped n i j)) (after_index n j) (wrapped n i (after_index n j))
     (cases_wrapped n i j) (cases_after n (wrapped n i j)) (cases_after n j) (cases_wrapped n i (after_index n j))
   where
-    after_all : (w after next there : ℕ) → ((i + j < n) × (w ≡ i + j)) ⊎ ((n ≤ i + j) × (w ≡ i + j - n)) → ((w + 1 ≡ n) × (after ≡ 0)) ⊎ ((w + 1 ≢ n) × (after ≡ w + 1)) → ((j + 1 ≡ n) × (next ≡ 0)) ⊎ ((j + 1 ≢ n) × (next ≡ j + 1)) → ((i + next < n) × (there ≡ i + next)) ⊎ ((n ≤ i + next) × (there ≡ i + next - n)) → after ≡ there
+    after_all : (w after next there : ℕ) → ((i + j < n) × (w ≡ i + j)) ⊎ ((n ≤ i + j) × (w ≡ i + j - n)) → ((w + 1 ≡ n) × (after ≡ 0)) ⊎
+        ((w + 1 ≢ n) × (after ≡ w + 1)) → ((j + 1 ≡ n) × (next ≡ 0)) ⊎ ((j + 1 ≢ n) × (next ≡ j + 1)) → ((i + next < n) × (there ≡ i + next)) ⊎
+        ((n ≤ i + next) × (there ≡ i + next - n)) → after ≡ there
     after_all w after next there at_w at_after at_next at_there = grind (arith, at_w, at_after, at_next, at_there, low_i, low_j)
 
 pub length-rotated : (i : ℕ) (c : List Link) → i ≤ length c → length (rotated i c) ≡ length c
@@ -117,7 +120,8 @@ IsCycle-rotated f c i low is =
           let next : after_index n j < n = after_within n j low_j in
           let held = is.to (wrapped n i j) (wrapped-within n i j low low_j) in
           let here : link_at c (after_index n (wrapped n i j)) ≡ link_at (rotated i c) (after_index (length (rotated i c)) j) =
-          ap (λ m. link_at c m) (wrapped-after n i j low low_j) ∙ sym (link_at-rotated i c (after_index n j) low next) ∙ ap (λ m. link_at (rotated i c) (after_index m j)) (sym count) in
+          ap (λ m. link_at c m) (wrapped-after n i j low low_j) ∙ sym (link_at-rotated i c (after_index n j) low next) ∙
+          ap (λ m. link_at (rotated i c) (after_index m j)) (sym count) in
           subst (λ (l : Link). Holds f l.node (link_at (rotated i c) j).to) here
           (subst (λ (l : Link). Holds f (link_at c (after_index n (wrapped n i j))).node l.to) (sym (link_at-rotated i c j low low_j)) held);
     }
@@ -135,7 +139,8 @@ cycle_room f c is =
     let most : length (nodes_of c) ≤ length f.nodes =
     short (nodes_of c) (length f.nodes) (Differ-cycle f c is) (λ i low_i.
     let low : i < length c = omega (arith, low_i, length-nodes c) in
-    subst (λ n. n < length f.nodes) (sym (node_at_place c i low)) (name_bound f (link_at c i).node (alive_from_holds f (link_at c i).node (link_at c i).from (is.from i low)))) in
+    subst (λ n. n < length f.nodes) (sym (node_at_place c i low))
+    (name_bound f (link_at c i).node (alive_from_holds f (link_at c i).node (link_at c i).from (is.from i low)))) in
     omega (arith, most, length-nodes c)
 
 -- the ring holds the links of the blossom's cycle from place i up to that of the node that is next
@@ -145,13 +150,19 @@ pub record IsTurning (f : Family) (blossom i : ℕ) (ring : List Link) (next : �
   pub some : 1 ≤ length ring
   pub most : length ring ≤ length (cycle_of f blossom)
   pub items : ring ≡ take (length ring) (rotated i (cycle_of f blossom))
-  pub turned : ((i + length ring < length (cycle_of f blossom)) × (place ≡ i + length ring)) ⊎ ((length (cycle_of f blossom) ≤ i + length ring) × (place + length (cycle_of f blossom) ≡ i + length ring))
+  pub turned : ((i + length ring < length (cycle_of f blossom)) × (place ≡ i + length ring)) ⊎
+      ((length (cycle_of f blossom) ≤ i + length ring) × (place + length (cycle_of f blossom) ≡ i + length ring))
 
 module _ (f : Family) (fam : IsFamily f) (blossom i child : ℕ) (at : IsChildAt f blossom i child) where
   cycle : List Link
   cycle = cycle_of f blossom
 
-  turn_again : (ring : List Link) (next after : ℕ) (link : Link) → length ring < length (cycle_of f blossom) → (place : ℕ) → IsChildAt f blossom place next → ring ≡ take (length ring) (rotated i (cycle_of f blossom)) → ((i + length ring < length (cycle_of f blossom)) × (place ≡ i + length ring)) ⊎ ((length (cycle_of f blossom) ≤ i + length ring) × (place + length (cycle_of f blossom) ≡ i + length ring)) → link ≡ link_at (cycle_of f blossom) place → IsChildAt f blossom (after_index (length (cycle_of f blossom)) place) after → IsTurning f blossom i (ring ++ link ∷ []) after
+  turn_again : (ring : List Link) (next after : ℕ) (link : Link) → length ring < length (cycle_of f blossom) → (place : ℕ) →
+      IsChildAt f blossom place next → ring ≡ take (length ring) (rotated i (cycle_of f blossom)) →
+      ((i + length ring < length (cycle_of f blossom)) × (place ≡ i + length ring)) ⊎
+      ((length (cycle_of f blossom) ≤ i + length ring) × (place + length (cycle_of f blossom) ≡ i + length ring)) →
+      link ≡ link_at (cycle_of f blossom) place → IsChildAt f blossom (after_index (length (cycle_of f blossom)) place) after →
+      IsTurning f blossom i (ring ++ link ∷ []) after
   turn_again ring next after link less place here items turned is follows =
       let count : length (ring ++ link ∷ []) ≡ length ring + 1 = length-append ring (link ∷ []) in
       let same_place : wrapped (length (cycle_of f blossom)) i (length ring) ≡ place = elim (cases_wrapped (length (cycle_of f blossom)) i (length ring)) [
@@ -164,7 +175,8 @@ module _ (f : Family) (fam : IsFamily f) (blossom i child : ℕ) (at : IsChildAt
           | inr b ↦ omega (arith, a.0, a.1, b.0, b.1)
         ]
       ] in
-      let read : link_at (rotated i (cycle_of f blossom)) (length ring) ≡ link = link_at-rotated i (cycle_of f blossom) (length ring) at.within less ∙ ap (λ k. link_at (cycle_of f blossom) k) same_place ∙ sym is in
+      let read : link_at (rotated i (cycle_of f blossom)) (length ring) ≡ link = link_at-rotated i (cycle_of f blossom) (length ring) at.within less ∙
+      ap (λ k. link_at (cycle_of f blossom) k) same_place ∙ sym is in
       record {
         place = after_index (length (cycle_of f blossom)) place;
         here = follows;
@@ -173,7 +185,8 @@ module _ (f : Family) (fam : IsFamily f) (blossom i child : ℕ) (at : IsChildAt
         items =
             ap (λ (xs : List Link). xs ++ link ∷ []) items
             ∙ ap (λ (l : Link). take (length ring) (rotated i (cycle_of f blossom)) ++ l ∷ []) (sym read)
-            ∙ sym (take_more (rotated i (cycle_of f blossom)) (length ring) blank_link (omega (arith, less, length-rotated i (cycle_of f blossom) (omega (arith, at.within)))))
+            ∙ sym (take_more (rotated i (cycle_of f blossom)) (length ring) blank_link
+            (omega (arith, less, length-rotated i (cycle_of f blossom) (omega (arith, at.within)))))
             ∙ ap (λ m. take m (rotated i (cycle_of f blossom))) (sym count);
         turned = elim (cases_after (length (cycle_of f blossom)) place) [
           | inl a ↦ elim turned [
@@ -188,7 +201,8 @@ module _ (f : Family) (fam : IsFamily f) (blossom i child : ℕ) (at : IsChildAt
       }
 
   -- the first link
-  pub IsTurning-init : (next : ℕ) (link : Link) → link ≡ link_at (cycle_of f blossom) i → IsChildAt f blossom (after_index (length (cycle_of f blossom)) i) next → IsTurning f blossom i (link ∷ []) next
+  pub IsTurning-init : (next : ℕ) (link : Link) → link ≡ link_at (cycle_of f blossom) i →
+      IsChildAt f blossom (after_index (length (cycle_of f blossom)) i) next → IsTurning f blossom i (link ∷ []) next
   IsTurning-init next link is follows =
       turn_again [] child next link (omega (arith, at.within)) i at refl (inl (omega (arith, at.within), omega arith)) is follows
 
@@ -206,16 +220,19 @@ module _ (f : Family) (fam : IsFamily f) (blossom i child : ℕ) (at : IsChildAt
               absurd (differs (sym turning.here.here ∙ ap (λ k. (link_at (cycle_of f blossom) k).node) back ∙ at.here))
         ]
 
-    pub IsTurning-more : next ≢ child → (after : ℕ) (link : Link) → link ≡ link_at (cycle_of f blossom) turning.place → IsChildAt f blossom (after_index (length (cycle_of f blossom)) turning.place) after → IsTurning f blossom i (ring ++ link ∷ []) after
+    pub IsTurning-more : next ≢ child → (after : ℕ) (link : Link) → link ≡ link_at (cycle_of f blossom) turning.place →
+        IsChildAt f blossom (after_index (length (cycle_of f blossom)) turning.place) after → IsTurning f blossom i (ring ++ link ∷ []) after
     IsTurning-more differs after link is follows =
         turn_again ring next after link (turning-less differs) turning.place turning.here turning.items turning.turned is follows
 
     -- where the child comes again, the whole cycle is listed
     pub IsTurning-done : next ≡ child → ring ≡ rotated i (cycle_of f blossom)
     IsTurning-done same =
-        let back : turning.place ≡ i = (fam.cycles blossom (omega (arith, at.within))).differ turning.place i turning.here.within at.within (turning.here.here ∙ same ∙ sym at.here) in
+        let back : turning.place ≡ i = (fam.cycles blossom (omega (arith, at.within))).differ turning.place i turning.here.within at.within
+        (turning.here.here ∙ same ∙ sym at.here) in
         let whole : length (cycle_of f blossom) ≤ length ring = elim turning.turned [
           | inl b ↦ absurd (omega (arith, b.0, b.1, back, turning.some))
           | inr b ↦ omega (arith, b.0, b.1, back)
         ] in
-        turning.items ∙ take_all (length ring) (rotated i (cycle_of f blossom)) (omega (arith, whole, length-rotated i (cycle_of f blossom) (omega (arith, at.within))))
+        turning.items ∙ take_all (length ring) (rotated i (cycle_of f blossom))
+        (omega (arith, whole, length-rotated i (cycle_of f blossom) (omega (arith, at.within))))

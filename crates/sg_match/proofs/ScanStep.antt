@@ -1,9 +1,10 @@
--- The reach that both scans give together.
-use Rattle.std.proofs.Common.{◌≡◌, ℕ, ◌*◌, ◌/◌, ◌<◌, ◌≤◌, true, false, List, ℤ, pos, ◌≤ℤ◌, Option, Some, None, FitsSigned, to_z, of_z, w64, refl, sym, ap, ◌∙◌, subst, arith}
+-- The amount that both scans give together.
+use Rattle.std.proofs.Common.{◌≡◌, ℕ, ◌*◌, ◌/◌, ◌<◌, ◌≤◌, true, false, List, ℤ, pos, ◌≤ℤ◌, Option, Some, None, FitsSigned, to_z, of_z, w64, refl, sym, ap}
+use Rattle.std.proofs.Common.{◌∙◌, subst, arith}
 use Rattle.std.specs.Int.Signed.{lt_z, quot_z}
 use Rattle.std.proofs.lemmas.Int.{ints, to_z-of_z}
 use Rattle.sg_match.specs.Scans.{IsScanned}
-use Rattle.sg_match.specs.declared.Event.TheVariants.{Reach, Join}
+use Rattle.sg_match.specs.declared.Event.TheVariants.{OuterFree, OuterOuter}
 use Rattle.sg_slack.specs.Slack.{IsLeast, IsOuterFree, IsOuterOuter, Least, slack_of}
 use Rattle.sg_slack.specs.Table.{Table}
 use Rattle.sg_slack.specs.declared.Mark.{Mark}
@@ -31,20 +32,24 @@ pub not_less_is : (x y : ℤ) (a b : ℕ) → x ≡ pos a → y ≡ pos b → lt
 not_less_is x y a b is_x is_y test = omega (arith, ints, is_x, is_y, test)
 
 module _ (t : Table) (tops : List ℕ) (totals : List ℤ) (marks : List Mark) where
-  pub IsScanned-free : (free : Pair) (both : Option Pair) (reach : ℕ) → IsLeast t totals (IsOuterFree t marks) free → free.slack ≡ pos reach → Least t totals (IsOuterOuter t tops marks) both → ((q : Pair) → both ≡ Some q → pos (2 * reach) ≤ℤ q.slack) → IsScanned t tops totals marks reach (Reach free.u free.v)
-  IsScanned-free free both reach least is least_both less =
+  pub IsScanned-free : (free : Pair) (both : Option Pair) (amount : ℕ) → IsLeast t totals (IsOuterFree t marks) free → free.slack ≡ pos amount →
+      Least t totals (IsOuterOuter t tops marks) both → ((q : Pair) → both ≡ Some q → pos (2 * amount) ≤ℤ q.slack) →
+      IsScanned t tops totals marks amount (OuterFree free.u free.v)
+  IsScanned-free free both amount least is least_both less =
       record {
         free = λ u v pair. omega (arith, ints, least.least u v pair, is);
         between = λ u v pair. go both least_both less u v pair;
         one = (least.one, sym least.slack ∙ is);
       }
     where
-      go : (o : Option Pair) → Least t totals (IsOuterOuter t tops marks) o → ((q : Pair) → o ≡ Some q → pos (2 * reach) ≤ℤ q.slack) → (u v : ℕ) → IsOuterOuter t tops marks u v → pos (2 * reach) ≤ℤ slack_of t totals u v
+      go : (o : Option Pair) → Least t totals (IsOuterOuter t tops marks) o → ((q : Pair) → o ≡ Some q → pos (2 * amount) ≤ℤ q.slack) → (u v : ℕ) →
+          IsOuterOuter t tops marks u v → pos (2 * amount) ≤ℤ slack_of t totals u v
       go None none less u v pair = absurd (none u v pair)
       go (Some q) found less u v pair = omega (arith, ints, less q refl, found.least u v pair)
 
-  pub IsScanned-both : (free both : Pair) (reach : ℕ) → IsLeast t totals (IsOuterFree t marks) free → IsLeast t totals (IsOuterOuter t tops marks) both → both.slack ≡ pos (2 * reach) → pos reach ≤ℤ free.slack → IsScanned t tops totals marks reach (Join both.u both.v)
-  IsScanned-both free both reach least least_both is less =
+  pub IsScanned-both : (free both : Pair) (amount : ℕ) → IsLeast t totals (IsOuterFree t marks) free → IsLeast t totals (IsOuterOuter t tops marks) both →
+      both.slack ≡ pos (2 * amount) → pos amount ≤ℤ free.slack → IsScanned t tops totals marks amount (OuterOuter both.u both.v)
+  IsScanned-both free both amount least least_both is less =
       record {
         free = λ u v pair. omega (arith, ints, least.least u v pair, less);
         between = λ u v pair. omega (arith, ints, least_both.least u v pair, is);

@@ -1,188 +1,296 @@
--- What a shrink of a closed climb makes of the engine's invariant.
-use Rattle.std.proofs.Common.{◌≡◌, ◌≢◌, ◌⊎◌, ℕ, zero, suc, ◌+◌, ◌<◌, ◌%◌, List, [], ◌∷◌, length, set, Option, Some, None, refl, sym, ap, ◌∙◌, subst, inl, inr, arith, eq-eqb}
-use Rattle.std.proofs.lemmas.Bool.{cases_eq, ne_eqb}
-use Rattle.std.proofs.lemmas.List.{get_or-set_other, get_or-set_same}
-use Rattle.std.specs.Option.{option_map_or}
-use Rattle.sg_arena.proofs.DualLemmas.{between-tops}
-use Rattle.sg_arena.proofs.FamilyLemmas.{cases_place, leaf_bound, not_dead, some_leaf, top-apart}
-use Rattle.sg_arena.proofs.ShrunkFamily.{IsFamily-shrink, IsTop-shrink, IsTop-shrink_old, IsTop-shrink_other, duals_between-shrink, holds_other, in_new, new_holds, total-shrink}
+-- The engine's invariant after a blossom is made of two outer tops and the tops between them.
+use Rattle.std.proofs.Common.{◌≡◌, ◌≢◌, ◌⊎◌, ℕ, zero, suc, ◌+◌, ◌*◌, ◌<◌, ◌≤◌, ◌%◌, true, false, List, length, get_or, set, Option, Some, None, Contains}
+use Rattle.std.proofs.Common.{refl, sym, ap, ◌∙◌, subst, inl, inr, arith}
+use Rattle.std.proofs.lemmas.Option.{none-some, same_Some}
+use Rattle.std.proofs.lemmas.Bool.{cases_Bool, cases_eq}
+use Rattle.std.proofs.lemmas.List.Folds.{list_any_at}
+use Rattle.std.proofs.lemmas.List.{get_or-set_other, get_or-set_same, get_or_default}
+use Rattle.std.proofs.Math.ListN.{length-set}
+use Rattle.sg_arena.proofs.FamilyLemmas.{leaf_bound, length-with_slot, name_bound, some_leaf, top-apart}
+use Rattle.sg_sums.proofs.ListLaws.{place_of_any}
+use Rattle.sg_arena.proofs.ShrunkFamily.{IsTop-shrink, IsTop-shrink_old, IsTop-shrink_other, in_new, new_holds}
 use Rattle.sg_arena.specs.Changes.{CanShrink, blossom_of, with_slot}
-use Rattle.sg_arena.specs.Family.{Family, Holds, IsFamily, IsTop, Node, after_index, cycle_of, leaf_count, link_at, node_at, total_of}
+use Rattle.sg_arena.specs.Family.{Family, Holds, IsFamily, IsTop, holds, link_at, node_at}
 use Rattle.sg_arena.specs.declared.Link.{Link}
-use Rattle.sg_match.proofs.NodeLemmas.{length-nodes, node_at_place}
-use Rattle.sg_match.specs.Feasible.{IsFeasible}
-use Rattle.sg_pairing.specs.Tight.{IsTight}
-use Rattle.sg_match.specs.Pairs.{IsPaired, flipped, pair_of}
-use Rattle.sg_match.specs.Path.{AreTight, IsPath}
-use Rattle.sg_match.specs.Climb.{IsClimb}
+use Rattle.sg_match.proofs.EngineLemmas.{even, symmetric, tree_of}
+use Rattle.sg_match.proofs.NodeLemmas.{node_in, place_in}
+use Rattle.sg_match.proofs.ShrinkTreeStep.{IsTree-shrunk, closed, inner_taken, moved, open_base}
+use Rattle.sg_match.proofs.ShrinkSetsStep.{CanShrink-tree_cycle, IsFeasible-shrunk, IsPaired-shrunk, path_head, top-not_dead}
+use Rattle.sg_match.proofs.StepsStep.{blossoms-shrunk, rest-one_fewer}
+use Rattle.sg_match.proofs.TreeLemmas.{pair_tight, inner_at, inner_top, length-inners, length-outers, outer_at, outer_cases, outer_pair, outer_top}
+use Rattle.sg_match.specs.Engine.{IsEngine}
+use Rattle.sg_match.specs.Exposed.{IsExposed, one_if}
+use Rattle.sg_pairing.specs.Metric.{cost}
+use Rattle.sg_match.specs.Pairs.{pair_of}
+use Rattle.sg_match.specs.Path.{AreTight, nodes_of}
+use Rattle.sg_match.specs.TreeCycle.{HasTight, IsTreeCycle}
+use Rattle.sg_match.specs.ShrunkTree.{CanShrinkTree, IsShrunkTree}
+use Rattle.sg_match.specs.State.{State}
+use Rattle.sg_match.specs.Steps.{blossoms_of, rest_of, steps_left, tree_left}
+use Rattle.sg_match.specs.Tree.{IsTree, any_top, edge_at, outers}
 use Rattle.sg_match.specs.declared.Edge.{Edge}
-use Rattle.sg_match.specs.declared.Limb.{Limb}
+use Rattle.sg_match.specs.declared.TreeEdge.{TreeEdge}
 
--- a link of a path
-record LinkAt (f : Family) (path : List Link) (tail i : ℕ) : Type 0 where
-  pub top : IsTop f (link_at path i).node
-  pub from : Holds f (link_at path i).node (link_at path i).from
-  pub next : suc i < length path → Holds f (link_at path (suc i)).node (link_at path i).to
-  pub last : suc i ≡ length path → Holds f tail (link_at path i).to
+module _ (s : State) (root : ℕ) (engine : IsEngine s) (rooted : s.root ≡ Some root) where
+  abbrev f : Family
+  f = s.family
 
-path_at : (f : Family) (path : List Link) (head tail i : ℕ) → i < length path → IsPath f path head tail → LinkAt f path tail i
-path_at f [] head tail i low p = absurd (omega (arith, low))
-path_at f (l ∷ []) head tail zero low p =
-    record {
-      top = subst (λ n. IsTop f n) (sym p.0) p.1;
-      from = subst (λ n. Holds f n l.from) (sym p.0) p.2;
-      next = λ less. absurd (omega (arith, less));
-      last = λ e. subst (λ n. Holds f n l.to) p.3.2 p.3.1;
-    }
-path_at f (l ∷ (m ∷ rest)) head tail zero low p =
-    record {
-      top = subst (λ n. IsTop f n) (sym p.0) p.1;
-      from = subst (λ n. Holds f n l.from) (sym p.0) p.2;
-      next = λ less. subst (λ n. Holds f n l.to) (sym p.3.2.0) p.3.1;
-      last = λ e. absurd (omega (arith, e));
-    }
-path_at f (l ∷ rest) head tail (suc i) low p =
-    let at = path_at f rest p.3.0 tail i (omega (arith, low)) p.3.2 in
-    record {
-      top = at.top;
-      from = at.from;
-      next = λ less. at.next (omega (arith, less));
-      last = λ e. at.last (omega (arith, e));
-    }
+  abbrev price : ℕ → ℕ → ℕ
+  price = cost s.table
 
-pub path_head : (f : Family) (path : List Link) (head tail : ℕ) → 0 < length path → IsPath f path head tail → (link_at path 0).node ≡ head
-path_head f [] head tail low p = absurd (omega (arith, low))
-path_head f (l ∷ rest) head tail low p = p.0
+  fam : IsFamily f
+  fam = engine.feasible.family
 
--- a name that is free is no top
-pub top-not_dead : (f : Family) (b : ℕ) → node_at f b ≡ None → (t : ℕ) → IsTop f t → t ≢ b
-top-not_dead f b dead t top same = not_dead f t top.alive (ap (λ n. node_at f n) same ∙ dead)
+  tree : IsTree f price s.pairs root s.edges
+  tree = tree_of s engine root rooted
 
--- a closed climb is a cycle of tops
-pub CanShrink-climb : (f : Family) (root : ℕ) (limbs : List Limb) (cycle : List Link) (place base : ℕ) → IsClimb f root limbs cycle place base base → CanShrink f cycle
-CanShrink-climb f root limbs cycle place base is =
-    record {
-      closed = record {
-        long = omega (arith, is.odd, is.some refl);
-        odd = is.odd;
-        differ = λ i j low_i low_j same. is.differ i j (omega (arith, low_i, length-nodes cycle)) (omega (arith, low_j, length-nodes cycle)) (node_at_place cycle i low_i ∙ same ∙ sym (node_at_place cycle j low_j));
-        from = λ i low. (path_at f cycle base base i low is.path).from;
-        to = λ i low. elim (cases_eq (i + 1) (length cycle)) [
-          | inl last ↦ subst (λ k. Holds f (link_at cycle k).node (link_at cycle i).to) (sym (at_last i last)) (subst (λ n. Holds f n (link_at cycle i).to) (sym (path_head f cycle base base (omega (arith, low)) is.path)) ((path_at f cycle base base i low is.path).last (omega (arith, last))))
-          | inr more ↦ subst (λ k. Holds f (link_at cycle k).node (link_at cycle i).to) (sym (at_more i more)) ((path_at f cycle base base i low is.path).next (omega (arith, low, more)))
-        ];
-      };
-      tops = λ i low. (path_at f cycle base base i low is.path).top;
-    }
-  where
-    at_last : (i : ℕ) → i + 1 ≡ length cycle → after_index (length cycle) i ≡ 0
-    at_last i e = rw (eq-eqb (i + 1) (length cycle) e) refl
+  pub all_tight : HasTight f price s.edges
+  all_tight = record {
+    up = tree.up_tight;
+    pair = pair_tight f price s.pairs root s.edges fam engine.paired tree;
+    symmetric = symmetric s engine;
+  }
 
-    at_more : (i : ℕ) → i + 1 ≢ length cycle → after_index (length cycle) i ≡ suc i
-    at_more i e = rw (ne_eqb (i + 1) (length cycle) e) (omega arith)
+  -- of the outer tops the root alone is unpaired
+  exposed_outer : (j n : ℕ) → j < length (outers root s.edges) → get_or (outers root s.edges) j 0 ≡ n → pair_of s.pairs n ≡ None → n ≡ root
+  exposed_outer j n low at none = elim (outer_cases root s.edges j low) [
+    | inl first ↦ sym at ∙ first.1
+    | inr tree_edge ↦ absurd (none-some _
+        (sym none ∙ ap (λ m. pair_of s.pairs m) (sym at ∙ tree_edge.3) ∙
+        outer_pair f price s.pairs root s.edges fam engine.paired tree tree_edge.0 tree_edge.1))
+  ]
 
-module _ (f : Family) (cost : ℕ → ℕ → ℕ) (b : ℕ) (cycle : List Link) (feasible : IsFeasible f cost) (can : CanShrink f cycle) (dead : node_at f b ≡ None) (room : b < length f.nodes) (tight : AreTight f cost cycle) (even : (u v : ℕ) → u < leaf_count f → v < leaf_count f → cost u v % 2 ≡ 0) where
-  abbrev fam : IsFamily f
-  fam = feasible.family
+  module _ (cycle : List Link) (place base : ℕ) (tree_cycle : IsTreeCycle f root s.edges cycle place base base) where
+    pub can : CanShrink f cycle
+    can = CanShrink-tree_cycle f root s.edges cycle place base tree_cycle
 
-  abbrev g : Family
-  g = with_slot f b (Some (blossom_of f cycle))
+    some : 0 < length cycle
+    some = omega (arith, can.closed.long)
 
-  -- along the cycle the totals have one parity
-  chain : (i : ℕ) → i < length cycle → (u v : ℕ) → Holds f (link_at cycle 0).node u → Holds f (link_at cycle i).node v → total_of f u % 2 ≡ total_of f v % 2
-  chain zero low u v in_u in_v = feasible.parity (link_at cycle 0).node u v (can.tops 0 low) in_u in_v
-  chain (suc i) low u v in_u in_v =
-      let before : i < length cycle = omega (arith, low) in
-      let e : after_index (length cycle) i ≡ suc i = rw (ne_eqb (i + 1) (length cycle) (omega (arith, low))) (omega arith) in
-      let l = link_at cycle i in
-      let next : Holds f (link_at cycle (suc i)).node l.to = subst (λ k. Holds f (link_at cycle k).node l.to) e (can.closed.to i before) in
-      let from = can.closed.from i before in
-      let apart : l.node ≢ (link_at cycle (suc i)).node = λ same. absurd (omega (arith, can.closed.differ i (suc i) before low same)) in
-      omega (
-        arith,
-        chain i before u l.from in_u from,
-        feasible.parity (link_at cycle (suc i)).node l.to v (can.tops (suc i) low) next in_v,
-        between-tops f fam l.node (link_at cycle (suc i)).node l.from l.to (can.tops i before) (can.tops (suc i) low) apart from next,
-        tight i before,
-        even l.from l.to (leaf_bound f fam l.node l.from from) (leaf_bound f fam (link_at cycle (suc i)).node l.to next),
-      )
+    base_first : (link_at cycle 0).node ≡ base
+    base_first = path_head f cycle base base some tree_cycle.path
 
-  -- parts 1, 2 and 5
-  pub IsFeasible-shrunk : IsFeasible g cost
-  IsFeasible-shrunk =
-      record {
-        family = IsFamily-shrink f b cycle fam can dead room;
-        slack = λ u v low_u low_v. omega (arith, duals_between-shrink f b cycle fam can dead room u v, feasible.slack u v low_u low_v);
-        links = λ name i. link_tight name (cases_eq name b) i;
-        parity = λ t u v top in_u in_v. elim (cases_eq t b) [
-          | inl same ↦
-              let a = in_new f b cycle fam can dead room u (subst (λ n. Holds g n u) same in_u) in
-              let c = in_new f b cycle fam can dead room v (subst (λ n. Holds g n v) same in_v) in
-              let first = some_leaf f fam (link_at cycle 0).node (can.tops 0 (omega (arith, can.closed.long))).alive in
-              omega (arith, chain a.0 a.1 first.0 u first.1 a.2, chain c.0 c.1 first.0 v first.1 c.2, total-shrink f b cycle fam can dead room u, total-shrink f b cycle fam can dead room v)
-          | inr away ↦
-              let old = IsTop-shrink_old f b cycle fam can dead room t top away in
-              omega (arith, feasible.parity t u v old.0 (sym (holds_other f b cycle fam can dead room t u away) ∙ in_u) (sym (holds_other f b cycle fam can dead room t v away) ∙ in_v), total-shrink f b cycle fam can dead room u, total-shrink f b cycle fam can dead room v)
-        ];
+    base_in : Contains (nodes_of cycle) base
+    base_in = subst (λ n. Contains (nodes_of cycle) n) base_first (node_in cycle 0 some)
+
+    pub base_low : base < length s.pairs
+    base_low = omega (arith, name_bound f base (subst (λ n. IsTop f n) base_first (can.tops 0 some)).alive, engine.room)
+
+    -- an unpaired top of the cycle is the root
+    exposed_node : (n : ℕ) → Contains (nodes_of cycle) n → pair_of s.pairs n ≡ None → n ≡ root
+    exposed_node n is none = elim (tree_cycle.spot n is) [
+      | inl head ↦ exposed_outer tree_cycle.head_at.0 n (omega (arith, tree_cycle.head_at.1, tree_cycle.within, length-outers root s.edges))
+          (tree_cycle.head_at.2 ∙ sym head) none
+      | inr rest ↦ elim rest [
+        | inl out ↦ exposed_outer out.0 n out.2 out.3 none
+        | inr inn ↦
+            let low : inn.0 < length s.edges = omega (arith, inn.2, length-inners s.edges) in
+            absurd (none-some _ (sym none ∙ ap (λ m. pair_of s.pairs m) (sym inn.3 ∙ inner_at s.edges inn.0 low) ∙ tree.pair inn.0 low))
+      ]
+    ]
+
+    -- a tree edge whose inner top is in the cycle
+    edge_in : (m : ℕ) × (place ≤ m) × (m < length s.edges) × Contains (nodes_of cycle) (edge_at s.edges m).inner
+    edge_in = elim (tree_cycle.spot second (node_in cycle 1 two)) [
+      | inl head ↦ absurd (zero_one (can.closed.differ 0 1 some two (base_first ∙ sym head)))
+      | inr rest ↦ elim rest [
+        | inl out ↦ from_outer out.0 out.1 out.2 out.3
+        | inr inn ↦
+            let low : inn.0 < length s.edges = omega (arith, inn.2, length-inners s.edges) in
+            (inn.0, inn.1, low, subst (λ n. Contains (nodes_of cycle) n) (sym inn.3 ∙ inner_at s.edges inn.0 low) (node_in cycle 1 two))
+      ]
+    ]
+      where
+        two : 1 < length cycle
+        two = omega (arith, can.closed.long)
+
+        second : ℕ
+        second = (link_at cycle 1).node
+
+        zero_one : ◌≡◌ {A = ℕ} 0 1 → ⊥
+        zero_one e = omega (arith, e)
+
+        from_outer : (j : ℕ) → place < j → j < length (outers root s.edges) → get_or (outers root s.edges) j 0 ≡ (link_at cycle 1).node →
+            (m : ℕ) × (place ≤ m) × (m < length s.edges) × Contains (nodes_of cycle) (edge_at s.edges m).inner
+        from_outer zero far low at = absurd (omega (arith, far))
+        from_outer (suc m) far low at =
+            let low_m : m < length s.edges = omega (arith, low, length-outers root s.edges) in
+            let late : place ≤ m = omega (arith, far) in (
+              m,
+              late,
+              low_m,
+              (tree_cycle.whole m late low_m).1
+                  (subst (λ n. Contains (nodes_of cycle) n) (sym at ∙ outer_at root s.edges m low_m) (node_in cycle 1 two)),
+            )
+
+    -- an outer top of the cycle whose inner top is not in it is the base
+    outer_is_base : (i : ℕ) → i < length s.edges → (Contains (nodes_of cycle) (edge_at s.edges i).inner → ⊥) →
+        Contains (nodes_of cycle) (edge_at s.edges i).outer → (edge_at s.edges i).outer ≡ base
+    outer_is_base i low away is = elim (tree_cycle.spot (edge_at s.edges i).outer is) [
+      | inl head ↦ head
+      | inr rest ↦ elim rest [
+        | inl out ↦
+            let place_is : out.0 ≡ suc i = tree.shape.tops.outer_differ out.0 (suc i) out.2 within (out.3 ∙ sym (outer_at root s.edges i low)) in
+            absurd (away ((tree_cycle.whole i (omega (arith, place_is, out.1)) low).1 is))
+        | inr inn ↦ absurd (tree.shape.tops.apart (suc i) inn.0 within inn.2 (outer_at root s.edges i low ∙ sym inn.3))
+      ]
+    ]
+      where
+        within : suc i < length (outers root s.edges)
+        within = omega (arith, low, length-outers root s.edges)
+
+    module _ (b : ℕ) (dead : node_at f b ≡ None) (room : b < length f.nodes) where
+      abbrev g : Family
+      g = with_slot f b (Some (blossom_of f cycle))
+
+      -- a top that shares a leaf with the new blossom is in the cycle
+      in_cycle : (t l : ℕ) → IsTop f t → Holds f t l → Holds g b l → Contains (nodes_of cycle) t
+      in_cycle t l top held is =
+          let at = in_new f b cycle fam can dead room l is in
+          subst (λ n. Contains (nodes_of cycle) n) (top-apart f fam (link_at cycle at.0).node t l (can.tops at.0 at.1) top at.2 held)
+          (node_in cycle at.0 at.1)
+
+      in_blossom : (n l : ℕ) → Contains (nodes_of cycle) n → Holds f n l → Holds g b l
+      in_blossom n l is held =
+          let at = place_in cycle n is in
+          new_holds f b cycle fam can dead room at.0 l at.1 (subst (λ m. Holds f m l) (sym at.2) held)
+
+      pub CanShrinkTree-shrunk : CanShrinkTree g (nodes_of cycle) base b s.edges
+      CanShrinkTree-shrunk = record {
+        top = IsTop-shrink f b cycle fam can dead room;
+        hit = λ i low is. in_cycle (edge_at s.edges i).inner (edge_at s.edges i).up.from (inner_top f root s.edges tree.shape i low)
+            (tree.shape.up_from i low) is;
+        miss = λ i low no is. no (in_blossom (edge_at s.edges i).inner (edge_at s.edges i).up.from is (tree.shape.up_from i low));
+        outer_hit = λ i low away is. outer_is_base i low away
+            (in_cycle (edge_at s.edges i).outer (edge_at s.edges i).pair.to (outer_top f root s.edges tree.shape i low) ((tree.shape.edge i low).pair_to) is);
+        outer_miss = λ i low same. in_blossom (edge_at s.edges i).outer (edge_at s.edges i).pair.to
+            (subst (λ n. Contains (nodes_of cycle) n) (sym same) base_in) ((tree.shape.edge i low).pair_to);
       }
-    where
-      link_tight : (name : ℕ) → (name ≡ b) ⊎ (name ≢ b) → (i : ℕ) → i < length (cycle_of g name) → IsTight g cost (link_at (cycle_of g name) i).from (link_at (cycle_of g name) i).to
-      link_tight name (inl same) i low =
-          let e : cycle_of g name ≡ cycle = ap (λ o. option_map_or (λ (n : Node). n.cycle) o []) (ap (λ n. node_at g n) same ∙ get_or-set_same f.nodes b (Some (blossom_of f cycle)) None room) in
-          subst (λ c. IsTight g cost (link_at c i).from (link_at c i).to) (sym e)
-          (duals_between-shrink f b cycle fam can dead room (link_at cycle i).from (link_at cycle i).to ∙ tight i (subst (λ c. i < length c) e low))
-      link_tight name (inr away) i low =
-          let e : cycle_of g name ≡ cycle_of f name = ap (λ o. option_map_or (λ (n : Node). n.cycle) o []) (get_or-set_other f.nodes b name (Some (blossom_of f cycle)) None away) in
-          subst (λ c. IsTight g cost (link_at c i).from (link_at c i).to) (sym e)
-          (duals_between-shrink f b cycle fam can dead room (link_at (cycle_of f name) i).from (link_at (cycle_of f name) i).to ∙ feasible.links name i (subst (λ c. i < length c) e low))
 
-  -- the base's pair becomes the blossom's, and the others of the cycle are paired in it
-  module _ (pairs : List (Option Edge)) (paired : IsPaired f (IsTight f cost) pairs) (base : ℕ) (place : ℕ) (at : place < length cycle) (is_base : (link_at cycle place).node ≡ base) (names : b < length pairs)
-      (closed : (i : ℕ) (p : Edge) → i < length cycle → (link_at cycle i).node ≢ base → pair_of pairs (link_at cycle i).node ≡ Some p → (j : ℕ) × (j < length cycle) × Holds f (link_at cycle j).node p.to)
-      (open_base : (j : ℕ) (p : Edge) → j < length cycle → pair_of pairs base ≡ Some p → Holds f (link_at cycle j).node p.to → ⊥) where
-    abbrev now : List (Option Edge)
-    now = set pairs b (pair_of pairs base)
+      module _ (tight : AreTight f price cycle) (top_root : ℕ) (root_base : root ≡ base → top_root ≡ b) (root_other : root ≢ base → top_root ≡ root)
+          (new : List TreeEdge) (reg : IsShrunkTree b base (nodes_of cycle) s.edges new) where
+        abbrev now : List (Option Edge)
+        now = set s.pairs b (pair_of s.pairs base)
 
-    now_new : pair_of now b ≡ pair_of pairs base
-    now_new = get_or-set_same pairs b (pair_of pairs base) None names
+        names : b < length s.pairs
+        names = omega (arith, room, engine.room)
 
-    now_other : (n : ℕ) → n ≢ b → pair_of now n ≡ pair_of pairs n
-    now_other n away = get_or-set_other pairs b n (pair_of pairs base) None away
+        now_other : (n : ℕ) → n ≢ b → pair_of now n ≡ pair_of s.pairs n
+        now_other n away = get_or-set_other s.pairs b n (pair_of s.pairs base) None away
 
-    base_top : IsTop f base
-    base_top = subst (λ n. IsTop f n) is_base (can.tops place at)
+        now_new : pair_of now b ≡ pair_of s.pairs base
+        now_new = get_or-set_same s.pairs b (pair_of s.pairs base) None names
 
-    pub IsPaired-shrunk : IsPaired g (IsTight g cost) now
-    IsPaired-shrunk =
-        record {
-          own = λ t p top is. elim (cases_eq t b) [
-            | inl same ↦ subst (λ n. Holds g n p.from) (sym same) (new_holds f b cycle fam can dead room place p.from at (subst (λ n. Holds f n p.from) (sym is_base) (paired.own base p base_top (sym now_new ∙ ap (λ n. pair_of now n) (sym same) ∙ is))))
-            | inr away ↦ holds_other f b cycle fam can dead room t p.from away ∙ paired.own t p (IsTop-shrink_old f b cycle fam can dead room t top away).0 (sym (now_other t away) ∙ is)
-          ];
-          other = λ t p top is. elim (cases_eq t b) [
-            | inl same ↦
-                let was : pair_of pairs base ≡ Some p = sym now_new ∙ ap (λ n. pair_of now n) (sym same) ∙ is in
-                let m = paired.other base p base_top was in
-                let away = top-not_dead f b dead m.0 m.1 in
-                (m.0, IsTop-shrink_other f b cycle fam can dead room m.0 m.1 (λ i low e. open_base i p low was (subst (λ n. Holds f n p.to) (sym e) m.3)), (λ e. away (e ∙ same)), holds_other f b cycle fam can dead room m.0 p.to away ∙ m.3, now_other m.0 away ∙ m.4)
-            | inr away ↦
-                let old = IsTop-shrink_old f b cycle fam can dead room t top away in
-                let was : pair_of pairs t ≡ Some p = sym (now_other t away) ∙ is in
-                let m = paired.other t p old.0 was in
-                elim (cases_place cycle m.0) [
-                  | inl hit ↦ elim (cases_eq (link_at cycle hit.0).node base) [
-                    | inl e ↦ (b, IsTop-shrink f b cycle fam can dead room, (λ same. away (sym same)), new_holds f b cycle fam can dead room hit.0 p.to hit.1 (subst (λ n. Holds f n p.to) (sym hit.2) m.3), now_new ∙ ap (λ n. pair_of pairs n) (sym e ∙ hit.2) ∙ m.4)
-                    | inr e ↦
-                        let back = closed hit.0 (flipped p) hit.1 e (ap (λ n. pair_of pairs n) hit.2 ∙ m.4) in
-                        absurd (old.1 back.0 back.1 (top-apart f fam (link_at cycle back.0).node t p.from (can.tops back.0 back.1) old.0 back.2 (paired.own t p old.0 was)))
-                  ]
-                  | inr miss ↦
-                      let fresh = top-not_dead f b dead m.0 m.1 in
-                      (m.0, IsTop-shrink_other f b cycle fam can dead room m.0 m.1 miss, m.2, holds_other f b cycle fam can dead room m.0 p.to fresh ∙ m.3, now_other m.0 fresh ∙ m.4)
-                ]
-          ];
-          tight = λ t p top is. duals_between-shrink f b cycle fam can dead room p.from p.to ∙ elim (cases_eq t b) [
-            | inl same ↦ paired.tight base p base_top (sym now_new ∙ ap (λ n. pair_of now n) (sym same) ∙ is)
-            | inr away ↦ paired.tight t p (IsTop-shrink_old f b cycle fam can dead room t top away).0 (sym (now_other t away) ∙ is)
-          ];
+        -- an unpaired top but for the root is not in the cycle
+        out_of_cycle : (i k : ℕ) → i < length s.exposed → k < length cycle → (link_at cycle k).node ≢ get_or s.exposed i 0
+        out_of_cycle i k low low_k same =
+            let is_root : get_or s.exposed i 0 ≡ root = exposed_node (get_or s.exposed i 0)
+            (subst (λ n. Contains (nodes_of cycle) n) same (node_in cycle k low_k)) (engine.exposed.unpaired i low) in
+            engine.exposed.rootless i low (rooted ∙ ap (λ n. Some n) (sym is_root))
+
+        IsExposed-shrunk : IsExposed g now (Some top_root) s.exposed
+        IsExposed-shrunk =
+            record {
+              tops = λ i low. IsTop-shrink_other f b cycle fam can dead room (get_or s.exposed i 0) (engine.exposed.tops i low)
+                  (λ k low_k. out_of_cycle i k low low_k);
+              unpaired = λ i low. now_other (get_or s.exposed i 0) (top-not_dead f b dead (get_or s.exposed i 0) (engine.exposed.tops i low)) ∙
+                  engine.exposed.unpaired i low;
+              differ = engine.exposed.differ;
+              rootless = λ i low same. elim (cases_eq root base) [
+                | inl e ↦ top-not_dead f b dead (get_or s.exposed i 0) (engine.exposed.tops i low) (sym (same_Some _ _ same) ∙ root_base e)
+                | inr e ↦ engine.exposed.rootless i low (rooted ∙ ap (λ n. Some n) (sym (root_other e)) ∙ same)
+              ];
+              every = λ t top none. elim (cases_eq t b) [
+                | inl same ↦ inl (ap (λ n. Some n)
+                    (root_base (sym (exposed_node base base_in (sym now_new ∙ ap (λ n. pair_of now n) (sym same) ∙ none))) ∙ sym same))
+                | inr away ↦ from_old t (IsTop-shrink_old f b cycle fam can dead room t top away) (sym (now_other t away) ∙ none)
+              ];
+              even = even_again;
+            }
+          where
+            from_old : (t : ℕ) → IsTop f t × ((i : ℕ) → i < length cycle → (link_at cycle i).node ≢ t) → pair_of s.pairs t ≡ None →
+                (◌≡◌ {A = Option ℕ} (Some top_root) (Some t)) ⊎ ((i : ℕ) × (i < length s.exposed) × (get_or s.exposed i 0 ≡ t))
+            from_old t old none = elim (engine.exposed.every t old.0 none) [
+              | inl is ↦
+                  let same : root ≡ t = same_Some _ _ (sym rooted ∙ is) in
+                  inl (ap (λ n. Some n) (root_other (λ e. old.1 0 some (base_first ∙ sym e ∙ same)) ∙ same))
+              | inr at ↦ inr at
+            ]
+
+            even_again : (length s.exposed + 1) % 2 ≡ 0
+            even_again = subst (λ o. (length s.exposed + one_if o) % 2 ≡ 0) rooted engine.exposed.even
+
+        abbrev after : State
+        after = record { family = g; table = s.table; pairs = now; exposed = s.exposed; root = Some top_root; edges = new }
+
+        -- a leaf of an inner top of the cycle is an outer leaf now
+        rest_falls : rest_of g top_root new + 1 ≤ rest_of f root s.edges
+        rest_falls =
+            rest-one_fewer f g root top_root s.edges new leaf.0 refl (leaf_bound f fam (edge_at s.edges edge_in.0).inner leaf.0 leaf.1)
+            kept before gained
+          where
+            inner_is_top : IsTop f (edge_at s.edges edge_in.0).inner
+            inner_is_top = inner_top f root s.edges tree.shape edge_in.0 edge_in.2
+
+            leaf : (l : ℕ) × Holds f (edge_at s.edges edge_in.0).inner l
+            leaf = some_leaf f fam (edge_at s.edges edge_in.0).inner inner_is_top.alive
+
+            kept : (l : ℕ) → any_top f (outers root s.edges) l ≡ true → any_top g (outers top_root new) l ≡ true
+            kept l is =
+                let at = place_of_any (λ t. holds f t l) (outers root s.edges) 0 is in
+                let here = moved f price b cycle engine.feasible dead room tight
+                (even s engine) s.pairs engine.paired root s.edges tree place base tree_cycle names top_root root_base root_other new reg at.0 l at.1
+                at.2 in
+                list_any_at (λ t. holds g t l) (outers top_root new) here.0 0 here.1 here.2
+
+            gained : any_top g (outers top_root new) leaf.0 ≡ true
+            gained =
+                let here = inner_taken f price b cycle engine.feasible dead room tight
+                (even s engine) s.pairs engine.paired root s.edges tree place base tree_cycle names top_root root_base root_other new reg edge_in.0
+                leaf.0 edge_in.1 edge_in.2 edge_in.3 leaf.1 in
+                list_any_at (λ t. holds g t leaf.0) (outers top_root new) here.0 0 here.1 here.2
+
+            before : any_top f (outers root s.edges) leaf.0 ≡ false
+            before = elim (cases_Bool (any_top f (outers root s.edges) leaf.0)) [
+              | inl is ↦
+                  let at = place_of_any (λ t. holds f t leaf.0) (outers root s.edges) 0 is in
+                  absurd (tree.shape.tops.apart at.0 edge_in.0 at.1 (omega (arith, edge_in.2, length-inners s.edges))
+                  (top-apart f fam (get_or (outers root s.edges) at.0 0) (edge_at s.edges edge_in.0).inner leaf.0
+                  (tree.shape.tops.outer_tops at.0 at.1) inner_is_top at.2 leaf.1 ∙ sym (inner_at s.edges edge_in.0 edge_in.2)))
+              | inr away ↦ away
+            ]
+
+        fewer_left : steps_left after + 2 ≤ steps_left s
+        fewer_left =
+            let was : steps_left s ≡ tree_left f s.exposed (Some root) s.edges + 2 * blossoms_of f =
+            ap (λ o. tree_left f s.exposed o s.edges + 2 * blossoms_of f) rooted in
+            omega (arith, was, rest_falls, blossoms-shrunk f b cycle dead room some)
+
+        IsEngine-shrunk : IsEngine after
+        IsEngine-shrunk = record {
+          costs = engine.costs;
+          leaves = engine.leaves;
+          room = length-set s.pairs b (pair_of s.pairs base) ∙ engine.room ∙ sym (length-with_slot f b (Some (blossom_of f cycle)));
+          feasible = IsFeasible-shrunk f price b cycle engine.feasible can dead room tight (even s engine);
+          paired = IsPaired-shrunk f price b cycle engine.feasible can dead room tight (even s engine) s.pairs engine.paired base 0 some base_first names
+              (closed f price b cycle engine.feasible dead room tight (even s engine) s.pairs engine.paired root s.edges tree place base tree_cycle)
+              (open_base f price b cycle engine.feasible dead room tight (even s engine) s.pairs engine.paired root s.edges tree place base tree_cycle);
+          exposed = IsExposed-shrunk;
+          tree = IsTree-shrunk f price b cycle engine.feasible dead room tight
+              (even s engine) s.pairs engine.paired root s.edges tree place base tree_cycle names top_root root_base root_other new reg;
+          left = omega (arith, fewer_left, engine.left);
         }
+
+        -- the same, where the family and the pair are only known to be these
+        pub shrunk : (h : Family) → h ≡ g → (p : Option Edge) → p ≡ get_or s.pairs base p →
+            IsEngine (record { family = h; table = s.table; pairs = set s.pairs b p; exposed = s.exposed; root = Some top_root; edges = new }) ×
+            (steps_left (record { family = h; table = s.table; pairs = set s.pairs b p; exposed = s.exposed; root = Some top_root; edges = new }) + 2 ≤
+            steps_left s)
+        shrunk h made p read =
+            subst (λ x. IsEngine (record { family = x; table = s.table; pairs = set s.pairs b p; exposed = s.exposed; root = Some top_root; edges = new }) ×
+            (steps_left (record { family = x; table = s.table; pairs = set s.pairs b p; exposed = s.exposed; root = Some top_root; edges = new }) + 2 ≤
+            steps_left s)) (sym made)
+            (subst (λ x. IsEngine (record { family = g; table = s.table; pairs = set s.pairs b x; exposed = s.exposed; root = Some top_root; edges = new })
+            × (steps_left (record { family = g; table = s.table; pairs = set s.pairs b x; exposed = s.exposed; root = Some top_root; edges = new }) + 2
+            ≤ steps_left s)) (sym (read ∙ get_or_default s.pairs base p None base_low))
+            (IsEngine-shrunk, fewer_left))

@@ -3,28 +3,31 @@ use Rattle.std.specs.Prelude.{◌≡◌, ◌≢◌, ℕ, ◌<◌, List, length, 
 use Rattle.sg_arena.specs.Family.{Family, Holds, leaf_count, IsTop}
 use Rattle.sg_pairing.specs.Tight.{IsTight}
 use Rattle.sg_match.specs.Pairs.{pair_of, IsPaired}
-use Rattle.sg_match.specs.Tree.{outers, IsTree, IsOut}
+use Rattle.sg_match.specs.Tree.{IsOuterLeaf, IsTree, IsOut}
 use Rattle.sg_match.specs.declared.Edge.{Edge}
-use Rattle.sg_match.specs.declared.Limb.{Limb}
+use Rattle.sg_match.specs.declared.TreeEdge.{TreeEdge}
 
--- a limb's names are tops and the end of its edge is a leaf
-pub record HasTops (f : Family) (limb : Limb) : Type 0 where
-  pub inner : IsTop f limb.inner
-  pub outer : IsTop f limb.outer
-  pub to : limb.edge.to < leaf_count f
+-- the two tops of a tree edge, and the leaf where it ends
+pub record HasTops (f : Family) (tree_edge : TreeEdge) : Type 0 where
+  pub inner : IsTop f tree_edge.inner
+  pub outer : IsTop f tree_edge.outer
+  pub to : tree_edge.up.to < leaf_count f
 
 -- a tight pair from a leaf of an outer top to one of an unpaired top outside the tree
-pub record CanFlip (f : Family) (cost : ℕ → ℕ → ℕ) (pairs : List (Option Edge)) (root : ℕ) (limbs : List Limb) (u v : ℕ) : Type 0 where
+pub record CanAugment (f : Family) (cost : ℕ → ℕ → ℕ) (pairs : List (Option Edge)) (root : ℕ) (edges : List TreeEdge)
+    (u v : ℕ) : Type 0 where
   pub paired : IsPaired f (IsTight f cost) pairs
-  pub tree : IsTree f cost pairs root limbs
+  pub tree : IsTree f cost pairs root edges
   pub symmetric : (a b : ℕ) → a < leaf_count f → b < leaf_count f → cost a b ≡ cost b a
-  pub outer : (i : ℕ) × (i < length (outers root limbs)) × Holds f (slice_index (outers root limbs) i) u
-  pub lone : (t : ℕ) → IsTop f t → Holds f t v → IsOut root limbs t × (pair_of pairs t ≡ None)
+  pub outer : IsOuterLeaf f root edges u
+  pub exposed : (t : ℕ) → IsTop f t → Holds f t v → IsOut root edges t × (pair_of pairs t ≡ None)
   pub tight : IsTight f cost u v
 
 -- a pairing in which the root and the top of a leaf are paired too, and no other
-pub record Flipped (f : Family) (cost : ℕ → ℕ → ℕ) (old new : List (Option Edge)) (root v : ℕ) : Type 0 where
+pub record IsAugmented (f : Family) (cost : ℕ → ℕ → ℕ) (old new : List (Option Edge)) (root v : ℕ) : Type 0 where
   pub length : length new ≡ length old
   pub paired : IsPaired f (IsTight f cost) new
-  pub fewer : (n : ℕ) → pair_of new n ≡ None → (pair_of old n ≡ None) × (n ≢ root) × ((IsTop f n × Holds f n v) → ⊥)
-  pub others : (n : ℕ) → IsTop f n → pair_of old n ≡ None → n ≢ root → (Holds f n v → ⊥) → pair_of new n ≡ None
+  pub fewer : (n : ℕ) → pair_of new n ≡ None →
+      (pair_of old n ≡ None) × (n ≢ root) × ((IsTop f n × Holds f n v) → ⊥)
+  pub others : (n : ℕ) → IsTop f n → pair_of old n ≡ None → n ≢ root → (Holds f n v → ⊥) →
+      pair_of new n ≡ None

@@ -3,7 +3,7 @@ use Rattle.std.specs.Prelude.{◌≡◌, ◌*◌, ◌≤◌, length, [], MatchOp
 use Rattle.sg_arena.specs.Family.{leaf_count}
 use Rattle.sg_match.specs.Feasible.{IsFeasible}
 use Rattle.sg_pairing.specs.Tight.{IsTight}
-use Rattle.sg_match.specs.Lonely.{IsLonely}
+use Rattle.sg_match.specs.Exposed.{IsExposed}
 use Rattle.sg_pairing.specs.Metric.{cost, IsMetric}
 use Rattle.sg_match.specs.Pairs.{IsPaired}
 use Rattle.sg_match.specs.State.{State}
@@ -19,8 +19,8 @@ pub record IsEngine (s : State) : Type 0 where
   -- the sets with their duals, the pairs of tops, and the tops without one
   pub feasible : IsFeasible s.family (cost s.table)
   pub paired : IsPaired s.family (IsTight s.family (cost s.table)) s.pairs
-  pub lonely : IsLonely s.family s.pairs s.root s.lonely
-  -- the tree from the root; no limb where there is no root
-  pub tree : MatchOption s.root (s.limbs ≡ []) (λ r. IsTree s.family (cost s.table) s.pairs r s.limbs)
+  pub exposed : IsExposed s.family s.pairs s.root s.exposed
+  -- the tree from the root; no tree edge where there is no root
+  pub tree : MatchOption s.root (s.edges ≡ []) (λ r. IsTree s.family (cost s.table) s.pairs r s.edges)
   -- the bound on all steps, which no event raises
   pub left : steps_left s ≤ 2 * s.table.size * s.table.size

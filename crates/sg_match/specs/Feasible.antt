@@ -8,5 +8,6 @@ use Rattle.sg_pairing.specs.Tight.{IsTight}
 pub record IsFeasible (f : Family) (cost : ℕ → ℕ → ℕ) : Type 0 where
   pub family : IsFamily f
   pub slack : (u v : ℕ) → u < leaf_count f → v < leaf_count f → duals_between f u v ≤ cost u v
-  pub links : (name i : ℕ) → i < length (cycle_of f name) → IsTight f cost (link_at (cycle_of f name) i).from (link_at (cycle_of f name) i).to
+  pub links : (name i : ℕ) → i < length (cycle_of f name) →
+      IsTight f cost (link_at (cycle_of f name) i).from (link_at (cycle_of f name) i).to
   pub parity : (t u v : ℕ) → IsTop f t → Holds f t u → Holds f t v → total_of f u % 2 ≡ total_of f v % 2

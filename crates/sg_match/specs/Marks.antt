@@ -3,15 +3,16 @@ use Rattle.std.specs.Prelude.{◌≡◌, ℕ, ◌<◌, List, length, slice_index
 use Rattle.sg_arena.specs.Family.{Family, Holds, leaf_count, IsTop, total_of}
 use Rattle.sg_slack.specs.declared.Mark.{Mark}
 use Rattle.sg_slack.specs.declared.Mark.TheVariants.{Free, Inner, Outer}
-use Rattle.sg_match.specs.Tree.{outers, inners}
-use Rattle.sg_match.specs.declared.Limb.{Limb}
+use Rattle.sg_match.specs.Tree.{IsOuterLeaf, IsInnerLeaf, IsFreeLeaf}
+use Rattle.sg_match.specs.declared.TreeEdge.{TreeEdge}
 
 -- the mark of each leaf says where its top stands
-pub record IsMarked (f : Family) (root : ℕ) (limbs : List Limb) (marks : List Mark) : Type 0 where
+pub record IsMarked (f : Family) (root : ℕ) (edges : List TreeEdge) (marks : List Mark) : Type 0 where
   pub count : length marks ≡ leaf_count f
-  pub outer : (leaf : ℕ) → leaf < leaf_count f → slice_index_or marks leaf Free ≡ Outer → (i : ℕ) × (i < length (outers root limbs)) × Holds f (slice_index (outers root limbs) i) leaf
-  pub inner : (leaf : ℕ) → leaf < leaf_count f → slice_index_or marks leaf Free ≡ Inner → (i : ℕ) × (i < length (inners limbs)) × Holds f (slice_index (inners limbs) i) leaf
-  pub free : (leaf : ℕ) → leaf < leaf_count f → slice_index_or marks leaf Free ≡ Free → ((i : ℕ) → i < length (outers root limbs) → Holds f (slice_index (outers root limbs) i) leaf → ⊥) × ((i : ℕ) → i < length (inners limbs) → Holds f (slice_index (inners limbs) i) leaf → ⊥)
+  pub outer : (leaf : ℕ) → leaf < leaf_count f → slice_index_or marks leaf Free ≡ Outer →
+      IsOuterLeaf f root edges leaf
+  pub inner : (leaf : ℕ) → leaf < leaf_count f → slice_index_or marks leaf Free ≡ Inner → IsInnerLeaf f edges leaf
+  pub free : (leaf : ℕ) → leaf < leaf_count f → slice_index_or marks leaf Free ≡ Free → IsFreeLeaf f root edges leaf
 
 -- each leaf's top and its total
 pub record IsListed (f : Family) (tops : List ℕ) (totals : List ℤ) : Type 0 where

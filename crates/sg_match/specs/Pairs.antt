@@ -19,7 +19,8 @@ edge_of l = record { from = l.from; to = l.to }
 -- a top's pair leads from a leaf of it to a leaf of another top, whose pair is its flip, and is good
 pub record IsPaired (f : Family) (good : ℕ → ℕ → Type 0) (pairs : List (Option Edge)) : Type 0 where
   pub own : (t : ℕ) (p : Edge) → IsTop f t → pair_of pairs t ≡ Some p → Holds f t p.from
-  pub other : (t : ℕ) (p : Edge) → IsTop f t → pair_of pairs t ≡ Some p → (s : ℕ) × IsTop f s × (s ≢ t) × Holds f s p.to × (pair_of pairs s ≡ Some (flipped p))
+  pub other : (t : ℕ) (p : Edge) → IsTop f t → pair_of pairs t ≡ Some p → (s : ℕ) × IsTop f s × (s ≢ t) ×
+      Holds f s p.to × (pair_of pairs s ≡ Some (flipped p))
   pub tight : (t : ℕ) (p : Edge) → IsTop f t → pair_of pairs t ≡ Some p → good p.from p.to
 
 -- all tops are paired

@@ -8,7 +8,8 @@ use Rattle.sg_pairing.specs.Metric.{cost}
 -- from one top to another, each link from a leaf of its node to a leaf of the next node
 abbrev pub IsPath : Family → List Link → ℕ → ℕ → Type 0
 IsPath f [] head tail = head ≡ tail
-IsPath f (l ∷ rest) head tail = (l.node ≡ head) × IsTop f head × Holds f head l.from × ((next : ℕ) × Holds f next l.to × IsPath f rest next tail)
+IsPath f (l ∷ rest) head tail = (l.node ≡ head) × IsTop f head × Holds f head l.from ×
+    ((next : ℕ) × Holds f next l.to × IsPath f rest next tail)
 
 -- the nodes along a path
 abbrev pub nodes_of : List Link → List ℕ

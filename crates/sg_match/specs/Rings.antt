@@ -1,5 +1,6 @@
 -- The children of a blossom as a ring: from one child on, either way round, and paired two by two.
-use Rattle.std.specs.Prelude.{◌≡◌, ◌≢◌, ℕ, ◌+◌, ◌*◌, ◌<◌, List, length, Option, Some, ◌%◌, ◌⊎◌, ◌-◌, if◌then◌else◌, ◌++◌, drop, take, ◌==◌}
+use Rattle.std.specs.Prelude.{◌≡◌, ◌≢◌, ℕ, ◌+◌, ◌*◌, ◌<◌, List, length, Option, Some, ◌%◌, ◌⊎◌, ◌-◌, if◌then◌else◌}
+use Rattle.std.specs.Prelude.{◌++◌, drop, take, ◌==◌}
 use Rattle.sg_arena.specs.Family.{link_at}
 use Rattle.sg_arena.specs.declared.Link.{Link}
 use Rattle.sg_match.specs.Pairs.{pair_of, flipped, edge_of}
@@ -12,7 +13,8 @@ rotated i links = drop i links ++ take i links
 -- the same ring from its first node on in the other direction, with each link turned round
 pub record IsBackwards (ring turned : List Link) : Type 0 where
   pub count : length turned ≡ length ring
-  pub node : (i : ℕ) → i < length ring → (link_at turned i).node ≡ (link_at ring (if i == 0 then 0 else length ring - i)).node
+  pub node : (i : ℕ) → i < length ring →
+      (link_at turned i).node ≡ (link_at ring (if i == 0 then 0 else length ring - i)).node
   pub from : (i : ℕ) → i < length ring → (link_at turned i).from ≡ (link_at ring (length ring - 1 - i)).to
   pub to : (i : ℕ) → i < length ring → (link_at turned i).to ≡ (link_at ring (length ring - 1 - i)).from
 
@@ -20,13 +22,16 @@ pub record IsBackwards (ring turned : List Link) : Type 0 where
 abbrev pub IsOdd : ℕ → Type 0
 IsOdd n = n % 2 ≡ 1
 
--- a ring and the place of its door, as they were or the other way round
-abbrev pub IsFaced : List Link → ℕ → List Link → ℕ → Type 0
-IsFaced ring door faced place = ((faced ≡ ring) × (place ≡ door)) ⊎ (IsBackwards ring faced × (0 < door) × (place ≡ length ring - door))
+-- a ring and the place of its entry, as they were or the other way round
+abbrev pub IsTurned : List Link → ℕ → List Link → ℕ → Type 0
+IsTurned ring entry turned_ring place = ((turned_ring ≡ ring) × (place ≡ entry)) ⊎
+    (IsBackwards ring turned_ring × (0 < entry) × (place ≡ length ring - entry))
 
 -- the first node of a ring has this pair, and the others are paired along their links, two by two
-pub record IsRung (old new : List (Option Edge)) (ring : List Link) (bond : Edge) : Type 0 where
-  pub first : pair_of new (link_at ring 0).node ≡ Some bond
-  pub odd : (j : ℕ) → 2 * j + 2 < length ring → pair_of new (link_at ring (2 * j + 1)).node ≡ Some (edge_of (link_at ring (2 * j + 1)))
-  pub even : (j : ℕ) → 2 * j + 2 < length ring → pair_of new (link_at ring (2 * j + 2)).node ≡ Some (flipped (edge_of (link_at ring (2 * j + 1))))
+pub record IsRingPaired (old new : List (Option Edge)) (ring : List Link) (pair : Edge) : Type 0 where
+  pub first : pair_of new (link_at ring 0).node ≡ Some pair
+  pub odd : (j : ℕ) → 2 * j + 2 < length ring →
+      pair_of new (link_at ring (2 * j + 1)).node ≡ Some (edge_of (link_at ring (2 * j + 1)))
+  pub even : (j : ℕ) → 2 * j + 2 < length ring →
+      pair_of new (link_at ring (2 * j + 2)).node ≡ Some (flipped (edge_of (link_at ring (2 * j + 1))))
   pub others : (n : ℕ) → ((i : ℕ) → i < length ring → (link_at ring i).node ≢ n) → pair_of new n ≡ pair_of old n

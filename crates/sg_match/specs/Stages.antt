@@ -1,6 +1,6 @@
 -- What an answer of the engine says.
 use Rattle.std.specs.Prelude.{ℕ}
-use Rattle.sg_match.specs.Flat.{IsLeastFlat}
+use Rattle.sg_match.specs.InnerZeros.{IsLeastInnerZero}
 use Rattle.sg_match.specs.Pairs.{AllPaired}
 use Rattle.sg_match.specs.State.{State}
 use Rattle.sg_match.specs.declared.Stage.{Stage}
@@ -9,7 +9,7 @@ use Rattle.sg_match.specs.declared.Stage.TheVariants.{InnerZero, Matched}
 -- all tops are paired, or this inner blossom is to be expanded
 abbrev pub IsStage : State → Stage → Type 0
 IsStage s Matched = AllPaired s.family s.pairs
-IsStage s (InnerZero node) = IsLeastFlat s.family s.limbs node
+IsStage s (InnerZero node) = IsLeastInnerZero s.family s.edges node
 
 -- how many steps an answer leaves open: one, where a blossom is to be expanded
 abbrev pub owed : Stage → ℕ

@@ -1,64 +1,83 @@
--- The alternating tree: a root, and limbs of an inner and an outer top.
+-- The alternating tree: a root, and edges, each with its inner top and the outer top paired with that.
 use Rattle.std.specs.List.{list_any}
-use Rattle.std.specs.Prelude.{◌≡◌, ◌≢◌, ℕ, ◌<◌, ◌≤◌, List, length, slice_index, Option, None, Some, slice_index_or, ◌∷◌, map, Bool}
-use Rattle.sg_arena.specs.Family.{Family, Holds, IsTop, holds}
+use Rattle.std.specs.Prelude.{◌≡◌, ◌≢◌, ℕ, ◌<◌, ◌≤◌, List, length, slice_index, Option, None, Some, slice_index_or}
+use Rattle.std.specs.Prelude.{◌∷◌, map, Bool}
+use Rattle.sg_arena.specs.Changes.{AreTops}
+use Rattle.sg_arena.specs.Family.{Family, Holds, holds}
 use Rattle.sg_slack.specs.declared.Mark.{Mark}
 use Rattle.sg_slack.specs.declared.Mark.TheVariants.{Free, Inner, Outer}
 use Rattle.sg_pairing.specs.Tight.{IsTight}
-use Rattle.sg_match.specs.Names.{Differ, Stands}
+use Rattle.sg_match.specs.Names.{Stands}
 use Rattle.sg_match.specs.Pairs.{pair_of}
 use Rattle.sg_match.specs.declared.Edge.{Edge}
-use Rattle.sg_match.specs.declared.Limb.{Limb}
+use Rattle.sg_match.specs.declared.TreeEdge.{TreeEdge}
 
 -- the edge that is read where a list ends
 abbrev pub blank_edge : Edge
 blank_edge = record { from = 0; to = 0 }
 
--- the limb that is read where a list ends
-abbrev pub blank_limb : Limb
-blank_limb = record { inner = 0; outer = 0; edge = blank_edge; bond = blank_edge }
+-- the tree edge that is read where a list ends
+abbrev pub blank_tree_edge : TreeEdge
+blank_tree_edge = record { inner = 0; outer = 0; up = blank_edge; pair = blank_edge }
 
--- the limb at a place
-abbrev pub limb_at : List Limb → ℕ → Limb
-limb_at limbs i = slice_index_or limbs i blank_limb
+-- the tree edge at a place
+abbrev pub edge_at : List TreeEdge → ℕ → TreeEdge
+edge_at edges i = slice_index_or edges i blank_tree_edge
 
--- the outer tops of a tree: its root, and the outer top of each limb
-abbrev pub outers : ℕ → List Limb → List ℕ
-outers root limbs = root ∷ map (λ l. l.outer) limbs
+-- the outer tops of a tree: its root, and the outer top of each tree edge
+abbrev pub outers : ℕ → List TreeEdge → List ℕ
+outers root edges = root ∷ map (λ l. l.outer) edges
 
--- the inner tops of a tree, one of each limb
-abbrev pub inners : List Limb → List ℕ
-inners limbs = map (λ l. l.inner) limbs
+-- the inner tops of a tree, one of each tree edge
+abbrev pub inners : List TreeEdge → List ℕ
+inners edges = map (λ l. l.inner) edges
 
--- tops that differ, where each limb hangs from an earlier outer top and its bond joins its two tops
-pub record IsShape (f : Family) (root : ℕ) (limbs : List Limb) : Type 0 where
-  pub outer_tops : (i : ℕ) → i < length (outers root limbs) → IsTop f (slice_index (outers root limbs) i)
-  pub inner_tops : (i : ℕ) → i < length (inners limbs) → IsTop f (slice_index (inners limbs) i)
-  pub outer_differ : Differ (outers root limbs)
-  pub inner_differ : Differ (inners limbs)
-  pub apart : (i j : ℕ) → i < length (outers root limbs) → j < length (inners limbs) → slice_index (outers root limbs) i ≢ slice_index (inners limbs) j
-  pub bond_from : (i : ℕ) → i < length limbs → Holds f (limb_at limbs i).inner (limb_at limbs i).bond.from
-  pub bond_to : (i : ℕ) → i < length limbs → Holds f (limb_at limbs i).outer (limb_at limbs i).bond.to
-  pub edge_from : (i : ℕ) → i < length limbs → Holds f (limb_at limbs i).inner (limb_at limbs i).edge.from
-  pub edge_to : (i : ℕ) → i < length limbs → (j : ℕ) × (j ≤ i) × Holds f (slice_index (outers root limbs) j) (limb_at limbs i).edge.to
+-- a leaf of an outer top
+abbrev pub IsOuterLeaf : Family → ℕ → List TreeEdge → ℕ → Type 0
+IsOuterLeaf f root edges u =
+    (i : ℕ) × (i < length (outers root edges)) × Holds f (slice_index (outers root edges) i) u
 
--- limbs whose edges are tight and whose bonds are pairs, from an unpaired root
-pub record IsTree (f : Family) (cost : ℕ → ℕ → ℕ) (pairs : List (Option Edge)) (root : ℕ) (limbs : List Limb) : Type 0 where
-  pub shape : IsShape f root limbs
-  pub lone_root : pair_of pairs root ≡ None
-  pub bond : (i : ℕ) → i < length limbs → pair_of pairs (limb_at limbs i).inner ≡ Some (limb_at limbs i).bond
-  pub edge_tight : (i : ℕ) → i < length limbs → IsTight f cost (limb_at limbs i).edge.from (limb_at limbs i).edge.to
+-- a leaf of an inner top
+abbrev pub IsInnerLeaf : Family → List TreeEdge → ℕ → Type 0
+IsInnerLeaf f edges u = (i : ℕ) × (i < length (inners edges)) × Holds f (slice_index (inners edges) i) u
+
+-- a leaf of no top of the tree
+abbrev pub IsFreeLeaf : Family → ℕ → List TreeEdge → ℕ → Type 0
+IsFreeLeaf f root edges u =
+    ((i : ℕ) → i < length (outers root edges) → Holds f (slice_index (outers root edges) i) u → ⊥)
+    × ((i : ℕ) → i < length (inners edges) → Holds f (slice_index (inners edges) i) u → ⊥)
+
+-- a tree edge ends at an earlier outer top, and its pair joins its two tops
+pub record IsTreeEdge (f : Family) (root : ℕ) (edges : List TreeEdge) (i : ℕ) : Type 0 where
+  pub pair_from : Holds f (edge_at edges i).inner (edge_at edges i).pair.from
+  pub pair_to : Holds f (edge_at edges i).outer (edge_at edges i).pair.to
+  pub up_to : (j : ℕ) × (j ≤ i) × Holds f (slice_index (outers root edges) j) (edge_at edges i).up.to
+
+-- tops that differ, and tree edges each of which begins at its inner top
+pub record IsShape (f : Family) (root : ℕ) (edges : List TreeEdge) : Type 0 where
+  pub tops : AreTops f (outers root edges) (inners edges)
+  pub edge : (i : ℕ) → i < length edges → IsTreeEdge f root edges i
+  pub up_from : (i : ℕ) → i < length edges → Holds f (edge_at edges i).inner (edge_at edges i).up.from
+
+-- tight edges, from an unpaired root, and the pairs of the inner tops
+pub record IsTree (f : Family) (cost : ℕ → ℕ → ℕ) (pairs : List (Option Edge)) (root : ℕ) (edges : List TreeEdge)
+    : Type 0 where
+  pub shape : IsShape f root edges
+  pub exposed_root : pair_of pairs root ≡ None
+  pub pair : (i : ℕ) → i < length edges → pair_of pairs (edge_at edges i).inner ≡ Some (edge_at edges i).pair
+  pub up_tight : (i : ℕ) → i < length edges →
+      IsTight f cost (edge_at edges i).up.from (edge_at edges i).up.to
 
 -- a top outside the tree
-pub record IsOut (root : ℕ) (limbs : List Limb) (t : ℕ) : Type 0 where
-  pub outer : (i : ℕ) → i < length (outers root limbs) → slice_index (outers root limbs) i ≢ t
-  pub inner : (i : ℕ) → i < length (inners limbs) → slice_index (inners limbs) i ≢ t
+pub record IsOut (root : ℕ) (edges : List TreeEdge) (t : ℕ) : Type 0 where
+  pub outer : (i : ℕ) → i < length (outers root edges) → slice_index (outers root edges) i ≢ t
+  pub inner : (i : ℕ) → i < length (inners edges) → slice_index (inners edges) i ≢ t
 
 -- the mark of a top says where it stands
-abbrev pub StandsAt : ℕ → List Limb → ℕ → Mark → Type 0
-StandsAt root limbs top Outer = Stands (outers root limbs) top
-StandsAt root limbs top Inner = Stands (inners limbs) top
-StandsAt root limbs top Free = IsOut root limbs top
+abbrev pub StandsAt : ℕ → List TreeEdge → ℕ → Mark → Type 0
+StandsAt root edges top Outer = Stands (outers root edges) top
+StandsAt root edges top Inner = Stands (inners edges) top
+StandsAt root edges top Free = IsOut root edges top
 
 -- whether a list of tops holds the leaf
 abbrev pub any_top : Family → List ℕ → ℕ → Bool

@@ -1,39 +1,46 @@
 ghost use Rattle.std.specs.Prelude.{◌≡◌, ◌≢◌, ℕ, ◌<◌, ◌≤◌, length, slice_index, vec_capacity};
 ghost use Rattle.sg_arena.specs.Family.{IsFamily, IsTop, leaf_count};
-ghost use Rattle.sg_match.specs.Tree.{limb_at};
-ghost use Rattle.sg_match.specs.Augmented.{HasTops, CanFlip, Flipped};
+ghost use Rattle.sg_match.specs.Tree.{edge_at};
+ghost use Rattle.sg_match.specs.Augmented.{HasTops, CanAugment, IsAugmented};
 ghost use Rattle.sg_match.specs.Names.{IsTaken};
 
-use super::pairs::{flipped, part, wed};
-use super::{Edge, Limb};
+use super::pairs::{flipped, pair_tops, unpair_tops};
+use super::{Edge, Engine, TreeEdge};
 use sg_arena::Arena;
 
 // Pairs the leaf's top by an edge from it, and the tops of the tree on the way to the root anew.
-pub fn flip(arena: &Arena, pairs: &mut [Option<Edge>], root: usize, limbs: &[Limb], u: u32, v: u32)
+pub fn augment_path(
+    arena: &Arena,
+    pairs: &mut [Option<Edge>],
+    root: usize,
+    edges: &[TreeEdge],
+    u: u32,
+    v: u32,
+)
     requires family { IsFamily arena.now }
     requires names { (t : ℕ) → IsTop arena.now t → t < length pairs.old }
     requires root { IsTop arena.now root }
-    requires limbs { (i : ℕ) → i < length limbs.now → HasTops arena.now (limb_at limbs.now i) }
+    requires edges { (i : ℕ) → i < length edges.now → HasTops arena.now (edge_at edges.now i) }
     requires u { u < leaf_count arena.now }
     requires v { v < leaf_count arena.now }
-    ensures { (cost : ℕ → ℕ → ℕ) → CanFlip arena.now cost pairs.old root limbs.now u v → Flipped arena.now cost pairs.old pairs.new root v }
+    ensures { (cost : ℕ → ℕ → ℕ) → CanAugment arena.now cost pairs.old root edges.now u v → IsAugmented arena.now cost pairs.old pairs.new root v }
 {
     let mut edge = Edge { from: u, to: v };
     let mut here = arena.top(u);
     let mut there = arena.top(v);
-    let mut i = limbs.len();
+    let mut i = edges.len();
     while i > 0 {
         i -= 1;
-        let limb = limbs[i];
-        if limb.outer == here {
-            part(pairs, limb.inner, limb.outer);
-            wed(pairs, limb.outer, there, edge);
-            there = limb.inner;
-            edge = flipped(limb.edge);
-            here = arena.top(limb.edge.to);
+        let tree_edge = edges[i];
+        if tree_edge.outer == here {
+            unpair_tops(pairs, tree_edge.inner, tree_edge.outer);
+            pair_tops(pairs, tree_edge.outer, there, edge);
+            there = tree_edge.inner;
+            edge = flipped(tree_edge.up);
+            here = arena.top(tree_edge.up.to);
         }
     }
-    wed(pairs, root, there, edge);
+    pair_tops(pairs, root, there, edge);
 }
 
 // Where a name stands in a list, or the list's length.
@@ -58,5 +65,28 @@ pub fn take_name(names: &mut Vec<usize>, name: usize)
     let place = find_name(names, name);
     if place < names.len() {
         names.swap_remove(place);
+    }
+}
+
+impl Engine {
+    ghost use Rattle.std.specs.Prelude.{◌≡◌, ◌+◌, ◌≤◌, None, Some};
+    ghost use Rattle.sg_match.specs.Engine.{IsEngine};
+    ghost use Rattle.sg_match.specs.Events.{IsTightInto};
+    ghost use Rattle.sg_match.specs.Pairs.{pair_of};
+    ghost use Rattle.sg_match.specs.Steps.{steps_left};
+
+    // Pairs an unpaired top, and the tops on the way to the root anew. No tree is left.
+    pub(crate) fn augment(&mut self, root: usize, u: u32, v: u32, top: usize)
+        requires tight_edge { IsTightInto self.old root u v top }
+        requires unpaired { pair_of self.old.pairs top ≡ None }
+        ensures family { self.new.family ≡ self.old.family }
+        ensures table { self.new.table ≡ self.old.table }
+        ensures engine { IsEngine self.new }
+        ensures less { steps_left self.new + 1 ≤ steps_left self.old }
+    {
+        augment_path(&self.arena, &mut self.pairs, root, &self.edges, u, v);
+        take_name(&mut self.exposed, top);
+        self.root = None;
+        self.edges.clear();
     }
 }

@@ -4,7 +4,7 @@ ghost use Rattle.sg_slack.specs.declared.Mark.TheVariants.{Free};
 ghost use Rattle.sg_match.specs.Marks.{IsListed};
 ghost use Rattle.sg_match.specs.Tree.{StandsAt, outers, inners};
 
-use super::Limb;
+use super::TreeEdge;
 use sg_arena::Arena;
 use sg_slack::Mark;
 
@@ -12,7 +12,7 @@ use sg_slack::Mark;
 pub fn list_leaves(
     arena: &Arena,
     root: usize,
-    limbs: &[Limb],
+    edges: &[TreeEdge],
     tops: &mut [usize],
     totals: &mut [i64],
     marks: &mut [Mark],
@@ -22,27 +22,27 @@ pub fn list_leaves(
     requires totals { length totals.old ≡ leaf_count arena.now }
     requires marks { length marks.old ≡ leaf_count arena.now }
     ensures listed { IsListed arena.now tops.new totals.new }
-    ensures marked { (leaf : ℕ) → leaf < leaf_count arena.now → StandsAt root limbs.now (slice_index tops.new leaf) (slice_index_or marks.new leaf Free) }
+    ensures marked { (leaf : ℕ) → leaf < leaf_count arena.now → StandsAt root edges.now (slice_index tops.new leaf) (slice_index_or marks.new leaf Free) }
 {
     for leaf in 0..tops.len() {
         let top = arena.top(leaf as u32);
         tops[leaf] = top;
         totals[leaf] = arena.total(leaf as u32);
-        marks[leaf] = mark_of(root, limbs, top);
+        marks[leaf] = mark_of(root, edges, top);
     }
 }
 
-pub fn mark_of(root: usize, limbs: &[Limb], top: usize) -> Mark
-    ensures { StandsAt root limbs.now top result }
+pub fn mark_of(root: usize, edges: &[TreeEdge], top: usize) -> Mark
+    ensures { StandsAt root edges.now top result }
 {
     if top == root {
         return Mark::Outer;
     }
-    for limb in limbs {
-        if limb.outer == top {
+    for tree_edge in edges {
+        if tree_edge.outer == top {
             return Mark::Outer;
         }
-        if limb.inner == top {
+        if tree_edge.inner == top {
             return Mark::Inner;
         }
     }
@@ -50,19 +50,19 @@ pub fn mark_of(root: usize, limbs: &[Limb], top: usize) -> Mark
 }
 
 // The outer and the inner tops of the tree.
-pub fn list_tree(root: usize, limbs: &[Limb], outer: &mut Vec<usize>, inner: &mut Vec<usize>)
-    requires outer { length limbs.now + 1 ≤ vec_capacity outer.old }
-    requires inner { length limbs.now ≤ vec_capacity inner.old }
-    ensures outer { outer.new.items ≡ outers root limbs.now }
-    ensures inner { inner.new.items ≡ inners limbs.now }
+pub fn list_tree(root: usize, edges: &[TreeEdge], outer: &mut Vec<usize>, inner: &mut Vec<usize>)
+    requires outer { length edges.now + 1 ≤ vec_capacity outer.old }
+    requires inner { length edges.now ≤ vec_capacity inner.old }
+    ensures outer { outer.new.items ≡ outers root edges.now }
+    ensures inner { inner.new.items ≡ inners edges.now }
     ensures outer_room { vec_capacity outer.new ≡ vec_capacity outer.old }
     ensures inner_room { vec_capacity inner.new ≡ vec_capacity inner.old }
 {
     outer.clear();
     inner.clear();
     outer.push_reserved(root);
-    for limb in limbs {
-        outer.push_reserved(limb.outer);
-        inner.push_reserved(limb.inner);
+    for tree_edge in edges {
+        outer.push_reserved(tree_edge.outer);
+        inner.push_reserved(tree_edge.inner);
     }
 }

@@ -6,16 +6,17 @@
 //! proof that no other pairing costs less: a family of nested odd sets of leaves with *duals*, such
 //! that no two leaves have a cost below the duals of the sets that hold just one of them (their
 //! *slack* is not negative), mates have slack 0, and each set is left by exactly one pair of mates.
-//! So the mates cost as much as all duals together, and `sg_pairing::matching_is_least` says why no pairing
-//! costs less: each set is odd, so some pair leaves it and pays for its dual.
+//! So the mates cost as much as all duals together, and `sg_pairing::matching_is_least` says why no
+//! pairing costs less: each set is odd, so some pair leaves it and pays for its dual.
 //!
-//! For the next engineer: the contract that matters is that of [`Engine::run`], over
-//! `Matching` and `Metric` of `sg_pairing`; nothing in it names the tree or a buffer. What the engine keeps between
+//! For the next engineer: the contract that matters is that of [`Engine::run`], over `Matching` and
+//! `Metric` of `sg_pairing`; nothing in it names the tree or a buffer. What the engine keeps between
 //! two steps is `IsEngine` of `specs/Engine.antt`, one record for each part: `Feasible`, `Pairs`,
-//! `Lonely`, `Tree`. A round is [`Engine::advance`] in `runs`, and each event has a file: `rounds`
-//! raises the duals, `reaches` grows the tree or augments, `closes` shrinks, `splits` expands, and
-//! `mates` pairs inside the blossoms at the end. In `proofs/` a file `..Step` carries the parts of the
-//! invariant over one event, and a file `..Lemmas` has what several need.
+//! `Exposed`, `Tree`. Each step has the file of its name: `search` goes round by round from an exposed
+//! top, `dual_change` raises the duals, then `grow`, `augment`, `shrink` and `expand`, and `mates` pairs
+//! inside the blossoms at the end. `shrink_cycle` finds the odd cycle of a shrink; `shrink_tree` and
+//! `expand_tree` are what a shrink and an expansion do to the tree. In `proofs/` a file `..Step` carries
+//! the parts of the invariant over one step, and a file `..Lemmas` has what several need.
 //!
 //! ```text
 //! let mut costs = Costs::new(alloc, 4)?;            // four places on a line: 0, 3, 5, 8
@@ -29,19 +30,20 @@
 #![tactic(auto)]
 
 mod augment;
-mod climbs;
-mod closes;
-mod grafts;
+mod dual_change;
+mod expand;
+mod expand_tree;
+mod grow;
 mod inner;
 mod leaves;
 mod mates;
 mod pairs;
-mod prune;
-mod reaches;
 mod rings;
-mod rounds;
 mod runs;
-mod splits;
+mod search;
+mod shrink;
+mod shrink_cycle;
+mod shrink_tree;
 
 use sg_arena::{Arena, Link};
 use sg_list::Numbers;
@@ -62,14 +64,14 @@ struct Edge {
     to: u32,
 }
 
-/// An inner top and the outer top with which it is paired: the tree's edge leads from a leaf of the
-/// inner top to a leaf of an earlier outer top, the bond to a leaf of its own outer top.
+/// An edge of the tree, and the pair below it: from a leaf of an inner top the edge leads up to a leaf
+/// of an earlier outer top, and the pair to a leaf of the outer top with which the inner one is paired.
 #[derive(Clone, Copy, Debug, PartialEq, Eq)]
-struct Limb {
+struct TreeEdge {
     inner: usize,
     outer: usize,
-    edge: Edge,
-    bond: Edge,
+    up: Edge,
+    pair: Edge,
 }
 
 /// Why the engine stopped.
@@ -85,11 +87,11 @@ pub enum Stage {
 #[derive(Clone, Copy)]
 enum Event {
     /// An inner blossom has dual 0.
-    Flat { node: usize },
+    InnerZero { node: usize },
     /// An outer leaf has slack 0 to a leaf outside the tree.
-    Reach { u: u32, v: u32 },
+    OuterFree { u: u32, v: u32 },
     /// Two outer leaves of different tops have slack 0.
-    Join { u: u32, v: u32 },
+    OuterOuter { u: u32, v: u32 },
 }
 
 /// What a run hands back.
@@ -115,11 +117,12 @@ pub struct Engine {
     // By name: from a leaf of the top to a leaf of the top with which it is paired.
     pairs: Vec<Option<Edge>>,
     // The unpaired tops but for the root.
-    lonely: Vec<usize>,
+    exposed: Vec<usize>,
     // The unpaired top from which the tree grows; none where no tree stands.
     root: Option<usize>,
-    // In the order reached: each edge ends in the root or in an earlier limb's outer top.
-    limbs: Vec<Limb>,
+    // The edges of the tree in the order in which they grew: each ends in the root or in the outer top of
+    // an earlier one.
+    edges: Vec<TreeEdge>,
     // Room for what a step works on.
     tops: Vec<usize>,
     totals: Vec<i64>,
@@ -138,12 +141,9 @@ impl Model for Engine {
 
     ghost use Rattle.sg_match.specs.Engine.{IsEngine};
 
-    ghost view = { λ e. record { family = e.arena; table = e.costs; pairs = e.pairs.items; lonely = e.lonely.items; root = e.root; limbs = e.limbs.items } };
+    ghost view = { λ e. record { family = e.arena; table = e.costs; pairs = e.pairs.items; exposed = e.exposed.items; root = e.root; edges = e.edges.items } };
 
     ghost use Rattle.sg_match.specs.Rooms.{IsRoomy};
 
-    ghost invariant = { λ e. IsEngine (record { family = e.arena; table = e.costs; pairs = e.pairs.items; lonely = e.lonely.items; root = e.root; limbs = e.limbs.items }) × IsRoomy e };
+    ghost invariant = { λ e. IsEngine (record { family = e.arena; table = e.costs; pairs = e.pairs.items; exposed = e.exposed.items; root = e.root; edges = e.edges.items }) × IsRoomy e };
 }
-
-#[cfg(test)]
-mod tests;

@@ -7,7 +7,7 @@ ghost use Rattle.sg_match.specs.Pairs.{IsPaired, AllPaired, pair_of};
 ghost use Rattle.sg_match.specs.Names.{Differ};
 ghost use Rattle.sg_match.specs.Path.{nodes_of};
 ghost use Rattle.sg_match.specs.Rings.{rotated};
-ghost use Rattle.sg_match.specs.Settled.{HasOwn, IsPairedInside, ListsTops};
+ghost use Rattle.sg_match.specs.MatePairs.{HasOwn, IsPairedInside, ListsTops};
 ghost use Rattle.sg_match.specs.declared.Edge.{Edge as the_edge};
 
 use super::Edge;
@@ -16,7 +16,7 @@ use sg_arena::{Arena, Link};
 
 // Pairs the children of each blossom, from the tops down, and writes the mates of the leaves. The
 // two lists are room to work in.
-pub fn settle(
+pub fn derive_mates(
     arena: &Arena,
     pairs: &mut [Option<Edge>],
     nodes: &mut Vec<usize>,

@@ -13,7 +13,7 @@ pub fn flipped(edge: Edge) -> Edge
 }
 
 // Takes the pair from two paired tops.
-pub fn part(pairs: &mut [Option<Edge>], s: usize, t: usize)
+pub fn unpair_tops(pairs: &mut [Option<Edge>], s: usize, t: usize)
     requires s { s < length pairs.old }
     requires t { t < length pairs.old }
     ensures { pairs.new ≡ slice_set (slice_set pairs.old s None) t None }
@@ -23,7 +23,7 @@ pub fn part(pairs: &mut [Option<Edge>], s: usize, t: usize)
 }
 
 // Pairs two tops, by an edge from the first to the second.
-pub fn wed(pairs: &mut [Option<Edge>], s: usize, t: usize, edge: Edge)
+pub fn pair_tops(pairs: &mut [Option<Edge>], s: usize, t: usize, edge: Edge)
     requires s { s < length pairs.old }
     requires t { t < length pairs.old }
     ensures { pairs.new ≡ slice_set (slice_set pairs.old s (Some edge)) t (Some (flip_of edge)) }

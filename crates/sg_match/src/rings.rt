@@ -2,10 +2,10 @@ ghost use Rattle.std.specs.Prelude.{◌≡◌, ℕ, ◌<◌, ◌≤◌, length, 
 ghost use Rattle.sg_arena.specs.Family.{IsFamily, IsChild, IsChildAt, cycle_of, link_at};
 ghost use Rattle.sg_match.specs.Names.{Differ};
 ghost use Rattle.sg_match.specs.Path.{nodes_of};
-ghost use Rattle.sg_match.specs.Rings.{IsBackwards, IsRung, rotated};
+ghost use Rattle.sg_match.specs.Rings.{IsBackwards, IsRingPaired, rotated};
 
 use super::Edge;
-use super::pairs::wed;
+use super::pairs::pair_tops;
 use sg_arena::{Arena, Link};
 
 // The cycle of a child's blossom, from the child on.
@@ -64,14 +64,14 @@ pub fn pair_ring(pairs: &mut [Option<Edge>], ring: &[Link], pair: Edge)
     requires some { 0 < length ring.now }
     requires names { (i : ℕ) → i < length ring.now → (link_at ring.now i).node < length pairs.old }
     requires differ { Differ (nodes_of ring.now) }
-    ensures rung { IsRung pairs.old pairs.new ring.now pair }
+    ensures ring_pairs { IsRingPaired pairs.old pairs.new ring.now pair }
     ensures length { length pairs.new ≡ length pairs.old }
 {
     pairs[ring[0].node] = Some(pair);
     let mut i = 1;
     while i + 1 < ring.len() {
         let Link { node, from, to } = ring[i];
-        wed(pairs, node, ring[i + 1].node, Edge { from, to });
+        pair_tops(pairs, node, ring[i + 1].node, Edge { from, to });
         i += 2;
     }
 }

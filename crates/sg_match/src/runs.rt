@@ -1,9 +1,8 @@
 ghost use Rattle.std.specs.Prelude.{◌≡◌, ◌≤◌, IfOk, None, replicate, vec_capacity};
 ghost use Rattle.sg_arena.specs.Family.{leaf_count};
 
-use super::inner::least_flat;
-use super::mates::settle;
-use super::{Edge, Engine, Event, Matched, Mates, NoMemory, Stage};
+use super::mates::derive_mates;
+use super::{Edge, Engine, Matched, Mates, NoMemory, Stage};
 use sg_arena::Arena;
 use sg_slack::{Costs, Mark};
 use sg_steps::Steps;
@@ -32,16 +31,13 @@ fn no_pairs(alloc: Global, room: usize) -> Result<Vec<Option<Edge>>, NoMemory>
 }
 
 impl Engine {
-    ghost use Rattle.std.specs.Prelude.{◌≡◌, ◌↔◌, ℕ, ◌+◌, ◌*◌, ◌≤◌, List, IfOk, IfSome, IfNone, Some, None};
+    ghost use Rattle.std.specs.Prelude.{◌≡◌, ℕ, ◌+◌, ◌*◌, ◌≤◌, List, IfOk};
     ghost use Rattle.sg_arena.specs.Changes.{OnlyLeaves};
     ghost use Rattle.sg_arena.specs.Family.{IsFamily, leaf_count};
-    ghost use Rattle.sg_match.specs.Flat.{IsLeastFlat};
+    ghost use Rattle.sg_match.specs.Engine.{IsEngine};
+    ghost use Rattle.sg_match.specs.Steps.{steps_left};
     ghost use Rattle.sg_pairing.specs.Matching.{IsMatching, IsPairing, NoSlackIsNegative, pairing_cost, sum_of_duals};
     ghost use Rattle.sg_pairing.specs.Metric.{IsMetric, cost};
-    ghost use Rattle.sg_match.specs.Pairs.{AllPaired};
-    ghost use Rattle.sg_match.specs.Engine.{IsEngine};
-    ghost use Rattle.sg_match.specs.Stages.{IsStage, owed};
-    ghost use Rattle.sg_match.specs.Steps.{steps_left};
 
     /// An engine over these costs, which it keeps, with all the memory that it will need. Each leaf
     /// is an unpaired top with dual 0.
@@ -59,8 +55,8 @@ impl Engine {
         let arena = Arena::open(alloc, k)?;
         let room = arena.room();
         let pairs = no_pairs(alloc, room)?;
-        let lonely = leaf_names(alloc, &arena, k, room)?;
-        let limbs = Vec::with_capacity(alloc, room)?;
+        let exposed = leaf_names(alloc, &arena, k, room)?;
+        let edges = Vec::with_capacity(alloc, room)?;
         let tops = vec![in alloc; 0usize; count]?;
         let totals = vec![in alloc; 0i64; count]?;
         let marks = vec![in alloc; Mark::Free; count]?;
@@ -73,9 +69,9 @@ impl Engine {
             costs,
             arena,
             pairs,
-            lonely,
+            exposed,
             root: None,
-            limbs,
+            edges,
             tops,
             totals,
             marks,
@@ -97,79 +93,6 @@ impl Engine {
         &self.arena
     }
 
-    /// Goes on until every top is paired, or an inner blossom of the tree has dual 0. Where such a
-    /// blossom stands already, the least one is named and nothing changes. It takes no memory.
-    ///
-    /// Cost: each round takes time proportional to the square of the number of leaves.
-    pub fn advance<L: Ledger>(&mut self, steps: &mut Steps<L>) -> Stage
-        ensures table { self.new.table ≡ self.old.table }
-        ensures engine { IsEngine self.new }
-        ensures matched { (result ≡ Stage.Matched) ↔ AllPaired self.new.family self.new.pairs }
-        ensures flat { (node : ℕ) → result ≡ Stage.InnerZero node → IsLeastFlat self.new.family self.new.limbs node }
-        ensures already { (node : ℕ) → IsLeastFlat self.old.family self.old.limbs node → (result ≡ Stage.InnerZero node) × (self.new ≡ self.old) × (steps.new ≡ steps.old) }
-        ensures bound { steps_left self.old ≤ 2 * self.old.table.size * self.old.table.size }
-        ensures left { steps_left self.new ≤ steps_left self.old }
-        ensures counted { steps.new + steps_left self.new ≤ steps.old + steps_left self.old + owed result }
-    {
-        match least_flat(&self.arena, &self.limbs) {
-            Some(node) => Stage::InnerZero { node },
-            None => self.proceed(steps),
-        }
-    }
-
-    // Round by round: raises the duals of the tree, and follows what is tight then.
-    fn proceed<L: Ledger>(&mut self, steps: &mut Steps<L>) -> Stage
-        ensures table { self.new.table ≡ self.old.table }
-        ensures engine { IsEngine self.new }
-        ensures stage { IsStage self.new result }
-        ensures left { steps_left self.new ≤ steps_left self.old }
-        ensures counted { steps.new + steps_left self.new ≤ steps.old + steps_left self.old + owed result }
-    {
-        while let Some(root) = self.plant() {
-            match self.press(root, steps) {
-                Event::Flat { node } => return Stage::InnerZero { node },
-                Event::Reach { u, v } => self.reach(root, u, v),
-                Event::Join { u, v } => self.close(root, u, v, steps),
-            }
-        }
-        Stage::Matched
-    }
-
-    // The root of the tree. Where no tree stands, one is planted at an unpaired top; none where every
-    // top is paired.
-    fn plant(&mut self) -> Option<usize>
-        ensures family { self.new.family ≡ self.old.family }
-        ensures table { self.new.table ≡ self.old.table }
-        ensures engine { IsEngine self.new }
-        ensures root { IfSome result (λ root. self.new.root ≡ Some root) }
-        ensures none { IfNone result (AllPaired self.new.family self.new.pairs) }
-        ensures left { steps_left self.new ≤ steps_left self.old }
-    {
-        match self.root {
-            Some(root) => Some(root),
-            None => self.plant_anew(),
-        }
-    }
-
-    // Plants a tree at an unpaired top; none where there is no such top.
-    fn plant_anew(&mut self) -> Option<usize>
-        requires bare { self.old.root ≡ None }
-        ensures family { self.new.family ≡ self.old.family }
-        ensures table { self.new.table ≡ self.old.table }
-        ensures engine { IsEngine self.new }
-        ensures root { IfSome result (λ root. self.new.root ≡ Some root) }
-        ensures none { IfNone result (AllPaired self.new.family self.new.pairs) }
-        ensures left { steps_left self.new ≤ steps_left self.old }
-    {
-        match self.lonely.pop() {
-            Some(root) => {
-                self.root = Some(root);
-                Some(root)
-            }
-            None => None,
-        }
-    }
-
     /// A perfect matching of least cost, with the sets and duals that prove it. It takes no memory.
     ///
     /// Each leaf has a mate. No slack is negative, mates have slack 0, and each set is left by
@@ -188,7 +111,7 @@ impl Engine {
         ensures least { (other : List ℕ) → IsPairing self.table.size other → pairing_cost (cost self.table) result.mates ≤ pairing_cost (cost self.table) other }
     {
         while let Stage::InnerZero { node } = self.advance(steps) {
-            self.split(node, steps);
+            self.expand(node, steps);
         }
         let Engine {
             arena,
@@ -198,7 +121,7 @@ impl Engine {
             mut mates,
             ..
         } = self;
-        settle(&arena, &mut pairs, &mut outer, &mut ring, &mut mates);
+        derive_mates(&arena, &mut pairs, &mut outer, &mut ring, &mut mates);
         Matched {
             mates: Mates::from_vec(mates),
             family: arena,

@@ -1,5 +1,6 @@
 -- Sums over a pairing: over the leaves, over their mates, or over the pairs, each once.
-use Rattle.std.proofs.Common.{zero-add, ◌≡◌, ◌≢◌, ℕ, zero, suc, ◌+◌, ◌*◌, ◌%◌, ◌<◌, ◌≤◌, Bool, true, false, cond, not, ◌&&◌, eqb, ltb, refl, sym, ◌∙◌, ap, arith, inl, inr, eq-eqb, sum_by, get_or}
+use Rattle.std.proofs.Common.{zero-add, ◌≡◌, ◌≢◌, ℕ, zero, suc, ◌+◌, ◌*◌, ◌%◌, ◌<◌, ◌≤◌, Bool, true, false, cond, not, ◌&&◌, eqb, ltb, refl, sym, ◌∙◌, ap}
+use Rattle.std.proofs.Common.{arith, inl, inr, eq-eqb, sum_by, get_or}
 use Rattle.std.proofs.Math.Nat.{mul-add, mul-zero}
 use Rattle.std.specs.List.{range_with_len}
 use Rattle.std.proofs.lemmas.Bool.{cases_eq, cases_lt, ne_eqb, lt-ltb, le-ltb}
@@ -66,7 +67,8 @@ module _ (k : ℕ) (m : ℕ → ℕ) (low : (u : ℕ) → u < k → m u < k) (ba
       sum_below-same (λ u. h (m u)) (λ u. sum_below (λ v. cond (eqb (m u) v) (h v) 0) k) k (λ u l. sym (pick h (m u) k (low u l)))
       ∙ sum_below-swap (λ u v. cond (eqb (m u) v) (h v) 0) k k
       ∙ sum_below-same (λ v. sum_below (λ u. cond (eqb (m u) v) (h v) 0) k) h k
-      (λ v l. sum_below-same (λ u. cond (eqb (m u) v) (h v) 0) (λ u. cond (eqb (m v) u) (h v) 0) k (λ u j. ap (λ b. cond b (h v) 0) (turned u v j l)) ∙ sum_below_pick (h v) (m v) k (low v l))
+      (λ v l. sum_below-same (λ u. cond (eqb (m u) v) (h v) 0) (λ u. cond (eqb (m v) u) (h v) 0) k (λ u j. ap (λ b. cond b (h v) 0) (turned u v j l)) ∙
+      sum_below_pick (h v) (m v) k (low v l))
     where
       turned : (u v : ℕ) → u < k → v < k → eqb (m u) v ≡ eqb (m v) u
       turned u v low_u low_v = elim (cases_eq (m u) v) [
@@ -82,9 +84,11 @@ module _ (k : ℕ) (m : ℕ → ℕ) (low : (u : ℕ) → u < k → m u < k) (ba
         ∙ sum_below-add (λ u. cond (ltb u (m u)) (h u) 0) (λ u. cond (ltb (m u) u) (h u) 0) k
         ∙ ap (λ s. sum_below (λ u. cond (ltb u (m u)) (h u) 0) k + s)
         (sym (sum-mates (λ u. cond (ltb (m u) u) (h u) 0))
-        ∙ sum_below-same (λ u. cond (ltb (m (m u)) (m u)) (h (m u)) 0) (λ u. cond (ltb u (m u)) (h (m u)) 0) k (λ u l. ap (λ v. cond (ltb v (m u)) (h (m u)) 0) (back u l)))
+        ∙ sum_below-same (λ u. cond (ltb (m (m u)) (m u)) (h (m u)) 0) (λ u. cond (ltb u (m u)) (h (m u)) 0) k
+        (λ u l. ap (λ v. cond (ltb v (m u)) (h (m u)) 0) (back u l)))
         ∙ sym (sum_below-add (λ u. cond (ltb u (m u)) (h u) 0) (λ u. cond (ltb u (m u)) (h (m u)) 0) k)
-        ∙ sum_below-same (λ u. cond (ltb u (m u)) (h u) 0 + cond (ltb u (m u)) (h (m u)) 0) (λ u. cond (ltb u (m u)) (h u + h (m u)) 0) k (λ u l. cond-sum (ltb u (m u)) (h u) (h (m u)))
+        ∙ sum_below-same (λ u. cond (ltb u (m u)) (h u) 0 + cond (ltb u (m u)) (h (m u)) 0) (λ u. cond (ltb u (m u)) (h u + h (m u)) 0) k
+        (λ u l. cond-sum (ltb u (m u)) (h u) (h (m u)))
       where
         split : (u : ℕ) → m u ≢ u → h u ≡ cond (ltb u (m u)) (h u) 0 + cond (ltb (m u) u) (h u) 0
         split u differs = elim (cases_lt u (m u)) [
@@ -101,7 +105,9 @@ module _ (k : ℕ) (m : ℕ → ℕ) (low : (u : ℕ) → u < k → m u < k) (ba
       some_crosses odd =
           let whole : sum_below (λ u. cond (p u) 1 0) k ≡ crossings k m p + 2 * sum_below (λ u. cond (ltb u (m u)) (cond (p u && p (m u)) 1 0) 0) k =
           (sum-pairs (λ u. cond (p u) 1 0)
-          ∙ sum_below-same (λ u. cond (ltb u (m u)) (cond (p u) 1 0 + cond (p (m u)) 1 0) 0) (λ u. cond (ltb u (m u)) (cond (exactly_one (p u) (p (m u))) 1 0) 0 + 2 * cond (ltb u (m u)) (cond (p u && p (m u)) 1 0) 0) k (λ u l. ends (ltb u (m u)) (p u) (p (m u)))
+          ∙ sum_below-same (λ u. cond (ltb u (m u)) (cond (p u) 1 0 + cond (p (m u)) 1 0) 0)
+          (λ u. cond (ltb u (m u)) (cond (exactly_one (p u) (p (m u))) 1 0) 0 + 2 * cond (ltb u (m u)) (cond (p u && p (m u)) 1 0) 0) k
+          (λ u l. ends (ltb u (m u)) (p u) (p (m u)))
           ∙ sum_below-add (λ u. cond (ltb u (m u)) (cond (exactly_one (p u) (p (m u))) 1 0) 0) (λ u. 2 * cond (ltb u (m u)) (cond (p u && p (m u)) 1 0) 0) k
           ∙ ap (λ s. crossings k m p + s) (sum_below-times 2 (λ u. cond (ltb u (m u)) (cond (p u && p (m u)) 1 0) 0) k)) in
           some (crossings k m p) (sum_below (λ u. cond (ltb u (m u)) (cond (p u && p (m u)) 1 0) 0) k) (ap (λ n. n % 2) (sym whole) ∙ odd)
@@ -115,8 +121,10 @@ module _ (k : ℕ) (m : ℕ → ℕ) (low : (u : ℕ) → u < k → m u < k) (ba
       crossings-exits =
           sym (
           sum-pairs (λ u. cond (p u && not (p (m u))) 1 0)
-          ∙ sum_below-same (λ u. cond (ltb u (m u)) (cond (p u && not (p (m u))) 1 0 + cond (p (m u) && not (p (m (m u)))) 1 0) 0) (λ u. cond (ltb u (m u)) (cond (exactly_one (p u) (p (m u))) 1 0) 0) k
-          (λ u l. ap (λ v. cond (ltb u (m u)) (cond (p u && not (p (m u))) 1 0 + cond (p (m u) && not (p v)) 1 0) 0) (back u l) ∙ way_out (ltb u (m u)) (p u) (p (m u))))
+          ∙ sum_below-same (λ u. cond (ltb u (m u)) (cond (p u && not (p (m u))) 1 0 + cond (p (m u) && not (p (m (m u)))) 1 0) 0)
+          (λ u. cond (ltb u (m u)) (cond (exactly_one (p u) (p (m u))) 1 0) 0) k
+          (λ u l. ap (λ v. cond (ltb u (m u)) (cond (p u && not (p (m u))) 1 0 + cond (p (m u) && not (p v)) 1 0) 0) (back u l) ∙
+          way_out (ltb u (m u)) (p u) (p (m u))))
 
       -- where one leaf that passes has a mate that doesn't, one pair crosses
       pub one_crosses : (w : ℕ) → w < k → p w ≡ true → p (m w) ≡ false → ((u : ℕ) → u < k → p u ≡ true → p (m u) ≡ false → w ≡ u) → crossings k m p ≡ 1

@@ -32,7 +32,8 @@ pub record IsMatching (f : Family) (cost : ℕ → ℕ → ℕ) (mates : List �
 
 -- the costs of the pairs, each pair once
 abbrev pub pairing_cost : (ℕ → ℕ → ℕ) → List ℕ → ℕ
-pairing_cost cost mates = sum_by (λ u. if nat_lt u (slice_index mates u) then cost u (slice_index mates u) else 0) (range_with_len 0 (length mates))
+pairing_cost cost mates = sum_by (λ u. if nat_lt u (slice_index mates u) then cost u (slice_index mates u) else 0)
+    (range_with_len 0 (length mates))
 
 -- the dual of a node
 abbrev pub dual_in : Option Node → ℕ

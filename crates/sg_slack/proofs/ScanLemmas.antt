@@ -20,7 +20,8 @@ below_next a n low = elim (cases_lt a n) [
   | inr most ↦ inr (omega arith)
 ]
 
-module _ (t : Table) (totals : List ℤ) (Old More New : ℕ → ℕ → Type 0) (old : (u v : ℕ) → Old u v → New u v) (more : (u v : ℕ) → More u v → New u v) (back : (u v : ℕ) → New u v → Old u v ⊎ More u v) where
+module _ (t : Table) (totals : List ℤ) (Old More New : ℕ → ℕ → Type 0) (old : (u v : ℕ) → Old u v → New u v) (more : (u v : ℕ) → More u v → New u v)
+    (back : (u v : ℕ) → New u v → Old u v ⊎ More u v) where
   -- what is the least of some pairs and at most some others is the least of all
   keep : (p : Pair) → IsLeast t totals Old p → ((u v : ℕ) → More u v → p.slack ≤ℤ slack_of t totals u v) → IsLeast t totals New p
   keep p is below =
@@ -45,7 +46,8 @@ module _ (t : Table) (totals : List ℤ) (Old More New : ℕ → ℕ → Type 0)
       }
 
   -- the nearer of the least of some pairs and the least of others is the least of all
-  pub Least-nearer : (best other result : Option Pair) → IsNearer best other result → Least t totals Old best → Least t totals More other → Least t totals New result
+  pub Least-nearer : (best other result : Option Pair) → IsNearer best other result → Least t totals Old best → Least t totals More other →
+      Least t totals New result
   Least-nearer None None result is none none' =
       subst (λ r. Least t totals New r) (sym is) (λ u v new. elim (back u v new) [
         | inl was ↦ none u v was
@@ -56,9 +58,11 @@ module _ (t : Table) (totals : List ℤ) (Old More New : ℕ → ℕ → Type 0)
   Least-nearer (Some p) None result is least none =
       subst (λ r. Least t totals New r) (sym is) (keep p least (λ u v here. absurd (none u v here)))
   Least-nearer (Some p) (Some q) result (inl kept) least least' =
-      subst (λ r. Least t totals New r) (sym kept.0) (keep p least (λ u v here. le_trans p.slack q.slack (slack_of t totals u v) kept.1 (least'.least u v here)))
+      subst (λ r. Least t totals New r) (sym kept.0)
+      (keep p least (λ u v here. le_trans p.slack q.slack (slack_of t totals u v) kept.1 (least'.least u v here)))
   Least-nearer (Some p) (Some q) result (inr taken) least least' =
-      subst (λ r. Least t totals New r) (sym taken.0) (take q least' (λ u v was. le_trans q.slack p.slack (slack_of t totals u v) taken.1 (least.least u v was)))
+      subst (λ r. Least t totals New r) (sym taken.0)
+      (take q least' (λ u v was. le_trans q.slack p.slack (slack_of t totals u v) taken.1 (least.least u v was)))
 
   -- no pair more
   pub Least-same : (best : Option Pair) → ((u v : ℕ) → More u v → ⊥) → Least t totals Old best → Least t totals New best
@@ -90,9 +94,12 @@ module _ (t : Table) (totals : List ℤ) (Is : ℕ → ℕ → Type 0) (row : �
   ]
 
   -- one more pair of the row
-  pub Row-pair : (best result : Option Pair) (place : ℕ) → Is row place → IsNearer best (Some (record { u = row; v = place; slack = slack_of t totals row place })) result → Least t totals (Before place) best → Least t totals (Before (place + 1)) result
+  pub Row-pair : (best result : Option Pair) (place : ℕ) → Is row place →
+      IsNearer best (Some (record { u = row; v = place; slack = slack_of t totals row place })) result → Least t totals (Before place) best →
+      Least t totals (Before (place + 1)) result
   Row-pair best result place is nearer least =
-      Least-nearer t totals (Before place) (Here place) (Before (place + 1)) (wider place) (reached place) (split place) best (Some (record { u = row; v = place; slack = slack_of t totals row place })) result nearer least
+      Least-nearer t totals (Before place) (Here place) (Before (place + 1)) (wider place) (reached place) (split place) best
+      (Some (record { u = row; v = place; slack = slack_of t totals row place })) result nearer least
       (record {
         one = (refl, is);
         slack = refl;
@@ -131,7 +138,8 @@ module _ (t : Table) (totals : List ℤ) (Is : ℕ → ℕ → Type 0) where
   ]
 
   -- one more row
-  pub Rows-more : (best more result : Option Pair) (row : ℕ) → IsNearer best more result → Least t totals (Above row) best → Least t totals (Of row) more → Least t totals (Above (row + 1)) result
+  pub Rows-more : (best more result : Option Pair) (row : ℕ) → IsNearer best more result → Least t totals (Above row) best → Least t totals (Of row) more →
+      Least t totals (Above (row + 1)) result
   Rows-more best more result row =
       Least-nearer t totals (Above row) (Of row) (Above (row + 1)) (wider' row) (reached' row) (split' row) best more result
 

@@ -28,13 +28,15 @@ entry-unique n u v a b low_v low_b same =
     ]
 
 -- two writes set both entries of a pair
-pub SetsPair-written : (n : ℕ) (entries : List ℤ) (u v : ℕ) (cost : ℤ) → length entries ≡ n * n → u < n → v < n → SetsPair (record { size = n; entries = entries }) (record { size = n; entries = set (set entries (u * n + v) cost) (v * n + u) cost }) u v cost
+pub SetsPair-written : (n : ℕ) (entries : List ℤ) (u v : ℕ) (cost : ℤ) → length entries ≡ n * n → u < n → v < n →
+    SetsPair (record { size = n; entries = entries }) (record { size = n; entries = set (set entries (u * n + v) cost) (v * n + u) cost }) u v cost
 SetsPair-written n entries u v cost whole low_u low_v =
     record {
       size = refl;
       forth = elim (cases_eq (u * n + v) (v * n + u)) [
         | inl same ↦ ap (λ k. get_or (set first (v * n + u) cost) k (pos 0)) same ∙ last
-        | inr differs ↦ get_or-set_other first (v * n + u) (u * n + v) cost (pos 0) differs ∙ get_or-set_same entries (u * n + v) cost (pos 0) (omega (arith, whole, entry-within n u v low_u low_v))
+        | inr differs ↦ get_or-set_other first (v * n + u) (u * n + v) cost (pos 0) differs ∙ get_or-set_same entries (u * n + v) cost (pos 0)
+            (omega (arith, whole, entry-within n u v low_u low_v))
       ];
       back = last;
       others = λ a b low_a low_b other.
@@ -46,4 +48,5 @@ SetsPair-written n entries u v cost whole low_u low_v =
     first = set entries (u * n + v) cost
 
     last : get_or (set (set entries (u * n + v) cost) (v * n + u) cost) (v * n + u) (pos 0) ≡ cost
-    last = get_or-set_same (set entries (u * n + v) cost) (v * n + u) cost (pos 0) (omega (arith, whole, length-set entries (u * n + v) cost, entry-within n v u low_v low_u))
+    last = get_or-set_same (set entries (u * n + v) cost) (v * n + u) cost (pos 0)
+        (omega (arith, whole, length-set entries (u * n + v) cost, entry-within n v u low_v low_u))

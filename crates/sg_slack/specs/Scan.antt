@@ -17,4 +17,5 @@ IsOuterOuterOf t tops marks row u v = (u ≡ row) × IsOuterOuter t tops marks u
 abbrev pub IsNearer : Option Pair → Option Pair → Option Pair → Type 0
 IsNearer None more result = result ≡ more
 IsNearer (Some p) None result = result ≡ Some p
-IsNearer (Some p) (Some q) result = ((result ≡ Some p) × (p.slack ≤ℤ q.slack)) ⊎ ((result ≡ Some q) × (q.slack ≤ℤ p.slack))
+IsNearer (Some p) (Some q) result = ((result ≡ Some p) × (p.slack ≤ℤ q.slack)) ⊎
+    ((result ≡ Some q) × (q.slack ≤ℤ p.slack))

@@ -1,5 +1,6 @@
 -- The slack of two leaves, and the least slack of some pairs.
-use Rattle.std.specs.Prelude.{◌≡◌, ◌≢◌, ℕ, ◌<◌, List, slice_index_or, slice_index, ℤ, pos, ◌-ℤ◌, ◌≤ℤ◌, Option, Some, None, FitsSigned}
+use Rattle.std.specs.Prelude.{◌≡◌, ◌≢◌, ℕ, ◌<◌, List, slice_index_or, slice_index, ℤ, pos, ◌-ℤ◌, ◌≤ℤ◌, Option, Some}
+use Rattle.std.specs.Prelude.{None, FitsSigned}
 use Rattle.std.specs.Int.{w64}
 use Rattle.sg_slack.specs.declared.Mark.{Mark}
 use Rattle.sg_slack.specs.declared.Mark.TheVariants.{Free, Outer}

@@ -1,5 +1,6 @@
 -- Lists and options: tests, sums and parts, as far as the library has no lemma.
-use Rattle.std.proofs.Common.{Bool, IsSome, List, None, Option, Some, [], add-zero, ap, arith, cond, count_by, eq-eqb, eqb, false, filter, get_or, inl, inr, length, map, refl, suc, sum_by, sym, true, zero, zero-add, ℕ, ◌+◌, ◌<◌, ◌||◌, ◌∙◌, ◌∷◌, ◌≡◌, ◌≢◌, ◌≤◌, ◌⊎◌}
+use Rattle.std.proofs.Common.{Bool, IsSome, List, None, Option, Some, [], add-zero, ap, arith, cond, count_by, eq-eqb, eqb, false, filter, get_or, inl, inr}
+use Rattle.std.proofs.Common.{length, map, refl, suc, sum_by, sym, true, zero, zero-add, ℕ, ◌+◌, ◌<◌, ◌||◌, ◌∙◌, ◌∷◌, ◌≡◌, ◌≢◌, ◌≤◌, ◌⊎◌}
 use Rattle.std.proofs.lemmas.Bool.{cases_Bool, cases_eq, cond-false, cond-true, eqb-true, false≢true, ne_eqb, or_cases}
 use Rattle.std.proofs.lemmas.List.Folds.{list_any_at}
 use Rattle.std.proofs.lemmas.List.Sums.{sum_by-cons, sum_by-le-sum_by}
@@ -58,13 +59,15 @@ module _ {X : Type 0} where
       ]
 
   -- tests that agree at each place find the same
-  pub list_any-agree_at : (p q : X → Bool) (xs : List X) (d : X) → ((i : ℕ) → i < length xs → p (get_or xs i d) ≡ q (get_or xs i d)) → list_any p xs ≡ list_any q xs
+  pub list_any-agree_at : (p q : X → Bool) (xs : List X) (d : X) → ((i : ℕ) → i < length xs → p (get_or xs i d) ≡ q (get_or xs i d)) →
+      list_any p xs ≡ list_any q xs
   list_any-agree_at p q [] d same = refl
   list_any-agree_at p q (x ∷ xs) d same =
       rw (same 0 (omega arith), list_any-agree_at p q xs d (λ i within. same (suc i) (omega arith))) refl
 
 -- a number stands at some place of a list, or at none
-pub cases_in : (xs : List ℕ) (n : ℕ) → ((i : ℕ) × (i < length xs) × (get_or xs i 0 ≡ n) × (list_any (λ m. eqb m n) xs ≡ true)) ⊎ (((i : ℕ) → i < length xs → get_or xs i 0 ≢ n) × (list_any (λ m. eqb m n) xs ≡ false))
+pub cases_in : (xs : List ℕ) (n : ℕ) → ((i : ℕ) × (i < length xs) × (get_or xs i 0 ≡ n) × (list_any (λ m. eqb m n) xs ≡ true)) ⊎
+    (((i : ℕ) → i < length xs → get_or xs i 0 ≢ n) × (list_any (λ m. eqb m n) xs ≡ false))
 cases_in xs n =
     elim (cases_Bool (list_any (λ m. eqb m n) xs)) [
       | inl some ↦ let at = place_of_any (λ m. eqb m n) xs 0 some in inl (at.0, at.1, eqb-true (get_or xs at.0 0) n at.2, some)
@@ -134,7 +137,12 @@ sum_by-zero f (x ∷ xs) zeros = omega (arith, zeros x, sum_by-zero f xs zeros, 
 point_out : (d : ℕ → ℕ) (n a count : ℕ) → n < a → sum_by (λ t. cond (eqb n t) (d t) 0) (range_with_len a count) ≡ 0
 point_out d n a zero low = refl
 point_out d n a (suc count) low =
-    omega (arith, point_out d n (a + 1) count (omega arith), sum_by-cons (λ t. cond (eqb n t) (d t) 0) a (range_with_len (a + 1) count), cond-false (eqb n a) (d a) 0 (ne_eqb n a (λ e. omega arith)))
+    omega (
+      arith,
+      point_out d n (a + 1) count (omega arith),
+      sum_by-cons (λ t. cond (eqb n t) (d t) 0) a (range_with_len (a + 1) count),
+      cond-false (eqb n a) (d a) 0 (ne_eqb n a (λ e. omega arith)),
+    )
 
 -- a sum in which one term alone isn't 0
 pub sum_by-point : (d : ℕ → ℕ) (n a count : ℕ) → a ≤ n → n < a + count → sum_by (λ t. cond (eqb n t) (d t) 0) (range_with_len a count) ≡ d n
@@ -142,9 +150,21 @@ sum_by-point d n a zero low high = absurd (omega arith)
 sum_by-point d n a (suc count) low high =
     elim (cases_eq n a) [
       | inl same ↦
-          omega (arith, point_out d n (a + 1) count (omega arith), sum_by-cons (λ t. cond (eqb n t) (d t) 0) a (range_with_len (a + 1) count), cond-true (eqb n a) (d a) 0 (eq-eqb n a same), ap d same)
+          omega (
+            arith,
+            point_out d n (a + 1) count (omega arith),
+            sum_by-cons (λ t. cond (eqb n t) (d t) 0) a (range_with_len (a + 1) count),
+            cond-true (eqb n a) (d a) 0 (eq-eqb n a same),
+            ap d same,
+          )
       | inr differs ↦
-          omega (arith, sum_by-point d n (a + 1) count (omega arith) (omega arith), sum_by-cons (λ t. cond (eqb n t) (d t) 0) a (range_with_len (a + 1) count), cond-false (eqb n a) (d a) 0 (ne_eqb n a differs))
+          omega (
+            arith,
+            sum_by-point d n (a + 1) count (omega arith) (omega arith),
+            sum_by-cons (λ t. cond (eqb n t) (d t) 0) a
+                (range_with_len (a + 1) count),
+            cond-false (eqb n a) (d a) 0 (ne_eqb n a differs),
+          )
     ]
 
 -- a term counted in one of two cases that exclude each other

@@ -14,8 +14,10 @@ loop-u-preserved c =
     elim c.match-mark-u.branch [
       | in-Outer w ↦
           subst (λ r. Least costs total (λ a b. (a < u + 1) × Is a b) r) (sym w.best-is)
-          (Rows-more costs total Is c.loop-u.best w.nearest_free.result w.nearer-best.result u w.nearer-best.ensures c.loop-u.invariant w.nearest_free.ensures)
+          (Rows-more costs total Is c.loop-u.best w.nearest_free.result w.nearer-best.result u w.nearer-best.ensures c.loop-u.invariant
+          w.nearest_free.ensures)
       | in_default w ↦
           subst (λ r. Least costs total (λ a b. (a < u + 1) × Is a b) r) (sym w.best-is)
-          (Rows-none costs total Is c.loop-u.best u (λ a b is. w.in_default.not-Outer (subst (λ m. mark_at c.args.mark.now m ≡ Outer) is.0 is.1.outer)) c.loop-u.invariant)
+          (Rows-none costs total Is c.loop-u.best u (λ a b is. w.in_default.not-Outer (subst (λ m. mark_at c.args.mark.now m ≡ Outer) is.0 is.1.outer))
+          c.loop-u.invariant)
     ]

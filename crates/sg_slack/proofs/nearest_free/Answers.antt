@@ -15,7 +15,8 @@ loop-v-preserved c =
       | in-Free w ↦
           let here : Is c.args.u v = (refl, record { u_leaf = c.requires.leaf; v_leaf = omega arith; outer = c.requires.outer; free = w.in-Free.is }) in
           subst (λ r. Least costs total (λ a b. (b < v + 1) × Is a b) r) (sym w.best-is)
-          (Row-pair costs total Is c.args.u (λ a b is. is.0) c.loop-v.best w.nearer-best.result v here (subst (λ p. IsNearer c.loop-v.best (Some p) w.nearer-best.result) w.pair_of.ensures w.nearer-best.ensures) c.loop-v.invariant)
+          (Row-pair costs total Is c.args.u (λ a b is. is.0) c.loop-v.best w.nearer-best.result v here
+          (subst (λ p. IsNearer c.loop-v.best (Some p) w.nearer-best.result) w.pair_of.ensures w.nearer-best.ensures) c.loop-v.invariant)
       | in_default w ↦
           subst (λ r. Least costs total (λ a b. (b < v + 1) × Is a b) r) (sym w.best-is)
           (Row-none costs total Is c.args.u (λ a b is. is.0) c.loop-v.best v (λ is. w.in_default.not-Free is.1.free) c.loop-v.invariant)

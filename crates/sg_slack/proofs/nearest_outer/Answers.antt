@@ -13,9 +13,13 @@ loop-v-preserved c =
     let v = c.loop-v.v in
     elim c.if-top-u.branch [
       | then-top-u+in-Outer w ↦
-          let here : Is c.args.u v = (refl, record { u_leaf = c.requires.leaf; v_leaf = omega arith; u_outer = c.requires.outer; v_outer = w.in-Outer.is; apart = w.if-top-u.true }) in
+          let here : Is c.args.u v = (
+            refl,
+            record { u_leaf = c.requires.leaf; v_leaf = omega arith; u_outer = c.requires.outer; v_outer = w.in-Outer.is; apart = w.if-top-u.true },
+          ) in
           subst (λ r. Least costs total (λ a b. (b < v + 1) × Is a b) r) (sym w.best-is)
-          (Row-pair costs total Is c.args.u (λ a b is. is.0) c.loop-v.best w.nearer-best.result v here (subst (λ p. IsNearer c.loop-v.best (Some p) w.nearer-best.result) w.pair_of.ensures w.nearer-best.ensures) c.loop-v.invariant)
+          (Row-pair costs total Is c.args.u (λ a b is. is.0) c.loop-v.best w.nearer-best.result v here
+          (subst (λ p. IsNearer c.loop-v.best (Some p) w.nearer-best.result) w.pair_of.ensures w.nearer-best.ensures) c.loop-v.invariant)
       | then-top-u+in_default w ↦
           subst (λ r. Least costs total (λ a b. (b < v + 1) × Is a b) r) (sym w.best-is)
           (Row-none costs total Is c.args.u (λ a b is. is.0) c.loop-v.best v (λ is. w.in_default.not-Outer is.1.v_outer) c.loop-v.invariant)

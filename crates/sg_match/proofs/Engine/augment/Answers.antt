@@ -3,27 +3,29 @@ use Rattle.std.proofs.Common.{rules, ◌<◌, List, None, length, sym, subst, �
 use Rattle.std.proofs.lemmas.List.{with_items_is}
 use Rattle.std.specs.Vec.{with_items}
 use Rattle.sg_match.proofs.Engine.augment.Goals as goal
-use Rattle.sg_match.proofs.ReachStep.{IsAfter, IsEngine-augmented, limb_tops, root_top, with_tree}
+use Rattle.sg_match.proofs.GrowOrAugmentStep.{IsAfter, IsEngine-augmented, edge_tops, root_top, with_tree}
 use Rattle.sg_match.specs.Augmented.{HasTops}
-use Rattle.sg_match.specs.Tree.{limb_at}
-use Rattle.sg_match.specs.declared.Limb.{Limb}
+use Rattle.sg_match.specs.Tree.{edge_at}
+use Rattle.sg_match.specs.declared.TreeEdge.{TreeEdge}
 
-pub flip-requires-clause-root : goal.flip-requires-clause-root
-flip-requires-clause-root c = root_top _ _ _ _ _ _ c.self.invariant.0 _ c.self.view_is _ _ _ _ c.requires.reach
+pub augment_path-requires-clause-root : goal.augment_path-requires-clause-root
+augment_path-requires-clause-root c = root_top _ _ _ _ _ _ c.self.invariant.0 _ c.self.view_is _ _ _ _ c.requires.tight_edge
 
-pub flip-requires-clause-limbs : goal.flip-requires-clause-limbs
-flip-requires-clause-limbs c =
-    subst (λ (ls : List Limb). (i : ℕ) → i < length ls → HasTops c.self.inside.arena (limb_at ls i)) (sym c.deref.ensures.value)
-    (limb_tops _ _ _ _ _ _ c.self.invariant.0 _ c.self.view_is _ _ _ _ c.requires.reach)
+pub augment_path-requires-clause-edges : goal.augment_path-requires-clause-edges
+augment_path-requires-clause-edges c =
+    subst (λ (ls : List TreeEdge). (i : ℕ) → i < length ls → HasTops c.self.inside.arena (edge_at ls i)) (sym c.deref.ensures.value)
+    (edge_tops _ _ _ _ _ _ c.self.invariant.0 _ c.self.view_is _ _ _ _ c.requires.tight_edge)
 
-after : (c : goal.After-clear) → IsAfter (with_tree c.self.inside.arena c.self.inside.costs (with_items c.self.inside.pairs c.flip.new.pairs).items c.take_name.new.names.items None c.clear.new.self.items) c.args.self.now
+after : (c : goal.After-clear) →
+    IsAfter (with_tree c.self.inside.arena c.self.inside.costs (with_items c.self.inside.pairs c.augment_path.new.pairs).items c.take_name.new.names.items
+    None c.clear.new.self.items) c.args.self.now
 after c =
-    IsEngine-augmented _ _ _ _ _ _ c.self.invariant.0 _ c.self.view_is _ _ _ _ c.requires.reach c.requires.unpaired _ _ _ _ _ _
+    IsEngine-augmented _ _ _ _ _ _ c.self.invariant.0 _ c.self.view_is _ _ _ _ c.requires.tight_edge c.requires.unpaired _ _ _ _ _ _
     c.deref_mut.ensures.value
     c.deref.ensures.value
-    (with_items_is c.self.inside.pairs c.flip.new.pairs (c.flip.auto.pairs ∙ c.deref_mut.ensures.len))
+    (with_items_is c.self.inside.pairs c.augment_path.new.pairs (c.augment_path.auto.pairs ∙ c.deref_mut.ensures.len))
     c.clear.ensures.items
-    c.flip.ensures
+    c.augment_path.ensures
     c.take_name.ensures.taken
 
 pub invariant_of-self : goal.invariant_of-self

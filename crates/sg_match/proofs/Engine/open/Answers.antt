@@ -23,10 +23,11 @@ size_of c = c.in_ok-arena.ensures.leaves ∙ c.size-k.ensures.value
 pub invariant_of-result : goal.invariant_of-result
 invariant_of-result c =
     let arena = c.in_ok-arena.arena in (
-      IsEngine-opened arena c.in_ok-arena.ensures.alone c.args.costs c.requires (size_of c) c.in_ok-pairs.pairs.items (room_of c) (free_of c) c.in_ok-lonely.lonely.items c.in_ok-limbs.limbs.items c.in_ok-lonely.ensures.items c.in_ok-limbs.ensures.items,
+      IsEngine-opened arena c.in_ok-arena.ensures.alone c.args.costs c.requires (size_of c) c.in_ok-pairs.pairs.items (room_of c)
+          (free_of c) c.in_ok-exposed.exposed.items c.in_ok-edges.edges.items c.in_ok-exposed.ensures.items c.in_ok-edges.ensures.items,
       record {
-        limbs = omega (arith, c.in_ok-limbs.ensures.capacity, c.room-room.ensures.value);
-        lonely = omega (arith, c.in_ok-lonely.ensures.room, c.room-room.ensures.value);
+        edges = omega (arith, c.in_ok-edges.ensures.capacity, c.room-room.ensures.value);
+        exposed = omega (arith, c.in_ok-exposed.ensures.room, c.room-room.ensures.value);
         outer = omega (arith, c.in_ok-outer.ensures.capacity, c.room-room.ensures.value);
         inner = omega (arith, c.in_ok-inner.ensures.capacity, c.room-room.ensures.value);
         cycle = omega (arith, c.in_ok-cycle.ensures.capacity, c.room-room.ensures.value);
@@ -43,4 +44,5 @@ returns-clause-engine c = (invariant_of-result c).0
 
 pub returns-clause-left : goal.returns-clause-left
 returns-clause-left c =
-    steps_left-opened c.in_ok-arena.arena c.in_ok-arena.ensures.alone c.args.costs c.requires (size_of c) c.in_ok-pairs.pairs.items (room_of c) (free_of c) c.in_ok-lonely.lonely.items c.in_ok-limbs.limbs.items c.in_ok-lonely.ensures.items c.in_ok-limbs.ensures.items
+    steps_left-opened c.in_ok-arena.arena c.in_ok-arena.ensures.alone c.args.costs c.requires (size_of c) c.in_ok-pairs.pairs.items (room_of c)
+    (free_of c) c.in_ok-exposed.exposed.items c.in_ok-edges.edges.items c.in_ok-exposed.ensures.items c.in_ok-edges.ensures.items

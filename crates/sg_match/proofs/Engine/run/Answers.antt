@@ -1,4 +1,4 @@
--- `run`: with all tops paired, the settled pairs are a matching of the costs given.
+-- `run`: with all tops paired, the derived pairs are a matching of the costs given.
 use Rattle.std.proofs.Common.{◌≡◌, ℕ, List, Option, ap, ◌∙◌, subst, sym}
 use Rattle.std.proofs.lemmas.List.{with_items_is}
 use Rattle.sg_arena.specs.Family.{leaf_count}
@@ -15,8 +15,8 @@ use Rattle.sg_match.specs.State.{State}
 use Rattle.sg_match.specs.declared.Edge.{Edge}
 use Rattle.sg_slack.specs.Table.{Table}
 
-pub settle-requires-clause-paired : goal.settle-requires-clause-paired
-settle-requires-clause-paired g c =
+pub derive_mates-requires-clause-paired : goal.derive_mates-requires-clause-paired
+derive_mates-requires-clause-paired g c =
     subst (λ (xs : List (Option Edge)). IsPaired c.self.inside.arena (λ u v. Unit {0}) xs) (sym c.deref_mut.ensures.value)
     (record { own = c.self.invariant.0.paired.own; other = c.self.invariant.0.paired.other; tight = λ t p top some. tt })
 
@@ -31,11 +31,12 @@ returns-clause-slack g c =
 pub returns-clause-matching : goal.returns-clause-matching
 returns-clause-matching g c =
     let engine = c.self.invariant.0 in
-    let paired = subst (λ (xs : List (Option Edge)). IsPaired c.self.inside.arena (IsTight c.self.inside.arena (cost c.self.inside.costs)) xs) (sym c.deref_mut.ensures.value) engine.paired in
-    let settled = c.settle.ensures (cost c.self.inside.costs) (symmetric (state_of c.self.inside) engine) engine.feasible paired in
-    let written = with_items_is c.self.inside.mates c.settle.new.mates (c.settle.auto.mates ∙ c.deref_mut-2.ensures.len) in
+    let paired = subst (λ (xs : List (Option Edge)). IsPaired c.self.inside.arena (IsTight c.self.inside.arena (cost c.self.inside.costs)) xs)
+    (sym c.deref_mut.ensures.value) engine.paired in
+    let derived = c.derive_mates.ensures (cost c.self.inside.costs) (symmetric (state_of c.self.inside) engine) engine.feasible paired in
+    let written = with_items_is c.self.inside.mates c.derive_mates.new.mates (c.derive_mates.auto.mates ∙ c.deref_mut-2.ensures.len) in
     subst (λ (t : Table). IsMatching c.self.inside.arena (cost t) c.from_vec.result) (same_table g c)
-    (subst (λ (xs : List ℕ). IsMatching c.self.inside.arena (cost c.self.inside.costs) xs) (sym (c.from_vec.ensures ∙ written)) settled)
+    (subst (λ (xs : List ℕ). IsMatching c.self.inside.arena (cost c.self.inside.costs) xs) (sym (c.from_vec.ensures ∙ written)) derived)
 
 matched : (g : Over) (c : goal.After-drop-self-inside-8 g) → IsMatching c.self.inside.arena (cost c.args.self.table) c.from_vec.result
 matched g c = returns-clause-matching g c
@@ -46,4 +47,5 @@ returns-clause-duals g c = cost-is_duals c.self.inside.arena c.from_vec.result (
 pub returns-clause-least : goal.returns-clause-least
 returns-clause-least g c other pairing =
     let size : leaf_count c.self.inside.arena ≡ c.args.self.table.size = c.self.invariant.0.leaves ∙ ap (λ (t : Table). t.size) (same_table g c) in
-    matching_least c.self.inside.arena (cost c.args.self.table) c.from_vec.result other c.self.invariant.0.feasible.family (returns-clause-slack g c) (matched g c) (subst (λ k. IsPairing k other) (sym size) pairing)
+    matching_least c.self.inside.arena (cost c.args.self.table) c.from_vec.result other c.self.invariant.0.feasible.family (returns-clause-slack g c)
+    (matched g c) (subst (λ k. IsPairing k other) (sym size) pairing)

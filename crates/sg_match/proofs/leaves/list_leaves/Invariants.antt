@@ -10,5 +10,5 @@ invariant-loop-leaf l = record {
   top : (k : ℕ) → k < l.leaf → IsTop l.arena (get_or l.tops k 0);
   held : (k : ℕ) → k < l.leaf → Holds l.arena (get_or l.tops k 0) k;
   total : (k : ℕ) → k < l.leaf → get_or l.totals k (pos 0) ≡ pos (total_of l.arena k);
-  mark : (k : ℕ) → k < l.leaf → StandsAt l.root l.limbs (get_or l.tops k 0) (get_or l.marks k Free);
+  mark : (k : ℕ) → k < l.leaf → StandsAt l.root l.edges (get_or l.tops k 0) (get_or l.marks k Free);
 }

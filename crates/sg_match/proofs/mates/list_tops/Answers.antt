@@ -13,7 +13,8 @@ loop-name-init c = record {
 
 pub push_reserved-requires : goal.push_reserved-requires
 push_reserved-requires c =
-    let few : length c.loop-name.nodes.items ≤ c.loop-name.name = below_room c.args.arena.now c.loop-name.nodes.items c.loop-name.name c.loop-name.invariant.below in
+    let few : length c.loop-name.nodes.items ≤ c.loop-name.name =
+    below_room c.args.arena.now c.loop-name.nodes.items c.loop-name.name c.loop-name.invariant.below in
     omega (arith, few, c.loop-name-test.true, c.requires.names, c.requires.room, c.loop-name.invariant.room)
 
 pub loop-name-preserved : goal.loop-name-preserved
@@ -24,7 +25,8 @@ loop-name-preserved c =
     elim c.if-is_top.branch [
       | then-is_top w ↦ record {
         room = ap (λ v. vec_capacity v) w.nodes-is ∙ w.push_reserved.ensures.capacity ∙ c.loop-name.invariant.room;
-        below = subst (λ xs. ListsBelow f xs (name + 1)) (sym (ap (λ v. v.items) w.nodes-is ∙ w.push_reserved.ensures.items)) (ListsBelow-more f c.loop-name.nodes.items name was (c.is_top.ensures.sound w.if-is_top.true));
+        below = subst (λ xs. ListsBelow f xs (name + 1)) (sym (ap (λ v. v.items) w.nodes-is ∙ w.push_reserved.ensures.items))
+            (ListsBelow-more f c.loop-name.nodes.items name was (c.is_top.ensures.sound w.if-is_top.true));
       }
       | else-is_top w ↦ record {
         room = ap (λ v. vec_capacity v) w.nodes-is ∙ c.loop-name.invariant.room;
@@ -36,4 +38,5 @@ loop-name-preserved c =
 
 pub returns-clause-tops : goal.returns-clause-tops
 returns-clause-tops c =
-    ListsTops-done c.args.arena.now c.loop-name.nodes.items c.loop-name.name c.loop-name.invariant.below c.requires.family (omega (arith, c.loop-name-test.false, c.requires.names))
+    ListsTops-done c.args.arena.now c.loop-name.nodes.items c.loop-name.name c.loop-name.invariant.below c.requires.family
+    (omega (arith, c.loop-name-test.false, c.requires.names))

@@ -18,10 +18,12 @@ loop-k-preserved c =
     elim c.match-pairs-nodes.branch [
       | in-Some+then-is_leaf w ↦
           subst (λ m. IsWriting f c.args.pairs.now c.args.nodes.now m (k + 1)) (sym w.mates-is)
-          (IsWriting-leaf f c.requires.family c.args.pairs.now c.args.nodes.now c.requires.own c.requires.differ c.loop-k.mates k c.loop-k-test.true c.loop-k.invariant (w.is_leaf.ensures.0 w.if-is_leaf.true) w.in-Some.pair w.in-Some.is)
+          (IsWriting-leaf f c.requires.family c.args.pairs.now c.args.nodes.now c.requires.own c.requires.differ c.loop-k.mates k c.loop-k-test.true
+          c.loop-k.invariant (w.is_leaf.ensures.0 w.if-is_leaf.true) w.in-Some.pair w.in-Some.is)
       | in-Some+else-is_leaf w ↦
           subst (λ m. IsWriting f c.args.pairs.now c.args.nodes.now m (k + 1)) (sym w.mates-is)
-          (IsWriting-blossom f c.requires.family c.args.pairs.now c.args.nodes.now c.requires.own c.requires.differ c.loop-k.mates k c.loop-k-test.true c.loop-k.invariant (λ plain. false≢true (sym w.if-is_leaf.false ∙ w.is_leaf.ensures.1 plain)))
+          (IsWriting-blossom f c.requires.family c.args.pairs.now c.args.nodes.now c.requires.own c.requires.differ c.loop-k.mates k c.loop-k-test.true
+          c.loop-k.invariant (λ plain. false≢true (sym w.if-is_leaf.false ∙ w.is_leaf.ensures.1 plain)))
       | in_default w ↦
           let own = c.requires.own k c.loop-k-test.true in
           let clash : ⊥ = cc (own.is, w.in_default.is) in

@@ -1,12 +1,12 @@
 -- `pair_ring`: the nodes so far are paired.
 use Rattle.std.proofs.Common.{length, ◌-◌, ◌≡◌, ℕ, ◌≤◌, ◌+◌, ◌*◌}
-use Rattle.sg_match.proofs.RungLemmas.{IsRungTo}
+use Rattle.sg_match.proofs.RingPairLemmas.{IsRingPairedTo}
 use Rattle.sg_match.proofs.rings.pair_ring.Given as goal
 
 abbrev pub invariant-loop-i : goal.invariant-loop-i
 invariant-loop-i l = record {
   within : l.i ≤ length l.ring;
-  twos : (count : ℕ) × (l.i ≡ 2 * count + 1) × IsRungTo l.fn.pairs l.pairs l.ring l.fn.pair count;
+  twos : (count : ℕ) × (l.i ≡ 2 * count + 1) × IsRingPairedTo l.fn.pairs l.pairs l.ring l.fn.pair count;
 }
 
 abbrev pub decreases-loop-i : goal.decreases-loop-i

@@ -8,4 +8,5 @@ use Rattle.sg_match.proofs.rings.place_of.Goals as goal
 pub unreachable-requires : goal.unreachable-requires
 unreachable-requires c =
     let low : c.requires.0 < length c.args.ring.now = omega (arith, c.requires.1, length-map c.args.ring.now (λ l. l.node)) in
-    c.loop-i.invariant c.requires.0 (omega (arith, low, c.loop-i-test.false)) (sym (get_or-map (λ l. l.node) c.args.ring.now c.requires.0 blank_link c.args.node low) ∙ c.requires.2)
+    c.loop-i.invariant c.requires.0 (omega (arith, low, c.loop-i-test.false))
+    (sym (get_or-map (λ l. l.node) c.args.ring.now c.requires.0 blank_link c.args.node low) ∙ c.requires.2)

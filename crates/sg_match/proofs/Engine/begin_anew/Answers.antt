@@ -1,0 +1,82 @@
+-- `begin_anew`: an unpaired top is taken from the list as the root.
+use Rattle.std.proofs.Common.{◌≡◌, ◌≤◌, None, Option, Some, ℕ, ap, ◌∙◌, subst, rules}
+use Rattle.sg_match.proofs.Engine.begin_anew.Goals as goal
+use Rattle.sg_match.proofs.SearchStep.{begun}
+use Rattle.sg_match.specs.Engine.{IsEngine}
+use Rattle.sg_match.specs.State.{State}
+use Rattle.sg_match.specs.Steps.{steps_left}
+
+seen : (c : goal.After-self-1) →
+    (record {
+      family = c.self.inside.arena;
+      table = c.self.inside.costs;
+      pairs = c.self.inside.pairs.items;
+      exposed = c.self.inside.exposed.items;
+      root =
+          None;
+      edges = c.self.inside.edges.items;
+    }) ≡ c.args.self.now
+seen c =
+    let bare : c.self.inside.root ≡ None = ap (λ (s : State). s.root) c.self.view_is ∙ c.requires.bare in
+    subst (λ (o : Option ℕ). (record {
+      family = c.self.inside.arena;
+      table = c.self.inside.costs;
+      pairs = c.self.inside.pairs.items;
+      exposed =
+          c.self.inside.exposed.items;
+      root = o;
+      edges = c.self.inside.edges.items;
+    }) ≡ c.args.self.now) bare c.self.view_is
+
+after : (c : goal.After-self-1) →
+    IsEngine (record {
+      family = c.self.inside.arena;
+      table = c.self.inside.costs;
+      pairs = c.self.inside.pairs.items;
+      exposed = c.pop.new.self.items;
+      root =
+          Some c.in-Some.root;
+      edges = c.self.inside.edges.items;
+    }) ×
+    (steps_left (record {
+      family = c.self.inside.arena;
+      table = c.self.inside.costs;
+      pairs = c.self.inside.pairs.items;
+      exposed = c.pop.new.self.items;
+      root = Some c.in-Some.root;
+      edges = c.self.inside.edges.items;
+    }) ≤ steps_left c.args.self.now)
+after c =
+    let bare : c.self.inside.root ≡ None = ap (λ (s : State). s.root) c.self.view_is ∙ c.requires.bare in
+    let engine = subst (λ (o : Option ℕ). IsEngine
+    (record {
+      family = c.self.inside.arena;
+      table = c.self.inside.costs;
+      pairs = c.self.inside.pairs.items;
+      exposed = c.self.inside.exposed.items;
+      root = o;
+      edges = c.self.inside.edges.items;
+    })) bare c.self.invariant.0 in
+    let both = begun c.self.inside.arena c.self.inside.costs c.self.inside.pairs.items c.self.inside.exposed.items c.self.inside.edges.items engine
+    c.pop.new.self.items c.in-Some.root c.in-Some.ensures.items in (
+      both.0,
+      subst (λ s. steps_left
+          (record {
+            family = c.self.inside.arena;
+            table = c.self.inside.costs;
+            pairs = c.self.inside.pairs.items;
+            exposed = c.pop.new.self.items;
+            root =
+                Some c.in-Some.root;
+            edges = c.self.inside.edges.items;
+          }) ≤ steps_left s) (seen c) both.1,
+    )
+
+pub invariant_of-self : goal.invariant_of-self
+invariant_of-self c = ((after c).0, search rules)
+
+pub returns-in-Some-clause-engine : goal.returns-in-Some-clause-engine
+returns-in-Some-clause-engine c = (after c).0
+
+pub returns-in-Some-clause-left : goal.returns-in-Some-clause-left
+returns-in-Some-clause-left c = (after c).1

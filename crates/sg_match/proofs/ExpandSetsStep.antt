@@ -1,0 +1,225 @@
+-- What the expansion of an inner blossom of dual 0 makes of the engine's invariant.
+use Rattle.std.proofs.Common.{◌≡◌, ◌≢◌, ◌⊎◌, ℕ, zero, suc, ◌+◌, ◌*◌, ◌<◌, List, [], length, Option, Some, None, refl, sym, ap, ◌∙◌, subst, inl, inr, arith}
+use Rattle.std.proofs.lemmas.Option.{same_Some}
+use Rattle.std.specs.Option.{option_map_or}
+use Rattle.std.proofs.lemmas.Bool.{cases_eq, ne_eqb}
+use Rattle.std.proofs.lemmas.List.{get_or-set_same, get_or-set_other}
+use Rattle.sg_arena.proofs.ExpandedFamily.{IsFamily-expand, IsTop-expand_child, IsTop-expand_old, IsTop-expand_other, duals_between-expand, expand-apart}
+use Rattle.sg_arena.proofs.ExpandedFamily.{holds_rest, total-expand}
+use Rattle.sg_arena.proofs.FamilyLemmas.{child-covered, top-no_child}
+use Rattle.sg_arena.specs.Changes.{CanShrink, with_slot}
+use Rattle.sg_arena.specs.Family.{Family, Holds, IsBlossom, IsFamily, IsTop, Node, after_index, cycle_of, dual_of, link_at, node_at, total_of}
+use Rattle.sg_arena.specs.declared.Link.{Link}
+use Rattle.sg_match.specs.Feasible.{IsFeasible}
+use Rattle.sg_pairing.specs.Tight.{IsTight}
+use Rattle.sg_match.specs.Pairs.{IsPaired, flipped, pair_of}
+use Rattle.sg_match.specs.Rings.{IsRingPaired}
+use Rattle.sg_match.specs.declared.Edge.{Edge}
+
+-- a number is even or odd
+pub halves : (n : ℕ) → ((j : ℕ) × (n ≡ 2 * j)) ⊎ ((j : ℕ) × (n ≡ 2 * j + 1))
+halves zero = inl (0, refl)
+halves (suc n) = elim (halves n) [
+  | inl at ↦ inr (at.0, omega (arith, at.1))
+  | inr at ↦ inl (at.0 + 1, omega (arith, at.1))
+]
+
+module _ (f : Family) (b : ℕ) (fam : IsFamily f) (top : IsTop f b) (blossom : IsBlossom f b) (room : b < length f.nodes) where
+  abbrev g : Family
+  g = with_slot f b None
+
+  not_b : (t : ℕ) → IsTop g t → t ≢ b
+  not_b t is = expand-apart f b fam top blossom room t is.alive
+
+  old_top : (t : ℕ) → IsTop f t → t ≢ b → IsTop g t
+  old_top = IsTop-expand_other f b fam top blossom room
+
+  kid_in : (i l : ℕ) → i < length (cycle_of f b) → Holds g (link_at (cycle_of f b) i).node l → Holds f b l
+  kid_in i l low h = child-covered f fam b i low l
+      (sym (holds_rest f b fam top blossom room (link_at (cycle_of f b) i).node l
+      (not_b (link_at (cycle_of f b) i).node (IsTop-expand_child f b fam top blossom room i low))) ∙ h)
+
+  -- over any ring of the children
+  module _ (good : ℕ → ℕ → Type 0) (pairs now : List (Option Edge)) (ring : List Link) (pair : Edge) (paired : IsPaired f good pairs)
+      (is_pair : pair_of pairs b ≡ Some pair) (can : CanShrink g ring) (ring_pairs : IsRingPaired pairs now ring pair)
+      (from_kid : (i : ℕ) → i < length ring → (j : ℕ) × (j < length (cycle_of f b)) × ((link_at (cycle_of f b) j).node ≡ (link_at ring i).node))
+      (to_ring : (j : ℕ) → j < length (cycle_of f b) → (i : ℕ) × (i < length ring) × ((link_at ring i).node ≡ (link_at (cycle_of f b) j).node))
+      (base : Holds g (link_at ring 0).node pair.from)
+      (fine : (i : ℕ) → i < length ring → good (link_at ring i).from (link_at ring i).to × good (link_at ring i).to (link_at ring i).from) where
+    -- an old top but the blossom isn't in the ring
+    old_out : (t : ℕ) → IsTop f t → (i : ℕ) → i < length ring → (link_at ring i).node ≢ t
+    old_out t is i low same = let kid = from_kid i low in top-no_child f fam t b kid.0 is kid.1 (kid.2 ∙ same)
+
+    after_is : (i : ℕ) → i + 1 < length ring → after_index (length ring) i ≡ i + 1
+    after_is i low = rw (ne_eqb (i + 1) (length ring) (omega (arith, low))) refl
+
+    -- the mate outside
+    m : (s : ℕ) × IsTop f s × (s ≢ b) × Holds f s pair.to × (pair_of pairs s ≡ Some (flipped pair))
+    m = paired.other b pair top is_pair
+
+    Pairing : ℕ → Edge → Type 0
+    Pairing t p = Holds g t p.from × good p.from p.to × ((s : ℕ) × IsTop g s × (s ≢ t) × Holds g s p.to × (pair_of now s ≡ Some (flipped p)))
+
+    in_ring : (i : ℕ) → i < length ring → (p : Edge) → pair_of now (link_at ring i).node ≡ Some p → Pairing (link_at ring i).node p
+    unfolding Pairing
+    in_ring zero low p is =
+        let e : pair ≡ p = same_Some _ _ (sym ring_pairs.first ∙ is) in
+        subst (λ x. Holds g (link_at ring 0).node x.from × good x.from x.to ×
+        ((s : ℕ) × IsTop g s × (s ≢ (link_at ring 0).node) × Holds g s x.to × (pair_of now s ≡ Some (flipped x)))) e (
+          base,
+          paired.tight b pair top is_pair,
+          (
+            m.0,
+            old_top m.0 m.1 m.2,
+            (λ same. old_out m.0 m.1 0 low (sym same)),
+            holds_rest f b fam top blossom room m.0 pair.to m.2 ∙ m.3,
+            ring_pairs.others m.0 (old_out m.0 m.1) ∙ m.4,
+          ),
+        )
+    in_ring (suc i) low p is = elim (halves i) [
+      | inl at ↦
+          let here : suc i ≡ 2 * at.0 + 1 = omega (arith, at.1) in
+          let more : 2 * at.0 + 2 < length ring = omega (arith, low, here, can.closed.odd) in
+          let a = link_at ring (2 * at.0 + 1) in
+          let c = link_at ring (2 * at.0 + 2) in
+          let e : record { from = a.from; to = a.to } ≡ p =
+          same_Some _ _ (sym (ring_pairs.odd at.0 more) ∙ ap (λ k. pair_of now (link_at ring k).node) (sym here) ∙ is) in
+          let low_a : 2 * at.0 + 1 < length ring = omega (arith, more) in
+          let to : Holds g c.node a.to = subst (λ k. Holds g (link_at ring k).node a.to) (after_is (2 * at.0 + 1) (omega (arith, more)) ∙ plus (2 * at.0))
+          (can.closed.to (2 * at.0 + 1) low_a) in
+          subst (λ k. Holds g (link_at ring k).node p.from × good p.from p.to ×
+          ((s : ℕ) × IsTop g s × (s ≢ (link_at ring k).node) × Holds g s p.to × (pair_of now s ≡ Some (flipped p)))) (sym here)
+          (subst (λ (x : Edge). Holds g a.node x.from × good x.from x.to ×
+          ((s : ℕ) × IsTop g s × (s ≢ a.node) × Holds g s x.to × (pair_of now s ≡ Some (flipped x)))) e (
+            can.closed.from (2 * at.0 + 1) low_a,
+            (fine (2 * at.0 + 1) low_a).0,
+            (
+              c.node,
+              can.tops (2 * at.0 + 2) more,
+              (λ same. absurd (omega (arith, can.closed.differ (2 * at.0 + 2) (2 * at.0 + 1) more low_a same))),
+              to,
+              ring_pairs.even at.0 more,
+            ),
+          ))
+      | inr at ↦
+          let here : suc i ≡ 2 * at.0 + 2 = omega (arith, at.1) in
+          let more : 2 * at.0 + 2 < length ring = omega (arith, low, here) in
+          let a = link_at ring (2 * at.0 + 1) in
+          let c = link_at ring (2 * at.0 + 2) in
+          let e : record { from = a.to; to = a.from } ≡ p =
+          same_Some _ _ (sym (ring_pairs.even at.0 more) ∙ ap (λ k. pair_of now (link_at ring k).node) (sym here) ∙ is) in
+          let low_a : 2 * at.0 + 1 < length ring = omega (arith, more) in
+          let to : Holds g c.node a.to = subst (λ k. Holds g (link_at ring k).node a.to) (after_is (2 * at.0 + 1) (omega (arith, more)) ∙ plus (2 * at.0))
+          (can.closed.to (2 * at.0 + 1) low_a) in
+          subst (λ k. Holds g (link_at ring k).node p.from × good p.from p.to ×
+          ((s : ℕ) × IsTop g s × (s ≢ (link_at ring k).node) × Holds g s p.to × (pair_of now s ≡ Some (flipped p)))) (sym here)
+          (subst (λ (x : Edge). Holds g c.node x.from × good x.from x.to ×
+          ((s : ℕ) × IsTop g s × (s ≢ c.node) × Holds g s x.to × (pair_of now s ≡ Some (flipped x)))) e (
+            to,
+            (fine (2 * at.0 + 1) low_a).1,
+            (
+              a.node,
+              can.tops (2 * at.0 + 1) low_a,
+              (λ same. absurd (omega (arith, can.closed.differ (2 * at.0 + 1) (2 * at.0 + 2) low_a more same))),
+              can.closed.from (2 * at.0 + 1) low_a,
+              ring_pairs.odd at.0 more,
+            ),
+          ))
+    ]
+      where
+        plus : (n : ℕ) → n + 1 + 1 ≡ n + 2
+        plus n = omega arith
+
+    outside : (t : ℕ) (p : Edge) → IsTop f t → t ≢ b → pair_of now t ≡ Some p → Pairing t p
+    unfolding Pairing
+    outside t p is away at =
+        let was : pair_of pairs t ≡ Some p = sym (ring_pairs.others t (old_out t is)) ∙ at in
+        let s = paired.other t p is was in (
+          holds_rest f b fam top blossom room t p.from away ∙ paired.own t p is was,
+          paired.tight t p is was,
+          elim (cases_eq s.0 b) [
+            | inl same ↦
+                let e : pair ≡ flipped p = same_Some _ _ (sym is_pair ∙ ap (λ n. pair_of pairs n) (sym same) ∙ s.4) in (
+                  (link_at ring 0).node,
+                  can.tops 0 (omega (arith, can.closed.long)),
+                  old_out t is 0 (omega (arith, can.closed.long)),
+                  subst (λ (x : Edge). Holds g (link_at ring 0).node x.from) e base,
+                  ring_pairs.first ∙ ap (λ x. Some x) e,
+                )
+            | inr differs ↦ (
+              s.0,
+              old_top s.0 s.1 differs,
+              s.2,
+              holds_rest f b fam top blossom room s.0 p.to differs ∙ s.3,
+              ring_pairs.others s.0 (old_out s.0 s.1) ∙ s.4,
+            )
+          ],
+        )
+
+    pairing : (t : ℕ) (p : Edge) → IsTop g t → pair_of now t ≡ Some p → Pairing t p
+    pairing t p is at = elim (IsTop-expand_old f b fam top blossom room t is) [
+      | inl old ↦ outside t p old (not_b t is) at
+      | inr kid ↦
+          let hit = to_ring kid.0 kid.1 in
+          subst (λ n. Pairing n p) (hit.2 ∙ kid.2) (in_ring hit.0 hit.1 p (ap (λ n. pair_of now n) (hit.2 ∙ kid.2) ∙ at))
+    ]
+
+    pub IsPaired-expanded : IsPaired g good now
+    unfolding Pairing
+    IsPaired-expanded =
+        record {
+          own = λ t p is at. (pairing t p is at).0;
+          other = λ t p is at. (pairing t p is at).2;
+          tight = λ t p is at. (pairing t p is at).1;
+        }
+
+module _ (f : Family) (cost : ℕ → ℕ → ℕ) (b : ℕ) (feasible : IsFeasible f cost) (top : IsTop f b) (blossom : IsBlossom f b) (inner_zero : dual_of f b ≡ 0)
+    (room : b < length f.nodes) where
+  abbrev fam : IsFamily f
+  fam = feasible.family
+
+  abbrev after : Family
+  after = with_slot f b None
+
+  total_same : (u : ℕ) → total_of after u ≡ total_of f u
+  total_same = total-expand f b inner_zero room
+
+  -- parts 1, 2 and 5
+  pub IsFeasible-expanded : IsFeasible after cost
+  IsFeasible-expanded =
+      record {
+        family = IsFamily-expand f b fam top blossom room;
+        slack = λ u v low_u low_v. omega (arith, duals_between-expand f b inner_zero room u v, feasible.slack u v low_u low_v);
+        links = λ name i. link_tight name (cases_eq name b) i;
+        parity = λ t u v is in_u in_v. elim (IsTop-expand_old f b fam top blossom room t is) [
+          | inl old ↦ omega (
+            arith,
+            total_same u,
+            total_same v,
+            feasible.parity t u v old (sym (holds_rest f b fam top blossom room t u (not_b f b fam top blossom room t is)) ∙ in_u)
+                (sym (holds_rest f b fam top blossom room t v (not_b f b fam top blossom room t is)) ∙ in_v),
+          )
+          | inr kid ↦ omega (
+            arith,
+            total_same u,
+            total_same v,
+            feasible.parity b u v top (kid_in f b fam top blossom room kid.0 u kid.1 (subst (λ n. Holds after n u) (sym kid.2) in_u))
+                (kid_in f b fam top blossom room kid.0 v kid.1 (subst (λ n. Holds after n v) (sym kid.2) in_v)),
+          )
+        ];
+      }
+    where
+      link_tight : (name : ℕ) → (name ≡ b) ⊎ (name ≢ b) → (i : ℕ) → i < length (cycle_of after name) →
+          IsTight after cost (link_at (cycle_of after name) i).from (link_at (cycle_of after name) i).to
+      link_tight name (inl same) i low =
+          absurd (none_in (cycle_of after name)
+          (ap (λ o. option_map_or (λ (n : Node). n.cycle) o []) (ap (λ n. node_at after n) same ∙ get_or-set_same f.nodes b None None room)) low)
+        where
+          none_in : (c : List Link) → c ≡ [] → i < length c → ⊥
+          none_in c e low = omega (arith, ap (λ x. length x) e, low)
+      link_tight name (inr away) i low =
+          let e : cycle_of after name ≡ cycle_of f name = ap (λ o. option_map_or (λ (n : Node). n.cycle) o [])
+          (get_or-set_other f.nodes b name None None away) in
+          subst (λ c. IsTight after cost (link_at c i).from (link_at c i).to) (sym e)
+          (duals_between-expand f b inner_zero room (link_at (cycle_of f name) i).from (link_at (cycle_of f name) i).to ∙
+          feasible.links name i (subst (λ c. i < length c) e low))

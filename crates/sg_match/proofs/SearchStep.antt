@@ -1,0 +1,145 @@
+-- A tree of one unpaired top.
+use Rattle.std.proofs.Common.{◌≡◌, ℕ, zero, suc, ◌+◌, ◌*◌, ◌-◌, ◌<◌, ◌≤◌, ◌%◌, true, false, not, List, [], ◌∷◌, ◌++◌, length, get_or, count_by, Option, Some}
+use Rattle.std.proofs.Common.{None, refl, sym, ap, ◌∙◌, subst, inl, inr, arith}
+use Rattle.std.proofs.lemmas.Option.{none-some, same_Some}
+use Rattle.std.specs.List.{range_with_len}
+use Rattle.std.proofs.lemmas.Bool.{cases_lt}
+use Rattle.std.proofs.lemmas.List.{get_or_append_left, length-append}
+use Rattle.std.proofs.lemmas.List.FromFn.{get_or-range_with_len, length-range_with_len}
+use Rattle.std.proofs.lemmas.List.Sums.{count_by-le-length}
+use Rattle.std.proofs.Common.{zero-add}
+use Rattle.std.proofs.Math.Seq.{get_or-append_seam}
+use Rattle.sg_arena.proofs.FamilyLemmas.{leaf_bound, some_leaf}
+use Rattle.sg_arena.specs.Family.{Family, IsTop, leaf_count}
+use Rattle.sg_match.proofs.StepsStep.{count_by-one_fewer}
+use Rattle.sg_match.specs.Engine.{IsEngine}
+use Rattle.sg_match.specs.Exposed.{IsExposed}
+use Rattle.sg_pairing.specs.Metric.{cost}
+use Rattle.sg_match.specs.Pairs.{pair_of}
+use Rattle.sg_match.specs.Steps.{rest_of, steps_left}
+use Rattle.sg_match.specs.Tree.{IsTree, any_top, outers}
+use Rattle.sg_match.specs.declared.Edge.{Edge}
+use Rattle.sg_match.specs.declared.TreeEdge.{TreeEdge}
+use Rattle.sg_slack.specs.Table.{Table}
+
+-- 2 k (n + 1) covers 2 k (n - 1), four for each of k - 1 leaves, and one
+fall : (k n rest : ℕ) → (n + 1) % 2 ≡ 0 → rest + 1 ≤ k → 2 * k * (n - 1) + 4 * rest + 1 ≤ 2 * k * (n + 1)
+fall k zero rest even few = absurd (omega (arith, even))
+fall k (suc n) rest even few =
+    let wide : 2 * k * (suc n + 1) ≡ 2 * k * n + 4 * k = omega (arith, spread k n) in
+    let low : 2 * k * (suc n - 1) ≡ 2 * k * n = ap (λ m. 2 * k * m) (omega arith) in
+    omega arith
+  where
+    spread : (k n : ℕ) → 2 * k * (suc n + 1) ≡ 2 * k * n + 4 * k
+    spread k n = grind arith
+
+module _ (f : Family) (t : Table) (pairs : List (Option Edge)) (names : List ℕ) (edges : List TreeEdge)
+    (engine : IsEngine (record { family = f; table = t; pairs = pairs; exposed = names; root = None; edges = edges })) where
+  module _ (rest : List ℕ) (root : ℕ) (is : names ≡ rest ++ root ∷ []) where
+    count : length names ≡ length rest + 1
+    count = ap (λ xs. length xs) is ∙ length-append rest (root ∷ [])
+
+    root_at : get_or names (length rest) 0 ≡ root
+    root_at = ap (λ xs. get_or xs (length rest) 0) is ∙ get_or-append_seam rest root [] 0
+
+    rest_at : (i : ℕ) → i < length rest → get_or names i 0 ≡ get_or rest i 0
+    rest_at i low = ap (λ xs. get_or xs i 0) is ∙ get_or_append_left rest (root ∷ []) 0 i low
+
+    root_top : IsTop f root
+    root_top = subst (λ n. IsTop f n) root_at (engine.exposed.tops (length rest) (omega (arith, count)))
+
+    root_free : pair_of pairs root ≡ None
+    root_free = subst (λ n. pair_of pairs n ≡ None) root_at (engine.exposed.unpaired (length rest) (omega (arith, count)))
+
+    exposed : IsExposed f pairs (Some root) rest
+    exposed =
+        record {
+          tops = λ i low. subst (λ n. IsTop f n) (rest_at i low) (engine.exposed.tops i (omega (arith, count, low)));
+          unpaired = λ i low. subst (λ n. pair_of pairs n ≡ None) (rest_at i low) (engine.exposed.unpaired i (omega (arith, count, low)));
+          differ = λ i j low_i low_j same. engine.exposed.differ i j (omega (arith, count, low_i)) (omega (arith, count, low_j))
+              (rest_at i low_i ∙ same ∙ sym (rest_at j low_j));
+          rootless = λ i low e.
+              let same : i ≡ length rest = engine.exposed.differ i (length rest) (omega (arith, count, low)) (omega (arith, count))
+              (rest_at i low ∙ sym (same_Some root (get_or rest i 0) e) ∙ sym root_at) in
+              absurd (omega (arith, same, low));
+          every = λ n top free. elim (engine.exposed.every n top free) [
+            | inl e ↦ absurd (none-some n e)
+            | inr at ↦ elim (cases_lt at.0 (length rest)) [
+              | inl low ↦ inr (at.0, low, sym (rest_at at.0 low) ∙ at.2)
+              | inr past ↦
+                  let here : at.0 ≡ length rest = omega (arith, past, at.1, count) in
+                  inl (ap Some (sym root_at ∙ ap (λ i. get_or names i 0) (sym here) ∙ at.2))
+            ]
+          ];
+          even = subst (λ n. n % 2 ≡ 0) (omega (arith, count)) engine.exposed.even;
+        }
+
+    bare : edges ≡ []
+    bare = engine.tree
+
+    tree : IsTree f (cost t) pairs root []
+    tree =
+        record {
+          shape = record {
+            tops = record {
+              outer_tops = λ i low. only (λ n. IsTop f n) root_top i low;
+              inner_tops = λ i low. absurd (omega (arith, low));
+              outer_differ = λ i j low_i low_j same. omega (arith, low_i, low_j);
+              inner_differ = λ i j low_i low_j same. absurd (omega (arith, low_i));
+              apart = λ i j low_i low_j same. absurd (omega (arith, low_j));
+            };
+            edge = λ i low. record {
+              pair_from = absurd (omega (arith, low));
+              pair_to = absurd (omega (arith, low));
+              up_to = absurd (omega (arith, low));
+            };
+            up_from = λ i low. absurd (omega (arith, low));
+          };
+          exposed_root = root_free;
+          pair = λ i low. absurd (omega (arith, low));
+          up_tight = λ i low. absurd (omega (arith, low));
+        }
+      where
+        only : (P : ℕ → Type 0) → P root → (i : ℕ) → i < length (root ∷ []) → P (get_or (root ∷ []) i 0)
+        only P p zero low = p
+        only P p (suc i) low = absurd (omega (arith, low))
+
+    few : rest_of f root [] + 1 ≤ leaf_count f
+    few =
+        let fam = engine.feasible.family in
+        let leaf = some_leaf f fam root root_top.alive in
+        let low = leaf_bound f fam root leaf.0 leaf.1 in
+        let all = range_with_len 0 (leaf_count f) in
+        let long : length all ≡ leaf_count f = length-range_with_len 0 (leaf_count f) in
+        let out : not (any_top f (outers root []) leaf.0) ≡ false = rw leaf.1 refl in
+        let fewer : count_by (λ l. not (any_top f (outers root []) l)) all + 1 ≤ count_by (λ (l : ℕ). true) all =
+        count_by-one_fewer (λ l. not (any_top f (outers root []) l)) (λ l. true) all leaf.0 (omega (arith, low, long)) (λ l e. refl)
+        (ap (λ l. not (any_top f (outers root []) l)) (get_or-range_with_len 0 (leaf_count f) leaf.0 0 low ∙ zero-add leaf.0) ∙ out) refl in
+        omega (arith, fewer, long, count_by-le-length (λ (l : ℕ). true) all)
+
+    left : steps_left (record { family = f; table = t; pairs = pairs; exposed = rest; root = Some root; edges = edges }) ≤ steps_left
+        (record { family = f; table = t; pairs = pairs; exposed = names; root = None; edges = edges })
+    left =
+        let here = subst (λ ls. rest_of f root ls + 1 ≤ leaf_count f) (sym bare) few in
+        let even : (length rest + 1) % 2 ≡ 0 = subst (λ n. n % 2 ≡ 0) (omega (arith, count)) engine.exposed.even in
+        let fallen = fall (leaf_count f) (length rest) (rest_of f root edges) even here in
+        let whole : 2 * leaf_count f * length names ≡ 2 * leaf_count f * (length rest + 1) = ap (λ n. 2 * leaf_count f * n) count in
+        omega (arith, fallen, whole)
+
+    -- the tree is begun, and no step is taken
+    pub begun : IsEngine (record { family = f; table = t; pairs = pairs; exposed = rest; root = Some root; edges = edges }) ×
+        (steps_left (record { family = f; table = t; pairs = pairs; exposed = rest; root = Some root; edges = edges }) ≤ steps_left
+        (record { family = f; table = t; pairs = pairs; exposed = names; root = None; edges = edges }))
+    begun = (
+      record {
+        costs = engine.costs;
+        leaves = engine.leaves;
+        room = engine.room;
+        feasible = engine.feasible;
+        paired = engine.paired;
+        exposed = exposed;
+        tree = subst (λ ls. IsTree f (cost t) pairs root ls) (sym bare) tree;
+        left = omega (arith, left, engine.left);
+      },
+      left,
+    )

@@ -1,0 +1,146 @@
+ghost use Rattle.std.specs.Prelude.{◌≡◌, ◌+◌, ◌≤◌, ◌≤ℤ◌, length, pos, vec_capacity};
+ghost use Rattle.sg_arena.specs.Changes.{CanRaise, raised};
+ghost use Rattle.sg_sums.specs.Naturals.{nat_of};
+ghost use Rattle.sg_arena.specs.Family.{leaf_count};
+ghost use Rattle.sg_pairing.specs.Metric.{IsMetric, cost};
+ghost use Rattle.sg_match.specs.Nearest.{HasNearest, IsNearest};
+ghost use Rattle.sg_match.specs.Scans.{CanScan, IsScanned};
+ghost use Rattle.sg_match.specs.Tree.{inners, outers};
+ghost use Rattle.sg_slack.specs.Slack.{SumsFit};
+
+use super::inner::{least_dual, least_inner_zero};
+use super::leaves::{list_leaves, list_tree};
+use super::{Engine, Event, TreeEdge};
+use sg_arena::Arena;
+use sg_slack::{Costs, Mark, least_outer_free, least_outer_outer};
+use sg_steps::Steps;
+use std::sync::ledger::Ledger;
+
+// By how much the duals may change at most, and the pair of leaves that is tight then.
+#[derive(Clone, Copy)]
+struct Change {
+    amount: i64,
+    event: Event,
+}
+
+// By how much the tree's duals may rise before the next slack is 0, and whose slack that is.
+fn nearest(
+    arena: &Arena,
+    costs: &Costs,
+    root: usize,
+    edges: &[TreeEdge],
+    tops: &mut [usize],
+    totals: &mut [i64],
+    marks: &mut [Mark],
+) -> Change
+    requires metric { IsMetric costs.now }
+    requires leaves { leaf_count arena.now ≡ costs.now.size }
+    requires stands { HasNearest arena.now (cost costs.now) root edges.now }
+    requires tops { length tops.old ≡ leaf_count arena.now }
+    requires totals { length totals.old ≡ leaf_count arena.now }
+    requires marks { length marks.old ≡ leaf_count arena.now }
+    ensures whole { result.amount ≡ pos (nat_of result.amount) }
+    ensures nearest { IsNearest arena.now (cost costs.now) root edges.now (nat_of result.amount) result.event }
+{
+    list_leaves(arena, root, edges, tops, totals, marks);
+    scan(costs, totals, tops, marks)
+}
+
+// The same from tables of the leaves, by a look at all pairs.
+fn scan(costs: &Costs, totals: &[i64], tops: &[usize], marks: &[Mark]) -> Change
+    requires totals { length totals.now ≡ costs.now.size }
+    requires tops { length tops.now ≡ costs.now.size }
+    requires marks { length marks.now ≡ costs.now.size }
+    requires fits { SumsFit costs.now totals.now }
+    requires can { CanScan costs.now tops.now totals.now marks.now }
+    ensures whole { result.amount ≡ pos (nat_of result.amount) }
+    ensures scanned { IsScanned costs.now tops.now totals.now marks.now (nat_of result.amount) result.event }
+{
+    let Some(free) = least_outer_free(costs, totals, tops, marks) else {
+        unreachable!()
+    };
+    let away = Change {
+        amount: free.slack,
+        event: Event::OuterFree {
+            u: free.u,
+            v: free.v,
+        },
+    };
+    match least_outer_outer(costs, totals, tops, marks) {
+        Some(both) if both.slack / 2 < away.amount => Change {
+            amount: both.slack / 2,
+            event: Event::OuterOuter {
+                u: both.u,
+                v: both.v,
+            },
+        },
+        _ => away,
+    }
+}
+
+// Raises the duals of the tree's outer tops and lowers those of its inner ones.
+fn raise_tree<L: Ledger>(
+    arena: &mut Arena,
+    root: usize,
+    edges: &[TreeEdge],
+    outer: &mut Vec<usize>,
+    inner: &mut Vec<usize>,
+    delta: i64,
+    steps: &mut Steps<L>,
+)
+    requires outer { length edges.now + 1 ≤ vec_capacity outer.old }
+    requires inner { length edges.now ≤ vec_capacity inner.old }
+    requires whole { pos 0 ≤ℤ delta }
+    requires tops { CanRaise arena.old (outers root edges.now) (inners edges.now) (nat_of delta) }
+    ensures raised { arena.new ≡ raised arena.old (outers root edges.now) (inners edges.now) (nat_of delta) }
+    ensures outer_room { vec_capacity outer.new ≡ vec_capacity outer.old }
+    ensures inner_room { vec_capacity inner.new ≡ vec_capacity inner.old }
+    ensures counted { steps.new ≤ steps.old + 1 }
+{
+    if delta > 0 {
+        list_tree(root, edges, outer, inner);
+        arena.raise(outer, inner, delta, steps);
+    }
+}
+
+impl Engine {
+    ghost use Rattle.std.specs.Prelude.{◌≡◌, ◌+◌, ◌≤◌, Some};
+    ghost use Rattle.sg_match.specs.Engine.{IsEngine};
+    ghost use Rattle.sg_match.specs.State.{KeepsTree};
+    ghost use Rattle.sg_match.specs.Events.{IsNext};
+    ghost use Rattle.sg_match.specs.Steps.{steps_left};
+
+    // Raises the duals of the tree as far as no slack turns negative, and says what is tight then.
+    pub(crate) fn change_duals<L: Ledger>(&mut self, root: usize, steps: &mut Steps<L>) -> Event
+        requires root { self.old.root ≡ Some root }
+        ensures keeps { KeepsTree self.old self.new }
+        ensures engine { IsEngine self.new }
+        ensures left { steps_left self.new ≡ steps_left self.old }
+        ensures counted { steps.new ≤ steps.old + 1 }
+        ensures next { IsNext self.new root result }
+    {
+        let near = nearest(
+            &self.arena,
+            &self.costs,
+            root,
+            &self.edges,
+            &mut self.tops,
+            &mut self.totals,
+            &mut self.marks,
+        );
+        let delta = least_dual(&self.arena, &self.edges, near.amount);
+        raise_tree(
+            &mut self.arena,
+            root,
+            &self.edges,
+            &mut self.outer,
+            &mut self.inner,
+            delta,
+            steps,
+        );
+        match least_inner_zero(&self.arena, &self.edges) {
+            Some(node) => Event::InnerZero { node },
+            None => near.event,
+        }
+    }
+}

@@ -1,0 +1,10 @@
+//! Tests of the matching engine and of the nested blossoms below it, by their public calls.
+//!
+//! The costs of all pairings of eight places are compared with what the engine finds, and families are
+//! read after each change. Values come from outside: worked by hand, or by trying all pairings.
+#![tactic(auto)]
+
+#[cfg(test)]
+mod blossoms;
+#[cfg(test)]
+mod matching;
