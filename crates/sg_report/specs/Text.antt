@@ -1,15 +1,28 @@
 -- The text of each answer.
-use Rattle.std.specs.Prelude.{ℕ, ℤ, pos, int_lt, slice_index_or, List, [], ◌∷◌, ◌++◌, codes, if◌then◌else◌}
+use Rattle.std.specs.Prelude.{ℕ, ℤ, pos, int_lt, slice_index_or, List, [], ◌∷◌, ◌++◌, map, codes, if◌then◌else◌}
 use Rattle.std.specs.List.{flat_map, enumerate_from}
 use Rattle.sg_model.specs.declared.refusal.Refusal.{Refusal}
+use Rattle.sg_check.specs.declared.packing.Loop.{Loop}
 use Rattle.sg_check.specs.declared.verdict.Verdict.{Verdict}
 use Rattle.sg_report.specs.Line.{entries, line}
 use Rattle.sg_report.specs.Refusals.{refusal_numbers}
 use Rattle.sg_report.specs.Verdicts.{verdict_numbers, verdict_word}
 
+-- the lines of an energy and of the spins that have it
+abbrev pub state_lines : ℤ → List ℤ → List ℕ
+state_lines energy spins = line (codes "energy") (energy ∷ []) ++ line (codes "spins") spins
+
 -- an energy and the spins that have it
 abbrev pub energy_text : ℤ → List ℤ → List ℕ
-energy_text energy spins = line (codes "energy") (energy ∷ []) ++ line (codes "spins") spins ++ codes "end\n"
+energy_text energy spins = state_lines energy spins ++ codes "end\n"
+
+-- a loop: its weight, and its bonds
+abbrev pub loop_line : Loop → List ℕ
+loop_line l = line (codes "loop") (l.y ∷ map pos l.bonds)
+
+-- an energy, the spins that have it, and the loops that prove it
+abbrev pub ground_text : ℤ → List ℤ → List Loop → List ℕ
+ground_text energy spins loops = state_lines energy spins ++ flat_map loop_line loops ++ codes "end\n"
 
 -- number i of a list
 abbrev pub int_at : List ℤ → ℕ → ℤ

@@ -13,7 +13,7 @@ mod faults;
 mod line;
 mod studies;
 
-pub use answers::energy_text;
+pub use answers::{energy_text, ground_text};
 pub use faults::{refusal_text, verdict_text};
 use std::alloc::AllocError;
 pub use studies::{bonds_text, clusters_text, wall_text};

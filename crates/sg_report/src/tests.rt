@@ -1,6 +1,8 @@
-use super::{bonds_text, clusters_text, energy_text, refusal_text, verdict_text, wall_text};
-use sg_check::Verdict;
-use sg_model::{Refusal, Spins};
+use super::{
+    bonds_text, clusters_text, energy_text, ground_text, refusal_text, verdict_text, wall_text,
+};
+use sg_check::{Loop, Loops, Verdict};
+use sg_model::{BondList, Refusal, Spins};
 use std::test::Fail;
 
 #[test]
@@ -9,10 +11,19 @@ fn each_text_has_its_bytes(rt: HostRuntime) -> Result<(), Fail> {
     let mut spins = Spins::new(alloc);
     spins.push(1)?;
     spins.push(-1)?;
+    let mut bonds = BondList::new(alloc);
+    bonds.push(0)?;
+    bonds.push(3)?;
+    let mut loops = Loops::new(alloc);
+    loops.push(Loop { y: 2, bonds })?;
     let texts = [
         (
             energy_text(alloc, -3, &spins)?,
             "energy,-3\nspins,1,-1\nend\n",
+        ),
+        (
+            ground_text(alloc, -3, &spins, &loops)?,
+            "energy,-3\nspins,1,-1\nloop,2,0,3\nend\n",
         ),
         (
             wall_text(alloc, [-14, -10, 4])?,
