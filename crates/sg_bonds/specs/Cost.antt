@@ -1,4 +1,5 @@
--- What it costs to break a bond, or to mend it: the difference of the least energies with the two products of its spins.
+-- What it costs to break a bond, or to mend it: the difference of the least energies with the two products
+-- of its spins.
 use Rattle.std.specs.Prelude.{◌≡◌, ℕ, ◌<◌, ℤ, pos, negsuc, ◌-ℤ◌, ◌<ℤ◌, ◌≤ℤ◌, List, length, slice_index_or, unsigned_abs}
 use Rattle.sg_model.specs.Ising.{Ising, bond_at, bond_count}
 use Rattle.sg_model.specs.Spins.{IsAssignment}

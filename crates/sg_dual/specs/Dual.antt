@@ -15,11 +15,18 @@ face_of faces d = slice_index faces.labels d
 
 -- the edge of bond k: it joins the faces on the two sides of the bond, and weighs the size of its coupling
 abbrev pub dual_edge : Ising → Labelling → ℕ → Edge
-dual_edge inst faces k = record { a = face_of faces (2 * k); b = face_of faces (2 * k + 1); w = pos (unsigned_abs (bond_at inst k).j) }
+dual_edge inst faces k = record {
+  a = face_of faces (2 * k);
+  b = face_of faces (2 * k + 1);
+  w = pos (unsigned_abs (bond_at inst k).j);
+}
 
 -- a node for each face, and an edge for each bond
 abbrev pub dual_web : Ising → Labelling → Graph
-dual_web inst faces = record { nodes = faces.count; edges = map (dual_edge inst faces) (range_with_len 0 (bond_count inst)) }
+dual_web inst faces = record {
+  nodes = faces.count;
+  edges = map (dual_edge inst faces) (range_with_len 0 (bond_count inst));
+}
 
 -- whether bond k is negative
 abbrev pub is_negative_bond : Ising → ℕ → Bool

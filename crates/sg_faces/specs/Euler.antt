@@ -1,4 +1,4 @@
--- Euler's number of a rotation system: 2 for each connected one that can be drawn in the plane, and less for all others.
+-- Euler's number of a rotation system: 2 for each connected one that is drawn in the plane, and less for others.
 use Rattle.std.specs.Prelude.{ℤ, pos, ◌+◌, ◌-ℤ◌}
 use Rattle.sg_model.specs.Ising.{Ising, bond_count}
 use Rattle.sg_faces.specs.Faces.{face_count}

@@ -37,7 +37,9 @@ pub record Labelling : Type 0 where
 pub record IsFaceLabels (inst : Ising) (faces : Labelling) : Type 0 where
   pub lengths : length faces.labels ≡ dart_count inst
   pub below : (d : ℕ) → d < dart_count inst → slice_index faces.labels d < faces.count
-  pub same : (d e : ℕ) → d < dart_count inst → e < dart_count inst → (slice_index faces.labels d ≡ slice_index faces.labels e) ↔ SameFace inst d e
-  pub used : (f : ℕ) → f < faces.count → 0 < bond_count inst → (d : ℕ) × (d < dart_count inst) × (slice_index faces.labels d ≡ f)
+  pub same : (d e : ℕ) → d < dart_count inst → e < dart_count inst →
+      (slice_index faces.labels d ≡ slice_index faces.labels e) ↔ SameFace inst d e
+  pub used : (f : ℕ) → f < faces.count → 0 < bond_count inst →
+      (d : ℕ) × (d < dart_count inst) × (slice_index faces.labels d ≡ f)
   pub order : (d : ℕ) → d < dart_count inst → is_least inst d ≡ true → slice_index faces.labels d ≡ faces_before inst d
   pub counts : faces.count ≡ face_count inst

@@ -7,4 +7,5 @@ use Rattle.sg_faces.specs.Faces.{Labelling}
 
 -- how many darts of face f belong to bonds of the set; a bond with the face on both its sides counts twice
 abbrev pub sides_on : Ising → Labelling → ℕ → (ℕ → Bool) → ℕ
-sides_on inst faces f bonds = count_by (λ d. bonds (d / 2) && (slice_index faces.labels d == f)) (range_with_len 0 (dart_count inst))
+sides_on inst faces f bonds =
+    count_by (λ d. bonds (d / 2) && (slice_index faces.labels d == f)) (range_with_len 0 (dart_count inst))

@@ -33,7 +33,8 @@ unlabelled = 4294967295
 abbrev pub HasLabel : List ℕ → ℕ → Type 0
 HasLabel labels d = slice_index labels d ≢ unlabelled
 
--- the least place of the orbit with label f, which stands before `limit`: there are ways to each place of the orbit and back
+-- the least place of the orbit with label f, which stands before `limit`: there are ways to each place
+-- of the orbit and back
 pub record Root (table labels : List ℕ) (limit f : ℕ) : Type 0 where
   pub first : ℕ
   pub first_below : first < length table
@@ -41,21 +42,24 @@ pub record Root (table labels : List ℕ) (limit f : ℕ) : Type 0 where
   pub first_label : slice_index labels first ≡ f
   pub rank : f ≡ least_before table first
   pub to : (d : ℕ) → d < length table → slice_index labels d ≡ f → (j : ℕ) × (moves table j first ≡ d)
-  pub back : (d : ℕ) → d < length table → slice_index labels d ≡ f → (j : ℕ) × (j < length table) × (moves table j d ≡ first)
+  pub back : (d : ℕ) → d < length table → slice_index labels d ≡ f →
+      (j : ℕ) × (j < length table) × (moves table j d ≡ first)
   pub least : (d : ℕ) → d < length table → slice_index labels d ≡ f → first ≤ d
 
 -- whole orbits have labels, those below `count`, and begin before `limit`
 pub record LabelsOrbits (table labels : List ℕ) (count limit : ℕ) : Type 0 where
   pub lengths : length labels ≡ length table
   pub below : (d : ℕ) → d < length table → HasLabel labels d → slice_index labels d < count
-  pub onward : (d : ℕ) → d < length table → HasLabel labels d → slice_index labels (slice_index table d) ≡ slice_index labels d
+  pub onward : (d : ℕ) → d < length table → HasLabel labels d →
+      slice_index labels (slice_index table d) ≡ slice_index labels d
   pub roots : (f : ℕ) → f < count → Root table labels limit f
 
 -- the labels of all orbits, in the order of the orbits' least places
 pub record IsOrbitLabels (table labels : List ℕ) (count : ℕ) : Type 0 where
   pub lengths : length labels ≡ length table
   pub below : (d : ℕ) → d < length table → slice_index labels d < count
-  pub same : (d e : ℕ) → d < length table → e < length table → (slice_index labels d ≡ slice_index labels e) ↔ SameOrbit (entry table) d e
+  pub same : (d e : ℕ) → d < length table → e < length table →
+      (slice_index labels d ≡ slice_index labels e) ↔ SameOrbit (entry table) d e
   pub used : (f : ℕ) → f < count → (d : ℕ) × (d < length table) × (slice_index labels d ≡ f)
   pub order : (d : ℕ) → d < length table → is_least_of table d ≡ true → slice_index labels d ≡ least_before table d
   pub counts : count ≡ least_before table (length table)

@@ -7,9 +7,9 @@
 //! by Euler's formula.
 //!
 //! For the next engineer: `trace` is the contract that matters, `IsFaceLabels` in
-//! `specs/Faces.antt`: two darts have one label exactly where they lie in one orbit. The crates
-//! above cite the lemmas on orbits in `proofs/FaceOrbits.antt` and on the darts of a rotation in
-//! `proofs/Rotations.antt`.
+//! `specs/Faces.antt`: two darts have one label exactly where they lie in one orbit. The facts on
+//! the orbits of `phi` stand in `proofs/FaceOrbits.antt`, those on the darts of a rotation in
+//! `proofs/Rotations.antt` of `sg_model`.
 #![tactic(auto)]
 
 mod faces;
@@ -21,6 +21,3 @@ use std::alloc::AllocError;
 
 /// The allocator had no memory left.
 pub type NoMemory = AllocError;
-
-#[cfg(test)]
-mod tests;

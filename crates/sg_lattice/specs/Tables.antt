@@ -1,4 +1,5 @@
--- The tables of the built-in lattices: R rows, which grow to the south, and C columns, which grow to the east. Spin (r, c) has the number r * C + c.
+-- The tables of the built-in lattices: R rows, which grow to the south, and C columns, which grow to the east.
+-- Spin (r, c) has the number r * C + c.
 use Rattle.std.specs.Prelude.{ℕ, ℤ, pos, ◌+◌, ◌-◌, ◌*◌, ◌/◌, ◌%◌, ◌^◌, ◌≤◌, ◌==◌, ◌&&◌, Bool, true, false, nat_lt, nat_le, if◌then◌else◌, List, [], ◌∷◌, ◌++◌, length, map, filter, slice_index_or}
 use Rattle.std.specs.List.{range_with_len}
 use Rattle.sg_model.specs.declared.bond.Bond.{Bond}
@@ -37,7 +38,8 @@ neighbour kind East R C r c = r * C + (c + 1)
 neighbour kind South R C r c = (r + 1) * C + c
 neighbour kind SouthEast R C r c = (r + 1) * C + (c + 1)
 
--- how many bonds of a hexagonal lattice run to the south from the rows before r: C from each two rows, and from an even row each second spin
+-- how many bonds of a hexagonal lattice run to the south from the rows before r: C from each two rows,
+-- and from an even row each second spin
 abbrev pub south_before : ℕ → ℕ → ℕ
 south_before C r = r / 2 * C + (if r % 2 == 1 then (C + 1) / 2 else 0)
 
@@ -69,7 +71,8 @@ ends_from kind step R C i = record { u = i; v = neighbour kind step R C (i / C) 
 abbrev pub ends_of : Kind → ℕ → ℕ → List Ends
 ends_of kind R C =
     map (ends_from kind East R C) (starts kind East R C)
-    ++ (map (ends_from kind South R C) (starts kind South R C) ++ map (ends_from kind SouthEast R C) (starts kind SouthEast R C))
+    ++ (map (ends_from kind South R C) (starts kind South R C)
+    ++ map (ends_from kind SouthEast R C) (starts kind SouthEast R C))
 
 -- the ends of bond k
 abbrev pub ends_at : List Ends → ℕ → Ends
@@ -80,7 +83,8 @@ coupled_bond ends coupling = record { u = ends.u; v = ends.v; j = coupling }
 
 -- the bonds between given ends with given couplings
 abbrev pub coupled : List Ends → List ℤ → List Bond
-coupled ends couplings = map (λ k. coupled_bond (ends_at ends k) (slice_index_or couplings k (pos 0))) (range_with_len 0 (length ends))
+coupled ends couplings =
+    map (λ k. coupled_bond (ends_at ends k) (slice_index_or couplings k (pos 0))) (range_with_len 0 (length ends))
 
 -- the dart that leaves spin (r, c) by its own bond
 abbrev pub forth : Kind → Step → ℕ → ℕ → ℕ → ℕ → List ℕ
@@ -112,7 +116,9 @@ south_east kind R C r c = forth kind SouthEast R C r c
 
 -- the darts of spin (r, c), in their cyclic order
 abbrev pub darts : Kind → ℕ → ℕ → ℕ → ℕ → List ℕ
-darts kind R C r c = east kind R C r c ++ (north kind R C r c ++ (north_west kind R C r c ++ (west kind R C r c ++ (south kind R C r c ++ south_east kind R C r c))))
+darts kind R C r c =
+    east kind R C r c ++ (north kind R C r c ++ (north_west kind R C r c
+    ++ (west kind R C r c ++ (south kind R C r c ++ south_east kind R C r c))))
 
 -- on a cylinder the bonds that run from the last column to the first
 abbrev pub seam_of : Kind → ℕ → ℕ → List ℕ

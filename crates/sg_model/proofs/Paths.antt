@@ -1,8 +1,8 @@
 -- Walks over bonds: one behind another and turned round, and darts as their steps.
 use Rattle.std.proofs.Common.{inl, inr, ◌≡◌, ◌⊎◌, ℕ, ◌+◌, ◌*◌, ◌/◌, ◌<◌, Bool, true, List, [], ◌∷◌, ◌++◌, refl, sym, subst, ◌∙◌, ap, arith}
-use Rattle.sg_model.specs.Ising.{Ising, bond_at, bond_count}
+use Rattle.sg_model.specs.Ising.{Ising, bond_count}
 use Rattle.sg_model.specs.Rotation.{dart_count, rev, tail, head_of}
-use Rattle.sg_model.specs.Connected.{JoinedBy, IsWalk, Reached}
+use Rattle.sg_model.specs.Connected.{HasEnds, JoinedBy, IsWalk, Reached}
 use Rattle.sg_model.proofs.Darts.{tail_first, tail_second, rev_first, rev_second}
 use Rattle.sg_model.proofs.DartPairs.{dart_cases}
 
@@ -82,6 +82,6 @@ module _ (inst : Ising) where
       second_half : (k : ℕ) → (2 * k + 1) / 2 ≡ k
       second_half k = omega arith
 
-      by_ends : (((bond_at inst j.bond).u ≡ a) × ((bond_at inst j.bond).v ≡ b)) ⊎ (((bond_at inst j.bond).u ≡ b) × ((bond_at inst j.bond).v ≡ a)) → (d : ℕ) × (d < dart_count inst) × (tail inst d ≡ a) × (head_of inst d ≡ b) × (bonds (d / 2) ≡ true)
+      by_ends : HasEnds inst j.bond a b ⊎ HasEnds inst j.bond b a → (d : ℕ) × (d < dart_count inst) × (tail inst d ≡ a) × (head_of inst d ≡ b) × (bonds (d / 2) ≡ true)
       by_ends (inl (p, q)) = (2 * j.bond, omega (arith, below), tail_first inst j.bond ∙ p, ap (tail inst) (rev_first j.bond) ∙ tail_second inst j.bond ∙ q, ap bonds (first_half j.bond) ∙ j.in_set)
       by_ends (inr (p, q)) = (2 * j.bond + 1, omega (arith, below), tail_second inst j.bond ∙ q, ap (tail inst) (rev_second j.bond) ∙ tail_first inst j.bond ∙ p, ap bonds (second_half j.bond) ∙ j.in_set)

@@ -15,7 +15,8 @@ pub record IsLeastMissing (inst : Ising) (i d : ℕ) : Type 0 where
   pub missing : is_missing inst i d ≡ true
   pub least : (e : ℕ) → e < d → is_missing inst i e ≡ false
 
--- the least spin whose list is not its darts, each once; and the dart that shows it: the first that is misplaced, else the least that is missing
+-- the least spin whose list is not its darts, each once; and the dart that shows it: the first that is misplaced,
+-- else the least that is missing
 pub record IsBadRotation (inst : Ising) (spin dart : ℕ) : Type 0 where
   pub below : spin < inst.n
   pub earlier : (i d : ℕ) → i < spin → count_by (λ x. x == d) (darts_of inst i) ≡ cond (is_dart_of inst i d) 1 0

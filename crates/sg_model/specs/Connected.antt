@@ -2,12 +2,16 @@
 use Rattle.std.specs.Prelude.{◌≡◌, ◌⊎◌, ℕ, ◌<◌, Bool, true, List, [], ◌∷◌}
 use Rattle.sg_model.specs.Ising.{Ising, bond_at, bond_count}
 
+-- bond k leads from spin a to spin b
+abbrev pub HasEnds : Ising → ℕ → ℕ → ℕ → Type 0
+HasEnds inst k a b = ((bond_at inst k).u ≡ a) × ((bond_at inst k).v ≡ b)
+
 -- a bond of the set joins the spins a and b
 pub record JoinedBy (inst : Ising) (bonds : ℕ → Bool) (a b : ℕ) : Type 0 where
   pub bond : ℕ
   pub below : bond < bond_count inst
   pub in_set : bonds bond ≡ true
-  pub ends : (((bond_at inst bond).u ≡ a) × ((bond_at inst bond).v ≡ b)) ⊎ (((bond_at inst bond).u ≡ b) × ((bond_at inst bond).v ≡ a))
+  pub ends : HasEnds inst bond a b ⊎ HasEnds inst bond b a
 
 -- from spin a through the spins of the list, the last of which is b, each step over a bond of the set
 abbrev pub IsWalk : Ising → (ℕ → Bool) → ℕ → List ℕ → ℕ → Type 0

@@ -2,7 +2,8 @@
 use Rattle.std.specs.Prelude.{◌≢◌, ℕ, ◌^◌, ◌<◌, pos, List, length, slice_index_or, unsigned_abs}
 use Rattle.sg_model.specs.declared.bond.Bond.{Bond}
 
--- `n` spins, numbered from 0; the bonds, numbered in their order; for each spin the cyclic list of its darts; the seam, a list of bonds
+-- `n` spins, numbered from 0; the bonds, numbered in their order; for each spin the cyclic list of its darts;
+-- the seam, a list of bonds
 pub record Ising : Type 0 where
   pub n : ℕ
   pub bonds : List Bond

@@ -1,4 +1,5 @@
--- Darts and rotations (Heffter 1891, Edmonds 1960): a bond seen from each of its ends, and the cyclic order of the darts that leave a spin.
+-- Darts and rotations (Heffter 1891, Edmonds 1960): a bond seen from each of its ends, and the cyclic order
+-- of the darts that leave a spin.
 use Rattle.std.specs.Prelude.{◌≡◌, ℕ, ◌+◌, ◌-◌, ◌*◌, ◌/◌, ◌%◌, ◌<◌, ◌==◌, ◌&&◌, Bool, cond, nat_lt, if◌then◌else◌, List, [], length, slice_index, slice_index_or, count_by}
 use Rattle.std.specs.List.{position_or_len}
 use Rattle.sg_model.specs.Ising.{Ising, bond_at, bond_count}

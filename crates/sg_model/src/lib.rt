@@ -47,6 +47,3 @@ pub type Rotation = Records<DartList>;
 
 /// For each spin the least spin of its cluster.
 pub type ClusterList = Numbers<u32>;
-
-#[cfg(test)]
-mod tests;

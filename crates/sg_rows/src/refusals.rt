@@ -43,6 +43,27 @@ fn lattices_that_are_refused(rt: HostRuntime) -> Result<(), Fail> {
     Ok(())
 }
 
+// A text without a coupling is refused with the number of bonds that it wants.
+#[test]
+fn each_size_has_its_bonds(rt: HostRuntime) -> Result<(), Fail> {
+    let rows = [
+        ("square,1,3\nend\n", "refused,6,0,2\n"),
+        ("square,3,1\nend\n", "refused,6,0,2\n"),
+        ("square,3,4\nend\n", "refused,6,0,17\n"),
+        ("triangular,3,1\nend\n", "refused,6,0,2\n"),
+        ("triangular,3,4\nend\n", "refused,6,0,23\n"),
+        ("hexagonal,1,3\nend\n", "refused,6,0,2\n"),
+        ("hexagonal,2,2\nend\n", "refused,6,0,3\n"),
+        ("hexagonal,3,4\nend\n", "refused,6,0,13\n"),
+        ("cylinder,1,3\nend\n", "refused,6,0,3\n"),
+        ("cylinder,3,4\nend\n", "refused,6,0,20\n"),
+    ];
+    for (input, line) in rows {
+        expect_refusal(&rt, rt.alloc(), input.as_bytes(), line)?;
+    }
+    Ok(())
+}
+
 #[test]
 fn general_instances_that_are_refused(rt: HostRuntime) -> Result<(), Fail> {
     let rows = [

@@ -1,0 +1,43 @@
+// The faces of small drawings, traced by hand.
+use super::texts::instance;
+use sg_faces::trace;
+use sg_model::Instance;
+use std::alloc::{AllocError, Global};
+use std::test::Fail;
+
+// The number of faces, and behind it the label of each dart.
+fn traced(alloc: Global, inst: &Instance) -> Result<Vec<u32>, AllocError> {
+    let faces = trace(alloc, inst)?.clone()?;
+    let mut labels = Vec::new(alloc);
+    labels.push(faces.count())?;
+    for dart in 0..2 * inst.bonds().len() {
+        labels.push(faces.of(dart as u32))?;
+    }
+    Ok(labels)
+}
+
+#[test]
+fn faces_are_labelled_by_their_least_darts(rt: HostRuntime) -> Result<(), Fail> {
+    let rows: [(&str, &[u32]); 5] = [
+        ("square,1,1\nend\n", &[1]),
+        ("square,2,2\n3,4,2,-5\nend\n", &[2, 0, 1, 1, 0, 1, 0, 0, 1]),
+        (
+            "# a tree: one face, on both sides of each bond\ngeneral,4\nbond,0,1,1\nbond,0,2,1\nbond,0,3,1\nrot,0,0,2,4\nrot,1,1\nrot,2,3\nrot,3,5\nend\n",
+            &[1, 0, 0, 0, 0, 0, 0],
+        ),
+        (
+            "general,2\nbond,0,1,1\nbond,0,1,1\nbond,0,1,1\nrot,0,0,2,4\nrot,1,1,5,3\nend\n",
+            &[3, 0, 1, 1, 2, 2, 0],
+        ),
+        (
+            "# in the same order at both ends the bonds lie on a torus\ngeneral,2\nbond,0,1,1\nbond,0,1,1\nbond,0,1,1\nrot,0,0,2,4\nrot,1,1,3,5\nend\n",
+            &[1, 0, 0, 0, 0, 0, 0],
+        ),
+    ];
+    for (text, wanted) in rows {
+        let inst = instance(rt.alloc(), text)?;
+        let labels = traced(rt.alloc(), &inst)?;
+        assert_eq!(rt; labels.as_slice(), wanted, "{text}");
+    }
+    Ok(())
+}

@@ -1,0 +1,50 @@
+// The dual web of small drawings, and their frustrated faces.
+use super::texts::instance;
+use sg_dual::dual;
+use sg_faces::trace;
+use sg_graph::connected;
+use sg_model::Instance;
+use std::alloc::{AllocError, Global};
+use std::test::Fail;
+
+// The number of nodes, then the ends and the weight of each edge, then the terminals; nothing where
+// the web is not connected, or the instance is too heavy.
+fn written(alloc: Global, inst: &Instance) -> Result<Vec<i64>, AllocError> {
+    let faces = trace(alloc, inst)?;
+    let mut numbers = Vec::new(alloc);
+    if faces.count() > 1 << 24 || inst.weight() > 1 << 60 {
+        return Ok(numbers);
+    }
+    let (web, terminals) = dual(alloc, inst, &faces)?;
+    if !connected(alloc, &web)? {
+        return Ok(numbers);
+    }
+    numbers.push(i64::from(web.nodes()))?;
+    for edge in web.edges().as_slice() {
+        numbers.push(i64::from(edge.a))?;
+        numbers.push(i64::from(edge.b))?;
+        numbers.push(edge.w)?;
+    }
+    for terminal in terminals.as_slice() {
+        numbers.push(i64::from(*terminal))?;
+    }
+    Ok(numbers)
+}
+
+#[test]
+fn a_face_with_an_odd_number_of_negative_sides_is_frustrated(rt: HostRuntime) -> Result<(), Fail> {
+    let rows: [(&str, &[i64]); 3] = [
+        (
+            "square,2,2\n3,4,2,-5\nend\n",
+            &[2, 0, 1, 3, 1, 0, 4, 1, 0, 2, 0, 1, 5, 0, 1],
+        ),
+        ("square,1,1\nend\n", &[1]),
+        ("square,1,2\n-7\nend\n", &[1, 0, 0, 7]),
+    ];
+    for (text, wanted) in rows {
+        let inst = instance(rt.alloc(), text)?;
+        let numbers = written(rt.alloc(), &inst)?;
+        assert_eq!(rt; numbers.as_slice(), wanted, "{text}");
+    }
+    Ok(())
+}

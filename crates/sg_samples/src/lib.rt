@@ -1,0 +1,16 @@
+//! Tests of the parts below the solver, over instances that are read from texts: the tables of the
+//! lattices, the faces, the dual web, other couplings, and the plain reference solver.
+//!
+//! Their values come from outside the program: drawn and counted by hand.
+#![tactic(auto)]
+
+#[cfg(test)]
+mod drawings;
+#[cfg(test)]
+mod duals;
+#[cfg(test)]
+mod spins;
+#[cfg(test)]
+mod tables;
+#[cfg(test)]
+mod texts;

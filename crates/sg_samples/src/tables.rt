@@ -1,0 +1,55 @@
+// The darts round each spin of small lattices, drawn by hand.
+use super::texts::instance;
+use sg_model::Instance;
+use std::alloc::{AllocError, Global};
+use std::test::Fail;
+
+// How many numbers a list has, and these in their order.
+fn push_list(numbers: &mut Vec<usize>, list: &[u32]) -> Result<(), AllocError> {
+    numbers.push(list.len())?;
+    for number in list {
+        numbers.push(*number as usize)?;
+    }
+    Ok(())
+}
+
+// The darts of each spin, and then the seam.
+fn written(alloc: Global, inst: &Instance) -> Result<Vec<usize>, AllocError> {
+    let mut numbers = Vec::new(alloc);
+    for list in inst.rotation().as_slice() {
+        push_list(&mut numbers, list.as_slice())?;
+    }
+    push_list(&mut numbers, inst.seam().as_slice())?;
+    Ok(numbers)
+}
+
+#[test]
+fn lattices_are_laid_out_row_by_row(rt: HostRuntime) -> Result<(), Fail> {
+    let rows: [(&str, &[usize]); 4] = [
+        (
+            "square,2,2\n3,4,2,-5\nend\n",
+            &[2, 0, 4, 2, 1, 6, 2, 2, 5, 2, 7, 3, 0],
+        ),
+        (
+            "triangular,2,2\n-1,-1,-1,-1,-1\nend\n",
+            &[3, 0, 4, 8, 2, 1, 6, 2, 2, 5, 3, 7, 9, 3, 0],
+        ),
+        (
+            "hexagonal,2,3\n4,5,6,7,3,-8\nend\n",
+            &[2, 0, 8, 2, 2, 1, 2, 3, 10, 2, 4, 9, 2, 6, 5, 2, 11, 7, 0],
+        ),
+        (
+            "cylinder,2,3\n1,2,3,4,5,6,7,8,9\nend\n",
+            &[
+                3, 0, 5, 12, 3, 2, 1, 14, 3, 4, 3, 16, 3, 6, 13, 11, 3, 8, 15, 7, 3, 10, 17, 9, 2,
+                2, 5,
+            ],
+        ),
+    ];
+    for (text, wanted) in rows {
+        let inst = instance(rt.alloc(), text)?;
+        let numbers = written(rt.alloc(), &inst)?;
+        assert_eq!(rt; numbers.as_slice(), wanted, "{text}");
+    }
+    Ok(())
+}

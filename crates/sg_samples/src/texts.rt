@@ -1,0 +1,14 @@
+// Instances from texts.
+use sg_model::{Fault, Instance};
+use sg_reader::read_instance;
+use std::alloc::Global;
+
+// The instance that a short text gives.
+pub fn instance(alloc: Global, text: &str) -> Result<Instance, Fault> {
+    let bytes = text.as_bytes();
+    if bytes.len() > 1000 {
+        return Err(Fault::NoMemory);
+    }
+    let (instance, _) = read_instance(alloc, bytes)?;
+    Ok(instance)
+}
