@@ -50,7 +50,7 @@ sides_parity inst faces f p =
         ap₂ (λ x y. xor (p x && eqb (face_at faces (2 * k)) f) (p y && eqb (face_at faces (2 * k + 1)) f)) first second
         ∙ sym (and-xor (p k) (eqb (face_at faces (2 * k)) f) (eqb (face_at faces (2 * k + 1)) f))
 
-same_parity : (a b : ℕ) → a % 2 ≡ b % 2 → xor (odd a) (odd b) ≡ false
+pub same_parity : (a b : ℕ) → a % 2 ≡ b % 2 → xor (odd a) (odd b) ≡ false
 same_parity a b e = by_cases (odd a) (odd b) (odd_is a) (odd_is b)
   where
     by_cases : (x y : Bool) → a % 2 ≡ cond x 1 0 → b % 2 ≡ cond y 1 0 → xor x y ≡ false
@@ -59,7 +59,7 @@ same_parity a b e = by_cases (odd a) (odd b) (odd_is a) (odd_is b)
     by_cases false true p q = absurd (omega arith)
     by_cases false false p q = refl
 
-xor-and : (x y e : Bool) → (xor x y && e) ≡ xor (x && e) (y && e)
+pub xor-and : (x y e : Bool) → (xor x y && e) ≡ xor (x && e) (y && e)
 xor-and x y e = grind arith
 
 undone : (x y : Bool) → xor x (xor x y) ≡ y

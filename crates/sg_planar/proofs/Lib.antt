@@ -9,3 +9,4 @@ pub mod EulerBounds
 pub mod FittingBonds
 pub mod FollowedBonds
 pub mod WalkOrders
+pub mod FaceParities

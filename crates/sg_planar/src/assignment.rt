@@ -48,8 +48,12 @@ fn negative_bonds(alloc: Global, bonds: &[Bond]) -> Result<Vec<bool>, NoMemory>
     Ok(marks)
 }
 
-// For each bond whether it is to join unlike spins.
-fn unlike_bonds(alloc: Global, inst: &Instance, broken: &BondList) -> Result<Vec<bool>, NoMemory>
+/// For each bond whether it is to join unlike spins.
+pub(crate) fn unlike_bonds(
+    alloc: Global,
+    inst: &Instance,
+    broken: &BondList,
+) -> Result<Vec<bool>, NoMemory>
     requires rising { IsStrictlyIncreasing broken.now }
     requires below { All (λ k. k < bond_count inst.now) broken.now }
     ensures lengths { IfOk result (λ marks. vec_len marks ≡ bond_count inst.now) }

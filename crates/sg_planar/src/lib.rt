@@ -5,16 +5,23 @@
 //! from spin 0 over bonds, and Euler's number, spins minus bonds plus faces, is 2. The sum of the
 //! couplings' sizes is bounded too, so that all later numbers fit their types.
 //!
-//! For the next engineer: `Planar::new` is the contract that matters. `specs/Fit.antt` says what
-//! is fit, which fact fails first, and what a `Planar` keeps.
+//! In such an instance a list of bonds is that of the broken bonds of an assignment exactly where it
+//! fits the faces, and `spin_walk` finds the assignment.
+//!
+//! For the next engineer: `Planar::new` and `spin_walk` are the contracts that matter. `specs/Fit.antt`
+//! says what is fit, which fact fails first, and what a `Planar` keeps; `specs/BrokenLists.antt` which
+//! lists fit the faces. `proofs/PlanarDuality.antt` has the mathematics over any embedding, and
+//! `proofs/EulerBounds.antt` the bounds on faces that the crates above cite.
 #![tactic(auto)]
 
 mod assignment;
 mod connected;
 mod fitness;
+mod fitting;
 mod planar;
 
 pub use assignment::spin_walk;
+pub use fitting::fits_faces;
 pub use planar::{NotFit, Planar};
 use std::alloc::AllocError;
 

@@ -1,0 +1,6 @@
+use Rattle.std.proofs.Common.{◌≡◌, ℕ, ◌<◌, false}
+use Rattle.sg_sums.specs.Sets.{is_marked}
+use Rattle.sg_planar.proofs.fitting.all_unmarked.Given as goal
+
+abbrev pub invariant-loop-mark : goal.invariant-loop-mark
+invariant-loop-mark l = (i : ℕ) → i < l.mark-index → is_marked l.marks i ≡ false
