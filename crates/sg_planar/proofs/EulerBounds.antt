@@ -1,7 +1,7 @@
 -- Bounds by Euler's formula on a connected rotation system.
-use Rattle.std.proofs.Common.{inl, inr, cond, ◌≡◌, ◌≢◌, ℕ, ◌+◌, ◌<◌, ◌≤◌, pos, ◌-ℤ◌, [], ◌∷◌, ◌∙◌, ap, arith, get_or}
+use Rattle.std.proofs.Common.{inl, inr, cond, ◌≡◌, ◌≢◌, ℕ, ◌+◌, ◌<◌, ◌≤◌, pos, ◌-ℤ◌, [], ◌∷◌, ap, arith}
 use Rattle.std.proofs.lemmas.Int.{ints}
-use Rattle.std.proofs.lemmas.Bool.{cases_eq, cases_lt, eq-eqb}
+use Rattle.std.proofs.lemmas.Bool.{cases_eq, cases_lt, eq-eqb, ne_eqb}
 use Rattle.sg_model.specs.Ising.{Ising, IsBond, bond_at, bond_count}
 use Rattle.sg_model.specs.Rotation.{dart_count, next, tail}
 use Rattle.sg_model.specs.WellFormed.{IsInstance}
@@ -9,6 +9,7 @@ use Rattle.sg_model.specs.Connected.{IsConnected, Reached, all_bonds}
 use Rattle.sg_faces.specs.Faces.{Labelling, IsFaceLabels, face_count, faces_before}
 use Rattle.sg_faces.specs.Euler.{euler}
 use Rattle.sg_planar.proofs.PlanarDuality.{euler_bound_embedding}
+use Rattle.sg_planar.proofs.FaceNumbers.{AreFaceNumbers, face_numbers}
 use Rattle.sg_planar.proofs.RotationSums.{embedding, spins_connected}
 
 -- where the Euler number is 2: spins and faces are two more than bonds
@@ -36,18 +37,28 @@ module _ (inst : Ising) (good : IsInstance inst) where
       alone ([], e) = omega arith
       alone (c ∷ path, w) = let l : w.0.bond < bond_count inst = w.0.below in omega arith
 
+  -- no connected rotation system has an Euler number above 2
+  pub euler_bound_faces : IsConnected inst → inst.n + face_count inst ≤ bond_count inst + 2
+  euler_bound_faces connected = elim (cases_eq (bond_count inst) 0) [
+    | inl none ↦
+        let one : face_count inst ≡ 1 = ap (λ b. cond {A = ℕ} b 1 (faces_before inst (dart_count inst))) (eq-eqb (bond_count inst) 0 none) in
+        omega (arith, one_spin none connected)
+    | inr ne ↦
+        let all : face_count inst ≡ faces_before inst (dart_count inst) =
+        ap (λ b. cond {A = ℕ} b 1 (faces_before inst (dart_count inst))) (ne_eqb (bond_count inst) 0 ne) in
+        omega (arith, with_bond (omega arith) (face_numbers inst good))
+  ]
+    where
+      with_bond : 0 < bond_count inst → ((face : ℕ → ℕ) × AreFaceNumbers inst face (faces_before inst (dart_count inst))) →
+          inst.n + faces_before inst (dart_count inst) ≤ bond_count inst + 2
+      with_bond some (face, numbers) =
+          let first : face 0 < faces_before inst (dart_count inst) = numbers.below 0 (omega arith) in
+          euler_bound_embedding inst.n (bond_count inst) (faces_before inst (dart_count inst)) (tail inst) (next inst) face
+          (embedding inst good face (faces_before inst (dart_count inst)) numbers) good.has_spin (spins_connected inst good connected) (omega arith)
+
   module _ (faces : Labelling) (labels : IsFaceLabels inst faces) (connected : IsConnected inst) where
-    -- no connected rotation system has an Euler number above 2
     pub euler_bound : inst.n + faces.count ≤ bond_count inst + 2
-    euler_bound = elim (cases_eq (bond_count inst) 0) [
-      | inl none ↦
-          let one : faces.count ≡ 1 = labels.counts ∙ ap (λ b. cond {A = ℕ} b 1 (faces_before inst (dart_count inst))) (eq-eqb (bond_count inst) 0 none) in
-          omega (arith, one_spin none connected)
-      | inr ne ↦
-          euler_bound_embedding inst.n (bond_count inst) faces.count (tail inst) (next inst) (λ d. get_or faces.labels d 0)
-          (embedding inst good faces (omega arith) labels) good.has_spin (spins_connected inst good connected)
-          (let f : get_or faces.labels 0 0 < faces.count = labels.below 0 (omega arith) in omega arith)
-    ]
+    euler_bound = omega (arith, euler_bound_faces connected, labels.counts)
 
     -- in the plane a connected instance with a bond has no more faces than bonds
     pub faces_few : euler inst ≡ pos 2 → 0 < bond_count inst → faces.count ≤ bond_count inst

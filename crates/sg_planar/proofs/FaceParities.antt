@@ -21,7 +21,8 @@ module _ (inst : Ising) (faces : Labelling) (list : List ℕ) (marks : List Bool
   negative k = is_negative (bond_at inst k)
 
   -- the parity of the sides that are to join unlike spins
-  face_parity : (f : ℕ) → parity_below (is_marked_side faces marks f) (dart_count inst) ≡ xor (odd (sides_on inst faces f negative)) (odd (sides_on inst faces f (holds list)))
+  face_parity : (f : ℕ) →
+      parity_below (is_marked_side faces marks f) (dart_count inst) ≡ xor (odd (sides_on inst faces f negative)) (odd (sides_on inst faces f (holds list)))
   face_parity f =
       parity_below-same (is_marked_side faces marks f) (λ d. xor (on negative d) (on (holds list) d)) (dart_count inst) each
       ∙ parity_below-xor (on negative) (on (holds list)) (dart_count inst)

@@ -1,7 +1,7 @@
 -- Planar duality over the definitions: a list of bonds that fits the faces is the list of broken bonds of an assignment.
 use Rattle.std.proofs.Common.{inl, inr, ap₂, ◌≡◌, ℕ, ◌+◌, ◌*◌, ◌/◌, ◌%◌, ◌<◌, ℤ, pos, Bool, true, false, cond, ◌&&◌, eqb, List, refl, sym, ◌∙◌, ap, arith, get_or}
 use Rattle.std.specs.List.{range_with_len}
-use Rattle.std.proofs.lemmas.Bool.{cases_eq}
+use Rattle.std.proofs.lemmas.Bool.{cases_eq, ne_eqb}
 use Rattle.sg_sums.specs.Parity.{xor, odd, parity_below}
 use Rattle.sg_sums.specs.Sets.{holds}
 use Rattle.sg_sums.specs.Ends.{is_end}
@@ -17,12 +17,13 @@ use Rattle.sg_model.specs.Broken.{is_negative}
 use Rattle.sg_model.proofs.Darts.{tail_first, tail_second}
 use Rattle.sg_model.proofs.BrokenEnergy.{unit_ends}
 use Rattle.sg_model.proofs.BrokenParity.{is_down, is_broken_xor}
-use Rattle.sg_faces.specs.Faces.{Labelling, IsFaceLabels, face_count}
+use Rattle.sg_faces.specs.Faces.{Labelling, IsFaceLabels, face_count, faces_before}
 use Rattle.sg_faces.specs.Sides.{sides_on}
 use Rattle.sg_faces.specs.Euler.{euler}
 use Rattle.sg_planar.specs.BrokenLists.{FitsFaces, BreaksExactly}
 use Rattle.sg_planar.specs.Following.{is_unlike, Follows}
 use Rattle.sg_planar.proofs.PlanarDuality.{planar_duality, CutBy}
+use Rattle.sg_planar.proofs.FaceNumbers.{AreFaceNumbers, labels_number}
 use Rattle.sg_planar.proofs.RotationSums.{embedding, spins_connected}
 use Rattle.sg_planar.proofs.EulerBounds.{euler_sum}
 
@@ -107,9 +108,13 @@ module _ (inst : Ising) (good : IsInstance inst) where
         cut : 0 < bond_count inst → CutBy (bond_count inst) (tail inst) (is_unlike inst list)
         cut some =
             let sum : inst.n + face_count inst ≡ bond_count inst + 2 = euler_sum inst.n (face_count inst) (bond_count inst) genus_zero in
-            let face : face_at faces 0 < faces.count = labels.below 0 (omega arith) in
-            planar_duality inst.n (bond_count inst) faces.count (tail inst) (next inst) (face_at faces) (embedding inst good faces some labels)
-            (is_unlike inst list) good.has_spin (spins_connected inst good connected) (omega (arith, labels.counts)) (omega arith) even_on_faces
+            let all : face_count inst ≡ faces_before inst (dart_count inst) =
+            ap (λ b. cond {A = ℕ} b 1 (faces_before inst (dart_count inst))) (ne_eqb (bond_count inst) 0 (λ (e : bond_count inst ≡ 0). omega arith)) in
+            let numbers : AreFaceNumbers inst (face_at faces) (faces_before inst (dart_count inst)) = labels_number inst good faces labels in
+            let face : face_at faces 0 < faces_before inst (dart_count inst) = numbers.below 0 (omega arith) in
+            planar_duality inst.n (bond_count inst) (faces_before inst (dart_count inst)) (tail inst) (next inst) (face_at faces)
+            (embedding inst good (face_at faces) (faces_before inst (dart_count inst)) numbers) (is_unlike inst list) good.has_spin
+            (spins_connected inst good connected) (omega arith) (omega arith) (λ f l. even_on_faces f (omega (arith, labels.counts)))
 
         from_cut : CutBy (bond_count inst) (tail inst) (is_unlike inst list) → (down : ℕ → Bool) × Follows inst (is_unlike inst list) down
         from_cut c = (

@@ -4,6 +4,7 @@ pub mod GrowingSets
 pub mod SpanningTrees
 pub mod Embeddings
 pub mod PlanarDuality
+pub mod FaceNumbers
 pub mod RotationSums
 pub mod EulerBounds
 pub mod FittingBonds

@@ -1,4 +1,4 @@
--- Sums over the darts of a rotation: `next` only moves them, round one cycle at each spin. So an instance with labelled
+-- Sums over the darts of a rotation: `next` only moves them, round one cycle at each spin. So an instance with numbered
 -- faces is an embedding.
 use Rattle.std.proofs.Common.{inl, inr, ap₂, ◌≡◌, ℕ, zero, suc, ◌+◌, ◌*◌, ◌%◌, ◌<◌, Bool, true, false, cond, ◌&&◌, eqb, List, [], ◌∷◌, refl, sym, ◌∙◌, ap, arith, All, length, get_or}
 use Rattle.std.specs.List.{range_with_len}
@@ -15,9 +15,9 @@ use Rattle.sg_model.specs.Seam.{IsDistinct}
 use Rattle.sg_model.specs.WellFormed.{IsInstance}
 use Rattle.sg_model.specs.Connected.{JoinedBy, IsWalk, Reached, IsConnected, all_bonds}
 use Rattle.sg_model.proofs.Darts.{tail_first, tail_second, rev_first, rev_second}
-use Rattle.sg_faces.specs.Faces.{phi, Labelling, IsFaceLabels}
 use Rattle.sg_model.proofs.CyclicLists.{following_at}
 use Rattle.sg_model.proofs.Rotations.{spin_distinct, in_list, tail_below, place_of, next_is, next_in_list}
+use Rattle.sg_planar.proofs.FaceNumbers.{AreFaceNumbers}
 use Rattle.sg_planar.proofs.Embeddings.{IsEmbedding, SpinsConnected}
 
 -- to go one step on round a cycle changes no sum over it
@@ -107,24 +107,20 @@ module _ (inst : Ising) (good : IsInstance inst) where
           ∙ constant_on_cycle g (darts_of inst (tail inst x)) (spin_distinct inst good (tail inst x) b)
           (All-from_get_or (λ y. g (following (darts_of inst (tail inst x)) y) ≡ g y) (darts_of inst (tail inst x)) 0 (at_place (tail inst x) b)) p.0 p.1
 
-  -- labelled faces make an instance with a bond an embedding
-  pub embedding : (faces : Labelling) → 0 < bond_count inst → IsFaceLabels inst faces →
-      IsEmbedding inst.n (bond_count inst) faces.count (tail inst) (next inst) (λ d. get_or faces.labels d 0)
-  embedding faces some labels = record {
+  -- numbered faces make an instance an embedding
+  pub embedding : (face : ℕ → ℕ) (F : ℕ) → AreFaceNumbers inst face F → IsEmbedding inst.n (bond_count inst) F (tail inst) (next inst) face
+  embedding face F numbers = record {
     tail_below = tail_below inst good;
     next_tail = λ d l. (next_in_list inst good d l).1;
     next_sum = λ h. sym (parity_below_by_pairs (λ d. h (next inst d)) (bond_count inst)) ∙ next_sum h ∙ parity_below_by_pairs h (bond_count inst);
     one_cycle = one_cycle;
     face_next = λ k l. (
-      by_phi (2 * k + 1) (next inst (2 * k)) (omega arith) (next_in_list inst good (2 * k) (omega arith)).0 (ap (next inst) (rev_second k)),
-      by_phi (2 * k) (next inst (2 * k + 1)) (omega arith) (next_in_list inst good (2 * k + 1) (omega arith)).0 (ap (next inst) (rev_first k)),
+      ap (λ d. face (next inst d)) (sym (rev_second k)) ∙ numbers.along (2 * k + 1) (omega arith),
+      ap (λ d. face (next inst d)) (sym (rev_first k)) ∙ numbers.along (2 * k) (omega arith),
     );
-    face_below = labels.below;
-    face_used = λ f l. labels.used f l some;
+    face_below = numbers.below;
+    face_used = numbers.used;
   }
-    where
-      by_phi : (d e : ℕ) → d < dart_count inst → e < dart_count inst → phi inst d ≡ e → get_or faces.labels e 0 ≡ get_or faces.labels d 0
-      by_phi d e l l' p = sym ((labels.same d e l l').1 (1, p))
 
   -- the walks of a connected instance reach every spin
   pub spins_connected : IsConnected inst → SpinsConnected inst.n (bond_count inst) (tail inst)

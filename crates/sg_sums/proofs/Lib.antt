@@ -10,3 +10,5 @@ pub mod Ranges
 pub mod MarkLaws
 pub mod Recounting
 pub mod Tallies
+pub mod DealtSums
+pub mod Ranks
