@@ -95,7 +95,7 @@ module _ (f : Family) (cost : ℕ → ℕ → ℕ) (pairs : List (Option Edge)) 
       }
 
 -- a raise keeps the blossoms
-blossoms-raised : (f : Family) (outer inner : List ℕ) (delta : ℕ) → blossoms_of (raised f outer inner delta) ≡ blossoms_of f
+pub blossoms-raised : (f : Family) (outer inner : List ℕ) (delta : ℕ) → blossoms_of (raised f outer inner delta) ≡ blossoms_of f
 blossoms-raised f outer inner delta =
     sum_by_is_sum_below one (raised f outer inner delta).nodes None
     ∙ ap (λ k. sum_below (λ n. one (node_at (raised f outer inner delta) n)) k) (length-raised f outer inner delta)

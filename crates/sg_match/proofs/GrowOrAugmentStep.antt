@@ -101,7 +101,7 @@ module _ (f : Family) (table : Table) (pairs : List (Option Edge)) (exposed : Li
               (now_held pair.to ∙ ap (λ b. b || any_top f (outer ∷ []) pair.to) not_held ∙ ap (λ b. b || false) pair_to)
 
           less : steps_left (with_tree (Some root) more) + 1 ≤ steps_left (with_tree (Some root) edges)
-          less = fall (2 * leaf_count f * (length exposed - 1)) (rest_of f root edges) (rest_of f root more) (2 * blossoms_of f) fewer
+          less = fall ((2 * leaf_count f - 1) * (length exposed - 1)) (rest_of f root edges) (rest_of f root more) (2 * blossoms_of f) fewer
             where
               fall : (a r s b : ℕ) → s + 1 ≤ r → a + 4 * s + 1 + b + 1 ≤ a + 4 * r + 1 + b
               fall a r s b h = omega arith
@@ -187,7 +187,7 @@ module _ (f : Family) (table : Table) (pairs : List (Option Edge)) (exposed : Li
               }
 
           ended : steps_left done + 1 ≤ steps_left (with_tree (Some root) edges)
-          ended = fall (2 * leaf_count f) (length rest) (length exposed) (rest_of f root edges) (2 * blossoms_of f) (taken.count listed)
+          ended = fall (2 * leaf_count f - 1) (length rest) (length exposed) (rest_of f root edges) (2 * blossoms_of f) (taken.count listed)
             where
               fall : (k m n r b : ℕ) → m + 1 ≡ n → k * m + b + 1 ≤ k * (n - 1) + 4 * r + 1 + b
               fall k m n r b e = let same : n - 1 ≡ m = omega arith in rw same (omega arith)
@@ -202,7 +202,7 @@ module _ (f : Family) (table : Table) (pairs : List (Option Edge)) (exposed : Li
                 paired = augment_path.paired;
                 exposed = IsExposed-done;
                 tree = refl;
-                left = omega (arith, ended, engine.left);
+                left = omega (arith, ended, engine.left, taken.count listed);
               }
 
 -- the same of the state that a contract sees

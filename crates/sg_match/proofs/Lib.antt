@@ -23,6 +23,7 @@ pub mod InnerLemmas
 pub mod ScanStep
 pub mod TopLemmas
 pub mod DualChangeStep
+pub mod StartStep
 pub mod StageLemmas
 pub mod RingLemmas
 pub mod ExpandStep

@@ -1,4 +1,4 @@
--- The list of sets whose pairs are settled, from the tops down.
+-- The list of sets whose pairs are derived, from the tops down.
 use Rattle.std.proofs.Common.{List, Option, [], ap, arith, get_or, inl, inr, length, length-append, refl, subst, sym, ℕ, ◌+◌, ◌++◌, ◌-◌, ◌<◌, ◌∙◌, ◌∷◌, ◌≡◌}
 use Rattle.std.proofs.Common.{◌≢◌, ◌≤◌, ◌⊎◌}
 use Rattle.std.proofs.lemmas.Bool.{cases_eq, cases_lt}

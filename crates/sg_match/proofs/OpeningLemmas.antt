@@ -1,5 +1,5 @@
 -- An engine over leaves alone, as it is opened.
-use Rattle.std.proofs.Common.{◌≡◌, ℕ, ◌+◌, ◌*◌, ◌<◌, ◌%◌, false, cond, List, [], ◌∷◌, length, get_or, Option, Some, None, refl, sym, ap, ◌∙◌, subst, inr}
+use Rattle.std.proofs.Common.{◌≡◌, ℕ, zero, suc, ◌-◌, ◌+◌, ◌*◌, ◌<◌, ◌%◌, false, cond, List, [], ◌∷◌, length, get_or, Option, Some, None, refl, sym, ap, ◌∙◌, subst, inr}
 use Rattle.std.proofs.Common.{arith}
 use Rattle.std.proofs.lemmas.Option.{none-some}
 use Rattle.std.specs.List.{range_with_len}
@@ -86,8 +86,15 @@ module _ (f : Family) (only : OnlyLeaves f) (t : Table) (metric : IsMetric t) (s
 
   -- the bound on the steps
   pub steps_left-opened : (names : List ℕ) (edges : List TreeEdge) → names ≡ f.leaf_nodes → edges ≡ [] →
-      steps_left (record { family = f; table = t; pairs = pairs; exposed = names; root = None; edges = edges }) ≡ 2 * t.size * t.size
-  steps_left-opened names edges named bare = rw (no_blossoms, named, size) (omega arith)
+      steps_left (record { family = f; table = t; pairs = pairs; exposed = names; root = None; edges = edges }) + t.size ≡ 2 * t.size * t.size
+  steps_left-opened names edges named bare = rw (no_blossoms, named, size) (omega (arith, whole t.size))
+    where
+      whole : (k : ℕ) → (2 * k - 1) * k + k ≡ 2 * k * k
+      whole zero = refl
+      whole (suc k) = let less : 2 * suc k - 1 ≡ 2 * k + 1 = omega arith in rw less (spread k)
+        where
+          spread : (k : ℕ) → (2 * k + 1) * suc k + suc k ≡ 2 * suc k * suc k
+          spread k = grind arith
 
   -- the invariant holds
   pub IsEngine-opened : (names : List ℕ) (edges : List TreeEdge) → names ≡ f.leaf_nodes → edges ≡ [] →
@@ -101,5 +108,5 @@ module _ (f : Family) (only : OnlyLeaves f) (t : Table) (metric : IsMetric t) (s
         paired = paired;
         exposed = subst (λ ns. IsExposed f pairs None ns) (sym named) exposed;
         tree = bare;
-        left = omega (arith, steps_left-opened names edges named bare);
+        left = omega (arith, steps_left-opened names edges named bare, ap (λ xs. length xs) named, size);
       }

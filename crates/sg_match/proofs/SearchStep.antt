@@ -22,16 +22,40 @@ use Rattle.sg_match.specs.declared.Edge.{Edge}
 use Rattle.sg_match.specs.declared.TreeEdge.{TreeEdge}
 use Rattle.sg_slack.specs.Table.{Table}
 
--- 2 k (n + 1) covers 2 k (n - 1), four for each of k - 1 leaves, and one
-fall : (k n rest : ℕ) → (n + 1) % 2 ≡ 0 → rest + 1 ≤ k → 2 * k * (n - 1) + 4 * rest + 1 ≤ 2 * k * (n + 1)
+-- (2 k - 1) (n + 1) covers (2 k - 1) (n - 1), four for each of k - 1 leaves, and one
+fall : (k n rest : ℕ) → (n + 1) % 2 ≡ 0 → rest + 1 ≤ k → (2 * k - 1) * (n - 1) + 4 * rest + 1 ≤ (2 * k - 1) * (n + 1)
 fall k zero rest even few = absurd (omega (arith, even))
 fall k (suc n) rest even few =
-    let wide : 2 * k * (suc n + 1) ≡ 2 * k * n + 4 * k = omega (arith, spread k n) in
-    let low : 2 * k * (suc n - 1) ≡ 2 * k * n = ap (λ m. 2 * k * m) (omega arith) in
-    omega arith
+    let low : (2 * k - 1) * (suc n - 1) ≡ (2 * k - 1) * n = ap (λ m. (2 * k - 1) * m) (omega arith) in
+    omega (arith, spread (2 * k - 1) n, low)
   where
-    spread : (k n : ℕ) → 2 * k * (suc n + 1) ≡ 2 * k * n + 4 * k
-    spread k n = grind arith
+    spread : (a n : ℕ) → a * (suc n + 1) ≡ a * n + 2 * a
+    spread a n = grind arith
+
+-- an unpaired top alone is a tree
+pub IsTree-root : (f : Family) (cost : ℕ → ℕ → ℕ) (pairs : List (Option Edge)) (root : ℕ) → IsTop f root → pair_of pairs root ≡ None →
+    IsTree f cost pairs root []
+IsTree-root f cost pairs root root_top root_free =
+    record {
+      shape = record {
+        tops = record {
+          outer_tops = λ i low. only (λ n. IsTop f n) root_top i low;
+          inner_tops = λ i low. absurd (omega (arith, low));
+          outer_differ = λ i j low_i low_j same. omega (arith, low_i, low_j);
+          inner_differ = λ i j low_i low_j same. absurd (omega (arith, low_i));
+          apart = λ i j low_i low_j same. absurd (omega (arith, low_j));
+        };
+        edge = λ i low. absurd (omega (arith, low));
+        up_from = λ i low. absurd (omega (arith, low));
+      };
+      exposed_root = root_free;
+      pair = λ i low. absurd (omega (arith, low));
+      up_tight = λ i low. absurd (omega (arith, low));
+    }
+  where
+    only : (P : ℕ → Type 0) → P root → (i : ℕ) → i < length (root ∷ []) → P (get_or (root ∷ []) i 0)
+    only P p zero low = p
+    only P p (suc i) low = absurd (omega (arith, low))
 
 module _ (f : Family) (t : Table) (pairs : List (Option Edge)) (names : List ℕ) (edges : List TreeEdge)
     (engine : IsEngine (record { family = f; table = t; pairs = pairs; exposed = names; root = None; edges = edges })) where
@@ -78,31 +102,7 @@ module _ (f : Family) (t : Table) (pairs : List (Option Edge)) (names : List ℕ
     bare = engine.tree
 
     tree : IsTree f (cost t) pairs root []
-    tree =
-        record {
-          shape = record {
-            tops = record {
-              outer_tops = λ i low. only (λ n. IsTop f n) root_top i low;
-              inner_tops = λ i low. absurd (omega (arith, low));
-              outer_differ = λ i j low_i low_j same. omega (arith, low_i, low_j);
-              inner_differ = λ i j low_i low_j same. absurd (omega (arith, low_i));
-              apart = λ i j low_i low_j same. absurd (omega (arith, low_j));
-            };
-            edge = λ i low. record {
-              pair_from = absurd (omega (arith, low));
-              pair_to = absurd (omega (arith, low));
-              up_to = absurd (omega (arith, low));
-            };
-            up_from = λ i low. absurd (omega (arith, low));
-          };
-          exposed_root = root_free;
-          pair = λ i low. absurd (omega (arith, low));
-          up_tight = λ i low. absurd (omega (arith, low));
-        }
-      where
-        only : (P : ℕ → Type 0) → P root → (i : ℕ) → i < length (root ∷ []) → P (get_or (root ∷ []) i 0)
-        only P p zero low = p
-        only P p (suc i) low = absurd (omega (arith, low))
+    tree = IsTree-root f (cost t) pairs root root_top root_free
 
     few : rest_of f root [] + 1 ≤ leaf_count f
     few =
@@ -123,7 +123,8 @@ module _ (f : Family) (t : Table) (pairs : List (Option Edge)) (names : List ℕ
         let here = subst (λ ls. rest_of f root ls + 1 ≤ leaf_count f) (sym bare) few in
         let even : (length rest + 1) % 2 ≡ 0 = subst (λ n. n % 2 ≡ 0) (omega (arith, count)) engine.exposed.even in
         let fallen = fall (leaf_count f) (length rest) (rest_of f root edges) even here in
-        let whole : 2 * leaf_count f * length names ≡ 2 * leaf_count f * (length rest + 1) = ap (λ n. 2 * leaf_count f * n) count in
+        let whole : (2 * leaf_count f - 1) * length names ≡ (2 * leaf_count f - 1) * (length rest + 1) =
+        ap (λ n. (2 * leaf_count f - 1) * n) count in
         omega (arith, fallen, whole)
 
     -- the tree is begun, and no step is taken
@@ -139,7 +140,7 @@ module _ (f : Family) (t : Table) (pairs : List (Option Edge)) (names : List ℕ
         paired = engine.paired;
         exposed = exposed;
         tree = subst (λ ls. IsTree f (cost t) pairs root ls) (sym bare) tree;
-        left = omega (arith, left, engine.left);
+        left = omega (arith, left, engine.left, count);
       },
       left,
     )

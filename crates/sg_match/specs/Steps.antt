@@ -24,10 +24,10 @@ blossoms_of f = count_by has_children f.nodes
 abbrev pub rest_of : Family → ℕ → List TreeEdge → ℕ
 rest_of f root edges = count_by (λ leaf. not (any_top f (outers root edges) leaf)) (range_with_len 0 (leaf_count f))
 
--- 2 k for each unpaired top, for k leaves; a tree counts 4 for each leaf not outer in place of two
+-- 2 k - 1 for each unpaired top, for k leaves; a tree counts 4 for each leaf not outer in place of two
 abbrev pub tree_left : Family → List ℕ → Option ℕ → List TreeEdge → ℕ
-tree_left f exposed None edges = 2 * leaf_count f * length exposed
-tree_left f exposed (Some root) edges = 2 * leaf_count f * (length exposed - 1) + 4 * rest_of f root edges + 1
+tree_left f exposed None edges = (2 * leaf_count f - 1) * length exposed
+tree_left f exposed (Some root) edges = (2 * leaf_count f - 1) * (length exposed - 1) + 4 * rest_of f root edges + 1
 
 -- the steps of the tree and 2 for each blossom
 abbrev pub steps_left : State → ℕ

@@ -18,13 +18,13 @@ use std::sync::ledger::Ledger;
 
 // By how much the duals may change at most, and the pair of leaves that is tight then.
 #[derive(Clone, Copy)]
-struct Change {
-    amount: i64,
-    event: Event,
+pub struct Change {
+    pub amount: i64,
+    pub event: Event,
 }
 
 // By how much the tree's duals may rise before the next slack is 0, and whose slack that is.
-fn nearest(
+pub fn nearest(
     arena: &Arena,
     costs: &Costs,
     root: usize,
@@ -79,7 +79,7 @@ fn scan(costs: &Costs, totals: &[i64], tops: &[usize], marks: &[Mark]) -> Change
 }
 
 // Raises the duals of the tree's outer tops and lowers those of its inner ones.
-fn raise_tree<L: Ledger>(
+pub fn raise_tree<L: Ledger>(
     arena: &mut Arena,
     root: usize,
     edges: &[TreeEdge],

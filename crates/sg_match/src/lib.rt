@@ -44,6 +44,7 @@ mod search;
 mod shrink;
 mod shrink_cycle;
 mod shrink_tree;
+mod start;
 
 use sg_arena::{Arena, Link};
 use sg_list::Numbers;

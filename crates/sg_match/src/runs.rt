@@ -48,7 +48,7 @@ impl Engine {
         ensures table { IfOk result (λ e. e.table ≡ costs) }
         ensures leaves { IfOk result (λ e. OnlyLeaves e.family) }
         ensures engine { IfOk result IsEngine }
-        ensures left { IfOk result (λ e. steps_left e ≡ 2 * costs.size * costs.size) }
+        ensures left { IfOk result (λ e. steps_left e + costs.size ≡ 2 * costs.size * costs.size) }
     {
         let k = costs.size();
         let count = k as usize;
@@ -110,6 +110,7 @@ impl Engine {
         ensures duals { pairing_cost (cost self.table) result.mates ≡ sum_of_duals result.family }
         ensures least { (other : List ℕ) → IsPairing self.table.size other → pairing_cost (cost self.table) result.mates ≤ pairing_cost (cost self.table) other }
     {
+        self.start(steps);
         while let Stage::InnerZero { node } = self.advance(steps) {
             self.expand(node, steps);
         }

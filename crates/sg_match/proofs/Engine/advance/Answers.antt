@@ -1,11 +1,12 @@
 -- `advance`: an inner blossom of dual 0 is told at once, and else the steps up to one.
-use Rattle.std.proofs.Common.{List, ap, refl, subst, sym}
+use Rattle.std.proofs.Common.{◌*◌, ◌≤◌, List, ap, arith, refl, subst, sym}
 use Rattle.sg_match.proofs.Engine.advance.Goals as goal
 use Rattle.sg_match.proofs.Engine.advance.Given.{Over}
 use Rattle.sg_match.proofs.StageLemmas.{least-one, matched}
 use Rattle.sg_match.specs.InnerZeros.{IsLeastInnerZero}
 use Rattle.sg_match.specs.Engine.{IsEngine}
 use Rattle.sg_match.specs.State.{State}
+use Rattle.sg_match.specs.Steps.{steps_left}
 use Rattle.sg_match.specs.declared.TreeEdge.{TreeEdge}
 use Rattle.sg_match.specs.declared.Stage.TheVariants.{InnerZero}
 
@@ -30,3 +31,11 @@ returns-in-None-clause-already g c node least =
     let here = subst (λ (s : State). IsLeastInnerZero s.family s.edges node) (sym c.self.view_is) least in
     let listed = subst (λ (xs : List TreeEdge). IsLeastInnerZero c.self.inside.arena xs node) (sym c.deref.ensures.value) here in
     absurd (c.in-None.ensures.none node listed.inner_zero)
+
+pub returns-in-Some-clause-bound : goal.returns-in-Some-clause-bound
+returns-in-Some-clause-bound g c =
+    subst (λ (s : State). steps_left s ≤ 2 * s.table.size * s.table.size) c.self.view_is (omega (arith, c.self.invariant.0.left))
+
+pub returns-in-None-clause-bound : goal.returns-in-None-clause-bound
+returns-in-None-clause-bound g c =
+    subst (λ (s : State). steps_left s ≤ 2 * s.table.size * s.table.size) c.self.view_is (omega (arith, c.self.invariant.0.left))

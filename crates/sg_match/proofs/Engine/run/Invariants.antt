@@ -1,11 +1,10 @@
 -- `run`: steps done and steps left together do not rise.
-use Rattle.std.proofs.Common.{◌≡◌, ◌+◌, ◌≤◌}
+use Rattle.std.proofs.Common.{◌≡◌, ◌+◌, ◌*◌, ◌≤◌}
 use Rattle.sg_match.proofs.Engine.run.Given as goal
 use Rattle.sg_match.specs.Steps.{steps_left}
 
 abbrev pub invariant-loop-node : goal.invariant-loop-node
-invariant-loop-node g l = (l.self.table ≡ l.fn.self.table) × (steps_left l.self ≤ steps_left l.fn.self) ×
-    (l.steps + steps_left l.self ≤ l.fn.steps + steps_left l.fn.self)
+invariant-loop-node g l = (l.self.table ≡ l.fn.self.table) × (l.steps + steps_left l.self ≤ l.fn.steps + 2 * l.fn.self.table.size * l.fn.self.table.size)
 
 abbrev pub decreases-loop-node : goal.decreases-loop-node
 decreases-loop-node g l = steps_left l.self

@@ -1,0 +1,139 @@
+-- `raise_exposed`: the tree is the top alone, and its dual rises by no more than its least slack.
+use Rattle.std.proofs.Common.{◌≡◌, ℕ, ◌<◌, ◌≤ℤ◌, ℤ, pos, List, length, None, sym, ap, ◌∙◌, subst, arith, rules, to_z, of_z, w64}
+use Rattle.std.proofs.lemmas.Int.{ints, to_z-of_z}
+use Rattle.std.specs.Vec.{with_items}
+use Rattle.sg_arena.proofs.RaisedFamily.{length-raised}
+use Rattle.sg_arena.specs.Changes.{CanRaise, raised}
+use Rattle.sg_arena.specs.Family.{Family, leaf_count}
+use Rattle.sg_sums.specs.Naturals.{nat_of}
+use Rattle.sg_match.proofs.Engine.raise_exposed.Given.{Over}
+use Rattle.sg_match.proofs.Engine.raise_exposed.Goals as goal
+use Rattle.sg_match.proofs.Engine.raise_exposed.Goals.{After-lesser-delta, After-raise_tree, After-self}
+use Rattle.sg_match.proofs.EngineLemmas.{no_edges, state_of}
+use Rattle.sg_match.proofs.StartStep.{HasNearest-exposed, IsStarting, IsStarting-made, started_can, started_engine, started_left}
+use Rattle.sg_match.specs.Engine.{IsEngine}
+use Rattle.sg_match.specs.Names.{Stands}
+use Rattle.sg_match.specs.Nearest.{HasNearest, IsNearest}
+use Rattle.sg_match.specs.State.{State}
+use Rattle.sg_match.specs.Steps.{steps_left}
+use Rattle.sg_match.specs.Tree.{inners, outers}
+use Rattle.sg_match.specs.declared.Engine.TheInside.{Inside}
+use Rattle.sg_match.specs.declared.TreeEdge.{TreeEdge}
+use Rattle.sg_pairing.specs.Metric.{cost}
+
+-- what contracts see of an engine with this family
+abbrev seen : Inside → Family → State
+seen e f = record { family = f; table = e.costs; pairs = e.pairs.items; exposed = e.exposed.items; root = e.root; edges = e.edges.items }
+
+bare : (g : Over) (c : After-self g) → c.self.inside.root ≡ None
+bare g c = ap (λ (x : State). x.root) c.self.view_is ∙ c.requires.bare
+
+root_at : (g : Over) (c : After-self g) → Stands c.self.inside.exposed.items c.args.root
+root_at g c = subst (λ (x : State). Stands x.exposed c.args.root) (sym c.self.view_is) c.requires.root
+
+-- what is raised by, as the calls hand it on
+abbrev given : ℤ → ℤ
+given delta = to_z w64 (of_z w64 delta)
+
+starting : (g : Over) (c : After-lesser-delta g) → (state_of c.self.inside).root ≡ None → Stands c.self.inside.exposed.items c.args.root →
+    IsStarting (state_of c.self.inside) c.args.root c.nearest-near.result.event c.nearest-near.result.amount (given c.lesser-delta.result)
+starting g c none at =
+    let amount = c.nearest-near.result.amount in
+    let delta = c.lesser-delta.result in
+    IsStarting-made (state_of c.self.inside) c.args.root c.nearest-near.result.event amount delta (given delta)
+    c.self.invariant.0 none at
+    (subst (λ xs. IsNearest c.self.inside.arena (cost c.self.inside.costs) c.args.root xs (nat_of amount) c.nearest-near.result.event)
+    c.deref.ensures.value c.nearest-near.ensures.nearest)
+    (to_z-of_z w64 delta (search rules)) c.lesser-delta.ensures.whole
+    (subst (λ z. delta ≤ℤ z) (to_z-of_z w64 amount (search rules)) c.lesser-delta.ensures.less)
+
+made : (g : Over) (c : After-raise_tree g) → c.raise_tree.new.arena ≡ raised c.self.inside.arena (outers c.args.root c.self.inside.edges.items)
+    (inners c.self.inside.edges.items) (nat_of (given c.lesser-delta.result))
+made g c = c.raise_tree.ensures.raised
+    ∙ ap (λ xs. raised c.self.inside.arena (outers c.args.root xs) (inners xs) (nat_of (given c.lesser-delta.result))) c.deref-2.ensures.value
+
+pub nearest-near-requires-clause-stands : goal.nearest-near-requires-clause-stands
+nearest-near-requires-clause-stands g c =
+    let s = state_of c.self.inside in
+    let here = (goal.at.nearest-near-requires-clause-stands g c).After-self in
+    subst (λ xs. HasNearest s.family (cost s.table) c.args.root xs) (sym c.deref.ensures.value)
+    (HasNearest-exposed s c.self.invariant.0 (bare g here) c.args.root (root_at g here))
+
+pub lesser-delta-requires : goal.lesser-delta-requires
+lesser-delta-requires g c =
+    let amount = c.nearest-near.result.amount in
+    subst (λ z. pos 0 ≤ℤ z) (sym (to_z-of_z w64 amount (search rules))) (omega (arith, ints, c.nearest-near.ensures.whole))
+
+few : (g : Over) (c : After-self g) → length c.self.inside.edges.items ≡ 0
+few g c = ap (λ xs. length xs) (no_edges (state_of c.self.inside) c.self.invariant.0 (bare g c))
+
+pub raise_tree-requires-clause-outer : goal.raise_tree-requires-clause-outer
+raise_tree-requires-clause-outer g c =
+    omega (arith, few g (goal.at.raise_tree-requires-clause-outer g c).After-self, c.self.invariant.1.outer, ap (λ xs. length xs) c.deref-2.ensures.value)
+
+pub raise_tree-requires-clause-inner : goal.raise_tree-requires-clause-inner
+raise_tree-requires-clause-inner g c =
+    omega (arith, few g (goal.at.raise_tree-requires-clause-inner g c).After-self, c.self.invariant.1.inner, ap (λ xs. length xs) c.deref-2.ensures.value)
+
+pub raise_tree-requires-clause-whole : goal.raise_tree-requires-clause-whole
+raise_tree-requires-clause-whole g c =
+    subst (λ z. pos 0 ≤ℤ z) (sym (to_z-of_z w64 c.lesser-delta.result (search rules))) c.lesser-delta.ensures.whole
+
+pub raise_tree-requires-clause-tops : goal.raise_tree-requires-clause-tops
+raise_tree-requires-clause-tops g c =
+    let at = goal.at.raise_tree-requires-clause-tops g c in
+    let p = starting g at.After-lesser-delta (bare g at.After-self) (root_at g at.After-self) in
+    subst (λ xs. CanRaise c.self.inside.arena (outers c.args.root xs) (inners xs) (nat_of (given c.lesser-delta.result))) (sym c.deref-2.ensures.value)
+    (started_can p)
+
+engine_now : (g : Over) (c : After-raise_tree g) →
+    IsStarting (state_of c.self.inside) c.args.root c.nearest-near.result.event c.nearest-near.result.amount (given c.lesser-delta.result) →
+    IsEngine (seen c.self.inside c.raise_tree.new.arena)
+engine_now g c p = subst (λ a. IsEngine (seen c.self.inside a)) (sym (made g c)) (started_engine p)
+
+pub invariant_of-self : goal.invariant_of-self
+invariant_of-self g c =
+    let e = c.self.inside in
+    let at = goal.at.invariant_of-self g c in
+    let is = made g at.After-raise_tree in
+    let room = c.self.invariant.1 in
+    let names : length c.raise_tree.new.arena.nodes ≡ length e.arena.nodes = ap (λ a. length a.nodes) is
+    ∙ length-raised e.arena (outers c.args.root e.edges.items) (inners e.edges.items) (nat_of (given c.lesser-delta.result)) in
+    let leaves : length c.raise_tree.new.arena.leaf_nodes ≡ length e.arena.leaf_nodes = ap (λ a. length a.leaf_nodes) is in (
+      engine_now g at.After-raise_tree (starting g at.After-lesser-delta (bare g at.After-self) (root_at g at.After-self)),
+      record {
+        edges = omega (arith, room.edges, names);
+        exposed = omega (arith, room.exposed, names);
+        outer = omega (arith, room.outer, names, c.raise_tree.ensures.outer_room);
+        inner = omega (arith, room.inner, names, c.raise_tree.ensures.inner_room);
+        cycle = omega (arith, room.cycle, names);
+        ring = omega (arith, room.ring, names);
+        tops = sym (with_items e.tops c.nearest-near.new.tops).ok.0 ∙ e.tops.ok.0 ∙ room.tops ∙ sym leaves;
+        totals = sym (with_items e.totals c.nearest-near.new.totals).ok.0 ∙ e.totals.ok.0 ∙ room.totals ∙ sym leaves;
+        marks = sym (with_items e.marks c.nearest-near.new.marks).ok.0 ∙ e.marks.ok.0 ∙ room.marks ∙ sym leaves;
+        mates = room.mates ∙ sym leaves;
+      },
+    )
+
+pub returns-clause-keeps : goal.returns-clause-keeps
+returns-clause-keeps g c =
+    let was = c.self.view_is in
+    record {
+      leaves = ap (λ a. leaf_count a) (made g (goal.at.returns-clause-keeps g c).After-raise_tree) ∙ ap (λ x. leaf_count x.family) was;
+      table = ap (λ x. x.table) was;
+      pairs = ap (λ x. x.pairs) was;
+      exposed = ap (λ x. x.exposed) was;
+      root = ap (λ x. x.root) was;
+      edges = ap (λ x. x.edges) was;
+    }
+
+pub returns-clause-engine : goal.returns-clause-engine
+returns-clause-engine g c =
+    let at = goal.at.returns-clause-engine g c in
+    engine_now g at.After-raise_tree (starting g at.After-lesser-delta (bare g at.After-self) (root_at g at.After-self))
+
+pub returns-clause-left : goal.returns-clause-left
+returns-clause-left g c =
+    let at = goal.at.returns-clause-left g c in
+    let p = starting g at.After-lesser-delta (bare g at.After-self) (root_at g at.After-self) in
+    ap (λ a. steps_left (seen c.self.inside a)) (made g at.After-raise_tree) ∙ started_left p ∙ ap steps_left c.self.view_is
