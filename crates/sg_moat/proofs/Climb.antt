@@ -1,21 +1,20 @@
 -- Up from a leaf's own node through the sets that hold it: each gets the leaf, with the duals of the sets before it.
-use Rattle.std.proofs.Common.{◌≡◌, ◌≢◌, ◌⊎◌, ℕ, ◌+◌, ◌-◌, ◌^◌, ◌<◌, ◌≤◌, ◌&&◌, ◌||◌, ◌++◌, Bool, true, false, cond, eqb, List, [], ◌∷◌, length, map, filter, set, replicate, get_or, refl, sym, ap, ap₂, ◌∙◌, subst, inl, inr, arith, eq-eqb}
+use Rattle.std.proofs.Common.{◌≡◌, ◌≢◌, ℕ, ◌+◌, ◌-◌, ◌^◌, ◌<◌, ◌≤◌, ◌&&◌, ◌||◌, ◌++◌, Bool, true, false, cond, List, [], ◌∷◌, length, map, set, replicate, get_or, refl, sym, ap, ◌∙◌, subst, inl, inr, arith}
 use Rattle.std.specs.List.{range_with_len}
 use Rattle.std.specs.Option.{option_map_or}
 use Rattle.std.proofs.lemmas.Bool.{cases_eq, cases_lt, ne_eqb, and_from, and_parts, false≢true, false_from_ne_true}
 use Rattle.std.proofs.lemmas.List.{append-nil, get_or-set_same, get_or-set_other, get_or-replicate, get_or_past, length-set, length-replicate, map-append}
 use Rattle.std.proofs.lemmas.List.Sums.{length-filter, count_by-le-length}
 use Rattle.std.proofs.lemmas.List.FromFn.{length-range_with_len}
-use Rattle.sg_sums.specs.Sums.{sum_below}
 use Rattle.sg_sums.specs.Sets.{chosen_below}
 use Rattle.sg_sums.proofs.SumLaws.{sum_below-same, sum_below-zero}
 use Rattle.sg_sums.proofs.Choosing.{chosen_below_more}
-use Rattle.sg_arena.specs.Family.{Node, Family, leaf_count, node_at, leaves_of, dual_of, has_leaf, holds, Holds, Covers, IsTop, IsChildAt, IsFamily}
+use Rattle.sg_arena.specs.Family.{Node, Family, leaf_count, leaves_of, dual_of, has_leaf, holds, Holds, Covers, IsTop, IsChildAt, IsFamily}
 use Rattle.sg_arena.proofs.FamilyLemmas.{alive_from_holds, child-covered, child-smaller, leaf-held, name_bound, top-covers}
 use Rattle.sg_moat.specs.declared.members.Member.{Member}
 use Rattle.sg_moat.specs.Sets.{within, strictly_within, share_below, inner_of}
 use Rattle.sg_moat.specs.Members.{AreMembers, Climbed, list_at, member_of}
-use Rattle.sg_moat.proofs.SetDuals.{below_from, below_parts, covers_from, has_head, inner_and_own, inner_total, same_truth, up_to_share, within_from}
+use Rattle.sg_moat.proofs.SetDuals.{below_from, below_parts, covers_from, inner_and_own, inner_total, same_truth, up_to_share, within_from}
 
 -- the list of one name grows, and so the lists have a member more under the names of a wider test
 noted_each : (m : ℕ → Member) (old now : List (List Member)) (p : ℕ) (q r : ℕ → Bool) → p < length now →

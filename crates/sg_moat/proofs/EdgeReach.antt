@@ -1,7 +1,7 @@
 -- What the sets of a family reach along an edge, taken as twice its weight of unit steps: the doubled distance to a point on
 -- it is the less of the two ways.
-use Rattle.std.proofs.Common.{inl, inr, ◌≡◌, ◌⊎◌, ℕ, ◌+◌, ◌-◌, ◌*◌, ◌<◌, ◌≤◌, suc, min, fold, true, eqb, ◌||◌, List, [], ◌∷◌, length, refl, sym, ap, ap₂, ◌∙◌, subst, arith, eq-eqb}
-use Rattle.std.proofs.lemmas.Bool.{cases_eq, cases_lt, eqb-true, false≢true, ne_eqb, or_cases, or_right}
+use Rattle.std.proofs.Common.{inl, inr, ◌≡◌, ◌⊎◌, ℕ, ◌+◌, ◌-◌, ◌*◌, ◌<◌, ◌≤◌, suc, min, fold, true, eqb, List, [], ◌∷◌, length, refl, ap, ap₂, arith}
+use Rattle.std.proofs.lemmas.Bool.{cases_lt, eqb-true, false≢true, or_cases, or_right}
 use Rattle.sg_arena.specs.Family.{Family, Holds, dual_of, has_leaf, leaves_of}
 use Rattle.sg_moat.specs.Sets.{inner_of}
 use Rattle.sg_moat.proofs.SetDuals.{has_head}

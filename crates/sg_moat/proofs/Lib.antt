@@ -3,6 +3,12 @@ pub mod UnitSteps
 pub mod SetDuals
 pub mod EdgeReach
 pub mod Packing
-pub mod Cutting
 pub mod Climb
 pub mod SetDepths
+pub mod SurveySteps
+pub mod SurveyEnd
+pub mod SurveyCode
+pub mod LevelsList
+pub mod Slopes
+pub mod Bins
+pub mod Cutting

@@ -1,8 +1,8 @@
 -- The cuts of all sets of a family are a packing of odd cuts, and few.
-use Rattle.std.proofs.Common.{inl, inr, ap₂, ◌≡◌, ◌≢◌, ◌⊎◌, ◌==◌, ℕ, ◌+◌, ◌-◌, ◌*◌, ◌%◌, ◌<◌, ◌≤◌, ◌≤ℤ◌, min, fold, Bool, true, false, cond, ◌&&◌, ltb, List, [], ◌∷◌, refl, sym, ◌∙◌, ap, subst, arith, All, length, get_or, count_by, sum_by, Option, Some, None, IsSome, pos}
+use Rattle.std.proofs.Common.{inl, inr, ap₂, ◌≡◌, ◌≢◌, ◌⊎◌, ◌==◌, ℕ, ◌+◌, ◌-◌, ◌*◌, ◌%◌, ◌<◌, ◌≤◌, ◌≤ℤ◌, min, fold, Bool, true, false, cond, ltb, List, [], ◌∷◌, refl, sym, ◌∙◌, ap, subst, arith, All, length, get_or, count_by, sum_by, Option, Some, None, IsSome, pos}
 use Rattle.std.specs.List.{list_any}
 use Rattle.std.specs.Option.{option_map_or}
-use Rattle.std.proofs.lemmas.Bool.{cases_eq, cases_lt, cases_Bool, eqb-true, eq-eqb, lt-ltb, le-ltb, ltb-true, and_parts, false_from_ne_true, false≢true, true≢false}
+use Rattle.std.proofs.lemmas.Bool.{cases_eq, cases_lt, cases_Bool, eqb-true, eq-eqb, lt-ltb, le-ltb, ltb-true, and_parts, false_from_ne_true, true≢false}
 use Rattle.std.proofs.lemmas.List.Elements.{All-weaker}
 use Rattle.std.proofs.lemmas.List.Folds.{list_any_at}
 use Rattle.sg_sums.specs.Sums.{sum_below}
@@ -12,21 +12,20 @@ use Rattle.sg_graph.specs.declared.cut.Cut.{Cut}
 use Rattle.sg_graph.specs.Web.{Graph, IsEdge, IsWeb, edge_at, edge_count, edge_weight}
 use Rattle.sg_graph.specs.Walk.{IsConnected, IsDistance, Leads}
 use Rattle.sg_graph.specs.Join.{AreTerminals}
-use Rattle.sg_graph.specs.OddCut.{CutsPack, IsOddCut, cut_load, cut_weight}
-use Rattle.sg_graph.specs.Table.{IsTableOf, Routes, length_to}
+use Rattle.sg_graph.specs.OddCut.{CutsPack, IsOddCut, cut_weight}
+use Rattle.sg_graph.specs.Table.{IsTableOf, Routes}
 use Rattle.sg_graph.proofs.TableLaws.{connected_distance}
 use Rattle.sg_graph.proofs.Walks.{distance-edge, distance-itself, distance-joined, distance-over, turned}
-use Rattle.sg_arena.specs.Family.{Family, Node, leaf_count, leaves_of, dual_of, holds, Holds, Covers, IsAlive, IsFamily, node_at}
-use Rattle.sg_arena.specs.Slack.{duals_between}
+use Rattle.sg_arena.specs.Family.{Family, Node, leaf_count, leaves_of, dual_of, holds, Holds, IsAlive, IsFamily, node_at}
 use Rattle.sg_sums.proofs.ListLaws.{place_of_any}
-use Rattle.sg_arena.proofs.FamilyLemmas.{alive_from_holds, leaf_bound, name_bound, size-is, size-positive}
+use Rattle.sg_arena.proofs.FamilyLemmas.{leaf_bound, size-is, size-positive}
 use Rattle.sg_moat.specs.Input.{AreTerminalTables, distance_from, table_at, terminal_cost}
 use Rattle.sg_pairing.specs.Matching.{NoSlackIsNegative, dual_in, sum_of_duals}
 use Rattle.sg_moat.specs.Sets.{alive_at, inner_of}
-use Rattle.sg_moat.specs.Slices.{IsSlice, change_over, gap, inside_count, is_below, is_inside}
+use Rattle.sg_moat.specs.Slices.{change_over, gap, inside_count, is_below, is_inside}
 use Rattle.sg_moat.specs.Gathers.{Gathers, IsMoatCut, reach_from, set_depth}
 use Rattle.sg_moat.proofs.SetCount.{sets_few}
-use Rattle.sg_moat.proofs.SetDuals.{apart_duals, has_head, nested_duals, outside_duals}
+use Rattle.sg_moat.proofs.SetDuals.{apart_duals, nested_duals, outside_duals}
 use Rattle.sg_moat.proofs.UnitSteps.{Apart, Inner, Stands, depth, depths_change}
 use Rattle.sg_moat.proofs.UnitSteps.Stands.{disjoint, outer, inner}
 use Rattle.sg_moat.proofs.EdgeReach.{Spans, fold_least, least_bounds, least_by, least_reached, least_same, reach, reach_near, stands_apart, stands_inner, stands_outer, twice_at_a, twice_at_b, twice_to}

@@ -1,34 +1,34 @@
 -- The members of a set and the depths by them, and the cuts of one set more.
-use Rattle.std.proofs.Common.{◌≡◌, ◌==◌, ap₂, eq-eqb, ltb, true, Bool, ℕ, zero, suc, ◌+◌, ◌-◌, ◌*◌, ◌^◌, ◌<◌, ◌≤◌, ◌++◌, min, fold, cond, List, [], ◌∷◌, map, length, get_or, sum_by, pos, refl, sym, ap, ◌∙◌, subst, arith, All, Option, Some, None, IsSome}
+use Rattle.std.proofs.Common.{◌≡◌, ◌==◌, ap₂, eq-eqb, ltb, true, Bool, ℕ, zero, suc, ◌+◌, ◌-◌, ◌^◌, ◌<◌, ◌≤◌, ◌++◌, min, fold, cond, List, [], ◌∷◌, map, length, get_or, pos, refl, sym, ap, ◌∙◌, subst, arith, inl, inr, Contains, All, Option, Some, None, IsSome}
 use Rattle.std.specs.Option.{option_map_or}
-use Rattle.std.specs.List.{range_with_len}
 use Rattle.std.specs.List.Sorted.{IsStrictlyIncreasing}
-use Rattle.std.proofs.lemmas.List.FromFn.{get_or-map-range_with_len, length-map-range_with_len}
-use Rattle.std.proofs.lemmas.List.{length-append, length-map}
+use Rattle.std.proofs.lemmas.List.{get_or_past, length-append, length-map}
 use Rattle.std.proofs.lemmas.List.Elements.{All-append, All-map, All-nil, All-weaker, All-from_get_or}
 use Rattle.std.proofs.lemmas.List.Sums.{sum_by-append}
 use Rattle.std.proofs.lemmas.List.Folds.{list_any_at}
 use Rattle.sg_sums.specs.Parity.{xor}
-use Rattle.sg_sums.specs.Sums.{sum_below}
 use Rattle.sg_sums.specs.Sets.{chosen_below, holds}
 use Rattle.sg_sums.proofs.SumLaws.{sum_below-same}
 use Rattle.sg_sums.proofs.Choosing.{chosen_below_more}
 use Rattle.sg_graph.specs.declared.cut.Cut.{Cut}
 use Rattle.sg_graph.specs.Web.{Graph, IsEdge, IsWeb, edge_at, edge_count}
-use Rattle.sg_graph.specs.OddCut.{crosses, cut_load, cut_weight}
+use Rattle.sg_graph.specs.OddCut.{crosses, cut_weight}
 use Rattle.sg_graph.specs.Join.{AreTerminals}
 use Rattle.sg_graph.specs.Walk.{IsConnected}
 use Rattle.sg_graph.specs.Table.{IsTableOf, Routes, is_reached}
-use Rattle.sg_graph.proofs.TableLaws.{connected_reached, distance_signed, reached_if}
-use Rattle.sg_arena.specs.Family.{Family, Holds, IsAlive, IsFamily, Node, dual_of, has_leaf, leaf_count, leaves_of, node_at}
-use Rattle.sg_arena.proofs.FamilyLemmas.{alive_from_holds, leaf_bound, share-total, size-positive, some_leaf}
+use Rattle.sg_graph.proofs.TableLaws.{connected_distance, connected_reached, distance_signed, reached_if}
+use Rattle.sg_arena.specs.Family.{Family, IsAlive, IsFamily, Node, dual_of, leaf_count, leaves_of, node_at}
+use Rattle.sg_arena.proofs.FamilyLemmas.{leaf_bound, share-total, size-positive, some_leaf}
 use Rattle.sg_moat.specs.declared.members.Member.{Member}
-use Rattle.sg_moat.specs.Depths.{IsWhole, depth_by}
-use Rattle.sg_moat.specs.Input.{AreTerminalTables, distance_from, table_at}
+use Rattle.sg_moat.specs.Depths.{AreFull, IsWhole, depth_by, height_by}
+use Rattle.sg_moat.specs.Input.{AreTerminalTables, blank_table, table_at}
 use Rattle.sg_moat.specs.Members.{member_of}
-use Rattle.sg_moat.specs.Sets.{alive_at, inner_of}
-use Rattle.sg_moat.specs.Slices.{IsSlice, Sliced, Slices, change_over, gap, inside_count, is_below, is_inside}
+use Rattle.sg_moat.specs.Sets.{alive_at}
+use Rattle.sg_moat.specs.Slices.{IsSlice, Sliced, Slices, gap, inside_count, is_below, is_inside}
 use Rattle.sg_moat.specs.Gathers.{Adds, Gathers, IsMoatCut, reach_from, set_depth}
+use Rattle.sg_moat.specs.Survey.{Surveys, noted_at}
+use Rattle.sg_sums.proofs.Tallies.{times_place}
+use Rattle.std.proofs.lemmas.Bool.{cases_lt, lt-ltb}
 use Rattle.sg_moat.proofs.Packing.{depth_full, dual_alive}
 use Rattle.sg_moat.proofs.SetCount.{alive_one}
 
@@ -104,41 +104,56 @@ module _ (g : Graph) (joined : All (IsEdge g.nodes) g.edges) (d c : ℕ → ℕ)
         omega (arith, h.few);
   }
 
--- the depths of all nodes at a set, as a list
-pub record AreDepths (f : Family) (g : Graph) (tables : List Routes) (s : ℕ) (depths : List ℕ) : Type 0 where
-  pub count : length depths ≡ g.nodes
-  pub each : (x : ℕ) → x < g.nodes → get_or depths x 0 ≡ set_depth f tables s x
-  pub full : All (λ d. d ≤ dual_of f s) depths
+-- the heights at a set give its depths
+pub heights_are : (f : Family) (g : Graph) (tables : List Routes) (s : ℕ) (heights near : List ℕ) (members : List Member) (y : ℕ) →
+    Surveys g (height_by tables members y) heights near → members ≡ map (member_of f s) (leaves_of f s) → y ≡ dual_of f s → (x : ℕ) → x < g.nodes → y - noted_at heights x ≡ set_depth f tables s x
+heights_are f g tables s heights near members y surveyed set_is dual_is x l =
+    let by_list : depth_by tables members y x ≡ set_depth f tables s x =
+    ap (λ ms. depth_by tables ms y x) set_is ∙ ap (λ d. depth_by tables (map (member_of f s) (leaves_of f s)) d x) dual_is ∙ depth_by_members f tables s x (leaves_of f s) (dual_of f s) in
+    omega (arith, surveyed.settled x l, by_list, depth_full f tables s x, dual_is)
 
-pub AreDepths-from : (f : Family) (g : Graph) (tables : List Routes) (s : ℕ) (depths : List ℕ) (members : List Member) (y n : ℕ) →
-    depths ≡ map (depth_by tables members y) (range_with_len 0 n) → members ≡ map (member_of f s) (leaves_of f s) → y ≡ dual_of f s → n ≡ g.nodes → AreDepths f g tables s depths
-AreDepths-from f g tables s depths members y n is set_is dual_is nodes_are =
-    let all : depths ≡ map (depth_by tables (map (member_of f s) (leaves_of f s)) (dual_of f s)) (range_with_len 0 g.nodes) =
-    is ∙ ap (λ ms. map (depth_by tables ms y) (range_with_len 0 n)) set_is
-    ∙ ap (λ d. map (depth_by tables (map (member_of f s) (leaves_of f s)) d) (range_with_len 0 n)) dual_is
-    ∙ ap (λ k. map (depth_by tables (map (member_of f s) (leaves_of f s)) (dual_of f s)) (range_with_len 0 k)) nodes_are in
-    let depth : ℕ → ℕ = depth_by tables (map (member_of f s) (leaves_of f s)) (dual_of f s) in
-    let count : length depths ≡ g.nodes = ap length all ∙ length-map-range_with_len depth 0 g.nodes in
-    let each : (x : ℕ) → x < g.nodes → get_or depths x 0 ≡ set_depth f tables s x =
-    λ x l. ap (λ ds. get_or ds x 0) all ∙ get_or-map-range_with_len depth 0 g.nodes x x 0 l (omega arith) ∙ depth_by_members f tables s x (leaves_of f s) (dual_of f s) in
-    record {
-      count = count;
-      each = each;
-      full = All-from_get_or (λ d. d ≤ dual_of f s) depths 0 (λ x l. (let low : x < g.nodes = omega arith in omega (arith, each x low, depth_full f tables s x)));
-    }
+-- no height is beyond the dual
+pub heights_full : (g : Graph) (tables : List Routes) (heights near : List ℕ) (members : List Member) (y : ℕ) → Surveys g (height_by tables members y) heights near → All (λ h. h ≤ y) heights
+heights_full g tables heights near members y s =
+    All-from_get_or (λ h. h ≤ y) heights 0 (λ x l. (let low : x < g.nodes = omega (arith, s.count) in omega (arith, s.settled x low)))
+
+-- what was noted, as heights of its own
+pub Surveys-noted : (g : Graph) (height : ℕ → ℕ) (heights near : List ℕ) → Surveys g height heights near → Surveys g (λ x. noted_at heights x) heights near
+Surveys-noted g height heights near s = record { count = s.count; settled = λ x l. refl; once = s.once; low = s.low }
+
+-- a node with a height is listed
+pub Surveys-covers : (g : Graph) (height : ℕ → ℕ) (heights near : List ℕ) → Surveys g height heights near → (x : ℕ) → 0 < noted_at heights x → Contains near x
+Surveys-covers g height heights near s x some =
+    let low : x < g.nodes = within x some in
+    let one : cond {A = ℕ} (ltb 0 (noted_at heights x)) 1 0 ≡ 1 = ap (λ b. cond b 1 0) (lt-ltb 0 (noted_at heights x) some) in
+    let at = times_place (λ (z : ℕ). z) x near x (omega (arith, s.once x low)) in
+    (at.0, at.1, at.2)
+  where
+    within : (x : ℕ) → 0 < noted_at heights x → x < g.nodes
+    within x some = elim (cases_lt x g.nodes) [
+      | inl l ↦ l
+      | inr l ↦ absurd (let none : noted_at heights x ≡ 0 = get_or_past heights x 0 (omega (arith, s.count)) in omega arith)
+    ]
 
 -- in a connected graph the tables of terminals have a distance for every node
-pub tables_whole : (g : Graph) (terminals : List ℕ) (tables : List Routes) → IsConnected g → AreTerminals g terminals → AreTerminalTables g terminals tables → All (IsWhole g.nodes) tables
-tables_whole g terminals tables connected chosen are =
-    All-from_get_or (IsWhole g.nodes) tables (record { source = 0; to = [] })
-    (λ i l. (
-    let t : Routes = table_at tables i in
-    let is : IsTableOf g t = are.each i (record { source = 0; to = [] }) l in
-    let low : i < length terminals = omega (arith, are.count) in
-    let source : t.source < g.nodes = subst (λ z. z < g.nodes) (sym (are.sources i low)) (chosen.below i 0 low) in
-    let reached : (x : ℕ) → x < g.nodes → is_reached t x ≡ true = λ x lx. reached_if g t is x lx (connected_reached g connected t.source x source lx) in
-    record { count = is.nodes; reached = reached; signed = λ x lx. distance_signed g t is x lx (reached x lx) }
-    ))
+pub tables_full : (g : Graph) (terminals : List ℕ) (tables : List Routes) → IsConnected g → AreTerminals g terminals → AreTerminalTables g terminals tables → AreFull g tables
+tables_full g terminals tables connected chosen are = record {
+  whole = All-from_get_or (IsWhole g.nodes) tables blank_table (λ i l. whole_at i l);
+  sources = source_low;
+  distances = λ i x l low. connected_distance g (table_at tables i) (are.each i blank_table l) connected (source_low i l) x low;
+}
+  where
+    source_low : (i : ℕ) → i < length tables → (table_at tables i).source < g.nodes
+    source_low i l =
+        let low : i < length terminals = omega (arith, are.count) in
+        subst (λ z. z < g.nodes) (sym (are.sources i low)) (chosen.below i 0 low)
+
+    whole_at : (i : ℕ) → i < length tables → IsWhole g.nodes (table_at tables i)
+    whole_at i l =
+        let t : Routes = table_at tables i in
+        let is : IsTableOf g t = are.each i blank_table l in
+        let reached : (x : ℕ) → x < g.nodes → is_reached t x ≡ true = λ x lx. reached_if g t is x lx (connected_reached g connected t.source x (source_low i l) lx) in
+        record { count = is.nodes; reached = reached; signed = λ x lx. distance_signed g t is x lx (reached x lx) }
 
 -- a rising list of numbers below n has at most n of them
 pub rising_short : (xs : List ℕ) (n : ℕ) → IsStrictlyIncreasing xs → All (λ x. x < n) xs → length xs ≤ n

@@ -2,11 +2,11 @@
 use Rattle.std.proofs.Common.{◌≡◌, ◌≢◌, ℕ, ◌+◌, ◌<◌, ◌≤◌, ◌&&◌, ◌||◌, not, Bool, true, false, cond, eqb, List, [], ◌∷◌, length, Option, Some, None, refl, sym, ap, ap₂, ◌∙◌, subst, inl, inr, arith, eq-eqb}
 use Rattle.std.specs.List.{list_all}
 use Rattle.std.specs.Option.{option_map_or}
-use Rattle.std.proofs.lemmas.Bool.{cases_eq, ne_eqb, and_from, and_parts, or_right, eqb-true, false≢true, true≢false, false_from_ne_true}
+use Rattle.std.proofs.lemmas.Bool.{cases_eq, ne_eqb, and_from, and_parts, or_right, false≢true, true≢false, false_from_ne_true}
 use Rattle.sg_sums.specs.Parity.{xor}
 use Rattle.sg_sums.specs.Sums.{sum_below}
 use Rattle.sg_sums.proofs.SumLaws.{sum_below-add, sum_below-same, sum_below-le, sum_below_pick, sum_by_is_sum_below}
-use Rattle.sg_arena.specs.Family.{Node, Family, leaf_count, node_at, IsAlive, leaves_of, dual_of, has_leaf, holds, Holds, Covers, share, total_of, IsFamily}
+use Rattle.sg_arena.specs.Family.{Node, Family, node_at, IsAlive, leaves_of, dual_of, has_leaf, holds, Holds, Covers, share, total_of, IsFamily}
 use Rattle.sg_arena.specs.Slack.{cut_share, duals_between, exactly_one}
 use Rattle.sg_arena.proofs.FamilyLemmas.{alive_from_holds, name_bound}
 use Rattle.sg_moat.specs.Sets.{within, strictly_within, share_below, inner_of}

@@ -4,3 +4,5 @@ pub mod Slices
 pub mod Gathers
 pub mod Members
 pub mod Depths
+pub mod Survey
+pub mod Levels

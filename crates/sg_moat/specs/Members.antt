@@ -1,5 +1,5 @@
 -- The members of the sets of a family, gathered leaf by leaf.
-use Rattle.std.specs.Prelude.{◌≡◌, ℕ, ◌<◌, ◌++◌, cond, List, [], ◌∷◌, length, map, slice_index_or}
+use Rattle.std.specs.Prelude.{◌≡◌, ℕ, ◌++◌, cond, List, [], ◌∷◌, length, map, slice_index_or}
 use Rattle.sg_arena.specs.Family.{Family, holds, leaves_of}
 use Rattle.sg_moat.specs.declared.members.Member.{Member}
 use Rattle.sg_moat.specs.Sets.{inner_of}

@@ -1,35 +1,13 @@
-ghost use Rattle.std.specs.Prelude.{◌≡◌, ◌<◌, ◌^◌, length, map, All, IfOk};
-ghost use Rattle.std.specs.List.{range_with_len};
+ghost use Rattle.std.specs.Prelude.{◌≡◌, ◌<◌, ◌^◌, length, All};
 ghost use Rattle.sg_moat.specs.Depths.{IsWhole, depth_by};
 ghost use Rattle.sg_moat.specs.Input.{distance_from};
 
-use super::NoMemory;
 use super::members::Member;
 use sg_graph::Table;
-use std::alloc::Global;
 
-/// The depths of all nodes at a set with these members and the dual `y`.
-pub fn depths(
-    alloc: Global,
-    nodes: u32,
-    tables: &[Table],
-    members: &[Member],
-    y: u64,
-) -> Result<Vec<u64>, NoMemory>
-    requires leaves { All (λ m. m.leaf < length tables.now) members.now }
-    requires tables { All (IsWhole nodes) tables.now }
-    ensures { IfOk result (λ v. v.items ≡ map (depth_by tables.now members.now y) (range_with_len 0 nodes)) }
-{
-    let mut found = Vec::new(alloc);
-    for node in 0..nodes {
-        found.push(depth_of(nodes, tables, members, y, node))?;
-    }
-    Ok(found)
-}
-
-// The least of the dual and the doubled distances to the members, each less what the smaller sets
-// cover.
-fn depth_of(nodes: u32, tables: &[Table], members: &[Member], y: u64, node: u32) -> u64
+/// The least of the dual and the doubled distances to the members, each less what the smaller sets
+/// cover. In time linear in the members.
+pub fn depth_of(nodes: u32, tables: &[Table], members: &[Member], y: u64, node: u32) -> u64
     requires leaves { All (λ m. m.leaf < length tables.now) members.now }
     requires tables { All (IsWhole nodes) tables.now }
     requires node { node < nodes }

@@ -8,16 +8,20 @@
 //! edge of weight w all depths together change by at most 2w, so the cuts pack, and they weigh the sum
 //! of all duals (Edmonds and Johnson 1973; the moats of Jünger and Pulleyblank 1993).
 //!
-//! For the next engineer: `specs/` has the premises (`Input`), the duals inside a set (`Sets`), the
-//! depths and the cuts of all sets (`Gathers`), and those of one set (`Slices`). `proofs/Packing` has
-//! the theorem, over `UnitSteps` (at most one depth moves over one unit step) and `EdgeReach` (what
-//! sets reach along an edge); `SetCount` bounds the number of sets.
+//! For the next engineer: `members` gathers the leaves of each set, `survey` finds the nodes of one
+//! moat and their heights, the dual less the depth, and `slices` makes its cuts. `specs/` has the
+//! premises (`Input`), the duals inside a set (`Sets`), the depths and the cuts of all sets
+//! (`Gathers`), and those of one set (`Slices`); `Members`, `Depths`, `Survey` and `Levels` are the
+//! private parts. `proofs/Packing` has the theorem, over `UnitSteps` (at most one depth moves over one
+//! unit step) and `EdgeReach` (what sets reach along an edge); `SetCount` bounds the number of sets,
+//! and `SurveyEnd` shows that the search misses no node.
 #![tactic(auto)]
 
 mod depths;
 mod members;
 mod moats;
 mod slices;
+mod survey;
 
 pub use moats::levels;
 pub use sg_graph::{Cut, Cuts};
@@ -25,3 +29,6 @@ use std::alloc::AllocError;
 
 /// The allocator had no memory left.
 pub type NoMemory = AllocError;
+
+#[cfg(test)]
+mod tests;

@@ -1,6 +1,4 @@
-use Rattle.std.proofs.Common.{◌≡◌, ℕ, ◌+◌, ◌<◌, ◌++◌, ◌∷◌, [], List, set, subst, sym, arith}
-use Rattle.sg_arena.specs.Family.{dual_of}
-use Rattle.sg_moat.specs.declared.members.Member.{Member}
+use Rattle.std.proofs.Common.{◌+◌, ◌++◌, ◌∷◌, [], set, subst, sym, arith}
 use Rattle.sg_moat.specs.Members.{list_at}
 use Rattle.sg_moat.proofs.Climb.{Climbing, Climbing-bound, Climbing-start, Climbing-step, Climbing-top, room_falls}
 use Rattle.sg_moat.proofs.members.climb.Goals as goal
