@@ -10,7 +10,7 @@ use Rattle.sg_faces.specs.Faces.{Labelling, IsFaceLabels, face_count, faces_befo
 use Rattle.sg_faces.specs.Euler.{euler}
 use Rattle.sg_planar.proofs.PlanarDuality.{euler_bound_embedding}
 use Rattle.sg_planar.proofs.FaceNumbers.{AreFaceNumbers, face_numbers}
-use Rattle.sg_planar.proofs.RotationSums.{embedding, spins_connected}
+use Rattle.sg_planar.proofs.RotationSums.{numbered_embedding, spins_connected}
 
 -- where the Euler number is 2: spins and faces are two more than bonds
 pub euler_sum : (n f m : ℕ) → pos (n + f) -ℤ pos m ≡ pos 2 → n + f ≡ m + 2
@@ -54,7 +54,7 @@ module _ (inst : Ising) (good : IsInstance inst) where
       with_bond some (face, numbers) =
           let first : face 0 < faces_before inst (dart_count inst) = numbers.below 0 (omega arith) in
           euler_bound_embedding inst.n (bond_count inst) (faces_before inst (dart_count inst)) (tail inst) (next inst) face
-          (embedding inst good face (faces_before inst (dart_count inst)) numbers) good.has_spin (spins_connected inst good connected) (omega arith)
+          (numbered_embedding inst good face (faces_before inst (dart_count inst)) numbers) good.has_spin (spins_connected inst good connected) (omega arith)
 
   module _ (faces : Labelling) (labels : IsFaceLabels inst faces) (connected : IsConnected inst) where
     pub euler_bound : inst.n + faces.count ≤ bond_count inst + 2

@@ -24,7 +24,7 @@ use Rattle.sg_planar.specs.BrokenLists.{FitsFaces, BreaksExactly}
 use Rattle.sg_planar.specs.Following.{is_unlike, Follows}
 use Rattle.sg_planar.proofs.PlanarDuality.{planar_duality, CutBy}
 use Rattle.sg_planar.proofs.FaceNumbers.{AreFaceNumbers, labels_number}
-use Rattle.sg_planar.proofs.RotationSums.{embedding, spins_connected}
+use Rattle.sg_planar.proofs.RotationSums.{numbered_embedding, spins_connected}
 use Rattle.sg_planar.proofs.EulerBounds.{euler_sum}
 
 -- the face on the side of dart d
@@ -113,7 +113,7 @@ module _ (inst : Ising) (good : IsInstance inst) where
             let numbers : AreFaceNumbers inst (face_at faces) (faces_before inst (dart_count inst)) = labels_number inst good faces labels in
             let face : face_at faces 0 < faces_before inst (dart_count inst) = numbers.below 0 (omega arith) in
             planar_duality inst.n (bond_count inst) (faces_before inst (dart_count inst)) (tail inst) (next inst) (face_at faces)
-            (embedding inst good (face_at faces) (faces_before inst (dart_count inst)) numbers) (is_unlike inst list) good.has_spin
+            (numbered_embedding inst good (face_at faces) (faces_before inst (dart_count inst)) numbers) (is_unlike inst list) good.has_spin
             (spins_connected inst good connected) (omega arith) (omega arith) (λ f l. even_on_faces f (omega (arith, labels.counts)))
 
         from_cut : CutBy (bond_count inst) (tail inst) (is_unlike inst list) → (down : ℕ → Bool) × Follows inst (is_unlike inst list) down

@@ -17,6 +17,8 @@ use Rattle.sg_model.specs.Connected.{JoinedBy, IsWalk, Reached, IsConnected, all
 use Rattle.sg_model.proofs.Darts.{tail_first, tail_second, rev_first, rev_second}
 use Rattle.sg_model.proofs.CyclicLists.{following_at}
 use Rattle.sg_model.proofs.Rotations.{spin_distinct, in_list, tail_below, place_of, next_is, next_in_list}
+use Rattle.sg_faces.specs.Faces.{phi, Labelling, IsFaceLabels}
+use Rattle.sg_faces.proofs.PhiPermutes.{phi_below}
 use Rattle.sg_planar.proofs.FaceNumbers.{AreFaceNumbers}
 use Rattle.sg_planar.proofs.Embeddings.{IsEmbedding, SpinsConnected}
 
@@ -108,8 +110,8 @@ module _ (inst : Ising) (good : IsInstance inst) where
           (All-from_get_or (λ y. g (following (darts_of inst (tail inst x)) y) ≡ g y) (darts_of inst (tail inst x)) 0 (at_place (tail inst x) b)) p.0 p.1
 
   -- numbered faces make an instance an embedding
-  pub embedding : (face : ℕ → ℕ) (F : ℕ) → AreFaceNumbers inst face F → IsEmbedding inst.n (bond_count inst) F (tail inst) (next inst) face
-  embedding face F numbers = record {
+  pub numbered_embedding : (face : ℕ → ℕ) (F : ℕ) → AreFaceNumbers inst face F → IsEmbedding inst.n (bond_count inst) F (tail inst) (next inst) face
+  numbered_embedding face F numbers = record {
     tail_below = tail_below inst good;
     next_tail = λ d l. (next_in_list inst good d l).1;
     next_sum = λ h. sym (parity_below_by_pairs (λ d. h (next inst d)) (bond_count inst)) ∙ next_sum h ∙ parity_below_by_pairs h (bond_count inst);
@@ -121,6 +123,16 @@ module _ (inst : Ising) (good : IsInstance inst) where
     face_below = numbers.below;
     face_used = numbers.used;
   }
+
+  -- and so do labelled ones, where there is a bond
+  pub embedding : (faces : Labelling) → 0 < bond_count inst → IsFaceLabels inst faces →
+      IsEmbedding inst.n (bond_count inst) faces.count (tail inst) (next inst) (λ d. get_or faces.labels d 0)
+  embedding faces some labels =
+      numbered_embedding (λ d. get_or faces.labels d 0) faces.count (record {
+        below = labels.below;
+        along = λ d l. sym ((labels.same d (phi inst d) l (phi_below inst good d l)).1 (1, refl));
+        used = λ f l. labels.used f l some;
+      })
 
   -- the walks of a connected instance reach every spin
   pub spins_connected : IsConnected inst → SpinsConnected inst.n (bond_count inst) (tail inst)
