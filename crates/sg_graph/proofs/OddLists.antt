@@ -21,7 +21,8 @@ spread a b c = grind arith
 pub odd_in-parity : (p : ℕ → Bool) (n : ℕ) (xs : List ℕ) → All (λ x. x < n) xs → parity_below (λ e. is_odd_in xs e && p e) n ≡ parity_by p xs
 odd_in-parity p n [] low = parity_below-none (λ e. false && p e) n (λ k l. refl)
 odd_in-parity p n (x ∷ xs) low =
-    parity_below-same (λ e. xor (eqb x e) (is_odd_in xs e) && p e) (λ e. xor (p e && eqb x e) (is_odd_in xs e && p e)) n (λ e l. spread (eqb x e) (is_odd_in xs e) (p e))
+    parity_below-same (λ e. xor (eqb x e) (is_odd_in xs e) && p e) (λ e. xor (p e && eqb x e) (is_odd_in xs e && p e)) n
+    (λ e l. spread (eqb x e) (is_odd_in xs e) (p e))
     ∙ parity_below-xor (λ e. p e && eqb x e) (λ e. is_odd_in xs e && p e) n
     ∙ ap₂ xor (parity_below_pick p x n (All-head (λ x. x < n) x xs low)) (odd_in-parity p n xs (All-tail (λ x. x < n) x xs low))
 

@@ -17,9 +17,11 @@ once_rest x xs once i j d l m = once (suc i) (suc j) d (omega arith) (omega arit
 
 -- the first entry does not come again
 first_alone : (x : ℕ) (xs : List ℕ) → AllPairs (λ e f. e ≢ f) (x ∷ xs) → holds xs x ≡ false
-first_alone x xs once = false_from_ne_true (holds xs x) (λ h. (let at = Contains-holds xs x h in once 0 (suc at.0) x (omega arith) (let low = at.1 in omega arith) (let same : get_or xs at.0 x ≡ x = at.2 in cc)))
+first_alone x xs once = false_from_ne_true (holds xs x) (λ h. (let at = Contains-holds xs x h in once 0 (suc at.0) x (omega arith)
+    (let low = at.1 in omega arith) (let same : get_or xs at.0 x ≡ x = at.2 in cc)))
 
-pub once_weight : (w : ℕ → ℕ) (n : ℕ) (xs : List ℕ) → All (λ x. x < n) xs → AllPairs (λ e f. e ≢ f) xs → sum_by w xs ≤ sum_below (λ e. cond (holds xs e) (w e) 0) n
+pub once_weight : (w : ℕ → ℕ) (n : ℕ) (xs : List ℕ) → All (λ x. x < n) xs → AllPairs (λ e f. e ≢ f) xs
+    → sum_by w xs ≤ sum_below (λ e. cond (holds xs e) (w e) 0) n
 once_weight w n [] low once = omega arith
 once_weight w n (x ∷ xs) low once =
     let rest : sum_by w xs ≤ sum_below (λ e. cond (holds xs e) (w e) 0) n = once_weight w n xs (All-tail (λ x. x < n) x xs low) (once_rest x xs once) in
@@ -65,4 +67,5 @@ rising_few n (x ∷ xs) low up = (let last = at_least (length xs) (omega arith) 
   where
     at_least : (i : ℕ) → i < length (x ∷ xs) → i ≤ get_or (x ∷ xs) i 0
     at_least zero l = omega arith
-    at_least (suc i) l = (let before = at_least i (omega arith) in let e : i + 1 ≡ suc i = omega arith in let step = up i (omega arith) in omega (arith, ap (λ k. get_or (x ∷ xs) k 0) e))
+    at_least (suc i) l = (let before = at_least i (omega arith) in let e : i + 1 ≡ suc i = omega arith in let step = up i (omega arith) in omega
+        (arith, ap (λ k. get_or (x ∷ xs) k 0) e))

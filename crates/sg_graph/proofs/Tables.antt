@@ -18,7 +18,8 @@ routes_of-length (d ∷ ds) [] same = absurd (omega arith)
 routes_of-length (d ∷ ds) (e ∷ es) same = ap suc (routes_of-length ds es (omega arith))
 
 -- the route at a place
-pub routes_of-at : (ds : List ℤ) (es : List ℕ) (x : ℕ) → length ds ≡ length es → x < length es → get_or (routes_of ds es) x None ≡ route_of (get_or ds x (pos 0)) (get_or es x 0)
+pub routes_of-at : (ds : List ℤ) (es : List ℕ) (x : ℕ) → length ds ≡ length es → x < length es
+    → get_or (routes_of ds es) x None ≡ route_of (get_or ds x (pos 0)) (get_or es x 0)
 routes_of-at [] [] x same low = absurd (omega arith)
 routes_of-at [] (e ∷ es) x same low = absurd (omega arith)
 routes_of-at (d ∷ ds) [] x same low = absurd (omega arith)
@@ -26,7 +27,8 @@ routes_of-at (d ∷ ds) (e ∷ es) zero same low = refl
 routes_of-at (d ∷ ds) (e ∷ es) (suc x) same low = routes_of-at ds es x (omega arith) (omega arith)
 
 -- both lists set at a place
-pub routes_of-set : (ds : List ℤ) (es : List ℕ) (x : ℕ) (d : ℤ) (e : ℕ) → length ds ≡ length es → routes_of (set ds x d) (set es x e) ≡ set (routes_of ds es) x (route_of d e)
+pub routes_of-set : (ds : List ℤ) (es : List ℕ) (x : ℕ) (d : ℤ) (e : ℕ) → length ds ≡ length es
+    → routes_of (set ds x d) (set es x e) ≡ set (routes_of ds es) x (route_of d e)
 routes_of-set [] [] x d e same = refl
 routes_of-set [] (e' ∷ es) x d e same = absurd (omega arith)
 routes_of-set (d' ∷ ds) [] x d e same = absurd (omega arith)
@@ -61,7 +63,9 @@ IsTable-with_route t x d e ne is =
     }
 
 -- both lists set at a place make the table with that route
-pub with_route_is : (t : Routes) (source : ℕ) (ds : List ℤ) (es : List ℕ) (x e : ℕ) (d d' : ℤ) → length ds ≡ length es → e < 2 ^ 24 → record { source = source; to = routes_of ds es } ≡ t → d' ≡ d → record { source = source; to = routes_of (set ds x d') (set es x e) } ≡ with_route t x d e
+pub with_route_is : (t : Routes) (source : ℕ) (ds : List ℤ) (es : List ℕ) (x e : ℕ) (d d' : ℤ) → length ds ≡ length es → e < 2 ^ 24
+    → record { source = source; to = routes_of ds es } ≡ t → d' ≡ d
+    → record { source = source; to = routes_of (set ds x d') (set es x e) } ≡ with_route t x d e
 with_route_is t source ds es x e d d' count low is same =
     ap (λ (rs : List (Option Route)). made source rs) (routes_of-set ds es x d' e count ∙ ap (set (routes_of ds es) x) (route_of-edge d' e low))
     ∙ ap (λ (z : ℤ). with_route (made source (routes_of ds es)) x z e) same
@@ -70,13 +74,16 @@ with_route_is t source ds es x e d d' count low is same =
     made : ℕ → List (Option Route) → Routes
     made s rs = record { source = s; to = rs }
 
-pub IsTable-set : (t : Routes) (source : ℕ) (ds : List ℤ) (es : List ℕ) (x e : ℕ) (d d' : ℤ) → length ds ≡ length es → e < 2 ^ 24 → record { source = source; to = routes_of ds es } ≡ t → d' ≡ d → x ≢ t.source → IsTable (record { source = source; to = routes_of ds es }) → IsTable (record { source = source; to = routes_of (set ds x d') (set es x e) })
+pub IsTable-set : (t : Routes) (source : ℕ) (ds : List ℤ) (es : List ℕ) (x e : ℕ) (d d' : ℤ) → length ds ≡ length es → e < 2 ^ 24
+    → record { source = source; to = routes_of ds es } ≡ t → d' ≡ d → x ≢ t.source → IsTable (record { source = source; to = routes_of ds es })
+    → IsTable (record { source = source; to = routes_of (set ds x d') (set es x e) })
 IsTable-set t source ds es x e d d' count low is same ne table =
     let P : Routes → Type 0 = λ u. IsTable u in
     subst P (sym (with_route_is t source ds es x e d d' count low is same)) (IsTable-with_route t x d e ne (subst P is table))
 
 -- the lists of a new table
-pub first_routes_is : (n source : ℕ) (ds : List ℤ) (es : List ℕ) → ds ≡ replicate n (pos 0) → es ≡ replicate n unreached → routes_of ds (set es source 0) ≡ first_routes n source
+pub first_routes_is : (n source : ℕ) (ds : List ℤ) (es : List ℕ) → ds ≡ replicate n (pos 0) → es ≡ replicate n unreached
+    → routes_of ds (set es source 0) ≡ first_routes n source
 first_routes_is n source ds es is_ds is_es = ap₂ (λ xs ys. routes_of xs (set ys source 0)) is_ds is_es ∙ first_set n source
   where
     first_set : (n source : ℕ) → routes_of (replicate n (pos 0)) (set (replicate n unreached) source 0) ≡ first_routes n source
@@ -85,7 +92,8 @@ first_routes_is n source ds es is_ds is_es = ap₂ (λ xs ys. routes_of xs (set 
     first_set (suc n) (suc source) = ap (λ (rs : List (Option Route)). None ∷ rs) (first_set n source)
 
 -- what is read of a table's lists
-module _ (t : Routes) (source : ℕ) (ds : List ℤ) (es : List ℕ) (same : length ds ≡ length es) (is : record { source = source; to = routes_of ds es } ≡ t) where
+module _ (t : Routes) (source : ℕ) (ds : List ℤ) (es : List ℕ) (same : length ds ≡ length es)
+    (is : record { source = source; to = routes_of ds es } ≡ t) where
   pub lists_long : length t.to ≡ length es
   lists_long = sym (ap (λ (u : Routes). length u.to) is) ∙ routes_of-length ds es same
 
@@ -101,17 +109,21 @@ module _ (t : Routes) (source : ℕ) (ds : List ℤ) (es : List ℕ) (same : len
         by_test false = refl
 
     pub read_distance : is_reached t x ≡ true → get_or ds x (pos 0) ≡ distance_at t x
-    read_distance h = sym (ap (λ (r : Option Route). option_map_or (λ (q : Route). q.distance) r (pos 0)) read_route ∙ by_test (eqb (get_or es x 0) unreached) (sym read_reached ∙ h))
+    read_distance h = sym (ap (λ (r : Option Route). option_map_or (λ (q : Route). q.distance) r (pos 0)) read_route
+        ∙ by_test (eqb (get_or es x 0) unreached) (sym read_reached ∙ h))
       where
-        by_test : (b : Bool) → not b ≡ true → option_map_or (λ (q : Route). q.distance) (cond {A = Option Route} b None (Some (record { distance = get_or ds x (pos 0); edge = get_or es x 0 }))) (pos 0) ≡ get_or ds x (pos 0)
+        by_test : (b : Bool) → not b ≡ true → option_map_or (λ (q : Route). q.distance)
+            (cond {A = Option Route} b None (Some (record { distance = get_or ds x (pos 0); edge = get_or es x 0 }))) (pos 0) ≡ get_or ds x (pos 0)
         by_test true h = absurd (false≢true h)
         by_test false h = refl
 
     pub read_parent : source ≢ x → get_or es x 0 ≢ unreached → Some (get_or es x 0) ≡ parent_at t x
     read_parent not_source ne = sym (
-        ap (λ (b : Bool). cond b None (route_edge (route_at t x))) (ne_eqb t.source x (λ (h : t.source ≡ x). not_source (ap (λ (u : Routes). u.source) is ∙ h)))
+        ap (λ (b : Bool). cond b None (route_edge (route_at t x)))
+        (ne_eqb t.source x (λ (h : t.source ≡ x). not_source (ap (λ (u : Routes). u.source) is ∙ h)))
         ∙ ap (λ (r : Option Route). route_edge r) read_route
-        ∙ ap (λ (b : Bool). route_edge (cond b None (Some (record { distance = get_or ds x (pos 0); edge = get_or es x 0 })))) (ne_eqb (get_or es x 0) unreached ne)
+        ∙ ap (λ (b : Bool). route_edge (cond b None (Some (record { distance = get_or ds x (pos 0); edge = get_or es x 0 }))))
+        (ne_eqb (get_or es x 0) unreached ne)
         )
 
     pub no_parent_source : source ≡ x → None ≡ parent_at t x
@@ -119,7 +131,9 @@ module _ (t : Routes) (source : ℕ) (ds : List ℤ) (es : List ℕ) (same : len
 
     pub no_parent_unreached : get_or es x 0 ≡ unreached → None ≡ parent_at t x
     no_parent_unreached h = sym (
-        ap (λ (r : Option Route). cond (eqb t.source x) None (route_edge r)) (read_route ∙ ap (λ (b : Bool). cond b None (Some (record { distance = get_or ds x (pos 0); edge = get_or es x 0 }))) (eq-eqb (get_or es x 0) unreached h))
+        ap (λ (r : Option Route). cond (eqb t.source x) None (route_edge r))
+        (read_route ∙ ap (λ (b : Bool). cond b None (Some (record { distance = get_or ds x (pos 0); edge = get_or es x 0 })))
+        (eq-eqb (get_or es x 0) unreached h))
         ∙ by_test (eqb t.source x)
         )
       where

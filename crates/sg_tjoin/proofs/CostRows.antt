@@ -16,7 +16,8 @@ FillsRow-none terminals t i table = record {
 }
 
 -- one cost more
-module _ (terminals : List ℕ) (t : Routes) (i j : ℕ) (old mid new : Table) (d : ℤ) (less : j < i) (low : i < old.size) (h : FillsRow terminals t i j old mid) (s : SetsPair mid new i j d) (is : d ≡ pos (2 * length_to t (get_or terminals j 0))) where
+module _ (terminals : List ℕ) (t : Routes) (i j : ℕ) (old mid new : Table) (d : ℤ) (less : j < i) (low : i < old.size) (h : FillsRow terminals t i j old mid)
+    (s : SetsPair mid new i j d) (is : d ≡ pos (2 * length_to t (get_or terminals j 0))) where
   not_pair : (a b : ℕ) → (a ≡ i → b ≢ j) → (a ≡ j → b ≢ i) → ¬ IsPairOf a b i j
   not_pair a b p q (inl e) = p e.0 e.1
   not_pair a b p q (inr e) = q e.0 e.1
@@ -40,7 +41,8 @@ module _ (terminals : List ℕ) (t : Routes) (i j : ℕ) (old mid new : Table) (
   }
 
 -- one row more
-module _ (terminals : List ℕ) (tables : List Routes) (i : ℕ) (old new : Table) (low : i < length terminals) (h : FillsRows terminals tables i old) (row : FillsRow terminals (table_at tables i) i i old new) where
+module _ (terminals : List ℕ) (tables : List Routes) (i : ℕ) (old new : Table) (low : i < length terminals) (h : FillsRows terminals tables i old)
+    (row : FillsRow terminals (table_at tables i) i i old new) where
   pub FillsRows-more : FillsRows terminals tables (i + 1) new
   FillsRows-more = record {
     size = row.size ∙ h.size;

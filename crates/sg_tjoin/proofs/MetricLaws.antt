@@ -21,7 +21,8 @@ use Rattle.sg_sums.proofs.SumLaws.{sum_below-same}
 use Rattle.sg_moat.specs.Input.{AreTerminalTables, blank_table, table_at, terminal_cost}
 use Rattle.sg_tjoin.specs.Doubled.{AreMetric, FillsRows, Reaches, apart}
 
-module _ (g : Graph) (terminals : List ℕ) (tables : List Routes) (connected : IsConnected g) (are : AreTerminals g terminals) (is : AreTerminalTables g terminals tables) where
+module _ (g : Graph) (terminals : List ℕ) (tables : List Routes) (connected : IsConnected g) (are : AreTerminals g terminals)
+    (is : AreTerminalTables g terminals tables) where
   low : (i : ℕ) → i < length terminals → get_or terminals i 0 < g.nodes
   low i l = are.below i 0 l
 
@@ -45,18 +46,21 @@ module _ (g : Graph) (terminals : List ℕ) (tables : List Routes) (connected : 
       omega (
         arith,
         diagonal i l,
-        distance-joined g (get_or terminals i 0) (get_or terminals j 0) (get_or terminals i 0) (apart terminals tables i j) (apart terminals tables i i) (apart terminals tables j i) (far i j l m) (far i i l l) (far j i m l),
+        distance-joined g (get_or terminals i 0) (get_or terminals j 0) (get_or terminals i 0) (apart terminals tables i j) (apart terminals tables i i)
+            (apart terminals tables j i) (far i j l m) (far i i l l) (far j i m l),
       )
 
   symmetric : (i j : ℕ) → i < length terminals → j < length terminals → apart terminals tables i j ≡ apart terminals tables j i
   symmetric i j l m = omega (arith, no_more i j l m, no_more j i m l)
 
-  triangle : (i j k : ℕ) → i < length terminals → j < length terminals → k < length terminals → apart terminals tables i k ≤ apart terminals tables i j + apart terminals tables j k
+  triangle : (i j k : ℕ) → i < length terminals → j < length terminals → k < length terminals
+      → apart terminals tables i k ≤ apart terminals tables i j + apart terminals tables j k
   triangle i j k l m n =
       omega (
         arith,
         symmetric k j n m,
-        distance-joined g (get_or terminals i 0) (get_or terminals k 0) (get_or terminals j 0) (apart terminals tables i k) (apart terminals tables i j) (apart terminals tables k j) (far i k l n) (far i j l m) (far k j n m),
+        distance-joined g (get_or terminals i 0) (get_or terminals k 0) (get_or terminals j 0) (apart terminals tables i k) (apart terminals tables i j)
+            (apart terminals tables k j) (far i k l n) (far i j l m) (far k j n m),
       )
 
   reaches : total_weight g ≤ forced_limit → (i : ℕ) → i < length terminals → (x : ℕ) → x < g.nodes → Reaches (table_at tables i) x
@@ -81,7 +85,8 @@ module _ (g : Graph) (terminals : List ℕ) (tables : List Routes) (connected : 
     triangle = triangle;
   }
 
-module _ (terminals : List ℕ) (tables : List Routes) (t : Table) (metric : AreMetric terminals tables) (rows : FillsRows terminals tables (length terminals) t) where
+module _ (terminals : List ℕ) (tables : List Routes) (t : Table) (metric : AreMetric terminals tables)
+    (rows : FillsRows terminals tables (length terminals) t) where
   entry : (i j : ℕ) → i < t.size → j < t.size → cost_of t i j ≡ pos (terminal_cost terminals tables i j)
   entry i j l m =
       let low_i : i < length terminals = omega (arith, rows.size) in
@@ -110,7 +115,14 @@ module _ (terminals : List ℕ) (tables : List Routes) (t : Table) (metric : Are
     bounded = λ i j l m. omega (arith, cost_is i j l m, (metric.reaches i (omega (arith, rows.size)) j 0 (omega (arith, rows.size))).near);
     symmetric = λ i j l m. omega (arith, cost_is i j l m, cost_is j i m l, metric.symmetric i j (omega (arith, rows.size)) (omega (arith, rows.size)));
     diagonal = λ i l. omega (arith, cost_is i i l l, metric.diagonal i (omega (arith, rows.size)));
-    triangle = λ i j k l m n. omega (arith, cost_is i k l n, cost_is i j l m, cost_is j k m n, metric.triangle i j k (omega (arith, rows.size)) (omega (arith, rows.size)) (omega (arith, rows.size)));
+    triangle = λ i j k l m n. omega (
+      arith,
+      cost_is i k l n,
+      cost_is i j l m,
+      cost_is j k m n,
+      metric.triangle i j k (omega (arith, rows.size))
+          (omega (arith, rows.size)) (omega (arith, rows.size)),
+    );
   }
 
   -- what a family of the engine says of the terminals
@@ -125,8 +137,10 @@ module _ (terminals : List ℕ) (tables : List Routes) (t : Table) (metric : Are
   pub same_cost : (mates : List ℕ) → IsPairing (length terminals) mates → pairing_cost (cost t) mates ≡ pairing_cost (terminal_cost terminals tables) mates
   same_cost mates pairing =
       sum_by-range (λ u. cond (ltb u (get_or mates u 0)) (cost t u (get_or mates u 0)) 0) (length mates)
-      ∙ sum_below-same (λ u. cond (ltb u (get_or mates u 0)) (cost t u (get_or mates u 0)) 0) (λ u. cond (ltb u (get_or mates u 0)) (terminal_cost terminals tables u (get_or mates u 0)) 0) (length mates)
-      (λ u l. ap (λ c. cond (ltb u (get_or mates u 0)) c 0) (cost_is u (get_or mates u 0) (omega (arith, rows.size, pairing.count)) (omega (arith, rows.size, pairing.low u (omega (arith, pairing.count))))))
+      ∙ sum_below-same (λ u. cond (ltb u (get_or mates u 0)) (cost t u (get_or mates u 0)) 0)
+      (λ u. cond (ltb u (get_or mates u 0)) (terminal_cost terminals tables u (get_or mates u 0)) 0) (length mates)
+      (λ u l. ap (λ c. cond (ltb u (get_or mates u 0)) c 0)
+      (cost_is u (get_or mates u 0) (omega (arith, rows.size, pairing.count)) (omega (arith, rows.size, pairing.low u (omega (arith, pairing.count))))))
       ∙ sym (sum_by-range (λ u. cond (ltb u (get_or mates u 0)) (terminal_cost terminals tables u (get_or mates u 0)) 0) (length mates))
 
 -- two clauses on a value, where there is one

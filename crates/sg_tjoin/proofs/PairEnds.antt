@@ -45,12 +45,14 @@ module _ (terminals mates : List ℕ) (rising : IsStrictlyIncreasing terminals) 
   at_terminal i l =
       let j : ℕ = get_or mates i 0 in
       let m : j < length terminals = pairing.low i l in
-      parity_below-same (ends_pair terminals mates (get_or terminals i 0)) (λ k. xor (leads_pair mates k && eqb i k) (leads_pair mates k && eqb j k)) (length terminals) (λ k n. each k n)
+      parity_below-same (ends_pair terminals mates (get_or terminals i 0)) (λ k. xor (leads_pair mates k && eqb i k) (leads_pair mates k && eqb j k))
+      (length terminals) (λ k n. each k n)
       ∙ parity_below-xor (λ k. leads_pair mates k && eqb i k) (λ k. leads_pair mates k && eqb j k) (length terminals)
       ∙ ap₂ xor (parity_below_pick (leads_pair mates) i (length terminals) l) (parity_below_pick (leads_pair mates) j (length terminals) m)
       ∙ one_leads i l
     where
-      each : (k : ℕ) → k < length terminals → ends_pair terminals mates (get_or terminals i 0) k ≡ xor (leads_pair mates k && eqb i k) (leads_pair mates k && eqb (get_or mates i 0) k)
+      each : (k : ℕ) → k < length terminals → ends_pair terminals mates (get_or terminals i 0) k ≡ xor (leads_pair mates k && eqb i k)
+          (leads_pair mates k && eqb (get_or mates i 0) k)
       each k n =
           let first : eqb (get_or terminals k 0) (get_or terminals i 0) ≡ eqb i k =
           same_test (eqb (get_or terminals k 0) (get_or terminals i 0)) (eqb i k)
@@ -58,13 +60,17 @@ module _ (terminals mates : List ℕ) (rising : IsStrictlyIncreasing terminals) 
           (λ h. eq-eqb (get_or terminals k 0) (get_or terminals i 0) (ap (λ z. get_or terminals z 0) (sym (eqb-true i k h)))) in
           let second : eqb (get_or terminals (get_or mates k 0) 0) (get_or terminals i 0) ≡ eqb (get_or mates i 0) k =
           same_test (eqb (get_or terminals (get_or mates k 0) 0) (get_or terminals i 0)) (eqb (get_or mates i 0) k)
-          (λ h. eq-eqb (get_or mates i 0) k (ap (λ z. get_or mates z 0) (sym (distinct (get_or mates k 0) i (pairing.low k n) l (eqb-true (get_or terminals (get_or mates k 0) 0) (get_or terminals i 0) h))) ∙ pairing.back k n))
-          (λ h. eq-eqb (get_or terminals (get_or mates k 0) 0) (get_or terminals i 0) (ap (λ z. get_or terminals z 0) (ap (λ z. get_or mates z 0) (sym (eqb-true (get_or mates i 0) k h)) ∙ pairing.back i l))) in
+          (λ h. eq-eqb (get_or mates i 0) k (ap (λ z. get_or mates z 0)
+          (sym (distinct (get_or mates k 0) i (pairing.low k n) l (eqb-true (get_or terminals (get_or mates k 0) 0) (get_or terminals i 0) h)))
+          ∙ pairing.back k n))
+          (λ h. eq-eqb (get_or terminals (get_or mates k 0) 0) (get_or terminals i 0)
+          (ap (λ z. get_or terminals z 0) (ap (λ z. get_or mates z 0) (sym (eqb-true (get_or mates i 0) k h)) ∙ pairing.back i l))) in
           ap₂ (λ p q. leads_pair mates k && xor p q) first second ∙ and-xor (leads_pair mates k) (eqb i k) (eqb (get_or mates i 0) k)
 
   at_other : (x : ℕ) → ((i : ℕ) → i < length terminals → get_or terminals i 0 ≢ x) → parity_below (ends_pair terminals mates x) (length terminals) ≡ false
   at_other x none = parity_below-none (ends_pair terminals mates x) (length terminals) (λ k l. (
-      ap₂ (λ p q. leads_pair mates k && xor p q) (ne_eqb (get_or terminals k 0) x (none k l)) (ne_eqb (get_or terminals (get_or mates k 0) 0) x (none (get_or mates k 0) (pairing.low k l)))
+      ap₂ (λ p q. leads_pair mates k && xor p q) (ne_eqb (get_or terminals k 0) x (none k l))
+      (ne_eqb (get_or terminals (get_or mates k 0) 0) x (none (get_or mates k 0) (pairing.low k l)))
       ∙ and-false (leads_pair mates k)
       ))
 

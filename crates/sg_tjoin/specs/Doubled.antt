@@ -22,7 +22,8 @@ pub record AreMetric (terminals : List ℕ) (tables : List Routes) : Type 0 wher
   pub few : length terminals ≤ 2 ^ 24
   pub count : length tables ≡ length terminals
   pub reaches : (i : ℕ) → i < length terminals → All (Reaches (table_at tables i)) terminals
-  pub symmetric : (i j : ℕ) → i < length terminals → j < length terminals → apart terminals tables i j ≡ apart terminals tables j i
+  pub symmetric : (i j : ℕ) → i < length terminals → j < length terminals
+      → apart terminals tables i j ≡ apart terminals tables j i
   pub diagonal : (i : ℕ) → i < length terminals → apart terminals tables i i ≡ 0
   pub triangle : (i j k : ℕ) → i < length terminals → j < length terminals → k < length terminals →
       apart terminals tables i k ≤ apart terminals tables i j + apart terminals tables j k

@@ -1,5 +1,5 @@
 -- Marks on the edges that walks cross, turned at each crossing.
-use Rattle.std.specs.Prelude.{◌≡◌, ℕ, ◌<◌, ◌==◌, ◌&&◌, Bool, cond, nat_lt, List, length, slice_index, All}
+use Rattle.std.specs.Prelude.{◌≡◌, ℕ, ◌<◌, ◌==◌, ◌&&◌, Bool, cond, nat_lt, List, [], length, slice_index, All}
 use Rattle.sg_sums.specs.Ends.{is_end}
 use Rattle.sg_sums.specs.Parity.{parity_by, parity_below, xor}
 use Rattle.sg_sums.specs.Sets.{is_marked}
@@ -28,17 +28,21 @@ leads_pair mates i = nat_lt i (slice_index mates i)
 
 -- and x is the terminal of just one of the two
 abbrev pub ends_pair : List ℕ → List ℕ → ℕ → ℕ → Bool
-ends_pair terminals mates x i = leads_pair mates i && xor (slice_index terminals i == x) (slice_index terminals (slice_index mates i) == x)
+ends_pair terminals mates x i = leads_pair mates i && xor (slice_index terminals i == x)
+    (slice_index terminals (slice_index mates i) == x)
 
 -- x is one end of edge e, and not both
 abbrev pub is_end_of : Graph → ℕ → ℕ → Bool
 is_end_of g x e = is_end (edge_at g e).a (edge_at g e).b x
 
 -- the marks of all edges of walks between the first few mates were turned
-pub record AreTurned (g : Graph) (terminals : List ℕ) (tables : List Routes) (mates : List ℕ) (upto : ℕ) (marks : List Bool) : Type 0 where
+pub record AreTurned (g : Graph) (terminals : List ℕ) (tables : List Routes) (mates : List ℕ) (upto : ℕ)
+    (marks : List Bool) : Type 0 where
   pub count : length marks ≡ edge_count g
   pub walks : List ℕ
+  pub bare : upto ≡ 0 → walks ≡ []
   pub below : All (λ e. e < edge_count g) walks
   pub turned : (e : ℕ) → e < edge_count g → is_marked marks e ≡ parity_by (λ k. k == e) walks
   pub ends : (x : ℕ) → parity_by (is_end_of g x) walks ≡ parity_below (ends_pair terminals mates x) upto
-  pub weighs : weight_of g walks ≡ sum_below (λ i. cond (leads_pair mates i) (apart terminals tables i (slice_index mates i)) 0) upto
+  pub weighs : weight_of g walks ≡ sum_below (λ i. cond (leads_pair mates i)
+      (apart terminals tables i (slice_index mates i)) 0) upto

@@ -20,7 +20,7 @@ mod tables;
 mod walks;
 mod weight;
 
-ghost use Rattle.std.specs.Prelude.{◌≡◌, ◌*◌, ◌%◌, ◌≤◌, length, pos, sum_by, IfOk};
+ghost use Rattle.std.specs.Prelude.{◌≡◌, ◌*◌, ◌%◌, ◌≤◌, [], length, pos, sum_by, IfOk};
 ghost use Rattle.sg_graph.specs.Join.{AreTerminals, IsLeastJoin};
 ghost use Rattle.sg_graph.specs.OddCut.{CutsPack, cut_weight};
 ghost use Rattle.sg_graph.specs.Walk.{IsConnected};
@@ -64,6 +64,7 @@ pub fn least_join(alloc: Global, web: &Web, terminals: &Terminals) -> Result<Joi
     ensures least { IfOk result (λ j. IsLeastJoin web.now terminals.now j.edges) }
     ensures weight { IfOk result (λ j. j.weight ≡ pos (weight_of web.now j.edges)) }
     ensures packs { IfOk result (λ j. CutsPack web.now terminals.now j.cuts) }
+    ensures bare { IfOk result (λ j. terminals.now ≡ [] → (j.edges ≡ []) × (j.cuts ≡ [])) }
     ensures tight { IfOk result (λ j. sum_by cut_weight j.cuts ≡ 2 * weight_of web.now j.edges) }
 {
     let all = web.edges();
@@ -79,3 +80,6 @@ pub fn least_join(alloc: Global, web: &Web, terminals: &Terminals) -> Result<Joi
         cuts,
     })
 }
+
+#[cfg(test)]
+mod tests;

@@ -1,4 +1,4 @@
-ghost use Rattle.std.specs.Prelude.{◌≡◌, ◌*◌, ◌≤◌, length, IfOk, IsTrue, OnOk};
+ghost use Rattle.std.specs.Prelude.{◌≡◌, ◌*◌, ◌≤◌, length, [], IfOk, IsTrue, OnOk};
 ghost use Rattle.sg_graph.specs.Join.{AreTerminals, IsJoin};
 ghost use Rattle.sg_graph.specs.Table.{IsTableOf, is_reached, length_to};
 ghost use Rattle.sg_graph.specs.Web.{edge_count, weight_of};
@@ -25,6 +25,7 @@ pub fn odd_edges(
     requires tables { AreTerminalTables web.now terminals.now tables.now }
     requires metric { AreMetric terminals.now tables.now }
     requires pairing { IsPairing (length terminals.now) mates.now }
+    ensures bare { IfOk result (λ edges. length terminals.now ≡ 0 → edges ≡ []) }
     ensures join { IfOk result (IsJoin web.now terminals.now) }
     ensures light { IfOk result (λ edges. 2 * weight_of web.now edges ≤ pairing_cost (terminal_cost terminals.now tables.now) mates.now) }
 {

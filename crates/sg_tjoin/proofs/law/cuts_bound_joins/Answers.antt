@@ -6,4 +6,5 @@ pub returns-clause-bound : goal.returns-clause-bound
 returns-clause-bound c = λ g terminals edges cuts web are join packed. cuts_bound_join g terminals are web.joined edges cuts join packed
 
 pub returns-clause-least : goal.returns-clause-least
-returns-clause-least c = λ g terminals edges cuts web are join packed tight. least_by_cuts g terminals are web.joined edges cuts join packed (omega (arith, tight))
+returns-clause-least c = λ g terminals edges cuts web are join packed tight. least_by_cuts g terminals are web.joined edges cuts join packed
+    (omega (arith, tight))

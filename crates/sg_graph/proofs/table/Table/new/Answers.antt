@@ -6,13 +6,23 @@ use Rattle.sg_graph.proofs.table.Table.new.Goals as goal
 
 pub invariant_of-result : goal.invariant_of-result
 invariant_of-result c =
-    let is = first_routes_is c.args.nodes c.args.source c.in_ok-distances.distances.items c.in_ok-edges.edges.items (c.in_ok-distances.ensures.items_if_clones_equal (λ y e. e)) (c.in_ok-edges.ensures.items_if_clones_equal (λ y e. e)) in
+    let is = first_routes_is c.args.nodes c.args.source c.in_ok-distances.distances.items c.in_ok-edges.edges.items
+    (c.in_ok-distances.ensures.items_if_clones_equal (λ y e. e)) (c.in_ok-edges.ensures.items_if_clones_equal (λ y e. e)) in
     let P : List (Option Route) → Type 0 = λ rs. IsTable (record { source = c.args.source; to = rs }) in (
-      omega (arith, c.in_ok-distances.ensures.len, c.in_ok-edges.ensures.len, c.in_ok-distances.distances.ok, c.in_ok-edges.edges.ok, length-set c.in_ok-edges.edges.items c.args.source 0),
+      omega (
+        arith,
+        c.in_ok-distances.ensures.len,
+        c.in_ok-edges.ensures.len,
+        c.in_ok-distances.distances.ok,
+        c.in_ok-edges.edges.ok,
+        length-set
+            c.in_ok-edges.edges.items c.args.source 0,
+      ),
       subst P (sym is) (IsTable-first c.args.nodes c.args.source c.requires.source_in c.requires.few),
     )
 
 pub returns : goal.returns
 returns c =
     let made : List (Option Route) → Routes = λ rs. record { source = c.args.source; to = rs } in
-    ap made (first_routes_is c.args.nodes c.args.source c.in_ok-distances.distances.items c.in_ok-edges.edges.items (c.in_ok-distances.ensures.items_if_clones_equal (λ y e. e)) (c.in_ok-edges.ensures.items_if_clones_equal (λ y e. e)))
+    ap made (first_routes_is c.args.nodes c.args.source c.in_ok-distances.distances.items c.in_ok-edges.edges.items
+    (c.in_ok-distances.ensures.items_if_clones_equal (λ y e. e)) (c.in_ok-edges.ensures.items_if_clones_equal (λ y e. e)))

@@ -13,5 +13,6 @@ pub returns-clause-value : goal.returns-clause-value
 returns-clause-value c =
     let t = c.self.inside in
     let long = lists_long c.args.self.now t.source t.distances.items t.edges.items c.self.invariant.0 c.self.view_is in
-    ap (λ n. not (eqb n unreached)) (get_or_read_under t.edges.items c.args.node t.edges.len c.index.result.now 0 c.index.ensures (omega (arith, c.requires, long, t.edges.ok)) t.edges.ok.0)
+    ap (λ n. not (eqb n unreached)) (get_or_read_under t.edges.items c.args.node t.edges.len c.index.result.now 0 c.index.ensures
+    (omega (arith, c.requires, long, t.edges.ok)) t.edges.ok.0)
     ∙ sym (read_reached c.args.self.now t.source t.distances.items t.edges.items c.self.invariant.0 c.self.view_is c.args.node c.requires)
