@@ -32,10 +32,12 @@ module _ (inst : Ising) (faces : Labelling) where
       ∙ parity_by_range (is_negative_side f) (dart_count inst)
 
   -- the faces whose marks are set
-  pub frustrated_from_marks : (marks lent : List Bool) (terminals : List ℕ) → lent ≡ marks → length lent ≡ faces.count → ((f : ℕ) → f < faces.count → is_marked marks f ≡ is_frustrated inst faces f) →
+  pub frustrated_from_marks : (marks lent : List Bool) (terminals : List ℕ) → lent ≡ marks → length lent ≡ faces.count →
+      ((f : ℕ) → f < faces.count → is_marked marks f ≡ is_frustrated inst faces f) →
       terminals ≡ chosen_below (is_marked lent) (length lent) → terminals ≡ frustrated_faces inst faces
   frustrated_from_marks marks lent terminals same room right chosen =
-      chosen ∙ ap (chosen_below (is_marked lent)) room ∙ ap (λ (ms : List Bool). chosen_below (is_marked ms) faces.count) same ∙ chosen_below_same (is_marked marks) (is_frustrated inst faces) faces.count right
+      chosen ∙ ap (chosen_below (is_marked lent)) room ∙ ap (λ (ms : List Bool). chosen_below (is_marked ms) faces.count) same
+      ∙ chosen_below_same (is_marked marks) (is_frustrated inst faces) faces.count right
 
   -- both darts of a bond are negative, or neither
   both_sides : (k : ℕ) → is_negative_dart (2 * k + 1) ≡ is_negative_dart (2 * k)

@@ -21,7 +21,9 @@ find : (g : ℕ → ℕ) (x n : ℕ) → ((i : ℕ) × (i < n) × (g i ≡ x)) �
 find g x zero = inr (λ i l. absurd (omega arith))
 find g x (suc n) = elim (cases_eq (g n) x) [
   | inl e ↦ inl (n, omega arith, e)
-  | inr ne ↦ ⊎_elim (λ (f : (i : ℕ) × (i < n) × (g i ≡ x)). inl (f.0, omega (arith, f.1), f.2)) (λ (f : (i : ℕ) → i < n → g i ≢ x). inr (λ i l. more ne f i l)) (find g x n)
+  | inr ne ↦
+      ⊎_elim (λ (f : (i : ℕ) × (i < n) × (g i ≡ x)). inl (f.0, omega (arith, f.1), f.2))
+      (λ (f : (i : ℕ) → i < n → g i ≢ x). inr (λ i l. more ne f i l)) (find g x n)
 ]
   where
     more : g n ≢ x → ((i : ℕ) → i < n → g i ≢ x) → (i : ℕ) → i < suc n → g i ≢ x
@@ -36,7 +38,8 @@ pigeonhole (suc k) g low = by_last (find g (g (suc k)) (suc k)) (pigeonhole k mo
     moved : ℕ → ℕ
     moved i = cond (eqb (g i) k) (g (suc k)) (g i)
 
-    by_last : ((i : ℕ) × (i < suc k) × (g i ≡ g (suc k))) ⊎ ((i : ℕ) → i < suc k → g i ≢ g (suc k)) → (((i : ℕ) → i < k + 1 → moved i < k) → Repeats moved (k + 1)) → Repeats g (suc k + 1)
+    by_last : ((i : ℕ) × (i < suc k) × (g i ≡ g (suc k))) ⊎ ((i : ℕ) → i < suc k → g i ≢ g (suc k)) →
+        (((i : ℕ) → i < k + 1 → moved i < k) → Repeats moved (k + 1)) → Repeats g (suc k + 1)
     by_last (inl f) again = record { first = f.0; second = suc k; before = f.1; below = omega arith; equal = f.2 }
     by_last (inr f) again =
         let r : Repeats moved (k + 1) = again low' in
@@ -71,7 +74,8 @@ module _ (f : ℕ → ℕ) (k : ℕ) (move : IsOneToOne f k) where
   steps_back zero j d l e = let z : 0 + j ≡ j = omega arith in sym (e ∙ ap (λ n. after_steps f n d) z)
   steps_back (suc i) j d l e =
       let s : suc i + j ≡ suc (i + j) = omega arith in
-      steps_back i j d l (move.apart (after_steps f i d) (after_steps f (i + j) d) (steps_below i d l) (steps_below (i + j) d l) (e ∙ ap (λ n. after_steps f n d) s))
+      steps_back i j d l
+      (move.apart (after_steps f i d) (after_steps f (i + j) d) (steps_below i d l) (steps_below (i + j) d l) (e ∙ ap (λ n. after_steps f n d) s))
 
   -- each number lies on a cycle of at most k steps
   pub cycle : (d : ℕ) → d < k → (p : ℕ) × (0 < p) × (p ≤ k) × (after_steps f p d ≡ d)
@@ -102,7 +106,8 @@ module _ (f : ℕ → ℕ) (k : ℕ) (move : IsOneToOne f k) where
       let c : (p : ℕ) × (0 < p) × (p ≤ k) × (after_steps f p d ≡ d) = cycle d l in
       let s : SameOrbit f (after_steps f (j % c.0) d) d = rest c.0 (j % c.0) (omega (arith, mod-lt j c.1)) c.3 in
       let whole : j ≡ j % c.0 + c.0 * (j / c.0) = omega (arith, c.1) in
-      let e : after_steps f j d ≡ after_steps f (j % c.0) d = ap (λ n. after_steps f n d) whole ∙ sym (steps_add f (j % c.0) (c.0 * (j / c.0)) d) ∙ ap (after_steps f (j % c.0)) (rounds c.0 d c.3 (j / c.0)) in
+      let e : after_steps f j d ≡ after_steps f (j % c.0) d =
+      ap (λ n. after_steps f n d) whole ∙ sym (steps_add f (j % c.0) (c.0 * (j / c.0)) d) ∙ ap (after_steps f (j % c.0)) (rounds c.0 d c.3 (j / c.0)) in
       (s.0, ap (after_steps f s.0) e ∙ s.1)
     where
       rest : (p i : ℕ) → i ≤ p → after_steps f p d ≡ d → SameOrbit f (after_steps f i d) d
@@ -121,7 +126,8 @@ module _ (f : ℕ → ℕ) (k : ℕ) (move : IsOneToOne f k) where
           let w : (i : ℕ) × (i < k) × (after_steps f i d ≡ after_steps f j d) = short_way j d l in
           let place : get_or (range_with_len 0 k) w.0 0 ≡ w.0 = get_or-range_with_len 0 k w.0 0 w.1 ∙ omega arith in
           let passes : leb d (after_steps f (get_or (range_with_len 0 k) w.0 0) d) ≡ true =
-          and_at (list_all (λ j. leb d (after_steps f j d))) (λ j. leb d (after_steps f j d)) refl (λ _ _. refl) (range_with_len 0 k) w.0 0 (omega (arith, w.1, length-range_with_len 0 k)) h in
+          and_at (list_all (λ j. leb d (after_steps f j d))) (λ j. leb d (after_steps f j d)) refl (λ _ _. refl) (range_with_len 0 k) w.0 0
+          (omega (arith, w.1, length-range_with_len 0 k)) h in
           omega (arith, leb-true d (after_steps f (get_or (range_with_len 0 k) w.0 0) d) passes, ap (λ j. after_steps f j d) place, w.2, s)
 
       back : ((e : ℕ) → SameOrbit f d e → d ≤ e) → is_least_in f k d ≡ true

@@ -37,7 +37,8 @@ walking_none table old start label long l = record {
   left = omega arith;
 }
 
-module _ (table old labels : List ℕ) (start label at : ℕ) (move : IsMove table) (w : Walking table old labels start label at) (free : get_or labels at 0 ≡ unlabelled) (room : label < unlabelled) where
+module _ (table old labels : List ℕ) (start label at : ℕ) (move : IsMove table) (w : Walking table old labels start label at)
+    (free : get_or labels at 0 ≡ unlabelled) (room : label < unlabelled) where
   in_labels : at < length labels
   in_labels = omega (arith, w.at_below, w.lengths)
 
@@ -52,7 +53,8 @@ module _ (table old labels : List ℕ) (start label at : ℕ) (move : IsMove tab
 
   pub one_less : left_over (set labels at label) + 1 ≡ left_over labels
   one_less =
-      let s : left_over (set labels at label) + cond (eqb (get_or labels at 0) unlabelled) 1 0 ≡ left_over labels + cond (eqb label unlabelled) 1 0 = sum_by-set (λ x. cond (eqb x unlabelled) 1 0) labels at label 0 in_labels in
+      let s : left_over (set labels at label) + cond (eqb (get_or labels at 0) unlabelled) 1 0 ≡ left_over labels + cond (eqb label unlabelled) 1 0 =
+      sum_by-set (λ x. cond (eqb x unlabelled) 1 0) labels at label 0 in_labels in
       let one : cond {A = ℕ} (eqb (get_or labels at 0) unlabelled) 1 0 ≡ 1 = ap (λ b. cond b 1 0) (eq-eqb (get_or labels at 0) unlabelled free) in
       let none : cond {A = ℕ} (eqb label unlabelled) 1 0 ≡ 0 = ap (λ b. cond b 1 0) (ne_eqb label unlabelled (λ (e : label ≡ unlabelled). omega arith)) in
       omega arith
@@ -70,7 +72,8 @@ module _ (table old labels : List ℕ) (start label at : ℕ) (move : IsMove tab
     left = omega (arith, one_less, w.left);
   }
     where
-      fresh' : (x : ℕ) → x < length table → HasLabel (set labels at label) x → get_or old x 0 ≡ unlabelled → (i : ℕ) × (i < suc w.taken) × (moves table i start ≡ x)
+      fresh' : (x : ℕ) → x < length table → HasLabel (set labels at label) x → get_or old x 0 ≡ unlabelled →
+          (i : ℕ) × (i < suc w.taken) × (moves table i start ≡ x)
       fresh' x b h u = elim (cases_eq x at) [
         | inl e ↦ (w.taken, omega arith, w.at_is ∙ sym e)
         | inr ne ↦ let f : (i : ℕ) × (i < w.taken) × (moves table i start ≡ x) = w.fresh x b (λ z. h (other x ne ∙ z)) u in (f.0, omega (arith, f.1), f.2)
@@ -95,17 +98,20 @@ moves_below table move (suc j) d l = move.below (moves table j d) (moves_below t
 
 pub moves_add : (table : List ℕ) (i j d : ℕ) → moves table i (moves table j d) ≡ moves table (i + j) d
 moves_add table zero j d = let e : 0 + j ≡ j = omega arith in ap (λ k. moves table k d) (sym e)
-moves_add table (suc i) j d = let e : suc i + j ≡ suc (i + j) = omega arith in ap (λ x. get_or table x 0) (moves_add table i j d) ∙ ap (λ k. moves table k d) (sym e)
+moves_add table (suc i) j d =
+    let e : suc i + j ≡ suc (i + j) = omega arith in ap (λ x. get_or table x 0) (moves_add table i j d) ∙ ap (λ k. moves table k d) (sym e)
 
 -- a labelled place leads to places of its label alone
-pub onward_all : (table labels : List ℕ) (count limit : ℕ) → LabelsOrbits table labels count limit → IsMove table → (j x : ℕ) → x < length table → HasLabel labels x → get_or labels (moves table j x) 0 ≡ get_or labels x 0
+pub onward_all : (table labels : List ℕ) (count limit : ℕ) → LabelsOrbits table labels count limit → IsMove table → (j x : ℕ) → x < length table →
+    HasLabel labels x → get_or labels (moves table j x) 0 ≡ get_or labels x 0
 onward_all table labels count limit h move zero x l has = refl
 onward_all table labels count limit h move (suc j) x l has =
     let r : get_or labels (moves table j x) 0 ≡ get_or labels x 0 = onward_all table labels count limit h move j x l has in
     h.onward (moves table j x) (moves_below table move j x l) (λ e. has (sym r ∙ e)) ∙ r
 
 -- each place of an old orbit is reached from a place of that orbit
-came_from : (table labels : List ℕ) (count limit : ℕ) → count < unlabelled → LabelsOrbits table labels count limit → IsMove table → (x : ℕ) → x < length table → HasLabel labels x → (y : ℕ) × (y < length table) × HasLabel labels y × (get_or table y 0 ≡ x)
+came_from : (table labels : List ℕ) (count limit : ℕ) → count < unlabelled → LabelsOrbits table labels count limit → IsMove table → (x : ℕ) →
+    x < length table → HasLabel labels x → (y : ℕ) × (y < length table) × HasLabel labels y × (get_or table y 0 ≡ x)
 came_from table labels count limit room h move x l has = by_root (h.roots (get_or labels x 0) (h.below x l has))
   where
     by_root : Root table labels limit (get_or labels x 0) → (y : ℕ) × (y < length table) × HasLabel labels y × (get_or table y 0 ≡ x)
@@ -120,11 +126,13 @@ came_from table labels count limit room h move x l has = by_root (h.roots (get_o
         at : ((j : ℕ) × (moves table j r.first ≡ x)) → (y : ℕ) × (y < length table) × HasLabel labels y × (get_or table y 0 ≡ x)
         at (suc j, e) = place j e
         at (zero, e) =
-            let b : (j : ℕ) × (j < length table) × (moves table j (get_or table r.first 0) ≡ r.first) = r.back (get_or table r.first 0) (move.below r.first r.first_below) (h.onward r.first r.first_below has_first ∙ r.first_label) in
+            let b : (j : ℕ) × (j < length table) × (moves table j (get_or table r.first 0) ≡ r.first) =
+            r.back (get_or table r.first 0) (move.below r.first r.first_below) (h.onward r.first r.first_below has_first ∙ r.first_label) in
             let sum : b.0 + 1 ≡ suc b.0 = omega arith in
             place b.0 (ap (λ k. moves table k r.first) (sym sum) ∙ sym (moves_add table b.0 1 r.first) ∙ b.2 ∙ e)
 
-module _ (table old labels : List ℕ) (start label at : ℕ) (move : IsMove table) (labelled : LabelsOrbits table old label start) (l : start < length table) (free : get_or old start 0 ≡ unlabelled) (earlier : (d : ℕ) → d < start → HasLabel old d) (room : label < unlabelled)
+module _ (table old labels : List ℕ) (start label at : ℕ) (move : IsMove table) (labelled : LabelsOrbits table old label start)
+    (l : start < length table) (free : get_or old start 0 ≡ unlabelled) (earlier : (d : ℕ) → d < start → HasLabel old d) (room : label < unlabelled)
     (w : Walking table old labels start label at) (done : HasLabel labels at) where
   -- the walk ends where it began
   pub comes_back : at ≡ start
@@ -183,7 +191,8 @@ module _ (table old labels : List ℕ) (start label at : ℕ) (move : IsMove tab
   onward_more d b has = by_label (label_of d b has)
     where
       by_label : Labelled d → get_or labels (get_or table d 0) 0 ≡ get_or labels d 0
-      by_label (was h e) = let o : get_or old (get_or table d 0) 0 ≡ get_or old d 0 = labelled.onward d b h in w.kept (get_or table d 0) (λ z. h (sym o ∙ z)) ∙ o ∙ sym e
+      by_label (was h e) =
+          let o : get_or old (get_or table d 0) 0 ≡ get_or old d 0 = labelled.onward d b h in w.kept (get_or table d 0) (λ z. h (sym o ∙ z)) ∙ o ∙ sym e
       by_label (now i c m e u) = elim (cases_lt (suc i) w.taken) [
         | inl less ↦ ap (λ x. get_or labels (get_or table x 0) 0) (sym m) ∙ (w.given (suc i) less).0 ∙ sym e
         | inr more ↦ let last : suc i ≡ w.taken = omega arith in
@@ -270,14 +279,16 @@ module _ (table labels : List ℕ) (count at : ℕ) (move : IsMove table) (label
   pub labelled_before : (j x : ℕ) → x < length table → HasLabel labels (moves table j x) → HasLabel labels x
   labelled_before zero x l h = h
   labelled_before (suc j) x l h =
-      let c : (y : ℕ) × (y < length table) × HasLabel labels y × (get_or table y 0 ≡ moves table (suc j) x) = came_from table labels count at room labelled move (moves table (suc j) x) (moves_below table move (suc j) x l) h in
+      let c : (y : ℕ) × (y < length table) × HasLabel labels y × (get_or table y 0 ≡ moves table (suc j) x) =
+      came_from table labels count at room labelled move (moves table (suc j) x) (moves_below table move (suc j) x l) h in
       let same : c.0 ≡ moves table j x = move.apart c.0 (moves table j x) c.1 (moves_below table move j x l) c.3 in
       labelled_before j x l (λ e. c.2 (ap (λ y. get_or labels y 0) same ∙ e))
 
   -- a place without a label is the least of its orbit, where all earlier ones have labels
   pub free_is_least : at < length table → get_or labels at 0 ≡ unlabelled → ((d : ℕ) → d < at → HasLabel labels d) → is_least_of table at ≡ true
   free_is_least l free earlier =
-      list_all-from_AllPass (λ j. leb at (moves table j at)) (range_with_len 0 (length table)) (λ k d b. le-leb at (moves table (get_or (range_with_len 0 (length table)) k d) at) (each (get_or (range_with_len 0 (length table)) k d)))
+      list_all-from_AllPass (λ j. leb at (moves table j at)) (range_with_len 0 (length table))
+      (λ k d b. le-leb at (moves table (get_or (range_with_len 0 (length table)) k d) at) (each (get_or (range_with_len 0 (length table)) k d)))
     where
       each : (j : ℕ) → at ≤ moves table j at
       each j = elim (cases_lt (moves table j at) at) [ inl b ↦ absurd (labelled_before j at l (earlier (moves table j at) b) free) | inr b ↦ b ]
@@ -288,7 +299,8 @@ module _ (table labels : List ℕ) (count at : ℕ) (move : IsMove table) (label
       let r : Root table labels at (get_or labels at 0) = labelled.roots (get_or labels at 0) (labelled.below at l has) in
       let b : (j : ℕ) × (j < length table) × (moves table j at ≡ r.first) = r.back at l refl in
       let place : get_or (range_with_len 0 (length table)) b.0 0 ≡ b.0 = get_or-range_with_len 0 (length table) b.0 0 b.1 ∙ omega arith in
-      and_fails_at (list_all (λ j. leb at (moves table j at))) (λ j. leb at (moves table j at)) refl (λ _ _. refl) (range_with_len 0 (length table)) b.0 0 (omega (arith, b.1, length-range_with_len 0 (length table)))
+      and_fails_at (list_all (λ j. leb at (moves table j at))) (λ j. leb at (moves table j at)) refl (λ _ _. refl) (range_with_len 0 (length table))
+      b.0 0 (omega (arith, b.1, length-range_with_len 0 (length table)))
       (lt-leb at (moves table (get_or (range_with_len 0 (length table)) b.0 0) at) (omega (arith, ap (λ j. moves table j at) place, b.2, r.early)))
 
 pub later_limit : (table labels : List ℕ) (count at : ℕ) → LabelsOrbits table labels count at → LabelsOrbits table labels count (at + 1)
@@ -307,7 +319,8 @@ no_labels table = record {
   roots = λ f b. absurd (omega arith);
 }
 
-pub all_labelled : (table labels : List ℕ) (count limit : ℕ) → IsMove table → LabelsOrbits table labels count limit → ((d : ℕ) → d < length table → HasLabel labels d) → count ≡ least_before table (length table) → IsOrbitLabels table labels count
+pub all_labelled : (table labels : List ℕ) (count limit : ℕ) → IsMove table → LabelsOrbits table labels count limit →
+    ((d : ℕ) → d < length table → HasLabel labels d) → count ≡ least_before table (length table) → IsOrbitLabels table labels count
 all_labelled table labels count limit move h all counted = record {
   lengths = h.lengths;
   below = λ d b. h.below d b (all d b);
@@ -323,8 +336,10 @@ all_labelled table labels count limit move h all counted = record {
         let back : (j : ℕ) × (j < length table) × (moves table j d ≡ r.first) = r.back d b refl in
         let place : get_or (range_with_len 0 (length table)) back.0 0 ≡ back.0 = get_or-range_with_len 0 (length table) back.0 0 back.1 ∙ omega arith in
         let passes : leb d (moves table (get_or (range_with_len 0 (length table)) back.0 0) d) ≡ true =
-        and_at (list_all (λ j. leb d (moves table j d))) (λ j. leb d (moves table j d)) refl (λ _ _. refl) (range_with_len 0 (length table)) back.0 0 (omega (arith, back.1, length-range_with_len 0 (length table))) least in
-        let up : d ≤ r.first = omega (arith, leb-true d (moves table (get_or (range_with_len 0 (length table)) back.0 0) d) passes, ap (λ j. moves table j d) place, back.2) in
+        and_at (list_all (λ j. leb d (moves table j d))) (λ j. leb d (moves table j d)) refl (λ _ _. refl) (range_with_len 0 (length table)) back.0 0
+        (omega (arith, back.1, length-range_with_len 0 (length table))) least in
+        let up : d ≤ r.first =
+        omega (arith, leb-true d (moves table (get_or (range_with_len 0 (length table)) back.0 0) d) passes, ap (λ j. moves table j d) place, back.2) in
         let same : r.first ≡ d = omega (arith, r.least d b refl, up) in
         r.rank ∙ ap (λ n. least_before table n) same
 
@@ -351,11 +366,13 @@ SoFar table labels count at = LabelsOrbits table labels count at × ((d : ℕ) �
 pub count_small : (table labels : List ℕ) (count at : ℕ) → SoFar table labels count at → count ≤ at
 count_small table labels count at h = omega (arith, h.2, count_by-le-length (is_least_of table) (range_with_len 0 at), length-range_with_len 0 at)
 
-module _ (table labels : List ℕ) (count at : ℕ) (move : IsMove table) (small : length table < 2 ^ 31) (l : at < length table) (h : SoFar table labels count at) where
+module _ (table labels : List ℕ) (count at : ℕ) (move : IsMove table) (small : length table < 2 ^ 31) (l : at < length table)
+    (h : SoFar table labels count at) where
   room_for : count < unlabelled
   room_for = omega (arith, count_small table labels count at h)
 
-  pub so_far_new : (labels' : List ℕ) → get_or labels at 0 ≡ unlabelled → LabelsOrbits table labels' (count + 1) (at + 1) → ((d : ℕ) → HasLabel labels d → get_or labels' d 0 ≡ get_or labels d 0) → get_or labels' at 0 ≡ count → SoFar table labels' (count + 1) (at + 1)
+  pub so_far_new : (labels' : List ℕ) → get_or labels at 0 ≡ unlabelled → LabelsOrbits table labels' (count + 1) (at + 1) →
+      ((d : ℕ) → HasLabel labels d → get_or labels' d 0 ≡ get_or labels d 0) → get_or labels' at 0 ≡ count → SoFar table labels' (count + 1) (at + 1)
   so_far_new labels' free more kept marked =
       (more, all, omega (arith, h.2, count_range_more (is_least_of table) at, ap (λ b. cond {A = ℕ} b 1 0) (free_is_least table labels count at move h.0 room_for l free h.1)))
     where

@@ -18,26 +18,32 @@ pub record IsAfter (n i after : ℕ) : Type 0 where
   pub inner : i + 1 < n → after ≡ i + 1
   pub last : n ≤ i + 1 → after ≡ 0
 
-pub following_after : (darts : List ℕ) (i after : ℕ) → IsDistinct darts → i < length darts → IsAfter (length darts) i after → following darts (get_or darts i 0) ≡ get_or darts after 0
+pub following_after : (darts : List ℕ) (i after : ℕ) → IsDistinct darts → i < length darts → IsAfter (length darts) i after →
+    following darts (get_or darts i 0) ≡ get_or darts after 0
 following_after darts i after once l at = elim (cases_lt (i + 1) (length darts)) [
   | inl b ↦ following_inner darts once i b ∙ ap (λ k. get_or darts k 0) (sym (at.inner b))
   | inr b ↦ following_last darts once i (omega arith) ∙ ap (λ k. get_or darts k 0) (sym (at.last b))
 ]
 
 -- one dart more is linked
-module _ (darts table : List ℕ) (i after : ℕ) (once : IsDistinct darts) (l : i < length darts) (room : All (λ d. rev d < length table) darts) (at : IsAfter (length darts) i after) where
+module _ (darts table : List ℕ) (i after : ℕ) (once : IsDistinct darts) (l : i < length darts) (room : All (λ d. rev d < length table) darts)
+    (at : IsAfter (length darts) i after) where
   pub linked_more : ((k : ℕ) → k < i → get_or table (rev (get_or darts k 0)) 0 ≡ following darts (get_or darts k 0)) →
       (k : ℕ) → k < i + 1 → get_or (set table (rev (get_or darts i 0)) (get_or darts after 0)) (rev (get_or darts k 0)) 0 ≡ following darts (get_or darts k 0)
   linked_more h k b = elim (cases_eq k i) [
     | inl e ↦ ap (λ x. get_or (set table (rev (get_or darts i 0)) (get_or darts after 0)) (rev (get_or darts x 0)) 0) e
-        ∙ get_or-set_same table (rev (get_or darts i 0)) (get_or darts after 0) 0 (room i 0 l) ∙ sym (following_after darts i after once l at) ∙ ap (λ x. following darts (get_or darts x 0)) (sym e)
-    | inr ne ↦ get_or-set_other table (rev (get_or darts i 0)) (rev (get_or darts k 0)) (get_or darts after 0) 0 (λ z. ne (same_place darts once k i (omega arith) l (rev_apart (get_or darts k 0) (get_or darts i 0) z))) ∙ h k (omega arith)
+        ∙ get_or-set_same table (rev (get_or darts i 0)) (get_or darts after 0) 0 (room i 0 l) ∙ sym (following_after darts i after once l at)
+        ∙ ap (λ x. following darts (get_or darts x 0)) (sym e)
+    | inr ne ↦
+        get_or-set_other table (rev (get_or darts i 0)) (rev (get_or darts k 0)) (get_or darts after 0) 0
+        (λ z. ne (same_place darts once k i (omega arith) l (rev_apart (get_or darts k 0) (get_or darts i 0) z))) ∙ h k (omega arith)
   ]
 
   pub unlinked_kept : (x : ℕ) → All (λ d. rev d ≢ x) darts → get_or (set table (rev (get_or darts i 0)) (get_or darts after 0)) x 0 ≡ get_or table x 0
   unlinked_kept x h = get_or-set_other table (rev (get_or darts i 0)) x (get_or darts after 0) 0 (λ z. h i 0 l (sym z))
 
-pub linked_all : (darts table : List ℕ) → ((k : ℕ) → k < length darts → get_or table (rev (get_or darts k 0)) 0 ≡ following darts (get_or darts k 0)) → All (λ d. get_or table (rev d) 0 ≡ following darts d) darts
+pub linked_all : (darts table : List ℕ) → ((k : ℕ) → k < length darts → get_or table (rev (get_or darts k 0)) 0 ≡ following darts (get_or darts k 0)) →
+    All (λ d. get_or table (rev d) 0 ≡ following darts d) darts
 linked_all darts table h = All-from_get_or (λ d. get_or table (rev d) 0 ≡ following darts d) darts 0 (λ k b. h k b)
 
 module _ (inst : Ising) (good : IsInstance inst) where
@@ -47,7 +53,8 @@ module _ (inst : Ising) (good : IsInstance inst) where
 
   -- the list of one spin more is entered
   pub has_phi_more : (i : ℕ) (old now : List ℕ) → i < inst.n → length now ≡ length old → HasPhi inst old i →
-      All (λ d. get_or now (rev d) 0 ≡ following (darts_of inst i) d) (darts_of inst i) → ((x : ℕ) → All (λ d. rev d ≢ x) (darts_of inst i) → get_or now x 0 ≡ get_or old x 0) → HasPhi inst now (i + 1)
+      All (λ d. get_or now (rev d) 0 ≡ following (darts_of inst i) d) (darts_of inst i) →
+      ((x : ℕ) → All (λ d. rev d ≢ x) (darts_of inst i) → get_or now x 0 ≡ get_or old x 0) → HasPhi inst now (i + 1)
   has_phi_more i old now l long h linked kept = record {
     lengths = long ∙ h.lengths;
     entries = entries';
@@ -59,9 +66,11 @@ module _ (inst : Ising) (good : IsInstance inst) where
         | inr ne ↦ kept d (All-from_get_or (λ x. rev x ≢ d) (darts_of inst i) 0 (λ j c. elsewhere d ne j c)) ∙ h.entries d b (omega arith)
       ]
         where
-          here : (d : ℕ) → d < dart_count inst → tail inst (rev d) ≡ i → ((j : ℕ) × (j < length (darts_of inst i)) × (get_or (darts_of inst i) j 0 ≡ rev d)) → get_or now d 0 ≡ phi inst d
+          here : (d : ℕ) → d < dart_count inst → tail inst (rev d) ≡ i →
+              ((j : ℕ) × (j < length (darts_of inst i)) × (get_or (darts_of inst i) j 0 ≡ rev d)) → get_or now d 0 ≡ phi inst d
           here d b e (j, c, p) =
-              ap (λ x. get_or now x 0) (sym (rev_rev d) ∙ ap rev (sym p)) ∙ linked j 0 c ∙ ap (following (darts_of inst i)) p ∙ ap (λ s. following (darts_of inst s) (rev d)) (sym e) ∙ sym (next_is inst good (rev d))
+              ap (λ x. get_or now x 0) (sym (rev_rev d) ∙ ap rev (sym p)) ∙ linked j 0 c ∙ ap (following (darts_of inst i)) p
+              ∙ ap (λ s. following (darts_of inst s) (rev d)) (sym e) ∙ sym (next_is inst good (rev d))
 
           elsewhere : (d : ℕ) → tail inst (rev d) ≢ i → (j : ℕ) → j < length (darts_of inst i) → rev (get_or (darts_of inst i) j 0) ≢ d
           elsewhere d ne j c z = ne (ap (tail inst) (ap rev (sym z) ∙ rev_rev (get_or (darts_of inst i) j 0)) ∙ (in_list inst good i j l c).1)

@@ -34,7 +34,8 @@ no_counts R C = record {
 
 -- what the last row has is nothing, and each other row has its count
 module _ (R C : ℕ) (had : ℕ → ℕ → Bool) (before : ℕ → ℕ) (along : ℕ → ℕ → ℕ) where
-  pub rows_but_last : before 0 ≡ 0 → ((r : ℕ) → along r 0 ≡ 0) → ((r c : ℕ) → c < C → along r (suc c) ≡ along r c + cond (had r c) 1 0) → ((r : ℕ) → before (suc r) ≡ before r + along r C)
+  pub rows_but_last : before 0 ≡ 0 → ((r : ℕ) → along r 0 ≡ 0) → ((r c : ℕ) → c < C → along r (suc c) ≡ along r c + cond (had r c) 1 0) →
+      ((r : ℕ) → before (suc r) ≡ before r + along r C)
       → CountsRows (λ r c. ltb (r + 1) R && had r c) R C (λ r c. before r + cond (ltb (r + 1) R) (along r c) 0)
   rows_but_last none first more next = record {
     start = at_start (ltb (0 + 1) R);
@@ -76,7 +77,9 @@ south_counts R C = record {
 
 -- in each row but the last a bond from each column but the last
 pub diagonal_counts : (R C W : ℕ) → C ≡ suc W → CountsRows (λ r c. ltb (r + 1) R && ltb (c + 1) C) R C (λ r c. r * W + cond (ltb (r + 1) R) (min c W) 0)
-diagonal_counts R C W e = rows_but_last R C (λ r c. ltb (c + 1) C) (λ r. r * W) (λ r c. min c W) (omega arith) (λ r. omega arith) (λ r c b. by_case c (cases_lt (c + 1) C)) (λ r. omega arith)
+diagonal_counts R C W e =
+    rows_but_last R C (λ r c. ltb (c + 1) C) (λ r. r * W) (λ r c. min c W) (omega arith) (λ r. omega arith) (λ r c b. by_case c (cases_lt (c + 1) C))
+    (λ r. omega arith)
   where
     by_case : (c : ℕ) → (c + 1 < C) ⊎ (C ≤ c + 1) → min (suc c) W ≡ min c W + cond (ltb (c + 1) C) 1 0
     by_case c (inl l) = let t : cond {A = ℕ} (ltb (c + 1) C) 1 0 ≡ 1 = ap (λ b. cond {A = ℕ} b 1 0) (lt-ltb (c + 1) C l) in omega arith

@@ -59,7 +59,8 @@ module _ (inst : Ising) (ends : List Ends) (R C base : ℕ) (has : ℕ → ℕ �
       below : (r c : ℕ) → r < R → c < C → has r c ≡ true → rank (λ i. has (i / C) (i % C)) (r * C + c) < rank (λ i. has (i / C) (i % C)) (R * C)
       below r c a b h = rank_below (λ i. has (i / C) (i % C)) (r * C + c) (R * C) (spin_below r c a b) (at r c b ∙ h)
 
-      ends_of_bond : (r c : ℕ) → r < R → c < C → has r c ≡ true → ((bond_at inst (number r c)).u ≡ (f (r * C + c)).u) × ((bond_at inst (number r c)).v ≡ (f (r * C + c)).v)
+      ends_of_bond : (r c : ℕ) → r < R → c < C → has r c ≡ true →
+          ((bond_at inst (number r c)).u ≡ (f (r * C + c)).u) × ((bond_at inst (number r c)).v ≡ (f (r * C + c)).v)
       ends_of_bond r c a b h =
           let k : ℕ = rank (λ i. has (i / C) (i % C)) (r * C + c) in
           let e : ends_at ends (base + k) ≡ f (r * C + c) =
@@ -69,7 +70,8 @@ module _ (inst : Ising) (ends : List Ends) (R C base : ℕ) (has : ℕ → ℕ �
             ap (λ n. (bond_at inst n).v) (by_rank r c a b h) ∙ (read (base + k) l).1 ∙ ap (λ (x : Ends). x.v) e,
           )
 
-      each : (k : ℕ) → base ≤ k → k < base + rank (λ i. has (i / C) (i % C)) (R * C) → (r : ℕ) × (c : ℕ) × (r < R) × (c < C) × (has r c ≡ true) × (number r c ≡ k)
+      each : (k : ℕ) → base ≤ k → k < base + rank (λ i. has (i / C) (i % C)) (R * C) →
+          (r : ℕ) × (c : ℕ) × (r < R) × (c < C) × (has r c ≡ true) × (number r c ≡ k)
       each k lo hi =
           let w : (i : ℕ) × (i < R * C) × (has (i / C) (i % C) ≡ true) × (rank (λ i. has (i / C) (i % C)) i ≡ k - base) =
           unrank (λ i. has (i / C) (i % C)) (R * C) (k - base) (omega arith) in

@@ -77,7 +77,8 @@ pub grid_step : (kind : Kind) (step : Step) (R C : ℕ) → IsSize kind R C
     → IsGridStep R C (has_bond kind step R C) (end_row step) (end_col kind step C) (comes kind step R C) (source_row step) (source_col kind step C)
 grid_step Cylinder East R C size = round_step R C (omega (arith, size.cols))
 grid_step kind East R C size = east_step R C (λ r c. ltb (c + 1) C) (λ r c h. ltb-true (c + 1) C h)
-grid_step Hexagonal South R C size = south_step R C (λ r c. ltb (r + 1) R && eqb ((r + c) % 2) 0) (λ r c h. ltb-true (r + 1) R (and_parts (ltb (r + 1) R) (eqb ((r + c) % 2) 0) h).0)
+grid_step Hexagonal South R C size =
+    south_step R C (λ r c. ltb (r + 1) R && eqb ((r + c) % 2) 0) (λ r c h. ltb-true (r + 1) R (and_parts (ltb (r + 1) R) (eqb ((r + c) % 2) 0) h).0)
 grid_step kind South R C size = south_step R C (λ r c. ltb (r + 1) R) (λ r c h. ltb-true (r + 1) R h)
 grid_step Triangular SouthEast R C size =
     diagonal_step R C (λ r c. ltb (r + 1) R && ltb (c + 1) C)
@@ -121,7 +122,8 @@ half_place r c e = elim (cases_eq (r % 2) 1) [
   | inr o ↦ let even : (c + 1) / 2 ≡ c / 2 = omega arith in ap (λ t. cond t (c / 2) ((c + 1) / 2)) (ne_eqb (r % 2) 1 o) ∙ even
 ]
 
-pub number_is : (kind : Kind) (step : Step) (R C : ℕ) → (r c : ℕ) → r < R → c < C → has_bond kind step R C r c ≡ true → bond_number kind step R C r c ≡ step_base kind step R C + before kind step R C r c
+pub number_is : (kind : Kind) (step : Step) (R C : ℕ) → (r c : ℕ) → r < R → c < C → has_bond kind step R C r c ≡ true →
+    bond_number kind step R C r c ≡ step_base kind step R C + before kind step R C r c
 number_is Cylinder East R C r c a b h = omega arith
 number_is kind East R C r c a b h = omega (arith, ltb-true (c + 1) C h)
 number_is Hexagonal South R C r c a b h =

@@ -33,21 +33,25 @@ same false false f g = refl
 dart_cases : (d : ℕ) → (d ≡ 2 * (d / 2)) ⊎ (d ≡ 2 * (d / 2) + 1)
 dart_cases d = elim (cases_eq (d % 2) 0) [ inl e ↦ inl (omega arith) | inr e ↦ inr (omega arith) ]
 
-module _ (inst : Ising) (R C base total : ℕ) (has : ℕ → ℕ → Bool) (number er ec : ℕ → ℕ → ℕ) (comes : ℕ → ℕ → Bool) (sr sc : ℕ → ℕ → ℕ) (step : IsGridStep R C has er ec comes sr sc)
+module _ (inst : Ising) (R C base total : ℕ) (has : ℕ → ℕ → Bool) (number er ec : ℕ → ℕ → ℕ) (comes : ℕ → ℕ → Bool) (sr sc : ℕ → ℕ → ℕ)
+    (step : IsGridStep R C has er ec comes sr sc)
     (laid : IsLaid inst R C base total has number er ec) where
   outside : (r c d : ℕ) → r < R → c < C → (d < 2 * base) ⊎ (2 * (base + total) ≤ d)
       → cond {A = ℕ} (has r c && eqb (2 * number r c) d) 1 0 + cond {A = ℕ} (comes r c && eqb (2 * number (sr r c) (sc r c) + 1) d) 1 0
       ≡ cond {A = ℕ} (in_block base total d && eqb (tail inst d) (r * C + c)) 1 0
   outside r c d a b o =
       let forth : cond {A = ℕ} (has r c && eqb (2 * number r c) d) 1 0 ≡ 0 =
-      none (has r c) (2 * number r c) d (λ (h : has r c ≡ true) (e : 2 * number r c ≡ d). apart o (number r c) 0 (laid.from r c a b h) (laid.within r c a b h) (omega arith) (omega arith)) in
+      none (has r c) (2 * number r c) d
+      (λ (h : has r c ≡ true) (e : 2 * number r c ≡ d). apart o (number r c) 0 (laid.from r c a b h) (laid.within r c a b h) (omega arith) (omega arith))
+      in
       let back : cond {A = ℕ} (comes r c && eqb (2 * number (sr r c) (sc r c) + 1) d) 1 0 ≡ 0 =
       none (comes r c) (2 * number (sr r c) (sc r c) + 1) d
       (λ (h : comes r c ≡ true) (e : 2 * number (sr r c) (sc r c) + 1 ≡ d). apart o (number (sr r c) (sc r c)) 1
       (laid.from (sr r c) (sc r c) (step.source_row r c a b h) (step.source_col r c a b h) (step.source_has r c a b h))
       (laid.within (sr r c) (sc r c) (step.source_row r c a b h) (step.source_col r c a b h) (step.source_has r c a b h))
       (omega arith) (omega arith)) in
-      let right : cond {A = ℕ} (in_block base total d && eqb (tail inst d) (r * C + c)) 1 0 ≡ 0 = ap (λ t. cond {A = ℕ} t 1 0) (and_left (in_block base total d) (eqb (tail inst d) (r * C + c)) (out o)) in
+      let right : cond {A = ℕ} (in_block base total d && eqb (tail inst d) (r * C + c)) 1 0 ≡ 0 =
+      ap (λ t. cond {A = ℕ} t 1 0) (and_left (in_block base total d) (eqb (tail inst d) (r * C + c)) (out o)) in
       omega arith
     where
       apart : (d < 2 * base) ⊎ (2 * (base + total) ≤ d) → (k s : ℕ) → base ≤ k → k < base + total → 2 * k + s ≡ d → s ≤ 1 → ⊥
@@ -76,7 +80,8 @@ module _ (inst : Ising) (R C base total : ℕ) (has : ℕ → ℕ → Bool) (num
           let n : k ≡ number r c = omega arith in
           eq-eqb (tail inst d) (r * C + c) (at ∙ ap (λ x. (bond_at inst x).u) n ∙ laid.first r c a b both.0)
 
-      here : tail inst d ≡ (bond_at inst k).u → ((r' : ℕ) × (c' : ℕ) × (r' < R) × (c' < C) × (has r' c' ≡ true) × (number r' c' ≡ k)) → eqb (tail inst d) (r * C + c) ≡ true
+      here : tail inst d ≡ (bond_at inst k).u → ((r' : ℕ) × (c' : ℕ) × (r' < R) × (c' < C) × (has r' c' ≡ true) × (number r' c' ≡ k)) →
+          eqb (tail inst d) (r * C + c) ≡ true
           → (has r c && eqb (2 * number r c) d) ≡ true
       here at w h =
           let e : tail inst d ≡ r * C + c = eqb-true (tail inst d) (r * C + c) h in
@@ -93,12 +98,14 @@ module _ (inst : Ising) (R C base total : ℕ) (has : ℕ → ℕ → Bool) (num
       let forth : cond {A = ℕ} (has r c && eqb (2 * number r c) d) 1 0 ≡ 0 =
       none (has r c) (2 * number r c) d (λ (h : has r c ≡ true) (e : 2 * number r c ≡ d). omega arith) in
       let back : cond {A = ℕ} (comes r c && eqb (2 * number (sr r c) (sc r c) + 1) d) 1 0 ≡ cond {A = ℕ} (eqb (tail inst d) (r * C + c)) 1 0 =
-      ap (λ t. cond {A = ℕ} t 1 0) (same (comes r c && eqb (2 * number (sr r c) (sc r c) + 1) d) (eqb (tail inst d) (r * C + c)) (there at) (here at (laid.each k lo hi))) in
+      ap (λ t. cond {A = ℕ} t 1 0)
+      (same (comes r c && eqb (2 * number (sr r c) (sc r c) + 1) d) (eqb (tail inst d) (r * C + c)) (there at) (here at (laid.each k lo hi))) in
       omega arith
     where
       there : tail inst d ≡ (bond_at inst k).v → (comes r c && eqb (2 * number (sr r c) (sc r c) + 1) d) ≡ true → eqb (tail inst d) (r * C + c) ≡ true
       there at h =
-          let both : (comes r c ≡ true) × (eqb (2 * number (sr r c) (sc r c) + 1) d ≡ true) = and_parts (comes r c) (eqb (2 * number (sr r c) (sc r c) + 1) d) h in
+          let both : (comes r c ≡ true) × (eqb (2 * number (sr r c) (sc r c) + 1) d ≡ true) =
+          and_parts (comes r c) (eqb (2 * number (sr r c) (sc r c) + 1) d) h in
           let e : 2 * number (sr r c) (sc r c) + 1 ≡ d = eqb-true (2 * number (sr r c) (sc r c) + 1) d both.1 in
           let n : k ≡ number (sr r c) (sc r c) = omega arith in
           let back : (er (sr r c) (sc r c) ≡ r) × (ec (sr r c) (sc r c) ≡ c) = step.source_end r c a b both.0 in
@@ -107,12 +114,14 @@ module _ (inst : Ising) (R C base total : ℕ) (has : ℕ → ℕ → Bool) (num
           ∙ laid.second (sr r c) (sc r c) (step.source_row r c a b both.0) (step.source_col r c a b both.0) (step.source_has r c a b both.0)
           ∙ ap₂ (λ x y. x * C + y) back.0 back.1)
 
-      here : tail inst d ≡ (bond_at inst k).v → ((r' : ℕ) × (c' : ℕ) × (r' < R) × (c' < C) × (has r' c' ≡ true) × (number r' c' ≡ k)) → eqb (tail inst d) (r * C + c) ≡ true
+      here : tail inst d ≡ (bond_at inst k).v → ((r' : ℕ) × (c' : ℕ) × (r' < R) × (c' < C) × (has r' c' ≡ true) × (number r' c' ≡ k)) →
+          eqb (tail inst d) (r * C + c) ≡ true
           → (comes r c && eqb (2 * number (sr r c) (sc r c) + 1) d) ≡ true
       here at w h =
           let e : tail inst d ≡ r * C + c = eqb-true (tail inst d) (r * C + c) h in
           let to : (bond_at inst k).v ≡ er w.0 w.1 * C + ec w.0 w.1 = ap (λ x. (bond_at inst x).v) (sym w.5) ∙ laid.second w.0 w.1 w.2 w.3 w.4 in
-          let place : (er w.0 w.1 ≡ r) × (ec w.0 w.1 ≡ c) = same_from_place (er w.0 w.1) (ec w.0 w.1) r c C (step.end_col w.0 w.1 w.2 w.3 w.4) b (sym to ∙ sym at ∙ e) in
+          let place : (er w.0 w.1 ≡ r) × (ec w.0 w.1 ≡ c) =
+          same_from_place (er w.0 w.1) (ec w.0 w.1) r c C (step.end_col w.0 w.1 w.2 w.3 w.4) b (sym to ∙ sym at ∙ e) in
           let source : (sr (er w.0 w.1) (ec w.0 w.1) ≡ w.0) × (sc (er w.0 w.1) (ec w.0 w.1) ≡ w.1) = step.end_source w.0 w.1 w.2 w.3 w.4 in
           let row : sr r c ≡ w.0 = ap₂ sr (sym place.0) (sym place.1) ∙ source.0 in
           let col : sc r c ≡ w.1 = ap₂ sc (sym place.0) (sym place.1) ∙ source.1 in
@@ -127,7 +136,8 @@ module _ (inst : Ising) (R C base total : ℕ) (has : ℕ → ℕ → Bool) (num
       ≡ cond {A = ℕ} (in_block base total d && eqb (tail inst d) (r * C + c)) 1 0
   step_count r c d a b = by_case (cases_lt d (2 * base)) (cases_lt d (2 * (base + total))) (dart_cases d)
     where
-      inside : 2 * base ≤ d → d < 2 * (base + total) → cond {A = ℕ} (eqb (tail inst d) (r * C + c)) 1 0 ≡ cond {A = ℕ} (in_block base total d && eqb (tail inst d) (r * C + c)) 1 0
+      inside : 2 * base ≤ d → d < 2 * (base + total) →
+          cond {A = ℕ} (eqb (tail inst d) (r * C + c)) 1 0 ≡ cond {A = ℕ} (in_block base total d && eqb (tail inst d) (r * C + c)) 1 0
       inside lo hi = ap (λ t. cond {A = ℕ} (t && eqb (tail inst d) (r * C + c)) 1 0) (sym (in_block-yes base total d lo hi))
 
       by_case : (d < 2 * base) ⊎ (2 * base ≤ d) → (d < 2 * (base + total)) ⊎ (2 * (base + total) ≤ d) → (d ≡ 2 * (d / 2)) ⊎ (d ≡ 2 * (d / 2) + 1)

@@ -39,31 +39,43 @@ module _ (kind : Kind) (R C : ℕ) (size : IsSize kind R C) where
 
   pub length-ends_of : length (ends_of kind R C) ≡ bond_total kind R C
   length-ends_of =
-      let outer : length (ends_of kind R C) ≡ length (map (ends_from kind East R C) (starts kind East R C)) + length (map (ends_from kind South R C) (starts kind South R C) ++ map (ends_from kind SouthEast R C) (starts kind SouthEast R C)) =
-      length-append (map (ends_from kind East R C) (starts kind East R C)) (map (ends_from kind South R C) (starts kind South R C) ++ map (ends_from kind SouthEast R C) (starts kind SouthEast R C)) in
-      let inner : length (map (ends_from kind South R C) (starts kind South R C) ++ map (ends_from kind SouthEast R C) (starts kind SouthEast R C)) ≡ length (map (ends_from kind South R C) (starts kind South R C)) + length (map (ends_from kind SouthEast R C) (starts kind SouthEast R C)) =
+      let outer : length (ends_of kind R C) ≡ length (map (ends_from kind East R C) (starts kind East R C)) + length
+      (map (ends_from kind South R C) (starts kind South R C) ++ map (ends_from kind SouthEast R C) (starts kind SouthEast R C)) =
+      length-append (map (ends_from kind East R C) (starts kind East R C))
+      (map (ends_from kind South R C) (starts kind South R C) ++ map (ends_from kind SouthEast R C) (starts kind SouthEast R C)) in
+      let inner : length (map (ends_from kind South R C) (starts kind South R C) ++ map (ends_from kind SouthEast R C) (starts kind SouthEast R C)) ≡
+      length (map (ends_from kind South R C) (starts kind South R C)) + length (map (ends_from kind SouthEast R C) (starts kind SouthEast R C)) =
       length-append (map (ends_from kind South R C) (starts kind South R C)) (map (ends_from kind SouthEast R C) (starts kind SouthEast R C)) in
-      joined (length (ends_of kind R C)) (length (map (ends_from kind East R C) (starts kind East R C))) (length (map (ends_from kind South R C) (starts kind South R C) ++ map (ends_from kind SouthEast R C) (starts kind SouthEast R C)))
+      joined (length (ends_of kind R C)) (length (map (ends_from kind East R C) (starts kind East R C)))
+      (length (map (ends_from kind South R C) (starts kind South R C) ++ map (ends_from kind SouthEast R C) (starts kind SouthEast R C)))
       (length (map (ends_from kind South R C) (starts kind South R C))) (length (map (ends_from kind SouthEast R C) (starts kind SouthEast R C)))
-      (step_total kind East R C) (step_total kind South R C) (step_total kind SouthEast R C) outer inner (part_length East) (part_length South) (part_length SouthEast)
+      (step_total kind East R C) (step_total kind South R C) (step_total kind SouthEast R C) outer inner (part_length East) (part_length South)
+      (part_length SouthEast)
       ∙ all_total kind R C
     where
       joined : (n a bc b c x y z : ℕ) → n ≡ a + bc → bc ≡ b + c → a ≡ x → b ≡ y → c ≡ z → n ≡ x + y + z
       joined n a bc b c x y z p q e f g = omega arith
 
-  listed : (step : Step) (k : ℕ) → k < length (starts kind step R C) → ends_at (ends_of kind R C) (step_base kind step R C + k) ≡ ends_from kind step R C (get_or (starts kind step R C) k 0)
+  listed : (step : Step) (k : ℕ) → k < length (starts kind step R C) →
+      ends_at (ends_of kind R C) (step_base kind step R C + k) ≡ ends_from kind step R C (get_or (starts kind step R C) k 0)
   listed East k l =
       let e : 0 + k ≡ k = omega arith in
       ap (ends_at (ends_of kind R C)) e
-      ∙ first_part (ends_from kind East R C) (starts kind East R C) (map (ends_from kind South R C) (starts kind South R C) ++ map (ends_from kind SouthEast R C) (starts kind SouthEast R C)) k l
+      ∙ first_part (ends_from kind East R C) (starts kind East R C)
+      (map (ends_from kind South R C) (starts kind South R C) ++ map (ends_from kind SouthEast R C) (starts kind SouthEast R C)) k l
   listed South k l =
-      later_part (map (ends_from kind East R C) (starts kind East R C)) (map (ends_from kind South R C) (starts kind South R C) ++ map (ends_from kind SouthEast R C) (starts kind SouthEast R C)) (step_total kind East R C) k (part_length East)
+      later_part (map (ends_from kind East R C) (starts kind East R C))
+      (map (ends_from kind South R C) (starts kind South R C) ++ map (ends_from kind SouthEast R C) (starts kind SouthEast R C))
+      (step_total kind East R C) k (part_length East)
       ∙ first_part (ends_from kind South R C) (starts kind South R C) (map (ends_from kind SouthEast R C) (starts kind SouthEast R C)) k l
   listed SouthEast k l =
       let e : step_total kind East R C + step_total kind South R C + k ≡ step_total kind East R C + (step_total kind South R C + k) = omega arith in
       ap (ends_at (ends_of kind R C)) e
-      ∙ later_part (map (ends_from kind East R C) (starts kind East R C)) (map (ends_from kind South R C) (starts kind South R C) ++ map (ends_from kind SouthEast R C) (starts kind SouthEast R C)) (step_total kind East R C) (step_total kind South R C + k) (part_length East)
-      ∙ later_part (map (ends_from kind South R C) (starts kind South R C)) (map (ends_from kind SouthEast R C) (starts kind SouthEast R C)) (step_total kind South R C) k (part_length South)
+      ∙ later_part (map (ends_from kind East R C) (starts kind East R C))
+      (map (ends_from kind South R C) (starts kind South R C) ++ map (ends_from kind SouthEast R C) (starts kind SouthEast R C))
+      (step_total kind East R C) (step_total kind South R C + k) (part_length East)
+      ∙ later_part (map (ends_from kind South R C) (starts kind South R C)) (map (ends_from kind SouthEast R C) (starts kind SouthEast R C))
+      (step_total kind South R C) k (part_length South)
       ∙ get_or-map (ends_from kind SouthEast R C) (starts kind SouthEast R C) k 0 no_ends l
 
   room : (step : Step) → step_base kind step R C + length (starts kind step R C) ≤ length (ends_of kind R C)
@@ -74,48 +86,60 @@ module _ (kind : Kind) (R C : ℕ) (size : IsSize kind R C) where
   module _ (js : List ℤ) where
     pub bond_is : (k : ℕ) → k < length (ends_of kind R C) → bond_at (lattice kind R C js) k ≡ coupled_bond (ends_at (ends_of kind R C) k) (get_or js k (pos 0))
     bond_is k l =
-        get_or-map-range_with_len (λ i. coupled_bond (ends_at (ends_of kind R C) i) (get_or js i (pos 0))) 0 (length (ends_of kind R C)) k k no_bond l (omega arith)
+        get_or-map-range_with_len (λ i. coupled_bond (ends_at (ends_of kind R C) i) (get_or js i (pos 0))) 0 (length (ends_of kind R C)) k k no_bond l
+        (omega arith)
 
     pub bond_count_is : bond_count (lattice kind R C js) ≡ bond_total kind R C
-    bond_count_is = length-map-range_with_len (λ i. coupled_bond (ends_at (ends_of kind R C) i) (get_or js i (pos 0))) 0 (length (ends_of kind R C)) ∙ length-ends_of
+    bond_count_is =
+        length-map-range_with_len (λ i. coupled_bond (ends_at (ends_of kind R C) i) (get_or js i (pos 0))) 0 (length (ends_of kind R C)) ∙ length-ends_of
 
     -- the bonds of each step, by their numbers
     pub step_laid : (step : Step) → IsLaid (lattice kind R C js) R C (step_base kind step R C) (step_total kind step R C) (has_bond kind step R C) (bond_number kind step R C) (end_row step) (end_col kind step C)
     step_laid step =
         subst (λ t. IsLaid (lattice kind R C js) R C (step_base kind step R C) t (has_bond kind step R C) (bond_number kind step R C) (end_row step) (end_col kind step C)) (length-starts step)
         (laid (lattice kind R C js) (ends_of kind R C) R C (step_base kind step R C) (has_bond kind step R C) (bond_number kind step R C) (end_row step) (end_col kind step C)
-        (ends_from kind step R C) ends_from_is (some_cols kind R C size) (before kind step R C) (counts kind step R C size) (number_is kind step R C) (listed step) read (room step))
+        (ends_from kind step R C) ends_from_is (some_cols kind R C size) (before kind step R C) (counts kind step R C size) (number_is kind step R C)
+        (listed step) read (room step))
       where
-        ends_from_is : (r c : ℕ) → c < C → ((ends_from kind step R C (r * C + c)).u ≡ r * C + c) × ((ends_from kind step R C (r * C + c)).v ≡ end_row step r c * C + end_col kind step C r c)
+        ends_from_is : (r c : ℕ) → c < C →
+            ((ends_from kind step R C (r * C + c)).u ≡ r * C + c) × ((ends_from kind step R C (r * C + c)).v ≡ end_row step r c * C + end_col kind step C r c)
         ends_from_is r c b = (refl, ap₂ (neighbour kind step R C) (div-mul-add r C c b) (mod-mul-add r C c b) ∙ neighbour_is kind step R C r c)
 
-        read : (k : ℕ) → k < length (ends_of kind R C) → ((bond_at (lattice kind R C js) k).u ≡ (ends_at (ends_of kind R C) k).u) × ((bond_at (lattice kind R C js) k).v ≡ (ends_at (ends_of kind R C) k).v)
+        read : (k : ℕ) → k < length (ends_of kind R C) →
+            ((bond_at (lattice kind R C js) k).u ≡ (ends_at (ends_of kind R C) k).u) × ((bond_at (lattice kind R C js) k).v ≡ (ends_at (ends_of kind R C) k).v)
         read k l = (ap (λ (b : Bond). b.u) (bond_is k l), ap (λ (b : Bond). b.v) (bond_is k l))
 
     -- each bond joins two different spins
     step_joins : (step : Step) (k : ℕ) → step_base kind step R C ≤ k → k < step_base kind step R C + step_total kind step R C
-        → ((bond_at (lattice kind R C js) k).u < R * C) × ((bond_at (lattice kind R C js) k).v < R * C) × ((bond_at (lattice kind R C js) k).u ≢ (bond_at (lattice kind R C js) k).v)
+        → ((bond_at (lattice kind R C js) k).u < R * C) × ((bond_at (lattice kind R C js) k).v < R * C) ×
+        ((bond_at (lattice kind R C js) k).u ≢ (bond_at (lattice kind R C js) k).v)
     step_joins step k lo hi = from_place ((step_laid step).each k lo hi)
       where
         from_place : ((r : ℕ) × (c : ℕ) × (r < R) × (c < C) × (has_bond kind step R C r c ≡ true) × (bond_number kind step R C r c ≡ k))
-            → ((bond_at (lattice kind R C js) k).u < R * C) × ((bond_at (lattice kind R C js) k).v < R * C) × ((bond_at (lattice kind R C js) k).u ≢ (bond_at (lattice kind R C js) k).v)
+            → ((bond_at (lattice kind R C js) k).u < R * C) × ((bond_at (lattice kind R C js) k).v < R * C) ×
+            ((bond_at (lattice kind R C js) k).u ≢ (bond_at (lattice kind R C js) k).v)
         from_place (r, c, a, b, h, e) =
             let all = step_laid step in
             let grid = grid_step kind step R C size in
             let u : (bond_at (lattice kind R C js) k).u ≡ r * C + c = ap (λ n. (bond_at (lattice kind R C js) n).u) (sym e) ∙ all.first r c a b h in
-            let v : (bond_at (lattice kind R C js) k).v ≡ end_row step r c * C + end_col kind step C r c = ap (λ n. (bond_at (lattice kind R C js) n).v) (sym e) ∙ all.second r c a b h in
+            let v : (bond_at (lattice kind R C js) k).v ≡ end_row step r c * C + end_col kind step C r c =
+            ap (λ n. (bond_at (lattice kind R C js) n).v) (sym e) ∙ all.second r c a b h in
             let ec : end_col kind step C r c < C = grid.end_col r c a b h in (
               omega (arith, u, mul-add-lt r C c R a b),
               omega (arith, v, mul-add-lt (end_row step r c) C (end_col kind step C r c) R (grid.end_row r c a b h) ec),
-              λ same. let at : (end_row step r c ≡ r) × (end_col kind step C r c ≡ c) = same_from_place (end_row step r c) (end_col kind step C r c) r c C ec b (sym v ∙ sym same ∙ u) in grid.moves r c a b h at.0 at.1,
+              λ same. let at : (end_row step r c ≡ r) × (end_col kind step C r c ≡ c) =
+                  same_from_place (end_row step r c) (end_col kind step C r c) r c C ec b (sym v ∙ sym same ∙ u) in grid.moves r c a b h at.0 at.1,
             )
 
     joins : (k : ℕ) → k < bond_total kind R C
-        → ((bond_at (lattice kind R C js) k).u < R * C) × ((bond_at (lattice kind R C js) k).v < R * C) × ((bond_at (lattice kind R C js) k).u ≢ (bond_at (lattice kind R C js) k).v)
+        → ((bond_at (lattice kind R C js) k).u < R * C) × ((bond_at (lattice kind R C js) k).v < R * C) ×
+        ((bond_at (lattice kind R C js) k).u ≢ (bond_at (lattice kind R C js) k).v)
     joins k l = by_case (cases_lt k (step_total kind East R C)) (cases_lt k (step_total kind East R C + step_total kind South R C))
       where
-        by_case : (k < step_total kind East R C) ⊎ (step_total kind East R C ≤ k) → (k < step_total kind East R C + step_total kind South R C) ⊎ (step_total kind East R C + step_total kind South R C ≤ k)
-            → ((bond_at (lattice kind R C js) k).u < R * C) × ((bond_at (lattice kind R C js) k).v < R * C) × ((bond_at (lattice kind R C js) k).u ≢ (bond_at (lattice kind R C js) k).v)
+        by_case : (k < step_total kind East R C) ⊎ (step_total kind East R C ≤ k) →
+            (k < step_total kind East R C + step_total kind South R C) ⊎ (step_total kind East R C + step_total kind South R C ≤ k)
+            → ((bond_at (lattice kind R C js) k).u < R * C) × ((bond_at (lattice kind R C js) k).v < R * C) ×
+            ((bond_at (lattice kind R C js) k).u ≢ (bond_at (lattice kind R C js) k).v)
         by_case (inl b) s = step_joins East k (omega arith) (omega arith)
         by_case (inr a) (inl b) = step_joins South k a b
         by_case (inr a) (inr b) = step_joins SouthEast k b (omega (arith, all_total kind R C))

@@ -36,11 +36,13 @@ count_round true x y z d = count_one (2 * (x + y) + 1) d
 count_round false x y z d = count_one (2 * (x + z) + 1) d
 
 count_west : (kind : Kind) (R C r c d : ℕ)
-    → times d (west kind R C r c) ≡ cond (comes kind East R C r c && eqb (2 * bond_number kind East R C (source_row East r c) (source_col kind East C r c) + 1) d) 1 0
+    → times d (west kind R C r c) ≡ cond
+    (comes kind East R C r c && eqb (2 * bond_number kind East R C (source_row East r c) (source_col kind East C r c) + 1) d) 1 0
 count_west Cylinder R C r c d = count_round (leb 1 c) (r * C) (c - 1) (C - 1) d
 count_west kind R C r c d = count_back (leb 1 c) (ltb (c - 1 + 1) C) (2 * (r * (C - 1) + (c - 1)) + 1) d
 
-count_six : (d : ℕ) (a b e f g h : List ℕ) → times d (a ++ (b ++ (e ++ (f ++ (g ++ h))))) ≡ times d a + (times d b + (times d e + (times d f + (times d g + times d h))))
+count_six : (d : ℕ) (a b e f g h : List ℕ) →
+    times d (a ++ (b ++ (e ++ (f ++ (g ++ h))))) ≡ times d a + (times d b + (times d e + (times d f + (times d g + times d h))))
 count_six d a b e f g h =
     sum_by-append (λ x. cond (eqb x d) 1 0) a (b ++ (e ++ (f ++ (g ++ h))))
     ∙ ap (λ n. times d a + n) (sum_by-append (λ x. cond (eqb x d) 1 0) b (e ++ (f ++ (g ++ h)))
@@ -65,13 +67,17 @@ three_blocks d a b c m t sum = by_case (cases_lt d (2 * a)) (cases_lt d (2 * (a 
     by_case : (d < 2 * a) ⊎ (2 * a ≤ d) → (d < 2 * (a + b)) ⊎ (2 * (a + b) ≤ d) → (d < 2 * m) ⊎ (2 * m ≤ d)
         → cond {A = ℕ} (in_block 0 a d && t) 1 0 + (cond {A = ℕ} (in_block a b d && t) 1 0 + cond {A = ℕ} (in_block (a + b) c d && t) 1 0) ≡ cond {A = ℕ} (ltb d (2 * m) && t) 1 0
     by_case (inl p) q r =
-        joined true false false true (in_block-yes 0 a d (omega arith) (omega arith)) (in_block-before a b d p) (in_block-before (a + b) c d (omega arith)) (lt-ltb d (2 * m) (omega arith)) (omega arith)
+        joined true false false true (in_block-yes 0 a d (omega arith) (omega arith)) (in_block-before a b d p)
+        (in_block-before (a + b) c d (omega arith)) (lt-ltb d (2 * m) (omega arith)) (omega arith)
     by_case (inr p) (inl q) r =
-        joined false true false true (in_block-behind 0 a d (omega arith)) (in_block-yes a b d p q) (in_block-before (a + b) c d q) (lt-ltb d (2 * m) (omega arith)) (omega arith)
+        joined false true false true (in_block-behind 0 a d (omega arith)) (in_block-yes a b d p q) (in_block-before (a + b) c d q)
+        (lt-ltb d (2 * m) (omega arith)) (omega arith)
     by_case (inr p) (inr q) (inl r) =
-        joined false false true true (in_block-behind 0 a d (omega arith)) (in_block-behind a b d q) (in_block-yes (a + b) c d q (omega arith)) (lt-ltb d (2 * m) r) (omega arith)
+        joined false false true true (in_block-behind 0 a d (omega arith)) (in_block-behind a b d q) (in_block-yes (a + b) c d q (omega arith))
+        (lt-ltb d (2 * m) r) (omega arith)
     by_case (inr p) (inr q) (inr r) =
-        joined false false false false (in_block-behind 0 a d (omega arith)) (in_block-behind a b d q) (in_block-behind (a + b) c d (omega arith)) (le-ltb d (2 * m) r) (omega arith)
+        joined false false false false (in_block-behind 0 a d (omega arith)) (in_block-behind a b d q) (in_block-behind (a + b) c d (omega arith))
+        (le-ltb d (2 * m) r) (omega arith)
 
 module _ (kind : Kind) (R C : ℕ) (size : IsSize kind R C) (js : List ℤ) where
   -- the darts of the table at spin (r, c) are those that leave it
@@ -81,12 +87,15 @@ module _ (kind : Kind) (R C : ℕ) (size : IsSize kind R C) (js : List ℤ) wher
       let south' = count_if (has_bond kind South R C r c) (2 * bond_number kind South R C r c) d in
       let south_east' = count_if (has_bond kind SouthEast R C r c) (2 * bond_number kind SouthEast R C r c) d in
       let north' = count_back (leb 1 r) (has_bond kind South R C (r - 1) c) (2 * bond_number kind South R C (r - 1) c + 1) d in
-      let north_west' = count_back (leb 1 r && leb 1 c) (has_bond kind SouthEast R C (r - 1) (c - 1)) (2 * bond_number kind SouthEast R C (r - 1) (c - 1) + 1) d in
+      let north_west' =
+      count_back (leb 1 r && leb 1 c) (has_bond kind SouthEast R C (r - 1) (c - 1)) (2 * bond_number kind SouthEast R C (r - 1) (c - 1) + 1) d in
       let west' = count_west kind R C r c d in
       let across = count_step East r c d a b in
       let down = count_step South r c d a b in
       let diagonal = count_step SouthEast r c d a b in
-      let blocks = three_blocks d (step_total kind East R C) (step_total kind South R C) (step_total kind SouthEast R C) (bond_count (lattice kind R C js)) (eqb (tail (lattice kind R C js) d) (r * C + c)) (all_total kind R C ∙ sym (bond_count_is kind R C size js)) in
+      let blocks =
+      three_blocks d (step_total kind East R C) (step_total kind South R C) (step_total kind SouthEast R C) (bond_count (lattice kind R C js))
+      (eqb (tail (lattice kind R C js) d) (r * C + c)) (all_total kind R C ∙ sym (bond_count_is kind R C size js)) in
       count_six d (east kind R C r c) (north kind R C r c) (north_west kind R C r c) (west kind R C r c) (south kind R C r c) (south_east kind R C r c)
       ∙ sums _ _ _ _ _ _ _ _ _ _ _ _ _ _ _ _ east' north' north_west' west' south' south_east' across down diagonal blocks
     where
@@ -95,10 +104,12 @@ module _ (kind : Kind) (R C : ℕ) (size : IsSize kind R C) (js : List ℤ) wher
           + cond {A = ℕ} (comes kind step R C r c && eqb (2 * bond_number kind step R C (source_row step r c) (source_col kind step C r c) + 1) d) 1 0
           ≡ cond {A = ℕ} (in_block (step_base kind step R C) (step_total kind step R C) d && eqb (tail (lattice kind R C js) d) (r * C + c)) 1 0
       count_step step r c d a b =
-          step_count (lattice kind R C js) R C (step_base kind step R C) (step_total kind step R C) (has_bond kind step R C) (bond_number kind step R C) (end_row step) (end_col kind step C) (comes kind step R C) (source_row step) (source_col kind step C)
+          step_count (lattice kind R C js) R C (step_base kind step R C) (step_total kind step R C) (has_bond kind step R C)
+          (bond_number kind step R C) (end_row step) (end_col kind step C) (comes kind step R C) (source_row step) (source_col kind step C)
           (grid_step kind step R C size) (step_laid kind R C size js step) r c d a b
 
-      sums : (e n nw w s se e' n' nw' w' s' se' x y z all : ℕ) → e ≡ e' → n ≡ n' → nw ≡ nw' → w ≡ w' → s ≡ s' → se ≡ se' → e' + w' ≡ x → s' + n' ≡ y → se' + nw' ≡ z → x + (y + z) ≡ all → e + (n + (nw + (w + (s + se)))) ≡ all
+      sums : (e n nw w s se e' n' nw' w' s' se' x y z all : ℕ) → e ≡ e' → n ≡ n' → nw ≡ nw' → w ≡ w' → s ≡ s' → se ≡ se' → e' + w' ≡ x → s' + n' ≡ y →
+          se' + nw' ≡ z → x + (y + z) ≡ all → e + (n + (nw + (w + (s + se)))) ≡ all
       sums e n nw w s se e' n' nw' w' s' se' x y z all p1 p2 p3 p4 p5 p6 q1 q2 q3 total = omega arith
 
   pub lattice_rotation : IsRotation (lattice kind R C js)
@@ -109,7 +120,8 @@ module _ (kind : Kind) (R C : ℕ) (size : IsSize kind R C) (js : List ℤ) wher
     where
       once : (i d : ℕ) → i < R * C → times d (darts_of (lattice kind R C js) i) ≡ cond (is_dart_of (lattice kind R C js) i d) 1 0
       once i d l =
-          let at : darts_of (lattice kind R C js) i ≡ darts kind R C (i / C) (i % C) = get_or-map-range_with_len (λ i. darts kind R C (i / C) (i % C)) 0 (R * C) i i [] l (omega arith) in
+          let at : darts_of (lattice kind R C js) i ≡ darts kind R C (i / C) (i % C) =
+          get_or-map-range_with_len (λ i. darts kind R C (i / C) (i % C)) 0 (R * C) i i [] l (omega arith) in
           ap (times d) at
           ∙ darts_once (i / C) (i % C) d (row_below R C i (some_cols kind R C size) l) (mod_below i C (some_cols kind R C size))
           ∙ ap (λ k. cond {A = ℕ} (is_dart_of (lattice kind R C js) k d) 1 0) (div-add-mod' i C)

@@ -51,7 +51,8 @@ module _ (f : ℕ → ℕ) where
           ∙ ap (count_by (λ y. eqb y x)) (map-range_with_len_more f 0 n n (omega arith))
           ∙ sum_by_push (λ y. cond (eqb y x) 1 0) (map f (range_with_len 0 n)) (f n)
 
-      by_case : (f n ≡ x) ⊎ (f n ≡ x → ⊥) → count_by (λ y. eqb y x) (map f (range_with_len 0 n)) ≤ 1 → count_by (λ y. eqb y x) (map f (range_with_len 0 (suc n))) ≤ 1
+      by_case : (f n ≡ x) ⊎ (f n ≡ x → ⊥) → count_by (λ y. eqb y x) (map f (range_with_len 0 n)) ≤ 1 →
+          count_by (λ y. eqb y x) (map f (range_with_len 0 (suc n))) ≤ 1
       by_case (inl same) most =
           let none : count_by (λ y. eqb y x) (map f (range_with_len 0 n)) ≡ 0 = absent n x (λ i l p. apart i n l (p ∙ sym same)) in
           let one : cond {A = ℕ} (eqb (f n) x) 1 0 ≡ 1 = ap (λ t. cond {A = ℕ} t 1 0) (eq-eqb (f n) x same) in
@@ -61,7 +62,8 @@ module _ (f : ℕ → ℕ) where
           omega (arith, more)
 
 round_seam : (R C : ℕ) → 1 ≤ C → (m : ℕ) → R * C ≤ m
-    → All (λ k. k < m) (map (λ r. r * C + (C - 1)) (range_with_len 0 R)) × ((x : ℕ) → count_by (λ y. eqb y x) (map (λ r. r * C + (C - 1)) (range_with_len 0 R)) ≤ 1)
+    → All (λ k. k < m) (map (λ r. r * C + (C - 1)) (range_with_len 0 R)) ×
+    ((x : ℕ) → count_by (λ y. eqb y x) (map (λ r. r * C + (C - 1)) (range_with_len 0 R)) ≤ 1)
 round_seam R C some m few = (
   All-from_get_or (λ k. k < m) (map (λ r. r * C + (C - 1)) (range_with_len 0 R)) 0 below,
   distinct_from_fn (λ r. r * C + (C - 1)) apart R,
@@ -114,7 +116,8 @@ pub few_bonds : (kind : Kind) (R C : ℕ) → IsSize kind R C → bond_total kin
 few_bonds Square R C size = omega (arith, size.few, mul-le R (C - 1) R C (omega arith) (omega arith), mul-le (R - 1) C R C (omega arith) (omega arith))
 few_bonds Triangular R C size =
     omega (arith, size.few, mul-le R (C - 1) R C (omega arith) (omega arith), mul-le (R - 1) C R C (omega arith) (omega arith), mul-le (R - 1) (C - 1) R C (omega arith) (omega arith))
-few_bonds Hexagonal R C size = omega (arith, size.few, few_cols Hexagonal R C size, mul-le R (C - 1) R C (omega arith) (omega arith), half_rows_few R C size.rows)
+few_bonds Hexagonal R C size =
+    omega (arith, size.few, few_cols Hexagonal R C size, mul-le R (C - 1) R C (omega arith) (omega arith), half_rows_few R C size.rows)
 few_bonds Cylinder R C size = omega (arith, size.few, mul-le (R - 1) C R C (omega arith) (omega arith))
 
 -- the parts make up the lattice

@@ -79,7 +79,8 @@ module _ (p : ℕ → Bool) where
           absurd (omega (arith, rank_more n))
 
 -- one more of the numbers that pass, under a function and behind a front
-pub map_picked_more : {A : Type 0} (f : ℕ → A) (p : ℕ → Bool) (front : List A) (n : ℕ) → (front ++ map f (picked p n)) ++ cond (p n) (f n ∷ []) [] ≡ front ++ map f (picked p (n + 1))
+pub map_picked_more : {A : Type 0} (f : ℕ → A) (p : ℕ → Bool) (front : List A) (n : ℕ) →
+    (front ++ map f (picked p n)) ++ cond (p n) (f n ∷ []) [] ≡ front ++ map f (picked p (n + 1))
 map_picked_more {A} f p front n =
     let e : suc n ≡ n + 1 = omega arith in
     append_assoc front (map f (picked p n)) (cond (p n) (f n ∷ []) [])

@@ -31,7 +31,8 @@ unit_at inst s h i l = h.values i (pos 1) (omega (arith, h.count))
 
 pub unit_ends : (inst : Ising) (s : List ℤ) → IsInstance inst → IsAssignment inst s → All (HasUnitEnds s) inst.bonds
 unit_ends inst s good h =
-    All-weaker (IsBond inst.n) (HasUnitEnds s) (λ b w. record { first = unit_at inst s h b.u w.first_end; second = unit_at inst s h b.v w.second_end }) inst.bonds good.joined
+    All-weaker (IsBond inst.n) (HasUnitEnds s) (λ b w. record { first = unit_at inst s h b.u w.first_end; second = unit_at inst s h b.v w.second_end })
+    inst.bonds good.joined
 
 pub product-up_or_down : (s : List ℤ) (b : Bond) → HasUnitEnds s b → IsUpOrDown (product s b)
 product-up_or_down s b h = signs (spin s b.u) (spin s b.v) h.first h.second
@@ -56,7 +57,8 @@ all_bonds s total [] h = refl
 all_bonds s total (b ∷ bonds) h =
     let one : (b.j *ℤ product s b) +ℤ pos (broken_cost s b) ≡ pos (unsigned_abs b.j) =
     one_bond b.j (product s b) (product-up_or_down s b (All-head (HasUnitEnds s) b bonds h)) in
-    let rest : fold (λ total b. total +ℤ (b.j *ℤ product s b)) (total +ℤ (b.j *ℤ product s b)) bonds +ℤ pos (sum_by (broken_cost s) bonds) ≡ (total +ℤ (b.j *ℤ product s b)) +ℤ pos (sum_by (λ b. unsigned_abs b.j) bonds) =
+    let rest : fold (λ total b. total +ℤ (b.j *ℤ product s b)) (total +ℤ (b.j *ℤ product s b)) bonds +ℤ pos (sum_by (broken_cost s) bonds) ≡
+    (total +ℤ (b.j *ℤ product s b)) +ℤ pos (sum_by (λ b. unsigned_abs b.j) bonds) =
     all_bonds s (total +ℤ (b.j *ℤ product s b)) bonds (All-tail (HasUnitEnds s) b bonds h) in
     simp (sum_by-cons (broken_cost s) b bonds, sum_by-cons (λ b. unsigned_abs b.j) b bonds) (added total (b.j *ℤ product s b) _ _ _ _ _ one rest)
   where
@@ -64,7 +66,8 @@ all_bonds s total (b ∷ bonds) h =
     added acc t f w r a v p q = omega (arith, ints)
 
 -- the energy by what the broken bonds cost
-pub energy_from_costs : (inst : Ising) (s : List ℤ) → IsInstance inst → IsAssignment inst s → energy inst s ≡ pos (sum_by (broken_cost s) inst.bonds) -ℤ pos (weight inst)
+pub energy_from_costs : (inst : Ising) (s : List ℤ) → IsInstance inst → IsAssignment inst s →
+    energy inst s ≡ pos (sum_by (broken_cost s) inst.bonds) -ℤ pos (weight inst)
 energy_from_costs inst s good h = turned _ _ _ (all_bonds s (pos 0) inst.bonds (unit_ends inst s good h))
   where
     turned : (f : ℤ) (r v : ℕ) → f +ℤ pos r ≡ pos 0 +ℤ pos v → neg_ℤ f ≡ pos r -ℤ pos v
@@ -81,6 +84,7 @@ costs-twice_weights s (b ∷ bonds) =
     twice false w = refl
 
 -- the energy is twice the weight of the broken bonds, less the weight of all
-pub energy_from_broken : (inst : Ising) (s : List ℤ) → IsInstance inst → IsAssignment inst s → energy inst s ≡ pos (2 * sum_by (broken_weight s) inst.bonds) -ℤ pos (weight inst)
+pub energy_from_broken : (inst : Ising) (s : List ℤ) → IsInstance inst → IsAssignment inst s →
+    energy inst s ≡ pos (2 * sum_by (broken_weight s) inst.bonds) -ℤ pos (weight inst)
 energy_from_broken inst s good h =
     energy_from_costs inst s good h ∙ ap (λ k. pos k -ℤ pos (weight inst)) (costs-twice_weights s inst.bonds)

@@ -20,7 +20,8 @@ is_down z = int_lt z (pos 0)
 pub is_broken_xor : (s : List ℤ) (b : Bond) → HasUnitEnds s b → is_broken s b ≡ xor (is_negative b) (xor (is_down (spin s b.u)) (is_down (spin s b.v)))
 is_broken_xor s b h = by_sign (is_negative b) (spin s b.u) (spin s b.v) h.first h.second
   where
-    by_sign : (negative : Bool) (x y : ℤ) → IsUpOrDown x → IsUpOrDown y → cond negative (int_eq (x *ℤ y) (pos 1)) (int_eq (x *ℤ y) (negsuc 0)) ≡ xor negative (xor (is_down x) (is_down y))
+    by_sign : (negative : Bool) (x y : ℤ) → IsUpOrDown x → IsUpOrDown y →
+        cond negative (int_eq (x *ℤ y) (pos 1)) (int_eq (x *ℤ y) (negsuc 0)) ≡ xor negative (xor (is_down x) (is_down y))
     by_sign true x y (inl p) (inl q) = rw (p, q) refl
     by_sign true x y (inl p) (inr q) = rw (p, q) refl
     by_sign true x y (inr p) (inl q) = rw (p, q) refl
@@ -33,5 +34,7 @@ is_broken_xor s b h = by_sign (is_negative b) (spin s b.u) (spin s b.v) h.first 
 -- the weight of all bonds of an instance
 pub weight-le : (inst : Ising) → IsInstance inst → weight inst ≤ 2 ^ 24 * 2 ^ 63
 weight-le inst good =
-    let all : weight inst ≤ length inst.bonds * 2 ^ 63 = sum_by-le (λ b. unsigned_abs b.j) (2 ^ 63) inst.bonds (All-weaker (IsBond inst.n) (λ b. unsigned_abs b.j ≤ 2 ^ 63) (λ b w. omega (arith, w.size)) inst.bonds good.joined) in
+    let all : weight inst ≤ length inst.bonds * 2 ^ 63 =
+    sum_by-le (λ b. unsigned_abs b.j) (2 ^ 63) inst.bonds
+    (All-weaker (IsBond inst.n) (λ b. unsigned_abs b.j ≤ 2 ^ 63) (λ b w. omega (arith, w.size)) inst.bonds good.joined) in
     omega (arith, all, good.few_bonds)

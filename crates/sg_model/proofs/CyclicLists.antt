@@ -64,7 +64,8 @@ same_turn j k n a b e = by_ends (cases_lt (j + 1) n) (cases_lt (k + 1) n)
     by_ends (inr p) (inr q) = omega arith
 
 -- different places are followed by different entries
-pub following_apart : (xs : List ℕ) → IsDistinct xs → (j k : ℕ) → j < length xs → k < length xs → following xs (get_or xs j 0) ≡ following xs (get_or xs k 0) → j ≡ k
+pub following_apart : (xs : List ℕ) → IsDistinct xs → (j k : ℕ) → j < length xs → k < length xs →
+    following xs (get_or xs j 0) ≡ following xs (get_or xs k 0) → j ≡ k
 following_apart xs once j k b c e =
     same_turn j k (length xs) b c
     (same_place xs once ((j + 1) % length xs) ((k + 1) % length xs) (mod-lt (j + 1) (omega arith)) (mod-lt (k + 1) (omega arith)) (sym (following_at xs once j b) ∙ e ∙ following_at xs once k c))

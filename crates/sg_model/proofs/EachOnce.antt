@@ -39,7 +39,8 @@ module _ (allowed : ℕ → Bool) (xs : List ℕ) (good : IsInPlace allowed xs) 
 
   -- each number that the list holds stands there once
   pub count_in_place : (d : ℕ) → count_by (λ x. eqb x d) xs ≡ cond (holds xs d) 1 0
-  count_in_place d = subst (λ ys. count_by (λ x. eqb x d) ys ≡ cond (holds ys d) 1 0) (take_all (length xs) xs (omega arith)) (count_before d (length xs) (omega arith))
+  count_in_place d =
+      subst (λ ys. count_by (λ x. eqb x d) ys ≡ cond (holds ys d) 1 0) (take_all (length xs) xs (omega arith)) (count_before d (length xs) (omega arith))
 
   -- and only allowed numbers stand there
   pub held_allowed : (d : ℕ) → holds xs d ≡ true → allowed d ≡ true
@@ -70,12 +71,14 @@ counted_without (x ∷ xs) d h =
     omega (arith, sum_by-cons (λ y. cond (eqb y d) 1 0) x xs, counted_without xs d both.1)
 
 -- a list that holds each allowed number at most once, and nothing else, has no misplaced entry
-pub misplaced_refuted : (allowed : ℕ → Bool) (xs : List ℕ) (x : ℕ) → IsFirstMisplaced allowed xs x → ((d : ℕ) → count_by (λ y. eqb y d) xs ≤ cond (allowed d) 1 0) → ⊥
+pub misplaced_refuted : (allowed : ℕ → Bool) (xs : List ℕ) (x : ℕ) → IsFirstMisplaced allowed xs x →
+    ((d : ℕ) → count_by (λ y. eqb y d) xs ≤ cond (allowed d) 1 0) → ⊥
 misplaced_refuted allowed xs x m most =
     let here : cond {A = ℕ} (eqb (get_or xs m.place 0) x) 1 0 ≡ 1 = ap (λ b. cond {A = ℕ} b 1 0) (eq-eqb (get_or xs m.place 0) x m.entry) in
     let among : count_by (λ y. eqb y x) (take m.place xs) + cond (eqb (get_or xs m.place 0) x) 1 0 ≤ count_by (λ y. eqb y x) xs =
     sum_by_more_le (λ y. cond (eqb y x) 1 0) xs m.place 0 m.inside in
-    by_case (allowed x) (holds (take m.place xs) x) (ap₂ (λ a h. not a || h) (ap allowed (sym m.entry)) (ap (holds (take m.place xs)) (sym m.entry)) ∙ m.misplaced)
+    by_case (allowed x) (holds (take m.place xs) x)
+    (ap₂ (λ a h. not a || h) (ap allowed (sym m.entry)) (ap (holds (take m.place xs)) (sym m.entry)) ∙ m.misplaced)
     (count_by (λ y. eqb y x) xs) (most x) (count_by (λ y. eqb y x) (take m.place xs)) (omega arith) (counted_from_holds (take m.place xs) x)
   where
     by_case : (a h : Bool) → (not a || h) ≡ true → (n : ℕ) → n ≤ cond a 1 0 → (k : ℕ) → k + 1 ≤ n → (h ≡ true → 1 ≤ k) → ⊥

@@ -12,7 +12,8 @@ use Rattle.sg_model.specs.Broken.{is_broken}
 use Rattle.sg_model.proofs.BrokenEnergy.{broken_weight, energy_from_broken}
 
 broken-le : (s : List ℤ) (bonds : List Bond) → sum_by (broken_weight s) bonds ≤ sum_by (λ b. unsigned_abs b.j) bonds
-broken-le s bonds = sum_by-le-all (broken_weight s) (λ b. unsigned_abs b.j) bonds (λ k d l. part (is_broken s (get_or bonds k d)) (unsigned_abs (get_or bonds k d).j))
+broken-le s bonds =
+    sum_by-le-all (broken_weight s) (λ b. unsigned_abs b.j) bonds (λ k d l. part (is_broken s (get_or bonds k d)) (unsigned_abs (get_or bonds k d).j))
   where
     part : (broken : Bool) (w : ℕ) → cond broken w 0 ≤ w
     part true w = omega arith

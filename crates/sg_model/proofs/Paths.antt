@@ -53,7 +53,9 @@ module _ (inst : Ising) (set : ℕ → Bool) where
             bond = k;
             below = omega arith;
             in_set = ap set half ∙ inside;
-            ends = inl (sym (tail_first inst k) ∙ ap (tail inst) (sym e), sym (tail_second inst k) ∙ ap (tail inst) (sym (rev_first k)) ∙ ap (head_of inst) (sym e));
+            ends =
+                inl
+                (sym (tail_first inst k) ∙ ap (tail inst) (sym e), sym (tail_second inst k) ∙ ap (tail inst) (sym (rev_first k)) ∙ ap (head_of inst) (sym e));
           }
       by_dart (k, inr e) =
           let half : k ≡ d / 2 = omega arith in
@@ -61,16 +63,20 @@ module _ (inst : Ising) (set : ℕ → Bool) where
             bond = k;
             below = omega arith;
             in_set = ap set half ∙ inside;
-            ends = inr (sym (tail_first inst k) ∙ ap (tail inst) (sym (rev_second k)) ∙ ap (head_of inst) (sym e), sym (tail_second inst k) ∙ ap (tail inst) (sym e));
+            ends =
+                inr
+                (sym (tail_first inst k) ∙ ap (tail inst) (sym (rev_second k)) ∙ ap (head_of inst) (sym e), sym (tail_second inst k) ∙ ap (tail inst) (sym e));
           }
 
   -- so it joins the spin with any that the dart leads to, whatever their names
   pub joined_along : (d a b : ℕ) → d < dart_count inst → set (d / 2) ≡ true → tail inst d ≡ a → b ≡ head_of inst d → JoinedBy inst set a b
-  joined_along d a b l inside leaves leads = subst (λ s. JoinedBy inst set s b) leaves (subst (JoinedBy inst set (tail inst d)) (sym leads) (joined_by_dart d l inside))
+  joined_along d a b l inside leaves leads =
+      subst (λ s. JoinedBy inst set s b) leaves (subst (JoinedBy inst set (tail inst d)) (sym leads) (joined_by_dart d l inside))
 
 module _ (inst : Ising) where
   -- where a bond joins two spins, a dart leaves the first and leads to the second
-  pub dart_of_step : (bonds : ℕ → Bool) (a b : ℕ) → JoinedBy inst bonds a b → (d : ℕ) × (d < dart_count inst) × (tail inst d ≡ a) × (head_of inst d ≡ b) × (bonds (d / 2) ≡ true)
+  pub dart_of_step : (bonds : ℕ → Bool) (a b : ℕ) → JoinedBy inst bonds a b →
+      (d : ℕ) × (d < dart_count inst) × (tail inst d ≡ a) × (head_of inst d ≡ b) × (bonds (d / 2) ≡ true)
   dart_of_step bonds a b j = by_ends j.ends
     where
       below : j.bond < bond_count inst
@@ -82,6 +88,7 @@ module _ (inst : Ising) where
       second_half : (k : ℕ) → (2 * k + 1) / 2 ≡ k
       second_half k = omega arith
 
-      by_ends : HasEnds inst j.bond a b ⊎ HasEnds inst j.bond b a → (d : ℕ) × (d < dart_count inst) × (tail inst d ≡ a) × (head_of inst d ≡ b) × (bonds (d / 2) ≡ true)
+      by_ends : HasEnds inst j.bond a b ⊎ HasEnds inst j.bond b a →
+          (d : ℕ) × (d < dart_count inst) × (tail inst d ≡ a) × (head_of inst d ≡ b) × (bonds (d / 2) ≡ true)
       by_ends (inl (p, q)) = (2 * j.bond, omega (arith, below), tail_first inst j.bond ∙ p, ap (tail inst) (rev_first j.bond) ∙ tail_second inst j.bond ∙ q, ap bonds (first_half j.bond) ∙ j.in_set)
       by_ends (inr (p, q)) = (2 * j.bond + 1, omega (arith, below), tail_second inst j.bond ∙ q, ap (tail inst) (rev_second j.bond) ∙ tail_first inst j.bond ∙ p, ap bonds (second_half j.bond) ∙ j.in_set)

@@ -37,7 +37,8 @@ beats-all inst e good beats t h = elim (h.values 0 (pos 1) (omega (arith, h.coun
       subst (λ x. e ≤ℤ x) (energy-turned inst t good h) (beats-up inst e good beats (turned t) (turned-assignment inst t h) up)
 ]
 
-pub ground_state : (inst : Ising) (half : ℕ) → IsInstance inst → BeatsHalves inst (energy inst (coded inst.n (2 * half))) → IsGroundState inst (coded inst.n (2 * half))
+pub ground_state : (inst : Ising) (half : ℕ) → IsInstance inst → BeatsHalves inst (energy inst (coded inst.n (2 * half))) →
+    IsGroundState inst (coded inst.n (2 * half))
 ground_state inst half good beats = record {
   assignment = record { count = coded-length inst.n (2 * half); values = coded-up_or_down inst.n (2 * half) };
   least = beats-all inst (energy inst (coded inst.n (2 * half))) good beats;
@@ -48,14 +49,16 @@ coded-first_up zero half some = absurd (omega arith)
 coded-first_up (suc n) half some = ap (λ s. spin s 0) (coded-even n half)
 
 -- a better one takes the place of the least so far
-pub beats-found : (f : ℕ → ℤ) (least here : ℤ) (half : ℕ) → here ≡ f half → here <ℤ least → ((k : ℕ) → k < half → least ≤ℤ f k) → (k : ℕ) → k < half + 1 → here ≤ℤ f k
+pub beats-found : (f : ℕ → ℤ) (least here : ℤ) (half : ℕ) → here ≡ f half → here <ℤ least → ((k : ℕ) → k < half → least ≤ℤ f k) → (k : ℕ) →
+    k < half + 1 → here ≤ℤ f k
 beats-found f least here half found better before k l = elim (cases_eq k half) [
   | inl e ↦ let same : f k ≡ f half = ap f e in omega (arith, ints)
   | inr ne ↦ let old : least ≤ℤ f k = before k (omega arith) in omega (arith, ints)
 ]
 
 -- and one that is no better does not
-pub beats-kept : (f : ℕ → ℤ) (least here : ℤ) (half : ℕ) → here ≡ f half → least ≤ℤ here → ((k : ℕ) → k < half → least ≤ℤ f k) → (k : ℕ) → k < half + 1 → least ≤ℤ f k
+pub beats-kept : (f : ℕ → ℤ) (least here : ℤ) (half : ℕ) → here ≡ f half → least ≤ℤ here → ((k : ℕ) → k < half → least ≤ℤ f k) → (k : ℕ) →
+    k < half + 1 → least ≤ℤ f k
 beats-kept f least here half found worse before k l = elim (cases_eq k half) [
   | inl e ↦ let same : f k ≡ f half = ap f e in omega (arith, ints)
   | inr ne ↦ before k (omega arith)

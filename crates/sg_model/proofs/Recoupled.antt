@@ -21,7 +21,8 @@ size_opposite b h = omega (arith, ints)
 module _ (inst : Ising) where
   -- one more bond of the flipped instance
   pub flip_step : (items : List Bond) (k : ℕ) (on : Bool) → items ≡ inst.bonds → on ≡ holds inst.seam k
-      → map (flipped_at inst) (range_with_len 0 k) ++ cond on (opposite (get_or items k no_bond)) (get_or items k no_bond) ∷ [] ≡ map (flipped_at inst) (range_with_len 0 (k + 1))
+      → map (flipped_at inst) (range_with_len 0 k) ++ cond on (opposite (get_or items k no_bond)) (get_or items k no_bond) ∷ [] ≡ map (flipped_at inst)
+      (range_with_len 0 (k + 1))
   flip_step items k on same e =
       ap₂ (λ t (c : List Bond). map (flipped_at inst) (range_with_len 0 k) ++ cond t (opposite (get_or c k no_bond)) (get_or c k no_bond) ∷ []) e same
       ∙ sym (map-range_with_len_more (flipped_at inst) 0 k k (omega arith))
@@ -44,7 +45,8 @@ module _ (inst : Ising) where
       kept f e true b = e b
       kept f e false b = refl
 
-      ends : (f : Bond → ℕ) → ((b : Bond) → f (opposite b) ≡ f b) → (k : ℕ) → f (get_or (map (flipped_at inst) (range_with_len 0 (bond_count inst))) k no_bond) ≡ f (bond_at inst k)
+      ends : (f : Bond → ℕ) → ((b : Bond) → f (opposite b) ≡ f b) → (k : ℕ) →
+          f (get_or (map (flipped_at inst) (range_with_len 0 (bond_count inst))) k no_bond) ≡ f (bond_at inst k)
       ends f e k = elim (cases_lt k (bond_count inst)) [
         | inl l ↦ ap f (at k l) ∙ kept f e (holds inst.seam k) (bond_at inst k)
         | inr past ↦ ap f (get_or_past (map (flipped_at inst) (range_with_len 0 (bond_count inst))) k no_bond (omega (arith, long)) ∙ sym (get_or_past inst.bonds k no_bond past))
@@ -54,10 +56,12 @@ module _ (inst : Ising) where
       sized true b h = size_opposite b h
       sized false b h = h
 
-      sizes_at : (k : ℕ) → k < length (map (flipped_at inst) (range_with_len 0 (bond_count inst))) → unsigned_abs (get_or (map (flipped_at inst) (range_with_len 0 (bond_count inst))) k no_bond).j < 2 ^ 63
+      sizes_at : (k : ℕ) → k < length (map (flipped_at inst) (range_with_len 0 (bond_count inst))) →
+          unsigned_abs (get_or (map (flipped_at inst) (range_with_len 0 (bond_count inst))) k no_bond).j < 2 ^ 63
       sizes_at k b =
           let l : k < bond_count inst = omega (arith, long) in
-          let h : unsigned_abs (cond (holds inst.seam k) (opposite (bond_at inst k)) (bond_at inst k)).j < 2 ^ 63 = sized (holds inst.seam k) (bond_at inst k) (joined k no_bond l).size in
+          let h : unsigned_abs (cond (holds inst.seam k) (opposite (bond_at inst k)) (bond_at inst k)).j < 2 ^ 63 =
+          sized (holds inst.seam k) (bond_at inst k) (joined k no_bond l).size in
           omega (arith, ap (λ (b : Bond). unsigned_abs b.j) (at k l))
 
   module _ (bond : ℕ) (z : ℤ) (within : bond < bond_count inst) where
@@ -67,7 +71,8 @@ module _ (inst : Ising) where
     at : (k : ℕ) → k < bond_count inst → get_or (with_coupling inst bond z).bonds k no_bond ≡ cond (eqb k bond) (recoupled (bond_at inst k) z) (bond_at inst k)
     at k l = by_case (cases_eq k bond)
       where
-        by_case : (k ≡ bond) ⊎ (k ≡ bond → ⊥) → get_or (with_coupling inst bond z).bonds k no_bond ≡ cond (eqb k bond) (recoupled (bond_at inst k) z) (bond_at inst k)
+        by_case : (k ≡ bond) ⊎ (k ≡ bond → ⊥) →
+            get_or (with_coupling inst bond z).bonds k no_bond ≡ cond (eqb k bond) (recoupled (bond_at inst k) z) (bond_at inst k)
         by_case (inl e) =
             ap (λ i. get_or (with_coupling inst bond z).bonds i no_bond) e
             ∙ get_or-set_same inst.bonds bond (recoupled (bond_at inst bond) z) no_bond within
@@ -79,7 +84,8 @@ module _ (inst : Ising) where
 
     -- one more bond of the instance with the other coupling
     pub coupling_step : (items : List Bond) (k : ℕ) → items ≡ inst.bonds → k < bond_count inst
-        → take k (with_coupling inst bond z).bonds ++ cond (eqb k bond) (recoupled (get_or items k no_bond) z) (get_or items k no_bond) ∷ [] ≡ take (k + 1) (with_coupling inst bond z).bonds
+        → take k (with_coupling inst bond z).bonds ++ cond (eqb k bond) (recoupled (get_or items k no_bond) z) (get_or items k no_bond) ∷ [] ≡ take
+        (k + 1) (with_coupling inst bond z).bonds
     coupling_step items k same l =
         ap (λ (c : List Bond). take k (with_coupling inst bond z).bonds ++ cond (eqb k bond) (recoupled (get_or c k no_bond) z) (get_or c k no_bond) ∷ []) same
         ∙ ap (λ (b : Bond). take k (with_coupling inst bond z).bonds ++ b ∷ []) (sym (at k l))
@@ -110,5 +116,6 @@ module _ (inst : Ising) where
         sizes_at : (k : ℕ) → k < length (with_coupling inst bond z).bonds → unsigned_abs (get_or (with_coupling inst bond z).bonds k no_bond).j < 2 ^ 63
         sizes_at k b =
             let l : k < bond_count inst = omega (arith, long) in
-            let h : unsigned_abs (cond (eqb k bond) (recoupled (bond_at inst k) z) (bond_at inst k)).j < 2 ^ 63 = sized (eqb k bond) (bond_at inst k) (joined k no_bond l).size in
+            let h : unsigned_abs (cond (eqb k bond) (recoupled (bond_at inst k) z) (bond_at inst k)).j < 2 ^ 63 =
+            sized (eqb k bond) (bond_at inst k) (joined k no_bond l).size in
             omega (arith, ap (λ (b : Bond). unsigned_abs b.j) (at k l))

@@ -14,7 +14,8 @@ use Rattle.sg_model.proofs.EachOnce.{in_place-parts, count_in_place, each_once_i
 
 module _ (inst : Ising) (marked : List Bool) (stop : ℕ) (marks : MarksSpins inst marked stop) where
   -- where all darts of the spins before `spin` are marked, their lists are right
-  pub each_once_before : (spin : ℕ) → spin ≤ stop → AllMarked inst marked spin → (i d : ℕ) → i < spin → count_by (λ x. eqb x d) (darts_of inst i) ≡ cond (is_dart_of inst i d) 1 0
+  pub each_once_before : (spin : ℕ) → spin ≤ stop → AllMarked inst marked spin → (i d : ℕ) → i < spin →
+      count_by (λ x. eqb x d) (darts_of inst i) ≡ cond (is_dart_of inst i d) 1 0
   each_once_before spin l all i d b =
       each_once_in_place (is_dart_of inst i) (darts_of inst i) (marks.in_place i (omega arith))
       (λ (e : ℕ) (h : is_dart_of inst i e ≡ true). sym (marks.marks i (omega arith) e h) ∙ all i e b h) d
@@ -58,7 +59,9 @@ module _ (inst : Ising) (marked : List Bool) (stop : ℕ) (marks : MarksSpins in
 -- a seam without misplaced entries
 pub seam_in_place : (inst : Ising) → IsInPlace (is_bond inst) inst.seam → IsSeam inst
 seam_in_place inst good = record {
-  below = All-from_get_or (λ k. k < bond_count inst) inst.seam 0 (λ j b. ltb-true (get_or inst.seam j 0) (bond_count inst) (in_place-parts (is_bond inst) inst.seam good j b).0);
+  below =
+      All-from_get_or (λ k. k < bond_count inst) inst.seam 0
+      (λ j b. ltb-true (get_or inst.seam j 0) (bond_count inst) (in_place-parts (is_bond inst) inst.seam good j b).0);
   distinct = λ k. once (holds inst.seam k) (count_by (λ y. eqb y k) inst.seam) (count_in_place (is_bond inst) inst.seam good k);
 }
   where
@@ -73,7 +76,8 @@ bad_rotation_refuted inst spin dart good bad = by_case bad.shown
     by_case : IsFirstMisplaced (is_dart_of inst spin) (darts_of inst spin) dart ⊎ IsLeastMissing inst spin dart → ⊥
     by_case (inl m) = misplaced_refuted (is_dart_of inst spin) (darts_of inst spin) dart m (λ d. omega (arith, good.each_once spin d bad.below))
     by_case (inr m) =
-        let both : (is_dart_of inst spin dart ≡ true) × (not (holds (darts_of inst spin) dart) ≡ true) = and_parts (is_dart_of inst spin dart) (not (holds (darts_of inst spin) dart)) m.missing in
+        let both : (is_dart_of inst spin dart ≡ true) × (not (holds (darts_of inst spin) dart) ≡ true) =
+        and_parts (is_dart_of inst spin dart) (not (holds (darts_of inst spin) dart)) m.missing in
         let one : cond {A = ℕ} (is_dart_of inst spin dart) 1 0 ≡ 1 = ap (λ b. cond {A = ℕ} b 1 0) both.0 in
         omega (arith, good.each_once spin dart bad.below, counted_without (darts_of inst spin) dart (not-true (holds (darts_of inst spin) dart) both.1))
 

@@ -26,10 +26,12 @@ module _ (inst : Ising) (good : IsInstance inst) where
       back false n e h = absurd (omega arith)
 
   -- what stands in the list of spin i is a dart that leaves it
-  pub in_list : (i j : ℕ) → i < inst.n → j < length (darts_of inst i) → (get_or (darts_of inst i) j 0 < dart_count inst) × (tail inst (get_or (darts_of inst i) j 0) ≡ i)
+  pub in_list : (i j : ℕ) → i < inst.n → j < length (darts_of inst i) →
+      (get_or (darts_of inst i) j 0 < dart_count inst) × (tail inst (get_or (darts_of inst i) j 0) ≡ i)
   in_list i j l b =
       let d : ℕ = get_or (darts_of inst i) j 0 in
-      let both : (ltb d (dart_count inst) ≡ true) × (eqb (tail inst d) i ≡ true) = and_parts (ltb d (dart_count inst)) (eqb (tail inst d) i) (is_dart_from i d l (count_at_place (darts_of inst i) j b)) in
+      let both : (ltb d (dart_count inst) ≡ true) × (eqb (tail inst d) i ≡ true) =
+      and_parts (ltb d (dart_count inst)) (eqb (tail inst d) i) (is_dart_from i d l (count_at_place (darts_of inst i) j b)) in
       (ltb-true d (dart_count inst) both.0, eqb-true (tail inst d) i both.1)
 
   pub tail_below : (d : ℕ) → d < dart_count inst → tail inst d < inst.n
@@ -45,7 +47,9 @@ module _ (inst : Ising) (good : IsInstance inst) where
 
   -- and each dart stands in the list of the spin that it leaves
   pub place_of : (d : ℕ) → d < dart_count inst → (j : ℕ) × (j < length (darts_of inst (tail inst d))) × (get_or (darts_of inst (tail inst d)) j 0 ≡ d)
-  place_of d l = place_from_count d (darts_of inst (tail inst d)) (omega (arith, good.rotation.each_once (tail inst d) d (tail_below d l), ap (λ b. cond {A = ℕ} b 1 0) is_one))
+  place_of d l =
+      place_from_count d (darts_of inst (tail inst d))
+      (omega (arith, good.rotation.each_once (tail inst d) d (tail_below d l), ap (λ b. cond {A = ℕ} b 1 0) is_one))
     where
       is_one : is_dart_of inst (tail inst d) d ≡ true
       is_one = and_from (ltb d (dart_count inst)) (eqb (tail inst d) (tail inst d)) (lt-ltb d (dart_count inst) l) (eq-eqb (tail inst d) (tail inst d) refl)
@@ -64,12 +68,14 @@ module _ (inst : Ising) (good : IsInstance inst) where
       let p : (j : ℕ) × (j < length (darts_of inst (tail inst d))) × (get_or (darts_of inst (tail inst d)) j 0 ≡ d) = place_of d l in
       at_place (tail inst d) (tail_below d l) p.0 p.1 p.2
     where
-      at_place : (i : ℕ) → i < inst.n → (j : ℕ) → j < length (darts_of inst i) → get_or (darts_of inst i) j 0 ≡ d → (next inst d < dart_count inst) × (tail inst (next inst d) ≡ tail inst d)
+      at_place : (i : ℕ) → i < inst.n → (j : ℕ) → j < length (darts_of inst i) → get_or (darts_of inst i) j 0 ≡ d →
+          (next inst d < dart_count inst) × (tail inst (next inst d) ≡ tail inst d)
       at_place i b j q e =
           let t : tail inst d ≡ i = ap (tail inst) (sym e) ∙ (in_list i j b q).1 in
           let k : ℕ = (j + 1) % length (darts_of inst i) in
           let kb : k < length (darts_of inst i) = mod-lt (j + 1) (omega arith) in
-          let same : next inst d ≡ get_or (darts_of inst i) k 0 = next_is d ∙ ap₂ (λ x y. following (darts_of inst x) y) t (sym e) ∙ following_at (darts_of inst i) (spin_distinct i b) j q in
+          let same : next inst d ≡ get_or (darts_of inst i) k 0 =
+          next_is d ∙ ap₂ (λ x y. following (darts_of inst x) y) t (sym e) ∙ following_at (darts_of inst i) (spin_distinct i b) j q in
           (omega (arith, same, (in_list i k b kb).0), ap (tail inst) same ∙ (in_list i k b kb).1 ∙ sym t)
 
   pub next_apart : (a b : ℕ) → a < dart_count inst → b < dart_count inst → next inst a ≡ next inst b → a ≡ b
@@ -78,7 +84,8 @@ module _ (inst : Ising) (good : IsInstance inst) where
       tails : tail inst a ≡ tail inst b
       tails = sym (next_in_list a la).1 ∙ ap (tail inst) e ∙ (next_in_list b lb).1
 
-      at_spin : (i : ℕ) → i < inst.n → ((j : ℕ) × (j < length (darts_of inst i)) × (get_or (darts_of inst i) j 0 ≡ a)) → ((k : ℕ) × (k < length (darts_of inst i)) × (get_or (darts_of inst i) k 0 ≡ b)) → tail inst a ≡ i → a ≡ b
+      at_spin : (i : ℕ) → i < inst.n → ((j : ℕ) × (j < length (darts_of inst i)) × (get_or (darts_of inst i) j 0 ≡ a)) →
+          ((k : ℕ) × (k < length (darts_of inst i)) × (get_or (darts_of inst i) k 0 ≡ b)) → tail inst a ≡ i → a ≡ b
       at_spin i l (j, jl, ja) (k, kl, kb) t =
           let same : j ≡ k = following_apart (darts_of inst i) (spin_distinct i l) j k jl kl
           (ap (following (darts_of inst i)) ja ∙ ap (λ s. following (darts_of inst s) a) (sym t) ∙ sym (next_is a) ∙ e ∙ next_is b ∙ ap (λ s. following (darts_of inst s) b) (sym tails ∙ t) ∙ ap (following (darts_of inst i)) (sym kb)) in

@@ -44,14 +44,19 @@ same false true = refl
 same false false = refl
 
 -- the mark at the next place of the list is turned
-pub is_marked_turned : (old now : List Bool) (list : List ℕ) (i j : ℕ) → j < length list → get_or list j 0 < length now → is_marked now i ≡ xor (is_marked old i) (parity_by (λ k. eqb k i) (take j list)) → is_marked (set now (get_or list j 0) (not (is_marked now (get_or list j 0)))) i ≡ xor (is_marked old i) (parity_by (λ k. eqb k i) (take (j + 1) list))
+pub is_marked_turned : (old now : List Bool) (list : List ℕ) (i j : ℕ) → j < length list → get_or list j 0 < length now →
+    is_marked now i ≡ xor (is_marked old i) (parity_by (λ k. eqb k i) (take j list)) →
+    is_marked (set now (get_or list j 0) (not (is_marked now (get_or list j 0)))) i ≡ xor (is_marked old i) (parity_by (λ k. eqb k i) (take (j + 1) list))
 is_marked_turned old now list i j low fits was =
-    by_place ∙ ap (xor (is_marked old i)) (sym (ap (parity_by (λ k. eqb k i)) (take_more list j 0 low) ∙ parity_by-append (λ k. eqb k i) (take j list) (get_or list j 0 ∷ [])))
+    by_place ∙ ap (xor (is_marked old i))
+    (sym (ap (parity_by (λ k. eqb k i)) (take_more list j 0 low) ∙ parity_by-append (λ k. eqb k i) (take j list) (get_or list j 0 ∷ [])))
   where
     by_place : is_marked (set now (get_or list j 0) (not (is_marked now (get_or list j 0)))) i ≡ xor (is_marked old i) (xor (parity_by (λ k. eqb k i) (take j list)) (xor (eqb (get_or list j 0) i) false))
     by_place = elim (cases_eq i (get_or list j 0)) [
       | inl e ↦
-          subst (λ z. is_marked (set now z (not (is_marked now z))) i ≡ xor (is_marked old i) (xor (parity_by (λ k. eqb k i) (take j list)) (xor (eqb z i) false))) e
+          subst
+          (λ z. is_marked (set now z (not (is_marked now z))) i ≡ xor (is_marked old i) (xor (parity_by (λ k. eqb k i) (take j list)) (xor (eqb z i) false)))
+          e
           (get_or-set_same now i (not (is_marked now i)) false (subst (λ z. z < length now) (sym e) fits)
           ∙ ap not was
           ∙ turned (is_marked old i) (parity_by (λ k. eqb k i) (take j list))
@@ -60,5 +65,6 @@ is_marked_turned old now list i j low fits was =
           get_or-set_other now (get_or list j 0) i (not (is_marked now (get_or list j 0))) false ne
           ∙ was
           ∙ same (is_marked old i) (parity_by (λ k. eqb k i) (take j list))
-          ∙ ap (λ b. xor (is_marked old i) (xor (parity_by (λ k. eqb k i) (take j list)) (xor b false))) (sym (ne_eqb (get_or list j 0) i (λ (q : get_or list j 0 ≡ i). ne (sym q))))
+          ∙ ap (λ b. xor (is_marked old i) (xor (parity_by (λ k. eqb k i) (take j list)) (xor b false)))
+          (sym (ne_eqb (get_or list j 0) i (λ (q : get_or list j 0 ≡ i). ne (sym q))))
     ]

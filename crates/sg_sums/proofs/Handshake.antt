@@ -16,14 +16,17 @@ one_edge t true a b n p q =
     ∙ ap₂ xor (parity_below_pick t a n p) (parity_below_pick t b n q))
 
 module _ {X : Type 0} (a b : X → ℕ) where
-  pub handshake : (d : X → Bool) (t : ℕ → Bool) (n : ℕ) (E : List X) → EndsBelow a b n E → parity_by (λ e. d e && xor (t (a e)) (t (b e))) E ≡ parity_below (λ x. t x && degree_parity a b d E x) n
+  pub handshake : (d : X → Bool) (t : ℕ → Bool) (n : ℕ) (E : List X) → EndsBelow a b n E →
+      parity_by (λ e. d e && xor (t (a e)) (t (b e))) E ≡ parity_below (λ x. t x && degree_parity a b d E x) n
   handshake d t n E h =
       parity_by-same (λ e. d e && xor (t (a e)) (t (b e))) (λ e. parity_below (λ x. t x && (d e && is_end (a e) (b e) x)) n) E
       (All-weaker (λ e. (a e < n) × (b e < n)) (λ e. (d e && xor (t (a e)) (t (b e))) ≡ parity_below (λ x. t x && (d e && is_end (a e) (b e) x)) n) (λ e w. one_edge t (d e) (a e) (b e) n w.0 w.1) E h)
       ∙ parity_exchange (λ e x. t x && (d e && is_end (a e) (b e) x)) E n
-      ∙ parity_below-same (λ x. parity_by (λ e. t x && (d e && is_end (a e) (b e) x)) E) (λ x. t x && degree_parity a b d E x) n (λ x l. parity_by-and (t x) (λ e. d e && is_end (a e) (b e) x) E)
+      ∙ parity_below-same (λ x. parity_by (λ e. t x && (d e && is_end (a e) (b e) x)) E) (λ x. t x && degree_parity a b d E x) n
+      (λ x l. parity_by-and (t x) (λ e. d e && is_end (a e) (b e) x) E)
 
-  pub even_set_meets_cut_evenly : (d : X → Bool) (t : ℕ → Bool) (n : ℕ) (E : List X) → EndsBelow a b n E → ((x : ℕ) → x < n → degree_parity a b d E x ≡ false) → parity_by (λ e. d e && xor (t (a e)) (t (b e))) E ≡ false
+  pub even_set_meets_cut_evenly : (d : X → Bool) (t : ℕ → Bool) (n : ℕ) (E : List X) → EndsBelow a b n E →
+      ((x : ℕ) → x < n → degree_parity a b d E x ≡ false) → parity_by (λ e. d e && xor (t (a e)) (t (b e))) E ≡ false
   even_set_meets_cut_evenly d t n E h even =
       handshake d t n E h
       ∙ parity_below-none (λ x. t x && degree_parity a b d E x) n (λ x l. ap (λ v. t x && v) (even x l) ∙ and-false (t x))

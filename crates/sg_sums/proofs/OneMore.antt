@@ -8,7 +8,8 @@ use Rattle.sg_sums.specs.Parity.{xor, parity_by}
 use Rattle.sg_sums.specs.Sets.{holds}
 use Rattle.sg_sums.proofs.ParityLaws.{parity_by-append, xor-false}
 
-pub parity_by_more : {X : Type 0} (p : X → Bool) (xs : List X) (i : ℕ) (d : X) → i < length xs → parity_by p (take (i + 1) xs) ≡ xor (parity_by p (take i xs)) (p (get_or xs i d))
+pub parity_by_more : {X : Type 0} (p : X → Bool) (xs : List X) (i : ℕ) (d : X) → i < length xs →
+    parity_by p (take (i + 1) xs) ≡ xor (parity_by p (take i xs)) (p (get_or xs i d))
 parity_by_more p xs i d l =
     ap (parity_by p) (take_more xs i d l)
     ∙ parity_by-append p (take i xs) (get_or xs i d ∷ [])
@@ -18,7 +19,8 @@ parity_by_more p xs i d l =
 pub rising_order : (xs : List ℕ) → IsStrictlyIncreasing xs → (i j : ℕ) → i < j → j < length xs → get_or xs i 0 < get_or xs j 0
 rising_order xs up i zero l h = absurd (omega arith)
 rising_order xs up i (suc j) l h =
-    let next : get_or xs j 0 < get_or xs (suc j) 0 = subst (λ n. get_or xs j 0 < get_or xs n 0) (let e : j + 1 ≡ suc j = omega arith in e) (up j (omega arith)) in
+    let next : get_or xs j 0 < get_or xs (suc j) 0 =
+    subst (λ n. get_or xs j 0 < get_or xs n 0) (let e : j + 1 ≡ suc j = omega arith in e) (up j (omega arith)) in
     elim (cases_eq i j) [
       | inl e ↦ subst (λ n. get_or xs n 0 < get_or xs (suc j) 0) (sym e) next
       | inr ne ↦ let before : get_or xs i 0 < get_or xs j 0 = rising_order xs up i j (omega arith) (omega arith) in omega arith

@@ -93,7 +93,8 @@ parity_below-and false p zero = refl
 parity_below-and false p (suc n) = parity_below-and false p n
 
 -- the order of two sums is free
-pub parity_exchange : {X : Type 0} (f : X → ℕ → Bool) (xs : List X) (n : ℕ) → parity_by (λ x. parity_below (f x) n) xs ≡ parity_below (λ k. parity_by (λ x. f x k) xs) n
+pub parity_exchange : {X : Type 0} (f : X → ℕ → Bool) (xs : List X) (n : ℕ) →
+    parity_by (λ x. parity_below (f x) n) xs ≡ parity_below (λ k. parity_by (λ x. f x k) xs) n
 parity_exchange f [] n = sym (parity_below-none (λ k. false) n (λ k l. refl))
 parity_exchange f (x ∷ xs) n =
     ap (xor (parity_below (f x) n)) (parity_exchange f xs n)
@@ -111,7 +112,8 @@ parity_below_pick t u zero h = absurd (omega arith)
 parity_below_pick t u (suc n) h = elim (cases_eq u n) [
   | inl e ↦
       let here : eqb u n ≡ true = eq-eqb u n e in
-      let rest : parity_below (λ k. t k && eqb u k) n ≡ false = parity_below-none (λ k. t k && eqb u k) n (λ k l. past t u k (ne_eqb u k (λ (d : u ≡ k). omega arith))) in
+      let rest : parity_below (λ k. t k && eqb u k) n ≡ false =
+      parity_below-none (λ k. t k && eqb u k) n (λ k l. past t u k (ne_eqb u k (λ (d : u ≡ k). omega arith))) in
       let last : (t n && eqb u n) ≡ t u = at t u n e here in
       ap₂ xor last rest ∙ xor-false (t u)
   | inr ne ↦

@@ -36,7 +36,8 @@ or-xor false q true h = refl
 or-xor false q false h = refl
 
 -- the members that pass, counted over the numbers and over the list
-pub members_parity : (t : ℕ → Bool) (xs : List ℕ) (n : ℕ) → All (λ x. x < n) xs → IsStrictlyIncreasing xs → parity_below (λ x. t x && holds xs x) n ≡ parity_by t xs
+pub members_parity : (t : ℕ → Bool) (xs : List ℕ) (n : ℕ) → All (λ x. x < n) xs → IsStrictlyIncreasing xs →
+    parity_below (λ x. t x && holds xs x) n ≡ parity_by t xs
 members_parity t [] n low up = parity_below-none (λ x. t x && false) n (λ x l. and-false (t x))
 members_parity t (s ∷ xs) n low up =
     parity_below-same (λ x. t x && holds (s ∷ xs) x) (λ x. xor (t x && eqb s x) (t x && holds xs x)) n
@@ -59,7 +60,8 @@ holds-filter_range p a (suc n) x h l = elim (cases_eq a x) [
         none p b zero z l = refl
         none p b (suc n) z l = step (p b) (none p (b + 1) n z (omega arith)) (ne_eqb b z (λ (e : b ≡ z). omega arith))
           where
-            step : (c : Bool) → holds (filter p (range_with_len (b + 1) n)) z ≡ false → eqb b z ≡ false → holds (cond c (b ∷ filter p (range_with_len (b + 1) n)) (filter p (range_with_len (b + 1) n))) z ≡ false
+            step : (c : Bool) → holds (filter p (range_with_len (b + 1) n)) z ≡ false → eqb b z ≡ false →
+                holds (cond c (b ∷ filter p (range_with_len (b + 1) n)) (filter p (range_with_len (b + 1) n))) z ≡ false
             step true q e = ap₂ (λ u v. u || v) e q
             step false q e = q
 
@@ -67,7 +69,8 @@ holds-filter_range p a (suc n) x h l = elim (cases_eq a x) [
     first true q e = ap (λ u. u || holds (filter p (range_with_len (a + 1) n)) x) e ∙ q
     first false q e = subst (λ z. holds (filter p (range_with_len (a + 1) n)) z ≡ false) (eqb-true a x e) later ∙ q
 
-    rest : (c : Bool) → eqb a x ≡ false → holds (filter p (range_with_len (a + 1) n)) x ≡ p x → holds (cond c (a ∷ filter p (range_with_len (a + 1) n)) (filter p (range_with_len (a + 1) n))) x ≡ p x
+    rest : (c : Bool) → eqb a x ≡ false → holds (filter p (range_with_len (a + 1) n)) x ≡ p x →
+        holds (cond c (a ∷ filter p (range_with_len (a + 1) n)) (filter p (range_with_len (a + 1) n))) x ≡ p x
     rest true e q = ap (λ u. u || holds (filter p (range_with_len (a + 1) n)) x) e ∙ q
     rest false e q = q
 

@@ -28,7 +28,8 @@ sum_below_pick c u zero h = absurd (omega arith)
 sum_below_pick c u (suc n) h = elim (cases_eq u n) [
   | inl e ↦
       let here : cond (eqb u n) c 0 ≡ c = ap (λ b. cond b c 0) (eq-eqb u n e) in
-      let rest : sum_below (λ k. cond (eqb u k) c 0) n ≡ 0 = sum_below-zero (λ k. cond (eqb u k) c 0) n (λ k l. ap (λ b. cond b c 0) (ne_eqb u k (λ (d : u ≡ k). omega arith))) in
+      let rest : sum_below (λ k. cond (eqb u k) c 0) n ≡ 0 =
+      sum_below-zero (λ k. cond (eqb u k) c 0) n (λ k l. ap (λ b. cond b c 0) (ne_eqb u k (λ (d : u ≡ k). omega arith))) in
       omega arith
   | inr ne ↦
       let here : cond (eqb u n) c 0 ≡ 0 = ap (λ b. cond b c 0) (ne_eqb u n ne) in
@@ -56,7 +57,8 @@ module _ {X : Type 0} where
   sum_exchange f [] n = sym (sum_below-zero (λ k. 0) n (λ k l. refl))
   sum_exchange f (x ∷ xs) n =
       let r : sum_by (λ x. sum_below (f x) n) xs ≡ sum_below (λ k. sum_by (λ x. f x k) xs) n = sum_exchange f xs n in
-      let s : sum_below (λ k. sum_by (λ y. f y k) (x ∷ xs)) n ≡ sum_below (λ k. f x k + sum_by (λ y. f y k) xs) n = sum_below-same (λ k. sum_by (λ y. f y k) (x ∷ xs)) (λ k. f x k + sum_by (λ y. f y k) xs) n (λ k l. sum_by-cons (λ y. f y k) x xs) in
+      let s : sum_below (λ k. sum_by (λ y. f y k) (x ∷ xs)) n ≡ sum_below (λ k. f x k + sum_by (λ y. f y k) xs) n =
+      sum_below-same (λ k. sum_by (λ y. f y k) (x ∷ xs)) (λ k. f x k + sum_by (λ y. f y k) xs) n (λ k l. sum_by-cons (λ y. f y k) x xs) in
       omega (arith, sum_by-cons (λ x. sum_below (f x) n) x xs, sum_below-add (f x) (λ k. sum_by (λ y. f y k) xs) n)
 
 pub at-le-sum_below : (f : ℕ → ℕ) (k n : ℕ) → k < n → f k ≤ sum_below f n
@@ -72,7 +74,8 @@ sum_below-sum_by f xs d (suc i) h =
     let r : sum_by f (take i xs) ≡ sum_below (λ k. f (get_or xs k d)) i = sum_below-sum_by f xs d i (omega arith) in
     let step : sum_by f (take (i + 1) xs) ≡ sum_by f (take i xs) + f (get_or xs i d) = sum_by_more f xs i d (omega arith) in
     let same : i + 1 ≡ suc i = omega arith in
-    let step' : sum_by f (take (suc i) xs) ≡ sum_by f (take i xs) + f (get_or xs i d) = subst (λ j. sum_by f (take j xs) ≡ sum_by f (take i xs) + f (get_or xs i d)) same step in
+    let step' : sum_by f (take (suc i) xs) ≡ sum_by f (take i xs) + f (get_or xs i d) =
+    subst (λ j. sum_by f (take j xs) ≡ sum_by f (take i xs) + f (get_or xs i d)) same step in
     omega arith
 
 pub sum_by_is_sum_below : {X : Type 0} (f : X → ℕ) (xs : List X) (d : X) → sum_by f xs ≡ sum_below (λ k. f (get_or xs k d)) (length xs)
@@ -87,7 +90,8 @@ sum_below-gain f g c u (suc n) l h more = elim (cases_eq u n) [
 ]
 
 -- the same over a list
-pub sum_by-gain : {X : Type 0} (f g : X → ℕ) (c : ℕ) (xs : List X) (u : ℕ) (d : X) → u < length xs → All (λ x. f x ≤ g x) xs → f (get_or xs u d) + c ≤ g (get_or xs u d) → sum_by f xs + c ≤ sum_by g xs
+pub sum_by-gain : {X : Type 0} (f g : X → ℕ) (c : ℕ) (xs : List X) (u : ℕ) (d : X) → u < length xs → All (λ x. f x ≤ g x) xs →
+    f (get_or xs u d) + c ≤ g (get_or xs u d) → sum_by f xs + c ≤ sum_by g xs
 sum_by-gain f g c xs u d l h more =
     omega (
       arith,

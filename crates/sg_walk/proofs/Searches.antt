@@ -24,7 +24,8 @@ noted_still order y x (k, l, e) = (k, omega (arith, l, length_push order y), get
 -- one spin more is marked
 pub one_marked : (marks : List Bool) (x : ℕ) → x < length marks → get_or marks x false ≡ false → unmarked_count (set marks x true) + 1 ≡ unmarked_count marks
 one_marked marks x l free =
-    let s : unmarked_count (set marks x true) + cond (not (get_or marks x false)) 1 0 ≡ unmarked_count marks + 0 = sum_by-set (λ z. cond (not z) 1 0) marks x true false l in
+    let s : unmarked_count (set marks x true) + cond (not (get_or marks x false)) 1 0 ≡ unmarked_count marks + 0 =
+    sum_by-set (λ z. cond (not z) 1 0) marks x true false l in
     let one : cond {A = ℕ} (not (get_or marks x false)) 1 0 ≡ 1 = ap (λ z. cond {A = ℕ} (not z) 1 0) free in
     omega arith
 
@@ -63,7 +64,8 @@ module _ (inst : Ising) (bonds : ℕ → Bool) (spin : ℕ) where
     count = refl;
   }
 
-  module _ (darts : List ℕ) (old now : List Bool) (before after : List ℕ) (i : ℕ) (l : i < length darts) (w : Visits inst bonds spin (take i darts) old now before after) where
+  module _ (darts : List ℕ) (old now : List Bool) (before after : List ℕ) (i : ℕ) (l : i < length darts)
+      (w : Visits inst bonds spin (take i darts) old now before after) where
     -- the dart is not of the set, or leads to a marked spin
     pub visits_same : IsSeen inst bonds now (get_or darts i 0) → Visits inst bonds spin (take (i + 1) darts) old now before after
     visits_same known = record {
@@ -81,12 +83,14 @@ module _ (inst : Ising) (bonds : ℕ → Bool) (spin : ℕ) where
     }
 
     -- the dart leads to a new spin
-    module _ (to : ℕ) (to_is : to ≡ head_of inst (get_or darts i 0)) (to_in : to < length now) (free : get_or now to false ≡ false) (joins : JoinedBy inst bonds spin to) where
+    module _ (to : ℕ) (to_is : to ≡ head_of inst (get_or darts i 0)) (to_in : to < length now) (free : get_or now to false ≡ false)
+        (joins : JoinedBy inst bonds spin to) where
       still : (x : ℕ) → IsMarked now x → IsMarked (set now to true) x
       still x h = marked_still now to x to_in h
 
       -- each entry behind the old ones
-      each : (P : ℕ → Type 0) → ((k : ℕ) → length before ≤ k → k < length after → P (get_or after k 0)) → P to → (k : ℕ) → length before ≤ k → k < length (after ++ to ∷ []) → P (get_or (after ++ to ∷ []) k 0)
+      each : (P : ℕ → Type 0) → ((k : ℕ) → length before ≤ k → k < length after → P (get_or after k 0)) → P to → (k : ℕ) → length before ≤ k →
+          k < length (after ++ to ∷ []) → P (get_or (after ++ to ∷ []) k 0)
       each P h here k b c = elim (cases_lt k (length after)) [
         | inl d ↦ subst P (sym (get_or_append_left after (to ∷ []) 0 k d)) (h k b d)
         | inr d ↦ let last : length after ≡ k = omega (arith, length_push after to) in subst P (sym (get_or_push after to 0 k last)) here
@@ -149,19 +153,23 @@ module _ (inst : Ising) (good : IsInstance inst) (bonds : ℕ → Bool) (root : 
       only P k e h = subst (λ j. P (get_or (root ∷ []) j 0)) (sym e) h
 
   -- the spins of the order are spins of the instance
-  pub order_in : (marks : List Bool) (order : List ℕ) (next k : ℕ) → SearchedTo inst bonds root base marks order next → k < length order → get_or order k 0 < length base
+  pub order_in : (marks : List Bool) (order : List ℕ) (next k : ℕ) → SearchedTo inst bonds root base marks order next → k < length order →
+      get_or order k 0 < length base
   order_in marks order next k h l = omega (arith, marked_in marks (get_or order k 0) (h.sound k l), h.lengths)
 
   -- one spin more is visited
   pub search_more : (old now : List Bool) (before after : List ℕ) (next : ℕ) → next < length before → SearchedTo inst bonds root base old before next →
-      Visits inst bonds (get_or before next 0) (darts_of inst (get_or before next 0)) old now before after → SearchedTo inst bonds root base now after (next + 1)
+      Visits inst bonds (get_or before next 0) (darts_of inst (get_or before next 0)) old now before after → SearchedTo inst bonds root base now after
+      (next + 1)
   search_more old now before after next l h v = record {
     lengths = v.lengths ∙ h.lengths;
     kept = λ x m. v.kept x (h.kept x m);
     root_marked = v.kept root h.root_marked;
     sound = both (IsMarked now) (λ k c. v.kept (get_or before k 0) (h.sound k c)) v.sound;
     fresh = both (λ x. get_or base x false ≡ false) h.fresh (λ k b c. free_before base old (get_or after k 0) h.kept (v.fresh k b c));
-    reached = both (Reached inst bonds root) h.reached (λ k b c. reached_more inst bonds root (get_or before next 0) (get_or after k 0) (h.reached next l) (v.joined k b c));
+    reached =
+        both (Reached inst bonds root) h.reached
+        (λ k b c. reached_more inst bonds root (get_or before next 0) (get_or after k 0) (h.reached next l) (v.joined k b c));
     root_first = (omega (arith, h.root_first.0, v.longer), v.stays 0 h.root_first.0 ∙ h.root_first.1);
     found_from = found_from';
     noted = λ x m. ⊎_elim (λ (o : IsMarked old x). keep x (h.noted x o)) (λ (c : IsNoted after x). inr c) (v.found x m);
@@ -171,7 +179,8 @@ module _ (inst : Ising) (good : IsInstance inst) (bonds : ℕ → Bool) (root : 
     at_most = omega (arith, v.longer);
   }
     where
-      both : (P : ℕ → Type 0) → ((k : ℕ) → k < length before → P (get_or before k 0)) → ((k : ℕ) → length before ≤ k → k < length after → P (get_or after k 0)) → (k : ℕ) → k < length after → P (get_or after k 0)
+      both : (P : ℕ → Type 0) → ((k : ℕ) → k < length before → P (get_or before k 0)) →
+          ((k : ℕ) → length before ≤ k → k < length after → P (get_or after k 0)) → (k : ℕ) → k < length after → P (get_or after k 0)
       both P first second k b = elim (cases_lt k (length before)) [
         | inl c ↦ subst P (sym (v.stays k c)) (first k c)
         | inr c ↦ second k c b
@@ -194,20 +203,26 @@ module _ (inst : Ising) (good : IsInstance inst) (bonds : ℕ → Bool) (root : 
 
       found_from' : (k : ℕ) → 0 < k → k < length after → IsFoundFrom inst bonds after k
       found_from' k p b = elim (cases_lt k (length before)) [
-        | inl c ↦ (let f : IsFoundFrom inst bonds before k = h.found_from k p c in
-            (f.0, f.1, subst (λ x. JoinedBy inst bonds x (get_or after k 0)) (sym (v.stays f.0 (omega (arith, f.1))))
-            (subst (JoinedBy inst bonds (get_or before f.0 0)) (sym (v.stays k c)) f.2)))
+        | inl c ↦ (let f : IsFoundFrom inst bonds before k = h.found_from k p c in (
+          f.0,
+          f.1,
+          subst (λ x. JoinedBy inst bonds x (get_or after k 0)) (sym (v.stays f.0 (omega (arith, f.1))))
+              (subst (JoinedBy inst bonds (get_or before f.0 0)) (sym (v.stays k c)) f.2),
+        ))
         | inr c ↦ (next, omega arith, subst (λ x. JoinedBy inst bonds x (get_or after k 0)) (sym (v.stays next l)) (v.joined k c b))
       ]
 
       done' : (k : ℕ) → k < next + 1 → All (IsSeen inst bonds now) (darts_of inst (get_or after k 0))
       done' k b = subst (λ s. All (IsSeen inst bonds now) (darts_of inst s)) (sym (v.stays k (omega arith))) (elim (cases_eq k next) [
         | inl e ↦ subst (λ j. All (IsSeen inst bonds now) (darts_of inst (get_or before j 0))) (sym e) v.heads
-        | inr ne ↦ All-weaker (IsSeen inst bonds old) (IsSeen inst bonds now) (λ d m e. v.kept (head_of inst d) (m e)) (darts_of inst (get_or before k 0)) (h.done k (omega arith))
+        | inr ne ↦
+            All-weaker (IsSeen inst bonds old) (IsSeen inst bonds now) (λ d m e. v.kept (head_of inst d) (m e)) (darts_of inst (get_or before k 0))
+            (h.done k (omega arith))
       ])
 
   -- when all spins of the order are visited, the walk is done
-  pub search_done : (marks : List Bool) (order : List ℕ) (next : ℕ) → length order ≤ next → IsClosed inst bonds base → SearchedTo inst bonds root base marks order next → IsWalked inst bonds root base marks order
+  pub search_done : (marks : List Bool) (order : List ℕ) (next : ℕ) → length order ≤ next → IsClosed inst bonds base →
+      SearchedTo inst bonds root base marks order next → IsWalked inst bonds root base marks order
   search_done marks order next end closed h = record {
     lengths = h.lengths;
     kept = h.kept;
@@ -222,9 +237,11 @@ module _ (inst : Ising) (good : IsInstance inst) (bonds : ℕ → Bool) (root : 
     closed = λ a b j m. ⊎_elim (λ (o : IsMarked base a). h.kept b (closed a b j o)) (λ (n : IsNoted order a). step a b j (dart_of_step inst bonds a b j) n) (h.noted a m);
   }
     where
-      step : (a b : ℕ) → JoinedBy inst bonds a b → ((d : ℕ) × (d < dart_count inst) × (tail inst d ≡ a) × (head_of inst d ≡ b) × (bonds (d / 2) ≡ true)) → IsNoted order a → IsMarked marks b
+      step : (a b : ℕ) → JoinedBy inst bonds a b →
+          ((d : ℕ) × (d < dart_count inst) × (tail inst d ≡ a) × (head_of inst d ≡ b) × (bonds (d / 2) ≡ true)) → IsNoted order a → IsMarked marks b
       step a b j (d, l, leaves, leads, inside) (k, kl, e) =
-          let heads : All (IsSeen inst bonds marks) (darts_of inst a) = subst (λ s. All (IsSeen inst bonds marks) (darts_of inst s)) e (h.done k (omega (arith, kl))) in
+          let heads : All (IsSeen inst bonds marks) (darts_of inst a) =
+          subst (λ s. All (IsSeen inst bonds marks) (darts_of inst s)) e (h.done k (omega (arith, kl))) in
           let place : (j : ℕ) × (j < length (darts_of inst a)) × (get_or (darts_of inst a) j 0 ≡ d) = place_at inst good a d l leaves in
           subst (IsMarked marks) (ap (head_of inst) place.2 ∙ leads) (heads place.0 0 place.1 (ap (λ x. bonds (x / 2)) place.2 ∙ inside))
 
@@ -233,7 +250,8 @@ pub none_closed : (inst : Ising) (bonds : ℕ → Bool) (n : ℕ) → IsClosed i
 none_closed inst bonds n a b j m = absurd (none_marked n a m)
 
 -- marks that no bond of the set leaves hold what their spins reach
-pub marked_along : (inst : Ising) (bonds : ℕ → Bool) (marks : List Bool) → IsClosed inst bonds marks → (a b : ℕ) → Reached inst bonds a b → IsMarked marks a → IsMarked marks b
+pub marked_along : (inst : Ising) (bonds : ℕ → Bool) (marks : List Bool) → IsClosed inst bonds marks → (a b : ℕ) → Reached inst bonds a b →
+    IsMarked marks a → IsMarked marks b
 marked_along inst bonds marks closed a b r m = along r.0 a r.1 m
   where
     along : (path : List ℕ) (x : ℕ) → IsWalk inst bonds x path b → IsMarked marks x → IsMarked marks b

@@ -22,7 +22,8 @@ same_instance inst none = ap (with_bonds inst) (same_lists flipped inst.bonds lo
     long : length (map (flipped_at inst) (range_with_len 0 (bond_count inst))) ≡ bond_count inst
     long = length-map-range_with_len (flipped_at inst) 0 (bond_count inst)
 
-    each : (k : ℕ) (d : Bond) → k < length (map (flipped_at inst) (range_with_len 0 (bond_count inst))) → get_or (map (flipped_at inst) (range_with_len 0 (bond_count inst))) k d ≡ get_or inst.bonds k d
+    each : (k : ℕ) (d : Bond) → k < length (map (flipped_at inst) (range_with_len 0 (bond_count inst))) →
+        get_or (map (flipped_at inst) (range_with_len 0 (bond_count inst))) k d ≡ get_or inst.bonds k d
     each k d l =
         let below : k < bond_count inst = omega (arith, long) in
         get_or-map-range_with_len (flipped_at inst) 0 (bond_count inst) k k d below (omega arith)

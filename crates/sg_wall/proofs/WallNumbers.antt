@@ -41,7 +41,9 @@ module _
   pub is_wall : IsWall p.instance (to_z w64 (of_z w64 e)) (to_z w64 (of_z w64 f)) (to_z w64 (of_z w64 (to_z w64 (of_z w64 f) -ℤ to_z w64 (of_z w64 e))))
   is_wall = record {
     least = least_of_ground_state p.instance s (to_z w64 (of_z w64 e)) old (first_kept ∙ old_energy);
-    least_flipped = subst (λ (r : Embedding). IsLeastEnergy r.instance (to_z w64 (of_z w64 f))) flipped (least_of_ground_state q.instance t (to_z w64 (of_z w64 f)) new (second_kept ∙ new_energy));
+    least_flipped =
+        subst (λ (r : Embedding). IsLeastEnergy r.instance (to_z w64 (of_z w64 f))) flipped
+        (least_of_ground_state q.instance t (to_z w64 (of_z w64 f)) new (second_kept ∙ new_energy));
     gain = third_kept;
   }
 

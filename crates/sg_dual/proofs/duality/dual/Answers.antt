@@ -18,7 +18,8 @@ returns-clause-web c = c.new.ensures ∙ web_is c.args.inst.now c.args.faces.now
 
 pub returns-clause-frustrated : goal.returns-clause-frustrated
 returns-clause-frustrated c =
-    frustrated_from_marks c.args.inst.now c.args.faces.now c.in_ok-marks.marks.items c.deref.result.now c.in_ok-terminals.terminals c.deref.ensures.value (c.deref.ensures.len ∙ c.in_ok-marks.ensures.lengths) c.in_ok-marks.ensures.marks c.in_ok-terminals.ensures
+    frustrated_from_marks c.args.inst.now c.args.faces.now c.in_ok-marks.marks.items c.deref.result.now c.in_ok-terminals.terminals
+    c.deref.ensures.value (c.deref.ensures.len ∙ c.in_ok-marks.ensures.lengths) c.in_ok-marks.ensures.marks c.in_ok-terminals.ensures
 
 pub returns-clause-terminals : goal.returns-clause-terminals
 returns-clause-terminals c =

@@ -7,5 +7,7 @@ use Rattle.sg_dual.proofs.duality.frustration.Goals as goal
 
 pub returns-clause-marks : goal.returns-clause-marks
 returns-clause-marks c = λ f l.
-    let ended : c.loop-dart.dart ≡ dart_count c.args.inst.now = omega (arith, c.loop-dart.auto.dart-end, c.loop-dart-test.false, ap (length {A = Bond}) (c.as_slice-bonds.ensures ∙ c.bonds.ensures.value)) in
-    c.loop-dart.invariant.marks f l ∙ ap (parity_below (is_negative_side c.args.inst.now c.args.faces.now f)) ended ∙ sym (frustrated_parity c.args.inst.now c.args.faces.now f)
+    let ended : c.loop-dart.dart ≡ dart_count c.args.inst.now =
+    omega (arith, c.loop-dart.auto.dart-end, c.loop-dart-test.false, ap (length {A = Bond}) (c.as_slice-bonds.ensures ∙ c.bonds.ensures.value)) in
+    c.loop-dart.invariant.marks f l ∙ ap (parity_below (is_negative_side c.args.inst.now c.args.faces.now f)) ended
+    ∙ sym (frustrated_parity c.args.inst.now c.args.faces.now f)

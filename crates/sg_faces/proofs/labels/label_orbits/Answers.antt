@@ -6,7 +6,8 @@ use Rattle.sg_faces.proofs.labels.label_orbits.Goals as goal
 use Rattle.sg_faces.proofs.labels.label_orbits.Goals.{then-index, else-index}
 
 pub label_orbit-requires-clause-room : goal.label_orbit-requires-clause-room
-label_orbit-requires-clause-room c = omega (arith, count_small c.args.table.now c.loop-start.labels.items c.loop-start.count c.loop-start.start c.loop-start.invariant)
+label_orbit-requires-clause-room c =
+    omega (arith, count_small c.args.table.now c.loop-start.labels.items c.loop-start.count c.loop-start.start c.loop-start.invariant)
 
 pub overflow_add-count : goal.overflow_add-count
 overflow_add-count c = omega (arith, count_small c.args.table.now c.loop-start.labels.items c.loop-start.count c.loop-start.start c.loop-start.invariant)
@@ -14,10 +15,12 @@ overflow_add-count c = omega (arith, count_small c.args.table.now c.loop-start.l
 pub loop-start-preserved : goal.loop-start-preserved
 loop-start-preserved c =
     let in_labels : c.loop-start.start < length c.loop-start.labels.items = omega (arith, c.loop-start.invariant.0.lengths) in
-    let read : c.index.result.now ≡ get_or c.loop-start.labels.items c.loop-start.start 0 = get_or_read c.loop-start.labels.items c.loop-start.start c.index.result.now in_labels c.index.ensures 0 in
+    let read : c.index.result.now ≡ get_or c.loop-start.labels.items c.loop-start.start 0 =
+    get_or_read c.loop-start.labels.items c.loop-start.start c.index.result.now in_labels c.index.ensures 0 in
     elim c.if-index.branch [
       | then-index w ↦
-          let items_are : c.if-index.labels.items ≡ w.label_orbit.new.labels = ap (λ v. v.items) w.labels-is ∙ with_items_is c.loop-start.labels w.label_orbit.new.labels (search rules) in
+          let items_are : c.if-index.labels.items ≡ w.label_orbit.new.labels =
+          ap (λ v. v.items) w.labels-is ∙ with_items_is c.loop-start.labels w.label_orbit.new.labels (search rules) in
           rw (items_are, w.count-is) (so_far_new c.args.table.now c.loop-start.labels.items c.loop-start.count c.loop-start.start c.requires.is_move c.requires.room c.loop-start-test.true c.loop-start.invariant w.label_orbit.new.labels
           (sym read ∙ w.if-index.true) w.label_orbit.ensures.labelled (rw w.deref_mut.ensures.value at w.label_orbit.ensures.kept) w.label_orbit.ensures.marked)
       | else-index w ↦

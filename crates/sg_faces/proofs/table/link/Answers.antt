@@ -14,7 +14,9 @@ loop-place-preserved c =
       | else-place-darts w ↦ record { inner = λ l. omega arith; last = λ l. w.after-is }
     ] in
     rw c.reverse.ensures (record {
-      follows = linked_more c.args.darts.now c.loop-place.table c.loop-place.place c.if-place-darts.after c.requires.distinct here room at c.loop-place.invariant.follows;
+      follows =
+          linked_more c.args.darts.now c.loop-place.table c.loop-place.place c.if-place-darts.after c.requires.distinct here room at
+          c.loop-place.invariant.follows;
       kept = λ x h. unlinked_kept c.args.darts.now c.loop-place.table c.loop-place.place c.if-place-darts.after c.requires.distinct here room at x h ∙ c.loop-place.invariant.kept x h;
     })
 

@@ -14,13 +14,15 @@ use Rattle.sg_walk.proofs.breadth_first.visit.Goals.{then-leads_on+in_ok-push, e
 pub head-to-requires : goal.head-to-requires
 head-to-requires c =
     let list : c.as_slice-dart-items.result.now ≡ darts_of c.args.inst.now c.args.spin =
-    c.as_slice-dart-items.ensures ∙ sym (get_or_from_slice_get c.rotation.result.now c.args.spin c.at.result.now [] c.at.ensures) ∙ ap (λ r. get_or r c.args.spin []) c.rotation.ensures.value in
+    c.as_slice-dart-items.ensures ∙ sym (get_or_from_slice_get c.rotation.result.now c.args.spin c.at.result.now [] c.at.ensures)
+    ∙ ap (λ r. get_or r c.args.spin []) c.rotation.ensures.value in
     rw list (in_list c.args.inst.now c.rotation.ensures.instance c.args.spin c.loop-dart.dart-index c.requires.spin_in (omega (arith, c.loop-dart-test.true, ap length list))).0
 
 pub leads_on-requires-clause-dart_in : goal.leads_on-requires-clause-dart_in
 leads_on-requires-clause-dart_in c =
     let list : c.as_slice-dart-items.result.now ≡ darts_of c.args.inst.now c.args.spin =
-    c.as_slice-dart-items.ensures ∙ sym (get_or_from_slice_get c.rotation.result.now c.args.spin c.at.result.now [] c.at.ensures) ∙ ap (λ r. get_or r c.args.spin []) c.rotation.ensures.value in
+    c.as_slice-dart-items.ensures ∙ sym (get_or_from_slice_get c.rotation.result.now c.args.spin c.at.result.now [] c.at.ensures)
+    ∙ ap (λ r. get_or r c.args.spin []) c.rotation.ensures.value in
     let below : get_or (darts_of c.args.inst.now c.args.spin) c.loop-dart.dart-index 0 < dart_count c.args.inst.now =
     (in_list c.args.inst.now c.rotation.ensures.instance c.args.spin c.loop-dart.dart-index c.requires.spin_in (omega (arith, c.loop-dart-test.true, ap length list))).0 in
     rw list (omega (arith, below, c.requires.set_length))
@@ -28,18 +30,23 @@ leads_on-requires-clause-dart_in c =
 pub loop-dart-preserved : goal.loop-dart-preserved
 loop-dart-preserved c =
     let list : c.as_slice-dart-items.result.now ≡ darts_of c.args.inst.now c.args.spin =
-    c.as_slice-dart-items.ensures ∙ sym (get_or_from_slice_get c.rotation.result.now c.args.spin c.at.result.now [] c.at.ensures) ∙ ap (λ r. get_or r c.args.spin []) c.rotation.ensures.value in
+    c.as_slice-dart-items.ensures ∙ sym (get_or_from_slice_get c.rotation.result.now c.args.spin c.at.result.now [] c.at.ensures)
+    ∙ ap (λ r. get_or r c.args.spin []) c.rotation.ensures.value in
     let here : c.loop-dart.dart-index < length (darts_of c.args.inst.now c.args.spin) = omega (arith, c.loop-dart-test.true, ap length list) in
-    let dart : (get_or (darts_of c.args.inst.now c.args.spin) c.loop-dart.dart-index 0 < dart_count c.args.inst.now) × (tail c.args.inst.now (get_or (darts_of c.args.inst.now c.args.spin) c.loop-dart.dart-index 0) ≡ c.args.spin) =
+    let dart : (get_or (darts_of c.args.inst.now c.args.spin) c.loop-dart.dart-index 0 < dart_count c.args.inst.now) ×
+    (tail c.args.inst.now (get_or (darts_of c.args.inst.now c.args.spin) c.loop-dart.dart-index 0) ≡ c.args.spin) =
     in_list c.args.inst.now c.rotation.ensures.instance c.args.spin c.loop-dart.dart-index c.requires.spin_in here in
     let leads : c.head-to.result ≡ head_of c.args.inst.now (get_or (darts_of c.args.inst.now c.args.spin) c.loop-dart.dart-index 0) =
     c.head-to.ensures.value ∙ ap (λ xs. head_of c.args.inst.now (get_or xs c.loop-dart.dart-index 0)) list in
     let inside : c.head-to.result < length c.loop-dart.marks = omega (arith, c.head-to.ensures.below, c.requires.lengths, c.loop-dart.auto.marks) in
-    let test : c.leads_on.result ≡ (has c.args.set.now (get_or (darts_of c.args.inst.now c.args.spin) c.loop-dart.dart-index 0 / 2) && not (get_or c.loop-dart.marks c.head-to.result false)) =
+    let test : c.leads_on.result ≡
+    (has c.args.set.now (get_or (darts_of c.args.inst.now c.args.spin) c.loop-dart.dart-index 0 / 2) && not (get_or c.loop-dart.marks c.head-to.result false))
+    =
     c.leads_on.ensures ∙ ap (λ xs. has c.args.set.now (get_or xs c.loop-dart.dart-index 0 / 2) && not (get_or c.loop-dart.marks c.head-to.result false)) list in
     elim c.if-leads_on.branch [
       | then-leads_on+in_ok-push w ↦
-          let parts : (has c.args.set.now (get_or (darts_of c.args.inst.now c.args.spin) c.loop-dart.dart-index 0 / 2) ≡ true) × (get_or c.loop-dart.marks c.head-to.result false ≡ false) =
+          let parts : (has c.args.set.now (get_or (darts_of c.args.inst.now c.args.spin) c.loop-dart.dart-index 0 / 2) ≡ true) ×
+          (get_or c.loop-dart.marks c.head-to.result false ≡ false) =
           leads_parts _ _ (sym test ∙ w.if-leads_on.true) in
           rw (w.marks-is, w.order-is, w.in_ok-push.ensures.items)
           (visits_new c.args.inst.now (has c.args.set.now) c.args.spin (darts_of c.args.inst.now c.args.spin) c.args.marks.now c.loop-dart.marks c.args.order.now.items c.loop-dart.order.items c.loop-dart.dart-index here c.loop-dart.invariant
@@ -53,5 +60,6 @@ loop-dart-preserved c =
 pub returns : goal.returns
 returns c =
     let list : c.as_slice-dart-items.result.now ≡ darts_of c.args.inst.now c.args.spin =
-    c.as_slice-dart-items.ensures ∙ sym (get_or_from_slice_get c.rotation.result.now c.args.spin c.at.result.now [] c.at.ensures) ∙ ap (λ r. get_or r c.args.spin []) c.rotation.ensures.value in
+    c.as_slice-dart-items.ensures ∙ sym (get_or_from_slice_get c.rotation.result.now c.args.spin c.at.result.now [] c.at.ensures)
+    ∙ ap (λ r. get_or r c.args.spin []) c.rotation.ensures.value in
     rw (take_all c.loop-dart.dart-index (darts_of c.args.inst.now c.args.spin) (omega (arith, c.loop-dart-test.false, ap length list))) at c.loop-dart.invariant

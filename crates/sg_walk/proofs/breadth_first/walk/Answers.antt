@@ -14,23 +14,29 @@ loop-next-init c =
 pub visit-requires-clause-spin_in : goal.visit-requires-clause-spin_in
 visit-requires-clause-spin_in c =
     let here : c.loop-next.next < length c.loop-next.order.items = omega (arith, c.index-spin.ensures, c.loop-next.invariant.at_most) in
-    let spin : c.index-spin.result.now ≡ get_or c.loop-next.order.items c.loop-next.next 0 = get_or_read c.loop-next.order.items c.loop-next.next c.index-spin.result.now here c.index-spin.ensures 0 in
+    let spin : c.index-spin.result.now ≡ get_or c.loop-next.order.items c.loop-next.next 0 =
+    get_or_read c.loop-next.order.items c.loop-next.next c.index-spin.result.now here c.index-spin.ensures 0 in
     omega (arith, spin, c.requires.lengths, order_in c.args.inst.now c.n-next-end.ensures.instance (has c.args.set.now) c.args.root c.args.marks.now c.loop-next.marks c.loop-next.order.items c.loop-next.next c.loop-next.next c.loop-next.invariant here)
 
 pub loop-next-preserved : goal.loop-next-preserved
 loop-next-preserved c =
     let here : c.loop-next.next < length c.loop-next.order.items = omega (arith, c.index-spin.ensures, c.loop-next.invariant.at_most) in
-    let spin : c.index-spin.result.now ≡ get_or c.loop-next.order.items c.loop-next.next 0 = get_or_read c.loop-next.order.items c.loop-next.next c.index-spin.result.now here c.index-spin.ensures 0 in
-    search_more c.args.inst.now c.n-next-end.ensures.instance (has c.args.set.now) c.args.root c.args.marks.now c.loop-next.marks c.visit.new.marks c.loop-next.order.items c.visit.new.order.items c.loop-next.next here c.loop-next.invariant
+    let spin : c.index-spin.result.now ≡ get_or c.loop-next.order.items c.loop-next.next 0 =
+    get_or_read c.loop-next.order.items c.loop-next.next c.index-spin.result.now here c.index-spin.ensures 0 in
+    search_more c.args.inst.now c.n-next-end.ensures.instance (has c.args.set.now) c.args.root c.args.marks.now c.loop-next.marks c.visit.new.marks
+    c.loop-next.order.items c.visit.new.order.items c.loop-next.next here c.loop-next.invariant
     (rw spin at c.in_ok-visit.ensures)
 
 pub returns-after-loop-next : goal.returns-after-loop-next
 returns-after-loop-next c =
     let few : unmarked_count c.args.marks.now ≤ length c.args.marks.now = count_by-le-length not c.args.marks.now in
-    search_done c.args.inst.now c.n-next-end.ensures.instance (has c.args.set.now) c.args.root c.args.marks.now c.loop-next.marks c.loop-next.order.items c.loop-next.next
-    (omega (arith, few, c.requires.lengths, c.loop-next.invariant.count, c.n-next-end.ensures.value, c.loop-next-test.false)) c.requires.closed c.loop-next.invariant
+    search_done c.args.inst.now c.n-next-end.ensures.instance (has c.args.set.now) c.args.root c.args.marks.now c.loop-next.marks
+    c.loop-next.order.items c.loop-next.next
+    (omega (arith, few, c.requires.lengths, c.loop-next.invariant.count, c.n-next-end.ensures.value, c.loop-next-test.false)) c.requires.closed
+    c.loop-next.invariant
 
 pub returns-then-next-len : goal.returns-then-next-len
 returns-then-next-len c =
-    search_done c.args.inst.now c.n-next-end.ensures.instance (has c.args.set.now) c.args.root c.args.marks.now c.loop-next.marks c.loop-next.order.items c.loop-next.next
+    search_done c.args.inst.now c.n-next-end.ensures.instance (has c.args.set.now) c.args.root c.args.marks.now c.loop-next.marks
+    c.loop-next.order.items c.loop-next.next
     (omega arith) c.requires.closed c.loop-next.invariant

@@ -10,5 +10,7 @@ loop-i-preserved c =
     let i = c.loop-i.i in
     let step = c.args.step in
     c.in_ok-push_ends_from.ensures
-    ∙ ap (λ (done : List Ends). done ++ cond (has_bond s.kind step s.rows s.cols (i / s.cols) (i % s.cols)) (ends_from s.kind step s.rows s.cols i ∷ []) []) c.loop-i.invariant
+    ∙ ap
+    (λ (done : List Ends). done ++ cond (has_bond s.kind step s.rows s.cols (i / s.cols) (i % s.cols)) (ends_from s.kind step s.rows s.cols i ∷ []) [])
+    c.loop-i.invariant
     ∙ map_picked_more (ends_from s.kind step s.rows s.cols) (λ i. has_bond s.kind step s.rows s.cols (i / s.cols) (i % s.cols)) _ i

@@ -5,4 +5,5 @@ use Rattle.sg_lattice.proofs.shape.Shape.push_ends.Given as goal
 
 abbrev pub invariant-loop-i : goal.invariant-loop-i
 invariant-loop-i l =
-    l.ends.items ≡ l.initial.ends.items ++ map (ends_from l.self.kind l.step l.self.rows l.self.cols) (picked (λ i. has_bond l.self.kind l.step l.self.rows l.self.cols (i / l.self.cols) (i % l.self.cols)) l.i)
+    l.ends.items ≡ l.initial.ends.items ++ map (ends_from l.self.kind l.step l.self.rows l.self.cols)
+    (picked (λ i. has_bond l.self.kind l.step l.self.rows l.self.cols (i / l.self.cols) (i % l.self.cols)) l.i)

@@ -27,5 +27,6 @@ with_bonds-requires c =
     let inst = c.args.self.now in
     let good = subst IsInstance c.self.view_is c.self.invariant in
     let all : c.loop-k.k ≡ bond_count inst = omega (arith, ap (length {A = Bond}) c.loop-k.invariant.list) in
-    let made : c.loop-k.bonds ≡ map (flipped_at inst) (range_with_len 0 (bond_count inst)) = c.loop-k.invariant.made ∙ ap (λ k. map (flipped_at inst) (range_with_len 0 k)) all in
+    let made : c.loop-k.bonds ≡ map (flipped_at inst) (range_with_len 0 (bond_count inst)) =
+    c.loop-k.invariant.made ∙ ap (λ k. map (flipped_at inst) (range_with_len 0 k)) all in
     subst (HasSameEnds inst) (sym made) (flipped_ends inst good.joined)
