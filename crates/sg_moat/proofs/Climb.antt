@@ -1,5 +1,6 @@
 -- Up from a leaf's own node through the sets that hold it: each gets the leaf, with the duals of the sets before it.
-use Rattle.std.proofs.Common.{◌≡◌, ◌≢◌, ℕ, ◌+◌, ◌-◌, ◌^◌, ◌<◌, ◌≤◌, ◌&&◌, ◌||◌, ◌++◌, Bool, true, false, cond, List, [], ◌∷◌, length, map, set, replicate, get_or, refl, sym, ap, ◌∙◌, subst, inl, inr, arith}
+use Rattle.std.proofs.Common.{◌≡◌, ◌≢◌, ℕ, ◌+◌, ◌-◌, ◌^◌, ◌<◌, ◌≤◌, ◌&&◌, ◌||◌, ◌++◌, Bool, true, false, cond, List, [], ◌∷◌, length, map, set, replicate}
+use Rattle.std.proofs.Common.{get_or, refl, sym, ap, ◌∙◌, subst, inl, inr, arith}
 use Rattle.std.specs.List.{range_with_len}
 use Rattle.std.specs.Option.{option_map_or}
 use Rattle.std.proofs.lemmas.Bool.{cases_eq, cases_lt, ne_eqb, and_from, and_parts, false≢true, false_from_ne_true}
@@ -63,21 +64,25 @@ module _ (f : Family) where
         (λ h. (let p = below_parts f n leaf x h in p.1 (least_set leaf x low p.2 p.0)))))
 
     pub Climbing-start : (leaf : ℕ) (lists : List (List Member)) → leaf < leaf_count f → length lists ≡ length f.nodes →
-        Climbing leaf (get_or f.leaf_nodes leaf 0) 0 lists (set lists (get_or f.leaf_nodes leaf 0) (list_at lists (get_or f.leaf_nodes leaf 0) ++ (record { leaf = leaf; inner = 0 }) ∷ []))
+        Climbing leaf (get_or f.leaf_nodes leaf 0) 0 lists
+        (set lists (get_or f.leaf_nodes leaf 0) (list_at lists (get_or f.leaf_nodes leaf 0) ++ (record { leaf = leaf; inner = 0 }) ∷ []))
     Climbing-start leaf lists low rooms =
         let n : ℕ = get_or f.leaf_nodes leaf 0 in
         let held : Holds f n leaf = leaf-held f fam leaf low in
         let none : inner_of f n leaf ≡ 0 = no_inner leaf low in
         let bound : n < length f.nodes = name_bound f n (alive_from_holds f n leaf held) in
-        let each : (s : ℕ) → list_at (set lists n (list_at lists n ++ member_of f n leaf ∷ [])) s ≡ list_at lists s ++ cond (is_passed leaf n s) (member_of f s leaf ∷ []) [] =
+        let each : (s : ℕ) → list_at (set lists n (list_at lists n ++ member_of f n leaf ∷ [])) s ≡ list_at lists s ++ cond (is_passed leaf n s)
+        (member_of f s leaf ∷ []) [] =
         noted_each (λ s. member_of f s leaf) lists lists n (λ s. false) (is_passed leaf n) (omega arith) (λ s. sym (append-nil (list_at lists s))) refl
         (and_from (within f n n) (holds f n leaf) (within_from f n n (λ l k. k)) held)
-        (λ s ne. false_from_ne_true (is_passed leaf n s) (λ h. (let both = and_parts (within f n s) (holds f s leaf) h in ne (least_set leaf s low both.1 (covers_from f n s both.0))))) in
+        (λ s ne. false_from_ne_true (is_passed leaf n s)
+        (λ h. (let both = and_parts (within f n s) (holds f s leaf) h in ne (least_set leaf s low both.1 (covers_from f n s both.0))))) in
         record {
           held = held;
           sum = sym none;
           count = length-set lists n (list_at lists n ++ (record { leaf = leaf; inner = 0 }) ∷ []);
-          each = subst (λ z. (s : ℕ) → list_at (set lists n (list_at lists n ++ (record { leaf = leaf; inner = z }) ∷ [])) s ≡ list_at lists s ++ cond (is_passed leaf n s) (member_of f s leaf ∷ []) []) none each;
+          each = subst (λ z. (s : ℕ) → list_at (set lists n (list_at lists n ++ (record { leaf = leaf; inner = z }) ∷ [])) s ≡ list_at lists s ++ cond
+              (is_passed leaf n s) (member_of f s leaf ∷ []) []) none each;
         }
 
     -- from a set to the blossom that it is a child of
@@ -103,7 +108,8 @@ module _ (f : Family) where
 
       inner_step : inner_of f p leaf ≡ inner_of f at leaf + dual_of f at
       inner_step =
-          sum_below-same (share_below f p leaf) (up_to_share f at leaf) (length f.nodes) (λ x l. ap (λ b. cond b (dual_of f x) 0) (same_truth (strictly_within f p x && holds f x leaf) (is_passed leaf at x)
+          sum_below-same (share_below f p leaf) (up_to_share f at leaf) (length f.nodes)
+          (λ x l. ap (λ b. cond b (dual_of f x) 0) (same_truth (strictly_within f p x && holds f x leaf) (is_passed leaf at x)
           (λ h. (let q = below_parts f p leaf x h in and_from (within f at x) (holds f x leaf) (within_from f at x (next x q.2 q.0 q.1)) q.2))
           (λ h. (
           let both = and_parts (within f at x) (holds f x leaf) h in
@@ -118,19 +124,23 @@ module _ (f : Family) where
           let up : Holds f p leaf = over leaf held in
           let sum : inner + dual_of f at ≡ inner_of f p leaf = omega (arith, h.sum, inner_step) in
           let bound : p < length f.nodes = name_bound f p (alive_from_holds f p leaf up) in
-          let each : (s : ℕ) → list_at (set now p (list_at now p ++ member_of f p leaf ∷ [])) s ≡ list_at old s ++ cond (is_passed leaf p s) (member_of f s leaf ∷ []) [] =
+          let each : (s : ℕ) → list_at (set now p (list_at now p ++ member_of f p leaf ∷ [])) s ≡ list_at old s ++ cond (is_passed leaf p s)
+          (member_of f s leaf ∷ []) [] =
           noted_each (λ s. member_of f s leaf) old now p (is_passed leaf at) (is_passed leaf p) (omega (arith, h.count)) h.each
           (false_from_ne_true (is_passed leaf at p) (λ h. smaller (covers_from f at p (and_parts (within f at p) (holds f p leaf) h).0)))
           (and_from (within f p p) (holds f p leaf) (within_from f p p (λ l k. k)) up)
           (λ s ne. same_truth (is_passed leaf p s) (is_passed leaf at s)
-          (λ h. (let both = and_parts (within f p s) (holds f s leaf) h in and_from (within f at s) (holds f s leaf) (within_from f at s (next s both.1 (covers_from f p s both.0) ne)) both.1))
-          (λ h. (let both = and_parts (within f at s) (holds f s leaf) h in and_from (within f p s) (holds f s leaf) (within_from f p s (λ l k. over l (covers_from f at s both.0 l k))) both.1))) in
+          (λ h. (let both = and_parts (within f p s) (holds f s leaf) h in and_from (within f at s) (holds f s leaf)
+          (within_from f at s (next s both.1 (covers_from f p s both.0) ne)) both.1))
+          (λ h. (let both = and_parts (within f at s) (holds f s leaf) h in and_from (within f p s) (holds f s leaf)
+          (within_from f p s (λ l k. over l (covers_from f at s both.0 l k))) both.1))) in
           record {
             held = up;
             sum = sum;
             count = length-set now p (list_at now p ++ (record { leaf = leaf; inner = inner + dual_of f at }) ∷ []) ∙ h.count;
             each =
-                subst (λ z. (s : ℕ) → list_at (set now p (list_at now p ++ (record { leaf = leaf; inner = z }) ∷ [])) s ≡ list_at old s ++ cond (is_passed leaf p s) (member_of f s leaf ∷ []) [])
+                subst (λ z. (s : ℕ) → list_at (set now p (list_at now p ++ (record { leaf = leaf; inner = z }) ∷ [])) s ≡ list_at old s ++ cond
+                (is_passed leaf p s) (member_of f s leaf ∷ []) [])
                 (sym sum) each;
           }
 
@@ -178,7 +188,8 @@ module _ (f : Family) where
         c.each s
         ∙ ap (λ xs. xs ++ cond (holds f s k) (member_of f s k ∷ []) []) (h.each s)
         ∙ ap (λ xs. map (member_of f s) (chosen_below (holds f s) k) ++ xs) (mapped s (holds f s k))
-        ∙ sym (ap (map (member_of f s)) (chosen_below_more (holds f s) k) ∙ map-append (member_of f s) (chosen_below (holds f s) k) (cond (holds f s k) (k ∷ []) []));
+        ∙ sym (ap (map (member_of f s)) (chosen_below_more (holds f s) k) ∙ map-append (member_of f s) (chosen_below (holds f s) k)
+        (cond (holds f s k) (k ∷ []) []));
   }
     where
       mapped : (s : ℕ) (b : Bool) → cond b (member_of f s k ∷ []) [] ≡ map (member_of f s) (cond b (k ∷ []) [])

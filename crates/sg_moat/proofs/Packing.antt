@@ -1,5 +1,6 @@
 -- The cuts of all sets of a family are a packing of odd cuts, and few.
-use Rattle.std.proofs.Common.{inl, inr, ap₂, ◌≡◌, ◌≢◌, ◌⊎◌, ◌==◌, ℕ, ◌+◌, ◌-◌, ◌*◌, ◌%◌, ◌<◌, ◌≤◌, ◌≤ℤ◌, min, fold, Bool, true, false, cond, ltb, List, [], ◌∷◌, refl, sym, ◌∙◌, ap, subst, arith, All, length, get_or, count_by, sum_by, Option, Some, None, IsSome, pos}
+use Rattle.std.proofs.Common.{inl, inr, ap₂, ◌≡◌, ◌≢◌, ◌⊎◌, ◌==◌, ℕ, ◌+◌, ◌-◌, ◌*◌, ◌%◌, ◌<◌, ◌≤◌, ◌≤ℤ◌, min, fold, Bool, true, false, cond, ltb, List, []}
+use Rattle.std.proofs.Common.{◌∷◌, refl, sym, ◌∙◌, ap, subst, arith, All, length, get_or, count_by, sum_by, Option, Some, None, IsSome, pos}
 use Rattle.std.specs.List.{list_any}
 use Rattle.std.specs.Option.{option_map_or}
 use Rattle.std.proofs.lemmas.Bool.{cases_eq, cases_lt, cases_Bool, eqb-true, eq-eqb, lt-ltb, le-ltb, ltb-true, and_parts, false_from_ne_true, true≢false}
@@ -28,7 +29,8 @@ use Rattle.sg_moat.proofs.SetCount.{sets_few}
 use Rattle.sg_moat.proofs.SetDuals.{apart_duals, nested_duals, outside_duals}
 use Rattle.sg_moat.proofs.UnitSteps.{Apart, Inner, Stands, depth, depths_change}
 use Rattle.sg_moat.proofs.UnitSteps.Stands.{disjoint, outer, inner}
-use Rattle.sg_moat.proofs.EdgeReach.{Spans, fold_least, least_bounds, least_by, least_reached, least_same, reach, reach_near, stands_apart, stands_inner, stands_outer, twice_at_a, twice_at_b, twice_to}
+use Rattle.sg_moat.proofs.EdgeReach.{Spans, fold_least, least_bounds, least_by, least_reached, least_same, reach, reach_near, stands_apart, stands_inner}
+use Rattle.sg_moat.proofs.EdgeReach.{stands_outer, twice_at_a, twice_at_b, twice_to}
 
 -- the leaves are the terminals, with their distances, and no slack is negative
 pub record IsMoatInput (f : Family) (g : Graph) (terminals : List ℕ) (tables : List Routes) : Type 0 where
@@ -39,7 +41,8 @@ pub record IsMoatInput (f : Family) (g : Graph) (terminals : List ℕ) (tables :
   pub slack : NoSlackIsNegative f (terminal_cost terminals tables)
 
 pub IsMoatInput-from : (f : Family) (g : Graph) (terminals : List ℕ) (tables : List Routes) → IsWeb g → IsConnected g → AreTerminals g terminals →
-    leaf_count f ≡ length terminals → AreTerminalTables g terminals tables → NoSlackIsNegative f (terminal_cost terminals tables) → IsMoatInput f g terminals tables
+    leaf_count f ≡ length terminals → AreTerminalTables g terminals tables → NoSlackIsNegative f (terminal_cost terminals tables) →
+    IsMoatInput f g terminals tables
 IsMoatInput-from f g terminals tables web connected chosen leaves are slack = record {
   chosen = chosen;
   joined = web.joined;
@@ -108,14 +111,20 @@ module _ (f : Family) (fam : IsFamily f) (g : Graph) (terminals : List ℕ) (tab
           let l : ℕ = get_or (leaves_of f s) at.0 0 in
           let here : Holds f s l = list_any_at (λ x. x == l) (leaves_of f s) at.0 0 at.1 (eq-eqb l l refl) in
           elim (fam.nested s s' l here at.2) [
-            | inl over ↦ stands_outer dist far a b w f s s' (some_leaves s' some') (λ t h. (over t h, nested_duals f fam s s' t (dual_alive f s some) ne over h))
+            | inl over ↦ stands_outer dist far a b w f s s' (some_leaves s' some')
+                (λ t h. (over t h, nested_duals f fam s s' t (dual_alive f s some) ne over h))
             | inr under ↦
                 stands_inner dist far a b w f s s' (some_leaves s some)
                 (λ t h. (under t h, nested_duals f fam s' s t (dual_alive f s' some') (λ (e : s' ≡ s). ne (sym e)) under h))
           ]
       | inr none ↦
           stands_apart dist far a b w f s s' (some_leaves s some) (some_leaves s' some') (λ t u ht hu. spans t u (leaf_low s t ht) (leaf_low s' u hu))
-          (λ t u ht hu. omega (arith, apart_duals f s s' t u ht hu (not_both u hu none) (out t ht none), input.slack t u (leaf_low s t ht) (leaf_low s' u hu)))
+          (λ t u ht hu. omega (
+            arith,
+            apart_duals f s s' t u ht hu (not_both u hu none) (out t ht none),
+            input.slack t u (leaf_low s t ht)
+                (leaf_low s' u hu),
+          ))
     ]
       where
         out : (t : ℕ) → Holds f s t → list_any (holds f s') (leaves_of f s) ≡ false → holds f s' t ≡ false
@@ -144,7 +153,8 @@ module _ (f : Family) (fam : IsFamily f) (g : Graph) (terminals : List ℕ) (tab
     change : sum_below (λ s. gap (set_depth f tables s a) (set_depth f tables s b)) (length f.nodes) ≤ 2 * w
     change =
         let d : ℕ → ℕ → ℕ = depth (dual_of f) (reach dist far a b w f) (2 * w) in
-        let same : sum_below (λ s. gap (set_depth f tables s a) (set_depth f tables s b)) (length f.nodes) ≡ sum_below (λ s. gap (d s 0) (d s (2 * w))) (length f.nodes) =
+        let same : sum_below (λ s. gap (set_depth f tables s a) (set_depth f tables s b)) (length f.nodes) ≡ sum_below (λ s. gap (d s 0) (d s (2 * w)))
+        (length f.nodes) =
         sum_below-same (λ s. gap (set_depth f tables s a) (set_depth f tables s b)) (λ s. gap (d s 0) (d s (2 * w))) (length f.nodes) (λ s l. each s) in
         let bound : sum_below (λ s. gap (d s 0) (d s (2 * w))) (length f.nodes) ≤ 2 * w =
         depths_change (dual_of f) (reach dist far a b w f) (2 * w) (length f.nodes)
@@ -152,7 +162,8 @@ module _ (f : Family) (fam : IsFamily f) (g : Graph) (terminals : List ℕ) (tab
         (λ s s' l l' some some' ne. stands s s' some some' ne) in
         omega arith
       where
-        each : (s : ℕ) → gap (set_depth f tables s a) (set_depth f tables s b) ≡ gap (depth (dual_of f) (reach dist far a b w f) (2 * w) s 0) (depth (dual_of f) (reach dist far a b w f) (2 * w) s (2 * w))
+        each : (s : ℕ) → gap (set_depth f tables s a) (set_depth f tables s b) ≡ gap (depth (dual_of f) (reach dist far a b w f) (2 * w) s 0)
+            (depth (dual_of f) (reach dist far a b w f) (2 * w) s (2 * w))
         each s = elim (cases_lt 0 (dual_of f s)) [
           | inl some ↦ ap₂ gap (depth_first s some) (depth_last s some)
           | inr none ↦ omega (arith, depth_full f tables s a, depth_full f tables s b)
@@ -202,12 +213,14 @@ module _ (f : Family) (fam : IsFamily f) (g : Graph) (terminals : List ℕ) (tab
       let there = inside_parts (dual_of f s') (set_depth f tables s' x) q in
       refuted (dual_of f s) (dual_of f s') (reach dist far x x 0 f s 0) (reach dist far x x 0 f s' 0)
       (by_stand s s' (stands x x 0 at_point stays stays s s' (omega arith) (omega arith) ne))
-      (set_depth f tables s x) (set_depth f tables s' x) (depth_first x x 0 at_point stays stays s (omega arith)) (depth_first x x 0 at_point stays stays s' (omega arith)) here there
+      (set_depth f tables s x) (set_depth f tables s' x) (depth_first x x 0 at_point stays stays s (omega arith))
+      (depth_first x x 0 at_point stays stays s' (omega arith)) here there
     where
       at_point : (t u : ℕ) → t < leaf_count f → u < leaf_count f → Spans dist far x x 0 t u
       at_point t u lt lu =
           let law : far t u ≤ dist t x + dist u x =
-          distance-joined g (term t) (term u) x (far t u) (dist t x) (dist u x) (input.distances t (term u) lt (term_in u lu)) (input.distances t x lt low) (input.distances u x lu low) in
+          distance-joined g (term t) (term u) x (far t u) (dist t x) (dist u x) (input.distances t (term u) lt (term_in u lu)) (input.distances t x lt low)
+          (input.distances u x lu low) in
           record { over_a = law; over_b = law; along = omega arith; back = omega arith }
 
       stays : (t : ℕ) → t < leaf_count f → dist t x ≤ dist t x + 0
@@ -215,12 +228,14 @@ module _ (f : Family) (fam : IsFamily f) (g : Graph) (terminals : List ℕ) (tab
 
       by_stand : (s s' : ℕ) → Stands (dual_of f) (reach dist far x x 0 f) (2 * 0) s s' →
           Apart (dual_of f s) (dual_of f s') (reach dist far x x 0 f s 0) (reach dist far x x 0 f s' 0)
-          ⊎ (Inner (dual_of f s') (reach dist far x x 0 f s' 0) (reach dist far x x 0 f s 0) ⊎ Inner (dual_of f s) (reach dist far x x 0 f s 0) (reach dist far x x 0 f s' 0))
+          ⊎ (Inner (dual_of f s') (reach dist far x x 0 f s' 0) (reach dist far x x 0 f s 0) ⊎ Inner (dual_of f s) (reach dist far x x 0 f s 0)
+          (reach dist far x x 0 f s' 0))
       by_stand s s' (disjoint h) = inl (h 0 (omega arith))
       by_stand s s' (outer h) = inr (inl (h 0 (omega arith)))
       by_stand s s' (inner h) = inr (inr (h 0 (omega arith)))
 
-      refuted : (y y' p p' : ℕ) → Apart y y' p p' ⊎ (Inner y' p' p ⊎ Inner y p p') → (d d' : ℕ) → d ≡ min y p → d' ≡ min y' p' → (0 < d) × (d < y) → (0 < d') × (d' < y') → ⊥
+      refuted : (y y' p p' : ℕ) → Apart y y' p p' ⊎ (Inner y' p' p ⊎ Inner y p p') → (d d' : ℕ) → d ≡ min y p → d' ≡ min y' p' → (0 < d) × (d < y) →
+          (0 < d') × (d' < y') → ⊥
       refuted y y' p p' (inl h) d d' e e' k k' = omega (arith, k.0, k.1, k'.0, k'.1)
       refuted y y' p p' (inr (inl h)) d d' e e' k k' = let z : p ≡ 0 = h (omega (arith, k'.1)) in omega (arith, k.0)
       refuted y y' p p' (inr (inr h)) d d' e e' k k' = let z : p' ≡ 0 = h (omega (arith, k.1)) in omega (arith, k'.0)
@@ -232,7 +247,8 @@ module _ (f : Family) (fam : IsFamily f) (g : Graph) (terminals : List ℕ) (tab
       let turned = below_exchange here (length f.nodes) g.nodes in
       let each : sum_below (λ x. sum_below (λ s. here s x) (length f.nodes)) g.nodes ≤ sum_below (λ x. 1) g.nodes =
       sum_below-le (λ x. sum_below (λ s. here s x) (length f.nodes)) (λ x. 1) g.nodes
-      (λ x l. sum_below_unique (λ s. here s x) 1 (length f.nodes) (λ s b. cond_small (is_inside (dual_of f s) (set_depth f tables s x))) (λ s s' b b' p q. one x l s s' p q)) in
+      (λ x l. sum_below_unique (λ s. here s x) 1 (length f.nodes) (λ s b. cond_small (is_inside (dual_of f s) (set_depth f tables s x)))
+      (λ s s' b b' p q. one x l s s' p q)) in
       omega (arith, sum_below_ones g.nodes)
     where
       counted : (b : Bool) → 0 < cond {A = ℕ} b 1 0 → b ≡ true
@@ -243,7 +259,8 @@ module _ (f : Family) (fam : IsFamily f) (g : Graph) (terminals : List ℕ) (tab
           0 < cond {A = ℕ} (is_inside (dual_of f s') (set_depth f tables s' x)) 1 0 → s ≡ s'
       one x l s s' p q = elim (cases_eq s s') [
         | inl e ↦ e
-        | inr ne ↦ absurd (one_moat x l s s' ne (counted (is_inside (dual_of f s) (set_depth f tables s x)) p) (counted (is_inside (dual_of f s') (set_depth f tables s' x)) q))
+        | inr ne ↦ absurd (one_moat x l s s' ne (counted (is_inside (dual_of f s) (set_depth f tables s x)) p)
+            (counted (is_inside (dual_of f s') (set_depth f tables s' x)) q))
       ]
 
   -- a cut at a level holds exactly the terminals of its set

@@ -1,5 +1,6 @@
 -- How many sets a family has: twice their number is at most three times the number of leaves.
-use Rattle.std.proofs.Common.{◌≡◌, ℕ, ◌+◌, ◌*◌, ◌<◌, ◌≤◌, false, true, cond, ltb, length, Option, Some, None, IsSome, refl, sym, ap, ◌∙◌, subst, inl, inr, arith, Contains}
+use Rattle.std.proofs.Common.{◌≡◌, ℕ, ◌+◌, ◌*◌, ◌<◌, ◌≤◌, false, true, cond, ltb, length, Option, Some, None, IsSome, refl, sym, ap, ◌∙◌, subst, inl, inr}
+use Rattle.std.proofs.Common.{arith, Contains}
 use Rattle.std.proofs.lemmas.Bool.{cases_lt, lt-ltb, le-ltb}
 use Rattle.sg_sums.specs.Sums.{sum_below}
 use Rattle.sg_sums.proofs.SumLaws.{sum_below-add, sum_below-le, sum_below-same}
@@ -55,7 +56,8 @@ module _ (f : Family) (fam : IsFamily f) where
       let r : ℕ = length f.nodes in
       let counted : sum_below (λ p. length (cycle_of f p)) r ≡ sum_below (λ p. sum_below (child_times p) r) r =
       sum_below-same (λ p. length (cycle_of f p)) (λ p. sum_below (child_times p) r) r
-      (λ p l. sym (times_total (λ (l : Link). l.node) (cycle_of f p) blank_link r (λ i low. name_bound f (link_at (cycle_of f p) i).node (child_alive p i low)))) in
+      (λ p l. sym (times_total (λ (l : Link). l.node) (cycle_of f p) blank_link r
+      (λ i low. name_bound f (link_at (cycle_of f p) i).node (child_alive p i low)))) in
       let turned = below_exchange child_times r r in
       let each : sum_below (λ m. sum_below (λ p. child_times p m) r) r ≤ sum_below (alive_at f) r =
       sum_below-le (λ m. sum_below (λ p. child_times p m) r) (alive_at f) r (λ m l. one_blossom m) in

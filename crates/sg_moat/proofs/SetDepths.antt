@@ -1,5 +1,6 @@
 -- The members of a set and the depths by them, and the cuts of one set more.
-use Rattle.std.proofs.Common.{◌≡◌, ◌==◌, ap₂, eq-eqb, ltb, true, Bool, ℕ, zero, suc, ◌+◌, ◌-◌, ◌^◌, ◌<◌, ◌≤◌, ◌++◌, min, fold, cond, List, [], ◌∷◌, map, length, get_or, pos, refl, sym, ap, ◌∙◌, subst, arith, inl, inr, Contains, All, Option, Some, None, IsSome}
+use Rattle.std.proofs.Common.{◌≡◌, ◌==◌, ap₂, eq-eqb, ltb, true, Bool, ℕ, zero, suc, ◌+◌, ◌-◌, ◌^◌, ◌<◌, ◌≤◌, ◌++◌, min, fold, cond, List, [], ◌∷◌, map}
+use Rattle.std.proofs.Common.{length, get_or, pos, refl, sym, ap, ◌∙◌, subst, arith, inl, inr, Contains, All, Option, Some, None, IsSome}
 use Rattle.std.specs.Option.{option_map_or}
 use Rattle.std.specs.List.Sorted.{IsStrictlyIncreasing}
 use Rattle.std.proofs.lemmas.List.{get_or_past, length-append, length-map}
@@ -33,7 +34,8 @@ use Rattle.sg_moat.proofs.Packing.{depth_full, dual_alive}
 use Rattle.sg_moat.proofs.SetCount.{alive_one}
 
 -- the depth by the list of members is that by the leaves
-pub depth_by_members : (f : Family) (tables : List Routes) (s x : ℕ) (leaves : List ℕ) (y : ℕ) → depth_by tables (map (member_of f s) leaves) y x ≡ fold (λ d leaf. min d (reach_from f tables s x leaf)) y leaves
+pub depth_by_members : (f : Family) (tables : List Routes) (s x : ℕ) (leaves : List ℕ) (y : ℕ) →
+    depth_by tables (map (member_of f s) leaves) y x ≡ fold (λ d leaf. min d (reach_from f tables s x leaf)) y leaves
 depth_by_members f tables s x [] y = refl
 depth_by_members f tables s x (l ∷ ls) y = depth_by_members f tables s x ls (min y (reach_from f tables s x l))
 
@@ -41,7 +43,9 @@ module _ (f : Family) (fam : IsFamily f) (s : ℕ) where
   -- the members are leaves
   pub members_low : All (λ (m : Member). m.leaf < leaf_count f) (map (member_of f s) (leaves_of f s))
   members_low = All-map (λ (m : Member). m.leaf < leaf_count f) (member_of f s) (leaves_of f s)
-      (All-from_get_or (λ l. l < leaf_count f) (leaves_of f s) 0 (λ i h. leaf_bound f fam s (get_or (leaves_of f s) i 0) (list_any_at (λ x. x == get_or (leaves_of f s) i 0) (leaves_of f s) i 0 h (eq-eqb (get_or (leaves_of f s) i 0) (get_or (leaves_of f s) i 0) refl))))
+      (All-from_get_or (λ l. l < leaf_count f) (leaves_of f s) 0
+      (λ i h. leaf_bound f fam s (get_or (leaves_of f s) i 0)
+      (list_any_at (λ x. x == get_or (leaves_of f s) i 0) (leaves_of f s) i 0 h (eq-eqb (get_or (leaves_of f s) i 0) (get_or (leaves_of f s) i 0) refl))))
 
   -- where there is a member there is a node, and its dual is small
   pub members_alive : 0 < length (map (member_of f s) (leaves_of f s)) → IsAlive f s
@@ -100,20 +104,24 @@ module _ (g : Graph) (joined : All (IsEdge g.nodes) g.edges) (d c : ℕ → ℕ)
         h.loads e l ∙ ap₂ gap (same (edge_at g e).a edge.first_end) (same (edge_at g e).b edge.second_end);
     few =
         let counted : inside_count g d y ≡ inside_count g c y =
-        sum_below-same (λ x. cond (is_inside y (d x)) 1 0) (λ x. cond (is_inside y (c x)) 1 0) g.nodes (λ x l. ap (λ v. cond (is_inside y v) 1 0) (same x l)) in
+        sum_below-same (λ x. cond (is_inside y (d x)) 1 0) (λ x. cond (is_inside y (c x)) 1 0) g.nodes
+        (λ x l. ap (λ v. cond (is_inside y v) 1 0) (same x l)) in
         omega (arith, h.few);
   }
 
 -- the heights at a set give its depths
 pub heights_are : (f : Family) (g : Graph) (tables : List Routes) (s : ℕ) (heights near : List ℕ) (members : List Member) (y : ℕ) →
-    Surveys g (height_by tables members y) heights near → members ≡ map (member_of f s) (leaves_of f s) → y ≡ dual_of f s → (x : ℕ) → x < g.nodes → y - noted_at heights x ≡ set_depth f tables s x
+    Surveys g (height_by tables members y) heights near → members ≡ map (member_of f s) (leaves_of f s) → y ≡ dual_of f s → (x : ℕ) → x < g.nodes →
+    y - noted_at heights x ≡ set_depth f tables s x
 heights_are f g tables s heights near members y surveyed set_is dual_is x l =
     let by_list : depth_by tables members y x ≡ set_depth f tables s x =
-    ap (λ ms. depth_by tables ms y x) set_is ∙ ap (λ d. depth_by tables (map (member_of f s) (leaves_of f s)) d x) dual_is ∙ depth_by_members f tables s x (leaves_of f s) (dual_of f s) in
+    ap (λ ms. depth_by tables ms y x) set_is ∙ ap (λ d. depth_by tables (map (member_of f s) (leaves_of f s)) d x) dual_is ∙
+    depth_by_members f tables s x (leaves_of f s) (dual_of f s) in
     omega (arith, surveyed.settled x l, by_list, depth_full f tables s x, dual_is)
 
 -- no height is beyond the dual
-pub heights_full : (g : Graph) (tables : List Routes) (heights near : List ℕ) (members : List Member) (y : ℕ) → Surveys g (height_by tables members y) heights near → All (λ h. h ≤ y) heights
+pub heights_full : (g : Graph) (tables : List Routes) (heights near : List ℕ) (members : List Member) (y : ℕ) →
+    Surveys g (height_by tables members y) heights near → All (λ h. h ≤ y) heights
 heights_full g tables heights near members y s =
     All-from_get_or (λ h. h ≤ y) heights 0 (λ x l. (let low : x < g.nodes = omega (arith, s.count) in omega (arith, s.settled x low)))
 
@@ -136,7 +144,8 @@ Surveys-covers g height heights near s x some =
     ]
 
 -- in a connected graph the tables of terminals have a distance for every node
-pub tables_full : (g : Graph) (terminals : List ℕ) (tables : List Routes) → IsConnected g → AreTerminals g terminals → AreTerminalTables g terminals tables → AreFull g tables
+pub tables_full : (g : Graph) (terminals : List ℕ) (tables : List Routes) → IsConnected g → AreTerminals g terminals →
+    AreTerminalTables g terminals tables → AreFull g tables
 tables_full g terminals tables connected chosen are = record {
   whole = All-from_get_or (IsWhole g.nodes) tables blank_table (λ i l. whole_at i l);
   sources = source_low;
@@ -152,7 +161,8 @@ tables_full g terminals tables connected chosen are = record {
     whole_at i l =
         let t : Routes = table_at tables i in
         let is : IsTableOf g t = are.each i blank_table l in
-        let reached : (x : ℕ) → x < g.nodes → is_reached t x ≡ true = λ x lx. reached_if g t is x lx (connected_reached g connected t.source x (source_low i l) lx) in
+        let reached : (x : ℕ) → x < g.nodes →
+        is_reached t x ≡ true = λ x lx. reached_if g t is x lx (connected_reached g connected t.source x (source_low i l) lx) in
         record { count = is.nodes; reached = reached; signed = λ x lx. distance_signed g t is x lx (reached x lx) }
 
 -- a rising list of numbers below n has at most n of them
@@ -180,12 +190,14 @@ module _ (f : Family) (g : Graph) (tables : List Routes) (name : ℕ) where
     few = omega arith;
   }
 
-  pub Adds-slices : (old new : List Cut) → 0 < dual_of f name → alive_at f name ≡ 1 → Sliced g (set_depth f tables name) (dual_of f name) old new → Adds f g tables name old new
+  pub Adds-slices : (old new : List Cut) → 0 < dual_of f name → alive_at f name ≡ 1 → Sliced g (set_depth f tables name) (dual_of f name) old new →
+      Adds f g tables name old new
   Adds-slices old new some alive s =
       subst (λ xs. Adds f g tables name old xs) (sym s.is) (record {
         are = λ h.
             All-append (IsMoatCut f g tables) old s.more h
-            (All-weaker (IsSlice g (set_depth f tables name) (dual_of f name)) (IsMoatCut f g tables) (λ c i. record { name = name; positive = some; slice = i }) s.more s.slices.are);
+            (All-weaker (IsSlice g (set_depth f tables name) (dual_of f name)) (IsMoatCut f g tables)
+            (λ c i. record { name = name; positive = some; slice = i }) s.more s.slices.are);
         total = omega (arith, sum_by-append cut_weight old s.more, s.slices.total);
         loads = λ e l. omega (arith, sum_by-append (λ c. cond (holds c.edges e) (cut_weight c) 0) old s.more, s.slices.loads e l);
         few = omega (arith, length-append old s.more, s.slices.few, alive);
@@ -200,7 +212,8 @@ module _ (f : Family) (g : Graph) (tables : List Routes) (name : ℕ) where
 pub Gathers-start : (f : Family) (g : Graph) (tables : List Routes) → Gathers f g tables 0 []
 Gathers-start f g tables = record { are = All-nil (IsMoatCut f g tables); total = refl; loads = λ e l. refl; few = omega arith }
 
-pub Gathers-more : (f : Family) (g : Graph) (tables : List Routes) (name : ℕ) (old new : List Cut) → Gathers f g tables name old → Adds f g tables name old new → Gathers f g tables (suc name) new
+pub Gathers-more : (f : Family) (g : Graph) (tables : List Routes) (name : ℕ) (old new : List Cut) → Gathers f g tables name old →
+    Adds f g tables name old new → Gathers f g tables (suc name) new
 Gathers-more f g tables name old new h a = record {
   are = a.are h.are;
   total = omega (arith, a.total, h.total);

@@ -1,5 +1,6 @@
 -- Sums of duals: of the sets within a set that hold a leaf, and of the sets that hold one of two leaves.
-use Rattle.std.proofs.Common.{◌≡◌, ◌≢◌, ℕ, ◌+◌, ◌<◌, ◌≤◌, ◌&&◌, ◌||◌, not, Bool, true, false, cond, eqb, List, [], ◌∷◌, length, Option, Some, None, refl, sym, ap, ap₂, ◌∙◌, subst, inl, inr, arith, eq-eqb}
+use Rattle.std.proofs.Common.{◌≡◌, ◌≢◌, ℕ, ◌+◌, ◌<◌, ◌≤◌, ◌&&◌, ◌||◌, not, Bool, true, false, cond, eqb, List, [], ◌∷◌, length, Option, Some, None, refl, sym}
+use Rattle.std.proofs.Common.{ap, ap₂, ◌∙◌, subst, inl, inr, arith, eq-eqb}
 use Rattle.std.specs.List.{list_all}
 use Rattle.std.specs.Option.{option_map_or}
 use Rattle.std.proofs.lemmas.Bool.{cases_eq, ne_eqb, and_from, and_parts, or_right, false≢true, true≢false, false_from_ne_true}
@@ -22,7 +23,8 @@ cond_le true c v h = let e : c ≡ true = h refl in rw e (omega arith)
 cond_le false c v h = omega arith
 
 -- a leaf of the first set alone, and a leaf of the second set alone
-two_sides : (b c t u : Bool) (v : ℕ) → (b ≡ true → (t ≡ true) × (u ≡ false)) → (c ≡ true → (u ≡ true) × (t ≡ false)) → cond b v 0 + cond c v 0 ≤ cond (xor t u) v 0
+two_sides : (b c t u : Bool) (v : ℕ) → (b ≡ true → (t ≡ true) × (u ≡ false)) → (c ≡ true → (u ≡ true) × (t ≡ false)) →
+    cond b v 0 + cond c v 0 ≤ cond (xor t u) v 0
 two_sides true true t u v h k = absurd (true≢false (sym (h refl).0 ∙ (k refl).1))
 two_sides true false t u v h k = let e : xor t u ≡ true = ap₂ xor (h refl).0 (h refl).1 in rw e (omega arith)
 two_sides false true t u v h k = let e : xor t u ≡ true = ap₂ xor (k refl).1 (k refl).0 in rw e (omega arith)
@@ -100,7 +102,8 @@ module _ (f : Family) where
         | inr ne ↦
             let none : cond {A = ℕ} (eqb s x) (dual_of f s) 0 ≡ 0 = ap (λ b. cond b (dual_of f s) 0) (ne_eqb s x ne) in
             let apart : eqb x s ≡ false = ne_eqb x s (λ e. ne (sym e)) in
-            let moved : share_below f s leaf x ≡ up_to_share s leaf x = ap (λ b. cond (b && holds f x leaf) (dual_of f x) 0) (plain (within f s x) (eqb x s) apart) in
+            let moved : share_below f s leaf x ≡ up_to_share s leaf x = ap (λ b. cond (b && holds f x leaf) (dual_of f x) 0)
+            (plain (within f s x) (eqb x s) apart) in
             omega arith
       ]
 
@@ -116,7 +119,8 @@ module _ (f : Family) where
         sum_below-same (λ n. share leaf (node_at f n)) (λ n. cond (holds f n leaf) (dual_of f n) 0) (length f.nodes) (λ n l. share_is (node_at f n)),
       )
     where
-      share_is : (o : Option Node) → share leaf o ≡ cond (has_leaf (option_map_or (λ (n : Node). n.leaves) o []) leaf) (option_map_or (λ (n : Node). n.dual) o 0) 0
+      share_is : (o : Option Node) → share leaf o ≡ cond (has_leaf (option_map_or (λ (n : Node). n.leaves) o []) leaf)
+          (option_map_or (λ (n : Node). n.dual) o 0) 0
       share_is None = refl
       share_is (Some n) = refl
 
@@ -134,7 +138,9 @@ module _ (f : Family) where
       one_of true false = refl
       one_of false b = refl
 
-      go : (o : Option Node) → cut_share i j o ≡ cond (xor (has_leaf (option_map_or (λ (n : Node). n.leaves) o []) i) (has_leaf (option_map_or (λ (n : Node). n.leaves) o []) j)) (option_map_or (λ (n : Node). n.dual) o 0) 0
+      go : (o : Option Node) → cut_share i j o ≡ cond
+          (xor (has_leaf (option_map_or (λ (n : Node). n.leaves) o []) i) (has_leaf (option_map_or (λ (n : Node). n.leaves) o []) j))
+          (option_map_or (λ (n : Node). n.dual) o 0) 0
       go None = refl
       go (Some n) = ap (λ b. cond b n.dual 0) (one_of (has_leaf n.leaves i) (has_leaf n.leaves j))
 
@@ -152,7 +158,8 @@ module _ (f : Family) where
         inner_and_own s t h,
         between_is t u,
         sum_below-le (up_to_share s t) (between_share t u) (length f.nodes)
-            (λ x l. cond_le (within f s x && holds f x t) (xor (holds f x t) (holds f x u)) (dual_of f x) (λ p. ap₂ xor (separates s x t u out p).0 (separates s x t u out p).1)),
+            (λ x l. cond_le (within f s x && holds f x t) (xor (holds f x t) (holds f x u)) (dual_of f x)
+            (λ p. ap₂ xor (separates s x t u out p).0 (separates s x t u out p).1)),
       )
 
   -- from a leaf of s to a leaf of s', which is disjoint from it
@@ -166,7 +173,8 @@ module _ (f : Family) where
         between_is t u,
         sum_below-add (up_to_share s t) (up_to_share s' u) (length f.nodes),
         sum_below-le (λ x. up_to_share s t x + up_to_share s' u x) (between_share t u) (length f.nodes)
-            (λ x l. two_sides (within f s x && holds f x t) (within f s' x && holds f x u) (holds f x t) (holds f x u) (dual_of f x) (separates s x t u out) (separates s' x u t out')),
+            (λ x l. two_sides (within f s x && holds f x t) (within f s' x && holds f x u) (holds f x t) (holds f x u) (dual_of f x) (separates s x t u out)
+            (separates s' x u t out')),
       )
 
   -- at a leaf of a smaller set within s

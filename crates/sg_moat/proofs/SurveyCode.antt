@@ -26,14 +26,17 @@ module _ (g : Graph) (height : ℕ → ℕ) where
     pub other_in : IsWeb g → EndsAt g node (get_or list i 0) → other < g.nodes
     other_in web ends = subst (λ n. n < g.nodes) (sym other_is) (other_low g (get_or list i 0) node web ends.0)
 
-    pub Spreads-next : (old now new before mid after : List ℕ) → other < g.nodes → Spreads g height node (take i list) old now before mid → Looks height other now new mid after →
+    pub Spreads-next : (old now new before mid after : List ℕ) → other < g.nodes → Spreads g height node (take i list) old now before mid →
+        Looks height other now new mid after →
         Spreads g height node (take (i + 1) list) old new before after
     Spreads-next old now new before mid after in_web s l =
         subst (λ xs. Spreads g height node xs old new before after) (sym (take_more list i 0 low))
-        (Spreads-more g height node (get_or list i 0) (take i list) old now new before mid after (subst (λ n. n < g.nodes) other_is in_web) s (subst (λ n. Looks height n now new mid after) other_is l))
+        (Spreads-more g height node (get_or list i 0) (take i list) old now new before mid after (subst (λ n. n < g.nodes) other_is in_web) s
+        (subst (λ n. Looks height n now new mid after) other_is l))
 
   -- the next member
-  pub Seeds-next : (tables : List Routes) (members : List Member) (i node : ℕ) (now new mid after : List ℕ) → i < length members → node ≡ (table_at tables (get_or members i blank_member).leaf).source →
+  pub Seeds-next : (tables : List Routes) (members : List Member) (i node : ℕ) (now new mid after : List ℕ) → i < length members →
+      node ≡ (table_at tables (get_or members i blank_member).leaf).source →
       node < g.nodes → Looks height node now new mid after → Surveying g height now mid × All (Settled height now) (sources_of tables (take i members)) →
       Surveying g height new after × All (Settled height new) (sources_of tables (take (i + 1) members))
   Seeds-next tables members i node now new mid after low is in_web l h =
@@ -45,11 +48,13 @@ module _ (g : Graph) (height : ℕ → ℕ) where
         goes.surveying h.0,
         subst (λ xs. All (Settled height new) xs) (sym listed)
             (All-push (Settled height new) (sources_of tables (take i members)) node
-            (All-weaker (Settled height now) (Settled height new) goes.stays (sources_of tables (take i members)) h.1) (look_settled g height node now new mid after in_web l h.0)),
+            (All-weaker (Settled height now) (Settled height new) goes.stays (sources_of tables (take i members)) h.1)
+            (look_settled g height node now new mid after in_web l h.0)),
       )
 
   -- the next node
-  pub Flooding-next : (lists : List (List ℕ)) → AreIncident g lists → (old : List ℕ) (next node : ℕ) (list heights new near after : List ℕ) → next < length near → node ≡ get_or near next 0 → list ≡ list_at lists node →
+  pub Flooding-next : (lists : List (List ℕ)) → AreIncident g lists → (old : List ℕ) (next node : ℕ) (list heights new near after : List ℕ) →
+      next < length near → node ≡ get_or near next 0 → list ≡ list_at lists node →
       Flooding g height old next heights near → Spreads g height node list heights new near after → Flooding g height old (next + 1) new after
   Flooding-next lists incident old next node list heights new near after low is list_is f s =
       let in_web : node < g.nodes = subst (λ n. n < g.nodes) (sym is) (f.surveying.low next 0 low) in

@@ -35,7 +35,8 @@ module _ (tables : List Routes) (x : ℕ) where
   depth_bound (m ∷ ms) y (suc k) l = depth_bound ms (min y (far m)) k (omega arith)
 
   -- a depth below y is what some member reaches
-  pub depth_reached : (members : List Member) (y : ℕ) → depth_by tables members y x < y → (k : ℕ) × (k < length members) × (depth_by tables members y x ≡ far (get_or members k blank_member))
+  pub depth_reached : (members : List Member) (y : ℕ) → depth_by tables members y x < y → (k : ℕ) × (k < length members) ×
+      (depth_by tables members y x ≡ far (get_or members k blank_member))
   depth_reached [] y h = absurd (omega arith)
   depth_reached (m ∷ ms) y h = elim (cases_lt (depth_by tables ms (min y (far m)) x) (min y (far m))) [
     | inl less ↦
@@ -44,7 +45,8 @@ module _ (tables : List Routes) (x : ℕ) where
     | inr same ↦ (0, omega arith, omega (arith, depth_le ms (min y (far m))))
   ]
 
-module _ (g : Graph) (web : IsWeb g) (tables : List Routes) (members : List Member) (full : AreFull g tables) (leaves : All (λ (m : Member). m.leaf < length tables) members) (y : ℕ) where
+module _ (g : Graph) (web : IsWeb g) (tables : List Routes) (members : List Member) (full : AreFull g tables)
+    (leaves : All (λ (m : Member). m.leaf < length tables) members) (y : ℕ) where
   abbrev height : ℕ → ℕ
   height = height_by tables members y
 
@@ -59,7 +61,8 @@ module _ (g : Graph) (web : IsWeb g) (tables : List Routes) (members : List Memb
         subst (λ v. IsClosedAt g height heights v) at.2 (f.closed at.0 at.1)
 
     -- along a walk from a node at a distance of at most p from member k
-    along : (k : ℕ) (x : ℕ) → k < length members → (es : List ℕ) (z p : ℕ) → z < g.nodes → distance_from tables (get_or members k blank_member).leaf z ≤ p → Settled height heights z →
+    along : (k : ℕ) (x : ℕ) → k < length members → (es : List ℕ) (z p : ℕ) → z < g.nodes → distance_from tables (get_or members k blank_member).leaf z ≤ p →
+        Settled height heights z →
         IsWalk g z es x → 2 * (p + weight_of g es) - (get_or members k blank_member).inner < y → Settled height heights x
     along k x l [] z p low near_by settled walk short = subst (λ v. Settled height heights v) walk settled
     along k x l (e ∷ es) z p low near_by settled walk short =
@@ -75,7 +78,8 @@ module _ (g : Graph) (web : IsWeb g) (tables : List Routes) (members : List Memb
         subst (λ v. Settled height heights v) (sym (other_only g e z other leads))
         (All-holds (λ d. Settled height heights (other_end z (edge_at g d))) (edges_at g z) e closed (edges_at_leads g z e other leads)) in
         let step : distance_from tables m.leaf other ≤ distance_from tables m.leaf z + edge_weight g e =
-        distance-edge g (table_at tables m.leaf).source z other e (distance_from tables m.leaf z) (distance_from tables m.leaf other) leads (full.distances m.leaf z leaf low) (full.distances m.leaf other leaf next_low) in
+        distance-edge g (table_at tables m.leaf).source z other e (distance_from tables m.leaf z) (distance_from tables m.leaf other) leads
+        (full.distances m.leaf z leaf low) (full.distances m.leaf other leaf next_low) in
         along k x l es other (p + edge_weight g e) next_low (omega arith) next_settled walk.2 (omega arith)
 
     all_settled : (x : ℕ) → x < g.nodes → Settled height heights x
@@ -86,11 +90,13 @@ module _ (g : Graph) (web : IsWeb g) (tables : List Routes) (members : List Memb
           let leaf : m.leaf < length tables = leaves at.0 blank_member at.1 in
           let source : ℕ = (table_at tables m.leaf).source in
           let way : IsDistance g source x (distance_from tables m.leaf x) = full.distances m.leaf x leaf low in
-          let here : distance_from tables m.leaf source ≡ 0 = distance-itself g source (distance_from tables m.leaf source) (full.distances m.leaf source leaf (full.sources m.leaf leaf)) in
+          let here : distance_from tables m.leaf source ≡ 0 = distance-itself g source (distance_from tables m.leaf source)
+          (full.distances m.leaf source leaf (full.sources m.leaf leaf)) in
           let first : Settled height old source =
           subst (λ v. Settled height old v) (get_or-map (λ (m : Member). (table_at tables m.leaf).source) members at.0 blank_member 0 at.1)
           (started at.0 0 (omega (arith, at.1, length-map members (λ (m : Member). (table_at tables m.leaf).source)))) in
-          along at.0 x at.1 way.reached.0 source 0 (full.sources m.leaf leaf) (omega arith) (f.stays source first) way.reached.1 (omega (arith, at.2, way.reached.2))
+          along at.0 x at.1 way.reached.0 source 0 (full.sources m.leaf leaf) (omega arith) (f.stays source first) way.reached.1
+          (omega (arith, at.2, way.reached.2))
       | inr past ↦ elim (f.surveying.right x low) [
         | inl none ↦ omega arith
         | inr settled ↦ settled

@@ -1,8 +1,10 @@
 -- The steps of the search for the nodes of a moat, and what is known at its end: every node on the way to a node of positive
 -- height has positive height, so none is missed.
-use Rattle.std.proofs.Common.{inl, inr, ◌≡◌, ◌≢◌, ◌⊎◌, ◌&&◌, ℕ, zero, suc, ◌+◌, ◌<◌, ◌≤◌, ◌++◌, Bool, true, false, cond, eqb, ltb, List, [], ◌∷◌, length, get_or, set, replicate, refl, sym, ◌∙◌, ap, ap₂, subst, arith, All, Contains, eq-eqb}
+use Rattle.std.proofs.Common.{inl, inr, ◌≡◌, ◌≢◌, ◌⊎◌, ◌&&◌, ℕ, zero, suc, ◌+◌, ◌<◌, ◌≤◌, ◌++◌, Bool, true, false, cond, eqb, ltb, List, [], ◌∷◌, length}
+use Rattle.std.proofs.Common.{get_or, set, replicate, refl, sym, ◌∙◌, ap, ap₂, subst, arith, All, Contains, eq-eqb}
 use Rattle.std.proofs.lemmas.Bool.{cases_eq, cases_lt, ne_eqb, lt-ltb, le-ltb}
-use Rattle.std.proofs.lemmas.List.{append-nil, append_assoc, get_or-set_same, get_or-set_other, get_or-replicate, length-replicate, length-set, get_or_append_left, length-append}
+use Rattle.std.proofs.lemmas.List.{append-nil, append_assoc, get_or-set_same, get_or-set_other, get_or-replicate, length-replicate, length-set}
+use Rattle.std.proofs.lemmas.List.{get_or_append_left, length-append}
 use Rattle.std.proofs.lemmas.List.Elements.{All-append, All-nil, All-push, All-cons, All-weaker}
 use Rattle.std.proofs.lemmas.List.Sums.{sum_by-append, sum_by-cons}
 use Rattle.sg_sums.specs.Sums.{sum_below}
@@ -14,7 +16,8 @@ use Rattle.sg_graph.specs.Incidence.{edges_at}
 use Rattle.sg_moat.specs.Survey.{Floods, Goes, IsClosedAt, Looks, Settled, Spreads, Surveying, noted_at, times_listed}
 
 module _ (height : ℕ → ℕ) (node : ℕ) (old before : List ℕ) where
-  pub Looks-set : node < length old → noted_at old node ≡ 0 → 0 < height node → Looks height node old (set old node (height node)) before (before ++ node ∷ [])
+  pub Looks-set : node < length old → noted_at old node ≡ 0 → 0 < height node →
+      Looks height node old (set old node (height node)) before (before ++ node ∷ [])
   Looks-set low none some = record {
     count = length-set old node (height node);
     here = λ h. get_or-set_same old node (height node) 0 low;
@@ -91,23 +94,27 @@ module _ (g : Graph) (height : ℕ → ℕ) where
         added = cond ((eqb (noted_at old node) 0) && ltb 0 (height node)) (node ∷ []) []
 
         elsewhere : x ≢ node → (b : Bool) → times_listed x (cond b (node ∷ []) []) ≡ 0
-        elsewhere ne true = let e : cond {A = ℕ} (eqb node x) 1 0 ≡ 0 = ap (λ b. cond b 1 0) (ne_eqb node x (λ h. ne (sym h))) in omega (arith, sum_by-cons (λ z. cond (eqb z x) 1 0) node [])
+        elsewhere ne true = let e : cond {A = ℕ} (eqb node x) 1 0 ≡ 0 = ap (λ b. cond b 1 0) (ne_eqb node x (λ h. ne (sym h))) in omega
+            (arith, sum_by-cons (λ z. cond (eqb z x) 1 0) node [])
         elsewhere ne false = refl
 
         one_listed : times_listed node (node ∷ []) ≡ 1
-        one_listed = let e : cond {A = ℕ} (eqb node node) 1 0 ≡ 1 = ap (λ b. cond b 1 0) (eq-eqb node node refl) in omega (arith, sum_by-cons (λ z. cond (eqb z node) 1 0) node [])
+        one_listed = let e : cond {A = ℕ} (eqb node node) 1 0 ≡ 1 = ap (λ b. cond b 1 0) (eq-eqb node node refl) in omega
+            (arith, sum_by-cons (λ z. cond (eqb z node) 1 0) node [])
 
         by_height : noted_at old node ≡ 0 → (height node ≡ 0) ⊎ (0 < height node) → times_listed node (before ++ added) ≡ cond (ltb 0 (noted_at new node)) 1 0
         by_height none (inl flat) =
             let now : noted_at new node ≡ 0 = l.here (inl none) ∙ flat in
-            let nothing : added ≡ [] = ap (λ b. cond b (node ∷ []) []) (ap₂ (λ p q. p && q) (eq-eqb (noted_at old node) 0 none) (le-ltb 0 (height node) (omega arith))) in
+            let nothing : added ≡ [] = ap (λ b. cond b (node ∷ []) [])
+            (ap₂ (λ p q. p && q) (eq-eqb (noted_at old node) 0 none) (le-ltb 0 (height node) (omega arith))) in
             ap (λ xs. times_listed node (before ++ xs)) nothing
             ∙ ap (times_listed node) (append-nil before)
             ∙ s.once node low
             ∙ ap (λ n. cond (ltb 0 n) 1 0) (none ∙ sym now)
         by_height none (inr some) =
             let now : noted_at new node ≡ height node = l.here (inl none) in
-            let one : added ≡ node ∷ [] = ap (λ b. cond b (node ∷ []) []) (ap₂ (λ p q. p && q) (eq-eqb (noted_at old node) 0 none) (lt-ltb 0 (height node) some)) in
+            let one : added ≡ node ∷ [] = ap (λ b. cond b (node ∷ []) [])
+            (ap₂ (λ p q. p && q) (eq-eqb (noted_at old node) 0 none) (lt-ltb 0 (height node) some)) in
             let was : times_listed node before ≡ 0 = s.once node low ∙ ap (λ n. cond (ltb 0 n) 1 0) none in
             let is : cond {A = ℕ} (ltb 0 (noted_at new node)) 1 0 ≡ 1 = ap (λ b. cond b 1 0) (lt-ltb 0 (noted_at new node) (omega arith)) in
             ap (λ xs. times_listed node (before ++ xs)) one
@@ -149,7 +156,9 @@ module _ (g : Graph) (height : ℕ → ℕ) where
           ]
         ];
         once = look_once s;
-        low = subst (λ xs. All (λ x. x < g.nodes) xs) (sym l.listed) (All-append (λ x. x < g.nodes) before (cond ((eqb (noted_at old node) 0) && ltb 0 (height node)) (node ∷ []) []) s.low (one_low ((eqb (noted_at old node) 0) && ltb 0 (height node))));
+        low = subst (λ xs. All (λ x. x < g.nodes) xs) (sym l.listed)
+            (All-append (λ x. x < g.nodes) before (cond ((eqb (noted_at old node) 0) && ltb 0 (height node)) (node ∷ []) []) s.low
+            (one_low ((eqb (noted_at old node) 0) && ltb 0 (height node))));
       };
       stays = look_stays;
       more = cond ((eqb (noted_at old node) 0) && ltb 0 (height node)) (node ∷ []) [];
@@ -167,7 +176,8 @@ module _ (g : Graph) (height : ℕ → ℕ) where
   pub Spreads-none : (node : ℕ) (old before : List ℕ) → Spreads g height node [] old old before before
   Spreads-none node old before = record { goes = Goes-none old before; spread = λ s. All-nil (λ e. Settled height old (other_end node (edge_at g e))) }
 
-  pub Spreads-more : (node e : ℕ) (edges old now new before mid after : List ℕ) → other_end node (edge_at g e) < g.nodes → Spreads g height node edges old now before mid →
+  pub Spreads-more : (node e : ℕ) (edges old now new before mid after : List ℕ) → other_end node (edge_at g e) < g.nodes →
+      Spreads g height node edges old now before mid →
       Looks height (other_end node (edge_at g e)) now new mid after → Spreads g height node (edges ++ e ∷ []) old new before after
   Spreads-more node e edges old now new before mid after low s l =
       let other : ℕ = other_end node (edge_at g e) in
@@ -176,7 +186,8 @@ module _ (g : Graph) (height : ℕ → ℕ) where
         goes = Goes-on old now new before mid after s.goes goes;
         spread = λ begun.
             All-push (λ e. Settled height new (other_end node (edge_at g e))) edges e
-            (All-weaker (λ e. Settled height now (other_end node (edge_at g e))) (λ e. Settled height new (other_end node (edge_at g e))) (λ e h. goes.stays (other_end node (edge_at g e)) h) edges (s.spread begun))
+            (All-weaker (λ e. Settled height now (other_end node (edge_at g e))) (λ e. Settled height new (other_end node (edge_at g e)))
+            (λ e h. goes.stays (other_end node (edge_at g e)) h) edges (s.spread begun))
             (look_settled other now new mid after low l (s.goes.surveying begun));
       }
 
@@ -185,7 +196,9 @@ module _ (g : Graph) (height : ℕ → ℕ) where
   listed_short heights near s =
       let total = times_total (λ (x : ℕ). x) near 0 g.nodes (λ i l. s.low i 0 l) in
       let each : sum_below (λ x. times (λ (z : ℕ). z) x near) g.nodes ≤ sum_below (λ x. 1) g.nodes =
-      sum_below-le (λ x. times (λ (z : ℕ). z) x near) (λ x. 1) g.nodes (λ x l. (let e : times (λ (z : ℕ). z) x near ≡ cond (ltb 0 (noted_at heights x)) 1 0 = s.once x l in omega (arith, cond_small (ltb 0 (noted_at heights x))))) in
+      sum_below-le (λ x. times (λ (z : ℕ). z) x near) (λ x. 1) g.nodes
+      (λ x l. (let e : times (λ (z : ℕ). z) x near ≡ cond (ltb 0 (noted_at heights x)) 1 0 =
+      s.once x l in omega (arith, cond_small (ltb 0 (noted_at heights x))))) in
       omega (arith, sum_below_ones g.nodes)
 
   -- the nodes listed before place `next` are closed
@@ -201,7 +214,8 @@ module _ (g : Graph) (height : ℕ → ℕ) where
   pub Flooding-more : (old : List ℕ) (next : ℕ) (heights new near after : List ℕ) → next < length near → Flooding old next heights near →
       Spreads g height (get_or near next 0) (edges_at g (get_or near next 0)) heights new near after → Flooding old (next + 1) new after
   Flooding-more old next heights new near after low f s =
-      let same : (j : ℕ) → j < length near → get_or after j 0 ≡ get_or near j 0 = λ j l. ap (λ xs. get_or xs j 0) s.goes.grows ∙ get_or_append_left near s.goes.more 0 j l in
+      let same : (j : ℕ) → j < length near → get_or after j 0 ≡ get_or near j 0 = λ j l. ap (λ xs. get_or xs j 0) s.goes.grows ∙
+      get_or_append_left near s.goes.more 0 j l in
       record {
         surveying = s.goes.surveying f.surveying;
         stays = λ x h. s.goes.stays x (f.stays x h);
@@ -212,13 +226,15 @@ module _ (g : Graph) (height : ℕ → ℕ) where
           | inr ne ↦
               let here : get_or after j 0 ≡ get_or near j 0 = same j (omega (arith, f.within)) in
               subst (λ z. IsClosedAt g height new z) (sym here)
-              (All-weaker (λ e. Settled height heights (other_end (get_or near j 0) (edge_at g e))) (λ e. Settled height new (other_end (get_or near j 0) (edge_at g e)))
+              (All-weaker (λ e. Settled height heights (other_end (get_or near j 0) (edge_at g e)))
+              (λ e. Settled height new (other_end (get_or near j 0) (edge_at g e)))
               (λ e h. s.goes.stays (other_end (get_or near j 0) (edge_at g e)) h) (edges_at g (get_or near j 0)) (f.closed j (omega arith)))
         ];
         within = omega (arith, f.within, ap length s.goes.grows, length-append near s.goes.more);
       }
 
-  pub Flooding-end : (old : List ℕ) (next : ℕ) (heights near : List ℕ) → next ≡ length near → Flooding old next heights near → Floods g height old heights near
+  pub Flooding-end : (old : List ℕ) (next : ℕ) (heights near : List ℕ) → next ≡ length near → Flooding old next heights near →
+      Floods g height old heights near
   Flooding-end old next heights near all f = record { surveying = f.surveying; stays = f.stays; closed = λ j l. f.closed j (omega arith) }
 
 -- what is still noted is still listed
@@ -230,9 +246,11 @@ pub record Clearing (n : ℕ) (heights near : List ℕ) : Type 0 where
 pub Clearing-more : (n : ℕ) (heights near rest : List ℕ) (x : ℕ) → near ≡ rest ++ x ∷ [] → Clearing n heights near → Clearing n (set heights x 0) rest
 Clearing-more n heights near rest x is h = record {
   count = length-set heights x 0 ∙ h.count;
-  low = λ k d l. subst (λ v. v < n) (get_or_append_left rest (x ∷ []) d k l) (subst (λ xs. All (λ x. x < n) xs) is h.low k d (omega (arith, length-append rest (x ∷ []))));
+  low = λ k d l. subst (λ v. v < n) (get_or_append_left rest (x ∷ []) d k l)
+      (subst (λ xs. All (λ x. x < n) xs) is h.low k d (omega (arith, length-append rest (x ∷ []))));
   covers = λ z some. elim (cases_eq z x) [
-    | inl e ↦ absurd (let low : x < length heights = omega (arith, h.count, in_list) in let none : noted_at (set heights x 0) z ≡ 0 = ap (noted_at (set heights x 0)) e ∙ get_or-set_same heights x 0 0 low in omega arith)
+    | inl e ↦ absurd (let low : x < length heights = omega (arith, h.count, in_list) in let none : noted_at (set heights x 0) z ≡ 0 =
+        ap (noted_at (set heights x 0)) e ∙ get_or-set_same heights x 0 0 low in omega arith)
     | inr ne ↦ Contains-other rest x z ne (subst (λ xs. Contains xs z) is (h.covers z (omega (arith, get_or-set_other heights x z 0 0 ne))))
   ];
 }

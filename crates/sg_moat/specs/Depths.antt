@@ -16,7 +16,8 @@ pub record IsWhole (nodes : ℕ) (t : Routes) : Type 0 where
 pub record AreFull (g : Graph) (tables : List Routes) : Type 0 where
   pub whole : All (IsWhole g.nodes) tables
   pub sources : (i : ℕ) → i < length tables → (table_at tables i).source < g.nodes
-  pub distances : (i x : ℕ) → i < length tables → x < g.nodes → IsDistance g (table_at tables i).source x (distance_from tables i x)
+  pub distances : (i x : ℕ) → i < length tables → x < g.nodes →
+      IsDistance g (table_at tables i).source x (distance_from tables i x)
 
 -- the least of y and of the doubled distances to the members, each less its duals inside
 abbrev pub depth_by : List Routes → List Member → ℕ → ℕ → ℕ

@@ -35,5 +35,6 @@ pub record Adds (f : Family) (g : Graph) (tables : List Routes) (name : ℕ) (ol
 pub record Gathers (f : Family) (g : Graph) (tables : List Routes) (upto : ℕ) (cuts : List Cut) : Type 0 where
   pub are : All (IsMoatCut f g tables) cuts
   pub total : sum_by cut_weight cuts ≡ sum_below (dual_of f) upto
-  pub loads : (e : ℕ) → e < edge_count g → cut_load cuts e ≡ sum_below (λ s. change_over g (set_depth f tables s) e) upto
+  pub loads : (e : ℕ) → e < edge_count g →
+      cut_load cuts e ≡ sum_below (λ s. change_over g (set_depth f tables s) e) upto
   pub few : length cuts ≤ sum_below (λ s. alive_at f s + inside_count g (set_depth f tables s) (dual_of f s)) upto

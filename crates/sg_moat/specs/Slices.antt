@@ -1,5 +1,6 @@
 -- The cuts at the levels of one set, by the depths of the nodes.
-use Rattle.std.specs.Prelude.{◌≡◌, ℕ, ◌+◌, ◌-◌, ◌<◌, ◌≤◌, ◌≤ℤ◌, ◌&&◌, ◌++◌, pos, Bool, List, length, All, sum_by, nat_lt, cond}
+use Rattle.std.specs.Prelude.{◌≡◌, ℕ, ◌+◌, ◌-◌, ◌<◌, ◌≤◌, ◌≤ℤ◌, ◌&&◌, ◌++◌, pos, Bool, List, length, All, sum_by}
+use Rattle.std.specs.Prelude.{nat_lt, cond}
 use Rattle.sg_sums.specs.Sums.{sum_below}
 use Rattle.sg_sums.specs.Sets.{chosen_below}
 use Rattle.sg_graph.specs.declared.cut.Cut.{Cut}

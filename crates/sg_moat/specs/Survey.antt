@@ -1,5 +1,6 @@
 -- The search for the nodes of one moat: heights of nodes, 0 where nothing was noted, and a list of the nodes noted.
-use Rattle.std.specs.Prelude.{◌≡◌, ◌≢◌, ◌⊎◌, ◌&&◌, ◌==◌, ℕ, ◌-◌, ◌<◌, ◌++◌, nat_lt, cond, List, [], ◌∷◌, length, map, slice_index, slice_index_or, All, count_by}
+use Rattle.std.specs.Prelude.{◌≡◌, ◌≢◌, ◌⊎◌, ◌&&◌, ◌==◌, ℕ, ◌-◌, ◌<◌, ◌++◌, nat_lt, cond, List, [], ◌∷◌, length, map}
+use Rattle.std.specs.Prelude.{slice_index, slice_index_or, All, count_by}
 use Rattle.sg_graph.specs.Web.{Graph, edge_at}
 use Rattle.sg_graph.specs.Walk.{other_end}
 use Rattle.sg_graph.specs.Incidence.{edges_at}

@@ -17,12 +17,14 @@ overflow_add-inner c =
     omega (
       arith,
       c.dual-inner.ensures,
-      Climbing-bound c.args.family.now c.room-room.ensures.family c.args.leaf c.loop-parent.at c.loop-parent.inner c.args.members.now c.loop-parent.members c.loop-parent.invariant,
+      Climbing-bound c.args.family.now c.room-room.ensures.family c.args.leaf c.loop-parent.at c.loop-parent.inner c.args.members.now c.loop-parent.members
+          c.loop-parent.invariant,
     )
 
 pub loop-parent-smaller : goal.loop-parent-smaller
 loop-parent-smaller c =
-    room_falls c.args.family.now c.room-room.ensures.family c.args.leaf c.loop-parent.at c.in-Some.parent c.in-Some.ensures.0 c.loop-parent.invariant.held c.in-Some.ensures.1
+    room_falls c.args.family.now c.room-room.ensures.family c.args.leaf c.loop-parent.at c.in-Some.parent c.in-Some.ensures.0 c.loop-parent.invariant.held
+    c.in-Some.ensures.1
 
 pub loop-parent-preserved : goal.loop-parent-preserved
 loop-parent-preserved c =
@@ -34,8 +36,10 @@ loop-parent-preserved c =
     let inner = c.loop-parent.inner in
     subst (λ ls. Climbing f leaf p (inner + c.dual-inner.result) old ls) (sym c.in_ok-note-2.ensures)
     (subst (λ d. Climbing f leaf p (inner + d) old (set now p (list_at now p ++ (record { leaf = leaf; inner = inner + d }) ∷ []))) (sym c.dual-inner.ensures)
-    (Climbing-step f c.room-room.ensures.family leaf c.loop-parent.at p c.in-Some.ensures.0 c.loop-parent.invariant.held c.in-Some.ensures.1 inner old now c.requires.names c.loop-parent.invariant))
+    (Climbing-step f c.room-room.ensures.family leaf c.loop-parent.at p c.in-Some.ensures.0 c.loop-parent.invariant.held c.in-Some.ensures.1 inner old now
+    c.requires.names c.loop-parent.invariant))
 
 pub returns : goal.returns
 returns c =
-    Climbing-top c.args.family.now c.room-room.ensures.family c.args.leaf c.loop-parent.at c.loop-parent.inner c.args.members.now c.loop-parent.members c.in_default.ensures c.loop-parent.invariant
+    Climbing-top c.args.family.now c.room-room.ensures.family c.args.leaf c.loop-parent.at c.loop-parent.inner c.args.members.now c.loop-parent.members
+    c.in_default.ensures c.loop-parent.invariant

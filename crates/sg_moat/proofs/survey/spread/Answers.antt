@@ -12,6 +12,8 @@ loop-k-preserved c =
     let height = height_by c.args.tables.now c.args.members.now c.args.y in
     let low : c.loop-k.k-index < length c.args.edges_here.now = omega arith in
     let same = c.as_slice-edges.ensures ∙ c.edges.ensures.value in
-    let in_web = other_in g height c.args.node c.args.edges_here.now c.loop-k.k-index c.other-other.result c.as_slice-edges.result.now low same c.other-other.ensures c.edges.ensures.web (c.requires.here c.loop-k.k-index 0 low) in
+    let in_web = other_in g height c.args.node c.args.edges_here.now c.loop-k.k-index c.other-other.result c.as_slice-edges.result.now low same
+    c.other-other.ensures c.edges.ensures.web (c.requires.here c.loop-k.k-index 0 low) in
     Spreads-next g height c.args.node c.args.edges_here.now c.loop-k.k-index c.other-other.result c.as_slice-edges.result.now low same c.other-other.ensures
-    c.args.heights.now.items c.loop-k.heights.items c.look.new.heights.items c.args.near.now.items c.loop-k.near.items c.look.new.near.items in_web c.loop-k.invariant c.in_ok-look.ensures
+    c.args.heights.now.items c.loop-k.heights.items c.look.new.heights.items c.args.near.now.items c.loop-k.near.items c.look.new.near.items in_web
+    c.loop-k.invariant c.in_ok-look.ensures
