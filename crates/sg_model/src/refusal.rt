@@ -57,6 +57,16 @@ pub enum Refusal {
     /// Number 17: no law of disorder has the name that was given.
     #[error("UnknownLaw")]
     UnknownLaw,
+    /// Number 18: an input that begins as a JSON object is none.
+    #[error("BadJson")]
+    BadJson,
+    /// Number 19: the member at this place is missing, does not belong, or is no number or list of
+    /// its form; `item` is the first wrong entry of a list, and else 0.
+    #[error("BadMember")]
+    BadMember { place: u32, item: u32 },
+    /// Number 20: a JSON input has more bytes than the limit.
+    #[error("JsonTooLong")]
+    JsonTooLong { limit: u64 },
 }
 
 /// Why a call that reads or builds an instance has none to give.

@@ -8,7 +8,7 @@ use csv::ByteRecord;
 const MARK: &[u8] = b"\xEF\xBB\xBF";
 
 /// The text behind all the byte-order marks at its front.
-pub(crate) fn without_marks(text: &[u8]) -> &[u8]
+pub fn without_marks(text: &[u8]) -> &[u8]
     ensures { result.now ≡ without_marks_of text.now }
 {
     let mut rest = text;

@@ -21,8 +21,10 @@ const GENERAL: &[u8] = b"general";
 
 /// The form of an instance, which the first word of its text names.
 #[derive(Clone, Copy)]
-pub(crate) enum Form {
+pub enum Form {
+    /// A lattice of this kind.
     Lattice(Kind),
+    /// An instance with its own bonds and rotation.
     General,
 }
 
@@ -33,9 +35,9 @@ pub(crate) enum Header {
     General { n: u32 },
 }
 
-// The form that a word names.
+/// The form that a word names, if it is one of the five.
 #[tactic(auto, unfolding(crate::specs::Header::form_of))]
-fn form_named(word: &[u8]) -> Option<Form>
+pub fn form_named(word: &[u8]) -> Option<Form>
     ensures { result ≡ form_of word.now }
 {
     if word == SQUARE {
@@ -53,7 +55,8 @@ fn form_named(word: &[u8]) -> Option<Form>
     }
 }
 
-fn least_cols(kind: Kind) -> u32
+/// The least number of columns of a lattice.
+pub fn least_cols(kind: Kind) -> u32
     ensures value { result ≡ least_cols_of kind }
     ensures some { 1 ≤ result }
 {

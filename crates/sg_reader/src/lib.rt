@@ -29,6 +29,9 @@ mod result;
 mod row;
 mod rows;
 
+pub use field::without_marks;
+pub use header::{Form, form_named, least_cols};
+pub use limits::SPIN_LIMIT;
 pub use numeral::number;
 pub use read::{no_more, read_instance};
 pub use result::read_result;

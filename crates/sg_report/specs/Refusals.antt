@@ -1,7 +1,7 @@
 -- The number of each refusal, and the numbers that it keeps.
 use Rattle.std.specs.Prelude.{ℤ, pos, List, [], ◌∷◌}
 use Rattle.sg_model.specs.declared.refusal.Refusal.{Refusal}
-use Rattle.sg_model.specs.declared.refusal.Refusal.TheVariants.{TooLong, Unended, BadNumber, UnknownKind, BadShape, CouplingCount, TooManySpins, TooManyBonds, SelfBond, BadRotation, BadSeam, Trailing, SumTooLarge, NotConnected, NotPlanar, NoSeam, UnknownLaw}
+use Rattle.sg_model.specs.declared.refusal.Refusal.TheVariants.{TooLong, Unended, BadNumber, UnknownKind, BadShape, CouplingCount, TooManySpins, TooManyBonds, SelfBond, BadRotation, BadSeam, Trailing, SumTooLarge, NotConnected, NotPlanar, NoSeam, UnknownLaw, BadJson, BadMember, JsonTooLong}
 
 abbrev pub refusal_numbers : Refusal → List ℤ
 refusal_numbers (TooLong limit) = pos 1 ∷ pos limit ∷ []
@@ -21,3 +21,6 @@ refusal_numbers (NotConnected spin) = pos 14 ∷ pos spin ∷ []
 refusal_numbers (NotPlanar euler) = pos 15 ∷ euler ∷ []
 refusal_numbers NoSeam = pos 16 ∷ []
 refusal_numbers UnknownLaw = pos 17 ∷ []
+refusal_numbers BadJson = pos 18 ∷ []
+refusal_numbers (BadMember place entry) = pos 19 ∷ pos place ∷ pos entry ∷ []
+refusal_numbers (JsonTooLong limit) = pos 20 ∷ pos limit ∷ []

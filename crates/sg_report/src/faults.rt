@@ -37,6 +37,11 @@ pub fn refusal_text(alloc: Global, refusal: &Refusal) -> Result<Vec<u8>, NoMemor
         Refusal::NotPlanar { euler } => one_line(alloc, word, &[15, i128::from(*euler)]),
         Refusal::NoSeam => one_line(alloc, word, &[16]),
         Refusal::UnknownLaw => one_line(alloc, word, &[17]),
+        Refusal::BadJson => one_line(alloc, word, &[18]),
+        Refusal::BadMember { place, item } => {
+            one_line(alloc, word, &[19, i128::from(*place), i128::from(*item)])
+        }
+        Refusal::JsonTooLong { limit } => one_line(alloc, word, &[20, i128::from(*limit)]),
     }
 }
 

@@ -1,0 +1,20 @@
+use Rattle.std.proofs.Common.{◌≡◌, ◌∙◌, ℕ, sym, ap, refl, Option, option_map, List, [], ◌∷◌, Bool, ◌&&◌, string_bytes, String, Global}
+use Rattle.std.specs.Prelude.{unwrap_or}
+use Rattle.std.specs.List.{list_all}
+use Rattle.std.specs.Map.{keys_of}
+use Rattle.serde_json.specs.Data.{Members}
+use Rattle.serde_json.specs.View.{members_view, view}
+use Rattle.serde_json.specs.declared.value.Value.{Value}
+use Rattle.sg_json.specs.Values.{named}
+use Rattle.sg_json.specs.Members.{is_known}
+use Rattle.sg_json.proofs.form.has_known_names.Goals as goal
+
+-- a test of all names is one of all keys
+all_keys : (t : List ℕ → Bool) (es : List (String Global × Value)) → list_all t (named (members_view es)) ≡ list_all (λ k. t (string_bytes k)) (keys_of es)
+all_keys t [] = refl
+all_keys t (e ∷ es) = ap (λ (b : Bool). t (string_bytes e.0) && b) (all_keys t es)
+
+pub returns-in-Some : goal.returns-in-Some
+returns-in-Some c =
+    c.has_known_keys.ensures ∙ sym (all_keys (is_known c.args.form) c.in-Some.map.now.entries)
+    ∙ ap (λ (o : Option Members). list_all (is_known c.args.form) (unwrap_or (option_map named o) [])) c.in-Some.ensures

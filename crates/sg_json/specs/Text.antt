@@ -1,0 +1,20 @@
+-- Which inputs are JSON, and how long they may be.
+use Rattle.std.specs.Prelude.{ℕ, ◌==◌, ◌||◌, Bool, false, List, [], ◌∷◌}
+use Rattle.sg_reader.specs.Field.{after_front, without_marks}
+
+-- the most bytes of an input that is read as JSON, 64 MiB
+abbrev pub json_limit : ℕ
+json_limit = 67108864
+
+-- a space, a tab, a carriage return or a line feed
+abbrev pub is_white : ℕ → Bool
+is_white byte = (byte == 32) || (byte == 9) || (byte == 13) || (byte == 10)
+
+-- the list begins with `{`
+abbrev pub opens : List ℕ → Bool
+opens [] = false
+opens (byte ∷ rest) = byte == 123
+
+-- the first byte that is no white space, behind all byte-order marks, is `{`
+abbrev pub is_object_text : List ℕ → Bool
+is_object_text bytes = opens (after_front is_white (without_marks bytes))

@@ -1,0 +1,101 @@
+-- Numbers, lists and members in the data of a JSON text.
+use Rattle.std.specs.Prelude.{ℕ, ◌^◌, ◌==◌, ◌&&◌, ℤ, pos, negsuc, int_le, nat_lt, unsigned_abs, List, [], ◌∷◌, length, map, slice_index_or}
+use Rattle.std.specs.Prelude.{Bool, false, if◌then◌else◌, Option, Some, None, option_map, option_and_then, is_some, unwrap_or}
+use Rattle.std.specs.List.{list_all}
+use Rattle.serde_json.specs.Data.{Data, null, Items, no_items, item, Members, no_members, member}
+use Rattle.serde_json.specs.Find.{get, as_number, as_i64, as_array, as_object}
+use Rattle.sg_model.specs.declared.bond.Bond.{Bond}
+
+-- the items of an array, and the names of an object, as lists
+abbrev pub listed : Items → List Data
+listed no_items = []
+listed (item d ds) = d ∷ listed ds
+
+abbrev pub named : Members → List (List ℕ)
+named no_members = []
+named (member name d ms) = name ∷ named ms
+
+-- the number, from -9223372036854775807 to 9223372036854775807
+abbrev pub in_range : ℤ → Option ℤ
+in_range z = if int_le (negsuc 9223372036854775806) z && int_le z (pos 9223372036854775807) then Some z else None
+
+-- a whole number, as `serde_json` reads it
+abbrev pub whole : Data → Option ℤ
+whole d = option_and_then in_range (option_and_then as_i64 (as_number d))
+
+-- the number, from 0 to 4294967295
+abbrev pub from_zero : ℤ → Option ℕ
+from_zero z = if int_le (pos 0) z && int_le z (pos 4294967295) then Some (unsigned_abs z) else None
+
+abbrev pub index : Data → Option ℕ
+index d = option_and_then from_zero (whole d)
+
+-- the number of a value, and 0 where it has none
+abbrev pub number_of : Data → ℤ
+number_of d = unwrap_or (whole d) (pos 0)
+
+abbrev pub index_of : Data → ℕ
+index_of d = unwrap_or (index d) 0
+
+-- the items of a list, and none where the value is no list
+abbrev pub list_in : Data → Option (List Data)
+list_in d = option_map listed (as_array d)
+
+abbrev pub items_in : Data → List Data
+items_in d = unwrap_or (list_in d) []
+
+-- item i, and null past the last
+abbrev pub item_at : List Data → ℕ → Data
+item_at ds i = slice_index_or ds i null
+
+-- the list of a member, its items, and a number of at least `least` in a member
+abbrev pub list_at : List ℕ → Data → Option (List Data)
+list_at name d = option_map listed (option_and_then as_array (get name d))
+
+abbrev pub items_at : List ℕ → Data → List Data
+items_at name d = unwrap_or (list_at name d) []
+
+abbrev pub at_least : ℕ → ℤ → Option ℕ
+at_least least z = if int_le (pos least) z then Some (unsigned_abs z) else None
+
+abbrev pub size_at : List ℕ → ℕ → Data → Option ℕ
+size_at name least d = option_and_then (at_least least) (option_and_then whole (get name d))
+
+-- the names of the members
+abbrev pub names_in : Data → List (List ℕ)
+names_in d = unwrap_or (option_map named (as_object d)) []
+
+-- what the entries of the lists must be: numbers; three numbers, the first two of them spins; lists of indices; indices
+abbrev pub is_whole : Data → Bool
+is_whole d = is_some (whole d)
+
+abbrev pub is_index : Data → Bool
+is_index d = is_some (index d)
+
+abbrev pub is_below : ℕ → Option ℕ → Bool
+is_below n None = false
+is_below n (Some k) = nat_lt k n
+
+abbrev pub is_triple : ℕ → List Data → Bool
+is_triple n ds =
+    (length ds == 3) && (is_below n (index (item_at ds 0)) && (is_below n (index (item_at ds 1)) && is_whole (item_at ds 2)))
+
+abbrev pub is_bond : ℕ → Data → Bool
+is_bond n d = is_triple n (items_in d)
+
+abbrev pub are_indices : Option (List Data) → Bool
+are_indices None = false
+are_indices (Some ds) = list_all is_index ds
+
+abbrev pub is_index_list : Data → Bool
+is_index_list d = are_indices (list_in d)
+
+-- the bond of three numbers, and the indices of a list
+abbrev pub triple : List Data → Bond
+triple ds = record { u = index_of (item_at ds 0); v = index_of (item_at ds 1); j = number_of (item_at ds 2) }
+
+abbrev pub bond_of : Data → Bond
+bond_of d = triple (items_in d)
+
+abbrev pub indices_of : Data → List ℕ
+indices_of d = map index_of (items_in d)

@@ -1,0 +1,92 @@
+ghost use Rattle.std.specs.Prelude.{◌≡◌, map, IfOk};
+ghost use Rattle.serde_json.specs.View.{view};
+ghost use Rattle.sg_json.specs.Values.{bond_of, index_of, indices_of, item_at, number_of};
+
+use super::NoMemory;
+use super::value::{index_or_zero, items, number_or_zero};
+use serde_json::Value;
+use sg_model::{Bond, BondList, Bonds, Couplings, Rotation};
+use std::alloc::Global;
+
+/// The couplings of a lattice.
+pub(crate) fn couplings(alloc: Global, items: &[Value]) -> Result<Couplings, NoMemory>
+    ensures { IfOk result (λ l. l ≡ map (λ v. number_of (view v)) items.now) }
+{
+    let mut list = Couplings::new(alloc);
+    for item in items {
+        list.push(number_or_zero(item))?;
+    }
+    Ok(list)
+}
+
+/// The bonds of a seam, or the darts of a spin.
+pub(crate) fn indices(alloc: Global, items: &[Value]) -> Result<BondList, NoMemory>
+    ensures { IfOk result (λ l. l ≡ map (λ v. index_of (view v)) items.now) }
+{
+    let mut list = BondList::new(alloc);
+    for item in items {
+        list.push(index_or_zero(item))?;
+    }
+    Ok(list)
+}
+
+// The index at a place of a list, and 0 past its end.
+fn index_at(numbers: &[Value], i: usize) -> u32
+    ensures { result ≡ index_of (item_at (map view numbers.now) i) }
+{
+    match numbers.get(i) {
+        Some(number) => index_or_zero(number),
+        None => 0,
+    }
+}
+
+// The number at a place of a list, and 0 past its end.
+fn number_at(numbers: &[Value], i: usize) -> i64
+    ensures { result ≡ number_of (item_at (map view numbers.now) i) }
+{
+    match numbers.get(i) {
+        Some(number) => number_or_zero(number),
+        None => 0,
+    }
+}
+
+// The bond of a list of three numbers.
+fn bond(value: &Value) -> Bond
+    ensures { result ≡ bond_of (view value.now) }
+{
+    let numbers = items(value);
+    Bond {
+        u: index_at(numbers, 0),
+        v: index_at(numbers, 1),
+        j: number_at(numbers, 2),
+    }
+}
+
+/// The bonds of a general instance.
+pub(crate) fn bonds(alloc: Global, items: &[Value]) -> Result<Bonds, NoMemory>
+    ensures { IfOk result (λ l. l ≡ map (λ v. bond_of (view v)) items.now) }
+{
+    let mut list = Bonds::new(alloc);
+    for item in items {
+        list.push(bond(item))?;
+    }
+    Ok(list)
+}
+
+// The darts of a spin.
+fn darts(alloc: Global, value: &Value) -> Result<BondList, NoMemory>
+    ensures { IfOk result (λ l. l ≡ indices_of (view value.now)) }
+{
+    indices(alloc, items(value))
+}
+
+/// The darts of each spin.
+pub(crate) fn rotation(alloc: Global, lists: &[Value]) -> Result<Rotation, NoMemory>
+    ensures { IfOk result (λ l. l ≡ map (λ v. indices_of (view v)) lists.now) }
+{
+    let mut rotation = Rotation::new(alloc);
+    for list in lists {
+        rotation.push(darts(alloc, list)?)?;
+    }
+    Ok(rotation)
+}

@@ -1,0 +1,30 @@
+//! Reads Ising instances from JSON: a lattice with its couplings, or a general graph with its bonds
+//! and the cyclic order of the darts round each spin.
+//!
+//! `is_json` tells such an input by its first byte, and `read_json` gives its instance or the one
+//! refusal that names its first fault, by member and entry. What a text is as data is the definition
+//! of `serde_json`; all tests are made on that data.
+//!
+//! For the next engineer: `specs/Members.antt` is the table of tests, `specs/ReadJson.antt` says what
+//! a text gives and why it is refused. In the code `read.rt` is the way through, `lattice.rt` and
+//! `general.rt` read the two forms, `size.rt`, `seam.rt` and `entry.rt` test members and lists, `value.rt` looks into values and
+//! `build.rt` makes the lists of an instance.
+#![tactic(auto)]
+
+mod build;
+mod entry;
+mod form;
+mod general;
+mod lattice;
+mod read;
+mod seam;
+mod size;
+mod text;
+mod value;
+
+pub use read::read_json;
+use std::alloc::AllocError;
+pub use text::is_json;
+
+/// The allocator had no memory left.
+pub type NoMemory = AllocError;

@@ -1,0 +1,47 @@
+ghost use Rattle.std.specs.Prelude.{◌≡◌};
+ghost use Rattle.sg_reader.specs.Field.{after_front};
+ghost use Rattle.sg_json.specs.Text.{is_object_text, is_white as is_white_byte, json_limit, opens as opens_list};
+
+use sg_reader::without_marks;
+
+/// The most bytes of an input that is read as JSON, 64 MiB: as a value it takes some twenty times
+/// its bytes.
+pub(crate) const JSON_LIMIT: usize = 67_108_864;
+
+/// The constant is the numeral of the definition. It computes nothing.
+pub fn limit_is_as_stated()
+    ensures { JSON_LIMIT ≡ json_limit }
+{}
+
+fn is_white(byte: u8) -> bool
+    ensures { result ≡ is_white_byte byte }
+{
+    byte == b' ' || byte == b'\t' || byte == b'\r' || byte == b'\n'
+}
+
+fn after_white(text: &[u8]) -> &[u8]
+    ensures { result.now ≡ after_front is_white_byte text.now }
+{
+    let mut start = 0;
+    while start < text.len() && is_white(text[start]) {
+        start += 1;
+    }
+    &text[start..]
+}
+
+fn opens(text: &[u8]) -> bool
+    ensures { result ≡ opens_list text.now }
+{
+    match text {
+        [first, ..] => *first == b'{',
+        [] => false,
+    }
+}
+
+/// Whether an input is JSON: its first byte that is no white space, behind all byte-order marks, is
+/// `{`. In time linear in what stands in front of it, and without memory.
+pub fn is_json(bytes: &[u8]) -> bool
+    ensures { result ≡ is_object_text bytes.now }
+{
+    opens(after_white(without_marks(bytes)))
+}
