@@ -1,5 +1,5 @@
 -- From what the calls of the readers and of the planar test say to the first fault of a text.
-use Rattle.std.proofs.Common.{ℕ, ◌<◌, ◌≤◌, List, length, Option, None, Some, arith}
+use Rattle.std.proofs.Common.{◌≡◌, ℕ, ◌<◌, ◌≤◌, true, false, List, length, Option, None, Some, arith}
 use Rattle.sg_limits.specs.Limits.{input_limit}
 use Rattle.sg_io.specs.Devices.{Told}
 use Rattle.sg_io.specs.Reading.{Empties, IsTooLong}
@@ -14,20 +14,31 @@ use Rattle.sg_reader.specs.NoMore.{IsTrailingFault}
 use Rattle.sg_planar.specs.Fit.{IsUnfitFault}
 use Rattle.sg_check.specs.declared.packing.ResultText.{ResultText}
 use Rattle.sg_reader.specs.ReadResult.{IsResultFault, ReadsResult, behind}
-use Rattle.sg_cli.specs.Input.{AtFitness, AtRecord, AtTrailing, BehindResult, GivesInstance, InInstance, InResult, RefusesBy, RefusesProofBy}
+use Rattle.sg_cli.specs.Input.{AtFitness, AtRecord, AtTrailing, BehindResult, GivesInstance, InInstance, InResult, IsAloneFault, OfJson, OfRecords}
+use Rattle.sg_cli.specs.Input.{RefusesBy, RefusesProofBy}
+use Rattle.sg_json.specs.Text.{is_object_text}
+use Rattle.sg_json.specs.ReadJson.{IsJsonFault}
 use Rattle.sg_cli.specs.Promises.{AnswersSource}
 use Rattle.sg_cli.specs.Served.{AnswersText, IsRefused}
 use Rattle.sg_cli.specs.declared.command.Command.{Command}
 use Rattle.sg_cli.specs.declared.status.Status.{Status}
 
-pub by_record : (bytes : List ℕ) (fault : Fault) → IsReadFault (kept_of bytes) fault → RefusesBy bytes fault
+pub by_record : (bytes : List ℕ) (fault : Fault) → IsReadFault (kept_of bytes) fault → IsAloneFault bytes fault
 by_record bytes (Refused refusal) shown = AtRecord shown
 by_record bytes NoMemory shown = tt
 
-pub by_trailing : (bytes : List ℕ) (inst : Ising) (after : ℕ) (fault : Fault) → ReadsInstance (kept_of bytes) inst after →
-    IsTrailingFault (kept_of bytes) after fault → RefusesBy bytes fault
+pub by_trailing : (bytes : List ℕ) (inst : Ising) (after : ℕ) (fault : Fault) → ReadsInstance (kept_of bytes) inst after
+    → IsTrailingFault (kept_of bytes) after fault → IsAloneFault bytes fault
 by_trailing bytes inst after (Refused refusal) reads shown = AtTrailing inst after reads shown
 by_trailing bytes inst after NoMemory reads shown = tt
+
+pub by_records : (bytes : List ℕ) (fault : Fault) → is_object_text bytes ≡ false → IsAloneFault bytes fault → RefusesBy bytes fault
+by_records bytes (Refused refusal) kind shown = OfRecords kind shown
+by_records bytes NoMemory kind shown = tt
+
+pub by_json : (bytes : List ℕ) (fault : Fault) → is_object_text bytes ≡ true → IsJsonFault bytes fault → RefusesBy bytes fault
+by_json bytes (Refused refusal) kind shown = OfJson kind shown
+by_json bytes NoMemory kind shown = tt
 
 pub by_fitness : (bytes : List ℕ) (inst : Ising) (fault : Fault) → GivesInstance bytes inst → IsUnfitFault inst fault → RefusesBy bytes fault
 by_fitness bytes inst (Refused refusal) gives shown = AtFitness inst gives shown

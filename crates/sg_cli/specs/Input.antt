@@ -1,5 +1,6 @@
--- What an input gives to a solver, an instance that is fit for it, and what it gives to the checker, an instance with a proof; or its first fault.
-use Rattle.std.specs.Prelude.{◌≡◌, ℕ, None, Some, List, ⊤}
+-- What an input gives to a solver, an instance that is fit for it, and what it gives to the checker, an instance with a
+-- proof; or its first fault. The checker reads records alone.
+use Rattle.std.specs.Prelude.{◌≡◌, ℕ, true, false, None, Some, List, ⊤}
 use Rattle.sg_model.specs.declared.refusal.Fault.{Fault}
 use Rattle.sg_model.specs.declared.refusal.Fault.TheVariants.{Refused, NoMemory}
 use Rattle.sg_model.specs.declared.refusal.Refusal.{Refusal}
@@ -9,24 +10,41 @@ use Rattle.sg_reader.specs.ReadInstance.{ReadsInstance, RefusesInstance}
 use Rattle.sg_check.specs.declared.packing.ResultText.{ResultText}
 use Rattle.sg_reader.specs.ReadResult.{ReadsResult, RefusesResult, behind}
 use Rattle.sg_reader.specs.NoMore.{trailing_fault}
+use Rattle.sg_json.specs.Text.{is_object_text}
+use Rattle.sg_json.specs.ReadJson.{ReadsJson, RefusesJson}
 use Rattle.sg_planar.specs.Fit.{IsFit, IsUnfit}
 
 -- the records of the text give the instance, and nothing stands behind its `end`
-pub record GivesInstance (bytes : List ℕ) (inst : Ising) : Type 0 where
+pub record GivesRecords (bytes : List ℕ) (inst : Ising) : Type 0 where
   pub after : ℕ
   pub reads : ReadsInstance (kept_of bytes) inst after
   pub ends : trailing_fault (kept_of bytes) after ≡ None
+
+-- the text gives the instance: as one JSON object where it begins as one, and else by its records
+pub data GivesInstance (bytes : List ℕ) (inst : Ising) : Type 0 where
+  ByJson : is_object_text bytes ≡ true → ReadsJson bytes inst → GivesInstance bytes inst
+  ByRecords : is_object_text bytes ≡ false → GivesRecords bytes inst → GivesInstance bytes inst
 
 -- the text gives an instance that a planar solver can take
 pub record GivesFit (bytes : List ℕ) (inst : Ising) : Type 0 where
   pub gives : GivesInstance bytes inst
   pub fit : IsFit inst
 
--- the first fault of a text: at a record, behind the `end` of its instance, or of the instance as a whole
+-- the first fault of the records of a text: at a record, or behind the `end` of its instance
+pub data RefusesAlone (bytes : List ℕ) (refusal : Refusal) : Type 0 where
+  AtRecord : RefusesInstance (kept_of bytes) refusal → RefusesAlone bytes refusal
+  AtTrailing : (inst : Ising) (after : ℕ) → ReadsInstance (kept_of bytes) inst after
+      → trailing_fault (kept_of bytes) after ≡ Some refusal → RefusesAlone bytes refusal
+
+-- why the records give no instance: their first fault, or want of memory, which may come at any time
+abbrev pub IsAloneFault : List ℕ → Fault → Type 0
+IsAloneFault bytes (Refused refusal) = RefusesAlone bytes refusal
+IsAloneFault bytes NoMemory = ⊤
+
+-- the first fault of a text: of the JSON object or of the records, or of the instance as a whole
 pub data RefusesText (bytes : List ℕ) (refusal : Refusal) : Type 0 where
-  AtRecord : RefusesInstance (kept_of bytes) refusal → RefusesText bytes refusal
-  AtTrailing : (inst : Ising) (after : ℕ) → ReadsInstance (kept_of bytes) inst after → trailing_fault (kept_of bytes) after ≡ Some refusal
-      → RefusesText bytes refusal
+  OfJson : is_object_text bytes ≡ true → RefusesJson bytes refusal → RefusesText bytes refusal
+  OfRecords : is_object_text bytes ≡ false → RefusesAlone bytes refusal → RefusesText bytes refusal
   AtFitness : (inst : Ising) → GivesInstance bytes inst → IsUnfit inst refusal → RefusesText bytes refusal
 
 -- why a text gives no instance to a solver: its first fault, or want of memory, which may come at any time

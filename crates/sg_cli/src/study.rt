@@ -2,7 +2,7 @@
 ghost use Rattle.std.specs.Prelude.{◌≤◌, ◌<◌, length, IfOk, IfErr};
 ghost use Rattle.sg_limits.specs.Limits.{text_limit};
 ghost use Rattle.sg_planar.specs.Fit.{IsFit};
-ghost use Rattle.sg_cli.specs.Input.{GivesFit, GivesInstance, RefusesBy};
+ghost use Rattle.sg_cli.specs.Input.{GivesFit, GivesInstance, GivesRecords, IsAloneFault, RefusesBy};
 ghost use Rattle.sg_cli.specs.Promises.{IsAnswered};
 ghost use Rattle.sg_cli.specs.Served.{AnswersFit, AnswersStudy};
 
@@ -12,6 +12,7 @@ use super::command::Study;
 use super::energy::energy_reply;
 use super::reply::{NoMemory, Reply, refuse};
 use super::wall::wall_reply;
+use sg_json::{is_json, read_json};
 use sg_model::{Fault, Instance};
 use sg_planar::{NotFit, Planar};
 use sg_reader::{no_more, read_instance};
@@ -37,7 +38,7 @@ fn read_planar(alloc: Global, bytes: &[u8]) -> Result<Planar, Fault>
     ensures small { IfOk result (λ planar. planar.instance.n ≤ 16) }
     ensures refuses { IfErr result (RefusesBy bytes.now) }
 {
-    match read_alone(alloc, bytes) {
+    match read_text(alloc, bytes) {
         Ok(instance) => match Planar::new(alloc, instance) {
             Ok(planar) => Ok(planar),
             Err(NotFit { fault, instance: _ }) => Err(fault),
@@ -46,12 +47,26 @@ fn read_planar(alloc: Global, bytes: &[u8]) -> Result<Planar, Fault>
     }
 }
 
-// The instance of a text with nothing behind it, or the first fault of the records.
-fn read_alone(alloc: Global, bytes: &[u8]) -> Result<Instance, Fault>
+// The instance of a text, which is one JSON object or a list of records, or its first fault.
+fn read_text(alloc: Global, bytes: &[u8]) -> Result<Instance, Fault>
     requires { length bytes.now < text_limit }
     ensures gives { IfOk result (GivesInstance bytes.now) }
     ensures small { IfOk result (λ inst. inst.n ≤ 16) }
     ensures refuses { IfErr result (RefusesBy bytes.now) }
+{
+    if is_json(bytes) {
+        read_json(alloc, bytes)
+    } else {
+        read_alone(alloc, bytes)
+    }
+}
+
+// The instance of a text with nothing behind it, or the first fault of the records.
+fn read_alone(alloc: Global, bytes: &[u8]) -> Result<Instance, Fault>
+    requires { length bytes.now < text_limit }
+    ensures gives { IfOk result (GivesRecords bytes.now) }
+    ensures small { IfOk result (λ inst. inst.n ≤ 16) }
+    ensures refuses { IfErr result (IsAloneFault bytes.now) }
 {
     match read_instance(alloc, bytes) {
         Ok((instance, after)) => match no_more(alloc, bytes, after) {
