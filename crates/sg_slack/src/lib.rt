@@ -14,7 +14,7 @@
 //! over all pairs and take no memory.
 #![tactic(auto)]
 
-ghost use Rattle.std.specs.Prelude.{◌≡◌, ◌<◌, length};
+ghost use Rattle.std.specs.Prelude.{◌≡◌, ◌≢◌, ◌↔◌, ◌<◌, IsTrue, Some, false, length};
 ghost use Rattle.sg_slack.specs.Slack.{mark_at, slack_of, IsOuterFree, IsOuterOuter, Least, SumsFit};
 ghost use Rattle.sg_slack.specs.Scan.{IsNearer, IsOuterFreeOf, IsOuterOuterOf};
 
@@ -166,9 +166,8 @@ fn nearest_free(costs: &Costs, total: &[i64], mark: &[Mark], u: u32) -> Option<P
 {
     let mut best = None;
     for v in 0..costs.size() {
-        if let Mark::Free = mark[v as usize] {
-            best = nearer(best, Some(pair_of(costs, total, u, v)));
-        }
+        let pair = pair_of(costs, total, u, v);
+        best = nearer_if(best, pair, is_free(mark[v as usize]));
     }
     best
 }
@@ -185,13 +184,44 @@ fn nearest_outer(costs: &Costs, total: &[i64], top: &[usize], mark: &[Mark], u: 
 {
     let mut best = None;
     for v in 0..costs.size() {
-        if top[u as usize] != top[v as usize] {
-            if let Mark::Outer = mark[v as usize] {
-                best = nearer(best, Some(pair_of(costs, total, u, v)));
-            }
-        }
+        let pair = pair_of(costs, total, u, v);
+        let counts = is_other_outer(mark[v as usize], top[u as usize], top[v as usize]);
+        best = nearer_if(best, pair, counts);
     }
     best
+}
+
+// Whether a leaf is free.
+fn is_free(mark: Mark) -> bool
+    ensures { IsTrue result ↔ (mark ≡ Mark.Free) }
+{
+    match mark {
+        Mark::Free => true,
+        _ => false,
+    }
+}
+
+// Whether a leaf is outer, and its top is another.
+fn is_other_outer(mark: Mark, top: usize, other: usize) -> bool
+    ensures { IsTrue result ↔ ((mark ≡ Mark.Outer) × (top ≢ other)) }
+{
+    match mark {
+        Mark::Outer => top != other,
+        _ => false,
+    }
+}
+
+// The pair of less slack, where the second one counts. Its slack is looked at first, since it is
+// rarely less.
+fn nearer_if(best: Option<Pair>, more: Pair, counts: bool) -> Option<Pair>
+    ensures yes { IsTrue counts → IsNearer best (Some more) result }
+    ensures no { counts ≡ false → result ≡ best }
+{
+    match best {
+        Some(first) if first.slack <= more.slack => best,
+        _ if counts => Some(more),
+        _ => best,
+    }
 }
 
 // Two leaves with their slack.
