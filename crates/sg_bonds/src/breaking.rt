@@ -26,7 +26,6 @@ use std::alloc::Global;
 /// Cost: in practice about one ground state for each spin, and at most one for each bond and one
 /// more; beside them a walk over the bonds for each bond.
 pub fn costs(alloc: Global, planar: &Planar) -> Result<CostList, NoMemory>
-    requires few { planar.now.instance.n ≤ 16 }
     requires sum { weight planar.now.instance ≤ sum_limit }
     ensures { IfOk result (AreCosts planar.now.instance) }
 {
@@ -44,7 +43,6 @@ pub fn rigid(cost: i64) -> bool
 
 // Finds the costs one by one, that with the widest bound first.
 fn gather(alloc: Global, planar: &Planar, least: &Answer) -> Result<Vec<Known>, NoMemory>
-    requires few { planar.now.instance.n ≤ 16 }
     requires sum { weight planar.now.instance ≤ sum_limit }
     requires ground_state { IsGroundState planar.now.instance least.now.spins }
     requires energy { least.now.energy ≡ energy planar.now.instance least.now.spins }
@@ -69,7 +67,6 @@ fn settle(
     bond: u32,
     known: &mut [Known],
 ) -> Result<(), NoMemory>
-    requires few { planar.now.instance.n ≤ 16 }
     requires sum { weight planar.now.instance ≤ sum_limit }
     requires bond_in { bond < bond_count planar.now.instance }
     requires ground_state { IsGroundState planar.now.instance least.now.spins }
@@ -92,7 +89,6 @@ fn settle(
 
 // A state of least energy among those that turn the bond, and so the cost of the bond.
 fn turn(alloc: Global, planar: &Planar, least: &Answer, bond: u32) -> Result<Turned, NoMemory>
-    requires few { planar.now.instance.n ≤ 16 }
     requires sum { weight planar.now.instance ≤ sum_limit }
     requires bond_in { bond < bond_count planar.now.instance }
     requires ground_state { IsGroundState planar.now.instance least.now.spins }
@@ -118,7 +114,6 @@ fn cost(
     known: &[Known],
     bond: u32,
 ) -> Result<i64, NoMemory>
-    requires few { planar.now.instance.n ≤ 16 }
     requires sum { weight planar.now.instance ≤ sum_limit }
     requires bond_in { bond < bond_count planar.now.instance }
     requires ground_state { IsGroundState planar.now.instance least.now.spins }
@@ -139,7 +134,6 @@ fn listed(
     least: &Answer,
     known: &[Known],
 ) -> Result<CostList, NoMemory>
-    requires few { planar.now.instance.n ≤ 16 }
     requires sum { weight planar.now.instance ≤ sum_limit }
     requires ground_state { IsGroundState planar.now.instance least.now.spins }
     requires energy { least.now.energy ≡ energy planar.now.instance least.now.spins }

@@ -39,7 +39,6 @@ pub(crate) fn least_with(
     bond: u32,
     wanted: i64,
 ) -> Result<LeastState, NoMemory>
-    requires few { planar.now.instance.n ≤ 16 }
     requires sum { weight planar.now.instance ≤ sum_limit }
     requires bond_in { bond < bond_count planar.now.instance }
     requires up_or_down { IsUpOrDown wanted }

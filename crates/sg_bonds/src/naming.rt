@@ -17,7 +17,6 @@ use std::alloc::Global;
 /// among them: in the time of `costs`, and then linear in the spins and bonds. The only error is
 /// want of memory.
 pub fn clusters(alloc: Global, planar: &Planar) -> Result<ClusterList, NoMemory>
-    requires few { planar.now.instance.n ≤ 16 }
     requires sum { weight planar.now.instance ≤ sum_limit }
     ensures { IfOk result (AreClusters planar.now.instance) }
 {

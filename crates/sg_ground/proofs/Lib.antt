@@ -1,1 +1,4 @@
-pub mod SmallEnergies
+pub mod FrustratedCuts
+pub mod Packings
+pub mod JoinFits
+pub mod Solutions

@@ -1,0 +1,3 @@
+pub mod TightJoin
+pub mod Loops
+pub mod Solution

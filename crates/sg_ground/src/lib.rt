@@ -1,16 +1,27 @@
-//! Ground states of planar spin glasses, and their energies.
+//! Ground states of planar spin glasses, each with a packing of frustrated loops that proves it.
 //!
-//! A ground state is an assignment of least energy. In a planar spin glass one can be found in time
-//! polynomial in the spins, by way of the dual graph (Bieche, Maynard, Rammal and Uhry 1980).
+//! An assignment is a ground state where its broken bonds weigh least. On the plane the sets of
+//! broken bonds are the joins of the frustrated faces in the dual graph (Bieche, Maynard, Rammal and
+//! Uhry 1980, Barahona 1982), so a least join gives a ground state. The odd cuts that show that no
+//! join weighs less (Edmonds and Johnson 1973) are frustrated loops of the instance: a set of faces
+//! with an odd number of frustrated ones is bounded by bonds of which every assignment breaks one.
 //!
-//! For the next engineer: `solve` is the one call, and its contract is the definition of a ground
-//! state. What is built on it rests on that contract and on nothing of its body, which tries every
-//! assignment of at most 16 spins.
+//! For the next engineer: `solve` is the call that matters, and what is built on it rests on its
+//! contract and on nothing of its body. It first asks the proposer of `sg_regions`, of which nothing
+//! is promised, and answers what the checker of `sg_check` says yes to (`judged_proposal`); else it
+//! goes by the dual, which always answers (`match_faces`). The proof of the second way: an odd cut is
+//! a frustrated loop (`proofs/FrustratedCuts.antt`), a packing of cuts is one of loops, and not too
+//! many (`Packings`), a join fits the faces and weighs what the broken bonds weigh (`JoinFits`), and
+//! all of it together (`Solutions`).
 #![tactic(auto)]
 
 mod answer;
+mod matched;
+mod proposed;
 
 pub use answer::{Answer, solve};
+pub use matched::match_faces;
+pub use proposed::judged_proposal;
 use std::alloc::AllocError;
 
 /// The allocator had no memory left.

@@ -12,3 +12,4 @@ pub mod Recounting
 pub mod Tallies
 pub mod DealtSums
 pub mod Ranks
+pub mod MemberSums

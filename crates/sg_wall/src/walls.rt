@@ -17,10 +17,9 @@ pub struct WallAnswer {
     pub difference: i64,
 }
 
-/// The energy of the domain wall that the seam forces, in the time of two ground states of at most
-/// 16 spins. With an empty seam it is 0. The only error is want of memory.
+/// The energy of the domain wall that the seam forces, in the time of two ground states. With an
+/// empty seam it is 0. The only error is want of memory.
 pub fn wall(alloc: Global, planar: &Planar) -> Result<WallAnswer, NoMemory>
-    requires { planar.now.instance.n ≤ 16 }
     ensures wall { IfOk result
         (λ w. IsWall planar.now.instance w.periodic w.antiperiodic w.difference) }
     ensures no_seam { IfOk result (λ w. planar.now.instance.seam ≡ [] → w.difference ≡ pos 0) }

@@ -1,0 +1,84 @@
+-- A packing of odd cuts of the dual is a packing of frustrated loops of the instance, and its loops are few.
+use Rattle.std.proofs.Common.{inl, inr, ◌≡◌, ℕ, ◌+◌, ◌*◌, ◌%◌, ◌<◌, ◌≤◌, pos, cond, List, [], ◌∷◌, map, refl, sym, ◌∙◌, ap, ap₂, arith, sum_by, count_by, length, get_or, All}
+use Rattle.std.specs.Prelude.{unsigned_abs, ◌≤ℤ◌}
+use Rattle.std.specs.List.{range_with_len}
+use Rattle.std.proofs.lemmas.Bool.{cases_eq}
+use Rattle.std.proofs.lemmas.List.{length-map}
+use Rattle.std.proofs.lemmas.List.Elements.{All-map, All-weaker}
+use Rattle.std.proofs.lemmas.List.FromFn.{length-range_with_len}
+use Rattle.std.proofs.lemmas.List.Sums.{count_by-le-length, length-filter, sum_by-cons}
+use Rattle.sg_sums.specs.Sets.{holds}
+use Rattle.sg_model.specs.Ising.{Ising, bond_at, bond_count}
+use Rattle.sg_model.specs.WellFormed.{IsInstance}
+use Rattle.sg_faces.specs.Faces.{Labelling, IsFaceLabels}
+use Rattle.sg_graph.specs.declared.cut.Cut.{Cut}
+use Rattle.sg_graph.specs.declared.web.Edge.{Edge}
+use Rattle.sg_graph.specs.Web.{edge_weight, weight_at}
+use Rattle.sg_graph.specs.OddCut.{CutsPack, IsOddCut, cut_load, cut_weight}
+use Rattle.sg_dual.specs.Dual.{dual_web, frustrated_faces, is_frustrated}
+use Rattle.sg_dual.proofs.DualWebs.{dual_edge_at, dual_edge_count, one_face_alone}
+use Rattle.sg_dual.proofs.Frustration.{even_frustrated}
+use Rattle.sg_check.specs.declared.packing.Loop.{Loop}
+use Rattle.sg_check.specs.Loop.{IsFrustratedLoop}
+use Rattle.sg_check.specs.Packing.{Packs, IsShort, load, loop_weight, total_weight}
+use Rattle.sg_ground.specs.Loops.{loop_of}
+use Rattle.sg_ground.proofs.FrustratedCuts.{odd_cut_is_loop}
+
+-- the loops weigh what the cuts weigh, together and on each bond
+pub loops_weight : (cuts : List Cut) → total_weight (map loop_of cuts) ≡ sum_by cut_weight cuts
+loops_weight [] = refl
+loops_weight (c ∷ cuts) = omega (arith, loops_weight cuts, sum_by-cons loop_weight (loop_of c) (map loop_of cuts), sum_by-cons cut_weight c cuts)
+
+pub loops_load : (cuts : List Cut) (k : ℕ) → load (map loop_of cuts) k ≡ cut_load cuts k
+loops_load [] k = refl
+loops_load (c ∷ cuts) k =
+    omega (
+      arith,
+      loops_load cuts k,
+      sum_by-cons (λ (l : Loop). cond (holds l.bonds k) (loop_weight l) 0) (loop_of c) (map loop_of cuts),
+      sum_by-cons (λ (c : Cut). cond (holds c.edges k) (cut_weight c) 0) c cuts,
+    )
+
+-- a choice is no longer than what it is made from
+chosen_few : (inst : Ising) (faces : Labelling) → length (frustrated_faces inst faces) ≤ faces.count
+chosen_few inst faces =
+    omega (
+      arith,
+      length-filter (is_frustrated inst faces) (range_with_len 0 faces.count),
+      count_by-le-length (is_frustrated inst faces) (range_with_len 0 faces.count),
+      length-range_with_len 0 faces.count,
+    )
+
+module _
+    (inst : Ising) (faces : Labelling) (good : IsInstance inst) (labels : IsFaceLabels inst faces)
+    (cuts : List Cut) (pack : CutsPack (dual_web inst faces) (frustrated_faces inst faces) cuts) where
+  pub packs_loops : Packs inst (map loop_of cuts)
+  packs_loops = record {
+    positive = All-map (λ (l : Loop). pos 1 ≤ℤ l.y) loop_of cuts pack.positive;
+    frustrated = All-map (λ (l : Loop). IsFrustratedLoop inst l.bonds) loop_of cuts
+        (All-weaker (λ (c : Cut). IsOddCut (dual_web inst faces) (frustrated_faces inst faces) c.edges) (λ (c : Cut). IsFrustratedLoop inst c.edges)
+        (λ c h. odd_cut_is_loop inst faces good labels c.edges h) cuts pack.odd_cuts);
+    within = λ k l.
+        (let size : edge_weight (dual_web inst faces) k ≡ unsigned_abs (bond_at inst k).j = ap weight_at (dual_edge_at inst faces k l) in
+        let most : cut_load cuts k ≤ 2 * edge_weight (dual_web inst faces) k = pack.within k (omega (arith, l, dual_edge_count inst faces)) in
+        omega (arith, loops_load cuts k));
+  }
+
+  -- with no more faces than bonds there are at most five loops for each two bonds; without a bond nothing is frustrated
+  pub short_loops : (0 < bond_count inst → faces.count ≤ bond_count inst) → IsShort inst (map loop_of cuts)
+  short_loops few = elim (cases_eq (bond_count inst) 0) [
+    | inl none ↦ omega (arith, without none, length-map cuts loop_of)
+    | inr some ↦ omega (arith, length-map cuts loop_of, pack.short, chosen_few inst faces, few (omega arith))
+  ]
+    where
+      none_frustrated : bond_count inst ≡ 0 → length (frustrated_faces inst faces) ≡ 0
+      none_frustrated none = omega (arith, chosen_few inst faces, one_face_alone inst faces labels none, even_frustrated inst faces labels)
+
+      without : bond_count inst ≡ 0 → length cuts ≡ 0
+      without no_bond = elim (cases_eq (length cuts) 0) [
+        | inl e ↦ e
+        | inr some ↦
+            let none : Cut = record { y = pos 0; edges = [] } in
+            let cut : IsOddCut (dual_web inst faces) (frustrated_faces inst faces) (get_or cuts 0 none).edges = pack.odd_cuts 0 none (omega arith) in
+            absurd (omega (arith, cut.odd, count_by-le-length cut.inside (frustrated_faces inst faces), none_frustrated no_bond))
+      ]

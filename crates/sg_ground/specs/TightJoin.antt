@@ -1,0 +1,14 @@
+-- A least join of the frustrated faces, and the odd cuts that prove it.
+use Rattle.std.specs.Prelude.{◌≡◌, ℕ, ◌*◌, List, sum_by}
+use Rattle.sg_graph.specs.declared.cut.Cut.{Cut}
+use Rattle.sg_graph.specs.Web.{weight_of}
+use Rattle.sg_graph.specs.Join.{IsLeastJoin}
+use Rattle.sg_graph.specs.OddCut.{CutsPack, cut_weight}
+use Rattle.sg_planar.specs.Fit.{Embedding}
+use Rattle.sg_dual.specs.Dual.{dual_web, frustrated_faces}
+
+-- a least join of the frustrated faces in the dual, and a packing of odd cuts that weighs twice as much
+pub record IsTightJoin (p : Embedding) (edges : List ℕ) (cuts : List Cut) : Type 0 where
+  pub least : IsLeastJoin (dual_web p.instance p.faces) (frustrated_faces p.instance p.faces) edges
+  pub packs : CutsPack (dual_web p.instance p.faces) (frustrated_faces p.instance p.faces) cuts
+  pub tight : sum_by cut_weight cuts ≡ 2 * weight_of (dual_web p.instance p.faces) edges
