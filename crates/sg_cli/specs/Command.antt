@@ -3,17 +3,18 @@ use Rattle.std.specs.Prelude.{ℕ, Option, Some, None, List, [], ◌∷◌, code
 use Rattle.std.specs.Str.{bytes_eq}
 use Rattle.sg_cli.specs.declared.command.Command.{Command}
 use Rattle.sg_cli.specs.declared.command.Command.TheVariants.{Study, Check}
-use Rattle.sg_cli.specs.declared.command.Study.TheVariants.{Energy, Wall, Bonds, Clusters}
+use Rattle.sg_cli.specs.declared.command.Study.TheVariants.{Energy, Ground, Wall, Bonds, Clusters}
 
 -- the command that a word names
 abbrev pub command_named : List ℕ → Option Command
 command_named word =
     if bytes_eq word (codes "energy") then Some (Study Energy)
+    else (if bytes_eq word (codes "ground") then Some (Study Ground)
     else (if bytes_eq word (codes "wall") then Some (Study Wall)
     else (if bytes_eq word (codes "bonds") then Some (Study Bonds)
     else (if bytes_eq word (codes "clusters") then Some (Study Clusters)
     else (if bytes_eq word (codes "check") then Some Check
-    else None))))
+    else None)))))
 
 -- the command of the words, each given by its bytes; none where the words have no shape
 abbrev pub command_of : List (List ℕ) → Option Command

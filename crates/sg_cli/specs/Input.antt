@@ -60,12 +60,15 @@ pub record GivesProof (bytes : List ℕ) (inst : Ising) (stated : ResultText) : 
   pub states : ReadsResult (behind after (kept_of bytes)) stated next
   pub ends : trailing_fault (kept_of bytes) next ≡ None
 
--- the first fault of a text with a proof: in the instance, in what is stated, or behind the last `end`. The instance as a whole is not tested
+-- the first fault of a text with a proof: in the instance, in what is stated, or behind the last `end`. The instance as
+-- a whole is not tested
 pub data RefusesProof (bytes : List ℕ) (refusal : Refusal) : Type 0 where
   InInstance : RefusesInstance (kept_of bytes) refusal → RefusesProof bytes refusal
-  InResult : (inst : Ising) (after : ℕ) → ReadsInstance (kept_of bytes) inst after → RefusesResult (behind after (kept_of bytes)) refusal → RefusesProof bytes refusal
+  InResult : (inst : Ising) (after : ℕ) → ReadsInstance (kept_of bytes) inst after
+      → RefusesResult (behind after (kept_of bytes)) refusal → RefusesProof bytes refusal
   BehindResult : (inst : Ising) (after : ℕ) (stated : ResultText) (next : ℕ) → ReadsInstance (kept_of bytes) inst after
-      → ReadsResult (behind after (kept_of bytes)) stated next → trailing_fault (kept_of bytes) next ≡ Some refusal → RefusesProof bytes refusal
+      → ReadsResult (behind after (kept_of bytes)) stated next
+      → trailing_fault (kept_of bytes) next ≡ Some refusal → RefusesProof bytes refusal
 
 -- why a text gives no proof to judge: its first fault, or want of memory, which may come at any time
 abbrev pub RefusesProofBy : List ℕ → Fault → Type 0

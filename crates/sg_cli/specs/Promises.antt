@@ -26,13 +26,15 @@ IsAnswered NoMemory = ⊥
 abbrev pub reads : List (List ℕ) → Bool
 reads words = is_reading (command_of words)
 
--- what a command answers to a source: there are bytes, those that the source tells where it tells them, and this is the answer to them
+-- what a command answers to a source: there are bytes, those that the source tells where it tells them, and this is the
+-- answer to them
 pub record AnswersSource (command : Command) (left : Option (List ℕ)) (text : List ℕ) (status : Status) : Type 0 where
   pub bytes : List ℕ
   pub told : Told left bytes
   pub answers : AnswersInput command bytes text status
 
--- what the words answer: there are bytes, those that the source tells where it tells them, and a text that is served to them
+-- what the words answer: there are bytes, those that the source tells where it tells them, and this text is served to
+-- them
 pub record IsServed (words : List (List ℕ)) (left : Option (List ℕ)) (text : List ℕ) (status : Status) : Type 0 where
   pub bytes : List ℕ
   pub told : Told left bytes
@@ -71,7 +73,8 @@ stop_faults stop.NoMemory faults = faults
 pub record Takes (old new : Option (List ℕ)) : Type 0 where
   pub untold : old ≡ None → new ≡ None
   pub whole : (bytes : List ℕ) → old ≡ Some bytes → length bytes ≤ input_limit → new ≡ Some []
-  pub too_long : (bytes : List ℕ) → old ≡ Some bytes → input_limit < length bytes → new ≡ Some (drop (input_limit + 1) bytes)
+  pub too_long : (bytes : List ℕ) → old ≡ Some bytes → input_limit < length bytes
+      → new ≡ Some (drop (input_limit + 1) bytes)
 
 -- what a reading command has taken, by how the run ended: where it was stopped, no more than that, from the front
 abbrev pub Leaves : Status → Option (List ℕ) → Option (List ℕ) → Type 0

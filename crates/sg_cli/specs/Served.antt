@@ -6,20 +6,22 @@ use Rattle.sg_model.specs.declared.refusal.Refusal.TheVariants.{TooLong, NoSeam}
 use Rattle.sg_model.specs.Ising.{Ising}
 use Rattle.sg_model.specs.Spins.{spin}
 use Rattle.sg_model.specs.Energy.{IsGroundState, energy}
+use Rattle.sg_check.specs.declared.packing.Loop.{Loop}
 use Rattle.sg_check.specs.declared.packing.ResultText.{ResultText}
 use Rattle.sg_check.specs.declared.verdict.Verdict.{Verdict}
 use Rattle.sg_check.specs.declared.verdict.Verdict.TheVariants as verdict
+use Rattle.sg_check.specs.Packing.{IsShort, Proves}
 use Rattle.sg_check.specs.Verdict.{IsVerdict}
 use Rattle.sg_wall.specs.Wall.{IsWall}
 use Rattle.sg_bonds.specs.Cost.{AreCosts}
 use Rattle.sg_bonds.specs.Cluster.{AreClusters}
-use Rattle.sg_report.specs.Text.{bonds_text, clusters_text, energy_text, refusal_text, verdict_text, wall_text}
+use Rattle.sg_report.specs.Text.{bonds_text, clusters_text, energy_text, ground_text, refusal_text, verdict_text, wall_text}
 use Rattle.sg_cli.specs.Command.{command_of}
 use Rattle.sg_cli.specs.Input.{GivesFit, GivesProof, RefusesProof, RefusesText}
 use Rattle.sg_cli.specs.declared.command.Command.{Command}
 use Rattle.sg_cli.specs.declared.command.Command.TheVariants as command
 use Rattle.sg_cli.specs.declared.command.Study.{Study}
-use Rattle.sg_cli.specs.declared.command.Study.TheVariants.{Energy, Wall, Bonds, Clusters}
+use Rattle.sg_cli.specs.declared.command.Study.TheVariants.{Energy, Ground, Wall, Bonds, Clusters}
 use Rattle.sg_cli.specs.declared.status.Status.{Status}
 use Rattle.sg_cli.specs.declared.status.Status.TheVariants.{Done, Refused, Usage, No}
 
@@ -38,6 +40,18 @@ pub record PrintsGroundState (inst : Ising) (text : List ℕ) (status : Status) 
   pub least : IsGroundState inst spins
   pub first_up : spin spins 0 ≡ pos 1
   pub printed : text ≡ energy_text (energy inst spins) spins
+  pub done : status ≡ Done
+
+-- a ground state with spin 0 up, its energy, and a short packing of frustrated loops that proves it
+pub record PrintsGround (inst : Ising) (text : List ℕ) (status : Status) : Type 0 where
+  pub energy : ℤ
+  pub spins : List ℤ
+  pub loops : List Loop
+  pub least : IsGroundState inst spins
+  pub proves : Proves inst spins energy loops
+  pub short : IsShort inst loops
+  pub first_up : spin spins 0 ≡ pos 1
+  pub printed : text ≡ ground_text energy spins loops
   pub done : status ≡ Done
 
 -- the energies of a domain wall
@@ -83,18 +97,22 @@ pub record PrintsVerdict (inst : Ising) (stated : ResultText) (text : List ℕ) 
 -- what a study answers to an instance that is fit
 abbrev pub AnswersFit : Study → Ising → List ℕ → Status → Type 0
 AnswersFit Energy inst text status = PrintsGroundState inst text status
+AnswersFit Ground inst text status = PrintsGround inst text status
 AnswersFit Wall inst text status = AnswersWall inst text status
 AnswersFit Bonds inst text status = PrintsCosts inst text status
 AnswersFit Clusters inst text status = PrintsClusters inst text status
 
 -- what a study answers to a text: the first fault, or the answer to its instance
 pub data AnswersStudy (study : Study) (bytes text : List ℕ) (status : Status) : Type 0 where
-  FaultNamed : (refusal : Refusal) → RefusesText bytes refusal → IsRefused refusal text status → AnswersStudy study bytes text status
-  Studied : (inst : Ising) → GivesFit bytes inst → AnswersFit study inst text status → AnswersStudy study bytes text status
+  FaultNamed : (refusal : Refusal) → RefusesText bytes refusal → IsRefused refusal text status
+      → AnswersStudy study bytes text status
+  Studied : (inst : Ising) → GivesFit bytes inst → AnswersFit study inst text status
+      → AnswersStudy study bytes text status
 
 -- what `check` answers to a text: the first fault, or the verdict on its proof; the instance need not be fit
 pub data AnswersCheck (bytes text : List ℕ) (status : Status) : Type 0 where
-  ProofFaultNamed : (refusal : Refusal) → RefusesProof bytes refusal → IsRefused refusal text status → AnswersCheck bytes text status
+  ProofFaultNamed : (refusal : Refusal) → RefusesProof bytes refusal → IsRefused refusal text status
+      → AnswersCheck bytes text status
   Judged : (inst : Ising) (stated : ResultText) → GivesProof bytes inst stated → PrintsVerdict inst stated text status
       → AnswersCheck bytes text status
 

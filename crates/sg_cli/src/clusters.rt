@@ -1,5 +1,5 @@
 // What `clusters` answers.
-ghost use Rattle.std.specs.Prelude.{◌≤◌, IfOk};
+ghost use Rattle.std.specs.Prelude.{IfOk};
 ghost use Rattle.sg_planar.specs.Fit.{IsFit};
 ghost use Rattle.sg_cli.specs.Promises.{IsAnswered};
 ghost use Rattle.sg_cli.specs.Served.{PrintsClusters};
@@ -12,8 +12,7 @@ use std::alloc::Global;
 
 /// The cluster of each spin.
 pub fn clusters_reply(alloc: Global, planar: &Planar) -> Result<Reply, NoMemory>
-    requires few { planar.now.instance.n ≤ 16 }
-    requires fit { IsFit planar.now.instance }
+    requires { IsFit planar.now.instance }
     ensures served { IfOk result (λ reply. PrintsClusters planar.now.instance reply.text.items reply.status) }
     ensures answered { IfOk result (λ reply. IsAnswered reply.status) }
 {

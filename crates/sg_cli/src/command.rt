@@ -15,6 +15,8 @@ pub enum Command {
 pub enum Study {
     /// The least energy of an instance, and spins that have it.
     Energy,
+    /// The least energy, spins that have it, and a packing of frustrated loops that proves it.
+    Ground,
     /// The least energy, the least energy with the signs of the seam changed, and their difference.
     Wall,
     /// The cost of each bond.
@@ -39,6 +41,8 @@ fn command_named(word: &str) -> Option<Command>
 {
     if word == "energy" {
         Some(Command::Study(Study::Energy))
+    } else if word == "ground" {
+        Some(Command::Study(Study::Ground))
     } else if word == "wall" {
         Some(Command::Study(Study::Wall))
     } else if word == "bonds" {

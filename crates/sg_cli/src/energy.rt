@@ -1,5 +1,5 @@
 // What `energy` answers.
-ghost use Rattle.std.specs.Prelude.{◌≤◌, IfOk};
+ghost use Rattle.std.specs.Prelude.{IfOk};
 ghost use Rattle.sg_cli.specs.Promises.{IsAnswered};
 ghost use Rattle.sg_cli.specs.Served.{PrintsGroundState};
 
@@ -11,7 +11,6 @@ use std::alloc::Global;
 
 /// The least energy, and spins that have it.
 pub fn energy_reply(alloc: Global, planar: &Planar) -> Result<Reply, NoMemory>
-    requires { planar.now.instance.n ≤ 16 }
     ensures served { IfOk result (λ reply. PrintsGroundState planar.now.instance reply.text.items reply.status) }
     ensures answered { IfOk result (λ reply. IsAnswered reply.status) }
 {

@@ -1,7 +1,7 @@
 //! The top call: words, a source and a sink in, one status out.
 //!
-//! `run` reads an instance and answers a study: a ground state, a domain wall, the costs of the
-//! bonds, or the rigid clusters. `check` judges the proof that stands behind an instance of any kind.
+//! `run` reads an instance and answers a study: a ground state, alone or with the packing that proves
+//! it, a domain wall, the costs of the bonds, or the rigid clusters. `check` judges the proof that stands behind an instance of any kind.
 //! Every other input is refused with the number of its first fault.
 //!
 //! For the next engineer: the contract of `run` is the headline of the whole project. Its clauses
@@ -16,6 +16,7 @@ mod check;
 mod clusters;
 mod command;
 mod energy;
+mod ground;
 mod reply;
 mod serve;
 mod status;

@@ -1,5 +1,5 @@
 // What a study answers to a text: its first fault, or the answer to its instance.
-ghost use Rattle.std.specs.Prelude.{◌≤◌, ◌<◌, length, IfOk, IfErr};
+ghost use Rattle.std.specs.Prelude.{◌<◌, length, IfOk, IfErr};
 ghost use Rattle.sg_limits.specs.Limits.{text_limit};
 ghost use Rattle.sg_planar.specs.Fit.{IsFit};
 ghost use Rattle.sg_cli.specs.Input.{GivesFit, GivesInstance, GivesRecords, IsAloneFault, RefusesBy};
@@ -10,6 +10,7 @@ use super::bonds::bonds_reply;
 use super::clusters::clusters_reply;
 use super::command::Study;
 use super::energy::energy_reply;
+use super::ground::ground_reply;
 use super::reply::{NoMemory, Reply, refuse};
 use super::wall::wall_reply;
 use sg_json::{is_json, read_json};
@@ -35,7 +36,6 @@ pub fn study_reply(alloc: Global, study: Study, bytes: &[u8]) -> Result<Reply, N
 fn read_planar(alloc: Global, bytes: &[u8]) -> Result<Planar, Fault>
     requires { length bytes.now < text_limit }
     ensures gives { IfOk result (λ planar. GivesFit bytes.now planar.instance) }
-    ensures small { IfOk result (λ planar. planar.instance.n ≤ 16) }
     ensures refuses { IfErr result (RefusesBy bytes.now) }
 {
     match read_text(alloc, bytes) {
@@ -51,7 +51,6 @@ fn read_planar(alloc: Global, bytes: &[u8]) -> Result<Planar, Fault>
 fn read_text(alloc: Global, bytes: &[u8]) -> Result<Instance, Fault>
     requires { length bytes.now < text_limit }
     ensures gives { IfOk result (GivesInstance bytes.now) }
-    ensures small { IfOk result (λ inst. inst.n ≤ 16) }
     ensures refuses { IfErr result (RefusesBy bytes.now) }
 {
     if is_json(bytes) {
@@ -65,7 +64,6 @@ fn read_text(alloc: Global, bytes: &[u8]) -> Result<Instance, Fault>
 fn read_alone(alloc: Global, bytes: &[u8]) -> Result<Instance, Fault>
     requires { length bytes.now < text_limit }
     ensures gives { IfOk result (GivesRecords bytes.now) }
-    ensures small { IfOk result (λ inst. inst.n ≤ 16) }
     ensures refuses { IfErr result (IsAloneFault bytes.now) }
 {
     match read_instance(alloc, bytes) {
@@ -79,13 +77,13 @@ fn read_alone(alloc: Global, bytes: &[u8]) -> Result<Instance, Fault>
 
 // What a study answers to an instance that is fit.
 fn fit_reply(alloc: Global, study: Study, planar: &Planar) -> Result<Reply, NoMemory>
-    requires few { planar.now.instance.n ≤ 16 }
-    requires fit { IsFit planar.now.instance }
+    requires { IsFit planar.now.instance }
     ensures served { IfOk result (λ reply. AnswersFit study planar.now.instance reply.text.items reply.status) }
     ensures answered { IfOk result (λ reply. IsAnswered reply.status) }
 {
     match study {
         Study::Energy => energy_reply(alloc, planar),
+        Study::Ground => ground_reply(alloc, planar),
         Study::Wall => wall_reply(alloc, planar),
         Study::Bonds => bonds_reply(alloc, planar),
         Study::Clusters => clusters_reply(alloc, planar),

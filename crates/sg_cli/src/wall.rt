@@ -1,5 +1,5 @@
 // What `wall` answers.
-ghost use Rattle.std.specs.Prelude.{◌≤◌, IfOk};
+ghost use Rattle.std.specs.Prelude.{IfOk};
 ghost use Rattle.sg_cli.specs.Promises.{IsAnswered};
 ghost use Rattle.sg_cli.specs.Served.{AnswersWall, PrintsWall};
 
@@ -12,7 +12,6 @@ use std::alloc::Global;
 
 /// The energies of the domain wall at the seam, or the refusal of an empty seam.
 pub fn wall_reply(alloc: Global, planar: &Planar) -> Result<Reply, NoMemory>
-    requires { planar.now.instance.n ≤ 16 }
     ensures served { IfOk result (λ reply. AnswersWall planar.now.instance reply.text.items reply.status) }
     ensures answered { IfOk result (λ reply. IsAnswered reply.status) }
 {
@@ -25,7 +24,6 @@ pub fn wall_reply(alloc: Global, planar: &Planar) -> Result<Reply, NoMemory>
 
 // The energies of the domain wall at a seam that is not empty.
 fn seam_reply(alloc: Global, planar: &Planar) -> Result<Reply, NoMemory>
-    requires { planar.now.instance.n ≤ 16 }
     ensures served { IfOk result (λ reply. PrintsWall planar.now.instance reply.text.items reply.status) }
     ensures answered { IfOk result (λ reply. IsAnswered reply.status) }
 {

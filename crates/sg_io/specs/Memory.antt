@@ -24,7 +24,8 @@ pub record SourceState : Type 0 where
   pub faults : ℕ
   pub failed : Bool
 
--- a read into `room` bytes fails exactly where it is listed, else ends exactly where no byte is left, else gives what piece, buffer and rest allow
+-- a read into `room` bytes fails exactly where it is listed, else ends exactly where no byte is left, else gives what
+-- piece, buffer and rest allow
 abbrev pub read_answer : SourceState → ℕ → Took
 read_answer s room =
     if is_listed s.fails s.calls then took.Failed else
@@ -50,7 +51,8 @@ pub record SinkState : Type 0 where
   pub faults : ℕ
   pub failed : Bool
 
--- a write of so many bytes fails exactly where it is listed or no room is left, else takes what piece, room and offer allow
+-- a write of so many bytes fails exactly where it is listed or no room is left, else takes what piece, room and offer
+-- allow
 abbrev pub write_answer : SinkState → ℕ → Gave
 write_answer s offered =
     if is_listed s.fails s.calls || (s.room == 0) then gave.Failed else gave.Took (min (min s.piece s.room) offered)

@@ -6,7 +6,7 @@ use Rattle.std.specs.Option.{option_or}
 use Rattle.std.specs.Str.{bytes_eq}
 use Rattle.serde_json.specs.Data.{Data}
 use Rattle.serde_json.specs.Find.{get, as_str}
-use Rattle.sg_limits.specs.Limits.{bond_limit}
+use Rattle.sg_limits.specs.Limits.{bond_limit, spin_limit}
 use Rattle.sg_model.specs.declared.bond.Bond.{Bond}
 use Rattle.sg_model.specs.declared.refusal.Refusal.{Refusal}
 use Rattle.sg_model.specs.declared.refusal.Refusal.TheVariants.{BadMember, CouplingCount, SelfBond, TooManyBonds, TooManySpins}
@@ -15,7 +15,7 @@ use Rattle.sg_lattice.specs.declared.kind.Kind.{Kind}
 use Rattle.sg_lattice.specs.Tables.{bond_total, lattice, least_cols}
 use Rattle.sg_reader.specs.declared.header.Form.{Form}
 use Rattle.sg_reader.specs.declared.header.Form.TheVariants as form
-use Rattle.sg_reader.specs.Header.{form_of, spin_limit}
+use Rattle.sg_reader.specs.Header.{form_of}
 use Rattle.sg_reader.specs.Tests.{first_of, refuse_if}
 use Rattle.sg_reader.specs.Body.{reseamed}
 use Rattle.sg_json.specs.declared.entry.Entry.{Entry}

@@ -1,11 +1,10 @@
 ghost use Rattle.std.specs.Prelude.{◌≡◌, ◌<◌, ◌≤◌, [], None, Some, codes, map, length, option_map, unwrap_or, IfSome, IfOk, IfErr, OnOk};
 ghost use Rattle.serde_json.specs.View.{view};
-ghost use Rattle.sg_limits.specs.Limits.{bond_limit};
+ghost use Rattle.sg_limits.specs.Limits.{bond_limit, spin_limit};
 ghost use Rattle.sg_model.specs.declared.refusal.Fault.TheVariants.{NoMemory as OutOfMemory};
 ghost use Rattle.sg_model.specs.declared.refusal.Refusal.TheVariants.{SelfBond as IsSelfBond};
 ghost use Rattle.sg_model.specs.Ising.{bond_count as count_of};
 ghost use Rattle.sg_model.specs.WellFormed.{IsInstance};
-ghost use Rattle.sg_reader.specs.Header.{spin_limit};
 ghost use Rattle.sg_reader.specs.Tests.{IsTestFault};
 ghost use Rattle.sg_json.specs.Members.{bonds_fault, general_fault, general_in, rotation_fault, self_fault};
 ghost use Rattle.sg_json.specs.ReadJson.{IsTableFault};

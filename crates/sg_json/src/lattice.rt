@@ -1,12 +1,11 @@
 ghost use Rattle.std.specs.Prelude.{◌≡◌, ◌≤◌, None, Some, codes, map, option_map, IfOk, IfErr, OnOk};
 ghost use Rattle.serde_json.specs.Data.{Data};
 ghost use Rattle.serde_json.specs.View.{view};
-ghost use Rattle.sg_limits.specs.Limits.{bond_limit};
+ghost use Rattle.sg_limits.specs.Limits.{bond_limit, spin_limit};
 ghost use Rattle.sg_model.specs.Faults.{IsFaultOf};
 ghost use Rattle.sg_model.specs.Ising.{bond_count as count_of};
 ghost use Rattle.sg_model.specs.WellFormed.{IsInstance};
 ghost use Rattle.sg_reader.specs.Body.{reseamed};
-ghost use Rattle.sg_reader.specs.Header.{spin_limit};
 ghost use Rattle.sg_reader.specs.Tests.{IsTestFault};
 ghost use Rattle.sg_json.specs.Members.{count_fault, lattice_fault, lattice_in};
 ghost use Rattle.sg_json.specs.ReadJson.{IsTableFault};

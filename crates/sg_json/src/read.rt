@@ -1,9 +1,8 @@
 ghost use Rattle.std.specs.Prelude.{◌≡◌, ◌≤◌, None, Some, IfOk, IfErr};
 ghost use Rattle.serde_json.specs.View.{view};
-ghost use Rattle.sg_limits.specs.Limits.{bond_limit};
+ghost use Rattle.sg_limits.specs.Limits.{bond_limit, spin_limit};
 ghost use Rattle.sg_model.specs.Ising.{bond_count as count_of};
 ghost use Rattle.sg_model.specs.WellFormed.{IsInstance};
-ghost use Rattle.sg_reader.specs.Header.{spin_limit};
 ghost use Rattle.sg_json.specs.Members.{instance_of, members_fault};
 ghost use Rattle.sg_json.specs.ReadJson.{Gives, IsDataFault, IsJsonFault, IsTableFault, ReadsJson};
 

@@ -1,14 +1,15 @@
 ghost use Rattle.std.specs.Prelude.{◌≡◌, ◌<◌, ◌≤◌, ◌*◌, ◌^◌, None, Some, codes, IfOk, IfErr, OnOk};
 ghost use Rattle.serde_json.specs.View.{view};
 ghost use Rattle.sg_lattice.specs.Tables.{IsSize};
-ghost use Rattle.sg_reader.specs.Header.{spin_limit};
+ghost use Rattle.sg_limits.specs.Limits.{spin_limit};
 ghost use Rattle.sg_json.specs.Members.{cols_in, general_size_fault, lattice_size_fault, many_fault, rows_in, spins_in};
 
 use super::value::size_member;
 use serde_json::Value;
 use sg_lattice::Kind;
+use sg_limits::SPIN_LIMIT;
 use sg_model::Refusal;
-use sg_reader::{SPIN_LIMIT, least_cols};
+use sg_reader::least_cols;
 
 /// Rows and columns of a lattice.
 #[derive(Clone, Copy)]

@@ -5,7 +5,8 @@ use Rattle.sg_model.specs.declared.refusal.Refusal.TheVariants.{BadNumber, BadSh
 use Rattle.sg_reader.specs.declared.header.Form.{Form}
 use Rattle.sg_reader.specs.Kept.{Kept, field}
 use Rattle.sg_reader.specs.Tests.{bad_field}
-use Rattle.sg_reader.specs.Header.{field_count, form_fault, form_of, header_fault, header_of, header_range, header_with, spin_limit, spins_in}
+use Rattle.sg_reader.specs.Header.{field_count, form_fault, form_of, header_fault, header_of, header_range, header_with, spins_in}
+use Rattle.sg_limits.specs.Limits.{spin_limit}
 use Rattle.sg_reader.proofs.TestLaws.{is-not, is-other}
 
 pub form_fault-shape : (form : Form) (r : Kept) → (length r.fields ≡ field_count form → ⊥) → form_fault (Some form) r ≡ Some (BadShape r.at)

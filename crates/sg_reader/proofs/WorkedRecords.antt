@@ -45,7 +45,7 @@ narrow : header_fault (row 3 (codes "cylinder" ∷ codes "99" ∷ codes "2" ∷ 
 unfolding header_fault form_of bad_field number_of
 narrow = refl
 
-large : header_fault (row 0 (codes "square" ∷ codes "33" ∷ codes "32" ∷ [])) ≡ Some (TooManySpins (pos 1056))
+large : header_fault (row 0 (codes "square" ∷ codes "46" ∷ codes "45" ∷ [])) ≡ Some (TooManySpins (pos 2070))
 unfolding header_fault form_of bad_field number_of
 large = refl
 

@@ -4,6 +4,7 @@ use Rattle.std.specs.Prelude.{ℕ, ◌*◌, ◌≤◌, ◌==◌, not, nat_lt, po
 use Rattle.std.specs.Str.{bytes_eq}
 use Rattle.sg_model.specs.declared.refusal.Refusal.{Refusal}
 use Rattle.sg_model.specs.declared.refusal.Refusal.TheVariants.{BadShape, TooManySpins, UnknownKind}
+use Rattle.sg_limits.specs.Limits.{spin_limit}
 use Rattle.sg_lattice.specs.declared.kind.Kind.TheVariants.{Square, Triangular, Hexagonal, Cylinder}
 use Rattle.sg_lattice.specs.Tables.{IsSize, least_cols}
 use Rattle.sg_reader.specs.declared.header.Form.{Form}
@@ -13,10 +14,6 @@ use Rattle.sg_reader.specs.declared.header.Header.TheVariants as header
 use Rattle.sg_reader.specs.declared.range.Range.{Range}
 use Rattle.sg_reader.specs.Kept.{Kept, field}
 use Rattle.sg_reader.specs.Tests.{at_least, bad_number, first_of, refuse_if, size_in}
-
--- the most spins of an instance that is read
-abbrev pub spin_limit : ℕ
-spin_limit = 16
 
 -- the form of an instance that a word names
 unfoldable pub form_of : List ℕ → Option Form

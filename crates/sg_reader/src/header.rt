@@ -3,10 +3,10 @@ ghost use Rattle.sg_lattice.specs.Tables.{least_cols as least_cols_of};
 ghost use Rattle.sg_reader.specs.declared.header.Form.TheVariants as form;
 ghost use Rattle.sg_reader.specs.Header.{form_fault, form_of, header_fault, header_of, header_with, IsHeader};
 
-use super::limits::SPIN_LIMIT;
 use super::range::Range;
 use super::row::Row;
 use sg_lattice::Kind;
+use sg_limits::SPIN_LIMIT;
 use sg_model::Refusal;
 
 const SQUARE: &[u8] = b"square";

@@ -21,7 +21,6 @@ mod field;
 mod general;
 mod header;
 mod lattice;
-mod limits;
 mod numeral;
 mod range;
 mod read;
@@ -31,7 +30,6 @@ mod rows;
 
 pub use field::without_marks;
 pub use header::{Form, form_named, least_cols};
-pub use limits::SPIN_LIMIT;
 pub use numeral::number;
 pub use read::{no_more, read_instance};
 pub use result::read_result;

@@ -1,8 +1,7 @@
 ghost use Rattle.std.specs.Prelude.{◌≡◌, ◌<◌, ◌≤◌, None, length, IfOk, IfErr, OnOk};
-ghost use Rattle.sg_limits.specs.Limits.{bond_limit, text_limit};
+ghost use Rattle.sg_limits.specs.Limits.{bond_limit, spin_limit, text_limit};
 ghost use Rattle.sg_model.specs.Ising.{bond_count};
 ghost use Rattle.sg_model.specs.WellFormed.{IsInstance};
-ghost use Rattle.sg_reader.specs.Header.{spin_limit};
 ghost use Rattle.sg_reader.specs.Kept.{kept_of};
 ghost use Rattle.sg_reader.specs.ReadInstance.{IsReadFault, ReadsInstance};
 ghost use Rattle.sg_reader.specs.NoMore.{IsTrailingFault, trailing_fault};

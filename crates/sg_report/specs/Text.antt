@@ -31,11 +31,13 @@ int_at numbers i = slice_index_or numbers i (pos 0)
 -- the least energy, the least one with the signs of the seam changed, and the second minus the first
 abbrev pub wall_text : ℤ → ℤ → ℤ → List ℕ
 wall_text periodic antiperiodic wall =
-    line (codes "periodic") (periodic ∷ []) ++ line (codes "antiperiodic") (antiperiodic ∷ []) ++ line (codes "wall") (wall ∷ []) ++ codes "end\n"
+    line (codes "periodic") (periodic ∷ []) ++ line (codes "antiperiodic") (antiperiodic ∷ [])
+    ++ line (codes "wall") (wall ∷ []) ++ codes "end\n"
 
 -- a bond with its cost: rigid where it costs something to turn its product round
 abbrev pub cost_line : ℕ → ℤ → List ℕ
-cost_line bond cost = entries (codes "cost") (pos bond ∷ cost ∷ []) ++ (if int_lt (pos 0) cost then codes ",rigid\n" else codes ",loose\n")
+cost_line bond cost = entries (codes "cost") (pos bond ∷ cost ∷ [])
+    ++ (if int_lt (pos 0) cost then codes ",rigid\n" else codes ",loose\n")
 
 -- the costs of all bonds
 abbrev pub bonds_text : List ℤ → List ℕ

@@ -28,7 +28,7 @@ pub fn answer(alloc: Global, line: &str, input: &[u8]) -> Result<(Status, Vec<u8
     let words = words(alloc, line)?;
     let bytes = Vec::from_slice(alloc, input)?;
     let mut source = MemSource::new(bytes, 7, CallList::new(alloc));
-    let mut sink = MemSink::new(alloc, 4096, 5, CallList::new(alloc))?;
+    let mut sink = MemSink::new(alloc, 1 << 20, 5, CallList::new(alloc))?;
     let status = run(alloc, words.as_slice(), &mut source, &mut sink);
     Ok((status, Vec::from_slice(alloc, sink.bytes())?))
 }

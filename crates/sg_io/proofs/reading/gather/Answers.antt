@@ -12,7 +12,8 @@ returns-then-len-count-clause-stopped g c =
     let full : length bytes + c.in-Got.count ≡ c.args.limit + 1 =
     omega (arith, c.in-Got.ensures.count.1, c.read.auto.into, length-take c.min-room.result c.loop-count.piece) in
     subst (λ (n : ℕ). Loses n (left c.args.source.now) (left c.read.new.self)) full
-    (Loses-more bytes c.in-Got.count (left c.args.source.now) (left c.loop-count.source) (left c.read.new.self) c.loop-count.invariant.taken c.in-Got.ensures.bytes.1)
+    (Loses-more bytes c.in-Got.count (left c.args.source.now) (left c.loop-count.source) (left c.read.new.self)
+    c.loop-count.invariant.taken c.in-Got.ensures.bytes.1)
 
 pub returns-then-len-count-clause-too_long : goal.returns-then-len-count-clause-too_long
 returns-then-len-count-clause-too_long g c =
@@ -33,5 +34,6 @@ returns-in_err-extend_from_slice-in-Got-clause-stopped g c =
     rw (p.1, p.2) (
       length bytes + c.in-Got.count,
       omega arith,
-      Loses-more bytes c.in-Got.count (left c.args.source.now) (left c.loop-count.source) (left c.read.new.self) c.loop-count.invariant.taken c.in-Got.ensures.bytes.1,
+      Loses-more bytes c.in-Got.count (left c.args.source.now) (left c.loop-count.source) (left c.read.new.self)
+          c.loop-count.invariant.taken c.in-Got.ensures.bytes.1,
     )

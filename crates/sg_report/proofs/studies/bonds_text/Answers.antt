@@ -6,7 +6,8 @@ use Rattle.sg_report.proofs.studies.bonds_text.Goals as goal
 
 pub loop-bond-preserved : goal.loop-bond-preserved
 loop-bond-preserved c =
-    let pushed : c.push_cost.new.text.items ≡ c.loop-bond.text.items ++ cost_line c.loop-bond.bond (get_or c.args.costs.now c.loop-bond.bond (pos 0)) = search rules in
+    let cost = get_or c.args.costs.now c.loop-bond.bond (pos 0) in
+    let pushed : c.push_cost.new.text.items ≡ c.loop-bond.text.items ++ cost_line c.loop-bond.bond cost = search rules in
     pushed ∙ lines-more cost_line c.args.costs.now c.loop-bond.text.items c.loop-bond.bond (pos 0) (omega arith) c.loop-bond.invariant
 
 pub returns : goal.returns

@@ -6,7 +6,8 @@ use Rattle.sg_report.proofs.studies.clusters_text.Goals as goal
 
 pub loop-spin-preserved : goal.loop-spin-preserved
 loop-spin-preserved c =
-    let pushed : c.push_cluster.new.text.items ≡ c.loop-spin.text.items ++ cluster_line c.loop-spin.spin (get_or c.args.clusters.now c.loop-spin.spin 0) = search rules in
+    let cluster = get_or c.args.clusters.now c.loop-spin.spin 0 in
+    let pushed : c.push_cluster.new.text.items ≡ c.loop-spin.text.items ++ cluster_line c.loop-spin.spin cluster = search rules in
     pushed ∙ lines-more cluster_line c.args.clusters.now c.loop-spin.text.items c.loop-spin.spin 0 (omega arith) c.loop-spin.invariant
 
 pub returns : goal.returns

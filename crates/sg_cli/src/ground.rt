@@ -1,0 +1,20 @@
+// What `ground` answers.
+ghost use Rattle.std.specs.Prelude.{IfOk};
+ghost use Rattle.sg_cli.specs.Promises.{IsAnswered};
+ghost use Rattle.sg_cli.specs.Served.{PrintsGround};
+
+use super::reply::{NoMemory, Reply, done};
+use sg_ground::solve;
+use sg_planar::Planar;
+use sg_report::ground_text;
+use std::alloc::Global;
+
+/// The least energy, spins that have it, and a packing of frustrated loops that proves it.
+pub fn ground_reply(alloc: Global, planar: &Planar) -> Result<Reply, NoMemory>
+    ensures served { IfOk result (λ reply. PrintsGround planar.now.instance reply.text.items reply.status) }
+    ensures answered { IfOk result (λ reply. IsAnswered reply.status) }
+{
+    let answer = solve(alloc, planar)?;
+    let text = ground_text(alloc, answer.energy, &answer.spins, &answer.loops)?;
+    Ok(done(text))
+}

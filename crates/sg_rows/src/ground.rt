@@ -1,0 +1,93 @@
+// Ground states with their proof: `check` judges what `ground` prints, behind the instance that it
+// belongs to.
+use super::runs::answer;
+use sg_cli::Status;
+use std::alloc::{AllocError, Global};
+use std::process::Abort;
+use std::test::Fail;
+
+// Runs `ground`, compares the front of its text, and has the whole judged.
+fn expect_ground<R: Abort>(rt: &R, alloc: Global, input: &[u8], front: &[u8]) -> Result<(), Fail> {
+    let (status, text) = answer(alloc, "ground", input)?;
+    assert_eq!(rt; status, Status::Done);
+    assert!(rt; text.as_slice().starts_with(front));
+    let mut proof = Vec::from_slice(alloc, input)?;
+    proof.extend_from_slice(text.as_slice())?;
+    let (verdict, line) = answer(alloc, "check", proof.as_slice())?;
+    assert_eq!(rt; verdict, Status::Done);
+    assert_eq!(rt; line.as_slice(), b"yes\n".as_slice());
+    Ok(())
+}
+
+#[test]
+fn ground_states_are_proved(rt: HostRuntime) -> Result<(), Fail> {
+    let rows = [
+        ("square,1,1\nend\n", "energy,0\nspins,1\nend\n"),
+        ("square,1,2\n-3\nend\n", "energy,-3\nspins,1,-1\nend\n"),
+        (
+            "square,2,2\n3,4\n2,-5\nend\n",
+            "energy,-10\nspins,1,1,-1,-1\nloop,",
+        ),
+        (
+            "square,2,2\n3000000000,4000000000\n2000000000,-5000000000\nend\n",
+            "energy,-10000000000\nspins,1,1,-1,-1\nloop,",
+        ),
+        (
+            "triangular,2,2\n-1,-1,-1,-1,-1\nend\n",
+            "energy,-3\nspins,1,",
+        ),
+        (
+            "hexagonal,2,3\n4,5,6,7\n3,-8\nend\n",
+            "energy,-27\nspins,1,1,1,-1,-1,-1\nloop,",
+        ),
+        ("cylinder,1,3\n1,1,-1\nend\n", "energy,-1\nspins,1,"),
+        (
+            "general,2\nbond,0,1,3\nbond,0,1,-2\nbond,0,1,1\nrot,0,0,2,4\nrot,1,1,5,3\nend\n",
+            "energy,-2\nspins,1,1\nloop,",
+        ),
+        (
+            "general,2\nbond,0,1,3\nbond,0,1,-2\nbond,0,1,3\nbond,0,1,-7\nrot,0,0,2,4,6\nrot,1,1,7,5,3\nend\n",
+            "energy,-3\nspins,1,-1\nloop,",
+        ),
+        (
+            "square,4,4\n1,1,1,1,-1,1,1,1,1,1,1,1,1,1,1,1,1,1,1,1,1,1,1,1\nend\n",
+            "energy,-22\nspins,1,1,1,1,1,1,1,1,1,1,1,1,1,1,1,1\nloop,",
+        ),
+        (
+            "square,1,2\n1099511627777\nend\n",
+            "energy,-1099511627777\nspins,1,1\nend\n",
+        ),
+    ];
+    for (input, front) in rows {
+        expect_ground(&rt, rt.alloc(), input.as_bytes(), front.as_bytes())?;
+    }
+    Ok(())
+}
+
+// A lattice whose couplings are all the same.
+fn uniform(alloc: Global, head: &str, coupling: &str, bonds: u32) -> Result<Vec<u8>, AllocError> {
+    let mut text = Vec::from_slice(alloc, head.as_bytes())?;
+    for _ in 0..bonds {
+        text.extend_from_slice(coupling.as_bytes())?;
+    }
+    text.extend_from_slice(b"end\n")?;
+    Ok(text)
+}
+
+#[test]
+fn a_thousand_spins(rt: HostRuntime) -> Result<(), Fail> {
+    let rows = [
+        ("square,32,32\n", "1\n", 1984, "energy,-1984\nspins,1,1,1,"),
+        (
+            "square,1,1024\n",
+            "-1\n",
+            1023,
+            "energy,-1023\nspins,1,-1,1,",
+        ),
+    ];
+    for (head, coupling, bonds, front) in rows {
+        let input = uniform(rt.alloc(), head, coupling, bonds)?;
+        expect_ground(&rt, rt.alloc(), input.as_slice(), front.as_bytes())?;
+    }
+    Ok(())
+}
