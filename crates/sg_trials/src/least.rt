@@ -1,0 +1,112 @@
+// The energies that are answered, beside the least over all assignments.
+use rand_core::utils::NextWord;
+use rand_pcg::Pcg32;
+use sg_ground::{judged_proposal, match_faces, solve};
+use sg_model::{Instance, least_plain};
+use sg_planar::Planar;
+use sg_reader::read_instance;
+use std::alloc::{AllocError, Global};
+use std::process::Abort;
+use std::test::Fail;
+
+// The instance of a text.
+fn instance(rt: &impl Abort, alloc: Global, text: &str) -> Result<Instance, Fail> {
+    assert!(rt; text.len() < 1000);
+    let (inst, _) = read_instance(alloc, text.as_bytes())?;
+    Ok(inst)
+}
+
+// Tries all assignments of the instance of a text, and solves it: at once, and by matching alone. The
+// proposal has to be there and good, else `solve` would go the long way each time and nobody notice.
+fn assert_least(rt: &impl Abort, alloc: Global, text: &str) -> Result<(), Fail> {
+    let inst = instance(rt, alloc, text)?;
+    let Ok(planar) = Planar::new(alloc, inst) else {
+        return Err(Fail::new("the instance is planar"));
+    };
+    let inst = planar.instance();
+    assert!(rt; inst.n() <= 16);
+    let (_, least) = least_plain(alloc, inst)?;
+    assert_eq!(rt; i128::from(solve(alloc, &planar)?.energy), least, "{text}");
+    assert_eq!(rt;
+        i128::from(match_faces(alloc, &planar)?.energy),
+        least,
+        "{text}"
+    );
+    assert!(rt; judged_proposal(alloc, &planar)?.is_some(), "{text}");
+    Ok(())
+}
+
+#[test]
+fn worked_instances(rt: HostRuntime) -> Result<(), Fail> {
+    let texts = [
+        "square,1,1\nend\n",
+        "square,2,2\n3,4\n2,-5\nend\n",
+        "triangular,2,2\n-1,-1,-1,-1,-1\nend\n",
+        "hexagonal,2,3\n4,5,6,7\n3,-8\nend\n",
+        "general,2\nbond,0,1,3\nbond,0,1,-2\nbond,0,1,1\nrot,0,0,2,4\nrot,1,1,5,3\nend\n",
+        "general,2\nbond,0,1,3\nbond,0,1,-2\nbond,0,1,3\nbond,0,1,-7\nrot,0,0,2,4,6\nrot,1,1,7,5,3\nend\n",
+        "square,1,2\n17592186044416\nend\n",
+        "general,4\nbond,0,1,2\nbond,1,2,-3\nbond,1,3,4\nrot,0,0\nrot,1,1,2,4\nrot,2,3\nrot,3,5\nend\n",
+        "general,7\nbond,0,1,1\nbond,0,2,1\nbond,0,3,1\nbond,0,4,1\nbond,0,5,1\nbond,0,6,1\nbond,1,2,-1\nbond,2,3,-1\nbond,3,4,-1\nbond,4,5,-1\nbond,5,6,-1\nbond,6,1,-1\nrot,0,0,2,4,6,8,10\nrot,1,1,23,12\nrot,2,3,13,14\nrot,3,5,15,16\nrot,4,7,17,18\nrot,5,9,19,20\nrot,6,11,21,22\nend\n",
+        "square,4,4\n1,1,1,1,-1,1,1,1,1,1,1,1,1,1,1,1,1,1,1,1,1,1,1,1\nend\n",
+        "cylinder,1,3\n5,7,-2\nend\n",
+    ];
+    for text in texts {
+        assert_least(&rt, rt.alloc(), text)?;
+    }
+    Ok(())
+}
+
+// A coupling of one size, of one size or none, of few sizes with zeros, -1 alone, or of many sizes.
+fn coupling(kind: u32, word: u32) -> i64 {
+    match kind {
+        0 => 2 * i64::from(word % 2) - 1,
+        1 => i64::from(word % 3) - 1,
+        2 => i64::from(word % 9) - 4,
+        3 => -1,
+        _ => i64::from(word) - 2147483648,
+    }
+}
+
+// The text of a lattice with drawn couplings.
+fn drawn(
+    alloc: Global,
+    shape: &str,
+    bonds: u32,
+    kind: u32,
+    draws: &mut Pcg32,
+) -> Result<String, AllocError> {
+    let mut text = String::from_str(alloc, shape)?;
+    for bond in 0..bonds {
+        let j = coupling(kind, draws.next_word());
+        let before = if bond == 0 { '\n' } else { ',' };
+        text.push(before)?;
+        text.push_str(format!(in alloc; "{j}")?.as_str())?;
+    }
+    text.push_str("\nend\n")?;
+    Ok(text)
+}
+
+#[test]
+fn drawn_lattices(rt: HostRuntime) -> Result<(), Fail> {
+    let shapes = [
+        ("square,1,12", 11),
+        ("square,2,6", 16),
+        ("square,3,4", 17),
+        ("triangular,2,6", 21),
+        ("triangular,3,4", 23),
+        ("hexagonal,2,6", 13),
+        ("hexagonal,3,4", 13),
+        ("cylinder,1,9", 9),
+        ("cylinder,2,5", 15),
+        ("cylinder,3,4", 20),
+    ];
+    let mut draws = Pcg32::new(42, 54);
+    for (shape, bonds) in shapes {
+        for trial in 0..20 {
+            let text = drawn(rt.alloc(), shape, bonds, trial % 5, &mut draws)?;
+            assert_least(&rt, rt.alloc(), text.as_str())?;
+        }
+    }
+    Ok(())
+}

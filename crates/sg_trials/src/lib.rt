@@ -1,0 +1,7 @@
+//! Trials of the solver beside the plain minimum, on small instances that are read from texts.
+//!
+//! The contract of `sg_ground::solve` says that no assignment has less energy; here both are run.
+#![tactic(auto)]
+
+#[cfg(test)]
+mod least;
