@@ -37,5 +37,4 @@ pub fn limits_are_as_stated()
     ensures cost { COST_LIMIT ≡ pos cost_limit }
     ensures input { INPUT_LIMIT ≡ input_limit }
     ensures text { TEXT_LIMIT ≡ text_limit }
-{
-}
+{}
