@@ -1,1 +1,2 @@
 mod NumberedLines
+mod Compact

@@ -2,3 +2,5 @@ pub mod Line
 pub mod Refusals
 pub mod Verdicts
 pub mod Text
+pub mod Report
+pub mod ReportValue

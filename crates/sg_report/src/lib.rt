@@ -1,20 +1,22 @@
 //! The texts of answers: exact bytes, line by line.
 //!
 //! A line is a word, the numbers behind it, each after a comma, and one line feed. Numbers are
-//! decimal, with `-` before a negative one and no leading zeros.
+//! decimal, with `-` before a negative one and no leading zeros. A report is one line of JSON.
 //!
 //! For the next engineer: each public function makes just the bytes of the definition of its name in
-//! `specs/Text.antt`; the numbers of refusals and verdicts stand in `specs/Refusals.antt` and
+//! `specs/Text.antt`, and of `specs/Report.antt`; the numbers of refusals and verdicts stand in `specs/Refusals.antt` and
 //! `specs/Verdicts.antt`. The functions take the memory of their text and nothing else.
 #![tactic(auto)]
 
 mod answers;
 mod faults;
 mod line;
+mod report;
 mod studies;
 
 pub use answers::{energy_text, ground_text};
 pub use faults::{refusal_text, verdict_text};
+pub use report::report_text;
 use std::alloc::AllocError;
 pub use studies::{bonds_text, clusters_text, wall_text};
 

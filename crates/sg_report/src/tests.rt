@@ -1,5 +1,6 @@
 use super::{
-    bonds_text, clusters_text, energy_text, ground_text, refusal_text, verdict_text, wall_text,
+    bonds_text, clusters_text, energy_text, ground_text, refusal_text, report_text, verdict_text,
+    wall_text,
 };
 use sg_check::{Loop, Loops, Verdict};
 use sg_model::{BondList, Refusal, Spins};
@@ -43,6 +44,24 @@ fn each_text_has_its_bytes(rt: HostRuntime) -> Result<(), Fail> {
         ),
         (refusal_text(alloc, &Refusal::NoSeam)?, "refused,16\n"),
         (verdict_text(alloc, &Verdict::Yes)?, "yes\n"),
+        (
+            report_text(alloc, 0, 0, 0, &spins, &loops, &[], &[0], None)?,
+            "{\"bonds\":0,\"clusters\":[0],\"costs\":[],\"energy\":0,\"loops\":[{\"bonds\":[0,3],\"y\":2}],\"spins\":[1,-1],\"sum\":0,\"wall\":null}\n",
+        ),
+        (
+            report_text(
+                alloc,
+                3,
+                14,
+                -14,
+                &spins,
+                &Loops::new(alloc),
+                &[14, 18],
+                &[0, 0],
+                Some([-14, -10, 4]),
+            )?,
+            "{\"bonds\":3,\"clusters\":[0,0],\"costs\":[14,18],\"energy\":-14,\"loops\":[],\"spins\":[1,-1],\"sum\":14,\"wall\":{\"antiperiodic\":-10,\"difference\":4,\"periodic\":-14}}\n",
+        ),
         (
             verdict_text(alloc, &Verdict::Load { bond: 2, load: 5 })?,
             "no,6,2,5\n",

@@ -1,0 +1,149 @@
+// Reports, as JSON.
+ghost use Rattle.std.specs.Prelude.{◌≡◌, ◌++◌, false, codes, map, IfOk};
+ghost use Rattle.serde_json.specs.Written.{compact_text, has_float};
+ghost use Rattle.serde_json.specs.View.{view};
+ghost use Rattle.sg_report.specs.Report.{report_text as report_bytes};
+ghost use Rattle.sg_report.specs.ReportValue.{loop_value as loop_data, name_value, report_value as report_data, wall_value as wall_data, whole_value};
+
+use super::NoMemory;
+use serde_json::{Value, json};
+use sg_check::{Loop, Loops};
+use sg_model::Spins;
+use std::alloc::Global;
+
+/// The text of a report: one line, a JSON object without blanks, its members in the order of their
+/// names. The energies of the wall are given in the order of `wall_text`.
+pub fn report_text(
+    alloc: Global,
+    bonds: u32,
+    sum: i64,
+    energy: i64,
+    spins: &Spins,
+    loops: &Loops,
+    costs: &[i64],
+    clusters: &[u32],
+    wall: Option<[i64; 3]>,
+) -> Result<Vec<u8>, NoMemory>
+    ensures { IfOk result (λ text. text.items
+        ≡ report_bytes bonds sum energy spins.now loops.now costs.now clusters.now wall) }
+{
+    let value = report_value(
+        alloc,
+        bonds,
+        sum,
+        energy,
+        spins.as_slice(),
+        loops.as_slice(),
+        costs,
+        clusters,
+        wall,
+    )?;
+    line_of(alloc, &value)
+}
+
+// The compact text of a value without floats, as a line.
+fn line_of(alloc: Global, value: &Value) -> Result<Vec<u8>, NoMemory>
+    requires { has_float (view value.now) ≡ false }
+    ensures { IfOk result (λ text. text.items ≡ compact_text (view value.now) ++ codes "\n") }
+{
+    let mut text = value.to_vec(alloc)?;
+    text.push(b'\n')?;
+    Ok(text)
+}
+
+fn report_value(
+    alloc: Global,
+    bonds: u32,
+    sum: i64,
+    energy: i64,
+    spins: &[i8],
+    loops: &[Loop],
+    costs: &[i64],
+    clusters: &[u32],
+    wall: Option<[i64; 3]>,
+) -> Result<Value, NoMemory>
+    ensures { IfOk result (λ v. view v
+        ≡ report_data bonds sum energy spins.now loops.now costs.now clusters.now wall) }
+{
+    let clusters = Value::Array(name_values(alloc, clusters)?);
+    let costs = Value::Array(number_values(alloc, costs)?);
+    let loops = Value::Array(loop_values(alloc, loops)?);
+    let spins = Value::Array(spin_values(alloc, spins)?);
+    let wall = wall_value(alloc, wall)?;
+    json!(in alloc; {
+        "bonds": bonds,
+        "clusters": clusters,
+        "costs": costs,
+        "energy": energy,
+        "loops": loops,
+        "spins": spins,
+        "sum": sum,
+        "wall": wall
+    })
+}
+
+fn wall_value(alloc: Global, wall: Option<[i64; 3]>) -> Result<Value, NoMemory>
+    ensures { IfOk result (λ v. view v ≡ wall_data wall) }
+{
+    match wall {
+        Some(energies) => {
+            let periodic = energies[0];
+            let antiperiodic = energies[1];
+            let difference = energies[2];
+            json!(in alloc; {
+                "antiperiodic": antiperiodic,
+                "difference": difference,
+                "periodic": periodic
+            })
+        }
+        None => Ok(Value::Null),
+    }
+}
+
+fn number_values(alloc: Global, numbers: &[i64]) -> Result<Vec<Value>, NoMemory>
+    ensures { IfOk result (λ v. map view v.items ≡ map whole_value numbers.now) }
+{
+    let mut found = Vec::with_capacity(alloc, numbers.len())?;
+    for number in numbers {
+        found.push(Value::from(*number))?;
+    }
+    Ok(found)
+}
+
+fn spin_values(alloc: Global, spins: &[i8]) -> Result<Vec<Value>, NoMemory>
+    ensures { IfOk result (λ v. map view v.items ≡ map whole_value spins.now) }
+{
+    let mut found = Vec::with_capacity(alloc, spins.len())?;
+    for spin in spins {
+        found.push(Value::from(*spin))?;
+    }
+    Ok(found)
+}
+
+fn name_values(alloc: Global, names: &[u32]) -> Result<Vec<Value>, NoMemory>
+    ensures { IfOk result (λ v. map view v.items ≡ map name_value names.now) }
+{
+    let mut found = Vec::with_capacity(alloc, names.len())?;
+    for name in names {
+        found.push(Value::from(*name))?;
+    }
+    Ok(found)
+}
+
+fn loop_value(alloc: Global, entry: &Loop) -> Result<Value, NoMemory>
+    ensures { IfOk result (λ v. view v ≡ loop_data entry.now) }
+{
+    let bonds = Value::Array(name_values(alloc, entry.bonds.as_slice())?);
+    let y = entry.y;
+    json!(in alloc; {"bonds": bonds, "y": y})
+}
+
+fn loop_values(alloc: Global, loops: &[Loop]) -> Result<Vec<Value>, NoMemory>
+    ensures { IfOk result (λ v. map view v.items ≡ map loop_data loops.now) }
+{
+    let mut found = Vec::with_capacity(alloc, loops.len())?;
+    for entry in loops {
+        found.push(loop_value(alloc, entry)?)?;
+    }
+    Ok(found)
+}
