@@ -1,11 +1,11 @@
 -- What is answered: the status and the whole text that belong to the words and the bytes.
-use Rattle.std.specs.Prelude.{◌≡◌, ◌≢◌, ◌<◌, ◌≤◌, ℕ, ℤ, pos, Bool, true, false, Option, Some, None, List, [], length, codes}
+use Rattle.std.specs.Prelude.{◌≡◌, ◌≢◌, ◌<◌, ◌≤◌, ℕ, ℤ, pos, Bool, true, false, Option, Some, None, List, [], ◌∷◌, length, codes}
 use Rattle.sg_limits.specs.Limits.{input_limit}
 use Rattle.sg_model.specs.declared.refusal.Refusal.{Refusal}
 use Rattle.sg_model.specs.declared.refusal.Refusal.TheVariants.{TooLong, NoSeam}
-use Rattle.sg_model.specs.Ising.{Ising}
+use Rattle.sg_model.specs.Ising.{Ising, bond_count}
 use Rattle.sg_model.specs.Spins.{spin}
-use Rattle.sg_model.specs.Energy.{IsGroundState, energy}
+use Rattle.sg_model.specs.Energy.{IsGroundState, energy, weight}
 use Rattle.sg_check.specs.declared.packing.Loop.{Loop}
 use Rattle.sg_check.specs.declared.packing.ResultText.{ResultText}
 use Rattle.sg_check.specs.declared.verdict.Verdict.{Verdict}
@@ -16,12 +16,13 @@ use Rattle.sg_wall.specs.Wall.{IsWall}
 use Rattle.sg_bonds.specs.Cost.{AreCosts}
 use Rattle.sg_bonds.specs.Cluster.{AreClusters}
 use Rattle.sg_report.specs.Text.{bonds_text, clusters_text, energy_text, ground_text, refusal_text, verdict_text, wall_text}
+use Rattle.sg_report.specs.Report.{report_text}
 use Rattle.sg_cli.specs.Command.{command_of}
 use Rattle.sg_cli.specs.Input.{GivesFit, GivesProof, RefusesProof, RefusesText}
 use Rattle.sg_cli.specs.declared.command.Command.{Command}
 use Rattle.sg_cli.specs.declared.command.Command.TheVariants as command
 use Rattle.sg_cli.specs.declared.command.Study.{Study}
-use Rattle.sg_cli.specs.declared.command.Study.TheVariants.{Energy, Ground, Wall, Bonds, Clusters}
+use Rattle.sg_cli.specs.declared.command.Study.TheVariants.{Energy, Ground, Wall, Bonds, Clusters, Report}
 use Rattle.sg_cli.specs.declared.status.Status.{Status}
 use Rattle.sg_cli.specs.declared.status.Status.TheVariants.{Done, Refused, Usage, No}
 
@@ -82,6 +83,30 @@ pub record AnswersWall (inst : Ising) (text : List ℕ) (status : Status) : Type
   pub without_seam : inst.seam ≡ [] → IsRefused NoSeam text status
   pub with_seam : inst.seam ≢ [] → PrintsWall inst text status
 
+-- the energies of the domain wall, in the order of `wall_text`, where there is a seam; none where it is empty
+pub record IsSeamWall (inst : Ising) (energies : Option (List ℤ)) : Type 0 where
+  pub without_seam : inst.seam ≡ [] → energies ≡ None
+  pub with_seam : inst.seam ≢ [] → (periodic : ℤ) × (antiperiodic : ℤ) × (difference : ℤ)
+      × IsWall inst periodic antiperiodic difference × (energies ≡ Some (periodic ∷ antiperiodic ∷ difference ∷ []))
+
+-- what `ground`, `bonds`, `clusters` and, where there is a seam, `wall` print, with the number of bonds and their weight
+pub record PrintsReport (inst : Ising) (text : List ℕ) (status : Status) : Type 0 where
+  pub energy : ℤ
+  pub spins : List ℤ
+  pub loops : List Loop
+  pub costs : List ℤ
+  pub names : List ℕ
+  pub wall : Option (List ℤ)
+  pub least : IsGroundState inst spins
+  pub proves : Proves inst spins energy loops
+  pub short : IsShort inst loops
+  pub first_up : spin spins 0 ≡ pos 1
+  pub exact_costs : AreCosts inst costs
+  pub exact_names : AreClusters inst names
+  pub exact_wall : IsSeamWall inst wall
+  pub printed : text ≡ report_text (bond_count inst) (pos (weight inst)) energy spins loops costs names wall
+  pub done : status ≡ Done
+
 -- how a run ends by the verdict on a proof
 abbrev pub status_by : Verdict → Status
 status_by verdict.Yes = Done
@@ -101,6 +126,7 @@ AnswersFit Ground inst text status = PrintsGround inst text status
 AnswersFit Wall inst text status = AnswersWall inst text status
 AnswersFit Bonds inst text status = PrintsCosts inst text status
 AnswersFit Clusters inst text status = PrintsClusters inst text status
+AnswersFit Report inst text status = PrintsReport inst text status
 
 -- what a study answers to a text: the first fault, or the answer to its instance
 pub data AnswersStudy (study : Study) (bytes text : List ℕ) (status : Status) : Type 0 where

@@ -23,6 +23,8 @@ pub enum Study {
     Bonds,
     /// The rigid cluster of each spin.
     Clusters,
+    /// All of these at once, as one line of JSON.
+    Report,
 }
 
 /// The command that the words after the program's name ask for. It takes no memory.
@@ -49,6 +51,8 @@ fn command_named(word: &str) -> Option<Command>
         Some(Command::Study(Study::Bonds))
     } else if word == "clusters" {
         Some(Command::Study(Study::Clusters))
+    } else if word == "report" {
+        Some(Command::Study(Study::Report))
     } else if word == "check" {
         Some(Command::Check)
     } else {

@@ -1,7 +1,8 @@
 //! The top call: words, a source and a sink in, one status out.
 //!
 //! `run` reads an instance and answers a study: a ground state, alone or with the packing that proves
-//! it, a domain wall, the costs of the bonds, or the rigid clusters. `check` judges the proof that stands behind an instance of any kind.
+//! it, a domain wall, the costs of the bonds, the rigid clusters, or all of these as one line of JSON.
+//! `check` judges the proof that stands behind an instance of any kind.
 //! Every other input is refused with the number of its first fault.
 //!
 //! For the next engineer: the contract of `run` is the headline of the whole project. Its clauses
@@ -18,6 +19,7 @@ mod command;
 mod energy;
 mod ground;
 mod reply;
+mod report;
 mod serve;
 mod status;
 mod study;

@@ -12,6 +12,7 @@ use super::command::Study;
 use super::energy::energy_reply;
 use super::ground::ground_reply;
 use super::reply::{NoMemory, Reply, refuse};
+use super::report::report_reply;
 use super::wall::wall_reply;
 use sg_json::{is_json, read_json};
 use sg_model::{Fault, Instance};
@@ -87,5 +88,6 @@ fn fit_reply(alloc: Global, study: Study, planar: &Planar) -> Result<Reply, NoMe
         Study::Wall => wall_reply(alloc, planar),
         Study::Bonds => bonds_reply(alloc, planar),
         Study::Clusters => clusters_reply(alloc, planar),
+        Study::Report => report_reply(alloc, planar),
     }
 }

@@ -2,26 +2,35 @@
 // of the members.
 use super::runs::{answer, expect_row};
 use sg_cli::Status;
+use std::alloc::{AllocError, Global};
 use std::test::Fail;
 
 #[test]
-fn walls_of_json_instances(rt: HostRuntime) -> Result<(), Fail> {
+fn json_instances(rt: HostRuntime) -> Result<(), Fail> {
     let rows = [
         (
+            "energy",
+            "{\"kind\":\"square\",\"rows\":2,\"cols\":2,\"couplings\":[3,4,2,-5]}",
+            "energy,-10\nspins,1,1,-1,-1\nend\n",
+        ),
+        (
+            "wall",
             "{\"kind\":\"square\",\"rows\":2,\"cols\":2,\"couplings\":[3,4,2,-5],\"seam\":[2]}",
             "periodic,-10\nantiperiodic,-14\nwall,-4\nend\n",
         ),
         (
+            "wall",
             "\u{feff}\u{feff} \r\n\t{ \"seam\" : [0], \"rows\" : 7, \"k\\u0069nd\" : \"square\", \"cols\" : 2, \"couplings\" : [-7], \"rows\" : 1 }\n",
             "periodic,-7\nantiperiodic,-7\nwall,0\nend\n",
         ),
         (
+            "wall",
             "{\"kind\":\"general\",\"n\":2,\"bonds\":[[0,1,7]],\"rotation\":[[0],[1]],\"seam\":[0]}",
             "periodic,-7\nantiperiodic,-7\nwall,0\nend\n",
         ),
     ];
-    for (input, text) in rows {
-        expect_row(&rt, rt.alloc(), "wall", input, (Status::Done, text))?;
+    for (line, input, text) in rows {
+        expect_row(&rt, rt.alloc(), line, input, (Status::Done, text))?;
     }
     Ok(())
 }
@@ -58,6 +67,10 @@ fn json_that_is_refused(rt: HostRuntime) -> Result<(), Fail> {
         ),
         (
             "{\"kind\":\"square\",\"rows\":1,\"cols\":2,\"couplings\":[1.5]}",
+            "refused,19,6,0\n",
+        ),
+        (
+            "{\"kind\":\"square\",\"rows\":1,\"cols\":2,\"couplings\":[1e2]}",
             "refused,19,6,0\n",
         ),
         (
@@ -111,6 +124,35 @@ fn json_that_is_refused(rt: HostRuntime) -> Result<(), Fail> {
     let (status, text) = answer(rt.alloc(), "energy", b"{\"kind\":\"\xFF\"}")?;
     assert_eq!(rt; status, Status::Refused);
     assert_eq!(rt; text.as_slice(), b"refused,18\n".as_slice());
+    Ok(())
+}
+
+// An object with so many lists, one within the other, in place of its kind.
+fn nested(alloc: Global, lists: u32) -> Result<String, AllocError> {
+    let mut text = String::from_str(alloc, "{\"kind\":")?;
+    for _ in 0..lists {
+        text.push_str("[")?;
+    }
+    for _ in 0..lists {
+        text.push_str("]")?;
+    }
+    text.push_str("}")?;
+    Ok(text)
+}
+
+// A nesting of 127 is read, and one of 128 is not.
+#[test]
+fn deep_json(rt: HostRuntime) -> Result<(), Fail> {
+    for (lists, line) in [(126, "refused,19,1,0\n"), (127, "refused,18\n")] {
+        let input = nested(rt.alloc(), lists)?;
+        expect_row(
+            &rt,
+            rt.alloc(),
+            "energy",
+            input.as_str(),
+            (Status::Refused, line),
+        )?;
+    }
     Ok(())
 }
 

@@ -51,7 +51,7 @@ fn ground_states_of_lattices(rt: HostRuntime) -> Result<(), Fail> {
 }
 
 #[test]
-fn walls_bonds_and_clusters(rt: HostRuntime) -> Result<(), Fail> {
+fn walls_bonds_clusters_and_reports(rt: HostRuntime) -> Result<(), Fail> {
     let rows = [
         (
             "wall",
@@ -87,6 +87,16 @@ fn walls_bonds_and_clusters(rt: HostRuntime) -> Result<(), Fail> {
             "bonds",
             "square,1,2\n17592186044416\nend\n",
             "cost,0,35184372088832,rigid\nend\n",
+        ),
+        (
+            "report",
+            "cylinder,1,3\n5,7,2\nend\n",
+            "{\"bonds\":3,\"clusters\":[0,0,0],\"costs\":[14,18,14],\"energy\":-14,\"loops\":[],\"spins\":[1,1,1],\"sum\":14,\"wall\":{\"antiperiodic\":-10,\"difference\":4,\"periodic\":-14}}\n",
+        ),
+        (
+            "report",
+            "square,1,1\nend\n",
+            "{\"bonds\":0,\"clusters\":[0],\"costs\":[],\"energy\":0,\"loops\":[],\"spins\":[1],\"sum\":0,\"wall\":null}\n",
         ),
     ];
     for (line, input, text) in rows {

@@ -1,0 +1,68 @@
+// What `report` answers.
+ghost use Rattle.std.specs.Prelude.{◌≡◌, ◌≤◌, pos, IfOk};
+ghost use Rattle.sg_limits.specs.Limits.{sum_limit};
+ghost use Rattle.sg_model.specs.Energy.{weight};
+ghost use Rattle.sg_model.specs.Ising.{bond_count as count_of_bonds};
+ghost use Rattle.sg_planar.specs.Fit.{IsFit};
+ghost use Rattle.sg_cli.specs.Promises.{IsAnswered};
+ghost use Rattle.sg_cli.specs.Served.{IsSeamWall, PrintsReport};
+
+use super::reply::{NoMemory, Reply, done};
+use sg_bonds::{clusters, costs};
+use sg_ground::solve;
+use sg_model::Instance;
+use sg_planar::Planar;
+use sg_report::report_text;
+use sg_wall::wall;
+use std::alloc::Global;
+
+/// A ground state with its proof, the costs, the clusters and the energies of the domain wall.
+pub fn report_reply(alloc: Global, planar: &Planar) -> Result<Reply, NoMemory>
+    requires { IsFit planar.now.instance }
+    ensures served { IfOk result (λ reply. PrintsReport planar.now.instance reply.text.items reply.status) }
+    ensures answered { IfOk result (λ reply. IsAnswered reply.status) }
+{
+    let instance = planar.instance();
+    let answer = solve(alloc, planar)?;
+    let cost_list = costs(alloc, planar)?;
+    let cluster_list = clusters(alloc, planar)?;
+    let energies = seam_wall(alloc, planar)?;
+    let text = report_text(
+        alloc,
+        bond_count(instance),
+        size_sum(instance),
+        answer.energy,
+        &answer.spins,
+        &answer.loops,
+        cost_list.as_slice(),
+        cluster_list.as_slice(),
+        energies,
+    )?;
+    Ok(done(text))
+}
+
+// The number of bonds.
+fn bond_count(instance: &Instance) -> u32
+    ensures { result ≡ count_of_bonds instance.now }
+{
+    instance.bonds().len() as u32
+}
+
+// The sum of the couplings' sizes.
+fn size_sum(instance: &Instance) -> i64
+    requires { weight instance.now ≤ sum_limit }
+    ensures { result ≡ pos (weight instance.now) }
+{
+    instance.weight() as i64
+}
+
+// The energies of the domain wall at the seam, or none where the seam is empty.
+fn seam_wall(alloc: Global, planar: &Planar) -> Result<Option<[i64; 3]>, NoMemory>
+    ensures { IfOk result (IsSeamWall planar.now.instance) }
+{
+    if planar.instance().seam().is_empty() {
+        return Ok(None);
+    }
+    let found = wall(alloc, planar)?;
+    Ok(Some([found.periodic, found.antiperiodic, found.difference]))
+}
