@@ -1,7 +1,7 @@
 -- The compact text of a report's value is the report's text, and the value has no float.
-use Rattle.std.proofs.Common.{◌≡◌, ◌∙◌, sym, ap, refl, ℕ, ℤ, pos, negsuc, List, [], ◌∷◌, ◌++◌, map, codes, decimal, Option, Some, None, Bool, true, false, append_assoc}
+use Rattle.std.proofs.Common.{◌≡◌, sym, ap, refl, ℕ, ℤ, pos, negsuc, List, [], ◌∷◌, ◌++◌, map, codes, decimal, Option, Some, None, true, false, append_assoc}
 use Rattle.std.specs.Fmt.{signed_decimal}
-use Rattle.serde_json.specs.Data.{Items, Data}
+use Rattle.serde_json.specs.Data.{Data}
 use Rattle.serde_json.specs.Find.{of_integer}
 use Rattle.serde_json.specs.View.{items_of}
 use Rattle.serde_json.specs.Written.{compact_text, items_text, number_text, has_float, items_have_float}

@@ -1,6 +1,5 @@
-use Rattle.std.proofs.Common.{◌≡◌, ◌∙◌, ◌++◌, ap, rules, codes, List, ℕ, w64, to_z-of_z}
+use Rattle.std.proofs.Common.{◌∙◌, ◌++◌, ap, rules, codes, List, ℕ, w64, to_z-of_z}
 use Rattle.std.proofs.lemmas.Result.{IfOk-weaker}
-use Rattle.serde_json.specs.View.{view}
 use Rattle.serde_json.specs.Written.{compact_text, has_float}
 use Rattle.sg_report.specs.Report.{report_object}
 use Rattle.sg_report.proofs.Compact.{plain_report, report_is}
