@@ -1,5 +1,6 @@
 -- What is answered: the status and the whole text that belong to the words and the bytes.
-use Rattle.std.specs.Prelude.{◌≡◌, ◌≢◌, ◌<◌, ◌≤◌, ℕ, ℤ, pos, Bool, true, false, Option, Some, None, List, [], ◌∷◌, length, codes}
+use Rattle.std.specs.Prelude.{◌≡◌, ◌≢◌, ◌<◌, ◌≤◌, ℕ, ℤ, pos, Bool, true, false, Option, Some, None}
+use Rattle.std.specs.Prelude.{List, [], ◌∷◌, length, codes}
 use Rattle.sg_limits.specs.Limits.{input_limit}
 use Rattle.sg_model.specs.declared.refusal.Refusal.{Refusal}
 use Rattle.sg_model.specs.declared.refusal.Refusal.TheVariants.{TooLong, NoSeam}
@@ -15,7 +16,8 @@ use Rattle.sg_check.specs.Verdict.{IsVerdict}
 use Rattle.sg_wall.specs.Wall.{IsWall}
 use Rattle.sg_bonds.specs.Cost.{AreCosts}
 use Rattle.sg_bonds.specs.Cluster.{AreClusters}
-use Rattle.sg_report.specs.Text.{bonds_text, clusters_text, energy_text, ground_text, refusal_text, verdict_text, wall_text}
+use Rattle.sg_report.specs.Text.{bonds_text, clusters_text, energy_text, ground_text, wall_text}
+use Rattle.sg_report.specs.Text.{refusal_text, verdict_text}
 use Rattle.sg_report.specs.Report.{report_text}
 use Rattle.sg_cli.specs.Command.{command_of}
 use Rattle.sg_cli.specs.Input.{GivesFit, GivesProof, RefusesProof, RefusesText}
@@ -89,7 +91,8 @@ pub record IsSeamWall (inst : Ising) (energies : Option (List ℤ)) : Type 0 whe
   pub with_seam : inst.seam ≢ [] → (periodic : ℤ) × (antiperiodic : ℤ) × (difference : ℤ)
       × IsWall inst periodic antiperiodic difference × (energies ≡ Some (periodic ∷ antiperiodic ∷ difference ∷ []))
 
--- what `ground`, `bonds`, `clusters` and, where there is a seam, `wall` print, with the number of bonds and their weight
+-- what `ground`, `bonds`, `clusters` and, where there is a seam, `wall` find, with the number of bonds and their
+-- weight
 pub record PrintsReport (inst : Ising) (text : List ℕ) (status : Status) : Type 0 where
   pub energy : ℤ
   pub spins : List ℤ

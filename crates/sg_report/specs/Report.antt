@@ -17,7 +17,8 @@ list_text text (x ∷ xs) = codes "[" ++ text x ++ further text xs ++ codes "]"
 abbrev pub loop_text : Loop → List ℕ
 loop_text l = codes "{\"bonds\":" ++ list_text decimal l.bonds ++ codes ",\"y\":" ++ signed_decimal l.y ++ codes "}"
 
--- the energies of a domain wall, which are given in the order periodic, antiperiodic, difference; null where there is no seam
+-- the energies of a domain wall, which are given in the order periodic, antiperiodic, difference; null where there is
+-- no seam
 abbrev pub wall_member : Option (List ℤ) → List ℕ
 wall_member None = codes "null"
 wall_member (Some w) =

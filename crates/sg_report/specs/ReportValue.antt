@@ -16,12 +16,15 @@ abbrev pub list_value : {X : Type 0} → (X → Data) → List X → Data
 list_value value xs = array (items_of (map value xs))
 
 abbrev pub loop_value : Loop → Data
-loop_value l = object (member (codes "bonds") (list_value name_value l.bonds) (member (codes "y") (whole_value l.y) no_members))
+loop_value l =
+    object (member (codes "bonds") (list_value name_value l.bonds)
+    (member (codes "y") (whole_value l.y) no_members))
 
 abbrev pub wall_value : Option (List ℤ) → Data
 wall_value None = null
 wall_value (Some w) =
-    object (member (codes "antiperiodic") (whole_value (int_at w 1)) (member (codes "difference") (whole_value (int_at w 2))
+    object (member (codes "antiperiodic") (whole_value (int_at w 1))
+    (member (codes "difference") (whole_value (int_at w 2))
     (member (codes "periodic") (whole_value (int_at w 0)) no_members)))
 
 abbrev pub report_value : ℕ → ℤ → ℤ → List ℤ → List Loop → List ℤ → List ℕ → Option (List ℤ) → Data

@@ -4,8 +4,9 @@
 //! decimal, with `-` before a negative one and no leading zeros. A report is one line of JSON.
 //!
 //! For the next engineer: each public function makes just the bytes of the definition of its name in
-//! `specs/Text.antt`, and of `specs/Report.antt`; the numbers of refusals and verdicts stand in `specs/Refusals.antt` and
-//! `specs/Verdicts.antt`. The functions take the memory of their text and nothing else.
+//! `specs/Text.antt` or `specs/Report.antt`; the numbers of refusals and verdicts stand in
+//! `specs/Refusals.antt` and `specs/Verdicts.antt`. The functions take the memory of their text, and
+//! a report that of its value too.
 #![tactic(auto)]
 
 mod answers;

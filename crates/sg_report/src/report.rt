@@ -3,7 +3,8 @@ ghost use Rattle.std.specs.Prelude.{◌≡◌, ◌++◌, false, codes, map, IfOk
 ghost use Rattle.serde_json.specs.Written.{compact_text, has_float};
 ghost use Rattle.serde_json.specs.View.{view};
 ghost use Rattle.sg_report.specs.Report.{report_text as report_bytes};
-ghost use Rattle.sg_report.specs.ReportValue.{loop_value as loop_data, name_value, report_value as report_data, wall_value as wall_data, whole_value};
+ghost use Rattle.sg_report.specs.ReportValue.{loop_value as loop_data, name_value, whole_value};
+ghost use Rattle.sg_report.specs.ReportValue.{report_value as report_data, wall_value as wall_data};
 
 use super::NoMemory;
 use serde_json::{Value, json};

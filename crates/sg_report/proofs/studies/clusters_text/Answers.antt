@@ -13,4 +13,5 @@ loop-spin-preserved c =
 pub returns : goal.returns
 returns c =
     c.in_ok-extend_from_slice.ensures.items
-    ∙ ap (λ text. text ++ codes "end\n") (lines-all cluster_line c.args.clusters.now c.loop-spin.text.items c.loop-spin.spin (omega arith) c.loop-spin.invariant)
+    ∙ ap (λ text. text ++ codes "end\n")
+    (lines-all cluster_line c.args.clusters.now c.loop-spin.text.items c.loop-spin.spin (omega arith) c.loop-spin.invariant)
