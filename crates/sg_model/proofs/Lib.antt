@@ -15,3 +15,4 @@ pub mod BrokenParity
 pub mod EnergyBounds
 pub mod CoupledEnergy
 pub mod LeastSpins
+pub mod SamePaths
