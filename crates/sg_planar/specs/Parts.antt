@@ -8,7 +8,7 @@ use Rattle.sg_model.specs.declared.bond.Bond.{Bond}
 use Rattle.sg_model.specs.Ising.{Ising, bond_at, bond_count}
 use Rattle.sg_model.specs.Rotation.{darts_of}
 use Rattle.sg_model.specs.Connected.{AreLeasts, IsConnected, Reached, all_bonds}
-use Rattle.sg_planar.specs.declared.parts.Part.{Part}
+use Rattle.sg_planar.specs.declared.components.Part.{Part}
 use Rattle.sg_planar.specs.Fit.{IsPlanar}
 
 -- the place of a number in a list

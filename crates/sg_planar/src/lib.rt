@@ -16,14 +16,14 @@
 #![tactic(auto)]
 
 mod assignment;
+mod components;
 mod fitness;
 mod fitting;
-mod parts;
 mod planar;
 
 pub use assignment::spin_walk;
+pub use components::{Part, PartList, SpinNumbers, parts};
 pub use fitting::fits_faces;
-pub use parts::{Part, PartList, SpinNumbers, parts};
 pub use planar::{NotFit, Planar};
 use std::alloc::AllocError;
 
