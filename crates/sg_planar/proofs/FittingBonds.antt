@@ -1,7 +1,7 @@
 -- Planar duality over the definitions: a list of bonds that fits the faces is the list of broken bonds of an assignment.
 use Rattle.std.proofs.Common.{inl, inr, ap₂, ◌≡◌, ℕ, ◌+◌, ◌*◌, ◌/◌, ◌%◌, ◌<◌, ℤ, pos, Bool, true, false, cond, ◌&&◌, eqb, List, refl, sym, ◌∙◌, ap, arith, get_or}
 use Rattle.std.specs.List.{range_with_len}
-use Rattle.std.proofs.lemmas.Bool.{cases_eq, ne_eqb}
+use Rattle.std.proofs.lemmas.Bool.{cases_eq}
 use Rattle.sg_sums.specs.Parity.{xor, odd, parity_below}
 use Rattle.sg_sums.specs.Sets.{holds}
 use Rattle.sg_sums.specs.Ends.{is_end}

@@ -1,5 +1,5 @@
 -- Other couplings on the same bonds leave an instance planar, while their sum stays bounded.
-use Rattle.std.proofs.Common.{⊎_elim, inl, inr, ◌≡◌, ℕ, ℤ, ◌+◌, ◌<◌, ◌≤◌, Bool, true, false, cond, pos, List, [], ◌∷◌, map, refl, sym, ◌∙◌, ap, arith, get_or, set, sum_by}
+use Rattle.std.proofs.Common.{◌≡◌, ℕ, ℤ, ◌+◌, ◌<◌, ◌≤◌, Bool, true, false, cond, pos, List, map, refl, sym, ◌∙◌, ap, arith, get_or, set, sum_by}
 use Rattle.std.specs.Prelude.{unsigned_abs}
 use Rattle.std.specs.List.{range_with_len}
 use Rattle.std.proofs.lemmas.Int.{ints}

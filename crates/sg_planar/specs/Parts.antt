@@ -1,5 +1,5 @@
 -- The parts of an instance: its components, each as an instance of its own.
-use Rattle.std.specs.Prelude.{◌≡◌, ◌↔◌, ℕ, ◌+◌, ◌*◌, ◌/◌, ◌%◌, ◌<◌, ◌==◌, Bool, true, if◌then◌else◌}
+use Rattle.std.specs.Prelude.{◌≡◌, ◌↔◌, ℕ, ◌+◌, ◌*◌, ◌/◌, ◌%◌, ◌<◌, ◌==◌, true, if◌then◌else◌}
 use Rattle.std.specs.Prelude.{List, [], length, map, sum_by}
 use Rattle.std.specs.List.{AllZip, position_or_len}
 use Rattle.std.specs.List.Sorted.{IsStrictlyIncreasing}
