@@ -1,7 +1,6 @@
 -- The frustrated faces: even in number, since each negative bond has two sides, and nodes of the dual that rise.
-use Rattle.std.proofs.Common.{◌≡◌, ℕ, zero, suc, ◌+◌, ◌*◌, ◌/◌, ◌%◌, ◌<◌, Bool, true, false, ◌&&◌, eqb, cond, refl, sym, ◌∙◌, ap, arith, ap₂, List, [], ◌∷◌, ◌++◌, length, count_by}
+use Rattle.std.proofs.Common.{◌≡◌, ℕ, ◌+◌, ◌*◌, ◌/◌, ◌%◌, ◌<◌, Bool, false, ◌&&◌, eqb, sym, ◌∙◌, ap, arith, List, length, count_by}
 use Rattle.std.specs.List.{range_with_len}
-use Rattle.std.proofs.lemmas.Bool.{eq-eqb, ne_eqb}
 use Rattle.std.proofs.lemmas.List.Sums.{length-filter}
 use Rattle.sg_model.specs.Ising.{Ising, bond_count}
 use Rattle.sg_model.specs.Rotation.{dart_count}
@@ -13,6 +12,7 @@ use Rattle.sg_sums.proofs.ParityLaws.{even_mod, odd_test, odd-count_by, parity_b
 use Rattle.sg_sums.proofs.Choosing.{chosen_below_same}
 use Rattle.sg_sums.proofs.Ranges.{parity_by_range, parity_below_pairs}
 use Rattle.sg_sums.proofs.RisingLists.{chosen_below_low, chosen_below_rises}
+use Rattle.sg_dual.proofs.DualWebs.{label_below}
 use Rattle.sg_dual.specs.Dual.{face_of, dual_web, is_negative_bond, negative_sides, is_frustrated, frustrated_faces}
 
 module _ (inst : Ising) (faces : Labelling) where
@@ -50,7 +50,7 @@ module _ (inst : Ising) (faces : Labelling) where
     -- a dart lies on one face
     one_face : (d : ℕ) → d < dart_count inst → parity_below (λ f. is_negative_side f d) faces.count ≡ is_negative_bond inst (d / 2)
     one_face d l =
-        parity_below_pick (λ _. is_negative_bond inst (d / 2)) (face_of faces d) faces.count (labels.below d l)
+        parity_below_pick (λ _. is_negative_bond inst (d / 2)) (face_of faces d) faces.count (label_below inst faces labels d l)
 
     frustrated_even : parity_below (is_frustrated inst faces) faces.count ≡ false
     frustrated_even =

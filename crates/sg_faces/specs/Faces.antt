@@ -29,9 +29,13 @@ faces_before inst d = orbits_before (phi inst) (dart_count inst) d
 abbrev pub is_bare : Ising → ℕ → Bool
 is_bare inst i = list_all (λ b. not ((b.u == i) || (b.v == i))) inst.bonds
 
+-- how many spins have no bond
+abbrev pub bare_count : Ising → ℕ
+bare_count inst = count_by (is_bare inst) (range_with_len 0 inst.n)
+
 -- each orbit of darts has one least dart, and round a spin without a bond lies one face
 abbrev pub face_count : Ising → ℕ
-face_count inst = faces_before inst (dart_count inst) + count_by (is_bare inst) (range_with_len 0 inst.n)
+face_count inst = faces_before inst (dart_count inst) + bare_count inst
 
 -- a label for each dart, and the number of labels
 pub record Labelling : Type 0 where

@@ -18,10 +18,12 @@ mod assignment;
 mod connected;
 mod fitness;
 mod fitting;
+mod parts;
 mod planar;
 
 pub use assignment::spin_walk;
 pub use fitting::fits_faces;
+pub use parts::{Part, PartList, SpinNumbers, parts};
 pub use planar::{NotFit, Planar};
 use std::alloc::AllocError;
 

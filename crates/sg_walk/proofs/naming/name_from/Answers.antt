@@ -1,9 +1,9 @@
-use Rattle.std.proofs.Common.{◌≡◌, ◌≢◌, ℕ, ◌<◌, length, get_or, false, ap, sym, ◌∙◌, subst, arith}
+use Rattle.std.proofs.Common.{◌≡◌, ◌<◌, length, get_or, false, ap, arith}
 use Rattle.std.proofs.lemmas.List.{get_or_default}
 use Rattle.sg_walk.specs.Walk.{has}
 use Rattle.sg_sums.proofs.MarkLaws.{marked_in}
-use Rattle.sg_bonds.proofs.ClusterNames.{named_more}
-use Rattle.sg_bonds.proofs.naming.name_from.Goals as goal
+use Rattle.sg_walk.proofs.SpinNames.{named_more}
+use Rattle.sg_walk.proofs.naming.name_from.Goals as goal
 
 pub give-requires : goal.give-requires
 give-requires c = λ k d l.

@@ -1,5 +1,5 @@
 use Rattle.std.proofs.Common.{◌≡◌, ◌≢◌, ℕ, ◌<◌, get_or}
-use Rattle.sg_bonds.proofs.naming.give.Given as goal
+use Rattle.sg_walk.proofs.naming.give.Given as goal
 
 abbrev pub invariant-loop-spin : goal.invariant-loop-spin
 invariant-loop-spin l = record {

@@ -1,0 +1,58 @@
+-- The list of least spins is the only one.
+use Rattle.std.proofs.Common.{◌≡◌, ◌∙◌, sym, ap, ap₂, refl, ℕ, ◌<◌, Bool, true, false, ◌||◌, eqb, eq-eqb, List, [], ◌∷◌, arith, inl, inr}
+use Rattle.std.proofs.lemmas.Bool.{true≢false, eqb-true, false_from_ne_true, cases_eq, cases_lt}
+use Rattle.std.specs.List.Sorted.{IsStrictlyIncreasing}
+use Rattle.sg_sums.specs.Sets.{holds}
+use Rattle.sg_sums.proofs.RisingLists.{rising_rest, rises_over_first, holds_none_below}
+use Rattle.sg_model.specs.Ising.{Ising}
+use Rattle.sg_model.specs.Connected.{AreLeasts}
+
+-- a number before the first is not held
+before_first : (x y : ℕ) (ys : List ℕ) → IsStrictlyIncreasing (y ∷ ys) → x < y → holds (y ∷ ys) x ≡ false
+before_first x y ys q l =
+    let other : eqb y x ≡ false = false_from_ne_true (eqb y x) (λ h. let e : y ≡ x = eqb-true y x h in let never : ⊥ = omega (arith, e, l) in never) in
+    let later : holds ys x ≡ false = holds_none_below y ys x (rises_over_first y ys q) (omega (arith, l)) in
+    ap₂ (λ a b. a || b) other later
+
+held_first : (x : ℕ) (xs : List ℕ) → holds (x ∷ xs) x ≡ true
+held_first x xs = ap (λ b. b || holds xs x) (eq-eqb x x refl)
+
+-- two strictly rising lists that hold the same numbers are one
+pub same_rising : (xs ys : List ℕ) → IsStrictlyIncreasing xs → IsStrictlyIncreasing ys → ((i : ℕ) → holds xs i ≡ holds ys i) → xs ≡ ys
+same_rising [] [] p q h = refl
+same_rising [] (y ∷ ys) p q h = absurd (true≢false (sym (h y ∙ held_first y ys)))
+same_rising (x ∷ xs) [] p q h = absurd (true≢false (sym (held_first x xs) ∙ h x))
+same_rising (x ∷ xs) (y ∷ ys) p q h =
+    ap₂ (λ (a : ℕ) (more : List ℕ). a ∷ more) same (same_rising xs ys (rising_rest x xs p) (rising_rest y ys q) (λ i. tails i))
+  where
+    same : x ≡ y
+    same = elim (cases_lt x y) [
+      | inl l ↦ absurd (true≢false (sym (held_first x xs) ∙ h x ∙ before_first x y ys q l))
+      | inr past ↦ elim (cases_lt y x) [
+        | inl l ↦ absurd (true≢false (sym (held_first y ys) ∙ sym (h y) ∙ before_first y x xs p l))
+        | inr down ↦ omega (arith, past, down)
+      ]
+    ]
+
+    tails : (i : ℕ) → holds xs i ≡ holds ys i
+    tails i = elim (cases_eq x i) [
+      | inl here ↦
+          let left : holds xs i ≡ false = holds_none_below x xs i (rises_over_first x xs p) (omega (arith, here)) in
+          let right : holds ys i ≡ false = holds_none_below y ys i (rises_over_first y ys q) (omega (arith, here, same)) in
+          left ∙ sym right
+      | inr other ↦
+          let a : eqb x i ≡ false = false_from_ne_true (eqb x i) (λ t. other (eqb-true x i t)) in
+          let b : eqb y i ≡ false = ap (λ z. eqb z i) (sym same) ∙ a in
+          sym (ap (λ c. c || holds xs i) a) ∙ h i ∙ ap (λ c. c || holds ys i) b
+    ]
+
+alike : (a b : Bool) → (a ≡ true → b ≡ true) → (b ≡ true → a ≡ true) → a ≡ b
+alike true b f g = sym (f refl)
+alike false true f g = g refl
+alike false false f g = refl
+
+-- an instance has one list of least spins
+pub one_list : (inst : Ising) (first second : List ℕ) → AreLeasts inst first → AreLeasts inst second → first ≡ second
+one_list inst first second p q =
+    same_rising first second p.rising q.rising
+    (λ i. alike (holds first i) (holds second i) (λ t. (q.each i).1 ((p.each i).0 t)) (λ t. (p.each i).1 ((q.each i).0 t)))
