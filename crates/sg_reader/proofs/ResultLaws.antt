@@ -82,11 +82,11 @@ loop_fault-bonds r word count rest (Refused x) h = rw (word, ne_eqb (length r.fi
 loop_fault-bonds r word count rest NoMemory h = tt
 
 -- a record that passes its first test begins with its word, which is not `end`
-first-passes : (b : Bool) (refusal : Refusal) (tests : List (Option Refusal)) → first_of (refuse_if (not b) refusal ∷ tests) ≡ None → b ≡ true
+pub first-passes : (b : Bool) (refusal : Refusal) (tests : List (Option Refusal)) → first_of (refuse_if (not b) refusal ∷ tests) ≡ None → b ≡ true
 first-passes true refusal tests h = refl
 first-passes false refusal tests h = absurd (none-some refusal (sym h))
 
-other-word : (w : List ℕ) (r : Kept) → bytes_eq w (codes "end") ≡ false → bytes_eq (field r 0) w ≡ true → is_end r ≡ false
+pub other-word : (w : List ℕ) (r : Kept) → bytes_eq w (codes "end") ≡ false → bytes_eq (field r 0) w ≡ true → is_end r ≡ false
 other-word w r other h = ap (λ (v : List ℕ). bytes_eq v (codes "end")) ((bytes_eq-Decides (field r 0) w).0 h) ∙ other
 
 energy-no_end : (r : Kept) → energy_fault r ≡ None → is_end r ≡ false
@@ -116,7 +116,7 @@ IsBody-cons fault q body other good h = record {
     at zero inside = good
     at (suc k) inside = h.passes k (omega arith)
 
-IsEnded-cons : (fault : Table) (q : Kept) (rest body : List Kept) (last : Kept) → is_end q ≡ false → fault [] q ≡ None
+pub IsEnded-cons : (fault : Table) (q : Kept) (rest body : List Kept) (last : Kept) → is_end q ≡ false → fault [] q ≡ None
     → IsEnded (λ b r. fault (q ∷ b) r) rest body last → IsEnded fault (q ∷ rest) (q ∷ body) last
 IsEnded-cons fault q rest body last other good h = record {
   more = h.more;
@@ -126,7 +126,7 @@ IsEnded-cons fault q rest body last other good h = record {
   passes = h.passes;
 }
 
-Refuses-cons : (fault : Table) (q : Kept) (rest : List Kept) (x : Refusal) → is_end q ≡ false → fault [] q ≡ None
+pub Refuses-cons : (fault : Table) (q : Kept) (rest : List Kept) (x : Refusal) → is_end q ≡ false → fault [] q ≡ None
     → RefusesRecords (λ b r. fault (q ∷ b) r) rest x → RefusesRecords fault (q ∷ rest) x
 Refuses-cons fault q rest x other good (AtRecord body r more split is_body bad) =
     AtRecord (q ∷ body) r more (ap (λ (l : List Kept). q ∷ l) split) (IsBody-cons fault q body other good is_body) bad

@@ -8,7 +8,7 @@ use sg_model::{BondList, Couplings, Fault, Refusal};
 use std::alloc::Global;
 
 /// The word that ends an instance, and a result.
-pub(crate) const END: &[u8] = b"end";
+pub const END: &[u8] = b"end";
 
 /// The word of a record that gives the seam.
 pub(crate) const SEAM: &[u8] = b"seam";
@@ -27,7 +27,7 @@ pub(crate) fn push_couplings(couplings: &mut Couplings, row: &Row) -> Result<(),
 }
 
 /// The numbers of bonds or darts in the fields of a record from field `from` on.
-pub(crate) fn indices(alloc: Global, row: &Row, from: usize) -> Result<BondList, Fault>
+pub fn indices(alloc: Global, row: &Row, from: usize) -> Result<BondList, Fault>
     requires { from ≤ length row.now.fields }
     ensures passes { IfOk result (λ l. bad_field row.now from (λ i. any_index) ≡ None) }
     ensures value { IfOk result (λ l. l ≡ sizes_from row.now from) }
@@ -58,7 +58,7 @@ pub(crate) fn seam(alloc: Global, row: &Row, seen: bool) -> Result<BondList, Fau
 }
 
 /// The tests of an `end` that has no numbers beside it.
-pub(crate) fn bare_end(row: &Row) -> Result<(), Refusal>
+pub fn bare_end(row: &Row) -> Result<(), Refusal>
     ensures passes { OnOk result (bare_end_fault row.now ≡ None) }
     ensures refused { IfErr result (λ e. bare_end_fault row.now ≡ Some e) }
 {

@@ -12,7 +12,8 @@
 //! records and fields count. The contracts that matter are those of `read_instance` and
 //! `read_result`. In the code `rows.rt` gives the records that count, `header.rt` reads the first of
 //! an instance, `lattice.rt` and `general.rt` those behind it, `result.rt` those of a result;
-//! `cursor.rt` alone speaks to `csv`.
+//! `cursor.rt` alone speaks to `csv`. `Rows`, `Row` and `Range` are for readers of other records, which
+//! state what they read over any table of tests (`specs/Ended.antt`).
 #![tactic(auto)]
 
 mod body;
@@ -28,11 +29,15 @@ mod result;
 mod row;
 mod rows;
 
+pub use body::{END, bare_end, indices};
 pub use field::without_marks;
 pub use header::{Form, form_named, least_cols};
 pub use numeral::number;
+pub use range::Range;
 pub use read::{no_more, read_instance};
 pub use result::read_result;
+pub use row::Row;
+pub use rows::Rows;
 use std::alloc::AllocError;
 
 /// The allocator had no memory left.

@@ -3,14 +3,14 @@ ghost use Rattle.sg_reader.specs.Tests.{any_index, any_number, at_least, is_in, 
 
 /// The numbers that may stand in a place: from `low` to `high`, both among them.
 #[derive(Clone, Copy)]
-pub(crate) struct Range {
-    pub(crate) low: i64,
-    pub(crate) high: i64,
+pub struct Range {
+    pub low: i64,
+    pub high: i64,
 }
 
 impl Range {
     /// The range of a coupling: all numbers that are read.
-    pub(crate) fn any_number() -> Self
+    pub fn any_number() -> Self
         ensures { result ≡ any_number }
     {
         Range {
@@ -20,7 +20,7 @@ impl Range {
     }
 
     /// The range of a dart, or of a bond of a seam.
-    pub(crate) fn any_index() -> Self
+    pub fn any_index() -> Self
         ensures { result ≡ any_index }
     {
         Range {
@@ -30,7 +30,7 @@ impl Range {
     }
 
     /// The range of rows, of columns, and of a number of spins.
-    pub(crate) fn at_least(least: u32) -> Self
+    pub fn at_least(least: u32) -> Self
         ensures { result ≡ at_least least }
     {
         Range {
@@ -40,7 +40,7 @@ impl Range {
     }
 
     /// The range of the spins of an instance of `n`.
-    pub(crate) fn spin_below(n: u32) -> Self
+    pub fn spin_below(n: u32) -> Self
         requires { 1 ≤ n }
         ensures { result ≡ spin_below n }
     {
@@ -51,7 +51,7 @@ impl Range {
     }
 
     /// Whether a number is in the range.
-    pub(crate) fn holds(self, number: i64) -> bool
+    pub fn holds(self, number: i64) -> bool
         ensures { result ≡ is_in self (Some number) }
     {
         self.low <= number && number <= self.high

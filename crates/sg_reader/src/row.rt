@@ -20,7 +20,7 @@ use std::marker::Model;
 
 /// A record with its number: its fields trimmed, and without the empty ones at the end.
 #[derive(Drop)]
-pub(crate) struct Row {
+pub struct Row {
     at: u32,
     raw: ByteRecord,
     count: usize,
@@ -41,7 +41,7 @@ impl Model for Row {
 
 impl Row {
     /// A record without fields, to be filled.
-    pub(crate) fn new(alloc: Global) -> Self
+    pub fn new(alloc: Global) -> Self
         ensures { result ≡ record { at = 0; fields = [] } }
     {
         Row {
@@ -71,7 +71,7 @@ impl Row {
     }
 
     /// The number of the record.
-    pub(crate) fn at(&self) -> u32
+    pub fn at(&self) -> u32
         ensures value { result ≡ self.now.at }
         ensures fits { result + 1 < 2 ^ 32 }
     {
@@ -79,7 +79,7 @@ impl Row {
     }
 
     /// How many fields the record has.
-    pub(crate) fn len(&self) -> usize
+    pub fn len(&self) -> usize
         ensures value { result ≡ length self.now.fields }
         ensures fits { result < 2 ^ 32 }
     {
@@ -105,7 +105,7 @@ impl Row {
     }
 
     /// Whether the first field is this word.
-    pub(crate) fn begins(&self, word: &[u8]) -> bool
+    pub fn begins(&self, word: &[u8]) -> bool
         ensures { result ≡ bytes_eq (field_of self.now 0) word.now }
     {
         self.word() == word
@@ -119,7 +119,7 @@ impl Row {
     }
 
     /// The number in field `i`, if it is in the range of its place.
-    pub(crate) fn number(&self, i: usize, range: Range) -> Result<i64, Refusal>
+    pub fn number(&self, i: usize, range: Range) -> Result<i64, Refusal>
         requires { i < length self.now.fields }
         ensures ok { IfOk result (λ z. (z ≡ number_in self.now i) × (is_number_in range (field_of self.now i) ≡ true)) }
         ensures refused { IfErr result (λ e. (e ≡ IsBadNumber self.now.at i)
@@ -154,7 +154,7 @@ impl Row {
     }
 
     /// The number in field `i`, where the range of its place has no negative ones.
-    pub(crate) fn size(&self, i: usize, range: Range) -> Result<u64, Refusal>
+    pub fn size(&self, i: usize, range: Range) -> Result<u64, Refusal>
         requires inside { i < length self.now.fields }
         requires natural { pos 0 ≤ℤ range.low }
         ensures ok { IfOk result (λ n. (n ≡ size_in self.now i) × (is_number_in range (field_of self.now i) ≡ true)) }

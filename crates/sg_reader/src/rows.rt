@@ -72,7 +72,7 @@ impl<'a> Numbered<'a> {
 /// The records of a text that are left, without those that are skipped: blank ones and comments.
 /// After want of memory none is left.
 #[derive(Drop)]
-pub(crate) struct Rows<'a> {
+pub struct Rows<'a> {
     records: Numbered<'a>,
 }
 
@@ -87,7 +87,7 @@ impl<'a> Model for Rows<'a> {
 
 impl<'a> Rows<'a> {
     /// In front of the first record of a text.
-    pub(crate) fn new(alloc: Global, bytes: &'a [u8]) -> Self
+    pub fn new(alloc: Global, bytes: &'a [u8]) -> Self
         requires { length bytes.now < text_limit }
         ensures value { result ≡ kept_of bytes.now }
         ensures few { sum_by (λ r. length r.fields) result ≤ text_limit }
@@ -109,7 +109,7 @@ impl<'a> Rows<'a> {
     }
 
     /// Reads the next record that is not skipped into `row`, or answers false where there is none.
-    pub(crate) fn next(&mut self, row: &mut Row) -> Result<bool, NoMemory>
+    pub fn next(&mut self, row: &mut Row) -> Result<bool, NoMemory>
         ensures { IfOk result (λ found. MatchBool found
             (self.old ≡ row.new ∷ self.new)
             ((self.old ≡ []) × (self.new ≡ []))) }

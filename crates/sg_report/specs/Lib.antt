@@ -5,3 +5,4 @@ pub mod Text
 pub mod Report
 pub mod ReportValue
 pub mod Samples
+pub mod Graphs

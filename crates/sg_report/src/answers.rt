@@ -77,8 +77,8 @@ fn push_loop(text: &mut Vec<u8>, entry: &Loop) -> Result<(), NoMemory>
     Ok(())
 }
 
-// Adds a comma and a number for each bond.
-fn push_bonds(text: &mut Vec<u8>, bonds: &[u32]) -> Result<(), NoMemory>
+/// Adds a comma and a number for each bond, or for each edge.
+pub fn push_bonds(text: &mut Vec<u8>, bonds: &[u32]) -> Result<(), NoMemory>
     ensures { OnOk result (text.new.items ≡ text.old.items ++ flat_map entry (map pos bonds.now)) }
 {
     for bond in bonds {

@@ -1,6 +1,6 @@
 use super::{
-    bonds_text, clusters_text, energy_text, ground_text, instance_text, refusal_text, report_text,
-    sample_text, verdict_text, wall_text,
+    bonds_text, clusters_text, energy_text, ground_text, instance_text, postman_text, refusal_text,
+    report_text, sample_text, tjoin_text, verdict_text, wall_text,
 };
 use sg_check::{Loop, Loops, Verdict};
 use sg_lattice::Kind;
@@ -29,6 +29,14 @@ fn each_text_has_its_bytes(rt: HostRuntime) -> Result<(), Fail> {
         (
             ground_text(alloc, -3, &spins, &loops)?,
             "energy,-3\nspins,1,-1\nloop,2,0,3\nend\n",
+        ),
+        (
+            tjoin_text(alloc, 4, &[2, 5], &loops)?,
+            "weight,4\nedges,2,5\ncut,2,0,3\nend\n",
+        ),
+        (
+            postman_text(alloc, 6, &[(0, 1), (0, 0)], &loops)?,
+            "weight,6\nstep,0,1\nstep,0,0\ncut,2,0,3\nend\n",
         ),
         (
             wall_text(alloc, [-14, -10, 4])?,

@@ -1,0 +1,4 @@
+pub mod TestLaws
+pub mod BodyLaws
+pub mod TerminalLaws
+pub mod ReadLaws

@@ -1,0 +1,52 @@
+-- A graph by its first record and those behind it.
+use Rattle.std.proofs.Common.{◌≡◌, ℕ, Bool, false, List, [], ◌∷◌, Some, None, refl, codes}
+use Rattle.std.specs.Prelude.{not}
+use Rattle.sg_model.specs.declared.refusal.Fault.{Fault}
+use Rattle.sg_model.specs.declared.refusal.Fault.TheVariants.{Refused, NoMemory}
+use Rattle.sg_model.specs.declared.refusal.Refusal.{Refusal}
+use Rattle.sg_model.specs.declared.refusal.Refusal.TheVariants.{BadShape, TooManySpins, Unended, UnknownKind}
+use Rattle.sg_limits.specs.Limits.{spin_limit}
+use Rattle.std.specs.Prelude.{◌==◌, length, nat_lt, pos}
+use Rattle.sg_reader.specs.Kept.{Kept}
+use Rattle.sg_reader.specs.Tests.{at_least, bad_number, refuse_if, size_in}
+use Rattle.sg_reader.specs.Body.{is_end}
+use Rattle.sg_reader.specs.Ended.{AtRecord, IsRecordsFault, StatesToEnd, WithoutEnd}
+use Rattle.sg_reader.proofs.BodyLaws.{IsBody-none}
+use Rattle.sg_reader.proofs.ResultLaws.{IsEnded-cons, Refuses-cons, first-passes, other-word}
+use Rattle.sg_graph_text.specs.declared.graph.GraphText.{GraphText}
+use Rattle.sg_graph_text.specs.Graph.{body_fault, body_graph, graph_fault, graph_of, is_graph, size_fault}
+use Rattle.sg_graph_text.specs.ReadGraph.{IsGraphFault, ReadsGraph}
+
+size-no_end : (r : Kept) → size_fault r ≡ None → is_end r ≡ false
+size-no_end r h =
+    other-word (codes "graph") r refl
+    (first-passes (is_graph r) (UnknownKind r.at) (refuse_if (not (length r.fields == 2)) (BadShape r.at) ∷ bad_number r 1 (λ i. at_least 1)
+    ∷ refuse_if (nat_lt spin_limit (size_in r 1)) (TooManySpins (pos (size_in r 1))) ∷ []) h)
+
+-- the first record fails a test, or there is none
+pub size-fault : (terms : Bool) (all rest : List Kept) (r : Kept) (refusal : Refusal) → all ≡ r ∷ rest → size_fault r ≡ Some refusal
+    → IsGraphFault terms all (Refused refusal)
+unfolding graph_fault
+size-fault terms all rest r refusal split bad = AtRecord [] r rest split (IsBody-none (graph_fault terms)) bad
+
+pub without-size : (terms : Bool) (all : List Kept) → all ≡ [] → IsGraphFault terms all (Refused Unended)
+without-size terms all none = rw none (WithoutEnd (IsBody-none (graph_fault terms)) refl)
+
+-- the records behind the first are refused, or give the graph
+pub behind-fault : (terms : Bool) (all rest : List Kept) (r : Kept) (e : Fault) → all ≡ r ∷ rest → size_fault r ≡ None
+    → IsRecordsFault (body_fault terms (size_in r 1)) rest e → IsGraphFault terms all e
+unfolding graph_fault
+behind-fault terms all rest r (Refused x) split good bad =
+    rw split (Refuses-cons (graph_fault terms) r rest x (size-no_end r good) good bad)
+behind-fault terms all rest r NoMemory split good bad = tt
+
+pub behind-graph : (terms : Bool) (all rest : List Kept) (r : Kept) (g : GraphText) (next : ℕ) → all ≡ r ∷ rest → size_fault r ≡ None
+    → StatesToEnd (body_fault terms (size_in r 1)) (body_graph (size_in r 1)) rest g next → ReadsGraph terms all g next
+unfolding graph_fault graph_of
+behind-graph terms all rest r g next split good st = record {
+  body = r ∷ st.body;
+  last = st.last;
+  ended = rw split (IsEnded-cons (graph_fault terms) r rest st.body st.last (size-no_end r good) good st.ended);
+  value = st.value;
+  count = st.count;
+}

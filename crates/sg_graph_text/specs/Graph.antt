@@ -1,0 +1,134 @@
+-- The records of a weighted graph: which word stands in which place, the tests of each record, and the graph that they
+-- give.
+use Rattle.std.specs.Prelude.{◌≡◌, ℕ, ◌+◌, ◌%◌, ◌≤◌, ◌==◌, ◌&&◌, Bool, not, nat_le, nat_lt, pos, if◌then◌else◌, List, [], ◌∷◌, length, map, filter, find, drop, codes, All, slice_index, Option, Some, option_map, is_some, unwrap_or}
+use Rattle.std.specs.List.{range_with_len}
+use Rattle.sg_sums.specs.Sets.{chosen_below, holds}
+use Rattle.sg_limits.specs.Limits.{bond_limit, spin_limit}
+use Rattle.sg_model.specs.declared.refusal.Refusal.{Refusal}
+use Rattle.sg_model.specs.declared.refusal.Refusal.TheVariants.{BadShape, BadTerminal, OddTerminals, TooManyBonds, TooManySpins, UnknownKind}
+use Rattle.sg_model.specs.Misplaced.{is_misplaced}
+use Rattle.sg_graph.specs.declared.web.Edge.{Edge}
+use Rattle.sg_graph.specs.Web.{IsEdge}
+use Rattle.sg_graph.specs.Join.{AreTerminals}
+use Rattle.sg_reader.specs.declared.range.Range.{Range}
+use Rattle.sg_reader.specs.Kept.{Kept, begins}
+use Rattle.sg_reader.specs.Tests.{any_index, at_least, bad_number, first_of, number_in, refuse_if, size_in, spin_below}
+use Rattle.sg_reader.specs.Body.{bare_end_fault, is_end, sizes_from}
+use Rattle.sg_reader.specs.Ended.{record_at}
+use Rattle.sg_graph_text.specs.declared.graph.GraphText.{GraphText}
+
+-- what a record begins with
+abbrev pub is_graph : Kept → Bool
+is_graph r = begins (codes "graph") r
+
+abbrev pub is_edge : Kept → Bool
+is_edge r = begins (codes "edge") r
+
+abbrev pub is_term : Kept → Bool
+is_term r = begins (codes "term") r
+
+-- the edges `edge,A,B,W`
+abbrev pub edge_of : Kept → Edge
+edge_of r = record { a = size_in r 1; b = size_in r 2; w = number_in r 3 }
+
+unfoldable pub edges_in : List Kept → List Edge
+edges_in body = map edge_of (filter is_edge body)
+
+-- the entries of the record `term,T,..`, in the order in which they stand there
+unfoldable pub entries_given : List Kept → Option (List ℕ)
+entries_given body = option_map (λ r. sizes_from r 1) (find is_term body)
+
+-- none where there is no such record
+abbrev pub entries_in : List Kept → List ℕ
+entries_in body = unwrap_or (entries_given body) []
+
+-- the first record, `graph,N` with the number of nodes
+abbrev pub size_fault : Kept → Option Refusal
+size_fault r = first_of (
+    refuse_if (not (is_graph r)) (UnknownKind r.at)
+    ∷ refuse_if (not (length r.fields == 2)) (BadShape r.at)
+    ∷ bad_number r 1 (λ i. at_least 1)
+    ∷ refuse_if (nat_lt spin_limit (size_in r 1)) (TooManySpins (pos (size_in r 1)))
+    ∷ [])
+
+-- the range of field i of an edge: its ends are nodes, and its weight is not negative
+abbrev pub edge_range : ℕ → ℕ → Range
+edge_range n i = if i == 3 then at_least 0 else spin_below n
+
+-- edge m is one too many
+abbrev pub room_fault : ℕ → Option Refusal
+room_fault m = refuse_if (nat_le bond_limit m) (TooManyBonds (bond_limit + 1))
+
+-- an edge of a graph of n nodes, behind m edges
+abbrev pub edge_fault : ℕ → ℕ → Kept → Option Refusal
+edge_fault n m r = first_of (
+    refuse_if (not (length r.fields == 4)) (BadShape r.at)
+    ∷ bad_number r 1 (edge_range n)
+    ∷ room_fault m
+    ∷ [])
+
+-- the terminals, which may have been given before
+abbrev pub term_fault : Bool → Kept → Option Refusal
+term_fault seen r = first_of (
+    refuse_if seen (BadShape r.at)
+    ∷ bad_number r 1 (λ i. any_index)
+    ∷ [])
+
+-- t is one of n nodes
+abbrev pub is_node : ℕ → ℕ → Bool
+is_node n t = nat_lt t n
+
+-- the first entry that is no node, or stands earlier too
+unfoldable pub bad_entry : ℕ → List ℕ → Option ℕ
+bad_entry n entries =
+    option_map (slice_index entries) (find (is_misplaced (is_node n) entries) (range_with_len 0 (length entries)))
+
+abbrev pub entry_fault : ℕ → List ℕ → Option Refusal
+entry_fault n entries = option_map (λ t. BadTerminal t) (bad_entry n entries)
+
+-- the terminals are odd in number
+abbrev pub odd_fault : ℕ → Option Refusal
+odd_fault count = refuse_if (count % 2 == 1) (OddTerminals count)
+
+-- the tests of all terminals of a graph of n nodes
+abbrev pub terminals_fault : ℕ → List ℕ → Option Refusal
+terminals_fault n entries = first_of (entry_fault n entries ∷ odd_fault (length entries) ∷ [])
+
+-- the record that ends the graph
+abbrev pub graph_end_fault : ℕ → List ℕ → Kept → Option Refusal
+graph_end_fault n entries r = first_of (bare_end_fault r ∷ terminals_fault n entries ∷ [])
+
+-- the tests of a record behind the first, in a graph of n nodes; only where `terms` is set may terminals be given
+unfoldable pub body_fault : Bool → ℕ → List Kept → Kept → Option Refusal
+body_fault terms n body r =
+    if is_edge r then edge_fault n (length (edges_in body)) r
+    else (if terms && is_term r then term_fault (is_some (entries_given body)) r
+    else (if is_end r then graph_end_fault n (entries_in body) r
+    else Some (UnknownKind r.at)))
+
+-- the tests of a record of a graph: the number of nodes comes first
+unfoldable pub graph_fault : Bool → List Kept → Kept → Option Refusal
+graph_fault terms [] r = size_fault r
+graph_fault terms (first ∷ body) r = body_fault terms (size_in first 1) body r
+
+-- the nodes among the entries, rising
+abbrev pub terminals_of : ℕ → List ℕ → List ℕ
+terminals_of n entries = chosen_below (holds entries) n
+
+-- the graph of n nodes that the records behind the first give
+unfoldable pub body_graph : ℕ → List Kept → GraphText
+body_graph n body = record { nodes = n; edges = edges_in body; terminals = terminals_of n (entries_in body) }
+
+-- the graph that the records in front of the `end` give
+unfoldable pub graph_of : List Kept → GraphText
+graph_of records = body_graph (size_in (record_at records 0) 1) (drop 1 records)
+
+-- what a graph within the limits keeps: a node or more, edges between nodes with no negative weight, and an even
+-- number of terminals
+pub record IsGraphText (g : GraphText) : Type 0 where
+  pub has_node : 1 ≤ g.nodes
+  pub few_nodes : g.nodes ≤ spin_limit
+  pub few_edges : length g.edges ≤ bond_limit
+  pub joined : All (IsEdge g.nodes) g.edges
+  pub terminals : AreTerminals (record { nodes = g.nodes; edges = g.edges }) g.terminals
+  pub even : length g.terminals % 2 ≡ 0

@@ -1,0 +1,43 @@
+-- What is kept of the records of a graph while they are read.
+use Rattle.std.specs.Prelude.{◌≡◌, ◌≤◌, List, [], ◌∷◌, ◌++◌, All, length, None}
+use Rattle.sg_limits.specs.Limits.{bond_limit}
+use Rattle.sg_model.specs.declared.refusal.Fault.{Fault}
+use Rattle.sg_graph.specs.Web.{IsEdge}
+use Rattle.sg_reader.specs.Kept.{Kept}
+use Rattle.sg_reader.specs.Tests.{IsTestFault}
+use Rattle.sg_graph_text.specs.declared.body.GraphBody.{GraphBody}
+use Rattle.sg_graph_text.specs.declared.graph.GraphText.{GraphText}
+use Rattle.sg_graph_text.specs.Graph.{body_fault, body_graph, edges_in, entries_given, entries_in, terminals_fault}
+
+-- the edges of the records, and the entries of their terminals
+pub record HoldsGraph (body : List Kept) (state : GraphBody) : Type 0 where
+  pub edges : state.edges ≡ edges_in body
+  pub few : length state.edges ≤ bond_limit
+  pub joined : All (IsEdge state.nodes) state.edges
+  pub entries : state.entries ≡ entries_given body
+
+-- it is what some records give
+abbrev pub HoldsSome : GraphBody → Type 0
+HoldsSome state = (body : List Kept) × HoldsGraph body state
+
+-- behind records that gave the state: the next one passes its tests; it gives the new state; it is refused
+abbrev pub PassesNext : GraphBody → Kept → Type 0
+PassesNext old r = (body : List Kept) → HoldsGraph body old → body_fault old.terms old.nodes body r ≡ None
+
+abbrev pub HoldsNext : GraphBody → Kept → GraphBody → Type 0
+HoldsNext old r new = (body : List Kept) → HoldsGraph body old → HoldsGraph (body ++ r ∷ []) new
+
+abbrev pub IsNextFault : GraphBody → Kept → Fault → Type 0
+IsNextFault old r fault =
+    (body : List Kept) → HoldsGraph body old → IsTestFault (body_fault old.terms old.nodes body r) fault
+
+-- the graph that the records gave, and why its terminals are refused
+abbrev pub PassesHeld : GraphBody → Type 0
+PassesHeld state = (body : List Kept) → HoldsGraph body state → terminals_fault state.nodes (entries_in body) ≡ None
+
+abbrev pub IsHeldGraph : GraphBody → GraphText → Type 0
+IsHeldGraph state g = (body : List Kept) → HoldsGraph body state → g ≡ body_graph state.nodes body
+
+abbrev pub IsHeldFault : GraphBody → Fault → Type 0
+IsHeldFault state fault =
+    (body : List Kept) → HoldsGraph body state → IsTestFault (terminals_fault state.nodes (entries_in body)) fault

@@ -1,0 +1,25 @@
+//! Reads weighted graphs from texts: a number of nodes, the edges with their weights, and for joins
+//! the terminals.
+//!
+//! `read_graph` gives the graph at the front of a text, or the one refusal that names its first
+//! fault. A graph knows nothing of spins: it is what `tjoin` and `postman` are asked of.
+//!
+//! For the next engineer: `specs/Graph.antt` is the table of tests, over the records of `sg_reader`;
+//! `specs/ReadGraph.antt` says what a text gives and why it is refused, by the rules for records up
+//! to an `end` by which results are read too. In the code `read.rt` is the way through, `size.rt`
+//! reads the first record, `body.rt` those behind it, and `terminals.rt` tests the entries of the
+//! terminals and lists them rising.
+#![tactic(auto)]
+
+mod body;
+mod graph;
+mod read;
+mod size;
+mod terminals;
+
+pub use graph::GraphText;
+pub use read::read_graph;
+use std::alloc::AllocError;
+
+/// The allocator had no memory left.
+pub type NoMemory = AllocError;
