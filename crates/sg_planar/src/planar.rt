@@ -2,7 +2,7 @@ ghost use Rattle.std.specs.Prelude.{◌≡◌, ◌<◌, ◌≤◌, IfOk, IfErr};
 ghost use Rattle.sg_limits.specs.Limits.{forced_limit};
 ghost use Rattle.sg_model.specs.Ising.{bond_count};
 ghost use Rattle.sg_model.specs.Energy.{weight};
-ghost use Rattle.sg_model.specs.Changes.{with_coupling, with_seam_flipped};
+ghost use Rattle.sg_model.specs.Changes.{negated, with_coupling, with_seam_flipped};
 ghost use Rattle.sg_planar.specs.Fit.{IsFit, IsPlanar, IsUnfitFault};
 
 use super::NoMemory;
@@ -79,6 +79,17 @@ impl Planar {
         ensures planar { IfOk result IsPlanar }
     {
         let instance = self.instance.flip_seam()?;
+        let faces = self.faces.clone()?;
+        Ok(Planar { instance, faces })
+    }
+
+    /// A copy in which the sign of every coupling is changed. The faces stay.
+    pub fn negated(&self) -> Result<Planar, NoMemory>
+        ensures copy { IfOk result (λ copy.
+            copy ≡ record { instance = negated self.now.instance; faces = self.now.faces }) }
+        ensures planar { IfOk result IsPlanar }
+    {
+        let instance = self.instance.negated()?;
         let faces = self.faces.clone()?;
         Ok(Planar { instance, faces })
     }
