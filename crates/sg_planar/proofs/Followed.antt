@@ -1,5 +1,5 @@
 -- A list and its picture: what follows in the one follows in the other.
-use Rattle.std.proofs.Common.{inl, inr, ◌≡◌, ◌∙◌, sym, ap, refl, ℕ, ◌+◌, ◌%◌, ◌<◌, ◌==◌, eqb, eq-eqb, Bool, true, false, not, cond, List, [], ◌∷◌, length, get_or, map, ap₂, All}
+use Rattle.std.proofs.Common.{inl, inr, ◌≡◌, ◌∙◌, sym, ap, refl, ℕ, ◌+◌, ◌%◌, ◌<◌, ◌==◌, eqb, eq-eqb, Bool, true, not, cond, List, [], ◌∷◌, length, get_or, map, ap₂, All}
 use Rattle.std.proofs.lemmas.List.{length-map, get_or-map}
 use Rattle.std.specs.List.{position_or_len, prefix_len}
 use Rattle.std.proofs.lemmas.Bool.{cases_Bool, eqb-true, false_from_ne_true, true≢false}

@@ -1,7 +1,7 @@
 -- A part of an instance: its faces are those of the whole that lie in it.
-use Rattle.std.proofs.Common.{inl, inr, ◌≡◌, ◌≢◌, ◌⊎◌, ◌↔◌, ◌∙◌, sym, ap, ap₂, refl, subst, ℕ, zero, suc, ◌+◌, ◌*◌, ◌/◌, ◌%◌, ◌<◌, ◌≤◌, pos, Bool, true, false, not, cond, ◌&&◌, ◌||◌, eqb, ltb, List, [], ◌∷◌, length, get_or, map, count_by, sum_by, All, arith}
-use Rattle.std.specs.List.{list_all, range_with_len}
-use Rattle.std.proofs.lemmas.Bool.{cases_lt, cases_eq, cases_Bool, eq-eqb, ne_eqb, eqb-true, true≢false, or_left, or_right, or_from}
+use Rattle.std.proofs.Common.{inl, inr, ◌≡◌, ◌≢◌, ◌⊎◌, ◌↔◌, ◌∙◌, sym, ap, ap₂, refl, ℕ, zero, suc, ◌+◌, ◌*◌, ◌/◌, ◌<◌, ◌≤◌, pos, Bool, true, false, not, cond, ◌||◌, eqb, List, length, get_or, map, sum_by, All, arith}
+use Rattle.std.specs.List.{list_all}
+use Rattle.std.proofs.lemmas.Bool.{cases_lt, cases_eq, eq-eqb, ne_eqb, true≢false, or_left, or_right}
 use Rattle.std.proofs.lemmas.List.{length-map}
 use Rattle.std.proofs.lemmas.List.Elements.{All-from_get_or}
 use Rattle.std.proofs.lemmas.List.Folds.{list_all_at}
@@ -16,8 +16,8 @@ use Rattle.sg_model.specs.Rotation.{dart_count, rev, tail, darts_of, next, follo
 use Rattle.sg_model.specs.WellFormed.{IsInstance}
 use Rattle.sg_model.proofs.Darts.{tail_first, tail_second}
 use Rattle.sg_model.proofs.DartPairs.{dart_cases, rev_below}
-use Rattle.sg_model.proofs.Rotations.{place_of, tail_below, next_is, next_in_list}
-use Rattle.sg_faces.specs.Faces.{phi, steps, SameFace, is_least, faces_before, is_bare, face_count}
+use Rattle.sg_model.proofs.Rotations.{place_of, next_is, next_in_list}
+use Rattle.sg_faces.specs.Faces.{phi, steps, is_least, is_bare, face_count}
 use Rattle.sg_faces.proofs.FaceOrbits.{face_steps_below, least_of_face}
 use Rattle.sg_planar.specs.Parts.{place_in, dart_in, bond_in, restricted}
 use Rattle.sg_planar.specs.Splitting.{IsClosedPart}

@@ -1,5 +1,5 @@
 -- What tables of places make of the bonds and lists of a part: the part as it is defined.
-use Rattle.std.proofs.Common.{inl, inr, ◌≡◌, ◌∙◌, sym, ap, ap₂, refl, subst, ℕ, ◌+◌, ◌*◌, ◌/◌, ◌%◌, ◌<◌, ◌≤◌, ◌^◌, pos, Bool, true, List, [], ◌∷◌, ◌++◌, length, get_or, map, replicate, slice_index, take, All, arith}
+use Rattle.std.proofs.Common.{◌≡◌, ◌∙◌, sym, ap, ap₂, refl, subst, ℕ, ◌+◌, ◌*◌, ◌/◌, ◌%◌, ◌<◌, pos, Bool, true, List, [], ◌∷◌, ◌++◌, length, get_or, map, replicate, slice_index, take, All, arith}
 use Rattle.std.proofs.lemmas.List.{get_or-map, length-map, map-append, take_more}
 use Rattle.std.proofs.lemmas.List.Elements.{All-from_get_or, All-head, All-map, All-tail}
 use Rattle.sg_sums.specs.Sets.{holds}
@@ -12,13 +12,13 @@ use Rattle.sg_model.specs.Ising.{Ising, bond_at, bond_count}
 use Rattle.sg_model.specs.Rotation.{darts_of}
 use Rattle.sg_model.specs.WellFormed.{IsInstance}
 use Rattle.sg_model.specs.Faults.{IsFaultOf, IsRefusalOf}
-use Rattle.sg_model.specs.Connected.{Reached, all_bonds}
+use Rattle.sg_model.specs.Connected.{Reached}
 use Rattle.sg_model.proofs.RotationFaults.{bad_rotation_refuted, bad_seam_refuted}
 use Rattle.sg_model.proofs.Rotations.{in_list}
 use Rattle.sg_walk.specs.Walk.{has}
 use Rattle.sg_walk.specs.Naming.{AllNamed}
 use Rattle.sg_walk.proofs.LeastSpins.{reached_by_all, reached_of_all}
-use Rattle.sg_planar.specs.Parts.{bond_in, dart_in, place_in, restricted}
+use Rattle.sg_planar.specs.Parts.{bond_in, dart_in, restricted}
 use Rattle.sg_planar.specs.Splitting.{ArePlaces, IsClosedPart, IsDealt, IsNaming, IsSplit, placed_bond, placed_darts}
 use Rattle.sg_planar.proofs.Places.{holds_entry}
 use Rattle.sg_planar.proofs.PartDarts.{listed_bond}

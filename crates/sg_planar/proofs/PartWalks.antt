@@ -1,9 +1,8 @@
 -- A part of an instance: walks stay in it, and those from its first spin reach all of it.
-use Rattle.std.proofs.Common.{inl, inr, ◌≡◌, ◌⊎◌, ◌∙◌, sym, ap, refl, subst, ℕ, ◌+◌, ◌<◌, ◌≤◌, true, pos, List, [], ◌∷◌, length, get_or, map, arith}
+use Rattle.std.proofs.Common.{inl, inr, ◌≡◌, ◌⊎◌, ◌∙◌, sym, ap, refl, subst, ℕ, true, pos, List, [], ◌∷◌, get_or, map, arith}
 use Rattle.std.proofs.lemmas.List.{get_or-map, length-map}
 use Rattle.sg_sums.specs.Sets.{holds}
-use Rattle.sg_model.specs.declared.bond.Bond.{Bond}
-use Rattle.sg_model.specs.Ising.{Ising, bond_at, bond_count}
+use Rattle.sg_model.specs.Ising.{Ising, bond_at}
 use Rattle.sg_model.specs.Connected.{HasEnds, IsConnected, IsWalk, JoinedBy, Reached, all_bonds}
 use Rattle.sg_planar.specs.Parts.{place_in, bond_in, restricted}
 use Rattle.sg_planar.specs.Splitting.{IsClosedPart}

@@ -1,34 +1,19 @@
 -- The spins and bonds of each component, told by the least spin that a spin reaches: each component is a part, and all
 -- components together count each spin, each bond and each face once.
-use Rattle.std.proofs.Common.{inl, inr, ◌≡◌, ◌≢◌, ◌⊎◌, ◌∙◌, sym, ap, ap₂, refl, subst, ℕ, zero, suc, ◌+◌, ◌*◌, ◌<◌, ◌≤◌, pos, Bool, true, false, cond, eqb, List, [], ◌∷◌, length, get_or, map, sum_by, arith}
-use Rattle.std.specs.Prelude.{unsigned_abs, ◌-ℤ◌, ◌-◌}
-use Rattle.std.specs.List.{range_with_len}
+use Rattle.std.proofs.Common.{inl, inr, ◌≡◌, ◌∙◌, sym, ap, refl, subst, ℕ, zero, suc, ◌+◌, ◌<◌, ◌≤◌, pos, Bool, true, false, eqb, List, [], ◌∷◌, length, get_or, sum_by, arith}
 use Rattle.std.specs.List.Sorted.{IsStrictlyIncreasing}
-use Rattle.std.proofs.lemmas.Int.{ints}
-use Rattle.std.proofs.lemmas.Bool.{cases_lt, cases_eq, eq-eqb, ne_eqb, eqb-true}
-use Rattle.std.proofs.lemmas.List.{length-map}
-use Rattle.std.proofs.lemmas.List.Sums.{length-filter, sum_by-cons}
+use Rattle.std.proofs.lemmas.Bool.{cases_lt, eq-eqb, eqb-true}
+use Rattle.std.proofs.lemmas.List.Sums.{sum_by-cons}
 use Rattle.sg_sums.specs.Sets.{holds, chosen_below}
-use Rattle.sg_sums.specs.Sums.{sum_below}
 use Rattle.sg_sums.proofs.RisingLists.{All-holds, chosen_below_low, chosen_below_rises, holds-chosen_below}
-use Rattle.sg_sums.proofs.SumLaws.{sum_below-add, sum_below-le, sum_below-same, at-le-sum_below, sum_by_is_sum_below}
 use Rattle.sg_sums.proofs.Choosing.{chosen_below_no}
-use Rattle.sg_sums.proofs.Tallies.{sum_below_ones, sum_below_times}
-use Rattle.sg_sums.proofs.DealtSums.{dealt_out, met_each, sum_by_range}
-use Rattle.sg_model.specs.declared.bond.Bond.{Bond}
 use Rattle.sg_model.specs.Ising.{Ising, bond_at, bond_count}
-use Rattle.sg_model.specs.Energy.{weight}
 use Rattle.sg_model.specs.WellFormed.{IsInstance}
-use Rattle.sg_model.specs.Connected.{IsConnected, JoinedBy, Reached, all_bonds, AreLeasts, IsLeastReached}
+use Rattle.sg_model.specs.Connected.{IsConnected, Reached, all_bonds, AreLeasts, IsLeastReached}
 use Rattle.sg_model.proofs.Paths.{reached_back, reached_on, reached_by_bond}
-use Rattle.sg_faces.specs.Faces.{face_count}
-use Rattle.sg_faces.specs.Euler.{IsEuler, euler}
-use Rattle.sg_planar.specs.Parts.{place_in, bond_in, restricted}
-use Rattle.sg_model.proofs.LeastSpins.{one_list}
+use Rattle.sg_planar.specs.Parts.{place_in, restricted}
 use Rattle.sg_planar.specs.Splitting.{IsClosedPart, IsNaming, named_spins, named_bonds, own_names}
 use Rattle.sg_planar.proofs.Places.{rises_past, entry_back, place_below, holds_entry}
-use Rattle.sg_planar.proofs.PartDarts.{like_tests, part_instance}
-use Rattle.sg_planar.proofs.PartFaces.{least_sides, bare_spins, faces_by_bonds, part_faces}
 use Rattle.sg_planar.proofs.PartWalks.{part_connected}
 
 pub chosen_none : (p : ℕ → Bool) (n : ℕ) → ((k : ℕ) → k < n → p k ≡ false) → chosen_below p n ≡ []

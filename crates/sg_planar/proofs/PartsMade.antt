@@ -1,21 +1,18 @@
 -- The parts that are made are those of the components, and together they hold each spin and each bond once.
-use Rattle.std.proofs.Common.{inl, inr, ◌≡◌, ◌∙◌, sym, ap, ap₂, refl, subst, ℕ, ◌+◌, ◌<◌, ◌≤◌, pos, Bool, true, false, cond, eqb, List, [], ◌∷◌, ◌++◌, length, get_or, slice_index, sum_by, All, arith}
+use Rattle.std.proofs.Common.{◌≡◌, ◌∙◌, sym, ap, ap₂, refl, subst, ℕ, ◌+◌, ◌<◌, ◌≤◌, pos, Bool, true, false, cond, eqb, List, [], ◌∷◌, ◌++◌, get_or, slice_index, sum_by, All, arith}
 use Rattle.std.specs.List.{AllZip}
-use Rattle.std.specs.List.Sorted.{IsStrictlyIncreasing}
-use Rattle.std.proofs.lemmas.Bool.{eq-eqb, eqb-true, false_from_ne_true, true≢false}
+use Rattle.std.proofs.lemmas.Bool.{eq-eqb, eqb-true, true≢false}
 use Rattle.std.proofs.lemmas.List.{get_or_default}
-use Rattle.std.proofs.lemmas.List.Elements.{All-from_get_or, All-head, All-tail}
+use Rattle.std.proofs.lemmas.List.Elements.{All-head, All-tail}
 use Rattle.std.proofs.lemmas.List.Sums.{sum_by-cons}
-use Rattle.sg_sums.specs.Sets.{holds, chosen_below}
-use Rattle.sg_sums.specs.Sums.{sum_below}
+use Rattle.sg_sums.specs.Sets.{holds}
 use Rattle.sg_sums.proofs.Choosing.{chosen_below_no, chosen_below_yes}
 use Rattle.sg_sums.proofs.MemberSums.{members_sum}
-use Rattle.sg_sums.proofs.RisingLists.{All-holds, chosen_below_low, chosen_below_pass, chosen_below_rises, holds-chosen_below}
+use Rattle.sg_sums.proofs.RisingLists.{chosen_below_low, chosen_below_pass, chosen_below_rises, holds-chosen_below}
 use Rattle.sg_sums.proofs.SumLaws.{sum_below-same, sum_below_pick}
 use Rattle.sg_model.specs.Ising.{Ising, bond_at, bond_count}
 use Rattle.sg_model.specs.Energy.{weight}
 use Rattle.sg_model.specs.WellFormed.{IsInstance}
-use Rattle.sg_model.specs.Connected.{AreLeasts, Reached, all_bonds}
 use Rattle.sg_faces.specs.Faces.{IsFaceLabels, Labelling}
 use Rattle.sg_faces.specs.Euler.{IsEuler}
 use Rattle.sg_limits.specs.Limits.{forced_limit}

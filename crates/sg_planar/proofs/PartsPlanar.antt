@@ -1,25 +1,22 @@
 -- Where the whole has Euler's number 2, so has each part: each number is at most 2, and they sum up.
-use Rattle.std.proofs.Common.{inl, inr, ◌≡◌, ◌≢◌, ◌∙◌, sym, ap, ap₂, refl, ℕ, zero, suc, ◌+◌, ◌*◌, ◌<◌, ◌≤◌, pos, Bool, true, false, cond, eqb, List, [], ◌∷◌, length, get_or, map, sum_by, arith}
-use Rattle.std.specs.Prelude.{unsigned_abs, ◌-ℤ◌, ◌-◌, ◌||◌, ◌⊎◌}
+use Rattle.std.proofs.Common.{inl, inr, ◌≡◌, ◌≢◌, ◌∙◌, sym, ap, ap₂, refl, ℕ, ◌+◌, ◌*◌, ◌<◌, ◌≤◌, pos, true, cond, eqb, List, [], ◌∷◌, length, map, sum_by, arith}
+use Rattle.std.specs.Prelude.{unsigned_abs, ◌-ℤ◌, ◌-◌}
 use Rattle.std.specs.List.{range_with_len}
 use Rattle.std.proofs.lemmas.Int.{ints}
-use Rattle.std.proofs.lemmas.Bool.{cases_eq, eq-eqb, ne_eqb, true≢false}
+use Rattle.std.proofs.lemmas.Bool.{cases_eq, eq-eqb, ne_eqb}
 use Rattle.std.proofs.lemmas.List.{length-map}
 use Rattle.std.proofs.lemmas.List.Sums.{length-filter, sum_by-cons}
 use Rattle.sg_sums.specs.Sets.{holds}
 use Rattle.sg_sums.specs.Sums.{sum_below}
 use Rattle.sg_sums.proofs.RisingLists.{holds-chosen_below}
-use Rattle.sg_sums.proofs.SumLaws.{sum_below-add, sum_below-same, at-le-sum_below, sum_by_is_sum_below}
+use Rattle.sg_sums.proofs.SumLaws.{sum_below-add, at-le-sum_below, sum_by_is_sum_below}
 use Rattle.sg_sums.proofs.Tallies.{sum_below_ones, sum_below_times}
 use Rattle.sg_sums.proofs.DealtSums.{dealt_out, met_each, sum_by_range}
-use Rattle.sg_model.specs.declared.bond.Bond.{Bond}
 use Rattle.sg_model.specs.Ising.{Ising, bond_at, bond_count}
 use Rattle.sg_model.specs.Energy.{weight}
 use Rattle.sg_model.specs.WellFormed.{IsInstance}
-use Rattle.sg_model.specs.Connected.{IsConnected, Reached, all_bonds, AreLeasts, IsLeastReached}
-use Rattle.sg_model.proofs.Paths.{reached_back}
 use Rattle.sg_faces.specs.Faces.{face_count}
-use Rattle.sg_faces.specs.Euler.{IsEuler, euler}
+use Rattle.sg_faces.specs.Euler.{IsEuler}
 use Rattle.sg_planar.specs.Parts.{place_in, bond_in, restricted}
 use Rattle.sg_model.proofs.LeastSpins.{connected_leasts, one_list}
 use Rattle.sg_planar.proofs.EulerBounds.{euler_bound_faces}

@@ -1,4 +1,3 @@
-use Rattle.std.proofs.Common.{◌≡◌, ◌<◌, ◌∙◌, ap, arith, length, slice_index}
 use Rattle.sg_planar.proofs.PartPlaces.{labels_low, names_low, split_made}
 use Rattle.sg_planar.proofs.components.deal_out.Goals as goal
 

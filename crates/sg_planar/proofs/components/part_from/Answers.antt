@@ -1,4 +1,4 @@
-use Rattle.std.proofs.Common.{◌≡◌, ◌∙◌, ℕ, List, ap, slice_index}
+use Rattle.std.proofs.Common.{◌≡◌, ◌∙◌, ap, slice_index}
 use Rattle.sg_planar.specs.Parts.{restricted}
 use Rattle.sg_planar.specs.Splitting.{named_bonds, named_spins}
 use Rattle.sg_planar.proofs.PartsMade.{bond_places_dealt, bonds_dealt, dealt_closed, dealt_part, dealt_planar, spin_places_dealt, spins_dealt}

@@ -1,7 +1,6 @@
-use Rattle.std.proofs.Common.{◌≡◌, ◌<◌, ◌≤◌, ◌^◌, ℕ, List, [], length, map, get_or, sym, ◌∙◌, ap, refl, subst, arith, All}
+use Rattle.std.proofs.Common.{◌≡◌, ◌<◌, ℕ, List, map, get_or, sym, ◌∙◌, ap, subst, arith, All}
 use Rattle.std.proofs.lemmas.List.Elements.{All-from_get_or}
-use Rattle.sg_model.specs.declared.bond.Bond.{Bond}
-use Rattle.sg_model.specs.Ising.{Ising, IsBond, bond_at, bond_count}
+use Rattle.sg_model.specs.Ising.{Ising, bond_at, bond_count}
 use Rattle.sg_model.specs.Rotation.{darts_of}
 use Rattle.sg_model.specs.WellFormed.{IsInstance}
 use Rattle.sg_model.specs.Faults.{IsFaultOf}

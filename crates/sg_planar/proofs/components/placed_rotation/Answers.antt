@@ -1,6 +1,5 @@
 use Rattle.std.proofs.Common.{◌≡◌, ◌/◌, ◌<◌, ℕ, List, [], ◌∷◌, ◌++◌, length, get_or, sym, ◌∙◌, ap, ap₂, subst, arith, All}
 use Rattle.std.proofs.lemmas.Option.{get_or_from_slice_get}
-use Rattle.sg_model.specs.Ising.{bond_count}
 use Rattle.sg_model.specs.Rotation.{darts_of}
 use Rattle.sg_planar.specs.Splitting.{placed_darts}
 use Rattle.sg_planar.proofs.PartPlaces.{listed_below, map_more}
