@@ -48,6 +48,10 @@ lifted_rev f d = by_dart (dart_cases d)
         ap (λ x. rev (lifted f x)) e ∙ ap rev (lifted_second f k) ∙ rev_second (f k) ∙ sym (lifted_first f k) ∙ ap (lifted f) (sym (rev_second k))
         ∙ ap (λ x. lifted f (rev x)) (sym e)
 
+-- the dart of the whole that is dart e of a part with these bonds
+abbrev pub whole_dart : List ℕ → ℕ → ℕ
+whole_dart bonds e = lifted (λ k. get_or bonds k 0) e
+
 pub like_tests : (a b : Bool) → (a ≡ true → b ≡ true) → (b ≡ true → a ≡ true) → a ≡ b
 like_tests true b f g = sym (f refl)
 like_tests false true f g = g refl
@@ -60,17 +64,11 @@ count_map p f (x ∷ xs) =
     ∙ ap (λ n. cond {A = ℕ} (p (f x)) 1 0 + n) (count_map p f xs) ∙ sym (sum_by-cons (λ y. cond {A = ℕ} (p (f y)) 1 0) x xs)
 
 module _ (inst : Ising) (good : IsInstance inst) (spins bonds : List ℕ) (part : IsClosedPart inst spins bonds) where
-  abbrev no_bond : Bond
-  no_bond = record { u = 0; v = 0; j = pos 0 }
+  -- the part as an instance
+  abbrev small : Ising
+  small = restricted inst spins bonds
 
-  -- the spin and the dart of the whole
-  abbrev spin_at : ℕ → ℕ
-  spin_at i = get_or spins i 0
-
-  abbrev whole : ℕ → ℕ
-  whole d = lifted (λ k. get_or bonds k 0) d
-
-  pub darts_in_part : dart_count (restricted inst spins bonds) ≡ 2 * length bonds
+  pub darts_in_part : dart_count small ≡ 2 * length bonds
   darts_in_part = ap (λ m. 2 * m) (length-map bonds (λ k. bond_in spins (bond_at inst k)))
 
   -- a dart leaves a spin of the part exactly where its bond is one of the part
@@ -85,37 +83,37 @@ module _ (inst : Ising) (good : IsInstance inst) (spins bonds : List ℕ) (part 
           let half : k ≡ d / 2 = omega arith in
           ap (holds spins) (ap (tail inst) e ∙ tail_second inst k) ∙ part.second_end k (omega arith) ∙ ap (holds bonds) half
 
-  pub whole_bond : (e : ℕ) → e < 2 * length bonds → holds bonds (lifted (λ k. get_or bonds k 0) e / 2) ≡ true
+  pub whole_bond : (e : ℕ) → e < 2 * length bonds → holds bonds (whole_dart bonds e / 2) ≡ true
   whole_bond e l = ap (holds bonds) (lifted_half (λ k. get_or bonds k 0) e) ∙ holds_entry bonds (e / 2) (omega arith)
 
-  pub whole_below : (e : ℕ) → e < 2 * length bonds → lifted (λ k. get_or bonds k 0) e < dart_count inst
-  whole_below e l = let b : lifted (λ k. get_or bonds k 0) e / 2 < bond_count inst = part.bonds_below (lifted (λ k. get_or bonds k 0) e / 2) (whole_bond e l) in omega (arith, b)
+  pub whole_below : (e : ℕ) → e < 2 * length bonds → whole_dart bonds e < dart_count inst
+  whole_below e l = let b : whole_dart bonds e / 2 < bond_count inst = part.bonds_below (whole_dart bonds e / 2) (whole_bond e l) in omega (arith, b)
 
   -- the two numberings of the darts undo each other
-  pub part_of_whole : (e : ℕ) → e < 2 * length bonds → dart_in bonds (lifted (λ k. get_or bonds k 0) e) ≡ e
+  pub part_of_whole : (e : ℕ) → e < 2 * length bonds → dart_in bonds (whole_dart bonds e) ≡ e
   part_of_whole e l = lifted_back (λ k. get_or bonds k 0) (place_in bonds) e (place_of_entry bonds part.bonds_rise (e / 2) (omega arith))
 
-  pub whole_of_part : (d : ℕ) → holds bonds (d / 2) ≡ true → lifted (λ k. get_or bonds k 0) (dart_in bonds d) ≡ d
+  pub whole_of_part : (d : ℕ) → holds bonds (d / 2) ≡ true → whole_dart bonds (dart_in bonds d) ≡ d
   whole_of_part d h = lifted_back (place_in bonds) (λ k. get_or bonds k 0) d (entry_back bonds part.bonds_rise (d / 2) h)
 
   pub part_below : (d : ℕ) → holds bonds (d / 2) ≡ true → dart_in bonds d < 2 * length bonds
   part_below d h = let b : place_in bonds (d / 2) < length bonds = place_below bonds part.bonds_rise (d / 2) h in omega (arith, b)
 
-  bond_in_part : (k : ℕ) → k < length bonds → bond_at (restricted inst spins bonds) k ≡ bond_in spins (bond_at inst (get_or bonds k 0))
+  bond_in_part : (k : ℕ) → k < length bonds → bond_at small k ≡ bond_in spins (bond_at inst (get_or bonds k 0))
   bond_in_part k l = get_or-map (λ k. bond_in spins (bond_at inst k)) bonds k 0 (record { u = 0; v = 0; j = pos 0 }) l
 
-  pub part_tail : (e : ℕ) → e < 2 * length bonds → tail (restricted inst spins bonds) e ≡ place_in spins (tail inst (lifted (λ k. get_or bonds k 0) e))
+  pub part_tail : (e : ℕ) → e < 2 * length bonds → tail small e ≡ place_in spins (tail inst (whole_dart bonds e))
   part_tail e l = by_dart (dart_cases e)
     where
-      by_dart : ((k : ℕ) × ((e ≡ 2 * k) ⊎ (e ≡ 2 * k + 1))) → tail (restricted inst spins bonds) e ≡ place_in spins (tail inst (lifted (λ k. get_or bonds k 0) e))
+      by_dart : ((k : ℕ) × ((e ≡ 2 * k) ⊎ (e ≡ 2 * k + 1))) → tail small e ≡ place_in spins (tail inst (whole_dart bonds e))
       by_dart (k, inl is) =
-          ap (tail (restricted inst spins bonds)) is ∙ tail_first (restricted inst spins bonds) k ∙ ap (λ b. b.u) (bond_in_part k (omega arith))
-          ∙ ap (place_in spins) (sym (tail_first inst (get_or bonds k 0)) ∙ ap (tail inst) (sym (lifted_first (λ k. get_or bonds k 0) k) ∙ ap (lifted (λ k. get_or bonds k 0)) (sym is)))
+          ap (tail small) is ∙ tail_first small k ∙ ap (λ b. b.u) (bond_in_part k (omega arith))
+          ∙ ap (place_in spins) (sym (tail_first inst (get_or bonds k 0)) ∙ ap (tail inst) (sym (lifted_first (λ k. get_or bonds k 0) k) ∙ ap (whole_dart bonds) (sym is)))
       by_dart (k, inr is) =
-          ap (tail (restricted inst spins bonds)) is ∙ tail_second (restricted inst spins bonds) k ∙ ap (λ b. b.v) (bond_in_part k (omega arith))
-          ∙ ap (place_in spins) (sym (tail_second inst (get_or bonds k 0)) ∙ ap (tail inst) (sym (lifted_second (λ k. get_or bonds k 0) k) ∙ ap (lifted (λ k. get_or bonds k 0)) (sym is)))
+          ap (tail small) is ∙ tail_second small k ∙ ap (λ b. b.v) (bond_in_part k (omega arith))
+          ∙ ap (place_in spins) (sym (tail_second inst (get_or bonds k 0)) ∙ ap (tail inst) (sym (lifted_second (λ k. get_or bonds k 0) k) ∙ ap (whole_dart bonds) (sym is)))
 
-  pub part_darts : (i : ℕ) → i < length spins → darts_of (restricted inst spins bonds) i ≡ map (dart_in bonds) (darts_of inst (get_or spins i 0))
+  pub part_darts : (i : ℕ) → i < length spins → darts_of small i ≡ map (dart_in bonds) (darts_of inst (get_or spins i 0))
   part_darts i l = get_or-map (λ i. map (dart_in bonds) (darts_of inst i)) spins i 0 [] l
 
   -- the bonds of the darts of a spin of the part are bonds of the part
@@ -124,7 +122,7 @@ module _ (inst : Ising) (good : IsInstance inst) (spins bonds : List ℕ) (part 
       All-from_get_or (λ d. holds bonds (d / 2) ≡ true) (darts_of inst s) 0
       (λ j b. sym (tail_in_part (get_or (darts_of inst s) j 0) (in_list inst good s j (part.spins_below s h) b).0) ∙ ap (holds spins) (in_list inst good s j (part.spins_below s h) b).1 ∙ h)
 
-  each_dart_once : (i d : ℕ) → i < length spins → count_by (λ x. eqb x d) (darts_of (restricted inst spins bonds) i) ≡ cond (is_dart_of (restricted inst spins bonds) i d) 1 0
+  each_dart_once : (i d : ℕ) → i < length spins → count_by (λ x. eqb x d) (darts_of small i) ≡ cond (is_dart_of small i d) 1 0
   each_dart_once i d l =
       ap (count_by (λ x. eqb x d)) (part_darts i l) ∙ count_map (λ x. eqb x d) (dart_in bonds) (darts_of inst s)
       ∙ elim (cases_lt d (2 * length bonds)) [ inl b ↦ inside b | inr past ↦ outside past ]
@@ -135,30 +133,30 @@ module _ (inst : Ising) (good : IsInstance inst) (spins bonds : List ℕ) (part 
       held : holds spins s ≡ true
       held = holds_entry spins i l
 
-      inside : d < 2 * length bonds → count_by (λ x. eqb (dart_in bonds x) d) (darts_of inst s) ≡ cond (is_dart_of (restricted inst spins bonds) i d) 1 0
+      inside : d < 2 * length bonds → count_by (λ x. eqb (dart_in bonds x) d) (darts_of inst s) ≡ cond (is_dart_of small i d) 1 0
       inside b =
           sum_by-same (λ x. cond {A = ℕ} (eqb (dart_in bonds x) d) 1 0) (λ x. cond {A = ℕ} (eqb x w) 1 0) (darts_of inst s)
           (λ j e q. one (get_or (darts_of inst s) j e) (listed_bond s held j e q))
           ∙ good.rotation.each_once s w (part.spins_below s held) ∙ ap (λ b. cond {A = ℕ} b 1 0) tests
         where
           w : ℕ
-          w = lifted (λ k. get_or bonds k 0) d
+          w = whole_dart bonds d
 
           one : (x : ℕ) → holds bonds (x / 2) ≡ true → cond {A = ℕ} (eqb (dart_in bonds x) d) 1 0 ≡ cond (eqb x w) 1 0
           one x h = ap (λ b. cond {A = ℕ} b 1 0) (like_tests (eqb (dart_in bonds x) d) (eqb x w)
-              (λ t. eq-eqb x w (sym (whole_of_part x h) ∙ ap (lifted (λ k. get_or bonds k 0)) (eqb-true (dart_in bonds x) d t)))
+              (λ t. eq-eqb x w (sym (whole_of_part x h) ∙ ap (whole_dart bonds) (eqb-true (dart_in bonds x) d t)))
               (λ t. eq-eqb (dart_in bonds x) d (ap (dart_in bonds) (eqb-true x w t) ∙ part_of_whole d b)))
 
-          tests : is_dart_of inst s w ≡ is_dart_of (restricted inst spins bonds) i d
-          tests = like_tests (is_dart_of inst s w) (is_dart_of (restricted inst spins bonds) i d)
-              (λ t. is_dart_of-from (restricted inst spins bonds) i d (omega (arith, b, darts_in_part)) (part_tail d b ∙ ap (place_in spins) (is_dart_of-parts inst s w t).1 ∙ place_of_entry spins part.spins_rise i l))
+          tests : is_dart_of inst s w ≡ is_dart_of small i d
+          tests = like_tests (is_dart_of inst s w) (is_dart_of small i d)
+              (λ t. is_dart_of-from small i d (omega (arith, b, darts_in_part)) (part_tail d b ∙ ap (place_in spins) (is_dart_of-parts inst s w t).1 ∙ place_of_entry spins part.spins_rise i l))
               (λ t. is_dart_of-from inst s w (whole_below d b) (places_apart spins part.spins_rise (tail inst w) s (tail_in_part w (whole_below d b) ∙ whole_bond d b) held
-              (sym (part_tail d b) ∙ (is_dart_of-parts (restricted inst spins bonds) i d t).1 ∙ sym (place_of_entry spins part.spins_rise i l))))
+              (sym (part_tail d b) ∙ (is_dart_of-parts small i d t).1 ∙ sym (place_of_entry spins part.spins_rise i l))))
 
-      outside : 2 * length bonds ≤ d → count_by (λ x. eqb (dart_in bonds x) d) (darts_of inst s) ≡ cond (is_dart_of (restricted inst spins bonds) i d) 1 0
+      outside : 2 * length bonds ≤ d → count_by (λ x. eqb (dart_in bonds x) d) (darts_of inst s) ≡ cond (is_dart_of small i d) 1 0
       outside past =
           none (darts_of inst s) (listed_bond s held)
-          ∙ ap (λ b. cond {A = ℕ} b 1 0) (sym (false_from_ne_true (is_dart_of (restricted inst spins bonds) i d) (λ t. (let b : d < dart_count (restricted inst spins bonds) = (is_dart_of-parts (restricted inst spins bonds) i d t).0 in let never : ⊥ = omega (arith, b, darts_in_part) in never))))
+          ∙ ap (λ b. cond {A = ℕ} b 1 0) (sym (false_from_ne_true (is_dart_of small i d) (λ t. (let b : d < dart_count small = (is_dart_of-parts small i d t).0 in let never : ⊥ = omega (arith, b, darts_in_part) in never))))
         where
           none : (xs : List ℕ) → All (λ x. holds bonds (x / 2) ≡ true) xs → count_by (λ x. eqb (dart_in bonds x) d) xs ≡ 0
           none [] h = refl
@@ -169,7 +167,7 @@ module _ (inst : Ising) (good : IsInstance inst) (spins bonds : List ℕ) (part 
               ∙ ap₂ {A = ℕ} (λ a b. a + b) (ap (λ b. cond {A = ℕ} b 1 0) other) (none xs (All-tail (λ x. holds bonds (x / 2) ≡ true) x xs h))
 
   -- a part is an instance
-  pub part_instance : IsInstance (restricted inst spins bonds)
+  pub part_instance : IsInstance small
   part_instance = record {
     has_spin = omega (arith, part.some);
     few_spins = omega (arith, rising_few spins inst.n part.spins_rise part.spins_below, good.few_spins);

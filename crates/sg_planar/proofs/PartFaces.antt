@@ -23,7 +23,7 @@ use Rattle.sg_planar.specs.Parts.{place_in, dart_in, bond_in, restricted}
 use Rattle.sg_planar.specs.Splitting.{IsClosedPart}
 use Rattle.sg_planar.proofs.Places.{rises_past, entry_back, place_below, place_of_entry, places_apart, holds_entry}
 use Rattle.sg_planar.proofs.Followed.{followed}
-use Rattle.sg_planar.proofs.PartDarts.{lifted, lifted_first, lifted_second, lifted_rev, like_tests, darts_in_part, tail_in_part, whole_bond, whole_below, part_of_whole, whole_of_part, part_below, part_tail, part_darts, listed_bond, part_instance}
+use Rattle.sg_planar.proofs.PartDarts.{darts_in_part, lifted, lifted_first, lifted_rev, lifted_second, like_tests, listed_bond, part_below, part_darts, part_instance, part_of_whole, part_tail, tail_in_part, whole_below, whole_bond, whole_dart, whole_of_part}
 
 -- a spin is bare where no dart leaves it
 pub bare_means : (inst : Ising) (i : ℕ) → (is_bare inst i ≡ true) ↔ ((d : ℕ) → d < dart_count inst → tail inst d ≢ i)
@@ -71,27 +71,28 @@ faces_by_bonds inst =
     (sum_by_range (bare_spins inst) inst.n)
 
 module _ (inst : Ising) (good : IsInstance inst) (spins bonds : List ℕ) (part : IsClosedPart inst spins bonds) where
-  abbrev whole : ℕ → ℕ
-  whole d = lifted (λ k. get_or bonds k 0) d
+  -- the part as an instance
+  abbrev small : Ising
+  small = restricted inst spins bonds
 
-  part_good : IsInstance (restricted inst spins bonds)
+  part_good : IsInstance small
   part_good = part_instance inst good spins bonds part
 
-  darts : dart_count (restricted inst spins bonds) ≡ 2 * length bonds
+  darts : dart_count small ≡ 2 * length bonds
   darts = darts_in_part inst good spins bonds part
 
   -- the dart of the whole leaves a spin of the part
-  whole_tail : (e : ℕ) → e < 2 * length bonds → holds spins (tail inst (lifted (λ k. get_or bonds k 0) e)) ≡ true
-  whole_tail e l = tail_in_part inst good spins bonds part (lifted (λ k. get_or bonds k 0) e) (whole_below inst good spins bonds part e l) ∙ whole_bond inst good spins bonds part e l
+  whole_tail : (e : ℕ) → e < 2 * length bonds → holds spins (tail inst (whole_dart bonds e)) ≡ true
+  whole_tail e l = tail_in_part inst good spins bonds part (whole_dart bonds e) (whole_below inst good spins bonds part e l) ∙ whole_bond inst good spins bonds part e l
 
-  pub part_next : (e : ℕ) → e < 2 * length bonds → lifted (λ k. get_or bonds k 0) (next (restricted inst spins bonds) e) ≡ next inst (lifted (λ k. get_or bonds k 0) e)
+  pub part_next : (e : ℕ) → e < 2 * length bonds → whole_dart bonds (next small e) ≡ next inst (whole_dart bonds e)
   part_next e l =
-      ap (lifted (λ k. get_or bonds k 0)) (next_is (restricted inst spins bonds) part_good e ∙ ap₂ (λ xs d. following xs d) list (sym (part_of_whole inst good spins bonds part e l))
+      ap (whole_dart bonds) (next_is small part_good e ∙ ap₂ (λ xs d. following xs d) list (sym (part_of_whole inst good spins bonds part e l))
       ∙ followed (dart_in bonds) w (darts_of inst t) some one ∙ ap (dart_in bonds) (sym (next_is inst good w)))
       ∙ whole_of_part inst good spins bonds part (next inst w) (sym (tail_in_part inst good spins bonds part (next inst w) ahead.0) ∙ ap (holds spins) ahead.1 ∙ held)
     where
       w : ℕ
-      w = lifted (λ k. get_or bonds k 0) e
+      w = whole_dart bonds e
 
       wl : w < dart_count inst
       wl = whole_below inst good spins bonds part e l
@@ -105,9 +106,9 @@ module _ (inst : Ising) (good : IsInstance inst) (spins bonds : List ℕ) (part 
       ahead : (next inst w < dart_count inst) × (tail inst (next inst w) ≡ t)
       ahead = next_in_list inst good w wl
 
-      list : darts_of (restricted inst spins bonds) (tail (restricted inst spins bonds) e) ≡ map (dart_in bonds) (darts_of inst t)
+      list : darts_of small (tail small e) ≡ map (dart_in bonds) (darts_of inst t)
       list =
-          ap (darts_of (restricted inst spins bonds)) (part_tail inst good spins bonds part e l)
+          ap (darts_of small) (part_tail inst good spins bonds part e l)
           ∙ part_darts inst good spins bonds part (place_in spins t) (place_below spins part.spins_rise t held)
           ∙ ap (λ s. map (dart_in bonds) (darts_of inst s)) (entry_back spins part.spins_rise t held)
 
@@ -117,74 +118,74 @@ module _ (inst : Ising) (good : IsInstance inst) (spins bonds : List ℕ) (part 
       one : All (λ x. dart_in bonds x ≡ dart_in bonds w → x ≡ w) (darts_of inst t)
       one j d b same =
           sym (whole_of_part inst good spins bonds part (get_or (darts_of inst t) j d) (listed_bond inst good spins bonds part t held j d b))
-          ∙ ap (lifted (λ k. get_or bonds k 0)) same ∙ whole_of_part inst good spins bonds part w (whole_bond inst good spins bonds part e l)
+          ∙ ap (whole_dart bonds) same ∙ whole_of_part inst good spins bonds part w (whole_bond inst good spins bonds part e l)
 
-  pub part_phi : (e : ℕ) → e < 2 * length bonds → lifted (λ k. get_or bonds k 0) (phi (restricted inst spins bonds) e) ≡ phi inst (lifted (λ k. get_or bonds k 0) e)
+  pub part_phi : (e : ℕ) → e < 2 * length bonds → whole_dart bonds (phi small e) ≡ phi inst (whole_dart bonds e)
   part_phi e l =
-      part_next (rev e) (let b : rev e < dart_count (restricted inst spins bonds) = rev_below (restricted inst spins bonds) e (omega (arith, l, darts)) in omega (arith, b, darts))
+      part_next (rev e) (let b : rev e < dart_count small = rev_below small e (omega (arith, l, darts)) in omega (arith, b, darts))
       ∙ ap (next inst) (sym (lifted_rev (λ k. get_or bonds k 0) e))
 
-  steps_in_part : (j e : ℕ) → e < 2 * length bonds → steps (restricted inst spins bonds) j e < 2 * length bonds
-  steps_in_part j e l = let b : steps (restricted inst spins bonds) j e < dart_count (restricted inst spins bonds) = face_steps_below (restricted inst spins bonds) part_good j e (omega (arith, l, darts)) in omega (arith, b, darts)
+  steps_in_part : (j e : ℕ) → e < 2 * length bonds → steps small j e < 2 * length bonds
+  steps_in_part j e l = let b : steps small j e < dart_count small = face_steps_below small part_good j e (omega (arith, l, darts)) in omega (arith, b, darts)
 
-  pub part_steps : (j e : ℕ) → e < 2 * length bonds → lifted (λ k. get_or bonds k 0) (steps (restricted inst spins bonds) j e) ≡ steps inst j (lifted (λ k. get_or bonds k 0) e)
+  pub part_steps : (j e : ℕ) → e < 2 * length bonds → whole_dart bonds (steps small j e) ≡ steps inst j (whole_dart bonds e)
   part_steps zero e l = refl
-  part_steps (suc j) e l = part_phi (steps (restricted inst spins bonds) j e) (steps_in_part j e l) ∙ ap (phi inst) (part_steps j e l)
+  part_steps (suc j) e l = part_phi (steps small j e) (steps_in_part j e l) ∙ ap (phi inst) (part_steps j e l)
 
   -- the darts keep their order
-  whole_less : (d e : ℕ) → d < e → e < 2 * length bonds → lifted (λ k. get_or bonds k 0) d < lifted (λ k. get_or bonds k 0) e
+  whole_less : (d e : ℕ) → d < e → e < 2 * length bonds → whole_dart bonds d < whole_dart bonds e
   whole_less d e l b = elim (cases_eq (d / 2) (e / 2)) [
     | inl same ↦ omega (arith, l, same, ap (λ k. get_or bonds k 0) same)
     | inr ne ↦ (let less : get_or bonds (d / 2) 0 < get_or bonds (e / 2) 0 = rises_past bonds part.bonds_rise (d / 2) (e / 2) (omega (arith, l, ne)) (omega (arith, b)) in omega (arith, less))
   ]
 
-  whole_keeps : (d e : ℕ) → d ≤ e → e < 2 * length bonds → lifted (λ k. get_or bonds k 0) d ≤ lifted (λ k. get_or bonds k 0) e
+  whole_keeps : (d e : ℕ) → d ≤ e → e < 2 * length bonds → whole_dart bonds d ≤ whole_dart bonds e
   whole_keeps d e l b = elim (cases_eq d e) [
-    | inl same ↦ omega (arith, ap (lifted (λ k. get_or bonds k 0)) same)
-    | inr ne ↦ (let less : lifted (λ k. get_or bonds k 0) d < lifted (λ k. get_or bonds k 0) e = whole_less d e (omega (arith, l, ne)) b in omega (arith, less))
+    | inl same ↦ omega (arith, ap (whole_dart bonds) same)
+    | inr ne ↦ (let less : whole_dart bonds d < whole_dart bonds e = whole_less d e (omega (arith, l, ne)) b in omega (arith, less))
   ]
 
-  whole_back : (d e : ℕ) → d < 2 * length bonds → lifted (λ k. get_or bonds k 0) d ≤ lifted (λ k. get_or bonds k 0) e → d ≤ e
+  whole_back : (d e : ℕ) → d < 2 * length bonds → whole_dart bonds d ≤ whole_dart bonds e → d ≤ e
   whole_back d e b l = elim (cases_lt e d) [
-    | inl past ↦ (let less : lifted (λ k. get_or bonds k 0) e < lifted (λ k. get_or bonds k 0) d = whole_less e d past b in absurd (omega (arith, less, l)))
+    | inl past ↦ (let less : whole_dart bonds e < whole_dart bonds d = whole_less e d past b in absurd (omega (arith, less, l)))
     | inr keeps ↦ keeps
   ]
 
-  pub part_least : (e : ℕ) → e < 2 * length bonds → is_least (restricted inst spins bonds) e ≡ is_least inst (lifted (λ k. get_or bonds k 0) e)
-  part_least e l = like_tests (is_least (restricted inst spins bonds) e) (is_least inst w) there back
+  pub part_least : (e : ℕ) → e < 2 * length bonds → is_least small e ≡ is_least inst (whole_dart bonds e)
+  part_least e l = like_tests (is_least small e) (is_least inst w) there back
     where
       w : ℕ
-      w = lifted (λ k. get_or bonds k 0) e
+      w = whole_dart bonds e
 
       wl : w < dart_count inst
       wl = whole_below inst good spins bonds part e l
 
-      el : e < dart_count (restricted inst spins bonds)
+      el : e < dart_count small
       el = omega (arith, l, darts)
 
-      there : is_least (restricted inst spins bonds) e ≡ true → is_least inst w ≡ true
+      there : is_least small e ≡ true → is_least inst w ≡ true
       there h = (least_of_face inst good w wl).1 (λ x s. at_steps x s.0 s.1)
         where
           at_steps : (x j : ℕ) → steps inst j w ≡ x → w ≤ x
           at_steps x j is =
-              let low : e ≤ steps (restricted inst spins bonds) j e = (least_of_face (restricted inst spins bonds) part_good e el).0 h (steps (restricted inst spins bonds) j e) (j, refl) in
-              let up : w ≤ lifted (λ k. get_or bonds k 0) (steps (restricted inst spins bonds) j e) = whole_keeps e (steps (restricted inst spins bonds) j e) low (steps_in_part j e l) in
+              let low : e ≤ steps small j e = (least_of_face small part_good e el).0 h (steps small j e) (j, refl) in
+              let up : w ≤ whole_dart bonds (steps small j e) = whole_keeps e (steps small j e) low (steps_in_part j e l) in
               omega (arith, up, part_steps j e l, is)
 
-      back : is_least inst w ≡ true → is_least (restricted inst spins bonds) e ≡ true
-      back h = (least_of_face (restricted inst spins bonds) part_good e el).1 (λ x s. at_steps x s.0 s.1)
+      back : is_least inst w ≡ true → is_least small e ≡ true
+      back h = (least_of_face small part_good e el).1 (λ x s. at_steps x s.0 s.1)
         where
-          at_steps : (x j : ℕ) → steps (restricted inst spins bonds) j e ≡ x → e ≤ x
+          at_steps : (x j : ℕ) → steps small j e ≡ x → e ≤ x
           at_steps x j is =
               let up : w ≤ steps inst j w = (least_of_face inst good w wl).0 h (steps inst j w) (j, refl) in
-              let low : e ≤ steps (restricted inst spins bonds) j e = whole_back e (steps (restricted inst spins bonds) j e) l (omega (arith, up, part_steps j e l)) in
+              let low : e ≤ steps small j e = whole_back e (steps small j e) l (omega (arith, up, part_steps j e l)) in
               omega (arith, low, is)
 
-  pub part_bare : (i : ℕ) → i < length spins → is_bare (restricted inst spins bonds) i ≡ is_bare inst (get_or spins i 0)
+  pub part_bare : (i : ℕ) → i < length spins → is_bare small i ≡ is_bare inst (get_or spins i 0)
   part_bare i l =
-      like_tests (is_bare (restricted inst spins bonds) i) (is_bare inst s)
+      like_tests (is_bare small i) (is_bare inst s)
       (λ h. (bare_means inst s).1 (λ d b e. there h d b e))
-      (λ h. (bare_means (restricted inst spins bonds) i).1 (λ e b t. back h e b t))
+      (λ h. (bare_means small i).1 (λ e b t. back h e b t))
     where
       s : ℕ
       s = get_or spins i 0
@@ -192,33 +193,33 @@ module _ (inst : Ising) (good : IsInstance inst) (spins bonds : List ℕ) (part 
       held : holds spins s ≡ true
       held = holds_entry spins i l
 
-      there : is_bare (restricted inst spins bonds) i ≡ true → (d : ℕ) → d < dart_count inst → tail inst d ≡ s → ⊥
+      there : is_bare small i ≡ true → (d : ℕ) → d < dart_count inst → tail inst d ≡ s → ⊥
       there h d b e =
           let inside : holds bonds (d / 2) ≡ true = sym (tail_in_part inst good spins bonds part d b) ∙ ap (holds spins) e ∙ held in
           let low : dart_in bonds d < 2 * length bonds = part_below inst good spins bonds part d inside in
-          (bare_means (restricted inst spins bonds) i).0 h (dart_in bonds d) (omega (arith, low, darts))
+          (bare_means small i).0 h (dart_in bonds d) (omega (arith, low, darts))
           (part_tail inst good spins bonds part (dart_in bonds d) low ∙ ap (λ x. place_in spins (tail inst x)) (whole_of_part inst good spins bonds part d inside)
           ∙ ap (place_in spins) e ∙ place_of_entry spins part.spins_rise i l)
 
-      back : is_bare inst s ≡ true → (e : ℕ) → e < dart_count (restricted inst spins bonds) → tail (restricted inst spins bonds) e ≡ i → ⊥
+      back : is_bare inst s ≡ true → (e : ℕ) → e < dart_count small → tail small e ≡ i → ⊥
       back h e b t =
           let low : e < 2 * length bonds = omega (arith, b, darts) in
-          (bare_means inst s).0 h (lifted (λ k. get_or bonds k 0) e) (whole_below inst good spins bonds part e low)
-          (places_apart spins part.spins_rise (tail inst (lifted (λ k. get_or bonds k 0) e)) s (whole_tail e low) held
+          (bare_means inst s).0 h (whole_dart bonds e) (whole_below inst good spins bonds part e low)
+          (places_apart spins part.spins_rise (tail inst (whole_dart bonds e)) s (whole_tail e low) held
           (sym (part_tail inst good spins bonds part e low) ∙ t ∙ sym (place_of_entry spins part.spins_rise i l)))
 
   -- the faces of a part are those that the whole has on its bonds and at its spins
-  pub part_faces : face_count (restricted inst spins bonds) ≡ sum_by (least_sides inst) bonds + sum_by (bare_spins inst) spins
+  pub part_faces : face_count small ≡ sum_by (least_sides inst) bonds + sum_by (bare_spins inst) spins
   part_faces =
-      faces_by_bonds (restricted inst spins bonds)
+      faces_by_bonds small
       ∙ ap₂ {A = ℕ} (λ a b. a + b)
-      (ap (sum_below (least_sides (restricted inst spins bonds))) (length-map bonds (λ k. bond_in spins (bond_at inst k)))
-      ∙ sum_below-same (least_sides (restricted inst spins bonds)) (λ k. least_sides inst (get_or bonds k 0)) (length bonds) sides
+      (ap (sum_below (least_sides small)) (length-map bonds (λ k. bond_in spins (bond_at inst k)))
+      ∙ sum_below-same (least_sides small) (λ k. least_sides inst (get_or bonds k 0)) (length bonds) sides
       ∙ sym (sum_by_is_sum_below (least_sides inst) bonds 0))
-      (sum_below-same (bare_spins (restricted inst spins bonds)) (λ i. bare_spins inst (get_or spins i 0)) (length spins) (λ i l. ap (λ b. cond {A = ℕ} b 1 0) (part_bare i l))
+      (sum_below-same (bare_spins small) (λ i. bare_spins inst (get_or spins i 0)) (length spins) (λ i l. ap (λ b. cond {A = ℕ} b 1 0) (part_bare i l))
       ∙ sym (sum_by_is_sum_below (bare_spins inst) spins 0))
     where
-      sides : (k : ℕ) → k < length bonds → least_sides (restricted inst spins bonds) k ≡ least_sides inst (get_or bonds k 0)
+      sides : (k : ℕ) → k < length bonds → least_sides small k ≡ least_sides inst (get_or bonds k 0)
       sides k l = ap₂ {A = Bool} (λ a b. cond {A = ℕ} a 1 0 + cond b 1 0)
           (part_least (2 * k) (omega arith) ∙ ap (is_least inst) (lifted_first (λ k. get_or bonds k 0) k))
           (part_least (2 * k + 1) (omega arith) ∙ ap (is_least inst) (lifted_second (λ k. get_or bonds k 0) k))

@@ -12,8 +12,9 @@ use Rattle.sg_model.specs.WellFormed.{IsInstance}
 use Rattle.sg_model.specs.Connected.{IsConnected, Reached, all_bonds, AreLeasts, IsLeastReached}
 use Rattle.sg_model.proofs.Paths.{reached_back, reached_on, reached_by_bond}
 use Rattle.sg_planar.specs.Parts.{place_in, restricted}
-use Rattle.sg_planar.specs.Splitting.{IsClosedPart, IsNaming, named_spins, named_bonds, own_names}
+use Rattle.sg_planar.specs.Splitting.{IsClosedPart, IsNaming, component, named_bonds, named_spins, own_names}
 use Rattle.sg_planar.proofs.Places.{rises_past, entry_back, place_below, holds_entry}
+use Rattle.sg_planar.proofs.PartDarts.{part_instance}
 use Rattle.sg_planar.proofs.PartWalks.{part_connected}
 
 pub chosen_none : (p : ℕ → Bool) (n : ℕ) → ((k : ℕ) → k < n → p k ≡ false) → chosen_below p n ≡ []
@@ -104,6 +105,9 @@ module _ (inst : Ising) (good : IsInstance inst) (name : ℕ → ℕ) (named : I
         some : 0 < length (named_spins inst name c)
         some = let b : place_in (named_spins inst name c) c < length (named_spins inst name c) = place_below (named_spins inst name c) (chosen_below_rises (λ x. eqb (name x) c) inst.n) c (named_spin c c l own) in omega (arith, b)
 
+    pub named_instance : IsInstance (component inst name c)
+    named_instance = part_instance inst good (named_spins inst name c) (named_bonds inst name c) named_part
+
     pub named_reached : (x : ℕ) → holds (named_spins inst name c) x ≡ true → Reached inst all_bonds c x
     named_reached x h =
         let b : (x < inst.n) × (name x ≡ c) = spin_named c x h in
@@ -136,5 +140,5 @@ module _ (inst : Ising) (good : IsInstance inst) (name : ℕ → ℕ) (named : I
         low : place_in xs c < length xs
         low = place_below xs rises c (named_spin c c l own)
 
-    pub named_connected : IsConnected (restricted inst (named_spins inst name c) (named_bonds inst name c))
+    pub named_connected : IsConnected (component inst name c)
     named_connected = part_connected inst (named_spins inst name c) (named_bonds inst name c) named_part c (named_spin c c l own) own_first named_reached

@@ -19,10 +19,10 @@ use Rattle.sg_limits.specs.Limits.{forced_limit}
 use Rattle.sg_planar.specs.declared.components.Part.{Part}
 use Rattle.sg_planar.specs.Fit.{Embedding, IsPlanar}
 use Rattle.sg_planar.specs.Parts.{AreParts, IsPart, restricted, times_in}
-use Rattle.sg_planar.specs.Splitting.{ArePlaces, IsClosedPart, IsNaming, IsSplit, named_bonds, named_spins, own_names}
+use Rattle.sg_planar.specs.Splitting.{ArePlaces, IsClosedPart, IsNaming, IsSplit, component, named_bonds, named_spins, own_names}
 use Rattle.sg_planar.proofs.DealtNumbers.{dealt_places}
 use Rattle.sg_planar.proofs.PartDarts.{like_tests, part_instance}
-use Rattle.sg_planar.proofs.PartsByName.{bond_named, first_below, name_alike, name_below, name_own, named_connected, named_part, named_reached, named_spin, own_leasts, reached_named, spin_named}
+use Rattle.sg_planar.proofs.PartsByName.{named_instance, bond_named, first_below, name_alike, name_below, name_own, named_connected, named_part, named_reached, named_spin, own_leasts, reached_named, spin_named}
 use Rattle.sg_planar.proofs.PartsPlanar.{part_euler, part_weight}
 
 zip_push : {A B : Type 0} (R : A → B → Type 0) (xs : List A) (ys : List B) (x : A) (y : B) → AllZip R xs ys → R x y → AllZip R (xs ++ x ∷ []) (ys ++ y ∷ [])
@@ -33,16 +33,16 @@ zip_push R (a ∷ xs) (b ∷ ys) x y z r = (z.0, zip_push R xs ys x y z.1 r)
 
 module _ (inst : Ising) (good : IsInstance inst) (name : ℕ → ℕ) (named : IsNaming inst name) where
   module _ (flat : IsEuler inst (pos 2)) (small : weight inst ≤ forced_limit) (c : ℕ) (l : c < inst.n) (own : name c ≡ c) where
-    pub part_planar : (faces : Labelling) → IsFaceLabels (restricted inst (named_spins inst name c) (named_bonds inst name c)) faces →
-        IsPlanar (record { instance = restricted inst (named_spins inst name c) (named_bonds inst name c); faces = faces })
+    pub part_planar : (faces : Labelling) → IsFaceLabels (component inst name c) faces →
+        IsPlanar (record { instance = component inst name c; faces = faces })
     part_planar faces labels = record {
-      instance = part_instance inst good (named_spins inst name c) (named_bonds inst name c) (named_part inst good name named c l own);
+      instance = named_instance inst good name named c l own;
       faces = labels;
       genus_zero = part_euler inst good name named flat c l own;
       sum = omega (arith, part_weight inst good name named c l, small);
     }
 
-    pub part_made : (p : Embedding) → p.instance ≡ restricted inst (named_spins inst name c) (named_bonds inst name c) → IsPlanar p →
+    pub part_made : (p : Embedding) → p.instance ≡ component inst name c → IsPlanar p →
         IsPart inst c (record { spins = named_spins inst name c; bonds = named_bonds inst name c; planar = p })
     part_made p is planar = record {
       spins_rise = chosen_below_rises (λ x. eqb (name x) c) inst.n;
@@ -153,7 +153,7 @@ module _ (inst : Ising) (good : IsInstance inst) (names : List ℕ) (spin_lists 
     bond_places_dealt = rw b (dealt_places (λ k. get_or names (bond_at inst k).u 0) inst.n (bond_count inst) bond_lists bond_places split.bonds good.few_bonds c)
 
     module _ (flat : IsEuler inst (pos 2)) (small : weight inst ≤ forced_limit) (part : Ising) (is : part ≡ restricted inst spins bonds) where
-      dealt_is : part ≡ restricted inst (named_spins inst (slice_index names) c) (named_bonds inst (slice_index names) c)
+      dealt_is : part ≡ component inst (slice_index names) c
       dealt_is = is ∙ ap₂ (restricted inst) s b
 
       pub dealt_planar : (faces : Labelling) → IsFaceLabels part faces → IsPlanar (record { instance = part; faces = faces })

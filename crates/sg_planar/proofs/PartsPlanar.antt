@@ -20,11 +20,11 @@ use Rattle.sg_faces.specs.Euler.{IsEuler}
 use Rattle.sg_planar.specs.Parts.{place_in, bond_in, restricted}
 use Rattle.sg_model.proofs.LeastSpins.{connected_leasts, one_list}
 use Rattle.sg_planar.proofs.EulerBounds.{euler_bound_faces}
-use Rattle.sg_planar.specs.Splitting.{IsNaming, named_spins, named_bonds, own_names}
+use Rattle.sg_planar.specs.Splitting.{IsNaming, component, named_bonds, named_spins, own_names}
 use Rattle.sg_planar.proofs.Places.{place_below}
 use Rattle.sg_planar.proofs.PartDarts.{part_instance}
 use Rattle.sg_planar.proofs.PartFaces.{least_sides, bare_spins, faces_by_bonds, part_faces}
-use Rattle.sg_planar.proofs.PartsByName.{chosen_none, sum_of_ones, name_below, name_own, first_below, own_leasts, named_part, named_connected}
+use Rattle.sg_planar.proofs.PartsByName.{named_instance, chosen_none, sum_of_ones, name_below, name_own, first_below, own_leasts, named_part, named_connected}
 
 sum_by_mapped : {X : Type 0} (g : X → ℕ) (f : ℕ → X) (xs : List ℕ) → sum_by g (map f xs) ≡ sum_by (λ x. g (f x)) xs
 sum_by_mapped g f [] = refl
@@ -77,11 +77,11 @@ module _ (inst : Ising) (good : IsInstance inst) (name : ℕ → ℕ) (named : I
   no_bonds c ne = chosen_none (λ k. eqb (name (bond_at inst k).u) c) (bond_count inst)
       (λ k l. ne_eqb (name (bond_at inst k).u) c (λ (e : name (bond_at inst k).u ≡ c). ne (ap name (sym e) ∙ name_own inst good name named (bond_at inst k).u (first_below inst good name named k l) ∙ e)))
 
-  part_filled : (c : ℕ) (l : c < inst.n) (own : name c ≡ c) → (restricted inst (named_spins inst name c) (named_bonds inst name c)).n + face_count (restricted inst (named_spins inst name c) (named_bonds inst name c)) ≡ filled c
+  part_filled : (c : ℕ) (l : c < inst.n) (own : name c ≡ c) → (component inst name c).n + face_count (component inst name c) ≡ filled c
   part_filled c l own = ap₂ {A = ℕ} (λ a b. a + b) (sym (sum_of_ones (named_spins inst name c)))
       (part_faces inst good (named_spins inst name c) (named_bonds inst name c) (named_part inst good name named c l own))
 
-  part_allowed : (c : ℕ) → name c ≡ c → bond_count (restricted inst (named_spins inst name c) (named_bonds inst name c)) + 2 ≡ allowed c
+  part_allowed : (c : ℕ) → name c ≡ c → bond_count (component inst name c) + 2 ≡ allowed c
   part_allowed c own =
       ap₂ {A = ℕ} (λ a b. a + 2 * b) (length-map (named_bonds inst name c) (λ k. bond_in (named_spins inst name c) (bond_at inst k)) ∙ sym (sum_of_ones (named_bonds inst name c)))
       (sym (ap (λ b. cond {A = ℕ} b 1 0) (eq-eqb (name c) c own)))
@@ -89,8 +89,8 @@ module _ (inst : Ising) (good : IsInstance inst) (name : ℕ → ℕ) (named : I
   at_most : (c : ℕ) → c < inst.n → filled c ≤ allowed c
   at_most c l = elim (cases_eq (name c) c) [
     | inl own ↦
-        let part : (restricted inst (named_spins inst name c) (named_bonds inst name c)).n + face_count (restricted inst (named_spins inst name c) (named_bonds inst name c)) ≤ bond_count (restricted inst (named_spins inst name c) (named_bonds inst name c)) + 2 =
-        euler_bound_faces (restricted inst (named_spins inst name c) (named_bonds inst name c)) (part_instance inst good (named_spins inst name c) (named_bonds inst name c) (named_part inst good name named c l own)) (named_connected inst good name named c l own) in
+        let part : (component inst name c).n + face_count (component inst name c) ≤ bond_count (component inst name c) + 2 =
+        euler_bound_faces (component inst name c) (named_instance inst good name named c l own) (named_connected inst good name named c l own) in
         omega (arith, part, part_filled c l own, part_allowed c own)
     | inr ne ↦ omega (
       arith,
@@ -112,13 +112,13 @@ module _ (inst : Ising) (good : IsInstance inst) (name : ℕ → ℕ) (named : I
         sums a m k e l = omega (arith, ints)
 
     -- each part has Euler's number 2
-    pub part_euler : (c : ℕ) → c < inst.n → name c ≡ c → IsEuler (restricted inst (named_spins inst name c) (named_bonds inst name c)) (pos 2)
+    pub part_euler : (c : ℕ) → c < inst.n → name c ≡ c → IsEuler (component inst name c) (pos 2)
     part_euler c l own = record {
       leasts = 0 ∷ [];
-      components = connected_leasts (restricted inst (named_spins inst name c) (named_bonds inst name c))
-          (part_instance inst good (named_spins inst name c) (named_bonds inst name c) (named_part inst good name named c l own)).has_spin (named_connected inst good name named c l own);
-      value = two ((restricted inst (named_spins inst name c) (named_bonds inst name c)).n + face_count (restricted inst (named_spins inst name c) (named_bonds inst name c)))
-          (bond_count (restricted inst (named_spins inst name c) (named_bonds inst name c)))
+      components = connected_leasts (component inst name c)
+          (named_instance inst good name named c l own).has_spin (named_connected inst good name named c l own);
+      value = two ((component inst name c).n + face_count (component inst name c))
+          (bond_count (component inst name c))
           (part_filled c l own ∙ met_each filled allowed inst.n at_most (filled_sum ∙ whole_sum ∙ sym allowed_sum) c l ∙ sym (part_allowed c own));
     }
       where
@@ -126,9 +126,9 @@ module _ (inst : Ising) (good : IsInstance inst) (name : ℕ → ℕ) (named : I
         two a m e = omega (arith, ints)
 
   -- a part weighs no more than the whole
-  pub part_weight : (c : ℕ) → c < inst.n → weight (restricted inst (named_spins inst name c) (named_bonds inst name c)) ≤ weight inst
+  pub part_weight : (c : ℕ) → c < inst.n → weight (component inst name c) ≤ weight inst
   part_weight c l =
-      let one : weight (restricted inst (named_spins inst name c) (named_bonds inst name c)) ≡ sum_by size (named_bonds inst name c) =
+      let one : weight (component inst name c) ≡ sum_by size (named_bonds inst name c) =
       sum_by_mapped (λ b. unsigned_abs b.j) (λ k. bond_in (named_spins inst name c) (bond_at inst k)) (named_bonds inst name c) in
       let all : sum_below (λ c. sum_by size (named_bonds inst name c)) inst.n ≡ sum_below size (bond_count inst) =
       dealt_out size (λ k. name (bond_at inst k).u) inst.n (bond_count inst) (λ k b. name_below inst good name named (bond_at inst k).u (first_below inst good name named k b)) in

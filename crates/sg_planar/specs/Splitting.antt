@@ -5,7 +5,7 @@ use Rattle.sg_sums.specs.Sets.{chosen_below, holds}
 use Rattle.sg_model.specs.declared.bond.Bond.{Bond}
 use Rattle.sg_model.specs.Ising.{Ising, bond_at, bond_count}
 use Rattle.sg_model.specs.Connected.{Reached, all_bonds}
-use Rattle.sg_planar.specs.Parts.{place_in}
+use Rattle.sg_planar.specs.Parts.{place_in, restricted}
 
 -- each spin has the name of the least spin that it reaches
 pub record IsNaming (inst : Ising) (name : ℕ → ℕ) : Type 0 where
@@ -19,6 +19,10 @@ named_spins inst name c = chosen_below (λ x. name x == c) inst.n
 -- the bonds between them, rising
 abbrev pub named_bonds : Ising → (ℕ → ℕ) → ℕ → List ℕ
 named_bonds inst name c = chosen_below (λ k. name (bond_at inst k).u == c) (bond_count inst)
+
+-- the component of a name, as an instance of its own
+abbrev pub component : Ising → (ℕ → ℕ) → ℕ → Ising
+component inst name c = restricted inst (named_spins inst name c) (named_bonds inst name c)
 
 -- the spins that have their own name, before `stop`
 abbrev pub own_names : (ℕ → ℕ) → ℕ → List ℕ
@@ -49,8 +53,8 @@ pub record ArePlaces (xs places : List ℕ) (count : ℕ) : Type 0 where
   pub small : All (λ p. p < 2 ^ 24) places
 
 -- spins and bonds, dealt out by the names of the spins
-pub record IsSplit (inst : Ising) (names : List ℕ)
-    (spin_lists : List (List ℕ)) (spin_places : List ℕ) (bond_lists : List (List ℕ)) (bond_places : List ℕ) : Type 0 where
+pub record IsSplit (inst : Ising) (names : List ℕ) (spin_lists : List (List ℕ)) (spin_places : List ℕ)
+    (bond_lists : List (List ℕ)) (bond_places : List ℕ) : Type 0 where
   pub names_count : length names ≡ inst.n
   pub naming : IsNaming inst (slice_index names)
   pub spins : IsDealt (slice_index names) inst.n inst.n spin_lists spin_places
