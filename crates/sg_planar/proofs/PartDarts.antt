@@ -6,7 +6,6 @@ use Rattle.std.proofs.lemmas.List.Elements.{All-from_get_or, All-map, All-head, 
 use Rattle.std.proofs.lemmas.List.Sums.{sum_by-cons}
 use Rattle.sg_sums.specs.Sets.{holds}
 use Rattle.sg_sums.proofs.SumLaws.{sum_by-same}
-use Rattle.sg_model.specs.declared.bond.Bond.{Bond}
 use Rattle.sg_model.specs.Ising.{Ising, IsBond, bond_at, bond_count}
 use Rattle.sg_model.specs.Rotation.{dart_count, rev, tail, is_dart_of, darts_of}
 use Rattle.sg_model.specs.WellFormed.{IsInstance}

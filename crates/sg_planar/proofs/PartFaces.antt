@@ -23,7 +23,7 @@ use Rattle.sg_planar.specs.Parts.{place_in, dart_in, bond_in, restricted}
 use Rattle.sg_planar.specs.Splitting.{IsClosedPart}
 use Rattle.sg_planar.proofs.Places.{rises_past, entry_back, place_below, place_of_entry, places_apart, holds_entry}
 use Rattle.sg_planar.proofs.Followed.{followed}
-use Rattle.sg_planar.proofs.PartDarts.{darts_in_part, lifted, lifted_first, lifted_rev, lifted_second, like_tests, listed_bond, part_below, part_darts, part_instance, part_of_whole, part_tail, tail_in_part, whole_below, whole_bond, whole_dart, whole_of_part}
+use Rattle.sg_planar.proofs.PartDarts.{darts_in_part, lifted_first, lifted_rev, lifted_second, like_tests, listed_bond, part_below, part_darts, part_instance, part_of_whole, part_tail, tail_in_part, whole_below, whole_bond, whole_dart, whole_of_part}
 
 -- a spin is bare where no dart leaves it
 pub bare_means : (inst : Ising) (i : ℕ) → (is_bare inst i ≡ true) ↔ ((d : ℕ) → d < dart_count inst → tail inst d ≢ i)
@@ -143,7 +143,9 @@ module _ (inst : Ising) (good : IsInstance inst) (spins bonds : List ℕ) (part 
   whole_less d e l b = elim (cases_eq (d / 2) (e / 2)) [
     | inl same ↦ omega (arith, l, same, ap (λ k. get_or bonds k 0) same)
     | inr ne ↦
-        (let less : get_or bonds (d / 2) 0 < get_or bonds (e / 2) 0 = rises_past bonds part.bonds_rise (d / 2) (e / 2) (omega (arith, l, ne)) (omega (arith, b)) in omega (arith, less))
+        let less : get_or bonds (d / 2) 0 < get_or bonds (e / 2) 0 =
+        rises_past bonds part.bonds_rise (d / 2) (e / 2) (omega (arith, l, ne)) (omega (arith, b)) in
+        omega (arith, less)
   ]
 
   whole_keeps : (d e : ℕ) → d ≤ e → e < 2 * length bonds → whole_dart bonds d ≤ whole_dart bonds e

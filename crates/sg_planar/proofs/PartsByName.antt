@@ -11,7 +11,7 @@ use Rattle.sg_model.specs.Ising.{Ising, bond_at, bond_count}
 use Rattle.sg_model.specs.WellFormed.{IsInstance}
 use Rattle.sg_model.specs.Connected.{IsConnected, Reached, all_bonds, AreLeasts, IsLeastReached}
 use Rattle.sg_model.proofs.Paths.{reached_back, reached_on, reached_by_bond}
-use Rattle.sg_planar.specs.Parts.{place_in, restricted}
+use Rattle.sg_planar.specs.Parts.{place_in}
 use Rattle.sg_planar.specs.Splitting.{IsClosedPart, IsNaming, component, named_bonds, named_spins, own_names}
 use Rattle.sg_planar.proofs.Places.{rises_past, entry_back, place_below, holds_entry}
 use Rattle.sg_planar.proofs.PartDarts.{part_instance}

@@ -21,7 +21,7 @@ use Rattle.sg_planar.specs.Fit.{Embedding, IsPlanar}
 use Rattle.sg_planar.specs.Parts.{AreParts, IsPart, restricted, times_in}
 use Rattle.sg_planar.specs.Splitting.{ArePlaces, IsClosedPart, IsNaming, IsSplit, component, named_bonds, named_spins, own_names}
 use Rattle.sg_planar.proofs.DealtNumbers.{dealt_places}
-use Rattle.sg_planar.proofs.PartDarts.{like_tests, part_instance}
+use Rattle.sg_planar.proofs.PartDarts.{like_tests}
 use Rattle.sg_planar.proofs.PartsByName.{named_instance, bond_named, first_below, name_alike, name_below, name_own, named_connected, named_part, named_reached, named_spin, own_leasts, reached_named, spin_named}
 use Rattle.sg_planar.proofs.PartsPlanar.{part_euler, part_weight}
 
@@ -147,37 +147,37 @@ pub zip_same : (inst : Ising) (name : ℕ → ℕ) (stop : ℕ) (parts : List Pa
 zip_same inst name stop parts z other = subst (λ xs. AllZip (IsPart inst) xs parts) (sym (chosen_below_no (λ c. eqb (name c) c) stop other)) z
 
 -- what was dealt out to a least spin is its component
-module _ (inst : Ising) (good : IsInstance inst) (names : List ℕ) (spin_lists : List (List ℕ)) (spin_places : List ℕ) (bond_lists : List (List ℕ))
-    (bond_places : List ℕ)
-    (split : IsSplit inst names spin_lists spin_places bond_lists bond_places) (c : ℕ) (l : c < inst.n) (own : get_or names c 0 ≡ c) where
-  pub spins_dealt : (spins : List ℕ) → spins ≡ get_or spin_lists c spins → spins ≡ named_spins inst (slice_index names) c
-  spins_dealt spins is = is ∙ get_or_default spin_lists c spins [] (omega (arith, l, split.spins.lists_count)) ∙ split.spins.dealt c l
+module _ {inst : Ising} (good : IsInstance inst) {names : List ℕ} {spin_lists : List (List ℕ)} {spin_places : List ℕ} {bond_lists : List (List ℕ)}
+    {bond_places : List ℕ} (split : IsSplit inst names spin_lists spin_places bond_lists bond_places) (c : ℕ) (l : c < inst.n) (own : get_or names c 0 ≡ c)
+  where
+    pub spins_dealt : (spins : List ℕ) → spins ≡ get_or spin_lists c spins → spins ≡ named_spins inst (slice_index names) c
+    spins_dealt spins is = is ∙ get_or_default spin_lists c spins [] (omega (arith, l, split.spins.lists_count)) ∙ split.spins.dealt c l
 
-  pub bonds_dealt : (bonds : List ℕ) → bonds ≡ get_or bond_lists c bonds → bonds ≡ named_bonds inst (slice_index names) c
-  bonds_dealt bonds is = is ∙ get_or_default bond_lists c bonds [] (omega (arith, l, split.bonds.lists_count)) ∙ split.bonds.dealt c l
+    pub bonds_dealt : (bonds : List ℕ) → bonds ≡ get_or bond_lists c bonds → bonds ≡ named_bonds inst (slice_index names) c
+    bonds_dealt bonds is = is ∙ get_or_default bond_lists c bonds [] (omega (arith, l, split.bonds.lists_count)) ∙ split.bonds.dealt c l
 
-  module _ (spins bonds : List ℕ) (s : spins ≡ named_spins inst (slice_index names) c) (b : bonds ≡ named_bonds inst (slice_index names) c) where
-    pub dealt_closed : IsClosedPart inst spins bonds
-    dealt_closed = rw (s, b) (named_part inst good (slice_index names) split.naming c l own)
+    module _ (spins bonds : List ℕ) (s : spins ≡ named_spins inst (slice_index names) c) (b : bonds ≡ named_bonds inst (slice_index names) c) where
+      pub dealt_closed : IsClosedPart inst spins bonds
+      dealt_closed = rw (s, b) (named_part inst good (slice_index names) split.naming c l own)
 
-    pub spin_places_dealt : ArePlaces spins spin_places inst.n
-    spin_places_dealt = rw s (dealt_places (slice_index names) inst.n inst.n spin_lists spin_places split.spins good.few_spins c)
+      pub spin_places_dealt : ArePlaces spins spin_places inst.n
+      spin_places_dealt = rw s (dealt_places (slice_index names) inst.n inst.n spin_lists spin_places split.spins good.few_spins c)
 
-    pub bond_places_dealt : ArePlaces bonds bond_places (bond_count inst)
-    bond_places_dealt =
-        rw b (dealt_places (λ k. get_or names (bond_at inst k).u 0) inst.n (bond_count inst) bond_lists bond_places split.bonds good.few_bonds c)
+      pub bond_places_dealt : ArePlaces bonds bond_places (bond_count inst)
+      bond_places_dealt =
+          rw b (dealt_places (λ k. get_or names (bond_at inst k).u 0) inst.n (bond_count inst) bond_lists bond_places split.bonds good.few_bonds c)
 
-    module _ (flat : IsEuler inst (pos 2)) (small : weight inst ≤ forced_limit) (part : Ising) (is : part ≡ restricted inst spins bonds) where
-      dealt_is : part ≡ component inst (slice_index names) c
-      dealt_is = is ∙ ap₂ (restricted inst) s b
+      module _ (flat : IsEuler inst (pos 2)) (small : weight inst ≤ forced_limit) (part : Ising) (is : part ≡ restricted inst spins bonds) where
+        dealt_is : part ≡ component inst (slice_index names) c
+        dealt_is = is ∙ ap₂ (restricted inst) s b
 
-      pub dealt_planar : (faces : Labelling) → IsFaceLabels part faces → IsPlanar (record { instance = part; faces = faces })
-      dealt_planar faces labels =
-          subst (λ i. IsPlanar (record { instance = i; faces = faces })) (sym dealt_is)
-          (part_planar inst good (slice_index names) split.naming flat small c l own faces (subst (λ i. IsFaceLabels i faces) dealt_is labels))
+        pub dealt_planar : (faces : Labelling) → IsFaceLabels part faces → IsPlanar (record { instance = part; faces = faces })
+        dealt_planar faces labels =
+            subst (λ i. IsPlanar (record { instance = i; faces = faces })) (sym dealt_is)
+            (part_planar inst good (slice_index names) split.naming flat small c l own faces (subst (λ i. IsFaceLabels i faces) dealt_is labels))
 
-      pub dealt_part : (faces : Labelling) → IsFaceLabels part faces → (planar : Embedding) → planar ≡ record { instance = part; faces = faces } →
-          IsPart inst c (record { spins = spins; bonds = bonds; planar = planar })
-      dealt_part faces labels planar e =
-          rw (s, b) (part_made inst good (slice_index names) split.naming flat small c l own planar (ap (λ p. p.instance) e ∙ dealt_is)
-          (subst IsPlanar (sym e) (dealt_planar faces labels)))
+        pub dealt_part : (faces : Labelling) → IsFaceLabels part faces → (planar : Embedding) → planar ≡ record { instance = part; faces = faces } →
+            IsPart inst c (record { spins = spins; bonds = bonds; planar = planar })
+        dealt_part faces labels planar e =
+            rw (s, b) (part_made inst good (slice_index names) split.naming flat small c l own planar (ap (λ p. p.instance) e ∙ dealt_is)
+            (subst IsPlanar (sym e) (dealt_planar faces labels)))

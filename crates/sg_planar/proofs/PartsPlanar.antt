@@ -17,12 +17,11 @@ use Rattle.sg_model.specs.Energy.{weight}
 use Rattle.sg_model.specs.WellFormed.{IsInstance}
 use Rattle.sg_faces.specs.Faces.{face_count}
 use Rattle.sg_faces.specs.Euler.{IsEuler}
-use Rattle.sg_planar.specs.Parts.{place_in, bond_in, restricted}
+use Rattle.sg_planar.specs.Parts.{place_in, bond_in}
 use Rattle.sg_model.proofs.LeastSpins.{connected_leasts, one_list}
 use Rattle.sg_planar.proofs.EulerBounds.{euler_bound_faces}
 use Rattle.sg_planar.specs.Splitting.{IsNaming, component, named_bonds, named_spins, own_names}
 use Rattle.sg_planar.proofs.Places.{place_below}
-use Rattle.sg_planar.proofs.PartDarts.{part_instance}
 use Rattle.sg_planar.proofs.PartFaces.{least_sides, bare_spins, faces_by_bonds, part_faces}
 use Rattle.sg_planar.proofs.PartsByName.{named_instance, chosen_none, sum_of_ones, name_below, name_own, first_below, own_leasts, named_part, named_connected}
 

@@ -57,9 +57,13 @@ rising_few xs n up low = last (length xs) (omega arith)
     at_least : (i : ℕ) → i < length xs → i ≤ get_or xs i 0
     at_least zero l = omega arith
     at_least (suc i) l =
-        (let below : i ≤ get_or xs i 0 = at_least i (omega arith) in let less : get_or xs i 0 < get_or xs (suc i) 0 = rises_past xs up i (suc i) (omega arith) l in omega arith)
+        let below : i ≤ get_or xs i 0 = at_least i (omega arith) in
+        let less : get_or xs i 0 < get_or xs (suc i) 0 = rises_past xs up i (suc i) (omega arith) l in
+        omega arith
 
     last : (k : ℕ) → k ≤ length xs → k ≤ n
     last zero l = omega arith
     last (suc k) l =
-        (let p : k ≤ get_or xs k 0 = at_least k (omega arith) in let q : get_or xs k 0 < n = low (get_or xs k 0) (holds_entry xs k (omega arith)) in omega arith)
+        let below : k ≤ get_or xs k 0 = at_least k (omega arith) in
+        let less : get_or xs k 0 < n = low (get_or xs k 0) (holds_entry xs k (omega arith)) in
+        omega arith

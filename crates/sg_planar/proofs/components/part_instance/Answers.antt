@@ -32,7 +32,8 @@ overflow_cast-len c =
 
 -- the part as it is defined, and that it is an instance
 whole : (c : After-new) →
-    record { n = c.len.result; bonds = c.in_ok-list.list; rotation = c.in_ok-rotation.rotation; seam = c.new.result } ≡ restricted c.args.inst.now c.args.spins.now c.args.bonds.now
+    record { n = c.len.result; bonds = c.in_ok-list.list; rotation = c.in_ok-rotation.rotation; seam = c.new.result } ≡
+    restricted c.args.inst.now c.args.spins.now c.args.bonds.now
 whole c =
     part_assembled c.args.inst.now c.requires.instance c.args.spins.now c.args.bonds.now c.requires.closed c.args.spin_places.now c.args.bond_places.now
     c.requires.spin_places c.requires.bond_places c.len.result c.in_ok-list.list c.in_ok-rotation.rotation c.new.result c.len.ensures
