@@ -13,6 +13,7 @@ use Rattle.sg_model.specs.Energy.{weight}
 use Rattle.sg_model.specs.WellFormed.{IsInstance}
 use Rattle.sg_model.specs.Connected.{IsConnected}
 use Rattle.sg_faces.specs.Faces.{faces_before, Labelling, IsFaceLabels}
+use Rattle.sg_faces.proofs.Traced.{label_below}
 use Rattle.sg_faces.proofs.BareSpins.{faces_alone, one_face}
 use Rattle.sg_graph.specs.declared.web.Edge.{Edge}
 use Rattle.sg_graph.specs.Web.{Graph, IsWeb, IsEdge, edge_at, edge_count, weight_at, total_weight}
@@ -58,10 +59,6 @@ module _ (inst : Ising) (faces : Labelling) where
   web_is nodes edges n e = ap₂ (λ n es. let g : Graph = record { nodes = n; edges = es } in g) n e
 
   module _ (labels : IsFaceLabels inst faces) where
-    -- a label is a face
-    pub label_below : (d : ℕ) → d < dart_count inst → face_of faces d < faces.count
-    label_below d l = (let low : face_of faces d < faces_before inst (dart_count inst) = labels.below d l in omega (arith, low, labels.counts))
-
     -- a connected instance without a bond has one face
     pub one_face_alone : IsInstance inst → IsConnected inst → bond_count inst ≡ 0 → faces.count ≡ 1
     one_face_alone good whole none = labels.counts ∙ one_face inst good whole none
@@ -69,14 +66,14 @@ module _ (inst : Ising) (faces : Labelling) where
     pub has_face : IsInstance inst → 1 ≤ faces.count
     has_face good = elim (cases_eq (bond_count inst) 0) [
       | inl none ↦ omega (arith, labels.counts, faces_alone inst none, good.has_spin)
-      | inr some ↦ omega (arith, label_below 0 (omega arith))
+      | inr some ↦ omega (arith, label_below inst faces labels 0 (omega arith))
     ]
 
     dual_joined : All (IsEdge faces.count) (map (dual_edge inst faces) (range_with_len 0 (bond_count inst)))
     dual_joined = All-map (IsEdge faces.count) (dual_edge inst faces) (range_with_len 0 (bond_count inst)) at_place
       where
         is_edge : (k : ℕ) → k < bond_count inst → IsEdge faces.count (dual_edge inst faces k)
-        is_edge k l = record { first_end = label_below (2 * k) (omega arith); second_end = label_below (2 * k + 1) (omega arith); not_negative = size_positive (unsigned_abs (bond_at inst k).j) }
+        is_edge k l = record { first_end = label_below inst faces labels (2 * k) (omega arith); second_end = label_below inst faces labels (2 * k + 1) (omega arith); not_negative = size_positive (unsigned_abs (bond_at inst k).j) }
 
         at_place : All (λ k. IsEdge faces.count (dual_edge inst faces k)) (range_with_len 0 (bond_count inst))
         at_place i d l =

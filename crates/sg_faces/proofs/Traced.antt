@@ -8,7 +8,7 @@ use Rattle.sg_model.specs.Ising.{Ising}
 use Rattle.sg_model.specs.Rotation.{dart_count}
 use Rattle.sg_model.specs.WellFormed.{IsInstance}
 use Rattle.sg_faces.specs.Orbits.{after_steps, SameOrbit, is_least_in, orbits_before, IsOneToOne}
-use Rattle.sg_faces.specs.Faces.{bare_count, phi, is_least, faces_before, SameFace, IsFaceLabels}
+use Rattle.sg_faces.specs.Faces.{bare_count, phi, is_least, faces_before, Labelling, SameFace, IsFaceLabels}
 use Rattle.sg_faces.specs.Tables.{entry, IsMove, is_least_of, least_before, IsOrbitLabels, IsPhiTable}
 use Rattle.sg_faces.proofs.PhiPermutes.{phi_one_to_one}
 
@@ -48,6 +48,10 @@ module _ (f g : ℕ → ℕ) (k : ℕ) (one : IsOneToOne g k) (same : (d : ℕ) 
 pub orbits_few : (table labels : List ℕ) (count : ℕ) → IsOrbitLabels table labels count → count ≤ length table
 orbits_few table labels count h =
     omega (arith, h.counts, count_by-le-length (is_least_of table) (range_with_len 0 (length table)), length-range_with_len 0 (length table))
+
+-- a label is a face
+pub label_below : (inst : Ising) (faces : Labelling) → IsFaceLabels inst faces → (d : ℕ) → d < dart_count inst → get_or faces.labels d 0 < faces.count
+label_below inst faces labels d l = (let low : get_or faces.labels d 0 < faces_before inst (dart_count inst) = labels.below d l in omega (arith, low, labels.counts))
 
 module _ (inst : Ising) (good : IsInstance inst) (table : List ℕ) (is : IsPhiTable inst table) where
   at_dart : (d : ℕ) → d < length table → entry table d ≡ phi inst d

@@ -1,14 +1,14 @@
 -- The parts of an instance: its components, each as an instance of its own.
-use Rattle.std.specs.Prelude.{◌≡◌, ◌↔◌, ℕ, ◌+◌, ◌*◌, ◌/◌, ◌%◌, ◌<◌, ◌==◌, Bool, true, if◌then◌else◌}
-use Rattle.std.specs.Prelude.{List, [], ◌∷◌, length, map, sum_by, ⊤}
-use Rattle.std.specs.List.{position_or_len}
+use Rattle.std.specs.Prelude.{◌≡◌, ◌↔◌, ℕ, ◌+◌, ◌*◌, ◌/◌, ◌%◌, ◌<◌, ◌==◌, true, if◌then◌else◌}
+use Rattle.std.specs.Prelude.{List, [], length, map, sum_by}
+use Rattle.std.specs.List.{AllZip, position_or_len}
 use Rattle.std.specs.List.Sorted.{IsStrictlyIncreasing}
 use Rattle.sg_sums.specs.Sets.{holds}
 use Rattle.sg_model.specs.declared.bond.Bond.{Bond}
 use Rattle.sg_model.specs.Ising.{Ising, bond_at, bond_count}
 use Rattle.sg_model.specs.Rotation.{darts_of}
 use Rattle.sg_model.specs.Connected.{AreLeasts, IsConnected, Reached, all_bonds}
-use Rattle.sg_planar.specs.declared.parts.Part.{Part}
+use Rattle.sg_planar.specs.declared.components.Part.{Part}
 use Rattle.sg_planar.specs.Fit.{IsPlanar}
 
 -- the place of a number in a list
@@ -47,16 +47,10 @@ pub record IsPart (inst : Ising) (least : ℕ) (part : Part) : Type 0 where
 abbrev pub times_in : List ℕ → ℕ → ℕ
 times_in xs x = if holds xs x then 1 else 0
 
--- part by part, the components of these least spins
-abbrev pub ArePartsOf : Ising → List ℕ → List Part → Type 0
-ArePartsOf inst [] [] = ⊤
-ArePartsOf inst (least ∷ leasts) (part ∷ parts) = IsPart inst least part × ArePartsOf inst leasts parts
-ArePartsOf inst _ _ = ⊥
-
 -- a part for each component, in the order of the least spins; each spin and each bond stands in exactly one part
 pub record AreParts (inst : Ising) (parts : List Part) : Type 0 where
   pub leasts : List ℕ
   pub components : AreLeasts inst leasts
-  pub each : ArePartsOf inst leasts parts
+  pub each : AllZip (IsPart inst) leasts parts
   pub spins_once : (x : ℕ) → x < inst.n → sum_by (λ p. times_in p.spins x) parts ≡ 1
   pub bonds_once : (k : ℕ) → k < bond_count inst → sum_by (λ p. times_in p.bonds k) parts ≡ 1

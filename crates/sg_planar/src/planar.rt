@@ -12,8 +12,8 @@ use sg_model::{Fault, Instance};
 use std::alloc::Global;
 use std::marker::Model;
 
-/// An instance that is connected and drawn on a sphere, with its faces. The sum of the couplings'
-/// sizes is at most 2^45 + 1.
+/// An instance, each component of which is drawn on a sphere, with its faces. The sum of the
+/// couplings' sizes is at most 2^45 + 1.
 #[derive(Drop)]
 pub struct Planar {
     instance: Instance,
@@ -41,9 +41,8 @@ impl Planar {
     /// Tests an instance, in time linear in the spins and bonds.
     ///
     /// # Errors
-    /// `SumTooLarge` where the sum of the couplings' sizes is above `SUM_LIMIT`; then `NotConnected`
-    /// with the least spin that is not reached from spin 0; then `NotPlanar` with Euler's number
-    /// where it is not 2. The instance is handed back with every fault.
+    /// `SumTooLarge` where the sum of the couplings' sizes is above `SUM_LIMIT`; then `NotPlanar` with
+    /// Euler's number where it is not 2. The instance is handed back with every fault.
     pub fn new(alloc: Global, instance: Instance) -> Result<Planar, NotFit>
         ensures instance { IfOk result (λ p. p.instance ≡ instance) }
         ensures fit { IfOk result (λ _. IsFit instance) }
