@@ -2,3 +2,4 @@ pub mod TestLaws
 pub mod BodyLaws
 pub mod TerminalLaws
 pub mod ReadLaws
+pub mod NetworkLaws

@@ -1,3 +1,4 @@
 pub mod Graph
 pub mod ReadGraph
 pub mod GraphHolds
+pub mod Network

@@ -32,14 +32,6 @@ fn each_text_has_its_bytes(rt: HostRuntime) -> Result<(), Fail> {
             "energy,-3\nspins,1,-1\nloop,2,0,3\nend\n",
         ),
         (
-            tjoin_text(alloc, 4, &[2, 5], &loops)?,
-            "weight,4\nedges,2,5\ncut,2,0,3\nend\n",
-        ),
-        (
-            postman_text(alloc, 6, &[(0, 1), (0, 0)], &loops)?,
-            "weight,6\nstep,0,1\nstep,0,0\ncut,2,0,3\nend\n",
-        ),
-        (
             wall_text(alloc, [-14, -10, 4])?,
             "periodic,-14\nantiperiodic,-10\nwall,4\nend\n",
         ),
@@ -111,5 +103,26 @@ fn each_text_has_its_bytes(rt: HostRuntime) -> Result<(), Fail> {
     for (text, wanted) in &texts {
         assert_eq!(rt; text.as_slice(), wanted.as_bytes());
     }
+    Ok(())
+}
+
+#[test]
+fn cuts_have_their_lines(rt: HostRuntime) -> Result<(), Fail> {
+    let alloc = rt.alloc();
+    let mut edges = BondList::new(alloc);
+    edges.push(0)?;
+    edges.push(3)?;
+    let mut cuts = Loops::new(alloc);
+    cuts.push(Loop { y: 2, bonds: edges })?;
+    let join = tjoin_text(alloc, 4, &[2, 5], &cuts)?;
+    assert_eq!(rt;
+        join.as_slice(),
+        "weight,4\nedges,2,5\ncut,2,0,3\nend\n".as_bytes()
+    );
+    let tour = postman_text(alloc, 6, &[(0, 1), (0, 0)], &cuts)?;
+    assert_eq!(rt;
+        tour.as_slice(),
+        b"weight,6\nstep,0,1\nstep,0,0\ncut,2,0,3\nend\n"
+    );
     Ok(())
 }

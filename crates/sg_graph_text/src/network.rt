@@ -1,0 +1,104 @@
+ghost use Rattle.std.specs.Prelude.{◌≡◌, ◌<◌, ◌≤◌, ◌%◌, length, pos, IfOk, IfErr, OnOk};
+ghost use Rattle.std.specs.List.{sum_by};
+ghost use Rattle.sg_limits.specs.Limits.{bond_limit, sum_limit, text_limit};
+ghost use Rattle.sg_graph.specs.Join.{AreTerminals};
+ghost use Rattle.sg_graph.specs.Walk.{IsConnected};
+ghost use Rattle.sg_graph.specs.Web.{total_weight, weight_at};
+ghost use Rattle.sg_graph_text.specs.Graph.{IsGraphText};
+ghost use Rattle.sg_graph_text.specs.Network.{GivesAlone, GivesNetwork, IsAloneFault, IsNetworkFault, IsTooHeavy, IsUnjoinedFault, graph_in};
+
+use super::graph::GraphText;
+use super::read::read_graph;
+use sg_graph::{Edge, Terminals, Web, first_unreached};
+use sg_limits::SUM_LIMIT;
+use sg_model::{Fault, Refusal};
+use sg_reader::no_more;
+use std::alloc::Global;
+
+/// A connected weighted graph, and a set of its nodes.
+#[derive(Drop)]
+pub struct Network {
+    /// The graph. Its weights sum to at most 2^44.
+    pub web: Web,
+    /// The terminals, rising, an even number of them.
+    pub terminals: Terminals,
+}
+
+// The weights of all edges together.
+fn sum_of(edges: &[Edge]) -> i128
+    requires few { length edges.now ≤ bond_limit }
+    ensures { result ≡ pos (sum_by weight_at edges.now) }
+{
+    let mut total: i128 = 0;
+    for edge in edges {
+        total += i128::from(edge.w.unsigned_abs());
+    }
+    total
+}
+
+// The graph of a text with nothing behind it, or the first fault of the records.
+fn read_alone(alloc: Global, bytes: &[u8], terms: bool) -> Result<GraphText, Fault>
+    requires { length bytes.now < text_limit }
+    ensures gives { IfOk result (GivesAlone terms bytes.now) }
+    ensures sound { IfOk result IsGraphText }
+    ensures refuses { IfErr result (IsAloneFault terms bytes.now) }
+{
+    match read_graph(alloc, bytes, terms) {
+        Ok((text, after)) => match no_more(alloc, bytes, after) {
+            Ok(()) => Ok(text),
+            Err(fault) => Err(fault),
+        },
+        Err(fault) => Err(fault),
+    }
+}
+
+// The web of a graph, where its weights together are within the limit.
+fn web_of(text: GraphText) -> Result<Network, Refusal>
+    requires { IsGraphText text }
+    ensures web { IfOk result (λ n. n.web ≡ graph_in text) }
+    ensures terminals { IfOk result (λ n. n.terminals ≡ text.terminals) }
+    ensures light { IfOk result (λ n. total_weight n.web ≤ sum_limit) }
+    ensures refused { IfErr result (IsTooHeavy (graph_in text)) }
+{
+    let sum = sum_of(text.edges.as_slice());
+    if sum > SUM_LIMIT {
+        return Err(Refusal::SumTooLarge { sum });
+    }
+    Ok(Network {
+        web: Web::new(text.nodes, text.edges),
+        terminals: text.terminals,
+    })
+}
+
+// Whether each node of a web is reached.
+fn check_joined(alloc: Global, web: &Web) -> Result<(), Fault>
+    ensures connected { OnOk result (IsConnected web.now) }
+    ensures refused { IfErr result (IsUnjoinedFault web.now) }
+{
+    match first_unreached(alloc, web)? {
+        Some(node) => Err(Fault::Refused(Refusal::NotJoined { node })),
+        None => Ok(()),
+    }
+}
+
+/// The connected graph of a text with nothing behind it. `terms` says whether terminals may be given.
+///
+/// # Errors
+/// In this order: those of `read_graph`; `Trailing` with the first record behind the `end` that is
+/// not skipped; `SumTooLarge` where the weights sum to more than 2^44; `NotJoined` with the least node
+/// that is not reached from node 0. `NoMemory` may come at any time.
+///
+/// The time is linear in the bytes, the nodes and the edges, and the memory is that of the graph and
+/// of the longest record.
+pub fn read_network(alloc: Global, bytes: &[u8], terms: bool) -> Result<Network, Fault>
+    requires { length bytes.now < text_limit }
+    ensures gives { IfOk result (λ n. GivesNetwork terms bytes.now n.web n.terminals) }
+    ensures terminals { IfOk result (λ n. AreTerminals n.web n.terminals) }
+    ensures even { IfOk result (λ n. length n.terminals % 2 ≡ 0) }
+    ensures refuses { IfErr result (IsNetworkFault terms bytes.now) }
+{
+    let text = read_alone(alloc, bytes, terms)?;
+    let network = web_of(text)?;
+    check_joined(alloc, &network.web)?;
+    Ok(network)
+}
