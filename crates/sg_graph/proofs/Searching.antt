@@ -1,13 +1,13 @@
 -- A search from node 0, edge by edge and node by node.
-use Rattle.std.proofs.Common.{inl, inr, ⊎_elim, ◌≡◌, ◌≢◌, ◌↔◌, ℕ, ◌+◌, ◌<◌, ◌≤◌, Bool, true, false, cond, List, [], ◌∷◌, ◌++◌, set, take, replicate, All, Contains, refl, sym, ◌∙◌, ap, subst, arith, length, get_or, pos}
-use Rattle.std.proofs.lemmas.Bool.{cases_eq, cases_lt, false≢true}
+use Rattle.std.proofs.Common.{inl, inr, ⊎_elim, ◌≡◌, ◌≢◌, ℕ, ◌+◌, ◌<◌, ◌≤◌, Bool, true, false, cond, List, [], ◌∷◌, ◌++◌, set, take, replicate, All, Contains, refl, sym, ◌∙◌, ap, subst, arith, length, get_or, pos}
+use Rattle.std.proofs.lemmas.Bool.{cases_eq, cases_lt, false≢true, true≢false}
 use Rattle.std.proofs.lemmas.List.{length-set, length_push, get_or-set_same, get_or-set_other, get_or_append_left, get_or-replicate, get_or_past, length-replicate, get_or_default}
 use Rattle.std.proofs.lemmas.List.Elements.{All-cons, All-more, All-nil, All-push, All-weaker, Contains-append_left, Contains-push}
 use Rattle.std.proofs.lemmas.List.Sums.{sum_by-set}
 use Rattle.sg_sums.specs.Sets.{holds, is_marked}
 use Rattle.sg_graph.specs.declared.web.Edge.{Edge}
 use Rattle.sg_graph.specs.Web.{Graph, IsWeb, edge_at}
-use Rattle.sg_graph.specs.Walk.{IsConnected, IsReached, IsWalk, Leads, other_end}
+use Rattle.sg_graph.specs.Walk.{IsConnected, IsFirstUnreached, IsReached, IsWalk, Leads, other_end}
 use Rattle.sg_graph.specs.Incidence.{AreIncident, EndsAt, list_at}
 use Rattle.sg_sums.proofs.RisingLists.{All-holds}
 use Rattle.sg_graph.specs.Search.{MarksReached, Visits, unmarked}
@@ -194,12 +194,18 @@ module _ (g : Graph) (node : ℕ) (list : List ℕ) (i other : ℕ) (edges : Lis
       subst (λ ms. Visits g node (take (i + 1) list) old ms before after) (sym (m ∙ ap (λ n. set marks n true) is_far))
       (subst (λ fs. Visits g node (take (i + 1) list) old (set marks (far g node list i old marks before found low v) true) before fs) (sym (f ∙ ap (λ n. found ++ n ∷ []) is_far)) made)
 
--- all are marked exactly where the graph is connected
-pub connected_is : (g : Graph) (marks : List Bool) → MarksReached g marks → All (λ m. m ≡ true) marks ↔ IsConnected g
-connected_is g marks m = (
-  λ all x l. (m.right x l).0 (all x false (omega (arith, m.count))),
-  λ connected k d l. get_or_default marks k d false l ∙ (m.right k (omega (arith, m.count))).1 (connected k (omega (arith, m.count))),
-)
+-- where all are marked the graph is connected
+pub all_marked : (g : Graph) (marks : List Bool) → MarksReached g marks → ((y : ℕ) → y < g.nodes → is_marked marks y ≡ true) → IsConnected g
+all_marked g marks m all x l = (m.right x l).0 (all x l)
+
+-- the first that is not marked is the first that is not reached
+pub first_unmarked : (g : Graph) (marks : List Bool) (x : ℕ) → MarksReached g marks → x < g.nodes → is_marked marks x ≡ false
+    → ((y : ℕ) → y < x → is_marked marks y ≡ true) → IsFirstUnreached g x
+first_unmarked g marks x m low none all = record {
+  node = low;
+  unreached = λ r. true≢false (sym ((m.right x low).1 r) ∙ none);
+  before = λ y l. (m.right y (omega (arith, l, low))).0 (all y l);
+}
 
 pub other_in : (g : Graph) (node : ℕ) (list : List ℕ) (i other : ℕ) (edges : List Edge) → IsWeb g → edges ≡ g.edges → other ≡ other_end node (get_or edges (get_or list i 0) (record { a = 0; b = 0; w = pos 0 })) → EndsAt g node (get_or list i 0) → other < g.nodes
 other_in g node list i other edges web same is ends =

@@ -21,6 +21,12 @@ IsReached g x y = (es : List ℕ) × IsWalk g x es y
 abbrev pub IsConnected : Graph → Type 0
 IsConnected g = (x : ℕ) → x < g.nodes → IsReached g 0 x
 
+-- x is a node that is not reached from node 0, and each node before it is
+pub record IsFirstUnreached (g : Graph) (x : ℕ) : Type 0 where
+  pub node : x < g.nodes
+  pub unreached : ¬ IsReached g 0 x
+  pub before : (y : ℕ) → y < x → IsReached g 0 y
+
 -- some walk from x to y weighs d, and none weighs less
 pub record IsDistance (g : Graph) (x y d : ℕ) : Type 0 where
   pub reached : (es : List ℕ) × IsWalk g x es y × (weight_of g es ≡ d)

@@ -9,7 +9,7 @@
 //! file (`Web`, `Walk`, `Join`, `OddCut`, `Incidence`, `Table`), and `proofs/Walks.antt`,
 //! `proofs/Joins.antt`, `proofs/Tables.antt` their laws: walks appended and turned round, what
 //! distances say over an edge, that each join weighs at least half of what the cuts of a packing
-//! weigh. `connected` and `Incidence` are the calls with an algorithm in them.
+//! weigh. `first_unreached` and `Incidence` are the calls with an algorithm in them.
 #![tactic(auto)]
 
 mod cut;
@@ -20,7 +20,7 @@ mod web;
 
 pub use cut::{Cut, Cuts};
 pub use incidence::Incidence;
-pub use search::connected;
+pub use search::{connected, first_unreached};
 use std::alloc::AllocError;
 pub use table::Table;
 pub use web::{Edge, EdgeList, Edges, Terminals, Web};

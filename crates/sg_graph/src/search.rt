@@ -1,6 +1,6 @@
-ghost use Rattle.std.specs.Prelude.{◌↔◌, ◌≡◌, ◌<◌, length, true, All, IfOk, IsTrue, OnOk};
+ghost use Rattle.std.specs.Prelude.{◌↔◌, ◌≡◌, ◌<◌, length, All, IfOk, IsTrue, MatchOption, OnOk};
 ghost use Rattle.sg_graph.specs.Web.{Graph, IsEdge};
-ghost use Rattle.sg_graph.specs.Walk.{IsConnected};
+ghost use Rattle.sg_graph.specs.Walk.{IsConnected, IsFirstUnreached};
 ghost use Rattle.sg_graph.specs.Incidence.{EndsAt};
 ghost use Rattle.sg_graph.specs.Search.{MarksReached, Visits};
 
@@ -11,14 +11,23 @@ use std::alloc::Global;
 pub fn connected(alloc: Global, web: &Web) -> Result<bool, NoMemory>
     ensures { IfOk result (λ answer. IsTrue answer ↔ IsConnected web.now) }
 {
-    let marks = marks_from_first(alloc, web)?;
-    Ok(are_all_set(&marks))
+    let unreached = first_unreached(alloc, web)?;
+    Ok(unreached.is_none())
 }
 
-fn are_all_set(marks: &[bool]) -> bool
-    ensures { IsTrue result ↔ All (λ mark. mark ≡ true) marks.now }
+/// The least node that is not reached from node 0, and none where all are, by a search in time linear
+/// in nodes and edges.
+pub fn first_unreached(alloc: Global, web: &Web) -> Result<Option<u32>, NoMemory>
+    ensures { IfOk result (λ node. MatchOption node (IsConnected web.now) (IsFirstUnreached web.now)) }
 {
-    marks.iter().all(|mark| *mark)
+    let marks = marks_from_first(alloc, web)?;
+    let nodes = web.nodes();
+    for node in 0..nodes {
+        if !marks[node as usize] {
+            return Ok(Some(node));
+        }
+    }
+    Ok(None)
 }
 
 // Marks the nodes that are reached from node 0.

@@ -1,7 +1,7 @@
 ghost use Rattle.std.specs.Prelude.{◌≡◌, ◌≤◌, IfOk};
 ghost use Rattle.sg_graph.specs.Web.{IsEdge, weight_at};
 
-use super::{Edge, Edges, Incidence, NoMemory, Table, Web, connected};
+use super::{Edge, Edges, Incidence, NoMemory, Table, Web, connected, first_unreached};
 use std::alloc::Global;
 use std::process::Abort;
 use std::test::Fail;
@@ -39,6 +39,7 @@ fn web(
 fn nodes_without_edges_are_not_connected(rt: HostRuntime) -> Result<(), Fail> {
     let apart = web(&rt, rt.alloc(), 2, &[])?;
     assert!(rt; !connected(rt.alloc(), &apart)?);
+    assert_eq!(rt; first_unreached(rt.alloc(), &apart)?, Some(1));
     let joined = web(
         &rt,
         rt.alloc(),
@@ -46,6 +47,7 @@ fn nodes_without_edges_are_not_connected(rt: HostRuntime) -> Result<(), Fail> {
         &[(0, 1, 3), (1, 0, 4), (1, 0, 2), (0, 1, 5)],
     )?;
     assert!(rt; connected(rt.alloc(), &joined)?);
+    assert_eq!(rt; first_unreached(rt.alloc(), &joined)?, None);
     assert_eq!(rt; joined.edges().len(), 4);
     Ok(())
 }
