@@ -1,0 +1,2 @@
+pub mod Tour
+pub mod Tracing
