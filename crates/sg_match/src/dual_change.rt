@@ -12,7 +12,7 @@ ghost use Rattle.sg_slack.specs.Slack.{mark_at, IsOuterFree, Least, SumsFit};
 ghost use Rattle.sg_slack.specs.declared.Mark.TheVariants.{Outer};
 
 use super::inner::{least_dual, least_inner_zero};
-use super::leaves::{list_leaves, list_tree};
+use super::leaves::{list_leaves, list_tree, mark_tops};
 use super::{Engine, Event, TreeEdge};
 use sg_arena::Arena;
 use sg_slack::{Costs, Mark, Near, Pair, least_outer_outer};
@@ -32,6 +32,7 @@ pub fn nearest(
     near: &mut Near,
     root: usize,
     edges: &[TreeEdge],
+    named: &mut [Mark],
     tops: &mut [usize],
     totals: &mut [i64],
     marks: &mut [Mark],
@@ -40,6 +41,7 @@ pub fn nearest(
     requires leaves { leaf_count arena.now ≡ near.old.table.size }
     requires stands { HasNearest arena.now (cost near.old.table) root edges.now }
     requires members { AreOuter arena.now root edges.now near.old.members }
+    requires named { length named.old ≡ length arena.now.nodes }
     requires tops { length tops.old ≡ leaf_count arena.now }
     requires totals { length totals.old ≡ leaf_count arena.now }
     requires marks { length marks.old ≡ leaf_count arena.now }
@@ -48,7 +50,8 @@ pub fn nearest(
     ensures table { near.new.table ≡ near.old.table }
     ensures members { AreOuter arena.now root edges.now near.new.members }
 {
-    list_leaves(arena, root, edges, tops, totals, marks);
+    mark_tops(root, edges, named);
+    list_leaves(arena, root, edges, named, tops, totals, marks);
     add_outer(near, totals, marks);
     let free = near.least(totals, tops, marks);
     scan(near.costs(), free, totals, tops, marks)
@@ -160,6 +163,7 @@ impl Engine {
             &mut self.near,
             root,
             &self.edges,
+            &mut self.named,
             &mut self.tops,
             &mut self.totals,
             &mut self.marks,
