@@ -21,10 +21,13 @@ module _ (root : ℕ) (edges : List TreeEdge) where
   Seen-next i t Outer away apart (inl is) = inl is
   Seen-next i t Outer away apart (inr at) = inr (at.0, omega (arith, at.1), at.2)
   Seen-next i t Inner away apart at = (at.0, omega (arith, at.1), at.2)
-  Seen-next i t Free away apart none = (none.0, λ k low. elim (below_next k i low) [
-    | inl less ↦ none.1 k less
-    | inr same ↦ ((λ e. away (ap (λ n. (edge_at edges n).outer) (sym same) ∙ e)), (λ e. apart (ap (λ n. (edge_at edges n).inner) (sym same) ∙ e)))
-  ])
+  Seen-next i t Free away apart none = (
+    none.0,
+    λ k low. elim (below_next k i low) [
+      | inl less ↦ none.1 k less
+      | inr same ↦ ((λ e. away (ap (λ n. (edge_at edges n).outer) (sym same) ∙ e)), (λ e. apart (ap (λ n. (edge_at edges n).inner) (sym same) ∙ e)))
+    ],
+  )
 
   -- the root alone
   pub Seen-root : (named : List Mark) → root < length named → ((t : ℕ) → t < length named → get_or named t Free ≡ Free) → (t : ℕ) →

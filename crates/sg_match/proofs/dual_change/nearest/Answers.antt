@@ -32,13 +32,21 @@ mark_tops-requires-clause-root c =
 
 pub mark_tops-requires-clause-inner : goal.mark_tops-requires-clause-inner
 mark_tops-requires-clause-inner c i low =
-    omega (arith, c.requires.named, name_bound c.args.arena.now (edge_at c.args.edges.now i).inner
-    (inner_top c.args.arena.now c.args.root c.args.edges.now c.requires.stands.shape i low).alive)
+    omega (
+      arith,
+      c.requires.named,
+      name_bound c.args.arena.now (edge_at c.args.edges.now i).inner
+          (inner_top c.args.arena.now c.args.root c.args.edges.now c.requires.stands.shape i low).alive,
+    )
 
 pub mark_tops-requires-clause-outer : goal.mark_tops-requires-clause-outer
 mark_tops-requires-clause-outer c i low =
-    omega (arith, c.requires.named, name_bound c.args.arena.now (edge_at c.args.edges.now i).outer
-    (outer_top c.args.arena.now c.args.root c.args.edges.now c.requires.stands.shape i low).alive)
+    omega (
+      arith,
+      c.requires.named,
+      name_bound c.args.arena.now (edge_at c.args.edges.now i).outer
+          (outer_top c.args.arena.now c.args.root c.args.edges.now c.requires.stands.shape i low).alive,
+    )
 
 pub list_leaves-requires-clause-names : goal.list_leaves-requires-clause-names
 list_leaves-requires-clause-names c = room_of (goal.at.list_leaves-requires-clause-names c).After-mark_tops
@@ -82,6 +90,17 @@ least-free-requires-clause-fits c =
 
 pub least-free-requires-clause-members : goal.least-free-requires-clause-members
 least-free-requires-clause-members c = λ u low. (
+  c.add_outer.ensures.every u (subst (λ (t : Table). u < t.size) c.add_outer.ensures.table low),
+  (λ is. subst (λ n. mark_at c.list_leaves.new.marks n ≡ Outer) is.2 (c.add_outer.ensures.outer is.0 is.1).1),
+)
+
+pub least_between-both-requires-clause-fits : goal.least_between-both-requires-clause-fits
+least_between-both-requires-clause-fits c =
+    subst (λ (t : Table). SumsFit t c.list_leaves.new.totals) (sym c.add_outer.ensures.table)
+    (fit (goal.at.least_between-both-requires-clause-fits c).After-list_leaves)
+
+pub least_between-both-requires-clause-members : goal.least_between-both-requires-clause-members
+least_between-both-requires-clause-members c = λ u low. (
   c.add_outer.ensures.every u (subst (λ (t : Table). u < t.size) c.add_outer.ensures.table low),
   (λ is. subst (λ n. mark_at c.list_leaves.new.marks n ≡ Outer) is.2 (c.add_outer.ensures.outer is.0 is.1).1),
 )
