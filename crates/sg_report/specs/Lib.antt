@@ -4,3 +4,4 @@ pub mod Verdicts
 pub mod Text
 pub mod Report
 pub mod ReportValue
+pub mod Samples

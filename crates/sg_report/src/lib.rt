@@ -4,7 +4,7 @@
 //! decimal, with `-` before a negative one and no leading zeros. A report is one line of JSON.
 //!
 //! For the next engineer: each public function makes just the bytes of the definition of its name in
-//! `specs/Text.antt` or `specs/Report.antt`; the numbers of refusals and verdicts stand in
+//! `specs/Text.antt`, `specs/Samples.antt` or `specs/Report.antt`; the numbers of refusals and verdicts stand in
 //! `specs/Refusals.antt` and `specs/Verdicts.antt`. The functions take the memory of their text, and
 //! a report that of its value too.
 #![tactic(auto)]
@@ -13,11 +13,13 @@ mod answers;
 mod faults;
 mod line;
 mod report;
+mod samples;
 mod studies;
 
 pub use answers::{energy_text, ground_text};
 pub use faults::{refusal_text, verdict_text};
 pub use report::report_text;
+pub use samples::{instance_text, sample_text};
 use std::alloc::AllocError;
 pub use studies::{bonds_text, clusters_text, wall_text};
 

@@ -1,9 +1,10 @@
 use super::{
-    bonds_text, clusters_text, energy_text, ground_text, refusal_text, report_text, verdict_text,
-    wall_text,
+    bonds_text, clusters_text, energy_text, ground_text, instance_text, refusal_text, report_text,
+    sample_text, verdict_text, wall_text,
 };
 use sg_check::{Loop, Loops, Verdict};
-use sg_model::{BondList, Refusal, Spins};
+use sg_lattice::Kind;
+use sg_model::{BondList, Couplings, Refusal, Spins};
 use std::test::Fail;
 
 #[test]
@@ -17,6 +18,9 @@ fn each_text_has_its_bytes(rt: HostRuntime) -> Result<(), Fail> {
     bonds.push(3)?;
     let mut loops = Loops::new(alloc);
     loops.push(Loop { y: 2, bonds })?;
+    let mut couplings = Couplings::new(alloc);
+    couplings.push(4)?;
+    couplings.push(-1)?;
     let texts = [
         (
             energy_text(alloc, -3, &spins)?,
@@ -43,6 +47,18 @@ fn each_text_has_its_bytes(rt: HostRuntime) -> Result<(), Fail> {
             "refused,15,-2\n",
         ),
         (refusal_text(alloc, &Refusal::NoSeam)?, "refused,16\n"),
+        (
+            instance_text(alloc, Kind::Triangular, 1, 3, &couplings)?,
+            "triangular,1,3\n4,-1\nend\n",
+        ),
+        (
+            instance_text(alloc, Kind::Square, 1, 1, &Couplings::new(alloc))?,
+            "square,1,1\nend\n",
+        ),
+        (
+            sample_text(alloc, 4, 4, 2372721, -1986379)?,
+            "spins,4\nbonds,4\nsum,2372721\nenergy,-1986379\nbroken,193171\nend\n",
+        ),
         (verdict_text(alloc, &Verdict::Yes)?, "yes\n"),
         (
             report_text(alloc, 0, 0, 0, &spins, &loops, &[], &[0], None)?,
