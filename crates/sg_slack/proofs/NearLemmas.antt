@@ -3,14 +3,13 @@ use Rattle.std.proofs.Common.{◌≡◌, ◌≢◌, ℕ, ◌<◌, ◌≤◌, ◌
 use Rattle.std.proofs.Common.{◌⊎◌, inl, inr, refl, sym, ap, ◌∙◌, subst, arith, w64, of_z, to_z, length-append}
 use Rattle.std.proofs.lemmas.Int.{ints, to_z-of_z}
 use Rattle.std.specs.Int.{w128}
-use Rattle.std.proofs.lemmas.Bool.{cases_eq}
 use Rattle.std.proofs.lemmas.List.{get_or-map, get_or-set_other, get_or-set_same, length-map, length-set, map-append}
 use Rattle.sg_slack.proofs.DistinctLemmas.{at_end, short}
 use Rattle.sg_slack.proofs.ScanLemmas.{Least-nearer, Least-same, below_next}
 use Rattle.sg_slack.specs.Kept.{IsNear, IsNearestOf, IsTakenAt, key_of, kept_at, members_of, nearest_at}
 use Rattle.sg_slack.specs.Members.{Agree, IsMember, Member, TotalsFit, grown, member_at}
 use Rattle.sg_slack.specs.Scan.{IsApartBefore, IsApartOf, IsKeptBefore, IsNearer, IsNearestFree}
-use Rattle.sg_slack.specs.Slack.{IsLeast, IsOuterFree, Least, mark_at, slack_of, total_at}
+use Rattle.sg_slack.specs.Slack.{IsOuterFree, Least, mark_at, slack_of, total_at}
 use Rattle.sg_slack.specs.Table.{Table}
 use Rattle.sg_slack.specs.declared.Mark.{Mark}
 use Rattle.sg_slack.specs.declared.Mark.TheVariants.{Free, Outer}

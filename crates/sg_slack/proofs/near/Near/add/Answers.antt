@@ -1,11 +1,11 @@
 -- `add`: the new member takes the leaves to which it is nearer.
-use Rattle.std.proofs.Common.{◌≡◌, ℕ, ◌<◌, ◌++◌, ◌∷◌, [], List, length, set, ℤ, pos, ◌-ℤ◌, false, true, arith, subst, sym, ap, ◌∙◌, rules, to_z, of_z, w64}
+use Rattle.std.proofs.Common.{◌≡◌, ℕ, ◌<◌, ◌++◌, ◌∷◌, [], List, length, ℤ, ◌-ℤ◌, false, true, arith, subst, sym, ap, ◌∙◌, rules, to_z, of_z, w64}
 use Rattle.std.specs.Int.{w128}
 use Rattle.std.specs.Vec.{with_items}
-use Rattle.std.proofs.lemmas.Int.{ints, to_z-of_z}
+use Rattle.std.proofs.lemmas.Int.{to_z-of_z}
 use Rattle.std.proofs.lemmas.List.{with_items_is}
-use Rattle.sg_slack.proofs.NearLemmas.{IsNear-added, members-more, new_kept, room-more, wrapped_difference}
-use Rattle.sg_slack.specs.Kept.{IsNear, IsTakenAt, members_of, nearest_at}
+use Rattle.sg_slack.proofs.NearLemmas.{IsNear-added, members-more, room-more, wrapped_difference}
+use Rattle.sg_slack.specs.Kept.{IsTakenAt, members_of, nearest_at}
 use Rattle.sg_slack.specs.Members.{IsMember, Known}
 use Rattle.sg_slack.specs.declared.near.Kept.{Kept}
 use Rattle.sg_slack.specs.declared.near.Nearest.{Nearest}

@@ -1,5 +1,5 @@
 -- `has`: a member stands at its place.
-use Rattle.std.proofs.Common.{◌≡◌, ℕ, ◌<◌, length, nat_eq, nat_lt, get_or, arith, subst, sym, ap, ◌∙◌, IsTrue, pos, rules}
+use Rattle.std.proofs.Common.{◌≡◌, ◌<◌, length, nat_eq, nat_lt, get_or, arith, subst, sym, ap, ◌∙◌, IsTrue, pos}
 use Rattle.std.proofs.lemmas.Bool.{eq-eqb, eqb-true, false≢true, le-ltb}
 use Rattle.std.proofs.lemmas.List.{get_or_default}
 use Rattle.sg_slack.proofs.NearLemmas.{IsMember-kept, placed-member}

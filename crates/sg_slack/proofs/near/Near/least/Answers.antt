@@ -1,6 +1,6 @@
 -- `least`: the nearest member of a free leaf has the least slack to it.
-use Rattle.std.proofs.Common.{◌≡◌, ℕ, ◌<◌, List, length, arith, subst, sym, ap, ◌∙◌, rules}
-use Rattle.sg_slack.proofs.NearLemmas.{Least-kept, Least-none}
+use Rattle.std.proofs.Common.{◌≡◌, ℕ, ◌<◌, List, length, subst, sym, rules}
+use Rattle.sg_slack.proofs.NearLemmas.{Least-kept}
 use Rattle.sg_slack.specs.Members.{Agree, IsMember, Known}
 use Rattle.sg_slack.specs.Scan.{IsNearestFree}
 use Rattle.sg_slack.specs.Slack.{IsOuterFree, Least, mark_at}

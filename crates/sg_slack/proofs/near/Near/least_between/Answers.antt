@@ -1,5 +1,5 @@
 -- `least_between`: the members are the outer leaves.
-use Rattle.std.proofs.Common.{◌≡◌, ◌≢◌, ℕ, ◌<◌, List, length, get_or, subst, sym, arith, ap, ◌∙◌}
+use Rattle.std.proofs.Common.{◌≡◌, ℕ, ◌<◌, List, length, subst, sym}
 use Rattle.sg_slack.proofs.NearLemmas.{IsMember-kept, Least-renamed, kept-IsMember}
 use Rattle.sg_slack.specs.Kept.{kept_at}
 use Rattle.sg_slack.specs.Members.{IsMember, Known}
