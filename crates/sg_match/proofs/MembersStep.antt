@@ -1,5 +1,6 @@
 -- The outer leaves that the engine knows, over each step.
-use Rattle.std.proofs.Common.{length-append, ◌≡◌, ℕ, ◌+◌, ◌<◌, ◌≤◌, ◌++◌, ◌∷◌, [], List, get_or, length, ℤ, pos, ◌+ℤ◌, ◌||◌, true, FitsSigned, inl, inr, refl, sym, ap, ◌∙◌, subst, arith, w64}
+use Rattle.std.proofs.Common.{length-append, ◌≡◌, ℕ, ◌+◌, ◌<◌, ◌≤◌, ◌++◌, ◌∷◌, [], List, get_or, length, ℤ, pos, ◌+ℤ◌, ◌||◌}
+use Rattle.std.proofs.Common.{true, FitsSigned, inl, inr, refl, sym, ap, ◌∙◌, subst, arith, w64}
 use Rattle.std.proofs.lemmas.Int.{ints}
 use Rattle.std.proofs.lemmas.List.{get_or-map, length-map, map-append}
 use Rattle.sg_arena.proofs.FamilyLemmas.{leaf_bound}

@@ -28,7 +28,8 @@ room_of c t top = omega (arith, name_bound c.args.arena.now t top.alive, c.mark_
 pub mark_tops-requires-clause-root : goal.mark_tops-requires-clause-root
 mark_tops-requires-clause-root c =
     let tops = c.requires.stands.shape.tops in
-    omega (arith, c.requires.named, name_bound c.args.arena.now c.args.root (tops.outer_tops 0 (omega (arith, length-outers c.args.root c.args.edges.now))).alive)
+    omega (arith, c.requires.named, name_bound c.args.arena.now c.args.root (tops.outer_tops 0 (omega (arith, length-outers c.args.root
+    c.args.edges.now))).alive)
 
 pub mark_tops-requires-clause-inner : goal.mark_tops-requires-clause-inner
 mark_tops-requires-clause-inner c i low =
