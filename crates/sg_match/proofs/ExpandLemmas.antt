@@ -12,7 +12,8 @@ use Rattle.sg_match.proofs.EngineLemmas.{exposed_of, no_edges, symmetric, tree_o
 use Rattle.sg_match.proofs.NodeLemmas.{length-nodes, node_at_place}
 use Rattle.sg_match.proofs.RingLemmas.{IsFacing-from, IsRing, IsRing-rotated}
 use Rattle.sg_match.proofs.RotateLemmas.{Differ-cycle, cases_wrapped, link_at-rotated, wrapped}
-use Rattle.sg_match.proofs.ExpandStep.{CanExpandTree-expand, IsFeasible-expand, IsExposed-expanded, IsPaired-expand, node_bound, outer_more, ring_room, steps-expand}
+use Rattle.sg_match.proofs.ExpandStep.{CanExpandTree-expand, IsFeasible-expand, IsExposed-expanded, IsPaired-expand}
+use Rattle.sg_match.proofs.ExpandStep.{node_bound, outer_more, ring_room, steps-expand}
 use Rattle.sg_match.proofs.MembersStep.{AreOuter-kept}
 use Rattle.sg_match.specs.Members.{AreOuter}
 use Rattle.sg_slack.specs.Members.{Member}

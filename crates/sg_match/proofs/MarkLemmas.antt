@@ -1,9 +1,9 @@
 -- Marking the tops of a tree by name, edge by edge.
-use Rattle.std.proofs.Common.{◌≡◌, ◌≢◌, ◌⊎◌, ℕ, zero, suc, ◌+◌, ◌<◌, List, length, get_or, set, inl, inr, refl, sym, ap, ◌∙◌, subst, arith}
+use Rattle.std.proofs.Common.{◌≡◌, ◌≢◌, ◌⊎◌, ℕ, zero, suc, ◌+◌, ◌<◌, List, length, get_or, set, inl, inr, sym, ap, ◌∙◌, subst, arith}
 use Rattle.std.proofs.lemmas.Bool.{cases_eq}
 use Rattle.std.proofs.lemmas.List.{get_or-set_other, get_or-set_same, length-set}
 use Rattle.sg_match.proofs.TreeLemmas.{inner_at, length-inners, length-outers, outer_at}
-use Rattle.sg_match.specs.Tree.{IsOut, StandsAt, edge_at, outers}
+use Rattle.sg_match.specs.Tree.{StandsAt, edge_at, outers}
 use Rattle.sg_match.specs.declared.TreeEdge.{TreeEdge}
 use Rattle.sg_slack.proofs.ScanLemmas.{below_next}
 use Rattle.sg_slack.specs.declared.Mark.{Mark}

@@ -1,11 +1,12 @@
 -- The outer leaves that the engine knows, over each step.
-use Rattle.std.proofs.Common.{length-append, ◌≡◌, ℕ, ◌+◌, ◌<◌, ◌≤◌, ◌++◌, ◌∷◌, [], List, get_or, length, ℤ, pos, ◌+ℤ◌, ◌||◌, true, FitsSigned, inl, inr, refl, sym, ap, ◌∙◌, subst, arith, w64}
+use Rattle.std.proofs.Common.{length-append, ◌≡◌, ℕ, ◌+◌, ◌<◌, ◌++◌, ◌∷◌, [], List, get_or, length, ℤ, pos, ◌+ℤ◌, ◌||◌}
+use Rattle.std.proofs.Common.{true, inl, inr, refl, sym, ap, ◌∙◌, subst, arith}
 use Rattle.std.proofs.lemmas.Int.{ints}
 use Rattle.std.proofs.lemmas.List.{get_or-map, length-map, map-append}
 use Rattle.sg_arena.proofs.FamilyLemmas.{leaf_bound}
 use Rattle.sg_arena.proofs.RaisedFamily.{total-raised}
 use Rattle.sg_arena.specs.Changes.{CanRaise, raised}
-use Rattle.sg_arena.specs.Family.{Family, IsFamily, holds, leaf_count, total_of}
+use Rattle.sg_arena.specs.Family.{Family, IsFamily, holds, total_of}
 use Rattle.std.proofs.lemmas.List.Folds.{list_any-append, list_any_at}
 use Rattle.sg_sums.proofs.ListLaws.{list_any-agree, place_of_any}
 use Rattle.sg_slack.proofs.DistinctLemmas.{at_end}

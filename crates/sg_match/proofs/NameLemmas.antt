@@ -1,14 +1,10 @@
 -- Lists of different names.
-use Rattle.std.proofs.Common.{ap, ◌≡◌, ◌≢◌, ℕ, suc, ◌<◌, ◌≤◌, false, eqb, List, [], ◌∷◌, length, get_or, sym, subst, arith, zero, ◌-◌, ◌⊎◌, ◌++◌, Contains}
+use Rattle.std.proofs.Common.{◌≡◌, ◌≢◌, ℕ, suc, ◌<◌, List, [], ◌∷◌, length, get_or, sym, subst, arith, zero, ◌-◌, ◌⊎◌, ◌++◌, Contains}
 use Rattle.std.proofs.Common.{refl, ◌∙◌, inl, inr, length-append}
-use Rattle.std.specs.List.{AllByRecursion, IsDistinct}
-use Rattle.std.proofs.lemmas.Bool.{cases_lt, eqb-true, ne_eqb}
+use Rattle.std.proofs.lemmas.Bool.{cases_lt}
 use Rattle.std.proofs.lemmas.List.{get_or_append_left, get_or_default}
 use Rattle.std.proofs.lemmas.List.Elements.{Contains-get_or}
-use Rattle.std.proofs.Math.Seq.{get_or-append_right, get_or-append_seam}
-use Rattle.std.proofs.lemmas.Map.Keys.{IsDistinct-cons}
-use Rattle.std.proofs.lemmas.Map.Steps.{length-le_from_distinct_below}
-use Rattle.sg_sums.proofs.ListLaws.{place_of_any}
+use Rattle.std.proofs.Math.Seq.{get_or-append_right}
 use Rattle.sg_slack.proofs.DistinctLemmas.{at_end}
 use Rattle.sg_match.specs.Names.{Differ}
 

@@ -1,12 +1,12 @@
 -- A raise of one unpaired top, where no tree stands.
-use Rattle.std.proofs.Common.{◌≡◌, ◌≢◌, ℕ, zero, suc, ◌+◌, ◌*◌, ◌<◌, ◌≤◌, ◌%◌, ◌≤ℤ◌, ℤ, pos, negsuc, List, [], ◌∷◌, length, get_or, MatchOption, Option, Some}
-use Rattle.std.proofs.Common.{None, refl, sym, ap, ◌∙◌, subst, inl, inr, arith}
+use Rattle.std.proofs.Common.{◌≡◌, ◌≢◌, ℕ, zero, suc, ◌+◌, ◌*◌, ◌<◌, ◌≤◌, ◌%◌, ◌≤ℤ◌, ℤ, pos, negsuc, [], length, get_or, MatchOption}
+use Rattle.std.proofs.Common.{None, sym, ap, ◌∙◌, subst, inl, inr, arith}
 use Rattle.std.proofs.lemmas.Bool.{cases_eq}
 use Rattle.std.proofs.lemmas.Int.{ints}
 use Rattle.sg_arena.proofs.FamilyLemmas.{some_leaf}
 use Rattle.sg_arena.proofs.RaisedFamily.{length-raised}
 use Rattle.sg_arena.specs.Changes.{CanRaise, raised}
-use Rattle.sg_arena.specs.Family.{Family, Holds, IsBlossom, IsFamily, IsTop, dual_of, leaf_count}
+use Rattle.sg_arena.specs.Family.{Family, Holds, IsFamily, IsTop, leaf_count}
 use Rattle.sg_sums.specs.Naturals.{nat_of}
 use Rattle.sg_match.proofs.DualChangeStep.{blossoms-raised}
 use Rattle.sg_match.proofs.EngineLemmas.{even, no_edges, symmetric}
@@ -26,7 +26,6 @@ use Rattle.sg_match.specs.State.{State}
 use Rattle.sg_match.specs.Steps.{blossoms_of, steps_left, tree_left}
 use Rattle.sg_match.specs.Tree.{IsOut, IsTree, inners, outers}
 use Rattle.sg_match.specs.declared.Event.{Event}
-use Rattle.sg_match.specs.declared.TreeEdge.{TreeEdge}
 use Rattle.sg_pairing.specs.Metric.{cost}
 
 -- a number without its sign is no larger where the other isn't

@@ -1,5 +1,5 @@
 -- The children of an expanded inner blossom that stay in the tree.
-use Rattle.std.specs.Prelude.{◌≡◌, ◌≢◌, ℕ, ◌+◌, ◌*◌, ◌<◌, ◌≤◌, List, length, slice_index, Option, None, Some, ◌⊎◌}
+use Rattle.std.specs.Prelude.{◌≡◌, ◌≢◌, ℕ, ◌+◌, ◌*◌, ◌<◌, ◌≤◌, List, length, Option, None, Some, ◌⊎◌}
 use Rattle.std.specs.Prelude.{slice_set}
 use Rattle.sg_arena.specs.Changes.{AreTops, CanShrink}
 use Rattle.sg_arena.specs.Family.{Family, Holds, link_at}

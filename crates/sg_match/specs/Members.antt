@@ -1,5 +1,5 @@
 -- What the engine knows of the outer leaves from round to round.
-use Rattle.std.specs.Prelude.{◌≡◌, ◌≢◌, ℕ, ◌<◌, ◌++◌, ◌∷◌, [], List, length, ℤ, pos, true, ◌⊎◌}
+use Rattle.std.specs.Prelude.{◌≡◌, ℕ, ◌<◌, ◌++◌, ◌∷◌, [], List, length, ℤ, pos, true, ◌⊎◌}
 use Rattle.sg_arena.specs.Family.{Family, total_of}
 use Rattle.sg_slack.specs.Members.{IsMember, Member, member_at}
 use Rattle.sg_slack.specs.Slack.{mark_at}

@@ -15,7 +15,8 @@ impl Engine {
     /// Goes on until every top is paired, or an inner blossom of the tree has dual 0. Where such a
     /// blossom stands already, the least one is named and nothing changes. It takes no memory.
     ///
-    /// Cost: each round takes time proportional to the square of the number of leaves.
+    /// Cost: each round takes time proportional to the number of leaves and to the square of the number
+    /// of those that are outer.
     pub fn advance<L: Ledger>(&mut self, steps: &mut Steps<L>) -> Stage
         ensures table { self.new.table ≡ self.old.table }
         ensures engine { IsEngine self.new }

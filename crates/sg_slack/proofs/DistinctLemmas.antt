@@ -1,5 +1,5 @@
 -- Lists of different numbers, and lists with one entry more.
-use Rattle.std.proofs.Common.{ap, ◌≡◌, ◌≢◌, ℕ, suc, ◌<◌, ◌≤◌, false, eqb, List, [], ◌∷◌, length, get_or, sym, subst, arith, zero, ◌⊎◌, ◌++◌}
+use Rattle.std.proofs.Common.{ap, ◌≡◌, ◌≢◌, ℕ, suc, ◌<◌, ◌≤◌, false, eqb, List, [], ◌∷◌, length, get_or, sym, subst, arith, ◌⊎◌, ◌++◌}
 use Rattle.std.proofs.Common.{◌∙◌, inl, inr, length-append}
 use Rattle.std.specs.List.{AllByRecursion, IsDistinct}
 use Rattle.std.proofs.lemmas.Bool.{cases_lt, eqb-true, ne_eqb}

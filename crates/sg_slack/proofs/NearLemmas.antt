@@ -1,16 +1,16 @@
 -- What a `Near` keeps, call by call.
-use Rattle.std.proofs.Common.{◌≡◌, ◌≢◌, ℕ, ◌<◌, ◌≤◌, ◌+◌, List, [], ◌∷◌, ◌++◌, length, map, get_or, set, ℤ, pos, ◌+ℤ◌, ◌-ℤ◌, ◌≤ℤ◌, Option, Some, None, Bool, true, false, FitsSigned, ◌^◌}
+use Rattle.std.proofs.Common.{◌≡◌, ◌≢◌, ℕ, ◌<◌, ◌≤◌, ◌+◌, List, [], ◌∷◌, ◌++◌, length, map, get_or, set, ℤ, pos}
+use Rattle.std.proofs.Common.{◌+ℤ◌, ◌-ℤ◌, ◌≤ℤ◌, Option, Some, None, Bool, true, false, FitsSigned, ◌^◌}
 use Rattle.std.proofs.Common.{◌⊎◌, inl, inr, refl, sym, ap, ◌∙◌, subst, arith, w64, of_z, to_z, length-append}
 use Rattle.std.proofs.lemmas.Int.{ints, to_z-of_z}
 use Rattle.std.specs.Int.{w128}
-use Rattle.std.proofs.lemmas.Bool.{cases_eq}
 use Rattle.std.proofs.lemmas.List.{get_or-map, get_or-set_other, get_or-set_same, length-map, length-set, map-append}
 use Rattle.sg_slack.proofs.DistinctLemmas.{at_end, short}
 use Rattle.sg_slack.proofs.ScanLemmas.{Least-nearer, Least-same, below_next}
 use Rattle.sg_slack.specs.Kept.{IsNear, IsNearestOf, IsTakenAt, key_of, kept_at, members_of, nearest_at}
 use Rattle.sg_slack.specs.Members.{Agree, IsMember, Member, TotalsFit, grown, member_at}
 use Rattle.sg_slack.specs.Scan.{IsApartBefore, IsApartOf, IsKeptBefore, IsNearer, IsNearestFree}
-use Rattle.sg_slack.specs.Slack.{IsLeast, IsOuterFree, Least, mark_at, slack_of, total_at}
+use Rattle.sg_slack.specs.Slack.{IsOuterFree, Least, mark_at, slack_of, total_at}
 use Rattle.sg_slack.specs.Table.{Table}
 use Rattle.sg_slack.specs.declared.Mark.{Mark}
 use Rattle.sg_slack.specs.declared.Mark.TheVariants.{Free, Outer}
@@ -73,7 +73,8 @@ module _ (t : Table) (rise : ℤ) (ms : List Kept) (places : List ℕ) (nearest 
       (omega (arith, here, at.1), ap (λ i. (kept_at ms i).leaf) here ∙ at.2)
 
   -- the least of the keys kept is that of the least slack to an outer leaf
-  module _ (totals : List ℤ) (marks : List Mark) (members : (u : ℕ) → u < t.size → (mark_at marks u ≡ Outer → IsMember (members_of rise ms) u) × (IsMember (members_of rise ms) u → mark_at marks u ≡ Outer))
+  module _ (totals : List ℤ) (marks : List Mark) (members : (u : ℕ) → u < t.size → (mark_at marks u ≡ Outer →
+      IsMember (members_of rise ms) u) × (IsMember (members_of rise ms) u → mark_at marks u ≡ Outer))
       (agree : Agree (members_of rise ms) totals) where
     total-kept : (i : ℕ) → i < length ms → total_at totals (kept_at ms i).leaf ≡ (kept_at ms i).base +ℤ rise
     total-kept i low =
@@ -102,7 +103,8 @@ module _ (t : Table) (rise : ℤ) (ms : List Kept) (places : List ℕ) (nearest 
         rw (sym leaf, sym at.2)
         (omega (arith, ints, least, n.key, total-kept n.at n.low, total-kept at.0 at.1))
 
-    pub Least-kept : (result : Option Pair) → 0 < length ms → Least t totals (IsNearestFree t nearest marks) result → Least t totals (IsOuterFree t marks) result
+    pub Least-kept : (result : Option Pair) → 0 < length ms → Least t totals (IsNearestFree t nearest marks) result →
+        Least t totals (IsOuterFree t marks) result
     Least-kept None some none = λ u v pair. none (nearest_at nearest v).leaf v (record { v_leaf = pair.v_leaf; nearest_is = refl; free = pair.free })
     Least-kept (Some p) some least =
         record {
@@ -178,7 +180,8 @@ module _ (t : Table) (rise : ℤ) (ms : List Kept) (places : List ℕ) (nearest 
             elim (at_end ms new_kept no_kept i low_i) [
               | inl a ↦ elim (at_end ms new_kept no_kept j low_j) [
                 | inl b ↦
-                    sym (near.placed i a.0) ∙ ap (λ n. get_or places n 0) (ap (λ (m : Kept). m.leaf) (sym a.1) ∙ same ∙ ap (λ (m : Kept). m.leaf) b.1) ∙ near.placed j b.0
+                    sym (near.placed i a.0) ∙ ap (λ n. get_or places n 0) (ap (λ (m : Kept). m.leaf) (sym a.1) ∙ same ∙ ap
+                    (λ (m : Kept). m.leaf) b.1) ∙ near.placed j b.0
                 | inr b ↦ absurd (other_leaf i a.0 (ap (λ (m : Kept). m.leaf) (sym a.1) ∙ same ∙ ap (λ (m : Kept). m.leaf) b.1))
               ]
               | inr a ↦ elim (at_end ms new_kept no_kept j low_j) [
@@ -198,7 +201,8 @@ module _ (t : Table) (rise : ℤ) (ms : List Kept) (places : List ℕ) (nearest 
               | inr a ↦ omega (arith, leaf-is i within, ap (λ (m : Kept). m.leaf) a.1, low)
             ]
 
-    module _ (first : Bool) (is_first : first ≡ true → length ms ≡ 0) (is_later : first ≡ false → 0 < length ms) (new : List Nearest) (count : length new ≡ t.size)
+    module _ (first : Bool) (is_first : first ≡ true → length ms ≡ 0) (is_later : first ≡ false →
+        0 < length ms) (new : List Nearest) (count : length new ≡ t.size)
         (taken : (v : ℕ) → v < t.size → IsTakenAt t new_kept first v (nearest_at nearest v) (nearest_at new v)) where
       key-end : (v i : ℕ) → kept_at more i ≡ new_kept → key_of t (kept_at more i) v ≡ key_of t new_kept v
       key-end v i is = ap (λ m. key_of t m v) is
@@ -418,7 +422,8 @@ module _ (t : Table) (totals : List ℤ) (members : List Kept) (tops : List ℕ)
     ]
 
     pub Before-more : (best more result : Option Pair) → IsNearer best more result → Least t totals (IsApartBefore place members tops) best →
-        Least t totals (IsApartOf (length members) members tops (kept_at members place).leaf) more → Least t totals (IsApartBefore (place + 1) members tops) result
+        Least t totals (IsApartOf (length members) members tops (kept_at members place).leaf) more →
+        Least t totals (IsApartBefore (place + 1) members tops) result
     Before-more best more result nearer least row =
         Least-nearer t totals (IsApartBefore place members tops) Row (IsApartBefore (place + 1) members tops) more-before row-before split-before best more
         result nearer least row

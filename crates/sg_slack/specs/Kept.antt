@@ -1,6 +1,6 @@
 -- What a `Near` keeps of its members: the total of each less what all have risen by, and for each leaf the
 -- nearest of them.
-use Rattle.std.specs.Prelude.{◌≡◌, ℕ, ◌<◌, ◌≤◌, List, length, map, slice_index_or, ℤ, pos, ◌+ℤ◌, ◌-ℤ◌, ◌≤ℤ◌, FitsSigned}
+use Rattle.std.specs.Prelude.{◌≡◌, ℕ, ◌<◌, List, length, map, slice_index_or, ℤ, pos, ◌+ℤ◌, ◌-ℤ◌, ◌≤ℤ◌, FitsSigned}
 use Rattle.std.specs.Prelude.{Bool, true, false, ◌⊎◌}
 use Rattle.std.specs.Int.{w64}
 use Rattle.sg_slack.specs.declared.near.Kept.{Kept}

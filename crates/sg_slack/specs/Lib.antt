@@ -5,3 +5,4 @@ pub mod Small
 pub mod Members
 pub mod Kept
 pub mod Fields
+pub mod Line

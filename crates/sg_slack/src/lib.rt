@@ -263,4 +263,6 @@ fn nearer(best: Option<Pair>, more: Option<Pair>) -> Option<Pair>
 }
 
 #[cfg(test)]
+mod near_tests;
+#[cfg(test)]
 mod tests;

@@ -27,7 +27,7 @@ fn is_row_small(costs: &Costs, u: u32) -> bool
 }
 
 // Whether all costs and totals are small, so that each slack fits.
-fn are_small(costs: &Costs, total: &[i64]) -> bool
+pub fn are_small(costs: &Costs, total: &[i64]) -> bool
     requires { length total.now ≡ costs.now.size }
     ensures { IsTrue result → SumsFit costs.now total.now }
 {

@@ -19,8 +19,10 @@ loop-v-preserved c =
             record { u_leaf = c.requires.leaf; v_leaf = omega arith; u_outer = c.requires.outer; v_outer = is.0; apart = is.1 },
           ) in
           Row-pair costs total Is c.args.u (λ a b is. is.0) c.loop-v.best c.nearer_if-best.result v here
-          (subst (λ p. IsNearer c.loop-v.best (Some p) c.nearer_if-best.result) c.pair_of-pair.ensures (c.nearer_if-best.ensures.yes counted)) c.loop-v.invariant
+          (subst (λ p. IsNearer c.loop-v.best (Some p) c.nearer_if-best.result) c.pair_of-pair.ensures (c.nearer_if-best.ensures.yes counted))
+          c.loop-v.invariant
       | inr passed ↦
           subst (λ r. Least costs total (λ a b. (b < v + 1) × Is a b) r) (sym (c.nearer_if-best.ensures.no passed))
-          (Row-none costs total Is c.args.u (λ a b is. is.0) c.loop-v.best v (λ is. false≢true (sym passed ∙ c.is_other_outer-counts.ensures.1 (is.1.v_outer, is.1.apart))) c.loop-v.invariant)
+          (Row-none costs total Is c.args.u (λ a b is. is.0) c.loop-v.best v (λ is. false≢true (sym passed
+          ∙ c.is_other_outer-counts.ensures.1 (is.1.v_outer, is.1.apart))) c.loop-v.invariant)
     ]

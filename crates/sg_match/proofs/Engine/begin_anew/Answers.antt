@@ -41,7 +41,8 @@ begun_with c t = record {
   edges = c.self.inside.edges.items;
 }
 
-after : (c : goal.After-self-1) → IsEngine (begun_with c c.clear.new.self.table) × (steps_left (begun_with c c.clear.new.self.table) ≤ steps_left c.args.self.now)
+after : (c : goal.After-self-1) → IsEngine (begun_with c c.clear.new.self.table) × (steps_left (begun_with c c.clear.new.self.table) ≤ steps_left
+    c.args.self.now)
 after c =
     let bare : c.self.inside.root ≡ None = ap (λ (s : State). s.root) c.self.view_is ∙ c.requires.bare in
     let engine = subst (λ (o : Option ℕ). IsEngine

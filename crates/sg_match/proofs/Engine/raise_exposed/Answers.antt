@@ -1,5 +1,5 @@
 -- `raise_exposed`: the tree is the top alone, and its dual rises by no more than its least slack.
-use Rattle.std.proofs.Common.{◌≡◌, ℕ, ◌<◌, ◌≤ℤ◌, ℤ, pos, List, length, None, sym, ap, ◌∙◌, subst, arith, rules, to_z, of_z, w64}
+use Rattle.std.proofs.Common.{◌≡◌, ◌≤ℤ◌, ℤ, pos, length, None, sym, ap, ◌∙◌, subst, arith, rules, to_z, of_z, w64}
 use Rattle.std.proofs.lemmas.Int.{ints, to_z-of_z}
 use Rattle.std.specs.Vec.{with_items}
 use Rattle.sg_arena.proofs.RaisedFamily.{length-raised}
@@ -18,7 +18,6 @@ use Rattle.sg_match.specs.State.{State}
 use Rattle.sg_match.specs.Steps.{steps_left}
 use Rattle.sg_match.specs.Tree.{inners, outers}
 use Rattle.sg_match.specs.declared.Engine.TheInside.{Inside}
-use Rattle.sg_match.specs.declared.TreeEdge.{TreeEdge}
 use Rattle.sg_pairing.specs.Metric.{IsMetric, cost}
 use Rattle.sg_match.proofs.MembersStep.{AreOuter-none}
 use Rattle.sg_slack.specs.Table.{Table}

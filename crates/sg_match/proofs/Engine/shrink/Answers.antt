@@ -25,7 +25,8 @@ use Rattle.sg_match.specs.Tree.{IsShape, IsTree, edge_at}
 rooted : (g : Over) (c : After-self g) → c.self.inside.root ≡ Some c.args.root
 rooted g c = ap (λ (s : State). s.root) c.self.view_is ∙ c.requires.root
 
-tree : (g : Over) (c : After-self g) → IsTree c.self.inside.arena (cost c.self.inside.near.table) c.self.inside.pairs.items c.args.root c.self.inside.edges.items
+tree : (g : Over) (c : After-self g) → IsTree c.self.inside.arena (cost c.self.inside.near.table) c.self.inside.pairs.items c.args.root
+    c.self.inside.edges.items
 tree g c = tree_of (state_of c.self.inside) c.self.invariant.0 c.args.root (rooted g c)
 
 -- the cycle over the list of tree edges itself

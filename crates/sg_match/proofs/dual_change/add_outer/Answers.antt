@@ -1,5 +1,5 @@
 -- `add_outer`: leaf by leaf.
-use Rattle.std.proofs.Common.{◌≡◌, ◌<◌, ℤ, length, refl, sym, ap, ◌∙◌, arith, rules, to_z, of_z, w64}
+use Rattle.std.proofs.Common.{◌≡◌, ◌<◌, length, refl, sym, ap, ◌∙◌, arith, rules, to_z, of_z, w64}
 use Rattle.std.proofs.lemmas.Int.{to_z-of_z}
 use Rattle.sg_match.proofs.MembersStep.{Agree-joined, AreMarked-joined, every-joined}
 use Rattle.sg_slack.specs.Slack.{mark_at, total_at}

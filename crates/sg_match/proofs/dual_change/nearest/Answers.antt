@@ -1,5 +1,5 @@
 -- `nearest`: the tables say of the leaves what the tree says.
-use Rattle.std.proofs.Common.{◌≡◌, ℕ, ◌<◌, List, length, ◌∙◌, ap, subst, sym, arith}
+use Rattle.std.proofs.Common.{◌≡◌, ℕ, ◌<◌, length, ◌∙◌, subst, sym, arith}
 use Rattle.sg_arena.proofs.FamilyLemmas.{name_bound}
 use Rattle.sg_arena.specs.Family.{IsTop}
 use Rattle.sg_sums.specs.Naturals.{nat_of}
@@ -9,9 +9,7 @@ use Rattle.sg_match.proofs.MembersStep.{Agree-known, AreMarked-known, AreOuter-m
 use Rattle.sg_match.proofs.NearestStep.{CanScan-listed, IsMarked-stands, IsNearest-scanned, SumsFit-listed}
 use Rattle.sg_match.specs.Marks.{IsMarked}
 use Rattle.sg_match.specs.Members.{AreMarked}
-use Rattle.sg_match.specs.Nearest.{IsNearest}
 use Rattle.sg_match.specs.Scans.{CanScan, IsScanned}
-use Rattle.sg_pairing.specs.Metric.{cost}
 use Rattle.sg_slack.specs.Slack.{SumsFit, mark_at}
 use Rattle.sg_slack.specs.declared.Mark.TheVariants.{Outer}
 use Rattle.sg_slack.specs.Table.{Table}
@@ -28,7 +26,15 @@ room_of c t top = omega (arith, name_bound c.args.arena.now t top.alive, c.mark_
 pub mark_tops-requires-clause-root : goal.mark_tops-requires-clause-root
 mark_tops-requires-clause-root c =
     let tops = c.requires.stands.shape.tops in
-    omega (arith, c.requires.named, name_bound c.args.arena.now c.args.root (tops.outer_tops 0 (omega (arith, length-outers c.args.root c.args.edges.now))).alive)
+    omega (
+      arith,
+      c.requires.named,
+      name_bound c.args.arena.now c.args.root (tops.outer_tops 0 (omega (
+        arith,
+        length-outers c.args.root
+            c.args.edges.now,
+      ))).alive,
+    )
 
 pub mark_tops-requires-clause-inner : goal.mark_tops-requires-clause-inner
 mark_tops-requires-clause-inner c i low =

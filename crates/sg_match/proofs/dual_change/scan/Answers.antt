@@ -78,7 +78,8 @@ returns-in-Some-both-clause-scanned c =
     let less = less_is (to_z w64 (of_z w64 (quot_z (to_z w64 (of_z w64 q.slack)) (pos 2))))
     (to_z w64 (of_z w64 (to_z w64 (of_z w64 free.slack)))) at.amount here.amount at.half here.again c.if-both-away.true in
     subst (λ z. IsScanned c.args.costs.now c.args.tops.now c.args.totals.now c.args.marks.now (nat_of z) (OuterOuter q.u q.v)) (sym at.half)
-    (IsScanned-both c.args.costs.now c.args.tops.now c.args.totals.now c.args.marks.now free q at.amount (free_is (goal.at.returns-in-Some-both-clause-scanned c).In-Some)
+    (IsScanned-both c.args.costs.now c.args.tops.now c.args.totals.now c.args.marks.now free q at.amount (free_is
+    (goal.at.returns-in-Some-both-clause-scanned c).In-Some)
     (both_is (goal.at.returns-in-Some-both-clause-scanned c).In-Some-both) at.slack (omega (arith, ints, less, here.slack)))
 
 pub returns-in_default-both-clause-whole :
@@ -97,7 +98,8 @@ returns-in_default-both-clause-scanned c =
     let more = not_less_is (to_z w64 (of_z w64 (quot_z (to_z w64 (of_z w64 q.slack)) (pos 2))))
     (to_z w64 (of_z w64 (to_z w64 (of_z w64 free.slack)))) at.amount here.amount at.half here.again c.if-both-away.false in
     subst (λ z. IsScanned c.args.costs.now c.args.tops.now c.args.totals.now c.args.marks.now (nat_of z) (OuterFree free.u free.v)) (sym here.same)
-    (IsScanned-free c.args.costs.now c.args.tops.now c.args.totals.now c.args.marks.now free c.args.both here.amount (free_is (goal.at.returns-in_default-both-clause-scanned c).In-Some)
+    (IsScanned-free c.args.costs.now c.args.tops.now c.args.totals.now c.args.marks.now free c.args.both here.amount (free_is
+    (goal.at.returns-in_default-both-clause-scanned c).In-Some)
     here.slack c.requires.both
     (λ p is_p. let same = same_Some q p (sym c.in-Some-both.is ∙ is_p) in omega (arith, ints, more, ap (λ x. x.slack) same, at.slack)))
 
@@ -113,6 +115,7 @@ returns-in_default-both-2-clause-scanned c =
     let free = c.in-Some.free in
     let here = free_at (goal.at.returns-in_default-both-2-clause-scanned c).In-Some in
     subst (λ z. IsScanned c.args.costs.now c.args.tops.now c.args.totals.now c.args.marks.now (nat_of z) (OuterFree free.u free.v)) (sym here.same)
-    (IsScanned-free c.args.costs.now c.args.tops.now c.args.totals.now c.args.marks.now free c.args.both here.amount (free_is (goal.at.returns-in_default-both-2-clause-scanned c).In-Some)
+    (IsScanned-free c.args.costs.now c.args.tops.now c.args.totals.now c.args.marks.now free c.args.both here.amount (free_is
+    (goal.at.returns-in_default-both-2-clause-scanned c).In-Some)
     here.slack c.requires.both
     (λ p is_p. absurd (none-some p (sym c.in_default-both.is ∙ is_p))))

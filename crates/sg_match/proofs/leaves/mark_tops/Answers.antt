@@ -1,5 +1,5 @@
 -- `mark_tops`: a tree edge marks its two tops.
-use Rattle.std.proofs.Common.{◌≡◌, ℕ, ◌<◌, length, get_or, set, ◌∙◌, arith}
+use Rattle.std.proofs.Common.{◌<◌, length, get_or, set, ◌∙◌, arith}
 use Rattle.std.proofs.lemmas.List.{length-set}
 use Rattle.sg_match.proofs.MarkLemmas.{Seen-edge, Seen-root, Seen-whole}
 use Rattle.sg_match.proofs.leaves.mark_tops.Goals as goal

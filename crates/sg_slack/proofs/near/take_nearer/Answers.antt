@@ -1,7 +1,7 @@
 -- `take_nearer`: each leaf takes the nearer one.
-use Rattle.std.proofs.Common.{◌≡◌, ℤ, ◌-ℤ◌, ◌≤ℤ◌, ◌⊎◌, true, false, ap, ◌∙◌, subst, arith, rules, to_z, of_z, w64}
+use Rattle.std.proofs.Common.{◌≡◌, ◌-ℤ◌, ◌≤ℤ◌, ◌⊎◌, true, false, ap, ◌∙◌, subst, arith, rules, to_z, of_z, w64}
 use Rattle.std.specs.Int.{w128}
-use Rattle.std.proofs.lemmas.Int.{ints, to_z-of_z}
+use Rattle.std.proofs.lemmas.Int.{to_z-of_z}
 use Rattle.sg_slack.specs.Kept.{key_of, nearest_at}
 use Rattle.sg_slack.proofs.NearLemmas.{rest-next, taken-next, wrapped_difference}
 use Rattle.sg_slack.proofs.near.take_nearer.Goals as goal

@@ -1,11 +1,11 @@
 -- `add`: the new member takes the leaves to which it is nearer.
-use Rattle.std.proofs.Common.{◌≡◌, ℕ, ◌<◌, ◌++◌, ◌∷◌, [], List, length, set, ℤ, pos, ◌-ℤ◌, false, true, arith, subst, sym, ap, ◌∙◌, rules, to_z, of_z, w64}
+use Rattle.std.proofs.Common.{◌≡◌, ℕ, ◌<◌, ◌++◌, ◌∷◌, [], List, length, ℤ, ◌-ℤ◌, false, true, arith, subst, sym, ap, ◌∙◌, rules, to_z, of_z, w64}
 use Rattle.std.specs.Int.{w128}
 use Rattle.std.specs.Vec.{with_items}
-use Rattle.std.proofs.lemmas.Int.{ints, to_z-of_z}
+use Rattle.std.proofs.lemmas.Int.{to_z-of_z}
 use Rattle.std.proofs.lemmas.List.{with_items_is}
-use Rattle.sg_slack.proofs.NearLemmas.{IsNear-added, members-more, new_kept, room-more, wrapped_difference}
-use Rattle.sg_slack.specs.Kept.{IsNear, IsTakenAt, members_of, nearest_at}
+use Rattle.sg_slack.proofs.NearLemmas.{IsNear-added, members-more, room-more, wrapped_difference}
+use Rattle.sg_slack.specs.Kept.{IsTakenAt, members_of, nearest_at}
 use Rattle.sg_slack.specs.Members.{IsMember, Known}
 use Rattle.sg_slack.specs.declared.near.Kept.{Kept}
 use Rattle.sg_slack.specs.declared.near.Nearest.{Nearest}
@@ -22,10 +22,12 @@ pub push_reserved-requires : goal.push_reserved-requires
 push_reserved-requires c =
     let e = c.self.inside in
     let at = (goal.at.push_reserved-requires c).After-self in
-    let room = room-more e.costs e.rise e.members.items e.places.items e.nearest.items c.self.invariant.near c.args.leaf c.args.total (low at) (fresh at) (search rules) in
+    let room = room-more e.costs e.rise e.members.items e.places.items e.nearest.items c.self.invariant.near c.args.leaf c.args.total (low at) (fresh
+    at) (search rules) in
     omega (arith, room, c.self.invariant.room, e.members.ok)
 
-base_is : (c : After-push_reserved) → to_z w128 (of_z w128 (to_z w128 (of_z w128 c.from.result) -ℤ to_z w128 (of_z w128 c.self.inside.rise))) ≡ c.args.total -ℤ c.self.inside.rise
+base_is : (c : After-push_reserved) → to_z w128 (of_z w128 (to_z w128 (of_z w128 c.from.result) -ℤ to_z w128 (of_z w128 c.self.inside.rise))) ≡
+    c.args.total -ℤ c.self.inside.rise
 base_is c =
     wrapped_difference c.from.result c.self.inside.rise (search rules) (search rules) (search rules)
     ∙ ap (λ z. z -ℤ c.self.inside.rise) (c.from.ensures ∙ to_z-of_z w64 c.args.total (search rules))
@@ -77,6 +79,8 @@ pub returns-clause-members : goal.returns-clause-members
 returns-clause-members c =
     let e = c.self.inside in
     let at = (goal.at.returns-clause-members c).After-self in
-    subst (λ (s : Known). members_of e.rise c.push_reserved.new.self.items ≡ s.members ++ record { leaf = c.args.leaf; total = c.args.total } ∷ []) c.self.view_is
+    subst (λ (s : Known). members_of e.rise c.push_reserved.new.self.items ≡ s.members ++ record { leaf = c.args.leaf; total = c.args.total } ∷ [])
+    c.self.view_is
     (ap (members_of e.rise) (items_are c)
-    ∙ members-more e.costs e.rise e.members.items e.places.items e.nearest.items c.self.invariant.near c.args.leaf c.args.total (low at) (fresh at) (search rules))
+    ∙ members-more e.costs e.rise e.members.items e.places.items e.nearest.items c.self.invariant.near c.args.leaf c.args.total (low at) (fresh at)
+    (search rules))

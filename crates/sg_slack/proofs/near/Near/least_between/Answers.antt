@@ -1,5 +1,5 @@
 -- `least_between`: the members are the outer leaves.
-use Rattle.std.proofs.Common.{◌≡◌, ◌≢◌, ℕ, ◌<◌, List, length, get_or, subst, sym, arith, ap, ◌∙◌}
+use Rattle.std.proofs.Common.{◌≡◌, ℕ, ◌<◌, List, length, subst, sym}
 use Rattle.sg_slack.proofs.NearLemmas.{IsMember-kept, Least-renamed, kept-IsMember}
 use Rattle.sg_slack.specs.Kept.{kept_at}
 use Rattle.sg_slack.specs.Members.{IsMember, Known}
@@ -16,10 +16,12 @@ returns c =
     let totals = c.args.total.now in
     let tops = c.args.top.now in
     let ms = e.members.items in
-    let members = subst (λ (s : Known). (u : ℕ) → u < s.table.size → (mark_at marks u ≡ Outer → IsMember s.members u) × (IsMember s.members u → mark_at marks u ≡ Outer)) (sym c.self.view_is) c.requires.members in
+    let members = subst (λ (s : Known). (u : ℕ) → u < s.table.size → (mark_at marks u ≡ Outer → IsMember s.members u) × (IsMember s.members u →
+    mark_at marks u ≡ Outer)) (sym c.self.view_is) c.requires.members in
     let outer : (u i : ℕ) → i < length ms → (kept_at ms i).leaf ≡ u → mark_at marks u ≡ Outer =
     λ u i low is. (members u (subst (λ n. n < e.costs.size) is (c.self.invariant.near.low i low))).1 (IsMember-kept e.rise ms i u low is) in
-    let scanned = subst (λ (xs : List Kept). Least e.costs totals (IsApartBefore (length xs) xs tops) c.least_apart.result) c.deref.ensures.value c.least_apart.ensures in
+    let scanned = subst (λ (xs : List Kept). Least e.costs totals (IsApartBefore (length xs) xs tops) c.least_apart.result) c.deref.ensures.value
+    c.least_apart.ensures in
     subst (λ (s : Known). Least s.table totals (IsOuterOuter s.table tops marks) c.least_apart.result) c.self.view_is
     (Least-renamed e.costs totals (IsApartBefore (length ms) ms tops) (IsOuterOuter e.costs tops marks)
     (λ u v is. record {

@@ -1,5 +1,5 @@
 -- `shift`: one number grows for all members.
-use Rattle.std.proofs.Common.{◌≡◌, ℕ, ◌<◌, List, length, ℤ, pos, ◌+ℤ◌, false, true, arith, refl, inl, inr, subst, sym, ap, ◌∙◌, rules, to_z, of_z, w64}
+use Rattle.std.proofs.Common.{◌≡◌, ◌<◌, length, ℤ, pos, ◌+ℤ◌, false, true, arith, inl, inr, subst, sym, ap, ◌∙◌, rules, to_z, of_z, w64}
 use Rattle.std.specs.Int.{w128}
 use Rattle.std.proofs.lemmas.Bool.{cases_Bool}
 use Rattle.std.proofs.lemmas.Int.{ints, to_z-of_z}
