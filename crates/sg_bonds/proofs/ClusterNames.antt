@@ -1,19 +1,13 @@
 -- Names of clusters: the costs show the rigid bonds, and the names over these are the clusters.
-use Rattle.std.proofs.Common.{⊎_elim, ◌≡◌, ◌≢◌, ◌⊎◌, ◌↔◌, inl, inr, ℕ, ◌+◌, ◌<◌, ◌≤◌, ℤ, pos, negsuc, ◌-ℤ◌, ◌<ℤ◌, ◌≤ℤ◌, Bool, true, false, List, [], ◌∷◌, ◌++◌, length, get_or, replicate, refl, sym, ◌∙◌, ap, ap₂, subst, arith}
+use Rattle.std.proofs.Common.{◌≡◌, ◌↔◌, inl, inr, ℕ, ◌+◌, ◌<◌, ℤ, pos, negsuc, ◌-ℤ◌, ◌<ℤ◌, ◌≤ℤ◌, Bool, true, false, List, [], ◌∷◌, ◌++◌, length, get_or, sym, ◌∙◌, ap, ap₂, subst, arith}
 use Rattle.std.specs.Prelude.{IsTrue, unsigned_abs}
 use Rattle.std.proofs.lemmas.Int.{ints}
-use Rattle.std.proofs.lemmas.Bool.{cases_eq, cases_lt}
-use Rattle.std.proofs.lemmas.List.{get_or_append_left, get_or_push, length-replicate, length_push}
-use Rattle.sg_sums.specs.Sets.{IsMarked}
-use Rattle.sg_sums.proofs.MarkLaws.{none_marked}
-use Rattle.sg_model.specs.Ising.{Ising, bond_count}
-use Rattle.sg_model.specs.Energy.{energy}
-use Rattle.sg_model.specs.Connected.{JoinedBy, Reached}
-use Rattle.sg_model.proofs.Paths.{reached_back, reached_on}
-use Rattle.sg_walk.specs.Walk.{IsClosed, IsNoted, IsWalked, has}
-use Rattle.sg_walk.proofs.Searches.{marked_along, none_closed}
+use Rattle.std.proofs.lemmas.Bool.{cases_lt}
+use Rattle.std.proofs.lemmas.List.{get_or_append_left, get_or_push, length_push}
+use Rattle.sg_model.specs.Ising.{Ising}
+use Rattle.sg_walk.specs.Walk.{has}
 use Rattle.sg_bonds.specs.Cost.{AreCosts, IsCost, IsLeastWith, IsRigid}
-use Rattle.sg_bonds.specs.Cluster.{AreClusters, HasRigid, IsCluster}
+use Rattle.sg_bonds.specs.Cluster.{AreClusters, HasRigid}
 use Rattle.sg_walk.specs.Naming.{AllNamed}
 use Rattle.sg_bonds.specs.Naming.{ShowsRigid}
 

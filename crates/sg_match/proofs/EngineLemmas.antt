@@ -11,7 +11,7 @@ use Rattle.sg_match.specs.declared.Engine.TheInside.{Inside}
 
 -- what contracts see of the fields
 abbrev pub state_of : Inside → State
-state_of e = record { family = e.arena; table = e.costs; pairs = e.pairs.items; exposed = e.exposed.items; root = e.root; edges = e.edges.items }
+state_of e = record { family = e.arena; table = e.near.table; pairs = e.pairs.items; exposed = e.exposed.items; root = e.root; edges = e.edges.items }
 
 module _ (s : State) (engine : IsEngine s) where
   pub symmetric : (u v : ℕ) → u < leaf_count s.family → v < leaf_count s.family → cost s.table u v ≡ cost s.table v u

@@ -12,7 +12,13 @@ use Rattle.sg_match.proofs.EngineLemmas.{exposed_of, no_edges, symmetric, tree_o
 use Rattle.sg_match.proofs.NodeLemmas.{length-nodes, node_at_place}
 use Rattle.sg_match.proofs.RingLemmas.{IsFacing-from, IsRing, IsRing-rotated}
 use Rattle.sg_match.proofs.RotateLemmas.{Differ-cycle, cases_wrapped, link_at-rotated, wrapped}
-use Rattle.sg_match.proofs.ExpandStep.{CanExpandTree-expand, IsFeasible-expand, IsExposed-expanded, IsPaired-expand, node_bound, ring_room, steps-expand}
+use Rattle.sg_match.proofs.ExpandStep.{CanExpandTree-expand, IsFeasible-expand, IsExposed-expanded, IsPaired-expand, node_bound, outer_more, ring_room, steps-expand}
+use Rattle.sg_match.proofs.MembersStep.{AreOuter-kept}
+use Rattle.sg_match.specs.Members.{AreOuter}
+use Rattle.sg_slack.specs.Members.{Member}
+use Rattle.sg_arena.proofs.ExpandedFamily.{total-expand}
+use Rattle.sg_arena.proofs.FamilyLemmas.{name_bound}
+use Rattle.std.proofs.lemmas.Option.{same_Some}
 use Rattle.sg_match.proofs.TreeLemmas.{inner_at, inner_top, length-inners}
 use Rattle.sg_match.specs.InnerZeros.{IsInnerZero}
 use Rattle.sg_match.specs.Engine.{IsEngine}
@@ -122,6 +128,14 @@ module _ (s : State) (b : ℕ) (engine : IsEngine s) (inner_zero : IsInnerZero s
           (steps-expand f price s.pairs now rooted.root s.edges b at ring engine.feasible rooted.tree low here inner_zero.blossom inner_zero.inner_zero is
           ring_pairs s.exposed grown stays)
 
+      known-expand : (members : List Member) (r : ℕ) → s.root ≡ Some r → AreOuter f r s.edges members → AreOuter g r grown members
+      known-expand members r is_root =
+          subst (λ x. AreOuter f x s.edges members → AreOuter g x grown members) (same_Some rooted.root r (sym rooted.is ∙ is_root))
+          (λ known.
+          AreOuter-kept f g rooted.root rooted.root s.edges grown members known
+          (outer_more f price s.pairs now rooted.root s.edges b at ring engine.feasible rooted.tree low here inner_zero.blossom inner_zero.inner_zero is
+          ring_pairs grown stays) (total-expand f b inner_zero.inner_zero (name_bound f b blossom_top.alive)))
+
       IsEngine-expand : IsEngine after
       IsEngine-expand =
           record {
@@ -213,7 +227,8 @@ module _ {s : State} {b at : ℕ} {tree_edge : TreeEdge} {ring : List Link} {ent
       → ((h : Family) (price : ℕ → ℕ → ℕ) (pairs : List (Option Edge)) (root : ℕ) → CanExpandTree h price pairs root s.edges again at entry →
       IsTree h price pairs root grown) → OuterStays s.edges grown
       → IsEngine (record { family = g; table = s.table; pairs = stored; exposed = s.exposed; root = s.root; edges = grown }) ×
-      (steps_left (record { family = g; table = s.table; pairs = stored; exposed = s.exposed; root = s.root; edges = grown }) + 2 ≤ steps_left s)
+      (steps_left (record { family = g; table = s.table; pairs = stored; exposed = s.exposed; root = s.root; edges = grown }) + 2 ≤ steps_left s) ×
+      ((members : List Member) (r : ℕ) → s.root ≡ Some r → AreOuter s.family r s.edges members → AreOuter g r grown members)
   IsEngine-after lent again old now stored grown g same same_again own put made ring_pairs count expanded_tree stays =
       let ring_pairs_s : IsRingPaired s.pairs now ring (edge_at s.edges at).pair =
       subst (λ (l : TreeEdge). IsRingPaired s.pairs now ring l.pair) is.found.read
@@ -225,10 +240,16 @@ module _ {s : State} {b at : ℕ} {tree_edge : TreeEdge} {ring : List Link} {ent
       is.facing now ring_pairs_s count_s grown expanded_s stays in
       let less = less-expand s b is.found.engine is.found.inner_zero ring is.is at entry is.found.low is.found.here is.base is.within is.at_entry is.facing
       now ring_pairs_s count_s grown expanded_s stays in
-      subst (λ h. IsEngine (record { family = h; table = s.table; pairs = stored; exposed = s.exposed; root = s.root; edges = grown }) ×
+      let known = known-expand s b is.found.engine is.found.inner_zero ring is.is at entry is.found.low is.found.here is.base is.within is.at_entry is.facing
+      now ring_pairs_s count_s grown expanded_s stays in
+      let both = subst (λ h. IsEngine (record { family = h; table = s.table; pairs = stored; exposed = s.exposed; root = s.root; edges = grown }) ×
       (steps_left (record { family = h; table = s.table; pairs = stored; exposed = s.exposed; root = s.root; edges = grown }) + 2 ≤ steps_left s))
       (sym made)
       (subst (λ ps. IsEngine (record { family = with_slot s.family b None; table = s.table; pairs = ps; exposed = s.exposed; root = s.root; edges = grown })
       × (steps_left (record { family = with_slot s.family b None; table = s.table; pairs = ps; exposed = s.exposed; root = s.root; edges = grown }) + 2
       ≤ steps_left s)) (sym put)
-      (engine, less))
+      (engine, less)) in (
+        both.0,
+        both.1,
+        subst (λ h. (members : List Member) (r : ℕ) → s.root ≡ Some r → AreOuter s.family r s.edges members → AreOuter h r grown members) (sym made) known,
+      )

@@ -13,7 +13,8 @@ use Rattle.sg_arena.specs.Changes.{CanShrink, with_slot}
 use Rattle.sg_arena.specs.Family.{Family, Holds, IsBlossom, IsFamily, IsTop, after_index, cycle_of, dual_of, holds, link_at}
 use Rattle.sg_arena.specs.declared.Link.{Link}
 use Rattle.sg_match.proofs.ExpandSetsStep.{IsFeasible-expanded, IsPaired-expanded, halves}
-use Rattle.sg_match.proofs.NameLemmas.{Differ-append, place_of_name, short}
+use Rattle.sg_slack.proofs.DistinctLemmas.{short}
+use Rattle.sg_match.proofs.NameLemmas.{Differ-append, place_of_name}
 use Rattle.sg_match.proofs.NodeLemmas.{length-nodes, node_at_place, place_in}
 use Rattle.sg_match.proofs.RingLemmas.{IsRing}
 use Rattle.sg_match.proofs.RotateLemmas.{Differ-cycle}
@@ -328,7 +329,7 @@ module _ (f : Family) (cost : ℕ → ℕ → ℕ) (pairs now : List (Option Edg
         }
 
   -- a leaf of an outer top still is one
-  outer_more : (grown : List TreeEdge) → OuterStays edges grown → (l : ℕ) → any_top f (outers root edges) l ≡ true → any_top g (outers root grown) l ≡ true
+  pub outer_more : (grown : List TreeEdge) → OuterStays edges grown → (l : ℕ) → any_top f (outers root edges) l ≡ true → any_top g (outers root grown) l ≡ true
   outer_more grown stays l some = go hit.0 hit.1 hit.2
     where
       hit : (i : ℕ) × (i < length (outers root edges)) × Holds f (get_or (outers root edges) i 0) l

@@ -2,7 +2,8 @@
 use Rattle.std.proofs.Common.{◌≡◌, ◌≢◌, ◌⊎◌, ℕ, ◌<◌, List, [], ◌∷◌, ◌++◌, length, get_or, Option, Some, sym, ap, ◌∙◌, subst, inl, inr, arith}
 use Rattle.std.proofs.lemmas.List.{get_or_append_left, map-append}
 use Rattle.sg_arena.specs.Family.{Family, Holds, IsTop}
-use Rattle.sg_match.proofs.NameLemmas.{Differ-last, at_end}
+use Rattle.sg_slack.proofs.DistinctLemmas.{at_end}
+use Rattle.sg_match.proofs.NameLemmas.{Differ-last}
 use Rattle.sg_match.proofs.TreeLemmas.{length-outers}
 use Rattle.sg_pairing.specs.Tight.{IsTight}
 use Rattle.sg_match.specs.Names.{Differ}

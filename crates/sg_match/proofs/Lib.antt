@@ -36,3 +36,4 @@ pub mod MatePairLemmas
 pub mod ChildrenLemmas
 pub mod MatesStep
 pub mod ListedLemmas
+pub mod MembersStep

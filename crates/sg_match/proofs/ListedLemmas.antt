@@ -10,7 +10,8 @@ use Rattle.sg_arena.proofs.FamilyLemmas.{leaf_bound, name_bound}
 use Rattle.sg_arena.specs.Family.{Family, Holds, IsFamily, IsTop, cycle_of, leaf_count, leaf_node}
 use Rattle.sg_arena.specs.declared.Link.{Link}
 use Rattle.sg_match.proofs.AboveLemmas.{plain_is}
-use Rattle.sg_match.proofs.NameLemmas.{Differ-last, at_end, short}
+use Rattle.sg_slack.proofs.DistinctLemmas.{at_end, short}
+use Rattle.sg_match.proofs.NameLemmas.{Differ-last}
 use Rattle.sg_match.proofs.MatesStep.{Stands-left}
 use Rattle.sg_match.specs.Pairs.{pair_of}
 use Rattle.sg_match.specs.Names.{Differ, Stands}

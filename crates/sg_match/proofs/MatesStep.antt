@@ -8,7 +8,8 @@ use Rattle.sg_sums.proofs.ListLaws.{cases_option, some≢none}
 use Rattle.sg_arena.specs.Family.{Family, IsAlive, IsFamily, IsTop, cycle_of, link_at}
 use Rattle.sg_arena.specs.declared.Link.{Link}
 use Rattle.sg_match.proofs.AboveLemmas.{child_alive, from_above, one_parent}
-use Rattle.sg_match.proofs.NameLemmas.{Differ-append, place_of_name, short}
+use Rattle.sg_slack.proofs.DistinctLemmas.{short}
+use Rattle.sg_match.proofs.NameLemmas.{Differ-append, place_of_name}
 use Rattle.sg_match.proofs.NodeLemmas.{length-nodes, node_at_place}
 use Rattle.sg_match.proofs.RotateLemmas.{Differ-cycle, IsCycle-rotated, from_ring, length-rotated, to_ring}
 use Rattle.sg_match.specs.Pairs.{AllPaired, IsPaired, pair_of}

@@ -37,6 +37,19 @@ IsMarked-stands f root edges tops totals marks fam shape listed count stands =
           (subst (λ m. StandsAt root edges (get_or tops leaf 0) m) is (stands leaf low));
     }
 
+-- a leaf of an outer top is marked so
+pub mark-outer : (f : Family) (root : ℕ) (edges : List TreeEdge) (marks : List Mark) → IsFamily f → IsShape f root edges → IsMarked f root edges marks →
+    (u i : ℕ) → u < leaf_count f → i < length (outers root edges) → Holds f (get_or (outers root edges) i 0) u → mark_at marks u ≡ Outer
+mark-outer f root edges marks fam shape marked u i low within held = go (mark_at marks u) refl
+  where
+    go : (m : Mark) → mark_at marks u ≡ m → mark_at marks u ≡ Outer
+    go Outer e = e
+    go Free e = absurd ((marked.free u low e).0 i within held)
+    go Inner e = let at = marked.inner u low e in absurd
+        (shape.tops.apart i at.0 within at.1
+        (top-apart f fam (get_or (outers root edges) i 0) (get_or (inners edges) at.0 0) u (shape.tops.outer_tops i within)
+        (shape.tops.inner_tops at.0 at.1) held at.2))
+
 -- a raise may go as far as the nearest pair and the blossoms' duals let it
 pub CanChangeDuals-nearest : (f : Family) (cost : ℕ → ℕ → ℕ) (root : ℕ) (edges : List TreeEdge) (amount : ℕ) (event : Event) (delta : ℕ) →
     IsNearest f cost root edges amount event → delta ≤ amount →
@@ -79,15 +92,7 @@ module _ (f : Family) (table : Table) (root : ℕ) (edges : List TreeEdge) (tops
 
   -- the mark of a leaf whose top stands in the tree
   mark_outer : (u i : ℕ) → u < leaf_count f → i < length (outers root edges) → Holds f (get_or (outers root edges) i 0) u → mark_at marks u ≡ Outer
-  mark_outer u i low within held = go (mark_at marks u) refl
-    where
-      go : (m : Mark) → mark_at marks u ≡ m → mark_at marks u ≡ Outer
-      go Outer e = e
-      go Free e = absurd ((marked.free u low e).0 i within held)
-      go Inner e = let at = marked.inner u low e in absurd
-          (shape.tops.apart i at.0 within at.1
-          (top-apart f fam (get_or (outers root edges) i 0) (get_or (inners edges) at.0 0) u (shape.tops.outer_tops i within)
-          (shape.tops.inner_tops at.0 at.1) held at.2))
+  mark_outer = mark-outer f root edges marks fam shape marked
 
   mark_free : (v : ℕ) → v < leaf_count f → ((j : ℕ) → j < length (outers root edges) → Holds f (get_or (outers root edges) j 0) v → ⊥) →
       ((j : ℕ) → j < length (inners edges) → Holds f (get_or (inners edges) j 0) v → ⊥) → mark_at marks v ≡ Free

@@ -6,7 +6,7 @@ use Rattle.std.proofs.lemmas.List.{get_or-append_right, get_or-drop, get_or-take
 use Rattle.sg_arena.proofs.FamilyLemmas.{after_within, alive_from_holds, name_bound}
 use Rattle.sg_arena.specs.Family.{Family, Holds, IsChildAt, IsCycle, IsFamily, after_index, blank_link, cycle_of, link_at}
 use Rattle.sg_arena.specs.declared.Link.{Link}
-use Rattle.sg_match.proofs.NameLemmas.{short}
+use Rattle.sg_slack.proofs.DistinctLemmas.{short}
 use Rattle.sg_match.proofs.NodeLemmas.{length-nodes, node_at_place}
 use Rattle.sg_match.specs.Names.{Differ}
 use Rattle.sg_match.specs.Path.{nodes_of}

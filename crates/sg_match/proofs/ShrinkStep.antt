@@ -8,17 +8,20 @@ use Rattle.std.proofs.lemmas.List.{get_or-set_other, get_or-set_same, get_or_def
 use Rattle.std.proofs.Math.ListN.{length-set}
 use Rattle.sg_arena.proofs.FamilyLemmas.{leaf_bound, length-with_slot, name_bound, some_leaf, top-apart}
 use Rattle.sg_sums.proofs.ListLaws.{place_of_any}
-use Rattle.sg_arena.proofs.ShrunkFamily.{IsTop-shrink, IsTop-shrink_old, IsTop-shrink_other, in_new, new_holds}
+use Rattle.sg_arena.proofs.ShrunkFamily.{IsTop-shrink, IsTop-shrink_old, IsTop-shrink_other, in_new, new_holds, total-shrink}
 use Rattle.sg_arena.specs.Changes.{CanShrink, blossom_of, with_slot}
 use Rattle.sg_arena.specs.Family.{Family, Holds, IsFamily, IsTop, holds, link_at, node_at}
 use Rattle.sg_arena.specs.declared.Link.{Link}
 use Rattle.sg_match.proofs.EngineLemmas.{even, symmetric, tree_of}
+use Rattle.sg_match.proofs.MembersStep.{AreOuter-kept}
 use Rattle.sg_match.proofs.NodeLemmas.{node_in, place_in}
 use Rattle.sg_match.proofs.ShrinkTreeStep.{IsTree-shrunk, closed, inner_taken, moved, open_base}
 use Rattle.sg_match.proofs.ShrinkSetsStep.{CanShrink-tree_cycle, IsFeasible-shrunk, IsPaired-shrunk, path_head, top-not_dead}
 use Rattle.sg_match.proofs.StepsStep.{blossoms-shrunk, rest-one_fewer}
 use Rattle.sg_match.proofs.TreeLemmas.{pair_tight, inner_at, inner_top, length-inners, length-outers, outer_at, outer_cases, outer_pair, outer_top}
 use Rattle.sg_match.specs.Engine.{IsEngine}
+use Rattle.sg_match.specs.Members.{AreOuter}
+use Rattle.sg_slack.specs.Members.{Member}
 use Rattle.sg_match.specs.Exposed.{IsExposed, one_if}
 use Rattle.sg_pairing.specs.Metric.{cost}
 use Rattle.sg_match.specs.Pairs.{pair_of}
@@ -223,6 +226,20 @@ module _ (s : State) (root : ℕ) (engine : IsEngine s) (rooted : s.root ≡ Som
         abbrev after : State
         after = record { family = g; table = s.table; pairs = now; exposed = s.exposed; root = Some top_root; edges = new }
 
+        -- an outer leaf stays one
+        kept : (l : ℕ) → any_top f (outers root s.edges) l ≡ true → any_top g (outers top_root new) l ≡ true
+        kept l is =
+            let at = place_of_any (λ t. holds f t l) (outers root s.edges) 0 is in
+            let here = moved f price b cycle engine.feasible dead room tight
+            (even s engine) s.pairs engine.paired root s.edges tree place base tree_cycle names top_root root_base root_other new reg at.0 l at.1
+            at.2 in
+            list_any_at (λ t. holds g t l) (outers top_root new) here.0 0 here.1 here.2
+
+        pub known-shrunk : (h : Family) → h ≡ g → (members : List Member) → AreOuter f root s.edges members → AreOuter h top_root new members
+        known-shrunk h made members known =
+            subst (λ x. AreOuter x top_root new members) (sym made)
+            (AreOuter-kept f g root top_root s.edges new members known kept (total-shrink f b cycle fam can dead room))
+
         -- a leaf of an inner top of the cycle is an outer leaf now
         rest_falls : rest_of g top_root new + 1 ≤ rest_of f root s.edges
         rest_falls =
@@ -234,14 +251,6 @@ module _ (s : State) (root : ℕ) (engine : IsEngine s) (rooted : s.root ≡ Som
 
             leaf : (l : ℕ) × Holds f (edge_at s.edges edge_in.0).inner l
             leaf = some_leaf f fam (edge_at s.edges edge_in.0).inner inner_is_top.alive
-
-            kept : (l : ℕ) → any_top f (outers root s.edges) l ≡ true → any_top g (outers top_root new) l ≡ true
-            kept l is =
-                let at = place_of_any (λ t. holds f t l) (outers root s.edges) 0 is in
-                let here = moved f price b cycle engine.feasible dead room tight
-                (even s engine) s.pairs engine.paired root s.edges tree place base tree_cycle names top_root root_base root_other new reg at.0 l at.1
-                at.2 in
-                list_any_at (λ t. holds g t l) (outers top_root new) here.0 0 here.1 here.2
 
             gained : any_top g (outers top_root new) leaf.0 ≡ true
             gained =

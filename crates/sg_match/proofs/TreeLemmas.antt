@@ -5,7 +5,7 @@ use Rattle.std.proofs.lemmas.List.{get_or-map}
 use Rattle.std.proofs.Math.ListN.{length-map}
 use Rattle.sg_arena.proofs.FamilyLemmas.{leaf_bound, name_bound, top-apart}
 use Rattle.sg_arena.specs.Family.{Family, Holds, IsFamily, IsTop, leaf_count}
-use Rattle.sg_match.proofs.NameLemmas.{short}
+use Rattle.sg_slack.proofs.DistinctLemmas.{short}
 use Rattle.sg_match.proofs.PairLemmas.{mate_is}
 use Rattle.sg_pairing.specs.Tight.{IsTight}
 use Rattle.sg_match.specs.Pairs.{IsPaired, flipped, pair_of}

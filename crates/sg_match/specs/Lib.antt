@@ -21,5 +21,6 @@ pub mod Scans
 pub mod Rings
 pub mod InsertedEdges
 pub mod ExpandedTree
+pub mod Members
 pub mod Rooms
 pub mod MatePairs

@@ -1,4 +1,4 @@
-ghost use Rattle.std.specs.Prelude.{◌≡◌, ◌+◌, ◌≤◌, ◌≤ℤ◌, length, pos, vec_capacity};
+ghost use Rattle.std.specs.Prelude.{◌≡◌, ℕ, ◌+◌, ◌<◌, ◌≤◌, ◌≤ℤ◌, length, pos, vec_capacity};
 ghost use Rattle.sg_arena.specs.Changes.{CanRaise, raised};
 ghost use Rattle.sg_sums.specs.Naturals.{nat_of};
 ghost use Rattle.sg_arena.specs.Family.{leaf_count};
@@ -6,13 +6,16 @@ ghost use Rattle.sg_pairing.specs.Metric.{IsMetric, cost};
 ghost use Rattle.sg_match.specs.Nearest.{HasNearest, IsNearest};
 ghost use Rattle.sg_match.specs.Scans.{CanScan, IsScanned};
 ghost use Rattle.sg_match.specs.Tree.{inners, outers};
-ghost use Rattle.sg_slack.specs.Slack.{SumsFit};
+ghost use Rattle.sg_match.specs.Members.{AreMarked, AreOuter, IsJoined};
+ghost use Rattle.sg_slack.specs.Members.{Agree, IsMember};
+ghost use Rattle.sg_slack.specs.Slack.{mark_at, IsOuterFree, Least, SumsFit};
+ghost use Rattle.sg_slack.specs.declared.Mark.TheVariants.{Outer};
 
 use super::inner::{least_dual, least_inner_zero};
 use super::leaves::{list_leaves, list_tree};
 use super::{Engine, Event, TreeEdge};
 use sg_arena::Arena;
-use sg_slack::{Costs, Mark, least_outer_free, least_outer_outer};
+use sg_slack::{Costs, Mark, Near, Pair, least_outer_outer};
 use sg_steps::Steps;
 use std::sync::ledger::Ledger;
 
@@ -26,28 +29,63 @@ pub struct Change {
 // By how much the tree's duals may rise before the next slack is 0, and whose slack that is.
 pub fn nearest(
     arena: &Arena,
-    costs: &Costs,
+    near: &mut Near,
     root: usize,
     edges: &[TreeEdge],
     tops: &mut [usize],
     totals: &mut [i64],
     marks: &mut [Mark],
 ) -> Change
-    requires metric { IsMetric costs.now }
-    requires leaves { leaf_count arena.now ≡ costs.now.size }
-    requires stands { HasNearest arena.now (cost costs.now) root edges.now }
+    requires metric { IsMetric near.old.table }
+    requires leaves { leaf_count arena.now ≡ near.old.table.size }
+    requires stands { HasNearest arena.now (cost near.old.table) root edges.now }
+    requires members { AreOuter arena.now root edges.now near.old.members }
     requires tops { length tops.old ≡ leaf_count arena.now }
     requires totals { length totals.old ≡ leaf_count arena.now }
     requires marks { length marks.old ≡ leaf_count arena.now }
     ensures whole { result.amount ≡ pos (nat_of result.amount) }
-    ensures nearest { IsNearest arena.now (cost costs.now) root edges.now (nat_of result.amount) result.event }
+    ensures nearest { IsNearest arena.now (cost near.old.table) root edges.now (nat_of result.amount) result.event }
+    ensures table { near.new.table ≡ near.old.table }
+    ensures members { AreOuter arena.now root edges.now near.new.members }
 {
     list_leaves(arena, root, edges, tops, totals, marks);
-    scan(costs, totals, tops, marks)
+    add_outer(near, totals, marks);
+    let free = near.least(totals, tops, marks);
+    scan(near.costs(), free, totals, tops, marks)
 }
 
-// The same from tables of the leaves, by a look at all pairs.
-fn scan(costs: &Costs, totals: &[i64], tops: &[usize], marks: &[Mark]) -> Change
+// Adds the outer leaves that are no members yet.
+fn add_outer(near: &mut Near, totals: &[i64], marks: &[Mark])
+    requires totals { length totals.now ≡ near.old.table.size }
+    requires marks { length marks.now ≡ near.old.table.size }
+    requires outer { AreMarked near.old.members marks.now }
+    requires agree { Agree near.old.members totals.now }
+    ensures table { near.new.table ≡ near.old.table }
+    ensures outer { AreMarked near.new.members marks.now }
+    ensures agree { Agree near.new.members totals.now }
+    ensures every { (u : ℕ) → u < near.old.table.size → mark_at marks.now u ≡ Outer → IsMember near.new.members u }
+{
+    for leaf in 0..near.costs().size() {
+        join(near, leaf, totals[leaf as usize], marks[leaf as usize]);
+    }
+}
+
+// Adds a leaf if it is outer and no member yet.
+fn join(near: &mut Near, leaf: u32, total: i64, mark: Mark)
+    requires { leaf < near.old.table.size }
+    ensures table { near.new.table ≡ near.old.table }
+    ensures members { IsJoined near.old.members near.new.members leaf total mark }
+{
+    match mark {
+        Mark::Outer if !near.has(leaf) => near.add(leaf, total),
+        _ => {}
+    }
+}
+
+// The same from tables of the leaves and the least slack of an outer and a free one, by a look at all
+// pairs of outer leaves.
+fn scan(costs: &Costs, free: Option<Pair>, totals: &[i64], tops: &[usize], marks: &[Mark]) -> Change
+    requires free { Least costs.now totals.now (IsOuterFree costs.now marks.now) free }
     requires totals { length totals.now ≡ costs.now.size }
     requires tops { length tops.now ≡ costs.now.size }
     requires marks { length marks.now ≡ costs.now.size }
@@ -56,9 +94,7 @@ fn scan(costs: &Costs, totals: &[i64], tops: &[usize], marks: &[Mark]) -> Change
     ensures whole { result.amount ≡ pos (nat_of result.amount) }
     ensures scanned { IsScanned costs.now tops.now totals.now marks.now (nat_of result.amount) result.event }
 {
-    let Some(free) = least_outer_free(costs, totals, tops, marks) else {
-        unreachable!()
-    };
+    let Some(free) = free else { unreachable!() };
     let away = Change {
         amount: free.slack,
         event: Event::OuterFree {
@@ -121,7 +157,7 @@ impl Engine {
     {
         let near = nearest(
             &self.arena,
-            &self.costs,
+            &mut self.near,
             root,
             &self.edges,
             &mut self.tops,
@@ -138,6 +174,7 @@ impl Engine {
             delta,
             steps,
         );
+        self.near.shift(delta);
         match least_inner_zero(&self.arena, &self.edges) {
             Some(node) => Event::InnerZero { node },
             None => near.event,

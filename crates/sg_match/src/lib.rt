@@ -48,7 +48,7 @@ mod start;
 
 use sg_arena::{Arena, Link};
 use sg_list::Numbers;
-use sg_slack::{Costs, Mark};
+use sg_slack::{Mark, Near};
 use std::alloc::{AllocError, Global};
 use std::marker::Model;
 
@@ -113,7 +113,8 @@ pub struct Matched {
 /// number of leaves. It takes all memory when it is opened.
 #[derive(Drop)]
 pub struct Engine {
-    costs: Costs,
+    // The costs, and the outer leaves that the rounds so far have seen.
+    near: Near,
     arena: Arena,
     // By name: from a leaf of the top to a leaf of the top with which it is paired.
     pairs: Vec<Option<Edge>>,
@@ -142,9 +143,9 @@ impl Model for Engine {
 
     ghost use Rattle.sg_match.specs.Engine.{IsEngine};
 
-    ghost view = { λ e. record { family = e.arena; table = e.costs; pairs = e.pairs.items; exposed = e.exposed.items; root = e.root; edges = e.edges.items } };
+    ghost view = { λ e. record { family = e.arena; table = e.near.table; pairs = e.pairs.items; exposed = e.exposed.items; root = e.root; edges = e.edges.items } };
 
     ghost use Rattle.sg_match.specs.Rooms.{IsRoomy};
 
-    ghost invariant = { λ e. IsEngine (record { family = e.arena; table = e.costs; pairs = e.pairs.items; exposed = e.exposed.items; root = e.root; edges = e.edges.items }) × IsRoomy e };
+    ghost invariant = { λ e. IsEngine (record { family = e.arena; table = e.near.table; pairs = e.pairs.items; exposed = e.exposed.items; root = e.root; edges = e.edges.items }) × IsRoomy e };
 }

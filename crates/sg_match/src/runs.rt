@@ -4,7 +4,7 @@ ghost use Rattle.sg_arena.specs.Family.{leaf_count};
 use super::mates::derive_mates;
 use super::{Edge, Engine, Matched, Mates, NoMemory, Stage};
 use sg_arena::Arena;
-use sg_slack::{Costs, Mark};
+use sg_slack::{Costs, Mark, Near};
 use sg_steps::Steps;
 use std::alloc::Global;
 use std::sync::ledger::Ledger;
@@ -50,7 +50,8 @@ impl Engine {
         ensures engine { IfOk result IsEngine }
         ensures left { IfOk result (λ e. steps_left e + costs.size ≡ 2 * costs.size * costs.size) }
     {
-        let k = costs.size();
+        let near = Near::open(alloc, costs)?;
+        let k = near.costs().size();
         let count = k as usize;
         let arena = Arena::open(alloc, k)?;
         let room = arena.room();
@@ -66,7 +67,7 @@ impl Engine {
         let ring = Vec::with_capacity(alloc, 2 * room + 1)?;
         let mates = vec![in alloc; 0u32; count]?;
         Ok(Engine {
-            costs,
+            near,
             arena,
             pairs,
             exposed,

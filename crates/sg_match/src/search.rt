@@ -78,6 +78,7 @@ impl Engine {
     {
         match self.exposed.pop() {
             Some(root) => {
+                self.near.clear();
                 self.root = Some(root);
                 Some(root)
             }

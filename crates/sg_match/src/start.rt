@@ -87,16 +87,17 @@ impl Engine {
         ensures left { steps_left self.new ≡ steps_left self.old }
         ensures counted { steps.new ≤ steps.old + 1 }
     {
+        self.near.clear();
         let near = nearest(
             &self.arena,
-            &self.costs,
+            &mut self.near,
             root,
             &self.edges,
             &mut self.tops,
             &mut self.totals,
             &mut self.marks,
         );
-        let delta = lesser(near.amount, half_of(&self.costs, near.event));
+        let delta = lesser(near.amount, half_of(self.near.costs(), near.event));
         raise_tree(
             &mut self.arena,
             root,

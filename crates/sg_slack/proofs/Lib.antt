@@ -1,2 +1,4 @@
+pub mod DistinctLemmas
+pub mod NearLemmas
 pub mod ScanLemmas
 pub mod TableLemmas

@@ -11,13 +11,17 @@
 //! For the next engineer: the clause that matters is `Least` of `specs/Slack.antt`: a pair of least
 //! slack among those meant, and none exactly where there is none. Which of several such pairs is
 //! given is free. A table is seen by its entries, `cost_of` of `specs/Table.antt`. Both scans go
-//! over all pairs and take no memory.
+//! over all pairs and take no memory. A `Near` is seen as its costs and the list of its members with
+//! their totals (`Known` of `specs/Members.antt`); what it keeps is `IsNear` of `specs/Kept.antt`.
 #![tactic(auto)]
 
 ghost use Rattle.std.specs.Prelude.{◌≡◌, ◌≢◌, ◌↔◌, ◌<◌, IsTrue, Some, false, length};
 ghost use Rattle.sg_slack.specs.Slack.{mark_at, slack_of, IsOuterFree, IsOuterOuter, Least, SumsFit};
 ghost use Rattle.sg_slack.specs.Scan.{IsNearer, IsOuterFreeOf, IsOuterOuterOf};
 
+mod near;
+
+pub use near::Near;
 use std::alloc::{AllocError, Global};
 use std::marker::Model;
 

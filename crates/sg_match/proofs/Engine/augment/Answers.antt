@@ -1,6 +1,7 @@
 -- `augment`: the pairs are flipped, and no tree stands.
 use Rattle.std.proofs.Common.{rules, ◌<◌, List, None, length, sym, subst, ℕ, ◌∙◌}
 use Rattle.std.proofs.lemmas.List.{with_items_is}
+use Rattle.std.proofs.lemmas.Option.{none-some}
 use Rattle.std.specs.Vec.{with_items}
 use Rattle.sg_match.proofs.Engine.augment.Goals as goal
 use Rattle.sg_match.proofs.GrowOrAugmentStep.{IsAfter, IsEngine-augmented, edge_tops, root_top, with_tree}
@@ -17,7 +18,7 @@ augment_path-requires-clause-edges c =
     (edge_tops _ _ _ _ _ _ c.self.invariant.0 _ c.self.view_is _ _ _ _ c.requires.tight_edge)
 
 after : (c : goal.After-clear) →
-    IsAfter (with_tree c.self.inside.arena c.self.inside.costs (with_items c.self.inside.pairs c.augment_path.new.pairs).items c.take_name.new.names.items
+    IsAfter (with_tree c.self.inside.arena c.self.inside.near.table (with_items c.self.inside.pairs c.augment_path.new.pairs).items c.take_name.new.names.items
     None c.clear.new.self.items) c.args.self.now
 after c =
     IsEngine-augmented _ _ _ _ _ _ c.self.invariant.0 _ c.self.view_is _ _ _ _ c.requires.tight_edge c.requires.unpaired _ _ _ _ _ _
@@ -29,7 +30,22 @@ after c =
     c.take_name.ensures.taken
 
 pub invariant_of-self : goal.invariant_of-self
-invariant_of-self c = ((after c).0, search rules)
+invariant_of-self c = (
+  (after c).0,
+  record {
+    edges = search rules;
+    exposed = search rules;
+    outer = search rules;
+    inner = search rules;
+    cycle = search rules;
+    ring = search rules;
+    tops = search rules;
+    totals = search rules;
+    marks = search rules;
+    mates = search rules;
+    known = λ r some. absurd (none-some r some);
+  },
+)
 
 pub returns-clause-engine : goal.returns-clause-engine
 returns-clause-engine c = (after c).0

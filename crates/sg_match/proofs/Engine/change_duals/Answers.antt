@@ -8,11 +8,16 @@ use Rattle.sg_sums.specs.Naturals.{nat_of}
 use Rattle.sg_arena.specs.Family.{Family, IsAlive, leaf_count}
 use Rattle.sg_match.proofs.Engine.change_duals.Given.{Over}
 use Rattle.sg_match.proofs.Engine.change_duals.Goals as goal
-use Rattle.sg_match.proofs.Engine.change_duals.Goals.{After-least_dual-delta, After-raise_tree, After-self, in-Some, in-None}
+use Rattle.sg_match.proofs.Engine.change_duals.Goals.{After-least_dual-delta, After-raise_tree, After-self, After-shift, in-Some, in-None}
 use Rattle.sg_match.proofs.DualChangeStep.{HasNearest-engine, IsNext-changed, IsChangingDuals, IsChangingDuals-made, after, change, left-raised, changed_can}
 use Rattle.sg_match.proofs.DualChangeStep.{changed_engine}
 use Rattle.sg_match.proofs.EngineLemmas.{inner_alive, state_of, tree_of}
 use Rattle.sg_match.proofs.TreeLemmas.{edge_room}
+use Rattle.sg_match.proofs.MembersStep.{AreOuter-raised, TotalsFit-raised}
+use Rattle.sg_match.specs.Members.{AreOuter}
+use Rattle.sg_slack.specs.Members.{TotalsFit, grown}
+use Rattle.sg_slack.specs.Table.{Table}
+use Rattle.std.proofs.lemmas.Option.{same_Some}
 use Rattle.sg_match.specs.InnerZeros.{IsInnerZero, IsLeastInnerZero}
 use Rattle.sg_match.specs.Engine.{IsEngine}
 use Rattle.sg_match.specs.Events.{IsNext}
@@ -24,9 +29,9 @@ use Rattle.sg_match.specs.Tree.{inners, edge_at, outers}
 use Rattle.sg_match.specs.declared.Engine.TheInside.{Inside}
 use Rattle.sg_match.specs.declared.TreeEdge.{TreeEdge}
 
--- what contracts see of an engine with this family
-abbrev seen : Inside → Family → State
-seen e f = record { family = f; table = e.costs; pairs = e.pairs.items; exposed = e.exposed.items; root = e.root; edges = e.edges.items }
+-- what contracts see of an engine with this family and these costs
+abbrev seen : Inside → Family → Table → State
+seen e f t = record { family = f; table = t; pairs = e.pairs.items; exposed = e.exposed.items; root = e.root; edges = e.edges.items }
 
 rooted : (g : Over) (c : After-self g) → c.self.inside.root ≡ Some c.args.root
 rooted g c = ap (λ (x : State). x.root) c.self.view_is ∙ c.requires.root
@@ -45,7 +50,7 @@ changing g c =
     c.nearest-near.ensures.whole (to_z-of_z w64 amount (search rules)) (to_z-of_z w64 delta (search rules)) c.nearest-near.ensures.nearest
     (record { within = c.least_dual-delta.ensures.most; duals = c.least_dual-delta.ensures.duals; one = c.least_dual-delta.ensures.one })
 
-made : (g : Over) (c : After-raise_tree g) → c.raise_tree.new.arena ≡ raised c.self.inside.arena (outers c.args.root c.self.inside.edges.items)
+made : (g : Over) (c : After-shift g) → c.raise_tree.new.arena ≡ raised c.self.inside.arena (outers c.args.root c.self.inside.edges.items)
     (inners c.self.inside.edges.items) (nat_of (given c.least_dual-delta.result))
 made g c = c.raise_tree.ensures.raised ∙
     ap (λ xs. raised c.self.inside.arena (outers c.args.root xs) (inners xs) (nat_of (given c.least_dual-delta.result))) c.deref-3.ensures.value
@@ -88,24 +93,65 @@ least_inner_zero-requires g c =
     let s = state_of c.self.inside in
     let p = changing g (goal.at.least_inner_zero-requires g c).After-least_dual-delta in
     subst (λ (xs : List TreeEdge). (i : ℕ) → i < length xs → IsAlive c.raise_tree.new.arena (edge_at xs i).inner) (sym c.deref-4.ensures.value)
-    (subst (λ a. (i : ℕ) → i < length s.edges → IsAlive a (edge_at s.edges i).inner) (sym (made g (goal.at.least_inner_zero-requires g c).After-raise_tree))
+    (subst (λ a. (i : ℕ) → i < length s.edges → IsAlive a (edge_at s.edges i).inner) (sym (made g (goal.at.least_inner_zero-requires g c).After-shift))
     (inner_alive (after s c.args.root (nat_of (given c.least_dual-delta.result)) p.engine p.rooted (change p)) (changed_engine p) c.args.root p.rooted))
 
-engine_now : (g : Over) (c : After-raise_tree g) →
+same_table : (g : Over) (c : After-shift g) → c.shift.new.self.table ≡ c.self.inside.near.table
+same_table g c = c.shift.ensures.table ∙ c.nearest-near.ensures.table
+
+engine_now : (g : Over) (c : After-shift g) →
     IsChangingDuals (state_of c.self.inside) c.args.root c.nearest-near.result.event c.nearest-near.result.amount (given c.least_dual-delta.result) →
-    IsEngine (seen c.self.inside c.raise_tree.new.arena)
-engine_now g c p = subst (λ a. IsEngine (seen c.self.inside a)) (sym (made g c)) (changed_engine p)
+    IsEngine (seen c.self.inside c.raise_tree.new.arena c.shift.new.self.table)
+engine_now g c p =
+    subst (λ t. IsEngine (seen c.self.inside c.raise_tree.new.arena t)) (sym (same_table g c))
+    (subst (λ a. IsEngine (seen c.self.inside a c.self.inside.near.table)) (sym (made g c)) (changed_engine p))
+
+-- the outer leaves that are known before the raise
+known_before : (g : Over) (c : After-raise_tree g) → AreOuter c.self.inside.arena c.args.root c.self.inside.edges.items c.nearest-near.new.near.members
+known_before g c =
+    subst (λ xs. AreOuter c.self.inside.arena c.args.root xs c.nearest-near.new.near.members) c.deref.ensures.value c.nearest-near.ensures.members
+
+pub nearest-near-requires-clause-members : goal.nearest-near-requires-clause-members
+nearest-near-requires-clause-members g c =
+    subst (λ xs. AreOuter c.self.inside.arena c.args.root xs c.self.inside.near.members) (sym c.deref.ensures.value)
+    (c.self.invariant.1.known c.args.root (rooted g (goal.at.nearest-near-requires-clause-members g c).After-self))
+
+pub shift-requires-clause-whole : goal.shift-requires-clause-whole
+shift-requires-clause-whole g c = let p = changing g (goal.at.shift-requires-clause-whole g c).After-least_dual-delta in omega (arith, ints, p.whole)
+
+pub shift-requires-clause-fits : goal.shift-requires-clause-fits
+shift-requires-clause-fits g c =
+    let s = state_of c.self.inside in
+    let at = goal.at.shift-requires-clause-fits g c in
+    let p = changing g at.After-least_dual-delta in
+    subst (λ z. TotalsFit z c.nearest-near.new.near.members) (sym p.whole)
+    (TotalsFit-raised s.family (cost s.table) c.args.root s.edges (nat_of (given c.least_dual-delta.result)) p.engine.feasible.family (changed_can p)
+    c.nearest-near.new.near.members (known_before g at.After-raise_tree))
+
+known_after : (g : Over) (c : After-shift g) →
+    IsChangingDuals (state_of c.self.inside) c.args.root c.nearest-near.result.event c.nearest-near.result.amount (given c.least_dual-delta.result) →
+    AreOuter c.self.inside.arena c.args.root c.self.inside.edges.items c.nearest-near.new.near.members →
+    AreOuter c.raise_tree.new.arena c.args.root c.self.inside.edges.items c.shift.new.self.members
+known_after g c p known =
+    let s = state_of c.self.inside in
+    let delta = given c.least_dual-delta.result in
+    let members = c.nearest-near.new.near.members in
+    let raised_known = AreOuter-raised s.family (cost s.table) c.args.root s.edges (nat_of delta) p.engine.feasible.family (changed_can p) members known in
+    subst (λ a. AreOuter a c.args.root s.edges c.shift.new.self.members) (sym (made g c))
+    (subst (λ ms. AreOuter (raised s.family (outers c.args.root s.edges) (inners s.edges) (nat_of delta)) c.args.root s.edges ms)
+    (sym (c.shift.ensures.members ∙ ap (λ z. grown z members) p.whole)) raised_known)
 
 pub invariant_of-self : goal.invariant_of-self
 invariant_of-self g c =
     let e = c.self.inside in
     let at = goal.at.invariant_of-self g c in
-    let is = made g at.After-raise_tree in
+    let is = made g at.After-shift in
+    let p = changing g at.After-least_dual-delta in
     let room = c.self.invariant.1 in
     let names : length c.raise_tree.new.arena.nodes ≡ length e.arena.nodes = ap (λ a. length a.nodes) is ∙
     length-raised e.arena (outers c.args.root e.edges.items) (inners e.edges.items) (nat_of (given c.least_dual-delta.result)) in
     let leaves : length c.raise_tree.new.arena.leaf_nodes ≡ length e.arena.leaf_nodes = ap (λ a. length a.leaf_nodes) is in (
-      engine_now g at.After-raise_tree (changing g at.After-least_dual-delta),
+      engine_now g at.After-shift p,
       record {
         edges = omega (arith, room.edges, names);
         exposed = omega (arith, room.exposed, names);
@@ -117,6 +163,9 @@ invariant_of-self g c =
         totals = sym (with_items e.totals c.nearest-near.new.totals).ok.0 ∙ e.totals.ok.0 ∙ room.totals ∙ sym leaves;
         marks = sym (with_items e.marks c.nearest-near.new.marks).ok.0 ∙ e.marks.ok.0 ∙ room.marks ∙ sym leaves;
         mates = room.mates ∙ sym leaves;
+        known = λ r some.
+            subst (λ x. AreOuter c.raise_tree.new.arena x e.edges.items c.shift.new.self.members)
+            (same_Some c.args.root r (sym (rooted g at.After-self) ∙ some)) (known_after g at.After-shift p (known_before g at.After-raise_tree));
       },
     )
 
@@ -124,8 +173,8 @@ pub returns-clause-keeps : goal.returns-clause-keeps
 returns-clause-keeps g c =
     let was = c.self.view_is in
     record {
-      leaves = ap (λ a. leaf_count a) (made g (goal.at.returns-clause-keeps g c).After-raise_tree) ∙ ap (λ x. leaf_count x.family) was;
-      table = ap (λ x. x.table) was;
+      leaves = ap (λ a. leaf_count a) (made g (goal.at.returns-clause-keeps g c).After-shift) ∙ ap (λ x. leaf_count x.family) was;
+      table = same_table g (goal.at.returns-clause-keeps g c).After-shift ∙ ap (λ x. x.table) was;
       pairs = ap (λ x. x.pairs) was;
       exposed = ap (λ x. x.exposed) was;
       root = ap (λ x. x.root) was;
@@ -133,13 +182,13 @@ returns-clause-keeps g c =
     }
 
 pub returns-clause-engine : goal.returns-clause-engine
-returns-clause-engine g c = let at = goal.at.returns-clause-engine g c in engine_now g at.After-raise_tree (changing g at.After-least_dual-delta)
+returns-clause-engine g c = let at = goal.at.returns-clause-engine g c in engine_now g at.After-shift (changing g at.After-least_dual-delta)
 
 pub returns-clause-left : goal.returns-clause-left
 returns-clause-left g c =
     let at = goal.at.returns-clause-left g c in
     let p = changing g at.After-least_dual-delta in
-    ap (λ a. steps_left (seen c.self.inside a)) (made g at.After-raise_tree) ∙ left-raised (state_of c.self.inside) c.args.root
+    ap (λ a. steps_left (seen c.self.inside a c.shift.new.self.table)) (made g at.After-shift) ∙ left-raised (state_of c.self.inside) c.args.root
     (nat_of (given c.least_dual-delta.result)) p.engine p.rooted (change p) ∙ ap steps_left c.self.view_is
 
 pub returns-clause-next : goal.returns-clause-next
@@ -147,17 +196,19 @@ returns-clause-next g c =
     let e = c.self.inside in
     let at = goal.at.returns-clause-next g c in
     let p = changing g at.After-least_dual-delta in
-    let is = made g at.After-raise_tree in
+    let is = made g at.After-shift in
     let edges = e.edges.items in
+    let costs = c.shift.new.self.table in
     elim c.match-least_inner_zero.branch [
       | in-Some w ↦
-          subst (λ x. IsNext (seen e c.raise_tree.new.arena) c.args.root x) (sym w.result-is)
+          subst (λ x. IsNext (seen e c.raise_tree.new.arena costs) c.args.root x) (sym w.result-is)
           (subst (λ xs. IsLeastInnerZero c.raise_tree.new.arena xs w.in-Some.node) c.deref-4.ensures.value w.in-Some.ensures.some)
       | in-None w ↦
           let none = subst (λ a. (node : ℕ) → IsInnerZero a edges node → ⊥) is
           (subst (λ xs. (node : ℕ) → IsInnerZero c.raise_tree.new.arena xs node → ⊥) c.deref-4.ensures.value w.in-None.ensures.none) in
-          subst (λ x. IsNext (seen e c.raise_tree.new.arena) c.args.root x) (sym w.result-is)
-          (subst (λ a. IsNext (seen e a) c.args.root c.nearest-near.result.event) (sym is)
+          subst (λ x. IsNext (seen e c.raise_tree.new.arena costs) c.args.root x) (sym w.result-is)
+          (subst (λ t. IsNext (seen e c.raise_tree.new.arena t) c.args.root c.nearest-near.result.event) (sym (same_table g at.After-shift))
+          (subst (λ a. IsNext (seen e a e.near.table) c.args.root c.nearest-near.result.event) (sym is)
           (IsNext-changed (state_of e) c.args.root p.engine p.rooted c.nearest-near.result.event (nat_of c.nearest-near.result.amount)
-          (nat_of (given c.least_dual-delta.result)) p.changed none))
+          (nat_of (given c.least_dual-delta.result)) p.changed none)))
     ]

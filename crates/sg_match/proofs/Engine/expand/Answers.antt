@@ -1,5 +1,5 @@
 -- `expand`: a ring is listed, expanded, paired and grown into the tree.
-use Rattle.std.proofs.Common.{None, ◌≡◌, ◌+◌, ◌*◌, ◌≤◌, length, Contains, sym, ap, ◌∙◌, subst, arith}
+use Rattle.std.proofs.Common.{None, Some, List, ℕ, ◌≡◌, ◌+◌, ◌*◌, ◌≤◌, length, Contains, sym, ap, ◌∙◌, subst, arith}
 use Rattle.std.proofs.lemmas.List.{with_items_is}
 use Rattle.std.specs.Vec.{with_items}
 use Rattle.sg_arena.proofs.FamilyLemmas.{length-with_slot}
@@ -13,6 +13,8 @@ use Rattle.sg_match.proofs.ExpandLemmas.{IsCut, IsEngine-after, IsFound, blossom
 use Rattle.sg_match.proofs.ExpandLemmas.{ring_fits, ring_has, ring_is, ring_named}
 use Rattle.sg_match.specs.InnerZeros.{IsInnerZero}
 use Rattle.sg_match.specs.Engine.{IsEngine}
+use Rattle.sg_match.specs.Members.{AreOuter}
+use Rattle.sg_slack.specs.Members.{Member}
 use Rattle.sg_pairing.specs.Metric.{cost}
 use Rattle.sg_match.specs.Path.{nodes_of}
 use Rattle.sg_match.specs.State.{State}
@@ -39,7 +41,7 @@ ring_cut g c is = cut (state_of c.self.inside) c.args.node c.place_of_inner-at.r
 abbrev last : (g : Over) (c : After-expand_edge g) → State
 last g c = record {
   family = c.expand.new.self;
-  table = c.self.inside.costs;
+  table = c.self.inside.near.table;
   pairs = (with_items c.self.inside.pairs c.pair_ring.new.pairs).items;
   exposed =
       c.self.inside.exposed.items;
@@ -49,7 +51,9 @@ last g c = record {
 
 expanding : (g : Over) (c : After-expand_edge g) →
     IsCut (state_of c.self.inside) c.args.node c.place_of_inner-at.result c.index-tree_edge.result.now c.turn_to_odd-entry.new.ring.items
-    c.turn_to_odd-entry.result → IsEngine (last g c) × (steps_left (last g c) + 2 ≤ steps_left (state_of c.self.inside))
+    c.turn_to_odd-entry.result → IsEngine (last g c) × (steps_left (last g c) + 2 ≤ steps_left (state_of c.self.inside)) ×
+    ((members : List Member) (r : ℕ) → c.self.inside.root ≡ Some r → AreOuter c.self.inside.arena r c.self.inside.edges.items members →
+    AreOuter c.expand.new.self r c.expand_edge.new.edges.items members)
 expanding g c expand =
     let stored = with_items_is c.self.inside.pairs c.pair_ring.new.pairs (c.pair_ring.ensures.length ∙ c.deref_mut.ensures.len) in
     IsEngine-after expand c.deref-3.result.now c.deref-4.result.now c.deref_mut.result.now c.pair_ring.new.pairs
@@ -77,7 +81,7 @@ place_of-place-requires g c =
     c.list_ring.ensures.items c.child-end.result c.child-end.ensures.child)
 
 listed : (g : Over) (c : After-list_ring g) → IsFound (state_of c.self.inside) c.args.node c.place_of_inner-at.result c.index-tree_edge.result.now →
-    IsRing c.self.inside.arena (cost c.self.inside.costs) c.args.node c.list_ring.new.ring.items
+    IsRing c.self.inside.arena (cost c.self.inside.near.table) c.args.node c.list_ring.new.ring.items
 listed g c is = ring_is (state_of c.self.inside) c.args.node is.engine is.inner_zero c.child-base.result c.child-base.ensures.child
     c.list_ring.new.ring.items c.list_ring.ensures.items
 
@@ -144,6 +148,7 @@ invariant_of-self g c =
         totals = roomy.totals ∙ leaves;
         marks = roomy.marks ∙ leaves;
         mates = roomy.mates ∙ leaves;
+        known = λ r some. after.2 e.near.members r some (roomy.known r some);
       },
     )
 

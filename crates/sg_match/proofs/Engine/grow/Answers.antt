@@ -2,6 +2,8 @@
 use Rattle.std.proofs.Common.{rules, List, sym, subst}
 use Rattle.sg_match.proofs.Engine.grow.Goals as goal
 use Rattle.sg_match.proofs.GrowOrAugmentStep.{IsAfter, pair_leaf, grown, edge_fits, with_tree}
+use Rattle.sg_match.proofs.MembersStep.{AreOuter-grown}
+use Rattle.sg_match.specs.Members.{AreOuter}
 use Rattle.sg_match.specs.declared.TreeEdge.{TreeEdge}
 
 pub top-outer-requires : goal.top-outer-requires
@@ -14,17 +16,36 @@ push_reserved-requires c =
     search rules
 
 after : (c : goal.After-push_reserved) →
-    IsAfter (with_tree c.self.inside.arena c.self.inside.costs c.self.inside.pairs.items c.self.inside.exposed.items c.self.inside.root
+    IsAfter (with_tree c.self.inside.arena c.self.inside.near.table c.self.inside.pairs.items c.self.inside.exposed.items c.self.inside.root
     c.push_reserved.new.self.items) c.args.self.now
 after c =
     subst (λ (xs : List TreeEdge). IsAfter
-    (with_tree c.self.inside.arena c.self.inside.costs c.self.inside.pairs.items c.self.inside.exposed.items c.self.inside.root xs) c.args.self.now)
+    (with_tree c.self.inside.arena c.self.inside.near.table c.self.inside.pairs.items c.self.inside.exposed.items c.self.inside.root xs) c.args.self.now)
     (sym c.push_reserved.ensures.items)
     (grown _ _ _ _ _ _ c.self.invariant.0 _ c.self.view_is _ _ _ _ c.requires.tight_edge _ c.requires.pair c.top-outer.result c.top-outer.ensures.top
     c.top-outer.ensures.holds)
 
 pub invariant_of-self : goal.invariant_of-self
-invariant_of-self c = ((after c).0, search rules)
+invariant_of-self c = (
+  (after c).0,
+  record {
+    edges = search rules;
+    exposed = search rules;
+    outer = search rules;
+    inner = search rules;
+    cycle = search rules;
+    ring = search rules;
+    tops = search rules;
+    totals = search rules;
+    marks = search rules;
+    mates = search rules;
+    known = λ r some.
+        subst (λ (xs : List TreeEdge). AreOuter c.self.inside.arena r xs c.self.inside.near.members) (sym c.push_reserved.ensures.items)
+        (AreOuter-grown c.self.inside.arena r c.self.inside.edges.items
+        (record { inner = c.args.top; outer = c.top-outer.result; up = record { from = c.args.v; to = c.args.u }; pair = c.args.pair })
+        c.self.inside.near.members (c.self.invariant.1.known r some));
+  },
+)
 
 pub returns-clause-engine : goal.returns-clause-engine
 returns-clause-engine c = (after c).0

@@ -1,10 +1,14 @@
 -- `open`: leaves alone, and room for all lists.
-use Rattle.std.proofs.Common.{◌≡◌, ℕ, length, get_or, None, sym, ap, ◌∙◌, arith, subst, replicate, Option, zero, suc, refl}
+use Rattle.std.proofs.Common.{◌≡◌, ℕ, ◌+◌, ◌*◌, length, get_or, None, sym, ap, ◌∙◌, arith, subst, replicate, Option, zero, suc, refl}
 use Rattle.sg_match.specs.declared.Edge.{Edge}
 use Rattle.std.proofs.lemmas.List.{length-replicate}
 use Rattle.sg_match.proofs.Engine.open.Goals as goal
 use Rattle.sg_match.proofs.OpeningLemmas.{IsEngine-opened, steps_left-opened}
 use Rattle.sg_match.specs.Pairs.{pair_of}
+use Rattle.sg_match.specs.Steps.{steps_left}
+use Rattle.sg_pairing.specs.Metric.{IsMetric}
+use Rattle.sg_slack.specs.Table.{Table}
+use Rattle.std.proofs.lemmas.Option.{none-some}
 
 always : (k n : ℕ) → get_or (replicate {A = Option Edge} k None) n None ≡ None
 always zero n = refl
@@ -17,13 +21,16 @@ free_of c n = subst (λ xs. get_or xs n None ≡ None) (sym c.in_ok-pairs.ensure
 room_of : (c : goal.In_ok-mates) → length c.in_ok-pairs.pairs.items ≡ length c.in_ok-arena.arena.nodes
 room_of c = omega (arith, ap length c.in_ok-pairs.ensures, length-replicate {A = Option Edge} c.room-room.result None, c.room-room.ensures.value)
 
-size_of : (c : goal.In_ok-mates) → length c.in_ok-arena.arena.leaf_nodes ≡ c.args.costs.size
-size_of c = c.in_ok-arena.ensures.leaves ∙ c.size-k.ensures.value
+size_of : (c : goal.In_ok-mates) → length c.in_ok-arena.arena.leaf_nodes ≡ c.in_ok-near.near.table.size
+size_of c = c.in_ok-arena.ensures.leaves ∙ c.size-k.ensures.value ∙ ap (λ (t : Table). t.size) c.costs.ensures
+
+metric_of : (c : goal.In_ok-mates) → IsMetric c.in_ok-near.near.table
+metric_of c = subst (λ t. IsMetric t) (sym c.in_ok-near.ensures.table) c.requires
 
 pub invariant_of-result : goal.invariant_of-result
 invariant_of-result c =
     let arena = c.in_ok-arena.arena in (
-      IsEngine-opened arena c.in_ok-arena.ensures.alone c.args.costs c.requires (size_of c) c.in_ok-pairs.pairs.items (room_of c)
+      IsEngine-opened arena c.in_ok-arena.ensures.alone c.in_ok-near.near.table (metric_of c) (size_of c) c.in_ok-pairs.pairs.items (room_of c)
           (free_of c) c.in_ok-exposed.exposed.items c.in_ok-edges.edges.items c.in_ok-exposed.ensures.items c.in_ok-edges.ensures.items,
       record {
         edges = omega (arith, c.in_ok-edges.ensures.capacity, c.room-room.ensures.value);
@@ -36,6 +43,7 @@ invariant_of-result c =
         totals = omega (arith, c.in_ok-totals.ensures.len, c.in_ok-arena.ensures.leaves);
         marks = omega (arith, c.in_ok-marks.ensures.len, c.in_ok-arena.ensures.leaves);
         mates = omega (arith, c.in_ok-mates.ensures.len, c.in_ok-arena.ensures.leaves);
+        known = λ r some. absurd (none-some r some);
       },
     )
 
@@ -44,5 +52,14 @@ returns-clause-engine c = (invariant_of-result c).0
 
 pub returns-clause-left : goal.returns-clause-left
 returns-clause-left c =
-    steps_left-opened c.in_ok-arena.arena c.in_ok-arena.ensures.alone c.args.costs c.requires (size_of c) c.in_ok-pairs.pairs.items (room_of c)
-    (free_of c) c.in_ok-exposed.exposed.items c.in_ok-edges.edges.items c.in_ok-exposed.ensures.items c.in_ok-edges.ensures.items
+    let same = ap (λ (t : Table). t.size) c.in_ok-near.ensures.table in
+    let left = steps_left-opened c.in_ok-arena.arena c.in_ok-arena.ensures.alone c.in_ok-near.near.table (metric_of c) (size_of c) c.in_ok-pairs.pairs.items
+    (room_of c) (free_of c) c.in_ok-exposed.exposed.items c.in_ok-edges.edges.items c.in_ok-exposed.ensures.items c.in_ok-edges.ensures.items in
+    subst (λ k. steps_left (record {
+      family = c.in_ok-arena.arena;
+      table = c.in_ok-near.near.table;
+      pairs = c.in_ok-pairs.pairs.items;
+      exposed = c.in_ok-exposed.exposed.items;
+      root = None;
+      edges = c.in_ok-edges.edges.items;
+    }) + k ≡ 2 * k * k) same left

@@ -19,11 +19,14 @@ use Rattle.sg_match.specs.Steps.{steps_left}
 use Rattle.sg_match.specs.Tree.{inners, outers}
 use Rattle.sg_match.specs.declared.Engine.TheInside.{Inside}
 use Rattle.sg_match.specs.declared.TreeEdge.{TreeEdge}
-use Rattle.sg_pairing.specs.Metric.{cost}
+use Rattle.sg_pairing.specs.Metric.{IsMetric, cost}
+use Rattle.sg_match.proofs.MembersStep.{AreOuter-none}
+use Rattle.sg_slack.specs.Table.{Table}
+use Rattle.std.proofs.lemmas.Option.{none-some}
 
--- what contracts see of an engine with this family
-abbrev seen : Inside → Family → State
-seen e f = record { family = f; table = e.costs; pairs = e.pairs.items; exposed = e.exposed.items; root = e.root; edges = e.edges.items }
+-- what contracts see of an engine with this family and these costs
+abbrev seen : Inside → Family → Table → State
+seen e f t = record { family = f; table = t; pairs = e.pairs.items; exposed = e.exposed.items; root = e.root; edges = e.edges.items }
 
 bare : (g : Over) (c : After-self g) → c.self.inside.root ≡ None
 bare g c = ap (λ (x : State). x.root) c.self.view_is ∙ c.requires.bare
@@ -42,8 +45,10 @@ starting g c none at =
     let delta = c.lesser-delta.result in
     IsStarting-made (state_of c.self.inside) c.args.root c.nearest-near.result.event amount delta (given delta)
     c.self.invariant.0 none at
-    (subst (λ xs. IsNearest c.self.inside.arena (cost c.self.inside.costs) c.args.root xs (nat_of amount) c.nearest-near.result.event)
-    c.deref.ensures.value c.nearest-near.ensures.nearest)
+    (subst (λ xs. IsNearest c.self.inside.arena (cost c.self.inside.near.table) c.args.root xs (nat_of amount) c.nearest-near.result.event)
+    c.deref.ensures.value
+    (subst (λ (t : Table). IsNearest c.self.inside.arena (cost t) c.args.root c.deref.result.now (nat_of amount) c.nearest-near.result.event)
+    c.clear.ensures.table c.nearest-near.ensures.nearest))
     (to_z-of_z w64 delta (search rules)) c.lesser-delta.ensures.whole
     (subst (λ z. delta ≤ℤ z) (to_z-of_z w64 amount (search rules)) c.lesser-delta.ensures.less)
 
@@ -56,8 +61,23 @@ pub nearest-near-requires-clause-stands : goal.nearest-near-requires-clause-stan
 nearest-near-requires-clause-stands g c =
     let s = state_of c.self.inside in
     let here = (goal.at.nearest-near-requires-clause-stands g c).After-self in
-    subst (λ xs. HasNearest s.family (cost s.table) c.args.root xs) (sym c.deref.ensures.value)
-    (HasNearest-exposed s c.self.invariant.0 (bare g here) c.args.root (root_at g here))
+    subst (λ (t : Table). HasNearest s.family (cost t) c.args.root c.deref.result.now) (sym c.clear.ensures.table)
+    (subst (λ xs. HasNearest s.family (cost s.table) c.args.root xs) (sym c.deref.ensures.value)
+    (HasNearest-exposed s c.self.invariant.0 (bare g here) c.args.root (root_at g here)))
+
+pub nearest-near-requires-clause-metric : goal.nearest-near-requires-clause-metric
+nearest-near-requires-clause-metric g c = subst (λ t. IsMetric t) (sym c.clear.ensures.table) c.self.invariant.0.costs
+
+pub nearest-near-requires-clause-leaves : goal.nearest-near-requires-clause-leaves
+nearest-near-requires-clause-leaves g c =
+    subst (λ (t : Table). leaf_count c.self.inside.arena ≡ t.size) (sym c.clear.ensures.table) c.self.invariant.0.leaves
+
+pub nearest-near-requires-clause-members : goal.nearest-near-requires-clause-members
+nearest-near-requires-clause-members g c =
+    AreOuter-none c.self.inside.arena c.args.root c.deref.result.now c.clear.new.self.members c.clear.ensures.members
+
+same_table : (g : Over) (c : After-raise_tree g) → c.nearest-near.new.near.table ≡ c.self.inside.near.table
+same_table g c = c.nearest-near.ensures.table ∙ c.clear.ensures.table
 
 pub lesser-delta-requires : goal.lesser-delta-requires
 lesser-delta-requires g c =
@@ -88,8 +108,10 @@ raise_tree-requires-clause-tops g c =
 
 engine_now : (g : Over) (c : After-raise_tree g) →
     IsStarting (state_of c.self.inside) c.args.root c.nearest-near.result.event c.nearest-near.result.amount (given c.lesser-delta.result) →
-    IsEngine (seen c.self.inside c.raise_tree.new.arena)
-engine_now g c p = subst (λ a. IsEngine (seen c.self.inside a)) (sym (made g c)) (started_engine p)
+    IsEngine (seen c.self.inside c.raise_tree.new.arena c.nearest-near.new.near.table)
+engine_now g c p =
+    subst (λ t. IsEngine (seen c.self.inside c.raise_tree.new.arena t)) (sym (same_table g c))
+    (subst (λ a. IsEngine (seen c.self.inside a c.self.inside.near.table)) (sym (made g c)) (started_engine p))
 
 pub invariant_of-self : goal.invariant_of-self
 invariant_of-self g c =
@@ -112,6 +134,7 @@ invariant_of-self g c =
         totals = sym (with_items e.totals c.nearest-near.new.totals).ok.0 ∙ e.totals.ok.0 ∙ room.totals ∙ sym leaves;
         marks = sym (with_items e.marks c.nearest-near.new.marks).ok.0 ∙ e.marks.ok.0 ∙ room.marks ∙ sym leaves;
         mates = room.mates ∙ sym leaves;
+        known = λ r some. absurd (none-some r (sym (bare g at.After-self) ∙ some));
       },
     )
 
@@ -120,7 +143,7 @@ returns-clause-keeps g c =
     let was = c.self.view_is in
     record {
       leaves = ap (λ a. leaf_count a) (made g (goal.at.returns-clause-keeps g c).After-raise_tree) ∙ ap (λ x. leaf_count x.family) was;
-      table = ap (λ x. x.table) was;
+      table = same_table g (goal.at.returns-clause-keeps g c).After-raise_tree ∙ ap (λ x. x.table) was;
       pairs = ap (λ x. x.pairs) was;
       exposed = ap (λ x. x.exposed) was;
       root = ap (λ x. x.root) was;
@@ -136,4 +159,4 @@ pub returns-clause-left : goal.returns-clause-left
 returns-clause-left g c =
     let at = goal.at.returns-clause-left g c in
     let p = starting g at.After-lesser-delta (bare g at.After-self) (root_at g at.After-self) in
-    ap (λ a. steps_left (seen c.self.inside a)) (made g at.After-raise_tree) ∙ started_left p ∙ ap steps_left c.self.view_is
+    ap (λ a. steps_left (seen c.self.inside a c.nearest-near.new.near.table)) (made g at.After-raise_tree) ∙ started_left p ∙ ap steps_left c.self.view_is

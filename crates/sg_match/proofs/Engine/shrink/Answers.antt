@@ -3,13 +3,15 @@ use Rattle.std.proofs.Common.{◌≡◌, ◌+◌, ◌<◌, ◌≤◌, ℕ, Some,
 use Rattle.sg_arena.proofs.FamilyLemmas.{length-with_slot, name_bound}
 use Rattle.sg_arena.specs.Changes.{CanShrink, blossom_of, with_slot}
 use Rattle.sg_arena.specs.Family.{Family, leaf_count}
-use Rattle.sg_match.proofs.ShrinkStep.{CanShrinkTree-shrunk, all_tight, base_low, can, shrunk}
+use Rattle.sg_match.proofs.ShrinkStep.{CanShrinkTree-shrunk, all_tight, base_low, can, known-shrunk, shrunk}
 use Rattle.sg_match.proofs.EngineLemmas.{state_of, tree_of}
 use Rattle.sg_match.proofs.TreeLemmas.{pair_leaf, up_leaf, edge_room}
 use Rattle.sg_match.proofs.Engine.shrink.Given.{Over}
 use Rattle.sg_match.proofs.Engine.shrink.Goals as goal
 use Rattle.sg_match.proofs.Engine.shrink.Goals.{After-find_cycle-base, After-self}
 use Rattle.sg_match.specs.Engine.{IsEngine}
+use Rattle.sg_match.specs.Members.{AreOuter}
+use Rattle.std.proofs.lemmas.Option.{same_Some}
 use Rattle.sg_match.specs.Events.{IsTightOuterOuter}
 use Rattle.sg_pairing.specs.Metric.{cost}
 use Rattle.sg_match.specs.Path.{AreTight, nodes_of}
@@ -23,7 +25,7 @@ use Rattle.sg_match.specs.Tree.{IsShape, IsTree, edge_at}
 rooted : (g : Over) (c : After-self g) → c.self.inside.root ≡ Some c.args.root
 rooted g c = ap (λ (s : State). s.root) c.self.view_is ∙ c.requires.root
 
-tree : (g : Over) (c : After-self g) → IsTree c.self.inside.arena (cost c.self.inside.costs) c.self.inside.pairs.items c.args.root c.self.inside.edges.items
+tree : (g : Over) (c : After-self g) → IsTree c.self.inside.arena (cost c.self.inside.near.table) c.self.inside.pairs.items c.args.root c.self.inside.edges.items
 tree g c = tree_of (state_of c.self.inside) c.self.invariant.0 c.args.root (rooted g c)
 
 -- the cycle over the list of tree edges itself
@@ -86,7 +88,7 @@ shrink_edges-requires-clause-to g c i low =
 abbrev last : (g : Over) (c : goal.After-shrink_edges g) → State
 last g c = record {
   family = c.shrink-blossom.new.self;
-  table = c.self.inside.costs;
+  table = c.self.inside.near.table;
   pairs =
       set c.self.inside.pairs.items c.shrink-blossom.result c.index.result.now;
   exposed = c.self.inside.exposed.items;
@@ -97,7 +99,8 @@ last g c = record {
 
 shrinking : (g : Over) (c : goal.After-shrink_edges g) → (state_of c.self.inside).root ≡ Some c.args.root →
     (place : ℕ) × IsTreeCycle c.self.inside.arena c.args.root c.self.inside.edges.items c.find_cycle-base.new.cycle.items place c.find_cycle-base.result
-    c.find_cycle-base.result → IsEngine (last g c) × (steps_left (last g c) + 2 ≤ steps_left (state_of c.self.inside))
+    c.find_cycle-base.result → IsEngine (last g c) × (steps_left (last g c) + 2 ≤ steps_left (state_of c.self.inside)) ×
+    AreOuter c.shrink-blossom.new.self c.renamed.result c.shrink_edges.new.edges.items c.self.inside.near.members
 shrinking g c rooted at =
     let s = state_of c.self.inside in
     let engine : IsEngine s = c.self.invariant.0 in
@@ -122,10 +125,17 @@ shrinking g c rooted at =
     let shrink_edges = c.shrink_edges.ensures.shrink_edges (nodes_of cycle) base
     (subst (λ f. CanShrinkTree f (nodes_of cycle) base b s.edges) (sym made)
     (CanShrinkTree-shrunk s c.args.root engine rooted cycle at.0 base at.1 b c.shrink-blossom.ensures.unused room)) in
-    shrunk s c.args.root engine rooted cycle at.0 base at.1 b c.shrink-blossom.ensures.unused room tight c.renamed.result c.renamed.ensures.hit
-    c.renamed.ensures.miss c.shrink_edges.new.edges.items shrink_edges c.shrink-blossom.new.self made c.index.result.now c.index.ensures
+    let both = shrunk s c.args.root engine rooted cycle at.0 base at.1 b c.shrink-blossom.ensures.unused room tight c.renamed.result c.renamed.ensures.hit
+    c.renamed.ensures.miss c.shrink_edges.new.edges.items shrink_edges c.shrink-blossom.new.self made c.index.result.now c.index.ensures in (
+      both.0,
+      both.1,
+      known-shrunk s c.args.root engine rooted cycle at.0 base at.1 b c.shrink-blossom.ensures.unused room tight c.renamed.result c.renamed.ensures.hit
+          c.renamed.ensures.miss c.shrink_edges.new.edges.items shrink_edges c.shrink-blossom.new.self made c.self.inside.near.members
+          (c.self.invariant.1.known c.args.root rooted),
+    )
 
-ending : (g : Over) (c : goal.After-shrink_edges g) → IsEngine (last g c) × (steps_left (last g c) + 2 ≤ steps_left (state_of c.self.inside))
+ending : (g : Over) (c : goal.After-shrink_edges g) → IsEngine (last g c) × (steps_left (last g c) + 2 ≤ steps_left (state_of c.self.inside)) ×
+    AreOuter c.shrink-blossom.new.self c.renamed.result c.shrink_edges.new.edges.items c.self.inside.near.members
 ending g c = let here = goal.at.returns-clause-engine g c in shrinking g c (rooted g here.After-self) (cycle_found g here.After-find_cycle-base)
 
 pub invariant_of-self : goal.invariant_of-self
@@ -148,6 +158,8 @@ invariant_of-self g c =
         totals = omega (arith, leaves, roomy.totals);
         marks = omega (arith, leaves, roomy.marks);
         mates = omega (arith, leaves, roomy.mates);
+        known = λ r some. subst (λ x. AreOuter c.shrink-blossom.new.self x c.shrink_edges.new.edges.items c.self.inside.near.members)
+            (same_Some c.renamed.result r some) (ending g c).2;
       },
     )
 

@@ -1,10 +1,18 @@
 -- `nearest`: the tables say of the leaves what the tree says.
-use Rattle.std.proofs.Common.{arith}
+use Rattle.std.proofs.Common.{◌≡◌, ℕ, ◌<◌, List, length, ◌∙◌, ap, subst, sym, arith}
 use Rattle.sg_sums.specs.Naturals.{nat_of}
+use Rattle.sg_match.proofs.MembersStep.{Agree-known, AreMarked-known, AreOuter-marked}
 use Rattle.sg_match.proofs.NearestStep.{CanScan-listed, IsMarked-stands, IsNearest-scanned, SumsFit-listed}
 use Rattle.sg_match.specs.Marks.{IsMarked}
+use Rattle.sg_match.specs.Members.{AreMarked}
+use Rattle.sg_match.specs.Nearest.{IsNearest}
+use Rattle.sg_match.specs.Scans.{CanScan, IsScanned}
+use Rattle.sg_pairing.specs.Metric.{cost}
+use Rattle.sg_slack.specs.Slack.{SumsFit, mark_at}
+use Rattle.sg_slack.specs.declared.Mark.TheVariants.{Outer}
+use Rattle.sg_slack.specs.Table.{Table}
 use Rattle.sg_match.proofs.dual_change.nearest.Goals as goal
-use Rattle.sg_match.proofs.dual_change.nearest.Goals.{After-list_leaves}
+use Rattle.sg_match.proofs.dual_change.nearest.Goals.{After-costs, After-list_leaves}
 
 pub list_leaves-requires-clause-small : goal.list_leaves-requires-clause-small
 list_leaves-requires-clause-small c = omega arith
@@ -15,25 +23,71 @@ marked c =
     IsMarked-stands c.args.arena.now c.args.root c.args.edges.now c.list_leaves.new.tops c.list_leaves.new.totals c.list_leaves.new.marks
     can.feasible.family can.shape c.list_leaves.ensures.listed (omega arith) c.list_leaves.ensures.marked
 
+-- the members before the round are marked as outer
+known : (c : After-list_leaves) → AreMarked c.args.near.now.members c.list_leaves.new.marks
+known c =
+    let can = c.requires.stands in
+    AreMarked-known c.args.arena.now c.args.root c.args.edges.now c.list_leaves.new.marks c.args.near.now.members can.feasible.family can.shape (marked c)
+    c.requires.members
+
+pub add_outer-requires-clause-outer : goal.add_outer-requires-clause-outer
+add_outer-requires-clause-outer c = known (goal.at.add_outer-requires-clause-outer c).After-list_leaves
+
+pub add_outer-requires-clause-agree : goal.add_outer-requires-clause-agree
+add_outer-requires-clause-agree c =
+    let at = (goal.at.add_outer-requires-clause-agree c).After-list_leaves in
+    Agree-known c.args.arena.now c.args.root c.args.edges.now c.list_leaves.new.tops c.list_leaves.new.totals c.list_leaves.new.marks c.args.near.now.members
+    c.list_leaves.ensures.listed (marked at) c.requires.members (known at)
+
+-- the costs are those from the beginning
+same_table : (c : After-costs) → c.costs.result.now ≡ c.args.near.now.table
+same_table c = c.costs.ensures ∙ c.add_outer.ensures.table
+
+fit : (c : After-list_leaves) → SumsFit c.args.near.now.table c.list_leaves.new.totals
+fit c =
+    let can = c.requires.stands in
+    SumsFit-listed c.args.arena.now c.args.near.now.table c.args.root c.args.edges.now c.list_leaves.new.tops c.list_leaves.new.totals
+    c.list_leaves.new.marks c.requires.metric c.requires.leaves can.feasible can.shape c.list_leaves.ensures.listed (marked c)
+
+pub least-free-requires-clause-fits : goal.least-free-requires-clause-fits
+least-free-requires-clause-fits c =
+    subst (λ (t : Table). SumsFit t c.list_leaves.new.totals) (sym c.add_outer.ensures.table)
+    (fit (goal.at.least-free-requires-clause-fits c).After-list_leaves)
+
+pub least-free-requires-clause-members : goal.least-free-requires-clause-members
+least-free-requires-clause-members c = λ u low. (
+  c.add_outer.ensures.every u (subst (λ (t : Table). u < t.size) c.add_outer.ensures.table low),
+  (λ is. subst (λ n. mark_at c.list_leaves.new.marks n ≡ Outer) is.2 (c.add_outer.ensures.outer is.0 is.1).1),
+)
+
 pub scan-requires-clause-fits : goal.scan-requires-clause-fits
 scan-requires-clause-fits c =
-    let f = c.args.arena.now in
-    let can = c.requires.stands in
-    SumsFit-listed f c.args.costs.now c.args.root c.args.edges.now c.list_leaves.new.tops c.list_leaves.new.totals c.list_leaves.new.marks c.requires.metric
-    c.requires.leaves can.feasible can.shape c.list_leaves.ensures.listed (marked (goal.at.scan-requires-clause-fits c).After-list_leaves)
+    let at = goal.at.scan-requires-clause-fits c in
+    subst (λ (t : Table). SumsFit t c.list_leaves.new.totals) (sym (same_table at.After-costs)) (fit at.After-list_leaves)
 
 pub scan-requires-clause-can : goal.scan-requires-clause-can
 scan-requires-clause-can c =
     let f = c.args.arena.now in
     let can = c.requires.stands in
-    CanScan-listed f c.args.costs.now c.args.root c.args.edges.now c.list_leaves.new.tops c.list_leaves.new.totals c.list_leaves.new.marks c.requires.metric
-    c.requires.leaves can.feasible can.shape c.list_leaves.ensures.listed
-    (marked (goal.at.scan-requires-clause-can c).After-list_leaves) can.alike can.free.0 can.free.1 can.free.2 can.free.3 can.free.4
+    let at = goal.at.scan-requires-clause-can c in
+    subst (λ (t : Table). CanScan t c.list_leaves.new.tops c.list_leaves.new.totals c.list_leaves.new.marks) (sym (same_table at.After-costs))
+    (CanScan-listed f c.args.near.now.table c.args.root c.args.edges.now c.list_leaves.new.tops c.list_leaves.new.totals c.list_leaves.new.marks
+    c.requires.metric c.requires.leaves can.feasible can.shape c.list_leaves.ensures.listed (marked at.After-list_leaves) can.alike can.free.0 can.free.1
+    can.free.2 can.free.3 can.free.4)
 
 pub returns-clause-nearest : goal.returns-clause-nearest
 returns-clause-nearest c =
     let f = c.args.arena.now in
     let can = c.requires.stands in
-    IsNearest-scanned f c.args.costs.now c.args.root c.args.edges.now c.list_leaves.new.tops c.list_leaves.new.totals c.list_leaves.new.marks
-    c.requires.metric c.requires.leaves can.feasible can.shape c.list_leaves.ensures.listed
-    (marked (goal.at.returns-clause-nearest c).After-list_leaves) (nat_of c.scan.result.amount) c.scan.result.event c.scan.ensures.scanned
+    let at = goal.at.returns-clause-nearest c in
+    let scanned = subst (λ (t : Table). IsScanned t c.list_leaves.new.tops c.list_leaves.new.totals c.list_leaves.new.marks (nat_of c.scan.result.amount)
+    c.scan.result.event) (same_table at.After-costs) c.scan.ensures.scanned in
+    IsNearest-scanned f c.args.near.now.table c.args.root c.args.edges.now c.list_leaves.new.tops c.list_leaves.new.totals c.list_leaves.new.marks
+    c.requires.metric c.requires.leaves can.feasible can.shape c.list_leaves.ensures.listed (marked at.After-list_leaves)
+    (nat_of c.scan.result.amount) c.scan.result.event scanned
+
+pub returns-clause-members : goal.returns-clause-members
+returns-clause-members c =
+    let at = goal.at.returns-clause-members c in
+    AreOuter-marked c.args.arena.now c.args.root c.args.edges.now c.list_leaves.new.tops c.list_leaves.new.totals c.list_leaves.new.marks
+    c.add_outer.new.near.members c.list_leaves.ensures.listed (marked at.After-list_leaves) c.add_outer.ensures.outer c.add_outer.ensures.agree

@@ -8,6 +8,7 @@ use Rattle.sg_match.proofs.ScanStep.{IsScanned-both, IsScanned-free, half_is, le
 use Rattle.sg_match.proofs.dual_change.scan.Goals as goal
 use Rattle.sg_match.proofs.dual_change.scan.Goals.{In-Some, In-Some-least_outer_outer}
 use Rattle.sg_match.specs.Scans.{IsScanned}
+use Rattle.sg_slack.specs.Slack.{IsLeast, IsOuterFree, Least}
 use Rattle.sg_match.specs.declared.Event.TheVariants.{OuterOuter, OuterFree}
 
 -- the least slack of a free leaf, a whole number that comes back from 64 bits as it went
@@ -17,10 +18,13 @@ record IsFreeAt (c : In-Some) : Type 0 where
   same : to_z w64 (of_z w64 c.in-Some.free.slack) ≡ pos amount
   again : to_z w64 (of_z w64 (to_z w64 (of_z w64 c.in-Some.free.slack))) ≡ pos amount
 
+free_is : (c : In-Some) → IsLeast c.args.costs.now c.args.totals.now (IsOuterFree c.args.costs.now c.args.marks.now) c.in-Some.free
+free_is c = subst (λ o. Least c.args.costs.now c.args.totals.now (IsOuterFree c.args.costs.now c.args.marks.now) o) c.in-Some.is c.requires.free
+
 free_at : (c : In-Some) → IsFreeAt c
 free_at c =
     let free = c.in-Some.free in
-    let least = c.in-Some.ensures in
+    let least = free_is c in
     let here = c.requires.can.free free.u free.v least.one in
     let fits : FitsSigned w64 free.slack = subst (λ z. FitsSigned w64 z) (sym least.slack)
     (c.requires.fits.slack free.u free.v least.one.u_leaf least.one.v_leaf) in
@@ -70,7 +74,7 @@ returns-in-Some-least_outer_outer-clause-scanned c =
     let less = less_is (to_z w64 (of_z w64 (quot_z (to_z w64 (of_z w64 q.slack)) (pos 2))))
     (to_z w64 (of_z w64 (to_z w64 (of_z w64 free.slack)))) at.amount here.amount at.half here.again c.if-both-away.true in
     subst (λ z. IsScanned c.args.costs.now c.args.tops.now c.args.totals.now c.args.marks.now (nat_of z) (OuterOuter q.u q.v)) (sym at.half)
-    (IsScanned-both c.args.costs.now c.args.tops.now c.args.totals.now c.args.marks.now free q at.amount c.in-Some.ensures
+    (IsScanned-both c.args.costs.now c.args.tops.now c.args.totals.now c.args.marks.now free q at.amount (free_is (goal.at.returns-in-Some-least_outer_outer-clause-scanned c).In-Some)
     c.in-Some-least_outer_outer.ensures at.slack (omega (arith, ints, less, here.slack)))
 
 pub returns-in_default-least_outer_outer-clause-whole :
@@ -89,7 +93,7 @@ returns-in_default-least_outer_outer-clause-scanned c =
     let more = not_less_is (to_z w64 (of_z w64 (quot_z (to_z w64 (of_z w64 q.slack)) (pos 2))))
     (to_z w64 (of_z w64 (to_z w64 (of_z w64 free.slack)))) at.amount here.amount at.half here.again c.if-both-away.false in
     subst (λ z. IsScanned c.args.costs.now c.args.tops.now c.args.totals.now c.args.marks.now (nat_of z) (OuterFree free.u free.v)) (sym here.same)
-    (IsScanned-free c.args.costs.now c.args.tops.now c.args.totals.now c.args.marks.now free c.least_outer_outer.result here.amount c.in-Some.ensures
+    (IsScanned-free c.args.costs.now c.args.tops.now c.args.totals.now c.args.marks.now free c.least_outer_outer.result here.amount (free_is (goal.at.returns-in_default-least_outer_outer-clause-scanned c).In-Some)
     here.slack c.least_outer_outer.ensures
     (λ p is_p. let same = same_Some q p (sym c.in-Some-least_outer_outer.is ∙ is_p) in omega (arith, ints, more, ap (λ x. x.slack) same, at.slack)))
 
@@ -105,6 +109,6 @@ returns-in_default-least_outer_outer-2-clause-scanned c =
     let free = c.in-Some.free in
     let here = free_at (goal.at.returns-in_default-least_outer_outer-2-clause-scanned c).In-Some in
     subst (λ z. IsScanned c.args.costs.now c.args.tops.now c.args.totals.now c.args.marks.now (nat_of z) (OuterFree free.u free.v)) (sym here.same)
-    (IsScanned-free c.args.costs.now c.args.tops.now c.args.totals.now c.args.marks.now free c.least_outer_outer.result here.amount c.in-Some.ensures
+    (IsScanned-free c.args.costs.now c.args.tops.now c.args.totals.now c.args.marks.now free c.least_outer_outer.result here.amount (free_is (goal.at.returns-in_default-least_outer_outer-2-clause-scanned c).In-Some)
     here.slack c.least_outer_outer.ensures
     (λ p is_p. absurd (none-some p (sym c.in_default-least_outer_outer.is ∙ is_p))))

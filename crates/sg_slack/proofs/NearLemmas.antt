@@ -1,0 +1,356 @@
+-- What a `Near` keeps, call by call.
+use Rattle.std.proofs.Common.{◌≡◌, ℕ, ◌<◌, ◌≤◌, ◌+◌, List, [], ◌∷◌, ◌++◌, length, map, get_or, set, ℤ, pos, ◌+ℤ◌, ◌-ℤ◌, ◌≤ℤ◌, Option, Some, None, Bool, true, false, FitsSigned, ◌^◌}
+use Rattle.std.proofs.Common.{◌⊎◌, inl, inr, refl, sym, ap, ◌∙◌, subst, arith, w64, of_z, to_z, length-append}
+use Rattle.std.proofs.lemmas.Int.{ints, to_z-of_z}
+use Rattle.std.specs.Int.{w128}
+use Rattle.std.proofs.lemmas.Bool.{cases_eq}
+use Rattle.std.proofs.lemmas.List.{get_or-map, get_or-set_other, get_or-set_same, length-map, length-set, map-append}
+use Rattle.sg_slack.proofs.DistinctLemmas.{at_end, short}
+use Rattle.sg_slack.proofs.ScanLemmas.{Least-nearer, Least-same, below_next}
+use Rattle.sg_slack.specs.Kept.{IsNear, IsNearestOf, IsTakenAt, key_of, kept_at, members_of, nearest_at}
+use Rattle.sg_slack.specs.Members.{Agree, IsMember, Member, TotalsFit, grown, member_at}
+use Rattle.sg_slack.specs.Scan.{IsNearer, IsNearestFree}
+use Rattle.sg_slack.specs.Slack.{IsLeast, IsOuterFree, Least, mark_at, slack_of, total_at}
+use Rattle.sg_slack.specs.Table.{Table}
+use Rattle.sg_slack.specs.declared.Mark.{Mark}
+use Rattle.sg_slack.specs.declared.Mark.TheVariants.{Free, Outer}
+use Rattle.sg_slack.specs.declared.Pair.{Pair}
+use Rattle.sg_slack.specs.declared.near.Kept.{Kept}
+use Rattle.sg_slack.specs.declared.near.Nearest.{Nearest}
+
+-- a difference of numbers that fit 128 bits
+pub wrapped_difference : (a b : ℤ) → FitsSigned w128 a → FitsSigned w128 b → FitsSigned w128 (a -ℤ b) →
+    to_z w128 (of_z w128 (to_z w128 (of_z w128 a) -ℤ to_z w128 (of_z w128 b))) ≡ a -ℤ b
+wrapped_difference a b fits_a fits_b fits =
+    ap (λ x. to_z w128 (of_z w128 (x -ℤ to_z w128 (of_z w128 b)))) (to_z-of_z w128 a fits_a)
+    ∙ ap (λ x. to_z w128 (of_z w128 (a -ℤ x))) (to_z-of_z w128 b fits_b)
+    ∙ to_z-of_z w128 (a -ℤ b) fits
+
+-- a member that is kept, as contracts see it
+abbrev member_of : ℤ → Kept → Member
+member_of rise m = record { leaf = m.leaf; total = m.base +ℤ rise }
+
+abbrev no_member : Member
+no_member = record { leaf = 0; total = pos 0 }
+
+abbrev no_kept : Kept
+no_kept = record { leaf = 0; base = pos 0 }
+
+pub member-is : (rise : ℤ) (ms : List Kept) (i : ℕ) → i < length ms → member_at (members_of rise ms) i ≡ member_of rise (kept_at ms i)
+member-is rise ms i low = get_or-map (member_of rise) ms i no_kept no_member low
+
+pub members-count : (rise : ℤ) (ms : List Kept) → length (members_of rise ms) ≡ length ms
+members-count rise ms = length-map ms (member_of rise)
+
+-- a member, and where it is kept
+pub IsMember-kept : (rise : ℤ) (ms : List Kept) (i leaf : ℕ) → i < length ms → (kept_at ms i).leaf ≡ leaf → IsMember (members_of rise ms) leaf
+IsMember-kept rise ms i leaf low is =
+    (i, omega (arith, low, members-count rise ms), ap (λ (m : Member). m.leaf) (member-is rise ms i low) ∙ is)
+
+pub kept-IsMember : (rise : ℤ) (ms : List Kept) (leaf : ℕ) → IsMember (members_of rise ms) leaf → (i : ℕ) × (i < length ms) × ((kept_at ms i).leaf ≡ leaf)
+kept-IsMember rise ms leaf at =
+    let low : at.0 < length ms = omega (arith, at.1, members-count rise ms) in
+    (at.0, low, sym (ap (λ (m : Member). m.leaf) (member-is rise ms at.0 low)) ∙ at.2)
+
+-- what all have risen by is kept apart
+pub members-grown : (rise delta : ℤ) (ms : List Kept) → members_of (rise +ℤ delta) ms ≡ grown delta (members_of rise ms)
+members-grown rise delta [] = refl
+members-grown rise delta (m ∷ ms) =
+    let same : m.base +ℤ (rise +ℤ delta) ≡ (m.base +ℤ rise) +ℤ delta = omega (arith, ints) in
+    rw (same, members-grown rise delta ms) refl
+
+pub members-none : (rise other delta : ℤ) (ms : List Kept) → length ms ≡ 0 → members_of other ms ≡ grown delta (members_of rise ms)
+members-none rise other delta [] none = refl
+members-none rise other delta (m ∷ ms) none = absurd (omega (arith, none))
+
+module _ (t : Table) (rise : ℤ) (ms : List Kept) (places : List ℕ) (nearest : List Nearest) (near : IsNear t rise ms places nearest) where
+  -- a member stands at its place
+  pub placed-member : (leaf : ℕ) → IsMember (members_of rise ms) leaf →
+      (get_or places leaf 0 < length ms) × ((kept_at ms (get_or places leaf 0)).leaf ≡ leaf)
+  placed-member leaf is =
+      let at = kept-IsMember rise ms leaf is in
+      let here : get_or places leaf 0 ≡ at.0 = ap (λ n. get_or places n 0) (sym at.2) ∙ near.placed at.0 at.1 in
+      (omega (arith, here, at.1), ap (λ i. (kept_at ms i).leaf) here ∙ at.2)
+
+  -- the least of the keys kept is that of the least slack to an outer leaf
+  module _ (totals : List ℤ) (marks : List Mark) (members : (u : ℕ) → u < t.size → (mark_at marks u ≡ Outer → IsMember (members_of rise ms) u) × (IsMember (members_of rise ms) u → mark_at marks u ≡ Outer))
+      (agree : Agree (members_of rise ms) totals) where
+    total-kept : (i : ℕ) → i < length ms → total_at totals (kept_at ms i).leaf ≡ (kept_at ms i).base +ℤ rise
+    total-kept i low =
+        let is = member-is rise ms i low in
+        ap (λ (m : Member). total_at totals m.leaf) (sym is) ∙ agree i (omega (arith, low, members-count rise ms)) ∙ ap (λ (m : Member). m.total) is
+
+    pub nearest-outer : (u v : ℕ) → 0 < length ms → IsNearestFree t nearest marks u v → IsOuterFree t marks u v
+    nearest-outer u v some is =
+        let n = near.each v is.v_leaf some in
+        let leaf : (kept_at ms n.at).leaf ≡ u = n.leaf ∙ sym is.nearest_is in
+        let low = near.low n.at n.low in
+        record {
+          u_leaf = omega (arith, leaf, low);
+          v_leaf = is.v_leaf;
+          outer = (members u (omega (arith, leaf, low))).1 (IsMember-kept rise ms n.at u n.low leaf);
+          free = is.free;
+        }
+
+    pub nearest-least : (u v w : ℕ) → 0 < length ms → IsNearestFree t nearest marks w v → IsOuterFree t marks u v →
+        slack_of t totals w v ≤ℤ slack_of t totals u v
+    nearest-least u v w some is pair =
+        let n = near.each v is.v_leaf some in
+        let leaf : (kept_at ms n.at).leaf ≡ w = n.leaf ∙ sym is.nearest_is in
+        let at = kept-IsMember rise ms u ((members u pair.u_leaf).0 pair.outer) in
+        let least = n.least at.0 at.1 in
+        rw (sym leaf, sym at.2)
+        (omega (arith, ints, least, n.key, total-kept n.at n.low, total-kept at.0 at.1))
+
+    pub Least-kept : (result : Option Pair) → 0 < length ms → Least t totals (IsNearestFree t nearest marks) result → Least t totals (IsOuterFree t marks) result
+    Least-kept None some none = λ u v pair. none (nearest_at nearest v).leaf v (record { v_leaf = pair.v_leaf; nearest_is = refl; free = pair.free })
+    Least-kept (Some p) some least =
+        record {
+          one = nearest-outer p.u p.v some least.one;
+          slack = least.slack;
+          least = λ u v pair.
+              let here : IsNearestFree t nearest marks (nearest_at nearest v).leaf v = record { v_leaf = pair.v_leaf; nearest_is = refl; free = pair.free } in
+              omega (arith, ints, least.least (nearest_at nearest v).leaf v here, nearest-least u v (nearest_at nearest v).leaf some here pair);
+        }
+
+    -- without members there is no outer leaf
+    pub Least-none : length ms ≡ 0 → Least t totals (IsOuterFree t marks) None
+    Least-none none u v pair =
+        let at = kept-IsMember rise ms u ((members u pair.u_leaf).0 pair.outer) in
+        omega (arith, none, at.1)
+
+  -- a shift
+  pub IsNear-shifted : (delta : ℤ) → 0 < length ms → pos 0 ≤ℤ delta → TotalsFit delta (members_of rise ms) → IsNear t (rise +ℤ delta) ms places nearest
+  IsNear-shifted delta some whole fits =
+      record {
+        places_count = near.places_count;
+        nearest_count = near.nearest_count;
+        rise_whole = omega (arith, ints, near.rise_whole);
+        rise_none = λ none. absurd (omega (arith, none, some));
+        first = near.first;
+        fits = λ i low.
+            let fit = fits i (omega (arith, low, members-count rise ms)) in
+            let is = ap (λ (m : Member). m.total +ℤ delta) (member-is rise ms i low) in
+            let same : (kept_at ms i).base +ℤ (rise +ℤ delta) ≡ ((kept_at ms i).base +ℤ rise) +ℤ delta = omega (arith, ints) in
+            subst (λ z. FitsSigned w64 z) (is ∙ sym same) fit;
+        low = near.low;
+        placed = near.placed;
+        each = near.each;
+      }
+
+  -- what all have risen by is less than the range of a total
+  pub rise-bounded : 0 < length ms → rise ≤ℤ pos (2 ^ 66)
+  rise-bounded some = omega (arith, ints, near.first some, near.fits 0 some)
+
+  -- a new member
+  module _ (leaf : ℕ) (total : ℤ) (low : leaf < t.size) (fresh : IsMember (members_of rise ms) leaf → ⊥) (fits : FitsSigned w64 total) where
+    abbrev pub new_kept : Kept
+    new_kept = record { leaf = leaf; base = total -ℤ rise }
+
+    abbrev more : List Kept
+    more = ms ++ new_kept ∷ []
+
+    more-count : length more ≡ length ms + 1
+    more-count = length-append ms (new_kept ∷ [])
+
+    other_leaf : (i : ℕ) → i < length ms → (kept_at ms i).leaf ≡ leaf → ⊥
+    other_leaf i within is = fresh (IsMember-kept rise ms i leaf within is)
+
+    pub members-more : members_of rise more ≡ members_of rise ms ++ record { leaf = leaf; total = total } ∷ []
+    members-more =
+        let same : (total -ℤ rise) +ℤ rise ≡ total = omega (arith, ints) in
+        map-append (member_of rise) ms (new_kept ∷ []) ∙ ap (λ z. members_of rise ms ++ record { leaf = leaf; total = z } ∷ []) same
+
+    -- there is room for it
+    pub room-more : length ms < t.size
+    room-more =
+        let all = short (map (λ (m : Kept). m.leaf) more) t.size differ below in
+        omega (arith, all, length-map more (λ (m : Kept). m.leaf), more-count)
+      where
+        leaf-is : (i : ℕ) → i < length (map (λ (m : Kept). m.leaf) more) → get_or (map (λ (m : Kept). m.leaf) more) i 0 ≡ (kept_at more i).leaf
+        leaf-is i within = get_or-map (λ (m : Kept). m.leaf) more i no_kept 0 (omega (arith, within, length-map more (λ (m : Kept). m.leaf)))
+
+        within-more : (i : ℕ) → i < length (map (λ (m : Kept). m.leaf) more) → i < length more
+        within-more i within = omega (arith, within, length-map more (λ (m : Kept). m.leaf))
+
+        same_place : (i j : ℕ) → i < length more → j < length more → (kept_at more i).leaf ≡ (kept_at more j).leaf → i ≡ j
+        same_place i j low_i low_j same =
+            elim (at_end ms new_kept no_kept i low_i) [
+              | inl a ↦ elim (at_end ms new_kept no_kept j low_j) [
+                | inl b ↦
+                    sym (near.placed i a.0) ∙ ap (λ n. get_or places n 0) (ap (λ (m : Kept). m.leaf) (sym a.1) ∙ same ∙ ap (λ (m : Kept). m.leaf) b.1) ∙ near.placed j b.0
+                | inr b ↦ absurd (other_leaf i a.0 (ap (λ (m : Kept). m.leaf) (sym a.1) ∙ same ∙ ap (λ (m : Kept). m.leaf) b.1))
+              ]
+              | inr a ↦ elim (at_end ms new_kept no_kept j low_j) [
+                | inl b ↦ absurd (other_leaf j b.0 (ap (λ (m : Kept). m.leaf) (sym b.1) ∙ sym same ∙ ap (λ (m : Kept). m.leaf) a.1))
+                | inr b ↦ a.0 ∙ sym b.0
+              ]
+            ]
+
+        differ : (i j : ℕ) → i < length (map (λ (m : Kept). m.leaf) more) → j < length (map (λ (m : Kept). m.leaf) more) →
+            get_or (map (λ (m : Kept). m.leaf) more) i 0 ≡ get_or (map (λ (m : Kept). m.leaf) more) j 0 → i ≡ j
+        differ i j low_i low_j same = same_place i j (within-more i low_i) (within-more j low_j) (sym (leaf-is i low_i) ∙ same ∙ leaf-is j low_j)
+
+        below : (i : ℕ) → i < length (map (λ (m : Kept). m.leaf) more) → get_or (map (λ (m : Kept). m.leaf) more) i 0 < t.size
+        below i within =
+            elim (at_end ms new_kept no_kept i (within-more i within)) [
+              | inl a ↦ omega (arith, leaf-is i within, ap (λ (m : Kept). m.leaf) a.1, near.low i a.0)
+              | inr a ↦ omega (arith, leaf-is i within, ap (λ (m : Kept). m.leaf) a.1, low)
+            ]
+
+    module _ (first : Bool) (is_first : first ≡ true → length ms ≡ 0) (is_later : first ≡ false → 0 < length ms) (new : List Nearest) (count : length new ≡ t.size)
+        (taken : (v : ℕ) → v < t.size → IsTakenAt t new_kept first v (nearest_at nearest v) (nearest_at new v)) where
+      key-end : (v i : ℕ) → kept_at more i ≡ new_kept → key_of t (kept_at more i) v ≡ key_of t new_kept v
+      key-end v i is = ap (λ m. key_of t m v) is
+
+      taken-new : (v : ℕ) (n : Nearest) → v < t.size → n ≡ record { leaf = leaf; key = key_of t new_kept v } →
+          (first ≡ true) ⊎ (key_of t new_kept v ≤ℤ (nearest_at nearest v).key) → IsNearestOf t more v n
+      taken-new v n low_v is less =
+          let last = at_last in
+          record {
+            at = length ms;
+            low = omega (arith, more-count);
+            leaf = ap (λ (m : Kept). m.leaf) last ∙ ap (λ (x : Nearest). x.leaf) (sym is);
+            key = ap (λ (x : Nearest). x.key) is ∙ sym (key-end v (length ms) last);
+            least = λ i within. elim (at_end ms new_kept no_kept i within) [
+              | inl a ↦ elim less [
+                | inl one ↦ absurd (omega (arith, a.0, is_first one))
+                | inr nearer ↦
+                    let each = near.each v low_v (omega (arith, a.0)) in
+                    omega (arith, ints, ap (λ (x : Nearest). x.key) is, nearer, each.least i a.0, ap (λ m. key_of t m v) a.1)
+              ]
+              | inr a ↦ omega (arith, ints, ap (λ (x : Nearest). x.key) is, ap (λ m. key_of t m v) a.1)
+            ];
+          }
+        where
+          at_last : kept_at more (length ms) ≡ new_kept
+          at_last = elim (at_end ms new_kept no_kept (length ms) (omega (arith, more-count))) [
+            | inl a ↦ absurd (omega (arith, a.0))
+            | inr a ↦ a.1
+          ]
+
+      kept-old : (v : ℕ) (n : Nearest) → v < t.size → n ≡ nearest_at nearest v → first ≡ false → (nearest_at nearest v).key ≤ℤ key_of t new_kept v →
+          IsNearestOf t more v n
+      kept-old v n low_v is later less =
+          let each = near.each v low_v (is_later later) in
+          let here = within-old each.at each.low in
+          record {
+            at = each.at;
+            low = omega (arith, each.low, more-count);
+            leaf = ap (λ (m : Kept). m.leaf) here ∙ each.leaf ∙ ap (λ (x : Nearest). x.leaf) (sym is);
+            key = ap (λ (x : Nearest). x.key) is ∙ each.key ∙ ap (λ m. key_of t m v) (sym here);
+            least = λ i within. elim (at_end ms new_kept no_kept i within) [
+              | inl a ↦ omega (arith, ints, ap (λ (x : Nearest). x.key) is, each.least i a.0, ap (λ m. key_of t m v) a.1)
+              | inr a ↦ omega (arith, ints, ap (λ (x : Nearest). x.key) is, less, ap (λ m. key_of t m v) a.1)
+            ];
+          }
+        where
+          within-old : (i : ℕ) → i < length ms → kept_at more i ≡ kept_at ms i
+          within-old i within = elim (at_end ms new_kept no_kept i (omega (arith, within, more-count))) [
+            | inl a ↦ a.1
+            | inr a ↦ absurd (omega (arith, a.0, within))
+          ]
+
+      pub IsNear-added : IsNear t rise more (set places leaf (length ms)) new
+      IsNear-added =
+          record {
+            places_count = length-set places leaf (length ms) ∙ near.places_count;
+            nearest_count = count;
+            rise_whole = near.rise_whole;
+            rise_none = λ none. absurd (omega (arith, none, more-count));
+            first = λ some. elim (at_end ms new_kept no_kept 0 some) [
+              | inl a ↦ subst (λ (m : Kept). FitsSigned w64 m.base) (sym a.1) (near.first a.0)
+              | inr a ↦
+                  let same : (kept_at more 0).base ≡ total = omega (arith, ints, ap (λ (m : Kept). m.base) a.1, near.rise_none (sym a.0)) in
+                  subst (λ z. FitsSigned w64 z) (sym same) fits
+            ];
+            fits = λ i within. elim (at_end ms new_kept no_kept i within) [
+              | inl a ↦ subst (λ (m : Kept). FitsSigned w64 (m.base +ℤ rise)) (sym a.1) (near.fits i a.0)
+              | inr a ↦
+                  let same : (kept_at more i).base +ℤ rise ≡ total = omega (arith, ints, ap (λ (m : Kept). m.base) a.1) in
+                  subst (λ z. FitsSigned w64 z) (sym same) fits
+            ];
+            low = λ i within. elim (at_end ms new_kept no_kept i within) [
+              | inl a ↦ omega (arith, ap (λ (m : Kept). m.leaf) a.1, near.low i a.0)
+              | inr a ↦ omega (arith, ap (λ (m : Kept). m.leaf) a.1, low)
+            ];
+            placed = λ i within. elim (at_end ms new_kept no_kept i within) [
+              | inl a ↦
+                  ap (λ (m : Kept). get_or (set places leaf (length ms)) m.leaf 0) a.1
+                  ∙ get_or-set_other places leaf (kept_at ms i).leaf (length ms) 0 (λ same. other_leaf i a.0 same)
+                  ∙ near.placed i a.0
+              | inr a ↦
+                  ap (λ (m : Kept). get_or (set places leaf (length ms)) m.leaf 0) a.1
+                  ∙ get_or-set_same places leaf (length ms) 0 (omega (arith, low, near.places_count))
+                  ∙ sym a.0
+            ];
+            each = λ v low_v some. elim (taken v low_v) [
+              | inl a ↦ taken-new v (nearest_at new v) low_v a.0 a.1
+              | inr a ↦ kept-old v (nearest_at new v) low_v a.0 a.1 a.2
+            ];
+          }
+
+-- the scan of the free leaves
+module _ (t : Table) (totals : List ℤ) (nearest : List Nearest) (marks : List Mark) where
+  abbrev Until : ℕ → ℕ → ℕ → Type 0
+  Until place u v = (v < place) × IsNearestFree t nearest marks u v
+
+  abbrev At : ℕ → ℕ → ℕ → Type 0
+  At place u v = (v ≡ place) × IsNearestFree t nearest marks u v
+
+  wider : (place u v : ℕ) → Until place u v → Until (place + 1) u v
+  wider place u v is = (omega (arith, is.0), is.1)
+
+  reached : (place u v : ℕ) → At place u v → Until (place + 1) u v
+  reached place u v is = (omega (arith, is.0), is.1)
+
+  split : (place u v : ℕ) → Until (place + 1) u v → Until place u v ⊎ At place u v
+  split place u v is = elim (below_next v place is.0) [
+    | inl less ↦ inl (less, is.1)
+    | inr same ↦ inr (same, is.1)
+  ]
+
+  pub Least-free : (best result : Option Pair) (v : ℕ) → v < t.size → mark_at marks v ≡ Free →
+      IsNearer best (Some (record { u = (nearest_at nearest v).leaf; v = v; slack = slack_of t totals (nearest_at nearest v).leaf v })) result →
+      Least t totals (Until v) best → Least t totals (Until (v + 1)) result
+  Least-free best result v low free nearer least =
+      let is : IsNearestFree t nearest marks (nearest_at nearest v).leaf v = record { v_leaf = low; nearest_is = refl; free = free } in
+      Least-nearer t totals (Until v) (At v) (Until (v + 1)) (wider v) (reached v) (split v) best
+      (Some (record { u = (nearest_at nearest v).leaf; v = v; slack = slack_of t totals (nearest_at nearest v).leaf v })) result nearer least
+      (record {
+        one = (refl, is);
+        slack = refl;
+        least = λ a b here.
+            let same_leaf : a ≡ (nearest_at nearest v).leaf = here.1.nearest_is ∙ ap (λ w. (nearest_at nearest w).leaf) here.0 in
+            rw (same_leaf, here.0) (omega (arith, ints));
+      })
+
+  pub Least-passed : (best : Option Pair) (v : ℕ) → (mark_at marks v ≡ Free → ⊥) → Least t totals (Until v) best → Least t totals (Until (v + 1)) best
+  Least-passed best v passed least =
+      Least-same t totals (Until v) (At v) (Until (v + 1)) (wider v) (reached v) (split v) best
+      (λ a b here. passed (subst (λ w. mark_at marks w ≡ Free) here.0 here.1.free)) least
+
+  pub Least-all : (best : Option Pair) → Least t totals (Until t.size) best → Least t totals (IsNearestFree t nearest marks) best
+  Least-all None none = λ u v is. none u v (is.v_leaf, is)
+  Least-all (Some p) least = record { one = least.one.1; slack = least.slack; least = λ u v is. least.least u v (is.v_leaf, is) }
+
+-- the leaves before a place have the nearer member, and the others what they had
+module _ (t : Table) (m : Kept) (first : Bool) (initial now : List Nearest) (v : ℕ) (n : Nearest) (count : length now ≡ t.size) (low : v < t.size)
+    (taken : (w : ℕ) → w < v → IsTakenAt t m first w (nearest_at initial w) (nearest_at now w))
+    (rest : (w : ℕ) → v ≤ w → nearest_at now w ≡ nearest_at initial w) (here : IsTakenAt t m first v (nearest_at now v) n) where
+  pub taken-next : (w : ℕ) → w < v + 1 → IsTakenAt t m first w (nearest_at initial w) (nearest_at (set now v n) w)
+  taken-next w less = elim (below_next w v less) [
+    | inl before ↦
+        subst (λ x. IsTakenAt t m first w (nearest_at initial w) x)
+        (sym (get_or-set_other now v w n (record { leaf = 0; key = pos 0 }) (λ same. absurd (omega (arith, same, before))))) (taken w before)
+    | inr same ↦
+        let at : nearest_at (set now v n) w ≡ n = ap (λ k. nearest_at (set now v n) k) same
+        ∙ get_or-set_same now v n (record { leaf = 0; key = pos 0 }) (omega (arith, low, count)) in
+        let was : nearest_at now v ≡ nearest_at initial w = rest v (omega arith) ∙ ap (λ k. nearest_at initial k) (sym same) in
+        subst (λ x. IsTakenAt t m first w (nearest_at initial w) x) (sym at)
+        (subst (λ x. IsTakenAt t m first w x n) was (subst (λ k. IsTakenAt t m first k (nearest_at now v) n) (sym same) here))
+  ]
+
+  pub rest-next : (w : ℕ) → v + 1 ≤ w → nearest_at (set now v n) w ≡ nearest_at initial w
+  rest-next w most =
+      get_or-set_other now v w n (record { leaf = 0; key = pos 0 }) (λ same. absurd (omega (arith, same, most))) ∙ rest w (omega (arith, most))

@@ -1,0 +1,82 @@
+-- `add`: the new member takes the leaves to which it is nearer.
+use Rattle.std.proofs.Common.{◌≡◌, ℕ, ◌<◌, ◌++◌, ◌∷◌, [], List, length, set, ℤ, pos, ◌-ℤ◌, false, true, arith, subst, sym, ap, ◌∙◌, rules, to_z, of_z, w64}
+use Rattle.std.specs.Int.{w128}
+use Rattle.std.specs.Vec.{with_items}
+use Rattle.std.proofs.lemmas.Int.{ints, to_z-of_z}
+use Rattle.std.proofs.lemmas.List.{with_items_is}
+use Rattle.sg_slack.proofs.NearLemmas.{IsNear-added, members-more, new_kept, room-more, wrapped_difference}
+use Rattle.sg_slack.specs.Kept.{IsNear, IsTakenAt, members_of, nearest_at}
+use Rattle.sg_slack.specs.Members.{IsMember, Known}
+use Rattle.sg_slack.specs.declared.near.Kept.{Kept}
+use Rattle.sg_slack.specs.declared.near.Nearest.{Nearest}
+use Rattle.sg_slack.proofs.near.Near.add.Goals as goal
+use Rattle.sg_slack.proofs.near.Near.add.Goals.{After-self, After-push_reserved}
+
+low : (c : After-self) → c.args.leaf < c.self.inside.costs.size
+low c = subst (λ (s : Known). c.args.leaf < s.table.size) (sym c.self.view_is) c.requires.leaf
+
+fresh : (c : After-self) → IsMember (members_of c.self.inside.rise c.self.inside.members.items) c.args.leaf → ⊥
+fresh c = subst (λ (s : Known). IsMember s.members c.args.leaf → ⊥) (sym c.self.view_is) c.requires.fresh
+
+pub push_reserved-requires : goal.push_reserved-requires
+push_reserved-requires c =
+    let e = c.self.inside in
+    let at = (goal.at.push_reserved-requires c).After-self in
+    let room = room-more e.costs e.rise e.members.items e.places.items e.nearest.items c.self.invariant.near c.args.leaf c.args.total (low at) (fresh at) (search rules) in
+    omega (arith, room, c.self.invariant.room, e.members.ok)
+
+base_is : (c : After-push_reserved) → to_z w128 (of_z w128 (to_z w128 (of_z w128 c.from.result) -ℤ to_z w128 (of_z w128 c.self.inside.rise))) ≡ c.args.total -ℤ c.self.inside.rise
+base_is c =
+    wrapped_difference c.from.result c.self.inside.rise (search rules) (search rules) (search rules)
+    ∙ ap (λ z. z -ℤ c.self.inside.rise) (c.from.ensures ∙ to_z-of_z w64 c.args.total (search rules))
+
+abbrev kept_with : ℕ → ℤ → Kept
+kept_with leaf base = record { leaf = leaf; base = base }
+
+-- what is kept of the new member
+abbrev written : After-push_reserved → Kept
+written c = record { leaf = c.args.leaf; base = to_z w128 (of_z w128 (to_z w128 (of_z w128 c.from.result) -ℤ to_z w128 (of_z w128 c.self.inside.rise))) }
+
+abbrev kept : After-push_reserved → Kept
+kept c = record { leaf = c.args.leaf; base = c.args.total -ℤ c.self.inside.rise }
+
+written_is : (c : After-push_reserved) → written c ≡ kept c
+written_is c = ap (kept_with c.args.leaf) (base_is c)
+
+items_are : (c : After-push_reserved) → c.push_reserved.new.self.items ≡ c.self.inside.members.items ++ kept c ∷ []
+items_are c = c.push_reserved.ensures.items ∙ ap (λ m. c.self.inside.members.items ++ m ∷ []) (written_is c)
+
+nearest_are : (c : After-push_reserved) → (with_items c.self.inside.nearest c.take_nearer.new.nearest).items ≡ c.take_nearer.new.nearest
+nearest_are c = with_items_is c.self.inside.nearest c.take_nearer.new.nearest (c.take_nearer.auto.nearest ∙ c.deref_mut.ensures.len)
+
+taken : (c : After-push_reserved) → (v : ℕ) → v < c.self.inside.costs.size →
+    IsTakenAt c.self.inside.costs (kept c) c.is_empty-first.result v (nearest_at c.self.inside.nearest.items v) (nearest_at c.take_nearer.new.nearest v)
+taken c v within =
+    subst (λ (xs : List Nearest). IsTakenAt c.self.inside.costs (kept c) c.is_empty-first.result v (nearest_at xs v) (nearest_at c.take_nearer.new.nearest v))
+    c.deref_mut.ensures.value
+    (subst (λ m. IsTakenAt c.self.inside.costs m c.is_empty-first.result v (nearest_at c.deref_mut.result.now v) (nearest_at c.take_nearer.new.nearest v))
+    (written_is c) (c.take_nearer.ensures.taken v within))
+
+pub invariant_of-self : goal.invariant_of-self
+invariant_of-self c =
+    let e = c.self.inside in
+    let ms = e.members.items in
+    let at = (goal.at.invariant_of-self c).After-self in
+    let len_is : c.len.result ≡ length ms = omega (arith, c.len.ensures, e.members.ok) in
+    let none : c.is_empty-first.result ≡ true → length ms ≡ 0 = λ is. search rules in
+    let some : c.is_empty-first.result ≡ false → 0 < length ms = λ is. search rules in
+    let count : length c.take_nearer.new.nearest ≡ e.costs.size = c.take_nearer.ensures.count in
+    let near = IsNear-added e.costs e.rise ms e.places.items e.nearest.items c.self.invariant.near c.args.leaf c.args.total (low at) (fresh at) (search rules)
+    c.is_empty-first.result none some c.take_nearer.new.nearest count (taken c) in
+    record {
+      near = rw (items_are c, nearest_are c, len_is) near;
+      room = search rules;
+    }
+
+pub returns-clause-members : goal.returns-clause-members
+returns-clause-members c =
+    let e = c.self.inside in
+    let at = (goal.at.returns-clause-members c).After-self in
+    subst (λ (s : Known). members_of e.rise c.push_reserved.new.self.items ≡ s.members ++ record { leaf = c.args.leaf; total = c.args.total } ∷ []) c.self.view_is
+    (ap (members_of e.rise) (items_are c)
+    ∙ members-more e.costs e.rise e.members.items e.places.items e.nearest.items c.self.invariant.near c.args.leaf c.args.total (low at) (fresh at) (search rules))

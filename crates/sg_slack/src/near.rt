@@ -1,0 +1,217 @@
+ghost use Rattle.std.specs.Prelude.{◌≡◌, ℕ, ◌<◌, ◌≤ℤ◌, ◌+ℤ◌, ◌⊎◌, ◌^◌, length, pos, negsuc, true, false};
+ghost use Rattle.sg_slack.specs.Kept.{key_of, nearest_at, IsTakenAt};
+ghost use Rattle.sg_slack.specs.Scan.{IsNearestFree};
+ghost use Rattle.sg_slack.specs.Slack.{Least, SumsFit};
+
+use super::{Costs, Mark, NoMemory, Pair, is_free, nearer_if, pair_of};
+use std::alloc::Global;
+use std::marker::Model;
+
+/// A member, and its total less what the totals have risen by since the first member came.
+#[derive(Clone, Copy)]
+struct Kept {
+    leaf: u32,
+    base: i128,
+}
+
+/// The member that is nearest to a leaf, and their cost less the member's base.
+#[derive(Clone, Copy)]
+struct Nearest {
+    leaf: u32,
+    key: i128,
+}
+
+/// Costs, and some leaves, the *members*, each with its total; for each leaf it keeps the member of
+/// least cost less total.
+///
+/// All totals grow by the same in a change of duals, so that the nearest member of a leaf stays the
+/// nearest: one number holds by how much they have grown.
+#[derive(Drop)]
+pub struct Near {
+    costs: Costs,
+    rise: i128,
+    members: Vec<Kept>,
+    // Where a leaf stands among the members, if it is one.
+    places: Vec<usize>,
+    // For each leaf; where there is a member.
+    nearest: Vec<Nearest>,
+}
+
+impl Model for Near {
+    ghost use Rattle.sg_slack.specs.Members.{Known};
+    ghost use Rattle.sg_slack.specs.Kept.{members_of};
+    ghost use Rattle.sg_slack.specs.Fields.{HoldsInside};
+
+    ghost Value = { Known };
+
+    ghost view = { λ n. record { table = n.costs; members = members_of n.rise n.members.items } };
+
+    ghost invariant = { λ n. HoldsInside n };
+}
+
+impl Near {
+    ghost use Rattle.std.specs.Prelude.{◌≡◌, ◌↔◌, ℕ, ◌<◌, ◌≤ℤ◌, ◌++◌, ◌∷◌, [], IfOk, IsTrue, length, pos};
+    ghost use Rattle.sg_slack.specs.declared.Mark.TheVariants.{Outer};
+    ghost use Rattle.sg_slack.specs.Members.{grown, Agree, IsMember, TotalsFit};
+    ghost use Rattle.sg_slack.specs.Slack.{mark_at, IsOuterFree, Least, SumsFit};
+
+    /// These costs and no members.
+    ///
+    /// Cost: proportional to the number of leaves.
+    pub fn open(alloc: Global, costs: Costs) -> Result<Near, NoMemory>
+        ensures table { IfOk result (λ n. n.table ≡ costs) }
+        ensures members { IfOk result (λ n. n.members ≡ []) }
+    {
+        let count = costs.size() as usize;
+        let members = Vec::with_capacity(alloc, count)?;
+        let places = vec![in alloc; 0usize; count]?;
+        let nearest = vec![in alloc; Nearest { leaf: 0, key: 0 }; count]?;
+        Ok(Near {
+            costs,
+            rise: 0,
+            members,
+            places,
+            nearest,
+        })
+    }
+
+    /// The costs.
+    ///
+    /// Cost: constant.
+    pub fn costs(&self) -> &Costs
+        ensures { result.now ≡ self.now.table }
+    {
+        &self.costs
+    }
+
+    /// Whether a leaf is a member.
+    ///
+    /// Cost: constant.
+    pub fn has(&self, leaf: u32) -> bool
+        requires { leaf < self.now.table.size }
+        ensures { IsTrue result ↔ IsMember self.now.members leaf }
+    {
+        let place = self.places[leaf as usize];
+        place < self.members.len() && self.members[place].leaf == leaf
+    }
+
+    /// Leaves no members; the costs stay.
+    ///
+    /// Cost: constant.
+    pub fn clear(&mut self)
+        ensures table { self.new.table ≡ self.old.table }
+        ensures members { self.new.members ≡ [] }
+    {
+        self.members.clear();
+        self.rise = 0;
+    }
+
+    /// Adds a leaf with its total. All else stays.
+    ///
+    /// Cost: proportional to the number of leaves.
+    pub fn add(&mut self, leaf: u32, total: i64)
+        requires leaf { leaf < self.old.table.size }
+        requires fresh { ¬ IsMember self.old.members leaf }
+        ensures table { self.new.table ≡ self.old.table }
+        ensures members { self.new.members ≡ self.old.members ++ record { leaf = leaf; total = total } ∷ [] }
+    {
+        let member = Kept {
+            leaf,
+            base: i128::from(total) - self.rise,
+        };
+        let first = self.members.is_empty();
+        take_nearer(&self.costs, &mut self.nearest, member, first);
+        self.places[leaf as usize] = self.members.len();
+        self.members.push_reserved(member);
+    }
+
+    /// Raises the total of each member by `delta`. All else stays.
+    ///
+    /// Cost: constant.
+    pub fn shift(&mut self, delta: i64)
+        requires whole { pos 0 ≤ℤ delta }
+        requires fits { TotalsFit delta self.old.members }
+        ensures table { self.new.table ≡ self.old.table }
+        ensures members { self.new.members ≡ grown delta self.old.members }
+    {
+        self.rise = risen(self.rise, delta, self.members.is_empty());
+    }
+
+    /// A pair of least slack of an outer leaf `u` and a free leaf `v`, none where there is no such
+    /// pair: the answer of [`least_outer_free`](crate::least_outer_free) where the members are the
+    /// outer leaves. The three slices have an entry for each leaf; `top` isn't read.
+    ///
+    /// Cost: proportional to the number of leaves.
+    pub fn least(&self, total: &[i64], top: &[usize], mark: &[Mark]) -> Option<Pair>
+        requires totals { length total.now ≡ self.now.table.size }
+        requires tops { length top.now ≡ self.now.table.size }
+        requires marks { length mark.now ≡ self.now.table.size }
+        requires fits { SumsFit self.now.table total.now }
+        requires members { (u : ℕ) → u < self.now.table.size → (mark_at mark.now u ≡ Outer) ↔ IsMember self.now.members u }
+        requires agree { Agree self.now.members total.now }
+        ensures { Least self.now.table total.now (IsOuterFree self.now.table mark.now) result }
+    {
+        if self.members.is_empty() {
+            return None;
+        }
+        nearest_kept(&self.costs, &self.nearest, total, mark)
+    }
+}
+
+// What the totals have risen by after a shift; nothing where there is no member.
+fn risen(rise: i128, delta: i64, none: bool) -> i128
+    requires low { pos 0 ≤ℤ rise }
+    requires high { none ≡ false → rise ≤ℤ pos (2 ^ 66) }
+    ensures none { none ≡ true → result ≡ pos 0 }
+    ensures some { none ≡ false → result ≡ rise +ℤ delta }
+{
+    if none { 0 } else { rise + i128::from(delta) }
+}
+
+// Takes a new member as the nearest of each leaf to which none is nearer.
+fn take_nearer(costs: &Costs, nearest: &mut [Nearest], member: Kept, first: bool)
+    requires count { length nearest.old ≡ costs.now.size }
+    requires leaf { member.leaf < costs.now.size }
+    requires low { negsuc (2 ^ 66) ≤ℤ member.base }
+    requires high { member.base ≤ℤ pos (2 ^ 66) }
+    ensures count { length nearest.new ≡ costs.now.size }
+    ensures taken { (v : ℕ) → v < costs.now.size → IsTakenAt costs.now member first v (nearest_at nearest.old v) (nearest_at nearest.new v) }
+{
+    for v in 0..costs.size() {
+        let key = i128::from(costs.cost(member.leaf, v)) - member.base;
+        let other = Nearest {
+            leaf: member.leaf,
+            key,
+        };
+        nearest[v as usize] = nearer_member(nearest[v as usize], other, first);
+    }
+}
+
+// The second one, where it is the first member or has the less key.
+fn nearer_member(kept: Nearest, other: Nearest, first: bool) -> Nearest
+    ensures { ((result ≡ other) × ((first ≡ true) ⊎ (other.key ≤ℤ kept.key))) ⊎ ((result ≡ kept) × (first ≡ false) × (kept.key ≤ℤ other.key)) }
+{
+    if first || other.key < kept.key {
+        other
+    } else {
+        kept
+    }
+}
+
+// The pair of least slack of a free leaf and its nearest member.
+fn nearest_kept(costs: &Costs, nearest: &[Nearest], total: &[i64], mark: &[Mark]) -> Option<Pair>
+    requires totals { length total.now ≡ costs.now.size }
+    requires marks { length mark.now ≡ costs.now.size }
+    requires count { length nearest.now ≡ costs.now.size }
+    requires fits { SumsFit costs.now total.now }
+    requires low { (v : ℕ) → v < costs.now.size → (nearest_at nearest.now v).leaf < costs.now.size }
+    ensures { Least costs.now total.now (IsNearestFree costs.now nearest.now mark.now) result }
+{
+    let mut best = None;
+    for v in 0..costs.size() {
+        let u = nearest[v as usize].leaf;
+        let pair = pair_of(costs, total, u, v);
+        best = nearer_if(best, pair, is_free(mark[v as usize]));
+    }
+    best
+}
