@@ -9,6 +9,8 @@ mod checks;
 #[cfg(test)]
 mod devices;
 #[cfg(test)]
+mod graphs;
+#[cfg(test)]
 mod ground;
 #[cfg(test)]
 mod json;
