@@ -7,14 +7,15 @@ use Rattle.std.proofs.lemmas.List.{get_or-set_same, length-set}
 use Rattle.std.proofs.lemmas.List.FromFn.{get_or-map-range_with_len, length-map-range_with_len}
 use Rattle.std.proofs.lemmas.List.Sums.{get_or-le-sum_by, sum_by-set}
 use Rattle.sg_sums.specs.Sums.{sum_below}
+use Rattle.sg_sums.proofs.ListLaws.{sum_by-agree, sum_by-map_of}
 use Rattle.sg_sums.proofs.SumLaws.{sum_by_is_sum_below, sum_below-same}
 use Rattle.sg_model.specs.declared.bond.Bond.{Bond}
 use Rattle.sg_model.specs.Ising.{Ising, bond_at, bond_count}
 use Rattle.sg_model.specs.Energy.{weight}
 use Rattle.sg_sums.specs.Sets.{holds}
-use Rattle.sg_model.specs.Changes.{HasSameEnds, flipped_at, opposite, recoupled, with_bonds, with_coupling, with_seam_flipped}
+use Rattle.sg_model.specs.Changes.{HasSameEnds, flipped_at, negated, opposite, recoupled, with_bonds, with_coupling, with_seam_flipped}
 use Rattle.sg_model.proofs.SameEnds.{recoupled_instance}
-use Rattle.sg_model.proofs.Recoupled.{flipped_ends, coupling_ends}
+use Rattle.sg_model.proofs.Recoupled.{flipped_ends, negated_ends, coupling_ends}
 use Rattle.sg_faces.proofs.SameFaces.{is_euler_same, faces_same}
 use Rattle.sg_limits.specs.Limits.{forced_limit}
 use Rattle.sg_planar.specs.Fit.{Embedding, IsPlanar}
@@ -57,6 +58,13 @@ weight_flipped inst =
 pub planar_flipped : (p : Embedding) → IsPlanar p → IsPlanar (record { instance = with_seam_flipped p.instance; faces = p.faces })
 planar_flipped p h =
     planar_recoupled p (with_seam_flipped p.instance).bonds h (flipped_ends p.instance h.instance.joined) (omega (arith, weight_flipped p.instance, h.sum))
+
+weight_negated : (inst : Ising) → weight (negated inst) ≡ weight inst
+weight_negated inst = sum_by-map_of size opposite inst.bonds ∙ sum_by-agree (λ b. size (opposite b)) size inst.bonds size_opposite
+
+pub planar_negated : (p : Embedding) → IsPlanar p → IsPlanar (record { instance = negated p.instance; faces = p.faces })
+planar_negated p h =
+    planar_recoupled p (map opposite p.instance.bonds) h (negated_ends p.instance h.instance.joined) (omega (arith, weight_negated p.instance, h.sum))
 
 -- the new coupling comes into the sum in place of the old
 pub weight_coupled : (inst : Ising) (bond : ℕ) (z : ℤ) → bond < bond_count inst → weight (with_coupling inst bond z) + unsigned_abs (bond_at inst bond).j ≡ weight inst + unsigned_abs z

@@ -17,6 +17,7 @@
 
 mod assignment;
 mod components;
+mod dealing;
 mod fitness;
 mod fitting;
 mod planar;

@@ -2,7 +2,7 @@ ghost use Rattle.std.specs.Prelude.{◌≡◌, ◌<◌, ◌≤◌, IfOk, IfErr};
 ghost use Rattle.sg_limits.specs.Limits.{forced_limit};
 ghost use Rattle.sg_model.specs.Ising.{bond_count};
 ghost use Rattle.sg_model.specs.Energy.{weight};
-ghost use Rattle.sg_model.specs.Changes.{with_coupling, with_seam_flipped};
+ghost use Rattle.sg_model.specs.Changes.{negated, with_coupling, with_seam_flipped};
 ghost use Rattle.sg_planar.specs.Fit.{IsFit, IsPlanar, IsUnfitFault};
 
 use super::NoMemory;
@@ -56,6 +56,14 @@ impl Planar {
         }
     }
 
+    /// The planar instance of these two, which make one.
+    pub(crate) fn of(instance: Instance, faces: Faces) -> Planar
+        requires { IsPlanar (record { instance = instance; faces = faces }) }
+        ensures { result ≡ record { instance = instance; faces = faces } }
+    {
+        Planar { instance, faces }
+    }
+
     /// The instance.
     pub fn instance(&self) -> &Instance
         ensures value { result.now ≡ self.now.instance }
@@ -79,6 +87,17 @@ impl Planar {
         ensures planar { IfOk result IsPlanar }
     {
         let instance = self.instance.flip_seam()?;
+        let faces = self.faces.clone()?;
+        Ok(Planar { instance, faces })
+    }
+
+    /// A copy in which the sign of every coupling is changed. The faces stay.
+    pub fn negated(&self) -> Result<Planar, NoMemory>
+        ensures copy { IfOk result (λ copy.
+            copy ≡ record { instance = negated self.now.instance; faces = self.now.faces }) }
+        ensures planar { IfOk result IsPlanar }
+    {
+        let instance = self.instance.negated()?;
         let faces = self.faces.clone()?;
         Ok(Planar { instance, faces })
     }

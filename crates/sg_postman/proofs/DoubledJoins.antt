@@ -30,7 +30,8 @@ once_or_twice : (n : ℕ) (b : Bool) → n ≡ 1 + cond b 1 0 → (n ≡ 1) ⊎ 
 once_or_twice n true h = inr h
 once_or_twice n false h = inl h
 
-module _ (g : Graph) (join left : List ℕ) (is : IsJoin g (odd_nodes g) join) (copies : (e : ℕ) → e < edge_count g → left_of left e ≡ 1 + cond (holds join e) 1 0) where
+module _ (g : Graph) (join left : List ℕ) (is : IsJoin g (odd_nodes g) join)
+    (copies : (e : ℕ) → e < edge_count g → left_of left e ≡ 1 + cond (holds join e) 1 0) where
   pub some_copies : (e : ℕ) → e < edge_count g → 0 < left_of left e
   some_copies e l = omega (arith, copies e l)
 
@@ -44,14 +45,15 @@ module _ (g : Graph) (join left : List ℕ) (is : IsJoin g (odd_nodes g) join) (
 
   pub even_copies : (x : ℕ) → x < g.nodes → open_ends g left x % 2 ≡ 0
   even_copies x l =
-      ap (λ n. n % 2) (copies_sum (ends_at g x) ∙ ap (λ n. n + sum_by (ends_at g x) join) (sym (sum_by_is_sum_below (ends_on x) g.edges (record { a = 0; b = 0; w = pos 0 }))))
+      ap (λ n. n % 2) (copies_sum (ends_at g x)
+      ∙ ap (λ n. n + sum_by (ends_at g x) join) (sym (sum_by_is_sum_below (ends_on x) g.edges (record { a = 0; b = 0; w = pos 0 }))))
       ∙ even_sum (degree_of g x) (sum_by (ends_at g x) join) (odd (degree_of g x)) (odd_is (degree_of g x))
       (is.odd_at x l ∙ ap (λ b. cond {A = ℕ} b 1 0) (holds-chosen_below (λ v. odd (degree_of g v)) g.nodes x l))
 
   module _ (ss : List Step) (euler : IsEulerTour g (left_of left) ss) where
     euler_tour : IsTour g ss
     euler_tour = record {
-      trail = euler.trail;
+      steps = euler.trail;
       closed = euler.closed;
       each = λ e l. once_or_twice (times e ss) (holds join e) (euler.each e l ∙ copies e l);
     }

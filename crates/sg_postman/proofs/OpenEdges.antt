@@ -15,7 +15,8 @@ module _ (g : Graph) (lists : List (List ℕ)) (incident : AreIncident g lists) 
   -- where no edge of the list has a copy left, the node is spent
   pub spent_at : (left : List ℕ) → ((k : ℕ) → k < length (list_at lists x) → left_of left (slice_index (list_at lists x) k) ≡ 0) → IsSpent g left x
   spent_at left none e ends =
-      let found : Contains (list_at lists x) e = incident_leads g lists incident x low (list_at lists x) refl e (other_end x (edge_at g e)) (leads_other g e x ends) in
+      let found : Contains (list_at lists x) e =
+      incident_leads g lists incident x low (list_at lists x) refl e (other_end x (edge_at g e)) (leads_other g e x ends) in
       let at : slice_index (list_at lists x) found.0 ≡ e = sym (get_or_read (list_at lists x) found.0 e found.1 (sym found.2) 0) in
       subst (λ k. left_of left k ≡ 0) at (none found.0 found.1)
 

@@ -1,5 +1,5 @@
 -- The two steps of a tracing, and its end.
-use Rattle.std.proofs.Common.{inl, inr, ◌≡◌, ◌⊎◌, ◌∙◌, sym, ap, ap₂, subst, refl, ℕ, ◌+◌, ◌-◌, ◌*◌, ◌%◌, ◌<◌, ◌≤◌, ◌==◌, eqb, eq-eqb, cond, Bool, true, false, List, [], ◌∷◌, ◌++◌, length, arith, length-set, pos}
+use Rattle.std.proofs.Common.{inl, inr, ◌≡◌, ◌≢◌, ◌⊎◌, ◌∙◌, sym, ap, ap₂, subst, refl, ℕ, ◌+◌, ◌-◌, ◌*◌, ◌%◌, ◌<◌, ◌≤◌, ◌==◌, eqb, eq-eqb, cond, Bool, true, false, List, [], ◌∷◌, ◌++◌, length, arith, length-set, pos}
 use Rattle.std.proofs.lemmas.Bool.{cases_eq, false_from_ne_true, eqb-true}
 use Rattle.std.proofs.lemmas.List.{get_or-set_same, get_or-set_other}
 use Rattle.std.proofs.lemmas.List.Sums.{sum_by-cons}
@@ -10,7 +10,7 @@ use Rattle.sg_graph.specs.Incidence.{EndsAt}
 use Rattle.sg_graph.specs.declared.web.Edge.{Edge}
 use Rattle.sg_graph.proofs.Walks.{leads_other, turned, leads_low}
 use Rattle.sg_postman.specs.declared.steps.Step.{Step}
-use Rattle.sg_postman.specs.Tour.{IsTrail, end_of, times}
+use Rattle.sg_postman.specs.Tour.{AreSteps, end_of, times}
 use Rattle.sg_postman.specs.Tracing.{AreSpent, IsEulerTour, IsSpent, IsTracing, at_node, left_of, one_less, onward, open_ends}
 use Rattle.sg_postman.proofs.Trails.{end-append, times-append, trail-append, trail-last}
 
@@ -19,7 +19,8 @@ taken left e k l some = elim (cases_eq e k) [
   | inl is ↦
       let same : left_of (one_less left e) e ≡ left_of left e - 1 = get_or-set_same left e (left_of left e - 1) 0 l in
       let at : left_of left e ≡ left_of (one_less left e) e + 1 = omega (arith, same, some) in
-      subst (λ x. left_of left x ≡ left_of (one_less left e) x + cond (eqb e x) 1 0) is (at ∙ ap (λ b. left_of (one_less left e) e + cond {A = ℕ} b 1 0) (sym (eq-eqb e e refl)))
+      subst (λ x. left_of left x ≡ left_of (one_less left e) x + cond (eqb e x) 1 0) is
+      (at ∙ ap (λ b. left_of (one_less left e) e + cond {A = ℕ} b 1 0) (sym (eq-eqb e e refl)))
   | inr other ↦
       let same : left_of (one_less left e) k ≡ left_of left k = get_or-set_other left e k (left_of left e - 1) 0 (λ h. other (sym h)) in
       let none : eqb e k ≡ false = false_from_ne_true (eqb e k) (λ h. other (eqb-true e k h)) in
@@ -36,12 +37,18 @@ even_out o p t y j e h = grind arith
 even_back : (o t j u : ℕ) → j ≡ t → (o + t + j) % 2 ≡ 0 → (o + u + u) % 2 ≡ 0
 even_back o t j u e h = grind arith
 
+swapped : (m n : ℕ) → m + n ≡ n + m
+swapped m n = omega arith
+
 -- an edge ends at its two ends, and nowhere else
 two_ends : (g : Graph) (e t y x : ℕ) → Leads g e t y → ends_at g x e ≡ at_node t x + at_node y x
 two_ends g e t y x l = elim l.ways [
   | inl w ↦ rw (w.0, w.1) refl
-  | inr w ↦ rw (w.0, w.1) (let s : cond {A = ℕ} (y == x) 1 0 + cond {A = ℕ} (t == x) 1 0 ≡ cond {A = ℕ} (t == x) 1 0 + cond {A = ℕ} (y == x) 1 0 = omega arith in s)
+  | inr w ↦ rw (w.0, w.1) (swapped (at_node y x) (at_node t x))
 ]
+
+elsewhere : (y x : ℕ) → y ≢ x → at_node y x ≡ 0
+elsewhere y x h = ap (λ b. cond {A = ℕ} b 1 0) (false_from_ne_true (eqb y x) (λ e. h (eqb-true y x e)))
 
 -- where an edge has no end, it does not end
 no_ends : (g : Graph) (x e : ℕ) → e < edge_count g → (ends_at g x e ≡ 0) ⊎ EndsAt g x e
@@ -52,7 +59,7 @@ no_ends g x e l = by (edge_at g e) refl
       | inl a ↦ inr (l, inl (ap (λ w. w.a) is ∙ a))
       | inr na ↦ elim (cases_eq edge.b x) [
         | inl b ↦ inr (l, inr (ap (λ w. w.b) is ∙ b))
-        | inr nb ↦ inl (ap (ends_on x) is ∙ ap₂ {A = ℕ} (λ m n. m + n) (ap (λ c. cond {A = ℕ} c 1 0) (false_from_ne_true (eqb edge.a x) (λ h. na (eqb-true edge.a x h)))) (ap (λ c. cond {A = ℕ} c 1 0) (false_from_ne_true (eqb edge.b x) (λ h. nb (eqb-true edge.b x h)))))
+        | inr nb ↦ inl (ap (ends_on x) is ∙ ap₂ {A = ℕ} (λ m n. m + n) (elsewhere edge.a x na) (elsewhere edge.b x nb))
       ]
     ]
 
@@ -93,7 +100,8 @@ spent-less : (g : Graph) (old new : List ℕ) → ((k : ℕ) → left_of new k �
 spent-less g old new less x [] h = tt
 spent-less g old new less x (s ∷ ss) h = (λ e ends. omega (arith, less e, h.0 e ends), spent-less g old new less s.to ss h.1)
 
-spent-append : (g : Graph) (left : List ℕ) (x : ℕ) (ss : List Step) (s : Step) → AreSpent g left x ss → IsSpent g left (end_of x ss) → AreSpent g left x (ss ++ s ∷ [])
+spent-append : (g : Graph) (left : List ℕ) (x : ℕ) (ss : List Step) (s : Step) → AreSpent g left x ss
+    → IsSpent g left (end_of x ss) → AreSpent g left x (ss ++ s ∷ [])
 spent-append g left x [] s h last = (last, tt)
 spent-append g left x (r ∷ ss) s h last = (h.0, spent-append g left r.to ss s h.1 last)
 
@@ -101,12 +109,15 @@ module _ (g : Graph) (web : IsWeb g) (copies : ℕ → ℕ) where
   opened : (left : List ℕ) (x e : ℕ) → e < length left → 0 < left_of left e → length left ≡ edge_count g
       → open_ends g left x ≡ open_ends g (one_less left e) x + ends_at g x e
   opened left x e l some n =
-      sum_below-same (λ k. left_of left k * ends_at g x k) (λ k. left_of (one_less left e) k * ends_at g x k + cond (eqb e k) (ends_at g x e) 0) (edge_count g) each
+      sum_below-same (λ k. left_of left k * ends_at g x k)
+      (λ k. left_of (one_less left e) k * ends_at g x k + cond (eqb e k) (ends_at g x e) 0) (edge_count g) each
       ∙ sum_below-add (λ k. left_of (one_less left e) k * ends_at g x k) (λ k. cond (eqb e k) (ends_at g x e) 0) (edge_count g)
       ∙ ap (λ m. open_ends g (one_less left e) x + m) (sum_below_pick (ends_at g x e) e (edge_count g) (omega (arith, l, n)))
     where
       each : (k : ℕ) → k < edge_count g → left_of left k * ends_at g x k ≡ left_of (one_less left e) k * ends_at g x k + cond (eqb e k) (ends_at g x e) 0
-      each k b = spread (left_of left k) (left_of (one_less left e) k) (ends_at g x k) (ends_at g x e) (eqb e k) (taken left e k l some) (λ t. ap (ends_at g x) (eqb-true e k t))
+      each k b =
+          spread (left_of left k) (left_of (one_less left e) k) (ends_at g x k) (ends_at g x e) (eqb e k) (taken left e k l some)
+          (λ t. ap (ends_at g x) (eqb-true e k t))
 
   pub forward : (left : List ℕ) (out back : List Step) (e : ℕ) → IsTracing g copies left out back → EndsAt g (end_of 0 out) e → 0 < left_of left e
       → IsTracing g copies (one_less left e) (out ++ onward g out e ∷ []) back
@@ -115,8 +126,11 @@ module _ (g : Graph) (web : IsWeb g) (copies : ℕ → ℕ) where
     out_trail = trail-append g 0 out (onward g out e) tracing.out_trail leads;
     back_trail = tracing.back_trail;
     copies_are = λ k l. omega (arith, tracing.copies_are k l, taken left e k low some, times-append k out (onward g out e));
-    even = λ x l. rw (end-append 0 out (onward g out e)) (even_out (open_ends g left x) (open_ends g (one_less left e) x) (at_node (end_of 0 out) x) (at_node (onward g out e).to x) (at_node (end_of 0 back) x)
-        (opened left x e low some tracing.count ∙ ap (λ m. open_ends g (one_less left e) x + m) (two_ends g e (end_of 0 out) (onward g out e).to x leads)) (tracing.even x l));
+    even = λ x l.
+        rw (end-append 0 out (onward g out e)) (even_out (open_ends g left x) (open_ends g (one_less left e) x)
+        (at_node (end_of 0 out) x) (at_node (onward g out e).to x) (at_node (end_of 0 back) x)
+        (opened left x e low some tracing.count
+        ∙ ap (λ m. open_ends g (one_less left e) x + m) (two_ends g e (end_of 0 out) (onward g out e).to x leads)) (tracing.even x l));
     spent = spent-less g left (one_less left e) (λ k. omega (arith, taken left e k low some)) 0 back tracing.spent;
   }
     where
@@ -126,7 +140,7 @@ module _ (g : Graph) (web : IsWeb g) (copies : ℕ → ℕ) where
       low : e < length left
       low = omega (arith, ends.0, tracing.count)
 
-  trail_low : (x : ℕ) (ss : List Step) → x < g.nodes → IsTrail g x ss → end_of x ss < g.nodes
+  trail_low : (x : ℕ) (ss : List Step) → x < g.nodes → AreSteps g x ss → end_of x ss < g.nodes
   trail_low x [] l t = l
   trail_low x (s ∷ ss) l t = trail_low s.to ss (leads_low g s.edge x s.to web t.0).1 t.1
 
@@ -145,13 +159,14 @@ module _ (g : Graph) (web : IsWeb g) (copies : ℕ → ℕ) where
       ]
 
   -- one is stuck only where the done trail stands
-  pub stuck : (left : List ℕ) (out back : List Step) → IsTracing g copies left out back → end_of 0 out < g.nodes → IsSpent g left (end_of 0 out) → end_of 0 back ≡ end_of 0 out
+  pub stuck : (left : List ℕ) (out back : List Step) → IsTracing g copies left out back → end_of 0 out < g.nodes
+      → IsSpent g left (end_of 0 out) → end_of 0 back ≡ end_of 0 out
   stuck left out back tracing low spent = elim (cases_eq (end_of 0 back) (end_of 0 out)) [
     | inl same ↦ same
     | inr other ↦
-        let away : eqb (end_of 0 back) (end_of 0 out) ≡ false = false_from_ne_true (eqb (end_of 0 back) (end_of 0 out)) (λ h. other (eqb-true (end_of 0 back) (end_of 0 out) h)) in
         absurd (alone (open_ends g left (end_of 0 out)) (at_node (end_of 0 out) (end_of 0 out)) (at_node (end_of 0 back) (end_of 0 out))
-        (none_open left (end_of 0 out) spent) (ap (λ b. cond {A = ℕ} b 1 0) (eq-eqb (end_of 0 out) (end_of 0 out) refl)) (ap (λ b. cond {A = ℕ} b 1 0) away) (tracing.even (end_of 0 out) low))
+        (none_open left (end_of 0 out) spent) (ap (λ b. cond {A = ℕ} b 1 0) (eq-eqb (end_of 0 out) (end_of 0 out) refl))
+        (elsewhere (end_of 0 back) (end_of 0 out) other) (tracing.even (end_of 0 out) low))
   ]
 
   pub backward : (left : List ℕ) (out back : List Step) (s : Step) → IsTracing g copies left (out ++ s ∷ []) back → s.to < g.nodes → IsSpent g left s.to
@@ -166,23 +181,28 @@ module _ (g : Graph) (web : IsWeb g) (copies : ℕ → ℕ) where
         out_trail = last.0;
         back_trail = trail-append g 0 back r tracing.back_trail (rw joined (turned g s.edge (end_of 0 out) s.to last.1));
         copies_are = λ k l. omega (arith, tracing.copies_are k l, times-append k out s, times-append k back r);
-        even = λ x l. rw (end-append 0 back r) (even_back (open_ends g left x) (at_node s.to x) (at_node (end_of 0 back) x) (at_node (end_of 0 out) x) (ap (λ y. at_node y x) joined) (rw here at (tracing.even x l)));
+        even = λ x l.
+            rw (end-append 0 back r) (even_back (open_ends g left x) (at_node s.to x) (at_node (end_of 0 back) x) (at_node (end_of 0 out) x)
+            (ap (λ y. at_node y x) joined) (rw here at (tracing.even x l)));
         spent = spent-append g left 0 back r tracing.spent (rw joined spent);
       }
 
   -- the trail back from a step with nothing left at its end
-  pub backed : (left : List ℕ) (out old back more : List Step) (s : Step) → IsTracing g copies left old back → old ≡ out ++ s ∷ [] → more ≡ back ++ record { edge = s.edge; to = end_of 0 out } ∷ []
+  pub backed : (left : List ℕ) (out old back more : List Step) (s : Step) → IsTracing g copies left old back → old ≡ out ++ s ∷ []
+      → more ≡ back ++ record { edge = s.edge; to = end_of 0 out } ∷ []
       → IsSpent g left (end_of 0 old) → IsTracing g copies left out more
   backed left out old back more s tracing e m spent =
       let here : end_of 0 old ≡ s.to = ap (end_of 0) e ∙ end-append 0 out s in
-      rw m (backward left out back s (subst (λ o. IsTracing g copies left o back) e tracing) (rw (← here) (stands_low left old back tracing)) (subst (IsSpent g left) here spent))
+      rw m (backward left out back s (subst (λ o. IsTracing g copies left o back) e tracing)
+      (rw (← here) (stands_low left old back tracing)) (subst (IsSpent g left) here spent))
 
   first_spent : (left : List ℕ) (x : ℕ) (ss : List Step) → AreSpent g left x ss → IsSpent g left (end_of x ss) → IsSpent g left x
   first_spent left x [] h last = last
   first_spent left x (s ∷ ss) h last = h.0
 
   -- what an edge of the trail leads to is spent
-  onto_spent : (left : List ℕ) (e a b x : ℕ) (ss : List Step) → Leads g e a b → IsTrail g x ss → AreSpent g left x ss → IsSpent g left (end_of x ss) → 0 < times e ss → IsSpent g left b
+  onto_spent : (left : List ℕ) (e a b x : ℕ) (ss : List Step) → Leads g e a b → AreSteps g x ss → AreSpent g left x ss
+      → IsSpent g left (end_of x ss) → 0 < times e ss → IsSpent g left b
   onto_spent left e a b x [] l t h last some = absurd (omega (arith, some))
   onto_spent left e a b x (s ∷ ss) l t h last some = elim (cases_eq s.edge e) [
     | inl here ↦ elim (same_ends g e a b x s.to l (subst (λ k. Leads g k x s.to) here t.0)) [
@@ -192,11 +212,14 @@ module _ (g : Graph) (web : IsWeb g) (copies : ℕ → ℕ) where
     | inr other ↦ onto_spent left e a b s.to ss l t.1 h.1 last (later s ss e (false_from_ne_true (eqb s.edge e) (λ h. other (eqb-true s.edge e h))) some)
   ]
 
-  pub finished : (left : List ℕ) (back : List Step) → IsConnected g → ((e : ℕ) → e < edge_count g → 0 < copies e) → IsTracing g copies left [] back → IsSpent g left 0 → IsEulerTour g copies back
+  pub finished : (left : List ℕ) (back : List Step) → IsConnected g → ((e : ℕ) → e < edge_count g → 0 < copies e)
+      → IsTracing g copies left [] back → IsSpent g left 0 → IsEulerTour g copies back
   finished left back connected some tracing spent = record {
     trail = tracing.back_trail;
     closed = closed;
-    each = λ e l. omega (arith, tracing.copies_are e l, all_spent (edge_at g e).a (web.joined e (record { a = 0; b = 0; w = pos 0 }) l).first_end e (l, inl refl));
+    each = λ e l.
+        let edge = web.joined e (record { a = 0; b = 0; w = pos 0 }) l in
+        omega (arith, tracing.copies_are e l, all_spent (edge_at g e).a edge.first_end e (l, inl refl));
   }
     where
       closed : end_of 0 back ≡ 0
@@ -206,7 +229,8 @@ module _ (g : Graph) (web : IsWeb g) (copies : ℕ → ℕ) where
       reach x [] y here w = subst (IsSpent g left) w here
       reach x (e ∷ es) y here w =
           let out = here e (w.1.below, elim w.1.ways [ inl p ↦ inl p.0 | inr p ↦ inr p.1 ]) in
-          reach w.0 es y (onto_spent left e x w.0 0 back w.1 tracing.back_trail tracing.spent (rw closed spent) (omega (arith, tracing.copies_are e w.1.below, out, some e w.1.below))) w.2
+          let stands : 0 < times e back = omega (arith, tracing.copies_are e w.1.below, out, some e w.1.below) in
+          reach w.0 es y (onto_spent left e x w.0 0 back w.1 tracing.back_trail tracing.spent (rw closed spent) stands) w.2
 
       all_spent : (x : ℕ) → x < g.nodes → IsSpent g left x
       all_spent x l = let r = connected x l in reach 0 r.0 x spent r.1

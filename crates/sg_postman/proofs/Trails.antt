@@ -4,7 +4,7 @@ use Rattle.std.proofs.lemmas.List.Sums.{sum_by-append, sum_by-cons}
 use Rattle.sg_graph.specs.Web.{Graph}
 use Rattle.sg_graph.specs.Walk.{IsWalk, Leads}
 use Rattle.sg_postman.specs.declared.steps.Step.{Step}
-use Rattle.sg_postman.specs.Tour.{IsTrail, edges_of, end_of, times}
+use Rattle.sg_postman.specs.Tour.{AreSteps, edges_of, end_of, times}
 
 pub end-append : (x : ℕ) (ss : List Step) (s : Step) → end_of x (ss ++ s ∷ []) ≡ s.to
 end-append x [] s = refl
@@ -18,20 +18,20 @@ end_last x (s ∷ t ∷ ss) d l =
     end_last s.to (t ∷ ss) d (omega arith) ∙ ap (λ k. (get_or (s ∷ t ∷ ss) k d).to) (sym e)
 
 module _ (g : Graph) where
-  pub trail-append : (x : ℕ) (ss : List Step) (s : Step) → IsTrail g x ss → Leads g s.edge (end_of x ss) s.to → IsTrail g x (ss ++ s ∷ [])
+  pub trail-append : (x : ℕ) (ss : List Step) (s : Step) → AreSteps g x ss → Leads g s.edge (end_of x ss) s.to → AreSteps g x (ss ++ s ∷ [])
   trail-append x [] s t l = (l, tt)
   trail-append x (r ∷ ss) s t l = (t.0, trail-append r.to ss s t.1 l)
 
   -- the last step, and those before it
-  pub trail-last : (x : ℕ) (ss : List Step) (s : Step) → IsTrail g x (ss ++ s ∷ []) → IsTrail g x ss × Leads g s.edge (end_of x ss) s.to
+  pub trail-last : (x : ℕ) (ss : List Step) (s : Step) → AreSteps g x (ss ++ s ∷ []) → AreSteps g x ss × Leads g s.edge (end_of x ss) s.to
   trail-last x [] s t = (tt, t.0)
-  trail-last x (r ∷ ss) s t = let b : IsTrail g r.to ss × Leads g s.edge (end_of r.to ss) s.to = trail-last r.to ss s t.1 in ((t.0, b.0), b.1)
+  trail-last x (r ∷ ss) s t = let b : AreSteps g r.to ss × Leads g s.edge (end_of r.to ss) s.to = trail-last r.to ss s t.1 in ((t.0, b.0), b.1)
 
 pub times-append : (e : ℕ) (ss : List Step) (s : Step) → times e (ss ++ s ∷ []) ≡ times e ss + times e (s ∷ [])
 times-append e ss s = sum_by-append (λ (r : Step). cond (r.edge == e) 1 0) ss (s ∷ [])
 
 -- the edges of a trail are a walk
-pub trail_walk : (g : Graph) (x : ℕ) (ss : List Step) → IsTrail g x ss → IsWalk g x (edges_of ss) (end_of x ss)
+pub trail_walk : (g : Graph) (x : ℕ) (ss : List Step) → AreSteps g x ss → IsWalk g x (edges_of ss) (end_of x ss)
 trail_walk g x [] t = refl
 trail_walk g x (s ∷ ss) t = (s.to, t.0, trail_walk g s.to ss t.1)
 

@@ -14,9 +14,9 @@ end_of x [] = x
 end_of x (s ∷ ss) = end_of s.to ss
 
 -- each step leads over its edge from where one stands
-abbrev pub IsTrail : Graph → ℕ → List Step → Type 0
-IsTrail g x [] = Unit {0}
-IsTrail g x (s ∷ ss) = Leads g s.edge x s.to × IsTrail g s.to ss
+abbrev pub AreSteps : Graph → ℕ → List Step → Type 0
+AreSteps g x [] = Unit {0}
+AreSteps g x (s ∷ ss) = Leads g s.edge x s.to × AreSteps g s.to ss
 
 -- the edges of the steps, in their order
 abbrev pub edges_of : List Step → List ℕ
@@ -28,7 +28,7 @@ times e ss = count_by (λ s. s.edge == e) ss
 
 -- steps from node 0 back to it, in which each edge stands once or twice
 pub record IsTour (g : Graph) (ss : List Step) : Type 0 where
-  pub trail : IsTrail g 0 ss
+  pub steps : AreSteps g 0 ss
   pub closed : end_of 0 ss ≡ 0
   pub each : (e : ℕ) → e < edge_count g → (times e ss ≡ 1) ⊎ (times e ss ≡ 2)
 

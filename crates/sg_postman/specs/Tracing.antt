@@ -1,16 +1,16 @@
--- A closed trail in the making (Hierholzer 1873): the copies of the edges that are left, a trail out from node 0, and the
--- trail that is done.
+-- A closed trail in the making (Hierholzer 1873): the copies of the edges that are left, a trail out from node 0, and
+-- the trail that is done.
 use Rattle.std.specs.Prelude.{◌≡◌, ℕ, ◌+◌, ◌-◌, slice_set, sum, ◌*◌, ◌%◌, ◌<◌, ◌==◌, cond, List, [], ◌∷◌, length, slice_index}
 use Rattle.sg_sums.specs.Sums.{sum_below}
 use Rattle.sg_graph.specs.Incidence.{EndsAt, list_at}
 use Rattle.sg_graph.specs.Walk.{other_end}
 use Rattle.sg_graph.specs.Web.{Graph, edge_at, edge_count, ends_at}
 use Rattle.sg_postman.specs.declared.steps.Step.{Step}
-use Rattle.sg_postman.specs.Tour.{IsTrail, end_of, times}
+use Rattle.sg_postman.specs.Tour.{AreSteps, end_of, times}
 
 -- steps from node 0 back to it that use each copy of each edge once
 pub record IsEulerTour (g : Graph) (copies : ℕ → ℕ) (ss : List Step) : Type 0 where
-  pub trail : IsTrail g 0 ss
+  pub trail : AreSteps g 0 ss
   pub closed : end_of 0 ss ≡ 0
   pub each : (e : ℕ) → e < edge_count g → times e ss ≡ copies e
 
@@ -30,7 +30,8 @@ AreSpent g left x (s ∷ ss) = IsSpent g left x × AreSpent g left s.to ss
 -- for each node a place in its list such that no copy is left of the edges before it
 pub record AreTried (lists : List (List ℕ)) (left tried : List ℕ) : Type 0 where
   pub count : length tried ≡ length lists
-  pub spent : (x k : ℕ) → x < length lists → k < slice_index tried x → left_of left (slice_index (list_at lists x) k) ≡ 0
+  pub spent : (x k : ℕ) → x < length lists → k < slice_index tried x
+      → left_of left (slice_index (list_at lists x) k) ≡ 0
 
 -- the ends at x of all copies that are left
 abbrev pub open_ends : Graph → List ℕ → ℕ → ℕ
@@ -43,8 +44,8 @@ at_node y x = cond (y == x) 1 0
 -- `out` leads from node 0 to where it stands, and `back`, which is done, from node 0 over spent nodes
 pub record IsTracing (g : Graph) (copies : ℕ → ℕ) (left : List ℕ) (out back : List Step) : Type 0 where
   pub count : length left ≡ edge_count g
-  pub out_trail : IsTrail g 0 out
-  pub back_trail : IsTrail g 0 back
+  pub out_trail : AreSteps g 0 out
+  pub back_trail : AreSteps g 0 back
   pub copies_are : (e : ℕ) → e < edge_count g → left_of left e + times e out + times e back ≡ copies e
   pub even : (x : ℕ) → x < g.nodes → (open_ends g left x + at_node (end_of 0 out) x + at_node (end_of 0 back) x) % 2 ≡ 0
   pub spent : AreSpent g left 0 back

@@ -11,7 +11,8 @@ use std::alloc::Global;
 pub fn copies(alloc: Global, count: usize, join: &[u32]) -> Result<Vec<u32>, NoMemory>
     requires { All (λ e. e < count) join.now }
     ensures count { IfOk result (λ copies. length copies.items ≡ count) }
-    ensures copies { IfOk result (λ copies. (e : ℕ) → e < count → left_of copies.items e ≡ 1 + cond (holds join.now e) 1 0) }
+    ensures copies { IfOk result (λ copies. (e : ℕ) → e < count
+        → left_of copies.items e ≡ 1 + cond (holds join.now e) 1 0) }
 {
     let mut copies = vec![in alloc; 1u32; count]?;
     for edge in join {

@@ -84,8 +84,10 @@ fn open_edge(incidence: &Incidence, left: &[u32], tried: &mut Vec<usize>, node: 
     requires tried { AreTried incidence.now left.now tried.old.items }
     ensures tried { AreTried incidence.now left.now tried.new.items }
     ensures found { MatchOption result
-        ((k : ℕ) → k < length (list_at incidence.now node) → left_of left.now (slice_index (list_at incidence.now node) k) ≡ 0)
-        (λ e. (k : ℕ) × (k < length (list_at incidence.now node)) × (slice_index (list_at incidence.now node) k ≡ e) × (0 < left_of left.now e)) }
+        ((k : ℕ) → k < length (list_at incidence.now node)
+        → left_of left.now (slice_index (list_at incidence.now node) k) ≡ 0)
+        (λ e. (k : ℕ) × (k < length (list_at incidence.now node))
+        × (slice_index (list_at incidence.now node) k ≡ e) × (0 < left_of left.now e)) }
 {
     let here = incidence.at(node);
     let place = open_place(here, left, tried[node as usize]);
@@ -129,7 +131,8 @@ fn go(web: &Web, left: &mut [u32], out: &mut Vec<Step>, edge: u32) -> Result<(),
 fn retreat(out: &mut Vec<Step>, back: &mut Vec<Step>) -> Result<bool, NoMemory>
     ensures more { IfOk result (λ more. more ≡ true → (s : Step) × (out.old.items ≡ out.new.items ++ s ∷ [])
         × (back.new.items ≡ back.old.items ++ record { edge = s.edge; to = end_of 0 out.new.items } ∷ [])) }
-    ensures none { IfOk result (λ more. more ≡ false → (out.old.items ≡ []) × (out.new.items ≡ []) × (back.new.items ≡ back.old.items)) }
+    ensures none { IfOk result (λ more. more ≡ false
+        → (out.old.items ≡ []) × (out.new.items ≡ []) × (back.new.items ≡ back.old.items)) }
 {
     match out.pop() {
         Some(step) => {

@@ -63,3 +63,6 @@ pub fn tour(alloc: Global, web: &Web) -> Result<TourAnswer, NoMemory>
         cuts: join.cuts,
     })
 }
+
+#[cfg(test)]
+mod tests;

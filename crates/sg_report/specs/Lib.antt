@@ -6,3 +6,5 @@ pub mod Report
 pub mod ReportValue
 pub mod Samples
 pub mod Graphs
+pub mod Ensembles
+pub mod Ranges

@@ -51,7 +51,8 @@ returns c =
     let at = (goal.at.returns c).After-deref_mut in
     let g = c.args.web.now in
     let join = c.in_ok-join.join.edges in
-    let euler : IsEulerTour g (left_of c.deref_mut.result.now) c.from_vec.result = subst (IsEulerTour g (left_of c.deref_mut.result.now)) (sym c.from_vec.ensures) c.in_ok-steps.ensures in
+    let euler : IsEulerTour g (left_of c.deref_mut.result.now) c.from_vec.result =
+    subst (IsEulerTour g (left_of c.deref_mut.result.now)) (sym c.from_vec.ensures) c.in_ok-steps.ensures in
     euler_least g join c.deref_mut.result.now (least at).join (used at) c.from_vec.result euler _ c.in_ok-join.join.cuts (least at)
     (sum_is (total_weight g) (weight_of g join) c.all_weight.result c.in_ok-join.join.weight
     (c.all_weight.ensures ∙ ap (λ n. pos n) (total at)) c.in_ok-join.ensures.weight (light at))

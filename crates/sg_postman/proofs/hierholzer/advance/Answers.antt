@@ -13,7 +13,9 @@ node_is c = c.standing-node.ensures ∙ ap (end_of 0) c.as_slice.ensures.value
 -- where one stands is a node
 low : (c : After-nodes-nodes) → c.standing-node.result < c.args.web.now.nodes
 low c =
-    let stands = stands_low c.args.web.now c.nodes-nodes.ensures.web c.requires.tracing.0 c.args.left.now c.args.out.now.items c.args.back.now.items c.requires.tracing.1 in
+    let stands =
+    stands_low c.args.web.now c.nodes-nodes.ensures.web c.requires.tracing.0 c.args.left.now c.args.out.now.items c.args.back.now.items
+    c.requires.tracing.1 in
     subst (λ n. n < c.args.web.now.nodes) (sym (node_is c)) stands
 
 pub open_edge-requires-clause-node : goal.open_edge-requires-clause-node
@@ -33,11 +35,13 @@ ends : (c : After-nodes-nodes) (k e : ℕ) → k < length (list_at c.args.incide
     → slice_index (list_at c.args.incidence.now c.standing-node.result) k ≡ e → EndsAt c.args.web.now (end_of 0 c.args.out.now.items) e
 ends c k e l is =
     subst (λ n. EndsAt c.args.web.now n e) (node_is c)
-    (subst (EndsAt c.args.web.now c.standing-node.result) is (all_end c.args.web.now c.args.incidence.now c.requires.incident c.standing-node.result (low c) k 0 l))
+    (subst (EndsAt c.args.web.now c.standing-node.result) is
+    (all_end c.args.web.now c.args.incidence.now c.requires.incident c.standing-node.result (low c) k 0 l))
 
 -- where no edge of the list has a copy left, the node is spent
 spent : (c : After-nodes-nodes) → ((k : ℕ) → k < length (list_at c.args.incidence.now c.standing-node.result)
-    → left_of c.args.left.now (slice_index (list_at c.args.incidence.now c.standing-node.result) k) ≡ 0) → IsSpent c.args.web.now c.args.left.now (end_of 0 c.args.out.now.items)
+    → left_of c.args.left.now (slice_index (list_at c.args.incidence.now c.standing-node.result) k) ≡ 0)
+    → IsSpent c.args.web.now c.args.left.now (end_of 0 c.args.out.now.items)
 spent c none =
     subst (IsSpent c.args.web.now c.args.left.now) (node_is c)
     (spent_at c.args.web.now c.args.incidence.now c.requires.incident c.standing-node.result (low c) c.args.left.now none)
@@ -51,7 +55,9 @@ pub returns-in_ok-go-in-Some-clause-tracing : goal.returns-in_ok-go-in-Some-clau
 returns-in_ok-go-in-Some-clause-tracing c = λ copies tracing.
     let found = c.in-Some.ensures.found in
     let here = ends (goal.at.returns-in_ok-go-in-Some-clause-tracing c).After-nodes-nodes found.0 c.in-Some.edge found.1 found.2 in
-    rw (c.in_ok-go-in-Some.ensures.out, c.in_ok-go-in-Some.ensures.left) (forward c.args.web.now c.nodes-nodes.ensures.web copies c.args.left.now c.args.out.now.items c.args.back.now.items c.in-Some.edge tracing here found.3)
+    rw (c.in_ok-go-in-Some.ensures.out, c.in_ok-go-in-Some.ensures.left)
+    (forward c.args.web.now c.nodes-nodes.ensures.web copies c.args.left.now c.args.out.now.items c.args.back.now.items c.in-Some.edge
+    tracing here found.3)
 
 pub returns-in_ok-go-in-Some-clause-tried : goal.returns-in_ok-go-in-Some-clause-tried
 returns-in_ok-go-in-Some-clause-tried c =
@@ -66,7 +72,10 @@ pub returns-in_ok-more-in-None-clause-tracing : goal.returns-in_ok-more-in-None-
 returns-in_ok-more-in-None-clause-tracing c = λ copies tracing.
     let none' = spent (goal.at.returns-in_ok-more-in-None-clause-tracing c).After-nodes-nodes c.in-None.ensures.found in
     by_more c.in_ok-more-in-None.more
-    (λ more. let s = c.in_ok-more-in-None.ensures.more more in backed c.args.web.now c.nodes-nodes.ensures.web copies c.args.left.now c.retreat.new.out.items c.args.out.now.items c.args.back.now.items c.retreat.new.back.items s.0 tracing s.1 s.2 none')
+    (λ more.
+    let s = c.in_ok-more-in-None.ensures.more more in
+    backed c.args.web.now c.nodes-nodes.ensures.web copies c.args.left.now c.retreat.new.out.items c.args.out.now.items
+    c.args.back.now.items c.retreat.new.back.items s.0 tracing s.1 s.2 none')
     (λ last. let e = c.in_ok-more-in-None.ensures.none last in rw (e.1, e.2) (rw e.0 at tracing))
 
 pub returns-in_ok-more-in-None-clause-done : goal.returns-in_ok-more-in-None-clause-done
