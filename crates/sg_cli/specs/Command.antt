@@ -1,5 +1,5 @@
 -- Which command the words of a call name.
-use Rattle.std.specs.Prelude.{ℕ, ◌*◌, ◌-◌, ◌^◌, ◌≤◌, nat_le, Option, Some, None, List, [], ◌∷◌, codes, if◌then◌else◌, ⊤}
+use Rattle.std.specs.Prelude.{ℕ, ◌*◌, ◌≤◌, nat_le, Option, Some, None, List, [], ◌∷◌, codes, if◌then◌else◌, ⊤}
 use Rattle.std.specs.Str.{bytes_eq}
 use Rattle.std.specs.Option.{option_and_then}
 use Rattle.sg_limits.specs.Limits.{spin_limit}

@@ -96,10 +96,26 @@ fn joins_and_tours(rt: HostRuntime) -> Result<(), Fail> {
 #[test]
 fn graphs_that_are_refused(rt: HostRuntime) -> Result<(), Fail> {
     let rows = [
-        ("tjoin", "graph,2\nedge,0,1,5\nterm,0\nend\n", "refused,21,1\n"),
-        ("tjoin", "graph,2\nedge,0,1,5\nterm,0,0\nend\n", "refused,22,0\n"),
-        ("tjoin", "graph,2\nedge,0,1,5\nterm,0,1,2\nend\n", "refused,22,2\n"),
-        ("tjoin", "graph,2\nedge,0,1,5\nterm,7,0,0\nend\n", "refused,22,7\n"),
+        (
+            "tjoin",
+            "graph,2\nedge,0,1,5\nterm,0\nend\n",
+            "refused,21,1\n",
+        ),
+        (
+            "tjoin",
+            "graph,2\nedge,0,1,5\nterm,0,0\nend\n",
+            "refused,22,0\n",
+        ),
+        (
+            "tjoin",
+            "graph,2\nedge,0,1,5\nterm,0,1,2\nend\n",
+            "refused,22,2\n",
+        ),
+        (
+            "tjoin",
+            "graph,2\nedge,0,1,5\nterm,7,0,0\nend\n",
+            "refused,22,7\n",
+        ),
         ("tjoin", "graph,2\nterm,9\nend,9\n", "refused,5,2\n"),
         ("tjoin", "graph,2\nterm\nterm\nend\n", "refused,5,2\n"),
         ("tjoin", "graph,2\nterm,0,x\nend\n", "refused,3,1,2\n"),
@@ -113,13 +129,37 @@ fn graphs_that_are_refused(rt: HostRuntime) -> Result<(), Fail> {
         ("tjoin", "graph,2\nedge,0,1,5\n", "refused,2\n"),
         ("tjoin", "", "refused,2\n"),
         ("tjoin", "graph,1\nend\nend\n", "refused,12,2\n"),
-        ("tjoin", "{\"kind\":\"square\",\"rows\":1,\"cols\":1,\"couplings\":[]}\n", "refused,4,0\n"),
-        ("tjoin", "graph,3\nterm,1\nedge,0,1,17592186044417\nend\n", "refused,21,1\n"),
-        ("tjoin", "graph,3\nedge,0,1,17592186044417\nend\nx\n", "refused,12,3\n"),
-        ("tjoin", "graph,3\nedge,0,1,17592186044417\nend\n", "refused,13,17592186044417\n"),
+        (
+            "tjoin",
+            "{\"kind\":\"square\",\"rows\":1,\"cols\":1,\"couplings\":[]}\n",
+            "refused,4,0\n",
+        ),
+        (
+            "tjoin",
+            "graph,3\nterm,1\nedge,0,1,17592186044417\nend\n",
+            "refused,21,1\n",
+        ),
+        (
+            "tjoin",
+            "graph,3\nedge,0,1,17592186044417\nend\nx\n",
+            "refused,12,3\n",
+        ),
+        (
+            "tjoin",
+            "graph,3\nedge,0,1,17592186044417\nend\n",
+            "refused,13,17592186044417\n",
+        ),
         ("postman", "graph,2\nend\n", "refused,23,1\n"),
-        ("postman", "graph,4\nedge,0,2,0\nedge,1,3,0\nend\n", "refused,23,1\n"),
-        ("postman", "graph,2\nedge,0,1,5\nterm,0,1\nend\n", "refused,4,2\n"),
+        (
+            "postman",
+            "graph,4\nedge,0,2,0\nedge,1,3,0\nend\n",
+            "refused,23,1\n",
+        ),
+        (
+            "postman",
+            "graph,2\nedge,0,1,5\nterm,0,1\nend\n",
+            "refused,4,2\n",
+        ),
         ("postman", "square,1,1\nend\n", "refused,4,0\n"),
     ];
     for (line, input, text) in rows {

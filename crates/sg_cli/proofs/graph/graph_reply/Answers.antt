@@ -1,6 +1,6 @@
 use Rattle.std.proofs.lemmas.Result.{IfOk-weaker}
 use Rattle.sg_cli.specs.declared.reply.Reply.{Reply}
-use Rattle.sg_cli.specs.Graphs.{AnswersTask, takes_terms}
+use Rattle.sg_cli.specs.Graphs.{AnswersTask}
 use Rattle.sg_cli.specs.Served.{AnswersGraph, GraphFaultNamed, GraphSolved, IsRefused}
 use Rattle.sg_cli.proofs.graph.graph_reply.Goals as goal
 
