@@ -19,7 +19,7 @@ mod paths;
 
 pub use breaking::{costs, rigid};
 pub use law::{forced_minimum, rigid_clusters_agree};
-pub use naming::clusters;
+pub use naming::{clusters, clusters_by};
 use sg_list::Numbers;
 use std::alloc::AllocError;
 

@@ -1,12 +1,13 @@
 ghost use Rattle.std.specs.Prelude.{◌≡◌, ◌≤◌, length, IfOk};
 ghost use Rattle.sg_limits.specs.Limits.{sum_limit};
 ghost use Rattle.sg_model.specs.Energy.{weight};
+ghost use Rattle.sg_bonds.specs.Cost.{AreCosts};
 ghost use Rattle.sg_bonds.specs.Cluster.{AreClusters};
 ghost use Rattle.sg_bonds.specs.Naming.{ShowsRigid};
 
 use super::NoMemory;
 use super::breaking::{costs, rigid};
-use sg_model::ClusterList;
+use sg_model::{ClusterList, Instance};
 use sg_planar::Planar;
 use sg_walk::names;
 use std::alloc::Global;
@@ -19,9 +20,18 @@ pub fn clusters(alloc: Global, planar: &Planar) -> Result<ClusterList, NoMemory>
     ensures { IfOk result (AreClusters planar.now.instance) }
 {
     let costs = costs(alloc, planar)?;
-    let set = rigid_set(alloc, costs.as_slice())?;
-    let names = names(alloc, planar.instance(), set.as_slice())?;
-    listed(alloc, names.as_slice())
+    clusters_by(alloc, planar.instance(), costs.as_slice())
+}
+
+/// The same, where the cost of each bond is known already: in time linear in the spins and bonds. The
+/// only error is want of memory.
+pub fn clusters_by(alloc: Global, inst: &Instance, costs: &[i64]) -> Result<ClusterList, NoMemory>
+    requires costs { AreCosts inst.now costs.now }
+    ensures { IfOk result (AreClusters inst.now) }
+{
+    let set = rigid_set(alloc, costs)?;
+    let names = names(alloc, inst, &set)?;
+    Ok(ClusterList::from_vec(names))
 }
 
 // For each cost whether it is that of a rigid bond.
@@ -33,15 +43,4 @@ fn rigid_set(alloc: Global, costs: &[i64]) -> Result<Vec<bool>, NoMemory>
         set.push(rigid(*cost))?;
     }
     Ok(set)
-}
-
-// The names as a list of clusters.
-fn listed(alloc: Global, names: &[u32]) -> Result<ClusterList, NoMemory>
-    ensures { IfOk result (λ list. list ≡ names.now) }
-{
-    let mut list = ClusterList::new(alloc);
-    for name in names {
-        list.push(*name)?;
-    }
-    Ok(list)
 }

@@ -6,7 +6,7 @@ ghost use Rattle.sg_cli.specs.Served.{IsSeamWall, PrintsReport};
 
 use super::counts::{bond_count, size_sum};
 use super::reply::{NoMemory, Reply, done};
-use sg_bonds::{clusters, costs};
+use sg_bonds::{clusters_by, costs};
 use sg_ground::solve;
 use sg_planar::Planar;
 use sg_report::report_text;
@@ -22,7 +22,7 @@ pub fn report_reply(alloc: Global, planar: &Planar) -> Result<Reply, NoMemory>
     let instance = planar.instance();
     let answer = solve(alloc, planar)?;
     let cost_list = costs(alloc, planar)?;
-    let cluster_list = clusters(alloc, planar)?;
+    let cluster_list = clusters_by(alloc, instance, cost_list.as_slice())?;
     let energies = seam_wall(alloc, planar)?;
     let text = report_text(
         alloc,

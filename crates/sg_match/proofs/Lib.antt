@@ -37,3 +37,4 @@ pub mod ChildrenLemmas
 pub mod MatesStep
 pub mod ListedLemmas
 pub mod MembersStep
+pub mod MarkLemmas

@@ -8,14 +8,14 @@ ghost use Rattle.sg_match.specs.Scans.{CanScan, IsScanned};
 ghost use Rattle.sg_match.specs.Tree.{inners, outers};
 ghost use Rattle.sg_match.specs.Members.{AreMarked, AreOuter, IsJoined};
 ghost use Rattle.sg_slack.specs.Members.{Agree, IsMember};
-ghost use Rattle.sg_slack.specs.Slack.{mark_at, IsOuterFree, Least, SumsFit};
+ghost use Rattle.sg_slack.specs.Slack.{mark_at, IsOuterFree, IsOuterOuter, Least, SumsFit};
 ghost use Rattle.sg_slack.specs.declared.Mark.TheVariants.{Outer};
 
 use super::inner::{least_dual, least_inner_zero};
-use super::leaves::{list_leaves, list_tree};
+use super::leaves::{list_leaves, list_tree, mark_tops};
 use super::{Engine, Event, TreeEdge};
 use sg_arena::Arena;
-use sg_slack::{Costs, Mark, Near, Pair, least_outer_outer};
+use sg_slack::{Costs, Mark, Near, Pair};
 use sg_steps::Steps;
 use std::sync::ledger::Ledger;
 
@@ -32,6 +32,7 @@ pub fn nearest(
     near: &mut Near,
     root: usize,
     edges: &[TreeEdge],
+    named: &mut [Mark],
     tops: &mut [usize],
     totals: &mut [i64],
     marks: &mut [Mark],
@@ -40,6 +41,7 @@ pub fn nearest(
     requires leaves { leaf_count arena.now ≡ near.old.table.size }
     requires stands { HasNearest arena.now (cost near.old.table) root edges.now }
     requires members { AreOuter arena.now root edges.now near.old.members }
+    requires named { length named.old ≡ length arena.now.nodes }
     requires tops { length tops.old ≡ leaf_count arena.now }
     requires totals { length totals.old ≡ leaf_count arena.now }
     requires marks { length marks.old ≡ leaf_count arena.now }
@@ -48,10 +50,12 @@ pub fn nearest(
     ensures table { near.new.table ≡ near.old.table }
     ensures members { AreOuter arena.now root edges.now near.new.members }
 {
-    list_leaves(arena, root, edges, tops, totals, marks);
+    mark_tops(root, edges, named);
+    list_leaves(arena, root, edges, named, tops, totals, marks);
     add_outer(near, totals, marks);
     let free = near.least(totals, tops, marks);
-    scan(near.costs(), free, totals, tops, marks)
+    let both = near.least_between(totals, tops, marks);
+    scan(near.costs(), free, both, totals, tops, marks)
 }
 
 // Adds the outer leaves that are no members yet.
@@ -82,10 +86,17 @@ fn join(near: &mut Near, leaf: u32, total: i64, mark: Mark)
     }
 }
 
-// The same from tables of the leaves and the least slack of an outer and a free one, by a look at all
-// pairs of outer leaves.
-fn scan(costs: &Costs, free: Option<Pair>, totals: &[i64], tops: &[usize], marks: &[Mark]) -> Change
+// The nearer of the free pair and the pair of two outer leaves, which closes its gap from both sides.
+fn scan(
+    costs: &Costs,
+    free: Option<Pair>,
+    both: Option<Pair>,
+    totals: &[i64],
+    tops: &[usize],
+    marks: &[Mark],
+) -> Change
     requires free { Least costs.now totals.now (IsOuterFree costs.now marks.now) free }
+    requires both { Least costs.now totals.now (IsOuterOuter costs.now tops.now marks.now) both }
     requires totals { length totals.now ≡ costs.now.size }
     requires tops { length tops.now ≡ costs.now.size }
     requires marks { length marks.now ≡ costs.now.size }
@@ -102,7 +113,7 @@ fn scan(costs: &Costs, free: Option<Pair>, totals: &[i64], tops: &[usize], marks
             v: free.v,
         },
     };
-    match least_outer_outer(costs, totals, tops, marks) {
+    match both {
         Some(both) if both.slack / 2 < away.amount => Change {
             amount: both.slack / 2,
             event: Event::OuterOuter {
@@ -160,6 +171,7 @@ impl Engine {
             &mut self.near,
             root,
             &self.edges,
+            &mut self.named,
             &mut self.tops,
             &mut self.totals,
             &mut self.marks,

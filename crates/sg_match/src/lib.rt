@@ -126,6 +126,7 @@ pub struct Engine {
     // an earlier one.
     edges: Vec<TreeEdge>,
     // Room for what a step works on.
+    named: Vec<Mark>,
     tops: Vec<usize>,
     totals: Vec<i64>,
     marks: Vec<Mark>,

@@ -58,6 +58,7 @@ impl Engine {
         let pairs = no_pairs(alloc, room)?;
         let exposed = leaf_names(alloc, &arena, k, room)?;
         let edges = Vec::with_capacity(alloc, room)?;
+        let named = vec![in alloc; Mark::Free; room]?;
         let tops = vec![in alloc; 0usize; count]?;
         let totals = vec![in alloc; 0i64; count]?;
         let marks = vec![in alloc; Mark::Free; count]?;
@@ -73,6 +74,7 @@ impl Engine {
             exposed,
             root: None,
             edges,
+            named,
             tops,
             totals,
             marks,

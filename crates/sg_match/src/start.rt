@@ -93,6 +93,7 @@ impl Engine {
             &mut self.near,
             root,
             &self.edges,
+            &mut self.named,
             &mut self.tops,
             &mut self.totals,
             &mut self.marks,

@@ -6,7 +6,6 @@ use Rattle.std.proofs.lemmas.List.Elements.{All-from_get_or, All-map, All-head, 
 use Rattle.std.proofs.lemmas.List.Sums.{sum_by-cons}
 use Rattle.sg_sums.specs.Sets.{holds}
 use Rattle.sg_sums.proofs.SumLaws.{sum_by-same}
-use Rattle.sg_model.specs.declared.bond.Bond.{Bond}
 use Rattle.sg_model.specs.Ising.{Ising, IsBond, bond_at, bond_count}
 use Rattle.sg_model.specs.Rotation.{dart_count, rev, tail, is_dart_of, darts_of}
 use Rattle.sg_model.specs.WellFormed.{IsInstance}
@@ -108,10 +107,12 @@ module _ (inst : Ising) (good : IsInstance inst) (spins bonds : List ℕ) (part 
       by_dart : ((k : ℕ) × ((e ≡ 2 * k) ⊎ (e ≡ 2 * k + 1))) → tail small e ≡ place_in spins (tail inst (whole_dart bonds e))
       by_dart (k, inl is) =
           ap (tail small) is ∙ tail_first small k ∙ ap (λ b. b.u) (bond_in_part k (omega arith))
-          ∙ ap (place_in spins) (sym (tail_first inst (get_or bonds k 0)) ∙ ap (tail inst) (sym (lifted_first (λ k. get_or bonds k 0) k) ∙ ap (whole_dart bonds) (sym is)))
+          ∙ ap (place_in spins)
+          (sym (tail_first inst (get_or bonds k 0)) ∙ ap (tail inst) (sym (lifted_first (λ k. get_or bonds k 0) k) ∙ ap (whole_dart bonds) (sym is)))
       by_dart (k, inr is) =
           ap (tail small) is ∙ tail_second small k ∙ ap (λ b. b.v) (bond_in_part k (omega arith))
-          ∙ ap (place_in spins) (sym (tail_second inst (get_or bonds k 0)) ∙ ap (tail inst) (sym (lifted_second (λ k. get_or bonds k 0) k) ∙ ap (whole_dart bonds) (sym is)))
+          ∙ ap (place_in spins)
+          (sym (tail_second inst (get_or bonds k 0)) ∙ ap (tail inst) (sym (lifted_second (λ k. get_or bonds k 0) k) ∙ ap (whole_dart bonds) (sym is)))
 
   pub part_darts : (i : ℕ) → i < length spins → darts_of small i ≡ map (dart_in bonds) (darts_of inst (get_or spins i 0))
   part_darts i l = get_or-map (λ i. map (dart_in bonds) (darts_of inst i)) spins i 0 [] l
@@ -120,7 +121,8 @@ module _ (inst : Ising) (good : IsInstance inst) (spins bonds : List ℕ) (part 
   pub listed_bond : (s : ℕ) → holds spins s ≡ true → All (λ d. holds bonds (d / 2) ≡ true) (darts_of inst s)
   listed_bond s h =
       All-from_get_or (λ d. holds bonds (d / 2) ≡ true) (darts_of inst s) 0
-      (λ j b. sym (tail_in_part (get_or (darts_of inst s) j 0) (in_list inst good s j (part.spins_below s h) b).0) ∙ ap (holds spins) (in_list inst good s j (part.spins_below s h) b).1 ∙ h)
+      (λ j b. sym (tail_in_part (get_or (darts_of inst s) j 0) (in_list inst good s j (part.spins_below s h) b).0) ∙ ap (holds spins)
+      (in_list inst good s j (part.spins_below s h) b).1 ∙ h)
 
   each_dart_once : (i d : ℕ) → i < length spins → count_by (λ x. eqb x d) (darts_of small i) ≡ cond (is_dart_of small i d) 1 0
   each_dart_once i d l =
@@ -149,20 +151,26 @@ module _ (inst : Ising) (good : IsInstance inst) (spins bonds : List ℕ) (part 
 
           tests : is_dart_of inst s w ≡ is_dart_of small i d
           tests = like_tests (is_dart_of inst s w) (is_dart_of small i d)
-              (λ t. is_dart_of-from small i d (omega (arith, b, darts_in_part)) (part_tail d b ∙ ap (place_in spins) (is_dart_of-parts inst s w t).1 ∙ place_of_entry spins part.spins_rise i l))
-              (λ t. is_dart_of-from inst s w (whole_below d b) (places_apart spins part.spins_rise (tail inst w) s (tail_in_part w (whole_below d b) ∙ whole_bond d b) held
+              (λ t. is_dart_of-from small i d (omega (arith, b, darts_in_part))
+              (part_tail d b ∙ ap (place_in spins) (is_dart_of-parts inst s w t).1 ∙ place_of_entry spins part.spins_rise i l))
+              (λ t. is_dart_of-from inst s w (whole_below d b)
+              (places_apart spins part.spins_rise (tail inst w) s (tail_in_part w (whole_below d b) ∙ whole_bond d b) held
               (sym (part_tail d b) ∙ (is_dart_of-parts small i d t).1 ∙ sym (place_of_entry spins part.spins_rise i l))))
 
       outside : 2 * length bonds ≤ d → count_by (λ x. eqb (dart_in bonds x) d) (darts_of inst s) ≡ cond (is_dart_of small i d) 1 0
       outside past =
           none (darts_of inst s) (listed_bond s held)
-          ∙ ap (λ b. cond {A = ℕ} b 1 0) (sym (false_from_ne_true (is_dart_of small i d) (λ t. (let b : d < dart_count small = (is_dart_of-parts small i d t).0 in let never : ⊥ = omega (arith, b, darts_in_part) in never))))
+          ∙ ap (λ b. cond {A = ℕ} b 1 0)
+          (sym (false_from_ne_true (is_dart_of small i d)
+          (λ t. (let b : d < dart_count small = (is_dart_of-parts small i d t).0 in let never : ⊥ = omega (arith, b, darts_in_part) in never))))
         where
           none : (xs : List ℕ) → All (λ x. holds bonds (x / 2) ≡ true) xs → count_by (λ x. eqb (dart_in bonds x) d) xs ≡ 0
           none [] h = refl
           none (x ∷ xs) h =
               let b : dart_in bonds x < 2 * length bonds = part_below x (All-head (λ x. holds bonds (x / 2) ≡ true) x xs h) in
-              let other : eqb (dart_in bonds x) d ≡ false = false_from_ne_true (eqb (dart_in bonds x) d) (λ t. (let e : dart_in bonds x ≡ d = eqb-true (dart_in bonds x) d t in let never : ⊥ = omega (arith, e, b) in never)) in
+              let other : eqb (dart_in bonds x) d ≡ false =
+              false_from_ne_true (eqb (dart_in bonds x) d)
+              (λ t. (let e : dart_in bonds x ≡ d = eqb-true (dart_in bonds x) d t in let never : ⊥ = omega (arith, e, b) in never)) in
               sum_by-cons (λ y. cond {A = ℕ} (eqb (dart_in bonds y) d) 1 0) x xs
               ∙ ap₂ {A = ℕ} (λ a b. a + b) (ap (λ b. cond {A = ℕ} b 1 0) other) (none xs (All-tail (λ x. holds bonds (x / 2) ≡ true) x xs h))
 
@@ -171,7 +179,14 @@ module _ (inst : Ising) (good : IsInstance inst) (spins bonds : List ℕ) (part 
   part_instance = record {
     has_spin = omega (arith, part.some);
     few_spins = omega (arith, rising_few spins inst.n part.spins_rise part.spins_below, good.few_spins);
-    few_bonds = omega (arith, rising_few bonds (bond_count inst) part.bonds_rise part.bonds_below, good.few_bonds, length-map bonds (λ k. bond_in spins (bond_at inst k)));
+    few_bonds =
+        omega (
+          arith,
+          rising_few bonds (bond_count inst) part.bonds_rise part.bonds_below,
+          good.few_bonds,
+          length-map bonds
+              (λ k. bond_in spins (bond_at inst k)),
+        );
     joined = All-map (IsBond (length spins)) (λ k. bond_in spins (bond_at inst k)) bonds
         (All-from_get_or (λ k. IsBond (length spins) (bond_in spins (bond_at inst k))) bonds 0 (λ j b. is_bond (get_or bonds j 0) (holds_entry bonds j b)));
     rotation = record { lists = length-map spins (λ i. map (dart_in bonds) (darts_of inst i)); each_once = each_dart_once };

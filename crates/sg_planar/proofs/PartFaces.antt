@@ -23,7 +23,7 @@ use Rattle.sg_planar.specs.Parts.{place_in, dart_in, bond_in, restricted}
 use Rattle.sg_planar.specs.Splitting.{IsClosedPart}
 use Rattle.sg_planar.proofs.Places.{rises_past, entry_back, place_below, place_of_entry, places_apart, holds_entry}
 use Rattle.sg_planar.proofs.Followed.{followed}
-use Rattle.sg_planar.proofs.PartDarts.{darts_in_part, lifted, lifted_first, lifted_rev, lifted_second, like_tests, listed_bond, part_below, part_darts, part_instance, part_of_whole, part_tail, tail_in_part, whole_below, whole_bond, whole_dart, whole_of_part}
+use Rattle.sg_planar.proofs.PartDarts.{darts_in_part, lifted_first, lifted_rev, lifted_second, like_tests, listed_bond, part_below, part_darts, part_instance, part_of_whole, part_tail, tail_in_part, whole_below, whole_bond, whole_dart, whole_of_part}
 
 -- a spin is bare where no dart leaves it
 pub bare_means : (inst : Ising) (i : ℕ) → (is_bare inst i ≡ true) ↔ ((d : ℕ) → d < dart_count inst → tail inst d ≢ i)
@@ -40,17 +40,21 @@ bare_means inst i = (λ h d l e. there h d l e (dart_cases d), back)
 
     there : is_bare inst i ≡ true → (d : ℕ) → d < dart_count inst → tail inst d ≡ i → ((k : ℕ) × ((d ≡ 2 * k) ⊎ (d ≡ 2 * k + 1))) → ⊥
     there h d l e (k, inl is) =
-        ended k (omega arith) h (or_left (eqb (bond_at inst k).u i) (eqb (bond_at inst k).v i) (eq-eqb (bond_at inst k).u i (sym (tail_first inst k) ∙ ap (tail inst) (sym is) ∙ e)))
+        ended k (omega arith) h
+        (or_left (eqb (bond_at inst k).u i) (eqb (bond_at inst k).v i) (eq-eqb (bond_at inst k).u i (sym (tail_first inst k) ∙ ap (tail inst) (sym is) ∙ e)))
     there h d l e (k, inr is) =
-        ended k (omega arith) h (or_right (eqb (bond_at inst k).u i) (eqb (bond_at inst k).v i) (eq-eqb (bond_at inst k).v i (sym (tail_second inst k) ∙ ap (tail inst) (sym is) ∙ e)))
+        ended k (omega arith) h
+        (or_right (eqb (bond_at inst k).u i) (eqb (bond_at inst k).v i) (eq-eqb (bond_at inst k).v i (sym (tail_second inst k) ∙ ap (tail inst) (sym is) ∙ e)))
 
     back : ((d : ℕ) → d < dart_count inst → tail inst d ≢ i) → is_bare inst i ≡ true
     back h = list_all-from_AllPass is_other inst.bonds (All-from_get_or (λ b. is_other b ≡ true) inst.bonds no_bond at_bond)
       where
         at_bond : (k : ℕ) → k < bond_count inst → is_other (get_or inst.bonds k no_bond) ≡ true
         at_bond k l =
-            let u : eqb (bond_at inst k).u i ≡ false = ne_eqb (bond_at inst k).u i (λ (e : (bond_at inst k).u ≡ i). h (2 * k) (omega arith) (tail_first inst k ∙ e)) in
-            let v : eqb (bond_at inst k).v i ≡ false = ne_eqb (bond_at inst k).v i (λ (e : (bond_at inst k).v ≡ i). h (2 * k + 1) (omega arith) (tail_second inst k ∙ e)) in
+            let u : eqb (bond_at inst k).u i ≡ false =
+            ne_eqb (bond_at inst k).u i (λ (e : (bond_at inst k).u ≡ i). h (2 * k) (omega arith) (tail_first inst k ∙ e)) in
+            let v : eqb (bond_at inst k).v i ≡ false =
+            ne_eqb (bond_at inst k).v i (λ (e : (bond_at inst k).v ≡ i). h (2 * k + 1) (omega arith) (tail_second inst k ∙ e)) in
             ap₂ (λ a b. not (a || b)) u v
 
 -- whether dart d is the least of its face, as a number
@@ -83,13 +87,15 @@ module _ (inst : Ising) (good : IsInstance inst) (spins bonds : List ℕ) (part 
 
   -- the dart of the whole leaves a spin of the part
   whole_tail : (e : ℕ) → e < 2 * length bonds → holds spins (tail inst (whole_dart bonds e)) ≡ true
-  whole_tail e l = tail_in_part inst good spins bonds part (whole_dart bonds e) (whole_below inst good spins bonds part e l) ∙ whole_bond inst good spins bonds part e l
+  whole_tail e l =
+      tail_in_part inst good spins bonds part (whole_dart bonds e) (whole_below inst good spins bonds part e l) ∙ whole_bond inst good spins bonds part e l
 
   pub part_next : (e : ℕ) → e < 2 * length bonds → whole_dart bonds (next small e) ≡ next inst (whole_dart bonds e)
   part_next e l =
       ap (whole_dart bonds) (next_is small part_good e ∙ ap₂ (λ xs d. following xs d) list (sym (part_of_whole inst good spins bonds part e l))
       ∙ followed (dart_in bonds) w (darts_of inst t) some one ∙ ap (dart_in bonds) (sym (next_is inst good w)))
-      ∙ whole_of_part inst good spins bonds part (next inst w) (sym (tail_in_part inst good spins bonds part (next inst w) ahead.0) ∙ ap (holds spins) ahead.1 ∙ held)
+      ∙ whole_of_part inst good spins bonds part (next inst w)
+      (sym (tail_in_part inst good spins bonds part (next inst w) ahead.0) ∙ ap (holds spins) ahead.1 ∙ held)
     where
       w : ℕ
       w = whole_dart bonds e
@@ -136,7 +142,10 @@ module _ (inst : Ising) (good : IsInstance inst) (spins bonds : List ℕ) (part 
   whole_less : (d e : ℕ) → d < e → e < 2 * length bonds → whole_dart bonds d < whole_dart bonds e
   whole_less d e l b = elim (cases_eq (d / 2) (e / 2)) [
     | inl same ↦ omega (arith, l, same, ap (λ k. get_or bonds k 0) same)
-    | inr ne ↦ (let less : get_or bonds (d / 2) 0 < get_or bonds (e / 2) 0 = rises_past bonds part.bonds_rise (d / 2) (e / 2) (omega (arith, l, ne)) (omega (arith, b)) in omega (arith, less))
+    | inr ne ↦
+        let less : get_or bonds (d / 2) 0 < get_or bonds (e / 2) 0 =
+        rises_past bonds part.bonds_rise (d / 2) (e / 2) (omega (arith, l, ne)) (omega (arith, b)) in
+        omega (arith, less)
   ]
 
   whole_keeps : (d e : ℕ) → d ≤ e → e < 2 * length bonds → whole_dart bonds d ≤ whole_dart bonds e
@@ -198,7 +207,8 @@ module _ (inst : Ising) (good : IsInstance inst) (spins bonds : List ℕ) (part 
           let inside : holds bonds (d / 2) ≡ true = sym (tail_in_part inst good spins bonds part d b) ∙ ap (holds spins) e ∙ held in
           let low : dart_in bonds d < 2 * length bonds = part_below inst good spins bonds part d inside in
           (bare_means small i).0 h (dart_in bonds d) (omega (arith, low, darts))
-          (part_tail inst good spins bonds part (dart_in bonds d) low ∙ ap (λ x. place_in spins (tail inst x)) (whole_of_part inst good spins bonds part d inside)
+          (part_tail inst good spins bonds part (dart_in bonds d) low ∙ ap (λ x. place_in spins (tail inst x))
+          (whole_of_part inst good spins bonds part d inside)
           ∙ ap (place_in spins) e ∙ place_of_entry spins part.spins_rise i l)
 
       back : is_bare inst s ≡ true → (e : ℕ) → e < dart_count small → tail small e ≡ i → ⊥

@@ -44,7 +44,8 @@ map_more f xs i l = ap (map f) (take_more xs i 0 l) ∙ map-append f (take i xs)
 -- the bonds of the darts of a spin are bonds
 pub listed_below : (inst : Ising) → IsInstance inst → (s : ℕ) → s < inst.n → All (λ d. d / 2 < bond_count inst) (darts_of inst s)
 listed_below inst good s l =
-    All-from_get_or (λ d. d / 2 < bond_count inst) (darts_of inst s) 0 (λ j b. (let low : get_or (darts_of inst s) j 0 < 2 * bond_count inst = (in_list inst good s j l b).0 in omega (arith, low)))
+    All-from_get_or (λ d. d / 2 < bond_count inst) (darts_of inst s) 0
+    (λ j b. (let low : get_or (darts_of inst s) j 0 < 2 * bond_count inst = (in_list inst good s j l b).0 in omega (arith, low)))
 
 module _ (inst : Ising) (good : IsInstance inst) (spins bonds : List ℕ) (part : IsClosedPart inst spins bonds) (spin_places bond_places : List ℕ)
     (of_spins : ArePlaces spins spin_places inst.n) (of_bonds : ArePlaces bonds bond_places (bond_count inst)) where
@@ -57,7 +58,8 @@ module _ (inst : Ising) (good : IsInstance inst) (spins bonds : List ℕ) (part 
   darts_alike : (x : ℕ) → holds spins x ≡ true → placed_darts bond_places (darts_of inst x) ≡ map (dart_in bonds) (darts_of inst x)
   darts_alike x h =
       map_alike (λ d. 2 * get_or bond_places (d / 2) 0 + d % 2) (dart_in bonds) (darts_of inst x)
-      (λ j e b. ap (λ p. 2 * p + get_or (darts_of inst x) j e % 2) (of_bonds.each (get_or (darts_of inst x) j e / 2) (listed_bond inst good spins bonds part x h j e b)))
+      (λ j e b. ap (λ p. 2 * p + get_or (darts_of inst x) j e % 2)
+      (of_bonds.each (get_or (darts_of inst x) j e / 2) (listed_bond inst good spins bonds part x h j e b)))
 
   pub part_assembled : (n : ℕ) (list : List Bond) (rotation : List (List ℕ)) (seam : List ℕ) → n ≡ length spins →
       list ≡ map (λ k. placed_bond spin_places (bond_at inst k)) bonds → rotation ≡ map (λ x. placed_darts bond_places (darts_of inst x)) spins → seam ≡ [] →
@@ -65,10 +67,12 @@ module _ (inst : Ising) (good : IsInstance inst) (spins bonds : List ℕ) (part 
   part_assembled n list rotation seam p q r s =
       ap₂ (λ a b. record { n = a; bonds = b; rotation = rotation; seam = seam }) p
       (q ∙ map_alike (λ k. placed_bond spin_places (bond_at inst k)) (λ k. bond_in spins (bond_at inst k)) bonds
-      (All-from_get_or (λ k. placed_bond spin_places (bond_at inst k) ≡ bond_in spins (bond_at inst k)) bonds 0 (λ j b. bond_alike (get_or bonds j 0) (holds_entry bonds j b))))
+      (All-from_get_or (λ k. placed_bond spin_places (bond_at inst k) ≡ bond_in spins (bond_at inst k)) bonds 0
+      (λ j b. bond_alike (get_or bonds j 0) (holds_entry bonds j b))))
       ∙ ap₂ (λ a b. record { n = length spins; bonds = map (λ k. bond_in spins (bond_at inst k)) bonds; rotation = a; seam = b })
       (r ∙ map_alike (λ x. placed_darts bond_places (darts_of inst x)) (λ x. map (dart_in bonds) (darts_of inst x)) spins
-      (All-from_get_or (λ x. placed_darts bond_places (darts_of inst x) ≡ map (dart_in bonds) (darts_of inst x)) spins 0 (λ j b. darts_alike (get_or spins j 0) (holds_entry spins j b)))) s
+      (All-from_get_or (λ x. placed_darts bond_places (darts_of inst x) ≡ map (dart_in bonds) (darts_of inst x)) spins 0
+      (λ j b. darts_alike (get_or spins j 0) (holds_entry spins j b)))) s
 
 -- no part that is an instance is refused
 no_refusal : (inst : Ising) → IsInstance inst → (refusal : Refusal) → IsRefusalOf inst refusal → ⊥
@@ -96,7 +100,8 @@ module _ (inst : Ising) (good : IsInstance inst) (names : List ℕ) (count : len
     naming = named;
     spins = subst (λ m. IsDealt (slice_index names) inst.n m spin_lists spin_places) count spins;
     bonds = dealt_same (slice_index labels) (λ k. get_or names (bond_at inst k).u 0) inst.n (bond_count inst) bond_lists bond_places at_bond
-        (subst (λ m. IsDealt (slice_index labels) inst.n m bond_lists bond_places) (ap length is ∙ length-map inst.bonds (λ (b : Bond). get_or names b.u 0)) bonds);
+        (subst (λ m. IsDealt (slice_index labels) inst.n m bond_lists bond_places)
+        (ap length is ∙ length-map inst.bonds (λ (b : Bond). get_or names b.u 0)) bonds);
   }
     where
       at_bond : (k : ℕ) → k < bond_count inst → get_or labels k 0 ≡ get_or names (bond_at inst k).u 0

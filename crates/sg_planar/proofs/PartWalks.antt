@@ -61,8 +61,10 @@ module _ (inst : Ising) (spins bonds : List ℕ) (part : IsClosedPart inst spins
   part_connected first h zeroth reach i l =
       let x : ℕ = get_or spins i 0 in
       let r : Reached inst all_bonds first x = reach x (holds_entry spins i l) in
-      let w : IsWalk (restricted inst spins bonds) all_bonds (place_in spins first) (map (place_in spins) r.0) (place_in spins x) = walk_in_part r.0 first x r.1 h in (
+      let w : IsWalk (restricted inst spins bonds) all_bonds (place_in spins first) (map (place_in spins) r.0)
+      (place_in spins x) = walk_in_part r.0 first x r.1 h in (
         map (place_in spins) r.0,
         subst (λ a. IsWalk (restricted inst spins bonds) all_bonds a (map (place_in spins) r.0) i) zeroth
-            (subst (IsWalk (restricted inst spins bonds) all_bonds (place_in spins first) (map (place_in spins) r.0)) (place_of_entry spins part.spins_rise i l) w),
+            (subst (IsWalk (restricted inst spins bonds) all_bonds (place_in spins first) (map (place_in spins) r.0))
+            (place_of_entry spins part.spins_rise i l) w),
       )

@@ -11,7 +11,7 @@ use Rattle.sg_model.specs.Ising.{Ising, bond_at, bond_count}
 use Rattle.sg_model.specs.WellFormed.{IsInstance}
 use Rattle.sg_model.specs.Connected.{IsConnected, Reached, all_bonds, AreLeasts, IsLeastReached}
 use Rattle.sg_model.proofs.Paths.{reached_back, reached_on, reached_by_bond}
-use Rattle.sg_planar.specs.Parts.{place_in, restricted}
+use Rattle.sg_planar.specs.Parts.{place_in}
 use Rattle.sg_planar.specs.Splitting.{IsClosedPart, IsNaming, component, named_bonds, named_spins, own_names}
 use Rattle.sg_planar.proofs.Places.{rises_past, entry_back, place_below, holds_entry}
 use Rattle.sg_planar.proofs.PartDarts.{part_instance}
@@ -62,7 +62,8 @@ module _ (inst : Ising) (good : IsInstance inst) (name : ℕ → ℕ) (named : I
 
   pub bond_named : (c k : ℕ) → holds (named_bonds inst name c) k ≡ true → (k < bond_count inst) × (name (bond_at inst k).u ≡ c)
   bond_named c k h =
-      let l : k < bond_count inst = All-holds (λ x. x < bond_count inst) (named_bonds inst name c) k (chosen_below_low (λ k. eqb (name (bond_at inst k).u) c) (bond_count inst)) h in
+      let l : k < bond_count inst =
+      All-holds (λ x. x < bond_count inst) (named_bonds inst name c) k (chosen_below_low (λ k. eqb (name (bond_at inst k).u) c) (bond_count inst)) h in
       (l, eqb-true (name (bond_at inst k).u) c (sym (holds-chosen_below (λ k. eqb (name (bond_at inst k).u) c) (bond_count inst) k l) ∙ h))
 
   -- the spins with their own name are the least spins
@@ -103,7 +104,9 @@ module _ (inst : Ising) (good : IsInstance inst) (name : ℕ → ℕ) (named : I
     }
       where
         some : 0 < length (named_spins inst name c)
-        some = let b : place_in (named_spins inst name c) c < length (named_spins inst name c) = place_below (named_spins inst name c) (chosen_below_rises (λ x. eqb (name x) c) inst.n) c (named_spin c c l own) in omega (arith, b)
+        some =
+            let b : place_in (named_spins inst name c) c < length (named_spins inst name c) = place_below (named_spins inst name c)
+            (chosen_below_rises (λ x. eqb (name x) c) inst.n) c (named_spin c c l own) in omega (arith, b)
 
     pub named_instance : IsInstance (component inst name c)
     named_instance = part_instance inst good (named_spins inst name c) (named_bonds inst name c) named_part

@@ -25,7 +25,8 @@ module _ (xs : List ℕ) (up : IsStrictlyIncreasing xs) where
   pub place_of_entry : (i : ℕ) → i < length xs → place_in xs (get_or xs i 0) ≡ i
   place_of_entry i l =
       position_or_len_is (λ y. eqb y (get_or xs i 0)) xs i 0 (omega arith)
-      (λ k b. ne_eqb (get_or xs k 0) (get_or xs i 0) (λ (e : get_or xs k 0 ≡ get_or xs i 0). (let less : get_or xs k 0 < get_or xs i 0 = rises_past k i b l in omega arith)))
+      (λ k b. ne_eqb (get_or xs k 0) (get_or xs i 0)
+      (λ (e : get_or xs k 0 ≡ get_or xs i 0). (let less : get_or xs k 0 < get_or xs i 0 = rises_past k i b l in omega arith)))
       (λ _. eq-eqb (get_or xs i 0) (get_or xs i 0) refl)
 
   -- a number that the list holds stands at its place
@@ -55,8 +56,14 @@ rising_few xs n up low = last (length xs) (omega arith)
   where
     at_least : (i : ℕ) → i < length xs → i ≤ get_or xs i 0
     at_least zero l = omega arith
-    at_least (suc i) l = (let below : i ≤ get_or xs i 0 = at_least i (omega arith) in let less : get_or xs i 0 < get_or xs (suc i) 0 = rises_past xs up i (suc i) (omega arith) l in omega arith)
+    at_least (suc i) l =
+        let below : i ≤ get_or xs i 0 = at_least i (omega arith) in
+        let less : get_or xs i 0 < get_or xs (suc i) 0 = rises_past xs up i (suc i) (omega arith) l in
+        omega arith
 
     last : (k : ℕ) → k ≤ length xs → k ≤ n
     last zero l = omega arith
-    last (suc k) l = (let p : k ≤ get_or xs k 0 = at_least k (omega arith) in let q : get_or xs k 0 < n = low (get_or xs k 0) (holds_entry xs k (omega arith)) in omega arith)
+    last (suc k) l =
+        let below : k ≤ get_or xs k 0 = at_least k (omega arith) in
+        let less : get_or xs k 0 < n = low (get_or xs k 0) (holds_entry xs k (omega arith)) in
+        omega arith

@@ -28,7 +28,8 @@ pub struct Part {
     pub planar: Planar,
 }
 
-// The spins and bonds of an instance, dealt out by the least spins of their components.
+// The least spin of the component of each spin, and spins and bonds dealt out by these names. A spin
+// that is no name has empty lists.
 #[derive(Drop)]
 struct Split {
     names: Vec<u32>,
@@ -36,8 +37,12 @@ struct Split {
     bonds: Dealt,
 }
 
-/// The components of an instance, each as an instance of its own: one for each component, in the
-/// order of their least spins, in time linear in the spins and bonds.
+/// The components of an instance, each as an instance of its own, in the order of their least spins.
+///
+/// Spins and bonds are dealt out by the least spin of their component, so that all parts together
+/// take time and memory linear in the spins and bonds. Each part is connected and drawn on a sphere
+/// as the whole is: its spins and faces are at most two more than its bonds, by Euler's formula, and
+/// summed over the parts they are just that. The only error is want of memory.
 pub fn parts(alloc: Global, p: &Planar) -> Result<PartList, NoMemory>
     ensures { IfOk result (AreParts p.now.instance) }
 {
@@ -66,9 +71,10 @@ fn bond_names(alloc: Global, bonds: &[Bond], names: &[u32]) -> Result<Vec<u32>, 
     Ok(labels)
 }
 
+// Spins and bonds by the names of their components.
 fn deal_out(alloc: Global, inst: &Instance) -> Result<Split, NoMemory>
-    ensures { IfOk result (λ split. IsSplit inst.now split.names.items split.spins.lists.items split.spins.places.items
-        split.bonds.lists.items split.bonds.places.items) }
+    ensures { IfOk result (λ split. IsSplit inst.now split.names.items
+        split.spins.lists.items split.spins.places.items split.bonds.lists.items split.bonds.places.items) }
 {
     let names = spin_names(alloc, inst)?;
     let labels = bond_names(alloc, inst.bonds().as_slice(), &names)?;
@@ -127,7 +133,7 @@ fn placed_rotation(
     requires spins { All (λ x. x < inst.now.n) spins.now }
     requires places { length places.now ≡ bond_count inst.now }
     requires small { All (λ p. p < 2 ^ 24) places.now }
-    ensures { IfOk result (λ rotation. rotation ≡ map (λ x. placed_darts places.now (darts_of inst.now x)) spins.now) }
+    ensures { IfOk result (λ lists. lists ≡ map (λ x. placed_darts places.now (darts_of inst.now x)) spins.now) }
 {
     let mut rotation = Rotation::new(alloc);
     for spin in spins {
@@ -169,8 +175,8 @@ fn part_instance(
 
 // The part of the component with this least spin.
 fn part_from(alloc: Global, p: &Planar, split: &Split, least: u32) -> Result<Part, NoMemory>
-    requires split { IsSplit p.now.instance split.now.names.items split.now.spins.lists.items split.now.spins.places.items
-        split.now.bonds.lists.items split.now.bonds.places.items }
+    requires split { IsSplit p.now.instance split.now.names.items split.now.spins.lists.items
+        split.now.spins.places.items split.now.bonds.lists.items split.now.bonds.places.items }
     requires least_in { least < p.now.instance.n }
     requires least_own { slice_index split.now.names.items least ≡ least }
     ensures { IfOk result (IsPart p.now.instance least) }
@@ -197,8 +203,8 @@ fn part_from(alloc: Global, p: &Planar, split: &Split, least: u32) -> Result<Par
 
 // The parts of all components.
 fn parts_of(alloc: Global, p: &Planar, split: &Split) -> Result<PartList, NoMemory>
-    requires { IsSplit p.now.instance split.now.names.items split.now.spins.lists.items split.now.spins.places.items
-        split.now.bonds.lists.items split.now.bonds.places.items }
+    requires { IsSplit p.now.instance split.now.names.items split.now.spins.lists.items
+        split.now.spins.places.items split.now.bonds.lists.items split.now.bonds.places.items }
     ensures { IfOk result (AreParts p.now.instance) }
 {
     let mut parts = PartList::new(alloc);

@@ -11,8 +11,9 @@ use sg_graph::{Incidence, Web};
 use std::alloc::Global;
 
 /// A closed trail from node 0 that uses each copy of each edge once, for a connected web whose copies
-/// have even degrees, in time linear in nodes, edges and copies. `left` has the number of copies of
-/// each edge, and none of them is left.
+/// have even degrees, in time linear in nodes, edges and copies: of each node's edges, those before the
+/// first that may have a copy left are never looked at again. `left` has the number of copies of each
+/// edge, and counts them down.
 ///
 /// The trail `out` goes on over copies that are left. Where its node has none, its last step moves to
 /// the trail `back`, turned round. Degrees are even, so `back` stands just there, and it is a trail

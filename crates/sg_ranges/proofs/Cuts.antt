@@ -11,12 +11,15 @@ use Rattle.sg_model.specs.Ising.{Ising}
 use Rattle.sg_model.specs.WellFormed.{IsInstance}
 use Rattle.sg_model.specs.Spins.{IsUpOrDown, IsAssignment, spin}
 use Rattle.sg_model.specs.Energy.{IsGroundState, energy, product, weight}
-use Rattle.sg_model.specs.Changes.{opposite}
+use Rattle.sg_model.specs.Changes.{HasSameEnds, negated, opposite}
+use Rattle.sg_model.specs.Connected.{LeastsUp, all_bonds}
+use Rattle.sg_model.proofs.Recoupled.{negated_ends}
+use Rattle.sg_model.proofs.SamePaths.{reached_same}
 use Rattle.sg_model.proofs.BrokenEnergy.{HasUnitEnds, unit_ends}
 use Rattle.sg_limits.specs.Limits.{forced_limit}
 use Rattle.sg_check.specs.declared.packing.Loop.{Loop}
 use Rattle.sg_check.specs.Packing.{Proves}
-use Rattle.sg_ranges.specs.Cut.{IsLargestCut, coupling_sum, cut_weight, is_cut, negated}
+use Rattle.sg_ranges.specs.Cut.{IsLargestCut, coupling_sum, cut_weight, is_cut}
 
 -- what a bond adds to the weight of a cut
 abbrev part : List ℤ → Bond → ℤ
@@ -31,20 +34,22 @@ one_bond s b h = by_ends (spin s b.u) (spin s b.v) b.j h.first h.second
     by_ends x y j (inr p) (inl q) = rw (p, q) (omega (arith, ints))
     by_ends x y j (inr p) (inr q) = rw (p, q) (omega (arith, ints))
 
-all_bonds : (s : List ℤ) (a b c : ℤ) (bonds : List Bond) → All (HasUnitEnds s) bonds → a ≡ (pos 2 *ℤ b) -ℤ c →
+bond_by_bond : (s : List ℤ) (a b c : ℤ) (bonds : List Bond) → All (HasUnitEnds s) bonds → a ≡ (pos 2 *ℤ b) -ℤ c →
     fold (λ total b. total +ℤ (b.j *ℤ product s b)) a (map opposite bonds) ≡
     (pos 2 *ℤ fold (λ total b. total +ℤ part s b) b bonds) -ℤ fold (λ total b. total +ℤ b.j) c bonds
-all_bonds s a b c [] h e = e
-all_bonds s a b c (d ∷ bonds) h e =
-    all_bonds s (a +ℤ (neg_ℤ d.j *ℤ product s d)) (b +ℤ part s d) (c +ℤ d.j) bonds (All-tail (HasUnitEnds s) d bonds h)
+bond_by_bond s a b c [] h e = e
+bond_by_bond s a b c (d ∷ bonds) h e =
+    bond_by_bond s (a +ℤ (neg_ℤ d.j *ℤ product s d)) (b +ℤ part s d) (c +ℤ d.j) bonds (All-tail (HasUnitEnds s) d bonds h)
     (more a b c (neg_ℤ d.j *ℤ product s d) (part s d) d.j e (one_bond s d (All-head (HasUnitEnds s) d bonds h)))
   where
     more : (a b c x p j : ℤ) → a ≡ (pos 2 *ℤ b) -ℤ c → x ≡ (pos 2 *ℤ p) -ℤ j → a +ℤ x ≡ (pos 2 *ℤ (b +ℤ p)) -ℤ (c +ℤ j)
     more a b c x p j e f = omega (arith, ints)
 
 -- with every sign changed, the energy is the sum of all couplings less twice the weight of the cut
-pub energy_negated : (inst : Ising) (s : List ℤ) → IsInstance inst → IsAssignment inst s → energy (negated inst) s ≡ coupling_sum inst -ℤ (pos 2 *ℤ cut_weight inst s)
-energy_negated inst s good h = turned (fold (λ total b. total +ℤ (b.j *ℤ product s b)) (pos 0) (map opposite inst.bonds)) (coupling_sum inst) (cut_weight inst s) (all_bonds s (pos 0) (pos 0) (pos 0) inst.bonds (unit_ends inst s good h) refl)
+pub energy_negated : (inst : Ising) (s : List ℤ) → IsInstance inst → IsAssignment inst s
+    → energy (negated inst) s ≡ coupling_sum inst -ℤ (pos 2 *ℤ cut_weight inst s)
+energy_negated inst s good h = turned (fold (λ total b. total +ℤ (b.j *ℤ product s b)) (pos 0) (map opposite inst.bonds)) (coupling_sum inst)
+    (cut_weight inst s) (bond_by_bond s (pos 0) (pos 0) (pos 0) inst.bonds (unit_ends inst s good h) refl)
   where
     turned : (f a c : ℤ) → f ≡ (pos 2 *ℤ c) -ℤ a → neg_ℤ f ≡ a -ℤ (pos 2 *ℤ c)
     turned f a c e = omega (arith, ints)
@@ -110,8 +115,28 @@ module _ (inst other : Ising) (good : IsInstance inst) (same : other ≡ negated
       most e f a c d x g h i l = omega (arith, ints)
 
   -- and what proves the one proves the other
-  pub cut_proved : (x e : ℤ) (loops : List Loop) → Proves other s e loops → x ≡ cut_weight inst s → Proves (negated inst) s (coupling_sum inst -ℤ (pos 2 *ℤ x)) loops
+  pub cut_proved : (x e : ℤ) (loops : List Loop) → Proves other s e loops → x ≡ cut_weight inst s
+      → Proves (negated inst) s (coupling_sum inst -ℤ (pos 2 *ℤ x)) loops
   cut_proved x e loops h value =
       let there : Proves (negated inst) s e loops = subst (λ i. Proves i s e loops) same h in
       let here : IsAssignment inst s = record { count = there.assignment.count; values = there.assignment.values } in
-      subst (λ y. Proves (negated inst) s y loops) (sym there.stated ∙ energy_negated inst s good here ∙ ap (λ y. coupling_sum inst -ℤ (pos 2 *ℤ y)) (sym value)) there
+      subst (λ y. Proves (negated inst) s y loops) (sym there.stated ∙ energy_negated inst s good here
+          ∙ ap (λ y. coupling_sum inst -ℤ (pos 2 *ℤ y)) (sym value)) there
+
+  -- the least spin of each component is the same
+  pub leasts_up : LeastsUp other s → LeastsUp inst s
+  leasts_up h i l least = there i l (λ j r. least j (reached_same (negated inst) inst.bonds back all_bonds i j r))
+    where
+      there : LeastsUp (negated inst) s
+      there = subst (λ k. LeastsUp k s) same h
+
+      forth : HasSameEnds inst (map opposite inst.bonds)
+      forth = negated_ends inst good.joined
+
+      back : HasSameEnds (negated inst) inst.bonds
+      back = record {
+        count = sym forth.count;
+        first = λ k. sym (forth.first k);
+        second = λ k. sym (forth.second k);
+        sizes = λ k d b. (good.joined k d b).size;
+      }

@@ -22,8 +22,10 @@ abbrev no_bond : Bond
 no_bond = record { u = 0; v = 0; j = pos 0 }
 
 -- all energies of one instance have one parity
-pub parity : (inst : Ising) (s t : List ℤ) → IsInstance inst → IsAssignment inst s → IsAssignment inst t → (d : ℤ) × (energy inst s ≡ energy inst t +ℤ (pos 2 *ℤ d))
-parity inst s t good a b = (pos (broken s) -ℤ pos (broken t), apart (energy inst s) (energy inst t) (broken s) (broken t) (weight inst) (energy_from_broken inst s good a) (energy_from_broken inst t good b))
+pub parity : (inst : Ising) (s t : List ℤ) → IsInstance inst → IsAssignment inst s → IsAssignment inst t
+    → (d : ℤ) × (energy inst s ≡ energy inst t +ℤ (pos 2 *ℤ d))
+parity inst s t good a b = (pos (broken s) -ℤ pos (broken t), apart (energy inst s) (energy inst t) (broken s) (broken t) (weight inst)
+    (energy_from_broken inst s good a) (energy_from_broken inst t good b))
   where
     broken : List ℤ → ℕ
     broken s = sum_by (broken_weight s) inst.bonds
@@ -77,7 +79,8 @@ module _ (inst : Ising) (good : IsInstance inst) (k : ℕ) (inside : k < bond_co
       back e (energy inst h.reached.0) (coupling *ℤ p) (z *ℤ p) (energy (with_coupling inst k z) h.reached.0) h.reached.3 (moved z p h.reached.0 has),
     );
     least = λ t u same.
-        kept e (energy inst t) (coupling *ℤ p) (z *ℤ p) (energy (with_coupling inst k z) t) (h.least t (assigned z t u) (product_moved z t ∙ same)) (moved z p t same);
+        kept e (energy inst t) (coupling *ℤ p) (z *ℤ p) (energy (with_coupling inst k z) t) (h.least t (assigned z t u) (product_moved z t ∙ same))
+            (moved z p t same);
   }
     where
       has : product h.reached.0 (bond_at inst k) ≡ p
@@ -92,7 +95,8 @@ module _ (inst : Ising) (good : IsInstance inst) (k : ℕ) (inside : k < bond_co
   -- there is one least energy with each product
   one_least : (p e f : ℤ) → IsLeastWith inst k p e → IsLeastWith inst k p f → e ≡ f
   one_least p e f g h =
-      level e f (energy inst g.reached.0) (energy inst h.reached.0) g.reached.3 h.reached.3 (h.least g.reached.0 g.reached.1 g.reached.2) (g.least h.reached.0 h.reached.1 h.reached.2)
+      level e f (energy inst g.reached.0) (energy inst h.reached.0) g.reached.3 h.reached.3 (h.least g.reached.0 g.reached.1 g.reached.2)
+          (g.least h.reached.0 h.reached.1 h.reached.2)
     where
       level : (a b x y : ℤ) → x ≡ a → y ≡ b → b ≤ℤ x → a ≤ℤ y → a ≡ b
       level a b x y i j l m = omega (arith, ints)
@@ -144,7 +148,8 @@ module _ (inst : Ising) (good : IsInstance inst) (k : ℕ) (inside : k < bond_co
       -- a ground state that has the product q lies no higher than the least with the product p
       order : (z p q : ℤ) (s : List ℤ) → IsGroundState (with_coupling inst k z) s → product s (bond_at inst k) ≡ q →
           IsLeastWith inst k p ((h.level -ℤ (coupling *ℤ p)) +ℤ (t *ℤ p)) → IsLeastWith inst k q ((h.level -ℤ (coupling *ℤ q)) +ℤ (t *ℤ q)) →
-          (((((h.level -ℤ (coupling *ℤ q)) +ℤ (t *ℤ q))) +ℤ (coupling *ℤ q)) -ℤ (z *ℤ q)) ≤ℤ (((((h.level -ℤ (coupling *ℤ p)) +ℤ (t *ℤ p))) +ℤ (coupling *ℤ p)) -ℤ (z *ℤ p))
+          (((((h.level -ℤ (coupling *ℤ q)) +ℤ (t *ℤ q))) +ℤ (coupling *ℤ q)) -ℤ (z *ℤ q)) ≤ℤ
+              (((((h.level -ℤ (coupling *ℤ p)) +ℤ (t *ℤ p))) +ℤ (coupling *ℤ p)) -ℤ (z *ℤ p))
       order z p q s g e lp lq =
           let other = at z p lp in
           through _ _ _ _ ((at z q lq).least s g.assignment (product_moved z s ∙ e)) (g.least other.reached.0 other.reached.1) other.reached.3
@@ -152,18 +157,22 @@ module _ (inst : Ising) (good : IsInstance inst) (k : ℕ) (inside : k < bond_co
           through : (a b c d : ℤ) → a ≤ℤ b → b ≤ℤ c → c ≡ d → a ≤ℤ d
           through a b c d l m e = omega (arith, ints)
 
-      above_it : (z : ℤ) → t <ℤ z → (s : List ℤ) → IsGroundState (with_coupling inst k z) s → IsUpOrDown (product s (bond_at inst k)) → product s (bond_at inst k) ≡ pos 1
+      above_it : (z : ℤ) → t <ℤ z → (s : List ℤ) → IsGroundState (with_coupling inst k z) s → IsUpOrDown (product s (bond_at inst k))
+          → product s (bond_at inst k) ≡ pos 1
       above_it z l s g (inl e) = e
       above_it z l s g (inr e) = absurd (less t z h.level coupling l (order z (pos 1) (negsuc 0) s g e like unlike))
         where
-          less : (t z x j : ℤ) → t <ℤ z → ((((x -ℤ (j *ℤ negsuc 0)) +ℤ (t *ℤ negsuc 0)) +ℤ (j *ℤ negsuc 0)) -ℤ (z *ℤ negsuc 0)) ≤ℤ ((((x -ℤ (j *ℤ pos 1)) +ℤ (t *ℤ pos 1)) +ℤ (j *ℤ pos 1)) -ℤ (z *ℤ pos 1)) → ⊥
+          less : (t z x j : ℤ) → t <ℤ z → ((((x -ℤ (j *ℤ negsuc 0)) +ℤ (t *ℤ negsuc 0)) +ℤ (j *ℤ negsuc 0)) -ℤ (z *ℤ negsuc 0)) ≤ℤ
+              ((((x -ℤ (j *ℤ pos 1)) +ℤ (t *ℤ pos 1)) +ℤ (j *ℤ pos 1)) -ℤ (z *ℤ pos 1)) → ⊥
           less t z x j l o = omega (arith, ints)
 
-      below_it : (z : ℤ) → z <ℤ t → (s : List ℤ) → IsGroundState (with_coupling inst k z) s → IsUpOrDown (product s (bond_at inst k)) → product s (bond_at inst k) ≡ negsuc 0
+      below_it : (z : ℤ) → z <ℤ t → (s : List ℤ) → IsGroundState (with_coupling inst k z) s → IsUpOrDown (product s (bond_at inst k))
+          → product s (bond_at inst k) ≡ negsuc 0
       below_it z l s g (inr e) = e
       below_it z l s g (inl e) = absurd (less t z h.level coupling l (order z (negsuc 0) (pos 1) s g e unlike like))
         where
-          less : (t z x j : ℤ) → z <ℤ t → ((((x -ℤ (j *ℤ pos 1)) +ℤ (t *ℤ pos 1)) +ℤ (j *ℤ pos 1)) -ℤ (z *ℤ pos 1)) ≤ℤ ((((x -ℤ (j *ℤ negsuc 0)) +ℤ (t *ℤ negsuc 0)) +ℤ (j *ℤ negsuc 0)) -ℤ (z *ℤ negsuc 0)) → ⊥
+          less : (t z x j : ℤ) → z <ℤ t → ((((x -ℤ (j *ℤ pos 1)) +ℤ (t *ℤ pos 1)) +ℤ (j *ℤ pos 1)) -ℤ (z *ℤ pos 1)) ≤ℤ
+              ((((x -ℤ (j *ℤ negsuc 0)) +ℤ (t *ℤ negsuc 0)) +ℤ (j *ℤ negsuc 0)) -ℤ (z *ℤ negsuc 0)) → ⊥
           less t z x j l o = omega (arith, ints)
 
       -- at t no assignment lies below the level
@@ -171,7 +180,8 @@ module _ (inst : Ising) (good : IsInstance inst) (k : ℕ) (inside : k < bond_co
       bottom u a (inl e) = h.like.least u a (product_moved t u ∙ e)
       bottom u a (inr e) = h.unlike.least u a (product_moved t u ∙ e)
 
-      ground_at : (p : ℤ) → (w : IsLeastWith (with_coupling inst k t) k p h.level) → (s : List ℤ) × IsGroundState (with_coupling inst k t) s × (product s (bond_at inst k) ≡ p)
+      ground_at : (p : ℤ) → (w : IsLeastWith (with_coupling inst k t) k p h.level)
+          → (s : List ℤ) × IsGroundState (with_coupling inst k t) s × (product s (bond_at inst k) ≡ p)
       ground_at p w = (
         w.reached.0,
         record {
@@ -182,11 +192,14 @@ module _ (inst : Ising) (good : IsInstance inst) (k : ℕ) (inside : k < bond_co
       )
 
       both_at : (p : ℤ) → IsUpOrDown p → (s : List ℤ) × IsGroundState (with_coupling inst k t) s × (product s (bond_at inst k) ≡ p)
-      both_at p (inl e) = subst (λ q. (s : List ℤ) × IsGroundState (with_coupling inst k t) s × (product s (bond_at inst k) ≡ q)) (sym e) (ground_at (pos 1) h.like)
-      both_at p (inr e) = subst (λ q. (s : List ℤ) × IsGroundState (with_coupling inst k t) s × (product s (bond_at inst k) ≡ q)) (sym e) (ground_at (negsuc 0) h.unlike)
+      both_at p (inl e) = subst (λ q. (s : List ℤ) × IsGroundState (with_coupling inst k t) s × (product s (bond_at inst k) ≡ q)) (sym e)
+          (ground_at (pos 1) h.like)
+      both_at p (inr e) = subst (λ q. (s : List ℤ) × IsGroundState (with_coupling inst k t) s × (product s (bond_at inst k) ≡ q)) (sym e)
+          (ground_at (negsuc 0) h.unlike)
 
   -- from a ground state and the cost of the bond
-  pub turn_from_cost : (t c : ℤ) (s : List ℤ) → IsGroundState inst s → IsCost inst k c → t +ℤ t ≡ (coupling +ℤ coupling) -ℤ (product s (bond_at inst k) *ℤ c) → IsTurn inst k t
+  pub turn_from_cost : (t c : ℤ) (s : List ℤ) → IsGroundState inst s → IsCost inst k c
+      → t +ℤ t ≡ (coupling +ℤ coupling) -ℤ (product s (bond_at inst k) *ℤ c) → IsTurn inst k t
   turn_from_cost t c s g cost twice = by_product (unit s g.assignment)
     where
       like_above : energy inst s ≤ℤ cost.like
@@ -195,13 +208,15 @@ module _ (inst : Ising) (good : IsInstance inst) (k : ℕ) (inside : k < bond_co
       unlike_above : energy inst s ≤ℤ cost.unlike
       unlike_above = subst (λ x. energy inst s ≤ℤ x) cost.least_unlike.reached.3 (g.least cost.least_unlike.reached.0 cost.least_unlike.reached.1)
 
-      when_like : (t j p c e f x : ℤ) → t +ℤ t ≡ (j +ℤ j) -ℤ (p *ℤ c) → p ≡ pos 1 → c ≡ pos (unsigned_abs (f -ℤ e)) → e ≤ℤ x → x ≤ℤ f → t +ℤ t ≡ (j +ℤ j) +ℤ (e -ℤ f)
+      when_like : (t j p c e f x : ℤ) → t +ℤ t ≡ (j +ℤ j) -ℤ (p *ℤ c) → p ≡ pos 1 → c ≡ pos (unsigned_abs (f -ℤ e)) → e ≤ℤ x → x ≤ℤ f
+          → t +ℤ t ≡ (j +ℤ j) +ℤ (e -ℤ f)
       when_like t j p c e f x h a b l m = h ∙ ap (λ q. (j +ℤ j) -ℤ (q *ℤ c)) a ∙ rest j c e f x b l m
         where
           rest : (j c e f x : ℤ) → c ≡ pos (unsigned_abs (f -ℤ e)) → e ≤ℤ x → x ≤ℤ f → (j +ℤ j) -ℤ (pos 1 *ℤ c) ≡ (j +ℤ j) +ℤ (e -ℤ f)
           rest j c e f x b l m = omega (arith, ints)
 
-      when_unlike : (t j p c e f x : ℤ) → t +ℤ t ≡ (j +ℤ j) -ℤ (p *ℤ c) → p ≡ negsuc 0 → c ≡ pos (unsigned_abs (f -ℤ e)) → f ≤ℤ x → x ≤ℤ e → t +ℤ t ≡ (j +ℤ j) +ℤ (e -ℤ f)
+      when_unlike : (t j p c e f x : ℤ) → t +ℤ t ≡ (j +ℤ j) -ℤ (p *ℤ c) → p ≡ negsuc 0 → c ≡ pos (unsigned_abs (f -ℤ e)) → f ≤ℤ x → x ≤ℤ e
+          → t +ℤ t ≡ (j +ℤ j) +ℤ (e -ℤ f)
       when_unlike t j p c e f x h a b l m = h ∙ ap (λ q. (j +ℤ j) -ℤ (q *ℤ c)) a ∙ rest j c e f x b l m
         where
           rest : (j c e f x : ℤ) → c ≡ pos (unsigned_abs (f -ℤ e)) → f ≤ℤ x → x ≤ℤ e → (j +ℤ j) -ℤ (negsuc 0 *ℤ c) ≡ (j +ℤ j) +ℤ (e -ℤ f)
@@ -209,9 +224,11 @@ module _ (inst : Ising) (good : IsInstance inst) (k : ℕ) (inside : k < bond_co
 
       by_product : IsUpOrDown (product s (bond_at inst k)) → IsTurn inst k t
       by_product (inl e) = turn_between t cost.like cost.unlike cost.least_like cost.least_unlike
-          (when_like t coupling (product s (bond_at inst k)) c cost.like cost.unlike (energy inst s) twice e cost.apart (cost.least_like.least s g.assignment e) unlike_above)
+          (when_like t coupling (product s (bond_at inst k)) c cost.like cost.unlike (energy inst s) twice e cost.apart
+              (cost.least_like.least s g.assignment e) unlike_above)
       by_product (inr e) = turn_between t cost.like cost.unlike cost.least_like cost.least_unlike
-          (when_unlike t coupling (product s (bond_at inst k)) c cost.like cost.unlike (energy inst s) twice e cost.apart (cost.least_unlike.least s g.assignment e) like_above)
+          (when_unlike t coupling (product s (bond_at inst k)) c cost.like cost.unlike (energy inst s) twice e cost.apart
+              (cost.least_unlike.least s g.assignment e) like_above)
 
   -- a cost is an even number
   pub cost_halves : (c : ℤ) (most : ℕ) → weight inst ≤ most → IsCost inst k c → IsDouble most c
@@ -233,7 +250,8 @@ module _ (inst : Ising) (good : IsInstance inst) (k : ℕ) (inside : k < bond_co
       unlike = h.least_unlike.reached.0
 
       most_of : (s : List ℤ) → IsAssignment inst s → sum_by (broken_weight s) inst.bonds ≤ weight inst
-      most_of s a = from_size (energy inst s) (sum_by (broken_weight s) inst.bonds) (weight inst) (energy_from_broken inst s good a) (energy_size inst s good a)
+      most_of s a = from_size (energy inst s) (sum_by (broken_weight s) inst.bonds) (weight inst) (energy_from_broken inst s good a)
+          (energy_size inst s good a)
         where
           from_size : (e : ℤ) (b w : ℕ) → e ≡ pos (2 * b) -ℤ pos w → unsigned_abs e ≤ w → b ≤ w
           from_size e b w p q = omega (arith, ints)
@@ -241,11 +259,13 @@ module _ (inst : Ising) (good : IsInstance inst) (k : ℕ) (inside : k < bond_co
       bounded : (a b w m : ℕ) → a ≤ w → b ≤ w → w ≤ m → unsigned_abs (pos a -ℤ pos b) ≤ m
       bounded a b w m p q r = omega (arith, ints)
 
-      twice : (c e f : ℤ) (a b w : ℕ) → c ≡ pos (unsigned_abs (e -ℤ f)) → e ≡ pos (2 * a) -ℤ pos w → f ≡ pos (2 * b) -ℤ pos w → c ≡ pos (2 * unsigned_abs (pos a -ℤ pos b))
+      twice : (c e f : ℤ) (a b w : ℕ) → c ≡ pos (unsigned_abs (e -ℤ f)) → e ≡ pos (2 * a) -ℤ pos w → f ≡ pos (2 * b) -ℤ pos w
+          → c ≡ pos (2 * unsigned_abs (pos a -ℤ pos b))
       twice c e f a b w p q r = omega (arith, ints)
 
 -- one more turning coupling
-pub turns_more : (inst : Ising) (turns : List ℤ) (t : ℤ) (n : ℕ) → length turns ≡ n → ((k : ℕ) → k < n → IsTurn inst k (get_or turns k (pos 0))) → IsTurn inst n t → (k : ℕ) → k < n + 1 → IsTurn inst k (get_or (turns ++ t ∷ []) k (pos 0))
+pub turns_more : (inst : Ising) (turns : List ℤ) (t : ℤ) (n : ℕ) → length turns ≡ n → ((k : ℕ) → k < n → IsTurn inst k (get_or turns k (pos 0)))
+    → IsTurn inst n t → (k : ℕ) → k < n + 1 → IsTurn inst k (get_or (turns ++ t ∷ []) k (pos 0))
 turns_more inst turns t n long before here k l = elim (cases_lt k n) [
   | inl b ↦ subst (IsTurn inst k) (sym (get_or_append_left turns (t ∷ []) (pos 0) k (omega (arith, long)))) (before k b)
   | inr past ↦
@@ -265,12 +285,14 @@ doubled r j p h c (inr a) e f = rw a (when_unlike r j p h c a e f)
     when_unlike r j p h c a e f = let g : r ≡ j -ℤ (negsuc 0 *ℤ h) = e ∙ ap (λ q. j -ℤ (q *ℤ h)) a in omega (arith, ints, g, f)
 
 -- the same in numbers of 64 bits
-pub turn_found : (r j p h c : ℤ) (most : ℕ) → 2 * most < 2 ^ 63 → IsUpOrDown p → unsigned_abs j ≤ most → unsigned_abs h ≤ most → unsigned_abs r ≤ 2 * most → FitsSigned w64 c →
+pub turn_found : (r j p h c : ℤ) (most : ℕ) → 2 * most < 2 ^ 63 → IsUpOrDown p → unsigned_abs j ≤ most → unsigned_abs h ≤ most
+    → unsigned_abs r ≤ 2 * most → FitsSigned w64 c →
     r ≡ to_z w64 (of_z w64 j) -ℤ (to_z w64 (of_z w64 p) *ℤ to_z w64 (of_z w64 h)) → h +ℤ h ≡ to_z w64 (of_z w64 c) →
     to_z w64 (of_z w64 r) +ℤ to_z w64 (of_z w64 r) ≡ (j +ℤ j) -ℤ (p *ℤ c)
 turn_found r j p h c most few up small half size fits value twice =
     ap₂ (λ a b. a +ℤ b) kept kept
-    ∙ doubled r j p h c up (value ∙ ap₂ (λ a b. a -ℤ b) (kept_small j most small (omega arith)) (ap₂ (λ a b. a *ℤ b) (kept_unit p up) (kept_small h most half (omega arith))))
+    ∙ doubled r j p h c up (value ∙ ap₂ (λ a b. a -ℤ b) (kept_small j most small (omega arith))
+        (ap₂ (λ a b. a *ℤ b) (kept_unit p up) (kept_small h most half (omega arith))))
     (twice ∙ to_z-of_z w64 c fits)
   where
     kept : to_z w64 (of_z w64 r) ≡ r

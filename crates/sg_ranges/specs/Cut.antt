@@ -1,10 +1,9 @@
 -- Cuts: the bonds between the spins that are up and those that are down, each of which counts its coupling.
-use Rattle.std.specs.Prelude.{◌≡◌, ℤ, pos, ◌+ℤ◌, ◌≤ℤ◌, Bool, not, if◌then◌else◌, List, fold, map}
+use Rattle.std.specs.Prelude.{◌≡◌, ℤ, pos, ◌+ℤ◌, ◌≤ℤ◌, Bool, not, if◌then◌else◌, List, fold}
 use Rattle.std.specs.Ordering.{int_eq}
 use Rattle.sg_model.specs.declared.bond.Bond.{Bond}
 use Rattle.sg_model.specs.Ising.{Ising}
 use Rattle.sg_model.specs.Spins.{IsAssignment, spin}
-use Rattle.sg_model.specs.Changes.{opposite, with_bonds}
 
 -- the two spins of the bond have different values
 abbrev pub is_cut : List ℤ → Bond → Bool
@@ -23,6 +22,3 @@ pub record IsLargestCut (inst : Ising) (s : List ℤ) (x : ℤ) : Type 0 where
   pub assignment : IsAssignment inst s
   pub weight : cut_weight inst s ≡ x
   pub largest : (t : List ℤ) → IsAssignment inst t → cut_weight inst t ≤ℤ x
-
-abbrev pub negated : Ising → Ising
-negated inst = with_bonds inst (map opposite inst.bonds)

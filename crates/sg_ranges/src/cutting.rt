@@ -1,13 +1,14 @@
 ghost use Rattle.std.specs.Prelude.{◌≡◌, ◌<◌, ◌≤◌, ◌+ℤ◌, ◌-ℤ◌, ◌*ℤ◌, ◌*◌, ◌^◌, pos, length, fold, if◌then◌else◌, All, IfOk, unsigned_abs};
 ghost use Rattle.sg_model.specs.Ising.{IsBond};
-ghost use Rattle.sg_model.specs.Spins.{IsAssignment, spin};
+ghost use Rattle.sg_model.specs.Spins.{IsAssignment};
 ghost use Rattle.sg_check.specs.Packing.{IsShort, Proves};
 ghost use Rattle.sg_limits.specs.Limits.{forced_limit};
+ghost use Rattle.sg_model.specs.Changes.{negated};
+ghost use Rattle.sg_model.specs.Connected.{LeastsUp};
 ghost use Rattle.sg_model.specs.Energy.{weight};
-ghost use Rattle.sg_ranges.specs.Cut.{IsLargestCut, coupling_sum, cut_weight, is_cut, negated};
+ghost use Rattle.sg_ranges.specs.Cut.{IsLargestCut, coupling_sum, cut_weight, is_cut};
 
 use super::NoMemory;
-use super::negating::negated;
 use sg_check::Loops;
 use sg_ground::solve;
 use sg_model::{Bond, Instance, Spins};
@@ -27,17 +28,18 @@ pub struct CutAnswer {
 ///
 /// It is a ground state of the instance with every sign changed, whose energy is the sum of all
 /// couplings less twice the weight of the cut. The loops prove it as the loops of `solve` do, in that
-/// instance. Which of several largest cuts is answered, and with which packing, is not said.
+/// instance. The least spin of each component is up. Which of several largest cuts is answered, and
+/// with which packing, is not said.
 ///
 /// Cost: one ground state.
 pub fn largest_cut(alloc: Global, planar: &Planar) -> Result<CutAnswer, NoMemory>
     ensures cut { IfOk result (λ a. IsLargestCut planar.now.instance a.spins a.weight) }
-    ensures first_up { IfOk result (λ a. spin a.spins 0 ≡ pos 1) }
+    ensures first_up { IfOk result (λ a. LeastsUp planar.now.instance a.spins) }
     ensures proves { IfOk result (λ a. Proves (negated planar.now.instance) a.spins
         (coupling_sum planar.now.instance -ℤ (pos 2 *ℤ a.weight)) a.loops) }
     ensures short { IfOk result (λ a. IsShort (negated planar.now.instance) a.loops) }
 {
-    let opposite = negated(planar)?;
+    let opposite = planar.negated()?;
     let least = solve(alloc, &opposite)?;
     let weight = cut_weight(planar.instance(), &least.spins);
     Ok(CutAnswer {

@@ -3,9 +3,10 @@ ghost use Rattle.sg_model.specs.Ising.{Ising, bond_at, bond_count};
 ghost use Rattle.sg_model.specs.WellFormed.{IsInstance};
 ghost use Rattle.sg_model.specs.Spins.{IsAssignment};
 ghost use Rattle.sg_model.specs.Energy.{IsGroundState, energy, product};
+ghost use Rattle.sg_model.specs.Changes.{negated};
 ghost use Rattle.sg_bonds.specs.Cost.{IsCost};
 ghost use Rattle.sg_ranges.specs.Turn.{IsTurn, IsTurningPoint};
-ghost use Rattle.sg_ranges.specs.Cut.{coupling_sum, cut_weight, negated};
+ghost use Rattle.sg_ranges.specs.Cut.{coupling_sum, cut_weight};
 
 /// Turning couplings on every instance, planar or not: the energies of two assignments differ by an
 /// even number, and so twice the coupling less the product of a ground state times the cost is twice

@@ -14,7 +14,6 @@
 
 mod cutting;
 mod law;
-mod negating;
 mod turning;
 
 pub use cutting::{CutAnswer, largest_cut};

@@ -1,10 +1,11 @@
 -- The parts of a scan over all pairs: one row, and the nearer of two pairs.
-use Rattle.std.specs.Prelude.{◌≡◌, ℕ, ◌<◌, List, ◌≤ℤ◌, Option, Some, None, ◌⊎◌}
+use Rattle.std.specs.Prelude.{◌≡◌, ◌≢◌, length, slice_index, ℕ, ◌<◌, List, ◌≤ℤ◌, Option, Some, None, ◌⊎◌}
 use Rattle.sg_slack.specs.declared.Mark.{Mark}
 use Rattle.sg_slack.specs.declared.Pair.{Pair}
 use Rattle.sg_slack.specs.Table.{Table}
 use Rattle.sg_slack.specs.Slack.{IsOuterFree, IsOuterOuter, mark_at}
-use Rattle.sg_slack.specs.Kept.{nearest_at}
+use Rattle.sg_slack.specs.Kept.{kept_at, nearest_at}
+use Rattle.sg_slack.specs.declared.near.Kept.{Kept}
 use Rattle.sg_slack.specs.declared.Mark.TheVariants.{Free}
 use Rattle.sg_slack.specs.declared.near.Nearest.{Nearest}
 
@@ -21,6 +22,20 @@ pub record IsNearestFree (t : Table) (nearest : List Nearest) (marks : List Mark
   pub v_leaf : v < t.size
   pub nearest_is : u ≡ (nearest_at nearest v).leaf
   pub free : mark_at marks v ≡ Free
+
+-- the leaf of a member before a place
+abbrev pub IsKeptBefore : ℕ → List Kept → ℕ → Type 0
+IsKeptBefore place members v = (i : ℕ) × (i < place) × ((kept_at members i).leaf ≡ v)
+
+-- a leaf, and a member before a place whose top is another
+abbrev pub IsApartOf : ℕ → List Kept → List ℕ → ℕ → ℕ → ℕ → Type 0
+IsApartOf place members tops row u v = (u ≡ row) × (slice_index tops u ≢ slice_index tops v) ×
+    IsKeptBefore place members v
+
+-- a member before a place, and any member of another top
+abbrev pub IsApartBefore : ℕ → List Kept → List ℕ → ℕ → ℕ → Type 0
+IsApartBefore place members tops u v = IsKeptBefore place members u × (slice_index tops u ≢ slice_index tops v) ×
+    IsKeptBefore (length members) members v
 
 -- the pair of less slack, where there are two
 abbrev pub IsNearer : Option Pair → Option Pair → Option Pair → Type 0

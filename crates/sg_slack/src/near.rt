@@ -1,9 +1,9 @@
-ghost use Rattle.std.specs.Prelude.{◌≡◌, ℕ, ◌<◌, ◌≤ℤ◌, ◌+ℤ◌, ◌⊎◌, ◌^◌, length, pos, negsuc, true, false};
-ghost use Rattle.sg_slack.specs.Kept.{key_of, nearest_at, IsTakenAt};
-ghost use Rattle.sg_slack.specs.Scan.{IsNearestFree};
+ghost use Rattle.std.specs.Prelude.{◌≡◌, ◌≢◌, ◌↔◌, IsTrue, ℕ, ◌<◌, ◌≤ℤ◌, ◌+ℤ◌, ◌⊎◌, ◌^◌, length, pos, negsuc, true, false};
+ghost use Rattle.sg_slack.specs.Kept.{kept_at, key_of, nearest_at, IsTakenAt};
+ghost use Rattle.sg_slack.specs.Scan.{IsApartBefore, IsApartOf, IsNearestFree};
 ghost use Rattle.sg_slack.specs.Slack.{Least, SumsFit};
 
-use super::{Costs, Mark, NoMemory, Pair, is_free, nearer_if, pair_of};
+use super::{Costs, Mark, NoMemory, Pair, is_free, nearer, nearer_if, pair_of};
 use std::alloc::Global;
 use std::marker::Model;
 
@@ -53,7 +53,7 @@ impl Near {
     ghost use Rattle.std.specs.Prelude.{◌≡◌, ◌↔◌, ℕ, ◌<◌, ◌≤ℤ◌, ◌++◌, ◌∷◌, [], IfOk, IsTrue, length, pos};
     ghost use Rattle.sg_slack.specs.declared.Mark.TheVariants.{Outer};
     ghost use Rattle.sg_slack.specs.Members.{grown, Agree, IsMember, TotalsFit};
-    ghost use Rattle.sg_slack.specs.Slack.{mark_at, IsOuterFree, Least, SumsFit};
+    ghost use Rattle.sg_slack.specs.Slack.{mark_at, IsOuterFree, IsOuterOuter, Least, SumsFit};
 
     /// These costs and no members.
     ///
@@ -156,6 +156,22 @@ impl Near {
         }
         nearest_kept(&self.costs, &self.nearest, total, mark)
     }
+
+    /// A pair of least slack of two outer leaves of different tops, none where there is no such pair:
+    /// the answer of [`least_outer_outer`](crate::least_outer_outer) where the members are the outer
+    /// leaves. The three slices have an entry for each leaf.
+    ///
+    /// Cost: proportional to the square of the number of members.
+    pub fn least_between(&self, total: &[i64], top: &[usize], mark: &[Mark]) -> Option<Pair>
+        requires totals { length total.now ≡ self.now.table.size }
+        requires tops { length top.now ≡ self.now.table.size }
+        requires marks { length mark.now ≡ self.now.table.size }
+        requires fits { SumsFit self.now.table total.now }
+        requires members { (u : ℕ) → u < self.now.table.size → (mark_at mark.now u ≡ Outer) ↔ IsMember self.now.members u }
+        ensures { Least self.now.table total.now (IsOuterOuter self.now.table top.now mark.now) result }
+    {
+        least_apart(&self.costs, &self.members, total, top)
+    }
 }
 
 // What the totals have risen by after a shift; nothing where there is no member.
@@ -214,4 +230,50 @@ fn nearest_kept(costs: &Costs, nearest: &[Nearest], total: &[i64], mark: &[Mark]
         best = nearer_if(best, pair, is_free(mark[v as usize]));
     }
     best
+}
+
+// The pair of least slack of two members of different tops.
+fn least_apart(costs: &Costs, members: &[Kept], total: &[i64], top: &[usize]) -> Option<Pair>
+    requires totals { length total.now ≡ costs.now.size }
+    requires tops { length top.now ≡ costs.now.size }
+    requires fits { SumsFit costs.now total.now }
+    requires low { (i : ℕ) → i < length members.now → (kept_at members.now i).leaf < costs.now.size }
+    ensures { Least costs.now total.now (IsApartBefore (length members.now) members.now top.now) result }
+{
+    let mut best = None;
+    for member in members {
+        best = nearer(best, nearest_apart(costs, members, total, top, member.leaf));
+    }
+    best
+}
+
+// The pair of least slack of a leaf and a member of another top.
+fn nearest_apart(
+    costs: &Costs,
+    members: &[Kept],
+    total: &[i64],
+    top: &[usize],
+    u: u32,
+) -> Option<Pair>
+    requires totals { length total.now ≡ costs.now.size }
+    requires tops { length top.now ≡ costs.now.size }
+    requires fits { SumsFit costs.now total.now }
+    requires low { (i : ℕ) → i < length members.now → (kept_at members.now i).leaf < costs.now.size }
+    requires leaf { u < costs.now.size }
+    ensures { Least costs.now total.now (IsApartOf (length members.now) members.now top.now u) result }
+{
+    let mut best = None;
+    for member in members {
+        let pair = pair_of(costs, total, u, member.leaf);
+        let counts = is_apart(top[u as usize], top[member.leaf as usize]);
+        best = nearer_if(best, pair, counts);
+    }
+    best
+}
+
+// Whether two tops differ.
+fn is_apart(top: usize, other: usize) -> bool
+    ensures { IsTrue result ↔ (top ≢ other) }
+{
+    top != other
 }

@@ -69,6 +69,7 @@ invariant_of-self c = (
     inner = search rules;
     cycle = search rules;
     ring = search rules;
+    named = search rules;
     tops = search rules;
     totals = search rules;
     marks = search rules;

@@ -159,6 +159,7 @@ invariant_of-self g c =
         inner = omega (arith, room.inner, names, c.raise_tree.ensures.inner_room);
         cycle = omega (arith, room.cycle, names);
         ring = omega (arith, room.ring, names);
+        named = sym (with_items e.named c.nearest-near.new.named).ok.0 ∙ e.named.ok.0 ∙ room.named ∙ sym names;
         tops = sym (with_items e.tops c.nearest-near.new.tops).ok.0 ∙ e.tops.ok.0 ∙ room.tops ∙ sym leaves;
         totals = sym (with_items e.totals c.nearest-near.new.totals).ok.0 ∙ e.totals.ok.0 ∙ room.totals ∙ sym leaves;
         marks = sym (with_items e.marks c.nearest-near.new.marks).ok.0 ∙ e.marks.ok.0 ∙ room.marks ∙ sym leaves;

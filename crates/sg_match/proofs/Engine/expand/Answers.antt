@@ -144,6 +144,7 @@ invariant_of-self g c =
         inner = omega (arith, size, roomy.inner);
         cycle = omega (arith, size, rooms.0);
         ring = omega (arith, size, rooms.1);
+        named = roomy.named ∙ sym size;
         tops = roomy.tops ∙ leaves;
         totals = roomy.totals ∙ leaves;
         marks = roomy.marks ∙ leaves;

@@ -39,6 +39,7 @@ invariant_of-result c =
         inner = omega (arith, c.in_ok-inner.ensures.capacity, c.room-room.ensures.value);
         cycle = omega (arith, c.in_ok-cycle.ensures.capacity, c.room-room.ensures.value);
         ring = omega (arith, c.in_ok-ring.ensures.capacity, c.room-room.ensures.value);
+        named = omega (arith, c.in_ok-named.ensures.len, c.room-room.ensures.value);
         tops = omega (arith, c.in_ok-tops.ensures.len, c.in_ok-arena.ensures.leaves);
         totals = omega (arith, c.in_ok-totals.ensures.len, c.in_ok-arena.ensures.leaves);
         marks = omega (arith, c.in_ok-marks.ensures.len, c.in_ok-arena.ensures.leaves);

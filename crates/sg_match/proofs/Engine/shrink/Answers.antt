@@ -154,6 +154,7 @@ invariant_of-self g c =
         inner = omega (arith, nodes, roomy.inner);
         cycle = omega (arith, nodes, roomy.cycle, c.find_cycle-base.ensures.capacity);
         ring = omega (arith, nodes, roomy.ring);
+        named = omega (arith, nodes, roomy.named);
         tops = omega (arith, leaves, roomy.tops);
         totals = omega (arith, leaves, roomy.totals);
         marks = omega (arith, leaves, roomy.marks);

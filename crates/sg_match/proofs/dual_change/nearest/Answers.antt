@@ -1,6 +1,10 @@
 -- `nearest`: the tables say of the leaves what the tree says.
 use Rattle.std.proofs.Common.{◌≡◌, ℕ, ◌<◌, List, length, ◌∙◌, ap, subst, sym, arith}
+use Rattle.sg_arena.proofs.FamilyLemmas.{name_bound}
+use Rattle.sg_arena.specs.Family.{IsTop}
 use Rattle.sg_sums.specs.Naturals.{nat_of}
+use Rattle.sg_match.proofs.TreeLemmas.{inner_top, length-outers, outer_top}
+use Rattle.sg_match.specs.Tree.{edge_at}
 use Rattle.sg_match.proofs.MembersStep.{Agree-known, AreMarked-known, AreOuter-marked}
 use Rattle.sg_match.proofs.NearestStep.{CanScan-listed, IsMarked-stands, IsNearest-scanned, SumsFit-listed}
 use Rattle.sg_match.specs.Marks.{IsMarked}
@@ -12,10 +16,40 @@ use Rattle.sg_slack.specs.Slack.{SumsFit, mark_at}
 use Rattle.sg_slack.specs.declared.Mark.TheVariants.{Outer}
 use Rattle.sg_slack.specs.Table.{Table}
 use Rattle.sg_match.proofs.dual_change.nearest.Goals as goal
-use Rattle.sg_match.proofs.dual_change.nearest.Goals.{After-costs, After-list_leaves}
+use Rattle.sg_match.proofs.dual_change.nearest.Goals.{After-costs, After-list_leaves, After-mark_tops}
 
 pub list_leaves-requires-clause-small : goal.list_leaves-requires-clause-small
 list_leaves-requires-clause-small c = omega arith
+
+-- the names of tops are below the room
+room_of : (c : After-mark_tops) → (t : ℕ) → IsTop c.args.arena.now t → t < length c.mark_tops.new.named
+room_of c t top = omega (arith, name_bound c.args.arena.now t top.alive, c.mark_tops.ensures.count, c.requires.named)
+
+pub mark_tops-requires-clause-root : goal.mark_tops-requires-clause-root
+mark_tops-requires-clause-root c =
+    let tops = c.requires.stands.shape.tops in
+    omega (arith, c.requires.named, name_bound c.args.arena.now c.args.root (tops.outer_tops 0 (omega (arith, length-outers c.args.root c.args.edges.now))).alive)
+
+pub mark_tops-requires-clause-inner : goal.mark_tops-requires-clause-inner
+mark_tops-requires-clause-inner c i low =
+    omega (
+      arith,
+      c.requires.named,
+      name_bound c.args.arena.now (edge_at c.args.edges.now i).inner
+          (inner_top c.args.arena.now c.args.root c.args.edges.now c.requires.stands.shape i low).alive,
+    )
+
+pub mark_tops-requires-clause-outer : goal.mark_tops-requires-clause-outer
+mark_tops-requires-clause-outer c i low =
+    omega (
+      arith,
+      c.requires.named,
+      name_bound c.args.arena.now (edge_at c.args.edges.now i).outer
+          (outer_top c.args.arena.now c.args.root c.args.edges.now c.requires.stands.shape i low).alive,
+    )
+
+pub list_leaves-requires-clause-names : goal.list_leaves-requires-clause-names
+list_leaves-requires-clause-names c = room_of (goal.at.list_leaves-requires-clause-names c).After-mark_tops
 
 marked : (c : After-list_leaves) → IsMarked c.args.arena.now c.args.root c.args.edges.now c.list_leaves.new.marks
 marked c =
@@ -56,6 +90,17 @@ least-free-requires-clause-fits c =
 
 pub least-free-requires-clause-members : goal.least-free-requires-clause-members
 least-free-requires-clause-members c = λ u low. (
+  c.add_outer.ensures.every u (subst (λ (t : Table). u < t.size) c.add_outer.ensures.table low),
+  (λ is. subst (λ n. mark_at c.list_leaves.new.marks n ≡ Outer) is.2 (c.add_outer.ensures.outer is.0 is.1).1),
+)
+
+pub least_between-both-requires-clause-fits : goal.least_between-both-requires-clause-fits
+least_between-both-requires-clause-fits c =
+    subst (λ (t : Table). SumsFit t c.list_leaves.new.totals) (sym c.add_outer.ensures.table)
+    (fit (goal.at.least_between-both-requires-clause-fits c).After-list_leaves)
+
+pub least_between-both-requires-clause-members : goal.least_between-both-requires-clause-members
+least_between-both-requires-clause-members c = λ u low. (
   c.add_outer.ensures.every u (subst (λ (t : Table). u < t.size) c.add_outer.ensures.table low),
   (λ is. subst (λ n. mark_at c.list_leaves.new.marks n ≡ Outer) is.2 (c.add_outer.ensures.outer is.0 is.1).1),
 )

@@ -6,9 +6,9 @@ use Rattle.std.specs.Int.Signed.{quot_z}
 use Rattle.sg_sums.specs.Naturals.{nat_of}
 use Rattle.sg_match.proofs.ScanStep.{IsScanned-both, IsScanned-free, half_is, less_is, not_less_is, whole_is}
 use Rattle.sg_match.proofs.dual_change.scan.Goals as goal
-use Rattle.sg_match.proofs.dual_change.scan.Goals.{In-Some, In-Some-least_outer_outer}
+use Rattle.sg_match.proofs.dual_change.scan.Goals.{In-Some, In-Some-both}
 use Rattle.sg_match.specs.Scans.{IsScanned}
-use Rattle.sg_slack.specs.Slack.{IsLeast, IsOuterFree, Least}
+use Rattle.sg_slack.specs.Slack.{IsLeast, IsOuterFree, IsOuterOuter, Least}
 use Rattle.sg_match.specs.declared.Event.TheVariants.{OuterOuter, OuterFree}
 
 -- the least slack of a free leaf, a whole number that comes back from 64 bits as it went
@@ -39,15 +39,19 @@ free_at c =
     }
 
 -- the least slack of two outer leaves, and its half
-record IsBothAt (c : In-Some-least_outer_outer) : Type 0 where
+record IsBothAt (c : In-Some-both) : Type 0 where
   amount : ℕ
-  slack : c.in-Some-least_outer_outer.both.slack ≡ pos (2 * amount)
-  half : to_z w64 (of_z w64 (quot_z (to_z w64 (of_z w64 c.in-Some-least_outer_outer.both.slack)) (pos 2))) ≡ pos amount
+  slack : c.in-Some-both.both.slack ≡ pos (2 * amount)
+  half : to_z w64 (of_z w64 (quot_z (to_z w64 (of_z w64 c.in-Some-both.both.slack)) (pos 2))) ≡ pos amount
 
-both_at : (c : In-Some-least_outer_outer) → IsBothAt c
+both_is : (c : In-Some-both) → IsLeast c.args.costs.now c.args.totals.now (IsOuterOuter c.args.costs.now c.args.tops.now c.args.marks.now) c.in-Some-both.both
+both_is c =
+    subst (λ o. Least c.args.costs.now c.args.totals.now (IsOuterOuter c.args.costs.now c.args.tops.now c.args.marks.now) o) c.in-Some-both.is c.requires.both
+
+both_at : (c : In-Some-both) → IsBothAt c
 both_at c =
-    let both = c.in-Some-least_outer_outer.both in
-    let best = c.in-Some-least_outer_outer.ensures in
+    let both = c.in-Some-both.both in
+    let best = both_is c in
     let here = c.requires.can.both both.u both.v best.one in
     let fits : FitsSigned w64 both.slack = subst (λ z. FitsSigned w64 z) (sym best.slack)
     (c.requires.fits.slack both.u both.v best.one.u_leaf best.one.v_leaf) in
@@ -58,57 +62,57 @@ both_at c =
 whole : (z : ℤ) (n : ℕ) → z ≡ pos n → z ≡ pos (nat_of z)
 whole z n is = is ∙ ap (λ x. pos (nat_of x)) (sym is)
 
-pub returns-in-Some-least_outer_outer-clause-whole :
-    goal.returns-in-Some-least_outer_outer-clause-whole
-returns-in-Some-least_outer_outer-clause-whole c =
-    let at = both_at (goal.at.returns-in-Some-least_outer_outer-clause-whole c).In-Some-least_outer_outer in
+pub returns-in-Some-both-clause-whole :
+    goal.returns-in-Some-both-clause-whole
+returns-in-Some-both-clause-whole c =
+    let at = both_at (goal.at.returns-in-Some-both-clause-whole c).In-Some-both in
     whole _ at.amount at.half
 
-pub returns-in-Some-least_outer_outer-clause-scanned :
-    goal.returns-in-Some-least_outer_outer-clause-scanned
-returns-in-Some-least_outer_outer-clause-scanned c =
+pub returns-in-Some-both-clause-scanned :
+    goal.returns-in-Some-both-clause-scanned
+returns-in-Some-both-clause-scanned c =
     let free = c.in-Some.free in
-    let q = c.in-Some-least_outer_outer.both in
-    let at = both_at (goal.at.returns-in-Some-least_outer_outer-clause-scanned c).In-Some-least_outer_outer in
-    let here = free_at (goal.at.returns-in-Some-least_outer_outer-clause-scanned c).In-Some in
+    let q = c.in-Some-both.both in
+    let at = both_at (goal.at.returns-in-Some-both-clause-scanned c).In-Some-both in
+    let here = free_at (goal.at.returns-in-Some-both-clause-scanned c).In-Some in
     let less = less_is (to_z w64 (of_z w64 (quot_z (to_z w64 (of_z w64 q.slack)) (pos 2))))
     (to_z w64 (of_z w64 (to_z w64 (of_z w64 free.slack)))) at.amount here.amount at.half here.again c.if-both-away.true in
     subst (λ z. IsScanned c.args.costs.now c.args.tops.now c.args.totals.now c.args.marks.now (nat_of z) (OuterOuter q.u q.v)) (sym at.half)
-    (IsScanned-both c.args.costs.now c.args.tops.now c.args.totals.now c.args.marks.now free q at.amount (free_is (goal.at.returns-in-Some-least_outer_outer-clause-scanned c).In-Some)
-    c.in-Some-least_outer_outer.ensures at.slack (omega (arith, ints, less, here.slack)))
+    (IsScanned-both c.args.costs.now c.args.tops.now c.args.totals.now c.args.marks.now free q at.amount (free_is (goal.at.returns-in-Some-both-clause-scanned c).In-Some)
+    (both_is (goal.at.returns-in-Some-both-clause-scanned c).In-Some-both) at.slack (omega (arith, ints, less, here.slack)))
 
-pub returns-in_default-least_outer_outer-clause-whole :
-    goal.returns-in_default-least_outer_outer-clause-whole
-returns-in_default-least_outer_outer-clause-whole c =
-    let here = free_at (goal.at.returns-in_default-least_outer_outer-clause-whole c).In-Some in
+pub returns-in_default-both-clause-whole :
+    goal.returns-in_default-both-clause-whole
+returns-in_default-both-clause-whole c =
+    let here = free_at (goal.at.returns-in_default-both-clause-whole c).In-Some in
     whole _ here.amount here.same
 
-pub returns-in_default-least_outer_outer-clause-scanned :
-    goal.returns-in_default-least_outer_outer-clause-scanned
-returns-in_default-least_outer_outer-clause-scanned c =
+pub returns-in_default-both-clause-scanned :
+    goal.returns-in_default-both-clause-scanned
+returns-in_default-both-clause-scanned c =
     let free = c.in-Some.free in
-    let q = c.in-Some-least_outer_outer.both in
-    let at = both_at (goal.at.returns-in_default-least_outer_outer-clause-scanned c).In-Some-least_outer_outer in
-    let here = free_at (goal.at.returns-in_default-least_outer_outer-clause-scanned c).In-Some in
+    let q = c.in-Some-both.both in
+    let at = both_at (goal.at.returns-in_default-both-clause-scanned c).In-Some-both in
+    let here = free_at (goal.at.returns-in_default-both-clause-scanned c).In-Some in
     let more = not_less_is (to_z w64 (of_z w64 (quot_z (to_z w64 (of_z w64 q.slack)) (pos 2))))
     (to_z w64 (of_z w64 (to_z w64 (of_z w64 free.slack)))) at.amount here.amount at.half here.again c.if-both-away.false in
     subst (λ z. IsScanned c.args.costs.now c.args.tops.now c.args.totals.now c.args.marks.now (nat_of z) (OuterFree free.u free.v)) (sym here.same)
-    (IsScanned-free c.args.costs.now c.args.tops.now c.args.totals.now c.args.marks.now free c.least_outer_outer.result here.amount (free_is (goal.at.returns-in_default-least_outer_outer-clause-scanned c).In-Some)
-    here.slack c.least_outer_outer.ensures
-    (λ p is_p. let same = same_Some q p (sym c.in-Some-least_outer_outer.is ∙ is_p) in omega (arith, ints, more, ap (λ x. x.slack) same, at.slack)))
+    (IsScanned-free c.args.costs.now c.args.tops.now c.args.totals.now c.args.marks.now free c.args.both here.amount (free_is (goal.at.returns-in_default-both-clause-scanned c).In-Some)
+    here.slack c.requires.both
+    (λ p is_p. let same = same_Some q p (sym c.in-Some-both.is ∙ is_p) in omega (arith, ints, more, ap (λ x. x.slack) same, at.slack)))
 
-pub returns-in_default-least_outer_outer-2-clause-whole :
-    goal.returns-in_default-least_outer_outer-2-clause-whole
-returns-in_default-least_outer_outer-2-clause-whole c =
-    let here = free_at (goal.at.returns-in_default-least_outer_outer-2-clause-whole c).In-Some in
+pub returns-in_default-both-2-clause-whole :
+    goal.returns-in_default-both-2-clause-whole
+returns-in_default-both-2-clause-whole c =
+    let here = free_at (goal.at.returns-in_default-both-2-clause-whole c).In-Some in
     whole _ here.amount here.same
 
-pub returns-in_default-least_outer_outer-2-clause-scanned :
-    goal.returns-in_default-least_outer_outer-2-clause-scanned
-returns-in_default-least_outer_outer-2-clause-scanned c =
+pub returns-in_default-both-2-clause-scanned :
+    goal.returns-in_default-both-2-clause-scanned
+returns-in_default-both-2-clause-scanned c =
     let free = c.in-Some.free in
-    let here = free_at (goal.at.returns-in_default-least_outer_outer-2-clause-scanned c).In-Some in
+    let here = free_at (goal.at.returns-in_default-both-2-clause-scanned c).In-Some in
     subst (λ z. IsScanned c.args.costs.now c.args.tops.now c.args.totals.now c.args.marks.now (nat_of z) (OuterFree free.u free.v)) (sym here.same)
-    (IsScanned-free c.args.costs.now c.args.tops.now c.args.totals.now c.args.marks.now free c.least_outer_outer.result here.amount (free_is (goal.at.returns-in_default-least_outer_outer-2-clause-scanned c).In-Some)
-    here.slack c.least_outer_outer.ensures
-    (λ p is_p. absurd (none-some p (sym c.in_default-least_outer_outer.is ∙ is_p))))
+    (IsScanned-free c.args.costs.now c.args.tops.now c.args.totals.now c.args.marks.now free c.args.both here.amount (free_is (goal.at.returns-in_default-both-2-clause-scanned c).In-Some)
+    here.slack c.requires.both
+    (λ p is_p. absurd (none-some p (sym c.in_default-both.is ∙ is_p))))

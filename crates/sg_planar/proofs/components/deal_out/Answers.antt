@@ -14,7 +14,8 @@ deal-requires-2-clause-below c =
 pub returns : goal.returns
 returns c =
     split_made c.args.inst.now c.bonds.ensures.instance c.in_ok-names.names.items c.in_ok-names.ensures.count c.in_ok-names.ensures.naming
-    c.in_ok-labels.labels.items c.in_ok-spins.spins.lists.items c.in_ok-spins.spins.places.items c.in_ok-bonds.bonds.lists.items c.in_ok-bonds.bonds.places.items
+    c.in_ok-labels.labels.items c.in_ok-spins.spins.lists.items c.in_ok-spins.spins.places.items
+    c.in_ok-bonds.bonds.lists.items c.in_ok-bonds.bonds.places.items
     (rw (c.deref.ensures.value, c.as_slice.ensures, c.bonds.ensures.value) at c.in_ok-labels.ensures)
     (rw (c.deref-2.ensures.value, c.n.ensures.value) at c.in_ok-spins.ensures)
     (rw (c.deref-3.ensures.value, c.n-2.ensures.value) at c.in_ok-bonds.ensures)

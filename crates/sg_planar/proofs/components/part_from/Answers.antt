@@ -9,37 +9,31 @@ use Rattle.sg_planar.proofs.components.part_from.Goals.{After-deref-2}
 spins : (c : After-deref-2) → c.in_ok-spins.spins ≡ named_spins c.args.p.now.instance (slice_index c.args.split.now.names.items) c.args.least
 spins c =
     c.in_ok-spins.ensures.cases
-    ∙ spins_dealt c.args.p.now.instance c.instance-inst.ensures.planar.instance c.args.split.now.names.items c.args.split.now.spins.lists.items c.args.split.now.spins.places.items
-    c.args.split.now.bonds.lists.items c.args.split.now.bonds.places.items c.requires.split c.args.least c.requires.least_in c.requires.least_own c.index.result.now c.index.ensures
+    ∙ spins_dealt c.instance-inst.ensures.planar.instance c.requires.split c.args.least c.requires.least_in c.requires.least_own c.index.result.now c.index.ensures
 
 bonds : (c : After-deref-2) → c.in_ok-bonds.bonds ≡ named_bonds c.args.p.now.instance (slice_index c.args.split.now.names.items) c.args.least
 bonds c =
     c.in_ok-bonds.ensures.cases
-    ∙ bonds_dealt c.args.p.now.instance c.instance-inst.ensures.planar.instance c.args.split.now.names.items c.args.split.now.spins.lists.items c.args.split.now.spins.places.items
-    c.args.split.now.bonds.lists.items c.args.split.now.bonds.places.items c.requires.split c.args.least c.requires.least_in c.requires.least_own c.index-2.result.now c.index-2.ensures
+    ∙ bonds_dealt c.instance-inst.ensures.planar.instance c.requires.split c.args.least c.requires.least_in c.requires.least_own c.index-2.result.now c.index-2.ensures
 
 pub part_instance-requires-clause-closed : goal.part_instance-requires-clause-closed
 part_instance-requires-clause-closed c =
     let here = (goal.at.part_instance-requires-clause-closed c).After-deref-2 in
-    rw c.instance-inst.ensures.value
-    (dealt_closed c.args.p.now.instance c.instance-inst.ensures.planar.instance c.args.split.now.names.items c.args.split.now.spins.lists.items c.args.split.now.spins.places.items
-    c.args.split.now.bonds.lists.items c.args.split.now.bonds.places.items c.requires.split c.args.least c.requires.least_in c.requires.least_own
+    rw c.instance-inst.ensures.value (dealt_closed c.instance-inst.ensures.planar.instance c.requires.split c.args.least c.requires.least_in c.requires.least_own
     c.in_ok-spins.spins c.in_ok-bonds.bonds (spins here) (bonds here))
 
 pub part_instance-requires-clause-spin_places : goal.part_instance-requires-clause-spin_places
 part_instance-requires-clause-spin_places c =
     let here = (goal.at.part_instance-requires-clause-spin_places c).After-deref-2 in
     rw (c.instance-inst.ensures.value, c.deref.ensures.value)
-    (spin_places_dealt c.args.p.now.instance c.instance-inst.ensures.planar.instance c.args.split.now.names.items c.args.split.now.spins.lists.items c.args.split.now.spins.places.items
-    c.args.split.now.bonds.lists.items c.args.split.now.bonds.places.items c.requires.split c.args.least c.requires.least_in c.requires.least_own
+    (spin_places_dealt c.instance-inst.ensures.planar.instance c.requires.split c.args.least c.requires.least_in c.requires.least_own
     c.in_ok-spins.spins c.in_ok-bonds.bonds (spins here) (bonds here))
 
 pub part_instance-requires-clause-bond_places : goal.part_instance-requires-clause-bond_places
 part_instance-requires-clause-bond_places c =
     let here = (goal.at.part_instance-requires-clause-bond_places c).After-deref-2 in
     rw (c.instance-inst.ensures.value, c.deref-2.ensures.value)
-    (bond_places_dealt c.args.p.now.instance c.instance-inst.ensures.planar.instance c.args.split.now.names.items c.args.split.now.spins.lists.items c.args.split.now.spins.places.items
-    c.args.split.now.bonds.lists.items c.args.split.now.bonds.places.items c.requires.split c.args.least c.requires.least_in c.requires.least_own
+    (bond_places_dealt c.instance-inst.ensures.planar.instance c.requires.split c.args.least c.requires.least_in c.requires.least_own
     c.in_ok-spins.spins c.in_ok-bonds.bonds (spins here) (bonds here))
 
 pub of-planar-requires : goal.of-planar-requires
@@ -47,8 +41,7 @@ of-planar-requires c =
     let here = (goal.at.of-planar-requires c).After-deref-2 in
     let is : c.in_ok-instance.instance ≡ restricted c.args.p.now.instance c.in_ok-spins.spins c.in_ok-bonds.bonds =
     c.in_ok-instance.ensures ∙ ap (λ i. restricted i c.in_ok-spins.spins c.in_ok-bonds.bonds) c.instance-inst.ensures.value in
-    dealt_planar c.args.p.now.instance c.instance-inst.ensures.planar.instance c.args.split.now.names.items c.args.split.now.spins.lists.items c.args.split.now.spins.places.items
-    c.args.split.now.bonds.lists.items c.args.split.now.bonds.places.items c.requires.split c.args.least c.requires.least_in c.requires.least_own
+    dealt_planar c.instance-inst.ensures.planar.instance c.requires.split c.args.least c.requires.least_in c.requires.least_own
     c.in_ok-spins.spins c.in_ok-bonds.bonds (spins here) (bonds here) c.instance-inst.ensures.planar.genus_zero c.instance-inst.ensures.planar.sum
     c.in_ok-instance.instance is c.in_ok-faces.faces c.in_ok-faces.ensures.labels
 
@@ -57,7 +50,6 @@ returns c =
     let here = (goal.at.returns c).After-deref-2 in
     let is : c.in_ok-instance.instance ≡ restricted c.args.p.now.instance c.in_ok-spins.spins c.in_ok-bonds.bonds =
     c.in_ok-instance.ensures ∙ ap (λ i. restricted i c.in_ok-spins.spins c.in_ok-bonds.bonds) c.instance-inst.ensures.value in
-    dealt_part c.args.p.now.instance c.instance-inst.ensures.planar.instance c.args.split.now.names.items c.args.split.now.spins.lists.items c.args.split.now.spins.places.items
-    c.args.split.now.bonds.lists.items c.args.split.now.bonds.places.items c.requires.split c.args.least c.requires.least_in c.requires.least_own
+    dealt_part c.instance-inst.ensures.planar.instance c.requires.split c.args.least c.requires.least_in c.requires.least_own
     c.in_ok-spins.spins c.in_ok-bonds.bonds (spins here) (bonds here) c.instance-inst.ensures.planar.genus_zero c.instance-inst.ensures.planar.sum
     c.in_ok-instance.instance is c.in_ok-faces.faces c.in_ok-faces.ensures.labels c.of-planar.result c.of-planar.ensures

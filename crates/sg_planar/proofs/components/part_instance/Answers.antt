@@ -15,12 +15,14 @@ use Rattle.sg_planar.proofs.components.part_instance.Goals.{After-new}
 pub placed_bonds-requires-clause-below : goal.placed_bonds-requires-clause-below
 placed_bonds-requires-clause-below c =
     subst (λ (xs : List ℕ). All (λ k. k < bond_count c.args.inst.now) xs) (sym c.as_slice.ensures)
-    (All-from_get_or (λ k. k < bond_count c.args.inst.now) c.args.bonds.now 0 (λ j b. c.requires.closed.bonds_below (get_or c.args.bonds.now j 0) (holds_entry c.args.bonds.now j b)))
+    (All-from_get_or (λ k. k < bond_count c.args.inst.now) c.args.bonds.now 0
+    (λ j b. c.requires.closed.bonds_below (get_or c.args.bonds.now j 0) (holds_entry c.args.bonds.now j b)))
 
 pub placed_rotation-requires-clause-spins : goal.placed_rotation-requires-clause-spins
 placed_rotation-requires-clause-spins c =
     subst (λ (xs : List ℕ). All (λ x. x < c.args.inst.now.n) xs) (sym c.as_slice-2.ensures)
-    (All-from_get_or (λ x. x < c.args.inst.now.n) c.args.spins.now 0 (λ j b. c.requires.closed.spins_below (get_or c.args.spins.now j 0) (holds_entry c.args.spins.now j b)))
+    (All-from_get_or (λ x. x < c.args.inst.now.n) c.args.spins.now 0
+    (λ j b. c.requires.closed.spins_below (get_or c.args.spins.now j 0) (holds_entry c.args.spins.now j b)))
 
 pub overflow_cast-len : goal.overflow_cast-len
 overflow_cast-len c =
@@ -29,7 +31,9 @@ overflow_cast-len c =
     omega (arith, c.len.ensures, i.few_spins)
 
 -- the part as it is defined, and that it is an instance
-whole : (c : After-new) → record { n = c.len.result; bonds = c.in_ok-list.list; rotation = c.in_ok-rotation.rotation; seam = c.new.result } ≡ restricted c.args.inst.now c.args.spins.now c.args.bonds.now
+whole : (c : After-new) →
+    record { n = c.len.result; bonds = c.in_ok-list.list; rotation = c.in_ok-rotation.rotation; seam = c.new.result } ≡
+    restricted c.args.inst.now c.args.spins.now c.args.bonds.now
 whole c =
     part_assembled c.args.inst.now c.requires.instance c.args.spins.now c.args.bonds.now c.requires.closed c.args.spin_places.now c.args.bond_places.now
     c.requires.spin_places c.requires.bond_places c.len.result c.in_ok-list.list c.in_ok-rotation.rotation c.new.result c.len.ensures

@@ -18,16 +18,19 @@ loop-spin-preserved c =
     elim c.if-index-spin.branch [
       | then-index-spin+in_ok-part_from+in_ok-push w ↦
           rw (w.parts-is, w.in_ok-push.ensures.ok)
-          (zip_more inst (slice_index names) spin c.loop-spin.parts w.in_ok-part_from.field-0 c.loop-spin.invariant (sym read ∙ w.if-index-spin.true) w.in_ok-part_from.ensures)
+          (zip_more inst (slice_index names) spin c.loop-spin.parts w.in_ok-part_from.field-0 c.loop-spin.invariant
+          (sym read ∙ w.if-index-spin.true) w.in_ok-part_from.ensures)
       | else-index-spin w ↦
           rw w.parts-is
-          (zip_same inst (slice_index names) spin c.loop-spin.parts c.loop-spin.invariant (ne_eqb (get_or names spin 0) spin (λ (e : get_or names spin 0 ≡ spin). w.if-index-spin.false (read ∙ e))))
+          (zip_same inst (slice_index names) spin c.loop-spin.parts c.loop-spin.invariant
+          (ne_eqb (get_or names spin 0) spin (λ (e : get_or names spin 0 ≡ spin). w.if-index-spin.false (read ∙ e))))
     ]
 
 pub returns : goal.returns
 returns c =
     let names = c.args.split.now.names.items in
     let inst = c.args.p.now.instance in
-    let all : c.loop-spin.spin ≡ inst.n = omega (arith, c.loop-spin-test.false, c.loop-spin.auto.spin-end, c.n-spin-end.ensures.value, ap (λ i. i.n) c.instance.ensures.value) in
+    let all : c.loop-spin.spin ≡ inst.n =
+    omega (arith, c.loop-spin-test.false, c.loop-spin.auto.spin-end, c.n-spin-end.ensures.value, ap (λ i. i.n) c.instance.ensures.value) in
     parts_made inst c.instance.ensures.planar.instance (slice_index names) c.requires.naming c.loop-spin.parts
     (subst (λ (stop : ℕ). AllZip (IsPart inst) (own_names (slice_index names) stop) c.loop-spin.parts) all c.loop-spin.invariant)

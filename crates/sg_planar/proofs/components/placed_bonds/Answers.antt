@@ -17,7 +17,8 @@ loop-k-preserved c =
     let b = c.at-bond.result.now in
     let none : Bond = record { u = 0; v = 0; j = pos 0 } in
     let read : bond_at inst (get_or list i 0) ≡ b =
-    ap (λ (bs : List Bond). get_or bs (get_or list i 0) none) (sym c.bonds.ensures.value) ∙ get_or_from_slice_get c.bonds.result.now (get_or list i 0) b none c.at-bond.ensures in
+    ap (λ (bs : List Bond). get_or bs (get_or list i 0) none) (sym c.bonds.ensures.value)
+    ∙ get_or_from_slice_get c.bonds.result.now (get_or list i 0) b none c.at-bond.ensures in
     let fits = to_z-of_z w64 b.j (search rules) in
     c.in_ok-push.ensures.ok
     ∙ ap₂ (λ (done : List Bond) (z : ℤ). done ++ record { u = get_or places b.u 0; v = get_or places b.v 0; j = z } ∷ []) c.loop-k.invariant fits

@@ -10,7 +10,8 @@ placed_list-requires-clause-below c =
     let inst = c.args.inst.now in
     let s : ℕ = get_or c.args.spins.now c.loop-spin.spin-index 0 in
     let is : c.as_slice.result.now ≡ darts_of inst s =
-    c.as_slice.ensures ∙ sym (get_or_from_slice_get c.rotation.result.now s c.at-darts.result.now [] c.at-darts.ensures) ∙ ap (λ (xs : List (List ℕ)). get_or xs s []) c.rotation.ensures.value in
+    c.as_slice.ensures ∙ sym (get_or_from_slice_get c.rotation.result.now s c.at-darts.result.now [] c.at-darts.ensures)
+    ∙ ap (λ (xs : List (List ℕ)). get_or xs s []) c.rotation.ensures.value in
     subst (λ (xs : List ℕ). All (λ d. d / 2 < length c.args.places.now) xs) (sym is)
     (subst (λ (m : ℕ). All (λ d. d / 2 < m) (darts_of inst s)) (sym c.requires.places)
     (listed_below inst c.rotation.ensures.instance s (c.requires.spins c.loop-spin.spin-index 0 (omega arith))))
@@ -21,7 +22,8 @@ loop-spin-preserved c =
     let places = c.args.places.now in
     let s : ℕ = get_or c.args.spins.now c.loop-spin.spin-index 0 in
     let is : c.as_slice.result.now ≡ darts_of inst s =
-    c.as_slice.ensures ∙ sym (get_or_from_slice_get c.rotation.result.now s c.at-darts.result.now [] c.at-darts.ensures) ∙ ap (λ (xs : List (List ℕ)). get_or xs s []) c.rotation.ensures.value in
+    c.as_slice.ensures ∙ sym (get_or_from_slice_get c.rotation.result.now s c.at-darts.result.now [] c.at-darts.ensures)
+    ∙ ap (λ (xs : List (List ℕ)). get_or xs s []) c.rotation.ensures.value in
     c.in_ok-push.ensures.ok
     ∙ ap₂ (λ (done : List (List ℕ)) (list : List ℕ). done ++ list ∷ []) c.loop-spin.invariant (c.in_ok-placed_list.ensures ∙ ap (placed_darts places) is)
     ∙ sym (map_more (λ x. placed_darts places (darts_of inst x)) c.args.spins.now c.loop-spin.spin-index (omega arith))

@@ -11,7 +11,8 @@ pub returns-clause-naming : goal.returns-clause-naming
 returns-clause-naming c =
     let inst = c.args.inst.now in
     let all : c.deref.result.now ≡ replicate (bond_count inst) true =
-    c.deref.ensures.value ∙ c.in_ok-all.ensures.items_if_clones_equal (λ y e. e) ∙ ap (λ m. replicate m true) (c.len.ensures ∙ ap length c.bonds.ensures.value) in
+    c.deref.ensures.value ∙ c.in_ok-all.ensures.items_if_clones_equal (λ y e. e)
+    ∙ ap (λ m. replicate m true) (c.len.ensures ∙ ap length c.bonds.ensures.value) in
     IfOk-weaker c.names.result (λ names. AllNamed inst (has c.deref.result.now) names.items) (λ names. IsNaming inst (λ x. get_or names.items x 0))
     (λ names h. naming_of_all inst c.deref.result.now names.items all h) c.names.ensures
 
