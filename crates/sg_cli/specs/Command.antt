@@ -1,5 +1,5 @@
 -- Which command the words of a call name.
-use Rattle.std.specs.Prelude.{ℕ, ◌*◌, ◌-◌, ◌^◌, ◌≤◌, nat_le, Option, Some, None, List, [], ◌∷◌, codes, if◌then◌else◌, ⊤}
+use Rattle.std.specs.Prelude.{ℕ, ◌*◌, ◌≤◌, nat_le, Option, Some, None, List, [], ◌∷◌, codes, if◌then◌else◌, ⊤}
 use Rattle.std.specs.Str.{bytes_eq}
 use Rattle.std.specs.Option.{option_and_then}
 use Rattle.sg_limits.specs.Limits.{spin_limit}
@@ -9,8 +9,9 @@ use Rattle.sg_lattice.specs.Tables.{least_cols}
 use Rattle.sg_cli.specs.Numeral.{number_in}
 use Rattle.sg_cli.specs.declared.command.Command.{Command}
 use Rattle.sg_cli.specs.declared.command.Command.TheVariants.{Read, Draw}
-use Rattle.sg_cli.specs.declared.command.Reading.TheVariants.{Study, Check}
+use Rattle.sg_cli.specs.declared.command.Reading.TheVariants.{Study, Check, Graph}
 use Rattle.sg_cli.specs.declared.command.Study.TheVariants.{Energy, Ground, Wall, Bonds, Clusters, Report}
+use Rattle.sg_cli.specs.declared.command.GraphTask.TheVariants.{TJoin, Postman}
 use Rattle.sg_cli.specs.declared.command.Drawing.{Drawing}
 use Rattle.sg_cli.specs.declared.command.Drawing.TheVariants.{Gen, Sample}
 use Rattle.sg_cli.specs.declared.command.Size.{Size}
@@ -25,7 +26,9 @@ command_named word =
     else (if bytes_eq word (codes "clusters") then Some (Read (Study Clusters))
     else (if bytes_eq word (codes "report") then Some (Read (Study Report))
     else (if bytes_eq word (codes "check") then Some (Read Check)
-    else None))))))
+    else (if bytes_eq word (codes "tjoin") then Some (Read (Graph TJoin))
+    else (if bytes_eq word (codes "postman") then Some (Read (Graph Postman))
+    else None))))))))
 
 -- the kind of lattice that a word names
 abbrev pub kind_named : List ℕ → Option Kind

@@ -2,5 +2,6 @@ pub mod Numeral
 pub mod Command
 pub mod Exit
 pub mod Input
+pub mod Graphs
 pub mod Served
 pub mod Promises

@@ -21,16 +21,20 @@ use Rattle.sg_check.specs.Verdict.{IsVerdict}
 use Rattle.sg_wall.specs.Wall.{IsWall}
 use Rattle.sg_bonds.specs.Cost.{AreCosts}
 use Rattle.sg_bonds.specs.Cluster.{AreClusters}
+use Rattle.sg_graph.specs.Web.{Graph}
+use Rattle.sg_graph_text.specs.Network.{GivesNetwork, RefusesNetwork}
 use Rattle.sg_report.specs.Text.{bonds_text, clusters_text, energy_text, ground_text, wall_text}
 use Rattle.sg_report.specs.Text.{refusal_text, verdict_text}
 use Rattle.sg_report.specs.Samples.{instance_text, sample_text}
 use Rattle.sg_report.specs.Report.{report_text}
 use Rattle.sg_cli.specs.Command.{command_of, law_word}
+use Rattle.sg_cli.specs.Graphs.{AnswersTask, takes_terms}
 use Rattle.sg_cli.specs.Input.{GivesFit, GivesProof, RefusesProof, RefusesText}
 use Rattle.sg_cli.specs.declared.command.Command.{Command}
 use Rattle.sg_cli.specs.declared.command.Command.TheVariants.{Read, Draw}
 use Rattle.sg_cli.specs.declared.command.Drawing.{Drawing}
 use Rattle.sg_cli.specs.declared.command.Drawing.TheVariants.{Gen, Sample}
+use Rattle.sg_cli.specs.declared.command.GraphTask.{GraphTask}
 use Rattle.sg_cli.specs.declared.command.Reading.{Reading}
 use Rattle.sg_cli.specs.declared.command.Reading.TheVariants as reading
 use Rattle.sg_cli.specs.declared.command.Size.{Size}
@@ -157,10 +161,18 @@ pub data AnswersCheck (bytes text : List ℕ) (status : Status) : Type 0 where
   Judged : (inst : Ising) (stated : ResultText) → GivesProof bytes inst stated → PrintsVerdict inst stated text status
       → AnswersCheck bytes text status
 
+-- what a task on a graph answers to a text: the first fault, or the answer to its graph
+pub data AnswersGraph (task : GraphTask) (bytes text : List ℕ) (status : Status) : Type 0 where
+  GraphFaultNamed : (refusal : Refusal) → RefusesNetwork (takes_terms task) bytes refusal → IsRefused refusal text status
+      → AnswersGraph task bytes text status
+  GraphSolved : (g : Graph) (terminals : List ℕ) → GivesNetwork (takes_terms task) bytes g terminals
+      → AnswersTask task g terminals text status → AnswersGraph task bytes text status
+
 -- what a command that reads answers to a text
 abbrev pub AnswersText : Reading → List ℕ → List ℕ → Status → Type 0
 AnswersText (reading.Study study) bytes text status = AnswersStudy study bytes text status
 AnswersText reading.Check bytes text status = AnswersCheck bytes text status
+AnswersText (reading.Graph task) bytes text status = AnswersGraph task bytes text status
 
 -- what a command that reads answers to an input: an input that is too long is not looked at further
 pub record AnswersInput (reading : Reading) (bytes text : List ℕ) (status : Status) : Type 0 where

@@ -23,6 +23,8 @@ pub enum Reading {
     Study(Study),
     /// The verdict on a proof, for an instance of any kind.
     Check,
+    /// What is found in a connected weighted graph.
+    Graph(GraphTask),
 }
 
 /// What is asked of an instance that is fit.
@@ -40,6 +42,15 @@ pub enum Study {
     Clusters,
     /// All of these at once, as one line of JSON.
     Report,
+}
+
+/// What is asked of a connected weighted graph.
+#[derive(Clone, Copy)]
+pub enum GraphTask {
+    /// A least join of its terminals, with the odd cuts that prove it.
+    TJoin,
+    /// A shortest closed walk over every edge, with the odd cuts that prove it.
+    Postman,
 }
 
 /// What is asked of the draws of a law after a seed.
@@ -100,6 +111,10 @@ fn command_named(word: &str) -> Option<Command>
         Some(Command::Read(Reading::Study(Study::Report)))
     } else if word == "check" {
         Some(Command::Read(Reading::Check))
+    } else if word == "tjoin" {
+        Some(Command::Read(Reading::Graph(GraphTask::TJoin)))
+    } else if word == "postman" {
+        Some(Command::Read(Reading::Graph(GraphTask::Postman)))
     } else {
         None
     }

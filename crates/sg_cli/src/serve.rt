@@ -10,6 +10,7 @@ ghost use Rattle.sg_cli.specs.Promises.{AnswersInPart, AnswersSource, AnswersWho
 use super::check::check_reply;
 use super::command::{Command, Reading, law_word, parse_command};
 use super::draw::draw_reply;
+use super::graph::graph_reply;
 use super::reply::{NoMemory, Reply, refuse};
 use super::status::Status;
 use super::study::study_reply;
@@ -136,6 +137,7 @@ fn text_reply(alloc: Global, reading: Reading, bytes: &[u8]) -> Result<Reply, No
     match reading {
         Reading::Study(study) => study_reply(alloc, study, bytes),
         Reading::Check => check_reply(alloc, bytes),
+        Reading::Graph(task) => graph_reply(alloc, task, bytes),
     }
 }
 

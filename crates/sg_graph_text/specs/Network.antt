@@ -1,10 +1,11 @@
 -- Which connected graph a text gives, or why it is refused: the first test that fails.
-use Rattle.std.specs.Prelude.{◌≡◌, ⊤, ℕ, ◌<◌, ◌≤◌, Bool, pos, List, Some, None}
+use Rattle.std.specs.Prelude.{◌≡◌, ⊤, ℕ, ◌<◌, ◌≤◌, ◌%◌, Bool, pos, List, length, Some, None}
 use Rattle.sg_limits.specs.Limits.{sum_limit}
 use Rattle.sg_model.specs.declared.refusal.Fault.{Fault}
 use Rattle.sg_model.specs.declared.refusal.Fault.TheVariants.{Refused, NoMemory}
 use Rattle.sg_model.specs.declared.refusal.Refusal.{Refusal}
 use Rattle.sg_model.specs.declared.refusal.Refusal.TheVariants.{NotJoined, SumTooLarge}
+use Rattle.sg_graph.specs.Join.{AreTerminals}
 use Rattle.sg_graph.specs.Walk.{IsConnected, IsFirstUnreached}
 use Rattle.sg_graph.specs.Web.{Graph, total_weight}
 use Rattle.sg_reader.specs.Kept.{kept_of}
@@ -41,6 +42,13 @@ pub record IsUnjoined (g : Graph) (refusal : Refusal) : Type 0 where
   pub node : ℕ
   pub first : IsFirstUnreached g node
   pub named : refusal ≡ NotJoined node
+
+-- a connected graph within the limit of weight, with an even number of terminals, if any
+pub record IsNetwork (g : Graph) (terminals : List ℕ) : Type 0 where
+  pub light : total_weight g ≤ sum_limit
+  pub connected : IsConnected g
+  pub nodes : AreTerminals g terminals
+  pub even : length terminals % 2 ≡ 0
 
 -- the text gives a connected graph within the limit of weight, and terminals
 pub record GivesNetwork (terms : Bool) (bytes : List ℕ) (g : Graph) (terminals : List ℕ) : Type 0 where

@@ -1,11 +1,10 @@
-ghost use Rattle.std.specs.Prelude.{◌≡◌, ◌<◌, ◌≤◌, ◌%◌, length, pos, IfOk, IfErr, OnOk};
+ghost use Rattle.std.specs.Prelude.{◌≡◌, ◌<◌, ◌≤◌, length, pos, IfOk, IfErr, OnOk};
 ghost use Rattle.std.specs.List.{sum_by};
 ghost use Rattle.sg_limits.specs.Limits.{bond_limit, sum_limit, text_limit};
-ghost use Rattle.sg_graph.specs.Join.{AreTerminals};
 ghost use Rattle.sg_graph.specs.Walk.{IsConnected};
 ghost use Rattle.sg_graph.specs.Web.{total_weight, weight_at};
 ghost use Rattle.sg_graph_text.specs.Graph.{IsGraphText};
-ghost use Rattle.sg_graph_text.specs.Network.{GivesAlone, GivesNetwork, IsAloneFault, IsNetworkFault, IsTooHeavy, IsUnjoinedFault, graph_in};
+ghost use Rattle.sg_graph_text.specs.Network.{GivesAlone, GivesNetwork, IsAloneFault, IsNetwork, IsNetworkFault, IsTooHeavy, IsUnjoinedFault, graph_in};
 
 use super::graph::GraphText;
 use super::read::read_graph;
@@ -93,8 +92,7 @@ fn check_joined(alloc: Global, web: &Web) -> Result<(), Fault>
 pub fn read_network(alloc: Global, bytes: &[u8], terms: bool) -> Result<Network, Fault>
     requires { length bytes.now < text_limit }
     ensures gives { IfOk result (λ n. GivesNetwork terms bytes.now n.web n.terminals) }
-    ensures terminals { IfOk result (λ n. AreTerminals n.web n.terminals) }
-    ensures even { IfOk result (λ n. length n.terminals % 2 ≡ 0) }
+    ensures sound { IfOk result (λ n. IsNetwork n.web n.terminals) }
     ensures refuses { IfErr result (IsNetworkFault terms bytes.now) }
 {
     let text = read_alone(alloc, bytes, terms)?;

@@ -122,7 +122,7 @@ fn cuts_have_their_lines(rt: HostRuntime) -> Result<(), Fail> {
     let tour = postman_text(alloc, 6, &[(0, 1), (0, 0)], &cuts)?;
     assert_eq!(rt;
         tour.as_slice(),
-        b"weight,6\nstep,0,1\nstep,0,0\ncut,2,0,3\nend\n"
+        "weight,6\nstep,0,1\nstep,0,0\ncut,2,0,3\nend\n".as_bytes()
     );
     Ok(())
 }

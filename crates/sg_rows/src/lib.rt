@@ -11,6 +11,8 @@ mod components;
 #[cfg(test)]
 mod devices;
 #[cfg(test)]
+mod graphs;
+#[cfg(test)]
 mod ground;
 #[cfg(test)]
 mod json;

@@ -1,0 +1,70 @@
+// What `tjoin` and `postman` answer to a text: its first fault, or the answer to its graph. Their input
+// is never read as JSON.
+ghost use Rattle.std.specs.Prelude.{◌≡◌, ◌<◌, length, map, IfOk};
+ghost use Rattle.sg_limits.specs.Limits.{text_limit};
+ghost use Rattle.sg_graph_text.specs.Network.{IsNetwork};
+ghost use Rattle.sg_ground.specs.Loops.{loop_of};
+ghost use Rattle.sg_cli.specs.Graphs.{AnswersTask, takes_terms};
+ghost use Rattle.sg_cli.specs.Promises.{IsAnswered};
+ghost use Rattle.sg_cli.specs.Served.{AnswersGraph};
+
+use super::command::GraphTask;
+use super::postman::postman_reply;
+use super::reply::{NoMemory, Reply, refuse};
+use super::tjoin::tjoin_reply;
+use sg_check::{Loop, Loops};
+use sg_graph::Cuts;
+use sg_graph_text::{Network, read_network};
+use sg_model::Fault;
+use std::alloc::{AllocError, Global};
+
+/// What a task on a graph answers to a text within the limit of bytes.
+pub fn graph_reply(alloc: Global, task: GraphTask, bytes: &[u8]) -> Result<Reply, NoMemory>
+    requires { length bytes.now < text_limit }
+    ensures served { IfOk result (λ reply. AnswersGraph task bytes.now reply.text.items reply.status) }
+    ensures answered { IfOk result (λ reply. IsAnswered reply.status) }
+{
+    match read_network(alloc, bytes, takes_terminals(task)) {
+        Ok(network) => network_reply(alloc, task, &network),
+        Err(Fault::Refused(refusal)) => refuse(alloc, &refusal),
+        Err(Fault::NoMemory) => Err(AllocError),
+    }
+}
+
+// Whether terminals may be given.
+fn takes_terminals(task: GraphTask) -> bool
+    ensures { result ≡ takes_terms task }
+{
+    match task {
+        GraphTask::TJoin => true,
+        GraphTask::Postman => false,
+    }
+}
+
+// What a task answers in a connected graph.
+fn network_reply(alloc: Global, task: GraphTask, network: &Network) -> Result<Reply, NoMemory>
+    requires { IsNetwork network.now.web network.now.terminals }
+    ensures served { IfOk result (λ reply.
+        AnswersTask task network.now.web network.now.terminals reply.text.items reply.status) }
+    ensures answered { IfOk result (λ reply. IsAnswered reply.status) }
+{
+    match task {
+        GraphTask::TJoin => tjoin_reply(alloc, network),
+        GraphTask::Postman => postman_reply(alloc, network),
+    }
+}
+
+/// The cuts as they are printed: each as a loop with its weight, of edges in place of bonds. The lists
+/// of edges are moved.
+pub fn cut_loops(alloc: Global, cuts: Cuts) -> Result<Loops, NoMemory>
+    ensures { IfOk result (λ loops. loops ≡ map loop_of cuts) }
+{
+    let mut loops = Loops::new(alloc);
+    for cut in cuts.into_vec() {
+        loops.push(Loop {
+            y: cut.y,
+            bonds: cut.edges,
+        })?;
+    }
+    Ok(loops)
+}

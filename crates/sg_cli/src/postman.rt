@@ -1,0 +1,40 @@
+// What `postman` answers.
+ghost use Rattle.std.specs.Prelude.{◌≡◌, map, IfOk};
+ghost use Rattle.sg_graph_text.specs.Network.{IsNetwork};
+ghost use Rattle.sg_cli.specs.Graphs.{PrintsTour, pair_of};
+ghost use Rattle.sg_cli.specs.Promises.{IsAnswered};
+
+use super::graph::cut_loops;
+use super::reply::{NoMemory, Reply, done};
+use sg_graph_text::Network;
+use sg_postman::{Step, TourAnswer, tour};
+use sg_report::postman_text;
+use std::alloc::Global;
+
+/// A shortest closed walk over every edge, and the odd cuts that prove it.
+pub fn postman_reply(alloc: Global, network: &Network) -> Result<Reply, NoMemory>
+    requires { IsNetwork network.now.web network.now.terminals }
+    ensures served { IfOk result (λ reply. PrintsTour network.now.web reply.text.items reply.status) }
+    ensures answered { IfOk result (λ reply. IsAnswered reply.status) }
+{
+    let TourAnswer {
+        weight,
+        steps,
+        cuts,
+    } = tour(alloc, &network.web)?;
+    let pairs = step_pairs(alloc, steps.as_slice())?;
+    let loops = cut_loops(alloc, cuts)?;
+    let text = postman_text(alloc, weight, &pairs, &loops)?;
+    Ok(done(text))
+}
+
+// The steps as pairs of an edge and a node.
+fn step_pairs(alloc: Global, steps: &[Step]) -> Result<Vec<(u32, u32)>, NoMemory>
+    ensures { IfOk result (λ pairs. pairs.items ≡ map pair_of steps.now) }
+{
+    let mut pairs = Vec::new(alloc);
+    for step in steps {
+        pairs.push((step.edge, step.to))?;
+    }
+    Ok(pairs)
+}
