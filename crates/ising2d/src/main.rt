@@ -2,11 +2,13 @@
 //!
 //! Every text goes to standard output, and the exit status says how the run ended. What the
 //! program does is the contract of `sg_cli::run`; here the words, the devices and the status are
-//! joined to the system, which is trusted.
+//! joined to the system, which is trusted, and the laws of disorder are made that a run may draw from.
 #![tactic(auto)]
 
 use sg_cli::{Status, run};
 use sg_io::{ReadSource, WriteSink};
+use sg_laws::{Alternate, Disorder, One, PlusMinus, Uniform};
+use std::alloc::AllocError;
 use std::process::ExitCode;
 use std::{env, io};
 
@@ -15,12 +17,10 @@ const NO_WORDS: u8 = 7;
 
 fn main(rt: HostRuntime) -> ExitCode {
     match words(&rt) {
-        Ok(words) => {
-            let mut source = ReadSource::new(rt.reader());
-            let mut sink = WriteSink::new(io::writer(&rt));
-            let status = run(rt.alloc(), words.as_slice(), &mut source, &mut sink);
-            ExitCode::from(status.exit_code())
-        }
+        Ok(words) => match answer(&rt, words.as_slice()) {
+            Ok(status) => ExitCode::from(status.exit_code()),
+            Err(AllocError) => ExitCode::from(Status::NoMemory.exit_code()),
+        },
         Err(error) if error.kind() == io::ErrorKind::OutOfMemory => {
             ExitCode::from(Status::NoMemory.exit_code())
         }
@@ -35,4 +35,17 @@ fn words(rt: &HostRuntime) -> io::Result<Vec<String>> {
         words.push(word)?;
     }
     Ok(words)
+}
+
+/// Answers the words, with the laws of the library to draw from.
+fn answer(rt: &HostRuntime, words: &[String]) -> Result<Status, AllocError> {
+    let alloc = rt.alloc();
+    let mut laws: Vec<Box<dyn Disorder>> = Vec::new(alloc);
+    laws.push(Box::new(alloc, One::new())?)?;
+    laws.push(Box::new(alloc, Alternate::new())?)?;
+    laws.push(Box::new(alloc, PlusMinus::new())?)?;
+    laws.push(Box::new(alloc, Uniform::new())?)?;
+    let mut source = ReadSource::new(rt.reader());
+    let mut sink = WriteSink::new(io::writer(rt));
+    Ok(run(alloc, words, &mut source, &mut sink, laws))
 }

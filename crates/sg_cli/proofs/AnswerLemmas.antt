@@ -2,10 +2,14 @@
 use Rattle.std.proofs.Common.{◌≡◌, ℕ, List, [], Option, None, Some, refl}
 use Rattle.sg_io.specs.Devices.{Grows, Told}
 use Rattle.sg_io.specs.Writing.{GrowsByPrefix}
-use Rattle.sg_cli.specs.Command.{command_of}
+use Rattle.sg_laws.specs.Named.{Law, first_named}
+use Rattle.sg_cli.specs.Command.{command_of, law_word}
 use Rattle.sg_cli.specs.Promises.{AnswersInPart, AnswersSource, AnswersWhole, IsAnswered, IsServed}
-use Rattle.sg_cli.specs.Served.{usage_text}
+use Rattle.sg_cli.specs.Served.{AnswersLaw, usage_text}
 use Rattle.sg_cli.specs.declared.command.Command.{Command}
+use Rattle.sg_cli.specs.declared.command.Command.TheVariants.{Read, Draw}
+use Rattle.sg_cli.specs.declared.command.Drawing.{Drawing}
+use Rattle.sg_cli.specs.declared.command.Reading.{Reading}
 use Rattle.sg_cli.specs.declared.status.Status.{Status}
 use Rattle.sg_cli.specs.declared.status.Status.TheVariants.{Usage}
 
@@ -19,52 +23,55 @@ told_or_none-told None = tt
 told_or_none-told (Some bytes) = refl
 
 -- words of no shape
-pub usage-served : (words : List (List ℕ)) (left : Option (List ℕ)) → command_of words ≡ None → IsServed words left usage_text Usage
-usage-served words left none = record {
+pub usage-served : (words : List (List ℕ)) (laws : List Law) (left : Option (List ℕ)) → command_of words ≡ None → IsServed words laws left usage_text Usage
+usage-served words laws left none = record {
   bytes = told_or_none left;
   told = told_or_none-told left;
   served = rw none (refl, refl);
 }
 
-pub usage-whole : (words : List (List ℕ)) (left before after : Option (List ℕ)) → command_of words ≡ None →
-    Grows usage_text before after → AnswersWhole words Usage left before after
-usage-whole words left before after none grown = record { text = usage_text; served = usage-served words left none; written = grown }
-
-pub usage-in_part : (words : List (List ℕ)) (left before after : Option (List ℕ)) → command_of words ≡ None →
-    GrowsByPrefix usage_text before after → AnswersInPart words left before after
-usage-in_part words left before after none prefix = record {
-  text = usage_text;
-  status = Usage;
-  answered = tt;
-  served = usage-served words left none;
-  written = prefix;
-}
-
--- words that name a command
-pub reply-served : (words : List (List ℕ)) (command : Command) (left : Option (List ℕ)) (text : List ℕ) (status : Status) →
-    command_of words ≡ Some command → AnswersSource command left text status → IsServed words left text status
-reply-served words command left text status named answers = record {
+-- words that name a command that reads
+pub reply-served : (words : List (List ℕ)) (laws : List Law) (reading : Reading) (left : Option (List ℕ)) (text : List ℕ) (status : Status) →
+    command_of words ≡ Some (Read reading) → AnswersSource reading left text status → IsServed words laws left text status
+reply-served words laws reading left text status named answers = record {
   bytes = answers.bytes;
   told = answers.told;
   served = rw named answers.answers;
 }
 
-pub reply-whole : (words : List (List ℕ)) (command : Command) (left before after : Option (List ℕ)) (text : List ℕ) (status : Status) →
-    command_of words ≡ Some command → AnswersSource command left text status → Grows text before after →
-    AnswersWhole words status left before after
-reply-whole words command left before after text status named answers grown = record {
-  text = text;
-  served = reply-served words command left text status named answers;
-  written = grown;
+-- words that name a command that draws
+pub drawn-served : (words : List (List ℕ)) (laws : List Law) (drawing : Drawing) (left : Option (List ℕ)) (text : List ℕ) (status : Status) →
+    command_of words ≡ Some (Draw drawing) → AnswersLaw drawing (first_named (law_word words) laws) text status → IsServed words laws left text status
+drawn-served words laws drawing left text status named answers = record {
+  bytes = told_or_none left;
+  told = told_or_none-told left;
+  served = rw named answers;
 }
 
-pub reply-in_part : (words : List (List ℕ)) (command : Command) (left before after : Option (List ℕ)) (text : List ℕ) (status : Status) →
-    command_of words ≡ Some command → AnswersSource command left text status → IsAnswered status → GrowsByPrefix text before after →
-    AnswersInPart words left before after
-reply-in_part words command left before after text status named answers answered prefix = record {
+-- a text that is served and written, whole or in part
+pub served-whole : (words : List (List ℕ)) (laws : List Law) (left before after : Option (List ℕ)) (text : List ℕ) (status : Status) →
+    IsServed words laws left text status → Grows text before after → AnswersWhole words laws status left before after
+served-whole words laws left before after text status served grown = record { text = text; served = served; written = grown }
+
+pub served-in_part : (words : List (List ℕ)) (laws : List Law) (left before after : Option (List ℕ)) (text : List ℕ) (status : Status) →
+    IsServed words laws left text status → IsAnswered status → GrowsByPrefix text before after → AnswersInPart words laws left before after
+served-in_part words laws left before after text status served answered prefix = record {
   text = text;
   status = status;
   answered = answered;
-  served = reply-served words command left text status named answers;
+  served = served;
   written = prefix;
 }
+
+-- a text that was drawn for, under the name that the words give
+pub drawn-whole : (words : List (List ℕ)) (laws : List Law) (drawing : Drawing) (name : List ℕ) (left before after : Option (List ℕ)) (text sent : List ℕ) (status : Status) →
+    command_of words ≡ Some (Draw drawing) → name ≡ law_word words → sent ≡ text → AnswersLaw drawing (first_named name laws) text status →
+    Grows sent before after → AnswersWhole words laws status left before after
+drawn-whole words laws drawing name left before after text sent status named second same answers grown =
+    served-whole words laws left before after text status (drawn-served words laws drawing left text status named (rw second at answers)) (rw same at grown)
+
+pub drawn-in_part : (words : List (List ℕ)) (laws : List Law) (drawing : Drawing) (name : List ℕ) (left before after : Option (List ℕ)) (text sent : List ℕ) (status : Status) →
+    command_of words ≡ Some (Draw drawing) → name ≡ law_word words → sent ≡ text → AnswersLaw drawing (first_named name laws) text status →
+    IsAnswered status → GrowsByPrefix sent before after → AnswersInPart words laws left before after
+drawn-in_part words laws drawing name left before after text sent status named second same answers answered prefix =
+    served-in_part words laws left before after text status (drawn-served words laws drawing left text status named (rw second at answers)) answered (rw same at prefix)

@@ -20,7 +20,7 @@ use Rattle.sg_json.specs.Text.{is_object_text}
 use Rattle.sg_json.specs.ReadJson.{IsJsonFault}
 use Rattle.sg_cli.specs.Promises.{AnswersSource}
 use Rattle.sg_cli.specs.Served.{AnswersText, IsRefused}
-use Rattle.sg_cli.specs.declared.command.Command.{Command}
+use Rattle.sg_cli.specs.declared.command.Reading.{Reading}
 use Rattle.sg_cli.specs.declared.status.Status.{Status}
 
 pub by_record : (bytes : List ℕ) (fault : Fault) → IsReadFault (kept_of bytes) fault → IsAloneFault bytes fault
@@ -64,18 +64,18 @@ empties-told items None new emptied = tt
 empties-told items (Some left) new emptied = emptied.0
 
 -- an input within the limit
-pub answers-short : (command : Command) (old new : Option (List ℕ)) (bytes text : List ℕ) (status : Status) → Empties bytes old new →
-    length bytes ≤ input_limit → AnswersText command bytes text status → AnswersSource command old text status
-answers-short command old new bytes text status emptied short answers = record {
+pub answers-short : (reading : Reading) (old new : Option (List ℕ)) (bytes text : List ℕ) (status : Status) → Empties bytes old new →
+    length bytes ≤ input_limit → AnswersText reading bytes text status → AnswersSource reading old text status
+answers-short reading old new bytes text status emptied short answers = record {
   bytes = bytes;
   told = empties-told bytes old new emptied;
   answers = record { too_long = λ long. absurd (omega arith); short = λ _. answers };
 }
 
 -- an input beyond the limit
-pub answers-long : (command : Command) (old : Option (List ℕ)) (text : List ℕ) (status : Status) → IsTooLong ends.TooLong input_limit old →
-    IsRefused (TooLong input_limit) text status → AnswersSource command old text status
-answers-long command old text status too_long refused =
+pub answers-long : (reading : Reading) (old : Option (List ℕ)) (text : List ℕ) (status : Status) → IsTooLong ends.TooLong input_limit old →
+    IsRefused (TooLong input_limit) text status → AnswersSource reading old text status
+answers-long reading old text status too_long refused =
     let long : input_limit < length too_long.0 = too_long.2 in
     record {
       bytes = too_long.0;

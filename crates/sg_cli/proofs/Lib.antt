@@ -1,3 +1,5 @@
+mod Samples
+mod Numerals
 mod TakesLemmas
 mod AnswerLemmas
 mod InputLemmas

@@ -1,3 +1,4 @@
+pub mod Numeral
 pub mod Command
 pub mod Exit
 pub mod Input

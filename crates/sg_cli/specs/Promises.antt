@@ -4,9 +4,10 @@ use Rattle.sg_limits.specs.Limits.{input_limit}
 use Rattle.sg_io.specs.Devices.{Grows, Told, next_count}
 use Rattle.sg_io.specs.Reading.{LosesAtMost}
 use Rattle.sg_io.specs.Writing.{GrowsByPrefix}
+use Rattle.sg_laws.specs.Named.{Law}
 use Rattle.sg_cli.specs.Command.{command_of}
 use Rattle.sg_cli.specs.Served.{AnswersInput, Served, is_reading}
-use Rattle.sg_cli.specs.declared.command.Command.{Command}
+use Rattle.sg_cli.specs.declared.command.Reading.{Reading}
 use Rattle.sg_cli.specs.declared.serve.Stop.{Stop}
 use Rattle.sg_cli.specs.declared.serve.Stop.TheVariants as stop
 use Rattle.sg_cli.specs.declared.status.Status.{Status}
@@ -28,30 +29,30 @@ reads words = is_reading (command_of words)
 
 -- what a command answers to a source: there are bytes, those that the source tells where it tells them, and this is the
 -- answer to them
-pub record AnswersSource (command : Command) (left : Option (List ℕ)) (text : List ℕ) (status : Status) : Type 0 where
+pub record AnswersSource (reading : Reading) (left : Option (List ℕ)) (text : List ℕ) (status : Status) : Type 0 where
   pub bytes : List ℕ
   pub told : Told left bytes
-  pub answers : AnswersInput command bytes text status
+  pub answers : AnswersInput reading bytes text status
 
--- what the words answer: there are bytes, those that the source tells where it tells them, and this text is served to
--- them
-pub record IsServed (words : List (List ℕ)) (left : Option (List ℕ)) (text : List ℕ) (status : Status) : Type 0 where
+-- what the words answer among these laws: there are bytes, those that the source tells where it tells them, and this text
+-- is served to them
+pub record IsServed (words : List (List ℕ)) (laws : List Law) (left : Option (List ℕ)) (text : List ℕ) (status : Status) : Type 0 where
   pub bytes : List ℕ
   pub told : Told left bytes
-  pub served : Served words bytes text status
+  pub served : Served words laws bytes text status
 
 -- the sink has got exactly one text, and it is what the words answer to the input with this status
-pub record AnswersWhole (words : List (List ℕ)) (status : Status) (left before after : Option (List ℕ)) : Type 0 where
+pub record AnswersWhole (words : List (List ℕ)) (laws : List Law) (status : Status) (left before after : Option (List ℕ)) : Type 0 where
   pub text : List ℕ
-  pub served : IsServed words left text status
+  pub served : IsServed words laws left text status
   pub written : Grows text before after
 
 -- the sink has got a prefix of a text that the words answer to the input
-pub record AnswersInPart (words : List (List ℕ)) (left before after : Option (List ℕ)) : Type 0 where
+pub record AnswersInPart (words : List (List ℕ)) (laws : List Law) (left before after : Option (List ℕ)) : Type 0 where
   pub text : List ℕ
   pub status : Status
   pub answered : IsAnswered status
-  pub served : IsServed words left text status
+  pub served : IsServed words laws left text status
   pub written : GrowsByPrefix text before after
 
 -- the count of faults of the source behind a run: one more after a read fault

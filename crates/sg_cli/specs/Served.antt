@@ -1,12 +1,17 @@
--- What is answered: the status and the whole text that belong to the words and the bytes.
-use Rattle.std.specs.Prelude.{◌≡◌, ◌≢◌, ◌<◌, ◌≤◌, ℕ, ℤ, pos, Bool, true, false, Option, Some, None}
+-- What is answered: the status and the whole text that belong to the words, the laws and the bytes.
+use Rattle.std.specs.Prelude.{◌≡◌, ◌≢◌, ◌<◌, ◌≤◌, ◌+ℤ◌, ℕ, ℤ, pos, Bool, true, false, Option, Some, None}
 use Rattle.std.specs.Prelude.{List, [], ◌∷◌, length, codes}
 use Rattle.sg_limits.specs.Limits.{input_limit}
 use Rattle.sg_model.specs.declared.refusal.Refusal.{Refusal}
-use Rattle.sg_model.specs.declared.refusal.Refusal.TheVariants.{TooLong, NoSeam}
+use Rattle.sg_model.specs.declared.refusal.Refusal.TheVariants.{TooLong, NoSeam, UnknownLaw}
 use Rattle.sg_model.specs.Ising.{Ising, bond_count}
 use Rattle.sg_model.specs.Connected.{LeastsUp}
-use Rattle.sg_model.specs.Energy.{IsGroundState, energy, weight}
+use Rattle.sg_model.specs.Energy.{IsGroundState, IsLeastEnergy, energy, weight}
+use Rattle.sg_lattice.specs.declared.kind.Kind.{Kind}
+use Rattle.sg_lattice.specs.declared.kind.Kind.TheVariants.{Square}
+use Rattle.sg_lattice.specs.Tables.{bond_total, lattice}
+use Rattle.sg_laws.specs.Named.{Law, first_named}
+use Rattle.sg_planar.specs.Fit.{IsFit, IsUnfit}
 use Rattle.sg_check.specs.declared.packing.Loop.{Loop}
 use Rattle.sg_check.specs.declared.packing.ResultText.{ResultText}
 use Rattle.sg_check.specs.declared.verdict.Verdict.{Verdict}
@@ -18,11 +23,17 @@ use Rattle.sg_bonds.specs.Cost.{AreCosts}
 use Rattle.sg_bonds.specs.Cluster.{AreClusters}
 use Rattle.sg_report.specs.Text.{bonds_text, clusters_text, energy_text, ground_text, wall_text}
 use Rattle.sg_report.specs.Text.{refusal_text, verdict_text}
+use Rattle.sg_report.specs.Samples.{instance_text, sample_text}
 use Rattle.sg_report.specs.Report.{report_text}
-use Rattle.sg_cli.specs.Command.{command_of}
+use Rattle.sg_cli.specs.Command.{command_of, law_word}
 use Rattle.sg_cli.specs.Input.{GivesFit, GivesProof, RefusesProof, RefusesText}
 use Rattle.sg_cli.specs.declared.command.Command.{Command}
-use Rattle.sg_cli.specs.declared.command.Command.TheVariants as command
+use Rattle.sg_cli.specs.declared.command.Command.TheVariants.{Read, Draw}
+use Rattle.sg_cli.specs.declared.command.Drawing.{Drawing}
+use Rattle.sg_cli.specs.declared.command.Drawing.TheVariants.{Gen, Sample}
+use Rattle.sg_cli.specs.declared.command.Reading.{Reading}
+use Rattle.sg_cli.specs.declared.command.Reading.TheVariants as reading
+use Rattle.sg_cli.specs.declared.command.Size.{Size}
 use Rattle.sg_cli.specs.declared.command.Study.{Study}
 use Rattle.sg_cli.specs.declared.command.Study.TheVariants.{Energy, Ground, Wall, Bonds, Clusters, Report}
 use Rattle.sg_cli.specs.declared.status.Status.{Status}
@@ -146,26 +157,65 @@ pub data AnswersCheck (bytes text : List ℕ) (status : Status) : Type 0 where
   Judged : (inst : Ising) (stated : ResultText) → GivesProof bytes inst stated → PrintsVerdict inst stated text status
       → AnswersCheck bytes text status
 
--- what a command answers to a text
-abbrev pub AnswersText : Command → List ℕ → List ℕ → Status → Type 0
-AnswersText (command.Study study) bytes text status = AnswersStudy study bytes text status
-AnswersText command.Check bytes text status = AnswersCheck bytes text status
+-- what a command that reads answers to a text
+abbrev pub AnswersText : Reading → List ℕ → List ℕ → Status → Type 0
+AnswersText (reading.Study study) bytes text status = AnswersStudy study bytes text status
+AnswersText reading.Check bytes text status = AnswersCheck bytes text status
 
--- what a command answers to an input: an input that is too long is not looked at further
-pub record AnswersInput (command : Command) (bytes text : List ℕ) (status : Status) : Type 0 where
+-- what a command that reads answers to an input: an input that is too long is not looked at further
+pub record AnswersInput (reading : Reading) (bytes text : List ℕ) (status : Status) : Type 0 where
   pub too_long : input_limit < length bytes → IsRefused (TooLong input_limit) text status
-  pub short : length bytes ≤ input_limit → AnswersText command bytes text status
+  pub short : length bytes ≤ input_limit → AnswersText reading bytes text status
 
--- what a command answers to the bytes; without a command the answer is the usage
-abbrev pub ServedBy : Option Command → List ℕ → List ℕ → Status → Type 0
-ServedBy None bytes text status = (status ≡ Usage) × (text ≡ usage_text)
-ServedBy (Some command) bytes text status = AnswersInput command bytes text status
+-- a lattice with its couplings
+pub record PrintsLattice (kind : Kind) (size : Size) (couplings : List ℤ) (text : List ℕ) (status : Status) : Type 0 where
+  pub printed : text ≡ instance_text kind size.rows size.cols couplings
+  pub done : status ≡ Done
 
--- what the words answer to the bytes
-abbrev pub Served : List (List ℕ) → List ℕ → List ℕ → Status → Type 0
-Served words bytes text status = ServedBy (command_of words) bytes text status
+-- the least energy of an instance, with its numbers of spins and bonds, its weight, and the weight of the bonds that are
+-- broken at the least energy: twice that is the energy and the weight together
+pub record PrintsSample (inst : Ising) (text : List ℕ) (status : Status) : Type 0 where
+  pub energy : ℤ
+  pub broken : ℤ
+  pub least : IsLeastEnergy inst energy
+  pub half : broken +ℤ broken ≡ energy +ℤ pos (weight inst)
+  pub printed : text ≡ sample_text inst.n (bond_count inst) (pos (weight inst)) energy broken
+  pub done : status ≡ Done
 
--- whether the source is read: each command so far reads it
+-- a sample is refused as any instance where it is not fit
+pub data AnswersSample (inst : Ising) (text : List ℕ) (status : Status) : Type 0 where
+  SampleUnfit : (refusal : Refusal) → IsUnfit inst refusal → IsRefused refusal text status → AnswersSample inst text status
+  SampleSolved : IsFit inst → PrintsSample inst text status → AnswersSample inst text status
+
+-- the couplings of a lattice: the first draws, one for each bond in order
+abbrev pub drawn_couplings : Kind → Size → (ℕ → List ℤ) → List ℤ
+drawn_couplings kind size stream = stream (bond_total kind size.rows size.cols)
+
+-- what a command answers that draws, where its law has these draws after each seed
+abbrev pub AnswersDraws : Drawing → (ℕ → ℕ → List ℤ) → List ℕ → Status → Type 0
+AnswersDraws (Gen seed kind size) stream text status =
+    PrintsLattice kind size (drawn_couplings kind size (stream seed)) text status
+AnswersDraws (Sample seed size) stream text status =
+    AnswersSample (lattice Square size.rows size.cols (drawn_couplings Square size (stream seed))) text status
+
+-- what a command that draws answers, by the law of its name: without one it is refused
+abbrev pub AnswersLaw : Drawing → Option Law → List ℕ → Status → Type 0
+AnswersLaw drawing None text status = IsRefused UnknownLaw text status
+AnswersLaw drawing (Some law) text status = AnswersDraws drawing law.stream text status
+
+-- what a command answers to the bytes, or with the first of the laws that has the name; without a command the answer
+-- is the usage
+abbrev pub ServedBy : Option Command → List ℕ → List Law → List ℕ → List ℕ → Status → Type 0
+ServedBy None name laws bytes text status = (status ≡ Usage) × (text ≡ usage_text)
+ServedBy (Some (Read reading)) name laws bytes text status = AnswersInput reading bytes text status
+ServedBy (Some (Draw drawing)) name laws bytes text status = AnswersLaw drawing (first_named name laws) text status
+
+-- what the words answer to the bytes, among these laws
+abbrev pub Served : List (List ℕ) → List Law → List ℕ → List ℕ → Status → Type 0
+Served words laws bytes text status = ServedBy (command_of words) (law_word words) laws bytes text status
+
+-- whether the source is read
 abbrev pub is_reading : Option Command → Bool
 is_reading None = false
-is_reading (Some command) = true
+is_reading (Some (Read reading)) = true
+is_reading (Some (Draw drawing)) = false

@@ -1,9 +1,24 @@
-ghost use Rattle.std.specs.Prelude.{◌≡◌, map, string_bytes};
-ghost use Rattle.sg_cli.specs.Command.{command_named, command_of};
+ghost use Rattle.std.specs.Prelude.{◌≡◌, Some, None, codes, if◌then◌else◌, map, string_bytes, IfSome};
+ghost use Rattle.std.specs.Str.{bytes_eq};
+ghost use Rattle.sg_lattice.specs.Tables.{least_cols as least_columns};
+ghost use Rattle.sg_cli.specs.Command.{command_named, command_of, gen_of, IsAllowed, IsAllowedSize, kind_named, law_word as second_word, sample_of, size_in};
+
+use super::numeral::number_in;
+use sg_lattice::Kind;
+use sg_limits::SPIN_LIMIT;
 
 /// A command of the program.
 #[derive(Clone, Copy)]
 pub enum Command {
+    /// A command that reads its source to the end.
+    Read(Reading),
+    /// A command that reads nothing, and draws from the law that the second word names.
+    Draw(Drawing),
+}
+
+/// What is asked of an input.
+#[derive(Clone, Copy)]
+pub enum Reading {
     /// A study of an instance that is fit for a planar solver.
     Study(Study),
     /// The verdict on a proof, for an instance of any kind.
@@ -27,35 +42,152 @@ pub enum Study {
     Report,
 }
 
+/// What is asked of the draws of a law after a seed.
+#[derive(Clone, Copy)]
+pub enum Drawing {
+    /// A lattice with drawn couplings, as an instance text.
+    Gen { seed: u64, kind: Kind, size: Size },
+    /// The least energy of a square lattice with drawn couplings.
+    Sample { seed: u64, size: Size },
+}
+
+/// The rows and columns of a lattice.
+#[derive(Clone, Copy)]
+pub struct Size {
+    pub rows: u32,
+    pub cols: u32,
+}
+
 /// The command that the words after the program's name ask for. It takes no memory.
 pub fn parse_command(words: &[String]) -> Option<Command>
-    ensures { result ≡ command_of (map string_bytes words.now) }
+    ensures value { result ≡ command_of (map string_bytes words.now) }
+    ensures allowed { IfSome result IsAllowed }
 {
     match words {
         [word] => command_named(word.as_str()),
+        [word, _, seed, rows, cols] => five_words(word, seed, rows, cols),
+        [word, _, seed, kind, rows, cols] => six_words(word, seed, kind, rows, cols),
         _ => None,
     }
 }
 
-// The command that a word names.
+/// The name of a law, where the words have one: the second of them.
+pub fn law_word(words: &[String]) -> &str
+    ensures { result.now ≡ second_word (map string_bytes words.now) }
+{
+    match words {
+        [_, law, ..] => law.as_str(),
+        _ => "",
+    }
+}
+
+// The command that one word names.
 fn command_named(word: &str) -> Option<Command>
-    ensures { result ≡ command_named word.now }
+    ensures value { result ≡ command_named word.now }
+    ensures allowed { IfSome result IsAllowed }
 {
     if word == "energy" {
-        Some(Command::Study(Study::Energy))
+        Some(Command::Read(Reading::Study(Study::Energy)))
     } else if word == "ground" {
-        Some(Command::Study(Study::Ground))
+        Some(Command::Read(Reading::Study(Study::Ground)))
     } else if word == "wall" {
-        Some(Command::Study(Study::Wall))
+        Some(Command::Read(Reading::Study(Study::Wall)))
     } else if word == "bonds" {
-        Some(Command::Study(Study::Bonds))
+        Some(Command::Read(Reading::Study(Study::Bonds)))
     } else if word == "clusters" {
-        Some(Command::Study(Study::Clusters))
+        Some(Command::Read(Reading::Study(Study::Clusters)))
     } else if word == "report" {
-        Some(Command::Study(Study::Report))
+        Some(Command::Read(Reading::Study(Study::Report)))
     } else if word == "check" {
-        Some(Command::Check)
+        Some(Command::Read(Reading::Check))
     } else {
         None
+    }
+}
+
+// The command of five words, of which the second is left out.
+fn five_words(word: &str, seed: &str, rows: &str, cols: &str) -> Option<Command>
+    ensures value { result ≡ (if bytes_eq word.now (codes "sample") then sample_of seed.now rows.now cols.now else None) }
+    ensures allowed { IfSome result IsAllowed }
+{
+    if word == "sample" {
+        sample_of(seed, rows, cols)
+    } else {
+        None
+    }
+}
+
+// The command of six words, of which the second is left out.
+fn six_words(word: &str, seed: &str, kind: &str, rows: &str, cols: &str) -> Option<Command>
+    ensures value { result ≡ (if bytes_eq word.now (codes "gen") then gen_of seed.now kind.now rows.now cols.now else None) }
+    ensures allowed { IfSome result IsAllowed }
+{
+    if word == "gen" {
+        gen_of(seed, kind, rows, cols)
+    } else {
+        None
+    }
+}
+
+// A lattice of a kind.
+fn gen_of(seed: &str, kind: &str, rows: &str, cols: &str) -> Option<Command>
+    ensures value { result ≡ gen_of seed.now kind.now rows.now cols.now }
+    ensures allowed { IfSome result IsAllowed }
+{
+    let seed = number_in(seed, 0, u64::MAX)?;
+    let kind = kind_named(kind)?;
+    let size = size_in(kind, rows, cols)?;
+    Some(Command::Draw(Drawing::Gen { seed, kind, size }))
+}
+
+// A sample of the square lattice.
+fn sample_of(seed: &str, rows: &str, cols: &str) -> Option<Command>
+    ensures value { result ≡ sample_of seed.now rows.now cols.now }
+    ensures allowed { IfSome result IsAllowed }
+{
+    let seed = number_in(seed, 0, u64::MAX)?;
+    let size = size_in(Kind::Square, rows, cols)?;
+    Some(Command::Draw(Drawing::Sample { seed, size }))
+}
+
+// The kind of lattice that a word names.
+fn kind_named(word: &str) -> Option<Kind>
+    ensures { result ≡ kind_named word.now }
+{
+    if word == "square" {
+        Some(Kind::Square)
+    } else if word == "triangular" {
+        Some(Kind::Triangular)
+    } else if word == "hexagonal" {
+        Some(Kind::Hexagonal)
+    } else if word == "cylinder" {
+        Some(Kind::Cylinder)
+    } else {
+        None
+    }
+}
+
+// Rows and columns of a lattice of this kind, of no more spins together than the limit.
+fn size_in(kind: Kind, rows: &str, cols: &str) -> Option<Size>
+    ensures value { result ≡ size_in (least_columns kind) rows.now cols.now }
+    ensures allowed { IfSome result (IsAllowedSize kind) }
+{
+    let rows = number_in(rows, 1, u64::from(SPIN_LIMIT))? as u32;
+    let cols = number_in(cols, least_cols(kind), u64::from(SPIN_LIMIT))? as u32;
+    if rows * cols <= SPIN_LIMIT {
+        Some(Size { rows, cols })
+    } else {
+        None
+    }
+}
+
+// The least number of columns of a lattice of this kind.
+fn least_cols(kind: Kind) -> u64
+    ensures { result ≡ least_columns kind }
+{
+    match kind {
+        Kind::Square | Kind::Triangular => 1,
+        Kind::Hexagonal => 2,
+        Kind::Cylinder => 3,
     }
 }

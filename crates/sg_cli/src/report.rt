@@ -1,16 +1,13 @@
 // What `report` answers.
-ghost use Rattle.std.specs.Prelude.{◌≡◌, ◌≤◌, pos, IfOk};
-ghost use Rattle.sg_limits.specs.Limits.{sum_limit};
-ghost use Rattle.sg_model.specs.Energy.{weight};
-ghost use Rattle.sg_model.specs.Ising.{bond_count as count_of_bonds};
+ghost use Rattle.std.specs.Prelude.{IfOk};
 ghost use Rattle.sg_planar.specs.Fit.{IsFit};
 ghost use Rattle.sg_cli.specs.Promises.{IsAnswered};
 ghost use Rattle.sg_cli.specs.Served.{IsSeamWall, PrintsReport};
 
+use super::counts::{bond_count, size_sum};
 use super::reply::{NoMemory, Reply, done};
 use sg_bonds::{clusters, costs};
 use sg_ground::solve;
-use sg_model::Instance;
 use sg_planar::Planar;
 use sg_report::report_text;
 use sg_wall::wall;
@@ -39,21 +36,6 @@ pub fn report_reply(alloc: Global, planar: &Planar) -> Result<Reply, NoMemory>
         energies,
     )?;
     Ok(done(text))
-}
-
-// The number of bonds.
-fn bond_count(instance: &Instance) -> u32
-    ensures { result ≡ count_of_bonds instance.now }
-{
-    instance.bonds().len() as u32
-}
-
-// The sum of the couplings' sizes.
-fn size_sum(instance: &Instance) -> i64
-    requires { weight instance.now ≤ sum_limit }
-    ensures { result ≡ pos (weight instance.now) }
-{
-    instance.weight() as i64
 }
 
 // The energies of the domain wall at the seam, or none where the seam is empty.

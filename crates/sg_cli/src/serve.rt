@@ -8,38 +8,43 @@ ghost use Rattle.sg_cli.specs.Served.{AnswersText};
 ghost use Rattle.sg_cli.specs.Promises.{AnswersInPart, AnswersSource, AnswersWhole, IsAnswered, Leaves, reads, sink_faults, source_faults, stop_faults, Takes};
 
 use super::check::check_reply;
-use super::command::{Command, parse_command};
+use super::command::{Command, Reading, law_word, parse_command};
+use super::draw::draw_reply;
 use super::reply::{NoMemory, Reply, refuse};
 use super::status::Status;
 use super::study::study_reply;
 use sg_io::{ReadEnd, Sink, Source, WriteFault, put, read_all};
+use sg_laws::Disorder;
 use sg_limits::INPUT_LIMIT;
 use sg_model::Refusal;
 use std::alloc::{AllocError, Global};
 
 /// Answers the words after the program's name: reads the source to its end where the command wants
-/// it, and writes one whole text.
+/// it, or draws from the first of the laws that has the name in the words, and writes one whole text.
 ///
 /// The words are tested first, then the input is read, then it is judged, then the answer is found
 /// and its whole text is built, and only then is anything written. Memory in use: the input and the
-/// text, and what the reading keeps of the instance.
+/// text, and what the reading keeps of the instance. The laws are dropped at the end.
 pub fn run<S: Source, K: Sink>(
     alloc: Global,
     words: &[String],
     source: &mut S,
     sink: &mut K,
+    laws: Vec<Box<dyn Disorder>>,
 ) -> Status
     // The sink has grown by exactly a text that the words answer to the input with this status.
-    ensures answer { IsAnswered result →
-        AnswersWhole (map string_bytes words.now) result (S.left source.old) (K.written sink.old) (K.written sink.new) }
+    ensures answer { let known = map (λ law. record { title = title law; stream = seeded law }) laws.items in
+        IsAnswered result →
+        AnswersWhole (map string_bytes words.now) known result (S.left source.old) (K.written sink.old) (K.written sink.new) }
 
     // After a read fault the last read failed, and nothing is written.
     ensures read_fault { result ≡ Status.ReadFault →
         (reads (map string_bytes words.now) ≡ true) × (S.failed source.new ≡ true) × (sink.new ≡ sink.old) }
 
     // After a write fault the last write failed, and the sink has grown by a prefix of such a text.
-    ensures write_fault { result ≡ Status.WriteFault → (K.failed sink.new ≡ true) ×
-        AnswersInPart (map string_bytes words.now) (S.left source.old) (K.written sink.old) (K.written sink.new) }
+    ensures write_fault { let known = map (λ law. record { title = title law; stream = seeded law }) laws.items in
+        result ≡ Status.WriteFault → (K.failed sink.new ≡ true) ×
+        AnswersInPart (map string_bytes words.now) known (S.left source.old) (K.written sink.old) (K.written sink.new) }
 
     // The status names the device that failed: one call of it failed, and no call of another.
     ensures source_faults { S.faults source.new ≡ source_faults result (S.faults source.old) }
@@ -58,9 +63,13 @@ pub fn run<S: Source, K: Sink>(
 {
     match parse_command(words) {
         None => send(sink, b"usage\n", Status::Usage),
-        Some(command) => match serve(alloc, command, source) {
+        Some(Command::Read(reading)) => match serve(alloc, reading, source) {
             Ok(reply) => send(sink, reply.text.as_slice(), reply.status),
             Err(stop) => stop.status(),
+        },
+        Some(Command::Draw(drawing)) => match draw_reply(alloc, drawing, law_word(words), laws) {
+            Ok(reply) => send(sink, reply.text.as_slice(), reply.status),
+            Err(_) => Status::NoMemory,
         },
     }
 }
@@ -96,8 +105,8 @@ impl From<AllocError> for Stop {
 }
 
 /// Reads the source to its end, and answers what was read.
-fn serve<S: Source>(alloc: Global, command: Command, source: &mut S) -> Result<Reply, Stop>
-    ensures served { IfOk result (λ reply. AnswersSource command (S.left source.old) reply.text.items reply.status) }
+fn serve<S: Source>(alloc: Global, reading: Reading, source: &mut S) -> Result<Reply, Stop>
+    ensures served { IfOk result (λ reply. AnswersSource reading (S.left source.old) reply.text.items reply.status) }
     ensures answered { IfOk result (λ reply. IsAnswered reply.status) }
     ensures taken { OnOk result (Takes (S.left source.old) (S.left source.new)) }
     ensures stopped { OnErr result (LosesAtMost (input_limit + 1) (S.left source.old) (S.left source.new)) }
@@ -106,7 +115,7 @@ fn serve<S: Source>(alloc: Global, command: Command, source: &mut S) -> Result<R
     ensures last { result ≡ Err Stop.ReadFault → S.failed source.new ≡ true }
 {
     match read_all(alloc, source, INPUT_LIMIT) {
-        Ok(bytes) => Ok(text_reply(alloc, command, bytes.as_slice())?),
+        Ok(bytes) => Ok(text_reply(alloc, reading, bytes.as_slice())?),
         Err(ReadEnd::TooLong) => Ok(refuse(
             alloc,
             &Refusal::TooLong {
@@ -118,15 +127,15 @@ fn serve<S: Source>(alloc: Global, command: Command, source: &mut S) -> Result<R
     }
 }
 
-/// What a command answers to a text within the limit of bytes.
-fn text_reply(alloc: Global, command: Command, bytes: &[u8]) -> Result<Reply, NoMemory>
+/// What a command that reads answers to a text within the limit of bytes.
+fn text_reply(alloc: Global, reading: Reading, bytes: &[u8]) -> Result<Reply, NoMemory>
     requires { length bytes.now < text_limit }
-    ensures served { IfOk result (λ reply. AnswersText command bytes.now reply.text.items reply.status) }
+    ensures served { IfOk result (λ reply. AnswersText reading bytes.now reply.text.items reply.status) }
     ensures answered { IfOk result (λ reply. IsAnswered reply.status) }
 {
-    match command {
-        Command::Study(study) => study_reply(alloc, study, bytes),
-        Command::Check => check_reply(alloc, bytes),
+    match reading {
+        Reading::Study(study) => study_reply(alloc, study, bytes),
+        Reading::Check => check_reply(alloc, bytes),
     }
 }
 

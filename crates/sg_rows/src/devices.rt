@@ -1,5 +1,5 @@
 // Runs over devices that fail.
-use super::runs::{calls, words};
+use super::runs::{calls, no_laws, words};
 use sg_cli::{Status, run};
 use sg_io::{CallList, MemSink, MemSource};
 use std::test::Fail;
@@ -12,7 +12,8 @@ fn a_source_that_fails(rt: HostRuntime) -> Result<(), Fail> {
     let bytes = Vec::from_slice(rt.alloc(), SQUARE)?;
     let mut source = MemSource::new(bytes, 5, calls(rt.alloc(), Some(1))?);
     let mut sink = MemSink::new(rt.alloc(), 100, 5, CallList::new(rt.alloc()))?;
-    let status = run(rt.alloc(), words.as_slice(), &mut source, &mut sink);
+    let laws = no_laws(rt.alloc());
+    let status = run(rt.alloc(), words.as_slice(), &mut source, &mut sink, laws);
     assert_eq!(rt; status, Status::ReadFault);
     assert_eq!(rt; sink.bytes(), b"".as_slice());
     Ok(())
@@ -24,7 +25,8 @@ fn a_sink_that_fails(rt: HostRuntime) -> Result<(), Fail> {
     let bytes = Vec::from_slice(rt.alloc(), SQUARE)?;
     let mut source = MemSource::new(bytes, 100, CallList::new(rt.alloc()));
     let mut sink = MemSink::new(rt.alloc(), 100, 5, calls(rt.alloc(), Some(1))?)?;
-    let status = run(rt.alloc(), words.as_slice(), &mut source, &mut sink);
+    let laws = no_laws(rt.alloc());
+    let status = run(rt.alloc(), words.as_slice(), &mut source, &mut sink, laws);
     assert_eq!(rt; status, Status::WriteFault);
     assert_eq!(rt; sink.bytes(), b"energ".as_slice());
     Ok(())

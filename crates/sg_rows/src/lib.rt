@@ -13,6 +13,8 @@ mod ground;
 #[cfg(test)]
 mod json;
 #[cfg(test)]
+mod laws;
+#[cfg(test)]
 mod numerals;
 #[cfg(test)]
 mod refusals;

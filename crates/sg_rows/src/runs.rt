@@ -1,6 +1,7 @@
 // One run over the devices in memory.
 use sg_cli::{Status, run};
 use sg_io::{CallList, MemSink, MemSource};
+use sg_laws::Disorder;
 use std::alloc::{AllocError, Global};
 use std::process::Abort;
 use std::test::Fail;
@@ -23,13 +24,28 @@ pub fn calls(alloc: Global, fail: Option<u64>) -> Result<CallList, AllocError> {
     Ok(list)
 }
 
+// No law to draw from, for commands that read.
+pub fn no_laws(alloc: Global) -> Vec<Box<dyn Disorder>> {
+    Vec::new(alloc)
+}
+
 // The status of a run without faults, and the text that it wrote.
 pub fn answer(alloc: Global, line: &str, input: &[u8]) -> Result<(Status, Vec<u8>), Fail> {
+    answer_with(alloc, line, input, no_laws(alloc))
+}
+
+// The same with laws to draw from.
+pub fn answer_with(
+    alloc: Global,
+    line: &str,
+    input: &[u8],
+    laws: Vec<Box<dyn Disorder>>,
+) -> Result<(Status, Vec<u8>), Fail> {
     let words = words(alloc, line)?;
     let bytes = Vec::from_slice(alloc, input)?;
     let mut source = MemSource::new(bytes, 7, CallList::new(alloc));
     let mut sink = MemSink::new(alloc, 1 << 20, 5, CallList::new(alloc))?;
-    let status = run(alloc, words.as_slice(), &mut source, &mut sink);
+    let status = run(alloc, words.as_slice(), &mut source, &mut sink, laws);
     Ok((status, Vec::from_slice(alloc, sink.bytes())?))
 }
 

@@ -4,11 +4,11 @@ use Rattle.sg_cli.proofs.serve.serve.Goals as goal
 pub returns-in_ok-text_reply-in-Ok-clause-served : goal.returns-in_ok-text_reply-in-Ok-clause-served
 returns-in_ok-text_reply-in-Ok-clause-served g c =
     let reply = c.in_ok-text_reply-in-Ok.field-0 in
-    answers-short c.args.command (g.S.Source.left c.args.source.now) (g.S.Source.left c.read_all.new.source) c.in-Ok.bytes.items reply.text.items reply.status
+    answers-short c.args.reading (g.S.Source.left c.args.source.now) (g.S.Source.left c.read_all.new.source) c.in-Ok.bytes.items reply.text.items reply.status
     c.in-Ok.ensures.whole c.in-Ok.ensures.within (rw c.as_slice.ensures.value at c.in_ok-text_reply-in-Ok.ensures.served)
 
 pub returns-in_ok-refuse-in-Err-TooLong-clause-served : goal.returns-in_ok-refuse-in-Err-TooLong-clause-served
 returns-in_ok-refuse-in-Err-TooLong-clause-served g c =
     let reply = c.in_ok-refuse-in-Err-TooLong.field-0 in
-    answers-long c.args.command (g.S.Source.left c.args.source.now) reply.text.items reply.status
+    answers-long c.args.reading (g.S.Source.left c.args.source.now) reply.text.items reply.status
     (rw c.in-Err-TooLong.field-0-is at c.in-Err-TooLong.ensures.too_long) c.in_ok-refuse-in-Err-TooLong.ensures.refused

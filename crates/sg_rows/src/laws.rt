@@ -1,0 +1,198 @@
+// Commands that draw from a law of disorder. The draws of `pm` and `uniform` are those of the words
+// that another implementation of their generator gives.
+ghost use Rattle.std.specs.Prelude.{codes, pos, replicate};
+
+use super::runs::{answer, answer_with, expect_row, no_laws};
+use sg_cli::Status;
+use sg_laws::{Alternate, Disorder, One, PlusMinus, Table, Uniform};
+use std::alloc::Global;
+use std::process::Abort;
+use std::test::Fail;
+
+// The status of a run with the laws of the program, and the text that it wrote.
+fn drawn(alloc: Global, line: &str) -> Result<(Status, Vec<u8>), Fail> {
+    let mut laws = no_laws(alloc);
+    laws.push(Box::new(alloc, One::new())?)?;
+    laws.push(Box::new(alloc, Alternate::new())?)?;
+    laws.push(Box::new(alloc, PlusMinus::new())?)?;
+    laws.push(Box::new(alloc, Uniform::new())?)?;
+    answer_with(alloc, line, b"not read", laws)
+}
+
+// Runs a row with the laws of the program, and compares what came of it.
+fn expect_drawn<R: Abort>(
+    rt: &R,
+    alloc: Global,
+    line: &str,
+    wanted: (Status, &str),
+) -> Result<(), Fail> {
+    let (status, text) = drawn(alloc, line)?;
+    assert_eq!(rt; status, wanted.0, "{line}");
+    assert_eq!(rt; text.as_slice(), wanted.1.as_bytes(), "{line}");
+    Ok(())
+}
+
+#[test]
+fn what_is_drawn(rt: HostRuntime) -> Result<(), Fail> {
+    let rows = [
+        ("gen one 0 square 1 1", "square,1,1\nend\n"),
+        ("gen pm 42 square 2 2", "square,2,2\n-1,-1,1,-1\nend\n"),
+        ("gen alternate 0 square 1 3", "square,1,3\n1,-1\nend\n"),
+        (
+            "gen uniform 42 square 2 2",
+            "square,2,2\n787127,-527351,865072,193171\nend\n",
+        ),
+        (
+            "gen alternate 1 triangular 2 2",
+            "triangular,2,2\n-1,1,-1,1,-1\nend\n",
+        ),
+        ("gen one 3 hexagonal 2 2", "hexagonal,2,2\n1,1,1\nend\n"),
+        ("gen pm 42 cylinder 1 3", "cylinder,1,3\n-1,-1,1\nend\n"),
+        (
+            "gen alternate 18446744073709551615 square 1 2",
+            "square,1,2\n-1\nend\n",
+        ),
+        ("gen one 007 square 01 002", "square,1,2\n1\nend\n"),
+        (
+            "sample uniform 42 2 2",
+            "spins,4\nbonds,4\nsum,2372721\nenergy,-1986379\nbroken,193171\nend\n",
+        ),
+        (
+            "sample one 0 1 1",
+            "spins,1\nbonds,0\nsum,0\nenergy,0\nbroken,0\nend\n",
+        ),
+        (
+            "sample one 0 3 3",
+            "spins,9\nbonds,12\nsum,12\nenergy,-12\nbroken,0\nend\n",
+        ),
+    ];
+    for (line, text) in rows {
+        expect_drawn(&rt, rt.alloc(), line, (Status::Done, text))?;
+    }
+    Ok(())
+}
+
+#[test]
+fn names_that_no_law_has(rt: HostRuntime) -> Result<(), Fail> {
+    for line in [
+        "sample nolaw 1 4 4",
+        "gen Pm 1 square 2 2",
+        "gen p 1 square 2 2",
+    ] {
+        expect_drawn(&rt, rt.alloc(), line, (Status::Refused, "refused,17\n"))?;
+    }
+    expect_row(
+        &rt,
+        rt.alloc(),
+        "gen one 0 square 1 1",
+        "not read",
+        (Status::Refused, "refused,17\n"),
+    )
+}
+
+#[test]
+fn words_of_no_shape(rt: HostRuntime) -> Result<(), Fail> {
+    let lines = [
+        "",
+        "ground x",
+        "gen",
+        "gen one 0 square 1",
+        "gen one 0 square 1 1 1",
+        "gen one 0 cube 2 2",
+        "gen one 0 Square 2 2",
+        "gen one -1 square 2 2",
+        "gen one +1 square 2 2",
+        "gen one 1.0 square 2 2",
+        "gen one x square 2 2",
+        "gen one 18446744073709551616 square 1 1",
+        "gen one 0 square 0 1",
+        "gen one 0 square 1 0",
+        "gen one 0 square 2049 1",
+        "gen one 0 square 46 45",
+        "gen one 0 square 4294967297 1",
+        "gen one 0 hexagonal 2 1",
+        "gen one 0 cylinder 1 2",
+        "sample one 0 2",
+        "sample one 0 0 2",
+        "sample one 0 2 1025",
+        "sample one 0 square 2 2",
+        "nolaw one 0 2 2",
+    ];
+    for line in lines {
+        expect_drawn(&rt, rt.alloc(), line, (Status::Usage, "usage\n"))?;
+    }
+    Ok(())
+}
+
+// A law of the test's own that has the name of another: each draw is 3.
+#[derive(Drop)]
+struct Threes {}
+
+impl Disorder for Threes {
+    ghost title = { λ _. codes "pm" };
+
+    ghost next = { λ _ c. replicate c (pos 3) };
+
+    ghost seeded = { λ _ s c. replicate c (pos 3) };
+
+    fn name(&self) -> &str {
+        "pm"
+    }
+
+    fn seed(&mut self, seed: u64) {}
+
+    fn draw(&mut self) -> i64 {
+        3
+    }
+}
+
+#[test]
+fn the_first_law_of_a_name(rt: HostRuntime) -> Result<(), Fail> {
+    let alloc = rt.alloc();
+    let mut laws = no_laws(alloc);
+    laws.push(Box::new(alloc, Threes {})?)?;
+    laws.push(Box::new(alloc, PlusMinus::new())?)?;
+    let (status, text) = answer_with(alloc, "gen pm 42 square 1 2", b"", laws)?;
+    assert_eq!(rt; status, Status::Done);
+    assert_eq!(rt; text.as_slice(), b"square,1,2\n3\nend\n".as_slice());
+    Ok(())
+}
+
+#[test]
+fn a_law_of_draws_from_elsewhere(rt: HostRuntime) -> Result<(), Fail> {
+    let alloc = rt.alloc();
+    let mut laws = no_laws(alloc);
+    let table = Table::new(String::from_str(alloc, "t")?, vec![in alloc; 2, -3]?);
+    laws.push(Box::new(alloc, table)?)?;
+    let (status, text) = answer_with(alloc, "gen t 1 square 1 4", b"", laws)?;
+    assert_eq!(rt; status, Status::Done);
+    assert_eq!(rt; text.as_slice(), b"square,1,4\n-3,2,-3\nend\n".as_slice());
+    Ok(())
+}
+
+// The energy of a sample is that of `ground` on the same draws as an instance, and is proved there.
+#[test]
+fn a_sample_and_its_instance(rt: HostRuntime) -> Result<(), Fail> {
+    let alloc = rt.alloc();
+    let (_, sample) = drawn(alloc, "sample pm 7 24 24")?;
+    let (_, again) = drawn(alloc, "sample pm 7 24 24")?;
+    assert_eq!(rt; sample.as_slice(), again.as_slice());
+    assert!(rt;
+        sample
+            .as_slice()
+            .starts_with(b"spins,576\nbonds,1104\nsum,1104\nenergy,-")
+    );
+    let (_, instance) = drawn(alloc, "gen pm 7 square 24 24")?;
+    let (_, ground) = answer(alloc, "ground", instance.as_slice())?;
+    let energy = ground.as_slice().split(|byte| *byte == b'\n').nth(0);
+    assert!(rt; energy.is_some());
+    assert_eq!(rt;
+        energy,
+        sample.as_slice().split(|byte| *byte == b'\n').nth(3)
+    );
+    let mut proof = Vec::from_slice(alloc, instance.as_slice())?;
+    proof.extend_from_slice(ground.as_slice())?;
+    let (_, verdict) = answer(alloc, "check", proof.as_slice())?;
+    assert_eq!(rt; verdict.as_slice(), b"yes\n".as_slice());
+    Ok(())
+}
