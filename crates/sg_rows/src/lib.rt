@@ -17,6 +17,8 @@ mod laws;
 #[cfg(test)]
 mod numerals;
 #[cfg(test)]
+mod ranges;
+#[cfg(test)]
 mod refusals;
 #[cfg(test)]
 mod rows;
