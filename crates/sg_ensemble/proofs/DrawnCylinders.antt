@@ -61,12 +61,16 @@ module _ (rows cols : ℕ) (size : IsStudied rows cols) (j : List ℤ) (count : 
   coupling_at : (k : ℕ) → k < bond_count (lattice Cylinder rows cols j) → (bond_at (lattice Cylinder rows cols j) k).j ≡ get_or j k (pos 0)
   coupling_at k l =
       ap (λ (b : Bond). b.j) (bond_is Cylinder rows cols is_size j k
-          (omega (arith, length-ends_of Cylinder rows cols is_size, bond_count_is Cylinder rows cols is_size j)))
+      (omega (arith, length-ends_of Cylinder rows cols is_size, bond_count_is Cylinder rows cols is_size j)))
 
   coupling_size : (k : ℕ) → k < bond_count (lattice Cylinder rows cols j) → unsigned_abs (bond_at (lattice Cylinder rows cols j) k).j ≤ 2 ^ 20
   coupling_size k l =
-      omega (arith, ap unsigned_abs (coupling_at k l), draw_size (get_or j k (pos 0))
-          (range k (pos 0) (omega (arith, count, bond_count_is Cylinder rows cols is_size j))))
+      omega (
+        arith,
+        ap unsigned_abs (coupling_at k l),
+        draw_size (get_or j k (pos 0))
+            (range k (pos 0) (omega (arith, count, bond_count_is Cylinder rows cols is_size j))),
+      )
 
   pub drawn_weight : weight (lattice Cylinder rows cols j) ≤ 2 ^ 32
   drawn_weight =
@@ -85,7 +89,7 @@ module _ (rows cols : ℕ) (size : IsStudied rows cols) (j : List ℤ) (count : 
     where
       ends : (f : Bond → ℕ)
           → ((i : ℕ) → f (coupled_bond (ends_at (ends_of Cylinder rows cols) i) (get_or j i (pos 0))) ≡ f
-              (coupled_bond (ends_at (ends_of Cylinder rows cols) i) (get_or other i (pos 0))))
+          (coupled_bond (ends_at (ends_of Cylinder rows cols) i) (get_or other i (pos 0))))
           → (k : ℕ) →
           f (bond_at (lattice Cylinder rows cols j) k) ≡ f (bond_at (lattice Cylinder rows cols other) k)
       ends f same k = elim (cases_lt k (bond_total Cylinder rows cols)) [
