@@ -4,7 +4,7 @@ use Rattle.std.specs.Prelude.{unsigned_abs}
 use Rattle.std.proofs.lemmas.Int.{ints}
 use Rattle.std.proofs.lemmas.Bool.{cases_lt}
 use Rattle.std.proofs.lemmas.List.{get_or_past}
-use Rattle.std.proofs.lemmas.List.Elements.{All-from_get_or, All-weaker}
+use Rattle.std.proofs.lemmas.List.Elements.{All-from_get_or}
 use Rattle.std.proofs.lemmas.List.Sums.{sum_by-le}
 use Rattle.std.proofs.Math.Nat.{mul-le-mul_right}
 use Rattle.sg_model.specs.declared.bond.Bond.{Bond}
@@ -43,13 +43,7 @@ draw_size z h = bounded z h.low h.high
     bounded : (z : ℤ) → negsuc 1048575 ≤ℤ z → z ≤ℤ pos 1048576 → unsigned_abs z ≤ 2 ^ 20
     bounded z l m = omega (arith, ints)
 
-pub draw_sizes : (j : List ℤ) → All IsDraw j → All (λ z. unsigned_abs z < 2 ^ 63) j
-draw_sizes j h = All-weaker IsDraw (λ z. unsigned_abs z < 2 ^ 63) (λ z d. omega (arith, draw_size z d)) j h
-
 module _ (rows cols : ℕ) (size : IsStudied rows cols) (j : List ℤ) (count : length j ≡ draw_count rows cols) (range : All IsDraw j) where
-  abbrev drawn : Ising
-  drawn = lattice Cylinder rows cols j
-
   is_size : IsSize Cylinder rows cols
   is_size = studied_size rows cols size
 
