@@ -10,3 +10,13 @@ pub mod FittingBonds
 pub mod FollowedBonds
 pub mod WalkOrders
 pub mod FaceParities
+pub mod Places
+pub mod PartDarts
+pub mod Followed
+pub mod PartFaces
+pub mod PartWalks
+pub mod PartsByName
+pub mod PartsPlanar
+pub mod DealtNumbers
+pub mod PartPlaces
+pub mod PartsMade

@@ -1,9 +1,16 @@
-ghost use Rattle.std.specs.Prelude.{IfOk};
-ghost use Rattle.sg_planar.specs.Parts.{AreParts};
+ghost use Rattle.std.specs.Prelude.{◌≡◌, ◌<◌, ◌≤◌, ◌^◌, ◌+◌, ◌*◌, ◌/◌, ◌%◌, map, length, slice_index, All, IfOk};
+ghost use Rattle.sg_model.specs.Ising.{bond_at, bond_count};
+ghost use Rattle.sg_model.specs.Rotation.{darts_of};
+ghost use Rattle.sg_model.specs.WellFormed.{IsInstance};
+ghost use Rattle.sg_planar.specs.Parts.{AreParts, IsPart, restricted};
+ghost use Rattle.sg_planar.specs.Splitting.{ArePlaces, IsClosedPart, IsNaming, IsSplit, placed_bond, placed_darts};
 
+use super::dealing::{Dealt, deal};
 use super::{NoMemory, Planar};
+use sg_faces::trace;
 use sg_list::{Numbers, Records};
-use sg_model::BondList;
+use sg_model::{Bond, BondList, Bonds, DartList, Fault, Instance, Rotation};
+use sg_walk::names;
 use std::alloc::{AllocError, Global};
 
 /// Numbers of spins.
@@ -21,10 +28,190 @@ pub struct Part {
     pub planar: Planar,
 }
 
-/// The components of an instance, each as an instance of its own: one for each component, in the
-/// order of their least spins, in time linear in the spins and bonds.
+// The least spin of the component of each spin, and spins and bonds dealt out by these names. A spin
+// that is no name has empty lists.
+#[derive(Drop)]
+struct Split {
+    names: Vec<u32>,
+    spins: Dealt,
+    bonds: Dealt,
+}
+
+/// The components of an instance, each as an instance of its own, in the order of their least spins.
+///
+/// Spins and bonds are dealt out by the least spin of their component, so that all parts together
+/// take time and memory linear in the spins and bonds. Each part is connected and drawn on a sphere
+/// as the whole is: its spins and faces are at most two more than its bonds, by Euler's formula, and
+/// summed over the parts they are just that. The only error is want of memory.
 pub fn parts(alloc: Global, p: &Planar) -> Result<PartList, NoMemory>
     ensures { IfOk result (AreParts p.now.instance) }
 {
-    Err(AllocError)
+    let split = deal_out(alloc, p.instance())?;
+    parts_of(alloc, p, &split)
+}
+
+// For each spin the least spin of its component.
+fn spin_names(alloc: Global, inst: &Instance) -> Result<Vec<u32>, NoMemory>
+    ensures count { IfOk result (λ names. length names.items ≡ inst.now.n) }
+    ensures naming { IfOk result (λ names. IsNaming inst.now (slice_index names.items)) }
+{
+    let all = vec![in alloc; true; inst.bonds().len()]?;
+    names(alloc, inst, &all)
+}
+
+// For each bond the least spin of its component.
+fn bond_names(alloc: Global, bonds: &[Bond], names: &[u32]) -> Result<Vec<u32>, NoMemory>
+    requires { All (λ b. b.u < length names.now) bonds.now }
+    ensures { IfOk result (λ labels. labels.items ≡ map (λ b. slice_index names.now b.u) bonds.now) }
+{
+    let mut labels = Vec::new(alloc);
+    for bond in bonds {
+        labels.push(names[bond.u as usize])?;
+    }
+    Ok(labels)
+}
+
+// Spins and bonds by the names of their components.
+fn deal_out(alloc: Global, inst: &Instance) -> Result<Split, NoMemory>
+    ensures { IfOk result (λ split. IsSplit inst.now split.names.items
+        split.spins.lists.items split.spins.places.items split.bonds.lists.items split.bonds.places.items) }
+{
+    let names = spin_names(alloc, inst)?;
+    let labels = bond_names(alloc, inst.bonds().as_slice(), &names)?;
+    let spins = deal(alloc, &names, inst.n() as usize)?;
+    let bonds = deal(alloc, &labels, inst.n() as usize)?;
+    Ok(Split {
+        names,
+        spins,
+        bonds,
+    })
+}
+
+// The bonds of the list, each between the places of its ends.
+fn placed_bonds(
+    alloc: Global,
+    inst: &Instance,
+    list: &[u32],
+    places: &[u32],
+) -> Result<Bonds, NoMemory>
+    requires places { length places.now ≡ inst.now.n }
+    requires below { All (λ k. k < bond_count inst.now) list.now }
+    ensures { IfOk result (λ bonds. bonds ≡ map (λ k. placed_bond places.now (bond_at inst.now k)) list.now) }
+{
+    let mut bonds = Bonds::new(alloc);
+    for k in list {
+        let bond = inst.bonds().at(*k as usize);
+        bonds.push(Bond {
+            u: places[bond.u as usize],
+            v: places[bond.v as usize],
+            j: bond.j,
+        })?;
+    }
+    Ok(bonds)
+}
+
+// The darts of the list, by the places of their bonds.
+fn placed_list(alloc: Global, darts: &[u32], places: &[u32]) -> Result<DartList, NoMemory>
+    requires below { All (λ d. d / 2 < length places.now) darts.now }
+    requires small { All (λ p. p < 2 ^ 24) places.now }
+    ensures { IfOk result (λ list. list ≡ placed_darts places.now darts.now) }
+{
+    let mut list = DartList::new(alloc);
+    for dart in darts {
+        list.push(2 * places[(*dart / 2) as usize] + *dart % 2)?;
+    }
+    Ok(list)
+}
+
+// The darts of the spins of the list, by the places of their bonds.
+fn placed_rotation(
+    alloc: Global,
+    inst: &Instance,
+    spins: &[u32],
+    places: &[u32],
+) -> Result<Rotation, NoMemory>
+    requires spins { All (λ x. x < inst.now.n) spins.now }
+    requires places { length places.now ≡ bond_count inst.now }
+    requires small { All (λ p. p < 2 ^ 24) places.now }
+    ensures { IfOk result (λ lists. lists ≡ map (λ x. placed_darts places.now (darts_of inst.now x)) spins.now) }
+{
+    let mut rotation = Rotation::new(alloc);
+    for spin in spins {
+        let darts = inst.rotation().at(*spin as usize);
+        rotation.push(placed_list(alloc, darts.as_slice(), places)?)?;
+    }
+    Ok(rotation)
+}
+
+// The instance of a part. Its lists are a rotation, so that only memory may be wanting.
+fn part_instance(
+    alloc: Global,
+    inst: &Instance,
+    spins: &SpinNumbers,
+    bonds: &BondList,
+    spin_places: &[u32],
+    bond_places: &[u32],
+) -> Result<Instance, NoMemory>
+    requires instance { IsInstance inst.now }
+    requires closed { IsClosedPart inst.now spins.now bonds.now }
+    requires spin_places { ArePlaces spins.now spin_places.now inst.now.n }
+    requires bond_places { ArePlaces bonds.now bond_places.now (bond_count inst.now) }
+    ensures { IfOk result (λ part. part ≡ restricted inst.now spins.now bonds.now) }
+{
+    let list = placed_bonds(alloc, inst, bonds.as_slice(), spin_places)?;
+    let rotation = placed_rotation(alloc, inst, spins.as_slice(), bond_places)?;
+    match Instance::new(
+        alloc,
+        spins.len() as u32,
+        list,
+        rotation,
+        BondList::new(alloc),
+    ) {
+        Ok(part) => Ok(part),
+        Err(Fault::NoMemory) => Err(AllocError),
+        Err(Fault::Refused(_)) => unreachable!(),
+    }
+}
+
+// The part of the component with this least spin.
+fn part_from(alloc: Global, p: &Planar, split: &Split, least: u32) -> Result<Part, NoMemory>
+    requires split { IsSplit p.now.instance split.now.names.items split.now.spins.lists.items
+        split.now.spins.places.items split.now.bonds.lists.items split.now.bonds.places.items }
+    requires least_in { least < p.now.instance.n }
+    requires least_own { slice_index split.now.names.items least ≡ least }
+    ensures { IfOk result (IsPart p.now.instance least) }
+{
+    let inst = p.instance();
+    let spins = split.spins.lists[least as usize].clone()?;
+    let bonds = split.bonds.lists[least as usize].clone()?;
+    let instance = part_instance(
+        alloc,
+        inst,
+        &spins,
+        &bonds,
+        &split.spins.places,
+        &split.bonds.places,
+    )?;
+    let faces = trace(alloc, &instance)?;
+    let planar = Planar::of(instance, faces);
+    Ok(Part {
+        spins,
+        bonds,
+        planar,
+    })
+}
+
+// The parts of all components.
+fn parts_of(alloc: Global, p: &Planar, split: &Split) -> Result<PartList, NoMemory>
+    requires { IsSplit p.now.instance split.now.names.items split.now.spins.lists.items
+        split.now.spins.places.items split.now.bonds.lists.items split.now.bonds.places.items }
+    ensures { IfOk result (AreParts p.now.instance) }
+{
+    let mut parts = PartList::new(alloc);
+    for spin in 0..p.instance().n() {
+        if split.names[spin as usize] == spin {
+            parts.push(part_from(alloc, p, split, spin)?)?;
+        }
+    }
+    Ok(parts)
 }

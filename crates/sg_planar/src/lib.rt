@@ -9,14 +9,16 @@
 //! exactly where it fits the faces, and `spin_walk` finds the assignment. `parts` takes an instance
 //! apart into its components.
 //!
-//! For the next engineer: `Planar::new` and `spin_walk` are the contracts that matter. `specs/Fit.antt`
-//! says what is fit, which fact fails first, and what a `Planar` keeps; `specs/BrokenLists.antt` which
-//! lists fit the faces. `proofs/PlanarDuality.antt` has the mathematics over any embedding, and
-//! `proofs/EulerBounds.antt` the bounds on faces that the crates above cite.
+//! For the next engineer: `Planar::new`, `spin_walk` and `parts` are the contracts that matter.
+//! `specs/Fit.antt` says what is fit, which fact fails first, and what a `Planar` keeps;
+//! `specs/BrokenLists.antt` which lists fit the faces; `specs/Parts.antt` what the parts are.
+//! `proofs/PlanarDuality.antt` has the mathematics over any embedding, `proofs/EulerBounds.antt` the
+//! bounds on faces that the crates above cite, and `proofs/PartsPlanar.antt` why each part is planar.
 #![tactic(auto)]
 
 mod assignment;
 mod components;
+mod dealing;
 mod fitness;
 mod fitting;
 mod planar;

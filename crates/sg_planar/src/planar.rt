@@ -56,6 +56,14 @@ impl Planar {
         }
     }
 
+    /// The planar instance of these two, which make one.
+    pub(crate) fn of(instance: Instance, faces: Faces) -> Planar
+        requires { IsPlanar (record { instance = instance; faces = faces }) }
+        ensures { result ≡ record { instance = instance; faces = faces } }
+    {
+        Planar { instance, faces }
+    }
+
     /// The instance.
     pub fn instance(&self) -> &Instance
         ensures value { result.now ≡ self.now.instance }

@@ -7,7 +7,12 @@ use std::process::Abort;
 use std::test::Fail;
 
 // Runs `ground`, compares the front of its text, and has the whole judged.
-fn expect_ground<R: Abort>(rt: &R, alloc: Global, input: &[u8], front: &[u8]) -> Result<(), Fail> {
+pub fn expect_ground<R: Abort>(
+    rt: &R,
+    alloc: Global,
+    input: &[u8],
+    front: &[u8],
+) -> Result<(), Fail> {
     let (status, text) = answer(alloc, "ground", input)?;
     assert_eq!(rt; status, Status::Done);
     assert!(rt; text.as_slice().starts_with(front));

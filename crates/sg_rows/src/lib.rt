@@ -7,6 +7,8 @@
 #[cfg(test)]
 mod checks;
 #[cfg(test)]
+mod components;
+#[cfg(test)]
 mod devices;
 #[cfg(test)]
 mod ground;

@@ -77,7 +77,6 @@ fn general_instances_that_are_refused(rt: HostRuntime) -> Result<(), Fail> {
             "general,2\nbond,0,1,3\nbond,0,1,-2\nbond,0,1,1\nrot,0,0,2,4\nrot,1,1,3,5\nend\n",
             "refused,15,0\n",
         ),
-        ("general,2\nend\n", "refused,14,1\n"),
         (
             "general,2\nbond,0,1,1\nbond,0,1,1\nbond,0,1,1\nbond,0,1,1\nbond,0,1,1\nrot,0,0,2,4,6,8\nrot,1,1,3,5,7,9\nend\n",
             "refused,15,-2\n",
@@ -87,16 +86,8 @@ fn general_instances_that_are_refused(rt: HostRuntime) -> Result<(), Fail> {
             "refused,15,0\n",
         ),
         (
-            "general,6\nbond,0,1,-1\nbond,1,2,-1\nbond,2,0,-1\nbond,3,4,-1\nbond,4,5,-1\nbond,5,3,-1\nrot,0,0,5\nrot,1,1,2\nrot,2,3,4\nrot,3,6,11\nrot,4,7,8\nrot,5,9,10\nend\n",
-            "refused,14,3\n",
-        ),
-        (
             "general,2\nbond,0,1,7\nrot,0,0\nrot,1,1\nrot,1,1\nend\n",
             "refused,5,4\n",
-        ),
-        (
-            "general,3\nbond,0,1,7\nrot,0,0\nrot,1,1\nend\n",
-            "refused,14,2\n",
         ),
     ];
     for (input, line) in rows {

@@ -18,8 +18,13 @@ fn traced(alloc: Global, inst: &Instance) -> Result<Vec<u32>, AllocError> {
 
 #[test]
 fn faces_are_labelled_by_their_least_darts(rt: HostRuntime) -> Result<(), Fail> {
-    let rows: [(&str, &[u32]); 5] = [
+    let rows: [(&str, &[u32]); 7] = [
         ("square,1,1\nend\n", &[1]),
+        ("general,2\nend\n", &[2]),
+        (
+            "# a bond beside a spin alone\ngeneral,3\nbond,0,2,1\nrot,0,0\nrot,2,1\nend\n",
+            &[2, 0, 0],
+        ),
         ("square,2,2\n3,4,2,-5\nend\n", &[2, 0, 1, 1, 0, 1, 0, 0, 1]),
         (
             "# a tree: one face, on both sides of each bond\ngeneral,4\nbond,0,1,1\nbond,0,2,1\nbond,0,3,1\nrot,0,0,2,4\nrot,1,1\nrot,2,3\nrot,3,5\nend\n",

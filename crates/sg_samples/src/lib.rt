@@ -5,6 +5,8 @@
 #![tactic(auto)]
 
 #[cfg(test)]
+mod components;
+#[cfg(test)]
 mod drawings;
 #[cfg(test)]
 mod duals;

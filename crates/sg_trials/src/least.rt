@@ -1,9 +1,13 @@
 // The energies that are answered, beside the least over all assignments.
+
+ghost use Rattle.sg_model.specs.Connected.{IsConnected};
+ghost use Rattle.sg_planar.specs.Parts.{AreParts};
+
 use rand_core::utils::NextWord;
 use rand_pcg::Pcg32;
 use sg_ground::{judged_proposal, match_faces, solve};
 use sg_model::{Instance, least_plain};
-use sg_planar::Planar;
+use sg_planar::{Part, Planar, parts};
 use sg_reader::read_instance;
 use std::alloc::{AllocError, Global};
 use std::process::Abort;
@@ -16,8 +20,36 @@ fn instance(rt: &impl Abort, alloc: Global, text: &str) -> Result<Instance, Fail
     Ok(inst)
 }
 
-// Tries all assignments of the instance of a text, and solves it: at once, and by matching alone. The
-// proposal has to be there and good, else `solve` would go the long way each time and nobody notice.
+// Tries all assignments of a connected instance, and solves it by matching alone. The proposal has to
+// be there and good, else `solve` would go the long way each time and nobody notice.
+fn assert_part(rt: &impl Abort, alloc: Global, planar: &Planar, text: &str) -> Result<(), Fail>
+    requires { IsConnected planar.now.instance }
+{
+    assert!(rt; planar.instance().n() <= 16);
+    let (_, least) = least_plain(alloc, planar.instance())?;
+    let matched = i128::from(match_faces(alloc, planar)?.energy);
+    assert_eq!(rt; matched, least, "{text}");
+    assert!(rt; judged_proposal(alloc, planar)?.is_some(), "{text}");
+    Ok(())
+}
+
+// The same for each part of an instance.
+fn assert_parts(
+    rt: &impl Abort,
+    alloc: Global,
+    inst: &Instance,
+    parts: &[Part],
+    text: &str,
+) -> Result<(), Fail>
+    requires { AreParts inst.now parts.now }
+{
+    for part in parts {
+        assert_part(rt, alloc, &part.planar, text)?;
+    }
+    Ok(())
+}
+
+// Tries all assignments of the instance of a text, and solves it, at once and part by part.
 fn assert_least(rt: &impl Abort, alloc: Global, text: &str) -> Result<(), Fail> {
     let inst = instance(rt, alloc, text)?;
     let Ok(planar) = Planar::new(alloc, inst) else {
@@ -27,13 +59,8 @@ fn assert_least(rt: &impl Abort, alloc: Global, text: &str) -> Result<(), Fail> 
     assert!(rt; inst.n() <= 16);
     let (_, least) = least_plain(alloc, inst)?;
     assert_eq!(rt; i128::from(solve(alloc, &planar)?.energy), least, "{text}");
-    assert_eq!(rt;
-        i128::from(match_faces(alloc, &planar)?.energy),
-        least,
-        "{text}"
-    );
-    assert!(rt; judged_proposal(alloc, &planar)?.is_some(), "{text}");
-    Ok(())
+    let list = parts(alloc, &planar)?;
+    assert_parts(rt, alloc, inst, list.as_slice(), text)
 }
 
 #[test]
@@ -50,6 +77,9 @@ fn worked_instances(rt: HostRuntime) -> Result<(), Fail> {
         "general,7\nbond,0,1,1\nbond,0,2,1\nbond,0,3,1\nbond,0,4,1\nbond,0,5,1\nbond,0,6,1\nbond,1,2,-1\nbond,2,3,-1\nbond,3,4,-1\nbond,4,5,-1\nbond,5,6,-1\nbond,6,1,-1\nrot,0,0,2,4,6,8,10\nrot,1,1,23,12\nrot,2,3,13,14\nrot,3,5,15,16\nrot,4,7,17,18\nrot,5,9,19,20\nrot,6,11,21,22\nend\n",
         "square,4,4\n1,1,1,1,-1,1,1,1,1,1,1,1,1,1,1,1,1,1,1,1,1,1,1,1\nend\n",
         "cylinder,1,3\n5,7,-2\nend\n",
+        "general,3\nend\n",
+        "general,4\nbond,0,1,2\nbond,2,3,-5\nrot,0,0\nrot,1,1\nrot,2,2\nrot,3,3\nend\n",
+        "general,6\nbond,0,2,3\nbond,2,4,-5\nbond,4,0,2\nbond,1,3,-7\nbond,3,5,1\nbond,5,1,4\nrot,0,0,5\nrot,1,6,11\nrot,2,1,2\nrot,3,7,8\nrot,4,3,4\nrot,5,9,10\nend\n",
     ];
     for text in texts {
         assert_least(&rt, rt.alloc(), text)?;
@@ -107,6 +137,41 @@ fn drawn_lattices(rt: HostRuntime) -> Result<(), Fail> {
             let text = drawn(rt.alloc(), shape, bonds, trial % 5, &mut draws)?;
             assert_least(&rt, rt.alloc(), text.as_str())?;
         }
+    }
+    Ok(())
+}
+
+// Four triangles with drawn couplings, whose spins stand by turns.
+fn drawn_triangles(alloc: Global, kind: u32, draws: &mut Pcg32) -> Result<String, AllocError> {
+    let mut text = String::from_str(alloc, "general,12\n")?;
+    for ring in 0..4u32 {
+        let spins = [ring, ring + 4, ring + 8, ring];
+        for side in 0..3 {
+            let j = coupling(kind, draws.next_word());
+            let (u, v) = (spins[side], spins[side + 1]);
+            text.push_str(format!(in alloc; "bond,{u},{v},{j}\n")?.as_str())?;
+        }
+    }
+    for ring in 0..4u32 {
+        let dart = 6 * ring;
+        for (spin, first, second) in [
+            (ring, dart, dart + 5),
+            (ring + 4, dart + 1, dart + 2),
+            (ring + 8, dart + 3, dart + 4),
+        ] {
+            text.push_str(format!(in alloc; "rot,{spin},{first},{second}\n")?.as_str())?;
+        }
+    }
+    text.push_str("end\n")?;
+    Ok(text)
+}
+
+#[test]
+fn drawn_components(rt: HostRuntime) -> Result<(), Fail> {
+    let mut draws = Pcg32::new(43, 54);
+    for trial in 0..20 {
+        let text = drawn_triangles(rt.alloc(), trial % 5, &mut draws)?;
+        assert_least(&rt, rt.alloc(), text.as_str())?;
     }
     Ok(())
 }
