@@ -10,7 +10,7 @@ use Rattle.sg_cli.specs.Numeral.{number_in}
 use Rattle.sg_cli.specs.declared.command.Command.{Command}
 use Rattle.sg_cli.specs.declared.command.Command.TheVariants.{Read, Draw}
 use Rattle.sg_cli.specs.declared.command.Reading.TheVariants.{Study, Check, Graph}
-use Rattle.sg_cli.specs.declared.command.Study.TheVariants.{Energy, Ground, Wall, Bonds, Clusters, Report}
+use Rattle.sg_cli.specs.declared.command.Study.TheVariants.{Energy, Ground, Wall, Bonds, Clusters, Report, Ranges, Maxcut}
 use Rattle.sg_cli.specs.declared.command.GraphTask.TheVariants.{TJoin, Postman}
 use Rattle.sg_cli.specs.declared.command.Drawing.{Drawing}
 use Rattle.sg_cli.specs.declared.command.Drawing.TheVariants.{Gen, Sample}
@@ -25,10 +25,12 @@ command_named word =
     else (if bytes_eq word (codes "bonds") then Some (Read (Study Bonds))
     else (if bytes_eq word (codes "clusters") then Some (Read (Study Clusters))
     else (if bytes_eq word (codes "report") then Some (Read (Study Report))
+    else (if bytes_eq word (codes "ranges") then Some (Read (Study Ranges))
+    else (if bytes_eq word (codes "maxcut") then Some (Read (Study Maxcut))
     else (if bytes_eq word (codes "check") then Some (Read Check)
     else (if bytes_eq word (codes "tjoin") then Some (Read (Graph TJoin))
     else (if bytes_eq word (codes "postman") then Some (Read (Graph Postman))
-    else None))))))))
+    else None))))))))))
 
 -- the kind of lattice that a word names
 abbrev pub kind_named : List ℕ → Option Kind

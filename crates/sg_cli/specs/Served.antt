@@ -1,11 +1,12 @@
 -- What is answered: the status and the whole text that belong to the words, the laws and the bytes.
-use Rattle.std.specs.Prelude.{◌≡◌, ◌≢◌, ◌<◌, ◌≤◌, ◌+ℤ◌, ℕ, ℤ, pos, Bool, true, false, Option, Some, None}
-use Rattle.std.specs.Prelude.{List, [], ◌∷◌, length, codes}
+use Rattle.std.specs.Prelude.{◌≡◌, ◌≢◌, ◌<◌, ◌≤◌, ◌+ℤ◌, ◌-ℤ◌, ◌*ℤ◌, ℕ, ℤ, pos, Bool, true, false, Option, Some, None}
+use Rattle.std.specs.Prelude.{List, [], ◌∷◌, length, map, codes}
 use Rattle.sg_limits.specs.Limits.{input_limit}
 use Rattle.sg_model.specs.declared.refusal.Refusal.{Refusal}
 use Rattle.sg_model.specs.declared.refusal.Refusal.TheVariants.{TooLong, NoSeam, UnknownLaw}
 use Rattle.sg_model.specs.Ising.{Ising, bond_count}
 use Rattle.sg_model.specs.Connected.{LeastsUp}
+use Rattle.sg_model.specs.Changes.{negated}
 use Rattle.sg_model.specs.Energy.{IsGroundState, IsLeastEnergy, energy, weight}
 use Rattle.sg_lattice.specs.declared.kind.Kind.{Kind}
 use Rattle.sg_lattice.specs.declared.kind.Kind.TheVariants.{Square}
@@ -27,6 +28,9 @@ use Rattle.sg_report.specs.Text.{bonds_text, clusters_text, energy_text, ground_
 use Rattle.sg_report.specs.Text.{refusal_text, verdict_text}
 use Rattle.sg_report.specs.Samples.{instance_text, sample_text}
 use Rattle.sg_report.specs.Report.{report_text}
+use Rattle.sg_report.specs.Ranges.{maxcut_text, ranges_text}
+use Rattle.sg_ranges.specs.Turn.{AreTurns}
+use Rattle.sg_ranges.specs.Cut.{IsLargestCut, coupling_sum}
 use Rattle.sg_cli.specs.Command.{command_of, law_word}
 use Rattle.sg_cli.specs.Graphs.{AnswersTask, takes_terms}
 use Rattle.sg_cli.specs.Input.{GivesFit, GivesProof, RefusesProof, RefusesText}
@@ -39,7 +43,7 @@ use Rattle.sg_cli.specs.declared.command.Reading.{Reading}
 use Rattle.sg_cli.specs.declared.command.Reading.TheVariants as reading
 use Rattle.sg_cli.specs.declared.command.Size.{Size}
 use Rattle.sg_cli.specs.declared.command.Study.{Study}
-use Rattle.sg_cli.specs.declared.command.Study.TheVariants.{Energy, Ground, Wall, Bonds, Clusters, Report}
+use Rattle.sg_cli.specs.declared.command.Study.TheVariants.{Energy, Ground, Wall, Bonds, Clusters, Report, Ranges, Maxcut}
 use Rattle.sg_cli.specs.declared.status.Status.{Status}
 use Rattle.sg_cli.specs.declared.status.Status.TheVariants.{Done, Refused, Usage, No}
 
@@ -126,6 +130,26 @@ pub record PrintsReport (inst : Ising) (text : List ℕ) (status : Status) : Typ
   pub printed : text ≡ report_text (bond_count inst) (pos (weight inst)) energy spins loops costs names wall
   pub done : status ≡ Done
 
+-- the turning coupling of each bond
+pub record PrintsTurns (inst : Ising) (text : List ℕ) (status : Status) : Type 0 where
+  pub turns : List ℤ
+  pub exact : AreTurns inst turns
+  pub printed : text ≡ ranges_text (map (λ b. b.j) inst.bonds) turns
+  pub done : status ≡ Done
+
+-- a largest cut with the least spin of each component up, and a short packing of frustrated loops that proves it as it
+-- proves a ground state where every sign is changed
+pub record PrintsCut (inst : Ising) (text : List ℕ) (status : Status) : Type 0 where
+  pub weight : ℤ
+  pub spins : List ℤ
+  pub loops : List Loop
+  pub largest : IsLargestCut inst spins weight
+  pub proves : Proves (negated inst) spins (coupling_sum inst -ℤ (pos 2 *ℤ weight)) loops
+  pub short : IsShort (negated inst) loops
+  pub first_up : LeastsUp inst spins
+  pub printed : text ≡ maxcut_text weight spins loops
+  pub done : status ≡ Done
+
 -- how a run ends by the verdict on a proof
 abbrev pub status_by : Verdict → Status
 status_by verdict.Yes = Done
@@ -146,6 +170,8 @@ AnswersFit Wall inst text status = AnswersWall inst text status
 AnswersFit Bonds inst text status = PrintsCosts inst text status
 AnswersFit Clusters inst text status = PrintsClusters inst text status
 AnswersFit Report inst text status = PrintsReport inst text status
+AnswersFit Ranges inst text status = PrintsTurns inst text status
+AnswersFit Maxcut inst text status = PrintsCut inst text status
 
 -- what a study answers to a text: the first fault, or the answer to its instance
 pub data AnswersStudy (study : Study) (bytes text : List ℕ) (status : Status) : Type 0 where

@@ -42,6 +42,10 @@ pub enum Study {
     Clusters,
     /// All of these at once, as one line of JSON.
     Report,
+    /// The turning coupling of each bond.
+    Ranges,
+    /// A largest cut, and a packing of frustrated loops that proves it.
+    Maxcut,
 }
 
 /// What is asked of a connected weighted graph.
@@ -109,6 +113,10 @@ fn command_named(word: &str) -> Option<Command>
         Some(Command::Read(Reading::Study(Study::Clusters)))
     } else if word == "report" {
         Some(Command::Read(Reading::Study(Study::Report)))
+    } else if word == "ranges" {
+        Some(Command::Read(Reading::Study(Study::Ranges)))
+    } else if word == "maxcut" {
+        Some(Command::Read(Reading::Study(Study::Maxcut)))
     } else if word == "check" {
         Some(Command::Read(Reading::Check))
     } else if word == "tjoin" {

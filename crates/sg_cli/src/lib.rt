@@ -1,7 +1,8 @@
 //! The top call: words, a source and a sink in, one status out.
 //!
 //! `run` reads an instance and answers a study: a ground state, alone or with the packing that proves
-//! it, a domain wall, the costs of the bonds, the rigid clusters, or all of these as one line of JSON.
+//! it, a domain wall, the costs of the bonds, the rigid clusters, or all of these as one line of JSON;
+//! how far each coupling may move, or a largest cut.
 //! `check` judges the proof that stands behind an instance of any kind.
 //! Every other input is refused with the number of its first fault.
 //!
@@ -22,8 +23,10 @@ mod energy;
 mod generate;
 mod graph;
 mod ground;
+mod maxcut;
 mod numeral;
 mod postman;
+mod ranges;
 mod reply;
 mod report;
 mod sample;

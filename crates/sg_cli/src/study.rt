@@ -11,6 +11,8 @@ use super::clusters::clusters_reply;
 use super::command::Study;
 use super::energy::energy_reply;
 use super::ground::ground_reply;
+use super::maxcut::maxcut_reply;
+use super::ranges::ranges_reply;
 use super::reply::{NoMemory, Reply, refuse};
 use super::report::report_reply;
 use super::wall::wall_reply;
@@ -89,5 +91,7 @@ fn fit_reply(alloc: Global, study: Study, planar: &Planar) -> Result<Reply, NoMe
         Study::Bonds => bonds_reply(alloc, planar),
         Study::Clusters => clusters_reply(alloc, planar),
         Study::Report => report_reply(alloc, planar),
+        Study::Ranges => ranges_reply(alloc, planar),
+        Study::Maxcut => maxcut_reply(alloc, planar),
     }
 }

@@ -4,7 +4,7 @@ use Rattle.std.specs.Prelude.{unsigned_abs}
 use Rattle.std.proofs.lemmas.Int.{ints}
 use Rattle.std.proofs.lemmas.Bool.{cases_lt}
 use Rattle.std.proofs.lemmas.List.{get_or_past}
-use Rattle.std.proofs.lemmas.List.Elements.{All-from_get_or, All-weaker}
+use Rattle.std.proofs.lemmas.List.Elements.{All-from_get_or}
 use Rattle.std.proofs.lemmas.List.Sums.{sum_by-le}
 use Rattle.std.proofs.Math.Nat.{mul-le-mul_right}
 use Rattle.sg_model.specs.declared.bond.Bond.{Bond}
@@ -43,13 +43,7 @@ draw_size z h = bounded z h.low h.high
     bounded : (z : ℤ) → negsuc 1048575 ≤ℤ z → z ≤ℤ pos 1048576 → unsigned_abs z ≤ 2 ^ 20
     bounded z l m = omega (arith, ints)
 
-pub draw_sizes : (j : List ℤ) → All IsDraw j → All (λ z. unsigned_abs z < 2 ^ 63) j
-draw_sizes j h = All-weaker IsDraw (λ z. unsigned_abs z < 2 ^ 63) (λ z d. omega (arith, draw_size z d)) j h
-
 module _ (rows cols : ℕ) (size : IsStudied rows cols) (j : List ℤ) (count : length j ≡ draw_count rows cols) (range : All IsDraw j) where
-  abbrev drawn : Ising
-  drawn = lattice Cylinder rows cols j
-
   is_size : IsSize Cylinder rows cols
   is_size = studied_size rows cols size
 
@@ -61,12 +55,16 @@ module _ (rows cols : ℕ) (size : IsStudied rows cols) (j : List ℤ) (count : 
   coupling_at : (k : ℕ) → k < bond_count (lattice Cylinder rows cols j) → (bond_at (lattice Cylinder rows cols j) k).j ≡ get_or j k (pos 0)
   coupling_at k l =
       ap (λ (b : Bond). b.j) (bond_is Cylinder rows cols is_size j k
-          (omega (arith, length-ends_of Cylinder rows cols is_size, bond_count_is Cylinder rows cols is_size j)))
+      (omega (arith, length-ends_of Cylinder rows cols is_size, bond_count_is Cylinder rows cols is_size j)))
 
   coupling_size : (k : ℕ) → k < bond_count (lattice Cylinder rows cols j) → unsigned_abs (bond_at (lattice Cylinder rows cols j) k).j ≤ 2 ^ 20
   coupling_size k l =
-      omega (arith, ap unsigned_abs (coupling_at k l), draw_size (get_or j k (pos 0))
-          (range k (pos 0) (omega (arith, count, bond_count_is Cylinder rows cols is_size j))))
+      omega (
+        arith,
+        ap unsigned_abs (coupling_at k l),
+        draw_size (get_or j k (pos 0))
+            (range k (pos 0) (omega (arith, count, bond_count_is Cylinder rows cols is_size j))),
+      )
 
   pub drawn_weight : weight (lattice Cylinder rows cols j) ≤ 2 ^ 32
   drawn_weight =
@@ -85,7 +83,7 @@ module _ (rows cols : ℕ) (size : IsStudied rows cols) (j : List ℤ) (count : 
     where
       ends : (f : Bond → ℕ)
           → ((i : ℕ) → f (coupled_bond (ends_at (ends_of Cylinder rows cols) i) (get_or j i (pos 0))) ≡ f
-              (coupled_bond (ends_at (ends_of Cylinder rows cols) i) (get_or other i (pos 0))))
+          (coupled_bond (ends_at (ends_of Cylinder rows cols) i) (get_or other i (pos 0))))
           → (k : ℕ) →
           f (bond_at (lattice Cylinder rows cols j) k) ≡ f (bond_at (lattice Cylinder rows cols other) k)
       ends f same k = elim (cases_lt k (bond_total Cylinder rows cols)) [

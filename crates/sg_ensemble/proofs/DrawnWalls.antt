@@ -26,7 +26,7 @@ each_more : (P : List ℤ → ℤ → Type 0) (m count : ℕ) (draws next walls 
 each_more P m count draws next walls wall long one counted before here i l = elim (cases_lt i count) [
   | inl b ↦
       let inside : i * m + m ≤ length draws = (let all : (i + 1) * m ≤ count * m =
-          mul-le-mul_right m (let le : i + 1 ≤ count = omega arith in le) in omega (arith, all, long)) in
+      mul-le-mul_right m (let le : i + 1 ≤ count = omega arith in le) in omega (arith, all, long)) in
       subst (λ xs. P xs (get_or (walls ++ wall ∷ []) i (pos 0))) (sym (front_slice draws next (i * m) m inside))
       (subst (P (take m (drop (i * m) draws))) (sym (get_or_append_left walls (wall ∷ []) (pos 0) i (omega (arith, counted)))) (before i b))
   | inr past ↦

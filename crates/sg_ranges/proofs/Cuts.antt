@@ -121,7 +121,7 @@ module _ (inst other : Ising) (good : IsInstance inst) (same : other ≡ negated
       let there : Proves (negated inst) s e loops = subst (λ i. Proves i s e loops) same h in
       let here : IsAssignment inst s = record { count = there.assignment.count; values = there.assignment.values } in
       subst (λ y. Proves (negated inst) s y loops) (sym there.stated ∙ energy_negated inst s good here
-          ∙ ap (λ y. coupling_sum inst -ℤ (pos 2 *ℤ y)) (sym value)) there
+      ∙ ap (λ y. coupling_sum inst -ℤ (pos 2 *ℤ y)) (sym value)) there
 
   -- the least spin of each component is the same
   pub leasts_up : LeastsUp other s → LeastsUp inst s

@@ -24,8 +24,11 @@ no_bond = record { u = 0; v = 0; j = pos 0 }
 -- all energies of one instance have one parity
 pub parity : (inst : Ising) (s t : List ℤ) → IsInstance inst → IsAssignment inst s → IsAssignment inst t
     → (d : ℤ) × (energy inst s ≡ energy inst t +ℤ (pos 2 *ℤ d))
-parity inst s t good a b = (pos (broken s) -ℤ pos (broken t), apart (energy inst s) (energy inst t) (broken s) (broken t) (weight inst)
-    (energy_from_broken inst s good a) (energy_from_broken inst t good b))
+parity inst s t good a b = (
+  pos (broken s) -ℤ pos (broken t),
+  apart (energy inst s) (energy inst t) (broken s) (broken t) (weight inst)
+      (energy_from_broken inst s good a) (energy_from_broken inst t good b),
+)
   where
     broken : List ℤ → ℕ
     broken s = sum_by (broken_weight s) inst.bonds
@@ -80,7 +83,7 @@ module _ (inst : Ising) (good : IsInstance inst) (k : ℕ) (inside : k < bond_co
     );
     least = λ t u same.
         kept e (energy inst t) (coupling *ℤ p) (z *ℤ p) (energy (with_coupling inst k z) t) (h.least t (assigned z t u) (product_moved z t ∙ same))
-            (moved z p t same);
+        (moved z p t same);
   }
     where
       has : product h.reached.0 (bond_at inst k) ≡ p
@@ -96,7 +99,7 @@ module _ (inst : Ising) (good : IsInstance inst) (k : ℕ) (inside : k < bond_co
   one_least : (p e f : ℤ) → IsLeastWith inst k p e → IsLeastWith inst k p f → e ≡ f
   one_least p e f g h =
       level e f (energy inst g.reached.0) (energy inst h.reached.0) g.reached.3 h.reached.3 (h.least g.reached.0 g.reached.1 g.reached.2)
-          (g.least h.reached.0 h.reached.1 h.reached.2)
+      (g.least h.reached.0 h.reached.1 h.reached.2)
     where
       level : (a b x y : ℤ) → x ≡ a → y ≡ b → b ≤ℤ x → a ≤ℤ y → a ≡ b
       level a b x y i j l m = omega (arith, ints)
@@ -149,7 +152,7 @@ module _ (inst : Ising) (good : IsInstance inst) (k : ℕ) (inside : k < bond_co
       order : (z p q : ℤ) (s : List ℤ) → IsGroundState (with_coupling inst k z) s → product s (bond_at inst k) ≡ q →
           IsLeastWith inst k p ((h.level -ℤ (coupling *ℤ p)) +ℤ (t *ℤ p)) → IsLeastWith inst k q ((h.level -ℤ (coupling *ℤ q)) +ℤ (t *ℤ q)) →
           (((((h.level -ℤ (coupling *ℤ q)) +ℤ (t *ℤ q))) +ℤ (coupling *ℤ q)) -ℤ (z *ℤ q)) ≤ℤ
-              (((((h.level -ℤ (coupling *ℤ p)) +ℤ (t *ℤ p))) +ℤ (coupling *ℤ p)) -ℤ (z *ℤ p))
+          (((((h.level -ℤ (coupling *ℤ p)) +ℤ (t *ℤ p))) +ℤ (coupling *ℤ p)) -ℤ (z *ℤ p))
       order z p q s g e lp lq =
           let other = at z p lp in
           through _ _ _ _ ((at z q lq).least s g.assignment (product_moved z s ∙ e)) (g.least other.reached.0 other.reached.1) other.reached.3
@@ -225,10 +228,10 @@ module _ (inst : Ising) (good : IsInstance inst) (k : ℕ) (inside : k < bond_co
       by_product : IsUpOrDown (product s (bond_at inst k)) → IsTurn inst k t
       by_product (inl e) = turn_between t cost.like cost.unlike cost.least_like cost.least_unlike
           (when_like t coupling (product s (bond_at inst k)) c cost.like cost.unlike (energy inst s) twice e cost.apart
-              (cost.least_like.least s g.assignment e) unlike_above)
+          (cost.least_like.least s g.assignment e) unlike_above)
       by_product (inr e) = turn_between t cost.like cost.unlike cost.least_like cost.least_unlike
           (when_unlike t coupling (product s (bond_at inst k)) c cost.like cost.unlike (energy inst s) twice e cost.apart
-              (cost.least_unlike.least s g.assignment e) like_above)
+          (cost.least_unlike.least s g.assignment e) like_above)
 
   -- a cost is an even number
   pub cost_halves : (c : ℤ) (most : ℕ) → weight inst ≤ most → IsCost inst k c → IsDouble most c
@@ -292,7 +295,7 @@ pub turn_found : (r j p h c : ℤ) (most : ℕ) → 2 * most < 2 ^ 63 → IsUpOr
 turn_found r j p h c most few up small half size fits value twice =
     ap₂ (λ a b. a +ℤ b) kept kept
     ∙ doubled r j p h c up (value ∙ ap₂ (λ a b. a -ℤ b) (kept_small j most small (omega arith))
-        (ap₂ (λ a b. a *ℤ b) (kept_unit p up) (kept_small h most half (omega arith))))
+    (ap₂ (λ a b. a *ℤ b) (kept_unit p up) (kept_small h most half (omega arith))))
     (twice ∙ to_z-of_z w64 c fits)
   where
     kept : to_z w64 (of_z w64 r) ≡ r

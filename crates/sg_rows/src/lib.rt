@@ -21,6 +21,8 @@ mod laws;
 #[cfg(test)]
 mod numerals;
 #[cfg(test)]
+mod ranges;
+#[cfg(test)]
 mod refusals;
 #[cfg(test)]
 mod rows;

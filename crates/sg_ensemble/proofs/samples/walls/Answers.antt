@@ -13,7 +13,7 @@ loop-preserved g c =
     let mid = (goal.Disorder-dyn g (c.loop.law.vtable, c.loop.law.value)).next c.loop.law.value in
     let new = (goal.Disorder-dyn g (c.next_wall.new.law.vtable, c.next_wall.new.law.value)).next c.next_wall.new.law.value in
     let kept : to_z w64 (of_z w64 c.in_ok-wall.wall) ≡ c.in_ok-wall.wall =
-        to_z-of_z w64 c.in_ok-wall.wall (fits_signed_from_abs w64 c.in_ok-wall.wall (omega (arith, e.size))) in
+    to_z-of_z w64 c.in_ok-wall.wall (fits_signed_from_abs w64 c.in_ok-wall.wall (omega (arith, e.size))) in
     let pushed : c.push.new.self ≡ c.loop.walls ++ c.in_ok-wall.wall ∷ [] = c.in_ok-push.ensures.ok ∙ ap (λ x. c.loop.walls ++ x ∷ []) kept in (
       subst (IsDrawn c.args.rows c.args.cols (c.loop.counter + 1) old new) (sym pushed)
           (one_drawn c.args.rows c.args.cols c.loop.counter old mid new c.loop.walls c.in_ok-wall.wall c.loop.invariant.0

@@ -8,7 +8,7 @@ use Rattle.sg_ranges.proofs.cutting.largest_cut.Goals as goal
 pub returns-clause-cut : goal.returns-clause-cut
 returns-clause-cut c =
     cut_found c.args.planar.now.instance c.in_ok-opposite.opposite.instance c.instance.ensures.planar.instance
-        (ap (λ (e : Embedding). e.instance) c.in_ok-opposite.ensures.copy)
+    (ap (λ (e : Embedding). e.instance) c.in_ok-opposite.ensures.copy)
     c.in_ok-least.least.spins _ c.in_ok-least.ensures.ground_state
     (cut_again c.args.planar.now.instance c.in_ok-least.least.spins c.cut_weight-weight.result c.instance.ensures.planar.sum
     (c.cut_weight-weight.ensures ∙ ap (λ (i : Ising). cut_weight i c.in_ok-least.least.spins) c.instance.ensures.value))
@@ -16,7 +16,7 @@ returns-clause-cut c =
 pub returns-clause-proves : goal.returns-clause-proves
 returns-clause-proves c =
     cut_proved c.args.planar.now.instance c.in_ok-opposite.opposite.instance c.instance.ensures.planar.instance
-        (ap (λ (e : Embedding). e.instance) c.in_ok-opposite.ensures.copy)
+    (ap (λ (e : Embedding). e.instance) c.in_ok-opposite.ensures.copy)
     c.in_ok-least.least.spins _ c.in_ok-least.least.energy c.in_ok-least.least.loops c.in_ok-least.ensures.proves
     (cut_again c.args.planar.now.instance c.in_ok-least.least.spins c.cut_weight-weight.result c.instance.ensures.planar.sum
     (c.cut_weight-weight.ensures ∙ ap (λ (i : Ising). cut_weight i c.in_ok-least.least.spins) c.instance.ensures.value))

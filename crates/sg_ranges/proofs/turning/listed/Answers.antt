@@ -13,7 +13,7 @@ turn-turning-requires-clause-cost c =
     let low : c.loop-k.k < bond_count c.args.inst.now = omega (arith, c.loop-k-test.true, ap length bonds) in
     let cost = get_or c.args.costs.now c.loop-k.k (pos 0) in
     let halves : IsDouble sum_limit cost = cost_halves c.args.inst.now c.bonds.ensures.instance c.loop-k.k low cost sum_limit c.requires.sum
-        (c.requires.costs.each c.loop-k.k low) in
+    (c.requires.costs.each c.loop-k.k low) in
     subst (IsDouble sum_limit) (sym (double_kept cost sum_limit (omega arith) halves)) halves
 
 pub loop-k-preserved : goal.loop-k-preserved
@@ -22,14 +22,14 @@ loop-k-preserved c =
     let low : c.loop-k.k < bond_count c.args.inst.now = omega (arith, c.loop-k-test.true, ap length bonds) in
     let cost = get_or c.args.costs.now c.loop-k.k (pos 0) in
     let halves : IsDouble sum_limit cost = cost_halves c.args.inst.now c.bonds.ensures.instance c.loop-k.k low cost sum_limit c.requires.sum
-        (c.requires.costs.each c.loop-k.k low) in
+    (c.requires.costs.each c.loop-k.k low) in
     let told = rw (bonds, double_kept cost sum_limit (omega arith) halves) at c.turn-turning.ensures.twice in
     let found : IsTurn c.args.inst.now c.loop-k.k c.turn-turning.result =
     turn_from_cost c.args.inst.now c.bonds.ensures.instance c.loop-k.k low c.turn-turning.result cost c.args.least.now c.requires.ground_state
-        (c.requires.costs.each c.loop-k.k low) told in
+    (c.requires.costs.each c.loop-k.k low) told in
     let pushed : c.push.new.self ≡ c.loop-k.turns ++ c.turn-turning.result ∷ [] =
     c.in_ok-push.ensures.ok ∙ ap (λ x. c.loop-k.turns ++ x ∷ [])
-        (kept_small c.turn-turning.result (2 * sum_limit) c.turn-turning.ensures.size (omega arith)) in
+    (kept_small c.turn-turning.result (2 * sum_limit) c.turn-turning.ensures.size (omega arith)) in
     record {
       count = ap length pushed ∙ length_push c.loop-k.turns c.turn-turning.result ∙ ap (λ n. n + 1) c.loop-k.invariant.count;
       each = λ i l. subst (λ turns. IsTurn c.args.inst.now i (get_or turns i (pos 0))) (sym pushed)
