@@ -60,8 +60,11 @@ module _ (members : List Member) (n : ℕ) (line : IsLine members n) where
         member = λ i low.
             let at = more-at i low in
             let total : (member_at more i).total +ℤ pos 1 ≡ pos (n + 1 - i) = omega (arith, ints, low, ap (λ (m : Member). m.total) at) in
-            get_or-map {Y = Member} (λ (m : Member). (record { leaf = m.leaf; total = m.total +ℤ pos 1 })) more i no_member no_member (omega (arith,
-            low, more-count))
+            get_or-map {Y = Member} (λ (m : Member). (record { leaf = m.leaf; total = m.total +ℤ pos 1 })) more i no_member no_member (omega (
+              arith,
+              low,
+              more-count,
+            ))
             ∙ both (member_at more i).leaf i ((member_at more i).total +ℤ pos 1) (pos (n + 1 - i)) (ap (λ (m : Member). m.leaf) at) total;
       }
     where

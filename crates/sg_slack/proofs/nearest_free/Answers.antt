@@ -13,8 +13,16 @@ loop-v-preserved c =
     let v = c.loop-v.v in
     elim (cases_Bool c.is_free.result) [
       | inl counted ↦
-          let here : Is c.args.u v = (refl, record { u_leaf = c.requires.leaf; v_leaf = omega arith; outer = c.requires.outer; free =
-          c.is_free.ensures.0 counted }) in
+          let here : Is c.args.u v = (
+            refl,
+            record {
+              u_leaf = c.requires.leaf;
+              v_leaf = omega arith;
+              outer = c.requires.outer;
+              free =
+                  c.is_free.ensures.0 counted;
+            },
+          ) in
           Row-pair costs total Is c.args.u (λ a b is. is.0) c.loop-v.best c.nearer_if-best.result v here
           (subst (λ p. IsNearer c.loop-v.best (Some p) c.nearer_if-best.result) c.pair_of-pair.ensures (c.nearer_if-best.ensures.yes counted))
           c.loop-v.invariant
