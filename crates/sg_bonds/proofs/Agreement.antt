@@ -1,5 +1,5 @@
 -- What two assignments say of the product of two spins, along paths of bonds.
-use Rattle.std.proofs.Common.{◌≡◌, ◌⊎◌, inl, inr, ℕ, ◌<◌, Bool, true, ℤ, pos, negsuc, neg_ℤ, ◌*ℤ◌, List, [], ◌∷◌, refl, sym, ◌∙◌, ap, ap₂, subst, length}
+use Rattle.std.proofs.Common.{◌≡◌, ◌⊎◌, inl, inr, ℕ, ◌<◌, Bool, true, ℤ, pos, neg_ℤ, ◌*ℤ◌, List, [], ◌∷◌, refl, sym, ◌∙◌, ap, ap₂, subst, length}
 use Rattle.std.proofs.Math.IntN.{*ℤ_comm}
 use Rattle.std.proofs.lemmas.Bool.{cases_lt}
 use Rattle.std.proofs.lemmas.List.{get_or_past}

@@ -1,20 +1,15 @@
--- Names of clusters: one walk names the spins that it finds, and the names of all are the clusters.
-use Rattle.std.proofs.Common.{⊎_elim, ◌≡◌, ◌≢◌, ◌⊎◌, ◌↔◌, inl, inr, ℕ, ◌+◌, ◌<◌, ◌≤◌, ℤ, pos, negsuc, ◌-ℤ◌, ◌<ℤ◌, ◌≤ℤ◌, Bool, true, false, List, [], ◌∷◌, ◌++◌, length, get_or, replicate, refl, sym, ◌∙◌, ap, ap₂, subst, arith}
+-- Names of clusters: the costs show the rigid bonds, and the names over these are the clusters.
+use Rattle.std.proofs.Common.{◌≡◌, ◌↔◌, inl, inr, ℕ, ◌+◌, ◌<◌, ℤ, pos, negsuc, ◌-ℤ◌, ◌<ℤ◌, ◌≤ℤ◌, Bool, true, false, List, [], ◌∷◌, ◌++◌, length, get_or, sym, ◌∙◌, ap, ap₂, subst, arith}
 use Rattle.std.specs.Prelude.{IsTrue, unsigned_abs}
 use Rattle.std.proofs.lemmas.Int.{ints}
-use Rattle.std.proofs.lemmas.Bool.{cases_eq, cases_lt}
-use Rattle.std.proofs.lemmas.List.{get_or_append_left, get_or_push, length-replicate, length_push}
-use Rattle.sg_sums.specs.Sets.{IsMarked}
-use Rattle.sg_sums.proofs.MarkLaws.{none_marked}
-use Rattle.sg_model.specs.Ising.{Ising, bond_count}
-use Rattle.sg_model.specs.Energy.{energy}
-use Rattle.sg_model.specs.Connected.{JoinedBy, Reached}
-use Rattle.sg_model.proofs.Paths.{reached_back, reached_on}
-use Rattle.sg_walk.specs.Walk.{IsClosed, IsNoted, IsWalked, has}
-use Rattle.sg_walk.proofs.Searches.{marked_along, none_closed}
+use Rattle.std.proofs.lemmas.Bool.{cases_lt}
+use Rattle.std.proofs.lemmas.List.{get_or_append_left, get_or_push, length_push}
+use Rattle.sg_model.specs.Ising.{Ising}
+use Rattle.sg_walk.specs.Walk.{has}
 use Rattle.sg_bonds.specs.Cost.{AreCosts, IsCost, IsLeastWith, IsRigid}
-use Rattle.sg_bonds.specs.Cluster.{AreClusters, HasRigid, IsCluster}
-use Rattle.sg_bonds.specs.Naming.{AllNamed, IsNamed, NamedTo, ShowsRigid}
+use Rattle.sg_bonds.specs.Cluster.{AreClusters, HasRigid}
+use Rattle.sg_walk.specs.Naming.{AllNamed}
+use Rattle.sg_bonds.specs.Naming.{ShowsRigid}
 
 module _ (inst : Ising) (k : ℕ) where
   level : (x y : ℤ) → x ≤ℤ y → y ≤ℤ x → x ≡ y
@@ -62,69 +57,3 @@ shows_more costs set stop flag h test = record {
         (subst (λ i. (flag ≡ true) ↔ (pos 0 <ℤ get_or costs i (pos 0))) (sym same) test)
   ];
 }
-
--- before the first walk
-pub named_none : (inst : Ising) (set : ℕ → Bool) (names : List ℕ) → length names ≡ inst.n → NamedTo inst set (replicate inst.n false) names 0
-named_none inst set names count = record {
-  marks_count = length-replicate inst.n false;
-  names_count = count;
-  named = λ x h. absurd (none_marked inst.n x h);
-  closed = none_closed inst set inst.n;
-  done = λ x l. absurd (omega arith);
-}
-
-module _ (inst : Ising) (set : ℕ → Bool) (spin : ℕ) (old now : List Bool) (order before after : List ℕ) (was : NamedTo inst set old before spin) where
-  -- a spin that has a name needs no walk
-  pub named_before : IsMarked old spin → NamedTo inst set old before (spin + 1)
-  named_before here = record {
-    marks_count = was.marks_count;
-    names_count = was.names_count;
-    named = was.named;
-    closed = was.closed;
-    done = λ x l. elim (cases_eq x spin) [ inl e ↦ subst (IsMarked old) (sym e) here | inr ne ↦ was.done x (omega arith) ];
-  }
-
-  module _ (free : get_or old spin false ≡ false) (walk : IsWalked inst set spin old now order)
-      (given : (k : ℕ) → k < length order → get_or after (get_or order k 0) 0 ≡ spin)
-      (others : (x : ℕ) → ((k : ℕ) → k < length order → get_or order k 0 ≢ x) → get_or after x 0 ≡ get_or before x 0)
-      (count : length after ≡ length before) where
-    -- an old name stays
-    stays : (x : ℕ) → IsMarked old x → get_or after x 0 ≡ get_or before x 0
-    stays x h = others x (λ k l (e : get_or order k 0 ≡ x). let w : false ≡ true = sym (walk.fresh k l) ∙ ap (λ y. get_or old y false) e ∙ h in cc)
-
-    -- what a found spin reaches is no less than the root
-    root_least : (x j : ℕ) → Reached inst set spin x → Reached inst set x j → spin ≤ j
-    root_least x j r q = elim (cases_lt j spin) [
-      | inr past ↦ past
-      | inl l ↦
-          let back : Reached inst set j spin = reached_back inst set spin j (reached_on inst set spin x j r q) in
-          let w : false ≡ true = sym free ∙ marked_along inst set old was.closed j spin back (was.done j l) in
-          absurd (cc)
-    ]
-
-    named_now : (x : ℕ) → IsMarked old x ⊎ IsNoted order x → IsNamed inst set after x
-    named_now x (inl h) =
-        let name : get_or after x 0 ≡ get_or before x 0 = stays x h in
-        record {
-          reached = subst (Reached inst set x) (sym name) (was.named x h).reached;
-          least = λ j q. subst (λ y. y ≤ j) (sym name) ((was.named x h).least j q);
-        }
-    named_now x (inr (k, l, e)) =
-        let name : get_or after x 0 ≡ spin = ap (λ y. get_or after y 0) (sym e) ∙ given k l in
-        let found : Reached inst set spin x = subst (Reached inst set spin) e (walk.reached k l) in
-        record {
-          reached = subst (Reached inst set x) (sym name) (reached_back inst set spin x found);
-          least = λ j q. subst (λ y. y ≤ j) (sym name) (root_least x j found q);
-        }
-
-    pub named_more : NamedTo inst set now after (spin + 1)
-    named_more = record {
-      marks_count = walk.lengths ∙ was.marks_count;
-      names_count = count ∙ was.names_count;
-      named = λ x h. named_now x (walk.noted x h);
-      closed = walk.closed;
-      done = λ x l. elim (cases_eq x spin) [ inl e ↦ subst (IsMarked now) (sym e) walk.root_marked | inr ne ↦ walk.kept x (was.done x (omega arith)) ];
-    }
-
-pub all_named : (inst : Ising) (set : ℕ → Bool) (marks : List Bool) (names : List ℕ) (stop : ℕ) → inst.n ≤ stop → NamedTo inst set marks names stop → AllNamed inst set names
-all_named inst set marks names stop end h = record { count = h.names_count; each = λ x l. h.named x (h.done x (omega arith)) }

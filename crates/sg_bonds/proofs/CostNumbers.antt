@@ -1,5 +1,5 @@
 -- The cost of a bond, from the least energy with the product that a ground state does not have.
-use Rattle.std.proofs.Common.{◌≡◌, ◌⊎◌, inl, inr, ℕ, ◌+◌, ◌*◌, ◌<◌, ◌≤◌, ◌^◌, ℤ, pos, negsuc, neg_ℤ, ◌+ℤ◌, ◌-ℤ◌, ◌*ℤ◌, ◌≤ℤ◌, List, [], ◌∷◌, ◌++◌, length, get_or, refl, sym, ◌∙◌, ap, ap₂, subst, arith, Some, to_z, of_z, w64}
+use Rattle.std.proofs.Common.{◌≡◌, inl, inr, ℕ, ◌+◌, ◌*◌, ◌<◌, ◌≤◌, ◌^◌, ℤ, pos, negsuc, neg_ℤ, ◌+ℤ◌, ◌-ℤ◌, ◌*ℤ◌, ◌≤ℤ◌, List, [], ◌∷◌, ◌++◌, length, get_or, refl, sym, ◌∙◌, ap, ap₂, subst, arith, Some, to_z, of_z, w64}
 use Rattle.std.specs.Prelude.{FitsSigned, slice_get, unsigned_abs}
 use Rattle.std.proofs.lemmas.Int.{ints, fits_signed_from_abs, to_z-of_z}
 use Rattle.std.proofs.lemmas.Bool.{cases_lt}
@@ -9,7 +9,7 @@ use Rattle.sg_limits.specs.Limits.{sum_limit, forced_limit}
 use Rattle.sg_model.specs.declared.bond.Bond.{Bond}
 use Rattle.sg_model.specs.Ising.{Ising, bond_at, bond_count}
 use Rattle.sg_model.specs.WellFormed.{IsInstance}
-use Rattle.sg_model.specs.Spins.{IsUpOrDown, IsAssignment}
+use Rattle.sg_model.specs.Spins.{IsUpOrDown}
 use Rattle.sg_model.specs.Energy.{IsGroundState, IsLeastEnergy, energy, product, weight}
 use Rattle.sg_model.specs.Changes.{with_coupling}
 use Rattle.sg_model.proofs.EnergyBounds.{energy_size, least_of_ground_state}

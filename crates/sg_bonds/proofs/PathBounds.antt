@@ -1,7 +1,7 @@
 -- Bounds of costs: who turns a bond turns some bond of each path that joins its ends, so the bond costs at least as much as the
 -- cheapest bond of the path; and an assignment that turns it bounds its cost from above.
 use Rattle.std.proofs.Common.{◌≡◌, ◌≢◌, ◌⊎◌, inl, inr, ℕ, ◌<◌, Bool, true, false, ℤ, pos, negsuc, neg_ℤ, ◌+ℤ◌, ◌-ℤ◌, ◌≤ℤ◌, List, refl, sym, ◌∙◌, ap, subst, arith, length, set, get_or, replicate, [], ◌∷◌}
-use Rattle.std.specs.Prelude.{unsigned_abs, int_le}
+use Rattle.std.specs.Prelude.{unsigned_abs}
 use Rattle.std.proofs.lemmas.Bool.{cases_eq}
 use Rattle.std.proofs.lemmas.Int.{ints}
 use Rattle.std.proofs.lemmas.List.{get_or-set_same, get_or-set_other, length-set, get_or-replicate, length-replicate}
@@ -12,7 +12,7 @@ use Rattle.sg_model.specs.Energy.{IsGroundState, energy, product}
 use Rattle.sg_model.specs.Connected.{IsWalk, Reached}
 use Rattle.sg_sums.specs.Sets.{IsMarked}
 use Rattle.sg_walk.specs.Walk.{IsNoted, IsWalked}
-use Rattle.sg_bonds.specs.Cost.{IsCost, IsLeastWith}
+use Rattle.sg_bonds.specs.Cost.{IsCost}
 use Rattle.sg_bonds.specs.declared.known.Known.{Known}
 use Rattle.sg_bonds.specs.declared.known.Known.TheVariants.{Exact, AtMost, Nothing}
 use Rattle.sg_bonds.specs.Known.{AreKnown, IsMet, IsTrueOf, IsTurned, costs_at_least, is_at_least, known_at}

@@ -1,15 +1,12 @@
 -- Two ground states agree on the product at each rigid bond, and so on the product of two spins that rigid bonds join.
-use Rattle.std.proofs.Common.{◌≡◌, ◌⊎◌, inl, inr, ℕ, ◌<◌, Bool, true, ℤ, pos, negsuc, neg_ℤ, ◌-ℤ◌, ◌*ℤ◌, ◌<ℤ◌, ◌≤ℤ◌, List, [], ◌∷◌, refl, sym, ◌∙◌, ap, ap₂, subst, length, arith}
+use Rattle.std.proofs.Common.{◌≡◌, ◌⊎◌, inl, inr, ℕ, ◌<◌, Bool, ℤ, pos, negsuc, neg_ℤ, ◌-ℤ◌, ◌*ℤ◌, ◌<ℤ◌, ◌≤ℤ◌, List, sym, ◌∙◌, ap, subst, arith}
 use Rattle.std.specs.Prelude.{unsigned_abs}
-use Rattle.std.proofs.Math.IntN.{*ℤ_comm}
-use Rattle.std.proofs.lemmas.Bool.{cases_lt}
 use Rattle.std.proofs.lemmas.Int.{ints}
-use Rattle.std.proofs.lemmas.List.{get_or_past}
 use Rattle.sg_model.specs.Ising.{Ising, bond_at, bond_count}
 use Rattle.sg_model.specs.WellFormed.{IsInstance}
-use Rattle.sg_model.specs.Spins.{IsUpOrDown, IsAssignment, spin}
+use Rattle.sg_model.specs.Spins.{IsUpOrDown, spin}
 use Rattle.sg_model.specs.Energy.{IsGroundState, energy, product}
-use Rattle.sg_model.specs.Connected.{IsWalk, JoinedBy, Reached}
+use Rattle.sg_model.specs.Connected.{Reached}
 use Rattle.sg_bonds.specs.Cost.{IsCost, IsLeastWith, IsRigid}
 use Rattle.sg_bonds.specs.Cluster.{HasRigid, IsCluster}
 use Rattle.sg_bonds.proofs.Agreement.{Agree, Turns, agree_back, agree_or_turn, agree_through}

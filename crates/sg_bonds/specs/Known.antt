@@ -1,5 +1,5 @@
 -- What is known of the costs while they are found: bounds by assignments that turn a bond, and by paths of bonds.
-use Rattle.std.specs.Prelude.{◌≡◌, ℕ, ◌<◌, ℤ, pos, neg_ℤ, ◌+ℤ◌, ◌≤ℤ◌, ◌⊎◌, ⊤, Bool, true, false, int_le, List, length, slice_index_or}
+use Rattle.std.specs.Prelude.{◌≡◌, ℕ, ◌<◌, ℤ, pos, neg_ℤ, ◌+ℤ◌, ◌≤ℤ◌, ◌⊎◌, ⊤, Bool, false, int_le, List, length, slice_index_or}
 use Rattle.sg_model.specs.Ising.{Ising, bond_at, bond_count}
 use Rattle.sg_model.specs.Connected.{Reached}
 use Rattle.sg_model.specs.Spins.{IsAssignment}

@@ -1,16 +1,14 @@
-ghost use Rattle.std.specs.Prelude.{◌≡◌, ◌≢◌, ◌+◌, ◌<◌, ◌≤◌, ℕ, length, slice_index, All, IfOk, OnOk};
+ghost use Rattle.std.specs.Prelude.{◌≡◌, ◌≤◌, length, IfOk};
 ghost use Rattle.sg_limits.specs.Limits.{sum_limit};
-ghost use Rattle.sg_model.specs.Ising.{bond_count};
 ghost use Rattle.sg_model.specs.Energy.{weight};
-ghost use Rattle.sg_walk.specs.Walk.{has};
 ghost use Rattle.sg_bonds.specs.Cluster.{AreClusters};
-ghost use Rattle.sg_bonds.specs.Naming.{AllNamed, NamedTo, ShowsRigid};
+ghost use Rattle.sg_bonds.specs.Naming.{ShowsRigid};
 
 use super::NoMemory;
 use super::breaking::{costs, rigid};
-use sg_model::{ClusterList, Instance};
+use sg_model::ClusterList;
 use sg_planar::Planar;
-use sg_walk::walk;
+use sg_walk::names;
 use std::alloc::Global;
 
 /// For each spin the least spin of its cluster, those that it reaches over rigid bonds, itself
@@ -35,70 +33,6 @@ fn rigid_set(alloc: Global, costs: &[i64]) -> Result<Vec<bool>, NoMemory>
         set.push(rigid(*cost))?;
     }
     Ok(set)
-}
-
-// For each spin the least spin that it reaches over the bonds of the set.
-fn names(alloc: Global, inst: &Instance, set: &[bool]) -> Result<Vec<u32>, NoMemory>
-    requires { length set.now ≡ bond_count inst.now }
-    ensures { IfOk result (λ names. AllNamed inst.now (has set.now) names.items) }
-{
-    let mut marks = vec![in alloc; false; inst.n() as usize]?;
-    let mut names = vec![in alloc; 0u32; inst.n() as usize]?;
-    name_all(alloc, inst, set, &mut marks, &mut names)?;
-    Ok(names)
-}
-
-// Names all spins, over marks that are not set.
-fn name_all(
-    alloc: Global,
-    inst: &Instance,
-    set: &[bool],
-    marks: &mut [bool],
-    names: &mut [u32],
-) -> Result<(), NoMemory>
-    requires set_length { length set.now ≡ bond_count inst.now }
-    requires start { NamedTo inst.now (has set.now) marks.old names.old 0 }
-    ensures { OnOk result (AllNamed inst.now (has set.now) names.new) }
-{
-    let mut order = Vec::new(alloc);
-    for spin in 0..inst.n() {
-        name_from(inst, set, spin, marks, &mut order, names)?;
-    }
-    Ok(())
-}
-
-// Names the spins that this one reaches, unless it has a name.
-fn name_from(
-    inst: &Instance,
-    set: &[bool],
-    spin: u32,
-    marks: &mut [bool],
-    order: &mut Vec<u32>,
-    names: &mut [u32],
-) -> Result<(), NoMemory>
-    requires spin_in { spin < inst.now.n }
-    requires set_length { length set.now ≡ bond_count inst.now }
-    requires named { NamedTo inst.now (has set.now) marks.old names.old spin }
-    ensures { OnOk result (NamedTo inst.now (has set.now) marks.new names.new (spin + 1)) }
-{
-    if !marks[spin as usize] {
-        walk(inst, set, spin, marks, order)?;
-        give(order, spin, names);
-    }
-    Ok(())
-}
-
-// Gives the spins of the order one name.
-fn give(order: &[u32], name: u32, names: &mut [u32])
-    requires { All (λ x. x < length names.old) order.now }
-    ensures given { (k : ℕ) → k < length order.now →
-        slice_index names.new (slice_index order.now k) ≡ name }
-    ensures others { (x : ℕ) → ((k : ℕ) → k < length order.now → slice_index order.now k ≢ x) →
-        slice_index names.new x ≡ slice_index names.old x }
-{
-    for spin in order {
-        names[*spin as usize] = name;
-    }
 }
 
 // The names as a list of clusters.

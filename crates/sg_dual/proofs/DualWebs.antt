@@ -1,17 +1,20 @@
 -- The dual is a web: what its edges are, and what each web keeps.
-use Rattle.std.proofs.Common.{inl, inr, pos, cond, ◌≡◌, ℕ, ◌+◌, ◌*◌, ◌<◌, ◌≤◌, ◌^◌, map, get_or, All, List, [], ◌∷◌, ◌++◌, ap₂, ℤ, sym, ◌∙◌, ap, arith}
+use Rattle.std.proofs.Common.{inl, inr, pos, ◌≡◌, ℕ, ◌+◌, ◌*◌, ◌<◌, ◌≤◌, ◌^◌, map, get_or, All, List, [], ◌∷◌, ◌++◌, ap₂, ℤ, sym, ◌∙◌, ap, arith}
 use Rattle.std.specs.Prelude.{unsigned_abs, ◌≤ℤ◌}
 use Rattle.std.specs.List.{range_with_len}
 use Rattle.std.proofs.lemmas.List.FromFn.{length-map-range_with_len, get_or-map-range_with_len, map-range_with_len_more, length-range_with_len, get_or-range_with_len}
 use Rattle.std.proofs.lemmas.List.Elements.{All-map}
 use Rattle.std.proofs.lemmas.Int.{ints}
-use Rattle.std.proofs.lemmas.Bool.{cases_eq, eq-eqb}
+use Rattle.std.proofs.lemmas.Bool.{cases_eq}
 use Rattle.sg_model.specs.declared.bond.Bond.{Bond}
 use Rattle.sg_model.specs.Ising.{Ising, bond_at, bond_count}
 use Rattle.sg_model.specs.Rotation.{dart_count}
 use Rattle.sg_model.specs.Energy.{weight}
 use Rattle.sg_model.specs.WellFormed.{IsInstance}
+use Rattle.sg_model.specs.Connected.{IsConnected}
 use Rattle.sg_faces.specs.Faces.{faces_before, Labelling, IsFaceLabels}
+use Rattle.sg_faces.proofs.Traced.{label_below}
+use Rattle.sg_faces.proofs.BareSpins.{faces_alone, one_face}
 use Rattle.sg_graph.specs.declared.web.Edge.{Edge}
 use Rattle.sg_graph.specs.Web.{Graph, IsWeb, IsEdge, edge_at, edge_count, weight_at, total_weight}
 use Rattle.sg_graph.specs.Walk.{Leads}
@@ -56,21 +59,21 @@ module _ (inst : Ising) (faces : Labelling) where
   web_is nodes edges n e = ap₂ (λ n es. let g : Graph = record { nodes = n; edges = es } in g) n e
 
   module _ (labels : IsFaceLabels inst faces) where
-    -- without a bond there is one face
-    pub one_face_alone : bond_count inst ≡ 0 → faces.count ≡ 1
-    one_face_alone none = labels.counts ∙ ap (λ b. cond {A = ℕ} b 1 (faces_before inst (dart_count inst))) (eq-eqb (bond_count inst) 0 none)
+    -- a connected instance without a bond has one face
+    pub one_face_alone : IsInstance inst → IsConnected inst → bond_count inst ≡ 0 → faces.count ≡ 1
+    one_face_alone good whole none = labels.counts ∙ one_face inst good whole none
 
-    pub has_face : 1 ≤ faces.count
-    has_face = elim (cases_eq (bond_count inst) 0) [
-      | inl none ↦ omega (arith, one_face_alone none)
-      | inr some ↦ omega (arith, labels.below 0 (omega arith))
+    pub has_face : IsInstance inst → 1 ≤ faces.count
+    has_face good = elim (cases_eq (bond_count inst) 0) [
+      | inl none ↦ omega (arith, labels.counts, faces_alone inst none, good.has_spin)
+      | inr some ↦ omega (arith, label_below inst faces labels 0 (omega arith))
     ]
 
     dual_joined : All (IsEdge faces.count) (map (dual_edge inst faces) (range_with_len 0 (bond_count inst)))
     dual_joined = All-map (IsEdge faces.count) (dual_edge inst faces) (range_with_len 0 (bond_count inst)) at_place
       where
         is_edge : (k : ℕ) → k < bond_count inst → IsEdge faces.count (dual_edge inst faces k)
-        is_edge k l = record { first_end = labels.below (2 * k) (omega arith); second_end = labels.below (2 * k + 1) (omega arith); not_negative = size_positive (unsigned_abs (bond_at inst k).j) }
+        is_edge k l = record { first_end = label_below inst faces labels (2 * k) (omega arith); second_end = label_below inst faces labels (2 * k + 1) (omega arith); not_negative = size_positive (unsigned_abs (bond_at inst k).j) }
 
         at_place : All (λ k. IsEdge faces.count (dual_edge inst faces k)) (range_with_len 0 (bond_count inst))
         at_place i d l =
@@ -79,7 +82,7 @@ module _ (inst : Ising) (faces : Labelling) where
 
     pub dual_is_web : IsInstance inst → faces.count ≤ 2 ^ 24 → weight inst ≤ 2 ^ 60 → IsWeb (dual_web inst faces)
     dual_is_web good few light = record {
-      has_node = has_face;
+      has_node = has_face good;
       few_nodes = few;
       few_edges = omega (arith, dual_edge_count, good.few_bonds);
       joined = dual_joined;

@@ -7,7 +7,8 @@ use Rattle.sg_model.specs.WellFormed.{IsInstance}
 use Rattle.sg_model.specs.Connected.{JoinedBy, IsWalk, all_bonds}
 use Rattle.sg_model.specs.Connected.{IsConnected as IsConnectedInstance}
 use Rattle.sg_model.proofs.Darts.{tail_first, tail_second, rev_first, rev_second}
-use Rattle.sg_faces.specs.Faces.{Labelling, IsFaceLabels}
+use Rattle.sg_faces.specs.Faces.{faces_before, Labelling, IsFaceLabels}
+use Rattle.sg_faces.proofs.BareSpins.{faces_bonded}
 use Rattle.sg_model.proofs.DartPairs.{dart_cases, rev_rev, rev_below}
 use Rattle.sg_model.proofs.CyclicLists.{following_inner}
 use Rattle.sg_model.proofs.Rotations.{spin_distinct, in_list, tail_below, place_at, next_is, next_in_list}
@@ -102,8 +103,10 @@ module _ (inst : Ising) (faces : Labelling) where
     -- the dual of a connected instance is connected
     pub dual_connected : IsConnectedInstance inst → IsConnected (dual_web inst faces)
     dual_connected whole x l = elim (cases_eq (bond_count inst) 0) [
-      | inl none ↦ (let first : 0 ≡ x = omega (arith, one_face_alone inst faces labels none) in ([], first))
-      | inr some ↦ between (labels.used 0 (omega arith) (omega arith)) (labels.used x l (omega arith))
+      | inl none ↦ (let first : 0 ≡ x = omega (arith, one_face_alone inst faces labels good whole none) in ([], first))
+      | inr some ↦
+          let all : faces.count ≡ faces_before inst (dart_count inst) = labels.counts ∙ faces_bonded inst good whole (omega arith) in
+          between (labels.used 0 (omega (arith, l, all))) (labels.used x (omega (arith, l, all)))
     ]
       where
         between : ((d : ℕ) × (d < dart_count inst) × (face_of faces d ≡ 0)) → ((e : ℕ) × (e < dart_count inst) × (face_of faces e ≡ x)) → IsReached (dual_web inst faces) 0 x

@@ -1,11 +1,11 @@
 -- The frustrated faces: even in number, since each negative bond has two sides, and nodes of the dual that rise.
-use Rattle.std.proofs.Common.{◌≡◌, ℕ, zero, suc, ◌+◌, ◌*◌, ◌/◌, ◌%◌, ◌<◌, Bool, true, false, ◌&&◌, eqb, cond, refl, sym, ◌∙◌, ap, arith, ap₂, List, [], ◌∷◌, ◌++◌, length, count_by}
+use Rattle.std.proofs.Common.{◌≡◌, ℕ, ◌+◌, ◌*◌, ◌/◌, ◌%◌, ◌<◌, Bool, false, ◌&&◌, eqb, sym, ◌∙◌, ap, arith, List, length, count_by}
 use Rattle.std.specs.List.{range_with_len}
-use Rattle.std.proofs.lemmas.Bool.{eq-eqb, ne_eqb}
 use Rattle.std.proofs.lemmas.List.Sums.{length-filter}
 use Rattle.sg_model.specs.Ising.{Ising, bond_count}
 use Rattle.sg_model.specs.Rotation.{dart_count}
 use Rattle.sg_faces.specs.Faces.{Labelling, IsFaceLabels}
+use Rattle.sg_faces.proofs.Traced.{label_below}
 use Rattle.sg_graph.specs.Join.{AreTerminals}
 use Rattle.sg_sums.specs.Parity.{odd, parity_by, parity_below}
 use Rattle.sg_sums.specs.Sets.{chosen_below, is_marked}
@@ -50,7 +50,7 @@ module _ (inst : Ising) (faces : Labelling) where
     -- a dart lies on one face
     one_face : (d : ℕ) → d < dart_count inst → parity_below (λ f. is_negative_side f d) faces.count ≡ is_negative_bond inst (d / 2)
     one_face d l =
-        parity_below_pick (λ _. is_negative_bond inst (d / 2)) (face_of faces d) faces.count (labels.below d l)
+        parity_below_pick (λ _. is_negative_bond inst (d / 2)) (face_of faces d) faces.count (label_below inst faces labels d l)
 
     frustrated_even : parity_below (is_frustrated inst faces) faces.count ≡ false
     frustrated_even =

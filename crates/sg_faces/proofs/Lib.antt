@@ -5,3 +5,4 @@ pub mod OrbitWalks
 pub mod PhiTables
 pub mod Traced
 pub mod SameFaces
+pub mod BareSpins

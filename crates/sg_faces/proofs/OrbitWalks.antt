@@ -353,7 +353,7 @@ all_labelled table labels count limit move h all counted = record {
     one_label : (d e : ℕ) → d < length table → SameOrbit (entry table) d e → get_or labels d 0 ≡ get_or labels e 0
     one_label d e b (j, s) = sym (onward_all table labels count limit h move j d b (all d b)) ∙ ap (λ x. get_or labels x 0) s
 
-count_range_more : (p : ℕ → Bool) (n : ℕ) → count_by p (range_with_len 0 (n + 1)) ≡ count_by p (range_with_len 0 n) + cond (p n) 1 0
+pub count_range_more : (p : ℕ → Bool) (n : ℕ) → count_by p (range_with_len 0 (n + 1)) ≡ count_by p (range_with_len 0 n) + cond (p n) 1 0
 count_range_more p n =
     ap (sum_by (λ x. cond (p x) 1 0)) (sym (map-id (range_with_len 0 (n + 1))))
     ∙ sum_by-map-range_with_len_more (λ x. cond (p x) 1 0) (λ x. x) 0 n n (omega arith)

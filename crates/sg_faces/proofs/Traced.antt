@@ -1,14 +1,14 @@
 -- Labels of the orbits of the table of `phi` are labels of the faces.
-use Rattle.std.proofs.Common.{ap₂, ◌≡◌, ℕ, zero, suc, ◌<◌, ◌≤◌, Bool, cond, ◌&&◌, leb, List, [], ◌∷◌, refl, sym, ◌∙◌, ap, arith, length, get_or}
+use Rattle.std.proofs.Common.{ap₂, ◌≡◌, ℕ, zero, suc, ◌+◌, ◌<◌, ◌≤◌, Bool, cond, ◌&&◌, leb, List, [], ◌∷◌, refl, sym, ◌∙◌, ap, arith, length, get_or}
 use Rattle.std.specs.List.{range_with_len, list_all}
-use Rattle.std.proofs.lemmas.Bool.{ne_eqb, eq-eqb}
+use Rattle.std.proofs.lemmas.List.Sums.{count_by-le-length}
 use Rattle.std.proofs.lemmas.List.FromFn.{length-range_with_len, get_or-range_with_len}
 use Rattle.sg_sums.proofs.SumLaws.{sum_by-same}
-use Rattle.sg_model.specs.Ising.{Ising, bond_count}
+use Rattle.sg_model.specs.Ising.{Ising}
 use Rattle.sg_model.specs.Rotation.{dart_count}
 use Rattle.sg_model.specs.WellFormed.{IsInstance}
 use Rattle.sg_faces.specs.Orbits.{after_steps, SameOrbit, is_least_in, orbits_before, IsOneToOne}
-use Rattle.sg_faces.specs.Faces.{phi, is_least, faces_before, Labelling, SameFace, IsFaceLabels}
+use Rattle.sg_faces.specs.Faces.{bare_count, phi, is_least, faces_before, Labelling, SameFace, IsFaceLabels}
 use Rattle.sg_faces.specs.Tables.{entry, IsMove, is_least_of, least_before, IsOrbitLabels, IsPhiTable}
 use Rattle.sg_faces.proofs.PhiPermutes.{phi_one_to_one}
 
@@ -44,6 +44,15 @@ module _ (f g : ℕ → ℕ) (k : ℕ) (one : IsOneToOne g k) (same : (d : ℕ) 
       each : (i x : ℕ) → i < length (range_with_len 0 n) → cond {A = ℕ} (is_least_in f k (get_or (range_with_len 0 n) i x)) 1 0 ≡ cond (is_least_in g k (get_or (range_with_len 0 n) i x)) 1 0
       each i x b = at_number (get_or (range_with_len 0 n) i x) (omega (arith, length-range_with_len 0 n, get_or-range_with_len 0 n i x (omega (arith, length-range_with_len 0 n))))
 
+-- there are no more orbits than places
+pub orbits_few : (table labels : List ℕ) (count : ℕ) → IsOrbitLabels table labels count → count ≤ length table
+orbits_few table labels count h =
+    omega (arith, h.counts, count_by-le-length (is_least_of table) (range_with_len 0 (length table)), length-range_with_len 0 (length table))
+
+-- a label is a face
+pub label_below : (inst : Ising) (faces : Labelling) → IsFaceLabels inst faces → (d : ℕ) → d < dart_count inst → get_or faces.labels d 0 < faces.count
+label_below inst faces labels d l = (let low : get_or faces.labels d 0 < faces_before inst (dart_count inst) = labels.below d l in omega (arith, low, labels.counts))
+
 module _ (inst : Ising) (good : IsInstance inst) (table : List ℕ) (is : IsPhiTable inst table) where
   at_dart : (d : ℕ) → d < length table → entry table d ≡ phi inst d
   at_dart d l = is.entries d (omega (arith, is.lengths))
@@ -60,29 +69,22 @@ module _ (inst : Ising) (good : IsInstance inst) (table : List ℕ) (is : IsPhiT
   counted : (n : ℕ) → n ≤ dart_count inst → least_before table n ≡ faces_before inst n
   counted n l = orbits_before_same (entry table) (phi inst) (length table) one at_dart n (omega (arith, is.lengths)) ∙ ap (λ k. orbits_before (phi inst) k n) is.lengths
 
-  pub faces_from_orbits : (faces : Labelling) → IsOrbitLabels table faces.labels faces.count → 0 < bond_count inst → IsFaceLabels inst faces
-  faces_from_orbits faces h some = record {
+  -- the labels of the orbits, and the spins without a bond counted beside them
+  pub faces_from_orbits : (labels : List ℕ) (orbits count : ℕ) → IsOrbitLabels table labels orbits → count ≡ orbits + bare_count inst → IsFaceLabels inst (record { labels = labels; count = count })
+  faces_from_orbits labels orbits count h counts = record {
     lengths = h.lengths ∙ is.lengths;
-    below = λ d l. h.below d (omega (arith, is.lengths));
+    below = λ d l. (let low : get_or labels d 0 < orbits = h.below d (omega (arith, is.lengths)) in omega (arith, low, all));
     same = λ d e l m. ((λ s. there d e l ((h.same d e (omega (arith, is.lengths)) (omega (arith, is.lengths))).0 s)), (λ s. back d e l m s));
-    used = λ f l _. (let u : (d : ℕ) × (d < length table) × (get_or faces.labels d 0 ≡ f) = h.used f l in (u.0, omega (arith, u.1, is.lengths), u.2));
+    used = λ f l. (let u : (d : ℕ) × (d < length table) × (get_or labels d 0 ≡ f) = h.used f (omega (arith, l, all)) in (u.0, omega (arith, u.1, is.lengths), u.2));
     order = λ d l least. h.order d (omega (arith, is.lengths)) (least_same d l ∙ least) ∙ counted d (omega arith);
-    counts = h.counts ∙ ap (least_before table) is.lengths ∙ counted (dart_count inst) (omega arith) ∙ sym (ap (λ b. cond b 1 (faces_before inst (dart_count inst))) (ne_eqb (bond_count inst) 0 (λ (e : bond_count inst ≡ 0). omega arith)));
+    counts = counts ∙ ap (λ f. f + bare_count inst) all;
   }
     where
+      all : orbits ≡ faces_before inst (dart_count inst)
+      all = h.counts ∙ ap (least_before table) is.lengths ∙ counted (dart_count inst) (omega arith)
+
       there : (d e : ℕ) → d < dart_count inst → SameOrbit (entry table) d e → SameFace inst d e
       there d e l (j, s) = (j, sym (after_steps_same (entry table) (phi inst) (length table) one at_dart j d (omega (arith, is.lengths))) ∙ s)
 
-      back : (d e : ℕ) → d < dart_count inst → e < dart_count inst → SameFace inst d e → get_or faces.labels d 0 ≡ get_or faces.labels e 0
+      back : (d e : ℕ) → d < dart_count inst → e < dart_count inst → SameFace inst d e → get_or labels d 0 ≡ get_or labels e 0
       back d e l m (j, s) = (h.same d e (omega (arith, is.lengths)) (omega (arith, is.lengths))).1 (j, after_steps_same (entry table) (phi inst) (length table) one at_dart j d (omega (arith, is.lengths)) ∙ s)
-
--- without a bond there is one face and no dart
-pub no_darts : (inst : Ising) (faces : Labelling) → bond_count inst ≡ 0 → faces.labels ≡ [] → faces.count ≡ 1 → IsFaceLabels inst faces
-no_darts inst faces none no_labels one = record {
-  lengths = ap length no_labels ∙ omega arith;
-  below = λ d l. absurd (omega arith);
-  same = λ d e l m. absurd (omega arith);
-  used = λ f l some. absurd (omega arith);
-  order = λ d l least. absurd (omega arith);
-  counts = one ∙ sym (ap (λ b. cond {A = ℕ} b 1 (faces_before inst (dart_count inst))) (eq-eqb (bond_count inst) 0 none));
-}

@@ -1,6 +1,7 @@
 -- The faces of a rotation system (Heffter 1891, Edmonds 1960): the orbits of its darts, and labels of them.
-use Rattle.std.specs.Prelude.{◌≡◌, ℕ, ◌<◌, ◌==◌, ◌↔◌, Bool, true, if◌then◌else◌, List, length, slice_index}
-use Rattle.sg_model.specs.Ising.{Ising, bond_count}
+use Rattle.std.specs.Prelude.{◌≡◌, ℕ, ◌+◌, ◌<◌, ◌==◌, ◌||◌, ◌↔◌, Bool, true, not, List, length, slice_index, count_by}
+use Rattle.std.specs.List.{list_all, range_with_len}
+use Rattle.sg_model.specs.Ising.{Ising}
 use Rattle.sg_model.specs.Rotation.{dart_count, next, rev}
 use Rattle.sg_faces.specs.Orbits.{after_steps, SameOrbit, is_least_in, orbits_before}
 
@@ -24,22 +25,30 @@ is_least inst d = is_least_in (phi inst) (dart_count inst) d
 abbrev pub faces_before : Ising → ℕ → ℕ
 faces_before inst d = orbits_before (phi inst) (dart_count inst) d
 
--- each face has one least dart; round the spins of an instance without a bond lies one face
+-- no bond ends at spin i
+abbrev pub is_bare : Ising → ℕ → Bool
+is_bare inst i = list_all (λ b. not ((b.u == i) || (b.v == i))) inst.bonds
+
+-- how many spins have no bond
+abbrev pub bare_count : Ising → ℕ
+bare_count inst = count_by (is_bare inst) (range_with_len 0 inst.n)
+
+-- each orbit of darts has one least dart, and round a spin without a bond lies one face
 abbrev pub face_count : Ising → ℕ
-face_count inst = if bond_count inst == 0 then 1 else faces_before inst (dart_count inst)
+face_count inst = faces_before inst (dart_count inst) + bare_count inst
 
 -- a label for each dart, and the number of labels
 pub record Labelling : Type 0 where
   pub labels : List ℕ
   pub count : ℕ
 
--- the labels of the faces: one for the darts of each face, in the order of the faces' least darts
+-- the labels of the orbits, in the order of their least darts, and the number of faces
 pub record IsFaceLabels (inst : Ising) (faces : Labelling) : Type 0 where
   pub lengths : length faces.labels ≡ dart_count inst
-  pub below : (d : ℕ) → d < dart_count inst → slice_index faces.labels d < faces.count
+  pub below : (d : ℕ) → d < dart_count inst → slice_index faces.labels d < faces_before inst (dart_count inst)
   pub same : (d e : ℕ) → d < dart_count inst → e < dart_count inst →
       (slice_index faces.labels d ≡ slice_index faces.labels e) ↔ SameFace inst d e
-  pub used : (f : ℕ) → f < faces.count → 0 < bond_count inst →
+  pub used : (f : ℕ) → f < faces_before inst (dart_count inst) →
       (d : ℕ) × (d < dart_count inst) × (slice_index faces.labels d ≡ f)
   pub order : (d : ℕ) → d < dart_count inst → is_least inst d ≡ true → slice_index faces.labels d ≡ faces_before inst d
   pub counts : faces.count ≡ face_count inst

@@ -14,3 +14,5 @@ pub mod Recoupled
 pub mod BrokenParity
 pub mod EnergyBounds
 pub mod CoupledEnergy
+pub mod LeastSpins
+pub mod SamePaths

@@ -1,7 +1,7 @@
 -- Walks over bonds: one behind another and turned round, and darts as their steps.
 use Rattle.std.proofs.Common.{inl, inr, ◌≡◌, ◌⊎◌, ℕ, ◌+◌, ◌*◌, ◌/◌, ◌<◌, Bool, true, List, [], ◌∷◌, ◌++◌, refl, sym, subst, ◌∙◌, ap, arith}
 use Rattle.sg_model.specs.Ising.{Ising, bond_count}
-use Rattle.sg_model.specs.Rotation.{dart_count, rev, tail, head_of}
+use Rattle.sg_model.specs.Rotation.{dart_count, tail, head_of}
 use Rattle.sg_model.specs.Connected.{HasEnds, JoinedBy, IsWalk, Reached}
 use Rattle.sg_model.proofs.Darts.{tail_first, tail_second, rev_first, rev_second}
 use Rattle.sg_model.proofs.DartPairs.{dart_cases}

@@ -4,8 +4,9 @@ use Rattle.std.specs.Prelude.{unsigned_abs}
 use Rattle.std.specs.List.{range_with_len}
 use Rattle.std.proofs.lemmas.Bool.{cases_lt, cases_eq, eq-eqb, ne_eqb}
 use Rattle.std.proofs.lemmas.Int.{ints}
-use Rattle.std.proofs.lemmas.List.{get_or_past, get_or-set_same, get_or-set_other, length-set, take_more}
-use Rattle.std.proofs.lemmas.List.Elements.{All-from_get_or}
+use Rattle.std.proofs.lemmas.List.{get_or_past, get_or-set_same, get_or-set_other, length-map, length-set, take_more}
+use Rattle.std.proofs.Math.ListN.{get_or-map}
+use Rattle.std.proofs.lemmas.List.Elements.{All-from_get_or, All-map}
 use Rattle.std.proofs.lemmas.List.FromFn.{get_or-map-range_with_len, length-map-range_with_len, map-range_with_len_more}
 use Rattle.sg_model.specs.declared.bond.Bond.{Bond}
 use Rattle.sg_model.specs.Ising.{Ising, IsBond, bond_at, bond_count}
@@ -63,6 +64,18 @@ module _ (inst : Ising) where
           let h : unsigned_abs (cond (holds inst.seam k) (opposite (bond_at inst k)) (bond_at inst k)).j < 2 ^ 63 =
           sized (holds inst.seam k) (bond_at inst k) (joined k no_bond l).size in
           omega (arith, ap (λ (b : Bond). unsigned_abs b.j) (at k l))
+
+  -- every sign is changed
+  pub negated_ends : All (IsBond inst.n) inst.bonds → HasSameEnds inst (map opposite inst.bonds)
+  negated_ends joined = record {
+    count = length-map inst.bonds opposite;
+    first = λ k. ap (λ (b : Bond). b.u) (at_opposite k);
+    second = λ k. ap (λ (b : Bond). b.v) (at_opposite k);
+    sizes = All-map (λ b. unsigned_abs b.j < 2 ^ 63) opposite inst.bonds (λ k d l. size_opposite (get_or inst.bonds k d) (joined k d l).size);
+  }
+    where
+      at_opposite : (k : ℕ) → get_or (map opposite inst.bonds) k no_bond ≡ opposite (bond_at inst k)
+      at_opposite k = get_or-map opposite inst.bonds k no_bond
 
   module _ (bond : ℕ) (z : ℤ) (within : bond < bond_count inst) where
     long : length (with_coupling inst bond z).bonds ≡ bond_count inst

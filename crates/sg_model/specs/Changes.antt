@@ -29,6 +29,10 @@ flipped_at inst k = if holds inst.seam k then opposite (bond_at inst k) else bon
 abbrev pub with_seam_flipped : Ising → Ising
 with_seam_flipped inst = with_bonds inst (map (flipped_at inst) (range_with_len 0 (bond_count inst)))
 
+-- the sign of every coupling changed, and nothing else
+abbrev pub negated : Ising → Ising
+negated inst = with_bonds inst (map opposite inst.bonds)
+
 -- the coupling of bond k changed, and nothing else
 abbrev pub with_coupling : Ising → ℕ → ℤ → Ising
 with_coupling inst k z = with_bonds inst (slice_set inst.bonds k (recoupled (bond_at inst k) z))

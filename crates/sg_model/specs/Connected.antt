@@ -1,6 +1,9 @@
--- Spins that paths of bonds join.
-use Rattle.std.specs.Prelude.{◌≡◌, ◌⊎◌, ℕ, ◌<◌, Bool, true, List, [], ◌∷◌}
+-- Spins that paths of bonds join, and the components that they form.
+use Rattle.std.specs.Prelude.{◌≡◌, ◌⊎◌, ◌↔◌, ℕ, ◌<◌, ◌≤◌, ℤ, pos, Bool, true, List, [], ◌∷◌}
+use Rattle.std.specs.List.Sorted.{IsStrictlyIncreasing}
+use Rattle.sg_sums.specs.Sets.{holds}
 use Rattle.sg_model.specs.Ising.{Ising, bond_at, bond_count}
+use Rattle.sg_model.specs.Spins.{spin}
 
 -- bond k leads from spin a to spin b
 abbrev pub HasEnds : Ising → ℕ → ℕ → ℕ → Type 0
@@ -30,8 +33,15 @@ all_bonds _ = true
 abbrev pub IsConnected : Ising → Type 0
 IsConnected inst = (i : ℕ) → i < inst.n → Reached inst all_bonds 0 i
 
--- the least spin that is not reached from spin 0
-pub record IsLeastUnreached (inst : Ising) (i : ℕ) : Type 0 where
-  pub below : i < inst.n
-  pub unreached : Reached inst all_bonds 0 i → ⊥
-  pub earlier : (k : ℕ) → k < i → Reached inst all_bonds 0 k
+-- no spin that i reaches is less
+abbrev pub IsLeastReached : Ising → ℕ → Type 0
+IsLeastReached inst i = (j : ℕ) → Reached inst all_bonds i j → i ≤ j
+
+-- the least spin of each component, rising; a component is what one spin reaches
+pub record AreLeasts (inst : Ising) (leasts : List ℕ) : Type 0 where
+  pub rising : IsStrictlyIncreasing leasts
+  pub each : (i : ℕ) → (holds leasts i ≡ true) ↔ ((i < inst.n) × IsLeastReached inst i)
+
+-- the least spin of each component is up
+abbrev pub LeastsUp : Ising → List ℤ → Type 0
+LeastsUp inst s = (i : ℕ) → i < inst.n → IsLeastReached inst i → spin s i ≡ pos 1

@@ -3,7 +3,7 @@ ghost use Rattle.sg_model.specs.Ising.{IsBond, bond_count};
 ghost use Rattle.sg_model.specs.WellFormed.{IsInstance};
 ghost use Rattle.sg_model.specs.Faults.{IsFaultOf};
 ghost use Rattle.sg_sums.specs.Sets.{holds, is_marked};
-ghost use Rattle.sg_model.specs.Changes.{HasSameEnds, opposite, recoupled, with_bonds, with_coupling, with_seam, with_seam_flipped};
+ghost use Rattle.sg_model.specs.Changes.{HasSameEnds, negated, opposite, recoupled, with_bonds, with_coupling, with_seam, with_seam_flipped};
 ghost use Rattle.sg_model.specs.Energy.{energy, product, weight as weight_of};
 
 use super::draft::Draft;
@@ -150,6 +150,17 @@ impl Instance {
         let mut bonds = Bonds::new(self.bonds.allocator());
         for (k, bond) in self.bonds.as_slice().iter().enumerate() {
             bonds.push(flipped_if(*bond, on_seam[k]))?;
+        }
+        self.with_bonds(bonds)
+    }
+
+    /// A copy in which the sign of every coupling is changed, in time linear in the bonds and darts.
+    pub fn negated(&self) -> Result<Instance, NoMemory>
+        ensures { IfOk result (λ copy. copy ≡ negated self.now) }
+    {
+        let mut bonds = Bonds::new(self.bonds.allocator());
+        for bond in self.bonds.as_slice() {
+            bonds.push(flipped_if(*bond, true))?;
         }
         self.with_bonds(bonds)
     }

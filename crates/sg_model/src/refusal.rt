@@ -45,10 +45,8 @@ pub enum Refusal {
     /// Number 13: the sum of the couplings' sizes is above the limit.
     #[error("SumTooLarge")]
     SumTooLarge { sum: i128 },
-    /// Number 14: this spin, the least such, is not reached from spin 0 over bonds.
-    #[error("NotConnected")]
-    NotConnected { spin: u32 },
-    /// Number 15: the Euler number, spins minus bonds plus faces, is not 2.
+    /// Number 15: the Euler number, spins minus bonds plus faces and less two for each component but
+    /// one, is not 2. Number 14 is not in use.
     #[error("NotPlanar")]
     NotPlanar { euler: i64 },
     /// Number 16: a domain wall is asked for, and the seam is empty.
@@ -67,6 +65,15 @@ pub enum Refusal {
     /// Number 20: a JSON input has more bytes than the limit.
     #[error("JsonTooLong")]
     JsonTooLong { limit: u64 },
+    /// Number 21: the number of terminals is odd.
+    #[error("OddTerminals")]
+    OddTerminals { count: u32 },
+    /// Number 22: this terminal, the first such, is not a node or stands earlier too.
+    #[error("BadTerminal")]
+    BadTerminal { node: u32 },
+    /// Number 23: this node, the least such, is not reached from node 0.
+    #[error("NotJoined")]
+    NotJoined { node: u32 },
 }
 
 /// Why a call that reads or builds an instance has none to give.

@@ -110,25 +110,7 @@ module _ (inst : Ising) (good : IsInstance inst) where
   -- labels of the faces are such numbers
   pub labels_number : (faces : Labelling) → IsFaceLabels inst faces → AreFaceNumbers inst (λ d. get_or faces.labels d 0) (faces_before inst (dart_count inst))
   labels_number faces labels = record {
-    below = λ d l. below d l (least_dart d l);
+    below = labels.below;
     along = λ d l. sym ((labels.same d (phi inst d) l (phi_below inst good d l)).1 (1, refl));
-    used = λ f l. used f (at_rank (is_least inst) f (dart_count inst) (omega (arith, counted (dart_count inst))));
+    used = labels.used;
   }
-    where
-      counted : (n : ℕ) → faces_before inst n ≡ rank (is_least inst) n
-      counted n = sum_by_range (λ k. cond (is_least inst k) 1 0) n
-
-      below : (d : ℕ) → d < dart_count inst → Least d → get_or faces.labels d 0 < faces_before inst (dart_count inst)
-      below d l r =
-          omega (
-            arith,
-            (labels.same d r.dart l r.below).1 r.same,
-            labels.order r.dart r.below r.least,
-            counted r.dart,
-            counted (dart_count inst),
-            rank_less (is_least inst) r.dart (dart_count inst) r.below r.least,
-          )
-
-      used : (f : ℕ) → ((r : ℕ) × (r < dart_count inst) × (is_least inst r ≡ true) × (rank (is_least inst) r ≡ f)) →
-          (d : ℕ) × (d < dart_count inst) × (get_or faces.labels d 0 ≡ f)
-      used f (r, b, h, e) = (r, b, labels.order r b h ∙ counted r ∙ e)

@@ -1,7 +1,7 @@
 -- Planar duality over the definitions: a list of bonds that fits the faces is the list of broken bonds of an assignment.
 use Rattle.std.proofs.Common.{inl, inr, ap₂, ◌≡◌, ℕ, ◌+◌, ◌*◌, ◌/◌, ◌%◌, ◌<◌, ℤ, pos, Bool, true, false, cond, ◌&&◌, eqb, List, refl, sym, ◌∙◌, ap, arith, get_or}
 use Rattle.std.specs.List.{range_with_len}
-use Rattle.std.proofs.lemmas.Bool.{cases_eq, ne_eqb}
+use Rattle.std.proofs.lemmas.Bool.{cases_eq}
 use Rattle.sg_sums.specs.Parity.{xor, odd, parity_below}
 use Rattle.sg_sums.specs.Sets.{holds}
 use Rattle.sg_sums.specs.Ends.{is_end}
@@ -19,13 +19,14 @@ use Rattle.sg_model.proofs.BrokenEnergy.{unit_ends}
 use Rattle.sg_model.proofs.BrokenParity.{is_down, is_broken_xor}
 use Rattle.sg_faces.specs.Faces.{Labelling, IsFaceLabels, face_count, faces_before}
 use Rattle.sg_faces.specs.Sides.{sides_on}
-use Rattle.sg_faces.specs.Euler.{euler}
+use Rattle.sg_faces.specs.Euler.{IsEuler}
+use Rattle.sg_faces.proofs.BareSpins.{faces_bonded}
 use Rattle.sg_planar.specs.BrokenLists.{FitsFaces, BreaksExactly}
 use Rattle.sg_planar.specs.Following.{is_unlike, Follows}
 use Rattle.sg_planar.proofs.PlanarDuality.{planar_duality, CutBy}
 use Rattle.sg_planar.proofs.FaceNumbers.{AreFaceNumbers, labels_number}
 use Rattle.sg_planar.proofs.RotationSums.{numbered_embedding, spins_connected}
-use Rattle.sg_planar.proofs.EulerBounds.{euler_sum}
+use Rattle.sg_planar.proofs.EulerBounds.{connected_sum}
 
 -- the face on the side of dart d
 abbrev pub face_at : Labelling → ℕ → ℕ
@@ -77,7 +78,7 @@ module _ (inst : Ising) (good : IsInstance inst) where
       (ap₂ xor (same (bond_at inst k).u bond.first_end) (same (bond_at inst k).v bond.second_end) ∙ sym (follows.across k l))
       ∙ undone (is_negative (bond_at inst k)) (holds list k)
 
-  module _ (faces : Labelling) (labels : IsFaceLabels inst faces) (connected : IsConnected inst) (genus_zero : euler inst ≡ pos 2)
+  module _ (faces : Labelling) (labels : IsFaceLabels inst faces) (connected : IsConnected inst) (genus_zero : IsEuler inst (pos 2))
       (list : List ℕ) (fits : FitsFaces inst faces list) where
     abbrev near : ℕ → ℕ
     near k = face_at faces (2 * k)
@@ -107,9 +108,8 @@ module _ (inst : Ising) (good : IsInstance inst) where
       where
         cut : 0 < bond_count inst → CutBy (bond_count inst) (tail inst) (is_unlike inst list)
         cut some =
-            let sum : inst.n + face_count inst ≡ bond_count inst + 2 = euler_sum inst.n (face_count inst) (bond_count inst) genus_zero in
-            let all : face_count inst ≡ faces_before inst (dart_count inst) =
-            ap (λ b. cond {A = ℕ} b 1 (faces_before inst (dart_count inst))) (ne_eqb (bond_count inst) 0 (λ (e : bond_count inst ≡ 0). omega arith)) in
+            let sum : inst.n + face_count inst ≡ bond_count inst + 2 = connected_sum inst good connected genus_zero in
+            let all : face_count inst ≡ faces_before inst (dart_count inst) = faces_bonded inst good connected some in
             let numbers : AreFaceNumbers inst (face_at faces) (faces_before inst (dart_count inst)) = labels_number inst good faces labels in
             let face : face_at faces 0 < faces_before inst (dart_count inst) = numbers.below 0 (omega arith) in
             planar_duality inst.n (bond_count inst) (faces_before inst (dart_count inst)) (tail inst) (next inst) (face_at faces)

@@ -13,7 +13,7 @@ use Rattle.sg_sums.proofs.MarkLaws.{none_free}
 use Rattle.sg_model.specs.Ising.{Ising, bond_at, bond_count}
 use Rattle.sg_model.specs.Rotation.{dart_count, darts_of, head_of, tail}
 use Rattle.sg_model.specs.WellFormed.{IsInstance}
-use Rattle.sg_model.specs.Connected.{all_bonds}
+use Rattle.sg_model.specs.Connected.{IsConnected, all_bonds}
 use Rattle.sg_model.specs.Spins.{IsAssignment, IsUpOrDown, spin}
 use Rattle.sg_model.specs.Broken.{is_negative}
 use Rattle.sg_model.proofs.Darts.{tail_first, tail_second, rev_first, rev_second}
@@ -207,12 +207,12 @@ module _ (inst : Ising) (down : List Bool) (lengths : length down ≡ inst.n) wh
     breaks_from_follows inst good list t follows (map value_of down) values_assigned (λ x l. value_down x l ∙ right x l),
   )
 
--- so in the plane the walked spins break exactly the bonds of a list that fits the faces
-pub walked_spins : (p : Embedding) → IsPlanar p → (list : List ℕ) → FitsFaces p.instance p.faces list → (unlike down : List Bool) →
+-- so in the plane, where the instance is connected, the walked spins break exactly the bonds of a list that fits the faces
+pub walked_spins : (p : Embedding) → IsPlanar p → IsConnected p.instance → (list : List ℕ) → FitsFaces p.instance p.faces list → (unlike down : List Bool) →
     ((k : ℕ) → k < bond_count p.instance → is_marked unlike k ≡ is_unlike p.instance list k) → TellsDown p.instance (is_marked unlike) down →
     (spin (map value_of down) 0 ≡ pos 1) × BreaksExactly p.instance (map value_of down) list
-walked_spins p h list fits unlike down marks told =
+walked_spins p h connected list fits unlike down marks told =
     let t : (t : ℕ → Bool) × Follows p.instance (is_unlike p.instance list) t =
-    fitting_follows p.instance h.instance p.faces h.faces h.connected h.genus_zero list fits in
+    fitting_follows p.instance h.instance p.faces h.faces connected h.genus_zero list fits in
     values_break p.instance down told.lengths list h.instance t.0 t.1
     (told.right t.0 (record { first_up = t.1.first_up; across = λ k l. marks k l ∙ t.1.across k l }))

@@ -1,5 +1,4 @@
 pub mod OtherCouplings
-pub mod WalkFromFirst
 pub mod GrowingSets
 pub mod SpanningTrees
 pub mod Embeddings

@@ -1,5 +1,5 @@
 -- Other couplings on the same bonds leave an instance planar, while their sum stays bounded.
-use Rattle.std.proofs.Common.{⊎_elim, inl, inr, ◌≡◌, ℕ, ℤ, ◌+◌, ◌<◌, ◌≤◌, Bool, true, false, cond, pos, List, [], ◌∷◌, map, refl, sym, ◌∙◌, ap, arith, get_or, set, sum_by}
+use Rattle.std.proofs.Common.{◌≡◌, ℕ, ℤ, ◌+◌, ◌<◌, ◌≤◌, Bool, true, false, cond, pos, List, map, refl, sym, ◌∙◌, ap, arith, get_or, set, sum_by}
 use Rattle.std.specs.Prelude.{unsigned_abs}
 use Rattle.std.specs.List.{range_with_len}
 use Rattle.std.proofs.lemmas.Int.{ints}
@@ -7,16 +7,16 @@ use Rattle.std.proofs.lemmas.List.{get_or-set_same, length-set}
 use Rattle.std.proofs.lemmas.List.FromFn.{get_or-map-range_with_len, length-map-range_with_len}
 use Rattle.std.proofs.lemmas.List.Sums.{get_or-le-sum_by, sum_by-set}
 use Rattle.sg_sums.specs.Sums.{sum_below}
+use Rattle.sg_sums.proofs.ListLaws.{sum_by-agree, sum_by-map_of}
 use Rattle.sg_sums.proofs.SumLaws.{sum_by_is_sum_below, sum_below-same}
 use Rattle.sg_model.specs.declared.bond.Bond.{Bond}
 use Rattle.sg_model.specs.Ising.{Ising, bond_at, bond_count}
 use Rattle.sg_model.specs.Energy.{weight}
 use Rattle.sg_sums.specs.Sets.{holds}
-use Rattle.sg_model.specs.Connected.{JoinedBy, IsWalk, Reached, IsConnected, all_bonds}
-use Rattle.sg_model.specs.Changes.{HasSameEnds, flipped_at, opposite, recoupled, with_bonds, with_coupling, with_seam_flipped}
+use Rattle.sg_model.specs.Changes.{HasSameEnds, flipped_at, negated, opposite, recoupled, with_bonds, with_coupling, with_seam_flipped}
 use Rattle.sg_model.proofs.SameEnds.{recoupled_instance}
-use Rattle.sg_model.proofs.Recoupled.{flipped_ends, coupling_ends}
-use Rattle.sg_faces.proofs.SameFaces.{euler_same, faces_same}
+use Rattle.sg_model.proofs.Recoupled.{flipped_ends, negated_ends, coupling_ends}
+use Rattle.sg_faces.proofs.SameFaces.{is_euler_same, faces_same}
 use Rattle.sg_limits.specs.Limits.{forced_limit}
 use Rattle.sg_planar.specs.Fit.{Embedding, IsPlanar}
 
@@ -26,29 +26,11 @@ no_bond = record { u = 0; v = 0; j = pos 0 }
 abbrev size : Bond → ℕ
 size b = unsigned_abs b.j
 
-module _ (inst : Ising) (bonds : List Bond) (same : HasSameEnds inst bonds) where
-  joined_same : (set : ℕ → Bool) (a b : ℕ) → JoinedBy inst set a b → JoinedBy (with_bonds inst bonds) set a b
-  joined_same set a b j = record {
-    bond = j.bond;
-    below = omega (arith, j.below, same.count);
-    in_set = j.in_set;
-    ends = ⊎_elim (λ (e : ((bond_at inst j.bond).u ≡ a) × ((bond_at inst j.bond).v ≡ b)). inl (same.first j.bond ∙ e.0, same.second j.bond ∙ e.1))
-        (λ (e : ((bond_at inst j.bond).u ≡ b) × ((bond_at inst j.bond).v ≡ a)). inr (same.first j.bond ∙ e.0, same.second j.bond ∙ e.1)) j.ends;
-  }
-
-  walk_same : (set : ℕ → Bool) (path : List ℕ) (a b : ℕ) → IsWalk inst set a path b → IsWalk (with_bonds inst bonds) set a path b
-  walk_same set [] a b w = w
-  walk_same set (c ∷ cs) a b w = (joined_same set a c w.0, walk_same set cs c b w.1)
-
-  connected_same : IsConnected inst → IsConnected (with_bonds inst bonds)
-  connected_same h i l = let r : Reached inst all_bonds 0 i = h i l in (r.0, walk_same all_bonds r.0 0 i r.1)
-
 pub planar_recoupled : (p : Embedding) (bonds : List Bond) → IsPlanar p → HasSameEnds p.instance bonds → weight (with_bonds p.instance bonds) ≤ forced_limit → IsPlanar (record { instance = with_bonds p.instance bonds; faces = p.faces })
 planar_recoupled p bonds h same small = record {
   instance = recoupled_instance p.instance bonds same h.instance;
   faces = faces_same p.instance bonds same h.instance p.faces h.faces;
-  connected = connected_same p.instance bonds same h.connected;
-  genus_zero = euler_same p.instance bonds same h.instance ∙ h.genus_zero;
+  genus_zero = is_euler_same p.instance bonds same h.instance (pos 2) h.genus_zero;
   sum = small;
 }
 
@@ -76,6 +58,13 @@ weight_flipped inst =
 pub planar_flipped : (p : Embedding) → IsPlanar p → IsPlanar (record { instance = with_seam_flipped p.instance; faces = p.faces })
 planar_flipped p h =
     planar_recoupled p (with_seam_flipped p.instance).bonds h (flipped_ends p.instance h.instance.joined) (omega (arith, weight_flipped p.instance, h.sum))
+
+weight_negated : (inst : Ising) → weight (negated inst) ≡ weight inst
+weight_negated inst = sum_by-map_of size opposite inst.bonds ∙ sum_by-agree (λ b. size (opposite b)) size inst.bonds size_opposite
+
+pub planar_negated : (p : Embedding) → IsPlanar p → IsPlanar (record { instance = negated p.instance; faces = p.faces })
+planar_negated p h =
+    planar_recoupled p (map opposite p.instance.bonds) h (negated_ends p.instance h.instance.joined) (omega (arith, weight_negated p.instance, h.sum))
 
 -- the new coupling comes into the sum in place of the old
 pub weight_coupled : (inst : Ising) (bond : ℕ) (z : ℤ) → bond < bond_count inst → weight (with_coupling inst bond z) + unsigned_abs (bond_at inst bond).j ≡ weight inst + unsigned_abs z

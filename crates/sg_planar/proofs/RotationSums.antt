@@ -17,8 +17,6 @@ use Rattle.sg_model.specs.Connected.{JoinedBy, IsWalk, Reached, IsConnected, all
 use Rattle.sg_model.proofs.Darts.{tail_first, tail_second, rev_first, rev_second}
 use Rattle.sg_model.proofs.CyclicLists.{following_at}
 use Rattle.sg_model.proofs.Rotations.{spin_distinct, in_list, tail_below, place_of, next_is, next_in_list}
-use Rattle.sg_faces.specs.Faces.{phi, Labelling, IsFaceLabels}
-use Rattle.sg_faces.proofs.PhiPermutes.{phi_below}
 use Rattle.sg_planar.proofs.FaceNumbers.{AreFaceNumbers}
 use Rattle.sg_planar.proofs.Embeddings.{IsEmbedding, SpinsConnected}
 
@@ -123,16 +121,6 @@ module _ (inst : Ising) (good : IsInstance inst) where
     face_below = numbers.below;
     face_used = numbers.used;
   }
-
-  -- and so do labelled ones, where there is a bond
-  pub embedding : (faces : Labelling) → 0 < bond_count inst → IsFaceLabels inst faces →
-      IsEmbedding inst.n (bond_count inst) faces.count (tail inst) (next inst) (λ d. get_or faces.labels d 0)
-  embedding faces some labels =
-      numbered_embedding (λ d. get_or faces.labels d 0) faces.count (record {
-        below = labels.below;
-        along = λ d l. sym ((labels.same d (phi inst d) l (phi_below inst good d l)).1 (1, refl));
-        used = λ f l. labels.used f l some;
-      })
 
   -- the walks of a connected instance reach every spin
   pub spins_connected : IsConnected inst → SpinsConnected inst.n (bond_count inst) (tail inst)

@@ -1,28 +1,25 @@
--- Fit for the planar method: a sum within the limit, connected, and of genus zero by Euler's formula.
+-- Fit for the planar method: a sum within the limit, and of genus zero by Euler's formula.
 use Rattle.std.specs.Prelude.{◌≡◌, ◌≢◌, ◌<◌, ◌≤◌, pos}
 use Rattle.sg_model.specs.declared.refusal.Fault.{Fault}
 use Rattle.sg_model.specs.declared.refusal.Fault.TheVariants.{Refused, NoMemory}
 use Rattle.sg_model.specs.declared.refusal.Refusal.{Refusal}
-use Rattle.sg_model.specs.declared.refusal.Refusal.TheVariants.{SumTooLarge, NotConnected, NotPlanar}
+use Rattle.sg_model.specs.declared.refusal.Refusal.TheVariants.{SumTooLarge, NotPlanar}
 use Rattle.sg_model.specs.Ising.{Ising}
 use Rattle.sg_model.specs.WellFormed.{IsInstance}
 use Rattle.sg_model.specs.Energy.{weight}
-use Rattle.sg_model.specs.Connected.{IsConnected, IsLeastUnreached}
 use Rattle.sg_faces.specs.Faces.{Labelling, IsFaceLabels}
-use Rattle.sg_faces.specs.Euler.{euler}
+use Rattle.sg_faces.specs.Euler.{IsEuler}
 use Rattle.sg_limits.specs.Limits.{sum_limit, forced_limit}
 
--- the three facts that every planar solver asks for
+-- the two facts that every planar solver asks for
 pub record IsFit (inst : Ising) : Type 0 where
   pub small : weight inst ≤ sum_limit
-  pub connected : IsConnected inst
-  pub genus_zero : euler inst ≡ pos 2
+  pub genus_zero : IsEuler inst (pos 2)
 
--- the first of the three facts that fails, with the number that shows it
+-- the first of the two facts that fails, with the number that shows it
 abbrev pub IsUnfit : Ising → Refusal → Type 0
 IsUnfit inst (SumTooLarge sum) = (sum_limit < weight inst) × (sum ≡ pos (weight inst))
-IsUnfit inst (NotConnected spin) = (weight inst ≤ sum_limit) × IsLeastUnreached inst spin
-IsUnfit inst (NotPlanar e) = (weight inst ≤ sum_limit) × IsConnected inst × (e ≡ euler inst) × (e ≢ pos 2)
+IsUnfit inst (NotPlanar e) = (weight inst ≤ sum_limit) × IsEuler inst e × (e ≢ pos 2)
 IsUnfit inst _ = ⊥
 
 -- the fact that fails, or want of memory, which may come at any time
@@ -39,6 +36,5 @@ pub record Embedding : Type 0 where
 pub record IsPlanar (p : Embedding) : Type 0 where
   pub instance : IsInstance p.instance
   pub faces : IsFaceLabels p.instance p.faces
-  pub connected : IsConnected p.instance
-  pub genus_zero : euler p.instance ≡ pos 2
+  pub genus_zero : IsEuler p.instance (pos 2)
   pub sum : weight p.instance ≤ forced_limit

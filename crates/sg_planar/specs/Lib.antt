@@ -1,5 +1,5 @@
 pub mod Fit
-pub mod Reached
+pub mod Parts
 pub mod BrokenLists
 pub mod Following
 pub mod Sides

@@ -15,14 +15,15 @@ use sg_sums::flip;
 use sg_walk::{head, walk};
 use std::alloc::Global;
 
-/// The assignment with spin 0 up that breaks the bonds of the list and no others, in time linear in
-/// the spins and bonds.
+/// The assignment of a connected instance with spin 0 up that breaks the bonds of the list and no
+/// others, in time linear in the spins and bonds.
 ///
 /// Each face has as many darts of bonds of the list as darts of negative bonds, up to an even number,
 /// where a bond with the face on both of its sides counts twice. In the plane such lists are the
 /// broken bonds of the assignments (Bieche, Maynard, Rammal and Uhry 1980): a walk over the bonds
 /// from spin 0 goes on to an unlike spin where the bond is negative or broken, and not both.
 pub fn spin_walk(alloc: Global, p: &Planar, broken: &BondList) -> Result<Spins, NoMemory>
+    requires connected { IsConnected p.now.instance }
     requires rising { IsStrictlyIncreasing broken.now }
     requires below { All (λ k. k < bond_count p.now.instance) broken.now }
     requires fits { FitsFaces p.now.instance p.now.faces broken.now }

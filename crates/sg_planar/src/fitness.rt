@@ -1,24 +1,36 @@
-ghost use Rattle.std.specs.Prelude.{◌≡◌, IfOk, IfErr};
+ghost use Rattle.std.specs.Prelude.{◌≡◌, ◌<◌, ◌^◌, ◌-ℤ◌, pos, IfOk, IfErr};
 ghost use Rattle.sg_faces.specs.Faces.{IsFaceLabels};
-ghost use Rattle.sg_faces.specs.Euler.{euler};
+ghost use Rattle.sg_faces.specs.Euler.{IsEuler};
 ghost use Rattle.sg_planar.specs.Fit.{IsFit, IsUnfitFault};
 
-use super::connected::least_unreached;
+use super::NoMemory;
 use sg_faces::{Faces, trace};
 use sg_limits::SUM_LIMIT;
 use sg_model::{Fault, Instance, Refusal};
+use sg_walk::leasts;
 use std::alloc::Global;
 
-// Spins minus bonds plus faces.
-fn euler_number(inst: &Instance, faces: &Faces) -> i64
-    requires { IsFaceLabels inst.now faces.now }
-    ensures { result ≡ euler inst.now }
+fn difference(a: u64, b: u64) -> i64
+    requires left { a < 2 ^ 33 }
+    requires right { b < 2 ^ 33 }
+    ensures { result ≡ pos a -ℤ pos b }
 {
-    i64::from(inst.n()) + i64::from(faces.count()) - inst.bonds().len() as i64
+    a as i64 - b as i64
 }
 
-/// Tests the sum, then the connectedness, then Euler's number, and gives the faces of an instance
-/// that passes.
+// Euler's number: spins minus bonds plus faces, and less two for each component but one.
+fn euler_number(alloc: Global, inst: &Instance, faces: &Faces) -> Result<i64, NoMemory>
+    requires { IsFaceLabels inst.now faces.now }
+    ensures { IfOk result (IsEuler inst.now) }
+{
+    let counted = u64::from(inst.n()) + u64::from(faces.count());
+    let leasts = leasts(alloc, inst)?;
+    let separations = leasts.len() as u64 - 1;
+    let taken = inst.bonds().len() as u64 + 2 * separations;
+    Ok(difference(counted, taken))
+}
+
+/// Tests the sum, then Euler's number, and gives the faces of an instance that passes.
 pub(crate) fn judge(alloc: Global, inst: &Instance) -> Result<Faces, Fault>
     ensures fit { IfOk result (λ _. IsFit inst.now) }
     ensures faces { IfOk result (IsFaceLabels inst.now) }
@@ -28,11 +40,8 @@ pub(crate) fn judge(alloc: Global, inst: &Instance) -> Result<Faces, Fault>
     if sum > SUM_LIMIT {
         return Err(Fault::Refused(Refusal::SumTooLarge { sum }));
     }
-    if let Some(spin) = least_unreached(alloc, inst)? {
-        return Err(Fault::Refused(Refusal::NotConnected { spin }));
-    }
     let faces = trace(alloc, inst)?;
-    let euler = euler_number(inst, &faces);
+    let euler = euler_number(alloc, inst, &faces)?;
     if euler != 2 {
         return Err(Fault::Refused(Refusal::NotPlanar { euler }));
     }

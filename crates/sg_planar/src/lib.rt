@@ -1,12 +1,13 @@
 //! The test whether an instance can be solved by the planar method, and the type that keeps it.
 //!
 //! A planar spin glass is solved by way of the dual graph of its faces (Bieche, Maynard, Rammal and
-//! Uhry 1980, Barahona 1982). That needs one connected drawing on a sphere: every spin is reached
-//! from spin 0 over bonds, and Euler's number, spins minus bonds plus faces, is 2. The sum of the
+//! Uhry 1980, Barahona 1982). That needs a drawing of each component on a sphere: Euler's number,
+//! spins minus bonds plus faces, and less two for each component but one, is 2. The sum of the
 //! couplings' sizes is bounded too, so that all later numbers fit their types.
 //!
-//! In such an instance a list of bonds is that of the broken bonds of an assignment exactly where it
-//! fits the faces, and `spin_walk` finds the assignment.
+//! In such an instance that is connected, a list of bonds is that of the broken bonds of an assignment
+//! exactly where it fits the faces, and `spin_walk` finds the assignment. `parts` takes an instance
+//! apart into its components.
 //!
 //! For the next engineer: `Planar::new` and `spin_walk` are the contracts that matter. `specs/Fit.antt`
 //! says what is fit, which fact fails first, and what a `Planar` keeps; `specs/BrokenLists.antt` which
@@ -15,12 +16,13 @@
 #![tactic(auto)]
 
 mod assignment;
-mod connected;
+mod components;
 mod fitness;
 mod fitting;
 mod planar;
 
 pub use assignment::spin_walk;
+pub use components::{Part, PartList, SpinNumbers, parts};
 pub use fitting::fits_faces;
 pub use planar::{NotFit, Planar};
 use std::alloc::AllocError;

@@ -2,7 +2,7 @@ ghost use Rattle.std.specs.Prelude.{◌≡◌, ◌<◌, ◌≤◌, IfOk, IfErr};
 ghost use Rattle.sg_limits.specs.Limits.{forced_limit};
 ghost use Rattle.sg_model.specs.Ising.{bond_count};
 ghost use Rattle.sg_model.specs.Energy.{weight};
-ghost use Rattle.sg_model.specs.Changes.{with_coupling, with_seam_flipped};
+ghost use Rattle.sg_model.specs.Changes.{negated, with_coupling, with_seam_flipped};
 ghost use Rattle.sg_planar.specs.Fit.{IsFit, IsPlanar, IsUnfitFault};
 
 use super::NoMemory;
@@ -12,8 +12,8 @@ use sg_model::{Fault, Instance};
 use std::alloc::Global;
 use std::marker::Model;
 
-/// An instance that is connected and drawn on a sphere, with its faces. The sum of the couplings'
-/// sizes is at most 2^45 + 1.
+/// An instance, each component of which is drawn on a sphere, with its faces. The sum of the
+/// couplings' sizes is at most 2^45 + 1.
 #[derive(Drop)]
 pub struct Planar {
     instance: Instance,
@@ -41,9 +41,8 @@ impl Planar {
     /// Tests an instance, in time linear in the spins and bonds.
     ///
     /// # Errors
-    /// `SumTooLarge` where the sum of the couplings' sizes is above `SUM_LIMIT`; then `NotConnected`
-    /// with the least spin that is not reached from spin 0; then `NotPlanar` with Euler's number
-    /// where it is not 2. The instance is handed back with every fault.
+    /// `SumTooLarge` where the sum of the couplings' sizes is above `SUM_LIMIT`; then `NotPlanar` with
+    /// Euler's number where it is not 2. The instance is handed back with every fault.
     pub fn new(alloc: Global, instance: Instance) -> Result<Planar, NotFit>
         ensures instance { IfOk result (λ p. p.instance ≡ instance) }
         ensures fit { IfOk result (λ _. IsFit instance) }
@@ -80,6 +79,17 @@ impl Planar {
         ensures planar { IfOk result IsPlanar }
     {
         let instance = self.instance.flip_seam()?;
+        let faces = self.faces.clone()?;
+        Ok(Planar { instance, faces })
+    }
+
+    /// A copy in which the sign of every coupling is changed. The faces stay.
+    pub fn negated(&self) -> Result<Planar, NoMemory>
+        ensures copy { IfOk result (λ copy.
+            copy ≡ record { instance = negated self.now.instance; faces = self.now.faces }) }
+        ensures planar { IfOk result IsPlanar }
+    {
+        let instance = self.instance.negated()?;
         let faces = self.faces.clone()?;
         Ok(Planar { instance, faces })
     }

@@ -5,3 +5,5 @@ pub mod Text
 pub mod Report
 pub mod ReportValue
 pub mod Samples
+pub mod Ensembles
+pub mod Ranges

@@ -48,7 +48,7 @@ fn push_state(text: &mut Vec<u8>, energy: i64, spins: &Spins) -> Result<(), NoMe
 }
 
 // Adds a comma and a value for each spin.
-fn push_spins(text: &mut Vec<u8>, spins: &[i8]) -> Result<(), NoMemory>
+pub fn push_spins(text: &mut Vec<u8>, spins: &[i8]) -> Result<(), NoMemory>
     ensures { OnOk result (text.new.items ≡ text.old.items ++ flat_map entry spins.now) }
 {
     for value in spins {
@@ -58,7 +58,7 @@ fn push_spins(text: &mut Vec<u8>, spins: &[i8]) -> Result<(), NoMemory>
 }
 
 // Adds the line of each loop.
-fn push_loops(text: &mut Vec<u8>, loops: &[Loop]) -> Result<(), NoMemory>
+pub fn push_loops(text: &mut Vec<u8>, loops: &[Loop]) -> Result<(), NoMemory>
     ensures { OnOk result (text.new.items ≡ text.old.items ++ flat_map loop_line loops.now) }
 {
     for entry in loops {

@@ -4,20 +4,25 @@
 //! decimal, with `-` before a negative one and no leading zeros. A report is one line of JSON.
 //!
 //! For the next engineer: each public function makes just the bytes of the definition of its name in
-//! `specs/Text.antt`, `specs/Samples.antt` or `specs/Report.antt`; the numbers of refusals and verdicts stand in
-//! `specs/Refusals.antt` and `specs/Verdicts.antt`. The functions take the memory of their text, and
-//! a report that of its value too.
+//! `specs/Text.antt`, `specs/Samples.antt`, `specs/Ensembles.antt`, `specs/Ranges.antt` or
+//! `specs/Report.antt`; the numbers of refusals and verdicts stand in `specs/Refusals.antt` and
+//! `specs/Verdicts.antt`. The functions take the memory of their text, and a report that of its value
+//! too.
 #![tactic(auto)]
 
 mod answers;
+mod ensembles;
 mod faults;
 mod line;
+mod ranges;
 mod report;
 mod samples;
 mod studies;
 
 pub use answers::{energy_text, ground_text};
+pub use ensembles::{ensemble_text, widths_text};
 pub use faults::{refusal_text, verdict_text};
+pub use ranges::{maxcut_text, ranges_text};
 pub use report::report_text;
 pub use samples::{instance_text, sample_text};
 use std::alloc::AllocError;

@@ -1,6 +1,6 @@
 use super::{
-    bonds_text, clusters_text, energy_text, ground_text, instance_text, refusal_text, report_text,
-    sample_text, verdict_text, wall_text,
+    bonds_text, clusters_text, energy_text, ensemble_text, ground_text, instance_text, maxcut_text,
+    ranges_text, refusal_text, report_text, sample_text, verdict_text, wall_text, widths_text,
 };
 use sg_check::{Loop, Loops, Verdict};
 use sg_lattice::Kind;
@@ -60,6 +60,22 @@ fn each_text_has_its_bytes(rt: HostRuntime) -> Result<(), Fail> {
             "spins,4\nbonds,4\nsum,2372721\nenergy,-1986379\nbroken,193171\nend\n",
         ),
         (verdict_text(alloc, &Verdict::Yes)?, "yes\n"),
+        (
+            ranges_text(alloc, &[2, -3, -7], &[1, -3, -5])?,
+            "turn,0,1,above\nturn,1,-3,at\nturn,2,-5,below\nend\n",
+        ),
+        (
+            maxcut_text(alloc, 7, &spins, &loops)?,
+            "cut,7\nspins,1,-1\nloop,2,0,3\nend\n",
+        ),
+        (
+            ensemble_text(alloc, &[-2, 2], 0, 8)?,
+            "wall,0,-2\nwall,1,2\nsum,0\nsquares,8\nend\n",
+        ),
+        (
+            widths_text(alloc, &[3, 4], &[4, -4], &[16, 16])?,
+            "width,3,4,16\nwidth,4,-4,16\nend\n",
+        ),
         (
             report_text(alloc, 0, 0, 0, &spins, &loops, &[], &[0], None)?,
             "{\"bonds\":0,\"clusters\":[0],\"costs\":[],\"energy\":0,\"loops\":[{\"bonds\":[0,3],\"y\":2}],\"spins\":[1,-1],\"sum\":0,\"wall\":null}\n",

@@ -1,13 +1,16 @@
-//! Walks over a set of bonds: which spins are reached from a spin.
+//! Walks over a set of bonds: which spins are reached from a spin, and which spins belong together.
 //!
-//! For the next engineer: `walk` is the one call. It goes on from marks that earlier walks left, so
-//! that the walks from all spins together take time linear in the spins and bonds.
-//! `specs/Walk.antt` says what a walk leaves.
+//! For the next engineer: `walk` is the base. It goes on from marks that earlier walks left, so that
+//! the walks from all spins together take time linear in the spins and bonds. `names` walks from each
+//! spin that no walk has met, and gives the spins of one walk its name; `leasts` lists the least spin
+//! of each component. `specs/Walk.antt` says what a walk leaves, `specs/Naming.antt` what a name is.
 #![tactic(auto)]
 
 mod breadth_first;
+mod naming;
 
 pub use breadth_first::{head, walk};
+pub use naming::{leasts, names};
 use std::alloc::AllocError;
 
 /// The allocator had no memory left.

@@ -1,4 +1,4 @@
-use Rattle.std.proofs.Common.{◌≡◌, ℕ, ℤ, ◌<◌, ◌+◌, ◌∷◌, ◌++◌, [], List, length, get_or, pos, sym, ◌∙◌, ap, subst, arith, rules, to_z, of_z, w64}
+use Rattle.std.proofs.Common.{◌≡◌, ◌+◌, ◌∷◌, ◌++◌, [], length, get_or, pos, sym, ◌∙◌, ap, subst, rules, w64}
 use Rattle.std.specs.Prelude.{FitsSigned}
 use Rattle.std.proofs.lemmas.Int.{to_z-of_z}
 use Rattle.std.proofs.lemmas.List.{length_push}

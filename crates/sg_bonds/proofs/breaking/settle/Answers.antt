@@ -1,8 +1,6 @@
-use Rattle.std.proofs.Common.{rules, ◌≡◌, ◌⊎◌, ◌∙◌, true, sym, subst, ap, w64, to_z-of_z}
+use Rattle.std.proofs.Common.{rules, ◌≡◌, subst, w64, to_z-of_z}
 use Rattle.std.specs.Prelude.{IfSome}
-use Rattle.sg_model.specs.WellFormed.{IsInstance}
-use Rattle.sg_bonds.specs.Known.{AreKnown, IsTrueOf, IsMet, known_at}
-use Rattle.sg_bonds.specs.Cost.{IsCost}
+use Rattle.sg_bonds.specs.Known.{AreKnown, IsMet, known_at}
 use Rattle.sg_bonds.specs.declared.known.Known.TheVariants.{AtMost, Exact}
 use Rattle.sg_bonds.proofs.PathBounds.{known_more, met_cost}
 use Rattle.sg_bonds.proofs.breaking.settle.Goals as goal

@@ -1,8 +1,7 @@
-use Rattle.std.proofs.Common.{◌≡◌, ◌≤◌, ◌^◌, neg_ℤ, ap, ◌∙◌, subst, arith}
-use Rattle.std.proofs.lemmas.Int.{ints}
-use Rattle.sg_model.specs.Ising.{Ising, bond_at}
+use Rattle.std.proofs.Common.{◌≡◌, ap, ◌∙◌, subst}
+use Rattle.sg_model.specs.Ising.{bond_at}
 use Rattle.sg_model.specs.WellFormed.{IsInstance}
-use Rattle.sg_model.specs.Energy.{product, weight}
+use Rattle.sg_model.specs.Energy.{product}
 use Rattle.sg_bonds.proofs.CostNumbers.{above_found, cost_fits, cost_found, read_bond}
 use Rattle.sg_bonds.proofs.breaking.turn.Goals as goal
 

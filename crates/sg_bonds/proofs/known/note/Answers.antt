@@ -1,11 +1,7 @@
-use Rattle.std.proofs.Common.{rules, ◌≡◌, ◌⊎◌, ◌<◌, ◌∙◌, neg_ℤ, pos, true, sym, subst, ap, get_or, length, arith, w64, to_z-of_z}
+use Rattle.std.proofs.Common.{rules, ◌<◌, ◌∙◌, pos, ap, length, arith, w64, to_z-of_z}
 use Rattle.std.proofs.lemmas.List.{get_or_default}
-use Rattle.sg_model.specs.declared.bond.Bond.{Bond}
-use Rattle.sg_model.specs.Ising.{bond_at, bond_count}
-use Rattle.sg_model.specs.Energy.{product}
-use Rattle.sg_bonds.specs.declared.known.Known.{Known}
-use Rattle.sg_bonds.specs.declared.known.Known.TheVariants.{AtMost, Exact, Nothing}
-use Rattle.sg_bonds.specs.Known.{AreKnown, IsTrueOf, known_at}
+use Rattle.sg_model.specs.Ising.{bond_count}
+use Rattle.sg_bonds.specs.declared.known.Known.TheVariants.{Exact, Nothing}
 use Rattle.sg_bonds.proofs.PathBounds.{known_more, noted_true}
 use Rattle.sg_bonds.proofs.known.note.Goals as goal
 

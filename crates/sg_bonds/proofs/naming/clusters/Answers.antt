@@ -2,7 +2,8 @@ use Rattle.std.proofs.Common.{◌≡◌, ℕ, List, length, sym, ◌∙◌, subs
 use Rattle.std.proofs.lemmas.Result.{IfOk-weaker}
 use Rattle.sg_walk.specs.Walk.{has}
 use Rattle.sg_bonds.specs.Cluster.{AreClusters}
-use Rattle.sg_bonds.specs.Naming.{AllNamed, ShowsRigid}
+use Rattle.sg_walk.specs.Naming.{AllNamed}
+use Rattle.sg_bonds.specs.Naming.{ShowsRigid}
 use Rattle.sg_bonds.proofs.ClusterNames.{are_clusters}
 use Rattle.sg_bonds.proofs.naming.clusters.Goals as goal
 

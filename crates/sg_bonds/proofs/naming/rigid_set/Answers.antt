@@ -1,4 +1,4 @@
-use Rattle.std.proofs.Common.{◌≡◌, ◌++◌, ◌∷◌, [], get_or, pos, subst, rules, w64, to_z, of_z}
+use Rattle.std.proofs.Common.{get_or, pos, rules, w64}
 use Rattle.std.specs.Prelude.{FitsSigned}
 use Rattle.std.proofs.lemmas.Int.{to_z-of_z}
 use Rattle.sg_bonds.proofs.ClusterNames.{shows_more}

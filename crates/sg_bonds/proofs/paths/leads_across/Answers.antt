@@ -1,4 +1,4 @@
-use Rattle.std.proofs.Common.{rules, ◌≡◌, ◌∙◌, true, false, get_or, sym, subst, ap, refl}
+use Rattle.std.proofs.Common.{rules, ◌≡◌, true, false, get_or, sym, subst, refl}
 use Rattle.sg_model.specs.declared.bond.Bond.{Bond}
 use Rattle.sg_model.specs.Ising.{bond_at}
 use Rattle.sg_model.specs.Connected.{Reached}

@@ -1,8 +1,7 @@
-use Rattle.std.proofs.Common.{rules, ◌≡◌, ◌⊎◌, inr, ◌∙◌, ◌<◌, true, sym, subst, w64, to_z-of_z, arith, length, ap}
+use Rattle.std.proofs.Common.{rules, inr, ◌∙◌, sym, w64, to_z-of_z, arith}
 use Rattle.sg_walk.specs.Walk.{has}
 use Rattle.sg_model.specs.Ising.{bond_at}
-use Rattle.sg_model.specs.Connected.{Reached}
-use Rattle.sg_bonds.specs.Known.{IsMet, costs_at_least}
+use Rattle.sg_bonds.specs.Known.{costs_at_least}
 use Rattle.sg_bonds.proofs.PathBounds.{reached_over}
 use Rattle.sg_bonds.proofs.paths.met.Goals as goal
 

@@ -1,9 +1,7 @@
-use Rattle.std.proofs.Common.{◌≡◌, ◌<◌, ◌/◌, ◌*◌, Bool, true, false, List, [], ℕ, length, get_or, take, sym, ◌∙◌, ap, ap₂, arith, not, ◌&&◌}
+use Rattle.std.proofs.Common.{◌≡◌, ◌<◌, ◌/◌, true, false, [], length, get_or, sym, ◌∙◌, ap, arith, not, ◌&&◌}
 use Rattle.std.proofs.lemmas.List.{take_all}
 use Rattle.std.proofs.lemmas.Option.{get_or_from_slice_get}
-use Rattle.sg_model.specs.Ising.{Ising, bond_count}
 use Rattle.sg_model.specs.Rotation.{dart_count, darts_of, head_of, tail}
-use Rattle.sg_model.specs.WellFormed.{IsInstance}
 use Rattle.sg_model.proofs.Rotations.{in_list}
 use Rattle.sg_model.proofs.Paths.{joined_along}
 use Rattle.sg_walk.specs.Walk.{has}

@@ -1,4 +1,3 @@
-use Rattle.std.proofs.Common.{length}
 use Rattle.sg_walk.specs.Walk.{has}
 use Rattle.sg_walk.specs.Search.{SearchedTo}
 use Rattle.sg_walk.proofs.breadth_first.walk.Given as goal

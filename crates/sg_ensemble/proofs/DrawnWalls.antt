@@ -1,0 +1,103 @@
+-- Sample after sample from one stream.
+use Rattle.std.proofs.Common.{◌≡◌, inl, inr, ℕ, ℤ, pos, ◌+◌, ◌*◌, ◌<◌, ◌≤◌, List, [], ◌∷◌, ◌++◌, length, get_or, take, drop, refl, sym, ◌∙◌, ap, subst, arith, append_assoc, length-append, length-drop}
+use Rattle.std.proofs.Math.Nat.{mul-le-mul_right}
+use Rattle.std.proofs.Math.Seq.{drop-append_seam}
+use Rattle.std.proofs.lemmas.Bool.{cases_lt}
+use Rattle.std.proofs.lemmas.List.{drop-append-le, get_or_append_left, get_or_push, length_push, take-append-le, take_all}
+use Rattle.sg_laws.proofs.Streams.{all_found}
+use Rattle.sg_lattice.specs.declared.kind.Kind.TheVariants.{Cylinder}
+use Rattle.sg_lattice.specs.Tables.{lattice}
+use Rattle.sg_ensemble.specs.Samples.{AreWalls, HasWall, draw_count}
+
+-- a slice of the front part is that of the whole
+front_slice : (xs ys : List ℤ) (a m : ℕ) → a + m ≤ length xs → take m (drop a (xs ++ ys)) ≡ take m (drop a xs)
+front_slice xs ys a m l =
+    ap (take m) (drop-append-le a xs ys (omega arith)) ∙ take-append-le m (drop a xs) ys (omega (arith, length-drop a xs))
+
+-- the slice behind the front part
+last_slice : (xs ys : List ℤ) (a m : ℕ) → length xs ≡ a → length ys ≡ m → take m (drop a (xs ++ ys)) ≡ ys
+last_slice xs ys a m e f =
+    ap (λ n. take m (drop n (xs ++ ys))) (sym e) ∙ ap (take m) (drop-append_seam xs ys) ∙ take_all m ys (omega (arith, f))
+
+-- what holds of each slice of length m and its number, where one of each is added
+each_more : (P : List ℤ → ℤ → Type 0) (m count : ℕ) (draws next walls : List ℤ) (wall : ℤ) → length draws ≡ count * m → length next ≡ m → length walls ≡ count
+    → ((i : ℕ) → i < count → P (take m (drop (i * m) draws)) (get_or walls i (pos 0))) → P next wall
+    → (i : ℕ) → i < count + 1 → P (take m (drop (i * m) (draws ++ next))) (get_or (walls ++ wall ∷ []) i (pos 0))
+each_more P m count draws next walls wall long one counted before here i l = elim (cases_lt i count) [
+  | inl b ↦
+      let inside : i * m + m ≤ length draws = (let all : (i + 1) * m ≤ count * m =
+          mul-le-mul_right m (let le : i + 1 ≤ count = omega arith in le) in omega (arith, all, long)) in
+      subst (λ xs. P xs (get_or (walls ++ wall ∷ []) i (pos 0))) (sym (front_slice draws next (i * m) m inside))
+      (subst (P (take m (drop (i * m) draws))) (sym (get_or_append_left walls (wall ∷ []) (pos 0) i (omega (arith, counted)))) (before i b))
+  | inr past ↦
+      let same : i ≡ count = omega arith in
+      subst (λ xs. P xs (get_or (walls ++ wall ∷ []) i (pos 0))) (sym (last_slice draws next (i * m) m (long ∙ ap (λ n. n * m) (sym same)) one))
+      (subst (P next) (sym (get_or_push walls wall (pos 0) i (counted ∙ sym same))) here)
+]
+
+-- so many samples are drawn from a stream, which goes on behind their draws
+pub record IsDrawn (rows cols count : ℕ) (old new : ℕ → List ℤ) (walls : List ℤ) : Type 0 where
+  pub draws : List ℤ
+  pub drawn : length draws ≡ count * draw_count rows cols
+  pub goes_on : (c : ℕ) → old (count * draw_count rows cols + c) ≡ draws ++ new c
+  pub are : AreWalls rows cols count draws walls
+
+-- no sample yet
+pub none_drawn : (rows cols : ℕ) (old : ℕ → List ℤ) → IsDrawn rows cols 0 old old []
+none_drawn rows cols old = record {
+  draws = [];
+  drawn = none (draw_count rows cols);
+  goes_on = λ c. ap old (nothing (draw_count rows cols) c);
+  are = record { counted = refl; each = λ i l. absurd (omega (arith, l)) };
+}
+  where
+    none : (m : ℕ) → 0 ≡ 0 * m
+    none m = omega arith
+
+    nothing : (m c : ℕ) → 0 * m + c ≡ c
+    nothing m c = omega arith
+
+-- one more sample
+pub one_drawn : (rows cols count : ℕ) (old mid new : ℕ → List ℤ) (walls : List ℤ) (wall : ℤ) → IsDrawn rows cols count old mid walls
+    → length (mid (draw_count rows cols)) ≡ draw_count rows cols
+    → ((c : ℕ) → mid (draw_count rows cols + c) ≡ mid (draw_count rows cols) ++ new c)
+    → HasWall (lattice Cylinder rows cols (mid (draw_count rows cols))) wall → IsDrawn rows cols (count + 1) old new (walls ++ wall ∷ [])
+one_drawn rows cols count old mid new walls wall h long rest here = record {
+  draws = h.draws ++ mid (draw_count rows cols);
+  drawn = longer (draw_count rows cols) (length (h.draws ++ mid (draw_count rows cols))) (length h.draws) (length (mid (draw_count rows cols)))
+      (length-append h.draws (mid (draw_count rows cols))) h.drawn long;
+  goes_on = λ c.
+      ap old (place (draw_count rows cols) c) ∙ h.goes_on (draw_count rows cols + c) ∙ ap (λ xs. h.draws ++ xs) (rest c)
+      ∙ sym (append_assoc h.draws (mid (draw_count rows cols)) (new c));
+  are = record {
+    counted = length_push walls wall ∙ ap (λ n. n + 1) h.are.counted;
+    each = each_more (λ xs d. HasWall (lattice Cylinder rows cols xs) d) (draw_count rows cols) count h.draws
+        (mid (draw_count rows cols)) walls wall h.drawn long
+        h.are.counted h.are.each here;
+  };
+}
+  where
+    longer : (m n a b : ℕ) → n ≡ a + b → a ≡ count * m → b ≡ m → n ≡ (count + 1) * m
+    longer m n a b e f g = omega arith
+
+    place : (m c : ℕ) → (count + 1) * m + c ≡ count * m + (m + c)
+    place m c = omega arith
+
+-- all samples: the draws are the first ones of the stream, and it goes on behind them
+module _ (rows cols count : ℕ) (old new : ℕ → List ℤ) (walls : List ℤ) (h : IsDrawn rows cols count old new walls)
+    (counts : (c : ℕ) → length (new c) ≡ c) where
+  drawn_first : old (count * draw_count rows cols) ≡ h.draws
+  drawn_first = all_found old new h.draws (count * draw_count rows cols) h.goes_on counts
+
+  pub all_walls : AreWalls rows cols count (old (count * draw_count rows cols)) walls
+  all_walls = subst (λ draws. AreWalls rows cols count draws walls) (sym drawn_first) h.are
+
+  pub all_behind : (c : ℕ) → new c ≡ drop (count * draw_count rows cols) (old (count * draw_count rows cols + c))
+  all_behind c = sym (ap (drop (count * draw_count rows cols)) (h.goes_on c) ∙ ap (λ n. drop n (h.draws ++ new c)) (sym h.drawn)
+      ∙ drop-append_seam h.draws (new c))
+
+-- a stream behind some of its draws
+pub counts_behind : (mid new : ℕ → List ℤ) (m : ℕ) → ((c : ℕ) → length (mid c) ≡ c) → ((c : ℕ) → mid (m + c) ≡ mid m ++ new c) → (c : ℕ) → length (new c) ≡ c
+counts_behind mid new m counts rest c =
+    let e : length (mid m ++ new c) ≡ m + c = ap length (sym (rest c)) ∙ counts (m + c) in
+    omega (arith, e, length-append (mid m) (new c), counts m)

@@ -1,0 +1,3 @@
+pub mod DrawnCylinders
+pub mod DrawnWalls
+pub mod WidthAfterWidth

@@ -1,0 +1,79 @@
+ghost use Rattle.std.specs.Prelude.{◌≡◌, ◌≤◌, ◌+◌, ◌-◌, ◌*◌, ℕ, IfOk};
+ghost use Rattle.sg_limits.specs.Limits.{spin_limit};
+ghost use Rattle.sg_ensemble.specs.Samples.{IsSpherical, IsStudied};
+ghost use Rattle.sg_ensemble.specs.Widths.{AreWidths, IsWidth};
+
+use super::NoMemory;
+use super::samples::ensemble;
+use sg_laws::{Disorder, start};
+use sg_list::Numbers;
+use std::alloc::Global;
+
+/// What is kept of the wall energies of one width: their sum, and the sum of their squares.
+#[derive(Clone, Copy, Debug)]
+pub struct Width {
+    pub cols: u32,
+    pub sum: i64,
+    pub squares: i128,
+}
+
+/// Widths, in their order.
+pub type WidthList = Numbers<Width>;
+
+/// The ensembles of the cylinders of 3 to `max_cols` columns, from 3 to 64, each of so many samples,
+/// from 1 to 1000. The law is seeded anew for each width. The only error is want of memory; the law has
+/// then been seeded and drawn from some number of times.
+///
+/// Cost: that of `ensemble` for each width; memory for one sample at a time.
+pub fn widths(
+    alloc: Global,
+    law: &mut Box<dyn Disorder>,
+    seed: u64,
+    rows: u32,
+    max_cols: u32,
+    count: u32,
+) -> Result<WidthList, NoMemory>
+    requires has_row { 1 ≤ rows }
+    requires closes { 3 ≤ max_cols }
+    requires narrow { max_cols ≤ 64 }
+    requires spins { rows * max_cols ≤ spin_limit }
+    requires some { 1 ≤ count }
+    requires few { count ≤ 1000 }
+    requires spherical { (cols : ℕ) → 3 ≤ cols → cols ≤ max_cols → IsSpherical rows cols }
+    ensures widths { IfOk result (AreWidths rows count (seeded law.old seed) (max_cols - 2)) }
+    ensures title { title law.new ≡ title law.old }
+    ensures seeds { (s c : ℕ) → seeded law.new s c ≡ seeded law.old s c }
+{
+    let mut widths = WidthList::new(alloc);
+    for cols in 3..max_cols + 1 {
+        let width = one_width(alloc, law, seed, rows, cols, count)?;
+        widths.push(width)?;
+    }
+    Ok(widths)
+}
+
+// The ensemble of one width, with the law from its seed on.
+fn one_width(
+    alloc: Global,
+    law: &mut Box<dyn Disorder>,
+    seed: u64,
+    rows: u32,
+    cols: u32,
+    count: u32,
+) -> Result<Width, NoMemory>
+    requires size { IsStudied rows cols }
+    requires spherical { IsSpherical rows cols }
+    requires some { 1 ≤ count }
+    requires few { count ≤ 1000 }
+    ensures width { IfOk result (IsWidth rows cols count (seeded law.old seed)) }
+    ensures title { title law.new ≡ title law.old }
+    ensures seeds { (s c : ℕ) → seeded law.new s c ≡ seeded law.old s c }
+{
+    start(law, seed);
+    let found = ensemble(alloc, law, rows, cols, count)?;
+    Ok(Width {
+        cols,
+        sum: found.sum,
+        squares: found.squares,
+    })
+}

@@ -1,0 +1,28 @@
+//! Ensembles of domain walls: the wall energies of cylinders whose couplings are drawn.
+//!
+//! Whether there is order at low temperature shows in how the energy of a domain wall grows with the
+//! lattice (Bray and Moore 1984), and that is a matter of averages over many samples. A law of
+//! disorder gives the couplings of one cylinder after another; each wall energy is exact, and so are
+//! their sum and the sum of their squares, from which come the mean and its error.
+//!
+//! For the next engineer: `specs/Samples.antt` says which draws belong to which sample, and
+//! `specs/Widths.antt` what is kept of each width. `ensemble` rests on the contracts of `sg_laws`,
+//! `sg_lattice`, `Planar::new` and `wall`. That each drawn cylinder is fit for the solver is proved: its
+//! sum is small, and Euler's number does not depend on the couplings (`proofs/DrawnCylinders.antt`).
+#![tactic(auto)]
+
+mod by_width;
+mod drawing;
+mod samples;
+mod sums;
+
+pub use by_width::{Width, WidthList, widths};
+pub use samples::{EnsembleAnswer, ensemble};
+use sg_list::Numbers;
+use std::alloc::AllocError;
+
+/// The allocator had no memory left.
+pub type NoMemory = AllocError;
+
+/// The energies of domain walls, one for each sample.
+pub type CostList = Numbers<i64>;

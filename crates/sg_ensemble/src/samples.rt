@@ -1,0 +1,83 @@
+ghost use Rattle.std.specs.Prelude.{◌≡◌, ◌≤◌, ◌+◌, ◌*◌, ◌^◌, ◌++◌, ℕ, length, drop, All, IfOk, unsigned_abs};
+ghost use Rattle.sg_ensemble.specs.Samples.{AreWalls, IsSpherical, IsStudied, draw_count, total, total_of_squares};
+
+use super::drawing::next_wall;
+use super::sums::{sum, sum_of_squares};
+use super::{CostList, NoMemory};
+use sg_laws::Disorder;
+use std::alloc::Global;
+
+/// The wall energies of an ensemble, in the order of the samples, their sum, and the sum of their
+/// squares.
+#[derive(Drop)]
+pub struct EnsembleAnswer {
+    pub walls: CostList,
+    pub sum: i64,
+    pub squares: i128,
+}
+
+/// The energies of the domain walls of so many cylinders, from 1 to 1000, each of which has the next
+/// draws of the law as its couplings, in the order of its bonds. The only error is want of memory; the
+/// law has then made some of the draws.
+///
+/// The cylinder must be drawn on a sphere, which `Planar::new` tells of one with any couplings. Cost:
+/// two ground states for each sample; memory for one sample at a time.
+pub fn ensemble(
+    alloc: Global,
+    law: &mut Box<dyn Disorder>,
+    rows: u32,
+    cols: u32,
+    count: u32,
+) -> Result<EnsembleAnswer, NoMemory>
+    requires size { IsStudied rows cols }
+    requires spherical { IsSpherical rows cols }
+    requires some { 1 ≤ count }
+    requires few { count ≤ 1000 }
+    ensures walls { IfOk result (λ a. AreWalls rows cols count (next law.old (count * draw_count rows cols)) a.walls) }
+    ensures sum { IfOk result (λ a. a.sum ≡ total a.walls) }
+    ensures squares { IfOk result (λ a. a.squares ≡ total_of_squares a.walls) }
+    ensures rest { IfOk result (λ _. (c : ℕ) →
+        next law.new c ≡ drop (count * draw_count rows cols) (next law.old (count * draw_count rows cols + c))) }
+    ensures title { title law.new ≡ title law.old }
+    ensures seeds { (s c : ℕ) → seeded law.new s c ≡ seeded law.old s c }
+{
+    let walls = walls(alloc, law, rows, cols, count)?;
+    Ok(EnsembleAnswer {
+        sum: sum(walls.as_slice()),
+        squares: sum_of_squares(walls.as_slice()),
+        walls,
+    })
+}
+
+// The wall energies of so many samples.
+fn walls(
+    alloc: Global,
+    law: &mut Box<dyn Disorder>,
+    rows: u32,
+    cols: u32,
+    count: u32,
+) -> Result<CostList, NoMemory>
+    requires size { IsStudied rows cols }
+    requires spherical { IsSpherical rows cols }
+    ensures walls { IfOk result (AreWalls rows cols count (next law.old (count * draw_count rows cols))) }
+    ensures small { IfOk result (λ walls. All (λ d. unsigned_abs d ≤ 2 ^ 33) walls) }
+    ensures rest { IfOk result (λ _. (c : ℕ) →
+        next law.new c ≡ drop (count * draw_count rows cols) (next law.old (count * draw_count rows cols + c))) }
+    ensures title { title law.new ≡ title law.old }
+    ensures seeds { (s c : ℕ) → seeded law.new s c ≡ seeded law.old s c }
+{
+    know_counts(law);
+    let mut walls = CostList::new(alloc);
+    for _ in 0..count {
+        let wall = next_wall(alloc, law, rows, cols)?;
+        walls.push(wall)?;
+    }
+    Ok(walls)
+}
+
+// That the lists of draws are as long as they should be, which a law tells with its name.
+fn know_counts(law: &Box<dyn Disorder>)
+    ensures { (c : ℕ) → length (next law.now c) ≡ c }
+{
+    let _name = law.name();
+}

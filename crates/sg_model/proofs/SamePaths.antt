@@ -1,0 +1,45 @@
+-- Other couplings on the same bonds leave the paths and the components as they are.
+use Rattle.std.proofs.Common.{⊎_elim, inl, inr, ◌≡◌, ℕ, ◌<◌, Bool, List, [], ◌∷◌, sym, ◌∙◌, arith}
+use Rattle.sg_model.specs.declared.bond.Bond.{Bond}
+use Rattle.sg_model.specs.Ising.{Ising, bond_at}
+use Rattle.sg_model.specs.WellFormed.{IsInstance}
+use Rattle.sg_model.specs.Connected.{AreLeasts, IsConnected, IsLeastReached, IsWalk, JoinedBy, Reached, all_bonds}
+use Rattle.sg_model.specs.Changes.{HasSameEnds, with_bonds}
+
+module _ (inst : Ising) (bonds : List Bond) (same : HasSameEnds inst bonds) where
+  joined_same : (set : ℕ → Bool) (a b : ℕ) → JoinedBy inst set a b → JoinedBy (with_bonds inst bonds) set a b
+  joined_same set a b j = record {
+    bond = j.bond;
+    below = omega (arith, j.below, same.count);
+    in_set = j.in_set;
+    ends = ⊎_elim (λ (e : ((bond_at inst j.bond).u ≡ a) × ((bond_at inst j.bond).v ≡ b)). inl (same.first j.bond ∙ e.0, same.second j.bond ∙ e.1))
+        (λ (e : ((bond_at inst j.bond).u ≡ b) × ((bond_at inst j.bond).v ≡ a)). inr (same.first j.bond ∙ e.0, same.second j.bond ∙ e.1)) j.ends;
+  }
+
+  walk_same : (set : ℕ → Bool) (path : List ℕ) (a b : ℕ) → IsWalk inst set a path b → IsWalk (with_bonds inst bonds) set a path b
+  walk_same set [] a b w = w
+  walk_same set (c ∷ cs) a b w = (joined_same set a c w.0, walk_same set cs c b w.1)
+
+  pub reached_same : (set : ℕ → Bool) (a b : ℕ) → Reached inst set a b → Reached (with_bonds inst bonds) set a b
+  reached_same set a b r = (r.0, walk_same set r.0 a b r.1)
+
+  pub connected_same : IsConnected inst → IsConnected (with_bonds inst bonds)
+  connected_same h i l = reached_same all_bonds 0 i (h i l)
+
+-- the old bonds have the ends of the new ones
+ends_back : (inst : Ising) (bonds : List Bond) → HasSameEnds inst bonds → IsInstance inst → HasSameEnds (with_bonds inst bonds) inst.bonds
+ends_back inst bonds same good = record {
+  count = sym same.count;
+  first = λ k. sym (same.first k);
+  second = λ k. sym (same.second k);
+  sizes = λ k d l. (good.joined k d l).size;
+}
+
+pub leasts_same : (inst : Ising) (bonds : List Bond) → HasSameEnds inst bonds → IsInstance inst → (leasts : List ℕ) → AreLeasts inst leasts → AreLeasts (with_bonds inst bonds) leasts
+leasts_same inst bonds same good leasts h = record {
+  rising = h.rising;
+  each = λ i. ((λ held. let p : (i < inst.n) × IsLeastReached inst i = (h.each i).0 held in (p.0, λ j r. p.1 j (back i j r))), (λ p. (h.each i).1 (p.0, λ j r. p.1 j (reached_same inst bonds same all_bonds i j r))));
+}
+  where
+    back : (a b : ℕ) → Reached (with_bonds inst bonds) all_bonds a b → Reached inst all_bonds a b
+    back a b r = reached_same (with_bonds inst bonds) inst.bonds (ends_back inst bonds same good) all_bonds a b r

@@ -1,0 +1,2 @@
+pub mod MovedCouplings
+pub mod Cuts
