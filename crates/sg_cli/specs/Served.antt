@@ -5,7 +5,7 @@ use Rattle.sg_limits.specs.Limits.{input_limit}
 use Rattle.sg_model.specs.declared.refusal.Refusal.{Refusal}
 use Rattle.sg_model.specs.declared.refusal.Refusal.TheVariants.{TooLong, NoSeam, UnknownLaw}
 use Rattle.sg_model.specs.Ising.{Ising, bond_count}
-use Rattle.sg_model.specs.Spins.{spin}
+use Rattle.sg_model.specs.Connected.{LeastsUp}
 use Rattle.sg_model.specs.Energy.{IsGroundState, IsLeastEnergy, energy, weight}
 use Rattle.sg_lattice.specs.declared.kind.Kind.{Kind}
 use Rattle.sg_lattice.specs.declared.kind.Kind.TheVariants.{Square}
@@ -48,15 +48,16 @@ pub record IsRefused (refusal : Refusal) (text : List ℕ) (status : Status) : T
   pub ended : status ≡ Refused
   pub printed : text ≡ refusal_text refusal
 
--- a ground state with spin 0 up, and its energy
+-- a ground state with the least spin of each component up, and its energy
 pub record PrintsGroundState (inst : Ising) (text : List ℕ) (status : Status) : Type 0 where
   pub spins : List ℤ
   pub least : IsGroundState inst spins
-  pub first_up : spin spins 0 ≡ pos 1
+  pub first_up : LeastsUp inst spins
   pub printed : text ≡ energy_text (energy inst spins) spins
   pub done : status ≡ Done
 
--- a ground state with spin 0 up, its energy, and a short packing of frustrated loops that proves it
+-- a ground state with the least spin of each component up, its energy, and a short packing of frustrated loops that
+-- proves it
 pub record PrintsGround (inst : Ising) (text : List ℕ) (status : Status) : Type 0 where
   pub energy : ℤ
   pub spins : List ℤ
@@ -64,7 +65,7 @@ pub record PrintsGround (inst : Ising) (text : List ℕ) (status : Status) : Typ
   pub least : IsGroundState inst spins
   pub proves : Proves inst spins energy loops
   pub short : IsShort inst loops
-  pub first_up : spin spins 0 ≡ pos 1
+  pub first_up : LeastsUp inst spins
   pub printed : text ≡ ground_text energy spins loops
   pub done : status ≡ Done
 
@@ -114,7 +115,7 @@ pub record PrintsReport (inst : Ising) (text : List ℕ) (status : Status) : Typ
   pub least : IsGroundState inst spins
   pub proves : Proves inst spins energy loops
   pub short : IsShort inst loops
-  pub first_up : spin spins 0 ≡ pos 1
+  pub first_up : LeastsUp inst spins
   pub exact_costs : AreCosts inst costs
   pub exact_names : AreClusters inst names
   pub exact_wall : IsSeamWall inst wall

@@ -1,10 +1,10 @@
 -- An odd cut of the dual is a frustrated loop of the instance: it meets each spin evenly, as round a spin one enters the faces of
 -- a set as often as one leaves it; and an odd number of its bonds are negative, as an odd number of the faces inside are frustrated.
-use Rattle.std.proofs.Common.{ap₂, ◌≡◌, ℕ, ◌+◌, ◌*◌, ◌%◌, ◌<◌, pos, Bool, true, false, ◌&&◌, eqb, cond, List, refl, sym, ◌∙◌, ap, subst, arith, length, get_or, count_by, All}
+use Rattle.std.proofs.Common.{ap₂, ◌≡◌, ℕ, ◌+◌, ◌*◌, ◌%◌, ◌<◌, pos, Bool, true, false, ◌&&◌, eqb, cond, List, sym, ◌∙◌, ap, subst, arith, length, count_by, All}
 use Rattle.std.specs.List.{range_with_len}
 use Rattle.std.specs.List.Sorted.{IsStrictlyIncreasing}
-use Rattle.sg_sums.specs.Parity.{xor, odd, parity_by, parity_below}
-use Rattle.sg_sums.specs.Sets.{holds, chosen_below}
+use Rattle.sg_sums.specs.Parity.{xor, odd, parity_below}
+use Rattle.sg_sums.specs.Sets.{holds}
 use Rattle.sg_sums.specs.Ends.{is_end, degree_parity, EndsBelow}
 use Rattle.sg_sums.proofs.ParityLaws.{odd_is, odd-count_by, odd_from_mod, parity_below-same, some_from_odd}
 use Rattle.sg_sums.proofs.Handshake.{handshake}
@@ -19,10 +19,11 @@ use Rattle.sg_graph.specs.declared.web.Edge.{Edge}
 use Rattle.sg_graph.specs.Web.{edge_count}
 use Rattle.sg_graph.specs.OddCut.{crosses, IsOddCut}
 use Rattle.sg_dual.specs.Dual.{dual_web, face_of, frustrated_faces, is_frustrated, is_negative_bond, negative_sides}
+use Rattle.sg_faces.proofs.Traced.{label_below}
 use Rattle.sg_dual.proofs.DualWebs.{dual_edge_at, dual_edge_count}
 use Rattle.sg_sums.proofs.ParityLaws.{odd_test}
 use Rattle.sg_sums.proofs.Ranges.{parity_by_range}
-use Rattle.sg_check.specs.Loop.{IsBondSet, IsFrustratedLoop, degree, is_end_of, negative_count}
+use Rattle.sg_check.specs.Loop.{IsFrustratedLoop, degree, is_end_of, negative_count}
 use Rattle.sg_check.proofs.WeakDuality.{one_end}
 use Rattle.sg_planar.proofs.Embeddings.{cuts_meet_evenly}
 use Rattle.sg_planar.proofs.FaceNumbers.{labels_number}
@@ -124,7 +125,7 @@ module _ (inst : Ising) (faces : Labelling) where
 
     ends_of : EndsBelow near_face far_face faces.count bonds
     ends_of = All_range (λ k. (near_face k < faces.count) × (far_face k < faces.count)) (bond_count inst)
-        (λ k l. (labels.below (2 * k) (omega arith), labels.below (2 * k + 1) (omega arith)))
+        (λ k l. (label_below inst faces labels (2 * k) (omega arith), label_below inst faces labels (2 * k + 1) (omega arith)))
 
     -- the negative bonds that end at a face in the dual
     abbrev negatives_at : ℕ → Bool

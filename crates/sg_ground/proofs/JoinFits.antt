@@ -1,24 +1,20 @@
 -- A join of the frustrated faces has on each face as many bonds as negative ones, up to an even number; and where just its bonds
 -- are broken, the broken bonds weigh what it weighs.
-use Rattle.std.proofs.Common.{◌≡◌, ℕ, ◌+◌, ◌*◌, ◌%◌, ◌<◌, pos, Bool, true, false, ◌&&◌, eqb, cond, List, [], ◌∷◌, refl, sym, ◌∙◌, ap, subst, arith, length, get_or, sum_by, All}
+use Rattle.std.proofs.Common.{◌≡◌, ℕ, ◌%◌, ◌<◌, pos, Bool, ◌&&◌, cond, List, sym, ◌∙◌, ap, subst, arith, get_or, sum_by, All}
 use Rattle.std.specs.Prelude.{ℤ, unsigned_abs}
-use Rattle.std.specs.List.Sorted.{IsStrictlyIncreasing}
-use Rattle.sg_sums.specs.Parity.{odd, parity_by, parity_below}
-use Rattle.sg_sums.specs.Sums.{sum_below}
+use Rattle.sg_sums.specs.Parity.{odd}
 use Rattle.sg_sums.specs.Sets.{holds}
 use Rattle.sg_sums.specs.Ends.{is_end}
 use Rattle.sg_sums.proofs.MemberSums.{members_sum}
 use Rattle.sg_sums.proofs.ParityLaws.{odd_is, parity_below-same, parity_by-same}
 use Rattle.sg_sums.proofs.RisingLists.{holds-chosen_below, members_parity}
 use Rattle.sg_sums.proofs.SumLaws.{sum_below-same, sum_by_is_sum_below}
-use Rattle.sg_model.specs.declared.bond.Bond.{Bond}
 use Rattle.sg_model.specs.Ising.{Ising, bond_at, bond_count}
-use Rattle.sg_model.specs.Broken.{is_broken}
 use Rattle.sg_model.proofs.BrokenEnergy.{broken_weight}
 use Rattle.sg_faces.specs.Faces.{Labelling}
 use Rattle.sg_faces.specs.Sides.{sides_on}
 use Rattle.sg_graph.specs.declared.web.Edge.{Edge}
-use Rattle.sg_graph.specs.Web.{edge_at, edge_count, edge_weight, ends_at, weight_at, weight_of}
+use Rattle.sg_graph.specs.Web.{edge_at, edge_weight, ends_at, weight_at, weight_of}
 use Rattle.sg_graph.specs.Join.{IsJoin}
 use Rattle.sg_graph.proofs.Joins.{ends_parity, odd_from_cond}
 use Rattle.sg_dual.specs.Dual.{dual_web, frustrated_faces, is_frustrated, is_negative_bond, negative_sides}

@@ -1,4 +1,10 @@
 pub mod FrustratedCuts
 pub mod Packings
 pub mod JoinFits
+pub mod FirstUp
 pub mod Solutions
+pub mod Shares
+pub mod Glued
+pub mod PlacedValues
+pub mod PartLists
+pub mod Gluing

@@ -1,5 +1,5 @@
 -- A packing of odd cuts of the dual is a packing of frustrated loops of the instance, and its loops are few.
-use Rattle.std.proofs.Common.{inl, inr, ◌≡◌, ℕ, ◌+◌, ◌*◌, ◌%◌, ◌<◌, ◌≤◌, pos, cond, List, [], ◌∷◌, map, refl, sym, ◌∙◌, ap, ap₂, arith, sum_by, count_by, length, get_or, All}
+use Rattle.std.proofs.Common.{inl, inr, ◌≡◌, ℕ, ◌*◌, ◌<◌, ◌≤◌, pos, cond, List, [], ◌∷◌, map, refl, ap, arith, sum_by, length, get_or}
 use Rattle.std.specs.Prelude.{unsigned_abs, ◌≤ℤ◌}
 use Rattle.std.specs.List.{range_with_len}
 use Rattle.std.proofs.lemmas.Bool.{cases_eq}
@@ -10,9 +10,9 @@ use Rattle.std.proofs.lemmas.List.Sums.{count_by-le-length, length-filter, sum_b
 use Rattle.sg_sums.specs.Sets.{holds}
 use Rattle.sg_model.specs.Ising.{Ising, bond_at, bond_count}
 use Rattle.sg_model.specs.WellFormed.{IsInstance}
+use Rattle.sg_model.specs.Connected.{IsConnected}
 use Rattle.sg_faces.specs.Faces.{Labelling, IsFaceLabels}
 use Rattle.sg_graph.specs.declared.cut.Cut.{Cut}
-use Rattle.sg_graph.specs.declared.web.Edge.{Edge}
 use Rattle.sg_graph.specs.Web.{edge_weight, weight_at}
 use Rattle.sg_graph.specs.OddCut.{CutsPack, IsOddCut, cut_load, cut_weight}
 use Rattle.sg_dual.specs.Dual.{dual_web, frustrated_faces, is_frustrated}
@@ -65,14 +65,14 @@ module _
   }
 
   -- with no more faces than bonds there are at most five loops for each two bonds; without a bond nothing is frustrated
-  pub short_loops : (0 < bond_count inst → faces.count ≤ bond_count inst) → IsShort inst (map loop_of cuts)
-  short_loops few = elim (cases_eq (bond_count inst) 0) [
+  pub short_loops : IsConnected inst → (0 < bond_count inst → faces.count ≤ bond_count inst) → IsShort inst (map loop_of cuts)
+  short_loops whole few = elim (cases_eq (bond_count inst) 0) [
     | inl none ↦ omega (arith, without none, length-map cuts loop_of)
     | inr some ↦ omega (arith, length-map cuts loop_of, pack.short, chosen_few inst faces, few (omega arith))
   ]
     where
       none_frustrated : bond_count inst ≡ 0 → length (frustrated_faces inst faces) ≡ 0
-      none_frustrated none = omega (arith, chosen_few inst faces, one_face_alone inst faces labels none, even_frustrated inst faces labels)
+      none_frustrated none = omega (arith, chosen_few inst faces, one_face_alone inst faces labels good whole none, even_frustrated inst faces labels)
 
       without : bond_count inst ≡ 0 → length cuts ≡ 0
       without no_bond = elim (cases_eq (length cuts) 0) [

@@ -1,12 +1,13 @@
 -- What a least join of the frustrated faces gives: spins that break exactly its bonds are a ground state, and the odd cuts that prove the
 -- join are the loops that prove it.
-use Rattle.std.proofs.Common.{inl, inr, ◌≡◌, ℕ, ◌+◌, ◌*◌, ◌<◌, ◌≤◌, ◌^◌, pos, ℤ, ◌+ℤ◌, ◌-ℤ◌, List, map, refl, sym, ◌∙◌, ap, subst, arith, sum_by, All, to_z, of_z, w64}
+use Rattle.std.proofs.Common.{inl, inr, ◌≡◌, ℕ, ◌*◌, ◌<◌, ◌≤◌, ◌^◌, pos, ℤ, ◌+ℤ◌, ◌-ℤ◌, List, map, sym, ◌∙◌, ap, subst, arith, sum_by, All, to_z, of_z, w64}
 use Rattle.std.specs.Prelude.{FitsSigned, unsigned_abs}
 use Rattle.std.specs.Int.{w128}
 use Rattle.std.proofs.lemmas.Bool.{cases_eq}
 use Rattle.std.proofs.lemmas.Int.{fits_signed_from_abs, ints, to_z-of_z}
 use Rattle.sg_model.specs.Ising.{Ising, bond_count}
 use Rattle.sg_model.specs.WellFormed.{IsInstance}
+use Rattle.sg_model.specs.Connected.{IsConnected}
 use Rattle.sg_model.specs.Spins.{IsAssignment, spin}
 use Rattle.sg_model.specs.Energy.{IsGroundState, energy, weight}
 use Rattle.sg_model.proofs.BrokenEnergy.{broken_weight, energy_from_broken}
@@ -16,7 +17,7 @@ use Rattle.sg_graph.specs.Web.{Graph, weight_of}
 use Rattle.sg_graph.specs.Join.{IsLeastJoin}
 use Rattle.sg_graph.specs.OddCut.{CutsPack, cut_weight}
 use Rattle.sg_check.specs.declared.packing.Loop.{Loop}
-use Rattle.sg_check.specs.Packing.{Proves, total_weight}
+use Rattle.sg_check.specs.Packing.{total_weight}
 use Rattle.sg_check.proofs.WeakDuality.{proves_ground_state}
 use Rattle.sg_planar.specs.Fit.{Embedding, IsPlanar}
 use Rattle.sg_planar.specs.BrokenLists.{BreaksExactly, FitsFaces}
@@ -26,17 +27,18 @@ use Rattle.sg_dual.specs.Dual.{dual_web, frustrated_faces}
 use Rattle.sg_ground.specs.Loops.{loop_of}
 use Rattle.sg_ground.specs.Solution.{IsSolution}
 use Rattle.sg_ground.specs.TightJoin.{IsTightJoin}
+use Rattle.sg_ground.proofs.FirstUp.{leasts_up}
 use Rattle.sg_ground.proofs.JoinFits.{broken_weight_is, join_below, join_fits}
 use Rattle.sg_ground.proofs.Packings.{loops_weight, packs_loops, short_loops}
 
-module _ (p : Embedding) (planar : IsPlanar p) where
+module _ (p : Embedding) (planar : IsPlanar p) (connected : IsConnected p.instance) where
   few_faces : 0 < bond_count p.instance → p.faces.count ≤ bond_count p.instance
-  few_faces some = faces_few p.instance planar.instance p.faces planar.faces planar.connected planar.genus_zero some
+  few_faces some = faces_few p.instance planar.instance connected p.faces planar.faces planar.genus_zero some
 
   -- the dual has no more faces than the program can number
   pub faces_fit : p.faces.count ≤ 2 ^ 24
   faces_fit = elim (cases_eq (bond_count p.instance) 0) [
-    | inl none ↦ omega (arith, one_face_alone p.instance p.faces planar.faces none)
+    | inl none ↦ omega (arith, one_face_alone p.instance p.faces planar.faces planar.instance connected none)
     | inr some ↦ omega (arith, few_faces (omega arith), planar.instance.few_bonds)
   ]
 
@@ -70,8 +72,8 @@ module _ (p : Embedding) (planar : IsPlanar p) where
           (loops_weight cuts ∙ join.tight ∙ ap (λ w. 2 * w) (sym (broken_weight_is p.instance p.faces edges join.least.join s breaks)))
           (sym stated ∙ energy_from_broken p.instance s planar.instance assigned);
     };
-    short = short_loops p.instance p.faces planar.instance planar.faces cuts join.packs few_faces;
-    first_up = first_up;
+    short = short_loops p.instance p.faces planar.instance planar.faces cuts join.packs connected few_faces;
+    leasts_up = leasts_up p.instance connected s first_up;
   }
     where
       tight_sum : (e : ℤ) (t b w : ℕ) → t ≡ 2 * b → e ≡ pos (2 * b) -ℤ pos w → pos t ≡ e +ℤ pos w

@@ -1,3 +1,4 @@
 pub mod TightJoin
 pub mod Loops
 pub mod Solution
+pub mod Placed

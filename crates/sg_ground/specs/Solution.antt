@@ -1,12 +1,13 @@
 -- What a ground state is answered with.
-use Rattle.std.specs.Prelude.{◌≡◌, ℤ, pos, List}
+use Rattle.std.specs.Prelude.{ℤ, List}
 use Rattle.sg_model.specs.Ising.{Ising}
-use Rattle.sg_model.specs.Spins.{spin}
+use Rattle.sg_model.specs.Connected.{LeastsUp}
 use Rattle.sg_check.specs.declared.packing.Loop.{Loop}
 use Rattle.sg_check.specs.Packing.{Proves, IsShort}
 
--- spins with their energy, spin 0 up, and a packing of few loops that proves that no assignment has less
+-- spins with their energy, the least spin of each component up, and a packing of few loops that proves that no
+-- assignment has less
 pub record IsSolution (inst : Ising) (s : List ℤ) (e : ℤ) (loops : List Loop) : Type 0 where
   pub proves : Proves inst s e loops
   pub short : IsShort inst loops
-  pub first_up : spin s 0 ≡ pos 1
+  pub leasts_up : LeastsUp inst s

@@ -6,17 +6,22 @@
 //! join weighs less (Edmonds and Johnson 1973) are frustrated loops of the instance: a set of faces
 //! with an odd number of frustrated ones is bounded by bonds of which every assignment breaks one.
 //!
+//! An instance falls into components that share no bond. Each is solved by itself: energies add, and
+//! the loops of all components together prove their sum.
+//!
 //! For the next engineer: `solve` is the call that matters, and what is built on it rests on its
-//! contract and on nothing of its body. It first asks the proposer of `sg_regions`, of which nothing
-//! is promised, and answers what the checker of `sg_check` says yes to (`judged_proposal`); else it
-//! goes by the dual, which always answers (`match_faces`). The proof of the second way: an odd cut is
-//! a frustrated loop (`proofs/FrustratedCuts.antt`), a packing of cuts is one of loops, and not too
-//! many (`Packings`), a join fits the faces and weighs what the broken bonds weigh (`JoinFits`), and
-//! all of it together (`Solutions`).
+//! contract and on nothing of its body. For each part it first asks the proposer of `sg_regions`, of
+//! which nothing is promised, and answers what the checker of `sg_check` says yes to
+//! (`judged_proposal`); else it goes by the dual, which always answers (`match_faces`). The proof of
+//! the second way: an odd cut is a frustrated loop (`proofs/FrustratedCuts.antt`), a packing of cuts
+//! is one of loops, and not too many (`Packings`), a join fits the faces and weighs what the broken
+//! bonds weigh (`JoinFits`), and all of it together (`Solutions`). The proof of the whole: what a
+//! part gives (`Shares`), what the parts are together (`PartLists`), and one part more (`Gluing`).
 #![tactic(auto)]
 
 mod answer;
 mod matched;
+mod placed;
 mod proposed;
 
 pub use answer::{Answer, solve};

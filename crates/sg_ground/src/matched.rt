@@ -1,4 +1,5 @@
 ghost use Rattle.std.specs.Prelude.{◌≡◌, map, IfOk};
+ghost use Rattle.sg_model.specs.Connected.{IsConnected};
 ghost use Rattle.sg_planar.specs.Fit.{IsPlanar};
 ghost use Rattle.sg_ground.specs.Loops.{loop_of};
 ghost use Rattle.sg_ground.specs.Solution.{IsSolution};
@@ -12,12 +13,13 @@ use sg_planar::{Planar, spin_walk};
 use sg_tjoin::{Join, least_join};
 use std::alloc::Global;
 
-/// A ground state by way of the dual, without a proposal: the broken bonds are a least join of the
-/// frustrated faces, and the odd cuts that prove the join are frustrated loops that prove the ground
-/// state. The only error is want of memory.
+/// A ground state of a connected instance by way of the dual, without a proposal: the broken bonds
+/// are a least join of the frustrated faces, and the odd cuts that prove the join are frustrated
+/// loops that prove the ground state. The only error is want of memory.
 ///
 /// Cost: that of `sg_tjoin::least_join` on the frustrated faces, and linear in the answer.
 pub fn match_faces(alloc: Global, planar: &Planar) -> Result<Answer, NoMemory>
+    requires connected { IsConnected planar.now.instance }
     ensures solution { IfOk result (λ a. IsSolution planar.now.instance a.spins a.energy a.loops) }
     ensures planar { IsPlanar planar.now }
 {
@@ -34,6 +36,7 @@ pub fn match_faces(alloc: Global, planar: &Planar) -> Result<Answer, NoMemory>
 
 // A least join of the frustrated faces, with odd cuts that prove it.
 fn join_faces(alloc: Global, planar: &Planar) -> Result<Join, NoMemory>
+    requires connected { IsConnected planar.now.instance }
     ensures join { IfOk result (λ j. IsTightJoin planar.now j.edges j.cuts) }
     ensures planar { IsPlanar planar.now }
 {

@@ -1,7 +1,7 @@
--- The number of each refusal, and the numbers that it keeps.
+-- The number of each refusal, and the numbers that it keeps. Number 14 is not in use.
 use Rattle.std.specs.Prelude.{ℤ, pos, List, [], ◌∷◌}
 use Rattle.sg_model.specs.declared.refusal.Refusal.{Refusal}
-use Rattle.sg_model.specs.declared.refusal.Refusal.TheVariants.{TooLong, Unended, BadNumber, UnknownKind, BadShape, CouplingCount, TooManySpins, TooManyBonds, SelfBond, BadRotation, BadSeam, Trailing, SumTooLarge, NotConnected, NotPlanar, NoSeam, UnknownLaw, BadJson, BadMember, JsonTooLong}
+use Rattle.sg_model.specs.declared.refusal.Refusal.TheVariants.{TooLong, Unended, BadNumber, UnknownKind, BadShape, CouplingCount, TooManySpins, TooManyBonds, SelfBond, BadRotation, BadSeam, Trailing, SumTooLarge, NotPlanar, NoSeam, UnknownLaw, BadJson, BadMember, JsonTooLong, OddTerminals, BadTerminal, NotJoined}
 
 abbrev pub refusal_numbers : Refusal → List ℤ
 refusal_numbers (TooLong limit) = pos 1 ∷ pos limit ∷ []
@@ -17,10 +17,12 @@ refusal_numbers (BadRotation spin dart) = pos 10 ∷ pos spin ∷ pos dart ∷ [
 refusal_numbers (BadSeam bond) = pos 11 ∷ pos bond ∷ []
 refusal_numbers (Trailing at) = pos 12 ∷ pos at ∷ []
 refusal_numbers (SumTooLarge total) = pos 13 ∷ total ∷ []
-refusal_numbers (NotConnected spin) = pos 14 ∷ pos spin ∷ []
 refusal_numbers (NotPlanar euler) = pos 15 ∷ euler ∷ []
 refusal_numbers NoSeam = pos 16 ∷ []
 refusal_numbers UnknownLaw = pos 17 ∷ []
 refusal_numbers BadJson = pos 18 ∷ []
 refusal_numbers (BadMember place entry) = pos 19 ∷ pos place ∷ pos entry ∷ []
 refusal_numbers (JsonTooLong limit) = pos 20 ∷ pos limit ∷ []
+refusal_numbers (OddTerminals count) = pos 21 ∷ pos count ∷ []
+refusal_numbers (BadTerminal node) = pos 22 ∷ pos node ∷ []
+refusal_numbers (NotJoined node) = pos 23 ∷ pos node ∷ []

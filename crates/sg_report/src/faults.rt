@@ -33,7 +33,6 @@ pub fn refusal_text(alloc: Global, refusal: &Refusal) -> Result<Vec<u8>, NoMemor
         Refusal::BadSeam { bond } => one_line(alloc, word, &[11, i128::from(*bond)]),
         Refusal::Trailing { at } => one_line(alloc, word, &[12, i128::from(*at)]),
         Refusal::SumTooLarge { sum } => one_line(alloc, word, &[13, *sum]),
-        Refusal::NotConnected { spin } => one_line(alloc, word, &[14, i128::from(*spin)]),
         Refusal::NotPlanar { euler } => one_line(alloc, word, &[15, i128::from(*euler)]),
         Refusal::NoSeam => one_line(alloc, word, &[16]),
         Refusal::UnknownLaw => one_line(alloc, word, &[17]),
@@ -42,6 +41,9 @@ pub fn refusal_text(alloc: Global, refusal: &Refusal) -> Result<Vec<u8>, NoMemor
             one_line(alloc, word, &[19, i128::from(*place), i128::from(*item)])
         }
         Refusal::JsonTooLong { limit } => one_line(alloc, word, &[20, i128::from(*limit)]),
+        Refusal::OddTerminals { count } => one_line(alloc, word, &[21, i128::from(*count)]),
+        Refusal::BadTerminal { node } => one_line(alloc, word, &[22, i128::from(*node)]),
+        Refusal::NotJoined { node } => one_line(alloc, word, &[23, i128::from(*node)]),
     }
 }
 

@@ -14,10 +14,10 @@ use Rattle.sg_ground.proofs.Solutions.{faces_fit, tight_join}
 use Rattle.sg_ground.proofs.matched.join_faces.Goals as goal
 
 pub dual-requires-clause-few : goal.dual-requires-clause-few
-dual-requires-clause-few c = subst (λ (f : Labelling). f.count ≤ 2 ^ 24) (sym c.faces.ensures.value) (faces_fit c.args.planar.now c.faces.ensures.planar)
+dual-requires-clause-few c = subst (λ (f : Labelling). f.count ≤ 2 ^ 24) (sym c.faces.ensures.value) (faces_fit c.args.planar.now c.faces.ensures.planar c.requires.connected)
 
 pub least_join-requires-clause-connected : goal.least_join-requires-clause-connected
-least_join-requires-clause-connected c = c.in_ok-web.ensures.connected (subst IsConnected (sym c.instance.ensures.value) c.instance.ensures.planar.connected)
+least_join-requires-clause-connected c = c.in_ok-web.ensures.connected (subst IsConnected (sym c.instance.ensures.value) c.requires.connected)
 
 pub least_join-requires-clause-light : goal.least_join-requires-clause-light
 least_join-requires-clause-light c =
@@ -46,5 +46,5 @@ returns-clause-join c =
     (λ (j : Join). CutsPack web terminals j.cuts)
     (λ (j : Join). sum_by cut_weight j.cuts ≡ 2 * weight_of web j.edges)
     (λ (j : Join). IsTightJoin p j.edges j.cuts)
-    (λ (j : Join). tight_join p c.instance.ensures.planar web terminals j.edges j.cuts same_web same_terminals)
+    (λ (j : Join). tight_join p c.instance.ensures.planar c.requires.connected web terminals j.edges j.cuts same_web same_terminals)
     c.least_join.ensures.least c.least_join.ensures.packs c.least_join.ensures.tight

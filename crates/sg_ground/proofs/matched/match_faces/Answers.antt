@@ -6,12 +6,12 @@ use Rattle.sg_ground.proofs.matched.match_faces.Goals as goal
 pub spin_walk-requires-clause-below : goal.spin_walk-requires-clause-below
 spin_walk-requires-clause-below c =
     let join = c.in_ok-join.join in
-    bonds_of_join c.args.planar.now c.join_faces.ensures.planar join.edges join.cuts c.in_ok-join.ensures.join
+    bonds_of_join c.args.planar.now c.join_faces.ensures.planar c.requires.connected join.edges join.cuts c.in_ok-join.ensures.join
 
 pub spin_walk-requires-clause-fits : goal.spin_walk-requires-clause-fits
 spin_walk-requires-clause-fits c =
     let join = c.in_ok-join.join in
-    fits_of_join c.args.planar.now c.join_faces.ensures.planar join.edges join.cuts c.in_ok-join.ensures.join
+    fits_of_join c.args.planar.now c.join_faces.ensures.planar c.requires.connected join.edges join.cuts c.in_ok-join.ensures.join
 
 pub overflow_cast-energy : goal.overflow_cast-energy
 overflow_cast-energy c =
@@ -27,5 +27,5 @@ returns-clause-solution c =
     let stated =
     cast_energy c.args.planar.now c.instance.result.now spins sum c.instance.ensures.planar c.instance.ensures.value found.assignment c.energy-energy.ensures in
     rw c.in_ok-loops.ensures
-    (solution_from_join c.args.planar.now c.instance.ensures.planar spins (to_z w64 (of_z w64 (to_z w128 (of_z w128 sum)))) join.edges join.cuts
+    (solution_from_join c.args.planar.now c.instance.ensures.planar c.requires.connected spins (to_z w64 (of_z w64 (to_z w128 (of_z w128 sum)))) join.edges join.cuts
     found.assignment found.first_up found.breaks stated c.in_ok-join.ensures.join)

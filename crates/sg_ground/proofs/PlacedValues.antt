@@ -1,0 +1,50 @@
+-- Values written to rising places, one by one.
+use Rattle.std.proofs.Common.{inl, inr, ◌≡◌, ℕ, ◌+◌, ◌<◌, ℤ, pos, Bool, true, false, ◌||◌, eqb, List, take, set, refl, sym, ◌∙◌, ap, arith, length, get_or, All}
+use Rattle.std.specs.List.Sorted.{IsStrictlyIncreasing}
+use Rattle.std.proofs.lemmas.Bool.{cases_eq, eq-eqb, false≢true}
+use Rattle.std.proofs.lemmas.List.{get_or-set_other, get_or-set_same, get_or-take, get_or_default, length-set, length-take}
+use Rattle.std.proofs.lemmas.List.Folds.{list_any_more}
+use Rattle.sg_sums.specs.Sets.{holds}
+use Rattle.sg_sums.proofs.OneMore.{rising_order}
+use Rattle.sg_model.specs.Spins.{spin}
+use Rattle.sg_ground.specs.Placed.{Writes, numbered}
+
+both_false : (a b : Bool) → (a || b) ≡ false → (a ≡ false) × (b ≡ false)
+both_false true b h = absurd (false≢true (sym h))
+both_false false b h = (refl, h)
+
+pub written_more : (places : List ℕ) (part old now : List ℤ) (i : ℕ) (y : ℤ) → IsStrictlyIncreasing places → All (λ x. x < length old) places →
+    length part ≡ length places → i < length places → y ≡ get_or part i (pos 0) → Writes (take i places) part old now →
+    Writes (take (i + 1) places) part old (set now (get_or places i 0) y)
+written_more places part old now i y up below count l value was = record {
+  count = length-set now (get_or places i 0) y ∙ was.count;
+  values = values_more;
+  others = others_more;
+}
+  where
+    inside : get_or places i 0 < length now
+    inside = omega (arith, below i 0 l, was.count)
+
+    values_more : (k : ℕ) → k < length (take (i + 1) places) → spin (set now (get_or places i 0) y) (numbered (take (i + 1) places) k) ≡ spin part k
+    values_more k m =
+        let low : k < i + 1 = omega (arith, m, length-take (i + 1) places) in
+        let place : numbered (take (i + 1) places) k ≡ get_or places k 0 = get_or-take (i + 1) places k 0 low in
+        ap (spin (set now (get_or places i 0) y)) place ∙ (elim (cases_eq k i) [
+          | inl same ↦
+              ap (λ j. spin (set now (get_or places i 0) y) (get_or places j 0)) same
+              ∙ get_or-set_same now (get_or places i 0) y (pos 1) inside ∙ value
+              ∙ get_or_default part i (pos 0) (pos 1) (omega (arith, l, count)) ∙ ap (spin part) (sym same)
+          | inr other ↦
+              let before : k < i = omega (arith, low, other) in
+              let less : get_or places k 0 < get_or places i 0 = rising_order places up k i before l in
+              get_or-set_other now (get_or places i 0) (get_or places k 0) y (pos 1) (λ e. omega (arith, e, less))
+              ∙ ap (spin now) (sym (get_or-take i places k 0 before))
+              ∙ was.values k (omega (arith, before, l, length-take i places))
+        ])
+
+    others_more : (x : ℕ) → holds (take (i + 1) places) x ≡ false → spin (set now (get_or places i 0) y) x ≡ spin old x
+    others_more x out =
+        let parts = both_false (holds (take i places) x) (eqb (get_or places i 0) x) (sym (list_any_more (λ z. eqb z x) places i 0 l) ∙ out) in
+        get_or-set_other now (get_or places i 0) x y (pos 1)
+        (λ (e : x ≡ get_or places i 0). false≢true (sym parts.1 ∙ eq-eqb (get_or places i 0) x (sym e)))
+        ∙ was.others x parts.0
