@@ -18,7 +18,9 @@ mod clusters;
 mod command;
 mod counts;
 mod draw;
+mod drawn;
 mod energy;
+mod ensemble;
 mod generate;
 mod ground;
 mod numeral;
@@ -29,6 +31,7 @@ mod serve;
 mod status;
 mod study;
 mod wall;
+mod widths;
 
 pub use command::{Command, Drawing, Reading, Size, Study};
 pub use serve::run;
