@@ -19,7 +19,9 @@ mod clusters;
 mod command;
 mod counts;
 mod draw;
+mod drawn;
 mod energy;
+mod ensemble;
 mod generate;
 mod graph;
 mod ground;
@@ -35,6 +37,7 @@ mod status;
 mod study;
 mod tjoin;
 mod wall;
+mod widths;
 
 pub use command::{Command, Drawing, GraphTask, Reading, Size, Study};
 pub use serve::run;
