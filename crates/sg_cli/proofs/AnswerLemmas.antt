@@ -6,7 +6,6 @@ use Rattle.sg_laws.specs.Named.{Law, first_named}
 use Rattle.sg_cli.specs.Command.{command_of, law_word}
 use Rattle.sg_cli.specs.Promises.{AnswersInPart, AnswersSource, AnswersWhole, IsAnswered, IsServed}
 use Rattle.sg_cli.specs.Served.{AnswersLaw, usage_text}
-use Rattle.sg_cli.specs.declared.command.Command.{Command}
 use Rattle.sg_cli.specs.declared.command.Command.TheVariants.{Read, Draw}
 use Rattle.sg_cli.specs.declared.command.Drawing.{Drawing}
 use Rattle.sg_cli.specs.declared.command.Reading.{Reading}

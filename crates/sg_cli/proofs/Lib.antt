@@ -1,3 +1,4 @@
+mod WidthByWidth
 mod Samples
 mod Numerals
 mod TakesLemmas

@@ -1,5 +1,5 @@
 -- Which command the words of a call name.
-use Rattle.std.specs.Prelude.{ℕ, ◌*◌, ◌-◌, ◌^◌, ◌≤◌, nat_le, Option, Some, None, List, [], ◌∷◌, codes, if◌then◌else◌, ⊤}
+use Rattle.std.specs.Prelude.{ℕ, ◌*◌, ◌≤◌, nat_le, Option, Some, None, List, [], ◌∷◌, codes, if◌then◌else◌, ⊤}
 use Rattle.std.specs.Str.{bytes_eq}
 use Rattle.std.specs.Option.{option_and_then}
 use Rattle.sg_limits.specs.Limits.{spin_limit}
@@ -12,7 +12,7 @@ use Rattle.sg_cli.specs.declared.command.Command.TheVariants.{Read, Draw}
 use Rattle.sg_cli.specs.declared.command.Reading.TheVariants.{Study, Check}
 use Rattle.sg_cli.specs.declared.command.Study.TheVariants.{Energy, Ground, Wall, Bonds, Clusters, Report, Ranges, Maxcut}
 use Rattle.sg_cli.specs.declared.command.Drawing.{Drawing}
-use Rattle.sg_cli.specs.declared.command.Drawing.TheVariants.{Gen, Sample}
+use Rattle.sg_cli.specs.declared.command.Drawing.TheVariants.{Gen, Sample, Ensemble, Widths}
 use Rattle.sg_cli.specs.declared.command.Size.{Size}
 
 -- the command that one word names
@@ -42,23 +42,51 @@ kind_named word =
 abbrev pub seed_in : List ℕ → Option ℕ
 seed_in word = number_in 0 18446744073709551615 word
 
--- rows and columns, of no more spins together than the limit
-abbrev pub size_in : ℕ → List ℕ → List ℕ → Option Size
-size_in least rows cols =
+-- rows and columns, of no more spins together than the limit, with at least and at most so many columns
+abbrev pub size_in : ℕ → ℕ → List ℕ → List ℕ → Option Size
+size_in least most rows cols =
     option_and_then (λ R. option_and_then (λ C.
     if nat_le (R * C) spin_limit then Some (record { rows = R; cols = C }) else None)
-    (number_in least spin_limit cols)) (number_in 1 spin_limit rows)
+    (number_in least most cols)) (number_in 1 spin_limit rows)
+
+-- the most samples of an ensemble
+abbrev pub sample_limit : ℕ
+sample_limit = 1000
+
+-- the most columns of a study over widths
+abbrev pub width_limit : ℕ
+width_limit = 64
 
 -- a lattice of a kind
 abbrev pub gen_of : List ℕ → List ℕ → List ℕ → List ℕ → Option Command
 gen_of seed kind rows cols =
     option_and_then (λ s. option_and_then (λ k. option_and_then (λ size. Some (Draw (Gen s k size)))
-    (size_in (least_cols k) rows cols)) (kind_named kind)) (seed_in seed)
+    (size_in (least_cols k) spin_limit rows cols)) (kind_named kind)) (seed_in seed)
 
 -- a sample of the square lattice
 abbrev pub sample_of : List ℕ → List ℕ → List ℕ → Option Command
 sample_of seed rows cols =
-    option_and_then (λ s. option_and_then (λ size. Some (Draw (Sample s size))) (size_in 1 rows cols)) (seed_in seed)
+    option_and_then (λ s. option_and_then (λ size. Some (Draw (Sample s size))) (size_in 1 spin_limit rows cols)) (seed_in seed)
+
+-- an ensemble of so many cylinders
+abbrev pub ensemble_of : List ℕ → List ℕ → List ℕ → List ℕ → Option Command
+ensemble_of seed rows cols count =
+    option_and_then (λ s. option_and_then (λ size. option_and_then (λ n. Some (Draw (Ensemble s size n)))
+    (number_in 1 sample_limit count)) (size_in 3 spin_limit rows cols)) (seed_in seed)
+
+-- an ensemble for each width from 3 on
+abbrev pub widths_of : List ℕ → List ℕ → List ℕ → List ℕ → Option Command
+widths_of seed rows cols count =
+    option_and_then (λ s. option_and_then (λ size. option_and_then (λ n. Some (Draw (Widths s size n)))
+    (number_in 1 sample_limit count)) (size_in 3 width_limit rows cols)) (seed_in seed)
+
+-- the command of six words, of which the second is left out
+unfoldable pub six_words : List ℕ → List ℕ → List ℕ → List ℕ → List ℕ → Option Command
+six_words word seed a b c =
+    if bytes_eq word (codes "gen") then gen_of seed a b c
+    else (if bytes_eq word (codes "ensemble") then ensemble_of seed a b c
+    else (if bytes_eq word (codes "widths") then widths_of seed a b c
+    else None))
 
 -- the command of the words, each given by its bytes; none where the words have no shape. The second word of a command
 -- that draws is the name of its law, and may be any
@@ -66,8 +94,7 @@ abbrev pub command_of : List (List ℕ) → Option Command
 command_of (word ∷ []) = command_named word
 command_of (word ∷ law ∷ seed ∷ rows ∷ cols ∷ []) =
     if bytes_eq word (codes "sample") then sample_of seed rows cols else None
-command_of (word ∷ law ∷ seed ∷ kind ∷ rows ∷ cols ∷ []) =
-    if bytes_eq word (codes "gen") then gen_of seed kind rows cols else None
+command_of (word ∷ law ∷ seed ∷ a ∷ b ∷ c ∷ []) = six_words word seed a b c
 command_of _ = None
 
 -- the name of a law, where the words have one
@@ -85,6 +112,9 @@ pub record IsAllowedSize (kind : Kind) (size : Size) : Type 0 where
 abbrev pub IsAllowedDrawing : Drawing → Type 0
 IsAllowedDrawing (Gen seed kind size) = IsAllowedSize kind size
 IsAllowedDrawing (Sample seed size) = IsAllowedSize Square size
+IsAllowedDrawing (Ensemble seed size count) = IsAllowedSize Cylinder size × (1 ≤ count) × (count ≤ sample_limit)
+IsAllowedDrawing (Widths seed size count) =
+    IsAllowedSize Cylinder size × (size.cols ≤ width_limit) × (1 ≤ count) × (count ≤ sample_limit)
 
 abbrev pub IsAllowed : Command → Type 0
 IsAllowed (Read reading) = ⊤

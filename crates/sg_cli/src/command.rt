@@ -1,11 +1,17 @@
-ghost use Rattle.std.specs.Prelude.{◌≡◌, Some, None, codes, if◌then◌else◌, map, string_bytes, IfSome};
+ghost use Rattle.std.specs.Prelude.{◌≡◌, ◌≤◌, Some, None, codes, if◌then◌else◌, map, string_bytes, IfSome};
 ghost use Rattle.std.specs.Str.{bytes_eq};
 ghost use Rattle.sg_lattice.specs.Tables.{least_cols as least_columns};
-ghost use Rattle.sg_cli.specs.Command.{command_named, command_of, gen_of, IsAllowed, IsAllowedSize, kind_named, law_word as second_word, sample_of, size_in};
+ghost use Rattle.sg_cli.specs.Command.{command_named, command_of, ensemble_of, gen_of, IsAllowed, IsAllowedSize, kind_named, law_word as second_word, sample_of, six_words, size_in, widths_of};
 
 use super::numeral::number_in;
 use sg_lattice::Kind;
 use sg_limits::SPIN_LIMIT;
+
+// The most samples of an ensemble.
+const SAMPLE_LIMIT: u64 = 1000;
+
+// The most columns of a study over widths.
+const WIDTH_LIMIT: u32 = 64;
 
 /// A command of the program.
 #[derive(Clone, Copy)]
@@ -53,6 +59,10 @@ pub enum Drawing {
     Gen { seed: u64, kind: Kind, size: Size },
     /// The least energy of a square lattice with drawn couplings.
     Sample { seed: u64, size: Size },
+    /// What domain walls cost on so many cylinders with drawn couplings.
+    Ensemble { seed: u64, size: Size, count: u32 },
+    /// The sums over such an ensemble for each width, from 3 columns to those of the size.
+    Widths { seed: u64, size: Size, count: u32 },
 }
 
 /// The rows and columns of a lattice.
@@ -70,7 +80,7 @@ pub fn parse_command(words: &[String]) -> Option<Command>
     match words {
         [word] => command_named(word.as_str()),
         [word, _, seed, rows, cols] => five_words(word, seed, rows, cols),
-        [word, _, seed, kind, rows, cols] => six_words(word, seed, kind, rows, cols),
+        [word, _, seed, a, b, c] => six_words(word, seed, a, b, c),
         _ => None,
     }
 }
@@ -126,12 +136,17 @@ fn five_words(word: &str, seed: &str, rows: &str, cols: &str) -> Option<Command>
 }
 
 // The command of six words, of which the second is left out.
-fn six_words(word: &str, seed: &str, kind: &str, rows: &str, cols: &str) -> Option<Command>
-    ensures value { result ≡ (if bytes_eq word.now (codes "gen") then gen_of seed.now kind.now rows.now cols.now else None) }
+#[tactic(auto, unfolding(crate::specs::Command::six_words))]
+fn six_words(word: &str, seed: &str, a: &str, b: &str, c: &str) -> Option<Command>
+    ensures value { result ≡ six_words word.now seed.now a.now b.now c.now }
     ensures allowed { IfSome result IsAllowed }
 {
     if word == "gen" {
-        gen_of(seed, kind, rows, cols)
+        gen_of(seed, a, b, c)
+    } else if word == "ensemble" {
+        ensemble_of(seed, a, b, c)
+    } else if word == "widths" {
+        widths_of(seed, a, b, c)
     } else {
         None
     }
@@ -144,7 +159,7 @@ fn gen_of(seed: &str, kind: &str, rows: &str, cols: &str) -> Option<Command>
 {
     let seed = number_in(seed, 0, u64::MAX)?;
     let kind = kind_named(kind)?;
-    let size = size_in(kind, rows, cols)?;
+    let size = size_in(kind, SPIN_LIMIT, rows, cols)?;
     Some(Command::Draw(Drawing::Gen { seed, kind, size }))
 }
 
@@ -154,8 +169,30 @@ fn sample_of(seed: &str, rows: &str, cols: &str) -> Option<Command>
     ensures allowed { IfSome result IsAllowed }
 {
     let seed = number_in(seed, 0, u64::MAX)?;
-    let size = size_in(Kind::Square, rows, cols)?;
+    let size = size_in(Kind::Square, SPIN_LIMIT, rows, cols)?;
     Some(Command::Draw(Drawing::Sample { seed, size }))
+}
+
+// An ensemble of so many cylinders.
+fn ensemble_of(seed: &str, rows: &str, cols: &str, count: &str) -> Option<Command>
+    ensures value { result ≡ ensemble_of seed.now rows.now cols.now count.now }
+    ensures allowed { IfSome result IsAllowed }
+{
+    let seed = number_in(seed, 0, u64::MAX)?;
+    let size = size_in(Kind::Cylinder, SPIN_LIMIT, rows, cols)?;
+    let count = number_in(count, 1, SAMPLE_LIMIT)? as u32;
+    Some(Command::Draw(Drawing::Ensemble { seed, size, count }))
+}
+
+// An ensemble for each width from 3 on.
+fn widths_of(seed: &str, rows: &str, cols: &str, count: &str) -> Option<Command>
+    ensures value { result ≡ widths_of seed.now rows.now cols.now count.now }
+    ensures allowed { IfSome result IsAllowed }
+{
+    let seed = number_in(seed, 0, u64::MAX)?;
+    let size = size_in(Kind::Cylinder, WIDTH_LIMIT, rows, cols)?;
+    let count = number_in(count, 1, SAMPLE_LIMIT)? as u32;
+    Some(Command::Draw(Drawing::Widths { seed, size, count }))
 }
 
 // The kind of lattice that a word names.
@@ -175,14 +212,16 @@ fn kind_named(word: &str) -> Option<Kind>
     }
 }
 
-// Rows and columns of a lattice of this kind, of no more spins together than the limit.
-fn size_in(kind: Kind, rows: &str, cols: &str) -> Option<Size>
-    ensures value { result ≡ size_in (least_columns kind) rows.now cols.now }
+// Rows and columns of a lattice of this kind, with no more columns than `most`, and no more spins than
+// the limit.
+fn size_in(kind: Kind, most: u32, rows: &str, cols: &str) -> Option<Size>
+    ensures value { result ≡ size_in (least_columns kind) most rows.now cols.now }
     ensures allowed { IfSome result (IsAllowedSize kind) }
+    ensures most { IfSome result (λ size. size.cols ≤ most) }
 {
     let rows = number_in(rows, 1, u64::from(SPIN_LIMIT))? as u32;
-    let cols = number_in(cols, least_cols(kind), u64::from(SPIN_LIMIT))? as u32;
-    if rows * cols <= SPIN_LIMIT {
+    let cols = number_in(cols, least_cols(kind), u64::from(most))? as u32;
+    if u64::from(rows) * u64::from(cols) <= u64::from(SPIN_LIMIT) {
         Some(Size { rows, cols })
     } else {
         None

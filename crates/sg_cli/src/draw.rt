@@ -1,18 +1,19 @@
 // What a command answers that draws: the refusal of a name that no law has, or what is made of the
 // draws.
-ghost use Rattle.std.specs.Prelude.{◌≡◌, map, length, All, IfOk};
+ghost use Rattle.std.specs.Prelude.{map, IfOk};
 ghost use Rattle.sg_laws.specs.Named.{first_named};
-ghost use Rattle.sg_laws.specs.Stream.{IsDraw};
 ghost use Rattle.sg_cli.specs.Command.{IsAllowedDrawing};
 ghost use Rattle.sg_cli.specs.Promises.{IsAnswered};
 ghost use Rattle.sg_cli.specs.Served.{AnswersDraws, AnswersLaw};
 
 use super::command::Drawing;
+use super::ensemble::ensemble_reply;
 use super::generate::gen_reply;
 use super::reply::{NoMemory, Reply, refuse};
 use super::sample::sample_reply;
-use sg_laws::{Disorder, draws, named, start};
-use sg_model::{Couplings, Refusal};
+use super::widths::widths_reply;
+use sg_laws::{Disorder, named};
+use sg_model::Refusal;
 use std::alloc::Global;
 
 /// What is made of the draws of the first law with this name. The laws are dropped.
@@ -28,36 +29,28 @@ pub fn draw_reply(
     ensures answered { IfOk result (λ reply. IsAnswered reply.status) }
 {
     match named(laws, name) {
-        Some(law) => law_reply(alloc, drawing, law),
+        Some(law) => {
+            let mut law = law;
+            law_reply(alloc, drawing, &mut law)
+        }
         None => refuse(alloc, &Refusal::UnknownLaw),
     }
 }
 
 // What is made of the draws of a law.
-fn law_reply(alloc: Global, drawing: Drawing, law: Box<dyn Disorder>) -> Result<Reply, NoMemory>
+fn law_reply(
+    alloc: Global,
+    drawing: Drawing,
+    law: &mut Box<dyn Disorder>,
+) -> Result<Reply, NoMemory>
     requires { IsAllowedDrawing drawing }
-    ensures served { IfOk result (λ reply. AnswersDraws drawing (seeded law) reply.text.items reply.status) }
+    ensures served { IfOk result (λ reply. AnswersDraws drawing (seeded law.old) reply.text.items reply.status) }
     ensures answered { IfOk result (λ reply. IsAnswered reply.status) }
 {
     match drawing {
         Drawing::Gen { seed, kind, size } => gen_reply(alloc, law, seed, kind, size),
         Drawing::Sample { seed, size } => sample_reply(alloc, law, seed, size),
+        Drawing::Ensemble { seed, size, count } => ensemble_reply(alloc, law, seed, size, count),
+        Drawing::Widths { seed, size, count } => widths_reply(alloc, law, seed, size, count),
     }
-}
-
-/// The first draws of a law after a seed.
-pub fn couplings(
-    alloc: Global,
-    law: Box<dyn Disorder>,
-    seed: u64,
-    count: u32,
-) -> Result<Couplings, NoMemory>
-    ensures drawn { IfOk result (λ j. j ≡ seeded law seed count) }
-    ensures count { IfOk result (λ j. length j ≡ count) }
-    ensures range { IfOk result (λ j. All IsDraw j) }
-{
-    let mut law = law;
-    start(&mut law, seed);
-    let drawn = draws(alloc, &mut law, count as usize)?;
-    Ok(Couplings::from_vec(drawn))
 }

@@ -5,9 +5,9 @@ ghost use Rattle.sg_cli.specs.Promises.{IsAnswered};
 ghost use Rattle.sg_cli.specs.Served.{PrintsLattice, drawn_couplings};
 
 use super::command::Size;
-use super::draw::couplings;
+use super::drawn::couplings;
 use super::reply::{NoMemory, Reply, done};
-use sg_lattice::{Kind, bond_count};
+use sg_lattice::Kind;
 use sg_laws::Disorder;
 use sg_report::instance_text;
 use std::alloc::Global;
@@ -15,18 +15,17 @@ use std::alloc::Global;
 /// A lattice whose couplings are the first draws of the law after the seed.
 pub fn gen_reply(
     alloc: Global,
-    law: Box<dyn Disorder>,
+    law: &mut Box<dyn Disorder>,
     seed: u64,
     kind: Kind,
     size: Size,
 ) -> Result<Reply, NoMemory>
     requires { IsAllowedSize kind size }
     ensures served { IfOk result (λ reply.
-        PrintsLattice kind size (drawn_couplings kind size (seeded law seed)) reply.text.items reply.status) }
+        PrintsLattice kind size (drawn_couplings kind size (seeded law.old seed)) reply.text.items reply.status) }
     ensures answered { IfOk result (λ reply. IsAnswered reply.status) }
 {
-    let count = bond_count(kind, size.rows, size.cols);
-    let j = couplings(alloc, law, seed, count)?;
+    let j = couplings(alloc, law, seed, kind, size)?;
     let text = instance_text(alloc, kind, size.rows, size.cols, &j)?;
     Ok(done(text))
 }

@@ -19,7 +19,9 @@ mod clusters;
 mod command;
 mod counts;
 mod draw;
+mod drawn;
 mod energy;
+mod ensemble;
 mod generate;
 mod ground;
 mod maxcut;
@@ -32,6 +34,7 @@ mod serve;
 mod status;
 mod study;
 mod wall;
+mod widths;
 
 pub use command::{Command, Drawing, Reading, Size, Study};
 pub use serve::run;

@@ -65,6 +65,15 @@ fn what_is_drawn(rt: HostRuntime) -> Result<(), Fail> {
             "sample one 0 3 3",
             "spins,9\nbonds,12\nsum,12\nenergy,-12\nbroken,0\nend\n",
         ),
+        (
+            "ensemble one 0 2 3 3",
+            "wall,0,4\nwall,1,4\nwall,2,4\nsum,12\nsquares,48\nend\n",
+        ),
+        (
+            "ensemble alternate 0 1 3 2",
+            "wall,0,-2\nwall,1,2\nsum,0\nsquares,8\nend\n",
+        ),
+        ("widths one 0 2 4 1", "width,3,4,16\nwidth,4,4,16\nend\n"),
     ];
     for (line, text) in rows {
         expect_drawn(&rt, rt.alloc(), line, (Status::Done, text))?;
@@ -78,6 +87,8 @@ fn names_that_no_law_has(rt: HostRuntime) -> Result<(), Fail> {
         "sample nolaw 1 4 4",
         "gen Pm 1 square 2 2",
         "gen p 1 square 2 2",
+        "ensemble nolaw 1 2 3 1",
+        "widths nolaw 1 2 3 1",
     ] {
         expect_drawn(&rt, rt.alloc(), line, (Status::Refused, "refused,17\n"))?;
     }
@@ -117,6 +128,16 @@ fn words_of_no_shape(rt: HostRuntime) -> Result<(), Fail> {
         "sample one 0 2 1025",
         "sample one 0 square 2 2",
         "nolaw one 0 2 2",
+        "ensemble one 0 2 3",
+        "ensemble one 0 2 2 1",
+        "ensemble one 0 0 3 1",
+        "ensemble one 0 2 3 0",
+        "ensemble one 0 2 3 1001",
+        "ensemble one 0 2 1025 1",
+        "widths one 0 2 2 1",
+        "widths one 0 2 65 1",
+        "widths one 0 33 64 1",
+        "widths one 0 2 3 0",
     ];
     for line in lines {
         expect_drawn(&rt, rt.alloc(), line, (Status::Usage, "usage\n"))?;

@@ -1,11 +1,7 @@
 use Rattle.std.proofs.Common.{◌≡◌, ◌∙◌, ap, sym}
 use Rattle.std.specs.Prelude.{map, option_map, Some, None}
-use Rattle.std.proofs.lemmas.Result.{IfOk-weaker}
-use Rattle.sg_laws.specs.Named.{Law, first_named}
+use Rattle.sg_laws.specs.Named.{first_named}
 use Rattle.sg_laws.proofs.Naming.{first_mapped}
-use Rattle.sg_cli.specs.declared.reply.Reply.{Reply}
-use Rattle.sg_cli.specs.Served.{AnswersDraws, AnswersLaw, IsRefused}
-use Rattle.sg_model.specs.declared.refusal.Refusal.TheVariants.{UnknownLaw}
 use Rattle.sg_cli.proofs.draw.draw_reply.Goals as goal
 
 pub returns-in-Some-clause-served : goal.returns-in-Some-clause-served

@@ -1,5 +1,4 @@
-use Rattle.std.proofs.Common.{rules, ◌≡◌, ◌∙◌, ℤ, pos, ◌+ℤ◌, ap, sym, w64, to_z, of_z, to_z-of_z}
-use Rattle.sg_model.specs.Ising.{Ising}
+use Rattle.std.proofs.Common.{rules, ◌≡◌, pos, ◌+ℤ◌, w64, to_z, of_z, to_z-of_z}
 use Rattle.sg_model.specs.Energy.{weight}
 use Rattle.sg_model.proofs.EnergyBounds.{least_of_ground_state}
 use Rattle.sg_cli.proofs.Samples.{broken_in, twice_broken}

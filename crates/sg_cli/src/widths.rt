@@ -1,0 +1,130 @@
+// What `widths` answers.
+ghost use Rattle.std.specs.Prelude.{◌≡◌, ◌≤◌, ℕ, map, IfErr, IfOk, OnOk};
+ghost use Rattle.sg_lattice.specs.declared.kind.Kind.TheVariants.{Cylinder};
+ghost use Rattle.sg_ensemble.specs.Samples.{IsSpherical};
+ghost use Rattle.sg_report.specs.Ensembles.{widths_text as widths_bytes};
+ghost use Rattle.sg_cli.specs.Command.{IsAllowedSize, sample_limit, width_limit};
+ghost use Rattle.sg_cli.specs.Promises.{IsAnswered};
+ghost use Rattle.sg_cli.specs.Served.{AnswersWidths, IsWidthFault, PrintsWidths};
+
+use super::command::Size;
+use super::ensemble::test_first;
+use super::reply::{NoMemory, Reply, done, refuse};
+use sg_ensemble::{Width, widths};
+use sg_laws::Disorder;
+use sg_model::Fault;
+use sg_report::widths_text;
+use std::alloc::{AllocError, Global};
+
+/// The sums over an ensemble for each width from 3 columns to those of the size, each with the draws
+/// of the law after the seed, or the refusal of the least width whose first sample is not fit.
+pub fn widths_reply(
+    alloc: Global,
+    law: &mut Box<dyn Disorder>,
+    seed: u64,
+    size: Size,
+    count: u32,
+) -> Result<Reply, NoMemory>
+    requires size { IsAllowedSize Cylinder size }
+    requires narrow { size.cols ≤ width_limit }
+    requires some { 1 ≤ count }
+    requires few { count ≤ sample_limit }
+    ensures served { IfOk result (λ reply.
+        AnswersWidths size count (seeded law.old seed) reply.text.items reply.status) }
+    ensures answered { IfOk result (λ reply. IsAnswered reply.status) }
+{
+    match test_widths(alloc, law, seed, size) {
+        Ok(()) => sums_reply(alloc, law, seed, size, count),
+        Err(Fault::Refused(refusal)) => refuse(alloc, &refusal),
+        Err(Fault::NoMemory) => Err(AllocError),
+    }
+}
+
+// Tests the first sample of each width.
+fn test_widths(
+    alloc: Global,
+    law: &mut Box<dyn Disorder>,
+    seed: u64,
+    size: Size,
+) -> Result<(), Fault>
+    requires size { IsAllowedSize Cylinder size }
+    requires narrow { size.cols ≤ width_limit }
+    ensures spherical { OnOk result ((cols : ℕ) → 3 ≤ cols → cols ≤ size.cols → IsSpherical size.rows cols) }
+    ensures unfit { IfErr result (IsWidthFault size (seeded law.old seed)) }
+    ensures seeds { (s c : ℕ) → seeded law.new s c ≡ seeded law.old s c }
+{
+    for cols in 3..size.cols + 1 {
+        let narrower = Size {
+            rows: size.rows,
+            cols,
+        };
+        match test_first(alloc, law, seed, narrower) {
+            Ok(()) => {}
+            Err(fault) => return Err(fault),
+        }
+    }
+    Ok(())
+}
+
+// The text of the sums.
+fn sums_reply(
+    alloc: Global,
+    law: &mut Box<dyn Disorder>,
+    seed: u64,
+    size: Size,
+    count: u32,
+) -> Result<Reply, NoMemory>
+    requires size { IsAllowedSize Cylinder size }
+    requires narrow { size.cols ≤ width_limit }
+    requires spherical { (cols : ℕ) → 3 ≤ cols → cols ≤ size.cols → IsSpherical size.rows cols }
+    requires some { 1 ≤ count }
+    requires few { count ≤ sample_limit }
+    ensures served { IfOk result (λ reply.
+        PrintsWidths size count (seeded law.old seed) reply.text.items reply.status) }
+    ensures answered { IfOk result (λ reply. IsAnswered reply.status) }
+{
+    let found = widths(alloc, law, seed, size.rows, size.cols, count)?;
+    let text = text_of(alloc, found.as_slice())?;
+    Ok(done(text))
+}
+
+// The text of these widths.
+fn text_of(alloc: Global, widths: &[Width]) -> Result<Vec<u8>, NoMemory>
+    ensures { IfOk result (λ text. text.items
+        ≡ widths_bytes (map (λ w. w.cols) widths.now) (map (λ w. w.sum) widths.now) (map (λ w. w.squares) widths.now)) }
+{
+    let cols = columns(alloc, widths)?;
+    let sums = sums(alloc, widths)?;
+    let squares = squares(alloc, widths)?;
+    widths_text(alloc, cols.as_slice(), sums.as_slice(), squares.as_slice())
+}
+
+fn columns(alloc: Global, widths: &[Width]) -> Result<Vec<u32>, NoMemory>
+    ensures { IfOk result (λ found. found.items ≡ map (λ w. w.cols) widths.now) }
+{
+    let mut found = Vec::with_capacity(alloc, widths.len())?;
+    for width in widths {
+        found.push(width.cols)?;
+    }
+    Ok(found)
+}
+
+fn sums(alloc: Global, widths: &[Width]) -> Result<Vec<i64>, NoMemory>
+    ensures { IfOk result (λ found. found.items ≡ map (λ w. w.sum) widths.now) }
+{
+    let mut found = Vec::with_capacity(alloc, widths.len())?;
+    for width in widths {
+        found.push(width.sum)?;
+    }
+    Ok(found)
+}
+
+fn squares(alloc: Global, widths: &[Width]) -> Result<Vec<i128>, NoMemory>
+    ensures { IfOk result (λ found. found.items ≡ map (λ w. w.squares) widths.now) }
+{
+    let mut found = Vec::with_capacity(alloc, widths.len())?;
+    for width in widths {
+        found.push(width.squares)?;
+    }
+    Ok(found)
+}
