@@ -19,10 +19,12 @@ const BARE: &str = "general,3\nend\n";
 
 // A triangle within a triangle: the spins 0, 2 and 4 outside, and 1, 3 and 5 inside. The outer one is
 // frustrated; its last bond is the seam.
-const NESTED: &str = "general,6\nbond,0,2,3\nbond,2,4,-5\nbond,4,0,2\nbond,1,3,-7\nbond,3,5,1\nbond,5,1,-4\nrot,0,0,5\nrot,1,6,11\nrot,2,1,2\nrot,3,7,8\nrot,4,3,4\nrot,5,9,10\nseam,2\nend\n";
+const NESTED: &str =
+    "general,6\nbond,0,2,3\nbond,2,4,-5\nbond,4,0,2\nbond,1,3,-7\nbond,3,5,1\nbond,5,1,-4\nrot,0,0,5\nrot,1,6,11\nrot,2,1,2\nrot,3,7,8\nrot,4,3,4\nrot,5,9,10\nseam,2\nend\n";
 
 // Three bonds between two spins, drawn on a torus, beside a path of three spins.
-const TORUS_BESIDE_TREE: &str = "general,5\nbond,0,1,3\nbond,0,1,-2\nbond,0,1,1\nbond,2,3,1\nbond,3,4,-1\nrot,0,0,2,4\nrot,1,1,3,5\nrot,2,6\nrot,3,7,8\nrot,4,9\nseam,3\nend\n";
+const TORUS_BESIDE_TREE: &str =
+    "general,5\nbond,0,1,3\nbond,0,1,-2\nbond,0,1,1\nbond,2,3,1\nbond,3,4,-1\nrot,0,0,2,4\nrot,1,1,3,5\nrot,2,6\nrot,3,7,8\nrot,4,9\nseam,3\nend\n";
 
 #[test]
 fn components_are_answered(rt: HostRuntime) -> Result<(), Fail> {
