@@ -1,5 +1,6 @@
 -- The solutions of the parts, one behind another, make one of the whole.
-use Rattle.std.proofs.Common.{inl, inr, ◌≡◌, ◌⊎◌, ℕ, ◌+◌, ◌*◌, ◌<◌, ◌≤◌, ◌^◌, ℤ, pos, ◌+ℤ◌, ◌-ℤ◌, true, false, cond, List, [], ◌∷◌, ◌++◌, map, refl, sym, ◌∙◌, ap, ap₂, subst, arith, sum_by, length, get_or, replicate, take, drop, All, w64}
+use Rattle.std.proofs.Common.{inl, inr, ◌≡◌, ◌⊎◌, ℕ, ◌+◌, ◌*◌, ◌<◌, ◌≤◌, ◌^◌, ℤ, pos, ◌+ℤ◌, ◌-ℤ◌, true, false, cond, List}
+use Rattle.std.proofs.Common.{[], ◌∷◌, ◌++◌, map, refl, sym, ◌∙◌, ap, ap₂, subst, arith, sum_by, length, get_or, replicate, take, drop, All, w64}
 use Rattle.std.specs.Prelude.{FitsSigned, ◌≤ℤ◌, unsigned_abs}
 use Rattle.std.specs.List.{AllZip}
 use Rattle.std.proofs.lemmas.Bool.{cases_Bool, cases_eq, false≢true}
@@ -30,7 +31,8 @@ use Rattle.sg_ground.specs.Placed.{Writes, loop_in_whole, numbered}
 use Rattle.sg_ground.proofs.Shares.{IsShare}
 use Rattle.sg_ground.proofs.Glued.{IsGlued, cost_at, over_bonds, size_at}
 use Rattle.sg_ground.specs.Solution.{IsSolution}
-use Rattle.sg_ground.proofs.PartLists.{all_parts, dealt_to_parts, first_inside, holds_at, not_before, once_each, parts_before, second_inside, share_of_part, some_part, together}
+use Rattle.sg_ground.proofs.PartLists.{all_parts, dealt_to_parts, first_inside, holds_at, not_before}
+use Rattle.sg_ground.proofs.PartLists.{once_each, parts_before, second_inside, share_of_part, some_part, together}
 use Rattle.sg_ground.proofs.Shares.{costs_over, load_over, loop_over, total_over, weights_over}
 
 -- before the first part all spins are up
@@ -110,7 +112,8 @@ module _ (inst : Ising) (good : IsInstance inst) where
               ]
 
       -- no spin of a part before is one of this part
-      apart : (q : Part) (x : ℕ) → x < inst.n → ((i : ℕ) × (i < length done) × ((d : Part) → get_or done i d ≡ q)) → holds q.spins x ≡ true → holds p.spins x ≡ false
+      apart : (q : Part) (x : ℕ) → x < inst.n → ((i : ℕ) × (i < length done) × ((d : Part) → get_or done i d ≡ q)) → holds q.spins x ≡ true →
+          holds p.spins x ≡ false
       apart q x l stands held = elim (cases_Bool (holds p.spins x)) [
         | inr out ↦ out
         | inl both ↦
@@ -131,7 +134,8 @@ module _ (inst : Ising) (good : IsInstance inst) where
           same_cost : (k : ℕ) → holds q.bonds k ≡ true → cost_at inst u k ≡ cost_at inst s k
           same_cost k held =
               let low : k < bond_count inst = ((is.1.bonds k).0 held).0 in
-              let first : spin u (bond_at inst k).u ≡ spin s (bond_at inst k).u = kept (bond_at inst k).u (first_low k low) (first_inside inst is.0 q is.1 k held) in
+              let first : spin u (bond_at inst k).u ≡ spin s (bond_at inst k).u =
+                  kept (bond_at inst k).u (first_low k low) (first_inside inst is.0 q is.1 k held) in
               let second : spin u (bond_at inst k).v ≡ spin s (bond_at inst k).v =
               kept (bond_at inst k).v (ends_low k low) (second_inside inst is.0 q is.1 ends_low k held) in
               rw (first, second) refl
@@ -157,7 +161,8 @@ module _ (inst : Ising) (good : IsInstance inst) where
       size_here = omega (arith, energy_size p.planar.instance t share.good solution.proves.assignment, ap unsigned_abs solution.proves.stated, sizes_here)
 
       total_here : total_weight (map (loop_in_whole p.bonds) more) ≡ sum_by (cost_at inst u) p.bonds
-      total_here = total_over p.bonds more ∙ whole (total_weight more) f (sum_by (cost_at inst u) p.bonds) (sum_by (size_at inst) p.bonds) (weight p.planar.instance)
+      total_here = total_over p.bonds more ∙ whole (total_weight more) f (sum_by (cost_at inst u) p.bonds) (sum_by (size_at inst) p.bonds)
+          (weight p.planar.instance)
           solution.proves.tight energy_here sizes_here
         where
           whole : (t : ℕ) (f : ℤ) (c a w : ℕ) → pos t ≡ f +ℤ pos w → f ≡ pos c -ℤ pos a → a ≡ w → t ≡ c
@@ -215,7 +220,8 @@ module _ (inst : Ising) (good : IsInstance inst) where
           ones (x ∷ xs) = omega (arith, ones xs, sum_by-cons (λ _. 1) x xs)
 
   -- all parts together: a solution of the whole
-  pub all_glued : (parts : List Part) → AreParts inst parts → (s : List ℤ) (e : ℤ) (loops : List Loop) → IsGlued inst parts s e loops → IsSolution inst s e loops
+  pub all_glued : (parts : List Part) → AreParts inst parts → (s : List ℤ) (e : ℤ) (loops : List Loop) → IsGlued inst parts s e loops →
+      IsSolution inst s e loops
   all_glued parts are s e loops glued = record {
     proves = record {
       assignment = glued.assignment;
@@ -238,7 +244,8 @@ module _ (inst : Ising) (good : IsInstance inst) where
       costs_all = dealt_to_parts inst parts are (cost_at inst s) ∙ sym (sum_by_is_sum_below (broken_cost s) inst.bonds (record { u = 0; v = 0; j = pos 0 }))
 
       sizes_all : over_bonds (size_at inst) parts ≡ weight inst
-      sizes_all = dealt_to_parts inst parts are (size_at inst) ∙ sym (sum_by_is_sum_below (λ (b : Bond). unsigned_abs b.j) inst.bonds (record { u = 0; v = 0; j = pos 0 }))
+      sizes_all = dealt_to_parts inst parts are (size_at inst)
+          ∙ sym (sum_by_is_sum_below (λ (b : Bond). unsigned_abs b.j) inst.bonds (record { u = 0; v = 0; j = pos 0 }))
 
 -- what stands at a place parts the list
 pub parted_at : (parts : List Part) (i : ℕ) (p : Part) → i < length parts → p ≡ get_or parts i p → parts ≡ take i parts ++ p ∷ drop (i + 1) parts
@@ -267,7 +274,8 @@ module _ (inst : Ising) (parts : List Part) (are : AreParts inst parts) (i : ℕ
   part_is_share = share_of_part inst found_part.0 p found_part.1
 
   -- its loops go over its bonds
-  pub part_loops_below : (t : List ℤ) (f : ℤ) (more : List Loop) → IsSolution p.planar.instance t f more → All (λ (l : Loop). All (λ k. k < length p.bonds) l.bonds) more
+  pub part_loops_below : (t : List ℤ) (f : ℤ) (more : List Loop) → IsSolution p.planar.instance t f more →
+      All (λ (l : Loop). All (λ k. k < length p.bonds) l.bonds) more
   part_loops_below t f more solution =
       All-weaker (λ (l : Loop). IsFrustratedLoop p.planar.instance l.bonds) (λ (l : Loop). All (λ k. k < length p.bonds) l.bonds)
       (λ l h j d m. omega (arith, h.set.below j d m, part_is_share.bond_counts)) more solution.proves.packs.frustrated

@@ -1,5 +1,6 @@
 -- The parts of an instance: each is a share of it, no two have a spin in common, and a sum over all bonds is dealt out to them.
-use Rattle.std.proofs.Common.{inl, inr, ◌≡◌, ℕ, zero, suc, ◌+◌, ◌*◌, ◌<◌, ◌≤◌, Bool, true, false, cond, eqb, List, [], ◌∷◌, ◌++◌, refl, sym, ◌∙◌, ap, subst, arith, sum_by, length, get_or, All, eq-eqb, pos}
+use Rattle.std.proofs.Common.{inl, inr, ◌≡◌, ℕ, zero, suc, ◌+◌, ◌*◌, ◌<◌, ◌≤◌, Bool, true, false, cond, eqb}
+use Rattle.std.proofs.Common.{List, [], ◌∷◌, ◌++◌, refl, sym, ◌∙◌, ap, subst, arith, sum_by, length, get_or, All, eq-eqb, pos}
 use Rattle.std.specs.List.{AllZip}
 use Rattle.std.proofs.lemmas.Bool.{cases_Bool, eqb-true}
 use Rattle.std.proofs.lemmas.List.{append-nil, get_or-map, length-map}
@@ -89,7 +90,8 @@ module _ (inst : Ising) where
   pub parts_before : (leasts : List ℕ) (done rest : List Part) → AllZip (IsPart inst) leasts (done ++ rest) → All (λ p. (least : ℕ) × IsPart inst least p) done
   parts_before leasts done rest h i d l = at leasts done i h l
     where
-      at : (leasts : List ℕ) (done : List Part) (i : ℕ) → AllZip (IsPart inst) leasts (done ++ rest) → i < length done → (least : ℕ) × IsPart inst least (get_or done i d)
+      at : (leasts : List ℕ) (done : List Part) (i : ℕ) → AllZip (IsPart inst) leasts (done ++ rest) → i < length done →
+          (least : ℕ) × IsPart inst least (get_or done i d)
       at leasts [] i h l = absurd (omega arith)
       at [] (p ∷ done) i h l = absurd h
       at (least ∷ leasts) (p ∷ done) zero h l = (least, h.0)
@@ -114,7 +116,8 @@ none_counted b done none i d l = elim (cases_Bool (b (get_or done i d))) [
     at_most (q ∷ done) (suc i) l = omega (arith, at_most done i (omega arith), sum_by-cons (λ p. cond (b p) 1 0) q done)
 
 -- what stands once in the parts, and in this one, is in none before
-pub not_before : (b : Part → Bool) (done rest : List Part) (p : Part) → sum_by (λ p. cond (b p) 1 0) (done ++ p ∷ rest) ≡ 1 → b p ≡ true → All (λ q. b q ≡ false) done
+pub not_before : (b : Part → Bool) (done rest : List Part) (p : Part) → sum_by (λ p. cond (b p) 1 0) (done ++ p ∷ rest) ≡ 1 → b p ≡ true →
+    All (λ q. b q ≡ false) done
 not_before b done rest p once here =
     none_counted b done
     (omega (

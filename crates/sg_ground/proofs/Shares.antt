@@ -1,5 +1,6 @@
 -- What a share gives to the whole: its spins break the same bonds, and its loops are loops of the whole.
-use Rattle.std.proofs.Common.{inl, inr, ◌≡◌, ◌≢◌, ◌⊎◌, ℕ, ◌+◌, ◌*◌, ◌%◌, ◌<◌, ◌≤◌, ◌||◌, ℤ, pos, ◌*ℤ◌, Bool, true, false, cond, eqb, List, map, refl, sym, ◌∙◌, ap, ap₂, arith, sum_by, count_by, length, get_or, All, eq-eqb}
+use Rattle.std.proofs.Common.{inl, inr, ◌≡◌, ◌≢◌, ◌⊎◌, ℕ, ◌+◌, ◌*◌, ◌%◌, ◌<◌, ◌≤◌, ◌||◌, ℤ, pos, ◌*ℤ◌, Bool, true}
+use Rattle.std.proofs.Common.{false, cond, eqb, List, map, refl, sym, ◌∙◌, ap, ap₂, arith, sum_by, count_by, length, get_or, All, eq-eqb}
 use Rattle.std.specs.Prelude.{unsigned_abs}
 use Rattle.std.specs.List.{list_any}
 use Rattle.std.specs.List.Sorted.{IsStrictlyIncreasing}
@@ -106,7 +107,8 @@ module _ (inst : Ising) (spins bonds : List ℕ) (share : Ising) (is : IsShare i
   pub weights_over : sum_by (λ k. unsigned_abs (bond_at inst k).j) bonds ≡ weight share
   weights_over =
       sum_by_is_sum_below (λ k. unsigned_abs (bond_at inst k).j) bonds 0
-      ∙ sum_below-same (λ i. unsigned_abs (whole_bond i).j) (λ i. unsigned_abs (bond_at share i).j) (length bonds) (λ i l. ap unsigned_abs (sym (is.coupling i l)))
+      ∙ sum_below-same (λ i. unsigned_abs (whole_bond i).j) (λ i. unsigned_abs (bond_at share i).j) (length bonds)
+          (λ i l. ap unsigned_abs (sym (is.coupling i l)))
       ∙ ap (sum_below (λ i. unsigned_abs (bond_at share i).j)) (sym is.bond_counts)
       ∙ sym (sum_by_is_sum_below (λ (b : Bond). unsigned_abs b.j) share.bonds (record { u = 0; v = 0; j = pos 0 }))
 
@@ -183,13 +185,15 @@ module _ (inst : Ising) (spins bonds : List ℕ) (share : Ising) (is : IsShare i
       low : (l : Loop) → IsFrustratedLoop share l.bonds → All (λ i. i < length bonds) l.bonds
       low l h j d m = omega (arith, h.set.below j d m, is.bond_counts)
 
-      inside : (i : ℕ) → i < length bonds → (l : Loop) → IsFrustratedLoop share l.bonds → holds (map (numbered bonds) l.bonds) (numbered bonds i) ≡ holds l.bonds i
+      inside : (i : ℕ) → i < length bonds → (l : Loop) → IsFrustratedLoop share l.bonds →
+          holds (map (numbered bonds) l.bonds) (numbered bonds i) ≡ holds l.bonds i
       inside i m l h =
           list_any-map (λ y. eqb y (numbered bonds i)) (numbered bonds) l.bonds
           ∙ list_any-agree_at (λ j. eqb (numbered bonds j) (numbered bonds i)) (λ j. eqb j i) l.bonds 0
           (λ j n. rising_apart bonds is.bonds_rise (get_or l.bonds j 0) i (low l h j 0 n) m)
 
-      outside : ((i : ℕ) → i < length bonds → get_or bonds i 0 ≢ k) → (l : Loop) → IsFrustratedLoop share l.bonds → holds (map (numbered bonds) l.bonds) k ≡ false
+      outside : ((i : ℕ) → i < length bonds → get_or bonds i 0 ≢ k) → (l : Loop) → IsFrustratedLoop share l.bonds →
+          holds (map (numbered bonds) l.bonds) k ≡ false
       outside out l h =
           list_any-map (λ y. eqb y k) (numbered bonds) l.bonds
           ∙ list_any-agree_at (λ j. eqb (numbered bonds j) k) (λ j. false) l.bonds 0

@@ -6,21 +6,21 @@ use std::test::Fail;
 
 // Of each part the number of its spins and these, the number of its bonds and these, and then the ends
 // and the coupling of each bond as the part numbers them.
-fn written(alloc: Global, list: &[Part]) -> Result<Vec<i64>, AllocError> {
+fn written(alloc: Global, list: &[Part]) -> Result<Vec<i128>, AllocError> {
     let mut numbers = Vec::new(alloc);
     for part in list {
-        numbers.push(part.spins.len() as i64)?;
+        numbers.push(part.spins.len() as i128)?;
         for spin in part.spins.as_slice() {
-            numbers.push(i64::from(*spin))?;
+            numbers.push(i128::from(*spin))?;
         }
-        numbers.push(part.bonds.len() as i64)?;
+        numbers.push(part.bonds.len() as i128)?;
         for bond in part.bonds.as_slice() {
-            numbers.push(i64::from(*bond))?;
+            numbers.push(i128::from(*bond))?;
         }
         for bond in part.planar.instance().bonds().as_slice() {
-            numbers.push(i64::from(bond.u))?;
-            numbers.push(i64::from(bond.v))?;
-            numbers.push(bond.j)?;
+            numbers.push(i128::from(bond.u))?;
+            numbers.push(i128::from(bond.v))?;
+            numbers.push(i128::from(bond.j))?;
         }
     }
     Ok(numbers)
@@ -28,7 +28,7 @@ fn written(alloc: Global, list: &[Part]) -> Result<Vec<i64>, AllocError> {
 
 #[test]
 fn each_component_is_a_part(rt: HostRuntime) -> Result<(), Fail> {
-    let rows: [(&str, &[i64]); 3] = [
+    let rows: [(&str, &[i128]); 3] = [
         (
             "general,4\nbond,0,1,2\nbond,2,3,-5\nrot,0,0\nrot,1,1\nrot,2,2\nrot,3,3\nend\n",
             &[2, 0, 1, 1, 0, 0, 1, 2, 2, 2, 3, 1, 1, 0, 1, -5],

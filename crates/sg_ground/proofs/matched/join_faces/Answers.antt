@@ -14,7 +14,8 @@ use Rattle.sg_ground.proofs.Solutions.{faces_fit, tight_join}
 use Rattle.sg_ground.proofs.matched.join_faces.Goals as goal
 
 pub dual-requires-clause-few : goal.dual-requires-clause-few
-dual-requires-clause-few c = subst (λ (f : Labelling). f.count ≤ 2 ^ 24) (sym c.faces.ensures.value) (faces_fit c.args.planar.now c.faces.ensures.planar c.requires.connected)
+dual-requires-clause-few c = subst (λ (f : Labelling). f.count ≤ 2 ^ 24) (sym c.faces.ensures.value)
+    (faces_fit c.args.planar.now c.faces.ensures.planar c.requires.connected)
 
 pub least_join-requires-clause-connected : goal.least_join-requires-clause-connected
 least_join-requires-clause-connected c = c.in_ok-web.ensures.connected (subst IsConnected (sym c.instance.ensures.value) c.requires.connected)
