@@ -135,7 +135,7 @@ module _ (inst : Ising) (good : IsInstance inst) where
           same_cost k held =
               let low : k < bond_count inst = ((is.1.bonds k).0 held).0 in
               let first : spin u (bond_at inst k).u ≡ spin s (bond_at inst k).u =
-                  kept (bond_at inst k).u (first_low k low) (first_inside inst is.0 q is.1 k held) in
+              kept (bond_at inst k).u (first_low k low) (first_inside inst is.0 q is.1 k held) in
               let second : spin u (bond_at inst k).v ≡ spin s (bond_at inst k).v =
               kept (bond_at inst k).v (ends_low k low) (second_inside inst is.0 q is.1 ends_low k held) in
               rw (first, second) refl

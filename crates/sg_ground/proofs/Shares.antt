@@ -108,7 +108,7 @@ module _ (inst : Ising) (spins bonds : List ℕ) (share : Ising) (is : IsShare i
   weights_over =
       sum_by_is_sum_below (λ k. unsigned_abs (bond_at inst k).j) bonds 0
       ∙ sum_below-same (λ i. unsigned_abs (whole_bond i).j) (λ i. unsigned_abs (bond_at share i).j) (length bonds)
-          (λ i l. ap unsigned_abs (sym (is.coupling i l)))
+      (λ i l. ap unsigned_abs (sym (is.coupling i l)))
       ∙ ap (sum_below (λ i. unsigned_abs (bond_at share i).j)) (sym is.bond_counts)
       ∙ sym (sum_by_is_sum_below (λ (b : Bond). unsigned_abs b.j) share.bonds (record { u = 0; v = 0; j = pos 0 }))
 

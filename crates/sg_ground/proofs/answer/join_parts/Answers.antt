@@ -14,19 +14,21 @@ use Rattle.sg_ground.proofs.answer.join_parts.Goals as goal
 
 pub solve_part-requires : goal.solve_part-requires
 solve_part-requires c =
-    record { connected = part_connected c.args.inst.now c.args.parts.now c.requires.parts c.loop-part.part-index c.part-item.result c.loop-part-test.true
-        c.part-item.is }
+    record {
+      connected = part_connected c.args.inst.now c.args.parts.now c.requires.parts c.loop-part.part-index c.part-item.result c.loop-part-test.true
+          c.part-item.is;
+    }
 
 pub place_values-requires-clause-rising : goal.place_values-requires-clause-rising
 place_values-requires-clause-rising c =
     let share = part_is_share c.args.inst.now c.args.parts.now c.requires.parts c.loop-part.part-index c.part-item.result c.loop-part-test.true
-        c.part-item.is in
+    c.part-item.is in
     subst IsStrictlyIncreasing (sym c.as_slice.ensures) share.spins_rise
 
 pub place_values-requires-clause-below : goal.place_values-requires-clause-below
 place_values-requires-clause-below c =
     let share = part_is_share c.args.inst.now c.args.parts.now c.requires.parts c.loop-part.part-index c.part-item.result c.loop-part-test.true
-        c.part-item.is in
+    c.part-item.is in
     let long : length c.deref_mut.result.now ≡ c.args.inst.now.n = ap length c.deref_mut.ensures.value ∙ c.loop-part.invariant.assignment.count in
     subst (λ xs. All (λ x. x < length c.deref_mut.result.now) xs) (sym c.as_slice.ensures)
     (subst (λ n. All (λ x. x < n) c.part-item.result.spins) (sym long) share.spins_below)
@@ -34,7 +36,7 @@ place_values-requires-clause-below c =
 pub place_values-requires-clause-count : goal.place_values-requires-clause-count
 place_values-requires-clause-count c =
     let share = part_is_share c.args.inst.now c.args.parts.now c.requires.parts c.loop-part.part-index c.part-item.result c.loop-part-test.true
-        c.part-item.is in
+    c.part-item.is in
     ap length c.as_slice-in-loop-part.ensures.value ∙ c.in_ok-found.ensures.proves.assignment.count ∙ share.spin_count ∙ ap length (sym c.as_slice.ensures)
 
 pub overflow_add-energy : goal.overflow_add-energy
@@ -45,7 +47,7 @@ overflow_add-energy c =
     let fits : FitsSigned w64 (to_z w64 c.loop-part.energy-bits +ℤ found.energy) =
     part_energy_fits inst c.args.parts.now c.requires.parts c.loop-part.part-index p c.loop-part-test.true c.part-item.is
     c.loop-part.values.items found.spins (to_z w64 c.loop-part.energy-bits) found.energy c.loop-part.loops found.loops c.requires.light
-        c.loop-part.invariant c.in_ok-found.ensures in
+    c.loop-part.invariant c.in_ok-found.ensures in
     subst (FitsSigned w64) (sym (ap (λ y. to_z w64 c.loop-part.energy-bits +ℤ y) (to_z-of_z w64 found.energy (search rules)))) fits
 
 pub place_loops-requires : goal.place_loops-requires
@@ -71,7 +73,7 @@ loop-part-preserved c =
     let fits : FitsSigned w64 (to_z w64 c.loop-part.energy-bits +ℤ found.energy) =
     part_energy_fits inst c.args.parts.now c.requires.parts c.loop-part.part-index p c.loop-part-test.true c.part-item.is
     c.loop-part.values.items found.spins (to_z w64 c.loop-part.energy-bits) found.energy c.loop-part.loops found.loops c.requires.light
-        c.loop-part.invariant c.in_ok-found.ensures in
+    c.loop-part.invariant c.in_ok-found.ensures in
     let writes : Writes p.spins found.spins c.loop-part.values.items new =
     subst (λ old. Writes p.spins found.spins old new) c.deref_mut.ensures.value
     (subst (λ t. Writes p.spins t c.deref_mut.result.now new) c.as_slice-in-loop-part.ensures.value
@@ -80,11 +82,11 @@ loop-part-preserved c =
     (c.loop-part.loops ++ map (loop_in_whole p.bonds) found.loops) =
     part_glued inst c.args.parts.now c.requires.parts c.loop-part.part-index p c.loop-part-test.true c.part-item.is c.n.ensures.instance
     c.loop-part.values.items found.spins new (to_z w64 c.loop-part.energy-bits) found.energy c.loop-part.loops found.loops c.loop-part.invariant
-        c.in_ok-found.ensures writes in
+    c.in_ok-found.ensures writes in
     let same_sum : to_z w64 c.loop-part.energy-bits +ℤ to_z w64 (of_z w64 found.energy) ≡ to_z w64 c.loop-part.energy-bits +ℤ found.energy =
     ap (λ y. to_z w64 c.loop-part.energy-bits +ℤ y) (to_z-of_z w64 found.energy (search rules)) in
     let same_energy : to_z w64 (of_z w64 (to_z w64 c.loop-part.energy-bits +ℤ to_z w64 (of_z w64 found.energy))) ≡ to_z w64
-        c.loop-part.energy-bits +ℤ found.energy =
+    c.loop-part.energy-bits +ℤ found.energy =
     ap (λ x. to_z w64 (of_z w64 x)) same_sum ∙ to_z-of_z w64 (to_z w64 c.loop-part.energy-bits +ℤ found.energy) fits in
     let same_loops : c.place_loops.new.loops ≡ c.loop-part.loops ++ map (loop_in_whole p.bonds) found.loops =
     c.in_ok-place_loops.ensures

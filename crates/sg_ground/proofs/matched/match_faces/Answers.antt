@@ -28,5 +28,5 @@ returns-clause-solution c =
     cast_energy c.args.planar.now c.instance.result.now spins sum c.instance.ensures.planar c.instance.ensures.value found.assignment c.energy-energy.ensures in
     rw c.in_ok-loops.ensures
     (solution_from_join c.args.planar.now c.instance.ensures.planar c.requires.connected spins (to_z w64 (of_z w64 (to_z w128 (of_z w128 sum)))) join.edges
-        join.cuts
+    join.cuts
     found.assignment found.first_up found.breaks stated c.in_ok-join.ensures.join)
