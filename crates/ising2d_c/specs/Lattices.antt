@@ -1,14 +1,14 @@
 -- Lattices by numbers: which numbers give one, and what is wrong with others.
-use Rattle.std.specs.Prelude.{◌≡◌, ◌≢◌, ◌⊎◌, ℕ, ℤ, pos, ◌*◌, ◌<◌, ◌≤◌, ◌^◌, min, ◌==◌, nat_lt, unsigned_abs, if◌then◌else◌, Option, Some, None, List, length, take, All, slice_index_or}
+use Rattle.std.specs.Prelude.{◌≡◌, ◌≢◌, ◌⊎◌, ℕ, ℤ, pos, ◌*◌, ◌<◌, ◌^◌, min, ◌==◌, nat_lt, unsigned_abs, if◌then◌else◌, Option, Some, None, List, length, take, All, slice_index_or}
 use Rattle.sg_limits.specs.Limits.{spin_limit}
 use Rattle.sg_model.specs.Ising.{Ising}
 use Rattle.sg_model.specs.declared.refusal.Fault.{Fault}
 use Rattle.sg_model.specs.declared.refusal.Fault.TheVariants.{Refused}
 use Rattle.sg_model.specs.declared.refusal.Refusal.{Refusal}
-use Rattle.sg_model.specs.declared.refusal.Refusal.TheVariants.{BadMember, CouplingCount, NoSeam, TooManySpins}
+use Rattle.sg_model.specs.declared.refusal.Refusal.TheVariants.{BadMember, CouplingCount, TooManySpins}
 use Rattle.sg_lattice.specs.declared.kind.Kind.{Kind}
 use Rattle.sg_lattice.specs.declared.kind.Kind.TheVariants.{Square, Triangular, Hexagonal, Cylinder}
-use Rattle.sg_lattice.specs.Tables.{bond_total, lattice, least_cols, IsSize}
+use Rattle.sg_lattice.specs.Tables.{bond_total, lattice, least_cols}
 use Rattle.sg_planar.specs.Fit.{IsFit, IsUnfitFault}
 
 -- the kinds by their numbers

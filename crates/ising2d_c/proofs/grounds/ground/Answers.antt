@@ -1,4 +1,4 @@
-use Rattle.std.proofs.Common.{rules, ◌≡◌, refl, w64, to_z-of_z}
+use Rattle.std.proofs.Common.{rules, refl, w64, to_z-of_z}
 use Rattle.ising2d_c.proofs.grounds.ground.Goals as goal
 
 pub returns-clause-found : goal.returns-clause-found

@@ -1,4 +1,4 @@
-use Rattle.std.proofs.Common.{rules, ◌≡◌, ◌∙◌, ap, length, map, w64, to_z-of_z}
+use Rattle.std.proofs.Common.{rules, ◌≡◌, ◌∙◌, ap, length, w64, to_z-of_z}
 use Rattle.std.proofs.lemmas.List.{length-map}
 use Rattle.ising2d_c.proofs.CrossingLemmas.{shows}
 use Rattle.ising2d_c.proofs.grounds.ising2d_c_ground.Goals as goal

@@ -1,4 +1,4 @@
-use Rattle.std.proofs.Common.{rules, arith, ◌≡◌, ◌<◌, ◌≤◌, pos, length, take, get_or, IsTrue}
+use Rattle.std.proofs.Common.{rules, arith, ◌<◌, ◌≤◌, pos, length, take, get_or, IsTrue}
 use Rattle.std.proofs.lemmas.List.{take_all, take_more}
 use Rattle.std.proofs.lemmas.List.Elements.{All-push}
 use Rattle.ising2d_c.specs.Lattices.{IsCoupling}

@@ -1,4 +1,4 @@
-use Rattle.std.proofs.Common.{rules, map, string_bytes, ◌≡◌, codes, ap, ◌∙◌, refl, List, ℕ, ℤ, inl, inr}
+use Rattle.std.proofs.Common.{map, string_bytes, refl, List, ℕ, ℤ, inl, inr}
 use Rattle.ising2d_c.proofs.RunLemmas.{four-laws, whole-answers}
 use denote.Param.Object.{read_made}
 use Rattle.sg_laws.specs.declared.disorder.Disorder as disorder

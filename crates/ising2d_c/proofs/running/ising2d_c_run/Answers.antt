@@ -1,4 +1,4 @@
-use Rattle.std.proofs.Common.{rules, ◌≡◌, ◌∙◌, ap, sym, length, map, string_bytes}
+use Rattle.std.proofs.Common.{◌≡◌, ◌∙◌, ap, sym, length, map, string_bytes}
 use Rattle.ising2d_c.specs.Running.{Answered}
 use Rattle.ising2d_c.proofs.running.ising2d_c_run.Goals as goal
 

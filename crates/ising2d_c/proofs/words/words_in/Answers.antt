@@ -1,4 +1,4 @@
-use Rattle.std.proofs.Common.{◌≡◌, List, [], ◌∷◌, ◌++◌, map, string_bytes}
+use Rattle.std.proofs.Common.{[], ◌∷◌, map, string_bytes}
 use Rattle.std.proofs.lemmas.List.{map-append}
 use Rattle.ising2d_c.proofs.WordLemmas.{one_more}
 use Rattle.ising2d_c.proofs.words.words_in.Goals as goal
