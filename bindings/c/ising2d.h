@@ -1,0 +1,118 @@
+/*
+ * Ising2d: exact ground states of planar two-dimensional Ising spin glasses, for C and C++.
+ *
+ * What the calls owe is proved in the library, in the crate ising2d_c. This header says the same in
+ * plain words; that it fits the library is tested.
+ *
+ * Memory. The caller owns every array, before and after a call; the library keeps no pointer and no
+ * state. An array is a pointer to its first entry and the number of its entries. No pointer may be
+ * NULL, also where the number is 0, and no two arrays that are written may overlap each other or one
+ * that is read. What does not fit an array that is written is left out: the front of the list
+ * stands there, and entries behind the list stay as they were.
+ *
+ * Threads. Calls may run at the same time in several threads, each with arrays of its own. No call
+ * may be made from a signal handler, or in the forked child of a process with threads.
+ *
+ * Status. 0: answered. 1: refused; the line that says why stands in `line`, as the program prints it:
+ * "refused,", the number of the refusal and the numbers that it keeps, and a line feed. 128 bytes are
+ * room enough. 6: the memory is wanting. After 1 and 6 no result is written. What else stands in
+ * a line is said in docs/FORMATS.md; an array of numbers is refused as the JSON member of its name:
+ *
+ *   19,1,0  the kind is none                      7,n  more than 2048 spins
+ *   19,3,0  there are no rows                     6,found,wanted  the number of couplings is another
+ *   19,4,0  too few columns                       13,sum  the couplings' sizes sum to more than 2^44
+ *   19,6,k  coupling k is -2^63                   16   a wall is asked for, and the seam is empty
+ *
+ * tested in this order: 19,1  19,3  19,4  7  6  19,6  13  16.
+ */
+#ifndef ISING2D_H
+#define ISING2D_H
+
+#include <stddef.h>
+#include <stdint.h>
+
+#ifdef __cplusplus
+extern "C" {
+#endif
+
+/* The kinds of lattice. The cylinder's last column is joined to its first. */
+#define ISING2D_SQUARE 0
+#define ISING2D_TRIANGULAR 1
+#define ISING2D_HEXAGONAL 2
+#define ISING2D_CYLINDER 3
+
+/* The status of a call. USAGE, NO and NO_WORDS come from ising2d_c_run alone. */
+#define ISING2D_DONE 0
+#define ISING2D_REFUSED 1
+#define ISING2D_USAGE 2
+#define ISING2D_NO 3
+#define ISING2D_NO_MEMORY 6
+#define ISING2D_NO_WORDS 7
+
+/*
+ * Runs the program: words and an input in, a text out.
+ *
+ * words    the words after the program's name, each ended by a byte 0, as "ground\0". Bytes that are
+ *          no UTF-8 are replaced by U+FFFD.
+ * input    what the program would read from its standard input.
+ * out      room for the text. As much of it is written as fits.
+ * written  the number of bytes written: the lesser of the room and the length of the text.
+ * whole    the number of bytes of the whole text. Where it is above `written`, come again with room.
+ *
+ * Returns the exit status of the program: 0 answered, 1 refused, 2 usage, 3 a checked proof fails;
+ * 6 where the memory is wanting, and 7 where the last word is not ended. After 6 and 7 nothing is
+ * written, and both numbers are 0.
+ */
+uint8_t ising2d_c_run(const uint8_t *words, size_t words_len, const uint8_t *input, size_t input_len,
+                      uint8_t *out, size_t out_room, size_t *written, size_t *whole);
+
+/*
+ * Finds a ground state of a lattice, and the loops that prove it.
+ *
+ * kind, rows, cols  the lattice. Spin (r, c) has the number r * cols + c. At most 2048 spins; rows
+ *                   is 1 or more, cols 1 or more (hexagonal 2, cylinder 3).
+ * couplings         the couplings in the order of the bonds: all to the east, row by row, then those
+ *                   to the south, then the diagonals. The energy is minus the sum of coupling times
+ *                   both spins. Whole numbers in any unit; the energy is in the same.
+ * energy            the least energy.
+ * spins             rows * cols values, 1 or -1, that have it. The least spin of each component is 1.
+ * weights, starts, bonds  the frustrated loops that prove it. Loop i has the weight weights[i] and
+ *                   the bonds bonds[starts[i]] to bonds[starts[i + 1] - 1]. There are *loop_count
+ *                   weights, one more start, and *loop_bonds bonds; no more than 5 loops for each 2
+ *                   bonds. Give no room (lengths 0) where they are not wanted.
+ * line              room for the line of a refusal; *line_written is its length, set at status 1 alone.
+ */
+uint8_t ising2d_c_ground(uint8_t kind, uint32_t rows, uint32_t cols, const int64_t *couplings,
+                         size_t couplings_len, int64_t *energy, int8_t *spins, size_t spins_room,
+                         int64_t *weights, size_t weights_room, size_t *starts, size_t starts_room,
+                         uint32_t *bonds, size_t bonds_room, size_t *loop_count, size_t *loop_bonds,
+                         uint8_t *line, size_t line_room, size_t *line_written);
+
+/*
+ * Finds the energy of the domain wall along a cylinder: the least energy, the least energy with the
+ * signs changed of the couplings from the last column to the first, and the second minus the first.
+ * The other kinds have no seam, and are refused with 16.
+ */
+uint8_t ising2d_c_wall(uint8_t kind, uint32_t rows, uint32_t cols, const int64_t *couplings,
+                       size_t couplings_len, int64_t *periodic, int64_t *antiperiodic,
+                       int64_t *difference, uint8_t *line, size_t line_room, size_t *line_written);
+
+/*
+ * Finds what it costs to turn each bond: the difference, without its sign, between the least energies
+ * with like and with unlike spins at its ends. There are as many costs as couplings. A bond is rigid
+ * where it costs more than 0.
+ */
+uint8_t ising2d_c_bonds(uint8_t kind, uint32_t rows, uint32_t cols, const int64_t *couplings,
+                        size_t couplings_len, int64_t *costs, size_t costs_room, uint8_t *line,
+                        size_t line_room, size_t *line_written);
+
+/* Finds for each spin the least spin of its rigid cluster: rows * cols names. */
+uint8_t ising2d_c_clusters(uint8_t kind, uint32_t rows, uint32_t cols, const int64_t *couplings,
+                           size_t couplings_len, uint32_t *names, size_t names_room, uint8_t *line,
+                           size_t line_room, size_t *line_written);
+
+#ifdef __cplusplus
+}
+#endif
+
+#endif

@@ -1,0 +1,162 @@
+"""The module over the built library: worked examples, random instances beside runs of the program's
+text form, and wrong sizes and values on each argument."""
+
+import os
+import random
+import unittest
+from pathlib import Path
+
+import ising2d
+from ising2d import Graph, Loop, Refusal
+
+EXAMPLES = Path(__file__).resolve().parents[2] / "examples"
+CASES = int(os.environ.get("CASES", "2000"))
+
+SQUARE = ("square", 2, 2, [3, 4, 2, -5])
+
+
+def bond_count(kind, rows, cols):
+    """The number of bonds of a lattice, counted one by one."""
+    count = 0
+    for row in range(rows):
+        for col in range(cols):
+            count += kind == "cylinder" or col + 1 < cols
+            south = row + 1 < rows
+            count += south and (kind != "hexagonal" or (row + col) % 2 == 0)
+            count += kind == "triangular" and south and col + 1 < cols
+    return count
+
+
+def text_of(kind, rows, cols, couplings):
+    """The instance as a text."""
+    records = [f"{kind},{rows},{cols}", ",".join(map(str, couplings)), "end", ""]
+    return "\n".join(record for record in records[:2] if record) + "\nend\n"
+
+
+def rows_of(command, instance):
+    """The rows that the program's text form answers."""
+    found = ising2d.run([command], text_of(*instance))
+    assert found.status == 0, found
+    return [line.split(",") for line in found.text.splitlines()]
+
+
+def drawn(source):
+    """A random instance."""
+    kind = source.choice(("square", "triangular", "hexagonal", "cylinder"))
+    rows, cols = source.randint(1, 5), source.randint(3, 6)
+    size = source.choice((1, 2, 10, 2**30))
+    count = bond_count(kind, rows, cols)
+    return kind, rows, cols, [source.randint(-size, size) for _ in range(count)]
+
+
+class WorkedExamples(unittest.TestCase):
+    def test_each_example_is_answered_as_written(self):
+        seen = 0
+        for answer in sorted(EXAMPLES.glob("*/*.answer")):
+            given = answer.with_suffix(".txt")
+            if not given.exists() or answer.parent.name not in {
+                "energy", "ground", "wall", "bonds", "clusters", "report", "check",
+            }:
+                continue
+            with self.subTest(example=answer.name):
+                found = ising2d.run([answer.parent.name], given.read_bytes())
+                self.assertEqual(found.text, answer.read_text())
+                seen += 1
+        self.assertGreater(seen, 5)
+
+    def test_the_square_of_four_spins(self):
+        found = ising2d.ground(*SQUARE)
+        self.assertEqual(found.energy, -10)
+        self.assertEqual(list(found.spins), [1, 1, -1, -1])
+        self.assertEqual(found.loops, [Loop(2, (0, 1, 2, 3))] * 2)
+        self.assertTrue(ising2d.check(*SQUARE, found.energy, found.spins, found.loops))
+        verdict = ising2d.check(*SQUARE, -9, found.spins, found.loops)
+        self.assertEqual((verdict.number, verdict.kept), (2, (-10,)))
+
+    def test_a_ring(self):
+        ring = ("cylinder", 1, 3, [5, 7, 2])
+        self.assertEqual(ising2d.wall(*ring), ising2d.Wall(-14, -10, 4))
+        self.assertEqual(list(ising2d.bonds(*ring)), [14, 18, 14])
+        self.assertEqual(list(ising2d.clusters(*ring)), [0, 0, 0])
+
+    def test_a_graph(self):
+        pair = Graph(2, [(0, 1, 7)], [[0], [1]], seam=[0])
+        self.assertEqual(pair.ground().energy, -7)
+        self.assertEqual(pair.wall(), ising2d.Wall(-7, -7, 0))
+        self.assertEqual(pair.costs(), [14])
+        self.assertEqual(pair.clusters(), [0, 0])
+        self.assertTrue(pair.check(-7, [1, 1], []))
+        with self.assertRaises(Refusal) as caught:
+            Graph(2, [(0, 1, 7)], [[1], [2]]).ground()
+        self.assertEqual((caught.exception.number, caught.exception.kept), (10, (0, 1)))
+
+
+class RandomInstances(unittest.TestCase):
+    def test_numbers_and_text_agree(self):
+        source = random.Random(1)
+        for case in range(CASES):
+            instance = drawn(source)
+            with self.subTest(case=case, instance=instance):
+                self.compare(instance)
+
+    def compare(self, instance):
+        rows = rows_of("ground", instance)
+        found = ising2d.ground(*instance)
+        self.assertEqual(found.energy, int(rows[0][1]))
+        self.assertTrue(ising2d.check(*instance, found.energy, found.spins, found.loops))
+        costs = [int(row[2]) for row in rows_of("bonds", instance)[:-1]]
+        self.assertEqual(list(ising2d.bonds(*instance)), costs)
+        names = [int(row[2]) for row in rows_of("clusters", instance)[:-1]]
+        self.assertEqual(list(ising2d.clusters(*instance)), names)
+        if instance[0] == "cylinder":
+            energies = [int(row[1]) for row in rows_of("wall", instance)[:3]]
+            self.assertEqual(ising2d.wall(*instance), ising2d.Wall(*energies))
+
+
+class WrongArguments(unittest.TestCase):
+    CALLS = (ising2d.ground, ising2d.wall, ising2d.bonds, ising2d.clusters)
+
+    def refused(self, number, kept, *instance):
+        for call in self.CALLS:
+            with self.subTest(call=call.__name__), self.assertRaises(Refusal) as caught:
+                call(*instance)
+            self.assertEqual((caught.exception.number, caught.exception.kept), (number, kept))
+
+    def test_each_argument(self):
+        self.refused(19, (1, 0), "kagome", 2, 2, [3, 4, 2, -5])
+        self.refused(19, (1, 0), 4, 2, 2, [3, 4, 2, -5])
+        self.refused(19, (3, 0), "square", 0, 2, [])
+        self.refused(19, (4, 0), "square", 2, 0, [])
+        self.refused(19, (4, 0), "hexagonal", 2, 1, [1])
+        self.refused(19, (4, 0), "cylinder", 2, 2, [1])
+        self.refused(7, (2070,), "square", 45, 46, [])
+        self.refused(7, ((2**32 - 1) ** 2,), "square", 2**32 - 1, 2**32 - 1, [])
+        self.refused(6, (3, 4), "square", 2, 2, [3, 4, 2])
+        self.refused(6, (5, 4), "square", 2, 2, [3, 4, 2, -5, 1])
+        self.refused(19, (6, 3), "square", 2, 2, [3, 4, 2, -(2**63)])
+        self.refused(13, (2**63 + 2,), "square", 2, 2, [2**63 - 1, 1, 1, 1])
+
+    def test_a_wall_without_a_seam(self):
+        with self.assertRaises(Refusal) as caught:
+            ising2d.wall(*SQUARE)
+        self.assertEqual(caught.exception.number, 16)
+
+    def test_numbers_that_do_not_cross(self):
+        with self.assertRaises(OverflowError):
+            ising2d.ground("square", 2, 2, [3, 4, 2, 2**63])
+        with self.assertRaises(OverflowError):
+            ising2d.ground("square", 2**32, 2, [])
+        with self.assertRaises((TypeError, AttributeError)):
+            ising2d.ground("square", 2, 2, [0.5, 1, 1, 1])
+
+    def test_words(self):
+        self.assertEqual(ising2d.run([]).status, 2)
+        self.assertEqual(ising2d.run(["ground", "x"]).text, "usage\n")
+        self.assertEqual(ising2d.run(["gen", "é", "1", "square", "2", "2"]).text, "refused,17\n")
+        self.assertEqual(ising2d.run(["gen", "one", "1", "square", "1", "2"]).text, "square,1,2\n1\nend\n")
+        with self.assertRaises(ValueError):
+            ising2d.run(["ground\0"])
+
+
+if __name__ == "__main__":
+    unittest.main()

@@ -1,0 +1,4 @@
+mod RunLemmas
+mod WordLemmas
+mod RowLemmas
+mod CrossingLemmas

@@ -1,0 +1,183 @@
+// Lattices by numbers. No number is trusted: each is tested, and the first fault is named.
+ghost use Rattle.std.specs.Prelude.{◌≡◌, ◌↔◌, ◌<◌, ◌≤◌, ◌*◌, ◌^◌, length, None, All, IfOk, IfErr, IfSome, IsTrue};
+ghost use Rattle.sg_limits.specs.Limits.{spin_limit};
+ghost use Rattle.sg_lattice.specs.Tables.{IsSize, bond_total, lattice, least_cols as least_columns};
+ghost use Rattle.sg_planar.specs.Fit.{IsFit, IsUnfitFault};
+ghost use Rattle.ising2d_c.specs.Lattices.{IsCoupledLattice, IsCoupling, IsCouplingFault, IsFirstOut, IsFitLattice, IsKindFault, IsLatticeFault, IsSizedFault, IsValueFault, kind_numbered, size_fault};
+
+use sg_lattice::{Kind, bond_count, build};
+use sg_limits::SPIN_LIMIT;
+use sg_model::{Couplings, Fault, Refusal};
+use sg_planar::{NotFit, Planar};
+use std::alloc::Global;
+
+/// The lattice of these numbers, fit for a planar solver.
+///
+/// # Errors
+/// The first that is wrong of the kind, the rows, the columns, the number of spins, the number of
+/// couplings, and the values of the couplings; then what makes the lattice unfit.
+pub fn fit_lattice(
+    alloc: Global,
+    kind: u8,
+    rows: u32,
+    cols: u32,
+    couplings: &[i64],
+) -> Result<Planar, Fault>
+    ensures gives { IfOk result (λ planar. IsFitLattice kind rows cols couplings.now planar.instance) }
+    ensures refuses { IfErr result (IsLatticeFault kind rows cols couplings.now) }
+{
+    match kind_by(kind) {
+        Some(kind) => sized_lattice(alloc, kind, rows, cols, couplings),
+        None => Err(Fault::Refused(Refusal::BadMember { place: 1, item: 0 })),
+    }
+}
+
+// The kind of this number.
+fn kind_by(number: u8) -> Option<Kind>
+    ensures { result ≡ kind_numbered number }
+{
+    if number == 0 {
+        Some(Kind::Square)
+    } else if number == 1 {
+        Some(Kind::Triangular)
+    } else if number == 2 {
+        Some(Kind::Hexagonal)
+    } else if number == 3 {
+        Some(Kind::Cylinder)
+    } else {
+        None
+    }
+}
+
+// The first fault of a size.
+fn fault_of_size(kind: Kind, rows: u32, cols: u32) -> Option<Refusal>
+    ensures value { result ≡ size_fault kind rows cols }
+    ensures size { result ≡ None → IsSize kind rows cols }
+{
+    if rows == 0 {
+        return Some(Refusal::BadMember { place: 3, item: 0 });
+    }
+    if cols < least_cols(kind) {
+        return Some(Refusal::BadMember { place: 4, item: 0 });
+    }
+    let spins = u64::from(rows) * u64::from(cols);
+    if spins > u64::from(SPIN_LIMIT) {
+        return Some(Refusal::TooManySpins {
+            n: i128::from(spins),
+        });
+    }
+    None
+}
+
+// The least number of columns of a lattice of this kind.
+fn least_cols(kind: Kind) -> u32
+    ensures { result ≡ least_columns kind }
+{
+    match kind {
+        Kind::Square | Kind::Triangular => 1,
+        Kind::Hexagonal => 2,
+        Kind::Cylinder => 3,
+    }
+}
+
+// The lattice of a kind, once its size is tested.
+fn sized_lattice(
+    alloc: Global,
+    kind: Kind,
+    rows: u32,
+    cols: u32,
+    couplings: &[i64],
+) -> Result<Planar, Fault>
+    ensures size { IfOk result (λ _. size_fault kind rows cols ≡ None) }
+    ensures gives { IfOk result (λ planar. IsCoupledLattice kind rows cols couplings.now planar.instance) }
+    ensures refuses { IfErr result (IsSizedFault (size_fault kind rows cols) kind rows cols couplings.now) }
+{
+    match fault_of_size(kind, rows, cols) {
+        Some(refusal) => Err(Fault::Refused(refusal)),
+        None => coupled_lattice(alloc, kind, rows, cols, couplings),
+    }
+}
+
+// The lattice of a size, once the number of couplings is tested.
+fn coupled_lattice(
+    alloc: Global,
+    kind: Kind,
+    rows: u32,
+    cols: u32,
+    couplings: &[i64],
+) -> Result<Planar, Fault>
+    requires { IsSize kind rows cols }
+    ensures gives { IfOk result (λ planar. IsCoupledLattice kind rows cols couplings.now planar.instance) }
+    ensures refuses { IfErr result (IsCouplingFault kind rows cols couplings.now) }
+{
+    let wanted = bond_count(kind, rows, cols);
+    if couplings.len() != wanted as usize {
+        let found = couplings.len().min(u32::MAX as usize) as u32;
+        return Err(Fault::Refused(Refusal::CouplingCount { found, wanted }));
+    }
+    valued_lattice(alloc, kind, rows, cols, couplings)
+}
+
+// The lattice with so many couplings, once their values are tested.
+fn valued_lattice(
+    alloc: Global,
+    kind: Kind,
+    rows: u32,
+    cols: u32,
+    couplings: &[i64],
+) -> Result<Planar, Fault>
+    requires size { IsSize kind rows cols }
+    requires count { length couplings.now ≡ bond_total kind rows cols }
+    requires few { length couplings.now < 2 ^ 32 }
+    ensures gives { IfOk result (λ planar. IsCoupledLattice kind rows cols couplings.now planar.instance) }
+    ensures refuses { IfErr result (IsValueFault kind rows cols couplings.now) }
+{
+    if let Some(item) = first_out(couplings) {
+        return Err(Fault::Refused(Refusal::BadMember { place: 6, item }));
+    }
+    planar_lattice(alloc, kind, rows, cols, couplings)
+}
+
+// The lattice with these couplings, where it is fit.
+fn planar_lattice(
+    alloc: Global,
+    kind: Kind,
+    rows: u32,
+    cols: u32,
+    couplings: &[i64],
+) -> Result<Planar, Fault>
+    requires size { IsSize kind rows cols }
+    requires count { length couplings.now ≡ bond_total kind rows cols }
+    requires range { All IsCoupling couplings.now }
+    ensures gives { IfOk result (λ planar. planar.instance ≡ lattice kind rows cols couplings.now) }
+    ensures fit { IfOk result (λ planar. IsFit planar.instance) }
+    ensures refuses { IfErr result (IsUnfitFault (lattice kind rows cols couplings.now)) }
+{
+    let list = Couplings::from_vec(Vec::from_slice(alloc, couplings)?);
+    let instance = build(alloc, kind, rows, cols, list)?;
+    match Planar::new(alloc, instance) {
+        Ok(planar) => Ok(planar),
+        Err(NotFit { fault, instance: _ }) => Err(fault),
+    }
+}
+
+// The place of the first number that is no coupling.
+fn first_out(couplings: &[i64]) -> Option<u32>
+    requires { length couplings.now < 2 ^ 32 }
+    ensures out { IfSome result (IsFirstOut couplings.now) }
+    ensures none { result ≡ None → All IsCoupling couplings.now }
+{
+    for place in 0..couplings.len() {
+        if !is_coupling(&couplings[place]) {
+            return Some(place as u32);
+        }
+    }
+    None
+}
+
+// Whether a number is a coupling.
+fn is_coupling(number: &i64) -> bool
+    ensures { IsTrue result ↔ IsCoupling number.now }
+{
+    number.unsigned_abs() < 1 << 63
+}

@@ -1,0 +1,47 @@
+// Loops as three lists of numbers.
+ghost use Rattle.std.specs.Prelude.{◌≡◌, ◌+◌, length, map, IfOk};
+ghost use Rattle.std.specs.List.{range_with_len};
+ghost use Rattle.ising2d_c.specs.Crossing.{AreRows, bonds_before, bonds_of};
+
+use sg_check::Loop;
+use std::alloc::{AllocError, Global};
+
+/// The weights of loops, for each loop the place of its first bond with the number of all behind
+/// them, and the bonds of all loops.
+#[derive(Drop)]
+pub struct Rows {
+    pub weights: Vec<i64>,
+    pub starts: Vec<usize>,
+    pub bonds: Vec<u32>,
+}
+
+/// The loops as rows.
+pub fn rows_of(alloc: Global, loops: &[Loop]) -> Result<Rows, AllocError>
+    ensures { IfOk result (λ rows. AreRows loops.now rows.weights.items rows.starts.items rows.bonds.items) }
+{
+    let weights = weights_of(alloc, loops)?;
+    let mut starts = Vec::new(alloc);
+    let mut bonds = Vec::new(alloc);
+    for each in loops {
+        starts.push(bonds.len())?;
+        bonds.extend_from_slice(each.bonds.as_slice())?;
+    }
+    let all = bonds.len();
+    starts.push(all)?;
+    Ok(Rows {
+        weights,
+        starts,
+        bonds,
+    })
+}
+
+// The weights of all loops.
+fn weights_of(alloc: Global, loops: &[Loop]) -> Result<Vec<i64>, AllocError>
+    ensures { IfOk result (λ weights. weights.items ≡ map (λ each. each.y) loops.now) }
+{
+    let mut weights = Vec::new(alloc);
+    for each in loops {
+        weights.push(each.y)?;
+    }
+    Ok(weights)
+}
