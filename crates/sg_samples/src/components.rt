@@ -52,3 +52,18 @@ fn each_component_is_a_part(rt: HostRuntime) -> Result<(), Fail> {
     }
     Ok(())
 }
+
+#[test]
+fn every_sign_is_changed(rt: HostRuntime) -> Result<(), Fail> {
+    let inst = instance(rt.alloc(), "square,2,2\n3,4\n2,-5\nend\n")?;
+    let Ok(planar) = Planar::new(rt.alloc(), inst) else {
+        return Err(Fail::new("the instance is planar"));
+    };
+    let opposite = planar.negated()?;
+    let mut couplings = Vec::new(rt.alloc());
+    for bond in opposite.instance().bonds().as_slice() {
+        couplings.push(bond.j)?;
+    }
+    assert_eq!(rt; couplings.as_slice(), [-3, -4, -2, 5].as_slice());
+    Ok(())
+}
