@@ -5,4 +5,6 @@ use Rattle.std.specs.Ordering.{nat_cmp, ordering_then}
 use Rattle.sg_dist.specs.declared.candidate.Candidate.{Candidate}
 
 abbrev pub nearest_last : Reverse Candidate → Reverse Candidate → Ordering
-nearest_last x y = ordering_then (nat_cmp y.0.distance x.0.distance) (ordering_then (nat_cmp y.0.node x.0.node) (nat_cmp y.0.edge x.0.edge))
+nearest_last x y =
+    ordering_then (nat_cmp y.0.distance x.0.distance)
+    (ordering_then (nat_cmp y.0.node x.0.node) (nat_cmp y.0.edge x.0.edge))

@@ -42,7 +42,8 @@ pub record Finds (g : Graph) (t : Routes) (heap : List Candidate) : Type 0 where
   pub right : (x : ℕ) → is_reached t x ≡ true → IsDistance g t.source x (length_to t x)
   pub light : (x : ℕ) → is_reached t x ≡ true → length_to t x ≤ inner_weight g t
   pub parents : (x e : ℕ) → parent_at t x ≡ Some e → IsNearer g t x e
-  pub back : (x : ℕ) → is_reached t x ≡ true → (es : List ℕ) × IsWayBack g t x es t.source × (length es < reached_count t)
+  pub back : (x : ℕ) → is_reached t x ≡ true →
+      (es : List ℕ) × IsWayBack g t x es t.source × (length es < reached_count t)
   pub candidates : All (IsCandidate g t) heap
   pub order : (x : ℕ) → is_reached t x ≡ true → All (λ c. length_to t x ≤ c.distance) heap
 

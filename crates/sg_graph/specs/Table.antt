@@ -49,7 +49,8 @@ pub record IsTable (t : Routes) : Type 0 where
 
 -- the table with one more node reached, or reached anew
 abbrev pub with_route : Routes → ℕ → ℤ → ℕ → Routes
-with_route t x distance edge = record { source = t.source; to = slice_set t.to x (Some (record { distance = distance; edge = edge })) }
+with_route t x distance edge =
+    record { source = t.source; to = slice_set t.to x (Some (record { distance = distance; edge = edge })) }
 
 -- following the parents from x, over these edges, comes to y
 abbrev pub IsWayBack : Graph → Routes → ℕ → List ℕ → ℕ → Type 0
@@ -68,8 +69,10 @@ pub record IsTableOf (g : Graph) (t : Routes) : Type 0 where
   -- it has the nodes of the graph
   pub nodes : length t.to ≡ g.nodes
   -- exactly those to which a walk leads are reached, each with the least weight of such a walk
-  pub distances : (x : ℕ) → x < g.nodes → MatchOption (route_at t x) (¬ IsReached g t.source x) (λ r. (d : ℕ) × (r.distance ≡ pos d) × IsDistance g t.source x d)
+  pub distances : (x : ℕ) → x < g.nodes → MatchOption (route_at t x) (¬ IsReached g t.source x)
+      (λ r. (d : ℕ) × (r.distance ≡ pos d) × IsDistance g t.source x d)
   -- a parent is nearer by the edge's weight
   pub parents : (x e : ℕ) → x < g.nodes → parent_at t x ≡ Some e → IsNearer g t x e
   -- the parents lead back to the source in fewer steps than there are nodes
-  pub back : (x : ℕ) → x < g.nodes → is_reached t x ≡ true → (es : List ℕ) × IsWayBack g t x es t.source × (length es < g.nodes)
+  pub back : (x : ℕ) → x < g.nodes → is_reached t x ≡ true →
+      (es : List ℕ) × IsWayBack g t x es t.source × (length es < g.nodes)

@@ -1,4 +1,5 @@
--- The members of an instance in JSON: the tests of each, in the order in which they are made, and the instance that they give.
+-- The members of an instance in JSON: the tests of each, in the order in which they are made, and the instance that
+-- they give.
 use Rattle.std.specs.Prelude.{ℕ, ◌+◌, ◌*◌, ◌==◌, ◌||◌, Bool, not, nat_lt, pos, if◌then◌else◌, List, [], ◌∷◌, length, map, find, codes, slice_index_or}
 use Rattle.std.specs.Prelude.{Option, Some, None, option_map, option_and_then, is_some, unwrap_or}
 use Rattle.std.specs.List.{list_all, range_with_len}
@@ -73,7 +74,8 @@ abbrev pub is_self : Bond → Bool
 is_self b = b.u == b.v
 
 abbrev pub self_fault : List Bond → Option Refusal
-self_fault bonds = option_map (λ k. SelfBond k) (find (λ k. is_self (bond_at bonds k)) (range_with_len 0 (length bonds)))
+self_fault bonds =
+    option_map (λ k. SelfBond k) (find (λ k. is_self (bond_at bonds k)) (range_with_len 0 (length bonds)))
 
 -- rows and columns of a lattice, and the spins of another instance
 abbrev pub rows_in : Data → ℕ

@@ -45,8 +45,8 @@ pub data RefusesData (d : Data) (refusal : Refusal) : Type 0 where
 -- the text is refused: it is too long, it is no JSON, or its data is refused
 pub data RefusesJson (bytes : List ℕ) (refusal : Refusal) : Type 0 where
   TooLong : json_limit < length bytes → refusal ≡ JsonTooLong json_limit → RefusesJson bytes refusal
-  NoData : length bytes ≤ json_limit → (IsUtf8 (without_marks bytes) → read (without_marks bytes) ≡ None) → refusal ≡ BadJson
-      → RefusesJson bytes refusal
+  NoData : length bytes ≤ json_limit → (IsUtf8 (without_marks bytes) → read (without_marks bytes) ≡ None) →
+      refusal ≡ BadJson → RefusesJson bytes refusal
   OfData : length bytes ≤ json_limit → (d : Data) → Says bytes d → RefusesData d refusal → RefusesJson bytes refusal
 
 -- a refusal by these rules, or want of memory, which may come at any time

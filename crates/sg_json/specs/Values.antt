@@ -78,7 +78,8 @@ is_below n (Some k) = nat_lt k n
 
 abbrev pub is_triple : ℕ → List Data → Bool
 is_triple n ds =
-    (length ds == 3) && (is_below n (index (item_at ds 0)) && (is_below n (index (item_at ds 1)) && is_whole (item_at ds 2)))
+    (length ds == 3)
+    && (is_below n (index (item_at ds 0)) && (is_below n (index (item_at ds 1)) && is_whole (item_at ds 2)))
 
 abbrev pub is_bond : ℕ → Data → Bool
 is_bond n d = is_triple n (items_in d)

@@ -50,7 +50,8 @@ pub record HeadsSet (inst : Ising) (unlike : ℕ → Bool) (spin : ℕ) (darts :
 pub record SetTo (inst : Ising) (unlike : ℕ → Bool) (order : List ℕ) (next : ℕ) (down : List Bool) : Type 0 where
   pub lengths : length down ≡ inst.n
   pub first : (t : ℕ → Bool) → Follows inst unlike t → IsRight t down 0
-  pub heads : (t : ℕ → Bool) → Follows inst unlike t → (k : ℕ) → k < next → HeadsRight inst t down (darts_of inst (slice_index order k))
+  pub heads : (t : ℕ → Bool) → Follows inst unlike t → (k : ℕ) → k < next →
+      HeadsRight inst t down (darts_of inst (slice_index order k))
 
 -- the marks are those of each assignment that follows the bonds
 pub record TellsDown (inst : Ising) (unlike : ℕ → Bool) (down : List Bool) : Type 0 where

@@ -36,7 +36,8 @@ IsNextFault old r fault = (body : List Kept) → HoldsGeneral body old → IsTes
 
 -- the instance that the records gave, and why it is refused
 abbrev pub IsHeldInstance : GeneralBody → Ising → Type 0
-IsHeldInstance state inst = (body : List Kept) → HoldsGeneral body state → inst ≡ instance_of (header.General state.n) body
+IsHeldInstance state inst =
+    (body : List Kept) → HoldsGeneral body state → inst ≡ instance_of (header.General state.n) body
 
 abbrev pub IsHeldFault : GeneralBody → Fault → Type 0
 IsHeldFault state fault =

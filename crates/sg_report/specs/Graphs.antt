@@ -12,7 +12,8 @@ cut_line cut = line (codes "cut") (cut.y ∷ map pos cut.bonds)
 -- the weight of a join, its edges, and cuts
 abbrev pub tjoin_text : ℤ → List ℕ → List Loop → List ℕ
 tjoin_text weight edges cuts =
-    line (codes "weight") (weight ∷ []) ++ line (codes "edges") (map pos edges) ++ flat_map cut_line cuts ++ codes "end\n"
+    line (codes "weight") (weight ∷ []) ++ line (codes "edges") (map pos edges)
+    ++ flat_map cut_line cuts ++ codes "end\n"
 
 -- a step of a walk: its edge, and the node that it leads to
 abbrev pub step_line : ℕ × ℕ → List ℕ

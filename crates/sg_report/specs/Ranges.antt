@@ -8,7 +8,9 @@ use Rattle.sg_report.specs.Text.{int_at, loop_line}
 -- where a coupling lies: above its turning coupling, below it or at it
 abbrev pub place_end : ℤ → ℤ → List ℕ
 place_end coupling turn =
-    if int_lt turn coupling then codes ",above\n" else (if int_lt coupling turn then codes ",below\n" else codes ",at\n")
+    if int_lt turn coupling
+    then codes ",above\n"
+    else (if int_lt coupling turn then codes ",below\n" else codes ",at\n")
 
 -- a bond with its turning coupling
 abbrev pub turn_line : ℕ → ℤ → ℤ → List ℕ
