@@ -7,11 +7,12 @@ use Rattle.std.specs.Int.{w128}
 use Rattle.std.proofs.lemmas.List.{get_or-map, get_or-set_other, get_or-set_same, length-map, length-set, map-append}
 use Rattle.sg_slack.proofs.DistinctLemmas.{at_end, short}
 use Rattle.sg_slack.proofs.ScanLemmas.{Least-nearer, Least-same, below_next}
-use Rattle.sg_slack.specs.Kept.{IsNear, IsNearestOf, IsTakenAt, key_of, kept_at, members_of, nearest_at}
+use Rattle.sg_slack.specs.Kept.{IsKeyOf, IsNear, IsNearestOf, IsTakenAt, key_of, kept_at, members_of, nearest_at}
 use Rattle.sg_slack.specs.Members.{Agree, IsMember, Member, TotalsFit, grown, member_at}
+use Rattle.sg_slack.specs.Partner.{AreRisen}
 use Rattle.sg_slack.specs.Scan.{IsApartBefore, IsApartOf, IsKeptBefore, IsNearer, IsNearestFree}
 use Rattle.sg_slack.specs.Slack.{IsOuterFree, Least, mark_at, slack_of, total_at}
-use Rattle.sg_slack.specs.Table.{Table}
+use Rattle.sg_slack.specs.Table.{Table, cost_of}
 use Rattle.sg_slack.specs.declared.Mark.{Mark}
 use Rattle.sg_slack.specs.declared.Mark.TheVariants.{Free, Outer}
 use Rattle.sg_slack.specs.declared.Pair.{Pair}
@@ -63,7 +64,48 @@ pub members-none : (rise other delta : ℤ) (ms : List Kept) → length ms ≡ 0
 members-none rise other delta [] none = refl
 members-none rise other delta (m ∷ ms) none = absurd (omega (arith, none))
 
+-- the total of a member, where the table has it
+pub total-agree : (rise : ℤ) (ms : List Kept) (totals : List ℤ) → Agree (members_of rise ms) totals → (i : ℕ) → i < length ms →
+    total_at totals (kept_at ms i).leaf ≡ (kept_at ms i).base +ℤ rise
+total-agree rise ms totals agree i low =
+    let is = member-is rise ms i low in
+    ap (λ (m : Member). total_at totals m.leaf) (sym is) ∙ agree i (omega (arith, low, members-count rise ms)) ∙ ap (λ (m : Member). m.total) is
+
+pub AreRisen-agree : (rise : ℤ) (ms : List Kept) (totals : List ℤ) → Agree (members_of rise ms) totals → AreRisen ms totals
+AreRisen-agree rise ms totals agree = record { rise = rise; total = total-agree rise ms totals agree }
+
 module _ (t : Table) (rise : ℤ) (ms : List Kept) (places : List ℕ) (nearest : List Nearest) (near : IsNear t rise ms places nearest) where
+  abbrev leaves : List ℕ
+  leaves = map (λ (m : Kept). m.leaf) ms
+
+  -- there are at most as many members as leaves
+  pub members-few : length ms ≤ t.size
+  members-few =
+      omega (arith, short leaves t.size differ below, count)
+    where
+      count : length leaves ≡ length ms
+      count = length-map ms (λ (m : Kept). m.leaf)
+
+      leaf_is : (i : ℕ) → i < length leaves → get_or leaves i 0 ≡ (kept_at ms i).leaf
+      leaf_is i low = get_or-map (λ (m : Kept). m.leaf) ms i no_kept 0 (omega (arith, low, count))
+
+      differ : (i j : ℕ) → i < length leaves → j < length leaves → get_or leaves i 0 ≡ get_or leaves j 0 → i ≡ j
+      differ i j low_i low_j same =
+          sym (near.placed i (omega (arith, low_i, count))) ∙ ap (λ n. get_or places n 0) (sym (leaf_is i low_i) ∙ same ∙ leaf_is j low_j)
+          ∙ near.placed j (omega (arith, low_j, count))
+
+      below : (i : ℕ) → i < length leaves → get_or leaves i 0 < t.size
+      below i low = omega (arith, leaf_is i low, near.low i (omega (arith, low, count)))
+
+  -- the key of a leaf's nearest member is its cost less what the member has of its total
+  pub key-kept : (totals : List ℤ) → Agree (members_of rise ms) totals → 0 < length ms → (v : ℕ) → v < t.size → IsKeyOf t totals rise v (nearest_at nearest v)
+  key-kept totals agree some v low =
+      let n = near.each v low some in
+      let total = total-agree rise ms totals agree n.at n.low in
+      let cost : cost_of t (kept_at ms n.at).leaf v ≡ cost_of t (nearest_at nearest v).leaf v = ap (λ k. cost_of t k v) n.leaf in
+      let here : total_at totals (kept_at ms n.at).leaf ≡ total_at totals (nearest_at nearest v).leaf = ap (λ k. total_at totals k) n.leaf in
+      omega (arith, ints, n.key, total, cost, here)
+
   -- a member stands at its place
   pub placed-member : (leaf : ℕ) → IsMember (members_of rise ms) leaf →
       (get_or places leaf 0 < length ms) × ((kept_at ms (get_or places leaf 0)).leaf ≡ leaf)
@@ -77,9 +119,7 @@ module _ (t : Table) (rise : ℤ) (ms : List Kept) (places : List ℕ) (nearest 
       IsMember (members_of rise ms) u) × (IsMember (members_of rise ms) u → mark_at marks u ≡ Outer))
       (agree : Agree (members_of rise ms) totals) where
     total-kept : (i : ℕ) → i < length ms → total_at totals (kept_at ms i).leaf ≡ (kept_at ms i).base +ℤ rise
-    total-kept i low =
-        let is = member-is rise ms i low in
-        ap (λ (m : Member). total_at totals m.leaf) (sym is) ∙ agree i (omega (arith, low, members-count rise ms)) ∙ ap (λ (m : Member). m.total) is
+    total-kept = total-agree rise ms totals agree
 
     pub nearest-outer : (u v : ℕ) → 0 < length ms → IsNearestFree t nearest marks u v → IsOuterFree t marks u v
     nearest-outer u v some is =

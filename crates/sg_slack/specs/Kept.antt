@@ -6,6 +6,7 @@ use Rattle.std.specs.Int.{w64}
 use Rattle.sg_slack.specs.declared.near.Kept.{Kept}
 use Rattle.sg_slack.specs.declared.near.Nearest.{Nearest}
 use Rattle.sg_slack.specs.Members.{Member}
+use Rattle.sg_slack.specs.Slack.{total_at}
 use Rattle.sg_slack.specs.Table.{Table, cost_of}
 
 -- the member at a place
@@ -50,3 +51,7 @@ abbrev pub IsTakenAt : Table → Kept → Bool → ℕ → Nearest → Nearest �
 IsTakenAt t m first v old new =
     ((new ≡ record { leaf = m.leaf; key = key_of t m v }) × ((first ≡ true) ⊎ (key_of t m v ≤ℤ old.key))) ⊎
     ((new ≡ old) × (first ≡ false) × (old.key ≤ℤ key_of t m v))
+
+-- what is left of the cost to the nearest member after the member's total
+abbrev pub IsKeyOf : Table → List ℤ → ℤ → ℕ → Nearest → Type 0
+IsKeyOf t totals rise v n = n.key -ℤ rise ≡ cost_of t n.leaf v -ℤ total_at totals n.leaf

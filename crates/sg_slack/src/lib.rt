@@ -15,11 +15,13 @@
 //! their totals (`Known` of `specs/Members.antt`); what it keeps is `IsNear` of `specs/Kept.antt`.
 #![tactic(auto)]
 
-ghost use Rattle.std.specs.Prelude.{◌≡◌, ◌≢◌, ◌↔◌, ◌<◌, IsTrue, Some, false, length};
+ghost use Rattle.std.specs.Prelude.{◌≡◌, ◌≢◌, ◌↔◌, ◌<◌, ◌-ℤ◌, FitsSigned, IsTrue, Some, false, length};
+ghost use Rattle.std.specs.Int.{w64};
 ghost use Rattle.sg_slack.specs.Slack.{mark_at, slack_of, IsOuterFree, IsOuterOuter, Least, SumsFit};
 ghost use Rattle.sg_slack.specs.Scan.{IsNearer, IsOuterFreeOf, IsOuterOuterOf};
 
 mod near;
+mod partners;
 
 pub use near::Near;
 use std::alloc::{AllocError, Global};
@@ -248,7 +250,18 @@ fn slack(costs: &Costs, total: &[i64], u: u32, v: u32) -> i64
     requires v { v < costs.now.size }
     ensures { result ≡ slack_of costs.now total.now u v }
 {
-    costs.cost(u, v) - total[u as usize] - total[v as usize]
+    difference(
+        difference(costs.cost(u, v), total[u as usize]),
+        total[v as usize],
+    )
+}
+
+// A number less another.
+fn difference(a: i64, b: i64) -> i64
+    requires { FitsSigned w64 (a -ℤ b) }
+    ensures { result ≡ a -ℤ b }
+{
+    a - b
 }
 
 // The pair of less slack; the first where they are equal.

@@ -1,17 +1,19 @@
-ghost use Rattle.std.specs.Prelude.{◌≡◌, ◌≢◌, ◌↔◌, IsTrue, ℕ, ◌<◌, ◌≤ℤ◌, ◌+ℤ◌, ◌⊎◌, ◌^◌, length, pos, negsuc, true, false};
-ghost use Rattle.sg_slack.specs.Kept.{kept_at, key_of, nearest_at, IsTakenAt};
-ghost use Rattle.sg_slack.specs.Scan.{IsApartBefore, IsApartOf, IsNearestFree};
-ghost use Rattle.sg_slack.specs.Slack.{Least, SumsFit};
+ghost use Rattle.std.specs.Prelude.{◌≡◌, ◌≢◌, ◌↔◌, IsTrue, ℕ, ◌<◌, ◌≤ℤ◌, ◌+ℤ◌, ◌-ℤ◌, ◌⊎◌, ◌^◌, FitsSigned, length, pos, negsuc, true, false};
+ghost use Rattle.std.specs.Int.{w64};
+ghost use Rattle.sg_slack.specs.Kept.{nearest_at, IsKeyOf, IsTakenAt};
+ghost use Rattle.sg_slack.specs.Scan.{IsNearestFree};
+ghost use Rattle.sg_slack.specs.Slack.{slack_of, Least, SumsFit};
 
-use super::{Costs, Mark, NoMemory, Pair, is_free, nearer, nearer_if, pair_of};
+use super::partners::Partners;
+use super::{Costs, Mark, NoMemory, Pair, difference, is_free, nearer_if};
 use std::alloc::Global;
 use std::marker::Model;
 
 /// A member, and its total less what the totals have risen by since the first member came.
 #[derive(Clone, Copy)]
-struct Kept {
-    leaf: u32,
-    base: i128,
+pub struct Kept {
+    pub leaf: u32,
+    pub base: i128,
 }
 
 /// The member that is nearest to a leaf, and their cost less the member's base.
@@ -35,6 +37,7 @@ pub struct Near {
     places: Vec<usize>,
     // For each leaf; where there is a member.
     nearest: Vec<Nearest>,
+    partners: Partners,
 }
 
 impl Model for Near {
@@ -66,12 +69,14 @@ impl Near {
         let members = Vec::with_capacity(alloc, count)?;
         let places = vec![in alloc; 0usize; count]?;
         let nearest = vec![in alloc; Nearest { leaf: 0, key: 0 }; count]?;
+        let partners = Partners::open(alloc, count)?;
         Ok(Near {
             costs,
             rise: 0,
             members,
             places,
             nearest,
+            partners,
         })
     }
 
@@ -104,6 +109,7 @@ impl Near {
     {
         self.members.clear();
         self.rise = 0;
+        self.partners.forget();
     }
 
     /// Adds a leaf with its total. All else stays.
@@ -154,23 +160,31 @@ impl Near {
         if self.members.is_empty() {
             return None;
         }
-        nearest_kept(&self.costs, &self.nearest, total, mark)
+        nearest_kept(&self.costs, self.rise, &self.nearest, total, mark)
     }
 
     /// A pair of least slack of two outer leaves of different tops, none where there is no such pair:
     /// the answer of [`least_outer_outer`](crate::least_outer_outer) where the members are the outer
-    /// leaves. The three slices have an entry for each leaf.
+    /// leaves. The three slices have an entry for each leaf. Costs and members stay.
     ///
-    /// Cost: proportional to the square of the number of members.
-    pub fn least_between(&self, total: &[i64], top: &[usize], mark: &[Mark]) -> Option<Pair>
-        requires totals { length total.now ≡ self.now.table.size }
-        requires tops { length top.now ≡ self.now.table.size }
-        requires marks { length mark.now ≡ self.now.table.size }
-        requires fits { SumsFit self.now.table total.now }
-        requires members { (u : ℕ) → u < self.now.table.size → (mark_at mark.now u ≡ Outer) ↔ IsMember self.now.members u }
-        ensures { Least self.now.table total.now (IsOuterOuter self.now.table top.now mark.now) result }
+    /// For each member the nearest member of another top is kept from call to call. It stays the
+    /// nearest while members that shared a top go on to share one, as they do while a tree grows.
+    ///
+    /// Cost: proportional to the number of members, and again to it for each member that is new, or
+    /// whose nearest one has come into its own top; to the square of their number where a top was
+    /// taken apart.
+    pub fn least_between(&mut self, total: &[i64], top: &[usize], mark: &[Mark]) -> Option<Pair>
+        requires totals { length total.now ≡ self.old.table.size }
+        requires tops { length top.now ≡ self.old.table.size }
+        requires marks { length mark.now ≡ self.old.table.size }
+        requires fits { SumsFit self.old.table total.now }
+        requires members { (u : ℕ) → u < self.old.table.size → (mark_at mark.now u ≡ Outer) ↔ IsMember self.old.members u }
+        requires agree { Agree self.old.members total.now }
+        ensures table { self.new.table ≡ self.old.table }
+        ensures kept { self.new.members ≡ self.old.members }
+        ensures least { Least self.old.table total.now (IsOuterOuter self.old.table top.now mark.now) result }
     {
-        least_apart(&self.costs, &self.members, total, top)
+        self.partners.least(&self.costs, &self.members, total, top)
     }
 }
 
@@ -215,65 +229,50 @@ fn nearer_member(kept: Nearest, other: Nearest, first: bool) -> Nearest
 }
 
 // The pair of least slack of a free leaf and its nearest member.
-fn nearest_kept(costs: &Costs, nearest: &[Nearest], total: &[i64], mark: &[Mark]) -> Option<Pair>
+fn nearest_kept(
+    costs: &Costs,
+    rise: i128,
+    nearest: &[Nearest],
+    total: &[i64],
+    mark: &[Mark],
+) -> Option<Pair>
     requires totals { length total.now ≡ costs.now.size }
     requires marks { length mark.now ≡ costs.now.size }
     requires count { length nearest.now ≡ costs.now.size }
     requires fits { SumsFit costs.now total.now }
     requires low { (v : ℕ) → v < costs.now.size → (nearest_at nearest.now v).leaf < costs.now.size }
+    requires keys { (v : ℕ) → v < costs.now.size → IsKeyOf costs.now total.now rise v (nearest_at nearest.now v) }
     ensures { Least costs.now total.now (IsNearestFree costs.now nearest.now mark.now) result }
 {
     let mut best = None;
     for v in 0..costs.size() {
-        let u = nearest[v as usize].leaf;
-        let pair = pair_of(costs, total, u, v);
+        let pair = pair_by_key(costs, rise, nearest[v as usize], total, v);
         best = nearer_if(best, pair, is_free(mark[v as usize]));
     }
     best
 }
 
-// The pair of least slack of two members of different tops.
-fn least_apart(costs: &Costs, members: &[Kept], total: &[i64], top: &[usize]) -> Option<Pair>
+// A leaf and its nearest member, with their slack.
+fn pair_by_key(costs: &Costs, rise: i128, nearest: Nearest, total: &[i64], v: u32) -> Pair
     requires totals { length total.now ≡ costs.now.size }
-    requires tops { length top.now ≡ costs.now.size }
     requires fits { SumsFit costs.now total.now }
-    requires low { (i : ℕ) → i < length members.now → (kept_at members.now i).leaf < costs.now.size }
-    ensures { Least costs.now total.now (IsApartBefore (length members.now) members.now top.now) result }
+    requires u { nearest.leaf < costs.now.size }
+    requires v { v < costs.now.size }
+    requires key { IsKeyOf costs.now total.now rise v nearest }
+    ensures { result ≡ record { u = nearest.leaf; v = v; slack = slack_of costs.now total.now nearest.leaf v } }
 {
-    let mut best = None;
-    for member in members {
-        best = nearer(best, nearest_apart(costs, members, total, top, member.leaf));
+    let left = narrow_difference(nearest.key, rise);
+    Pair {
+        u: nearest.leaf,
+        v,
+        slack: difference(left, total[v as usize]),
     }
-    best
 }
 
-// The pair of least slack of a leaf and a member of another top.
-fn nearest_apart(
-    costs: &Costs,
-    members: &[Kept],
-    total: &[i64],
-    top: &[usize],
-    u: u32,
-) -> Option<Pair>
-    requires totals { length total.now ≡ costs.now.size }
-    requires tops { length top.now ≡ costs.now.size }
-    requires fits { SumsFit costs.now total.now }
-    requires low { (i : ℕ) → i < length members.now → (kept_at members.now i).leaf < costs.now.size }
-    requires leaf { u < costs.now.size }
-    ensures { Least costs.now total.now (IsApartOf (length members.now) members.now top.now u) result }
+// A number less another, where that fits 64 bits.
+fn narrow_difference(a: i128, b: i128) -> i64
+    requires { FitsSigned w64 (a -ℤ b) }
+    ensures { result ≡ a -ℤ b }
 {
-    let mut best = None;
-    for member in members {
-        let pair = pair_of(costs, total, u, member.leaf);
-        let counts = is_apart(top[u as usize], top[member.leaf as usize]);
-        best = nearer_if(best, pair, counts);
-    }
-    best
-}
-
-// Whether two tops differ.
-fn is_apart(top: usize, other: usize) -> bool
-    ensures { IsTrue result ↔ (top ≢ other) }
-{
-    top != other
+    (a - b) as i64
 }

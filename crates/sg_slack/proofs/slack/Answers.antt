@@ -2,16 +2,9 @@ use Rattle.std.proofs.Common.{arith}
 use Rattle.std.proofs.lemmas.Int.{ints}
 use Rattle.sg_slack.proofs.slack.Goals as goal
 
-pub overflow_sub-result-2 : goal.overflow_sub-result-2
-overflow_sub-result-2 c =
-    let first = c.requires.fits.first c.args.u c.args.v c.requires.u c.requires.v in
-    let whole = c.requires.fits.slack c.args.u c.args.v c.requires.u c.requires.v in
-    let cost = c.cost.ensures in
-    omega (arith, ints)
-
 pub returns : goal.returns
 returns c =
     let first = c.requires.fits.first c.args.u c.args.v c.requires.u c.requires.v in
     let whole = c.requires.fits.slack c.args.u c.args.v c.requires.u c.requires.v in
     let cost = c.cost.ensures in
-    omega (arith, ints)
+    omega (arith, ints, c.difference.ensures, c.difference-2.ensures)

@@ -5,6 +5,7 @@ use Rattle.std.specs.Vec.{with_items}
 use Rattle.std.proofs.lemmas.Int.{to_z-of_z}
 use Rattle.std.proofs.lemmas.List.{with_items_is}
 use Rattle.sg_slack.proofs.NearLemmas.{IsNear-added, members-more, room-more, wrapped_difference}
+use Rattle.sg_slack.proofs.PartnerLemmas.{KeepsPartners-more}
 use Rattle.sg_slack.specs.Kept.{IsTakenAt, members_of, nearest_at}
 use Rattle.sg_slack.specs.Members.{IsMember, Known}
 use Rattle.sg_slack.specs.declared.near.Kept.{Kept}
@@ -73,6 +74,7 @@ invariant_of-self c =
     record {
       near = rw (items_are c, nearest_are c, len_is) near;
       room = search rules;
+      partners = rw (items_are c) (KeepsPartners-more e.costs ms (kept c) e.partners c.self.invariant.partners);
     }
 
 pub returns-clause-members : goal.returns-clause-members

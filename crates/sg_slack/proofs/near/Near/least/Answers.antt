@@ -1,6 +1,8 @@
 -- `least`: the nearest member of a free leaf has the least slack to it.
-use Rattle.std.proofs.Common.{◌≡◌, ℕ, ◌<◌, List, length, subst, sym, rules}
-use Rattle.sg_slack.proofs.NearLemmas.{Least-kept}
+use Rattle.std.proofs.Common.{◌≡◌, ℕ, ◌<◌, List, length, subst, sym, rules, to_z, of_z}
+use Rattle.std.specs.Int.{w128}
+use Rattle.std.proofs.lemmas.Int.{to_z-of_z}
+use Rattle.sg_slack.proofs.NearLemmas.{Least-kept, key-kept}
 use Rattle.sg_slack.specs.Members.{Agree, IsMember, Known}
 use Rattle.sg_slack.specs.Scan.{IsNearestFree}
 use Rattle.sg_slack.specs.Slack.{IsOuterFree, Least, mark_at}
@@ -22,3 +24,13 @@ returns c =
     c.nearest_kept.ensures in
     subst (λ (s : Known). Least s.table totals (IsOuterFree s.table marks) c.nearest_kept.result) c.self.view_is
     (Least-kept e.costs e.rise ms e.places.items e.nearest.items c.self.invariant.near totals marks members agree c.nearest_kept.result some scanned)
+
+pub nearest_kept-requires-clause-keys : goal.nearest_kept-requires-clause-keys
+nearest_kept-requires-clause-keys c =
+    let e = c.self.inside in
+    let totals = c.args.total.now in
+    let some : 0 < length e.members.items = search rules in
+    let agree = subst (λ (s : Known). Agree s.members totals) (sym c.self.view_is) c.requires.agree in
+    let rise_is : to_z w128 (of_z w128 e.rise) ≡ e.rise = to_z-of_z w128 e.rise (search rules) in
+    λ v low. rw (rise_is, c.deref.ensures.value)
+    (key-kept e.costs e.rise e.members.items e.places.items e.nearest.items c.self.invariant.near totals agree some v low)

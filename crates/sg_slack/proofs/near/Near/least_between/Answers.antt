@@ -1,16 +1,16 @@
 -- `least_between`: the members are the outer leaves.
 use Rattle.std.proofs.Common.{◌≡◌, ℕ, ◌<◌, List, length, subst, sym}
-use Rattle.sg_slack.proofs.NearLemmas.{IsMember-kept, Least-renamed, kept-IsMember}
+use Rattle.sg_slack.proofs.NearLemmas.{AreRisen-agree, IsMember-kept, Least-renamed, kept-IsMember, members-few}
 use Rattle.sg_slack.specs.Kept.{kept_at}
-use Rattle.sg_slack.specs.Members.{IsMember, Known}
+use Rattle.sg_slack.specs.Members.{Agree, IsMember, Known}
 use Rattle.sg_slack.specs.Scan.{IsApartBefore}
 use Rattle.sg_slack.specs.Slack.{IsOuterOuter, Least, mark_at}
 use Rattle.sg_slack.specs.declared.Mark.TheVariants.{Outer}
 use Rattle.sg_slack.specs.declared.near.Kept.{Kept}
 use Rattle.sg_slack.proofs.near.Near.least_between.Goals as goal
 
-pub returns : goal.returns
-returns c =
+pub returns-clause-least : goal.returns-clause-least
+returns-clause-least c =
     let e = c.self.inside in
     let marks = c.args.mark.now in
     let totals = c.args.total.now in
@@ -20,9 +20,9 @@ returns c =
     mark_at marks u ≡ Outer)) (sym c.self.view_is) c.requires.members in
     let outer : (u i : ℕ) → i < length ms → (kept_at ms i).leaf ≡ u → mark_at marks u ≡ Outer =
     λ u i low is. (members u (subst (λ n. n < e.costs.size) is (c.self.invariant.near.low i low))).1 (IsMember-kept e.rise ms i u low is) in
-    let scanned = subst (λ (xs : List Kept). Least e.costs totals (IsApartBefore (length xs) xs tops) c.least_apart.result) c.deref.ensures.value
-    c.least_apart.ensures in
-    subst (λ (s : Known). Least s.table totals (IsOuterOuter s.table tops marks) c.least_apart.result) c.self.view_is
+    let scanned = subst (λ (xs : List Kept). Least e.costs totals (IsApartBefore (length xs) xs tops) c.least.result) c.deref.ensures.value
+    c.least.ensures.least in
+    subst (λ (s : Known). Least s.table totals (IsOuterOuter s.table tops marks) c.least.result) c.self.view_is
     (Least-renamed e.costs totals (IsApartBefore (length ms) ms tops) (IsOuterOuter e.costs tops marks)
     (λ u v is. record {
       u_leaf = subst (λ n. n < e.costs.size) is.0.2 (c.self.invariant.near.low is.0.0 is.0.1);
@@ -35,4 +35,15 @@ returns c =
       kept-IsMember e.rise ms u ((members u is.u_leaf).0 is.u_outer),
       is.apart,
       kept-IsMember e.rise ms v ((members v is.v_leaf).0 is.v_outer),
-    )) c.least_apart.result scanned)
+    )) c.least.result scanned)
+
+pub least-requires-clause-risen : goal.least-requires-clause-risen
+least-requires-clause-risen c =
+    let e = c.self.inside in
+    let agree = subst (λ (s : Known). Agree s.members c.args.total.now) (sym c.self.view_is) c.requires.agree in
+    rw (c.deref.ensures.value) (AreRisen-agree e.rise e.members.items c.args.total.now agree)
+
+pub least-requires-clause-few : goal.least-requires-clause-few
+least-requires-clause-few c =
+    let e = c.self.inside in
+    rw (c.deref.ensures.value) (members-few e.costs e.rise e.members.items e.places.items e.nearest.items c.self.invariant.near)
