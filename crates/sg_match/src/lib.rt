@@ -125,10 +125,11 @@ pub struct Engine {
     // The edges of the tree in the order in which they grew: each ends in the root or in the outer top of
     // an earlier one.
     edges: Vec<TreeEdge>,
-    // Room for what a step works on.
-    named: Vec<Mark>,
+    // The top and the total of each leaf.
     tops: Vec<usize>,
     totals: Vec<i64>,
+    // Room for what a step works on.
+    named: Vec<Mark>,
     marks: Vec<Mark>,
     outer: Vec<usize>,
     inner: Vec<usize>,
