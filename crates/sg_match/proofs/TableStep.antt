@@ -18,6 +18,7 @@ use Rattle.sg_match.specs.Marks.{IsListed, IsMarked}
 use Rattle.sg_match.specs.TableChanges.{IsLifted, IsParted, moved_total}
 use Rattle.sg_match.specs.Tree.{IsOut, inners, outers}
 use Rattle.sg_match.specs.declared.TreeEdge.{TreeEdge}
+use Rattle.sg_sums.specs.Naturals.{nat_of}
 use Rattle.sg_slack.specs.Slack.{mark_at, total_at}
 use Rattle.sg_slack.specs.declared.Mark.{Mark}
 use Rattle.sg_slack.specs.declared.Mark.TheVariants.{Free, Inner, Outer}
@@ -69,6 +70,40 @@ module _ (f : Family) (cost : ℕ → ℕ → ℕ) (r : ℕ) (edges : List TreeE
         held = λ leaf low. held f cost r edges delta fam can (get_or tops leaf 0) leaf ∙ listed.held leaf low;
         total = λ leaf low. moved leaf (omega (arith, low, listed.total_count)) ∙ moved-is leaf low;
       }
+
+-- what is known where the totals are moved by what the duals of a tree were changed by
+pub record IsMoving (f : Family) (r : ℕ) (edges : List TreeEdge) (given : ℤ) (tops : List ℕ) (totals : List ℤ) (marks : List Mark) : Type 0 where
+  pub fam : IsFamily f
+  pub whole : given ≡ pos (nat_of given)
+  pub can : CanRaise f (outers r edges) (inners edges) (nat_of given)
+  pub listed : IsListed f tops totals
+  pub marked : IsMarked f r edges marks
+
+-- over the tables that are lent
+module _ {f : Family} {r : ℕ} {edges : List TreeEdge} {given : ℤ} {tops : List ℕ} {totals : List ℤ} {marks : List Mark}
+    (p : IsMoving f r edges given tops totals marks) (lent : List ℤ) (marks_lent : List Mark) (same : lent ≡ totals) (same_marks : marks_lent ≡ marks) where
+  pub moving-count : length marks_lent ≡ length lent
+  moving-count = ap (λ ms. length ms) same_marks ∙ p.marked.count ∙ sym p.listed.total_count ∙ ap (λ xs. length xs) (sym same)
+
+  pub moving-fits : (leaf : ℕ) → leaf < length lent → FitsSigned w64 (moved_total (mark_at marks_lent leaf) (total_at lent leaf) given)
+  moving-fits =
+      subst (λ xs. (leaf : ℕ) → leaf < length xs → FitsSigned w64 (moved_total (mark_at marks_lent leaf) (total_at xs leaf) given)) (sym same)
+      (subst (λ ms. (leaf : ℕ) → leaf < length totals → FitsSigned w64 (moved_total (mark_at ms leaf) (total_at totals leaf) given)) (sym same_marks)
+      (subst (λ z. (leaf : ℕ) → leaf < length totals → FitsSigned w64 (moved_total (mark_at marks leaf) (total_at totals leaf) z)) (sym p.whole)
+      (moved-fits f (λ u v. 0) r edges (nat_of given) p.fam p.can tops totals marks p.listed p.marked)))
+
+  pub IsListed-moved : (new stored : List ℤ) (g : Family) → length new ≡ length lent →
+      ((leaf : ℕ) → leaf < length lent → total_at new leaf ≡ moved_total (mark_at marks_lent leaf) (total_at lent leaf) given) → stored ≡ new →
+      g ≡ raised f (outers r edges) (inners edges) (nat_of given) → IsListed g tops stored
+  IsListed-moved new stored g count moved is made =
+      subst (λ h. IsListed h tops stored) (sym made)
+      (subst (λ xs. IsListed (raised f (outers r edges) (inners edges) (nat_of given)) tops xs) (sym is)
+      (IsListed-raised f (λ u v. 0) r edges (nat_of given) p.fam p.can tops totals marks p.listed p.marked new (count ∙ ap (λ xs. length xs) same)
+      (λ leaf low.
+      moved leaf (omega (arith, low, ap (λ xs. length xs) same))
+      ∙ ap (λ z. moved_total (mark_at marks_lent leaf) (total_at lent leaf) z) p.whole
+      ∙ ap (λ xs. moved_total (mark_at marks_lent leaf) (total_at xs leaf) (pos (nat_of given))) same
+      ∙ ap (λ ms. moved_total (mark_at ms leaf) (total_at totals leaf) (pos (nat_of given))) same_marks)))
 
 -- a new blossom
 module _ (f : Family) (b : ℕ) (cycle : List Link) (fam : IsFamily f) (can : CanShrink f cycle) (dead : node_at f b ≡ None) (room : b < length f.nodes)
