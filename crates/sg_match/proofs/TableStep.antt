@@ -117,7 +117,7 @@ module _ (f : Family) (b : ℕ) (cycle : List Link) (fam : IsFamily f) (can : Ca
   old_top : (leaf : ℕ) → leaf < leaf_count f → get_or tops leaf 0 ≢ b
   old_top leaf low = top-not_dead f b dead (get_or tops leaf 0) (listed.top leaf low)
 
-  pub alive-lifted : (leaf : ℕ) → leaf < length tops → IsAlive h (get_or tops leaf 0)
+  alive-lifted : (leaf : ℕ) → leaf < length tops → IsAlive h (get_or tops leaf 0)
   alive-lifted leaf low =
       let within : leaf < leaf_count f = omega (arith, low, listed.top_count) in
       subst (λ o. IsSome o) (sym (old_node (get_or tops leaf 0) (old_top leaf within))) (listed.top leaf within).alive
@@ -136,7 +136,7 @@ module _ (f : Family) (b : ℕ) (cycle : List Link) (fam : IsFamily f) (can : Ca
             (subst (λ xs. (link_at xs child.0).node ≡ t) same child.1.here))
       ]
 
-  pub IsListed-lifted : (new : List ℕ) → length new ≡ length tops →
+  IsListed-lifted : (new : List ℕ) → length new ≡ length tops →
       ((leaf : ℕ) → leaf < length tops → IsLifted h (get_or tops leaf 0) (get_or new leaf 0)) → IsListed h new totals
   IsListed-lifted new count lifted =
       record {
@@ -155,13 +155,44 @@ module _ (f : Family) (b : ℕ) (cycle : List Link) (fam : IsFamily f) (can : Ca
         total = λ leaf low. listed.total leaf low ∙ ap pos (sym (total-shrink f b cycle fam can dead room leaf));
       }
 
+-- what is known where the tops are lifted
+pub record IsLifting (f : Family) (b : ℕ) (cycle : List Link) (g : Family) (tops : List ℕ) (totals : List ℤ) : Type 0 where
+  pub fam : IsFamily f
+  pub can : CanShrink f cycle
+  pub dead : node_at f b ≡ None
+  pub room : b < length f.nodes
+  pub made : g ≡ with_slot f b (Some (blossom_of f cycle))
+  pub listed : IsListed f tops totals
+
+-- over the table that is lent
+module _ {f : Family} {b : ℕ} {cycle : List Link} {g : Family} {tops : List ℕ} {totals : List ℤ} (p : IsLifting f b cycle g tops totals) (lent : List ℕ)
+    (same : lent ≡ tops) where
+  abbrev new_family : Family
+  new_family = with_slot f b (Some (blossom_of f cycle))
+
+  pub lifting-alive : (leaf : ℕ) → leaf < length lent → IsAlive g (get_or lent leaf 0)
+  lifting-alive =
+      subst (λ x. (leaf : ℕ) → leaf < length lent → IsAlive x (get_or lent leaf 0)) (sym p.made)
+      (subst (λ xs. (leaf : ℕ) → leaf < length xs → IsAlive new_family (get_or xs leaf 0)) (sym same)
+      (alive-lifted f b cycle p.fam p.can p.dead p.room tops totals p.listed))
+
+  pub lifting-listed : (new stored : List ℕ) → length new ≡ length lent →
+      ((leaf : ℕ) → leaf < length lent → IsLifted g (get_or lent leaf 0) (get_or new leaf 0)) → stored ≡ new → IsListed g stored totals
+  lifting-listed new stored count lifted is =
+      subst (λ x. IsListed x stored totals) (sym p.made)
+      (subst (λ xs. IsListed new_family xs totals) (sym is)
+      (IsListed-lifted f b cycle p.fam p.can p.dead p.room tops totals p.listed new (count ∙ ap (λ xs. length xs) same)
+      (λ leaf low.
+      subst (λ xs. IsLifted new_family (get_or xs leaf 0) (get_or new leaf 0)) same
+      (subst (λ x. IsLifted x (get_or lent leaf 0) (get_or new leaf 0)) p.made (lifted leaf (omega (arith, low, ap (λ xs. length xs) same)))))))
+
 -- a blossom of dual 0 that is gone
 module _ (f : Family) (b : ℕ) (fam : IsFamily f) (top : IsTop f b) (blossom : IsBlossom f b) (flat : dual_of f b ≡ 0) (room : b < length f.nodes)
     (tops : List ℕ) (totals : List ℤ) (listed : IsListed f tops totals) where
   abbrev k : Family
   k = with_slot f b None
 
-  pub IsListed-parted : (new : List ℕ) → length new ≡ length tops →
+  IsListed-parted : (new : List ℕ) → length new ≡ length tops →
       ((leaf : ℕ) → leaf < length tops → IsParted k b leaf (get_or tops leaf 0) (get_or new leaf 0)) → IsListed k new totals
   IsListed-parted new count parted =
       record {
@@ -179,3 +210,25 @@ module _ (f : Family) (b : ℕ) (fam : IsFamily f) (top : IsTop f b) (blossom : 
         ];
         total = λ leaf low. listed.total leaf low ∙ ap pos (sym (total-expand f b flat room leaf));
       }
+
+-- what is known where the tops of a blossom's leaves are listed anew
+pub record IsParting (f : Family) (b : ℕ) (g : Family) (tops : List ℕ) (totals : List ℤ) : Type 0 where
+  pub fam : IsFamily f
+  pub top : IsTop f b
+  pub blossom : IsBlossom f b
+  pub flat : dual_of f b ≡ 0
+  pub room : b < length f.nodes
+  pub made : g ≡ with_slot f b None
+  pub listed : IsListed f tops totals
+
+-- over the table that is lent
+pub parting-listed : {f : Family} {b : ℕ} {g : Family} {tops : List ℕ} {totals : List ℤ} → IsParting f b g tops totals → (lent new stored : List ℕ) →
+    lent ≡ tops → length new ≡ length lent → ((leaf : ℕ) → leaf < length lent → IsParted g b leaf (get_or lent leaf 0) (get_or new leaf 0)) →
+    stored ≡ new → IsListed g stored totals
+parting-listed {f} {b} {g} {tops} {totals} p lent new stored same count parted is =
+    subst (λ x. IsListed x stored totals) (sym p.made)
+    (subst (λ xs. IsListed (with_slot f b None) xs totals) (sym is)
+    (IsListed-parted f b p.fam p.top p.blossom p.flat p.room tops totals p.listed new (count ∙ ap (λ xs. length xs) same)
+    (λ leaf low.
+    subst (λ xs. IsParted (with_slot f b None) b leaf (get_or xs leaf 0) (get_or new leaf 0)) same
+    (subst (λ x. IsParted x b leaf (get_or lent leaf 0) (get_or new leaf 0)) p.made (parted leaf (omega (arith, low, ap (λ xs. length xs) same)))))))
