@@ -1,6 +1,6 @@
 -- A raise of one unpaired top, where no tree stands.
 use Rattle.std.proofs.Common.{◌≡◌, ◌≢◌, ℕ, zero, suc, ◌+◌, ◌*◌, ◌<◌, ◌≤◌, ◌%◌, ◌≤ℤ◌, ℤ, pos, negsuc, [], length, get_or, MatchOption}
-use Rattle.std.proofs.Common.{None, sym, ap, ◌∙◌, subst, inl, inr, arith}
+use Rattle.std.proofs.Common.{None, refl, sym, ap, ◌∙◌, subst, inl, inr, arith}
 use Rattle.std.proofs.lemmas.Bool.{cases_eq}
 use Rattle.std.proofs.lemmas.Int.{ints}
 use Rattle.sg_arena.proofs.FamilyLemmas.{some_leaf}

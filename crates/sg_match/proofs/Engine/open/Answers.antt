@@ -32,9 +32,10 @@ metric_of c = subst (λ t. IsMetric t) (sym c.in_ok-near.ensures.table) c.requir
 
 pub invariant_of-result : goal.invariant_of-result
 invariant_of-result c =
+    let here = (goal.at.invariant_of-result c).After-list_leaves in
     let arena = c.in_ok-arena.arena in (
-      IsEngine-opened arena c.in_ok-arena.ensures.alone c.in_ok-near.near.table (metric_of c) (size_of c) c.in_ok-pairs.pairs.items (room_of c)
-          (free_of c) c.in_ok-exposed.exposed.items c.in_ok-edges.edges.items c.in_ok-exposed.ensures.items c.in_ok-edges.ensures.items,
+      IsEngine-opened arena c.in_ok-arena.ensures.alone c.in_ok-near.near.table (metric_of here) (size_of here) c.in_ok-pairs.pairs.items
+          (room_of here) (free_of here) c.in_ok-exposed.exposed.items c.in_ok-edges.edges.items c.in_ok-exposed.ensures.items c.in_ok-edges.ensures.items,
       record {
         edges = omega (arith, c.in_ok-edges.ensures.capacity, c.room-room.ensures.value);
         exposed = omega (arith, c.in_ok-exposed.ensures.room, c.room-room.ensures.value);
@@ -59,9 +60,10 @@ returns-clause-engine c = (invariant_of-result c).0
 
 pub returns-clause-left : goal.returns-clause-left
 returns-clause-left c =
+    let here = (goal.at.returns-clause-left c).After-list_leaves in
     let same = ap (λ (t : Table). t.size) c.in_ok-near.ensures.table in
-    let left = steps_left-opened c.in_ok-arena.arena c.in_ok-arena.ensures.alone c.in_ok-near.near.table (metric_of c) (size_of c) c.in_ok-pairs.pairs.items
-    (room_of c) (free_of c) c.in_ok-exposed.exposed.items c.in_ok-edges.edges.items c.in_ok-exposed.ensures.items c.in_ok-edges.ensures.items in
+    let left = steps_left-opened c.in_ok-arena.arena c.in_ok-arena.ensures.alone c.in_ok-near.near.table (metric_of here) (size_of here)
+    c.in_ok-pairs.pairs.items (room_of here) (free_of here) c.in_ok-exposed.exposed.items c.in_ok-edges.edges.items c.in_ok-exposed.ensures.items c.in_ok-edges.ensures.items in
     subst (λ k. steps_left (record {
       family = c.in_ok-arena.arena;
       table = c.in_ok-near.near.table;
