@@ -1,5 +1,5 @@
 -- The tables of the leaves, over each step.
-use Rattle.std.proofs.Common.{◌≡◌, ◌≢◌, ℕ, ◌+◌, ◌<◌, List, length, get_or, ℤ, pos, FitsSigned, None, Some, inl, inr, refl, sym, ap, ◌∙◌, subst, arith, w64}
+use Rattle.std.proofs.Common.{◌≡◌, ◌≢◌, ℕ, ◌<◌, List, length, get_or, ℤ, pos, FitsSigned, None, Some, inl, inr, refl, sym, ap, ◌∙◌, subst, arith, w64}
 use Rattle.std.proofs.Common.{IsSome, []}
 use Rattle.std.proofs.lemmas.Bool.{cases_eq}
 use Rattle.std.proofs.lemmas.Int.{ints}

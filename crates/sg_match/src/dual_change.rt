@@ -27,7 +27,8 @@ pub struct Change {
     pub event: Event,
 }
 
-// By how much the tree's duals may rise before the next slack is 0, and whose slack that is.
+// By how much the tree's duals may rise before the next slack is 0, and whose slack that is. It marks
+// each leaf by where its top stands. The clauses alone speak of the arena: the tables say what is in it.
 pub fn nearest(
     arena: &Arena,
     near: &mut Near,

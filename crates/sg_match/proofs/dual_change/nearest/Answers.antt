@@ -1,5 +1,5 @@
 -- `nearest`: the tables say of the leaves what the tree says.
-use Rattle.std.proofs.Common.{◌≡◌, ℕ, ◌<◌, get_or, length, ◌∙◌, subst, sym, arith}
+use Rattle.std.proofs.Common.{◌≡◌, ◌<◌, get_or, length, ◌∙◌, subst, sym, arith}
 use Rattle.sg_arena.proofs.FamilyLemmas.{name_bound}
 use Rattle.sg_sums.specs.Naturals.{nat_of}
 use Rattle.sg_match.proofs.TreeLemmas.{inner_top, length-outers, outer_top}
