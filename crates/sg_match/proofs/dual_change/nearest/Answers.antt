@@ -89,7 +89,7 @@ add_outer-requires-clause-agree c =
 
 -- the costs are those from the beginning
 same_table : (c : After-costs) → c.costs.result.now ≡ c.args.near.now.table
-same_table c = c.costs.ensures ∙ c.add_outer.ensures.table
+same_table c = c.costs.ensures ∙ c.least_between-both.ensures.table ∙ c.add_outer.ensures.table
 
 fit : (c : After-mark_leaves) → SumsFit c.args.near.now.table c.args.totals.now
 fit c =
@@ -148,8 +148,9 @@ returns-clause-nearest c =
 pub returns-clause-members : goal.returns-clause-members
 returns-clause-members c =
     let at = goal.at.returns-clause-members c in
-    AreOuter-marked c.args.arena.now c.args.root c.args.edges.now c.args.tops.now c.args.totals.now c.mark_leaves.new.marks
-    c.add_outer.new.near.members c.requires.listed (marked at.After-mark_leaves) c.add_outer.ensures.outer c.add_outer.ensures.agree
+    rw (c.least_between-both.ensures.kept)
+    (AreOuter-marked c.args.arena.now c.args.root c.args.edges.now c.args.tops.now c.args.totals.now c.mark_leaves.new.marks
+    c.add_outer.new.near.members c.requires.listed (marked at.After-mark_leaves) c.add_outer.ensures.outer c.add_outer.ensures.agree)
 
 pub returns-clause-marked : goal.returns-clause-marked
 returns-clause-marked c = marked (goal.at.returns-clause-marked c).After-mark_leaves
