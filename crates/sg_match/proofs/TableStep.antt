@@ -10,7 +10,8 @@ use Rattle.sg_arena.proofs.FamilyLemmas.{child-covered, top-no_child}
 use Rattle.sg_arena.proofs.RaisedFamily.{IsTop-raised, total-raised}
 use Rattle.sg_arena.proofs.ShrunkFamily.{IsFamily-shrink, IsTop-shrink, holds_other, total-shrink}
 use Rattle.sg_arena.specs.Changes.{CanRaise, CanShrink, blossom_of, raised, with_slot}
-use Rattle.sg_arena.specs.Family.{Family, Holds, IsAlive, IsBlossom, IsChildOf, IsFamily, IsTop, Node, cycle_of, dual_of, leaf_count, link_at, node_at, total_of}
+use Rattle.sg_arena.specs.Family.{Family, Holds, IsAlive, IsBlossom, IsChildOf, IsFamily, IsTop, Node, cycle_of, dual_of, leaf_count, link_at, node_at}
+use Rattle.sg_arena.specs.Family.{total_of}
 use Rattle.sg_arena.specs.declared.Link.{Link}
 use Rattle.sg_match.proofs.RaiseStep.{held, total_free, total_inner, total_outer}
 use Rattle.sg_match.proofs.ShrinkSetsStep.{top-not_dead}

@@ -63,7 +63,8 @@ returns-clause-left c =
     let here = (goal.at.returns-clause-left c).After-list_leaves in
     let same = ap (λ (t : Table). t.size) c.in_ok-near.ensures.table in
     let left = steps_left-opened c.in_ok-arena.arena c.in_ok-arena.ensures.alone c.in_ok-near.near.table (metric_of here) (size_of here)
-    c.in_ok-pairs.pairs.items (room_of here) (free_of here) c.in_ok-exposed.exposed.items c.in_ok-edges.edges.items c.in_ok-exposed.ensures.items c.in_ok-edges.ensures.items in
+    c.in_ok-pairs.pairs.items (room_of here) (free_of here)
+    c.in_ok-exposed.exposed.items c.in_ok-edges.edges.items c.in_ok-exposed.ensures.items c.in_ok-edges.ensures.items in
     subst (λ k. steps_left (record {
       family = c.in_ok-arena.arena;
       table = c.in_ok-near.near.table;

@@ -151,7 +151,8 @@ move_totals-requires-clause-fits g c =
 
 -- and after it
 listed_after : (g : Over) (c : After-move_totals g) → c.raise_tree.new.arena ≡ raised c.self.inside.arena
-    (outers c.args.root c.self.inside.edges.items) (inners c.self.inside.edges.items) (nat_of (given c.lesser-delta.result)) → c.deref-5.result.now ≡ c.nearest-near.new.marks →
+    (outers c.args.root c.self.inside.edges.items) (inners c.self.inside.edges.items) (nat_of (given c.lesser-delta.result)) →
+    c.deref-5.result.now ≡ c.nearest-near.new.marks →
     IsMoving c.self.inside.arena c.args.root c.self.inside.edges.items (given c.lesser-delta.result) c.self.inside.tops.items
     c.self.inside.totals.items c.nearest-near.new.marks →
     IsListed c.raise_tree.new.arena c.self.inside.tops.items (with_items c.self.inside.totals c.move_totals.new.totals).items
