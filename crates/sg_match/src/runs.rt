@@ -105,7 +105,8 @@ impl Engine {
     /// costs less ([`sg_pairing::matching_is_least`]). For `k` leaves it takes at most `2 k^2` steps, where
     /// a step is one `shrink`, `expand` or `raise`. The method is that of Edmonds (1965).
     ///
-    /// Cost: a step takes time proportional to the square of the number of leaves.
+    /// Cost: a step takes time proportional to the number of leaves, and again to it for each leaf whose
+    /// nearest one has to be found anew: at most to the square of their number.
     pub fn run<L: Ledger>(mut self, steps: &mut Steps<L>) -> Matched
         ensures counted { steps.new ≤ steps.old + 2 * self.table.size * self.table.size }
         ensures leaves { leaf_count result.family ≡ self.table.size }
