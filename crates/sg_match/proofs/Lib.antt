@@ -38,3 +38,4 @@ pub mod MatesStep
 pub mod ListedLemmas
 pub mod MembersStep
 pub mod MarkLemmas
+pub mod TableStep

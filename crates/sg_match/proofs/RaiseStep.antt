@@ -61,7 +61,7 @@ module _ (f : Family) (cost : ℕ → ℕ → ℕ) (r : ℕ) (edges : List TreeE
         | inr none ↦ absurd (none.0 i low at)
       ]
 
-  total_inner : (t l i : ℕ) → i < length inner → get_or inner i 0 ≡ t → Holds f t l → total_of g l + delta ≡ total_of f l
+  pub total_inner : (t l i : ℕ) → i < length inner → get_or inner i 0 ≡ t → Holds f t l → total_of g l + delta ≡ total_of f l
   total_inner t l i low at in_t =
       elim (cases_in outer t) [
         | inl clash ↦ absurd (can.tops.apart clash.0 i clash.1 low (clash.2 ∙ sym at))

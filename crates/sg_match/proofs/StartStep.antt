@@ -1,6 +1,6 @@
 -- A raise of one unpaired top, where no tree stands.
 use Rattle.std.proofs.Common.{◌≡◌, ◌≢◌, ℕ, zero, suc, ◌+◌, ◌*◌, ◌<◌, ◌≤◌, ◌%◌, ◌≤ℤ◌, ℤ, pos, negsuc, [], length, get_or, MatchOption}
-use Rattle.std.proofs.Common.{None, sym, ap, ◌∙◌, subst, inl, inr, arith}
+use Rattle.std.proofs.Common.{None, refl, sym, ap, ◌∙◌, subst, inl, inr, arith}
 use Rattle.std.proofs.lemmas.Bool.{cases_eq}
 use Rattle.std.proofs.lemmas.Int.{ints}
 use Rattle.sg_arena.proofs.FamilyLemmas.{some_leaf}
@@ -27,6 +27,11 @@ use Rattle.sg_match.specs.Steps.{blossoms_of, steps_left, tree_left}
 use Rattle.sg_match.specs.Tree.{IsOut, IsTree, inners, outers}
 use Rattle.sg_match.specs.declared.Event.{Event}
 use Rattle.sg_pairing.specs.Metric.{cost}
+
+-- a number that isn't negative is its natural number
+nat_of-whole : (a : ℤ) → pos 0 ≤ℤ a → a ≡ pos (nat_of a)
+nat_of-whole (pos m) least = refl
+nat_of-whole (negsuc m) least = absurd (omega (arith, ints, least))
 
 -- a number without its sign is no larger where the other isn't
 nat_of-less : (a b : ℤ) → pos 0 ≤ℤ a → a ≤ℤ b → nat_of a ≤ nat_of b
@@ -143,6 +148,7 @@ pub record IsStarting (s : State) (r : ℕ) (event : Event) (amount given : ℤ)
   pub bare : s.root ≡ None
   pub at : Stands s.exposed r
   pub near : IsNearest s.family (cost s.table) r s.edges (nat_of amount) event
+  pub whole : given ≡ pos (nat_of given)
   pub less : nat_of given ≤ nat_of amount
 
 pub IsStarting-made : (s : State) (r : ℕ) (event : Event) (amount delta given : ℤ) → IsEngine s → s.root ≡ None → Stands s.exposed r →
@@ -154,6 +160,7 @@ IsStarting-made s r event amount delta given engine bare at near same whole less
       bare = bare;
       at = at;
       near = near;
+      whole = subst (λ z. z ≡ pos (nat_of z)) (sym same) (nat_of-whole delta whole);
       less = subst (λ z. nat_of z ≤ nat_of amount) (sym same) (nat_of-less delta amount whole less);
     }
 

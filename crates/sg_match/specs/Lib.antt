@@ -12,6 +12,7 @@ pub mod TreeCycle
 pub mod ShrunkTree
 pub mod Augmented
 pub mod Marks
+pub mod TableChanges
 pub mod InnerZeros
 pub mod DualChange
 pub mod Events

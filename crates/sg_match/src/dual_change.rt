@@ -6,13 +6,14 @@ ghost use Rattle.sg_pairing.specs.Metric.{IsMetric, cost};
 ghost use Rattle.sg_match.specs.Nearest.{HasNearest, IsNearest};
 ghost use Rattle.sg_match.specs.Scans.{CanScan, IsScanned};
 ghost use Rattle.sg_match.specs.Tree.{inners, outers};
+ghost use Rattle.sg_match.specs.Marks.{IsListed, IsMarked};
 ghost use Rattle.sg_match.specs.Members.{AreMarked, AreOuter, IsJoined};
 ghost use Rattle.sg_slack.specs.Members.{Agree, IsMember};
 ghost use Rattle.sg_slack.specs.Slack.{mark_at, IsOuterFree, IsOuterOuter, Least, SumsFit};
 ghost use Rattle.sg_slack.specs.declared.Mark.TheVariants.{Outer};
 
 use super::inner::{least_dual, least_inner_zero};
-use super::leaves::{list_leaves, list_tree, mark_tops};
+use super::leaves::{list_tree, mark_leaves, mark_tops, move_totals};
 use super::{Engine, Event, TreeEdge};
 use sg_arena::Arena;
 use sg_slack::{Costs, Mark, Near, Pair};
@@ -26,15 +27,16 @@ pub struct Change {
     pub event: Event,
 }
 
-// By how much the tree's duals may rise before the next slack is 0, and whose slack that is.
+// By how much the tree's duals may rise before the next slack is 0, and whose slack that is. It marks
+// each leaf by where its top stands. The clauses alone speak of the arena: the tables say what is in it.
 pub fn nearest(
     arena: &Arena,
     near: &mut Near,
     root: usize,
     edges: &[TreeEdge],
     named: &mut [Mark],
-    tops: &mut [usize],
-    totals: &mut [i64],
+    tops: &[usize],
+    totals: &[i64],
     marks: &mut [Mark],
 ) -> Change
     requires metric { IsMetric near.old.table }
@@ -42,16 +44,16 @@ pub fn nearest(
     requires stands { HasNearest arena.now (cost near.old.table) root edges.now }
     requires members { AreOuter arena.now root edges.now near.old.members }
     requires named { length named.old ≡ length arena.now.nodes }
-    requires tops { length tops.old ≡ leaf_count arena.now }
-    requires totals { length totals.old ≡ leaf_count arena.now }
+    requires listed { IsListed arena.now tops.now totals.now }
     requires marks { length marks.old ≡ leaf_count arena.now }
     ensures whole { result.amount ≡ pos (nat_of result.amount) }
     ensures nearest { IsNearest arena.now (cost near.old.table) root edges.now (nat_of result.amount) result.event }
     ensures table { near.new.table ≡ near.old.table }
     ensures members { AreOuter arena.now root edges.now near.new.members }
+    ensures marked { IsMarked arena.now root edges.now marks.new }
 {
     mark_tops(root, edges, named);
-    list_leaves(arena, root, edges, named, tops, totals, marks);
+    mark_leaves(named, tops, marks);
     add_outer(near, totals, marks);
     let free = near.least(totals, tops, marks);
     let both = near.least_between(totals, tops, marks);
@@ -172,8 +174,8 @@ impl Engine {
             root,
             &self.edges,
             &mut self.named,
-            &mut self.tops,
-            &mut self.totals,
+            &self.tops,
+            &self.totals,
             &mut self.marks,
         );
         let delta = least_dual(&self.arena, &self.edges, near.amount);
@@ -186,6 +188,7 @@ impl Engine {
             delta,
             steps,
         );
+        move_totals(&mut self.totals, &self.marks, delta);
         self.near.shift(delta);
         match least_inner_zero(&self.arena, &self.edges) {
             Some(node) => Event::InnerZero { node },

@@ -1,37 +1,107 @@
-ghost use Rattle.std.specs.Prelude.{◌≡◌, ℕ, ◌+◌, ◌<◌, ◌≤◌, ◌^◌, length, slice_index, slice_index_or, vec_capacity};
-ghost use Rattle.sg_arena.specs.Family.{leaf_count, IsTop};
+ghost use Rattle.std.specs.Int.{w64};
+ghost use Rattle.std.specs.Prelude.{◌≡◌, ℕ, ◌+◌, ◌<◌, ◌≤◌, ◌^◌, FitsSigned, length, slice_index, slice_index_or, vec_capacity};
+ghost use Rattle.sg_arena.specs.Family.{leaf_count, IsAlive};
+ghost use Rattle.sg_slack.specs.Slack.{mark_at, total_at};
 ghost use Rattle.sg_slack.specs.declared.Mark.TheVariants.{Free};
 ghost use Rattle.sg_match.specs.Marks.{IsListed};
+ghost use Rattle.sg_match.specs.TableChanges.{IsLifted, IsParted, moved_total};
 ghost use Rattle.sg_match.specs.Tree.{StandsAt, edge_at, outers, inners};
 
 use super::TreeEdge;
 use sg_arena::Arena;
 use sg_slack::Mark;
 
-// The top, the total and the mark of each leaf, from the marks of the tops by name.
-pub fn list_leaves(
-    arena: &Arena,
-    root: usize,
-    edges: &[TreeEdge],
-    named: &[Mark],
-    tops: &mut [usize],
-    totals: &mut [i64],
-    marks: &mut [Mark],
-)
+// The top and the total of each leaf.
+pub fn list_leaves(arena: &Arena, tops: &mut [usize], totals: &mut [i64])
     requires small { leaf_count arena.now ≤ 2 ^ 24 }
-    requires names { (t : ℕ) → IsTop arena.now t → t < length named.now }
-    requires named { (t : ℕ) → t < length named.now → StandsAt root edges.now t (slice_index_or named.now t Free) }
     requires tops { length tops.old ≡ leaf_count arena.now }
     requires totals { length totals.old ≡ leaf_count arena.now }
-    requires marks { length marks.old ≡ leaf_count arena.now }
-    ensures listed { IsListed arena.now tops.new totals.new }
-    ensures marked { (leaf : ℕ) → leaf < leaf_count arena.now → StandsAt root edges.now (slice_index tops.new leaf) (slice_index_or marks.new leaf Free) }
+    ensures { IsListed arena.now tops.new totals.new }
 {
     for leaf in 0..tops.len() {
-        let top = arena.top(leaf as u32);
-        tops[leaf] = top;
+        tops[leaf] = arena.top(leaf as u32);
         totals[leaf] = arena.total(leaf as u32);
-        marks[leaf] = named[top];
+    }
+}
+
+// The total of a leaf with this mark after a raise.
+fn moved_total(mark: Mark, total: i64, delta: i64) -> i64
+    requires { FitsSigned w64 (moved_total mark total delta) }
+    ensures { result ≡ moved_total mark total delta }
+{
+    match mark {
+        Mark::Outer => total + delta,
+        Mark::Inner => total - delta,
+        Mark::Free => total,
+    }
+}
+
+// Raises the totals of the outer leaves, and lowers those of the inner ones.
+pub fn move_totals(totals: &mut [i64], marks: &[Mark], delta: i64)
+    requires count { length marks.now ≡ length totals.old }
+    requires fits { (leaf : ℕ) → leaf < length totals.old → FitsSigned w64 (moved_total (mark_at marks.now leaf) (total_at totals.old leaf) delta) }
+    ensures count { length totals.new ≡ length totals.old }
+    ensures moved { (leaf : ℕ) → leaf < length totals.old → total_at totals.new leaf ≡ moved_total (mark_at marks.now leaf) (total_at totals.old leaf) delta }
+{
+    if delta == 0 {
+        return;
+    }
+    for leaf in 0..totals.len() {
+        totals[leaf] = moved_total(marks[leaf], totals[leaf], delta);
+    }
+}
+
+// The blossom of a child, or the top itself.
+fn lifted_top(arena: &Arena, node: usize) -> usize
+    requires { IsAlive arena.now node }
+    ensures { IsLifted arena.now node result }
+{
+    match arena.parent(node) {
+        Some(parent) => parent,
+        None => node,
+    }
+}
+
+// Lists a new blossom as the top of the leaves of its children.
+pub fn lift_tops(arena: &Arena, tops: &mut [usize])
+    requires { (leaf : ℕ) → leaf < length tops.old → IsAlive arena.now (slice_index tops.old leaf) }
+    ensures count { length tops.new ≡ length tops.old }
+    ensures lifted { (leaf : ℕ) → leaf < length tops.old → IsLifted arena.now (slice_index tops.old leaf) (slice_index tops.new leaf) }
+{
+    for leaf in 0..tops.len() {
+        tops[leaf] = lifted_top(arena, tops[leaf]);
+    }
+}
+
+// The top of a leaf, which was a node that may be gone.
+fn parted_top(arena: &Arena, gone: usize, leaf: u32, top: usize) -> usize
+    requires { leaf < leaf_count arena.now }
+    ensures { IsParted arena.now gone leaf top result }
+{
+    if top == gone { arena.top(leaf) } else { top }
+}
+
+// Lists the tops of the leaves of a blossom that is gone.
+pub fn part_tops(arena: &Arena, gone: usize, tops: &mut [usize])
+    requires small { leaf_count arena.now ≤ 2 ^ 24 }
+    requires tops { length tops.old ≡ leaf_count arena.now }
+    ensures count { length tops.new ≡ length tops.old }
+    ensures parted { (leaf : ℕ) → leaf < length tops.old → IsParted arena.now gone leaf (slice_index tops.old leaf) (slice_index tops.new leaf) }
+{
+    for leaf in 0..tops.len() {
+        tops[leaf] = parted_top(arena, gone, leaf as u32, tops[leaf]);
+    }
+}
+
+// Marks each leaf as its top is marked by name.
+pub fn mark_leaves(named: &[Mark], tops: &[usize], marks: &mut [Mark])
+    requires names { (leaf : ℕ) → leaf < length tops.now → slice_index tops.now leaf < length named.now }
+    requires count { length marks.old ≡ length tops.now }
+    ensures count { length marks.new ≡ length tops.now }
+    ensures marked { (leaf : ℕ) → leaf < length tops.now → mark_at marks.new leaf ≡ slice_index_or named.now (slice_index tops.now leaf) Free }
+{
+    for leaf in 0..tops.len() {
+        marks[leaf] = named[tops[leaf]];
     }
 }
 

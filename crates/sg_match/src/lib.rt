@@ -14,7 +14,8 @@
 //! two steps is `IsEngine` of `specs/Engine.antt`, one record for each part: `Feasible`, `Pairs`,
 //! `Exposed`, `Tree`. Each step has the file of its name: `search` goes round by round from an exposed
 //! top, `dual_change` raises the duals, then `grow`, `augment`, `shrink` and `expand`, and `mates` pairs
-//! inside the blossoms at the end. `shrink_cycle` finds the odd cycle of a shrink; `shrink_tree` and
+//! inside the blossoms at the end. `leaves` has the tables of the leaves' tops and totals, in which each
+//! step changes what it changes of the sets. `shrink_cycle` finds the odd cycle of a shrink; `shrink_tree` and
 //! `expand_tree` are what a shrink and an expansion do to the tree. In `proofs/` a file `..Step` carries
 //! the parts of the invariant over one step, and a file `..Lemmas` has what several need.
 //!
@@ -125,10 +126,11 @@ pub struct Engine {
     // The edges of the tree in the order in which they grew: each ends in the root or in the outer top of
     // an earlier one.
     edges: Vec<TreeEdge>,
-    // Room for what a step works on.
-    named: Vec<Mark>,
+    // The top and the total of each leaf.
     tops: Vec<usize>,
     totals: Vec<i64>,
+    // Room for what a step works on.
+    named: Vec<Mark>,
     marks: Vec<Mark>,
     outer: Vec<usize>,
     inner: Vec<usize>,

@@ -1,6 +1,7 @@
 ghost use Rattle.std.specs.Prelude.{◌≡◌, ◌≤◌, IfOk, None, replicate, vec_capacity};
 ghost use Rattle.sg_arena.specs.Family.{leaf_count};
 
+use super::leaves::list_leaves;
 use super::mates::derive_mates;
 use super::{Edge, Engine, Matched, Mates, NoMemory, Stage};
 use sg_arena::Arena;
@@ -59,14 +60,15 @@ impl Engine {
         let exposed = leaf_names(alloc, &arena, k, room)?;
         let edges = Vec::with_capacity(alloc, room)?;
         let named = vec![in alloc; Mark::Free; room]?;
-        let tops = vec![in alloc; 0usize; count]?;
-        let totals = vec![in alloc; 0i64; count]?;
+        let mut tops = vec![in alloc; 0usize; count]?;
+        let mut totals = vec![in alloc; 0i64; count]?;
         let marks = vec![in alloc; Mark::Free; count]?;
         let outer = Vec::with_capacity(alloc, room + 1)?;
         let inner = Vec::with_capacity(alloc, room)?;
         let cycle = Vec::with_capacity(alloc, 2 * room + 1)?;
         let ring = Vec::with_capacity(alloc, 2 * room + 1)?;
         let mates = vec![in alloc; 0u32; count]?;
+        list_leaves(&arena, &mut tops, &mut totals);
         Ok(Engine {
             near,
             arena,
@@ -103,7 +105,8 @@ impl Engine {
     /// costs less ([`sg_pairing::matching_is_least`]). For `k` leaves it takes at most `2 k^2` steps, where
     /// a step is one `shrink`, `expand` or `raise`. The method is that of Edmonds (1965).
     ///
-    /// Cost: a step takes time proportional to the square of the number of leaves.
+    /// Cost: a step takes time proportional to the number of leaves, and again to it for each leaf whose
+    /// nearest one has to be found anew: at most to the square of their number.
     pub fn run<L: Ledger>(mut self, steps: &mut Steps<L>) -> Matched
         ensures counted { steps.new ≤ steps.old + 2 * self.table.size * self.table.size }
         ensures leaves { leaf_count result.family ≡ self.table.size }

@@ -15,8 +15,9 @@ impl Engine {
     /// Goes on until every top is paired, or an inner blossom of the tree has dual 0. Where such a
     /// blossom stands already, the least one is named and nothing changes. It takes no memory.
     ///
-    /// Cost: each round takes time proportional to the number of leaves and to the square of the number
-    /// of those that are outer.
+    /// Cost: each round takes time proportional to the number of leaves, and again to it for each leaf
+    /// that has become outer, and for each outer leaf whose nearest one of another top has come into its
+    /// own top.
     pub fn advance<L: Ledger>(&mut self, steps: &mut Steps<L>) -> Stage
         ensures table { self.new.table ≡ self.old.table }
         ensures engine { IsEngine self.new }

@@ -1,6 +1,7 @@
 ghost use Rattle.std.specs.Prelude.{◌<◌, ◌≤ℤ◌, pos};
 
 use super::dual_change::{Change, nearest, raise_tree};
+use super::leaves::move_totals;
 use super::{Engine, Event};
 use sg_slack::Costs;
 use sg_steps::Steps;
@@ -94,8 +95,8 @@ impl Engine {
             root,
             &self.edges,
             &mut self.named,
-            &mut self.tops,
-            &mut self.totals,
+            &self.tops,
+            &self.totals,
             &mut self.marks,
         );
         let delta = lesser(near.amount, half_of(self.near.costs(), near.event));
@@ -108,5 +109,6 @@ impl Engine {
             delta,
             steps,
         );
+        move_totals(&mut self.totals, &self.marks, delta);
     }
 }

@@ -40,10 +40,9 @@ invariant_of-self c = (
     cycle = search rules;
     ring = search rules;
     named = search rules;
-    tops = search rules;
-    totals = search rules;
     marks = search rules;
     mates = search rules;
+    listed = c.self.invariant.1.listed;
     known = λ r some. absurd (none-some r some);
   },
 )

@@ -71,10 +71,9 @@ invariant_of-self c = (
     cycle = search rules;
     ring = search rules;
     named = search rules;
-    tops = search rules;
-    totals = search rules;
     marks = search rules;
     mates = search rules;
+    listed = c.self.invariant.1.listed;
     known = λ r some. AreOuter-none c.self.inside.arena r c.self.inside.edges.items c.clear.new.self.members c.clear.ensures.members;
   },
 )

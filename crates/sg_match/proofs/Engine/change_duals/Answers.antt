@@ -1,6 +1,7 @@
 -- `change_duals`: the tree is raised by the least of the amount and the inner duals.
 use Rattle.std.proofs.Common.{◌≡◌, ℕ, ◌<◌, ℤ, List, length, Some, sym, ap, ◌∙◌, subst, arith, rules, to_z, of_z, w64}
 use Rattle.std.proofs.lemmas.Int.{ints, to_z-of_z}
+use Rattle.std.proofs.lemmas.List.{with_items_is}
 use Rattle.std.specs.Vec.{with_items}
 use Rattle.sg_arena.proofs.RaisedFamily.{length-raised}
 use Rattle.sg_arena.specs.Changes.{CanRaise, raised}
@@ -8,12 +9,14 @@ use Rattle.sg_sums.specs.Naturals.{nat_of}
 use Rattle.sg_arena.specs.Family.{Family, IsAlive, leaf_count}
 use Rattle.sg_match.proofs.Engine.change_duals.Given.{Over}
 use Rattle.sg_match.proofs.Engine.change_duals.Goals as goal
-use Rattle.sg_match.proofs.Engine.change_duals.Goals.{After-least_dual-delta, After-raise_tree, After-self, After-shift, in-Some, in-None}
+use Rattle.sg_match.proofs.Engine.change_duals.Goals.{After-deref-6, After-least_dual-delta, After-raise_tree, After-self, After-shift, in-Some, in-None}
 use Rattle.sg_match.proofs.DualChangeStep.{HasNearest-engine, IsNext-changed, IsChangingDuals, IsChangingDuals-made, after, change, left-raised, changed_can}
 use Rattle.sg_match.proofs.DualChangeStep.{changed_engine}
 use Rattle.sg_match.proofs.EngineLemmas.{inner_alive, state_of, tree_of}
 use Rattle.sg_match.proofs.TreeLemmas.{edge_room}
 use Rattle.sg_match.proofs.MembersStep.{AreOuter-raised, TotalsFit-raised}
+use Rattle.sg_match.proofs.TableStep.{IsListed-moved, IsMoving, moving-count, moving-fits}
+use Rattle.sg_match.specs.Marks.{IsListed, IsMarked}
 use Rattle.sg_match.specs.Members.{AreOuter}
 use Rattle.sg_slack.specs.Members.{TotalsFit, grown}
 use Rattle.sg_slack.specs.Table.{Table}
@@ -45,15 +48,15 @@ changing : (g : Over) (c : After-least_dual-delta g) →
 changing g c =
     let amount = c.nearest-near.result.amount in
     let delta = c.least_dual-delta.result in
-    IsChangingDuals-made (state_of c.self.inside) c.args.self.now c.args.root c.nearest-near.result.event c.deref.result.now c.deref-2.result.now amount
-    (given amount) delta (given delta) c.self.invariant.0 c.self.view_is c.requires.root c.deref.ensures.value c.deref-2.ensures.value
+    IsChangingDuals-made (state_of c.self.inside) c.args.self.now c.args.root c.nearest-near.result.event c.deref.result.now c.deref-4.result.now amount
+    (given amount) delta (given delta) c.self.invariant.0 c.self.view_is c.requires.root c.deref.ensures.value c.deref-4.ensures.value
     c.nearest-near.ensures.whole (to_z-of_z w64 amount (search rules)) (to_z-of_z w64 delta (search rules)) c.nearest-near.ensures.nearest
     (record { within = c.least_dual-delta.ensures.most; duals = c.least_dual-delta.ensures.duals; one = c.least_dual-delta.ensures.one })
 
 made : (g : Over) (c : After-shift g) → c.raise_tree.new.arena ≡ raised c.self.inside.arena (outers c.args.root c.self.inside.edges.items)
     (inners c.self.inside.edges.items) (nat_of (given c.least_dual-delta.result))
 made g c = c.raise_tree.ensures.raised ∙
-    ap (λ xs. raised c.self.inside.arena (outers c.args.root xs) (inners xs) (nat_of (given c.least_dual-delta.result))) c.deref-3.ensures.value
+    ap (λ xs. raised c.self.inside.arena (outers c.args.root xs) (inners xs) (nat_of (given c.least_dual-delta.result))) c.deref-5.ensures.value
 
 pub nearest-near-requires-clause-stands : goal.nearest-near-requires-clause-stands
 nearest-near-requires-clause-stands g c =
@@ -64,7 +67,7 @@ nearest-near-requires-clause-stands g c =
 pub least_dual-delta-requires : goal.least_dual-delta-requires
 least_dual-delta-requires g c =
     let s = state_of c.self.inside in
-    subst (λ (xs : List TreeEdge). (i : ℕ) → i < length xs → IsAlive s.family (edge_at xs i).inner) (sym c.deref-2.ensures.value)
+    subst (λ (xs : List TreeEdge). (i : ℕ) → i < length xs → IsAlive s.family (edge_at xs i).inner) (sym c.deref-4.ensures.value)
     (inner_alive s c.self.invariant.0 c.args.root (rooted g (goal.at.least_dual-delta-requires g c).After-self))
 
 fits : (g : Over) (c : After-self g) → length c.self.inside.edges.items < length c.self.inside.arena.nodes
@@ -72,11 +75,11 @@ fits g c = let s = state_of c.self.inside in edge_room s.family c.args.root s.ed
 
 pub raise_tree-requires-clause-outer : goal.raise_tree-requires-clause-outer
 raise_tree-requires-clause-outer g c =
-    omega (arith, fits g (goal.at.raise_tree-requires-clause-outer g c).After-self, c.self.invariant.1.outer, ap (λ xs. length xs) c.deref-3.ensures.value)
+    omega (arith, fits g (goal.at.raise_tree-requires-clause-outer g c).After-self, c.self.invariant.1.outer, ap (λ xs. length xs) c.deref-5.ensures.value)
 
 pub raise_tree-requires-clause-inner : goal.raise_tree-requires-clause-inner
 raise_tree-requires-clause-inner g c =
-    omega (arith, fits g (goal.at.raise_tree-requires-clause-inner g c).After-self, c.self.invariant.1.inner, ap (λ xs. length xs) c.deref-3.ensures.value)
+    omega (arith, fits g (goal.at.raise_tree-requires-clause-inner g c).After-self, c.self.invariant.1.inner, ap (λ xs. length xs) c.deref-5.ensures.value)
 
 pub raise_tree-requires-clause-whole : goal.raise_tree-requires-clause-whole
 raise_tree-requires-clause-whole g c = let p = changing g (goal.at.raise_tree-requires-clause-whole g c).After-least_dual-delta in omega
@@ -85,14 +88,14 @@ raise_tree-requires-clause-whole g c = let p = changing g (goal.at.raise_tree-re
 pub raise_tree-requires-clause-tops : goal.raise_tree-requires-clause-tops
 raise_tree-requires-clause-tops g c =
     let p = changing g (goal.at.raise_tree-requires-clause-tops g c).After-least_dual-delta in
-    subst (λ xs. CanRaise c.self.inside.arena (outers c.args.root xs) (inners xs) (nat_of (given c.least_dual-delta.result))) (sym c.deref-3.ensures.value)
+    subst (λ xs. CanRaise c.self.inside.arena (outers c.args.root xs) (inners xs) (nat_of (given c.least_dual-delta.result))) (sym c.deref-5.ensures.value)
     (changed_can p)
 
 pub least_inner_zero-requires : goal.least_inner_zero-requires
 least_inner_zero-requires g c =
     let s = state_of c.self.inside in
     let p = changing g (goal.at.least_inner_zero-requires g c).After-least_dual-delta in
-    subst (λ (xs : List TreeEdge). (i : ℕ) → i < length xs → IsAlive c.raise_tree.new.arena (edge_at xs i).inner) (sym c.deref-4.ensures.value)
+    subst (λ (xs : List TreeEdge). (i : ℕ) → i < length xs → IsAlive c.raise_tree.new.arena (edge_at xs i).inner) (sym c.deref-7.ensures.value)
     (subst (λ a. (i : ℕ) → i < length s.edges → IsAlive a (edge_at s.edges i).inner) (sym (made g (goal.at.least_inner_zero-requires g c).After-shift))
     (inner_alive (after s c.args.root (nat_of (given c.least_dual-delta.result)) p.engine p.rooted (change p)) (changed_engine p) c.args.root p.rooted))
 
@@ -141,6 +144,50 @@ known_after g c p known =
     (subst (λ ms. AreOuter (raised s.family (outers c.args.root s.edges) (inners s.edges) (nat_of delta)) c.args.root s.edges ms)
     (sym (c.shift.ensures.members ∙ ap (λ z. grown z members) p.whole)) raised_known)
 
+pub nearest-near-requires-clause-listed : goal.nearest-near-requires-clause-listed
+nearest-near-requires-clause-listed g c =
+    subst (λ xs. IsListed c.self.inside.arena xs c.deref-3.result.now) (sym c.deref-2.ensures.value)
+    (subst (λ ys. IsListed c.self.inside.arena c.self.inside.tops.items ys) (sym c.deref-3.ensures.value) c.self.invariant.1.listed)
+
+-- the tables where the totals are moved
+moving : (g : Over) (c : After-raise_tree g) →
+    IsChangingDuals (state_of c.self.inside) c.args.root c.nearest-near.result.event c.nearest-near.result.amount (given c.least_dual-delta.result) →
+    IsMoving c.self.inside.arena c.args.root c.self.inside.edges.items (given c.least_dual-delta.result) c.self.inside.tops.items
+    c.self.inside.totals.items c.nearest-near.new.marks
+moving g c p = record {
+  fam = p.engine.feasible.family;
+  whole = p.whole;
+  can = changed_can p;
+  listed = c.self.invariant.1.listed;
+  marked = subst (λ xs. IsMarked c.self.inside.arena c.args.root xs c.nearest-near.new.marks) c.deref.ensures.value c.nearest-near.ensures.marked;
+}
+
+marks_lent : (g : Over) (c : After-deref-6 g) → c.deref-6.result.now ≡ c.nearest-near.new.marks
+marks_lent g c = c.deref-6.ensures.value ∙
+    with_items_is c.self.inside.marks c.nearest-near.new.marks (c.nearest-near.auto.marks ∙ c.deref_mut-2.ensures.len)
+
+pub move_totals-requires-clause-count : goal.move_totals-requires-clause-count
+move_totals-requires-clause-count g c =
+    let at = goal.at.move_totals-requires-clause-count g c in
+    moving-count (moving g at.After-raise_tree (changing g at.After-least_dual-delta)) c.deref_mut-3.result.now c.deref-6.result.now
+    c.deref_mut-3.ensures.value (marks_lent g c)
+
+pub move_totals-requires-clause-fits : goal.move_totals-requires-clause-fits
+move_totals-requires-clause-fits g c =
+    let at = goal.at.move_totals-requires-clause-fits g c in
+    moving-fits (moving g at.After-raise_tree (changing g at.After-least_dual-delta)) c.deref_mut-3.result.now c.deref-6.result.now
+    c.deref_mut-3.ensures.value (marks_lent g c)
+
+-- and after it
+listed_after : (g : Over) (c : After-shift g) → c.deref-6.result.now ≡ c.nearest-near.new.marks →
+    IsMoving c.self.inside.arena c.args.root c.self.inside.edges.items (given c.least_dual-delta.result) c.self.inside.tops.items
+    c.self.inside.totals.items c.nearest-near.new.marks →
+    IsListed c.raise_tree.new.arena c.self.inside.tops.items (with_items c.self.inside.totals c.move_totals.new.totals).items
+listed_after g c lent p =
+    IsListed-moved p c.deref_mut-3.result.now c.deref-6.result.now c.deref_mut-3.ensures.value lent c.move_totals.new.totals
+    (with_items c.self.inside.totals c.move_totals.new.totals).items c.raise_tree.new.arena c.move_totals.ensures.count c.move_totals.ensures.moved
+    (with_items_is c.self.inside.totals c.move_totals.new.totals (c.move_totals.auto.totals ∙ c.deref_mut-3.ensures.len)) (made g c)
+
 pub invariant_of-self : goal.invariant_of-self
 invariant_of-self g c =
     let e = c.self.inside in
@@ -160,10 +207,9 @@ invariant_of-self g c =
         cycle = omega (arith, room.cycle, names);
         ring = omega (arith, room.ring, names);
         named = sym (with_items e.named c.nearest-near.new.named).ok.0 ∙ e.named.ok.0 ∙ room.named ∙ sym names;
-        tops = sym (with_items e.tops c.nearest-near.new.tops).ok.0 ∙ e.tops.ok.0 ∙ room.tops ∙ sym leaves;
-        totals = sym (with_items e.totals c.nearest-near.new.totals).ok.0 ∙ e.totals.ok.0 ∙ room.totals ∙ sym leaves;
         marks = sym (with_items e.marks c.nearest-near.new.marks).ok.0 ∙ e.marks.ok.0 ∙ room.marks ∙ sym leaves;
         mates = room.mates ∙ sym leaves;
+        listed = listed_after g at.After-shift (marks_lent g at.After-deref-6) (moving g at.After-raise_tree p);
         known = λ r some.
             subst (λ x. AreOuter c.raise_tree.new.arena x e.edges.items c.shift.new.self.members)
             (same_Some c.args.root r (sym (rooted g at.After-self) ∙ some)) (known_after g at.After-shift p (known_before g at.After-raise_tree));
@@ -203,10 +249,10 @@ returns-clause-next g c =
     elim c.match-least_inner_zero.branch [
       | in-Some w ↦
           subst (λ x. IsNext (seen e c.raise_tree.new.arena costs) c.args.root x) (sym w.result-is)
-          (subst (λ xs. IsLeastInnerZero c.raise_tree.new.arena xs w.in-Some.node) c.deref-4.ensures.value w.in-Some.ensures.some)
+          (subst (λ xs. IsLeastInnerZero c.raise_tree.new.arena xs w.in-Some.node) c.deref-7.ensures.value w.in-Some.ensures.some)
       | in-None w ↦
           let none = subst (λ a. (node : ℕ) → IsInnerZero a edges node → ⊥) is
-          (subst (λ xs. (node : ℕ) → IsInnerZero c.raise_tree.new.arena xs node → ⊥) c.deref-4.ensures.value w.in-None.ensures.none) in
+          (subst (λ xs. (node : ℕ) → IsInnerZero c.raise_tree.new.arena xs node → ⊥) c.deref-7.ensures.value w.in-None.ensures.none) in
           subst (λ x. IsNext (seen e c.raise_tree.new.arena costs) c.args.root x) (sym w.result-is)
           (subst (λ t. IsNext (seen e c.raise_tree.new.arena t) c.args.root c.nearest-near.result.event) (sym (same_table g at.After-shift))
           (subst (λ a. IsNext (seen e a e.near.table) c.args.root c.nearest-near.result.event) (sym is)

@@ -2,12 +2,13 @@
 use Rattle.std.proofs.Common.{None, Some, List, ℕ, ◌≡◌, ◌+◌, ◌*◌, ◌≤◌, length, Contains, sym, ap, ◌∙◌, subst, arith}
 use Rattle.std.proofs.lemmas.List.{with_items_is}
 use Rattle.std.specs.Vec.{with_items}
-use Rattle.sg_arena.proofs.FamilyLemmas.{length-with_slot}
+use Rattle.sg_arena.proofs.FamilyLemmas.{length-with_slot, name_bound}
 use Rattle.sg_arena.specs.Family.{Family}
 use Rattle.sg_match.proofs.Engine.expand.Given.{Over}
 use Rattle.sg_match.proofs.Engine.expand.Goals as goal
-use Rattle.sg_match.proofs.Engine.expand.Goals.{After-turn_to_odd-entry, After-index-tree_edge, After-list_ring, After-expand_edge}
+use Rattle.sg_match.proofs.Engine.expand.Goals.{After-expand, After-turn_to_odd-entry, After-index-tree_edge, After-list_ring, After-expand_edge}
 use Rattle.sg_match.proofs.EngineLemmas.{state_of}
+use Rattle.sg_match.proofs.TableStep.{IsParting, parting-listed}
 use Rattle.sg_match.proofs.RingLemmas.{IsRing}
 use Rattle.sg_match.proofs.ExpandLemmas.{IsCut, IsEngine-after, IsFound, blossom_top, pair_held, cut, edge_held, found, is_inner, edges_fit, ring_differs}
 use Rattle.sg_match.proofs.ExpandLemmas.{ring_fits, ring_has, ring_is, ring_named}
@@ -55,10 +56,10 @@ expanding : (g : Over) (c : After-expand_edge g) →
     ((members : List Member) (r : ℕ) → c.self.inside.root ≡ Some r → AreOuter c.self.inside.arena r c.self.inside.edges.items members →
     AreOuter c.expand.new.self r c.expand_edge.new.edges.items members)
 expanding g c expand =
-    let stored = with_items_is c.self.inside.pairs c.pair_ring.new.pairs (c.pair_ring.ensures.length ∙ c.deref_mut.ensures.len) in
-    IsEngine-after expand c.deref-3.result.now c.deref-4.result.now c.deref_mut.result.now c.pair_ring.new.pairs
+    let stored = with_items_is c.self.inside.pairs c.pair_ring.new.pairs (c.pair_ring.ensures.length ∙ c.deref_mut-2.ensures.len) in
+    IsEngine-after expand c.deref-3.result.now c.deref-4.result.now c.deref_mut-2.result.now c.pair_ring.new.pairs
     (with_items c.self.inside.pairs c.pair_ring.new.pairs).items c.expand_edge.new.edges.items c.expand.new.self c.deref-3.ensures.value
-    c.deref-4.ensures.value c.deref_mut.ensures.value stored c.expand.ensures.gone c.pair_ring.ensures.ring_pairs c.pair_ring.ensures.length
+    c.deref-4.ensures.value c.deref_mut-2.ensures.value stored c.expand.ensures.gone c.pair_ring.ensures.ring_pairs c.pair_ring.ensures.length
     c.expand_edge.ensures.tree c.expand_edge.ensures.outer
 
 pub place_of_inner-at-requires : goal.place_of_inner-at-requires
@@ -108,8 +109,8 @@ expand-requires-clause-top g c =
 pub pair_ring-requires-clause-names : goal.pair_ring-requires-clause-names
 pair_ring-requires-clause-names g c =
     let here = goal.at.pair_ring-requires-clause-names g c in
-    ring_named (ring_cut g here.After-turn_to_odd-entry (edge_found g here.After-index-tree_edge)) c.deref-3.result.now c.deref_mut.result.now
-    c.deref-3.ensures.value c.deref_mut.ensures.value
+    ring_named (ring_cut g here.After-turn_to_odd-entry (edge_found g here.After-index-tree_edge)) c.deref-3.result.now c.deref_mut-2.result.now
+    c.deref-3.ensures.value c.deref_mut-2.ensures.value
 
 pub pair_ring-requires-clause-differ : goal.pair_ring-requires-clause-differ
 pair_ring-requires-clause-differ g c =
@@ -125,6 +126,21 @@ expand_edge-requires-clause-room g c =
       ap (λ xs. length xs) c.deref-4.ensures.value,
       c.self.invariant.1.edges,
     )
+
+-- the tables where the blossom's leaves are listed anew
+parting : (g : Over) (c : After-expand g) → IsFound (state_of c.self.inside) c.args.node c.place_of_inner-at.result c.index-tree_edge.result.now →
+    IsParting c.self.inside.arena c.args.node c.expand.new.self c.self.inside.tops.items c.self.inside.totals.items
+parting g c is =
+    let top = blossom_top (state_of c.self.inside) c.args.node is.engine is.inner_zero in
+    record {
+      fam = is.engine.feasible.family;
+      top = top;
+      blossom = is.inner_zero.blossom;
+      flat = is.inner_zero.inner_zero;
+      room = name_bound c.self.inside.arena c.args.node top.alive;
+      made = c.expand.ensures.gone;
+      listed = c.self.invariant.1.listed;
+    }
 
 pub invariant_of-self : goal.invariant_of-self
 invariant_of-self g c =
@@ -145,10 +161,11 @@ invariant_of-self g c =
         cycle = omega (arith, size, rooms.0);
         ring = omega (arith, size, rooms.1);
         named = roomy.named ∙ sym size;
-        tops = roomy.tops ∙ leaves;
-        totals = roomy.totals ∙ leaves;
         marks = roomy.marks ∙ leaves;
         mates = roomy.mates ∙ leaves;
+        listed = parting-listed (parting g here.After-expand (edge_found g here.After-index-tree_edge)) c.deref_mut.result.now c.part_tops.new.tops
+            (with_items e.tops c.part_tops.new.tops).items c.deref_mut.ensures.value c.part_tops.ensures.count c.part_tops.ensures.parted
+            (with_items_is e.tops c.part_tops.new.tops (c.part_tops.auto.tops ∙ c.deref_mut.ensures.len));
         known = λ r some. after.2 e.near.members r some (roomy.known r some);
       },
     )

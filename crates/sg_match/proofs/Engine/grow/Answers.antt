@@ -36,10 +36,9 @@ invariant_of-self c = (
     cycle = search rules;
     ring = search rules;
     named = search rules;
-    tops = search rules;
-    totals = search rules;
     marks = search rules;
     mates = search rules;
+    listed = c.self.invariant.1.listed;
     known = λ r some.
         subst (λ (xs : List TreeEdge). AreOuter c.self.inside.arena r xs c.self.inside.near.members) (sym c.push_reserved.ensures.items)
         (AreOuter-grown c.self.inside.arena r c.self.inside.edges.items

@@ -1,6 +1,7 @@
 -- `raise_exposed`: the tree is the top alone, and its dual rises by no more than its least slack.
 use Rattle.std.proofs.Common.{◌≡◌, ◌≤ℤ◌, ℤ, pos, length, None, sym, ap, ◌∙◌, subst, arith, rules, to_z, of_z, w64}
 use Rattle.std.proofs.lemmas.Int.{ints, to_z-of_z}
+use Rattle.std.proofs.lemmas.List.{with_items_is}
 use Rattle.std.specs.Vec.{with_items}
 use Rattle.sg_arena.proofs.RaisedFamily.{length-raised}
 use Rattle.sg_arena.specs.Changes.{CanRaise, raised}
@@ -8,10 +9,12 @@ use Rattle.sg_arena.specs.Family.{Family, leaf_count}
 use Rattle.sg_sums.specs.Naturals.{nat_of}
 use Rattle.sg_match.proofs.Engine.raise_exposed.Given.{Over}
 use Rattle.sg_match.proofs.Engine.raise_exposed.Goals as goal
-use Rattle.sg_match.proofs.Engine.raise_exposed.Goals.{After-lesser-delta, After-raise_tree, After-self}
+use Rattle.sg_match.proofs.Engine.raise_exposed.Goals.{After-deref-5, After-lesser-delta, After-move_totals, After-raise_tree, After-self}
 use Rattle.sg_match.proofs.EngineLemmas.{no_edges, state_of}
 use Rattle.sg_match.proofs.StartStep.{HasNearest-exposed, IsStarting, IsStarting-made, started_can, started_engine, started_left}
+use Rattle.sg_match.proofs.TableStep.{IsListed-moved, IsMoving, moving-count, moving-fits}
 use Rattle.sg_match.specs.Engine.{IsEngine}
+use Rattle.sg_match.specs.Marks.{IsListed, IsMarked}
 use Rattle.sg_match.specs.Names.{Stands}
 use Rattle.sg_match.specs.Nearest.{HasNearest, IsNearest}
 use Rattle.sg_match.specs.State.{State}
@@ -54,7 +57,7 @@ starting g c none at =
 made : (g : Over) (c : After-raise_tree g) → c.raise_tree.new.arena ≡ raised c.self.inside.arena (outers c.args.root c.self.inside.edges.items)
     (inners c.self.inside.edges.items) (nat_of (given c.lesser-delta.result))
 made g c = c.raise_tree.ensures.raised
-    ∙ ap (λ xs. raised c.self.inside.arena (outers c.args.root xs) (inners xs) (nat_of (given c.lesser-delta.result))) c.deref-2.ensures.value
+    ∙ ap (λ xs. raised c.self.inside.arena (outers c.args.root xs) (inners xs) (nat_of (given c.lesser-delta.result))) c.deref-4.ensures.value
 
 pub nearest-near-requires-clause-stands : goal.nearest-near-requires-clause-stands
 nearest-near-requires-clause-stands g c =
@@ -88,11 +91,11 @@ few g c = ap (λ xs. length xs) (no_edges (state_of c.self.inside) c.self.invari
 
 pub raise_tree-requires-clause-outer : goal.raise_tree-requires-clause-outer
 raise_tree-requires-clause-outer g c =
-    omega (arith, few g (goal.at.raise_tree-requires-clause-outer g c).After-self, c.self.invariant.1.outer, ap (λ xs. length xs) c.deref-2.ensures.value)
+    omega (arith, few g (goal.at.raise_tree-requires-clause-outer g c).After-self, c.self.invariant.1.outer, ap (λ xs. length xs) c.deref-4.ensures.value)
 
 pub raise_tree-requires-clause-inner : goal.raise_tree-requires-clause-inner
 raise_tree-requires-clause-inner g c =
-    omega (arith, few g (goal.at.raise_tree-requires-clause-inner g c).After-self, c.self.invariant.1.inner, ap (λ xs. length xs) c.deref-2.ensures.value)
+    omega (arith, few g (goal.at.raise_tree-requires-clause-inner g c).After-self, c.self.invariant.1.inner, ap (λ xs. length xs) c.deref-4.ensures.value)
 
 pub raise_tree-requires-clause-whole : goal.raise_tree-requires-clause-whole
 raise_tree-requires-clause-whole g c =
@@ -102,7 +105,7 @@ pub raise_tree-requires-clause-tops : goal.raise_tree-requires-clause-tops
 raise_tree-requires-clause-tops g c =
     let at = goal.at.raise_tree-requires-clause-tops g c in
     let p = starting g at.After-lesser-delta (bare g at.After-self) (root_at g at.After-self) in
-    subst (λ xs. CanRaise c.self.inside.arena (outers c.args.root xs) (inners xs) (nat_of (given c.lesser-delta.result))) (sym c.deref-2.ensures.value)
+    subst (λ xs. CanRaise c.self.inside.arena (outers c.args.root xs) (inners xs) (nat_of (given c.lesser-delta.result))) (sym c.deref-4.ensures.value)
     (started_can p)
 
 engine_now : (g : Over) (c : After-raise_tree g) →
@@ -111,6 +114,52 @@ engine_now : (g : Over) (c : After-raise_tree g) →
 engine_now g c p =
     subst (λ t. IsEngine (seen c.self.inside c.raise_tree.new.arena t)) (sym (same_table g c))
     (subst (λ a. IsEngine (seen c.self.inside a c.self.inside.near.table)) (sym (made g c)) (started_engine p))
+
+pub nearest-near-requires-clause-listed : goal.nearest-near-requires-clause-listed
+nearest-near-requires-clause-listed g c =
+    subst (λ xs. IsListed c.self.inside.arena xs c.deref-3.result.now) (sym c.deref-2.ensures.value)
+    (subst (λ ys. IsListed c.self.inside.arena c.self.inside.tops.items ys) (sym c.deref-3.ensures.value) c.self.invariant.1.listed)
+
+-- the tables where the totals are moved
+moving : (g : Over) (c : After-raise_tree g) →
+    IsStarting (state_of c.self.inside) c.args.root c.nearest-near.result.event c.nearest-near.result.amount (given c.lesser-delta.result) →
+    IsMoving c.self.inside.arena c.args.root c.self.inside.edges.items (given c.lesser-delta.result) c.self.inside.tops.items
+    c.self.inside.totals.items c.nearest-near.new.marks
+moving g c p = record {
+  fam = c.self.invariant.0.feasible.family;
+  whole = p.whole;
+  can = started_can p;
+  listed = c.self.invariant.1.listed;
+  marked = subst (λ xs. IsMarked c.self.inside.arena c.args.root xs c.nearest-near.new.marks) c.deref.ensures.value c.nearest-near.ensures.marked;
+}
+
+marks_lent : (g : Over) (c : After-deref-5 g) → c.deref-5.result.now ≡ c.nearest-near.new.marks
+marks_lent g c = c.deref-5.ensures.value ∙
+    with_items_is c.self.inside.marks c.nearest-near.new.marks (c.nearest-near.auto.marks ∙ c.deref_mut-2.ensures.len)
+
+pub move_totals-requires-clause-count : goal.move_totals-requires-clause-count
+move_totals-requires-clause-count g c =
+    let at = goal.at.move_totals-requires-clause-count g c in
+    moving-count (moving g at.After-raise_tree (starting g at.After-lesser-delta (bare g at.After-self) (root_at g at.After-self)))
+    c.deref_mut-3.result.now c.deref-5.result.now c.deref_mut-3.ensures.value (marks_lent g c)
+
+pub move_totals-requires-clause-fits : goal.move_totals-requires-clause-fits
+move_totals-requires-clause-fits g c =
+    let at = goal.at.move_totals-requires-clause-fits g c in
+    moving-fits (moving g at.After-raise_tree (starting g at.After-lesser-delta (bare g at.After-self) (root_at g at.After-self)))
+    c.deref_mut-3.result.now c.deref-5.result.now c.deref_mut-3.ensures.value (marks_lent g c)
+
+-- and after it
+listed_after : (g : Over) (c : After-move_totals g) → c.raise_tree.new.arena ≡ raised c.self.inside.arena
+    (outers c.args.root c.self.inside.edges.items) (inners c.self.inside.edges.items) (nat_of (given c.lesser-delta.result)) →
+    c.deref-5.result.now ≡ c.nearest-near.new.marks →
+    IsMoving c.self.inside.arena c.args.root c.self.inside.edges.items (given c.lesser-delta.result) c.self.inside.tops.items
+    c.self.inside.totals.items c.nearest-near.new.marks →
+    IsListed c.raise_tree.new.arena c.self.inside.tops.items (with_items c.self.inside.totals c.move_totals.new.totals).items
+listed_after g c made lent p =
+    IsListed-moved p c.deref_mut-3.result.now c.deref-5.result.now c.deref_mut-3.ensures.value lent c.move_totals.new.totals
+    (with_items c.self.inside.totals c.move_totals.new.totals).items c.raise_tree.new.arena c.move_totals.ensures.count c.move_totals.ensures.moved
+    (with_items_is c.self.inside.totals c.move_totals.new.totals (c.move_totals.auto.totals ∙ c.deref_mut-3.ensures.len)) made
 
 pub invariant_of-self : goal.invariant_of-self
 invariant_of-self g c =
@@ -130,10 +179,10 @@ invariant_of-self g c =
         cycle = omega (arith, room.cycle, names);
         ring = omega (arith, room.ring, names);
         named = sym (with_items e.named c.nearest-near.new.named).ok.0 ∙ e.named.ok.0 ∙ room.named ∙ sym names;
-        tops = sym (with_items e.tops c.nearest-near.new.tops).ok.0 ∙ e.tops.ok.0 ∙ room.tops ∙ sym leaves;
-        totals = sym (with_items e.totals c.nearest-near.new.totals).ok.0 ∙ e.totals.ok.0 ∙ room.totals ∙ sym leaves;
         marks = sym (with_items e.marks c.nearest-near.new.marks).ok.0 ∙ e.marks.ok.0 ∙ room.marks ∙ sym leaves;
         mates = room.mates ∙ sym leaves;
+        listed = listed_after g at.After-move_totals is (marks_lent g at.After-deref-5)
+            (moving g at.After-raise_tree (starting g at.After-lesser-delta (bare g at.After-self) (root_at g at.After-self)));
         known = λ r some. absurd (none-some r (sym (bare g at.After-self) ∙ some));
       },
     )

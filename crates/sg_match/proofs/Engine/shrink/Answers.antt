@@ -1,14 +1,17 @@
 -- `shrink`: a cycle is shrunk, and its tree edges go.
 use Rattle.std.proofs.Common.{◌≡◌, ◌+◌, ◌<◌, ◌≤◌, ℕ, Some, length, set, sym, ap, ◌∙◌, subst, arith}
+use Rattle.std.proofs.lemmas.List.{with_items_is}
+use Rattle.std.specs.Vec.{with_items}
 use Rattle.sg_arena.proofs.FamilyLemmas.{length-with_slot, name_bound}
 use Rattle.sg_arena.specs.Changes.{CanShrink, blossom_of, with_slot}
 use Rattle.sg_arena.specs.Family.{Family, leaf_count}
 use Rattle.sg_match.proofs.ShrinkStep.{CanShrinkTree-shrunk, all_tight, base_low, can, known-shrunk, shrunk}
 use Rattle.sg_match.proofs.EngineLemmas.{state_of, tree_of}
+use Rattle.sg_match.proofs.TableStep.{IsLifting, lifting-alive, lifting-listed}
 use Rattle.sg_match.proofs.TreeLemmas.{pair_leaf, up_leaf, edge_room}
 use Rattle.sg_match.proofs.Engine.shrink.Given.{Over}
 use Rattle.sg_match.proofs.Engine.shrink.Goals as goal
-use Rattle.sg_match.proofs.Engine.shrink.Goals.{After-find_cycle-base, After-self}
+use Rattle.sg_match.proofs.Engine.shrink.Goals.{After-find_cycle-base, After-self, After-shrink-blossom}
 use Rattle.sg_match.specs.Engine.{IsEngine}
 use Rattle.sg_match.specs.Members.{AreOuter}
 use Rattle.std.proofs.lemmas.Option.{same_Some}
@@ -85,6 +88,37 @@ shrink_edges-requires-clause-to g c i low =
     (pair_leaf c.self.inside.arena c.args.root c.self.inside.edges.items
     (tree g (goal.at.shrink_edges-requires-clause-to g c).After-self).shape c.self.invariant.0.feasible.family i low)
 
+-- the tables where the tops are lifted
+lifting : (g : Over) (c : After-shrink-blossom g) → c.self.inside.root ≡ Some c.args.root →
+    (place : ℕ) × IsTreeCycle c.self.inside.arena c.args.root c.self.inside.edges.items c.find_cycle-base.new.cycle.items place c.find_cycle-base.result
+    c.find_cycle-base.result → IsLifting c.self.inside.arena c.shrink-blossom.result c.find_cycle-base.new.cycle.items c.shrink-blossom.new.self
+    c.self.inside.tops.items c.self.inside.totals.items
+lifting g c rooted at =
+    let f = c.self.inside.arena in
+    let b = c.shrink-blossom.result in
+    let cycle = c.find_cycle-base.new.cycle.items in
+    let made : c.shrink-blossom.new.self ≡ with_slot f b (Some (blossom_of f cycle)) =
+    subst (λ xs. c.shrink-blossom.new.self ≡ with_slot f b (Some (blossom_of f xs))) c.deref-2.ensures.value c.shrink-blossom.ensures.made in
+    record {
+      fam = c.self.invariant.0.feasible.family;
+      can = can (state_of c.self.inside) c.args.root c.self.invariant.0 rooted cycle at.0 c.find_cycle-base.result at.1;
+      dead = c.shrink-blossom.ensures.unused;
+      room = omega (
+        arith,
+        name_bound c.shrink-blossom.new.self b c.shrink-blossom.ensures.top.alive,
+        ap (λ (f : Family). length f.nodes) made,
+        length-with_slot f b (Some (blossom_of f cycle)),
+      );
+      made = made;
+      listed = c.self.invariant.1.listed;
+    }
+
+pub lift_tops-requires : goal.lift_tops-requires
+lift_tops-requires g c =
+    let here = goal.at.lift_tops-requires g c in
+    lifting-alive (lifting g here.After-shrink-blossom (rooted g here.After-self) (cycle_found g here.After-find_cycle-base)) c.deref_mut.result.now
+    c.deref_mut.ensures.value
+
 -- what the state is at the end
 abbrev last : (g : Over) (c : goal.After-shrink_edges g) → State
 last g c = record {
@@ -141,6 +175,7 @@ ending g c = let here = goal.at.returns-clause-engine g c in shrinking g c (root
 
 pub invariant_of-self : goal.invariant_of-self
 invariant_of-self g c =
+    let here = goal.at.invariant_of-self g c in
     let roomy : IsRoomy c.self.inside = c.self.invariant.1 in
     let nodes : length c.shrink-blossom.new.self.nodes ≡ length c.self.inside.arena.nodes =
     ap (λ (f : Family). length f.nodes) c.shrink-blossom.ensures.made ∙ length-with_slot c.self.inside.arena c.shrink-blossom.result
@@ -156,10 +191,12 @@ invariant_of-self g c =
         cycle = omega (arith, nodes, roomy.cycle, c.find_cycle-base.ensures.capacity);
         ring = omega (arith, nodes, roomy.ring);
         named = omega (arith, nodes, roomy.named);
-        tops = omega (arith, leaves, roomy.tops);
-        totals = omega (arith, leaves, roomy.totals);
         marks = omega (arith, leaves, roomy.marks);
         mates = omega (arith, leaves, roomy.mates);
+        listed = lifting-listed (lifting g here.After-shrink-blossom (rooted g here.After-self) (cycle_found g here.After-find_cycle-base))
+            c.deref_mut.result.now c.deref_mut.ensures.value c.lift_tops.new.tops (with_items c.self.inside.tops c.lift_tops.new.tops).items
+            c.lift_tops.ensures.count c.lift_tops.ensures.lifted
+            (with_items_is c.self.inside.tops c.lift_tops.new.tops (c.lift_tops.auto.tops ∙ c.deref_mut.ensures.len));
         known = λ r some. subst (λ x. AreOuter c.shrink-blossom.new.self x c.shrink_edges.new.edges.items c.self.inside.near.members)
             (same_Some c.renamed.result r some) (ending g c).2;
       },
