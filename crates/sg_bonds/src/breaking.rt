@@ -87,8 +87,13 @@ fn settle(
     Ok(())
 }
 
-// A state of least energy among those that turn the bond, and so the cost of the bond.
-fn turn(alloc: Global, planar: &Planar, least: &Answer, bond: u32) -> Result<Turned, NoMemory>
+/// A state of least energy among those that turn the bond, and so the cost of the bond.
+pub(crate) fn turn(
+    alloc: Global,
+    planar: &Planar,
+    least: &Answer,
+    bond: u32,
+) -> Result<Turned, NoMemory>
     requires sum { weight planar.now.instance ≤ sum_limit }
     requires bond_in { bond < bond_count planar.now.instance }
     requires ground_state { IsGroundState planar.now.instance least.now.spins }

@@ -16,6 +16,8 @@ mod known;
 mod law;
 mod naming;
 mod paths;
+mod room;
+mod telling;
 
 pub use breaking::{costs, rigid};
 pub use law::{forced_minimum, rigid_clusters_agree};
