@@ -8,3 +8,5 @@ pub mod SomeCost
 pub mod RigidBounds
 pub mod ToldBonds
 pub mod BondLoads
+pub mod PartCosts
+pub mod JoinedCosts

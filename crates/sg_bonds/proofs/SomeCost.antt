@@ -31,7 +31,7 @@ least_value f (suc n) =
     (λ more. (k, λ j l. beats-kept f (f k) (f (n + 1)) (n + 1) refl more least j (omega (arith, l))))
 
 -- each instance has a ground state
-some_ground_state : (inst : Ising) → IsInstance inst → (s : List ℤ) × IsGroundState inst s
+pub some_ground_state : (inst : Ising) → IsInstance inst → (s : List ℤ) × IsGroundState inst s
 some_ground_state inst good =
     let (half, least) = least_value (λ k. energy inst (coded inst.n (2 * k))) (2 ^ (inst.n - 1)) in
     (coded inst.n (2 * half), ground_state inst half good (λ k l. least k (omega (arith, l))))
