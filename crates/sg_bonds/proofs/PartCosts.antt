@@ -34,10 +34,11 @@ some_written : (places : List ℕ) (part old : List ℤ) → IsStrictlyIncreasin
 some_written places part old up below count zero l = (old, record { count = refl; values = λ k m. absurd (omega (arith, m)); others = λ x out. refl })
 some_written places part old up below count (suc i) l =
     let (now, was) = some_written places part old up below count i (omega (arith, l)) in
-    let next : i + 1 ≡ suc i = omega arith in
-    (set now (get_or places i 0) (get_or part i (pos 0)),
-    subst (λ j. Writes (take j places) part old (set now (get_or places i 0) (get_or part i (pos 0)))) next
-    (written_more places part old now i (get_or part i (pos 0)) up below count (omega (arith, l)) refl was))
+    let next : i + 1 ≡ suc i = omega arith in (
+      set now (get_or places i 0) (get_or part i (pos 0)),
+      subst (λ j. Writes (take j places) part old (set now (get_or places i 0) (get_or part i (pos 0)))) next
+          (written_more places part old now i (get_or part i (pos 0)) up below count (omega (arith, l)) refl was),
+    )
 
 module _ (inst : Ising) (good : IsInstance inst) (least : ℕ) (p : Part) (is : IsPart inst least p) where
   share : IsShare inst p.spins p.bonds p.planar.instance
@@ -84,8 +85,8 @@ module _ (inst : Ising) (good : IsInstance inst) (least : ℕ) (p : Part) (is : 
   part_assignment t h = record {
     count = length-map p.spins (spin t) ∙ sym share.spin_count;
     values = All-from_get_or IsUpOrDown (values_in t) (pos 1) (λ i l. (
-          let low : i < length p.spins = omega (arith, l, length-map p.spins (spin t)) in
-          subst IsUpOrDown (in_place t i low) (unit_at inst t h (numbered p.spins i) (share.spins_below i 0 low))));
+        let low : i < length p.spins = omega (arith, l, length-map p.spins (spin t)) in
+        subst IsUpOrDown (in_place t i low) (unit_at inst t h (numbered p.spins i) (share.spins_below i 0 low))));
   }
 
   -- an assignment of the whole with other values in the part
@@ -176,9 +177,13 @@ module _ (inst : Ising) (good : IsInstance inst) (least : ℕ) (p : Part) (is : 
       least_with_in x e h =
           let (q, u, has, value) = h.reached in
           let changed : Changed g q = change g q ground.assignment u in record {
-            reached = (changed.now, changed.assignment, same_product changed.now q changed.writes.values ∙ has,
-                energy_split changed.now q changed.assignment u changed.writes.values
-                ∙ ap₂ (λ a o. a +ℤ ((pos o +ℤ pos (weight p.planar.instance)) -ℤ pos (weight inst))) value (same_outside g q changed.now changed.writes));
+            reached = (
+              changed.now,
+              changed.assignment,
+              same_product changed.now q changed.writes.values ∙ has,
+              energy_split changed.now q changed.assignment u changed.writes.values
+                  ∙ ap₂ (λ a o. a +ℤ ((pos o +ℤ pos (weight p.planar.instance)) -ℤ pos (weight inst))) value (same_outside g q changed.now changed.writes),
+            );
             least = λ t a same.
                 less (energy inst t) (energy p.planar.instance (values_in t)) e (outside t) (outside g) (weight inst) (weight p.planar.instance)
                 (energy_split t (values_in t) a (part_assignment t a) (in_place t))

@@ -26,13 +26,7 @@ fn darts_of(inst: &Instance, spin: u32) -> &[u32] {
 // The spin that a dart leads to.
 fn head(bonds: &[Bond], dart: u32) -> u32 {
     match entry(bonds, dart / 2) {
-        Some(Bond { u, v, j: _ }) => {
-            if dart % 2 == 0 {
-                v
-            } else {
-                u
-            }
-        }
+        Some(Bond { u, v, j: _ }) => { if dart % 2 == 0 { v } else { u } }
         None => u32::MAX,
     }
 }
