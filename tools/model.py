@@ -35,6 +35,93 @@ def lattice(kind, rows, cols, couplings):
     return Instance(text, rows * cols, [(u, v, j) for (u, v), j in zip(ends, values)])
 
 
+class Drawing:
+    """A graph drawn on a sphere, component by component: the ends of the bonds, and for each spin its
+    darts in cyclic order. A corner is a spin and a place in its list."""
+
+    def __init__(self, draw):
+        self.draw, self.ends, self.rotation = draw, [], []
+
+    def spin(self):
+        self.rotation.append([])
+        return len(self.rotation) - 1
+
+    def corner(self, spins):
+        spin = self.draw.choice(spins)
+        return spin, self.draw.randint(0, len(self.rotation[spin]))
+
+    def next_corner(self, corner):
+        """The corner that follows on the boundary of the same face."""
+        spin, place = corner
+        darts = self.rotation[spin]
+        if not darts:
+            return corner
+        dart = darts[place % len(darts)]
+        other = self.ends[dart // 2][1 - dart % 2]
+        return other, self.rotation[other].index(dart ^ 1) + 1
+
+    def join(self, first, second):
+        """A bond between two corners of one face, at different spins."""
+        bond = len(self.ends)
+        self.ends.append((first[0], second[0]))
+        self.rotation[first[0]].insert(first[1], 2 * bond)
+        self.rotation[second[0]].insert(second[1], 2 * bond + 1)
+
+    def tree(self, count):
+        spins = [self.spin()]
+        for _ in range(count - 1):
+            corner = self.corner(spins)
+            spins.append(self.spin())
+            self.join(corner, (spins[-1], 0))
+        return spins
+
+    def chord(self, spins):
+        """One more bond across a face, unless the walk along it comes back to the same spin."""
+        corner = self.corner(spins)
+        other = corner
+        for _ in range(self.draw.randint(1, 8)):
+            other = self.next_corner(other)
+        if other[0] != corner[0]:
+            self.join(corner, other)
+
+    def ring(self, count):
+        spins = [self.spin() for _ in range(count)]
+        for k, spin in enumerate(spins[1:]):
+            self.join((spins[k], len(self.rotation[spins[k]])), (spin, 0))
+        if count > 2:
+            self.join((spins[-1], 1), (spins[0], 0))
+        return spins
+
+    def instance(self, couplings):
+        """The drawing with its spins and bonds numbered anew and its cyclic lists turned."""
+        n, m = len(self.rotation), len(self.ends)
+        spins, bonds = self.draw.sample(range(n), n), self.draw.sample(range(m), m)
+        joined = [None] * m
+        for k, (u, v) in enumerate(self.ends):
+            joined[bonds[k]] = (spins[u], spins[v], couplings(k))
+        lines = [f"general,{n}"] + [f"bond,{u},{v},{j}" for u, v, j in joined]
+        for spin, darts in enumerate(self.rotation):
+            turn = self.draw.randint(0, len(darts))
+            listed = [2 * bonds[d // 2] + d % 2 for d in darts[turn:] + darts[:turn]]
+            if listed:
+                lines.append(",".join(["rot", str(spins[spin])] + [str(d) for d in listed]))
+        return Instance("\n".join(lines + ["end"]) + "\n", n, joined)
+
+
+def general(draw, most, couplings):
+    """Any planar graph of at most so many spins: a tree, a ring, or a tree with chords, perhaps several of them."""
+    drawing = Drawing(draw)
+    left = draw.randint(1, most)
+    while left > 0:
+        count = left if draw.random() < 0.6 else draw.randint(1, left)
+        shape = draw.choice(["tree", "ring", "chords", "chords", "chords"])
+        spins = drawing.ring(count) if shape == "ring" else drawing.tree(count)
+        for _ in range(draw.randint(1, 2 * count) if shape == "chords" else 0):
+            drawing.chord(spins)
+        left -= count
+    return drawing.instance(couplings)
+
+
 LAWS = {
     "one size": lambda draw: lambda k: draw.choice([1, -1]),
     "with zeros": lambda draw: lambda k: draw.choice([1, 0, -1]),
@@ -51,6 +138,22 @@ def drawn(draw, most):
     least = {"hexagonal": 2, "cylinder": 3}.get(kind, 1)
     rows, cols = draw.randint(1, most), draw.randint(least, max(most, least))
     return lattice(kind, rows, cols, LAWS[draw.choice(list(LAWS))](draw))
+
+
+def least_energy(instance):
+    """The least energy over all assignments, each of which differs from the one before by one spin."""
+    fields = [[] for _ in range(instance.n)]
+    for u, v, j in instance.bonds:
+        fields[u].append((v, j))
+        fields[v].append((u, j))
+    spins = [1] * instance.n
+    energy = least = instance.energy(spins)
+    for step in range(1, 1 << (instance.n - 1)):
+        spin = (step & -step).bit_length() - 1
+        energy += 2 * spins[spin] * sum(j * spins[other] for other, j in fields[spin])
+        spins[spin] = -spins[spin]
+        least = min(least, energy)
+    return least
 
 
 class Result:

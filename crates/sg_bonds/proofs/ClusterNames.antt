@@ -20,29 +20,24 @@ module _ (inst : Ising) (k : ℕ) where
   least_with_once p a b g h =
       level a b (subst (λ x. a ≤ℤ x) h.reached.3 (g.least h.reached.0 h.reached.1 h.reached.2)) (subst (λ x. b ≤ℤ x) g.reached.3 (h.least g.reached.0 g.reached.1 g.reached.2))
 
-  cost_once : (c d : ℤ) → IsCost inst k c → IsCost inst k d → c ≡ d
+  pub cost_once : (c d : ℤ) → IsCost inst k c → IsCost inst k d → c ≡ d
   cost_once c d g h =
       g.apart
       ∙ ap₂ (λ x y. pos (unsigned_abs (y -ℤ x))) (least_with_once (pos 1) g.like h.like g.least_like h.least_like) (least_with_once (negsuc 0) g.unlike h.unlike g.least_unlike h.least_unlike)
       ∙ sym h.apart
 
 -- the costs above 0 are those of the rigid bonds
-has_rigid : (inst : Ising) (costs : List ℤ) (set : List Bool) → AreCosts inst costs → ShowsRigid costs set (length costs) → HasRigid inst (has set)
+pub has_rigid : (inst : Ising) (costs : List ℤ) (set : List Bool) → AreCosts inst costs → ShowsRigid costs set (length costs) → HasRigid inst (has set)
 has_rigid inst costs set right shows b l =
     let below : b < length costs = omega (arith, right.count) in (
       λ (h : has set b ≡ true). (get_or costs b (pos 0), right.each b l, (shows.shown b below).0 h),
       λ (r : IsRigid inst b). (shows.shown b below).1 (subst (λ c. pos 0 <ℤ c) (cost_once inst b r.0 (get_or costs b (pos 0)) r.1 (right.each b l)) r.2),
     )
 
-pub are_clusters : (inst : Ising) (costs : List ℤ) (set : List Bool) (names : List ℕ) → AreCosts inst costs → ShowsRigid costs set (length costs) → AllNamed inst (has set) names → AreClusters inst names
-are_clusters inst costs set names right shows all = record {
+pub are_clusters : (inst : Ising) (set : List Bool) (names : List ℕ) → HasRigid inst (has set) → AllNamed inst (has set) names → AreClusters inst names
+are_clusters inst set names rigid all = record {
   count = all.count;
-  each = λ i l. record {
-    set = has set;
-    rigid = has_rigid inst costs set right shows;
-    reached = (all.each i l).reached;
-    least = (all.each i l).least;
-  };
+  each = λ i l. record { set = has set; rigid = rigid; reached = (all.each i l).reached; least = (all.each i l).least };
 }
 
 -- one cost more

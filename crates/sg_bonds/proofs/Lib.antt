@@ -4,3 +4,9 @@ pub mod CostNumbers
 pub mod ClusterNames
 pub mod Agreement
 pub mod PathBounds
+pub mod SomeCost
+pub mod RigidBounds
+pub mod ToldBonds
+pub mod BondLoads
+pub mod PartCosts
+pub mod JoinedCosts

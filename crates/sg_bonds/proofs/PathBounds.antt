@@ -10,13 +10,10 @@ use Rattle.sg_model.specs.WellFormed.{IsInstance}
 use Rattle.sg_model.specs.Spins.{IsUpOrDown, IsAssignment}
 use Rattle.sg_model.specs.Energy.{IsGroundState, energy, product}
 use Rattle.sg_model.specs.Connected.{IsWalk, Reached}
-use Rattle.sg_sums.specs.Sets.{IsMarked}
-use Rattle.sg_walk.specs.Walk.{IsNoted, IsWalked}
 use Rattle.sg_bonds.specs.Cost.{IsCost}
 use Rattle.sg_bonds.specs.declared.known.Known.{Known}
 use Rattle.sg_bonds.specs.declared.known.Known.TheVariants.{Exact, AtMost, Nothing}
 use Rattle.sg_bonds.specs.Known.{AreKnown, IsMet, IsTrueOf, IsTurned, costs_at_least, is_at_least, known_at}
-use Rattle.sg_sums.proofs.MarkLaws.{none_marked}
 use Rattle.sg_bonds.proofs.Agreement.{Turns, agree_or_turn}
 use Rattle.sg_bonds.proofs.ForcedMinimum.{unit_product}
 use Rattle.sg_bonds.proofs.CostNumbers.{cost_from_other}
@@ -26,7 +23,7 @@ module _ (inst : Ising) (good : IsInstance inst) (s : List ℤ) (ground : IsGrou
   product_at t k = product t (bond_at inst k)
 
   -- an assignment that turns a bond lies at least its cost above the ground state
-  turned_costs : (k : ℕ) (c : ℤ) (t : List ℤ) → IsCost inst k c → IsUpOrDown (product s (bond_at inst k)) → IsAssignment inst t
+  pub turned_costs : (k : ℕ) (c : ℤ) (t : List ℤ) → IsCost inst k c → IsUpOrDown (product s (bond_at inst k)) → IsAssignment inst t
       → product t (bond_at inst k) ≡ neg_ℤ (product s (bond_at inst k)) → (energy inst s +ℤ c) ≤ℤ energy inst t
   turned_costs k c t cost (inl up) h turn =
       let own : energy inst s ≡ cost.like = level (energy inst s) cost.like (subst (λ x. energy inst s ≤ℤ x) cost.least_like.reached.3 (ground.least cost.least_like.reached.0 cost.least_like.reached.1)) (cost.least_like.least s ground.assignment up) in
@@ -134,15 +131,6 @@ nothing_known inst s known fresh = record {
   count = ap length fresh ∙ length-replicate (bond_count inst) Nothing;
   each = λ k l. subst (IsTrueOf inst s k) (sym (ap (λ ns. known_at ns k) fresh ∙ get_or-replicate (bond_count inst) k Nothing Nothing l)) tt;
 }
-
--- from marks that are not set, a walk marks what its root reaches
-pub reached_by_walk : (inst : Ising) (set : ℕ → Bool) (root x n : ℕ) (old now : List Bool) (order : List ℕ)
-    → old ≡ replicate n false → IsWalked inst set root old now order → get_or now x false ≡ true → Reached inst set root x
-reached_by_walk inst set root x n old now order fresh walked marked = by_noted (walked.noted x marked)
-  where
-    by_noted : IsMarked old x ⊎ IsNoted order x → Reached inst set root x
-    by_noted (inl before) = absurd (none_marked n x (subst (λ ms. IsMarked ms x) fresh before))
-    by_noted (inr (k, l, e)) = subst (Reached inst set root) e (walked.reached k l)
 
 -- a path over one set of bonds is one over a set that has them too
 pub reached_over : (inst : Ising) (set more : ℕ → Bool) → ((k : ℕ) → k < bond_count inst → set k ≡ true → more k ≡ true) → (a b : ℕ)

@@ -2,3 +2,5 @@ pub mod Cost
 pub mod Cluster
 pub mod Naming
 pub mod Known
+pub mod Told
+pub mod Loads

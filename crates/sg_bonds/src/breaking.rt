@@ -14,18 +14,8 @@ use sg_ground::{Answer, solve};
 use sg_planar::Planar;
 use std::alloc::Global;
 
-/// The cost of each bond. The only error is want of memory.
-///
-/// A bond is forced by a coupling, in a copy, that is larger than the sum of all sizes, and the new
-/// ground state tells the least energy with the product that the ground state at hand does not have.
-/// Few bonds have to be forced. Each such state turns many bonds, and its energy bounds their costs
-/// from above. And where other bonds, each of which costs at least so much, lead from one end of a
-/// bond to the other, the bond costs at least so much too: who turns it turns one of them. So the
-/// bond with the largest bound is asked first, and where the two bounds meet, nothing is solved.
-///
-/// Cost: in practice about one ground state for each spin, and at most one for each bond and one
-/// more; beside them a walk over the bonds for each bond.
-pub fn costs(alloc: Global, planar: &Planar) -> Result<CostList, NoMemory>
+/// The costs in one component.
+pub(crate) fn part_costs(alloc: Global, planar: &Planar) -> Result<CostList, NoMemory>
     requires sum { weight planar.now.instance ≤ sum_limit }
     ensures { IfOk result (AreCosts planar.now.instance) }
 {
@@ -87,8 +77,13 @@ fn settle(
     Ok(())
 }
 
-// A state of least energy among those that turn the bond, and so the cost of the bond.
-fn turn(alloc: Global, planar: &Planar, least: &Answer, bond: u32) -> Result<Turned, NoMemory>
+/// A state of least energy among those that turn the bond, and so the cost of the bond.
+pub(crate) fn turn(
+    alloc: Global,
+    planar: &Planar,
+    least: &Answer,
+    bond: u32,
+) -> Result<Turned, NoMemory>
     requires sum { weight planar.now.instance ≤ sum_limit }
     requires bond_in { bond < bond_count planar.now.instance }
     requires ground_state { IsGroundState planar.now.instance least.now.spins }

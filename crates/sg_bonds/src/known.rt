@@ -48,8 +48,8 @@ pub(crate) fn widest(known: &[Known]) -> Option<usize>
     found
 }
 
-// Whether the two have different products at the bond.
-fn is_turned(least: &Spins, turned: &Spins, bond: &Bond) -> bool
+/// Whether the two have different products at the bond.
+pub(crate) fn is_turned(least: &Spins, turned: &Spins, bond: &Bond) -> bool
     requires first { IsBond (length least.now) bond.now }
     requires second { IsBond (length turned.now) bond.now }
     ensures { result ≡ true → product turned.now bond.now ≡ neg_ℤ (product least.now bond.now) }

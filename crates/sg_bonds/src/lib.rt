@@ -11,13 +11,17 @@
 #![tactic(auto)]
 
 mod breaking;
+mod components;
 mod forcing;
 mod known;
 mod law;
 mod naming;
 mod paths;
+mod room;
+mod telling;
 
-pub use breaking::{costs, rigid};
+pub use breaking::rigid;
+pub use components::costs;
 pub use law::{forced_minimum, rigid_clusters_agree};
 pub use naming::{clusters, clusters_by};
 use sg_list::Numbers;

@@ -1,26 +1,31 @@
 ghost use Rattle.std.specs.Prelude.{◌≡◌, ◌≤◌, length, IfOk};
 ghost use Rattle.sg_limits.specs.Limits.{sum_limit};
+ghost use Rattle.sg_model.specs.Ising.{bond_count};
 ghost use Rattle.sg_model.specs.Energy.{weight};
 ghost use Rattle.sg_bonds.specs.Cost.{AreCosts};
-ghost use Rattle.sg_bonds.specs.Cluster.{AreClusters};
+ghost use Rattle.sg_bonds.specs.Cluster.{AreClusters, HasRigid};
+ghost use Rattle.sg_walk.specs.Walk.{has};
 ghost use Rattle.sg_bonds.specs.Naming.{ShowsRigid};
 
 use super::NoMemory;
-use super::breaking::{costs, rigid};
+use super::breaking::rigid;
+use super::telling::rigid_marks;
 use sg_model::{ClusterList, Instance};
 use sg_planar::Planar;
 use sg_walk::names;
 use std::alloc::Global;
 
 /// For each spin the least spin of its cluster, those that it reaches over rigid bonds, itself
-/// among them: in the time of `costs`, and then linear in the spins and bonds. The only error is
-/// want of memory.
+/// among them. Which bonds are rigid is found without their costs. The only error is want of memory.
+///
+/// Cost: at most one ground state for each bond and one more, in practice far fewer; beside them a
+/// walk over the bonds for each bond.
 pub fn clusters(alloc: Global, planar: &Planar) -> Result<ClusterList, NoMemory>
     requires sum { weight planar.now.instance ≤ sum_limit }
     ensures { IfOk result (AreClusters planar.now.instance) }
 {
-    let costs = costs(alloc, planar)?;
-    clusters_by(alloc, planar.instance(), costs.as_slice())
+    let set = rigid_marks(alloc, planar)?;
+    name_clusters(alloc, planar.instance(), &set)
 }
 
 /// The same, where the cost of each bond is known already: in time linear in the spins and bonds. The
@@ -30,7 +35,16 @@ pub fn clusters_by(alloc: Global, inst: &Instance, costs: &[i64]) -> Result<Clus
     ensures { IfOk result (AreClusters inst.now) }
 {
     let set = rigid_set(alloc, costs)?;
-    let names = names(alloc, inst, &set)?;
+    name_clusters(alloc, inst, &set)
+}
+
+// The clusters by the set of the rigid bonds.
+fn name_clusters(alloc: Global, inst: &Instance, set: &[bool]) -> Result<ClusterList, NoMemory>
+    requires count { length set.now ≡ bond_count inst.now }
+    requires rigid { HasRigid inst.now (has set.now) }
+    ensures { IfOk result (AreClusters inst.now) }
+{
+    let names = names(alloc, inst, set)?;
     Ok(ClusterList::from_vec(names))
 }
 

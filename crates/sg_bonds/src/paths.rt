@@ -51,8 +51,13 @@ fn at_least(alloc: Global, known: &[Known], bound: i64) -> Result<Vec<bool>, NoM
     Ok(set)
 }
 
-// Whether bonds of the set lead from one end of the bond to the other.
-fn joins(alloc: Global, inst: &Instance, set: &[bool], bond: u32) -> Result<bool, NoMemory>
+/// Whether bonds of the set lead from one end of the bond to the other.
+pub(crate) fn joins(
+    alloc: Global,
+    inst: &Instance,
+    set: &[bool],
+    bond: u32,
+) -> Result<bool, NoMemory>
     requires count { length set.now ≡ bond_count inst.now }
     requires bond_in { bond < bond_count inst.now }
     ensures { IfOk result (λ joined. joined ≡ true →

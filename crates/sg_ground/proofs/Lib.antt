@@ -8,3 +8,4 @@ pub mod Glued
 pub mod PlacedValues
 pub mod PartLists
 pub mod Gluing
+pub mod WalkedSpins

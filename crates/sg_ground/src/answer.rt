@@ -8,6 +8,7 @@ ghost use Rattle.sg_planar.specs.Parts.{AreParts};
 ghost use Rattle.sg_ground.specs.Solution.{IsSolution};
 
 use super::NoMemory;
+use super::connection::is_connected;
 use super::matched::match_faces;
 use super::placed::{place_loops, place_values, spins_of};
 use super::proposed::judged_proposal;
@@ -34,7 +35,8 @@ pub struct Answer {
 /// which packing, is not said. The only error is want of memory.
 ///
 /// Cost: that of `judged_proposal` on each component, and where that has no answer that of
-/// `match_faces` too; and linear in the instance and the answer for all components together.
+/// `match_faces` too; and linear in the instance and the answer for all components together. An
+/// instance that is connected is solved as it is, without a copy.
 pub fn solve(alloc: Global, planar: &Planar) -> Result<Answer, NoMemory>
     ensures proves { IfOk result
         (λ a. Proves planar.now.instance a.spins a.energy a.loops) }
@@ -44,15 +46,18 @@ pub fn solve(alloc: Global, planar: &Planar) -> Result<Answer, NoMemory>
     ensures energy { IfOk result (λ a. a.energy ≡ energy planar.now.instance a.spins) }
     ensures size { IfOk result (λ a. unsigned_abs a.energy ≤ weight planar.now.instance) }
 {
-    solve_parts(alloc, planar)
+    solve_all(alloc, planar)
 }
 
-// The solutions of all components, put together.
-fn solve_parts(alloc: Global, planar: &Planar) -> Result<Answer, NoMemory>
+// The instance as it is where it is connected, and else the solutions of all components, put together.
+fn solve_all(alloc: Global, planar: &Planar) -> Result<Answer, NoMemory>
     ensures solution { IfOk result (λ a. IsSolution planar.now.instance a.spins a.energy a.loops) }
     ensures planar { IsPlanar planar.now }
 {
     let inst = planar.instance();
+    if is_connected(alloc, inst)? {
+        return solve_part(alloc, planar);
+    }
     let list = parts(alloc, planar)?;
     join_parts(alloc, inst, list.as_slice())
 }

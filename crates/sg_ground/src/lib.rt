@@ -7,7 +7,8 @@
 //! with an odd number of frustrated ones is bounded by bonds of which every assignment breaks one.
 //!
 //! An instance falls into components that share no bond. Each is solved by itself: energies add, and
-//! the loops of all components together prove their sum.
+//! the loops of all components together prove their sum. A walk from spin 0 tells whether there is
+//! one component alone, which is then solved as it is.
 //!
 //! For the next engineer: `solve` is the call that matters, and what is built on it rests on its
 //! contract and on nothing of its body. For each part it first asks the proposer of `sg_regions`, of
@@ -20,6 +21,7 @@
 #![tactic(auto)]
 
 mod answer;
+mod connection;
 mod matched;
 mod placed;
 mod proposed;

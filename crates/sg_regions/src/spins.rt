@@ -1,26 +1,11 @@
 // The spins that break given bonds.
 use super::NoMemory;
-use super::adjacency::Adjacency;
 use super::lists::{entry, is_set, set_entry};
-use sg_graph::Edge;
 use sg_model::{Bond, Instance, Spins};
 use std::alloc::Global;
 
 // What is not known of a spin yet.
 const UNKNOWN: i8 = 0;
-
-// The spins and bonds of an instance as nodes and edges.
-fn spin_adjacency(alloc: Global, inst: &Instance) -> Result<Adjacency, NoMemory> {
-    let mut edges = Vec::with_capacity(alloc, inst.bonds().len())?;
-    for bond in inst.bonds().as_slice() {
-        edges.push(Edge {
-            a: bond.u,
-            b: bond.v,
-            w: 0,
-        })?;
-    }
-    Adjacency::new(alloc, inst.n(), &edges)
-}
 
 // Whether the ends of a bond are unlike.
 fn is_unlike(bonds: &[Bond], broken: &[bool], bond: u32) -> bool {
@@ -30,26 +15,43 @@ fn is_unlike(bonds: &[Bond], broken: &[bool], bond: u32) -> bool {
     }
 }
 
+// The darts that leave a spin.
+fn darts_of(inst: &Instance, spin: u32) -> &[u32] {
+    match inst.rotation().as_slice().get(spin as usize) {
+        Some(darts) => darts.as_slice(),
+        None => &[],
+    }
+}
+
+// The spin that a dart leads to.
+fn head(bonds: &[Bond], dart: u32) -> u32 {
+    match entry(bonds, dart / 2) {
+        Some(Bond { u, v, j: _ }) => { if dart % 2 == 0 { v } else { u } }
+        None => u32::MAX,
+    }
+}
+
 // Gives each unknown neighbour of a spin its value, and notes it.
 fn spread(
-    bonds: &[Bond],
-    adjacency: &Adjacency,
+    inst: &Instance,
     broken: &[bool],
     spin: u32,
     values: &mut [i8],
     open: &mut Vec<u32>,
 ) -> Result<(), NoMemory> {
+    let bonds = inst.bonds().as_slice();
     let value = entry(values, spin).unwrap_or(1);
-    for arc in adjacency.arcs_of(spin) {
-        if entry(values, arc.to) == Some(UNKNOWN) {
+    for dart in darts_of(inst, spin) {
+        let to = head(bonds, *dart);
+        if entry(values, to) == Some(UNKNOWN) {
             let turned = if value == 1 { -1 } else { 1 };
-            let other = if is_unlike(bonds, broken, arc.edge) {
+            let other = if is_unlike(bonds, broken, *dart / 2) {
                 turned
             } else {
                 value
             };
-            set_entry(values, arc.to, other);
-            open.push(arc.to)?;
+            set_entry(values, to, other);
+            open.push(to)?;
         }
     }
     Ok(())
@@ -57,7 +59,6 @@ fn spread(
 
 // Values from spin 0 on, which is up; those that no bond leads to stay unknown.
 fn values(alloc: Global, inst: &Instance, broken: &[bool]) -> Result<Vec<i8>, NoMemory> {
-    let adjacency = spin_adjacency(alloc, inst)?;
     let mut values = vec![in alloc; UNKNOWN; inst.n() as usize]?;
     let mut open = Vec::new(alloc);
     set_entry(&mut values, 0, 1);
@@ -66,8 +67,7 @@ fn values(alloc: Global, inst: &Instance, broken: &[bool]) -> Result<Vec<i8>, No
         let Some(spin) = open.pop() else {
             break;
         };
-        let bonds = inst.bonds().as_slice();
-        spread(bonds, &adjacency, broken, spin, &mut values, &mut open)?;
+        spread(inst, broken, spin, &mut values, &mut open)?;
     }
     Ok(values)
 }

@@ -4,7 +4,7 @@ use Rattle.sg_model.specs.Ising.{bond_at}
 use Rattle.sg_model.specs.Connected.{Reached}
 use Rattle.sg_walk.specs.Walk.{has}
 use Rattle.sg_bonds.proofs.CostNumbers.{read_bond}
-use Rattle.sg_bonds.proofs.PathBounds.{reached_by_walk}
+use Rattle.sg_ground.proofs.WalkedSpins.{reached_by_walk}
 use Rattle.sg_bonds.proofs.paths.leads_across.Goals as goal
 
 pub returns : goal.returns

@@ -15,11 +15,11 @@ Solves inst a = IsSolution inst a.spins a.energy a.loops
 pub returns-clause-ground_state : goal.returns-clause-ground_state
 returns-clause-ground_state c =
     let inst : Ising = c.args.planar.now.instance in
-    IfOk-weaker c.solve_parts.result (Solves inst) (λ (a : Answer). IsGroundState inst a.spins)
-    (λ (a : Answer) h. ground_state_from_solution inst c.solve_parts.ensures.planar.instance a.spins a.energy a.loops h) c.solve_parts.ensures.solution
+    IfOk-weaker c.solve_all.result (Solves inst) (λ (a : Answer). IsGroundState inst a.spins)
+    (λ (a : Answer) h. ground_state_from_solution inst c.solve_all.ensures.planar.instance a.spins a.energy a.loops h) c.solve_all.ensures.solution
 
 pub returns-clause-size : goal.returns-clause-size
 returns-clause-size c =
     let inst : Ising = c.args.planar.now.instance in
-    IfOk-weaker c.solve_parts.result (Solves inst) (λ (a : Answer). unsigned_abs a.energy ≤ weight inst)
-    (λ (a : Answer) h. size_from_solution inst c.solve_parts.ensures.planar.instance a.spins a.energy a.loops h) c.solve_parts.ensures.solution
+    IfOk-weaker c.solve_all.result (Solves inst) (λ (a : Answer). unsigned_abs a.energy ≤ weight inst)
+    (λ (a : Answer) h. size_from_solution inst c.solve_all.ensures.planar.instance a.spins a.energy a.loops h) c.solve_all.ensures.solution

@@ -1,0 +1,210 @@
+-- What a bond costs in its component it costs in the whole: the least energies of the other bonds cancel.
+use Rattle.std.proofs.Common.{inl, inr, ◌≡◌, ◌≢◌, ◌⊎◌, ℕ, zero, suc, ◌+◌, ◌-◌, ◌*◌, ◌<◌, ◌≤◌, ℤ, pos, negsuc, ◌+ℤ◌, ◌-ℤ◌, ◌*ℤ◌, ◌≤ℤ◌, Bool, true, false, cond, List, map, take, set, refl, sym, ◌∙◌, ap, ap₂, subst, arith, sum_by, length, get_or, All}
+use Rattle.std.specs.Prelude.{unsigned_abs}
+use Rattle.std.specs.List.Sorted.{IsStrictlyIncreasing}
+use Rattle.std.proofs.lemmas.Bool.{cases_Bool, false≢true, false_from_ne_true}
+use Rattle.std.proofs.lemmas.Int.{ints}
+use Rattle.std.proofs.lemmas.List.{get_or-map, length-map, take_all}
+use Rattle.std.proofs.lemmas.List.Elements.{All-from_get_or}
+use Rattle.sg_sums.specs.Sums.{sum_below}
+use Rattle.sg_sums.specs.Sets.{holds}
+use Rattle.sg_sums.proofs.ListLaws.{cases_in}
+use Rattle.sg_sums.proofs.MemberSums.{members_sum}
+use Rattle.sg_sums.proofs.SumLaws.{sum_below-add, sum_below-same, sum_by_is_sum_below}
+use Rattle.sg_model.specs.Ising.{Ising, IsBond, bond_at, bond_count}
+use Rattle.sg_model.specs.WellFormed.{IsInstance}
+use Rattle.sg_model.specs.Connected.{JoinedBy, Reached, all_bonds}
+use Rattle.sg_model.specs.Spins.{IsAssignment, IsUpOrDown, spin}
+use Rattle.sg_model.specs.Energy.{IsGroundState, energy, product, weight}
+use Rattle.sg_model.proofs.BrokenEnergy.{broken_cost, energy_from_costs, unit_at}
+use Rattle.sg_model.proofs.Paths.{reached_more}
+use Rattle.sg_planar.specs.declared.components.Part.{Part}
+use Rattle.sg_planar.specs.Parts.{IsPart}
+use Rattle.sg_ground.specs.Placed.{HasValues, Writes, numbered}
+use Rattle.sg_ground.proofs.Glued.{cost_at, size_at}
+use Rattle.sg_ground.proofs.PartLists.{first_inside, holds_at, second_inside, share_of_part}
+use Rattle.sg_ground.proofs.PlacedValues.{written_more}
+use Rattle.sg_ground.proofs.Shares.{IsShare, costs_over, weights_over}
+use Rattle.sg_bonds.specs.Cost.{IsCost, IsLeastWith}
+use Rattle.sg_bonds.proofs.SomeCost.{some_ground_state}
+
+-- values can be written to rising places
+some_written : (places : List ℕ) (part old : List ℤ) → IsStrictlyIncreasing places → All (λ x. x < length old) places → length part ≡ length places →
+    (i : ℕ) → i ≤ length places → (now : List ℤ) × Writes (take i places) part old now
+some_written places part old up below count zero l = (old, record { count = refl; values = λ k m. absurd (omega (arith, m)); others = λ x out. refl })
+some_written places part old up below count (suc i) l =
+    let (now, was) = some_written places part old up below count i (omega (arith, l)) in
+    let next : i + 1 ≡ suc i = omega arith in (
+      set now (get_or places i 0) (get_or part i (pos 0)),
+      subst (λ j. Writes (take j places) part old (set now (get_or places i 0) (get_or part i (pos 0)))) next
+          (written_more places part old now i (get_or part i (pos 0)) up below count (omega (arith, l)) refl was),
+    )
+
+module _ (inst : Ising) (good : IsInstance inst) (least : ℕ) (p : Part) (is : IsPart inst least p) where
+  share : IsShare inst p.spins p.bonds p.planar.instance
+  share = share_of_part inst least p is
+
+  abbrev whole_cost : List ℤ → ℕ
+  whole_cost t = sum_by (broken_cost t) inst.bonds
+
+  abbrev part_cost : List ℤ → ℕ
+  part_cost q = sum_by (broken_cost q) p.planar.instance.bonds
+
+  -- what the bonds outside the part cost
+  abbrev outside : List ℤ → ℕ
+  outside t = sum_below (λ k. cond (holds p.bonds k) 0 (cost_at inst t k)) (bond_count inst)
+
+  -- the whole costs what the part and the other bonds cost
+  split : (t q : List ℤ) → HasValues p.spins t q → whole_cost t ≡ part_cost q + outside t
+  split t q values =
+      let inside : sum_below (λ k. cond (holds p.bonds k) (cost_at inst t k) 0) (bond_count inst) ≡ sum_by (cost_at inst t) p.bonds =
+      members_sum (cost_at inst t) p.bonds (bond_count inst) share.bonds_below share.bonds_rise in
+      let here : sum_by (cost_at inst t) p.bonds ≡ part_cost q = costs_over inst p.spins p.bonds p.planar.instance share t q values in
+      let all : whole_cost t ≡ sum_below (cost_at inst t) (bond_count inst) = sum_by_is_sum_below (broken_cost t) inst.bonds (record { u = 0; v = 0; j = pos 0 }) in
+      let apart : sum_below (λ k. cond (holds p.bonds k) (cost_at inst t k) 0 + cond (holds p.bonds k) 0 (cost_at inst t k)) (bond_count inst) ≡
+      sum_below (λ k. cond (holds p.bonds k) (cost_at inst t k) 0) (bond_count inst) + outside t =
+      sum_below-add (λ k. cond (holds p.bonds k) (cost_at inst t k) 0) (λ k. cond (holds p.bonds k) 0 (cost_at inst t k)) (bond_count inst) in
+      let same : sum_below (cost_at inst t) (bond_count inst) ≡
+      sum_below (λ k. cond (holds p.bonds k) (cost_at inst t k) 0 + cond (holds p.bonds k) 0 (cost_at inst t k)) (bond_count inst) =
+      sum_below-same (cost_at inst t) (λ k. cond (holds p.bonds k) (cost_at inst t k) 0 + cond (holds p.bonds k) 0 (cost_at inst t k)) (bond_count inst)
+      (λ k l. either (holds p.bonds k) (cost_at inst t k)) in
+      omega (arith, all, same, apart, inside, here)
+    where
+      either : (b : Bool) (c : ℕ) → c ≡ cond b c 0 + cond b 0 c
+      either true c = omega arith
+      either false c = omega arith
+
+  -- the values that the whole gives to the spins of the part
+  abbrev values_in : List ℤ → List ℤ
+  values_in t = map (spin t) p.spins
+
+  in_place : (t : List ℤ) → HasValues p.spins t (values_in t)
+  in_place t i l = sym (get_or-map (spin t) p.spins i 0 (pos 1) l)
+
+  part_assignment : (t : List ℤ) → IsAssignment inst t → IsAssignment p.planar.instance (values_in t)
+  part_assignment t h = record {
+    count = length-map p.spins (spin t) ∙ sym share.spin_count;
+    values = All-from_get_or IsUpOrDown (values_in t) (pos 1) (λ i l. (
+        let low : i < length p.spins = omega (arith, l, length-map p.spins (spin t)) in
+        subst IsUpOrDown (in_place t i low) (unit_at inst t h (numbered p.spins i) (share.spins_below i 0 low))));
+  }
+
+  -- an assignment of the whole with other values in the part
+  record Changed (t q : List ℤ) : Type 0 where
+    now : List ℤ
+    writes : Writes p.spins q t now
+    assignment : IsAssignment inst now
+
+  change : (t q : List ℤ) → IsAssignment inst t → IsAssignment p.planar.instance q → Changed t q
+  change t q h u =
+      let (now, some) = some_written p.spins q t share.spins_rise (λ i d l. omega (arith, share.spins_below i d l, h.count)) (omega (arith, u.count, share.spin_count)) (length p.spins) (omega arith) in
+      let writes : Writes p.spins q t now = subst (λ places. Writes places q t now) (take_all (length p.spins) p.spins (omega arith)) some in
+      record {
+        now = now;
+        writes = writes;
+        assignment = record {
+          count = writes.count ∙ h.count;
+          values = All-from_get_or IsUpOrDown now (pos 1) (λ x l. by_place now writes x (omega (arith, l, writes.count, h.count)) (cases_in p.spins x));
+        };
+      }
+    where
+      by_place : (now : List ℤ) → Writes p.spins q t now → (x : ℕ) → x < inst.n →
+          ((i : ℕ) × (i < length p.spins) × (get_or p.spins i 0 ≡ x) × (holds p.spins x ≡ true)) ⊎
+          (((i : ℕ) → i < length p.spins → get_or p.spins i 0 ≢ x) × (holds p.spins x ≡ false)) → IsUpOrDown (spin now x)
+      by_place now writes x l (inl (i, m, same, held)) =
+          subst IsUpOrDown (sym (ap (spin now) (sym same) ∙ writes.values i m)) (unit_at p.planar.instance q u i (omega (arith, m, share.spin_count)))
+      by_place now writes x l (inr (out, none)) = subst IsUpOrDown (sym (writes.others x none)) (unit_at inst t h x l)
+
+  joins : (k : ℕ) → k < bond_count inst → IsBond inst.n (bond_at inst k)
+  joins k l = good.joined k (record { u = 0; v = 0; j = pos 0 }) l
+
+  -- a bond that is not one of the part has no spin of it
+  first_out : (k : ℕ) → k < bond_count inst → holds p.bonds k ≡ false → holds p.spins (bond_at inst k).u ≡ false
+  first_out k l out = false_from_ne_true (holds p.spins (bond_at inst k).u) (λ h. false≢true (sym out ∙ (is.bonds k).1 (l, h)))
+
+  second_out : (k : ℕ) → k < bond_count inst → holds p.bonds k ≡ false → holds p.spins (bond_at inst k).v ≡ false
+  second_out k l out =
+      false_from_ne_true (holds p.spins (bond_at inst k).v)
+      (λ h. (let back : JoinedBy inst all_bonds (bond_at inst k).v (bond_at inst k).u = record { bond = k; below = l; in_set = refl; ends = inr (refl, refl) } in
+      false≢true (sym (first_out k l out) ∙ (is.spins (bond_at inst k).u).1
+      ((joins k l).first_end, reached_more inst all_bonds least (bond_at inst k).v (bond_at inst k).u ((is.spins (bond_at inst k).v).0 h).1 back))))
+
+  same_outside : (t q now : List ℤ) → Writes p.spins q t now → outside now ≡ outside t
+  same_outside t q now writes =
+      sum_below-same (λ k. cond (holds p.bonds k) 0 (cost_at inst now k)) (λ k. cond (holds p.bonds k) 0 (cost_at inst t k)) (bond_count inst)
+      (λ k l. each k l (cases_Bool (holds p.bonds k)))
+    where
+      each : (k : ℕ) → k < bond_count inst → (holds p.bonds k ≡ true) ⊎ (holds p.bonds k ≡ false) →
+          cond (holds p.bonds k) 0 (cost_at inst now k) ≡ cond (holds p.bonds k) 0 (cost_at inst t k)
+      each k l (inl held) = rw held refl
+      each k l (inr out) = rw (writes.others (bond_at inst k).u (first_out k l out), writes.others (bond_at inst k).v (second_out k l out)) refl
+
+  -- the energy of the whole by that of the part
+  pub energy_split : (t q : List ℤ) → IsAssignment inst t → IsAssignment p.planar.instance q → HasValues p.spins t q →
+      energy inst t ≡ energy p.planar.instance q +ℤ ((pos (outside t) +ℤ pos (weight p.planar.instance)) -ℤ pos (weight inst))
+  energy_split t q h u values =
+      added (energy inst t) (energy p.planar.instance q) (whole_cost t) (part_cost q) (outside t) (weight inst) (weight p.planar.instance)
+      (energy_from_costs inst t good h) (energy_from_costs p.planar.instance q share.good u) (split t q values)
+    where
+      added : (e f : ℤ) (c a o w v : ℕ) → e ≡ pos c -ℤ pos w → f ≡ pos a -ℤ pos v → c ≡ a + o → e ≡ f +ℤ ((pos o +ℤ pos v) -ℤ pos w)
+      added e f c a o w v g k l = omega (arith, ints)
+
+  module _ (g : List ℤ) (ground : IsGroundState inst g) where
+    -- a ground state has the least outside
+    least_outside : (t : List ℤ) → IsAssignment inst t → outside g ≤ outside t
+    least_outside t h =
+        let changed : Changed t (values_in g) = change t (values_in g) h (part_assignment g ground.assignment) in
+        less (energy inst g) (energy inst changed.now) (energy p.planar.instance (values_in g)) (outside g) (outside t) (outside changed.now) (weight inst) (weight p.planar.instance)
+        (energy_split g (values_in g) ground.assignment (part_assignment g ground.assignment) (in_place g))
+        (energy_split changed.now (values_in g) changed.assignment (part_assignment g ground.assignment) changed.writes.values)
+        (same_outside t (values_in g) changed.now changed.writes) (ground.least changed.now changed.assignment)
+      where
+        less : (e f a : ℤ) (o u n w v : ℕ) → e ≡ a +ℤ ((pos o +ℤ pos v) -ℤ pos w) → f ≡ a +ℤ ((pos n +ℤ pos v) -ℤ pos w) → n ≡ u → e ≤ℤ f → o ≤ u
+        less e f a o u n w v h k same l = omega (arith, ints)
+
+    abbrev others : ℤ
+    others = (pos (outside g) +ℤ pos (weight p.planar.instance)) -ℤ pos (weight inst)
+
+    module _ (i : ℕ) (l : i < length p.bonds) where
+      same_product : (t q : List ℤ) → HasValues p.spins t q → product t (bond_at inst (numbered p.bonds i)) ≡ product q (bond_at p.planar.instance i)
+      same_product t q values =
+          let joined : IsBond p.planar.instance.n (bond_at p.planar.instance i) = share.good.joined i (record { u = 0; v = 0; j = pos 0 }) (omega (arith, l, share.bond_counts)) in
+          ap₂ (λ x y. x *ℤ y)
+          (ap (spin t) (sym (share.first_end i l)) ∙ values (bond_at p.planar.instance i).u (omega (arith, joined.first_end, share.spin_count)))
+          (ap (spin t) (sym (share.second_end i l)) ∙ values (bond_at p.planar.instance i).v (omega (arith, joined.second_end, share.spin_count)))
+
+      least_with_in : (x e : ℤ) → IsLeastWith p.planar.instance i x e → IsLeastWith inst (numbered p.bonds i) x (e +ℤ others)
+      least_with_in x e h =
+          let (q, u, has, value) = h.reached in
+          let changed : Changed g q = change g q ground.assignment u in record {
+            reached = (
+              changed.now,
+              changed.assignment,
+              same_product changed.now q changed.writes.values ∙ has,
+              energy_split changed.now q changed.assignment u changed.writes.values
+                  ∙ ap₂ (λ a o. a +ℤ ((pos o +ℤ pos (weight p.planar.instance)) -ℤ pos (weight inst))) value (same_outside g q changed.now changed.writes),
+            );
+            least = λ t a same.
+                less (energy inst t) (energy p.planar.instance (values_in t)) e (outside t) (outside g) (weight inst) (weight p.planar.instance)
+                (energy_split t (values_in t) a (part_assignment t a) (in_place t))
+                (h.least (values_in t) (part_assignment t a) (sym (same_product t (values_in t) (in_place t)) ∙ same)) (least_outside t a);
+          }
+        where
+          less : (f a e : ℤ) (u o w v : ℕ) → f ≡ a +ℤ ((pos u +ℤ pos v) -ℤ pos w) → e ≤ℤ a → o ≤ u → (e +ℤ ((pos o +ℤ pos v) -ℤ pos w)) ≤ℤ f
+          less f a e u o w v h k l = omega (arith, ints)
+
+      cost_in : (c : ℤ) → IsCost p.planar.instance i c → IsCost inst (numbered p.bonds i) c
+      cost_in c cost = record {
+        like = cost.like +ℤ others;
+        unlike = cost.unlike +ℤ others;
+        least_like = least_with_in (pos 1) cost.like cost.least_like;
+        least_unlike = least_with_in (negsuc 0) cost.unlike cost.least_unlike;
+        apart = cost.apart ∙ ap (λ d. pos (unsigned_abs d)) (cancel cost.unlike cost.like others);
+      }
+        where
+          cancel : (a b d : ℤ) → a -ℤ b ≡ (a +ℤ d) -ℤ (b +ℤ d)
+          cancel a b d = omega (arith, ints)
+
+  -- a cost of the part is one of the whole
+  pub part_costs : (i : ℕ) → i < length p.bonds → (c : ℤ) → IsCost p.planar.instance i c → IsCost inst (numbered p.bonds i) c
+  part_costs i l c cost = let (g, ground) = some_ground_state inst good in cost_in g ground i l c cost
