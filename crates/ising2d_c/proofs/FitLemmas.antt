@@ -1,5 +1,5 @@
 -- From an instance that some numbers give to what a study of it answers.
-use Rattle.std.proofs.Common.{◌≡◌, ◌≢◌, ◌⊎◌, ℕ, List, [], Ok, Err, IfOk, IfErr, sym, subst, inl, inr}
+use Rattle.std.proofs.Common.{◌≡◌, ◌⊎◌, ℕ, List, [], Ok, Err, IfOk, IfErr, sym, subst, inl, inr}
 use Rattle.std.specs.Prelude.{IsErrAnd, IsOkAnd, Result, Option}
 use Rattle.sg_model.specs.Ising.{Ising}
 use Rattle.sg_model.specs.declared.refusal.Fault.{Fault}
@@ -7,34 +7,12 @@ use Rattle.sg_model.specs.declared.refusal.Fault.TheVariants.{Refused}
 use Rattle.sg_model.specs.declared.refusal.Refusal.{Refusal}
 use Rattle.sg_model.specs.declared.refusal.Refusal.TheVariants.{NoSeam}
 use Rattle.sg_reader.specs.Tests.{IsTestFault}
-use Rattle.sg_planar.specs.Fit.{Embedding, IsFit, IsUnfitFault}
+use Rattle.sg_planar.specs.Fit.{Embedding}
 use Rattle.ising2d_c.specs.Fitting.{Finds, IsFitFault, IsFitOf, IsProofFault, IsWallFault}
 use Rattle.ising2d_c.specs.Refusing.{IsTold, IsToldFault}
 
 module _ (Given : Ising → Type 0) (Fails : Fault → Type 0) where
-  -- an instance that is fit, and why there is none
-  pub fit-given : (given : Result Ising Fault) (fit : Result Embedding Fault) → IfOk given Given
-      → IfOk fit (λ p. IsOkAnd given (λ inst. (p.instance ≡ inst) × IsFit inst)) → IfOk fit (λ p. IsFitOf Given p.instance)
-  fit-given (Ok inst) (Ok p) gives is = record { given = subst Given (sym is.0) gives; fit = subst IsFit (sym is.0) is.1 }
-  fit-given (Err e) (Ok p) gives is = absurd is
-  fit-given given (Err e) gives is = tt
-
-  pub fit-refused : (given : Result Ising Fault) (fit : Result Embedding Fault) → IfOk given Given → IfErr given Fails
-      → IfErr fit (λ fault. IsErrAnd given (λ e. fault ≡ e) ⊎ IsOkAnd given (λ inst. IsUnfitFault inst fault))
-      → IfErr fit (IsFitFault Given Fails)
-  fit-refused given (Ok p) gives fails why = tt
-  fit-refused (Ok inst) (Err fault) gives fails (inl why) = absurd why
-  fit-refused (Ok inst) (Err fault) gives fails (inr why) = inr (inst, gives, why)
-  fit-refused (Err e) (Err fault) gives fails (inl why) = inl (subst Fails (sym why) fails)
-  fit-refused (Err e) (Err fault) gives fails (inr why) = absurd why
-
-  -- the same where a seam is wanted
-  pub seam-given : (fit cut : Result Embedding Fault) → IfOk fit (λ p. IsFitOf Given p.instance)
-      → IfOk cut (λ q. IsOkAnd fit (λ p. (q ≡ p) × (p.instance.seam ≢ []))) → IfOk cut (λ q. IsFitOf Given q.instance)
-  seam-given (Ok p) (Ok q) gives is = subst (λ (e : Embedding). IsFitOf Given e.instance) (sym is.0) gives
-  seam-given (Err e) (Ok q) gives is = absurd is
-  seam-given fit (Err e) gives is = tt
-
+  -- why there is no instance with a seam
   pub seam-refused : (fit cut : Result Embedding Fault) → IfOk fit (λ p. IsFitOf Given p.instance) → IfErr fit (IsFitFault Given Fails)
       → IfErr cut (λ fault. IsErrAnd fit (λ e. fault ≡ e) ⊎ IsOkAnd fit (λ p. (p.instance.seam ≡ []) × (fault ≡ Refused NoSeam)))
       → IfErr cut (IsWallFault Given Fails)
@@ -43,17 +21,6 @@ module _ (Given : Ising → Type 0) (Fails : Fault → Type 0) where
   seam-refused (Ok p) (Err fault) gives fails (inr why) = inr (p.instance, gives, why.0, why.1)
   seam-refused (Err e) (Err fault) gives fails (inl why) = inl (subst (IsFitFault Given Fails) (sym why) fails)
   seam-refused (Err e) (Err fault) gives fails (inr why) = absurd why
-
-pub seam-there : (fit cut : Result Embedding Fault) → IfOk cut (λ q. IsOkAnd fit (λ p. (q ≡ p) × (p.instance.seam ≢ [])))
-    → IfOk cut (λ q. q.instance.seam ≢ [])
-seam-there (Ok p) (Ok q) is = subst (λ (e : Embedding). e.instance.seam ≢ []) (sym is.0) is.1
-seam-there (Err e) (Ok q) is = absurd is
-seam-there fit (Err e) is = tt
-
--- that an instance is fit
-pub is-fit : (Given : Ising → Type 0) (given : Result Embedding Fault) → IfOk given (λ p. IsFitOf Given p.instance) → IfOk given (λ p. IsFit p.instance)
-is-fit Given (Ok p) gives = gives.fit
-is-fit Given (Err e) gives = tt
 
 -- what was found of it
 pub finds : (Given Study : Ising → Type 0) (given : Result Embedding Fault) → IfOk given (λ p. Given p.instance)

@@ -1,20 +1,15 @@
 -- The tests of the numbers of a general graph, and what holds of the bonds that pass them.
-use Rattle.std.proofs.Common.{◌≡◌, ℕ, ◌+◌, ◌*◌, ◌<◌, ◌≤◌, ◌^◌, ℤ, pos, Bool, true, false, None, Some, arith, List, All, map, length, refl, ap, sym, ◌∙◌, subst}
-use Rattle.std.specs.Prelude.{◌&&◌, ◌==◌, min, nat_lt, not, Option, option_map, unsigned_abs}
-use Rattle.std.specs.List.{range_with_len}
-use Rattle.std.specs.Option.{option_or}
-use Rattle.std.proofs.lemmas.Bool.{eq-eqb, le-ltb, lt-ltb, ltb-true, ne_eqb, not_from_false, not_from_true}
+use Rattle.std.proofs.Common.{◌≡◌, ℕ, ◌+◌, ◌*◌, ◌<◌, ◌^◌, ℤ, pos, true, false, None, Some, arith, List, All, length, sym, subst}
+use Rattle.std.specs.Prelude.{nat_lt, not, unsigned_abs}
+use Rattle.std.proofs.lemmas.Bool.{eq-eqb, ltb-true, ne_eqb, not_from_false, not_from_true}
 use Rattle.std.proofs.lemmas.List.Elements.{All-from_get_or}
 use Rattle.std.proofs.lemmas.List.FromFn.{get_or-map-range_with_len, length-map-range_with_len}
-use Rattle.sg_limits.specs.Limits.{bond_limit, spin_limit}
 use Rattle.sg_model.specs.declared.bond.Bond.{Bond}
-use Rattle.sg_model.specs.declared.refusal.Refusal.{Refusal}
-use Rattle.sg_model.specs.declared.refusal.Refusal.TheVariants.{BadMember, SelfBond, TooManyBonds, TooManySpins}
 use Rattle.sg_model.specs.Ising.{IsBond}
 use Rattle.sg_json.proofs.Lists.{both}
-use Rattle.sg_reader.proofs.TestLaws.{find_range-none, find_range-some, is-not, is-other}
-use Rattle.ising2d_c.specs.Starts.{entry, starts_fault}
-use Rattle.ising2d_c.specs.Graphs.{bond_by, bonds_by, bonds_fault, coupling, ends_fault, first_bad, first_self, graph_fault, is_bond, is_self, spins_fault}
+use Rattle.sg_reader.proofs.TestLaws.{find_range-none, find_range-some}
+use Rattle.ising2d_c.specs.Starts.{entry}
+use Rattle.ising2d_c.specs.Graphs.{bond_by, bonds_by, coupling, first_bad, first_self, is_bond, is_self}
 
 -- the first bond that does not join two spins
 module _ (n : ℕ) (ends : List ℕ) (couplings : List ℤ) where
@@ -26,17 +21,6 @@ module _ (n : ℕ) (ends : List ℕ) (couplings : List ℤ) where
 
   pub bad-none : ((i : ℕ) → i < length couplings → is_bond n ends couplings i ≡ true) → first_bad n ends couplings ≡ None
   bad-none all = find_range-none (λ i. not (is_bond n ends couplings i)) 0 (length couplings) (λ i l u. not_from_true _ (all i (omega (arith, u))))
-
-  -- the tests of the ends, one behind the other
-  pub other_ends : (length ends ≡ 2 * length couplings → ⊥) → ends_fault n ends couplings ≡ Some (BadMember 7 0)
-  other_ends other = rw (is-other (length ends) (2 * length couplings) other) refl
-
-  pub by_bond : (k : ℕ) → length ends ≡ 2 * length couplings → first_bad n ends couplings ≡ Some k
-      → ends_fault n ends couplings ≡ Some (BadMember 7 (min k 4294967295))
-  by_bond k count bad = rw (is-not (length ends) (2 * length couplings) count, bad) refl
-
-  pub ends-pass : length ends ≡ 2 * length couplings → first_bad n ends couplings ≡ None → ends_fault n ends couplings ≡ None
-  ends-pass count bad = rw (is-not (length ends) (2 * length couplings) count, bad) refl
 
   -- a bond that passes, between different spins
   pub bond-joins : (k : ℕ) → is_bond n ends couplings k ≡ true → (entry ends (2 * k) ≡ entry ends (2 * k + 1) → ⊥) → IsBond n (bond_by ends couplings k)
@@ -69,33 +53,3 @@ module _ (ends : List ℕ) (bonds : ℕ) where
 
   pub self-none : ((i : ℕ) → i < bonds → entry ends (2 * i) ≡ entry ends (2 * i + 1) → ⊥) → first_self ends bonds ≡ None
   self-none apart = find_range-none (is_self ends) 0 bonds (λ i l u. ne_eqb _ _ (apart i (omega (arith, u))))
-
-  -- the tests of the bonds, one behind the other
-  pub many_bonds : bond_limit < bonds → bonds_fault ends bonds ≡ Some (TooManyBonds (bond_limit + 1))
-  many_bonds many = rw (lt-ltb bond_limit bonds many) refl
-
-  pub by_self : (k : ℕ) → bonds ≤ bond_limit → first_self ends bonds ≡ Some k → bonds_fault ends bonds ≡ Some (SelfBond k)
-  by_self k few self = rw (le-ltb bond_limit bonds few, self) refl
-
-  pub bonds-pass : bonds ≤ bond_limit → first_self ends bonds ≡ None → bonds_fault ends bonds ≡ None
-  bonds-pass few self = rw (le-ltb bond_limit bonds few, self) refl
-
--- the tests of the graph, one behind the other
-one-test : (test : Option Refusal) → option_or test None ≡ test
-one-test None = refl
-one-test (Some refusal) = refl
-
-module _ (n : ℕ) (ends : List ℕ) (couplings : List ℤ) (starts darts : List ℕ) where
-  pub by_spins : (r : Refusal) → spins_fault n ≡ Some r → graph_fault n ends couplings starts darts ≡ Some r
-  by_spins r spins = rw spins refl
-
-  pub by_ends : (r : Refusal) → spins_fault n ≡ None → ends_fault n ends couplings ≡ Some r → graph_fault n ends couplings starts darts ≡ Some r
-  by_ends r spins bad = rw (spins, bad) refl
-
-  pub by_starts : (r : Refusal) → spins_fault n ≡ None → ends_fault n ends couplings ≡ None → starts_fault 8 starts n (length darts) ≡ Some r
-      → graph_fault n ends couplings starts darts ≡ Some r
-  by_starts r spins fit bad = rw (spins, fit, bad) refl
-
-  pub by_bonds : spins_fault n ≡ None → ends_fault n ends couplings ≡ None → starts_fault 8 starts n (length darts) ≡ None
-      → graph_fault n ends couplings starts darts ≡ bonds_fault ends (length couplings)
-  by_bonds spins fit division = rw (spins, fit, division) (one-test (bonds_fault ends (length couplings)))

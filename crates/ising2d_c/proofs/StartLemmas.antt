@@ -1,5 +1,5 @@
 -- Items that starts divide, one behind the other.
-use Rattle.std.proofs.Common.{◌≡◌, ℕ, zero, suc, ◌+◌, ◌-◌, ◌<◌, ◌≤◌, false, None, Some, arith, List, [], ◌∷◌, ◌++◌, refl, ap, sym, ◌∙◌, map, flat_map, length, take, drop, get_or, inl, inr}
+use Rattle.std.proofs.Common.{◌≡◌, ℕ, zero, suc, ◌+◌, ◌-◌, ◌<◌, ◌≤◌, false, None, Some, arith, List, [], ◌∷◌, ◌++◌, ap, sym, ◌∙◌, map, flat_map, length, take, drop, inl, inr}
 use Rattle.std.specs.List.{range_with_len}
 use Rattle.std.proofs.lemmas.Bool.{cases_eq, le-ltb, lt-ltb}
 use Rattle.std.proofs.lemmas.List.{append-nil, length-append, length-take-le, take-append-le, take_all}
@@ -7,9 +7,8 @@ use Rattle.std.proofs.lemmas.List.FromFn.{get_or-map-range_with_len, length-map-
 use Rattle.std.proofs.lemmas.Grind.{flat_map-append, same_number_lists}
 use Rattle.std.proofs.Math.Seq.{take-add, take-length}
 use Rattle.ising2d_c.specs.Crossing.{IsJoined, entries_before}
-use Rattle.sg_model.specs.declared.refusal.Refusal.TheVariants.{BadMember}
-use Rattle.sg_reader.proofs.TestLaws.{find_range-none, find_range-some, is-not, is-other}
-use Rattle.ising2d_c.specs.Starts.{IsDivision, entry, falls, first_fall, starts_fault}
+use Rattle.sg_reader.proofs.TestLaws.{find_range-none, find_range-some}
+use Rattle.ising2d_c.specs.Starts.{IsDivision, entry, falls, first_fall}
 
 -- no start is above the number of all entries
 pub below_last : (starts : List ℕ) (items entries gap k : ℕ) → IsDivision starts items entries → k + gap ≡ items → entry starts k ≤ entries
@@ -28,14 +27,6 @@ pub record IsFront {A : Type 0} (entries : A → List ℕ) (items : List A) (sta
   pub count : length items ≡ k
   pub begun : (j : ℕ) → j ≤ k → entry starts j ≡ entries_before entries items j
   pub bound : flat_map entries items ≡ take (entry starts k) joined
-
-pub no_items : {A : Type 0} (entries : A → List ℕ) (items : List A) (starts joined : List ℕ) → items ≡ [] → entry starts 0 ≡ 0
-    → IsFront entries items starts joined 0
-no_items {A} entries items starts joined empty first = rw empty (let f : IsFront {A = A} entries [] starts joined 0 = record {
-  count = refl;
-  begun = λ j low. let e : j ≡ 0 = omega (arith, low) in rw e first;
-  bound = rw first refl;
-} in f)
 
 -- one item more
 pub one_item : {A : Type 0} (entries : A → List ℕ) (items : List A) (starts joined : List ℕ) (n k : ℕ) (x : A)
@@ -108,25 +99,3 @@ fall-some starts k low high rises fall =
 pub fall-none : (starts : List ℕ) → ((i : ℕ) → i + 1 < length starts → entry starts i ≤ entry starts (i + 1)) → first_fall starts ≡ None
 fall-none starts rises =
     find_range-none (falls starts) 1 (length starts - 1) (λ i l u. no_fall starts i l (rises (i - 1) (omega (arith, l, u))))
-
--- the tests of starts, one behind the other
-module _ (place : ℕ) (starts : List ℕ) (items entries : ℕ) where
-  pub other_count : (length starts ≡ items + 1 → ⊥) → starts_fault place starts items entries ≡ Some (BadMember place 0)
-  other_count other = rw (is-other (length starts) (items + 1) other) refl
-
-  pub other_first : length starts ≡ items + 1 → (entry starts 0 ≡ 0 → ⊥) → starts_fault place starts items entries ≡ Some (BadMember place 0)
-  other_first count other = rw (is-not (length starts) (items + 1) count, is-other (entry starts 0) 0 other) refl
-
-  pub by_fall : (k : ℕ) → length starts ≡ items + 1 → entry starts 0 ≡ 0 → first_fall starts ≡ Some k
-      → starts_fault place starts items entries ≡ Some (BadMember place k)
-  by_fall k count first fall = rw (is-not (length starts) (items + 1) count, is-not (entry starts 0) 0 first, fall) refl
-
-  pub other_last : length starts ≡ items + 1 → entry starts 0 ≡ 0 → first_fall starts ≡ None → (entry starts items ≡ entries → ⊥)
-      → starts_fault place starts items entries ≡ Some (BadMember place items)
-  other_last count first fall other =
-      rw (is-not (length starts) (items + 1) count, is-not (entry starts 0) 0 first, fall, is-other (entry starts items) entries other) refl
-
-  pub divides : length starts ≡ items + 1 → entry starts 0 ≡ 0 → first_fall starts ≡ None → entry starts items ≡ entries
-      → starts_fault place starts items entries ≡ None
-  divides count first fall last =
-      rw (is-not (length starts) (items + 1) count, is-not (entry starts 0) 0 first, fall, is-not (entry starts items) entries last) refl

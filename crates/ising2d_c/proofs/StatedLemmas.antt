@@ -1,21 +1,14 @@
 -- The tests of the numbers that state a proof.
 use Rattle.std.proofs.Common.{◌≡◌, ℕ, ◌+◌, ◌<◌, ◌≤◌, ℤ, pos, true, false, None, Some, arith, List, [], ◌∷◌, ◌++◌, get_or, length, map, take, refl, ap, sym, ◌∙◌}
-use Rattle.std.specs.Prelude.{not, Option}
-use Rattle.std.specs.Option.{option_or}
-use Rattle.std.proofs.lemmas.Bool.{le-ltb, lt-ltb, not_from_false, not_from_true}
+use Rattle.std.specs.Prelude.{not}
+use Rattle.std.proofs.lemmas.Bool.{le-ltb, not_from_false, not_from_true}
 use Rattle.std.proofs.lemmas.List.{map-append, take_more}
 use Rattle.sg_check.specs.declared.packing.Loop.{Loop}
 use Rattle.sg_limits.specs.Limits.{input_limit}
-use Rattle.sg_model.specs.declared.refusal.Refusal.{Refusal}
-use Rattle.sg_model.specs.declared.refusal.Refusal.TheVariants.{BadMember, TooLong}
+use Rattle.sg_model.specs.declared.refusal.Refusal.TheVariants.{BadMember}
 use Rattle.sg_reader.specs.Result.{is_spin_value}
 use Rattle.sg_reader.proofs.TestLaws.{find_range-none, find_range-some}
-use Rattle.ising2d_c.specs.Starts.{starts_fault}
-use Rattle.ising2d_c.specs.Stated.{first_bad_spin, loops_fault, stated_fault, value, values_fault}
-
-one-test : (test : Option Refusal) → option_or test None ≡ test
-one-test None = refl
-one-test (Some refusal) = refl
+use Rattle.ising2d_c.specs.Stated.{first_bad_spin, value, values_fault}
 
 -- the first value that is no spin
 module _ (values : List ℤ) where
@@ -29,28 +22,11 @@ module _ (values : List ℤ) where
   spin-none all =
       find_range-none (λ i. not (is_spin_value (Some (value values i)))) 0 (length values) (λ i l u. not_from_true _ (all i (omega (arith, u))))
 
-  pub many_values : input_limit < length values → values_fault values ≡ Some (TooLong input_limit)
-  many_values many = rw (lt-ltb input_limit (length values) many) refl
-
   pub by_value : (k : ℕ) → length values ≤ input_limit → first_bad_spin values ≡ Some k → values_fault values ≡ Some (BadMember 10 k)
   by_value k few bad = rw (le-ltb input_limit (length values) few, bad) refl
 
   pub values-pass : length values ≤ input_limit → first_bad_spin values ≡ None → values_fault values ≡ None
   values-pass few bad = rw (le-ltb input_limit (length values) few, bad) refl
-
--- the tests of the loops, and all tests
-pub many_loops : (loops : ℕ) (starts : List ℕ) (bonds : ℕ) → input_limit < loops → loops_fault loops starts bonds ≡ Some (TooLong input_limit)
-many_loops loops starts bonds many = rw (lt-ltb input_limit loops many) refl
-
-pub few_loops : (loops : ℕ) (starts : List ℕ) (bonds : ℕ) → loops ≤ input_limit → loops_fault loops starts bonds ≡ starts_fault 11 starts loops bonds
-few_loops loops starts bonds few = rw (le-ltb input_limit loops few) (one-test (starts_fault 11 starts loops bonds))
-
-pub by_values : (spins weights : List ℤ) (starts bonds : List ℕ) (r : Refusal) → values_fault spins ≡ Some r → stated_fault spins weights starts bonds ≡ Some r
-by_values spins weights starts bonds r bad = rw bad refl
-
-pub by_loops : (spins weights : List ℤ) (starts bonds : List ℕ) → values_fault spins ≡ None
-    → stated_fault spins weights starts bonds ≡ loops_fault (length weights) starts (length bonds)
-by_loops spins weights starts bonds pass = rw pass (one-test (loops_fault (length weights) starts (length bonds)))
 
 -- the weight of one loop more
 pub weights_more : (loops : List Loop) (each : Loop) (weights : List ℤ) (k : ℕ) → k < length weights → map (λ l. l.y) loops ≡ take k weights

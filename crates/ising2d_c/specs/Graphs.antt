@@ -2,8 +2,8 @@
 use Rattle.std.specs.Prelude.{◌≡◌, ◌⊎◌, ℕ, ℤ, pos, ◌+◌, ◌*◌, ◌^◌, min, ◌==◌, ◌&&◌, Bool, not, nat_lt, unsigned_abs}
 use Rattle.std.specs.Prelude.{Option, None, option_map, find, List, [], ◌∷◌, length, map, slice_index_or}
 use Rattle.std.specs.List.{range_with_len}
-use Rattle.sg_limits.specs.Limits.{bond_limit, spin_limit}
-use Rattle.sg_model.specs.Ising.{IsBond, Ising}
+use Rattle.sg_limits.specs.Limits.{bond_limit}
+use Rattle.sg_model.specs.Ising.{Ising}
 use Rattle.sg_model.specs.WellFormed.{IsInstance}
 use Rattle.sg_model.specs.Faults.{IsFaultOf}
 use Rattle.sg_model.specs.declared.bond.Bond.{Bond}
@@ -13,7 +13,7 @@ use Rattle.sg_model.specs.declared.refusal.Refusal.TheVariants.{BadMember, SelfB
 use Rattle.sg_reader.specs.Tests.{IsTestFault, first_of, refuse_if}
 use Rattle.sg_json.specs.Members.{many_fault}
 use Rattle.ising2d_c.specs.Crossing.{IsJoined}
-use Rattle.ising2d_c.specs.Starts.{IsDivision, entry, starts_fault}
+use Rattle.ising2d_c.specs.Starts.{entry, starts_fault}
 
 -- coupling k, and 0 past the last
 abbrev pub coupling : List ℤ → ℕ → ℤ

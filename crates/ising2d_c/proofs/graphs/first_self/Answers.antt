@@ -1,4 +1,4 @@
-use Rattle.std.proofs.Common.{rules, ◌≡◌, ◌+◌, ◌*◌, ◌<◌, ℕ, arith, sym}
+use Rattle.std.proofs.Common.{rules, ◌≡◌, ◌+◌, ◌*◌, arith, sym}
 use Rattle.ising2d_c.specs.Starts.{entry}
 use Rattle.ising2d_c.proofs.GraphLemmas.{self-none, self-some}
 use Rattle.ising2d_c.proofs.graphs.first_self.Goals as goal

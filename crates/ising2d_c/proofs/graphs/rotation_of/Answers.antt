@@ -1,6 +1,5 @@
-use Rattle.std.proofs.Common.{rules, ◌≡◌, ◌+◌, ◌-◌, ◌<◌, arith, List, ℕ, length}
-use Rattle.ising2d_c.specs.Starts.{entry}
-use Rattle.ising2d_c.proofs.StartLemmas.{IsFront, all_items, below_last, one_item}
+use Rattle.std.proofs.Common.{◌≡◌, ◌+◌, ◌-◌, arith, List, ℕ, length}
+use Rattle.ising2d_c.proofs.StartLemmas.{all_items, below_last, one_item}
 use Rattle.ising2d_c.proofs.graphs.rotation_of.Goals as goal
 
 pub entries_of-requires-clause-last : goal.entries_of-requires-clause-last

@@ -1,4 +1,4 @@
-use Rattle.std.proofs.Common.{rules, ◌≡◌, ◌-◌, ◌<◌, arith, sym}
+use Rattle.std.proofs.Common.{rules, ◌-◌, ◌<◌, arith, sym}
 use Rattle.ising2d_c.specs.Starts.{entry}
 use Rattle.ising2d_c.proofs.StartLemmas.{fall-none, fall-some}
 use Rattle.ising2d_c.proofs.starts.first_fall.Goals as goal

@@ -1,4 +1,4 @@
-use Rattle.std.proofs.Common.{◌≡◌, ◌∙◌, ◌+◌, ◌-◌, arith, ap, sym, length, map, take, ℤ, List}
+use Rattle.std.proofs.Common.{◌≡◌, ◌∙◌, ◌+◌, ◌-◌, arith, ap, sym, length, take}
 use Rattle.std.proofs.Math.Seq.{take-length}
 use Rattle.sg_check.specs.declared.packing.Loop.{Loop}
 use Rattle.ising2d_c.proofs.StartLemmas.{all_items, below_last, one_item}
