@@ -15,15 +15,41 @@
  *
  * Status. 0: answered. 1: refused; the line that says why stands in `line`, as the program prints it:
  * "refused,", the number of the refusal and the numbers that it keeps, and a line feed. 128 bytes are
- * room enough. 6: the memory is wanting. After 1 and 6 no result is written. What else stands in
- * a line is said in docs/FORMATS.md; an array of numbers is refused as the JSON member of its name:
+ * room enough for every line. 3, of a check alone: the proof fails. 6: the memory is wanting. After 1
+ * and 6 no result is written. docs/FORMATS.md says what each refusal means; an array of numbers is
+ * refused as the JSON member of its name. The tests of a lattice, in this order:
  *
- *   19,1,0  the kind is none                      7,n  more than 2048 spins
- *   19,3,0  there are no rows                     6,found,wanted  the number of couplings is another
- *   19,4,0  too few columns                       13,sum  the couplings' sizes sum to more than 2^44
- *   19,6,k  coupling k is -2^63                   16   a wall is asked for, and the seam is empty
+ *   19,1,0  the kind is none
+ *   19,3,0  there are no rows
+ *   19,4,0  too few columns
+ *   7,n     more than 2048 spins
+ *   6,found,wanted  the number of couplings is another
+ *   19,6,k  coupling k is -2^63
  *
- * tested in this order: 19,1  19,3  19,4  7  6  19,6  13  16.
+ * of a general graph:
+ *
+ *   19,5,0  there are no spins
+ *   7,n     more than 2048 spins
+ *   19,7,0  there are not two ends for each coupling
+ *   19,7,k  an end of bond k is no spin, or its coupling is -2^63
+ *   19,8,k  start k of the darts is wrong: it is not 0 at first, less than the one in front of it, or
+ *           not the number of darts at last; 19,8,0 where there are not n + 1
+ *   8,6145  more than 6144 bonds
+ *   9,k     both ends of bond k are the same spin
+ *   10,spin,dart  the darts of a spin are not those that leave it, each once
+ *   11,bond  an entry of the seam is no bond, or stands there twice
+ *
+ * behind these, but not for a check:
+ *
+ *   13,sum  the couplings' sizes sum to more than 2^44
+ *   15,euler  the graph is not drawn on a sphere
+ *   16      a wall is asked for, and the seam is empty
+ *
+ * and for a check, of the proof:
+ *
+ *   1,536870912  more spins or loops than that
+ *   19,10,k  the value of spin k is neither 1 nor -1
+ *   19,11,k  start k of the loops is wrong, as above
  */
 #ifndef ISING2D_H
 #define ISING2D_H
@@ -41,7 +67,7 @@ extern "C" {
 #define ISING2D_HEXAGONAL 2
 #define ISING2D_CYLINDER 3
 
-/* The status of a call. USAGE, NO and NO_WORDS come from ising2d_c_run alone. */
+/* The status of a call. USAGE and NO_WORDS come from ising2d_c_run alone, NO from it and from a check. */
 #define ISING2D_DONE 0
 #define ISING2D_REFUSED 1
 #define ISING2D_USAGE 2
@@ -110,6 +136,80 @@ uint8_t ising2d_c_bonds(uint8_t kind, uint32_t rows, uint32_t cols, const int64_
 uint8_t ising2d_c_clusters(uint8_t kind, uint32_t rows, uint32_t cols, const int64_t *couplings,
                            size_t couplings_len, uint32_t *names, size_t names_room, uint8_t *line,
                            size_t line_room, size_t *line_written);
+
+/*
+ * Judges a proof: whether the spins have the energy, and the loops show that no assignment has less. It
+ * trusts nobody, and asks nothing of the lattice's kind, sum or drawing.
+ *
+ * energy, spins  the least energy that is claimed, and 1 or -1 for each spin that is to have it.
+ * weights, starts, bonds  the loops as ising2d_c_ground hands them out, with one more start than
+ *                weights; starts_len and bonds_len are numbers of entries.
+ * line           room for the line of the verdict, as the program's check prints it: "yes", or "no,",
+ *                the number of the first test that fails, and the numbers that show it (docs/FORMATS.md,
+ *                "Verdicts"); or for that of a refusal. *line_written is its length.
+ *
+ * Returns 0 where the proof holds, 3 where it fails, 1 or 6.
+ */
+uint8_t ising2d_c_check(uint8_t kind, uint32_t rows, uint32_t cols, const int64_t *couplings,
+                        size_t couplings_len, int64_t energy, const int8_t *spins, size_t spins_len,
+                        const int64_t *weights, size_t weights_len, const size_t *starts,
+                        size_t starts_len, const uint32_t *bonds, size_t bonds_len, uint8_t *line,
+                        size_t line_room, size_t *line_written);
+
+/*
+ * The same calls for a general graph, drawn on a sphere (for a check, on any surface).
+ *
+ * n            the number of spins, 1 to 2048, which are numbered from 0.
+ * ends         two spins for each bond: bond k joins ends[2k] and ends[2k + 1]. At most 6144 bonds.
+ * couplings    one for each bond.
+ * dart_starts, darts  the drawing. Bond k has the dart 2k, which leaves its first end, and the dart
+ *              2k + 1, which leaves its second. The darts that leave spin i, in cyclic order, are
+ *              darts[dart_starts[i]] to darts[dart_starts[i + 1] - 1]; there are n + 1 starts.
+ * seam         the bonds whose signs are changed for the wall, none of them twice; perhaps none.
+ *
+ * All lengths are numbers of entries. The results are as above, with n spins and couplings_len costs.
+ */
+uint8_t ising2d_c_graph_ground(uint32_t n, const uint32_t *ends, size_t ends_len,
+                               const int64_t *couplings, size_t couplings_len,
+                               const size_t *dart_starts, size_t dart_starts_len,
+                               const uint32_t *darts, size_t darts_len, const uint32_t *seam,
+                               size_t seam_len, int64_t *energy, int8_t *spins, size_t spins_room,
+                               int64_t *weights, size_t weights_room, size_t *starts,
+                               size_t starts_room, uint32_t *bonds, size_t bonds_room,
+                               size_t *loop_count, size_t *loop_bonds, uint8_t *line,
+                               size_t line_room, size_t *line_written);
+
+uint8_t ising2d_c_graph_wall(uint32_t n, const uint32_t *ends, size_t ends_len,
+                             const int64_t *couplings, size_t couplings_len,
+                             const size_t *dart_starts, size_t dart_starts_len,
+                             const uint32_t *darts, size_t darts_len, const uint32_t *seam,
+                             size_t seam_len, int64_t *periodic, int64_t *antiperiodic,
+                             int64_t *difference, uint8_t *line, size_t line_room,
+                             size_t *line_written);
+
+uint8_t ising2d_c_graph_bonds(uint32_t n, const uint32_t *ends, size_t ends_len,
+                              const int64_t *couplings, size_t couplings_len,
+                              const size_t *dart_starts, size_t dart_starts_len,
+                              const uint32_t *darts, size_t darts_len, const uint32_t *seam,
+                              size_t seam_len, int64_t *costs, size_t costs_room, uint8_t *line,
+                              size_t line_room, size_t *line_written);
+
+uint8_t ising2d_c_graph_clusters(uint32_t n, const uint32_t *ends, size_t ends_len,
+                                 const int64_t *couplings, size_t couplings_len,
+                                 const size_t *dart_starts, size_t dart_starts_len,
+                                 const uint32_t *darts, size_t darts_len, const uint32_t *seam,
+                                 size_t seam_len, uint32_t *names, size_t names_room,
+                                 uint8_t *line, size_t line_room, size_t *line_written);
+
+uint8_t ising2d_c_graph_check(uint32_t n, const uint32_t *ends, size_t ends_len,
+                              const int64_t *couplings, size_t couplings_len,
+                              const size_t *dart_starts, size_t dart_starts_len,
+                              const uint32_t *darts, size_t darts_len, const uint32_t *seam,
+                              size_t seam_len, int64_t energy, const int8_t *spins,
+                              size_t spins_len, const int64_t *weights, size_t weights_len,
+                              const size_t *starts, size_t starts_len, const uint32_t *bonds,
+                              size_t bonds_len, uint8_t *line, size_t line_room,
+                              size_t *line_written);
 
 #ifdef __cplusplus
 }

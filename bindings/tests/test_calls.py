@@ -4,10 +4,11 @@ text form, and wrong sizes and values on each argument."""
 import os
 import random
 import unittest
+from array import array
 from pathlib import Path
 
 import ising2d
-from ising2d import Graph, Loop, Refusal
+from ising2d import Loop, Refusal
 
 EXAMPLES = Path(__file__).resolve().parents[2] / "examples"
 CASES = int(os.environ.get("CASES", "2000"))
@@ -49,6 +50,44 @@ def drawn(source):
     return kind, rows, cols, [source.randint(-size, size) for _ in range(count)]
 
 
+def verdict_by_text(instance, stated):
+    """The verdict that the program's text form gives, or the refusal's number and kept numbers."""
+    energy, spins, loops = stated
+    records = [f"energy,{energy}", ",".join(["spins", *map(str, spins)])]
+    records += [",".join(map(str, ("loop", loop.weight, *loop.bonds))) for loop in loops]
+    found = ising2d.run(["check"], instance + "\n".join(records + ["end", ""]))
+    numbers = [int(field) for field in found.text.strip().split(",")[1:]]
+    assert found.status in (0, 3), found
+    return ising2d.Verdict(numbers[0], tuple(numbers[1:])) if numbers else ising2d.Verdict(0, ())
+
+
+def forged(source, found):
+    """A proof that is perhaps changed in one place."""
+    energy, spins, loops = found.energy, list(found.spins), list(found.loops)
+    change = source.randrange(9)
+    if change == 0:
+        energy += source.choice((-2, 1, 2))
+    elif change == 1:
+        spins[source.randrange(len(spins))] *= -1
+    elif change == 2:
+        spins = spins[:-1] if source.random() < 0.5 else spins + [1]
+    elif change == 3 and loops:
+        loops.pop(source.randrange(len(loops)))
+    elif loops and change < 8:
+        i = source.randrange(len(loops))
+        loop = loops[i]
+        bonds = list(loop.bonds)
+        if change == 4:
+            loops[i] = Loop(loop.weight + source.choice((-3, -1, 1, 2**40)), loop.bonds)
+        elif change == 5:
+            loops[i] = Loop(loop.weight, tuple(bonds[:-1]))
+        elif change == 6:
+            loops[i] = Loop(loop.weight, tuple(bonds + [source.choice((bonds[0], bonds[-1] + 1, 2**32 - 1))]))
+        else:
+            loops[i] = Loop(loop.weight, ())
+    return energy, spins, loops
+
+
 class WorkedExamples(unittest.TestCase):
     def test_each_example_is_answered_as_written(self):
         seen = 0
@@ -79,17 +118,6 @@ class WorkedExamples(unittest.TestCase):
         self.assertEqual(list(ising2d.bonds(*ring)), [14, 18, 14])
         self.assertEqual(list(ising2d.clusters(*ring)), [0, 0, 0])
 
-    def test_a_graph(self):
-        pair = Graph(2, [(0, 1, 7)], [[0], [1]], seam=[0])
-        self.assertEqual(pair.ground().energy, -7)
-        self.assertEqual(pair.wall(), ising2d.Wall(-7, -7, 0))
-        self.assertEqual(pair.costs(), [14])
-        self.assertEqual(pair.clusters(), [0, 0])
-        self.assertTrue(pair.check(-7, [1, 1], []))
-        with self.assertRaises(Refusal) as caught:
-            Graph(2, [(0, 1, 7)], [[1], [2]]).ground()
-        self.assertEqual((caught.exception.number, caught.exception.kept), (10, (0, 1)))
-
 
 class RandomInstances(unittest.TestCase):
     def test_numbers_and_text_agree(self):
@@ -104,6 +132,7 @@ class RandomInstances(unittest.TestCase):
         found = ising2d.ground(*instance)
         self.assertEqual(found.energy, int(rows[0][1]))
         self.assertTrue(ising2d.check(*instance, found.energy, found.spins, found.loops))
+        self.assertEqual(ising2d.ground(*instance, loops=False).energy, found.energy)
         costs = [int(row[2]) for row in rows_of("bonds", instance)[:-1]]
         self.assertEqual(list(ising2d.bonds(*instance)), costs)
         names = [int(row[2]) for row in rows_of("clusters", instance)[:-1]]
@@ -111,6 +140,16 @@ class RandomInstances(unittest.TestCase):
         if instance[0] == "cylinder":
             energies = [int(row[1]) for row in rows_of("wall", instance)[:3]]
             self.assertEqual(ising2d.wall(*instance), ising2d.Wall(*energies))
+
+
+    def test_forged_proofs_are_judged_as_by_text(self):
+        source = random.Random(2)
+        for case in range(CASES):
+            instance = drawn(source)
+            found = ising2d.ground(*instance)
+            stated = forged(source, found)
+            with self.subTest(case=case, instance=instance, stated=stated):
+                self.assertEqual(ising2d.check(*instance, *stated), verdict_by_text(text_of(*instance), stated))
 
 
 class WrongArguments(unittest.TestCase):
@@ -135,6 +174,37 @@ class WrongArguments(unittest.TestCase):
         self.refused(6, (5, 4), "square", 2, 2, [3, 4, 2, -5, 1])
         self.refused(19, (6, 3), "square", 2, 2, [3, 4, 2, -(2**63)])
         self.refused(13, (2**63 + 2,), "square", 2, 2, [2**63 - 1, 1, 1, 1])
+
+    def test_each_argument_of_a_proof(self):
+        spins, loops = [1, 1, -1, -1], [Loop(2, (0, 1, 2, 3))] * 2
+
+        def refused(number, kept, *stated):
+            with self.assertRaises(Refusal) as caught:
+                ising2d.check(*SQUARE, *stated)
+            self.assertEqual((caught.exception.number, caught.exception.kept), (number, kept))
+
+        refused(19, (10, 2), -10, [1, 1, 0, 2], loops)
+        refused(19, (10, 0), -10, [-128, 1, 0, 2], loops)
+        rows = ising2d.ground(*SQUARE).loops
+        weights, starts, bonds = list(rows.weights), list(rows.starts), list(rows.bonds)
+
+        def given(weights, starts, bonds):
+            return ising2d.Loops(array("q", weights), array("Q", starts), array("I", bonds))
+
+        self.assertTrue(ising2d.check(*SQUARE, -10, spins, given(weights, starts, bonds)))
+        refused(19, (11, 0), -10, spins, given(weights, starts[:-1], bonds))
+        refused(19, (11, 0), -10, spins, given(weights[:-1], starts, bonds))
+        refused(19, (11, 0), -10, spins, given([], [], []))
+        refused(19, (11, 0), -10, spins, given(weights, [1, 4, 8], bonds))
+        refused(19, (11, 2), -10, spins, given(weights, [0, 9, 8], bonds))
+        refused(19, (11, 2), -10, spins, given(weights, [0, 2**64 - 1, 8], bonds))
+        refused(19, (11, 2), -10, spins, given(weights, starts, bonds[:-1]))
+        with self.assertRaises(OverflowError):
+            ising2d.check(*SQUARE, 2**63, spins, loops)
+        with self.assertRaises(OverflowError):
+            ising2d.check(*SQUARE, -10, [300, 1, 1, 1], loops)
+        with self.assertRaises(TypeError):
+            ising2d.check(*SQUARE, -10, [1.0, 1, 1, 1], loops)
 
     def test_a_wall_without_a_seam(self):
         with self.assertRaises(Refusal) as caught:

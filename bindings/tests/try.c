@@ -108,6 +108,148 @@ static void try_cylinder(void) {
     expect(names[0] == 0 && names[1] == 0 && names[2] == 0, "one cluster");
 }
 
+/* A copy with room for its entries, and not one more. */
+static void *copy(const void *given, size_t bytes) {
+    void *found = place(bytes);
+    memcpy(found, given, bytes);
+    return found;
+}
+
+/* A proof of the square: its energy, spins, and loops, of which `cut` entries are left out of an array. */
+static void try_check(int64_t energy, const int8_t *spins, size_t spins_len, size_t starts_len,
+                      size_t bonds_len, size_t room, uint8_t wanted, const char *text) {
+    const int64_t given[] = {3, 4, 2, -5}, heavy[] = {2, 2};
+    const size_t begun[] = {0, 4, 8};
+    const uint32_t through[] = {0, 1, 2, 3, 0, 1, 2, 3};
+    int64_t *couplings = copy(given, sizeof given), *weights = copy(heavy, sizeof heavy);
+    int8_t *values = copy(spins, spins_len);
+    size_t *starts = copy(begun, starts_len * sizeof *starts), written = 99;
+    uint32_t *bonds = copy(through, bonds_len * sizeof *bonds);
+    uint8_t *line = place(room);
+    uint8_t status = ising2d_c_check(ISING2D_SQUARE, 2, 2, couplings, 4, energy, values, spins_len,
+                                     weights, 2, starts, starts_len, bonds, bonds_len, line, room,
+                                     &written);
+    size_t fits = room < strlen(text) ? room : strlen(text);
+    expect(status == wanted && written == fits, text);
+    expect(memcmp(line, text, fits) == 0, text);
+    free(couplings), free(weights), free(values), free(starts), free(bonds), free(line);
+}
+
+static void try_checks(void) {
+    const int8_t spins[] = {1, 1, -1, -1, 1}, wrong[] = {1, 1, 2, -1};
+    for (size_t room = 0; room < 12; room++) {
+        try_check(-10, spins, 4, 3, 8, room, ISING2D_DONE, "yes\n");
+        try_check(-9, spins, 4, 3, 8, room, ISING2D_NO, "no,2,-10\n");
+        try_check(-10, wrong, 4, 3, 8, room, ISING2D_REFUSED, "refused,19,10,2\n");
+    }
+    try_check(-10, spins, 3, 3, 8, 128, ISING2D_NO, "no,1,3\n");
+    try_check(-10, spins, 5, 3, 8, 128, ISING2D_NO, "no,1,5\n");
+    try_check(-10, spins, 0, 3, 8, 128, ISING2D_NO, "no,1,0\n");
+    try_check(INT64_MIN, spins, 4, 3, 8, 128, ISING2D_NO, "no,2,-10\n");
+    try_check(-10, spins, 4, 2, 8, 128, ISING2D_REFUSED, "refused,19,11,0\n");
+    try_check(-10, spins, 4, 0, 8, 128, ISING2D_REFUSED, "refused,19,11,0\n");
+    try_check(-10, spins, 4, 3, 7, 128, ISING2D_REFUSED, "refused,19,11,2\n");
+    try_check(-10, spins, 4, 3, 0, 128, ISING2D_REFUSED, "refused,19,11,2\n");
+}
+
+/* The numbers of a graph, each array with a number of entries. */
+struct graph {
+    uint32_t n;
+    uint32_t ends[8];
+    size_t ends_len;
+    int64_t couplings[4];
+    size_t couplings_len;
+    size_t starts[5];
+    size_t starts_len;
+    uint32_t darts[8];
+    size_t darts_len;
+    uint32_t seam[2];
+    size_t seam_len;
+};
+
+/* The square of four spins; its seam is the bond 0. */
+static struct graph square(void) {
+    struct graph found = {
+        4, {0, 1, 2, 3, 0, 2, 1, 3}, 8, {3, 4, 2, -5}, 4, {0, 2, 4, 6, 8}, 5, {0, 4, 1, 6, 2, 5, 3, 7}, 8, {0, 0}, 1,
+    };
+    return found;
+}
+
+/* Each call on a graph: what a wall call writes, and the same status from the others. */
+static void try_graph(const struct graph *given, uint8_t wanted, const char *text) {
+    uint32_t *ends = copy(given->ends, given->ends_len * sizeof *ends);
+    int64_t *couplings = copy(given->couplings, given->couplings_len * sizeof *couplings);
+    size_t *starts = copy(given->starts, given->starts_len * sizeof *starts);
+    uint32_t *darts = copy(given->darts, given->darts_len * sizeof *darts);
+    uint32_t *seam = copy(given->seam, given->seam_len * sizeof *seam);
+    uint8_t *line = place(128);
+    int64_t periodic = 7, antiperiodic = 7, difference = 7, energy = 7;
+    int64_t costs[4] = {7, 7, 7, 7}, weights[9];
+    int8_t spins[4] = {7, 7, 7, 7};
+    size_t loop_starts[10], loop_count = 0, loop_bonds = 0, written = 99;
+    uint32_t names[4] = {7, 7, 7, 7}, bonds[40];
+#define GIVEN                                                                                        \
+    given->n, ends, given->ends_len, couplings, given->couplings_len, starts, given->starts_len, darts, \
+        given->darts_len, seam, given->seam_len
+    uint8_t status = ising2d_c_graph_wall(GIVEN, &periodic, &antiperiodic, &difference, line, 128, &written);
+    expect(status == wanted, text);
+    if (status == ISING2D_DONE) {
+        expect(periodic == -10 && antiperiodic == -14 && difference == -4, "the wall of a graph");
+    } else {
+        expect(written == strlen(text) && memcmp(line, text, written) == 0, text);
+        expect(periodic == 7 && antiperiodic == 7 && difference == 7, "no wall beside a refusal");
+    }
+    uint8_t others = strcmp(text, "refused,16\n") ? wanted : ISING2D_DONE;
+    status = ising2d_c_graph_ground(GIVEN, &energy, spins, 4, weights, 9, loop_starts, 10, bonds, 40,
+                                    &loop_count, &loop_bonds, line, 128, &written);
+    expect(status == others && energy == (others ? 7 : -10), "a ground state of a graph");
+    expect(spins[3] == (others ? 7 : -1), "its spins");
+    status = ising2d_c_graph_bonds(GIVEN, costs, 4, line, 128, &written);
+    expect(status == others && costs[2] == (others ? 7 : 2), "the costs of a graph");
+    status = ising2d_c_graph_clusters(GIVEN, names, 4, line, 128, &written);
+    expect(status == others && names[3] == (others ? 7 : 0), "the clusters of a graph");
+    if (others == ISING2D_DONE) {
+        status = ising2d_c_graph_check(GIVEN, energy, spins, 4, weights, loop_count, loop_starts,
+                                       loop_count + 1, bonds, loop_bonds, line, 128, &written);
+        expect(status == ISING2D_DONE && written == 4, "a proof for a graph");
+    }
+    free(ends), free(couplings), free(starts), free(darts), free(seam), free(line);
+}
+
+#define WITH(change, wanted, text)                                                                     \
+    do {                                                                                               \
+        struct graph other = square();                                                                 \
+        change;                                                                                        \
+        try_graph(&other, wanted, text);                                                               \
+    } while (0)
+
+static void try_graphs(void) {
+    WITH((void)0, ISING2D_DONE, "answered");
+    WITH(other.seam_len = 0, ISING2D_REFUSED, "refused,16\n");
+    WITH(other.n = 0, ISING2D_REFUSED, "refused,19,5,0\n");
+    WITH(other.n = 2049, ISING2D_REFUSED, "refused,7,2049\n");
+    WITH(other.n = UINT32_MAX, ISING2D_REFUSED, "refused,7,4294967295\n");
+    WITH(other.ends_len = 7, ISING2D_REFUSED, "refused,19,7,0\n");
+    WITH(other.ends_len = 0, ISING2D_REFUSED, "refused,19,7,0\n");
+    WITH(other.couplings_len = 3, ISING2D_REFUSED, "refused,19,7,0\n");
+    WITH(other.ends[5] = 4, ISING2D_REFUSED, "refused,19,7,2\n");
+    WITH(other.ends[0] = UINT32_MAX, ISING2D_REFUSED, "refused,19,7,0\n");
+    WITH(other.couplings[3] = INT64_MIN, ISING2D_REFUSED, "refused,19,7,3\n");
+    WITH(other.starts_len = 4, ISING2D_REFUSED, "refused,19,8,0\n");
+    WITH(other.starts_len = 0, ISING2D_REFUSED, "refused,19,8,0\n");
+    WITH(other.starts[0] = 1, ISING2D_REFUSED, "refused,19,8,0\n");
+    WITH(other.starts[2] = 1, ISING2D_REFUSED, "refused,19,8,2\n");
+    WITH(other.starts[3] = SIZE_MAX, ISING2D_REFUSED, "refused,19,8,4\n");
+    WITH(other.starts[4] = SIZE_MAX, ISING2D_REFUSED, "refused,19,8,4\n");
+    WITH(other.darts_len = 7, ISING2D_REFUSED, "refused,19,8,4\n");
+    WITH(other.ends[1] = 0, ISING2D_REFUSED, "refused,9,0\n");
+    WITH(other.darts[3] = 7, ISING2D_REFUSED, "refused,10,1,7\n");
+    WITH(other.darts[3] = UINT32_MAX, ISING2D_REFUSED, "refused,10,1,4294967295\n");
+    WITH(other.seam[0] = 4, ISING2D_REFUSED, "refused,11,4\n");
+    WITH(other.seam_len = 2, ISING2D_REFUSED, "refused,11,0\n");
+    WITH(other.couplings[0] = INT64_MAX, ISING2D_REFUSED, "refused,13,9223372036854775818\n");
+}
+
 int main(void) {
     const int64_t couplings[] = {3, 4, 2, -5}, least[] = {3, 4, INT64_MIN, -5};
     const int64_t large[] = {INT64_MAX, 1, 1, 1};
@@ -131,6 +273,8 @@ int main(void) {
     try_refusal(0, 2, 2, large, 4, 128, "refused,13,9223372036854775810\n");
     try_refusal(0, 2, 2, couplings, 4, 128, "refused,16\n");
     try_cylinder();
+    try_checks();
+    try_graphs();
     puts(failed ? "the calls from C: wrong" : "the calls from C: right");
     return failed;
 }

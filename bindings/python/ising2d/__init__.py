@@ -17,7 +17,6 @@ any sequence of whole numbers is taken. Numbers that give no lattice raise a ``R
 
 from ._calls import (
     Ground,
-    Loop,
     Run,
     Verdict,
     Wall,
@@ -29,12 +28,14 @@ from ._calls import (
     wall,
 )
 from ._graphs import Graph
+from ._loops import Loop, Loops
 from ._refusals import Refusal
 
 __all__ = [
     "Graph",
     "Ground",
     "Loop",
+    "Loops",
     "Refusal",
     "Run",
     "Verdict",

@@ -1,40 +1,34 @@
-"""The calls of the library, for lattices and for texts."""
+"""The calls of the library: on lattices, and on texts."""
 
 import ctypes
 from dataclasses import dataclass
-from typing import Any, Iterable, List, Sequence, Tuple, Union
+from typing import Any, Iterable, Sequence, Tuple, Union
 
-from ._arrays import crossed, front, room, whole_numbers
+from ._arrays import crossed, room, space, whole_numbers
 from ._library import library
+from ._loops import Loop, Loops, rows_of
 from ._refusals import refusal_of
 
 KINDS = ("square", "triangular", "hexagonal", "cylinder")
 
-_DONE, _REFUSED, _USAGE, _NO, _NO_MEMORY, _NO_WORDS = 0, 1, 2, 3, 6, 7
-_LOW, _HIGH = -(2**63), 2**63 - 1
+_DONE, _REFUSED, _NO, _NO_MEMORY = 0, 1, 3, 6
 _UNKNOWN_KIND = 255
 
 
 @dataclass(frozen=True)
-class Loop:
-    """A frustrated loop: its weight, and its bonds in rising order."""
-
-    weight: int
-    bonds: Tuple[int, ...]
-
-
-@dataclass(frozen=True)
 class Ground:
-    """A ground state: its energy, a spin (1 or -1) for each site, and the loops that prove it."""
+    """A ground state: its energy, in the unit of the couplings; an array of shape ``(spins,)`` with 1
+    or -1 for each spin; and the loops that prove it, a sequence of ``Loop``."""
 
     energy: int
     spins: Any
-    loops: List[Loop]
+    loops: Sequence[Loop]
 
 
 @dataclass(frozen=True)
 class Wall:
-    """The least energy, the least energy with the signs of the seam changed, and the difference."""
+    """The least energy, the least energy with the signs of the seam changed, and the second minus the
+    first, in the unit of the couplings."""
 
     periodic: int
     antiperiodic: int
@@ -61,8 +55,8 @@ class Run:
     text: str
 
 
-class _Line:
-    """Room for the line of a refusal."""
+class Line:
+    """Room for the line of a refusal, or of a verdict."""
 
     def __init__(self) -> None:
         self.bytes = ctypes.create_string_buffer(128)
@@ -71,22 +65,31 @@ class _Line:
     def arguments(self) -> Tuple[Any, ...]:
         return ctypes.addressof(self.bytes), len(self.bytes), ctypes.byref(self.written)
 
+    def text(self) -> str:
+        return self.bytes.raw[: self.written.value].decode("ascii")
+
     def judge(self, status: int) -> None:
         """Raises what the status says."""
         if status == _REFUSED:
-            raise refusal_of(self.bytes.raw[: self.written.value].decode("ascii"))
+            raise refusal_of(self.text())
         if status != _DONE:
             raise MemoryError("the library has no memory left")
 
 
-class _Lattice:
+class Lattice:
     """A lattice as it crosses. It keeps its array as long as it lives."""
+
+    ground = library.ising2d_c_ground
+    wall = library.ising2d_c_wall
+    bonds = library.ising2d_c_bonds
+    clusters = library.ising2d_c_clusters
+    check = library.ising2d_c_check
 
     def __init__(self, kind: Union[str, int], rows: int, cols: int, couplings: Iterable[int]) -> None:
         self.kind = _kind_number(kind)
-        self.rows = _in_32_bits(rows, "rows")
-        self.cols = _in_32_bits(cols, "cols")
-        self.couplings = whole_numbers(couplings, _LOW, _HIGH, "couplings")
+        self.rows = in_32_bits(rows, "rows")
+        self.cols = in_32_bits(cols, "cols")
+        self.couplings = whole_numbers(couplings, "int64", "couplings")
 
     def spins(self) -> int:
         """The number of spins, where it is within the limit."""
@@ -102,41 +105,50 @@ def _kind_number(kind: Union[str, int]) -> int:
     return kind if 0 <= kind <= 255 else _UNKNOWN_KIND
 
 
-def _in_32_bits(value: int, what: str) -> int:
+def in_32_bits(value: int, what: str) -> int:
+    """The value, where it is a whole number from 0 to 2**32 - 1."""
     number = value.__index__()
     if not 0 <= number < 2**32:
         raise OverflowError(f"{what} is not from 0 to {2**32 - 1}")
     return number
 
 
-def ground(kind: Union[str, int], rows: int, cols: int, couplings: Iterable[int], loops: bool = True) -> Ground:
+def ground(
+    kind: Union[str, int], rows: int, cols: int, couplings: Iterable[int], loops: bool = True
+) -> Ground:
     """A ground state of a lattice, and the frustrated loops that prove it.
 
-    ``couplings`` has one whole number for each bond. The spins are an array of ``rows * cols`` entries
-    1 or -1, the first of them 1. The weights of the loops sum to the energy plus the sizes of all couplings,
-    and no bond carries more than twice the size of its coupling. With ``loops=False`` none are given.
+    ``couplings`` has one whole number for each bond, of shape ``(bonds,)``, in any unit. The spins are
+    an array of shape ``(rows * cols,)`` with entries 1 or -1, the least of each component 1. The
+    weights of the loops sum to the energy plus the sizes of all couplings, and no bond carries more
+    than twice the size of its coupling. With ``loops=False`` none are given.
 
     Raises ``Refusal`` where the numbers give no lattice, and ``MemoryError``.
     """
-    lattice = _Lattice(kind, rows, cols, couplings)
+    return ground_of(Lattice(kind, rows, cols, couplings), loops)
+
+
+def ground_of(given: Any, loops: bool) -> Ground:
+    """A ground state of a lattice or of a graph."""
     if not loops:
-        return _ground(lattice, (0, 0))[0]
-    wanted = (3 * len(lattice.couplings) + 1, 32 * len(lattice.couplings) + 64)
-    found, needed = _ground(lattice, wanted)
+        return _ground(given, (0, 0))[0]
+    bonds = len(given.couplings)
+    wanted = (5 * bonds // 2 + 1, 32 * bonds + 64)
+    found, needed = _ground(given, wanted)
     if needed[0] > wanted[0] or needed[1] > wanted[1]:
-        found, needed = _ground(lattice, needed)
+        found, needed = _ground(given, needed)
     return found
 
 
-def _ground(lattice: _Lattice, rooms: Tuple[int, int]) -> Tuple[Ground, Tuple[int, int]]:
+def _ground(given: Any, rooms: Tuple[int, int]) -> Tuple[Ground, Tuple[int, int]]:
     """A ground state with as many loops as there is room for, and the rooms that all loops want."""
-    line, energy = _Line(), ctypes.c_int64()
+    line, energy = Line(), ctypes.c_int64()
     counts = ctypes.c_size_t(), ctypes.c_size_t()
-    spins, weights = room("int8", lattice.spins()), room("int64", rooms[0])
-    starts = room("uint64", rooms[0] + 1 if rooms[0] else 0)
-    bonds = room("uint32", rooms[1])
-    status = library.ising2d_c_ground(
-        *lattice.arguments(),
+    spins, weights = room("int8", given.spins()), space("int64", rooms[0])
+    starts = space("uint64", rooms[0] + 1 if rooms[0] else 0)
+    bonds = space("uint32", rooms[1])
+    status = given.ground(
+        *given.arguments(),
         ctypes.byref(energy),
         *crossed(spins),
         *crossed(weights),
@@ -148,60 +160,65 @@ def _ground(lattice: _Lattice, rooms: Tuple[int, int]) -> Tuple[Ground, Tuple[in
     )
     line.judge(status)
     needed = counts[0].value, counts[1].value
-    loops = []
-    if needed[0] <= rooms[0] and needed[1] <= rooms[1]:
-        loops = _loops(needed[0], weights, starts, bonds)
+    count = needed[0] if needed[0] <= rooms[0] and needed[1] <= rooms[1] else 0
+    loops = Loops(weights[:count], starts[: count + 1], bonds[: needed[1]])
     return Ground(energy.value, spins, loops), needed
-
-
-def _loops(count: int, weights: Any, starts: Any, bonds: Any) -> List[Loop]:
-    places = [int(place) for place in front(starts, count + 1)]
-    return [
-        Loop(int(weights[i]), tuple(int(bond) for bond in bonds[places[i] : places[i + 1]]))
-        for i in range(count)
-    ]
 
 
 def wall(kind: Union[str, int], rows: int, cols: int, couplings: Iterable[int]) -> Wall:
     """The energy of the domain wall along a cylinder: what its least energy gains where the signs of the
-    couplings from the last column to the first are changed.
+    couplings from the last column to the first are changed. ``couplings`` as for ``ground``.
 
     Raises ``Refusal``, with the number 16 for the other kinds, and ``MemoryError``.
     """
-    lattice, line = _Lattice(kind, rows, cols, couplings), _Line()
+    return wall_of(Lattice(kind, rows, cols, couplings))
+
+
+def wall_of(given: Any) -> Wall:
+    """The energy of the wall at the seam of a lattice or of a graph."""
+    line = Line()
     energies = ctypes.c_int64(), ctypes.c_int64(), ctypes.c_int64()
-    status = library.ising2d_c_wall(
-        *lattice.arguments(), *(ctypes.byref(energy) for energy in energies), *line.arguments()
+    status = given.wall(
+        *given.arguments(), *(ctypes.byref(energy) for energy in energies), *line.arguments()
     )
     line.judge(status)
     return Wall(*(energy.value for energy in energies))
 
 
 def bonds(kind: Union[str, int], rows: int, cols: int, couplings: Iterable[int]) -> Any:
-    """What it costs to turn each bond, in the unit of the couplings: an array with one entry of 64 bits
-    for each bond. A bond is rigid where it costs more than 0.
+    """What it costs to turn each bond, in the unit of the couplings: an array of shape ``(bonds,)`` with
+    entries of 64 bits. A bond is rigid where it costs more than 0. ``couplings`` as for ``ground``.
 
     Raises ``Refusal`` and ``MemoryError``.
     """
-    lattice, line = _Lattice(kind, rows, cols, couplings), _Line()
-    costs = room("int64", len(lattice.couplings))
-    line.judge(library.ising2d_c_bonds(*lattice.arguments(), *crossed(costs), *line.arguments()))
+    return bonds_of(Lattice(kind, rows, cols, couplings))
+
+
+def bonds_of(given: Any) -> Any:
+    """The cost of each bond of a lattice or of a graph."""
+    line, costs = Line(), room("int64", len(given.couplings))
+    line.judge(given.bonds(*given.arguments(), *crossed(costs), *line.arguments()))
     return costs
 
 
 def clusters(kind: Union[str, int], rows: int, cols: int, couplings: Iterable[int]) -> Any:
-    """For each spin the least spin of its rigid cluster: an array of ``rows * cols`` entries.
+    """For each spin the least spin of its rigid cluster: an array of shape ``(rows * cols,)``.
+    ``couplings`` as for ``ground``.
 
     Raises ``Refusal`` and ``MemoryError``.
     """
-    lattice, line = _Lattice(kind, rows, cols, couplings), _Line()
-    names = room("uint32", lattice.spins())
-    line.judge(library.ising2d_c_clusters(*lattice.arguments(), *crossed(names), *line.arguments()))
+    return clusters_of(Lattice(kind, rows, cols, couplings))
+
+
+def clusters_of(given: Any) -> Any:
+    """The cluster of each spin of a lattice or of a graph."""
+    line, names = Line(), room("uint32", given.spins())
+    line.judge(given.clusters(*given.arguments(), *crossed(names), *line.arguments()))
     return names
 
 
 def check(
-    kind: str,
+    kind: Union[str, int],
     rows: int,
     cols: int,
     couplings: Iterable[int],
@@ -210,31 +227,36 @@ def check(
     loops: Iterable[Loop],
 ) -> Verdict:
     """The verdict on a proof: whether the spins have this energy, and the loops show that no assignment
-    has less. It trusts no solver. It goes by the text form, so the couplings are from -(2**63 - 1) to
-    2**63 - 1.
+    has less. It trusts no solver.
 
-    Raises ``Refusal`` and ``MemoryError``.
+    ``couplings`` as for ``ground``, the energy in their unit, ``spins`` of shape ``(rows * cols,)``
+    with entries 1 or -1, and any loops: those of ``ground`` cross as they are.
+
+    Raises ``Refusal`` where the numbers give no lattice or a value is no spin, and ``MemoryError``.
     """
-    head = f"{kind},{rows},{cols}"
-    return check_text([head, _joined(couplings)], energy, spins, loops)
+    return check_of(Lattice(kind, rows, cols, couplings), energy, spins, loops)
 
 
-def check_text(instance: Sequence[str], energy: int, spins: Iterable[int], loops: Iterable[Loop]) -> Verdict:
-    """The verdict on a proof for an instance of these records."""
-    records = [record for record in instance if record]
-    records += ["end", f"energy,{int(energy)}", f"spins,{_joined(spins)}"]
-    records += [f"loop,{int(loop.weight)},{_joined(loop.bonds)}" for loop in loops]
-    found = run(["check"], "\n".join(records + ["end", ""]))
-    if found.status == _REFUSED:
-        raise refusal_of(found.text)
-    if found.status == _DONE:
-        return Verdict(0, ())
-    numbers = [int(field) for field in found.text.strip().split(",")[1:]]
-    return Verdict(numbers[0], tuple(numbers[1:]))
-
-
-def _joined(values: Iterable[int]) -> str:
-    return ",".join(str(int(value)) for value in values)
+def check_of(given: Any, energy: int, spins: Iterable[int], loops: Iterable[Loop]) -> Verdict:
+    """The verdict on a proof for a lattice or a graph."""
+    line, values, rows = Line(), whole_numbers(spins, "int8", "spins"), rows_of(loops)
+    stated = energy.__index__()
+    if not -(2**63) <= stated < 2**63:
+        raise OverflowError(f"the energy is not from {-(2**63)} to {2**63 - 1}")
+    status = given.check(
+        *given.arguments(),
+        stated,
+        *crossed(values),
+        *crossed(rows.weights),
+        *crossed(rows.starts),
+        *crossed(rows.bonds),
+        *line.arguments(),
+    )
+    if status == _NO:
+        numbers = [int(field) for field in line.text().strip().split(",")[1:]]
+        return Verdict(numbers[0], tuple(numbers[1:]))
+    line.judge(status)
+    return Verdict(0, ())
 
 
 def run(words: Sequence[str], input: Union[str, bytes] = b"") -> Run:
@@ -255,12 +277,12 @@ def run(words: Sequence[str], input: Union[str, bytes] = b"") -> Run:
     return Run(status, text.decode())
 
 
-def _run(words: bytes, given: bytes, space: int) -> Tuple[int, bytes, int]:
+def _run(words: bytes, given: bytes, capacity: int) -> Tuple[int, bytes, int]:
     """The status, the text as far as there is room, and the number of bytes of the whole text."""
-    out = ctypes.create_string_buffer(space)
+    out = ctypes.create_string_buffer(capacity)
     written, whole = ctypes.c_size_t(), ctypes.c_size_t()
     status = library.ising2d_c_run(
-        words, len(words), given, len(given), ctypes.addressof(out), space,
+        words, len(words), given, len(given), ctypes.addressof(out), capacity,
         ctypes.byref(written), ctypes.byref(whole),
     )
     return status, out.raw[: written.value], whole.value

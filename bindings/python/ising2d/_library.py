@@ -6,7 +6,6 @@ from pathlib import Path
 
 NAME = "libising2d.so"
 
-_BYTES = ctypes.c_char_p
 _SIZE = ctypes.c_size_t
 _ARRAY = ctypes.c_void_p
 _LATTICE = [ctypes.c_uint8, ctypes.c_uint32, ctypes.c_uint32, _ARRAY, _SIZE]
@@ -14,17 +13,22 @@ _LINE = [_ARRAY, _SIZE, ctypes.POINTER(_SIZE)]
 _NUMBER = ctypes.POINTER(ctypes.c_int64)
 _COUNT = ctypes.POINTER(_SIZE)
 
-_CALLS = {
-    "ising2d_c_run": [_ARRAY, _SIZE, _ARRAY, _SIZE, _ARRAY, _SIZE, _COUNT, _COUNT],
-    "ising2d_c_ground": _LATTICE
-    + [_NUMBER]
-    + [_ARRAY, _SIZE] * 4
-    + [_COUNT, _COUNT]
-    + _LINE,
-    "ising2d_c_wall": _LATTICE + [_NUMBER] * 3 + _LINE,
-    "ising2d_c_bonds": _LATTICE + [_ARRAY, _SIZE] + _LINE,
-    "ising2d_c_clusters": _LATTICE + [_ARRAY, _SIZE] + _LINE,
-}
+# A general graph: the number of spins, the ends, the couplings, the starts of the darts, the darts, the
+# seam. A ground state: the energy, spins, weights, starts, bonds, and the numbers of loops and bonds. A
+# proof: the same without the counts.
+_GRAPH = [ctypes.c_uint32] + [_ARRAY, _SIZE] * 5
+_GROUND = [_NUMBER] + [_ARRAY, _SIZE] * 4 + [_COUNT, _COUNT] + _LINE
+_WALL = [_NUMBER] * 3 + _LINE
+_LIST = [_ARRAY, _SIZE] + _LINE
+_PROOF = [ctypes.c_int64] + [_ARRAY, _SIZE] * 4 + _LINE
+
+_CALLS = {"ising2d_c_run": [_ARRAY, _SIZE, _ARRAY, _SIZE, _ARRAY, _SIZE, _COUNT, _COUNT]}
+for _name, _given in (("ising2d_c_", _LATTICE), ("ising2d_c_graph_", _GRAPH)):
+    _CALLS[_name + "ground"] = _given + _GROUND
+    _CALLS[_name + "wall"] = _given + _WALL
+    _CALLS[_name + "bonds"] = _given + _LIST
+    _CALLS[_name + "clusters"] = _given + _LIST
+    _CALLS[_name + "check"] = _given + _PROOF
 
 
 def _places():

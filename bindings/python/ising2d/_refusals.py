@@ -35,6 +35,8 @@ _MEMBERS = {
     7: "bond {1} is none",
     8: "list {1} of the rotation is none",
     9: "entry {1} of the seam is no number",
+    10: "spin {1} of the proof is neither 1 nor -1",
+    11: "start {1} of the loops is wrong",
 }
 
 

@@ -1,25 +1,26 @@
 -- One loop more among the rows.
-use Rattle.std.proofs.Common.{◌≡◌, ℕ, ◌+◌, ◌<◌, arith, List, [], ◌∷◌, ◌++◌, ap, sym, ◌∙◌, map, length, take, get_or}
+use Rattle.std.proofs.Common.{◌≡◌, ℕ, ◌+◌, ◌<◌, arith, List, [], ◌∷◌, ◌++◌, ap, sym, ◌∙◌, map, flat_map, length, take, get_or}
 use Rattle.std.specs.List.{range_with_len}
 use Rattle.std.proofs.lemmas.List.{append-nil, take_more}
 use Rattle.std.proofs.lemmas.Grind.{flat_map-append}
 use Rattle.std.proofs.lemmas.List.FromFn.{map-range_with_len_more}
-use Rattle.sg_check.specs.declared.packing.Loop.{Loop}
-use Rattle.ising2d_c.specs.Crossing.{bonds_before, bonds_of}
+use Rattle.ising2d_c.specs.Crossing.{entries_before}
 
--- the start of one loop more
-pub starts_more : (loops : List Loop) (starts bonds : List ℕ) (n : ℕ) → starts ≡ map (bonds_before loops) (range_with_len 0 n)
-    → bonds ≡ bonds_of (take n loops) → starts ++ length bonds ∷ [] ≡ map (bonds_before loops) (range_with_len 0 (n + 1))
-starts_more loops starts bonds n begun bound =
-    ap (λ l. l ++ length bonds ∷ []) begun
-    ∙ ap (λ (l : List ℕ). map (bonds_before loops) (range_with_len 0 n) ++ length l ∷ []) bound
-    ∙ sym (map-range_with_len_more (bonds_before loops) 0 n n (omega arith))
+module _ {A : Type 0} (entries : A → List ℕ) where
+  -- the start of one item more
+  pub starts_more : (items : List A) (starts joined : List ℕ) (n : ℕ) → starts ≡ map (entries_before entries items) (range_with_len 0 n)
+      → joined ≡ flat_map entries (take n items)
+      → starts ++ length joined ∷ [] ≡ map (entries_before entries items) (range_with_len 0 (n + 1))
+  starts_more items starts joined n begun bound =
+      ap (λ l. l ++ length joined ∷ []) begun
+      ∙ ap (λ (l : List ℕ). map (entries_before entries items) (range_with_len 0 n) ++ length l ∷ []) bound
+      ∙ sym (map-range_with_len_more (entries_before entries items) 0 n n (omega arith))
 
--- the bonds of one loop more
-pub bonds_more : (loops : List Loop) (bonds : List ℕ) (n : ℕ) (d : Loop) → n < length loops → bonds ≡ bonds_of (take n loops)
-    → bonds ++ (get_or loops n d).bonds ≡ bonds_of (take (n + 1) loops)
-bonds_more loops bonds n d within bound =
-    let last : bonds_of (get_or loops n d ∷ []) ≡ (get_or loops n d).bonds = append-nil (get_or loops n d).bonds in
-    ap (λ l. l ++ (get_or loops n d).bonds) bound
-    ∙ sym (ap bonds_of (take_more loops n d within) ∙ flat_map-append (λ each. each.bonds) (take n loops) (get_or loops n d ∷ [])
-    ∙ ap (λ l. bonds_of (take n loops) ++ l) last)
+  -- the entries of one item more
+  pub entries_more : (items : List A) (joined : List ℕ) (n : ℕ) (d : A) → n < length items → joined ≡ flat_map entries (take n items)
+      → joined ++ entries (get_or items n d) ≡ flat_map entries (take (n + 1) items)
+  entries_more items joined n d within bound =
+      let last : flat_map entries (get_or items n d ∷ []) ≡ entries (get_or items n d) = append-nil (entries (get_or items n d)) in
+      ap (λ l. l ++ entries (get_or items n d)) bound
+      ∙ sym (ap (λ (l : List A). flat_map entries l) (take_more items n d within) ∙ flat_map-append entries (take n items) (get_or items n d ∷ [])
+      ∙ ap (λ (l : List ℕ). flat_map entries (take n items) ++ l) last)

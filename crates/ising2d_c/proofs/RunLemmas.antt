@@ -32,7 +32,8 @@ four-laws law_of none first second third fourth a b c d none-is first-is second-
   alternate = law_of b;
   plus_minus = law_of c;
   uniform = law_of d;
-  all = ap (map law_of) (fourth-is ∙ ap (λ l. l ++ d ∷ []) (third-is ∙ ap (λ l. l ++ c ∷ []) (second-is ∙ ap (λ l. l ++ b ∷ []) (first-is ∙ ap (λ l. l ++ a ∷ []) none-is))));
+  all = ap (map law_of) (fourth-is ∙ ap (λ l. l ++ d ∷ []) (third-is ∙ ap (λ l. l ++ c ∷ [])
+      (second-is ∙ ap (λ l. l ++ b ∷ []) (first-is ∙ ap (λ l. l ++ a ∷ []) none-is))));
   is_one = one;
   is_alternate = alternate;
   is_plus_minus = plus_minus;

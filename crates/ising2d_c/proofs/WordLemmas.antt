@@ -18,7 +18,9 @@ behind : (before word after : List ℕ) → before ++ (word ++ 0 ∷ after) ≡ 
 behind before word after = ap (λ l. before ++ l) (sym (append_assoc word (0 ∷ []) after)) ∙ sym (append_assoc before (ended word) after)
 
 one_piece : (pieces : List (List ℕ)) (word : List ℕ) → flat_map ended (pieces ++ word ∷ []) ≡ flat_map ended pieces ++ ended word
-one_piece pieces word = flat_map-append ended pieces (word ∷ []) ∙ ap (λ l. flat_map ended pieces ++ l) (let f : flat_map ended (word ∷ []) ≡ ended word = search rules in f)
+one_piece pieces word =
+    let last : flat_map ended (word ∷ []) ≡ ended word = search rules in
+    flat_map-append ended pieces (word ∷ []) ∙ ap (λ l. flat_map ended pieces ++ l) last
 
 -- one word more
 pub one_more : (bytes rest word after : List ℕ) (words : List (List ℕ)) → IsFront bytes rest words → rest ≡ word ++ 0 ∷ after → HasNoZero word

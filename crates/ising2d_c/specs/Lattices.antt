@@ -1,15 +1,15 @@
 -- Lattices by numbers: which numbers give one, and what is wrong with others.
-use Rattle.std.specs.Prelude.{◌≡◌, ◌≢◌, ◌⊎◌, ℕ, ℤ, pos, ◌*◌, ◌<◌, ◌^◌, min, ◌==◌, nat_lt, unsigned_abs, if◌then◌else◌, Option, Some, None, List, length, take, All, slice_index_or}
+use Rattle.std.specs.Prelude.{◌≡◌, ◌≢◌, ◌⊎◌, ℕ, ℤ, pos, ◌*◌, ◌<◌, ◌^◌, min, ◌==◌, nat_lt, unsigned_abs, if◌then◌else◌}
+use Rattle.std.specs.Prelude.{Option, Some, None, List, length, take, All, slice_index_or}
 use Rattle.sg_limits.specs.Limits.{spin_limit}
 use Rattle.sg_model.specs.Ising.{Ising}
 use Rattle.sg_model.specs.declared.refusal.Fault.{Fault}
-use Rattle.sg_model.specs.declared.refusal.Fault.TheVariants.{Refused}
+use Rattle.sg_model.specs.declared.refusal.Fault.TheVariants.{Refused, NoMemory}
 use Rattle.sg_model.specs.declared.refusal.Refusal.{Refusal}
 use Rattle.sg_model.specs.declared.refusal.Refusal.TheVariants.{BadMember, CouplingCount, TooManySpins}
 use Rattle.sg_lattice.specs.declared.kind.Kind.{Kind}
 use Rattle.sg_lattice.specs.declared.kind.Kind.TheVariants.{Square, Triangular, Hexagonal, Cylinder}
 use Rattle.sg_lattice.specs.Tables.{bond_total, lattice, least_cols}
-use Rattle.sg_planar.specs.Fit.{IsFit, IsUnfitFault}
 
 -- the kinds by their numbers
 abbrev pub kind_numbered : ℕ → Option Kind
@@ -36,32 +36,30 @@ pub record IsFirstOut (couplings : List ℤ) (k : ℕ) : Type 0 where
   pub before : All IsCoupling (take k couplings)
   pub out : ¬ IsCoupling (slice_index_or couplings k (pos 0))
 
--- the lattice of a kind with these couplings is fit, and this is it
+-- the lattice of a kind with these couplings
 pub record IsCoupledLattice (kind : Kind) (R C : ℕ) (couplings : List ℤ) (inst : Ising) : Type 0 where
   pub count : length couplings ≡ bond_total kind R C
   pub range : All IsCoupling couplings
   pub is : inst ≡ lattice kind R C couplings
-  pub fit : IsFit inst
 
--- the lattice of these numbers is fit, and this is it
-pub record IsFitLattice (number R C : ℕ) (couplings : List ℤ) (inst : Ising) : Type 0 where
+-- the lattice of these numbers
+pub record IsLattice (number R C : ℕ) (couplings : List ℤ) (inst : Ising) : Type 0 where
   pub kind : Kind
   pub named : kind_numbered number ≡ Some kind
   pub sized : size_fault kind R C ≡ None
   pub coupled : IsCoupledLattice kind R C couplings inst
 
--- what is wrong where the number of couplings is right: the first that is none; else that the lattice is not fit, or
--- the memory
-abbrev pub IsValueFault : Kind → ℕ → ℕ → List ℤ → Fault → Type 0
-IsValueFault kind R C couplings fault =
+-- what is wrong where the number of couplings is right: the first that is none, or else the memory
+abbrev pub IsValueFault : List ℤ → Fault → Type 0
+IsValueFault couplings fault =
     ((k : ℕ) × IsFirstOut couplings k × (fault ≡ Refused (BadMember 6 k)))
-    ⊎ (All IsCoupling couplings × IsUnfitFault (lattice kind R C couplings) fault)
+    ⊎ (All IsCoupling couplings × (fault ≡ NoMemory))
 
 -- what is wrong where the size is right: the number of couplings, told up to the last number of 32 bits; else a value
 pub record IsCouplingFault (kind : Kind) (R C : ℕ) (couplings : List ℤ) (fault : Fault) : Type 0 where
   pub other_count : length couplings ≢ bond_total kind R C
       → fault ≡ Refused (CouplingCount (min (length couplings) 4294967295) (bond_total kind R C))
-  pub same_count : length couplings ≡ bond_total kind R C → IsValueFault kind R C couplings fault
+  pub same_count : length couplings ≡ bond_total kind R C → IsValueFault couplings fault
 
 -- what is wrong with a lattice of a kind: its size, or else a coupling
 abbrev pub IsSizedFault : Option Refusal → Kind → ℕ → ℕ → List ℤ → Fault → Type 0

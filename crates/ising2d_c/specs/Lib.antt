@@ -1,6 +1,10 @@
 pub mod Crossing
 pub mod Words
 pub mod Running
+pub mod Starts
 pub mod Lattices
+pub mod Graphs
+pub mod Stated
+pub mod Fitting
 pub mod Refusing
 pub mod Grounds

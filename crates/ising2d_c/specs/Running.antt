@@ -48,8 +48,8 @@ pub record IsSilent (before after : List ℕ) (written whole : ℕ) : Type 0 whe
 -- how a run ends for its caller
 pub data Ends (words input before after : List ℕ) (written whole code : ℕ) : Type 0 where
   -- the text is answered: its length is told, and it is written as far as there is room
-  Answered : (list : List (List ℕ)) (text : List ℕ) (status : Status) → AreWords words list → Answers list input text status
-      → Fills text before after written → whole ≡ length text → code ≡ exit_code status
+  Answered : (list : List (List ℕ)) (text : List ℕ) (status : Status) → AreWords words list
+      → Answers list input text status → Fills text before after written → whole ≡ length text → code ≡ exit_code status
       → Ends words input before after written whole code
   -- the last word is not ended
   WordsUnended : IsUnended words → IsSilent before after written whole → code ≡ 7

@@ -1,29 +1,27 @@
 // Lattices by numbers. No number is trusted: each is tested, and the first fault is named.
-ghost use Rattle.std.specs.Prelude.{◌≡◌, ◌↔◌, ◌<◌, ◌≤◌, ◌*◌, ◌^◌, length, None, All, IfOk, IfErr, IfSome, IsTrue};
+ghost use Rattle.std.specs.Prelude.{◌≡◌, ◌↔◌, ◌<◌, ◌≤◌, ◌*◌, ◌^◌, length, None, All, IfOk, IfErr, IfSome, IsTrue, nat_lt, unsigned_abs};
 ghost use Rattle.sg_limits.specs.Limits.{spin_limit};
 ghost use Rattle.sg_lattice.specs.Tables.{IsSize, bond_total, lattice, least_cols as least_columns};
-ghost use Rattle.sg_planar.specs.Fit.{IsFit, IsUnfitFault};
-ghost use Rattle.ising2d_c.specs.Lattices.{IsCoupledLattice, IsCoupling, IsCouplingFault, IsFirstOut, IsFitLattice, IsKindFault, IsLatticeFault, IsSizedFault, IsValueFault, kind_numbered, size_fault};
+ghost use Rattle.ising2d_c.specs.Lattices.{IsCoupledLattice, IsCoupling, IsCouplingFault, IsFirstOut, IsKindFault, IsLattice, IsLatticeFault, IsSizedFault, IsValueFault, kind_numbered, size_fault};
 
 use sg_lattice::{Kind, bond_count, build};
 use sg_limits::SPIN_LIMIT;
-use sg_model::{Couplings, Fault, Refusal};
-use sg_planar::{NotFit, Planar};
+use sg_model::{Couplings, Fault, Instance, Refusal};
 use std::alloc::Global;
 
-/// The lattice of these numbers, fit for a planar solver.
+/// The lattice of these numbers.
 ///
 /// # Errors
 /// The first that is wrong of the kind, the rows, the columns, the number of spins, the number of
-/// couplings, and the values of the couplings; then what makes the lattice unfit.
-pub fn fit_lattice(
+/// couplings, and the values of the couplings.
+pub fn lattice_of(
     alloc: Global,
     kind: u8,
     rows: u32,
     cols: u32,
     couplings: &[i64],
-) -> Result<Planar, Fault>
-    ensures gives { IfOk result (λ planar. IsFitLattice kind rows cols couplings.now planar.instance) }
+) -> Result<Instance, Fault>
+    ensures gives { IfOk result (IsLattice kind rows cols couplings.now) }
     ensures refuses { IfErr result (IsLatticeFault kind rows cols couplings.now) }
 {
     match kind_by(kind) {
@@ -87,9 +85,9 @@ fn sized_lattice(
     rows: u32,
     cols: u32,
     couplings: &[i64],
-) -> Result<Planar, Fault>
+) -> Result<Instance, Fault>
     ensures size { IfOk result (λ _. size_fault kind rows cols ≡ None) }
-    ensures gives { IfOk result (λ planar. IsCoupledLattice kind rows cols couplings.now planar.instance) }
+    ensures gives { IfOk result (IsCoupledLattice kind rows cols couplings.now) }
     ensures refuses { IfErr result (IsSizedFault (size_fault kind rows cols) kind rows cols couplings.now) }
 {
     match fault_of_size(kind, rows, cols) {
@@ -105,9 +103,9 @@ fn coupled_lattice(
     rows: u32,
     cols: u32,
     couplings: &[i64],
-) -> Result<Planar, Fault>
+) -> Result<Instance, Fault>
     requires { IsSize kind rows cols }
-    ensures gives { IfOk result (λ planar. IsCoupledLattice kind rows cols couplings.now planar.instance) }
+    ensures gives { IfOk result (IsCoupledLattice kind rows cols couplings.now) }
     ensures refuses { IfErr result (IsCouplingFault kind rows cols couplings.now) }
 {
     let wanted = bond_count(kind, rows, cols);
@@ -125,40 +123,18 @@ fn valued_lattice(
     rows: u32,
     cols: u32,
     couplings: &[i64],
-) -> Result<Planar, Fault>
+) -> Result<Instance, Fault>
     requires size { IsSize kind rows cols }
     requires count { length couplings.now ≡ bond_total kind rows cols }
     requires few { length couplings.now < 2 ^ 32 }
-    ensures gives { IfOk result (λ planar. IsCoupledLattice kind rows cols couplings.now planar.instance) }
-    ensures refuses { IfErr result (IsValueFault kind rows cols couplings.now) }
+    ensures gives { IfOk result (IsCoupledLattice kind rows cols couplings.now) }
+    ensures refuses { IfErr result (IsValueFault couplings.now) }
 {
     if let Some(item) = first_out(couplings) {
         return Err(Fault::Refused(Refusal::BadMember { place: 6, item }));
     }
-    planar_lattice(alloc, kind, rows, cols, couplings)
-}
-
-// The lattice with these couplings, where it is fit.
-fn planar_lattice(
-    alloc: Global,
-    kind: Kind,
-    rows: u32,
-    cols: u32,
-    couplings: &[i64],
-) -> Result<Planar, Fault>
-    requires size { IsSize kind rows cols }
-    requires count { length couplings.now ≡ bond_total kind rows cols }
-    requires range { All IsCoupling couplings.now }
-    ensures gives { IfOk result (λ planar. planar.instance ≡ lattice kind rows cols couplings.now) }
-    ensures fit { IfOk result (λ planar. IsFit planar.instance) }
-    ensures refuses { IfErr result (IsUnfitFault (lattice kind rows cols couplings.now)) }
-{
     let list = Couplings::from_vec(Vec::from_slice(alloc, couplings)?);
-    let instance = build(alloc, kind, rows, cols, list)?;
-    match Planar::new(alloc, instance) {
-        Ok(planar) => Ok(planar),
-        Err(NotFit { fault, instance: _ }) => Err(fault),
-    }
+    Ok(build(alloc, kind, rows, cols, list)?)
 }
 
 // The place of the first number that is no coupling.
@@ -175,9 +151,10 @@ fn first_out(couplings: &[i64]) -> Option<u32>
     None
 }
 
-// Whether a number is a coupling.
-fn is_coupling(number: &i64) -> bool
-    ensures { IsTrue result ↔ IsCoupling number.now }
+/// Whether a number is a coupling.
+pub fn is_coupling(number: &i64) -> bool
+    ensures value { result ≡ nat_lt (unsigned_abs number.now) (2 ^ 63) }
+    ensures meaning { IsTrue result ↔ IsCoupling number.now }
 {
     number.unsigned_abs() < 1 << 63
 }

@@ -1,7 +1,6 @@
 // Loops as three lists of numbers.
-ghost use Rattle.std.specs.Prelude.{◌≡◌, ◌+◌, length, map, IfOk};
-ghost use Rattle.std.specs.List.{range_with_len};
-ghost use Rattle.ising2d_c.specs.Crossing.{AreRows, bonds_before, bonds_of};
+ghost use Rattle.std.specs.Prelude.{◌≡◌, map, IfOk};
+ghost use Rattle.ising2d_c.specs.Crossing.{AreRows};
 
 use sg_check::Loop;
 use std::alloc::{AllocError, Global};

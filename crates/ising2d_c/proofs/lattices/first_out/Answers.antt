@@ -10,7 +10,7 @@ loop-place-preserved c =
     let place = c.loop-place.place in
     let within : place < length all = omega (arith, c.loop-place-test.true, c.loop-place.auto.place-end) in
     let shown : IsTrue c.is_coupling.result = search rules in
-    let one : IsCoupling (get_or all place (pos 0)) = c.is_coupling.ensures.0 shown in
+    let one : IsCoupling (get_or all place (pos 0)) = c.is_coupling.ensures.meaning.0 shown in
     rw (take_more all place (pos 0) within) (All-push IsCoupling (take place all) (get_or all place (pos 0)) c.loop-place.invariant one)
 
 pub returns-clause-none : goal.returns-clause-none

@@ -1,0 +1,54 @@
+-- From an instance that some numbers give to what a study of it answers.
+use Rattle.std.proofs.Common.{◌≡◌, ◌⊎◌, ℕ, List, [], Ok, Err, IfOk, IfErr, sym, subst, inl, inr}
+use Rattle.std.specs.Prelude.{IsErrAnd, IsOkAnd, Result, Option}
+use Rattle.sg_model.specs.Ising.{Ising}
+use Rattle.sg_model.specs.declared.refusal.Fault.{Fault}
+use Rattle.sg_model.specs.declared.refusal.Fault.TheVariants.{Refused}
+use Rattle.sg_model.specs.declared.refusal.Refusal.{Refusal}
+use Rattle.sg_model.specs.declared.refusal.Refusal.TheVariants.{NoSeam}
+use Rattle.sg_reader.specs.Tests.{IsTestFault}
+use Rattle.sg_planar.specs.Fit.{Embedding}
+use Rattle.ising2d_c.specs.Fitting.{Finds, IsFitFault, IsFitOf, IsProofFault, IsWallFault}
+use Rattle.ising2d_c.specs.Refusing.{IsTold, IsToldFault}
+
+module _ (Given : Ising → Type 0) (Fails : Fault → Type 0) where
+  -- why there is no instance with a seam
+  pub seam-refused : (fit cut : Result Embedding Fault) → IfOk fit (λ p. IsFitOf Given p.instance) → IfErr fit (IsFitFault Given Fails)
+      → IfErr cut (λ fault. IsErrAnd fit (λ e. fault ≡ e) ⊎ IsOkAnd fit (λ p. (p.instance.seam ≡ []) × (fault ≡ Refused NoSeam)))
+      → IfErr cut (IsWallFault Given Fails)
+  seam-refused fit (Ok q) gives fails why = tt
+  seam-refused (Ok p) (Err fault) gives fails (inl why) = absurd why
+  seam-refused (Ok p) (Err fault) gives fails (inr why) = inr (p.instance, gives, why.0, why.1)
+  seam-refused (Err e) (Err fault) gives fails (inl why) = inl (subst (IsFitFault Given Fails) (sym why) fails)
+  seam-refused (Err e) (Err fault) gives fails (inr why) = absurd why
+
+-- what was found of it
+pub finds : (Given Study : Ising → Type 0) (given : Result Embedding Fault) → IfOk given (λ p. Given p.instance)
+    → IsOkAnd given (λ p. Study p.instance) → Finds Given Study
+finds Given Study (Ok p) gives study = record { instance = p.instance; given = gives; study = study }
+finds Given Study (Err e) gives study = absurd study
+
+pub finds-any : (Given Study : Ising → Type 0) (given : Result Ising Fault) → IfOk given Given → IsOkAnd given Study → Finds Given Study
+finds-any Given Study (Ok inst) gives study = record { instance = inst; given = gives; study = study }
+finds-any Given Study (Err e) gives study = absurd study
+
+-- why there is none
+pub told : {X : Type 0} (Owed : Fault → Type 0) (given : Result X Fault) (before after : List ℕ) (written : ℕ) → IfErr given Owed
+    → IsErrAnd given (λ fault. IsToldFault fault before after written) → IsTold Owed before after written
+told Owed (Ok x) before after written owed line = absurd line
+told Owed (Err e) before after written owed line = record { fault = e; owed = owed; line = line }
+
+pub told-proof : (Given : Ising → Type 0) (Fails : Fault → Type 0) (test : Option Refusal) (given : Result Ising Fault)
+    (before after : List ℕ) (written : ℕ) → IfOk given Given → IfErr given Fails
+    → IsErrAnd given (λ fault. IsToldFault fault before after written)
+    ⊎ IsOkAnd given (λ _. IsTold (IsTestFault test) before after written)
+    → IsTold (IsProofFault Given Fails test) before after written
+told-proof Given Fails test (Ok inst) before after written gives fails (inl line) = absurd line
+told-proof Given Fails test (Ok inst) before after written gives fails (inr told) =
+    record { fault = told.fault; owed = inr (inst, gives, told.owed); line = told.line }
+told-proof Given Fails test (Err e) before after written gives fails (inl line) = record { fault = e; owed = inl fails; line = line }
+told-proof Given Fails test (Err e) before after written gives fails (inr told) = absurd told
+
+-- what holds of the value that a result was
+pub was-ok : {T E : Type 0} (given : Result T E) (x : T) (P : T → Type 0) → given ≡ Ok x → P x → IsOkAnd given P
+was-ok {T} {E} given x P is holds = subst (λ (r : Result T E). IsOkAnd r P) (sym is) holds

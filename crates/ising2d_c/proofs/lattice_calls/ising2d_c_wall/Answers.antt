@@ -1,0 +1,13 @@
+use Rattle.ising2d_c.specs.Fitting.{IsWallFault}
+use Rattle.ising2d_c.specs.Lattices.{IsLattice, IsLatticeFault}
+use Rattle.ising2d_c.proofs.FitLemmas.{seam-refused, told}
+use Rattle.ising2d_c.proofs.lattice_calls.ising2d_c_wall.Goals as goal
+
+pub returns-clause-refused : goal.returns-clause-refused
+returns-clause-refused c = λ refused.
+    let Given = IsLattice c.args.kind c.args.rows c.args.cols c.args.couplings.now in
+    let Fails = IsLatticeFault c.args.kind c.args.rows c.args.cols c.args.couplings.now in
+    told (IsWallFault Given Fails) c.with_seam-planar.result c.args.line.now c.wall_into.new.line c.wall_into.new.line_written
+    (seam-refused Given Fails c.fit_lattice.result c.with_seam-planar.result c.fit_lattice.ensures.gives c.fit_lattice.ensures.refuses
+    c.with_seam-planar.ensures.refuses)
+    (c.wall_into.ensures.refused refused)

@@ -1,0 +1,32 @@
+use Rattle.std.proofs.Common.{◌≡◌, ◌∙◌, ◌+◌, ◌-◌, arith, ap, sym, length, take}
+use Rattle.std.proofs.Math.Seq.{take-length}
+use Rattle.sg_check.specs.declared.packing.Loop.{Loop}
+use Rattle.ising2d_c.proofs.StartLemmas.{all_items, below_last, one_item}
+use Rattle.ising2d_c.proofs.StatedLemmas.{weights_more}
+use Rattle.ising2d_c.proofs.stated.loops_by.Goals as goal
+
+pub loop_by-requires-clause-last : goal.loop_by-requires-clause-last
+loop_by-requires-clause-last c =
+    below_last c.args.starts.now (length c.args.weights.now) (length c.args.bonds.now) (length c.args.weights.now - (c.loop-k.k + 1)) (c.loop-k.k + 1)
+    c.requires (omega arith)
+
+pub loop-k-preserved : goal.loop-k-preserved
+loop-k-preserved c =
+    let k = c.loop-k.k in
+    let weights = c.args.weights.now in
+    let each = c.in_ok-loop_by.field-0 in
+    rw c.in_ok-push.ensures.ok (record {
+      front = one_item (λ (l : Loop). l.bonds) c.loop-k.loops c.args.starts.now c.args.bonds.now (length weights) k each c.requires c.loop-k-test.true
+          c.loop-k.invariant.front c.in_ok-loop_by.ensures.bonds;
+      weights = weights_more c.loop-k.loops each weights k c.loop-k-test.true c.loop-k.invariant.weights c.in_ok-loop_by.ensures.weight;
+    })
+
+pub returns-clause-rows : goal.returns-clause-rows
+returns-clause-rows c =
+    let weights = c.args.weights.now in
+    let end : c.loop-k.k ≡ length weights = omega (arith, c.loop-k-test.false, c.loop-k.auto.k-end) in
+    record {
+      weighed = sym (c.loop-k.invariant.weights ∙ ap (λ n. take n weights) end ∙ take-length weights);
+      joined = all_items (λ (l : Loop). l.bonds) c.loop-k.loops c.args.starts.now c.args.bonds.now (length weights) c.requires
+          (rw end at c.loop-k.invariant.front);
+    }

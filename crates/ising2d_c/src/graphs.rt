@@ -1,0 +1,203 @@
+// General graphs by numbers. No number is trusted: each is tested, and the first fault is named.
+ghost use Rattle.std.specs.Prelude.{◌≡◌, ◌≢◌, ◌+◌, ◌*◌, ◌<◌, ◌≤◌, ◌^◌, ℕ, map, length, unsigned_abs, All, None, IfOk, IfErr, IfSome, true};
+ghost use Rattle.std.specs.List.{range_with_len};
+ghost use Rattle.sg_limits.specs.Limits.{bond_limit, spin_limit};
+ghost use Rattle.sg_model.specs.Ising.{IsBond};
+ghost use Rattle.ising2d_c.specs.Crossing.{IsJoined};
+ghost use Rattle.ising2d_c.specs.Graphs.{IsGraph, IsGraphFault, bond_by as bond_numbered, bonds_by, bonds_fault, coupling, ends_fault, first_bad as first_bad_of, first_self as first_self_of, graph_fault, is_bond as is_bond_of, spins_fault};
+ghost use Rattle.ising2d_c.specs.Starts.{IsDivision, entry};
+
+use super::lattices::is_coupling;
+use super::starts::{entries_of, refusal_of_starts};
+use sg_limits::{BOND_LIMIT, SPIN_LIMIT};
+use sg_model::{Bond, BondList, Bonds, Fault, Instance, Refusal, Rotation};
+use std::alloc::{AllocError, Global};
+
+/// The general graph of these numbers: two ends for each bond, its coupling, the darts of each spin
+/// from its start on, and the bonds of the seam.
+///
+/// # Errors
+/// The first that is wrong, in this order: `BadMember` for the number of spins, `TooManySpins`,
+/// `BadMember` for the bonds and for the starts of the darts, `TooManyBonds`, `SelfBond`,
+/// `BadRotation`, `BadSeam`.
+pub fn graph_of(
+    alloc: Global,
+    n: u32,
+    ends: &[u32],
+    couplings: &[i64],
+    starts: &[usize],
+    darts: &[u32],
+    seam: &[u32],
+) -> Result<Instance, Fault>
+    ensures gives { IfOk result (IsGraph n ends.now couplings.now starts.now darts.now seam.now) }
+    ensures refuses { IfErr result (IsGraphFault n ends.now couplings.now starts.now darts.now seam.now) }
+{
+    if let Some(refusal) = refusal_of_graph(n, ends, couplings, starts, darts) {
+        return Err(Fault::Refused(refusal));
+    }
+    let bonds = bonds_of(alloc, ends, couplings)?;
+    let rotation = rotation_of(alloc, n, starts, darts)?;
+    let cut = BondList::from_vec(Vec::from_slice(alloc, seam)?);
+    Instance::new(alloc, n, bonds, rotation, cut)
+}
+
+// The first test that the numbers fail, in front of those of an instance.
+fn refusal_of_graph(
+    n: u32,
+    ends: &[u32],
+    couplings: &[i64],
+    starts: &[usize],
+    darts: &[u32],
+) -> Option<Refusal>
+    ensures value { result ≡ graph_fault n ends.now couplings.now starts.now darts.now }
+    ensures spins { result ≡ None → n ≤ spin_limit }
+    ensures some { result ≡ None → 1 ≤ n }
+    ensures ends { result ≡ None → length ends.now ≡ 2 * length couplings.now }
+    ensures few { result ≡ None → length couplings.now ≤ bond_limit }
+    ensures joined { result ≡ None → All (IsBond n) (bonds_by ends.now couplings.now) }
+    ensures division { result ≡ None → IsDivision starts.now n (length darts.now) }
+{
+    if let Some(refusal) = refusal_of_spins(n) {
+        return Some(refusal);
+    }
+    if let Some(refusal) = refusal_of_ends(n, ends, couplings) {
+        return Some(refusal);
+    }
+    if let Some(refusal) = refusal_of_starts(8, starts, n as usize, darts.len()) {
+        return Some(refusal);
+    }
+    refusal_of_bonds(ends, couplings.len())
+}
+
+// The first fault of the number of spins.
+fn refusal_of_spins(n: u32) -> Option<Refusal>
+    ensures value { result ≡ spins_fault n }
+    ensures some { result ≡ None → 1 ≤ n }
+    ensures few { result ≡ None → n ≤ spin_limit }
+{
+    if n == 0 {
+        return Some(Refusal::BadMember { place: 5, item: 0 });
+    }
+    if n > SPIN_LIMIT {
+        return Some(Refusal::TooManySpins { n: i128::from(n) });
+    }
+    None
+}
+
+// The first fault of the ends and the couplings.
+fn refusal_of_ends(n: u32, ends: &[u32], couplings: &[i64]) -> Option<Refusal>
+    ensures value { result ≡ ends_fault n ends.now couplings.now }
+    ensures count { result ≡ None → length ends.now ≡ 2 * length couplings.now }
+    ensures joined { result ≡ None → (k : ℕ) → k < length couplings.now → is_bond_of n ends.now couplings.now k ≡ true }
+{
+    if ends.len() % 2 != 0 {
+        return Some(Refusal::BadMember { place: 7, item: 0 });
+    }
+    if ends.len() / 2 != couplings.len() {
+        return Some(Refusal::BadMember { place: 7, item: 0 });
+    }
+    match first_bad(n, ends, couplings) {
+        Some(bond) => Some(Refusal::BadMember {
+            place: 7,
+            item: bond.min(u32::MAX as usize) as u32,
+        }),
+        None => None,
+    }
+}
+
+// The first bond that does not join two of the spins with a coupling.
+fn first_bad(n: u32, ends: &[u32], couplings: &[i64]) -> Option<usize>
+    requires { length ends.now ≡ 2 * length couplings.now }
+    ensures value { result ≡ first_bad_of n ends.now couplings.now }
+    ensures joined { result ≡ None → (k : ℕ) → k < length couplings.now → is_bond_of n ends.now couplings.now k ≡ true }
+{
+    for k in 0..couplings.len() {
+        if !is_bond(n, ends, couplings, k) {
+            return Some(k);
+        }
+    }
+    None
+}
+
+// Whether bond `k` joins two of the spins with a coupling.
+fn is_bond(n: u32, ends: &[u32], couplings: &[i64], k: usize) -> bool
+    requires count { length ends.now ≡ 2 * length couplings.now }
+    requires within { k < length couplings.now }
+    ensures { result ≡ is_bond_of n ends.now couplings.now k }
+{
+    ends[2 * k] < n && ends[2 * k + 1] < n && is_coupling(&couplings[k])
+}
+
+// The first fault of so many bonds, each of which joins two of the spins.
+fn refusal_of_bonds(ends: &[u32], bonds: usize) -> Option<Refusal>
+    requires { length ends.now ≡ 2 * bonds }
+    ensures value { result ≡ bonds_fault ends.now bonds }
+    ensures few { result ≡ None → bonds ≤ bond_limit }
+    ensures apart { result ≡ None → (k : ℕ) → k < bonds → entry ends.now (2 * k) ≢ entry ends.now (2 * k + 1) }
+{
+    if bonds > BOND_LIMIT as usize {
+        return Some(Refusal::TooManyBonds { m: BOND_LIMIT + 1 });
+    }
+    match first_self(ends, bonds) {
+        Some(bond) => Some(Refusal::SelfBond { bond: bond as u32 }),
+        None => None,
+    }
+}
+
+// The first bond between a spin and itself.
+fn first_self(ends: &[u32], bonds: usize) -> Option<usize>
+    requires { length ends.now ≡ 2 * bonds }
+    ensures value { result ≡ first_self_of ends.now bonds }
+    ensures within { IfSome result (λ k. k < bonds) }
+    ensures apart { result ≡ None → (k : ℕ) → k < bonds → entry ends.now (2 * k) ≢ entry ends.now (2 * k + 1) }
+{
+    for k in 0..bonds {
+        if ends[2 * k] == ends[2 * k + 1] {
+            return Some(k);
+        }
+    }
+    None
+}
+
+// The bonds.
+fn bonds_of(alloc: Global, ends: &[u32], couplings: &[i64]) -> Result<Bonds, AllocError>
+    requires { length ends.now ≡ 2 * length couplings.now }
+    ensures { IfOk result (λ bonds. bonds ≡ bonds_by ends.now couplings.now) }
+{
+    let mut bonds = Bonds::new(alloc);
+    for k in 0..couplings.len() {
+        bonds.push(bond_by(ends, couplings, k))?;
+    }
+    Ok(bonds)
+}
+
+// Bond `k`.
+fn bond_by(ends: &[u32], couplings: &[i64], k: usize) -> Bond
+    requires count { length ends.now ≡ 2 * length couplings.now }
+    requires within { k < length couplings.now }
+    ensures { result ≡ bond_numbered ends.now couplings.now k }
+{
+    Bond {
+        u: ends[2 * k],
+        v: ends[2 * k + 1],
+        j: couplings[k],
+    }
+}
+
+// The darts of each spin.
+fn rotation_of(
+    alloc: Global,
+    n: u32,
+    starts: &[usize],
+    darts: &[u32],
+) -> Result<Rotation, AllocError>
+    requires { IsDivision starts.now n (length darts.now) }
+    ensures count { IfOk result (λ rotation. length rotation ≡ n) }
+    ensures joined { IfOk result (λ rotation. IsJoined (λ list. list) rotation starts.now darts.now) }
+{
+    let mut rotation = Rotation::new(alloc);
+    for spin in 0..n as usize {
+        rotation.push(entries_of(alloc, starts, darts, spin)?)?;
+    }
+    Ok(rotation)
+}

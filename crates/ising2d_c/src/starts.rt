@@ -1,0 +1,69 @@
+// Lists of lists as a caller gives them: for each list the place of its first entry.
+ghost use Rattle.std.specs.Prelude.{◌≡◌, ◌+◌, ◌-◌, ◌<◌, ◌≤◌, ◌^◌, ℕ, drop, length, take, None, IfOk, IfSome};
+ghost use Rattle.ising2d_c.specs.Starts.{IsDivision, entry, first_fall as first_fall_of, starts_fault};
+
+use sg_model::{BondList, Refusal};
+use std::alloc::{AllocError, Global};
+
+/// The first fault of the starts, which stand at this place among the arguments.
+pub fn refusal_of_starts(
+    place: u32,
+    starts: &[usize],
+    items: usize,
+    entries: usize,
+) -> Option<Refusal>
+    requires { items < 2 ^ 32 }
+    ensures value { result ≡ starts_fault place starts.now items entries }
+    ensures division { result ≡ None → IsDivision starts.now items entries }
+{
+    if starts.len() != items + 1 {
+        return Some(Refusal::BadMember { place, item: 0 });
+    }
+    if starts[0] != 0 {
+        return Some(Refusal::BadMember { place, item: 0 });
+    }
+    if let Some(item) = first_fall(starts) {
+        return Some(Refusal::BadMember {
+            place,
+            item: item as u32,
+        });
+    }
+    if starts[items] != entries {
+        return Some(Refusal::BadMember {
+            place,
+            item: items as u32,
+        });
+    }
+    None
+}
+
+// The first start that is less than the one in front of it.
+fn first_fall(starts: &[usize]) -> Option<usize>
+    ensures value { result ≡ first_fall_of starts.now }
+    ensures within { IfSome result (λ k. k < length starts.now) }
+    ensures rises { result ≡ None → (k : ℕ) → k + 1 < length starts.now → entry starts.now k ≤ entry starts.now (k + 1) }
+{
+    for k in 1..starts.len() {
+        if starts[k] < starts[k - 1] {
+            return Some(k);
+        }
+    }
+    None
+}
+
+/// The entries of item `k`.
+pub fn entries_of(
+    alloc: Global,
+    starts: &[usize],
+    joined: &[u32],
+    k: usize,
+) -> Result<BondList, AllocError>
+    requires within { k + 1 < length starts.now }
+    requires order { entry starts.now k ≤ entry starts.now (k + 1) }
+    requires last { entry starts.now (k + 1) ≤ length joined.now }
+    ensures { IfOk result (λ list.
+        list ≡ take (entry starts.now (k + 1) - entry starts.now k) (drop (entry starts.now k) joined.now)) }
+{
+    let own = &joined[starts[k]..starts[k + 1]];
+    Ok(BondList::from_vec(Vec::from_slice(alloc, own)?))
+}

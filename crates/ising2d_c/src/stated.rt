@@ -1,0 +1,132 @@
+// What a caller states as a proof, by numbers. No number is trusted.
+ghost use Rattle.std.specs.Prelude.{◌≡◌, ◌+◌, ◌-◌, ◌<◌, ◌≤◌, ℕ, drop, map, length, pos, slice_index_or, take, true, None, Some, IfOk, IfErr};
+ghost use Rattle.sg_limits.specs.Limits.{input_limit};
+ghost use Rattle.sg_model.specs.Spins.{IsUpOrDown};
+ghost use Rattle.sg_reader.specs.Result.{is_spin_value};
+ghost use Rattle.sg_reader.specs.Tests.{IsTestFault};
+ghost use Rattle.ising2d_c.specs.Crossing.{AreRows};
+ghost use Rattle.ising2d_c.specs.Starts.{IsDivision, entry};
+ghost use Rattle.ising2d_c.specs.Stated.{States, loops_fault, stated_fault, values_fault};
+
+use super::starts::{entries_of, refusal_of_starts};
+use sg_check::{Loop, Loops, ResultText};
+use sg_limits::INPUT_LIMIT;
+use sg_model::{Fault, Refusal, Spins};
+use std::alloc::{AllocError, Global};
+
+/// The energy, the spins and the loops that these numbers state. Whether they are a proof is not asked.
+///
+/// # Errors
+/// The first that is wrong: `TooLong` where there are more spins than a text may have bytes,
+/// `BadMember` for a value that is no spin, `TooLong` for the loops, and `BadMember` for their starts.
+pub fn stated_by(
+    alloc: Global,
+    energy: i64,
+    spins: &[i8],
+    weights: &[i64],
+    starts: &[usize],
+    bonds: &[u32],
+) -> Result<ResultText, Fault>
+    ensures states { IfOk result (States energy spins.now weights.now starts.now bonds.now) }
+    ensures few_spins { IfOk result (λ stated. length stated.spins ≤ input_limit) }
+    ensures few_loops { IfOk result (λ stated. length stated.loops ≤ input_limit) }
+    ensures refuses { IfErr result (IsTestFault (stated_fault spins.now weights.now starts.now bonds.now)) }
+{
+    let values = spins_by(alloc, spins)?;
+    if let Some(refusal) = refusal_of_loops(weights.len(), starts, bonds.len()) {
+        return Err(Fault::Refused(refusal));
+    }
+    let loops = loops_by(alloc, weights, starts, bonds)?;
+    Ok(ResultText {
+        energy,
+        spins: values,
+        loops,
+    })
+}
+
+// The spins of these values.
+fn spins_by(alloc: Global, values: &[i8]) -> Result<Spins, Fault>
+    ensures value { IfOk result (λ spins. spins ≡ values.now) }
+    ensures few { IfOk result (λ spins. length spins ≤ input_limit) }
+    ensures passes { IfOk result (λ _. values_fault values.now ≡ None) }
+    ensures refuses { IfErr result (IsTestFault (values_fault values.now)) }
+{
+    if values.len() > INPUT_LIMIT {
+        return Err(Fault::Refused(Refusal::TooLong {
+            limit: INPUT_LIMIT as u64,
+        }));
+    }
+    let mut spins = Spins::new(alloc);
+    for k in 0..values.len() {
+        if !is_spin(&values[k]) {
+            return Err(Fault::Refused(Refusal::BadMember {
+                place: 10,
+                item: k as u32,
+            }));
+        }
+        spins.push(values[k])?;
+    }
+    Ok(spins)
+}
+
+// Whether a value is one of a spin, 1 or -1.
+fn is_spin(number: &i8) -> bool
+    ensures value { result ≡ is_spin_value (Some number.now) }
+    ensures up_or_down { result ≡ true → IsUpOrDown number.now }
+{
+    number.unsigned_abs() == 1
+}
+
+// The first fault of so many loops with so many bonds.
+fn refusal_of_loops(loops: usize, starts: &[usize], bonds: usize) -> Option<Refusal>
+    ensures value { result ≡ loops_fault loops starts.now bonds }
+    ensures few { result ≡ None → loops ≤ input_limit }
+    ensures division { result ≡ None → IsDivision starts.now loops bonds }
+{
+    if loops > INPUT_LIMIT {
+        return Some(Refusal::TooLong {
+            limit: INPUT_LIMIT as u64,
+        });
+    }
+    refusal_of_starts(11, starts, loops, bonds)
+}
+
+// The loops of these rows.
+fn loops_by(
+    alloc: Global,
+    weights: &[i64],
+    starts: &[usize],
+    bonds: &[u32],
+) -> Result<Loops, AllocError>
+    requires { IsDivision starts.now (length weights.now) (length bonds.now) }
+    ensures rows { IfOk result (λ loops. AreRows loops weights.now starts.now bonds.now) }
+    ensures count { IfOk result (λ loops. length loops ≡ length weights.now) }
+{
+    let mut loops = Loops::new(alloc);
+    for k in 0..weights.len() {
+        loops.push(loop_by(alloc, weights, starts, bonds, k)?)?;
+    }
+    Ok(loops)
+}
+
+// Loop `k`.
+fn loop_by(
+    alloc: Global,
+    weights: &[i64],
+    starts: &[usize],
+    bonds: &[u32],
+    k: usize,
+) -> Result<Loop, AllocError>
+    requires weighed { k < length weights.now }
+    requires begun { k + 1 < length starts.now }
+    requires order { entry starts.now k ≤ entry starts.now (k + 1) }
+    requires last { entry starts.now (k + 1) ≤ length bonds.now }
+    ensures weight { IfOk result (λ each. each.y ≡ slice_index_or weights.now k (pos 0)) }
+    ensures bonds { IfOk result (λ each.
+        each.bonds ≡ take (entry starts.now (k + 1) - entry starts.now k) (drop (entry starts.now k) bonds.now)) }
+{
+    Ok(Loop {
+        y: weights[k],
+        bonds: entries_of(alloc, starts, bonds, k)?,
+    })
+}
