@@ -1,11 +1,22 @@
-ghost use Rattle.std.specs.Prelude.{◌≡◌, ◌<◌, ◌≤◌, All, IfOk, IsTrue};
+ghost use Rattle.std.specs.Prelude.{◌≡◌, ℕ, ◌+◌, ◌*◌, ◌<◌, ◌≤◌, length, slice_index, All, IfOk, IsTrue};
 ghost use Rattle.std.specs.List.Sorted.{IsStrictlyIncreasing};
+ghost use Rattle.sg_arena.specs.Family.{leaf_count, total_of};
+ghost use Rattle.sg_graph.specs.Table.{length_to};
 ghost use Rattle.sg_graph.specs.Web.{IsEdge, total_weight, weight_at};
+ghost use Rattle.sg_moat.specs.Input.{terminal_cost};
+ghost use Rattle.sg_pairing.specs.Matching.{NoSlackIsNegative};
+ghost use Rattle.sg_tjoin.specs.Doubled.{AreMetric, Reaches};
 
+use super::tables::terminal_tables;
 use super::{Join, NoMemory, least_join};
-use sg_graph::{Edge, Edges, Terminals, Web, connected};
+use sg_arena::Arena;
+use sg_graph::{Cuts, Edge, Edges, Table, Terminals, Web, connected};
+use sg_moat::levels;
+use sg_steps::Steps;
 use std::alloc::Global;
+use std::marker::Brand;
 use std::process::Abort;
+use std::sync::ledger::{Blank, Ledger};
 use std::test::Fail;
 
 // An edge of small weight.
@@ -70,9 +81,9 @@ fn joined(
 }
 
 // The sum of the weights of the cuts.
-fn cut_sum(join: &Join) -> i64 {
+fn cut_sum(cuts: &Cuts) -> i64 {
     let mut sum = 0i64;
-    for cut in join.cuts.as_slice() {
+    for cut in cuts.as_slice() {
         sum = sum.saturating_add(cut.y);
     }
     sum
@@ -101,7 +112,7 @@ fn a_join_has_the_edges_its_weight_and_the_cuts(rt: HostRuntime) -> Result<(), F
         let join = joined(&rt, rt.alloc(), nodes, list, ends)?;
         assert_eq!(rt; join.edges.as_slice(), edges);
         assert_eq!(rt; join.weight, weight);
-        assert_eq!(rt; cut_sum(&join), weight.saturating_mul(2));
+        assert_eq!(rt; cut_sum(&join.cuts), weight.saturating_mul(2));
     }
     Ok(())
 }
@@ -219,7 +230,104 @@ fn no_edge_set_weighs_less(rt: HostRuntime) -> Result<(), Fail> {
     for (nodes, list, ends) in rows {
         let join = joined(&rt, rt.alloc(), nodes, list, ends)?;
         assert_eq!(rt; join.weight.unsigned_abs(), least_plain(list, ends));
-        assert_eq!(rt; cut_sum(&join), join.weight.saturating_mul(2));
+        assert_eq!(rt; cut_sum(&join.cuts), join.weight.saturating_mul(2));
     }
+    Ok(())
+}
+
+// Two leaves with the duals 4 and 0.
+fn four_and_none<L: Ledger, R: Abort>(
+    rt: &R,
+    alloc: Global,
+    steps: &mut Steps<L>,
+) -> Result<Arena, NoMemory>
+    ensures { IfOk result (λ family. leaf_count family ≡ 2) }
+{
+    let mut family = Arena::open(alloc, 2)?;
+    let room = family.room();
+    let outer = family.top(0);
+    assert!(rt; outer < room);
+    assert!(rt; family.total(0) == 0);
+    assert!(rt; family.total(1) == 0);
+    family.raise(&[outer], &[], 4, steps);
+    assert!(rt; family.dual(family.leaf_node(0)) == 4);
+    assert!(rt; family.dual(family.leaf_node(1)) == 0);
+    Ok(family)
+}
+
+// Whether the totals of leaf `i` and each leaf before it are at most twice the distance of the two.
+fn row_fits(family: &Arena, terminals: &[u32], table: &Table, i: u32) -> bool
+    requires leaves { leaf_count family.now ≡ length terminals.now }
+    requires row { i < length terminals.now }
+    requires reaches { All (Reaches table.now) terminals.now }
+    ensures { IsTrue result → (j : ℕ) → j < i →
+        total_of family.now i + total_of family.now j ≤ 2 * length_to table.now (slice_index terminals.now j) }
+{
+    for j in 0..i {
+        let room = 2 * table.distance(terminals[j as usize]);
+        if family.total(i) > room || family.total(j) > room - family.total(i) {
+            return false;
+        }
+    }
+    true
+}
+
+// Whether the totals of each two leaves are at most twice the distance of their terminals, so that no
+// slack is negative.
+fn totals_fit(family: &Arena, terminals: &[u32], tables: &[Table]) -> bool
+    requires leaves { leaf_count family.now ≡ length terminals.now }
+    requires metric { AreMetric terminals.now tables.now }
+    ensures { IsTrue result → NoSlackIsNegative family.now (terminal_cost terminals.now tables.now) }
+{
+    for i in 0..terminals.len() as u32 {
+        if !row_fits(family, terminals, &tables[i as usize], i) {
+            return false;
+        }
+    }
+    true
+}
+
+// The cuts between two nodes, over these edges, of a family that has the dual 4 on the first alone.
+fn cuts_of_four<L: Ledger, R: Abort>(
+    rt: &R,
+    alloc: Global,
+    list: &[(u32, u32, i64)],
+    blank: Blank,
+) -> Result<Cuts, NoMemory>
+    requires name { blank.name ≡ L.name }
+    requires parts { blank.parts ≡ L.parts }
+    requires some { 0 < L.parts }
+{
+    let mut steps = Steps::<L>::new(blank);
+    let small = web(rt, alloc, 2, list)?;
+    assert!(rt; connected(alloc, &small)?);
+    let ends = [0, 1];
+    assert!(rt; rise_below(&ends, small.nodes()));
+    let terminals = Terminals::from_vec(Vec::from_slice(alloc, &ends)?);
+    let nodes = terminals.as_slice();
+    let tables = terminal_tables(alloc, &small, nodes)?;
+    let family = four_and_none(rt, alloc, &mut steps)?;
+    assert!(rt; totals_fit(&family, nodes, &tables));
+    levels(alloc, &small, &terminals, &tables, &family)
+}
+
+// Each cut has all the edges between the two nodes, and together they weigh as much as the dual.
+fn cuts_all_edges<L: Ledger, R: Abort>(rt: &R, alloc: Global, blank: Blank) -> Result<(), NoMemory>
+    requires name { blank.name ≡ L.name }
+    requires parts { blank.parts ≡ L.parts }
+    requires some { 0 < L.parts }
+{
+    let edges = [(0, 1, 3), (1, 0, 4), (1, 0, 2), (0, 1, 5)];
+    let cuts = cuts_of_four::<L, R>(rt, alloc, &edges, blank)?;
+    for cut in cuts.as_slice() {
+        assert_eq!(rt; cut.edges.as_slice(), [0, 1, 2, 3].as_slice());
+    }
+    assert_eq!(rt; cut_sum(&cuts), 4);
+    Ok(())
+}
+
+#[test]
+fn a_dual_is_spread_over_cuts_between_the_terminals(rt: HostRuntime) -> Result<(), Fail> {
+    cuts_all_edges::<Brand, HostRuntime>(&rt, rt.alloc(), Blank::new(1))?;
     Ok(())
 }
