@@ -20,7 +20,7 @@ derive_mates-requires-clause-paired g c =
     subst (λ (xs : List (Option Edge)). IsPaired c.self.inside.arena (λ u v. Unit {0}) xs) (sym c.deref_mut.ensures.value)
     (record { own = c.self.invariant.0.paired.own; other = c.self.invariant.0.paired.other; tight = λ t p top some. tt })
 
-same_table : (g : Over) (c : goal.After-drop-self-inside-12 g) → c.self.inside.near.table ≡ c.args.self.table
+same_table : (g : Over) (c : goal.After-drop-self-inside-15 g) → c.self.inside.near.table ≡ c.args.self.table
 same_table g c = ap (λ (s : State). s.table) c.self.view_is ∙ c.advance.ensures.table ∙ c.loop-node.invariant.0
 
 pub returns-clause-slack : goal.returns-clause-slack
@@ -38,7 +38,7 @@ returns-clause-matching g c =
     subst (λ (t : Table). IsMatching c.self.inside.arena (cost t) c.from_vec.result) (same_table g c)
     (subst (λ (xs : List ℕ). IsMatching c.self.inside.arena (cost c.self.inside.near.table) xs) (sym (c.from_vec.ensures ∙ written)) derived)
 
-matched : (g : Over) (c : goal.After-drop-self-inside-12 g) → IsMatching c.self.inside.arena (cost c.args.self.table) c.from_vec.result
+matched : (g : Over) (c : goal.After-drop-self-inside-15 g) → IsMatching c.self.inside.arena (cost c.args.self.table) c.from_vec.result
 matched g c = returns-clause-matching g c
 
 pub returns-clause-duals : goal.returns-clause-duals
