@@ -15,9 +15,9 @@
  *
  * Status. 0: answered. 1: refused; the line that says why stands in `line`, as the program prints it:
  * "refused,", the number of the refusal and the numbers that it keeps, and a line feed. 128 bytes are
- * room enough for every line. 3, of a check alone: the proof fails. 6: the memory is wanting. After 1
+ * room enough for every line. 3: a proof that is judged fails. 6: the memory is wanting. After 1
  * and 6 no result is written. docs/FORMATS.md says what each refusal means; an array of numbers is
- * refused as the JSON member of its name. The tests of a lattice, in this order:
+ * refused as the JSON member of its name. The tests of a lattice, in the order in which they are made:
  *
  *   19,1,0  the kind is none
  *   19,3,0  there are no rows
@@ -47,8 +47,9 @@
  *
  * and for a check, of the proof:
  *
- *   1,536870912  more spins or loops than that
+ *   1,536870912  more spins than that
  *   19,10,k  the value of spin k is neither 1 nor -1
+ *   1,536870912  more loops than that
  *   19,11,k  start k of the loops is wrong, as above
  */
 #ifndef ISING2D_H

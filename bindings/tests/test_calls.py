@@ -199,6 +199,9 @@ class WrongArguments(unittest.TestCase):
         refused(19, (11, 2), -10, spins, given(weights, [0, 9, 8], bonds))
         refused(19, (11, 2), -10, spins, given(weights, [0, 2**64 - 1, 8], bonds))
         refused(19, (11, 2), -10, spins, given(weights, starts, bonds[:-1]))
+        # A sum of couplings that no solver takes is judged.
+        verdict = ising2d.check("square", 2, 2, [2**63 - 1, 1, 1, 1], 0, [1] * 4, [])
+        self.assertEqual((verdict.number, verdict.kept), (2, (-(2**63) - 2,)))
         with self.assertRaises(OverflowError):
             ising2d.check(*SQUARE, 2**63, spins, loops)
         with self.assertRaises(OverflowError):

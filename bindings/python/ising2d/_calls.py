@@ -133,7 +133,7 @@ def ground_of(given: Any, loops: bool) -> Ground:
     if not loops:
         return _ground(given, (0, 0))[0]
     bonds = len(given.couplings)
-    wanted = (5 * bonds // 2 + 1, 32 * bonds + 64)
+    wanted = (5 * bonds // 2 + 1, 12 * bonds + 64)
     found, needed = _ground(given, wanted)
     if needed[0] > wanted[0] or needed[1] > wanted[1]:
         found, needed = _ground(given, needed)

@@ -1,10 +1,9 @@
 // General graphs by numbers. No number is trusted: each is tested, and the first fault is named.
-ghost use Rattle.std.specs.Prelude.{◌≡◌, ◌≢◌, ◌+◌, ◌*◌, ◌<◌, ◌≤◌, ◌^◌, ℕ, map, length, unsigned_abs, All, None, IfOk, IfErr, IfSome, true};
-ghost use Rattle.std.specs.List.{range_with_len};
+ghost use Rattle.std.specs.Prelude.{◌≡◌, ◌≢◌, ◌+◌, ◌*◌, ◌<◌, ◌≤◌, ℕ, length, All, None, IfOk, IfErr, IfSome, true};
 ghost use Rattle.sg_limits.specs.Limits.{bond_limit, spin_limit};
 ghost use Rattle.sg_model.specs.Ising.{IsBond};
 ghost use Rattle.ising2d_c.specs.Crossing.{IsJoined};
-ghost use Rattle.ising2d_c.specs.Graphs.{IsGraph, IsGraphFault, bond_by as bond_numbered, bonds_by, bonds_fault, coupling, ends_fault, first_bad as first_bad_of, first_self as first_self_of, graph_fault, is_bond as is_bond_of, spins_fault};
+ghost use Rattle.ising2d_c.specs.Graphs.{IsGraph, IsGraphFault, bond_by as bond_numbered, bonds_by, bonds_fault, ends_fault, first_bad as first_bad_of, first_self as first_self_of, graph_fault, is_bond as is_bond_of, spins_fault};
 ghost use Rattle.ising2d_c.specs.Starts.{IsDivision, entry};
 
 use super::lattices::is_coupling;

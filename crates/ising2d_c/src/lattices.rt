@@ -1,8 +1,7 @@
 // Lattices by numbers. No number is trusted: each is tested, and the first fault is named.
-ghost use Rattle.std.specs.Prelude.{◌≡◌, ◌↔◌, ◌<◌, ◌≤◌, ◌*◌, ◌^◌, length, None, All, IfOk, IfErr, IfSome, IsTrue, nat_lt, unsigned_abs};
-ghost use Rattle.sg_limits.specs.Limits.{spin_limit};
-ghost use Rattle.sg_lattice.specs.Tables.{IsSize, bond_total, lattice, least_cols as least_columns};
-ghost use Rattle.ising2d_c.specs.Lattices.{IsCoupledLattice, IsCoupling, IsCouplingFault, IsFirstOut, IsKindFault, IsLattice, IsLatticeFault, IsSizedFault, IsValueFault, kind_numbered, size_fault};
+ghost use Rattle.std.specs.Prelude.{◌≡◌, ◌↔◌, ◌<◌, ◌*◌, ◌^◌, length, None, All, IfOk, IfErr, IfSome, IsTrue, nat_lt, unsigned_abs};
+ghost use Rattle.sg_lattice.specs.Tables.{IsSize, bond_total, least_cols as least_columns};
+ghost use Rattle.ising2d_c.specs.Lattices.{IsCoupledLattice, IsCoupling, IsCouplingFault, IsFirstOut, IsLattice, IsLatticeFault, IsSizedFault, IsValueFault, kind_numbered, size_fault};
 
 use sg_lattice::{Kind, bond_count, build};
 use sg_limits::SPIN_LIMIT;

@@ -1,8 +1,6 @@
 // The line of a refusal, for a caller.
 ghost use Rattle.std.specs.Prelude.{◌≡◌, ◌⊎◌};
-ghost use Rattle.sg_model.specs.declared.refusal.Fault.{Fault as FaultValue};
-ghost use Rattle.ising2d_c.specs.Crossing.{Fills};
-ghost use Rattle.ising2d_c.specs.Refusing.{IsTold, IsToldFault};
+ghost use Rattle.ising2d_c.specs.Refusing.{IsToldFault};
 
 use super::crossing::fill;
 use sg_cli::Status;
