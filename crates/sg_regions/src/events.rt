@@ -6,7 +6,6 @@ use super::NoMemory;
 use super::adjacency::Arc;
 use super::forest::{Event, Forest, NEVER, Reach, Role, Subject, before, radius_at};
 use super::lists::{entry, number, set_entry};
-use std::cmp::Reverse;
 
 // A run has at most so many events, and so many more for each face and each arc. Past them there is
 // no proposal; a run needs about five for each face and each arc.
@@ -16,13 +15,7 @@ const EVENTS_A_PLACE: u64 = 64;
 
 impl<'a> Forest<'a> {
     fn push(&mut self, time: i64, subject: Subject) -> Result<(), NoMemory> {
-        self.entered = self.entered.wrapping_add(1);
-        self.heap.push(Reverse(Event {
-            time,
-            order: self.entered,
-            subject,
-        }))?;
-        Ok(())
+        self.agenda.push(Event { time, subject })
     }
 
     // When an outer region, which reaches so far beyond the start of an arc, gets to its end, or meets
@@ -242,7 +235,7 @@ impl<'a> Forest<'a> {
             if self.unpaired == 0 {
                 break;
             }
-            let Some(Reverse(event)) = self.heap.pop() else {
+            let Some(event) = self.agenda.pop()? else {
                 break;
             };
             self.happen(event)?;

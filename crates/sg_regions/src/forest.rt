@@ -1,10 +1,9 @@
 // The regions with the faces that they cover, and the alternating trees that they form.
 use super::NoMemory;
 use super::adjacency::Adjacency;
+use super::agenda::Agenda;
 use super::lists::{entry, number, set_entry};
 use std::alloc::Global;
-use std::cmp::Reverse;
-use std::collections::BinaryHeap;
 
 // A time that never comes.
 pub const NEVER: i64 = i64::MAX;
@@ -86,18 +85,16 @@ pub struct Link {
 
 // What an event is about: an outer region gets to the end of an arc, by the arc's place; or an inner
 // region comes down to the face that it took last, or to nothing.
-#[derive(Clone, Copy, PartialEq, Eq, PartialOrd, Ord)]
+#[derive(Clone, Copy)]
 pub enum Subject {
     Arc(u32),
     Region(u32),
 }
 
-// An event, and how many were entered before it. Of two at one time the one that was entered first
-// comes first, so that the trees grow evenly.
-#[derive(Clone, Copy, PartialEq, Eq, PartialOrd, Ord)]
+// An event, and when it comes.
+#[derive(Clone, Copy)]
 pub struct Event {
     pub time: i64,
-    pub order: u64,
     pub subject: Subject,
 }
 
@@ -126,11 +123,9 @@ pub struct Forest<'a> {
     // For each region the last walk up the trees that met it, and the number of the walk.
     pub seen: Vec<u32>,
     pub walk: u32,
-    pub heap: BinaryHeap<Reverse<Event>>,
+    pub agenda: Agenda,
     // For each arc the time of the event that waits for it.
     pub due: Vec<i64>,
-    // How many events were entered.
-    pub entered: u64,
 }
 
 impl<'a> Forest<'a> {
@@ -153,9 +148,8 @@ impl<'a> Forest<'a> {
             members: vec![in alloc; None; count]?,
             seen: vec![in alloc; 0u32; count]?,
             walk: 0,
-            heap: BinaryHeap::new(alloc),
+            agenda: Agenda::new(alloc)?,
             due: vec![in alloc; NEVER; faces.arc_count()]?,
-            entered: 0,
         })
     }
 
@@ -267,6 +261,12 @@ impl<'a> Forest<'a> {
     // The faces that a region and its parts took; with `itself` false, the parts alone.
     pub fn covered(&self, name: u32, itself: bool) -> Result<Vec<u32>, NoMemory> {
         let mut faces = Vec::new(self.alloc);
+        if self.is_single(name) {
+            if itself {
+                self.add_layer(name, &mut faces)?;
+            }
+            return Ok(faces);
+        }
         for part in &self.parts(name)? {
             if itself || *part != name {
                 self.add_layer(*part, &mut faces)?;

@@ -59,8 +59,8 @@ impl<'a> Search<'a> {
         Ok(())
     }
 
-    // Offers a route over each arc that leaves a face.
-    fn spread(&mut self, face: u32, distance: i64) -> Result<(), NoMemory> {
+    // Offers a route over each arc that leaves a face, unless the goal is no farther already.
+    fn spread(&mut self, face: u32, distance: i64, goal: u32) -> Result<(), NoMemory> {
         let faces = self.faces;
         for arc in faces.arcs_of(face) {
             let route = Route {
@@ -68,12 +68,14 @@ impl<'a> Search<'a> {
                 from: face,
                 bond: arc.edge,
             };
-            self.offer(arc.to, route)?;
+            if route.distance < self.route(goal).distance {
+                self.offer(arc.to, route)?;
+            }
         }
         Ok(())
     }
 
-    // Finds shortest routes from a face to those that are no farther than another.
+    // Finds shortest routes from a face to another, and to those that are nearer.
     fn find(&mut self, from: u32, to: u32) -> Result<(), NoMemory> {
         let start = Route {
             distance: 0,
@@ -85,11 +87,11 @@ impl<'a> Search<'a> {
             let Some(Reverse(Candidate { distance, face })) = self.heap.pop() else {
                 break;
             };
-            if face == to {
+            if distance >= self.route(to).distance {
                 break;
             }
             if self.route(face).distance == distance {
-                self.spread(face, distance)?;
+                self.spread(face, distance, to)?;
             }
         }
         Ok(())
