@@ -1,5 +1,6 @@
 //! Tests of the parts below the solver, over instances that are read from texts: the tables of the
-//! lattices, the faces, the dual web, other couplings, and the plain reference solver.
+//! lattices, the faces, the dual web, the components, other couplings, the walk that breaks given bonds,
+//! and the plain reference solver.
 //!
 //! Their values come from outside the program: drawn and counted by hand.
 #![tactic(auto)]
@@ -16,3 +17,5 @@ mod spins;
 mod tables;
 #[cfg(test)]
 mod texts;
+#[cfg(test)]
+mod walks;
