@@ -7,7 +7,10 @@
 //! rigid bonds join form clusters, which a lattice with many ground states keeps in all of them.
 //!
 //! For the next engineer: `specs/Cost.antt` and `specs/Cluster.antt` say what is computed. `costs` rests
-//! on the law `forced_minimum` and on the contract of `solve`, and on nothing of its body.
+//! on the law `forced_minimum` and on the contract of `solve`, and on nothing of its body. It takes each
+//! component by itself (`components`): `proofs/PartCosts.antt` says why a bond costs in the whole what it
+//! costs there. `clusters` asks only whether a cost is above 0 (`telling`): the loops of a proof tell it
+//! of each bond that they leave room at (`room`), and `proofs/RigidBounds.antt` says why.
 #![tactic(auto)]
 
 mod breaking;
