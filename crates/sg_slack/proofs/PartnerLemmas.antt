@@ -1,12 +1,12 @@
 -- The members of other tops that are kept as the nearest.
 use Rattle.std.proofs.Common.{◌≡◌, ◌≢◌, ℕ, ◌<◌, ◌≤◌, ◌+◌, List, [], ◌∷◌, ◌++◌, length, get_or, ℤ, pos}
-use Rattle.std.proofs.Common.{◌+ℤ◌, ◌-ℤ◌, ◌≤ℤ◌, Option, Some, None, ◌⊎◌, inl, inr, refl, sym, ap, ◌∙◌, subst, arith}
+use Rattle.std.proofs.Common.{◌+ℤ◌, ◌-ℤ◌, Option, Some, None, inl, inr, refl, sym, ap, ◌∙◌, subst, arith}
 use Rattle.std.proofs.lemmas.Bool.{cases_eq}
 use Rattle.std.proofs.lemmas.Int.{ints}
 use Rattle.std.proofs.lemmas.List.{get_or_append_left}
 use Rattle.std.proofs.Common.{length-append}
 use Rattle.sg_slack.specs.Kept.{kept_at}
-use Rattle.sg_slack.specs.Partner.{AreRisen, HasRoom, HasSlots, IsCoarser, IsPartner, IsPartnerAt, KeepsPartners, away_of, group_at, partner_at, top_of}
+use Rattle.sg_slack.specs.Partner.{AreRisen, HasRoom, HasSlots, IsCoarser, IsPartner, KeepsPartners, away_of, group_at, partner_at, top_of}
 use Rattle.sg_slack.specs.Scan.{IsApartOf}
 use Rattle.sg_slack.specs.Slack.{Least, slack_of, total_at}
 use Rattle.sg_slack.specs.Table.{Table, cost_of}

@@ -1,5 +1,5 @@
 -- For each member the nearest member of another top, as it was when the tops were last given.
-use Rattle.std.specs.Prelude.{◌≡◌, ◌≢◌, ℕ, ◌*◌, ◌<◌, ◌≤◌, List, length, slice_index, slice_index_or, ℤ, ◌+ℤ◌, ◌-ℤ◌}
+use Rattle.std.specs.Prelude.{◌≡◌, ◌≢◌, ℕ, ◌<◌, ◌≤◌, List, length, slice_index, slice_index_or, ℤ, ◌+ℤ◌, ◌-ℤ◌}
 use Rattle.std.specs.Prelude.{◌≤ℤ◌, Option, Some, None}
 use Rattle.sg_slack.specs.declared.near.Kept.{Kept}
 use Rattle.sg_slack.specs.declared.partners.Partner.{Partner}

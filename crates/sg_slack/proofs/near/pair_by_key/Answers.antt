@@ -1,8 +1,7 @@
 -- `pair_by_key`: the slack by the key that is kept.
-use Rattle.std.proofs.Common.{◌≡◌, ℤ, ap, arith, to_z, of_z, w64}
+use Rattle.std.proofs.Common.{◌≡◌, ap, arith, to_z, of_z, w64}
 use Rattle.std.proofs.lemmas.Int.{ints}
 use Rattle.sg_slack.specs.Slack.{slack_of}
-use Rattle.sg_slack.specs.declared.Pair.{Pair}
 use Rattle.sg_slack.proofs.near.pair_by_key.Goals as goal
 
 pub narrow_difference-left-requires : goal.narrow_difference-left-requires

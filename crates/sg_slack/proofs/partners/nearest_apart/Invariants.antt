@@ -1,5 +1,4 @@
 -- `nearest_apart`: the least of the members so far.
-use Rattle.std.proofs.Common.{◌≤◌}
 use Rattle.sg_slack.specs.Scan.{IsApartOf}
 use Rattle.sg_slack.specs.Slack.{Least}
 use Rattle.sg_slack.proofs.partners.nearest_apart.Given as goal

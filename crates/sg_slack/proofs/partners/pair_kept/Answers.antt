@@ -1,8 +1,7 @@
 -- `pair_kept`: the slack by the cost that is kept.
-use Rattle.std.proofs.Common.{◌≡◌, ℤ, ap, arith, to_z, of_z, w64}
+use Rattle.std.proofs.Common.{◌≡◌, ap, arith, to_z, of_z, w64}
 use Rattle.std.proofs.lemmas.Int.{ints}
 use Rattle.sg_slack.specs.Slack.{slack_of}
-use Rattle.sg_slack.specs.declared.Pair.{Pair}
 use Rattle.sg_slack.proofs.partners.pair_kept.Goals as goal
 
 pub difference-left-requires : goal.difference-left-requires

@@ -1,5 +1,5 @@
 -- `renew`: member by member.
-use Rattle.std.proofs.Common.{◌≡◌, ℕ, ◌<◌, ◌≤◌, ◌+◌, length, arith, inl, inr, subst, sym, ◌∙◌}
+use Rattle.std.proofs.Common.{length, arith, inl, inr, subst, sym, ◌∙◌}
 use Rattle.sg_slack.proofs.NearLemmas.{Before-more}
 use Rattle.sg_slack.proofs.ScanLemmas.{below_next}
 use Rattle.sg_slack.specs.Partner.{IsPartner, partner_at, top_of}

@@ -1,5 +1,5 @@
 -- `renew_at`: what the scan finds is kept.
-use Rattle.std.proofs.Common.{◌≡◌, ◌<◌, None, length, set, subst, sym, arith}
+use Rattle.std.proofs.Common.{◌<◌, None, length, subst, sym, arith}
 use Rattle.std.proofs.lemmas.List.{get_or-set_same}
 use Rattle.sg_slack.proofs.PartnerLemmas.{IsPartner-scanned}
 use Rattle.sg_slack.specs.Partner.{IsPartner, top_of}
