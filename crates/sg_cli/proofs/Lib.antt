@@ -4,3 +4,4 @@ mod Numerals
 mod TakesLemmas
 mod AnswerLemmas
 mod InputLemmas
+mod FaultReplies

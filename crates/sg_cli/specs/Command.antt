@@ -10,7 +10,8 @@ use Rattle.sg_cli.specs.Numeral.{number_in}
 use Rattle.sg_cli.specs.declared.command.Command.{Command}
 use Rattle.sg_cli.specs.declared.command.Command.TheVariants.{Read, Draw}
 use Rattle.sg_cli.specs.declared.command.Reading.TheVariants.{Study, Check, Graph}
-use Rattle.sg_cli.specs.declared.command.Study.TheVariants.{Energy, Ground, Wall, Bonds, Clusters, Report, Ranges, Maxcut}
+use Rattle.sg_cli.specs.declared.command.Study.TheVariants.{Energy, Ground, Wall, Bonds, Clusters}
+use Rattle.sg_cli.specs.declared.command.Study.TheVariants.{Report, Ranges, Maxcut}
 use Rattle.sg_cli.specs.declared.command.GraphTask.TheVariants.{TJoin, Postman}
 use Rattle.sg_cli.specs.declared.command.Drawing.{Drawing}
 use Rattle.sg_cli.specs.declared.command.Drawing.TheVariants.{Gen, Sample, Ensemble, Widths}
@@ -69,7 +70,8 @@ gen_of seed kind rows cols =
 -- a sample of the square lattice
 abbrev pub sample_of : List ℕ → List ℕ → List ℕ → Option Command
 sample_of seed rows cols =
-    option_and_then (λ s. option_and_then (λ size. Some (Draw (Sample s size))) (size_in 1 spin_limit rows cols)) (seed_in seed)
+    option_and_then (λ s. option_and_then (λ size. Some (Draw (Sample s size)))
+    (size_in 1 spin_limit rows cols)) (seed_in seed)
 
 -- an ensemble of so many cylinders
 abbrev pub ensemble_of : List ℕ → List ℕ → List ℕ → List ℕ → Option Command

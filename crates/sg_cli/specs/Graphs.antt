@@ -1,4 +1,5 @@
--- What is answered of a connected weighted graph: a least join of its terminals, or a shortest closed walk over every edge.
+-- What is answered of a connected weighted graph: a least join of its terminals, or a shortest closed walk over every
+-- edge.
 use Rattle.std.specs.Prelude.{◌≡◌, ℕ, ◌*◌, ℤ, pos, Bool, true, false, List, map, sum_by}
 use Rattle.sg_graph.specs.declared.cut.Cut.{Cut}
 use Rattle.sg_graph.specs.Join.{IsLeastJoin}

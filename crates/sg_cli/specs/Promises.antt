@@ -34,15 +34,17 @@ pub record AnswersSource (reading : Reading) (left : Option (List ℕ)) (text : 
   pub told : Told left bytes
   pub answers : AnswersInput reading bytes text status
 
--- what the words answer among these laws: there are bytes, those that the source tells where it tells them, and this text
--- is served to them
-pub record IsServed (words : List (List ℕ)) (laws : List Law) (left : Option (List ℕ)) (text : List ℕ) (status : Status) : Type 0 where
+-- what the words answer among these laws: there are bytes, those that the source tells where it tells them, and this
+-- text is served to them
+pub record IsServed (words : List (List ℕ)) (laws : List Law) (left : Option (List ℕ)) (text : List ℕ)
+    (status : Status) : Type 0 where
   pub bytes : List ℕ
   pub told : Told left bytes
   pub served : Served words laws bytes text status
 
 -- the sink has got exactly one text, and it is what the words answer to the input with this status
-pub record AnswersWhole (words : List (List ℕ)) (laws : List Law) (status : Status) (left before after : Option (List ℕ)) : Type 0 where
+pub record AnswersWhole (words : List (List ℕ)) (laws : List Law) (status : Status)
+    (left before after : Option (List ℕ)) : Type 0 where
   pub text : List ℕ
   pub served : IsServed words laws left text status
   pub written : Grows text before after

@@ -1,6 +1,6 @@
 -- What is answered: the status and the whole text that belong to the words, the laws and the bytes.
-use Rattle.std.specs.Prelude.{◌≡◌, ◌≢◌, ◌<◌, ◌≤◌, ◌*◌, ◌-◌, ◌+ℤ◌, ◌-ℤ◌, ◌*ℤ◌, ℕ, ℤ, pos, Bool, true, false, Option, Some, None}
-use Rattle.std.specs.Prelude.{List, [], ◌∷◌, length, map, codes, ⊤}
+use Rattle.std.specs.Prelude.{◌≡◌, ◌≢◌, ◌<◌, ◌≤◌, ◌*◌, ◌-◌, ◌+ℤ◌, ◌-ℤ◌, ◌*ℤ◌, ℕ, ℤ, pos, Bool, true, false}
+use Rattle.std.specs.Prelude.{Option, Some, None, List, [], ◌∷◌, length, map, codes, ⊤}
 use Rattle.sg_limits.specs.Limits.{input_limit}
 use Rattle.sg_model.specs.declared.refusal.Refusal.{Refusal}
 use Rattle.sg_model.specs.declared.refusal.Refusal.TheVariants.{TooLong, NoSeam, UnknownLaw}
@@ -49,7 +49,8 @@ use Rattle.sg_cli.specs.declared.command.Reading.{Reading}
 use Rattle.sg_cli.specs.declared.command.Reading.TheVariants as reading
 use Rattle.sg_cli.specs.declared.command.Size.{Size}
 use Rattle.sg_cli.specs.declared.command.Study.{Study}
-use Rattle.sg_cli.specs.declared.command.Study.TheVariants.{Energy, Ground, Wall, Bonds, Clusters, Report, Ranges, Maxcut}
+use Rattle.sg_cli.specs.declared.command.Study.TheVariants.{Energy, Ground, Wall, Bonds, Clusters}
+use Rattle.sg_cli.specs.declared.command.Study.TheVariants.{Report, Ranges, Maxcut}
 use Rattle.sg_cli.specs.declared.status.Status.{Status}
 use Rattle.sg_cli.specs.declared.status.Status.TheVariants.{Done, Refused, Usage, No}
 
@@ -61,6 +62,11 @@ usage_text = codes "usage\n"
 pub record IsRefused (refusal : Refusal) (text : List ℕ) (status : Status) : Type 0 where
   pub ended : status ≡ Refused
   pub printed : text ≡ refusal_text refusal
+
+-- the line of a fault that refuses the input; want of memory has none
+abbrev pub NamesFault : Fault → List ℕ → Status → Type 0
+NamesFault (fault.Refused refusal) text status = IsRefused refusal text status
+NamesFault fault.NoMemory text status = ⊥
 
 -- a ground state with the least spin of each component up, and its energy
 pub record PrintsGroundState (inst : Ising) (text : List ℕ) (status : Status) : Type 0 where
@@ -195,8 +201,8 @@ pub data AnswersCheck (bytes text : List ℕ) (status : Status) : Type 0 where
 
 -- what a task on a graph answers to a text: the first fault, or the answer to its graph
 pub data AnswersGraph (task : GraphTask) (bytes text : List ℕ) (status : Status) : Type 0 where
-  GraphFaultNamed : (refusal : Refusal) → RefusesNetwork (takes_terms task) bytes refusal → IsRefused refusal text status
-      → AnswersGraph task bytes text status
+  GraphFaultNamed : (refusal : Refusal) → RefusesNetwork (takes_terms task) bytes refusal
+      → IsRefused refusal text status → AnswersGraph task bytes text status
   GraphSolved : (g : Graph) (terminals : List ℕ) → GivesNetwork (takes_terms task) bytes g terminals
       → AnswersTask task g terminals text status → AnswersGraph task bytes text status
 
@@ -212,12 +218,13 @@ pub record AnswersInput (reading : Reading) (bytes text : List ℕ) (status : St
   pub short : length bytes ≤ input_limit → AnswersText reading bytes text status
 
 -- a lattice with its couplings
-pub record PrintsLattice (kind : Kind) (size : Size) (couplings : List ℤ) (text : List ℕ) (status : Status) : Type 0 where
+pub record PrintsLattice (kind : Kind) (size : Size) (couplings : List ℤ) (text : List ℕ)
+    (status : Status) : Type 0 where
   pub printed : text ≡ instance_text kind size.rows size.cols couplings
   pub done : status ≡ Done
 
--- the least energy of an instance, with its numbers of spins and bonds, its weight, and the weight of the bonds that are
--- broken at the least energy: twice that is the energy and the weight together
+-- the least energy of an instance, with its numbers of spins and bonds, its weight, and the weight of the bonds that
+-- are broken at the least energy: twice that is the energy and the weight together
 pub record PrintsSample (inst : Ising) (text : List ℕ) (status : Status) : Type 0 where
   pub energy : ℤ
   pub broken : ℤ
@@ -228,7 +235,8 @@ pub record PrintsSample (inst : Ising) (text : List ℕ) (status : Status) : Typ
 
 -- a sample is refused as any instance where it is not fit
 pub data AnswersSample (inst : Ising) (text : List ℕ) (status : Status) : Type 0 where
-  SampleUnfit : (refusal : Refusal) → IsUnfit inst refusal → IsRefused refusal text status → AnswersSample inst text status
+  SampleUnfit : (refusal : Refusal) → IsUnfit inst refusal → IsRefused refusal text status
+      → AnswersSample inst text status
   SampleSolved : IsFit inst → PrintsSample inst text status → AnswersSample inst text status
 
 -- the couplings of a lattice: the first draws, one for each bond in order
@@ -240,20 +248,23 @@ abbrev pub drawn_lattice : Kind → Size → (ℕ → List ℤ) → Ising
 drawn_lattice kind size stream = lattice kind size.rows size.cols (drawn_couplings kind size stream)
 
 -- the wall energies of so many samples, their sum, and the sum of their squares
-pub record PrintsEnsemble (size : Size) (count : ℕ) (stream : ℕ → List ℤ) (text : List ℕ) (status : Status) : Type 0 where
+pub record PrintsEnsemble (size : Size) (count : ℕ) (stream : ℕ → List ℤ) (text : List ℕ)
+    (status : Status) : Type 0 where
   pub walls : List ℤ
   pub exact : AreWalls size.rows size.cols count (stream (count * draw_count size.rows size.cols)) walls
   pub printed : text ≡ ensemble_text walls (total walls) (total_of_squares walls)
   pub done : status ≡ Done
 
 -- an ensemble is refused as its first sample where that is not fit
-pub data AnswersEnsemble (size : Size) (count : ℕ) (stream : ℕ → List ℤ) (text : List ℕ) (status : Status) : Type 0 where
-  EnsembleUnfit : (refusal : Refusal) → IsUnfit (drawn_lattice Cylinder size stream) refusal → IsRefused refusal text status
-      → AnswersEnsemble size count stream text status
+pub data AnswersEnsemble (size : Size) (count : ℕ) (stream : ℕ → List ℤ) (text : List ℕ)
+    (status : Status) : Type 0 where
+  EnsembleUnfit : (refusal : Refusal) → IsUnfit (drawn_lattice Cylinder size stream) refusal
+      → IsRefused refusal text status → AnswersEnsemble size count stream text status
   EnsembleFound : PrintsEnsemble size count stream text status → AnswersEnsemble size count stream text status
 
 -- the sums over the ensembles of 3 columns and more, up to those of the size
-pub record PrintsWidths (size : Size) (count : ℕ) (stream : ℕ → List ℤ) (text : List ℕ) (status : Status) : Type 0 where
+pub record PrintsWidths (size : Size) (count : ℕ) (stream : ℕ → List ℤ) (text : List ℕ)
+    (status : Status) : Type 0 where
   pub widths : List Width
   pub exact : AreWidths size.rows count stream (size.cols - 2) widths
   pub printed : text ≡ widths_text (map (λ w. w.cols) widths) (map (λ w. w.sum) widths) (map (λ w. w.squares) widths)
@@ -286,7 +297,8 @@ pub data AnswersWidths (size : Size) (count : ℕ) (stream : ℕ → List ℤ) (
 abbrev pub AnswersDraws : Drawing → (ℕ → ℕ → List ℤ) → List ℕ → Status → Type 0
 AnswersDraws (Gen seed kind size) stream text status =
     PrintsLattice kind size (drawn_couplings kind size (stream seed)) text status
-AnswersDraws (Sample seed size) stream text status = AnswersSample (drawn_lattice Square size (stream seed)) text status
+AnswersDraws (Sample seed size) stream text status =
+    AnswersSample (drawn_lattice Square size (stream seed)) text status
 AnswersDraws (Ensemble seed size count) stream text status = AnswersEnsemble size count (stream seed) text status
 AnswersDraws (Widths seed size count) stream text status = AnswersWidths size count (stream seed) text status
 

@@ -6,13 +6,13 @@ ghost use Rattle.sg_cli.specs.Input.{GivesProof, RefusesProofBy};
 ghost use Rattle.sg_cli.specs.Promises.{IsAnswered};
 ghost use Rattle.sg_cli.specs.Served.{AnswersCheck, PrintsVerdict, status_by};
 
-use super::reply::{NoMemory, Reply, refuse};
+use super::reply::{NoMemory, Reply, refuse_fault};
 use super::status::Status;
 use sg_check::{Checker, ResultText, Verdict};
 use sg_model::{Fault, Instance};
 use sg_reader::{no_more, read_instance, read_result};
 use sg_report::verdict_text;
-use std::alloc::{AllocError, Global};
+use std::alloc::Global;
 
 /// What `check` answers to a text within the limit of bytes.
 pub fn check_reply(alloc: Global, bytes: &[u8]) -> Result<Reply, NoMemory>
@@ -22,8 +22,7 @@ pub fn check_reply(alloc: Global, bytes: &[u8]) -> Result<Reply, NoMemory>
 {
     match read_proof(alloc, bytes) {
         Ok((instance, stated)) => verdict_reply(alloc, &instance, &stated),
-        Err(Fault::Refused(refusal)) => refuse(alloc, &refusal),
-        Err(Fault::NoMemory) => Err(AllocError),
+        Err(fault) => refuse_fault(alloc, &fault),
     }
 }
 

@@ -9,13 +9,13 @@ ghost use Rattle.sg_cli.specs.Served.{AnswersEnsemble, PrintsEnsemble, drawn_lat
 
 use super::command::Size;
 use super::drawn::drawn_planar;
-use super::reply::{NoMemory, Reply, done, refuse};
+use super::reply::{NoMemory, Reply, done, refuse_fault};
 use sg_ensemble::ensemble;
 use sg_lattice::Kind;
 use sg_laws::{Disorder, start};
 use sg_model::Fault;
 use sg_report::ensemble_text;
-use std::alloc::{AllocError, Global};
+use std::alloc::Global;
 
 /// The wall energies of cylinders whose couplings are the draws of the law after the seed, or the
 /// refusal of a first sample that is not fit.
@@ -35,8 +35,7 @@ pub fn ensemble_reply(
 {
     match test_first(alloc, law, seed, size) {
         Ok(()) => walls_reply(alloc, law, seed, size, count),
-        Err(Fault::Refused(refusal)) => refuse(alloc, &refusal),
-        Err(Fault::NoMemory) => Err(AllocError),
+        Err(fault) => refuse_fault(alloc, &fault),
     }
 }
 

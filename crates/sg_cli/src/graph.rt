@@ -10,13 +10,12 @@ ghost use Rattle.sg_cli.specs.Served.{AnswersGraph};
 
 use super::command::GraphTask;
 use super::postman::postman_reply;
-use super::reply::{NoMemory, Reply, refuse};
+use super::reply::{NoMemory, Reply, refuse_fault};
 use super::tjoin::tjoin_reply;
 use sg_check::{Loop, Loops};
 use sg_graph::Cuts;
 use sg_graph_text::{Network, read_network};
-use sg_model::Fault;
-use std::alloc::{AllocError, Global};
+use std::alloc::Global;
 
 /// What a task on a graph answers to a text within the limit of bytes.
 pub fn graph_reply(alloc: Global, task: GraphTask, bytes: &[u8]) -> Result<Reply, NoMemory>
@@ -26,8 +25,7 @@ pub fn graph_reply(alloc: Global, task: GraphTask, bytes: &[u8]) -> Result<Reply
 {
     match read_network(alloc, bytes, takes_terminals(task)) {
         Ok(network) => network_reply(alloc, task, &network),
-        Err(Fault::Refused(refusal)) => refuse(alloc, &refusal),
-        Err(Fault::NoMemory) => Err(AllocError),
+        Err(fault) => refuse_fault(alloc, &fault),
     }
 }
 

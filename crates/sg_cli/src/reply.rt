@@ -1,10 +1,10 @@
-// A reply, and the two ways in which one is made everywhere: a refusal, and a text that answers.
+// A reply, and the ways in which one is made everywhere: a refusal, and a text that answers.
 ghost use Rattle.std.specs.Prelude.{◌≡◌, IfOk};
 ghost use Rattle.sg_cli.specs.Promises.{IsAnswered};
-ghost use Rattle.sg_cli.specs.Served.{IsRefused};
+ghost use Rattle.sg_cli.specs.Served.{IsRefused, NamesFault};
 
 use super::status::Status;
-use sg_model::Refusal;
+use sg_model::{Fault, Refusal};
 use sg_report::refusal_text;
 use std::alloc::{AllocError, Global};
 
@@ -28,6 +28,17 @@ pub fn refuse(alloc: Global, refusal: &Refusal) -> Result<Reply, NoMemory>
         status: Status::Refused,
         text,
     })
+}
+
+/// The line of a fault that refuses the input, and its status. Want of memory is handed on.
+pub fn refuse_fault(alloc: Global, fault: &Fault) -> Result<Reply, NoMemory>
+    ensures named { IfOk result (λ reply. NamesFault fault.now reply.text.items reply.status) }
+    ensures answered { IfOk result (λ reply. IsAnswered reply.status) }
+{
+    match fault {
+        Fault::Refused(refusal) => refuse(alloc, refusal),
+        Fault::NoMemory => Err(AllocError),
+    }
 }
 
 /// A text that answers the command.

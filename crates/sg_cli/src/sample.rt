@@ -9,14 +9,13 @@ ghost use Rattle.sg_cli.specs.Served.{AnswersSample, PrintsSample, drawn_lattice
 use super::command::Size;
 use super::counts::{bond_count, size_sum};
 use super::drawn::drawn_planar;
-use super::reply::{NoMemory, Reply, done, refuse};
+use super::reply::{NoMemory, Reply, done, refuse_fault};
 use sg_ground::solve;
 use sg_lattice::Kind;
 use sg_laws::Disorder;
-use sg_model::Fault;
 use sg_planar::Planar;
 use sg_report::sample_text;
-use std::alloc::{AllocError, Global};
+use std::alloc::Global;
 
 /// The least energy of a square lattice whose couplings are the first draws of the law after the
 /// seed, or the refusal of a sample that is not fit. Nothing of the sample is kept.
@@ -33,8 +32,7 @@ pub fn sample_reply(
 {
     match drawn_planar(alloc, law, seed, Kind::Square, size) {
         Ok(planar) => summary_reply(alloc, &planar),
-        Err(Fault::Refused(refusal)) => refuse(alloc, &refusal),
-        Err(Fault::NoMemory) => Err(AllocError),
+        Err(fault) => refuse_fault(alloc, &fault),
     }
 }
 

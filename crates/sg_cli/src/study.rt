@@ -13,14 +13,14 @@ use super::energy::energy_reply;
 use super::ground::ground_reply;
 use super::maxcut::maxcut_reply;
 use super::ranges::ranges_reply;
-use super::reply::{NoMemory, Reply, refuse};
+use super::reply::{NoMemory, Reply, refuse_fault};
 use super::report::report_reply;
 use super::wall::wall_reply;
 use sg_json::{is_json, read_json};
 use sg_model::{Fault, Instance};
 use sg_planar::{NotFit, Planar};
 use sg_reader::{no_more, read_instance};
-use std::alloc::{AllocError, Global};
+use std::alloc::Global;
 
 /// What a study answers to a text within the limit of bytes.
 pub fn study_reply(alloc: Global, study: Study, bytes: &[u8]) -> Result<Reply, NoMemory>
@@ -30,8 +30,7 @@ pub fn study_reply(alloc: Global, study: Study, bytes: &[u8]) -> Result<Reply, N
 {
     match read_planar(alloc, bytes) {
         Ok(planar) => fit_reply(alloc, study, &planar),
-        Err(Fault::Refused(refusal)) => refuse(alloc, &refusal),
-        Err(Fault::NoMemory) => Err(AllocError),
+        Err(fault) => refuse_fault(alloc, &fault),
     }
 }
 

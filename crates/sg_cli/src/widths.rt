@@ -9,12 +9,12 @@ ghost use Rattle.sg_cli.specs.Served.{AnswersWidths, IsWidthFault, PrintsWidths}
 
 use super::command::Size;
 use super::ensemble::test_first;
-use super::reply::{NoMemory, Reply, done, refuse};
+use super::reply::{NoMemory, Reply, done, refuse_fault};
 use sg_ensemble::{Width, widths};
 use sg_laws::Disorder;
 use sg_model::Fault;
 use sg_report::widths_text;
-use std::alloc::{AllocError, Global};
+use std::alloc::Global;
 
 /// The sums over an ensemble for each width from 3 columns to those of the size, each with the draws
 /// of the law after the seed, or the refusal of the least width whose first sample is not fit.
@@ -35,8 +35,7 @@ pub fn widths_reply(
 {
     match test_widths(alloc, law, seed, size) {
         Ok(()) => sums_reply(alloc, law, seed, size, count),
-        Err(Fault::Refused(refusal)) => refuse(alloc, &refusal),
-        Err(Fault::NoMemory) => Err(AllocError),
+        Err(fault) => refuse_fault(alloc, &fault),
     }
 }
 
@@ -93,38 +92,35 @@ fn text_of(alloc: Global, widths: &[Width]) -> Result<Vec<u8>, NoMemory>
     ensures { IfOk result (λ text. text.items
         ≡ widths_bytes (map (λ w. w.cols) widths.now) (map (λ w. w.sum) widths.now) (map (λ w. w.squares) widths.now)) }
 {
-    let cols = columns(alloc, widths)?;
-    let sums = sums(alloc, widths)?;
-    let squares = squares(alloc, widths)?;
-    widths_text(alloc, cols.as_slice(), sums.as_slice(), squares.as_slice())
+    let found = columns_of(alloc, widths)?;
+    widths_text(alloc, &found.cols, &found.sums, &found.squares)
 }
 
-fn columns(alloc: Global, widths: &[Width]) -> Result<Vec<u32>, NoMemory>
-    ensures { IfOk result (λ found. found.items ≡ map (λ w. w.cols) widths.now) }
-{
-    let mut found = Vec::with_capacity(alloc, widths.len())?;
-    for width in widths {
-        found.push(width.cols)?;
-    }
-    Ok(found)
+// The widths as three columns.
+#[derive(Drop)]
+struct Columns {
+    cols: Vec<u32>,
+    sums: Vec<i64>,
+    squares: Vec<i128>,
 }
 
-fn sums(alloc: Global, widths: &[Width]) -> Result<Vec<i64>, NoMemory>
-    ensures { IfOk result (λ found. found.items ≡ map (λ w. w.sum) widths.now) }
+// What each width has, column by column.
+fn columns_of(alloc: Global, widths: &[Width]) -> Result<Columns, NoMemory>
+    ensures cols { IfOk result (λ found. found.cols.items ≡ map (λ w. w.cols) widths.now) }
+    ensures sums { IfOk result (λ found. found.sums.items ≡ map (λ w. w.sum) widths.now) }
+    ensures squares { IfOk result (λ found. found.squares.items ≡ map (λ w. w.squares) widths.now) }
 {
-    let mut found = Vec::with_capacity(alloc, widths.len())?;
+    let mut cols = Vec::with_capacity(alloc, widths.len())?;
+    let mut sums = Vec::with_capacity(alloc, widths.len())?;
+    let mut squares = Vec::with_capacity(alloc, widths.len())?;
     for width in widths {
-        found.push(width.sum)?;
+        cols.push(width.cols)?;
+        sums.push(width.sum)?;
+        squares.push(width.squares)?;
     }
-    Ok(found)
-}
-
-fn squares(alloc: Global, widths: &[Width]) -> Result<Vec<i128>, NoMemory>
-    ensures { IfOk result (λ found. found.items ≡ map (λ w. w.squares) widths.now) }
-{
-    let mut found = Vec::with_capacity(alloc, widths.len())?;
-    for width in widths {
-        found.push(width.squares)?;
-    }
-    Ok(found)
+    Ok(Columns {
+        cols,
+        sums,
+        squares,
+    })
 }
