@@ -1,5 +1,5 @@
 -- Each part of an instance is connected.
-use Rattle.std.proofs.Common.{◌≡◌, ℕ, zero, suc, ◌<◌, List, [], ◌∷◌, arith, get_or, length, subst, sym}
+use Rattle.std.proofs.Common.{ℕ, zero, suc, ◌<◌, List, [], ◌∷◌, arith, get_or, length}
 use Rattle.std.specs.List.{AllZip}
 use Rattle.sg_model.specs.Connected.{IsConnected}
 use Rattle.sg_model.specs.Ising.{Ising}
