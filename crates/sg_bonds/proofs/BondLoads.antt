@@ -1,7 +1,5 @@
 -- Loads in 64 bits: one weight more at a bond, and one loop more.
-use Rattle.std.proofs.Common.{◌≡◌, ◌≢◌, inl, inr, ℕ, ◌+◌, ◌-◌, ◌<◌, ◌≤◌, ◌^◌, Bool, true, false, cond, ◌||◌, eqb, List, take, set, refl, sym, ◌∙◌, ap, subst, arith, length, get_or}
-use Rattle.std.proofs.lemmas.Bool.{cases_eq, eq-eqb, ne_eqb}
-use Rattle.std.proofs.lemmas.List.{get_or-set_same, get_or-set_other}
+use Rattle.std.proofs.Common.{◌≡◌, ℕ, ◌+◌, ◌<◌, ◌≤◌, Bool, true, false, cond, ◌||◌, eqb, List, take, sym, subst, arith, length, get_or}
 use Rattle.std.proofs.lemmas.List.Folds.{list_any_more}
 use Rattle.sg_sums.specs.Sets.{holds}
 use Rattle.sg_bonds.specs.Loads.{IsLoad}

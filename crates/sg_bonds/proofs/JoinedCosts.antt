@@ -1,5 +1,5 @@
 -- The costs of the parts, one behind another, make those of the whole.
-use Rattle.std.proofs.Common.{inl, inr, ◌≡◌, ◌≢◌, ◌⊎◌, ℕ, suc, ◌+◌, ◌<◌, ◌≤◌, ℤ, pos, Bool, true, false, cond, List, [], ◌∷◌, refl, sym, ◌∙◌, ap, subst, arith, sum_by, length, get_or, All}
+use Rattle.std.proofs.Common.{inl, inr, ◌≡◌, ◌≢◌, ◌⊎◌, ℕ, suc, ◌+◌, ◌<◌, ◌≤◌, ℤ, pos, Bool, true, false, cond, List, [], ◌∷◌, sym, ◌∙◌, ap, subst, arith, sum_by, length, get_or}
 use Rattle.std.specs.Prelude.{unsigned_abs}
 use Rattle.std.proofs.lemmas.Bool.{cases_Bool, cases_eq, false≢true}
 use Rattle.std.proofs.lemmas.List.{get_or_default}
@@ -11,13 +11,13 @@ use Rattle.sg_sums.proofs.ListLaws.{cases_in}
 use Rattle.sg_sums.proofs.MemberSums.{members_sum}
 use Rattle.sg_sums.proofs.SumLaws.{sum_below-le, sum_by_is_sum_below}
 use Rattle.sg_model.specs.declared.bond.Bond.{Bond}
-use Rattle.sg_model.specs.Ising.{Ising, bond_at, bond_count}
+use Rattle.sg_model.specs.Ising.{Ising, bond_count}
 use Rattle.sg_model.specs.WellFormed.{IsInstance}
 use Rattle.sg_model.specs.Spins.{spin}
 use Rattle.sg_model.specs.Energy.{weight}
 use Rattle.sg_planar.specs.declared.components.Part.{Part}
 use Rattle.sg_planar.specs.Parts.{AreParts, IsPart}
-use Rattle.sg_ground.specs.Placed.{Writes, numbered}
+use Rattle.sg_ground.specs.Placed.{Writes}
 use Rattle.sg_ground.proofs.Glued.{size_at}
 use Rattle.sg_ground.proofs.PartLists.{all_parts, share_of_part}
 use Rattle.sg_ground.proofs.Shares.{IsShare, weights_over}

@@ -1,5 +1,5 @@
 -- What a bond costs in its component it costs in the whole: the least energies of the other bonds cancel.
-use Rattle.std.proofs.Common.{inl, inr, ◌≡◌, ◌≢◌, ◌⊎◌, ℕ, zero, suc, ◌+◌, ◌-◌, ◌*◌, ◌<◌, ◌≤◌, ℤ, pos, negsuc, ◌+ℤ◌, ◌-ℤ◌, ◌*ℤ◌, ◌≤ℤ◌, Bool, true, false, cond, List, map, take, set, refl, sym, ◌∙◌, ap, ap₂, subst, arith, sum_by, length, get_or, All}
+use Rattle.std.proofs.Common.{inl, inr, ◌≡◌, ◌≢◌, ◌⊎◌, ℕ, zero, suc, ◌+◌, ◌<◌, ◌≤◌, ℤ, pos, negsuc, ◌+ℤ◌, ◌-ℤ◌, ◌*ℤ◌, ◌≤ℤ◌, Bool, true, false, cond, List, map, take, set, refl, sym, ◌∙◌, ap, ap₂, subst, arith, sum_by, length, get_or, All}
 use Rattle.std.specs.Prelude.{unsigned_abs}
 use Rattle.std.specs.List.Sorted.{IsStrictlyIncreasing}
 use Rattle.std.proofs.lemmas.Bool.{cases_Bool, false≢true, false_from_ne_true}
@@ -13,7 +13,7 @@ use Rattle.sg_sums.proofs.MemberSums.{members_sum}
 use Rattle.sg_sums.proofs.SumLaws.{sum_below-add, sum_below-same, sum_by_is_sum_below}
 use Rattle.sg_model.specs.Ising.{Ising, IsBond, bond_at, bond_count}
 use Rattle.sg_model.specs.WellFormed.{IsInstance}
-use Rattle.sg_model.specs.Connected.{JoinedBy, Reached, all_bonds}
+use Rattle.sg_model.specs.Connected.{JoinedBy, all_bonds}
 use Rattle.sg_model.specs.Spins.{IsAssignment, IsUpOrDown, spin}
 use Rattle.sg_model.specs.Energy.{IsGroundState, energy, product, weight}
 use Rattle.sg_model.proofs.BrokenEnergy.{broken_cost, energy_from_costs, unit_at}
@@ -21,10 +21,10 @@ use Rattle.sg_model.proofs.Paths.{reached_more}
 use Rattle.sg_planar.specs.declared.components.Part.{Part}
 use Rattle.sg_planar.specs.Parts.{IsPart}
 use Rattle.sg_ground.specs.Placed.{HasValues, Writes, numbered}
-use Rattle.sg_ground.proofs.Glued.{cost_at, size_at}
-use Rattle.sg_ground.proofs.PartLists.{first_inside, holds_at, second_inside, share_of_part}
+use Rattle.sg_ground.proofs.Glued.{cost_at}
+use Rattle.sg_ground.proofs.PartLists.{share_of_part}
 use Rattle.sg_ground.proofs.PlacedValues.{written_more}
-use Rattle.sg_ground.proofs.Shares.{IsShare, costs_over, weights_over}
+use Rattle.sg_ground.proofs.Shares.{IsShare, costs_over}
 use Rattle.sg_bonds.specs.Cost.{IsCost, IsLeastWith}
 use Rattle.sg_bonds.proofs.SomeCost.{some_ground_state}
 

@@ -1,6 +1,6 @@
 -- Bounds of costs: who turns a bond turns some bond of each path that joins its ends, so the bond costs at least as much as the
 -- cheapest bond of the path; and an assignment that turns it bounds its cost from above.
-use Rattle.std.proofs.Common.{◌≡◌, ◌≢◌, ◌⊎◌, inl, inr, ℕ, ◌<◌, Bool, true, false, ℤ, pos, negsuc, neg_ℤ, ◌+ℤ◌, ◌-ℤ◌, ◌≤ℤ◌, List, refl, sym, ◌∙◌, ap, subst, arith, length, set, get_or, replicate, [], ◌∷◌}
+use Rattle.std.proofs.Common.{◌≡◌, ◌≢◌, ◌⊎◌, inl, inr, ℕ, ◌<◌, Bool, true, ℤ, pos, negsuc, neg_ℤ, ◌+ℤ◌, ◌-ℤ◌, ◌≤ℤ◌, List, refl, sym, ◌∙◌, ap, subst, arith, length, set, replicate, [], ◌∷◌}
 use Rattle.std.specs.Prelude.{unsigned_abs}
 use Rattle.std.proofs.lemmas.Bool.{cases_eq}
 use Rattle.std.proofs.lemmas.Int.{ints}

@@ -1,9 +1,9 @@
 -- What is told of the bonds stays true: one more bond is told, or another ground state frees those that it turns.
-use Rattle.std.proofs.Common.{◌≡◌, ◌≢◌, ◌⊎◌, ◌↔◌, inl, inr, ℕ, ◌+◌, ◌-◌, ◌*◌, ◌^◌, ◌<◌, ◌≤◌, Bool, true, false, ℤ, pos, neg_ℤ, ◌<ℤ◌, ◌≤ℤ◌, List, [], ◌∷◌, ◌++◌, refl, sym, ◌∙◌, ap, subst, arith, length, set, get_or}
+use Rattle.std.proofs.Common.{◌≡◌, ◌≢◌, ◌⊎◌, ◌↔◌, inl, inr, ℕ, ◌+◌, ◌-◌, ◌*◌, ◌^◌, ◌<◌, ◌≤◌, Bool, true, false, ℤ, pos, ◌<ℤ◌, ◌≤ℤ◌, List, [], ◌∷◌, ◌++◌, sym, ◌∙◌, subst, arith, length, set}
 use Rattle.std.specs.Prelude.{unsigned_abs}
 use Rattle.std.proofs.lemmas.Bool.{cases_eq, cases_lt}
 use Rattle.std.proofs.lemmas.Int.{ints}
-use Rattle.std.proofs.lemmas.List.{get_or-set_same, get_or-set_other, get_or_append_left, get_or_push, length-set, length_push}
+use Rattle.std.proofs.lemmas.List.{get_or-set_same, get_or-set_other, get_or_append_left, get_or_push, length-set}
 use Rattle.sg_limits.specs.Limits.{sum_limit}
 use Rattle.sg_model.specs.Ising.{Ising, bond_at, bond_count}
 use Rattle.sg_model.specs.WellFormed.{IsInstance}
@@ -14,7 +14,7 @@ use Rattle.sg_walk.specs.Walk.{has}
 use Rattle.sg_bonds.specs.Cost.{IsCost, IsRigid}
 use Rattle.sg_bonds.specs.declared.telling.Told.{Told}
 use Rattle.sg_bonds.specs.declared.telling.Told.TheVariants.{Free, Rigid, Unknown}
-use Rattle.sg_bonds.specs.Told.{AreTold, IsTold, is_rigid, told_at, told_rigid}
+use Rattle.sg_bonds.specs.Told.{AreTold, IsTold, is_rigid, told_at}
 use Rattle.sg_bonds.specs.Loads.{IsLoad}
 use Rattle.sg_bonds.proofs.ClusterNames.{cost_once}
 use Rattle.sg_bonds.proofs.RigidBounds.{rigid_room}

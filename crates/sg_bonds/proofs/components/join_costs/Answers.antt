@@ -1,8 +1,7 @@
-use Rattle.std.proofs.Common.{◌≡◌, ◌<◌, ◌≤◌, ◌∙◌, ℤ, List, ℕ, All, ap, length, subst, sym, arith, rules}
+use Rattle.std.proofs.Common.{◌≡◌, ◌<◌, ◌∙◌, ℤ, List, ℕ, All, ap, length, subst, sym, rules}
 use Rattle.std.specs.List.Sorted.{IsStrictlyIncreasing}
 use Rattle.std.proofs.lemmas.List.{with_items_is}
-use Rattle.sg_model.specs.Ising.{Ising, bond_count}
-use Rattle.sg_planar.specs.declared.components.Part.{Part}
+use Rattle.sg_model.specs.Ising.{bond_count}
 use Rattle.sg_ground.specs.Placed.{Writes}
 use Rattle.sg_bonds.proofs.JoinedCosts.{all_joined, joined_more, part_light, share}
 use Rattle.sg_bonds.proofs.components.join_costs.Goals as goal

@@ -1,4 +1,4 @@
-use Rattle.std.proofs.Common.{◌≡◌, ◌∙◌, List, Bool, length, sym, ap, subst}
+use Rattle.std.proofs.Common.{◌∙◌, List, Bool, length, sym, ap, subst}
 use Rattle.sg_walk.specs.Walk.{has}
 use Rattle.sg_bonds.specs.Cluster.{HasRigid}
 use Rattle.sg_bonds.proofs.ClusterNames.{has_rigid}

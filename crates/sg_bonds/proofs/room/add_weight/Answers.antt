@@ -1,4 +1,4 @@
-use Rattle.std.proofs.Common.{◌+◌, ◌∙◌, cond, List, ℕ, take, get_or, subst, arith, rules}
+use Rattle.std.proofs.Common.{◌+◌, ◌∙◌, cond, List, ℕ, get_or, subst, arith, rules}
 use Rattle.std.proofs.lemmas.List.{take_all}
 use Rattle.sg_sums.specs.Sets.{holds}
 use Rattle.sg_bonds.specs.Loads.{IsLoad}

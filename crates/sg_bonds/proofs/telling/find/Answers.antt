@@ -1,5 +1,4 @@
-use Rattle.std.proofs.Common.{◌≡◌, ◌∙◌, ◌<◌, ◌<ℤ◌, ◌≤ℤ◌, pos, List, Bool, sym, subst, refl, arith, rules, w64, to_z-of_z}
-use Rattle.std.specs.Int.Signed.{lt_z, lt_z_yes, lt_z_no}
+use Rattle.std.proofs.Common.{◌∙◌, ◌<ℤ◌, ◌≤ℤ◌, pos, List, Bool, sym, subst, refl, arith, rules, w64, to_z-of_z}
 use Rattle.sg_model.specs.Ising.{Ising, bond_at}
 use Rattle.sg_model.specs.Connected.{Reached}
 use Rattle.sg_walk.specs.Walk.{has}

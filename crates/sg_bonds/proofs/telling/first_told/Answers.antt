@@ -1,4 +1,4 @@
-use Rattle.std.proofs.Common.{◌≡◌, ◌+◌, ◌<◌, ◌∙◌, ℕ, List, ap, length, arith, get_or, sym, subst}
+use Rattle.std.proofs.Common.{◌≡◌, ◌+◌, ◌<◌, ◌∙◌, List, ap, length, arith, get_or, sym, subst}
 use Rattle.std.proofs.lemmas.List.{get_or_default, length_push}
 use Rattle.sg_model.specs.Ising.{bond_count}
 use Rattle.sg_check.specs.Packing.{load}

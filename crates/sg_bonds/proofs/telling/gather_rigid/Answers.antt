@@ -1,4 +1,4 @@
-use Rattle.std.proofs.Common.{◌≡◌, ◌↔◌, ◌+◌, ◌<◌, ◌∙◌, ℕ, true, List, Bool, ap, length, subst, sym}
+use Rattle.std.proofs.Common.{◌≡◌, ◌↔◌, ◌+◌, ◌∙◌, true, List, Bool, ap, length, subst, sym}
 use Rattle.std.proofs.lemmas.List.{length_push}
 use Rattle.sg_walk.specs.Walk.{has}
 use Rattle.sg_bonds.specs.Cost.{IsRigid}

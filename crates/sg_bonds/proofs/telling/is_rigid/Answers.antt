@@ -1,9 +1,9 @@
-use Rattle.std.proofs.Common.{◌≡◌, ◌<◌, ◌∙◌, ◌≤ℤ◌, pos, length, sym, subst, arith}
+use Rattle.std.proofs.Common.{◌<◌, ◌∙◌, pos, length, sym, subst, arith}
 use Rattle.std.proofs.lemmas.Int.{ints}
 use Rattle.std.proofs.lemmas.List.{get_or_default}
 use Rattle.sg_bonds.specs.Cost.{IsCost}
-use Rattle.sg_bonds.specs.declared.telling.Told.TheVariants.{Free, Rigid, Unknown}
-use Rattle.sg_bonds.specs.Told.{IsTold, told_at}
+use Rattle.sg_bonds.specs.declared.telling.Told.TheVariants.{Rigid, Unknown}
+use Rattle.sg_bonds.specs.Told.{IsTold}
 use Rattle.sg_bonds.proofs.ToldBonds.{not_rigid}
 use Rattle.sg_bonds.proofs.telling.is_rigid.Goals as goal
 
