@@ -20,8 +20,8 @@
 //! for one has it judged by `sg_check::Checker`, and asks a solver that is proved where there is none
 //! or where the verdict is no. So each function here has only to be safe and to return: what is read
 //! beyond the end of a list is nothing, each loop has a bound known at its entry, and sums wrap.
-//! `forest` has the state, `events` the clock over the `agenda` of what waits, `trees` the steps of the method, `blossoms` the odd
-//! cycles; `mates`, `paths`, `spins` and `layers` read the answer off the state.
+//! `forest` has the state, `events` the clock, `agenda` what waits, `trees` the steps of the method,
+//! `blossoms` the odd cycles; `mates`, `paths`, `spins` and `layers` read the answer off the state.
 #![tactic(auto)]
 
 mod adjacency;
