@@ -1,5 +1,6 @@
 -- The costs of the parts, one behind another, make those of the whole.
-use Rattle.std.proofs.Common.{inl, inr, ◌≡◌, ◌≢◌, ◌⊎◌, ℕ, suc, ◌+◌, ◌<◌, ◌≤◌, ℤ, pos, Bool, true, false, cond, List, [], ◌∷◌, sym, ◌∙◌, ap, subst, arith, sum_by, length, get_or}
+use Rattle.std.proofs.Common.{inl, inr, ◌≡◌, ◌≢◌, ◌⊎◌, ℕ, suc, ◌+◌, ◌<◌, ◌≤◌, ℤ, pos, Bool, true, false, cond, List, [], ◌∷◌, sym, ◌∙◌, ap}
+use Rattle.std.proofs.Common.{subst, arith, sum_by, length, get_or}
 use Rattle.std.specs.Prelude.{unsigned_abs}
 use Rattle.std.proofs.lemmas.Bool.{cases_Bool, cases_eq, false≢true}
 use Rattle.std.proofs.lemmas.List.{get_or_default}
@@ -30,11 +31,13 @@ pub record AreJoined (inst : Ising) (parts : List Part) (stop : ℕ) (costs : Li
   pub each : (i : ℕ) (d : Part) → i < stop → (k : ℕ) → holds (get_or parts i d).bonds k ≡ true → IsCost inst k (get_or costs k (pos 0))
 
 -- what is counted once stands somewhere
-stands_somewhere : (b : Part → Bool) (parts : List Part) → sum_by (λ p. cond (b p) 1 0) parts ≡ 1 → (i : ℕ) × (d : Part) × (i < length parts) × (b (get_or parts i d) ≡ true)
+stands_somewhere : (b : Part → Bool) (parts : List Part) → sum_by (λ p. cond (b p) 1 0) parts ≡ 1
+    → (i : ℕ) × (d : Part) × (i < length parts) × (b (get_or parts i d) ≡ true)
 stands_somewhere b [] once = absurd (omega (arith, once))
 stands_somewhere b (p ∷ parts) once = by_first (λ later. stands_somewhere b parts later) (cases_Bool (b p))
   where
-    by_first : (sum_by (λ p. cond (b p) 1 0) parts ≡ 1 → (i : ℕ) × (d : Part) × (i < length parts) × (b (get_or parts i d) ≡ true)) → (b p ≡ true) ⊎ (b p ≡ false) → (i : ℕ) × (d : Part) × (i < length (p ∷ parts)) × (b (get_or (p ∷ parts) i d) ≡ true)
+    by_first : (sum_by (λ p. cond (b p) 1 0) parts ≡ 1 → (i : ℕ) × (d : Part) × (i < length parts) × (b (get_or parts i d) ≡ true))
+        → (b p ≡ true) ⊎ (b p ≡ false) → (i : ℕ) × (d : Part) × (i < length (p ∷ parts)) × (b (get_or (p ∷ parts) i d) ≡ true)
     by_first rest (inl here) = (0, p, omega arith, here)
     by_first rest (inr not_here) =
         let none : cond {A = ℕ} (b p) 1 0 ≡ 0 = ap (λ c. cond {A = ℕ} c 1 0) not_here in
@@ -90,12 +93,14 @@ module _ (inst : Ising) (good : IsInstance inst) (parts : List Part) (are : AreP
                 (part_costs inst good found_part.0 p found_part.1 j m (get_or found j (pos 0)) (costs.each j (omega (arith, m, share.bond_counts)))))
 
         -- and those of a part before
-        before : (a : ℕ) (d : Part) → a < i → (k : ℕ) → holds (get_or parts a d).bonds k ≡ true → holds p.bonds k ≡ false → IsCost inst k (get_or now k (pos 0))
+        before : (a : ℕ) (d : Part) → a < i → (k : ℕ) → holds (get_or parts a d).bonds k ≡ true → holds p.bonds k ≡ false
+            → IsCost inst k (get_or now k (pos 0))
         before a d m k held other =
             let (first, is) = all_parts inst are.leasts parts are.each a d (omega (arith, m, l)) in
             let inside : k < bond_count inst = ((is.bonds k).0 held).0 in
             let kept : get_or now k (pos 0) ≡ get_or old k (pos 0) =
-            get_or_default now k (pos 0) (pos 1) (omega (arith, inside, long)) ∙ writes.others k other ∙ get_or_default old k (pos 1) (pos 0) (omega (arith, inside, was.count)) in
+            get_or_default now k (pos 0) (pos 1) (omega (arith, inside, long)) ∙ writes.others k other
+            ∙ get_or_default old k (pos 1) (pos 0) (omega (arith, inside, was.count)) in
             subst (IsCost inst k) (sym kept) (was.each a d m k held)
 
         each : (a : ℕ) (d : Part) → a < i + 1 → (k : ℕ) → holds (get_or parts a d).bonds k ≡ true → IsCost inst k (get_or now k (pos 0))
@@ -111,4 +116,8 @@ module _ (inst : Ising) (good : IsInstance inst) (parts : List Part) (are : AreP
 
   -- all parts together
   pub all_joined : (stop : ℕ) → length parts ≤ stop → (costs : List ℤ) → AreJoined inst parts stop costs → AreCosts inst costs
-  all_joined stop all costs joined = record { count = joined.count; each = λ k l. (let (i, d, m, held) = stands_somewhere (λ (p : Part). holds p.bonds k) parts (are.bonds_once k l) in joined.each i d (omega (arith, m, all)) k held) }
+  all_joined stop all costs joined = record {
+    count = joined.count;
+    each = λ k l. (let (i, d, m, held) = stands_somewhere (λ (p : Part). holds p.bonds k) parts (are.bonds_once k l) in
+        joined.each i d (omega (arith, m, all)) k held);
+  }

@@ -1,5 +1,6 @@
 -- What a bond costs in its component it costs in the whole: the least energies of the other bonds cancel.
-use Rattle.std.proofs.Common.{inl, inr, ◌≡◌, ◌≢◌, ◌⊎◌, ℕ, zero, suc, ◌+◌, ◌<◌, ◌≤◌, ℤ, pos, negsuc, ◌+ℤ◌, ◌-ℤ◌, ◌*ℤ◌, ◌≤ℤ◌, Bool, true, false, cond, List, map, take, set, refl, sym, ◌∙◌, ap, ap₂, subst, arith, sum_by, length, get_or, All}
+use Rattle.std.proofs.Common.{inl, inr, ◌≡◌, ◌≢◌, ◌⊎◌, ℕ, zero, suc, ◌+◌, ◌<◌, ◌≤◌, ℤ, pos, negsuc, ◌+ℤ◌, ◌-ℤ◌, ◌*ℤ◌, ◌≤ℤ◌, Bool, true}
+use Rattle.std.proofs.Common.{false, cond, List, map, take, set, refl, sym, ◌∙◌, ap, ap₂, subst, arith, sum_by, length, get_or, All}
 use Rattle.std.specs.Prelude.{unsigned_abs}
 use Rattle.std.specs.List.Sorted.{IsStrictlyIncreasing}
 use Rattle.std.proofs.lemmas.Bool.{cases_Bool, false≢true, false_from_ne_true}
@@ -60,7 +61,8 @@ module _ (inst : Ising) (good : IsInstance inst) (least : ℕ) (p : Part) (is : 
       let inside : sum_below (λ k. cond (holds p.bonds k) (cost_at inst t k) 0) (bond_count inst) ≡ sum_by (cost_at inst t) p.bonds =
       members_sum (cost_at inst t) p.bonds (bond_count inst) share.bonds_below share.bonds_rise in
       let here : sum_by (cost_at inst t) p.bonds ≡ part_cost q = costs_over inst p.spins p.bonds p.planar.instance share t q values in
-      let all : whole_cost t ≡ sum_below (cost_at inst t) (bond_count inst) = sum_by_is_sum_below (broken_cost t) inst.bonds (record { u = 0; v = 0; j = pos 0 }) in
+      let all : whole_cost t ≡ sum_below (cost_at inst t) (bond_count inst) =
+      sum_by_is_sum_below (broken_cost t) inst.bonds (record { u = 0; v = 0; j = pos 0 }) in
       let apart : sum_below (λ k. cond (holds p.bonds k) (cost_at inst t k) 0 + cond (holds p.bonds k) 0 (cost_at inst t k)) (bond_count inst) ≡
       sum_below (λ k. cond (holds p.bonds k) (cost_at inst t k) 0) (bond_count inst) + outside t =
       sum_below-add (λ k. cond (holds p.bonds k) (cost_at inst t k) 0) (λ k. cond (holds p.bonds k) 0 (cost_at inst t k)) (bond_count inst) in
@@ -97,7 +99,8 @@ module _ (inst : Ising) (good : IsInstance inst) (least : ℕ) (p : Part) (is : 
 
   change : (t q : List ℤ) → IsAssignment inst t → IsAssignment p.planar.instance q → Changed t q
   change t q h u =
-      let (now, some) = some_written p.spins q t share.spins_rise (λ i d l. omega (arith, share.spins_below i d l, h.count)) (omega (arith, u.count, share.spin_count)) (length p.spins) (omega arith) in
+      let (now, some) = some_written p.spins q t share.spins_rise (λ i d l. omega (arith, share.spins_below i d l, h.count))
+      (omega (arith, u.count, share.spin_count)) (length p.spins) (omega arith) in
       let writes : Writes p.spins q t now = subst (λ places. Writes places q t now) (take_all (length p.spins) p.spins (omega arith)) some in
       record {
         now = now;
@@ -125,7 +128,8 @@ module _ (inst : Ising) (good : IsInstance inst) (least : ℕ) (p : Part) (is : 
   second_out : (k : ℕ) → k < bond_count inst → holds p.bonds k ≡ false → holds p.spins (bond_at inst k).v ≡ false
   second_out k l out =
       false_from_ne_true (holds p.spins (bond_at inst k).v)
-      (λ h. (let back : JoinedBy inst all_bonds (bond_at inst k).v (bond_at inst k).u = record { bond = k; below = l; in_set = refl; ends = inr (refl, refl) } in
+      (λ h. (let back : JoinedBy inst all_bonds (bond_at inst k).v (bond_at inst k).u =
+      record { bond = k; below = l; in_set = refl; ends = inr (refl, refl) } in
       false≢true (sym (first_out k l out) ∙ (is.spins (bond_at inst k).u).1
       ((joins k l).first_end, reached_more inst all_bonds least (bond_at inst k).v (bond_at inst k).u ((is.spins (bond_at inst k).v).0 h).1 back))))
 
@@ -154,7 +158,8 @@ module _ (inst : Ising) (good : IsInstance inst) (least : ℕ) (p : Part) (is : 
     least_outside : (t : List ℤ) → IsAssignment inst t → outside g ≤ outside t
     least_outside t h =
         let changed : Changed t (values_in g) = change t (values_in g) h (part_assignment g ground.assignment) in
-        less (energy inst g) (energy inst changed.now) (energy p.planar.instance (values_in g)) (outside g) (outside t) (outside changed.now) (weight inst) (weight p.planar.instance)
+        less (energy inst g) (energy inst changed.now) (energy p.planar.instance (values_in g)) (outside g) (outside t) (outside changed.now)
+        (weight inst) (weight p.planar.instance)
         (energy_split g (values_in g) ground.assignment (part_assignment g ground.assignment) (in_place g))
         (energy_split changed.now (values_in g) changed.assignment (part_assignment g ground.assignment) changed.writes.values)
         (same_outside t (values_in g) changed.now changed.writes) (ground.least changed.now changed.assignment)
@@ -168,7 +173,8 @@ module _ (inst : Ising) (good : IsInstance inst) (least : ℕ) (p : Part) (is : 
     module _ (i : ℕ) (l : i < length p.bonds) where
       same_product : (t q : List ℤ) → HasValues p.spins t q → product t (bond_at inst (numbered p.bonds i)) ≡ product q (bond_at p.planar.instance i)
       same_product t q values =
-          let joined : IsBond p.planar.instance.n (bond_at p.planar.instance i) = share.good.joined i (record { u = 0; v = 0; j = pos 0 }) (omega (arith, l, share.bond_counts)) in
+          let joined : IsBond p.planar.instance.n (bond_at p.planar.instance i) =
+          share.good.joined i (record { u = 0; v = 0; j = pos 0 }) (omega (arith, l, share.bond_counts)) in
           ap₂ (λ x y. x *ℤ y)
           (ap (spin t) (sym (share.first_end i l)) ∙ values (bond_at p.planar.instance i).u (omega (arith, joined.first_end, share.spin_count)))
           (ap (spin t) (sym (share.second_end i l)) ∙ values (bond_at p.planar.instance i).v (omega (arith, joined.second_end, share.spin_count)))

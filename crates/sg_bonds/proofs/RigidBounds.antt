@@ -1,6 +1,7 @@
 -- Which bonds are rigid: those that no assignment turns at the energy of a ground state. So are bonds that the loops of a proof
 -- leave room at, and bonds whose ends rigid bonds join.
-use Rattle.std.proofs.Common.{◌≡◌, ◌⊎◌, inl, inr, ℕ, ◌+◌, ◌*◌, ◌<◌, ◌≤◌, Bool, true, false, cond, eqb, ℤ, pos, negsuc, neg_ℤ, ◌+ℤ◌, ◌-ℤ◌, ◌≤ℤ◌, ◌<ℤ◌, List, refl, sym, ◌∙◌, ap, subst, arith, get_or, sum_by}
+use Rattle.std.proofs.Common.{◌≡◌, ◌⊎◌, inl, inr, ℕ, ◌+◌, ◌*◌, ◌<◌, ◌≤◌, Bool, true, false, cond, eqb, ℤ, pos, negsuc, neg_ℤ, ◌+ℤ◌, ◌-ℤ◌}
+use Rattle.std.proofs.Common.{◌≤ℤ◌, ◌<ℤ◌, List, refl, sym, ◌∙◌, ap, subst, arith, get_or, sum_by}
 use Rattle.std.specs.Prelude.{unsigned_abs}
 use Rattle.std.specs.Ordering.{int_eq}
 use Rattle.std.proofs.lemmas.List.Folds.{list_any_at}
@@ -67,9 +68,11 @@ module _ (inst : Ising) (good : IsInstance inst) (s : List ℤ) (ground : IsGrou
   rigid_above small above = let (c, cost) = some_cost inst good k inside small in (c, cost, positive c cost above)
 
   -- a bond that another ground state turns is free
-  pub free_turned : (t : List ℤ) → IsAssignment inst t → energy inst t ≡ energy inst s → product t (bond_at inst k) ≡ neg_ℤ (product s (bond_at inst k)) → IsCost inst k (pos 0)
+  pub free_turned : (t : List ℤ) → IsAssignment inst t → energy inst t ≡ energy inst s
+      → product t (bond_at inst k) ≡ neg_ℤ (product s (bond_at inst k)) → IsCost inst k (pos 0)
   free_turned t h level turned =
-      cost_from_other inst good k s (product t (bond_at inst k)) (energy inst t) (pos 0) ground (unit_product inst good k inside t h) (twice (product s (bond_at inst k)) (product t (bond_at inst k)) unit turned)
+      cost_from_other inst good k s (product t (bond_at inst k)) (energy inst t) (pos 0) ground (unit_product inst good k inside t h)
+      (twice (product s (bond_at inst k)) (product t (bond_at inst k)) unit turned)
       (record { reached = (t, h, refl, refl); least = λ x u same. subst (λ e. e ≤ℤ energy inst x) (sym level) (ground.least x u) })
       (none (energy inst t) (energy inst s) level)
     where
@@ -123,19 +126,28 @@ module _ (inst : Ising) (good : IsInstance inst) (s : List ℤ) (e : ℤ) (loops
 
     marked : (l : Loop) → IsFrustratedLoop inst l.bonds → HasMarked loop_weight (λ (l : Loop). holds l.bonds) breaks (bond_count inst) l
     marked l loop =
-        let (i, low, broken) = some_from_odd breaks l.bonds (loop_breaks_oddly inst good t spins l.bonds loop) in
-        (get_or l.bonds i 0, loop.set.below i 0 low, broken 0, list_any_at (λ b. eqb b (get_or l.bonds i 0)) l.bonds i 0 low (eq-eqb (get_or l.bonds i 0) (get_or l.bonds i 0) refl))
+        let (i, low, broken) = some_from_odd breaks l.bonds (loop_breaks_oddly inst good t spins l.bonds loop) in (
+          get_or l.bonds i 0,
+          loop.set.below i 0 low,
+          broken 0,
+          list_any_at (λ b. eqb b (get_or l.bonds i 0)) l.bonds i 0 low
+              (eq-eqb (get_or l.bonds i 0) (get_or l.bonds i 0) refl),
+        )
 
     -- an assignment that breaks the bond has more energy
     broken_above : is_broken t (bond_at inst k) ≡ true → e <ℤ energy inst t
     broken_above broken =
         let bound : total_weight loops ≤ sum_below (λ i. cond (breaks i) (cap i) 0) (bond_count inst) =
-        weights_below_capacity loop_weight (λ (l : Loop). holds l.bonds) breaks cap (bond_count inst) loops (λ i d l. marked (get_or loops i d) (proof.packs.frustrated i d l)) within in
-        let less : sum_below (λ i. cond (breaks i) (cap i) 0) (bond_count inst) + 1 ≤ sum_below (λ i. cond (breaks i) (2 * unsigned_abs (bond_at inst i).j) 0) (bond_count inst) =
-        sum_below-gain (λ i. cond (breaks i) (cap i) 0) (λ i. cond (breaks i) (2 * unsigned_abs (bond_at inst i).j) 0) 1 k (bond_count inst) inside (λ i l. term i) own in
+        weights_below_capacity loop_weight (λ (l : Loop). holds l.bonds) breaks cap (bond_count inst) loops
+        (λ i d l. marked (get_or loops i d) (proof.packs.frustrated i d l)) within in
+        let less : sum_below (λ i. cond (breaks i) (cap i) 0) (bond_count inst) + 1 ≤ sum_below
+        (λ i. cond (breaks i) (2 * unsigned_abs (bond_at inst i).j) 0) (bond_count inst) =
+        sum_below-gain (λ i. cond (breaks i) (cap i) 0) (λ i. cond (breaks i) (2 * unsigned_abs (bond_at inst i).j) 0) 1 k (bond_count inst) inside
+        (λ i l. term i) own in
         let total : sum_by (broken_cost t) inst.bonds ≡ sum_below (λ i. cond (breaks i) (2 * unsigned_abs (bond_at inst i).j) 0) (bond_count inst) =
         sum_by_is_sum_below (broken_cost t) inst.bonds (record { u = 0; v = 0; j = pos 0 }) in
-        more e (energy inst t) (total_weight loops) (weight inst) (sum_by (broken_cost t) inst.bonds) proof.tight (energy_from_costs inst t good spins) (omega (arith, bound, less, total))
+        more e (energy inst t) (total_weight loops) (weight inst) (sum_by (broken_cost t) inst.bonds) proof.tight
+        (energy_from_costs inst t good spins) (omega (arith, bound, less, total))
       where
         more : (e f : ℤ) (y w b : ℕ) → pos y ≡ e +ℤ pos w → f ≡ pos b -ℤ pos w → y + 1 ≤ b → e <ℤ f
         more e f y w b p q r = omega (arith, ints)
@@ -145,7 +157,8 @@ module _ (inst : Ising) (good : IsInstance inst) (s : List ℤ) (e : ℤ) (loops
 
         term : (i : ℕ) → cond (breaks i) (cap i) 0 ≤ cond (breaks i) (2 * unsigned_abs (bond_at inst i).j) 0
         term i = elim (cases_Bool (eqb k i)) [
-          | inl here ↦ subst (λ i. cond (breaks i) (cap i) 0 ≤ cond (breaks i) (2 * unsigned_abs (bond_at inst i).j) 0) (eqb-true k i here) (omega (arith, own))
+          | inl here ↦ subst (λ i. cond (breaks i) (cap i) 0 ≤ cond (breaks i) (2 * unsigned_abs (bond_at inst i).j) 0) (eqb-true k i here)
+              (omega (arith, own))
           | inr other ↦ rw other (omega arith)
         ]
 
@@ -170,4 +183,5 @@ module _ (inst : Ising) (good : IsInstance inst) (s : List ℤ) (e : ℤ) (loops
   rigid_room small =
       rigid_above inst good s (proves_ground_state inst good s e loops proof) k inside small
       (λ t h turn. subst (λ x. x <ℤ energy inst t) (sym proof.stated)
-      (broken_above t h (flipped (is_negative (bond_at inst k)) (product s (bond_at inst k)) (product t (bond_at inst k)) (unit_product inst good k inside s proof.assignment) turn satisfied)))
+      (broken_above t h (flipped (is_negative (bond_at inst k)) (product s (bond_at inst k)) (product t (bond_at inst k))
+      (unit_product inst good k inside s proof.assignment) turn satisfied)))

@@ -43,7 +43,8 @@ module _ (inst : Ising) (good : IsInstance inst) (k : ℕ) (inside : k < bond_co
       let sound : IsInstance forced = recoupled_instance inst forced.bonds (coupling_ends inst k (p *ℤ pos (weight inst + 1)) inside good.joined size) good in
       let (s, ground) = some_ground_state forced sound in (
         (energy forced s +ℤ pos (weight inst + 1)) -ℤ (p *ℤ (bond_at inst k).j),
-        forced_minimum inst good k inside p up (weight inst + 1) (omega arith) (energy forced s) (least_of_ground_state forced s (energy forced s) ground refl),
+        forced_minimum inst good k inside p up (weight inst + 1) (omega arith) (energy forced s)
+            (least_of_ground_state forced s (energy forced s) ground refl),
       )
 
   pub some_cost : (c : ℤ) × IsCost inst k c

@@ -1,5 +1,6 @@
 // How much the loops of a proof weigh at each bond, and where they leave room for more.
-ghost use Rattle.std.specs.Prelude.{◌≡◌, ◌==◌, ◌<◌, ◌*◌, ◌+◌, ◌-◌, ◌^◌, ℕ, true, length, slice_index, IfOk, if◌then◌else◌, unsigned_abs};
+ghost use Rattle.std.specs.Prelude.{◌≡◌, ◌==◌, ◌<◌, ◌*◌, ◌+◌, ◌-◌, ◌^◌, ℕ, true, if◌then◌else◌};
+ghost use Rattle.std.specs.Prelude.{length, slice_index, unsigned_abs, IfOk};
 ghost use Rattle.sg_sums.specs.Sets.{holds};
 ghost use Rattle.sg_check.specs.Packing.{load};
 ghost use Rattle.sg_bonds.specs.Loads.{IsLoad};

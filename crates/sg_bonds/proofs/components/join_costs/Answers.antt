@@ -37,4 +37,5 @@ loop-part-preserved c =
 pub returns : goal.returns
 returns c =
     rw c.from_vec.ensures
-    (all_joined c.args.inst.now c.bonds.ensures.instance c.args.parts.now c.requires.parts c.loop-part.part-index (search rules) c.loop-part.costs.items c.loop-part.invariant)
+    (all_joined c.args.inst.now c.bonds.ensures.instance c.args.parts.now c.requires.parts c.loop-part.part-index
+    (search rules) c.loop-part.costs.items c.loop-part.invariant)

@@ -15,7 +15,8 @@ loop-entry-preserved c = record {
       let low : k < length c.loop-entry.loads = omega (arith, l, c.loop-entry.invariant.count) in
       let size : c.unsigned_abs.result ≡ loop_weight c.entry-item.result =
       c.unsigned_abs.ensures.value ∙ ap unsigned_abs (to_z-of_z {w = w64} {z = c.entry-item.result.y} (search rules)) in
-      let more : load (take (c.loop-entry.entry-index + 1) c.args.loops.now) k ≡ before + cond (holds c.entry-item.result.bonds k) (loop_weight c.entry-item.result) 0 =
+      let more : load (take (c.loop-entry.entry-index + 1) c.args.loops.now) k ≡ before + cond (holds c.entry-item.result.bonds k)
+      (loop_weight c.entry-item.result) 0 =
       sum_by_more (λ (l : Loop). cond (holds l.bonds k) (loop_weight l) 0) c.args.loops.now c.loop-entry.entry-index c.entry-item.result c.loop-entry-test.true
       ∙ ap (λ (l : Loop). before + cond (holds l.bonds k) (loop_weight l) 0) (sym c.entry-item.is) in
       let added : cond (holds c.as_slice.result.now k) c.unsigned_abs.result 0 ≡ cond (holds c.entry-item.result.bonds k) (loop_weight c.entry-item.result) 0 =

@@ -14,11 +14,14 @@ returns-then-branch-clause-rigid c =
     let inst : Ising = c.args.planar.now.instance in
     let across : Reached inst (has c.in_ok-set.set.items) (bond_at inst c.args.bond).u (bond_at inst c.args.bond).v =
     subst (λ (i : Ising). Reached i (has c.in_ok-set.set.items) (bond_at i c.args.bond).u (bond_at i c.args.bond).v) c.instance.ensures.value
-    (subst (λ (set : List Bool). Reached c.instance.result.now (has set) (bond_at c.instance.result.now c.args.bond).u (bond_at c.instance.result.now c.args.bond).v)
+    (subst (λ (set : List Bool). Reached c.instance.result.now (has set) (bond_at c.instance.result.now c.args.bond).u
+    (bond_at c.instance.result.now c.args.bond).v)
     c.deref.ensures.value (c.in_ok-joins.ensures c.if-branch.true)) in
     let rigid : IsRigid inst c.args.bond =
-    rigid_joined inst c.instance.ensures.planar.instance c.args.least.now.spins c.requires.ground_state c.args.bond c.requires.bond_in c.requires.sum (has c.in_ok-set.set.items)
-    (λ b l h. told_is_rigid inst b (told_at c.args.told.now b) (c.requires.told.each b l) (sym (c.in_ok-set.ensures.each b (omega (arith, l, c.requires.told.count))) ∙ h)) across in
+    rigid_joined inst c.instance.ensures.planar.instance c.args.least.now.spins c.requires.ground_state c.args.bond c.requires.bond_in c.requires.sum
+    (has c.in_ok-set.set.items)
+    (λ b l h. told_is_rigid inst b (told_at c.args.told.now b) (c.requires.told.each b l)
+    (sym (c.in_ok-set.ensures.each b (omega (arith, l, c.requires.told.count))) ∙ h)) across in
     (λ e. rigid, λ r. refl)
 
 pub returns-then-branch-clause-told : goal.returns-then-branch-clause-told

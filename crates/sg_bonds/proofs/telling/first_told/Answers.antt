@@ -16,7 +16,8 @@ loop-k-preserved c =
     let told = rw bonds at c.told_by.ensures in
     let inside : c.loop-k.k < c.len.result = omega (arith, low, c.len.ensures, ap length c.bonds.ensures.value) in
     let carried : IsLoad (load c.args.least.now.loops c.loop-k.k) (get_or c.in_ok-loads.loads.items c.loop-k.k 0) =
-    subst (λ (loops : List Loop). IsLoad (load loops c.loop-k.k) (get_or c.in_ok-loads.loads.items c.loop-k.k 0)) c.as_slice.ensures (c.in_ok-loads.ensures.each c.loop-k.k inside) in
+    subst (λ (loops : List Loop). IsLoad (load loops c.loop-k.k) (get_or c.in_ok-loads.loads.items c.loop-k.k 0)) c.as_slice.ensures
+    (c.in_ok-loads.ensures.each c.loop-k.k inside) in
     let here : c.loop-k.k < length c.in_ok-loads.loads.items = omega (arith, inside, c.in_ok-loads.ensures.count) in
     let read : get_or c.in_ok-loads.loads.items c.loop-k.k 0 ≡ c.index.result.now =
     sym (c.index.ensures ∙ get_or_default c.in_ok-loads.loads.items c.loop-k.k c.index.result.now 0 here) in
