@@ -33,14 +33,14 @@ module _ (inst : Ising) (good : IsInstance inst) (k : ℕ) (inside : k < bond_co
   rest s = energy loosened s
 
   pub joined_at : IsBond inst.n (bond_at inst k)
-  joined_at = good.joined k no_bond inside
+  joined_at = good.draft.joined k no_bond inside
 
   pub unit_product : (s : List ℤ) → IsAssignment inst s → IsUpOrDown (product s (bond_at inst k))
   unit_product s h = product-up_or_down s (bond_at inst k) (unit_ends inst s good h k no_bond inside)
 
   rest_size : (s : List ℤ) → IsAssignment inst s → unsigned_abs (rest s) ≤ weight inst
   rest_size s h =
-      let sized : IsInstance loosened = recoupled_instance inst loosened.bonds (coupling_ends inst k (pos 0) inside good.joined (omega arith)) good in
+      let sized : IsInstance loosened = recoupled_instance inst loosened.bonds (coupling_ends inst k (pos 0) inside good.draft.joined (omega arith)) good in
       let bound : unsigned_abs (energy loosened s) ≤ weight loosened = energy_size loosened s sized (record { count = h.count; values = h.values }) in
       omega (arith, bound, weight_coupled inst k (pos 0) inside)
 

@@ -119,7 +119,7 @@ module _ (inst : Ising) (good : IsInstance inst) (least : ℕ) (p : Part) (is : 
       by_place now writes x l (inr (out, none)) = subst IsUpOrDown (sym (writes.others x none)) (unit_at inst t h x l)
 
   joins : (k : ℕ) → k < bond_count inst → IsBond inst.n (bond_at inst k)
-  joins k l = good.joined k (record { u = 0; v = 0; j = pos 0 }) l
+  joins k l = good.draft.joined k (record { u = 0; v = 0; j = pos 0 }) l
 
   -- a bond that is not one of the part has no spin of it
   first_out : (k : ℕ) → k < bond_count inst → holds p.bonds k ≡ false → holds p.spins (bond_at inst k).u ≡ false
@@ -174,7 +174,7 @@ module _ (inst : Ising) (good : IsInstance inst) (least : ℕ) (p : Part) (is : 
       same_product : (t q : List ℤ) → HasValues p.spins t q → product t (bond_at inst (numbered p.bonds i)) ≡ product q (bond_at p.planar.instance i)
       same_product t q values =
           let joined : IsBond p.planar.instance.n (bond_at p.planar.instance i) =
-          share.good.joined i (record { u = 0; v = 0; j = pos 0 }) (omega (arith, l, share.bond_counts)) in
+          share.good.draft.joined i (record { u = 0; v = 0; j = pos 0 }) (omega (arith, l, share.bond_counts)) in
           ap₂ (λ x y. x *ℤ y)
           (ap (spin t) (sym (share.first_end i l)) ∙ values (bond_at p.planar.instance i).u (omega (arith, joined.first_end, share.spin_count)))
           (ap (spin t) (sym (share.second_end i l)) ∙ values (bond_at p.planar.instance i).v (omega (arith, joined.second_end, share.spin_count)))

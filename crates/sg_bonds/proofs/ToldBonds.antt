@@ -16,7 +16,7 @@ use Rattle.sg_bonds.specs.Cost.{IsCost, IsRigid}
 use Rattle.sg_bonds.specs.declared.telling.Told.{Told}
 use Rattle.sg_bonds.specs.declared.telling.Told.TheVariants.{Free, Rigid, Unknown}
 use Rattle.sg_bonds.specs.Told.{AreTold, IsTold, is_rigid, told_at}
-use Rattle.sg_bonds.specs.Loads.{IsLoad}
+use Rattle.sg_bonds.specs.Loads.{IsLoad, LeavesRoom}
 use Rattle.sg_bonds.proofs.ClusterNames.{cost_once}
 use Rattle.sg_bonds.proofs.RigidBounds.{rigid_room}
 
@@ -54,16 +54,20 @@ module _ (inst : Ising) (told : List Told) (are : AreTold inst told) where
   freed_true k now turns inside free (inr (yes_turned, is)) = subst (IsTold inst k) (sym is) (free yes_turned)
 
 -- what the load of a bond tells
-pub told_by_load : (inst : Ising) → IsInstance inst → weight inst ≤ sum_limit → (s : List ℤ) (e : ℤ) (loops : List Loop) → Proves inst s e loops
+pub told_by_load : (inst : Ising) → IsInstance inst → weight inst ≤ sum_limit
+    → (s : List ℤ) (e : ℤ) (loops : List Loop) → Proves inst s e loops
     → (k : ℕ) → k < bond_count inst → (number : ℕ) → IsLoad (load loops k) number → (now : Told)
-    → (now ≡ Unknown) ⊎ ((now ≡ Rigid) × (number < 2 ^ 64 - 1) × (number < 2 * unsigned_abs (bond_at inst k).j)) → IsTold inst k now
-told_by_load inst good small s e loops proof k inside number is now (inl none) = subst (IsTold inst k) (sym none) tt
-told_by_load inst good small s e loops proof k inside number is now (inr (rigid, below, room)) =
+    → (now ≡ Rigid → LeavesRoom number (unsigned_abs (bond_at inst k).j)) → (now ≡ Rigid) ⊎ (now ≡ Unknown) → IsTold inst k now
+told_by_load inst good small s e loops proof k inside number is now room (inr none) = subst (IsTold inst k) (sym none) tt
+told_by_load inst good small s e loops proof k inside number is now room (inl rigid) =
+    let (below, more) = room rigid in
     let least : load loops k ≤ number = is below in
-    subst (IsTold inst k) (sym rigid) (rigid_room inst good s e loops proof k inside (omega (arith, least, room)) small)
+    subst (IsTold inst k) (sym rigid)
+        (rigid_room inst good s e loops proof k inside (omega (arith, least, more)) small)
 
 -- one more bond is told, behind the others
-pub told_push : (inst : Ising) (told : List Told) (now : Told) (stop : ℕ) → length told ≡ stop → ((k : ℕ) → k < stop → IsTold inst k (told_at told k))
+pub told_push : (inst : Ising) (told : List Told) (now : Told) (stop : ℕ) → length told ≡ stop
+    → ((k : ℕ) → k < stop → IsTold inst k (told_at told k))
     → IsTold inst stop now → (k : ℕ) → k < stop + 1 → IsTold inst k (told_at (told ++ now ∷ []) k)
 told_push inst told now stop long before here k l = elim (cases_lt k stop) [
   | inl b ↦ subst (IsTold inst k) (sym (get_or_append_left told (now ∷ []) Unknown k (omega (arith, long)))) (before k b)

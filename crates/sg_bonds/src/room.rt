@@ -1,9 +1,9 @@
 // How much the loops of a proof weigh at each bond, and where they leave room for more.
-ghost use Rattle.std.specs.Prelude.{◌≡◌, ◌==◌, ◌<◌, ◌*◌, ◌+◌, ◌-◌, ◌^◌, ℕ, true, if◌then◌else◌};
+ghost use Rattle.std.specs.Prelude.{◌≡◌, ◌==◌, ◌<◌, ◌+◌, ◌↔◌, ℕ, IsTrue, if◌then◌else◌};
 ghost use Rattle.std.specs.Prelude.{length, slice_index, unsigned_abs, IfOk};
 ghost use Rattle.sg_sums.specs.Sets.{holds};
 ghost use Rattle.sg_check.specs.Packing.{load};
-ghost use Rattle.sg_bonds.specs.Loads.{IsLoad};
+ghost use Rattle.sg_bonds.specs.Loads.{IsLoad, LeavesRoom};
 
 use super::NoMemory;
 use sg_check::Loop;
@@ -56,7 +56,7 @@ fn add_at(bond: u32, weight: u64, loads: &mut [u64])
 
 /// Whether the load of a bond is known to be below twice the size of its coupling.
 pub(crate) fn has_room(load: u64, bond: &Bond) -> bool
-    ensures { result ≡ true → (load < 2 ^ 64 - 1) × (load < 2 * unsigned_abs bond.now.j) }
+    ensures { IsTrue result ↔ LeavesRoom load (unsigned_abs bond.now.j) }
 {
     load < u64::MAX && load / 2 < bond.j.unsigned_abs()
 }

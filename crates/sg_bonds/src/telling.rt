@@ -1,6 +1,6 @@
 // Which bonds are rigid, without their costs: told by the loops of a ground state, by paths of rigid
 // bonds, and by states that turn a bond.
-ghost use Rattle.std.specs.Prelude.{◌≡◌, ◌↔◌, ◌⊎◌, ◌<◌, ◌≤◌, ◌*◌, ◌-◌, ◌^◌, ℕ, true, length, IfOk, OnOk, unsigned_abs};
+ghost use Rattle.std.specs.Prelude.{◌≡◌, ◌↔◌, ◌⊎◌, ◌<◌, ◌≤◌, ℕ, true, length, IfOk, OnOk, unsigned_abs};
 ghost use Rattle.sg_limits.specs.Limits.{sum_limit};
 ghost use Rattle.sg_model.specs.Ising.{bond_count};
 ghost use Rattle.sg_model.specs.Spins.{IsAssignment};
@@ -10,6 +10,7 @@ ghost use Rattle.sg_walk.specs.Walk.{has};
 ghost use Rattle.sg_bonds.specs.declared.telling.Told.TheVariants.{Free, Rigid, Unknown};
 ghost use Rattle.sg_bonds.specs.Cost.{IsRigid};
 ghost use Rattle.sg_bonds.specs.Cluster.{HasRigid};
+ghost use Rattle.sg_bonds.specs.Loads.{LeavesRoom};
 ghost use Rattle.sg_bonds.specs.Told.{AreTold, told_at, told_rigid};
 
 use super::NoMemory;
@@ -85,7 +86,8 @@ fn first_told(alloc: Global, inst: &Instance, least: &Answer) -> Result<Vec<Told
 
 // What the load of a bond tells: it is rigid where there is room for more.
 fn told_by(load: u64, bond: &Bond) -> Told
-    ensures { (result ≡ Unknown) ⊎ ((result ≡ Rigid) × (load < 2 ^ 64 - 1) × (load < 2 * unsigned_abs bond.now.j)) }
+    ensures rigid { (result ≡ Rigid) ↔ LeavesRoom load (unsigned_abs bond.now.j) }
+    ensures either { (result ≡ Rigid) ⊎ (result ≡ Unknown) }
 {
     if has_room(load, bond) {
         return Told::Rigid;

@@ -35,7 +35,7 @@ one_end a b x ne = elim (cases_eq a x) [
 module _ (inst : Ising) (good : IsInstance inst) where
   -- bond k joins two different spins of the instance
   pub joins : (k : ℕ) → k < bond_count inst → IsBond inst.n (bond_at inst k)
-  joins k l = good.joined k (record { u = 0; v = 0; j = pos 0 }) l
+  joins k l = good.draft.joined k (record { u = 0; v = 0; j = pos 0 }) l
 
   ends_at : (t : List ℤ) → IsAssignment inst t → (k : ℕ) → k < bond_count inst → HasUnitEnds t (bond_at inst k)
   ends_at t spins k l = unit_ends inst t good spins k (record { u = 0; v = 0; j = pos 0 }) l

@@ -65,7 +65,7 @@ module _ (inst : Ising) (faces : Labelling) where
 
     pub has_face : IsInstance inst → 1 ≤ faces.count
     has_face good = elim (cases_eq (bond_count inst) 0) [
-      | inl none ↦ omega (arith, labels.counts, faces_alone inst none, good.has_spin)
+      | inl none ↦ omega (arith, labels.counts, faces_alone inst none, good.draft.has_spin)
       | inr some ↦ omega (arith, label_below inst faces labels 0 (omega arith))
     ]
 
@@ -84,7 +84,7 @@ module _ (inst : Ising) (faces : Labelling) where
     dual_is_web good few light = record {
       has_node = has_face good;
       few_nodes = few;
-      few_edges = omega (arith, dual_edge_count, good.few_bonds);
+      few_edges = omega (arith, dual_edge_count, good.draft.few_bonds);
       joined = dual_joined;
       light = omega (arith, dual_weight, light);
     }

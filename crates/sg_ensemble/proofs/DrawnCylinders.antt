@@ -120,7 +120,7 @@ pub wall_size : (inst : Ising) (p a d : ℤ) → IsInstance inst → IsWall inst
 wall_size inst p a d good h = apart p a d (weight inst) h.gain first second
   where
     flipped : IsInstance (with_seam_flipped inst)
-    flipped = recoupled_instance inst (with_seam_flipped inst).bonds (flipped_ends inst good.joined) good
+    flipped = recoupled_instance inst (with_seam_flipped inst).bonds (flipped_ends inst good.draft.joined) good
 
     first : unsigned_abs p ≤ weight inst
     first = omega (arith, energy_size inst h.least.reached.0 good h.least.reached.1, ap unsigned_abs h.least.reached.2)

@@ -108,7 +108,7 @@ module _ (inst : Ising) where
     -- a bond has two ends
     pub two_spins : 0 < bond_count inst → 2 ≤ inst.n
     two_spins some =
-        let b : IsBond inst.n (bond_at inst 0) = good.joined 0 (record { u = 0; v = 0; j = pos 0 }) some in
+        let b : IsBond inst.n (bond_at inst 0) = good.draft.joined 0 (record { u = 0; v = 0; j = pos 0 }) some in
         apart (bond_at inst 0).u (bond_at inst 0).v b.first_end b.second_end b.ends_differ
       where
         apart : (u v : ℕ) → u < inst.n → v < inst.n → u ≢ v → 2 ≤ inst.n
@@ -119,7 +119,7 @@ module _ (inst : Ising) where
       pub one_spin : bond_count inst ≡ 0 → inst.n ≡ 1
       one_spin none = elim (cases_lt 1 inst.n) [
         | inl more ↦ absurd (alone (connected 1 more))
-        | inr few ↦ omega (arith, few, good.has_spin)
+        | inr few ↦ omega (arith, few, good.draft.has_spin)
       ]
         where
           alone : Reached inst all_bonds 0 1 → ⊥

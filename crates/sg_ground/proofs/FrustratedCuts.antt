@@ -113,7 +113,7 @@ module _ (inst : Ising) (faces : Labelling) where
     -- one end and not both is the spin, as the two ends differ
     one_end_here : (i k : ℕ) → k < bond_count inst → is_end_of (bond_at inst k) i ≡ unlike (λ x. eqb x i) k
     one_end_here i k l =
-        let bond : IsBond inst.n (bond_at inst k) = good.joined k (record { u = 0; v = 0; j = pos 0 }) l in
+        let bond : IsBond inst.n (bond_at inst k) = good.draft.joined k (record { u = 0; v = 0; j = pos 0 }) l in
         sym (one_end (bond_at inst k).u (bond_at inst k).v i bond.ends_differ)
 
     even_at : (i : ℕ) → odd (degree inst edges i) ≡ false

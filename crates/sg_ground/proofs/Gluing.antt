@@ -61,10 +61,10 @@ held_or_not xs x = elim (cases_in xs x) [
 
 module _ (inst : Ising) (good : IsInstance inst) where
   first_low : (k : ℕ) → k < bond_count inst → (bond_at inst k).u < inst.n
-  first_low k l = (good.joined k (record { u = 0; v = 0; j = pos 0 }) l).first_end
+  first_low k l = (good.draft.joined k (record { u = 0; v = 0; j = pos 0 }) l).first_end
 
   ends_low : (k : ℕ) → k < bond_count inst → (bond_at inst k).v < inst.n
-  ends_low k l = (good.joined k (record { u = 0; v = 0; j = pos 0 }) l).second_end
+  ends_low k l = (good.draft.joined k (record { u = 0; v = 0; j = pos 0 }) l).second_end
 
   module _ (parts done rest : List Part) (p : Part) (are : AreParts inst parts) (parted : parts ≡ done ++ p ∷ rest) where
     part : (least : ℕ) × IsPart inst least p

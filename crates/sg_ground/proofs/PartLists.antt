@@ -42,7 +42,7 @@ module _ (inst : Ising) (least : ℕ) (p : Part) (is : IsPart inst least p) wher
   spin_count = ap (λ (whole : Ising). whole.n) is.instance
 
   joins : (i : ℕ) → i < length p.bonds → IsBond p.planar.instance.n (bond_at p.planar.instance i)
-  joins i l = is.planar.instance.joined i (record { u = 0; v = 0; j = pos 0 }) (omega (arith, l, bond_counts))
+  joins i l = is.planar.instance.draft.joined i (record { u = 0; v = 0; j = pos 0 }) (omega (arith, l, bond_counts))
 
   pub share_of_part : IsShare inst p.spins p.bonds p.planar.instance
   share_of_part = record {

@@ -77,7 +77,7 @@ module _ (inst : Ising) (spins bonds : List ℕ) (share : Ising) (is : IsShare i
   whole_bond i = bond_at inst (numbered bonds i)
 
   joins : (i : ℕ) → i < length bonds → IsBond share.n (bond_at share i)
-  joins i l = is.good.joined i (record { u = 0; v = 0; j = pos 0 }) (omega (arith, l, is.bond_counts))
+  joins i l = is.good.draft.joined i (record { u = 0; v = 0; j = pos 0 }) (omega (arith, l, is.bond_counts))
 
   first_below : (i : ℕ) → i < length bonds → (bond_at share i).u < length spins
   first_below i l = omega (arith, (joins i l).first_end, is.spin_count)

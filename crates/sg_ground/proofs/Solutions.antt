@@ -39,7 +39,7 @@ module _ (p : Embedding) (planar : IsPlanar p) (connected : IsConnected p.instan
   pub faces_fit : p.faces.count ≤ 2 ^ 24
   faces_fit = elim (cases_eq (bond_count p.instance) 0) [
     | inl none ↦ omega (arith, one_face_alone p.instance p.faces planar.faces planar.instance connected none)
-    | inr some ↦ omega (arith, few_faces (omega arith), planar.instance.few_bonds)
+    | inr some ↦ omega (arith, few_faces (omega arith), planar.instance.draft.few_bonds)
   ]
 
   -- a least join of the terminals in the web, where these are the dual and the frustrated faces

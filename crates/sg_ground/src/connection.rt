@@ -1,6 +1,6 @@
 // Whether an instance is one component.
 
-ghost use Rattle.std.specs.Prelude.{◌≡◌, ℕ, ◌<◌, true, false, length, replicate, IfOk};
+ghost use Rattle.std.specs.Prelude.{◌≡◌, ◌↔◌, ℕ, ◌<◌, IsTrue, true, false, length, replicate, IfOk};
 ghost use Rattle.sg_sums.specs.Sets.{IsMarked};
 ghost use Rattle.sg_model.specs.Ising.{bond_count};
 ghost use Rattle.sg_model.specs.Connected.{IsConnected};
@@ -12,23 +12,23 @@ use std::alloc::Global;
 
 // Whether a walk over the bonds from spin 0 finds all spins.
 pub fn is_connected(alloc: Global, inst: &Instance) -> Result<bool, NoMemory>
-    ensures { IfOk result (λ whole. whole ≡ true → IsConnected inst.now) }
+    ensures { IfOk result (λ whole. IsTrue whole ↔ IsConnected inst.now) }
 {
     let all = vec![in alloc; true; inst.bonds().len()]?;
     let mut marks = vec![in alloc; false; inst.n() as usize]?;
     finds_all(alloc, inst, &all, &mut marks)
 }
 
-// Whether a walk over bonds of the set from spin 0 marks all spins.
+// Whether a walk over the bonds of a set of all from spin 0 marks all spins.
 fn finds_all(
     alloc: Global,
     inst: &Instance,
     set: &[bool],
     marks: &mut [bool],
 ) -> Result<bool, NoMemory>
-    requires count { length set.now ≡ bond_count inst.now }
+    requires all { set.now ≡ replicate (bond_count inst.now) true }
     requires no_marks { marks.old ≡ replicate inst.now.n false }
-    ensures { IfOk result (λ whole. whole ≡ true → IsConnected inst.now) }
+    ensures { IfOk result (λ whole. IsTrue whole ↔ IsConnected inst.now) }
 {
     let mut order = Vec::with_capacity(alloc, inst.n() as usize)?;
     walk(inst, set, 0, marks, &mut order)?;
@@ -37,7 +37,7 @@ fn finds_all(
 
 // Whether each mark is set.
 fn all_marked(marks: &[bool]) -> bool
-    ensures { result ≡ true → (i : ℕ) → i < length marks.now → IsMarked marks.now i }
+    ensures { IsTrue result ↔ ((i : ℕ) → i < length marks.now → IsMarked marks.now i) }
 {
     for mark in marks {
         if !*mark {

@@ -32,7 +32,7 @@ unit_at inst s h i l = h.values i (pos 1) (omega (arith, h.count))
 pub unit_ends : (inst : Ising) (s : List ℤ) → IsInstance inst → IsAssignment inst s → All (HasUnitEnds s) inst.bonds
 unit_ends inst s good h =
     All-weaker (IsBond inst.n) (HasUnitEnds s) (λ b w. record { first = unit_at inst s h b.u w.first_end; second = unit_at inst s h b.v w.second_end })
-    inst.bonds good.joined
+    inst.bonds good.draft.joined
 
 pub product-up_or_down : (s : List ℤ) (b : Bond) → HasUnitEnds s b → IsUpOrDown (product s b)
 product-up_or_down s b h = signs (spin s b.u) (spin s b.v) h.first h.second

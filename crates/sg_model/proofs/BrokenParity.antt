@@ -36,5 +36,5 @@ pub weight-le : (inst : Ising) → IsInstance inst → weight inst ≤ 2 ^ 24 * 
 weight-le inst good =
     let all : weight inst ≤ length inst.bonds * 2 ^ 63 =
     sum_by-le (λ b. unsigned_abs b.j) (2 ^ 63) inst.bonds
-    (All-weaker (IsBond inst.n) (λ b. unsigned_abs b.j ≤ 2 ^ 63) (λ b w. omega (arith, w.size)) inst.bonds good.joined) in
-    omega (arith, all, good.few_bonds)
+    (All-weaker (IsBond inst.n) (λ b. unsigned_abs b.j ≤ 2 ^ 63) (λ b w. omega (arith, w.size)) inst.bonds good.draft.joined) in
+    omega (arith, all, good.draft.few_bonds)

@@ -46,4 +46,4 @@ sum-turned inst s h total (b ∷ bonds) joined =
     ∙ sum-turned inst s h (total +ℤ (b.j *ℤ product s b)) bonds (All-tail (IsBond inst.n) b bonds joined)
 
 pub energy-turned : (inst : Ising) (s : List ℤ) → IsInstance inst → IsAssignment inst s → energy inst (turned s) ≡ energy inst s
-energy-turned inst s good h = ap neg_ℤ (sum-turned inst s h (pos 0) inst.bonds good.joined)
+energy-turned inst s good h = ap neg_ℤ (sum-turned inst s h (pos 0) inst.bonds good.draft.joined)

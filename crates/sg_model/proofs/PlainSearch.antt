@@ -26,14 +26,14 @@ BeatsHalves inst e = (half : ℕ) → half < 2 ^ (inst.n - 1) → e ≤ℤ energ
 
 beats-up : (inst : Ising) (e : ℤ) → IsInstance inst → BeatsHalves inst e → (t : List ℤ) → IsAssignment inst t → spin t 0 ≡ pos 1 → e ≤ℤ energy inst t
 beats-up inst e good beats t h up =
-    let found : (half : ℕ) × (half < 2 ^ (inst.n - 1)) × (coded inst.n (2 * half) ≡ t) = up-reaches t inst.n h.count good.has_spin h.values up in
+    let found : (half : ℕ) × (half < 2 ^ (inst.n - 1)) × (coded inst.n (2 * half) ≡ t) = up-reaches t inst.n h.count good.draft.has_spin h.values up in
     subst (λ s. e ≤ℤ energy inst s) found.2 (beats found.0 found.1)
 
 beats-all : (inst : Ising) (e : ℤ) → IsInstance inst → BeatsHalves inst e → (t : List ℤ) → IsAssignment inst t → e ≤ℤ energy inst t
-beats-all inst e good beats t h = elim (h.values 0 (pos 1) (omega (arith, h.count, good.has_spin))) [
+beats-all inst e good beats t h = elim (h.values 0 (pos 1) (omega (arith, h.count, good.draft.has_spin))) [
   | inl up ↦ beats-up inst e good beats t h up
   | inr down ↦
-      let up : spin (turned t) 0 ≡ pos 1 = spin-turned t 0 (omega (arith, h.count, good.has_spin)) ∙ ap neg_ℤ down in
+      let up : spin (turned t) 0 ≡ pos 1 = spin-turned t 0 (omega (arith, h.count, good.draft.has_spin)) ∙ ap neg_ℤ down in
       subst (λ x. e ≤ℤ x) (energy-turned inst t good h) (beats-up inst e good beats (turned t) (turned-assignment inst t h) up)
 ]
 

@@ -39,10 +39,10 @@ module _ (inst : Ising) (good : IsInstance inst) where
     where
       by_dart : ((k : ℕ) × ((d ≡ 2 * k) ⊎ (d ≡ 2 * k + 1))) → tail inst d < inst.n
       by_dart (k, inl e) =
-          let w : IsBond inst.n (bond_at inst k) = good.joined k (record { u = 0; v = 0; j = pos 0 }) (omega arith) in
+          let w : IsBond inst.n (bond_at inst k) = good.draft.joined k (record { u = 0; v = 0; j = pos 0 }) (omega arith) in
           let t : tail inst d ≡ (bond_at inst k).u = ap (tail inst) e ∙ tail_first inst k in omega (arith, t, w.first_end)
       by_dart (k, inr e) =
-          let w : IsBond inst.n (bond_at inst k) = good.joined k (record { u = 0; v = 0; j = pos 0 }) (omega arith) in
+          let w : IsBond inst.n (bond_at inst k) = good.draft.joined k (record { u = 0; v = 0; j = pos 0 }) (omega arith) in
           let t : tail inst d ≡ (bond_at inst k).v = ap (tail inst) e ∙ tail_second inst k in omega (arith, t, w.second_end)
 
   -- and each dart stands in the list of the spin that it leaves

@@ -24,10 +24,13 @@ module _ (inst : Ising) (bonds : List Bond) (same : HasSameEnds inst bonds) wher
 
   pub recoupled_instance : IsInstance inst → IsInstance (with_bonds inst bonds)
   recoupled_instance good = record {
-    has_spin = good.has_spin;
-    few_spins = good.few_spins;
-    few_bonds = omega (arith, same.count, good.few_bonds);
-    joined = All-from_get_or (IsBond inst.n) bonds (record { u = 0; v = 0; j = pos 0 }) joined_at;
+    draft = record {
+      has_spin = good.draft.has_spin;
+      few_spins = good.draft.few_spins;
+      few_bonds = omega (arith, same.count, good.draft.few_bonds);
+      joined = All-from_get_or (IsBond inst.n) bonds (record { u = 0; v = 0; j = pos 0 }) joined_at;
+      lists = good.draft.lists;
+    };
     rotation = record {
       lists = good.rotation.lists;
       each_once = λ i d b. good.rotation.each_once i d b ∙ ap (λ t. cond {A = ℕ} t 1 0) (sym (is_dart_same i d));
@@ -40,7 +43,7 @@ module _ (inst : Ising) (bonds : List Bond) (same : HasSameEnds inst bonds) wher
     where
       joined_at : (k : ℕ) → k < length bonds → IsBond inst.n (get_or bonds k (record { u = 0; v = 0; j = pos 0 }))
       joined_at k b =
-          let was : IsBond inst.n (bond_at inst k) = good.joined k (record { u = 0; v = 0; j = pos 0 }) (omega (arith, same.count)) in
+          let was : IsBond inst.n (bond_at inst k) = good.draft.joined k (record { u = 0; v = 0; j = pos 0 }) (omega (arith, same.count)) in
           record {
             first_end = omega (arith, was.first_end, same.first k);
             second_end = omega (arith, was.second_end, same.second k);

@@ -32,7 +32,7 @@ ends_back inst bonds same good = record {
   count = sym same.count;
   first = λ k. sym (same.first k);
   second = λ k. sym (same.second k);
-  sizes = λ k d l. (good.joined k d l).size;
+  sizes = λ k d l. (good.draft.joined k d l).size;
 }
 
 pub leasts_same : (inst : Ising) (bonds : List Bond) → HasSameEnds inst bonds → IsInstance inst → (leasts : List ℕ) → AreLeasts inst leasts → AreLeasts (with_bonds inst bonds) leasts

@@ -23,7 +23,7 @@ module _ (inst : Ising) (good : IsInstance inst) (connected : IsConnected inst) 
   -- a connected instance in the plane has two more spins and faces than bonds
   pub connected_sum : IsEuler inst (pos 2) → inst.n + face_count inst ≡ bond_count inst + 2
   connected_sum genus_zero =
-      let one : IsEuler inst (euler inst 1) = record { leasts = 0 ∷ []; components = connected_leasts inst good.has_spin connected; value = refl } in
+      let one : IsEuler inst (euler inst 1) = record { leasts = 0 ∷ []; components = connected_leasts inst good.draft.has_spin connected; value = refl } in
       let sum : inst.n + face_count inst ≡ bond_count inst + 2 * (1 - 1) + 2 =
       euler_sum inst.n (face_count inst) (bond_count inst + 2 * (1 - 1)) (one_euler inst (euler inst 1) (pos 2) one genus_zero) in
       omega (arith, sum)
@@ -40,7 +40,7 @@ module _ (inst : Ising) (good : IsInstance inst) (connected : IsConnected inst) 
       with_bond some (face, numbers) =
           let first : face 0 < faces_before inst (dart_count inst) = numbers.below 0 (omega arith) in
           euler_bound_embedding inst.n (bond_count inst) (faces_before inst (dart_count inst)) (tail inst) (next inst) face
-          (numbered_embedding inst good face (faces_before inst (dart_count inst)) numbers) good.has_spin (spins_connected inst good connected) (omega arith)
+          (numbered_embedding inst good face (faces_before inst (dart_count inst)) numbers) good.draft.has_spin (spins_connected inst good connected) (omega arith)
 
   module _ (faces : Labelling) (labels : IsFaceLabels inst faces) where
     pub euler_bound : inst.n + faces.count ≤ bond_count inst + 2

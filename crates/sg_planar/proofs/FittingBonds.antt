@@ -72,7 +72,7 @@ module _ (inst : Ising) (good : IsInstance inst) where
   pub breaks_from_follows : (list : List ℕ) (down : ℕ → Bool) → Follows inst (is_unlike inst list) down →
       (s : List ℤ) → IsAssignment inst s → ((x : ℕ) → x < inst.n → is_down (spin s x) ≡ down x) → BreaksExactly inst s list
   breaks_from_follows list down follows s assigned same k l =
-      let bond : IsBond inst.n (bond_at inst k) = good.joined k (record { u = 0; v = 0; j = pos 0 }) l in
+      let bond : IsBond inst.n (bond_at inst k) = good.draft.joined k (record { u = 0; v = 0; j = pos 0 }) l in
       is_broken_xor s (bond_at inst k) (unit_ends inst s good assigned k (record { u = 0; v = 0; j = pos 0 }) l)
       ∙ ap (xor (is_negative (bond_at inst k)))
       (ap₂ xor (same (bond_at inst k).u bond.first_end) (same (bond_at inst k).v bond.second_end) ∙ sym (follows.across k l))
@@ -113,7 +113,7 @@ module _ (inst : Ising) (good : IsInstance inst) where
             let numbers : AreFaceNumbers inst (face_at faces) (faces_before inst (dart_count inst)) = labels_number inst good faces labels in
             let face : face_at faces 0 < faces_before inst (dart_count inst) = numbers.below 0 (omega arith) in
             planar_duality inst.n (bond_count inst) (faces_before inst (dart_count inst)) (tail inst) (next inst) (face_at faces)
-            (numbered_embedding inst good (face_at faces) (faces_before inst (dart_count inst)) numbers) (is_unlike inst list) good.has_spin
+            (numbered_embedding inst good (face_at faces) (faces_before inst (dart_count inst)) numbers) (is_unlike inst list) good.draft.has_spin
             (spins_connected inst good connected) (omega arith) (omega arith) (λ f l. even_on_faces f (omega (arith, labels.counts)))
 
         from_cut : CutBy (bond_count inst) (tail inst) (is_unlike inst list) → (down : ℕ → Bool) × Follows inst (is_unlike inst list) down

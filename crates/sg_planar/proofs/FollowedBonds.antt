@@ -203,7 +203,7 @@ module _ (inst : Ising) (down : List Bool) (lengths : length down ≡ inst.n) wh
   pub values_break : (list : List ℕ) → IsInstance inst → (t : ℕ → Bool) → Follows inst (is_unlike inst list) t →
       ((x : ℕ) → x < inst.n → IsRight t down x) → (spin (map value_of down) 0 ≡ pos 1) × BreaksExactly inst (map value_of down) list
   values_break list good t follows right = (
-    value_at 0 good.has_spin ∙ ap value_of (right 0 good.has_spin ∙ follows.first_up),
+    value_at 0 good.draft.has_spin ∙ ap value_of (right 0 good.draft.has_spin ∙ follows.first_up),
     breaks_from_follows inst good list t follows (map value_of down) values_assigned (λ x l. value_down x l ∙ right x l),
   )
 

@@ -57,14 +57,14 @@ weight_flipped inst =
 
 pub planar_flipped : (p : Embedding) → IsPlanar p → IsPlanar (record { instance = with_seam_flipped p.instance; faces = p.faces })
 planar_flipped p h =
-    planar_recoupled p (with_seam_flipped p.instance).bonds h (flipped_ends p.instance h.instance.joined) (omega (arith, weight_flipped p.instance, h.sum))
+    planar_recoupled p (with_seam_flipped p.instance).bonds h (flipped_ends p.instance h.instance.draft.joined) (omega (arith, weight_flipped p.instance, h.sum))
 
 weight_negated : (inst : Ising) → weight (negated inst) ≡ weight inst
 weight_negated inst = sum_by-map_of size opposite inst.bonds ∙ sum_by-agree (λ b. size (opposite b)) size inst.bonds size_opposite
 
 pub planar_negated : (p : Embedding) → IsPlanar p → IsPlanar (record { instance = negated p.instance; faces = p.faces })
 planar_negated p h =
-    planar_recoupled p (map opposite p.instance.bonds) h (negated_ends p.instance h.instance.joined) (omega (arith, weight_negated p.instance, h.sum))
+    planar_recoupled p (map opposite p.instance.bonds) h (negated_ends p.instance h.instance.draft.joined) (omega (arith, weight_negated p.instance, h.sum))
 
 -- the new coupling comes into the sum in place of the old
 pub weight_coupled : (inst : Ising) (bond : ℕ) (z : ℤ) → bond < bond_count inst → weight (with_coupling inst bond z) + unsigned_abs (bond_at inst bond).j ≡ weight inst + unsigned_abs z
@@ -80,4 +80,4 @@ coupling_size inst bond z l =
 
 pub planar_coupled : (p : Embedding) (bond : ℕ) (z : ℤ) → IsPlanar p → bond < bond_count p.instance → weight (with_coupling p.instance bond z) ≤ forced_limit → IsPlanar (record { instance = with_coupling p.instance bond z; faces = p.faces })
 planar_coupled p bond z h l small =
-    planar_recoupled p (with_coupling p.instance bond z).bonds h (coupling_ends p.instance bond z l h.instance.joined (omega (arith, coupling_size p.instance bond z l))) small
+    planar_recoupled p (with_coupling p.instance bond z).bonds h (coupling_ends p.instance bond z l h.instance.draft.joined (omega (arith, coupling_size p.instance bond z l))) small

@@ -177,18 +177,21 @@ module _ (inst : Ising) (good : IsInstance inst) (spins bonds : List ℕ) (part 
   -- a part is an instance
   pub part_instance : IsInstance small
   part_instance = record {
-    has_spin = omega (arith, part.some);
-    few_spins = omega (arith, rising_few spins inst.n part.spins_rise part.spins_below, good.few_spins);
-    few_bonds =
-        omega (
-          arith,
-          rising_few bonds (bond_count inst) part.bonds_rise part.bonds_below,
-          good.few_bonds,
-          length-map bonds
-              (λ k. bond_in spins (bond_at inst k)),
-        );
-    joined = All-map (IsBond (length spins)) (λ k. bond_in spins (bond_at inst k)) bonds
-        (All-from_get_or (λ k. IsBond (length spins) (bond_in spins (bond_at inst k))) bonds 0 (λ j b. is_bond (get_or bonds j 0) (holds_entry bonds j b)));
+    draft = record {
+      has_spin = omega (arith, part.some);
+      few_spins = omega (arith, rising_few spins inst.n part.spins_rise part.spins_below, good.draft.few_spins);
+      few_bonds =
+          omega (
+            arith,
+            rising_few bonds (bond_count inst) part.bonds_rise part.bonds_below,
+            good.draft.few_bonds,
+            length-map bonds
+                (λ k. bond_in spins (bond_at inst k)),
+          );
+      joined = All-map (IsBond (length spins)) (λ k. bond_in spins (bond_at inst k)) bonds
+          (All-from_get_or (λ k. IsBond (length spins) (bond_in spins (bond_at inst k))) bonds 0 (λ j b. is_bond (get_or bonds j 0) (holds_entry bonds j b)));
+      lists = length-map spins (λ i. map (dart_in bonds) (darts_of inst i));
+    };
     rotation = record { lists = length-map spins (λ i. map (dart_in bonds) (darts_of inst i)); each_once = each_dart_once };
     seam = record { below = λ k d l. absurd (omega arith); distinct = λ x. omega arith };
   }
@@ -196,7 +199,7 @@ module _ (inst : Ising) (good : IsInstance inst) (spins bonds : List ℕ) (part 
       is_bond : (k : ℕ) → holds bonds k ≡ true → IsBond (length spins) (bond_in spins (bond_at inst k))
       is_bond k h =
           let l : k < bond_count inst = part.bonds_below k h in
-          let b : IsBond inst.n (bond_at inst k) = good.joined k (record { u = 0; v = 0; j = pos 0 }) l in
+          let b : IsBond inst.n (bond_at inst k) = good.draft.joined k (record { u = 0; v = 0; j = pos 0 }) l in
           let u : holds spins (bond_at inst k).u ≡ true = part.first_end k l ∙ h in
           let v : holds spins (bond_at inst k).v ≡ true = part.second_end k l ∙ h in
           record {

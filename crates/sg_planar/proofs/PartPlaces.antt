@@ -90,7 +90,7 @@ module _ (inst : Ising) (good : IsInstance inst) (names : List ℕ) (count : len
 
   pub labels_low : All (λ c. c < inst.n) (map (λ (b : Bond). get_or names b.u 0) inst.bonds)
   labels_low = All-map (λ c. c < inst.n) (λ (b : Bond). get_or names b.u 0) inst.bonds
-      (λ k d b. name_below inst good (slice_index names) named (get_or inst.bonds k d).u (good.joined k d b).first_end)
+      (λ k d b. name_below inst good (slice_index names) named (get_or inst.bonds k d).u (good.draft.joined k d b).first_end)
 
   pub split_made : (labels : List ℕ) (spin_lists : List (List ℕ)) (spin_places : List ℕ) (bond_lists : List (List ℕ)) (bond_places : List ℕ) →
       labels ≡ map (λ (b : Bond). get_or names b.u 0) inst.bonds → IsDealt (slice_index names) inst.n (length names) spin_lists spin_places →

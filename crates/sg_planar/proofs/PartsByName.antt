@@ -41,10 +41,10 @@ module _ (inst : Ising) (good : IsInstance inst) (name : ℕ → ℕ) (named : I
   name_own x l = sym (name_alike x (name x) l (name_below x l) (named.reached x l))
 
   pub first_below : (k : ℕ) → k < bond_count inst → (bond_at inst k).u < inst.n
-  first_below k l = (good.joined k (record { u = 0; v = 0; j = pos 0 }) l).first_end
+  first_below k l = (good.draft.joined k (record { u = 0; v = 0; j = pos 0 }) l).first_end
 
   second_below : (k : ℕ) → k < bond_count inst → (bond_at inst k).v < inst.n
-  second_below k l = (good.joined k (record { u = 0; v = 0; j = pos 0 }) l).second_end
+  second_below k l = (good.draft.joined k (record { u = 0; v = 0; j = pos 0 }) l).second_end
 
   name_ends : (k : ℕ) → k < bond_count inst → name (bond_at inst k).v ≡ name (bond_at inst k).u
   name_ends k l =

@@ -161,11 +161,11 @@ module _ {inst : Ising} (good : IsInstance inst) {names : List ℕ} {spin_lists 
       dealt_closed = rw (s, b) (named_part inst good (slice_index names) split.naming c l own)
 
       pub spin_places_dealt : ArePlaces spins spin_places inst.n
-      spin_places_dealt = rw s (dealt_places (slice_index names) inst.n inst.n spin_lists spin_places split.spins good.few_spins c)
+      spin_places_dealt = rw s (dealt_places (slice_index names) inst.n inst.n spin_lists spin_places split.spins good.draft.few_spins c)
 
       pub bond_places_dealt : ArePlaces bonds bond_places (bond_count inst)
       bond_places_dealt =
-          rw b (dealt_places (λ k. get_or names (bond_at inst k).u 0) inst.n (bond_count inst) bond_lists bond_places split.bonds good.few_bonds c)
+          rw b (dealt_places (λ k. get_or names (bond_at inst k).u 0) inst.n (bond_count inst) bond_lists bond_places split.bonds good.draft.few_bonds c)
 
       module _ (flat : IsEuler inst (pos 2)) (small : weight inst ≤ forced_limit) (part : Ising) (is : part ≡ restricted inst spins bonds) where
         dealt_is : part ≡ component inst (slice_index names) c

@@ -112,8 +112,8 @@ module _ (inst : Ising) (good : IsInstance inst) (name : ℕ → ℕ) (named : I
         let one : length flat.leasts ≡ length (own_names name inst.n) =
         ap length (one_list inst flat.leasts (own_names name inst.n) flat.components (own_leasts inst good name named)) in
         let first : holds (own_names name inst.n) (name 0) ≡ true =
-        holds-chosen_below (λ c. eqb (name c) c) inst.n (name 0) (name_below inst good name named 0 good.has_spin)
-        ∙ eq-eqb (name (name 0)) (name 0) (name_own inst good name named 0 good.has_spin) in
+        holds-chosen_below (λ c. eqb (name c) c) inst.n (name 0) (name_below inst good name named 0 good.draft.has_spin)
+        ∙ eq-eqb (name (name 0)) (name 0) (name_own inst good name named 0 good.draft.has_spin) in
         let some : place_in (own_names name inst.n) (name 0) < length (own_names name inst.n) =
         place_below (own_names name inst.n) (own_leasts inst good name named).rising (name 0) first in
         sums (inst.n + face_count inst) (bond_count inst) (length flat.leasts) flat.value (omega (arith, some, one)) ∙ ap (λ k. bond_count inst + 2 * k) one
@@ -126,7 +126,7 @@ module _ (inst : Ising) (good : IsInstance inst) (name : ℕ → ℕ) (named : I
     part_euler c l own = record {
       leasts = 0 ∷ [];
       components = connected_leasts (component inst name c)
-          (named_instance inst good name named c l own).has_spin (named_connected inst good name named c l own);
+          (named_instance inst good name named c l own).draft.has_spin (named_connected inst good name named c l own);
       value = two ((component inst name c).n + face_count (component inst name c))
           (bond_count (component inst name c))
           (part_filled c l own ∙ met_each filled allowed inst.n at_most (filled_sum ∙ whole_sum ∙ sym allowed_sum) c l ∙ sym (part_allowed c own));

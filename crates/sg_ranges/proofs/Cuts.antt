@@ -131,12 +131,12 @@ module _ (inst other : Ising) (good : IsInstance inst) (same : other ≡ negated
       there = subst (λ k. LeastsUp k s) same h
 
       forth : HasSameEnds inst (map opposite inst.bonds)
-      forth = negated_ends inst good.joined
+      forth = negated_ends inst good.draft.joined
 
       back : HasSameEnds (negated inst) inst.bonds
       back = record {
         count = sym forth.count;
         first = λ k. sym (forth.first k);
         second = λ k. sym (forth.second k);
-        sizes = λ k d b. (good.joined k d b).size;
+        sizes = λ k d b. (good.draft.joined k d b).size;
       }

@@ -8,13 +8,14 @@ use Rattle.sg_bonds.proofs.components.join_costs.Goals as goal
 
 pub part_costs-requires : goal.part_costs-requires
 part_costs-requires c = record {
-  sum = part_light c.args.inst.now c.bonds.ensures.instance c.args.parts.now c.requires.parts c.loop-part.part-index c.part-item.result c.loop-part-test.true c.part-item.is
-      c.requires.sum;
+  sum = part_light c.args.inst.now c.bonds.ensures.instance c.args.parts.now c.requires.parts c.loop-part.part-index
+      c.part-item.result c.loop-part-test.true c.part-item.is c.requires.sum;
 }
 
 pub place_costs-requires : goal.place_costs-requires
 place_costs-requires c =
-    let here = share c.args.inst.now c.bonds.ensures.instance c.args.parts.now c.requires.parts c.loop-part.part-index c.part-item.result c.loop-part-test.true c.part-item.is in
+    let here = share c.args.inst.now c.bonds.ensures.instance c.args.parts.now c.requires.parts c.loop-part.part-index
+        c.part-item.result c.loop-part-test.true c.part-item.is in
     let long : length c.deref_mut.result.now ≡ bond_count c.args.inst.now = ap length c.deref_mut.ensures.value ∙ c.loop-part.invariant.count in
     record {
       rising = subst IsStrictlyIncreasing (sym c.as_slice.ensures) here.bonds_rise;
@@ -31,8 +32,8 @@ loop-part-preserved c =
     (subst (λ (found : List ℤ). Writes c.part-item.result.bonds found c.deref_mut.result.now new) c.as_slice-in-loop-part.ensures
     (subst (λ (list : List ℕ). Writes list c.as_slice-in-loop-part.result.now c.deref_mut.result.now new) c.as_slice.ensures c.place_costs.ensures)) in
     rw (with_items_is c.loop-part.costs new (c.place_costs.auto.costs ∙ c.deref_mut.ensures.len))
-    (joined_more c.args.inst.now c.bonds.ensures.instance c.args.parts.now c.requires.parts c.loop-part.part-index c.part-item.result c.loop-part-test.true c.part-item.is
-    c.loop-part.costs.items new c.in_ok-found.found c.loop-part.invariant c.in_ok-found.ensures writes)
+    (joined_more c.args.inst.now c.bonds.ensures.instance c.args.parts.now c.requires.parts c.loop-part.part-index
+    c.part-item.result c.loop-part-test.true c.part-item.is c.loop-part.costs.items new c.in_ok-found.found c.loop-part.invariant c.in_ok-found.ensures writes)
 
 pub returns : goal.returns
 returns c =

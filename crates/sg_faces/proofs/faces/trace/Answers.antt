@@ -14,7 +14,7 @@ label_orbits-requires-clause-is_move c =
 
 pub label_orbits-requires-clause-room : goal.label_orbits-requires-clause-room
 label_orbits-requires-clause-room c =
-    omega (arith, ap length c.deref.ensures.value, c.in_ok-table.ensures.lengths, c.bare_spins-bare.ensures.instance.few_bonds)
+    omega (arith, ap length c.deref.ensures.value, c.in_ok-table.ensures.lengths, c.bare_spins-bare.ensures.instance.draft.few_bonds)
 
 pub returns-in_err-orbits-clause-least : goal.returns-in_err-orbits-clause-least
 returns-in_err-orbits-clause-least c = least_of_face c.args.inst.now c.bare_spins-bare.ensures.instance
@@ -26,8 +26,8 @@ with_more-requires c =
       orbits_few c.deref.result.now c.in_ok-orbits.orbits.labels c.in_ok-orbits.orbits.count c.in_ok-orbits.ensures,
       ap length c.deref.ensures.value,
       c.in_ok-table.ensures.lengths,
-      c.bare_spins-bare.ensures.instance.few_bonds,
-      c.bare_spins-bare.ensures.instance.few_spins,
+      c.bare_spins-bare.ensures.instance.draft.few_bonds,
+      c.bare_spins-bare.ensures.instance.draft.few_spins,
       c.bare_spins-bare.ensures.count,
       bare_few c.args.inst.now,
     )

@@ -28,7 +28,7 @@ pub overflow_cast-len : goal.overflow_cast-len
 overflow_cast-len c =
     let i : IsInstance (restricted c.args.inst.now c.args.spins.now c.args.bonds.now) =
     part_instance c.args.inst.now c.requires.instance c.args.spins.now c.args.bonds.now c.requires.closed in
-    omega (arith, c.len.ensures, i.few_spins)
+    omega (arith, c.len.ensures, i.draft.few_spins)
 
 -- the part as it is defined, and that it is an instance
 whole : (c : After-new) →
@@ -45,13 +45,13 @@ good : (c : After-new) → IsInstance (record { n = c.len.result; bonds = c.in_o
 good c = subst IsInstance (sym (whole c)) (part_instance c.args.inst.now c.requires.instance c.args.spins.now c.args.bonds.now c.requires.closed)
 
 pub new-requires-2-clause-few_spins : goal.new-requires-2-clause-few_spins
-new-requires-2-clause-few_spins c = (good c).few_spins
+new-requires-2-clause-few_spins c = (good c).draft.few_spins
 
 pub new-requires-2-clause-few_bonds : goal.new-requires-2-clause-few_bonds
-new-requires-2-clause-few_bonds c = (good c).few_bonds
+new-requires-2-clause-few_bonds c = (good c).draft.few_bonds
 
 pub new-requires-2-clause-joined : goal.new-requires-2-clause-joined
-new-requires-2-clause-joined c = (good c).joined
+new-requires-2-clause-joined c = (good c).draft.joined
 
 pub unreachable-requires : goal.unreachable-requires
 unreachable-requires c =

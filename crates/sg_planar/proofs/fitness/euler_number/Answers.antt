@@ -9,7 +9,7 @@ use Rattle.sg_planar.proofs.fitness.euler_number.Goals as goal
 
 pub overflow_sub-separations : goal.overflow_sub-separations
 overflow_sub-separations c =
-    omega (arith, leasts_some c.args.inst.now c.in_ok-leasts.leasts.items c.in_ok-leasts.ensures c.n.ensures.instance.has_spin, c.len.ensures)
+    omega (arith, leasts_some c.args.inst.now c.in_ok-leasts.leasts.items c.in_ok-leasts.ensures c.n.ensures.instance.draft.has_spin, c.len.ensures)
 
 pub difference-requires-clause-right : goal.difference-requires-clause-right
 difference-requires-clause-right c =
@@ -19,8 +19,8 @@ difference-requires-clause-right c =
       c.len.ensures,
       c.len-2.ensures,
       ap (length {A = Bond}) c.bonds.ensures.value,
-      c.n.ensures.instance.few_spins,
-      c.n.ensures.instance.few_bonds,
+      c.n.ensures.instance.draft.few_spins,
+      c.n.ensures.instance.draft.few_bonds,
     )
 
 pub returns : goal.returns

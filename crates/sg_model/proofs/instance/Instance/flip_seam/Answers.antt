@@ -29,4 +29,4 @@ with_bonds-requires c =
     let all : c.loop-k.k ≡ bond_count inst = omega (arith, ap (length {A = Bond}) c.loop-k.invariant.list) in
     let made : c.loop-k.bonds ≡ map (flipped_at inst) (range_with_len 0 (bond_count inst)) =
     c.loop-k.invariant.made ∙ ap (λ k. map (flipped_at inst) (range_with_len 0 k)) all in
-    subst (HasSameEnds inst) (sym made) (flipped_ends inst good.joined)
+    subst (HasSameEnds inst) (sym made) (flipped_ends inst good.draft.joined)

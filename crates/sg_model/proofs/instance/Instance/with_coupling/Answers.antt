@@ -25,7 +25,7 @@ pub with_bonds-requires : goal.with_bonds-requires
 with_bonds-requires c =
     let inst = c.args.self.now in
     let good = subst IsInstance c.self.view_is c.self.invariant in
-    let ends = coupling_ends inst c.args.bond c.args.j c.requires.bond_in good.joined c.requires.size in
+    let ends = coupling_ends inst c.args.bond c.args.j c.requires.bond_in good.draft.joined c.requires.size in
     let same = ap (λ z. take c.loop-k.k (with_coupling inst c.args.bond z).bonds) (to_z-of_z w64 c.args.j c.ranges.j) in
     let all = take_all c.loop-k.k (with_coupling inst c.args.bond c.args.j).bonds (omega (arith, ends.count, ap (length {A = Bond}) c.loop-k.invariant.list)) in
     subst (HasSameEnds inst) (sym (c.loop-k.invariant.made ∙ same ∙ all)) ends
