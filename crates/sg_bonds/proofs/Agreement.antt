@@ -76,9 +76,11 @@ module _ (inst : Ising) (good : IsInstance inst) (s t : List ℤ) (first : IsAss
           (subst (λ y. spin s (bond_at inst j.bond).u *ℤ spin s y ≡ spin t (bond_at inst j.bond).u *ℤ spin t y) e.1 same))
 
   step : (set : ℕ → Bool) (a b : ℕ) → JoinedBy inst set a b → Agree a b ⊎ Turns inst set s t
-  step set a b j = by_product (same_or_opposite (product s (bond_at inst j.bond)) (product t (bond_at inst j.bond)) (unit_product inst good j.bond j.below s first) (unit_product inst good j.bond j.below t second))
+  step set a b j = by_product (same_or_opposite (product s (bond_at inst j.bond)) (product t (bond_at inst j.bond))
+      (unit_product inst good j.bond j.below s first) (unit_product inst good j.bond j.below t second))
     where
-      by_product : (product s (bond_at inst j.bond) ≡ product t (bond_at inst j.bond)) ⊎ (product t (bond_at inst j.bond) ≡ neg_ℤ (product s (bond_at inst j.bond))) → Agree a b ⊎ Turns inst set s t
+      by_product : (product s (bond_at inst j.bond) ≡ product t (bond_at inst j.bond)) ⊎
+          (product t (bond_at inst j.bond) ≡ neg_ℤ (product s (bond_at inst j.bond))) → Agree a b ⊎ Turns inst set s t
       by_product (inl same) = inl (agree_joined set a b j same)
       by_product (inr turned) = inr (record { bond = j.bond; below = j.below; in_set = j.in_set; turned = turned })
 

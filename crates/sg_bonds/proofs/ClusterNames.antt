@@ -18,12 +18,14 @@ module _ (inst : Ising) (k : ℕ) where
   -- there is one least energy with a product, and so one cost
   least_with_once : (p a b : ℤ) → IsLeastWith inst k p a → IsLeastWith inst k p b → a ≡ b
   least_with_once p a b g h =
-      level a b (subst (λ x. a ≤ℤ x) h.reached.3 (g.least h.reached.0 h.reached.1 h.reached.2)) (subst (λ x. b ≤ℤ x) g.reached.3 (h.least g.reached.0 g.reached.1 g.reached.2))
+      level a b (subst (λ x. a ≤ℤ x) h.reached.3 (g.least h.reached.0 h.reached.1 h.reached.2))
+      (subst (λ x. b ≤ℤ x) g.reached.3 (h.least g.reached.0 g.reached.1 g.reached.2))
 
   pub cost_once : (c d : ℤ) → IsCost inst k c → IsCost inst k d → c ≡ d
   cost_once c d g h =
       g.apart
-      ∙ ap₂ (λ x y. pos (unsigned_abs (y -ℤ x))) (least_with_once (pos 1) g.like h.like g.least_like h.least_like) (least_with_once (negsuc 0) g.unlike h.unlike g.least_unlike h.least_unlike)
+      ∙ ap₂ (λ x y. pos (unsigned_abs (y -ℤ x))) (least_with_once (pos 1) g.like h.like g.least_like h.least_like)
+      (least_with_once (negsuc 0) g.unlike h.unlike g.least_unlike h.least_unlike)
       ∙ sym h.apart
 
 -- the costs above 0 are those of the rigid bonds
@@ -41,11 +43,13 @@ are_clusters inst set names rigid all = record {
 }
 
 -- one cost more
-pub shows_more : (costs : List ℤ) (set : List Bool) (stop : ℕ) (flag : Bool) → ShowsRigid costs set stop → (IsTrue flag ↔ (pos 0 <ℤ get_or costs stop (pos 0))) → ShowsRigid costs (set ++ flag ∷ []) (stop + 1)
+pub shows_more : (costs : List ℤ) (set : List Bool) (stop : ℕ) (flag : Bool) → ShowsRigid costs set stop
+    → (IsTrue flag ↔ (pos 0 <ℤ get_or costs stop (pos 0))) → ShowsRigid costs (set ++ flag ∷ []) (stop + 1)
 shows_more costs set stop flag h test = record {
   count = length_push set flag ∙ ap (λ n. n + 1) h.count;
   shown = λ b l. elim (cases_lt b stop) [
-    | inl c ↦ subst (λ (t : Bool). (t ≡ true) ↔ (pos 0 <ℤ get_or costs b (pos 0))) (sym (get_or_append_left set (flag ∷ []) false b (omega (arith, h.count)))) (h.shown b c)
+    | inl c ↦ subst (λ (t : Bool). (t ≡ true) ↔ (pos 0 <ℤ get_or costs b (pos 0)))
+        (sym (get_or_append_left set (flag ∷ []) false b (omega (arith, h.count)))) (h.shown b c)
     | inr past ↦
         let same : b ≡ stop = omega arith in
         subst (λ (t : Bool). (t ≡ true) ↔ (pos 0 <ℤ get_or costs b (pos 0))) (sym (get_or_push set flag false b (h.count ∙ sym same)))

@@ -23,7 +23,8 @@ signed_size p x (inl e) = rw e (omega (arith, ints))
 signed_size p x (inr e) = rw e (omega (arith, ints))
 
 -- the sum of an instance at the limit in which one bond is forced
-pub forced_sum : (inst : Ising) (k : ℕ) (p : ℤ) (w : ℕ) → k < bond_count inst → IsUpOrDown p → weight inst ≤ w → weight (with_coupling inst k (p *ℤ pos (weight inst + 1))) ≤ 2 * w + 1
+pub forced_sum : (inst : Ising) (k : ℕ) (p : ℤ) (w : ℕ) → k < bond_count inst → IsUpOrDown p → weight inst ≤ w
+    → weight (with_coupling inst k (p *ℤ pos (weight inst + 1))) ≤ 2 * w + 1
 forced_sum inst k p w inside up small =
     omega (arith, weight_coupled inst k (p *ℤ pos (weight inst + 1)) inside, signed_size p (pos (weight inst + 1)) up)
 
@@ -36,7 +37,8 @@ module _ (inst : Ising) (good : IsInstance inst) (k : ℕ) where
   least_with_own s p g e = record { reached = (s, g.assignment, e, refl); least = λ t h _. g.least t h }
 
   -- and the other least energy tells the cost
-  pub cost_from_other : (s : List ℤ) (p e c : ℤ) → IsGroundState inst s → IsUpOrDown p → product s (bond_at inst k) ≡ neg_ℤ p → IsLeastWith inst k p e → c ≡ e -ℤ energy inst s → IsCost inst k c
+  pub cost_from_other : (s : List ℤ) (p e c : ℤ) → IsGroundState inst s → IsUpOrDown p → product s (bond_at inst k) ≡ neg_ℤ p
+      → IsLeastWith inst k p e → c ≡ e -ℤ energy inst s → IsCost inst k c
   cost_from_other s p e c g up own other gain = by_sign up
     where
       above : energy inst s ≤ℤ e
@@ -65,7 +67,8 @@ module _ (inst : Ising) (good : IsInstance inst) (k : ℕ) where
       }
 
 -- one more cost
-pub costs_more : (inst : Ising) (costs : List ℤ) (c : ℤ) (n : ℕ) → length costs ≡ n → ((k : ℕ) → k < n → IsCost inst k (get_or costs k (pos 0))) → IsCost inst n c → (k : ℕ) → k < n + 1 → IsCost inst k (get_or (costs ++ c ∷ []) k (pos 0))
+pub costs_more : (inst : Ising) (costs : List ℤ) (c : ℤ) (n : ℕ) → length costs ≡ n → ((k : ℕ) → k < n → IsCost inst k (get_or costs k (pos 0)))
+    → IsCost inst n c → (k : ℕ) → k < n + 1 → IsCost inst k (get_or (costs ++ c ∷ []) k (pos 0))
 costs_more inst costs c n long before here k l = elim (cases_lt k n) [
   | inl b ↦ subst (IsCost inst k) (sym (get_or_append_left costs (c ∷ []) (pos 0) k (omega (arith, long)))) (before k b)
   | inr past ↦

@@ -66,7 +66,8 @@ module _ (inst : Ising) (good : IsInstance inst) (k : ℕ) (inside : k < bond_co
 
       second : spin (set (replicate inst.n (pos 1)) (bond_at inst k).u p) (bond_at inst k).v ≡ pos 1
       second =
-          get_or-set_other (replicate inst.n (pos 1)) (bond_at inst k).u (bond_at inst k).v p (pos 1) (λ (e : (bond_at inst k).v ≡ (bond_at inst k).u). joined_at.ends_differ (sym e))
+          get_or-set_other (replicate inst.n (pos 1)) (bond_at inst k).u (bond_at inst k).v p (pos 1)
+          (λ (e : (bond_at inst k).v ≡ (bond_at inst k).u). joined_at.ends_differ (sym e))
           ∙ get_or-replicate inst.n (bond_at inst k).v (pos 1) (pos 1) joined_at.second_end
 
       once : (x : ℤ) → x *ℤ pos 1 ≡ x
@@ -77,7 +78,8 @@ module _ (inst : Ising) (good : IsInstance inst) (k : ℕ) (inside : k < bond_co
 
   -- the energy, by that of the other bonds
   old_energy : (s : List ℤ) → energy inst s ≡ rest s -ℤ ((bond_at inst k).j *ℤ product s (bond_at inst k))
-  old_energy s = turned (rest s) (energy inst s) ((bond_at inst k).j *ℤ product s (bond_at inst k)) (product s (bond_at inst k)) (energy_coupled inst k (pos 0) s inside)
+  old_energy s = turned (rest s) (energy inst s) ((bond_at inst k).j *ℤ product s (bond_at inst k)) (product s (bond_at inst k))
+      (energy_coupled inst k (pos 0) s inside)
     where
       turned : (r e x q : ℤ) → r ≡ (e +ℤ x) -ℤ (pos 0 *ℤ q) → e ≡ r -ℤ x
       turned r e x q h = omega (arith, ints)
@@ -87,7 +89,8 @@ module _ (inst : Ising) (good : IsInstance inst) (k : ℕ) (inside : k < bond_co
     forced = with_coupling inst k (p *ℤ pos m)
 
     new_energy : (s : List ℤ) → energy (with_coupling inst k (p *ℤ pos m)) s ≡ rest s -ℤ ((p *ℤ pos m) *ℤ product s (bond_at inst k))
-    new_energy s = turned (rest s) (energy inst s) ((bond_at inst k).j *ℤ product s (bond_at inst k)) ((p *ℤ pos m) *ℤ product s (bond_at inst k)) (energy (with_coupling inst k (p *ℤ pos m)) s) (old_energy s) (energy_coupled inst k (p *ℤ pos m) s inside)
+    new_energy s = turned (rest s) (energy inst s) ((bond_at inst k).j *ℤ product s (bond_at inst k)) ((p *ℤ pos m) *ℤ product s (bond_at inst k))
+        (energy (with_coupling inst k (p *ℤ pos m)) s) (old_energy s) (energy_coupled inst k (p *ℤ pos m) s inside)
       where
         turned : (r e x y n : ℤ) → e ≡ r -ℤ x → n ≡ (e +ℤ x) -ℤ y → n ≡ r -ℤ y
         turned r e x y n g h = omega (arith, ints)
@@ -111,11 +114,13 @@ module _ (inst : Ising) (good : IsInstance inst) (k : ℕ) (inside : k < bond_co
     with_product : (s : List ℤ) → product s (bond_at inst k) ≡ p → energy (with_coupling inst k (p *ℤ pos m)) s ≡ rest s -ℤ pos m
     with_product s e = new_energy s ∙ ap (λ x. rest s -ℤ x) (gained p (product s (bond_at inst k)) up e)
 
-    without_product : (s : List ℤ) → IsAssignment inst s → product s (bond_at inst k) ≢ p → energy (with_coupling inst k (p *ℤ pos m)) s ≡ rest s -ℤ neg_ℤ (pos m)
+    without_product : (s : List ℤ) → IsAssignment inst s → product s (bond_at inst k) ≢ p
+        → energy (with_coupling inst k (p *ℤ pos m)) s ≡ rest s -ℤ neg_ℤ (pos m)
     without_product s h ne = new_energy s ∙ ap (λ x. rest s -ℤ x) (lost p (product s (bond_at inst k)) up (unit_product s h) ne)
 
     -- where no assignment has less energy, the product is p
-    pub least_has_product : (s : List ℤ) → IsAssignment inst s → ((t : List ℤ) → IsAssignment inst t → energy (with_coupling inst k (p *ℤ pos m)) s ≤ℤ energy (with_coupling inst k (p *ℤ pos m)) t) → product s (bond_at inst k) ≡ p
+    pub least_has_product : (s : List ℤ) → IsAssignment inst s → ((t : List ℤ) → IsAssignment inst t
+        → energy (with_coupling inst k (p *ℤ pos m)) s ≤ℤ energy (with_coupling inst k (p *ℤ pos m)) t) → product s (bond_at inst k) ≡ p
     least_has_product s h least = by_case (equal_or_not (product s (bond_at inst k)) p (unit_product s h) up)
       where
         less : (a b r q : ℤ) (w : ℕ) → a ≡ r -ℤ neg_ℤ (pos m) → b ≡ q -ℤ pos m → unsigned_abs r ≤ w → unsigned_abs q ≤ w → w < m → a ≤ℤ b → ⊥
@@ -125,10 +130,12 @@ module _ (inst : Ising) (good : IsInstance inst) (k : ℕ) (inside : k < bond_co
         by_case (inl e) = e
         by_case (inr ne) =
             let other : (t : List ℤ) × IsAssignment inst t × (product t (bond_at inst k) ≡ p) = some_with p up in
-            absurd (less (energy (with_coupling inst k (p *ℤ pos m)) s) (energy (with_coupling inst k (p *ℤ pos m)) other.0) (rest s) (rest other.0) (weight inst) (without_product s h ne) (with_product other.0 other.2) (rest_size s h) (rest_size other.0 other.1) large (least other.0 other.1))
+            absurd (less (energy (with_coupling inst k (p *ℤ pos m)) s) (energy (with_coupling inst k (p *ℤ pos m)) other.0) (rest s) (rest other.0)
+            (weight inst) (without_product s h ne) (with_product other.0 other.2) (rest_size s h) (rest_size other.0 other.1) large (least other.0 other.1))
 
     pub forced_product : (s : List ℤ) → IsGroundState (with_coupling inst k (p *ℤ pos m)) s → product s (bond_at inst k) ≡ p
-    forced_product s g = least_has_product s (record { count = g.assignment.count; values = g.assignment.values }) (λ t h. g.least t (record { count = h.count; values = h.values }))
+    forced_product s g = least_has_product s (record { count = g.assignment.count; values = g.assignment.values })
+        (λ t h. g.least t (record { count = h.count; values = h.values }))
 
     -- the energy as it was, from that under the force
     pub forced_energy : (t : List ℤ) → product t (bond_at inst k) ≡ p
@@ -142,8 +149,15 @@ module _ (inst : Ising) (good : IsInstance inst) (k : ℕ) (inside : k < bond_co
 
     pub forced_minimum : (e : ℤ) → IsLeastEnergy (with_coupling inst k (p *ℤ pos m)) e → IsLeastWith inst k p ((e +ℤ pos m) -ℤ (p *ℤ (bond_at inst k).j))
     forced_minimum e h = record {
-      reached = (s, here, has, value (energy (with_coupling inst k (p *ℤ pos m)) s) (energy inst s) (rest s) (p *ℤ (bond_at inst k).j) (with_product s has) (old_by s has) h.reached.2);
-      least = λ t u same. below (energy (with_coupling inst k (p *ℤ pos m)) t) (energy inst t) (rest t) (p *ℤ (bond_at inst k).j) (with_product t same) (old_by t same) (h.least t (record { count = u.count; values = u.values }));
+      reached = (
+        s,
+        here,
+        has,
+        value (energy (with_coupling inst k (p *ℤ pos m)) s) (energy inst s) (rest s) (p *ℤ (bond_at inst k).j)
+            (with_product s has) (old_by s has) h.reached.2,
+      );
+      least = λ t u same. below (energy (with_coupling inst k (p *ℤ pos m)) t) (energy inst t) (rest t) (p *ℤ (bond_at inst k).j)
+          (with_product t same) (old_by t same) (h.least t (record { count = u.count; values = u.values }));
     }
       where
         s : List ℤ
@@ -153,7 +167,8 @@ module _ (inst : Ising) (good : IsInstance inst) (k : ℕ) (inside : k < bond_co
         here = record { count = h.reached.1.count; values = h.reached.1.values }
 
         has : product h.reached.0 (bond_at inst k) ≡ p
-        has = least_has_product h.reached.0 here (λ t u. subst (λ x. x ≤ℤ energy (with_coupling inst k (p *ℤ pos m)) t) (sym h.reached.2) (h.least t (record { count = u.count; values = u.values })))
+        has = least_has_product h.reached.0 here (λ t u. subst (λ x. x ≤ℤ energy (with_coupling inst k (p *ℤ pos m)) t) (sym h.reached.2)
+            (h.least t (record { count = u.count; values = u.values })))
 
         old_by : (t : List ℤ) → product t (bond_at inst k) ≡ p → energy inst t ≡ rest t -ℤ (p *ℤ (bond_at inst k).j)
         old_by t same = old_energy t ∙ ap (λ q. rest t -ℤ ((bond_at inst k).j *ℤ q)) same ∙ ap (λ x. rest t -ℤ x) (*ℤ_comm (bond_at inst k).j p)

@@ -26,9 +26,12 @@ module _ (inst : Ising) (good : IsInstance inst) (s : List ℤ) (ground : IsGrou
   pub turned_costs : (k : ℕ) (c : ℤ) (t : List ℤ) → IsCost inst k c → IsUpOrDown (product s (bond_at inst k)) → IsAssignment inst t
       → product t (bond_at inst k) ≡ neg_ℤ (product s (bond_at inst k)) → (energy inst s +ℤ c) ≤ℤ energy inst t
   turned_costs k c t cost (inl up) h turn =
-      let own : energy inst s ≡ cost.like = level (energy inst s) cost.like (subst (λ x. energy inst s ≤ℤ x) cost.least_like.reached.3 (ground.least cost.least_like.reached.0 cost.least_like.reached.1)) (cost.least_like.least s ground.assignment up) in
+      let own : energy inst s ≡ cost.like = level (energy inst s) cost.like
+      (subst (λ x. energy inst s ≤ℤ x) cost.least_like.reached.3 (ground.least cost.least_like.reached.0 cost.least_like.reached.1))
+      (cost.least_like.least s ground.assignment up) in
       let other : cost.unlike ≤ℤ energy inst t = cost.least_unlike.least t h (turn ∙ ap neg_ℤ up) in
-      above (energy inst s) cost.like cost.unlike c (energy inst t) own other (subst (λ x. energy inst s ≤ℤ x) cost.least_unlike.reached.3 (ground.least cost.least_unlike.reached.0 cost.least_unlike.reached.1)) cost.apart
+      above (energy inst s) cost.like cost.unlike c (energy inst t) own other
+      (subst (λ x. energy inst s ≤ℤ x) cost.least_unlike.reached.3 (ground.least cost.least_unlike.reached.0 cost.least_unlike.reached.1)) cost.apart
     where
       level : (x y : ℤ) → x ≤ℤ y → y ≤ℤ x → x ≡ y
       level x y p q = omega (arith, ints)
@@ -36,9 +39,12 @@ module _ (inst : Ising) (good : IsInstance inst) (s : List ℤ) (ground : IsGrou
       above : (e l u c x : ℤ) → e ≡ l → u ≤ℤ x → e ≤ℤ u → c ≡ pos (unsigned_abs (u -ℤ l)) → (e +ℤ c) ≤ℤ x
       above e l u c x a b d f = omega (arith, ints)
   turned_costs k c t cost (inr down) h turn =
-      let own : energy inst s ≡ cost.unlike = level (energy inst s) cost.unlike (subst (λ x. energy inst s ≤ℤ x) cost.least_unlike.reached.3 (ground.least cost.least_unlike.reached.0 cost.least_unlike.reached.1)) (cost.least_unlike.least s ground.assignment down) in
+      let own : energy inst s ≡ cost.unlike = level (energy inst s) cost.unlike
+      (subst (λ x. energy inst s ≤ℤ x) cost.least_unlike.reached.3 (ground.least cost.least_unlike.reached.0 cost.least_unlike.reached.1))
+      (cost.least_unlike.least s ground.assignment down) in
       let other : cost.like ≤ℤ energy inst t = cost.least_like.least t h (turn ∙ ap neg_ℤ down) in
-      above (energy inst s) cost.unlike cost.like c (energy inst t) own other (subst (λ x. energy inst s ≤ℤ x) cost.least_like.reached.3 (ground.least cost.least_like.reached.0 cost.least_like.reached.1)) cost.apart
+      above (energy inst s) cost.unlike cost.like c (energy inst t) own other
+      (subst (λ x. energy inst s ≤ℤ x) cost.least_like.reached.3 (ground.least cost.least_like.reached.0 cost.least_like.reached.1)) cost.apart
     where
       level : (x y : ℤ) → x ≤ℤ y → y ≤ℤ x → x ≡ y
       level x y p q = omega (arith, ints)
@@ -56,7 +62,8 @@ module _ (inst : Ising) (good : IsInstance inst) (s : List ℤ) (ground : IsGrou
 
         by_known : (n : Known) → IsTrueOf inst s u.bond n → is_at_least bound n ≡ true → (energy inst s +ℤ bound) ≤ℤ energy inst t
         by_known (Exact c) cost at_least =
-            sum (energy inst s) bound c (energy inst t) (turned_costs u.bond c t cost (unit_product inst good u.bond u.below s ground.assignment) h u.turned) (let l : bound ≤ℤ c = omega (arith, ints, at_least) in l)
+            sum (energy inst s) bound c (energy inst t) (turned_costs u.bond c t cost
+            (unit_product inst good u.bond u.below s ground.assignment) h u.turned) (let l : bound ≤ℤ c = omega (arith, ints, at_least) in l)
         by_known (AtMost c) cost at_least = cc
         by_known Nothing cost at_least = cc
 
@@ -67,14 +74,17 @@ module _ (inst : Ising) (good : IsInstance inst) (s : List ℤ) (ground : IsGrou
       where
         low : (e x : ℤ) → e ≤ℤ x → (e +ℤ bound) ≤ℤ x
         low e x p = omega (arith, ints, none)
-    bounded_below k inside bound (inr r) t h turn = by_path (agree_or_turn inst good s t ground.assignment h (costs_at_least known bound) r.0 (bond_at inst k).u (bond_at inst k).v r.1)
+    bounded_below k inside bound (inr r) t h turn = by_path (agree_or_turn inst good s t ground.assignment h (costs_at_least known bound) r.0
+        (bond_at inst k).u (bond_at inst k).v r.1)
       where
         not_turned : (x y : ℤ) → IsUpOrDown x → x ≡ y → y ≡ neg_ℤ x → ⊥
         not_turned x y (inl a) e n = let w : pos 1 ≡ negsuc 0 = sym a ∙ e ∙ n ∙ ap neg_ℤ a in cc
         not_turned x y (inr a) e n = let w : negsuc 0 ≡ pos 1 = sym a ∙ e ∙ n ∙ ap neg_ℤ a in cc
 
-        by_path : (product s (bond_at inst k) ≡ product t (bond_at inst k)) ⊎ Turns inst (costs_at_least known bound) s t → (energy inst s +ℤ bound) ≤ℤ energy inst t
-        by_path (inl same) = absurd (not_turned (product s (bond_at inst k)) (product t (bond_at inst k)) (unit_product inst good k inside s ground.assignment) same turn)
+        by_path : (product s (bond_at inst k) ≡ product t (bond_at inst k)) ⊎ Turns inst (costs_at_least known bound) s t
+            → (energy inst s +ℤ bound) ≤ℤ energy inst t
+        by_path (inl same) = absurd (not_turned (product s (bond_at inst k)) (product t (bond_at inst k))
+            (unit_product inst good k inside s ground.assignment) same turn)
         by_path (inr u) = set_bounds bound t h u
 
     -- a bound from above that is one from below too is the cost

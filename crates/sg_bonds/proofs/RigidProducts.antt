@@ -38,9 +38,11 @@ module _ (inst : Ising) (good : IsInstance inst) (s t : List ℤ) (gs : IsGround
       by_case (inl a) (inl b) = a ∙ sym b
       by_case (inr a) (inr b) = a ∙ sym b
       by_case (inl a) (inr b) =
-          absurd (not_both cost.like cost.unlike (energy inst s) (energy inst t) r.0 (least_with_own k (pos 1) cost.like s gs a cost.least_like) (least_with_own k (negsuc 0) cost.unlike t gt b cost.least_unlike) same_level cost.apart r.2)
+          absurd (not_both cost.like cost.unlike (energy inst s) (energy inst t) r.0 (least_with_own k (pos 1) cost.like s gs a cost.least_like)
+          (least_with_own k (negsuc 0) cost.unlike t gt b cost.least_unlike) same_level cost.apart r.2)
       by_case (inr a) (inl b) =
-          absurd (not_both cost.like cost.unlike (energy inst t) (energy inst s) r.0 (least_with_own k (pos 1) cost.like t gt b cost.least_like) (least_with_own k (negsuc 0) cost.unlike s gs a cost.least_unlike) (sym same_level) cost.apart r.2)
+          absurd (not_both cost.like cost.unlike (energy inst t) (energy inst s) r.0 (least_with_own k (pos 1) cost.like t gt b cost.least_like)
+          (least_with_own k (negsuc 0) cost.unlike s gs a cost.least_unlike) (sym same_level) cost.apart r.2)
 
   agree_reached : (set : ℕ → Bool) → HasRigid inst set → (a b : ℕ) → Reached inst set a b → Agree inst good s t gs.assignment gt.assignment a b
   agree_reached set rigid a b r = by_path (agree_or_turn inst good s t gs.assignment gt.assignment set r.0 a b r.1)

@@ -40,7 +40,8 @@ module _ (inst : Ising) (good : IsInstance inst) (k : ℕ) (inside : k < bond_co
   some_least_with p up =
       let size : unsigned_abs (p *ℤ pos (weight inst + 1)) < 2 ^ 63 = omega (arith, signed_size p (pos (weight inst + 1)) up) in
       let forced : Ising = with_coupling inst k (p *ℤ pos (weight inst + 1)) in
-      let sound : IsInstance forced = recoupled_instance inst forced.bonds (coupling_ends inst k (p *ℤ pos (weight inst + 1)) inside good.draft.joined size) good in
+      let sound : IsInstance forced = recoupled_instance inst forced.bonds
+      (coupling_ends inst k (p *ℤ pos (weight inst + 1)) inside good.draft.joined size) good in
       let (s, ground) = some_ground_state forced sound in (
         (energy forced s +ℤ pos (weight inst + 1)) -ℤ (p *ℤ (bond_at inst k).j),
         forced_minimum inst good k inside p up (weight inst + 1) (omega arith) (energy forced s)

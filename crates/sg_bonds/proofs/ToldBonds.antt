@@ -63,7 +63,7 @@ told_by_load inst good small s e loops proof k inside number is now room (inl ri
     let (below, more) = room rigid in
     let least : load loops k ≤ number = is below in
     subst (IsTold inst k) (sym rigid)
-        (rigid_room inst good s e loops proof k inside (omega (arith, least, more)) small)
+    (rigid_room inst good s e loops proof k inside (omega (arith, least, more)) small)
 
 -- one more bond is told, behind the others
 pub told_push : (inst : Ising) (told : List Told) (now : Told) (stop : ℕ) → length told ≡ stop

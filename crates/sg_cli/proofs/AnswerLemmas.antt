@@ -63,14 +63,17 @@ served-in_part words laws left before after text status served answered prefix =
 }
 
 -- a text that was drawn for, under the name that the words give
-pub drawn-whole : (words : List (List ℕ)) (laws : List Law) (drawing : Drawing) (name : List ℕ) (left before after : Option (List ℕ)) (text sent : List ℕ) (status : Status) →
+pub drawn-whole : (words : List (List ℕ)) (laws : List Law) (drawing : Drawing) (name : List ℕ) (left before after : Option (List ℕ))
+    (text sent : List ℕ) (status : Status) →
     command_of words ≡ Some (Draw drawing) → name ≡ law_word words → sent ≡ text → AnswersLaw drawing (first_named name laws) text status →
     Grows sent before after → AnswersWhole words laws status left before after
 drawn-whole words laws drawing name left before after text sent status named second same answers grown =
     served-whole words laws left before after text status (drawn-served words laws drawing left text status named (rw second at answers)) (rw same at grown)
 
-pub drawn-in_part : (words : List (List ℕ)) (laws : List Law) (drawing : Drawing) (name : List ℕ) (left before after : Option (List ℕ)) (text sent : List ℕ) (status : Status) →
+pub drawn-in_part : (words : List (List ℕ)) (laws : List Law) (drawing : Drawing) (name : List ℕ) (left before after : Option (List ℕ))
+    (text sent : List ℕ) (status : Status) →
     command_of words ≡ Some (Draw drawing) → name ≡ law_word words → sent ≡ text → AnswersLaw drawing (first_named name laws) text status →
     IsAnswered status → GrowsByPrefix sent before after → AnswersInPart words laws left before after
 drawn-in_part words laws drawing name left before after text sent status named second same answers answered prefix =
-    served-in_part words laws left before after text status (drawn-served words laws drawing left text status named (rw second at answers)) answered (rw same at prefix)
+    served-in_part words laws left before after text status (drawn-served words laws drawing left text status named (rw second at answers)) answered
+    (rw same at prefix)

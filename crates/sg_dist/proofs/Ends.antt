@@ -23,12 +23,14 @@ module _ (g : Graph) (source : ℕ) (low : source < g.nodes) where
   count = length-set (replicate g.nodes None) source (Some at_home) ∙ length-replicate g.nodes None
 
   route_home : route_at first_table source ≡ Some at_home
-  route_home = get_or-set_same (replicate g.nodes None) source (Some at_home) None (let n : length (replicate {A = Option Route} g.nodes None) ≡ g.nodes = length-replicate g.nodes None in omega arith)
+  route_home = get_or-set_same (replicate g.nodes None) source (Some at_home) None
+      (let n : length (replicate {A = Option Route} g.nodes None) ≡ g.nodes = length-replicate g.nodes None in omega arith)
 
   none : (x : ℕ) → x ≢ source → route_at first_table x ≡ None
   none x ne = get_or-set_other (replicate g.nodes None) source x (Some at_home) None ne ∙ elim (cases_lt x g.nodes) [
     | inl l ↦ get_or-replicate g.nodes x None None l
-    | inr l ↦ get_or_past (replicate g.nodes None) x None (let n : length (replicate {A = Option Route} g.nodes None) ≡ g.nodes = length-replicate g.nodes None in omega arith)
+    | inr l ↦ get_or_past (replicate g.nodes None) x None (let n : length
+        (replicate {A = Option Route} g.nodes None) ≡ g.nodes = length-replicate g.nodes None in omega arith)
   ]
 
   home : is_reached first_table source ≡ true
@@ -49,8 +51,11 @@ module _ (g : Graph) (source : ℕ) (low : source < g.nodes) where
   one : 0 < reached_count first_table
   one =
       let n : length (replicate {A = Option Route} g.nodes None) ≡ g.nodes = length-replicate g.nodes None in
-      let free : cond {A = ℕ} (is_some (lib_at source)) 1 0 ≡ 0 = ap (λ (r : Option Route). cond (is_some r) 1 0) (get_or-replicate g.nodes source None None low) in
-      let s : reached_count first_table + cond (is_some (lib_at source)) 1 0 ≡ count_by (λ (r : Option Route). is_some r) (replicate g.nodes None) + 1 = sum_by-set (λ (r : Option Route). cond (is_some r) 1 0) (replicate g.nodes None) source (Some at_home) None (omega arith) in
+      let free : cond {A = ℕ} (is_some (lib_at source)) 1 0 ≡ 0 = ap (λ (r : Option Route). cond (is_some r) 1 0)
+      (get_or-replicate g.nodes source None None low) in
+      let s : reached_count first_table + cond (is_some (lib_at source)) 1 0 ≡ count_by (λ (r : Option Route). is_some r)
+      (replicate g.nodes None) + 1 = sum_by-set (λ (r : Option Route). cond (is_some r) 1 0) (replicate g.nodes None) source (Some at_home) None
+      (omega arith) in
       omega arith
     where
       lib_at : ℕ → Option Route
@@ -63,7 +68,8 @@ module _ (g : Graph) (source : ℕ) (low : source < g.nodes) where
       home = home;
       home_distance = no_length source home;
       signed = λ x h. ap (distance_at first_table) (only x h) ∙ home_distance ∙ sym (ap pos (no_length x h));
-      right = λ x h. subst (λ z. IsDistance g source z (length_to first_table x)) (sym (only x h)) (subst (IsDistance g source source) (sym (no_length x h)) itself);
+      right = λ x h. subst (λ z. IsDistance g source z (length_to first_table x)) (sym (only x h))
+          (subst (IsDistance g source source) (sym (no_length x h)) itself);
       light = λ x h. omega (arith, no_length x h);
       parents = λ x e h. (let p = parent_reached first_table x e h in absurd (p.0 (only x p.1)));
       back = λ x h. ([], only x h, one);
@@ -90,7 +96,8 @@ IsTableOf-end g t s = record {
     most : (rs : List (Option Route)) → count_by (λ r. is_some r) rs ≤ length rs
     most rs = count_by-le-length (λ r. is_some r) rs
 
-    by_route : (x : ℕ) (r : Option Route) → route_at t x ≡ r → MatchOption r (IsReached g t.source x → ⊥) (λ q. (d : ℕ) × (q.distance ≡ pos d) × IsDistance g t.source x d)
+    by_route : (x : ℕ) (r : Option Route) → route_at t x ≡ r → MatchOption r (IsReached g t.source x → ⊥)
+        (λ q. (d : ℕ) × (q.distance ≡ pos d) × IsDistance g t.source x d)
     by_route x None e = λ way. false≢true (sym (ap (λ (r : Option Route). is_some r) e) ∙ closed g t s way.0 t.source x s.finds.home way.1)
     by_route x (Some q) e =
         let on : is_reached t x ≡ true = ap (λ (r : Option Route). is_some r) e in
@@ -98,7 +105,8 @@ IsTableOf-end g t s = record {
         (length_to t x, sym same ∙ s.finds.signed x on, s.finds.right x on)
 
 -- the first step, in the terms of the code
-module _ (g : Graph) (source : ℕ) (low : source < g.nodes) (t : Routes) (is : t ≡ first_table g source low) (items : List (Reverse Candidate)) (none : items ≡ []) where
+module _ (g : Graph) (source : ℕ) (low : source < g.nodes) (t : Routes) (is : t ≡ first_table g source low) (items : List (Reverse Candidate))
+    (none : items ≡ []) where
   pub Spreads-start : Spreads g t (candidates items) source []
   Spreads-start =
       subst (λ u. Spreads g u (candidates items) source []) (sym is)

@@ -13,24 +13,32 @@ use Rattle.sg_dist.specs.Search.{IsCandidate, Searches, candidate_over}
 
 module _ (g : Graph) (t : Routes) (heap : List Candidate) (s : Searches g t heap) where
   -- a walk from a node found to one that is not weighs at least as much as some candidate
-  walk_bound : (d : ℕ) → All (λ c. d ≤ c.distance) heap → (es : List ℕ) (v u : ℕ) → is_reached t v ≡ true → is_reached t u ≡ false → IsWalk g v es u → d ≤ length_to t v + weight_of g es
+  walk_bound : (d : ℕ) → All (λ c. d ≤ c.distance) heap → (es : List ℕ) (v u : ℕ) → is_reached t v ≡ true → is_reached t u ≡ false → IsWalk g v es u
+      → d ≤ length_to t v + weight_of g es
   walk_bound d least [] v u found new w = absurd (false≢true (sym new ∙ ap (is_reached t) (sym w) ∙ found))
   walk_bound d least (e ∷ es) v u found new w = elim (cases_Bool (is_reached t w.0)) [
     | inl on ↦
-        let step : length_to t w.0 ≤ length_to t v + edge_weight g e = distance-edge g t.source v w.0 e (length_to t v) (length_to t w.0) w.1 (s.finds.right v found) (s.finds.right w.0 on) in
+        let step : length_to t w.0 ≤ length_to t v + edge_weight g e = distance-edge g t.source v w.0 e (length_to t v) (length_to t w.0) w.1
+        (s.finds.right v found) (s.finds.right w.0 on) in
         omega (arith, sum_by-cons (edge_weight g) e es, walk_bound d least es w.0 u on new w.2)
     | inr out ↦
-        let c : d ≤ length_to t v + edge_weight g e = All-contains (λ c. d ≤ c.distance) heap (candidate_over g t v e w.0) least (s.frontier v e found w.0 w.1 out) in
+        let c : d ≤ length_to t v + edge_weight g e = All-contains (λ c. d ≤ c.distance) heap (candidate_over g t v e w.0) least
+        (s.frontier v e found w.0 w.1 out) in
         omega (arith, sum_by-cons (edge_weight g) e es)
   ]
 
   -- the walk of a candidate
   candidate_walk : (c : Candidate) → IsCandidate g t c → (es : List ℕ) × IsWalk g t.source es c.node × (weight_of g es ≡ c.distance)
   candidate_walk c is =
-      let way = (s.finds.right is.from is.reached).reached in
-      (way.0 ++ c.edge ∷ [], walk-append g way.0 (c.edge ∷ []) t.source is.from c.node way.1 (walk-one g c.edge is.from c.node is.leads), omega (arith, way.2, is.distance, sum_by-append (edge_weight g) way.0 (c.edge ∷ []), sum_by-cons (edge_weight g) c.edge []))
+      let way = (s.finds.right is.from is.reached).reached in (
+        way.0 ++ c.edge ∷ [],
+        walk-append g way.0 (c.edge ∷ []) t.source is.from c.node way.1 (walk-one g c.edge is.from c.node is.leads),
+        omega
+            (arith, way.2, is.distance, sum_by-append (edge_weight g) way.0 (c.edge ∷ []), sum_by-cons (edge_weight g) c.edge []),
+      )
 
-  pub least_candidate : (c : Candidate) → IsCandidate g t c → All (λ b. c.distance ≤ b.distance) heap → is_reached t c.node ≡ false → IsDistance g t.source c.node c.distance
+  pub least_candidate : (c : Candidate) → IsCandidate g t c → All (λ b. c.distance ≤ b.distance) heap → is_reached t c.node ≡ false
+      → IsDistance g t.source c.node c.distance
   least_candidate c is least new = record {
     reached = candidate_walk c is;
     least = λ es w. (let h = walk_bound c.distance least es t.source c.node s.finds.home new w in omega (arith, h, s.finds.home_distance));

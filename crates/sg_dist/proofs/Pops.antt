@@ -29,7 +29,8 @@ nearest : (x : Reverse Candidate) (ys : List (Reverse Candidate)) → IsUpperBou
 nearest x [] h = All-nil (λ (c : Candidate). x.0.distance ≤ c.distance)
 nearest x (y ∷ ys) h =
     All-cons (λ (c : Candidate). x.0.distance ≤ c.distance) y.0 (candidates ys)
-    (All-head (λ d. d ≤ y.0.distance) x.0.distance [] (le_from_greatest y.0.distance (x.0.distance ∷ []) (first_not_less (nat_cmp y.0.distance x.0.distance) _ h.0, tt)))
+    (All-head (λ d. d ≤ y.0.distance) x.0.distance [] (le_from_greatest y.0.distance (x.0.distance ∷ [])
+    (first_not_less (nat_cmp y.0.distance x.0.distance) _ h.0, tt)))
     (nearest x ys h.1)
 
 -- the measure falls: a node more is found, and its edges give at most m candidates
@@ -42,7 +43,8 @@ work_falls n r r' m h p h' more most pop push =
     split : (j z : ℕ) → z ≡ (j + 1) * (m + 1) → j * (m + 1) + h' < z + h
     split j z e = omega arith
 
-module _ (g : Graph) (t : Routes) (old new : List (Reverse Candidate)) (x : Reverse Candidate) (web : IsWeb g) (s : Searches g t (candidates old)) (perm : IsPermutation old (x ∷ new)) where
+module _ (g : Graph) (t : Routes) (old new : List (Reverse Candidate)) (x : Reverse Candidate) (web : IsWeb g) (s : Searches g t (candidates old))
+    (perm : IsPermutation old (x ∷ new)) where
   perm' : IsPermutation (candidates old) (x.0 ∷ candidates new)
   perm' = IsPermutation-map (λ (y : Reverse Candidate). y.0) old (x ∷ new) perm
 
@@ -75,10 +77,12 @@ module _ (g : Graph) (t : Routes) (old new : List (Reverse Candidate)) (x : Reve
       least = nearest x new top
 
       pub Spreads-popped : Spreads g next (candidates new) x.0.node []
-      Spreads-popped = subst (λ u. Spreads g u (candidates new) x.0.node []) (sym set') (Spreads-found g t (candidates old) (candidates new) x.0 s perm' web least fresh)
+      Spreads-popped = subst (λ u. Spreads g u (candidates new) x.0.node []) (sym set')
+          (Spreads-found g t (candidates old) (candidates new) x.0 s perm' web least fresh)
 
       pub popped_distance : x.0.distance ≡ length_to next x.0.node
-      popped_distance = sym (ap (λ (u : Routes). length_to u x.0.node) set' ∙ new_length g t (candidates old) (candidates new) x.0 s perm' web least fresh x.0.node refl)
+      popped_distance = sym (ap (λ (u : Routes). length_to u x.0.node) set'
+          ∙ new_length g t (candidates old) (candidates new) x.0 s perm' web least fresh x.0.node refl)
 
       pub popped_count : reached_count next ≡ reached_count t + 1
       popped_count = ap reached_count set' ∙ one_more g t (candidates old) (candidates new) x.0 s perm' web least fresh

@@ -14,14 +14,16 @@ use Rattle.sg_dist.specs.declared.candidate.Candidate.{Candidate}
 use Rattle.sg_dist.specs.Search.{Spreads, candidate_over, candidates}
 use Rattle.sg_dist.proofs.Steps.{Spreads-known, Spreads-more, outward}
 
-module _ (g : Graph) (t : Routes) (node : ℕ) (list : List ℕ) (i other : ℕ) (edges : List Edge) (low : i < length list) (same : edges ≡ g.edges) (ends : EndsAt g node (get_or list i 0)) (is : other ≡ other_end node (get_or edges (get_or list i 0) (record { a = 0; b = 0; w = pos 0 }))) where
+module _ (g : Graph) (t : Routes) (node : ℕ) (list : List ℕ) (i other : ℕ) (edges : List Edge) (low : i < length list) (same : edges ≡ g.edges)
+    (ends : EndsAt g node (get_or list i 0)) (is : other ≡ other_end node (get_or edges (get_or list i 0) (record { a = 0; b = 0; w = pos 0 }))) where
   abbrev pub this : ℕ
   this = get_or list i 0
 
   -- the edge leads to the other end
   pub leads_to : Leads g this node other
   leads_to =
-      let far : other_end node (edge_at g this) ≡ other = sym (is ∙ ap (λ (es : List Edge). other_end node (get_or es this (record { a = 0; b = 0; w = pos 0 }))) same) in
+      let far : other_end node (edge_at g this) ≡ other = sym (is ∙ ap
+      (λ (es : List Edge). other_end node (get_or es this (record { a = 0; b = 0; w = pos 0 }))) same) in
       subst (λ z. Leads g this node z) far (leads_other g this node ends)
 
   pub other_in : IsWeb g → other < g.nodes
@@ -31,18 +33,26 @@ module _ (g : Graph) (t : Routes) (node : ℕ) (list : List ℕ) (i other : ℕ)
   weight_is = ap (λ (es : List Edge). unsigned_abs (get_or es this (record { a = 0; b = 0; w = pos 0 })).w) same
 
   -- the sum fits
-  pub sum_small : (heap : List Candidate) (done : List ℕ) → Spreads g t heap node done → is_reached t other ≡ false → length_to t node + edge_weight g this ≤ total_weight g
+  pub sum_small : (heap : List Candidate) (done : List ℕ) → Spreads g t heap node done → is_reached t other ≡ false
+      → length_to t node + edge_weight g this ≤ total_weight g
   sum_small heap done s new = outward g t heap this node other s.finds s.here leads_to new
 
   pub Spreads-next_known : (heap : List Candidate) → is_reached t other ≡ true → Spreads g t heap node (take i list) → Spreads g t heap node (take (i + 1) list)
-  Spreads-next_known heap found s = subst (Spreads g t heap node) (sym (take_more list i 0 low)) (Spreads-known g t heap node this other (take i list) s leads_to found)
+  Spreads-next_known heap found s = subst (Spreads g t heap node) (sym (take_more list i 0 low))
+      (Spreads-known g t heap node this other (take i list) s leads_to found)
 
-  pub Spreads-next_new : (old new : List (Reverse Candidate)) (d w : ℕ) → d ≡ length_to t node → w ≡ unsigned_abs (get_or edges this (record { a = 0; b = 0; w = pos 0 })).w → IsPermutation (record { 0 = record { distance = d + w; node = other; edge = this } } ∷ old) new → Spreads g t (candidates old) node (take i list) → Spreads g t (candidates new) node (take (i + 1) list)
+  pub Spreads-next_new : (old new : List (Reverse Candidate)) (d w : ℕ) → d ≡ length_to t node
+      → w ≡ unsigned_abs (get_or edges this (record { a = 0; b = 0; w = pos 0 })).w
+      → IsPermutation (record { 0 = record { distance = d + w; node = other; edge = this } } ∷ old) new
+      → Spreads g t (candidates old) node (take i list) → Spreads g t (candidates new) node (take (i + 1) list)
   Spreads-next_new old new d w far weight perm s =
-      let moved : IsPermutation (made (d + w) ∷ candidates old) (candidates new) = IsPermutation-map (λ (x : Reverse Candidate). x.0) (record { 0 = record { distance = d + w; node = other; edge = this } } ∷ old) new perm in
-      let over : made (d + w) ≡ candidate_over g t node this other = ap made (let q : d + w ≡ length_to t node + edge_weight g this = omega (arith, far, weight, weight_is) in q) in
+      let moved : IsPermutation (made (d + w) ∷ candidates old) (candidates new) = IsPermutation-map (λ (x : Reverse Candidate). x.0)
+      (record { 0 = record { distance = d + w; node = other; edge = this } } ∷ old) new perm in
+      let over : made (d + w) ≡ candidate_over g t node this other = ap made
+      (let q : d + w ≡ length_to t node + edge_weight g this = omega (arith, far, weight, weight_is) in q) in
       subst (Spreads g t (candidates new) node) (sym (take_more list i 0 low))
-      (Spreads-more g t (candidates old) node this other (take i list) s leads_to (candidates new) (subst (λ c. IsPermutation (c ∷ candidates old) (candidates new)) over moved))
+      (Spreads-more g t (candidates old) node this other (take i list) s leads_to (candidates new)
+      (subst (λ c. IsPermutation (c ∷ candidates old) (candidates new)) over moved))
     where
       made : ℕ → Candidate
       made n = record { distance = n; node = other; edge = this }

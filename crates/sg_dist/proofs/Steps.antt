@@ -44,11 +44,13 @@ module _ (g : Graph) (t : Routes) where
       by_both false w = omega arith
 
   -- a step out of the nodes found weighs no more than all edges
-  pub outward : (heap : List Candidate) (e v u : ℕ) → Finds g t heap → is_reached t v ≡ true → Leads g e v u → is_reached t u ≡ false → length_to t v + edge_weight g e ≤ total_weight g
+  pub outward : (heap : List Candidate) (e v u : ℕ) → Finds g t heap → is_reached t v ≡ true → Leads g e v u → is_reached t u ≡ false
+      → length_to t v + edge_weight g e ≤ total_weight g
   outward heap e v u f found l new =
       let none : inner_at t (get_or g.edges e (record { a = 0; b = 0; w = pos 0 })) ≡ 0 = not_inner e v u l new in
       let gain : inner_weight g t + edge_weight g e ≤ total_weight g =
-      sum_by-gain (inner_at t) weight_at (edge_weight g e) g.edges e (record { a = 0; b = 0; w = pos 0 }) l.below (λ k d q. inner-le (get_or g.edges k d)) (omega arith) in
+      sum_by-gain (inner_at t) weight_at (edge_weight g e) g.edges e (record { a = 0; b = 0; w = pos 0 }) l.below
+      (λ k d q. inner-le (get_or g.edges k d)) (omega arith) in
       omega (arith, f.light v found)
 
   pub candidate_small : (heap : List Candidate) (c : Candidate) → Finds g t heap → IsCandidate g t c → is_reached t c.node ≡ false → c.distance ≤ total_weight g
@@ -122,12 +124,14 @@ module _ (g : Graph) (t : Routes) (heap rest : List Candidate) (c : Candidate) (
     least_all : All (λ b. c.distance ≤ b.distance) heap
     least_all k d l = elim (in_rest c (get_or heap k d) rest (Contains-permutation heap (c ∷ rest) (get_or heap k d) perm (Contains-get_or heap k d l))) [
       | inl e ↦ (let q : (get_or heap k d).distance ≡ c.distance = ap (λ (z : Candidate). z.distance) e in omega arith)
-      | inr h ↦ (let q : c.distance ≤ (get_or rest h.0 (get_or heap k d)).distance = least h.0 (get_or heap k d) h.1 in subst (λ (z : Candidate). c.distance ≤ z.distance) h.2 q)
+      | inr h ↦ (let q : c.distance ≤ (get_or rest h.0 (get_or heap k d)).distance = least h.0 (get_or heap k d) h.1 in subst
+          (λ (z : Candidate). c.distance ≤ z.distance) h.2 q)
     ]
 
     pub one_more : reached_count found ≡ reached_count t + 1
     one_more =
-        let s' : reached_count found + cond (is_reached t c.node) 1 0 ≡ reached_count t + 1 = sum_by-set (λ (r : Option Route). cond (is_some r) 1 0) t.to c.node (Some (record { distance = pos c.distance; edge = c.edge })) None low in
+        let s' : reached_count found + cond (is_reached t c.node) 1 0 ≡ reached_count t + 1 = sum_by-set
+        (λ (r : Option Route). cond (is_some r) 1 0) t.to c.node (Some (record { distance = pos c.distance; edge = c.edge })) None low in
         let none : cond {A = ℕ} (is_reached t c.node) 1 0 ≡ 0 = ap (λ b. cond b 1 0) new in
         omega arith
 
@@ -135,8 +139,10 @@ module _ (g : Graph) (t : Routes) (heap rest : List Candidate) (c : Candidate) (
     heavier : inner_weight g t + edge_weight g c.edge ≤ inner_weight g found
     heavier =
         let none : inner_at t (get_or g.edges c.edge (record { a = 0; b = 0; w = pos 0 })) ≡ 0 = not_inner g t c.edge c_is.from c.node c_is.leads new in
-        let all : inner_at found (get_or g.edges c.edge (record { a = 0; b = 0; w = pos 0 })) ≡ edge_weight g c.edge = by_ways (edge_at g c.edge) c_is.leads.ways in
-        sum_by-gain (inner_at t) (inner_at found) (edge_weight g c.edge) g.edges c.edge (record { a = 0; b = 0; w = pos 0 }) c_is.leads.below (λ k d q. grows (get_or g.edges k d)) (omega arith)
+        let all : inner_at found (get_or g.edges c.edge (record { a = 0; b = 0; w = pos 0 })) ≡ edge_weight g c.edge = by_ways
+        (edge_at g c.edge) c_is.leads.ways in
+        sum_by-gain (inner_at t) (inner_at found) (edge_weight g c.edge) g.edges c.edge (record { a = 0; b = 0; w = pos 0 }) c_is.leads.below
+        (λ k d q. grows (get_or g.edges k d)) (omega arith)
       where
         both : (p q : Bool) (w : ℕ) → p ≡ true → q ≡ true → cond (p && q) w 0 ≡ w
         both true true w h k = refl
@@ -147,8 +153,10 @@ module _ (g : Graph) (t : Routes) (heap rest : List Candidate) (c : Candidate) (
         here = reached_here t c.node (pos c.distance) c.edge low
 
         by_ways : (edge : Edge) → ((edge.a ≡ c_is.from) × (edge.b ≡ c.node)) ⊎ ((edge.a ≡ c.node) × (edge.b ≡ c_is.from)) → inner_at found edge ≡ weight_at edge
-        by_ways edge (inl w) = both (is_reached found edge.a) (is_reached found edge.b) (weight_at edge) (ap (is_reached found) w.0 ∙ kept c_is.from c_is.reached) (ap (is_reached found) w.1 ∙ here)
-        by_ways edge (inr w) = both (is_reached found edge.a) (is_reached found edge.b) (weight_at edge) (ap (is_reached found) w.0 ∙ here) (ap (is_reached found) w.1 ∙ kept c_is.from c_is.reached)
+        by_ways edge (inl w) = both (is_reached found edge.a) (is_reached found edge.b) (weight_at edge)
+            (ap (is_reached found) w.0 ∙ kept c_is.from c_is.reached) (ap (is_reached found) w.1 ∙ here)
+        by_ways edge (inr w) = both (is_reached found edge.a) (is_reached found edge.b) (weight_at edge) (ap (is_reached found) w.0 ∙ here)
+            (ap (is_reached found) w.1 ∙ kept c_is.from c_is.reached)
 
         wider : (p q p' q' : Bool) (w : ℕ) → (p ≡ true → p' ≡ true) → (q ≡ true → q' ≡ true) → cond (p && q) w 0 ≤ cond (p' && q') w 0
         wider true true p' q' w h k = omega (arith, both p' q' w (h refl) (k refl))
@@ -156,7 +164,8 @@ module _ (g : Graph) (t : Routes) (heap rest : List Candidate) (c : Candidate) (
         wider false q p' q' w h k = omega arith
 
         grows : (edge : Edge) → inner_at t edge ≤ inner_at found edge
-        grows edge = wider (is_reached t edge.a) (is_reached t edge.b) (is_reached found edge.a) (is_reached found edge.b) (weight_at edge) (kept edge.a) (kept edge.b)
+        grows edge = wider (is_reached t edge.a) (is_reached t edge.b) (is_reached found edge.a) (is_reached found edge.b) (weight_at edge)
+            (kept edge.a) (kept edge.b)
 
     nearer : (x e : ℕ) → is_reached t x ≡ true → IsNearer g t x e → IsNearer g found x e
     nearer x e h n = record {
@@ -173,7 +182,8 @@ module _ (g : Graph) (t : Routes) (heap rest : List Candidate) (c : Candidate) (
         (w.0, parent_there t c.node (pos c.distance) c.edge low x (other x h) ∙ w.1, w.2, way_kept es w.0 y (on w.0 w.2 near) w.3)
       where
         on : (z : ℕ) → Leads g e z x → IsNearer g t x e → is_reached t z ≡ true
-        on z l near = ap (is_reached t) (other_only g e x z (turned g e z x l) ∙ sym (other_only g e x near.from (turned g e near.from x near.leads))) ∙ near.reached
+        on z l near = ap (is_reached t) (other_only g e x z (turned g e z x l)
+            ∙ sym (other_only g e x near.from (turned g e near.from x near.leads))) ∙ near.reached
 
     -- what was found stays right
     Finds-found : Finds g found rest
@@ -183,10 +193,12 @@ module _ (g : Graph) (t : Routes) (heap rest : List Candidate) (c : Candidate) (
       home_distance = same_length t.source s.finds.home ∙ s.finds.home_distance;
       signed = λ x h. elim (cases_eq x c.node) [
         | inl e ↦ ap (distance_at found) e ∙ distance_here t c.node (pos c.distance) c.edge low ∙ sym (ap pos (new_length x e))
-        | inr ne ↦ distance_there t c.node (pos c.distance) c.edge low x ne ∙ s.finds.signed x (was_found x h ne) ∙ ap pos (sym (same_length x (was_found x h ne)))
+        | inr ne ↦ distance_there t c.node (pos c.distance) c.edge low x ne ∙ s.finds.signed x (was_found x h ne)
+            ∙ ap pos (sym (same_length x (was_found x h ne)))
       ];
       right = λ x h. elim (cases_eq x c.node) [
-        | inl e ↦ subst (λ z. IsDistance g t.source z (length_to found x)) (sym e) (subst (IsDistance g t.source c.node) (sym (new_length x e)) (least_candidate g t heap s c c_is least_all new))
+        | inl e ↦ subst (λ z. IsDistance g t.source z (length_to found x)) (sym e)
+            (subst (IsDistance g t.source c.node) (sym (new_length x e)) (least_candidate g t heap s c c_is least_all new))
         | inr ne ↦ subst (IsDistance g t.source x) (sym (same_length x (was_found x h ne))) (s.finds.right x (was_found x h ne))
       ];
       light = λ x h. elim (cases_eq x c.node) [
@@ -204,7 +216,8 @@ module _ (g : Graph) (t : Routes) (heap rest : List Candidate) (c : Candidate) (
       candidates = All-weaker (IsCandidate g t) (IsCandidate g found) still rest (rest_all (IsCandidate g t) s.finds.candidates);
       order = λ x h. elim (cases_eq x c.node) [
         | inl e ↦ subst (λ n. All (λ b. n ≤ b.distance) rest) (sym (new_length x e)) least
-        | inr ne ↦ subst (λ n. All (λ b. n ≤ b.distance) rest) (sym (same_length x (was_found x h ne))) (rest_all (λ b. length_to t x ≤ b.distance) (s.finds.order x (was_found x h ne)))
+        | inr ne ↦ subst (λ n. All (λ b. n ≤ b.distance) rest) (sym (same_length x (was_found x h ne)))
+            (rest_all (λ b. length_to t x ≤ b.distance) (s.finds.order x (was_found x h ne)))
       ];
     }
       where
@@ -231,7 +244,13 @@ module _ (g : Graph) (t : Routes) (heap rest : List Candidate) (c : Candidate) (
         back_new x same =
             let way = s.finds.back c_is.from c_is.reached in (
               c.edge ∷ way.0,
-              (c_is.from, ap (parent_at found) same ∙ own_parent, subst (λ z. Leads g c.edge c_is.from z) (sym same) c_is.leads, way_kept way.0 c_is.from t.source c_is.reached way.1),
+              (
+                c_is.from,
+                ap (parent_at found) same ∙ own_parent,
+                subst (λ z. Leads g c.edge c_is.from z)
+                    (sym same) c_is.leads,
+                way_kept way.0 c_is.from t.source c_is.reached way.1,
+              ),
               omega (arith, way.2, one_more),
             )
 
@@ -249,7 +268,8 @@ module _ (g : Graph) (t : Routes) (heap rest : List Candidate) (c : Candidate) (
       here = reached_here t c.node (pos c.distance) c.edge low;
       latest = λ x h. elim (cases_eq x c.node) [
         | inl e ↦ omega (arith, ap (length_to found) e)
-        | inr ne ↦ (let before : length_to t x ≤ c.distance = taken (λ b. length_to t x ≤ b.distance) (s.finds.order x (was_found x h ne)) in omega (arith, same_length x (was_found x h ne), new_length c.node refl))
+        | inr ne ↦ (let before : length_to t x ≤ c.distance = taken (λ b. length_to t x ≤ b.distance) (s.finds.order x (was_found x h ne)) in omega
+            (arith, same_length x (was_found x h ne), new_length c.node refl))
       ];
       frontier = λ v e h but u l fresh. elim (cases_eq v c.node) [
         | inl same ↦ (let none = but same in absurd (omega (arith, none.1)))
@@ -262,8 +282,10 @@ module _ (g : Graph) (t : Routes) (heap rest : List Candidate) (c : Candidate) (
 
         waits : (v e u : ℕ) → is_reached t v ≡ true → Leads g e v u → is_reached found u ≡ false → Contains rest (candidate_over g found v e u)
         waits v e u h l fresh =
-            let old : Contains rest (candidate_over g t v e u) = left (candidate_over g t v e u) (not_new u fresh) (s.frontier v e h u l (sym (reached_there t c.node (pos c.distance) c.edge low u (not_new u fresh)) ∙ fresh)) in
-            let same : candidate_over g t v e u ≡ candidate_over g found v e u = ap (at_distance u e) (let q : length_to t v + edge_weight g e ≡ length_to found v + edge_weight g e = omega (arith, same_length v h) in q) in
+            let old : Contains rest (candidate_over g t v e u) = left (candidate_over g t v e u) (not_new u fresh)
+            (s.frontier v e h u l (sym (reached_there t c.node (pos c.distance) c.edge low u (not_new u fresh)) ∙ fresh)) in
+            let same : candidate_over g t v e u ≡ candidate_over g found v e u = ap (at_distance u e)
+            (let q : length_to t v + edge_weight g e ≡ length_to found v + edge_weight g e = omega (arith, same_length v h) in q) in
             subst (Contains rest) same old
           where
             at_distance : ℕ → ℕ → ℕ → Candidate
@@ -284,7 +306,8 @@ module _ (g : Graph) (t : Routes) (heap : List Candidate) (node e u : ℕ) (done
       | inr ne ↦ s.frontier v k h (λ same. absurd (ne same)) z lz fresh
       | inl same ↦ elim (Contains-push_cases done e k (but same)) [
         | inl old ↦ s.frontier v k h (λ _. old) z lz fresh
-        | inr this ↦ absurd (false≢true (sym fresh ∙ ap (is_reached t) (only z (subst (λ j. Leads g j node z) (sym this) (subst (λ n. Leads g k n z) same lz))) ∙ found))
+        | inr this ↦ absurd (false≢true (sym fresh ∙ ap (is_reached t)
+            (only z (subst (λ j. Leads g j node z) (sym this) (subst (λ n. Leads g k n z) same lz))) ∙ found))
       ]
     ];
   }
@@ -327,13 +350,15 @@ module _ (g : Graph) (t : Routes) (heap : List Candidate) (node e u : ℕ) (done
       latest_one : (v k z : ℕ) → v ≡ node → e ≡ k → Leads g k v z → Contains new (candidate_over g t v k z)
       latest_one v k z same this lz =
           let zu : z ≡ u = only z (subst (λ j. Leads g j node z) (sym this) (subst (λ n. Leads g k n z) same lz)) in
-          let base : Contains new (candidate_over g t node e u) = Contains-permutation (candidate_over g t node e u ∷ heap) new (candidate_over g t node e u) perm (0, omega arith, refl) in
+          let base : Contains new (candidate_over g t node e u) = Contains-permutation (candidate_over g t node e u ∷ heap) new
+          (candidate_over g t node e u) perm (0, omega arith, refl) in
           let by_node : Contains new (candidate_over g t node e z) = subst (λ y. Contains new (candidate_over g t node e y)) (sym zu) base in
           let by_edge : Contains new (candidate_over g t node k z) = subst (λ j. Contains new (candidate_over g t node j z)) this by_node in
           subst (λ n. Contains new (candidate_over g t n k z)) (sym same) by_edge
 
 -- all edges of the latest node are spread
-pub Searches-spread : (g : Graph) (t : Routes) (heap : List Candidate) (node : ℕ) (done : List ℕ) → Spreads g t heap node done → ((e u : ℕ) → Leads g e node u → Contains done e) → Searches g t heap
+pub Searches-spread : (g : Graph) (t : Routes) (heap : List Candidate) (node : ℕ) (done : List ℕ) → Spreads g t heap node done
+    → ((e u : ℕ) → Leads g e node u → Contains done e) → Searches g t heap
 Searches-spread g t heap node done s all = record {
   finds = s.finds;
   frontier = λ v e h u l fresh. s.frontier v e h (λ same. all e u (subst (λ z. Leads g e z u) same l)) u l fresh;

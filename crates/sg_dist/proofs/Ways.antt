@@ -38,7 +38,9 @@ module _ (g : Graph) (t : Routes) where
       omega arith
 
   -- an edge of the way is the parent edge of a node on it
-  edge_on : (es : List ℕ) (x k : ℕ) → k < length es → IsWayBack g t x es t.source → (u v : ℕ) × (bs : List ℕ) × Leads g (get_or es k 0) v u × IsWayBack g t u (get_or es k 0 ∷ bs) t.source × IsWayBack g t v bs t.source × (length bs < length es)
+  edge_on : (es : List ℕ) (x k : ℕ) → k < length es → IsWayBack g t x es t.source
+      → (u v : ℕ) × (bs : List ℕ) × Leads g (get_or es k 0) v u × IsWayBack g t u (get_or es k 0 ∷ bs) t.source × IsWayBack g t v bs t.source ×
+      (length bs < length es)
   edge_on [] x k l w = absurd (omega arith)
   edge_on (e ∷ es) x zero l w = (x, w.0, es, w.2, w, w.3, omega arith)
   edge_on (e ∷ es) x (suc k) l w =
@@ -49,7 +51,8 @@ module _ (g : Graph) (t : Routes) where
   one_of : (e z x v u : ℕ) → Leads g e z x → Leads g e v u → (x ≡ u) ⊎ (x ≡ v)
   one_of e z x v u l m = by_ways (edge_at g e) l.ways m.ways
     where
-      by_ways : (edge : Edge) → ((edge.a ≡ z) × (edge.b ≡ x)) ⊎ ((edge.a ≡ x) × (edge.b ≡ z)) → ((edge.a ≡ v) × (edge.b ≡ u)) ⊎ ((edge.a ≡ u) × (edge.b ≡ v)) → (x ≡ u) ⊎ (x ≡ v)
+      by_ways : (edge : Edge) → ((edge.a ≡ z) × (edge.b ≡ x)) ⊎ ((edge.a ≡ x) × (edge.b ≡ z))
+          → ((edge.a ≡ v) × (edge.b ≡ u)) ⊎ ((edge.a ≡ u) × (edge.b ≡ v)) → (x ≡ u) ⊎ (x ≡ v)
       by_ways edge (inl p) (inl q) = inl (sym p.1 ∙ q.1)
       by_ways edge (inl p) (inr q) = inr (sym p.1 ∙ q.1)
       by_ways edge (inr p) (inl q) = inr (sym p.0 ∙ q.0)
@@ -61,7 +64,8 @@ module _ (g : Graph) (t : Routes) where
       let r = edge_on es w.0 k l w.3 in
       let again : Leads g (get_or es k 0) w.0 x = subst (λ f. Leads g f w.0 x) same w.2 in
       absurd (elim (one_of (get_or es k 0) w.0 x r.1 r.0 again r.3) [
-        | inl here ↦ (let q = way_unique (e ∷ es) (get_or es k 0 ∷ r.2) x w (subst (λ n. IsWayBack g t n (get_or es k 0 ∷ r.2) t.source) (sym here) r.4) in omega (arith, q, r.6))
+        | inl here ↦ (let q = way_unique (e ∷ es) (get_or es k 0 ∷ r.2) x w
+            (subst (λ n. IsWayBack g t n (get_or es k 0 ∷ r.2) t.source) (sym here) r.4) in omega (arith, q, r.6))
         | inr there ↦ (let q = way_unique (e ∷ es) r.2 x w (subst (λ n. IsWayBack g t n r.2 t.source) (sym there) r.5) in omega (arith, q, r.6))
       ])
 
@@ -74,7 +78,8 @@ module _ (g : Graph) (t : Routes) where
   pub way_walk : (es : List ℕ) (x y : ℕ) → IsWayBack g t x es y → IsWalk g y (reverse es) x
   way_walk [] x y w = sym w
   way_walk (e ∷ es) x y w =
-      subst (λ fs. IsWalk g y fs x) (sym (reverse-append (e ∷ []) es)) (walk-append g (reverse es) (e ∷ []) y w.0 x (way_walk es w.0 y w.3) (walk-one g e w.0 x w.2))
+      subst (λ fs. IsWalk g y fs x) (sym (reverse-append (e ∷ []) es))
+      (walk-append g (reverse es) (e ∷ []) y w.0 x (way_walk es w.0 y w.3) (walk-one g e w.0 x w.2))
 
   pub way_weight : (es : List ℕ) → weight_of g (reverse es) ≡ weight_of g es
   way_weight es = sum_by-IsPermutation (edge_weight g) es (reverse es) (IsPermutation-reverse es)
@@ -96,14 +101,16 @@ module _ (g : Graph) (t : Routes) (is : IsTableOf g t) where
   low : (x : ℕ) → is_reached t x ≡ true → x < g.nodes
   low x h = omega (arith, reached_low t x h, is.nodes)
 
-  next_reached : (e x z : ℕ) → is_reached t x ≡ true → parent_at t x ≡ Some e → Leads g e z x → (is_reached t z ≡ true) × (length_to t z + edge_weight g e ≡ length_to t x)
+  next_reached : (e x z : ℕ) → is_reached t x ≡ true → parent_at t x ≡ Some e → Leads g e z x
+      → (is_reached t z ≡ true) × (length_to t z + edge_weight g e ≡ length_to t x)
   next_reached e x z h p l =
       let near = is.parents x e (low x h) p in
       let same : z ≡ near.from = step_to g t e x z l ∙ sym (step_to g t e x near.from near.leads) in
       (ap (is_reached t) same ∙ near.reached, omega (arith, ap (length_to t) same, near.distance))
 
   -- the way weighs what the distance falls by
-  way_falls : (es : List ℕ) (x y : ℕ) → is_reached t x ≡ true → IsWayBack g t x es y → (is_reached t y ≡ true) × (length_to t y + weight_of g es ≡ length_to t x)
+  way_falls : (es : List ℕ) (x y : ℕ) → is_reached t x ≡ true → IsWayBack g t x es y
+      → (is_reached t y ≡ true) × (length_to t y + weight_of g es ≡ length_to t x)
   way_falls [] x y h w = (ap (is_reached t) (sym w) ∙ h, omega (arith, ap (length_to t) w))
   way_falls (e ∷ es) x y h w =
       let on = next_reached e x w.0 h w.1 w.2 in
@@ -120,7 +127,8 @@ module _ (g : Graph) (t : Routes) (is : IsTableOf g t) where
 
   -- the next parent
   module _ (to at e : ℕ) (edges : List ℕ) (f : Follows g t to edges at) (parent : parent_at t at ≡ Some e) where
-    first_left : (es : List ℕ) → IsWayBack g t at es t.source → length edges + length es < g.nodes → (z : ℕ) × (fs : List ℕ) × Leads g e z at × IsWayBack g t z fs t.source × (length edges + 1 + length fs < g.nodes)
+    first_left : (es : List ℕ) → IsWayBack g t at es t.source → length edges + length es < g.nodes
+        → (z : ℕ) × (fs : List ℕ) × Leads g e z at × IsWayBack g t z fs t.source × (length edges + 1 + length fs < g.nodes)
     first_left [] w l = absurd (let p = parent_reached t at e parent in p.0 w)
     first_left (k ∷ es) w l = (w.0, es, subst (λ j. Leads g j w.0 at) (some_same g t k e (sym w.1 ∙ parent)) w.2, w.3, omega arith)
 
@@ -133,7 +141,8 @@ module _ (g : Graph) (t : Routes) (is : IsTableOf g t) where
         let same : r.0 ≡ next = step_to g t e at r.0 r.2 ∙ sym is_other in
         let more : length edges' ≡ length edges + 1 = ap length grown ∙ push edges e in
         record {
-          so_far = subst (λ es. IsWayBack g t to es next) (sym grown) (way-append g t edges to at next e f.so_far parent (subst (λ n. Leads g e n at) same r.2));
+          so_far = subst (λ es. IsWayBack g t to es next) (sym grown) (way-append g t edges to at next e f.so_far parent
+              (subst (λ n. Leads g e n at) same r.2));
           reached = ap (is_reached t) (sym same) ∙ (next_reached e at r.0 f.reached parent r.2).0;
           left = (r.1, subst (λ n. IsWayBack g t n r.1 t.source) same r.3, omega (arith, r.4, more));
         }

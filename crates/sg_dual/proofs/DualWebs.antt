@@ -33,13 +33,15 @@ module _ (inst : Ising) (faces : Labelling) where
   dual_edge_at k l = get_or-map-range_with_len (dual_edge inst faces) 0 (bond_count inst) k k (record { a = 0; b = 0; w = pos 0 }) l (omega arith)
 
   -- one bond more
-  pub edges_more : (k : ℕ) (edges : List Edge) (bonds : List Bond) (a b : ℕ) (w : ℤ) → bonds ≡ inst.bonds → edges ≡ map (dual_edge inst faces) (range_with_len 0 k) →
+  pub edges_more : (k : ℕ) (edges : List Edge) (bonds : List Bond) (a b : ℕ) (w : ℤ) → bonds ≡ inst.bonds
+      → edges ≡ map (dual_edge inst faces) (range_with_len 0 k) →
       a ≡ face_of faces (2 * k) → b ≡ face_of faces (2 * k + 1) → w ≡ pos (unsigned_abs (get_or bonds k (record { u = 0; v = 0; j = pos 0 })).j) →
       edges ++ record { a = a; b = b; w = w } ∷ [] ≡ map (dual_edge inst faces) (range_with_len 0 (k + 1))
   edges_more k edges bonds a b w same made a_is b_is w_is =
       let edge : ℕ → ℕ → ℤ → Edge = λ a b w. record { a = a; b = b; w = w } in
       let size = w_is ∙ ap (λ (bs : List Bond). pos (unsigned_abs (get_or bs k (record { u = 0; v = 0; j = pos 0 })).j)) same in
-      ap₂ (λ (es : List Edge) (e : Edge). es ++ e ∷ []) made (ap (λ x. edge x b w) a_is ∙ ap (λ x. edge (face_of faces (2 * k)) x w) b_is ∙ ap (edge (face_of faces (2 * k)) (face_of faces (2 * k + 1))) size)
+      ap₂ (λ (es : List Edge) (e : Edge). es ++ e ∷ []) made (ap (λ x. edge x b w) a_is ∙ ap (λ x. edge (face_of faces (2 * k)) x w) b_is
+      ∙ ap (edge (face_of faces (2 * k)) (face_of faces (2 * k + 1))) size)
       ∙ sym (map-range_with_len_more (dual_edge inst faces) 0 k k (omega arith))
 
   -- all edges together weigh as much as the bonds
@@ -55,7 +57,8 @@ module _ (inst : Ising) (faces : Labelling) where
     ways = inl (ap (λ (e : Edge). e.a) (dual_edge_at k l), ap (λ (e : Edge). e.b) (dual_edge_at k l));
   }
 
-  pub web_is : (nodes : ℕ) (edges : List Edge) → nodes ≡ faces.count → edges ≡ map (dual_edge inst faces) (range_with_len 0 (bond_count inst)) → record { nodes = nodes; edges = edges } ≡ dual_web inst faces
+  pub web_is : (nodes : ℕ) (edges : List Edge) → nodes ≡ faces.count → edges ≡ map (dual_edge inst faces) (range_with_len 0 (bond_count inst))
+      → record { nodes = nodes; edges = edges } ≡ dual_web inst faces
   web_is nodes edges n e = ap₂ (λ n es. let g : Graph = record { nodes = n; edges = es } in g) n e
 
   module _ (labels : IsFaceLabels inst faces) where
@@ -73,7 +76,12 @@ module _ (inst : Ising) (faces : Labelling) where
     dual_joined = All-map (IsEdge faces.count) (dual_edge inst faces) (range_with_len 0 (bond_count inst)) at_place
       where
         is_edge : (k : ℕ) → k < bond_count inst → IsEdge faces.count (dual_edge inst faces k)
-        is_edge k l = record { first_end = label_below inst faces labels (2 * k) (omega arith); second_end = label_below inst faces labels (2 * k + 1) (omega arith); not_negative = size_positive (unsigned_abs (bond_at inst k).j) }
+        is_edge k l = record {
+          first_end = label_below inst faces labels (2 * k) (omega arith);
+          second_end = label_below inst faces labels
+              (2 * k + 1) (omega arith);
+          not_negative = size_positive (unsigned_abs (bond_at inst k).j);
+        }
 
         at_place : All (λ k. IsEdge faces.count (dual_edge inst faces k)) (range_with_len 0 (bond_count inst))
         at_place i d l =

@@ -25,7 +25,8 @@ dart_of_step inst a b j = by_ends j.ends
     below : j.bond < bond_count inst
     below = j.below
 
-    by_ends : (((bond_at inst j.bond).u ≡ a) × ((bond_at inst j.bond).v ≡ b)) ⊎ (((bond_at inst j.bond).u ≡ b) × ((bond_at inst j.bond).v ≡ a)) → (d : ℕ) × (d < dart_count inst) × (tail inst d ≡ a) × (tail inst (rev d) ≡ b)
+    by_ends : (((bond_at inst j.bond).u ≡ a) × ((bond_at inst j.bond).v ≡ b)) ⊎ (((bond_at inst j.bond).u ≡ b) × ((bond_at inst j.bond).v ≡ a))
+        → (d : ℕ) × (d < dart_count inst) × (tail inst d ≡ a) × (tail inst (rev d) ≡ b)
     by_ends (inl (p, q)) = (2 * j.bond, omega (arith, below), tail_first inst j.bond ∙ p, ap (tail inst) (rev_first j.bond) ∙ tail_second inst j.bond ∙ q)
     by_ends (inr (p, q)) = (2 * j.bond + 1, omega (arith, below), tail_second inst j.bond ∙ q, ap (tail inst) (rev_second j.bond) ∙ tail_first inst j.bond ∙ p)
 
@@ -56,7 +57,8 @@ module _ (inst : Ising) (faces : Labelling) where
           (linked_on (2 * k) (2 * k + 1) (rev d) (over k (omega arith)) (linked_same (2 * k + 1) (rev d) (ap (face_of faces) (sym (ap rev e ∙ rev_first k)))))
       by_dart (k, inr e) =
           linked_on d (2 * k + 1) (rev d) (linked_same d (2 * k + 1) (ap (face_of faces) e))
-          (linked_on (2 * k + 1) (2 * k) (rev d) (linked_back (2 * k) (2 * k + 1) (over k (omega arith))) (linked_same (2 * k) (rev d) (ap (face_of faces) (sym (ap rev e ∙ rev_second k)))))
+          (linked_on (2 * k + 1) (2 * k) (rev d) (linked_back (2 * k) (2 * k + 1) (over k (omega arith)))
+          (linked_same (2 * k) (rev d) (ap (face_of faces) (sym (ap rev e ∙ rev_second k)))))
 
   module _ (good : IsInstance inst) (labels : IsFaceLabels inst faces) where
     -- the face on the far side of a dart is that of the next dart round its spin
@@ -74,16 +76,19 @@ module _ (inst : Ising) (faces : Labelling) where
         let here = in_list inst good i j b (omega arith) in
         let s : j + 1 ≡ suc j = omega arith in
         let follows : next inst d ≡ get_or (darts_of inst i) (suc j) 0 =
-        next_is inst good d ∙ ap (λ x. following (darts_of inst x) d) here.1 ∙ following_inner (darts_of inst i) (spin_distinct inst good i b) j (omega arith) ∙ ap (λ x. get_or (darts_of inst i) x 0) s in
+        next_is inst good d ∙ ap (λ x. following (darts_of inst x) d) here.1
+        ∙ following_inner (darts_of inst i) (spin_distinct inst good i b) j (omega arith) ∙ ap (λ x. get_or (darts_of inst i) x 0) s in
         linked_on (get_or (darts_of inst i) 0 0) d (get_or (darts_of inst i) (suc j) 0) (linked_round i b j (omega arith))
-        (linked_on d (next inst d) (get_or (darts_of inst i) (suc j) 0) (linked_next d here.0) (linked_same (next inst d) (get_or (darts_of inst i) (suc j) 0) (ap (face_of faces) follows)))
+        (linked_on d (next inst d) (get_or (darts_of inst i) (suc j) 0) (linked_next d here.0)
+        (linked_same (next inst d) (get_or (darts_of inst i) (suc j) 0) (ap (face_of faces) follows)))
 
     -- two darts that leave one spin
     pub linked_spin : (d e : ℕ) → d < dart_count inst → e < dart_count inst → tail inst d ≡ tail inst e → AreLinked d e
     linked_spin d e l m t =
         at_places (tail inst d) (tail_below inst good d l) (place_at inst good (tail inst d) d l refl) (place_at inst good (tail inst d) e m (sym t))
       where
-        at_places : (i : ℕ) → i < inst.n → ((j : ℕ) × (j < length (darts_of inst i)) × (get_or (darts_of inst i) j 0 ≡ d)) → ((k : ℕ) × (k < length (darts_of inst i)) × (get_or (darts_of inst i) k 0 ≡ e)) → AreLinked d e
+        at_places : (i : ℕ) → i < inst.n → ((j : ℕ) × (j < length (darts_of inst i)) × (get_or (darts_of inst i) j 0 ≡ d))
+            → ((k : ℕ) × (k < length (darts_of inst i)) × (get_or (darts_of inst i) k 0 ≡ e)) → AreLinked d e
         at_places i b (j, jl, jd) (k, kl, ke) =
             let first : ℕ = get_or (darts_of inst i) 0 0 in
             let at_j : ℕ = get_or (darts_of inst i) j 0 in
@@ -93,7 +98,8 @@ module _ (inst : Ising) (faces : Labelling) where
             (linked_on first at_k e (linked_round i b k kl) (linked_same at_k e (ap (face_of faces) ke))))
 
     -- along a walk of bonds
-    linked_along : (path : List ℕ) (a b : ℕ) → IsWalk inst all_bonds a path b → (d e : ℕ) → d < dart_count inst → e < dart_count inst → tail inst d ≡ a → tail inst e ≡ b → AreLinked d e
+    linked_along : (path : List ℕ) (a b : ℕ) → IsWalk inst all_bonds a path b → (d e : ℕ) → d < dart_count inst → e < dart_count inst
+        → tail inst d ≡ a → tail inst e ≡ b → AreLinked d e
     linked_along [] a b w d e l m p q = linked_spin d e l m (p ∙ w ∙ sym q)
     linked_along (c ∷ path) a b w d e l m p q =
         let s = dart_of_step inst a c w.0 in
@@ -109,7 +115,8 @@ module _ (inst : Ising) (faces : Labelling) where
           between (labels.used 0 (omega (arith, l, all))) (labels.used x (omega (arith, l, all)))
     ]
       where
-        between : ((d : ℕ) × (d < dart_count inst) × (face_of faces d ≡ 0)) → ((e : ℕ) × (e < dart_count inst) × (face_of faces e ≡ x)) → IsReached (dual_web inst faces) 0 x
+        between : ((d : ℕ) × (d < dart_count inst) × (face_of faces d ≡ 0)) → ((e : ℕ) × (e < dart_count inst) × (face_of faces e ≡ x))
+            → IsReached (dual_web inst faces) 0 x
         between (d, dl, d0) (e, el, ex) =
             let a : ℕ = tail inst d in
             let b : ℕ = tail inst e in

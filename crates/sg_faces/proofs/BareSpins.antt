@@ -82,7 +82,8 @@ module _ (inst : Ising) where
   faces_alone none =
       let darts : dart_count inst ≡ 0 = omega (arith, none) in
       let no_face : faces_before inst (dart_count inst) ≡ 0 = ap (faces_before inst) darts in
-      let bare : bare_count inst ≡ inst.n = counted_same (is_bare inst) (λ _. true) inst.n (λ i l. all_miss i (λ k b. absurd (omega (arith, none, b)))) ∙ counted_all inst.n in
+      let bare : bare_count inst ≡ inst.n = counted_same (is_bare inst) (λ _. true) inst.n
+      (λ i l. all_miss i (λ k b. absurd (omega (arith, none, b)))) ∙ counted_all inst.n in
       omega (arith, no_face, bare)
 
   module _ (good : IsInstance inst) where
@@ -90,11 +91,14 @@ module _ (inst : Ising) where
     bare_by_list i l = elim (cases_eq (length (darts_of inst i)) 0) [
       | inl none ↦
           all_miss i (λ k b. (
-            (λ e. let p = place_at inst good i (2 * k) (omega (arith, b)) (tail_first inst k ∙ e) in let low : p.0 < length (darts_of inst i) = p.1 in omega (arith, low, none)),
-            (λ e. let p = place_at inst good i (2 * k + 1) (omega (arith, b)) (tail_second inst k ∙ e) in let low : p.0 < length (darts_of inst i) = p.1 in omega (arith, low, none)),
+            (λ e. let p = place_at inst good i (2 * k) (omega (arith, b)) (tail_first inst k ∙ e) in let low : p.0 < length
+                (darts_of inst i) = p.1 in omega (arith, low, none)),
+            (λ e. let p = place_at inst good i (2 * k + 1) (omega (arith, b)) (tail_second inst k ∙ e) in let low : p.0 < length
+                (darts_of inst i) = p.1 in omega (arith, low, none)),
           ))
           ∙ sym (eq-eqb (length (darts_of inst i)) 0 none)
-      | inr some ↦ by_dart (get_or (darts_of inst i) 0 0) (in_list inst good i 0 l (omega (arith, some))).0 (in_list inst good i 0 l (omega (arith, some))).1 ∙ sym (ne_eqb (length (darts_of inst i)) 0 some)
+      | inr some ↦ by_dart (get_or (darts_of inst i) 0 0) (in_list inst good i 0 l (omega (arith, some))).0
+          (in_list inst good i 0 l (omega (arith, some))).1 ∙ sym (ne_eqb (length (darts_of inst i)) 0 some)
     ]
       where
         by_dart : (d : ℕ) → d < dart_count inst → tail inst d ≡ i → is_bare inst i ≡ false

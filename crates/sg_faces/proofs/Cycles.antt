@@ -43,11 +43,19 @@ pigeonhole (suc k) g low = by_last (find g (g (suc k)) (suc k)) (pigeonhole k mo
     by_last (inl f) again = record { first = f.0; second = suc k; before = f.1; below = omega arith; equal = f.2 }
     by_last (inr f) again =
         let r : Repeats moved (k + 1) = again low' in
-        record { first = r.first; second = r.second; before = r.before; below = omega (arith, r.below); equal = back r.first r.second (omega (arith, r.before, r.below)) (omega (arith, r.below)) r.equal }
+        record {
+          first = r.first;
+          second = r.second;
+          before = r.before;
+          below = omega (arith, r.below);
+          equal = back r.first r.second
+              (omega (arith, r.before, r.below)) (omega (arith, r.below)) r.equal;
+        }
       where
         low' : (i : ℕ) → i < k + 1 → moved i < k
         low' i l = elim (cases_eq (g i) k) [
-          | inl e ↦ (let ne : g i ≢ g (suc k) = f i (omega arith) in let b : g (suc k) < suc k = low (suc k) (omega arith) in rw (eq-eqb (g i) k e) (omega arith))
+          | inl e ↦ (let ne : g i ≢ g (suc k) = f i (omega arith) in let b : g (suc k) < suc k = low (suc k) (omega arith) in rw (eq-eqb (g i) k e)
+              (omega arith))
           | inr ne ↦ (let b : g i < suc k = low i (omega arith) in rw (ne_eqb (g i) k ne) (omega arith))
         ]
 
@@ -81,8 +89,13 @@ module _ (f : ℕ → ℕ) (k : ℕ) (move : IsOneToOne f k) where
   pub cycle : (d : ℕ) → d < k → (p : ℕ) × (0 < p) × (p ≤ k) × (after_steps f p d ≡ d)
   cycle d l =
       let r : Repeats (λ i. after_steps f i d) (k + 1) = pigeonhole k (λ i. after_steps f i d) (λ i b. steps_below i d l) in
-      let s : r.first + (r.second - r.first) ≡ r.second = omega (arith, r.before) in
-      (r.second - r.first, omega (arith, r.before), omega (arith, r.below), steps_back r.first (r.second - r.first) d l (r.equal ∙ ap (λ n. after_steps f n d) (sym s)))
+      let s : r.first + (r.second - r.first) ≡ r.second = omega (arith, r.before) in (
+        r.second - r.first,
+        omega (arith, r.before),
+        omega (arith, r.below),
+        steps_back r.first (r.second - r.first) d l
+            (r.equal ∙ ap (λ n. after_steps f n d) (sym s)),
+      )
 
   -- whole rounds lead nowhere
   rounds : (p d : ℕ) → after_steps f p d ≡ d → (q : ℕ) → after_steps f (p * q) d ≡ d
@@ -96,8 +109,12 @@ module _ (f : ℕ → ℕ) (k : ℕ) (move : IsOneToOne f k) where
   short_way j d l =
       let c : (p : ℕ) × (0 < p) × (p ≤ k) × (after_steps f p d ≡ d) = cycle d l in
       let low : j % c.0 < c.0 = mod-lt j c.1 in
-      let whole : j ≡ j % c.0 + c.0 * (j / c.0) = omega (arith, c.1) in
-      (j % c.0, omega (arith, low, c.2), sym (ap (λ n. after_steps f n d) whole ∙ sym (steps_add f (j % c.0) (c.0 * (j / c.0)) d) ∙ ap (after_steps f (j % c.0)) (rounds c.0 d c.3 (j / c.0))))
+      let whole : j ≡ j % c.0 + c.0 * (j / c.0) = omega (arith, c.1) in (
+        j % c.0,
+        omega (arith, low, c.2),
+        sym (ap (λ n. after_steps f n d) whole ∙ sym (steps_add f (j % c.0) (c.0 * (j / c.0)) d)
+            ∙ ap (after_steps f (j % c.0)) (rounds c.0 d c.3 (j / c.0))),
+      )
 
   -- some number of steps leads back from where j steps lead
   pub way_back : (j d : ℕ) → d < k → SameOrbit f (after_steps f j d) d
@@ -132,7 +149,8 @@ module _ (f : ℕ → ℕ) (k : ℕ) (move : IsOneToOne f k) where
 
       back : ((e : ℕ) → SameOrbit f d e → d ≤ e) → is_least_in f k d ≡ true
       back h = list_all-from_AllPass (λ j. leb d (after_steps f j d)) (range_with_len 0 k)
-          (λ i x b. le-leb d (after_steps f (get_or (range_with_len 0 k) i x) d) (h (after_steps f (get_or (range_with_len 0 k) i x) d) (get_or (range_with_len 0 k) i x, refl)))
+          (λ i x b. le-leb d (after_steps f (get_or (range_with_len 0 k) i x) d)
+          (h (after_steps f (get_or (range_with_len 0 k) i x) d) (get_or (range_with_len 0 k) i x, refl)))
 
 pub orbit_transitive : (f : ℕ → ℕ) (a b c : ℕ) → SameOrbit f a b → SameOrbit f b c → SameOrbit f a c
 orbit_transitive f a b c (i, p) (j, q) = (j + i, sym (steps_add f j i a) ∙ ap (after_steps f j) p ∙ q)

@@ -49,7 +49,8 @@ module _ (table old labels : List ℕ) (start label at : ℕ) (move : IsMove tab
   other x ne = get_or-set_other labels at x label 0 ne
 
   given_differs : (i : ℕ) → i < w.taken → moves table i start ≢ at
-  given_differs i b e = let h : get_or labels (moves table i start) 0 ≡ label = (w.given i b).0 in let f : get_or labels (moves table i start) 0 ≡ unlabelled = ap (λ x. get_or labels x 0) e ∙ free in omega arith
+  given_differs i b e = let h : get_or labels (moves table i start) 0 ≡ label = (w.given i b).0 in let f : get_or labels
+      (moves table i start) 0 ≡ unlabelled = ap (λ x. get_or labels x 0) e ∙ free in omega arith
 
   pub one_less : left_over (set labels at label) + 1 ≡ left_over labels
   one_less =
@@ -121,7 +122,12 @@ came_from table labels count limit room h move x l has = by_root (h.roots (get_o
         has_first e = has (sym r.first_label ∙ e)
 
         place : (j : ℕ) → moves table (suc j) r.first ≡ x → (y : ℕ) × (y < length table) × HasLabel labels y × (get_or table y 0 ≡ x)
-        place j e = (moves table j r.first, moves_below table move j r.first r.first_below, (λ z. has_first (sym (onward_all table labels count limit h move j r.first r.first_below has_first) ∙ z)), e)
+        place j e = (
+          moves table j r.first,
+          moves_below table move j r.first r.first_below,
+          (λ z. has_first (sym (onward_all table labels count limit h move j r.first r.first_below has_first) ∙ z)),
+          e,
+        )
 
         at : ((j : ℕ) × (moves table j r.first ≡ x)) → (y : ℕ) × (y < length table) × HasLabel labels y × (get_or table y 0 ≡ x)
         at (suc j, e) = place j e
@@ -138,7 +144,8 @@ module _ (table old labels : List ℕ) (start label at : ℕ) (move : IsMove tab
   pub comes_back : at ≡ start
   comes_back = elim (cases_eq (get_or old at 0) unlabelled) [
     | inl e ↦ let f : (i : ℕ) × (i < w.taken) × (moves table i start ≡ at) = w.fresh at w.at_below done e in from_new f.0 w.taken refl f.1 f.2
-    | inr ne ↦ let c : (y : ℕ) × (y < length table) × HasLabel old y × (get_or table y 0 ≡ at) = came_from table old label start room labelled move at w.at_below ne in from_old w.taken refl c.0 c.1 c.2 c.3
+    | inr ne ↦ let c : (y : ℕ) × (y < length table) × HasLabel old y ×
+        (get_or table y 0 ≡ at) = came_from table old label start room labelled move at w.at_below ne in from_old w.taken refl c.0 c.1 c.2 c.3
   ]
     where
       last_move : (k : ℕ) → w.taken ≡ suc k → get_or table (moves table k start) 0 ≡ at
@@ -154,7 +161,8 @@ module _ (table old labels : List ℕ) (start label at : ℕ) (move : IsMove tab
       from_new zero k e b c = sym c
       from_new (suc i) zero e b c = absurd (omega arith)
       from_new (suc i) (suc k) e b c =
-          absurd (w.apart i k (omega arith) (omega arith) (move.apart (moves table i start) (moves table k start) (moves_below table move i start l) (moves_below table move k start l) (c ∙ sym (last_move k e))))
+          absurd (w.apart i k (omega arith) (omega arith) (move.apart (moves table i start) (moves table k start) (moves_below table move i start l)
+          (moves_below table move k start l) (c ∙ sym (last_move k e))))
 
   some_taken : 0 < w.taken
   some_taken =
@@ -233,8 +241,12 @@ module _ (table old labels : List ℕ) (start label at : ℕ) (move : IsMove tab
           by_place : (i : ℕ) → n.place ≡ i → (j : ℕ) × (j < length table) × (moves table j d ≡ start)
           by_place zero e = (0, omega (arith, few, some_taken), sym n.move_to ∙ ap (λ i. moves table i start) e)
           by_place (suc i) e =
-              let sum : (w.taken - n.place) + n.place ≡ w.taken = omega (arith, n.within) in
-              (w.taken - n.place, omega (arith, few, n.within, e), ap (moves table (w.taken - n.place)) (sym n.move_to) ∙ moves_add table (w.taken - n.place) n.place start ∙ ap (λ j. moves table j start) sum ∙ w.at_is ∙ comes_back)
+              let sum : (w.taken - n.place) + n.place ≡ w.taken = omega (arith, n.within) in (
+                w.taken - n.place,
+                omega (arith, few, n.within, e),
+                ap (moves table (w.taken - n.place)) (sym n.move_to)
+                    ∙ moves_add table (w.taken - n.place) n.place start ∙ ap (λ j. moves table j start) sum ∙ w.at_is ∙ comes_back,
+              )
 
       starts_at : (d : ℕ) → New d → start ≤ d
       starts_at d n = elim (cases_lt d start) [ inl b ↦ absurd (earlier d b n.was_free) | inr b ↦ b ]
@@ -308,7 +320,17 @@ later_limit table labels count at h = record {
   lengths = h.lengths;
   below = h.below;
   onward = h.onward;
-  roots = λ f b. (let r : Root table labels at f = h.roots f b in record { first = r.first; first_below = r.first_below; early = omega (arith, r.early); first_label = r.first_label; rank = r.rank; to = r.to; back = r.back; least = r.least });
+  roots = λ f b. (let r : Root table labels at f = h.roots f b in record {
+    first = r.first;
+    first_below = r.first_below;
+    early = omega
+        (arith, r.early);
+    first_label = r.first_label;
+    rank = r.rank;
+    to = r.to;
+    back = r.back;
+    least = r.least;
+  });
 }
 
 pub no_labels : (table : List ℕ) → LabelsOrbits table (replicate (length table) unlabelled) 0 0
@@ -373,8 +395,17 @@ module _ (table labels : List ℕ) (count at : ℕ) (move : IsMove table) (small
 
   pub so_far_new : (labels' : List ℕ) → get_or labels at 0 ≡ unlabelled → LabelsOrbits table labels' (count + 1) (at + 1) →
       ((d : ℕ) → HasLabel labels d → get_or labels' d 0 ≡ get_or labels d 0) → get_or labels' at 0 ≡ count → SoFar table labels' (count + 1) (at + 1)
-  so_far_new labels' free more kept marked =
-      (more, all, omega (arith, h.2, count_range_more (is_least_of table) at, ap (λ b. cond {A = ℕ} b 1 0) (free_is_least table labels count at move h.0 room_for l free h.1)))
+  so_far_new labels' free more kept marked = (
+    more,
+    all,
+    omega (
+      arith,
+      h.2,
+      count_range_more (is_least_of table) at,
+      ap (λ b. cond {A = ℕ} b 1 0)
+          (free_is_least table labels count at move h.0 room_for l free h.1),
+    ),
+  )
     where
       all : (d : ℕ) → d < at + 1 → HasLabel labels' d
       all d b e = elim (cases_eq d at) [
@@ -383,8 +414,17 @@ module _ (table labels : List ℕ) (count at : ℕ) (move : IsMove table) (small
       ]
 
   pub so_far_old : HasLabel labels at → SoFar table labels count (at + 1)
-  so_far_old has =
-      (later_limit table labels count at h.0, all, omega (arith, h.2, count_range_more (is_least_of table) at, ap (λ b. cond {A = ℕ} b 1 0) (labelled_not_least table labels count at move h.0 room_for l has)))
+  so_far_old has = (
+    later_limit table labels count at h.0,
+    all,
+    omega (
+      arith,
+      h.2,
+      count_range_more (is_least_of table) at,
+      ap (λ b. cond {A = ℕ} b 1 0)
+          (labelled_not_least table labels count at move h.0 room_for l has),
+    ),
+  )
     where
       all : (d : ℕ) → d < at + 1 → HasLabel labels d
       all d b e = elim (cases_eq d at) [

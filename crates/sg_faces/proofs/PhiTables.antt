@@ -49,7 +49,9 @@ linked_all darts table h = All-from_get_or (λ d. get_or table (rev d) 0 ≡ fol
 module _ (inst : Ising) (good : IsInstance inst) where
   -- the darts of spin i have places in the table
   pub darts_room : (i n : ℕ) → i < inst.n → n ≡ dart_count inst → All (λ d. rev d < n) (darts_of inst i)
-  darts_room i n l e = All-from_get_or (λ d. rev d < n) (darts_of inst i) 0 (λ j b. (let r : rev (get_or (darts_of inst i) j 0) < dart_count inst = rev_below inst (get_or (darts_of inst i) j 0) (in_list inst good i j l b).0 in omega arith))
+  darts_room i n l e = All-from_get_or (λ d. rev d < n) (darts_of inst i) 0
+      (λ j b. (let r : rev (get_or (darts_of inst i) j 0) < dart_count inst = rev_below inst (get_or (darts_of inst i) j 0)
+      (in_list inst good i j l b).0 in omega arith))
 
   -- the list of one spin more is entered
   pub has_phi_more : (i : ℕ) (old now : List ℕ) → i < inst.n → length now ≡ length old → HasPhi inst old i →

@@ -63,15 +63,29 @@ module _ (inst : Ising) (bonds : List Bond) (same : HasSameEnds inst bonds) wher
     pub faces_same : (faces : Labelling) → IsFaceLabels inst faces → IsFaceLabels (with_bonds inst bonds) faces
     faces_same faces h = record {
       lengths = h.lengths ∙ sym darts_same;
-      below = λ d l. (let low : get_or faces.labels d 0 < faces_before inst (dart_count inst) = h.below d (omega (arith, darts_same)) in omega (arith, low, orbits_same));
-      same = λ d e l m. ((λ s. there d e (omega (arith, darts_same)) ((h.same d e (omega (arith, darts_same)) (omega (arith, darts_same))).0 s)), (λ s. back d e (omega (arith, darts_same)) (omega (arith, darts_same)) s));
-      used = λ f l. (let u : (d : ℕ) × (d < dart_count inst) × (get_or faces.labels d 0 ≡ f) = h.used f (omega (arith, l, orbits_same)) in (u.0, omega (arith, u.1, darts_same), u.2));
-      order = λ d l least. h.order d (omega (arith, darts_same)) (sym (least_same d (omega (arith, darts_same))) ∙ least) ∙ sym (before_same d (omega (arith, darts_same)));
+      below = λ d l. (let low : get_or faces.labels d 0 < faces_before inst (dart_count inst) = h.below d (omega (arith, darts_same)) in omega
+          (arith, low, orbits_same));
+      same = λ d e l m. (
+        (λ s. there d e (omega (arith, darts_same)) ((h.same d e (omega (arith, darts_same)) (omega (arith, darts_same))).0 s)),
+        (λ s. back d e (omega (arith, darts_same)) (omega (arith, darts_same)) s),
+      );
+      used = λ f l. (let u : (d : ℕ) × (d < dart_count inst) × (get_or faces.labels d 0 ≡ f) = h.used f (omega (arith, l, orbits_same)) in
+          (u.0, omega (arith, u.1, darts_same), u.2));
+      order = λ d l least. h.order d (omega (arith, darts_same)) (sym (least_same d (omega (arith, darts_same))) ∙ least)
+          ∙ sym (before_same d (omega (arith, darts_same)));
       counts = h.counts ∙ sym count_same;
     }
       where
         there : (d e : ℕ) → d < dart_count inst → SameFace inst d e → SameFace (with_bonds inst bonds) d e
-        there d e l (j, s) = (j, after_steps_same (phi (with_bonds inst bonds)) (phi inst) (dart_count inst) (phi_one_to_one inst good) (λ d _. phi_same d) j d l ∙ s)
+        there d e l (j, s) = (
+          j,
+          after_steps_same (phi (with_bonds inst bonds)) (phi inst) (dart_count inst) (phi_one_to_one inst good)
+              (λ d _. phi_same d) j d l ∙ s,
+        )
 
         back : (d e : ℕ) → d < dart_count inst → e < dart_count inst → SameFace (with_bonds inst bonds) d e → get_or faces.labels d 0 ≡ get_or faces.labels e 0
-        back d e l m (j, s) = (h.same d e l m).1 (j, sym (after_steps_same (phi (with_bonds inst bonds)) (phi inst) (dart_count inst) (phi_one_to_one inst good) (λ d _. phi_same d) j d l) ∙ s)
+        back d e l m (j, s) = (h.same d e l m).1 (
+          j,
+          sym (after_steps_same (phi (with_bonds inst bonds)) (phi inst) (dart_count inst)
+              (phi_one_to_one inst good) (λ d _. phi_same d) j d l) ∙ s,
+        )

@@ -33,7 +33,8 @@ module _ (f g : ℕ → ℕ) (k : ℕ) (one : IsOneToOne g k) (same : (d : ℕ) 
   after_steps_same (suc j) d l = ap f (after_steps_same j d l) ∙ same (after_steps g j d) (steps_in j d l)
 
   pub is_least_same : (d : ℕ) → d < k → is_least_in f k d ≡ is_least_in g k d
-  is_least_same d l = list_all_same (λ j. leb d (after_steps f j d)) (λ j. leb d (after_steps g j d)) (λ j. ap (leb d) (after_steps_same j d l)) (range_with_len 0 k)
+  is_least_same d l = list_all_same (λ j. leb d (after_steps f j d)) (λ j. leb d (after_steps g j d)) (λ j. ap (leb d) (after_steps_same j d l))
+      (range_with_len 0 k)
 
   pub orbits_before_same : (n : ℕ) → n ≤ k → orbits_before f k n ≡ orbits_before g k n
   orbits_before_same n l = sum_by-same (λ d. cond (is_least_in f k d) 1 0) (λ d. cond (is_least_in g k d) 1 0) (range_with_len 0 n) each
@@ -41,8 +42,14 @@ module _ (f g : ℕ → ℕ) (k : ℕ) (one : IsOneToOne g k) (same : (d : ℕ) 
       at_number : (d : ℕ) → d < n → cond {A = ℕ} (is_least_in f k d) 1 0 ≡ cond (is_least_in g k d) 1 0
       at_number d b = ap (λ b. cond {A = ℕ} b 1 0) (is_least_same d (omega arith))
 
-      each : (i x : ℕ) → i < length (range_with_len 0 n) → cond {A = ℕ} (is_least_in f k (get_or (range_with_len 0 n) i x)) 1 0 ≡ cond (is_least_in g k (get_or (range_with_len 0 n) i x)) 1 0
-      each i x b = at_number (get_or (range_with_len 0 n) i x) (omega (arith, length-range_with_len 0 n, get_or-range_with_len 0 n i x (omega (arith, length-range_with_len 0 n))))
+      each : (i x : ℕ) → i < length (range_with_len 0 n) → cond {A = ℕ} (is_least_in f k (get_or (range_with_len 0 n) i x)) 1 0 ≡ cond
+          (is_least_in g k (get_or (range_with_len 0 n) i x)) 1 0
+      each i x b = at_number (get_or (range_with_len 0 n) i x) (omega (
+        arith,
+        length-range_with_len 0 n,
+        get_or-range_with_len 0 n i x
+            (omega (arith, length-range_with_len 0 n)),
+      ))
 
 -- there are no more orbits than places
 pub orbits_few : (table labels : List ℕ) (count : ℕ) → IsOrbitLabels table labels count → count ≤ length table
@@ -51,7 +58,8 @@ orbits_few table labels count h =
 
 -- a label is a face
 pub label_below : (inst : Ising) (faces : Labelling) → IsFaceLabels inst faces → (d : ℕ) → d < dart_count inst → get_or faces.labels d 0 < faces.count
-label_below inst faces labels d l = (let low : get_or faces.labels d 0 < faces_before inst (dart_count inst) = labels.below d l in omega (arith, low, labels.counts))
+label_below inst faces labels d l = (let low : get_or faces.labels d 0 < faces_before inst (dart_count inst) = labels.below d l in omega
+    (arith, low, labels.counts))
 
 module _ (inst : Ising) (good : IsInstance inst) (table : List ℕ) (is : IsPhiTable inst table) where
   at_dart : (d : ℕ) → d < length table → entry table d ≡ phi inst d
@@ -64,18 +72,22 @@ module _ (inst : Ising) (good : IsInstance inst) (table : List ℕ) (is : IsPhiT
   phi_table_moves = one_to_one_same (entry table) (phi inst) (length table) one at_dart
 
   least_same : (d : ℕ) → d < dart_count inst → is_least_of table d ≡ is_least inst d
-  least_same d l = is_least_same (entry table) (phi inst) (length table) one at_dart d (omega (arith, is.lengths)) ∙ ap (λ k. is_least_in (phi inst) k d) is.lengths
+  least_same d l = is_least_same (entry table) (phi inst) (length table) one at_dart d (omega (arith, is.lengths))
+      ∙ ap (λ k. is_least_in (phi inst) k d) is.lengths
 
   counted : (n : ℕ) → n ≤ dart_count inst → least_before table n ≡ faces_before inst n
-  counted n l = orbits_before_same (entry table) (phi inst) (length table) one at_dart n (omega (arith, is.lengths)) ∙ ap (λ k. orbits_before (phi inst) k n) is.lengths
+  counted n l = orbits_before_same (entry table) (phi inst) (length table) one at_dart n (omega (arith, is.lengths))
+      ∙ ap (λ k. orbits_before (phi inst) k n) is.lengths
 
   -- the labels of the orbits, and the spins without a bond counted beside them
-  pub faces_from_orbits : (labels : List ℕ) (orbits count : ℕ) → IsOrbitLabels table labels orbits → count ≡ orbits + bare_count inst → IsFaceLabels inst (record { labels = labels; count = count })
+  pub faces_from_orbits : (labels : List ℕ) (orbits count : ℕ) → IsOrbitLabels table labels orbits → count ≡ orbits + bare_count inst
+      → IsFaceLabels inst (record { labels = labels; count = count })
   faces_from_orbits labels orbits count h counts = record {
     lengths = h.lengths ∙ is.lengths;
     below = λ d l. (let low : get_or labels d 0 < orbits = h.below d (omega (arith, is.lengths)) in omega (arith, low, all));
     same = λ d e l m. ((λ s. there d e l ((h.same d e (omega (arith, is.lengths)) (omega (arith, is.lengths))).0 s)), (λ s. back d e l m s));
-    used = λ f l. (let u : (d : ℕ) × (d < length table) × (get_or labels d 0 ≡ f) = h.used f (omega (arith, l, all)) in (u.0, omega (arith, u.1, is.lengths), u.2));
+    used = λ f l. (let u : (d : ℕ) × (d < length table) × (get_or labels d 0 ≡ f) = h.used f (omega (arith, l, all)) in
+        (u.0, omega (arith, u.1, is.lengths), u.2));
     order = λ d l least. h.order d (omega (arith, is.lengths)) (least_same d l ∙ least) ∙ counted d (omega arith);
     counts = counts ∙ ap (λ f. f + bare_count inst) all;
   }
@@ -87,4 +99,5 @@ module _ (inst : Ising) (good : IsInstance inst) (table : List ℕ) (is : IsPhiT
       there d e l (j, s) = (j, sym (after_steps_same (entry table) (phi inst) (length table) one at_dart j d (omega (arith, is.lengths))) ∙ s)
 
       back : (d e : ℕ) → d < dart_count inst → e < dart_count inst → SameFace inst d e → get_or labels d 0 ≡ get_or labels e 0
-      back d e l m (j, s) = (h.same d e (omega (arith, is.lengths)) (omega (arith, is.lengths))).1 (j, after_steps_same (entry table) (phi inst) (length table) one at_dart j d (omega (arith, is.lengths)) ∙ s)
+      back d e l m (j, s) = (h.same d e (omega (arith, is.lengths)) (omega (arith, is.lengths))).1
+          (j, after_steps_same (entry table) (phi inst) (length table) one at_dart j d (omega (arith, is.lengths)) ∙ s)

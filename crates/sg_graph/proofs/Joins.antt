@@ -36,7 +36,8 @@ module _ (g : Graph) where
   -- how many of the edges end at the node, as a parity
   pub ends_parity : (x : ℕ) (es : List ℕ) → odd (sum_by (ends_at g x) es) ≡ parity_by (λ e. is_end (a_end e) (b_end e) x) es
   ends_parity x [] = refl
-  ends_parity x (e ∷ es) = ap odd (sum_by-cons (ends_at g x) e es) ∙ odd_ends (eqb (a_end e) x) (eqb (b_end e) x) (parity_by (λ e. is_end (a_end e) (b_end e) x) es) (sum_by (ends_at g x) es) (ends_parity x es)
+  ends_parity x (e ∷ es) = ap odd (sum_by-cons (ends_at g x) e es) ∙ odd_ends (eqb (a_end e) x) (eqb (b_end e) x)
+      (parity_by (λ e. is_end (a_end e) (b_end e) x) es) (sum_by (ends_at g x) es) (ends_parity x es)
 
   pub odd_from_cond : (n : ℕ) (b : Bool) → n % 2 ≡ cond b 1 0 → odd n ≡ b
   odd_from_cond n true h = odd_from_mod n h
@@ -59,11 +60,16 @@ module _ (g : Graph) where
         ∙ sym (odd-count_by c.inside terminals)
         ∙ odd_from_mod (count_by c.inside terminals) c.odd in
         let found = some_from_odd (λ e. true && xor (c.inside (a_end e)) (c.inside (b_end e))) es crossing in
-        let here : crosses g c.inside (get_or es found.0 0) ≡ true = found.2 0 in
-        (found.0, found.1, ap (λ xs. holds xs (get_or es found.0 0)) c.is ∙ holds-chosen_below (crosses g c.inside) (edge_count g) (get_or es found.0 0) (join.below found.0 0 found.1) ∙ here)
+        let here : crosses g c.inside (get_or es found.0 0) ≡ true = found.2 0 in (
+          found.0,
+          found.1,
+          ap (λ xs. holds xs (get_or es found.0 0)) c.is
+              ∙ holds-chosen_below (crosses g c.inside) (edge_count g) (get_or es found.0 0) (join.below found.0 0 found.1) ∙ here,
+        )
 
     -- what a join carries of the cuts
-    pub join_carries : (es : List ℕ) (cuts : List Cut) → IsJoin g terminals es → All (λ c. IsOddCut g terminals c.edges) cuts → sum_by cut_weight cuts ≤ sum_by (λ e. cut_load cuts e) es
+    pub join_carries : (es : List ℕ) (cuts : List Cut) → IsJoin g terminals es → All (λ c. IsOddCut g terminals c.edges) cuts
+        → sum_by cut_weight cuts ≤ sum_by (λ e. cut_load cuts e) es
     join_carries es [] join odds = omega arith
     join_carries es (c ∷ cs) join odds =
         let rest : sum_by cut_weight cs ≤ sum_by (λ e. cut_load cs e) es = join_carries es cs join (All-tail (λ c. IsOddCut g terminals c.edges) c cs odds) in
@@ -73,7 +79,8 @@ module _ (g : Graph) where
         let one : own (get_or es met.0 0) ≡ cut_weight c = ap (λ b. cond b (cut_weight c) 0) met.2 in
         omega (arith, sum_by-cons cut_weight c cs, parted es c cs)
       where
-        parted : (es : List ℕ) (c : Cut) (cs : List Cut) → sum_by (λ e. cut_load (c ∷ cs) e) es ≡ sum_by (λ e. cond (holds c.edges e) (cut_weight c) 0) es + sum_by (λ e. cut_load cs e) es
+        parted : (es : List ℕ) (c : Cut) (cs : List Cut) → sum_by (λ e. cut_load (c ∷ cs) e) es ≡ sum_by
+            (λ e. cond (holds c.edges e) (cut_weight c) 0) es + sum_by (λ e. cut_load cs e) es
         parted [] c cs = refl
         parted (e ∷ es) c cs =
             omega (
@@ -97,7 +104,8 @@ module _ (g : Graph) where
         twice (e ∷ es) = omega (arith, twice es, sum_by-cons (λ e. 2 * edge_weight g e) e es, sum_by-cons (edge_weight g) e es)
 
     -- so a join that weighs no more than half of a packing is least
-    pub least_by_cuts : (es : List ℕ) (cuts : List Cut) → IsJoin g terminals es → CutsPack g terminals cuts → 2 * weight_of g es ≤ sum_by cut_weight cuts → IsLeastJoin g terminals es
+    pub least_by_cuts : (es : List ℕ) (cuts : List Cut) → IsJoin g terminals es → CutsPack g terminals cuts
+        → 2 * weight_of g es ≤ sum_by cut_weight cuts → IsLeastJoin g terminals es
     least_by_cuts es cuts join p tight = record {
       join = join;
       least = λ others other. omega (arith, tight, cuts_bound_join others cuts other p);

@@ -27,7 +27,8 @@ Visits-none g node marks found = record {
   total = refl;
 }
 
-module _ (g : Graph) (node : ℕ) (list : List ℕ) (i : ℕ) (old marks : List Bool) (before found : List ℕ) (low : i < length list) (v : Visits g node (take i list) old marks before found) where
+module _ (g : Graph) (node : ℕ) (list : List ℕ) (i : ℕ) (old marks : List Bool) (before found : List ℕ) (low : i < length list)
+    (v : Visits g node (take i list) old marks before found) where
   abbrev pub this : ℕ
   this = get_or list i 0
 
@@ -83,11 +84,14 @@ module _ (g : Graph) (node : ℕ) (list : List ℕ) (i : ℕ) (old marks : List 
       ];
       listed = λ x h. elim (cases_eq x far) [
         | inl e ↦ inr (subst (Contains (found ++ far ∷ [])) (sym e) (Contains-push found far))
-        | inr ne ↦ ⊎_elim (λ (o : is_marked old x ≡ true). inl o) (λ (c : Contains found x). inr (Contains-append_left found (far ∷ []) x c)) (v.listed x (before_that x ne h))
+        | inr ne ↦ ⊎_elim (λ (o : is_marked old x ≡ true). inl o) (λ (c : Contains found x). inr (Contains-append_left found (far ∷ []) x c))
+            (v.listed x (before_that x ne h))
       ];
-      noted = λ h. All-push (λ x. is_marked after x ≡ true) found far (All-weaker (λ x. is_marked marks x ≡ true) (λ x. is_marked after x ≡ true) still found (v.noted h)) at_far;
+      noted = λ h. All-push (λ x. is_marked after x ≡ true) found far (All-weaker (λ x. is_marked marks x ≡ true)
+          (λ x. is_marked after x ≡ true) still found (v.noted h)) at_far;
       spread = All-more (λ e. is_marked after (other_end node (edge_at g e)) ≡ true) list i 0 low
-          (All-weaker (λ e. is_marked marks (other_end node (edge_at g e)) ≡ true) (λ e. is_marked after (other_end node (edge_at g e)) ≡ true) (λ e h. still (other_end node (edge_at g e)) h) (take i list) v.spread) at_far;
+          (All-weaker (λ e. is_marked marks (other_end node (edge_at g e)) ≡ true) (λ e. is_marked after (other_end node (edge_at g e)) ≡ true)
+          (λ e h. still (other_end node (edge_at g e)) h) (take i list) v.spread) at_far;
       total = omega (arith, one_less, length_push found far, v.total);
     }
 
@@ -135,7 +139,9 @@ Explores-first g marks some is = record {
         ]
 
 -- the next node is spread
-pub Explores-more : (g : Graph) (old new : List Bool) (before after : List ℕ) (next node : ℕ) (lists : List (List ℕ)) → AreIncident g lists → next < length before → node ≡ get_or before next 0 → Explores g old before next → Visits g node (list_at lists node) old new before after → Explores g new after (next + 1)
+pub Explores-more : (g : Graph) (old new : List Bool) (before after : List ℕ) (next node : ℕ) (lists : List (List ℕ)) → AreIncident g lists
+    → next < length before → node ≡ get_or before next 0 → Explores g old before next → Visits g node (list_at lists node) old new before after
+    → Explores g new after (next + 1)
 Explores-more g old new before after next node lists incident low is s v = record {
   count = v.count ∙ s.count;
   sound = λ x h. elim (v.sound x h) [
@@ -156,12 +162,19 @@ Explores-more g old new before after next node lists incident low is s v = recor
     at_node = ap (is_marked old) is ∙ s.noted next 0 low
 
     longer : (x : ℕ) → Contains before x → Contains after x
-    longer x c = (c.0, omega (arith, c.1, v.longer), get_or_default after c.0 x 0 (omega (arith, c.1, v.longer)) ∙ v.stays c.0 c.1 ∙ sym (get_or_default before c.0 x 0 c.1) ∙ c.2)
+    longer x c = (
+      c.0,
+      omega (arith, c.1, v.longer),
+      get_or_default after c.0 x 0 (omega (arith, c.1, v.longer)) ∙ v.stays c.0 c.1
+          ∙ sym (get_or_default before c.0 x 0 c.1) ∙ c.2,
+    )
 
     spread_here : (e y : ℕ) → Leads g e node y → is_marked new y ≡ true
     spread_here e y leads =
-        let in_list : holds (list_at lists node) e ≡ true = ap (λ es. holds es e) (incident.each node (omega (arith, marked_low old node at_node, s.count))) ∙ edges_at_leads g node e y leads in
-        let at_e : is_marked new (other_end node (edge_at g e)) ≡ true = All-holds (λ k. is_marked new (other_end node (edge_at g k)) ≡ true) (list_at lists node) e v.spread in_list in
+        let in_list : holds (list_at lists node) e ≡ true = ap (λ es. holds es e)
+        (incident.each node (omega (arith, marked_low old node at_node, s.count))) ∙ edges_at_leads g node e y leads in
+        let at_e : is_marked new (other_end node (edge_at g e)) ≡ true = All-holds (λ k. is_marked new (other_end node (edge_at g k)) ≡ true)
+        (list_at lists node) e v.spread in_list in
         ap (is_marked new) (other_only g e node y leads) ∙ at_e
 
 -- all that were found are spread
@@ -179,20 +192,27 @@ MarksReached-all g marks found next s done = record {
         along es w.0 y (s.spread c.0 e w.0 (omega (arith, c.1)) (subst (λ n. Leads g e n w.0) (sym here) w.1)) w.2
 
 -- one edge more, in the code's terms
-module _ (g : Graph) (node : ℕ) (list : List ℕ) (i other : ℕ) (edges : List Edge) (old marks : List Bool) (before found : List ℕ) (low : i < length list) (same : edges ≡ g.edges) (is : other ≡ other_end node (get_or edges (get_or list i 0) (record { a = 0; b = 0; w = pos 0 }))) (v : Visits g node (take i list) old marks before found) where
+module _ (g : Graph) (node : ℕ) (list : List ℕ) (i other : ℕ) (edges : List Edge) (old marks : List Bool) (before found : List ℕ)
+    (low : i < length list) (same : edges ≡ g.edges) (is : other ≡ other_end node
+    (get_or edges (get_or list i 0) (record { a = 0; b = 0; w = pos 0 }))) (v : Visits g node (take i list) old marks before found) where
   is_far : other ≡ far g node list i old marks before found low v
   is_far = is ∙ ap (λ (es : List Edge). other_end node (get_or es (get_or list i 0) (record { a = 0; b = 0; w = pos 0 }))) same
 
-  pub Visits-more_same : (new : List Bool) (after : List ℕ) → is_marked marks other ≡ true → new ≡ marks → after ≡ found → Visits g node (take (i + 1) list) old new before after
+  pub Visits-more_same : (new : List Bool) (after : List ℕ) → is_marked marks other ≡ true → new ≡ marks → after ≡ found
+      → Visits g node (take (i + 1) list) old new before after
   Visits-more_same new after h m f =
       subst (λ ms. Visits g node (take (i + 1) list) old ms before after) (sym m)
-      (subst (λ fs. Visits g node (take (i + 1) list) old marks before fs) (sym f) (Visits-same g node list i old marks before found low v (ap (is_marked marks) (sym is_far) ∙ h)))
+      (subst (λ fs. Visits g node (take (i + 1) list) old marks before fs) (sym f)
+      (Visits-same g node list i old marks before found low v (ap (is_marked marks) (sym is_far) ∙ h)))
 
-  pub Visits-more_new : (new : List Bool) (after : List ℕ) → EndsAt g node (get_or list i 0) → other < length marks → is_marked marks other ≡ false → new ≡ set marks other true → after ≡ found ++ other ∷ [] → Visits g node (take (i + 1) list) old new before after
+  pub Visits-more_new : (new : List Bool) (after : List ℕ) → EndsAt g node (get_or list i 0) → other < length marks → is_marked marks other ≡ false
+      → new ≡ set marks other true → after ≡ found ++ other ∷ [] → Visits g node (take (i + 1) list) old new before after
   Visits-more_new new after ends in' h m f =
-      let made = Visits-new g node list i old marks before found low v ends (subst (λ n. n < length marks) is_far in') (ap (is_marked marks) (sym is_far) ∙ h) in
+      let made = Visits-new g node list i old marks before found low v ends (subst (λ n. n < length marks) is_far in')
+      (ap (is_marked marks) (sym is_far) ∙ h) in
       subst (λ ms. Visits g node (take (i + 1) list) old ms before after) (sym (m ∙ ap (λ n. set marks n true) is_far))
-      (subst (λ fs. Visits g node (take (i + 1) list) old (set marks (far g node list i old marks before found low v) true) before fs) (sym (f ∙ ap (λ n. found ++ n ∷ []) is_far)) made)
+      (subst (λ fs. Visits g node (take (i + 1) list) old (set marks (far g node list i old marks before found low v) true) before fs)
+      (sym (f ∙ ap (λ n. found ++ n ∷ []) is_far)) made)
 
 -- where all are marked the graph is connected
 pub all_marked : (g : Graph) (marks : List Bool) → MarksReached g marks → ((y : ℕ) → y < g.nodes → is_marked marks y ≡ true) → IsConnected g
@@ -207,6 +227,8 @@ first_unmarked g marks x m low none all = record {
   before = λ y l. (m.right y (omega (arith, l, low))).0 (all y l);
 }
 
-pub other_in : (g : Graph) (node : ℕ) (list : List ℕ) (i other : ℕ) (edges : List Edge) → IsWeb g → edges ≡ g.edges → other ≡ other_end node (get_or edges (get_or list i 0) (record { a = 0; b = 0; w = pos 0 })) → EndsAt g node (get_or list i 0) → other < g.nodes
+pub other_in : (g : Graph) (node : ℕ) (list : List ℕ) (i other : ℕ) (edges : List Edge) → IsWeb g → edges ≡ g.edges
+    → other ≡ other_end node (get_or edges (get_or list i 0) (record { a = 0; b = 0; w = pos 0 })) → EndsAt g node (get_or list i 0) → other < g.nodes
 other_in g node list i other edges web same is ends =
-    subst (λ n. n < g.nodes) (sym (is ∙ ap (λ (es : List Edge). other_end node (get_or es (get_or list i 0) (record { a = 0; b = 0; w = pos 0 }))) same)) (other_low g (get_or list i 0) node web ends.0)
+    subst (λ n. n < g.nodes) (sym (is ∙ ap (λ (es : List Edge). other_end node (get_or es (get_or list i 0) (record { a = 0; b = 0; w = pos 0 })))
+    same)) (other_low g (get_or list i 0) node web ends.0)

@@ -12,7 +12,8 @@ module _ (g : Graph) (t : Routes) (is : IsTableOf g t) where
   pub distance_is : (x : ℕ) → x < g.nodes → is_reached t x ≡ true → IsDistance g t.source x (length_to t x)
   distance_is x l h = by_route (route_at t x) (is.distances x l) h
     where
-      by_route : (r : Option Route) → MatchOption r (IsReached g t.source x → ⊥) (λ q. (d : ℕ) × (q.distance ≡ pos d) × IsDistance g t.source x d) → is_some r ≡ true → IsDistance g t.source x (unsigned_abs (option_map_or (λ (q : Route). q.distance) r (pos 0)))
+      by_route : (r : Option Route) → MatchOption r (IsReached g t.source x → ⊥) (λ q. (d : ℕ) × (q.distance ≡ pos d) × IsDistance g t.source x d)
+          → is_some r ≡ true → IsDistance g t.source x (unsigned_abs (option_map_or (λ (q : Route). q.distance) r (pos 0)))
       by_route None m e = absurd (false≢true e)
       by_route (Some q) m e = subst (IsDistance g t.source x) (sym (ap unsigned_abs m.1)) m.2
 
@@ -20,7 +21,8 @@ module _ (g : Graph) (t : Routes) (is : IsTableOf g t) where
   pub distance_signed : (x : ℕ) → x < g.nodes → is_reached t x ≡ true → distance_at t x ≡ pos (length_to t x)
   distance_signed x l h = by_route (route_at t x) (is.distances x l) h
     where
-      by_route : (r : Option Route) → MatchOption r (IsReached g t.source x → ⊥) (λ q. (d : ℕ) × (q.distance ≡ pos d) × IsDistance g t.source x d) → is_some r ≡ true → option_map_or (λ (q : Route). q.distance) r (pos 0) ≡ pos (unsigned_abs (option_map_or (λ (q : Route). q.distance) r (pos 0)))
+      by_route : (r : Option Route) → MatchOption r (IsReached g t.source x → ⊥) (λ q. (d : ℕ) × (q.distance ≡ pos d) × IsDistance g t.source x d)
+          → is_some r ≡ true → option_map_or (λ (q : Route). q.distance) r (pos 0) ≡ pos (unsigned_abs (option_map_or (λ (q : Route). q.distance) r (pos 0)))
       by_route None m e = absurd (false≢true e)
       by_route (Some q) m e = m.1 ∙ sym (ap (λ (z : ℤ). pos (unsigned_abs z)) m.1)
 
@@ -28,7 +30,8 @@ module _ (g : Graph) (t : Routes) (is : IsTableOf g t) where
   pub reached_if : (x : ℕ) → x < g.nodes → IsReached g t.source x → is_reached t x ≡ true
   reached_if x l way = by_route (route_at t x) (is.distances x l)
     where
-      by_route : (r : Option Route) → MatchOption r (IsReached g t.source x → ⊥) (λ q. (d : ℕ) × (q.distance ≡ pos d) × IsDistance g t.source x d) → is_some r ≡ true
+      by_route : (r : Option Route) → MatchOption r (IsReached g t.source x → ⊥) (λ q. (d : ℕ) × (q.distance ≡ pos d) × IsDistance g t.source x d)
+          → is_some r ≡ true
       by_route None m = absurd (m way)
       by_route (Some q) m = refl
 
@@ -41,5 +44,6 @@ connected_reached g c x y p q =
     (back.0 ++ on.0, walk-append g back.0 on.0 x 0 y back.1 on.1)
 
 -- so a table of a connected graph reaches every node, at its distance
-pub connected_distance : (g : Graph) (t : Routes) → IsTableOf g t → IsConnected g → t.source < g.nodes → (x : ℕ) → x < g.nodes → IsDistance g t.source x (length_to t x)
+pub connected_distance : (g : Graph) (t : Routes) → IsTableOf g t → IsConnected g → t.source < g.nodes → (x : ℕ) → x < g.nodes
+    → IsDistance g t.source x (length_to t x)
 connected_distance g t is c low x l = distance_is g t is x l (reached_if g t is x l (connected_reached g c t.source x low l))

@@ -25,8 +25,12 @@ module _ (g : Graph) where
   pub walk-back : (es : List ℕ) (x y : ℕ) → IsWalk g x es y → (fs : List ℕ) × IsWalk g y fs x × (weight_of g fs ≡ weight_of g es)
   walk-back [] x y w = ([], sym w, refl)
   walk-back (e ∷ es) x y w =
-      let r : (fs : List ℕ) × IsWalk g y fs w.0 × (weight_of g fs ≡ weight_of g es) = walk-back es w.0 y w.2 in
-      (r.0 ++ e ∷ [], walk-append r.0 (e ∷ []) y w.0 x r.1 (walk-one e w.0 x (turned e x w.0 w.1)), omega (arith, r.2, sum_by-append (edge_weight g) r.0 (e ∷ []), sum_by-cons (edge_weight g) e es))
+      let r : (fs : List ℕ) × IsWalk g y fs w.0 × (weight_of g fs ≡ weight_of g es) = walk-back es w.0 y w.2 in (
+        r.0 ++ e ∷ [],
+        walk-append r.0 (e ∷ []) y w.0 x r.1 (walk-one e w.0 x (turned e x w.0 w.1)),
+        omega
+            (arith, r.2, sum_by-append (edge_weight g) r.0 (e ∷ []), sum_by-cons (edge_weight g) e es),
+      )
 
   pub distance-itself : (x d : ℕ) → IsDistance g x x d → d ≡ 0
   distance-itself x d h = omega (arith, h.least [] refl)
@@ -35,11 +39,25 @@ module _ (g : Graph) where
   pub distance-joined : (t u x d p q : ℕ) → IsDistance g t u d → IsDistance g t x p → IsDistance g u x q → d ≤ p + q
   distance-joined t u x d p q h a b =
       let r = walk-back b.reached.0 u x b.reached.1 in
-      omega (arith, h.least (a.reached.0 ++ r.0) (walk-append a.reached.0 r.0 t x u a.reached.1 r.1), sum_by-append (edge_weight g) a.reached.0 r.0, a.reached.2, b.reached.2, r.2)
+      omega (
+        arith,
+        h.least (a.reached.0 ++ r.0) (walk-append a.reached.0 r.0 t x u a.reached.1 r.1),
+        sum_by-append
+            (edge_weight g) a.reached.0 r.0,
+        a.reached.2,
+        b.reached.2,
+        r.2,
+      )
 
   pub distance-edge : (t x y e p q : ℕ) → Leads g e x y → IsDistance g t x p → IsDistance g t y q → q ≤ p + edge_weight g e
   distance-edge t x y e p q l a b =
-      omega (arith, b.least (a.reached.0 ++ e ∷ []) (walk-append a.reached.0 (e ∷ []) t x y a.reached.1 (walk-one e x y l)), sum_by-append (edge_weight g) a.reached.0 (e ∷ []), a.reached.2)
+      omega (
+        arith,
+        b.least (a.reached.0 ++ e ∷ []) (walk-append a.reached.0 (e ∷ []) t x y a.reached.1 (walk-one e x y l)),
+        sum_by-append
+            (edge_weight g) a.reached.0 (e ∷ []),
+        a.reached.2,
+      )
 
   pub distance-over : (t u x y e d p q : ℕ) → Leads g e x y → IsDistance g t u d → IsDistance g t x p → IsDistance g u y q → d ≤ p + edge_weight g e + q
   distance-over t u x y e d p q l h a b =
@@ -58,7 +76,8 @@ module _ (g : Graph) where
   pub leads_other : (e x : ℕ) → EndsAt g x e → Leads g e x (other_end x (edge_at g e))
   leads_other e x h = record { below = h.0; ways = ways (edge_at g e) (eqb (edge_at g e).a x) refl h.1 }
     where
-      ways : (edge : Edge) (b : Bool) → eqb edge.a x ≡ b → (edge.a ≡ x) ⊎ (edge.b ≡ x) → ((edge.a ≡ x) × (edge.b ≡ cond b edge.b edge.a)) ⊎ ((edge.a ≡ cond b edge.b edge.a) × (edge.b ≡ x))
+      ways : (edge : Edge) (b : Bool) → eqb edge.a x ≡ b → (edge.a ≡ x) ⊎ (edge.b ≡ x)
+          → ((edge.a ≡ x) × (edge.b ≡ cond b edge.b edge.a)) ⊎ ((edge.a ≡ cond b edge.b edge.a) × (edge.b ≡ x))
       ways edge true is ends = inl (eqb-true edge.a x is, refl)
       ways edge false is ends = inr (refl, elim ends [ inl a ↦ absurd (true≢false (sym (eq-eqb edge.a x a) ∙ is)) | inr b ↦ b ])
 
@@ -82,6 +101,7 @@ module _ (g : Graph) where
       let edge = web.joined e (record { a = 0; b = 0; w = pos 0 }) l.below in
       by_ways (edge_at g e) edge.first_end edge.second_end l.ways
     where
-      by_ways : (edge : Edge) → edge.a < g.nodes → edge.b < g.nodes → ((edge.a ≡ x) × (edge.b ≡ y)) ⊎ ((edge.a ≡ y) × (edge.b ≡ x)) → (x < g.nodes) × (y < g.nodes)
+      by_ways : (edge : Edge) → edge.a < g.nodes → edge.b < g.nodes → ((edge.a ≡ x) × (edge.b ≡ y)) ⊎ ((edge.a ≡ y) × (edge.b ≡ x))
+          → (x < g.nodes) × (y < g.nodes)
       by_ways edge p q (inl w) = (omega (arith, p, w.0), omega (arith, q, w.1))
       by_ways edge p q (inr w) = (omega (arith, q, w.1), omega (arith, p, w.0))

@@ -30,5 +30,6 @@ weight-fault terms bytes text x gives bad = AtWeight text gives bad
 
 pub reach-fault : (terms : Bool) (bytes : List ℕ) (text : GraphText) (g : Graph) (e : Fault) → GivesAlone terms bytes text → g ≡ graph_in text
     → total_weight g ≤ sum_limit → IsUnjoinedFault g e → IsNetworkFault terms bytes e
-reach-fault terms bytes text g (Refused x) gives same light bad = AtReach text gives (subst (λ (h : Graph). total_weight h ≤ sum_limit) same light) (subst (λ (h : Graph). IsUnjoined h x) same bad)
+reach-fault terms bytes text g (Refused x) gives same light bad = AtReach text gives (subst (λ (h : Graph). total_weight h ≤ sum_limit) same light)
+    (subst (λ (h : Graph). IsUnjoined h x) same bad)
 reach-fault terms bytes text g NoMemory gives same light bad = tt

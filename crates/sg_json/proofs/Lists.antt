@@ -51,7 +51,8 @@ misfit-none what ds h = find_range-none (λ i. not (fits what (item_at ds i))) 0
 pub misfit-some : (what : Entry) (ds : List Data) (k : ℕ) → k < length ds → ((i : ℕ) → i < k → fits what (item_at ds i) ≡ true)
     → fits what (item_at ds k) ≡ false → misfit what ds ≡ Some k
 misfit-some what ds k inside earlier bad =
-    find_range-some (λ i. not (fits what (item_at ds i))) 0 (length ds) k (omega arith) (omega arith) (λ i low high. not_from_true _ (earlier i high)) (not_from_false _ bad)
+    find_range-some (λ i. not (fits what (item_at ds i))) 0 (length ds) k (omega arith) (omega arith)
+    (λ i low high. not_from_true _ (earlier i high)) (not_from_false _ bad)
 
 -- the first bond between a spin and itself
 pub self-some : (bonds : List Bond) (k : ℕ) → k < length bonds → ((i : ℕ) → i < k → is_self (bond_at bonds i) ≡ false)
@@ -89,7 +90,8 @@ true-from_not false h = sym h
 pub entries-fit : (place : ℕ) (what : Entry) (ds : List Data) (k : ℕ) → entries_fault place what ds ≡ None → k < length ds
     → fits what (item_at ds k) ≡ true
 entries-fit place what ds k none inside =
-    true-from_not (fits what (item_at ds k)) (find_range-all (λ i. not (fits what (item_at ds i))) 0 (length ds) k (none-mapped _ _ none) (omega arith) (omega arith))
+    true-from_not (fits what (item_at ds k)) (find_range-all (λ i. not (fits what (item_at ds i))) 0 (length ds) k (none-mapped _ _ none)
+    (omega arith) (omega arith))
 
 -- the size of each number fits
 kept : (b : Bool) (z y : ℤ) → cond b (Some z) None ≡ Some y → (b ≡ true) × (z ≡ y)
@@ -122,4 +124,5 @@ number-small d = of_integer (option_and_then as_i64 (as_number d))
     of_integer (Some z) = of_kept (in_range z) (λ y e. in_range-small z y e)
 
 pub numbers-small : (ds : List Data) → All (λ j. unsigned_abs j < 2 ^ 63) (map number_of ds)
-numbers-small ds = All-map (λ j. unsigned_abs j < 2 ^ 63) number_of ds (All-from_get_or (λ (d : Data). unsigned_abs (number_of d) < 2 ^ 63) ds null (λ i inside. number-small (get_or ds i null)))
+numbers-small ds = All-map (λ j. unsigned_abs j < 2 ^ 63) number_of ds
+    (All-from_get_or (λ (d : Data). unsigned_abs (number_of d) < 2 ^ 63) ds null (λ i inside. number-small (get_or ds i null)))

@@ -94,10 +94,13 @@ module _ (kind : Kind) (R C : ℕ) (size : IsSize kind R C) where
         length-map-range_with_len (λ i. coupled_bond (ends_at (ends_of kind R C) i) (get_or js i (pos 0))) 0 (length (ends_of kind R C)) ∙ length-ends_of
 
     -- the bonds of each step, by their numbers
-    pub step_laid : (step : Step) → IsLaid (lattice kind R C js) R C (step_base kind step R C) (step_total kind step R C) (has_bond kind step R C) (bond_number kind step R C) (end_row step) (end_col kind step C)
+    pub step_laid : (step : Step) → IsLaid (lattice kind R C js) R C (step_base kind step R C) (step_total kind step R C) (has_bond kind step R C)
+        (bond_number kind step R C) (end_row step) (end_col kind step C)
     step_laid step =
-        subst (λ t. IsLaid (lattice kind R C js) R C (step_base kind step R C) t (has_bond kind step R C) (bond_number kind step R C) (end_row step) (end_col kind step C)) (length-starts step)
-        (laid (lattice kind R C js) (ends_of kind R C) R C (step_base kind step R C) (has_bond kind step R C) (bond_number kind step R C) (end_row step) (end_col kind step C)
+        subst (λ t. IsLaid (lattice kind R C js) R C (step_base kind step R C) t (has_bond kind step R C) (bond_number kind step R C) (end_row step)
+        (end_col kind step C)) (length-starts step)
+        (laid (lattice kind R C js) (ends_of kind R C) R C (step_base kind step R C) (has_bond kind step R C) (bond_number kind step R C)
+        (end_row step) (end_col kind step C)
         (ends_from kind step R C) ends_from_is (some_cols kind R C size) (before kind step R C) (counts kind step R C size) (number_is kind step R C)
         (listed step) read (room step))
       where

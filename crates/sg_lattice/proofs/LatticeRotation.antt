@@ -51,12 +51,14 @@ count_six d a b e f g h =
 
 -- three blocks of darts make up all of them
 three_blocks : (d a b c m : ℕ) (t : Bool) → a + b + c ≡ m
-    → cond {A = ℕ} (in_block 0 a d && t) 1 0 + (cond {A = ℕ} (in_block a b d && t) 1 0 + cond {A = ℕ} (in_block (a + b) c d && t) 1 0) ≡ cond {A = ℕ} (ltb d (2 * m) && t) 1 0
+    → cond {A = ℕ} (in_block 0 a d && t) 1 0 + (cond {A = ℕ} (in_block a b d && t) 1 0 + cond {A = ℕ} (in_block (a + b) c d && t) 1 0) ≡ cond {A = ℕ}
+    (ltb d (2 * m) && t) 1 0
 three_blocks d a b c m t sum = by_case (cases_lt d (2 * a)) (cases_lt d (2 * (a + b))) (cases_lt d (2 * m))
   where
     joined : (x y z w : Bool) → in_block 0 a d ≡ x → in_block a b d ≡ y → in_block (a + b) c d ≡ z → ltb d (2 * m) ≡ w
         → cond {A = ℕ} (x && t) 1 0 + (cond {A = ℕ} (y && t) 1 0 + cond {A = ℕ} (z && t) 1 0) ≡ cond {A = ℕ} (w && t) 1 0
-        → cond {A = ℕ} (in_block 0 a d && t) 1 0 + (cond {A = ℕ} (in_block a b d && t) 1 0 + cond {A = ℕ} (in_block (a + b) c d && t) 1 0) ≡ cond {A = ℕ} (ltb d (2 * m) && t) 1 0
+        → cond {A = ℕ} (in_block 0 a d && t) 1 0 + (cond {A = ℕ} (in_block a b d && t) 1 0 + cond {A = ℕ} (in_block (a + b) c d && t) 1 0) ≡
+        cond {A = ℕ} (ltb d (2 * m) && t) 1 0
     joined x y z w p q r s h =
         let p' = ap (λ v. cond {A = ℕ} (v && t) 1 0) p in
         let q' = ap (λ v. cond {A = ℕ} (v && t) 1 0) q in
@@ -65,7 +67,8 @@ three_blocks d a b c m t sum = by_case (cases_lt d (2 * a)) (cases_lt d (2 * (a 
         omega arith
 
     by_case : (d < 2 * a) ⊎ (2 * a ≤ d) → (d < 2 * (a + b)) ⊎ (2 * (a + b) ≤ d) → (d < 2 * m) ⊎ (2 * m ≤ d)
-        → cond {A = ℕ} (in_block 0 a d && t) 1 0 + (cond {A = ℕ} (in_block a b d && t) 1 0 + cond {A = ℕ} (in_block (a + b) c d && t) 1 0) ≡ cond {A = ℕ} (ltb d (2 * m) && t) 1 0
+        → cond {A = ℕ} (in_block 0 a d && t) 1 0 + (cond {A = ℕ} (in_block a b d && t) 1 0 + cond {A = ℕ} (in_block (a + b) c d && t) 1 0) ≡
+        cond {A = ℕ} (ltb d (2 * m) && t) 1 0
     by_case (inl p) q r =
         joined true false false true (in_block-yes 0 a d (omega arith) (omega arith)) (in_block-before a b d p)
         (in_block-before (a + b) c d (omega arith)) (lt-ltb d (2 * m) (omega arith)) (omega arith)

@@ -115,7 +115,14 @@ half_rows_few R C some = omega (arith, mul-le ((R - 1) / 2) C R C (omega arith) 
 pub few_bonds : (kind : Kind) (R C : ℕ) → IsSize kind R C → bond_total kind R C ≤ 2 ^ 22
 few_bonds Square R C size = omega (arith, size.few, mul-le R (C - 1) R C (omega arith) (omega arith), mul-le (R - 1) C R C (omega arith) (omega arith))
 few_bonds Triangular R C size =
-    omega (arith, size.few, mul-le R (C - 1) R C (omega arith) (omega arith), mul-le (R - 1) C R C (omega arith) (omega arith), mul-le (R - 1) (C - 1) R C (omega arith) (omega arith))
+    omega (
+      arith,
+      size.few,
+      mul-le R (C - 1) R C (omega arith) (omega arith),
+      mul-le (R - 1) C R C (omega arith) (omega arith),
+      mul-le (R - 1)
+          (C - 1) R C (omega arith) (omega arith),
+    )
 few_bonds Hexagonal R C size =
     omega (arith, size.few, few_cols Hexagonal R C size, mul-le R (C - 1) R C (omega arith) (omega arith), half_rows_few R C size.rows)
 few_bonds Cylinder R C size = omega (arith, size.few, mul-le (R - 1) C R C (omega arith) (omega arith))

@@ -31,7 +31,8 @@ position_at xs once i l =
     (λ _. eq-eqb (get_or xs i 0) (get_or xs i 0) refl)
   where
     twice : (k : ℕ) → k < i → get_or xs k 0 ≡ get_or xs i 0 → ⊥
-    twice k b e = let h : 2 ≤ count_by (λ y. eqb y (get_or xs i 0)) xs = two_places (get_or xs i 0) xs k i b l e refl in let o : count_by (λ y. eqb y (get_or xs i 0)) xs ≤ 1 = once (get_or xs i 0) in omega arith
+    twice k b e = let h : 2 ≤ count_by (λ y. eqb y (get_or xs i 0)) xs = two_places (get_or xs i 0) xs k i b l e refl in let o : count_by
+        (λ y. eqb y (get_or xs i 0)) xs ≤ 1 = once (get_or xs i 0) in omega arith
 
 -- equal entries stand at one place
 pub same_place : (xs : List ℕ) → IsDistinct xs → (i j : ℕ) → i < length xs → j < length xs → get_or xs i 0 ≡ get_or xs j 0 → i ≡ j
@@ -68,7 +69,8 @@ pub following_apart : (xs : List ℕ) → IsDistinct xs → (j k : ℕ) → j < 
     following xs (get_or xs j 0) ≡ following xs (get_or xs k 0) → j ≡ k
 following_apart xs once j k b c e =
     same_turn j k (length xs) b c
-    (same_place xs once ((j + 1) % length xs) ((k + 1) % length xs) (mod-lt (j + 1) (omega arith)) (mod-lt (k + 1) (omega arith)) (sym (following_at xs once j b) ∙ e ∙ following_at xs once k c))
+    (same_place xs once ((j + 1) % length xs) ((k + 1) % length xs) (mod-lt (j + 1) (omega arith)) (mod-lt (k + 1) (omega arith))
+    (sym (following_at xs once j b) ∙ e ∙ following_at xs once k c))
 
 -- a number that is counted stands somewhere
 pub place_from_count : (x : ℕ) (xs : List ℕ) → 1 ≤ count_by (λ y. eqb y x) xs → (i : ℕ) × (i < length xs) × (get_or xs i 0 ≡ x)

@@ -96,7 +96,8 @@ module _ (inst : Ising) (leasts : List ℕ) (are : AreLeasts inst leasts) where
     | inl none ↦ omega (arith, none)
     | inr some ↦
         let last : length leasts - 1 < length leasts = omega (arith, some) in
-        let low : get_or leasts (length leasts - 1) 0 < inst.n = ((are.each (get_or leasts (length leasts - 1) 0)).0 (holds_at leasts (length leasts - 1) last)).0 in
+        let low : get_or leasts (length leasts - 1) 0 < inst.n = ((are.each (get_or leasts (length leasts - 1) 0)).0
+        (holds_at leasts (length leasts - 1) last)).0 in
         omega (arith, above_place (length leasts - 1) last, low)
   ]
     where

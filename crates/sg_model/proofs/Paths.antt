@@ -90,5 +90,19 @@ module _ (inst : Ising) where
 
       by_ends : HasEnds inst j.bond a b ⊎ HasEnds inst j.bond b a →
           (d : ℕ) × (d < dart_count inst) × (tail inst d ≡ a) × (head_of inst d ≡ b) × (bonds (d / 2) ≡ true)
-      by_ends (inl (p, q)) = (2 * j.bond, omega (arith, below), tail_first inst j.bond ∙ p, ap (tail inst) (rev_first j.bond) ∙ tail_second inst j.bond ∙ q, ap bonds (first_half j.bond) ∙ j.in_set)
-      by_ends (inr (p, q)) = (2 * j.bond + 1, omega (arith, below), tail_second inst j.bond ∙ q, ap (tail inst) (rev_second j.bond) ∙ tail_first inst j.bond ∙ p, ap bonds (second_half j.bond) ∙ j.in_set)
+      by_ends (inl (p, q)) = (
+        2 * j.bond,
+        omega (arith, below),
+        tail_first inst j.bond ∙ p,
+        ap (tail inst) (rev_first j.bond)
+            ∙ tail_second inst j.bond ∙ q,
+        ap bonds (first_half j.bond) ∙ j.in_set,
+      )
+      by_ends (inr (p, q)) = (
+        2 * j.bond + 1,
+        omega (arith, below),
+        tail_second inst j.bond ∙ q,
+        ap (tail inst) (rev_second j.bond)
+            ∙ tail_first inst j.bond ∙ p,
+        ap bonds (second_half j.bond) ∙ j.in_set,
+      )

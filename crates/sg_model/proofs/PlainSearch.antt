@@ -18,8 +18,12 @@ up-reaches [] n count some h up = absurd (omega arith)
 up-reaches (x ∷ xs) n count some h up =
     let rest : (code : ℕ) × (code < 2 ^ length xs) × (coded (length xs) code ≡ xs) = coded-reaches xs (All-tail IsUpOrDown x xs h) in
     let less : length xs ≡ n - 1 = omega arith in
-    let whole : suc (length xs) ≡ n = count in
-    (rest.0, subst (λ k. rest.0 < 2 ^ k) less rest.1, ap (λ k. coded k (2 * rest.0)) (sym whole) ∙ coded-even (length xs) rest.0 ∙ same_cons (pos 1) x _ xs (sym up) rest.2)
+    let whole : suc (length xs) ≡ n = count in (
+      rest.0,
+      subst (λ k. rest.0 < 2 ^ k) less rest.1,
+      ap (λ k. coded k (2 * rest.0)) (sym whole) ∙ coded-even (length xs) rest.0
+          ∙ same_cons (pos 1) x _ xs (sym up) rest.2,
+    )
 
 abbrev pub BeatsHalves : Ising → ℤ → Type 0
 BeatsHalves inst e = (half : ℕ) → half < 2 ^ (inst.n - 1) → e ≤ℤ energy inst (coded inst.n (2 * half))

@@ -50,7 +50,8 @@ module _ (inst : Ising) where
           f (get_or (map (flipped_at inst) (range_with_len 0 (bond_count inst))) k no_bond) ≡ f (bond_at inst k)
       ends f e k = elim (cases_lt k (bond_count inst)) [
         | inl l ↦ ap f (at k l) ∙ kept f e (holds inst.seam k) (bond_at inst k)
-        | inr past ↦ ap f (get_or_past (map (flipped_at inst) (range_with_len 0 (bond_count inst))) k no_bond (omega (arith, long)) ∙ sym (get_or_past inst.bonds k no_bond past))
+        | inr past ↦ ap f (get_or_past (map (flipped_at inst) (range_with_len 0 (bond_count inst))) k no_bond (omega (arith, long))
+            ∙ sym (get_or_past inst.bonds k no_bond past))
       ]
 
       sized : (t : Bool) (b : Bond) → unsigned_abs b.j < 2 ^ 63 → unsigned_abs (cond t (opposite b) b).j < 2 ^ 63

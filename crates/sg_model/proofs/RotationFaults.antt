@@ -26,7 +26,8 @@ module _ (inst : Ising) (marked : List Bool) (stop : ℕ) (marks : MarksSpins in
     in_place = marks.in_place spin u.before;
     missing = and_from (is_dart_of inst spin dart) (not (holds (darts_of inst spin) dart)) u.is_dart
         (not_from_false (holds (darts_of inst spin) dart) (sym (marks.marks spin u.before dart u.is_dart) ∙ u.unmarked));
-    least = λ e l. none (is_dart_of inst spin e) (holds (darts_of inst spin) e) (λ (h : is_dart_of inst spin e ≡ true). sym (marks.marks spin u.before e h) ∙ u.least e l h);
+    least = λ e l. none (is_dart_of inst spin e) (holds (darts_of inst spin) e)
+        (λ (h : is_dart_of inst spin e ≡ true). sym (marks.marks spin u.before e h) ∙ u.least e l h);
   }
     where
       none : (a h : Bool) → (a ≡ true → h ≡ true) → (a && not h) ≡ false

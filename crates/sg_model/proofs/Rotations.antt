@@ -88,7 +88,8 @@ module _ (inst : Ising) (good : IsInstance inst) where
           ((k : ℕ) × (k < length (darts_of inst i)) × (get_or (darts_of inst i) k 0 ≡ b)) → tail inst a ≡ i → a ≡ b
       at_spin i l (j, jl, ja) (k, kl, kb) t =
           let same : j ≡ k = following_apart (darts_of inst i) (spin_distinct i l) j k jl kl
-          (ap (following (darts_of inst i)) ja ∙ ap (λ s. following (darts_of inst s) a) (sym t) ∙ sym (next_is a) ∙ e ∙ next_is b ∙ ap (λ s. following (darts_of inst s) b) (sym tails ∙ t) ∙ ap (following (darts_of inst i)) (sym kb)) in
+          (ap (following (darts_of inst i)) ja ∙ ap (λ s. following (darts_of inst s) a) (sym t) ∙ sym (next_is a) ∙ e ∙ next_is b
+          ∙ ap (λ s. following (darts_of inst s) b) (sym tails ∙ t) ∙ ap (following (darts_of inst i)) (sym kb)) in
           sym ja ∙ ap (λ x. get_or (darts_of inst i) x 0) same ∙ kb
 
   pub head_below : (d : ℕ) → d < dart_count inst → head_of inst d < inst.n

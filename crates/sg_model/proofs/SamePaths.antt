@@ -35,10 +35,14 @@ ends_back inst bonds same good = record {
   sizes = λ k d l. (good.draft.joined k d l).size;
 }
 
-pub leasts_same : (inst : Ising) (bonds : List Bond) → HasSameEnds inst bonds → IsInstance inst → (leasts : List ℕ) → AreLeasts inst leasts → AreLeasts (with_bonds inst bonds) leasts
+pub leasts_same : (inst : Ising) (bonds : List Bond) → HasSameEnds inst bonds → IsInstance inst → (leasts : List ℕ) → AreLeasts inst leasts
+    → AreLeasts (with_bonds inst bonds) leasts
 leasts_same inst bonds same good leasts h = record {
   rising = h.rising;
-  each = λ i. ((λ held. let p : (i < inst.n) × IsLeastReached inst i = (h.each i).0 held in (p.0, λ j r. p.1 j (back i j r))), (λ p. (h.each i).1 (p.0, λ j r. p.1 j (reached_same inst bonds same all_bonds i j r))));
+  each = λ i. (
+    (λ held. let p : (i < inst.n) × IsLeastReached inst i = (h.each i).0 held in (p.0, λ j r. p.1 j (back i j r))),
+    (λ p. (h.each i).1 (p.0, λ j r. p.1 j (reached_same inst bonds same all_bonds i j r))),
+  );
 }
   where
     back : (a b : ℕ) → Reached (with_bonds inst bonds) all_bonds a b → Reached inst all_bonds a b

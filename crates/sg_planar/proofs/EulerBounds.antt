@@ -40,7 +40,8 @@ module _ (inst : Ising) (good : IsInstance inst) (connected : IsConnected inst) 
       with_bond some (face, numbers) =
           let first : face 0 < faces_before inst (dart_count inst) = numbers.below 0 (omega arith) in
           euler_bound_embedding inst.n (bond_count inst) (faces_before inst (dart_count inst)) (tail inst) (next inst) face
-          (numbered_embedding inst good face (faces_before inst (dart_count inst)) numbers) good.draft.has_spin (spins_connected inst good connected) (omega arith)
+          (numbered_embedding inst good face (faces_before inst (dart_count inst)) numbers) good.draft.has_spin (spins_connected inst good connected)
+          (omega arith)
 
   module _ (faces : Labelling) (labels : IsFaceLabels inst faces) where
     pub euler_bound : inst.n + faces.count ≤ bond_count inst + 2

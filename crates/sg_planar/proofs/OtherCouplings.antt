@@ -26,7 +26,8 @@ no_bond = record { u = 0; v = 0; j = pos 0 }
 abbrev size : Bond → ℕ
 size b = unsigned_abs b.j
 
-pub planar_recoupled : (p : Embedding) (bonds : List Bond) → IsPlanar p → HasSameEnds p.instance bonds → weight (with_bonds p.instance bonds) ≤ forced_limit → IsPlanar (record { instance = with_bonds p.instance bonds; faces = p.faces })
+pub planar_recoupled : (p : Embedding) (bonds : List Bond) → IsPlanar p → HasSameEnds p.instance bonds
+    → weight (with_bonds p.instance bonds) ≤ forced_limit → IsPlanar (record { instance = with_bonds p.instance bonds; faces = p.faces })
 planar_recoupled p bonds h same small = record {
   instance = recoupled_instance p.instance bonds same h.instance;
   faces = faces_same p.instance bonds same h.instance p.faces h.faces;
@@ -53,11 +54,13 @@ weight_flipped inst =
     at_bond false b = refl
 
     each : (k : ℕ) → k < bond_count inst → size (get_or (map (flipped_at inst) (range_with_len 0 (bond_count inst))) k no_bond) ≡ size (bond_at inst k)
-    each k l = ap size (get_or-map-range_with_len (flipped_at inst) 0 (bond_count inst) k k no_bond l (omega arith)) ∙ at_bond (holds inst.seam k) (bond_at inst k)
+    each k l = ap size (get_or-map-range_with_len (flipped_at inst) 0 (bond_count inst) k k no_bond l (omega arith))
+        ∙ at_bond (holds inst.seam k) (bond_at inst k)
 
 pub planar_flipped : (p : Embedding) → IsPlanar p → IsPlanar (record { instance = with_seam_flipped p.instance; faces = p.faces })
 planar_flipped p h =
-    planar_recoupled p (with_seam_flipped p.instance).bonds h (flipped_ends p.instance h.instance.draft.joined) (omega (arith, weight_flipped p.instance, h.sum))
+    planar_recoupled p (with_seam_flipped p.instance).bonds h (flipped_ends p.instance h.instance.draft.joined)
+    (omega (arith, weight_flipped p.instance, h.sum))
 
 weight_negated : (inst : Ising) → weight (negated inst) ≡ weight inst
 weight_negated inst = sum_by-map_of size opposite inst.bonds ∙ sum_by-agree (λ b. size (opposite b)) size inst.bonds size_opposite
@@ -67,7 +70,8 @@ planar_negated p h =
     planar_recoupled p (map opposite p.instance.bonds) h (negated_ends p.instance h.instance.draft.joined) (omega (arith, weight_negated p.instance, h.sum))
 
 -- the new coupling comes into the sum in place of the old
-pub weight_coupled : (inst : Ising) (bond : ℕ) (z : ℤ) → bond < bond_count inst → weight (with_coupling inst bond z) + unsigned_abs (bond_at inst bond).j ≡ weight inst + unsigned_abs z
+pub weight_coupled : (inst : Ising) (bond : ℕ) (z : ℤ) → bond < bond_count inst
+    → weight (with_coupling inst bond z) + unsigned_abs (bond_at inst bond).j ≡ weight inst + unsigned_abs z
 weight_coupled inst bond z l = sum_by-set size inst.bonds bond (recoupled (bond_at inst bond) z) no_bond l
 
 -- a coupling is at most the sum
@@ -75,9 +79,12 @@ pub coupling_size : (inst : Ising) (bond : ℕ) (z : ℤ) → bond < bond_count 
 coupling_size inst bond z l =
     let new : List Bond = set inst.bonds bond (recoupled (bond_at inst bond) z) in
     let here : get_or new bond no_bond ≡ recoupled (bond_at inst bond) z = get_or-set_same inst.bonds bond (recoupled (bond_at inst bond) z) no_bond l in
-    let at_most : size (get_or new bond no_bond) ≤ sum_by size new = get_or-le-sum_by size new bond no_bond (omega (arith, length-set inst.bonds bond (recoupled (bond_at inst bond) z))) in
+    let at_most : size (get_or new bond no_bond) ≤ sum_by size new = get_or-le-sum_by size new bond no_bond
+    (omega (arith, length-set inst.bonds bond (recoupled (bond_at inst bond) z))) in
     omega (arith, ap size here, at_most)
 
-pub planar_coupled : (p : Embedding) (bond : ℕ) (z : ℤ) → IsPlanar p → bond < bond_count p.instance → weight (with_coupling p.instance bond z) ≤ forced_limit → IsPlanar (record { instance = with_coupling p.instance bond z; faces = p.faces })
+pub planar_coupled : (p : Embedding) (bond : ℕ) (z : ℤ) → IsPlanar p → bond < bond_count p.instance
+    → weight (with_coupling p.instance bond z) ≤ forced_limit → IsPlanar (record { instance = with_coupling p.instance bond z; faces = p.faces })
 planar_coupled p bond z h l small =
-    planar_recoupled p (with_coupling p.instance bond z).bonds h (coupling_ends p.instance bond z l h.instance.draft.joined (omega (arith, coupling_size p.instance bond z l))) small
+    planar_recoupled p (with_coupling p.instance bond z).bonds h (coupling_ends p.instance bond z l h.instance.draft.joined
+    (omega (arith, coupling_size p.instance bond z l))) small

@@ -14,7 +14,8 @@ pub walked_order : (inst : Ising) (all marks : List Bool) (order : List ℕ) →
     IsWalked inst (has all) 0 (replicate inst.n false) marks order → IsWalkOrder inst order
 walked_order inst all marks order connected is w = record {
   root_first = w.root_first;
-  below = λ k l. (let inside : get_or order k 0 < length marks = marked_in marks (get_or order k 0) (w.marked k l) in omega (arith, inside, w.lengths, length-replicate inst.n false));
+  below = λ k l. (let inside : get_or order k 0 < length marks = marked_in marks (get_or order k 0) (w.marked k l) in omega
+      (arith, inside, w.lengths, length-replicate inst.n false));
   found_from = λ k p l. (let f = w.found_from k p l in (f.0, f.1, record { bond = f.2.bond; below = f.2.below; in_set = refl; ends = f.2.ends }));
   complete = λ x l. ⊎_elim (λ (o : IsMarked (replicate inst.n false) x). absurd (none_marked inst.n x o)) (λ (n : IsNoted order x). n)
       (w.noted x (found x (connected x l)));

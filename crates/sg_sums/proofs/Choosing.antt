@@ -51,7 +51,8 @@ is_marked_turned old now list i j low fits was =
     by_place ∙ ap (xor (is_marked old i))
     (sym (ap (parity_by (λ k. eqb k i)) (take_more list j 0 low) ∙ parity_by-append (λ k. eqb k i) (take j list) (get_or list j 0 ∷ [])))
   where
-    by_place : is_marked (set now (get_or list j 0) (not (is_marked now (get_or list j 0)))) i ≡ xor (is_marked old i) (xor (parity_by (λ k. eqb k i) (take j list)) (xor (eqb (get_or list j 0) i) false))
+    by_place : is_marked (set now (get_or list j 0) (not (is_marked now (get_or list j 0)))) i ≡ xor (is_marked old i)
+        (xor (parity_by (λ k. eqb k i) (take j list)) (xor (eqb (get_or list j 0) i) false))
     by_place = elim (cases_eq i (get_or list j 0)) [
       | inl e ↦
           subst

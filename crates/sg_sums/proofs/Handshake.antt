@@ -20,7 +20,8 @@ module _ {X : Type 0} (a b : X → ℕ) where
       parity_by (λ e. d e && xor (t (a e)) (t (b e))) E ≡ parity_below (λ x. t x && degree_parity a b d E x) n
   handshake d t n E h =
       parity_by-same (λ e. d e && xor (t (a e)) (t (b e))) (λ e. parity_below (λ x. t x && (d e && is_end (a e) (b e) x)) n) E
-      (All-weaker (λ e. (a e < n) × (b e < n)) (λ e. (d e && xor (t (a e)) (t (b e))) ≡ parity_below (λ x. t x && (d e && is_end (a e) (b e) x)) n) (λ e w. one_edge t (d e) (a e) (b e) n w.0 w.1) E h)
+      (All-weaker (λ e. (a e < n) × (b e < n)) (λ e. (d e && xor (t (a e)) (t (b e))) ≡ parity_below (λ x. t x && (d e && is_end (a e) (b e) x)) n)
+      (λ e w. one_edge t (d e) (a e) (b e) n w.0 w.1) E h)
       ∙ parity_exchange (λ e x. t x && (d e && is_end (a e) (b e) x)) E n
       ∙ parity_below-same (λ x. parity_by (λ e. t x && (d e && is_end (a e) (b e) x)) E) (λ x. t x && degree_parity a b d E x) n
       (λ x l. parity_by-and (t x) (λ e. d e && is_end (a e) (b e) x) E)

@@ -10,7 +10,8 @@ use Rattle.sg_sums.proofs.ParityLaws.{parity_by-append, xor_comm, xor-false, xor
 range_more : (n : ℕ) → range_with_len 0 (suc n) ≡ range_with_len 0 n ++ n ∷ []
 range_more n =
     let e : suc n ≡ n + 1 = omega arith in
-    ap (range_with_len 0) e ∙ sym (map-id (range_with_len 0 (n + 1))) ∙ map-range_with_len_more (λ (x : ℕ). x) 0 n n (omega arith) ∙ ap (λ xs. xs ++ n ∷ []) (map-id (range_with_len 0 n))
+    ap (range_with_len 0) e ∙ sym (map-id (range_with_len 0 (n + 1))) ∙ map-range_with_len_more (λ (x : ℕ). x) 0 n n (omega arith)
+    ∙ ap (λ xs. xs ++ n ∷ []) (map-id (range_with_len 0 n))
 
 -- the parity over a range
 pub parity_by_range : (p : ℕ → Bool) (n : ℕ) → parity_by p (range_with_len 0 n) ≡ parity_below p n

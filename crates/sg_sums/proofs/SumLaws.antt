@@ -86,7 +86,8 @@ pub sum_below-gain : (f g : ℕ → ℕ) (c u n : ℕ) → u < n → ((k : ℕ) 
 sum_below-gain f g c u zero l h more = absurd (omega arith)
 sum_below-gain f g c u (suc n) l h more = elim (cases_eq u n) [
   | inl e ↦ (let here : f n + c ≤ g n = subst (λ k. f k + c ≤ g k) e more in omega (arith, sum_below-le f g n (λ k q. h k (omega arith))))
-  | inr ne ↦ (let rest : sum_below f n + c ≤ sum_below g n = sum_below-gain f g c u n (omega arith) (λ k q. h k (omega arith)) more in omega (arith, h n (omega arith)))
+  | inr ne ↦ (let rest : sum_below f n + c ≤ sum_below g n = sum_below-gain f g c u n (omega arith) (λ k q. h k (omega arith)) more in omega
+      (arith, h n (omega arith)))
 ]
 
 -- the same over a list

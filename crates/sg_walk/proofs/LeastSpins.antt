@@ -33,7 +33,8 @@ module _ (inst : Ising) where
   pub reached_by_all : (a b : ℕ) → Reached inst all_bonds a b → Reached inst (has (replicate (bond_count inst) true)) a b
   reached_by_all a b r = (r.0, walk_by_all r.0 a b r.1)
 
-  pub are_leasts : (all : List Bool) (names : List ℕ) → all ≡ replicate (bond_count inst) true → AllNamed inst (has all) names → AreLeasts inst (self_named names)
+  pub are_leasts : (all : List Bool) (names : List ℕ) → all ≡ replicate (bond_count inst) true → AllNamed inst (has all) names
+      → AreLeasts inst (self_named names)
   are_leasts all names is named = record {
     rising = chosen_below_rises own (length names);
     each = λ i. ((λ h. there i h), (λ h. back i h.0 h.1));

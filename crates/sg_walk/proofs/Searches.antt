@@ -234,7 +234,8 @@ module _ (inst : Ising) (good : IsInstance inst) (bonds : ℕ → Bool) (root : 
     root_first = h.root_first;
     found_from = h.found_from;
     once = h.once;
-    closed = λ a b j m. ⊎_elim (λ (o : IsMarked base a). h.kept b (closed a b j o)) (λ (n : IsNoted order a). step a b j (dart_of_step inst bonds a b j) n) (h.noted a m);
+    closed = λ a b j m. ⊎_elim (λ (o : IsMarked base a). h.kept b (closed a b j o))
+        (λ (n : IsNoted order a). step a b j (dart_of_step inst bonds a b j) n) (h.noted a m);
   }
     where
       step : (a b : ℕ) → JoinedBy inst bonds a b →

@@ -15,19 +15,22 @@ matching-requires c =
     let tables : AreTerminalTables c.args.web.now c.args.terminals.now c.in_ok-tables.tables.items = subst
     (λ ts. AreTerminalTables c.args.web.now ts c.in_ok-tables.tables.items) c.as_slice-nodes.ensures c.in_ok-tables.ensures in
     rw (c.as_slice-nodes.ensures, c.deref.ensures.value)
-    (AreMetric-distances c.args.web.now c.args.terminals.now c.in_ok-tables.tables.items c.requires.connected c.requires.terminals tables c.edges-all.ensures.web c.requires.even c.requires.light)
+    (AreMetric-distances c.args.web.now c.args.terminals.now c.in_ok-tables.tables.items c.requires.connected c.requires.terminals tables
+    c.edges-all.ensures.web c.requires.even c.requires.light)
 
 pub odd_edges-requires-clause-metric : goal.odd_edges-requires-clause-metric
 odd_edges-requires-clause-metric c =
     let tables : AreTerminalTables c.args.web.now c.args.terminals.now c.in_ok-tables.tables.items = subst
     (λ ts. AreTerminalTables c.args.web.now ts c.in_ok-tables.tables.items) c.as_slice-nodes.ensures c.in_ok-tables.ensures in
     rw (c.as_slice-nodes.ensures, c.deref-2.ensures.value)
-    (AreMetric-distances c.args.web.now c.args.terminals.now c.in_ok-tables.tables.items c.requires.connected c.requires.terminals tables c.edges-all.ensures.web c.requires.even c.requires.light)
+    (AreMetric-distances c.args.web.now c.args.terminals.now c.in_ok-tables.tables.items c.requires.connected c.requires.terminals tables
+    c.edges-all.ensures.web c.requires.even c.requires.light)
 
 pub weight-weight-requires-clause-light : goal.weight-weight-requires-clause-light
 weight-weight-requires-clause-light c =
     let all : c.as_slice-2.result.now ≡ c.args.web.now.edges = c.as_slice-2.ensures ∙ c.edges-all.ensures.value in
-    let same : weight_in c.as_slice-2.result.now c.as_slice-3.result.now ≡ weight_of c.args.web.now c.in_ok-edges.edges = ap₂ weight_in all c.as_slice-3.ensures in
+    let same : weight_in c.as_slice-2.result.now c.as_slice-3.result.now ≡ weight_of c.args.web.now c.in_ok-edges.edges = ap₂ weight_in all
+    c.as_slice-3.ensures in
     let join = c.in_ok-edges.ensures.join in
     omega (arith, same, rising_light c.args.web.now c.in_ok-edges.edges join.below join.rising, c.edges-all.ensures.web.light)
 

@@ -18,14 +18,18 @@ returns c = λ answered.
     })
     (record {
       named = read_made {G = disorder.Ghosts} own-1 _ (inr (inl tt)) refl (List ℕ) (λ law x. law.1.title x) _ _ _ c.into_dyn_box-in_ok-new-2.ensures.1;
-      drawn = λ seed count. read_made {G = disorder.Ghosts} own-1 _ (inr (inl tt)) refl (List ℤ) (λ law x. law.1.seeded x seed count) _ _ _ c.into_dyn_box-in_ok-new-2.ensures.1;
+      drawn = λ seed count. read_made {G = disorder.Ghosts} own-1 _ (inr (inl tt)) refl (List ℤ) (λ law x. law.1.seeded x seed count) _ _ _
+          c.into_dyn_box-in_ok-new-2.ensures.1;
     })
     (record {
       named = read_made {G = disorder.Ghosts} own-1 _ (inr (inr (inl tt))) refl (List ℕ) (λ law x. law.1.title x) _ _ _ c.into_dyn_box-in_ok-new-3.ensures.1;
-      drawn = λ seed count. read_made {G = disorder.Ghosts} own-1 _ (inr (inr (inl tt))) refl (List ℤ) (λ law x. law.1.seeded x seed count) _ _ _ c.into_dyn_box-in_ok-new-3.ensures.1;
+      drawn = λ seed count. read_made {G = disorder.Ghosts} own-1 _ (inr (inr (inl tt))) refl (List ℤ) (λ law x. law.1.seeded x seed count) _ _ _
+          c.into_dyn_box-in_ok-new-3.ensures.1;
     })
     (record {
-      named = read_made {G = disorder.Ghosts} own-1 _ (inr (inr (inr (inl tt)))) refl (List ℕ) (λ law x. law.1.title x) _ _ _ c.into_dyn_box-in_ok-new-4.ensures.1;
-      drawn = λ seed count. read_made {G = disorder.Ghosts} own-1 _ (inr (inr (inr (inl tt)))) refl (List ℤ) (λ law x. law.1.seeded x seed count) _ _ _ c.into_dyn_box-in_ok-new-4.ensures.1;
+      named = read_made {G = disorder.Ghosts} own-1 _ (inr (inr (inr (inl tt)))) refl (List ℕ) (λ law x. law.1.title x) _ _ _
+          c.into_dyn_box-in_ok-new-4.ensures.1;
+      drawn = λ seed count. read_made {G = disorder.Ghosts} own-1 _ (inr (inr (inr (inl tt)))) refl (List ℤ)
+          (λ law x. law.1.seeded x seed count) _ _ _ c.into_dyn_box-in_ok-new-4.ensures.1;
     })) answered
     (rw c.new-source.ensures at (c.run.ensures.answer answered))

@@ -15,7 +15,7 @@ part_costs-requires c = record {
 pub place_costs-requires : goal.place_costs-requires
 place_costs-requires c =
     let here = share c.args.inst.now c.bonds.ensures.instance c.args.parts.now c.requires.parts c.loop-part.part-index
-        c.part-item.result c.loop-part-test.true c.part-item.is in
+    c.part-item.result c.loop-part-test.true c.part-item.is in
     let long : length c.deref_mut.result.now ≡ bond_count c.args.inst.now = ap length c.deref_mut.ensures.value ∙ c.loop-part.invariant.count in
     record {
       rising = subst IsStrictlyIncreasing (sym c.as_slice.ensures) here.bonds_rise;

@@ -13,5 +13,6 @@ returns c = λ marked.
     read_bond c.args.inst.now c.args.inst.now c.bonds.result.now c.args.bond c.at-ends.result.now c.at-ends.ensures c.bonds.ensures.value refl in
     let seen : get_or c.walk.new.marks c.at-ends.result.now.v false ≡ true = search rules in
     subst (λ (b : Bond). Reached c.args.inst.now (has c.args.set.now) b.u b.v) (sym read)
-    (reached_by_walk c.args.inst.now (has c.args.set.now) c.at-ends.result.now.u c.at-ends.result.now.v c.args.inst.now.n c.args.marks.now c.walk.new.marks c.walk.new.order.items
+    (reached_by_walk c.args.inst.now (has c.args.set.now) c.at-ends.result.now.u c.at-ends.result.now.v c.args.inst.now.n c.args.marks.now
+    c.walk.new.marks c.walk.new.order.items
     c.requires.marks c.in_ok-walk.ensures seen)

@@ -23,8 +23,8 @@ loop-k-preserved c =
     sym (c.index.ensures ∙ get_or_default c.in_ok-loads.loads.items c.loop-k.k c.index.result.now 0 here) in
     let now : IsTold c.args.inst.now c.loop-k.k c.told_by.result =
     told_by_load c.args.inst.now c.bonds.ensures.instance c.requires.sum
-        c.args.least.now.spins c.args.least.now.energy c.args.least.now.loops c.requires.proves c.loop-k.k low c.index.result.now
-        (subst (IsLoad (load c.args.least.now.loops c.loop-k.k)) read carried) c.told_by.result told.0 c.told_by.ensures.either in
+    c.args.least.now.spins c.args.least.now.energy c.args.least.now.loops c.requires.proves c.loop-k.k low c.index.result.now
+    (subst (IsLoad (load c.args.least.now.loops c.loop-k.k)) read carried) c.told_by.result told.0 c.told_by.ensures.either in
     record {
       count = ap length c.in_ok-push.ensures.items ∙ length_push c.loop-k.told.items c.told_by.result ∙ ap (λ n. n + 1) c.loop-k.invariant.count;
       each = λ k l. subst (λ (told : List Told). IsTold c.args.inst.now k (told_at told k)) (sym c.in_ok-push.ensures.items)

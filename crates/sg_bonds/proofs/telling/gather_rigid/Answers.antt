@@ -10,6 +10,7 @@ loop-bond-preserved c = record {
   told = c.in_ok-is_rigid.ensures.told;
   count = ap length c.in_ok-push.ensures.items ∙ length_push c.loop-bond.set.items c.in_ok-is_rigid.field-0 ∙ ap (λ n. n + 1) c.loop-bond.invariant.count;
   each = λ k l. subst (λ (set : List Bool). (has set k ≡ true) ↔ IsRigid c.args.planar.now.instance k) (sym c.in_ok-push.ensures.items)
-      (marks_push c.args.planar.now.instance c.loop-bond.set.items c.in_ok-is_rigid.field-0 c.loop-bond.bond c.loop-bond.invariant.count c.loop-bond.invariant.each
+      (marks_push c.args.planar.now.instance c.loop-bond.set.items c.in_ok-is_rigid.field-0 c.loop-bond.bond c.loop-bond.invariant.count
+      c.loop-bond.invariant.each
       c.in_ok-is_rigid.ensures.rigid k l);
 }

@@ -8,9 +8,11 @@ pub sample_text-requires : goal.sample_text-requires
 sample_text-requires c =
     let inst = c.args.planar.now.instance in
     let answer = c.in_ok-answer.answer in
-    let twice = twice_broken inst answer.spins answer.energy c.instance-instance.ensures.planar.instance c.in_ok-answer.ensures.ground_state c.in_ok-answer.ensures.energy in
+    let twice = twice_broken inst answer.spins answer.energy c.instance-instance.ensures.planar.instance c.in_ok-answer.ensures.ground_state
+    c.in_ok-answer.ensures.energy in
     let size : c.size_sum.result ≡ pos (weight inst) = search rules in
-    let p : pos (broken_in inst answer.spins) +ℤ pos (broken_in inst answer.spins) ≡ to_z w64 (of_z w64 answer.energy) +ℤ to_z w64 (of_z w64 c.size_sum.result) =
+    let p : pos (broken_in inst answer.spins) +ℤ pos (broken_in inst answer.spins) ≡ to_z w64 (of_z w64 answer.energy) +ℤ to_z w64
+    (of_z w64 c.size_sum.result) =
     rw (to_z-of_z {w = w64} {z = answer.energy} (search rules), to_z-of_z {w = w64} {z = c.size_sum.result} (search rules), size) twice in
     record { even = (pos (broken_in inst answer.spins), p) }
 
@@ -18,9 +20,11 @@ pub returns-clause-served : goal.returns-clause-served
 returns-clause-served c =
     let inst = c.args.planar.now.instance in
     let answer = c.in_ok-answer.answer in
-    let twice = twice_broken inst answer.spins answer.energy c.instance-instance.ensures.planar.instance c.in_ok-answer.ensures.ground_state c.in_ok-answer.ensures.energy in
+    let twice = twice_broken inst answer.spins answer.energy c.instance-instance.ensures.planar.instance c.in_ok-answer.ensures.ground_state
+    c.in_ok-answer.ensures.energy in
     let size : c.size_sum.result ≡ pos (weight inst) = search rules in
-    let p : pos (broken_in inst answer.spins) +ℤ pos (broken_in inst answer.spins) ≡ to_z w64 (of_z w64 answer.energy) +ℤ to_z w64 (of_z w64 c.size_sum.result) =
+    let p : pos (broken_in inst answer.spins) +ℤ pos (broken_in inst answer.spins) ≡ to_z w64 (of_z w64 answer.energy) +ℤ to_z w64
+    (of_z w64 c.size_sum.result) =
     rw (to_z-of_z {w = w64} {z = answer.energy} (search rules), to_z-of_z {w = w64} {z = c.size_sum.result} (search rules), size) twice in
     let text = c.in_ok-text.ensures (pos (broken_in inst answer.spins)) p in
     record {

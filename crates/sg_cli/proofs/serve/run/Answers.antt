@@ -39,6 +39,7 @@ returns-in-Ok-draw_reply-clause-write_fault g c = λ stopped.
       drawn-in_part (map string_bytes c.args.words.now) _ c.in-Some-Draw.drawing c.law_word.result.now
           (g.S.Source.left c.args.source.now) (g.K.Sink.written c.args.sink.now) (g.K.Sink.written c.send-in-Ok-draw_reply.new.sink)
           reply.text.items c.as_slice-in-Ok-draw_reply.result.now reply.status
-          (sym c.parse_command.ensures.value ∙ c.in-Some-Draw.is ∙ ap Some c.in-Some-Draw.field-0-is) c.law_word.ensures c.as_slice-in-Ok-draw_reply.ensures.value
+          (sym c.parse_command.ensures.value ∙ c.in-Some-Draw.is ∙ ap Some c.in-Some-Draw.field-0-is) c.law_word.ensures
+          c.as_slice-in-Ok-draw_reply.ensures.value
           c.in-Ok-draw_reply.ensures.served c.in-Ok-draw_reply.ensures.answered (c.send-in-Ok-draw_reply.ensures.fault stopped).1,
     )

@@ -30,48 +30,97 @@ loop-candidate-init c = record {
 }
 
 pub reached-requires : goal.reached-requires
-reached-requires c = omega (arith, popped_low c.args.web.now c.loop-candidate.table (heap_items c.loop-candidate.heap) (heap_items c.pop.new.self) c.in-Some.field-0 c.nodes.ensures.web c.loop-candidate.invariant.searching c.in-Some.ensures.permutation, c.loop-candidate.invariant.searching.finds.count)
+reached-requires c = omega (
+  arith,
+  popped_low c.args.web.now c.loop-candidate.table (heap_items c.loop-candidate.heap) (heap_items c.pop.new.self)
+      c.in-Some.field-0 c.nodes.ensures.web c.loop-candidate.invariant.searching c.in-Some.ensures.permutation,
+  c.loop-candidate.invariant.searching.finds.count,
+)
 
 pub overflow_cast-distance : goal.overflow_cast-distance
-overflow_cast-distance c = omega (arith, ints, popped_small c.args.web.now c.loop-candidate.table (heap_items c.loop-candidate.heap) (heap_items c.pop.new.self) c.in-Some.field-0 c.nodes.ensures.web c.loop-candidate.invariant.searching c.in-Some.ensures.permutation (sym c.reached.ensures.value ∙ c.if-not-reached.true))
+overflow_cast-distance c = omega (
+  arith,
+  ints,
+  popped_small c.args.web.now c.loop-candidate.table (heap_items c.loop-candidate.heap)
+      (heap_items c.pop.new.self) c.in-Some.field-0 c.nodes.ensures.web c.loop-candidate.invariant.searching c.in-Some.ensures.permutation
+      (sym c.reached.ensures.value ∙ c.if-not-reached.true),
+)
 
 pub set-requires : goal.set-requires
 set-requires c = record {
-  node_in = omega (arith, popped_low c.args.web.now c.loop-candidate.table (heap_items c.loop-candidate.heap) (heap_items c.pop.new.self) c.in-Some.field-0 c.nodes.ensures.web c.loop-candidate.invariant.searching c.in-Some.ensures.permutation, c.loop-candidate.invariant.searching.finds.count);
-  not_source = popped_not_source c.args.web.now c.loop-candidate.table (heap_items c.loop-candidate.heap) (heap_items c.pop.new.self) c.in-Some.field-0 c.nodes.ensures.web c.loop-candidate.invariant.searching c.in-Some.ensures.permutation (sym c.reached.ensures.value ∙ c.if-not-reached.true);
-  edge = popped_edge c.args.web.now c.loop-candidate.table (heap_items c.loop-candidate.heap) (heap_items c.pop.new.self) c.in-Some.field-0 c.nodes.ensures.web c.loop-candidate.invariant.searching c.in-Some.ensures.permutation;
+  node_in = omega (
+    arith,
+    popped_low c.args.web.now c.loop-candidate.table (heap_items c.loop-candidate.heap) (heap_items c.pop.new.self)
+        c.in-Some.field-0 c.nodes.ensures.web c.loop-candidate.invariant.searching c.in-Some.ensures.permutation,
+    c.loop-candidate.invariant.searching.finds.count,
+  );
+  not_source = popped_not_source c.args.web.now c.loop-candidate.table (heap_items c.loop-candidate.heap) (heap_items c.pop.new.self)
+      c.in-Some.field-0 c.nodes.ensures.web c.loop-candidate.invariant.searching c.in-Some.ensures.permutation
+      (sym c.reached.ensures.value ∙ c.if-not-reached.true);
+  edge = popped_edge c.args.web.now c.loop-candidate.table (heap_items c.loop-candidate.heap) (heap_items c.pop.new.self) c.in-Some.field-0
+      c.nodes.ensures.web c.loop-candidate.invariant.searching c.in-Some.ensures.permutation;
 }
 
 pub spread-requires-then-not-reached-clause-distance : goal.spread-requires-then-not-reached-clause-distance
-spread-requires-then-not-reached-clause-distance c = popped_distance c.args.web.now c.loop-candidate.table (heap_items c.loop-candidate.heap) (heap_items c.pop.new.self) c.in-Some.field-0 c.nodes.ensures.web c.loop-candidate.invariant.searching c.in-Some.ensures.permutation (sym c.reached.ensures.value ∙ c.if-not-reached.true) (c.in-Some.ensures.below_top c.loop-candidate.invariant.order) c.set.new.self (to_z w64 c.in-Some.field-0.0.distance) c.set.ensures (cast_same c.in-Some.field-0.0.distance (popped_small c.args.web.now c.loop-candidate.table (heap_items c.loop-candidate.heap) (heap_items c.pop.new.self) c.in-Some.field-0 c.nodes.ensures.web c.loop-candidate.invariant.searching c.in-Some.ensures.permutation (sym c.reached.ensures.value ∙ c.if-not-reached.true)))
+spread-requires-then-not-reached-clause-distance c = popped_distance c.args.web.now c.loop-candidate.table (heap_items c.loop-candidate.heap)
+    (heap_items c.pop.new.self) c.in-Some.field-0 c.nodes.ensures.web c.loop-candidate.invariant.searching c.in-Some.ensures.permutation
+    (sym c.reached.ensures.value ∙ c.if-not-reached.true) (c.in-Some.ensures.below_top c.loop-candidate.invariant.order) c.set.new.self
+    (to_z w64 c.in-Some.field-0.0.distance) c.set.ensures (cast_same c.in-Some.field-0.0.distance
+    (popped_small c.args.web.now c.loop-candidate.table (heap_items c.loop-candidate.heap) (heap_items c.pop.new.self) c.in-Some.field-0
+    c.nodes.ensures.web c.loop-candidate.invariant.searching c.in-Some.ensures.permutation (sym c.reached.ensures.value ∙ c.if-not-reached.true)))
 
 pub spread-requires-then-not-reached-clause-latest : goal.spread-requires-then-not-reached-clause-latest
-spread-requires-then-not-reached-clause-latest c = Spreads-popped c.args.web.now c.loop-candidate.table (heap_items c.loop-candidate.heap) (heap_items c.pop.new.self) c.in-Some.field-0 c.nodes.ensures.web c.loop-candidate.invariant.searching c.in-Some.ensures.permutation (sym c.reached.ensures.value ∙ c.if-not-reached.true) (c.in-Some.ensures.below_top c.loop-candidate.invariant.order) c.set.new.self (to_z w64 c.in-Some.field-0.0.distance) c.set.ensures (cast_same c.in-Some.field-0.0.distance (popped_small c.args.web.now c.loop-candidate.table (heap_items c.loop-candidate.heap) (heap_items c.pop.new.self) c.in-Some.field-0 c.nodes.ensures.web c.loop-candidate.invariant.searching c.in-Some.ensures.permutation (sym c.reached.ensures.value ∙ c.if-not-reached.true)))
+spread-requires-then-not-reached-clause-latest c = Spreads-popped c.args.web.now c.loop-candidate.table (heap_items c.loop-candidate.heap)
+    (heap_items c.pop.new.self) c.in-Some.field-0 c.nodes.ensures.web c.loop-candidate.invariant.searching c.in-Some.ensures.permutation
+    (sym c.reached.ensures.value ∙ c.if-not-reached.true) (c.in-Some.ensures.below_top c.loop-candidate.invariant.order) c.set.new.self
+    (to_z w64 c.in-Some.field-0.0.distance) c.set.ensures (cast_same c.in-Some.field-0.0.distance
+    (popped_small c.args.web.now c.loop-candidate.table (heap_items c.loop-candidate.heap) (heap_items c.pop.new.self) c.in-Some.field-0
+    c.nodes.ensures.web c.loop-candidate.invariant.searching c.in-Some.ensures.permutation (sym c.reached.ensures.value ∙ c.if-not-reached.true)))
 
 pub loop-candidate-smaller-in-Continue-branch-3 : goal.loop-candidate-smaller-in-Continue-branch-3
 loop-candidate-smaller-in-Continue-branch-3 c =
-    let count = popped_count c.args.web.now c.loop-candidate.table (heap_items c.loop-candidate.heap) (heap_items c.pop.new.self) c.in-Some.field-0 c.nodes.ensures.web c.loop-candidate.invariant.searching c.in-Some.ensures.permutation (sym c.reached.ensures.value ∙ c.if-not-reached.true) (c.in-Some.ensures.below_top c.loop-candidate.invariant.order) c.set.new.self (to_z w64 c.in-Some.field-0.0.distance) c.set.ensures (cast_same c.in-Some.field-0.0.distance (popped_small c.args.web.now c.loop-candidate.table (heap_items c.loop-candidate.heap) (heap_items c.pop.new.self) c.in-Some.field-0 c.nodes.ensures.web c.loop-candidate.invariant.searching c.in-Some.ensures.permutation (sym c.reached.ensures.value ∙ c.if-not-reached.true))) in
-    let most = popped_most c.args.web.now c.loop-candidate.table (heap_items c.loop-candidate.heap) (heap_items c.pop.new.self) c.in-Some.field-0 c.nodes.ensures.web c.loop-candidate.invariant.searching c.in-Some.ensures.permutation (sym c.reached.ensures.value ∙ c.if-not-reached.true) (c.in-Some.ensures.below_top c.loop-candidate.invariant.order) c.set.new.self (to_z w64 c.in-Some.field-0.0.distance) c.set.ensures (cast_same c.in-Some.field-0.0.distance (popped_small c.args.web.now c.loop-candidate.table (heap_items c.loop-candidate.heap) (heap_items c.pop.new.self) c.in-Some.field-0 c.nodes.ensures.web c.loop-candidate.invariant.searching c.in-Some.ensures.permutation (sym c.reached.ensures.value ∙ c.if-not-reached.true))) in
-    work_falls c.args.web.now.nodes (reached_count c.loop-candidate.table) (reached_count c.set.new.self) (edge_count c.args.web.now) (heap_len c.loop-candidate.heap) (heap_len c.pop.new.self) (heap_len c.spread-then-not-reached.new.heap) count most c.in-Some.ensures.len c.in_ok-spread-2.ensures.few
+    let count = popped_count c.args.web.now c.loop-candidate.table (heap_items c.loop-candidate.heap) (heap_items c.pop.new.self) c.in-Some.field-0
+    c.nodes.ensures.web c.loop-candidate.invariant.searching c.in-Some.ensures.permutation (sym c.reached.ensures.value ∙ c.if-not-reached.true)
+    (c.in-Some.ensures.below_top c.loop-candidate.invariant.order) c.set.new.self (to_z w64 c.in-Some.field-0.0.distance) c.set.ensures
+    (cast_same c.in-Some.field-0.0.distance (popped_small c.args.web.now c.loop-candidate.table (heap_items c.loop-candidate.heap)
+    (heap_items c.pop.new.self) c.in-Some.field-0 c.nodes.ensures.web c.loop-candidate.invariant.searching c.in-Some.ensures.permutation
+    (sym c.reached.ensures.value ∙ c.if-not-reached.true))) in
+    let most = popped_most c.args.web.now c.loop-candidate.table (heap_items c.loop-candidate.heap) (heap_items c.pop.new.self) c.in-Some.field-0
+    c.nodes.ensures.web c.loop-candidate.invariant.searching c.in-Some.ensures.permutation (sym c.reached.ensures.value ∙ c.if-not-reached.true)
+    (c.in-Some.ensures.below_top c.loop-candidate.invariant.order) c.set.new.self (to_z w64 c.in-Some.field-0.0.distance) c.set.ensures
+    (cast_same c.in-Some.field-0.0.distance (popped_small c.args.web.now c.loop-candidate.table (heap_items c.loop-candidate.heap)
+    (heap_items c.pop.new.self) c.in-Some.field-0 c.nodes.ensures.web c.loop-candidate.invariant.searching c.in-Some.ensures.permutation
+    (sym c.reached.ensures.value ∙ c.if-not-reached.true))) in
+    work_falls c.args.web.now.nodes (reached_count c.loop-candidate.table) (reached_count c.set.new.self) (edge_count c.args.web.now)
+    (heap_len c.loop-candidate.heap) (heap_len c.pop.new.self) (heap_len c.spread-then-not-reached.new.heap) count most c.in-Some.ensures.len
+    c.in_ok-spread-2.ensures.few
 
 pub loop-candidate-preserved-in-Continue-branch-3 : goal.loop-candidate-preserved-in-Continue-branch-3
 loop-candidate-preserved-in-Continue-branch-3 c = record {
   searching = c.in_ok-spread-2.ensures.spread;
   order = c.in_ok-spread-2.ensures.order (c.in-Some.ensures.heap_order c.loop-candidate.invariant.order).0;
-  source = popped_source c.args.web.now c.loop-candidate.table (heap_items c.loop-candidate.heap) (heap_items c.pop.new.self) c.in-Some.field-0 c.nodes.ensures.web c.loop-candidate.invariant.searching c.in-Some.ensures.permutation (sym c.reached.ensures.value ∙ c.if-not-reached.true) (c.in-Some.ensures.below_top c.loop-candidate.invariant.order) c.set.new.self (to_z w64 c.in-Some.field-0.0.distance) c.set.ensures (cast_same c.in-Some.field-0.0.distance (popped_small c.args.web.now c.loop-candidate.table (heap_items c.loop-candidate.heap) (heap_items c.pop.new.self) c.in-Some.field-0 c.nodes.ensures.web c.loop-candidate.invariant.searching c.in-Some.ensures.permutation (sym c.reached.ensures.value ∙ c.if-not-reached.true))) ∙ c.loop-candidate.invariant.source;
+  source = popped_source c.args.web.now c.loop-candidate.table (heap_items c.loop-candidate.heap) (heap_items c.pop.new.self) c.in-Some.field-0
+      c.nodes.ensures.web c.loop-candidate.invariant.searching c.in-Some.ensures.permutation (sym c.reached.ensures.value ∙ c.if-not-reached.true)
+      (c.in-Some.ensures.below_top c.loop-candidate.invariant.order) c.set.new.self (to_z w64 c.in-Some.field-0.0.distance) c.set.ensures
+      (cast_same c.in-Some.field-0.0.distance (popped_small c.args.web.now c.loop-candidate.table (heap_items c.loop-candidate.heap)
+      (heap_items c.pop.new.self) c.in-Some.field-0 c.nodes.ensures.web c.loop-candidate.invariant.searching c.in-Some.ensures.permutation
+      (sym c.reached.ensures.value ∙ c.if-not-reached.true))) ∙ c.loop-candidate.invariant.source;
 }
 
 pub loop-candidate-preserved : goal.loop-candidate-preserved
 loop-candidate-preserved c = record {
-  searching = Searches-dropped c.args.web.now c.loop-candidate.table (heap_items c.loop-candidate.heap) (heap_items c.pop.new.self) c.in-Some.field-0 c.nodes.ensures.web c.loop-candidate.invariant.searching c.in-Some.ensures.permutation (sym c.reached.ensures.value ∙ c.if-not-reached.false);
+  searching = Searches-dropped c.args.web.now c.loop-candidate.table (heap_items c.loop-candidate.heap) (heap_items c.pop.new.self) c.in-Some.field-0
+      c.nodes.ensures.web c.loop-candidate.invariant.searching c.in-Some.ensures.permutation (sym c.reached.ensures.value ∙ c.if-not-reached.false);
   order = (c.in-Some.ensures.heap_order c.loop-candidate.invariant.order).0;
   source = c.loop-candidate.invariant.source;
 }
 
 pub returns : goal.returns
 returns c =
-    let none : heap_items c.loop-candidate.heap ≡ [] = nil_from_length (heap_items c.loop-candidate.heap) (omega (arith, c.in_default.ensures.none, c.loop-candidate.heap.data.ok)) in
+    let none : heap_items c.loop-candidate.heap ≡ [] = nil_from_length (heap_items c.loop-candidate.heap)
+    (omega (arith, c.in_default.ensures.none, c.loop-candidate.heap.data.ok)) in
     record {
-      table = IsTableOf-end c.args.web.now c.loop-candidate.table (subst (λ xs. Searches c.args.web.now c.loop-candidate.table (candidates xs)) none c.loop-candidate.invariant.searching);
+      table = IsTableOf-end c.args.web.now c.loop-candidate.table (subst (λ xs. Searches c.args.web.now c.loop-candidate.table (candidates xs)) none
+          c.loop-candidate.invariant.searching);
       source = c.loop-candidate.invariant.source;
     }

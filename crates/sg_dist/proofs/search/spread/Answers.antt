@@ -19,22 +19,30 @@ loop-k-preserved c =
     let same : c.as_slice-edges.result.now ≡ c.args.web.now.edges = c.as_slice-edges.ensures ∙ c.edges.ensures.value in
     let node_in = reached_low c.args.table.now c.args.node c.requires.latest.here in
     let ends : EndsAt c.args.web.now c.args.node (get_or c.at-edges_here.result.now c.loop-k.k-index 0) =
-    incident_ends c.args.web.now c.args.incidence.now c.requires.incident c.args.node (omega (arith, node_in, c.requires.latest.finds.count)) c.at-edges_here.result.now c.at-edges_here.ensures c.loop-k.k-index 0 low in
+    incident_ends c.args.web.now c.args.incidence.now c.requires.incident c.args.node (omega (arith, node_in, c.requires.latest.finds.count))
+    c.at-edges_here.result.now c.at-edges_here.ensures c.loop-k.k-index 0 low in
     elim c.if-not-reached.branch [
       | then-not-reached+in_ok-push w ↦ (
-          let fits : FitsSigned w64 (get_or c.as_slice-edges.result.now (get_or c.at-edges_here.result.now c.loop-k.k-index 0) (record { a = 0; b = 0; w = pos 0 })).w = search rules in
+          let fits : FitsSigned w64 (get_or c.as_slice-edges.result.now (get_or c.at-edges_here.result.now c.loop-k.k-index 0)
+          (record { a = 0; b = 0; w = pos 0 })).w = search rules in
           record {
-            searching = subst (λ h. Spreads c.args.web.now c.args.table.now (candidates (heap_items h)) c.args.node (take (c.loop-k.k-index + 1) c.at-edges_here.result.now)) (sym w.heap-is)
-                (Spreads-next_new c.args.web.now c.args.table.now c.args.node c.at-edges_here.result.now c.loop-k.k-index c.other-other.result c.as_slice-edges.result.now low same ends c.other-other.ensures
-                (heap_items c.loop-k.heap) _ c.args.distance w.unsigned_abs.result c.requires.distance (w.unsigned_abs.ensures.value ∙ ap unsigned_abs (to_z-of_z fits)) w.in_ok-push.ensures.permutation c.loop-k.invariant.searching);
-            order = λ h. subst (λ q. KeepsHeap nearest_last (heap_items c.loop-k.heap) (heap_items q)) (sym w.heap-is) w.in_ok-push.ensures.heap_order (c.loop-k.invariant.order h);
+            searching = subst (λ h. Spreads c.args.web.now c.args.table.now (candidates (heap_items h)) c.args.node
+                (take (c.loop-k.k-index + 1) c.at-edges_here.result.now)) (sym w.heap-is)
+                (Spreads-next_new c.args.web.now c.args.table.now c.args.node c.at-edges_here.result.now c.loop-k.k-index c.other-other.result
+                c.as_slice-edges.result.now low same ends c.other-other.ensures
+                (heap_items c.loop-k.heap) _ c.args.distance w.unsigned_abs.result c.requires.distance
+                (w.unsigned_abs.ensures.value ∙ ap unsigned_abs (to_z-of_z fits)) w.in_ok-push.ensures.permutation c.loop-k.invariant.searching);
+            order = λ h. subst (λ q. KeepsHeap nearest_last (heap_items c.loop-k.heap) (heap_items q))
+                (sym w.heap-is) w.in_ok-push.ensures.heap_order (c.loop-k.invariant.order h);
             few = omega (arith, w.in_ok-push.ensures.len, ap (λ q. heap_len q) w.heap-is, c.loop-k.invariant.few);
           })
       | else-not-reached w ↦ (
           let h : c.reached.result ≡ true = w.if-not-reached.false in
           record {
-            searching = subst (λ h. Spreads c.args.web.now c.args.table.now (candidates (heap_items h)) c.args.node (take (c.loop-k.k-index + 1) c.at-edges_here.result.now)) (sym w.heap-is)
-                (Spreads-next_known c.args.web.now c.args.table.now c.args.node c.at-edges_here.result.now c.loop-k.k-index c.other-other.result c.as_slice-edges.result.now low same ends c.other-other.ensures
+            searching = subst (λ h. Spreads c.args.web.now c.args.table.now (candidates (heap_items h)) c.args.node
+                (take (c.loop-k.k-index + 1) c.at-edges_here.result.now)) (sym w.heap-is)
+                (Spreads-next_known c.args.web.now c.args.table.now c.args.node c.at-edges_here.result.now c.loop-k.k-index c.other-other.result
+                c.as_slice-edges.result.now low same ends c.other-other.ensures
                 (candidates (heap_items c.loop-k.heap)) (sym c.reached.ensures.value ∙ h) c.loop-k.invariant.searching);
             order = λ h. subst (λ q. KeepsHeap nearest_last (heap_items c.loop-k.heap) (heap_items q)) (sym w.heap-is) (λ k. k) (c.loop-k.invariant.order h);
             few = omega (arith, ap (λ q. heap_len q) w.heap-is, c.loop-k.invariant.few);
@@ -47,34 +55,55 @@ overflow_add-distance c =
     let same : c.as_slice-edges.result.now ≡ c.args.web.now.edges = c.as_slice-edges.ensures ∙ c.edges.ensures.value in
     let node_in = reached_low c.args.table.now c.args.node c.requires.latest.here in
     let ends : EndsAt c.args.web.now c.args.node (get_or c.at-edges_here.result.now c.loop-k.k-index 0) =
-    incident_ends c.args.web.now c.args.incidence.now c.requires.incident c.args.node (omega (arith, node_in, c.requires.latest.finds.count)) c.at-edges_here.result.now c.at-edges_here.ensures c.loop-k.k-index 0 low in
-    let fits : FitsSigned w64 (get_or c.as_slice-edges.result.now (get_or c.at-edges_here.result.now c.loop-k.k-index 0) (record { a = 0; b = 0; w = pos 0 })).w = search rules in
+    incident_ends c.args.web.now c.args.incidence.now c.requires.incident c.args.node (omega (arith, node_in, c.requires.latest.finds.count))
+    c.at-edges_here.result.now c.at-edges_here.ensures c.loop-k.k-index 0 low in
+    let fits : FitsSigned w64 (get_or c.as_slice-edges.result.now (get_or c.at-edges_here.result.now c.loop-k.k-index 0)
+    (record { a = 0; b = 0; w = pos 0 })).w = search rules in
     let h : c.reached.result ≡ false = c.if-not-reached.true in
-    let weight : c.unsigned_abs.result ≡ edge_weight c.args.web.now (get_or c.at-edges_here.result.now c.loop-k.k-index 0) = c.unsigned_abs.ensures.value ∙ ap unsigned_abs (to_z-of_z fits) ∙ weight_is c.args.web.now c.args.table.now c.args.node c.at-edges_here.result.now c.loop-k.k-index c.other-other.result c.as_slice-edges.result.now low same ends c.other-other.ensures in
-    let small : length_to c.args.table.now c.args.node + edge_weight c.args.web.now (get_or c.at-edges_here.result.now c.loop-k.k-index 0) ≤ total_weight c.args.web.now =
-    sum_small c.args.web.now c.args.table.now c.args.node c.at-edges_here.result.now c.loop-k.k-index c.other-other.result c.as_slice-edges.result.now low same ends c.other-other.ensures (candidates (heap_items c.loop-k.heap)) _ c.loop-k.invariant.searching (sym c.reached.ensures.value ∙ h) in
+    let weight : c.unsigned_abs.result ≡ edge_weight c.args.web.now (get_or c.at-edges_here.result.now c.loop-k.k-index 0) =
+    c.unsigned_abs.ensures.value ∙ ap unsigned_abs (to_z-of_z fits)
+    ∙ weight_is c.args.web.now c.args.table.now c.args.node c.at-edges_here.result.now c.loop-k.k-index c.other-other.result
+    c.as_slice-edges.result.now low same ends c.other-other.ensures in
+    let small : length_to c.args.table.now c.args.node + edge_weight c.args.web.now
+    (get_or c.at-edges_here.result.now c.loop-k.k-index 0) ≤ total_weight c.args.web.now =
+    sum_small c.args.web.now c.args.table.now c.args.node c.at-edges_here.result.now c.loop-k.k-index c.other-other.result
+    c.as_slice-edges.result.now low same ends c.other-other.ensures (candidates (heap_items c.loop-k.heap)) _ c.loop-k.invariant.searching
+    (sym c.reached.ensures.value ∙ h) in
     let all : total_weight c.args.web.now ≤ 2 ^ 60 = c.edges.ensures.web.light in
     omega (arith, weight, small, all, c.requires.distance)
 
 pub at-edges_here-requires : goal.at-edges_here-requires
-at-edges_here-requires c = omega (arith, reached_low c.args.table.now c.args.node c.requires.latest.here, c.requires.latest.finds.count, c.requires.incident.count)
+at-edges_here-requires c = omega (
+  arith,
+  reached_low c.args.table.now c.args.node c.requires.latest.here,
+  c.requires.latest.finds.count,
+  c.requires.incident.count,
+)
 
 pub bounds-edges-k : goal.bounds-edges-k
 bounds-edges-k c =
     let low : c.loop-k.k-index < length c.at-edges_here.result.now = omega arith in
     let node_in = reached_low c.args.table.now c.args.node c.requires.latest.here in
     let ends : EndsAt c.args.web.now c.args.node (get_or c.at-edges_here.result.now c.loop-k.k-index 0) =
-    incident_ends c.args.web.now c.args.incidence.now c.requires.incident c.args.node (omega (arith, node_in, c.requires.latest.finds.count)) c.at-edges_here.result.now c.at-edges_here.ensures c.loop-k.k-index 0 low in
+    incident_ends c.args.web.now c.args.incidence.now c.requires.incident c.args.node (omega (arith, node_in, c.requires.latest.finds.count))
+    c.at-edges_here.result.now c.at-edges_here.ensures c.loop-k.k-index 0 low in
     omega (arith, ends.0, ap length c.as_slice-edges.ensures, ap length c.edges.ensures.value)
 
 pub returns : goal.returns
 returns c =
     let node_in = reached_low c.args.table.now c.args.node c.requires.latest.here in
-    let all : take c.loop-k.k-index c.at-edges_here.result.now ≡ c.at-edges_here.result.now = take_all c.loop-k.k-index c.at-edges_here.result.now (omega arith) in
+    let all : take c.loop-k.k-index c.at-edges_here.result.now ≡ c.at-edges_here.result.now = take_all c.loop-k.k-index c.at-edges_here.result.now
+    (omega arith) in
     record {
       spread = Searches-spread c.args.web.now c.args.table.now (candidates (heap_items c.loop-k.heap)) c.args.node c.at-edges_here.result.now
           (subst (Spreads c.args.web.now c.args.table.now (candidates (heap_items c.loop-k.heap)) c.args.node) all c.loop-k.invariant.searching)
-          (λ e u l. incident_leads c.args.web.now c.args.incidence.now c.requires.incident c.args.node (omega (arith, node_in, c.requires.latest.finds.count)) c.at-edges_here.result.now c.at-edges_here.ensures e u l);
+          (λ e u l. incident_leads c.args.web.now c.args.incidence.now c.requires.incident c.args.node
+          (omega (arith, node_in, c.requires.latest.finds.count)) c.at-edges_here.result.now c.at-edges_here.ensures e u l);
       order = c.loop-k.invariant.order;
-      few = omega (arith, c.loop-k.invariant.few, incident_few c.args.web.now c.args.incidence.now c.requires.incident c.args.node (omega (arith, node_in, c.requires.latest.finds.count)) c.at-edges_here.result.now c.at-edges_here.ensures);
+      few = omega (
+        arith,
+        c.loop-k.invariant.few,
+        incident_few c.args.web.now c.args.incidence.now c.requires.incident c.args.node
+            (omega (arith, node_in, c.requires.latest.finds.count)) c.at-edges_here.result.now c.at-edges_here.ensures,
+      );
     }

@@ -24,7 +24,8 @@ returns-clause-frustrated c =
 pub returns-clause-terminals : goal.returns-clause-terminals
 returns-clause-terminals c =
     subst (λ (g : Graph). AreTerminals g c.in_ok-terminals.terminals) (sym (returns-clause-web c))
-    (subst (AreTerminals (dual_web c.args.inst.now c.args.faces.now)) (sym (returns-clause-frustrated c)) (frustrated_terminals c.args.inst.now c.args.faces.now))
+    (subst (AreTerminals (dual_web c.args.inst.now c.args.faces.now)) (sym (returns-clause-frustrated c))
+    (frustrated_terminals c.args.inst.now c.args.faces.now))
 
 pub returns-clause-even : goal.returns-clause-even
 returns-clause-even c = ap (λ ts. length ts % 2) (returns-clause-frustrated c) ∙ even_frustrated c.args.inst.now c.args.faces.now c.requires.labels

@@ -11,5 +11,6 @@ loop-k-preserved c =
     let fits : FitsSigned w64 c.size.result = search rules in
     record {
       list = same;
-      made = c.in_ok-push.ensures.ok ∙ edges_more c.args.inst.now c.args.faces.now c.loop-k.k c.loop-k.edges c.as_slice-bond-items.result.now c.of.result c.of-in-loop-k.result _ same c.loop-k.invariant.made c.of.ensures c.of-in-loop-k.ensures (to_z-of_z fits ∙ c.size.ensures);
+      made = c.in_ok-push.ensures.ok ∙ edges_more c.args.inst.now c.args.faces.now c.loop-k.k c.loop-k.edges c.as_slice-bond-items.result.now
+          c.of.result c.of-in-loop-k.result _ same c.loop-k.invariant.made c.of.ensures c.of-in-loop-k.ensures (to_z-of_z fits ∙ c.size.ensures);
     }

@@ -12,7 +12,13 @@ use Rattle.sg_faces.proofs.faces.bare_spins.Goals as goal
 
 pub overflow_add-count : goal.overflow_add-count
 overflow_add-count c =
-    omega (arith, c.loop-spin.invariant, count_by-le-length (is_bare c.args.inst.now) (range_with_len 0 c.loop-spin.spin), length-range_with_len 0 c.loop-spin.spin)
+    omega (
+      arith,
+      c.loop-spin.invariant,
+      count_by-le-length (is_bare c.args.inst.now) (range_with_len 0 c.loop-spin.spin),
+      length-range_with_len 0
+          c.loop-spin.spin,
+    )
 
 pub loop-spin-preserved : goal.loop-spin-preserved
 loop-spin-preserved c =

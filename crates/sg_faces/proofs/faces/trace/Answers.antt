@@ -37,7 +37,8 @@ returns-clause-labels c =
     let orbits : IsOrbitLabels c.in_ok-table.table.items c.with_more.result.labels c.in_ok-orbits.orbits.count =
     subst (λ xs. IsOrbitLabels c.in_ok-table.table.items xs c.in_ok-orbits.orbits.count) (sym c.with_more.ensures.labels)
     (subst (λ table. IsOrbitLabels table c.in_ok-orbits.orbits.labels c.in_ok-orbits.orbits.count) c.deref.ensures.value c.in_ok-orbits.ensures) in
-    faces_from_orbits c.args.inst.now c.bare_spins-bare.ensures.instance c.in_ok-table.table.items c.in_ok-table.ensures c.with_more.result.labels c.in_ok-orbits.orbits.count c.with_more.result.count orbits
+    faces_from_orbits c.args.inst.now c.bare_spins-bare.ensures.instance c.in_ok-table.table.items c.in_ok-table.ensures c.with_more.result.labels
+    c.in_ok-orbits.orbits.count c.with_more.result.count orbits
     (c.with_more.ensures.count ∙ ap (λ n. c.in_ok-orbits.orbits.count + n) c.bare_spins-bare.ensures.count)
 
 pub returns-clause-least : goal.returns-clause-least

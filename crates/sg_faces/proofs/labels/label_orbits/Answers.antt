@@ -21,14 +21,18 @@ loop-start-preserved c =
       | then-index w ↦
           let items_are : c.if-index.labels.items ≡ w.label_orbit.new.labels =
           ap (λ v. v.items) w.labels-is ∙ with_items_is c.loop-start.labels w.label_orbit.new.labels (search rules) in
-          rw (items_are, w.count-is) (so_far_new c.args.table.now c.loop-start.labels.items c.loop-start.count c.loop-start.start c.requires.is_move c.requires.room c.loop-start-test.true c.loop-start.invariant w.label_orbit.new.labels
+          rw (items_are, w.count-is) (so_far_new c.args.table.now c.loop-start.labels.items c.loop-start.count c.loop-start.start c.requires.is_move
+          c.requires.room c.loop-start-test.true c.loop-start.invariant w.label_orbit.new.labels
           (sym read ∙ w.if-index.true) w.label_orbit.ensures.labelled (rw w.deref_mut.ensures.value at w.label_orbit.ensures.kept) w.label_orbit.ensures.marked)
       | else-index w ↦
-          rw (w.labels-is, w.count-is) (so_far_old c.args.table.now c.loop-start.labels.items c.loop-start.count c.loop-start.start c.requires.is_move c.requires.room c.loop-start-test.true c.loop-start.invariant
+          rw (w.labels-is, w.count-is) (so_far_old c.args.table.now c.loop-start.labels.items c.loop-start.count c.loop-start.start
+          c.requires.is_move c.requires.room c.loop-start-test.true c.loop-start.invariant
           (λ e. w.if-index.false (read ∙ e)))
     ]
 
 pub returns : goal.returns
 returns c =
     let ended : c.loop-start.start ≡ length c.args.table.now = omega (arith, c.loop-start.auto.start-end) in
-    rw (c.new.ensures.labels, c.new.ensures.count) (all_labelled c.args.table.now c.loop-start.labels.items c.loop-start.count c.loop-start.start c.requires.is_move c.loop-start.invariant.0 (λ d l. c.loop-start.invariant.1 d (omega arith)) (c.loop-start.invariant.2 ∙ ap (λ n. least_before c.args.table.now n) ended))
+    rw (c.new.ensures.labels, c.new.ensures.count) (all_labelled c.args.table.now c.loop-start.labels.items c.loop-start.count c.loop-start.start
+    c.requires.is_move c.loop-start.invariant.0 (λ d l. c.loop-start.invariant.1 d (omega arith))
+    (c.loop-start.invariant.2 ∙ ap (λ n. least_before c.args.table.now n) ended))

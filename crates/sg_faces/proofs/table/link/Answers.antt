@@ -17,7 +17,8 @@ loop-place-preserved c =
       follows =
           linked_more c.args.darts.now c.loop-place.table c.loop-place.place c.if-place-darts.after c.requires.distinct here room at
           c.loop-place.invariant.follows;
-      kept = λ x h. unlinked_kept c.args.darts.now c.loop-place.table c.loop-place.place c.if-place-darts.after c.requires.distinct here room at x h ∙ c.loop-place.invariant.kept x h;
+      kept = λ x h. unlinked_kept c.args.darts.now c.loop-place.table c.loop-place.place c.if-place-darts.after c.requires.distinct here room at x h
+          ∙ c.loop-place.invariant.kept x h;
     })
 
 pub returns-clause-follows : goal.returns-clause-follows

@@ -30,7 +30,8 @@ link-requires-clause-below c =
     ∙ get_or_read c.as_slice-list-items.result.now c.loop-list.list-index c.list-item.result c.loop-list-test.true c.list-item.is []
     ∙ ap (λ r. get_or r c.loop-list.list-index []) rotation in
     subst (All (λ d. rev d < length c.deref_mut.result.now)) (sym darts)
-    (darts_room c.args.inst.now c.rotation.ensures.instance c.loop-list.list-index (length c.deref_mut.result.now) spin (ap length c.deref_mut.ensures.value ∙ c.loop-list.invariant.lengths))
+    (darts_room c.args.inst.now c.rotation.ensures.instance c.loop-list.list-index (length c.deref_mut.result.now) spin
+    (ap length c.deref_mut.ensures.value ∙ c.loop-list.invariant.lengths))
 
 pub loop-list-preserved : goal.loop-list-preserved
 loop-list-preserved c =
@@ -42,7 +43,8 @@ loop-list-preserved c =
     ∙ get_or_read c.as_slice-list-items.result.now c.loop-list.list-index c.list-item.result c.loop-list-test.true c.list-item.is []
     ∙ ap (λ r. get_or r c.loop-list.list-index []) rotation in
     rw (with_items_is c.loop-list.table c.link.new.table (search rules))
-    (has_phi_more c.args.inst.now c.rotation.ensures.instance c.loop-list.list-index c.loop-list.table.items c.link.new.table spin (search rules) c.loop-list.invariant
+    (has_phi_more c.args.inst.now c.rotation.ensures.instance c.loop-list.list-index c.loop-list.table.items c.link.new.table spin (search rules)
+    c.loop-list.invariant
     (rw darts at c.link.ensures.follows) (rw (c.deref_mut.ensures.value, darts) at c.link.ensures.kept))
 
 pub returns : goal.returns

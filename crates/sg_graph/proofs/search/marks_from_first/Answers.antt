@@ -9,17 +9,26 @@ use Rattle.sg_graph.proofs.search.marks_from_first.Goals as goal
 pub visit-requires-clause-here : goal.visit-requires-clause-here
 visit-requires-clause-here c =
     let low : c.loop-next.next < length c.loop-next.found.items = omega arith in
-    let is : c.index-node.result.now ≡ get_or c.loop-next.found.items c.loop-next.next 0 = get_or_read c.loop-next.found.items c.loop-next.next c.index-node.result.now low c.index-node.ensures 0 in
-    let marked : is_marked c.loop-next.marks.items c.index-node.result.now ≡ true = ap (is_marked c.loop-next.marks.items) is ∙ c.loop-next.invariant.noted c.loop-next.next 0 low in
-    let in' : c.index-node.result.now < c.args.web.now.nodes = omega (arith, c.loop-next.invariant.count, marked_low c.loop-next.marks.items c.index-node.result.now marked) in
+    let is : c.index-node.result.now ≡ get_or c.loop-next.found.items c.loop-next.next 0 = get_or_read c.loop-next.found.items c.loop-next.next
+    c.index-node.result.now low c.index-node.ensures 0 in
+    let marked : is_marked c.loop-next.marks.items c.index-node.result.now ≡ true = ap (is_marked c.loop-next.marks.items) is
+    ∙ c.loop-next.invariant.noted c.loop-next.next 0 low in
+    let in' : c.index-node.result.now < c.args.web.now.nodes = omega (
+      arith,
+      c.loop-next.invariant.count,
+      marked_low c.loop-next.marks.items
+          c.index-node.result.now marked,
+    ) in
     incident_ends c.args.web.now c.in_ok-incidence.incidence c.in_ok-incidence.ensures c.index-node.result.now in' c.at.result.now c.at.ensures
 
 pub loop-next-preserved : goal.loop-next-preserved
 loop-next-preserved c =
     let low : c.loop-next.next < length c.loop-next.found.items = omega arith in
-    Explores-more c.args.web.now c.loop-next.marks.items _ c.loop-next.found.items _ c.loop-next.next c.index-node.result.now c.in_ok-incidence.incidence c.in_ok-incidence.ensures low
+    Explores-more c.args.web.now c.loop-next.marks.items _ c.loop-next.found.items _ c.loop-next.next c.index-node.result.now
+    c.in_ok-incidence.incidence c.in_ok-incidence.ensures low
     (get_or_read c.loop-next.found.items c.loop-next.next c.index-node.result.now low c.index-node.ensures 0) c.loop-next.invariant
-    (subst (λ es. Visits c.args.web.now c.index-node.result.now es c.loop-next.marks.items c.visit.new.marks.items c.loop-next.found.items c.visit.new.found.items) c.at.ensures c.in_ok-visit.ensures)
+    (subst (λ es. Visits c.args.web.now c.index-node.result.now es c.loop-next.marks.items c.visit.new.marks.items c.loop-next.found.items
+    c.visit.new.found.items) c.at.ensures c.in_ok-visit.ensures)
 
 pub returns : goal.returns
 returns c = MarksReached-all c.args.web.now c.loop-next.marks.items c.loop-next.found.items c.loop-next.next c.loop-next.invariant (omega arith)

@@ -46,7 +46,8 @@ returns-then-begins-clause-read c =
     record {
       body = sf.body;
       last = r;
-      ended = ended c.args.terms c.args.n c.args.records.now c.loop-body.records c.next.new.self r c.loop-body.body sf next end c.in_ok-bare_end.ensures.passes good;
+      ended = ended c.args.terms c.args.n c.args.records.now c.loop-body.records c.next.new.self r c.loop-body.body sf next end
+          c.in_ok-bare_end.ensures.passes good;
       value = c.in_ok-graph.ensures.value sf.body sf.holds ∙ ap (λ (k : ℕ). body_graph k sf.body) sf.nodes;
       count = ap (λ (n : ℕ). n + 1) c.at.ensures.value;
     }

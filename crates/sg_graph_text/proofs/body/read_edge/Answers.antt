@@ -46,7 +46,8 @@ returns-in_err-check_room-clause-refused c =
     let first = ap (λ (g : Range). is_number_in g (field r 1)) (sym c.spin_below.ensures) ∙ c.in_ok-a.ensures.ok.1 in
     let second = ap (λ (g : Range). is_number_in g (field r 2)) (sym c.spin_below-2.ensures) ∙ c.in_ok-b.ensures.ok.1 in
     let third = ap (λ (g : Range). is_number_in g (field r 3)) (sym c.at_least.ensures) ∙ c.in_ok-w.ensures.ok.1 in
-    rw (p.1, p.2) (edge_fault-room c.args.n c.args.m r _ count (bad_field-three r (edge_range c.args.n) count first second third) c.in_err-check_room.ensures.refused)
+    rw (p.1, p.2) (edge_fault-room c.args.n c.args.m r _ count (bad_field-three r (edge_range c.args.n) count first second third)
+    c.in_err-check_room.ensures.refused)
 
 pub returns-clause-passes : goal.returns-clause-passes
 returns-clause-passes c =

@@ -10,7 +10,8 @@ returns-in_err-text-clause-refuses c =
 pub returns-in_err-network-clause-refuses : goal.returns-in_err-network-clause-refuses
 returns-in_err-network-clause-refuses c =
     let p = err_from_is_err_and c.from_residual-in_err-network.result c.from_residual-in_err-network.ensures.1 in
-    rw (p.1, p.2) (weight-fault c.args.terms c.args.bytes.now c.in_ok-text.text c.in_err-network.field-0.0 c.in_ok-text.ensures.gives c.in_err-network.ensures.refused)
+    rw (p.1, p.2) (weight-fault c.args.terms c.args.bytes.now c.in_ok-text.text c.in_err-network.field-0.0 c.in_ok-text.ensures.gives
+    c.in_err-network.ensures.refused)
 
 pub returns-in_err-check_joined-clause-refuses : goal.returns-in_err-check_joined-clause-refuses
 returns-in_err-check_joined-clause-refuses c =

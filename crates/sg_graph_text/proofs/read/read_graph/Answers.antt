@@ -11,7 +11,8 @@ returns-clause-read c =
     let split = sym c.new-rows.ensures.value ∙ c.in_ok-nodes.ensures.split in
     IfOk-weaker c.read_body.result _ _
     (λ r st. behind-graph c.args.terms (kept_of c.args.bytes.now) c.next_size.new.rows c.next_size.new.row r.0 r.1 split c.in_ok-nodes.ensures.passes
-    (subst (λ (n : ℕ). StatesToEnd (body_fault c.args.terms n) (body_graph n) c.next_size.new.rows r.0 r.1) c.in_ok-nodes.ensures.value st)) c.read_body.ensures.read
+    (subst (λ (n : ℕ). StatesToEnd (body_fault c.args.terms n) (body_graph n) c.next_size.new.rows r.0 r.1) c.in_ok-nodes.ensures.value st))
+    c.read_body.ensures.read
 
 pub returns-clause-fault : goal.returns-clause-fault
 returns-clause-fault c =

@@ -9,7 +9,8 @@ loop-preserved g c =
     let e = c.next_draw-value.ensures in
     let value = to_z-of_z {w = w64} {z = c.next_draw-value.result} (search rules) in
     let last = (goal.Disorder-dyn g (c.args.law.now.vtable, c.args.law.now.value)).next c.args.law.now.value in (
-      λ n. one_more last _ _ c.loop.found.items c.push.new.self.items c.next_draw-value.result c.loop.counter n c.loop.invariant.0 e.stream (rw value at c.in_ok-push.ensures.items),
+      λ n. one_more last _ _ c.loop.found.items c.push.new.self.items c.next_draw-value.result c.loop.counter n c.loop.invariant.0 e.stream
+          (rw value at c.in_ok-push.ensures.items),
       λ n. one_fewer _ _ _ n c.loop.invariant.1 e.stream,
       search rules,
       rw (rw value at c.in_ok-push.ensures.items) (All-push IsDraw c.loop.found.items c.next_draw-value.result c.loop.invariant.3 e.range),
@@ -29,4 +30,5 @@ returns-clause-rest g c =
     let end : c.args.count ≡ c.loop.counter = omega (arith, c.loop-test.false, c.loop.auto.counter-end) in
     let old = (goal.Disorder-dyn g (c.args.law.now.vtable, c.args.law.now.value)).next c.args.law.now.value in
     let last = (goal.Disorder-dyn g (c.loop.law.vtable, c.loop.law.value)).next c.loop.law.value in
-    λ n. rw end (c.loop.invariant.0 n ∙ ap (λ s. s ++ last n) (sym (all_found old last c.loop.found.items c.loop.counter c.loop.invariant.0 c.loop.invariant.1)))
+    λ n. rw end (c.loop.invariant.0 n ∙ ap (λ s. s ++ last n) (sym (all_found old last c.loop.found.items c.loop.counter c.loop.invariant.0
+    c.loop.invariant.1)))

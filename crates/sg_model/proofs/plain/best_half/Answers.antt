@@ -23,12 +23,14 @@ loop-half-preserved c =
         count = count;
         found = w.least-is ∙ here ∙ ap f (sym w.best-is);
         size = omega (arith, c.pow-half-end.ensures);
-        below = λ k l. subst (λ x. x ≤ℤ f k) (sym w.least-is) (beats-found f (to_z w128 c.loop-half.least-bits) _ half here (grind (arith, ints)) c.loop-half.invariant.below k l);
+        below = λ k l. subst (λ x. x ≤ℤ f k) (sym w.least-is) (beats-found f (to_z w128 c.loop-half.least-bits) _ half here (grind (arith, ints))
+            c.loop-half.invariant.below k l);
       }
       | else-energy-least w ↦ record {
         count = count;
         found = w.least-is ∙ c.loop-half.invariant.found ∙ ap f (sym w.best-is);
         size = omega (arith, c.loop-half.invariant.size);
-        below = λ k l. subst (λ x. x ≤ℤ f k) (sym w.least-is) (beats-kept f (to_z w128 c.loop-half.least-bits) _ half here (omega (arith, ints)) c.loop-half.invariant.below k l);
+        below = λ k l. subst (λ x. x ≤ℤ f k) (sym w.least-is) (beats-kept f (to_z w128 c.loop-half.least-bits) _ half here (omega (arith, ints))
+            c.loop-half.invariant.below k l);
       }
     ]

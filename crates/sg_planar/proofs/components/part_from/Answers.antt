@@ -9,17 +9,20 @@ use Rattle.sg_planar.proofs.components.part_from.Goals.{After-deref-2}
 spins : (c : After-deref-2) → c.in_ok-spins.spins ≡ named_spins c.args.p.now.instance (slice_index c.args.split.now.names.items) c.args.least
 spins c =
     c.in_ok-spins.ensures.cases
-    ∙ spins_dealt c.instance-inst.ensures.planar.instance c.requires.split c.args.least c.requires.least_in c.requires.least_own c.index.result.now c.index.ensures
+    ∙ spins_dealt c.instance-inst.ensures.planar.instance c.requires.split c.args.least c.requires.least_in c.requires.least_own c.index.result.now
+    c.index.ensures
 
 bonds : (c : After-deref-2) → c.in_ok-bonds.bonds ≡ named_bonds c.args.p.now.instance (slice_index c.args.split.now.names.items) c.args.least
 bonds c =
     c.in_ok-bonds.ensures.cases
-    ∙ bonds_dealt c.instance-inst.ensures.planar.instance c.requires.split c.args.least c.requires.least_in c.requires.least_own c.index-2.result.now c.index-2.ensures
+    ∙ bonds_dealt c.instance-inst.ensures.planar.instance c.requires.split c.args.least c.requires.least_in c.requires.least_own c.index-2.result.now
+    c.index-2.ensures
 
 pub part_instance-requires-clause-closed : goal.part_instance-requires-clause-closed
 part_instance-requires-clause-closed c =
     let here = (goal.at.part_instance-requires-clause-closed c).After-deref-2 in
-    rw c.instance-inst.ensures.value (dealt_closed c.instance-inst.ensures.planar.instance c.requires.split c.args.least c.requires.least_in c.requires.least_own
+    rw c.instance-inst.ensures.value (dealt_closed c.instance-inst.ensures.planar.instance c.requires.split c.args.least c.requires.least_in
+    c.requires.least_own
     c.in_ok-spins.spins c.in_ok-bonds.bonds (spins here) (bonds here))
 
 pub part_instance-requires-clause-spin_places : goal.part_instance-requires-clause-spin_places

@@ -11,7 +11,8 @@ loop-place-preserved c =
     let pushed : c.push_width.new.text.items ≡ c.loop-place.text.items ++
     width_line cols (int_at c.args.sums.now c.loop-place.place) (int_at c.args.squares.now c.loop-place.place) = search rules in
     pushed
-    ∙ lines-more (λ (i x : ℕ). width_line x (int_at c.args.sums.now i) (int_at c.args.squares.now i)) c.args.cols.now c.loop-place.text.items c.loop-place.place 0
+    ∙ lines-more (λ (i x : ℕ). width_line x (int_at c.args.sums.now i) (int_at c.args.squares.now i)) c.args.cols.now c.loop-place.text.items
+    c.loop-place.place 0
     (omega arith) c.loop-place.invariant
 
 pub returns : goal.returns

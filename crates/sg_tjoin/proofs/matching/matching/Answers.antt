@@ -14,14 +14,16 @@ pub returns-clause-near : goal.returns-clause-near
 returns-clause-near c =
     both c.run.result (λ (m : Matched). leaf_count m.family ≡ c.in_ok-costs.costs.size) (λ m. NoSlackIsNegative m.family (cost c.in_ok-costs.costs))
     (λ m. NoSlackIsNegative m.family (terminal_cost c.args.terminals.now c.args.tables.now))
-    (λ m leaves slack. NoSlackIsNegative-matched c.args.terminals.now c.args.tables.now c.in_ok-costs.costs c.requires c.in_ok-costs.ensures m.family leaves slack)
+    (λ m leaves slack. NoSlackIsNegative-matched c.args.terminals.now c.args.tables.now c.in_ok-costs.costs c.requires
+    c.in_ok-costs.ensures m.family leaves slack)
     c.run.ensures.leaves c.run.ensures.slack
 
 pub returns-clause-pairing : goal.returns-clause-pairing
 returns-clause-pairing c =
     both c.run.result (λ (m : Matched). leaf_count m.family ≡ c.in_ok-costs.costs.size) (λ m. IsMatching m.family (cost c.in_ok-costs.costs) m.mates)
     (λ m. IsPairing _ m.mates)
-    (λ m leaves matching. IsPairing-matched c.args.terminals.now c.args.tables.now c.in_ok-costs.costs c.requires c.in_ok-costs.ensures m.family leaves m.mates matching)
+    (λ m leaves matching. IsPairing-matched c.args.terminals.now c.args.tables.now c.in_ok-costs.costs c.requires
+    c.in_ok-costs.ensures m.family leaves m.mates matching)
     c.run.ensures.leaves c.run.ensures.matching
 
 pub returns-clause-duals : goal.returns-clause-duals

@@ -14,7 +14,8 @@ head-to-requires c =
     let list : c.as_slice-dart-items.result.now ≡ darts_of c.args.inst.now c.args.spin =
     c.as_slice-dart-items.ensures ∙ sym (get_or_from_slice_get c.rotation.result.now c.args.spin c.at.result.now [] c.at.ensures)
     ∙ ap (λ r. get_or r c.args.spin []) c.rotation.ensures.value in
-    rw list (in_list c.args.inst.now c.rotation.ensures.instance c.args.spin c.loop-dart.dart-index c.requires.spin_in (omega (arith, c.loop-dart-test.true, ap length list))).0
+    rw list (in_list c.args.inst.now c.rotation.ensures.instance c.args.spin c.loop-dart.dart-index c.requires.spin_in
+    (omega (arith, c.loop-dart-test.true, ap length list))).0
 
 pub leads_on-requires-clause-dart_in : goal.leads_on-requires-clause-dart_in
 leads_on-requires-clause-dart_in c =
@@ -22,7 +23,8 @@ leads_on-requires-clause-dart_in c =
     c.as_slice-dart-items.ensures ∙ sym (get_or_from_slice_get c.rotation.result.now c.args.spin c.at.result.now [] c.at.ensures)
     ∙ ap (λ r. get_or r c.args.spin []) c.rotation.ensures.value in
     let below : get_or (darts_of c.args.inst.now c.args.spin) c.loop-dart.dart-index 0 < dart_count c.args.inst.now =
-    (in_list c.args.inst.now c.rotation.ensures.instance c.args.spin c.loop-dart.dart-index c.requires.spin_in (omega (arith, c.loop-dart-test.true, ap length list))).0 in
+    (in_list c.args.inst.now c.rotation.ensures.instance c.args.spin c.loop-dart.dart-index c.requires.spin_in
+    (omega (arith, c.loop-dart-test.true, ap length list))).0 in
     rw list (omega (arith, below, c.requires.set_length))
 
 pub loop-dart-preserved : goal.loop-dart-preserved
@@ -47,11 +49,14 @@ loop-dart-preserved c =
           (get_or c.loop-dart.marks c.head-to.result false ≡ false) =
           leads_parts _ _ (sym test ∙ w.if-leads_on.true) in
           rw (w.marks-is, w.order-is, w.in_ok-push.ensures.items)
-          (visits_new c.args.inst.now (has c.args.set.now) c.args.spin (darts_of c.args.inst.now c.args.spin) c.args.marks.now c.loop-dart.marks c.args.order.now.items c.loop-dart.order.items c.loop-dart.dart-index here c.loop-dart.invariant
-          c.head-to.result leads inside parts.1 (joined_along c.args.inst.now (has c.args.set.now) (get_or (darts_of c.args.inst.now c.args.spin) c.loop-dart.dart-index 0) c.args.spin c.head-to.result dart.0 parts.0 dart.1 leads))
+          (visits_new c.args.inst.now (has c.args.set.now) c.args.spin (darts_of c.args.inst.now c.args.spin) c.args.marks.now c.loop-dart.marks
+          c.args.order.now.items c.loop-dart.order.items c.loop-dart.dart-index here c.loop-dart.invariant
+          c.head-to.result leads inside parts.1 (joined_along c.args.inst.now (has c.args.set.now)
+          (get_or (darts_of c.args.inst.now c.args.spin) c.loop-dart.dart-index 0) c.args.spin c.head-to.result dart.0 parts.0 dart.1 leads))
       | else-leads_on w ↦
           rw (w.marks-is, w.order-is)
-          (visits_same c.args.inst.now (has c.args.set.now) c.args.spin (darts_of c.args.inst.now c.args.spin) c.args.marks.now c.loop-dart.marks c.args.order.now.items c.loop-dart.order.items c.loop-dart.dart-index here c.loop-dart.invariant
+          (visits_same c.args.inst.now (has c.args.set.now) c.args.spin (darts_of c.args.inst.now c.args.spin) c.args.marks.now c.loop-dart.marks
+          c.args.order.now.items c.loop-dart.order.items c.loop-dart.dart-index here c.loop-dart.invariant
           (λ e. ap (λ x. get_or c.loop-dart.marks x false) (sym leads) ∙ seen_or_new _ _ (sym test ∙ w.if-leads_on.false) e))
     ]
 

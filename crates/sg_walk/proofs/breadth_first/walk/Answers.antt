@@ -9,14 +9,21 @@ use Rattle.sg_walk.proofs.breadth_first.walk.Goals as goal
 pub loop-next-init : goal.loop-next-init
 loop-next-init c =
     let items : c.push.new.self.items ≡ c.args.root ∷ [] = c.in_ok-push.ensures.items ∙ ap (λ xs. xs ++ c.args.root ∷ []) c.clear.ensures.items in
-    rw items (search_start c.args.inst.now c.n-next-end.ensures.instance (has c.args.set.now) c.args.root c.args.marks.now (omega (arith, c.requires.root_in, c.requires.lengths)) c.requires.free)
+    rw items (search_start c.args.inst.now c.n-next-end.ensures.instance (has c.args.set.now) c.args.root c.args.marks.now
+    (omega (arith, c.requires.root_in, c.requires.lengths)) c.requires.free)
 
 pub visit-requires-clause-spin_in : goal.visit-requires-clause-spin_in
 visit-requires-clause-spin_in c =
     let here : c.loop-next.next < length c.loop-next.order.items = omega (arith, c.index-spin.ensures, c.loop-next.invariant.at_most) in
     let spin : c.index-spin.result.now ≡ get_or c.loop-next.order.items c.loop-next.next 0 =
     get_or_read c.loop-next.order.items c.loop-next.next c.index-spin.result.now here c.index-spin.ensures 0 in
-    omega (arith, spin, c.requires.lengths, order_in c.args.inst.now c.n-next-end.ensures.instance (has c.args.set.now) c.args.root c.args.marks.now c.loop-next.marks c.loop-next.order.items c.loop-next.next c.loop-next.next c.loop-next.invariant here)
+    omega (
+      arith,
+      spin,
+      c.requires.lengths,
+      order_in c.args.inst.now c.n-next-end.ensures.instance (has c.args.set.now) c.args.root c.args.marks.now
+          c.loop-next.marks c.loop-next.order.items c.loop-next.next c.loop-next.next c.loop-next.invariant here,
+    )
 
 pub loop-next-preserved : goal.loop-next-preserved
 loop-next-preserved c =

@@ -12,14 +12,16 @@ returns-in_err-entries-clause-fault c =
     let fault = c.in_err-entries.ensures.fault in
     rw (p.1, p.2) (λ body h.
     let same : body_fault old.terms old.nodes body r ≡ term_fault c.is_some.result r =
-    body_fault-term old.terms old.nodes body r c.requires.allowed c.requires.word ∙ ap (λ (b : Bool). term_fault b r) (sym (seen-term body old h) ∙ sym c.is_some.ensures) in
+    body_fault-term old.terms old.nodes body r c.requires.allowed c.requires.word
+    ∙ ap (λ (b : Bool). term_fault b r) (sym (seen-term body old h) ∙ sym c.is_some.ensures) in
     rw same fault)
 
 pub returns-clause-passes : goal.returns-clause-passes
 returns-clause-passes c = λ body h.
     let r = c.args.row.now in
     let old = c.args.self.now in
-    body_fault-term old.terms old.nodes body r c.requires.allowed c.requires.word ∙ ap (λ (b : Bool). term_fault b r) (sym (seen-term body old h) ∙ sym c.is_some.ensures)
+    body_fault-term old.terms old.nodes body r c.requires.allowed c.requires.word
+    ∙ ap (λ (b : Bool). term_fault b r) (sym (seen-term body old h) ∙ sym c.is_some.ensures)
     ∙ c.in_ok-entries.ensures.passes
 
 pub returns-clause-holds : goal.returns-clause-holds

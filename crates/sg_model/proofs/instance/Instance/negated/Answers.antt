@@ -13,4 +13,5 @@ with_bonds-requires c =
     let good = subst IsInstance c.self.view_is c.self.invariant in
     let items = c.as_slice-bond-items.ensures ∙ ap (λ i. i.bonds) c.self.view_is in
     let done : bond_count inst ≤ c.loop-bond.bond-index = omega (arith, ap (length {A = Bond}) items, c.loop-bond-test.false) in
-    subst (HasSameEnds inst) (sym (c.loop-bond.invariant ∙ ap (map opposite) (take_all c.loop-bond.bond-index inst.bonds done))) (negated_ends inst good.draft.joined)
+    subst (HasSameEnds inst) (sym (c.loop-bond.invariant ∙ ap (map opposite) (take_all c.loop-bond.bond-index inst.bonds done)))
+    (negated_ends inst good.draft.joined)
