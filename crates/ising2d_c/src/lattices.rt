@@ -1,11 +1,12 @@
 // Lattices by numbers. No number is trusted: each is tested, and the first fault is named.
 ghost use Rattle.std.specs.Prelude.{◌≡◌, ◌↔◌, ◌<◌, ◌*◌, ◌^◌, length, None, All, IfOk, IfErr, IfSome, IsTrue, nat_lt, unsigned_abs};
-ghost use Rattle.sg_lattice.specs.Tables.{IsSize, bond_total, least_cols as least_columns};
+ghost use Rattle.sg_lattice.specs.Tables.{IsSize, bond_total};
 ghost use Rattle.ising2d_c.specs.Lattices.{IsCoupledLattice, IsCoupling, IsCouplingFault, IsFirstOut, IsLattice, IsLatticeFault, IsSizedFault, IsValueFault, kind_numbered, size_fault};
 
 use sg_lattice::{Kind, bond_count, build};
 use sg_limits::SPIN_LIMIT;
 use sg_model::{Couplings, Fault, Instance, Refusal};
+use sg_reader::least_cols;
 use std::alloc::Global;
 
 /// The lattice of these numbers.
@@ -64,17 +65,6 @@ fn fault_of_size(kind: Kind, rows: u32, cols: u32) -> Option<Refusal>
         });
     }
     None
-}
-
-// The least number of columns of a lattice of this kind.
-fn least_cols(kind: Kind) -> u32
-    ensures { result ≡ least_columns kind }
-{
-    match kind {
-        Kind::Square | Kind::Triangular => 1,
-        Kind::Hexagonal => 2,
-        Kind::Cylinder => 3,
-    }
 }
 
 // The lattice of a kind, once its size is tested.

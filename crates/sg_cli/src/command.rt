@@ -6,6 +6,7 @@ ghost use Rattle.sg_cli.specs.Command.{command_named, command_of, ensemble_of, g
 use super::numeral::number_in;
 use sg_lattice::Kind;
 use sg_limits::SPIN_LIMIT;
+use sg_reader::least_cols;
 
 // The most samples of an ensemble.
 const SAMPLE_LIMIT: u64 = 1000;
@@ -235,21 +236,10 @@ fn size_in(kind: Kind, most: u32, rows: &str, cols: &str) -> Option<Size>
     ensures most { IfSome result (λ size. size.cols ≤ most) }
 {
     let rows = number_in(rows, 1, u64::from(SPIN_LIMIT))? as u32;
-    let cols = number_in(cols, least_cols(kind), u64::from(most))? as u32;
+    let cols = number_in(cols, u64::from(least_cols(kind)), u64::from(most))? as u32;
     if u64::from(rows) * u64::from(cols) <= u64::from(SPIN_LIMIT) {
         Some(Size { rows, cols })
     } else {
         None
-    }
-}
-
-// The least number of columns of a lattice of this kind.
-fn least_cols(kind: Kind) -> u64
-    ensures { result ≡ least_columns kind }
-{
-    match kind {
-        Kind::Square | Kind::Triangular => 1,
-        Kind::Hexagonal => 2,
-        Kind::Cylinder => 3,
     }
 }
