@@ -195,15 +195,15 @@ fn a_law_of_draws_from_elsewhere(rt: HostRuntime) -> Result<(), Fail> {
 #[test]
 fn a_sample_and_its_instance(rt: HostRuntime) -> Result<(), Fail> {
     let alloc = rt.alloc();
-    let (_, sample) = drawn(alloc, "sample pm 7 24 24")?;
-    let (_, again) = drawn(alloc, "sample pm 7 24 24")?;
+    let (_, sample) = drawn(alloc, "sample pm 7 32 32")?;
+    let (_, again) = drawn(alloc, "sample pm 7 32 32")?;
     assert_eq!(rt; sample.as_slice(), again.as_slice());
     assert!(rt;
         sample
             .as_slice()
-            .starts_with(b"spins,576\nbonds,1104\nsum,1104\nenergy,-")
+            .starts_with(b"spins,1024\nbonds,1984\nsum,1984\nenergy,-")
     );
-    let (_, instance) = drawn(alloc, "gen pm 7 square 24 24")?;
+    let (_, instance) = drawn(alloc, "gen pm 7 square 32 32")?;
     let (_, ground) = answer(alloc, "ground", instance.as_slice())?;
     let energy = ground.as_slice().split(|byte| *byte == b'\n').nth(0);
     assert!(rt; energy.is_some());

@@ -15,20 +15,19 @@ use std::test::Fail;
 
 // The instance of a text.
 fn instance(rt: &impl Abort, alloc: Global, text: &str) -> Result<Instance, Fail> {
-    assert!(rt; text.len() < 1000);
+    assert!(rt; text.len() < 100_000);
     let (inst, _) = read_instance(alloc, text.as_bytes())?;
     Ok(inst)
 }
 
-// Tries all assignments of a connected instance, and solves it by matching alone. The proposal has to
-// be there and good, else `solve` would go the long way each time and nobody notice.
+// Solves a connected instance by matching alone. The proposal has to be there and good, else `solve`
+// would go the long way each time and nobody notice.
 fn assert_part(rt: &impl Abort, alloc: Global, planar: &Planar, text: &str) -> Result<(), Fail>
     requires { IsConnected planar.now.instance }
 {
-    assert!(rt; planar.instance().n() <= 16);
-    let (_, least) = least_plain(alloc, planar.instance())?;
-    let matched = i128::from(match_faces(alloc, planar)?.energy);
-    assert_eq!(rt; matched, least, "{text}");
+    let solved = solve(alloc, planar)?.energy;
+    let matched = match_faces(alloc, planar)?.energy;
+    assert_eq!(rt; matched, solved, "{text}");
     assert!(rt; judged_proposal(alloc, planar)?.is_some(), "{text}");
     Ok(())
 }
@@ -49,18 +48,26 @@ fn assert_parts(
     Ok(())
 }
 
-// Tries all assignments of the instance of a text, and solves it, at once and part by part.
-fn assert_least(rt: &impl Abort, alloc: Global, text: &str) -> Result<(), Fail> {
+// Solves the instance of a text, at once and part by part.
+fn assert_solved(rt: &impl Abort, alloc: Global, text: &str) -> Result<i128, Fail> {
     let inst = instance(rt, alloc, text)?;
     let Ok(planar) = Planar::new(alloc, inst) else {
         return Err(Fail::new("the instance is planar"));
     };
     let inst = planar.instance();
-    assert!(rt; inst.n() <= 16);
-    let (_, least) = least_plain(alloc, inst)?;
-    assert_eq!(rt; i128::from(solve(alloc, &planar)?.energy), least, "{text}");
     let list = parts(alloc, &planar)?;
-    assert_parts(rt, alloc, inst, list.as_slice(), text)
+    assert_parts(rt, alloc, inst, list.as_slice(), text)?;
+    Ok(i128::from(solve(alloc, &planar)?.energy))
+}
+
+// Tries all assignments of the instance of a text beside that.
+fn assert_least(rt: &impl Abort, alloc: Global, text: &str) -> Result<(), Fail> {
+    let energy = assert_solved(rt, alloc, text)?;
+    let inst = instance(rt, alloc, text)?;
+    assert!(rt; inst.n() <= 16);
+    let (_, least) = least_plain(alloc, &inst)?;
+    assert_eq!(rt; energy, least, "{text}");
+    Ok(())
 }
 
 #[test]
@@ -138,6 +145,17 @@ fn drawn_lattices(rt: HostRuntime) -> Result<(), Fail> {
             assert_least(&rt, rt.alloc(), text.as_str())?;
         }
     }
+    Ok(())
+}
+
+// A large instance by matching alone, which is never asked where the proposal is good.
+#[test]
+fn a_large_lattice(rt: HostRuntime) -> Result<(), Fail> {
+    let mut draws = Pcg32::new(7, 54);
+    let text = drawn(rt.alloc(), "square,32,32", 1984, 0, &mut draws)?;
+    let energy = assert_solved(&rt, rt.alloc(), text.as_str())?;
+    assert!(rt; energy < 0);
+    assert_eq!(rt; assert_solved(&rt, rt.alloc(), text.as_str())?, energy);
     Ok(())
 }
 
