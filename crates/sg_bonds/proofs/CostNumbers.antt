@@ -94,35 +94,44 @@ read_bond inst same bonds k b found list instance =
     ∙ ap (λ (bs : List Bond). get_or bs k (record { u = 0; v = 0; j = pos 0 })) (sym list)
     ∙ get_or_from_slice_get bonds k b (record { u = 0; v = 0; j = pos 0 }) found
 
+-- a solve with bond k forced to the product p, by the numbers of the code: the force f, the coupling z that it gives, the ground state s
+-- with its energy e, and the part x of the coupling j in it
+pub record IsForcedSolve (inst : Ising) (k : ℕ) (p f z e x j : ℤ) (forced : Ising) (s : List ℤ) : Type 0 where
+  pub force : f ≡ pos (weight inst + 1)
+  pub new : z ≡ kept p *ℤ kept f
+  pub copy : forced ≡ with_coupling inst k (kept z)
+  pub ground : IsGroundState forced s
+  pub value : e ≡ energy forced s
+  pub size : unsigned_abs e ≤ weight forced
+  pub coupling : (bond_at inst k).j ≡ j
+  pub own : x ≡ kept p *ℤ kept j
+
 module _ (inst : Ising) (good : IsInstance inst) (k : ℕ) (inside : k < bond_count inst) (small : weight inst ≤ sum_limit) where
   pub coupling_fits : (j : ℤ) → (bond_at inst k).j ≡ j → unsigned_abs (to_z w64 (of_z w64 j)) < 2 ^ 63
   coupling_fits j e =
       let size : unsigned_abs j ≤ weight inst = omega (arith, coupling_size inst good k inside, ap unsigned_abs e) in
       omega (arith, size, ap unsigned_abs (kept_small j (weight inst) size (omega arith)))
 
-  module _ (p : ℤ) (up : IsUpOrDown p) (f z e x j : ℤ) (forced : Ising) (s : List ℤ)
-      (force : f ≡ pos (weight inst + 1)) (new : z ≡ kept p *ℤ kept f) (copy : forced ≡ with_coupling inst k (kept z))
-      (ground : IsGroundState forced s) (value : e ≡ energy forced s) (size : unsigned_abs e ≤ weight forced)
-      (coupling : (bond_at inst k).j ≡ j) (own : x ≡ kept p *ℤ kept j) where
+  module _ (p : ℤ) (up : IsUpOrDown p) (f z e x j : ℤ) (forced : Ising) (s : List ℤ) (solved : IsForcedSolve inst k p f z e x j forced s) where
     force_kept : kept f ≡ pos (weight inst + 1)
-    force_kept = kept_small f (weight inst + 1) (omega (arith, ap unsigned_abs force)) (omega arith) ∙ force
+    force_kept = kept_small f (weight inst + 1) (omega (arith, ap unsigned_abs solved.force)) (omega arith) ∙ solved.force
 
     new_is : z ≡ p *ℤ pos (weight inst + 1)
-    new_is = new ∙ ap₂ (λ a b. a *ℤ b) (kept_unit p up) force_kept
+    new_is = solved.new ∙ ap₂ (λ a b. a *ℤ b) (kept_unit p up) force_kept
 
     new_kept : kept z ≡ p *ℤ pos (weight inst + 1)
     new_kept = kept_small z (weight inst + 1) (omega (arith, ap unsigned_abs new_is, signed_size p (pos (weight inst + 1)) up)) (omega arith) ∙ new_is
 
     copy_is : forced ≡ with_coupling inst k (p *ℤ pos (weight inst + 1))
-    copy_is = copy ∙ ap (with_coupling inst k) new_kept
+    copy_is = solved.copy ∙ ap (with_coupling inst k) new_kept
 
     energy_bound : unsigned_abs e ≤ forced_limit
-    energy_bound = omega (arith, size, ap weight copy_is, forced_sum inst k p sum_limit inside up small)
+    energy_bound = omega (arith, solved.size, ap weight copy_is, forced_sum inst k p sum_limit inside up small)
 
     own_is : x ≡ p *ℤ (bond_at inst k).j
     own_is =
-        let bound : unsigned_abs j ≤ weight inst = omega (arith, coupling_size inst good k inside, ap unsigned_abs coupling) in
-        own ∙ ap₂ (λ a b. a *ℤ b) (kept_unit p up) (kept_small j (weight inst) bound (omega arith) ∙ sym coupling)
+        let bound : unsigned_abs j ≤ weight inst = omega (arith, coupling_size inst good k inside, ap unsigned_abs solved.coupling) in
+        solved.own ∙ ap₂ (λ a b. a *ℤ b) (kept_unit p up) (kept_small j (weight inst) bound (omega arith) ∙ sym solved.coupling)
 
     own_bound : unsigned_abs x ≤ sum_limit
     own_bound = omega (arith, ap unsigned_abs own_is, signed_size p (bond_at inst k).j up, coupling_size inst good k inside)
@@ -163,16 +172,16 @@ module _ (inst : Ising) (good : IsInstance inst) (k : ℕ) (inside : k < bond_co
     least_found =
         subst (IsLeastWith inst k p) (sym (to_z-of_z w64 (kept (kept e +ℤ kept f) -ℤ kept x) gap_fits ∙ outer))
         (forced_minimum inst good k inside p up (weight inst + 1) (omega arith) e
-        (subst (λ i. IsLeastEnergy i e) copy_is (least_of_ground_state forced s e ground value)))
+        (subst (λ i. IsLeastEnergy i e) copy_is (least_of_ground_state forced s e solved.ground solved.value)))
 
     -- the spins have the product, and the energy that was found
     pub product_found : product s (bond_at inst k) ≡ p
-    product_found = forced_product inst good k inside p up (weight inst + 1) (omega arith) s (subst (λ i. IsGroundState i s) copy_is ground)
+    product_found = forced_product inst good k inside p up (weight inst + 1) (omega arith) s (subst (λ i. IsGroundState i s) copy_is solved.ground)
 
     pub energy_found : to_z w64 (of_z w64 (to_z w64 (of_z w64 (to_z w64 (of_z w64 e) +ℤ to_z w64 (of_z w64 f))) -ℤ to_z w64 (of_z w64 x))) ≡ energy inst s
     energy_found =
         to_z-of_z w64 (kept (kept e +ℤ kept f) -ℤ kept x) gap_fits ∙ outer
-        ∙ ap (λ n. (n +ℤ pos (weight inst + 1)) -ℤ (p *ℤ (bond_at inst k).j)) (value ∙ ap (λ i. energy i s) copy_is)
+        ∙ ap (λ n. (n +ℤ pos (weight inst + 1)) -ℤ (p *ℤ (bond_at inst k).j)) (solved.value ∙ ap (λ i. energy i s) copy_is)
         ∙ sym (forced_energy inst good k inside p up (weight inst + 1) (omega arith) s product_found)
 
 module _ (inst : Ising) (good : IsInstance inst) (k : ℕ) (small : weight inst ≤ sum_limit)
