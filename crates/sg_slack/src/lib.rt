@@ -60,13 +60,14 @@ pub struct Costs {
 
 impl Model for Costs {
     ghost use Rattle.std.specs.Prelude.{◌≡◌, ◌≤◌, ◌*◌, ◌^◌, length};
-    ghost use Rattle.sg_slack.specs.Table.{Table};
+    ghost use Rattle.sg_slack.specs.Table.{Table, IsSymmetric};
 
     ghost Value = { Table };
 
     ghost view = { λ c. record { size = c.size; entries = c.entries.items } };
 
-    ghost invariant = { λ c. (length c.entries.items ≡ c.size * c.size) × (c.size ≤ 2 ^ 24) };
+    ghost invariant = { λ c. (length c.entries.items ≡ c.size * c.size) × (c.size ≤ 2 ^ 24)
+        × IsSymmetric (record { size = c.size; entries = c.entries.items }) };
 }
 
 impl Costs {
@@ -105,6 +106,16 @@ impl Costs {
         ensures { result ≡ cost_of self.now u v }
     {
         self.entries[u as usize * self.size as usize + v as usize]
+    }
+
+    // The cost of two leaves from the row of the second: where one leaf stands beside many, its row is
+    // read through, and not one entry of each row.
+    fn cost_by_row(&self, u: u32, row: u32) -> i64
+        requires u { u < self.now.size }
+        requires row { row < self.now.size }
+        ensures { result ≡ cost_of self.now u row }
+    {
+        self.entries[row as usize * self.size as usize + u as usize]
     }
 
     /// Sets the cost of two leaves, in both orders. All other entries stay.
