@@ -7,7 +7,7 @@ ghost use Rattle.sg_slack.specs.Slack.{slack_of, Least, SumsFit};
 ghost use Rattle.sg_slack.specs.Table.{cost_of, Table};
 
 use super::near::Kept;
-use super::{Costs, NoMemory, Pair, difference, nearer, nearer_if, pair_of};
+use super::{Costs, NoMemory, Pair, difference, nearer, nearer_if};
 use std::alloc::Global;
 
 /// A member, and the cost of the pair.
@@ -152,7 +152,7 @@ impl Partners {
         let kept = pair_if_kept(costs, total, leaf, scan.partner);
         let more = nearest_apart(costs, members, total, top, leaf, scan.start);
         let pair = nearer(kept, more);
-        self.nearest[place] = partner_of(costs, pair);
+        self.nearest[place] = partner_with(costs, leaf, scan.partner, pair);
         if_apart(pair, top)
     }
 
@@ -303,6 +303,22 @@ fn pair_kept(costs: &Costs, total: &[i64], u: u32, partner: Partner) -> Pair
     }
 }
 
+// Two leaves with their slack, from the row of the second where it stands beside many.
+fn pair_beside(costs: &Costs, total: &[i64], u: u32, v: u32, many: bool) -> Pair
+    requires totals { length total.now ≡ costs.now.size }
+    requires fits { SumsFit costs.now total.now }
+    requires u { u < costs.now.size }
+    requires v { v < costs.now.size }
+    ensures { result ≡ record { u = u; v = v; slack = slack_of costs.now total.now u v } }
+{
+    let cost = if many {
+        costs.cost_by_row(u, v)
+    } else {
+        costs.cost(u, v)
+    };
+    pair_kept(costs, total, u, Partner { leaf: v, cost })
+}
+
 // What is kept of a pair.
 fn partner_of(costs: &Costs, pair: Option<Pair>) -> Option<Partner>
     requires { (p : Pair) → pair ≡ Some p → (p.u < costs.now.size) × (p.v < costs.now.size) }
@@ -314,6 +330,23 @@ fn partner_of(costs: &Costs, pair: Option<Pair>) -> Option<Partner>
             cost: costs.cost(pair.u, pair.v),
         }),
         None => None,
+    }
+}
+
+// The same for a pair of a leaf that may be kept already: the table is then not looked into.
+fn partner_with(
+    costs: &Costs,
+    u: u32,
+    kept: Option<Partner>,
+    pair: Option<Pair>,
+) -> Option<Partner>
+    requires pair { (p : Pair) → pair ≡ Some p → (p.u ≡ u) × (p.u < costs.now.size) × (p.v < costs.now.size) }
+    requires kept { HasCost costs.now u kept }
+    ensures { IsPartnerOf costs.now pair result }
+{
+    match (kept, pair) {
+        (Some(partner), Some(pair)) if partner.leaf == pair.v => Some(partner),
+        _ => partner_of(costs, pair),
     }
 }
 
@@ -356,7 +389,7 @@ fn nearest_apart(
     let mut best = None;
     for place in start..members.len() {
         let leaf = members[place].leaf;
-        let pair = pair_of(costs, total, u, leaf);
+        let pair = pair_beside(costs, total, u, leaf, start > 0);
         let counts = is_apart(top[u as usize], top[leaf as usize]);
         best = nearer_if(best, pair, counts);
     }

@@ -18,7 +18,7 @@ loop-place-preserved c =
     elim (cases_Bool c.is_apart-counts.result) [
       | inl counted ↦
           From-more costs total members top c.args.u start i c.loop-place.best c.nearer_if-best.result within (c.is_apart-counts.ensures.0 counted)
-          (subst (λ p. IsNearer c.loop-place.best (Some p) c.nearer_if-best.result) c.pair_of-pair.ensures (c.nearer_if-best.ensures.yes counted))
+          (subst (λ p. IsNearer c.loop-place.best (Some p) c.nearer_if-best.result) c.pair_beside-pair.ensures (c.nearer_if-best.ensures.yes counted))
           c.loop-place.invariant
       | inr passed ↦
           subst (λ r. Least costs total (IsApartFrom start (i + 1) members top c.args.u) r) (sym (c.nearer_if-best.ensures.no passed))
