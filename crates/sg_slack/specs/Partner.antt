@@ -1,4 +1,4 @@
--- For each member the nearest member of another top, as it was when the tops were last given.
+-- For each member one to which none of another top is nearer, by the tops as they were last given.
 use Rattle.std.specs.Prelude.{◌≡◌, ◌≢◌, ℕ, ◌<◌, ◌≤◌, List, length, slice_index, slice_index_or}
 use Rattle.std.specs.Prelude.{ℤ, ◌+ℤ◌, ◌-ℤ◌, ◌≤ℤ◌, Option, Some, None}
 use Rattle.sg_slack.specs.declared.Pair.{Pair}

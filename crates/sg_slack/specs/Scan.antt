@@ -1,6 +1,6 @@
 -- The parts of a scan over all pairs: one row, and the nearer of two pairs.
-use Rattle.std.specs.Prelude.{◌≡◌, ◌≢◌, ℕ, ◌<◌, ◌≤◌, List, length, slice_index, ℤ, ◌≤ℤ◌}
-use Rattle.std.specs.Prelude.{Option, Some, None, ◌⊎◌}
+use Rattle.std.specs.Prelude.{◌≡◌, ◌≢◌, ℕ, ◌<◌, ◌≤◌, List, length, slice_index}
+use Rattle.std.specs.Prelude.{ℤ, ◌≤ℤ◌, Option, Some, None, ◌⊎◌}
 use Rattle.sg_slack.specs.declared.Mark.{Mark}
 use Rattle.sg_slack.specs.declared.Pair.{Pair}
 use Rattle.sg_slack.specs.Table.{Table}

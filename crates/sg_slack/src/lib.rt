@@ -12,7 +12,8 @@
 //! slack among those meant, and none exactly where there is none. Which of several such pairs is
 //! given is free. A table is seen by its entries, `cost_of` of `specs/Table.antt`. Both scans go
 //! over all pairs and take no memory. A `Near` is seen as its costs and the list of its members with
-//! their totals (`Known` of `specs/Members.antt`); what it keeps is `IsNear` of `specs/Kept.antt`.
+//! their totals (`Known` of `specs/Members.antt`); what it keeps is `IsNear` of `specs/Kept.antt`, and
+//! from call to call of `least_between` `KeepsPartners` of `specs/Partner.antt`.
 #![tactic(auto)]
 
 ghost use Rattle.std.specs.Prelude.{◌≡◌, ◌≢◌, ◌↔◌, ◌<◌, ◌-ℤ◌, FitsSigned, IsTrue, Some, false, length};

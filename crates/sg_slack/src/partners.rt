@@ -152,7 +152,7 @@ impl Partners {
         let kept = pair_if_kept(costs, total, leaf, scan.partner);
         let more = nearest_apart(costs, members, total, top, leaf, scan.start);
         let pair = nearer(kept, more);
-        self.nearest[place] = partner_with(costs, leaf, scan.partner, pair);
+        self.nearest[place] = partner_of(costs, leaf, scan.partner, pair);
         if_apart(pair, top)
     }
 
@@ -223,7 +223,7 @@ impl Partners {
             return best;
         }
         let pair = nearest_apart(costs, members, total, top, leaf, 0);
-        self.nearest[place] = partner_of(costs, pair);
+        self.nearest[place] = partner_of(costs, leaf, None, pair);
         nearer(best, pair)
     }
 
@@ -319,34 +319,20 @@ fn pair_beside(costs: &Costs, total: &[i64], u: u32, v: u32, many: bool) -> Pair
     pair_kept(costs, total, u, Partner { leaf: v, cost })
 }
 
-// What is kept of a pair.
-fn partner_of(costs: &Costs, pair: Option<Pair>) -> Option<Partner>
-    requires { (p : Pair) → pair ≡ Some p → (p.u < costs.now.size) × (p.v < costs.now.size) }
-    ensures { IsPartnerOf costs.now pair result }
-{
-    match pair {
-        Some(pair) => Some(Partner {
-            leaf: pair.v,
-            cost: costs.cost(pair.u, pair.v),
-        }),
-        None => None,
-    }
-}
-
-// The same for a pair of a leaf that may be kept already: the table is then not looked into.
-fn partner_with(
-    costs: &Costs,
-    u: u32,
-    kept: Option<Partner>,
-    pair: Option<Pair>,
-) -> Option<Partner>
-    requires pair { (p : Pair) → pair ≡ Some p → (p.u ≡ u) × (p.u < costs.now.size) × (p.v < costs.now.size) }
+// What is kept of a pair of a leaf. Its cost is not looked up again where it was kept before.
+fn partner_of(costs: &Costs, u: u32, kept: Option<Partner>, pair: Option<Pair>) -> Option<Partner>
+    requires u { u < costs.now.size }
     requires kept { HasCost costs.now u kept }
+    requires pair { (p : Pair) → pair ≡ Some p → (p.u ≡ u) × (p.v < costs.now.size) }
     ensures { IsPartnerOf costs.now pair result }
 {
-    match (kept, pair) {
-        (Some(partner), Some(pair)) if partner.leaf == pair.v => Some(partner),
-        _ => partner_of(costs, pair),
+    match (pair, kept) {
+        (Some(pair), Some(partner)) if partner.leaf == pair.v => Some(partner),
+        (Some(pair), _) => Some(Partner {
+            leaf: pair.v,
+            cost: costs.cost(u, pair.v),
+        }),
+        (None, _) => None,
     }
 }
 

@@ -59,9 +59,9 @@ returns-clause-partner c =
     let place = c.args.place in
     let kept = c.args.self.now.nearest.items in
     let low : place < length kept = omega (arith, c.requires.place, c.requires.tables.leaves.few, c.requires.room.nearest) in
-    subst (λ o. IsPartner costs members (length members) (top_of members top) place o) (sym (get_or-set_same kept place c.partner_with.result None low))
-    (IsPartner-bound costs c.args.total.now members top c.requires.tables.risen place c.nearer-pair.result c.partner_with.result
-    (bounds_all c) c.partner_with.ensures)
+    subst (λ o. IsPartner costs members (length members) (top_of members top) place o) (sym (get_or-set_same kept place c.partner_of.result None low))
+    (IsPartner-bound costs c.args.total.now members top c.requires.tables.risen place c.nearer-pair.result c.partner_of.result
+    (bounds_all c) c.partner_of.ensures)
 
 pub returns-clause-known : goal.returns-clause-known
 returns-clause-known c =
