@@ -1,5 +1,5 @@
 -- What a `Near` keeps, call by call.
-use Rattle.std.proofs.Common.{◌≡◌, ◌≢◌, ℕ, ◌<◌, ◌≤◌, ◌+◌, List, [], ◌∷◌, ◌++◌, length, map, get_or, set, ℤ, pos}
+use Rattle.std.proofs.Common.{◌≡◌, ℕ, ◌<◌, ◌≤◌, ◌+◌, List, [], ◌∷◌, ◌++◌, length, map, get_or, set, ℤ, pos}
 use Rattle.std.proofs.Common.{◌+ℤ◌, ◌-ℤ◌, ◌≤ℤ◌, Option, Some, None, Bool, true, false, FitsSigned, ◌^◌}
 use Rattle.std.proofs.Common.{◌⊎◌, inl, inr, refl, sym, ap, ◌∙◌, subst, arith, w64, of_z, to_z, length-append}
 use Rattle.std.proofs.lemmas.Int.{ints, to_z-of_z}
@@ -10,7 +10,7 @@ use Rattle.sg_slack.proofs.ScanLemmas.{Least-nearer, Least-same, below_next}
 use Rattle.sg_slack.specs.Kept.{IsKeyOf, IsNear, IsNearestOf, IsTakenAt, key_of, kept_at, members_of, nearest_at}
 use Rattle.sg_slack.specs.Members.{Agree, IsMember, Member, TotalsFit, grown, member_at}
 use Rattle.sg_slack.specs.Partner.{AreRisen}
-use Rattle.sg_slack.specs.Scan.{IsApartBefore, IsApartOf, IsKeptBefore, IsNearer, IsNearestFree}
+use Rattle.sg_slack.specs.Scan.{IsNearer, IsNearestFree}
 use Rattle.sg_slack.specs.Slack.{IsOuterFree, Least, mark_at, slack_of, total_at}
 use Rattle.sg_slack.specs.Table.{Table, cost_of}
 use Rattle.sg_slack.specs.declared.Mark.{Mark}
@@ -398,75 +398,6 @@ module _ (t : Table) (m : Kept) (first : Bool) (initial now : List Nearest) (v :
   pub rest-next : (w : ℕ) → v + 1 ≤ w → nearest_at (set now v n) w ≡ nearest_at initial w
   rest-next w most =
       get_or-set_other now v w n (record { leaf = 0; key = pos 0 }) (λ same. absurd (omega (arith, same, most))) ∙ rest w (omega (arith, most))
-
--- the scan of the members
-module _ (t : Table) (totals : List ℤ) (members : List Kept) (tops : List ℕ) where
-  -- the leaf of a member before the next place
-  before_next : (place v : ℕ) → IsKeptBefore (place + 1) members v → IsKeptBefore place members v ⊎ ((kept_at members place).leaf ≡ v)
-  before_next place v at = elim (below_next at.0 place at.1) [
-    | inl less ↦ inl (at.0, less, at.2)
-    | inr same ↦ inr (ap (λ i. (kept_at members i).leaf) (sym same) ∙ at.2)
-  ]
-
-  before_more : (place v : ℕ) → IsKeptBefore place members v → IsKeptBefore (place + 1) members v
-  before_more place v at = (at.0, omega (arith, at.1), at.2)
-
-  module _ (row place : ℕ) where
-    abbrev Here' : ℕ → ℕ → Type 0
-    Here' u v = (u ≡ row) × (get_or tops u 0 ≢ get_or tops v 0) × ((kept_at members place).leaf ≡ v)
-
-    more-of : (u v : ℕ) → IsApartOf place members tops row u v → IsApartOf (place + 1) members tops row u v
-    more-of u v is = (is.0, is.1, before_more place v is.2)
-
-    here-of : (u v : ℕ) → Here' u v → IsApartOf (place + 1) members tops row u v
-    here-of u v is = (is.0, is.1, (place, omega arith, is.2))
-
-    split-of : (u v : ℕ) → IsApartOf (place + 1) members tops row u v → IsApartOf place members tops row u v ⊎ Here' u v
-    split-of u v is = elim (before_next place v is.2) [
-      | inl less ↦ inl (is.0, is.1, less)
-      | inr same ↦ inr (is.0, is.1, same)
-    ]
-
-    pub Of-more : (best result : Option Pair) → get_or tops row 0 ≢ get_or tops (kept_at members place).leaf 0 →
-        IsNearer best (Some (record { u = row; v = (kept_at members place).leaf; slack = slack_of t totals row (kept_at members place).leaf })) result →
-        Least t totals (IsApartOf place members tops row) best → Least t totals (IsApartOf (place + 1) members tops row) result
-    Of-more best result apart nearer least =
-        Least-nearer t totals (IsApartOf place members tops row) Here' (IsApartOf (place + 1) members tops row) more-of here-of split-of best
-        (Some (record { u = row; v = (kept_at members place).leaf; slack = slack_of t totals row (kept_at members place).leaf })) result nearer least
-        (record {
-          one = (refl, apart, refl);
-          slack = refl;
-          least = λ a b here. rw (here.0, sym here.2) (omega (arith, ints));
-        })
-
-    pub Of-passed : (best : Option Pair) → (get_or tops row 0 ≢ get_or tops (kept_at members place).leaf 0 → ⊥) →
-        Least t totals (IsApartOf place members tops row) best → Least t totals (IsApartOf (place + 1) members tops row) best
-    Of-passed best passed least =
-        Least-same t totals (IsApartOf place members tops row) Here' (IsApartOf (place + 1) members tops row) more-of here-of split-of best
-        (λ a b here. passed (λ same. here.1 (ap (λ n. get_or tops n 0) here.0 ∙ same ∙ ap (λ n. get_or tops n 0) here.2))) least
-
-  module _ (place : ℕ) where
-    abbrev Row : ℕ → ℕ → Type 0
-    Row u v = IsApartOf (length members) members tops (kept_at members place).leaf u v
-
-    more-before : (u v : ℕ) → IsApartBefore place members tops u v → IsApartBefore (place + 1) members tops u v
-    more-before u v is = (before_more place u is.0, is.1, is.2)
-
-    row-before : (u v : ℕ) → Row u v → IsApartBefore (place + 1) members tops u v
-    row-before u v is = ((place, omega arith, sym is.0), is.1, is.2)
-
-    split-before : (u v : ℕ) → IsApartBefore (place + 1) members tops u v → IsApartBefore place members tops u v ⊎ Row u v
-    split-before u v is = elim (before_next place u is.0) [
-      | inl less ↦ inl (less, is.1, is.2)
-      | inr same ↦ inr (sym same, is.1, is.2)
-    ]
-
-    pub Before-more : (best more result : Option Pair) → IsNearer best more result → Least t totals (IsApartBefore place members tops) best →
-        Least t totals (IsApartOf (length members) members tops (kept_at members place).leaf) more →
-        Least t totals (IsApartBefore (place + 1) members tops) result
-    Before-more best more result nearer least row =
-        Least-nearer t totals (IsApartBefore place members tops) Row (IsApartBefore (place + 1) members tops) more-before row-before split-before best more
-        result nearer least row
 
 -- what is least of some pairs is so of the same pairs in other words
 pub Least-renamed : (t : Table) (totals : List ℤ) (One Other : ℕ → ℕ → Type 0) → ((u v : ℕ) → One u v → Other u v) → ((u v : ℕ) → Other u v → One u v) →

@@ -4,8 +4,8 @@ use Rattle.std.proofs.lemmas.Int.{ints}
 use Rattle.std.proofs.lemmas.Bool.{cases_lt}
 use Rattle.sg_slack.specs.declared.Pair.{Pair}
 use Rattle.sg_slack.specs.Table.{Table}
-use Rattle.sg_slack.specs.Slack.{slack_of, Least, IsLeast}
-use Rattle.sg_slack.specs.Scan.{IsNearer}
+use Rattle.sg_slack.specs.Slack.{slack_of, Least}
+use Rattle.sg_slack.specs.Scan.{Bounds, IsBound, IsNearer}
 
 le_refl : (a : ℤ) → a ≤ℤ a
 le_refl a = omega (arith, ints)
@@ -20,13 +20,23 @@ below_next a n low = elim (cases_lt a n) [
   | inr most ↦ inr (omega arith)
 ]
 
-module _ (t : Table) (totals : List ℤ) (Old More New : ℕ → ℕ → Type 0) (old : (u v : ℕ) → Old u v → New u v) (more : (u v : ℕ) → More u v → New u v)
-    (back : (u v : ℕ) → New u v → Old u v ⊎ More u v) where
-  -- what is the least of some pairs and at most some others is the least of all
-  keep : (p : Pair) → IsLeast t totals Old p → ((u v : ℕ) → More u v → p.slack ≤ℤ slack_of t totals u v) → IsLeast t totals New p
-  keep p is below =
+-- what is least of some pairs bounds them
+pub Bounds-of : (t : Table) (totals : List ℤ) (Among Is : ℕ → ℕ → Type 0) → ((u v : ℕ) → Is u v → Among u v) → (best : Option Pair) →
+    Least t totals Is best → Bounds t totals Among Is best
+Bounds-of t totals Among Is among None none = none
+Bounds-of t totals Among Is among (Some p) least = record { one = among p.u p.v least.one; slack = least.slack; least = least.least }
+
+-- a pair that bounds those that it is of is the least of them
+pub Least-of : (t : Table) (totals : List ℤ) (Is : ℕ → ℕ → Type 0) (best : Option Pair) → Bounds t totals Is Is best → Least t totals Is best
+Least-of t totals Is None none = none
+Least-of t totals Is (Some p) bound = record { one = bound.one; slack = bound.slack; least = bound.least }
+
+module _ (t : Table) (totals : List ℤ) (Among Old More New : ℕ → ℕ → Type 0) (back : (u v : ℕ) → New u v → Old u v ⊎ More u v) where
+  -- what bounds some pairs and has at most the slack of others bounds all
+  pub Bound-keep : (p : Pair) → IsBound t totals Among Old p → ((u v : ℕ) → More u v → p.slack ≤ℤ slack_of t totals u v) → IsBound t totals Among New p
+  Bound-keep p is below =
       record {
-        one = old p.u p.v is.one;
+        one = is.one;
         slack = is.slack;
         least = λ u v new. elim (back u v new) [
           | inl was ↦ is.least u v was
@@ -34,10 +44,10 @@ module _ (t : Table) (totals : List ℤ) (Old More New : ℕ → ℕ → Type 0)
         ];
       }
 
-  take : (q : Pair) → IsLeast t totals More q → ((u v : ℕ) → Old u v → q.slack ≤ℤ slack_of t totals u v) → IsLeast t totals New q
-  take q is below =
+  Bound-take : (q : Pair) → IsBound t totals Among More q → ((u v : ℕ) → Old u v → q.slack ≤ℤ slack_of t totals u v) → IsBound t totals Among New q
+  Bound-take q is below =
       record {
-        one = more q.u q.v is.one;
+        one = is.one;
         slack = is.slack;
         least = λ u v new. elim (back u v new) [
           | inl was ↦ below u v was
@@ -45,24 +55,33 @@ module _ (t : Table) (totals : List ℤ) (Old More New : ℕ → ℕ → Type 0)
         ];
       }
 
-  -- the nearer of the least of some pairs and the least of others is the least of all
-  pub Least-nearer : (best other result : Option Pair) → IsNearer best other result → Least t totals Old best → Least t totals More other →
-      Least t totals New result
-  Least-nearer None None result is none none' =
-      subst (λ r. Least t totals New r) (sym is) (λ u v new. elim (back u v new) [
+  -- the nearer of a bound of some pairs and one of others bounds all
+  pub Bounds-nearer : (best other result : Option Pair) → IsNearer best other result → Bounds t totals Among Old best → Bounds t totals Among More other →
+      Bounds t totals Among New result
+  Bounds-nearer None None result is none none' =
+      subst (λ r. Bounds t totals Among New r) (sym is) (λ u v new. elim (back u v new) [
         | inl was ↦ none u v was
         | inr here ↦ none' u v here
       ])
-  Least-nearer None (Some q) result is none least =
-      subst (λ r. Least t totals New r) (sym is) (take q least (λ u v was. absurd (none u v was)))
-  Least-nearer (Some p) None result is least none =
-      subst (λ r. Least t totals New r) (sym is) (keep p least (λ u v here. absurd (none u v here)))
-  Least-nearer (Some p) (Some q) result (inl kept) least least' =
-      subst (λ r. Least t totals New r) (sym kept.0)
-      (keep p least (λ u v here. le_trans p.slack q.slack (slack_of t totals u v) kept.1 (least'.least u v here)))
-  Least-nearer (Some p) (Some q) result (inr taken) least least' =
-      subst (λ r. Least t totals New r) (sym taken.0)
-      (take q least' (λ u v was. le_trans q.slack p.slack (slack_of t totals u v) taken.1 (least.least u v was)))
+  Bounds-nearer None (Some q) result is none bound =
+      subst (λ r. Bounds t totals Among New r) (sym is) (Bound-take q bound (λ u v was. absurd (none u v was)))
+  Bounds-nearer (Some p) None result is bound none =
+      subst (λ r. Bounds t totals Among New r) (sym is) (Bound-keep p bound (λ u v here. absurd (none u v here)))
+  Bounds-nearer (Some p) (Some q) result (inl kept) bound bound' =
+      subst (λ r. Bounds t totals Among New r) (sym kept.0)
+      (Bound-keep p bound (λ u v here. le_trans p.slack q.slack (slack_of t totals u v) kept.1 (bound'.least u v here)))
+  Bounds-nearer (Some p) (Some q) result (inr taken) bound bound' =
+      subst (λ r. Bounds t totals Among New r) (sym taken.0)
+      (Bound-take q bound' (λ u v was. le_trans q.slack p.slack (slack_of t totals u v) taken.1 (bound.least u v was)))
+
+module _ (t : Table) (totals : List ℤ) (Old More New : ℕ → ℕ → Type 0) (old : (u v : ℕ) → Old u v → New u v) (more : (u v : ℕ) → More u v → New u v)
+    (back : (u v : ℕ) → New u v → Old u v ⊎ More u v) where
+  -- the nearer of the least of some pairs and the least of others is the least of all
+  pub Least-nearer : (best other result : Option Pair) → IsNearer best other result → Least t totals Old best → Least t totals More other →
+      Least t totals New result
+  Least-nearer best other result is least least' =
+      Least-of t totals New result (Bounds-nearer t totals New Old More New back best other result is (Bounds-of t totals New Old old best least)
+      (Bounds-of t totals New More more other least'))
 
   -- no pair more
   pub Least-same : (best : Option Pair) → ((u v : ℕ) → More u v → ⊥) → Least t totals Old best → Least t totals New best
@@ -70,7 +89,9 @@ module _ (t : Table) (totals : List ℤ) (Old More New : ℕ → ℕ → Type 0)
     | inl was ↦ is u v was
     | inr here ↦ none u v here
   ]
-  Least-same (Some p) none is = keep p is (λ u v here. absurd (none u v here))
+  Least-same (Some p) none is =
+      Least-of t totals New (Some p) (Bound-keep t totals New Old More New back p (Bounds-of t totals New Old old (Some p) is)
+      (λ u v here. absurd (none u v here)))
 
 -- along a row
 module _ (t : Table) (totals : List ℤ) (Is : ℕ → ℕ → Type 0) (row : ℕ) (in_row : (u v : ℕ) → Is u v → u ≡ row) where

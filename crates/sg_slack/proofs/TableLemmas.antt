@@ -1,9 +1,9 @@
 -- Entries of a square table that is kept row by row.
-use Rattle.std.proofs.Common.{◌≡◌, ℕ, ◌+◌, ◌*◌, ◌<◌, ◌≤◌, List, ℤ, pos, length, get_or, set, refl, ap, ◌∙◌, inl, inr, arith}
+use Rattle.std.proofs.Common.{◌≡◌, ◌⊎◌, ℕ, ◌+◌, ◌*◌, ◌<◌, ◌≤◌, List, ℤ, pos, length, get_or, set, refl, sym, ap, ap₂, ◌∙◌, inl, inr, arith}
 use Rattle.std.proofs.lemmas.Bool.{cases_eq, cases_lt}
 use Rattle.std.proofs.lemmas.List.{get_or-set_same, get_or-set_other, length-set}
 use Rattle.std.proofs.Math.Nat.{mul-le-mul_right}
-use Rattle.sg_slack.specs.Table.{SetsPair}
+use Rattle.sg_slack.specs.Table.{Table, IsPairOf, IsSymmetric, SetsPair, cost_of}
 
 -- a later row begins past the end of this one
 row_past : (n u a : ℕ) → u < a → u * n + n ≤ a * n
@@ -50,3 +50,39 @@ SetsPair-written n entries u v cost whole low_u low_v =
     last : get_or (set (set entries (u * n + v) cost) (v * n + u) cost) (v * n + u) (pos 0) ≡ cost
     last = get_or-set_same (set entries (u * n + v) cost) (v * n + u) cost (pos 0)
         (omega (arith, whole, length-set entries (u * n + v) cost, entry-within n v u low_v low_u))
+
+-- two numbers are two others, or are not
+both : (a b u v : ℕ) → ((a ≡ u) × (b ≡ v)) ⊎ ¬ ((a ≡ u) × (b ≡ v))
+both a b u v = elim (cases_eq a u) [
+  | inl p ↦ elim (cases_eq b v) [
+    | inl q ↦ inl (p, q)
+    | inr q ↦ inr (λ h. q h.1)
+  ]
+  | inr p ↦ inr (λ h. p h.0)
+]
+
+-- a table stays symmetric where the cost of a pair is set
+pub symmetric_set : (old new : Table) (u v : ℕ) (cost : ℤ) → SetsPair old new u v cost → IsSymmetric old → IsSymmetric new
+symmetric_set old new u v cost sets same a b low_a low_b = elim (both a b u v) [
+  | inl (p, q) ↦ ap₂ (cost_of new) p q ∙ sets.forth ∙ sym (ap₂ (cost_of new) q p ∙ sets.back)
+  | inr first ↦ elim (both a b v u) [
+    | inl (p, q) ↦ ap₂ (cost_of new) p q ∙ sets.back ∙ sym (ap₂ (cost_of new) q p ∙ sets.forth)
+    | inr second ↦
+        sets.others a b a_was b_was (neither first second) ∙ same a b a_was b_was
+        ∙ sym (sets.others b a b_was a_was (turned first second))
+  ]
+]
+  where
+    a_was : a < old.size
+    a_was = omega (arith, low_a, sets.size)
+
+    b_was : b < old.size
+    b_was = omega (arith, low_b, sets.size)
+
+    neither : ¬ ((a ≡ u) × (b ≡ v)) → ¬ ((a ≡ v) × (b ≡ u)) → ¬ IsPairOf a b u v
+    neither first second (inl h) = first h
+    neither first second (inr h) = second h
+
+    turned : ¬ ((a ≡ u) × (b ≡ v)) → ¬ ((a ≡ v) × (b ≡ u)) → ¬ IsPairOf b a u v
+    turned first second (inl (p, q)) = second (q, p)
+    turned first second (inr (p, q)) = first (q, p)

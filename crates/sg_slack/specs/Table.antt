@@ -10,6 +10,10 @@ pub record Table : Type 0 where
 abbrev pub cost_of : Table → ℕ → ℕ → ℤ
 cost_of t u v = slice_index_or t.entries (u * t.size + v) (pos 0)
 
+-- a pair costs the same in both orders
+abbrev pub IsSymmetric : Table → Type 0
+IsSymmetric t = (u v : ℕ) → u < t.size → v < t.size → cost_of t u v ≡ cost_of t v u
+
 -- a and b are u and v, in one order or the other
 abbrev pub IsPairOf : ℕ → ℕ → ℕ → ℕ → Type 0
 IsPairOf a b u v = ((a ≡ u) × (b ≡ v)) ⊎ ((a ≡ v) × (b ≡ u))

@@ -12,7 +12,8 @@
 //! slack among those meant, and none exactly where there is none. Which of several such pairs is
 //! given is free. A table is seen by its entries, `cost_of` of `specs/Table.antt`. Both scans go
 //! over all pairs and take no memory. A `Near` is seen as its costs and the list of its members with
-//! their totals (`Known` of `specs/Members.antt`); what it keeps is `IsNear` of `specs/Kept.antt`.
+//! their totals (`Known` of `specs/Members.antt`); what it keeps is `IsNear` of `specs/Kept.antt`, and
+//! from call to call of `least_between` `KeepsPartners` of `specs/Partner.antt`.
 #![tactic(auto)]
 
 ghost use Rattle.std.specs.Prelude.{◌≡◌, ◌≢◌, ◌↔◌, ◌<◌, ◌-ℤ◌, FitsSigned, IsTrue, Some, false, length};
@@ -60,13 +61,14 @@ pub struct Costs {
 
 impl Model for Costs {
     ghost use Rattle.std.specs.Prelude.{◌≡◌, ◌≤◌, ◌*◌, ◌^◌, length};
-    ghost use Rattle.sg_slack.specs.Table.{Table};
+    ghost use Rattle.sg_slack.specs.Table.{Table, IsSymmetric};
 
     ghost Value = { Table };
 
     ghost view = { λ c. record { size = c.size; entries = c.entries.items } };
 
-    ghost invariant = { λ c. (length c.entries.items ≡ c.size * c.size) × (c.size ≤ 2 ^ 24) };
+    ghost invariant = { λ c. (length c.entries.items ≡ c.size * c.size) × (c.size ≤ 2 ^ 24)
+        × IsSymmetric (record { size = c.size; entries = c.entries.items }) };
 }
 
 impl Costs {
@@ -105,6 +107,16 @@ impl Costs {
         ensures { result ≡ cost_of self.now u v }
     {
         self.entries[u as usize * self.size as usize + v as usize]
+    }
+
+    // The cost of two leaves from the row of the second: where one leaf stands beside many, its row is
+    // read through, and not one entry of each row.
+    fn cost_by_row(&self, u: u32, row: u32) -> i64
+        requires u { u < self.now.size }
+        requires row { row < self.now.size }
+        ensures { result ≡ cost_of self.now u row }
+    {
+        self.entries[row as usize * self.size as usize + u as usize]
     }
 
     /// Sets the cost of two leaves, in both orders. All other entries stay.

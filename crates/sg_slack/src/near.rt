@@ -167,12 +167,14 @@ impl Near {
     /// the answer of [`least_outer_outer`](crate::least_outer_outer) where the members are the outer
     /// leaves. The three slices have an entry for each leaf. Costs and members stay.
     ///
-    /// For each member the nearest member of another top is kept from call to call. It stays the
-    /// nearest while members that shared a top go on to share one, as they do while a tree grows.
+    /// For each member one is kept from call to call to which none of another top is nearer. That
+    /// stays so while members that shared a top go on to share one, as they do while a tree grows;
+    /// where the two have come into one top, the member is looked at anew only when their pair would
+    /// be the least.
     ///
-    /// Cost: proportional to the number of members, and again to it for each member that is new, or
-    /// whose nearest one has come into its own top; to the square of their number where a top was
-    /// taken apart.
+    /// Cost: proportional to the number of members, and again to it for each member that is new, and
+    /// for each whose kept one has come into its own top, if their slack is less than that of all kept
+    /// pairs of different tops; to the square of the number of members where a top was taken apart.
     pub fn least_between(&mut self, total: &[i64], top: &[usize], mark: &[Mark]) -> Option<Pair>
         requires totals { length total.now ≡ self.old.table.size }
         requires tops { length top.now ≡ self.old.table.size }

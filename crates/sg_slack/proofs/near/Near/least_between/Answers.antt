@@ -4,7 +4,7 @@ use Rattle.sg_slack.proofs.NearLemmas.{AreRisen-agree, IsMember-kept, Least-rena
 use Rattle.sg_slack.specs.Kept.{kept_at}
 use Rattle.sg_slack.specs.Members.{Agree, IsMember, Known}
 use Rattle.sg_slack.specs.Scan.{IsApartBefore}
-use Rattle.sg_slack.specs.Slack.{IsOuterOuter, Least, mark_at}
+use Rattle.sg_slack.specs.Slack.{IsOuterOuter, Least, SumsFit, mark_at}
 use Rattle.sg_slack.specs.declared.Mark.TheVariants.{Outer}
 use Rattle.sg_slack.specs.declared.near.Kept.{Kept}
 use Rattle.sg_slack.proofs.near.Near.least_between.Goals as goal
@@ -37,13 +37,20 @@ returns-clause-least c =
       kept-IsMember e.rise ms v ((members v is.v_leaf).0 is.v_outer),
     )) c.least.result scanned)
 
-pub least-requires-clause-risen : goal.least-requires-clause-risen
-least-requires-clause-risen c =
+pub least-requires-clause-tables : goal.least-requires-clause-tables
+least-requires-clause-tables c =
     let e = c.self.inside in
-    let agree = subst (λ (s : Known). Agree s.members c.args.total.now) (sym c.self.view_is) c.requires.agree in
-    rw (c.deref.ensures.value) (AreRisen-agree e.rise e.members.items c.args.total.now agree)
-
-pub least-requires-clause-few : goal.least-requires-clause-few
-least-requires-clause-few c =
-    let e = c.self.inside in
-    rw (c.deref.ensures.value) (members-few e.costs e.rise e.members.items e.places.items e.nearest.items c.self.invariant.near)
+    let ms = e.members.items in
+    let totals = c.args.total.now in
+    let known = subst (λ (s : Known). (length totals ≡ s.table.size) × (length c.args.top.now ≡ s.table.size) × SumsFit s.table totals
+    × Agree s.members totals) (sym c.self.view_is) (c.requires.totals, c.requires.tops, c.requires.fits, c.requires.agree) in
+    rw (c.deref.ensures.value) (record {
+      total_count = known.0;
+      top_count = known.1;
+      fits = known.2;
+      leaves = record {
+        low = c.self.invariant.near.low;
+        few = members-few e.costs e.rise ms e.places.items e.nearest.items c.self.invariant.near;
+      };
+      risen = AreRisen-agree e.rise ms totals known.3;
+    })
