@@ -1,5 +1,5 @@
 -- The members of a set and the depths by them, and the cuts of one set more.
-use Rattle.std.proofs.Common.{◌≡◌, ◌==◌, ap₂, eq-eqb, ltb, true, Bool, ℕ, zero, suc, ◌+◌, ◌-◌, ◌^◌, ◌<◌, ◌≤◌, ◌++◌, min, fold, cond, List, [], ◌∷◌, map}
+use Rattle.std.proofs.Common.{◌≡◌, ◌==◌, ap₂, eq-eqb, ltb, Bool, ℕ, zero, suc, ◌+◌, ◌-◌, ◌^◌, ◌<◌, ◌≤◌, ◌++◌, min, fold, cond, List, [], ◌∷◌, map}
 use Rattle.std.proofs.Common.{length, get_or, pos, refl, sym, ap, ◌∙◌, subst, arith, inl, inr, Contains, All, Option, Some, None, IsSome}
 use Rattle.std.specs.Option.{option_map_or}
 use Rattle.std.specs.List.Sorted.{IsStrictlyIncreasing}
@@ -16,15 +16,15 @@ use Rattle.sg_graph.specs.Web.{Graph, IsEdge, IsWeb, edge_at, edge_count}
 use Rattle.sg_graph.specs.OddCut.{crosses, cut_weight}
 use Rattle.sg_graph.specs.Join.{AreTerminals}
 use Rattle.sg_graph.specs.Walk.{IsConnected}
-use Rattle.sg_graph.specs.Table.{IsTableOf, Routes, is_reached}
-use Rattle.sg_graph.proofs.TableLaws.{connected_distance, connected_reached, distance_signed, reached_if}
-use Rattle.sg_arena.specs.Family.{Family, IsAlive, IsFamily, Node, dual_of, leaf_count, leaves_of, node_at}
+use Rattle.sg_graph.specs.Table.{Routes}
+use Rattle.sg_graph.proofs.TableLaws.{connected_distance}
+use Rattle.sg_arena.specs.Family.{Family, Holds, IsAlive, IsFamily, Node, dual_of, leaf_count, leaves_of, node_at}
 use Rattle.sg_arena.proofs.FamilyLemmas.{leaf_bound, share-total, size-positive, some_leaf}
 use Rattle.sg_moat.specs.declared.members.Member.{Member}
-use Rattle.sg_moat.specs.Depths.{AreFull, IsWhole, depth_by, height_by}
+use Rattle.sg_moat.specs.Depths.{AreFull, depth_by, height_by}
 use Rattle.sg_moat.specs.Input.{AreTerminalTables, blank_table, table_at}
 use Rattle.sg_moat.specs.Members.{member_of}
-use Rattle.sg_moat.specs.Sets.{alive_at}
+use Rattle.sg_moat.specs.Sets.{alive_at, inner_of}
 use Rattle.sg_moat.specs.Slices.{IsSlice, Sliced, Slices, gap, inside_count, is_below, is_inside}
 use Rattle.sg_moat.specs.Gathers.{Adds, Gathers, IsMoatCut, reach_from, set_depth}
 use Rattle.sg_moat.specs.Survey.{Surveys, noted_at}
@@ -32,6 +32,7 @@ use Rattle.sg_sums.proofs.Tallies.{times_place}
 use Rattle.std.proofs.lemmas.Bool.{cases_lt, lt-ltb}
 use Rattle.sg_moat.proofs.Packing.{depth_full, dual_alive}
 use Rattle.sg_moat.proofs.SetCount.{alive_one}
+use Rattle.sg_moat.proofs.SetDuals.{inner_total}
 
 -- the depth by the list of members is that by the leaves
 pub depth_by_members : (f : Family) (tables : List Routes) (s x : ℕ) (leaves : List ℕ) (y : ℕ) →
@@ -46,6 +47,14 @@ module _ (f : Family) (fam : IsFamily f) (s : ℕ) where
       (All-from_get_or (λ l. l < leaf_count f) (leaves_of f s) 0
       (λ i h. leaf_bound f fam s (get_or (leaves_of f s) i 0)
       (list_any_at (λ x. x == get_or (leaves_of f s) i 0) (leaves_of f s) i 0 h (eq-eqb (get_or (leaves_of f s) i 0) (get_or (leaves_of f s) i 0) refl))))
+
+  -- the dual and the duals inside fit
+  pub members_small : All (λ (m : Member). dual_of f s + m.inner < 2 ^ 64) (map (member_of f s) (leaves_of f s))
+  members_small = All-map (λ (m : Member). dual_of f s + m.inner < 2 ^ 64) (member_of f s) (leaves_of f s)
+      (All-from_get_or (λ l. dual_of f s + inner_of f s l < 2 ^ 64) (leaves_of f s) 0
+      (λ i h. (let leaf : ℕ = get_or (leaves_of f s) i 0 in
+      let held : Holds f s leaf = list_any_at (λ x. x == leaf) (leaves_of f s) i 0 h (eq-eqb leaf leaf refl) in
+      omega (arith, inner_total f s leaf held, fam.bounded leaf))))
 
   -- where there is a member there is a node, and its dual is small
   pub members_alive : 0 < length (map (member_of f s) (leaves_of f s)) → IsAlive f s
@@ -147,7 +156,6 @@ Surveys-covers g height heights near s x some =
 pub tables_full : (g : Graph) (terminals : List ℕ) (tables : List Routes) → IsConnected g → AreTerminals g terminals →
     AreTerminalTables g terminals tables → AreFull g tables
 tables_full g terminals tables connected chosen are = record {
-  whole = All-from_get_or (IsWhole g.nodes) tables blank_table (λ i l. whole_at i l);
   sources = source_low;
   distances = λ i x l low. connected_distance g (table_at tables i) (are.each i blank_table l) connected (source_low i l) x low;
 }
@@ -156,14 +164,6 @@ tables_full g terminals tables connected chosen are = record {
     source_low i l =
         let low : i < length terminals = omega (arith, are.count) in
         subst (λ z. z < g.nodes) (sym (are.sources i low)) (chosen.below i 0 low)
-
-    whole_at : (i : ℕ) → i < length tables → IsWhole g.nodes (table_at tables i)
-    whole_at i l =
-        let t : Routes = table_at tables i in
-        let is : IsTableOf g t = are.each i blank_table l in
-        let reached : (x : ℕ) → x < g.nodes →
-        is_reached t x ≡ true = λ x lx. reached_if g t is x lx (connected_reached g connected t.source x (source_low i l) lx) in
-        record { count = is.nodes; reached = reached; signed = λ x lx. distance_signed g t is x lx (reached x lx) }
 
 -- a rising list of numbers below n has at most n of them
 pub rising_short : (xs : List ℕ) (n : ℕ) → IsStrictlyIncreasing xs → All (λ x. x < n) xs → length xs ≤ n

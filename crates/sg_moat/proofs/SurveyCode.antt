@@ -1,63 +1,188 @@
 -- The steps of the search for the nodes of a moat, in the terms of the code.
-use Rattle.std.proofs.Common.{◌≡◌, ℕ, ◌+◌, ◌<◌, ◌++◌, List, [], ◌∷◌, take, length, get_or, sym, ◌∙◌, ap, subst, pos, All}
-use Rattle.std.proofs.lemmas.List.{map-append, take_more}
-use Rattle.std.proofs.lemmas.List.Elements.{All-push, All-weaker}
+use Rattle.std.proofs.Common.{inl, inr, ◌≡◌, ◌≢◌, ℕ, ◌+◌, ◌-◌, ◌*◌, ◌^◌, ◌<◌, ◌≤◌, ◌++◌, min, List, [], ◌∷◌, take, length, get_or, set, replicate, refl, sym, ◌∙◌, ap, subst}
+use Rattle.std.proofs.Common.{arith, pos, unsigned_abs, All, IsPermutation}
+use Rattle.std.proofs.lemmas.Bool.{cases_eq}
+use Rattle.std.proofs.lemmas.List.{get_or-set_same, get_or-set_other, get_or_append_left, length-append, length-set, take_more}
+use Rattle.std.proofs.lemmas.List.Elements.{All-nil, All-push, All-weaker}
 use Rattle.sg_graph.specs.declared.web.Edge.{Edge}
-use Rattle.sg_graph.specs.Web.{Graph, IsWeb, edge_at}
-use Rattle.sg_graph.specs.Walk.{other_end}
+use Rattle.sg_graph.specs.Web.{Graph, IsWeb, edge_at, edge_weight}
+use Rattle.sg_graph.specs.Walk.{Leads, other_end}
 use Rattle.sg_graph.specs.Incidence.{AreIncident, EndsAt, edges_at, list_at}
 use Rattle.sg_graph.specs.Table.{Routes}
-use Rattle.sg_graph.proofs.Walks.{other_low}
+use Rattle.sg_graph.proofs.Walks.{leads_other, other_low}
+use Rattle.sg_moat.specs.declared.arrival.Arrival.{Arrival}
 use Rattle.sg_moat.specs.declared.members.Member.{Member}
 use Rattle.sg_moat.specs.Input.{table_at}
-use Rattle.sg_moat.specs.Survey.{Looks, Settled, Spreads, Surveying, sources_of}
-use Rattle.sg_moat.proofs.SurveySteps.{Flooding, Flooding-more, Goes-look, Spreads-more, look_settled}
+use Rattle.sg_moat.specs.Survey.{Caps, IsSeeded, Raises, Seeds, Spreads, noted_at}
+use Rattle.sg_moat.proofs.SurveySteps.{Flooding, Goes-none, Goes-on, Goes-raise, Searching-skip, Searching-spread, raised_below, raised_here}
 
-abbrev blank_member : Member
+abbrev pub blank_member : Member
 blank_member = record { leaf = 0; inner = 0 }
 
-module _ (g : Graph) (height : ℕ → ℕ) where
+abbrev pub blank_edge : Edge
+blank_edge = record { a = 0; b = 0; w = pos 0 }
+
+module _ (g : Graph) where
+  -- along a list of edges at a node
+  pub Spreads-none : (node height : ℕ) (old before : List ℕ) (heap : List Arrival) → Spreads g node height [] old old before before heap heap
+  Spreads-none node height old before heap = record {
+    goes = Goes-none g old before heap;
+    spread = All-nil (λ e. height ≤ noted_at old (other_end node (edge_at g e)) + 2 * edge_weight g e);
+    below = λ f l h b. b;
+  }
+
+  module _ (node height : ℕ) (edges : List ℕ) (e : ℕ) (old now new before mid after : List ℕ) (heap waiting next : List Arrival)
+      (count : length old ≡ g.nodes) (small : height < 2 ^ 64) (ends : EndsAt g node e) (in_web : other_end node (edge_at g e) < g.nodes)
+      (s : Spreads g node height edges old now before mid heap waiting)
+      (r : Raises (other_end node (edge_at g e)) (height - 2 * edge_weight g e) now new mid after waiting next) where
+    abbrev other : ℕ
+    other = other_end node (edge_at g e)
+
+    low : other < length now
+    low = omega (arith, in_web, count, s.goes.count)
+
+    pub Spreads-more : Spreads g node height (edges ++ e ∷ []) old new before after heap next
+    Spreads-more =
+        let goes = Goes-raise g other (height - 2 * edge_weight g e) now new mid after waiting next low r in_web (omega (arith, small)) in
+        let now_there = raised_here g other (height - 2 * edge_weight g e) now new mid after waiting next low r in
+        let leads : Leads g e node other = leads_other g e node ends in
+        record {
+          goes = Goes-on g old now new before mid after heap waiting next s.goes goes;
+          spread =
+              All-push (λ e. height ≤ noted_at new (other_end node (edge_at g e)) + 2 * edge_weight g e) edges e
+              (All-weaker (λ e. height ≤ noted_at now (other_end node (edge_at g e)) + 2 * edge_weight g e)
+              (λ e. height ≤ noted_at new (other_end node (edge_at g e)) + 2 * edge_weight g e)
+              (λ e h. omega (arith, h, goes.up (other_end node (edge_at g e)))) edges s.spread)
+              (omega (arith, now_there));
+          below = λ f l h b.
+              raised_below g other (height - 2 * edge_weight g e) now new mid after waiting next low r f (omega (arith, l e node other leads, h)) (s.below f l h b);
+        }
+
   -- the next edge of the list
   module _ (node : ℕ) (list : List ℕ) (i other : ℕ) (es : List Edge) (low : i < length list) (same : es ≡ g.edges)
-      (is : other ≡ other_end node (get_or es (get_or list i 0) (record { a = 0; b = 0; w = pos 0 }))) where
+      (is : other ≡ other_end node (get_or es (get_or list i 0) blank_edge)) where
     other_is : other ≡ other_end node (edge_at g (get_or list i 0))
-    other_is = is ∙ ap (λ (xs : List Edge). other_end node (get_or xs (get_or list i 0) (record { a = 0; b = 0; w = pos 0 }))) same
+    other_is = is ∙ ap (λ (xs : List Edge). other_end node (get_or xs (get_or list i 0) blank_edge)) same
 
     pub other_in : IsWeb g → EndsAt g node (get_or list i 0) → other < g.nodes
     other_in web ends = subst (λ n. n < g.nodes) (sym other_is) (other_low g (get_or list i 0) node web ends.0)
 
-    pub Spreads-next : (old now new before mid after : List ℕ) → other < g.nodes → Spreads g height node (take i list) old now before mid →
-        Looks height other now new mid after →
-        Spreads g height node (take (i + 1) list) old new before after
-    Spreads-next old now new before mid after in_web s l =
-        subst (λ xs. Spreads g height node xs old new before after) (sym (take_more list i 0 low))
-        (Spreads-more g height node (get_or list i 0) (take i list) old now new before mid after (subst (λ n. n < g.nodes) other_is in_web) s
-        (subst (λ n. Looks height n now new mid after) other_is l))
+    pub weight_is : unsigned_abs (get_or es (get_or list i 0) blank_edge).w ≡ edge_weight g (get_or list i 0)
+    weight_is = ap (λ (xs : List Edge). unsigned_abs (get_or xs (get_or list i 0) blank_edge).w) same
 
-  -- the next member
-  pub Seeds-next : (tables : List Routes) (members : List Member) (i node : ℕ) (now new mid after : List ℕ) → i < length members →
-      node ≡ (table_at tables (get_or members i blank_member).leaf).source →
-      node < g.nodes → Looks height node now new mid after → Surveying g height now mid × All (Settled height now) (sources_of tables (take i members)) →
-      Surveying g height new after × All (Settled height new) (sources_of tables (take (i + 1) members))
-  Seeds-next tables members i node now new mid after low is in_web l h =
-      let goes = Goes-look g height node now new mid after in_web l in
-      let listed : sources_of tables (take (i + 1) members) ≡ sources_of tables (take i members) ++ node ∷ [] =
-      ap (sources_of tables) (take_more members i blank_member low)
-      ∙ map-append (λ (m : Member). (table_at tables m.leaf).source) (take i members) (get_or members i blank_member ∷ [])
-      ∙ ap (λ n. sources_of tables (take i members) ++ n ∷ []) (sym is) in (
-        goes.surveying h.0,
-        subst (λ xs. All (Settled height new) xs) (sym listed)
-            (All-push (Settled height new) (sources_of tables (take i members)) node
-            (All-weaker (Settled height now) (Settled height new) goes.stays (sources_of tables (take i members)) h.1)
-            (look_settled g height node now new mid after in_web l h.0)),
-      )
+    pub Spreads-next : (height left : ℕ) (old now new before mid after : List ℕ) (heap waiting next : List Arrival) → IsWeb g →
+        length old ≡ g.nodes → height < 2 ^ 64 → EndsAt g node (get_or list i 0) → left ≡ height - 2 * edge_weight g (get_or list i 0) →
+        Spreads g node height (take i list) old now before mid heap waiting → Raises other left now new mid after waiting next →
+        Spreads g node height (take (i + 1) list) old new before after heap next
+    Spreads-next height left old now new before mid after heap waiting next web count small ends left_is s r =
+        subst (λ xs. Spreads g node height xs old new before after heap next) (sym (take_more list i 0 low))
+        (Spreads-more node height (take i list) (get_or list i 0) old now new before mid after heap waiting next count small ends
+        (subst (λ n. n < g.nodes) other_is (other_in web ends)) s
+        (subst (λ n. Raises n (height - 2 * edge_weight g (get_or list i 0)) now new mid after waiting next) other_is
+        (subst (λ n. Raises other n now new mid after waiting next) left_is r)))
 
-  -- the next node
-  pub Flooding-next : (lists : List (List ℕ)) → AreIncident g lists → (old : List ℕ) (next node : ℕ) (list heights new near after : List ℕ) →
-      next < length near → node ≡ get_or near next 0 → list ≡ list_at lists node →
-      Flooding g height old next heights near → Spreads g height node list heights new near after → Flooding g height old (next + 1) new after
-  Flooding-next lists incident old next node list heights new near after low is list_is f s =
-      let in_web : node < g.nodes = subst (λ n. n < g.nodes) (sym is) (f.surveying.low next 0 low) in
-      let all : list ≡ edges_at g node = list_is ∙ incident.each node in_web in
-      Flooding-more g height old next heights new near after low f
-      (subst (λ n. Spreads g height n (edges_at g n) heights new near after) is (subst (λ xs. Spreads g height node xs heights new near after) all s))
+  -- the members, one by one
+  pub Seeds-none : (tables : List Routes) (y : ℕ) (old before : List ℕ) (heap : List Arrival) → Seeds g tables [] y old old before before heap heap
+  Seeds-none tables y old before heap = record {
+    goes = Goes-none g old before heap;
+    seeded = All-nil (λ (m : Member). y + m.inner ≤ noted_at old (table_at tables m.leaf).source);
+    below = λ f s b. b;
+  }
+
+  -- where nothing was noted before
+  pub Seeds-flat : (tables : List Routes) (members : List Member) (y : ℕ) (old new before after : List ℕ) (heap next : List Arrival) →
+      old ≡ replicate g.nodes 0 → before ≡ [] → heap ≡ [] → Seeds g tables members y old new before after heap next →
+      Seeds g tables members y (replicate g.nodes 0) new [] after [] next
+  Seeds-flat tables members y old new before after heap next flat empty none s =
+      subst (λ xs. Seeds g tables members y (replicate g.nodes 0) new [] after xs next) none
+      (subst (λ xs. Seeds g tables members y (replicate g.nodes 0) new xs after heap next) empty
+      (subst (λ xs. Seeds g tables members y xs new before after heap next) flat s))
+
+  module _ (tables : List Routes) (members : List Member) (y i node : ℕ) (old now new before mid after : List ℕ) (heap waiting next : List Arrival) where
+    abbrev this : Member
+    this = get_or members i blank_member
+
+    pub Seeds-next : i < length members → length old ≡ g.nodes → node ≡ (table_at tables this.leaf).source → node < g.nodes → y + this.inner < 2 ^ 64 →
+        Seeds g tables (take i members) y old now before mid heap waiting → Raises node (y + this.inner) now new mid after waiting next →
+        Seeds g tables (take (i + 1) members) y old new before after heap next
+    Seeds-next low count is in_web small s r =
+        let there : node < length now = omega (arith, in_web, count, s.goes.count) in
+        let goes = Goes-raise g node (y + this.inner) now new mid after waiting next there r in_web small in
+        let here : y + this.inner ≤ noted_at new (table_at tables this.leaf).source =
+        subst (λ z. y + this.inner ≤ noted_at new z) is (omega (arith, raised_here g node (y + this.inner) now new mid after waiting next there r)) in
+        subst (λ ms. Seeds g tables ms y old new before after heap next) (sym (take_more members i blank_member low)) (record {
+          goes = Goes-on g old now new before mid after heap waiting next s.goes goes;
+          seeded =
+              All-push (λ (m : Member). y + m.inner ≤ noted_at new (table_at tables m.leaf).source) (take i members) this
+              (All-weaker (λ (m : Member). y + m.inner ≤ noted_at now (table_at tables m.leaf).source)
+              (λ (m : Member). y + m.inner ≤ noted_at new (table_at tables m.leaf).source)
+              (λ m h. omega (arith, h, goes.up (table_at tables m.leaf).source)) (take i members) s.seeded)
+              here;
+          below = λ f seeded b.
+              let parts = split f seeded in
+              raised_below g node (y + this.inner) now new mid after waiting next there r f
+              (subst (λ z. y + this.inner ≤ f z) (sym is) parts.1) (s.below f parts.0 b);
+        })
+      where
+        at_end : (xs : List Member) (m : Member) → get_or (xs ++ m ∷ []) (length xs) m ≡ m
+        at_end [] m = refl
+        at_end (x ∷ xs) m = at_end xs m
+
+        split : (f : ℕ → ℕ) → IsSeeded tables (take i members ++ this ∷ []) y f →
+            IsSeeded tables (take i members) y f × (y + this.inner ≤ f (table_at tables this.leaf).source)
+        split f h = (
+          (λ k d l. subst (λ (m : Member). y + m.inner ≤ f (table_at tables m.leaf).source) (get_or_append_left (take i members) (this ∷ []) d k l)
+              (h k d (omega (arith, l, length-append (take i members) (this ∷ []))))),
+          subst (λ (m : Member). y + m.inner ≤ f (table_at tables m.leaf).source) (at_end (take i members) this)
+              (h (length (take i members)) this (omega (arith, length-append (take i members) (this ∷ [])))),
+        )
+
+  -- the arrival a is taken, and skipped or spread
+  module _ (old heights near : List ℕ) (heap rest : List Arrival) (a : Arrival) (f : Flooding g old heights near heap) (taken : IsPermutation heap (a ∷ rest)) where
+    pub Flooding-skip : noted_at heights a.node ≢ a.height → Flooding g old heights near rest
+    Flooding-skip differ = record {
+      searching = Searching-skip g heights near heap rest a f.searching taken differ;
+      up = f.up;
+      below = f.below;
+    }
+
+    pub Flooding-spread : (lists : List (List ℕ)) → AreIncident g lists → (list new after : List ℕ) (next : List Arrival) → a.node < g.nodes →
+        list ≡ list_at lists a.node → noted_at heights a.node ≡ a.height → Spreads g a.node a.height list heights new near after rest next →
+        Flooding g old new after next
+    Flooding-spread lists incident list new after next in_web list_is latest s =
+        let all : list ≡ edges_at g a.node = list_is ∙ incident.each a.node in_web in
+        record {
+          searching = Searching-spread g heights near heap rest a f.searching taken new after next latest
+              (subst (λ xs. Spreads g a.node a.height xs heights new near after rest next) all s);
+          up = λ x. omega (arith, f.up x, s.goes.up x);
+          below = λ h l b. s.below h l (omega (arith, latest, f.below h l b a.node)) (f.below h l b);
+        }
+
+-- the heights listed so far are cut
+pub Caps-none : (y : ℕ) (old : List ℕ) → Caps y [] old old
+Caps-none y old = record { count = refl; down = λ x. omega arith; same = λ x. refl; low = All-nil (λ x. noted_at old x ≤ y) }
+
+pub Caps-more : (y : ℕ) (near old now new : List ℕ) (i : ℕ) → i < length near → get_or near i 0 < length old →
+    Caps y (take i near) old now → new ≡ set now (get_or near i 0) (min (noted_at now (get_or near i 0)) y) → Caps y (take (i + 1) near) old new
+Caps-more y near old now new i low in_old h is =
+    let node : ℕ = get_or near i 0 in
+    let here : noted_at new node ≡ min (noted_at now node) y =
+    ap (λ xs. noted_at xs node) is ∙ get_or-set_same now node (min (noted_at now node) y) 0 (omega (arith, in_old, h.count)) in
+    let there : (x : ℕ) → x ≢ node → noted_at new x ≡ noted_at now x =
+    λ x ne. ap (λ xs. noted_at xs x) is ∙ get_or-set_other now node x (min (noted_at now node) y) 0 ne in
+    let down : (x : ℕ) → noted_at new x ≤ noted_at now x = λ x. elim (cases_eq x node) [
+      | inl e ↦ subst (λ z. noted_at new z ≤ noted_at now z) (sym e) (omega (arith, here))
+      | inr ne ↦ omega (arith, there x ne)
+    ] in
+    record {
+      count = ap length is ∙ length-set now node (min (noted_at now node) y) ∙ h.count;
+      down = λ x. omega (arith, down x, h.down x);
+      same = λ x. elim (cases_eq x node) [
+        | inl e ↦ subst (λ z. min (noted_at new z) y ≡ min (noted_at old z) y) (sym e) (omega (arith, here, h.same node))
+        | inr ne ↦ omega (arith, there x ne, h.same x)
+      ];
+      low = subst (λ xs. All (λ x. noted_at new x ≤ y) xs) (sym (take_more near i 0 low))
+          (All-push (λ x. noted_at new x ≤ y) (take i near) node
+          (All-weaker (λ x. noted_at now x ≤ y) (λ x. noted_at new x ≤ y) (λ x k. omega (arith, k, down x)) (take i near) h.low)
+          (omega (arith, here)));
+    }

@@ -1,21 +1,19 @@
--- The end of the search for the nodes of a moat: each node on the way from a member to a node of positive height has positive
--- height, so none is missed.
-use Rattle.std.proofs.Common.{inl, inr, ◌≡◌, ℕ, zero, suc, ◌+◌, ◌-◌, ◌*◌, ◌<◌, ◌≤◌, min, cond, ltb, List, [], ◌∷◌, length, get_or, sym, ap, subst, arith, All}
-use Rattle.std.proofs.lemmas.Bool.{cases_lt, lt-ltb}
-use Rattle.std.proofs.lemmas.List.{get_or-map, length-map}
+-- The end of the search for the nodes of a moat: the heights that it leaves, cut to the dual, are the dual less the depths.
+use Rattle.std.proofs.Common.{inl, inr, ◌≡◌, ℕ, zero, suc, ◌+◌, ◌-◌, ◌*◌, ◌<◌, ◌≤◌, min, max, cond, ltb, List, [], ◌∷◌, length, get_or, sym, ◌∙◌, ap, subst, arith, All, replicate}
+use Rattle.std.proofs.lemmas.Bool.{cases_lt, lt-ltb, le-ltb}
+use Rattle.std.proofs.lemmas.List.{get_or-replicate, get_or_past, length-replicate}
+use Rattle.std.proofs.lemmas.List.Elements.{All-from_get_or}
 use Rattle.std.proofs.lemmas.List.Sums.{sum_by-cons}
-use Rattle.sg_sums.proofs.RisingLists.{All-holds}
 use Rattle.sg_sums.proofs.Tallies.{times_place}
-use Rattle.sg_graph.specs.Web.{Graph, IsWeb, edge_at, edge_weight, weight_of}
-use Rattle.sg_graph.specs.Walk.{IsDistance, IsWalk, Leads, other_end}
-use Rattle.sg_graph.specs.Incidence.{edges_at}
+use Rattle.sg_graph.specs.Web.{Graph, IsWeb, edge_weight, weight_of}
+use Rattle.sg_graph.specs.Walk.{IsWalk}
 use Rattle.sg_graph.specs.Table.{Routes}
-use Rattle.sg_graph.proofs.Incidences.{edges_at_leads}
-use Rattle.sg_graph.proofs.Walks.{distance-edge, distance-itself, leads_low, other_only}
+use Rattle.sg_graph.proofs.Walks.{distance-edge, distance-itself, leads_low}
+use Rattle.sg_moat.specs.declared.arrival.Arrival.{Arrival}
 use Rattle.sg_moat.specs.declared.members.Member.{Member}
 use Rattle.sg_moat.specs.Input.{distance_from, table_at}
 use Rattle.sg_moat.specs.Depths.{AreFull, depth_by, height_by}
-use Rattle.sg_moat.specs.Survey.{Floods, IsClosedAt, Settled, Surveys, noted_at, sources_of}
+use Rattle.sg_moat.specs.Survey.{AreBelow, Caps, Floods, IsLipschitz, IsSeeded, Seeds, Surveys, noted_at}
 
 -- what is read past the last member
 abbrev blank_member : Member
@@ -25,17 +23,17 @@ module _ (tables : List Routes) (x : ℕ) where
   abbrev far : Member → ℕ
   far m = 2 * distance_from tables m.leaf x - m.inner
 
-  pub depth_le : (members : List Member) (y : ℕ) → depth_by tables members y x ≤ y
+  depth_le : (members : List Member) (y : ℕ) → depth_by tables members y x ≤ y
   depth_le [] y = omega arith
   depth_le (m ∷ ms) y = omega (arith, depth_le ms (min y (far m)))
 
-  pub depth_bound : (members : List Member) (y k : ℕ) → k < length members → depth_by tables members y x ≤ far (get_or members k blank_member)
+  depth_bound : (members : List Member) (y k : ℕ) → k < length members → depth_by tables members y x ≤ far (get_or members k blank_member)
   depth_bound [] y k l = absurd (omega arith)
   depth_bound (m ∷ ms) y zero l = omega (arith, depth_le ms (min y (far m)))
   depth_bound (m ∷ ms) y (suc k) l = depth_bound ms (min y (far m)) k (omega arith)
 
   -- a depth below y is what some member reaches
-  pub depth_reached : (members : List Member) (y : ℕ) → depth_by tables members y x < y → (k : ℕ) × (k < length members) ×
+  depth_reached : (members : List Member) (y : ℕ) → depth_by tables members y x < y → (k : ℕ) × (k < length members) ×
       (depth_by tables members y x ≡ far (get_or members k blank_member))
   depth_reached [] y h = absurd (omega arith)
   depth_reached (m ∷ ms) y h = elim (cases_lt (depth_by tables ms (min y (far m)) x) (min y (far m))) [
@@ -45,63 +43,136 @@ module _ (tables : List Routes) (x : ℕ) where
     | inr same ↦ (0, omega arith, omega (arith, depth_le ms (min y (far m))))
   ]
 
+  -- the most that a walk from a member's terminal leaves at x of the dual and the duals inside
+  abbrev left_by : ℕ → List Member → ℕ
+  left_by y [] = 0
+  left_by y (m ∷ ms) = max (y + m.inner - 2 * distance_from tables m.leaf x) (left_by y ms)
+
+  left_bound : (members : List Member) (y k : ℕ) → k < length members →
+      y + (get_or members k blank_member).inner - 2 * distance_from tables (get_or members k blank_member).leaf x ≤ left_by y members
+  left_bound [] y k l = absurd (omega arith)
+  left_bound (m ∷ ms) y zero l = omega arith
+  left_bound (m ∷ ms) y (suc k) l = omega (arith, left_bound ms y k (omega arith))
+
+  left_reached : (members : List Member) (y : ℕ) → 0 < left_by y members → (k : ℕ) × (k < length members) ×
+      (left_by y members ≡ y + (get_or members k blank_member).inner - 2 * distance_from tables (get_or members k blank_member).leaf x)
+  left_reached [] y h = absurd (omega arith)
+  left_reached (m ∷ ms) y h = elim (cases_lt (y + m.inner - 2 * distance_from tables m.leaf x) (left_by y ms)) [
+    | inl rest ↦
+        let r = left_reached ms y (omega arith) in
+        (suc r.0, omega (arith, r.1), (let e : left_by y (m ∷ ms) ≡ left_by y ms = omega arith in e ∙ r.2))
+    | inr own ↦ (0, omega arith, omega arith)
+  ]
+
+  -- cut to y it is the height
+  left_height : (members : List Member) (y : ℕ) → min (left_by y members) y ≡ height_by tables members y x
+  left_height members y = elim (cases_lt (depth_by tables members y x) y) [
+    | inl deep ↦
+        let at = depth_reached members y deep in
+        let bound = left_bound members y at.0 at.1 in
+        elim (cases_lt 0 (left_by y members)) [
+          | inl some ↦
+              let r = left_reached members y some in
+              omega (arith, at.2, bound, r.2, depth_bound members y r.0 r.1)
+          | inr none ↦ omega (arith, at.2, bound)
+        ]
+    | inr flat ↦ elim (cases_lt 0 (left_by y members)) [
+      | inl some ↦
+          let r = left_reached members y some in
+          omega (arith, r.2, depth_bound members y r.0 r.1)
+      | inr none ↦ omega arith
+    ]
+  ]
+
 module _ (g : Graph) (web : IsWeb g) (tables : List Routes) (members : List Member) (full : AreFull g tables)
     (leaves : All (λ (m : Member). m.leaf < length tables) members) (y : ℕ) where
-  abbrev height : ℕ → ℕ
-  height = height_by tables members y
+  abbrev left : ℕ → ℕ
+  left x = left_by tables x y members
 
-  module _ (old heights near : List ℕ) (f : Floods g height old heights near)
-      (started : All (Settled height old) (sources_of tables members)) where
-    -- a node of positive height is listed, and closed
-    closed_at : (z : ℕ) → z < g.nodes → 0 < height z → Settled height heights z → IsClosedAt g height heights z
-    closed_at z low some settled =
-        let once = f.surveying.once z low in
-        let listed : cond {A = ℕ} (ltb 0 (noted_at heights z)) 1 0 ≡ 1 = ap (λ b. cond b 1 0) (lt-ltb 0 (noted_at heights z) (omega (arith, settled))) in
-        let at = times_place (λ (v : ℕ). v) z near 0 (omega (arith, once, listed)) in
-        subst (λ v. IsClosedAt g height heights v) at.2 (f.closed at.0 at.1)
+  left_lipschitz : IsLipschitz g left
+  left_lipschitz e x z l = elim (cases_lt 0 (left x)) [
+    | inl some ↦
+        let r = left_reached tables x members y some in
+        let m : Member = get_or members r.0 blank_member in
+        let leaf : m.leaf < length tables = leaves r.0 blank_member r.1 in
+        let low = leads_low g e x z web l in
+        let step = distance-edge g (table_at tables m.leaf).source x z e (distance_from tables m.leaf x) (distance_from tables m.leaf z) l
+        (full.distances m.leaf x leaf low.0) (full.distances m.leaf z leaf low.1) in
+        omega (arith, r.2, step, left_bound tables z members y r.0 r.1)
+    | inr none ↦ omega arith
+  ]
 
-    -- along a walk from a node at a distance of at most p from member k
-    along : (k : ℕ) (x : ℕ) → k < length members → (es : List ℕ) (z p : ℕ) → z < g.nodes → distance_from tables (get_or members k blank_member).leaf z ≤ p →
-        Settled height heights z →
-        IsWalk g z es x → 2 * (p + weight_of g es) - (get_or members k blank_member).inner < y → Settled height heights x
-    along k x l [] z p low near_by settled walk short = subst (λ v. Settled height heights v) walk settled
-    along k x l (e ∷ es) z p low near_by settled walk short =
-        let m : Member = get_or members k blank_member in
-        let other : ℕ = walk.0 in
-        let leads : Leads g e z other = walk.1 in
-        let leaf : m.leaf < length tables = leaves k blank_member l in
-        let parts = sum_by-cons (edge_weight g) e es in
-        let deep : 0 < height z = omega (arith, depth_bound tables z members y k l) in
-        let next_low : other < g.nodes = (leads_low g e z other web leads).1 in
-        let closed = closed_at z low deep settled in
-        let next_settled : Settled height heights other =
-        subst (λ v. Settled height heights v) (sym (other_only g e z other leads))
-        (All-holds (λ d. Settled height heights (other_end z (edge_at g d))) (edges_at g z) e closed (edges_at_leads g z e other leads)) in
-        let step : distance_from tables m.leaf other ≤ distance_from tables m.leaf z + edge_weight g e =
-        distance-edge g (table_at tables m.leaf).source z other e (distance_from tables m.leaf z) (distance_from tables m.leaf other) leads
-        (full.distances m.leaf z leaf low) (full.distances m.leaf other leaf next_low) in
-        along k x l es other (p + edge_weight g e) next_low (omega arith) next_settled walk.2 (omega arith)
-
-    all_settled : (x : ℕ) → x < g.nodes → Settled height heights x
-    all_settled x low = elim (cases_lt (depth_by tables members y x) y) [
-      | inl deep ↦
-          let at = depth_reached tables x members y deep in
-          let m : Member = get_or members at.0 blank_member in
-          let leaf : m.leaf < length tables = leaves at.0 blank_member at.1 in
+  left_seeded : IsSeeded tables members y left
+  left_seeded = All-from_get_or (λ (m : Member). y + m.inner ≤ left (table_at tables m.leaf).source) members blank_member (λ k l. at k l)
+    where
+      at : (k : ℕ) → k < length members → y + (get_or members k blank_member).inner ≤ left (table_at tables (get_or members k blank_member).leaf).source
+      at k l =
+          let m : Member = get_or members k blank_member in
+          let leaf : m.leaf < length tables = leaves k blank_member l in
           let source : ℕ = (table_at tables m.leaf).source in
-          let way : IsDistance g source x (distance_from tables m.leaf x) = full.distances m.leaf x leaf low in
-          let here : distance_from tables m.leaf source ≡ 0 = distance-itself g source (distance_from tables m.leaf source)
-          (full.distances m.leaf source leaf (full.sources m.leaf leaf)) in
-          let first : Settled height old source =
-          subst (λ v. Settled height old v) (get_or-map (λ (m : Member). (table_at tables m.leaf).source) members at.0 blank_member 0 at.1)
-          (started at.0 0 (omega (arith, at.1, length-map members (λ (m : Member). (table_at tables m.leaf).source)))) in
-          along at.0 x at.1 way.reached.0 source 0 (full.sources m.leaf leaf) (omega arith) (f.stays source first) way.reached.1
-          (omega (arith, at.2, way.reached.2))
-      | inr past ↦ elim (f.surveying.right x low) [
-        | inl none ↦ omega arith
-        | inr settled ↦ settled
-      ]
+          let none = distance-itself g source (distance_from tables m.leaf source) (full.distances m.leaf source leaf (full.sources m.leaf leaf)) in
+          omega (arith, none, left_bound tables source members y k l)
+
+  -- along a walk what is left falls by at most twice its weight
+  along : (f : ℕ → ℕ) → IsLipschitz g f → (es : List ℕ) (x z : ℕ) → IsWalk g x es z → f x ≤ f z + 2 * weight_of g es
+  along f l [] x z walk = subst (λ v. f x ≤ f v + 2 * weight_of g []) walk (omega arith)
+  along f l (e ∷ es) x z walk = omega (arith, l e x walk.0 walk.1, along f l es walk.0 z walk.2, sum_by-cons (edge_weight g) e es)
+
+  module _ (seeds heights near : List ℕ) (before : List ℕ) (heap : List Arrival) (seeded : Seeds g tables members y (replicate g.nodes 0) seeds [] before [] heap)
+      (f : Floods g seeds heights near) where
+    -- the search leaves just that
+    above : (x : ℕ) → x < g.nodes → left x ≤ noted_at heights x
+    above x low = elim (cases_lt 0 (left x)) [
+      | inl some ↦
+          let r = left_reached tables x members y some in
+          let m : Member = get_or members r.0 blank_member in
+          let leaf : m.leaf < length tables = leaves r.0 blank_member r.1 in
+          let way = full.distances m.leaf x leaf low in
+          omega (
+            arith,
+            r.2,
+            seeded.seeded r.0 blank_member r.1,
+            f.up (table_at tables m.leaf).source,
+            along (noted_at heights) f.lipschitz way.reached.0 (table_at tables m.leaf).source x way.reached.1,
+            way.reached.2,
+          )
+      | inr none ↦ omega arith
     ]
 
-    pub Surveys-end : Surveys g height heights near
-    Surveys-end = record { count = f.surveying.count; settled = all_settled; once = f.surveying.once; low = f.surveying.low }
+    below : AreBelow left heights
+    below = f.below left left_lipschitz (seeded.below left left_seeded (λ x. omega (arith, flat x)))
+      where
+        flat : (x : ℕ) → noted_at (replicate g.nodes 0) x ≡ 0
+        flat x = elim (cases_lt x g.nodes) [
+          | inl l ↦ get_or-replicate g.nodes x 0 0 l
+          | inr l ↦ get_or_past (replicate g.nodes 0) x 0 (omega (arith, count_of g.nodes))
+        ]
+          where
+            count_of : (n : ℕ) → length {A = ℕ} (replicate n 0) ≡ n
+            count_of n = length-replicate n 0
+
+    module _ (some : 0 < y) (new : List ℕ) (caps : Caps y near heights new) where
+      cut : (x : ℕ) → x < g.nodes → noted_at new x ≡ min (noted_at heights x) y
+      cut x low = elim (cases_lt 0 (noted_at heights x)) [
+        | inl high ↦
+            let once = f.lists.once x low in
+            let listed : cond {A = ℕ} (ltb 0 (noted_at heights x)) 1 0 ≡ 1 = ap (λ b. cond b 1 0) (lt-ltb 0 (noted_at heights x) high) in
+            let at = times_place (λ (v : ℕ). v) x near 0 (omega (arith, once, listed)) in
+            let most : noted_at new x ≤ y = subst (λ z. noted_at new z ≤ y) at.2 (caps.low at.0 0 at.1) in
+            omega (arith, most, caps.same x)
+        | inr none ↦ omega (arith, caps.down x)
+      ]
+
+      pub Surveys-end : Surveys g (height_by tables members y) new near
+      Surveys-end = record {
+        count = caps.count ∙ f.lists.count;
+        settled = λ x l. omega (arith, cut x l, above x l, below x, left_height tables x members y);
+        once = λ x l. f.lists.once x l ∙ ap (λ b. cond {A = ℕ} b 1 0) (as_high x l);
+        low = f.lists.low;
+      }
+        where
+          as_high : (x : ℕ) → x < g.nodes → ltb 0 (noted_at heights x) ≡ ltb 0 (noted_at new x)
+          as_high x l = elim (cases_lt 0 (noted_at heights x)) [
+            | inl high ↦ lt-ltb 0 (noted_at heights x) high ∙ sym (lt-ltb 0 (noted_at new x) (omega (arith, cut x l)))
+            | inr none ↦ le-ltb 0 (noted_at heights x) none ∙ sym (le-ltb 0 (noted_at new x) (omega (arith, cut x l)))
+          ]

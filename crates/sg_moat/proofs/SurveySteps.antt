@@ -1,241 +1,312 @@
--- The steps of the search for the nodes of a moat, and what is known at its end: every node on the way to a node of positive
--- height has positive height, so none is missed.
-use Rattle.std.proofs.Common.{inl, inr, ◌≡◌, ◌≢◌, ◌⊎◌, ◌&&◌, ℕ, zero, suc, ◌+◌, ◌<◌, ◌≤◌, ◌++◌, Bool, true, false, cond, eqb, ltb, List, [], ◌∷◌, length}
-use Rattle.std.proofs.Common.{get_or, set, replicate, refl, sym, ◌∙◌, ap, ap₂, subst, arith, All, Contains, eq-eqb}
+-- The steps of the search for the nodes of a moat: one arrival, the heights that rise, and what is known when none waits.
+use Rattle.std.proofs.Common.{inl, inr, ◌≡◌, ◌≢◌, ◌⊎◌, ◌&&◌, ℕ, zero, suc, ◌+◌, ◌*◌, ◌-◌, ◌^◌, ◌<◌, ◌≤◌, ◌++◌, max, Bool, true, false, cond, eqb, ltb, List, [], ◌∷◌, length}
+use Rattle.std.proofs.Common.{get_or, set, replicate, refl, sym, ◌∙◌, ap, ap₂, subst, arith, All, Contains, IsPermutation, eq-eqb}
 use Rattle.std.proofs.lemmas.Bool.{cases_eq, cases_lt, ne_eqb, lt-ltb, le-ltb}
-use Rattle.std.proofs.lemmas.List.{append-nil, append_assoc, get_or-set_same, get_or-set_other, get_or-replicate, length-replicate, length-set}
-use Rattle.std.proofs.lemmas.List.{get_or_append_left, length-append}
-use Rattle.std.proofs.lemmas.List.Elements.{All-append, All-nil, All-push, All-cons, All-weaker}
-use Rattle.std.proofs.lemmas.List.Sums.{sum_by-append, sum_by-cons}
-use Rattle.sg_sums.specs.Sums.{sum_below}
-use Rattle.sg_sums.proofs.SumLaws.{sum_below-le}
-use Rattle.sg_sums.proofs.Tallies.{cond_small, sum_below_ones, times, times_total}
-use Rattle.sg_graph.specs.Web.{Graph, edge_at}
-use Rattle.sg_graph.specs.Walk.{other_end}
+use Rattle.std.proofs.lemmas.List.{append-nil, get_or-set_same, get_or-set_other, get_or-replicate, length-replicate, length-set, set-get_or}
+use Rattle.std.proofs.lemmas.List.{get_or_append_left, get_or_past, length-append}
+use Rattle.std.proofs.lemmas.List.Elements.{All-append, All-nil, All-cons, All-tail}
+use Rattle.std.proofs.lemmas.List.Sorted.{All-permutation, Contains-permutation, IsPermutation-refl, length_permutation}
+use Rattle.std.proofs.lemmas.List.Sums.{sum_by-append, sum_by-cons, sum_by-set}
+use Rattle.sg_sums.proofs.RisingLists.{All-holds}
+use Rattle.sg_graph.specs.Web.{Graph, edge_at, edge_weight}
+use Rattle.sg_graph.specs.Walk.{Leads, other_end}
 use Rattle.sg_graph.specs.Incidence.{edges_at}
-use Rattle.sg_moat.specs.Survey.{Floods, Goes, IsClosedAt, Looks, Settled, Spreads, Surveying, noted_at, times_listed}
+use Rattle.sg_graph.proofs.Incidences.{edges_at_leads}
+use Rattle.sg_graph.proofs.Walks.{other_only}
+use Rattle.sg_moat.specs.declared.arrival.Arrival.{Arrival}
+use Rattle.sg_moat.specs.Survey.{AreBelow, Floods, Goes, IsLipschitz, Lists, Raises, Searching, Spreads, arrival_at, noted_at, room_above, times_listed}
 
-module _ (height : ℕ → ℕ) (node : ℕ) (old before : List ℕ) where
-  pub Looks-set : node < length old → noted_at old node ≡ 0 → 0 < height node →
-      Looks height node old (set old node (height node)) before (before ++ node ∷ [])
-  Looks-set low none some = record {
-    count = length-set old node (height node);
-    here = λ h. get_or-set_same old node (height node) 0 low;
-    there = λ x ne. get_or-set_other old node x (height node) 0 ne;
-    listed = ap (λ b. before ++ cond b (node ∷ []) []) (sym (ap₂ (λ p q. p && q) (eq-eqb (noted_at old node) 0 none) (lt-ltb 0 (height node) some)));
-  }
+in_front : {X : Type 0} (a x : X) (rest : List X) → Contains (a ∷ rest) x → (x ≡ a) ⊎ Contains rest x
+in_front a x rest (zero, l, e) = inl (sym e)
+in_front a x rest (suc k, l, e) = inr (k, omega arith, e)
 
-  pub Looks-flat : noted_at old node ≡ 0 → height node ≡ 0 → Looks height node old old before before
-  Looks-flat none flat = record {
-    count = refl;
-    here = λ h. none ∙ sym flat;
-    there = λ x ne. refl;
-    listed =
-        sym (append-nil before)
-        ∙ ap (λ b. before ++ cond b (node ∷ []) []) (sym (ap₂ (λ p q. p && q) (eq-eqb (noted_at old node) 0 none) (le-ltb 0 (height node) (omega arith))));
-  }
+Contains-behind : {X : Type 0} (a x : X) (rest : List X) → Contains rest x → Contains (a ∷ rest) x
+Contains-behind a x rest (k, l, e) = (suc k, omega arith, e)
 
-  pub Looks-seen : noted_at old node ≢ 0 → Looks height node old old before before
-  Looks-seen seen = record {
-    count = refl;
-    here = λ h. by_case h;
-    there = λ x ne. refl;
-    listed = sym (append-nil before) ∙ ap (λ b. before ++ cond (b && ltb 0 (height node)) (node ∷ []) []) (sym (ne_eqb (noted_at old node) 0 seen));
+module _ (node height : ℕ) (old before : List ℕ) (heap : List Arrival) where
+  abbrev here : Arrival
+  here = record { height = height; node = node }
+
+  -- no higher than before: nothing changes
+  pub Raises-none : height ≤ noted_at old node → Raises node height old old before before heap heap
+  Raises-none low = record {
+    noted = let e : max (noted_at old node) height ≡ noted_at old node = omega arith in sym (ap (set old node) e ∙ set-get_or old node 0);
+    listed = sym (append-nil before) ∙ ap (λ b. before ++ cond b (node ∷ []) []) (sym (unlisted (noted_at old node) low));
+    waits = subst (λ b. IsPermutation (cond b (here ∷ []) [] ++ heap) heap) (sym (le-ltb (noted_at old node) height low)) (IsPermutation-refl heap);
   }
     where
-      by_case : (noted_at old node ≡ 0) ⊎ Settled height old node → Settled height old node
-      by_case (inl e) = absurd (seen e)
-      by_case (inr s) = s
+      unlisted : (o : ℕ) → height ≤ o → ((eqb o 0) && ltb 0 height) ≡ false
+      unlisted zero l = le-ltb 0 height l
+      unlisted (suc o) l = ap (λ b. b && ltb 0 height) (ne_eqb (suc o) 0 (λ e. absurd (omega (arith, e))))
 
-module _ (g : Graph) (height : ℕ → ℕ) where
-  pub Surveying-none : Surveying g height (replicate g.nodes 0) []
-  Surveying-none = record {
-    count = length-replicate g.nodes 0;
-    right = λ x l. inl (none x l);
-    once = λ x l. sym (ap (λ n. cond (ltb 0 n) 1 0) (none x l));
-    low = All-nil (λ x. x < g.nodes);
+  pub Raises-higher : (after : List ℕ) (next : List Arrival) → noted_at old node < height → after ≡ before ++ cond (eqb (noted_at old node) 0) (node ∷ []) [] →
+      IsPermutation (here ∷ heap) next → Raises node height old (set old node height) before after heap next
+  Raises-higher after next more listed waits = record {
+    noted = let e : max (noted_at old node) height ≡ height = omega arith in sym (ap (set old node) e);
+    listed = listed ∙ ap (λ b. before ++ cond b (node ∷ []) []) (sym (same (eqb (noted_at old node) 0)));
+    waits = subst (λ b. IsPermutation (cond b (here ∷ []) [] ++ heap) next) (sym (lt-ltb (noted_at old node) height more)) waits;
   }
     where
-      none : (x : ℕ) → x < g.nodes → noted_at (replicate g.nodes 0) x ≡ 0
-      none x l = get_or-replicate g.nodes x 0 0 l
+      same : (b : Bool) → (b && ltb 0 height) ≡ b
+      same true = lt-ltb 0 height (omega (arith, more))
+      same false = refl
 
-  pub Goes-none : (old before : List ℕ) → Goes g height old old before before
-  Goes-none old before = record { count = refl; surveying = λ s. s; stays = λ x h. h; more = []; grows = sym (append-nil before) }
+-- whether a node counts as listed
+listed_by : (o h : ℕ) → cond {A = ℕ} (ltb 0 o) 1 0 + cond ((eqb o 0) && ltb 0 h) 1 0 ≡ cond (ltb 0 (max o h)) 1 0
+listed_by zero h =
+    let most : max 0 h ≡ h = omega arith in
+    let more : 0 + cond {A = ℕ} (ltb 0 h) 1 0 ≡ cond (ltb 0 h) 1 0 = omega arith in
+    more ∙ sym (ap (λ n. cond {A = ℕ} (ltb 0 n) 1 0) most)
+listed_by (suc o) h =
+    let first : ltb 0 (suc o) ≡ true = lt-ltb 0 (suc o) (omega arith) in
+    let second : ltb 0 (max (suc o) h) ≡ true = lt-ltb 0 (max (suc o) h) (omega arith) in
+    ap₂ (λ a b. cond {A = ℕ} a 1 0 + cond (b && ltb 0 h) 1 0) first (ne_eqb (suc o) 0 (λ e. absurd (omega (arith, e))))
+    ∙ sym (ap (λ b. cond {A = ℕ} b 1 0) second)
 
-  pub Goes-on : (a b c p q r : List ℕ) → Goes g height a b p q → Goes g height b c q r → Goes g height a c p r
-  Goes-on a b c p q r h k = record {
-    count = k.count ∙ h.count;
-    surveying = λ s. k.surveying (h.surveying s);
-    stays = λ x s. k.stays x (h.stays x s);
-    more = h.more ++ k.more;
-    grows = k.grows ∙ ap (λ xs. xs ++ k.more) h.grows ∙ append_assoc p h.more k.more;
+module _ (g : Graph) where
+  pub Goes-none : (old before : List ℕ) (heap : List Arrival) → Goes g old old before before heap heap
+  Goes-none old before heap = record {
+    count = refl;
+    lists = λ l. l;
+    low = λ l. l;
+    up = λ x. omega arith;
+    waits = λ x. inl refl;
+    stays = λ a h. h;
+    work = omega arith;
   }
 
-  module _ (node : ℕ) (old new before after : List ℕ) (low : node < g.nodes) (l : Looks height node old new before after) where
-    -- what is settled stays so
-    look_stays : (x : ℕ) → Settled height old x → Settled height new x
-    look_stays x s = elim (cases_eq x node) [
-      | inl e ↦ subst (λ z. Settled height new z) (sym e) (l.here (inr (subst (λ z. Settled height old z) e s)))
-      | inr ne ↦ l.there x ne ∙ s
+  pub Goes-on : (a b c p q r : List ℕ) (h k n : List Arrival) → Goes g a b p q h k → Goes g b c q r k n → Goes g a c p r h n
+  Goes-on a b c p q r h k n first second = record {
+    count = second.count ∙ first.count;
+    lists = λ l. second.lists (first.lists l);
+    low = λ l. second.low (first.low l);
+    up = λ x. omega (arith, first.up x, second.up x);
+    waits = λ x. elim (second.waits x) [
+      | inl same ↦ elim (first.waits x) [
+        | inl equal ↦ inl (same ∙ equal)
+        | inr in_heap ↦ inr (second.stays (arrival_at c x) (subst (λ v. Contains k (record { height = v; node = x })) (sym same) in_heap))
+      ]
+      | inr in_heap ↦ inr in_heap
+    ];
+    stays = λ a h. second.stays a (first.stays a h);
+    work = omega (arith, first.work, second.work);
+  }
+
+  module _ (node height : ℕ) (old new before after : List ℕ) (heap next : List Arrival) (low : node < length old)
+      (r : Raises node height old new before after heap next) where
+    pub raised_here : noted_at new node ≡ max (noted_at old node) height
+    raised_here = ap (λ xs. noted_at xs node) r.noted ∙ get_or-set_same old node (max (noted_at old node) height) 0 low
+
+    raised_there : (x : ℕ) → x ≢ node → noted_at new x ≡ noted_at old x
+    raised_there x ne = ap (λ xs. noted_at xs x) r.noted ∙ get_or-set_other old node x (max (noted_at old node) height) 0 ne
+
+    raised_up : (x : ℕ) → noted_at old x ≤ noted_at new x
+    raised_up x = elim (cases_eq x node) [
+      | inl e ↦ subst (λ z. noted_at old z ≤ noted_at new z) (sym e) (omega (arith, raised_here))
+      | inr ne ↦ omega (arith, raised_there x ne)
     ]
 
-    look_once : Surveying g height old before → (x : ℕ) → x < g.nodes → times_listed x after ≡ cond (ltb 0 (noted_at new x)) 1 0
-    look_once s x lx = ap (times_listed x) l.listed ∙ elim (cases_eq x node) [
-      | inl e ↦ subst (λ z. times_listed z (before ++ added) ≡ cond (ltb 0 (noted_at new z)) 1 0) (sym e) (at_node (s.right node low))
-      | inr ne ↦
-          sum_by-append (λ z. cond (eqb z x) 1 0) before added
-          ∙ ap (λ n. times_listed x before + n) (elsewhere ne ((eqb (noted_at old node) 0) && ltb 0 (height node)))
-          ∙ (let e : times_listed x before + 0 ≡ times_listed x before = omega arith in e)
-          ∙ s.once x lx
-          ∙ ap (λ n. cond (ltb 0 n) 1 0) (sym (l.there x ne))
+    pub raised_below : (f : ℕ → ℕ) → height ≤ f node → AreBelow f old → AreBelow f new
+    raised_below f most below x = elim (cases_eq x node) [
+      | inl e ↦ subst (λ z. noted_at new z ≤ f z) (sym e) (omega (arith, raised_here, below node))
+      | inr ne ↦ omega (arith, raised_there x ne, below x)
     ]
+
+    -- how often the node is listed more
+    times_more : (x : ℕ) (b : Bool) → times_listed x (cond b (node ∷ []) []) ≡ cond (b && eqb node x) 1 0
+    times_more x true = let e = sum_by-cons (λ z. cond {A = ℕ} (eqb z x) 1 0) node [] in omega (arith, e)
+    times_more x false = refl
+
+    raised_once : Lists g old before → (x : ℕ) → x < g.nodes → times_listed x after ≡ cond (ltb 0 (noted_at new x)) 1 0
+    raised_once s x lx =
+        let fresh : Bool = (eqb (noted_at old node) 0) && ltb 0 height in
+        ap (times_listed x) r.listed
+        ∙ sum_by-append (λ z. cond {A = ℕ} (eqb z x) 1 0) before (cond fresh (node ∷ []) [])
+        ∙ ap₂ (λ m n. m + n) (s.once x lx) (times_more x fresh)
+        ∙ elim (cases_eq node x) [
+          | inl e ↦
+              ap (λ b. cond {A = ℕ} (ltb 0 (noted_at old x)) 1 0 + cond (fresh && b) 1 0) (eq-eqb node x e)
+              ∙ ap (λ b. cond {A = ℕ} (ltb 0 (noted_at old x)) 1 0 + cond b 1 0) (and_true fresh)
+              ∙ subst (λ z. cond {A = ℕ} (ltb 0 (noted_at old z)) 1 0 + cond fresh 1 0 ≡ cond (ltb 0 (noted_at new z)) 1 0) e
+              (listed_by (noted_at old node) height ∙ ap (λ n. cond {A = ℕ} (ltb 0 n) 1 0) (sym raised_here))
+          | inr ne ↦
+              ap (λ b. cond {A = ℕ} (ltb 0 (noted_at old x)) 1 0 + cond (fresh && b) 1 0) (ne_eqb node x ne)
+              ∙ ap (λ b. cond {A = ℕ} (ltb 0 (noted_at old x)) 1 0 + cond b 1 0) (and_false fresh)
+              ∙ (let e : cond {A = ℕ} (ltb 0 (noted_at old x)) 1 0 + 0 ≡ cond (ltb 0 (noted_at old x)) 1 0 = omega arith in e)
+              ∙ ap (λ n. cond {A = ℕ} (ltb 0 n) 1 0) (sym (raised_there x (λ h. ne (sym h))))
+        ]
       where
-        added : List ℕ
-        added = cond ((eqb (noted_at old node) 0) && ltb 0 (height node)) (node ∷ []) []
+        and_true : (b : Bool) → (b && true) ≡ b
+        and_true true = refl
+        and_true false = refl
 
-        elsewhere : x ≢ node → (b : Bool) → times_listed x (cond b (node ∷ []) []) ≡ 0
-        elsewhere ne true = let e : cond {A = ℕ} (eqb node x) 1 0 ≡ 0 = ap (λ b. cond b 1 0) (ne_eqb node x (λ h. ne (sym h))) in omega
-            (arith, sum_by-cons (λ z. cond (eqb z x) 1 0) node [])
-        elsewhere ne false = refl
+        and_false : (b : Bool) → (b && false) ≡ false
+        and_false true = refl
+        and_false false = refl
 
-        one_listed : times_listed node (node ∷ []) ≡ 1
-        one_listed = let e : cond {A = ℕ} (eqb node node) 1 0 ≡ 1 = ap (λ b. cond b 1 0) (eq-eqb node node refl) in omega
-            (arith, sum_by-cons (λ z. cond (eqb z node) 1 0) node [])
+    module _ (in_web : node < g.nodes) (small : height < 2 ^ 64) where
+      raised_lists : Lists g old before → Lists g new after
+      raised_lists s = record {
+        count = ap length r.noted ∙ length-set old node (max (noted_at old node) height) ∙ s.count;
+        once = raised_once s;
+        low = subst (λ xs. All (λ x. x < g.nodes) xs) (sym r.listed)
+            (All-append (λ x. x < g.nodes) before (cond ((eqb (noted_at old node) 0) && ltb 0 height) (node ∷ []) []) s.low
+            (one_low ((eqb (noted_at old node) 0) && ltb 0 height)));
+      }
+        where
+          one_low : (b : Bool) → All (λ x. x < g.nodes) (cond b (node ∷ []) [])
+          one_low true = All-cons (λ x. x < g.nodes) node [] in_web (All-nil (λ x. x < g.nodes))
+          one_low false = All-nil (λ x. x < g.nodes)
 
-        by_height : noted_at old node ≡ 0 → (height node ≡ 0) ⊎ (0 < height node) → times_listed node (before ++ added) ≡ cond (ltb 0 (noted_at new node)) 1 0
-        by_height none (inl flat) =
-            let now : noted_at new node ≡ 0 = l.here (inl none) ∙ flat in
-            let nothing : added ≡ [] = ap (λ b. cond b (node ∷ []) [])
-            (ap₂ (λ p q. p && q) (eq-eqb (noted_at old node) 0 none) (le-ltb 0 (height node) (omega arith))) in
-            ap (λ xs. times_listed node (before ++ xs)) nothing
-            ∙ ap (times_listed node) (append-nil before)
-            ∙ s.once node low
-            ∙ ap (λ n. cond (ltb 0 n) 1 0) (none ∙ sym now)
-        by_height none (inr some) =
-            let now : noted_at new node ≡ height node = l.here (inl none) in
-            let one : added ≡ node ∷ [] = ap (λ b. cond b (node ∷ []) [])
-            (ap₂ (λ p q. p && q) (eq-eqb (noted_at old node) 0 none) (lt-ltb 0 (height node) some)) in
-            let was : times_listed node before ≡ 0 = s.once node low ∙ ap (λ n. cond (ltb 0 n) 1 0) none in
-            let is : cond {A = ℕ} (ltb 0 (noted_at new node)) 1 0 ≡ 1 = ap (λ b. cond b 1 0) (lt-ltb 0 (noted_at new node) (omega arith)) in
-            ap (λ xs. times_listed node (before ++ xs)) one
-            ∙ sum_by-append (λ z. cond (eqb z node) 1 0) before (node ∷ [])
-            ∙ (let e : times_listed node before + times_listed node (node ∷ []) ≡ 1 = omega (arith, was, one_listed) in e)
-            ∙ sym is
+      abbrev arrival : Arrival
+      arrival = record { height = height; node = node }
 
-        seen : noted_at old node ≢ 0 → Settled height old node → times_listed node (before ++ added) ≡ cond (ltb 0 (noted_at new node)) 1 0
-        seen some settled =
-            let nothing : added ≡ [] = ap (λ b. cond (b && ltb 0 (height node)) (node ∷ []) []) (ne_eqb (noted_at old node) 0 some) in
-            ap (λ xs. times_listed node (before ++ xs)) nothing
-            ∙ ap (times_listed node) (append-nil before)
-            ∙ s.once node low
-            ∙ ap (λ n. cond (ltb 0 n) 1 0) (settled ∙ sym (l.here (inr settled)))
+      -- the heap after it, by whether the node rose
+      lower : height ≤ noted_at old node → IsPermutation heap next
+      lower l = subst (λ b. IsPermutation (cond b (arrival ∷ []) [] ++ heap) next) (le-ltb (noted_at old node) height l) r.waits
 
-        positive : (n : ℕ) → (n ≡ 0) ⊎ (0 < n)
-        positive zero = inl refl
-        positive (suc n) = inr (omega arith)
+      higher : noted_at old node < height → IsPermutation (arrival ∷ heap) next
+      higher l = subst (λ b. IsPermutation (cond b (arrival ∷ []) [] ++ heap) next) (lt-ltb (noted_at old node) height l) r.waits
 
-        at_node : (noted_at old node ≡ 0) ⊎ Settled height old node → times_listed node (before ++ added) ≡ cond (ltb 0 (noted_at new node)) 1 0
-        at_node r = elim (cases_eq (noted_at old node) 0) [
-          | inl none ↦ by_height none (positive (height node))
-          | inr some ↦ elim r [
-            | inl none ↦ absurd (some none)
-            | inr settled ↦ seen some settled
+      room : room_above new + (2 ^ 64 - noted_at old node) ≡ room_above old + (2 ^ 64 - max (noted_at old node) height)
+      room = ap (λ xs. room_above xs + (2 ^ 64 - noted_at old node)) r.noted ∙ sum_by-set (λ h. 2 ^ 64 - h) old node (max (noted_at old node) height) 0 low
+
+      pub Goes-raise : Goes g old new before after heap next
+      Goes-raise = elim (cases_lt (noted_at old node) height) [
+        | inl more ↦ record {
+          count = ap length r.noted ∙ length-set old node (max (noted_at old node) height);
+          lists = raised_lists;
+          low = λ h. All-permutation (λ a. a.node < g.nodes) (arrival ∷ heap) next (higher more)
+              (All-cons (λ (a : Arrival). a.node < g.nodes) arrival heap in_web h);
+          up = raised_up;
+          waits = λ x. elim (cases_eq x node) [
+            | inl e ↦ inr (Contains-permutation (arrival ∷ heap) next (arrival_at new x) (higher more)
+                (subst (λ z. Contains (arrival ∷ heap) (arrival_at new z)) (sym e) (
+                  0,
+                  omega arith,
+                  ap (λ n. record { height = n; node = node })
+                      (let q : height ≡ noted_at new node = omega (arith, raised_here) in q),
+                )))
+            | inr ne ↦ inl (raised_there x ne)
+          ];
+          stays = λ a h. Contains-permutation (arrival ∷ heap) next a (higher more) (Contains-behind arrival a heap h);
+          work = omega (arith, room, length_permutation (arrival ∷ heap) next (higher more));
+        }
+        | inr less ↦ record {
+          count = ap length r.noted ∙ length-set old node (max (noted_at old node) height);
+          lists = raised_lists;
+          low = All-permutation (λ a. a.node < g.nodes) heap next (lower less);
+          up = raised_up;
+          waits = λ x. inl (elim (cases_eq x node) [
+            | inl e ↦ subst (λ z. noted_at new z ≡ noted_at old z) (sym e) (omega (arith, raised_here))
+            | inr ne ↦ raised_there x ne
+          ]);
+          stays = λ a h. Contains-permutation heap next a (lower less) h;
+          work = omega (arith, room, length_permutation heap next (lower less));
+        }
+      ]
+
+  -- all heights are 0: no node has to be spread
+  pub Searching-start : (new near : List ℕ) (heap : List Arrival) → Goes g (replicate g.nodes 0) new [] near [] heap → Searching g new near heap
+  Searching-start new near heap goes = record {
+    lists = goes.lists (record {
+      count = count_of g.nodes;
+      once = λ x l. sym (ap (λ n. cond {A = ℕ} (ltb 0 n) 1 0) (none x));
+      low = All-nil (λ x. x < g.nodes);
+    });
+    low = goes.low (All-nil (λ (a : Arrival). a.node < g.nodes));
+    waits = λ x. elim (goes.waits x) [
+      | inl same ↦ inl (λ e z l. omega (arith, same, none x))
+      | inr in_heap ↦ inr in_heap
+    ];
+  }
+    where
+      count_of : (n : ℕ) → length {A = ℕ} (replicate n 0) ≡ n
+      count_of n = length-replicate n 0
+
+      none : (x : ℕ) → noted_at (replicate g.nodes 0) x ≡ 0
+      none x = elim (cases_lt x g.nodes) [
+        | inl l ↦ get_or-replicate g.nodes x 0 0 l
+        | inr l ↦ get_or_past (replicate g.nodes 0) x 0 (omega (arith, count_of g.nodes))
+      ]
+
+  -- the arrival a is taken from the heap
+  module _ (heights near : List ℕ) (heap rest : List Arrival) (a : Arrival) (s : Searching g heights near heap) (taken : IsPermutation heap (a ∷ rest)) where
+    pub taken_low : a.node < g.nodes
+    taken_low = All-permutation (λ a. a.node < g.nodes) heap (a ∷ rest) taken s.low 0 a (omega arith)
+
+    rest_low : All (λ a. a.node < g.nodes) rest
+    rest_low = All-tail (λ (a : Arrival). a.node < g.nodes) a rest (All-permutation (λ a. a.node < g.nodes) heap (a ∷ rest) taken s.low)
+
+    pub taken_work : length rest + 1 ≡ length heap
+    taken_work = let e = length_permutation heap (a ∷ rest) taken in omega arith
+
+    still : (x : Arrival) → x ≢ a → Contains heap x → Contains rest x
+    still x ne h = elim (in_front a x rest (Contains-permutation heap (a ∷ rest) x taken h)) [
+      | inl e ↦ absurd (ne e)
+      | inr k ↦ k
+    ]
+
+    -- it is not the latest of its node
+    pub Searching-skip : noted_at heights a.node ≢ a.height → Searching g heights near rest
+    Searching-skip differ = record {
+      lists = s.lists;
+      low = rest_low;
+      waits = λ x. elim (s.waits x) [
+        | inl spread ↦ inl spread
+        | inr in_heap ↦ inr (still (arrival_at heights x)
+            (λ e. differ (ap (λ (b : Arrival). noted_at heights b.node) (sym e) ∙ ap (λ (b : Arrival). b.height) e)) in_heap)
+      ];
+    }
+
+    -- its node is spread
+    pub Searching-spread : (new after : List ℕ) (next : List Arrival) → noted_at heights a.node ≡ a.height →
+        Spreads g a.node a.height (edges_at g a.node) heights new near after rest next → Searching g new after next
+    Searching-spread new after next latest spreads = record {
+      lists = spreads.goes.lists s.lists;
+      low = spreads.goes.low rest_low;
+      waits = λ x. elim (spreads.goes.waits x) [
+        | inr in_heap ↦ inr in_heap
+        | inl same ↦ elim (cases_eq x a.node) [
+          | inl e ↦ inl (λ k z l. spread_now x e same k z l)
+          | inr ne ↦ elim (s.waits x) [
+            | inl spread ↦ inl (λ k z l. omega (arith, same, spread k z l, spreads.goes.up z))
+            | inr in_heap ↦ inr (subst (λ v. Contains next (record { height = v; node = x })) (sym same)
+                (spreads.goes.stays (arrival_at heights x) (still (arrival_at heights x) (λ e. ne (ap (λ (b : Arrival). b.node) e)) in_heap)))
           ]
         ]
-
-    pub Goes-look : Goes g height old new before after
-    Goes-look = record {
-      count = l.count;
-      surveying = λ s. record {
-        count = l.count ∙ s.count;
-        right = λ x lx. elim (cases_eq x node) [
-          | inl e ↦ inr (subst (λ z. Settled height new z) (sym e) (l.here (s.right node low)))
-          | inr ne ↦ elim (s.right x lx) [
-            | inl none ↦ inl (l.there x ne ∙ none)
-            | inr settled ↦ inr (l.there x ne ∙ settled)
-          ]
-        ];
-        once = look_once s;
-        low = subst (λ xs. All (λ x. x < g.nodes) xs) (sym l.listed)
-            (All-append (λ x. x < g.nodes) before (cond ((eqb (noted_at old node) 0) && ltb 0 (height node)) (node ∷ []) []) s.low
-            (one_low ((eqb (noted_at old node) 0) && ltb 0 (height node))));
-      };
-      stays = look_stays;
-      more = cond ((eqb (noted_at old node) 0) && ltb 0 (height node)) (node ∷ []) [];
-      grows = l.listed;
+      ];
     }
       where
-        one_low : (b : Bool) → All (λ x. x < g.nodes) (cond b (node ∷ []) [])
-        one_low true = All-cons (λ x. x < g.nodes) node [] low (All-nil (λ x. x < g.nodes))
-        one_low false = All-nil (λ x. x < g.nodes)
+        spread_now : (x : ℕ) → x ≡ a.node → noted_at new x ≡ noted_at heights x → (k z : ℕ) → Leads g k x z →
+            noted_at new x ≤ noted_at new z + 2 * edge_weight g k
+        spread_now x e same k z l =
+            let leads : Leads g k a.node z = subst (λ v. Leads g k v z) e l in
+            let far : z ≡ other_end a.node (edge_at g k) = other_only g k a.node z leads in
+            let there : a.height ≤ noted_at new (other_end a.node (edge_at g k)) + 2 * edge_weight g k =
+            All-holds (λ d. a.height ≤ noted_at new (other_end a.node (edge_at g d)) + 2 * edge_weight g d) (edges_at g a.node) k spreads.spread
+            (edges_at_leads g a.node k z leads) in
+            omega (arith, there, same, latest, ap (noted_at heights) e, ap (noted_at new) far)
 
-    pub look_settled : Surveying g height old before → Settled height new node
-    look_settled s = l.here (s.right node low)
+  -- the search goes on from these heights
+  pub record Flooding (old heights near : List ℕ) (heap : List Arrival) : Type 0 where
+    pub searching : Searching g heights near heap
+    pub up : (x : ℕ) → noted_at old x ≤ noted_at heights x
+    pub below : (f : ℕ → ℕ) → IsLipschitz g f → AreBelow f old → AreBelow f heights
 
-  -- along a list of edges at a node
-  pub Spreads-none : (node : ℕ) (old before : List ℕ) → Spreads g height node [] old old before before
-  Spreads-none node old before = record { goes = Goes-none old before; spread = λ s. All-nil (λ e. Settled height old (other_end node (edge_at g e))) }
+  pub Flooding-start : (old near : List ℕ) (heap : List Arrival) → Searching g old near heap → Flooding old old near heap
+  Flooding-start old near heap s = record { searching = s; up = λ x. omega arith; below = λ f l b. b }
 
-  pub Spreads-more : (node e : ℕ) (edges old now new before mid after : List ℕ) → other_end node (edge_at g e) < g.nodes →
-      Spreads g height node edges old now before mid →
-      Looks height (other_end node (edge_at g e)) now new mid after → Spreads g height node (edges ++ e ∷ []) old new before after
-  Spreads-more node e edges old now new before mid after low s l =
-      let other : ℕ = other_end node (edge_at g e) in
-      let goes : Goes g height now new mid after = Goes-look other now new mid after low l in
-      record {
-        goes = Goes-on old now new before mid after s.goes goes;
-        spread = λ begun.
-            All-push (λ e. Settled height new (other_end node (edge_at g e))) edges e
-            (All-weaker (λ e. Settled height now (other_end node (edge_at g e))) (λ e. Settled height new (other_end node (edge_at g e)))
-            (λ e h. goes.stays (other_end node (edge_at g e)) h) edges (s.spread begun))
-            (look_settled other now new mid after low l (s.goes.surveying begun));
-      }
-
-  -- a node is listed no more than once, so there is room
-  pub listed_short : (heights near : List ℕ) → Surveying g height heights near → length near ≤ g.nodes
-  listed_short heights near s =
-      let total = times_total (λ (x : ℕ). x) near 0 g.nodes (λ i l. s.low i 0 l) in
-      let each : sum_below (λ x. times (λ (z : ℕ). z) x near) g.nodes ≤ sum_below (λ x. 1) g.nodes =
-      sum_below-le (λ x. times (λ (z : ℕ). z) x near) (λ x. 1) g.nodes
-      (λ x l. (let e : times (λ (z : ℕ). z) x near ≡ cond (ltb 0 (noted_at heights x)) 1 0 =
-      s.once x l in omega (arith, cond_small (ltb 0 (noted_at heights x))))) in
-      omega (arith, sum_below_ones g.nodes)
-
-  -- the nodes listed before place `next` are closed
-  pub record Flooding (old : List ℕ) (next : ℕ) (heights near : List ℕ) : Type 0 where
-    pub surveying : Surveying g height heights near
-    pub stays : (x : ℕ) → Settled height old x → Settled height heights x
-    pub closed : (j : ℕ) → j < next → IsClosedAt g height heights (get_or near j 0)
-    pub within : next ≤ length near
-
-  pub Flooding-start : (old near : List ℕ) → Surveying g height old near → Flooding old 0 old near
-  Flooding-start old near s = record { surveying = s; stays = λ x h. h; closed = λ j l. absurd (omega arith); within = omega arith }
-
-  pub Flooding-more : (old : List ℕ) (next : ℕ) (heights new near after : List ℕ) → next < length near → Flooding old next heights near →
-      Spreads g height (get_or near next 0) (edges_at g (get_or near next 0)) heights new near after → Flooding old (next + 1) new after
-  Flooding-more old next heights new near after low f s =
-      let same : (j : ℕ) → j < length near → get_or after j 0 ≡ get_or near j 0 = λ j l. ap (λ xs. get_or xs j 0) s.goes.grows ∙
-      get_or_append_left near s.goes.more 0 j l in
-      record {
-        surveying = s.goes.surveying f.surveying;
-        stays = λ x h. s.goes.stays x (f.stays x h);
-        closed = λ j l. elim (cases_eq j next) [
-          | inl e ↦
-              let here : get_or after j 0 ≡ get_or near next 0 = same j (omega arith) ∙ ap (λ k. get_or near k 0) e in
-              subst (λ z. IsClosedAt g height new z) (sym here) (s.spread f.surveying)
-          | inr ne ↦
-              let here : get_or after j 0 ≡ get_or near j 0 = same j (omega (arith, f.within)) in
-              subst (λ z. IsClosedAt g height new z) (sym here)
-              (All-weaker (λ e. Settled height heights (other_end (get_or near j 0) (edge_at g e)))
-              (λ e. Settled height new (other_end (get_or near j 0) (edge_at g e)))
-              (λ e h. s.goes.stays (other_end (get_or near j 0) (edge_at g e)) h) (edges_at g (get_or near j 0)) (f.closed j (omega arith)))
-        ];
-        within = omega (arith, f.within, ap length s.goes.grows, length-append near s.goes.more);
-      }
-
-  pub Flooding-end : (old : List ℕ) (next : ℕ) (heights near : List ℕ) → next ≡ length near → Flooding old next heights near →
-      Floods g height old heights near
-  Flooding-end old next heights near all f = record { surveying = f.surveying; stays = f.stays; closed = λ j l. f.closed j (omega arith) }
+  pub Flooding-end : (old heights near : List ℕ) (heap : List Arrival) → heap ≡ [] → Flooding old heights near heap → Floods g old heights near
+  Flooding-end old heights near heap none f = record {
+    lists = f.searching.lists;
+    up = f.up;
+    lipschitz = λ e x z l. elim (f.searching.waits x) [
+      | inl spread ↦ spread e z l
+      | inr in_heap ↦ absurd (let c = subst (λ xs. Contains xs (arrival_at heights x)) none in_heap in omega (arith, c.1))
+    ];
+    below = f.below;
+  }
 
 -- what is still noted is still listed
 pub record Clearing (n : ℕ) (heights near : List ℕ) : Type 0 where

@@ -1,20 +1,13 @@
 -- The depths of nodes at a set, by the list of its members.
-use Rattle.std.specs.Prelude.{◌≡◌, ℕ, ◌-◌, ◌*◌, ◌<◌, pos, true, List, length, fold, min, All}
+use Rattle.std.specs.Prelude.{ℕ, ◌-◌, ◌*◌, ◌<◌, List, length, fold, min}
 use Rattle.sg_graph.specs.Web.{Graph}
 use Rattle.sg_graph.specs.Walk.{IsDistance}
-use Rattle.sg_graph.specs.Table.{Routes, distance_at, is_reached, length_to}
+use Rattle.sg_graph.specs.Table.{Routes}
 use Rattle.sg_moat.specs.declared.members.Member.{Member}
 use Rattle.sg_moat.specs.Input.{distance_from, table_at}
 
--- the table has a distance, not negative, for each of the nodes
-pub record IsWhole (nodes : ℕ) (t : Routes) : Type 0 where
-  pub count : length t.to ≡ nodes
-  pub reached : (x : ℕ) → x < nodes → is_reached t x ≡ true
-  pub signed : (x : ℕ) → x < nodes → distance_at t x ≡ pos (length_to t x)
-
 -- a table for each of some sources, with the distance of every node of the graph
 pub record AreFull (g : Graph) (tables : List Routes) : Type 0 where
-  pub whole : All (IsWhole g.nodes) tables
   pub sources : (i : ℕ) → i < length tables → (table_at tables i).source < g.nodes
   pub distances : (i x : ℕ) → i < length tables → x < g.nodes →
       IsDistance g (table_at tables i).source x (distance_from tables i x)

@@ -1,10 +1,12 @@
--- The search for the nodes of one moat: heights of nodes, 0 where nothing was noted, and a list of the nodes noted.
-use Rattle.std.specs.Prelude.{◌≡◌, ◌≢◌, ◌⊎◌, ◌&&◌, ◌==◌, ℕ, ◌-◌, ◌<◌, ◌++◌, nat_lt, cond, List, [], ◌∷◌, length, map}
-use Rattle.std.specs.Prelude.{slice_index, slice_index_or, All, count_by}
-use Rattle.sg_graph.specs.Web.{Graph, edge_at}
-use Rattle.sg_graph.specs.Walk.{other_end}
-use Rattle.sg_graph.specs.Incidence.{edges_at}
+-- The search for the nodes of one moat: heights of nodes, 0 where none was found, and a list of the nodes with a height.
+-- It knows the heights without the bound by the dual; `Caps` cuts them to it in the end.
+use Rattle.std.specs.Prelude.{◌≡◌, ◌⊎◌, ◌&&◌, ◌==◌, ℕ, ◌+◌, ◌-◌, ◌*◌, ◌^◌, ◌<◌, ◌≤◌, ◌++◌, max, min, nat_lt, cond}
+use Rattle.std.specs.Prelude.{List, [], ◌∷◌, length, slice_index_or, slice_set, All, Contains, count_by, sum_by}
+use Rattle.std.specs.List.Sorted.{IsPermutation}
+use Rattle.sg_graph.specs.Web.{Graph, edge_at, edge_weight}
+use Rattle.sg_graph.specs.Walk.{Leads, other_end}
 use Rattle.sg_graph.specs.Table.{Routes}
+use Rattle.sg_moat.specs.declared.arrival.Arrival.{Arrival}
 use Rattle.sg_moat.specs.declared.members.Member.{Member}
 use Rattle.sg_moat.specs.Input.{table_at}
 
@@ -31,43 +33,82 @@ pub record Surveys (g : Graph) (height : ℕ → ℕ) (heights near : List ℕ) 
   pub once : (x : ℕ) → x < g.nodes → times_listed x near ≡ cond (nat_lt 0 (noted_at heights x)) 1 0
   pub low : All (λ x. x < g.nodes) near
 
--- what is noted is right, and is listed once
-pub record Surveying (g : Graph) (height : ℕ → ℕ) (heights near : List ℕ) : Type 0 where
+-- each node with something noted is listed once, and nothing else is
+pub record Lists (g : Graph) (heights near : List ℕ) : Type 0 where
   pub count : length heights ≡ g.nodes
-  pub right : (x : ℕ) → x < g.nodes → (noted_at heights x ≡ 0) ⊎ Settled height heights x
   pub once : (x : ℕ) → x < g.nodes → times_listed x near ≡ cond (nat_lt 0 (noted_at heights x)) 1 0
   pub low : All (λ x. x < g.nodes) near
 
--- one node was looked at
-pub record Looks (height : ℕ → ℕ) (node : ℕ) (old new before after : List ℕ) : Type 0 where
+-- over each edge f falls by at most twice its weight
+abbrev pub IsLipschitz : Graph → (ℕ → ℕ) → Type 0
+IsLipschitz g f = (e x z : ℕ) → Leads g e x z → f x ≤ f z + 2 * edge_weight g e
+
+-- no height noted is above f
+abbrev pub AreBelow : (ℕ → ℕ) → List ℕ → Type 0
+AreBelow f heights = (x : ℕ) → noted_at heights x ≤ f x
+
+-- at the terminal of each member f is at least the dual and the duals inside
+abbrev pub IsSeeded : List Routes → List Member → ℕ → (ℕ → ℕ) → Type 0
+IsSeeded tables members y f = All (λ m. y + m.inner ≤ f (table_at tables m.leaf).source) members
+
+-- the arrival at node x with what is noted of it
+abbrev pub arrival_at : List ℕ → ℕ → Arrival
+arrival_at heights x = record { height = noted_at heights x; node = x }
+
+-- over each edge from node x the height falls by at most twice the weight
+abbrev pub IsSpread : Graph → List ℕ → ℕ → Type 0
+IsSpread g heights x = (e z : ℕ) → Leads g e x z → noted_at heights x ≤ noted_at heights z + 2 * edge_weight g e
+
+-- each node is spread, or waits for it
+pub record Searching (g : Graph) (heights near : List ℕ) (heap : List Arrival) : Type 0 where
+  pub lists : Lists g heights near
+  pub low : All (λ a. a.node < g.nodes) heap
+  pub waits : (x : ℕ) → IsSpread g heights x ⊎ Contains heap (arrival_at heights x)
+
+-- how far 64-bit heights may rise yet
+abbrev pub room_above : List ℕ → ℕ
+room_above heights = sum_by (λ h. 2 ^ 64 - h) heights
+
+-- one arrival at a node: where it is higher than what is noted, it is noted and waits
+pub record Raises (node height : ℕ) (old new before after : List ℕ) (heap next : List Arrival) : Type 0 where
+  pub noted : new ≡ slice_set old node (max (noted_at old node) height)
+  pub listed : after ≡ before ++ cond ((noted_at old node == 0) && nat_lt 0 height) (node ∷ []) []
+  pub waits : IsPermutation
+      (cond (nat_lt (noted_at old node) height) (record { height = height; node = node } ∷ []) [] ++ heap) next
+
+-- heights rise, and each that rose waits; an arrival more is a height less to rise
+pub record Goes (g : Graph) (old new before after : List ℕ) (heap next : List Arrival) : Type 0 where
   pub count : length new ≡ length old
-  pub here : (noted_at old node ≡ 0) ⊎ Settled height old node → Settled height new node
-  pub there : (x : ℕ) → x ≢ node → noted_at new x ≡ noted_at old x
-  pub listed : after ≡ before ++ cond ((noted_at old node == 0) && nat_lt 0 (height node)) (node ∷ []) []
+  pub lists : Lists g old before → Lists g new after
+  pub low : All (λ a. a.node < g.nodes) heap → All (λ a. a.node < g.nodes) next
+  pub up : (x : ℕ) → noted_at old x ≤ noted_at new x
+  pub waits : (x : ℕ) → (noted_at new x ≡ noted_at old x) ⊎ Contains next (arrival_at new x)
+  pub stays : (a : Arrival) → Contains heap a → Contains next a
+  pub work : length next + room_above new ≤ length heap + room_above old
 
--- what is settled stays so, and more nodes may be listed
-pub record Goes (g : Graph) (height : ℕ → ℕ) (old new before after : List ℕ) : Type 0 where
+-- the least heights, from those before, that are seeded
+pub record Seeds (g : Graph) (tables : List Routes) (members : List Member) (y : ℕ)
+    (old new before after : List ℕ) (heap next : List Arrival) : Type 0 where
+  pub goes : Goes g old new before after heap next
+  pub seeded : IsSeeded tables members y (noted_at new)
+  pub below : (f : ℕ → ℕ) → IsSeeded tables members y f → AreBelow f old → AreBelow f new
+
+-- arrivals from a node of this height over some edges at it
+pub record Spreads (g : Graph) (node height : ℕ) (edges old new before after : List ℕ) (heap next : List Arrival) : Type 0 where
+  pub goes : Goes g old new before after heap next
+  pub spread : All (λ e. height ≤ noted_at new (other_end node (edge_at g e)) + 2 * edge_weight g e) edges
+  pub below : (f : ℕ → ℕ) → IsLipschitz g f → height ≤ f node → AreBelow f old → AreBelow f new
+
+-- the least heights, from those before, that fall slowly enough over each edge
+pub record Floods (g : Graph) (old new near : List ℕ) : Type 0 where
+  pub lists : Lists g new near
+  pub up : (x : ℕ) → noted_at old x ≤ noted_at new x
+  pub lipschitz : IsLipschitz g (noted_at new)
+  pub below : (f : ℕ → ℕ) → IsLipschitz g f → AreBelow f old → AreBelow f new
+
+-- no height listed is beyond y, and none has changed but for that
+pub record Caps (y : ℕ) (near old new : List ℕ) : Type 0 where
   pub count : length new ≡ length old
-  pub surveying : Surveying g height old before → Surveying g height new after
-  pub stays : (x : ℕ) → Settled height old x → Settled height new x
-  pub more : List ℕ
-  pub grows : after ≡ before ++ more
-
--- and the far ends of these edges at the node are settled
-pub record Spreads (g : Graph) (height : ℕ → ℕ) (node : ℕ) (edges old new before after : List ℕ) : Type 0 where
-  pub goes : Goes g height old new before after
-  pub spread : Surveying g height old before → All (λ e. Settled height new (other_end node (edge_at g e))) edges
-
--- the far ends of all edges at the node are settled
-abbrev pub IsClosedAt : Graph → (ℕ → ℕ) → List ℕ → ℕ → Type 0
-IsClosedAt g height heights x = All (λ e. Settled height heights (other_end x (edge_at g e))) (edges_at g x)
-
--- every node listed is closed, and what was settled is so still
-pub record Floods (g : Graph) (height : ℕ → ℕ) (old new near : List ℕ) : Type 0 where
-  pub surveying : Surveying g height new near
-  pub stays : (x : ℕ) → Settled height old x → Settled height new x
-  pub closed : (j : ℕ) → j < length near → IsClosedAt g height new (slice_index near j)
-
--- the sources of the members' tables
-abbrev pub sources_of : List Routes → List Member → List ℕ
-sources_of tables members = map (λ m. (table_at tables m.leaf).source) members
+  pub down : (x : ℕ) → noted_at new x ≤ noted_at old x
+  pub same : (x : ℕ) → min (noted_at new x) y ≡ min (noted_at old x) y
+  pub low : All (λ x. noted_at new x ≤ y) near

@@ -9,15 +9,15 @@
 //! of all duals (Edmonds and Johnson 1973; the moats of Jünger and Pulleyblank 1993).
 //!
 //! For the next engineer: `members` gathers the leaves of each set, `survey` finds the nodes of one
-//! moat and their heights, the dual less the depth, and `slices` makes its cuts. `specs/` has the
-//! premises (`Input`), the duals inside a set (`Sets`), the depths and the cuts of all sets
-//! (`Gathers`), and those of one set (`Slices`); `Members`, `Depths`, `Survey` and `Levels` are the
-//! private parts. `proofs/Packing` has the theorem, over `UnitSteps` (at most one depth moves over one
-//! unit step) and `EdgeReach` (what sets reach along an edge); `SetCount` bounds the number of sets,
-//! and `SurveyEnd` shows that the search misses no node.
+//! moat and their heights, the dual less the depth, by one search from all its terminals, and `slices`
+//! makes its cuts. `specs/` has the premises (`Input`), the duals inside a set (`Sets`), the depths and
+//! the cuts of all sets (`Gathers`), and those of one set (`Slices`); `Members`, `Depths`, `Survey` and
+//! `Levels` are the private parts. `proofs/Packing` has the theorem, over `UnitSteps` (at most one
+//! depth moves over one unit step) and `EdgeReach` (what sets reach along an edge); `SetCount` bounds
+//! the number of sets, and `SurveyEnd` shows that the search leaves the dual less the depth everywhere.
 #![tactic(auto)]
 
-mod depths;
+mod arrival;
 mod members;
 mod moats;
 mod slices;

@@ -26,10 +26,11 @@ use std::alloc::Global;
 /// most twice its weight, and all weights to the sum of all duals. Twice the number of cuts is at most
 /// three times the number of terminals plus twice the number of nodes.
 ///
-/// Cost: for each set of positive dual its terminals, times the nodes at a depth below the dual and
-/// the edges at them; and what is written, but for a logarithm. Besides that, once each node, edge and
-/// name, and each terminal once for each set that holds it. Memory: the incidence of the web, 12 bytes
-/// a node, 16 bytes for each terminal in each set that holds it, and the cuts.
+/// Cost: for each set of positive dual its terminals, the nodes at a depth below the dual, the edges at
+/// them, and what is written, all but for a logarithm. Besides that, once each node, edge and name, and
+/// each terminal once for each set that holds it. Memory: the incidence of the web, 12 bytes a node, 16
+/// bytes for each terminal in each set that holds it, for one set at a time 16 bytes for each of its
+/// terminals and for each end of an edge at a node near it, and the cuts.
 pub fn levels(
     alloc: Global,
     web: &Web,
@@ -123,7 +124,7 @@ fn add_set(
     if y == 0 {
         return Ok(());
     }
-    survey(web, incidence, tables, set, y, heights, near)?;
+    survey(alloc, web, incidence, tables, set, y, heights, near)?;
     slice(alloc, web, incidence, heights, near, y, cuts)?;
     clear(heights, near);
     Ok(())

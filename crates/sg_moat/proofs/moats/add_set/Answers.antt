@@ -1,10 +1,10 @@
-use Rattle.std.proofs.Common.{◌<◌, ◌≤◌, length, replicate, All, ap, sym, ◌∙◌, subst, arith}
-use Rattle.sg_arena.specs.Family.{IsAlive, leaf_count}
+use Rattle.std.proofs.Common.{◌+◌, ◌^◌, ◌<◌, ◌≤◌, length, replicate, All, ap, sym, ◌∙◌, subst, arith}
+use Rattle.sg_arena.specs.Family.{IsAlive, dual_of, leaf_count}
 use Rattle.sg_moat.specs.declared.members.Member.{Member}
 use Rattle.sg_moat.specs.Depths.{height_by}
 use Rattle.sg_moat.specs.Slices.{Sliced}
 use Rattle.sg_moat.specs.Survey.{depth_under}
-use Rattle.sg_moat.proofs.SetDepths.{Adds-by, Adds-none, Surveys-covers, dual_small, heights_are, heights_full, members_alive, members_low}
+use Rattle.sg_moat.proofs.SetDepths.{Adds-by, Adds-none, Surveys-covers, dual_small, heights_are, heights_full, members_alive, members_low, members_small}
 use Rattle.sg_moat.proofs.moats.add_set.Goals as goal
 
 pub returns-then-y-eq0 : goal.returns-then-y-eq0
@@ -20,6 +20,13 @@ survey-requires-clause-leaves c =
     subst (λ n. All (λ (m : Member). m.leaf < n) c.of-set.result.now) c.requires.leaves
     (subst (λ ms. All (λ (m : Member). m.leaf < leaf_count c.args.family.now) ms) (sym set_is)
     (members_low c.args.family.now c.room-room.ensures.family c.args.name))
+
+pub survey-requires-clause-small : goal.survey-requires-clause-small
+survey-requires-clause-small c =
+    let set_is = c.of-set.ensures ∙ c.requires.members.each c.args.name in
+    subst (λ y. All (λ (m : Member). y + m.inner < 2 ^ 64) c.of-set.result.now) (sym c.dual-y.ensures)
+    (subst (λ ms. All (λ (m : Member). dual_of c.args.family.now c.args.name + m.inner < 2 ^ 64) ms) (sym set_is)
+    (members_small c.args.family.now c.room-room.ensures.family c.args.name))
 
 pub slice-requires-clause-small : goal.slice-requires-clause-small
 slice-requires-clause-small c =

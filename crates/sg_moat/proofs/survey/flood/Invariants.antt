@@ -1,11 +1,12 @@
-use Rattle.std.proofs.Common.{◌-◌}
-use Rattle.sg_moat.specs.Depths.{height_by}
+use Rattle.std.proofs.Common.{◌+◌, length}
+use Rattle.std.specs.BinaryHeap.{heap_items}
+use Rattle.sg_moat.specs.Survey.{room_above}
 use Rattle.sg_moat.proofs.SurveySteps.{Flooding}
 use Rattle.sg_moat.proofs.survey.flood.Given as goal
 
-abbrev pub invariant-loop-next : goal.invariant-loop-next
-invariant-loop-next l = Flooding l.web (height_by l.tables l.members l.y) l.initial.heights.items l.next l.heights.items l.near.items
+abbrev pub invariant-loop-arrival : goal.invariant-loop-arrival
+invariant-loop-arrival l = Flooding l.web l.initial.heights.items l.heights.items l.near.items (heap_items l.heap)
 
--- each node is listed once
-abbrev pub decreases-loop-next : goal.decreases-loop-next
-decreases-loop-next l = l.web.nodes - l.next
+-- an arrival is taken, and each new one takes some of the room above the heights
+abbrev pub decreases-loop-arrival : goal.decreases-loop-arrival
+decreases-loop-arrival l = length (heap_items l.heap) + room_above l.heights.items
