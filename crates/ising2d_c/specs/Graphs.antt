@@ -43,7 +43,8 @@ is_self ends k = entry ends (2 * k) == entry ends (2 * k + 1)
 abbrev pub first_self : List ℕ → ℕ → Option ℕ
 first_self ends bonds = find (is_self ends) (range_with_len 0 bonds)
 
--- the tests of the ends and couplings: two ends for each bond, and each bond; its number is told up to the last one of 32
+-- the tests of the ends and couplings: two ends for each bond, and each bond; its number is told up to
+-- the last one of 32
 -- bits
 abbrev pub ends_fault : ℕ → List ℕ → List ℤ → Option Refusal
 ends_fault n ends couplings = first_of (

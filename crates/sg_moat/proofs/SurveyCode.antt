@@ -55,7 +55,8 @@ module _ (g : Graph) where
               (λ e h. omega (arith, h, goes.up (other_end node (edge_at g e)))) edges s.spread)
               (omega (arith, now_there));
           below = λ f l h b.
-              raised_below g other (height - 2 * edge_weight g e) now new mid after waiting next low r f (omega (arith, l e node other leads, h)) (s.below f l h b);
+              raised_below g other (height - 2 * edge_weight g e) now new mid after waiting next low r f (omega (arith, l e node other leads, h))
+              (s.below f l h b);
         }
 
   -- the next edge of the list
@@ -138,7 +139,8 @@ module _ (g : Graph) where
         )
 
   -- the arrival a is taken, and skipped or spread
-  module _ (old heights near : List ℕ) (heap rest : List Arrival) (a : Arrival) (f : Flooding g old heights near heap) (taken : IsPermutation heap (a ∷ rest)) where
+  module _ (old heights near : List ℕ) (heap rest : List Arrival) (a : Arrival) (f : Flooding g old heights near heap)
+      (taken : IsPermutation heap (a ∷ rest)) where
     pub Flooding-skip : noted_at heights a.node ≢ a.height → Flooding g old heights near rest
     Flooding-skip differ = record {
       searching = Searching-skip g heights near heap rest a f.searching taken differ;

@@ -118,7 +118,8 @@ module _ (g : Graph) (web : IsWeb g) (tables : List Routes) (members : List Memb
   along f l [] x z walk = subst (λ v. f x ≤ f v + 2 * weight_of g []) walk (omega arith)
   along f l (e ∷ es) x z walk = omega (arith, l e x walk.0 walk.1, along f l es walk.0 z walk.2, sum_by-cons (edge_weight g) e es)
 
-  module _ (seeds heights near : List ℕ) (before : List ℕ) (heap : List Arrival) (seeded : Seeds g tables members y (replicate g.nodes 0) seeds [] before [] heap)
+  module _ (seeds heights near : List ℕ) (before : List ℕ) (heap : List Arrival)
+      (seeded : Seeds g tables members y (replicate g.nodes 0) seeds [] before [] heap)
       (f : Floods g seeds heights near) where
     -- the search leaves just that
     above : (x : ℕ) → x < g.nodes → left x ≤ noted_at heights x

@@ -12,8 +12,7 @@ invariant_of-self c =
     let cost : ℤ = to_z w64 (of_z w64 c.args.cost) in
     let first : List ℤ = set old (c.args.u * n + c.args.v) cost in
     let low_u = subst (λ t. c.args.u < t.size) (sym c.self.view_is) c.requires.u in
-    let low_v = subst (λ t. c.args.v < t.size) (sym c.self.view_is) c.requires.v in
-    (
+    let low_v = subst (λ t. c.args.v < t.size) (sym c.self.view_is) c.requires.v in (
       length-set first (c.args.v * n + c.args.u) cost ∙ length-set old (c.args.u * n + c.args.v) cost ∙ c.self.invariant.0,
       c.self.invariant.1,
       symmetric_set (record { size = n; entries = old }) (record { size = n; entries = set first (c.args.v * n + c.args.u) cost })

@@ -31,7 +31,12 @@ invariant_of-self c =
       | inl none ↦
           let no_members : length ms ≡ 0 = search rules in
           let same : e.rise ≡ risen c = c.self.invariant.near.rise_none no_members ∙ sym (none_is c none) in
-          record { near = subst (λ z. IsNear e.costs z ms e.places.items e.nearest.items) same c.self.invariant.near; room = c.self.invariant.room; partners = c.self.invariant.partners }
+          record {
+            near = subst (λ z. IsNear e.costs z ms e.places.items e.nearest.items) same c.self.invariant.near;
+            room =
+                c.self.invariant.room;
+            partners = c.self.invariant.partners;
+          }
       | inr later ↦
           let some : 0 < length ms = search rules in
           let fits = subst (λ (s : Known). TotalsFit c.args.delta s.members) (sym c.self.view_is) c.requires.fits in
