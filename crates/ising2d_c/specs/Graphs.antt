@@ -44,8 +44,7 @@ abbrev pub first_self : List ℕ → ℕ → Option ℕ
 first_self ends bonds = find (is_self ends) (range_with_len 0 bonds)
 
 -- the tests of the ends and couplings: two ends for each bond, and each bond; its number is told up to
--- the last one of 32
--- bits
+-- the last one of 32 bits
 abbrev pub ends_fault : ℕ → List ℕ → List ℤ → Option Refusal
 ends_fault n ends couplings = first_of (
     refuse_if (not (length ends == 2 * length couplings)) (BadMember 7 0)
