@@ -16,7 +16,7 @@ use Rattle.sg_arena.specs.declared.Link.{Link}
 use Rattle.sg_match.proofs.RaiseStep.{held, total_free, total_inner, total_outer}
 use Rattle.sg_match.proofs.ShrinkSetsStep.{top-not_dead}
 use Rattle.sg_match.specs.Marks.{IsListed, IsMarked}
-use Rattle.sg_match.specs.TableChanges.{IsLifted, IsParted, moved_total}
+use Rattle.sg_match.specs.TableChanges.{HasTops, HasTopsBut, IsLifted, moved_total}
 use Rattle.sg_match.specs.Tree.{IsOut, inners, outers}
 use Rattle.sg_match.specs.declared.TreeEdge.{TreeEdge}
 use Rattle.sg_sums.specs.Naturals.{nat_of}
@@ -193,22 +193,19 @@ module _ (f : Family) (b : ℕ) (fam : IsFamily f) (top : IsTop f b) (blossom : 
   abbrev k : Family
   k = with_slot f b None
 
-  IsListed-parted : (new : List ℕ) → length new ≡ length tops →
-      ((leaf : ℕ) → leaf < length tops → IsParted k b leaf (get_or tops leaf 0) (get_or new leaf 0)) → IsListed k new totals
-  IsListed-parted new count parted =
+  others-parted : HasTopsBut k b tops
+  others-parted leaf low stays = (
+    IsTop-expand_other f b fam top blossom room (get_or tops leaf 0) (listed.top leaf (omega (arith, low, listed.top_count))) stays,
+    holds_rest f b fam top blossom room (get_or tops leaf 0) leaf stays ∙ listed.held leaf (omega (arith, low, listed.top_count)),
+  )
+
+  IsListed-parted : (new : List ℕ) → length new ≡ length tops → HasTops k (length tops) new → IsListed k new totals
+  IsListed-parted new count now =
       record {
         top_count = count ∙ listed.top_count;
         total_count = listed.total_count;
-        top = λ leaf low. elim (parted leaf (omega (arith, low, listed.top_count))) [
-          | inl stays ↦ subst (λ n. IsTop k n) (sym stays.1)
-              (IsTop-expand_other f b fam top blossom room (get_or tops leaf 0) (listed.top leaf low) stays.0)
-          | inr anew ↦ anew.0
-        ];
-        held = λ leaf low. elim (parted leaf (omega (arith, low, listed.top_count))) [
-          | inl stays ↦ subst (λ n. Holds k n leaf) (sym stays.1)
-              (holds_rest f b fam top blossom room (get_or tops leaf 0) leaf stays.0 ∙ listed.held leaf low)
-          | inr anew ↦ anew.1
-        ];
+        top = λ leaf low. (now leaf (omega (arith, low, listed.top_count))).0;
+        held = λ leaf low. (now leaf (omega (arith, low, listed.top_count))).1;
         total = λ leaf low. listed.total leaf low ∙ ap pos (sym (total-expand f b flat room leaf));
       }
 
@@ -223,13 +220,16 @@ pub record IsParting (f : Family) (b : ℕ) (g : Family) (tops : List ℕ) (tota
   pub listed : IsListed f tops totals
 
 -- over the table that is lent
-pub parting-listed : {f : Family} {b : ℕ} {g : Family} {tops : List ℕ} {totals : List ℤ} → IsParting f b g tops totals → (lent new stored : List ℕ) →
-    lent ≡ tops → length new ≡ length lent → ((leaf : ℕ) → leaf < length lent → IsParted g b leaf (get_or lent leaf 0) (get_or new leaf 0)) →
-    stored ≡ new → IsListed g stored totals
-parting-listed {f} {b} {g} {tops} {totals} p lent new stored same count parted is =
-    subst (λ x. IsListed x stored totals) (sym p.made)
-    (subst (λ xs. IsListed (with_slot f b None) xs totals) (sym is)
-    (IsListed-parted f b p.fam p.top p.blossom p.flat p.room tops totals p.listed new (count ∙ ap (λ xs. length xs) same)
-    (λ leaf low.
-    subst (λ xs. IsParted (with_slot f b None) b leaf (get_or xs leaf 0) (get_or new leaf 0)) same
-    (subst (λ x. IsParted x b leaf (get_or lent leaf 0) (get_or new leaf 0)) p.made (parted leaf (omega (arith, low, ap (λ xs. length xs) same)))))))
+module _ {f : Family} {b : ℕ} {g : Family} {tops : List ℕ} {totals : List ℤ} (p : IsParting f b g tops totals) (lent : List ℕ) (same : lent ≡ tops) where
+  pub parting-others : HasTopsBut g b lent
+  parting-others =
+      subst (λ x. HasTopsBut x b lent) (sym p.made)
+      (subst (λ xs. HasTopsBut (with_slot f b None) b xs) (sym same)
+      (others-parted f b p.fam p.top p.blossom p.flat p.room tops totals p.listed))
+
+  pub parting-listed : (new stored : List ℕ) → length new ≡ length lent → HasTops g (length lent) new → stored ≡ new → IsListed g stored totals
+  parting-listed new stored count now is =
+      subst (λ x. IsListed x stored totals) (sym p.made)
+      (subst (λ xs. IsListed (with_slot f b None) xs totals) (sym is)
+      (IsListed-parted f b p.fam p.top p.blossom p.flat p.room tops totals p.listed new (count ∙ ap (λ xs. length xs) same)
+      (subst (λ x. HasTops x (length tops) new) p.made (subst (λ xs. HasTops g (length xs) new) same now))))

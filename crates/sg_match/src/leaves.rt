@@ -1,10 +1,10 @@
 ghost use Rattle.std.specs.Int.{w64};
-ghost use Rattle.std.specs.Prelude.{◌≡◌, ℕ, ◌+◌, ◌<◌, ◌≤◌, ◌^◌, FitsSigned, length, slice_index, slice_index_or, vec_capacity};
+ghost use Rattle.std.specs.Prelude.{◌≡◌, ◌≢◌, ℕ, ◌+◌, ◌<◌, ◌≤◌, ◌^◌, FitsSigned, length, slice_index, slice_index_or, vec_capacity};
 ghost use Rattle.sg_arena.specs.Family.{leaf_count, IsAlive};
 ghost use Rattle.sg_slack.specs.Slack.{mark_at, total_at};
 ghost use Rattle.sg_slack.specs.declared.Mark.TheVariants.{Free};
 ghost use Rattle.sg_match.specs.Marks.{IsListed};
-ghost use Rattle.sg_match.specs.TableChanges.{IsLifted, IsParted, moved_total};
+ghost use Rattle.sg_match.specs.TableChanges.{HasTops, HasTopsBut, IsLifted, IsTopOf, moved_total};
 ghost use Rattle.sg_match.specs.Tree.{StandsAt, edge_at, outers, inners};
 
 use super::TreeEdge;
@@ -73,23 +73,53 @@ pub fn lift_tops(arena: &Arena, tops: &mut [usize])
     }
 }
 
-// The top of a leaf, which was a node that may be gone.
-fn parted_top(arena: &Arena, gone: usize, leaf: u32, top: usize) -> usize
-    requires { leaf < leaf_count arena.now }
-    ensures { IsParted arena.now gone leaf top result }
+// The top of a leaf. Where a set that holds it has a leaf before it too, that leaf's top is listed, so
+// that only the first leaves of a blossom climb all the way.
+fn top_after(arena: &Arena, tops: &[usize], leaf: u32) -> usize
+    requires leaf { leaf < leaf_count arena.now }
+    requires count { leaf ≤ length tops.now }
+    requires listed { HasTops arena.now leaf tops.now }
+    ensures { IsTopOf arena.now result leaf }
 {
-    if top == gone { arena.top(leaf) } else { top }
+    let mut node = arena.leaf_node(leaf);
+    for _ in 0..arena.room() {
+        let Some(parent) = arena.parent(node) else {
+            return node;
+        };
+        let near = arena.link(node).from;
+        if near < leaf {
+            return tops[near as usize];
+        }
+        node = parent;
+    }
+    arena.top(leaf)
+}
+
+// The top of a leaf, which was a node that may be gone.
+fn parted_top(arena: &Arena, gone: usize, tops: &[usize], leaf: u32) -> usize
+    requires leaf { leaf < leaf_count arena.now }
+    requires count { length tops.now ≡ leaf_count arena.now }
+    requires listed { HasTops arena.now leaf tops.now }
+    requires other { slice_index tops.now leaf ≢ gone → IsTopOf arena.now (slice_index tops.now leaf) leaf }
+    ensures { IsTopOf arena.now result leaf }
+{
+    let top = tops[leaf as usize];
+    if top == gone {
+        return top_after(arena, tops, leaf);
+    }
+    top
 }
 
 // Lists the tops of the leaves of a blossom that is gone.
 pub fn part_tops(arena: &Arena, gone: usize, tops: &mut [usize])
     requires small { leaf_count arena.now ≤ 2 ^ 24 }
-    requires tops { length tops.old ≡ leaf_count arena.now }
+    requires count { length tops.old ≡ leaf_count arena.now }
+    requires others { HasTopsBut arena.now gone tops.old }
     ensures count { length tops.new ≡ length tops.old }
-    ensures parted { (leaf : ℕ) → leaf < length tops.old → IsParted arena.now gone leaf (slice_index tops.old leaf) (slice_index tops.new leaf) }
+    ensures listed { HasTops arena.now (length tops.old) tops.new }
 {
     for leaf in 0..tops.len() {
-        tops[leaf] = parted_top(arena, gone, leaf as u32, tops[leaf]);
+        tops[leaf] = parted_top(arena, gone, tops, leaf as u32);
     }
 }
 

@@ -8,7 +8,7 @@ use Rattle.sg_match.proofs.Engine.expand.Given.{Over}
 use Rattle.sg_match.proofs.Engine.expand.Goals as goal
 use Rattle.sg_match.proofs.Engine.expand.Goals.{After-expand, After-turn_to_odd-entry, After-index-tree_edge, After-list_ring, After-expand_edge}
 use Rattle.sg_match.proofs.EngineLemmas.{state_of}
-use Rattle.sg_match.proofs.TableStep.{IsParting, parting-listed}
+use Rattle.sg_match.proofs.TableStep.{IsParting, parting-listed, parting-others}
 use Rattle.sg_match.proofs.RingLemmas.{IsRing}
 use Rattle.sg_match.proofs.ExpandLemmas.{IsCut, IsEngine-after, IsFound, blossom_top, pair_held, cut, edge_held, found, is_inner, edges_fit, ring_differs}
 use Rattle.sg_match.proofs.ExpandLemmas.{ring_fits, ring_has, ring_is, ring_named}
@@ -142,6 +142,11 @@ parting g c is =
       listed = c.self.invariant.1.listed;
     }
 
+pub part_tops-requires-clause-others : goal.part_tops-requires-clause-others
+part_tops-requires-clause-others g c =
+    let here = goal.at.part_tops-requires-clause-others g c in
+    parting-others (parting g here.After-expand (edge_found g here.After-index-tree_edge)) c.deref_mut.result.now c.deref_mut.ensures.value
+
 pub invariant_of-self : goal.invariant_of-self
 invariant_of-self g c =
     let here = goal.at.invariant_of-self g c in
@@ -163,8 +168,8 @@ invariant_of-self g c =
         named = roomy.named ∙ sym size;
         marks = roomy.marks ∙ leaves;
         mates = roomy.mates ∙ leaves;
-        listed = parting-listed (parting g here.After-expand (edge_found g here.After-index-tree_edge)) c.deref_mut.result.now c.part_tops.new.tops
-            (with_items e.tops c.part_tops.new.tops).items c.deref_mut.ensures.value c.part_tops.ensures.count c.part_tops.ensures.parted
+        listed = parting-listed (parting g here.After-expand (edge_found g here.After-index-tree_edge)) c.deref_mut.result.now c.deref_mut.ensures.value
+            c.part_tops.new.tops (with_items e.tops c.part_tops.new.tops).items c.part_tops.ensures.count c.part_tops.ensures.listed
             (with_items_is e.tops c.part_tops.new.tops (c.part_tops.auto.tops ∙ c.deref_mut.ensures.len));
         known = λ r some. after.2 e.near.members r some (roomy.known r some);
       },
