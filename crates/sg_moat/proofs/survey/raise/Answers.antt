@@ -9,7 +9,8 @@ pub returns-then-height-before : goal.returns-then-height-before
 returns-then-height-before c =
     let was : c.index-before.result.now ≡ noted_at c.args.heights.now.items c.args.node =
     get_or_read c.args.heights.now.items c.args.node c.index-before.result.now c.requires c.index-before.ensures 0 in
-    Raises-none c.args.node c.args.height c.args.heights.now.items c.args.near.now.items (heap_items c.args.heap.now) (omega (arith, was, c.if-height-before.true))
+    Raises-none c.args.node c.args.height c.args.heights.now.items c.args.near.now.items (heap_items c.args.heap.now)
+    (omega (arith, was, c.if-height-before.true))
 
 pub returns : goal.returns
 returns c =
