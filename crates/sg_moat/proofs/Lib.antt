@@ -6,8 +6,8 @@ pub mod Packing
 pub mod Climb
 pub mod SetDepths
 pub mod SurveySteps
-pub mod SurveyEnd
 pub mod SurveyCode
+pub mod SurveyEnd
 pub mod LevelsList
 pub mod Slopes
 pub mod Bins

@@ -1,6 +1,6 @@
 -- The steps of the search for the nodes of a moat, in the terms of the code.
-use Rattle.std.proofs.Common.{inl, inr, ◌≡◌, ◌≢◌, ℕ, ◌+◌, ◌-◌, ◌*◌, ◌^◌, ◌<◌, ◌≤◌, ◌++◌, min, List, [], ◌∷◌, take, length, get_or, set, replicate, refl, sym, ◌∙◌, ap, subst}
-use Rattle.std.proofs.Common.{arith, pos, unsigned_abs, All, IsPermutation}
+use Rattle.std.proofs.Common.{inl, inr, ◌≡◌, ◌≢◌, ℕ, ◌+◌, ◌-◌, ◌*◌, ◌^◌, ◌<◌, ◌≤◌, ◌++◌, min, List, [], ◌∷◌, take}
+use Rattle.std.proofs.Common.{length, get_or, set, replicate, refl, sym, ◌∙◌, ap, subst, arith, pos, unsigned_abs, All, IsPermutation}
 use Rattle.std.proofs.lemmas.Bool.{cases_eq}
 use Rattle.std.proofs.lemmas.List.{get_or-set_same, get_or-set_other, get_or_append_left, length-append, length-set, take_more}
 use Rattle.std.proofs.lemmas.List.Elements.{All-nil, All-push, All-weaker}
@@ -16,9 +16,11 @@ use Rattle.sg_moat.specs.Input.{table_at}
 use Rattle.sg_moat.specs.Survey.{Caps, IsSeeded, Raises, Seeds, Spreads, noted_at}
 use Rattle.sg_moat.proofs.SurveySteps.{Flooding, Goes-none, Goes-on, Goes-raise, Searching-skip, Searching-spread, raised_below, raised_here}
 
+-- what is read past the last member
 abbrev pub blank_member : Member
 blank_member = record { leaf = 0; inner = 0 }
 
+-- what is read past the last edge
 abbrev pub blank_edge : Edge
 blank_edge = record { a = 0; b = 0; w = pos 0 }
 
@@ -55,8 +57,8 @@ module _ (g : Graph) where
               (λ e h. omega (arith, h, goes.up (other_end node (edge_at g e)))) edges s.spread)
               (omega (arith, now_there));
           below = λ f l h b.
-              raised_below g other (height - 2 * edge_weight g e) now new mid after waiting next low r f (omega (arith, l e node other leads, h))
-              (s.below f l h b);
+              raised_below g other (height - 2 * edge_weight g e) now new mid after waiting next low r f
+              (omega (arith, l e node other leads, h)) (s.below f l h b);
         }
 
   -- the next edge of the list
@@ -139,8 +141,8 @@ module _ (g : Graph) where
         )
 
   -- the arrival a is taken, and skipped or spread
-  module _ (old heights near : List ℕ) (heap rest : List Arrival) (a : Arrival) (f : Flooding g old heights near heap)
-      (taken : IsPermutation heap (a ∷ rest)) where
+  module _ (old heights near : List ℕ) (heap rest : List Arrival) (a : Arrival)
+      (f : Flooding g old heights near heap) (taken : IsPermutation heap (a ∷ rest)) where
     pub Flooding-skip : noted_at heights a.node ≢ a.height → Flooding g old heights near rest
     Flooding-skip differ = record {
       searching = Searching-skip g heights near heap rest a f.searching taken differ;

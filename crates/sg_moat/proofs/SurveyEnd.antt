@@ -1,7 +1,7 @@
 -- The end of the search for the nodes of a moat: the heights that it leaves, cut to the dual, are the dual less the depths.
-use Rattle.std.proofs.Common.{inl, inr, ◌≡◌, ℕ, zero, suc, ◌+◌, ◌-◌, ◌*◌, ◌<◌, ◌≤◌, min, max, cond, ltb, List, [], ◌∷◌, length, get_or, sym, ◌∙◌, ap, subst, arith, All, replicate}
+use Rattle.std.proofs.Common.{inl, inr, ◌≡◌, ℕ, zero, suc, ◌+◌, ◌-◌, ◌*◌, ◌<◌, ◌≤◌, min, max, cond, ltb, List, [], ◌∷◌}
+use Rattle.std.proofs.Common.{length, get_or, sym, ◌∙◌, ap, subst, arith, All, replicate}
 use Rattle.std.proofs.lemmas.Bool.{cases_lt, lt-ltb, le-ltb}
-use Rattle.std.proofs.lemmas.List.{get_or-replicate, get_or_past, length-replicate}
 use Rattle.std.proofs.lemmas.List.Elements.{All-from_get_or}
 use Rattle.std.proofs.lemmas.List.Sums.{sum_by-cons}
 use Rattle.sg_sums.proofs.Tallies.{times_place}
@@ -14,10 +14,8 @@ use Rattle.sg_moat.specs.declared.members.Member.{Member}
 use Rattle.sg_moat.specs.Input.{distance_from, table_at}
 use Rattle.sg_moat.specs.Depths.{AreFull, depth_by, height_by}
 use Rattle.sg_moat.specs.Survey.{AreBelow, Caps, Floods, IsLipschitz, IsSeeded, Seeds, Surveys, noted_at}
-
--- what is read past the last member
-abbrev blank_member : Member
-blank_member = record { leaf = 0; inner = 0 }
+use Rattle.sg_moat.proofs.SurveySteps.{none_noted}
+use Rattle.sg_moat.proofs.SurveyCode.{blank_member}
 
 module _ (tables : List Routes) (x : ℕ) where
   abbrev far : Member → ℕ
@@ -118,7 +116,7 @@ module _ (g : Graph) (web : IsWeb g) (tables : List Routes) (members : List Memb
   along f l [] x z walk = subst (λ v. f x ≤ f v + 2 * weight_of g []) walk (omega arith)
   along f l (e ∷ es) x z walk = omega (arith, l e x walk.0 walk.1, along f l es walk.0 z walk.2, sum_by-cons (edge_weight g) e es)
 
-  module _ (seeds heights near : List ℕ) (before : List ℕ) (heap : List Arrival)
+  module _ (seeds heights near before : List ℕ) (heap : List Arrival)
       (seeded : Seeds g tables members y (replicate g.nodes 0) seeds [] before [] heap)
       (f : Floods g seeds heights near) where
     -- the search leaves just that
@@ -141,16 +139,7 @@ module _ (g : Graph) (web : IsWeb g) (tables : List Routes) (members : List Memb
     ]
 
     below : AreBelow left heights
-    below = f.below left left_lipschitz (seeded.below left left_seeded (λ x. omega (arith, flat x)))
-      where
-        flat : (x : ℕ) → noted_at (replicate g.nodes 0) x ≡ 0
-        flat x = elim (cases_lt x g.nodes) [
-          | inl l ↦ get_or-replicate g.nodes x 0 0 l
-          | inr l ↦ get_or_past (replicate g.nodes 0) x 0 (omega (arith, count_of g.nodes))
-        ]
-          where
-            count_of : (n : ℕ) → length {A = ℕ} (replicate n 0) ≡ n
-            count_of n = length-replicate n 0
+    below = f.below left left_lipschitz (seeded.below left left_seeded (λ x. omega (arith, none_noted g.nodes x)))
 
     module _ (some : 0 < y) (new : List ℕ) (caps : Caps y near heights new) where
       cut : (x : ℕ) → x < g.nodes → noted_at new x ≡ min (noted_at heights x) y

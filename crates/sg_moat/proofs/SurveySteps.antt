@@ -1,6 +1,6 @@
 -- The steps of the search for the nodes of a moat: one arrival, the heights that rise, and what is known when none waits.
-use Rattle.std.proofs.Common.{inl, inr, ◌≡◌, ◌≢◌, ◌⊎◌, ◌&&◌, ℕ, zero, suc, ◌+◌, ◌*◌, ◌-◌, ◌^◌, ◌<◌, ◌≤◌, ◌++◌, max, Bool, true, false, cond, eqb, ltb, List, [], ◌∷◌, length}
-use Rattle.std.proofs.Common.{get_or, set, replicate, refl, sym, ◌∙◌, ap, ap₂, subst, arith, All, Contains, IsPermutation, eq-eqb}
+use Rattle.std.proofs.Common.{inl, inr, ◌≡◌, ◌≢◌, ◌⊎◌, ◌&&◌, ℕ, zero, suc, ◌+◌, ◌*◌, ◌-◌, ◌^◌, ◌<◌, ◌≤◌, ◌++◌, max, Bool, true, false, cond}
+use Rattle.std.proofs.Common.{eqb, ltb, List, [], ◌∷◌, length, get_or, set, replicate, refl, sym, ◌∙◌, ap, ap₂, subst, arith, All, Contains, IsPermutation, eq-eqb}
 use Rattle.std.proofs.lemmas.Bool.{cases_eq, cases_lt, ne_eqb, lt-ltb, le-ltb}
 use Rattle.std.proofs.lemmas.List.{append-nil, get_or-set_same, get_or-set_other, get_or-replicate, length-replicate, length-set, set-get_or}
 use Rattle.std.proofs.lemmas.List.{get_or_append_left, get_or_past, length-append}
@@ -50,6 +50,13 @@ module _ (node height : ℕ) (old before : List ℕ) (heap : List Arrival) where
       same : (b : Bool) → (b && ltb 0 height) ≡ b
       same true = lt-ltb 0 height (omega (arith, more))
       same false = refl
+
+-- where nothing is noted
+pub none_noted : (n x : ℕ) → noted_at (replicate n 0) x ≡ 0
+none_noted n x = elim (cases_lt x n) [
+  | inl l ↦ get_or-replicate n x 0 0 l
+  | inr l ↦ get_or_past (replicate n 0) x 0 (let e : length {A = ℕ} (replicate n 0) ≡ n = length-replicate n 0 in omega arith)
+]
 
 -- whether a node counts as listed
 listed_by : (o h : ℕ) → cond {A = ℕ} (ltb 0 o) 1 0 + cond ((eqb o 0) && ltb 0 h) 1 0 ≡ cond (ltb 0 (max o h)) 1 0
@@ -210,25 +217,16 @@ module _ (g : Graph) where
   pub Searching-start : (new near : List ℕ) (heap : List Arrival) → Goes g (replicate g.nodes 0) new [] near [] heap → Searching g new near heap
   Searching-start new near heap goes = record {
     lists = goes.lists (record {
-      count = count_of g.nodes;
-      once = λ x l. sym (ap (λ n. cond {A = ℕ} (ltb 0 n) 1 0) (none x));
+      count = length-replicate g.nodes 0;
+      once = λ x l. sym (ap (λ n. cond {A = ℕ} (ltb 0 n) 1 0) (none_noted g.nodes x));
       low = All-nil (λ x. x < g.nodes);
     });
     low = goes.low (All-nil (λ (a : Arrival). a.node < g.nodes));
     waits = λ x. elim (goes.waits x) [
-      | inl same ↦ inl (λ e z l. omega (arith, same, none x))
+      | inl same ↦ inl (λ e z l. omega (arith, same, none_noted g.nodes x))
       | inr in_heap ↦ inr in_heap
     ];
   }
-    where
-      count_of : (n : ℕ) → length {A = ℕ} (replicate n 0) ≡ n
-      count_of n = length-replicate n 0
-
-      none : (x : ℕ) → noted_at (replicate g.nodes 0) x ≡ 0
-      none x = elim (cases_lt x g.nodes) [
-        | inl l ↦ get_or-replicate g.nodes x 0 0 l
-        | inr l ↦ get_or_past (replicate g.nodes 0) x 0 (omega (arith, count_of g.nodes))
-      ]
 
   -- the arrival a is taken from the heap
   module _ (heights near : List ℕ) (heap rest : List Arrival) (a : Arrival) (s : Searching g heights near heap) (taken : IsPermutation heap (a ∷ rest)) where

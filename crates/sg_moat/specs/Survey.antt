@@ -1,6 +1,5 @@
--- The search for the nodes of one moat: heights of nodes, 0 where none was found, and a list of those
--- with a height.
--- It knows the heights without the bound by the dual; `Caps` cuts them to it in the end.
+-- The search for the nodes of one moat: heights of nodes, 0 where nothing was noted, and a list of the nodes noted.
+-- While it runs a height may be beyond the dual; `Caps` cuts them to it in the end.
 use Rattle.std.specs.Prelude.{◌≡◌, ◌⊎◌, ◌&&◌, ◌==◌, ℕ, ◌+◌, ◌-◌, ◌*◌, ◌^◌, ◌<◌, ◌≤◌, ◌++◌, max, min, nat_lt, cond}
 use Rattle.std.specs.Prelude.{List, [], ◌∷◌, length, slice_index_or, slice_set, All, Contains, count_by, sum_by}
 use Rattle.std.specs.List.Sorted.{IsPermutation}
@@ -95,8 +94,8 @@ pub record Seeds (g : Graph) (tables : List Routes) (members : List Member) (y :
   pub below : (f : ℕ → ℕ) → IsSeeded tables members y f → AreBelow f old → AreBelow f new
 
 -- arrivals from a node of this height over some edges at it
-pub record Spreads (g : Graph) (node height : ℕ)
-    (edges old new before after : List ℕ) (heap next : List Arrival) : Type 0 where
+pub record Spreads (g : Graph) (node height : ℕ) (edges old new before after : List ℕ)
+    (heap next : List Arrival) : Type 0 where
   pub goes : Goes g old new before after heap next
   pub spread : All (λ e. height ≤ noted_at new (other_end node (edge_at g e)) + 2 * edge_weight g e) edges
   pub below : (f : ℕ → ℕ) → IsLipschitz g f → height ≤ f node → AreBelow f old → AreBelow f new

@@ -1,4 +1,5 @@
-ghost use Rattle.std.specs.Prelude.{◌≡◌, ℕ, ◌+◌, ◌<◌, ◌^◌, ◌++◌, ◌∷◌, ◌==◌, [], cond, length, replicate, All, Contains, OnOk};
+ghost use Rattle.std.specs.Prelude.{◌≡◌, ℕ, ◌+◌, ◌<◌, ◌^◌, ◌++◌, ◌∷◌, ◌==◌, [], cond, length, replicate};
+ghost use Rattle.std.specs.Prelude.{All, Contains, OnOk};
 ghost use Rattle.std.specs.BinaryHeap.{heap_items};
 ghost use Rattle.sg_graph.specs.Incidence.{AreIncident, EndsAt};
 ghost use Rattle.sg_moat.specs.Depths.{AreFull, height_by};
