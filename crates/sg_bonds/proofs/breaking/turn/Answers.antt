@@ -1,34 +1,36 @@
-use Rattle.std.proofs.Common.{◌≡◌, ap, ◌∙◌, subst, neg_ℤ}
+use Rattle.std.proofs.Common.{◌≡◌, ap, ◌∙◌, subst}
 use Rattle.sg_model.specs.Ising.{bond_at}
 use Rattle.sg_model.specs.WellFormed.{IsInstance}
 use Rattle.sg_model.specs.Energy.{product}
 use Rattle.sg_bonds.proofs.CostNumbers.{above_found, cost_fits, cost_found, read_bond}
 use Rattle.sg_bonds.proofs.breaking.turn.Goals as goal
 
-good : (c : goal.After-least_with) → IsInstance c.args.planar.now.instance
-good c = subst IsInstance c.instance.ensures.value c.bonds.ensures.instance
-
--- the ground state has the other product
-own : (c : goal.After-least_with) → product c.args.least.now.spins (bond_at c.args.planar.now.instance c.args.bond) ≡ neg_ℤ c.other_product-other.result
-own c =
-    let read : bond_at c.args.planar.now.instance c.args.bond ≡ c.at-ends.result.now = read_bond c.args.planar.now.instance c.instance.result.now
-    c.bonds.result.now c.args.bond c.at-ends.result.now c.at-ends.ensures c.bonds.ensures.value c.instance.ensures.value in
-    ap (product c.args.least.now.spins) read ∙ c.other_product-other.ensures.other
-
 pub overflow_sub-result : goal.overflow_sub-result
 overflow_sub-result c =
-    cost_fits c.args.planar.now.instance (good c) c.args.bond c.requires.sum c.args.least.now.spins c.other_product-other.result
-        c.in_ok-state.state.energy c.args.least.now.energy c.requires.ground_state c.other_product-other.ensures.up_or_down (own c)
-        c.in_ok-state.ensures.least c.requires.energy
+    let good : IsInstance c.args.planar.now.instance = subst IsInstance c.instance.ensures.value c.bonds.ensures.instance in
+    let read : bond_at c.args.planar.now.instance c.args.bond ≡ c.at-ends.result.now = read_bond c.args.planar.now.instance c.instance.result.now
+    c.bonds.result.now c.args.bond c.at-ends.result.now c.at-ends.ensures c.bonds.ensures.value c.instance.ensures.value in
+    cost_fits c.args.planar.now.instance good c.args.bond c.requires.sum c.args.least.now.spins c.other_product-other.result
+    c.in_ok-state.state.energy c.args.least.now.energy
+    c.requires.ground_state c.other_product-other.ensures.up_or_down (ap (product c.args.least.now.spins) read ∙ c.other_product-other.ensures.other)
+    c.in_ok-state.ensures.least c.requires.energy
 
 pub returns-clause-cost : goal.returns-clause-cost
 returns-clause-cost c =
-    cost_found c.args.planar.now.instance (good c) c.args.bond c.requires.sum c.args.least.now.spins c.other_product-other.result
-        c.in_ok-state.state.energy c.args.least.now.energy c.requires.ground_state c.other_product-other.ensures.up_or_down (own c)
-        c.in_ok-state.ensures.least c.requires.energy
+    let good : IsInstance c.args.planar.now.instance = subst IsInstance c.instance.ensures.value c.bonds.ensures.instance in
+    let read : bond_at c.args.planar.now.instance c.args.bond ≡ c.at-ends.result.now = read_bond c.args.planar.now.instance c.instance.result.now
+    c.bonds.result.now c.args.bond c.at-ends.result.now c.at-ends.ensures c.bonds.ensures.value c.instance.ensures.value in
+    cost_found c.args.planar.now.instance good c.args.bond c.requires.sum c.args.least.now.spins c.other_product-other.result
+    c.in_ok-state.state.energy c.args.least.now.energy
+    c.requires.ground_state c.other_product-other.ensures.up_or_down (ap (product c.args.least.now.spins) read ∙ c.other_product-other.ensures.other)
+    c.in_ok-state.ensures.least c.requires.energy
 
 pub returns-clause-above : goal.returns-clause-above
 returns-clause-above c =
-    above_found c.args.planar.now.instance (good c) c.args.bond c.requires.sum c.args.least.now.spins c.other_product-other.result
-        c.in_ok-state.state.energy c.args.least.now.energy c.requires.ground_state c.other_product-other.ensures.up_or_down (own c)
-        c.in_ok-state.ensures.least c.requires.energy c.in_ok-state.state.spins c.in_ok-state.ensures.energy
+    let good : IsInstance c.args.planar.now.instance = subst IsInstance c.instance.ensures.value c.bonds.ensures.instance in
+    let read : bond_at c.args.planar.now.instance c.args.bond ≡ c.at-ends.result.now = read_bond c.args.planar.now.instance c.instance.result.now
+    c.bonds.result.now c.args.bond c.at-ends.result.now c.at-ends.ensures c.bonds.ensures.value c.instance.ensures.value in
+    above_found c.args.planar.now.instance good c.args.bond c.requires.sum c.args.least.now.spins c.other_product-other.result
+    c.in_ok-state.state.energy c.args.least.now.energy
+    c.requires.ground_state c.other_product-other.ensures.up_or_down (ap (product c.args.least.now.spins) read ∙ c.other_product-other.ensures.other)
+    c.in_ok-state.ensures.least c.requires.energy c.in_ok-state.state.spins c.in_ok-state.ensures.energy

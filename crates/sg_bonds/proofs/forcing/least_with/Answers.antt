@@ -13,10 +13,10 @@ signed-requires-2-clause-size c =
     c.bonds.result.now c.args.bond c.at.result.now c.at.ensures c.bonds.ensures.value c.instance.ensures.value in
     coupling_fits c.args.planar.now.instance good c.args.bond c.requires.bond_in c.requires.sum c.at.result.now.j (ap (λ (b : Bond). b.j) read)
 
-good : (c : goal.After-signed-2) → IsInstance c.args.planar.now.instance
+good : (c : goal.After-drop-forced-inside-5) → IsInstance c.args.planar.now.instance
 good c = subst IsInstance c.instance.ensures.value c.bonds.ensures.instance
 
-solved : (c : goal.After-signed-2) → IsForcedSolve c.args.planar.now.instance c.args.bond c.args.wanted c.force-force.result c.signed.result
+solved : (c : goal.After-drop-forced-inside-5) → IsForcedSolve c.args.planar.now.instance c.args.bond c.args.wanted c.force-force.result c.signed.result
     c.in_ok-least.least.energy c.signed-2.result c.at.result.now.j c.in_ok-forced.forced.instance c.in_ok-least.least.spins
 solved c = record {
   force = c.force-force.ensures;
@@ -27,30 +27,43 @@ solved c = record {
   size = c.in_ok-least.ensures.size;
   coupling = ap (λ (b : Bond). b.j)
       (read_bond c.args.planar.now.instance c.instance.result.now c.bonds.result.now c.args.bond c.at.result.now
-        c.at.ensures c.bonds.ensures.value c.instance.ensures.value);
+      c.at.ensures c.bonds.ensures.value c.instance.ensures.value);
   own = c.signed-2.ensures;
 }
 
 pub overflow_sub-energy : goal.overflow_sub-energy
 overflow_sub-energy c =
-    gap_fits c.args.planar.now.instance (good c) c.args.bond c.requires.bond_in c.requires.sum c.args.wanted c.requires.up_or_down
-        c.force-force.result c.signed.result c.in_ok-least.least.energy c.signed-2.result c.at.result.now.j
-        c.in_ok-forced.forced.instance c.in_ok-least.least.spins (solved c)
+    let read = read_bond c.args.planar.now.instance c.instance.result.now c.bonds.result.now c.args.bond c.at.result.now
+    c.at.ensures c.bonds.ensures.value c.instance.ensures.value in
+    gap_fits c.args.planar.now.instance (subst IsInstance c.instance.ensures.value c.bonds.ensures.instance) c.args.bond
+    c.requires.bond_in c.requires.sum c.args.wanted c.requires.up_or_down
+    c.force-force.result c.signed.result c.in_ok-least.least.energy c.signed-2.result c.at.result.now.j
+    c.in_ok-forced.forced.instance c.in_ok-least.least.spins
+    (record {
+      force = c.force-force.ensures;
+      new = c.signed.ensures;
+      copy = ap (λ (e : Embedding). e.instance) c.in_ok-forced.ensures.copy;
+      ground = c.in_ok-least.ensures.ground_state;
+      value = c.in_ok-least.ensures.energy;
+      size = c.in_ok-least.ensures.size;
+      coupling = ap (λ (b : Bond). b.j) read;
+      own = c.signed-2.ensures;
+    })
 
 pub returns-clause-least : goal.returns-clause-least
 returns-clause-least c =
     least_found c.args.planar.now.instance (good c) c.args.bond c.requires.bond_in c.requires.sum c.args.wanted c.requires.up_or_down
-        c.force-force.result c.signed.result c.in_ok-least.least.energy c.signed-2.result c.at.result.now.j
-        c.in_ok-forced.forced.instance c.in_ok-least.least.spins (solved c)
+    c.force-force.result c.signed.result c.in_ok-least.least.energy c.signed-2.result c.at.result.now.j
+    c.in_ok-forced.forced.instance c.in_ok-least.least.spins (solved c)
 
 pub returns-clause-product : goal.returns-clause-product
 returns-clause-product c =
     product_found c.args.planar.now.instance (good c) c.args.bond c.requires.bond_in c.requires.sum c.args.wanted c.requires.up_or_down
-        c.force-force.result c.signed.result c.in_ok-least.least.energy c.signed-2.result c.at.result.now.j
-        c.in_ok-forced.forced.instance c.in_ok-least.least.spins (solved c)
+    c.force-force.result c.signed.result c.in_ok-least.least.energy c.signed-2.result c.at.result.now.j
+    c.in_ok-forced.forced.instance c.in_ok-least.least.spins (solved c)
 
 pub returns-clause-energy : goal.returns-clause-energy
 returns-clause-energy c =
     energy_found c.args.planar.now.instance (good c) c.args.bond c.requires.bond_in c.requires.sum c.args.wanted c.requires.up_or_down
-        c.force-force.result c.signed.result c.in_ok-least.least.energy c.signed-2.result c.at.result.now.j
-        c.in_ok-forced.forced.instance c.in_ok-least.least.spins (solved c)
+    c.force-force.result c.signed.result c.in_ok-least.least.energy c.signed-2.result c.at.result.now.j
+    c.in_ok-forced.forced.instance c.in_ok-least.least.spins (solved c)
