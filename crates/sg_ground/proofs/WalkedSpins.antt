@@ -32,5 +32,5 @@ pub marked_by_walk : (inst : Ising) (set old now : List Bool) (order : List ℕ)
 marked_by_walk inst set old now order all fresh walked connected i l =
     let long : length old ≡ inst.n = ap length fresh ∙ length-replicate inst.n false in
     let (k, b, e) = (walked_order inst set now order connected all (subst (λ m. IsWalked inst (has set) 0 m now order) fresh walked)).complete i
-        (omega (arith, l, walked.lengths, long)) in
+    (omega (arith, l, walked.lengths, long)) in
     subst (IsMarked now) e (walked.marked k b)
