@@ -8,12 +8,12 @@ use Rattle.sg_model.specs.declared.refusal.Fault.{Fault}
 use Rattle.sg_model.specs.declared.refusal.Fault.TheVariants.{Refused, NoMemory}
 use Rattle.sg_model.specs.declared.refusal.Refusal.TheVariants.{TooLong}
 use Rattle.sg_model.specs.Ising.{Ising}
-use Rattle.sg_reader.specs.Kept.{kept_of}
+use Rattle.sg_reader.specs.Kept.{behind, kept_of}
 use Rattle.sg_reader.specs.ReadInstance.{ReadsInstance, IsReadFault}
 use Rattle.sg_reader.specs.NoMore.{IsTrailingFault}
 use Rattle.sg_planar.specs.Fit.{IsUnfitFault}
 use Rattle.sg_check.specs.declared.packing.ResultText.{ResultText}
-use Rattle.sg_reader.specs.ReadResult.{IsResultFault, ReadsResult, behind}
+use Rattle.sg_reader.specs.ReadResult.{IsResultFault, ReadsResult}
 use Rattle.sg_cli.specs.Input.{AtFitness, AtRecord, AtTrailing, BehindResult, GivesInstance, InInstance, InResult, IsAloneFault, OfJson, OfRecords}
 use Rattle.sg_cli.specs.Input.{RefusesBy, RefusesProofBy}
 use Rattle.sg_json.specs.Text.{is_object_text}

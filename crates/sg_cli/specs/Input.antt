@@ -5,10 +5,10 @@ use Rattle.sg_model.specs.declared.refusal.Fault.{Fault}
 use Rattle.sg_model.specs.declared.refusal.Fault.TheVariants.{Refused, NoMemory}
 use Rattle.sg_model.specs.declared.refusal.Refusal.{Refusal}
 use Rattle.sg_model.specs.Ising.{Ising}
-use Rattle.sg_reader.specs.Kept.{kept_of}
+use Rattle.sg_reader.specs.Kept.{behind, kept_of}
 use Rattle.sg_reader.specs.ReadInstance.{ReadsInstance, RefusesInstance}
 use Rattle.sg_check.specs.declared.packing.ResultText.{ResultText}
-use Rattle.sg_reader.specs.ReadResult.{ReadsResult, RefusesResult, behind}
+use Rattle.sg_reader.specs.ReadResult.{ReadsResult, RefusesResult}
 use Rattle.sg_reader.specs.NoMore.{trailing_fault}
 use Rattle.sg_json.specs.Text.{is_object_text}
 use Rattle.sg_json.specs.ReadJson.{ReadsJson, RefusesJson}

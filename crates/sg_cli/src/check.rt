@@ -10,7 +10,7 @@ use super::reply::{NoMemory, Reply, refuse_fault};
 use super::status::Status;
 use sg_check::{Checker, ResultText, Verdict};
 use sg_model::{Fault, Instance};
-use sg_reader::{no_more, read_instance, read_result};
+use sg_reader::{Rows, no_more, read_instance, read_result};
 use sg_report::verdict_text;
 use std::alloc::Global;
 
@@ -34,9 +34,10 @@ fn read_proof(alloc: Global, bytes: &[u8]) -> Result<(Instance, ResultText), Fau
     ensures few_loops { IfOk result (λ r. length r.1.loops < text_limit) }
     ensures refuses { IfErr result (RefusesProofBy bytes.now) }
 {
-    let (instance, after) = read_instance(alloc, bytes)?;
-    let (stated, next) = read_result(alloc, bytes, after)?;
-    no_more(alloc, bytes, next)?;
+    let mut rows = Rows::new(alloc, bytes);
+    let (instance, _) = read_instance(alloc, &mut rows)?;
+    let (stated, _) = read_result(alloc, &mut rows)?;
+    no_more(alloc, &mut rows)?;
     Ok((instance, stated))
 }
 

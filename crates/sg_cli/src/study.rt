@@ -19,7 +19,7 @@ use super::wall::wall_reply;
 use sg_json::{is_json, read_json};
 use sg_model::{Fault, Instance};
 use sg_planar::{NotFit, Planar};
-use sg_reader::{no_more, read_instance};
+use sg_reader::{Rows, no_more, read_instance};
 use std::alloc::Global;
 
 /// What a study answers to a text within the limit of bytes.
@@ -68,8 +68,9 @@ fn read_alone(alloc: Global, bytes: &[u8]) -> Result<Instance, Fault>
     ensures gives { IfOk result (GivesRecords bytes.now) }
     ensures refuses { IfErr result (IsAloneFault bytes.now) }
 {
-    match read_instance(alloc, bytes) {
-        Ok((instance, after)) => match no_more(alloc, bytes, after) {
+    let mut rows = Rows::new(alloc, bytes);
+    match read_instance(alloc, &mut rows) {
+        Ok((instance, _)) => match no_more(alloc, &mut rows) {
             Ok(()) => Ok(instance),
             Err(fault) => Err(fault),
         },

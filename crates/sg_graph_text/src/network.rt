@@ -11,7 +11,7 @@ use super::read::read_graph;
 use sg_graph::{Edge, Terminals, Web, first_unreached};
 use sg_limits::SUM_LIMIT;
 use sg_model::{Fault, Refusal};
-use sg_reader::no_more;
+use sg_reader::{Rows, no_more};
 use std::alloc::Global;
 
 /// A connected weighted graph, and a set of its nodes.
@@ -42,8 +42,9 @@ fn read_alone(alloc: Global, bytes: &[u8], terms: bool) -> Result<GraphText, Fau
     ensures sound { IfOk result IsGraphText }
     ensures refuses { IfErr result (IsAloneFault terms bytes.now) }
 {
-    match read_graph(alloc, bytes, terms) {
-        Ok((text, after)) => match no_more(alloc, bytes, after) {
+    let mut rows = Rows::new(alloc, bytes);
+    match read_graph(alloc, &mut rows, terms) {
+        Ok((text, _)) => match no_more(alloc, &mut rows) {
             Ok(()) => Ok(text),
             Err(fault) => Err(fault),
         },

@@ -1,6 +1,6 @@
-ghost use Rattle.std.specs.Prelude.{◌≡◌, ◌<◌, ◌≤◌, ◌∷◌, None, length, IfOk, IfErr};
-ghost use Rattle.sg_limits.specs.Limits.{spin_limit, text_limit};
-ghost use Rattle.sg_reader.specs.Kept.{kept_of};
+ghost use Rattle.std.specs.Prelude.{◌≡◌, ◌≤◌, ◌∷◌, None, IfOk, IfErr};
+ghost use Rattle.sg_limits.specs.Limits.{spin_limit};
+ghost use Rattle.sg_reader.specs.Leaves.{Leaves};
 ghost use Rattle.sg_reader.specs.Tests.{size_in};
 ghost use Rattle.sg_graph_text.specs.Graph.{IsGraphText, size_fault};
 ghost use Rattle.sg_graph_text.specs.ReadGraph.{IsGraphFault, ReadsGraph};
@@ -28,8 +28,9 @@ fn next_size(rows: &mut Rows<'_>, row: &mut Row, terms: bool) -> Result<u32, Fau
     Ok(nodes)
 }
 
-/// Reads a graph from the front of a text, and gives it with the number of `csv` records of the text
-/// up to and with its `end`. `terms` says whether terminals may be given.
+/// Reads a graph from the records of a text, and gives it with the number of `csv` records of the text
+/// up to and with its `end`. Those behind the `end` are left. `terms` says whether terminals may be
+/// given.
 ///
 /// The records count as those of an instance do.
 ///
@@ -50,14 +51,17 @@ fn next_size(rows: &mut Rows<'_>, row: &mut Row, terms: bool) -> Result<u32, Fau
 ///
 /// The time is linear in the bytes and the nodes, and the memory is that of the graph and of the
 /// longest record.
-pub fn read_graph(alloc: Global, bytes: &[u8], terms: bool) -> Result<(GraphText, u32), Fault>
-    requires { length bytes.now < text_limit }
-    ensures read { IfOk result (λ r. ReadsGraph terms (kept_of bytes.now) r.0 r.1) }
+pub fn read_graph(
+    alloc: Global,
+    rows: &mut Rows<'_>,
+    terms: bool,
+) -> Result<(GraphText, u32), Fault>
+    ensures read { IfOk result (λ r. ReadsGraph terms rows.old r.0 r.1) }
+    ensures left { IfOk result (λ r. Leaves rows.old rows.new r.1) }
     ensures sound { IfOk result (λ r. IsGraphText r.0) }
-    ensures fault { IfErr result (IsGraphFault terms (kept_of bytes.now)) }
+    ensures fault { IfErr result (IsGraphFault terms rows.old) }
 {
-    let mut rows = Rows::new(alloc, bytes);
     let mut row = Row::new(alloc);
-    let nodes = next_size(&mut rows, &mut row, terms)?;
-    read_body(alloc, &mut rows, &mut row, nodes, terms)
+    let nodes = next_size(rows, &mut row, terms)?;
+    read_body(alloc, rows, &mut row, nodes, terms)
 }

@@ -19,7 +19,7 @@ pub fn is_connected(alloc: Global, inst: &Instance) -> Result<bool, NoMemory>
     finds_all(alloc, inst, &all, &mut marks)
 }
 
-// Whether a walk over the bonds of a set of all from spin 0 marks all spins.
+// Whether a walk from spin 0 marks all spins, over a set that has all bonds.
 fn finds_all(
     alloc: Global,
     inst: &Instance,

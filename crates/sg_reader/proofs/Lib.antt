@@ -10,6 +10,6 @@ pub mod ResultLaws
 pub mod ReadLaws
 pub mod HeaderLaws
 pub mod RecordCounts
-mod BehindLaws
+pub mod LeftLaws
 mod WorkedRecords
 pub mod SizeLaws

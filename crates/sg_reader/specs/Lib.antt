@@ -11,5 +11,6 @@ pub mod ReadInstance
 pub mod Result
 pub mod ReadResult
 pub mod NoMore
+pub mod Leaves
 pub mod Holds
 pub mod GeneralHolds

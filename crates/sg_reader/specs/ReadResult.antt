@@ -1,16 +1,12 @@
 -- Which result a text gives behind its first records, or why it is refused: the first test that a record fails, in the
 -- order of the records.
-use Rattle.std.specs.Prelude.{ℕ, nat_le, List, filter}
+use Rattle.std.specs.Prelude.{ℕ, List}
 use Rattle.sg_model.specs.declared.refusal.Fault.{Fault}
 use Rattle.sg_model.specs.declared.refusal.Refusal.{Refusal}
 use Rattle.sg_check.specs.declared.packing.ResultText.{ResultText}
 use Rattle.sg_reader.specs.Kept.{Kept}
 use Rattle.sg_reader.specs.Ended.{IsRecordsFault, RefusesRecords, StatesToEnd}
 use Rattle.sg_reader.specs.Result.{result_fault, result_of}
-
--- the records behind the first `after` of a text
-abbrev pub behind : ℕ → List Kept → List Kept
-behind after kept = filter (λ r. nat_le after r.at) kept
 
 -- the records give the result; `next` records of the text were read
 abbrev pub ReadsResult : List Kept → ResultText → ℕ → Type 0

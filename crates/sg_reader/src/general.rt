@@ -8,6 +8,7 @@ ghost use Rattle.sg_reader.specs.Kept.{Kept, field};
 ghost use Rattle.sg_reader.specs.Tests.{IsTestFault, is_number_in, size_in, spin_below};
 ghost use Rattle.sg_reader.specs.Body.{bond_fault, bond_of, ends_fault, is_bond, is_end, is_rot, is_seam, rot_fault};
 ghost use Rattle.sg_reader.specs.ReadInstance.{IsBodyFault, ReadsBody};
+ghost use Rattle.sg_reader.specs.Leaves.{Leaves};
 ghost use Rattle.sg_reader.specs.GeneralHolds.{HoldsGeneral, HoldsNext, HoldsSome, IsHeldFault, IsHeldInstance, IsNextFault, PassesNext};
 
 use super::NoMemory;
@@ -220,6 +221,7 @@ pub(crate) fn read_general(
     requires some { 1 ≤ n }
     requires small { n ≤ 2 ^ 24 }
     ensures read { IfOk result (λ r. ReadsBody (header.General n) records.old r.0 r.1) }
+    ensures left { IfOk result (λ r. Leaves records.old records.new r.1) }
     ensures instance { IfOk result (λ r. IsInstance r.0) }
     ensures spins { IfOk result (λ r. (r.0).n ≡ n) }
     ensures bonds { IfOk result (λ r. bond_count r.0 ≤ bond_limit) }

@@ -8,6 +8,7 @@ ghost use Rattle.sg_reader.specs.declared.header.Header.TheVariants as header;
 ghost use Rattle.sg_reader.specs.Tests.{IsTestFault};
 ghost use Rattle.sg_reader.specs.Body.{is_end, lattice_end_fault, reseamed};
 ghost use Rattle.sg_reader.specs.ReadInstance.{IsBodyFault, ReadsBody};
+ghost use Rattle.sg_reader.specs.Leaves.{Leaves};
 ghost use Rattle.sg_reader.specs.Holds.{HoldsBehind, IsFaultBehind, PassesBehind};
 
 use super::body::{END, SEAM, push_couplings, seam};
@@ -97,6 +98,7 @@ pub(crate) fn read_lattice(
     requires size { IsSize kind rows cols }
     requires few { sum_by (λ r. length r.fields) records.old < 2 ^ 32 }
     ensures read { IfOk result (λ r. ReadsBody (header.Lattice kind rows cols) records.old r.0 r.1) }
+    ensures left { IfOk result (λ r. Leaves records.old records.new r.1) }
     ensures instance { IfOk result (λ r. IsInstance r.0) }
     ensures spins { IfOk result (λ r. (r.0).n ≡ rows * cols) }
     ensures bonds { IfOk result (λ r. bond_count r.0 ≤ 3 * (rows * cols)) }

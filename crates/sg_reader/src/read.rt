@@ -1,10 +1,10 @@
-ghost use Rattle.std.specs.Prelude.{◌≡◌, ◌<◌, ◌≤◌, None, length, IfOk, IfErr, OnOk};
-ghost use Rattle.sg_limits.specs.Limits.{bond_limit, spin_limit, text_limit};
+ghost use Rattle.std.specs.Prelude.{◌≡◌, ◌≤◌, None, IfOk, IfErr, OnOk};
+ghost use Rattle.sg_limits.specs.Limits.{bond_limit, spin_limit};
 ghost use Rattle.sg_model.specs.Ising.{bond_count};
 ghost use Rattle.sg_model.specs.WellFormed.{IsInstance};
-ghost use Rattle.sg_reader.specs.Kept.{kept_of};
+ghost use Rattle.sg_reader.specs.Leaves.{Leaves};
+ghost use Rattle.sg_reader.specs.NoMore.{IsLeftFault, left_fault};
 ghost use Rattle.sg_reader.specs.ReadInstance.{IsReadFault, ReadsInstance};
-ghost use Rattle.sg_reader.specs.NoMore.{IsTrailingFault, trailing_fault};
 
 use super::general::read_general;
 use super::header::{Header, read_header};
@@ -14,8 +14,8 @@ use super::rows::Rows;
 use sg_model::{Fault, Instance, Refusal};
 use std::alloc::Global;
 
-/// Reads an instance from the front of a text, and gives it with the number of `csv` records of the
-/// text up to and with its `end`.
+/// Reads an instance from the records of a text, and gives it with the number of `csv` records of the
+/// text up to and with its `end`. Those behind the `end` are left.
 ///
 /// Byte-order marks at the front are passed over. Of each record the fields are trimmed of spaces and
 /// tabs, and the empty fields at the end are dropped; blank records and those whose first field
@@ -38,15 +38,14 @@ use std::alloc::Global;
 /// `NoMemory` may come at any time.
 ///
 /// The time is linear in the bytes, and the memory is that of the instance and of the longest record.
-pub fn read_instance(alloc: Global, bytes: &[u8]) -> Result<(Instance, u32), Fault>
-    requires { length bytes.now < text_limit }
-    ensures read { IfOk result (λ r. ReadsInstance (kept_of bytes.now) r.0 r.1) }
+pub fn read_instance(alloc: Global, rows: &mut Rows<'_>) -> Result<(Instance, u32), Fault>
+    ensures read { IfOk result (λ r. ReadsInstance rows.old r.0 r.1) }
+    ensures left { IfOk result (λ r. Leaves rows.old rows.new r.1) }
     ensures instance { IfOk result (λ r. IsInstance r.0) }
     ensures few_spins { IfOk result (λ r. (r.0).n ≤ spin_limit) }
     ensures few_bonds { IfOk result (λ r. bond_count r.0 ≤ bond_limit) }
-    ensures fault { IfErr result (IsReadFault (kept_of bytes.now)) }
+    ensures fault { IfErr result (IsReadFault rows.old) }
 {
-    let mut rows = Rows::new(alloc, bytes);
     let mut row = Row::new(alloc);
     if !rows.next(&mut row)? {
         return Err(Fault::Refused(Refusal::Unended));
@@ -56,28 +55,24 @@ pub fn read_instance(alloc: Global, bytes: &[u8]) -> Result<(Instance, u32), Fau
             kind,
             rows: high,
             cols: wide,
-        } => read_lattice(alloc, &mut rows, &mut row, kind, high, wide),
-        Header::General { n } => read_general(alloc, &mut rows, &mut row, n),
+        } => read_lattice(alloc, rows, &mut row, kind, high, wide),
+        Header::General { n } => read_general(alloc, rows, &mut row, n),
     }
 }
 
-/// Whether nothing stands behind the first `after` records of a text.
+/// Whether no record of a text is left.
 ///
 /// # Errors
-/// `Trailing` with the first record behind them that is not skipped, and `NoMemory`.
+/// `Trailing` with the first of those that are left, and `NoMemory`.
 ///
-/// The time is linear in the bytes, and the memory that of the longest record.
-pub fn no_more(alloc: Global, bytes: &[u8], after: u32) -> Result<(), Fault>
-    requires { length bytes.now < text_limit }
-    ensures none { OnOk result (trailing_fault (kept_of bytes.now) after ≡ None) }
-    ensures fault { IfErr result (IsTrailingFault (kept_of bytes.now) after) }
+/// The time is linear in the bytes that are left, and the memory that of the longest record.
+pub fn no_more(alloc: Global, rows: &mut Rows<'_>) -> Result<(), Fault>
+    ensures none { OnOk result (left_fault rows.old ≡ None) }
+    ensures fault { IfErr result (IsLeftFault rows.old) }
 {
-    let mut rows = Rows::new(alloc, bytes);
     let mut row = Row::new(alloc);
-    while rows.next(&mut row)? {
-        if row.at() >= after {
-            return Err(Fault::Refused(Refusal::Trailing { at: row.at() }));
-        }
+    if rows.next(&mut row)? {
+        return Err(Fault::Refused(Refusal::Trailing { at: row.at() }));
     }
     Ok(())
 }

@@ -3,9 +3,10 @@ ghost use Rattle.std.specs.List.{sum_by};
 ghost use Rattle.sg_limits.specs.Limits.{text_limit};
 ghost use Rattle.sg_reader.specs.Body.{numbers_from};
 ghost use Rattle.sg_reader.specs.Ended.{IsRecordsFault, StatesToEnd};
-ghost use Rattle.sg_reader.specs.Kept.{Kept, kept_of};
+ghost use Rattle.sg_reader.specs.Kept.{Kept};
+ghost use Rattle.sg_reader.specs.Leaves.{Leaves};
 ghost use Rattle.sg_reader.specs.Result.{energy_fault, loop_fault, loop_of, loops_fault, loops_of, spins_fault};
-ghost use Rattle.sg_reader.specs.ReadResult.{IsResultFault, ReadsResult, behind};
+ghost use Rattle.sg_reader.specs.ReadResult.{IsResultFault, ReadsResult};
 ghost use Rattle.sg_reader.specs.Tests.{IsTestFault, number_in};
 
 use super::body::{END, bare_end, indices};
@@ -76,11 +77,9 @@ fn read_loop(alloc: Global, row: &Row) -> Result<Loop, Fault>
 
 // The energy, in the next record.
 fn next_energy(rows: &mut Rows<'_>, row: &mut Row) -> Result<i64, Fault>
-    requires { sum_by (λ r. length r.fields) rows.old ≤ text_limit }
     ensures split { IfOk result (λ e. rows.old ≡ row.new ∷ rows.new) }
     ensures passes { IfOk result (λ e. energy_fault row.new ≡ None) }
     ensures value { IfOk result (λ e. e ≡ number_in row.new 1) }
-    ensures few { IfOk result (λ e. sum_by (λ r. length r.fields) rows.new ≤ text_limit) }
     ensures fault { IfErr result (IsResultFault rows.old) }
 {
     if !rows.next(row)? {
@@ -92,7 +91,6 @@ fn next_energy(rows: &mut Rows<'_>, row: &mut Row) -> Result<i64, Fault>
 
 // The spins, in the next record, which stands behind an energy.
 fn next_spins(alloc: Global, rows: &mut Rows<'_>, row: &mut Row) -> Result<Spins, Fault>
-    requires { sum_by (λ r. length r.fields) rows.old ≤ text_limit }
     ensures split { IfOk result (λ s. rows.old ≡ row.new ∷ rows.new) }
     ensures passes { IfOk result (λ s. spins_fault row.new ≡ None) }
     ensures value { IfOk result (λ s. s ≡ numbers_from row.new 1) }
@@ -111,6 +109,7 @@ fn next_spins(alloc: Global, rows: &mut Rows<'_>, row: &mut Row) -> Result<Spins
 fn read_loops(alloc: Global, rows: &mut Rows<'_>, row: &mut Row) -> Result<(Loops, u32), Fault>
     requires { sum_by (λ r. length r.fields) rows.old ≤ text_limit }
     ensures read { IfOk result (λ r. StatesToEnd loops_fault loops_of rows.old r.0 r.1) }
+    ensures left { IfOk result (λ r. Leaves rows.old rows.new r.1) }
     ensures few { IfOk result (λ r. length r.0 < text_limit) }
     ensures fault { IfErr result (IsRecordsFault loops_fault rows.old) }
 {
@@ -126,8 +125,8 @@ fn read_loops(alloc: Global, rows: &mut Rows<'_>, row: &mut Row) -> Result<(Loop
     Err(Fault::Refused(Refusal::Unended))
 }
 
-/// Reads a result behind the first `after` records of a text, and gives it with the number of `csv`
-/// records of the text up to and with its `end`.
+/// Reads a result from the records of a text, and gives it with the number of `csv` records of the
+/// text up to and with its `end`. Those behind the `end` are left.
 ///
 /// The records count as those of an instance do. The first is `energy,E`; the second is `spins,S,..`
 /// with the value 1 or -1 of each spin; then come the loops, each `loop,Y,B,..` with its weight and
@@ -140,18 +139,17 @@ fn read_loops(alloc: Global, rows: &mut Rows<'_>, row: &mut Row) -> Result<(Loop
 /// records run out. `NoMemory` may come at any time.
 ///
 /// The time is linear in the bytes, and the memory is that of the result and of the longest record.
-pub fn read_result(alloc: Global, bytes: &[u8], after: u32) -> Result<(ResultText, u32), Fault>
-    requires { length bytes.now < text_limit }
-    ensures read { IfOk result (λ r. ReadsResult (behind after (kept_of bytes.now)) r.0 r.1) }
+pub fn read_result(alloc: Global, rows: &mut Rows<'_>) -> Result<(ResultText, u32), Fault>
+    ensures read { IfOk result (λ r. ReadsResult rows.old r.0 r.1) }
+    ensures left { IfOk result (λ r. Leaves rows.old rows.new r.1) }
     ensures few_spins { IfOk result (λ r. length r.0.spins < text_limit) }
     ensures few_loops { IfOk result (λ r. length r.0.loops < text_limit) }
-    ensures fault { IfErr result (IsResultFault (behind after (kept_of bytes.now))) }
+    ensures fault { IfErr result (IsResultFault rows.old) }
 {
-    let mut rows = Rows::behind(alloc, bytes, after)?;
     let mut row = Row::new(alloc);
-    let energy = next_energy(&mut rows, &mut row)?;
-    let spins = next_spins(alloc, &mut rows, &mut row)?;
-    let (loops, next) = read_loops(alloc, &mut rows, &mut row)?;
+    let energy = next_energy(rows, &mut row)?;
+    let spins = next_spins(alloc, rows, &mut row)?;
+    let (loops, next) = read_loops(alloc, rows, &mut row)?;
     let text = ResultText {
         energy,
         spins,

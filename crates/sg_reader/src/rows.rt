@@ -1,9 +1,8 @@
-ghost use Rattle.std.specs.Prelude.{◌≡◌, ◌<◌, ◌≤◌, ◌+◌, ◌^◌, [], ◌∷◌, drop, length, IfOk, OnOk, MatchBool};
+ghost use Rattle.std.specs.Prelude.{◌≡◌, ◌<◌, ◌≤◌, [], ◌∷◌, filter, length, IfOk, MatchBool};
 ghost use Rattle.std.specs.List.{sum_by};
 ghost use Rattle.sg_limits.specs.Limits.{text_limit};
-ghost use Rattle.sg_reader.specs.Kept.{kept_of, numbered_from};
+ghost use Rattle.sg_reader.specs.Kept.{is_kept, kept_of, numbered_from};
 ghost use Rattle.sg_reader.specs.Field.{without_marks as without_marks_of};
-ghost use Rattle.sg_reader.specs.ReadResult.{behind};
 ghost use Rattle.sg_reader.specs.Records.{records_of};
 
 use super::NoMemory;
@@ -21,15 +20,16 @@ struct Numbered<'a> {
 }
 
 impl<'a> Model for Numbered<'a> {
-    ghost use Rattle.std.specs.Prelude.{◌+◌, ◌<◌, ◌^◌, List, length};
+    ghost use Rattle.std.specs.Prelude.{◌+◌, ◌<◌, ◌≤◌, ◌^◌, List, length};
     ghost use Rattle.std.specs.List.{sum_by};
+    ghost use Rattle.sg_limits.specs.Limits.{text_limit};
     ghost use Rattle.sg_reader.specs.Kept.{Kept, numbered_from};
 
     ghost Value = { List Kept };
 
     ghost view = { λ r. numbered_from r.taken r.cursor };
 
-    ghost invariant = { λ r. (r.taken + length r.cursor + 1 < 2 ^ 32) × (sum_by length r.cursor < 2 ^ 32) };
+    ghost invariant = { λ r. (r.taken + length r.cursor + 1 < 2 ^ 32) × (sum_by length r.cursor ≤ text_limit) };
 }
 
 impl<'a> Numbered<'a> {
@@ -43,23 +43,11 @@ impl<'a> Numbered<'a> {
         }
     }
 
-    // Passes over the first `count` records.
-    fn skip(&mut self, alloc: Global, count: u32) -> Result<(), NoMemory>
-        ensures { OnOk result (self.new ≡ drop count self.old) }
-    {
-        let mut row = Row::new(alloc);
-        for _record in 0..count {
-            if !self.next(&mut row)? {
-                return Ok(());
-            }
-        }
-        Ok(())
-    }
-
     fn next(&mut self, row: &mut Row) -> Result<bool, NoMemory>
-        ensures { IfOk result (λ found. MatchBool found
+        ensures found { IfOk result (λ found. MatchBool found
             (self.old ≡ row.new ∷ self.new)
             ((self.old ≡ []) × (self.new ≡ []))) }
+        ensures few { sum_by (λ r. length r.fields) (filter is_kept self.old) ≤ text_limit }
     {
         if !row.fill(&mut self.cursor, self.taken)? {
             return Ok(false);
@@ -89,30 +77,19 @@ impl<'a> Rows<'a> {
     /// In front of the first record of a text.
     pub fn new(alloc: Global, bytes: &'a [u8]) -> Self
         requires { length bytes.now < text_limit }
-        ensures value { result ≡ kept_of bytes.now }
-        ensures few { sum_by (λ r. length r.fields) result ≤ text_limit }
+        ensures { result ≡ kept_of bytes.now }
     {
         Rows {
             records: Numbered::new(alloc, bytes),
         }
     }
 
-    /// Behind the first `after` records of a text, those that are skipped among them.
-    pub(crate) fn behind(alloc: Global, bytes: &'a [u8], after: u32) -> Result<Self, NoMemory>
-        requires { length bytes.now < text_limit }
-        ensures value { IfOk result (λ rows. rows ≡ behind after (kept_of bytes.now)) }
-        ensures few { IfOk result (λ rows. sum_by (λ r. length r.fields) rows ≤ text_limit) }
-    {
-        let mut records = Numbered::new(alloc, bytes);
-        records.skip(alloc, after)?;
-        Ok(Rows { records })
-    }
-
     /// Reads the next record that is not skipped into `row`, or answers false where there is none.
     pub fn next(&mut self, row: &mut Row) -> Result<bool, NoMemory>
-        ensures { IfOk result (λ found. MatchBool found
+        ensures found { IfOk result (λ found. MatchBool found
             (self.old ≡ row.new ∷ self.new)
             ((self.old ≡ []) × (self.new ≡ []))) }
+        ensures few { sum_by (λ r. length r.fields) self.old ≤ text_limit }
     {
         while self.records.next(row)? {
             if row.is_kept() {

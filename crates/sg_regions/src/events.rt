@@ -3,7 +3,7 @@
 // The one rule: where an outer region nears something over an arc, an event waits at this arc or at
 // its way back, for no later than it comes.
 use super::NoMemory;
-use super::adjacency::Arc;
+use super::adjacency::{Arc, reverse};
 use super::forest::{Event, Forest, NEVER, Reach, Role, Subject, before, radius_at};
 use super::lists::{entry, number, set_entry};
 
@@ -30,7 +30,7 @@ impl<'a> Forest<'a> {
             return NEVER;
         }
         let slack = left.wrapping_sub(there.by);
-        match self.region(there.top).role {
+        match self.role(there.top) {
             Role::Outer => self.now.wrapping_add(slack / 2),
             Role::Free => self.now.wrapping_add(slack),
             Role::Inner => NEVER,
@@ -40,31 +40,34 @@ impl<'a> Forest<'a> {
     // The reach of the region over a face, if it is outer.
     fn outer_reach(&self, face: u32) -> Option<Reach> {
         let here = self.reach(&self.cover(face)?);
-        if self.region(here.top).role == Role::Outer {
+        if self.role(here.top) == Role::Outer {
             Some(here)
         } else {
             None
         }
     }
 
-    // Enters the event of an arc, if it comes before the one that waits.
+    // When the event of an arc comes that waits.
+    fn due_over(&self, dart: u32) -> i64 {
+        entry(&self.due, dart).unwrap_or(0)
+    }
+
+    // Enters the event of an arc, if it comes before what waits at the arc and at its way back.
     fn expect(&mut self, here: Reach, arc: &Arc) -> Result<(), NoMemory> {
         let time = self.time_over(here, arc);
-        match entry(&self.due, arc.place) {
-            Some(due) if time < due => {
-                set_entry(&mut self.due, arc.place, time);
-                self.push(time, Subject::Arc(arc.place))
-            }
-            _ => Ok(()),
+        if time < self.due_over(arc.dart) && time < self.due_over(reverse(arc.dart)) {
+            set_entry(&mut self.due, arc.dart, time);
+            return self.push(time, Subject::Arc(arc.dart));
         }
+        Ok(())
     }
 
     // Enters the events of the arcs that leave a face, if an outer region covers it.
     pub fn schedule(&mut self, face: u32) -> Result<(), NoMemory> {
         let faces = self.faces;
         if let Some(here) = self.outer_reach(face) {
-            for arc in faces.arcs_of(face) {
-                self.expect(here, arc)?;
+            for dart in faces.darts_of(face) {
+                self.expect(here, &faces.arc(*dart))?;
             }
         }
         Ok(())
@@ -81,35 +84,69 @@ impl<'a> Forest<'a> {
     // Enters the events of the arcs that lead to a face.
     fn schedule_around(&mut self, face: u32) -> Result<(), NoMemory> {
         let faces = self.faces;
-        for arc in faces.arcs_of(face) {
-            self.expect_back(arc)?;
+        for dart in faces.darts_of(face) {
+            self.expect_back(&faces.arc(*dart))?;
         }
         Ok(())
     }
 
     // Enters the events of the arcs that leave the faces of a region.
     pub fn schedule_region(&mut self, name: u32) -> Result<(), NoMemory> {
-        for face in &self.covered(name, true)? {
-            self.schedule(*face)?;
+        if self.is_single(name) {
+            return self.schedule_layer(name);
+        }
+        for part in &self.parts(name)? {
+            self.schedule_layer(*part)?;
+        }
+        Ok(())
+    }
+
+    // The same for the faces that the region took itself.
+    fn schedule_layer(&mut self, name: u32) -> Result<(), NoMemory> {
+        let mut last = self.region(name).last;
+        for _ in 0..self.covers.len() {
+            let Some(face) = last else {
+                break;
+            };
+            self.schedule(face)?;
+            last = before(self.cover(face));
         }
         Ok(())
     }
 
     // Enters the events of the arcs that lead to the faces of a region.
     pub fn schedule_around_region(&mut self, name: u32) -> Result<(), NoMemory> {
-        for face in &self.covered(name, true)? {
-            self.schedule_around(*face)?;
+        if self.is_single(name) {
+            return self.schedule_around_layer(name);
+        }
+        for part in &self.parts(name)? {
+            self.schedule_around_layer(*part)?;
+        }
+        Ok(())
+    }
+
+    // The same for the faces that the region took itself.
+    fn schedule_around_layer(&mut self, name: u32) -> Result<(), NoMemory> {
+        let mut last = self.region(name).last;
+        for _ in 0..self.covers.len() {
+            let Some(face) = last else {
+                break;
+            };
+            self.schedule_around(face)?;
+            last = before(self.cover(face));
         }
         Ok(())
     }
 
     // Gives a region another role.
     pub fn set_role(&mut self, name: u32, role: Role) -> Result<(), NoMemory> {
-        let mut region = self.region(name);
-        region.radius = self.radius(name);
-        region.since = self.now;
-        region.role = role;
-        self.set_region(name, region);
+        let radius = self.radius(name);
+        if (name as usize) < self.regions.len() {
+            let region = &mut self.regions[name as usize];
+            region.radius = radius;
+            region.since = self.now;
+            region.role = role;
+        }
         if role == Role::Inner {
             self.expect_floor(name)?;
         }
@@ -130,17 +167,15 @@ impl<'a> Forest<'a> {
         self.push(self.now.wrapping_add(left), Subject::Region(name))
     }
 
-    // The event of an arc: the region at its start takes the face at its end, or meets a region.
+    // The event of an arc: the region at its start takes the face at its end, or meets a region. If
+    // no outer region is there any more, the one at the other end takes over.
     fn arc_event(&mut self, arc: &Arc) -> Result<(), NoMemory> {
         let Some(cover) = self.cover(arc.from) else {
-            return Ok(());
+            return self.expect_back(arc);
         };
         let here = self.reach(&cover);
-        match self.region(here.top).role {
-            Role::Inner => return Ok(()),
-            // It has become free meanwhile: the region at the other end takes over.
-            Role::Free => return self.expect_back(arc),
-            Role::Outer => {}
+        if self.role(here.top) != Role::Outer {
+            return self.expect_back(arc);
         }
         if self.time_over(here, arc) > self.now {
             return self.expect(here, arc);
@@ -192,16 +227,13 @@ impl<'a> Forest<'a> {
                 self.now = event.time;
                 self.region_event(name)
             }
-            Subject::Arc(place) => {
-                if entry(&self.due, place) != Some(event.time) {
+            Subject::Arc(dart) => {
+                if entry(&self.due, dart) != Some(event.time) {
                     return Ok(());
                 }
                 self.now = event.time;
-                set_entry(&mut self.due, place, NEVER);
-                match self.faces.arc(place) {
-                    Some(arc) => self.arc_event(&arc),
-                    None => Ok(()),
-                }
+                set_entry(&mut self.due, dart, NEVER);
+                self.arc_event(&self.faces.arc(dart))
             }
         }
     }
@@ -229,8 +261,8 @@ impl<'a> Forest<'a> {
     pub fn run(&mut self) -> Result<bool, NoMemory> {
         self.plant()?;
         self.schedule_terminals()?;
-        let places = u64::from(number(self.faces.nodes()))
-            + u64::from(number(self.faces.arc_count()));
+        let places = u64::from(number(self.faces.faces()))
+            + u64::from(number(self.faces.dart_count()));
         for _ in 0..FEWEST_EVENTS + EVENTS_A_PLACE * places {
             if self.unpaired == 0 {
                 break;

@@ -83,7 +83,7 @@ pub struct Link {
     pub to: u32,
 }
 
-// What an event is about: an outer region gets to the end of an arc, by the arc's place; or an inner
+// What an event is about: an outer region gets to the end of an arc, by the arc's dart; or an inner
 // region comes down to the face that it took last, or to nothing.
 #[derive(Clone, Copy)]
 pub enum Subject {
@@ -124,7 +124,7 @@ pub struct Forest<'a> {
     pub seen: Vec<u32>,
     pub walk: u32,
     pub agenda: Agenda,
-    // For each arc the time of the event that waits for it.
+    // For each dart the time of the event that waits for its arc.
     pub due: Vec<i64>,
 }
 
@@ -142,14 +142,14 @@ impl<'a> Forest<'a> {
             terminals,
             now: 0,
             unpaired: number(count),
-            covers: vec![in alloc; None; faces.nodes()]?,
+            covers: vec![in alloc; None; faces.faces()]?,
             regions: vec![in alloc; BLANK; count]?,
             links: Vec::new(alloc),
             members: vec![in alloc; None; count]?,
             seen: vec![in alloc; 0u32; count]?,
             walk: 0,
             agenda: Agenda::new(alloc)?,
-            due: vec![in alloc; NEVER; faces.arc_count()]?,
+            due: vec![in alloc; NEVER; faces.dart_count()]?,
         })
     }
 
@@ -180,9 +180,34 @@ impl<'a> Forest<'a> {
         (name as usize) < self.terminals.len()
     }
 
+    // The blossom that a region is a part of.
+    fn parent(&self, name: u32) -> Option<u32> {
+        match self.regions.get(name as usize) {
+            Some(region) => region.parent,
+            None => None,
+        }
+    }
+
+    pub fn role(&self, name: u32) -> Role {
+        match self.regions.get(name as usize) {
+            Some(region) => region.role,
+            None => Role::Free,
+        }
+    }
+
+    // The radius of a region when it took its role.
+    fn kept_radius(&self, name: u32) -> i64 {
+        match self.regions.get(name as usize) {
+            Some(region) => region.radius,
+            None => 0,
+        }
+    }
+
     // The radius of a region now.
     pub fn radius(&self, name: u32) -> i64 {
-        let region = self.region(name);
+        let Some(region) = self.regions.get(name as usize) else {
+            return 0;
+        };
         let gone = self.now.wrapping_sub(region.since);
         match region.role {
             Role::Outer => region.radius.wrapping_add(gone),
@@ -195,7 +220,7 @@ impl<'a> Forest<'a> {
     pub fn top(&self, name: u32) -> u32 {
         let mut here = name;
         for _ in 0..self.regions.len() {
-            match self.region(here).parent {
+            match self.parent(here) {
                 Some(parent) => here = parent,
                 None => break,
             }
@@ -209,10 +234,9 @@ impl<'a> Forest<'a> {
         let mut here = cover.region;
         let mut by = 0i64.wrapping_sub(cover.radius);
         for _ in 0..self.regions.len() {
-            let region = self.region(here);
-            match region.parent {
+            match self.parent(here) {
                 Some(parent) => {
-                    by = by.wrapping_add(region.radius);
+                    by = by.wrapping_add(self.kept_radius(here));
                     here = parent;
                 }
                 None => break,
@@ -225,7 +249,7 @@ impl<'a> Forest<'a> {
     }
 
     // A region and all that it is made of, each before the regions of its cycle.
-    fn parts(&self, name: u32) -> Result<Vec<u32>, NoMemory> {
+    pub fn parts(&self, name: u32) -> Result<Vec<u32>, NoMemory> {
         let mut list = Vec::new(self.alloc);
         list.push(name)?;
         for place in 0..self.regions.len() {
@@ -258,17 +282,14 @@ impl<'a> Forest<'a> {
         Ok(())
     }
 
-    // The faces that a region and its parts took; with `itself` false, the parts alone.
-    pub fn covered(&self, name: u32, itself: bool) -> Result<Vec<u32>, NoMemory> {
+    // The faces that the parts of a region took, without those that it took itself.
+    pub fn covered_by_parts(&self, name: u32) -> Result<Vec<u32>, NoMemory> {
         let mut faces = Vec::new(self.alloc);
         if self.is_single(name) {
-            if itself {
-                self.add_layer(name, &mut faces)?;
-            }
             return Ok(faces);
         }
         for part in &self.parts(name)? {
-            if itself || *part != name {
+            if *part != name {
                 self.add_layer(*part, &mut faces)?;
             }
         }
@@ -277,16 +298,18 @@ impl<'a> Forest<'a> {
 
     // A region takes a face, reached from a terminal.
     pub fn take(&mut self, name: u32, face: u32, terminal: u32) {
-        let mut region = self.region(name);
-        let cover = Cover {
-            region: name,
-            radius: self.radius(name),
-            terminal,
-            before: region.last,
-        };
-        region.last = Some(face);
-        set_entry(&mut self.covers, face, Some(cover));
-        self.set_region(name, region);
+        let radius = self.radius(name);
+        if (name as usize) < self.regions.len() {
+            let region = &mut self.regions[name as usize];
+            let cover = Cover {
+                region: name,
+                radius,
+                terminal,
+                before: region.last,
+            };
+            region.last = Some(face);
+            set_entry(&mut self.covers, face, Some(cover));
+        }
     }
 }
 

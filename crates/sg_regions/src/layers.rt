@@ -20,10 +20,11 @@ struct Rim<'a> {
 impl<'a> Rim<'a> {
     // Adds a face to those inside.
     fn add(&mut self, face: u32) -> Result<(), NoMemory> {
-        for arc in self.faces.arcs_of(face) {
-            turn(&mut self.marks, arc.edge);
-            if is_set(&self.marks, arc.edge) {
-                self.candidates.push(arc.edge)?;
+        for dart in self.faces.darts_of(face) {
+            let bond = *dart / 2;
+            turn(&mut self.marks, bond);
+            if is_set(&self.marks, bond) {
+                self.candidates.push(bond)?;
             }
         }
         Ok(())
@@ -75,16 +76,18 @@ impl<'a> Rim<'a> {
 
 impl<'a> Forest<'a> {
     // Adds the loops of one region: a rim for each radius at which it took a face, and one for its own.
+    // The list `layer` is of no other use.
     fn add_loops(
         &self,
         name: u32,
         radius: i64,
+        layer: &mut Vec<u32>,
         rim: &mut Rim<'_>,
         loops: &mut Loops,
     ) -> Result<(), NoMemory> {
-        rim.add_all(&self.covered(name, false)?)?;
-        let mut layer = Vec::new(self.alloc);
-        self.add_layer(name, &mut layer)?;
+        rim.add_all(&self.covered_by_parts(name)?)?;
+        layer.clear();
+        self.add_layer(name, layer)?;
         let mut inner = 0i64;
         for face in layer.as_slice().iter().rev() {
             let outer = radius_at(self.cover(*face));
@@ -106,10 +109,11 @@ impl<'a> Forest<'a> {
             marks: vec![in self.alloc; false; bonds]?,
             candidates: Vec::new(self.alloc),
         };
+        let mut layer = Vec::new(self.alloc);
         for name in 0..number(self.regions.len()) {
             let radius = self.radius(name);
             if radius > 0 {
-                self.add_loops(name, radius, &mut rim, &mut loops)?;
+                self.add_loops(name, radius, &mut layer, &mut rim, &mut loops)?;
             }
         }
         Ok(loops)

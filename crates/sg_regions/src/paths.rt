@@ -62,11 +62,12 @@ impl<'a> Search<'a> {
     // Offers a route over each arc that leaves a face, unless the goal is no farther already.
     fn spread(&mut self, face: u32, distance: i64, goal: u32) -> Result<(), NoMemory> {
         let faces = self.faces;
-        for arc in faces.arcs_of(face) {
+        for dart in faces.darts_of(face) {
+            let arc = faces.arc(*dart);
             let route = Route {
                 distance: distance.wrapping_add(arc.length),
                 from: face,
-                bond: arc.edge,
+                bond: arc.bond(),
             };
             if route.distance < self.route(goal).distance {
                 self.offer(arc.to, route)?;
@@ -83,7 +84,7 @@ impl<'a> Search<'a> {
             bond: 0,
         };
         self.offer(from, start)?;
-        for _ in 0..self.faces.arc_count().saturating_add(1) {
+        for _ in 0..self.faces.dart_count().saturating_add(1) {
             let Some(Reverse(Candidate { distance, face })) = self.heap.pop() else {
                 break;
             };
@@ -139,7 +140,7 @@ pub fn broken_bonds(
     let mut broken = vec![in alloc; false; bonds]?;
     let mut search = Search {
         faces,
-        routes: vec![in alloc; NO_ROUTE; faces.nodes()]?,
+        routes: vec![in alloc; NO_ROUTE; faces.faces()]?,
         reached: Vec::new(alloc),
         heap: BinaryHeap::new(alloc),
     };

@@ -8,7 +8,6 @@ use super::paths::broken_bonds;
 use super::spins::spins_of;
 use sg_check::{Loops, ResultText};
 use sg_faces::Faces;
-use sg_graph::Edge;
 use sg_model::{Instance, Spins};
 use std::alloc::Global;
 
@@ -41,20 +40,20 @@ pub fn propose(
     stated(inst, spins, loops)
 }
 
-// The faces as nodes, and each bond as an edge twice as long as its coupling's size.
+// The arcs between the faces, each twice as long as the size of its bond's coupling.
 fn dual_adjacency(alloc: Global, inst: &Instance, faces: &Faces) -> Result<Adjacency, NoMemory>
     requires { IsFaceLabels inst.now faces.now }
 {
-    let mut edges = Vec::with_capacity(alloc, inst.bonds().len())?;
-    for (k, bond) in inst.bonds().as_slice().iter().enumerate() {
+    let bonds = inst.bonds().as_slice();
+    let mut sides = Vec::with_capacity(alloc, bonds.len().saturating_mul(2))?;
+    let mut lengths = Vec::with_capacity(alloc, bonds.len())?;
+    for (k, bond) in bonds.iter().enumerate() {
         let dart = 2 * k as u32;
-        edges.push(Edge {
-            a: faces.of(dart),
-            b: faces.of(dart + 1),
-            w: bond.j.wrapping_abs().wrapping_mul(2),
-        })?;
+        sides.push(faces.of(dart))?;
+        sides.push(faces.of(dart + 1))?;
+        lengths.push(bond.j.wrapping_abs().wrapping_mul(2))?;
     }
-    Adjacency::new(alloc, faces.count(), &edges)
+    Adjacency::new(alloc, faces.count(), sides, lengths)
 }
 
 // For each face whether it is frustrated.

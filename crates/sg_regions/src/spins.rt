@@ -7,14 +7,6 @@ use std::alloc::Global;
 // What is not known of a spin yet.
 const UNKNOWN: i8 = 0;
 
-// Whether the ends of a bond are unlike.
-fn is_unlike(bonds: &[Bond], broken: &[bool], bond: u32) -> bool {
-    match entry(bonds, bond) {
-        Some(Bond { u: _, v: _, j }) => (j < 0) != is_set(broken, bond),
-        None => false,
-    }
-}
-
 // The darts that leave a spin.
 fn darts_of(inst: &Instance, spin: u32) -> &[u32] {
     match inst.rotation().as_slice().get(spin as usize) {
@@ -23,12 +15,9 @@ fn darts_of(inst: &Instance, spin: u32) -> &[u32] {
     }
 }
 
-// The spin that a dart leads to.
-fn head(bonds: &[Bond], dart: u32) -> u32 {
-    match entry(bonds, dart / 2) {
-        Some(Bond { u, v, j: _ }) => { if dart % 2 == 0 { v } else { u } }
-        None => u32::MAX,
-    }
+// The spin that a dart over a bond leads to.
+fn head(bond: Bond, dart: u32) -> u32 {
+    if dart % 2 == 0 { bond.v } else { bond.u }
 }
 
 // Gives each unknown neighbour of a spin its value, and notes it.
@@ -41,16 +30,15 @@ fn spread(
 ) -> Result<(), NoMemory> {
     let bonds = inst.bonds().as_slice();
     let value = entry(values, spin).unwrap_or(1);
+    let turned = if value == 1 { -1 } else { 1 };
     for dart in darts_of(inst, spin) {
-        let to = head(bonds, *dart);
+        let Some(bond) = entry(bonds, *dart / 2) else {
+            break;
+        };
+        let to = head(bond, *dart);
         if entry(values, to) == Some(UNKNOWN) {
-            let turned = if value == 1 { -1 } else { 1 };
-            let other = if is_unlike(bonds, broken, *dart / 2) {
-                turned
-            } else {
-                value
-            };
-            set_entry(values, to, other);
+            let is_unlike = (bond.j < 0) != is_set(broken, *dart / 2);
+            set_entry(values, to, if is_unlike { turned } else { value });
             open.push(to)?;
         }
     }

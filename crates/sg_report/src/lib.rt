@@ -32,6 +32,3 @@ pub use studies::{bonds_text, clusters_text, wall_text};
 
 /// The allocator had no memory left.
 pub type NoMemory = AllocError;
-
-#[cfg(test)]
-mod tests;

@@ -5,7 +5,7 @@ use super::runs::{answer, calls, expect_row, no_laws, words};
 use sg_cli::{Status, run};
 use sg_io::{CallList, MemSink, MemSource};
 use sg_model::{Fault, Instance};
-use sg_reader::read_instance;
+use sg_reader::{Rows, read_instance};
 use std::alloc::{AllocError, Global};
 use std::test::Fail;
 
@@ -288,7 +288,7 @@ fn reads_as(alloc: Global, input: &[u8]) -> Result<Option<String>, AllocError> {
     if input.len() >= 1 << 20 {
         return Ok(None);
     }
-    match read_instance(alloc, input) {
+    match read_instance(alloc, &mut Rows::new(alloc, input)) {
         Ok((inst, _)) => Ok(Some(written(alloc, &inst)?)),
         Err(Fault::Refused(_)) => Ok(None),
         Err(Fault::NoMemory) => Err(AllocError),

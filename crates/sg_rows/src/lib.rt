@@ -33,4 +33,6 @@ mod runs;
 #[cfg(test)]
 mod studies;
 #[cfg(test)]
+mod texts;
+#[cfg(test)]
 mod written_out;

@@ -1,6 +1,6 @@
 // Instances from texts.
 use sg_model::{Fault, Instance};
-use sg_reader::read_instance;
+use sg_reader::{Rows, read_instance};
 use std::alloc::Global;
 
 // The instance that a short text gives.
@@ -9,6 +9,6 @@ pub fn instance(alloc: Global, text: &str) -> Result<Instance, Fault> {
     if bytes.len() > 1000 {
         return Err(Fault::NoMemory);
     }
-    let (instance, _) = read_instance(alloc, bytes)?;
+    let (instance, _) = read_instance(alloc, &mut Rows::new(alloc, bytes))?;
     Ok(instance)
 }

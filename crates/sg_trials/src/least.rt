@@ -8,7 +8,7 @@ use rand_pcg::Pcg32;
 use sg_ground::{judged_proposal, match_faces, solve};
 use sg_model::{Instance, least_plain};
 use sg_planar::{Part, Planar, parts};
-use sg_reader::read_instance;
+use sg_reader::{Rows, read_instance};
 use std::alloc::{AllocError, Global};
 use std::process::Abort;
 use std::test::Fail;
@@ -16,7 +16,7 @@ use std::test::Fail;
 // The instance of a text.
 fn instance(rt: &impl Abort, alloc: Global, text: &str) -> Result<Instance, Fail> {
     assert!(rt; text.len() < 100_000);
-    let (inst, _) = read_instance(alloc, text.as_bytes())?;
+    let (inst, _) = read_instance(alloc, &mut Rows::new(alloc, text.as_bytes()))?;
     Ok(inst)
 }
 

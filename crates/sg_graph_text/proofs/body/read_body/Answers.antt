@@ -14,7 +14,7 @@ returns-in_err-bare_end-clause-fault c =
     let p = err_from_is_err_and c.from_residual-in_err-bare_end.result c.from_residual-in_err-bare_end.ensures.1 in
     let sf = c.loop-body.invariant in
     let r = c.next.new.row in
-    let next = rw c.if-branch.true at c.in_ok-next.ensures in
+    let next = rw c.if-branch.true at c.in_ok-next.ensures.found in
     let end : is_end r ≡ true = sym c.begins.ensures ∙ c.if-begins.true in
     let bad : body_fault c.args.terms c.args.n sf.body r ≡ Some c.in_err-bare_end.field-0.0 =
     body_fault-end c.args.terms c.args.n sf.body r end ∙ end-bare c.args.n (entries_in sf.body) r _ c.in_err-bare_end.ensures.refused in
@@ -26,7 +26,7 @@ returns-in_err-graph-clause-fault c =
     let p = err_from_is_err_and c.from_residual-in_err-graph.result c.from_residual-in_err-graph.ensures.1 in
     let sf = c.loop-body.invariant in
     let r = c.next.new.row in
-    let next = rw c.if-branch.true at c.in_ok-next.ensures in
+    let next = rw c.if-branch.true at c.in_ok-next.ensures.found in
     let end : is_end r ≡ true = sym c.begins.ensures ∙ c.if-begins.true in
     let held = subst (λ (k : ℕ). IsTestFault (terminals_fault k (entries_in sf.body)) c.in_err-graph.field-0.0) sf.nodes
     (c.in_err-graph.ensures.fault sf.body sf.holds) in
@@ -39,7 +39,7 @@ pub returns-then-begins-clause-read : goal.returns-then-begins-clause-read
 returns-then-begins-clause-read c =
     let sf = c.loop-body.invariant in
     let r = c.next.new.row in
-    let next = rw c.if-branch.true at c.in_ok-next.ensures in
+    let next = rw c.if-branch.true at c.in_ok-next.ensures.found in
     let end : is_end r ≡ true = sym c.begins.ensures ∙ c.if-begins.true in
     let good : terminals_fault c.args.n (entries_in sf.body) ≡ None =
     ap (λ (k : ℕ). terminals_fault k (entries_in sf.body)) (sym sf.nodes) ∙ c.in_ok-graph.ensures.passes sf.body sf.holds in
@@ -55,7 +55,7 @@ returns-then-begins-clause-read c =
 pub loop-body-preserved : goal.loop-body-preserved
 loop-body-preserved c =
     let sf = c.loop-body.invariant in
-    let next = rw c.if-branch.true at c.in_ok-next.ensures in
+    let next = rw c.if-branch.true at c.in_ok-next.ensures.found in
     let other : is_end c.next.new.row ≡ false = sym c.begins.ensures ∙ c.if-begins.false in
     one-more c.args.terms c.args.n c.args.records.now c.loop-body.records c.next.new.self c.next.new.row c.loop-body.body c.take.new.self sf next other
     (c.in_ok-take.ensures.passes sf.body sf.holds) (c.in_ok-take.ensures.holds sf.body sf.holds) c.in_ok-take.ensures.same.0 c.in_ok-take.ensures.same.1
@@ -64,7 +64,7 @@ pub returns-in_err-take-clause-fault : goal.returns-in_err-take-clause-fault
 returns-in_err-take-clause-fault c =
     let p = err_from_is_err_and c.from_residual-in_err-take.result c.from_residual-in_err-take.ensures.1 in
     let sf = c.loop-body.invariant in
-    let next = rw c.if-branch.true at c.in_ok-next.ensures in
+    let next = rw c.if-branch.true at c.in_ok-next.ensures.found in
     let held = c.in_err-take.ensures.fault sf.body sf.holds in
     let fault = subst (λ (k : ℕ). IsTestFault (body_fault c.args.terms k sf.body c.next.new.row) c.in_err-take.field-0.0) sf.nodes
     (subst (λ (b : Bool). IsTestFault (body_fault b c.loop-body.body.nodes sf.body c.next.new.row) c.in_err-take.field-0.0) sf.allowed held) in

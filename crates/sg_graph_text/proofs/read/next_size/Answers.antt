@@ -5,5 +5,5 @@ use Rattle.sg_graph_text.proofs.read.next_size.Goals as goal
 pub returns-in_err-nodes-clause-fault : goal.returns-in_err-nodes-clause-fault
 returns-in_err-nodes-clause-fault c =
     let p = err_from_is_err_and c.from_residual-in_err-nodes.result c.from_residual-in_err-nodes.ensures.1 in
-    let first = rw c.if-not-branch.false at c.in_ok-next.ensures in
+    let first = rw c.if-not-branch.false at c.in_ok-next.ensures.found in
     rw (p.1, p.2) (size-fault c.args.terms c.args.rows.now c.next.new.self c.next.new.row c.in_err-nodes.field-0.0 first c.in_err-nodes.ensures.refused)

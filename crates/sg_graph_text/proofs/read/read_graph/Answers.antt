@@ -1,22 +1,28 @@
-use Rattle.std.proofs.Common.{ℕ, sym, ◌∙◌, subst}
+use Rattle.std.proofs.Common.{ℕ, subst}
 use Rattle.std.proofs.lemmas.Result.{IfErr-weaker, IfOk-weaker}
 use Rattle.sg_reader.specs.Ended.{IsRecordsFault, StatesToEnd}
-use Rattle.sg_reader.specs.Kept.{kept_of}
+use Rattle.sg_reader.proofs.LeftLaws.{leaves-behind}
 use Rattle.sg_graph_text.specs.Graph.{body_fault, body_graph}
 use Rattle.sg_graph_text.proofs.ReadLaws.{behind-fault, behind-graph}
 use Rattle.sg_graph_text.proofs.read.read_graph.Goals as goal
 
 pub returns-clause-read : goal.returns-clause-read
 returns-clause-read c =
-    let split = sym c.new-rows.ensures.value ∙ c.in_ok-nodes.ensures.split in
+    let split = c.in_ok-nodes.ensures.split in
     IfOk-weaker c.read_body.result _ _
-    (λ r st. behind-graph c.args.terms (kept_of c.args.bytes.now) c.next_size.new.rows c.next_size.new.row r.0 r.1 split c.in_ok-nodes.ensures.passes
+    (λ r st. behind-graph c.args.terms c.args.rows.now c.next_size.new.rows c.next_size.new.row r.0 r.1 split c.in_ok-nodes.ensures.passes
     (subst (λ (n : ℕ). StatesToEnd (body_fault c.args.terms n) (body_graph n) c.next_size.new.rows r.0 r.1) c.in_ok-nodes.ensures.value st))
     c.read_body.ensures.read
 
 pub returns-clause-fault : goal.returns-clause-fault
 returns-clause-fault c =
-    let split = sym c.new-rows.ensures.value ∙ c.in_ok-nodes.ensures.split in
+    let split = c.in_ok-nodes.ensures.split in
     IfErr-weaker c.read_body.result _ _
-    (λ e bad. behind-fault c.args.terms (kept_of c.args.bytes.now) c.next_size.new.rows c.next_size.new.row e split c.in_ok-nodes.ensures.passes
+    (λ e bad. behind-fault c.args.terms c.args.rows.now c.next_size.new.rows c.next_size.new.row e split c.in_ok-nodes.ensures.passes
     (subst (λ (n : ℕ). IsRecordsFault (body_fault c.args.terms n) c.next_size.new.rows e) c.in_ok-nodes.ensures.value bad)) c.read_body.ensures.fault
+
+pub returns-clause-left : goal.returns-clause-left
+returns-clause-left c =
+    IfOk-weaker c.read_body.result _ _
+    (λ r left. leaves-behind c.args.rows.now c.next_size.new.rows c.read_body.new.records c.next_size.new.row r.1 c.in_ok-nodes.ensures.split left)
+    c.read_body.ensures.left

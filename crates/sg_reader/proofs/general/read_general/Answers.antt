@@ -18,7 +18,7 @@ returns-in_err-bare_end-clause-fault c =
     let p = err_from_is_err_and c.from_residual-in_err-bare_end.result c.from_residual-in_err-bare_end.ensures.1 in
     let sf = c.loop-body.invariant in
     let r = c.next.new.row in
-    let next = rw c.if-branch.true at c.in_ok-next.ensures in
+    let next = rw c.if-branch.true at c.in_ok-next.ensures.found in
     let end : is_end r ≡ true = sym c.begins.ensures ∙ c.if-begins.true in
     let bad : record_fault (header.General c.args.n) sf.body r ≡ Some c.in_err-bare_end.field-0.0 = general_fault-end c.args.n sf.body r end
     ∙ c.in_err-bare_end.ensures.refused in
@@ -30,7 +30,7 @@ returns-in_err-inst-clause-fault c =
     let p = err_from_is_err_and c.from_residual-in_err-inst.result c.from_residual-in_err-inst.ensures.1 in
     let sf = c.loop-body.invariant in
     let r = c.next.new.row in
-    let next = rw c.if-branch.true at c.in_ok-next.ensures in
+    let next = rw c.if-branch.true at c.in_ok-next.ensures.found in
     let end : is_end r ≡ true = sym c.begins.ensures ∙ c.if-begins.true in
     let is_ended = ended-general c.args.n c.args.records.now c.loop-body.records c.next.new.self r c.loop-body.body sf next end
     c.in_ok-bare_end.ensures.passes in
@@ -42,7 +42,7 @@ pub returns-then-begins-clause-read : goal.returns-then-begins-clause-read
 returns-then-begins-clause-read c =
     let sf = c.loop-body.invariant in
     let r = c.next.new.row in
-    let next = rw c.if-branch.true at c.in_ok-next.ensures in
+    let next = rw c.if-branch.true at c.in_ok-next.ensures.found in
     let end : is_end r ≡ true = sym c.begins.ensures ∙ c.if-begins.true in
     record {
       body = sf.body;
@@ -67,7 +67,7 @@ take-requires-clause-marks c =
 pub loop-body-preserved : goal.loop-body-preserved
 loop-body-preserved c =
     let sf = c.loop-body.invariant in
-    let next = rw c.if-branch.true at c.in_ok-next.ensures in
+    let next = rw c.if-branch.true at c.in_ok-next.ensures.found in
     let other : is_end c.next.new.row ≡ false = sym c.begins.ensures ∙ c.if-begins.false in
     one-more c.args.n c.args.records.now c.loop-body.records c.next.new.self c.next.new.row c.loop-body.body c.take.new.self sf next other
     (c.in_ok-take.ensures.passes sf.body sf.holds) (c.in_ok-take.ensures.holds sf.body sf.holds) c.in_ok-take.ensures.same
@@ -76,7 +76,7 @@ pub returns-in_err-take-clause-fault : goal.returns-in_err-take-clause-fault
 returns-in_err-take-clause-fault c =
     let p = err_from_is_err_and c.from_residual-in_err-take.result c.from_residual-in_err-take.ensures.1 in
     let sf = c.loop-body.invariant in
-    let next = rw c.if-branch.true at c.in_ok-next.ensures in
+    let next = rw c.if-branch.true at c.in_ok-next.ensures.found in
     let fault = subst (λ (k : ℕ). IsTestFault (general_fault k sf.body c.next.new.row) c.in_err-take.field-0.0) sf.spins
     (c.in_err-take.ensures.fault sf.body sf.holds) in
     rw (p.1, p.2) (record-fault (header.General c.args.n) c.args.records.now sf.body c.next.new.self c.next.new.row c.in_err-take.field-0.0

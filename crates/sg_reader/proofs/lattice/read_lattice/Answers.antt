@@ -18,7 +18,7 @@ returns-in_err-end_lattice-clause-fault c =
     let p = err_from_is_err_and c.from_residual-in_err-end_lattice.result c.from_residual-in_err-end_lattice.ensures.1 in
     let sf = c.loop-body.invariant in
     let r = c.next.new.row in
-    let next = rw c.if-branch.true at c.in_ok-next.ensures in
+    let next = rw c.if-branch.true at c.in_ok-next.ensures.found in
     let end : is_end r ≡ true = sym c.begins.ensures ∙ c.if-begins.true in
     let wanted = bond_total c.args.kind c.args.rows c.args.cols in
     let bad : record_fault (header.Lattice c.args.kind c.args.rows c.args.cols) sf.body r ≡ Some c.in_err-end_lattice.field-0.0 =
@@ -39,7 +39,7 @@ returns-in_err-inst-clause-fault c =
     let p = err_from_is_err_and c.from_residual-in_err-inst.result c.from_residual-in_err-inst.ensures.1 in
     let sf = c.loop-body.invariant in
     let r = c.next.new.row in
-    let next = rw c.if-branch.true at c.in_ok-next.ensures in
+    let next = rw c.if-branch.true at c.in_ok-next.ensures.found in
     let end : is_end r ≡ true = sym c.begins.ensures ∙ c.if-begins.true in
     let wanted = bond_total c.args.kind c.args.rows c.args.cols in
     let pass : lattice_end_fault wanted (length c.loop-body.body.couplings) r ≡ None =
@@ -56,7 +56,7 @@ pub returns-then-begins-clause-read : goal.returns-then-begins-clause-read
 returns-then-begins-clause-read c =
     let sf = c.loop-body.invariant in
     let r = c.next.new.row in
-    let next = rw c.if-branch.true at c.in_ok-next.ensures in
+    let next = rw c.if-branch.true at c.in_ok-next.ensures.found in
     let end : is_end r ≡ true = sym c.begins.ensures ∙ c.if-begins.true in
     let wanted = bond_total c.args.kind c.args.rows c.args.cols in
     let pass : lattice_end_fault wanted (length c.loop-body.body.couplings) r ≡ None =
@@ -76,7 +76,7 @@ pub returns-in_err-take-clause-fault : goal.returns-in_err-take-clause-fault
 returns-in_err-take-clause-fault c =
     let p = err_from_is_err_and c.from_residual-in_err-take.result c.from_residual-in_err-take.ensures.1 in
     let sf = c.loop-body.invariant in
-    let next = rw c.if-branch.true at c.in_ok-next.ensures in
+    let next = rw c.if-branch.true at c.in_ok-next.ensures.found in
     let fault = c.in_err-take.ensures.fault sf.body (bond_total c.args.kind c.args.rows c.args.cols) sf.holds in
     rw (p.1, p.2)
     (record-fault (header.Lattice c.args.kind c.args.rows c.args.cols) c.args.records.now sf.body c.next.new.self c.next.new.row c.in_err-take.field-0.0

@@ -1,34 +1,33 @@
-use Rattle.std.proofs.Common.{Some, sym, ◌∙◌, ap, arith, subst}
+use Rattle.std.proofs.Common.{Some, ◌∙◌, ap, arith, subst}
 use Rattle.std.proofs.lemmas.Result.{IfErr-weaker, IfOk-weaker, err_from_is_err_and}
 use Rattle.sg_reader.specs.declared.header.Header.TheVariants as header
 use Rattle.sg_reader.specs.Header.{IsHeader}
-use Rattle.sg_reader.specs.Kept.{kept_of}
+use Rattle.sg_reader.proofs.LeftLaws.{leaves-behind}
 use Rattle.sg_reader.proofs.ReadLaws.{behind-fault, first-fault}
 use Rattle.sg_reader.proofs.read.read_instance.Goals as goal
 
 pub returns-in_err-kind-clause-fault : goal.returns-in_err-kind-clause-fault
 returns-in_err-kind-clause-fault c =
     let p = err_from_is_err_and c.from_residual-in_err-kind.result c.from_residual-in_err-kind.ensures.1 in
-    let next = rw c.if-not-branch.false at c.in_ok-next.ensures in
-    rw (p.1, p.2) (first-fault (kept_of c.args.bytes.now) c.next.new.row c.next.new.self c.in_err-kind.field-0.0 (sym c.new-rows.ensures.value
-    ∙ next) c.in_err-kind.ensures.refused)
+    let next = rw c.if-not-branch.false at c.in_ok-next.ensures.found in
+    rw (p.1, p.2) (first-fault c.args.rows.now c.next.new.row c.next.new.self c.in_err-kind.field-0.0 next c.in_err-kind.ensures.refused)
 
 pub returns-in-Lattice-clause-fault : goal.returns-in-Lattice-clause-fault
 returns-in-Lattice-clause-fault c =
-    let next = rw c.if-not-branch.false at c.in_ok-next.ensures in
+    let next = rw c.if-not-branch.false at c.in_ok-next.ensures.found in
     let says = c.in_ok-kind.ensures.value ∙ ap Some c.in-Lattice.is in
     IfErr-weaker c.read_lattice.result _ _
-    (λ e fault. behind-fault (kept_of c.args.bytes.now) c.next.new.row c.next.new.self (header.Lattice c.in-Lattice.kind c.in-Lattice.high c.in-Lattice.wide) e
-    (sym c.new-rows.ensures.value ∙ next) c.in_ok-kind.ensures.passes says fault)
+    (λ e fault. behind-fault c.args.rows.now c.next.new.row c.next.new.self (header.Lattice c.in-Lattice.kind c.in-Lattice.high c.in-Lattice.wide) e
+    next c.in_ok-kind.ensures.passes says fault)
     c.read_lattice.ensures.fault
 
 pub returns-clause-fault : goal.returns-clause-fault
 returns-clause-fault c =
-    let next = rw c.if-not-branch.false at c.in_ok-next.ensures in
+    let next = rw c.if-not-branch.false at c.in_ok-next.ensures.found in
     let says = c.in_ok-kind.ensures.value ∙ ap Some c.in-General.is in
     IfErr-weaker c.read_general.result _ _
-    (λ e fault. behind-fault (kept_of c.args.bytes.now) c.next.new.row c.next.new.self (header.General c.in-General.n) e
-    (sym c.new-rows.ensures.value ∙ next) c.in_ok-kind.ensures.passes says fault)
+    (λ e fault. behind-fault c.args.rows.now c.next.new.row c.next.new.self (header.General c.in-General.n) e
+    next c.in_ok-kind.ensures.passes says fault)
     c.read_general.ensures.fault
 
 pub returns-in-Lattice-clause-few_spins : goal.returns-in-Lattice-clause-few_spins
@@ -48,3 +47,15 @@ returns-clause-few_spins c =
     let sound : IsHeader (header.General c.in-General.n) = subst IsHeader c.in-General.is c.in_ok-kind.ensures.sound in
     let few = sound.1 in
     IfOk-weaker c.read_general.result _ _ (λ r spins. omega (arith, spins, few)) c.read_general.ensures.spins
+
+pub returns-in-Lattice-clause-left : goal.returns-in-Lattice-clause-left
+returns-in-Lattice-clause-left c =
+    let next = rw c.if-not-branch.false at c.in_ok-next.ensures.found in
+    IfOk-weaker c.read_lattice.result _ _
+    (λ r left. leaves-behind c.args.rows.now c.next.new.self c.read_lattice.new.records c.next.new.row r.1 next left) c.read_lattice.ensures.left
+
+pub returns-clause-left : goal.returns-clause-left
+returns-clause-left c =
+    let next = rw c.if-not-branch.false at c.in_ok-next.ensures.found in
+    IfOk-weaker c.read_general.result _ _
+    (λ r left. leaves-behind c.args.rows.now c.next.new.self c.read_general.new.records c.next.new.row r.1 next left) c.read_general.ensures.left

@@ -5,5 +5,5 @@ use Rattle.sg_reader.proofs.result.next_energy.Goals as goal
 pub returns-in_err-energy-clause-fault : goal.returns-in_err-energy-clause-fault
 returns-in_err-energy-clause-fault c =
     let p = err_from_is_err_and c.from_residual-in_err-energy.result c.from_residual-in_err-energy.ensures.1 in
-    let first = rw c.if-not-branch.false at c.in_ok-next.ensures in
+    let first = rw c.if-not-branch.false at c.in_ok-next.ensures.found in
     rw (p.1, p.2) (energy-fault c.args.rows.now c.next.new.self c.next.new.row c.in_err-energy.field-0.0 first c.in_err-energy.ensures.refused)

@@ -4,11 +4,11 @@ use Rattle.sg_reader.proofs.result.next_spins.Goals as goal
 
 pub returns-then-not-branch-clause-fault : goal.returns-then-not-branch-clause-fault
 returns-then-not-branch-clause-fault c =
-    let none = rw c.if-not-branch.true at c.in_ok-next.ensures in
+    let none = rw c.if-not-branch.true at c.in_ok-next.ensures.found in
     λ q good. without-spins c.args.rows.now q none.0 good
 
 pub returns-clause-fault : goal.returns-clause-fault
 returns-clause-fault c =
-    let next = rw c.if-not-branch.false at c.in_ok-next.ensures in
+    let next = rw c.if-not-branch.false at c.in_ok-next.ensures.found in
     IfErr-weaker c.read_spins.result _ _
     (λ e bad q good. spins-fault c.args.rows.now c.next.new.self q c.next.new.row e next good bad) c.read_spins.ensures.fault

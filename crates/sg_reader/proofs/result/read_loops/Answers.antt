@@ -9,7 +9,7 @@ pub returns-in_err-bare_end-clause-fault : goal.returns-in_err-bare_end-clause-f
 returns-in_err-bare_end-clause-fault c =
     let p = err_from_is_err_and c.from_residual-in_err-bare_end.result c.from_residual-in_err-bare_end.ensures.1 in
     let r = c.next.new.row in
-    let next = rw c.if-branch.true at c.in_ok-next.ensures in
+    let next = rw c.if-branch.true at c.in_ok-next.ensures.found in
     let end : is_end r ≡ true = sym c.begins.ensures ∙ c.if-begins.true in
     rw (p.1, p.2) (end-fault c.args.rows.now c.loop-loops.rows c.next.new.self r c.loop-loops.loops
     c.in_err-bare_end.field-0.0 c.loop-loops.invariant next end c.in_err-bare_end.ensures.refused)
@@ -17,7 +17,7 @@ returns-in_err-bare_end-clause-fault c =
 pub returns-then-begins-clause-read : goal.returns-then-begins-clause-read
 returns-then-begins-clause-read c =
     let last = c.next.new.row in
-    let next = rw c.if-branch.true at c.in_ok-next.ensures in
+    let next = rw c.if-branch.true at c.in_ok-next.ensures.found in
     let end : is_end last ≡ true = sym c.begins.ensures ∙ c.if-begins.true in
     ended-loops c.args.rows.now c.loop-loops.rows c.next.new.self last c.loop-loops.loops _
     c.loop-loops.invariant next end c.in_ok-bare_end.ensures.passes (ap (λ (n : ℕ). n + 1) c.at.ensures.value)
@@ -26,7 +26,7 @@ pub returns-in_err-entry-clause-fault : goal.returns-in_err-entry-clause-fault
 returns-in_err-entry-clause-fault c =
     let p = err_from_is_err_and c.from_residual-in_err-entry.result c.from_residual-in_err-entry.ensures.1 in
     let r = c.next.new.row in
-    let next = rw c.if-branch.true at c.in_ok-next.ensures in
+    let next = rw c.if-branch.true at c.in_ok-next.ensures.found in
     let other : is_end r ≡ false = sym c.begins.ensures ∙ c.if-begins.false in
     let fault = c.in_err-entry.ensures.fault in
     rw (p.1, p.2) (loop-fault c.args.rows.now c.loop-loops.rows c.next.new.self r c.loop-loops.loops
@@ -35,7 +35,7 @@ returns-in_err-entry-clause-fault c =
 pub loop-loops-preserved : goal.loop-loops-preserved
 loop-loops-preserved c =
     let r = c.next.new.row in
-    let next = rw c.if-branch.true at c.in_ok-next.ensures in
+    let next = rw c.if-branch.true at c.in_ok-next.ensures.found in
     let other : is_end r ≡ false = sym c.begins.ensures ∙ c.if-begins.false in
     one-more c.args.rows.now c.loop-loops.rows c.next.new.self r c.loop-loops.loops c.push.new.self
     c.loop-loops.invariant next other c.in_ok-entry.ensures.passes

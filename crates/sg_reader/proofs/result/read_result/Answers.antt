@@ -1,17 +1,17 @@
-use Rattle.std.proofs.Common.{◌∙◌, ◌∷◌, List, sym, ap, rules, FitsSigned, w64}
+use Rattle.std.proofs.Common.{◌∙◌, ◌∷◌, List, ap, rules, FitsSigned, w64}
 use Rattle.std.proofs.lemmas.Int.{to_z-of_z}
 use Rattle.std.proofs.lemmas.Result.{err_from_is_err_and}
-use Rattle.sg_reader.specs.Kept.{Kept, kept_of}
-use Rattle.sg_reader.specs.ReadResult.{behind}
+use Rattle.sg_reader.specs.Kept.{Kept}
+use Rattle.sg_reader.proofs.LeftLaws.{leaves-behind}
 use Rattle.sg_reader.proofs.ResultLaws.{IsFront, loops-fault, stated}
 use Rattle.sg_reader.proofs.result.read_result.Goals as goal
 
 pub returns-in_err-loops-clause-fault : goal.returns-in_err-loops-clause-fault
 returns-in_err-loops-clause-fault c =
     let p = err_from_is_err_and c.from_residual-in_err-loops.result c.from_residual-in_err-loops.ensures.1 in
-    let all = behind c.args.after (kept_of c.args.bytes.now) in
+    let all = c.args.rows.now in
     let front : IsFront all c.next_spins.new.rows c.next_energy.new.row c.next_spins.new.row = record {
-      split = sym c.in_ok-rows.ensures.value ∙ c.in_ok-energy.ensures.split ∙ ap (λ (l : List Kept). c.next_energy.new.row ∷ l) c.in_ok-spins.ensures.split;
+      split = c.in_ok-energy.ensures.split ∙ ap (λ (l : List Kept). c.next_energy.new.row ∷ l) c.in_ok-spins.ensures.split;
       energy = c.in_ok-energy.ensures.passes;
       spins = c.in_ok-spins.ensures.passes;
     } in
@@ -20,12 +20,18 @@ returns-in_err-loops-clause-fault c =
 
 pub returns-clause-read : goal.returns-clause-read
 returns-clause-read c =
-    let all = behind c.args.after (kept_of c.args.bytes.now) in
+    let all = c.args.rows.now in
     let front : IsFront all c.next_spins.new.rows c.next_energy.new.row c.next_spins.new.row = record {
-      split = sym c.in_ok-rows.ensures.value ∙ c.in_ok-energy.ensures.split ∙ ap (λ (l : List Kept). c.next_energy.new.row ∷ l) c.in_ok-spins.ensures.split;
+      split = c.in_ok-energy.ensures.split ∙ ap (λ (l : List Kept). c.next_energy.new.row ∷ l) c.in_ok-spins.ensures.split;
       energy = c.in_ok-energy.ensures.passes;
       spins = c.in_ok-spins.ensures.passes;
     } in
     let fits : FitsSigned w64 c.in_ok-energy.energy = search rules in
     stated all c.next_spins.new.rows c.next_energy.new.row c.next_spins.new.row _ c.in_ok-spins.spins c.in_ok-loops.loops c.in_ok-loops.next
     front (to_z-of_z w64 c.in_ok-energy.energy fits ∙ c.in_ok-energy.ensures.value) c.in_ok-spins.ensures.value c.in_ok-loops.ensures.read
+
+pub returns-clause-left : goal.returns-clause-left
+returns-clause-left c =
+    let behind = leaves-behind c.next_energy.new.rows c.next_spins.new.rows c.read_loops.new.rows c.next_spins.new.row c.in_ok-loops.next
+    c.in_ok-spins.ensures.split c.in_ok-loops.ensures.left in
+    leaves-behind c.args.rows.now c.next_energy.new.rows c.read_loops.new.rows c.next_energy.new.row c.in_ok-loops.next c.in_ok-energy.ensures.split behind

@@ -1,11 +1,12 @@
-use super::{
+// The texts of answers, made from values written out.
+use sg_check::{Loop, Loops, Verdict};
+use sg_lattice::Kind;
+use sg_model::{BondList, Couplings, Refusal, Spins};
+use sg_report::{
     bonds_text, clusters_text, energy_text, ensemble_text, ground_text, instance_text, maxcut_text,
     postman_text, ranges_text, refusal_text, report_text, sample_text, tjoin_text, verdict_text,
     wall_text, widths_text,
 };
-use sg_check::{Loop, Loops, Verdict};
-use sg_lattice::Kind;
-use sg_model::{BondList, Couplings, Refusal, Spins};
 use std::test::Fail;
 
 #[test]

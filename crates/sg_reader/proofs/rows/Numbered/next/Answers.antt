@@ -1,0 +1,17 @@
+use Rattle.std.proofs.Common.{List, ap, arith}
+use Rattle.std.specs.Prelude.{filter}
+use Rattle.sg_reader.specs.Kept.{Kept, is_kept}
+use Rattle.sg_reader.proofs.RecordCounts.{field_total, field_total-numbered}
+use Rattle.sg_reader.proofs.rows.Numbered.next.Goals as goal
+
+pub returns-in_err-fill-clause-few : goal.returns-in_err-fill-clause-few
+returns-in_err-fill-clause-few c =
+    let kept = field_total-numbered c.self.inside.taken c.self.inside.cursor in
+    let all = ap (λ (l : List Kept). field_total (filter is_kept l)) c.self.view_is in
+    omega (arith, all, kept, c.self.invariant.1)
+
+pub returns-clause-few : goal.returns-clause-few
+returns-clause-few c =
+    let kept = field_total-numbered c.self.inside.taken c.self.inside.cursor in
+    let all = ap (λ (l : List Kept). field_total (filter is_kept l)) c.self.view_is in
+    omega (arith, all, kept, c.self.invariant.1)
