@@ -1,6 +1,6 @@
 use Rattle.std.proofs.Common.{◌≡◌, ℕ, ◌+◌, ◌<◌, cond, take, length, get_or}
 use Rattle.sg_sums.specs.Sets.{holds}
-use Rattle.sg_check.proofs.loads.add_weight.Given as goal
+use Rattle.sg_sums.proofs.loads.add_weight.Given as goal
 
 abbrev pub invariant-loop-k : goal.invariant-loop-k
 invariant-loop-k l =

@@ -1,7 +1,7 @@
 use Rattle.std.proofs.Common.{◌+◌, ap, ◌∙◌, set, get_or, arith}
 use Rattle.std.proofs.lemmas.List.{length-set}
-use Rattle.sg_check.proofs.LoopLoads.{added_more}
-use Rattle.sg_check.proofs.loads.add_weight.Goals as goal
+use Rattle.sg_sums.proofs.AddedLoads.{added_more}
+use Rattle.sg_sums.proofs.loads.add_weight.Goals as goal
 
 pub loop-k-preserved : goal.loop-k-preserved
 loop-k-preserved c = λ k l.
