@@ -1,4 +1,4 @@
-// The clock: when an outer region gets to the end of an arc, and when an inner one leaves a face.
+// The clock: when an outer region gets to the end of an arc, and when an inner one leaves a node.
 //
 // The one rule: where an outer region nears something over an arc, an event waits at this arc or at
 // its way back, for no later than it comes.
@@ -7,8 +7,8 @@ use super::adjacency::{Arc, reverse};
 use super::forest::{Event, Forest, NEVER, Reach, Role, Subject, before, radius_at};
 use super::lists::{entry, number, set_entry};
 
-// A run has at most so many events, and so many more for each face and each arc. Past them there is
-// no proposal; a run needs about five for each face and each arc.
+// A run has at most so many events, and so many more for each node and each arc. Past them there is
+// no proposal; on planar webs a run needs about five for each node and each arc.
 const FEWEST_EVENTS: u64 = 4096;
 
 const EVENTS_A_PLACE: u64 = 64;
@@ -37,9 +37,9 @@ impl<'a> Forest<'a> {
         }
     }
 
-    // The reach of the region over a face, if it is outer.
-    fn outer_reach(&self, face: u32) -> Option<Reach> {
-        let here = self.reach(&self.cover(face)?);
+    // The reach of the region over a node, if it is outer.
+    fn outer_reach(&self, node: u32) -> Option<Reach> {
+        let here = self.reach(&self.cover(node)?);
         if self.role(here.top) == Role::Outer {
             Some(here)
         } else {
@@ -62,12 +62,12 @@ impl<'a> Forest<'a> {
         Ok(())
     }
 
-    // Enters the events of the arcs that leave a face, if an outer region covers it.
-    pub fn schedule(&mut self, face: u32) -> Result<(), NoMemory> {
-        let faces = self.faces;
-        if let Some(here) = self.outer_reach(face) {
-            for dart in faces.darts_of(face) {
-                self.expect(here, &faces.arc(*dart))?;
+    // Enters the events of the arcs that leave a node, if an outer region covers it.
+    pub fn schedule(&mut self, node: u32) -> Result<(), NoMemory> {
+        let arcs = self.arcs;
+        if let Some(here) = self.outer_reach(node) {
+            for dart in arcs.darts_of(node) {
+                self.expect(here, &arcs.arc(*dart))?;
             }
         }
         Ok(())
@@ -81,16 +81,16 @@ impl<'a> Forest<'a> {
         }
     }
 
-    // Enters the events of the arcs that lead to a face.
-    fn schedule_around(&mut self, face: u32) -> Result<(), NoMemory> {
-        let faces = self.faces;
-        for dart in faces.darts_of(face) {
-            self.expect_back(&faces.arc(*dart))?;
+    // Enters the events of the arcs that lead to a node.
+    fn schedule_around(&mut self, node: u32) -> Result<(), NoMemory> {
+        let arcs = self.arcs;
+        for dart in arcs.darts_of(node) {
+            self.expect_back(&arcs.arc(*dart))?;
         }
         Ok(())
     }
 
-    // Enters the events of the arcs that leave the faces of a region.
+    // Enters the events of the arcs that leave the nodes of a region.
     pub fn schedule_region(&mut self, name: u32) -> Result<(), NoMemory> {
         if self.is_single(name) {
             return self.schedule_layer(name);
@@ -101,20 +101,20 @@ impl<'a> Forest<'a> {
         Ok(())
     }
 
-    // The same for the faces that the region took itself.
+    // The same for the nodes that the region took itself.
     fn schedule_layer(&mut self, name: u32) -> Result<(), NoMemory> {
         let mut last = self.region(name).last;
         for _ in 0..self.covers.len() {
-            let Some(face) = last else {
+            let Some(node) = last else {
                 break;
             };
-            self.schedule(face)?;
-            last = before(self.cover(face));
+            self.schedule(node)?;
+            last = before(self.cover(node));
         }
         Ok(())
     }
 
-    // Enters the events of the arcs that lead to the faces of a region.
+    // Enters the events of the arcs that lead to the nodes of a region.
     pub fn schedule_around_region(&mut self, name: u32) -> Result<(), NoMemory> {
         if self.is_single(name) {
             return self.schedule_around_layer(name);
@@ -125,15 +125,15 @@ impl<'a> Forest<'a> {
         Ok(())
     }
 
-    // The same for the faces that the region took itself.
+    // The same for the nodes that the region took itself.
     fn schedule_around_layer(&mut self, name: u32) -> Result<(), NoMemory> {
         let mut last = self.region(name).last;
         for _ in 0..self.covers.len() {
-            let Some(face) = last else {
+            let Some(node) = last else {
                 break;
             };
-            self.schedule_around(face)?;
-            last = before(self.cover(face));
+            self.schedule_around(node)?;
+            last = before(self.cover(node));
         }
         Ok(())
     }
@@ -153,7 +153,7 @@ impl<'a> Forest<'a> {
         Ok(())
     }
 
-    // The radius at which a region leaves the face that it took last, or has none.
+    // The radius at which a region leaves the node that it took last, or has none.
     fn floor(&self, name: u32) -> i64 {
         match self.region(name).last {
             Some(last) => radius_at(self.cover(last)),
@@ -167,7 +167,7 @@ impl<'a> Forest<'a> {
         self.push(self.now.wrapping_add(left), Subject::Region(name))
     }
 
-    // The event of an arc: the region at its start takes the face at its end, or meets a region. If
+    // The event of an arc: the region at its start takes the node at its end, or meets a region. If
     // no outer region is there any more, the one at the other end takes over.
     fn arc_event(&mut self, arc: &Arc) -> Result<(), NoMemory> {
         let Some(cover) = self.cover(arc.from) else {
@@ -189,7 +189,7 @@ impl<'a> Forest<'a> {
         }
     }
 
-    // The event of an inner region: it leaves the face that it took last, or has come to nothing.
+    // The event of an inner region: it leaves the node that it took last, or has come to nothing.
     fn region_event(&mut self, name: u32) -> Result<(), NoMemory> {
         let region = self.region(name);
         if region.parent.is_some() || region.role != Role::Inner {
@@ -210,7 +210,7 @@ impl<'a> Forest<'a> {
         }
     }
 
-    // An inner region leaves the face that it took last.
+    // An inner region leaves the node that it took last.
     fn leave(&mut self, name: u32, last: u32) -> Result<(), NoMemory> {
         let mut region = self.region(name);
         region.last = before(self.cover(last));
@@ -233,16 +233,16 @@ impl<'a> Forest<'a> {
                 }
                 self.now = event.time;
                 set_entry(&mut self.due, dart, NEVER);
-                self.arc_event(&self.faces.arc(dart))
+                self.arc_event(&self.arcs.arc(dart))
             }
         }
     }
 
-    // Each terminal takes its face and becomes the root of a tree.
+    // Each terminal takes its node and becomes the root of a tree.
     fn plant(&mut self) -> Result<(), NoMemory> {
-        for (terminal, face) in self.terminals.iter().enumerate() {
+        for (terminal, node) in self.terminals.iter().enumerate() {
             let name = number(terminal);
-            self.take(name, *face, name);
+            self.take(name, *node, name);
             self.set_role(name, Role::Outer)?;
             self.add_member(name, Some(name));
         }
@@ -251,8 +251,8 @@ impl<'a> Forest<'a> {
 
     // Enters the first events.
     fn schedule_terminals(&mut self) -> Result<(), NoMemory> {
-        for face in self.terminals {
-            self.schedule(*face)?;
+        for node in self.terminals {
+            self.schedule(*node)?;
         }
         Ok(())
     }
@@ -261,8 +261,8 @@ impl<'a> Forest<'a> {
     pub fn run(&mut self) -> Result<bool, NoMemory> {
         self.plant()?;
         self.schedule_terminals()?;
-        let places = u64::from(number(self.faces.faces()))
-            + u64::from(number(self.faces.dart_count()));
+        let places = u64::from(number(self.arcs.nodes()))
+            + u64::from(number(self.arcs.dart_count()));
         for _ in 0..FEWEST_EVENTS + EVENTS_A_PLACE * places {
             if self.unpaired == 0 {
                 break;
