@@ -1,4 +1,3 @@
 pub mod WeakDuality
 pub mod Verdicts
 mod OddSpins
-mod LoopLoads

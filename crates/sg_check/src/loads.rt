@@ -1,33 +1,19 @@
 // The tests of the weights: the load of each bond, and the sum of all.
 
 ghost use Rattle.std.specs.Prelude.{◌≡◌, ℕ, ◌<◌, ◌≤◌, ◌+◌, ◌*◌, ◌^◌, if◌then◌else◌, length, replicate, slice_index, All, IfNone, IfSome, unsigned_abs};
-ghost use Rattle.std.specs.List.Sorted.{IsStrictlyIncreasing};
-ghost use Rattle.sg_sums.specs.Sets.{holds};
 ghost use Rattle.sg_model.specs.Ising.{bond_at, bond_count};
 ghost use Rattle.sg_check.specs.Packing.{IsWithin, load, total_weight};
 ghost use Rattle.sg_check.specs.Verdict.{HasShape, IsFirstFailure};
 
 use super::Loop;
 use sg_model::Instance;
+use sg_sums::add_weight;
 
 // A bond and the weights of the loops through it.
 #[derive(Clone, Copy)]
 pub struct Overload {
     pub bond: u32,
     pub load: u128,
-}
-
-// Adds the weight at each place of a rising list.
-fn add_weight(loads: &mut [u128], list: &[u32], weight: u64)
-    requires rising { IsStrictlyIncreasing list.now }
-    requires below { All (λ k. k < length loads.old) list.now }
-    requires room { (k : ℕ) → k < length loads.old → slice_index loads.old k < 2 ^ 127 }
-    ensures { (k : ℕ) → k < length loads.old → slice_index loads.new k
-        ≡ slice_index loads.old k + (if holds list.now k then weight else 0) }
-{
-    for k in list {
-        loads[*k as usize] += u128::from(weight);
-    }
 }
 
 // Adds the weight of each loop at its bonds.

@@ -1,7 +1,6 @@
 // The tests of the loops, each made over all of them, with the first that fails.
 
 ghost use Rattle.std.specs.Prelude.{◌≡◌, ℕ, false, ◌<◌, ◌+◌, ◌^◌, ◌↔◌, IsTrue, length, replicate, slice_index, All, IfNone, IfSome};
-ghost use Rattle.std.specs.List.Sorted.{IsStrictlyIncreasing};
 ghost use Rattle.sg_model.specs.Ising.{bond_count};
 ghost use Rattle.sg_check.specs.Loop.{IsEven, IsEvenAt, IsOddlyNegative};
 ghost use Rattle.sg_check.specs.Verdict.{HasShape, IsFirstBadLoop, IsFirstFailure, loop_at};
@@ -9,29 +8,13 @@ ghost use Rattle.sg_check.specs.Verdict.{HasShape, IsFirstBadLoop, IsFirstFailur
 use super::Loop;
 use super::spins::{bond_of, least_odd_spin};
 use sg_model::Instance;
+use sg_sums::{all_below, is_rising};
 
 // A loop and the least spin at which an odd number of its bonds end.
 #[derive(Clone, Copy)]
 pub struct OddSpin {
     pub index: u32,
     pub spin: u32,
-}
-
-fn is_rising(list: &[u32]) -> bool
-    ensures { IsTrue result ↔ IsStrictlyIncreasing list.now }
-{
-    for i in 1..list.len() {
-        if list[i] <= list[i - 1] {
-            return false;
-        }
-    }
-    true
-}
-
-fn all_below(list: &[u32], count: usize) -> bool
-    ensures { IsTrue result ↔ All (λ k. k < count) list.now }
-{
-    list.iter().all(|k| (*k as usize) < count)
 }
 
 fn has_shape(inst: &Instance, entry: &Loop) -> bool

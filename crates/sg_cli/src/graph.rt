@@ -1,9 +1,8 @@
 // What `tjoin` and `postman` answer to a text: its first fault, or the answer to its graph. Their input
 // is never read as JSON.
-ghost use Rattle.std.specs.Prelude.{◌≡◌, ◌<◌, length, map, IfOk};
+ghost use Rattle.std.specs.Prelude.{◌≡◌, ◌<◌, length, IfOk};
 ghost use Rattle.sg_limits.specs.Limits.{text_limit};
 ghost use Rattle.sg_graph_text.specs.Network.{IsNetwork};
-ghost use Rattle.sg_ground.specs.Loops.{loop_of};
 ghost use Rattle.sg_cli.specs.Graphs.{AnswersTask, takes_terms};
 ghost use Rattle.sg_cli.specs.Promises.{IsAnswered};
 ghost use Rattle.sg_cli.specs.Served.{AnswersGraph};
@@ -12,8 +11,6 @@ use super::command::GraphTask;
 use super::postman::postman_reply;
 use super::reply::{NoMemory, Reply, refuse_fault};
 use super::tjoin::tjoin_reply;
-use sg_check::{Loop, Loops};
-use sg_graph::Cuts;
 use sg_graph_text::{Network, read_network};
 use std::alloc::Global;
 
@@ -50,19 +47,4 @@ fn network_reply(alloc: Global, task: GraphTask, network: &Network) -> Result<Re
         GraphTask::TJoin => tjoin_reply(alloc, network),
         GraphTask::Postman => postman_reply(alloc, network),
     }
-}
-
-/// The cuts as they are printed: each as a loop with its weight, of edges in place of bonds. The lists
-/// of edges are moved.
-pub fn cut_loops(alloc: Global, cuts: Cuts) -> Result<Loops, NoMemory>
-    ensures { IfOk result (λ loops. loops ≡ map loop_of cuts) }
-{
-    let mut loops = Loops::new(alloc);
-    for cut in cuts.into_vec() {
-        loops.push(Loop {
-            y: cut.y,
-            bonds: cut.edges,
-        })?;
-    }
-    Ok(loops)
 }

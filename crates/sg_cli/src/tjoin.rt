@@ -4,9 +4,9 @@ ghost use Rattle.sg_graph_text.specs.Network.{IsNetwork};
 ghost use Rattle.sg_cli.specs.Graphs.{PrintsJoin};
 ghost use Rattle.sg_cli.specs.Promises.{IsAnswered};
 
-use super::graph::cut_loops;
 use super::reply::{NoMemory, Reply, done};
 use sg_graph_text::Network;
+use sg_ground::cut_loops;
 use sg_report::tjoin_text;
 use sg_tjoin::{Join, least_join};
 use std::alloc::Global;

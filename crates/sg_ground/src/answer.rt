@@ -1,6 +1,6 @@
 ghost use Rattle.std.specs.Prelude.{◌≡◌, ◌≤◌, unsigned_abs, IfOk};
 ghost use Rattle.sg_limits.specs.Limits.{forced_limit};
-ghost use Rattle.sg_model.specs.Connected.{IsConnected, LeastsUp};
+ghost use Rattle.sg_model.specs.Connected.{LeastsUp};
 ghost use Rattle.sg_model.specs.Energy.{energy, weight, IsGroundState};
 ghost use Rattle.sg_check.specs.Packing.{IsShort, Proves};
 ghost use Rattle.sg_planar.specs.Fit.{IsPlanar};
@@ -9,9 +9,8 @@ ghost use Rattle.sg_ground.specs.Solution.{IsSolution};
 
 use super::NoMemory;
 use super::connection::is_connected;
-use super::matched::match_faces;
+use super::part::solve_part;
 use super::placed::{place_loops, place_values, spins_of};
-use super::proposed::judged_proposal;
 use sg_check::Loops;
 use sg_model::{Instance, Spins};
 use sg_planar::{Part, Planar, parts};
@@ -34,9 +33,9 @@ pub struct Answer {
 /// solved by itself, and its least spin is up. Which of several ground states is answered, and with
 /// which packing, is not said. The only error is want of memory.
 ///
-/// Cost: that of `judged_proposal` on each component, and where that has no answer that of
-/// `match_faces` too; and linear in the instance and the answer for all components together. An
-/// instance that is connected is solved as it is, without a copy.
+/// Cost: that of `sg_tjoin::least_join` on the frustrated faces of each component, and linear in the
+/// instance and the answer for all components together. An instance that is connected is solved as
+/// it is, without a copy.
 pub fn solve(alloc: Global, planar: &Planar) -> Result<Answer, NoMemory>
     ensures proves { IfOk result
         (λ a. Proves planar.now.instance a.spins a.energy a.loops) }
@@ -88,15 +87,4 @@ fn join_parts(alloc: Global, inst: &Instance, parts: &[Part]) -> Result<Answer, 
         energy,
         loops,
     })
-}
-
-// The proposal where it is a proof, and else what the dual gives.
-fn solve_part(alloc: Global, planar: &Planar) -> Result<Answer, NoMemory>
-    requires connected { IsConnected planar.now.instance }
-    ensures { IfOk result (λ a. IsSolution planar.now.instance a.spins a.energy a.loops) }
-{
-    if let Some(answer) = judged_proposal(alloc, planar)? {
-        return Ok(answer);
-    }
-    match_faces(alloc, planar)
 }

@@ -11,24 +11,25 @@
 //! one component alone, which is then solved as it is.
 //!
 //! For the next engineer: `solve` is the call that matters, and what is built on it rests on its
-//! contract and on nothing of its body. For each part it first asks the proposer of `sg_regions`, of
-//! which nothing is promised, and answers what the checker of `sg_check` says yes to
-//! (`judged_proposal`); else it goes by the dual, which always answers (`match_faces`). The proof of
-//! the second way: an odd cut is a frustrated loop (`proofs/FrustratedCuts.antt`), a packing of cuts
-//! is one of loops, and not too many (`Packings`), a join fits the faces and weighs what the broken
-//! bonds weigh (`JoinFits`), and all of it together (`Solutions`). The proof of the whole: what a
-//! part gives (`Shares`), what the parts are together (`PartLists`), and one part more (`Gluing`).
+//! contract and on nothing of its body. A part goes one way (`part`): to its dual, to a least join of
+//! the frustrated faces, which has its own proposals and its own judge, and back by a walk over the
+//! bonds. The proof: an odd cut is a frustrated loop (`odd_cuts_are_loops`, by
+//! `proofs/FrustratedCuts.antt`), a packing of cuts is one of loops, and not too many (`Packings`), a
+//! join fits the faces and weighs what the broken bonds weigh (`JoinFits`), and all of it together
+//! (`Solutions`). The proof of the whole: what a part gives (`Shares`), what the parts are together
+//! (`PartLists`), and one part more (`Gluing`).
 #![tactic(auto)]
 
 mod answer;
 mod connection;
-mod matched;
+mod law;
+mod loops;
+mod part;
 mod placed;
-mod proposed;
 
 pub use answer::{Answer, solve};
-pub use matched::match_faces;
-pub use proposed::judged_proposal;
+pub use law::odd_cuts_are_loops;
+pub use loops::cut_loops;
 use std::alloc::AllocError;
 
 /// The allocator had no memory left.

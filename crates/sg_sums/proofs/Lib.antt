@@ -13,3 +13,5 @@ pub mod Tallies
 pub mod DealtSums
 pub mod Ranks
 pub mod MemberSums
+mod AddedLoads
+pub mod MarkedLists

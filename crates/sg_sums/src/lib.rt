@@ -3,8 +3,9 @@
 //! In planar spin glasses nearly every argument counts something in two ways. A set of bonds that
 //! meets each spin an even number of times crosses each cut an even number of times; the weights of
 //! loops or cuts that pack are at most the weight of what they all meet. Here these facts stand once,
-//! over lists of edges and of numbers, with no spin in sight. Two small tools go with them: to turn
-//! marks, and to list what is marked.
+//! over lists of edges and of numbers, with no spin in sight. A few small tools go with them: to turn
+//! marks, to list what is marked, to test that a list rises within a bound, and to add a weight at
+//! its places.
 //!
 //! For the next engineer: parity is a `Bool`, and a set is a test of numbers or a strictly rising
 //! list. `specs/` has the words, a file for each; `proofs/Handshake.antt` and `proofs/Capacity.antt`
@@ -12,9 +13,13 @@
 //! `proofs/SumLaws.antt` and `proofs/RisingLists.antt` the small ones.
 #![tactic(auto)]
 
+mod loads;
 mod marks;
+mod rising;
 
+pub use loads::add_weight;
 pub use marks::{flip, places};
+pub use rising::{all_below, is_rising};
 use std::alloc::AllocError;
 
 /// The allocator had no memory left.

@@ -3,18 +3,23 @@
 //!
 //! For a physicist: in the dual web of a planar spin glass the terminals are the frustrated faces, an
 //! edge weighs the `|J|` of the bond that it crosses, and the bonds that a ground state breaks are a
-//! least join. [`least_join`] finds one on every connected web, planar or not: the terminals are
+//! least join. [`least_join`] finds one on every connected web, planar or not. Regions that grow on
+//! the web propose one with its odd cuts, and a judge that is proved says whether the cuts prove it.
+//! Where there is no proposal or the verdict is no, [`matched_join`] answers: the terminals are
 //! matched at costs of twice their distances, and an edge belongs to the join where it stands in an
-//! odd number of the mates' shortest walks. The duals of the matching become odd cuts that weigh twice
-//! as much as the join, and by [`cuts_bound_joins`] no join weighs less.
+//! odd number of the mates' shortest walks. The duals of the matching become odd cuts that weigh
+//! twice as much as the join, and by [`cuts_bound_joins`] no join weighs less.
 //!
-//! For the next engineer: nothing here looks into the engine. `tables` searches from each terminal
-//! over one incidence, `matching` lets the engine match them, `walks` marks what the mates' walks
-//! cross, and `sg_moat` draws the cuts. That a join is least follows from the cuts alone: no join is
-//! taken apart into walks.
+//! For the next engineer: nothing here looks into the proposer, the judge or the engine. `judged` hands
+//! on what `sg_join_check` says yes to. `matched` is the way by a matching: `tables` searches from
+//! each terminal over one incidence, `matching` lets the engine match them, `walks` marks what the
+//! mates' walks cross, and `sg_moat` draws the cuts. That a join is least follows from the cuts alone:
+//! no join is taken apart into walks.
 #![tactic(auto)]
 
+mod judged;
 mod law;
+mod matched;
 mod matching;
 mod tables;
 mod walks;
@@ -27,14 +32,11 @@ ghost use Rattle.sg_graph.specs.Walk.{IsConnected};
 ghost use Rattle.sg_graph.specs.Web.{total_weight, weight_of};
 ghost use Rattle.sg_limits.specs.Limits.{forced_limit};
 
+use judged::judged_join;
 pub use law::cuts_bound_joins;
-use matching::matching;
+pub use matched::matched_join;
 use sg_graph::{Cuts, EdgeList, Terminals, Web};
-use sg_moat::levels;
 use std::alloc::{AllocError, Global};
-use tables::terminal_tables;
-use walks::odd_edges;
-use weight::weight;
 
 /// The allocator had no memory left.
 pub type NoMemory = AllocError;
@@ -53,9 +55,8 @@ pub struct Join {
 /// cut holds all edges that leave some set with an odd number of terminals, and no edge is loaded
 /// with more than twice its weight. Without terminals there is no edge, and no cut.
 ///
-/// Cost: for `k` terminals in a web of `n` nodes and `m` edges, `k` searches in `k (n + m) log m`,
-/// the matching in at most `2 k^2` steps of `k^2`, and the cuts as `sg_moat::levels` says. Memory:
-/// `12 k n + 8 k^2` bytes, and what the cuts take.
+/// Cost: that of `sg_regions::propose` and of the judge, linear in the web and the cuts; and where
+/// these have no answer that of `matched_join` too.
 pub fn least_join(alloc: Global, web: &Web, terminals: &Terminals) -> Result<Join, NoMemory>
     requires connected { IsConnected web.now }
     requires terminals { AreTerminals web.now terminals.now }
@@ -67,18 +68,10 @@ pub fn least_join(alloc: Global, web: &Web, terminals: &Terminals) -> Result<Joi
     ensures bare { IfOk result (λ j. terminals.now ≡ [] → (j.edges ≡ []) × (j.cuts ≡ [])) }
     ensures tight { IfOk result (λ j. sum_by cut_weight j.cuts ≡ 2 * weight_of web.now j.edges) }
 {
-    let all = web.edges();
-    let nodes = terminals.as_slice();
-    let tables = terminal_tables(alloc, web, nodes)?;
-    let matched = matching(alloc, nodes, &tables)?;
-    let edges = odd_edges(alloc, web, nodes, &tables, matched.mates.as_slice())?;
-    let weight = weight(all.as_slice(), edges.as_slice());
-    let cuts = levels(alloc, web, terminals, &tables, &matched.family)?;
-    Ok(Join {
-        edges,
-        weight,
-        cuts,
-    })
+    if let Some(join) = judged_join(alloc, web, terminals)? {
+        return Ok(join);
+    }
+    matched_join(alloc, web, terminals)
 }
 
 #[cfg(test)]

@@ -8,7 +8,7 @@ ghost use Rattle.sg_pairing.specs.Matching.{NoSlackIsNegative};
 ghost use Rattle.sg_tjoin.specs.Doubled.{AreMetric, Reaches};
 
 use super::tables::terminal_tables;
-use super::{Join, NoMemory, least_join};
+use super::{Join, NoMemory, least_join, matched_join};
 use sg_arena::Arena;
 use sg_graph::{Cuts, Edge, Edges, Table, Terminals, Web, connected};
 use sg_moat::levels;
@@ -64,20 +64,25 @@ fn rise_below(list: &[u32], bound: u32) -> bool
     true
 }
 
-// The least join of these terminals in the web of these edges.
+// The least join of these terminals in the web of these edges, by the matching alone or not.
 fn joined(
     rt: &impl Abort,
     alloc: Global,
     nodes: u32,
     list: &[(u32, u32, i64)],
     ends: &[u32],
+    is_matched: bool,
 ) -> Result<Join, NoMemory> {
     let small = web(rt, alloc, nodes, list)?;
     assert!(rt; connected(alloc, &small)?);
     assert!(rt; rise_below(ends, nodes));
     assert!(rt; ends.len() % 2 == 0);
     let terminals = Terminals::from_vec(Vec::from_slice(alloc, ends)?);
-    least_join(alloc, &small, &terminals)
+    if is_matched {
+        matched_join(alloc, &small, &terminals)
+    } else {
+        least_join(alloc, &small, &terminals)
+    }
 }
 
 // The sum of the weights of the cuts.
@@ -109,10 +114,12 @@ fn a_join_has_the_edges_its_weight_and_the_cuts(rt: HostRuntime) -> Result<(), F
         (1, &[], &[], &[], 0),
     ];
     for (nodes, list, ends, edges, weight) in rows {
-        let join = joined(&rt, rt.alloc(), nodes, list, ends)?;
-        assert_eq!(rt; join.edges.as_slice(), edges);
-        assert_eq!(rt; join.weight, weight);
-        assert_eq!(rt; cut_sum(&join.cuts), weight.saturating_mul(2));
+        for is_matched in [false, true] {
+            let join = joined(&rt, rt.alloc(), nodes, list, ends, is_matched)?;
+            assert_eq!(rt; join.edges.as_slice(), edges);
+            assert_eq!(rt; join.weight, weight);
+            assert_eq!(rt; cut_sum(&join.cuts), weight.saturating_mul(2));
+        }
     }
     Ok(())
 }
@@ -228,9 +235,12 @@ fn no_edge_set_weighs_less(rt: HostRuntime) -> Result<(), Fail> {
         ),
     ];
     for (nodes, list, ends) in rows {
-        let join = joined(&rt, rt.alloc(), nodes, list, ends)?;
-        assert_eq!(rt; join.weight.unsigned_abs(), least_plain(list, ends));
-        assert_eq!(rt; cut_sum(&join.cuts), join.weight.saturating_mul(2));
+        let least = least_plain(list, ends);
+        for is_matched in [false, true] {
+            let join = joined(&rt, rt.alloc(), nodes, list, ends, is_matched)?;
+            assert_eq!(rt; join.weight.unsigned_abs(), least);
+            assert_eq!(rt; cut_sum(&join.cuts), join.weight.saturating_mul(2));
+        }
     }
     Ok(())
 }

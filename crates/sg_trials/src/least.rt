@@ -1,14 +1,14 @@
 // The energies that are answered, beside the least over all assignments.
 
-ghost use Rattle.sg_model.specs.Connected.{IsConnected};
-ghost use Rattle.sg_planar.specs.Parts.{AreParts};
-
 use rand_core::utils::NextWord;
 use rand_pcg::Pcg32;
-use sg_ground::{judged_proposal, match_faces, solve};
+use sg_dual::dual;
+use sg_ground::solve;
+use sg_join_check::proves_least;
 use sg_model::{Instance, least_plain};
 use sg_planar::{Part, Planar, parts};
 use sg_reader::{Rows, read_instance};
+use sg_regions::propose;
 use std::alloc::{AllocError, Global};
 use std::process::Abort;
 use std::test::Fail;
@@ -20,43 +20,35 @@ fn instance(rt: &impl Abort, alloc: Global, text: &str) -> Result<Instance, Fail
     Ok(inst)
 }
 
-// Solves a connected instance by matching alone. The proposal has to be there and good, else `solve`
-// would go the long way each time and nobody notice.
-fn assert_part(rt: &impl Abort, alloc: Global, planar: &Planar, text: &str) -> Result<(), Fail>
-    requires { IsConnected planar.now.instance }
-{
-    let solved = solve(alloc, planar)?.energy;
-    let matched = match_faces(alloc, planar)?.energy;
-    assert_eq!(rt; matched, solved, "{text}");
-    assert!(rt; judged_proposal(alloc, planar)?.is_some(), "{text}");
+// What is proposed for the dual of an instance has to be there and good, else `solve` would match the
+// faces each time and nobody notice.
+fn assert_part(rt: &impl Abort, alloc: Global, planar: &Planar, text: &str) -> Result<(), Fail> {
+    let faces = planar.faces();
+    assert!(rt; faces.count() <= 1 << 24);
+    let (web, terminals) = dual(alloc, planar.instance(), faces)?;
+    let Some(proposal) = propose(alloc, &web, &terminals)? else {
+        return Err(Fail::new("there is a proposal"));
+    };
+    assert!(rt; proves_least(alloc, &web, &terminals, &proposal)?, "{text}");
     Ok(())
 }
 
 // The same for each part of an instance.
-fn assert_parts(
-    rt: &impl Abort,
-    alloc: Global,
-    inst: &Instance,
-    parts: &[Part],
-    text: &str,
-) -> Result<(), Fail>
-    requires { AreParts inst.now parts.now }
-{
+fn assert_parts(rt: &impl Abort, alloc: Global, parts: &[Part], text: &str) -> Result<(), Fail> {
     for part in parts {
         assert_part(rt, alloc, &part.planar, text)?;
     }
     Ok(())
 }
 
-// Solves the instance of a text, at once and part by part.
+// Solves the instance of a text, and looks at what is proposed for each part.
 fn assert_solved(rt: &impl Abort, alloc: Global, text: &str) -> Result<i128, Fail> {
     let inst = instance(rt, alloc, text)?;
     let Ok(planar) = Planar::new(alloc, inst) else {
         return Err(Fail::new("the instance is planar"));
     };
-    let inst = planar.instance();
     let list = parts(alloc, &planar)?;
-    assert_parts(rt, alloc, inst, list.as_slice(), text)?;
+    assert_parts(rt, alloc, list.as_slice(), text)?;
     Ok(i128::from(solve(alloc, &planar)?.energy))
 }
 
@@ -148,14 +140,15 @@ fn drawn_lattices(rt: HostRuntime) -> Result<(), Fail> {
     Ok(())
 }
 
-// A large instance by matching alone, which is never asked where the proposal is good.
 #[test]
-fn a_large_lattice(rt: HostRuntime) -> Result<(), Fail> {
+fn large_lattices(rt: HostRuntime) -> Result<(), Fail> {
     let mut draws = Pcg32::new(7, 54);
-    let text = drawn(rt.alloc(), "square,32,32", 1984, 0, &mut draws)?;
-    let energy = assert_solved(&rt, rt.alloc(), text.as_str())?;
-    assert!(rt; energy < 0);
-    assert_eq!(rt; assert_solved(&rt, rt.alloc(), text.as_str())?, energy);
+    for (shape, bonds) in [("square,32,32", 1984), ("triangular,24,24", 1633)] {
+        for kind in [0, 4] {
+            let text = drawn(rt.alloc(), shape, bonds, kind, &mut draws)?;
+            assert!(rt; assert_solved(&rt, rt.alloc(), text.as_str())? < 0);
+        }
+    }
     Ok(())
 }
 

@@ -1,8 +1,12 @@
-//! Trials of the solver beside the plain minimum, on small instances that are read from texts, and of
-//! its two ways, the proposal and the matching, beside each other.
+//! Trials of the solver beside the plain minimum, on small instances that are read from texts; and of
+//! what is proposed for least joins, on the duals of these instances and on other webs, which has to be
+//! there and to be good.
 //!
-//! The contract of `sg_ground::solve` says that no assignment has less energy; here both are run.
+//! The contract of `sg_ground::solve` says that no assignment has less energy; here both are run. That
+//! a proposal is there, and that the judge says yes to it, no contract says.
 #![tactic(auto)]
 
 #[cfg(test)]
 mod least;
+#[cfg(test)]
+mod webs;

@@ -1,7 +1,0 @@
-use Rattle.std.proofs.Common.{◌≡◌, map}
-use Rattle.sg_ground.specs.Loops.{loop_of}
-use Rattle.sg_cli.proofs.graph.cut_loops.Given as goal
-
--- the loops of the cuts so far
-abbrev pub invariant-loop-cut : goal.invariant-loop-cut
-invariant-loop-cut l = l.loops ≡ map loop_of l.yielded

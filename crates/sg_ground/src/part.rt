@@ -1,0 +1,41 @@
+// One component.
+
+ghost use Rattle.std.specs.Prelude.{IfOk};
+ghost use Rattle.sg_model.specs.Connected.{IsConnected};
+ghost use Rattle.sg_planar.specs.Fit.{IsPlanar};
+ghost use Rattle.sg_ground.specs.Solution.{IsSolution};
+ghost use Rattle.sg_ground.specs.TightJoin.{IsTightJoin};
+
+use super::loops::cut_loops;
+use super::{Answer, NoMemory};
+use sg_dual::dual;
+use sg_planar::{Planar, spin_walk};
+use sg_tjoin::{Join, least_join};
+use std::alloc::Global;
+
+// A ground state of a connected instance: the broken bonds are a least join of the frustrated faces,
+// and the odd cuts that prove the join are the loops.
+pub fn solve_part(alloc: Global, planar: &Planar) -> Result<Answer, NoMemory>
+    requires connected { IsConnected planar.now.instance }
+    ensures { IfOk result (λ a. IsSolution planar.now.instance a.spins a.energy a.loops) }
+{
+    let join = join_faces(alloc, planar)?;
+    let spins = spin_walk(alloc, planar, &join.edges)?;
+    let energy = planar.instance().energy(&spins) as i64;
+    let loops = cut_loops(alloc, join.cuts)?;
+    Ok(Answer {
+        spins,
+        energy,
+        loops,
+    })
+}
+
+// A least join of the frustrated faces, with odd cuts that prove it.
+fn join_faces(alloc: Global, planar: &Planar) -> Result<Join, NoMemory>
+    requires connected { IsConnected planar.now.instance }
+    ensures join { IfOk result (λ j. IsTightJoin planar.now j.edges j.cuts) }
+    ensures planar { IsPlanar planar.now }
+{
+    let (web, frustrated) = dual(alloc, planar.instance(), planar.faces())?;
+    least_join(alloc, &web, &frustrated)
+}

@@ -1,0 +1,270 @@
+// The join: a shortest way between each two mates, by what the finished regions know.
+use super::NoMemory;
+use super::adjacency::Adjacency;
+use super::edge_marks::EdgeMarks;
+use super::lists::{entry, set_entry};
+use super::nest::{Nest, Pair};
+use sg_graph::EdgeList;
+use std::alloc::Global;
+use std::mem::swap;
+
+// A node with more darts is a hub: it is searched after all others.
+const HUB: usize = 128;
+
+fn is_hub(adjacency: &Adjacency, node: u32) -> bool {
+    adjacency.arcs_of(node).len() > HUB
+}
+
+// How far all regions over a node reach beyond it. Along a shortest way from a mate this falls by as
+// much as the way is long, until it comes to what both mates have in common.
+#[derive(Drop)]
+struct Heights {
+    nodes: Vec<i64>,
+    // The radii of each region and of all that it is a part of.
+    regions: Vec<i64>,
+}
+
+// The radii of a region and of all that it is a part of.
+fn height_over(regions: &[i64], region: Option<u32>) -> i64 {
+    match region {
+        Some(region) => entry(regions, region).unwrap_or(0),
+        None => 0,
+    }
+}
+
+// The radii of each region and of all that it is a part of.
+fn heights_of_regions(alloc: Global, nest: &Nest) -> Result<Vec<i64>, NoMemory> {
+    let mut heights = vec![in alloc; 0i64; nest.regions() as usize]?;
+    for region in nest.order().iter().rev() {
+        let over = height_over(&heights, nest.parent(*region));
+        set_entry(
+            &mut heights,
+            *region,
+            over.wrapping_add(nest.radius(*region)),
+        );
+    }
+    Ok(heights)
+}
+
+impl Heights {
+    fn new(alloc: Global, nest: &Nest) -> Result<Heights, NoMemory> {
+        let regions = heights_of_regions(alloc, nest)?;
+        let mut nodes = Vec::with_capacity(alloc, nest.nodes() as usize)?;
+        for node in 0..nest.nodes() {
+            let over = height_over(&regions, nest.region_of(node));
+            nodes.push(over.wrapping_sub(nest.taken_at(node)))?;
+        }
+        Ok(Heights { nodes, regions })
+    }
+
+    fn of_node(&self, node: u32) -> i64 {
+        entry(&self.nodes, node).unwrap_or(0)
+    }
+}
+
+// A search from one of two mates.
+#[derive(Drop)]
+struct Search {
+    // The node of the mate, and its height.
+    start: u32,
+    height: i64,
+    // The nodes that were reached, also as marks, and the dart over which each was.
+    reached: Vec<u32>,
+    is_reached: Vec<bool>,
+    darts: Vec<u32>,
+    // The nodes from which was not searched yet.
+    waiting: Vec<u32>,
+    hubs: Vec<u32>,
+}
+
+impl Search {
+    fn new(alloc: Global, nodes: usize) -> Result<Search, NoMemory> {
+        Ok(Search {
+            start: 0,
+            height: 0,
+            reached: Vec::new(alloc),
+            is_reached: vec![in alloc; false; nodes]?,
+            darts: vec![in alloc; 0u32; nodes]?,
+            waiting: Vec::new(alloc),
+            hubs: Vec::new(alloc),
+        })
+    }
+
+    // Forgets all that was reached.
+    fn clear(&mut self) {
+        for node in &self.reached {
+            set_entry(&mut self.is_reached, *node, false);
+        }
+        self.reached.clear();
+        self.waiting.clear();
+        self.hubs.clear();
+    }
+
+    // Whether a node was reached.
+    fn has(&self, node: u32) -> bool {
+        entry(&self.is_reached, node).unwrap_or(false)
+    }
+
+    // Keeps a node that is reached over a dart.
+    fn reach(&mut self, node: u32, dart: u32, is_hub: bool) -> Result<(), NoMemory> {
+        set_entry(&mut self.is_reached, node, true);
+        set_entry(&mut self.darts, node, dart);
+        self.reached.push(node)?;
+        if is_hub {
+            self.hubs.push(node)?;
+        } else {
+            self.waiting.push(node)?;
+        }
+        Ok(())
+    }
+
+    // Begins anew at a node.
+    fn begin(&mut self, start: u32, height: i64, is_hub: bool) -> Result<(), NoMemory> {
+        self.clear();
+        self.start = start;
+        self.height = height;
+        self.reach(start, 0, is_hub)
+    }
+
+    // Turns the marks of the edges from the mate to a node.
+    fn turn_back(&self, adjacency: &Adjacency, from: u32, join: &mut EdgeMarks) {
+        let mut here = from;
+        for _ in 0..self.reached.len() {
+            if here == self.start {
+                break;
+            }
+            let dart = entry(&self.darts, here).unwrap_or(0);
+            join.turn(dart / 2);
+            here = adjacency.start(dart);
+        }
+    }
+}
+
+// Searches between mates, one after another.
+#[derive(Drop)]
+struct Ways<'a> {
+    adjacency: &'a Adjacency,
+    heights: Heights,
+    // The search that goes on next, and the other one.
+    near: Search,
+    far: Search,
+}
+
+// Where two searches met: over an arc from a node of the one to a node of the other.
+#[derive(Clone, Copy)]
+struct Meeting {
+    near: u32,
+    far: u32,
+    dart: u32,
+}
+
+impl<'a> Ways<'a> {
+    // The node from which is searched next, of either side: hubs only where nothing else is left.
+    fn next(&mut self) -> Option<u32> {
+        if self.near.waiting.is_empty() && !self.far.waiting.is_empty() {
+            swap(&mut self.near, &mut self.far);
+        }
+        if let Some(node) = self.near.waiting.pop() {
+            return Some(node);
+        }
+        if self.near.hubs.is_empty() {
+            swap(&mut self.near, &mut self.far);
+        }
+        self.near.hubs.pop()
+    }
+
+    // Goes from a node over all its arcs that may be on the way, which has a length and comes down to a
+    // height. Gives where it meets the other side.
+    fn spread(&mut self, node: u32, floor: i64, length: i64) -> Result<Option<Meeting>, NoMemory> {
+        let adjacency = self.adjacency;
+        let gone = self.near.height.wrapping_sub(self.heights.of_node(node));
+        for arc in adjacency.arcs_of(node) {
+            let there = gone.wrapping_add(arc.length);
+            let height = self.heights.of_node(arc.to);
+            if self.far.has(arc.to) {
+                let rest = self.far.height.wrapping_sub(height);
+                if there.wrapping_add(rest) == length {
+                    return Ok(Some(Meeting {
+                        near: node,
+                        far: arc.to,
+                        dart: arc.dart,
+                    }));
+                }
+            }
+            let left = self.near.height.wrapping_sub(there);
+            if left == height && left >= floor && !self.near.has(arc.to) {
+                self.near
+                    .reach(arc.to, arc.dart, is_hub(adjacency, arc.to))?;
+            }
+        }
+        Ok(None)
+    }
+
+    // Searches from both mates until both searches meet.
+    fn meeting(&mut self, floor: i64, length: i64) -> Result<Option<Meeting>, NoMemory> {
+        for _ in 0..self.adjacency.nodes().saturating_mul(2) {
+            let Some(node) = self.next() else {
+                break;
+            };
+            let found = self.spread(node, floor, length)?;
+            if found.is_some() {
+                return Ok(found);
+            }
+            swap(&mut self.near, &mut self.far);
+        }
+        Ok(None)
+    }
+
+    // Turns the marks of the edges of a shortest way between two mates, and says whether there is one.
+    fn turn_way(
+        &mut self,
+        nest: &Nest,
+        pair: Pair,
+        join: &mut EdgeMarks,
+    ) -> Result<bool, NoMemory> {
+        let (Some(one), Some(other)) = (nest.seed(pair.one), nest.seed(pair.other)) else {
+            return Ok(false);
+        };
+        let floor = height_over(&self.heights.regions, pair.base);
+        let first = self.heights.of_node(one);
+        let second = self.heights.of_node(other);
+        let length = first
+            .wrapping_sub(floor)
+            .wrapping_add(second.wrapping_sub(floor));
+        self.near.begin(one, first, is_hub(self.adjacency, one))?;
+        self.far
+            .begin(other, second, is_hub(self.adjacency, other))?;
+        let Some(meeting) = self.meeting(floor, length)? else {
+            return Ok(false);
+        };
+        join.turn(meeting.dart / 2);
+        self.near.turn_back(self.adjacency, meeting.near, join);
+        self.far.turn_back(self.adjacency, meeting.far, join);
+        Ok(true)
+    }
+}
+
+// The edges that lie on an odd number of the ways between mates, rising, or nothing where a way is not
+// found. A way is searched from both mates, through such nodes only whose height tells that they are
+// on a shortest one.
+pub fn join_of(
+    alloc: Global,
+    adjacency: &Adjacency,
+    nest: &Nest,
+    pairs: &[Pair],
+    edges: usize,
+) -> Result<Option<EdgeList>, NoMemory> {
+    let mut join = EdgeMarks::new(alloc, edges)?;
+    let mut ways = Ways {
+        adjacency,
+        heights: Heights::new(alloc, nest)?,
+        near: Search::new(alloc, adjacency.nodes())?,
+        far: Search::new(alloc, adjacency.nodes())?,
+    };
+    for pair in pairs {
+        if !ways.turn_way(nest, *pair, &mut join)? {
+            return Ok(None);
+        }
+    }
+    Ok(Some(join.listed(alloc)?))
+}

@@ -1,0 +1,178 @@
+// Least joins on drawn webs: what is proposed, beside the matching.
+
+ghost use Rattle.sg_graph_text.specs.Network.{IsNetwork};
+
+use rand_core::utils::NextWord;
+use rand_pcg::Pcg32;
+use sg_graph_text::{Network, read_network};
+use sg_join_check::proves_least;
+use sg_regions::propose;
+use sg_tjoin::{least_join, matched_join};
+use std::alloc::{AllocError, Global};
+use std::process::Abort;
+use std::test::Fail;
+
+// The proposal has to be there and good, and its join to weigh what that of the matching weighs.
+fn assert_network(rt: &impl Abort, alloc: Global, network: &Network, text: &str) -> Result<(), Fail>
+    requires { IsNetwork network.now.web network.now.terminals }
+{
+    let (web, terminals) = (&network.web, &network.terminals);
+    let Some(proposal) = propose(alloc, web, terminals)? else {
+        return Err(Fail::new("there is a proposal"));
+    };
+    assert!(rt; proves_least(alloc, web, terminals, &proposal)?, "{text}");
+    let answered = least_join(alloc, web, terminals)?.weight;
+    let matched = matched_join(alloc, web, terminals)?.weight;
+    assert_eq!(rt; answered, matched, "{text}");
+    Ok(())
+}
+
+// The same for the graph of a text.
+fn assert_proposed(rt: &impl Abort, alloc: Global, text: &str) -> Result<(), Fail> {
+    assert!(rt; text.len() < 200_000);
+    let Ok(network) = read_network(alloc, text.as_bytes(), true) else {
+        return Err(Fail::new("the graph is connected"));
+    };
+    assert_network(rt, alloc, &network, text)
+}
+
+// All weights 0, all 1, few with many zeros, few, or of many sizes.
+fn weight(kind: u32, word: u32) -> u32 {
+    match kind {
+        0 => 0,
+        1 => 1,
+        2 => (word % 8).saturating_sub(4),
+        3 => word % 50,
+        _ => word % 1_048_576,
+    }
+}
+
+// Adds an edge with a drawn weight.
+fn push_edge(
+    alloc: Global,
+    text: &mut String,
+    ends: (u32, u32),
+    kind: u32,
+    draws: &mut Pcg32,
+) -> Result<(), AllocError> {
+    let (a, b) = ends;
+    let w = weight(kind, draws.next_word());
+    text.push_str(format!(in alloc; "edge,{a},{b},{w}\n")?.as_str())
+}
+
+// Adds the terminals, an even number of the nodes: the last ones, or perhaps one in two.
+fn push_terminals(
+    alloc: Global,
+    text: &mut String,
+    nodes: u32,
+    draws: &mut Pcg32,
+) -> Result<(), AllocError> {
+    let all = draws.next_word() % 2 == 0;
+    let mut odd = false;
+    text.push_str("term")?;
+    for node in 1..nodes {
+        if all || draws.next_word() % 2 == 0 {
+            text.push_str(format!(in alloc; ",{node}")?.as_str())?;
+            odd = !odd;
+        }
+    }
+    text.push_str(if odd { ",0\nend\n" } else { "\nend\n" })
+}
+
+// A tree in which each node has an edge to an earlier one, and more edges between any two nodes, the
+// same ones again among them, or from a node to itself.
+fn drawn_web(
+    alloc: Global,
+    nodes: u32,
+    more: u32,
+    kind: u32,
+    draws: &mut Pcg32,
+) -> Result<String, AllocError> {
+    let mut text = format!(in alloc; "graph,{nodes}\n")?;
+    for node in 1..nodes {
+        let before = draws.next_word() % node;
+        push_edge(alloc, &mut text, (before, node), kind, draws)?;
+    }
+    for _ in 0..more {
+        let ends = (draws.next_word() % nodes, draws.next_word() % nodes);
+        push_edge(alloc, &mut text, ends, kind, draws)?;
+    }
+    push_terminals(alloc, &mut text, nodes, draws)?;
+    Ok(text)
+}
+
+#[test]
+fn drawn_webs(rt: HostRuntime) -> Result<(), Fail> {
+    let mut draws = Pcg32::new(44, 54);
+    for trial in 0..150u32 {
+        let nodes = 1 + trial % 25;
+        let more = draws.next_word() % (2 * nodes);
+        let text = drawn_web(rt.alloc(), nodes, more, trial % 5, &mut draws)?;
+        assert_proposed(&rt, rt.alloc(), text.as_str())?;
+    }
+    Ok(())
+}
+
+// A node with an edge to each other one, and where it has a rim an edge from each of these to the next.
+fn drawn_star(
+    alloc: Global,
+    nodes: u32,
+    has_rim: bool,
+    kind: u32,
+    draws: &mut Pcg32,
+) -> Result<String, AllocError> {
+    let mut text = format!(in alloc; "graph,{nodes}\n")?;
+    for node in 1..nodes {
+        push_edge(alloc, &mut text, (node, 0), kind, draws)?;
+        if has_rim {
+            push_edge(alloc, &mut text, (node, node / 2), kind, draws)?;
+        }
+    }
+    push_terminals(alloc, &mut text, nodes, draws)?;
+    Ok(text)
+}
+
+#[test]
+fn stars(rt: HostRuntime) -> Result<(), Fail> {
+    let mut draws = Pcg32::new(45, 54);
+    for trial in 0..40u32 {
+        let text = drawn_star(rt.alloc(), 2 + trial, trial % 2 == 0, trial % 5, &mut draws)?;
+        assert_proposed(&rt, rt.alloc(), text.as_str())?;
+    }
+    Ok(())
+}
+
+// A grid of so many rows and columns.
+fn drawn_grid(
+    alloc: Global,
+    rows: u32,
+    cols: u32,
+    kind: u32,
+    draws: &mut Pcg32,
+) -> Result<String, AllocError> {
+    let nodes = rows.saturating_mul(cols);
+    let mut text = format!(in alloc; "graph,{nodes}\n")?;
+    for node in 1..nodes {
+        if node % cols > 0 {
+            push_edge(alloc, &mut text, (node - 1, node), kind, draws)?;
+        }
+        if node >= cols {
+            push_edge(alloc, &mut text, (node - cols, node), kind, draws)?;
+        }
+    }
+    push_terminals(alloc, &mut text, nodes, draws)?;
+    Ok(text)
+}
+
+// The matching is never asked where the proposal is good, and so runs on large webs here alone.
+#[test]
+fn large_webs(rt: HostRuntime) -> Result<(), Fail> {
+    let mut draws = Pcg32::new(46, 54);
+    for kind in [1, 4] {
+        let text = drawn_grid(rt.alloc(), 12, 12, kind, &mut draws)?;
+        assert_proposed(&rt, rt.alloc(), text.as_str())?;
+        let text = drawn_web(rt.alloc(), 150, 300, kind, &mut draws)?;
+        assert_proposed(&rt, rt.alloc(), text.as_str())?;
+    }
+    Ok(())
+}
