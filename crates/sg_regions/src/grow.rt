@@ -1,15 +1,20 @@
 // Regions that grow until each terminal has a mate.
 use super::NoMemory;
 use super::adjacency::Adjacency;
+use super::engine::Engine;
 use super::nest::{Nest, Pair};
 use std::alloc::Global;
 
 // The regions that have grown from the terminals until each has a mate, with the pairs; none where the
 // work ran out, or something is met that should not be.
 pub fn grow(
-    _alloc: Global,
-    _arcs: &Adjacency,
-    _terminals: &[u32],
+    alloc: Global,
+    arcs: &Adjacency,
+    terminals: &[u32],
 ) -> Result<Option<(Nest, Vec<Pair>)>, NoMemory> {
-    Ok(None)
+    let mut engine = Engine::new(alloc, arcs, terminals)?;
+    if !engine.run()? {
+        return Ok(None);
+    }
+    Ok(Some((engine.nest()?, engine.pairs()?)))
 }

@@ -5,7 +5,7 @@
 // at its node `seed(t)`; all others are blossoms, and a name of none of them has no parent, no nodes,
 // no parts and radius 0, and does not stand in `order`. Each call takes the same time for any nest.
 use super::NoMemory;
-use super::lists::{Slot, entry, number};
+use super::lists::{Slot, entry, number, set_entry};
 use std::alloc::Global;
 
 // Two terminals that are mates, by the names of their regions (`Nest::seed` has their nodes), and the
@@ -102,15 +102,7 @@ impl Nest {
 
     // The regions that a blossom was made of, in the order of its cycle.
     pub fn parts(&self, region: u32) -> &[u32] {
-        let Some(finished) = entry(&self.regions, region) else {
-            return &[];
-        };
-        let first = finished.first as usize;
-        let behind = finished.behind as usize;
-        if first > behind || behind > self.parts.len() {
-            return &[];
-        }
-        &self.parts[first..behind]
+        parts_of(&self.regions, &self.parts, region)
     }
 
     // The part with the most nodes, a node for each region in it counted beside.
@@ -122,4 +114,162 @@ impl Nest {
     pub fn order(&self) -> &[u32] {
         &self.order
     }
+
+    // Nodes that no region has, and names of no region.
+    pub fn new(alloc: Global, nodes: usize, names: usize) -> Result<Nest, NoMemory> {
+        let taken = Taken {
+            region: Slot::none(),
+            before: Slot::none(),
+            radius: 0,
+        };
+        Ok(Nest {
+            taken: vec![in alloc; taken; nodes]?,
+            regions: vec![in alloc; no_region(); names]?,
+            parts: Vec::with_capacity(alloc, names)?,
+            order: Vec::with_capacity(alloc, names)?,
+        })
+    }
+
+    // Adds a node that a region took itself.
+    pub fn add_node(&mut self, node: u32, region: u32, radius: i64, before: Slot) {
+        let taken = Taken {
+            region: Slot::of(region),
+            before,
+            radius,
+        };
+        set_entry(&mut self.taken, node, taken);
+    }
+
+    // Adds a region, as yet without parts.
+    pub fn add_region(
+        &mut self,
+        name: u32,
+        parent: Slot,
+        seed: Slot,
+        last: Slot,
+        radius: i64,
+    ) -> Result<(), NoMemory> {
+        let first = number(self.parts.len());
+        let region = Finished {
+            parent,
+            seed,
+            last,
+            radius,
+            first,
+            behind: first,
+            ..no_region()
+        };
+        set_entry(&mut self.regions, name, region);
+        if parent.is_none() {
+            self.order.push(name)?;
+        }
+        Ok(())
+    }
+
+    // Adds a part to the region that was added last.
+    pub fn add_part(&mut self, name: u32, part: u32) -> Result<(), NoMemory> {
+        self.parts.push(part)?;
+        if (name as usize) < self.regions.len() {
+            self.regions[name as usize].behind = number(self.parts.len());
+        }
+        Ok(())
+    }
+
+    // Puts the regions into their order and finds the largest part of each, once all are added.
+    pub fn close(&mut self, alloc: Global) -> Result<(), NoMemory> {
+        for place in 0..self.regions.len() {
+            let Some(name) = self.order.as_slice().get(place).copied() else {
+                break;
+            };
+            let parts = parts_of(&self.regions, &self.parts, name);
+            self.order.extend_from_slice(parts)?;
+        }
+        self.order.reverse();
+        let mut sizes = vec![in alloc; 1u32; self.regions.len()]?;
+        count_nodes(&self.taken, &mut sizes);
+        self.weigh_parts(&mut sizes);
+        Ok(())
+    }
+
+    // Finds the largest part of each region, by the sizes without those of parts.
+    fn weigh_parts(&mut self, sizes: &mut [u32]) {
+        for name in self.order.as_slice() {
+            let parts = parts_of(&self.regions, &self.parts, *name);
+            let heaviest = heaviest_of(parts, sizes);
+            let size = size_of_all(parts, sizes);
+            add_at(sizes, *name, size);
+            if (*name as usize) < self.regions.len() {
+                self.regions[*name as usize].heaviest = heaviest;
+            }
+        }
+    }
+}
+
+// A name of no region.
+fn no_region() -> Finished {
+    Finished {
+        parent: Slot::none(),
+        seed: Slot::none(),
+        last: Slot::none(),
+        heaviest: Slot::none(),
+        first: 0,
+        behind: 0,
+        radius: 0,
+    }
+}
+
+// The parts of a region, in the list of all parts.
+fn parts_of<'a>(regions: &[Finished], parts: &'a [u32], name: u32) -> &'a [u32] {
+    let Some(finished) = regions.get(name as usize) else {
+        return &[];
+    };
+    let first = finished.first as usize;
+    let behind = finished.behind as usize;
+    if first > behind || behind > parts.len() {
+        return &[];
+    }
+    &parts[first..behind]
+}
+
+// The size at a place.
+fn size_at(sizes: &[u32], place: u32) -> u32 {
+    entry(sizes, place).unwrap_or(0)
+}
+
+// Adds to the size at a place.
+fn add_at(sizes: &mut [u32], place: u32, more: u32) {
+    let size = size_at(sizes, place).wrapping_add(more);
+    set_entry(sizes, place, size);
+}
+
+// Adds one to the size of each node's region.
+fn count_nodes(taken: &[Taken], sizes: &mut [u32]) {
+    for node in taken {
+        if let Some(region) = node.region.number() {
+            add_at(sizes, region, 1);
+        }
+    }
+}
+
+// The part of the greatest size.
+fn heaviest_of(parts: &[u32], sizes: &[u32]) -> Slot {
+    let mut heaviest = Slot::none();
+    let mut most = 0u32;
+    for part in parts {
+        let size = size_at(sizes, *part);
+        if size > most {
+            most = size;
+            heaviest = Slot::of(*part);
+        }
+    }
+    heaviest
+}
+
+// The sizes of all parts together.
+fn size_of_all(parts: &[u32], sizes: &[u32]) -> u32 {
+    let mut sum = 0u32;
+    for part in parts {
+        sum = sum.wrapping_add(size_at(sizes, *part));
+    }
+    sum
 }

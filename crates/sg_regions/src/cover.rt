@@ -1,0 +1,299 @@
+// Which region took each node and when, and the nodes of each region.
+//
+// A node is covered by the regions that hold it; the lowest of them took it. The nodes of a region
+// stand in a row: first those of its parts, part by part, then those that it took itself, in the order
+// in which it took them; so the row of a part is a stretch of the row of the whole. To take a node, to
+// leave one and to put two rows together takes the same time for any rows.
+//
+// A node is deep in a region if all its neighbours were seen to lie in it. It is deep as long as the
+// region is there and none of the neighbours is left; such a node need not be woken.
+use super::NoMemory;
+use super::lists::{Slot, entry, put_entry, set_entry};
+use std::alloc::Global;
+
+// Of a node that is covered: the region that took it, the terminal from which it was reached, and the
+// radius of the region then.
+#[derive(Clone, Copy)]
+pub struct Held {
+    pub region: u32,
+    pub terminal: u32,
+    pub radius: i64,
+}
+
+// The region that took a node, if there is one; its terminal and radius; and the node that the region
+// took before.
+#[derive(Clone, Copy)]
+struct Taken {
+    region: Slot,
+    terminal: u32,
+    before: Slot,
+    radius: i64,
+}
+
+// The neighbours of a node in its row; and the region in which it is deep, with the birth of that.
+#[derive(Clone, Copy)]
+struct Place {
+    next: Slot,
+    previous: Slot,
+    deep: Slot,
+    birth: u32,
+}
+
+// The ends of a region's row, the node that it took last, and its number among all that were born;
+// a region that is gone has none.
+#[derive(Clone, Copy)]
+struct Row {
+    head: Slot,
+    tail: Slot,
+    last: Slot,
+    birth: Slot,
+}
+
+// The nodes, with the regions that hold them.
+#[derive(Drop)]
+pub struct Cover {
+    taken: Vec<Taken>,
+    places: Vec<Place>,
+    rows: Vec<Row>,
+    births: u32,
+}
+
+// A row of no nodes.
+fn no_row(birth: Slot) -> Row {
+    Row {
+        head: Slot::none(),
+        tail: Slot::none(),
+        last: Slot::none(),
+        birth,
+    }
+}
+
+// A node that nothing covers.
+fn bare() -> Taken {
+    Taken {
+        region: Slot::none(),
+        terminal: 0,
+        before: Slot::none(),
+        radius: 0,
+    }
+}
+
+impl Cover {
+    // So many nodes, none of them covered.
+    pub fn new(alloc: Global, nodes: usize) -> Result<Cover, NoMemory> {
+        let place = Place {
+            next: Slot::none(),
+            previous: Slot::none(),
+            deep: Slot::none(),
+            birth: 0,
+        };
+        Ok(Cover {
+            taken: vec![in alloc; bare(); nodes]?,
+            places: vec![in alloc; place; nodes]?,
+            rows: Vec::new(alloc),
+            births: 0,
+        })
+    }
+
+    // What the node's region knows of it, if one holds it.
+    pub fn held(&self, node: u32) -> Option<Held> {
+        let taken = self.taken.get(node as usize)?;
+        let region = taken.region.number()?;
+        Some(Held {
+            region,
+            terminal: taken.terminal,
+            radius: taken.radius,
+        })
+    }
+
+    // The node that the same region took before this one.
+    pub fn before(&self, node: u32) -> Slot {
+        match self.taken.get(node as usize) {
+            Some(taken) => taken.before,
+            None => Slot::none(),
+        }
+    }
+
+    // A new region without nodes, also under a name that is used again.
+    pub fn open(&mut self, name: u32) -> Result<(), NoMemory> {
+        let birth = Slot::of(self.births);
+        self.births = self.births.wrapping_add(1);
+        put_entry(&mut self.rows, name, no_row(birth))
+    }
+
+    // A region goes: it has no nodes, and no node is deep in it.
+    pub fn close(&mut self, name: u32) {
+        set_entry(&mut self.rows, name, no_row(Slot::none()));
+    }
+
+    // Whether there is a region of this name.
+    pub fn is_open(&self, name: u32) -> bool {
+        !self.row(name).birth.is_none()
+    }
+
+    // The row of a region.
+    fn row(&self, name: u32) -> Row {
+        entry(&self.rows, name).unwrap_or(no_row(Slot::none()))
+    }
+
+    // The first node in the row of a region.
+    pub fn first(&self, name: u32) -> Option<u32> {
+        self.row(name).head.number()
+    }
+
+    // The last node in the row of a region.
+    pub fn end(&self, name: u32) -> Slot {
+        self.row(name).tail
+    }
+
+    // The node behind another in their row.
+    pub fn next(&self, node: u32) -> Option<u32> {
+        self.places.get(node as usize)?.next.number()
+    }
+
+    // The node that a region took last.
+    pub fn last(&self, name: u32) -> Option<u32> {
+        self.row(name).last.number()
+    }
+
+    // The radius at which a region leaves the node that it took last, or has none.
+    pub fn floor(&self, name: u32) -> i64 {
+        match self.last(name) {
+            Some(last) => self.radius_at(last),
+            None => 0,
+        }
+    }
+
+    // The radius at which a node was taken.
+    pub fn radius_at(&self, node: u32) -> i64 {
+        match self.taken.get(node as usize) {
+            Some(taken) => taken.radius,
+            None => 0,
+        }
+    }
+
+    // A region takes a node: it is held so from now on.
+    pub fn take(&mut self, node: u32, held: &Held) {
+        let row = self.row(held.region);
+        let taken = Taken {
+            region: Slot::of(held.region),
+            terminal: held.terminal,
+            before: row.last,
+            radius: held.radius,
+        };
+        set_entry(&mut self.taken, node, taken);
+        let place = Place {
+            next: Slot::none(),
+            previous: row.tail,
+            deep: Slot::none(),
+            birth: 0,
+        };
+        set_entry(&mut self.places, node, place);
+        let head = self.link(row, Slot::of(node));
+        let row = Row {
+            head,
+            tail: Slot::of(node),
+            last: Slot::of(node),
+            birth: row.birth,
+        };
+        set_entry(&mut self.rows, held.region, row);
+    }
+
+    // Links the end of a row to a node, and gives the first node of the longer row.
+    fn link(&mut self, row: Row, node: Slot) -> Slot {
+        match row.tail.number() {
+            Some(tail) => {
+                self.set_next(tail, node);
+                row.head
+            }
+            None => node,
+        }
+    }
+
+    fn set_next(&mut self, node: u32, next: Slot) {
+        if (node as usize) < self.places.len() {
+            self.places[node as usize].next = next;
+        }
+    }
+
+    fn set_previous(&mut self, node: u32, previous: Slot) {
+        if (node as usize) < self.places.len() {
+            self.places[node as usize].previous = previous;
+        }
+    }
+
+    // A region leaves the node that it took last.
+    pub fn leave(&mut self, name: u32, node: u32) {
+        let before = self.before(node);
+        if (node as usize) >= self.places.len() || (name as usize) >= self.rows.len() {
+            return;
+        }
+        let place = self.places[node as usize];
+        set_entry(&mut self.taken, node, bare());
+        self.rows[name as usize].last = before;
+        match place.previous.number() {
+            Some(previous) => self.set_next(previous, place.next),
+            None => self.rows[name as usize].head = place.next,
+        }
+        self.rows[name as usize].tail = place.previous;
+    }
+
+    // The row of a part comes behind that of the whole; the part keeps the ends of its own.
+    pub fn append(&mut self, whole: u32, part: u32) {
+        let row = self.row(whole);
+        let added = self.row(part);
+        if let Some(first) = added.head.number() {
+            self.set_previous(first, row.tail);
+            let head = self.link(row, added.head);
+            let longer = Row {
+                head,
+                tail: added.tail,
+                last: row.last,
+                birth: row.birth,
+            };
+            set_entry(&mut self.rows, whole, longer);
+        }
+    }
+
+    // The row of a part is a row of its own again.
+    pub fn cut(&mut self, part: u32) {
+        let row = self.row(part);
+        if let (Some(head), Some(tail)) = (row.head.number(), row.tail.number()) {
+            self.set_previous(head, Slot::none());
+            self.set_next(tail, Slot::none());
+        }
+    }
+
+    // Whether all neighbours of a node are known to lie in one region with it.
+    pub fn is_deep(&self, node: u32) -> bool {
+        let Some(place) = self.places.get(node as usize) else {
+            return false;
+        };
+        let Some(region) = place.deep.number() else {
+            return false;
+        };
+        match self.rows.get(region as usize) {
+            Some(row) => row.birth.is(place.birth),
+            None => false,
+        }
+    }
+
+    // Notes that all neighbours of a node lie in a region.
+    pub fn set_deep(&mut self, node: u32, region: u32) {
+        let birth = self.row(region).birth.number();
+        if (node as usize) < self.places.len() {
+            self.places[node as usize].deep = match birth {
+                Some(_) => Slot::of(region),
+                None => Slot::none(),
+            };
+            self.places[node as usize].birth = birth.unwrap_or(0);
+        }
+    }
+
+    // Notes that a neighbour of a node was left.
+    pub fn unset_deep(&mut self, node: u32) {
+        if (node as usize) < self.places.len() {
+            self.places[node as usize].deep = Slot::none();
+        }
+    }
+}

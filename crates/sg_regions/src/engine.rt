@@ -1,0 +1,145 @@
+// The regions over the nodes, and what they near.
+//
+// The parts of the state are kept apart, each by its own rules: the cover of the nodes, the forest of
+// the regions, the clock, and the hubs' heaps. The one rule between them: where an outer region nears
+// something over an arc, an event waits at this arc or at its way back, for no later than it comes; of
+// a hub the event is that of its soonest arc.
+//
+// `wake` enters events, `steps` has the steps of the method, `events` what comes of each event, and
+// `finish` reads the nest and the pairs off.
+mod events;
+mod finish;
+mod steps;
+mod wake;
+
+use super::NoMemory;
+use super::adjacency::{Adjacency, Arc};
+use super::clock::{Clock, NEVER};
+use super::cover::{Cover, Held};
+use super::cycles::Link;
+use super::forest::Forest;
+use super::hubs::Hubs;
+use super::lists::number;
+use super::radii::Role;
+use super::work::Work;
+use std::alloc::Global;
+
+// The top over a node, and how far it reaches beyond the node.
+#[derive(Clone, Copy)]
+struct Reach {
+    top: u32,
+    by: i64,
+}
+
+// What an outer region sees over an arc: when it gets to the end or meets the region there, and
+// whether it lies there itself.
+#[derive(Clone, Copy)]
+struct Sight {
+    time: i64,
+    is_own: bool,
+}
+
+// The regions at a time.
+#[derive(Drop)]
+pub struct Engine<'a> {
+    alloc: Global,
+    arcs: &'a Adjacency,
+    // The nodes that are terminals; region `t` is that of terminal `t`.
+    terminals: &'a [u32],
+    cover: Cover,
+    forest: Forest,
+    hubs: Hubs,
+    clock: Clock,
+    work: Work,
+    // How many terminals have no mate yet.
+    unpaired: u32,
+    // A cycle, and regions that were inner: lists that are used again.
+    cycle: Vec<Link>,
+    inner: Vec<u32>,
+}
+
+impl<'a> Engine<'a> {
+    // A region for each terminal, none grown yet.
+    pub fn new(
+        alloc: Global,
+        arcs: &'a Adjacency,
+        terminals: &'a [u32],
+    ) -> Result<Engine<'a>, NoMemory> {
+        let count = number(terminals.len());
+        let places = (arcs.nodes() as u64).saturating_add(arcs.darts() as u64);
+        let hubs = Hubs::new(alloc, arcs)?;
+        let clock = Clock::new(alloc, arcs.darts(), hubs.len())?;
+        Ok(Engine {
+            alloc,
+            arcs,
+            terminals,
+            cover: Cover::new(alloc, arcs.nodes())?,
+            forest: Forest::new(alloc, count)?,
+            hubs,
+            clock,
+            work: Work::new(count, places),
+            unpaired: count,
+            cycle: Vec::new(alloc),
+            inner: Vec::new(alloc),
+        })
+    }
+
+    // The top over a covered node, and how far it reaches beyond: the radii from the region that took
+    // the node up to the top, less the radius at which it was taken.
+    fn reach(&self, held: &Held) -> Reach {
+        let over = self.forest.over(held.region);
+        let radius = self.forest.radius(over.top, self.clock.now());
+        Reach {
+            top: over.top,
+            by: over.by.wrapping_add(radius).wrapping_sub(held.radius),
+        }
+    }
+
+    // The reach of the region over a node, if it is outer.
+    fn outer_reach(&self, node: u32) -> Option<Reach> {
+        let here = self.reach(&self.cover.held(node)?);
+        if self.forest.role(here.top) == Role::Outer {
+            Some(here)
+        } else {
+            None
+        }
+    }
+
+    // What an outer region, which reaches so far beyond the start of an arc, sees over it.
+    fn sight(&self, here: Reach, arc: &Arc) -> Sight {
+        let now = self.clock.now();
+        let left = arc.length.wrapping_sub(here.by);
+        let Some(held) = self.cover.held(arc.to) else {
+            return Sight {
+                time: now.wrapping_add(left),
+                is_own: false,
+            };
+        };
+        let there = self.reach(&held);
+        if there.top == here.top {
+            return Sight {
+                time: NEVER,
+                is_own: true,
+            };
+        }
+        let slack = left.wrapping_sub(there.by);
+        let time = match self.forest.role(there.top) {
+            Role::Outer => now.wrapping_add(slack / 2),
+            Role::Free => now.wrapping_add(slack),
+            Role::Inner => NEVER,
+        };
+        Sight {
+            time,
+            is_own: false,
+        }
+    }
+
+    // The way back of an arc that leaves a node.
+    fn way_back(&self, node: u32, arc: &Arc) -> Arc {
+        Arc {
+            dart: super::adjacency::reverse(arc.dart),
+            to: node,
+            length: arc.length,
+        }
+    }
+}

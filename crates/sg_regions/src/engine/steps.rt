@@ -1,0 +1,247 @@
+// The steps of the method: a tree grows, two trees are augmented, a cycle shrinks to a blossom, and an
+// inner blossom expands again.
+use super::Engine;
+use crate::NoMemory;
+use crate::contact::{Contact, End};
+use crate::cycles::Link;
+use crate::radii::Role;
+use std::mem::swap;
+
+impl<'a> Engine<'a> {
+    // An outer region meets another, outer or free, over a contact.
+    pub(super) fn meet(&mut self, contact: Contact) -> Result<(), NoMemory> {
+        let own = self.forest.top(contact.own.terminal);
+        let other = self.forest.top(contact.other.terminal);
+        if self.forest.role(other) == Role::Free {
+            self.grow(contact)
+        } else if self.forest.tree(own) == self.forest.tree(other) {
+            self.shrink(contact)
+        } else {
+            self.augment(contact)
+        }
+    }
+
+    // A tree grows by a free region that one of its outer regions has met, and by the region that is
+    // paired with it.
+    fn grow(&mut self, contact: Contact) -> Result<(), NoMemory> {
+        let tree = self.forest.tree(self.forest.top(contact.own.terminal));
+        let inner = self.forest.top(contact.other.terminal);
+        let (Some(tree), Some(pair)) = (tree, self.forest.pair(inner)) else {
+            return Ok(());
+        };
+        let outer = self.forest.top(pair.other.terminal);
+        self.forest.set_above(contact.reversed());
+        self.forest.add_member(inner, tree);
+        self.forest.add_member(outer, tree);
+        self.set_role(inner, Role::Inner)?;
+        self.set_role(outer, Role::Outer)?;
+        self.wake_region(outer, outer)
+    }
+
+    // Two trees meet by a contact between outer regions: the pairs on both ways to the roots change
+    // sides, both roots are paired then, and both trees go.
+    fn augment(&mut self, contact: Contact) -> Result<(), NoMemory> {
+        let own = self.forest.tree(self.forest.top(contact.own.terminal));
+        let other = self.forest.tree(self.forest.top(contact.other.terminal));
+        self.forest.flip_pairs(contact, &mut self.work);
+        self.forest.flip_pairs(contact.reversed(), &mut self.work);
+        self.let_go(own)?;
+        self.let_go(other)?;
+        self.unpaired = self.unpaired.saturating_sub(2);
+        Ok(())
+    }
+
+    // Lets a tree go: what was kept off by its inner regions may come now.
+    fn let_go(&mut self, tree: Option<u32>) -> Result<(), NoMemory> {
+        let Some(tree) = tree else {
+            return Ok(());
+        };
+        let mut inner = Vec::new(self.alloc);
+        swap(&mut inner, &mut self.inner);
+        inner.clear();
+        self.free_members(tree, &mut inner)?;
+        for name in &inner {
+            self.wake_around_region(*name)?;
+        }
+        swap(&mut inner, &mut self.inner);
+        Ok(())
+    }
+
+    // Makes the members of a tree free, and lists those that were inner.
+    fn free_members(&mut self, tree: u32, inner: &mut Vec<u32>) -> Result<(), NoMemory> {
+        let mut member = self.forest.dissolve(tree);
+        for _ in 0..self.forest.len() {
+            let Some(name) = member else {
+                break;
+            };
+            self.work.add(1);
+            member = self.forest.next_member(name);
+            self.free_member(name, tree, inner)?;
+        }
+        Ok(())
+    }
+
+    // Makes a member of a tree free, unless it is no top of this tree any more. The name of a region
+    // that is gone may be used again.
+    fn free_member(&mut self, name: u32, tree: u32, inner: &mut Vec<u32>) -> Result<(), NoMemory> {
+        if !self.cover.is_open(name) {
+            return self.forest.free_name(name);
+        }
+        if !self.forest.cycles().parent(name).is_none() || self.forest.tree(name) != Some(tree) {
+            return Ok(());
+        }
+        if self.forest.role(name) == Role::Inner {
+            inner.push(name)?;
+        }
+        self.forest.quit_tree(name);
+        self.set_role(name, Role::Free)
+    }
+
+    // The cycle that a contact within a tree closes becomes an outer blossom.
+    pub(super) fn shrink(&mut self, contact: Contact) -> Result<(), NoMemory> {
+        let own = self.forest.top(contact.own.terminal);
+        let other = self.forest.top(contact.other.terminal);
+        let Some(base) = self.forest.common_above(own, other, &mut self.work) else {
+            return Ok(());
+        };
+        let mut cycle = Vec::new(self.alloc);
+        swap(&mut cycle, &mut self.cycle);
+        self.forest.list_cycle(base, contact, &mut cycle)?;
+        self.shrink_cycle(&cycle, base)?;
+        swap(&mut cycle, &mut self.cycle);
+        Ok(())
+    }
+
+    // A cycle becomes an outer blossom: its regions that were inner are woken.
+    fn shrink_cycle(&mut self, cycle: &[Link], base: u32) -> Result<(), NoMemory> {
+        let mut inner = Vec::new(self.alloc);
+        swap(&mut inner, &mut self.inner);
+        inner.clear();
+        self.list_inner(cycle, &mut inner)?;
+        let now = self.clock.now();
+        let blossom = self.forest.shrink(cycle, base, now, &mut self.work)?;
+        self.cover.open(blossom)?;
+        self.append_rows(cycle, blossom);
+        for name in &inner {
+            self.wake_region(*name, blossom)?;
+        }
+        swap(&mut inner, &mut self.inner);
+        Ok(())
+    }
+
+    // Lists the inner regions of a cycle.
+    fn list_inner(&self, cycle: &[Link], inner: &mut Vec<u32>) -> Result<(), NoMemory> {
+        for link in cycle {
+            if self.forest.role(link.child) == Role::Inner {
+                inner.push(link.child)?;
+            }
+        }
+        Ok(())
+    }
+
+    // The rows of a cycle's regions become one.
+    fn append_rows(&mut self, cycle: &[Link], blossom: u32) {
+        for link in cycle {
+            self.cover.append(blossom, link.child);
+        }
+    }
+
+    // The inner region of a terminal has come to nothing, or two outer regions touch at a bare node of
+    // an inner one: they make a blossom with it. So no terminal's dual falls below 0.
+    pub(super) fn shrink_at(&mut self, name: u32) -> Result<(), NoMemory> {
+        match (self.forest.pair(name), self.forest.above(name)) {
+            (Some(pair), Some(above)) => self.shrink(Contact {
+                own: pair.other,
+                other: above.other,
+            }),
+            _ => Ok(()),
+        }
+    }
+
+    // An inner blossom of radius 0 is taken apart: its even side stays in the tree.
+    pub(super) fn expand(&mut self, name: u32) -> Result<(), NoMemory> {
+        let (Some(pair), Some(above)) = (self.forest.pair(name), self.forest.above(name)) else {
+            return Ok(());
+        };
+        let tree = self.forest.tree(name);
+        let size = self.forest.cycles().size(name);
+        let now = self.clock.now();
+        self.cut_rows(name);
+        self.cover.close(name);
+        self.forest.expand(name, now, &mut self.work)?;
+        let mut way = Vec::new(self.alloc);
+        swap(&mut way, &mut self.cycle);
+        let first = self.forest.top(above.own.terminal);
+        let last = self.forest.top(pair.own.terminal);
+        let length = self.forest.list_even_way(first, last, size, &mut way)?;
+        self.forest.set_above(above);
+        self.forest.set_pair(pair);
+        self.regroup(&way, length, tree)?;
+        self.wake_parts(&way, length)?;
+        swap(&mut way, &mut self.cycle);
+        Ok(())
+    }
+
+    // The rows of a blossom's parts are rows of their own again.
+    fn cut_rows(&mut self, blossom: u32) {
+        let mut part = self.forest.cycles().first(blossom);
+        for _ in 0..self.forest.cycles().size(blossom) {
+            self.cover.cut(part);
+            part = self.forest.cycles().next(part);
+        }
+    }
+
+    // The regions of the first `length` links, and the one behind them, stay in the tree, inner and
+    // outer by turns; the others are paired.
+    fn regroup(&mut self, way: &[Link], length: usize, tree: Option<u32>) -> Result<(), NoMemory> {
+        for (step, link) in way.iter().enumerate() {
+            if step > length {
+                if (step - length) % 2 == 1 {
+                    self.forest.pair_by(link.contact);
+                }
+            } else {
+                self.take_part(link, step, length, tree)?;
+            }
+        }
+        Ok(())
+    }
+
+    // The region of a link takes its part in a tree: inner at an even step, outer at an odd one.
+    fn take_part(
+        &mut self,
+        link: &Link,
+        step: usize,
+        length: usize,
+        tree: Option<u32>,
+    ) -> Result<(), NoMemory> {
+        if let Some(tree) = tree {
+            self.forest.add_member(link.child, tree);
+        }
+        if step % 2 == 1 {
+            self.forest.set_above(link.contact.reversed());
+            return self.set_role(link.child, Role::Outer);
+        }
+        if step < length {
+            self.forest.pair_by(link.contact);
+        }
+        self.set_role(link.child, Role::Inner)
+    }
+
+    // Enters the events of the regions that were a blossom's.
+    fn wake_parts(&mut self, way: &[Link], length: usize) -> Result<(), NoMemory> {
+        for (step, link) in way.iter().enumerate() {
+            if step > length {
+                self.wake_around_region(link.child)?;
+            } else if step % 2 == 1 {
+                self.wake_region(link.child, link.child)?;
+            }
+        }
+        Ok(())
+    }
+
+    // One side of a contact, at the start of an arc.
+    pub(super) fn end_at(&self, node: u32, dart: u32) -> Option<End> {
+        let terminal = self.cover.held(node)?.terminal;
+        Some(End { terminal, dart })
+    }
+}

@@ -1,0 +1,176 @@
+// Entering the events of arcs: to wake a node is to look at each of its arcs.
+use super::{Engine, Reach};
+use crate::NoMemory;
+use crate::adjacency::{Arc, reverse};
+use crate::clock::NEVER;
+use crate::hubs::Soon;
+use crate::radii::Role;
+
+impl<'a> Engine<'a> {
+    // Enters the event of an arc that leaves a node over which an outer region reaches so far.
+    pub(super) fn expect(&mut self, node: u32, here: Reach, arc: &Arc) -> Result<(), NoMemory> {
+        self.work.add(1);
+        let time = self.sight(here, arc).time;
+        match self.hubs.number_of(node) {
+            None => self.clock.expect_arc(arc.dart, time),
+            Some(hub) => {
+                if time == NEVER || time >= self.clock.due(reverse(arc.dart)) {
+                    return Ok(());
+                }
+                let dart = arc.dart;
+                self.hubs.push(hub, Soon { time, dart })?;
+                self.expect_hub(hub)
+            }
+        }
+    }
+
+    // Enters the event of the soonest arc of a hub.
+    pub(super) fn expect_hub(&mut self, hub: u32) -> Result<(), NoMemory> {
+        match self.hubs.first(hub) {
+            Some(soon) => self.clock.expect_hub(hub, soon.time),
+            None => Ok(()),
+        }
+    }
+
+    // Enters the event of the way back of an arc that leaves a node, if an outer region covers its end.
+    pub(super) fn expect_back(&mut self, node: u32, arc: &Arc) -> Result<(), NoMemory> {
+        match self.outer_reach(arc.to) {
+            Some(there) => self.expect(arc.to, there, &self.way_back(node, arc)),
+            None => Ok(()),
+        }
+    }
+
+    // Enters the events of the arcs that leave a node, over which an outer region reaches so far. Tells
+    // whether all lead to nodes of this region.
+    fn wake_by(&mut self, node: u32, here: Reach) -> Result<bool, NoMemory> {
+        self.work.add(self.arcs.arcs_of(node).len());
+        match self.hubs.number_of(node) {
+            None => self.wake_arcs(node, here),
+            Some(hub) => {
+                let is_own = self.wake_hub(hub, node, here)?;
+                self.expect_hub(hub)?;
+                Ok(is_own)
+            }
+        }
+    }
+
+    // The same for a node that is no hub.
+    fn wake_arcs(&mut self, node: u32, here: Reach) -> Result<bool, NoMemory> {
+        let arcs = self.arcs;
+        let mut is_own = true;
+        for arc in arcs.arcs_of(node) {
+            let sight = self.sight(here, arc);
+            is_own = is_own && sight.is_own;
+            self.clock.expect_arc(arc.dart, sight.time)?;
+        }
+        Ok(is_own)
+    }
+
+    // Fills the heap of a hub anew.
+    fn wake_hub(&mut self, hub: u32, node: u32, here: Reach) -> Result<bool, NoMemory> {
+        let arcs = self.arcs;
+        let mut is_own = true;
+        self.hubs.clear(hub);
+        for arc in arcs.arcs_of(node) {
+            let sight = self.sight(here, arc);
+            is_own = is_own && sight.is_own;
+            if sight.time < self.clock.due(reverse(arc.dart)) {
+                let soon = Soon {
+                    time: sight.time,
+                    dart: arc.dart,
+                };
+                self.hubs.add_arc(hub, soon)?;
+            }
+        }
+        self.hubs.settle(hub);
+        Ok(is_own)
+    }
+
+    // Enters the events of the arcs that leave a node, if an outer region covers it.
+    pub(super) fn wake(&mut self, node: u32) -> Result<(), NoMemory> {
+        if let Some(here) = self.outer_reach(node) {
+            self.wake_by(node, here)?;
+        }
+        Ok(())
+    }
+
+    // Enters the events of the arcs that lead to a node.
+    pub(super) fn wake_around(&mut self, node: u32) -> Result<(), NoMemory> {
+        let arcs = self.arcs;
+        self.work.add(arcs.arcs_of(node).len());
+        for arc in arcs.arcs_of(node) {
+            self.expect_back(node, arc)?;
+        }
+        Ok(())
+    }
+
+    // Enters the events of the arcs that leave the nodes of a region in an outer top.
+    pub(super) fn wake_region(&mut self, name: u32, top: u32) -> Result<(), NoMemory> {
+        let mut node = self.cover.first(name);
+        let end = self.cover.end(name);
+        for _ in 0..self.arcs.nodes() {
+            let Some(here) = node else {
+                break;
+            };
+            self.wake_within(here, top)?;
+            if end.is(here) {
+                break;
+            }
+            node = self.cover.next(here);
+        }
+        Ok(())
+    }
+
+    // Enters the events of the arcs that leave a node in an outer top, unless it is deep.
+    fn wake_within(&mut self, node: u32, top: u32) -> Result<(), NoMemory> {
+        self.work.add(1);
+        if self.cover.is_deep(node) {
+            return Ok(());
+        }
+        let Some(held) = self.cover.held(node) else {
+            return Ok(());
+        };
+        let here = self.reach(&held);
+        if self.wake_by(node, here)? {
+            self.cover.set_deep(node, top);
+        }
+        Ok(())
+    }
+
+    // Enters the events of the arcs that lead to the nodes of a top.
+    pub(super) fn wake_around_region(&mut self, name: u32) -> Result<(), NoMemory> {
+        let mut node = self.cover.first(name);
+        for _ in 0..self.arcs.nodes() {
+            let Some(here) = node else {
+                break;
+            };
+            self.work.add(1);
+            if !self.cover.is_deep(here) {
+                self.wake_around(here)?;
+            }
+            node = self.cover.next(here);
+        }
+        Ok(())
+    }
+
+    // Gives a top another role.
+    pub(super) fn set_role(&mut self, name: u32, role: Role) -> Result<(), NoMemory> {
+        self.forest.set_role(name, role, self.clock.now());
+        if role == Role::Inner {
+            return self.expect_floor(name);
+        }
+        Ok(())
+    }
+
+    // Enters the event of an inner region: it comes down to the node that it took last, or to nothing.
+    pub(super) fn expect_floor(&mut self, name: u32) -> Result<(), NoMemory> {
+        let left = self.height(name);
+        self.clock.expect_region(name, left)
+    }
+
+    // How far a region has grown since it took a node last.
+    pub(super) fn height(&self, name: u32) -> i64 {
+        let radius = self.forest.radius(name, self.clock.now());
+        radius.wrapping_sub(self.cover.floor(name))
+    }
+}
