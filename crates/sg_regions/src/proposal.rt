@@ -1,7 +1,7 @@
 use super::NoMemory;
 use super::adjacency::Adjacency;
 use super::chains::chains_of;
-use super::nest::grow;
+use super::grow::grow;
 use super::ways::join_of;
 use sg_graph::{Terminals, Web};
 use sg_join_check::Proposal;
