@@ -1,5 +1,5 @@
 -- What `open`, `shrink`, `expand` and `raise` make of a family.
-use Rattle.std.specs.Prelude.{◌≡◌, ◌≢◌, ℕ, ◌+◌, ◌-◌, ◌<◌, ◌≤◌, ◌^◌, List, length, Option, Some, filter, slice_set}
+use Rattle.std.specs.Prelude.{◌≡◌, ◌≢◌, ℕ, zero, suc, ◌+◌, ◌-◌, ◌<◌, ◌≤◌, ◌^◌, List, length, Option, Some, filter, slice_set}
 use Rattle.std.specs.Prelude.{slice_index, map, if◌then◌else◌, ◌==◌}
 use Rattle.std.specs.List.{list_any, range_with_len}
 use Rattle.std.specs.Option.{option_map}
@@ -25,9 +25,9 @@ blossom_of f cycle = record {
   cycle = cycle;
 }
 
--- the family with this under the name, and all else as it was
+-- the family one step later, with this under the name, and all else as it was
 abbrev pub with_slot : Family → ℕ → Option Node → Family
-with_slot f name slot = record f { nodes = slice_set f.nodes name slot }
+with_slot f name slot = record f { nodes = slice_set f.nodes name slot; steps = f.steps + 1 }
 
 -- the dual of a node after these outer nodes were raised and these inner ones lowered
 abbrev pub raised_dual : List ℕ → List ℕ → ℕ → ℕ → ℕ → ℕ
@@ -39,12 +39,18 @@ raised_dual outer inner delta name dual =
 abbrev pub with_dual : (ℕ → ℕ) → Node → Node
 with_dual change node = record node { dual = change node.dual }
 
+-- a raise by 0 is no step, and any other is one
+abbrev pub raise_steps : ℕ → ℕ
+raise_steps zero = 0
+raise_steps (suc delta) = 1
+
 -- the family in which the duals of the outer nodes have grown by delta, those of the inner nodes
--- have fallen by it, and all else is as it was
+-- have fallen by it, the step is counted, and all else is as it was
 abbrev pub raised : Family → List ℕ → List ℕ → ℕ → Family
 raised f outer inner delta = record f {
   nodes = map (λ name. option_map (with_dual (raised_dual outer inner delta name)) (node_at f name))
       (range_with_len 0 (length f.nodes));
+  steps = f.steps + raise_steps delta;
 }
 
 -- two lists of tops, all of them different

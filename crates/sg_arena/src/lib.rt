@@ -28,13 +28,13 @@
 //! ```
 #![tactic(auto)]
 
-ghost use Rattle.std.specs.Prelude.{◌≡◌, ℕ, pos, ◌≤ℤ◌};
+ghost use Rattle.std.specs.Prelude.{◌≡◌, ℕ, ◌+◌, pos, ◌≤ℤ◌};
 ghost use Rattle.sg_sums.specs.Naturals.{nat_of};
 
 mod cells;
 
 use cells::{Cell, Kind, free_children, lower_duals, raise_duals, seat_children};
-use sg_steps::Steps;
+use sg_steps::{Steps, Tally};
 use slab::Slab;
 use std::alloc::{AllocError, Global};
 use std::marker::Model;
@@ -60,6 +60,10 @@ pub struct Link {
 /// called by its name, and a top is a node that no other node holds. Where a family is meant, see
 /// `IsFamily`; it holds after every call.
 ///
+/// An arena counts its own steps, beside the count that a caller hands in: [`Arena::open`] sets them
+/// to 0, [`Arena::shrink`], [`Arena::expand`] and [`Arena::raise`] add one each, and nothing else changes
+/// them. The count takes no bytes.
+///
 /// One slab keeps all nodes. A child knows its blossom, the sibling that follows and the link to
 /// it; a blossom knows its first child and how many there are. All cells are made by
 /// [`Arena::open`]: one for each leaf, and as many spare ones. Each node owns the spare cell of one
@@ -68,6 +72,8 @@ pub struct Link {
 #[derive(Drop)]
 pub struct Arena {
     cells: Slab<Cell>,
+    // How many steps were taken.
+    steps: Tally,
     // The name of each leaf's node.
     leaves: Vec<usize>,
     // The key of each leaf's spare cell.
@@ -82,9 +88,9 @@ impl Model for Arena {
     ghost use Rattle.sg_arena.specs.Forest.{family_of};
     ghost use Rattle.sg_arena.specs.Sound.{IsSound};
 
-    ghost view = { λ a. family_of a.cells a.leaves.items };
+    ghost view = { λ a. family_of a.cells a.leaves.items a.steps };
 
-    ghost invariant = { λ a. IsSound a.cells a.leaves.items a.spares.items };
+    ghost invariant = { λ a. IsSound a.cells a.leaves.items a.spares.items a.steps };
 }
 
 impl Arena {
@@ -93,14 +99,15 @@ impl Arena {
     ghost use Rattle.sg_arena.specs.Changes.{OnlyLeaves, CanShrink, with_slot, blossom_of, CanRaise, raised};
     ghost use Rattle.sg_sums.specs.Naturals.{nat_of};
 
-    /// An arena of the leaves 0 to `k - 1`, each a top with dual 0. It takes all the memory that
-    /// later calls need: there is a name for each leaf and for each blossom over them.
+    /// An arena of the leaves 0 to `k - 1`, each a top with dual 0, before the first step. It takes all
+    /// the memory that later calls need: there is a name for each leaf and for each blossom over them.
     ///
     /// Cost: proportional to `k`.
     pub fn open(alloc: Global, k: u32) -> Result<Arena, NoMemory>
         requires { k ≤ 2 ^ 24 }
         ensures leaves { IfOk result (λ a. leaf_count a ≡ k) }
         ensures alone { IfOk result OnlyLeaves }
+        ensures fresh { IfOk result (λ a. a.steps ≡ 0) }
         ensures room { IfOk result (λ a. 2 * k ≤ length a.nodes) }
         ensures family { IfOk result IsFamily }
     {
@@ -120,8 +127,10 @@ impl Arena {
         }
         let room = cells.capacity();
         prove!(2 * count <= room);
+        let steps = Tally::new();
         Ok(Arena {
             cells,
+            steps,
             leaves,
             spares,
         })
@@ -284,9 +293,10 @@ impl Arena {
         ensures made { self.new ≡ with_slot self.old result (Some (blossom_of self.old cycle.now)) }
         ensures top { IsTop self.new result }
         ensures family { IsFamily self.new }
+        ensures taken { self.new.steps ≡ self.old.steps + 1 }
         ensures counted { steps.new ≡ steps.old + 1 }
     {
-        steps.tick();
+        tick(&mut self.steps, steps);
         let first = cycle[0].node;
         let name = self.spares[self.cells[first].spare as usize];
         let spare = self.cells[cycle[1].node].spare;
@@ -313,9 +323,10 @@ impl Arena {
         ensures gone { self.new ≡ with_slot self.old node None }
         ensures children { (child : ℕ) → IsChildOf self.old node child → IsTop self.new child }
         ensures family { IsFamily self.new }
+        ensures taken { self.new.steps ≡ self.old.steps + 1 }
         ensures counted { steps.new ≡ steps.old + 1 }
     {
-        steps.tick();
+        tick(&mut self.steps, steps);
         let Kind::Blossom { first, count } = self.cells[node].kind else {
             unreachable!()
         };
@@ -338,13 +349,23 @@ impl Arena {
         requires tops { CanRaise self.old outer.now inner.now (nat_of delta) }
         ensures raised { self.new ≡ raised self.old outer.now inner.now (nat_of delta) }
         ensures family { IsFamily self.new }
+        ensures taken { self.new.steps ≡ self.old.steps + 1 }
         ensures counted { steps.new ≡ steps.old + 1 }
     {
-        steps.tick();
+        tick(&mut self.steps, steps);
         let amount = amount_of(delta);
         raise_duals(&mut self.cells, outer, amount);
         lower_duals(&mut self.cells, inner, amount);
     }
+}
+
+// Counts a step of the arena, and of its caller.
+fn tick<L: Ledger>(own: &mut Tally, steps: &mut Steps<L>)
+    ensures own { own.new ≡ own.old + 1 }
+    ensures counted { steps.new ≡ steps.old + 1 }
+{
+    own.tick();
+    steps.tick();
 }
 
 // A positive number without its sign.
