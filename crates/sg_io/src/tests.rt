@@ -1,3 +1,5 @@
+ghost use Rattle.std.specs.Prelude.{◌≤◌, IfOk};
+
 use super::{
     CallList, Gave, MemSink, MemSource, ReadEnd, ReadSource, Sink, Source, Took, WriteFault,
     WriteSink, put, read_all,
@@ -50,19 +52,36 @@ fn a_text_is_written_whole_or_up_to_the_fault(rt: HostRuntime) -> Result<(), Fai
     Ok(())
 }
 
-// A reader and writer that fails at once.
+// A reader and writer that fails at its first call, moves nothing at its third, and moves one byte at
+// each other call.
 #[derive(Drop)]
-struct Broken;
+struct FailsOnce {
+    calls: u64,
+}
 
-impl Read for Broken {
-    fn read(&mut self, _into: &mut [u8]) -> io::Result<usize> {
-        Err(ErrorKind::Interrupted.into())
+impl FailsOnce {
+    fn answer(&mut self, offered: usize) -> io::Result<usize>
+        ensures { IfOk result (λ n. n ≤ offered) }
+    {
+        let call = self.calls;
+        self.calls = call.saturating_add(1);
+        match call {
+            0 => Err(ErrorKind::Interrupted.into()),
+            2 => Ok(0),
+            _ => Ok(offered.min(1)),
+        }
     }
 }
 
-impl Write for Broken {
-    fn write(&mut self, _bytes: &[u8]) -> io::Result<usize> {
-        Err(ErrorKind::Interrupted.into())
+impl Read for FailsOnce {
+    fn read(&mut self, into: &mut [u8]) -> io::Result<usize> {
+        self.answer(into.len())
+    }
+}
+
+impl Write for FailsOnce {
+    fn write(&mut self, bytes: &[u8]) -> io::Result<usize> {
+        self.answer(bytes.len())
     }
 
     fn flush(&mut self) -> io::Result<()> {
@@ -70,6 +89,7 @@ impl Write for Broken {
     }
 }
 
+// One call more of the inner reader than of the source shifts the answers behind it.
 #[test]
 fn a_reader_of_std_is_a_source(rt: HostRuntime) -> Result<(), Fail> {
     let mut source = ReadSource::new(b"abc".as_slice());
@@ -79,10 +99,14 @@ fn a_reader_of_std_is_a_source(rt: HostRuntime) -> Result<(), Fail> {
     assert_eq!(rt; source.read(&mut into), Took::Got(1));
     assert_eq!(rt; into[0], b'c');
     assert_eq!(rt; source.read(&mut into), Took::End);
-    assert_eq!(rt; ReadSource::new(Broken).read(&mut into), Took::Failed);
+    let mut source = ReadSource::new(FailsOnce { calls: 0 });
+    for wanted in [Took::Failed, Took::Got(1), Took::End, Took::Got(1)] {
+        assert_eq!(rt; source.read(&mut into), wanted);
+    }
     Ok(())
 }
 
+// As above, of the inner writer.
 #[test]
 fn a_writer_of_std_is_a_sink(rt: HostRuntime) -> Result<(), Fail> {
     let mut written = Vec::new(rt.alloc());
@@ -90,7 +114,10 @@ fn a_writer_of_std_is_a_sink(rt: HostRuntime) -> Result<(), Fail> {
     assert_eq!(rt; sink.write(b"abc"), Gave::Took(3));
     drop(sink);
     assert_eq!(rt; written.as_slice(), b"abc".as_slice());
-    assert_eq!(rt; WriteSink::new(Broken).write(b"abc"), Gave::Failed);
+    let mut sink = WriteSink::new(FailsOnce { calls: 0 });
+    for wanted in [Gave::Failed, Gave::Took(1), Gave::Failed, Gave::Took(1)] {
+        assert_eq!(rt; sink.write(b"abc"), wanted);
+    }
     let mut place = [0u8; 1];
     let mut narrow = WriteSink::new(place.as_mut_slice());
     assert_eq!(rt; narrow.write(b"abc"), Gave::Took(1));

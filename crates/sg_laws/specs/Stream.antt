@@ -1,5 +1,5 @@
 -- The streams of the laws.
-use Rattle.std.specs.Prelude.{◌≡◌, ◌+◌, ◌%◌, ◌<◌, ◌≤ℤ◌, ◌-ℤ◌, ◌==◌, ◌^◌, ℕ, ℤ, pos, negsuc, List, map, length, All, if◌then◌else◌, slice_index_or}
+use Rattle.std.specs.Prelude.{◌≡◌, ◌+◌, ◌%◌, ◌<◌, ◌≤ℤ◌, ◌-ℤ◌, ◌==◌, ℕ, ℤ, pos, negsuc, List, ◌++◌, map, length, All, if◌then◌else◌, slice_index_or}
 use Rattle.std.specs.List.{range_with_len}
 use Rattle.rand_core.specs.Steps.{first_words}
 use Rattle.rand_pcg.specs.Lcg.{Lcg, started, increment_of}
@@ -9,6 +9,10 @@ use Rattle.rand_pcg.specs.Pcg.{pcg32, multiplier_64}
 pub record IsDraw (z : ℤ) : Type 0 where
   pub low : negsuc 1048575 ≤ℤ z
   pub high : z ≤ℤ pos 1048576
+
+-- so many draws were made of a stream, the first ones, and it goes on behind them
+abbrev pub Draws : ℕ → (ℕ → List ℤ) → (ℕ → List ℤ) → Type 0
+Draws made old new = (c : ℕ) → old (made + c) ≡ old made ++ new c
 
 -- 1 for an even number, -1 for an odd one
 abbrev pub sign_of : ℕ → ℤ

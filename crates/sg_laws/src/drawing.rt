@@ -1,5 +1,5 @@
-ghost use Rattle.std.specs.Prelude.{◌≡◌, ◌+◌, ◌++◌, ℕ, ◌∷◌, length, All, IfOk};
-ghost use Rattle.sg_laws.specs.Stream.{IsDraw};
+ghost use Rattle.std.specs.Prelude.{◌≡◌, ◌+◌, ℕ, ◌∷◌, length, All, IfOk, OnErr, OnOk};
+ghost use Rattle.sg_laws.specs.Stream.{Draws, IsDraw};
 
 use super::{Disorder, NoMemory};
 use std::alloc::Global;
@@ -13,12 +13,14 @@ pub fn start(law: &mut Box<dyn Disorder>, seed: u64)
     law.seed(seed);
 }
 
-/// The next draws of a law, which goes on behind them. After want of memory it has made some of them.
+/// The next draws of a law, which goes on behind them. After want of memory it has made none, since the
+/// memory for all of them is taken first.
 pub fn draws(alloc: Global, law: &mut Box<dyn Disorder>, count: usize) -> Result<Vec<i64>, NoMemory>
     ensures drawn { IfOk result (λ xs. xs.items ≡ next law.old count) }
     ensures count { IfOk result (λ xs. length xs.items ≡ count) }
     ensures range { IfOk result (λ xs. All IsDraw xs.items) }
-    ensures rest { IfOk result (λ _. (c : ℕ) → next law.old (count + c) ≡ next law.old count ++ next law.new c) }
+    ensures rest { OnOk result (Draws count (next law.old) (next law.new)) }
+    ensures kept { OnErr result (law.new ≡ law.old) }
     ensures title { title law.new ≡ title law.old }
     ensures seeds { (s c : ℕ) → seeded law.new s c ≡ seeded law.old s c }
 {
@@ -26,7 +28,7 @@ pub fn draws(alloc: Global, law: &mut Box<dyn Disorder>, count: usize) -> Result
     let mut found = Vec::with_capacity(alloc, count)?;
     for _ in 0..count {
         let value = next_draw(law);
-        found.push(value)?;
+        found.push_reserved(value);
     }
     Ok(found)
 }

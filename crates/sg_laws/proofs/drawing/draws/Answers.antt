@@ -1,4 +1,4 @@
-use Rattle.std.proofs.Common.{rules, ◌≡◌, ◌+◌, ℕ, ℤ, List, ◌∷◌, [], ◌++◌, ap, ◌∙◌, sym, arith, refl, length, w64, to_z-of_z}
+use Rattle.std.proofs.Common.{rules, ◌≡◌, ◌++◌, ap, ◌∙◌, sym, arith, w64, to_z-of_z}
 use Rattle.std.proofs.lemmas.List.Elements.{All-push}
 use Rattle.sg_laws.specs.Stream.{IsDraw}
 use Rattle.sg_laws.proofs.Streams.{one_more, one_fewer, all_found}
@@ -9,13 +9,14 @@ loop-preserved g c =
     let e = c.next_draw-value.ensures in
     let value = to_z-of_z {w = w64} {z = c.next_draw-value.result} (search rules) in
     let last = (goal.Disorder-dyn g (c.args.law.now.vtable, c.args.law.now.value)).next c.args.law.now.value in (
-      λ n. one_more last _ _ c.loop.found.items c.push.new.self.items c.next_draw-value.result c.loop.counter n c.loop.invariant.0 e.stream
-          (rw value at c.in_ok-push.ensures.items),
+      λ n. one_more last _ _ c.loop.found.items c.push_reserved.new.self.items c.next_draw-value.result c.loop.counter n c.loop.invariant.0 e.stream
+          (rw value at c.push_reserved.ensures.items),
       λ n. one_fewer _ _ _ n c.loop.invariant.1 e.stream,
       search rules,
-      rw (rw value at c.in_ok-push.ensures.items) (All-push IsDraw c.loop.found.items c.next_draw-value.result c.loop.invariant.3 e.range),
-      e.title ∙ c.loop.invariant.4,
-      λ s n. e.seeds s n ∙ c.loop.invariant.5 s n,
+      search rules,
+      rw (rw value at c.push_reserved.ensures.items) (All-push IsDraw c.loop.found.items c.next_draw-value.result c.loop.invariant.4 e.range),
+      e.title ∙ c.loop.invariant.5,
+      λ s n. e.seeds s n ∙ c.loop.invariant.6 s n,
     )
 
 pub returns-clause-drawn : goal.returns-clause-drawn
