@@ -5,6 +5,7 @@ use Rattle.sg_match.specs.Steps.{steps_left}
 
 abbrev pub invariant-loop-node : goal.invariant-loop-node
 invariant-loop-node g l = (l.self.table ≡ l.fn.self.table) × (l.steps + steps_left l.self ≤ l.fn.steps + 2 * l.fn.self.table.size * l.fn.self.table.size)
+    × (l.steps + l.fn.self.family.steps ≡ l.fn.steps + l.self.family.steps)
 
 abbrev pub decreases-loop-node : goal.decreases-loop-node
 decreases-loop-node g l = steps_left l.self
