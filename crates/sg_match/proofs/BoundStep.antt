@@ -1,8 +1,8 @@
 -- How the bound on all steps is kept.
-use Rattle.std.proofs.Common.{◌≡◌, ◌+◌, ◌*◌, ◌≤◌, None, Some, ℕ, ap, sym, ◌∙◌, arith, length}
+use Rattle.std.proofs.Common.{◌≡◌, ◌+◌, ◌*◌, ◌≤◌, None, ap, sym, ◌∙◌, arith, length}
 use Rattle.std.proofs.lemmas.Option.{none-some}
 use Rattle.sg_match.proofs.EngineLemmas.{no_edges}
-use Rattle.sg_match.specs.Bound.{IsBounded, IsCalm}
+use Rattle.sg_match.specs.Bound.{IsBounded}
 use Rattle.sg_match.specs.Engine.{IsEngine}
 use Rattle.sg_match.specs.State.{State}
 use Rattle.sg_match.specs.Steps.{steps_left}
