@@ -1,6 +1,6 @@
 -- The family with other duals, as `raise` leaves it: what it keeps, and how totals change.
 use Rattle.std.proofs.Common.{Bool, Contains, IsSome, List, None, Option, Some, [], ap, arith, cond, eq-eqb, eqb, false, filter, get_or, inl, inr, length}
-use Rattle.std.proofs.Common.{map, refl, subst, sum_by, sym, true, ℕ, ◌%◌, ◌+◌, ◌-◌, ◌<◌, ◌^◌, ◌∙◌, ◌∷◌, ◌≡◌, ◌≤◌, ◌⊎◌}
+use Rattle.std.proofs.Common.{map, refl, subst, suc, sum_by, sym, true, zero, ℕ, ◌%◌, ◌+◌, ◌-◌, ◌<◌, ◌^◌, ◌∙◌, ◌∷◌, ◌≡◌, ◌≤◌, ◌⊎◌}
 use Rattle.std.proofs.lemmas.Bool.{cases_Bool, cases_eq, cases_lt, eqb-true, false_from_ne_true, false≢true, ne_eqb}
 use Rattle.std.proofs.lemmas.List.{get_or_past}
 use Rattle.std.proofs.lemmas.List.Elements.{filter_agree}
@@ -10,7 +10,7 @@ use Rattle.std.proofs.lemmas.List.Sums.{sum_by-le-sum_by}
 use Rattle.std.specs.List.{list_any, range_with_len}
 use Rattle.std.specs.Option.{option_map, option_map_or}
 use Rattle.sg_arena.specs.declared.Link.{Link}
-use Rattle.sg_arena.specs.Changes.{CanRaise, raised, raised_dual, with_dual}
+use Rattle.sg_arena.specs.Changes.{CanRaise, raise_steps, raised, raised_dual, with_dual}
 use Rattle.sg_arena.specs.Family.{Covers, Family, Holds, IsAlive, IsCycle, IsFamily, IsTop, Node, after_index, any_holds, blank_link, cycle_of, dual_of}
 use Rattle.sg_arena.specs.Family.{has_leaf, holds, leaf_count, leaves_of, link_at, node_at, share, total_of}
 use Rattle.sg_arena.specs.Forest.{links}
@@ -108,6 +108,11 @@ module _ (f g : Family) (fam : IsFamily f) (same_leaves : g.leaf_nodes ≡ f.lea
             ];
         bounded = fits;
       }
+
+-- a raise is at most one step
+pub raise_steps-most : (delta : ℕ) → raise_steps delta ≤ 1
+raise_steps-most zero = omega arith
+raise_steps-most (suc delta) = omega arith
 
 module _ (f : Family) (outer inner : List ℕ) (delta : ℕ) where
   -- the node under a name after a raise

@@ -1,7 +1,7 @@
 -- The engine's state after a round: a raise of the tree, and what is tight then.
 use Rattle.std.proofs.Common.{◌≡◌, ◌≢◌, ℕ, ◌+◌, ◌*◌, ◌-◌, ◌<◌, ◌≤◌, ◌%◌, Bool, true, false, not, cond, eqb, ℤ, pos, List, [], length, get_or, MatchOption}
-use Rattle.std.proofs.Common.{Option, Some, None, refl, sym, ap, ◌∙◌, subst, inl, inr, arith}
-use Rattle.std.proofs.lemmas.Option.{none-some}
+use Rattle.std.proofs.Common.{zero, suc, Option, Some, None, refl, sym, ap, ◌∙◌, subst, inl, inr, arith}
+use Rattle.std.proofs.lemmas.Option.{none-some, same_Some}
 use Rattle.std.specs.List.{list_any, range_with_len}
 use Rattle.std.specs.Option.{option_map, option_map_or}
 use Rattle.std.proofs.lemmas.Int.{ints}
@@ -10,7 +10,7 @@ use Rattle.sg_arena.proofs.DualLemmas.{between-tops}
 use Rattle.sg_arena.proofs.FamilyLemmas.{some_leaf}
 use Rattle.sg_sums.proofs.ListLaws.{cases_in, list_any-agree, sum_by-agree}
 use Rattle.sg_arena.proofs.RaisedFamily.{IsTop-raised_old, cycle-raised, length-raised, node_at-raised}
-use Rattle.sg_arena.specs.Changes.{CanRaise, raised, raised_dual, with_dual}
+use Rattle.sg_arena.specs.Changes.{CanRaise, raise_steps, raised, raised_dual, with_dual}
 use Rattle.sg_sums.specs.Naturals.{nat_of}
 use Rattle.sg_arena.specs.Family.{Family, Holds, IsBlossom, IsFamily, IsTop, Node, dual_of, holds, leaf_count, node_at}
 use Rattle.sg_match.proofs.InnerLemmas.{IsLeastDual}
@@ -23,10 +23,11 @@ use Rattle.sg_match.proofs.RaiseStep.{CanRaise-tree, IsFeasible-raised, IsExpose
 use Rattle.sg_match.proofs.RaiseStep.{total_outer}
 use Rattle.sg_match.proofs.TreeLemmas.{inner_at, length-inners, outer_cases, outer_pair}
 use Rattle.sg_match.proofs.TopLemmas.{top_of}
+use Rattle.sg_match.specs.Bound.{IsBounded, IsCalm}
 use Rattle.sg_match.specs.DualChange.{CanChangeDuals}
 use Rattle.sg_match.specs.InnerZeros.{IsInnerZero}
 use Rattle.sg_match.specs.Engine.{IsEngine}
-use Rattle.sg_match.specs.Events.{IsNext}
+use Rattle.sg_match.specs.Events.{IsNext, IsTightOuterFree, IsTightOuterOuter}
 use Rattle.sg_match.specs.Feasible.{IsFeasible}
 use Rattle.sg_pairing.specs.Tight.{IsTight}
 use Rattle.sg_match.specs.Exposed.{IsExposed}
@@ -35,7 +36,7 @@ use Rattle.sg_match.specs.Pairs.{IsPaired, pair_of}
 use Rattle.sg_match.specs.Nearest.{HasNearest, IsAt, IsOuterFreeAt, IsOuterOuterAt, IsNearest}
 use Rattle.sg_match.specs.State.{State}
 use Rattle.sg_match.specs.Steps.{blossoms_of, has_children, rest_of, steps_left, tree_left}
-use Rattle.sg_match.specs.Tree.{IsOut, IsTree, any_top, inners, edge_at, outers}
+use Rattle.sg_match.specs.Tree.{IsFreeLeaf, IsOut, IsTree, any_top, inners, edge_at, outers}
 use Rattle.sg_match.specs.declared.Edge.{Edge}
 use Rattle.sg_match.specs.declared.Event.{Event}
 use Rattle.sg_match.specs.declared.Event.TheVariants.{InnerZero, OuterOuter, OuterFree}
@@ -44,10 +45,14 @@ use Rattle.sg_match.specs.declared.TreeEdge.{TreeEdge}
 -- a raise by nothing changes nothing
 pub raised-none : (f : Family) (outer inner : List ℕ) → raised f outer inner 0 ≡ f
 raised-none f outer inner =
-    ap (λ ns. record { leaf_nodes = f.leaf_nodes; nodes = ns })
+    ap (λ n. record { leaf_nodes = f.leaf_nodes; nodes = (raised f outer inner 0).nodes; steps = n }) none
+    ∙ ap (λ ns. record { leaf_nodes = f.leaf_nodes; nodes = ns; steps = f.steps })
     (ext_get_or None (raised f outer inner 0).nodes f.nodes (length-raised f outer inner 0)
     (λ n low. node_at-raised f outer inner 0 n ∙ same n (node_at f n)))
   where
+    none : f.steps + raise_steps 0 ≡ f.steps
+    none = omega arith
+
     dual_same : (p q : Bool) (d : ℕ) → cond p (d + 0) (cond q (d - 0) d) ≡ d
     dual_same true q d = omega arith
     dual_same false true d = omega arith
@@ -238,8 +243,8 @@ module _ (s : State) (r delta : ℕ) (engine : IsEngine s) (rooted : s.root ≡ 
             (inners s.edges) delta,
       ))
 
-  IsEngine-raised : IsEngine after
-  IsEngine-raised =
+  IsEngine-raised : IsBounded after → IsEngine after
+  IsEngine-raised bounded =
       let can = CanRaise-engine in
       record {
         costs = engine.costs;
@@ -252,6 +257,7 @@ module _ (s : State) (r delta : ℕ) (engine : IsEngine s) (rooted : s.root ≡ 
         tree = subst (λ o. MatchOption o (s.edges ≡ []) (λ q. IsTree g' (cost s.table) s.pairs q s.edges)) (sym rooted)
             (IsTree-raised s.family (cost s.table) r s.edges delta fam can s.pairs engine.paired tree);
         left = omega (arith, left-raised, engine.left);
+        bounded = bounded;
       }
 
   -- the pair at this amount comes next
@@ -288,6 +294,50 @@ module _ (s : State) (r delta : ℕ) (engine : IsEngine s) (rooted : s.root ≡ 
             (sym (held s.family (cost s.table) r s.edges delta fam can t u) ∙ in_u) (sym (held s.family (cost s.table) r s.edges delta fam can t v) ∙ in_v);
         slack = omega (arith, tight_outer_outer s.family (cost s.table) r s.edges delta fam can u v at);
       }
+
+  -- before a raise by something nothing is due
+  IsCalm-before : 1 ≤ delta → IsCalm s
+  IsCalm-before some =
+      record {
+        inner_zero = λ node zero.
+            let is = inner_at s.edges zero.place zero.within ∙ zero.here in
+            let within : zero.place < length (inners s.edges) = omega (arith, zero.within, length-inners s.edges) in
+            let least = change.blossoms zero.place within (subst (λ n. IsBlossom s.family n) (sym is) zero.blossom) in
+            omega (arith, some, least, ap (λ n. dual_of s.family n) is, zero.inner_zero);
+        free = λ root u v is at. free_apart u v (subst (λ n. IsTightOuterFree s n u v) (same_root root is) at);
+        both = λ root u v is at. both_apart u v (subst (λ n. IsTightOuterOuter s n u v) (same_root root is) at);
+      }
+    where
+      same_root : (root : ℕ) → s.root ≡ Some root → root ≡ r
+      same_root root is = same_Some root r (sym is ∙ rooted)
+
+      free_apart : (u v : ℕ) → IsTightOuterFree s r u v → ⊥
+      free_apart u v at =
+          let away : IsFreeLeaf s.family r s.edges v = (
+            λ i low_i in_v. let out = at.out (get_or (outers r s.edges) i 0) (tree.shape.tops.outer_tops i low_i) in_v in out.outer i low_i refl,
+            λ i low_i in_v. let out = at.out (get_or (inners s.edges) i 0) (tree.shape.tops.inner_tops i low_i) in_v in out.inner i low_i refl,
+          ) in
+          omega (arith, some, at.slack, change.slacks.free u v at.low_u at.low_v at.outer away)
+
+      both_apart : (u v : ℕ) → IsTightOuterOuter s r u v → ⊥
+      both_apart u v at =
+          let i = at.outer_u.0 in
+          let j = at.outer_v.0 in
+          let differ : i ≢ j =
+          (λ same. at.apart (get_or (outers r s.edges) i 0) (tree.shape.tops.outer_tops i at.outer_u.1) at.outer_u.2
+          (subst (λ k. Holds s.family (get_or (outers r s.edges) k 0) v) (sym same) at.outer_v.2)) in
+          omega (
+            arith,
+            some,
+            at.slack,
+            change.slacks.between u v i j at.low_u at.low_v at.outer_u.1 at.outer_v.1 differ at.outer_u.2 at.outer_v.2,
+          )
+
+-- an event that comes next is due
+next_due : (s : State) (r : ℕ) → s.root ≡ Some r → (event : Event) → IsNext s r event → IsCalm s → ⊥
+next_due s r rooted (InnerZero node) next calm = calm.inner_zero node next.inner_zero
+next_due s r rooted (OuterFree u v) next calm = calm.free r u v rooted next
+next_due s r rooted (OuterOuter u v) next calm = calm.both r u v rooted next
 
 -- what the nearest pair and the least dual give: by how much the duals rise
 pub record IsDualChange (s : State) (r : ℕ) (event : Event) (amount delta : ℕ) : Type 0 where
@@ -331,6 +381,34 @@ module _ (s : State) (r : ℕ) (engine : IsEngine s) (rooted : s.root ≡ Some r
             (CanRaise-engine s r delta engine rooted (CanChangeDuals-changed event amount delta changed)) at.0 at.1 at.2 (omega (arith, ints, at.3))))
       ]
 
+  -- after the raise something is due
+  not_calm : (event : Event) (amount delta : ℕ) (changed : IsDualChange s r event amount delta) →
+      IsCalm (after s r delta engine rooted (CanChangeDuals-changed event amount delta changed)) → ⊥
+  not_calm event amount delta changed calm =
+      next_due (after s r delta engine rooted (CanChangeDuals-changed event amount delta changed)) r rooted event
+      (IsNext-changed event amount delta changed calm.inner_zero) calm
+
+  -- so the bound is kept
+  IsBounded-changed : (event : Event) (amount delta : ℕ) (changed : IsDualChange s r event amount delta) →
+      IsBounded (after s r delta engine rooted (CanChangeDuals-changed event amount delta changed))
+  IsBounded-changed event amount zero changed =
+      subst (λ f. IsBounded (record {
+        family = f;
+        table = s.table;
+        pairs = s.pairs;
+        exposed = s.exposed;
+        root = s.root;
+        edges = s.edges;
+      })) (sym (raised-none s.family (outers r s.edges) (inners s.edges))) engine.bounded
+  IsBounded-changed event amount (suc n) changed =
+      let change = CanChangeDuals-changed event amount (suc n) changed in
+      let left = left-raised s r (suc n) engine rooted change in
+      let before = engine.bounded.calm (IsCalm-before s r (suc n) engine rooted change (omega arith)) in
+      record {
+        due = omega (arith, left, before);
+        calm = λ calm. absurd (not_calm event amount (suc n) changed calm);
+      }
+
 -- a round over the values as the calls hand them on: what is raised by is a whole number
 pub record IsChangingDuals (s : State) (root : ℕ) (event : Event) (amount given : ℤ) : Type 0 where
   pub engine : IsEngine s
@@ -368,3 +446,4 @@ module _ {s : State} {root : ℕ} {event : Event} {amount given : ℤ} (p : IsCh
 
   pub changed_engine : IsEngine (after s root (nat_of given) p.engine p.rooted change)
   changed_engine = IsEngine-raised s root (nat_of given) p.engine p.rooted change
+      (IsBounded-changed s root p.engine p.rooted event (nat_of amount) (nat_of given) p.changed)

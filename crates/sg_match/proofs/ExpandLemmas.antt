@@ -8,6 +8,7 @@ use Rattle.sg_arena.specs.Family.{Family, Holds, IsChildAt, IsChildOf, IsTop, cy
 use Rattle.sg_arena.specs.declared.Link.{Link}
 use Rattle.sg_arena.proofs.FamilyLemmas.{length-with_slot}
 use Rattle.sg_sums.proofs.ListLaws.{cases_option}
+use Rattle.sg_match.proofs.BoundStep.{IsBounded-made}
 use Rattle.sg_match.proofs.EngineLemmas.{exposed_of, no_edges, symmetric, tree_of}
 use Rattle.sg_match.proofs.NodeLemmas.{length-nodes, node_at_place}
 use Rattle.sg_match.proofs.RingLemmas.{IsFacing-from, IsRing, IsRing-rotated}
@@ -152,6 +153,7 @@ module _ (s : State) (b : ℕ) (engine : IsEngine s) (inner_zero : IsInnerZero s
                 inner_zero.inner_zero is ring_pairs s.exposed rooted.exposed);
             tree = subst (λ o. MatchOption o (grown ≡ []) (λ r. IsTree g price now r grown)) (sym rooted.is) tree;
             left = omega (arith, less-expand, engine.left);
+            bounded = IsBounded-made after (omega (arith, less-expand, engine.bounded.due));
           }
 
 -- the blossom's tree edge is found

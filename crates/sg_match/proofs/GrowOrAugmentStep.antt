@@ -9,6 +9,7 @@ use Rattle.std.proofs.lemmas.List.Folds.{list_any-append}
 use Rattle.sg_arena.proofs.FamilyLemmas.{leaf_bound, top-apart}
 use Rattle.sg_sums.proofs.ListLaws.{place_of_any}
 use Rattle.sg_arena.specs.Family.{Family, Holds, IsFamily, IsTop, holds, leaf_count}
+use Rattle.sg_match.proofs.BoundStep.{IsBounded-made}
 use Rattle.sg_match.proofs.EngineLemmas.{symmetric}
 use Rattle.sg_match.proofs.GrowStep.{IsTree-grown}
 use Rattle.sg_match.proofs.NameLemmas.{place_of_name}
@@ -121,6 +122,7 @@ module _ (f : Family) (table : Table) (pairs : List (Option Edge)) (exposed : Li
                     (tight-back f (cost table) u v (symmetric (with_tree (Some root) edges) engine u v tight_edge.low_u tight_edge.low_v)
                     (omega (arith, tight_edge.slack)));
                 left = omega (arith, less, engine.left);
+                bounded = IsBounded-made (with_tree (Some root) more) (omega (arith, less, engine.bounded.due));
               }
 
       module _ (unpaired : pair_of pairs top ≡ None) where
@@ -203,6 +205,7 @@ module _ (f : Family) (table : Table) (pairs : List (Option Edge)) (exposed : Li
                 exposed = IsExposed-done;
                 tree = refl;
                 left = omega (arith, ended, engine.left, taken.count listed);
+                bounded = IsBounded-made done (omega (arith, ended, engine.bounded.due));
               }
 
 -- the same of the state that a contract sees

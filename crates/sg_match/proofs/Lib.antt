@@ -1,6 +1,7 @@
 pub mod PairLemmas
 pub mod TreeLemmas
 pub mod EngineLemmas
+pub mod BoundStep
 pub mod RaiseStep
 pub mod AugmentLemmas
 pub mod TreeCycleLemmas

@@ -12,6 +12,7 @@ use Rattle.sg_arena.specs.Changes.{OnlyLeaves}
 use Rattle.sg_arena.specs.Family.{Family, IsFamily, Node, leaf_count, node_at, share, total_of}
 use Rattle.sg_arena.specs.Slack.{duals_between}
 use Rattle.sg_arena.specs.declared.Link.{Link}
+use Rattle.sg_match.proofs.BoundStep.{IsBounded-made}
 use Rattle.sg_match.specs.Engine.{IsEngine}
 use Rattle.sg_match.specs.Feasible.{IsFeasible}
 use Rattle.sg_pairing.specs.Tight.{IsTight}
@@ -24,7 +25,7 @@ use Rattle.sg_match.specs.declared.TreeEdge.{TreeEdge}
 use Rattle.sg_slack.specs.Table.{Table}
 use Rattle.sg_sums.proofs.SumLaws.{sum_below-zero, sum_by_is_sum_below}
 
-module _ (f : Family) (only : OnlyLeaves f) (t : Table) (metric : IsMetric t) (size : leaf_count f ≡ t.size) (pairs : List (Option Edge))
+module _ (f : Family) (only : OnlyLeaves f) (first : f.steps ≡ 0) (t : Table) (metric : IsMetric t) (size : leaf_count f ≡ t.size) (pairs : List (Option Edge))
     (room : length pairs ≡ length f.nodes) (free : (n : ℕ) → pair_of pairs n ≡ None) where
   fam : IsFamily f
   fam = IsFamily-leaves f only
@@ -109,4 +110,6 @@ module _ (f : Family) (only : OnlyLeaves f) (t : Table) (metric : IsMetric t) (s
         exposed = subst (λ ns. IsExposed f pairs None ns) (sym named) exposed;
         tree = bare;
         left = omega (arith, steps_left-opened names edges named bare, ap (λ xs. length xs) named, size);
+        bounded = IsBounded-made (record { family = f; table = t; pairs = pairs; exposed = names; root = None; edges = edges })
+            (omega (arith, steps_left-opened names edges named bare, first));
       }

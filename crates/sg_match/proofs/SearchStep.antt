@@ -11,6 +11,7 @@ use Rattle.std.proofs.Common.{zero-add}
 use Rattle.std.proofs.Math.Seq.{get_or-append_seam}
 use Rattle.sg_arena.proofs.FamilyLemmas.{leaf_bound, some_leaf}
 use Rattle.sg_arena.specs.Family.{Family, IsTop, leaf_count}
+use Rattle.sg_match.proofs.BoundStep.{IsBounded-made, bound-bare}
 use Rattle.sg_match.proofs.StepsStep.{count_by-one_fewer}
 use Rattle.sg_match.specs.Engine.{IsEngine}
 use Rattle.sg_match.specs.Exposed.{IsExposed}
@@ -141,6 +142,8 @@ module _ (f : Family) (t : Table) (pairs : List (Option Edge)) (names : List ℕ
         exposed = exposed;
         tree = subst (λ ls. IsTree f (cost t) pairs root ls) (sym bare) tree;
         left = omega (arith, left, engine.left, count);
+        bounded = IsBounded-made (record { family = f; table = t; pairs = pairs; exposed = rest; root = Some root; edges = edges })
+            (omega (arith, left, bound-bare (record { family = f; table = t; pairs = pairs; exposed = names; root = None; edges = edges }) engine refl));
       },
       left,
     )

@@ -12,6 +12,7 @@ use Rattle.sg_arena.proofs.ShrunkFamily.{IsTop-shrink, IsTop-shrink_old, IsTop-s
 use Rattle.sg_arena.specs.Changes.{CanShrink, blossom_of, with_slot}
 use Rattle.sg_arena.specs.Family.{Family, Holds, IsFamily, IsTop, holds, link_at, node_at}
 use Rattle.sg_arena.specs.declared.Link.{Link}
+use Rattle.sg_match.proofs.BoundStep.{IsBounded-made}
 use Rattle.sg_match.proofs.EngineLemmas.{even, symmetric, tree_of}
 use Rattle.sg_match.proofs.MembersStep.{AreOuter-kept}
 use Rattle.sg_match.proofs.NodeLemmas.{node_in, place_in}
@@ -288,6 +289,7 @@ module _ (s : State) (root : ℕ) (engine : IsEngine s) (rooted : s.root ≡ Som
           tree = IsTree-shrunk f price b cycle engine.feasible dead room tight
               (even s engine) s.pairs engine.paired root s.edges tree place base tree_cycle names top_root root_base root_other new reg;
           left = omega (arith, fewer_left, engine.left);
+          bounded = IsBounded-made after (omega (arith, fewer_left, engine.bounded.due));
         }
 
         -- the same, where the family and the pair are only known to be these

@@ -1,8 +1,9 @@
 -- What an answer of the engine says of its pairs.
-use Rattle.std.proofs.Common.{◌≡◌, ℕ, List, length, Option, Some, None, IsSome, refl, ap, inl, inr, arith}
+use Rattle.std.proofs.Common.{◌≡◌, ◌*◌, ◌≤◌, ℕ, List, length, Option, Some, None, IsSome, refl, ap, inl, inr, arith}
 use Rattle.std.proofs.lemmas.Bool.{false≢true}
 use Rattle.sg_sums.proofs.ListLaws.{cases_option}
 use Rattle.sg_arena.specs.Family.{Family}
+use Rattle.sg_match.proofs.BoundStep.{bound-bare}
 use Rattle.sg_match.proofs.EngineLemmas.{no_edges, tree_of}
 use Rattle.sg_match.specs.InnerZeros.{IsInnerZero, IsLeastInnerZero}
 use Rattle.sg_match.specs.Engine.{IsEngine}
@@ -26,6 +27,16 @@ not_all s engine node inner_zero all =
       | inr some ↦
           let tree = tree_of s engine some.0 some.1 in
           no_pair (pair_of s.pairs some.0) tree.exposed_root (all some.0 (tree.shape.tops.outer_tops 0 (omega arith)))
+    ]
+
+-- where all tops are paired no tree stands, so the bound holds
+pub steps-paired : (s : State) → IsEngine s → AllPaired s.family s.pairs → s.family.steps ≤ 2 * s.table.size * s.table.size
+steps-paired s engine all =
+    elim (cases_option s.root) [
+      | inl none ↦ omega (arith, bound-bare s engine none)
+      | inr some ↦
+          let tree = tree_of s engine some.0 some.1 in
+          absurd (no_pair (pair_of s.pairs some.0) tree.exposed_root (all some.0 (tree.shape.tops.outer_tops 0 (omega arith))))
     ]
 
 -- all tops are paired exactly where the answer says so

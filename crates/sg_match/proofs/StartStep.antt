@@ -4,10 +4,11 @@ use Rattle.std.proofs.Common.{None, refl, sym, ap, ◌∙◌, subst, inl, inr, a
 use Rattle.std.proofs.lemmas.Bool.{cases_eq}
 use Rattle.std.proofs.lemmas.Int.{ints}
 use Rattle.sg_arena.proofs.FamilyLemmas.{some_leaf}
-use Rattle.sg_arena.proofs.RaisedFamily.{length-raised}
+use Rattle.sg_arena.proofs.RaisedFamily.{length-raised, raise_steps-most}
 use Rattle.sg_arena.specs.Changes.{CanRaise, raised}
 use Rattle.sg_arena.specs.Family.{Family, Holds, IsFamily, IsTop, leaf_count}
 use Rattle.sg_sums.specs.Naturals.{nat_of}
+use Rattle.sg_match.proofs.BoundStep.{IsBounded-made}
 use Rattle.sg_match.proofs.DualChangeStep.{blossoms-raised}
 use Rattle.sg_match.proofs.EngineLemmas.{even, no_edges, symmetric}
 use Rattle.sg_match.proofs.NearestStep.{CanChangeDuals-nearest}
@@ -123,13 +124,16 @@ module _ (s : State) (engine : IsEngine s) (bare : s.root ≡ None) (r : ℕ) (a
       edges = s.edges;
     }
 
+    pub steps-started : after.family.steps ≤ s.family.steps + 1
+    steps-started = omega (arith, raise_steps-most delta)
+
     pub left-started : steps_left after ≡ steps_left s
     left-started =
         subst (λ o. tree_left g s.exposed o s.edges + 2 * blossoms_of g ≡ tree_left s.family s.exposed o s.edges + 2 * blossoms_of s.family)
         (sym bare) (omega (arith, blossoms-raised s.family (outers r s.edges) (inners s.edges) delta))
 
-    pub IsEngine-started : IsEngine after
-    IsEngine-started =
+    pub IsEngine-started : s.family.steps + steps_left s + 1 ≤ 2 * s.table.size * s.table.size → IsEngine after
+    IsEngine-started spare =
         record {
           costs = engine.costs;
           leaves = engine.leaves;
@@ -140,6 +144,7 @@ module _ (s : State) (engine : IsEngine s) (bare : s.root ≡ None) (r : ℕ) (a
           exposed = IsExposed-raised s.family (cost s.table) r s.edges delta fam can s.pairs s.root s.exposed engine.exposed;
           tree = subst (λ o. MatchOption o (s.edges ≡ []) (λ q. IsTree g (cost s.table) s.pairs q s.edges)) (sym bare) no_tree;
           left = omega (arith, left-started, engine.left);
+          bounded = IsBounded-made after (omega (arith, left-started, steps-started, spare));
         }
 
 -- such a raise over the values as the calls hand them on
@@ -150,11 +155,12 @@ pub record IsStarting (s : State) (r : ℕ) (event : Event) (amount given : ℤ)
   pub near : IsNearest s.family (cost s.table) r s.edges (nat_of amount) event
   pub whole : given ≡ pos (nat_of given)
   pub less : nat_of given ≤ nat_of amount
+  pub spare : s.family.steps + steps_left s + 1 ≤ 2 * s.table.size * s.table.size
 
 pub IsStarting-made : (s : State) (r : ℕ) (event : Event) (amount delta given : ℤ) → IsEngine s → s.root ≡ None → Stands s.exposed r →
     IsNearest s.family (cost s.table) r s.edges (nat_of amount) event → given ≡ delta → pos 0 ≤ℤ delta → delta ≤ℤ amount →
-    IsStarting s r event amount given
-IsStarting-made s r event amount delta given engine bare at near same whole less =
+    s.family.steps + steps_left s + 1 ≤ 2 * s.table.size * s.table.size → IsStarting s r event amount given
+IsStarting-made s r event amount delta given engine bare at near same whole less spare =
     record {
       engine = engine;
       bare = bare;
@@ -162,6 +168,7 @@ IsStarting-made s r event amount delta given engine bare at near same whole less
       near = near;
       whole = subst (λ z. z ≡ pos (nat_of z)) (sym same) (nat_of-whole delta whole);
       less = subst (λ z. nat_of z ≤ nat_of amount) (sym same) (nat_of-less delta amount whole less);
+      spare = spare;
     }
 
 module _ {s : State} {r : ℕ} {event : Event} {amount given : ℤ} (p : IsStarting s r event amount given) where
@@ -169,7 +176,7 @@ module _ {s : State} {r : ℕ} {event : Event} {amount given : ℤ} (p : IsStart
   started_can = can s p.engine p.bare r p.at event (nat_of amount) (nat_of given) p.near p.less
 
   pub started_engine : IsEngine (after s p.engine p.bare r p.at event (nat_of amount) (nat_of given) p.near p.less)
-  started_engine = IsEngine-started s p.engine p.bare r p.at event (nat_of amount) (nat_of given) p.near p.less
+  started_engine = IsEngine-started s p.engine p.bare r p.at event (nat_of amount) (nat_of given) p.near p.less p.spare
 
   pub started_left : steps_left (after s p.engine p.bare r p.at event (nat_of amount) (nat_of given) p.near p.less) ≡ steps_left s
   started_left = left-started s p.engine p.bare r p.at event (nat_of amount) (nat_of given) p.near p.less

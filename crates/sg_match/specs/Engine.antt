@@ -1,6 +1,7 @@
 -- What an engine keeps between its steps.
 use Rattle.std.specs.Prelude.{◌≡◌, ◌+◌, ◌*◌, ◌≤◌, length, [], MatchOption}
 use Rattle.sg_arena.specs.Family.{leaf_count}
+use Rattle.sg_match.specs.Bound.{IsBounded}
 use Rattle.sg_match.specs.Feasible.{IsFeasible}
 use Rattle.sg_pairing.specs.Tight.{IsTight}
 use Rattle.sg_match.specs.Exposed.{IsExposed}
@@ -22,5 +23,7 @@ pub record IsEngine (s : State) : Type 0 where
   pub exposed : IsExposed s.family s.pairs s.root s.exposed
   -- the tree from the root; no tree edge where there is no root
   pub tree : MatchOption s.root (s.edges ≡ []) (λ r. IsTree s.family (cost s.table) s.pairs r s.edges)
-  -- the bound on all steps, which no event raises, with one for each unpaired top to begin with
+  -- the steps that are left, with one for each unpaired top to begin with, which no event raises
   pub left : steps_left s + length s.exposed ≤ 2 * s.table.size * s.table.size
+  -- with the steps that were taken
+  pub bounded : IsBounded s

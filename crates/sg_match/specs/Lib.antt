@@ -16,6 +16,7 @@ pub mod TableChanges
 pub mod InnerZeros
 pub mod DualChange
 pub mod Events
+pub mod Bound
 pub mod Stages
 pub mod Nearest
 pub mod Scans

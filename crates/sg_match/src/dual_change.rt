@@ -145,6 +145,7 @@ pub fn raise_tree<L: Ledger>(
     ensures outer_room { vec_capacity outer.new ≡ vec_capacity outer.old }
     ensures inner_room { vec_capacity inner.new ≡ vec_capacity inner.old }
     ensures counted { steps.new ≤ steps.old + 1 }
+    ensures alike { steps.new + arena.old.steps ≡ steps.old + arena.new.steps }
 {
     if delta > 0 {
         list_tree(root, edges, outer, inner);
@@ -166,6 +167,7 @@ impl Engine {
         ensures engine { IsEngine self.new }
         ensures left { steps_left self.new ≡ steps_left self.old }
         ensures counted { steps.new ≤ steps.old + 1 }
+        ensures alike { steps.new + self.old.family.steps ≡ steps.old + self.new.family.steps }
         ensures next { IsNext self.new root result }
     {
         let near = nearest(

@@ -18,6 +18,7 @@ impl Engine {
         ensures table { self.new.table ≡ self.old.table }
         ensures engine { IsEngine self.new }
         ensures counted { steps.new ≡ steps.old + 1 }
+        ensures alike { steps.new + self.old.family.steps ≡ steps.old + self.new.family.steps }
         ensures less { steps_left self.new + 2 ≤ steps_left self.old }
     {
         let at = place_of_inner(&self.edges, node);

@@ -110,8 +110,8 @@ pub struct Matched {
 /// What it keeps between two steps is in the words of the method: no slack is negative; links of
 /// blossoms, pairs and the tree's edges have slack 0; a pair joins two different tops and is the pair
 /// of both; the tree grows from an unpaired top, with inner and outer tops by turns; the leaves of one
-/// top have totals of one parity; and the steps that are left are at most twice the square of the
-/// number of leaves. It takes all memory when it is opened.
+/// top have totals of one parity; and the steps that were taken and those that are left are at most twice
+/// the square of the number of leaves together, where nothing is due. It takes all memory when it is opened.
 #[derive(Drop)]
 pub struct Engine {
     // The costs, and the outer leaves that the rounds so far have seen.
@@ -123,6 +123,8 @@ pub struct Engine {
     exposed: Vec<usize>,
     // The unpaired top from which the tree grows; none where no tree stands.
     root: Option<usize>,
+    // Whether no tree was begun and no step was taken.
+    fresh: bool,
     // The edges of the tree in the order in which they grew: each ends in the root or in the outer top of
     // an earlier one.
     edges: Vec<TreeEdge>,

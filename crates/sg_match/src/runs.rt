@@ -49,6 +49,7 @@ impl Engine {
         ensures table { IfOk result (λ e. e.table ≡ costs) }
         ensures leaves { IfOk result (λ e. OnlyLeaves e.family) }
         ensures engine { IfOk result IsEngine }
+        ensures fresh { IfOk result (λ e. e.family.steps ≡ 0) }
         ensures left { IfOk result (λ e. steps_left e + costs.size ≡ 2 * costs.size * costs.size) }
     {
         let near = Near::open(alloc, costs)?;
@@ -75,6 +76,7 @@ impl Engine {
             pairs,
             exposed,
             root: None,
+            fresh: true,
             edges,
             named,
             tops,
@@ -102,13 +104,18 @@ impl Engine {
     ///
     /// Each leaf has a mate. No slack is negative, mates have slack 0, and each set is left by
     /// exactly one pair of mates; so the mates cost as much as all duals together, and no pairing
-    /// costs less ([`sg_pairing::matching_is_least`]). For `k` leaves it takes at most `2 k^2` steps, where
-    /// a step is one `shrink`, `expand` or `raise`. The method is that of Edmonds (1965).
+    /// costs less ([`sg_pairing::matching_is_least`]). The method is that of Edmonds (1965).
+    ///
+    /// For `k` leaves the family has taken at most `2 k^2` steps when it is handed back, with those before
+    /// this call, where a step is one `shrink`, `expand` or `raise`. The family counts them itself, and
+    /// the caller's count grows by just the steps of this call.
     ///
     /// Cost: a step takes time proportional to the number of leaves, and again to it for each leaf whose
     /// nearest one has to be found anew: at most to the square of their number.
     pub fn run<L: Ledger>(mut self, steps: &mut Steps<L>) -> Matched
         ensures counted { steps.new ≤ steps.old + 2 * self.table.size * self.table.size }
+        ensures alike { steps.new + self.family.steps ≡ steps.old + result.family.steps }
+        ensures bounded { result.family.steps ≤ 2 * self.table.size * self.table.size }
         ensures leaves { leaf_count result.family ≡ self.table.size }
         ensures family { IsFamily result.family }
         ensures slack { NoSlackIsNegative result.family (cost self.table) }

@@ -27,6 +27,7 @@ impl Engine {
         ensures bound { steps_left self.old ≤ 2 * self.old.table.size * self.old.table.size }
         ensures left { steps_left self.new ≤ steps_left self.old }
         ensures counted { steps.new + steps_left self.new ≤ steps.old + steps_left self.old + owed result }
+        ensures alike { steps.new + self.old.family.steps ≡ steps.old + self.new.family.steps }
     {
         match least_inner_zero(&self.arena, &self.edges) {
             Some(node) => Stage::InnerZero { node },
@@ -41,6 +42,7 @@ impl Engine {
         ensures stage { IsStage self.new result }
         ensures left { steps_left self.new ≤ steps_left self.old }
         ensures counted { steps.new + steps_left self.new ≤ steps.old + steps_left self.old + owed result }
+        ensures alike { steps.new + self.old.family.steps ≡ steps.old + self.new.family.steps }
     {
         while let Some(root) = self.begin_search() {
             match self.change_duals(root, steps) {
@@ -81,6 +83,7 @@ impl Engine {
         match self.exposed.pop() {
             Some(root) => {
                 self.near.clear();
+                self.fresh = false;
                 self.root = Some(root);
                 Some(root)
             }

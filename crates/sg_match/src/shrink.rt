@@ -28,6 +28,7 @@ impl Engine {
         ensures table { self.new.table ≡ self.old.table }
         ensures engine { IsEngine self.new }
         ensures counted { steps.new ≡ steps.old + 1 }
+        ensures alike { steps.new + self.old.family.steps ≡ steps.old + self.new.family.steps }
         ensures less { steps_left self.new + 2 ≤ steps_left self.old }
     {
         let base = find_cycle(&self.arena, root, &self.edges, &mut self.cycle, u, v);

@@ -44,13 +44,14 @@ impl Engine {
     ghost use Rattle.sg_match.specs.State.{KeepsTree};
     ghost use Rattle.sg_match.specs.Steps.{steps_left};
 
-    // A start that is half done: where no tree stands, each unpaired top gets as much dual as its
+    // A start that is half done: before the first step, each unpaired top gets as much dual as its
     // slacks allow, but no more than half the least cost of a leaf of it. Where all duals were 0, two
     // leaves that are each other's nearest have slack 0 then.
     pub(crate) fn start<L: Ledger>(&mut self, steps: &mut Steps<L>)
         ensures table { self.new.table ≡ self.old.table }
         ensures engine { IsEngine self.new }
         ensures counted { steps.new + steps_left self.new ≤ steps.old + 2 * self.old.table.size * self.old.table.size }
+        ensures alike { steps.new + self.old.family.steps ≡ steps.old + self.new.family.steps }
     {
         let count = self.raises();
         for i in 0..count {
@@ -59,16 +60,14 @@ impl Engine {
         }
     }
 
-    // How many unpaired tops there are to begin with; none where a tree stands.
+    // How many unpaired tops there are before the first step; none after it.
     fn raises(&self) -> usize
         ensures engine { IsEngine self.now }
         ensures within { result ≤ length self.now.exposed }
         ensures bare { 0 < result → self.now.root ≡ None }
+        ensures first { 0 < result → self.now.family.steps ≡ 0 }
     {
-        match self.root {
-            Some(_) => 0,
-            None => self.exposed.len(),
-        }
+        if self.fresh { self.exposed.len() } else { 0 }
     }
 
     // One of the unpaired tops.
@@ -83,11 +82,14 @@ impl Engine {
     fn raise_exposed<L: Ledger>(&mut self, root: usize, steps: &mut Steps<L>)
         requires root { Stands self.old.exposed root }
         requires bare { self.old.root ≡ None }
+        requires spare { self.old.family.steps + steps_left self.old + 1 ≤ 2 * self.old.table.size * self.old.table.size }
         ensures keeps { KeepsTree self.old self.new }
         ensures engine { IsEngine self.new }
         ensures left { steps_left self.new ≡ steps_left self.old }
         ensures counted { steps.new ≤ steps.old + 1 }
+        ensures alike { steps.new + self.old.family.steps ≡ steps.old + self.new.family.steps }
     {
+        self.fresh = false;
         self.near.clear();
         let near = nearest(
             &self.arena,

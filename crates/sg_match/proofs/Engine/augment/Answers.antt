@@ -1,5 +1,5 @@
 -- `augment`: the pairs are flipped, and no tree stands.
-use Rattle.std.proofs.Common.{rules, ◌<◌, List, None, length, sym, subst, ℕ, ◌∙◌}
+use Rattle.std.proofs.Common.{refl, rules, ◌<◌, List, None, length, sym, subst, ℕ, ◌∙◌}
 use Rattle.std.proofs.lemmas.List.{with_items_is}
 use Rattle.std.proofs.lemmas.Option.{none-some}
 use Rattle.std.specs.Vec.{with_items}
@@ -43,6 +43,7 @@ invariant_of-self c = (
     marks = search rules;
     mates = search rules;
     listed = c.self.invariant.1.listed;
+    fresh = λ is. (refl, (c.self.invariant.1.fresh is).1);
     known = λ r some. absurd (none-some r some);
   },
 )

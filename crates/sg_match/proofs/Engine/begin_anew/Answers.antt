@@ -1,5 +1,6 @@
 -- `begin_anew`: an unpaired top is taken from the list as the root.
 use Rattle.std.proofs.Common.{◌≡◌, ◌≤◌, None, Option, Some, ℕ, ap, ◌∙◌, subst, sym, rules}
+use Rattle.std.proofs.lemmas.Bool.{false≢true}
 use Rattle.sg_match.proofs.Engine.begin_anew.Goals as goal
 use Rattle.sg_match.proofs.SearchStep.{begun}
 use Rattle.sg_match.specs.Engine.{IsEngine}
@@ -8,7 +9,7 @@ use Rattle.sg_slack.specs.Table.{Table}
 use Rattle.sg_match.specs.State.{State}
 use Rattle.sg_match.specs.Steps.{steps_left}
 
-seen : (c : goal.After-self-1) →
+seen : (c : goal.After-self-in-Some-1) →
     (record {
       family = c.self.inside.arena;
       table = c.self.inside.near.table;
@@ -31,7 +32,7 @@ seen c =
     }) ≡ c.args.self.now) bare c.self.view_is
 
 -- the state with this root and table
-abbrev begun_with : (c : goal.After-self-1) → Table → State
+abbrev begun_with : (c : goal.After-self-in-Some-1) → Table → State
 begun_with c t = record {
   family = c.self.inside.arena;
   table = t;
@@ -41,7 +42,7 @@ begun_with c t = record {
   edges = c.self.inside.edges.items;
 }
 
-after : (c : goal.After-self-1) → IsEngine (begun_with c c.clear.new.self.table) × (steps_left (begun_with c c.clear.new.self.table) ≤ steps_left
+after : (c : goal.After-self-in-Some-1) → IsEngine (begun_with c c.clear.new.self.table) × (steps_left (begun_with c c.clear.new.self.table) ≤ steps_left
     c.args.self.now)
 after c =
     let bare : c.self.inside.root ≡ None = ap (λ (s : State). s.root) c.self.view_is ∙ c.requires.bare in
@@ -74,6 +75,7 @@ invariant_of-self c = (
     marks = search rules;
     mates = search rules;
     listed = c.self.invariant.1.listed;
+    fresh = λ is. absurd (false≢true is);
     known = λ r some. AreOuter-none c.self.inside.arena r c.self.inside.edges.items c.clear.new.self.members c.clear.ensures.members;
   },
 )

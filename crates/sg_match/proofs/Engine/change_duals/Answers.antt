@@ -20,7 +20,7 @@ use Rattle.sg_match.specs.Marks.{IsListed, IsMarked}
 use Rattle.sg_match.specs.Members.{AreOuter}
 use Rattle.sg_slack.specs.Members.{TotalsFit, grown}
 use Rattle.sg_slack.specs.Table.{Table}
-use Rattle.std.proofs.lemmas.Option.{same_Some}
+use Rattle.std.proofs.lemmas.Option.{none-some, same_Some}
 use Rattle.sg_match.specs.InnerZeros.{IsInnerZero, IsLeastInnerZero}
 use Rattle.sg_match.specs.Engine.{IsEngine}
 use Rattle.sg_match.specs.Events.{IsNext}
@@ -210,6 +210,7 @@ invariant_of-self g c =
         marks = sym (with_items e.marks c.nearest-near.new.marks).ok.0 ∙ e.marks.ok.0 ∙ room.marks ∙ sym leaves;
         mates = room.mates ∙ sym leaves;
         listed = listed_after g at.After-shift (marks_lent g at.After-deref-6) (moving g at.After-raise_tree p);
+        fresh = λ is. absurd (none-some c.args.root (sym (room.fresh is).0 ∙ rooted g at.After-self));
         known = λ r some.
             subst (λ x. AreOuter c.raise_tree.new.arena x e.edges.items c.shift.new.self.members)
             (same_Some c.args.root r (sym (rooted g at.After-self) ∙ some)) (known_after g at.After-shift p (known_before g at.After-raise_tree));
@@ -259,3 +260,6 @@ returns-clause-next g c =
           (IsNext-changed (state_of e) c.args.root p.engine p.rooted c.nearest-near.result.event (nat_of c.nearest-near.result.amount)
           (nat_of (given c.least_dual-delta.result)) p.changed none)))
     ]
+
+pub returns-clause-alike : goal.returns-clause-alike
+returns-clause-alike g c = omega (arith, c.raise_tree.ensures.alike, ap (λ (s : State). s.family.steps) c.self.view_is)

@@ -7,7 +7,7 @@ use Rattle.sg_arena.specs.Family.{Family}
 use Rattle.sg_match.proofs.Engine.expand.Given.{Over}
 use Rattle.sg_match.proofs.Engine.expand.Goals as goal
 use Rattle.sg_match.proofs.Engine.expand.Goals.{After-expand, After-turn_to_odd-entry, After-index-tree_edge, After-list_ring, After-expand_edge}
-use Rattle.sg_match.proofs.EngineLemmas.{state_of}
+use Rattle.sg_match.proofs.EngineLemmas.{no_edges, state_of}
 use Rattle.sg_match.proofs.TableStep.{IsParting, parting-listed, parting-others}
 use Rattle.sg_match.proofs.RingLemmas.{IsRing}
 use Rattle.sg_match.proofs.ExpandLemmas.{IsCut, IsEngine-after, IsFound, blossom_top, pair_held, cut, edge_held, found, is_inner, edges_fit, ring_differs}
@@ -171,6 +171,9 @@ invariant_of-self g c =
         listed = parting-listed (parting g here.After-expand (edge_found g here.After-index-tree_edge)) c.deref_mut.result.now c.deref_mut.ensures.value
             c.part_tops.new.tops (with_items e.tops c.part_tops.new.tops).items c.part_tops.ensures.count c.part_tops.ensures.listed
             (with_items_is e.tops c.part_tops.new.tops (c.part_tops.auto.tops ∙ c.deref_mut.ensures.len));
+        fresh = λ is.
+            let at = edge_found g here.After-index-tree_edge in
+            absurd (omega (arith, at.inner_zero.within, ap (λ xs. length xs) (no_edges (state_of e) at.engine (roomy.fresh is).0)));
         known = λ r some. after.2 e.near.members r some (roomy.known r some);
       },
     )
@@ -186,3 +189,6 @@ returns-clause-less g c =
     let here = goal.at.returns-clause-less g c in
     let after = expanding g here.After-expand_edge (ring_cut g here.After-turn_to_odd-entry (edge_found g here.After-index-tree_edge)) in
     subst (λ t. steps_left (last g here.After-expand_edge) + 2 ≤ steps_left t) c.self.view_is after.1
+
+pub returns-clause-alike : goal.returns-clause-alike
+returns-clause-alike g c = omega (arith, c.expand.ensures.taken, c.expand.ensures.counted, ap (λ (s : State). s.family.steps) c.self.view_is)

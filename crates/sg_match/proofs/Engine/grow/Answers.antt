@@ -39,6 +39,7 @@ invariant_of-self c = (
     marks = search rules;
     mates = search rules;
     listed = c.self.invariant.1.listed;
+    fresh = c.self.invariant.1.fresh;
     known = λ r some.
         subst (λ (xs : List TreeEdge). AreOuter c.self.inside.arena r xs c.self.inside.near.members) (sym c.push_reserved.ensures.items)
         (AreOuter-grown c.self.inside.arena r c.self.inside.edges.items

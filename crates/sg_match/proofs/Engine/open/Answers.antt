@@ -34,7 +34,7 @@ pub invariant_of-result : goal.invariant_of-result
 invariant_of-result c =
     let here = (goal.at.invariant_of-result c).After-list_leaves in
     let arena = c.in_ok-arena.arena in (
-      IsEngine-opened arena c.in_ok-arena.ensures.alone c.in_ok-near.near.table (metric_of here) (size_of here) c.in_ok-pairs.pairs.items
+      IsEngine-opened arena c.in_ok-arena.ensures.alone c.in_ok-arena.ensures.fresh c.in_ok-near.near.table (metric_of here) (size_of here) c.in_ok-pairs.pairs.items
           (room_of here) (free_of here) c.in_ok-exposed.exposed.items c.in_ok-edges.edges.items c.in_ok-exposed.ensures.items c.in_ok-edges.ensures.items,
       record {
         edges = omega (arith, c.in_ok-edges.ensures.capacity, c.room-room.ensures.value);
@@ -51,6 +51,7 @@ invariant_of-result c =
             (subst (λ xs. IsListed arena c.list_leaves.new.tops xs)
             (sym (with_items_is c.in_ok-totals.totals c.list_leaves.new.totals (c.list_leaves.auto.totals ∙ c.deref_mut-2.ensures.len)))
             c.list_leaves.ensures);
+        fresh = λ is. (refl, c.in_ok-arena.ensures.fresh);
         known = λ r some. absurd (none-some r some);
       },
     )
@@ -62,7 +63,7 @@ pub returns-clause-left : goal.returns-clause-left
 returns-clause-left c =
     let here = (goal.at.returns-clause-left c).After-list_leaves in
     let same = ap (λ (t : Table). t.size) c.in_ok-near.ensures.table in
-    let left = steps_left-opened c.in_ok-arena.arena c.in_ok-arena.ensures.alone c.in_ok-near.near.table (metric_of here) (size_of here)
+    let left = steps_left-opened c.in_ok-arena.arena c.in_ok-arena.ensures.alone c.in_ok-arena.ensures.fresh c.in_ok-near.near.table (metric_of here) (size_of here)
     c.in_ok-pairs.pairs.items (room_of here) (free_of here)
     c.in_ok-exposed.exposed.items c.in_ok-edges.edges.items c.in_ok-exposed.ensures.items c.in_ok-edges.ensures.items in
     subst (λ k. steps_left (record {

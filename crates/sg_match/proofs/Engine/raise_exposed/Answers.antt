@@ -1,5 +1,6 @@
 -- `raise_exposed`: the tree is the top alone, and its dual rises by no more than its least slack.
-use Rattle.std.proofs.Common.{◌≡◌, ◌≤ℤ◌, ℤ, pos, length, None, sym, ap, ◌∙◌, subst, arith, rules, to_z, of_z, w64}
+use Rattle.std.proofs.Common.{◌≡◌, ◌+◌, ◌*◌, ◌≤◌, ◌≤ℤ◌, ℤ, pos, length, None, sym, ap, ◌∙◌, subst, arith, rules, to_z, of_z, w64}
+use Rattle.std.proofs.lemmas.Bool.{false≢true}
 use Rattle.std.proofs.lemmas.Int.{ints, to_z-of_z}
 use Rattle.std.proofs.lemmas.List.{with_items_is}
 use Rattle.std.specs.Vec.{with_items}
@@ -53,6 +54,7 @@ starting g c none at =
     c.clear.ensures.table c.nearest-near.ensures.nearest))
     (to_z-of_z w64 delta (search rules)) c.lesser-delta.ensures.whole
     (subst (λ z. delta ≤ℤ z) (to_z-of_z w64 amount (search rules)) c.lesser-delta.ensures.less)
+    (subst (λ (s : State). s.family.steps + steps_left s + 1 ≤ 2 * s.table.size * s.table.size) (sym c.self.view_is) c.requires.spare)
 
 made : (g : Over) (c : After-raise_tree g) → c.raise_tree.new.arena ≡ raised c.self.inside.arena (outers c.args.root c.self.inside.edges.items)
     (inners c.self.inside.edges.items) (nat_of (given c.lesser-delta.result))
@@ -183,6 +185,7 @@ invariant_of-self g c =
         mates = room.mates ∙ sym leaves;
         listed = listed_after g at.After-move_totals is (marks_lent g at.After-deref-5)
             (moving g at.After-raise_tree (starting g at.After-lesser-delta (bare g at.After-self) (root_at g at.After-self)));
+        fresh = λ is. absurd (false≢true is);
         known = λ r some. absurd (none-some r (sym (bare g at.After-self) ∙ some));
       },
     )
@@ -209,3 +212,6 @@ returns-clause-left g c =
     let at = goal.at.returns-clause-left g c in
     let p = starting g at.After-lesser-delta (bare g at.After-self) (root_at g at.After-self) in
     ap (λ a. steps_left (seen c.self.inside a c.nearest-near.new.near.table)) (made g at.After-raise_tree) ∙ started_left p ∙ ap steps_left c.self.view_is
+
+pub returns-clause-alike : goal.returns-clause-alike
+returns-clause-alike g c = omega (arith, c.raise_tree.ensures.alike, ap (λ (s : State). s.family.steps) c.self.view_is)

@@ -1,16 +1,17 @@
 -- `run`: with all tops paired, the derived pairs are a matching of the costs given.
-use Rattle.std.proofs.Common.{◌≡◌, ℕ, List, Option, ap, ◌∙◌, subst, sym}
+use Rattle.std.proofs.Common.{◌≡◌, ◌*◌, ◌≤◌, rules, ℕ, List, Option, ap, ◌∙◌, subst, sym}
 use Rattle.std.proofs.lemmas.List.{with_items_is}
 use Rattle.sg_arena.specs.Family.{leaf_count}
 use Rattle.sg_match.proofs.Engine.run.Given.{Over}
 use Rattle.sg_match.proofs.Engine.run.Goals as goal
 use Rattle.sg_match.proofs.EngineLemmas.{state_of, symmetric}
+use Rattle.sg_match.proofs.StageLemmas.{steps-paired}
 use Rattle.sg_match.specs.Feasible.{IsFeasible}
 use Rattle.sg_pairing.specs.Tight.{IsTight}
 use Rattle.sg_pairing.proofs.DualBound.{cost-is_duals, matching_least}
 use Rattle.sg_pairing.specs.Matching.{IsMatching, IsPairing}
 use Rattle.sg_pairing.specs.Metric.{cost}
-use Rattle.sg_match.specs.Pairs.{IsPaired}
+use Rattle.sg_match.specs.Pairs.{AllPaired, IsPaired}
 use Rattle.sg_match.specs.State.{State}
 use Rattle.sg_match.specs.declared.Edge.{Edge}
 use Rattle.sg_slack.specs.Table.{Table}
@@ -49,3 +50,9 @@ returns-clause-least g c other pairing =
     let size : leaf_count c.self.inside.arena ≡ c.args.self.table.size = c.self.invariant.0.leaves ∙ ap (λ (t : Table). t.size) (same_table g c) in
     matching_least c.self.inside.arena (cost c.args.self.table) c.from_vec.result other c.self.invariant.0.feasible.family (returns-clause-slack g c)
     (matched g c) (subst (λ k. IsPairing k other) (sym size) pairing)
+
+pub returns-clause-bounded : goal.returns-clause-bounded
+returns-clause-bounded g c =
+    let all : AllPaired c.self.inside.arena c.self.inside.pairs.items = search rules in
+    let few = steps-paired (state_of c.self.inside) c.self.invariant.0 all in
+    subst (λ (t : Table). c.self.inside.arena.steps ≤ 2 * t.size * t.size) (same_table g c) few

@@ -14,7 +14,7 @@ use Rattle.sg_match.proofs.Engine.shrink.Goals as goal
 use Rattle.sg_match.proofs.Engine.shrink.Goals.{After-find_cycle-base, After-self, After-shrink-blossom}
 use Rattle.sg_match.specs.Engine.{IsEngine}
 use Rattle.sg_match.specs.Members.{AreOuter}
-use Rattle.std.proofs.lemmas.Option.{same_Some}
+use Rattle.std.proofs.lemmas.Option.{none-some, same_Some}
 use Rattle.sg_match.specs.Events.{IsTightOuterOuter}
 use Rattle.sg_pairing.specs.Metric.{cost}
 use Rattle.sg_match.specs.Path.{AreTight, nodes_of}
@@ -197,6 +197,7 @@ invariant_of-self g c =
             c.deref_mut.result.now c.deref_mut.ensures.value c.lift_tops.new.tops (with_items c.self.inside.tops c.lift_tops.new.tops).items
             c.lift_tops.ensures.count c.lift_tops.ensures.lifted
             (with_items_is c.self.inside.tops c.lift_tops.new.tops (c.lift_tops.auto.tops ∙ c.deref_mut.ensures.len));
+        fresh = λ is. absurd (none-some c.args.root (sym (roomy.fresh is).0 ∙ rooted g here.After-self));
         known = λ r some. subst (λ x. AreOuter c.shrink-blossom.new.self x c.shrink_edges.new.edges.items c.self.inside.near.members)
             (same_Some c.renamed.result r some) (ending g c).2;
       },
@@ -207,3 +208,7 @@ returns-clause-engine g c = (ending g c).0
 
 pub returns-clause-less : goal.returns-clause-less
 returns-clause-less g c = subst (λ s. steps_left (last g c) + 2 ≤ steps_left s) c.self.view_is (ending g c).1
+
+pub returns-clause-alike : goal.returns-clause-alike
+returns-clause-alike g c =
+    omega (arith, c.shrink-blossom.ensures.taken, c.shrink-blossom.ensures.counted, ap (λ (s : State). s.family.steps) c.self.view_is)

@@ -1,5 +1,5 @@
 -- `part_tops`: the tops of the leaves so far are listed, and the others are as they were.
-use Rattle.std.proofs.Common.{◌≡◌, ℕ, ◌<◌, ◌≤◌, get_or, length}
+use Rattle.std.proofs.Common.{◌≡◌, ℕ, ◌≤◌, get_or, length}
 use Rattle.sg_match.proofs.leaves.part_tops.Given as goal
 use Rattle.sg_match.specs.TableChanges.{HasTops}
 
