@@ -1,11 +1,12 @@
 -- The records that are left behind those that were read.
-use Rattle.std.proofs.Common.{◌≡◌, ℕ, ◌+◌, ◌≤◌, Bool, true, false, List, [], ◌∷◌, ◌++◌, None, refl, sym, ap, ap₂, subst, ◌∙◌, arith, append_assoc}
-use Rattle.std.specs.Prelude.{filter, cond, ⊤}
+use Rattle.std.proofs.Common.{◌≡◌, ℕ, ◌+◌, ◌≤◌, Bool, true, false, List, [], ◌∷◌, ◌++◌, None, refl, sym, ap, ap₂, subst, ◌∙◌, arith, append_assoc, append-nil, Ok, Err}
+use Rattle.std.specs.Prelude.{filter, cond, ⊤, IfOk, OnErr, MatchBool}
+use Rattle.std.specs.declared.result.Result.{Result}
 use Rattle.std.proofs.lemmas.Bool.{le-leb, lt-leb}
 use Rattle.sg_model.specs.declared.refusal.Fault.{Fault}
 use Rattle.sg_reader.specs.Field.{fields_in, without_marks}
 use Rattle.sg_reader.specs.Kept.{Kept, behind, is_kept, kept_of, numbered_from}
-use Rattle.sg_reader.specs.Leaves.{Leaves}
+use Rattle.sg_reader.specs.Leaves.{IsRest, Leaves}
 use Rattle.sg_reader.specs.NoMore.{IsLeftFault, IsTrailingFault, left_fault, trailing_fault}
 use Rattle.sg_reader.specs.Records.{records_of}
 
@@ -93,3 +94,34 @@ nothing-left bytes left after l none = ap left_fault (sym (left-kept bytes left 
 pub some-left : (bytes : List ℕ) (left : List Kept) (after : ℕ) (e : Fault) → Leaves (kept_of bytes) left after → IsLeftFault left e
     → IsTrailingFault (kept_of bytes) after e
 some-left bytes left after e l bad = subst (λ (rs : List Kept). IsLeftFault rs e) (left-kept bytes left after l) bad
+
+-- nothing was read, and nothing is left
+pub rest-all : (records : List Kept) → IsRest records records
+rest-all records = record { read = []; split = refl }
+
+pub rest-none : (records left : List Kept) → left ≡ [] → IsRest records left
+rest-none records left none = record { read = records; split = sym (append-nil records) ∙ ap (λ (rs : List Kept). records ++ rs) (sym none) }
+
+-- one record was read
+pub rest-one : (records left : List Kept) (r : Kept) → records ≡ r ∷ left → IsRest records left
+rest-one records left r split = record { read = r ∷ []; split = split }
+
+-- some were read, and then some of those that were left
+pub rest-on : (records middle left : List Kept) → IsRest records middle → IsRest middle left → IsRest records left
+rest-on records middle left first second = record {
+  read = first.read ++ second.read;
+  split = first.split ∙ ap (λ (rs : List Kept). first.read ++ rs) second.split ∙ sym (append_assoc first.read second.read left);
+}
+
+-- what the call for the next record leaves
+pub rest-next : {E : Type 0} (result : Result Bool E) (records left : List Kept) (r : Kept)
+    → IfOk result (λ found. MatchBool found (records ≡ r ∷ left) ((records ≡ []) × (left ≡ []))) → OnErr result (left ≡ []) → IsRest records left
+rest-next (Ok true) records left r found failed = rest-one records left r found
+rest-next (Ok false) records left r found failed = rest-none records left found.1
+rest-next (Err e) records left r found failed = rest-none records left failed
+
+-- what it leaves of the records, where some were read before
+pub rest-more : {E : Type 0} (result : Result Bool E) (records body rest left : List Kept) (r : Kept) → records ≡ body ++ rest
+    → IfOk result (λ found. MatchBool found (rest ≡ r ∷ left) ((rest ≡ []) × (left ≡ []))) → OnErr result (left ≡ []) → IsRest records left
+rest-more result records body rest left r split found failed =
+    rest-on records rest left (record { read = body; split = split }) (rest-next result rest left r found failed)

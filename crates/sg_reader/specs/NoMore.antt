@@ -1,5 +1,5 @@
 -- What may stand behind the last `end` of a text.
-use Rattle.std.specs.Prelude.{◌≡◌, ℕ, List, [], ◌∷◌, Option, Some, None, ⊤}
+use Rattle.std.specs.Prelude.{◌≡◌, ℕ, List, [], ◌∷◌, drop, Option, Some, None, ⊤}
 use Rattle.sg_model.specs.declared.refusal.Fault.{Fault}
 use Rattle.sg_model.specs.declared.refusal.Fault.TheVariants.{Refused, NoMemory}
 use Rattle.sg_model.specs.declared.refusal.Refusal.{Refusal}
@@ -14,6 +14,11 @@ left_fault (r ∷ more) = Some (Trailing r.at)
 abbrev pub IsLeftFault : List Kept → Fault → Type 0
 IsLeftFault kept (Refused refusal) = left_fault kept ≡ Some refusal
 IsLeftFault kept NoMemory = ⊤
+
+-- what is left behind such a fault: the records behind the first, or none after want of memory
+abbrev pub LeavesBehind : List Kept → List Kept → Fault → Type 0
+LeavesBehind old new (Refused refusal) = new ≡ drop 1 old
+LeavesBehind old new NoMemory = new ≡ []
 
 -- the first record, not skipped, that stands behind the first `after` records of the text
 abbrev pub trailing_fault : List Kept → ℕ → Option Refusal

@@ -8,7 +8,7 @@ ghost use Rattle.sg_reader.specs.Kept.{Kept, field};
 ghost use Rattle.sg_reader.specs.Tests.{IsTestFault, is_number_in, size_in, spin_below};
 ghost use Rattle.sg_reader.specs.Body.{bond_fault, bond_of, ends_fault, is_bond, is_end, is_rot, is_seam, rot_fault};
 ghost use Rattle.sg_reader.specs.ReadInstance.{IsBodyFault, ReadsBody};
-ghost use Rattle.sg_reader.specs.Leaves.{Leaves};
+ghost use Rattle.sg_reader.specs.Leaves.{IsRest, Leaves};
 ghost use Rattle.sg_reader.specs.GeneralHolds.{HoldsGeneral, HoldsNext, HoldsSome, IsHeldFault, IsHeldInstance, IsNextFault, PassesNext};
 
 use super::NoMemory;
@@ -226,6 +226,7 @@ pub(crate) fn read_general(
     ensures spins { IfOk result (λ r. (r.0).n ≡ n) }
     ensures bonds { IfOk result (λ r. bond_count r.0 ≤ bond_limit) }
     ensures fault { IfErr result (IsBodyFault (header.General n) records.old) }
+    ensures rest { IsRest records.old records.new }
 {
     let mut body = GeneralBody::new(alloc, n)?;
     while records.next(row)? {

@@ -8,7 +8,7 @@ ghost use Rattle.sg_reader.specs.declared.header.Header.TheVariants as header;
 ghost use Rattle.sg_reader.specs.Tests.{IsTestFault};
 ghost use Rattle.sg_reader.specs.Body.{is_end, lattice_end_fault, reseamed};
 ghost use Rattle.sg_reader.specs.ReadInstance.{IsBodyFault, ReadsBody};
-ghost use Rattle.sg_reader.specs.Leaves.{Leaves};
+ghost use Rattle.sg_reader.specs.Leaves.{IsRest, Leaves};
 ghost use Rattle.sg_reader.specs.Holds.{HoldsBehind, IsFaultBehind, PassesBehind};
 
 use super::body::{END, SEAM, push_couplings, seam};
@@ -103,6 +103,7 @@ pub(crate) fn read_lattice(
     ensures spins { IfOk result (λ r. (r.0).n ≡ rows * cols) }
     ensures bonds { IfOk result (λ r. bond_count r.0 ≤ 3 * (rows * cols)) }
     ensures fault { IfErr result (IsBodyFault (header.Lattice kind rows cols) records.old) }
+    ensures rest { IsRest records.old records.new }
 {
     let mut body = LatticeBody {
         couplings: Couplings::new(alloc),

@@ -1,9 +1,9 @@
-ghost use Rattle.std.specs.Prelude.{◌≡◌, ◌≤◌, None, IfOk, IfErr, OnOk};
+ghost use Rattle.std.specs.Prelude.{◌≡◌, ◌≤◌, [], None, IfOk, IfErr, OnOk};
 ghost use Rattle.sg_limits.specs.Limits.{bond_limit, spin_limit};
 ghost use Rattle.sg_model.specs.Ising.{bond_count};
 ghost use Rattle.sg_model.specs.WellFormed.{IsInstance};
-ghost use Rattle.sg_reader.specs.Leaves.{Leaves};
-ghost use Rattle.sg_reader.specs.NoMore.{IsLeftFault, left_fault};
+ghost use Rattle.sg_reader.specs.Leaves.{IsRest, Leaves};
+ghost use Rattle.sg_reader.specs.NoMore.{IsLeftFault, LeavesBehind, left_fault};
 ghost use Rattle.sg_reader.specs.ReadInstance.{IsReadFault, ReadsInstance};
 
 use super::general::read_general;
@@ -35,7 +35,7 @@ use std::alloc::Global;
 /// `TooManyBonds`, `SelfBond`; of a rotation `BadShape`, `BadNumber`, `BadShape` where its spin has
 /// one; of another record of a general instance `UnknownKind`; of the `end` `BadShape`,
 /// `CouplingCount` for a lattice, `BadRotation`, `BadSeam`. `Unended` where the records run out.
-/// `NoMemory` may come at any time.
+/// `NoMemory` may come at any time. What was read is gone then too, and what stands behind it is left.
 ///
 /// The time is linear in the bytes, and the memory is that of the instance and of the longest record.
 pub fn read_instance(alloc: Global, rows: &mut Rows<'_>) -> Result<(Instance, u32), Fault>
@@ -45,6 +45,7 @@ pub fn read_instance(alloc: Global, rows: &mut Rows<'_>) -> Result<(Instance, u3
     ensures few_spins { IfOk result (λ r. (r.0).n ≤ spin_limit) }
     ensures few_bonds { IfOk result (λ r. bond_count r.0 ≤ bond_limit) }
     ensures fault { IfErr result (IsReadFault rows.old) }
+    ensures rest { IsRest rows.old rows.new }
 {
     let mut row = Row::new(alloc);
     if !rows.next(&mut row)? {
@@ -63,12 +64,15 @@ pub fn read_instance(alloc: Global, rows: &mut Rows<'_>) -> Result<(Instance, u3
 /// Whether no record of a text is left.
 ///
 /// # Errors
-/// `Trailing` with the first of those that are left, and `NoMemory`.
+/// `Trailing` with the first of those that are left; those behind it are left then. `NoMemory`; none is
+/// left then.
 ///
 /// The time is linear in the bytes that are left, and the memory that of the longest record.
 pub fn no_more(alloc: Global, rows: &mut Rows<'_>) -> Result<(), Fault>
     ensures none { OnOk result (left_fault rows.old ≡ None) }
+    ensures left { OnOk result (rows.new ≡ []) }
     ensures fault { IfErr result (IsLeftFault rows.old) }
+    ensures behind { IfErr result (LeavesBehind rows.old rows.new) }
 {
     let mut row = Row::new(alloc);
     if rows.next(&mut row)? {

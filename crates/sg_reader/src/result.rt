@@ -4,7 +4,7 @@ ghost use Rattle.sg_limits.specs.Limits.{text_limit};
 ghost use Rattle.sg_reader.specs.Body.{numbers_from};
 ghost use Rattle.sg_reader.specs.Ended.{IsRecordsFault, StatesToEnd};
 ghost use Rattle.sg_reader.specs.Kept.{Kept};
-ghost use Rattle.sg_reader.specs.Leaves.{Leaves};
+ghost use Rattle.sg_reader.specs.Leaves.{IsRest, Leaves};
 ghost use Rattle.sg_reader.specs.Result.{energy_fault, loop_fault, loop_of, loops_fault, loops_of, spins_fault};
 ghost use Rattle.sg_reader.specs.ReadResult.{IsResultFault, ReadsResult};
 ghost use Rattle.sg_reader.specs.Tests.{IsTestFault, number_in};
@@ -81,6 +81,7 @@ fn next_energy(rows: &mut Rows<'_>, row: &mut Row) -> Result<i64, Fault>
     ensures passes { IfOk result (λ e. energy_fault row.new ≡ None) }
     ensures value { IfOk result (λ e. e ≡ number_in row.new 1) }
     ensures fault { IfErr result (IsResultFault rows.old) }
+    ensures rest { IsRest rows.old rows.new }
 {
     if !rows.next(row)? {
         return Err(Fault::Refused(Refusal::Unended));
@@ -98,6 +99,7 @@ fn next_spins(alloc: Global, rows: &mut Rows<'_>, row: &mut Row) -> Result<Spins
     ensures few { IfOk result (λ s. sum_by (λ r. length r.fields) rows.new ≤ text_limit) }
     ensures fault { IfErr result (λ e. (energy : Kept) → energy_fault energy ≡ None →
         IsResultFault (energy ∷ rows.old) e) }
+    ensures rest { IsRest rows.old rows.new }
 {
     if !rows.next(row)? {
         return Err(Fault::Refused(Refusal::Unended));
@@ -112,6 +114,7 @@ fn read_loops(alloc: Global, rows: &mut Rows<'_>, row: &mut Row) -> Result<(Loop
     ensures left { IfOk result (λ r. Leaves rows.old rows.new r.1) }
     ensures few { IfOk result (λ r. length r.0 < text_limit) }
     ensures fault { IfErr result (IsRecordsFault loops_fault rows.old) }
+    ensures rest { IsRest rows.old rows.new }
 {
     let mut loops = Loops::new(alloc);
     while rows.next(row)? {
@@ -136,7 +139,8 @@ fn read_loops(alloc: Global, rows: &mut Rows<'_>, row: &mut Row) -> Result<(Loop
 /// The refusal of the first record that fails a test, and of its tests the first that fails:
 /// `UnknownKind` for another word than may stand in its place; `BadShape` for an energy without its
 /// one number, a loop without a weight, an `end` with a number; `BadNumber`. `Unended` where the
-/// records run out. `NoMemory` may come at any time.
+/// records run out. `NoMemory` may come at any time. What was read is gone then too, and what stands
+/// behind it is left.
 ///
 /// The time is linear in the bytes, and the memory is that of the result and of the longest record.
 pub fn read_result(alloc: Global, rows: &mut Rows<'_>) -> Result<(ResultText, u32), Fault>
@@ -145,6 +149,7 @@ pub fn read_result(alloc: Global, rows: &mut Rows<'_>) -> Result<(ResultText, u3
     ensures few_spins { IfOk result (λ r. length r.0.spins < text_limit) }
     ensures few_loops { IfOk result (λ r. length r.0.loops < text_limit) }
     ensures fault { IfErr result (IsResultFault rows.old) }
+    ensures rest { IsRest rows.old rows.new }
 {
     let mut row = Row::new(alloc);
     let energy = next_energy(rows, &mut row)?;

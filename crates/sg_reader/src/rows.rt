@@ -1,4 +1,4 @@
-ghost use Rattle.std.specs.Prelude.{◌≡◌, ◌<◌, ◌≤◌, [], ◌∷◌, filter, length, IfOk, MatchBool};
+ghost use Rattle.std.specs.Prelude.{◌≡◌, ◌<◌, ◌≤◌, [], ◌∷◌, filter, length, IfOk, OnErr, MatchBool};
 ghost use Rattle.std.specs.List.{sum_by};
 ghost use Rattle.sg_limits.specs.Limits.{text_limit};
 ghost use Rattle.sg_reader.specs.Kept.{is_kept, kept_of, numbered_from};
@@ -47,6 +47,7 @@ impl<'a> Numbered<'a> {
         ensures found { IfOk result (λ found. MatchBool found
             (self.old ≡ row.new ∷ self.new)
             ((self.old ≡ []) × (self.new ≡ []))) }
+        ensures failed { OnErr result (self.new ≡ []) }
         ensures few { sum_by (λ r. length r.fields) (filter is_kept self.old) ≤ text_limit }
     {
         if !row.fill(&mut self.cursor, self.taken)? {
@@ -58,7 +59,6 @@ impl<'a> Numbered<'a> {
 }
 
 /// The records of a text that are left, without those that are skipped: blank ones and comments.
-/// After want of memory none is left.
 #[derive(Drop)]
 pub struct Rows<'a> {
     records: Numbered<'a>,
@@ -85,10 +85,12 @@ impl<'a> Rows<'a> {
     }
 
     /// Reads the next record that is not skipped into `row`, or answers false where there is none.
+    /// After want of memory none is left.
     pub fn next(&mut self, row: &mut Row) -> Result<bool, NoMemory>
         ensures found { IfOk result (λ found. MatchBool found
             (self.old ≡ row.new ∷ self.new)
             ((self.old ≡ []) × (self.new ≡ []))) }
+        ensures failed { OnErr result (self.new ≡ []) }
         ensures few { sum_by (λ r. length r.fields) self.old ≤ text_limit }
     {
         while self.records.next(row)? {

@@ -8,6 +8,7 @@ use Rattle.sg_reader.specs.Body.{general_fault, is_end, record_fault}
 use Rattle.std.proofs.Common.{subst}
 use Rattle.sg_model.specs.Faults.{IsFaultOf}
 use Rattle.sg_reader.specs.Body.{instance_of}
+use Rattle.sg_reader.proofs.LeftLaws.{rest-more}
 use Rattle.sg_reader.proofs.BodyLaws.{end-fault, record-fault}
 use Rattle.sg_reader.proofs.GeneralLaws.{ended-general, general_fault-end, lists-count, marks-count, one-more}
 use Rattle.sg_reader.proofs.SizeLaws.{general-bonds, general-spins}
@@ -93,3 +94,28 @@ returns-then-begins-clause-bonds c =
     let sf = c.loop-body.invariant in
     let value = c.in_ok-inst.ensures.ok sf.body sf.holds ∙ ap (λ (k : ℕ). instance_of (header.General k) sf.body) sf.spins in
     general-bonds c.args.n sf.body c.loop-body.body c.in_ok-inst.inst sf.holds value
+
+pub returns-in_err-next-clause-rest : goal.returns-in_err-next-clause-rest
+returns-in_err-next-clause-rest c =
+    rest-more c.next.result c.args.records.now c.loop-body.invariant.body c.loop-body.records c.next.new.self c.next.new.row c.loop-body.invariant.split
+    c.next.ensures.found c.next.ensures.failed
+
+pub returns-in_err-bare_end-clause-rest : goal.returns-in_err-bare_end-clause-rest
+returns-in_err-bare_end-clause-rest c =
+    rest-more c.next.result c.args.records.now c.loop-body.invariant.body c.loop-body.records c.next.new.self c.next.new.row c.loop-body.invariant.split
+    c.next.ensures.found c.next.ensures.failed
+
+pub returns-in_err-inst-clause-rest : goal.returns-in_err-inst-clause-rest
+returns-in_err-inst-clause-rest c =
+    rest-more c.next.result c.args.records.now c.loop-body.invariant.body c.loop-body.records c.next.new.self c.next.new.row c.loop-body.invariant.split
+    c.next.ensures.found c.next.ensures.failed
+
+pub returns-then-begins-clause-rest : goal.returns-then-begins-clause-rest
+returns-then-begins-clause-rest c =
+    rest-more c.next.result c.args.records.now c.loop-body.invariant.body c.loop-body.records c.next.new.self c.next.new.row c.loop-body.invariant.split
+    c.next.ensures.found c.next.ensures.failed
+
+pub returns-in_err-take-clause-rest : goal.returns-in_err-take-clause-rest
+returns-in_err-take-clause-rest c =
+    rest-more c.next.result c.args.records.now c.loop-body.invariant.body c.loop-body.records c.next.new.self c.next.new.row c.loop-body.invariant.split
+    c.next.ensures.found c.next.ensures.failed

@@ -5,6 +5,7 @@ use Rattle.sg_lattice.specs.Tables.{bond_total}
 use Rattle.sg_reader.specs.declared.header.Header.TheVariants as header
 use Rattle.sg_reader.specs.Kept.{Kept}
 use Rattle.sg_reader.specs.Body.{is_end, lattice_end_fault, record_fault}
+use Rattle.sg_reader.proofs.LeftLaws.{rest-more}
 use Rattle.sg_reader.proofs.BodyLaws.{couplings_in-small, end-fault, record-fault}
 use Rattle.sg_reader.proofs.LatticeLaws.{ended-lattice, instance-lattice, lattice_fault-end, none-yet}
 use Rattle.sg_reader.proofs.SizeLaws.{lattice-bonds, lattice-spins}
@@ -89,3 +90,28 @@ returns-then-begins-clause-spins c =
 pub returns-then-begins-clause-bonds : goal.returns-then-begins-clause-bonds
 returns-then-begins-clause-bonds c =
     lattice-bonds c.args.kind c.args.rows c.args.cols c.loop-body.body.couplings c.loop-body.body.seam c.in_ok-inst.inst c.requires.size c.in_ok-inst.ensures.ok
+
+pub returns-in_err-next-clause-rest : goal.returns-in_err-next-clause-rest
+returns-in_err-next-clause-rest c =
+    rest-more c.next.result c.args.records.now c.loop-body.invariant.body c.loop-body.records c.next.new.self c.next.new.row c.loop-body.invariant.split
+    c.next.ensures.found c.next.ensures.failed
+
+pub returns-in_err-end_lattice-clause-rest : goal.returns-in_err-end_lattice-clause-rest
+returns-in_err-end_lattice-clause-rest c =
+    rest-more c.next.result c.args.records.now c.loop-body.invariant.body c.loop-body.records c.next.new.self c.next.new.row c.loop-body.invariant.split
+    c.next.ensures.found c.next.ensures.failed
+
+pub returns-in_err-inst-clause-rest : goal.returns-in_err-inst-clause-rest
+returns-in_err-inst-clause-rest c =
+    rest-more c.next.result c.args.records.now c.loop-body.invariant.body c.loop-body.records c.next.new.self c.next.new.row c.loop-body.invariant.split
+    c.next.ensures.found c.next.ensures.failed
+
+pub returns-then-begins-clause-rest : goal.returns-then-begins-clause-rest
+returns-then-begins-clause-rest c =
+    rest-more c.next.result c.args.records.now c.loop-body.invariant.body c.loop-body.records c.next.new.self c.next.new.row c.loop-body.invariant.split
+    c.next.ensures.found c.next.ensures.failed
+
+pub returns-in_err-take-clause-rest : goal.returns-in_err-take-clause-rest
+returns-in_err-take-clause-rest c =
+    rest-more c.next.result c.args.records.now c.loop-body.invariant.body c.loop-body.records c.next.new.self c.next.new.row c.loop-body.invariant.split
+    c.next.ensures.found c.next.ensures.failed

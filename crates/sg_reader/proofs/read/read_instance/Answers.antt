@@ -2,7 +2,7 @@ use Rattle.std.proofs.Common.{Some, ◌∙◌, ap, arith, subst}
 use Rattle.std.proofs.lemmas.Result.{IfErr-weaker, IfOk-weaker, err_from_is_err_and}
 use Rattle.sg_reader.specs.declared.header.Header.TheVariants as header
 use Rattle.sg_reader.specs.Header.{IsHeader}
-use Rattle.sg_reader.proofs.LeftLaws.{leaves-behind}
+use Rattle.sg_reader.proofs.LeftLaws.{leaves-behind, rest-next, rest-on}
 use Rattle.sg_reader.proofs.ReadLaws.{behind-fault, first-fault}
 use Rattle.sg_reader.proofs.read.read_instance.Goals as goal
 
@@ -59,3 +59,25 @@ returns-clause-left c =
     let next = rw c.if-not-branch.false at c.in_ok-next.ensures.found in
     IfOk-weaker c.read_general.result _ _
     (λ r left. leaves-behind c.args.rows.now c.next.new.self c.read_general.new.records c.next.new.row r.1 next left) c.read_general.ensures.left
+
+pub returns-in_err-next-clause-rest : goal.returns-in_err-next-clause-rest
+returns-in_err-next-clause-rest c =
+    rest-next c.next.result c.args.rows.now c.next.new.self c.next.new.row c.next.ensures.found c.next.ensures.failed
+
+pub returns-then-not-branch-clause-rest : goal.returns-then-not-branch-clause-rest
+returns-then-not-branch-clause-rest c =
+    rest-next c.next.result c.args.rows.now c.next.new.self c.next.new.row c.next.ensures.found c.next.ensures.failed
+
+pub returns-in_err-kind-clause-rest : goal.returns-in_err-kind-clause-rest
+returns-in_err-kind-clause-rest c =
+    rest-next c.next.result c.args.rows.now c.next.new.self c.next.new.row c.next.ensures.found c.next.ensures.failed
+
+pub returns-in-Lattice-clause-rest : goal.returns-in-Lattice-clause-rest
+returns-in-Lattice-clause-rest c =
+    rest-on c.args.rows.now c.next.new.self c.read_lattice.new.records
+    (rest-next c.next.result c.args.rows.now c.next.new.self c.next.new.row c.next.ensures.found c.next.ensures.failed) c.read_lattice.ensures.rest
+
+pub returns-clause-rest : goal.returns-clause-rest
+returns-clause-rest c =
+    rest-on c.args.rows.now c.next.new.self c.read_general.new.records
+    (rest-next c.next.result c.args.rows.now c.next.new.self c.next.new.row c.next.ensures.found c.next.ensures.failed) c.read_general.ensures.rest

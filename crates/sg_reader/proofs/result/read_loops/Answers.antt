@@ -2,6 +2,7 @@ use Rattle.std.proofs.Common.{◌≡◌, ◌∙◌, ◌+◌, ◌∷◌, ◌++◌
 use Rattle.std.proofs.lemmas.Result.{err_from_is_err_and}
 use Rattle.sg_check.specs.declared.packing.Loop.{Loop}
 use Rattle.sg_reader.specs.Body.{is_end}
+use Rattle.sg_reader.proofs.LeftLaws.{rest-more}
 use Rattle.sg_reader.proofs.ResultLaws.{end-fault, ended-loops, loop-fault, one-more}
 use Rattle.sg_reader.proofs.result.read_loops.Goals as goal
 
@@ -40,3 +41,28 @@ loop-loops-preserved c =
     one-more c.args.rows.now c.loop-loops.rows c.next.new.self r c.loop-loops.loops c.push.new.self
     c.loop-loops.invariant next other c.in_ok-entry.ensures.passes
     (c.in_ok-push.ensures.ok ∙ ap (λ (l : Loop). c.loop-loops.loops ++ l ∷ []) c.in_ok-entry.ensures.value) c.in_ok-entry.ensures.count
+
+pub returns-in_err-next-clause-rest : goal.returns-in_err-next-clause-rest
+returns-in_err-next-clause-rest c =
+    rest-more c.next.result c.args.rows.now c.loop-loops.invariant.body c.loop-loops.rows c.next.new.self c.next.new.row c.loop-loops.invariant.split
+    c.next.ensures.found c.next.ensures.failed
+
+pub returns-in_err-bare_end-clause-rest : goal.returns-in_err-bare_end-clause-rest
+returns-in_err-bare_end-clause-rest c =
+    rest-more c.next.result c.args.rows.now c.loop-loops.invariant.body c.loop-loops.rows c.next.new.self c.next.new.row c.loop-loops.invariant.split
+    c.next.ensures.found c.next.ensures.failed
+
+pub returns-then-begins-clause-rest : goal.returns-then-begins-clause-rest
+returns-then-begins-clause-rest c =
+    rest-more c.next.result c.args.rows.now c.loop-loops.invariant.body c.loop-loops.rows c.next.new.self c.next.new.row c.loop-loops.invariant.split
+    c.next.ensures.found c.next.ensures.failed
+
+pub returns-in_err-entry-clause-rest : goal.returns-in_err-entry-clause-rest
+returns-in_err-entry-clause-rest c =
+    rest-more c.next.result c.args.rows.now c.loop-loops.invariant.body c.loop-loops.rows c.next.new.self c.next.new.row c.loop-loops.invariant.split
+    c.next.ensures.found c.next.ensures.failed
+
+pub returns-in_err-push-clause-rest : goal.returns-in_err-push-clause-rest
+returns-in_err-push-clause-rest c =
+    rest-more c.next.result c.args.rows.now c.loop-loops.invariant.body c.loop-loops.rows c.next.new.self c.next.new.row c.loop-loops.invariant.split
+    c.next.ensures.found c.next.ensures.failed

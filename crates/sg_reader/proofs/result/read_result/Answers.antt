@@ -2,7 +2,7 @@ use Rattle.std.proofs.Common.{◌∙◌, ◌∷◌, List, ap, rules, FitsSigned,
 use Rattle.std.proofs.lemmas.Int.{to_z-of_z}
 use Rattle.std.proofs.lemmas.Result.{err_from_is_err_and}
 use Rattle.sg_reader.specs.Kept.{Kept}
-use Rattle.sg_reader.proofs.LeftLaws.{leaves-behind}
+use Rattle.sg_reader.proofs.LeftLaws.{leaves-behind, rest-on}
 use Rattle.sg_reader.proofs.ResultLaws.{IsFront, loops-fault, stated}
 use Rattle.sg_reader.proofs.result.read_result.Goals as goal
 
@@ -35,3 +35,17 @@ returns-clause-left c =
     let behind = leaves-behind c.next_energy.new.rows c.next_spins.new.rows c.read_loops.new.rows c.next_spins.new.row c.in_ok-loops.next
     c.in_ok-spins.ensures.split c.in_ok-loops.ensures.left in
     leaves-behind c.args.rows.now c.next_energy.new.rows c.read_loops.new.rows c.next_energy.new.row c.in_ok-loops.next c.in_ok-energy.ensures.split behind
+
+pub returns-in_err-spins-clause-rest : goal.returns-in_err-spins-clause-rest
+returns-in_err-spins-clause-rest c =
+    rest-on c.args.rows.now c.next_energy.new.rows c.next_spins.new.rows c.next_energy.ensures.rest c.next_spins.ensures.rest
+
+pub returns-in_err-loops-clause-rest : goal.returns-in_err-loops-clause-rest
+returns-in_err-loops-clause-rest c =
+    rest-on c.args.rows.now c.next_energy.new.rows c.read_loops.new.rows c.next_energy.ensures.rest
+    (rest-on c.next_energy.new.rows c.next_spins.new.rows c.read_loops.new.rows c.next_spins.ensures.rest c.read_loops.ensures.rest)
+
+pub returns-clause-rest : goal.returns-clause-rest
+returns-clause-rest c =
+    rest-on c.args.rows.now c.next_energy.new.rows c.read_loops.new.rows c.next_energy.ensures.rest
+    (rest-on c.next_energy.new.rows c.next_spins.new.rows c.read_loops.new.rows c.next_spins.ensures.rest c.read_loops.ensures.rest)
