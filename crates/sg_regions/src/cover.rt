@@ -224,18 +224,26 @@ impl Cover {
 
     // A region leaves the node that it took last.
     pub fn leave(&mut self, name: u32, node: u32) {
+        let row = self.row(name);
         let before = self.before(node);
-        if (node as usize) >= self.places.len() || (name as usize) >= self.rows.len() {
+        let Some(place) = entry(&self.places, node) else {
             return;
-        }
-        let place = self.places[node as usize];
+        };
+        let head = match place.previous.number() {
+            Some(previous) => {
+                self.set_next(previous, place.next);
+                row.head
+            }
+            None => place.next,
+        };
         set_entry(&mut self.taken, node, bare());
-        self.rows[name as usize].last = before;
-        match place.previous.number() {
-            Some(previous) => self.set_next(previous, place.next),
-            None => self.rows[name as usize].head = place.next,
-        }
-        self.rows[name as usize].tail = place.previous;
+        let shorter = Row {
+            head,
+            tail: place.previous,
+            last: before,
+            birth: row.birth,
+        };
+        set_entry(&mut self.rows, name, shorter);
     }
 
     // The row of a part comes behind that of the whole; the part keeps the ends of its own.

@@ -114,7 +114,8 @@ impl Families {
     pub fn join(&mut self, regions: &[u32], blossom: u32, radius: i64) -> Result<(), NoMemory> {
         let family = self.family_of(blossom);
         if let Some(top) = regions.first() {
-            self.free.push(self.family_of(*top))?;
+            let own = self.family_of(*top);
+            self.free.push(own)?;
         }
         self.move_all(regions, family, radius);
         Ok(())

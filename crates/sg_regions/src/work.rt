@@ -11,7 +11,8 @@ pub struct Work {
 
 impl Work {
     // What is allowed for so many terminals, and so many nodes and darts together: twelve times each
-    // place for each terminal, twice as much as was ever seen, and what a slow way takes at the least.
+    // place for each terminal, more than twice what was ever seen, and what a slow way takes at the
+    // least.
     pub fn new(terminals: u32, places: u64) -> Work {
         let terminals = u64::from(terminals);
         let cube = terminals

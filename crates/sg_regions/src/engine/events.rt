@@ -22,6 +22,7 @@ impl<'a> Engine<'a> {
         let Some(here) = self.outer_reach(node) else {
             return self.expect_back(node, &arc);
         };
+        self.work.add(1);
         if self.sight(here, &arc).time > self.clock.now() {
             return self.expect(node, here, &arc);
         }
@@ -200,12 +201,12 @@ impl<'a> Engine<'a> {
 
     // The event of one arc of a hub.
     fn hub_arc(&mut self, hub: u32, dart: u32) -> Result<(), NoMemory> {
-        self.work.add(1);
         let arc = self.arcs.arc(dart);
         let node = self.hubs.node(hub);
         let Some(here) = self.outer_reach(node) else {
             return self.expect_back(node, &arc);
         };
+        self.work.add(1);
         let time = self.sight(here, &arc).time;
         if time <= self.clock.now() {
             return self.arrive(node, here, &arc);
