@@ -1,6 +1,6 @@
 -- What `open`, `shrink`, `expand` and `raise` make of a family.
-use Rattle.std.specs.Prelude.{◌≡◌, ◌≢◌, ℕ, zero, suc, ◌+◌, ◌-◌, ◌<◌, ◌≤◌, ◌^◌, List, length, Option, Some, filter, slice_set}
-use Rattle.std.specs.Prelude.{slice_index, map, if◌then◌else◌, ◌==◌}
+use Rattle.std.specs.Prelude.{◌≡◌, ◌≢◌, ℕ, zero, suc, ◌+◌, ◌-◌, ◌<◌, ◌≤◌, ◌^◌, List, length, Option, Some, filter}
+use Rattle.std.specs.Prelude.{slice_set, slice_index, map, if◌then◌else◌, ◌==◌}
 use Rattle.std.specs.List.{list_any, range_with_len}
 use Rattle.std.specs.Option.{option_map}
 use Rattle.sg_arena.specs.declared.Link.{Link}

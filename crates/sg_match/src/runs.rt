@@ -107,8 +107,9 @@ impl Engine {
     /// costs less ([`sg_pairing::matching_is_least`]). The method is that of Edmonds (1965).
     ///
     /// For `k` leaves the family has taken at most `2 k^2` steps when it is handed back, with those before
-    /// this call, where a step is one `shrink`, `expand` or `raise`. The family counts them itself, and
-    /// the caller's count grows by just the steps of this call.
+    /// this call, where a step is one `shrink`, `expand` or `raise`. The family counts them itself, so they
+    /// cannot be counted elsewhere, and the caller's count grows by just those of this call. The bound is a
+    /// promise of this call: what comes from elsewhere takes no such steps.
     ///
     /// Cost: a step takes time proportional to the number of leaves, and again to it for each leaf whose
     /// nearest one has to be found anew: at most to the square of their number.

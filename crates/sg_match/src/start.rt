@@ -60,7 +60,7 @@ impl Engine {
         }
     }
 
-    // How many unpaired tops there are before the first step; none after it.
+    // How many unpaired tops there are; none once a tree was begun or a step was taken.
     fn raises(&self) -> usize
         ensures engine { IsEngine self.now }
         ensures within { result ≤ length self.now.exposed }

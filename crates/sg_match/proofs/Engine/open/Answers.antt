@@ -34,7 +34,8 @@ pub invariant_of-result : goal.invariant_of-result
 invariant_of-result c =
     let here = (goal.at.invariant_of-result c).After-list_leaves in
     let arena = c.in_ok-arena.arena in (
-      IsEngine-opened arena c.in_ok-arena.ensures.alone c.in_ok-arena.ensures.fresh c.in_ok-near.near.table (metric_of here) (size_of here) c.in_ok-pairs.pairs.items
+      IsEngine-opened arena c.in_ok-arena.ensures.alone c.in_ok-arena.ensures.fresh c.in_ok-near.near.table (metric_of here) (size_of here)
+          c.in_ok-pairs.pairs.items
           (room_of here) (free_of here) c.in_ok-exposed.exposed.items c.in_ok-edges.edges.items c.in_ok-exposed.ensures.items c.in_ok-edges.ensures.items,
       record {
         edges = omega (arith, c.in_ok-edges.ensures.capacity, c.room-room.ensures.value);
@@ -63,7 +64,8 @@ pub returns-clause-left : goal.returns-clause-left
 returns-clause-left c =
     let here = (goal.at.returns-clause-left c).After-list_leaves in
     let same = ap (λ (t : Table). t.size) c.in_ok-near.ensures.table in
-    let left = steps_left-opened c.in_ok-arena.arena c.in_ok-arena.ensures.alone c.in_ok-arena.ensures.fresh c.in_ok-near.near.table (metric_of here) (size_of here)
+    let left = steps_left-opened c.in_ok-arena.arena c.in_ok-arena.ensures.alone c.in_ok-arena.ensures.fresh c.in_ok-near.near.table (metric_of here)
+    (size_of here)
     c.in_ok-pairs.pairs.items (room_of here) (free_of here)
     c.in_ok-exposed.exposed.items c.in_ok-edges.edges.items c.in_ok-exposed.ensures.items c.in_ok-edges.ensures.items in
     subst (λ k. steps_left (record {
