@@ -17,10 +17,10 @@ use super::adjacency::{Adjacency, Arc};
 use super::clock::{Clock, NEVER};
 use super::cover::{Cover, Held};
 use super::cycles::Link;
-use super::forest::{Forest, Reach};
+use super::forest::Forest;
 use super::hubs::Hubs;
 use super::lists::number;
-use super::radii::Role;
+use super::radii::{Reach, Role};
 use super::work::Work;
 use std::alloc::Global;
 

@@ -10,9 +10,8 @@ use crate::adjacency::{Arc, reverse};
 use crate::agenda::Subject;
 use crate::contact::{Contact, End};
 use crate::cover::Held;
-use crate::forest::Reach;
 use crate::hubs::Soon;
-use crate::radii::Role;
+use crate::radii::{Reach, Role};
 
 impl<'a> Engine<'a> {
     // The event of an arc: the region at its start takes the node at its end, or meets a region. If

@@ -3,10 +3,9 @@ use super::Engine;
 use crate::NoMemory;
 use crate::adjacency::{Arc, reverse};
 use crate::clock::NEVER;
-use crate::forest::Reach;
 use crate::hubs::Soon;
 use crate::lists::Slot;
-use crate::radii::Role;
+use crate::radii::{Reach, Role};
 
 impl<'a> Engine<'a> {
     // Enters the event of an arc that leaves a node over which an outer region reaches so far.
