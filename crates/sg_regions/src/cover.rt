@@ -39,6 +39,13 @@ struct Place {
     birth: u32,
 }
 
+// A node of a row that is not deep, if one was found, and how many nodes were looked at.
+#[derive(Clone, Copy)]
+pub struct Shallow {
+    pub node: Slot,
+    pub passed: usize,
+}
+
 // The ends of a region's row, the node that it took last, and its number among all that were born;
 // a region that is gone has none.
 #[derive(Clone, Copy)]
@@ -137,18 +144,13 @@ impl Cover {
     }
 
     // The first node in the row of a region.
-    pub fn first(&self, name: u32) -> Option<u32> {
-        self.row(name).head.number()
+    pub fn first(&self, name: u32) -> Slot {
+        self.row(name).head
     }
 
     // The last node in the row of a region.
     pub fn end(&self, name: u32) -> Slot {
         self.row(name).tail
-    }
-
-    // The node behind another in their row.
-    pub fn next(&self, node: u32) -> Option<u32> {
-        self.places.get(node as usize)?.next.number()
     }
 
     // The node that a region took last.
@@ -272,17 +274,48 @@ impl Cover {
         }
     }
 
-    // Whether all neighbours of a node are known to lie in one region with it.
-    pub fn is_deep(&self, node: u32) -> bool {
-        let Some(place) = self.places.get(node as usize) else {
-            return false;
-        };
+    // Whether the region is there in which the node at a place is deep.
+    fn is_deep(&self, place: &Place) -> bool {
         let Some(region) = place.deep.number() else {
             return false;
         };
         match self.rows.get(region as usize) {
             Some(row) => row.birth.is(place.birth),
             None => false,
+        }
+    }
+
+    // The first node that is not deep in a stretch of a row, from a node on to the end of the stretch.
+    pub fn shallow(&self, first: Slot, end: Slot) -> Shallow {
+        let mut here = first;
+        for passed in 0..self.places.len() {
+            let Some(node) = here.number() else {
+                return Shallow { node: here, passed };
+            };
+            let Some(place) = self.places.get(node as usize) else {
+                break;
+            };
+            if !self.is_deep(place) {
+                let passed = passed.wrapping_add(1);
+                return Shallow { node: here, passed };
+            }
+            here = if end == here {
+                Slot::none()
+            } else {
+                place.next
+            };
+        }
+        Shallow {
+            node: Slot::none(),
+            passed: self.places.len(),
+        }
+    }
+
+    // The node behind another in a stretch of a row.
+    pub fn behind(&self, node: u32, end: Slot) -> Slot {
+        match self.places.get(node as usize) {
+            Some(place) if !end.is(node) => place.next,
+            _ => Slot::none(),
         }
     }
 

@@ -20,16 +20,9 @@ use super::cycles::Link;
 use super::forest::Forest;
 use super::hubs::Hubs;
 use super::lists::number;
-use super::radii::Role;
+use super::radii::{Reach, Role};
 use super::work::Work;
 use std::alloc::Global;
-
-// The top over a node, and how far it reaches beyond the node.
-#[derive(Clone, Copy)]
-struct Reach {
-    top: u32,
-    by: i64,
-}
 
 // What an outer region sees over an arc: when it gets to the end or meets the region there, and
 // whether it lies there itself.
@@ -86,19 +79,19 @@ impl<'a> Engine<'a> {
 
     // The top over a covered node, and how far it reaches beyond: the radii from the region that took
     // the node up to the top, less the radius at which it was taken.
+    #[inline(always)]
     fn reach(&self, held: &Held) -> Reach {
-        let over = self.forest.over(held.region);
-        let radius = self.forest.radius(over.top, self.clock.now());
+        let here = self.forest.reach(held.region, self.clock.now());
         Reach {
-            top: over.top,
-            by: over.by.wrapping_add(radius).wrapping_sub(held.radius),
+            by: here.by.wrapping_sub(held.radius),
+            ..here
         }
     }
 
     // The reach of the region over a node, if it is outer.
     fn outer_reach(&self, node: u32) -> Option<Reach> {
         let here = self.reach(&self.cover.held(node)?);
-        if self.forest.role(here.top) == Role::Outer {
+        if here.role == Role::Outer {
             Some(here)
         } else {
             None
@@ -106,6 +99,7 @@ impl<'a> Engine<'a> {
     }
 
     // What an outer region, which reaches so far beyond the start of an arc, sees over it.
+    #[inline(always)]
     fn sight(&self, here: Reach, arc: &Arc) -> Sight {
         let now = self.clock.now();
         let left = arc.length.wrapping_sub(here.by);
@@ -123,10 +117,10 @@ impl<'a> Engine<'a> {
             };
         }
         let slack = left.wrapping_sub(there.by);
-        let time = match self.forest.role(there.top) {
+        let time = match there.role {
             Role::Outer => now.wrapping_add(slack / 2),
             Role::Free => now.wrapping_add(slack),
-            Role::Inner => NEVER,
+            Role::Inner | Role::Part => NEVER,
         };
         Sight {
             time,

@@ -4,14 +4,14 @@
 // Two outer regions that touch one bare node are tight with one another through it, whatever region
 // holds it. So a bare node is no wall: regions that touch it meet there, and a region with such a node
 // is not taken apart to let them through.
-use super::{Engine, Reach};
+use super::Engine;
 use crate::NoMemory;
 use crate::adjacency::{Arc, reverse};
 use crate::agenda::Subject;
 use crate::contact::{Contact, End};
 use crate::cover::Held;
 use crate::hubs::Soon;
-use crate::radii::Role;
+use crate::radii::{Reach, Role};
 
 impl<'a> Engine<'a> {
     // The event of an arc: the region at its start takes the node at its end, or meets a region. If
@@ -39,7 +39,7 @@ impl<'a> Engine<'a> {
             return self.wake(arc.to);
         };
         let there = self.reach(&held);
-        let is_bare = there.by == 0 && self.forest.role(there.top) == Role::Free;
+        let is_bare = there.by == 0 && there.role == Role::Free;
         if is_bare && self.meet_at_bare(node, here, arc, own)? {
             return Ok(());
         }
@@ -219,8 +219,7 @@ impl<'a> Engine<'a> {
 
     // The event of an inner region: it leaves the node that it took last, or has come to nothing.
     fn region_event(&mut self, name: u32) -> Result<(), NoMemory> {
-        let is_top = self.forest.cycles().parent(name).is_none();
-        if !is_top || self.forest.role(name) != Role::Inner || self.height(name) != 0 {
+        if self.forest.role(name) != Role::Inner || self.height(name) != 0 {
             return Ok(());
         }
         let seed = self.seed(name);

@@ -87,10 +87,11 @@ impl<'a> Engine<'a> {
         if !self.cover.is_open(name) {
             return self.forest.free_name(name);
         }
-        if !self.forest.cycles().parent(name).is_none() || self.forest.tree(name) != Some(tree) {
+        let role = self.forest.role(name);
+        if role == Role::Part || self.forest.tree(name) != Some(tree) {
             return Ok(());
         }
-        if self.forest.role(name) == Role::Inner {
+        if role == Role::Inner {
             inner.push(name)?;
         }
         self.forest.quit_tree(name);

@@ -1,10 +1,11 @@
 // Entering the events of arcs: to wake a node is to look at each of its arcs.
-use super::{Engine, Reach};
+use super::Engine;
 use crate::NoMemory;
 use crate::adjacency::{Arc, reverse};
 use crate::clock::NEVER;
 use crate::hubs::Soon;
-use crate::radii::Role;
+use crate::lists::Slot;
+use crate::radii::{Reach, Role};
 
 impl<'a> Engine<'a> {
     // Enters the event of an arc that leaves a node over which an outer region reaches so far.
@@ -106,27 +107,28 @@ impl<'a> Engine<'a> {
 
     // Enters the events of the arcs that leave the nodes of a region in an outer top.
     pub(super) fn wake_region(&mut self, name: u32, top: u32) -> Result<(), NoMemory> {
-        let mut node = self.cover.first(name);
         let end = self.cover.end(name);
+        let mut next = self.cover.first(name);
         for _ in 0..self.arcs.nodes() {
-            let Some(here) = node else {
+            let Some(node) = self.next_shallow(next, end) else {
                 break;
             };
-            self.wake_within(here, top)?;
-            if end.is(here) {
-                break;
-            }
-            node = self.cover.next(here);
+            self.wake_within(node, top)?;
+            next = self.cover.behind(node, end);
         }
         Ok(())
     }
 
-    // Enters the events of the arcs that leave a node in an outer top, unless it is deep.
+    // The first node that is not deep in a stretch of a row.
+    fn next_shallow(&mut self, first: Slot, end: Slot) -> Option<u32> {
+        let found = self.cover.shallow(first, end);
+        self.work.add(found.passed);
+        found.node.number()
+    }
+
+    // Enters the events of the arcs that leave a node in an outer top. If they lead to nodes of this
+    // top alone, the node is deep from now on.
     fn wake_within(&mut self, node: u32, top: u32) -> Result<(), NoMemory> {
-        self.work.add(1);
-        if self.cover.is_deep(node) {
-            return Ok(());
-        }
         let Some(held) = self.cover.held(node) else {
             return Ok(());
         };
@@ -139,16 +141,14 @@ impl<'a> Engine<'a> {
 
     // Enters the events of the arcs that lead to the nodes of a top.
     pub(super) fn wake_around_region(&mut self, name: u32) -> Result<(), NoMemory> {
-        let mut node = self.cover.first(name);
+        let end = self.cover.end(name);
+        let mut next = self.cover.first(name);
         for _ in 0..self.arcs.nodes() {
-            let Some(here) = node else {
+            let Some(node) = self.next_shallow(next, end) else {
                 break;
             };
-            self.work.add(1);
-            if !self.cover.is_deep(here) {
-                self.wake_around(here)?;
-            }
-            node = self.cover.next(here);
+            self.wake_around(node)?;
+            next = self.cover.behind(node, end);
         }
         Ok(())
     }
