@@ -1,14 +1,12 @@
 //! The program `ising2d`: standard input and output under the top call.
 //!
 //! Every text goes to standard output, and the exit status says how the run ended. What the
-//! program does is the contract of `sg_cli::run`; here the words, the devices and the status are
-//! joined to the system, which is trusted, and the laws of disorder are made that a run may draw from.
+//! program does is the contract of `sg_cli::run_with_all_laws`; here the words, the devices and the
+//! status are joined to the system, which is trusted.
 #![tactic(auto)]
 
-use sg_cli::{Status, run};
+use sg_cli::{Status, run_with_all_laws};
 use sg_io::{ReadSource, WriteSink};
-use sg_laws::{Alternate, Disorder, One, PlusMinus, Uniform};
-use std::alloc::AllocError;
 use std::process::ExitCode;
 use std::{env, io};
 
@@ -17,10 +15,7 @@ const NO_WORDS: u8 = 7;
 
 fn main(rt: HostRuntime) -> ExitCode {
     match words(&rt) {
-        Ok(words) => match answer(&rt, words.as_slice()) {
-            Ok(status) => ExitCode::from(status.exit_code()),
-            Err(AllocError) => ExitCode::from(Status::NoMemory.exit_code()),
-        },
+        Ok(words) => ExitCode::from(answer(&rt, words.as_slice()).exit_code()),
         Err(error) if error.kind() == io::ErrorKind::OutOfMemory => {
             ExitCode::from(Status::NoMemory.exit_code())
         }
@@ -37,15 +32,9 @@ fn words(rt: &HostRuntime) -> io::Result<Vec<String>> {
     Ok(words)
 }
 
-/// Answers the words, with the laws of the library to draw from.
-fn answer(rt: &HostRuntime, words: &[String]) -> Result<Status, AllocError> {
-    let alloc = rt.alloc();
-    let mut laws: Vec<Box<dyn Disorder>> = Vec::new(alloc);
-    laws.push(Box::new(alloc, One::new())?)?;
-    laws.push(Box::new(alloc, Alternate::new())?)?;
-    laws.push(Box::new(alloc, PlusMinus::new())?)?;
-    laws.push(Box::new(alloc, Uniform::new())?)?;
+/// Answers the words, from standard input to standard output.
+fn answer(rt: &HostRuntime, words: &[String]) -> Status {
     let mut source = ReadSource::new(rt.reader());
     let mut sink = WriteSink::new(io::writer(rt));
-    Ok(run(alloc, words, &mut source, &mut sink, laws))
+    run_with_all_laws(rt.alloc(), words, &mut source, &mut sink).unwrap_or(Status::NoMemory)
 }

@@ -1,41 +1,24 @@
 -- What a run over devices in memory answers to a caller.
-use Rattle.std.proofs.Common.{◌≡◌, ℕ, pos, List, [], ◌∷◌, ◌++◌, ap, ◌∙◌, Some, map}
-use Rattle.std.specs.Prelude.{codes, replicate}
-use Rattle.sg_laws.specs.Stream.{alternating, drawn, generator_of, level_of, sign_of}
+use Rattle.std.proofs.Common.{◌≡◌, ℕ, List, [], ◌++◌, ap, ◌∙◌, Some, Ok, Err, IfOk}
+use Rattle.std.specs.Prelude.{Result}
 use Rattle.std.proofs.lemmas.Option.{same_Some}
-use Rattle.sg_laws.specs.Named.{Law}
-use Rattle.sg_cli.specs.Promises.{AnswersWhole, IsAnswered}
+use Rattle.sg_cli.specs.Laws.{Sends, WithAllLaws}
+use Rattle.sg_cli.specs.Promises.{IsAnswered}
 use Rattle.sg_cli.specs.declared.status.Status.{Status}
-use Rattle.ising2d_c.specs.Running.{Answers, AreLaws, IsLaw}
+use Rattle.ising2d_c.specs.Running.{Answers}
 
-pub whole-answers : (words : List (List ℕ)) (laws : List Law) (input before text : List ℕ) (status : Status)
-    → before ≡ [] → AreLaws laws → IsAnswered status → AnswersWhole words laws status (Some input) (Some before) (Some text)
-    → Answers words input text status
-whole-answers words laws input before text status empty known answered whole =
+pub run-answers : {E : Type 0} (words : List (List ℕ)) (input before text : List ℕ) (result : Result Status E) → before ≡ []
+    → IfOk result (λ status. WithAllLaws (λ laws. Sends words laws status (Some input) (Some before) (Some text)))
+    → IfOk result (λ status. IsAnswered status → Answers words input text status)
+run-answers words input before text (Err e) empty sends = tt
+run-answers words input before text (Ok status) empty sends = λ answered.
+    let whole = sends.holds.whole answered in
     let e : text ≡ whole.text = same_Some _ _ whole.written ∙ ap (λ l. l ++ whole.text) empty in
     record {
-      laws = laws;
-      known = known;
       answered = answered;
-      served = rw e (rw whole.served.told at whole.served.served);
+      served = record {
+        laws = sends.laws;
+        known = sends.known;
+        holds = rw e (rw whole.served.told at whole.served.served);
+      };
     }
-
--- the laws of the library, pushed one by one
-pub four-laws : {B : Type 0} (law_of : B → Law) (none first second third fourth : List B) (a b c d : B)
-    → none ≡ [] → first ≡ none ++ a ∷ [] → second ≡ first ++ b ∷ [] → third ≡ second ++ c ∷ [] → fourth ≡ third ++ d ∷ []
-    → IsLaw (codes "one") (λ seed count. replicate count (pos 1)) (law_of a) → IsLaw (codes "alternate") alternating (law_of b)
-    → IsLaw (codes "pm") (λ seed count. drawn sign_of count (generator_of seed)) (law_of c)
-    → IsLaw (codes "uniform") (λ seed count. drawn level_of count (generator_of seed)) (law_of d)
-    → AreLaws (map law_of fourth)
-four-laws law_of none first second third fourth a b c d none-is first-is second-is third-is fourth-is one alternate plus_minus uniform = record {
-  one = law_of a;
-  alternate = law_of b;
-  plus_minus = law_of c;
-  uniform = law_of d;
-  all = ap (map law_of) (fourth-is ∙ ap (λ l. l ++ d ∷ []) (third-is ∙ ap (λ l. l ++ c ∷ [])
-      (second-is ∙ ap (λ l. l ++ b ∷ []) (first-is ∙ ap (λ l. l ++ a ∷ []) none-is))));
-  is_one = one;
-  is_alternate = alternate;
-  is_plus_minus = plus_minus;
-  is_uniform = uniform;
-}

@@ -6,8 +6,7 @@ ghost use Rattle.ising2d_c.specs.Running.{Answers, Ends};
 use super::crossing::fill;
 use super::devices::{Input, Text};
 use super::words::words_in;
-use sg_cli::{Status, run};
-use sg_laws::{Alternate, Disorder, One, PlusMinus, Uniform};
+use sg_cli::{Status, run_with_all_laws};
 use std::alloc::{AllocError, Global};
 
 // Where the words are not ended.
@@ -33,7 +32,7 @@ pub extern "C" fn ising2d_c_run(
         Err(AllocError) => return Status::NoMemory.exit_code(),
     };
     let mut text = Text::new(alloc);
-    match draw_or_read(alloc, list.as_slice(), input, &mut text) {
+    match run_on(alloc, list.as_slice(), input, &mut text) {
         Ok(status) if is_answer(status) => {
             *written = fill(text.bytes(), out);
             *whole = text.bytes().len();
@@ -53,8 +52,8 @@ fn is_answer(status: Status) -> bool
     }
 }
 
-// A run with the laws of the library to draw from.
-fn draw_or_read(
+// A run on an input in memory, with the text as its sink.
+fn run_on(
     alloc: Global,
     words: &[String],
     input: &[u8],
@@ -63,11 +62,6 @@ fn draw_or_read(
     requires { text.old.bytes ≡ [] }
     ensures { IfOk result (λ status. IsAnswered status → Answers (map string_bytes words.now) input.now text.new.bytes status) }
 {
-    let mut laws: Vec<Box<dyn Disorder>> = Vec::new(alloc);
-    laws.push(Box::new(alloc, One::new())?)?;
-    laws.push(Box::new(alloc, Alternate::new())?)?;
-    laws.push(Box::new(alloc, PlusMinus::new())?)?;
-    laws.push(Box::new(alloc, Uniform::new())?)?;
     let mut source = Input::new(input);
-    Ok(run(alloc, words, &mut source, text, laws))
+    run_with_all_laws(alloc, words, &mut source, text)
 }

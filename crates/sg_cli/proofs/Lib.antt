@@ -5,3 +5,4 @@ mod TakesLemmas
 mod AnswerLemmas
 mod InputLemmas
 mod FaultReplies
+mod LawLemmas

@@ -5,3 +5,4 @@ pub mod Input
 pub mod Graphs
 pub mod Served
 pub mod Promises
+pub mod Laws

@@ -25,6 +25,7 @@ mod ensemble;
 mod generate;
 mod graph;
 mod ground;
+mod laws;
 mod maxcut;
 mod numeral;
 mod postman;
@@ -40,5 +41,6 @@ mod wall;
 mod widths;
 
 pub use command::{Command, Drawing, GraphTask, Reading, Size, Study};
+pub use laws::run_with_all_laws;
 pub use serve::run;
 pub use status::Status;

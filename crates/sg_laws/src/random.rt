@@ -19,6 +19,7 @@ pub struct PlusMinus {
 impl PlusMinus {
     /// The law, as after the seed 0. It takes no memory.
     pub fn new() -> PlusMinus
+        ensures title { ⟦<PlusMinus as Disorder>⟧.title result ≡ codes "pm" }
         ensures stream { (c : ℕ) → ⟦<PlusMinus as Disorder>⟧.next result c ≡ drawn sign_of c (generator_of 0) }
         ensures seeded { (s c : ℕ) → ⟦<PlusMinus as Disorder>⟧.seeded result s c ≡ drawn sign_of c (generator_of s) }
     {
@@ -66,6 +67,7 @@ pub struct Uniform {
 impl Uniform {
     /// The law, as after the seed 0. It takes no memory.
     pub fn new() -> Uniform
+        ensures title { ⟦<Uniform as Disorder>⟧.title result ≡ codes "uniform" }
         ensures stream { (c : ℕ) → ⟦<Uniform as Disorder>⟧.next result c ≡ drawn level_of c (generator_of 0) }
         ensures seeded { (s c : ℕ) → ⟦<Uniform as Disorder>⟧.seeded result s c ≡ drawn level_of c (generator_of s) }
     {

@@ -11,6 +11,7 @@ pub struct One {}
 impl One {
     /// The law. It takes no memory.
     pub fn new() -> One
+        ensures title { ⟦<One as Disorder>⟧.title result ≡ codes "one" }
         ensures stream { (c : ℕ) → ⟦<One as Disorder>⟧.next result c ≡ replicate c (pos 1) }
         ensures seeded { (s c : ℕ) → ⟦<One as Disorder>⟧.seeded result s c ≡ replicate c (pos 1) }
     {
@@ -47,6 +48,7 @@ pub struct Alternate {
 impl Alternate {
     /// The law, as after the seed 0. It takes no memory.
     pub fn new() -> Alternate
+        ensures title { ⟦<Alternate as Disorder>⟧.title result ≡ codes "alternate" }
         ensures stream { (c : ℕ) → ⟦<Alternate as Disorder>⟧.next result c ≡ alternating 0 c }
         ensures seeded { (s c : ℕ) → ⟦<Alternate as Disorder>⟧.seeded result s c ≡ alternating s c }
     {
