@@ -47,9 +47,10 @@ pub extern "C" fn ising2d_c_graph_ground(
     ensures refused { result ≡ 1 → IsTold (IsFitFault (IsGraph n ends.now couplings.now dart_starts.now darts.now seam.now) (IsGraphFault n ends.now couplings.now dart_starts.now darts.now seam.now)) line.old line.new line_written.new }
     ensures codes { (result ≡ 0) ⊎ ((result ≡ 1) ⊎ (result ≡ 6)) }
 
-    // Nothing is written beside another status.
+    // Beside another status than 0 no result is written, and beside another than 1 no line.
     ensures kept { result ≢ 0 → (energy.new ≡ energy.old) × (spins.new ≡ spins.old) × (weights.new ≡ weights.old)
-        × (starts.new ≡ starts.old) × (bonds.new ≡ bonds.old) }
+        × (starts.new ≡ starts.old) × (bonds.new ≡ bonds.old) × (loop_count.new ≡ loop_count.old) × (bond_count.new ≡ bond_count.old) }
+    ensures kept_line { result ≢ 1 → (line.new ≡ line.old) × (line_written.new ≡ line_written.old) }
 {
     let planar = fit_graph(alloc, n, ends, couplings, dart_starts, darts, seam);
     ground_into(
@@ -87,9 +88,10 @@ pub extern "C" fn ising2d_c_graph_wall(
     ensures refused { result ≡ 1 → IsTold (IsWallFault (IsGraph n ends.now couplings.now dart_starts.now darts.now seam.now) (IsGraphFault n ends.now couplings.now dart_starts.now darts.now seam.now)) line.old line.new line_written.new }
     ensures codes { (result ≡ 0) ⊎ ((result ≡ 1) ⊎ (result ≡ 6)) }
 
-    // Nothing is written beside another status.
+    // Beside another status than 0 no result is written, and beside another than 1 no line.
     ensures kept { result ≢ 0 → (periodic.new ≡ periodic.old) × (antiperiodic.new ≡ antiperiodic.old)
         × (difference.new ≡ difference.old) }
+    ensures kept_line { result ≢ 1 → (line.new ≡ line.old) × (line_written.new ≡ line_written.old) }
 {
     let planar = with_seam(fit_graph(alloc, n, ends, couplings, dart_starts, darts, seam));
     wall_into(
@@ -121,8 +123,9 @@ pub extern "C" fn ising2d_c_graph_bonds(
     ensures refused { result ≡ 1 → IsTold (IsFitFault (IsGraph n ends.now couplings.now dart_starts.now darts.now seam.now) (IsGraphFault n ends.now couplings.now dart_starts.now darts.now seam.now)) line.old line.new line_written.new }
     ensures codes { (result ≡ 0) ⊎ ((result ≡ 1) ⊎ (result ≡ 6)) }
 
-    // Nothing is written beside another status.
+    // Beside another status than 0 no result is written, and beside another than 1 no line.
     ensures kept { result ≢ 0 → bond_costs.new ≡ bond_costs.old }
+    ensures kept_line { result ≢ 1 → (line.new ≡ line.old) × (line_written.new ≡ line_written.old) }
 {
     let planar = fit_graph(alloc, n, ends, couplings, dart_starts, darts, seam);
     costs_into(alloc, planar, bond_costs, line, line_written)
@@ -146,8 +149,9 @@ pub extern "C" fn ising2d_c_graph_clusters(
     ensures refused { result ≡ 1 → IsTold (IsFitFault (IsGraph n ends.now couplings.now dart_starts.now darts.now seam.now) (IsGraphFault n ends.now couplings.now dart_starts.now darts.now seam.now)) line.old line.new line_written.new }
     ensures codes { (result ≡ 0) ⊎ ((result ≡ 1) ⊎ (result ≡ 6)) }
 
-    // Nothing is written beside another status.
+    // Beside another status than 0 no result is written, and beside another than 1 no line.
     ensures kept { result ≢ 0 → names.new ≡ names.old }
+    ensures kept_line { result ≢ 1 → (line.new ≡ line.old) × (line_written.new ≡ line_written.old) }
 {
     let planar = fit_graph(alloc, n, ends, couplings, dart_starts, darts, seam);
     clusters_into(alloc, planar, names, line, line_written)
@@ -178,7 +182,7 @@ pub extern "C" fn ising2d_c_graph_check(
     ensures codes { (result ≡ 0) ⊎ ((result ≡ 1) ⊎ ((result ≡ 3) ⊎ (result ≡ 6))) }
 
     // Nothing is written where the memory is wanting.
-    ensures kept { result ≡ 6 → line.new ≡ line.old }
+    ensures kept { result ≡ 6 → (line.new ≡ line.old) × (line_written.new ≡ line_written.old) }
 {
     let given = graph_of(alloc, n, ends, couplings, dart_starts, darts, seam);
     judge_into(

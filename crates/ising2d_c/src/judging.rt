@@ -47,7 +47,7 @@ pub fn judge_into(
         ⊎ IsOkAnd given (λ inst. IsTold (IsTestFault (stated_fault spins.now weights.now starts.now bonds.now))
         line.old line.new line_written.new) }
     ensures codes { (result ≡ 0) ⊎ ((result ≡ 1) ⊎ ((result ≡ 3) ⊎ (result ≡ 6))) }
-    ensures kept { result ≡ 6 → line.new ≡ line.old }
+    ensures kept { result ≡ 6 → (line.new ≡ line.old) × (line_written.new ≡ line_written.old) }
 {
     match given {
         Ok(instance) => match stated_by(alloc, energy, spins, weights, starts, bonds) {
@@ -70,7 +70,7 @@ fn judge(
     requires few_loops { length stated.now.loops ≤ input_limit }
     ensures judged { (result ≡ 0) ⊎ (result ≡ 3) → IsJudged instance.now stated.now line.old line.new line_written.new result }
     ensures codes { (result ≡ 0) ⊎ ((result ≡ 3) ⊎ (result ≡ 6)) }
-    ensures kept { result ≡ 6 → line.new ≡ line.old }
+    ensures kept { result ≡ 6 → (line.new ≡ line.old) × (line_written.new ≡ line_written.old) }
 {
     match verdict_on(alloc, instance, stated) {
         Ok(found) => {

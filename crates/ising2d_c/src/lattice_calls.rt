@@ -45,9 +45,10 @@ pub extern "C" fn ising2d_c_ground(
     ensures refused { result ≡ 1 → IsTold (IsFitFault (IsLattice kind rows cols couplings.now) (IsLatticeFault kind rows cols couplings.now)) line.old line.new line_written.new }
     ensures codes { (result ≡ 0) ⊎ ((result ≡ 1) ⊎ (result ≡ 6)) }
 
-    // Nothing is written beside another status.
+    // Beside another status than 0 no result is written, and beside another than 1 no line.
     ensures kept { result ≢ 0 → (energy.new ≡ energy.old) × (spins.new ≡ spins.old) × (weights.new ≡ weights.old)
-        × (starts.new ≡ starts.old) × (bonds.new ≡ bonds.old) }
+        × (starts.new ≡ starts.old) × (bonds.new ≡ bonds.old) × (loop_count.new ≡ loop_count.old) × (bond_count.new ≡ bond_count.old) }
+    ensures kept_line { result ≢ 1 → (line.new ≡ line.old) × (line_written.new ≡ line_written.old) }
 {
     let planar = fit_lattice(alloc, kind, rows, cols, couplings);
     ground_into(
@@ -83,9 +84,10 @@ pub extern "C" fn ising2d_c_wall(
     ensures refused { result ≡ 1 → IsTold (IsWallFault (IsLattice kind rows cols couplings.now) (IsLatticeFault kind rows cols couplings.now)) line.old line.new line_written.new }
     ensures codes { (result ≡ 0) ⊎ ((result ≡ 1) ⊎ (result ≡ 6)) }
 
-    // Nothing is written beside another status.
+    // Beside another status than 0 no result is written, and beside another than 1 no line.
     ensures kept { result ≢ 0 → (periodic.new ≡ periodic.old) × (antiperiodic.new ≡ antiperiodic.old)
         × (difference.new ≡ difference.old) }
+    ensures kept_line { result ≢ 1 → (line.new ≡ line.old) × (line_written.new ≡ line_written.old) }
 {
     let planar = with_seam(fit_lattice(alloc, kind, rows, cols, couplings));
     wall_into(
@@ -115,8 +117,9 @@ pub extern "C" fn ising2d_c_bonds(
     ensures refused { result ≡ 1 → IsTold (IsFitFault (IsLattice kind rows cols couplings.now) (IsLatticeFault kind rows cols couplings.now)) line.old line.new line_written.new }
     ensures codes { (result ≡ 0) ⊎ ((result ≡ 1) ⊎ (result ≡ 6)) }
 
-    // Nothing is written beside another status.
+    // Beside another status than 0 no result is written, and beside another than 1 no line.
     ensures kept { result ≢ 0 → bond_costs.new ≡ bond_costs.old }
+    ensures kept_line { result ≢ 1 → (line.new ≡ line.old) × (line_written.new ≡ line_written.old) }
 {
     let planar = fit_lattice(alloc, kind, rows, cols, couplings);
     costs_into(alloc, planar, bond_costs, line, line_written)
@@ -138,8 +141,9 @@ pub extern "C" fn ising2d_c_clusters(
     ensures refused { result ≡ 1 → IsTold (IsFitFault (IsLattice kind rows cols couplings.now) (IsLatticeFault kind rows cols couplings.now)) line.old line.new line_written.new }
     ensures codes { (result ≡ 0) ⊎ ((result ≡ 1) ⊎ (result ≡ 6)) }
 
-    // Nothing is written beside another status.
+    // Beside another status than 0 no result is written, and beside another than 1 no line.
     ensures kept { result ≢ 0 → names.new ≡ names.old }
+    ensures kept_line { result ≢ 1 → (line.new ≡ line.old) × (line_written.new ≡ line_written.old) }
 {
     let planar = fit_lattice(alloc, kind, rows, cols, couplings);
     clusters_into(alloc, planar, names, line, line_written)
@@ -168,7 +172,7 @@ pub extern "C" fn ising2d_c_check(
     ensures codes { (result ≡ 0) ⊎ ((result ≡ 1) ⊎ ((result ≡ 3) ⊎ (result ≡ 6))) }
 
     // Nothing is written where the memory is wanting.
-    ensures kept { result ≡ 6 → line.new ≡ line.old }
+    ensures kept { result ≡ 6 → (line.new ≡ line.old) × (line_written.new ≡ line_written.old) }
 {
     let given = lattice_of(alloc, kind, rows, cols, couplings);
     judge_into(

@@ -11,7 +11,7 @@ use std::alloc::Global;
 /// Writes the line of a refusal as far as there is room, and answers the status.
 pub fn refuse(alloc: Global, fault: &Fault, line: &mut [u8], written: &mut usize) -> u8
     ensures told { result ≡ 1 → IsToldFault fault.now line.old line.new written.new }
-    ensures kept { result ≡ 6 → line.new ≡ line.old }
+    ensures kept { result ≡ 6 → (line.new ≡ line.old) × (written.new ≡ written.old) }
     ensures codes { (result ≡ 1) ⊎ (result ≡ 6) }
 {
     if let Fault::Refused(refusal) = fault {

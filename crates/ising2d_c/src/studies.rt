@@ -54,7 +54,8 @@ pub fn ground_into(
     ensures refused { result ≡ 1 → IsErrAnd given (λ fault. IsToldFault fault line.old line.new line_written.new) }
     ensures codes { (result ≡ 0) ⊎ ((result ≡ 1) ⊎ (result ≡ 6)) }
     ensures kept { result ≢ 0 → (energy.new ≡ energy.old) × (spins.new ≡ spins.old) × (weights.new ≡ weights.old)
-        × (starts.new ≡ starts.old) × (bonds.new ≡ bonds.old) }
+        × (starts.new ≡ starts.old) × (bonds.new ≡ bonds.old) × (loop_count.new ≡ loop_count.old) × (bond_count.new ≡ bond_count.old) }
+    ensures kept_line { result ≢ 1 → (line.new ≡ line.old) × (line_written.new ≡ line_written.old) }
 {
     match given {
         Ok(planar) => match ground(alloc, &planar) {
@@ -107,6 +108,7 @@ pub fn wall_into(
     ensures codes { (result ≡ 0) ⊎ ((result ≡ 1) ⊎ (result ≡ 6)) }
     ensures kept { result ≢ 0 → (periodic.new ≡ periodic.old) × (antiperiodic.new ≡ antiperiodic.old)
         × (difference.new ≡ difference.old) }
+    ensures kept_line { result ≢ 1 → (line.new ≡ line.old) × (line_written.new ≡ line_written.old) }
 {
     match given {
         Ok(planar) => match wall(alloc, &planar) {
@@ -135,6 +137,7 @@ pub fn costs_into(
     ensures refused { result ≡ 1 → IsErrAnd given (λ fault. IsToldFault fault line.old line.new line_written.new) }
     ensures codes { (result ≡ 0) ⊎ ((result ≡ 1) ⊎ (result ≡ 6)) }
     ensures kept { result ≢ 0 → bond_costs.new ≡ bond_costs.old }
+    ensures kept_line { result ≢ 1 → (line.new ≡ line.old) × (line_written.new ≡ line_written.old) }
 {
     match given {
         Ok(planar) => match costs(alloc, &planar) {
@@ -161,6 +164,7 @@ pub fn clusters_into(
     ensures refused { result ≡ 1 → IsErrAnd given (λ fault. IsToldFault fault line.old line.new line_written.new) }
     ensures codes { (result ≡ 0) ⊎ ((result ≡ 1) ⊎ (result ≡ 6)) }
     ensures kept { result ≢ 0 → names.new ≡ names.old }
+    ensures kept_line { result ≢ 1 → (line.new ≡ line.old) × (line_written.new ≡ line_written.old) }
 {
     match given {
         Ok(planar) => match clusters(alloc, &planar) {
