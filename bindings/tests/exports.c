@@ -1,0 +1,287 @@
+/* Each export of the library once with each status: what it answers, and every place of the caller
+   before and after it. For status 6 each request for memory is refused in turn, with all behind it:
+   the program is linked with --wrap for malloc and realloc, by which the library takes its memory. */
+#include <stdio.h>
+#include <string.h>
+
+#include "ising2d.h"
+
+/* How many requests for memory are granted before the first that is refused. */
+static size_t granted = SIZE_MAX;
+
+void *__real_malloc(size_t size);
+void *__real_realloc(void *block, size_t size);
+void *__wrap_malloc(size_t size);
+void *__wrap_realloc(void *block, size_t size);
+
+static int is_granted(void) {
+    if (granted == 0) {
+        return 0;
+    }
+    granted--;
+    return 1;
+}
+
+void *__wrap_malloc(size_t size) { return is_granted() ? __real_malloc(size) : NULL; }
+
+void *__wrap_realloc(void *block, size_t size) { return is_granted() ? __real_realloc(block, size) : NULL; }
+
+/* Room for what is written of four spins and four bonds. */
+enum { SPINS = 4, BONDS = 4, LOOPS = 10, LOOP_BONDS = 40, LINE = 124 };
+
+/* All places of a caller, for every export, with no byte between them. */
+struct places {
+    int64_t energy, periodic, antiperiodic, difference, weights[LOOPS], costs[BONDS];
+    size_t starts[LOOPS + 1], loop_count, bond_count, written, whole;
+    uint32_t names[SPINS], bonds[LOOP_BONDS];
+    int8_t spins[SPINS];
+    uint8_t line[LINE];
+};
+
+/* What a caller gives: the same square as a lattice and as a graph, a proof, and words. */
+struct given {
+    uint8_t kind;
+    uint32_t n;
+    size_t couplings_len;
+    int64_t energy;
+    const char *words;
+    size_t words_len;
+};
+
+static const int64_t couplings[] = {3, 4, 2, -5};
+static const uint32_t ends[] = {0, 1, 2, 3, 0, 2, 1, 3}, darts[] = {0, 4, 1, 6, 2, 5, 3, 7}, seam[] = {0};
+static const size_t dart_starts[] = {0, 2, 4, 6, 8};
+static const int64_t ring[] = {5, 7, 2}, heavy[] = {4};
+static const int8_t spins[] = {1, 1, -1, -1};
+static const size_t begun[] = {0, 4};
+static const uint32_t through[] = {0, 1, 2, 3};
+static const char input[] = "square,2,2\n3,4\n2,-5\nend\nenergy,-9\nspins,1,1,-1,-1\nloop,4,0,1,2,3\nend\n";
+
+#define LATTICE given->kind, 2, 2, couplings, given->couplings_len
+#define GRAPH given->n, ends, 8, couplings, 4, dart_starts, 5, darts, 8, seam, 1
+#define LOOPS_OF(p) p->weights, LOOPS, p->starts, LOOPS + 1, p->bonds, LOOP_BONDS, &p->loop_count, &p->bond_count
+#define PROOF given->energy, spins, 4, heavy, 1, begun, 2, through, 4
+#define TOLD(p) p->line, LINE, &p->written
+
+static uint8_t run(const struct given *given, struct places *p) {
+    return ising2d_c_run((const uint8_t *)given->words, given->words_len, (const uint8_t *)input, strlen(input),
+                         p->line, LINE, &p->written, &p->whole);
+}
+
+static uint8_t ground(const struct given *given, struct places *p) {
+    return ising2d_c_ground(LATTICE, &p->energy, p->spins, SPINS, LOOPS_OF(p), TOLD(p));
+}
+
+static uint8_t wall(const struct given *given, struct places *p) {
+    return ising2d_c_wall(given->kind, 1, 3, ring, 3, &p->periodic, &p->antiperiodic, &p->difference, TOLD(p));
+}
+
+static uint8_t bonds(const struct given *given, struct places *p) {
+    return ising2d_c_bonds(LATTICE, p->costs, BONDS, TOLD(p));
+}
+
+static uint8_t clusters(const struct given *given, struct places *p) {
+    return ising2d_c_clusters(LATTICE, p->names, SPINS, TOLD(p));
+}
+
+static uint8_t check(const struct given *given, struct places *p) { return ising2d_c_check(LATTICE, PROOF, TOLD(p)); }
+
+static uint8_t graph_ground(const struct given *given, struct places *p) {
+    return ising2d_c_graph_ground(GRAPH, &p->energy, p->spins, SPINS, LOOPS_OF(p), TOLD(p));
+}
+
+static uint8_t graph_wall(const struct given *given, struct places *p) {
+    return ising2d_c_graph_wall(GRAPH, &p->periodic, &p->antiperiodic, &p->difference, TOLD(p));
+}
+
+static uint8_t graph_bonds(const struct given *given, struct places *p) {
+    return ising2d_c_graph_bonds(GRAPH, p->costs, BONDS, TOLD(p));
+}
+
+static uint8_t graph_clusters(const struct given *given, struct places *p) {
+    return ising2d_c_graph_clusters(GRAPH, p->names, SPINS, TOLD(p));
+}
+
+static uint8_t graph_check(const struct given *given, struct places *p) {
+    return ising2d_c_graph_check(GRAPH, PROOF, TOLD(p));
+}
+
+/* What a call must leave: places that were as `blank` says, but for these. */
+static void text(struct places *p, const char *line) {
+    memcpy(p->line, line, strlen(line));
+    p->written = strlen(line);
+}
+
+static void whole_text(struct places *p, const char *line) {
+    text(p, line);
+    p->whole = strlen(line);
+}
+
+static void energies(struct places *p, int64_t periodic, int64_t antiperiodic) {
+    p->periodic = periodic;
+    p->antiperiodic = antiperiodic;
+    p->difference = antiperiodic - periodic;
+}
+
+static void least(struct places *p) {
+    p->energy = -10;
+    memcpy(p->spins, spins, sizeof spins);
+}
+
+static void turned(struct places *p) {
+    const int64_t costs[] = {2, 4, 2, 6};
+    memcpy(p->costs, costs, sizeof costs);
+}
+
+static void joined(struct places *p) { memset(p->names, 0, sizeof p->names); }
+
+static const struct places *blank(void) {
+    static struct places found;
+    memset(&found, 0x55, sizeof found);
+    return &found;
+}
+
+/* The loops may differ, so they are judged by the checker and then taken for right. */
+static void take_loops(struct places *wanted, const struct places *found) {
+    struct places judged = *blank();
+    if (found->loop_count > LOOPS || found->bond_count > LOOP_BONDS ||
+        ising2d_c_check(ISING2D_SQUARE, 2, 2, couplings, 4, found->energy, found->spins, 4, found->weights,
+                        found->loop_count, found->starts, found->loop_count + 1, found->bonds, found->bond_count,
+                        judged.line, LINE, &judged.written) != ISING2D_DONE) {
+        return;
+    }
+    memcpy(wanted->weights, found->weights, found->loop_count * sizeof *found->weights);
+    memcpy(wanted->starts, found->starts, (found->loop_count + 1) * sizeof *found->starts);
+    memcpy(wanted->bonds, found->bonds, found->bond_count * sizeof *found->bonds);
+    wanted->loop_count = found->loop_count;
+    wanted->bond_count = found->bond_count;
+}
+
+static int passed = 0, failed = 0;
+
+static void judge(int holds, const char *name, unsigned status) {
+    if (holds) {
+        passed++;
+    } else {
+        failed++;
+        printf("WRONG: %s with status %u\n", name, status);
+    }
+}
+
+typedef uint8_t call(const struct given *, struct places *);
+
+/* One call, which must end so, and leave all places so. */
+static void ends_with(const char *name, call *called, const struct given *given, uint8_t status,
+                      const struct places *wanted, int with_loops) {
+    struct places found = *blank(), all = *wanted;
+    uint8_t ended = called(given, &found);
+    if (with_loops) {
+        take_loops(&all, &found);
+    }
+    judge(ended == status && memcmp(&found, &all, sizeof all) == 0, name, status);
+}
+
+/* Calls with ever more memory, up to enough: until then each one ends with 6 and writes nothing. */
+static void wants_memory(const char *name, call *called, const struct given *given, const struct places *silent) {
+    int right = 1;
+    size_t enough = 0;
+    for (;; enough++) {
+        struct places found = *blank();
+        granted = enough;
+        uint8_t ended = called(given, &found);
+        granted = SIZE_MAX;
+        if (ended != ISING2D_NO_MEMORY) {
+            right = right && ended == ISING2D_DONE;
+            break;
+        }
+        right = right && memcmp(&found, silent, sizeof found) == 0;
+    }
+    judge(right && enough > 0, name, ISING2D_NO_MEMORY);
+}
+
+/* An export: what it writes where it answers, and the line where it refuses. */
+struct row {
+    const char *name;
+    call *called;
+    struct given answered, refused;
+    struct places wanted;
+    const char *line;
+    int with_loops;
+};
+
+static void try_row(const struct row *row) {
+    struct places told = *blank();
+    text(&told, row->line);
+    ends_with(row->name, row->called, &row->answered, ISING2D_DONE, &row->wanted, row->with_loops);
+    ends_with(row->name, row->called, &row->refused, ISING2D_REFUSED, &told, 0);
+    wants_memory(row->name, row->called, &row->answered, blank());
+}
+
+static const struct given right = {ISING2D_SQUARE, 4, 4, -10, "", 0}, tube = {ISING2D_CYLINDER, 4, 4, -10, "", 0},
+                          few = {ISING2D_SQUARE, 0, 3, -10, "", 0}, raised = {ISING2D_SQUARE, 4, 4, -9, "", 0};
+
+static struct places with(void (*written)(struct places *)) {
+    struct places found = *blank();
+    written(&found);
+    return found;
+}
+
+static void tube_walls(struct places *p) { energies(p, -14, -10); }
+static void seam_walls(struct places *p) { energies(p, -10, -14); }
+static void yes(struct places *p) { text(p, "yes\n"); }
+static void no(struct places *p) { text(p, "no,2,-10\n"); }
+
+static void try_numbers(void) {
+    const char *few_couplings = "refused,6,3,4\n", *no_spins = "refused,19,5,0\n";
+    const struct row rows[] = {
+        {"ising2d_c_ground", ground, right, few, with(least), few_couplings, 1},
+        {"ising2d_c_wall", wall, tube, few, with(tube_walls), "refused,6,3,2\n", 0},
+        {"ising2d_c_bonds", bonds, right, few, with(turned), few_couplings, 0},
+        {"ising2d_c_clusters", clusters, right, few, with(joined), few_couplings, 0},
+        {"ising2d_c_check", check, right, few, with(yes), few_couplings, 0},
+        {"ising2d_c_graph_ground", graph_ground, right, few, with(least), no_spins, 1},
+        {"ising2d_c_graph_wall", graph_wall, right, few, with(seam_walls), no_spins, 0},
+        {"ising2d_c_graph_bonds", graph_bonds, right, few, with(turned), no_spins, 0},
+        {"ising2d_c_graph_clusters", graph_clusters, right, few, with(joined), no_spins, 0},
+        {"ising2d_c_graph_check", graph_check, right, few, with(yes), no_spins, 0},
+    };
+    const struct places failing = with(no);
+    for (size_t k = 0; k < sizeof rows / sizeof *rows; k++) {
+        try_row(&rows[k]);
+    }
+    ends_with("ising2d_c_check", check, &raised, ISING2D_NO, &failing, 0);
+    ends_with("ising2d_c_graph_check", graph_check, &raised, ISING2D_NO, &failing, 0);
+}
+
+/* Words, each ended by a byte 0; the last of them by the end of the string. */
+#define WORDS(string) {0, 0, 0, 0, string, sizeof string}
+
+static void nothing(struct places *p) { p->written = p->whole = 0; }
+static void drawn(struct places *p) { whole_text(p, "square,2,2\n-1,-1,1,-1\nend\n"); }
+static void unknown(struct places *p) { whole_text(p, "refused,17\n"); }
+static void trailing(struct places *p) { whole_text(p, "refused,12,4\n"); }
+static void usage(struct places *p) { whole_text(p, "usage\n"); }
+static void judged(struct places *p) { whole_text(p, "no,2,-10\n"); }
+
+static void try_run(void) {
+    const char *name = "ising2d_c_run";
+    const struct given gen = WORDS("gen\0pm\00042\0square\0002\0002"), other = WORDS("gen\0none\00042\0square\0002\0002"),
+                       energy = WORDS("energy"), none = {0, 0, 0, 0, "", 0}, verdict = WORDS("check"),
+                       unended = {0, 0, 0, 0, "energy", 6};
+    const struct places line = with(drawn), no_law = with(unknown), more = with(trailing), shape = with(usage),
+                        fails = with(judged), silent = with(nothing);
+    ends_with(name, run, &gen, ISING2D_DONE, &line, 0);
+    ends_with(name, run, &other, ISING2D_REFUSED, &no_law, 0);
+    ends_with(name, run, &energy, ISING2D_REFUSED, &more, 0);
+    ends_with(name, run, &none, ISING2D_USAGE, &shape, 0);
+    ends_with(name, run, &verdict, ISING2D_NO, &fails, 0);
+    ends_with(name, run, &unended, ISING2D_NO_WORDS, &silent, 0);
+    wants_memory(name, run, &gen, &silent);
+}
+
+int main(void) {
+    try_run();
+    try_numbers();
+    printf("%d passed, %d failed\n", passed, failed);
+    return failed != 0;
+}
