@@ -235,7 +235,7 @@ static void try_numbers(void) {
     const char *few_couplings = "refused,6,3,4\n", *no_spins = "refused,19,5,0\n";
     const struct row rows[] = {
         {"ising2d_c_ground", ground, right, few, with(least), few_couplings, 1},
-        {"ising2d_c_wall", wall, tube, few, with(tube_walls), "refused,16\n", 0},
+        {"ising2d_c_wall", wall, tube, few, with(tube_walls), "refused,6,3,2\n", 0},
         {"ising2d_c_bonds", bonds, right, few, with(turned), few_couplings, 0},
         {"ising2d_c_clusters", clusters, right, few, with(joined), few_couplings, 0},
         {"ising2d_c_check", check, right, few, with(yes), few_couplings, 0},
