@@ -4,10 +4,11 @@ use Rattle.std.proofs.Math.Nat.{mul-le-mul_right}
 use Rattle.std.proofs.Math.Seq.{drop-append_seam}
 use Rattle.std.proofs.lemmas.Bool.{cases_lt}
 use Rattle.std.proofs.lemmas.List.{drop-append-le, get_or_append_left, get_or_push, length_push, take-append-le, take_all}
-use Rattle.sg_laws.proofs.Streams.{all_found}
+use Rattle.sg_laws.proofs.Streams.{all_found, all_made, made_on, made_same, none_made}
 use Rattle.sg_lattice.specs.declared.kind.Kind.TheVariants.{Cylinder}
 use Rattle.sg_lattice.specs.Tables.{lattice}
-use Rattle.sg_ensemble.specs.Samples.{AreWalls, HasWall, draw_count}
+use Rattle.sg_laws.specs.Stream.{Draws}
+use Rattle.sg_ensemble.specs.Samples.{AreWalls, DrawsSamples, HasWall, draw_count}
 
 -- a slice of the front part is that of the whole
 front_slice : (xs ys : List ℤ) (a m : ℕ) → a + m ≤ length xs → take m (drop a (xs ++ ys)) ≡ take m (drop a xs)
@@ -92,9 +93,44 @@ module _ (rows cols count : ℕ) (old new : ℕ → List ℤ) (walls : List ℤ)
   pub all_walls : AreWalls rows cols count (old (count * draw_count rows cols)) walls
   all_walls = subst (λ draws. AreWalls rows cols count draws walls) (sym drawn_first) h.are
 
-  pub all_behind : (c : ℕ) → new c ≡ drop (count * draw_count rows cols) (old (count * draw_count rows cols + c))
-  all_behind c = sym (ap (drop (count * draw_count rows cols)) (h.goes_on c) ∙ ap (λ n. drop n (h.draws ++ new c)) (sym h.drawn)
-      ∙ drop-append_seam h.draws (new c))
+  pub all_behind : Draws (count * draw_count rows cols) old new
+  all_behind = all_made old new h.draws (count * draw_count rows cols) h.goes_on counts h.drawn
+
+  -- these and no more than one sample behind them
+  pub some_behind : (most : ℕ) (last : ℕ → List ℤ) → count + 1 ≤ most → DrawsSamples rows cols 1 new last → DrawsSamples rows cols most old last
+  some_behind most last more s =
+      let few = s.few in
+      let join : (m : ℕ) → count * m + s.samples * m ≡ (count + s.samples) * m = λ m. omega arith in
+      record {
+        samples = count + s.samples;
+        few = omega (arith, few, more);
+        drawn = subst (λ n. Draws n old last) (join (draw_count rows cols))
+            (made_on (count * draw_count rows cols) (s.samples * draw_count rows cols) old new last all_behind s.drawn);
+      }
+
+  -- these alone
+  pub just_behind : (most : ℕ) → count ≤ most → DrawsSamples rows cols most old new
+  just_behind most few = record { samples = count; few = few; drawn = all_behind }
+
+-- no sample was drawn, or one
+pub none_of : (rows cols : ℕ) (old : ℕ → List ℤ) → ((c : ℕ) → length (old c) ≡ c) → DrawsSamples rows cols 1 old old
+none_of rows cols old counts =
+    let none : (m : ℕ) → 0 ≡ 0 * m = λ m. omega arith in
+    record { samples = 0; few = omega arith; drawn = subst (λ n. Draws n old old) (none (draw_count rows cols)) (none_made old counts) }
+
+pub one_of : (rows cols : ℕ) (old new : ℕ → List ℤ) → Draws (draw_count rows cols) old new → DrawsSamples rows cols 1 old new
+one_of rows cols old new h =
+    let one : (m : ℕ) → m ≡ 1 * m = λ m. omega arith in
+    record { samples = 1; few = omega arith; drawn = subst (λ n. Draws n old new) (one (draw_count rows cols)) h }
+
+-- the same stream under another name
+pub samples_same : (rows cols most : ℕ) (f g new : ℕ → List ℤ) → ((c : ℕ) → f c ≡ g c) → DrawsSamples rows cols most f new
+    → DrawsSamples rows cols most g new
+samples_same rows cols most f g new same s = record {
+  samples = s.samples;
+  few = s.few;
+  drawn = made_same (s.samples * draw_count rows cols) f g new same s.drawn;
+}
 
 -- a stream behind some of its draws
 pub counts_behind : (mid new : ℕ → List ℤ) (m : ℕ) → ((c : ℕ) → length (mid c) ≡ c) → ((c : ℕ) → mid (m + c) ≡ mid m ++ new c) → (c : ℕ) → length (new c) ≡ c

@@ -3,6 +3,7 @@ use Rattle.std.specs.Prelude.{◌≡◌, ℕ, ◌*◌, ◌<◌, ◌≤◌, ℤ, 
 use Rattle.sg_limits.specs.Limits.{spin_limit}
 use Rattle.sg_model.specs.Ising.{Ising}
 use Rattle.sg_model.specs.WellFormed.{IsInstance}
+use Rattle.sg_laws.specs.Stream.{Draws}
 use Rattle.sg_lattice.specs.declared.kind.Kind.TheVariants.{Cylinder}
 use Rattle.sg_lattice.specs.Tables.{bond_total, lattice}
 use Rattle.sg_faces.specs.Euler.{IsEuler}
@@ -30,6 +31,12 @@ draw_count rows cols = bond_total Cylinder rows cols
 abbrev pub sample_at : ℕ → ℕ → List ℤ → ℕ → Ising
 sample_at rows cols draws i =
     lattice Cylinder rows cols (take (draw_count rows cols) (drop (i * draw_count rows cols) draws))
+
+-- the draws of some whole samples were made of a stream, of at most so many, and it goes on behind them
+pub record DrawsSamples (rows cols most : ℕ) (old new : ℕ → List ℤ) : Type 0 where
+  pub samples : ℕ
+  pub few : samples ≤ most
+  pub drawn : Draws (samples * draw_count rows cols) old new
 
 -- the instance is fit for a planar solver, and this is the energy of the domain wall at its seam
 pub record HasWall (inst : Ising) (difference : ℤ) : Type 0 where

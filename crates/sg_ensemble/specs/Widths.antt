@@ -1,7 +1,7 @@
 -- Wall energies over the width of a cylinder.
-use Rattle.std.specs.Prelude.{◌≡◌, ℕ, ◌+◌, ◌*◌, ◌<◌, ℤ, pos, List, length, slice_index_or}
+use Rattle.std.specs.Prelude.{◌≡◌, ℕ, ◌+◌, ◌*◌, ◌<◌, ◌≤◌, ℤ, pos, List, length, slice_index_or}
 use Rattle.sg_ensemble.specs.declared.by_width.Width.{Width}
-use Rattle.sg_ensemble.specs.Samples.{AreWalls, draw_count, total, total_of_squares}
+use Rattle.sg_ensemble.specs.Samples.{AreWalls, DrawsSamples, draw_count, total, total_of_squares}
 
 -- a width with the sum and the sum of squares of the wall energies of so many samples, which have the first draws of a
 -- stream
@@ -11,6 +11,13 @@ pub record IsWidth (rows cols count : ℕ) (stream : ℕ → List ℤ) (width : 
   pub columns : width.cols ≡ cols
   pub summed : width.sum ≡ total walls
   pub squared : width.squares ≡ total_of_squares walls
+
+-- the stream was begun at some width, from 3 to the last, and the draws of some of its samples were made
+pub record StopsAtWidth (rows last count : ℕ) (stream new : ℕ → List ℤ) : Type 0 where
+  pub cols : ℕ
+  pub wide : 3 ≤ cols
+  pub narrow : cols ≤ last
+  pub drawn : DrawsSamples rows cols count stream new
 
 -- the widths from 3 on, so many of them, each with the stream from its beginning
 pub record AreWidths (rows count : ℕ) (stream : ℕ → List ℤ) (number : ℕ) (widths : List Width) : Type 0 where

@@ -1,7 +1,8 @@
-ghost use Rattle.std.specs.Prelude.{◌≡◌, ◌≤◌, ◌+◌, ◌-◌, ◌*◌, ℕ, IfOk};
+ghost use Rattle.std.specs.Prelude.{◌≡◌, ◌≤◌, ◌+◌, ◌-◌, ◌*◌, ℕ, IfOk, OnErr, OnOk};
+ghost use Rattle.sg_laws.specs.Stream.{Draws};
 ghost use Rattle.sg_limits.specs.Limits.{spin_limit};
-ghost use Rattle.sg_ensemble.specs.Samples.{IsSpherical, IsStudied};
-ghost use Rattle.sg_ensemble.specs.Widths.{AreWidths, IsWidth};
+ghost use Rattle.sg_ensemble.specs.Samples.{DrawsSamples, IsSpherical, IsStudied, draw_count};
+ghost use Rattle.sg_ensemble.specs.Widths.{AreWidths, IsWidth, StopsAtWidth};
 
 use super::NoMemory;
 use super::samples::ensemble;
@@ -22,7 +23,7 @@ pub type WidthList = Numbers<Width>;
 
 /// The ensembles of the cylinders of 3 to `max_cols` columns, from 3 to 64, each of so many samples,
 /// from 1 to 1000. The law is seeded anew for each width. The only error is want of memory; the law has
-/// then been seeded and drawn from some number of times.
+/// then been seeded for some width, and has made the draws of some of its samples.
 ///
 /// Cost: that of `ensemble` for each width; memory for one sample at a time.
 pub fn widths(
@@ -41,6 +42,8 @@ pub fn widths(
     requires few { count ≤ 1000 }
     requires spherical { (cols : ℕ) → 3 ≤ cols → cols ≤ max_cols → IsSpherical rows cols }
     ensures widths { IfOk result (AreWidths rows count (seeded law.old seed) (max_cols - 2)) }
+    ensures rest { OnOk result (Draws (count * draw_count rows max_cols) (seeded law.old seed) (next law.new)) }
+    ensures stopped { OnErr result (StopsAtWidth rows max_cols count (seeded law.old seed) (next law.new)) }
     ensures title { title law.new ≡ title law.old }
     ensures seeds { (s c : ℕ) → seeded law.new s c ≡ seeded law.old s c }
 {
@@ -66,6 +69,8 @@ fn one_width(
     requires some { 1 ≤ count }
     requires few { count ≤ 1000 }
     ensures width { IfOk result (IsWidth rows cols count (seeded law.old seed)) }
+    ensures rest { OnOk result (Draws (count * draw_count rows cols) (seeded law.old seed) (next law.new)) }
+    ensures made { DrawsSamples rows cols count (seeded law.old seed) (next law.new) }
     ensures title { title law.new ≡ title law.old }
     ensures seeds { (s c : ℕ) → seeded law.new s c ≡ seeded law.old s c }
 {

@@ -1,11 +1,11 @@
 // One sample: a cylinder whose couplings are drawn, and the energy of its domain wall.
-ghost use Rattle.std.specs.Prelude.{◌≡◌, ◌≤◌, ◌+◌, ◌^◌, ◌++◌, ℕ, length, All, IfErr, IfOk, unsigned_abs};
+ghost use Rattle.std.specs.Prelude.{◌≡◌, ◌≤◌, ◌^◌, ℕ, length, All, IfErr, IfOk, OnOk, unsigned_abs};
 ghost use Rattle.sg_model.specs.Energy.{weight};
-ghost use Rattle.sg_laws.specs.Stream.{IsDraw};
+ghost use Rattle.sg_laws.specs.Stream.{Draws, IsDraw};
 ghost use Rattle.sg_lattice.specs.declared.kind.Kind.TheVariants.{Cylinder};
 ghost use Rattle.sg_lattice.specs.Tables.{lattice};
 ghost use Rattle.sg_planar.specs.Fit.{IsFit, IsUnfitFault};
-ghost use Rattle.sg_ensemble.specs.Samples.{HasWall, IsSpherical, IsStudied, draw_count};
+ghost use Rattle.sg_ensemble.specs.Samples.{DrawsSamples, HasWall, IsSpherical, IsStudied, draw_count};
 
 use super::NoMemory;
 use sg_lattice::{Kind, bond_count, cylinder};
@@ -15,7 +15,8 @@ use sg_planar::{NotFit, Planar};
 use sg_wall::wall;
 use std::alloc::{AllocError, Global};
 
-/// The wall energy of the cylinder that has the next draws of the law, which goes on behind them.
+/// The wall energy of the cylinder that has the next draws of the law, which goes on behind them. After
+/// want of memory it has made all of them or none.
 pub fn next_wall(
     alloc: Global,
     law: &mut Box<dyn Disorder>,
@@ -26,13 +27,21 @@ pub fn next_wall(
     requires spherical { IsSpherical rows cols }
     ensures wall { IfOk result (λ d. HasWall (lattice Cylinder rows cols (next law.old (draw_count rows cols))) d) }
     ensures size { IfOk result (λ d. unsigned_abs d ≤ 2 ^ 33) }
-    ensures rest { IfOk result (λ _. (c : ℕ) →
-        next law.old (draw_count rows cols + c) ≡ next law.old (draw_count rows cols) ++ next law.new c) }
+    ensures rest { OnOk result (Draws (draw_count rows cols) (next law.old) (next law.new)) }
+    ensures made { DrawsSamples rows cols 1 (next law.old) (next law.new) }
     ensures title { title law.new ≡ title law.old }
     ensures seeds { (s c : ℕ) → seeded law.new s c ≡ seeded law.old s c }
 {
+    know_counts(law);
     let drawn = draws(alloc, law, draw_total(rows, cols))?;
     drawn_wall(alloc, rows, cols, Couplings::from_vec(drawn))
+}
+
+/// That the lists of draws are as long as they should be, which a law tells with its name.
+pub fn know_counts(law: &Box<dyn Disorder>)
+    ensures { (c : ℕ) → length (next law.now c) ≡ c }
+{
+    let _name = law.name();
 }
 
 // The number of bonds of a cylinder.

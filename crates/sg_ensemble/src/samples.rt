@@ -1,7 +1,8 @@
-ghost use Rattle.std.specs.Prelude.{◌≡◌, ◌≤◌, ◌+◌, ◌*◌, ◌^◌, ◌++◌, ℕ, length, drop, All, IfOk, unsigned_abs};
-ghost use Rattle.sg_ensemble.specs.Samples.{AreWalls, IsSpherical, IsStudied, draw_count, total, total_of_squares};
+ghost use Rattle.std.specs.Prelude.{◌≡◌, ◌≤◌, ◌*◌, ◌^◌, ℕ, length, All, IfOk, OnOk, unsigned_abs};
+ghost use Rattle.sg_laws.specs.Stream.{Draws};
+ghost use Rattle.sg_ensemble.specs.Samples.{AreWalls, DrawsSamples, IsSpherical, IsStudied, draw_count, total, total_of_squares};
 
-use super::drawing::next_wall;
+use super::drawing::{know_counts, next_wall};
 use super::sums::{sum, sum_of_squares};
 use super::{CostList, NoMemory};
 use sg_laws::Disorder;
@@ -36,8 +37,8 @@ pub fn ensemble(
     ensures walls { IfOk result (λ a. AreWalls rows cols count (next law.old (count * draw_count rows cols)) a.walls) }
     ensures sum { IfOk result (λ a. a.sum ≡ total a.walls) }
     ensures squares { IfOk result (λ a. a.squares ≡ total_of_squares a.walls) }
-    ensures rest { IfOk result (λ _. (c : ℕ) →
-        next law.new c ≡ drop (count * draw_count rows cols) (next law.old (count * draw_count rows cols + c))) }
+    ensures rest { OnOk result (Draws (count * draw_count rows cols) (next law.old) (next law.new)) }
+    ensures made { DrawsSamples rows cols count (next law.old) (next law.new) }
     ensures title { title law.new ≡ title law.old }
     ensures seeds { (s c : ℕ) → seeded law.new s c ≡ seeded law.old s c }
 {
@@ -61,8 +62,8 @@ fn walls(
     requires spherical { IsSpherical rows cols }
     ensures walls { IfOk result (AreWalls rows cols count (next law.old (count * draw_count rows cols))) }
     ensures small { IfOk result (λ walls. All (λ d. unsigned_abs d ≤ 2 ^ 33) walls) }
-    ensures rest { IfOk result (λ _. (c : ℕ) →
-        next law.new c ≡ drop (count * draw_count rows cols) (next law.old (count * draw_count rows cols + c))) }
+    ensures rest { OnOk result (Draws (count * draw_count rows cols) (next law.old) (next law.new)) }
+    ensures made { DrawsSamples rows cols count (next law.old) (next law.new) }
     ensures title { title law.new ≡ title law.old }
     ensures seeds { (s c : ℕ) → seeded law.new s c ≡ seeded law.old s c }
 {
@@ -73,11 +74,4 @@ fn walls(
         walls.push(wall)?;
     }
     Ok(walls)
-}
-
-// That the lists of draws are as long as they should be, which a law tells with its name.
-fn know_counts(law: &Box<dyn Disorder>)
-    ensures { (c : ℕ) → length (next law.now c) ≡ c }
-{
-    let _name = law.name();
 }

@@ -11,8 +11,9 @@ pub record IsDraw (z : ℤ) : Type 0 where
   pub high : z ≤ℤ pos 1048576
 
 -- so many draws were made of a stream, the first ones, and it goes on behind them
-abbrev pub Draws : ℕ → (ℕ → List ℤ) → (ℕ → List ℤ) → Type 0
-Draws made old new = (c : ℕ) → old (made + c) ≡ old made ++ new c
+pub record Draws (made : ℕ) (old new : ℕ → List ℤ) : Type 0 where
+  pub counted : length (old made) ≡ made
+  pub goes_on : (c : ℕ) → old (made + c) ≡ old made ++ new c
 
 -- 1 for an even number, -1 for an odd one
 abbrev pub sign_of : ℕ → ℤ

@@ -10,7 +10,7 @@ use std::process::Abort;
 use std::test::Fail;
 
 // The status of a run with the laws of the program, and the text that it wrote.
-fn drawn(alloc: Global, line: &str) -> Result<(Status, Vec<u8>), Fail> {
+pub fn drawn(alloc: Global, line: &str) -> Result<(Status, Vec<u8>), Fail> {
     let mut laws = no_laws(alloc);
     laws.push(Box::new(alloc, One::new())?)?;
     laws.push(Box::new(alloc, Alternate::new())?)?;

@@ -1,7 +1,7 @@
-use Rattle.std.proofs.Common.{rules, ◌≡◌, ◌++◌, ap, ◌∙◌, sym, arith, w64, to_z-of_z}
+use Rattle.std.proofs.Common.{rules, ◌≡◌, ◌++◌, ap, ◌∙◌, sym, subst, arith, w64, to_z-of_z}
 use Rattle.std.proofs.lemmas.List.Elements.{All-push}
-use Rattle.sg_laws.specs.Stream.{IsDraw}
-use Rattle.sg_laws.proofs.Streams.{one_more, one_fewer, all_found}
+use Rattle.sg_laws.specs.Stream.{Draws, IsDraw}
+use Rattle.sg_laws.proofs.Streams.{one_more, one_fewer, all_found, all_made}
 use Rattle.sg_laws.proofs.drawing.draws.Goals as goal
 
 pub loop-preserved : goal.loop-preserved
@@ -31,5 +31,5 @@ returns-clause-rest g c =
     let end : c.args.count ≡ c.loop.counter = omega (arith, c.loop-test.false, c.loop.auto.counter-end) in
     let old = (goal.Disorder-dyn g (c.args.law.now.vtable, c.args.law.now.value)).next c.args.law.now.value in
     let last = (goal.Disorder-dyn g (c.loop.law.vtable, c.loop.law.value)).next c.loop.law.value in
-    λ n. rw end (c.loop.invariant.0 n ∙ ap (λ s. s ++ last n) (sym (all_found old last c.loop.found.items c.loop.counter c.loop.invariant.0
-    c.loop.invariant.1)))
+    subst (λ n. Draws n old last) (sym end)
+    (all_made old last c.loop.found.items c.loop.counter c.loop.invariant.0 c.loop.invariant.1 c.loop.invariant.2)
