@@ -86,8 +86,8 @@ fn bare() -> Taken {
 }
 
 impl Cover {
-    // So many nodes, none of them covered.
-    pub fn new(alloc: Global, nodes: usize) -> Result<Cover, NoMemory> {
+    // So many nodes, none of them covered, with room for so many regions.
+    pub fn new(alloc: Global, nodes: usize, room: usize) -> Result<Cover, NoMemory> {
         let place = Place {
             next: Slot::none(),
             previous: Slot::none(),
@@ -97,7 +97,7 @@ impl Cover {
         Ok(Cover {
             taken: vec![in alloc; bare(); nodes]?,
             places: vec![in alloc; place; nodes]?,
-            rows: Vec::new(alloc),
+            rows: Vec::with_capacity(alloc, room)?,
             births: 0,
         })
     }

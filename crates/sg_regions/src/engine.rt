@@ -5,15 +5,16 @@
 // something over an arc, an event waits at this arc or at its way back, for no later than it comes; of
 // a hub the event is that of its soonest arc.
 //
-// `wake` enters events, `steps` has the steps of the method, `events` what comes of each event, and
-// `finish` reads the nest and the pairs off.
+// `wake` enters events, `steps` has the steps of the method, `bare` what happens at bare nodes,
+// `events` what comes of each event, and `finish` reads the nest and the pairs off.
+mod bare;
 mod events;
 mod finish;
 mod steps;
 mod wake;
 
 use super::NoMemory;
-use super::adjacency::{Adjacency, Arc};
+use super::adjacency::{Adjacency, Arc, reverse};
 use super::clock::{Clock, NEVER};
 use super::cover::{Cover, Held};
 use super::cycles::Link;
@@ -59,6 +60,7 @@ impl<'a> Engine<'a> {
         terminals: &'a [u32],
     ) -> Result<Engine<'a>, NoMemory> {
         let count = number(terminals.len());
+        let room = terminals.len().saturating_add(terminals.len() / 2);
         let places = (arcs.nodes() as u64).saturating_add(arcs.darts() as u64);
         let hubs = Hubs::new(alloc, arcs)?;
         let clock = Clock::new(alloc, arcs.darts(), hubs.len())?;
@@ -66,8 +68,8 @@ impl<'a> Engine<'a> {
             alloc,
             arcs,
             terminals,
-            cover: Cover::new(alloc, arcs.nodes())?,
-            forest: Forest::new(alloc, count)?,
+            cover: Cover::new(alloc, arcs.nodes(), room)?,
+            forest: Forest::new(alloc, terminals.len(), room)?,
             hubs,
             clock,
             work: Work::new(count, places),
@@ -131,7 +133,7 @@ impl<'a> Engine<'a> {
     // The way back of an arc that leaves a node.
     fn way_back(&self, node: u32, arc: &Arc) -> Arc {
         Arc {
-            dart: super::adjacency::reverse(arc.dart),
+            dart: reverse(arc.dart),
             to: node,
             length: arc.length,
         }

@@ -23,12 +23,12 @@ pub struct Families {
 }
 
 impl Families {
-    // No families.
-    pub fn new(alloc: Global) -> Families {
-        Families {
-            families: Vec::new(alloc),
+    // No families, with room for so many.
+    pub fn new(alloc: Global, room: usize) -> Result<Families, NoMemory> {
+        Ok(Families {
+            families: Vec::with_capacity(alloc, room)?,
             free: Vec::new(alloc),
-        }
+        })
     }
 
     // A new family of a top, with base 0.

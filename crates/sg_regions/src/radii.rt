@@ -70,12 +70,12 @@ pub struct Radii {
 }
 
 impl Radii {
-    // Of no region.
-    pub fn new(alloc: Global) -> Radii {
-        Radii {
-            growths: Vec::new(alloc),
-            families: Families::new(alloc),
-        }
+    // Of no region, with room for so many.
+    pub fn new(alloc: Global, room: usize) -> Result<Radii, NoMemory> {
+        Ok(Radii {
+            growths: Vec::with_capacity(alloc, room)?,
+            families: Families::new(alloc, room)?,
+        })
     }
 
     #[inline(always)]
