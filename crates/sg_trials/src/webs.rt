@@ -1,5 +1,6 @@
 // Least joins on drawn webs: what is proposed, beside the matching.
 
+ghost use Rattle.std.specs.Prelude.{◌≤◌};
 ghost use Rattle.sg_graph_text.specs.Network.{IsNetwork};
 
 use rand_core::utils::NextWord;
@@ -87,7 +88,9 @@ fn drawn_web(
     more: u32,
     kind: u32,
     draws: &mut Pcg32,
-) -> Result<String, AllocError> {
+) -> Result<String, AllocError>
+    requires { 1 ≤ nodes }
+{
     let mut text = format!(in alloc; "graph,{nodes}\n")?;
     for node in 1..nodes {
         let before = draws.next_word() % node;
