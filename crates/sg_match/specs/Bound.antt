@@ -5,7 +5,8 @@ use Rattle.sg_match.specs.InnerZeros.{IsInnerZero}
 use Rattle.sg_match.specs.State.{State}
 use Rattle.sg_match.specs.Steps.{steps_left}
 
--- nothing is due at the tree: no inner blossom has dual 0, and no edge out of an outer top is tight
+-- nothing is due at the tree: no inner blossom has dual 0, and no tight edge leads from an outer top out of the
+-- tree or to another outer top
 pub record IsCalm (s : State) : Type 0 where
   pub inner_zero : (node : ℕ) → IsInnerZero s.family s.edges node → ⊥
   pub free : (root u v : ℕ) → s.root ≡ Some root → IsTightOuterFree s root u v → ⊥

@@ -5,6 +5,9 @@ use std::snapshot::Snapshot;
 
 /// How many steps the value has taken that keeps this count of them. It takes no bytes, and only
 /// [`Tally::tick`] changes it.
+///
+/// Each count remembers the one before it by a snapshot, which has no bytes and shows what it was taken
+/// of. So a count has no largest number, which one in an integer would have.
 #[derive(Drop)]
 #[cycle(tally)]
 pub struct Tally {
