@@ -29,7 +29,8 @@ pub fn ground_text(
 ) -> Result<Vec<u8>, NoMemory>
     ensures { IfOk result (λ text. text.items ≡ ground_bytes energy spins.now loops.now) }
 {
-    let mut text = Vec::new(alloc);
+    let room = spins.len().saturating_mul(3);
+    let mut text = Vec::with_capacity(alloc, room.saturating_add(room_for(loops.as_slice())))?;
     push_state(&mut text, energy, spins)?;
     push_loops(&mut text, loops.as_slice())?;
     text.extend_from_slice(b"end\n")?;
@@ -85,4 +86,15 @@ pub fn push_bonds(text: &mut Vec<u8>, bonds: &[u32]) -> Result<(), NoMemory>
         push_entry(text, i128::from(*bond))?;
     }
     Ok(())
+}
+
+/// About how many bytes the lines of loops take, so that a text is not moved as it grows. Nothing is
+/// promised of it.
+pub fn room_for(loops: &[Loop]) -> usize {
+    let mut room = 64usize;
+    for entry in loops {
+        let bonds = entry.bonds.len().saturating_mul(5);
+        room = room.saturating_add(bonds.saturating_add(20));
+    }
+    room
 }

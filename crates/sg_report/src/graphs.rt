@@ -5,7 +5,7 @@ ghost use Rattle.sg_report.specs.Line.{line};
 ghost use Rattle.sg_report.specs.Graphs.{cut_line, postman_text as postman_bytes, step_line, tjoin_text as tjoin_bytes};
 
 use super::NoMemory;
-use super::answers::push_bonds;
+use super::answers::{push_bonds, room_for};
 use super::line::{push_entries, push_line};
 use sg_check::{Loop, Loops};
 use std::alloc::Global;
@@ -20,7 +20,8 @@ pub fn tjoin_text(
 ) -> Result<Vec<u8>, NoMemory>
     ensures { IfOk result (λ text. text.items ≡ tjoin_bytes weight edges.now cuts.now) }
 {
-    let mut text = Vec::new(alloc);
+    let room = edges.len().saturating_mul(5);
+    let mut text = Vec::with_capacity(alloc, room.saturating_add(room_for(cuts.as_slice())))?;
     push_line(&mut text, b"weight", &[i128::from(weight)])?;
     push_edges(&mut text, edges)?;
     push_cuts(&mut text, cuts.as_slice())?;
@@ -38,7 +39,8 @@ pub fn postman_text(
 ) -> Result<Vec<u8>, NoMemory>
     ensures { IfOk result (λ text. text.items ≡ postman_bytes weight steps.now cuts.now) }
 {
-    let mut text = Vec::new(alloc);
+    let room = steps.len().saturating_mul(15);
+    let mut text = Vec::with_capacity(alloc, room.saturating_add(room_for(cuts.as_slice())))?;
     push_line(&mut text, b"weight", &[i128::from(weight)])?;
     push_steps(&mut text, steps)?;
     push_cuts(&mut text, cuts.as_slice())?;
