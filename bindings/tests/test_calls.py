@@ -88,6 +88,12 @@ def forged(source, found):
     return energy, spins, loops
 
 
+def is_right_too(command, given, text, stored):
+    """Whether another text of a ground state than the stored one has its energy, and proves it."""
+    same = text.partition("\n")[0] == stored.partition("\n")[0]
+    return command == "ground" and same and ising2d.run(["check"], given + text.encode()).text == "yes\n"
+
+
 class WorkedExamples(unittest.TestCase):
     def test_each_example_is_answered_as_written(self):
         seen = 0
@@ -98,8 +104,10 @@ class WorkedExamples(unittest.TestCase):
             }:
                 continue
             with self.subTest(example=answer.name):
-                found = ising2d.run([answer.parent.name], given.read_bytes())
-                self.assertEqual(found.text, answer.read_text())
+                command, stored = answer.parent.name, answer.read_text()
+                found = ising2d.run([command], given.read_bytes())
+                if not is_right_too(command, given.read_bytes(), found.text, stored):
+                    self.assertEqual(found.text, stored)
                 seen += 1
         self.assertGreater(seen, 5)
 
