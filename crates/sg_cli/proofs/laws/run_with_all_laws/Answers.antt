@@ -15,7 +15,8 @@ returns-clause-answer g c = record {
       c.in_ok-push-4.ensures.items
       (record {
         named = read_made {G = disorder.Ghosts} own-1 _ (inl tt) refl (List ℕ) (λ law x. law.1.title x) _ _ _ c.into_dyn_box.ensures.1;
-        drawn = λ seed count. read_made {G = disorder.Ghosts} own-1 _ (inl tt) refl (List ℤ) (λ law x. law.1.seeded x seed count) _ _ _ c.into_dyn_box.ensures.1;
+        drawn = λ seed count. read_made {G = disorder.Ghosts} own-1 _ (inl tt) refl (List ℤ)
+            (λ law x. law.1.seeded x seed count) _ _ _ c.into_dyn_box.ensures.1;
       })
       (record {
         named = read_made {G = disorder.Ghosts} own-1 _ (inr (inl tt)) refl (List ℕ) (λ law x. law.1.title x) _ _ _ c.into_dyn_box-in_ok-new-2.ensures.1;
