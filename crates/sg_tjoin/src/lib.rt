@@ -56,7 +56,9 @@ pub struct Join {
 /// with more than twice its weight. Without terminals there is no edge, and no cut.
 ///
 /// Cost: that of `sg_regions::propose` and of the judge, linear in the web and the cuts; and where
-/// these have no answer that of `matched_join` too.
+/// these have no answer that of `matched_join` too. The matching inside takes at most `2 k^2` steps for
+/// `k` terminals: that is the promise of `sg_match::Engine::run`, which counts them in the family that
+/// it hands back, and not of this call. A join that comes from elsewhere takes no such steps.
 pub fn least_join(alloc: Global, web: &Web, terminals: &Terminals) -> Result<Join, NoMemory>
     requires connected { IsConnected web.now }
     requires terminals { AreTerminals web.now terminals.now }
