@@ -2,7 +2,7 @@ ghost use Rattle.std.specs.Prelude.{◌≡◌, ◌<◌, ◌≤◌, ◌^◌, [], 
 ghost use Rattle.sg_limits.specs.Limits.{bond_limit, spin_limit};
 ghost use Rattle.sg_graph.specs.Web.{IsEdge};
 ghost use Rattle.sg_reader.specs.Body.{is_end, sizes_from};
-ghost use Rattle.sg_reader.specs.Leaves.{Leaves};
+ghost use Rattle.sg_reader.specs.Leaves.{IsRest, Leaves};
 ghost use Rattle.sg_reader.specs.Ended.{IsRecordsFault, StatesToEnd};
 ghost use Rattle.sg_reader.specs.Kept.{field};
 ghost use Rattle.sg_reader.specs.Tests.{IsTestFault, at_least, is_number_in, number_in};
@@ -186,6 +186,7 @@ pub(crate) fn read_body(
     ensures left { IfOk result (λ r. Leaves records.old records.new r.1) }
     ensures sound { IfOk result (λ r. IsGraphText r.0) }
     ensures fault { IfErr result (IsRecordsFault (body_fault terms n) records.old) }
+    ensures rest { IsRest records.old records.new }
 {
     let mut body = GraphBody::new(alloc, n, terms);
     while records.next(row)? {

@@ -1,6 +1,6 @@
 ghost use Rattle.std.specs.Prelude.{◌≡◌, ◌≤◌, ◌∷◌, None, IfOk, IfErr};
 ghost use Rattle.sg_limits.specs.Limits.{spin_limit};
-ghost use Rattle.sg_reader.specs.Leaves.{Leaves};
+ghost use Rattle.sg_reader.specs.Leaves.{IsRest, Leaves};
 ghost use Rattle.sg_reader.specs.Tests.{size_in};
 ghost use Rattle.sg_graph_text.specs.Graph.{IsGraphText, size_fault};
 ghost use Rattle.sg_graph_text.specs.ReadGraph.{IsGraphFault, ReadsGraph};
@@ -20,6 +20,7 @@ fn next_size(rows: &mut Rows<'_>, row: &mut Row, terms: bool) -> Result<u32, Fau
     ensures some { IfOk result (λ n. 1 ≤ n) }
     ensures few { IfOk result (λ n. n ≤ spin_limit) }
     ensures fault { IfErr result (IsGraphFault terms rows.old) }
+    ensures rest { IsRest rows.old rows.new }
 {
     if !rows.next(row)? {
         return Err(Fault::Refused(Refusal::Unended));
@@ -47,7 +48,8 @@ fn next_size(rows: &mut Rows<'_>, row: &mut Row, terms: bool) -> Result<u32, Fau
 /// `BadShape`, `BadNumber`, `TooManyBonds` above 6144 edges; of the terminals `BadShape` where they
 /// are given a second time, `BadNumber`; of another record `UnknownKind`; of the `end` `BadShape`,
 /// then `BadTerminal` with the first terminal that is no node or stands earlier too, then
-/// `OddTerminals`. `Unended` where the records run out. `NoMemory` may come at any time.
+/// `OddTerminals`. `Unended` where the records run out. `NoMemory` may come at any time. What was read
+/// is gone then too, and what stands behind it is left.
 ///
 /// The time is linear in the bytes and the nodes, and the memory is that of the graph and of the
 /// longest record.
@@ -60,6 +62,7 @@ pub fn read_graph(
     ensures left { IfOk result (λ r. Leaves rows.old rows.new r.1) }
     ensures sound { IfOk result (λ r. IsGraphText r.0) }
     ensures fault { IfErr result (IsGraphFault terms rows.old) }
+    ensures rest { IsRest rows.old rows.new }
 {
     let mut row = Row::new(alloc);
     let nodes = next_size(rows, &mut row, terms)?;

@@ -4,6 +4,7 @@ use Rattle.sg_model.specs.declared.refusal.Fault.TheVariants.{Refused}
 use Rattle.sg_reader.specs.Kept.{Kept}
 use Rattle.sg_reader.specs.Tests.{IsTestFault}
 use Rattle.sg_reader.specs.Body.{is_end}
+use Rattle.sg_reader.proofs.LeftLaws.{rest-more}
 use Rattle.sg_reader.proofs.ResultLaws.{record-fault}
 use Rattle.sg_graph_text.specs.Graph.{body_fault, body_graph, entries_in, terminals_fault}
 use Rattle.sg_graph_text.proofs.BodyLaws.{body_fault-end, end-bare, end-terminals, ended, one-more}
@@ -70,3 +71,28 @@ returns-in_err-take-clause-fault c =
     (subst (λ (b : Bool). IsTestFault (body_fault b c.loop-body.body.nodes sf.body c.next.new.row) c.in_err-take.field-0.0) sf.allowed held) in
     rw (p.1, p.2) (record-fault (body_fault c.args.terms c.args.n) c.args.records.now sf.body c.next.new.self c.next.new.row c.in_err-take.field-0.0
     (sf.split ∙ ap (λ (l : List Kept). sf.body ++ l) next) sf.is_body fault)
+
+pub returns-in_err-next-clause-rest : goal.returns-in_err-next-clause-rest
+returns-in_err-next-clause-rest c =
+    rest-more c.next.result c.args.records.now c.loop-body.invariant.body c.loop-body.records c.next.new.self c.next.new.row c.loop-body.invariant.split
+    c.next.ensures.found c.next.ensures.failed
+
+pub returns-in_err-bare_end-clause-rest : goal.returns-in_err-bare_end-clause-rest
+returns-in_err-bare_end-clause-rest c =
+    rest-more c.next.result c.args.records.now c.loop-body.invariant.body c.loop-body.records c.next.new.self c.next.new.row c.loop-body.invariant.split
+    c.next.ensures.found c.next.ensures.failed
+
+pub returns-in_err-graph-clause-rest : goal.returns-in_err-graph-clause-rest
+returns-in_err-graph-clause-rest c =
+    rest-more c.next.result c.args.records.now c.loop-body.invariant.body c.loop-body.records c.next.new.self c.next.new.row c.loop-body.invariant.split
+    c.next.ensures.found c.next.ensures.failed
+
+pub returns-then-begins-clause-rest : goal.returns-then-begins-clause-rest
+returns-then-begins-clause-rest c =
+    rest-more c.next.result c.args.records.now c.loop-body.invariant.body c.loop-body.records c.next.new.self c.next.new.row c.loop-body.invariant.split
+    c.next.ensures.found c.next.ensures.failed
+
+pub returns-in_err-take-clause-rest : goal.returns-in_err-take-clause-rest
+returns-in_err-take-clause-rest c =
+    rest-more c.next.result c.args.records.now c.loop-body.invariant.body c.loop-body.records c.next.new.self c.next.new.row c.loop-body.invariant.split
+    c.next.ensures.found c.next.ensures.failed

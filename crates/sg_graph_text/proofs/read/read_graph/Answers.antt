@@ -1,7 +1,7 @@
 use Rattle.std.proofs.Common.{ℕ, subst}
 use Rattle.std.proofs.lemmas.Result.{IfErr-weaker, IfOk-weaker}
 use Rattle.sg_reader.specs.Ended.{IsRecordsFault, StatesToEnd}
-use Rattle.sg_reader.proofs.LeftLaws.{leaves-behind}
+use Rattle.sg_reader.proofs.LeftLaws.{leaves-behind, rest-on}
 use Rattle.sg_graph_text.specs.Graph.{body_fault, body_graph}
 use Rattle.sg_graph_text.proofs.ReadLaws.{behind-fault, behind-graph}
 use Rattle.sg_graph_text.proofs.read.read_graph.Goals as goal
@@ -26,3 +26,7 @@ returns-clause-left c =
     IfOk-weaker c.read_body.result _ _
     (λ r left. leaves-behind c.args.rows.now c.next_size.new.rows c.read_body.new.records c.next_size.new.row r.1 c.in_ok-nodes.ensures.split left)
     c.read_body.ensures.left
+
+pub returns-clause-rest : goal.returns-clause-rest
+returns-clause-rest c =
+    rest-on c.args.rows.now c.next_size.new.rows c.read_body.new.records c.next_size.ensures.rest c.read_body.ensures.rest
