@@ -1,5 +1,5 @@
 -- The four laws, pushed one by one.
-use Rattle.std.proofs.Common.{◌≡◌, ℕ, pos, List, [], ◌∷◌, ◌++◌, ap, ◌∙◌, map}
+use Rattle.std.proofs.Common.{◌≡◌, pos, List, [], ◌∷◌, ◌++◌, ap, ◌∙◌, map}
 use Rattle.std.specs.Prelude.{codes, replicate}
 use Rattle.sg_laws.specs.Named.{Law}
 use Rattle.sg_laws.specs.Stream.{alternating, drawn, generator_of, level_of, sign_of}

@@ -1,6 +1,7 @@
 // A run with the laws of the program.
-ghost use Rattle.std.specs.Prelude.{◌≡◌, ◌≢◌, true, false, map, string_bytes, IfOk, IfErr};
+ghost use Rattle.std.specs.Prelude.{◌≡◌, ◌≢◌, true, false, IsSome, IfOk, IfErr, map, string_bytes};
 ghost use Rattle.sg_io.specs.Devices.{FaultShown};
+ghost use Rattle.sg_cli.specs.Command.{command_of};
 ghost use Rattle.sg_cli.specs.Laws.{Sends, WithAllLaws};
 ghost use Rattle.sg_cli.specs.Promises.{IsAnswered, Leaves, reads, sink_faults, source_faults};
 
@@ -35,8 +36,9 @@ pub fn run_with_all_laws<S: Source, K: Sink>(
     ensures source_faults { IfOk result (λ status. S.faults source.new ≡ source_faults status (S.faults source.old)) }
     ensures sink_faults { IfOk result (λ status. K.faults sink.new ≡ sink_faults status (K.faults sink.old)) }
 
-    // Nothing is written where the memory is wanting, and before the run nothing is read.
-    ensures memory { IfOk result (λ status. status ≡ Status.NoMemory → sink.new ≡ sink.old) }
+    // In the run words of no shape take no memory, and nothing is written where it is wanting; before
+    // the run nothing is read either.
+    ensures memory { IfOk result (λ status. status ≡ Status.NoMemory → IsSome (command_of (map string_bytes words.now)) × (sink.new ≡ sink.old)) }
     ensures untouched { IfErr result (λ _. (source.new ≡ source.old) × (sink.new ≡ sink.old)) }
 
     // Without a fault of a device and with memory enough, there is an answer.
