@@ -6,10 +6,15 @@
 // a hub the event is that of its soonest arc.
 //
 // `wake` enters events, `steps` has the steps of the method, `bare` what happens at bare nodes,
-// `events` what comes of each event, and `finish` reads the nest and the pairs off.
+// `events` what comes of each event, and `finish` reads the nest and the pairs off. For repairs, `parts`
+// keeps what outlives the arcs, `apart` takes finished regions apart, and `changed` reads off what is
+// not as it was.
+mod apart;
 mod bare;
+mod changed;
 mod events;
 mod finish;
+mod parts;
 mod steps;
 mod wake;
 
@@ -23,6 +28,9 @@ use super::hubs::Hubs;
 use super::lists::number;
 use super::radii::{Reach, Role};
 use super::work::Work;
+pub use apart::Ending;
+pub use changed::Order;
+pub use parts::{Base, Parts};
 use std::alloc::Global;
 
 // What an outer region sees over an arc: when it gets to the end or meets the region there, and

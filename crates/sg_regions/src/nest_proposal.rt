@@ -29,7 +29,7 @@ pub fn propose_nest(
     terminals: &Terminals,
 ) -> Result<Option<NestProposal>, NoMemory> {
     let count = web.edges().len();
-    let adjacency = arcs_of(alloc, web)?;
+    let adjacency = arcs_of(alloc, web, 2)?;
     let Some((nest, pairs)) = grow(alloc, &adjacency, terminals.as_slice())? else {
         return Ok(None);
     };
