@@ -138,7 +138,8 @@ fn placed_rotation(
     let mut rotation = Rotation::new(alloc);
     for spin in spins {
         let darts = inst.rotation().at(*spin as usize);
-        rotation.push(placed_list(alloc, darts.as_slice(), places)?)?;
+        let placed = placed_list(alloc, darts, places)?;
+        rotation.push(placed.as_slice())?;
     }
     Ok(rotation)
 }

@@ -22,6 +22,7 @@ ghost use Rattle.std.specs.Int.{w64};
 ghost use Rattle.sg_slack.specs.Slack.{mark_at, slack_of, IsOuterFree, IsOuterOuter, Least, SumsFit};
 ghost use Rattle.sg_slack.specs.Scan.{IsNearer, IsOuterFreeOf, IsOuterOuterOf};
 
+mod member;
 mod near;
 mod partners;
 

@@ -7,8 +7,8 @@ use Rattle.sg_model.specs.Rotation.{darts_of}
 use Rattle.sg_faces.specs.Faces.{is_bare}
 use Rattle.sg_faces.proofs.OrbitWalks.{count_range_more}
 use Rattle.sg_faces.proofs.BareSpins.{bare_by_list}
-use Rattle.sg_faces.proofs.faces.bare_spins.Goals.{then-is_empty, else-is_empty}
-use Rattle.sg_faces.proofs.faces.bare_spins.Goals as goal
+use Rattle.sg_faces.proofs.tracing.bare_spins.Goals.{then-is_empty, else-is_empty}
+use Rattle.sg_faces.proofs.tracing.bare_spins.Goals as goal
 
 pub overflow_add-count : goal.overflow_add-count
 overflow_add-count c =

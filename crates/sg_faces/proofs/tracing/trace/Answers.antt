@@ -3,7 +3,7 @@ use Rattle.sg_faces.specs.Tables.{IsOrbitLabels}
 use Rattle.sg_faces.proofs.FaceOrbits.{least_of_face}
 use Rattle.sg_faces.proofs.BareSpins.{bare_few}
 use Rattle.sg_faces.proofs.Traced.{orbits_few, phi_table_moves, faces_from_orbits}
-use Rattle.sg_faces.proofs.faces.trace.Goals as goal
+use Rattle.sg_faces.proofs.tracing.trace.Goals as goal
 
 pub returns-in_err-table-clause-least : goal.returns-in_err-table-clause-least
 returns-in_err-table-clause-least c = least_of_face c.args.inst.now c.bare_spins-bare.ensures.instance
