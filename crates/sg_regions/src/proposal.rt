@@ -36,7 +36,7 @@ pub fn propose(
 }
 
 // The arcs between the nodes, each twice as long as its edge weighs. An edge to itself has none.
-fn arcs_of(alloc: Global, web: &Web) -> Result<Adjacency, NoMemory> {
+pub fn arcs_of(alloc: Global, web: &Web) -> Result<Adjacency, NoMemory> {
     let edges = web.edges().as_slice();
     let mut sides = Vec::with_capacity(alloc, edges.len().saturating_mul(2))?;
     let mut lengths = Vec::with_capacity(alloc, edges.len())?;

@@ -6,9 +6,10 @@ use sg_dual::dual;
 use sg_ground::solve;
 use sg_join_check::proves_least;
 use sg_model::{Instance, least_plain};
+use sg_nest::proves;
 use sg_planar::{Part, Planar, parts};
 use sg_reader::{Rows, read_instance};
-use sg_regions::propose;
+use sg_regions::{propose, propose_nest};
 use std::alloc::{AllocError, Global};
 use std::process::Abort;
 use std::test::Fail;
@@ -30,6 +31,12 @@ fn assert_part(rt: &impl Abort, alloc: Global, planar: &Planar, text: &str) -> R
         return Err(Fail::new("there is a proposal"));
     };
     assert!(rt; proves_least(alloc, &web, &terminals, &proposal)?, "{text}");
+    let Some(proposal) = propose_nest(alloc, &web, &terminals)? else {
+        return Err(Fail::new("there is a nest"));
+    };
+    assert!(rt; proposal.nest.regions.len() < 1 << 26);
+    let is_proved = proves(alloc, &web, &terminals, &proposal.edges, &proposal.nest)?;
+    assert!(rt; is_proved, "{text}");
     Ok(())
 }
 

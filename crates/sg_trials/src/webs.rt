@@ -7,11 +7,26 @@ use rand_core::utils::NextWord;
 use rand_pcg::Pcg32;
 use sg_graph_text::{Network, read_network};
 use sg_join_check::proves_least;
-use sg_regions::propose;
+use sg_nest::proves;
+use sg_regions::{propose, propose_nest};
 use sg_tjoin::{least_join, matched_join};
 use std::alloc::{AllocError, Global};
 use std::process::Abort;
 use std::test::Fail;
+
+// A nest has to be proposed too, and to be good.
+fn assert_nest(rt: &impl Abort, alloc: Global, network: &Network, text: &str) -> Result<(), Fail>
+    requires { IsNetwork network.now.web network.now.terminals }
+{
+    let (web, terminals) = (&network.web, &network.terminals);
+    let Some(proposal) = propose_nest(alloc, web, terminals)? else {
+        return Err(Fail::new("there is a nest"));
+    };
+    assert!(rt; proposal.nest.regions.len() < 1 << 26);
+    let is_proved = proves(alloc, web, terminals, &proposal.edges, &proposal.nest)?;
+    assert!(rt; is_proved, "{text}");
+    Ok(())
+}
 
 // The proposal has to be there and good, and its join to weigh what that of the matching weighs.
 fn assert_network(rt: &impl Abort, alloc: Global, network: &Network, text: &str) -> Result<(), Fail>
@@ -22,6 +37,7 @@ fn assert_network(rt: &impl Abort, alloc: Global, network: &Network, text: &str)
         return Err(Fail::new("there is a proposal"));
     };
     assert!(rt; proves_least(alloc, web, terminals, &proposal)?, "{text}");
+    assert_nest(rt, alloc, network, text)?;
     let answered = least_join(alloc, web, terminals)?.weight;
     let matched = matched_join(alloc, web, terminals)?.weight;
     assert_eq!(rt; answered, matched, "{text}");
