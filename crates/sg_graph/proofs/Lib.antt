@@ -7,3 +7,4 @@ pub mod Searching
 pub mod OddLists
 pub mod OnceLists
 pub mod WalkEnds
+pub mod TurnedEnds
