@@ -1,4 +1,4 @@
-use Rattle.std.proofs.Common.{◌≡◌, ℕ, List, [], ◌∷◌, ◌++◌, ◌∙◌, ap, append_assoc}
+use Rattle.std.proofs.Common.{ℕ, List, [], ◌∷◌, ◌++◌, ◌∙◌, ap, append_assoc}
 use Rattle.sg_list.proofs.LastLists.{last_more}
 use Rattle.sg_lattice.specs.Tables.{east, north, north_west, south, south_east, west}
 use Rattle.sg_lattice.proofs.shape.Shape.push_spin.Goals as goal
