@@ -82,7 +82,9 @@ def forged(source, found):
         elif change == 5:
             loops[i] = Loop(loop.weight, tuple(bonds[:-1]))
         elif change == 6:
-            loops[i] = Loop(loop.weight, tuple(bonds + [source.choice((bonds[0], bonds[-1] + 1, 2**32 - 1))]))
+            loops[i] = Loop(
+                loop.weight, tuple(bonds + [source.choice((bonds[0], bonds[-1] + 1, 2**32 - 1))])
+            )
         else:
             loops[i] = Loop(loop.weight, ())
     return energy, spins, loops
@@ -100,7 +102,13 @@ class WorkedExamples(unittest.TestCase):
         for answer in sorted(EXAMPLES.glob("*/*.answer")):
             given = answer.with_suffix(".txt")
             if not given.exists() or answer.parent.name not in {
-                "energy", "ground", "wall", "bonds", "clusters", "report", "check",
+                "energy",
+                "ground",
+                "wall",
+                "bonds",
+                "clusters",
+                "report",
+                "check",
             }:
                 continue
             with self.subTest(example=answer.name):
@@ -149,7 +157,6 @@ class RandomInstances(unittest.TestCase):
             energies = [int(row[1]) for row in rows_of("wall", instance)[:3]]
             self.assertEqual(ising2d.wall(*instance), ising2d.Wall(*energies))
 
-
     def test_forged_proofs_are_judged_as_by_text(self):
         source = random.Random(2)
         for case in range(CASES):
@@ -157,7 +164,9 @@ class RandomInstances(unittest.TestCase):
             found = ising2d.ground(*instance)
             stated = forged(source, found)
             with self.subTest(case=case, instance=instance, stated=stated):
-                self.assertEqual(ising2d.check(*instance, *stated), verdict_by_text(text_of(*instance), stated))
+                self.assertEqual(
+                    ising2d.check(*instance, *stated), verdict_by_text(text_of(*instance), stated)
+                )
 
 
 class WrongArguments(unittest.TestCase):
@@ -227,7 +236,7 @@ class WrongArguments(unittest.TestCase):
             ising2d.ground("square", 2, 2, [3, 4, 2, 2**63])
         with self.assertRaises(OverflowError):
             ising2d.ground("square", 2**32, 2, [])
-        with self.assertRaises((TypeError, AttributeError)):
+        with self.assertRaises(TypeError):
             ising2d.ground("square", 2, 2, [0.5, 1, 1, 1])
 
     def test_words(self):

@@ -27,10 +27,15 @@ def records(graph):
 
 def as_json(graph):
     """The graph as one JSON object."""
-    return json.dumps({
-        "kind": "general", "n": graph.n, "bonds": [list(bond) for bond in graph.bonds],
-        "rotation": [list(darts) for darts in graph.rotation], "seam": list(graph.seam),
-    })
+    return json.dumps(
+        {
+            "kind": "general",
+            "n": graph.n,
+            "bonds": [list(bond) for bond in graph.bonds],
+            "rotation": [list(darts) for darts in graph.rotation],
+            "seam": list(graph.seam),
+        }
+    )
 
 
 def rows_of(command, graph):
@@ -47,7 +52,10 @@ def drawn(source):
     names = source.sample(range(rows * cols), rows * cols)
     size, keep = source.choice((1, 2, 10, 2**30)), source.choice((0.3, 0.7, 1.0))
     placed = [
-        (r, c, step) for r in range(rows) for c in range(cols) for step in (0, 4, 5)
+        (r, c, step)
+        for r in range(rows)
+        for c in range(cols)
+        for step in (0, 4, 5)
         if r + _STEPS[step][0] < rows and c + _STEPS[step][1] < cols and source.random() < keep
     ]
     placed += [place for place in placed if source.random() < 0.1]
@@ -164,8 +172,14 @@ class RandomGraphs(unittest.TestCase):
         self.assertGreater(refused, CASES // 2)
 
     def test_numbers_that_do_not_cross(self):
-        for graph in (Graph(-1, [], []), Graph(2**32, [], []), Graph(1, [(0, -1, 1)], [[0]]),
-                      Graph(2, [(0, 1, 2**63)], [[0], [1]]), Graph(1, [], [[-1]]), Graph(1, [], [[]], [2**32])):
+        for graph in (
+            Graph(-1, [], []),
+            Graph(2**32, [], []),
+            Graph(1, [(0, -1, 1)], [[0]]),
+            Graph(2, [(0, 1, 2**63)], [[0], [1]]),
+            Graph(1, [], [[-1]]),
+            Graph(1, [], [[]], [2**32]),
+        ):
             with self.subTest(graph=graph), self.assertRaises(OverflowError):
                 graph.ground()
 

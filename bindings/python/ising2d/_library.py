@@ -3,12 +3,13 @@
 import ctypes
 import os
 from pathlib import Path
+from typing import Any, Dict, Iterator, List
 
 NAME = "libising2d.so"
 
 _SIZE = ctypes.c_size_t
 _ARRAY = ctypes.c_void_p
-_LATTICE = [ctypes.c_uint8, ctypes.c_uint32, ctypes.c_uint32, _ARRAY, _SIZE]
+_LATTICE: List[Any] = [ctypes.c_uint8, ctypes.c_uint32, ctypes.c_uint32, _ARRAY, _SIZE]
 _LINE = [_ARRAY, _SIZE, ctypes.POINTER(_SIZE)]
 _NUMBER = ctypes.POINTER(ctypes.c_int64)
 _COUNT = ctypes.POINTER(_SIZE)
@@ -22,7 +23,9 @@ _WALL = [_NUMBER] * 3 + _LINE
 _LIST = [_ARRAY, _SIZE] + _LINE
 _PROOF = [ctypes.c_int64] + [_ARRAY, _SIZE] * 4 + _LINE
 
-_CALLS = {"ising2d_c_run": [_ARRAY, _SIZE, _ARRAY, _SIZE, _ARRAY, _SIZE, _COUNT, _COUNT]}
+_CALLS: Dict[str, List[Any]] = {
+    "ising2d_c_run": [_ARRAY, _SIZE, _ARRAY, _SIZE, _ARRAY, _SIZE, _COUNT, _COUNT]
+}
 for _name, _given in (("ising2d_c_", _LATTICE), ("ising2d_c_graph_", _GRAPH)):
     _CALLS[_name + "ground"] = _given + _GROUND
     _CALLS[_name + "wall"] = _given + _WALL
@@ -31,11 +34,12 @@ for _name, _given in (("ising2d_c_", _LATTICE), ("ising2d_c_graph_", _GRAPH)):
     _CALLS[_name + "check"] = _given + _PROOF
 
 
-def _places():
+def _places() -> Iterator[Path]:
     """Where the library may be: the environment's, beside the package, and in a clone."""
     named = os.environ.get("ISING2D_LIBRARY")
     if named:
-        yield Path(named)
+        # A path without a slash would be looked up in the system's folders.
+        yield Path(named).absolute()
         return
     here = Path(__file__).resolve().parent
     yield here / NAME
@@ -45,18 +49,29 @@ def _places():
 
 def load() -> ctypes.CDLL:
     """The library, with the types of its calls."""
+    tried: List[Path] = []
     for place in _places():
+        tried.append(place)
         if place.exists():
-            library = ctypes.CDLL(str(place))
-            for name, types in _CALLS.items():
-                call = getattr(library, name)
-                call.argtypes = types
-                call.restype = ctypes.c_uint8
-            return library
+            return _opened(place)
+    if os.environ.get("ISING2D_LIBRARY"):
+        raise ImportError(f"ISING2D_LIBRARY names {tried[0]}, and there is no such file")
     raise ImportError(
         f"{NAME} is not there: make it with bindings/build, and name it in ISING2D_LIBRARY "
         "where it lies in no folder above this package"
     )
+
+
+def _opened(place: Path) -> ctypes.CDLL:
+    try:
+        library = ctypes.CDLL(str(place))
+        for name, types in _CALLS.items():
+            call = getattr(library, name)
+            call.argtypes = types
+            call.restype = ctypes.c_uint8
+    except (OSError, AttributeError) as fault:
+        raise ImportError(f"{place} is no library of ising2d: {fault}") from None
+    return library
 
 
 library = load()

@@ -1,70 +1,130 @@
-"""Refusals: why numbers or a text give no answer."""
+"""Refusals: why numbers or a text give no answer. Each sentence stands once, as data."""
 
-from typing import Sequence, Tuple
+from typing import NamedTuple, Optional, Sequence, Tuple, Type
 
-# For each number its name, and a sentence over the numbers that it keeps.
-_REFUSALS = {
-    1: ("TooLong", "the input has more than {0} bytes"),
-    2: ("Unended", "the records end before the awaited end"),
-    3: ("BadNumber", "field {1} of record {0} is no number, or out of the range of its place"),
-    4: ("UnknownKind", "the first field of record {0} is no word that may stand there"),
-    5: ("BadShape", "record {0} has a wrong number of fields, or comes a second time"),
-    6: ("CouplingCount", "there are {0} couplings, and the lattice has {1} bonds"),
-    7: ("TooManySpins", "there are {0} spins, more than 2048"),
-    8: ("TooManyBonds", "there are {0} bonds, more than 6144"),
-    9: ("SelfBond", "both ends of bond {0} are the same spin"),
-    10: ("BadRotation", "the list of spin {0} is not its darts, each once: see dart {1}"),
-    11: ("BadSeam", "entry {0} of the seam is no bond, or stands there twice"),
-    12: ("Trailing", "record {0} stands behind the end"),
-    13: ("SumTooLarge", "the sizes of the couplings sum to {0}, more than 2**44"),
-    15: ("NotPlanar", "the Euler number is {0}, and not 2"),
-    16: ("NoSeam", "a wall is asked for, and the seam is empty"),
-    17: ("UnknownLaw", "no law of disorder has this name"),
-    18: ("BadJson", "the input is no JSON"),
-    19: ("BadMember", "{place}"),
-    20: ("JsonTooLong", "the JSON input has more than {0} bytes"),
+
+class _Reason(NamedTuple):
+    """A name, a sentence over the numbers that are kept, and what is allowed."""
+
+    name: str
+    sentence: str
+    allowed: str = ""
+
+
+_WHOLE = "whole numbers from -(2**63 - 1) to 2**63 - 1"
+_SHORT = "whole numbers from 0 to 4294967295"
+
+_REASONS = {
+    1: _Reason("TooLong", "the input is too long", "at most {0} bytes"),
+    2: _Reason("Unended", "the records end before the awaited end", "a last record that says: end"),
+    3: _Reason("BadNumber", "field {1} of record {0} is no number, or out of the range of its place"),
+    4: _Reason("UnknownKind", "the first field of record {0} is no word that may stand there"),
+    5: _Reason("BadShape", "record {0} has a wrong number of fields, or comes a second time"),
+    6: _Reason("CouplingCount", "there are {0} couplings", "one for each bond of the lattice, {1}"),
+    7: _Reason("TooManySpins", "there are {0} spins", "at most 2048"),
+    8: _Reason("TooManyBonds", "there are {0} bonds or more", "at most 6144"),
+    9: _Reason("SelfBond", "both ends of bond {0} are the same spin", "two spins"),
+    10: _Reason("BadRotation", "the list of spin {0} is wrong at dart {1}", "its darts, each once"),
+    11: _Reason("BadSeam", "entry {0} of the seam is no bond, or stands there twice"),
+    12: _Reason("Trailing", "record {0} stands behind the end", "nothing"),
+    13: _Reason("SumTooLarge", "the sizes of the couplings sum to {0}", "at most 2**44 = 17592186044416"),
+    15: _Reason("NotPlanar", "the drawing has the Euler number {0}", "2, as of a drawing on a sphere"),
+    16: _Reason("NoSeam", "a wall is asked for, and the seam is empty", "a cylinder, or a seam of bonds"),
+    17: _Reason("UnknownLaw", "no law of disorder has this name", "one, alternate, pm, uniform"),
+    18: _Reason("BadJson", "the input is no JSON"),
+    19: _Reason("BadMember", "member {0} is wrong at entry {1}"),
+    20: _Reason("JsonTooLong", "the JSON input is too long", "at most {0} bytes"),
+    21: _Reason("OddTerminals", "there are {0} terminals", "an even number of them"),
+    22: _Reason("BadTerminal", "terminal {0} is no node, or stands there twice"),
+    23: _Reason("NotJoined", "no edges lead from node 0 to node {0}", "one component"),
 }
 
+# The reasons of refusal 19, by the place of the member.
 _MEMBERS = {
-    1: "the kind is none",
-    2: "a member does not belong",
-    3: "there are no rows",
-    4: "there are too few columns",
-    5: "there are no spins",
-    6: "coupling {1} is out of range",
-    7: "bond {1} is none",
-    8: "list {1} of the rotation is none",
-    9: "entry {1} of the seam is no number",
-    10: "spin {1} of the proof is neither 1 nor -1",
-    11: "start {1} of the loops is wrong",
+    1: _Reason("", "there is no such kind", "square, triangular, hexagonal, cylinder, and general in JSON"),
+    2: _Reason("", "a member does not belong here", "kind, rows, cols, couplings, n, bonds, rotation, seam"),
+    3: _Reason("", "the number of rows is wrong", "1 or more"),
+    4: _Reason("", "the number of columns is wrong", "1 or more; hexagonal 2, cylinder 3 or more"),
+    5: _Reason("", "the number of spins is wrong", "1 or more"),
+    6: _Reason("", "coupling {1} is wrong", _WHOLE),
+    7: _Reason("", "bond {1} is wrong", "two spins from 0 to n - 1, and a coupling: " + _WHOLE),
+    8: _Reason("", "list {1} of the rotation is wrong", "one list for each spin, of " + _SHORT),
+    9: _Reason("", "entry {1} of the seam is wrong", _SHORT),
+    10: _Reason("", "the value of spin {1} is wrong", "1 or -1"),
+    11: _Reason("", "start {1} of the loops is wrong", "first 0, never falling, at last all bonds"),
+}
+
+_VERDICTS = {
+    0: "the proof holds: no assignment has less energy",
+    1: "the result has {0} spins, and the instance another number",
+    2: "the spins have the energy {0}, and not the stated one",
+    3: "loop {0} has a weight below 1, or bonds that are none, are missing, or do not rise",
+    4: "loop {0} has an odd number of bonds at spin {1}",
+    5: "loop {0} has an even number of negative couplings, so it is not frustrated",
+    6: "the loops through bond {0} weigh {1} together, more than twice the size of its coupling",
+    7: "all loops weigh {0} together, and the stated energy plus the sizes of all couplings is {1}",
 }
 
 
-def _sentence(number: int, kept: Sequence[int]) -> Tuple[str, str]:
-    name, sentence = _REFUSALS.get(number, ("Refused", "the input is refused"))
-    if number == 19 and kept:
-        sentence = _MEMBERS.get(kept[0], "member {0} is wrong at {1}")
+def _filled(text: str, kept: Sequence[int]) -> str:
     try:
-        return name, sentence.format(*kept)
+        return text.format(*kept)
     except IndexError:
-        return name, sentence
+        return text
+
+
+def _reason_of(number: int, kept: Sequence[int]) -> _Reason:
+    reason = _REASONS.get(number, _Reason("Refused", "the input is refused"))
+    if number == 19 and kept and kept[0] in _MEMBERS:
+        reason = _MEMBERS[kept[0]]._replace(name=reason.name)
+    return reason
+
+
+def verdict_sentence(number: int, kept: Sequence[int]) -> str:
+    """A verdict in words."""
+    return _filled(_VERDICTS.get(number, "the proof fails"), kept)
 
 
 class Refusal(ValueError):
     """Numbers or a text that are refused.
 
-    ``number`` is the number of the refusal, ``name`` its name, ``kept`` the numbers that show it and
-    ``sentence`` says it with the place. docs/FORMATS.md has all of them.
+    ``number`` is the number of the refusal, ``name`` its name, ``kept`` the numbers that show it,
+    ``value`` the wrong value where the call knows it, ``allowed`` what may stand there, and
+    ``sentence`` says it all. docs/FORMATS.md has all refusals.
+
+        >>> import ising2d
+        >>> try:
+        ...     ising2d.ground("kagome", 2, 2, [3, 4, 2, -5])
+        ... except ising2d.Refusal as refusal:
+        ...     print(refusal.number, refusal.name, refusal.value)
+        19 BadMember 'kagome'
     """
 
-    def __init__(self, number: int, kept: Sequence[int] = ()) -> None:
+    def __init__(self, number: int, kept: Sequence[int] = (), value: Optional[str] = None) -> None:
+        reason = _reason_of(number, kept)
         self.number = number
         self.kept = tuple(kept)
-        self.name, self.sentence = _sentence(number, self.kept)
+        self.value = value
+        self.name = reason.name
+        self.allowed = _filled(reason.allowed, self.kept)
+        self.sentence = _filled(reason.sentence, self.kept)
+        if value is not None:
+            self.sentence += f": {value}"
+        if self.allowed:
+            self.sentence += f" (allowed: {self.allowed})"
         super().__init__(f"{self.name} ({number}): {self.sentence}")
 
+    def __reduce__(self) -> Tuple[Type["Refusal"], Tuple[int, Tuple[int, ...], Optional[str]]]:
+        return Refusal, (self.number, self.kept, self.value)
 
-def refusal_of(line: str) -> Refusal:
-    """The refusal of a line ``refused,NUMBER,..``."""
-    numbers = [int(field) for field in line.strip().split(",")[1:]]
-    return Refusal(numbers[0], numbers[1:])
+
+def numbers_of(line: str) -> Tuple[int, ...]:
+    """The numbers of a line behind its first field."""
+    return tuple(int(field) for field in line.strip().split(",")[1:])
+
+
+def refusal_of(line: str, given: object = None) -> Refusal:
+    """The refusal of a line ``refused,NUMBER,..``, with the value that ``given`` has at the place."""
+    number, *kept = numbers_of(line)
+    shown = getattr(given, "shown", None)
+    return Refusal(number, kept, shown(number, kept) if shown is not None else None)

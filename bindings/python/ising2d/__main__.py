@@ -1,0 +1,8 @@
+"""The command line of the package."""
+
+import sys
+
+from ._program import main
+
+if __name__ == "__main__":
+    sys.exit(main())

@@ -1,0 +1,110 @@
+"""Instances and answers that are drawn from a law of disorder and a seed."""
+
+from typing import Any, List, Optional
+
+from ._answers import Ensemble, Sample, Width
+from ._arrays import as_array, shortened, whole
+from ._lattices import KINDS, Lattice
+from ._runs import answered, numbers, one_of, records_in
+
+LAWS = ("one", "alternate", "pm", "uniform")
+
+# For each number of the words its least and its greatest value.
+_RANGES = {
+    "seed": (0, 2**64 - 1),
+    "rows": (1, 2048),
+    "cols": (1, 2048),
+    "max_cols": (3, 64),
+    "count": (1, 1000),
+}
+
+
+def _word(value: Any, what: str, least: int = 0) -> str:
+    """A number as a word. What the program would answer with its usage is a ``ValueError``."""
+    number, (low, high) = whole(value, what), _RANGES[what]
+    low = max(low, least)
+    if not low <= number <= high:
+        raise ValueError(f"{what} is {number} (allowed: {low} to {high})")
+    return str(number)
+
+
+class _Law(str):
+    """The name of a law, which a refusal shows."""
+
+    def shown(self, number: int, kept: Any) -> Optional[str]:
+        return repr(str(self)) if number == 17 else None
+
+
+def _law(law: Any) -> _Law:
+    if not isinstance(law, str):
+        raise TypeError(f"law: one of {', '.join(LAWS)} is wanted, and not {shortened(law)}")
+    return _Law(law)
+
+
+def _fit(rows: int, cols: int) -> None:
+    if rows * cols > 2048:
+        raise ValueError(f"{rows} rows of {cols} columns have {rows * cols} spins (allowed: at most 2048)")
+
+
+def draw(law: str, seed: int, kind: str, rows: int, cols: int) -> Lattice:
+    """A lattice whose couplings are the first draws of the law after the seed, bond by bond, the same on
+    every machine. ``law`` is "one", "alternate", "pm" or "uniform".
+
+    >>> draw("pm", 42, "square", 2, 2).couplings.tolist()
+    [-1, -1, 1, -1]
+    """
+    if kind not in KINDS:
+        raise ValueError(f"kind is {shortened(kind)} (allowed: {', '.join(KINDS)})")
+    least = {"hexagonal": 2, "cylinder": 3}.get(kind, 1)
+    words = [_law(law), _word(seed, "seed"), kind, _word(rows, "rows"), _word(cols, "cols", least)]
+    _fit(rows, cols)
+    lines = answered(["gen", *words], given=words[0]).splitlines()
+    return Lattice(kind, rows, cols, numbers(lines[1].split(",")) if len(lines) > 2 else [])
+
+
+def sample(law: str, seed: int, rows: int, cols: int) -> Sample:
+    """The numbers of a drawn square lattice: its least energy, and what its broken bonds weigh.
+
+    >>> sample("pm", 7, 24, 24).energy
+    -792
+    """
+    words = [_law(law), _word(seed, "seed"), _word(rows, "rows"), _word(cols, "cols")]
+    _fit(rows, cols)
+    text = answered(["sample", *words], given=words[0])
+    return Sample(*(int(fields[0]) for _, fields in records_in(text)))
+
+
+def ensemble(law: str, seed: int, rows: int, cols: int, count: int) -> Ensemble:
+    """What a domain wall costs on each of ``count`` cylinders, which are drawn one after another.
+
+    >>> ensemble("one", 0, 1, 3, 2).walls.tolist()
+    [2, 2]
+    """
+    words = [
+        _law(law),
+        _word(seed, "seed"),
+        _word(rows, "rows"),
+        _word(cols, "cols", 3),
+        _word(count, "count"),
+    ]
+    _fit(rows, cols)
+    text = answered(["ensemble", *words], given=words[0])
+    walls = [int(fields[1]) for first, fields in records_in(text) if first == "wall"]
+    return Ensemble(as_array(walls, "int64"), one_of(text, "sum")[0], one_of(text, "squares")[0])
+
+
+def widths(law: str, seed: int, rows: int, max_cols: int, count: int) -> List[Width]:
+    """The sums of such an ensemble for each number of columns from 3 to ``max_cols``.
+
+    >>> widths("one", 0, 1, 3, 2)
+    [Width(cols=3, sum=4, squares=8)]
+    """
+    words = [
+        _law(law),
+        _word(seed, "seed"),
+        _word(rows, "rows"),
+        _word(max_cols, "max_cols"),
+        _word(count, "count"),
+    ]
+    _fit(rows, max_cols)
+    return [Width(*numbers(fields)) for _, fields in records_in(answered(["widths", *words], given=words[0]))]

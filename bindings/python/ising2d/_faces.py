@@ -1,0 +1,166 @@
+"""Drawings: where each bond lies, and the faces that they enclose."""
+
+import importlib
+from typing import Any, Dict, List, NamedTuple, Optional, Tuple
+
+from ._instances import Instance
+from ._lattices import Lattice
+
+Point = Tuple[float, float]
+
+
+class Face(NamedTuple):
+    """A face that is enclosed: its bonds, and its corners in order."""
+
+    bonds: List[int]
+    corners: List[Point]
+
+    def middle(self) -> Point:
+        count = len(self.corners)
+        return sum(x for x, _ in self.corners) / count, sum(y for _, y in self.corners) / count
+
+
+class Drawing:
+    """An instance with the places of its spins."""
+
+    def __init__(self, instance: Instance, places: Optional[Any] = None) -> None:
+        self.instance = instance
+        self.ends = instance.ends()
+        self.places = places_of(instance, places)
+        # How far the second first column of a cylinder is from the first; 0 of all else.
+        self.period = self._columns() if places is None else 0
+        self.steps = [self._step(k) for k in range(len(self.ends))]
+        self.faces = self._enclosed()
+
+    def _columns(self) -> int:
+        own = self.instance
+        return own.cols if isinstance(own, Lattice) and own.kind == "cylinder" else 0
+
+    def _step(self, bond: int) -> Point:
+        """The way along a bond from its first end. Over the seam of a cylinder it goes on to the east,
+        to where its first column stands a second time."""
+        (x, y), (right, low) = (self.places[spin] for spin in self.ends[bond])
+        if self.period and right < x:
+            return 1.0, 0.0
+        return right - x, low - y
+
+    def middle(self, bond: int) -> Point:
+        (x, y), (right, down) = self.places[self.ends[bond][0]], self.steps[bond]
+        return x + right / 2, y + down / 2
+
+    def _orbits(self) -> List[List[int]]:
+        """The darts round each face: over the bond, and on to the next dart of the spin there."""
+        after: Dict[int, int] = {}
+        for own in self.instance.darts():
+            for place, dart in enumerate(own):
+                after[dart ^ 1] = own[(place + 1) % len(own)]
+        orbits, seen = [], set()
+        for first in after:
+            orbit, dart = [], first
+            while dart not in seen:
+                seen.add(dart)
+                orbit.append(dart)
+                dart = after[dart]
+            if orbit:
+                orbits.append(orbit)
+        return orbits
+
+    def _way(self, orbit: List[int]) -> Tuple[List[Point], Point]:
+        """The corners from the first dart on, and where the way ends."""
+        x, y = self.places[self.ends[orbit[0] // 2][orbit[0] % 2]]
+        corners = []
+        for dart in orbit:
+            corners.append((x, y))
+            right, down = self.steps[dart // 2]
+            sign = 1 if dart % 2 == 0 else -1
+            x, y = x + sign * right, y + sign * down
+        return corners, (x, y)
+
+    def _enclosed(self) -> List[Face]:
+        """The faces but the outer ones, which go round the other way, and the rims of a cylinder."""
+        found = []
+        for orbit in self._orbits():
+            start = max(range(len(orbit)), key=lambda i: self.places[self.ends[orbit[i] // 2][orbit[i] % 2]])
+            if self._wraps(orbit):
+                start = next(i for i, dart in enumerate(orbit) if self._leaves_last_column(dart))
+            corners, last = self._way(orbit[start:] + orbit[:start])
+            if abs(last[0] - corners[0][0]) + abs(last[1] - corners[0][1]) < 1e-6:
+                found.append((_area(corners), Face([dart // 2 for dart in orbit], corners)))
+        turn = self._turn([area for area, _ in found])
+        return [face for area, face in found if area * turn > 1e-9]
+
+    def _turn(self, areas: List[float]) -> int:
+        """The sign of the area of enclosed faces: the outer faces have the others' sign, and as much
+        area as all others together; on a cylinder there are none."""
+        if self.period:
+            return 1 if sum(areas) > 0 else -1
+        outer = max(areas, key=abs, default=0.0)
+        return -1 if outer > 0 else 1
+
+    def _wraps(self, orbit: List[int]) -> bool:
+        return self.period > 0 and any(self._is_seam(dart // 2) for dart in orbit)
+
+    def _is_seam(self, bond: int) -> bool:
+        u, v = self.ends[bond]
+        return self.places[v][0] < self.places[u][0]
+
+    def _leaves_last_column(self, dart: int) -> bool:
+        spin = self.ends[dart // 2][dart % 2]
+        return self.places[spin][0] == max(x for x, _ in self.places)
+
+    def sides(self) -> List[List[Face]]:
+        """For each bond the enclosed faces beside it, perhaps one of them twice."""
+        found: List[List[Face]] = [[] for _ in self.ends]
+        for face in self.faces:
+            for bond in face.bonds:
+                found[bond].append(face)
+        return found
+
+    def is_frustrated(self, face: Face) -> bool:
+        """Whether an odd number of the couplings round the face is negative."""
+        couplings = self.instance.couplings
+        return sum(int(couplings[bond]) < 0 for bond in face.bonds) % 2 == 1
+
+
+def _area(corners: List[Point]) -> float:
+    """The area that is gone round, by its sign with or against the clock."""
+    turned = corners[1:] + corners[:1]
+    return sum(x * b - a * y for (x, y), (a, b) in zip(corners, turned)) / 2
+
+
+def places_of(instance: Instance, places: Optional[Any]) -> List[Point]:
+    """Where each spin is drawn: as handed in, by spin or by label; as the instance knows; or as
+    networkx finds it from the rotation."""
+    if isinstance(places, dict):
+        places = [_place(places, label) for label in instance.node_labels()]
+    if places is None:
+        places = instance.places()
+    if places is None:
+        places = _laid_out(instance)
+    found = [(float(x), float(y)) for x, y in places]
+    if len(found) != len(instance.node_labels()):
+        raise ValueError(f"there are {len(found)} places, and {len(instance.node_labels())} spins")
+    return found
+
+
+def _place(places: Dict[Any, Any], label: Any) -> Any:
+    if label not in places:
+        raise ValueError(f"places: there is none for {label!r}")
+    return places[label]
+
+
+def _laid_out(instance: Instance) -> List[Point]:
+    """The places of ``networkx.planar_layout``, for the drawing that the instance has."""
+    try:
+        networkx = importlib.import_module("networkx")
+    except ImportError:
+        raise ValueError("where are the spins? give places=.., or install networkx") from None
+    ends = instance.ends()
+    around: Dict[int, List[int]] = {}
+    for spin, own in enumerate(instance.darts()):
+        others = [ends[dart // 2][1 - dart % 2] for dart in own]
+        around[spin] = list(dict.fromkeys(others))
+    embedding = networkx.PlanarEmbedding()
+    embedding.set_data(around)
+    found = networkx.combinatorial_embedding_to_pos(embedding)
+    return [found[spin] for spin in range(len(around))]

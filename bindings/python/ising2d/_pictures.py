@@ -1,0 +1,336 @@
+"""Pictures of answers, as SVG, without any other package.
+
+What is told apart by a colour is told apart by a form as well, and the colours are those of Okabe and
+Ito, which colour-blind people can tell apart.
+"""
+
+from typing import Any, Callable, Dict, Iterable, List, NamedTuple, Optional, Tuple
+
+from ._answers import Clusters, DomainWall, Ground
+from ._faces import Drawing, Point
+
+_BLUE, _GREEN, _PURPLE, _SKY = "#0072B2", "#009E73", "#CC79A7", "#56B4E9"
+_ORANGE, _RED, _YELLOW, _GREY, _BLACK = "#E69F00", "#D55E00", "#F0E442", "#999999", "#222222"
+_PALE = "#FBE8B6"
+
+_LOOP_COLOURS = (_BLUE, _GREEN, _PURPLE)
+_CLUSTER_COLOURS = (_BLUE, _ORANGE, _GREEN, _PURPLE, _SKY, _RED, _YELLOW)
+
+
+Attributes = Dict[str, Any]
+
+
+class Look(NamedTuple):
+    """How large things are, in the unit of the picture."""
+
+    cell: float
+    margin: float
+    spin: float
+    line: float
+
+
+def svg(
+    answer: Any,
+    places: Optional[Any] = None,
+    loops: int = 3,
+    cell: Optional[float] = None,
+    legend: bool = True,
+) -> str:
+    """A picture of a ground state, of a domain wall with its states, or of clusters, as SVG.
+
+    Lattices are drawn at their places, and the first column of a cylinder a second time behind its
+    last. Other graphs are drawn at ``places`` (a pair for each spin, or a dictionary by label), or
+    where ``networkx.planar_layout`` puts them. Frustrated faces are shaded, negative bonds dashed,
+    broken bonds crossed, and of the proof the heaviest ``loops`` are drawn. ``cell`` is the length of a
+    bond in pixels.
+
+    >>> import ising2d
+    >>> ising2d.svg(ising2d.ground("square", 2, 2, [3, 4, 2, -5]))[:4]
+    '<svg'
+    """
+    shown = answer.ground if isinstance(answer, DomainWall) else answer
+    if not isinstance(shown, (Ground, Clusters)) or shown.instance is None:
+        raise TypeError("svg: a ground state, a domain wall with states or clusters are wanted")
+    canvas = _Canvas(Drawing(shown.instance, places), cell)
+    canvas.faces()
+    if isinstance(shown, Clusters):
+        canvas.bonds([])
+        canvas.clusters(shown)
+    else:
+        is_wall = isinstance(answer, DomainWall)
+        canvas.loops(shown, 0 if is_wall else loops)
+        canvas.bonds(shown.broken())
+        if is_wall:
+            canvas.wall(answer)
+        canvas.spins(shown.spins.tolist())
+    return canvas.text(legend)
+
+
+def _number(value: float) -> str:
+    return f"{value:.1f}".rstrip("0").rstrip(".")
+
+
+def _tag(name: str, text: Optional[str] = None, **attributes: Any) -> str:
+    own = "".join(f' {key.replace("_", "-")}="{value}"' for key, value in attributes.items())
+    return f"<{name}{own}/>" if text is None else f"<{name}{own}>{text}</{name}>"
+
+
+class _Canvas:
+    """The parts of a picture, from the back to the front, and the entries of its legend."""
+
+    def __init__(self, drawing: Drawing, cell: Optional[float]) -> None:
+        self.drawing = drawing
+        self.parts: List[str] = []
+        self.entries: List[Tuple[str, str]] = []
+        xs, ys = zip(*(drawing.places or [(0.0, 0.0)]))
+        shift = [drawing.places[u][0] + step[0] for (u, _), step in zip(drawing.ends, drawing.steps)]
+        self.left, self.top = min(xs), min(ys)
+        self.wide, self.high = max([*xs, *shift]) - self.left, max(ys) - self.top
+        length = _typical_length(drawing)
+        pixels = (
+            cell
+            if cell is not None
+            else max(14.0, min(48.0, 720 * length / max(self.wide, self.high, length)))
+        )
+        self.scale = pixels / length
+        self.look = Look(pixels, pixels * 0.6 + 4, max(2.0, pixels * 0.17), max(0.8, pixels * 0.045))
+
+    # Where things are.
+
+    def at(self, point: Point) -> Point:
+        x, y = point
+        margin = self.look.margin
+        return margin + (x - self.left) * self.scale, margin + (y - self.top) * self.scale
+
+    def line(self, bond: int) -> str:
+        """A bond as a piece of a path."""
+        place, (right, down) = self.drawing.places[self.drawing.ends[bond][0]], self.drawing.steps[bond]
+        x, y = self.at(place)
+        return f"M{_number(x)} {_number(y)}l{_number(right * self.scale)} {_number(down * self.scale)}"
+
+    def polyline(self, points: Iterable[Point]) -> str:
+        return "M" + "L".join(f"{_number(x)} {_number(y)}" for x, y in map(self.at, points))
+
+    def path(self, pieces: Iterable[str], **look: Any) -> None:
+        text = "".join(pieces)
+        if text:
+            self.parts.append(_tag("path", d=text, **look))
+
+    def explain(self, text: str, **look: Any) -> None:
+        """An entry of the legend: a sample, drawn as a path of its own, and what it means."""
+        form = look.pop("d", "M0 0h16")
+        self.entries.append((_tag("path", d=form, **look), text))
+
+    # What is drawn.
+
+    def faces(self) -> None:
+        frustrated = [face for face in self.drawing.faces if self.drawing.is_frustrated(face)]
+        self.path((self.polyline(face.corners) + "Z" for face in frustrated), fill=_PALE)
+        if frustrated:
+            self.explain("frustrated face", d="M1 -5h14v10h-14z", fill=_PALE)
+
+    def bonds(self, broken: List[int]) -> None:
+        line, couplings = self.look.line, self.drawing.instance.couplings.tolist()
+        look: Attributes = {"fill": "none", "stroke": _GREY, "stroke_width": _number(line)}
+        dashed: Attributes = {
+            **look,
+            "stroke": _BLACK,
+            "stroke_width": _number(1.3 * line),
+            "stroke_dasharray": f"{_number(2.4 * line + 1)}",
+        }
+        thick: Attributes = {**look, "stroke": _RED, "stroke_width": _number(4 * line)}
+        crossed: Attributes = {**thick, "stroke_width": _number(2 * line)}
+        self.path((self.line(k) for k in broken), **{**thick, "stroke_opacity": "0.45"})
+        self.path((self.line(k) for k, j in enumerate(couplings) if j > 0), **look)
+        self.path((self.line(k) for k, j in enumerate(couplings) if j < 0), **dashed)
+        if any(j > 0 for j in couplings):
+            self.explain("coupling above 0", **look)
+        if any(j < 0 for j in couplings):
+            self.explain("coupling below 0", **dashed)
+        self.path(map(self._cross, broken), **crossed)
+        if broken:
+            self.explain("broken bond", d="M0 0h16M5 -4l6 8M11 -4l-6 8", **{**crossed, "stroke_width": 2})
+
+    def _cross(self, bond: int) -> str:
+        x, y = self.at(self.drawing.middle(bond))
+        arm = 0.13 * self.look.cell
+        return "".join(
+            f"M{_number(x - arm)} {_number(y + sign * arm)}l{_number(2 * arm)} {_number(-sign * 2 * arm)}"
+            for sign in (1, -1)
+        )
+
+    def loops(self, ground: Ground, count: int) -> None:
+        heaviest = sorted(ground.loops, key=lambda loop: (-loop.weight, loop.bonds))[:count]
+        for place, loop in enumerate(heaviest):
+            look: Attributes = {
+                "fill": "none",
+                "stroke": _LOOP_COLOURS[place % len(_LOOP_COLOURS)],
+                "stroke_width": _number(self.look.cell * (0.34 - 0.08 * (place % 3))),
+                "stroke_opacity": "0.55",
+                "stroke_linecap": "round",
+            }
+            self.path((self.line(bond) for bond in loop.bonds), **look)
+            self.explain(f"loop of weight {loop.weight}", **{**look, "stroke_width": 8 - 2 * (place % 3)})
+
+    def dots(self, spins: Iterable[int], width: float, colour: str) -> None:
+        pieces = ("M{}h0".format(" ".join(map(_number, self.at(point)))) for point in self._points(spins))
+        self.path(pieces, stroke=colour, stroke_width=_number(width), stroke_linecap="round")
+
+    def _points(self, spins: Iterable[int]) -> List[Point]:
+        """The places of spins; of the first column of a cylinder also the second ones."""
+        wanted, places = set(spins), self.drawing.places
+        again = [
+            (places[u][0] + step[0], places[u][1])
+            for (u, v), step in zip(self.drawing.ends, self.drawing.steps)
+            if v in wanted and places[v][0] != places[u][0] + step[0]
+        ]
+        return [places[spin] for spin in sorted(wanted)] + [point for point in again if point not in places]
+
+    def spins(self, values: List[int]) -> None:
+        up = [spin for spin, value in enumerate(values) if value > 0]
+        down = [spin for spin, value in enumerate(values) if value < 0]
+        width = 2 * self.look.spin
+        self.dots(up, width, _BLACK)
+        self.dots(down, width, _BLACK)
+        self.dots(down, width - 2 * max(1.0, self.look.line), "#FFFFFF")
+        if up:
+            self.explain("spin 1", d="M8 0h0", stroke=_BLACK, stroke_width=9, stroke_linecap="round")
+        if down:
+            ring = "M4 0a4 4 0 1 0 8 0a4 4 0 1 0 -8 0z"
+            self.explain("spin -1", d=ring, stroke=_BLACK, fill="#FFFFFF", stroke_width=1.5)
+
+    def wall(self, found: DomainWall) -> None:
+        sides = self.drawing.sides()
+        pieces = [self._crossing(bond, [face.middle() for face in sides[bond]]) for bond in found.bonds]
+        width = max(2.5, 0.11 * self.look.cell)
+        look: Attributes = {
+            "fill": "none",
+            "stroke": _BLUE,
+            "stroke_width": _number(width),
+            "stroke_linecap": "round",
+            "stroke_linejoin": "round",
+        }
+        self.path(pieces, **look)
+        text = f"the wall: {found.length} bonds, it costs {found.difference}"
+        self.explain(text, **{**look, "stroke_width": 4})
+
+    def _crossing(self, bond: int, middles: List[Point]) -> str:
+        """The wall over one bond, from the middle of the face on one side to that on the other. On a
+        cylinder the face in front of the first column is drawn behind the last, and there the bond is
+        crossed a second time."""
+        x, y = self.drawing.middle(bond)
+        if not middles:
+            right, down = self.drawing.steps[bond]
+            return self.polyline([(x - down / 2, y + right / 2), (x + down / 2, y - right / 2)])
+        period = self.drawing.period
+        beside: Dict[int, List[Point]] = {}
+        for point in middles:
+            shift = period if period and point[0] - x > 1.5 else 0
+            beside.setdefault(shift, []).append(point)
+        return "".join(self._over((x + shift, y), own) for shift, own in beside.items())
+
+    def _over(self, place: Point, middles: List[Point]) -> str:
+        """Beside an outer face the wall goes on as far as it came."""
+        first, (x, y) = middles[0], place
+        last = middles[1] if len(middles) > 1 else (2 * x - first[0], 2 * y - first[1])
+        return self.polyline([first, place, last])
+
+    def clusters(self, found: Clusters) -> None:
+        names = list(found)
+        large = [name for name, size in found.sizes.items() if size > 1][: len(_CLUSTER_COLOURS)]
+        rest = [spin for spin, name in enumerate(names) if name not in large]
+        for place, name in enumerate(large):
+            self._cluster(place, name, names)
+        self.dots(rest, 1.2 * self.look.spin, _GREY)
+        if rest:
+            self.explain(
+                "spin of a smaller cluster", d="M8 0h0", stroke=_GREY, stroke_width=5, stroke_linecap="round"
+            )
+
+    def _cluster(self, place: int, name: int, names: List[int]) -> None:
+        own = [spin for spin, other in enumerate(names) if other == name]
+        inner = [k for k, (u, v) in enumerate(self.drawing.ends) if names[u] == name == names[v]]
+        colour, form = _CLUSTER_COLOURS[place], _FORMS[place % len(_FORMS)]
+        self.path(
+            (self.line(k) for k in inner),
+            fill="none",
+            stroke=colour,
+            stroke_opacity="0.45",
+            stroke_width=_number(0.22 * self.look.cell),
+        )
+        look: Attributes = {"fill": colour, "stroke": _BLACK, "stroke_width": _number(0.7 * self.look.line)}
+        self.path((form(*self.at(point), 1.3 * self.look.spin) for point in self._points(own)), **look)
+        self.explain(f"cluster of {len(own)} spins", d=form(8, 0, 6), **{**look, "stroke_width": 1})
+
+    # The whole.
+
+    def text(self, legend: bool) -> str:
+        width = self.wide * self.scale + 2 * self.look.margin
+        high = self.high * self.scale + 2 * self.look.margin
+        lines = self._legend(max(width, 240), high) if legend else []
+        total = high + (18 * len(lines) + 8 if lines else 0)
+        wide = max(width, 240) if lines else width
+        head = f'<svg xmlns="http://www.w3.org/2000/svg" viewBox="0 0 {_number(wide)} {_number(total)}" '
+        head += f'width="{_number(wide)}" height="{_number(total)}" font-family="sans-serif" font-size="11">'
+        back = _tag("rect", width="100%", height="100%", fill="#FFFFFF")
+        return "\n".join([head, back, *self.parts, *(entry for line in lines for entry in line), "</svg>"])
+
+    def _legend(self, width: float, high: float) -> List[List[str]]:
+        """The entries, as many to a line as have room."""
+        lines: List[List[str]] = [[]]
+        x, y = 10.0, high + 6
+        for sample, text in self.entries:
+            wide = 34 + 6.3 * len(text)
+            if x + wide > width and lines[-1]:
+                lines.append([])
+                x, y = 10.0, y + 18
+            where = f"translate({_number(x)} {_number(y)})"
+            lines[-1].append(_tag("g", sample + _tag("text", text, x=22, y=4, fill=_BLACK), transform=where))
+            x += wide
+        return lines
+
+
+def _typical_length(drawing: Drawing) -> float:
+    """The middle one of the lengths of all bonds."""
+    lengths = sorted((right**2 + down**2) ** 0.5 for right, down in drawing.steps)
+    middle = float(lengths[len(lengths) // 2]) if lengths else 0.0
+    return middle if middle > 0 else 1.0
+
+
+def _polygon(*corners: Point) -> Callable[[float, float, float], str]:
+    """A form round a place, as a piece of a path, by its corners for the size 1."""
+
+    def form(x: float, y: float, size: float) -> str:
+        points = (f"{_number(x + size * a)} {_number(y + size * b)}" for a, b in corners)
+        return "M" + "L".join(points) + "Z"
+
+    return form
+
+
+def _round(x: float, y: float, size: float) -> str:
+    r, d = _number(size * 0.9), _number(size * 1.8)
+    return f"M{_number(x - size * 0.9)} {_number(y)}a{r} {r} 0 1 0 {d} 0a{r} {r} 0 1 0 -{d} 0Z"
+
+
+_FORMS: Tuple[Callable[[float, float, float], str], ...] = (
+    _round,
+    _polygon((-0.8, -0.8), (0.8, -0.8), (0.8, 0.8), (-0.8, 0.8)),
+    _polygon((0, -1), (0.95, 0.75), (-0.95, 0.75)),
+    _polygon((0, -1.1), (1.1, 0), (0, 1.1), (-1.1, 0)),
+    _polygon((0, 1), (0.95, -0.75), (-0.95, -0.75)),
+    _polygon(
+        (-0.35, -1),
+        (0.35, -1),
+        (0.35, -0.35),
+        (1, -0.35),
+        (1, 0.35),
+        (0.35, 0.35),
+        (0.35, 1),
+        (-0.35, 1),
+        (-0.35, 0.35),
+        (-1, 0.35),
+        (-1, -0.35),
+        (-0.35, -0.35),
+    ),
+    _polygon((-1, 0), (-0.5, -0.87), (0.5, -0.87), (1, 0), (0.5, 0.87), (-0.5, 0.87)),
+)

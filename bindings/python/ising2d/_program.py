@@ -1,0 +1,279 @@
+"""The command line: `python -m ising2d`, installed as `ising2d-py`."""
+
+import argparse
+import os
+import sys
+from typing import Any, List, NamedTuple, Optional, Sequence
+
+from ._explained import sentence_of
+from ._progress import Progress
+from ._records import read
+from ._refusals import Refusal, numbers_of, refusal_of, verdict_sentence
+from ._runs import run
+from ._streams import COMMANDS, answer_lines
+from ._version import VERSION
+
+_NAME = "ising2d"
+
+
+class _Study(NamedTuple):
+    """A command: what it answers, and an example of its use."""
+
+    answer: str
+    example: str
+
+
+_INSTANCE = "printf 'square,2,2\\n3,4\\n2,-5\\nend\\n' | python3 -m ising2d {0}"
+_RING = "printf 'cylinder,1,3\\n5,7,2\\nend\\n' | python3 -m ising2d {0}"
+
+_STUDIES = {
+    "energy": _Study("the least energy, and spins that have it", _INSTANCE),
+    "ground": _Study("the same, and the loops that prove it", _INSTANCE),
+    "wall": _Study("what a domain wall at the seam costs", _RING),
+    "bonds": _Study("what it costs to turn each bond", _INSTANCE),
+    "clusters": _Study("the rigid cluster of each spin", _INSTANCE),
+    "report": _Study("all of these at once, as one line of JSON", _RING),
+    "ranges": _Study("the coupling of each bond at which the ground states turn", _RING),
+    "maxcut": _Study("the largest cut with the couplings as weights, and loops that prove it", _INSTANCE),
+    "check": _Study(
+        "whether a result behind its instance is proved",
+        "cat instance.txt answer.txt | python3 -m ising2d {0}",
+    ),
+    "tjoin": _Study(
+        "a least join of the terminals, and cuts that prove it",
+        "printf 'graph,2\\nedge,0,1,5\\nterm,0,1\\nend\\n' | python3 -m ising2d {0}",
+    ),
+    "postman": _Study(
+        "a shortest closed walk over every edge, and cuts that prove it",
+        "printf 'graph,2\\nedge,0,1,5\\nend\\n' | python3 -m ising2d {0}",
+    ),
+}
+
+_DRAWN = {
+    "gen": (
+        ("LAW", "SEED", "KIND", "ROWS", "COLS"),
+        _Study("a drawn instance", "python3 -m ising2d gen pm 7 square 4 4"),
+    ),
+    "sample": (
+        ("LAW", "SEED", "ROWS", "COLS"),
+        _Study("the least energy of a drawn square lattice", "python3 -m ising2d sample pm 7 24 24"),
+    ),
+    "ensemble": (
+        ("LAW", "SEED", "ROWS", "COLS", "COUNT"),
+        _Study(
+            "what a domain wall costs on each of many drawn cylinders",
+            "python3 -m ising2d ensemble pm 1 8 8 10",
+        ),
+    ),
+    "widths": (
+        ("LAW", "SEED", "ROWS", "MAXCOLS", "COUNT"),
+        _Study(
+            "the sums of such ensembles for each number of columns from 3 on",
+            "python3 -m ising2d widths pm 1 4 6 10",
+        ),
+    ),
+}
+
+_WORDS = {
+    "LAW": "one, alternate, pm or uniform",
+    "SEED": "0 to 18446744073709551615",
+    "KIND": "square, triangular, hexagonal or cylinder",
+    "ROWS": "1 or more, ROWS times COLS (MAXCOLS) at most 2048",
+    "COLS": "1 or more; hexagonal 2, cylinder and ensemble 3 or more",
+    "MAXCOLS": "3 to 64",
+    "COUNT": "1 to 1000",
+}
+
+_LINES = (
+    'printf \'{"id":1,"kind":"square","rows":1,"cols":2,"couplings":[5]}\\n\' | '
+    "python3 -m ising2d lines energy"
+)
+
+
+def _say(text: str) -> None:
+    print(f"{_NAME}: {text}", file=sys.stderr)
+
+
+def _parser() -> argparse.ArgumentParser:
+    parser = argparse.ArgumentParser(
+        prog=f"python3 -m {_NAME}",
+        formatter_class=argparse.RawDescriptionHelpFormatter,
+        description="Exact ground states of planar two-dimensional Ising spin glasses, with proofs.",
+        epilog=f"example:\n  {_RING.replace('{0}', 'ground')}\n\nCOMMAND --help says more of a command, with an example.",
+    )
+    parser.add_argument("--version", action="version", version=f"{_NAME} {VERSION}")
+    commands = parser.add_subparsers(dest="command", metavar="COMMAND", required=True)
+    for name, study in _STUDIES.items():
+        _files(_command(commands, name, study))
+    for name, (words, study) in _DRAWN.items():
+        own = _command(commands, name, study)
+        for word in words:
+            own.add_argument(word, help=_WORDS[word])
+    lines = _command(
+        commands, "lines", _Study("the answers to many instances, a line of JSON for each", _LINES)
+    )
+    lines.add_argument("study", choices=COMMANDS, metavar="COMMAND", help=", ".join(COMMANDS))
+    lines.add_argument("--jobs", type=_count, default=1, metavar="N", help="so many processes (1)")
+    _files(lines)
+    picture = _command(
+        commands, "svg", _Study("a picture of a ground state", _INSTANCE.replace("{0}", "svg > picture.svg"))
+    )
+    picture.add_argument("--show", choices=("ground", "clusters", "wall"), default="ground")
+    _files(picture)
+    return parser
+
+
+def _command(commands: Any, name: str, study: _Study) -> argparse.ArgumentParser:
+    example = study.example.replace("{0}", name)
+    own: argparse.ArgumentParser = commands.add_parser(
+        name,
+        help=study.answer,
+        formatter_class=argparse.RawDescriptionHelpFormatter,
+        description=study.answer[0].upper() + study.answer[1:] + ".",
+        epilog=f"example:\n  {example}",
+    )
+    return own
+
+
+def _files(own: argparse.ArgumentParser) -> None:
+    own.add_argument("files", nargs="*", metavar="FILE", help="standard input where none is named, or for -")
+    own.add_argument("--quiet", action="store_true", help="no bar that shows how far it is")
+
+
+def _count(text: str) -> int:
+    if not text.isdecimal() or int(text) < 1:
+        raise argparse.ArgumentTypeError(f"{text!r} is no number of processes (allowed: 1 or more)")
+    return int(text)
+
+
+def _input(name: str) -> bytes:
+    if name == "-":
+        return sys.stdin.buffer.read()
+    with open(name, "rb") as file:
+        return file.read()
+
+
+def _shown(name: str) -> str:
+    return "standard input" if name == "-" else name
+
+
+def _write(text: str) -> None:
+    sys.stdout.write(text)
+    sys.stdout.flush()
+
+
+def _study_files(command: str, names: Sequence[str], quiet: bool) -> int:
+    """Answers each file as the program does, and says on standard error why one is refused."""
+    status, several = 0, len(names) > 1
+    progress = Progress(len(names), several and not quiet)
+    for name in names:
+        given = _input(name)
+        found = run([command], given)
+        progress.step(1)
+        if several:
+            progress.end()
+            _write(f"# {name}\n")
+        _write(found.text)
+        if found.status == 1:
+            _say(sentence_of(refusal_of(found.text), given, command, _shown(name)))
+        if found.status == 3:
+            number, *kept = numbers_of(found.text)
+            _say(f"{_shown(name)}: {verdict_sentence(number, kept)}")
+        status = max(status, found.status)
+    progress.end()
+    return status
+
+
+def _draw(command: str, words: Sequence[str]) -> int:
+    found = run([command, *words])
+    _write(found.text)
+    if found.status == 1:
+        _say(refusal_of(found.text).sentence)
+    if found.status == 2:
+        names = _DRAWN[command][0]
+        given = "; ".join(f"{name} {word!r} (allowed: {_WORDS[name]})" for name, word in zip(names, words))
+        _say(f"one of the words is out of its range: {given}")
+    return found.status
+
+
+def _lines(options: argparse.Namespace, names: Sequence[str]) -> int:
+    status = 0
+    for name in names:
+        file = sys.stdin.buffer if name == "-" else open(name, "rb")
+        with file:
+            progress = Progress(_size(file), not options.quiet)
+            texts = (line.decode("utf-8", "replace") for line in file)
+            for line in answer_lines(options.study, texts, options.jobs):
+                _write(line.text + "\n")
+                progress.step(line.size)
+                status = max(status, line.status)
+            progress.end()
+    return status
+
+
+def _size(file: Any) -> Optional[int]:
+    """The size of a plain file; a pipe has none."""
+    try:
+        return os.fstat(file.fileno()).st_size or None
+    except (OSError, ValueError):
+        return None
+
+
+def _picture(show: str, name: str) -> int:
+    from ._pictures import svg
+
+    given = _input(name)
+    try:
+        instance = read(given)
+        answer: Any = instance.ground()
+        if show == "clusters":
+            answer = instance.clusters()
+        if show == "wall":
+            answer = instance.wall(states=True)
+    except Refusal as refusal:
+        _say(sentence_of(refusal, given, "ground", _shown(name)))
+        return 1
+    _write(svg(answer) + "\n")
+    return 0
+
+
+def _answered(options: argparse.Namespace) -> int:
+    if options.command in _DRAWN:
+        return _draw(options.command, [getattr(options, word) for word in _DRAWN[options.command][0]])
+    names: List[str] = options.files or ["-"]
+    if options.command == "lines":
+        return _lines(options, names)
+    if options.command == "svg":
+        return max(_picture(options.show, name) for name in names)
+    return _study_files(options.command, names, options.quiet)
+
+
+def _parsed(words: Optional[Sequence[str]]) -> argparse.Namespace:
+    """The words, where files may stand behind options, which argparse alone does not take."""
+    parser = _parser()
+    options, rest = parser.parse_known_args(words)
+    strange = [word for word in rest if word.startswith("-") and word != "-"]
+    if strange or (rest and not hasattr(options, "files")):
+        parser.error(f"unrecognized arguments: {' '.join(strange or rest)}")
+    if rest:
+        options.files = options.files + rest
+    return options
+
+
+def main(words: Optional[Sequence[str]] = None) -> int:
+    """Answers the words, and returns the exit status: as of the program, and 130 for Ctrl-C."""
+    options = _parsed(words)
+    try:
+        return _answered(options)
+    except KeyboardInterrupt:
+        return 130
+    except BrokenPipeError:
+        # Whoever read the answers has had enough. Nothing more is to be written at the end.
+        os.dup2(os.open(os.devnull, os.O_WRONLY), sys.stdout.fileno())
+        return 5
+    except MemoryError:
+        _say("no memory left")
+        return 6
+    except (OSError, ValueError) as fault:
+        _say(str(fault))
+        return 4

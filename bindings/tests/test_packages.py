@@ -1,0 +1,92 @@
+"""Installing: wheels, an editable install, and one that comes before the library is made. No network."""
+
+import os
+import shutil
+import subprocess
+import sys
+import tempfile
+import unittest
+import zipfile
+from pathlib import Path
+
+import ising2d
+
+SOURCE = Path(__file__).resolve().parents[1] / "python"
+LIBRARY = Path(ising2d._library.library._name)
+
+
+class Packages(unittest.TestCase):
+    @classmethod
+    def setUpClass(cls):
+        cls.room = Path(tempfile.mkdtemp())
+        cls.addClassCleanup(shutil.rmtree, cls.room, ignore_errors=True)
+        cls.source = cls.room / "clone" / "bindings" / "python"
+        shutil.copytree(SOURCE, cls.source, ignore=shutil.ignore_patterns("__pycache__"))
+        made = subprocess.run(
+            [sys.executable, "-m", "venv", str(cls.room / "venv")], capture_output=True, text=True
+        )
+        cls.python = cls.room / "venv" / "bin" / "python"
+        if made.returncode != 0:
+            raise unittest.SkipTest("there is no venv")
+
+    def setUp(self):
+        built = self.source.parents[1] / "built"
+        built.mkdir(exist_ok=True)
+        shutil.copy(LIBRARY, built / "libising2d.so")
+
+    def run_there(self, *words):
+        bare = {
+            name: value for name, value in os.environ.items() if name not in ("PYTHONPATH", "ISING2D_LIBRARY")
+        }
+        return subprocess.run(
+            [str(self.python), *words], capture_output=True, text=True, cwd=self.room, env=bare
+        )
+
+    def install(self, *words):
+        return self.run_there(
+            "-m", "pip", "install", "--no-index", "--disable-pip-version-check", "--force-reinstall", *words
+        )
+
+    def works(self):
+        found = self.run_there(
+            "-c",
+            "import ising2d; print(ising2d.ground('square', 2, 2, [3, 4, 2, -5]).energy, ising2d.__file__)",
+        )
+        self.assertEqual((found.stdout.split()[:1], found.stderr), (["-10"], ""))
+        version = subprocess.run(
+            [str(self.python.with_name("ising2d-py")), "--version"], capture_output=True, text=True
+        )
+        self.assertEqual(version.stdout, f"ising2d {ising2d.__version__}\n")
+        return found.stdout.split()[1]
+
+    def test_before_the_library_is_made(self):
+        (self.source.parents[1] / "built" / "libising2d.so").unlink()
+        for words in ((str(self.source),), ("-e", str(self.source))):
+            found = self.install(*words)
+            self.assertNotEqual(found.returncode, 0)
+            self.assertIn("Make it with bindings/build, and install again", found.stdout + found.stderr)
+
+    def test_from_the_folder(self):
+        found = self.install(str(self.source))
+        self.assertEqual(found.returncode, 0, found.stderr)
+        self.assertIn("site-packages", self.works())
+
+    def test_editable(self):
+        found = self.install("-e", str(self.source))
+        self.assertEqual(found.returncode, 0, found.stderr)
+        self.assertEqual(Path(self.works()).parents[1], self.source.resolve())
+
+    def test_the_tag(self):
+        found = self.run_there(str(self.source / "make_wheel.py"), str(self.room))
+        name = found.stdout.strip()
+        self.assertRegex(name, r"^ising2d-[0-9.]+-py3-none-manylinux_2_[0-9]+_\w+\.whl$")
+        with zipfile.ZipFile(self.room / name) as archive:
+            self.assertIn("ising2d/libising2d.so", archive.namelist())
+            self.assertIsNone(archive.testzip())
+        first = (self.room / name).read_bytes()
+        self.run_there(str(self.source / "make_wheel.py"), str(self.room))
+        self.assertEqual((self.room / name).read_bytes(), first)
+
+
+if __name__ == "__main__":
+    unittest.main()

@@ -1,0 +1,285 @@
+"""The command line: files and streams, help, refusals in words, lines of JSON."""
+
+import json
+import os
+import signal
+import subprocess
+import sys
+import tempfile
+import time
+import unittest
+from pathlib import Path
+
+import ising2d
+from test_calls import EXAMPLES
+
+SQUARE = "square,2,2\n3,4\n2,-5\nend\n"
+
+
+def program(*words, input=b"", **wishes):
+    given = input.encode() if isinstance(input, str) else input
+    return subprocess.run(
+        [sys.executable, "-m", "ising2d", *words], input=given, capture_output=True, **wishes
+    )
+
+
+class Commands(unittest.TestCase):
+    def test_each_example_is_answered_as_by_the_program(self):
+        for given in sorted(EXAMPLES.glob("*/*.txt")):
+            with self.subTest(example=given.name):
+                found = program(given.parent.name, str(given))
+                wanted = ising2d.run([given.parent.name], given.read_bytes())
+                self.assertEqual((found.stdout.decode(), found.returncode), (wanted.text, wanted.status))
+                self.assertEqual(bool(found.stderr), wanted.status != 0)
+
+    def test_each_help_has_an_example_that_runs(self):
+        names = [
+            "energy",
+            "ground",
+            "wall",
+            "bonds",
+            "clusters",
+            "report",
+            "ranges",
+            "maxcut",
+            "tjoin",
+            "postman",
+            "gen",
+            "sample",
+            "ensemble",
+            "widths",
+            "lines",
+            "svg",
+        ]
+        for name in names:
+            with self.subTest(command=name):
+                told = program(name, "--help").stdout.decode()
+                example = told.partition("example:\n")[2].strip()
+                example = example.replace("python3", sys.executable)
+                with tempfile.TemporaryDirectory() as folder:
+                    ran = subprocess.run(["sh", "-c", example], capture_output=True, text=True, cwd=folder)
+                    written = ran.stdout or "".join(path.read_text() for path in Path(folder).iterdir())
+                self.assertEqual((ran.returncode, ran.stderr), (0, ""), example)
+                self.assertTrue(written)
+
+    def test_version_and_words(self):
+        self.assertEqual(program("--version").stdout.decode(), f"ising2d {ising2d.__version__}\n")
+        self.assertIn(b"COMMAND", program("--help").stdout)
+        for words in ((), ("nothing",), ("lines", "nothing"), ("lines", "energy", "--jobs", "0")):
+            found = program(*words)
+            self.assertEqual((found.returncode, found.stdout), (2, b""))
+            self.assertTrue(found.stderr)
+
+    def test_several_files(self):
+        files = [str(EXAMPLES / "energy" / name) for name in ("frustrated-square.txt", "torus.txt")]
+        found = program("energy", *files)
+        self.assertEqual(found.returncode, 1)
+        self.assertEqual(
+            [line for line in found.stdout.decode().splitlines() if line[0] == "#"],
+            [f"# {name}" for name in files],
+        )
+
+    def test_draws(self):
+        self.assertEqual(
+            program("gen", "pm", "42", "square", "2", "2").stdout, b"square,2,2\n-1,-1,1,-1\nend\n"
+        )
+        found = program("ensemble", "pm", "1", "8", "8", "1001")
+        self.assertEqual((found.returncode, found.stdout), (2, b"usage\n"))
+        self.assertIn(b"COUNT '1001' (allowed: 1 to 1000)", found.stderr)
+
+    def test_no_such_file(self):
+        found = program("energy", "/nowhere")
+        self.assertEqual((found.returncode, found.stdout), (4, b""))
+        self.assertIn(b"/nowhere", found.stderr)
+
+    def test_pictures(self):
+        for show, text in (("ground", SQUARE), ("clusters", SQUARE), ("wall", "cylinder,1,3\n5,7,2\nend\n")):
+            self.assertTrue(program("svg", "--show", show, input=text).stdout.startswith(b"<svg"))
+        self.assertEqual(program("svg", input="square,2\n").returncode, 1)
+
+
+class Terminals(unittest.TestCase):
+    def test_a_bar_where_standard_error_is_a_terminal(self):
+        line = json.dumps(ising2d.draw("pm", 1, "square", 24, 24).as_json())
+        with tempfile.NamedTemporaryFile("w", suffix=".jsonl") as file:
+            file.write((line + "\n") * 300)
+            file.flush()
+            for wishes, shown in (((), True), (("--quiet",), False)):
+                ours, theirs = os.openpty()
+                ran = subprocess.run(
+                    [sys.executable, "-m", "ising2d", "lines", "ground", *wishes, file.name],
+                    stdout=subprocess.PIPE,
+                    stderr=theirs,
+                )
+                os.close(theirs)
+                told = self.all_of(ours)
+                self.assertEqual((ran.returncode, len(ran.stdout.splitlines())), (0, 300))
+                self.assertEqual(b"%" in told and b" a second" in told, shown)
+
+    def all_of(self, terminal):
+        parts = []
+        try:
+            while parts.append(os.read(terminal, 65536)) or parts[-1]:
+                pass
+        except OSError:  # the other end is closed
+            pass
+        os.close(terminal)
+        return b"".join(parts)
+
+    def test_ctrl_c(self):
+        text = ising2d.run(["gen", "uniform", "1", "square", "45", "45"]).text
+        with tempfile.NamedTemporaryFile("w") as file:
+            file.write(text)
+            file.flush()
+            words = [sys.executable, "-m", "ising2d", "bonds", *[file.name] * 50]
+            with subprocess.Popen(words, stdout=subprocess.PIPE) as child:
+                self.assertTrue(child.stdout.readline())
+                begun = time.monotonic()
+                child.send_signal(signal.SIGINT)
+                self.assertEqual(child.wait(20), 130)
+                self.assertLess(time.monotonic() - begun, 1.0)
+
+    def test_a_reader_that_goes_away(self):
+        ran = subprocess.run(
+            ["sh", "-c", f"{sys.executable} -m ising2d gen pm 1 square 45 45 | head -n 1"],
+            capture_output=True,
+        )
+        self.assertEqual((ran.stdout, ran.stderr), (b"square,45,45\n", b""))
+
+
+class Refusals(unittest.TestCase):
+    ROWS = (
+        (
+            "energy",
+            "\n\nsquare,2,2\n\n3,4\n2,x\nend\n",
+            "line 6, field 2: 'x' cannot stand there (allowed: a coupling: a whole number",
+        ),
+        ("energy", "square,2.5,2\n", "line 1, field 2: '2.5' cannot stand there (allowed: rows: 1 or more"),
+        ("energy", "cylinder,3,2\n", "line 1, field 3: '2' cannot stand there (allowed: columns: 3 or more"),
+        ("energy", "torus,2,2\n", "line 1: 'torus' cannot stand there (allowed: square, triangular"),
+        ("energy", "Square,2,2\n", "line 1: 'Square' cannot stand there"),
+        ("energy", "square;2;2\n", "line 1: 'square;2;2' cannot stand there"),
+        (
+            "energy",
+            "square,2\n",
+            "line 1: 'square,2' has a wrong number of fields, or comes a second time (allowed: square,ROWS,COLS",
+        ),
+        (
+            "energy",
+            "general,2\nbond,0,5,1\nend\n",
+            "line 2, field 3: '5' cannot stand there (allowed: a spin from 0",
+        ),
+        (
+            "energy",
+            "general,2\nedge,0,1,1\nend\n",
+            "line 2: 'edge' cannot stand there (allowed: bond, rot, seam, end",
+        ),
+        ("energy", "general,2\nbond,1,1,1\nend\n", "line 2: both ends of bond 0 are the same spin"),
+        (
+            "energy",
+            "general,2\nbond,0,1,1\nrot,0,0\nrot,1,0\nend\n",
+            "line 4: the list of spin 1 is wrong at dart 0",
+        ),
+        ("energy", SQUARE + "7\n", "line 5: '7' stands behind the end"),
+        (
+            "energy",
+            "square,2,2\n3\nend\n",
+            "standard input: there are 1 couplings (allowed: one for each bond of the lattice, 4)",
+        ),
+        ("energy", "square,2,2\n3\n", "the records end before the awaited end"),
+        ("energy", '{"kind":"kagome"}', 'there is no such kind: "kagome"'),
+        ("energy", '{"kind":"square","rows":2,"cols":2,"couplings":[3,4,"x",1]}', 'coupling 2 is wrong: "x"'),
+        ("energy", '{"kind":"square","rows":2}', "there is no member cols"),
+        ("energy", '{"kind":"square","rows":2,"cols":1,"couplings":[1],"field":3}', "'field'"),
+        ("energy", '{"kind":', "no JSON"),
+        (
+            "check",
+            SQUARE + "energy,-10\nspins,1,1,0,1\nend\n",
+            "line 6, field 4: '0' cannot stand there (allowed: 1 or -1",
+        ),
+        ("check", SQUARE + "spins,1\n", "line 5: 'spins' cannot stand there (allowed: energy"),
+        (
+            "check",
+            SQUARE + "energy,-9\nspins,1,1,-1,-1\nend\n",
+            "the spins have the energy -10, and not the stated one",
+        ),
+        (
+            "tjoin",
+            "graph,2\nedge,0,1,-5\nend\n",
+            "line 2, field 4: '-5' cannot stand there (allowed: a weight from 0",
+        ),
+        ("tjoin", "graph,2\nedge,0,1,5\nterm,0\nend\n", "line 3: there are 1 terminals"),
+        ("postman", "graph,2\nterm,0\nend\n", "line 2: 'term' cannot stand there (allowed: edge, end"),
+        ("energy", b"\xff\xfes\x00q\x00", "line 1: "),
+    )
+
+    def test_each_has_a_sentence(self):
+        for command, text, sentence in self.ROWS:
+            with self.subTest(text=text):
+                found = program(command, input=text)
+                self.assertIn(sentence, found.stderr.decode())
+                given = text.encode() if isinstance(text, str) else text
+                self.assertEqual(found.stdout.decode(), ising2d.run([command], given).text)
+
+
+class Lines(unittest.TestCase):
+    def test_ids_travel_along(self):
+        lines = []
+        for k in range(40):
+            instance = ising2d.draw("pm", k, "cylinder", 3, 4)
+            lines.append(json.dumps({"id": f"no. {k}", **instance.as_json()}))
+        given = "\n\n".join(lines)
+        for command in ("energy", "ground", "wall", "bonds", "clusters", "ranges", "maxcut", "report"):
+            with self.subTest(command=command):
+                alone = program("lines", command, input=given)
+                self.assertEqual((alone.returncode, alone.stderr), (0, b""))
+                answers = [json.loads(line) for line in alone.stdout.splitlines()]
+                self.assertEqual([answer["id"] for answer in answers], [f"no. {k}" for k in range(40)])
+        self.assertEqual(program("lines", "report", "--jobs", "3", input=given).stdout, alone.stdout)
+
+    def test_a_report_is_that_of_the_program(self):
+        instance = ising2d.draw("pm", 1, "cylinder", 3, 4)
+        found = json.loads(program("lines", "report", input=json.dumps(instance.as_json())).stdout)
+        self.assertEqual(found, json.loads(ising2d.run(["report"], json.dumps(instance.as_json())).text))
+
+    def test_a_proof_goes_round(self):
+        instance = ising2d.draw("pm", 1, "cylinder", 3, 4).as_json()
+        found = json.loads(program("lines", "ground", input=json.dumps(instance)).stdout)
+        found = program("lines", "check", input=json.dumps({"id": [1], **instance, **found}))
+        self.assertEqual(json.loads(found.stdout)["holds"], True)
+        self.assertEqual(found.returncode, 0)
+        forged = {**instance, "energy": 0, "spins": [1] * 12, "loops": []}
+        found = program("lines", "check", input=json.dumps(forged))
+        self.assertEqual((found.returncode, json.loads(found.stdout)["holds"]), (3, False))
+
+    def test_joins(self):
+        text = '{"id":1,"n":3,"edges":[[0,1,2],[1,2,3],[0,2,4]],"terminals":[0,2]}'
+        found = json.loads(program("lines", "tjoin", input=text).stdout)
+        self.assertEqual((found["id"], found["weight"], found["edges"]), (1, 4, [2]))
+
+    def test_a_bad_line_is_answered_and_the_rest_too(self):
+        good = '{"id":%d,"kind":"square","rows":1,"cols":2,"couplings":[5]}'
+        bad = [
+            "{",
+            "7",
+            '{"id":9}',
+            '{"id":9,"kind":"square","rows":1,"cols":2,"couplings":[1.5]}',
+            '{"id":9,"kind":"square","rows":1,"cols":2,"couplings":[true]}',
+            '{"id":9,"kind":"square","rows":1,"cols":2,"couplings":[5,5]}',
+            '{"id":9,"kind":[1],"rows":1}',
+            '{"id":9,"kind":"general","n":2,"bonds":[[0,1]],"rotation":[[0],[1]]}',
+            "[" * 100000,
+        ]
+        lines = [line for one in bad for line in (good % 1, one)]
+        found = program("lines", "energy", input="\n".join(lines))
+        answers = [json.loads(line) for line in found.stdout.splitlines()]
+        self.assertEqual(found.returncode, 1)
+        self.assertEqual([answer.get("energy") for answer in answers], [-5, None] * len(bad))
+        for place, answer in enumerate(answers):
+            if "energy" not in answer:
+                self.assertEqual(answer["line"], place + 1)
+                self.assertTrue(answer["refused"] and answer["sentence"], answer)
+
+
+if __name__ == "__main__":
+    unittest.main()

@@ -1,0 +1,178 @@
+"""Wrong input: which exception it raises, and that its text names the value and what is allowed."""
+
+import os
+import subprocess
+import sys
+import tempfile
+import unittest
+from pathlib import Path
+
+import ising2d
+from ising2d import Graph, Refusal
+
+try:
+    import numpy
+except ImportError:
+    numpy = None
+
+SQUARE = ("square", 2, 2, [3, 4, 2, -5])
+
+
+def told(call, *arguments, **named):
+    """The class of what a call raises, and its text."""
+    try:
+        call(*arguments, **named)
+    except Exception as fault:
+        return type(fault), str(fault)
+    return None, ""
+
+
+class Texts(unittest.TestCase):
+    ROWS = (
+        (ising2d.ground, ("kagome", 2, 2, []), Refusal, ("'kagome'", "square, triangular")),
+        (ising2d.ground, ("square", 0, 2, []), Refusal, ("rows", ": 0", "1 or more")),
+        (ising2d.ground, ("cylinder", 2, 2, [1]), Refusal, ("columns", ": 2", "cylinder 3")),
+        (ising2d.ground, ("square", 45, 46, []), Refusal, ("2070 spins", "at most 2048")),
+        (ising2d.ground, ("square", 2, 2, [1]), Refusal, ("1 couplings", "lattice, 4")),
+        (
+            ising2d.ground,
+            ("square", 2, 2, [3, 4, 2, -(2**63)]),
+            Refusal,
+            ("coupling 3", str(-(2**63)), "2**63 - 1"),
+        ),
+        (ising2d.ground, ("square", 1, 2, [2**45]), Refusal, (str(2**45), "2**44")),
+        (ising2d.wall, SQUARE, Refusal, ("seam", "cylinder")),
+        (ising2d.ground, ("square", 2.0, 2, []), TypeError, ("rows", "whole number", "float 2.0")),
+        (ising2d.ground, ("square", None, 2, []), TypeError, ("rows", "None")),
+        (ising2d.ground, ("square", 2, -1, []), OverflowError, ("cols", "-1", "0 to 4294967295")),
+        (ising2d.ground, (2.0, 2, 2, []), TypeError, ("kind", "square", "2.0")),
+        (ising2d.ground, ("square", 2, 2, {3, 4, 2}), TypeError, ("couplings", "set has no order")),
+        (ising2d.ground, ("square", 2, 2, {0: 1}), TypeError, ("couplings", "dict has no order")),
+        (ising2d.ground, ("square", 2, 2, "3425"), TypeError, ("couplings", "text '3425'")),
+        (ising2d.ground, ("square", 2, 2, 7), TypeError, ("couplings", "a list is wanted", "an int")),
+        (ising2d.ground, ("square", 2, 2, [3, 4, 2, 0.5]), TypeError, ("couplings", "float 0.5")),
+        (ising2d.ground, ("square", 2, 2, [3, 4, 2, 2**63]), OverflowError, ("couplings", str(2**63))),
+        (ising2d.check, (*SQUARE, -10.0, [1] * 4, []), TypeError, ("energy", "float -10.0")),
+        (ising2d.check, (*SQUARE, -10, [1, 1, 0, 1], []), Refusal, ("spin 2", ": 0", "1 or -1")),
+        (ising2d.check, (*SQUARE, -10, [1] * 4, [3]), TypeError, ("loops", "weight and bonds", "3")),
+        (ising2d.check, (*SQUARE, -10, [1] * 4, {(4, (0,))}), TypeError, ("loops", "set has no order")),
+        (ising2d.check, (*SQUARE, -10, [1] * 4, [(4, {0, 1})]), TypeError, ("bonds of a loop", "no order")),
+        (Graph(0, [], []).ground, (), Refusal, ("number of spins", ": 0", "1 or more")),
+        (Graph(2, [(0, 5, 1)], [[0], [1]]).ground, (), Refusal, ("bond 0", "(0, 5, 1)", "from 0 to n - 1")),
+        (Graph(2, [(1, 1, 1)], [[0], [1]]).ground, (), Refusal, ("bond 0", "(1, 1, 1)", "two spins")),
+        (Graph(2, [(0, 1, 1)], [[0], [0]]).ground, (), Refusal, ("spin 1", "dart 0", "[0]")),
+        (
+            Graph(2, [(0, 1)], [[0], [1]]).ground,
+            (),
+            TypeError,
+            ("bonds", "two spins and a coupling", "(0, 1)"),
+        ),
+        (Graph(2, [(0, 1, 1.5)], [[0], [1]]).ground, (), TypeError, ("couplings of the bonds", "1.5")),
+        (Graph(2, [(0, 1, 1)], 5).ground, (), TypeError, ("rotation", "an int")),
+        (Graph(2.0, [], []).ground, (), TypeError, ("n:", "float 2.0")),
+        (Graph(2, [(0, 1, 1)], seam={0}).wall, (), TypeError, ("seam", "no order")),
+        (ising2d.tjoin, (2, [(0, 1, 5)], [0]), Refusal, ("1 terminals", "even")),
+        (ising2d.tjoin, (2, [(0, 1, 5)], [0, 7]), Refusal, ("terminal 7",)),
+        (ising2d.tjoin, (2, [(0, 9, 5)], []), Refusal, ("edge 0", "(0, 9, 5)", "from 0 to 1")),
+        (ising2d.postman, (2, []), Refusal, ("node 1", "one component")),
+        (ising2d.draw, ("normal", 1, "square", 2, 2), Refusal, ("law", "one, alternate, pm, uniform")),
+        (ising2d.draw, ("pm", -1, "square", 2, 2), ValueError, ("seed is -1", "0 to")),
+        (ising2d.ensemble, ("pm", 1, 8, 8, 1001), ValueError, ("count is 1001", "1 to 1000")),
+        (ising2d.ensemble, ("pm", 1, 8, 2, 10), ValueError, ("cols is 2", "3 to")),
+        (ising2d.sample, ("pm", 1, 46, 46), ValueError, ("2116 spins", "2048")),
+        (ising2d.run, ("ground",), TypeError, ("words", "'ground'")),
+        (ising2d.run, (["ground"], 5), TypeError, ("input", "5")),
+        (ising2d.run, (["a\0"],), ValueError, ("NUL",)),
+    )
+
+    def test_each_names_the_value_and_what_is_allowed(self):
+        for call, arguments, kind, parts in self.ROWS:
+            with self.subTest(call=call, arguments=arguments):
+                raised, text = told(call, *arguments)
+                self.assertIs(raised, kind, text)
+                for part in parts:
+                    self.assertIn(part, text)
+
+    def test_every_number_has_a_sentence(self):
+        for number in (*range(1, 14), *range(15, 24)):
+            refusal = Refusal(number, (1, 2))
+            self.assertNotEqual(refusal.name, "Refused")
+            self.assertNotIn("{", refusal.sentence)
+        for place in range(1, 12):
+            self.assertIn("allowed", Refusal(19, (place, 0)).sentence)
+        self.assertEqual(Refusal(99).name, "Refused")
+
+
+@unittest.skipIf(numpy is None, "numpy is not there")
+class Numpy(unittest.TestCase):
+    def test_arrays_of_all_kinds(self):
+        energy = ising2d.ground(*SQUARE).energy
+        for kind in ("int8", "int16", "int32", "int64", ">i4", "O"):
+            for given in (
+                numpy.array(SQUARE[3], dtype=kind),
+                numpy.array([SQUARE[3]] * 2, dtype=kind).T[:, 0],
+            ):
+                found = ising2d.ground("square", 2, 2, given)
+                self.assertEqual(found.energy, energy)
+                self.assertIsInstance(found.spins, numpy.ndarray)
+                self.assertEqual((found.spins.dtype, found.spins.shape), ("int8", (4,)))
+                self.assertTrue(ising2d.check("square", 2, 2, given, found.energy, found.spins, found.loops))
+        self.assertEqual(ising2d.ground("square", numpy.int64(2), numpy.uint8(2), SQUARE[3]).energy, energy)
+        self.assertEqual(ising2d.costs(*SQUARE).dtype, "int64")
+        self.assertEqual(numpy.asarray(ising2d.clusters(*SQUARE)).dtype, "uint32")
+        self.assertEqual(Graph(2, numpy.array([[0, 1, 7]]), [[0], [1]]).ground().energy, -7)
+
+    def test_wrong_arrays(self):
+        floats, masked = numpy.array([3.0, 4, 2, -5]), numpy.ma.masked_array(SQUARE[3], [0, 1, 0, 0])
+        for given, part in (
+            (floats, "float64"),
+            (masked, "masked"),
+            (numpy.array(list("abcd")), "<U1"),
+            (numpy.array(["a"], dtype="O"), "str 'a'"),
+        ):
+            raised, text = told(ising2d.ground, "square", 2, 2, given)
+            self.assertIs(raised, TypeError)
+            self.assertIn(part, text)
+        raised, text = told(Graph(2, numpy.array([[0, 1, 7.0]]), [[0], [1]]).ground)
+        self.assertEqual(
+            (raised, text), (TypeError, "bonds: whole numbers are wanted, and not an array of float64")
+        )
+        raised, text = told(ising2d.check, *SQUARE, -10, numpy.array([1, 1, 300, 1]), [])
+        self.assertIs(raised, OverflowError)
+        self.assertIn("300", text)
+
+    def test_arrays_of_answers_are_not_changed(self):
+        with self.assertRaises(ValueError):
+            ising2d.ground(*SQUARE).spins[0] = -1
+
+
+class TheLibrary(unittest.TestCase):
+    def load(self, value, folder=None):
+        """Imports the package with this place of the library."""
+        code = "import ising2d; print(ising2d.ground('square', 2, 2, [3, 4, 2, -5]).energy)"
+        return subprocess.run(
+            [sys.executable, "-c", code],
+            capture_output=True,
+            text=True,
+            cwd=folder,
+            env=dict(
+                os.environ, ISING2D_LIBRARY=value, PYTHONPATH=str(Path(ising2d.__file__).resolve().parents[1])
+            ),
+        )
+
+    def test_a_relative_place(self):
+        place = Path(ising2d._library.library._name)
+        found = self.load(place.name, place.parent)
+        self.assertEqual((found.stdout, found.stderr), ("-10\n", ""))
+
+    def test_a_place_with_nothing_or_something_else(self):
+        self.assertIn(
+            "ImportError: ISING2D_LIBRARY names /nowhere/x.so, and there is no such file",
+            self.load("/nowhere/x.so").stderr,
+        )
+        with tempfile.NamedTemporaryFile(suffix=".so") as file:
+            self.assertIn("is no library of ising2d", self.load(file.name).stderr)
+
+
+if __name__ == "__main__":
+    unittest.main()
