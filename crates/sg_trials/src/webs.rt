@@ -22,7 +22,6 @@ fn assert_nest(rt: &impl Abort, alloc: Global, network: &Network, text: &str) ->
     let Some(proposal) = propose_nest(alloc, web, terminals)? else {
         return Err(Fail::new("there is a nest"));
     };
-    assert!(rt; proposal.nest.regions.len() < 1 << 26);
     let is_proved = proves(alloc, web, terminals, &proposal.edges, &proposal.nest)?;
     assert!(rt; is_proved, "{text}");
     Ok(())
@@ -98,7 +97,7 @@ fn push_terminals(
 
 // A tree in which each node has an edge to an earlier one, and more edges between any two nodes, the
 // same ones again among them, or from a node to itself.
-fn drawn_web(
+pub fn drawn_web(
     alloc: Global,
     nodes: u32,
     more: u32,
@@ -133,7 +132,7 @@ fn drawn_webs(rt: HostRuntime) -> Result<(), Fail> {
 }
 
 // A node with an edge to each other one, and where it has a rim an edge from each of these to the next.
-fn drawn_star(
+pub fn drawn_star(
     alloc: Global,
     nodes: u32,
     has_rim: bool,
@@ -162,7 +161,7 @@ fn stars(rt: HostRuntime) -> Result<(), Fail> {
 }
 
 // A grid of so many rows and columns.
-fn drawn_grid(
+pub fn drawn_grid(
     alloc: Global,
     rows: u32,
     cols: u32,
