@@ -5,8 +5,8 @@ use Rattle.sg_planar.specs.Splitting.{placed_darts}
 use Rattle.sg_planar.proofs.PartPlaces.{listed_below, map_more}
 use Rattle.sg_planar.proofs.components.placed_rotation.Goals as goal
 
-pub placed_list-placed-requires-clause-below : goal.placed_list-placed-requires-clause-below
-placed_list-placed-requires-clause-below c =
+pub placed_list-requires-clause-below : goal.placed_list-requires-clause-below
+placed_list-requires-clause-below c =
     let inst = c.args.inst.now in
     let s : ℕ = get_or c.args.spins.now c.loop-spin.spin-index 0 in
     let is : c.at-darts.result.now ≡ darts_of inst s =
