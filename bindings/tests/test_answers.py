@@ -3,6 +3,7 @@ what answers and refusals are to Python: equal, hashed, pickled, interrupted."""
 
 import dataclasses
 import itertools
+import json
 import multiprocessing
 import os
 import pickle
@@ -15,7 +16,7 @@ import unittest
 
 import ising2d
 from ising2d import Graph, Lattice, Loop, Refusal
-from test_calls import CASES, SQUARE, drawn
+from test_calls import CASES, SQUARE, drawn, text_of
 from test_graphs import drawn as drawn_graph
 
 RING = ("cylinder", 1, 3, [5, 7, 2])
@@ -99,6 +100,19 @@ class Studies(unittest.TestCase):
         self.assertEqual((list(found), found.sizes), ([0, 0, 2, 2, 2], {2: 3, 0: 2}))
         self.assertEqual(found.members(2), [2, 3, 4])
         self.assertEqual((len(found), found[4]), (5, 2))
+
+    def test_a_lattice_is_read_as_it_is_written(self):
+        source = random.Random(16)
+        for _ in range(min(CASES, 200)):
+            lattice = Lattice(*drawn(source))
+            members = lattice.as_json()
+            self.assertEqual(ising2d.read(json.dumps(members)), lattice)
+            self.assertEqual(ising2d.read(text_of(*lattice._numbers())), lattice)
+            # With a seam of its own it is a graph, drawn as the lattice is.
+            graph = ising2d.read(json.dumps({**members, "seam": lattice.seam_bonds()}))
+            self.assertEqual(graph.ground().energy, lattice.ground().energy)
+            if lattice.seam_bonds():
+                self.assertEqual(graph.wall(), lattice.wall())
 
     def test_bonds_and_costs_are_one_call(self):
         self.assertIs(ising2d.bonds, ising2d.costs)

@@ -14,14 +14,16 @@ import ising2d
 from ising2d import Graph, Lattice
 
 PACKAGE = Path(ising2d.__file__).resolve().parent
-PAGES = (PACKAGE.parent / "README.md", PACKAGE.parents[2] / "docs" / "BINDINGS.md")
+DOCS = PACKAGE.parents[2] / "docs"
+PAGES = (PACKAGE.parent / "README.md", DOCS / "BINDINGS.md", DOCS / "TOUR.md")
 
 
 class Examples(unittest.TestCase):
     def test_of_each_module(self):
         tried = 0
         for found in pkgutil.iter_modules(ising2d.__path__):
-            if found.name == "__main__":
+            # Beside the modules an installed package has the library.
+            if not found.name.startswith("_") or found.name == "__main__":
                 continue
             with self.subTest(module=found.name):
                 results = doctest.testmod(importlib.import_module("ising2d." + found.name))

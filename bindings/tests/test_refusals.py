@@ -165,6 +165,10 @@ class TheLibrary(unittest.TestCase):
         found = self.load(place.name, place.parent)
         self.assertEqual((found.stdout, found.stderr), ("-10\n", ""))
 
+    def test_the_heap_is_not_seen_from_outside(self):
+        self.assertTrue(hasattr(ising2d._library.library, "ising2d_c_run"))
+        self.assertFalse(hasattr(ising2d._library.library, "rattle_alloc"))
+
     def test_a_place_with_nothing_or_something_else(self):
         self.assertIn(
             "ImportError: ISING2D_LIBRARY names /nowhere/x.so, and there is no such file",

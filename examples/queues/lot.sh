@@ -5,11 +5,13 @@
 #
 #   lot.sh LOT [FOLDER]
 #
-# Set PROGRAM for another program than built/ising2d of this clone.
+# Set PROGRAM for another program than built/ising2d of this clone, or ising2d where that is missing.
 set -eu
 
 here=$(cd "$(dirname "$0")" && pwd)
-program=${PROGRAM:-$here/../../built/ising2d}
+top=$here/../..
+program=${PROGRAM:-$top/built/ising2d}
+if [ ! -x "$program" ]; then program=$top/ising2d; fi
 lot=$1
 folder=${2:-.}
 whole=$folder/lot-$lot.txt

@@ -7,7 +7,7 @@ from ._answers import Clusters, Cut, DomainWall, Ground, Report, Turn, Verdict, 
 from ._arrays import as_array, whole_numbers
 from ._runs import answered, json_of, loops_in, members_of, one_of, records_in
 from ._loops import Loop
-from ._waiting import patiently
+from ._waiting import MANY_STATES, ONE_STATE, patiently
 
 Ends = List[Tuple[int, int]]
 Places = List[Tuple[float, float]]
@@ -110,13 +110,18 @@ class Instance:
 
     # The calls.
 
-    def _patiently(self, call: Any, *arguments: Any) -> Any:
-        return patiently(self.spin_room(), call, self, *arguments)
+    def _one(self, call: Any, *arguments: Any) -> Any:
+        """A call that finds or judges one ground state, or two."""
+        return patiently(self.spin_room() > ONE_STATE, call, self, *arguments)
+
+    def _many(self, call: Any, *arguments: Any) -> Any:
+        """A call that finds many ground states."""
+        return patiently(self.spin_room() > MANY_STATES, call, self, *arguments)
 
     def ground(self, loops: bool = True) -> Ground:
         """A ground state, with the least spin of each component up, and the loops that prove it; none
         with ``loops=False``."""
-        energy, spins, found = self._patiently(_crossing.ground_of, loops)
+        energy, spins, found = self._one(_crossing.ground_of, loops)
         return Ground(energy, spins, found, self)
 
     @overload
@@ -134,7 +139,7 @@ class Instance:
     def wall(self, states: bool = False) -> Union[Wall, DomainWall]:
         """What the least energy gains where the signs of the seam's couplings are changed. With
         ``states=True`` it has both ground states with their proofs, and the bonds between them."""
-        energies = Wall(*self._patiently(_crossing.wall_of))
+        energies = Wall(*self._one(_crossing.wall_of))
         return self._with_states(energies) if states else energies
 
     def _with_states(self, energies: Wall) -> DomainWall:
@@ -154,17 +159,17 @@ class Instance:
     def costs(self) -> Any:
         """What it costs to turn each bond, in the unit of the couplings: an array of shape
         ``(bonds,)``. A bond is rigid where it costs more than 0."""
-        return self._patiently(_crossing.costs_of)
+        return self._many(_crossing.costs_of)
 
     def clusters(self) -> Clusters:
         """The rigid clusters: for each spin the least spin of its cluster, and the sizes."""
-        return Clusters(self._patiently(_crossing.clusters_of), self)
+        return Clusters(self._many(_crossing.clusters_of), self)
 
     def check(self, energy: int, spins: Any, loops: Any) -> Verdict:
         """The verdict on a proof: the energy in the unit of the couplings, the spins of shape
         ``(spins,)``, and any loops. The instance need not be planar."""
         stated = _crossing.proof_of(energy, spins, loops)
-        return Verdict(*self._patiently(_crossing.check_of, stated))
+        return Verdict(*self._one(_crossing.check_of, stated))
 
     def ranges(self) -> List[Turn]:
         """For each bond the coupling at which the ground states turn, and the side on which its own

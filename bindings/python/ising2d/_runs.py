@@ -10,7 +10,7 @@ from ._crossing import NO_MEMORY
 from ._library import library
 from ._loops import Loop
 from ._refusals import refusal_of
-from ._waiting import SMALL, patiently
+from ._waiting import patiently
 
 Words = Sequence[str]
 
@@ -53,9 +53,9 @@ def _bytes(given: Union[str, bytes]) -> bytes:
 
 def _whole(words: bytes, given: bytes) -> Tuple[int, bytes]:
     """The status and the text. Which runs are short is not known, so each is waited for."""
-    status, text, length = patiently(SMALL + 1, _run, words, given, 65536)
+    status, text, length = patiently(True, _run, words, given, 65536)
     if length > len(text):
-        status, text, length = patiently(SMALL + 1, _run, words, given, length)
+        status, text, length = patiently(True, _run, words, given, length)
     if status == NO_MEMORY:
         raise MemoryError("the library has no memory left")
     return status, text

@@ -5,19 +5,20 @@ from typing import Any, Callable, List, TypeVar
 
 Result = TypeVar("Result")
 
-# Up to so many spins a call takes no time in which anybody would press Ctrl-C.
-SMALL = 48
+# Up to so many spins a call for one ground state, and for one of each bond, takes no time in which anybody
+# would press Ctrl-C.
+ONE_STATE, MANY_STATES = 256, 48
 
 
-def patiently(size: int, call: Callable[..., Result], *arguments: Any) -> Result:
-    """What the call returns, or raises.
+def patiently(long: bool, call: Callable[..., Result], *arguments: Any) -> Result:
+    """What the call returns, or raises; ``long`` is whether it may take long.
 
     Python tells a signal to the main thread alone, and only when no call of the library holds it. So
-    a call on an instance of some size is made in a thread of its own, while the main thread waits. An
-    interrupt ends the waiting at once; the call goes on to its end, with nobody to take its result,
-    and does not hold up the end of the process.
+    a call that may take long is made in a thread of its own, while the main thread waits. An interrupt
+    ends the waiting at once; the call goes on to its end, with nobody to take its result, and does not
+    hold up the end of the process.
     """
-    if size <= SMALL or threading.current_thread() is not threading.main_thread():
+    if not long or threading.current_thread() is not threading.main_thread():
         return call(*arguments)
     task = _Task(call, arguments)
     threading.Thread(target=task.work, daemon=True).start()

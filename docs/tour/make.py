@@ -1,0 +1,194 @@
+#!/usr/bin/env python3
+"""Makes docs/TOUR.md with its pictures: every number and picture of the page comes from here.
+
+    PYTHONPATH=bindings/python python3 docs/tour/make.py [--walls] [--times]
+
+It needs the library (bindings/build), numpy and matplotlib. The wall energies are drawn and the times
+measured again where that is asked for, which takes some minutes, and else read from docs/tour/walls.json
+and docs/tour/times.json; the times need networkx and scipy too.
+"""
+
+import concurrent.futures
+import json
+import multiprocessing
+import sys
+from pathlib import Path
+
+import matplotlib
+
+matplotlib.use("svg")
+matplotlib.rcParams.update({"svg.fonttype": "none", "svg.hashsalt": "ising2d"})
+import matplotlib.pyplot as plot
+import numpy
+
+import ising2d
+import peers
+
+HERE = Path(__file__).resolve().parent
+SIZES = (4, 6, 8, 12, 16, 24, 32, 44)
+LOTS, COUNT = 8, 1000
+LEAST_FITTED = 8
+HEIGHTS = (0.4, 0.5, 0.6, 0.7)
+LITERATURE = -0.28
+
+
+def walls_of(task):
+    """The sizes of the wall energies of one lot, with a seed of its own."""
+    size, lot = task
+    found = ising2d.ensemble("uniform", 1000 * size + lot, size, size, COUNT)
+    return size, numpy.abs(numpy.asarray(found.walls)).mean() / 2**20
+
+
+def stiffness():
+    """For each length the mean size of a wall energy and its error bar, over all lots."""
+    means = {size: [] for size in SIZES}
+    tasks = [(size, lot) for size in reversed(SIZES) for lot in range(LOTS)]
+    with concurrent.futures.ProcessPoolExecutor(mp_context=multiprocessing.get_context("spawn")) as pool:
+        for size, mean in pool.map(walls_of, tasks):
+            means[size].append(mean)
+    return [
+        (size, float(numpy.mean(own)), float(numpy.std(own, ddof=1)) / len(own) ** 0.5)
+        for size, own in means.items()
+    ]
+
+
+def fitted(rows):
+    """The slope of the logarithms and its error, each point weighed by its error bar; and the
+    intercept."""
+    x = numpy.log([size for size, _, _ in rows])
+    y = numpy.log([mean for _, mean, _ in rows])
+    weight = numpy.array([(mean / error) ** 2 for _, mean, error in rows])
+    mean_x, mean_y = (weight * x).sum() / weight.sum(), (weight * y).sum() / weight.sum()
+    spread = (weight * (x - mean_x) ** 2).sum()
+    slope = (weight * (x - mean_x) * (y - mean_y)).sum() / spread
+    return slope, spread**-0.5, mean_y - slope * mean_x
+
+
+def style(axes, x, y):
+    axes.set_xlabel(x)
+    axes.set_ylabel(y)
+    axes.spines[["top", "right"]].set_visible(False)
+    axes.legend(frameon=False, fontsize=8)
+
+
+def saved(figure, name):
+    figure.tight_layout()
+    figure.savefig(HERE / name, metadata={"Date": None})
+    plot.close(figure)
+
+
+def stiffness_picture(rows, slope, error, intercept):
+    sizes = numpy.array([size for size, _, _ in rows], float)
+    figure, axes = plot.subplots(figsize=(5, 3.4))
+    axes.errorbar(
+        sizes,
+        [mean for _, mean, _ in rows],
+        [bar for _, _, bar in rows],
+        fmt="o",
+        color="#222222",
+        ms=4,
+        capsize=3,
+        label=f"{LOTS * COUNT} cylinders each",
+    )
+    axes.plot(
+        sizes,
+        numpy.exp(intercept) * sizes**slope,
+        color="#0072B2",
+        label=f"fit: slope {slope:.3f} ± {error:.3f}",
+    )
+    shift = rows[-1][1] / sizes[-1] ** LITERATURE
+    axes.plot(
+        sizes,
+        shift * sizes**LITERATURE,
+        "--",
+        color="#D55E00",
+        label=f"slope {LITERATURE}, of the literature",
+    )
+    axes.set_xscale("log")
+    axes.set_yscale("log")
+    axes.set_xticks(SIZES, [str(size) for size in SIZES])
+    axes.set_yticks(HEIGHTS, [str(height) for height in HEIGHTS])
+    axes.minorticks_off()
+    style(axes, "length of the cylinder", "mean size of a wall energy")
+    saved(figure, "stiffness.svg")
+
+
+def times_picture(times):
+    figure, axes = plot.subplots(figsize=(5, 3.4))
+    looks = (("ising2d", "o-", "#0072B2"), ("networkx", "s--", "#D55E00"), ("scipy", "^:", "#009E73"))
+    for name, look, colour in looks:
+        own = [(row["size"], row[name]) for row in times if row.get(name) is not None]
+        axes.plot(*zip(*own), look, color=colour, label=peers.NAMES[name], ms=4)
+    axes.set_xscale("log")
+    axes.set_yscale("log")
+    sizes = [row["size"] for row in times]
+    axes.set_xticks(sizes, [str(size) for size in sizes])
+    axes.minorticks_off()
+    style(axes, "length of the lattice", "processor seconds for a ground state")
+    saved(figure, "times.svg")
+
+
+def pictures():
+    """The lattices, and what is said of them."""
+    lattice = ising2d.draw("pm", 5, "square", 8, 8)
+    found = lattice.ground()
+    (HERE / "ground.svg").write_text(found.svg() + "\n")
+    cylinder = ising2d.draw("uniform", 9, "cylinder", 12, 16)
+    wall = cylinder.wall(states=True)
+    (HERE / "wall.svg").write_text(wall.svg(cell=30) + "\n")
+    clusters = ising2d.draw("pm", 2, "square", 20, 20).clusters()
+    (HERE / "clusters.svg").write_text(clusters.svg(cell=26) + "\n")
+    sizes = list(clusters.sizes.values())
+    return {
+        "energy": found.energy,
+        "broken": len(found.broken()),
+        "weights": sum(loop.weight for loop in found.loops),
+        "sum": sum(abs(j) for j in lattice.couplings.tolist()),
+        "difference": wall.difference,
+        "length": wall.length,
+        "clusters": len(sizes),
+        "largest": sizes[0],
+        "second": sizes[1],
+    }
+
+
+def shown(seconds):
+    if seconds >= 1:
+        return f"{seconds:.1f} s"
+    return f"{1000 * seconds:.0f} ms" if seconds >= 0.1 else f"{1000 * seconds:.2g} ms"
+
+
+def table(times):
+    rows = ["| length | " + " | ".join(peers.NAMES.values()) + " |", "|---|" + "---|" * len(peers.NAMES)]
+    for row in times:
+        cells = (shown(row[name]) if row.get(name) is not None else "" for name in peers.NAMES)
+        rows.append(f"| {row['size']} | " + " | ".join(cells) + " |")
+    return "\n".join(rows)
+
+
+def kept(name, wanted, make):
+    """What a file has, or makes anew and writes where that is wanted."""
+    path = HERE / f"{name}.json"
+    if wanted:
+        path.write_text(json.dumps(make(), indent=1) + "\n")
+    return json.loads(path.read_text())
+
+
+def main():
+    times = kept("times", "--times" in sys.argv, peers.measured)
+    rows = kept("walls", "--walls" in sys.argv, stiffness)
+    said = pictures()
+    slope, error, intercept = fitted([row for row in rows if row[0] >= LEAST_FITTED])
+    stiffness_picture(rows, slope, error, intercept)
+    times_picture(times)
+    points = "\n".join(f"| {size} | {mean:.4f} ± {bar:.4f} |" for size, mean, bar in rows)
+    said.update(points=points, slope=f"{slope:.3f}", error=f"{error:.3f}", least=LEAST_FITTED)
+    said.update(samples=LOTS * COUNT, lots=LOTS, count=COUNT, times=table(times))
+    text = (HERE / "TOUR.in.md").read_text()
+    for name, value in said.items():
+        text = text.replace("{" + name + "}", str(value))
+    (HERE.parent / "TOUR.md").write_text(text)
+
+
+if __name__ == "__main__":
+    main()
