@@ -32,6 +32,7 @@ pub fn propose(
         edges,
         cuts: chains.cuts,
         growths: chains.growths,
+        nodes: chains.nodes,
     }))
 }
 
