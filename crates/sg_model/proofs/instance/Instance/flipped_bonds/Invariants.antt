@@ -1,7 +1,7 @@
 use Rattle.std.proofs.Common.{◌≡◌, map}
 use Rattle.std.specs.List.{range_with_len}
 use Rattle.sg_model.specs.Changes.{flipped_at}
-use Rattle.sg_model.proofs.instance.Instance.flip_seam.Given as goal
+use Rattle.sg_model.proofs.instance.Instance.flipped_bonds.Given as goal
 
 abbrev pub invariant-loop-k : goal.invariant-loop-k
 invariant-loop-k l = record {
