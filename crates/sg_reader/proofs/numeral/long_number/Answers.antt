@@ -2,7 +2,7 @@ use Rattle.std.proofs.Common.{negsuc, Some, sym, ap, ◌∙◌, w64, ◌<ℤ◌,
 use Rattle.std.proofs.lemmas.Int.{ints, to_z-of_z}
 use Rattle.sg_reader.specs.Number.{number_of}
 use Rattle.sg_reader.proofs.NumberLaws.{number_of-least, number_of-no_text, number_of-parsed, number_of-unparsed}
-use Rattle.sg_reader.proofs.numeral.number.Goals as goal
+use Rattle.sg_reader.proofs.numeral.long_number.Goals as goal
 
 pub returns-in_default : goal.returns-in_default
 returns-in_default c = sym (number_of-no_text c.args.field.now c.in_default.ensures.cases.0)
