@@ -1,16 +1,14 @@
 // The energies that are answered, beside the least over all assignments.
 
-use super::turns::assert_web;
 use rand_core::utils::NextWord;
 use rand_pcg::Pcg32;
 use sg_dual::dual;
 use sg_ground::solve;
 use sg_join_check::proves_least;
 use sg_model::{Instance, least_plain};
-use sg_nest::proves;
 use sg_planar::{Part, Planar, parts};
 use sg_reader::{Rows, read_instance};
-use sg_regions::{propose, propose_nest};
+use sg_regions::propose;
 use std::alloc::{AllocError, Global};
 use std::process::Abort;
 use std::test::Fail;
@@ -32,11 +30,6 @@ fn assert_part(rt: &impl Abort, alloc: Global, planar: &Planar, text: &str) -> R
         return Err(Fail::new("there is a proposal"));
     };
     assert!(rt; proves_least(alloc, &web, &terminals, &proposal)?, "{text}");
-    let Some(proposal) = propose_nest(alloc, &web, &terminals)? else {
-        return Err(Fail::new("there is a nest"));
-    };
-    let is_proved = proves(alloc, &web, &terminals, &proposal.edges, &proposal.nest)?;
-    assert!(rt; is_proved, "{text}");
     Ok(())
 }
 
@@ -57,21 +50,6 @@ fn assert_solved(rt: &impl Abort, alloc: Global, text: &str) -> Result<i128, Fai
     let list = parts(alloc, &planar)?;
     assert_parts(rt, alloc, list.as_slice(), text)?;
     Ok(i128::from(solve(alloc, &planar)?.energy))
-}
-
-// Repairs the duals of an instance for each of its bonds.
-fn assert_repaired(rt: &impl Abort, alloc: Global, text: &str) -> Result<(), Fail> {
-    let inst = instance(rt, alloc, text)?;
-    let Ok(planar) = Planar::new(alloc, inst) else {
-        return Err(Fail::new("the instance is planar"));
-    };
-    for part in parts(alloc, &planar)?.as_slice() {
-        let faces = part.planar.faces();
-        assert!(rt; faces.count() <= 1 << 24);
-        let (web, terminals) = dual(alloc, part.planar.instance(), faces)?;
-        assert_web(rt, alloc, &web, &terminals)?;
-    }
-    Ok(())
 }
 
 // Tries all assignments of the instance of a text beside that.
@@ -104,7 +82,6 @@ fn worked_instances(rt: HostRuntime) -> Result<(), Fail> {
     ];
     for text in texts {
         assert_least(&rt, rt.alloc(), text)?;
-        assert_repaired(&rt, rt.alloc(), text)?;
     }
     Ok(())
 }
@@ -158,9 +135,6 @@ fn drawn_lattices(rt: HostRuntime) -> Result<(), Fail> {
         for trial in 0..20 {
             let text = drawn(rt.alloc(), shape, bonds, trial % 5, &mut draws)?;
             assert_least(&rt, rt.alloc(), text.as_str())?;
-            if trial < 5 {
-                assert_repaired(&rt, rt.alloc(), text.as_str())?;
-            }
         }
     }
     Ok(())

@@ -1,6 +1,6 @@
 //! Trials of the solver beside the plain minimum, on small instances that are read from texts; and of
 //! what is proposed for least joins, on the duals of these instances and on other webs, which has to be
-//! there and to be good. So has what is said to change where an edge is gone.
+//! there and to be good.
 //!
 //! The contract of `sg_ground::solve` says that no assignment has less energy; here both are run. That
 //! a proposal is there, and that the judge says yes to it, no contract says.
@@ -8,7 +8,5 @@
 
 #[cfg(test)]
 mod least;
-#[cfg(test)]
-mod turns;
 #[cfg(test)]
 mod webs;

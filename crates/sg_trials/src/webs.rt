@@ -7,25 +7,11 @@ use rand_core::utils::NextWord;
 use rand_pcg::Pcg32;
 use sg_graph_text::{Network, read_network};
 use sg_join_check::proves_least;
-use sg_nest::proves;
-use sg_regions::{propose, propose_nest};
+use sg_regions::propose;
 use sg_tjoin::{least_join, matched_join};
 use std::alloc::{AllocError, Global};
 use std::process::Abort;
 use std::test::Fail;
-
-// A nest has to be proposed too, and to be good.
-fn assert_nest(rt: &impl Abort, alloc: Global, network: &Network, text: &str) -> Result<(), Fail>
-    requires { IsNetwork network.now.web network.now.terminals }
-{
-    let (web, terminals) = (&network.web, &network.terminals);
-    let Some(proposal) = propose_nest(alloc, web, terminals)? else {
-        return Err(Fail::new("there is a nest"));
-    };
-    let is_proved = proves(alloc, web, terminals, &proposal.edges, &proposal.nest)?;
-    assert!(rt; is_proved, "{text}");
-    Ok(())
-}
 
 // The proposal has to be there and good, and its join to weigh what that of the matching weighs.
 fn assert_network(rt: &impl Abort, alloc: Global, network: &Network, text: &str) -> Result<(), Fail>
@@ -36,7 +22,6 @@ fn assert_network(rt: &impl Abort, alloc: Global, network: &Network, text: &str)
         return Err(Fail::new("there is a proposal"));
     };
     assert!(rt; proves_least(alloc, web, terminals, &proposal)?, "{text}");
-    assert_nest(rt, alloc, network, text)?;
     let answered = least_join(alloc, web, terminals)?.weight;
     let matched = matched_join(alloc, web, terminals)?.weight;
     assert_eq!(rt; answered, matched, "{text}");
@@ -97,7 +82,7 @@ fn push_terminals(
 
 // A tree in which each node has an edge to an earlier one, and more edges between any two nodes, the
 // same ones again among them, or from a node to itself.
-pub fn drawn_web(
+fn drawn_web(
     alloc: Global,
     nodes: u32,
     more: u32,
@@ -132,7 +117,7 @@ fn drawn_webs(rt: HostRuntime) -> Result<(), Fail> {
 }
 
 // A node with an edge to each other one, and where it has a rim an edge from each of these to the next.
-pub fn drawn_star(
+fn drawn_star(
     alloc: Global,
     nodes: u32,
     has_rim: bool,
@@ -161,7 +146,7 @@ fn stars(rt: HostRuntime) -> Result<(), Fail> {
 }
 
 // A grid of so many rows and columns.
-pub fn drawn_grid(
+fn drawn_grid(
     alloc: Global,
     rows: u32,
     cols: u32,
