@@ -17,11 +17,9 @@
 mod faces;
 mod labels;
 mod table;
-mod tracing;
 
-pub use faces::Faces;
+pub use faces::{Faces, trace};
 use std::alloc::AllocError;
-pub use tracing::trace;
 
 /// The allocator had no memory left.
 pub type NoMemory = AllocError;

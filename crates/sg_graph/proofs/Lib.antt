@@ -1,7 +1,5 @@
 pub mod Walks
 pub mod Joins
-pub mod Stretched
-pub mod Fillings
 pub mod Incidences
 pub mod Tables
 pub mod TableLaws
@@ -9,4 +7,3 @@ pub mod Searching
 pub mod OddLists
 pub mod OnceLists
 pub mod WalkEnds
-pub mod TurnedEnds

@@ -86,8 +86,7 @@ pub(crate) fn rotation(alloc: Global, lists: &[Value]) -> Result<Rotation, NoMem
 {
     let mut rotation = Rotation::new(alloc);
     for list in lists {
-        let own = darts(alloc, list)?;
-        rotation.push(own.as_slice())?;
+        rotation.push(darts(alloc, list)?)?;
     }
     Ok(rotation)
 }
