@@ -10,7 +10,8 @@ use sg_io::{ReadSource, WriteSink};
 use std::process::ExitCode;
 use std::{env, io};
 
-// The exit status where the words cannot be had, for another cause than memory. No run ends so.
+// The exit status where the words cannot be had, for another cause than memory, as where one is no
+// UTF-8.
 const NO_WORDS: u8 = 7;
 
 fn main(rt: HostRuntime) -> ExitCode {

@@ -7,7 +7,7 @@ ghost use Rattle.ising2d_c.specs.Graphs.{IsGraph, IsGraphFault, bond_by as bond_
 ghost use Rattle.ising2d_c.specs.Starts.{IsDivision, entry};
 
 use super::lattices::is_coupling;
-use super::starts::{entries_of, refusal_of_starts};
+use super::starts::{entries_at, refusal_of_starts};
 use sg_limits::{BOND_LIMIT, SPIN_LIMIT};
 use sg_model::{Bond, BondList, Bonds, Fault, Instance, Refusal, Rotation};
 use std::alloc::{AllocError, Global};
@@ -196,7 +196,7 @@ fn rotation_of(
 {
     let mut rotation = Rotation::new(alloc);
     for spin in 0..n as usize {
-        rotation.push(entries_of(alloc, starts, darts, spin)?)?;
+        rotation.push(entries_at(starts, darts, spin))?;
     }
     Ok(rotation)
 }

@@ -51,7 +51,7 @@ fn first_fall(starts: &[usize]) -> Option<usize>
     None
 }
 
-/// The entries of item `k`.
+/// The entries of item `k`, as a list of their own.
 pub fn entries_of(
     alloc: Global,
     starts: &[usize],
@@ -64,6 +64,16 @@ pub fn entries_of(
     ensures { IfOk result (λ list.
         list ≡ take (entry starts.now (k + 1) - entry starts.now k) (drop (entry starts.now k) joined.now)) }
 {
-    let own = &joined[starts[k]..starts[k + 1]];
+    let own = entries_at(starts, joined, k);
     Ok(BondList::from_vec(Vec::from_slice(alloc, own)?))
+}
+
+/// The entries of item `k`.
+pub fn entries_at<'a>(starts: &[usize], joined: &'a [u32], k: usize) -> &'a [u32]
+    requires within { k + 1 < length starts.now }
+    requires order { entry starts.now k ≤ entry starts.now (k + 1) }
+    requires last { entry starts.now (k + 1) ≤ length joined.now }
+    ensures { result.now ≡ take (entry starts.now (k + 1) - entry starts.now k) (drop (entry starts.now k) joined.now) }
+{
+    &joined[starts[k]..starts[k + 1]]
 }

@@ -3,14 +3,15 @@
 //! `run` reads an instance and answers a study: a ground state, alone or with the packing that proves
 //! it, a domain wall, the costs of the bonds, the rigid clusters, or all of these as one line of JSON;
 //! how far each coupling may move, or a largest cut.
-//! `check` judges the proof that stands behind an instance of any kind.
+//! `check` judges the proof that stands behind an instance of any kind, `tjoin` and `postman` answer a
+//! weighted graph, and `gen`, `sample`, `ensemble` and `widths` read nothing and draw from a law.
 //! Every other input is refused with the number of its first fault.
 //!
 //! For the next engineer: the contract of `run` is the headline of the whole project. Its clauses
 //! stand in `specs/Promises.antt`, over one definition of what is answered, `specs/Served.antt`.
 //! Each command has a file of its own, which finds its answer: a further one is one more file, one
 //! more variant in `command.rt`, one more text in `sg_report`, and one more case in `Served`.
-//! `check.rt` is the one command that makes no planar instance.
+//! A command that asks something of a planar instance is a study (`study.rt`).
 #![tactic(auto)]
 
 mod bonds;

@@ -17,9 +17,11 @@
 mod faces;
 mod labels;
 mod table;
+mod tracing;
 
-pub use faces::{Faces, trace};
+pub use faces::Faces;
 use std::alloc::AllocError;
+pub use tracing::trace;
 
 /// The allocator had no memory left.
 pub type NoMemory = AllocError;

@@ -38,8 +38,8 @@ pub(crate) fn phi_table(alloc: Global, inst: &Instance) -> Result<Vec<u32>, NoMe
     ensures { IfOk result (λ t. IsPhiTable inst.now t.items) }
 {
     let mut table = vec![in alloc; 0u32; 2 * inst.bonds().len()]?;
-    for list in inst.rotation().as_slice() {
-        link(list.as_slice(), &mut table);
+    for spin in 0..inst.n() {
+        link(inst.rotation().at(spin as usize), &mut table);
     }
     Ok(table)
 }

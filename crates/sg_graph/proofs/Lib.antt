@@ -1,5 +1,7 @@
 pub mod Walks
 pub mod Joins
+pub mod Stretched
+pub mod Fillings
 pub mod Incidences
 pub mod Tables
 pub mod TableLaws
@@ -7,3 +9,4 @@ pub mod Searching
 pub mod OddLists
 pub mod OnceLists
 pub mod WalkEnds
+pub mod TurnedEnds

@@ -3,6 +3,7 @@ pub mod Walk
 pub mod Join
 pub mod OddCut
 pub mod Incidence
+pub mod Stretches
 pub mod Table
 pub mod Slots
 pub mod Search

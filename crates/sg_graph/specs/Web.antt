@@ -1,5 +1,5 @@
 -- Weighted multigraphs: nodes by number, and edges that may be parallel or join a node to itself.
-use Rattle.std.specs.Prelude.{ℕ, ◌+◌, ◌<◌, ◌≤◌, ◌≤ℤ◌, ◌==◌, ◌^◌, pos, cond, List, length, slice_index_or, All, sum_by, unsigned_abs}
+use Rattle.std.specs.Prelude.{ℕ, ℤ, ◌+◌, ◌<◌, ◌≤◌, ◌≤ℤ◌, ◌==◌, ◌^◌, pos, cond, List, length, slice_index_or, slice_set, All, sum_by, unsigned_abs}
 use Rattle.sg_graph.specs.declared.web.Edge.{Edge}
 
 -- `nodes` nodes, numbered from 0, and the edges, numbered in their order
@@ -29,6 +29,10 @@ weight_of g es = sum_by (edge_weight g) es
 -- the weight of all edges
 abbrev pub total_weight : Graph → ℕ
 total_weight g = sum_by weight_at g.edges
+
+-- the same graph, but for edge e, which has weight w
+abbrev pub with_weight : Graph → ℕ → ℤ → Graph
+with_weight g e w = record g { edges = slice_set g.edges e (record (edge_at g e) { w = w }) }
 
 -- how many ends the edge has at the node; an edge to itself has two
 abbrev pub ends_on : ℕ → Edge → ℕ

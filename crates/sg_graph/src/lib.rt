@@ -13,12 +13,14 @@
 #![tactic(auto)]
 
 mod cut;
+mod ends;
 mod incidence;
 mod search;
 mod table;
 mod web;
 
 pub use cut::{Cut, Cuts};
+pub use ends::turn_ends;
 pub use incidence::Incidence;
 pub use search::{connected, first_unreached};
 use std::alloc::AllocError;

@@ -1,5 +1,5 @@
-ghost use Rattle.std.specs.Prelude.{◌≡◌, ◌<◌};
-ghost use Rattle.sg_graph.specs.Web.{IsWeb, degree_of, ends_on};
+ghost use Rattle.std.specs.Prelude.{◌≡◌, ◌<◌, ◌≤◌, ◌≤ℤ◌, ◌^◌, All, pos};
+ghost use Rattle.sg_graph.specs.Web.{IsEdge, IsWeb, degree_of, edge_at, edge_count, ends_on, total_weight, weight_of, with_weight};
 ghost use Rattle.sg_graph.specs.Walk.{other_end};
 
 use sg_list::{Numbers, Records};
@@ -72,6 +72,44 @@ impl Web {
         ensures web { IsWeb self.now }
     {
         &self.edges
+    }
+
+    /// Edge `e`.
+    pub fn edge(&self, e: u32) -> Edge
+        requires { e < edge_count self.now }
+        ensures value { result ≡ edge_at self.now e }
+        ensures joined { IsEdge self.now.nodes result }
+    {
+        *self.edges.at(e as usize)
+    }
+
+    /// The weight of the edges of the list, counted as often as they stand in it.
+    pub fn weight(&self, list: &[u32]) -> u128
+        requires { All (λ e. e < edge_count self.now) list.now }
+        ensures value { result ≡ weight_of self.now list.now }
+        ensures size { result < 2 ^ 126 }
+        ensures web { IsWeb self.now }
+    {
+        let all = self.edges().as_slice();
+        let mut sum: u128 = 0;
+        for e in list {
+            sum += u128::from(all[*e as usize].w.unsigned_abs());
+        }
+        sum
+    }
+
+    /// Gives edge `e` another weight, not below 0, and hands back the one that it had. All weights
+    /// together have to stay within 2^60. It takes no memory.
+    pub fn set_weight(&mut self, e: u32, weight: i64) -> i64
+        requires edge { e < edge_count self.old }
+        requires not_negative { pos 0 ≤ℤ weight }
+        requires light { total_weight (with_weight self.old e weight) ≤ 2 ^ 60 }
+        ensures web { self.new ≡ with_weight self.old e weight }
+        ensures old { result ≡ (edge_at self.old e).w }
+    {
+        let Edge { a, b, w } = self.edge(e);
+        self.edges.set(e as usize, Edge { a, b, w: weight });
+        w
     }
 
     /// The number of edge ends at the node, an edge to itself twice, in time linear in the edges. It

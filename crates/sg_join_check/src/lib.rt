@@ -25,7 +25,7 @@ mod shapes;
 mod side;
 
 pub use judge::proves_least;
-pub use proposal::{Growth, Growths, Proposal};
+pub use proposal::{Growth, Growths, NodeList, Proposal};
 use std::alloc::AllocError;
 
 /// The allocator had no memory left.

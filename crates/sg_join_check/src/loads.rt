@@ -6,7 +6,6 @@ ghost use Rattle.sg_graph.specs.Web.{edge_count, edge_weight, weight_of};
 ghost use Rattle.sg_join_check.specs.Shape.{HasShape};
 
 use super::NoMemory;
-use super::side::edge_of;
 use sg_graph::{Cut, Web};
 use sg_sums::add_weight;
 use std::alloc::Global;
@@ -59,26 +58,11 @@ fn sum_of_cuts(cuts: &[Cut]) -> u128
     total
 }
 
-// The weight of the edges.
-fn sum_of_edges(web: &Web, list: &[u32]) -> u128
-    requires few { length list.now < 2 ^ 32 }
-    requires below { All (λ e. e < edge_count web.now) list.now }
-    ensures value { result ≡ weight_of web.now list.now }
-    ensures size { result < 2 ^ 96 }
-{
-    let mut total: u128 = 0;
-    for k in list {
-        total += u128::from(edge_of(web, *k).w.unsigned_abs());
-    }
-    total
-}
-
 // Whether the cuts weigh twice as much as the edges.
 pub fn is_tight(web: &Web, list: &[u32], cuts: &[Cut]) -> bool
-    requires few_edges { length list.now < 2 ^ 32 }
     requires few_cuts { length cuts.now < 2 ^ 32 }
     requires below { All (λ e. e < edge_count web.now) list.now }
     ensures { IsTrue result → sum_by cut_weight cuts.now ≡ 2 * weight_of web.now list.now }
 {
-    sum_of_cuts(cuts) == 2 * sum_of_edges(web, list)
+    sum_of_cuts(cuts) == 2 * web.weight(list)
 }

@@ -86,7 +86,8 @@ pub(crate) fn rotation(alloc: Global, lists: &[Value]) -> Result<Rotation, NoMem
 {
     let mut rotation = Rotation::new(alloc);
     for list in lists {
-        rotation.push(darts(alloc, list)?)?;
+        let own = darts(alloc, list)?;
+        rotation.push(own.as_slice())?;
     }
     Ok(rotation)
 }

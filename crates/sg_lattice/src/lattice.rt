@@ -1,12 +1,13 @@
 ghost use Rattle.std.specs.Prelude.{◌≡◌, ◌<◌, ◌≤◌, ◌+◌, ◌-◌, ◌*◌, ◌/◌, ◌%◌, ◌^◌, [], ◌∷◌, ◌++◌, if◌then◌else◌, map, length, OnOk, IfOk, All, unsigned_abs};
 ghost use Rattle.std.specs.List.{range_with_len};
 ghost use Rattle.sg_lattice.specs.declared.kind.Kind.TheVariants.{Square, Triangular, Hexagonal, Cylinder};
+ghost use Rattle.sg_list.specs.Pieces.{with_more};
 ghost use Rattle.sg_lattice.specs.Tables.{IsSize, bond_total, coupled, darts, ends_from, ends_of, forth, has_bond, back, lattice, north, north_west, seam_of, starts, west};
 
 use super::NoMemory;
 use super::kind::{Ends, Kind, Step};
 use super::shape::Shape;
-use sg_model::{Bond, BondList, Bonds, Couplings, DartList, Fault, Instance, Rotation};
+use sg_model::{Bond, BondList, Bonds, Couplings, Fault, Instance, Rotation};
 use std::alloc::{AllocError, Global};
 
 /// The number of bonds of a lattice. It takes no memory.
@@ -165,81 +166,92 @@ impl Shape {
     {
         let mut rotation = Rotation::new(alloc);
         for i in 0..self.spins() {
-            rotation.push(self.darts(alloc, i / self.cols, i % self.cols)?)?;
+            self.push_spin(&mut rotation, i / self.cols, i % self.cols)?;
         }
         Ok(rotation)
     }
 
-    // The darts of one spin.
-    fn darts(self, alloc: Global, r: u32, c: u32) -> Result<DartList, NoMemory>
+    // Adds the list of one spin.
+    fn push_spin(self, rotation: &mut Rotation, r: u32, c: u32) -> Result<(), NoMemory>
         requires row { r < self.rows }
         requires col { c < self.cols }
-        ensures { IfOk result (λ list. list ≡ darts self.kind self.rows self.cols r c) }
+        ensures { OnOk result (rotation.new ≡ rotation.old ++ darts self.kind self.rows self.cols r c ∷ []) }
     {
-        let mut list = DartList::new(alloc);
-        self.push_forth(&mut list, Step::East, r, c)?;
-        self.push_north(&mut list, r, c)?;
-        self.push_north_west(&mut list, r, c)?;
-        self.push_west(&mut list, r, c)?;
-        self.push_forth(&mut list, Step::South, r, c)?;
-        self.push_forth(&mut list, Step::SouthEast, r, c)?;
-        Ok(list)
+        rotation.open()?;
+        self.push_forth(rotation, Step::East, r, c)?;
+        self.push_north(rotation, r, c)?;
+        self.push_north_west(rotation, r, c)?;
+        self.push_west(rotation, r, c)?;
+        self.push_forth(rotation, Step::South, r, c)?;
+        self.push_forth(rotation, Step::SouthEast, r, c)?;
+        Ok(())
     }
 
-    fn push_forth(self, list: &mut DartList, step: Step, r: u32, c: u32) -> Result<(), NoMemory>
+    // What follows adds darts to the last list.
+    #[tactic(auto, using(sg_list::proofs::LastLists::with_more_none))]
+    fn push_forth(self, rotation: &mut Rotation, step: Step, r: u32, c: u32) -> Result<(), NoMemory>
+        requires some { 0 < length rotation.old }
         requires row { r < self.rows }
         requires col { c < self.cols }
-        ensures { OnOk result (list.new ≡ list.old ++ forth self.kind step self.rows self.cols r c) }
+        ensures { OnOk result (rotation.new ≡ with_more rotation.old (forth self.kind step self.rows self.cols r c)) }
     {
         if self.has_bond(step, r, c) {
-            list.push(2 * self.bond_number(step, r, c))?;
+            rotation.push_item(2 * self.bond_number(step, r, c))?;
         }
         Ok(())
     }
 
-    fn push_back(self, list: &mut DartList, step: Step, r: u32, c: u32) -> Result<(), NoMemory>
+    #[tactic(auto, using(sg_list::proofs::LastLists::with_more_none))]
+    fn push_back(self, rotation: &mut Rotation, step: Step, r: u32, c: u32) -> Result<(), NoMemory>
+        requires some { 0 < length rotation.old }
         requires row { r < self.rows }
         requires col { c < self.cols }
-        ensures { OnOk result (list.new ≡ list.old ++ back self.kind step self.rows self.cols r c) }
+        ensures { OnOk result (rotation.new ≡ with_more rotation.old (back self.kind step self.rows self.cols r c)) }
     {
         if self.has_bond(step, r, c) {
-            list.push(2 * self.bond_number(step, r, c) + 1)?;
+            rotation.push_item(2 * self.bond_number(step, r, c) + 1)?;
         }
         Ok(())
     }
 
-    fn push_north(self, list: &mut DartList, r: u32, c: u32) -> Result<(), NoMemory>
+    #[tactic(auto, using(sg_list::proofs::LastLists::with_more_none))]
+    fn push_north(self, rotation: &mut Rotation, r: u32, c: u32) -> Result<(), NoMemory>
+        requires some { 0 < length rotation.old }
         requires row { r < self.rows }
         requires col { c < self.cols }
-        ensures { OnOk result (list.new ≡ list.old ++ north self.kind self.rows self.cols r c) }
+        ensures { OnOk result (rotation.new ≡ with_more rotation.old (north self.kind self.rows self.cols r c)) }
     {
         if r >= 1 {
-            self.push_back(list, Step::South, r - 1, c)?;
+            self.push_back(rotation, Step::South, r - 1, c)?;
         }
         Ok(())
     }
 
-    fn push_north_west(self, list: &mut DartList, r: u32, c: u32) -> Result<(), NoMemory>
+    #[tactic(auto, using(sg_list::proofs::LastLists::with_more_none))]
+    fn push_north_west(self, rotation: &mut Rotation, r: u32, c: u32) -> Result<(), NoMemory>
+        requires some { 0 < length rotation.old }
         requires row { r < self.rows }
         requires col { c < self.cols }
-        ensures { OnOk result (list.new ≡ list.old ++ north_west self.kind self.rows self.cols r c) }
+        ensures { OnOk result (rotation.new ≡ with_more rotation.old (north_west self.kind self.rows self.cols r c)) }
     {
         if r >= 1 && c >= 1 {
-            self.push_back(list, Step::SouthEast, r - 1, c - 1)?;
+            self.push_back(rotation, Step::SouthEast, r - 1, c - 1)?;
         }
         Ok(())
     }
 
-    fn push_west(self, list: &mut DartList, r: u32, c: u32) -> Result<(), NoMemory>
+    #[tactic(auto, using(sg_list::proofs::LastLists::with_more_none))]
+    fn push_west(self, rotation: &mut Rotation, r: u32, c: u32) -> Result<(), NoMemory>
+        requires some { 0 < length rotation.old }
         requires row { r < self.rows }
         requires col { c < self.cols }
-        ensures { OnOk result (list.new ≡ list.old ++ west self.kind self.rows self.cols r c) }
+        ensures { OnOk result (rotation.new ≡ with_more rotation.old (west self.kind self.rows self.cols r c)) }
     {
         if c >= 1 {
-            return self.push_back(list, Step::East, r, c - 1);
+            return self.push_back(rotation, Step::East, r, c - 1);
         }
         match self.kind {
-            Kind::Cylinder => self.push_back(list, Step::East, r, self.cols - 1),
+            Kind::Cylinder => self.push_back(rotation, Step::East, r, self.cols - 1),
             Kind::Square | Kind::Triangular | Kind::Hexagonal => Ok(()),
         }
     }

@@ -3,15 +3,19 @@
 //!
 //! `Numbers` holds small items that are copied, as spin values, couplings or bond numbers, and `at`
 //! gives the item. `Records` holds items with parts of their own, as bonds or loops, and `at` lends
-//! the item. The other crates give them names: `pub type Couplings = Numbers<i64>;`.
+//! the item. `Lists` holds lists of small items, as the darts of each spin, one behind another in one
+//! flat list, and `at` lends a list. The other crates give them names:
+//! `pub type Couplings = Numbers<i64>;`.
 //!
 //! For the next engineer: each clause speaks of the whole list, and nothing of a capacity. Both
-//! types keep the allocator that `new` was given; only `push` asks it for memory.
+//! types keep the allocator that `new` was given; only what adds an item asks it for memory.
 #![tactic(auto)]
 
+mod lists;
 mod numbers;
 mod records;
 
+pub use lists::Lists;
 pub use numbers::Numbers;
 pub use records::Records;
 use std::alloc::AllocError;

@@ -1,4 +1,4 @@
-use super::{Numbers, Records};
+use super::{Lists, Numbers, Records};
 use std::test::Fail;
 
 #[test]
@@ -18,5 +18,21 @@ fn both_lists_keep_their_items_in_order(rt: HostRuntime) -> Result<(), Fail> {
     assert_eq!(rt; rows.at(0).as_slice(), [7, 9].as_slice());
     assert_eq!(rt; rows.as_slice().len(), 1);
     assert_eq!(rt; rows.into_vec().len(), 1);
+    Ok(())
+}
+
+#[test]
+fn flat_lists_keep_their_items_apart(rt: HostRuntime) -> Result<(), Fail> {
+    let mut lists = Lists::new(rt.alloc());
+    assert!(rt; lists.is_empty());
+    lists.push([7u32, 9].as_slice())?;
+    lists.open()?;
+    lists.open()?;
+    lists.push_item(4)?;
+    assert_eq!(rt; lists.len(), 3);
+    let same = lists.clone()?;
+    assert_eq!(rt; same.at(0), [7, 9].as_slice());
+    assert!(rt; same.at(1).is_empty());
+    assert_eq!(rt; same.at(2), [4].as_slice());
     Ok(())
 }

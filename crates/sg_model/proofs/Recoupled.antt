@@ -11,7 +11,7 @@ use Rattle.std.proofs.lemmas.List.FromFn.{get_or-map-range_with_len, length-map-
 use Rattle.sg_model.specs.declared.bond.Bond.{Bond}
 use Rattle.sg_model.specs.Ising.{Ising, IsBond, bond_at, bond_count}
 use Rattle.sg_sums.specs.Sets.{holds}
-use Rattle.sg_model.specs.Changes.{HasSameEnds, flipped_at, opposite, recoupled, with_coupling}
+use Rattle.sg_model.specs.Changes.{HasSameEnds, coupled_at, coupled_bonds, flipped_at, opposite, recoupled, with_coupling}
 
 abbrev no_bond : Bond
 no_bond = record { u = 0; v = 0; j = pos 0 }
@@ -133,3 +133,34 @@ module _ (inst : Ising) where
             let h : unsigned_abs (cond (eqb k bond) (recoupled (bond_at inst k) z) (bond_at inst k)).j < 2 ^ 63 =
             sized (eqb k bond) (bond_at inst k) (joined k no_bond l).size in
             omega (arith, ap (λ (b : Bond). unsigned_abs b.j) (at k l))
+
+  -- each bond has the coupling of a list
+  module _ (couplings : List ℤ) where
+    pub all_long : length (coupled_bonds inst.bonds couplings) ≡ bond_count inst
+    all_long = length-map-range_with_len (coupled_at inst.bonds couplings) 0 (bond_count inst)
+
+    pub coupled_at_place : (k : ℕ) → k < bond_count inst →
+        get_or (coupled_bonds inst.bonds couplings) k no_bond ≡ recoupled (bond_at inst k) (get_or couplings k (pos 0))
+    coupled_at_place k l = get_or-map-range_with_len (coupled_at inst.bonds couplings) 0 (bond_count inst) k k no_bond l (omega arith)
+
+    pub couplings_ends : length couplings ≡ bond_count inst → All (λ z. unsigned_abs z < 2 ^ 63) couplings → HasSameEnds inst (coupled_bonds inst.bonds couplings)
+    couplings_ends given small = record {
+      count = all_long;
+      first = λ k. ends (λ b. b.u) (λ b z. refl) k;
+      second = λ k. ends (λ b. b.v) (λ b z. refl) k;
+      sizes = All-from_get_or (λ b. unsigned_abs b.j < 2 ^ 63) (coupled_bonds inst.bonds couplings) no_bond sizes_at;
+    }
+      where
+        ends : (f : Bond → ℕ) → ((b : Bond) (z : ℤ) → f (recoupled b z) ≡ f b) → (k : ℕ) →
+            f (get_or (coupled_bonds inst.bonds couplings) k no_bond) ≡ f (bond_at inst k)
+        ends f e k = elim (cases_lt k (bond_count inst)) [
+          | inl l ↦ ap f (coupled_at_place k l) ∙ e (bond_at inst k) (get_or couplings k (pos 0))
+          | inr past ↦ ap f (get_or_past (coupled_bonds inst.bonds couplings) k no_bond (omega (arith, all_long))
+              ∙ sym (get_or_past inst.bonds k no_bond past))
+        ]
+
+        sizes_at : (k : ℕ) → k < length (coupled_bonds inst.bonds couplings) → unsigned_abs (get_or (coupled_bonds inst.bonds couplings) k no_bond).j < 2 ^ 63
+        sizes_at k b =
+            let l : k < bond_count inst = omega (arith, all_long) in
+            let h : unsigned_abs (get_or couplings k (pos 0)) < 2 ^ 63 = small k (pos 0) (omega (arith, l, given)) in
+            omega (arith, ap (λ (b : Bond). unsigned_abs b.j) (coupled_at_place k l))

@@ -27,7 +27,7 @@ module _ (inst : Ising) (bonds : List Bond) (same : HasSameEnds inst bonds) wher
   connected_same h i l = reached_same all_bonds 0 i (h i l)
 
 -- the old bonds have the ends of the new ones
-ends_back : (inst : Ising) (bonds : List Bond) → HasSameEnds inst bonds → IsInstance inst → HasSameEnds (with_bonds inst bonds) inst.bonds
+pub ends_back : (inst : Ising) (bonds : List Bond) → HasSameEnds inst bonds → IsInstance inst → HasSameEnds (with_bonds inst bonds) inst.bonds
 ends_back inst bonds same good = record {
   count = sym same.count;
   first = λ k. sym (same.first k);

@@ -75,7 +75,7 @@ impl Draft {
         ensures misplaced { IfSome result (IsFirstMisplaced (is_dart_of self.now spin) (darts_of self.now spin)) }
         ensures others { (d : ℕ) → is_dart_of self.now spin d ≡ false → is_marked marked.new d ≡ is_marked marked.old d }
     {
-        for dart in self.rotation.at(spin as usize).as_slice() {
+        for dart in self.rotation.at(spin as usize) {
             if !self.is_dart_of(spin, *dart) || marked[*dart as usize] {
                 return Some(*dart);
             }

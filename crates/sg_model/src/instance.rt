@@ -1,13 +1,14 @@
-ghost use Rattle.std.specs.Prelude.{◌≡◌, ◌≤◌, ◌<◌, ◌*◌, ◌^◌, ◌+ℤ◌, ◌*ℤ◌, ℕ, pos, if◌then◌else◌, fold, length, All, IfOk, IfErr, vec_len, unsigned_abs};
+ghost use Rattle.std.specs.Prelude.{◌≡◌, ◌≤◌, ◌<◌, ◌*◌, ◌^◌, ◌+ℤ◌, ◌*ℤ◌, ℕ, pos, if◌then◌else◌, fold, length, map, All, IfOk, IfErr, vec_len, unsigned_abs};
+ghost use Rattle.std.specs.List.{range_with_len};
 ghost use Rattle.sg_model.specs.Ising.{IsBond, bond_count};
 ghost use Rattle.sg_model.specs.WellFormed.{IsInstance};
 ghost use Rattle.sg_model.specs.Faults.{IsFaultOf};
 ghost use Rattle.sg_sums.specs.Sets.{holds, is_marked};
-ghost use Rattle.sg_model.specs.Changes.{HasSameEnds, negated, opposite, recoupled, with_bonds, with_coupling, with_seam, with_seam_flipped};
+ghost use Rattle.sg_model.specs.Changes.{HasSameEnds, coupled_bonds, flipped_at, negated, opposite, recoupled, with_bonds, with_coupling, with_couplings, with_seam, with_seam_flipped};
 ghost use Rattle.sg_model.specs.Energy.{energy, product, weight as weight_of};
 
 use super::draft::Draft;
-use super::{Bond, BondList, Bonds, Fault, NoMemory, Refusal, Rotation, Spins};
+use super::{Bond, BondList, Bonds, Couplings, Fault, NoMemory, Refusal, Rotation, Spins};
 use std::alloc::Global;
 use std::marker::Model;
 
@@ -146,12 +147,50 @@ impl Instance {
     pub fn flip_seam(&self) -> Result<Instance, NoMemory>
         ensures { IfOk result (λ copy. copy ≡ with_seam_flipped self.now) }
     {
-        let on_seam = self.on_seam()?;
-        let mut bonds = Bonds::new(self.bonds.allocator());
-        for (k, bond) in self.bonds.as_slice().iter().enumerate() {
-            bonds.push(flipped_if(*bond, on_seam[k]))?;
-        }
+        let bonds = self.flipped_bonds()?;
         self.with_bonds(bonds)
+    }
+
+    /// The same instance with the sign of the coupling changed on each bond of the seam, in time
+    /// linear in the bonds. The rotation is moved, and not copied.
+    pub fn with_seam_flipped(self) -> Result<Instance, NoMemory>
+        ensures { IfOk result (λ flipped. flipped ≡ with_seam_flipped self) }
+    {
+        let bonds = self.flipped_bonds()?;
+        let Instance {
+            n,
+            bonds: _,
+            rotation,
+            seam,
+        } = self;
+        Ok(Instance {
+            n,
+            bonds,
+            rotation,
+            seam,
+        })
+    }
+
+    /// The same instance with these couplings, in the order of the bonds, in time linear in the bonds.
+    /// It takes no memory: the rotation is moved, and not copied.
+    pub fn with_couplings(self, couplings: &Couplings) -> Instance
+        requires count { length couplings.now ≡ bond_count self }
+        requires sizes { All (λ j. unsigned_abs j < 2 ^ 63) couplings.now }
+        ensures { result ≡ with_couplings self couplings.now }
+    {
+        let Instance {
+            n,
+            mut bonds,
+            rotation,
+            seam,
+        } = self;
+        recouple(&mut bonds, couplings.as_slice());
+        Instance {
+            n,
+            bonds,
+            rotation,
+            seam,
+        }
     }
 
     /// A copy in which the sign of every coupling is changed, in time linear in the bonds and darts.
@@ -195,6 +234,19 @@ impl Instance {
             seam: _,
         } = self;
         Instance::new(alloc, n, bonds, rotation, seam)
+    }
+
+    // The bonds, with the sign of the coupling changed on each bond of the seam.
+    fn flipped_bonds(&self) -> Result<Bonds, NoMemory>
+        ensures bonds { IfOk result (λ bonds. bonds ≡ map (flipped_at self.now) (range_with_len 0 (bond_count self.now))) }
+        ensures instance { IsInstance self.now }
+    {
+        let mut bonds = Bonds::new(self.bonds.allocator());
+        let on_seam = self.on_seam()?;
+        for (k, bond) in self.bonds.as_slice().iter().enumerate() {
+            bonds.push(flipped_if(*bond, on_seam[k]))?;
+        }
+        Ok(bonds)
     }
 
     // For each bond whether it is on the seam.
@@ -254,6 +306,17 @@ fn recoupled_if(bond: Bond, changes: bool, j: i64) -> Bond
         }
     } else {
         bond
+    }
+}
+
+// Gives each bond its coupling.
+fn recouple(bonds: &mut Bonds, couplings: &[i64])
+    requires { length couplings.now ≡ length bonds.old }
+    ensures { bonds.new ≡ coupled_bonds bonds.old couplings.now }
+{
+    for (k, j) in couplings.iter().enumerate() {
+        let bond = recoupled_if(*bonds.at(k), true, *j);
+        bonds.set(k, bond);
     }
 }
 

@@ -25,7 +25,7 @@ pub use bond::{Bond, Bonds};
 pub use instance::Instance;
 pub use plain::least_plain;
 pub use refusal::{Fault, Refusal};
-use sg_list::{Numbers, Records};
+use sg_list::{Lists, Numbers};
 pub use spins::Spins;
 use std::alloc::AllocError;
 
@@ -43,7 +43,7 @@ pub type BondList = Numbers<u32>;
 pub type DartList = Numbers<u32>;
 
 /// For each spin its darts, in their cyclic order.
-pub type Rotation = Records<DartList>;
+pub type Rotation = Lists<u32>;
 
 /// For each spin the least spin of its cluster.
 pub type ClusterList = Numbers<u32>;

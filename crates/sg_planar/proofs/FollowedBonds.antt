@@ -1,14 +1,13 @@
 -- A walk over the bonds gives each spin the value that every assignment which follows the bonds has there.
-use Rattle.std.proofs.Common.{inl, inr, ap₂, subst, ◌≡◌, ◌⊎◌, ℕ, ◌+◌, ◌*◌, ◌/◌, ◌<◌, ◌≤◌, ◌&&◌, pos, Bool, true, false, not, List, [], map, replicate, set, take, refl, sym, ◌∙◌, ap, arith, All, length, get_or, eqb}
+use Rattle.std.proofs.Common.{inl, inr, ap₂, subst, ◌≡◌, ◌⊎◌, ℕ, ◌+◌, ◌*◌, ◌/◌, ◌<◌, ◌≤◌, pos, Bool, true, false, not, List, [], map, replicate, set, take, refl, sym, ◌∙◌, ap, arith, All, length, get_or, eqb}
 use Rattle.std.specs.List.Sorted.{IsStrictlyIncreasing}
 use Rattle.std.proofs.Math.Bool.{beq}
-use Rattle.std.proofs.lemmas.Bool.{cases_eq, eq-eqb, ne_eqb}
+use Rattle.std.proofs.lemmas.Bool.{cases_eq}
 use Rattle.std.proofs.lemmas.List.{length-set, length-map, get_or-map, get_or-set_same, get_or-set_other, length-replicate}
 use Rattle.std.proofs.lemmas.List.Elements.{All-nil, All-more, All-weaker, All-from_get_or}
 use Rattle.sg_sums.specs.Parity.{xor, parity_by}
-use Rattle.sg_sums.specs.Sets.{holds, is_marked}
-use Rattle.sg_sums.proofs.ParityLaws.{parity_below-same, parity_below_pick}
-use Rattle.sg_sums.proofs.RisingLists.{members_parity}
+use Rattle.sg_sums.specs.Sets.{is_marked}
+use Rattle.sg_sums.proofs.RisingLists.{parity_of_rising}
 use Rattle.sg_sums.proofs.MarkLaws.{none_free}
 use Rattle.sg_model.specs.Ising.{Ising, bond_at, bond_count}
 use Rattle.sg_model.specs.Rotation.{dart_count, darts_of, head_of, tail}
@@ -26,22 +25,6 @@ use Rattle.sg_planar.specs.BrokenLists.{BreaksExactly, FitsFaces}
 use Rattle.sg_planar.specs.Following.{is_unlike, Follows, value_of, IsWalkOrder, IsRight, HeadsRight, SetsHeads, HeadsSet, SetTo, TellsDown}
 use Rattle.sg_planar.specs.Fit.{Embedding, IsPlanar}
 use Rattle.sg_planar.proofs.FittingBonds.{breaks_from_follows, fitting_follows}
-
-eqb-swap : (a b : ℕ) → eqb a b ≡ eqb b a
-eqb-swap a b = elim (cases_eq a b) [
-  | inl e ↦ eq-eqb a b e ∙ sym (eq-eqb b a (sym e))
-  | inr ne ↦ ne_eqb a b ne ∙ sym (ne_eqb b a (λ e. ne (sym e)))
-]
-
--- how often a rising list names a number is whether it holds it
-pub parity_of_rising : (list : List ℕ) (n i : ℕ) → All (λ k. k < n) list → IsStrictlyIncreasing list → i < n → parity_by (λ k. eqb k i) list ≡ holds list i
-parity_of_rising list n i low up l =
-    sym (members_parity (λ k. eqb k i) list n low up)
-    ∙ parity_below-same (λ k. eqb k i && holds list k) (λ k. holds list k && eqb i k) n (λ k b. turned (eqb k i) (holds list k) (eqb i k) (eqb-swap k i))
-    ∙ parity_below_pick (holds list) i n l
-  where
-    turned : (a b c : Bool) → a ≡ c → (a && b) ≡ (b && c)
-    turned a b c e = grind arith
 
 -- the marks of the negative bonds, turned at the bonds of the list
 pub unlike_marked : (inst : Ising) (list : List ℕ) → All (λ k. k < bond_count inst) list → IsStrictlyIncreasing list →

@@ -1,9 +1,10 @@
 -- Other couplings on the same bonds leave an instance planar, while their sum stays bounded.
-use Rattle.std.proofs.Common.{◌≡◌, ℕ, ℤ, ◌+◌, ◌<◌, ◌≤◌, Bool, true, false, cond, pos, List, map, refl, sym, ◌∙◌, ap, arith, get_or, set, sum_by}
+use Rattle.std.proofs.Common.{◌≡◌, ℕ, ℤ, ◌+◌, ◌^◌, ◌<◌, ◌≤◌, Bool, true, false, cond, pos, List, map, length, refl, sym, ◌∙◌, ap, subst, arith, get_or, set, sum_by, All}
 use Rattle.std.specs.Prelude.{unsigned_abs}
 use Rattle.std.specs.List.{range_with_len}
 use Rattle.std.proofs.lemmas.Int.{ints}
 use Rattle.std.proofs.lemmas.List.{get_or-set_same, length-set}
+use Rattle.std.proofs.lemmas.List.Elements.{All-from_get_or}
 use Rattle.std.proofs.lemmas.List.FromFn.{get_or-map-range_with_len, length-map-range_with_len}
 use Rattle.std.proofs.lemmas.List.Sums.{get_or-le-sum_by, sum_by-set}
 use Rattle.sg_sums.specs.Sums.{sum_below}
@@ -13,9 +14,12 @@ use Rattle.sg_model.specs.declared.bond.Bond.{Bond}
 use Rattle.sg_model.specs.Ising.{Ising, bond_at, bond_count}
 use Rattle.sg_model.specs.Energy.{weight}
 use Rattle.sg_sums.specs.Sets.{holds}
-use Rattle.sg_model.specs.Changes.{HasSameEnds, flipped_at, negated, opposite, recoupled, with_bonds, with_coupling, with_seam_flipped}
+use Rattle.sg_model.specs.Changes.{HasSameDrawing, HasSameEnds, coupled_at, coupled_bonds, flipped_at, negated, opposite, recoupled, with_bonds, with_coupling, with_couplings, with_seam_flipped}
 use Rattle.sg_model.proofs.SameEnds.{recoupled_instance}
-use Rattle.sg_model.proofs.Recoupled.{flipped_ends, negated_ends, coupling_ends}
+use Rattle.sg_model.proofs.Recoupled.{coupled_at_place, couplings_ends, flipped_ends, negated_ends, coupling_ends}
+use Rattle.sg_model.specs.WellFormed.{IsInstance}
+use Rattle.sg_walk.specs.Naming.{AreComponents}
+use Rattle.sg_walk.proofs.ComponentLaws.{components_same}
 use Rattle.sg_faces.proofs.SameFaces.{is_euler_same, faces_same}
 use Rattle.sg_limits.specs.Limits.{forced_limit}
 use Rattle.sg_planar.specs.Fit.{Embedding, IsPlanar}
@@ -57,17 +61,8 @@ weight_flipped inst =
     each k l = ap size (get_or-map-range_with_len (flipped_at inst) 0 (bond_count inst) k k no_bond l (omega arith))
         ∙ at_bond (holds inst.seam k) (bond_at inst k)
 
-pub planar_flipped : (p : Embedding) → IsPlanar p → IsPlanar (record { instance = with_seam_flipped p.instance; faces = p.faces })
-planar_flipped p h =
-    planar_recoupled p (with_seam_flipped p.instance).bonds h (flipped_ends p.instance h.instance.draft.joined)
-    (omega (arith, weight_flipped p.instance, h.sum))
-
-weight_negated : (inst : Ising) → weight (negated inst) ≡ weight inst
+pub weight_negated : (inst : Ising) → weight (negated inst) ≡ weight inst
 weight_negated inst = sum_by-map_of size opposite inst.bonds ∙ sum_by-agree (λ b. size (opposite b)) size inst.bonds size_opposite
-
-pub planar_negated : (p : Embedding) → IsPlanar p → IsPlanar (record { instance = negated p.instance; faces = p.faces })
-planar_negated p h =
-    planar_recoupled p (map opposite p.instance.bonds) h (negated_ends p.instance h.instance.draft.joined) (omega (arith, weight_negated p.instance, h.sum))
 
 -- the new coupling comes into the sum in place of the old
 pub weight_coupled : (inst : Ising) (bond : ℕ) (z : ℤ) → bond < bond_count inst
@@ -83,8 +78,45 @@ coupling_size inst bond z l =
     (omega (arith, length-set inst.bonds bond (recoupled (bond_at inst bond) z))) in
     omega (arith, ap size here, at_most)
 
-pub planar_coupled : (p : Embedding) (bond : ℕ) (z : ℤ) → IsPlanar p → bond < bond_count p.instance
-    → weight (with_coupling p.instance bond z) ≤ forced_limit → IsPlanar (record { instance = with_coupling p.instance bond z; faces = p.faces })
-planar_coupled p bond z h l small =
-    planar_recoupled p (with_coupling p.instance bond z).bonds h (coupling_ends p.instance bond z l h.instance.draft.joined
-    (omega (arith, coupling_size p.instance bond z l))) small
+-- an instance that differs in couplings alone has the same drawing
+pub flipped_drawing : (inst : Ising) → IsInstance inst → HasSameDrawing inst (with_seam_flipped inst)
+flipped_drawing inst good = record { ends = flipped_ends inst good.draft.joined; kept = refl }
+
+pub negated_drawing : (inst : Ising) → IsInstance inst → HasSameDrawing inst (negated inst)
+negated_drawing inst good = record { ends = negated_ends inst good.draft.joined; kept = refl }
+
+pub coupled_drawing : (inst : Ising) (bond : ℕ) (z : ℤ) → IsInstance inst → bond < bond_count inst
+    → weight (with_coupling inst bond z) ≤ forced_limit → HasSameDrawing inst (with_coupling inst bond z)
+coupled_drawing inst bond z good l small = record {
+  ends = coupling_ends inst bond z l good.draft.joined (omega (arith, coupling_size inst bond z l, small));
+  kept = refl;
+}
+
+-- couplings whose sum is bounded fit their type
+pub couplings_small : (inst : Ising) (couplings : List ℤ) → length couplings ≡ bond_count inst → weight (with_couplings inst couplings) ≤ forced_limit
+    → All (λ z. unsigned_abs z < 2 ^ 63) couplings
+couplings_small inst couplings given small = All-from_get_or (λ z. unsigned_abs z < 2 ^ 63) couplings (pos 0) at
+  where
+    at : (k : ℕ) → k < length couplings → unsigned_abs (get_or couplings k (pos 0)) < 2 ^ 63
+    at k b =
+        let new : List Bond = coupled_bonds inst.bonds couplings in
+        let here : get_or new k no_bond ≡ recoupled (bond_at inst k) (get_or couplings k (pos 0)) = coupled_at_place inst couplings k (omega (arith, b, given)) in
+        let at_most : size (get_or new k no_bond) ≤ sum_by size new = get_or-le-sum_by size new k no_bond
+        (omega (arith, b, given, length-map-range_with_len (coupled_at inst.bonds couplings) 0 (bond_count inst))) in
+        omega (arith, ap size here, at_most, small)
+
+pub couplings_drawing : (inst : Ising) (couplings : List ℤ) → length couplings ≡ bond_count inst → weight (with_couplings inst couplings) ≤ forced_limit
+    → HasSameDrawing inst (with_couplings inst couplings)
+couplings_drawing inst couplings given small =
+    record { ends = couplings_ends inst couplings given (couplings_small inst couplings given small); kept = refl }
+
+-- so it is planar, and has the same components
+pub planar_redrawn : (p : Embedding) (other : Ising) → IsPlanar p → HasSameDrawing p.instance other → weight other ≤ forced_limit
+    → IsPlanar (record { instance = other; faces = p.faces })
+planar_redrawn p other h same small =
+    subst (λ (i : Ising). IsPlanar (record { instance = i; faces = p.faces })) (sym same.kept) (planar_recoupled p other.bonds h same.ends small)
+
+pub components_redrawn : (inst other : Ising) → IsInstance inst → HasSameDrawing inst other → (names leasts : List ℕ) → AreComponents inst names leasts
+    → AreComponents other names leasts
+components_redrawn inst other good same names leasts h =
+    subst (λ (i : Ising). AreComponents i names leasts) (sym same.kept) (components_same inst other.bonds same.ends good names leasts h)

@@ -12,12 +12,10 @@ use Rattle.sg_model.specs.Ising.{Ising, bond_at, bond_count}
 use Rattle.sg_model.specs.Rotation.{darts_of}
 use Rattle.sg_model.specs.WellFormed.{IsInstance}
 use Rattle.sg_model.specs.Faults.{IsFaultOf, IsRefusalOf}
-use Rattle.sg_model.specs.Connected.{Reached}
+use Rattle.sg_model.specs.Connected.{all_bonds}
 use Rattle.sg_model.proofs.RotationFaults.{bad_rotation_refuted, bad_seam_refuted}
 use Rattle.sg_model.proofs.Rotations.{in_list}
-use Rattle.sg_walk.specs.Walk.{has}
 use Rattle.sg_walk.specs.Naming.{AllNamed}
-use Rattle.sg_walk.proofs.LeastSpins.{reached_by_all, reached_of_all}
 use Rattle.sg_planar.specs.Parts.{bond_in, dart_in, restricted}
 use Rattle.sg_planar.specs.Splitting.{ArePlaces, IsClosedPart, IsDealt, IsNaming, IsSplit, placed_bond, placed_darts}
 use Rattle.sg_planar.proofs.Places.{holds_entry}
@@ -25,12 +23,11 @@ use Rattle.sg_planar.proofs.PartDarts.{listed_bond}
 use Rattle.sg_planar.proofs.PartsByName.{name_below}
 use Rattle.sg_planar.proofs.DealtNumbers.{dealt_same}
 
--- names over the list of all bonds are names over all bonds
-pub naming_of_all : (inst : Ising) (all : List Bool) (names : List ℕ) → all ≡ replicate (bond_count inst) true → AllNamed inst (has all) names →
-    IsNaming inst (λ x. get_or names x 0)
-naming_of_all inst all names is named = record {
-  reached = λ x l. reached_of_all inst (has all) x (get_or names x 0) (named.each x l).reached;
-  least = λ x j l r. (named.each x l).least j (subst (λ set. Reached inst (has set) x j) (sym is) (reached_by_all inst x j r));
+-- names over all bonds, as a function
+pub naming_of_all : (inst : Ising) (names : List ℕ) → AllNamed inst all_bonds names → IsNaming inst (λ x. get_or names x 0)
+naming_of_all inst names named = record {
+  reached = λ x l. (named.each x l).reached;
+  least = λ x j l r. (named.each x l).least j r;
 }
 
 map_alike : {X : Type 0} (f g : ℕ → X) (xs : List ℕ) → All (λ x. f x ≡ g x) xs → map f xs ≡ map g xs

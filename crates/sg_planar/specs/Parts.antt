@@ -8,6 +8,8 @@ use Rattle.sg_model.specs.declared.bond.Bond.{Bond}
 use Rattle.sg_model.specs.Ising.{Ising, bond_at, bond_count}
 use Rattle.sg_model.specs.Rotation.{darts_of}
 use Rattle.sg_model.specs.Connected.{AreLeasts, IsConnected, Reached, all_bonds}
+use Rattle.sg_planar.specs.declared.components.Division.{Division}
+use Rattle.sg_planar.specs.declared.components.Division.TheVariants.{Whole, Several}
 use Rattle.sg_planar.specs.declared.components.Part.{Part}
 use Rattle.sg_planar.specs.Fit.{IsPlanar}
 
@@ -54,3 +56,8 @@ pub record AreParts (inst : Ising) (parts : List Part) : Type 0 where
   pub each : AllZip (IsPart inst) leasts parts
   pub spins_once : (x : ℕ) → x < inst.n → sum_by (λ p. times_in p.spins x) parts ≡ 1
   pub bonds_once : (k : ℕ) → k < bond_count inst → sum_by (λ p. times_in p.bonds k) parts ≡ 1
+
+-- one component, which is the whole as it stands, or a part for each
+abbrev pub IsDivision : Ising → Division → Type 0
+IsDivision inst Whole = IsConnected inst
+IsDivision inst (Several parts) = AreParts inst parts

@@ -84,7 +84,7 @@ fn darts_from(inst: &Instance, spin: u32) -> &[u32]
     ensures value { result.now ≡ darts_of inst.now spin }
     ensures leave { All (λ d. (d < dart_count inst.now) × (tail inst.now d ≡ spin)) result.now }
 {
-    inst.rotation().at(spin as usize).as_slice()
+    inst.rotation().at(spin as usize)
 }
 
 // Sets the neighbours of a spin: unlike it over the bonds that ask for it.

@@ -1,16 +1,18 @@
 ghost use Rattle.std.specs.Prelude.{◌≡◌, ◌<◌, ◌≤◌, ◌^◌, ◌+◌, ◌*◌, ◌/◌, ◌%◌, map, length, slice_index, All, IfOk};
 ghost use Rattle.sg_model.specs.Ising.{bond_at, bond_count};
 ghost use Rattle.sg_model.specs.Rotation.{darts_of};
+ghost use Rattle.sg_model.specs.Connected.{all_bonds};
 ghost use Rattle.sg_model.specs.WellFormed.{IsInstance};
-ghost use Rattle.sg_planar.specs.Parts.{AreParts, IsPart, restricted};
-ghost use Rattle.sg_planar.specs.Splitting.{ArePlaces, IsClosedPart, IsNaming, IsSplit, placed_bond, placed_darts};
+ghost use Rattle.sg_walk.specs.Naming.{AllNamed};
+ghost use Rattle.sg_planar.specs.Parts.{AreParts, IsDivision, IsPart, restricted};
+ghost use Rattle.sg_planar.specs.Splitting.{ArePlaces, IsClosedPart, IsSplit, placed_bond, placed_darts};
 
 use super::dealing::{Dealt, deal};
 use super::{NoMemory, Planar};
 use sg_faces::trace;
 use sg_list::{Numbers, Records};
 use sg_model::{Bond, BondList, Bonds, DartList, Fault, Instance, Rotation};
-use sg_walk::names;
+use sg_walk::Components;
 use std::alloc::{AllocError, Global};
 
 /// Numbers of spins.
@@ -28,35 +30,47 @@ pub struct Part {
     pub planar: Planar,
 }
 
-// The least spin of the component of each spin, and spins and bonds dealt out by these names. A spin
-// that is no name has empty lists.
+// Spins and bonds dealt out by the least spin of their component. A spin that is no such has empty
+// lists.
 #[derive(Drop)]
 struct Split {
-    names: Vec<u32>,
     spins: Dealt,
     bonds: Dealt,
 }
 
+/// How an instance falls into its components.
+#[derive(Drop)]
+pub enum Division {
+    /// It is one component, which is the instance as it stands.
+    Whole,
+    /// It is several, each an instance of its own.
+    Several(PartList),
+}
+
+/// The components of an instance. Of one that is connected nothing is copied, and the answer takes the
+/// same time for each; of another the parts are made, as `parts` makes them. The only error is want of
+/// memory.
+pub fn divide(alloc: Global, p: &Planar) -> Result<Division, NoMemory>
+    ensures { IfOk result (IsDivision p.now.instance) }
+{
+    if p.is_connected() {
+        return Ok(Division::Whole);
+    }
+    Ok(Division::Several(parts(alloc, p)?))
+}
+
 /// The components of an instance, each as an instance of its own, in the order of their least spins.
 ///
-/// Spins and bonds are dealt out by the least spin of their component, so that all parts together
-/// take time and memory linear in the spins and bonds. Each part is connected and drawn on a sphere
-/// as the whole is: its spins and faces are at most two more than its bonds, by Euler's formula, and
-/// summed over the parts they are just that. The only error is want of memory.
+/// Spins and bonds are dealt out by the least spin of their component, which the instance knows, so
+/// that all parts together take time and memory linear in the spins and bonds. Each part is connected
+/// and drawn on a sphere as the whole is: its spins and faces are at most two more than its bonds, by
+/// Euler's formula, and summed over the parts they are just that. The only error is want of memory.
 pub fn parts(alloc: Global, p: &Planar) -> Result<PartList, NoMemory>
     ensures { IfOk result (AreParts p.now.instance) }
 {
-    let split = deal_out(alloc, p.instance())?;
-    parts_of(alloc, p, &split)
-}
-
-// For each spin the least spin of its component.
-fn spin_names(alloc: Global, inst: &Instance) -> Result<Vec<u32>, NoMemory>
-    ensures count { IfOk result (λ names. length names.items ≡ inst.now.n) }
-    ensures naming { IfOk result (λ names. IsNaming inst.now (slice_index names.items)) }
-{
-    let all = vec![in alloc; true; inst.bonds().len()]?;
-    names(alloc, inst, &all)
+    let names = p.components().names.as_slice();
+    let split = deal_out(alloc, p.instance(), names)?;
+    parts_of(alloc, p, names, &split)
 }
 
 // For each bond the least spin of its component.
@@ -72,19 +86,15 @@ fn bond_names(alloc: Global, bonds: &[Bond], names: &[u32]) -> Result<Vec<u32>, 
 }
 
 // Spins and bonds by the names of their components.
-fn deal_out(alloc: Global, inst: &Instance) -> Result<Split, NoMemory>
-    ensures { IfOk result (λ split. IsSplit inst.now split.names.items
+fn deal_out(alloc: Global, inst: &Instance, names: &[u32]) -> Result<Split, NoMemory>
+    requires { AllNamed inst.now all_bonds names.now }
+    ensures { IfOk result (λ split. IsSplit inst.now names.now
         split.spins.lists.items split.spins.places.items split.bonds.lists.items split.bonds.places.items) }
 {
-    let names = spin_names(alloc, inst)?;
-    let labels = bond_names(alloc, inst.bonds().as_slice(), &names)?;
-    let spins = deal(alloc, &names, inst.n() as usize)?;
+    let labels = bond_names(alloc, inst.bonds().as_slice(), names)?;
+    let spins = deal(alloc, names, inst.n() as usize)?;
     let bonds = deal(alloc, &labels, inst.n() as usize)?;
-    Ok(Split {
-        names,
-        spins,
-        bonds,
-    })
+    Ok(Split { spins, bonds })
 }
 
 // The bonds of the list, each between the places of its ends.
@@ -138,7 +148,8 @@ fn placed_rotation(
     let mut rotation = Rotation::new(alloc);
     for spin in spins {
         let darts = inst.rotation().at(*spin as usize);
-        rotation.push(placed_list(alloc, darts.as_slice(), places)?)?;
+        let placed = placed_list(alloc, darts, places)?;
+        rotation.push(placed.as_slice())?;
     }
     Ok(rotation)
 }
@@ -174,11 +185,17 @@ fn part_instance(
 }
 
 // The part of the component with this least spin.
-fn part_from(alloc: Global, p: &Planar, split: &Split, least: u32) -> Result<Part, NoMemory>
-    requires split { IsSplit p.now.instance split.now.names.items split.now.spins.lists.items
+fn part_from(
+    alloc: Global,
+    p: &Planar,
+    names: &[u32],
+    split: &Split,
+    least: u32,
+) -> Result<Part, NoMemory>
+    requires split { IsSplit p.now.instance names.now split.now.spins.lists.items
         split.now.spins.places.items split.now.bonds.lists.items split.now.bonds.places.items }
     requires least_in { least < p.now.instance.n }
-    requires least_own { slice_index split.now.names.items least ≡ least }
+    requires least_own { slice_index names.now least ≡ least }
     ensures { IfOk result (IsPart p.now.instance least) }
 {
     let inst = p.instance();
@@ -193,7 +210,8 @@ fn part_from(alloc: Global, p: &Planar, split: &Split, least: u32) -> Result<Par
         &split.bonds.places,
     )?;
     let faces = trace(alloc, &instance)?;
-    let planar = Planar::of(instance, faces);
+    let components = Components::whole(alloc, &instance)?;
+    let planar = Planar::of(instance, faces, components);
     Ok(Part {
         spins,
         bonds,
@@ -202,15 +220,15 @@ fn part_from(alloc: Global, p: &Planar, split: &Split, least: u32) -> Result<Par
 }
 
 // The parts of all components.
-fn parts_of(alloc: Global, p: &Planar, split: &Split) -> Result<PartList, NoMemory>
-    requires { IsSplit p.now.instance split.now.names.items split.now.spins.lists.items
+fn parts_of(alloc: Global, p: &Planar, names: &[u32], split: &Split) -> Result<PartList, NoMemory>
+    requires { IsSplit p.now.instance names.now split.now.spins.lists.items
         split.now.spins.places.items split.now.bonds.lists.items split.now.bonds.places.items }
     ensures { IfOk result (AreParts p.now.instance) }
 {
     let mut parts = PartList::new(alloc);
     for spin in 0..p.instance().n() {
-        if split.names[spin as usize] == spin {
-            parts.push(part_from(alloc, p, split, spin)?)?;
+        if names[spin as usize] == spin {
+            parts.push(part_from(alloc, p, names, split, spin)?)?;
         }
     }
     Ok(parts)

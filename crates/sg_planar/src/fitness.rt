@@ -1,13 +1,15 @@
 ghost use Rattle.std.specs.Prelude.{◌≡◌, ◌<◌, ◌^◌, ◌-ℤ◌, pos, IfOk, IfErr};
+ghost use Rattle.sg_model.specs.Connected.{AreLeasts};
 ghost use Rattle.sg_faces.specs.Faces.{IsFaceLabels};
 ghost use Rattle.sg_faces.specs.Euler.{IsEuler};
+ghost use Rattle.sg_walk.specs.Naming.{AreComponents};
 ghost use Rattle.sg_planar.specs.Fit.{IsFit, IsUnfitFault};
 
 use super::NoMemory;
 use sg_faces::{Faces, trace};
 use sg_limits::SUM_LIMIT;
 use sg_model::{Fault, Instance, Refusal};
-use sg_walk::leasts;
+use sg_walk::Components;
 use std::alloc::Global;
 
 fn difference(a: u64, b: u64) -> i64
@@ -19,21 +21,29 @@ fn difference(a: u64, b: u64) -> i64
 }
 
 // Euler's number: spins minus bonds plus faces, and less two for each component but one.
-fn euler_number(alloc: Global, inst: &Instance, faces: &Faces) -> Result<i64, NoMemory>
-    requires { IsFaceLabels inst.now faces.now }
-    ensures { IfOk result (IsEuler inst.now) }
+fn euler_number(inst: &Instance, faces: &Faces, leasts: &[u32]) -> i64
+    requires faces { IsFaceLabels inst.now faces.now }
+    requires leasts { AreLeasts inst.now leasts.now }
+    ensures { IsEuler inst.now result }
 {
     let counted = u64::from(inst.n()) + u64::from(faces.count());
-    let leasts = leasts(alloc, inst)?;
     let separations = leasts.len() as u64 - 1;
     let taken = inst.bonds().len() as u64 + 2 * separations;
-    Ok(difference(counted, taken))
+    difference(counted, taken)
 }
 
-/// Tests the sum, then Euler's number, and gives the faces of an instance that passes.
-pub(crate) fn judge(alloc: Global, inst: &Instance) -> Result<Faces, Fault>
+/// What an instance has by its drawing alone, whatever its couplings: its faces and its components.
+#[derive(Drop)]
+pub(crate) struct Drawing {
+    pub(crate) faces: Faces,
+    pub(crate) components: Components,
+}
+
+/// Tests the sum, then Euler's number, and gives the faces and components of an instance that passes.
+pub(crate) fn judge(alloc: Global, inst: &Instance) -> Result<Drawing, Fault>
     ensures fit { IfOk result (λ _. IsFit inst.now) }
-    ensures faces { IfOk result (IsFaceLabels inst.now) }
+    ensures faces { IfOk result (λ d. IsFaceLabels inst.now d.faces) }
+    ensures components { IfOk result (λ d. AreComponents inst.now d.components.names d.components.leasts) }
     ensures unfit { IfErr result (IsUnfitFault inst.now) }
 {
     let sum = inst.weight();
@@ -41,9 +51,10 @@ pub(crate) fn judge(alloc: Global, inst: &Instance) -> Result<Faces, Fault>
         return Err(Fault::Refused(Refusal::SumTooLarge { sum }));
     }
     let faces = trace(alloc, inst)?;
-    let euler = euler_number(alloc, inst, &faces)?;
+    let components = Components::find(alloc, inst)?;
+    let euler = euler_number(inst, &faces, components.leasts.as_slice());
     if euler != 2 {
         return Err(Fault::Refused(Refusal::NotPlanar { euler }));
     }
-    Ok(faces)
+    Ok(Drawing { faces, components })
 }

@@ -5,11 +5,14 @@
 //! spins minus bonds plus faces, and less two for each component but one, is 2. The sum of the
 //! couplings' sizes is bounded too, so that all later numbers fit their types.
 //!
+//! Faces and components do not depend on the couplings. They are found once, by `Planar::new`, and stay
+//! where the couplings change (`with_couplings`, `with_seam_flipped`).
+//!
 //! In such an instance that is connected, a list of bonds is that of the broken bonds of an assignment
 //! exactly where it fits the faces, and `spin_walk` finds the assignment. `parts` takes an instance
-//! apart into its components.
+//! apart into its components, and `divide` one that has several.
 //!
-//! For the next engineer: `Planar::new`, `spin_walk` and `parts` are the contracts that matter.
+//! For the next engineer: `Planar::new`, `spin_walk`, `parts` and `divide` are the contracts that matter.
 //! `specs/Fit.antt` says what is fit, which fact fails first, and what a `Planar` keeps;
 //! `specs/BrokenLists.antt` which lists fit the faces; `specs/Parts.antt` what the parts are.
 //! `proofs/PlanarDuality.antt` has the mathematics over any embedding, `proofs/EulerBounds.antt` the
@@ -24,7 +27,7 @@ mod fitting;
 mod planar;
 
 pub use assignment::spin_walk;
-pub use components::{Part, PartList, SpinNumbers, parts};
+pub use components::{Division, Part, PartList, SpinNumbers, divide, parts};
 pub use fitting::fits_faces;
 pub use planar::{NotFit, Planar};
 use std::alloc::AllocError;

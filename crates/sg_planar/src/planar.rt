@@ -1,33 +1,39 @@
-ghost use Rattle.std.specs.Prelude.{◌≡◌, ◌<◌, ◌≤◌, IfOk, IfErr};
+ghost use Rattle.std.specs.Prelude.{◌≡◌, ◌↔◌, ◌<◌, ◌≤◌, IsTrue, length, IfOk, IfErr};
 ghost use Rattle.sg_limits.specs.Limits.{forced_limit};
 ghost use Rattle.sg_model.specs.Ising.{bond_count};
 ghost use Rattle.sg_model.specs.Energy.{weight};
-ghost use Rattle.sg_model.specs.Changes.{negated, with_coupling, with_seam_flipped};
+ghost use Rattle.sg_model.specs.Changes.{HasSameDrawing, negated, with_coupling, with_couplings, with_seam_flipped};
+ghost use Rattle.sg_model.specs.Connected.{IsConnected};
+ghost use Rattle.sg_walk.specs.Naming.{AreComponents};
 ghost use Rattle.sg_planar.specs.Fit.{IsFit, IsPlanar, IsUnfitFault};
 
 use super::NoMemory;
-use super::fitness::judge;
+use super::fitness::{Drawing, judge};
 use sg_faces::Faces;
-use sg_model::{Fault, Instance};
+use sg_model::{Couplings, Fault, Instance};
+use sg_walk::Components;
 use std::alloc::Global;
 use std::marker::Model;
 
-/// An instance, each component of which is drawn on a sphere, with its faces. The sum of the
-/// couplings' sizes is at most 2^45 + 1.
+/// An instance, each component of which is drawn on a sphere, with its faces and its components. The
+/// sum of the couplings' sizes is at most 2^45 + 1.
 #[derive(Drop)]
 pub struct Planar {
     instance: Instance,
     faces: Faces,
+    components: Components,
 }
 
 impl Model for Planar {
+    ghost use Rattle.sg_walk.specs.Naming.{AreComponents};
     ghost use Rattle.sg_planar.specs.Fit.{Embedding, IsPlanar};
 
     ghost Value = { Embedding };
 
     ghost view = { λ p. record { instance = p.instance; faces = p.faces } };
 
-    ghost invariant = { λ p. IsPlanar (record { instance = p.instance; faces = p.faces }) };
+    ghost invariant = { λ p. IsPlanar (record { instance = p.instance; faces = p.faces })
+        × AreComponents p.instance p.components.names p.components.leasts };
 }
 
 /// Why an instance is not fit, and the instance as it was handed in.
@@ -51,17 +57,42 @@ impl Planar {
         ensures unfit { IfErr result (λ e. IsUnfitFault instance e.fault) }
     {
         match judge(alloc, &instance) {
-            Ok(faces) => Ok(Planar { instance, faces }),
+            Ok(drawing) => {
+                let Drawing { faces, components } = drawing;
+                Ok(Planar {
+                    instance,
+                    faces,
+                    components,
+                })
+            }
             Err(fault) => Err(NotFit { fault, instance }),
         }
     }
 
-    /// The planar instance of these two, which make one.
-    pub(crate) fn of(instance: Instance, faces: Faces) -> Planar
-        requires { IsPlanar (record { instance = instance; faces = faces }) }
+    /// Tests an instance as `new` does, for a caller that does not want it back.
+    pub fn test(alloc: Global, instance: Instance) -> Result<Planar, Fault>
+        ensures instance { IfOk result (λ p. p.instance ≡ instance) }
+        ensures fit { IfOk result (λ _. IsFit instance) }
+        ensures planar { IfOk result IsPlanar }
+        ensures unfit { IfErr result (IsUnfitFault instance) }
+    {
+        match Planar::new(alloc, instance) {
+            Ok(planar) => Ok(planar),
+            Err(NotFit { fault, instance: _ }) => Err(fault),
+        }
+    }
+
+    /// The planar instance of these three, which make one.
+    pub(crate) fn of(instance: Instance, faces: Faces, components: Components) -> Planar
+        requires planar { IsPlanar (record { instance = instance; faces = faces }) }
+        requires components { AreComponents instance components.names components.leasts }
         ensures { result ≡ record { instance = instance; faces = faces } }
     {
-        Planar { instance, faces }
+        Planar {
+            instance,
+            faces,
+            components,
+        }
     }
 
     /// The instance.
@@ -80,6 +111,63 @@ impl Planar {
         &self.faces
     }
 
+    /// The components of the instance.
+    pub fn components(&self) -> &Components
+        ensures components { AreComponents self.now.instance result.now.names result.now.leasts }
+        ensures planar { IsPlanar self.now }
+    {
+        &self.components
+    }
+
+    /// Whether the instance is one component. It takes the same time for every instance.
+    pub fn is_connected(&self) -> bool
+        ensures { IsTrue result ↔ IsConnected self.now.instance }
+    {
+        self.components.leasts.len() == 1
+    }
+
+    /// The same drawing with these couplings, in the order of the bonds, in time linear in the bonds.
+    /// It takes no memory: the rotation, the faces and the components are moved, and not copied.
+    pub fn with_couplings(self, couplings: &Couplings) -> Planar
+        requires count { length couplings.now ≡ bond_count self.instance }
+        requires sum { weight (with_couplings self.instance couplings.now) ≤ forced_limit }
+        ensures value { result ≡ record {
+          instance = with_couplings self.instance couplings.now;
+          faces = self.faces;
+        } }
+        ensures planar { IsPlanar result }
+    {
+        let Planar {
+            instance,
+            faces,
+            components,
+        } = self;
+        Planar {
+            instance: instance.with_couplings(couplings),
+            faces,
+            components,
+        }
+    }
+
+    /// The same drawing with the sign of the coupling changed on each bond of the seam, in time linear
+    /// in the bonds. The rotation, the faces and the components are moved, and not copied.
+    pub fn with_seam_flipped(self) -> Result<Planar, NoMemory>
+        ensures value { IfOk result (λ p.
+            p ≡ record { instance = with_seam_flipped self.instance; faces = self.faces }) }
+        ensures planar { IfOk result IsPlanar }
+    {
+        let Planar {
+            instance,
+            faces,
+            components,
+        } = self;
+        Ok(Planar {
+            instance: instance.with_seam_flipped()?,
+            faces,
+            components,
+        })
+    }
+
     /// A copy with the sign of the coupling changed on each bond of the seam. The faces stay.
     pub fn flip_seam(&self) -> Result<Planar, NoMemory>
         ensures copy { IfOk result (λ copy.
@@ -87,8 +175,7 @@ impl Planar {
         ensures planar { IfOk result IsPlanar }
     {
         let instance = self.instance.flip_seam()?;
-        let faces = self.faces.clone()?;
-        Ok(Planar { instance, faces })
+        self.drawn_with(instance)
     }
 
     /// A copy in which the sign of every coupling is changed. The faces stay.
@@ -98,8 +185,7 @@ impl Planar {
         ensures planar { IfOk result IsPlanar }
     {
         let instance = self.instance.negated()?;
-        let faces = self.faces.clone()?;
-        Ok(Planar { instance, faces })
+        self.drawn_with(instance)
     }
 
     /// A copy in which one bond has the coupling `j`. The faces stay. The sum of the couplings' sizes
@@ -115,7 +201,22 @@ impl Planar {
         ensures planar { IfOk result IsPlanar }
     {
         let instance = self.instance.with_coupling(bond, j)?;
+        self.drawn_with(instance)
+    }
+
+    // A copy of the drawing, with an instance that differs from this one in couplings alone.
+    fn drawn_with(&self, instance: Instance) -> Result<Planar, NoMemory>
+        requires drawing { HasSameDrawing self.now.instance instance }
+        requires sum { weight instance ≤ forced_limit }
+        ensures copy { IfOk result (λ copy. copy ≡ record { instance = instance; faces = self.now.faces }) }
+        ensures planar { IfOk result IsPlanar }
+    {
         let faces = self.faces.clone()?;
-        Ok(Planar { instance, faces })
+        let components = self.components.copy()?;
+        Ok(Planar {
+            instance,
+            faces,
+            components,
+        })
     }
 }

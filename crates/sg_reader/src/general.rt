@@ -17,6 +17,7 @@ use super::range::Range;
 use super::row::Row;
 use super::rows::Rows;
 use sg_limits::BOND_LIMIT;
+use sg_list::Records;
 use sg_model::{Bond, BondList, Bonds, DartList, Fault, Instance, Refusal, Rotation};
 use std::alloc::Global;
 
@@ -30,7 +31,7 @@ const ROT: &[u8] = b"rot";
 pub(crate) struct GeneralBody {
     n: u32,
     bonds: Bonds,
-    rotation: Rotation,
+    rotation: Records<DartList>,
     seen: Vec<bool>,
     seam: Option<BondList>,
 }
@@ -98,7 +99,7 @@ impl GeneralBody {
         ensures value { IfOk result (λ s. s.n ≡ n) }
         ensures holds { IfOk result (HoldsGeneral []) }
     {
-        let mut rotation = Rotation::new(alloc);
+        let mut rotation = Records::new(alloc);
         let mut seen = Vec::new(alloc);
         for _spin in 0..n {
             rotation.push(DartList::new(alloc))?;
@@ -202,8 +203,20 @@ impl GeneralBody {
             Some(bonds) => bonds,
             None => BondList::new(alloc),
         };
+        let rotation = laid_out(alloc, rotation.as_slice())?;
         Instance::new(alloc, n, bonds, rotation, seam)
     }
+}
+
+// The lists of darts, one behind another.
+fn laid_out(alloc: Global, lists: &[DartList]) -> Result<Rotation, NoMemory>
+    ensures { IfOk result (λ rotation. rotation ≡ lists.now) }
+{
+    let mut rotation = Rotation::new(alloc);
+    for list in lists {
+        rotation.push(list.as_slice())?;
+    }
+    Ok(rotation)
 }
 
 /// Reads the records of a general instance of `n` spins behind the first, up to its `end`, and gives

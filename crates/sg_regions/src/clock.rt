@@ -49,6 +49,14 @@ impl Clock {
         })
     }
 
+    // Time 0 again, at which nothing waits.
+    pub fn restart(&mut self) {
+        self.now = 0;
+        self.agenda.clear();
+        self.arcs.fill(NEVER);
+        self.hubs.fill(NEVER);
+    }
+
     pub fn now(&self) -> i64 {
         self.now
     }

@@ -8,7 +8,7 @@
 // A node is deep in a region if all its neighbours were seen to lie in it. It is deep as long as the
 // region is there and none of the neighbours is left; such a node need not be woken.
 use super::NoMemory;
-use super::lists::{Slot, entry, put_entry, set_entry};
+use super::lists::{Slot, copy_list, entry, put_entry, set_entry};
 use std::alloc::Global;
 
 // Of a node that is covered: the region that took it, the terminal from which it was reached, and the
@@ -329,6 +329,32 @@ impl Cover {
             };
             self.places[node as usize].birth = birth.unwrap_or(0);
         }
+    }
+
+    // The number of a region among all that were born, if there is one of this name.
+    pub fn birth(&self, name: u32) -> Slot {
+        self.row(name).birth
+    }
+
+    // A region leaves all nodes that it took itself; `close` has to follow.
+    pub fn uncover(&mut self, name: u32) {
+        let mut last = self.row(name).last;
+        for _ in 0..self.taken.len() {
+            let Some(node) = last.number() else {
+                break;
+            };
+            last = self.before(node);
+            set_entry(&mut self.taken, node, bare());
+        }
+    }
+
+    // Makes all as it is in another cover.
+    pub fn restore(&mut self, base: &Cover) -> Result<(), NoMemory> {
+        copy_list(&mut self.taken, &base.taken)?;
+        copy_list(&mut self.places, &base.places)?;
+        copy_list(&mut self.rows, &base.rows)?;
+        self.births = base.births;
+        Ok(())
     }
 
     // Notes that a neighbour of a node was left.

@@ -3,13 +3,19 @@
 // The parts of the state are kept apart, each by its own rules: the cover of the nodes, the forest of
 // the regions, the clock, and the hubs' heaps. The one rule between them: where an outer region nears
 // something over an arc, an event waits at this arc or at its way back, for no later than it comes; of
-// a hub the event is that of its soonest arc.
+// a hub the event is that of its soonest arc, and of the arcs from one region to a hub the soonest
+// stands for all.
 //
 // `wake` enters events, `steps` has the steps of the method, `bare` what happens at bare nodes,
-// `events` what comes of each event, and `finish` reads the nest and the pairs off.
+// `events` what comes of each event, and `finish` reads the nest and the pairs off. For repairs, `parts`
+// keeps what outlives the arcs, `apart` takes finished regions apart, and `changed` reads off what is
+// not as it was.
+mod apart;
 mod bare;
+mod changed;
 mod events;
 mod finish;
+mod parts;
 mod steps;
 mod wake;
 
@@ -23,6 +29,9 @@ use super::hubs::Hubs;
 use super::lists::number;
 use super::radii::{Reach, Role};
 use super::work::Work;
+pub use apart::Ending;
+pub use changed::Order;
+pub use parts::{Base, Parts};
 use std::alloc::Global;
 
 // What an outer region sees over an arc: when it gets to the end or meets the region there, and

@@ -5,7 +5,7 @@
 // much the radii over it differ from the base (`radii`). So the top over a region is found in two
 // looks however deep a blossom is, and a change of the top is one write.
 use super::NoMemory;
-use super::lists::{number, put_entry, set_entry};
+use super::lists::{copy_list, number, put_entry, set_entry};
 use std::alloc::Global;
 
 // The top of a family, and the base that its regions count from.
@@ -52,6 +52,12 @@ impl Families {
             Some(family) => *family,
             None => Family { top: 0, base: 0 },
         }
+    }
+
+    // Makes all as it is in others.
+    pub fn restore(&mut self, base: &Families) -> Result<(), NoMemory> {
+        copy_list(&mut self.families, &base.families)?;
+        copy_list(&mut self.free, &base.free)
     }
 
     // A family has another top, and so much more of a base.

@@ -20,7 +20,7 @@ pub fn propose(
     terminals: &Terminals,
 ) -> Result<Option<Proposal>, NoMemory> {
     let count = web.edges().len();
-    let adjacency = arcs_of(alloc, web)?;
+    let adjacency = arcs_of(alloc, web, 2)?;
     let Some((nest, pairs)) = grow(alloc, &adjacency, terminals.as_slice())? else {
         return Ok(None);
     };
@@ -32,18 +32,20 @@ pub fn propose(
         edges,
         cuts: chains.cuts,
         growths: chains.growths,
+        nodes: chains.nodes,
     }))
 }
 
-// The arcs between the nodes, each twice as long as its edge weighs. An edge to itself has none.
-fn arcs_of(alloc: Global, web: &Web) -> Result<Adjacency, NoMemory> {
+// The arcs between the nodes, each so many times as long as its edge weighs. An edge to itself has
+// none.
+pub fn arcs_of(alloc: Global, web: &Web, times: i64) -> Result<Adjacency, NoMemory> {
     let edges = web.edges().as_slice();
     let mut sides = Vec::with_capacity(alloc, edges.len().saturating_mul(2))?;
     let mut lengths = Vec::with_capacity(alloc, edges.len())?;
     for edge in edges {
         sides.push(edge.a)?;
         sides.push(edge.b)?;
-        lengths.push(edge.w.wrapping_mul(2))?;
+        lengths.push(edge.w.wrapping_mul(times))?;
     }
     Adjacency::new(alloc, web.nodes(), sides, lengths)
 }

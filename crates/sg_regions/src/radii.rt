@@ -6,7 +6,7 @@
 // at most as often as its top doubles. All else takes the same time for any blossoms.
 use super::NoMemory;
 use super::families::Families;
-use super::lists::{entry, put_entry, set_entry};
+use super::lists::{copy_list, entry, put_entry, set_entry};
 use std::alloc::Global;
 
 // The part that a region plays: an outer one grows, an inner one gives way, and a free one, which
@@ -143,6 +143,12 @@ impl Radii {
     pub fn plant(&mut self, name: u32, now: i64) -> Result<(), NoMemory> {
         let family = self.families.found(name)?;
         put_entry(&mut self.growths, name, new_growth(family, 0, now))
+    }
+
+    // Makes all as it is in others.
+    pub fn restore(&mut self, base: &Radii) -> Result<(), NoMemory> {
+        copy_list(&mut self.growths, &base.growths)?;
+        self.families.restore(&base.families)
     }
 
     // A new outer blossom over a top, its largest part, of whose family it is.

@@ -15,15 +15,6 @@ fn is_hub(adjacency: &Adjacency, node: u32) -> bool {
     adjacency.arcs_of(node).len() > HUB
 }
 
-// How far all regions over a node reach beyond it. Along a shortest way from a mate this falls by as
-// much as the way is long, until it comes to what both mates have in common.
-#[derive(Drop)]
-struct Heights {
-    nodes: Vec<i64>,
-    // The radii of each region and of all that it is a part of.
-    regions: Vec<i64>,
-}
-
 // The radii of a region and of all that it is a part of.
 fn height_over(regions: &[i64], region: Option<u32>) -> i64 {
     match region {
@@ -46,20 +37,21 @@ fn heights_of_regions(alloc: Global, nest: &Nest) -> Result<Vec<i64>, NoMemory> 
     Ok(heights)
 }
 
-impl Heights {
-    fn new(alloc: Global, nest: &Nest) -> Result<Heights, NoMemory> {
-        let regions = heights_of_regions(alloc, nest)?;
-        let mut nodes = Vec::with_capacity(alloc, nest.nodes() as usize)?;
-        for node in 0..nest.nodes() {
-            let over = height_over(&regions, nest.region_of(node));
-            nodes.push(over.wrapping_sub(nest.taken_at(node)))?;
-        }
-        Ok(Heights { nodes, regions })
-    }
+// Two nodes that are mates, and what both have in common: the radii of all regions over both.
+#[derive(Clone, Copy)]
+pub struct Mates {
+    pub one: u32,
+    pub other: u32,
+    pub floor: i64,
+}
 
-    fn of_node(&self, node: u32) -> i64 {
-        entry(&self.nodes, node).unwrap_or(0)
-    }
+// The mates of a pair, by the radii of each region and of all that it is a part of.
+fn mates_of(nest: &Nest, regions: &[i64], pair: Pair) -> Option<Mates> {
+    Some(Mates {
+        one: nest.seed(pair.one)?,
+        other: nest.seed(pair.other)?,
+        floor: height_over(regions, pair.base),
+    })
 }
 
 // A search from one of two mates.
@@ -142,9 +134,10 @@ impl Search {
 
 // Searches between mates, one after another.
 #[derive(Drop)]
-struct Ways<'a> {
-    adjacency: &'a Adjacency,
-    heights: Heights,
+pub struct Ways {
+    // How far all regions over a node reach beyond it. Along a shortest way from a mate this falls by as
+    // much as the way is long, until it comes to what both mates have in common.
+    heights: Vec<i64>,
     // The search that goes on next, and the other one.
     near: Search,
     far: Search,
@@ -158,7 +151,31 @@ struct Meeting {
     dart: u32,
 }
 
-impl<'a> Ways<'a> {
+impl Ways {
+    // Over so many nodes, none of which has a height yet.
+    pub fn new(alloc: Global, nodes: usize) -> Result<Ways, NoMemory> {
+        Ok(Ways {
+            heights: Vec::with_capacity(alloc, nodes)?,
+            near: Search::new(alloc, nodes)?,
+            far: Search::new(alloc, nodes)?,
+        })
+    }
+
+    // No node has a height.
+    pub fn clear_heights(&mut self) {
+        self.heights.clear();
+    }
+
+    // Gives the next node its height.
+    pub fn add_height(&mut self, height: i64) -> Result<(), NoMemory> {
+        self.heights.push(height)?;
+        Ok(())
+    }
+
+    fn height(&self, node: u32) -> i64 {
+        entry(&self.heights, node).unwrap_or(0)
+    }
+
     // The node from which is searched next, of either side: hubs only where nothing else is left.
     fn next(&mut self) -> Option<u32> {
         if self.near.waiting.is_empty() && !self.far.waiting.is_empty() {
@@ -175,12 +192,17 @@ impl<'a> Ways<'a> {
 
     // Goes from a node over all its arcs that may be on the way, which has a length and comes down to a
     // height. Gives where it meets the other side.
-    fn spread(&mut self, node: u32, floor: i64, length: i64) -> Result<Option<Meeting>, NoMemory> {
-        let adjacency = self.adjacency;
-        let gone = self.near.height.wrapping_sub(self.heights.of_node(node));
+    fn spread(
+        &mut self,
+        adjacency: &Adjacency,
+        node: u32,
+        floor: i64,
+        length: i64,
+    ) -> Result<Option<Meeting>, NoMemory> {
+        let gone = self.near.height.wrapping_sub(self.height(node));
         for arc in adjacency.arcs_of(node) {
             let there = gone.wrapping_add(arc.length);
-            let height = self.heights.of_node(arc.to);
+            let height = self.height(arc.to);
             if self.far.has(arc.to) {
                 let rest = self.far.height.wrapping_sub(height);
                 if there.wrapping_add(rest) == length {
@@ -201,12 +223,17 @@ impl<'a> Ways<'a> {
     }
 
     // Searches from both mates until both searches meet.
-    fn meeting(&mut self, floor: i64, length: i64) -> Result<Option<Meeting>, NoMemory> {
-        for _ in 0..self.adjacency.nodes().saturating_mul(2) {
+    fn meeting(
+        &mut self,
+        adjacency: &Adjacency,
+        floor: i64,
+        length: i64,
+    ) -> Result<Option<Meeting>, NoMemory> {
+        for _ in 0..adjacency.nodes().saturating_mul(2) {
             let Some(node) = self.next() else {
                 break;
             };
-            let found = self.spread(node, floor, length)?;
+            let found = self.spread(adjacency, node, floor, length)?;
             if found.is_some() {
                 return Ok(found);
             }
@@ -216,32 +243,38 @@ impl<'a> Ways<'a> {
     }
 
     // Turns the marks of the edges of a shortest way between two mates, and says whether there is one.
-    fn turn_way(
+    pub fn turn_way(
         &mut self,
-        nest: &Nest,
-        pair: Pair,
+        adjacency: &Adjacency,
+        mates: Mates,
         join: &mut EdgeMarks,
     ) -> Result<bool, NoMemory> {
-        let (Some(one), Some(other)) = (nest.seed(pair.one), nest.seed(pair.other)) else {
-            return Ok(false);
-        };
-        let floor = height_over(&self.heights.regions, pair.base);
-        let first = self.heights.of_node(one);
-        let second = self.heights.of_node(other);
+        let first = self.height(mates.one);
+        let second = self.height(mates.other);
         let length = first
-            .wrapping_sub(floor)
-            .wrapping_add(second.wrapping_sub(floor));
-        self.near.begin(one, first, is_hub(self.adjacency, one))?;
+            .wrapping_sub(mates.floor)
+            .wrapping_add(second.wrapping_sub(mates.floor));
+        self.near
+            .begin(mates.one, first, is_hub(adjacency, mates.one))?;
         self.far
-            .begin(other, second, is_hub(self.adjacency, other))?;
-        let Some(meeting) = self.meeting(floor, length)? else {
+            .begin(mates.other, second, is_hub(adjacency, mates.other))?;
+        let Some(meeting) = self.meeting(adjacency, mates.floor, length)? else {
             return Ok(false);
         };
         join.turn(meeting.dart / 2);
-        self.near.turn_back(self.adjacency, meeting.near, join);
-        self.far.turn_back(self.adjacency, meeting.far, join);
+        self.near.turn_back(adjacency, meeting.near, join);
+        self.far.turn_back(adjacency, meeting.far, join);
         Ok(true)
     }
+}
+
+// Gives each node of a nest its height.
+fn add_heights(nest: &Nest, regions: &[i64], ways: &mut Ways) -> Result<(), NoMemory> {
+    for node in 0..nest.nodes() {
+        let over = height_over(regions, nest.region_of(node));
+        ways.add_height(over.wrapping_sub(nest.taken_at(node)))?;
+    }
+    Ok(())
 }
 
 // The edges that lie on an odd number of the ways between mates, rising, or nothing where a way is not
@@ -255,14 +288,14 @@ pub fn join_of(
     edges: usize,
 ) -> Result<Option<EdgeList>, NoMemory> {
     let mut join = EdgeMarks::new(alloc, edges)?;
-    let mut ways = Ways {
-        adjacency,
-        heights: Heights::new(alloc, nest)?,
-        near: Search::new(alloc, adjacency.nodes())?,
-        far: Search::new(alloc, adjacency.nodes())?,
-    };
+    let regions = heights_of_regions(alloc, nest)?;
+    let mut ways = Ways::new(alloc, adjacency.nodes())?;
+    add_heights(nest, &regions, &mut ways)?;
     for pair in pairs {
-        if !ways.turn_way(nest, *pair, &mut join)? {
+        let Some(mates) = mates_of(nest, &regions, *pair) else {
+            return Ok(None);
+        };
+        if !ways.turn_way(adjacency, mates, &mut join)? {
             return Ok(None);
         }
     }

@@ -256,8 +256,9 @@ fn written(alloc: Global, inst: &Instance) -> Result<String, AllocError> {
         let line = format!(in alloc; "bond,{},{},{}\n", bond.u, bond.v, bond.j)?;
         text.push_str(line.as_str())?;
     }
-    for (spin, darts) in inst.rotation().as_slice().iter().enumerate() {
-        push_numbers(alloc, &mut text, "rot", Some(spin as u32), darts.as_slice())?;
+    for spin in 0..inst.n() {
+        let darts = inst.rotation().at(spin as usize);
+        push_numbers(alloc, &mut text, "rot", Some(spin), darts)?;
     }
     push_numbers(alloc, &mut text, "seam", None, inst.seam().as_slice())?;
     text.push_str("end\n")?;

@@ -16,8 +16,8 @@ fn push_list(numbers: &mut Vec<usize>, list: &[u32]) -> Result<(), AllocError> {
 // The darts of each spin, and then the seam.
 fn written(alloc: Global, inst: &Instance) -> Result<Vec<usize>, AllocError> {
     let mut numbers = Vec::new(alloc);
-    for list in inst.rotation().as_slice() {
-        push_list(&mut numbers, list.as_slice())?;
+    for spin in 0..inst.n() {
+        push_list(&mut numbers, inst.rotation().at(spin as usize))?;
     }
     push_list(&mut numbers, inst.seam().as_slice())?;
     Ok(numbers)

@@ -16,7 +16,7 @@ use Rattle.sg_slack.specs.Table.{Table, cost_of}
 use Rattle.sg_slack.specs.declared.Mark.{Mark}
 use Rattle.sg_slack.specs.declared.Mark.TheVariants.{Free, Outer}
 use Rattle.sg_slack.specs.declared.Pair.{Pair}
-use Rattle.sg_slack.specs.declared.near.Kept.{Kept}
+use Rattle.sg_slack.specs.declared.member.Kept.{Kept}
 use Rattle.sg_slack.specs.declared.near.Nearest.{Nearest}
 
 -- a difference of numbers that fit 128 bits

@@ -14,7 +14,7 @@ use Rattle.sg_slack.specs.Scan.{Bounds, IsApartBefore, IsApartFrom, IsApartOf, I
 use Rattle.sg_slack.specs.Slack.{Least, slack_of, total_at}
 use Rattle.sg_slack.specs.Table.{Table, cost_of}
 use Rattle.sg_slack.specs.declared.Pair.{Pair}
-use Rattle.sg_slack.specs.declared.near.Kept.{Kept}
+use Rattle.sg_slack.specs.declared.member.Kept.{Kept}
 use Rattle.sg_slack.specs.declared.partners.Partner.{Partner}
 use Rattle.sg_slack.specs.declared.partners.Partners.{Partners}
 

@@ -3,7 +3,7 @@
 use Rattle.std.specs.Prelude.{◌≡◌, ℕ, ◌<◌, List, length, map, slice_index_or, ℤ, pos, ◌+ℤ◌, ◌-ℤ◌, ◌≤ℤ◌, FitsSigned}
 use Rattle.std.specs.Prelude.{Bool, true, false, ◌⊎◌}
 use Rattle.std.specs.Int.{w64}
-use Rattle.sg_slack.specs.declared.near.Kept.{Kept}
+use Rattle.sg_slack.specs.declared.member.Kept.{Kept}
 use Rattle.sg_slack.specs.declared.near.Nearest.{Nearest}
 use Rattle.sg_slack.specs.Members.{Member}
 use Rattle.sg_slack.specs.Slack.{total_at}

@@ -2,7 +2,7 @@
 use Rattle.std.specs.Prelude.{◌≡◌, ◌≢◌, ℕ, ◌<◌, ◌≤◌, List, length, slice_index, slice_index_or}
 use Rattle.std.specs.Prelude.{ℤ, ◌+ℤ◌, ◌-ℤ◌, ◌≤ℤ◌, Option, Some, None}
 use Rattle.sg_slack.specs.declared.Pair.{Pair}
-use Rattle.sg_slack.specs.declared.near.Kept.{Kept}
+use Rattle.sg_slack.specs.declared.member.Kept.{Kept}
 use Rattle.sg_slack.specs.declared.partners.Partner.{Partner}
 use Rattle.sg_slack.specs.declared.partners.Partners.{Partners}
 use Rattle.sg_slack.specs.Kept.{kept_at}

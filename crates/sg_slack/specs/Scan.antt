@@ -6,7 +6,7 @@ use Rattle.sg_slack.specs.declared.Pair.{Pair}
 use Rattle.sg_slack.specs.Table.{Table}
 use Rattle.sg_slack.specs.Slack.{IsOuterFree, IsOuterOuter, mark_at, slack_of}
 use Rattle.sg_slack.specs.Kept.{kept_at, nearest_at}
-use Rattle.sg_slack.specs.declared.near.Kept.{Kept}
+use Rattle.sg_slack.specs.declared.member.Kept.{Kept}
 use Rattle.sg_slack.specs.declared.Mark.TheVariants.{Free}
 use Rattle.sg_slack.specs.declared.near.Nearest.{Nearest}
 

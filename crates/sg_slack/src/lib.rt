@@ -6,12 +6,13 @@
 //! of the sets that hold it. The *slack* of two leaves that no set holds together is their cost
 //! less their two totals. Edmonds' method grows a tree from an unpaired leaf; it next needs the pair
 //! of least slack between the tree's outer leaves and the leaves outside, and that between two outer
-//! leaves of different sets. These are [`least_outer_free`] and [`least_outer_outer`].
+//! leaves of different sets. A [`Near`] gives both from the nearest leaves that it keeps, and the
+//! engine takes them from there; [`least_outer_free`] and [`least_outer_outer`] go over all pairs.
 //!
 //! For the next engineer: the clause that matters is `Least` of `specs/Slack.antt`: a pair of least
 //! slack among those meant, and none exactly where there is none. Which of several such pairs is
-//! given is free. A table is seen by its entries, `cost_of` of `specs/Table.antt`. Both scans go
-//! over all pairs and take no memory. A `Near` is seen as its costs and the list of its members with
+//! given is free. A table is seen by its entries, `cost_of` of `specs/Table.antt`. Both scans take
+//! no memory. A `Near` is seen as its costs and the list of its members with
 //! their totals (`Known` of `specs/Members.antt`); what it keeps is `IsNear` of `specs/Kept.antt`, and
 //! from call to call of `least_between` `KeepsPartners` of `specs/Partner.antt`.
 #![tactic(auto)]
@@ -21,6 +22,7 @@ ghost use Rattle.std.specs.Int.{w64};
 ghost use Rattle.sg_slack.specs.Slack.{mark_at, slack_of, IsOuterFree, IsOuterOuter, Least, SumsFit};
 ghost use Rattle.sg_slack.specs.Scan.{IsNearer, IsOuterFreeOf, IsOuterOuterOf};
 
+mod member;
 mod near;
 mod partners;
 

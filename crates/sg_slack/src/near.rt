@@ -4,17 +4,11 @@ ghost use Rattle.sg_slack.specs.Kept.{nearest_at, IsKeyOf, IsTakenAt};
 ghost use Rattle.sg_slack.specs.Scan.{IsNearestFree};
 ghost use Rattle.sg_slack.specs.Slack.{slack_of, Least, SumsFit};
 
+use super::member::Kept;
 use super::partners::Partners;
 use super::{Costs, Mark, NoMemory, Pair, difference, is_free, nearer_if};
 use std::alloc::Global;
 use std::marker::Model;
-
-/// A member, and its total less what the totals have risen by since the first member came.
-#[derive(Clone, Copy)]
-pub struct Kept {
-    pub leaf: u32,
-    pub base: i128,
-}
 
 /// The member that is nearest to a leaf, and their cost less the member's base.
 #[derive(Clone, Copy)]

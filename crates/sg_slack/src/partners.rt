@@ -6,7 +6,7 @@ ghost use Rattle.sg_slack.specs.Scan.{IsApartBefore, IsApartFrom, IsNoMore, Leas
 ghost use Rattle.sg_slack.specs.Slack.{slack_of, Least, SumsFit};
 ghost use Rattle.sg_slack.specs.Table.{cost_of, Table};
 
-use super::near::Kept;
+use super::member::Kept;
 use super::{Costs, NoMemory, Pair, difference, nearer, nearer_if};
 use std::alloc::Global;
 

@@ -1,4 +1,5 @@
--- One element more of a list: the parity of what passes, and that a rising list has not held the next entry before.
+-- One element more of a list: the parity of what passes, a mark that is turned by it, and that a rising list has not held
+-- the next entry before.
 use Rattle.std.proofs.Common.{inl, inr, ◌≡◌, ℕ, zero, suc, ◌+◌, ◌<◌, Bool, false, eqb, List, [], ◌∷◌, take, sym, ◌∙◌, ap, subst, arith, length, get_or}
 use Rattle.std.specs.List.Sorted.{IsStrictlyIncreasing}
 use Rattle.std.proofs.lemmas.Bool.{cases_eq, ne_eqb}
@@ -6,7 +7,7 @@ use Rattle.std.proofs.lemmas.List.{take_more, get_or-take, get_or_default, lengt
 use Rattle.std.proofs.lemmas.List.Folds.{list_any_none}
 use Rattle.sg_sums.specs.Parity.{xor, parity_by}
 use Rattle.sg_sums.specs.Sets.{holds}
-use Rattle.sg_sums.proofs.ParityLaws.{parity_by-append, xor-false}
+use Rattle.sg_sums.proofs.ParityLaws.{parity_by-append, xor-false, xor_assoc}
 
 pub parity_by_more : {X : Type 0} (p : X → Bool) (xs : List X) (i : ℕ) (d : X) → i < length xs →
     parity_by p (take (i + 1) xs) ≡ xor (parity_by p (take i xs)) (p (get_or xs i d))
@@ -14,6 +15,13 @@ parity_by_more p xs i d l =
     ap (parity_by p) (take_more xs i d l)
     ∙ parity_by-append p (take i xs) (get_or xs i d ∷ [])
     ∙ ap (xor (parity_by p (take i xs))) (xor-false (p (get_or xs i d)))
+
+-- a mark that the entries so far have turned, turned by the next
+pub turned_more : {X : Type 0} (p : X → Bool) (xs : List X) (i : ℕ) (d : X) (old now new : Bool) → i < length xs →
+    now ≡ xor old (parity_by p (take i xs)) → new ≡ xor now (p (get_or xs i d)) → new ≡ xor old (parity_by p (take (i + 1) xs))
+turned_more p xs i d old now new low was is =
+    is ∙ ap (λ b. xor b (p (get_or xs i d))) was ∙ xor_assoc old (parity_by p (take i xs)) (p (get_or xs i d))
+    ∙ ap (xor old) (sym (parity_by_more p xs i d low))
 
 -- the entries of a rising list stand in their order
 pub rising_order : (xs : List ℕ) → IsStrictlyIncreasing xs → (i j : ℕ) → i < j → j < length xs → get_or xs i 0 < get_or xs j 0

@@ -1,5 +1,5 @@
 -- Sets of numbers as rising lists: what a list holds, what a choice keeps, and counts over the list and over the numbers.
-use Rattle.std.proofs.Common.{inl, inr, ap₂, ◌≡◌, ℕ, zero, suc, ◌+◌, ◌<◌, ◌≤◌, Bool, true, false, cond, ◌&&◌, ◌||◌, eqb, List, [], ◌∷◌, filter, refl, ◌∙◌, ap, subst, arith, All, Contains, get_or, eq-eqb}
+use Rattle.std.proofs.Common.{inl, inr, ap₂, ◌≡◌, ℕ, zero, suc, ◌+◌, ◌<◌, ◌≤◌, Bool, true, false, cond, ◌&&◌, ◌||◌, eqb, List, [], ◌∷◌, filter, refl, sym, ◌∙◌, ap, subst, arith, All, Contains, get_or, eq-eqb}
 use Rattle.std.specs.List.{range_with_len}
 use Rattle.std.specs.List.Sorted.{IsStrictlyIncreasing}
 use Rattle.std.proofs.lemmas.Bool.{cases_eq, false≢true, ne_eqb, eqb-true, or_cases, true≢false}
@@ -44,6 +44,22 @@ members_parity t (s ∷ xs) n low up =
     (λ x l. or-xor (eqb s x) (holds xs x) (t x) (λ e. holds_none_below s xs x (rises_over_first s xs up) (let q : s ≡ x = eqb-true s x e in omega arith)))
     ∙ parity_below-xor (λ x. t x && eqb s x) (λ x. t x && holds xs x) n
     ∙ ap₂ xor (parity_below_pick t s n (All-head (λ x. x < n) s xs low)) (members_parity t xs n (All-tail (λ x. x < n) s xs low) (rising_rest s xs up))
+
+eqb-swap : (a b : ℕ) → eqb a b ≡ eqb b a
+eqb-swap a b = elim (cases_eq a b) [
+  | inl e ↦ eq-eqb a b e ∙ sym (eq-eqb b a (sym e))
+  | inr ne ↦ ne_eqb a b ne ∙ sym (ne_eqb b a (λ e. ne (sym e)))
+]
+
+-- how often a rising list names a number is whether it holds it
+pub parity_of_rising : (list : List ℕ) (n i : ℕ) → All (λ k. k < n) list → IsStrictlyIncreasing list → i < n → parity_by (λ k. eqb k i) list ≡ holds list i
+parity_of_rising list n i low up l =
+    sym (members_parity (λ k. eqb k i) list n low up)
+    ∙ parity_below-same (λ k. eqb k i && holds list k) (λ k. holds list k && eqb i k) n (λ k b. turned (eqb k i) (holds list k) (eqb i k) (eqb-swap k i))
+    ∙ parity_below_pick (holds list) i n l
+  where
+    turned : (a b c : Bool) → a ≡ c → (a && b) ≡ (b && c)
+    turned a b c e = grind arith
 
 -- a choice from a range holds the numbers of the range that pass
 holds-filter_range : (p : ℕ → Bool) (a n x : ℕ) → a ≤ x → x < a + n → holds (filter p (range_with_len a n)) x ≡ p x

@@ -21,6 +21,7 @@ mod judged;
 mod law;
 mod matched;
 mod matching;
+mod nested;
 mod tables;
 mod walks;
 mod weight;
@@ -35,6 +36,7 @@ ghost use Rattle.sg_limits.specs.Limits.{forced_limit};
 use judged::judged_join;
 pub use law::cuts_bound_joins;
 pub use matched::matched_join;
+use nested::nested_join;
 use sg_graph::{Cuts, EdgeList, Terminals, Web};
 use std::alloc::{AllocError, Global};
 
@@ -74,6 +76,36 @@ pub fn least_join(alloc: Global, web: &Web, terminals: &Terminals) -> Result<Joi
         return Ok(join);
     }
     matched_join(alloc, web, terminals)
+}
+
+/// A join and its weight.
+#[derive(Drop)]
+pub struct LeastJoin {
+    pub edges: EdgeList,
+    pub weight: i64,
+}
+
+/// A join of the terminals than which none weighs less, and its weight, for callers that print no
+/// cuts: none are made where the regions that grow on the web prove it themselves, as a nest.
+///
+/// Cost: that of `sg_regions::propose_nest` and of `sg_nest::proves`, and where these have no answer
+/// that of [`least_join`].
+pub fn least_weight(alloc: Global, web: &Web, terminals: &Terminals) -> Result<LeastJoin, NoMemory>
+    requires connected { IsConnected web.now }
+    requires terminals { AreTerminals web.now terminals.now }
+    requires even { length terminals.now % 2 ≡ 0 }
+    requires light { total_weight web.now ≤ forced_limit }
+    ensures least { IfOk result (λ j. IsLeastJoin web.now terminals.now j.edges) }
+    ensures weight { IfOk result (λ j. j.weight ≡ pos (weight_of web.now j.edges)) }
+{
+    if let Some(join) = nested_join(alloc, web, terminals)? {
+        return Ok(join);
+    }
+    let join = least_join(alloc, web, terminals)?;
+    Ok(LeastJoin {
+        edges: join.edges,
+        weight: join.weight,
+    })
 }
 
 #[cfg(test)]

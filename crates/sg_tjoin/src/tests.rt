@@ -8,7 +8,7 @@ ghost use Rattle.sg_pairing.specs.Matching.{NoSlackIsNegative};
 ghost use Rattle.sg_tjoin.specs.Doubled.{AreMetric, Reaches};
 
 use super::tables::terminal_tables;
-use super::{Join, NoMemory, least_join, matched_join};
+use super::{Join, LeastJoin, NoMemory, least_join, least_weight, matched_join};
 use sg_arena::Arena;
 use sg_graph::{Cuts, Edge, Edges, Table, Terminals, Web, connected};
 use sg_moat::levels;
@@ -85,6 +85,22 @@ fn joined(
     }
 }
 
+// The least join of these terminals in the web of these edges, without its cuts.
+fn weighed(
+    rt: &impl Abort,
+    alloc: Global,
+    nodes: u32,
+    list: &[(u32, u32, i64)],
+    ends: &[u32],
+) -> Result<LeastJoin, NoMemory> {
+    let small = web(rt, alloc, nodes, list)?;
+    assert!(rt; connected(alloc, &small)?);
+    assert!(rt; rise_below(ends, nodes));
+    assert!(rt; ends.len() % 2 == 0);
+    let terminals = Terminals::from_vec(Vec::from_slice(alloc, ends)?);
+    least_weight(alloc, &small, &terminals)
+}
+
 // The sum of the weights of the cuts.
 fn cut_sum(cuts: &Cuts) -> i64 {
     let mut sum = 0i64;
@@ -120,6 +136,9 @@ fn a_join_has_the_edges_its_weight_and_the_cuts(rt: HostRuntime) -> Result<(), F
             assert_eq!(rt; join.weight, weight);
             assert_eq!(rt; cut_sum(&join.cuts), weight.saturating_mul(2));
         }
+        let alone = weighed(&rt, rt.alloc(), nodes, list, ends)?;
+        assert_eq!(rt; alone.edges.as_slice(), edges);
+        assert_eq!(rt; alone.weight, weight);
     }
     Ok(())
 }

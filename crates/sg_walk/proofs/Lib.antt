@@ -1,3 +1,4 @@
 pub mod Searches
 pub mod SpinNames
 pub mod LeastSpins
+pub mod ComponentLaws

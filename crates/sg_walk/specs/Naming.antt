@@ -2,7 +2,7 @@
 use Rattle.std.specs.Prelude.{◌≡◌, ◌==◌, ℕ, ◌<◌, ◌≤◌, Bool, List, length, slice_index}
 use Rattle.sg_sums.specs.Sets.{IsMarked, chosen_below}
 use Rattle.sg_model.specs.Ising.{Ising}
-use Rattle.sg_model.specs.Connected.{Reached}
+use Rattle.sg_model.specs.Connected.{AreLeasts, Reached, all_bonds}
 use Rattle.sg_walk.specs.Walk.{IsClosed}
 
 -- spin x has the name of the least spin that it reaches
@@ -22,6 +22,11 @@ pub record NamedTo (inst : Ising) (set : ℕ → Bool) (marks : List Bool) (name
 pub record AllNamed (inst : Ising) (set : ℕ → Bool) (names : List ℕ) : Type 0 where
   pub count : length names ≡ inst.n
   pub each : (x : ℕ) → x < inst.n → IsNamed inst set names x
+
+-- the components: over all bonds, the least spin that each spin reaches, and the least spins of all components
+pub record AreComponents (inst : Ising) (names leasts : List ℕ) : Type 0 where
+  pub named : AllNamed inst all_bonds names
+  pub least : AreLeasts inst leasts
 
 -- the spins that have their own name, rising
 abbrev pub self_named : List ℕ → List ℕ

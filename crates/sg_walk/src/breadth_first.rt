@@ -73,7 +73,7 @@ fn visit(
     ensures { OnOk result (Visits inst.now (has set.now) spin (darts_of inst.now spin)
         marks.old marks.new order.old.items order.new.items) }
 {
-    for dart in inst.rotation().at(spin as usize).as_slice() {
+    for dart in inst.rotation().at(spin as usize) {
         let to = head(inst, *dart);
         if leads_on(set, marks, *dart, to) {
             order.push(to)?;

@@ -2,15 +2,18 @@
 //!
 //! For the next engineer: `walk` is the base. It goes on from marks that earlier walks left, so that
 //! the walks from all spins together take time linear in the spins and bonds. `names` walks from each
-//! spin that no walk has met, and gives the spins of one walk its name; `leasts` lists the least spin
-//! of each component. `specs/Walk.antt` says what a walk leaves, `specs/Naming.antt` what a name is.
+//! spin that no walk has met, and gives the spins of one walk its name; `Components` keeps the names over
+//! all bonds, with the least spin of each component. `specs/Walk.antt` says what a walk leaves,
+//! `specs/Naming.antt` what a name is and what components are.
 #![tactic(auto)]
 
 mod breadth_first;
 mod naming;
+mod parting;
 
 pub use breadth_first::{head, walk};
-pub use naming::{leasts, names};
+pub use naming::names;
+pub use parting::Components;
 use std::alloc::AllocError;
 
 /// The allocator had no memory left.

@@ -1,6 +1,5 @@
 ghost use Rattle.std.specs.Prelude.{◌≡◌, ◌≢◌, ◌+◌, ◌<◌, ℕ, length, slice_index, All, IfOk, OnOk};
 ghost use Rattle.sg_model.specs.Ising.{bond_count};
-ghost use Rattle.sg_model.specs.Connected.{AreLeasts};
 ghost use Rattle.sg_walk.specs.Walk.{has};
 ghost use Rattle.sg_walk.specs.Naming.{AllNamed, NamedTo, self_named};
 
@@ -9,18 +8,8 @@ use super::breadth_first::walk;
 use sg_model::Instance;
 use std::alloc::Global;
 
-/// The least spin of each component, rising, in time linear in the spins and bonds. A component is
-/// what one spin reaches over all bonds. The only error is want of memory.
-pub fn leasts(alloc: Global, inst: &Instance) -> Result<Vec<u32>, NoMemory>
-    ensures { IfOk result (λ list. AreLeasts inst.now list.items) }
-{
-    let all = vec![in alloc; true; inst.bonds().len()]?;
-    let names = names(alloc, inst, &all)?;
-    own_names(alloc, inst, &names)
-}
-
-// The spins that have their own name.
-fn own_names(alloc: Global, inst: &Instance, names: &[u32]) -> Result<Vec<u32>, NoMemory>
+/// The spins that have their own name, rising.
+pub(super) fn own_names(alloc: Global, inst: &Instance, names: &[u32]) -> Result<Vec<u32>, NoMemory>
     requires { length names.now ≡ inst.now.n }
     ensures { IfOk result (λ list. list.items ≡ self_named names.now) }
 {

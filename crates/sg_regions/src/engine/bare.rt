@@ -78,7 +78,8 @@ impl<'a> Engine<'a> {
         }
     }
 
-    // The same at a hub: the other region is the last that touched it, if it still does. Where there is
+    // The same at a hub: the other region is the last that touched it, if it still does. If that is this
+    // region itself, and the arc over which it touched waits, that one stands for both. Where there is
     // none, the event waits behind those of its time, once.
     fn meet_at_hub(
         &mut self,
@@ -88,30 +89,27 @@ impl<'a> Engine<'a> {
         hub: u32,
         own: End,
     ) -> Result<bool, NoMemory> {
-        let touched = self.hubs.touched(hub);
-        if let Some(last) = touched
-            && last.dart != arc.dart
-            && let Some(there) = self.still_touching(last.dart)
-        {
-            if there.top != here.top {
-                return self.meet_last(node, arc, hub, own, last.dart);
-            }
-            let waits = self.clock.due(last.dart) == self.clock.now();
-            if waits && self.hubs.number_of(node).is_none() {
-                self.expect(node, here, arc)?;
-                return Ok(true);
-            }
-        }
         let time = self.clock.now();
-        match touched {
-            Some(last) if last.time == time => Ok(false),
-            _ => {
-                let dart = arc.dart;
-                self.hubs.touch(hub, Some(Soon { time, dart }));
-                self.expect(node, here, arc)?;
-                Ok(true)
+        let mut waited = false;
+        if let Some(last) = self.hubs.touched(hub) {
+            let is_same = last.dart == arc.dart;
+            match self.still_touching(last.dart) {
+                _ if is_same => waited = last.time == time,
+                Some(there) if there.top != here.top => {
+                    return self.meet_last(node, arc, hub, own, last.dart);
+                }
+                Some(_) if self.clock.due(last.dart) == time => return Ok(true),
+                Some(_) => waited = last.time == time,
+                None => {}
             }
         }
+        if waited {
+            return Ok(false);
+        }
+        let dart = arc.dart;
+        self.hubs.touch(hub, Some(Soon { time, dart }));
+        self.expect(node, here, arc)?;
+        Ok(true)
     }
 
     // The outer region that still touches the end of an arc, by the arc's dart.

@@ -149,6 +149,11 @@ impl<'a> Engine<'a> {
     pub fn run(&mut self) -> Result<bool, NoMemory> {
         self.plant()?;
         self.wake_terminals()?;
+        self.go_on()
+    }
+
+    // Goes on until each terminal has a mate.
+    pub(super) fn go_on(&mut self) -> Result<bool, NoMemory> {
         for _ in 0..self.work.left() {
             if self.unpaired == 0 || self.work.left() == 0 {
                 break;

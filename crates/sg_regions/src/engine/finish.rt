@@ -7,9 +7,9 @@ use crate::nest::{Nest, Pair};
 
 // A region, and its terminal that is paired with one outside.
 #[derive(Clone, Copy)]
-struct Exit {
-    region: u32,
-    terminal: u32,
+pub(super) struct Exit {
+    pub(super) region: u32,
+    pub(super) terminal: u32,
 }
 
 impl<'a> Engine<'a> {
@@ -74,7 +74,7 @@ impl<'a> Engine<'a> {
     }
 
     // The pair of a top, once for both.
-    fn pair_top(
+    pub(super) fn pair_top(
         &self,
         name: u32,
         pairs: &mut Vec<Pair>,
@@ -100,7 +100,11 @@ impl<'a> Engine<'a> {
     }
 
     // The pairs in the regions of a list, which is empty then.
-    fn pair_within(&self, pairs: &mut Vec<Pair>, open: &mut Vec<Exit>) -> Result<(), NoMemory> {
+    pub(super) fn pair_within(
+        &self,
+        pairs: &mut Vec<Pair>,
+        open: &mut Vec<Exit>,
+    ) -> Result<(), NoMemory> {
         for _ in 0..self.forest.len() {
             let Some(exit) = open.pop() else {
                 break;

@@ -184,7 +184,7 @@ impl<'a> Engine<'a> {
     }
 
     // The rows of a blossom's parts are rows of their own again.
-    fn cut_rows(&mut self, blossom: u32) {
+    pub(super) fn cut_rows(&mut self, blossom: u32) {
         let mut part = self.forest.cycles().first(blossom);
         for _ in 0..self.forest.cycles().size(blossom) {
             self.cover.cut(part);

@@ -7,6 +7,23 @@ use crate::hubs::Soon;
 use crate::lists::Slot;
 use crate::radii::{Reach, Role};
 
+// An outer region that nears the end of an arc: the node at its start, how far it reaches there, and
+// when it comes.
+#[derive(Clone, Copy)]
+struct Coming {
+    node: u32,
+    reach: Reach,
+    arc: Arc,
+    time: i64,
+}
+
+impl Coming {
+    // The one of the two that comes first.
+    fn sooner(self, other: Coming) -> Coming {
+        if other.time < self.time { other } else { self }
+    }
+}
+
 impl<'a> Engine<'a> {
     // Enters the event of an arc that leaves a node over which an outer region reaches so far.
     pub(super) fn expect(&mut self, node: u32, here: Reach, arc: &Arc) -> Result<(), NoMemory> {
@@ -41,8 +58,8 @@ impl<'a> Engine<'a> {
         }
     }
 
-    // Enters the events of the arcs that leave a node, over which an outer region reaches so far. Tells
-    // whether all lead to nodes of this region.
+    // Enters the events of the arcs that leave a node, over which an outer region reaches so far, but
+    // only notes those of arcs to hubs. Tells whether all lead to nodes of this region.
     fn wake_by(&mut self, node: u32, here: Reach) -> Result<bool, NoMemory> {
         self.work.add(self.arcs.arcs_of(node).len());
         match self.hubs.number_of(node) {
@@ -62,9 +79,31 @@ impl<'a> Engine<'a> {
         for arc in arcs.arcs_of(node) {
             let sight = self.sight(here, arc);
             is_own = is_own && sight.is_own;
-            self.clock.expect_arc(arc.dart, sight.time)?;
+            match self.hubs.number_of(arc.to) {
+                None => self.clock.expect_arc(arc.dart, sight.time)?,
+                Some(hub) => self.note(hub, arc.dart, sight.time)?,
+            }
         }
         Ok(is_own)
+    }
+
+    // Notes the event of an arc to a hub, if it comes at all.
+    fn note(&mut self, hub: u32, dart: u32, time: i64) -> Result<(), NoMemory> {
+        if time == NEVER {
+            return Ok(());
+        }
+        self.hubs.note(hub, Soon { time, dart })
+    }
+
+    // Enters the events of the arcs that are noted.
+    fn enter_noted(&mut self) -> Result<(), NoMemory> {
+        for _ in 0..self.hubs.len() {
+            let Some(soon) = self.hubs.take_noted() else {
+                break;
+            };
+            self.clock.expect_arc(soon.dart, soon.time)?;
+        }
+        Ok(())
     }
 
     // Fills the heap of a hub anew.
@@ -92,17 +131,56 @@ impl<'a> Engine<'a> {
         if let Some(here) = self.outer_reach(node) {
             self.wake_by(node, here)?;
         }
-        Ok(())
+        self.enter_noted()
     }
 
     // Enters the events of the arcs that lead to a node.
     pub(super) fn wake_around(&mut self, node: u32) -> Result<(), NoMemory> {
         let arcs = self.arcs;
         self.work.add(arcs.arcs_of(node).len());
+        if self.hubs.number_of(node).is_some() {
+            return self.wake_around_hub(node);
+        }
         for arc in arcs.arcs_of(node) {
             self.expect_back(node, arc)?;
         }
         Ok(())
+    }
+
+    // The same for a hub: of arcs from one outer region, as far as they follow one another, only the
+    // soonest.
+    fn wake_around_hub(&mut self, node: u32) -> Result<(), NoMemory> {
+        let arcs = self.arcs;
+        let mut soonest: Option<Coming> = None;
+        for arc in arcs.arcs_of(node) {
+            let Some(there) = self.outer_reach(arc.to) else {
+                continue;
+            };
+            let next = self.coming(arc.to, there, self.way_back(node, arc));
+            soonest = match soonest {
+                Some(before) if before.reach.top == there.top => Some(before.sooner(next)),
+                Some(before) => {
+                    self.expect(before.node, before.reach, &before.arc)?;
+                    Some(next)
+                }
+                None => Some(next),
+            };
+        }
+        match soonest {
+            Some(last) => self.expect(last.node, last.reach, &last.arc),
+            None => Ok(()),
+        }
+    }
+
+    // An outer region over a node that nears the end of an arc.
+    fn coming(&self, node: u32, reach: Reach, arc: Arc) -> Coming {
+        let time = self.sight(reach, &arc).time;
+        Coming {
+            node,
+            reach,
+            arc,
+            time,
+        }
     }
 
     // Enters the events of the arcs that leave the nodes of a region in an outer top.
@@ -116,7 +194,7 @@ impl<'a> Engine<'a> {
             self.wake_within(node, top)?;
             next = self.cover.behind(node, end);
         }
-        Ok(())
+        self.enter_noted()
     }
 
     // The first node that is not deep in a stretch of a row.

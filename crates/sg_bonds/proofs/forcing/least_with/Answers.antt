@@ -13,10 +13,10 @@ signed-requires-2-clause-size c =
     c.bonds.result.now c.args.bond c.at.result.now c.at.ensures c.bonds.ensures.value c.instance.ensures.value in
     coupling_fits c.args.planar.now.instance good c.args.bond c.requires.bond_in c.requires.sum c.at.result.now.j (ap (λ (b : Bond). b.j) read)
 
-good : (c : goal.After-drop-forced-inside-5) → IsInstance c.args.planar.now.instance
+good : (c : goal.After-drop-forced-inside-8) → IsInstance c.args.planar.now.instance
 good c = subst IsInstance c.instance.ensures.value c.bonds.ensures.instance
 
-solved : (c : goal.After-drop-forced-inside-5) → IsForcedSolve c.args.planar.now.instance c.args.bond c.args.wanted c.force-force.result c.signed.result
+solved : (c : goal.After-drop-forced-inside-8) → IsForcedSolve c.args.planar.now.instance c.args.bond c.args.wanted c.force-force.result c.signed.result
     c.in_ok-least.least.energy c.signed-2.result c.at.result.now.j c.in_ok-forced.forced.instance c.in_ok-least.least.spins
 solved c = record {
   force = c.force-force.ensures;

@@ -7,8 +7,8 @@ use Rattle.sg_planar.proofs.assignment.darts_from.Goals as goal
 
 pub returns-clause-leave : goal.returns-clause-leave
 returns-clause-leave c =
-    let list : c.as_slice.result.now ≡ darts_of c.args.inst.now c.args.spin =
-    c.as_slice.ensures ∙ sym (get_or_from_slice_get c.rotation.result.now c.args.spin c.at.result.now [] c.at.ensures)
+    let list : c.at.result.now ≡ darts_of c.args.inst.now c.args.spin =
+    sym (get_or_from_slice_get c.rotation.result.now c.args.spin c.at.result.now [] c.at.ensures)
     ∙ ap (λ r. get_or r c.args.spin []) c.rotation.ensures.value in
     rw list (All-from_get_or (λ d. (d < dart_count c.args.inst.now) × (tail c.args.inst.now d ≡ c.args.spin)) (darts_of c.args.inst.now c.args.spin) 0
     (λ j l. in_list c.args.inst.now c.rotation.ensures.instance c.args.spin j c.requires l))

@@ -9,8 +9,8 @@ pub placed_list-requires-clause-below : goal.placed_list-requires-clause-below
 placed_list-requires-clause-below c =
     let inst = c.args.inst.now in
     let s : ℕ = get_or c.args.spins.now c.loop-spin.spin-index 0 in
-    let is : c.as_slice.result.now ≡ darts_of inst s =
-    c.as_slice.ensures ∙ sym (get_or_from_slice_get c.rotation.result.now s c.at-darts.result.now [] c.at-darts.ensures)
+    let is : c.at-darts.result.now ≡ darts_of inst s =
+    sym (get_or_from_slice_get c.rotation.result.now s c.at-darts.result.now [] c.at-darts.ensures)
     ∙ ap (λ (xs : List (List ℕ)). get_or xs s []) c.rotation.ensures.value in
     subst (λ (xs : List ℕ). All (λ d. d / 2 < length c.args.places.now) xs) (sym is)
     (subst (λ (m : ℕ). All (λ d. d / 2 < m) (darts_of inst s)) (sym c.requires.places)
@@ -21,9 +21,9 @@ loop-spin-preserved c =
     let inst = c.args.inst.now in
     let places = c.args.places.now in
     let s : ℕ = get_or c.args.spins.now c.loop-spin.spin-index 0 in
-    let is : c.as_slice.result.now ≡ darts_of inst s =
-    c.as_slice.ensures ∙ sym (get_or_from_slice_get c.rotation.result.now s c.at-darts.result.now [] c.at-darts.ensures)
+    let is : c.at-darts.result.now ≡ darts_of inst s =
+    sym (get_or_from_slice_get c.rotation.result.now s c.at-darts.result.now [] c.at-darts.ensures)
     ∙ ap (λ (xs : List (List ℕ)). get_or xs s []) c.rotation.ensures.value in
     c.in_ok-push.ensures.ok
-    ∙ ap₂ (λ (done : List (List ℕ)) (list : List ℕ). done ++ list ∷ []) c.loop-spin.invariant (c.in_ok-placed_list.ensures ∙ ap (placed_darts places) is)
+    ∙ ap₂ (λ (done : List (List ℕ)) (list : List ℕ). done ++ list ∷ []) c.loop-spin.invariant (c.as_slice.ensures ∙ c.in_ok-placed.ensures ∙ ap (placed_darts places) is)
     ∙ sym (map_more (λ x. placed_darts places (darts_of inst x)) c.args.spins.now c.loop-spin.spin-index (omega arith))

@@ -8,16 +8,14 @@ use Rattle.sg_faces.specs.Faces.{face_count}
 use Rattle.sg_planar.proofs.fitness.euler_number.Goals as goal
 
 pub overflow_sub-separations : goal.overflow_sub-separations
-overflow_sub-separations c =
-    omega (arith, leasts_some c.args.inst.now c.in_ok-leasts.leasts.items c.in_ok-leasts.ensures c.n.ensures.instance.draft.has_spin, c.len.ensures)
+overflow_sub-separations c = omega (arith, leasts_some c.args.inst.now c.args.leasts.now c.requires.leasts c.n.ensures.instance.draft.has_spin)
 
 pub difference-requires-clause-right : goal.difference-requires-clause-right
 difference-requires-clause-right c =
     omega (
       arith,
-      leasts_few c.args.inst.now c.in_ok-leasts.leasts.items c.in_ok-leasts.ensures,
+      leasts_few c.args.inst.now c.args.leasts.now c.requires.leasts,
       c.len.ensures,
-      c.len-2.ensures,
       ap (length {A = Bond}) c.bonds.ensures.value,
       c.n.ensures.instance.draft.few_spins,
       c.n.ensures.instance.draft.few_bonds,
@@ -26,13 +24,12 @@ difference-requires-clause-right c =
 pub returns : goal.returns
 returns c =
     let counted : c.from.result + c.from-2.result ≡ c.args.inst.now.n + face_count c.args.inst.now =
-    omega (arith, c.from.ensures, c.from-2.ensures, c.n.ensures.value, c.count.ensures, c.requires.counts) in
-    let bonds : c.len-2.result ≡ bond_count c.args.inst.now = c.len-2.ensures ∙ ap (length {A = Bond}) c.bonds.ensures.value in
-    let components : c.len.result ≡ length c.in_ok-leasts.leasts.items = omega (arith, c.len.ensures) in
+    omega (arith, c.from.ensures, c.from-2.ensures, c.n.ensures.value, c.count.ensures, c.requires.faces.counts) in
+    let bonds : c.len.result ≡ bond_count c.args.inst.now = c.len.ensures ∙ ap (length {A = Bond}) c.bonds.ensures.value in
     let fits : FitsSigned w64 c.difference.result = search rules in
     record {
-      leasts = c.in_ok-leasts.leasts.items;
-      components = c.in_ok-leasts.ensures;
+      leasts = c.args.leasts.now;
+      components = c.requires.leasts;
       value = to_z-of_z w64 c.difference.result fits ∙ c.difference.ensures
-          ∙ ap₂ (λ a b. pos a -ℤ pos b) counted (ap₂ {A = ℕ} (λ m k. m + 2 * (k - 1)) bonds components);
+          ∙ ap₂ (λ a b. pos a -ℤ pos b) counted (ap {A = ℕ} (λ m. m + 2 * (length c.args.leasts.now - 1)) bonds);
     }

@@ -11,16 +11,16 @@ use Rattle.sg_walk.proofs.breadth_first.visit.Goals.{then-leads_on+in_ok-push, e
 
 pub head-to-requires : goal.head-to-requires
 head-to-requires c =
-    let list : c.as_slice-dart-items.result.now ≡ darts_of c.args.inst.now c.args.spin =
-    c.as_slice-dart-items.ensures ∙ sym (get_or_from_slice_get c.rotation.result.now c.args.spin c.at.result.now [] c.at.ensures)
+    let list : c.at-dart-items.result.now ≡ darts_of c.args.inst.now c.args.spin =
+    sym (get_or_from_slice_get c.rotation.result.now c.args.spin c.at-dart-items.result.now [] c.at-dart-items.ensures)
     ∙ ap (λ r. get_or r c.args.spin []) c.rotation.ensures.value in
     rw list (in_list c.args.inst.now c.rotation.ensures.instance c.args.spin c.loop-dart.dart-index c.requires.spin_in
     (omega (arith, c.loop-dart-test.true, ap length list))).0
 
 pub leads_on-requires-clause-dart_in : goal.leads_on-requires-clause-dart_in
 leads_on-requires-clause-dart_in c =
-    let list : c.as_slice-dart-items.result.now ≡ darts_of c.args.inst.now c.args.spin =
-    c.as_slice-dart-items.ensures ∙ sym (get_or_from_slice_get c.rotation.result.now c.args.spin c.at.result.now [] c.at.ensures)
+    let list : c.at-dart-items.result.now ≡ darts_of c.args.inst.now c.args.spin =
+    sym (get_or_from_slice_get c.rotation.result.now c.args.spin c.at-dart-items.result.now [] c.at-dart-items.ensures)
     ∙ ap (λ r. get_or r c.args.spin []) c.rotation.ensures.value in
     let below : get_or (darts_of c.args.inst.now c.args.spin) c.loop-dart.dart-index 0 < dart_count c.args.inst.now =
     (in_list c.args.inst.now c.rotation.ensures.instance c.args.spin c.loop-dart.dart-index c.requires.spin_in
@@ -29,8 +29,8 @@ leads_on-requires-clause-dart_in c =
 
 pub loop-dart-preserved : goal.loop-dart-preserved
 loop-dart-preserved c =
-    let list : c.as_slice-dart-items.result.now ≡ darts_of c.args.inst.now c.args.spin =
-    c.as_slice-dart-items.ensures ∙ sym (get_or_from_slice_get c.rotation.result.now c.args.spin c.at.result.now [] c.at.ensures)
+    let list : c.at-dart-items.result.now ≡ darts_of c.args.inst.now c.args.spin =
+    sym (get_or_from_slice_get c.rotation.result.now c.args.spin c.at-dart-items.result.now [] c.at-dart-items.ensures)
     ∙ ap (λ r. get_or r c.args.spin []) c.rotation.ensures.value in
     let here : c.loop-dart.dart-index < length (darts_of c.args.inst.now c.args.spin) = omega (arith, c.loop-dart-test.true, ap length list) in
     let dart : (get_or (darts_of c.args.inst.now c.args.spin) c.loop-dart.dart-index 0 < dart_count c.args.inst.now) ×
@@ -62,7 +62,7 @@ loop-dart-preserved c =
 
 pub returns : goal.returns
 returns c =
-    let list : c.as_slice-dart-items.result.now ≡ darts_of c.args.inst.now c.args.spin =
-    c.as_slice-dart-items.ensures ∙ sym (get_or_from_slice_get c.rotation.result.now c.args.spin c.at.result.now [] c.at.ensures)
+    let list : c.at-dart-items.result.now ≡ darts_of c.args.inst.now c.args.spin =
+    sym (get_or_from_slice_get c.rotation.result.now c.args.spin c.at-dart-items.result.now [] c.at-dart-items.ensures)
     ∙ ap (λ r. get_or r c.args.spin []) c.rotation.ensures.value in
     rw (take_all c.loop-dart.dart-index (darts_of c.args.inst.now c.args.spin) (omega (arith, c.loop-dart-test.false, ap length list))) at c.loop-dart.invariant

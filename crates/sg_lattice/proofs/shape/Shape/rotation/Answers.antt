@@ -1,4 +1,4 @@
-use Rattle.std.proofs.Common.{ℕ, ◌/◌, ◌%◌, List, [], ◌∷◌, ◌++◌, sym, ◌∙◌, ap₂, arith}
+use Rattle.std.proofs.Common.{ℕ, ◌/◌, ◌%◌, List, [], ◌∷◌, ◌++◌, sym, ◌∙◌, ap, arith}
 use Rattle.std.proofs.lemmas.List.FromFn.{map-range_with_len_more}
 use Rattle.sg_lattice.specs.Tables.{darts}
 use Rattle.sg_lattice.proofs.shape.Shape.rotation.Goals as goal
@@ -7,6 +7,6 @@ pub loop-i-preserved : goal.loop-i-preserved
 loop-i-preserved c =
     let s = c.args.self in
     let i = c.loop-i.i in
-    c.in_ok-push.ensures.ok
-    ∙ ap₂ (λ (done : List (List ℕ)) (list : List ℕ). done ++ list ∷ []) c.loop-i.invariant c.in_ok-darts.ensures
+    c.in_ok-push_spin.ensures
+    ∙ ap (λ (done : List (List ℕ)). done ++ darts s.kind s.rows s.cols (i / s.cols) (i % s.cols) ∷ []) c.loop-i.invariant
     ∙ sym (map-range_with_len_more (λ i. darts s.kind s.rows s.cols (i / s.cols) (i % s.cols)) 0 i i (omega arith))

@@ -1,5 +1,4 @@
-use Rattle.std.proofs.Common.{◌≡◌, ℕ, List, sym, ◌∙◌, ap, ap₂, subst}
-use Rattle.std.proofs.lemmas.List.Elements.{same_from_all_zip}
+use Rattle.std.proofs.Common.{ℕ, List, sym, ◌∙◌, ap, ap₂, subst}
 use Rattle.sg_model.specs.Ising.{Ising}
 use Rattle.sg_model.specs.WellFormed.{IsInstance}
 use Rattle.sg_model.specs.Changes.{with_bonds}
@@ -8,11 +7,9 @@ use Rattle.sg_model.proofs.instance.Instance.with_bonds.Goals as goal
 
 pub returns : goal.returns
 returns c =
-    let rotation =
-    same_from_all_zip (λ (list copy : List ℕ). copy ≡ list) c.self.inside.rotation c.in_ok-rotation.rotation c.in_ok-rotation.ensures.cases (λ x y e. e) in
     let made =
     λ (rotation : List (List ℕ)) (seam : List ℕ). let i : Ising = record { n = c.self.inside.n; bonds = c.args.bonds; rotation = rotation; seam = seam } in i in
-    ap₂ made rotation c.in_ok-seam.ensures.cases ∙ ap (λ (i : Ising). with_bonds i c.args.bonds) c.self.view_is
+    ap₂ made c.in_ok-rotation.ensures.cases c.in_ok-seam.ensures.cases ∙ ap (λ (i : Ising). with_bonds i c.args.bonds) c.self.view_is
 
 pub invariant_of-result : goal.invariant_of-result
 invariant_of-result c =

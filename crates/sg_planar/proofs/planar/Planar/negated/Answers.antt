@@ -1,12 +1,22 @@
-use Rattle.sg_planar.proofs.OtherCouplings.{planar_negated}
+use Rattle.std.proofs.Common.{◌≡◌, ◌∙◌, sym, ap, subst, arith}
+use Rattle.sg_model.specs.Energy.{weight}
+use Rattle.sg_model.specs.Changes.{HasSameDrawing, negated}
+use Rattle.sg_planar.specs.Fit.{Embedding, IsPlanar}
+use Rattle.sg_planar.proofs.OtherCouplings.{negated_drawing, weight_negated}
 use Rattle.sg_planar.proofs.planar.Planar.negated.Goals as goal
 
-pub invariant_of-result : goal.invariant_of-result
-invariant_of-result c =
-    rw (c.in_ok-instance.ensures, c.in_ok-faces.ensures.cases) (planar_negated
-    (record { instance = c.self.inside.instance; faces = c.self.inside.faces }) c.self.invariant)
+pub drawn_with-requires-clause-drawing : goal.drawn_with-requires-clause-drawing
+drawn_with-requires-clause-drawing c =
+    let inst = c.args.self.now.instance in
+    let changed : c.in_ok-instance.instance ≡ negated inst =
+    c.in_ok-instance.ensures ∙ ap (λ (p : Embedding). negated p.instance) c.self.view_is in
+    let planar : IsPlanar c.args.self.now = subst IsPlanar c.self.view_is c.self.invariant.0 in
+    subst (HasSameDrawing inst) (sym changed) (negated_drawing inst planar.instance)
 
-pub returns-clause-planar : goal.returns-clause-planar
-returns-clause-planar c =
-    rw (c.in_ok-instance.ensures, c.in_ok-faces.ensures.cases) (planar_negated
-    (record { instance = c.self.inside.instance; faces = c.self.inside.faces }) c.self.invariant)
+pub drawn_with-requires-clause-sum : goal.drawn_with-requires-clause-sum
+drawn_with-requires-clause-sum c =
+    let inst = c.args.self.now.instance in
+    let changed : c.in_ok-instance.instance ≡ negated inst =
+    c.in_ok-instance.ensures ∙ ap (λ (p : Embedding). negated p.instance) c.self.view_is in
+    let planar : IsPlanar c.args.self.now = subst IsPlanar c.self.view_is c.self.invariant.0 in
+    omega (arith, ap weight changed, weight_negated inst, planar.sum)

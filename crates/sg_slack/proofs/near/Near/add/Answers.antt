@@ -8,7 +8,7 @@ use Rattle.sg_slack.proofs.NearLemmas.{IsNear-added, members-more, room-more, wr
 use Rattle.sg_slack.proofs.PartnerLemmas.{KeepsPartners-more}
 use Rattle.sg_slack.specs.Kept.{IsTakenAt, members_of, nearest_at}
 use Rattle.sg_slack.specs.Members.{IsMember, Known}
-use Rattle.sg_slack.specs.declared.near.Kept.{Kept}
+use Rattle.sg_slack.specs.declared.member.Kept.{Kept}
 use Rattle.sg_slack.specs.declared.near.Nearest.{Nearest}
 use Rattle.sg_slack.proofs.near.Near.add.Goals as goal
 use Rattle.sg_slack.proofs.near.Near.add.Goals.{After-self, After-push_reserved}

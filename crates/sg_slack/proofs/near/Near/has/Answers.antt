@@ -5,7 +5,7 @@ use Rattle.std.proofs.lemmas.List.{get_or_default}
 use Rattle.sg_slack.proofs.NearLemmas.{IsMember-kept, placed-member}
 use Rattle.sg_slack.specs.Kept.{kept_at}
 use Rattle.sg_slack.specs.Members.{IsMember, Known}
-use Rattle.sg_slack.specs.declared.near.Kept.{Kept}
+use Rattle.sg_slack.specs.declared.member.Kept.{Kept}
 use Rattle.sg_slack.proofs.near.Near.has.Goals as goal
 
 pub returns-then-place-len : goal.returns-then-place-len

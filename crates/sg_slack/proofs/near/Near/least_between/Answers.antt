@@ -6,7 +6,7 @@ use Rattle.sg_slack.specs.Members.{Agree, IsMember, Known}
 use Rattle.sg_slack.specs.Scan.{IsApartBefore}
 use Rattle.sg_slack.specs.Slack.{IsOuterOuter, Least, SumsFit, mark_at}
 use Rattle.sg_slack.specs.declared.Mark.TheVariants.{Outer}
-use Rattle.sg_slack.specs.declared.near.Kept.{Kept}
+use Rattle.sg_slack.specs.declared.member.Kept.{Kept}
 use Rattle.sg_slack.proofs.near.Near.least_between.Goals as goal
 
 pub returns-clause-least : goal.returns-clause-least

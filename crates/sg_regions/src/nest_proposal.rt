@@ -1,0 +1,97 @@
+// Proposals without cuts: a join, and the finished regions as they are.
+use super::NoMemory;
+use super::grow::grow;
+use super::lists::{entry, number, set_entry};
+use super::nest::Nest;
+use super::proposal::arcs_of;
+use super::ways::join_of;
+use sg_graph::{EdgeList, Terminals, Web};
+use sg_nest::{Place, Places, Region, Regions};
+use std::alloc::Global;
+
+/// Edges that may be a least join, and a nest of regions that may prove it.
+#[derive(Drop)]
+pub struct NestProposal {
+    pub edges: EdgeList,
+    pub nest: sg_nest::Nest,
+}
+
+/// Proposes a least join of the terminals with a nest of regions that proves it, or nothing.
+///
+/// Nothing is promised of the proposal: a caller has it judged by `sg_nest::proves`. The only error is
+/// want of memory.
+///
+/// Cost: that of growing the regions, and then time linear in the web and in the regions. Memory is
+/// linear in the web.
+pub fn propose_nest(
+    alloc: Global,
+    web: &Web,
+    terminals: &Terminals,
+) -> Result<Option<NestProposal>, NoMemory> {
+    let count = web.edges().len();
+    let adjacency = arcs_of(alloc, web, 2)?;
+    let Some((nest, pairs)) = grow(alloc, &adjacency, terminals.as_slice())? else {
+        return Ok(None);
+    };
+    let Some(edges) = join_of(alloc, &adjacency, &nest, pairs.as_slice(), count)? else {
+        return Ok(None);
+    };
+    let nest = handed(alloc, &nest)?;
+    Ok(Some(NestProposal { edges, nest }))
+}
+
+// A radius where arcs are twice as long as edges weigh, as one where they are four times as long.
+fn doubled(radius: i64) -> u64 {
+    radius.unsigned_abs().wrapping_mul(2)
+}
+
+// The finished regions in their order.
+fn handed(alloc: Global, nest: &Nest) -> Result<sg_nest::Nest, NoMemory> {
+    let names = names_of(alloc, nest)?;
+    Ok(sg_nest::Nest {
+        regions: regions_of(alloc, nest, &names)?,
+        places: places_of(alloc, nest, &names)?,
+    })
+}
+
+// For each region its number in the order.
+fn names_of(alloc: Global, nest: &Nest) -> Result<Vec<u32>, NoMemory> {
+    let mut names = vec![in alloc; 0u32; nest.regions() as usize]?;
+    for (place, region) in nest.order().iter().enumerate() {
+        set_entry(&mut names, *region, number(place));
+    }
+    Ok(names)
+}
+
+// The number of a region, if there is one.
+fn name_in(names: &[u32], region: Option<u32>) -> Option<u32> {
+    entry(names, region?)
+}
+
+// The regions, parts before what they are parts of.
+fn regions_of(alloc: Global, nest: &Nest, names: &[u32]) -> Result<Regions, NoMemory> {
+    let mut regions = Vec::with_capacity(alloc, nest.order().len())?;
+    for region in nest.order() {
+        regions.push(Region {
+            parent: name_in(names, nest.parent(*region)),
+            radius: doubled(nest.radius(*region)),
+        })?;
+    }
+    Ok(Regions::from_vec(regions))
+}
+
+// Which region took each node, and at which radius.
+fn places_of(alloc: Global, nest: &Nest, names: &[u32]) -> Result<Places, NoMemory> {
+    let mut places = Vec::with_capacity(alloc, nest.nodes() as usize)?;
+    for node in 0..nest.nodes() {
+        places.push(place_of(nest, names, node))?;
+    }
+    Ok(Places::from_vec(places))
+}
+
+// Which region took a node, and at which radius.
+fn place_of(nest: &Nest, names: &[u32], node: u32) -> Option<Place> {
+    let region = name_in(names, nest.region_of(node))?;
+    let at = doubled(nest.taken_at(node));
+    Some(Place { region, at })
+}

@@ -1,0 +1,242 @@
+//! Finished regions that are repaired for one edge after another.
+mod changes;
+mod old_ways;
+
+use super::NoMemory;
+use super::adjacency::{Adjacency, first_dart, second_dart};
+use super::engine::{Base, Ending, Engine, Parts};
+use super::lists::{Slot, entry, number, set_entry};
+use super::proposal::arcs_of;
+use changes::Changes;
+use old_ways::OldWays;
+use sg_graph::{EdgeList, Terminals, Web};
+use sg_nest::Nest;
+use std::alloc::Global;
+
+// How many terminals an edge may add to those of the web.
+const SPARE: usize = 2;
+
+// The ends of no edge.
+const NO_END: [Ending; 2] = [
+    Ending {
+        node: 0,
+        gone: None,
+        new: None,
+    },
+    Ending {
+        node: 0,
+        gone: None,
+        new: None,
+    },
+];
+
+/// What changes where an edge is not to be had.
+///
+/// `walk` has the edges by which a least join then differs, rising; `nest` proves that join, with
+/// radii where arcs are four times as long as edges weigh.
+#[derive(Drop)]
+pub struct Turn {
+    pub walk: EdgeList,
+    pub nest: Nest,
+}
+
+/// The finished regions of a web and its terminals, with the least join that they prove, to be repaired
+/// for one edge after another.
+///
+/// Nothing is promised of what it gives: a caller has it judged by `sg_nest::proves`. Memory is linear
+/// in the web and in the ways between mates.
+#[derive(Drop)]
+pub struct Repairs {
+    alloc: Global,
+    arcs: Adjacency,
+    // The nodes of the terminals, and those of the two that an edge adds.
+    terminals: Vec<u32>,
+    // For each node its terminal.
+    at: Vec<Slot>,
+    base: Base,
+    // The engine that was run last.
+    parts: Option<Parts>,
+    ways: OldWays,
+    changes: Changes,
+}
+
+// An edge that is taken out, with its two ends as they are then.
+#[derive(Clone, Copy)]
+pub struct Query {
+    pub edge: u32,
+    pub length: i64,
+    pub is_in_join: bool,
+    pub ends: [Ending; 2],
+}
+
+impl Repairs {
+    /// Grows regions from the terminals until each has a mate, or gives nothing where that does not
+    /// come about. The only error is want of memory.
+    pub fn new(
+        alloc: Global,
+        web: &Web,
+        terminals: &Terminals,
+    ) -> Result<Option<Repairs>, NoMemory> {
+        let arcs = arcs_of(alloc, web, 4)?;
+        let at = terminals_at(alloc, web.nodes(), terminals.as_slice())?;
+        let mut terminals = Vec::from_slice(alloc, terminals.as_slice())?;
+        for _ in 0..SPARE {
+            terminals.push(u32::MAX)?;
+        }
+        let mut engine = Engine::new(alloc, &arcs, &terminals)?;
+        if !engine.run_from(&planted(alloc, terminals.len(), NO_END)?)? {
+            return Ok(None);
+        }
+        let base = engine.base()?;
+        let mut changes = Changes::new(alloc, &engine, web.edges().len(), terminals.len())?;
+        let pairs = engine.pairs()?;
+        let Some(ways) = OldWays::new(alloc, &engine, &mut changes, &pairs, web.edges().len())?
+        else {
+            return Ok(None);
+        };
+        let parts = Some(engine.into_parts());
+        Ok(Some(Repairs {
+            alloc,
+            arcs,
+            terminals,
+            at,
+            base,
+            parts,
+            ways,
+            changes,
+        }))
+    }
+
+    /// The join that the finished regions prove: its edges, rising.
+    pub fn join(&self) -> &EdgeList {
+        self.ways.join()
+    }
+
+    /// What changes where an edge is gone from the web and, if it is not in the join, each of its two
+    /// ends is a terminal just where it was none: the walk has the edge itself, and all edges that are
+    /// in one of the two joins and not in the other. Nothing where no repair was found, and for an edge
+    /// of one node. The only error is want of memory.
+    ///
+    /// Any call gives the same for the same edge. Cost: time linear in the web, and that of growing the
+    /// two to six regions that are left over where those at the edge are taken apart.
+    pub fn turn(&mut self, edge: u32) -> Result<Option<Turn>, NoMemory> {
+        let one = self.arcs.start(first_dart(edge));
+        let other = self.arcs.start(second_dart(edge));
+        if one == other {
+            return Ok(None);
+        }
+        let Some(parts) = self.parts.take() else {
+            return Ok(None);
+        };
+        let query = self.query(edge, one, other);
+        self.arcs.take_out(edge);
+        let mut engine = Engine::of_parts(self.alloc, &self.arcs, &self.terminals, parts);
+        let changes = &mut self.changes;
+        let found = repaired(&mut engine, &self.base, &self.ways, changes, query);
+        self.parts = Some(engine.into_parts());
+        let found = match found {
+            Ok(None) => self.regrown(query),
+            found => found,
+        };
+        self.arcs.put_back(edge, query.length);
+        found
+    }
+
+    // The same by regions that grow from nothing.
+    fn regrown(&mut self, query: Query) -> Result<Option<Turn>, NoMemory> {
+        let is_planted = planted(self.alloc, self.terminals.len(), query.ends)?;
+        let mut engine = Engine::new(self.alloc, &self.arcs, &self.terminals)?;
+        if !engine.run_from(&is_planted)? {
+            return Ok(None);
+        }
+        let pairs = engine.pairs()?;
+        self.changes.turn(&engine, &self.ways, &pairs, query)
+    }
+
+    // The ends of an edge that is taken out.
+    fn query(&mut self, edge: u32, one: u32, other: u32) -> Query {
+        let is_in_join = self.ways.has(edge);
+        let spare = number(self.terminals.len().saturating_sub(SPARE));
+        let first = self.ending(one, is_in_join, spare);
+        let second = self.ending(other, is_in_join, spare.wrapping_add(1));
+        Query {
+            edge,
+            length: self.arcs.arc(first_dart(edge)).length,
+            is_in_join,
+            ends: [first, second],
+        }
+    }
+
+    // The end of an edge. If the edge is not in the join, the terminal there is gone, or a spare one is
+    // new.
+    fn ending(&mut self, node: u32, is_in_join: bool, spare: u32) -> Ending {
+        let gone = terminal_at(&self.at, node);
+        if is_in_join {
+            return Ending {
+                node,
+                gone: None,
+                new: None,
+            };
+        }
+        if gone.is_some() {
+            return Ending {
+                node,
+                gone,
+                new: None,
+            };
+        }
+        set_entry(&mut self.terminals, spare, node);
+        Ending {
+            node,
+            gone: None,
+            new: Some(spare),
+        }
+    }
+}
+
+// The repair for one edge.
+fn repaired(
+    engine: &mut Engine,
+    base: &Base,
+    ways: &OldWays,
+    changes: &mut Changes,
+    query: Query,
+) -> Result<Option<Turn>, NoMemory> {
+    engine.restore(base)?;
+    if !engine.repair(query.ends)? {
+        return Ok(None);
+    }
+    let pairs = engine.changed_pairs(base)?;
+    changes.turn(engine, ways, &pairs, query)
+}
+
+// The marks of the terminals that are there when the ends of an edge are these.
+fn planted(alloc: Global, count: usize, ends: [Ending; 2]) -> Result<Vec<bool>, NoMemory> {
+    let mut marks = vec![in alloc; true; count]?;
+    for place in count.saturating_sub(SPARE)..count {
+        set_entry(&mut marks, number(place), false);
+    }
+    for end in ends {
+        if let Some(gone) = end.gone {
+            set_entry(&mut marks, gone, false);
+        }
+        if let Some(new) = end.new {
+            set_entry(&mut marks, new, true);
+        }
+    }
+    Ok(marks)
+}
+
+// The terminal of a node.
+fn terminal_at(at: &[Slot], node: u32) -> Option<u32> {
+    entry(at, node)?.number()
+}
+
+// For each node its terminal.
+fn terminals_at(alloc: Global, nodes: u32, terminals: &[u32]) -> Result<Vec<Slot>, NoMemory> {
+    let mut at = vec![in alloc; Slot::none(); nodes as usize]?;
+    for (name, node) in terminals.iter().enumerate() {
+        set_entry(&mut at, *node, Slot::of(number(name)));
+    }
+    Ok(at)
+}
