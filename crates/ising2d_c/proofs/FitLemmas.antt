@@ -1,5 +1,5 @@
 -- From an instance that some numbers give to what a study of it answers.
-use Rattle.std.proofs.Common.{◌≡◌, ◌⊎◌, ℕ, List, [], Ok, Err, IfOk, IfErr, sym, subst, inl, inr}
+use Rattle.std.proofs.Common.{◌≡◌, ◌≢◌, ◌⊎◌, ℕ, List, [], Ok, Err, IfOk, IfErr, sym, subst, inl, inr}
 use Rattle.std.specs.Prelude.{IsErrAnd, IsOkAnd, Result, Option}
 use Rattle.sg_model.specs.Ising.{Ising}
 use Rattle.sg_model.specs.declared.refusal.Fault.{Fault}
@@ -7,11 +7,21 @@ use Rattle.sg_model.specs.declared.refusal.Fault.TheVariants.{Refused}
 use Rattle.sg_model.specs.declared.refusal.Refusal.{Refusal}
 use Rattle.sg_model.specs.declared.refusal.Refusal.TheVariants.{NoSeam}
 use Rattle.sg_reader.specs.Tests.{IsTestFault}
-use Rattle.sg_planar.specs.Fit.{Embedding}
+use Rattle.sg_planar.specs.Fit.{Embedding, IsUnfitFault}
 use Rattle.ising2d_c.specs.Fitting.{Finds, IsFitFault, IsFitOf, IsProofFault, IsWallFault}
 use Rattle.ising2d_c.specs.Refusing.{IsTold, IsToldFault}
 
 module _ (Given : Ising → Type 0) (Fails : Fault → Type 0) where
+  -- why there is no fit instance
+  pub fit-refused : (given : Result Ising Fault) (fit : Result Embedding Fault) → IfOk given Given → IfErr given Fails
+      → IfErr fit (λ fault. IsErrAnd given (λ e. fault ≡ e) ⊎ IsOkAnd given (λ inst. IsUnfitFault inst fault))
+      → IfErr fit (IsFitFault Given Fails)
+  fit-refused given (Ok p) gives fails why = tt
+  fit-refused (Ok inst) (Err fault) gives fails (inl why) = absurd why
+  fit-refused (Ok inst) (Err fault) gives fails (inr why) = inr (inst, gives, why)
+  fit-refused (Err e) (Err fault) gives fails (inl why) = inl (subst Fails (sym why) fails)
+  fit-refused (Err e) (Err fault) gives fails (inr why) = absurd why
+
   -- why there is no instance with a seam
   pub seam-refused : (fit cut : Result Embedding Fault) → IfOk fit (λ p. IsFitOf Given p.instance) → IfErr fit (IsFitFault Given Fails)
       → IfErr cut (λ fault. IsErrAnd fit (λ e. fault ≡ e) ⊎ IsOkAnd fit (λ p. (p.instance.seam ≡ []) × (fault ≡ Refused NoSeam)))
@@ -21,6 +31,13 @@ module _ (Given : Ising → Type 0) (Fails : Fault → Type 0) where
   seam-refused (Ok p) (Err fault) gives fails (inr why) = inr (p.instance, gives, why.0, why.1)
   seam-refused (Err e) (Err fault) gives fails (inl why) = inl (subst (IsFitFault Given Fails) (sym why) fails)
   seam-refused (Err e) (Err fault) gives fails (inr why) = absurd why
+
+-- the instance with a seam is the one that was fit
+pub seam-given : (Given : Ising → Type 0) (fit cut : Result Embedding Fault) → IfOk fit (λ p. Given p.instance)
+    → IfOk cut (λ q. IsOkAnd fit (λ p. (q ≡ p) × (p.instance.seam ≢ []))) → IfOk cut (λ q. Given q.instance)
+seam-given Given fit (Err e) gives same = tt
+seam-given Given (Ok p) (Ok q) gives same = subst (λ (x : Embedding). Given x.instance) (sym same.0) gives
+seam-given Given (Err e) (Ok q) gives same = absurd same
 
 -- what was found of it
 pub finds : (Given Study : Ising → Type 0) (given : Result Embedding Fault) → IfOk given (λ p. Given p.instance)
