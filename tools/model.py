@@ -156,6 +156,29 @@ def least_energy(instance):
     return least
 
 
+def bond_costs(instance):
+    """For each bond how far the least energies lie apart with its spins alike and with them unlike."""
+    like, unlike = [None] * len(instance.bonds), [None] * len(instance.bonds)
+    for signs in range(1 << (instance.n - 1)):
+        spins = [1 if (signs >> spin) & 1 == 0 else -1 for spin in range(instance.n)]
+        energy = instance.energy(spins)
+        for k, (u, v, _) in enumerate(instance.bonds):
+            least = like if spins[u] == spins[v] else unlike
+            if least[k] is None or energy < least[k]:
+                least[k] = energy
+    return [abs(a - b) for a, b in zip(like, unlike)]
+
+
+def rigid_clusters(instance, costs):
+    """For each spin the least spin that bonds of a cost above 0 lead to."""
+    names = list(range(instance.n))
+    for _ in range(instance.n):
+        for (u, v, _), cost in zip(instance.bonds, costs):
+            if cost > 0:
+                names[u] = names[v] = min(names[u], names[v])
+    return names
+
+
 class Result:
     """What a result states: an energy, spins and weighted loops."""
 
