@@ -3,12 +3,12 @@ use Rattle.std.proofs.Common.{◌≡◌, ℕ, List, [], Option, None, Some, refl
 use Rattle.sg_io.specs.Devices.{Grows, Told}
 use Rattle.sg_io.specs.Writing.{GrowsByPrefix}
 use Rattle.sg_laws.specs.Named.{Law, first_named}
-use Rattle.sg_cli.specs.Command.{command_of, law_word}
+use Rattle.sg_words.specs.Command.{command_of, law_word}
 use Rattle.sg_cli.specs.Promises.{AnswersInPart, AnswersSource, AnswersWhole, IsAnswered, IsServed}
 use Rattle.sg_cli.specs.Served.{AnswersLaw, usage_text}
-use Rattle.sg_cli.specs.declared.command.Command.TheVariants.{Read, Draw}
-use Rattle.sg_cli.specs.declared.command.Drawing.{Drawing}
-use Rattle.sg_cli.specs.declared.command.Reading.{Reading}
+use Rattle.sg_words.specs.declared.command.Command.TheVariants.{Read, Draw}
+use Rattle.sg_words.specs.declared.command.Drawing.{Drawing}
+use Rattle.sg_words.specs.declared.command.Reading.{Reading}
 use Rattle.sg_cli.specs.declared.status.Status.{Status}
 use Rattle.sg_cli.specs.declared.status.Status.TheVariants.{Usage}
 

@@ -1,6 +1,5 @@
 mod WidthByWidth
 mod Samples
-mod Numerals
 mod TakesLemmas
 mod AnswerLemmas
 mod InputLemmas

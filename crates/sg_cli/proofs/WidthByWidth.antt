@@ -5,7 +5,7 @@ use Rattle.std.proofs.lemmas.Bool.{cases_Bool}
 use Rattle.std.proofs.lemmas.Bool.Decides.{nat_tests}
 use Rattle.sg_lattice.specs.declared.kind.Kind.{Kind}
 use Rattle.sg_planar.specs.Fit.{IsFit}
-use Rattle.sg_cli.specs.declared.command.Size.{Size}
+use Rattle.sg_words.specs.declared.command.Size.{Size}
 use Rattle.sg_cli.specs.Served.{drawn_lattice}
 
 -- the same draws give the same lattice

@@ -9,8 +9,8 @@ use Rattle.sg_ground.specs.Loops.{loop_of}
 use Rattle.sg_postman.specs.declared.steps.Step.{Step}
 use Rattle.sg_postman.specs.Tour.{IsLeastTour}
 use Rattle.sg_report.specs.Graphs.{postman_text, tjoin_text}
-use Rattle.sg_cli.specs.declared.command.GraphTask.{GraphTask}
-use Rattle.sg_cli.specs.declared.command.GraphTask.TheVariants.{TJoin, Postman}
+use Rattle.sg_words.specs.declared.command.GraphTask.{GraphTask}
+use Rattle.sg_words.specs.declared.command.GraphTask.TheVariants.{TJoin, Postman}
 use Rattle.sg_cli.specs.declared.status.Status.{Status}
 use Rattle.sg_cli.specs.declared.status.Status.TheVariants.{Done}
 

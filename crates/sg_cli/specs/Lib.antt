@@ -1,5 +1,3 @@
-pub mod Numeral
-pub mod Command
 pub mod Exit
 pub mod Input
 pub mod Graphs

@@ -5,9 +5,9 @@ use Rattle.sg_io.specs.Devices.{Grows, Told, next_count}
 use Rattle.sg_io.specs.Reading.{LosesAtMost}
 use Rattle.sg_io.specs.Writing.{GrowsByPrefix}
 use Rattle.sg_laws.specs.Named.{Law}
-use Rattle.sg_cli.specs.Command.{command_of}
+use Rattle.sg_words.specs.Command.{command_of}
 use Rattle.sg_cli.specs.Served.{AnswersInput, Served, is_reading}
-use Rattle.sg_cli.specs.declared.command.Reading.{Reading}
+use Rattle.sg_words.specs.declared.command.Reading.{Reading}
 use Rattle.sg_cli.specs.declared.serve.Stop.{Stop}
 use Rattle.sg_cli.specs.declared.serve.Stop.TheVariants as stop
 use Rattle.sg_cli.specs.declared.status.Status.{Status}

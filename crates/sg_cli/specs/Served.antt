@@ -37,20 +37,20 @@ use Rattle.sg_report.specs.Report.{report_text}
 use Rattle.sg_report.specs.Ranges.{maxcut_text, ranges_text}
 use Rattle.sg_ranges.specs.Turn.{AreTurns}
 use Rattle.sg_ranges.specs.Cut.{IsLargestCut, coupling_sum}
-use Rattle.sg_cli.specs.Command.{command_of, law_word}
+use Rattle.sg_words.specs.Command.{command_of, law_word}
 use Rattle.sg_cli.specs.Graphs.{AnswersTask, takes_terms}
 use Rattle.sg_cli.specs.Input.{GivesFit, GivesProof, RefusesProof, RefusesText}
-use Rattle.sg_cli.specs.declared.command.Command.{Command}
-use Rattle.sg_cli.specs.declared.command.Command.TheVariants.{Read, Draw}
-use Rattle.sg_cli.specs.declared.command.Drawing.{Drawing}
-use Rattle.sg_cli.specs.declared.command.Drawing.TheVariants.{Gen, Sample, Ensemble, Widths}
-use Rattle.sg_cli.specs.declared.command.GraphTask.{GraphTask}
-use Rattle.sg_cli.specs.declared.command.Reading.{Reading}
-use Rattle.sg_cli.specs.declared.command.Reading.TheVariants as reading
-use Rattle.sg_cli.specs.declared.command.Size.{Size}
-use Rattle.sg_cli.specs.declared.command.Study.{Study}
-use Rattle.sg_cli.specs.declared.command.Study.TheVariants.{Energy, Ground, Wall, Bonds, Clusters}
-use Rattle.sg_cli.specs.declared.command.Study.TheVariants.{Report, Ranges, Maxcut}
+use Rattle.sg_words.specs.declared.command.Command.{Command}
+use Rattle.sg_words.specs.declared.command.Command.TheVariants.{Read, Draw}
+use Rattle.sg_words.specs.declared.command.Drawing.{Drawing}
+use Rattle.sg_words.specs.declared.command.Drawing.TheVariants.{Gen, Sample, Ensemble, Widths}
+use Rattle.sg_words.specs.declared.command.GraphTask.{GraphTask}
+use Rattle.sg_words.specs.declared.command.Reading.{Reading}
+use Rattle.sg_words.specs.declared.command.Reading.TheVariants as reading
+use Rattle.sg_words.specs.declared.command.Size.{Size}
+use Rattle.sg_words.specs.declared.command.Study.{Study}
+use Rattle.sg_words.specs.declared.command.Study.TheVariants.{Energy, Ground, Wall, Bonds, Clusters}
+use Rattle.sg_words.specs.declared.command.Study.TheVariants.{Report, Ranges, Maxcut}
 use Rattle.sg_cli.specs.declared.status.Status.{Status}
 use Rattle.sg_cli.specs.declared.status.Status.TheVariants.{Done, Refused, Usage, No}
 

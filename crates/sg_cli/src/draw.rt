@@ -2,11 +2,11 @@
 // draws.
 ghost use Rattle.std.specs.Prelude.{map, IfOk};
 ghost use Rattle.sg_laws.specs.Named.{first_named};
-ghost use Rattle.sg_cli.specs.Command.{IsAllowedDrawing};
+ghost use Rattle.sg_words.specs.Command.{IsAllowedDrawing};
 ghost use Rattle.sg_cli.specs.Promises.{IsAnswered};
 ghost use Rattle.sg_cli.specs.Served.{AnswersDraws, AnswersLaw};
 
-use super::command::Drawing;
+use sg_words::Drawing;
 use super::ensemble::ensemble_reply;
 use super::generate::gen_reply;
 use super::reply::{NoMemory, Reply, refuse};

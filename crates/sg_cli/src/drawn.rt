@@ -3,10 +3,10 @@ ghost use Rattle.std.specs.Prelude.{◌≡◌, ℕ, length, All, IfErr, IfOk};
 ghost use Rattle.sg_lattice.specs.Tables.{bond_total};
 ghost use Rattle.sg_laws.specs.Stream.{IsDraw};
 ghost use Rattle.sg_planar.specs.Fit.{IsFit, IsPlanar, IsUnfitFault};
-ghost use Rattle.sg_cli.specs.Command.{IsAllowedSize};
+ghost use Rattle.sg_words.specs.Command.{IsAllowedSize};
 ghost use Rattle.sg_cli.specs.Served.{drawn_couplings, drawn_lattice as lattice_of};
 
-use super::command::Size;
+use sg_words::Size;
 use super::reply::NoMemory;
 use sg_lattice::{Kind, bond_count, build};
 use sg_laws::{Disorder, draws, start};

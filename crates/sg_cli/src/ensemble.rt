@@ -3,11 +3,11 @@ ghost use Rattle.std.specs.Prelude.{◌≡◌, ◌≤◌, ℕ, IfErr, IfOk, OnOk
 ghost use Rattle.sg_lattice.specs.declared.kind.Kind.TheVariants.{Cylinder};
 ghost use Rattle.sg_planar.specs.Fit.{IsFit, IsUnfitFault};
 ghost use Rattle.sg_ensemble.specs.Samples.{IsSpherical};
-ghost use Rattle.sg_cli.specs.Command.{IsAllowedSize, sample_limit};
+ghost use Rattle.sg_words.specs.Command.{IsAllowedSize, sample_limit};
 ghost use Rattle.sg_cli.specs.Promises.{IsAnswered};
 ghost use Rattle.sg_cli.specs.Served.{AnswersEnsemble, PrintsEnsemble, drawn_lattice};
 
-use super::command::Size;
+use sg_words::Size;
 use super::drawn::drawn_planar;
 use super::reply::{NoMemory, Reply, done, refuse_fault};
 use sg_ensemble::ensemble;

@@ -1,10 +1,10 @@
 // What `gen` answers.
 ghost use Rattle.std.specs.Prelude.{IfOk};
-ghost use Rattle.sg_cli.specs.Command.{IsAllowedSize};
+ghost use Rattle.sg_words.specs.Command.{IsAllowedSize};
 ghost use Rattle.sg_cli.specs.Promises.{IsAnswered};
 ghost use Rattle.sg_cli.specs.Served.{PrintsLattice, drawn_couplings};
 
-use super::command::Size;
+use sg_words::Size;
 use super::drawn::couplings;
 use super::reply::{NoMemory, Reply, done};
 use sg_lattice::Kind;

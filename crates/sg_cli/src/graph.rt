@@ -7,7 +7,7 @@ ghost use Rattle.sg_cli.specs.Graphs.{AnswersTask, takes_terms};
 ghost use Rattle.sg_cli.specs.Promises.{IsAnswered};
 ghost use Rattle.sg_cli.specs.Served.{AnswersGraph};
 
-use super::command::GraphTask;
+use sg_words::GraphTask;
 use super::postman::postman_reply;
 use super::reply::{NoMemory, Reply, refuse_fault};
 use super::tjoin::tjoin_reply;

@@ -1,7 +1,7 @@
 // A run with the laws of the program.
 ghost use Rattle.std.specs.Prelude.{◌≡◌, ◌≢◌, true, false, IsSome, IfOk, IfErr, map, string_bytes};
 ghost use Rattle.sg_io.specs.Devices.{FaultShown};
-ghost use Rattle.sg_cli.specs.Command.{command_of};
+ghost use Rattle.sg_words.specs.Command.{command_of};
 ghost use Rattle.sg_cli.specs.Laws.{Sends, WithAllLaws};
 ghost use Rattle.sg_cli.specs.Promises.{IsAnswered, Leaves, reads, sink_faults, source_faults};
 

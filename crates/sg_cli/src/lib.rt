@@ -10,14 +10,13 @@
 //! For the next engineer: the contract of `run` is the headline of the whole project. Its clauses
 //! stand in `specs/Promises.antt`, over one definition of what is answered, `specs/Served.antt`.
 //! Each command has a file of its own, which finds its answer: a further one is one more file, one
-//! more variant in `command.rt`, one more text in `sg_report`, and one more case in `Served`.
+//! more variant in `sg_words`, one more text in `sg_report`, and one more case in `Served`.
 //! A command that asks something of a planar instance is a study (`study.rt`).
 #![tactic(auto)]
 
 mod bonds;
 mod check;
 mod clusters;
-mod command;
 mod counts;
 mod draw;
 mod drawn;
@@ -28,7 +27,6 @@ mod graph;
 mod ground;
 mod laws;
 mod maxcut;
-mod numeral;
 mod postman;
 mod ranges;
 mod reply;
@@ -41,7 +39,7 @@ mod tjoin;
 mod wall;
 mod widths;
 
-pub use command::{Command, Drawing, GraphTask, Reading, Size, Study};
 pub use laws::run_with_all_laws;
 pub use serve::run;
+pub use sg_words::{Command, Drawing, GraphTask, Reading, Size, Study};
 pub use status::Status;

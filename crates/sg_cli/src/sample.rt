@@ -2,11 +2,11 @@
 ghost use Rattle.std.specs.Prelude.{IfOk};
 ghost use Rattle.sg_lattice.specs.declared.kind.Kind.TheVariants.{Square};
 ghost use Rattle.sg_planar.specs.Fit.{IsFit};
-ghost use Rattle.sg_cli.specs.Command.{IsAllowedSize};
+ghost use Rattle.sg_words.specs.Command.{IsAllowedSize};
 ghost use Rattle.sg_cli.specs.Promises.{IsAnswered};
 ghost use Rattle.sg_cli.specs.Served.{AnswersSample, PrintsSample, drawn_lattice};
 
-use super::command::Size;
+use sg_words::Size;
 use super::counts::{bond_count, size_sum};
 use super::drawn::drawn_planar;
 use super::reply::{NoMemory, Reply, done, refuse_fault};

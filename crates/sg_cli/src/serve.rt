@@ -3,12 +3,12 @@ ghost use Rattle.sg_limits.specs.Limits.{input_limit, text_limit};
 ghost use Rattle.sg_io.specs.Devices.{FaultShown, Grows};
 ghost use Rattle.sg_io.specs.Reading.{LosesAtMost};
 ghost use Rattle.sg_io.specs.Writing.{GrowsByPrefix};
-ghost use Rattle.sg_cli.specs.Command.{command_of};
+ghost use Rattle.sg_words.specs.Command.{command_of};
 ghost use Rattle.sg_cli.specs.Served.{AnswersText};
 ghost use Rattle.sg_cli.specs.Promises.{AnswersInPart, AnswersSource, AnswersWhole, IsAnswered, Leaves, reads, sink_faults, source_faults, stop_faults, Takes};
 
 use super::check::check_reply;
-use super::command::{Command, Reading, law_word, parse_command};
+use sg_words::{Command, Reading, law_word, parse_command};
 use super::draw::draw_reply;
 use super::graph::graph_reply;
 use super::reply::{NoMemory, Reply, refuse};

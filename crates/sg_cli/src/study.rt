@@ -8,7 +8,7 @@ ghost use Rattle.sg_cli.specs.Served.{AnswersFit, AnswersStudy};
 
 use super::bonds::bonds_reply;
 use super::clusters::clusters_reply;
-use super::command::Study;
+use sg_words::Study;
 use super::energy::energy_reply;
 use super::ground::ground_reply;
 use super::maxcut::maxcut_reply;

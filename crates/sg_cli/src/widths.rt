@@ -3,11 +3,11 @@ ghost use Rattle.std.specs.Prelude.{◌≡◌, ◌≤◌, ℕ, map, IfErr, IfOk,
 ghost use Rattle.sg_lattice.specs.declared.kind.Kind.TheVariants.{Cylinder};
 ghost use Rattle.sg_ensemble.specs.Samples.{IsSpherical};
 ghost use Rattle.sg_report.specs.Ensembles.{widths_text as widths_bytes};
-ghost use Rattle.sg_cli.specs.Command.{IsAllowedSize, sample_limit, width_limit};
+ghost use Rattle.sg_words.specs.Command.{IsAllowedSize, sample_limit, width_limit};
 ghost use Rattle.sg_cli.specs.Promises.{IsAnswered};
 ghost use Rattle.sg_cli.specs.Served.{AnswersWidths, IsWidthFault, PrintsWidths};
 
-use super::command::Size;
+use sg_words::Size;
 use super::ensemble::test_first;
 use super::reply::{NoMemory, Reply, done, refuse_fault};
 use sg_ensemble::{Width, widths};

@@ -1,7 +1,7 @@
 ghost use Rattle.std.specs.Prelude.{◌≡◌, ◌≤◌, Some, None, codes, if◌then◌else◌, map, string_bytes, IfSome};
 ghost use Rattle.std.specs.Str.{bytes_eq};
 ghost use Rattle.sg_lattice.specs.Tables.{least_cols as least_columns};
-ghost use Rattle.sg_cli.specs.Command.{command_named, command_of, ensemble_of, gen_of, IsAllowed, IsAllowedSize, kind_named, law_word as second_word, sample_of, six_words, size_in, widths_of};
+ghost use Rattle.sg_words.specs.Command.{command_named, command_of, ensemble_of, gen_of, IsAllowed, IsAllowedSize, kind_named, law_word as second_word, sample_of, six_words, size_in, widths_of};
 
 use super::numeral::number_in;
 use sg_lattice::Kind;

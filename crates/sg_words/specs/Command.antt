@@ -6,16 +6,16 @@ use Rattle.sg_limits.specs.Limits.{spin_limit}
 use Rattle.sg_lattice.specs.declared.kind.Kind.{Kind}
 use Rattle.sg_lattice.specs.declared.kind.Kind.TheVariants.{Square, Triangular, Hexagonal, Cylinder}
 use Rattle.sg_lattice.specs.Tables.{least_cols}
-use Rattle.sg_cli.specs.Numeral.{number_in}
-use Rattle.sg_cli.specs.declared.command.Command.{Command}
-use Rattle.sg_cli.specs.declared.command.Command.TheVariants.{Read, Draw}
-use Rattle.sg_cli.specs.declared.command.Reading.TheVariants.{Study, Check, Graph}
-use Rattle.sg_cli.specs.declared.command.Study.TheVariants.{Energy, Ground, Wall, Bonds, Clusters}
-use Rattle.sg_cli.specs.declared.command.Study.TheVariants.{Report, Ranges, Maxcut}
-use Rattle.sg_cli.specs.declared.command.GraphTask.TheVariants.{TJoin, Postman}
-use Rattle.sg_cli.specs.declared.command.Drawing.{Drawing}
-use Rattle.sg_cli.specs.declared.command.Drawing.TheVariants.{Gen, Sample, Ensemble, Widths}
-use Rattle.sg_cli.specs.declared.command.Size.{Size}
+use Rattle.sg_words.specs.Numeral.{number_in}
+use Rattle.sg_words.specs.declared.command.Command.{Command}
+use Rattle.sg_words.specs.declared.command.Command.TheVariants.{Read, Draw}
+use Rattle.sg_words.specs.declared.command.Reading.TheVariants.{Study, Check, Graph}
+use Rattle.sg_words.specs.declared.command.Study.TheVariants.{Energy, Ground, Wall, Bonds, Clusters}
+use Rattle.sg_words.specs.declared.command.Study.TheVariants.{Report, Ranges, Maxcut}
+use Rattle.sg_words.specs.declared.command.GraphTask.TheVariants.{TJoin, Postman}
+use Rattle.sg_words.specs.declared.command.Drawing.{Drawing}
+use Rattle.sg_words.specs.declared.command.Drawing.TheVariants.{Gen, Sample, Ensemble, Widths}
+use Rattle.sg_words.specs.declared.command.Size.{Size}
 
 -- the command that one word names
 abbrev pub command_named : List ℕ → Option Command

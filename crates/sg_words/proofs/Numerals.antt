@@ -7,7 +7,7 @@ use Rattle.std.specs.Str.Parse.{AllDigits, IsNumeral, digits_value, without_lead
 use Rattle.std.proofs.lemmas.Bool.{cases_Bool, false≢true}
 use Rattle.std.proofs.lemmas.Bool.Decides.{nat_tests}
 use Rattle.std.proofs.lemmas.Str.{digit_value_digit}
-use Rattle.sg_cli.specs.Numeral.{number_in}
+use Rattle.sg_words.specs.Numeral.{number_in}
 
 digit-from : (c : ℕ) → is_ascii_digit c ≡ true → digit_value c < 10
 digit-from c h =

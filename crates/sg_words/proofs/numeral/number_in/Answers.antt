@@ -1,8 +1,8 @@
 use Rattle.std.proofs.Common.{rules, ◌≡◌, true, sym}
 use Rattle.std.specs.List.{list_all}
 use Rattle.std.specs.Char.{is_ascii_digit}
-use Rattle.sg_cli.proofs.Numerals.{number_in-unparsed}
-use Rattle.sg_cli.proofs.numeral.number_in.Goals as goal
+use Rattle.sg_words.proofs.Numerals.{number_in-unparsed}
+use Rattle.sg_words.proofs.numeral.number_in.Goals as goal
 
 pub returns-in_default-3-clause-value : goal.returns-in_default-3-clause-value
 returns-in_default-3-clause-value c =
