@@ -79,31 +79,19 @@ impl Repairs {
     ) -> Result<Option<Repairs>, NoMemory> {
         let arcs = arcs_of(alloc, web, 4)?;
         let at = terminals_at(alloc, web.nodes(), terminals.as_slice())?;
-        let mut terminals = Vec::from_slice(alloc, terminals.as_slice())?;
-        for _ in 0..SPARE {
-            terminals.push(u32::MAX)?;
-        }
-        let mut engine = Engine::new(alloc, &arcs, &terminals)?;
-        if !engine.run_from(&planted(alloc, terminals.len(), NO_END)?)? {
-            return Ok(None);
-        }
-        let base = engine.base()?;
-        let mut changes = Changes::new(alloc, &engine, web.edges().len(), terminals.len())?;
-        let pairs = engine.pairs()?;
-        let Some(ways) = OldWays::new(alloc, &engine, &mut changes, &pairs, web.edges().len())?
-        else {
+        let terminals = with_spares(alloc, terminals.as_slice())?;
+        let Some(grown) = grow_all(alloc, &arcs, &terminals, web.edges().len())? else {
             return Ok(None);
         };
-        let parts = Some(engine.into_parts());
         Ok(Some(Repairs {
             alloc,
             arcs,
             terminals,
             at,
-            base,
-            parts,
-            ways,
-            changes,
+            base: grown.base,
+            parts: Some(grown.parts),
+            ways: grown.ways,
+            changes: grown.changes,
         }))
     }
 
@@ -192,6 +180,60 @@ impl Repairs {
             new: Some(spare),
         }
     }
+}
+
+// What regions leave that grew until each terminal had a mate.
+#[derive(Drop)]
+struct Grown {
+    base: Base,
+    parts: Parts,
+    ways: OldWays,
+    changes: Changes,
+}
+
+// The nodes of the terminals, with room for those that an edge may add.
+fn with_spares(alloc: Global, nodes: &[u32]) -> Result<Vec<u32>, NoMemory> {
+    let mut terminals = Vec::from_slice(alloc, nodes)?;
+    for _ in 0..SPARE {
+        terminals.push(u32::MAX)?;
+    }
+    Ok(terminals)
+}
+
+// Grows regions from the terminals, but for the spare ones, over so many edges.
+fn grow_all(
+    alloc: Global,
+    arcs: &Adjacency,
+    terminals: &[u32],
+    edges: usize,
+) -> Result<Option<Grown>, NoMemory> {
+    let mut engine = Engine::new(alloc, arcs, terminals)?;
+    if !engine.run_from(&planted(alloc, terminals.len(), NO_END)?)? {
+        return Ok(None);
+    }
+    kept(alloc, engine, edges, terminals.len())
+}
+
+// What is kept of an engine that ran to its end.
+fn kept(
+    alloc: Global,
+    mut engine: Engine,
+    edges: usize,
+    terminals: usize,
+) -> Result<Option<Grown>, NoMemory> {
+    let base = engine.base()?;
+    let mut changes = Changes::new(alloc, &engine, edges, terminals)?;
+    let pairs = engine.pairs()?;
+    let Some(ways) = OldWays::new(alloc, &engine, &mut changes, &pairs, edges)? else {
+        return Ok(None);
+    };
+    let parts = engine.into_parts();
+    Ok(Some(Grown {
+        base,
+        parts,
+        ways,
+        changes,
+    }))
 }
 
 // The repair for one edge.

@@ -56,26 +56,43 @@ impl OldWays {
         pairs: &[Pair],
         edges: usize,
     ) -> Result<Option<OldWays>, NoMemory> {
-        let count = engine.terminals();
-        let mut ways = OldWays {
-            mates: vec![in alloc; Slot::none(); count]?,
-            stretches: vec![in alloc; EMPTY; count]?,
+        let mut ways = OldWays::empty(alloc, engine.terminals(), edges)?;
+        if !ways.add_all(engine, changes, pairs)? {
+            return Ok(None);
+        }
+        ways.turn_round(alloc)?;
+        ways.join_all(alloc, engine, edges)?;
+        Ok(Some(ways))
+    }
+
+    // No ways, of so many terminals over so many edges.
+    fn empty(alloc: Global, terminals: usize, edges: usize) -> Result<OldWays, NoMemory> {
+        Ok(OldWays {
+            mates: vec![in alloc; Slot::none(); terminals]?,
+            stretches: vec![in alloc; EMPTY; terminals]?,
             edges: Vec::new(alloc),
             starts: vec![in alloc; 0u32; edges.saturating_add(2)]?,
             over: Vec::new(alloc),
             join: EdgeList::new(alloc),
             is_in_join: vec![in alloc; false; edges]?,
             length: 0,
-        };
+        })
+    }
+
+    // Adds the ways of all pairs, and says whether each was found.
+    fn add_all(
+        &mut self,
+        engine: &Engine,
+        changes: &mut Changes,
+        pairs: &[Pair],
+    ) -> Result<bool, NoMemory> {
         for pair in pairs {
             let Some(way) = changes.way(engine, *pair)? else {
-                return Ok(None);
+                return Ok(false);
             };
-            ways.add(*pair, way.as_slice())?;
+            self.add(*pair, way.as_slice())?;
         }
-        ways.turn_round(alloc)?;
-        ways.join_all(alloc, engine, edges)?;
-        Ok(Some(ways))
+        Ok(true)
     }
 
     // Adds the way between two mates.
