@@ -113,8 +113,8 @@ module _ (rows cols count : ℕ) (old new : ℕ → List ℤ) (walls : List ℤ)
   just_behind most few = record { samples = count; few = few; drawn = all_behind }
 
 -- no sample was drawn, or one
-pub none_of : (rows cols : ℕ) (old : ℕ → List ℤ) → ((c : ℕ) → length (old c) ≡ c) → DrawsSamples rows cols 1 old old
-none_of rows cols old counts =
+pub none_of : (rows cols most : ℕ) (old : ℕ → List ℤ) → ((c : ℕ) → length (old c) ≡ c) → DrawsSamples rows cols most old old
+none_of rows cols most old counts =
     let none : (m : ℕ) → 0 ≡ 0 * m = λ m. omega arith in
     record { samples = 0; few = omega arith; drawn = subst (λ n. Draws n old old) (none (draw_count rows cols)) (none_made old counts) }
 

@@ -1,3 +1,4 @@
 pub mod DrawnCylinders
 pub mod DrawnWalls
+pub mod OneDrawing
 pub mod WidthAfterWidth

@@ -16,6 +16,11 @@ pub record IsStudied (rows cols : ℕ) : Type 0 where
   pub closes : 3 ≤ cols
   pub few : rows * cols ≤ spin_limit
 
+-- the cylinder of this size, with some couplings
+pub record IsCylinder (rows cols : ℕ) (inst : Ising) : Type 0 where
+  pub couplings : List ℤ
+  pub drawn : inst ≡ lattice Cylinder rows cols couplings
+
 -- the cylinder of this size is drawn on a sphere. Euler's number does not depend on the couplings, so it is enough that
 -- it is 2 for some of them
 pub record IsSpherical (rows cols : ℕ) : Type 0 where

@@ -1,13 +1,14 @@
 ghost use Rattle.std.specs.Prelude.{◌≡◌, ◌≤◌, ◌+◌, ◌-◌, ◌*◌, ℕ, IfOk, OnErr, OnOk};
 ghost use Rattle.sg_laws.specs.Stream.{Draws};
 ghost use Rattle.sg_limits.specs.Limits.{spin_limit};
-ghost use Rattle.sg_ensemble.specs.Samples.{DrawsSamples, IsSpherical, IsStudied, draw_count};
+ghost use Rattle.sg_ensemble.specs.Samples.{DrawsSamples, IsCylinder, IsSpherical, IsStudied, draw_count};
 ghost use Rattle.sg_ensemble.specs.Widths.{AreWidths, IsWidth, StopsAtWidth};
 
 use super::NoMemory;
-use super::samples::ensemble;
+use super::samples::{EnsembleAnswer, ensemble, ensemble_on};
 use sg_laws::{Disorder, start};
 use sg_list::Numbers;
+use sg_planar::Planar;
 use std::alloc::Global;
 
 /// What is kept of the wall energies of one width: their sum, and the sum of their squares.
@@ -76,9 +77,45 @@ fn one_width(
 {
     start(law, seed);
     let found = ensemble(alloc, law, rows, cols, count)?;
-    Ok(Width {
+    Ok(width_of(cols, &found))
+}
+
+/// One width of `widths`, from 1 to 1000 samples, on a drawing that the caller has and gives up: a
+/// cylinder of this size, with any couplings. The law is seeded anew. The only error is want of memory;
+/// the law has then made the draws of some samples.
+pub fn width_on(
+    alloc: Global,
+    law: &mut Box<dyn Disorder>,
+    seed: u64,
+    drawing: Planar,
+    rows: u32,
+    cols: u32,
+    count: u32,
+) -> Result<Width, NoMemory>
+    requires size { IsStudied rows cols }
+    requires cylinder { IsCylinder rows cols drawing.instance }
+    requires some { 1 ≤ count }
+    requires few { count ≤ 1000 }
+    ensures width { IfOk result (IsWidth rows cols count (seeded law.old seed)) }
+    ensures rest { OnOk result (Draws (count * draw_count rows cols) (seeded law.old seed) (next law.new)) }
+    ensures made { DrawsSamples rows cols count (seeded law.old seed) (next law.new) }
+    ensures title { title law.new ≡ title law.old }
+    ensures seeds { (s c : ℕ) → seeded law.new s c ≡ seeded law.old s c }
+{
+    start(law, seed);
+    let found = ensemble_on(alloc, law, drawing, rows, cols, count)?;
+    Ok(width_of(cols, &found))
+}
+
+// What is kept of an ensemble.
+fn width_of(cols: u32, found: &EnsembleAnswer) -> Width
+    ensures columns { result.cols ≡ cols }
+    ensures sum { result.sum ≡ found.now.sum }
+    ensures squares { result.squares ≡ found.now.squares }
+{
+    Width {
         cols,
         sum: found.sum,
         squares: found.squares,
-    })
+    }
 }

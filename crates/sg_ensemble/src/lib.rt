@@ -5,10 +5,14 @@
 //! disorder gives the couplings of one cylinder after another; each wall energy is exact, and so are
 //! their sum and the sum of their squares, from which come the mean and its error.
 //!
+//! All samples of a size are one drawing under many couplings: it is traced once, and each sample puts
+//! its couplings in. `ensemble_on` and `width_on` take a drawing that the caller has.
+//!
 //! For the next engineer: `specs/Samples.antt` says which draws belong to which sample, and
 //! `specs/Widths.antt` what is kept of each width. `ensemble` rests on the contracts of `sg_laws`,
-//! `sg_lattice`, `Planar::new` and `wall`. That each drawn cylinder is fit for the solver is proved: its
-//! sum is small, and Euler's number does not depend on the couplings (`proofs/DrawnCylinders.antt`).
+//! `sg_lattice`, `Planar` and `wall`. That each drawn cylinder is fit for the solver is proved: its sum is
+//! small (`proofs/DrawnCylinders.antt`), and on one drawing it is the lattice with these couplings
+//! (`proofs/OneDrawing.antt`).
 #![tactic(auto)]
 
 mod by_width;
@@ -16,8 +20,8 @@ mod drawing;
 mod samples;
 mod sums;
 
-pub use by_width::{Width, WidthList, widths};
-pub use samples::{EnsembleAnswer, ensemble};
+pub use by_width::{Width, WidthList, width_on, widths};
+pub use samples::{EnsembleAnswer, ensemble, ensemble_on};
 use sg_list::Numbers;
 use std::alloc::AllocError;
 

@@ -1,11 +1,12 @@
-ghost use Rattle.std.specs.Prelude.{◌≡◌, ◌≤◌, ◌*◌, ◌^◌, ℕ, length, All, IfOk, OnOk, unsigned_abs};
+ghost use Rattle.std.specs.Prelude.{◌≡◌, ◌≤◌, ◌*◌, ◌^◌, ℕ, All, IfOk, OnOk, unsigned_abs};
 ghost use Rattle.sg_laws.specs.Stream.{Draws};
-ghost use Rattle.sg_ensemble.specs.Samples.{AreWalls, DrawsSamples, IsSpherical, IsStudied, draw_count, total, total_of_squares};
+ghost use Rattle.sg_ensemble.specs.Samples.{AreWalls, DrawsSamples, IsCylinder, IsSpherical, IsStudied, draw_count, total, total_of_squares};
 
-use super::drawing::{know_counts, next_wall};
+use super::drawing::{drawing_of, know_counts, next_sample, seam_wall};
 use super::sums::{sum, sum_of_squares};
 use super::{CostList, NoMemory};
 use sg_laws::Disorder;
+use sg_planar::Planar;
 use std::alloc::Global;
 
 /// The wall energies of an ensemble, in the order of the samples, their sum, and the sum of their
@@ -21,8 +22,9 @@ pub struct EnsembleAnswer {
 /// draws of the law as its couplings, in the order of its bonds. The only error is want of memory; the
 /// law has then made some of the draws.
 ///
-/// The cylinder must be drawn on a sphere, which `Planar::new` tells of one with any couplings. Cost:
-/// two ground states for each sample; memory for one sample at a time.
+/// The cylinder must be drawn on a sphere, which `Planar::test` tells of one with any couplings; a caller
+/// who has such a `Planar` calls `ensemble_on`. Cost: one drawing, and two ground states for each sample;
+/// memory for one sample at a time.
 pub fn ensemble(
     alloc: Global,
     law: &mut Box<dyn Disorder>,
@@ -42,7 +44,34 @@ pub fn ensemble(
     ensures title { title law.new ≡ title law.old }
     ensures seeds { (s c : ℕ) → seeded law.new s c ≡ seeded law.old s c }
 {
-    let walls = walls(alloc, law, rows, cols, count)?;
+    know_counts(law);
+    let drawing = drawing_of(alloc, rows, cols)?;
+    ensemble_on(alloc, law, drawing, rows, cols, count)
+}
+
+/// The same on a drawing that the caller has and gives up: a cylinder of this size, with any couplings.
+/// They do not come into the ensemble.
+pub fn ensemble_on(
+    alloc: Global,
+    law: &mut Box<dyn Disorder>,
+    drawing: Planar,
+    rows: u32,
+    cols: u32,
+    count: u32,
+) -> Result<EnsembleAnswer, NoMemory>
+    requires size { IsStudied rows cols }
+    requires cylinder { IsCylinder rows cols drawing.instance }
+    requires some { 1 ≤ count }
+    requires few { count ≤ 1000 }
+    ensures walls { IfOk result (λ a. AreWalls rows cols count (next law.old (count * draw_count rows cols)) a.walls) }
+    ensures sum { IfOk result (λ a. a.sum ≡ total a.walls) }
+    ensures squares { IfOk result (λ a. a.squares ≡ total_of_squares a.walls) }
+    ensures rest { OnOk result (Draws (count * draw_count rows cols) (next law.old) (next law.new)) }
+    ensures made { DrawsSamples rows cols count (next law.old) (next law.new) }
+    ensures title { title law.new ≡ title law.old }
+    ensures seeds { (s c : ℕ) → seeded law.new s c ≡ seeded law.old s c }
+{
+    let walls = walls(alloc, law, drawing, rows, cols, count)?;
     Ok(EnsembleAnswer {
         sum: sum(walls.as_slice()),
         squares: sum_of_squares(walls.as_slice()),
@@ -50,16 +79,17 @@ pub fn ensemble(
     })
 }
 
-// The wall energies of so many samples.
+// The wall energies of so many samples, all on one drawing.
 fn walls(
     alloc: Global,
     law: &mut Box<dyn Disorder>,
+    drawing: Planar,
     rows: u32,
     cols: u32,
     count: u32,
 ) -> Result<CostList, NoMemory>
     requires size { IsStudied rows cols }
-    requires spherical { IsSpherical rows cols }
+    requires cylinder { IsCylinder rows cols drawing.instance }
     ensures walls { IfOk result (AreWalls rows cols count (next law.old (count * draw_count rows cols))) }
     ensures small { IfOk result (λ walls. All (λ d. unsigned_abs d ≤ 2 ^ 33) walls) }
     ensures rest { OnOk result (Draws (count * draw_count rows cols) (next law.old) (next law.new)) }
@@ -69,8 +99,10 @@ fn walls(
 {
     know_counts(law);
     let mut walls = CostList::new(alloc);
+    let mut sample = drawing;
     for _ in 0..count {
-        let wall = next_wall(alloc, law, rows, cols)?;
+        sample = next_sample(alloc, law, sample, rows, cols)?;
+        let wall = seam_wall(alloc, &sample)?;
         walls.push(wall)?;
     }
     Ok(walls)

@@ -11,5 +11,5 @@ returns-clause-size c =
     let size : unsigned_abs d ≤ 2 * weight c.args.planar.now.instance =
     wall_size c.args.planar.now.instance c.in_ok-wall.field-0.periodic c.in_ok-wall.field-0.antiperiodic d
     c.instance-instance.ensures.planar.instance c.in_ok-wall.ensures.wall in
-    let kept : to_z w64 (of_z w64 d) ≡ d = to_z-of_z w64 d (fits_signed_from_abs w64 d (omega (arith, size, c.requires.small))) in
-    omega (arith, ap unsigned_abs kept, size, c.requires.small)
+    let kept : to_z w64 (of_z w64 d) ≡ d = to_z-of_z w64 d (fits_signed_from_abs w64 d (omega (arith, size, c.requires))) in
+    omega (arith, ap unsigned_abs kept, size, c.requires)

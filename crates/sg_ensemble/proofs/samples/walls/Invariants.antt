@@ -1,5 +1,6 @@
 use Rattle.std.proofs.Common.{◌≡◌, ℕ, ◌≤◌, ◌^◌, length, All}
 use Rattle.std.specs.Prelude.{unsigned_abs}
+use Rattle.sg_ensemble.specs.Samples.{IsCylinder}
 use Rattle.sg_ensemble.proofs.DrawnWalls.{IsDrawn}
 use Rattle.sg_ensemble.proofs.samples.walls.Given as goal
 
@@ -12,3 +13,4 @@ invariant-loop g l =
     × All (λ d. unsigned_abs d ≤ 2 ^ 33) l.walls
     × (new.title l.law.value ≡ old.title l.initial.law.value)
     × ((s c : ℕ) → new.seeded l.law.value s c ≡ old.seeded l.initial.law.value s c)
+    × IsCylinder l.rows l.cols l.sample.instance
