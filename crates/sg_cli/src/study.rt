@@ -18,7 +18,7 @@ use super::report::report_reply;
 use super::wall::wall_reply;
 use sg_json::{is_json, read_json};
 use sg_model::{Fault, Instance};
-use sg_planar::{NotFit, Planar};
+use sg_planar::Planar;
 use sg_reader::{Rows, no_more, read_instance};
 use std::alloc::Global;
 
@@ -41,10 +41,7 @@ fn read_planar(alloc: Global, bytes: &[u8]) -> Result<Planar, Fault>
     ensures refuses { IfErr result (RefusesBy bytes.now) }
 {
     match read_text(alloc, bytes) {
-        Ok(instance) => match Planar::new(alloc, instance) {
-            Ok(planar) => Ok(planar),
-            Err(NotFit { fault, instance: _ }) => Err(fault),
-        },
+        Ok(instance) => Planar::test(alloc, instance),
         Err(fault) => Err(fault),
     }
 }
