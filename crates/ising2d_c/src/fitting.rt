@@ -5,7 +5,7 @@ ghost use Rattle.sg_model.specs.declared.refusal.Refusal.TheVariants.{NoSeam as 
 ghost use Rattle.sg_planar.specs.Fit.{IsFit, IsUnfitFault};
 
 use sg_model::{Fault, Instance, Refusal};
-use sg_planar::{NotFit, Planar};
+use sg_planar::Planar;
 use std::alloc::Global;
 
 /// The instance, fit for a planar solver. A fault that is handed in is handed on.
@@ -14,10 +14,7 @@ pub fn fit(alloc: Global, given: Result<Instance, Fault>) -> Result<Planar, Faul
     ensures refuses { IfErr result (λ fault. IsErrAnd given (λ e. fault ≡ e) ⊎ IsOkAnd given (λ inst. IsUnfitFault inst fault)) }
 {
     match given {
-        Ok(instance) => match Planar::new(alloc, instance) {
-            Ok(planar) => Ok(planar),
-            Err(NotFit { fault, instance: _ }) => Err(fault),
-        },
+        Ok(instance) => Planar::test(alloc, instance),
         Err(fault) => Err(fault),
     }
 }

@@ -1,5 +1,5 @@
 -- From what the calls of the readers and of the planar test say to the first fault of a text.
-use Rattle.std.proofs.Common.{◌≡◌, ℕ, ◌<◌, ◌≤◌, true, false, List, length, Option, None, Some, arith}
+use Rattle.std.proofs.Common.{◌≡◌, ℕ, ◌<◌, ◌≤◌, true, false, List, length, Option, None, Some, Result, Ok, Err, IfOk, sym, subst, arith}
 use Rattle.sg_limits.specs.Limits.{input_limit}
 use Rattle.sg_io.specs.Devices.{Told}
 use Rattle.sg_io.specs.Reading.{Empties, IsTooLong}
@@ -11,10 +11,10 @@ use Rattle.sg_model.specs.Ising.{Ising}
 use Rattle.sg_reader.specs.Kept.{behind, kept_of}
 use Rattle.sg_reader.specs.ReadInstance.{ReadsInstance, IsReadFault}
 use Rattle.sg_reader.specs.NoMore.{IsTrailingFault}
-use Rattle.sg_planar.specs.Fit.{IsUnfitFault}
+use Rattle.sg_planar.specs.Fit.{Embedding, IsFit, IsUnfitFault}
 use Rattle.sg_check.specs.declared.packing.ResultText.{ResultText}
 use Rattle.sg_reader.specs.ReadResult.{IsResultFault, ReadsResult}
-use Rattle.sg_cli.specs.Input.{AtFitness, AtRecord, AtTrailing, BehindResult, GivesInstance, InInstance, InResult, IsAloneFault, OfJson, OfRecords}
+use Rattle.sg_cli.specs.Input.{AtFitness, AtRecord, AtTrailing, BehindResult, GivesFit, GivesInstance, InInstance, InResult, IsAloneFault, OfJson, OfRecords}
 use Rattle.sg_cli.specs.Input.{RefusesBy, RefusesProofBy}
 use Rattle.sg_json.specs.Text.{is_object_text}
 use Rattle.sg_json.specs.ReadJson.{IsJsonFault}
@@ -43,6 +43,12 @@ by_json bytes NoMemory kind shown = tt
 pub by_fitness : (bytes : List ℕ) (inst : Ising) (fault : Fault) → GivesInstance bytes inst → IsUnfitFault inst fault → RefusesBy bytes fault
 by_fitness bytes inst (Refused refusal) gives shown = AtFitness inst gives shown
 by_fitness bytes inst NoMemory gives shown = tt
+
+-- the instance of a text, where it passed
+pub gives_fit : (bytes : List ℕ) (inst : Ising) (r : Result Embedding Fault) → GivesInstance bytes inst → IfOk r (λ p. p.instance ≡ inst)
+    → IfOk r (λ _. IsFit inst) → IfOk r (λ p. GivesFit bytes p.instance)
+gives_fit bytes inst (Ok p) gives same fit = subst (GivesFit bytes) (sym same) (record { gives = gives; fit = fit })
+gives_fit bytes inst (Err e) gives same fit = tt
 
 pub by_instance : (bytes : List ℕ) (fault : Fault) → IsReadFault (kept_of bytes) fault → RefusesProofBy bytes fault
 by_instance bytes (Refused refusal) shown = InInstance shown

@@ -6,7 +6,6 @@ ghost use Rattle.sg_words.specs.Command.{IsAllowedDrawing};
 ghost use Rattle.sg_cli.specs.Promises.{IsAnswered};
 ghost use Rattle.sg_cli.specs.Served.{AnswersDraws, AnswersLaw};
 
-use sg_words::Drawing;
 use super::ensemble::ensemble_reply;
 use super::generate::gen_reply;
 use super::reply::{NoMemory, Reply, refuse};
@@ -14,6 +13,7 @@ use super::sample::sample_reply;
 use super::widths::widths_reply;
 use sg_laws::{Disorder, named};
 use sg_model::Refusal;
+use sg_words::Drawing;
 use std::alloc::Global;
 
 /// What is made of the draws of the first law with this name. The laws are dropped.

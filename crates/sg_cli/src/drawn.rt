@@ -6,13 +6,13 @@ ghost use Rattle.sg_planar.specs.Fit.{IsFit, IsPlanar, IsUnfitFault};
 ghost use Rattle.sg_words.specs.Command.{IsAllowedSize};
 ghost use Rattle.sg_cli.specs.Served.{drawn_couplings, drawn_lattice as lattice_of};
 
-use sg_words::Size;
 use super::reply::NoMemory;
 use sg_lattice::{Kind, bond_count, build};
 use sg_laws::{Disorder, draws, start};
 use sg_model::{Couplings, Fault, Instance};
-use sg_planar::{NotFit, Planar};
-use std::alloc::{AllocError, Global};
+use sg_planar::Planar;
+use sg_words::Size;
+use std::alloc::Global;
 
 /// The couplings of a lattice: the first draws of the law after the seed, one for each bond in order.
 pub fn couplings(
@@ -65,21 +65,6 @@ pub fn drawn_planar(
     ensures unfit { IfErr result (IsUnfitFault (lattice_of kind size (seeded law.old seed))) }
     ensures seeds { (s c : ℕ) → seeded law.new s c ≡ seeded law.old s c }
 {
-    match drawn_lattice(alloc, law, seed, kind, size) {
-        Ok(instance) => fit(alloc, instance),
-        Err(AllocError) => Err(Fault::NoMemory),
-    }
-}
-
-// An instance with its faces, or why it is not fit.
-fn fit(alloc: Global, instance: Instance) -> Result<Planar, Fault>
-    ensures instance { IfOk result (λ p. p.instance ≡ instance) }
-    ensures fit { IfOk result (λ p. IsFit p.instance) }
-    ensures planar { IfOk result IsPlanar }
-    ensures unfit { IfErr result (IsUnfitFault instance) }
-{
-    match Planar::new(alloc, instance) {
-        Ok(planar) => Ok(planar),
-        Err(NotFit { fault, instance: _ }) => Err(fault),
-    }
+    let lattice = drawn_lattice(alloc, law, seed, kind, size)?;
+    Planar::test(alloc, lattice)
 }

@@ -4,12 +4,12 @@ ghost use Rattle.sg_words.specs.Command.{IsAllowedSize};
 ghost use Rattle.sg_cli.specs.Promises.{IsAnswered};
 ghost use Rattle.sg_cli.specs.Served.{PrintsLattice, drawn_couplings};
 
-use sg_words::Size;
 use super::drawn::couplings;
 use super::reply::{NoMemory, Reply, done};
 use sg_lattice::Kind;
 use sg_laws::Disorder;
 use sg_report::instance_text;
+use sg_words::Size;
 use std::alloc::Global;
 
 /// A lattice whose couplings are the first draws of the law after the seed.

@@ -7,11 +7,11 @@ ghost use Rattle.sg_cli.specs.Graphs.{AnswersTask, takes_terms};
 ghost use Rattle.sg_cli.specs.Promises.{IsAnswered};
 ghost use Rattle.sg_cli.specs.Served.{AnswersGraph};
 
-use sg_words::GraphTask;
 use super::postman::postman_reply;
 use super::reply::{NoMemory, Reply, refuse_fault};
 use super::tjoin::tjoin_reply;
 use sg_graph_text::{Network, read_network};
+use sg_words::GraphTask;
 use std::alloc::Global;
 
 /// What a task on a graph answers to a text within the limit of bytes.

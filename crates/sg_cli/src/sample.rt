@@ -6,7 +6,6 @@ ghost use Rattle.sg_words.specs.Command.{IsAllowedSize};
 ghost use Rattle.sg_cli.specs.Promises.{IsAnswered};
 ghost use Rattle.sg_cli.specs.Served.{AnswersSample, PrintsSample, drawn_lattice};
 
-use sg_words::Size;
 use super::counts::{bond_count, size_sum};
 use super::drawn::drawn_planar;
 use super::reply::{NoMemory, Reply, done, refuse_fault};
@@ -15,6 +14,7 @@ use sg_lattice::Kind;
 use sg_laws::Disorder;
 use sg_planar::Planar;
 use sg_report::sample_text;
+use sg_words::Size;
 use std::alloc::Global;
 
 /// The least energy of a square lattice whose couplings are the first draws of the law after the

@@ -8,7 +8,6 @@ ghost use Rattle.sg_cli.specs.Served.{AnswersText};
 ghost use Rattle.sg_cli.specs.Promises.{AnswersInPart, AnswersSource, AnswersWhole, IsAnswered, Leaves, reads, sink_faults, source_faults, stop_faults, Takes};
 
 use super::check::check_reply;
-use sg_words::{Command, Reading, law_word, parse_command};
 use super::draw::draw_reply;
 use super::graph::graph_reply;
 use super::reply::{NoMemory, Reply, refuse};
@@ -18,6 +17,7 @@ use sg_io::{ReadEnd, Sink, Source, WriteFault, put, read_all};
 use sg_laws::Disorder;
 use sg_limits::INPUT_LIMIT;
 use sg_model::Refusal;
+use sg_words::{Command, Reading, law_word, parse_command};
 use std::alloc::{AllocError, Global};
 
 /// Answers the words after the program's name: reads the source to its end where the command wants

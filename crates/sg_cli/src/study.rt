@@ -8,7 +8,6 @@ ghost use Rattle.sg_cli.specs.Served.{AnswersFit, AnswersStudy};
 
 use super::bonds::bonds_reply;
 use super::clusters::clusters_reply;
-use sg_words::Study;
 use super::energy::energy_reply;
 use super::ground::ground_reply;
 use super::maxcut::maxcut_reply;
@@ -18,8 +17,9 @@ use super::report::report_reply;
 use super::wall::wall_reply;
 use sg_json::{is_json, read_json};
 use sg_model::{Fault, Instance};
-use sg_planar::{NotFit, Planar};
+use sg_planar::Planar;
 use sg_reader::{Rows, no_more, read_instance};
+use sg_words::Study;
 use std::alloc::Global;
 
 /// What a study answers to a text within the limit of bytes.
@@ -41,10 +41,7 @@ fn read_planar(alloc: Global, bytes: &[u8]) -> Result<Planar, Fault>
     ensures refuses { IfErr result (RefusesBy bytes.now) }
 {
     match read_text(alloc, bytes) {
-        Ok(instance) => match Planar::new(alloc, instance) {
-            Ok(planar) => Ok(planar),
-            Err(NotFit { fault, instance: _ }) => Err(fault),
-        },
+        Ok(instance) => Planar::test(alloc, instance),
         Err(fault) => Err(fault),
     }
 }
