@@ -1,6 +1,7 @@
 pub mod FrustratedCuts
 pub mod Packings
 pub mod JoinFits
+pub mod BrokenJoins
 pub mod FirstUp
 pub mod Solutions
 pub mod Shares

@@ -28,7 +28,7 @@ mod part;
 mod placed;
 
 pub use answer::{Answer, solve};
-pub use law::odd_cuts_are_loops;
+pub use law::{least_joins_break, odd_cuts_are_loops};
 pub use loops::cut_loops;
 use std::alloc::AllocError;
 
