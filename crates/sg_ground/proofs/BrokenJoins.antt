@@ -1,5 +1,6 @@
 -- The broken bonds of an assignment are a join of the frustrated faces in the dual.
-use Rattle.std.proofs.Common.{ap₂, ◌≡◌, ℕ, ℤ, pos, ◌-ℤ◌, ◌≤ℤ◌, ◌*◌, ◌+◌, ◌<◌, ◌≤◌, Bool, false, cond, ◌&&◌, eqb, List, length, map, sym, ◌∙◌, ap, subst, arith, get_or, sum_by, All}
+use Rattle.std.proofs.Common.{ap₂, ◌≡◌, ℕ, ℤ, pos, ◌-ℤ◌, ◌≤ℤ◌, ◌*◌, ◌+◌, ◌<◌, ◌≤◌, Bool, false, cond, ◌&&◌, eqb, List, length}
+use Rattle.std.proofs.Common.{map, sym, ◌∙◌, ap, subst, arith, get_or, sum_by, All}
 use Rattle.std.specs.List.{range_with_len}
 use Rattle.std.proofs.lemmas.Int.{ints}
 use Rattle.std.proofs.lemmas.List.{get_or-map, length-map}
