@@ -1,11 +1,9 @@
 -- What a bond costs in its component it costs in the whole: the least energies of the other bonds cancel.
-use Rattle.std.proofs.Common.{inl, inr, ◌≡◌, ◌≢◌, ◌⊎◌, ℕ, zero, suc, ◌+◌, ◌<◌, ◌≤◌, ℤ, pos, negsuc, ◌+ℤ◌, ◌-ℤ◌, ◌*ℤ◌, ◌≤ℤ◌, Bool, true}
-use Rattle.std.proofs.Common.{false, cond, List, map, take, set, refl, sym, ◌∙◌, ap, ap₂, subst, arith, sum_by, length, get_or, All}
+use Rattle.std.proofs.Common.{inl, inr, ◌≡◌, ◌≢◌, ◌⊎◌, ℕ, ◌+◌, ◌<◌, ◌≤◌, ℤ, pos, negsuc, ◌+ℤ◌, ◌-ℤ◌, ◌*ℤ◌, ◌≤ℤ◌, Bool, true}
+use Rattle.std.proofs.Common.{false, cond, List, refl, sym, ◌∙◌, ap, ap₂, subst, arith, sum_by, length, get_or}
 use Rattle.std.specs.Prelude.{unsigned_abs}
-use Rattle.std.specs.List.Sorted.{IsStrictlyIncreasing}
 use Rattle.std.proofs.lemmas.Bool.{cases_Bool, false≢true, false_from_ne_true}
 use Rattle.std.proofs.lemmas.Int.{ints}
-use Rattle.std.proofs.lemmas.List.{get_or-map, length-map, take_all}
 use Rattle.std.proofs.lemmas.List.Elements.{All-from_get_or}
 use Rattle.sg_sums.specs.Sums.{sum_below}
 use Rattle.sg_sums.specs.Sets.{holds}
@@ -24,22 +22,10 @@ use Rattle.sg_planar.specs.Parts.{IsPart}
 use Rattle.sg_ground.specs.Placed.{HasValues, Writes, numbered}
 use Rattle.sg_ground.proofs.Glued.{cost_at}
 use Rattle.sg_ground.proofs.PartLists.{share_of_part}
-use Rattle.sg_ground.proofs.PlacedValues.{written_more}
-use Rattle.sg_ground.proofs.Shares.{IsShare, costs_over}
+use Rattle.sg_ground.proofs.PlacedValues.{all_written}
+use Rattle.sg_ground.proofs.Shares.{IsShare, costs_over, in_place, share_assignment, values_in}
 use Rattle.sg_bonds.specs.Cost.{IsCost, IsLeastWith}
 use Rattle.sg_bonds.proofs.SomeCost.{some_ground_state}
-
--- values can be written to rising places
-some_written : (places : List ℕ) (part old : List ℤ) → IsStrictlyIncreasing places → All (λ x. x < length old) places → length part ≡ length places →
-    (i : ℕ) → i ≤ length places → (now : List ℤ) × Writes (take i places) part old now
-some_written places part old up below count zero l = (old, record { count = refl; values = λ k m. absurd (omega (arith, m)); others = λ x out. refl })
-some_written places part old up below count (suc i) l =
-    let (now, was) = some_written places part old up below count i (omega (arith, l)) in
-    let next : i + 1 ≡ suc i = omega arith in (
-      set now (get_or places i 0) (get_or part i (pos 0)),
-      subst (λ j. Writes (take j places) part old (set now (get_or places i 0) (get_or part i (pos 0)))) next
-          (written_more places part old now i (get_or part i (pos 0)) up below count (omega (arith, l)) refl was),
-    )
 
 module _ (inst : Ising) (good : IsInstance inst) (least : ℕ) (p : Part) (is : IsPart inst least p) where
   share : IsShare inst p.spins p.bonds p.planar.instance
@@ -76,20 +62,9 @@ module _ (inst : Ising) (good : IsInstance inst) (least : ℕ) (p : Part) (is : 
       either true c = omega arith
       either false c = omega arith
 
-  -- the values that the whole gives to the spins of the part
-  abbrev values_in : List ℤ → List ℤ
-  values_in t = map (spin t) p.spins
-
-  in_place : (t : List ℤ) → HasValues p.spins t (values_in t)
-  in_place t i l = sym (get_or-map (spin t) p.spins i 0 (pos 1) l)
-
-  part_assignment : (t : List ℤ) → IsAssignment inst t → IsAssignment p.planar.instance (values_in t)
-  part_assignment t h = record {
-    count = length-map p.spins (spin t) ∙ sym share.spin_count;
-    values = All-from_get_or IsUpOrDown (values_in t) (pos 1) (λ i l. (
-        let low : i < length p.spins = omega (arith, l, length-map p.spins (spin t)) in
-        subst IsUpOrDown (in_place t i low) (unit_at inst t h (numbered p.spins i) (share.spins_below i 0 low))));
-  }
+  -- the assignment that the whole gives to the part
+  part_assignment : (t : List ℤ) → IsAssignment inst t → IsAssignment p.planar.instance (values_in p.spins t)
+  part_assignment t h = share_assignment inst p.spins p.bonds p.planar.instance share t h
 
   -- an assignment of the whole with other values in the part
   record Changed (t q : List ℤ) : Type 0 where
@@ -99,9 +74,8 @@ module _ (inst : Ising) (good : IsInstance inst) (least : ℕ) (p : Part) (is : 
 
   change : (t q : List ℤ) → IsAssignment inst t → IsAssignment p.planar.instance q → Changed t q
   change t q h u =
-      let (now, some) = some_written p.spins q t share.spins_rise (λ i d l. omega (arith, share.spins_below i d l, h.count))
-      (omega (arith, u.count, share.spin_count)) (length p.spins) (omega arith) in
-      let writes : Writes p.spins q t now = subst (λ places. Writes places q t now) (take_all (length p.spins) p.spins (omega arith)) some in
+      let (now, writes) = all_written p.spins q t share.spins_rise (λ i d l. omega (arith, share.spins_below i d l, h.count))
+      (omega (arith, u.count, share.spin_count)) in
       record {
         now = now;
         writes = writes;
@@ -157,12 +131,12 @@ module _ (inst : Ising) (good : IsInstance inst) (least : ℕ) (p : Part) (is : 
     -- a ground state has the least outside
     least_outside : (t : List ℤ) → IsAssignment inst t → outside g ≤ outside t
     least_outside t h =
-        let changed : Changed t (values_in g) = change t (values_in g) h (part_assignment g ground.assignment) in
-        less (energy inst g) (energy inst changed.now) (energy p.planar.instance (values_in g)) (outside g) (outside t) (outside changed.now)
+        let changed : Changed t (values_in p.spins g) = change t (values_in p.spins g) h (part_assignment g ground.assignment) in
+        less (energy inst g) (energy inst changed.now) (energy p.planar.instance (values_in p.spins g)) (outside g) (outside t) (outside changed.now)
         (weight inst) (weight p.planar.instance)
-        (energy_split g (values_in g) ground.assignment (part_assignment g ground.assignment) (in_place g))
-        (energy_split changed.now (values_in g) changed.assignment (part_assignment g ground.assignment) changed.writes.values)
-        (same_outside t (values_in g) changed.now changed.writes) (ground.least changed.now changed.assignment)
+        (energy_split g (values_in p.spins g) ground.assignment (part_assignment g ground.assignment) (in_place p.spins g))
+        (energy_split changed.now (values_in p.spins g) changed.assignment (part_assignment g ground.assignment) changed.writes.values)
+        (same_outside t (values_in p.spins g) changed.now changed.writes) (ground.least changed.now changed.assignment)
       where
         less : (e f a : ℤ) (o u n w v : ℕ) → e ≡ a +ℤ ((pos o +ℤ pos v) -ℤ pos w) → f ≡ a +ℤ ((pos n +ℤ pos v) -ℤ pos w) → n ≡ u → e ≤ℤ f → o ≤ u
         less e f a o u n w v h k same l = omega (arith, ints)
@@ -191,9 +165,9 @@ module _ (inst : Ising) (good : IsInstance inst) (least : ℕ) (p : Part) (is : 
                   ∙ ap₂ (λ a o. a +ℤ ((pos o +ℤ pos (weight p.planar.instance)) -ℤ pos (weight inst))) value (same_outside g q changed.now changed.writes),
             );
             least = λ t a same.
-                less (energy inst t) (energy p.planar.instance (values_in t)) e (outside t) (outside g) (weight inst) (weight p.planar.instance)
-                (energy_split t (values_in t) a (part_assignment t a) (in_place t))
-                (h.least (values_in t) (part_assignment t a) (sym (same_product t (values_in t) (in_place t)) ∙ same)) (least_outside t a);
+                less (energy inst t) (energy p.planar.instance (values_in p.spins t)) e (outside t) (outside g) (weight inst) (weight p.planar.instance)
+                (energy_split t (values_in p.spins t) a (part_assignment t a) (in_place p.spins t))
+                (h.least (values_in p.spins t) (part_assignment t a) (sym (same_product t (values_in p.spins t) (in_place p.spins t)) ∙ same)) (least_outside t a);
           }
         where
           less : (f a e : ℤ) (u o w v : ℕ) → f ≡ a +ℤ ((pos u +ℤ pos v) -ℤ pos w) → e ≤ℤ a → o ≤ u → (e +ℤ ((pos o +ℤ pos v) -ℤ pos w)) ≤ℤ f

@@ -1,5 +1,5 @@
--- Solutions of some parts, put together in the whole.
-use Rattle.std.specs.Prelude.{◌≡◌, ℕ, ◌*◌, ◌≤◌, ℤ, pos, ◌-ℤ◌, ◌≤ℤ◌, List, cond, length, sum_by, All, unsigned_abs}
+-- What some parts give, put together in the whole.
+use Rattle.std.specs.Prelude.{◌≡◌, ℕ, ◌*◌, ◌≤◌, ℤ, pos, ◌+ℤ◌, ◌-ℤ◌, ◌≤ℤ◌, List, cond, length, sum_by, All, unsigned_abs}
 use Rattle.sg_sums.specs.Sets.{holds}
 use Rattle.sg_model.specs.Ising.{Ising, bond_at}
 use Rattle.sg_model.specs.Connected.{LeastsUp}
@@ -21,12 +21,35 @@ size_at inst k = unsigned_abs (bond_at inst k).j
 abbrev pub cost_at : Ising → List ℤ → ℕ → ℕ
 cost_at inst s k = cond (is_broken s (bond_at inst k)) (2 * size_at inst k) 0
 
--- spins and loops of the whole, as far as these parts give them
-pub record IsGlued (inst : Ising) (parts : List Part) (s : List ℤ) (e : ℤ) (loops : List Loop) : Type 0 where
+-- spins of the whole and what their energy is, as far as these parts give it
+pub record IsPlaced (inst : Ising) (parts : List Part) (s : List ℤ) (e : ℤ) : Type 0 where
   pub assignment : IsAssignment inst s
-  pub leasts_up : LeastsUp inst s
   pub stated : e ≡ pos (over_bonds (cost_at inst s) parts) -ℤ pos (over_bonds (size_at inst) parts)
   pub size : unsigned_abs e ≤ over_bonds (size_at inst) parts
+
+-- and no spins cost these parts less
+pub record IsLeastPlaced (inst : Ising) (parts : List Part) (s : List ℤ) (e : ℤ) : Type 0 where
+  pub placed : IsPlaced inst parts s e
+  pub least : (t : List ℤ) → IsAssignment inst t → over_bonds (cost_at inst s) parts ≤ over_bonds (cost_at inst t) parts
+
+-- the same, with the least spin of each component up
+pub record IsStatePlaced (inst : Ising) (parts : List Part) (s : List ℤ) (e : ℤ) : Type 0 where
+  pub least : IsLeastPlaced inst parts s e
+  pub leasts_up : LeastsUp inst s
+
+-- the energy of some such spins
+pub record IsEnergyPlaced (inst : Ising) (parts : List Part) (e : ℤ) : Type 0 where
+  pub spins : List ℤ
+  pub least : IsLeastPlaced inst parts spins e
+
+-- what the broken bonds of some such spins weigh
+abbrev pub IsWeightPlaced : Ising → List Part → ℤ → Type 0
+IsWeightPlaced inst parts w = IsEnergyPlaced inst parts ((w +ℤ w) -ℤ pos (over_bonds (size_at inst) parts))
+
+-- spins and loops of the whole, as far as these parts give them
+pub record IsGlued (inst : Ising) (parts : List Part) (s : List ℤ) (e : ℤ) (loops : List Loop) : Type 0 where
+  pub placed : IsPlaced inst parts s e
+  pub leasts_up : LeastsUp inst s
   pub positive : All (λ l. pos 1 ≤ℤ l.y) loops
   pub frustrated : All (λ l. IsFrustratedLoop inst l.bonds) loops
   pub within : (k : ℕ) → load loops k ≤ sum_by (λ p. cond (holds p.bonds k) (2 * size_at inst k) 0) parts

@@ -1,11 +1,15 @@
 pub mod FrustratedCuts
 pub mod Packings
 pub mod JoinFits
+pub mod BrokenJoins
 pub mod FirstUp
 pub mod Solutions
+pub mod WeighedJoins
 pub mod Shares
 pub mod Glued
 pub mod PlacedValues
 pub mod PartLists
+pub mod Placing
 pub mod Gluing
+pub mod LeastPlaced
 pub mod WalkedSpins

@@ -1,8 +1,9 @@
 -- Values written to rising places, one by one.
-use Rattle.std.proofs.Common.{inl, inr, ◌≡◌, ℕ, ◌+◌, ◌<◌, ℤ, pos, Bool, true, false, ◌||◌, eqb, List, take, set, refl, sym, ◌∙◌, ap, arith, length, get_or, All}
+use Rattle.std.proofs.Common.{inl, inr, ◌≡◌, ℕ, zero, suc, ◌+◌, ◌<◌, ◌≤◌, ℤ, pos, Bool, true, false, ◌||◌, eqb, List, take}
+use Rattle.std.proofs.Common.{set, refl, sym, ◌∙◌, ap, subst, arith, length, get_or, All}
 use Rattle.std.specs.List.Sorted.{IsStrictlyIncreasing}
 use Rattle.std.proofs.lemmas.Bool.{cases_eq, eq-eqb, false≢true}
-use Rattle.std.proofs.lemmas.List.{get_or-set_other, get_or-set_same, get_or-take, get_or_default, length-set, length-take}
+use Rattle.std.proofs.lemmas.List.{get_or-set_other, get_or-set_same, get_or-take, get_or_default, length-set, length-take, take_all}
 use Rattle.std.proofs.lemmas.List.Folds.{list_any_more}
 use Rattle.sg_sums.specs.Sets.{holds}
 use Rattle.sg_sums.proofs.OneMore.{rising_order}
@@ -48,3 +49,21 @@ written_more places part old now i y up below count l value was = record {
         get_or-set_other now (get_or places i 0) x y (pos 1)
         (λ (e : x ≡ get_or places i 0). false≢true (sym parts.1 ∙ eq-eqb (get_or places i 0) x (sym e)))
         ∙ was.others x parts.0
+
+-- values can be written to rising places
+some_written : (places : List ℕ) (part old : List ℤ) → IsStrictlyIncreasing places → All (λ x. x < length old) places → length part ≡ length places →
+    (i : ℕ) → i ≤ length places → (now : List ℤ) × Writes (take i places) part old now
+some_written places part old up below count zero l = (old, record { count = refl; values = λ k m. absurd (omega (arith, m)); others = λ x out. refl })
+some_written places part old up below count (suc i) l =
+    let (now, was) = some_written places part old up below count i (omega (arith, l)) in
+    let next : i + 1 ≡ suc i = omega arith in (
+      set now (get_or places i 0) (get_or part i (pos 0)),
+      subst (λ j. Writes (take j places) part old (set now (get_or places i 0) (get_or part i (pos 0)))) next
+          (written_more places part old now i (get_or part i (pos 0)) up below count (omega (arith, l)) refl was),
+    )
+
+pub all_written : (places : List ℕ) (part old : List ℤ) → IsStrictlyIncreasing places → All (λ x. x < length old) places → length part ≡ length places →
+    (now : List ℤ) × Writes places part old now
+all_written places part old up below count =
+    let (now, some) = some_written places part old up below count (length places) (omega arith) in
+    (now, subst (λ xs. Writes xs part old now) (take_all (length places) places (omega arith)) some)

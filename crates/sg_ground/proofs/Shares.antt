@@ -1,12 +1,12 @@
 -- What a share gives to the whole: its spins break the same bonds, and its loops are loops of the whole.
 use Rattle.std.proofs.Common.{inl, inr, ◌≡◌, ◌≢◌, ◌⊎◌, ℕ, ◌+◌, ◌*◌, ◌%◌, ◌<◌, ◌≤◌, ◌||◌, ℤ, pos, ◌*ℤ◌, Bool, true}
-use Rattle.std.proofs.Common.{false, cond, eqb, List, map, refl, sym, ◌∙◌, ap, ap₂, arith, sum_by, count_by, length, get_or, All, eq-eqb}
+use Rattle.std.proofs.Common.{false, cond, eqb, List, map, refl, sym, ◌∙◌, ap, ap₂, subst, arith, sum_by, count_by, length, get_or, All, eq-eqb}
 use Rattle.std.specs.Prelude.{unsigned_abs}
 use Rattle.std.specs.List.{list_any}
 use Rattle.std.specs.List.Sorted.{IsStrictlyIncreasing}
 use Rattle.std.proofs.lemmas.Bool.{cases_eq, cases_lt, ne_eqb}
 use Rattle.std.proofs.lemmas.List.{get_or-map, length-map}
-use Rattle.std.proofs.lemmas.List.Elements.{All-map, All-weaker}
+use Rattle.std.proofs.lemmas.List.Elements.{All-from_get_or, All-map, All-weaker}
 use Rattle.sg_sums.specs.Sums.{sum_below}
 use Rattle.sg_sums.specs.Sets.{holds}
 use Rattle.sg_sums.proofs.ListLaws.{cases_in, list_any-map, list_any-agree_at, list_any-never, sum_by-map_of, sum_by-zero}
@@ -15,10 +15,10 @@ use Rattle.sg_sums.proofs.SumLaws.{sum_below-same, sum_by_is_sum_below, sum_by-s
 use Rattle.sg_model.specs.declared.bond.Bond.{Bond}
 use Rattle.sg_model.specs.Ising.{Ising, IsBond, bond_at, bond_count}
 use Rattle.sg_model.specs.WellFormed.{IsInstance}
-use Rattle.sg_model.specs.Spins.{spin}
+use Rattle.sg_model.specs.Spins.{IsAssignment, IsUpOrDown, spin}
 use Rattle.sg_model.specs.Energy.{product, weight}
 use Rattle.sg_model.specs.Broken.{is_negative}
-use Rattle.sg_model.proofs.BrokenEnergy.{broken_cost}
+use Rattle.sg_model.proofs.BrokenEnergy.{broken_cost, unit_at}
 use Rattle.sg_check.specs.declared.packing.Loop.{Loop}
 use Rattle.sg_check.specs.Loop.{IsFrustratedLoop, degree, is_end_of, negative_count}
 use Rattle.sg_check.specs.Packing.{load, loop_weight, total_weight, IsWithin}
@@ -37,6 +37,13 @@ pub record IsShare (inst : Ising) (spins bonds : List ℕ) (share : Ising) : Typ
   pub first_end : (i : ℕ) → i < length bonds → numbered spins (bond_at share i).u ≡ (bond_at inst (numbered bonds i)).u
   pub second_end : (i : ℕ) → i < length bonds → numbered spins (bond_at share i).v ≡ (bond_at inst (numbered bonds i)).v
   pub coupling : (i : ℕ) → i < length bonds → (bond_at share i).j ≡ (bond_at inst (numbered bonds i)).j
+
+-- the values that the whole gives to the spins of the share
+abbrev pub values_in : List ℕ → List ℤ → List ℤ
+values_in spins s = map (spin s) spins
+
+pub in_place : (spins : List ℕ) (s : List ℤ) → HasValues spins s (values_in spins s)
+in_place spins s i l = sym (get_or-map (spin s) spins i 0 (pos 1) l)
 
 -- the numbers of different places differ
 rising_apart : (xs : List ℕ) → IsStrictlyIncreasing xs → (i j : ℕ) → i < length xs → j < length xs → eqb (numbered xs i) (numbered xs j) ≡ eqb i j
@@ -84,6 +91,15 @@ module _ (inst : Ising) (spins bonds : List ℕ) (share : Ising) (is : IsShare i
 
   second_below : (i : ℕ) → i < length bonds → (bond_at share i).v < length spins
   second_below i l = omega (arith, (joins i l).second_end, is.spin_count)
+
+  -- an assignment of the whole gives the share one
+  pub share_assignment : (s : List ℤ) → IsAssignment inst s → IsAssignment share (values_in spins s)
+  share_assignment s assigned = record {
+    count = length-map spins (spin s) ∙ sym is.spin_count;
+    values = All-from_get_or IsUpOrDown (values_in spins s) (pos 1) (λ i l. (
+        let low : i < length spins = omega (arith, l, length-map spins (spin s)) in
+        subst IsUpOrDown (in_place spins s i low) (unit_at inst s assigned (numbered spins i) (is.spins_below i 0 low))));
+  }
 
   module _ (s t : List ℤ) (values : HasValues spins s t) where
     same_product : (i : ℕ) → i < length bonds → product s (whole_bond i) ≡ product t (bond_at share i)

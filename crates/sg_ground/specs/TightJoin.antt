@@ -1,5 +1,5 @@
--- A least join of the frustrated faces, and the odd cuts that prove it.
-use Rattle.std.specs.Prelude.{◌≡◌, ℕ, ◌*◌, List, sum_by}
+-- A least join of the frustrated faces, with the odd cuts that prove it, and with its weight.
+use Rattle.std.specs.Prelude.{◌≡◌, ℕ, ◌*◌, ℤ, pos, List, sum_by}
 use Rattle.sg_graph.specs.declared.cut.Cut.{Cut}
 use Rattle.sg_graph.specs.Web.{weight_of}
 use Rattle.sg_graph.specs.Join.{IsLeastJoin}
@@ -12,3 +12,8 @@ pub record IsTightJoin (p : Embedding) (edges : List ℕ) (cuts : List Cut) : Ty
   pub least : IsLeastJoin (dual_web p.instance p.faces) (frustrated_faces p.instance p.faces) edges
   pub packs : CutsPack (dual_web p.instance p.faces) (frustrated_faces p.instance p.faces) cuts
   pub tight : sum_by cut_weight cuts ≡ 2 * weight_of (dual_web p.instance p.faces) edges
+
+-- a least join of the frustrated faces in the dual, and its weight
+pub record IsWeighedJoin (p : Embedding) (edges : List ℕ) (w : ℤ) : Type 0 where
+  pub least : IsLeastJoin (dual_web p.instance p.faces) (frustrated_faces p.instance p.faces) edges
+  pub weight : w ≡ pos (weight_of (dual_web p.instance p.faces) edges)

@@ -8,12 +8,11 @@ ghost use Rattle.sg_planar.specs.Parts.{AreParts};
 ghost use Rattle.sg_ground.specs.Solution.{IsSolution};
 
 use super::NoMemory;
-use super::connection::is_connected;
 use super::part::solve_part;
 use super::placed::{place_loops, place_values, spins_of};
 use sg_check::Loops;
 use sg_model::{Instance, Spins};
-use sg_planar::{Part, Planar, parts};
+use sg_planar::{Division, Part, Planar, divide};
 use std::alloc::Global;
 
 /// A ground state with the least spin of each component up, its energy, and the weighted frustrated
@@ -54,11 +53,10 @@ fn solve_all(alloc: Global, planar: &Planar) -> Result<Answer, NoMemory>
     ensures planar { IsPlanar planar.now }
 {
     let inst = planar.instance();
-    if is_connected(alloc, inst)? {
-        return solve_part(alloc, planar);
+    match divide(alloc, planar)? {
+        Division::Whole => solve_part(alloc, planar),
+        Division::Several(list) => join_parts(alloc, inst, list.as_slice()),
     }
-    let list = parts(alloc, planar)?;
-    join_parts(alloc, inst, list.as_slice())
 }
 
 // The solutions of these parts, put together: values and loops take the numbers of the whole, and

@@ -7,29 +7,38 @@
 //! with an odd number of frustrated ones is bounded by bonds of which every assignment breaks one.
 //!
 //! An instance falls into components that share no bond. Each is solved by itself: energies add, and
-//! the loops of all components together prove their sum. A walk from spin 0 tells whether there is
-//! one component alone, which is then solved as it is.
+//! the loops of all components together prove their sum. An instance that is one component is solved
+//! as it is.
 //!
-//! For the next engineer: `solve` is the call that matters, and what is built on it rests on its
-//! contract and on nothing of its body. A part goes one way (`part`): to its dual, to a least join of
-//! the frustrated faces, which has its own proposals and its own judge, and back by a walk over the
-//! bonds. The proof: an odd cut is a frustrated loop (`odd_cuts_are_loops`, by
-//! `proofs/FrustratedCuts.antt`), a packing of cuts is one of loops, and not too many (`Packings`), a
-//! join fits the faces and weighs what the broken bonds weigh (`JoinFits`), and all of it together
-//! (`Solutions`). The proof of the whole: what a part gives (`Shares`), what the parts are together
-//! (`PartLists`), and one part more (`Gluing`).
+//! Who prints no loops asks `ground_state`, and who prints no spins `least_energy`: by
+//! `least_joins_break` a least join alone gives both.
+//!
+//! For the next engineer: `solve`, `ground_state` and `least_energy` are the calls that matter, and
+//! what is built on them rests on their contracts and on nothing of their bodies. A part goes one way
+//! (`part`, `joins`): to its dual, to a least join of the frustrated faces, which has its own proposals
+//! and its own judges, and back by a walk over the bonds. The proof: an odd cut is a frustrated loop
+//! (`odd_cuts_are_loops`, by `proofs/FrustratedCuts.antt`), a packing of cuts is one of loops, and not
+//! too many (`Packings`), a join fits the faces and weighs what the broken bonds weigh (`JoinFits`),
+//! and all of it together (`Solutions`); what every assignment breaks is a join (`BrokenJoins`), and
+//! so a least one needs no loops (`WeighedJoins`). The proof of the whole: what a part gives
+//! (`Shares`), what the parts are together (`PartLists`), and one part more: of spins and energies
+//! (`Placing`), of loops (`Gluing`), and of states than which no other has less energy (`LeastPlaced`).
 #![tactic(auto)]
 
 mod answer;
-mod connection;
+mod joins;
 mod law;
+mod least;
 mod loops;
 mod part;
 mod placed;
+mod state;
 
 pub use answer::{Answer, solve};
-pub use law::odd_cuts_are_loops;
+pub use law::{least_joins_break, odd_cuts_are_loops};
+pub use least::least_energy;
 pub use loops::cut_loops;
+pub use state::{State, ground_state};
 use std::alloc::AllocError;
 
 /// The allocator had no memory left.

@@ -6,9 +6,9 @@ ghost use Rattle.sg_planar.specs.Fit.{IsPlanar};
 ghost use Rattle.sg_ground.specs.Solution.{IsSolution};
 ghost use Rattle.sg_ground.specs.TightJoin.{IsTightJoin};
 
+use super::joins::dual_of;
 use super::loops::cut_loops;
 use super::{Answer, NoMemory};
-use sg_dual::dual;
 use sg_planar::{Planar, spin_walk};
 use sg_tjoin::{Join, least_join};
 use std::alloc::Global;
@@ -36,6 +36,6 @@ fn join_faces(alloc: Global, planar: &Planar) -> Result<Join, NoMemory>
     ensures join { IfOk result (λ j. IsTightJoin planar.now j.edges j.cuts) }
     ensures planar { IsPlanar planar.now }
 {
-    let (web, frustrated) = dual(alloc, planar.instance(), planar.faces())?;
+    let (web, frustrated) = dual_of(alloc, planar)?;
     least_join(alloc, &web, &frustrated)
 }

@@ -1,12 +1,12 @@
 -- With an empty seam nothing is changed, and the two least energies are one.
-use Rattle.std.proofs.Common.{◌≡◌, ℕ, ◌<◌, Bool, cond, ℤ, pos, ◌-ℤ◌, ◌≤ℤ◌, List, [], length, get_or, map, refl, sym, ◌∙◌, ap, subst, arith}
+use Rattle.std.proofs.Common.{◌≡◌, ℕ, ◌<◌, cond, ℤ, pos, ◌-ℤ◌, ◌≤ℤ◌, List, [], length, get_or, map, ◌∙◌, ap, subst, arith}
 use Rattle.std.specs.List.{range_with_len}
 use Rattle.std.proofs.lemmas.Int.{ints}
 use Rattle.std.proofs.lemmas.List.{get_or_default, same_lists}
 use Rattle.std.proofs.lemmas.List.FromFn.{get_or-map-range_with_len, length-map-range_with_len}
 use Rattle.sg_model.specs.declared.bond.Bond.{Bond}
 use Rattle.sg_model.specs.Ising.{Ising, bond_at, bond_count}
-use Rattle.sg_model.specs.Energy.{IsLeastEnergy, energy}
+use Rattle.sg_model.specs.Energy.{IsLeastEnergy}
 use Rattle.sg_sums.specs.Sets.{holds}
 use Rattle.sg_model.specs.Changes.{flipped_at, opposite, with_bonds, with_seam_flipped}
 

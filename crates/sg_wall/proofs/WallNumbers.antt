@@ -1,22 +1,20 @@
--- The three numbers of a wall, from two ground states.
-use Rattle.std.proofs.Common.{◌≡◌, ℕ, ◌≤◌, ◌*◌, ℤ, ◌-ℤ◌, List, [], sym, ◌∙◌, ap, subst, to_z, of_z, w64, pos, arith}
+-- The three numbers of a wall, from two least energies.
+use Rattle.std.proofs.Common.{◌≡◌, ℕ, ◌≤◌, ◌*◌, ℤ, ◌-ℤ◌, [], sym, ◌∙◌, ap, subst, to_z, of_z, w64, pos, arith}
 use Rattle.std.specs.Prelude.{FitsSigned, unsigned_abs}
 use Rattle.std.proofs.lemmas.Int.{ints, to_z-of_z, fits_signed_from_abs}
 use Rattle.sg_limits.specs.Limits.{forced_limit}
-use Rattle.sg_model.specs.Ising.{Ising}
-use Rattle.sg_model.specs.Energy.{IsGroundState, IsLeastEnergy, energy, weight}
+use Rattle.sg_model.specs.Energy.{IsLeastEnergy, weight}
 use Rattle.sg_model.specs.Changes.{with_seam_flipped}
-use Rattle.sg_model.proofs.EnergyBounds.{least_of_ground_state}
 use Rattle.sg_planar.specs.Fit.{Embedding, IsPlanar}
 use Rattle.sg_planar.proofs.OtherCouplings.{weight_flipped}
 use Rattle.sg_wall.specs.Wall.{IsWall}
 use Rattle.sg_wall.proofs.EmptySeams.{no_wall}
 
 module _
-    (p q : Embedding) (s t : List ℤ) (e f : ℤ)
+    (p q : Embedding) (e f : ℤ)
     (planar : IsPlanar q) (flipped : q ≡ record { instance = with_seam_flipped p.instance; faces = p.faces })
-    (old : IsGroundState p.instance s) (old_energy : e ≡ energy p.instance s) (old_size : unsigned_abs e ≤ weight p.instance)
-    (new : IsGroundState q.instance t) (new_energy : f ≡ energy q.instance t) (new_size : unsigned_abs f ≤ weight q.instance) where
+    (old : IsLeastEnergy p.instance e) (old_size : unsigned_abs e ≤ weight p.instance)
+    (new : IsLeastEnergy q.instance f) (new_size : unsigned_abs f ≤ weight q.instance) where
   same_weight : weight q.instance ≡ weight p.instance
   same_weight = ap (λ (r : Embedding). weight r.instance) flipped ∙ weight_flipped p.instance
 
@@ -40,10 +38,10 @@ module _
 
   pub is_wall : IsWall p.instance (to_z w64 (of_z w64 e)) (to_z w64 (of_z w64 f)) (to_z w64 (of_z w64 (to_z w64 (of_z w64 f) -ℤ to_z w64 (of_z w64 e))))
   is_wall = record {
-    least = least_of_ground_state p.instance s (to_z w64 (of_z w64 e)) old (first_kept ∙ old_energy);
+    least = subst (IsLeastEnergy p.instance) (sym first_kept) old;
     least_flipped =
         subst (λ (r : Embedding). IsLeastEnergy r.instance (to_z w64 (of_z w64 f))) flipped
-        (least_of_ground_state q.instance t (to_z w64 (of_z w64 f)) new (second_kept ∙ new_energy));
+        (subst (IsLeastEnergy q.instance) (sym second_kept) new);
     gain = third_kept;
   }
 

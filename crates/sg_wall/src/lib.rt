@@ -6,7 +6,7 @@
 //! its size grows with the lattice tells whether there is order at low temperature.
 //!
 //! For the next engineer: `specs/Wall.antt` says what the three numbers are. `wall` uses the contract
-//! of `solve` and nothing of its body.
+//! of `least_energy` and nothing of its body.
 #![tactic(auto)]
 
 mod walls;

@@ -9,35 +9,35 @@ use Rattle.sg_planar.specs.declared.components.Part.{Part}
 use Rattle.sg_ground.specs.Placed.{Writes, loop_in_whole}
 use Rattle.sg_ground.proofs.Glued.{IsGlued}
 use Rattle.sg_ground.specs.Solution.{IsSolution}
-use Rattle.sg_ground.proofs.Gluing.{all_glued, part_connected, part_energy_fits, part_glued, part_is_share, part_loops_below}
+use Rattle.sg_ground.proofs.Gluing.{all_glued, part_glued, part_loops_below}
+use Rattle.sg_ground.proofs.Placing.{part_connected, part_energy_fits, part_is_share, places_below, places_count}
+use Rattle.sg_ground.proofs.Solutions.{size_from_solution}
 use Rattle.sg_ground.proofs.answer.join_parts.Goals as goal
 
 pub solve_part-requires : goal.solve_part-requires
-solve_part-requires c =
-    record {
-      connected = part_connected c.args.inst.now c.args.parts.now c.requires.parts c.loop-part.part-index c.part-item.result c.loop-part-test.true
-          c.part-item.is;
-    }
+solve_part-requires c = record {
+  connected = part_connected c.args.inst.now c.n.ensures.instance c.args.parts.now c.requires.parts c.loop-part.part-index c.part-item.result
+      c.loop-part-test.true c.part-item.is;
+}
 
 pub place_values-requires-clause-rising : goal.place_values-requires-clause-rising
 place_values-requires-clause-rising c =
-    let share = part_is_share c.args.inst.now c.args.parts.now c.requires.parts c.loop-part.part-index c.part-item.result c.loop-part-test.true
-    c.part-item.is in
-    subst IsStrictlyIncreasing (sym c.as_slice.ensures) share.spins_rise
+    subst IsStrictlyIncreasing (sym c.as_slice.ensures)
+    (part_is_share c.args.inst.now c.n.ensures.instance c.args.parts.now c.requires.parts c.loop-part.part-index c.part-item.result c.loop-part-test.true
+    c.part-item.is).spins_rise
 
 pub place_values-requires-clause-below : goal.place_values-requires-clause-below
 place_values-requires-clause-below c =
-    let share = part_is_share c.args.inst.now c.args.parts.now c.requires.parts c.loop-part.part-index c.part-item.result c.loop-part-test.true
-    c.part-item.is in
-    let long : length c.deref_mut.result.now ≡ c.args.inst.now.n = ap length c.deref_mut.ensures.value ∙ c.loop-part.invariant.assignment.count in
     subst (λ xs. All (λ x. x < length c.deref_mut.result.now) xs) (sym c.as_slice.ensures)
-    (subst (λ n. All (λ x. x < n) c.part-item.result.spins) (sym long) share.spins_below)
+    (places_below c.args.inst.now c.n.ensures.instance c.args.parts.now c.requires.parts c.loop-part.part-index c.part-item.result c.loop-part-test.true
+    c.part-item.is c.deref_mut.result.now (ap length c.deref_mut.ensures.value ∙ c.loop-part.invariant.placed.assignment.count))
 
 pub place_values-requires-clause-count : goal.place_values-requires-clause-count
 place_values-requires-clause-count c =
-    let share = part_is_share c.args.inst.now c.args.parts.now c.requires.parts c.loop-part.part-index c.part-item.result c.loop-part-test.true
-    c.part-item.is in
-    ap length c.as_slice-in-loop-part.ensures.value ∙ c.in_ok-found.ensures.proves.assignment.count ∙ share.spin_count ∙ ap length (sym c.as_slice.ensures)
+    ap length c.as_slice-in-loop-part.ensures.value
+    ∙ places_count c.args.inst.now c.n.ensures.instance c.args.parts.now c.requires.parts c.loop-part.part-index c.part-item.result c.loop-part-test.true
+    c.part-item.is c.in_ok-found.found.spins c.in_ok-found.ensures.proves.assignment
+    ∙ ap length (sym c.as_slice.ensures)
 
 pub overflow_add-energy : goal.overflow_add-energy
 overflow_add-energy c =
@@ -45,9 +45,10 @@ overflow_add-energy c =
     let p : Part = c.part-item.result in
     let found = c.in_ok-found.found in
     let fits : FitsSigned w64 (to_z w64 c.loop-part.energy-bits +ℤ found.energy) =
-    part_energy_fits inst c.args.parts.now c.requires.parts c.loop-part.part-index p c.loop-part-test.true c.part-item.is
-    c.loop-part.values.items found.spins (to_z w64 c.loop-part.energy-bits) found.energy c.loop-part.loops found.loops c.requires.light
-    c.loop-part.invariant c.in_ok-found.ensures in
+    part_energy_fits inst c.n.ensures.instance c.args.parts.now c.requires.parts c.loop-part.part-index p c.loop-part-test.true c.part-item.is
+    (to_z w64 c.loop-part.energy-bits) found.energy c.requires.light c.loop-part.invariant.placed.size
+    (size_from_solution p.planar.instance (part_is_share inst c.n.ensures.instance c.args.parts.now c.requires.parts c.loop-part.part-index p
+    c.loop-part-test.true c.part-item.is).good found.spins found.energy found.loops c.in_ok-found.ensures) in
     subst (FitsSigned w64) (sym (ap (λ y. to_z w64 c.loop-part.energy-bits +ℤ y) (to_z-of_z w64 found.energy (search rules)))) fits
 
 pub place_loops-requires : goal.place_loops-requires
@@ -56,8 +57,8 @@ place_loops-requires c =
     let p : Part = c.part-item.result in
     let found = c.in_ok-found.found in
     let low : All (λ (l : Loop). All (λ i. i < length p.bonds) l.bonds) found.loops =
-    part_loops_below inst c.args.parts.now c.requires.parts c.loop-part.part-index p c.loop-part-test.true c.part-item.is found.spins found.energy found.loops
-    c.in_ok-found.ensures in
+    part_loops_below inst c.n.ensures.instance c.args.parts.now c.requires.parts c.loop-part.part-index p c.loop-part-test.true c.part-item.is
+    found.spins found.energy found.loops c.in_ok-found.ensures in
     record {
       below = subst (λ bonds. All (λ (l : Loop). All (λ i. i < length bonds) l.bonds) c.as_slice-in-loop-part-2.result.now)
           (sym c.as_slice-in-loop-part-3.ensures)
@@ -71,16 +72,17 @@ loop-part-preserved c =
     let found = c.in_ok-found.found in
     let new : List ℤ = c.place_values.new.values in
     let fits : FitsSigned w64 (to_z w64 c.loop-part.energy-bits +ℤ found.energy) =
-    part_energy_fits inst c.args.parts.now c.requires.parts c.loop-part.part-index p c.loop-part-test.true c.part-item.is
-    c.loop-part.values.items found.spins (to_z w64 c.loop-part.energy-bits) found.energy c.loop-part.loops found.loops c.requires.light
-    c.loop-part.invariant c.in_ok-found.ensures in
+    part_energy_fits inst c.n.ensures.instance c.args.parts.now c.requires.parts c.loop-part.part-index p c.loop-part-test.true c.part-item.is
+    (to_z w64 c.loop-part.energy-bits) found.energy c.requires.light c.loop-part.invariant.placed.size
+    (size_from_solution p.planar.instance (part_is_share inst c.n.ensures.instance c.args.parts.now c.requires.parts c.loop-part.part-index p
+    c.loop-part-test.true c.part-item.is).good found.spins found.energy found.loops c.in_ok-found.ensures) in
     let writes : Writes p.spins found.spins c.loop-part.values.items new =
     subst (λ old. Writes p.spins found.spins old new) c.deref_mut.ensures.value
     (subst (λ t. Writes p.spins t c.deref_mut.result.now new) c.as_slice-in-loop-part.ensures.value
     (subst (λ xs. Writes xs c.as_slice-in-loop-part.result.now c.deref_mut.result.now new) c.as_slice.ensures c.place_values.ensures)) in
     let glued : IsGlued inst (take (c.loop-part.part-index + 1) c.args.parts.now) new (to_z w64 c.loop-part.energy-bits +ℤ found.energy)
     (c.loop-part.loops ++ map (loop_in_whole p.bonds) found.loops) =
-    part_glued inst c.args.parts.now c.requires.parts c.loop-part.part-index p c.loop-part-test.true c.part-item.is c.n.ensures.instance
+    part_glued inst c.n.ensures.instance c.args.parts.now c.requires.parts c.loop-part.part-index p c.loop-part-test.true c.part-item.is
     c.loop-part.values.items found.spins new (to_z w64 c.loop-part.energy-bits) found.energy c.loop-part.loops found.loops c.loop-part.invariant
     c.in_ok-found.ensures writes in
     let same_sum : to_z w64 c.loop-part.energy-bits +ℤ to_z w64 (of_z w64 found.energy) ≡ to_z w64 c.loop-part.energy-bits +ℤ found.energy =

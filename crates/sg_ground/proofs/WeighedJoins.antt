@@ -1,0 +1,58 @@
+-- What a least join of the frustrated faces gives by its weight: the least energy, and spins that have it.
+use Rattle.std.proofs.Common.{◌≡◌, ℕ, ◌*◌, ◌≤◌, ℤ, pos, ◌+ℤ◌, ◌-ℤ◌, List, ◌∙◌, ap, subst, arith}
+use Rattle.std.specs.Prelude.{unsigned_abs}
+use Rattle.std.proofs.lemmas.Int.{ints}
+use Rattle.sg_limits.specs.Limits.{forced_limit}
+use Rattle.sg_model.specs.Connected.{IsConnected}
+use Rattle.sg_model.specs.Spins.{IsAssignment, spin}
+use Rattle.sg_model.specs.Energy.{IsLeastEnergy, weight}
+use Rattle.sg_graph.specs.Web.{Graph, weight_of}
+use Rattle.sg_graph.specs.Join.{IsLeastJoin}
+use Rattle.sg_graph.proofs.OnceLists.{rising_light}
+use Rattle.sg_planar.specs.Fit.{Embedding, IsPlanar}
+use Rattle.sg_planar.specs.BrokenLists.{BreaksExactly}
+use Rattle.sg_dual.specs.Dual.{dual_web, frustrated_faces}
+use Rattle.sg_dual.proofs.DualWebs.{dual_weight}
+use Rattle.sg_ground.specs.Solution.{IsState}
+use Rattle.sg_ground.specs.TightJoin.{IsWeighedJoin}
+use Rattle.sg_ground.proofs.BrokenJoins.{energy_of_join, ground_by_join, least_energy_by_join}
+use Rattle.sg_ground.proofs.FirstUp.{leasts_up}
+
+-- a least join of the terminals in the web, where these are the dual and the frustrated faces
+pub dual_join : (p : Embedding) (web : Graph) (terminals edges : List ℕ) (w : ℤ) →
+    web ≡ dual_web p.instance p.faces → terminals ≡ frustrated_faces p.instance p.faces →
+    IsLeastJoin web terminals edges → w ≡ pos (weight_of web edges) → IsWeighedJoin p edges w
+dual_join p web terminals edges w same_web same_terminals least value = record {
+  least = subst (λ ts. IsLeastJoin (dual_web p.instance p.faces) ts edges) same_terminals (subst (λ g. IsLeastJoin g terminals edges) same_web least);
+  weight = value ∙ ap (λ g. pos (weight_of g edges)) same_web;
+}
+
+module _ (p : Embedding) (planar : IsPlanar p) (connected : IsConnected p.instance) (edges : List ℕ) (w : ℤ) (join : IsWeighedJoin p edges w) where
+  -- it weighs no more than all bonds
+  pub join_light : unsigned_abs w ≤ forced_limit
+  join_light =
+      let size : unsigned_abs w ≡ weight_of (dual_web p.instance p.faces) edges = ap unsigned_abs join.weight in
+      omega (
+        arith,
+        size,
+        rising_light (dual_web p.instance p.faces) edges join.least.join.below join.least.join.rising,
+        dual_weight p.instance p.faces,
+        planar.sum,
+      )
+
+  module _ (e : ℤ) (value : e ≡ (w +ℤ w) -ℤ pos (weight p.instance)) where
+    energy_by_weight : pos (2 * weight_of (dual_web p.instance p.faces) edges) -ℤ pos (weight p.instance) ≡ e
+    energy_by_weight = twice e w (weight_of (dual_web p.instance p.faces) edges) (weight p.instance) value join.weight
+      where
+        twice : (e w : ℤ) (k v : ℕ) → e ≡ (w +ℤ w) -ℤ pos v → w ≡ pos k → pos (2 * k) -ℤ pos v ≡ e
+        twice e w k v h l = omega (arith, ints)
+
+    pub least_by_weight : IsLeastEnergy p.instance e
+    least_by_weight = subst (IsLeastEnergy p.instance) energy_by_weight (least_energy_by_join p planar connected edges join.least)
+
+    pub state_by_weight : (s : List ℤ) → IsAssignment p.instance s → spin s 0 ≡ pos 1 → BreaksExactly p.instance s edges → IsState p.instance s e
+    state_by_weight s assigned first_up breaks = record {
+      ground_state = ground_by_join p.instance p.faces planar.instance planar.faces s edges assigned breaks join.least;
+      stated = energy_of_join p.instance p.faces planar.instance planar.faces s edges assigned breaks join.least.join ∙ energy_by_weight;
+      leasts_up = leasts_up p.instance connected s first_up;
+    }

@@ -1,0 +1,24 @@
+use Rattle.std.proofs.Common.{◌≡◌, ◌≤◌, ◌+ℤ◌, ◌-ℤ◌, pos, rules, to_z-of_z, w64, sym, subst}
+use Rattle.std.specs.Prelude.{unsigned_abs}
+use Rattle.sg_limits.specs.Limits.{forced_limit}
+use Rattle.sg_model.specs.Connected.{IsConnected}
+use Rattle.sg_model.specs.Energy.{weight}
+use Rattle.sg_ground.proofs.WeighedJoins.{join_light, least_by_weight}
+use Rattle.sg_ground.proofs.least.energy_of_all.Goals as goal
+
+pub broken_energy-requires-clause-light : goal.broken_energy-requires-clause-light
+broken_energy-requires-clause-light c =
+    let join = c.in_ok-join-in-Whole.join in
+    let connected : IsConnected c.args.planar.now.instance = search rules in
+    subst (λ w. unsigned_abs w ≤ forced_limit) (sym (to_z-of_z {w = w64} {z = join.weight} (search rules)))
+    (join_light c.args.planar.now c.instance-inst.ensures.planar connected join.edges join.weight c.in_ok-join-in-Whole.ensures.join)
+
+pub returns-in_ok-join-in-Whole-clause-least : goal.returns-in_ok-join-in-Whole-clause-least
+returns-in_ok-join-in-Whole-clause-least c =
+    let join = c.in_ok-join-in-Whole.join in
+    let connected : IsConnected c.args.planar.now.instance = search rules in
+    let value : c.broken_energy.result ≡ (join.weight +ℤ join.weight) -ℤ pos (weight c.args.planar.now.instance) =
+    rw (to_z-of_z {w = w64} {z = join.weight} (search rules), c.instance-inst.ensures.value) at c.broken_energy.ensures in
+    rw (to_z-of_z {w = w64} {z = c.broken_energy.result} (search rules))
+    (least_by_weight c.args.planar.now c.instance-inst.ensures.planar connected join.edges join.weight c.in_ok-join-in-Whole.ensures.join
+    c.broken_energy.result value)

@@ -1,0 +1,6 @@
+use Rattle.std.proofs.Common.{take}
+use Rattle.sg_ground.proofs.Glued.{IsStatePlaced}
+use Rattle.sg_ground.proofs.state.join_states.Given as goal
+
+abbrev pub invariant-loop-part : goal.invariant-loop-part
+invariant-loop-part l = IsStatePlaced l.inst (take l.part-index l.parts) l.values.items l.energy

@@ -1,0 +1,53 @@
+// Least joins of the frustrated faces of one component, with their weight, and the energy by it.
+ghost use Rattle.std.specs.Prelude.{◌≡◌, ◌≤◌, ◌+ℤ◌, ◌-ℤ◌, ◌%◌, length, pos, unsigned_abs, IfOk};
+ghost use Rattle.sg_limits.specs.Limits.{forced_limit};
+ghost use Rattle.sg_model.specs.Connected.{IsConnected};
+ghost use Rattle.sg_model.specs.Energy.{weight};
+ghost use Rattle.sg_planar.specs.Fit.{IsPlanar};
+ghost use Rattle.sg_graph.specs.Join.{AreTerminals};
+ghost use Rattle.sg_graph.specs.Walk.{IsConnected as IsConnectedWeb};
+ghost use Rattle.sg_graph.specs.Web.{total_weight};
+ghost use Rattle.sg_dual.specs.Dual.{dual_web, frustrated_faces};
+ghost use Rattle.sg_ground.specs.TightJoin.{IsWeighedJoin};
+
+use super::NoMemory;
+use sg_dual::dual;
+use sg_graph::{Terminals, Web};
+use sg_model::Instance;
+use sg_planar::Planar;
+use sg_tjoin::{LeastJoin, least_weight};
+use std::alloc::Global;
+
+/// The dual of a connected instance, and its frustrated faces, of which a least join can be asked.
+pub fn dual_of(alloc: Global, planar: &Planar) -> Result<(Web, Terminals), NoMemory>
+    requires connected { IsConnected planar.now.instance }
+    ensures web { IfOk result (λ d. d.0 ≡ dual_web planar.now.instance planar.now.faces) }
+    ensures frustrated { IfOk result (λ d. d.1 ≡ frustrated_faces planar.now.instance planar.now.faces) }
+    ensures terminals { IfOk result (λ d. AreTerminals d.0 d.1) }
+    ensures even { IfOk result (λ d. length d.1 % 2 ≡ 0) }
+    ensures connected { IfOk result (λ d. IsConnectedWeb d.0) }
+    ensures light { IfOk result (λ d. total_weight d.0 ≤ forced_limit) }
+    ensures planar { IsPlanar planar.now }
+{
+    dual(alloc, planar.instance(), planar.faces())
+}
+
+/// A least join of the frustrated faces of a connected instance, and its weight.
+pub fn weighed_join(alloc: Global, planar: &Planar) -> Result<LeastJoin, NoMemory>
+    requires connected { IsConnected planar.now.instance }
+    ensures join { IfOk result (λ j. IsWeighedJoin planar.now j.edges j.weight) }
+    ensures planar { IsPlanar planar.now }
+{
+    let (web, frustrated) = dual_of(alloc, planar)?;
+    least_weight(alloc, &web, &frustrated)
+}
+
+/// The energy where the broken bonds weigh so much: twice that, less the weight of all bonds.
+pub fn broken_energy(inst: &Instance, broken: i64) -> i64
+    requires sum { weight inst.now ≤ forced_limit }
+    requires light { unsigned_abs broken ≤ forced_limit }
+    ensures { result ≡ (broken +ℤ broken) -ℤ pos (weight inst.now) }
+{
+    let all = inst.weight() as i64;
+    broken + broken - all
+}
