@@ -98,6 +98,14 @@ impl Clock {
         })
     }
 
+    // Enters the event of a cycle at rest, which becomes a root so much later.
+    pub fn expect_root(&mut self, name: u32, left: i64) -> Result<(), NoMemory> {
+        self.agenda.push(Event {
+            time: self.now.wrapping_add(left),
+            subject: Subject::Root(name),
+        })
+    }
+
     // The next event, which is no longer waiting.
     pub fn pop(&mut self) -> Result<Option<Event>, NoMemory> {
         self.agenda.pop()
@@ -108,7 +116,7 @@ impl Clock {
         let counts = match event.subject {
             Subject::Arc(dart) => is_due(&mut self.arcs, dart, event.time),
             Subject::Hub(hub) => is_due(&mut self.hubs, hub, event.time),
-            Subject::Region(_) => true,
+            Subject::Region(_) | Subject::Root(_) => true,
         };
         if counts {
             self.now = event.time;

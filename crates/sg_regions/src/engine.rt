@@ -6,16 +6,17 @@
 // a hub the event is that of its soonest arc, and of the arcs from one region to a hub the soonest
 // stands for all.
 //
-// `wake` enters events, `steps` has the steps of the method, `bare` what happens at bare nodes,
-// `events` what comes of each event, and `finish` reads the nest and the pairs off. For repairs, `parts`
-// keeps what outlives the arcs, `apart` takes finished regions apart, and `changed` reads off what is
-// not as it was.
+// `wake` enters events, `steps` has the steps of the method, `rests` those of the first half of a run,
+// `bare` what happens at bare nodes, `events` what comes of each event, and `finish` reads the nest and
+// the pairs off. For repairs, `parts` keeps what outlives the arcs, `apart` takes finished regions apart,
+// and `changed` reads off what is not as it was.
 mod apart;
 mod bare;
 mod changed;
 mod events;
 mod finish;
 mod parts;
+mod rests;
 mod steps;
 mod wake;
 
@@ -54,7 +55,10 @@ pub struct Engine<'a> {
     hubs: Hubs,
     clock: Clock,
     work: Work,
-    // How many terminals have no mate yet.
+    // Whether a tree ends with its first odd cycle, and how many cycles are at rest.
+    is_first: bool,
+    rests: u32,
+    // How many trees there are, with the cycles at rest.
     unpaired: u32,
     // A cycle, and regions that were inner: lists that are used again.
     cycle: Vec<Link>,
@@ -82,6 +86,8 @@ impl<'a> Engine<'a> {
             hubs,
             clock,
             work: Work::new(count, places),
+            is_first: false,
+            rests: 0,
             unpaired: count,
             cycle: Vec::new(alloc),
             inner: Vec::new(alloc),

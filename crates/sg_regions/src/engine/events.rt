@@ -124,6 +124,7 @@ impl<'a> Engine<'a> {
             Subject::Arc(dart) => self.arc_event(dart),
             Subject::Hub(hub) => self.hub_event(hub),
             Subject::Region(name) => self.region_event(name),
+            Subject::Root(name) => self.root_event(name),
         }
     }
 
@@ -149,13 +150,13 @@ impl<'a> Engine<'a> {
     pub fn run(&mut self) -> Result<bool, NoMemory> {
         self.plant()?;
         self.wake_terminals()?;
-        self.go_on()
+        self.run_halves(1)
     }
 
-    // Goes on until each terminal has a mate.
+    // Goes on until no tree is left. False if that did not come about within the work allowed.
     pub(super) fn go_on(&mut self) -> Result<bool, NoMemory> {
         for _ in 0..self.work.left() {
-            if self.unpaired == 0 || self.work.left() == 0 {
+            if self.unpaired <= self.rests || self.work.left() == 0 {
                 break;
             }
             let Some(event) = self.clock.pop()? else {
@@ -166,6 +167,6 @@ impl<'a> Engine<'a> {
                 self.happen(event.subject)?;
             }
         }
-        Ok(self.unpaired == 0)
+        Ok(self.unpaired <= self.rests)
     }
 }

@@ -53,6 +53,8 @@ impl<'a> Engine<'a> {
             hubs: parts.hubs,
             clock: parts.clock,
             work: Work::new(0, 0),
+            is_first: false,
+            rests: 0,
             unpaired: 0,
             cycle: parts.cycle,
             inner: parts.inner,
@@ -119,6 +121,6 @@ impl<'a> Engine<'a> {
                 self.wake(*node)?;
             }
         }
-        self.go_on()
+        self.run_halves(2)
     }
 }

@@ -13,7 +13,10 @@ impl<'a> Engine<'a> {
         let own = self.forest.top(contact.own.terminal);
         let other = self.forest.top(contact.other.terminal);
         if self.forest.role(other) == Role::Free {
-            self.grow(contact)
+            match self.forest.pair(other) {
+                Some(_) => self.grow(contact),
+                None => self.augment_rest(contact),
+            }
         } else if self.forest.tree(own) == self.forest.tree(other) {
             self.shrink(contact)
         } else {
@@ -52,7 +55,7 @@ impl<'a> Engine<'a> {
     }
 
     // Lets a tree go: what was kept off by its inner regions may come now.
-    fn let_go(&mut self, tree: Option<u32>) -> Result<(), NoMemory> {
+    pub(super) fn let_go(&mut self, tree: Option<u32>) -> Result<(), NoMemory> {
         let Some(tree) = tree else {
             return Ok(());
         };
@@ -123,10 +126,20 @@ impl<'a> Engine<'a> {
         let blossom = self.forest.shrink(cycle, base, now, &mut self.work)?;
         self.cover.open(blossom)?;
         self.append_rows(cycle, blossom);
-        for name in &inner {
-            self.wake_region(*name, blossom)?;
+        if self.is_first {
+            self.rest(blossom, &inner)?;
+        } else {
+            self.wake_all(&inner, blossom)?;
         }
         swap(&mut inner, &mut self.inner);
+        Ok(())
+    }
+
+    // Enters the events of regions in an outer top.
+    fn wake_all(&mut self, regions: &[u32], top: u32) -> Result<(), NoMemory> {
+        for name in regions {
+            self.wake_region(*name, top)?;
+        }
         Ok(())
     }
 

@@ -1,0 +1,131 @@
+// Odd cycles at rest: the first half of a run makes no blossom that has to give way.
+//
+// In the first half a tree ends with its first odd cycle. The pairs on the way from the cycle to the
+// root change sides, and the cycle is left at rest: a free blossom of radius 0 that is paired with
+// none. The next tree that comes to it pairs its regions, one with the tree and the others along the
+// cycle, and the blossom is gone. So terminals near one hub change their mates at no cost, where
+// blossoms would be nested and taken apart again for each of them. When no tree is left, the cycles
+// that still rest become roots of trees, and in the second half cycles grow on as blossoms.
+//
+// Two outer regions have to meet at a whole time. Where arcs are twice as long as edges weigh, the radii
+// of all outer regions are odd at odd times and even at even ones. A cycle that came to rest at a time of
+// the other kind becomes a root one later; and where arcs are four times as long, two later.
+use super::Engine;
+use crate::NoMemory;
+use crate::contact::Contact;
+use crate::lists::number;
+use crate::radii::Role;
+use std::mem::swap;
+
+impl<'a> Engine<'a> {
+    // Runs until each terminal has a mate. False if that did not come about within the work allowed. All
+    // arcs are so many times two as long as their edges weigh.
+    pub(super) fn run_halves(&mut self, unit: i64) -> Result<bool, NoMemory> {
+        self.is_first = true;
+        let is_done = self.go_on()?;
+        self.is_first = false;
+        if !is_done {
+            return Ok(false);
+        }
+        self.rests = 0;
+        self.end_rests(unit)?;
+        self.go_on()
+    }
+
+    // Leaves a cycle at rest that was closed in a tree, and lets the tree go.
+    pub(super) fn rest(&mut self, blossom: u32, inner: &[u32]) -> Result<(), NoMemory> {
+        let tree = self.forest.tree(blossom);
+        self.forest.leave_unpaired(blossom, &mut self.work);
+        self.rests = self.rests.saturating_add(1);
+        self.let_go(tree)?;
+        for name in inner {
+            self.wake_around_region(*name)?;
+        }
+        Ok(())
+    }
+
+    // A tree comes to a cycle at rest: the pairs on the way to the root change sides, and the regions of
+    // the cycle are paired.
+    pub(super) fn augment_rest(&mut self, contact: Contact) -> Result<(), NoMemory> {
+        let tree = self.forest.tree(self.forest.top(contact.own.terminal));
+        self.forest.flip_pairs(contact, &mut self.work);
+        self.pair_rest(contact.reversed())?;
+        self.rests = self.rests.saturating_sub(1);
+        self.unpaired = self.unpaired.saturating_sub(2);
+        self.let_go(tree)
+    }
+
+    // Takes a cycle at rest apart: one of its regions is paired by a contact, the others along the cycle.
+    fn pair_rest(&mut self, contact: Contact) -> Result<(), NoMemory> {
+        let blossom = self.forest.top(contact.own.terminal);
+        let size = self.forest.cycles().size(blossom);
+        let now = self.clock.now();
+        self.cut_rows(blossom);
+        self.cover.close(blossom);
+        self.forest.expand(blossom, now, &mut self.work)?;
+        self.forest.free_name(blossom)?;
+        let mut way = Vec::new(self.alloc);
+        swap(&mut way, &mut self.cycle);
+        let first = self.forest.top(contact.own.terminal);
+        self.forest.list_ahead(first, size, &mut way)?;
+        for (step, link) in way.iter().enumerate() {
+            if step % 2 == 1 {
+                self.forest.pair_by(link.contact);
+            }
+        }
+        self.forest.set_pair(contact);
+        swap(&mut way, &mut self.cycle);
+        Ok(())
+    }
+
+    // Whether a name is that of a cycle at rest.
+    fn is_at_rest(&self, name: u32) -> bool {
+        self.cover.is_open(name)
+            && self.forest.role(name) == Role::Free
+            && self.forest.pair(name).is_none()
+    }
+
+    // All cycles that rest become roots, now or a unit later.
+    fn end_rests(&mut self, unit: i64) -> Result<(), NoMemory> {
+        let mut roots = Vec::new(self.alloc);
+        for name in 0..number(self.forest.len()) {
+            if self.is_at_rest(name) {
+                if self.is_in_step(name, unit) {
+                    roots.push(name)?;
+                } else {
+                    self.clock.expect_root(name, unit)?;
+                }
+            }
+        }
+        for name in &roots {
+            self.make_root(*name);
+        }
+        for name in &roots {
+            self.wake_region(*name, *name)?;
+        }
+        Ok(())
+    }
+
+    // Whether the radii of a cycle are an odd number of units just where the time is.
+    fn is_in_step(&self, name: u32, unit: i64) -> bool {
+        let now = self.clock.now();
+        let part = self.forest.cycles().first(name);
+        let ahead = self.forest.radius(part, now).wrapping_sub(now);
+        ahead & unit == 0
+    }
+
+    // A cycle at rest becomes the root of a tree.
+    fn make_root(&mut self, name: u32) {
+        let terminal = self.forest.cycles().first(name);
+        self.forest.make_root(name, terminal, self.clock.now());
+    }
+
+    // The event of a cycle that is to become a root, if it still rests.
+    pub(super) fn root_event(&mut self, name: u32) -> Result<(), NoMemory> {
+        if !self.is_at_rest(name) {
+            return Ok(());
+        }
+        self.make_root(name);
+        self.wake_region(name, name)
+    }
+}
