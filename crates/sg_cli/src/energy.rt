@@ -4,7 +4,7 @@ ghost use Rattle.sg_cli.specs.Promises.{IsAnswered};
 ghost use Rattle.sg_cli.specs.Served.{PrintsGroundState};
 
 use super::reply::{NoMemory, Reply, done};
-use sg_ground::solve;
+use sg_ground::ground_state;
 use sg_planar::Planar;
 use sg_report::energy_text;
 use std::alloc::Global;
@@ -14,7 +14,7 @@ pub fn energy_reply(alloc: Global, planar: &Planar) -> Result<Reply, NoMemory>
     ensures served { IfOk result (λ reply. PrintsGroundState planar.now.instance reply.text.items reply.status) }
     ensures answered { IfOk result (λ reply. IsAnswered reply.status) }
 {
-    let answer = solve(alloc, planar)?;
-    let text = energy_text(alloc, answer.energy, &answer.spins)?;
+    let state = ground_state(alloc, planar)?;
+    let text = energy_text(alloc, state.energy, &state.spins)?;
     Ok(done(text))
 }

@@ -9,7 +9,7 @@ ghost use Rattle.sg_cli.specs.Served.{AnswersSample, PrintsSample, drawn_lattice
 use super::counts::{bond_count, size_sum};
 use super::drawn::drawn_planar;
 use super::reply::{NoMemory, Reply, done, refuse_fault};
-use sg_ground::solve;
+use sg_ground::least_energy;
 use sg_lattice::Kind;
 use sg_laws::Disorder;
 use sg_planar::Planar;
@@ -43,13 +43,13 @@ fn summary_reply(alloc: Global, planar: &Planar) -> Result<Reply, NoMemory>
     ensures answered { IfOk result (λ reply. IsAnswered reply.status) }
 {
     let instance = planar.instance();
-    let answer = solve(alloc, planar)?;
+    let energy = least_energy(alloc, planar)?;
     let text = sample_text(
         alloc,
         instance.n(),
         bond_count(instance),
         size_sum(instance),
-        answer.energy,
+        energy,
     )?;
     Ok(done(text))
 }
