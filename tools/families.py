@@ -338,7 +338,11 @@ class Pattern:
                 a, b = self.hubs + copy * self.nodes + gene[0] % self.nodes, self.end(copy, copies, gene)
                 if b is not None and a != b:
                     edges.append((a, b, law(gene[3], gene[4], gene[5], copy, copies)))
-        edges = (edges + joining(count, edges))[:3 * n]
+        joined = joining(count, edges)
+        if len(edges) + len(joined) > 3 * n:
+            edges = edges[:3 * n - count]
+            joined = joining(count, edges)
+        edges += joined
         return Graph(count, lighter(edges), [x for x in range(count) if self.is_terminal(x)])
 
 
@@ -439,6 +443,7 @@ FOUND_GRAPHS = [
     "3 3 63 2,0,0,7,3,6 0,4,2,0,0,1 0,4,3,4,0,4 3,3,1,7,1,1 0,4,2,5,1,1",
     "1 3 0 1,2,3,7,33,2 3,0,2,3,2,1 2,6,1,7,3,1",
     "3 2 63 2,2,3,7,1,1 2,1,1,7,7,5 2,4,1,2,11,1 2,6,0,0,0,1 1,0,1,1,0,5",
+    "1 1 31 1,1,3,7,41,1",
 ]
 FOUND_STRIPS = [
 ]

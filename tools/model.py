@@ -1,5 +1,6 @@
 """The model in plain arithmetic, to judge answers of the program without it: instances as the
-program reads them, energies, and whether loops prove an energy."""
+program reads them, energies, and whether loops prove an energy; weighted graphs, their least joins,
+and whether cuts prove one."""
 import random
 
 
@@ -231,6 +232,104 @@ def proves(instance, stated):
     if any(l > 2 * abs(j) for l, (_, _, j) in zip(load, instance.bonds)):
         return False
     return sum(y for y, _ in stated.loops) == stated.energy + instance.weight()
+
+
+class Web:
+    """Nodes 0 to n - 1, weighted edges (a, b, w), and terminals."""
+
+    def __init__(self, n, edges, terminals):
+        self.n, self.edges, self.terminals = n, edges, terminals
+        lines = [f"graph,{n}"] + [f"edge,{a},{b},{w}" for a, b, w in edges]
+        lines += [",".join(map(str, ["term"] + terminals))] if terminals else []
+        self.text = "\n".join(lines + ["end"]) + "\n"
+
+
+WEIGHTS = {
+    "all 0": lambda draw: lambda k: 0,
+    "all 1": lambda draw: lambda k: 1,
+    "0 and 1": lambda draw: lambda k: draw.randint(0, 1),
+    "with ties": lambda draw: lambda k: draw.randint(0, 4),
+    "rising": lambda draw: lambda k: k,
+    "powers of 2": lambda draw: lambda k: 2**draw.randint(0, 31),
+    "drawn": lambda draw: lambda k: draw.randint(0, 2**20),
+}
+
+
+def web(draw, most, weights):
+    """A connected graph of at most so many nodes: a tree and further edges, perhaps all at few nodes,
+    some of them parallel or from a node to itself."""
+    n = draw.randint(1, most)
+    hubs = draw.choice([n, n, 1, 2])
+    ends = [(draw.randrange(min(x, hubs)), x) for x in range(1, n)]
+    ends += [(draw.randrange(n), draw.randrange(min(n, hubs))) for _ in range(draw.randint(0, 2 * n))]
+    share = draw.choice([0.3, 0.6, 1])
+    terminals = [x for x in range(n) if draw.random() < share]
+    return Web(n, [(a, b, weights(k)) for k, (a, b) in enumerate(ends)], terminals[len(terminals) % 2:])
+
+
+def least_join(given):
+    """The least weight of a join, by the sets of nodes that the edges so far can meet oddly."""
+    least = {0: 0}
+    for a, b, w in given.edges:
+        turn = 1 << a ^ 1 << b
+        for met, weight in [(met ^ turn, weight + w) for met, weight in least.items()]:
+            least[met] = min(weight, least.get(met, weight))
+    return least[sum(1 << x for x in given.terminals)]
+
+
+def is_edge_set(given, edges):
+    return all(a < b for a, b in zip(edges, edges[1:])) and all(0 <= k < len(given.edges) for k in edges)
+
+
+def meets_oddly(given, edges):
+    odd = set()
+    for k in edges:
+        odd ^= {given.edges[k][0]}
+        odd ^= {given.edges[k][1]}
+    return odd
+
+
+def is_odd_cut(given, edges):
+    """Whether these are all edges between some set of nodes with an odd number of terminals and the others."""
+    crossed, side, around = set(edges), {0: False}, [[] for _ in range(given.n)]
+    for k, (a, b, _) in enumerate(given.edges):
+        around[a].append((b, k in crossed))
+        around[b].append((a, k in crossed))
+    waiting = [0]
+    while waiting:
+        node = waiting.pop()
+        for other, crosses in around[node]:
+            if other not in side:
+                side[other] = side[node] != crosses
+                waiting.append(other)
+            elif (side[other] != side[node]) != crosses:
+                return False
+    return sum(side[x] for x in given.terminals) % 2 == 1
+
+
+def proves_join(given, text):
+    """Whether what `tjoin` printed is a join, with cuts that prove that none weighs less; and its weight."""
+    weight, edges, cuts = None, [], []
+    for line in text.splitlines():
+        word, *numbers = line.split(",")
+        numbers = [int(x) for x in numbers]
+        if word == "weight":
+            weight = numbers[0]
+        elif word == "edges":
+            edges = numbers
+        elif word == "cut":
+            cuts.append((numbers[0], numbers[1:]))
+    if not is_edge_set(given, edges) or meets_oddly(given, edges) != set(given.terminals):
+        return False, weight
+    load = [0] * len(given.edges)
+    for y, cut in cuts:
+        if y < 1 or not is_edge_set(given, cut) or not is_odd_cut(given, cut):
+            return False, weight
+        for k in cut:
+            load[k] += y
+    if any(l > 2 * w for l, (_, _, w) in zip(load, given.edges)):
+        return False, weight
+    return sum(y for y, _ in cuts) == 2 * weight == 2 * sum(given.edges[k][2] for k in edges), weight
 
 
 def generator(seed):

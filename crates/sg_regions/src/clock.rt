@@ -1,7 +1,7 @@
 // The time, and when the next event of each arc, each hub and each inner region comes.
 //
-// Of each arc and of each hub one event counts, its soonest; what was entered for it before is passed
-// over when it comes. An event takes the same time for any number of arcs, but for the agenda.
+// Of each arc, hub and inner region one event counts, its soonest; what was entered for it before is
+// passed over when it comes. An event takes the same time for any number of arcs, but for the agenda.
 use super::NoMemory;
 use super::adjacency::reverse;
 use super::agenda::{Agenda, Event, Subject};
@@ -16,9 +16,11 @@ pub const NEVER: i64 = i64::MAX;
 pub struct Clock {
     now: i64,
     agenda: Agenda,
-    // For each dart the time of the event that waits for its arc, and for each hub that of its own.
+    // For each dart the time of the event that waits for its arc, and for each hub and region that of its
+    // own; the list of regions goes as far as was needed.
     arcs: Vec<i64>,
     hubs: Vec<i64>,
+    regions: Vec<i64>,
 }
 
 // The time that stands there; none is before the first of all.
@@ -46,6 +48,7 @@ impl Clock {
             agenda: Agenda::new(alloc)?,
             arcs: vec![in alloc; NEVER; darts]?,
             hubs: vec![in alloc; NEVER; hubs]?,
+            regions: Vec::new(alloc),
         })
     }
 
@@ -55,6 +58,7 @@ impl Clock {
         self.agenda.clear();
         self.arcs.fill(NEVER);
         self.hubs.fill(NEVER);
+        self.regions.fill(NEVER);
     }
 
     pub fn now(&self) -> i64 {
@@ -90,12 +94,21 @@ impl Clock {
         Ok(())
     }
 
-    // Enters the event of an inner region, which comes so much later.
+    // Enters the event of an inner region, which comes so much later, if it comes before what waits there.
     pub fn expect_region(&mut self, name: u32, left: i64) -> Result<(), NoMemory> {
-        self.agenda.push(Event {
-            time: self.now.wrapping_add(left),
-            subject: Subject::Region(name),
-        })
+        let place = name as usize;
+        if place >= self.regions.len() {
+            self.regions.resize(place + 1, NEVER)?;
+        }
+        let time = self.now.wrapping_add(left);
+        if time < time_at(&self.regions, name) {
+            set_entry(&mut self.regions, name, time);
+            return self.agenda.push(Event {
+                time,
+                subject: Subject::Region(name),
+            });
+        }
+        Ok(())
     }
 
     // Enters the event of a cycle at rest, which becomes a root so much later.
@@ -116,7 +129,8 @@ impl Clock {
         let counts = match event.subject {
             Subject::Arc(dart) => is_due(&mut self.arcs, dart, event.time),
             Subject::Hub(hub) => is_due(&mut self.hubs, hub, event.time),
-            Subject::Region(_) | Subject::Root(_) => true,
+            Subject::Region(name) => is_due(&mut self.regions, name, event.time),
+            Subject::Root(_) => true,
         };
         if counts {
             self.now = event.time;

@@ -105,9 +105,15 @@ impl<'a> Engine<'a> {
         }
     }
 
+    // The reach of the region over a node, if one covers it.
+    #[inline(always)]
+    fn reach_at(&self, node: u32) -> Option<Reach> {
+        Some(self.reach(&self.cover.held(node)?))
+    }
+
     // The reach of the region over a node, if it is outer.
     fn outer_reach(&self, node: u32) -> Option<Reach> {
-        let here = self.reach(&self.cover.held(node)?);
+        let here = self.reach_at(node)?;
         if here.role == Role::Outer {
             Some(here)
         } else {
@@ -118,15 +124,20 @@ impl<'a> Engine<'a> {
     // What an outer region, which reaches so far beyond the start of an arc, sees over it.
     #[inline(always)]
     fn sight(&self, here: Reach, arc: &Arc) -> Sight {
+        self.sight_of(here, arc.length, self.reach_at(arc.to))
+    }
+
+    // The same for an arc of a length, where the region over its end reaches so far, if one covers that.
+    #[inline(always)]
+    fn sight_of(&self, here: Reach, length: i64, there: Option<Reach>) -> Sight {
         let now = self.clock.now();
-        let left = arc.length.wrapping_sub(here.by);
-        let Some(held) = self.cover.held(arc.to) else {
+        let left = length.wrapping_sub(here.by);
+        let Some(there) = there else {
             return Sight {
                 time: now.wrapping_add(left),
                 is_own: false,
             };
         };
-        let there = self.reach(&held);
         if there.top == here.top {
             return Sight {
                 time: NEVER,

@@ -71,12 +71,13 @@ impl<'a> Engine<'a> {
         self.expect_hub(hub)
     }
 
-    // The event of one arc of a hub.
+    // The event of one arc of a hub. If no outer region is there any more, those at the other ends of all
+    // its arcs take over.
     fn hub_arc(&mut self, hub: u32, dart: u32) -> Result<(), NoMemory> {
         let arc = self.arcs.arc(dart);
         let node = self.hubs.node(hub);
         let Some(here) = self.outer_reach(node) else {
-            return self.expect_back(node, &arc);
+            return self.wake_around(node);
         };
         self.work.add(1);
         let time = self.sight(here, &arc).time;
@@ -89,10 +90,14 @@ impl<'a> Engine<'a> {
         Ok(())
     }
 
-    // The event of an inner region: it leaves the node that it took last, or has come to nothing.
+    // The event of an inner region: it leaves the node that it took last, or has come to nothing. It waits
+    // on where it has grown since the event was entered.
     fn region_event(&mut self, name: u32) -> Result<(), NoMemory> {
-        if self.forest.role(name) != Role::Inner || self.height(name) != 0 {
+        if self.forest.role(name) != Role::Inner {
             return Ok(());
+        }
+        if self.height(name) != 0 {
+            return self.expect_floor(name);
         }
         let seed = self.seed(name);
         match self.cover.last(name) {

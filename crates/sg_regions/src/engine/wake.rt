@@ -7,13 +7,13 @@ use crate::hubs::Soon;
 use crate::lists::Slot;
 use crate::radii::{Reach, Role};
 
-// An outer region that nears the end of an arc: the node at its start, how far it reaches there, and
-// when it comes.
+// An outer region that nears the end of an arc: the node at its start, the arc by its dart, and when it
+// comes.
 #[derive(Clone, Copy)]
 struct Coming {
+    top: u32,
     node: u32,
-    reach: Reach,
-    arc: Arc,
+    dart: u32,
     time: i64,
 }
 
@@ -27,15 +27,19 @@ impl Coming {
 impl<'a> Engine<'a> {
     // Enters the event of an arc that leaves a node over which an outer region reaches so far.
     pub(super) fn expect(&mut self, node: u32, here: Reach, arc: &Arc) -> Result<(), NoMemory> {
-        self.work.add(1);
         let time = self.sight(here, arc).time;
+        self.expect_at(node, arc.dart, time)
+    }
+
+    // Enters the event of an arc that leaves a node, at a time.
+    fn expect_at(&mut self, node: u32, dart: u32, time: i64) -> Result<(), NoMemory> {
+        self.work.add(1);
         match self.hubs.number_of(node) {
-            None => self.clock.expect_arc(arc.dart, time),
+            None => self.clock.expect_arc(dart, time),
             Some(hub) => {
-                if time == NEVER || time >= self.clock.due(reverse(arc.dart)) {
+                if time == NEVER || time >= self.clock.due(reverse(dart)) {
                     return Ok(());
                 }
-                let dart = arc.dart;
                 self.hubs.push(hub, Soon { time, dart })?;
                 self.expect_hub(hub)
             }
@@ -138,49 +142,55 @@ impl<'a> Engine<'a> {
     pub(super) fn wake_around(&mut self, node: u32) -> Result<(), NoMemory> {
         let arcs = self.arcs;
         self.work.add(arcs.arcs_of(node).len());
-        if self.hubs.number_of(node).is_some() {
+        if let Some(hub) = self.hubs.number_of(node) {
+            self.hubs.clear(hub);
             return self.wake_around_hub(node);
         }
+        let reach = self.reach_at(node);
         for arc in arcs.arcs_of(node) {
-            self.expect_back(node, arc)?;
+            if let Some(next) = self.coming(arc, reach) {
+                self.expect_at(next.node, next.dart, next.time)?;
+            }
         }
         Ok(())
     }
 
-    // The same for a hub: of arcs from one outer region, as far as they follow one another, only the
-    // soonest.
+    // The same for a hub, whose own arcs wait no more: of arcs from one outer region, as far as they follow
+    // one another, only the soonest.
     fn wake_around_hub(&mut self, node: u32) -> Result<(), NoMemory> {
         let arcs = self.arcs;
+        let reach = self.reach_at(node);
         let mut soonest: Option<Coming> = None;
         for arc in arcs.arcs_of(node) {
-            let Some(there) = self.outer_reach(arc.to) else {
+            let Some(next) = self.coming(arc, reach) else {
                 continue;
             };
-            let next = self.coming(arc.to, there, self.way_back(node, arc));
             soonest = match soonest {
-                Some(before) if before.reach.top == there.top => Some(before.sooner(next)),
+                Some(before) if before.top == next.top => Some(before.sooner(next)),
                 Some(before) => {
-                    self.expect(before.node, before.reach, &before.arc)?;
+                    self.expect_at(before.node, before.dart, before.time)?;
                     Some(next)
                 }
                 None => Some(next),
             };
         }
         match soonest {
-            Some(last) => self.expect(last.node, last.reach, &last.arc),
+            Some(last) => self.expect_at(last.node, last.dart, last.time),
             None => Ok(()),
         }
     }
 
-    // An outer region over a node that nears the end of an arc.
-    fn coming(&self, node: u32, reach: Reach, arc: Arc) -> Coming {
-        let time = self.sight(reach, &arc).time;
-        Coming {
-            node,
-            reach,
-            arc,
-            time,
-        }
+    // The outer region at the end of an arc, if there is one, as it nears the start, where the region
+    // over that reaches so far.
+    #[inline(always)]
+    fn coming(&self, arc: &Arc, reach: Option<Reach>) -> Option<Coming> {
+        let there = self.outer_reach(arc.to)?;
+        Some(Coming {
+            top: there.top,
+            node: arc.to,
+            dart: reverse(arc.dart),
+            time: self.sight_of(there, arc.length, reach).time,
+        })
     }
 
     // Enters the events of the arcs that leave the nodes of a region in an outer top.
