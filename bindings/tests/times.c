@@ -1,0 +1,73 @@
+/* What calls from C take, in processor time: the middle of a hundred calls each. It reads a square lattice
+   of 32 by 32 as a text. */
+#include <inttypes.h>
+#include <stdio.h>
+#include <stdlib.h>
+#include <time.h>
+
+#include "ising2d.h"
+
+enum { SIDE = 32, SPINS = SIDE * SIDE, BONDS = 2 * SIDE * (SIDE - 1), LOOPS = 5 * BONDS / 2, ROOM = 12 * BONDS };
+enum { CALLS = 100 };
+
+static int64_t couplings[BONDS], energy, periodic, antiperiodic, difference, weights[LOOPS];
+static int8_t spins[SPINS];
+static size_t starts[LOOPS + 1], loop_count, loop_bonds, written;
+static uint32_t bonds[ROOM];
+static uint8_t line[128];
+
+static uint8_t ground(void) {
+    return ising2d_c_ground(ISING2D_SQUARE, SIDE, SIDE, couplings, BONDS, &energy, spins, SPINS, weights, LOOPS,
+                            starts, LOOPS + 1, bonds, ROOM, &loop_count, &loop_bonds, line, sizeof line, &written);
+}
+
+/* A wall of a lattice without a seam: it is refused when all else has been read and tested. */
+static uint8_t fitness(void) {
+    return ising2d_c_wall(ISING2D_SQUARE, SIDE, SIDE, couplings, BONDS, &periodic, &antiperiodic, &difference, line,
+                          sizeof line, &written);
+}
+
+static uint8_t check(void) {
+    return ising2d_c_check(ISING2D_SQUARE, SIDE, SIDE, couplings, BONDS, energy, spins, SPINS, weights, loop_count,
+                           starts, loop_count + 1, bonds, loop_bonds, line, sizeof line, &written);
+}
+
+static double seconds(void) {
+    struct timespec now;
+    clock_gettime(CLOCK_PROCESS_CPUTIME_ID, &now);
+    return (double)now.tv_sec + 1e-9 * (double)now.tv_nsec;
+}
+
+static int by_size(const void *one, const void *other) {
+    double a = *(const double *)one, b = *(const double *)other;
+    return (a > b) - (a < b);
+}
+
+static void measure(const char *name, uint8_t (*call)(void), uint8_t status) {
+    double taken[CALLS];
+    for (int i = 0; i < CALLS; i++) {
+        double begun = seconds();
+        if (call() != status) {
+            printf("%s: another status than %d\n", name, status);
+            exit(1);
+        }
+        taken[i] = seconds() - begun;
+    }
+    qsort(taken, CALLS, sizeof *taken, by_size);
+    printf("%8.3f ms  %s\n", 1e3 * taken[CALLS / 2], name);
+}
+
+int main(void) {
+    if (scanf("square,%*d,%*d") != 0) {
+        return 1;
+    }
+    for (int k = 0; k < BONDS; k++) {
+        if (scanf("%" SCNd64 "%*[,\n]", &couplings[k]) != 1) {
+            return 1;
+        }
+    }
+    measure("ising2d_c_ground, with its loops", ground, ISING2D_DONE);
+    measure("the part of it that reads the numbers and tests that they are fit", fitness, ISING2D_REFUSED);
+    measure("ising2d_c_check of that proof", check, ISING2D_DONE);
+    return 0;
+}
