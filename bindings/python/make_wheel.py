@@ -60,8 +60,9 @@ def _files():
 
 def oldest_glibc(data):
     """The newest version of glibc that a binary names: it runs on this and on all later ones."""
-    named = re.findall(rb"GLIBC_(\d+)\.(\d+)", data)
-    return max(((int(a), int(b)) for a, b in named), default=(2, 5))
+    named = [(int(a), int(b)) for a, b in re.findall(rb"GLIBC_(\d+)\.(\d+)", data)]
+    # Packed relocations, which some linkers make, have a name of their own.
+    return max([(2, 36)] * (b"GLIBC_ABI_DT_RELR" in data) + named, default=(2, 5))
 
 
 def _tag():

@@ -15,7 +15,7 @@ import time
 import unittest
 
 import ising2d
-from ising2d import Graph, Lattice, Loop, Refusal
+from ising2d import Graph, Lattice, Loop, Network, Refusal
 from test_calls import CASES, SQUARE, drawn, text_of
 from test_graphs import drawn as drawn_graph
 
@@ -24,7 +24,7 @@ RING = ("cylinder", 1, 3, [5, 7, 2])
 
 def least_energy(instance):
     """The least energy over all assignments."""
-    n, ends, couplings = instance.spin_room(), instance.ends(), instance.couplings.tolist()
+    n, ends, couplings = instance.n, instance.ends(), instance.couplings.tolist()
     energies = (
         -sum(j * spins[u] * spins[v] for (u, v), j in zip(ends, couplings))
         for spins in itertools.product((1, -1), repeat=n)
@@ -73,7 +73,7 @@ class Studies(unittest.TestCase):
         source = random.Random(13)
         for _ in range(min(CASES, 300)):
             instance = Lattice(*drawn(source))
-            if instance.spin_room() <= 12:
+            if instance.n <= 12:
                 self.compare(instance)
 
     def compare(self, instance):
@@ -158,14 +158,28 @@ class Joins(unittest.TestCase):
         self.assertEqual(odd, set(terminals))
         self.assertEqual(found.weight, sum(edges[k][2] for k in found.edges))
         self.packed(edges, found.cuts, found.weight)
-        self.assertIsNone(found.fault())
+        self.assertTrue(found.check())
         if found.weight:
-            forged = dataclasses.replace(found, weight=found.weight - 1)
-            self.assertIn("weigh", forged.fault())
-            self.assertIn("all cuts weigh", dataclasses.replace(found, cuts=found.cuts[1:]).fault())
-            first = found.cuts[0]
-            spoiled = ising2d.OddCut(first.weight, ()), *found.cuts[1:]
-            self.assertIsNotNone(dataclasses.replace(found, cuts=spoiled).fault())
+            self.forged(found)
+
+    def forged(self, found):
+        """Changed proofs, each with the number of the test that fails."""
+        first, behind = found.cuts[0], found.cuts[1:]
+        for number, changes in (
+            (1, {"edges": (*found.edges, found.edges[0])}),
+            (1, {"edges": (*found.edges, 99)}),
+            (3, {"weight": found.weight - 1}),
+            (4, {"cuts": (ising2d.OddCut(0, first.edges), *behind)}),
+            (4, {"cuts": (ising2d.OddCut(first.weight, (99,)), *behind)}),
+            (5, {"cuts": (ising2d.OddCut(first.weight, ()), *behind)}),
+            (6, {"cuts": (ising2d.OddCut(2**50, first.edges), *behind)}),
+            (7, {"cuts": behind}),
+        ):
+            verdict = dataclasses.replace(found, **changes).check()
+            self.assertEqual(verdict.number, number, changes)
+            self.assertNotIn("{", verdict.sentence)
+        fewer = dataclasses.replace(found, edges=found.edges[1:]).check()
+        self.assertIn(fewer.number, (2, 3))
 
     def packed(self, edges, cuts, weight):
         """The cuts load no edge with more than twice its weight, and weigh twice as much together."""
@@ -183,11 +197,58 @@ class Joins(unittest.TestCase):
             at = step.node
         self.assertEqual(at, 0)
         self.assertEqual({step.edge for step in found.steps}, set(range(len(edges))))
-        self.assertIsNone(found.fault())
+        self.assertTrue(found.check())
         if found.steps:
-            self.assertIsNotNone(dataclasses.replace(found, steps=found.steps[:-1]).fault())
+            self.assertIn(dataclasses.replace(found, steps=found.steps[:-1]).check().number, (2, 3))
+            self.assertIn(dataclasses.replace(found, steps=found.steps[1:]).check().number, (1, 2, 3))
+            self.assertEqual(dataclasses.replace(found, weight=found.weight + 1).check().number, 3)
         again = found.weight - sum(edge[2] for edge in edges)
         self.packed(edges, found.cuts, again)
+
+
+class Names(unittest.TestCase):
+    ROADS = [("home", "mill", 2), ("mill", "inn", 3), ("home", "inn", 4), ("inn", "ford", 1)]
+
+    def test_a_join_of_names(self):
+        roads = Network.from_edges(self.ROADS)
+        found = roads.tjoin(["home", "inn"])
+        self.assertEqual((found.weight, found.edge_labels()), (4, [("home", "inn", 2)]))
+        self.assertEqual(found, ising2d.tjoin(4, roads.edges, [0, 2]))
+        self.assertTrue(found.check())
+
+    def test_a_walk_from_each_node(self):
+        roads = Network.from_edges(self.ROADS)
+        for start in roads.node_labels():
+            found = roads.postman(start)
+            walk = found.node_labels()
+            self.assertEqual((found.weight, walk[0], walk[-1]), (11, start, start))
+            self.assertEqual(set(found.edge_labels()), set(roads.edge_labels()))
+            self.assertTrue(found.check())
+            for (u, v), (a, b, _) in zip(zip(walk, walk[1:]), found.edge_labels()):
+                self.assertEqual({u, v}, {a, b})
+
+    def test_names_that_are_wrong(self):
+        roads = Network.from_edges(self.ROADS)
+        for call in (lambda: roads.tjoin(["home", "sea"]), lambda: roads.postman("sea")):
+            with self.assertRaisesRegex(ValueError, "there is no node 'sea'"):
+                call()
+        with self.assertRaisesRegex(Refusal, "terminal 0 .* twice: 'home'"):
+            roads.tjoin(["home", "home"])
+        with self.assertRaisesRegex(Refusal, "no edges lead.*: 'c'"):
+            Network.from_edges([("a", "b", 1), ("c", "d", 1)]).postman()
+        with self.assertRaisesRegex(Refusal, r"edge 0 is \(0, 1, -1\) \(allowed: nodes from 0 to 1"):
+            Network.from_edges([("a", "b", -1)]).tjoin([])
+        with self.assertRaisesRegex(ValueError, "scale"):
+            Network.from_edges([("a", "b", 0.5)])
+        with self.assertRaisesRegex(ValueError, "1 labels, and 2 nodes"):
+            Network(2, [], ["a"])
+
+    def test_a_network_in_python(self):
+        roads = Network.from_edges(self.ROADS)
+        self.assertEqual(roads, Network(4, [list(edge) for edge in roads.edges]))
+        self.assertEqual(len({roads, Network(4, roads.edges)}), 1)
+        self.assertEqual(pickle.loads(pickle.dumps(roads.postman())), roads.postman())
+        self.assertEqual(Network(2, [(0, 1, 5)]).edge_labels(), [(0, 1, 0)])
 
 
 class InPython(unittest.TestCase):

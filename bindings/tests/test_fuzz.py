@@ -9,7 +9,7 @@ import unittest
 from array import array
 
 import ising2d
-from ising2d import Graph, Lattice, Loop, Loops
+from ising2d import Graph, Lattice, Loop, Loops, Network
 
 try:
     import numpy
@@ -171,6 +171,9 @@ CALLED += [
     (ising2d.wall, (*RING, True)),
     (ising2d.tjoin, (3, [(0, 1, 2), (1, 2, 3), (0, 2, 4)], [0, 2])),
     (ising2d.postman, (2, [(0, 1, 5)])),
+    (lambda *arguments: Network(*arguments).postman("b").node_labels(), (2, [(0, 1, 5)], "ab", ["e"])),
+    (lambda edges, scale, own: Network.from_edges(edges, scale).tjoin(own).check(), ([("a", "b", 5)], 1, ["a", "b"])),
+    (Network.from_networkx, (None, "weight", 1)),
     (ising2d.draw, ("pm", 1, "square", 2, 2)),
     (ising2d.sample, ("pm", 1, 2, 2)),
     (ising2d.ensemble, ("pm", 1, 2, 3, 2)),

@@ -4,7 +4,7 @@ import itertools
 import random
 import unittest
 
-from ising2d import Graph
+from ising2d import Graph, Network
 from test_calls import CASES
 
 try:
@@ -116,6 +116,52 @@ class Networkx(unittest.TestCase):
     def test_a_graph_is_laid_out(self):
         found = Graph.from_networkx(random_planar(random.Random(3))).ground()
         self.assertTrue(found.svg().startswith("<svg"))
+
+
+@unittest.skipIf(networkx is None, "networkx is not there")
+class Roads(unittest.TestCase):
+    def test_a_walk_is_as_long_as_by_a_matching(self):
+        source = random.Random(23)
+        for case in range(min(CASES, 100)):
+            graph = networkx.gnm_random_graph(source.randint(2, 8), 12, seed=case)
+            graph = graph.subgraph(max(networkx.connected_components(graph), key=len)).copy()
+            for u, v in graph.edges:
+                graph.edges[u, v]["weight"] = source.randint(0, 9)
+            found = Network.from_networkx(graph).postman()
+            self.assertTrue(found.check())
+            self.assertEqual(found.weight, graph.size(weight="weight") + self.matched(graph))
+            self.assertEqual(set(found.edge_labels()), set(graph.edges))
+            self.assertTrue(networkx.is_eulerian(networkx.MultiGraph(found.edge_labels())))
+
+    def matched(self, graph):
+        """The weight of the edges that a shortest walk goes along again: shortest paths between the
+        nodes of odd degree, by pairs."""
+        lengths = dict(networkx.all_pairs_dijkstra_path_length(graph))
+        odd = [node for node, degree in graph.degree if degree % 2]
+        pairs = networkx.Graph()
+        pairs.add_weighted_edges_from((u, v, lengths[u][v]) for u, v in itertools.combinations(odd, 2))
+        return sum(lengths[u][v] for u, v in networkx.min_weight_matching(pairs))
+
+    def test_a_join_of_two_is_a_shortest_path(self):
+        source = random.Random(24)
+        for case in range(min(CASES, 100)):
+            graph = networkx.gnm_random_graph(9, 14, seed=case)
+            networkx.set_edge_attributes(graph, {edge: source.randint(0, 9) for edge in graph.edges}, "weight")
+            graph = graph.subgraph(max(networkx.connected_components(graph), key=len)).copy()
+            ends = source.sample(sorted(graph), 2)
+            found = Network.from_networkx(graph).tjoin(ends)
+            self.assertEqual(found.weight, networkx.dijkstra_path_length(graph, *ends))
+            self.assertTrue(found.check())
+
+    def test_multigraphs_and_attributes(self):
+        graph = networkx.MultiGraph([("a", "b", {"km": 3}), ("a", "b", {"km": 1}), ("b", "b", {"km": 2})])
+        found = Network.from_networkx(graph, attr="km").tjoin(["a", "b"])
+        self.assertEqual((found.weight, found.edge_labels()), (1, [("a", "b", 1)]))
+        self.assertEqual(Network.from_networkx(graph, attr=None).postman().weight, 3)
+        with self.assertRaisesRegex(ValueError, "no attribute 'weight'"):
+            Network.from_networkx(graph)
+        with self.assertRaisesRegex(ValueError, "directed"):
+            Network.from_networkx(networkx.DiGraph([(0, 1)]))
 
 
 @unittest.skipIf(networkx is None, "networkx is not there")

@@ -1,6 +1,7 @@
 """Installing: wheels, an editable install, and one that comes before the library is made. No network."""
 
 import os
+import re
 import shutil
 import subprocess
 import sys
@@ -76,6 +77,14 @@ class Packages(unittest.TestCase):
         self.assertEqual(found.returncode, 0, found.stderr)
         self.assertEqual(Path(self.works()).parents[1], self.source.resolve())
 
+    def asked_of_the_system(self):
+        """The versions of glibc that the library asks for, and the libraries, as readelf tells."""
+        if shutil.which("readelf") is None:
+            return set(), set()
+        told = subprocess.run(["readelf", "-dV", str(LIBRARY)], capture_output=True, text=True).stdout
+        versions = {(int(a), int(b)) for a, b in re.findall(r"Name: GLIBC_(\d+)\.(\d+)", told)}
+        return versions, set(re.findall(r"\(NEEDED\).*\[(.*)\]", told))
+
     def test_the_tag(self):
         found = self.run_there(str(self.source / "make_wheel.py"), str(self.room))
         name = found.stdout.strip()
@@ -83,6 +92,11 @@ class Packages(unittest.TestCase):
         with zipfile.ZipFile(self.room / name) as archive:
             self.assertIn("ising2d/libising2d.so", archive.namelist())
             self.assertIsNone(archive.testzip())
+        versions, needed = self.asked_of_the_system()
+        if versions:
+            major, minor = max(max(versions), (2, 5))
+            self.assertIn(f"manylinux_{major}_{minor}_", name)
+            self.assertLessEqual(needed, {"libc.so.6", "libm.so.6", "libgcc_s.so.1", "ld-linux-x86-64.so.2"})
         first = (self.room / name).read_bytes()
         self.run_there(str(self.source / "make_wheel.py"), str(self.room))
         self.assertEqual((self.room / name).read_bytes(), first)

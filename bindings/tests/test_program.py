@@ -85,7 +85,20 @@ class Commands(unittest.TestCase):
         )
         found = program("ensemble", "pm", "1", "8", "8", "1001")
         self.assertEqual((found.returncode, found.stdout), (2, b"usage\n"))
-        self.assertIn(b"COUNT '1001' (allowed: 1 to 1000)", found.stderr)
+        self.assertEqual(found.stderr, b"ising2d: count is 1001 (allowed: 1 to 1000)\n")
+        for words, text in (
+            ("gen pm x square 2 2", "seed: a whole number is wanted, and not the str 'x'"),
+            ("gen pm +1 square 2 2", "seed: a whole number is wanted, and not the str '+1'"),
+            ("gen pm 1 kagome 2 2", "kind is 'kagome' (allowed: square, triangular"),
+            ("gen pm 1 cylinder 2 2", "cols is 2 (allowed: 3 to 2048)"),
+            ("sample pm 1 46 46", "2116 spins (allowed: at most 2048)"),
+            ("widths pm 1 4 65 1", "max_cols is 65 (allowed: 3 to 64)"),
+            ("sample normal 1 2 2", "law 'normal': no law of disorder has this name (allowed: one, alternate"),
+        ):
+            found = program(*words.split())
+            wanted = ising2d.run(words.split())
+            self.assertEqual((found.stdout.decode(), found.returncode), (wanted.text, wanted.status))
+            self.assertIn(text, found.stderr.decode())
 
     def test_no_such_file(self):
         found = program("energy", "/nowhere")
@@ -256,6 +269,21 @@ class Lines(unittest.TestCase):
         text = '{"id":1,"n":3,"edges":[[0,1,2],[1,2,3],[0,2,4]],"terminals":[0,2]}'
         found = json.loads(program("lines", "tjoin", input=text).stdout)
         self.assertEqual((found["id"], found["weight"], found["edges"]), (1, 4, [2]))
+
+    def test_joins_of_names(self):
+        edges = '"edges":[["a","b",2],["b","c",3]]'
+        found = program("lines", "tjoin", input='{%s,"terminals":["a","c"]}' % edges)
+        self.assertEqual(json.loads(found.stdout)["edges"], [0, 1])
+        found = json.loads(program("lines", "postman", input="{%s}" % edges).stdout)
+        self.assertEqual((found["start"], [step["node"] for step in found["steps"]]), ("a", ["b", "c", "b", "a"]))
+        for text, part in (
+            ('{%s,"terminals":["a","x"]}' % edges, "there is no node 'x'"),
+            ('{%s,"terminal":["a"]}' % edges, "a member does not belong here: 'terminal'"),
+            ('{"terminals":[]}', "there is no member edges"),
+        ):
+            found = program("lines", "tjoin", input=text)
+            self.assertEqual(found.returncode, 1)
+            self.assertIn(part, json.loads(found.stdout)["sentence"])
 
     def test_a_bad_line_is_answered_and_the_rest_too(self):
         good = '{"id":%d,"kind":"square","rows":1,"cols":2,"couplings":[5]}'

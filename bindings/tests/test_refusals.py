@@ -72,7 +72,18 @@ class Texts(unittest.TestCase):
         (Graph(2.0, [], []).ground, (), TypeError, ("n:", "float 2.0")),
         (Graph(2, [(0, 1, 1)], seam={0}).wall, (), TypeError, ("seam", "no order")),
         (ising2d.tjoin, (2, [(0, 1, 5)], [0]), Refusal, ("1 terminals", "even")),
-        (ising2d.tjoin, (2, [(0, 1, 5)], [0, 7]), Refusal, ("terminal 7",)),
+        (ising2d.tjoin, (2, [(0, 1, 5)], [0, 7]), Refusal, ("terminal 7", "nodes, each once")),
+        (ising2d.tjoin, (2, [(0, 1, 5)], None), TypeError, ("terminals", "NoneType")),
+        (ising2d.tjoin, (0, [], []), Refusal, ("n is 0", "1 or more")),
+        (ising2d.tjoin, (2, [(0, 1, -5)], []), Refusal, ("(0, 1, -5)", "weights of 0 or more")),
+        (Graph(2, [(0, 1, 1)], [[0], [1]], [7]).wall, (), Refusal, ("7 in the seam", "bonds, each once")),
+        (ising2d.read, ("square,2,2\n\n3,x\n",), Refusal, ("line 3, field 2", "'x'", "-(2**63 - 1)")),
+        (ising2d.read, ("square,2,2\n3,4\n2,-5\n",), Refusal, ("Unended (2)", "before the awaited end")),
+        (ising2d.read, ("square,1,1\nend\n7\n",), Refusal, ("Trailing (12): line 3", "'7'", "nothing")),
+        (ising2d.read, ("square,1,1\nend\n\nenergy,0\nspins,1\nend\n",), Refusal, ("Trailing", "line 4")),
+        (ising2d.read, ("torus,1\nend\n",), Refusal, ("line 1", "'torus'", "square, triangular")),
+        (ising2d.read, ('{"kind":"square","rows":2}',), Refusal, ("no member cols",)),
+        (ising2d.read, ('{"kind":',), Refusal, ("BadJson", "no JSON", "one object")),
         (ising2d.tjoin, (2, [(0, 9, 5)], []), Refusal, ("edge 0", "(0, 9, 5)", "from 0 to 1")),
         (ising2d.postman, (2, []), Refusal, ("node 1", "one component")),
         (ising2d.draw, ("normal", 1, "square", 2, 2), Refusal, ("law", "one, alternate, pm, uniform")),
@@ -98,6 +109,7 @@ class Texts(unittest.TestCase):
             refusal = Refusal(number, (1, 2))
             self.assertNotEqual(refusal.name, "Refused")
             self.assertNotIn("{", refusal.sentence)
+            self.assertIn("allowed", refusal.sentence)
         for place in range(1, 12):
             self.assertIn("allowed", Refusal(19, (place, 0)).sentence)
         self.assertEqual(Refusal(99).name, "Refused")

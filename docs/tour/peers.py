@@ -54,7 +54,7 @@ def by_scipy(lattice):
     from scipy.sparse import coo_matrix
 
     ends, couplings = lattice.ends(), lattice.couplings.tolist()
-    spins, bonds = lattice.spin_room(), len(ends)
+    spins, bonds = lattice.n, len(ends)
     entries, bounds = [], []
     for k, ((u, v), j) in enumerate(zip(ends, couplings)):
         # Broken: the spins differ where the coupling is above 0, and are alike where it is below.

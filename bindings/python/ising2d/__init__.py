@@ -42,11 +42,11 @@ from ._calls import check, clusters, costs, ground, maxcut, ranges, report, wall
 from ._draws import draw, ensemble, sample, widths
 from ._graphs import Graph
 from ._instances import Instance
-from ._joins import postman, tjoin
+from ._joins import Network, postman, tjoin
 from ._lattices import Lattice
 from ._loops import Loop, Loops
 from ._pictures import svg
-from ._records import read
+from ._reading import read
 from ._refusals import Refusal
 from ._runs import run
 from ._version import VERSION as __version__
@@ -65,6 +65,7 @@ __all__ = [
     "Lattice",
     "Loop",
     "Loops",
+    "Network",
     "OddCut",
     "Refusal",
     "Report",

@@ -2,14 +2,14 @@
 
 from collections.abc import Sequence
 from dataclasses import dataclass, field, fields
-from typing import TYPE_CHECKING, Any, Dict, Hashable, Iterator, List, NamedTuple, Optional, Tuple
+from typing import TYPE_CHECKING, Any, Dict, Hashable, Iterator, List, NamedTuple, Optional, Tuple, TypeVar
 
-from ._judging import WeightedGraph
 from ._loops import Loop
 from ._refusals import verdict_sentence
 
 if TYPE_CHECKING:
     from ._instances import Instance
+    from ._joins import Network
 
 
 def _plain(value: Any) -> Any:
@@ -64,11 +64,22 @@ def _json(value: Any) -> Any:
     return value
 
 
+Source = TypeVar("Source")
+
+
+def _known(source: Optional[Source], what: str) -> Source:
+    """What an answer is of, where it is known."""
+    if source is None:
+        raise ValueError(f"this answer was made without its {what}")
+    return source
+
+
 @dataclass(frozen=True, eq=False)
 class Verdict(Answer):
     """The verdict on a proof: ``number`` is 0 where it holds, else the number of the first test that
     fails, ``kept`` are the numbers that show it, and ``sentence`` says it. A verdict is true where the
-    proof holds.
+    proof holds. ``of`` is the kind of proof: the loops of a ground state, or the cuts of a join or of a
+    walk.
 
     >>> import ising2d
     >>> print(ising2d.check("square", 1, 2, [7], 7, [1, 1], []))
@@ -76,7 +87,8 @@ class Verdict(Answer):
     """
 
     number: int
-    kept: Tuple[int, ...]
+    kept: Tuple[int, ...] = ()
+    of: str = "loops"
 
     def __bool__(self) -> bool:
         return self.number == 0
@@ -84,7 +96,7 @@ class Verdict(Answer):
     @property
     def sentence(self) -> str:
         """The verdict in words."""
-        return verdict_sentence(self.number, self.kept)
+        return verdict_sentence(self.number, self.kept, self.of)
 
     def __str__(self) -> str:
         return ("yes: " if self else "no: ") + self.sentence
@@ -109,23 +121,20 @@ class Ground(Answer):
     loops: "Sequence[Loop]"
     instance: Optional["Instance"] = field(default=None, compare=False, repr=False)
 
-    def of(self) -> "Instance":
-        """The instance, where it is known."""
-        if self.instance is None:
-            raise ValueError("this answer was made without its instance")
-        return self.instance
+    def _known(self) -> "Instance":
+        return _known(self.instance, "instance")
 
     def check(self) -> Verdict:
         """The verdict on this proof, by the checker, which trusts no solver."""
-        return self.of().check(self.energy, self.spins, self.loops)
+        return self._known().check(self.energy, self.spins, self.loops)
 
     def broken(self) -> List[int]:
         """The bonds that are not satisfied: coupling times both spins is below 0."""
-        return self.of().broken_by(self.spins)
+        return self._known().broken_by(self.spins)
 
     def by_node(self) -> Dict[Hashable, int]:
         """The spin of each node by its label; on a lattice by row and column."""
-        return self.of().by_node(self.spins)
+        return self._known().by_node(self.spins)
 
     def svg(self, **wishes: Any) -> str:
         """A picture of the ground state, as SVG: see ``ising2d.svg`` for what may be wished."""
@@ -189,7 +198,7 @@ class DomainWall(Answer):
         return svg(self, **wishes)
 
     def _repr_svg_(self) -> Optional[str]:
-        return self.svg() if self.ground.of().has_places() else None
+        return self.svg() if self.ground._known().has_places() else None
 
 
 @dataclass(frozen=True, eq=False)
@@ -270,20 +279,17 @@ class Cut(Answer):
     loops: "Sequence[Loop]"
     instance: Optional["Instance"] = field(default=None, compare=False, repr=False)
 
-    def of(self) -> "Instance":
-        """The instance, where it is known."""
-        if self.instance is None:
-            raise ValueError("this answer was made without its instance")
-        return self.instance
+    def _known(self) -> "Instance":
+        return _known(self.instance, "instance")
 
     def bonds(self) -> List[int]:
         """The bonds that are cut."""
         spins = self.spins.tolist()
-        return [k for k, (u, v) in enumerate(self.of().ends()) if spins[u] != spins[v]]
+        return [k for k, (u, v) in enumerate(self._known().ends()) if spins[u] != spins[v]]
 
     def check(self) -> Verdict:
         """The verdict on this proof: that the spins are a ground state with every sign changed."""
-        given = self.of()
+        given = self._known()
         total = sum(given.couplings.tolist())
         return given.negated().check(total - 2 * self.weight, self.spins, self.loops)
 
@@ -310,6 +316,11 @@ class Report(Answer):
     wall: Optional[Wall]
     instance: Optional["Instance"] = field(default=None, compare=False, repr=False)
 
+    @property
+    def ground(self) -> Ground:
+        """The ground state, with what can be asked of it."""
+        return Ground(self.energy, self.spins, self.loops, self.instance)
+
 
 class OddCut(NamedTuple):
     """A cut that parts the terminals oddly, with its weight in the packing, and its edges."""
@@ -320,26 +331,30 @@ class OddCut(NamedTuple):
 
 @dataclass(frozen=True, eq=False)
 class Join(Answer):
-    """A least join of the terminals: its weight, its edges, and the cuts that prove it. The weights of
-    the cuts sum to twice the weight of the join.
+    """A least join of the terminals: its weight, its edges by their numbers, and the cuts that prove
+    it. The weights of the cuts sum to twice the weight of the join. ``network`` is the graph, and
+    ``terminals`` are the numbers of its nodes that were asked for.
 
     >>> import ising2d
     >>> found = ising2d.tjoin(3, [(0, 1, 2), (1, 2, 3), (0, 2, 4)], [0, 2])
-    >>> found.edges, found.fault()
-    ((2,), None)
+    >>> found.edges, found.check().sentence
+    ((2,), 'the proof holds: no join of these terminals weighs less')
     """
 
     weight: int
     edges: Tuple[int, ...]
     cuts: Tuple[OddCut, ...]
-    graph: Optional[WeightedGraph] = field(default=None, compare=False, repr=False)
+    network: Optional["Network"] = field(default=None, compare=False, repr=False)
+    terminals: Tuple[int, ...] = field(default=(), compare=False, repr=False)
 
-    def fault(self) -> Optional[str]:
-        """The first fault of this proof in words, by a judge in plain Python that trusts no solver; None
-        where it holds, and no join weighs less."""
-        if self.graph is None:
-            raise ValueError("this answer was made without its graph")
-        return self.graph.fault_of_join(self.weight, self.edges, self.cuts)
+    def edge_labels(self) -> List[Hashable]:
+        """The labels of the edges of the join."""
+        return _known(self.network, "network").named(self.edges)
+
+    def check(self) -> Verdict:
+        """The verdict on this proof, by a judge in plain Python, which trusts no solver."""
+        finding = _known(self.network, "network").judge(self.terminals).on_join(self.weight, self.edges, self.cuts)
+        return Verdict(*finding, of="join")
 
 
 class Step(NamedTuple):
@@ -351,25 +366,35 @@ class Step(NamedTuple):
 
 @dataclass(frozen=True, eq=False)
 class Tour(Answer):
-    """A shortest closed walk over every edge, from node 0: its weight, its steps, and the cuts that
-    prove it.
+    """A shortest closed walk over every edge: its weight, its steps, by the numbers of edges and nodes,
+    and the cuts that prove it. ``start`` is the number of the node where it begins and ends.
 
     >>> import ising2d
     >>> found = ising2d.postman(3, [(0, 1, 2), (1, 2, 3)])
-    >>> found.weight, found.steps[0]
-    (10, Step(edge=0, node=1))
+    >>> found.weight, found.steps[0], found.node_labels(), bool(found.check())
+    (10, Step(edge=0, node=1), [0, 1, 2, 1, 0], True)
     """
 
     weight: int
     steps: Tuple[Step, ...]
     cuts: Tuple[OddCut, ...]
-    graph: Optional[WeightedGraph] = field(default=None, compare=False, repr=False)
+    start: int = 0
+    network: Optional["Network"] = field(default=None, compare=False, repr=False)
 
-    def fault(self) -> Optional[str]:
-        """The first fault of this proof in words, as of a join; None where it holds."""
-        if self.graph is None:
-            raise ValueError("this answer was made without its graph")
-        return self.graph.fault_of_tour(self.weight, self.steps, self.cuts)
+    def node_labels(self) -> List[Hashable]:
+        """The labels of the nodes in the order of the walk, the start at first and at last."""
+        labels = _known(self.network, "network").node_labels()
+        return [labels[self.start], *(labels[step.node] for step in self.steps)]
+
+    def edge_labels(self) -> List[Hashable]:
+        """The labels of the edges in the order of the walk."""
+        return _known(self.network, "network").named(step.edge for step in self.steps)
+
+    def check(self) -> Verdict:
+        """The verdict on this proof, by a judge in plain Python, which trusts no solver."""
+        network = _known(self.network, "network")
+        judge = network.judge(network.odd_nodes())
+        return Verdict(*judge.on_walk(self.weight, self.start, self.steps, self.cuts), of="walk")
 
 
 @dataclass(frozen=True, eq=False)

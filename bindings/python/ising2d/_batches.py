@@ -36,7 +36,8 @@ def in_order(
 
 def _thread_count(threads: Optional[int]) -> int:
     if threads is None:
-        return os.cpu_count() or 1
+        # Fewer than the machine has, where a queue gave this process a part of them.
+        return len(os.sched_getaffinity(0)) if hasattr(os, "sched_getaffinity") else os.cpu_count() or 1
     number = whole(threads, "threads")
     if not 1 <= number <= _MOST_THREADS:
         raise ValueError(f"threads is {number} (allowed: 1 to {_MOST_THREADS})")

@@ -66,11 +66,11 @@ def _ground(given: Any, rooms: Tuple[int, int]) -> Tuple[Tuple[int, Any, Loops],
     """A ground state with its loops where there is room for them, and the rooms that they want."""
     line, energy = _Line(), ctypes.c_int64()
     counts = ctypes.c_size_t(), ctypes.c_size_t()
-    spins, weights = room("int8", given.spin_room()), space("int64", rooms[0])
+    spins, weights = room("int8", given._spin_room()), space("int64", rooms[0])
     starts = space("uint64", rooms[0] + 1 if rooms[0] else 0)
     bonds = space("uint32", rooms[1])
-    status = given.exports().ground(
-        *given.arguments(),
+    status = given._exports().ground(
+        *given._arguments(),
         ctypes.byref(energy),
         *crossed(spins),
         *crossed(weights),
@@ -98,21 +98,21 @@ def wall_of(given: Any) -> Tuple[int, int, int]:
     line = _Line()
     energies = ctypes.c_int64(), ctypes.c_int64(), ctypes.c_int64()
     places = (ctypes.byref(energy) for energy in energies)
-    line.judge(given.exports().wall(*given.arguments(), *places, *line.arguments()), given)
+    line.judge(given._exports().wall(*given._arguments(), *places, *line.arguments()), given)
     return energies[0].value, energies[1].value, energies[2].value
 
 
 def costs_of(given: Any) -> Any:
     """The cost of each bond of a lattice or of a graph."""
     line, costs = _Line(), room("int64", min(len(given.couplings), MOST_BONDS))
-    line.judge(given.exports().bonds(*given.arguments(), *crossed(costs), *line.arguments()), given)
+    line.judge(given._exports().bonds(*given._arguments(), *crossed(costs), *line.arguments()), given)
     return fixed(costs)
 
 
 def clusters_of(given: Any) -> Any:
     """The cluster of each spin of a lattice or of a graph."""
-    line, names = _Line(), room("uint32", given.spin_room())
-    line.judge(given.exports().clusters(*given.arguments(), *crossed(names), *line.arguments()), given)
+    line, names = _Line(), room("uint32", given._spin_room())
+    line.judge(given._exports().clusters(*given._arguments(), *crossed(names), *line.arguments()), given)
     return fixed(names)
 
 
@@ -123,7 +123,7 @@ class Proof(NamedTuple):
     spins: Any
     loops: Loops
 
-    def shown(self, number: int, kept: Sequence[int]) -> Any:
+    def _shown(self, number: int, kept: Sequence[int]) -> Any:
         """The value that a refusal is about."""
         if number != 19 or kept[0] not in (10, 11):
             return None
@@ -139,8 +139,8 @@ def proof_of(energy: Any, spins: Any, loops: Any) -> Proof:
 def check_of(given: Any, stated: Proof) -> Tuple[int, Tuple[int, ...]]:
     """The number of the verdict on a proof, and the numbers that it keeps."""
     line, rows = _Line(), stated.loops
-    status = given.exports().check(
-        *given.arguments(),
+    status = given._exports().check(
+        *given._arguments(),
         stated.energy,
         *crossed(stated.spins),
         *crossed(rows.weights),

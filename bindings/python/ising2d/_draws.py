@@ -1,6 +1,6 @@
 """Instances and answers that are drawn from a law of disorder and a seed."""
 
-from typing import Any, List, Optional
+from typing import Any, List, Optional, Sequence
 
 from ._answers import Ensemble, Sample, Width
 from ._arrays import as_array, shortened, whole
@@ -19,7 +19,16 @@ _RANGES = {
 }
 
 
-def _word(value: Any, what: str, least: int = 0) -> str:
+# The words of each command behind its name.
+WORDS = {
+    "gen": ("law", "seed", "kind", "rows", "cols"),
+    "sample": ("law", "seed", "rows", "cols"),
+    "ensemble": ("law", "seed", "rows", "cols", "count"),
+    "widths": ("law", "seed", "rows", "max_cols", "count"),
+}
+
+
+def _word(value: Any, what: str, least: int) -> str:
     """A number as a word. What the program would answer with its usage is a ``ValueError``."""
     number, (low, high) = whole(value, what), _RANGES[what]
     low = max(low, least)
@@ -28,22 +37,40 @@ def _word(value: Any, what: str, least: int = 0) -> str:
     return str(number)
 
 
+def checked(command: str, given: Sequence[Any]) -> List[str]:
+    """The command and its words. Raises ``ValueError`` or ``TypeError`` for the first that the program
+    would answer with its usage."""
+    named = dict(zip(WORDS[command], given))
+    kind = named.get("kind", "cylinder" if command == "ensemble" else "square")
+    if kind not in KINDS:
+        raise ValueError(f"kind is {shortened(kind)} (allowed: {', '.join(KINDS)})")
+    least = {"hexagonal": 2, "cylinder": 3}.get(kind, 1)
+    words = [command, _law(named.pop("law"))]
+    for name, value in named.items():
+        words.append(kind if name == "kind" else _word(value, name, least if name == "cols" else 0))
+    rows, cols = whole(named["rows"], "rows"), whole(named.get("cols", named.get("max_cols")), "cols")
+    if rows * cols > 2048:
+        raise ValueError(f"{rows} rows of {cols} columns have {rows * cols} spins (allowed: at most 2048)")
+    return words
+
+
+def _drawn(command: str, *given: Any) -> str:
+    """The text that the program answers."""
+    words = checked(command, given)
+    return answered(words, given=words[1])
+
+
 class _Law(str):
     """The name of a law, which a refusal shows."""
 
-    def shown(self, number: int, kept: Any) -> Optional[str]:
-        return repr(str(self)) if number == 17 else None
+    def _shown(self, number: int, kept: Any) -> Optional[str]:
+        return shortened(str(self)) if number == 17 else None
 
 
 def _law(law: Any) -> _Law:
     if not isinstance(law, str):
         raise TypeError(f"law: one of {', '.join(LAWS)} is wanted, and not {shortened(law)}")
     return _Law(law)
-
-
-def _fit(rows: int, cols: int) -> None:
-    if rows * cols > 2048:
-        raise ValueError(f"{rows} rows of {cols} columns have {rows * cols} spins (allowed: at most 2048)")
 
 
 def draw(law: str, seed: int, kind: str, rows: int, cols: int) -> Lattice:
@@ -53,12 +80,7 @@ def draw(law: str, seed: int, kind: str, rows: int, cols: int) -> Lattice:
     >>> draw("pm", 42, "square", 2, 2).couplings.tolist()
     [-1, -1, 1, -1]
     """
-    if kind not in KINDS:
-        raise ValueError(f"kind is {shortened(kind)} (allowed: {', '.join(KINDS)})")
-    least = {"hexagonal": 2, "cylinder": 3}.get(kind, 1)
-    words = [_law(law), _word(seed, "seed"), kind, _word(rows, "rows"), _word(cols, "cols", least)]
-    _fit(rows, cols)
-    lines = answered(["gen", *words], given=words[0]).splitlines()
+    lines = _drawn("gen", law, seed, kind, rows, cols).splitlines()
     return Lattice(kind, rows, cols, numbers(lines[1].split(",")) if len(lines) > 2 else [])
 
 
@@ -68,9 +90,7 @@ def sample(law: str, seed: int, rows: int, cols: int) -> Sample:
     >>> sample("pm", 7, 24, 24).energy
     -792
     """
-    words = [_law(law), _word(seed, "seed"), _word(rows, "rows"), _word(cols, "cols")]
-    _fit(rows, cols)
-    text = answered(["sample", *words], given=words[0])
+    text = _drawn("sample", law, seed, rows, cols)
     return Sample(*(int(fields[0]) for _, fields in records_in(text)))
 
 
@@ -80,15 +100,7 @@ def ensemble(law: str, seed: int, rows: int, cols: int, count: int) -> Ensemble:
     >>> ensemble("one", 0, 1, 3, 2).walls.tolist()
     [2, 2]
     """
-    words = [
-        _law(law),
-        _word(seed, "seed"),
-        _word(rows, "rows"),
-        _word(cols, "cols", 3),
-        _word(count, "count"),
-    ]
-    _fit(rows, cols)
-    text = answered(["ensemble", *words], given=words[0])
+    text = _drawn("ensemble", law, seed, rows, cols, count)
     walls = [int(fields[1]) for first, fields in records_in(text) if first == "wall"]
     return Ensemble(as_array(walls, "int64"), one_of(text, "sum")[0], one_of(text, "squares")[0])
 
@@ -99,12 +111,5 @@ def widths(law: str, seed: int, rows: int, max_cols: int, count: int) -> List[Wi
     >>> widths("one", 0, 1, 3, 2)
     [Width(cols=3, sum=4, squares=8)]
     """
-    words = [
-        _law(law),
-        _word(seed, "seed"),
-        _word(rows, "rows"),
-        _word(max_cols, "max_cols"),
-        _word(count, "count"),
-    ]
-    _fit(rows, max_cols)
-    return [Width(*numbers(fields)) for _, fields in records_in(answered(["widths", *words], given=words[0]))]
+    text = _drawn("widths", law, seed, rows, max_cols, count)
+    return [Width(*numbers(fields)) for _, fields in records_in(text)]

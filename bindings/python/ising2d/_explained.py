@@ -1,9 +1,10 @@
-"""Refusals in words, with the line of the file, the value, and what is allowed."""
+"""Refusals of texts, with the line, the value, and what is allowed."""
 
-from typing import Dict, List, Optional
+import json
+from typing import Any, Dict, List, Optional
 
 from ._lattices import KINDS
-from ._records import Record, as_text, is_json, member_shown, object_of, records_of
+from ._records import Record, is_json, object_of, records_of
 from ._refusals import Refusal
 
 _NUMBER = "a whole number from -(2**63 - 1) to 2**63 - 1"
@@ -82,53 +83,75 @@ class _Place:
         return _words(command, not self.before, general, behind)
 
 
-def sentence_of(refusal: Refusal, given: object, command: str, name: str) -> str:
-    """Why a file is refused: its name, the line, the value, and what is allowed."""
-    text = as_text(given)  # type: ignore[arg-type]
+def explained(refusal: Refusal, text: str, command: str) -> Refusal:
+    """The refusal of a text by a command, with the line, the value, and what is allowed."""
     if is_json(text) and command not in ("check", "tjoin", "postman"):
-        return f"{name}: {_about_json(refusal, text)}"
+        return _about_json(refusal, text)
     if refusal.number in (3, 4, 5, 12) and refusal.kept:
-        found = _about_record(refusal, _Place(text, refusal.kept[0]), command)
-        if found:
-            return f"{name}, {found}"
-    line = _line_of(refusal, text)
-    return f"{name}{line}: {refusal.sentence}"
+        place = _Place(text, refusal.kept[0])
+        if place.record is not None:
+            return _about_record(refusal, place, place.record, command)
+    return Refusal(refusal.number, refusal.kept, refusal.value, _line_of(refusal, text))
 
 
-def _about_record(refusal: Refusal, place: _Place, command: str) -> str:
-    record = place.record
-    if record is None:
-        return ""
-    line = f"line {record.line}"
-    if refusal.number == 3:
-        field = refusal.kept[1]
+def _about_record(refusal: Refusal, place: _Place, record: Record, command: str) -> Refusal:
+    """The refusal with its record."""
+    number, kept = refusal.number, refusal.kept
+    if number == 3:
+        field = kept[1]
         value = repr(record.fields[field]) if field < len(record.fields) else "a missing field"
-        return f"{line}, field {field + 1}: {value} cannot stand there (allowed: {place.allowed(field)})"
-    if refusal.number == 4:
-        return f"{line}: {place.word()!r} cannot stand there (allowed: {place.words(command)})"
-    shown = ",".join(record.fields)
-    if refusal.number == 12:
-        return f"{line}: {shown!r} stands behind the end (allowed: nothing)"
-    form = _FORMS.get(place.word(), "another number of fields")
-    return f"{line}: {shown!r} has a wrong number of fields, or comes a second time (allowed: {form})"
+        words = f"field {field + 1}: {value} cannot stand there", place.allowed(field)
+    elif number == 4:
+        value = repr(place.word())
+        words = f"{value} cannot stand there", place.words(command)
+    else:
+        value = repr(",".join(record.fields))
+        words = f"{value} stands behind the end", "nothing"
+        if number == 5:
+            form = _FORMS.get(place.word(), "another number of fields")
+            words = f"{value} has a wrong number of fields, or comes a second time", form
+    return Refusal(number, kept, value, record.line, words)
 
 
-def _about_json(refusal: Refusal, text: str) -> str:
+def _about_json(refusal: Refusal, text: str) -> Refusal:
     try:
         members = object_of(text)
     except Refusal as fault:
-        return fault.sentence if refusal.number == 18 else refusal.sentence
-    return Refusal(refusal.number, refusal.kept, member_shown(members, refusal)).sentence
+        return fault if refusal.number == 18 else refusal
+    return Refusal(refusal.number, refusal.kept, member_shown(members, refusal))
 
 
-def _line_of(refusal: Refusal, text: str) -> str:
+MEMBERS = {"general": {"kind", "n", "bonds", "rotation", "seam"}}
+MEMBERS.update({kind: {"kind", "rows", "cols", "couplings", "seam"} for kind in KINDS})
+
+_PLACES = {1: "kind", 3: "rows", 4: "cols", 5: "n", 6: "couplings", 7: "bonds", 8: "rotation", 9: "seam"}
+
+
+def member_shown(members: Dict[str, Any], refusal: Refusal) -> Optional[str]:
+    """The wrong member of an object of JSON, or its wrong entry."""
+    if refusal.number != 19:
+        return None
+    place, entry = refusal.kept
+    if place == 2:
+        allowed = MEMBERS.get(str(members.get("kind")), set())
+        return next((repr(name) for name in members if name not in allowed), None)
+    name = _PLACES.get(place, "")
+    if name not in members:
+        return f"there is no member {name}"
+    value = members[name]
+    if isinstance(value, list) and entry < len(value):
+        value = value[entry]
+    return f"{json.dumps(value):.60}"
+
+
+def _line_of(refusal: Refusal, text: str) -> Optional[int]:
     """The line of the record that a refusal means by a number of another kind."""
     sought = {9: "bond", 10: "rot", 11: "seam", 21: "term", 22: "term"}.get(refusal.number)
     if sought is None:
-        return ""
+        return None
     own = [record for record in records_of(text) if record.fields and record.fields[0] == sought]
     if refusal.number == 9:
         own = own[refusal.kept[0] : refusal.kept[0] + 1]
     if refusal.number == 10:
         own = [record for record in own if record.fields[1:2] == [str(refusal.kept[0])]]
-    return f", line {own[0].line}" if own else ""
+    return own[0].line if own else None

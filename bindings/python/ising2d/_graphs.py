@@ -158,13 +158,13 @@ class Graph(Instance):
         """The coupling of each bond."""
         return self._numbers.couplings
 
-    def exports(self) -> _crossing.Exports:
+    def _exports(self) -> _crossing.Exports:
         return _crossing.EXPORTS["graph"]
 
-    def arguments(self) -> Tuple[Any, ...]:
+    def _arguments(self) -> Tuple[Any, ...]:
         return self._numbers.arguments()
 
-    def spin_room(self) -> int:
+    def _spin_room(self) -> int:
         return min(self._numbers.n, _crossing.MOST_SPINS)
 
     def as_json(self) -> Dict[str, Any]:
@@ -177,7 +177,7 @@ class Graph(Instance):
             "seam": own.seam.tolist(),
         }
 
-    def shown(self, number: int, kept: Sequence[int]) -> Optional[str]:
+    def _shown(self, number: int, kept: Sequence[int]) -> Optional[str]:
         own = self._numbers
         if number == 19 and kept[0] == 5:
             return str(own.n)

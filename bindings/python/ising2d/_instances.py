@@ -1,6 +1,6 @@
 """What a lattice and a graph have in common: the calls, and which bonds and nodes the numbers are of."""
 
-from typing import Any, Dict, Hashable, List, Literal, Optional, Sequence, Tuple, Union, overload
+from typing import Any, Dict, Hashable, Iterable, List, Literal, Optional, Sequence, Tuple, Union, overload
 
 from . import _crossing
 from ._answers import Clusters, Cut, DomainWall, Ground, Report, Turn, Verdict, Wall
@@ -14,22 +14,23 @@ Places = List[Tuple[float, float]]
 
 
 class Instance:
-    """A lattice or a graph with its couplings. Each call raises ``Refusal`` where the numbers give no
-    such instance, and ``MemoryError``."""
+    """A lattice or a graph with its couplings: ``n`` is its number of spins. Each call raises ``Refusal``
+    where the numbers give no such instance, and ``MemoryError``."""
 
+    n: int
     couplings: Any
 
     # What crosses.
 
-    def exports(self) -> _crossing.Exports:
+    def _exports(self) -> _crossing.Exports:
         """The exports for this form of instance."""
         raise NotImplementedError
 
-    def arguments(self) -> Tuple[Any, ...]:
+    def _arguments(self) -> Tuple[Any, ...]:
         """The arguments of an export in front of its results."""
         raise NotImplementedError
 
-    def spin_room(self) -> int:
+    def _spin_room(self) -> int:
         """The number of spins, where it is within the limit."""
         raise NotImplementedError
 
@@ -37,7 +38,7 @@ class Instance:
         """The instance as an object of JSON, which the program reads."""
         raise NotImplementedError
 
-    def shown(self, number: int, kept: Sequence[int]) -> Optional[str]:
+    def _shown(self, number: int, kept: Sequence[int]) -> Optional[str]:
         """The value that a refusal is about."""
         raise NotImplementedError
 
@@ -83,17 +84,27 @@ class Instance:
         """Numbers, one for each bond, by the labels of the bonds."""
         return _paired(self.edge_labels(), values, "bonds")
 
+    def named(self, bonds: Iterable[int]) -> List[Hashable]:
+        """The labels of bonds by their numbers, as of those that are broken, or of a wall."""
+        labels = self.edge_labels()
+        return [labels[k] for k in bonds]
+
     def energy_of(self, spins: Any) -> int:
         """The energy of any spins, in plain arithmetic: minus the sum of coupling times both spins."""
-        own: List[int] = whole_numbers(spins, "int8", "spins").tolist()
-        if len(own) != len(self.node_labels()):
-            raise ValueError(f"there are {len(own)} values, and {len(self.node_labels())} spins")
+        own = self._values_of(spins)
         couplings: List[int] = self.couplings.tolist()
         return -sum(j * own[u] * own[v] for (u, v), j in zip(self.ends(), couplings))
 
+    def _values_of(self, spins: Any) -> List[int]:
+        """Any values of the spins, one for each."""
+        own: List[int] = whole_numbers(spins, "int8", "spins").tolist()
+        if len(own) != len(self.node_labels()):
+            raise ValueError(f"there are {len(own)} values, and {len(self.node_labels())} spins")
+        return own
+
     def broken_by(self, spins: Any) -> List[int]:
         """The bonds that the spins do not satisfy."""
-        own = spins.tolist()
+        own = self._values_of(spins)
         pairs = zip(self.ends(), self.couplings.tolist())
         return [k for k, ((u, v), j) in enumerate(pairs) if j * own[u] * own[v] < 0]
 
@@ -112,11 +123,11 @@ class Instance:
 
     def _one(self, call: Any, *arguments: Any) -> Any:
         """A call that finds or judges one ground state, or two."""
-        return patiently(self.spin_room() > ONE_STATE, call, self, *arguments)
+        return patiently(self._spin_room() > ONE_STATE, call, self, *arguments)
 
     def _many(self, call: Any, *arguments: Any) -> Any:
         """A call that finds many ground states."""
-        return patiently(self.spin_room() > MANY_STATES, call, self, *arguments)
+        return patiently(self._spin_room() > MANY_STATES, call, self, *arguments)
 
     def ground(self, loops: bool = True) -> Ground:
         """A ground state, with the least spin of each component up, and the loops that prove it; none

@@ -1,53 +1,198 @@
-"""Least joins and shortest closed walks, of any weighted graph."""
+"""Least joins and shortest closed walks, of any connected weighted graph."""
 
-from typing import Any, Iterator, List, Optional, Tuple
+from functools import cached_property
+from typing import Any, Dict, Hashable, Iterable, List, Optional, Sequence, Tuple
 
 from ._answers import Join, OddCut, Step, Tour
-from ._arrays import in_32_bits, listed_of, numpy, refuse_unordered, shortened, whole_numbers
-from ._judging import WeightedGraph
+from ._arrays import in_32_bits, listed_of, numpy, refuse_unordered, shortened, whole, whole_numbers
+from ._judging import Edge, Judge, odd_nodes
 from ._runs import answered, numbers, one_of, records_in, weighted
 
 
-class Edges:
-    """A weighted graph as it crosses: a text of records."""
+class Network:
+    """A weighted graph: ``n`` nodes from 0, and ``edges``, triples (a, b, weight) with weights of 0 or
+    more. It must be connected, and need not be planar; edges may be parallel, and may join a node to
+    itself.
 
-    def __init__(self, n: int, edges: Any, terminals: Any = None) -> None:
+    ``labels`` are names of the nodes and ``names`` names of the edges; without them nodes are named by
+    their numbers, and an edge by its two nodes and its number. ``from_edges`` and ``from_networkx`` take
+    nodes of any names.
+
+    >>> roads = Network.from_edges([("a", "b", 2), ("b", "c", 3), ("a", "c", 4)])
+    >>> roads.tjoin(["a", "c"]).edge_labels()
+    [('a', 'c', 2)]
+    >>> Network.from_edges([("a", "b", 2), ("b", "c", 3)]).postman("c").node_labels()
+    ['c', 'b', 'a', 'b', 'c']
+    """
+
+    def __init__(
+        self,
+        n: int,
+        edges: Any,
+        labels: Optional[Sequence[Hashable]] = None,
+        names: Optional[Sequence[Hashable]] = None,
+    ) -> None:
         self.n = in_32_bits(n, "n")
         nodes, weights = _columns(edges)
-        self.nodes = whole_numbers(nodes, "uint32", "nodes of the edges").tolist()
-        self.weights = whole_numbers(weights, "int64", "weights of the edges").tolist()
-        self.terminals: Optional[List[int]] = None
-        if terminals is not None:
-            self.terminals = whole_numbers(terminals, "uint32", "terminals").tolist()
+        listed = whole_numbers(nodes, "uint32", "nodes of the edges").tolist()
+        self.edges: Tuple[Edge, ...] = tuple(
+            zip(listed[::2], listed[1::2], whole_numbers(weights, "int64", "weights of the edges").tolist())
+        )
+        self.labels = _fitting(labels, self.n, "nodes")
+        self.names = _fitting(names, len(self.edges), "edges")
 
-    def edges(self) -> Iterator[Tuple[int, int, int]]:
-        return zip(self.nodes[::2], self.nodes[1::2], self.weights)
+    def __repr__(self) -> str:
+        return f"Network({self.n}, {shortened(list(self.edges))})"
+
+    def __eq__(self, other: object) -> bool:
+        if not isinstance(other, Network):
+            return NotImplemented
+        return (self.n, self.edges) == (other.n, other.edges)
+
+    def __hash__(self) -> int:
+        return hash((self.n, self.edges))
+
+    # What the numbers are of.
+
+    def node_labels(self) -> Sequence[Hashable]:
+        """The label of each node."""
+        return range(self.n) if self.labels is None else self.labels
+
+    def edge_labels(self) -> Sequence[Hashable]:
+        """The label of each edge."""
+        if self.names is not None:
+            return self.names
+        nodes = self.node_labels()
+        return [(nodes[a], nodes[b], k) for k, (a, b, _) in enumerate(self.edges)]
+
+    def named(self, edges: Iterable[int]) -> List[Hashable]:
+        """The labels of edges by their numbers."""
+        labels = self.edge_labels()
+        return [labels[k] for k in edges]
+
+    def odd_nodes(self) -> List[int]:
+        """The numbers of the nodes where an odd number of edges ends, in rising order."""
+        return sorted(odd_nodes(self.edges, range(len(self.edges))))
+
+    def judge(self, terminals: Sequence[int]) -> Judge:
+        """The judge of joins of these terminals, which are numbers."""
+        return Judge(self.n, self.edges, terminals)
+
+    # The calls.
+
+    def tjoin(self, terminals: Any) -> Join:
+        """A least join of the terminals, which are labels: a set of edges with an odd number of edge
+        ends at each terminal, an even number at every other node, and the least weight, with cuts that
+        prove it."""
+        asked = _Asked(self, self._numbers_of(terminals))
+        text = answered(["tjoin"], asked.text(), asked)
+        found = one_of(text, "weight")[0], tuple(one_of(text, "edges")), _cuts(text)
+        return Join(*found, self, tuple(asked.terminals))
+
+    def postman(self, start: Optional[Hashable] = None) -> Tour:
+        """A shortest closed walk over every edge of a connected graph, with cuts that prove it. It
+        begins at the node with this label, or at the first node."""
+        first = 0 if start is None else self._number_of(start, "start")
+        asked = _Asked(self, [])
+        text = answered(["postman"], asked.text(), asked)
+        steps = [Step(*numbers(fields)) for name, fields in records_in(text) if name == "step"]
+        return Tour(one_of(text, "weight")[0], _begun(steps, first), _cuts(text), first, self)
+
+    def _numbers_of(self, terminals: Any) -> List[int]:
+        """The numbers of terminals that are given by their labels."""
+        if self.labels is None:
+            found: List[int] = whole_numbers(terminals, "uint32", "terminals").tolist()
+            return found
+        refuse_unordered(terminals, "terminals")
+        return [self._number_of(label, "terminals") for label in listed_of(terminals, "terminals")]
+
+    def _number_of(self, label: Any, what: str) -> int:
+        if self.labels is None:
+            number = whole(label, what)
+            if 0 <= number < self.n:
+                return number
+        elif isinstance(label, Hashable) and label in self._numbers:
+            return self._numbers[label]
+        raise ValueError(f"{what}: there is no node {shortened(label)}")
+
+    @cached_property
+    def _numbers(self) -> Dict[Hashable, int]:
+        """The number of each label."""
+        return {label: number for number, label in enumerate(self.labels or ())}
+
+    @classmethod
+    def from_edges(cls, edges: Any, scale: int = 1) -> "Network":
+        """A graph by triples (a, b, weight), with nodes of any names, in the order in which they are
+        met. Times ``scale`` each weight must be a whole number."""
+        from ._networks import network_of_edges
+
+        return network_of_edges(edges, scale)
+
+    @classmethod
+    def from_networkx(cls, graph: Any, attr: Optional[str] = "weight", scale: int = 1) -> "Network":
+        """A graph of networkx, also a multigraph. ``attr`` is the attribute of an edge that is its
+        weight; with None each edge has the weight 1. Nodes and edges keep their labels. Raises
+        ``ValueError`` where the graph is directed, or an edge has no such attribute.
+
+            roads = ising2d.Network.from_networkx(G)
+            walk = roads.postman("home").node_labels()
+        """
+        from ._networks import network_of_networkx
+
+        return network_of_networkx(graph, attr, scale)
+
+
+class _Asked:
+    """A network with the terminals that are asked for, as it crosses: a text of records."""
+
+    def __init__(self, network: Network, terminals: List[int]) -> None:
+        self.network, self.terminals = network, terminals
 
     def text(self) -> str:
         """The records; edge k is record k + 1."""
-        lines = [f"graph,{self.n}"]
-        lines += [f"edge,{a},{b},{weight}" for a, b, weight in self.edges()]
+        lines = [f"graph,{self.network.n}"]
+        lines += [f"edge,{a},{b},{weight}" for a, b, weight in self.network.edges]
         if self.terminals:
             lines.append(",".join(map(str, ("term", *self.terminals))))
         return "\n".join(lines + ["end", ""])
 
-    def graph(self) -> WeightedGraph:
-        """The graph for the judge. Without terminals they are the nodes of odd degree."""
-        plain = WeightedGraph(self.n, list(self.edges()), self.terminals or ())
-        if self.terminals is None:
-            plain.terminals = plain.odd_nodes(range(len(self.weights)))
-        return plain
-
-    def shown(self, number: int, kept: Any) -> Any:
+    def _shown(self, number: int, kept: Sequence[int]) -> Optional[str]:
         """The value that a refusal is about."""
         if number == 3 and kept[0] == 0:
-            return f"n is {self.n} (allowed: 1 or more)"
-        if number == 3 and kept[0] <= len(self.weights):
-            edge = tuple(self.edges())[kept[0] - 1]
-            return (
-                f"edge {kept[0] - 1} is {edge} (allowed: nodes from 0 to {self.n - 1}, weights of 0 or more)"
-            )
+            return str(self.network.n)
+        if number == 3 and kept[0] <= len(self.network.edges):
+            return str(self.network.edges[kept[0] - 1])
+        if number in (22, 23) and kept[0] < self.network.n:
+            return shortened(self.network.node_labels()[kept[0]])
         return None
+
+    def _words(self, number: int, kept: Sequence[int]) -> Optional[Tuple[str, str]]:
+        """What a refusal says of a number of a record, and what is allowed."""
+        value = self._shown(number, kept)
+        if number != 3 or value is None:
+            return None
+        if kept[0] == 0:
+            return f"n is {value}", "1 or more"
+        last = self.network.n - 1
+        return f"edge {kept[0] - 1} is {value}", f"nodes from 0 to {last}, and weights of 0 or more"
+
+
+def _fitting(labels: Optional[Sequence[Hashable]], count: int, what: str) -> Optional[Tuple[Hashable, ...]]:
+    """The labels, where there are as many as are wanted."""
+    if labels is None:
+        return None
+    listed = tuple(listed_of(labels, "labels"))
+    if len(listed) != count:
+        raise ValueError(f"there are {len(listed)} labels, and {count} {what}")
+    return listed
+
+
+def _begun(steps: List[Step], start: int) -> Tuple[Step, ...]:
+    """A closed walk, begun at another node that it meets."""
+    if start == 0:
+        return tuple(steps)
+    first = 1 + next((place for place, step in enumerate(steps) if step.node == start), -1)
+    return (*steps[first:], *steps[:first])
 
 
 def _columns(edges: Any) -> Tuple[List[Any], List[Any]]:
@@ -74,15 +219,14 @@ def tjoin(n: int, edges: Any, terminals: Any) -> Join:
     even number at every other node, and the least weight, with cuts that prove it.
 
     ``n`` nodes from 0, ``edges`` triples (a, b, weight) with weights of 0 or more, and an even number of
-    ``terminals``. The graph need be neither planar nor connected. Raises as ``ground`` does.
+    ``terminals``. The graph must be connected, and need not be planar. Raises as ``ground`` does. A
+    ``Network`` has the same with nodes of any names.
 
     >>> found = tjoin(3, [(0, 1, 2), (1, 2, 3), (0, 2, 4)], [0, 2])
     >>> found.weight, found.edges, sum(cut.weight for cut in found.cuts)
     (4, (2,), 8)
     """
-    given = Edges(n, edges, () if terminals is None else terminals)
-    text = answered(["tjoin"], given.text(), given)
-    return Join(one_of(text, "weight")[0], tuple(one_of(text, "edges")), _cuts(text), given.graph())
+    return Network(n, edges).tjoin(terminals)
 
 
 def postman(n: int, edges: Any) -> Tour:
@@ -92,7 +236,4 @@ def postman(n: int, edges: Any) -> Tour:
     >>> postman(2, [(0, 1, 5)]).steps
     (Step(edge=0, node=1), Step(edge=0, node=0))
     """
-    given = Edges(n, edges)
-    text = answered(["postman"], given.text(), given)
-    steps = (Step(*numbers(fields)) for first, fields in records_in(text) if first == "step")
-    return Tour(one_of(text, "weight")[0], tuple(steps), _cuts(text), given.graph())
+    return Network(n, edges).postman()

@@ -32,6 +32,7 @@ class Lattice(Instance):
         self.kind = _kind_of(kind)
         self.rows = in_32_bits(rows, "rows")
         self.cols = in_32_bits(cols, "cols")
+        self.n = self.rows * self.cols
         self.couplings = fixed(whole_numbers(couplings, "int64", "couplings"))
 
     def __repr__(self) -> str:
@@ -50,15 +51,15 @@ class Lattice(Instance):
     def __hash__(self) -> int:
         return hash(self._numbers())
 
-    def exports(self) -> _crossing.Exports:
+    def _exports(self) -> _crossing.Exports:
         return _crossing.EXPORTS["lattice"]
 
-    def arguments(self) -> Tuple[Any, ...]:
+    def _arguments(self) -> Tuple[Any, ...]:
         number = KINDS.index(self.kind) if self.kind in KINDS else _UNKNOWN_KIND
         return (number, self.rows, self.cols, *crossed(self.couplings))
 
-    def spin_room(self) -> int:
-        return min(self.rows * self.cols, _crossing.MOST_SPINS)
+    def _spin_room(self) -> int:
+        return min(self.n, _crossing.MOST_SPINS)
 
     def as_json(self) -> Dict[str, Any]:
         return {
@@ -68,7 +69,7 @@ class Lattice(Instance):
             "couplings": self.couplings.tolist(),
         }
 
-    def shown(self, number: int, kept: Sequence[int]) -> Optional[str]:
+    def _shown(self, number: int, kept: Sequence[int]) -> Optional[str]:
         if number != 19:
             return None
         values = {1: repr(self.kind), 3: str(self.rows), 4: str(self.cols)}
@@ -80,8 +81,8 @@ class Lattice(Instance):
         """Raises a ``Refusal`` where nothing is worth listing."""
         if self.kind not in KINDS:
             raise Refusal(19, (1, 0), repr(self.kind))
-        if self.rows * self.cols > _crossing.MOST_SPINS:
-            raise Refusal(7, (self.rows * self.cols,))
+        if self.n > _crossing.MOST_SPINS:
+            raise Refusal(7, (self.n,))
 
     def ends(self) -> Ends:
         self._fit()

@@ -1,10 +1,11 @@
 """Graphs from other packages. None of them is imported before it is asked for."""
 
 import importlib
-from typing import Any, Dict, Hashable, List, Optional, Sequence, Tuple
+from typing import Any, Dict, Hashable, List, NamedTuple, Optional, Sequence, Tuple
 
 from ._arrays import listed_of, refuse_unordered, shortened, whole
 from ._graphs import Graph
+from ._joins import Network
 
 Bond = Tuple[int, int, int]
 
@@ -64,8 +65,28 @@ def _drawn(
     return Graph(len(labels), bonds, drawing(len(labels), bonds), tuple(seam), labels, edges, places)
 
 
+class _Parts(NamedTuple):
+    """The nodes of a graph by their labels, its edges by numbers, and the labels of the edges."""
+
+    labels: List[Hashable]
+    bonds: List[Bond]
+    edges: List[Hashable]
+
+
 def of_networkx(graph: Any, attr: str, seam: Any, scale: int) -> Graph:
     """See ``Graph.from_networkx``."""
+    parts = _parts_of(graph, attr, scale)
+    return _drawn(*parts, _seam_of(seam, parts.edges), _places_in(graph))
+
+
+def network_of_networkx(graph: Any, attr: Optional[str], scale: int) -> Network:
+    """See ``Network.from_networkx``."""
+    labels, edges, names = _parts_of(graph, attr, scale)
+    return Network(len(labels), edges, labels, names)
+
+
+def _parts_of(graph: Any, attr: Optional[str], scale: int) -> _Parts:
+    """A graph of networkx; without an attribute the number of each edge is 1."""
     if not hasattr(graph, "is_multigraph") or not hasattr(graph, "edges"):
         raise TypeError(f"a graph of networkx is wanted, and not {shortened(graph)}")
     if graph.is_directed():
@@ -78,11 +99,12 @@ def of_networkx(graph: Any, attr: str, seam: Any, scale: int) -> Graph:
     edges: List[Hashable] = []
     for edge in graph.edges(keys=True, data=True) if multi else graph.edges(data=True):
         name, members = tuple(edge[:-1]), edge[-1]
-        if attr not in members:
-            raise ValueError(f"the edge {name!r} has no attribute {attr!r} (attr=.. names the couplings)")
-        bonds.append((number[edge[0]], number[edge[1]], scaled(members[attr], scale, f"edge {name!r}")))
+        if attr is not None and attr not in members:
+            raise ValueError(f"the edge {name!r} has no attribute {attr!r} (attr=.. names another)")
+        value = scaled(1 if attr is None else members[attr], scale, f"edge {name!r}")
+        bonds.append((number[edge[0]], number[edge[1]], value))
         edges.append(name)
-    return _drawn(labels, bonds, edges, _seam_of(seam, edges), _places_in(graph))
+    return _Parts(labels, bonds, edges)
 
 
 def _places_in(graph: Any) -> Optional[List[Tuple[float, float]]]:
@@ -109,18 +131,29 @@ def _seam_of(seam: Any, edges: Sequence[Any]) -> List[int]:
 
 def of_bonds(bonds: Any, seam: Any, scale: int) -> Graph:
     """See ``Graph.from_bonds``."""
-    refuse_unordered(bonds, "bonds")
+    return _drawn(*_named_parts(bonds, scale, "bond"), listed_of(seam, "seam"))
+
+
+def network_of_edges(edges: Any, scale: int) -> Network:
+    """See ``Network.from_edges``."""
+    labels, found, names = _named_parts(edges, scale, "edge")
+    return Network(len(labels), found, labels, names)
+
+
+def _named_parts(bonds: Any, scale: int, what: str) -> _Parts:
+    """The parts of a graph by triples of two nodes and a number."""
+    refuse_unordered(bonds, what + "s")
     scale = whole(scale, "scale")
     number: Dict[Hashable, int] = {}
     found: List[Bond] = []
     edges: List[Hashable] = []
-    for k, bond in enumerate(listed_of(bonds, "bonds")):
+    for k, bond in enumerate(listed_of(bonds, what + "s")):
         if not isinstance(bond, (tuple, list)) or len(bond) != 3:
-            raise TypeError(f"bonds: two nodes and a coupling are wanted, and not {shortened(bond)}")
+            raise TypeError(f"{what}s: two nodes and a number are wanted, and not {shortened(bond)}")
         u, v = (number.setdefault(node, len(number)) for node in bond[:2])
-        found.append((u, v, scaled(bond[2], scale, f"bond {k}")))
+        found.append((u, v, scaled(bond[2], scale, f"{what} {k}")))
         edges.append((bond[0], bond[1], k))
-    return _drawn(list(number), found, edges, listed_of(seam, "seam"))
+    return _Parts(list(number), found, edges)
 
 
 def of_bqm(bqm: Any, scale: int) -> Graph:

@@ -308,8 +308,10 @@ def _polygon(*corners: Point) -> Callable[[float, float, float], str]:
 
 
 def _round(x: float, y: float, size: float) -> str:
-    r, d = _number(size * 0.9), _number(size * 1.8)
-    return f"M{_number(x - size * 0.9)} {_number(y)}a{r} {r} 0 1 0 {d} 0a{r} {r} 0 1 0 -{d} 0Z"
+    # The numbers are rounded, and the radius is to be half of the way across all the same.
+    radius = round(size * 0.9, 1)
+    r, d = _number(radius), _number(2 * radius)
+    return f"M{_number(x - radius)} {_number(y)}a{r} {r} 0 1 0 {d} 0a{r} {r} 0 1 0 -{d} 0Z"
 
 
 _FORMS: Tuple[Callable[[float, float, float], str], ...] = (

@@ -3,11 +3,13 @@
 import argparse
 import os
 import sys
-from typing import Any, List, NamedTuple, Optional, Sequence
+from typing import Any, Callable, Dict, List, NamedTuple, Optional, Sequence
 
-from ._explained import sentence_of
+from ._draws import checked
+from ._explained import explained
 from ._progress import Progress
-from ._records import read
+from ._reading import read
+from ._records import as_text
 from ._refusals import Refusal, numbers_of, refusal_of, verdict_sentence
 from ._runs import run
 from ._streams import COMMANDS, answer_lines
@@ -157,6 +159,11 @@ def _shown(name: str) -> str:
     return "standard input" if name == "-" else name
 
 
+def _refused(refusal: Refusal, name: str) -> None:
+    """Says why a file is refused."""
+    _say(f"{_shown(name)}{': ' if refusal.line is None else ', '}{refusal.sentence}")
+
+
 def _write(text: str) -> None:
     sys.stdout.write(text)
     sys.stdout.flush()
@@ -175,7 +182,7 @@ def _study_files(command: str, names: Sequence[str], quiet: bool) -> int:
             _write(f"# {name}\n")
         _write(found.text)
         if found.status == 1:
-            _say(sentence_of(refusal_of(found.text), given, command, _shown(name)))
+            _refused(explained(refusal_of(found.text), as_text(given), command), name)
         if found.status == 3:
             number, *kept = numbers_of(found.text)
             _say(f"{_shown(name)}: {verdict_sentence(number, kept)}")
@@ -188,12 +195,19 @@ def _draw(command: str, words: Sequence[str]) -> int:
     found = run([command, *words])
     _write(found.text)
     if found.status == 1:
-        _say(refusal_of(found.text).sentence)
+        _say(f"law {words[0]!r}: {refusal_of(found.text).sentence}")
     if found.status == 2:
-        names = _DRAWN[command][0]
-        given = "; ".join(f"{name} {word!r} (allowed: {_WORDS[name]})" for name, word in zip(names, words))
-        _say(f"one of the words is out of its range: {given}")
+        _say(_fault_of(command, words))
     return found.status
+
+
+def _fault_of(command: str, words: Sequence[str]) -> str:
+    """The first of the words that is out of its range, and what is allowed."""
+    try:
+        checked(command, [int(word) if word.isascii() and word.isdigit() else word for word in words])
+    except (TypeError, ValueError) as fault:
+        return str(fault)
+    return "no such words"
 
 
 def _lines(options: argparse.Namespace, names: Sequence[str]) -> int:
@@ -222,18 +236,18 @@ def _size(file: Any) -> Optional[int]:
 def _picture(show: str, name: str) -> int:
     from ._pictures import svg
 
-    given = _input(name)
     try:
-        instance = read(given)
-        answer: Any = instance.ground()
-        if show == "clusters":
-            answer = instance.clusters()
-        if show == "wall":
-            answer = instance.wall(states=True)
+        instance = read(_input(name))
+        shown: Dict[str, Callable[[], Any]] = {
+            "ground": instance.ground,
+            "clusters": instance.clusters,
+            "wall": lambda: instance.wall(states=True),
+        }
+        text = svg(shown[show]())
     except Refusal as refusal:
-        _say(sentence_of(refusal, given, "ground", _shown(name)))
+        _refused(refusal, name)
         return 1
-    _write(svg(answer) + "\n")
+    _write(text + "\n")
     return 0
 
 

@@ -1,6 +1,6 @@
 """Refusals: why numbers or a text give no answer. Each sentence stands once, as data."""
 
-from typing import NamedTuple, Optional, Sequence, Tuple, Type
+from typing import Any, NamedTuple, Optional, Sequence, Tuple, Type
 
 
 class _Reason(NamedTuple):
@@ -17,25 +17,29 @@ _SHORT = "whole numbers from 0 to 4294967295"
 _REASONS = {
     1: _Reason("TooLong", "the input is too long", "at most {0} bytes"),
     2: _Reason("Unended", "the records end before the awaited end", "a last record that says: end"),
-    3: _Reason("BadNumber", "field {1} of record {0} is no number, or out of the range of its place"),
-    4: _Reason("UnknownKind", "the first field of record {0} is no word that may stand there"),
-    5: _Reason("BadShape", "record {0} has a wrong number of fields, or comes a second time"),
+    3: _Reason("BadNumber", "field {1} of record {0} cannot stand there", "a number in the range of its place"),
+    4: _Reason("UnknownKind", "the first field of record {0} cannot stand there", "a word of docs/FORMATS.md"),
+    5: _Reason(
+        "BadShape",
+        "record {0} has a wrong number of fields, or comes a second time",
+        "the records of docs/FORMATS.md",
+    ),
     6: _Reason("CouplingCount", "there are {0} couplings", "one for each bond of the lattice, {1}"),
     7: _Reason("TooManySpins", "there are {0} spins", "at most 2048"),
     8: _Reason("TooManyBonds", "there are {0} bonds or more", "at most 6144"),
     9: _Reason("SelfBond", "both ends of bond {0} are the same spin", "two spins"),
     10: _Reason("BadRotation", "the list of spin {0} is wrong at dart {1}", "its darts, each once"),
-    11: _Reason("BadSeam", "entry {0} of the seam is no bond, or stands there twice"),
+    11: _Reason("BadSeam", "{0} in the seam is no bond, or stands there twice", "bonds, each once"),
     12: _Reason("Trailing", "record {0} stands behind the end", "nothing"),
     13: _Reason("SumTooLarge", "the sizes of the couplings sum to {0}", "at most 2**44 = 17592186044416"),
-    15: _Reason("NotPlanar", "the drawing has the Euler number {0}", "2, as of a drawing on a sphere"),
+    15: _Reason("NotPlanar", "the graph is not drawn in the plane: its Euler number is {0}", "2, as on a sphere"),
     16: _Reason("NoSeam", "a wall is asked for, and the seam is empty", "a cylinder, or a seam of bonds"),
     17: _Reason("UnknownLaw", "no law of disorder has this name", "one, alternate, pm, uniform"),
-    18: _Reason("BadJson", "the input is no JSON"),
+    18: _Reason("BadJson", "the input is no JSON", "one object, and nothing behind it"),
     19: _Reason("BadMember", "member {0} is wrong at entry {1}"),
     20: _Reason("JsonTooLong", "the JSON input is too long", "at most {0} bytes"),
     21: _Reason("OddTerminals", "there are {0} terminals", "an even number of them"),
-    22: _Reason("BadTerminal", "terminal {0} is no node, or stands there twice"),
+    22: _Reason("BadTerminal", "terminal {0} is no node, or stands there twice", "nodes, each once"),
     23: _Reason("NotJoined", "no edges lead from node 0 to node {0}", "one component"),
 }
 
@@ -54,15 +58,39 @@ _MEMBERS = {
     11: _Reason("", "start {1} of the loops is wrong", "first 0, never falling, at last all bonds"),
 }
 
+_CUTS = {
+    4: "cut {0} has a weight below 1, or an edge that is none or stands there twice",
+    5: "cut {0} is not all edges of a set with an odd number of terminals",
+    6: "the cuts load edge {0} with {1}, more than twice its weight",
+    7: "all cuts weigh {0} together, and {1} is wanted",
+}
+
+# The verdicts on each kind of proof: the loops of a ground state, and the cuts of a join and of a walk.
 _VERDICTS = {
-    0: "the proof holds: no assignment has less energy",
-    1: "the result has {0} spins, and the instance another number",
-    2: "the spins have the energy {0}, and not the stated one",
-    3: "loop {0} has a weight below 1, or bonds that are none, are missing, or do not rise",
-    4: "loop {0} has an odd number of bonds at spin {1}",
-    5: "loop {0} has an even number of negative couplings, so it is not frustrated",
-    6: "the loops through bond {0} weigh {1} together, more than twice the size of its coupling",
-    7: "all loops weigh {0} together, and the stated energy plus the sizes of all couplings is {1}",
+    "loops": {
+        0: "the proof holds: no assignment has less energy",
+        1: "the result has {0} spins, and the instance another number",
+        2: "the spins have the energy {0}, and not the stated one",
+        3: "loop {0} has a weight below 1, or bonds that are none, are missing, or do not rise",
+        4: "loop {0} has an odd number of bonds at spin {1}",
+        5: "loop {0} has an even number of negative couplings, so it is not frustrated",
+        6: "the loops through bond {0} weigh {1} together, more than twice the size of its coupling",
+        7: "all loops weigh {0} together, and the stated energy plus the sizes of all couplings is {1}",
+    },
+    "join": {
+        0: "the proof holds: no join of these terminals weighs less",
+        1: "edge {0} of the join is none, or stands there twice",
+        2: "node {0} meets an odd number of ends and is no terminal, or an even one and is a terminal",
+        3: "the edges weigh {0} together, and not the stated weight",
+        **_CUTS,
+    },
+    "walk": {
+        0: "the proof holds: no closed walk over every edge weighs less",
+        1: "step {0} goes along no edge from the node where the walk is",
+        2: "the walk does not come back to its start, or leaves out an edge",
+        3: "the steps weigh {0} together, and not the stated weight",
+        **_CUTS,
+    },
 }
 
 
@@ -80,17 +108,18 @@ def _reason_of(number: int, kept: Sequence[int]) -> _Reason:
     return reason
 
 
-def verdict_sentence(number: int, kept: Sequence[int]) -> str:
-    """A verdict in words."""
-    return _filled(_VERDICTS.get(number, "the proof fails"), kept)
+def verdict_sentence(number: int, kept: Sequence[int], of: str = "loops") -> str:
+    """A verdict in words, on a proof of this kind."""
+    return _filled(_VERDICTS[of].get(number, "the proof fails"), kept)
 
 
 class Refusal(ValueError):
     """Numbers or a text that are refused.
 
     ``number`` is the number of the refusal, ``name`` its name, ``kept`` the numbers that show it,
-    ``value`` the wrong value where the call knows it, ``allowed`` what may stand there, and
-    ``sentence`` says it all. docs/FORMATS.md has all refusals.
+    ``value`` the wrong value where the call knows it, ``allowed`` what may stand there, ``line`` the
+    line of a text, counted from 1, where it has one, and ``sentence`` says it all. docs/FORMATS.md has
+    all refusals.
 
         >>> import ising2d
         >>> try:
@@ -100,22 +129,32 @@ class Refusal(ValueError):
         19 BadMember 'kagome'
     """
 
-    def __init__(self, number: int, kept: Sequence[int] = (), value: Optional[str] = None) -> None:
+    def __init__(
+        self,
+        number: int,
+        kept: Sequence[int] = (),
+        value: Optional[str] = None,
+        line: Optional[int] = None,
+        words: Optional[Tuple[str, str]] = None,
+    ) -> None:
+        """``words`` are a sentence and what is allowed, where more is known than the numbers tell."""
         reason = _reason_of(number, kept)
-        self.number = number
-        self.kept = tuple(kept)
-        self.value = value
+        self.number, self.kept = number, tuple(kept)
+        self.value, self.line, self.words = value, line, words
         self.name = reason.name
-        self.allowed = _filled(reason.allowed, self.kept)
-        self.sentence = _filled(reason.sentence, self.kept)
-        if value is not None:
-            self.sentence += f": {value}"
-        if self.allowed:
-            self.sentence += f" (allowed: {self.allowed})"
+        self.allowed = words[1] if words else _filled(reason.allowed, self.kept)
+        self.sentence = self._told(words[0] if words else _filled(reason.sentence, self.kept))
         super().__init__(f"{self.name} ({number}): {self.sentence}")
 
-    def __reduce__(self) -> Tuple[Type["Refusal"], Tuple[int, Tuple[int, ...], Optional[str]]]:
-        return Refusal, (self.number, self.kept, self.value)
+    def _told(self, text: str) -> str:
+        if self.value is not None and not self.words:
+            text += f": {self.value}"
+        if self.line is not None:
+            text = f"line {self.line}" + (", " if text.startswith("field ") else ": ") + text
+        return f"{text} (allowed: {self.allowed})" if self.allowed else text
+
+    def __reduce__(self) -> Tuple[Type["Refusal"], Tuple[Any, ...]]:
+        return Refusal, (self.number, self.kept, self.value, self.line, self.words)
 
 
 def numbers_of(line: str) -> Tuple[int, ...]:
@@ -124,7 +163,9 @@ def numbers_of(line: str) -> Tuple[int, ...]:
 
 
 def refusal_of(line: str, given: object = None) -> Refusal:
-    """The refusal of a line ``refused,NUMBER,..``, with the value that ``given`` has at the place."""
+    """The refusal of a line ``refused,NUMBER,..``, with the value that ``given`` has at the place, and its
+    own words for it, where it has any."""
     number, *kept = numbers_of(line)
-    shown = getattr(given, "shown", None)
-    return Refusal(number, kept, shown(number, kept) if shown is not None else None)
+    shown, words = getattr(given, "_shown", None), getattr(given, "_words", None)
+    value = shown(number, kept) if shown is not None else None
+    return Refusal(number, kept, value, words=words(number, kept) if words is not None else None)

@@ -7,9 +7,10 @@ import signal
 from typing import Any, Callable, Deque, Dict, Iterable, Iterator, List, NamedTuple, Tuple
 
 from ._instances import Instance
-from ._joins import postman, tjoin
+from ._joins import Network
 from ._loops import Loop
-from ._records import instance_of, object_of
+from ._reading import instance_of
+from ._records import object_of
 from ._refusals import Refusal
 
 
@@ -94,10 +95,17 @@ def _checked(members: Dict[str, Any]) -> Dict[str, Any]:
 
 
 def _joined(command: str, members: Dict[str, Any]) -> Dict[str, Any]:
-    n, edges = _taken(members, "n"), _taken(members, "edges")
-    if command == "postman":
-        return postman(n, edges).as_dict()
-    return tjoin(n, edges, members.get("terminals", ())).as_dict()
+    """A join or a walk. Without ``n`` the nodes of the edges may have any names."""
+    edges = _taken(members, "edges")
+    network = Network(members.pop("n"), edges) if "n" in members else Network.from_edges(edges)
+    terminals = members.pop("terminals", ()) if command == "tjoin" else ()
+    if members:
+        raise ValueError(f"a member does not belong here: {next(iter(members))!r}")
+    if command == "tjoin":
+        return network.tjoin(terminals).as_dict()
+    found, labels = network.postman(), network.node_labels()
+    steps = [{"edge": step.edge, "node": labels[step.node]} for step in found.steps]
+    return {**found.as_dict(), "start": labels[found.start], "steps": steps}
 
 
 def _taken(members: Dict[str, Any], name: str) -> Any:
