@@ -48,6 +48,29 @@ class Drawing:
         (x, y), (right, down) = self.places[self.ends[bond][0]], self.steps[bond]
         return x + right / 2, y + down / 2
 
+    def shifts(self, bond: int) -> List[float]:
+        """How far to the east a bond is drawn: in the first column of a cylinder it is drawn twice."""
+        if self.period and all(self.places[spin][0] == 0 for spin in self.ends[bond]):
+            return [0.0, float(self.period)]
+        return [0.0]
+
+    def typical_length(self) -> float:
+        """The middle one of the lengths of all bonds."""
+        lengths = sorted((right**2 + down**2) ** 0.5 for right, down in self.steps)
+        middle = float(lengths[len(lengths) // 2]) if lengths else 0.0
+        return middle if middle > 0 else 1.0
+
+    def smallest_gap(self) -> float:
+        """The least distance of two spins that do not lie at one place; where there are none, a bond's."""
+        least, points = self.typical_length(), sorted(self.places)
+        for i, (x, y) in enumerate(points):
+            for right, low in points[i + 1 :]:
+                if right - x >= least:
+                    break
+                gap = ((right - x) ** 2 + (low - y) ** 2) ** 0.5
+                least = gap if 0 < gap < least else least
+        return least
+
     def _orbits(self) -> List[List[int]]:
         """The darts round each face: over the bond, and on to the next dart of the spin there."""
         after: Dict[int, int] = {}

@@ -86,14 +86,12 @@ class _Canvas:
         shift = [drawing.places[u][0] + step[0] for (u, _), step in zip(drawing.ends, drawing.steps)]
         self.left, self.top = min(xs), min(ys)
         self.wide, self.high = max([*xs, *shift]) - self.left, max(ys) - self.top
-        length = _typical_length(drawing)
-        pixels = (
-            cell
-            if cell is not None
-            else max(14.0, min(48.0, 720 * length / max(self.wide, self.high, length)))
-        )
-        self.scale = pixels / length
-        self.look = Look(pixels, pixels * 0.6 + 4, max(2.0, pixels * 0.17), max(0.8, pixels * 0.045))
+        length, gap = drawing.typical_length(), drawing.smallest_gap()
+        extent = max(self.wide, self.high, length)
+        self.scale = _scale(length, extent, gap) if cell is None else cell / length
+        pixels = self.scale * length if cell is not None else min(48.0, self.scale * length)
+        spin = max(2.0, min(pixels * 0.17, gap * self.scale * 0.42))
+        self.look = Look(pixels, pixels * 0.6 + 4, spin, max(0.8, pixels * 0.045))
 
     # Where things are.
 
@@ -103,10 +101,11 @@ class _Canvas:
         return margin + (x - self.left) * self.scale, margin + (y - self.top) * self.scale
 
     def line(self, bond: int) -> str:
-        """A bond as a piece of a path."""
+        """A bond as a piece of a path; in the first column of a cylinder as two."""
         place, (right, down) = self.drawing.places[self.drawing.ends[bond][0]], self.drawing.steps[bond]
-        x, y = self.at(place)
-        return f"M{_number(x)} {_number(y)}l{_number(right * self.scale)} {_number(down * self.scale)}"
+        way = f"l{_number(right * self.scale)} {_number(down * self.scale)}"
+        starts = (self.at((place[0] + shift, place[1])) for shift in self.drawing.shifts(bond))
+        return "".join(f"M{_number(x)} {_number(y)}{way}" for x, y in starts)
 
     def polyline(self, points: Iterable[Point]) -> str:
         return "M" + "L".join(f"{_number(x)} {_number(y)}" for x, y in map(self.at, points))
@@ -152,10 +151,12 @@ class _Canvas:
             self.explain("broken bond", d="M0 0h16M5 -4l6 8M11 -4l-6 8", **{**crossed, "stroke_width": 2})
 
     def _cross(self, bond: int) -> str:
-        x, y = self.at(self.drawing.middle(bond))
+        x, y = self.drawing.middle(bond)
         arm = 0.13 * self.look.cell
+        middles = [self.at((x + shift, y)) for shift in self.drawing.shifts(bond)]
         return "".join(
             f"M{_number(x - arm)} {_number(y + sign * arm)}l{_number(2 * arm)} {_number(-sign * 2 * arm)}"
+            for x, y in middles
             for sign in (1, -1)
         )
 
@@ -170,7 +171,8 @@ class _Canvas:
                 "stroke_linecap": "round",
             }
             self.path((self.line(bond) for bond in loop.bonds), **look)
-            self.explain(f"loop of weight {loop.weight}", **{**look, "stroke_width": 8 - 2 * (place % 3)})
+            look.update(d="M3 0h10", stroke_width=8 - 2 * (place % 3))
+            self.explain(f"loop of weight {loop.weight}", **look)
 
     def dots(self, spins: Iterable[int], width: float, colour: str) -> None:
         pieces = ("M{}h0".format(" ".join(map(_number, self.at(point)))) for point in self._points(spins))
@@ -290,11 +292,11 @@ class _Canvas:
         return lines
 
 
-def _typical_length(drawing: Drawing) -> float:
-    """The middle one of the lengths of all bonds."""
-    lengths = sorted((right**2 + down**2) ** 0.5 for right, down in drawing.steps)
-    middle = float(lengths[len(lengths) // 2]) if lengths else 0.0
-    return middle if middle > 0 else 1.0
+def _scale(length: float, extent: float, gap: float) -> float:
+    """Pixels for the unit of the drawing: so many that a bond is well seen, and that spins lie apart where
+    the picture does not get too large by that."""
+    usual = max(14.0, min(48.0, 720 * length / extent)) / length
+    return max(usual, min(12 / gap, 900 / extent))
 
 
 def _polygon(*corners: Point) -> Callable[[float, float, float], str]:
