@@ -36,7 +36,8 @@ def study(spread, path):
     missing = [lot for lot in range(LOTS) if lot not in done]
     print(f"{len(done)} lots are done, {len(missing)} are missing")
     with path.open("a") as file:
-        file.write("\n" if done else "")
+        # The line that was broken off, if there is one, ends here.
+        file.write("\n" if file.tell() else "")
         for lot, energies in spread(lot_of, missing):
             done[lot] = energies
             file.write(json.dumps([lot, energies]) + "\n")

@@ -7,6 +7,7 @@ Ito, which colour-blind people can tell apart.
 from typing import Any, Callable, Dict, Iterable, List, NamedTuple, Optional, Tuple
 
 from ._answers import Clusters, DomainWall, Ground
+from ._arrays import shortened
 from ._faces import Drawing, Point
 
 _BLUE, _GREEN, _PURPLE, _SKY = "#0072B2", "#009E73", "#CC79A7", "#56B4E9"
@@ -48,10 +49,11 @@ def svg(
     >>> ising2d.svg(ising2d.ground("square", 2, 2, [3, 4, 2, -5]))[:4]
     '<svg'
     """
+    size = None if cell is None else _size(cell)
     shown = answer.ground if isinstance(answer, DomainWall) else answer
     if not isinstance(shown, (Ground, Clusters)) or shown.instance is None:
         raise TypeError("svg: a ground state, a domain wall with states or clusters are wanted")
-    canvas = _Canvas(Drawing(shown.instance, places), cell)
+    canvas = _Canvas(Drawing(shown.instance, places), size)
     canvas.faces()
     if isinstance(shown, Clusters):
         canvas.bonds([])
@@ -64,6 +66,17 @@ def svg(
             canvas.wall(answer)
         canvas.spins(shown.spins.tolist())
     return canvas.text(legend)
+
+
+def _size(cell: Any) -> float:
+    """The length of a bond in pixels."""
+    try:
+        size = float(cell)
+    except (TypeError, ValueError):
+        raise TypeError(f"cell: a number is wanted, and not {shortened(cell)}") from None
+    if not 1 <= size <= 1000:
+        raise ValueError(f"cell is {shortened(cell)} (allowed: 1 to 1000)")
+    return size
 
 
 def _number(value: float) -> str:
