@@ -1,7 +1,7 @@
 -- A least join without an edge, where the edge weighs whatever it may, is with the edge, or as it is, the least among the joins that have
 -- the edge, or that do not.
-use Rattle.std.proofs.Common.{inl, inr, ap₂, ◌≡◌, ◌≢◌, ◌⊎◌, ℕ, ◌+◌, ◌<◌, ◌≤◌, ℤ, pos, Bool, true, false, cond, ◌&&◌, eqb, List, refl, sym, ◌∙◌, ap, subst, arith}
-use Rattle.std.proofs.Common.{length, get_or, set, sum_by}
+use Rattle.std.proofs.Common.{inl, inr, ◌≡◌, ◌≢◌, ℕ, ◌+◌, ◌<◌, ◌≤◌, ℤ, pos, Bool, true, false, cond, ◌&&◌, eqb, List, refl, sym, ◌∙◌, ap, subst, arith}
+use Rattle.std.proofs.Common.{set, sum_by}
 use Rattle.std.specs.Prelude.{unsigned_abs}
 use Rattle.std.proofs.lemmas.Bool.{cases_eq, eq-eqb, eqb-true, false≢true}
 use Rattle.std.proofs.lemmas.List.{get_or-set_other, get_or-set_same, length-set, set-get_or, set-set}
@@ -19,7 +19,7 @@ use Rattle.sg_graph.specs.Web.{Graph, edge_at, edge_count, edge_weight, ends_at,
 use Rattle.sg_graph.specs.Join.{AreTerminals, IsJoin, IsLeastJoin}
 use Rattle.sg_graph.proofs.Joins.{ends_parity, odd_from_cond}
 use Rattle.sg_graph.proofs.OddLists.{chosen_below-parity, chosen_below-weight}
-use Rattle.sg_bonds.specs.JoinsWith.{IsLeastBeside, IsLeastJoinWith, turned_at, with_edge}
+use Rattle.sg_bonds.specs.JoinsWith.{IsLeastJoinWith, turned_at, with_edge}
 
 and_turned : (x y : Bool) → (x && y) ≡ (y && x)
 and_turned x y = grind arith

@@ -1,5 +1,5 @@
 -- Spins that break a least join among those that have a bond, or do not, are least among those with their product at the bond.
-use Rattle.std.proofs.Common.{inl, inr, ◌≡◌, ◌⊎◌, ℕ, ◌*◌, ◌<◌, ◌≤◌, ◌^◌, ℤ, pos, negsuc, ◌-ℤ◌, ◌≤ℤ◌, Bool, true, false, cond, List, Option, None, Some, Result, Ok, Err, refl, sym, ◌∙◌, ap, ap₂, subst, arith, All}
+use Rattle.std.proofs.Common.{inl, inr, ◌≡◌, ℕ, ◌<◌, ◌≤◌, ℤ, pos, negsuc, Bool, true, false, cond, List, Option, None, Some, Result, Ok, Err, refl, sym, ◌∙◌, ap, arith}
 use Rattle.std.specs.Prelude.{IfOk, IfSome}
 use Rattle.std.specs.Ordering.{int_eq}
 use Rattle.std.proofs.lemmas.Bool.{false≢true, true≢false}
@@ -8,13 +8,12 @@ use Rattle.sg_limits.specs.Limits.{forced_limit}
 use Rattle.sg_sums.specs.Sets.{holds}
 use Rattle.sg_sums.proofs.RisingLists.{chosen_below_low, chosen_below_rises}
 use Rattle.sg_model.specs.declared.bond.Bond.{Bond}
-use Rattle.sg_model.specs.Ising.{Ising, bond_at, bond_count}
-use Rattle.sg_model.specs.Connected.{IsConnected}
+use Rattle.sg_model.specs.Ising.{bond_at, bond_count}
 use Rattle.sg_model.specs.Spins.{IsAssignment, IsUpOrDown}
-use Rattle.sg_model.specs.Energy.{energy, product, weight}
-use Rattle.sg_model.specs.Broken.{is_broken, is_negative}
+use Rattle.sg_model.specs.Energy.{energy, product}
+use Rattle.sg_model.specs.Broken.{is_negative}
 use Rattle.sg_graph.specs.Web.{Graph, edge_count, total_weight, weight_of}
-use Rattle.sg_graph.specs.Join.{AreTerminals, IsJoin}
+use Rattle.sg_graph.specs.Join.{AreTerminals}
 use Rattle.sg_planar.specs.Fit.{Embedding, IsPlanar}
 use Rattle.sg_planar.specs.BrokenLists.{BreaksExactly}
 use Rattle.sg_dual.specs.Dual.{dual_web, frustrated_faces, is_frustrated}

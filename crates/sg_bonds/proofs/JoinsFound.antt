@@ -1,6 +1,6 @@
 -- What the calls for joins with an edge mark and weigh.
-use Rattle.std.proofs.Common.{inl, inr, ◌≡◌, ℕ, ◌*◌, ◌+◌, ◌^◌, ◌<◌, ◌≤◌, ℤ, pos, ◌≤ℤ◌, Bool, true, false, cond, ◌&&◌, eqb, List, length, set, refl, sym, ◌∙◌, ap, ap₂, subst, arith, All, to_z, of_z, w64}
-use Rattle.std.specs.Prelude.{FitsSigned, unsigned_abs}
+use Rattle.std.proofs.Common.{inl, inr, ◌≡◌, ℕ, ◌^◌, ◌<◌, ◌≤◌, pos, ◌≤ℤ◌, Bool, true, false, cond, ◌&&◌, eqb, List, length, set, sym, ◌∙◌, ap, ap₂, subst, arith, All, to_z, w64}
+use Rattle.std.specs.Prelude.{FitsSigned}
 use Rattle.std.specs.List.Sorted.{IsStrictlyIncreasing}
 use Rattle.std.proofs.lemmas.Bool.{cases_eq, eq-eqb, ne_eqb}
 use Rattle.std.proofs.lemmas.Int.{fits_signed_from_abs, ints, to_z_pos}
@@ -12,7 +12,7 @@ use Rattle.sg_sums.specs.Sets.{chosen_below, holds, is_marked}
 use Rattle.sg_sums.proofs.Choosing.{chosen_below_same}
 use Rattle.sg_sums.proofs.ParityLaws.{xor-false}
 use Rattle.sg_sums.proofs.RisingLists.{chosen_below_low, chosen_below_rises, holds-chosen_below, parity_of_rising}
-use Rattle.sg_graph.specs.Web.{Graph, IsWeb, edge_at, edge_count, total_weight, weight_of, with_weight}
+use Rattle.sg_graph.specs.Web.{Graph, edge_at, edge_count, total_weight, weight_of, with_weight}
 use Rattle.sg_graph.specs.Join.{AreTerminals, IsLeastJoin}
 use Rattle.sg_graph.proofs.OnceLists.{rising_light}
 use Rattle.sg_bonds.specs.JoinsWith.{IsLeastBeside, IsLeastJoinWith, turned_at, with_edge}

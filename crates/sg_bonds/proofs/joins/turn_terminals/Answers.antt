@@ -1,5 +1,4 @@
-use Rattle.std.proofs.Common.{◌≡◌, ℕ, ◌<◌, arith}
-use Rattle.sg_sums.specs.Sets.{holds, is_marked}
+use Rattle.std.proofs.Common.{arith}
 use Rattle.sg_bonds.proofs.JoinsFound.{same_mark, terminal_mark, turned_mark}
 use Rattle.sg_bonds.proofs.joins.turn_terminals.Goals as goal
 

@@ -1,4 +1,4 @@
-use Rattle.std.proofs.Common.{◌≡◌, Option, ap, subst, arith}
+use Rattle.std.proofs.Common.{Option, ap, subst, arith}
 use Rattle.std.specs.Prelude.{IfSome}
 use Rattle.sg_model.specs.Ising.{bond_count}
 use Rattle.sg_model.specs.Connected.{IsConnected}

@@ -1,4 +1,4 @@
-use Rattle.std.proofs.Common.{◌≡◌, Option, List, ℕ, Bool, ap, ap₂, sym, ◌∙◌, subst}
+use Rattle.std.proofs.Common.{◌≡◌, Option, List, ℕ, ap, ap₂, sym, ◌∙◌, subst}
 use Rattle.std.specs.Prelude.{IfSome}
 use Rattle.sg_model.specs.Ising.{bond_at}
 use Rattle.sg_model.specs.Connected.{IsConnected}
