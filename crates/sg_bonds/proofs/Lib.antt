@@ -10,3 +10,6 @@ pub mod ToldBonds
 pub mod BondLoads
 pub mod PartCosts
 pub mod JoinedCosts
+pub mod EdgeJoins
+pub mod JoinStates
+pub mod JoinsFound

@@ -4,3 +4,4 @@ pub mod Naming
 pub mod Known
 pub mod Told
 pub mod Loads
+pub mod JoinsWith

@@ -6,9 +6,10 @@ ghost use Rattle.sg_model.specs.Energy.{IsGroundState, energy, weight};
 ghost use Rattle.sg_bonds.specs.Cost.{AreCosts, IsCost};
 ghost use Rattle.sg_bonds.specs.Known.{AreKnown};
 
-use super::forcing::{least_with, other_product};
+use super::forcing::{other_product, state_with};
 use super::known::{Known, Turned, note, widest};
 use super::paths::met;
+use super::states::BondStates;
 use super::{CostList, NoMemory};
 use sg_ground::{Answer, solve};
 use sg_planar::Planar;
@@ -20,8 +21,9 @@ pub(crate) fn part_costs(alloc: Global, planar: &Planar) -> Result<CostList, NoM
     ensures { IfOk result (AreCosts planar.now.instance) }
 {
     let least = solve(alloc, planar)?;
-    let known = gather(alloc, planar, &least)?;
-    listed(alloc, planar, &least, &known)
+    let mut states = BondStates::new(alloc, planar)?;
+    let known = gather(alloc, planar, &mut states, &least)?;
+    listed(alloc, planar, &mut states, &least, &known)
 }
 
 /// Whether a bond of this cost is rigid.
@@ -32,17 +34,24 @@ pub fn rigid(cost: i64) -> bool
 }
 
 // Finds the costs one by one, that with the widest bound first.
-fn gather(alloc: Global, planar: &Planar, least: &Answer) -> Result<Vec<Known>, NoMemory>
+fn gather(
+    alloc: Global,
+    planar: &Planar,
+    states: &mut BondStates,
+    least: &Answer,
+) -> Result<Vec<Known>, NoMemory>
     requires sum { weight planar.now.instance ≤ sum_limit }
+    requires states { states.old ≡ planar.now }
     requires ground_state { IsGroundState planar.now.instance least.now.spins }
     requires energy { least.now.energy ≡ energy planar.now.instance least.now.spins }
-    ensures { IfOk result (λ known. AreKnown planar.now.instance least.now.spins known.items) }
+    ensures states { OnOk result (states.new ≡ planar.now) }
+    ensures known { IfOk result (λ known. AreKnown planar.now.instance least.now.spins known.items) }
 {
     let count = planar.instance().bonds().len();
     let mut known = vec![in alloc; Known::Nothing; count]?;
     for _ in 0..count {
         match widest(&known) {
-            Some(bond) => settle(alloc, planar, least, bond as u32, &mut known)?,
+            Some(bond) => settle(alloc, planar, states, least, bond as u32, &mut known)?,
             None => break,
         }
     }
@@ -53,23 +62,26 @@ fn gather(alloc: Global, planar: &Planar, least: &Answer) -> Result<Vec<Known>, 
 fn settle(
     alloc: Global,
     planar: &Planar,
+    states: &mut BondStates,
     least: &Answer,
     bond: u32,
     known: &mut [Known],
 ) -> Result<(), NoMemory>
     requires sum { weight planar.now.instance ≤ sum_limit }
+    requires states { states.old ≡ planar.now }
     requires bond_in { bond < bond_count planar.now.instance }
     requires ground_state { IsGroundState planar.now.instance least.now.spins }
     requires energy { least.now.energy ≡ energy planar.now.instance least.now.spins }
     requires known { AreKnown planar.now.instance least.now.spins known.old }
-    ensures { OnOk result (AreKnown planar.now.instance least.now.spins known.new) }
+    ensures states { OnOk result (states.new ≡ planar.now) }
+    ensures known { OnOk result (AreKnown planar.now.instance least.now.spins known.new) }
 {
     match met(alloc, planar.instance(), known, bond)? {
         Some(cost) => {
             known[bond as usize] = Known::Exact(cost);
         }
         None => {
-            let turned = turn(alloc, planar, least, bond)?;
+            let turned = turn(alloc, planar, states, least, bond)?;
             note(planar.instance(), &least.spins, &turned, known);
             known[bond as usize] = Known::Exact(turned.cost);
         }
@@ -81,20 +93,23 @@ fn settle(
 pub(crate) fn turn(
     alloc: Global,
     planar: &Planar,
+    states: &mut BondStates,
     least: &Answer,
     bond: u32,
 ) -> Result<Turned, NoMemory>
     requires sum { weight planar.now.instance ≤ sum_limit }
+    requires states { states.old ≡ planar.now }
     requires bond_in { bond < bond_count planar.now.instance }
     requires ground_state { IsGroundState planar.now.instance least.now.spins }
     requires energy { least.now.energy ≡ energy planar.now.instance least.now.spins }
+    ensures states { OnOk result (states.new ≡ planar.now) }
     ensures cost { IfOk result (λ t. IsCost planar.now.instance bond t.cost) }
     ensures assignment { IfOk result (λ t. IsAssignment planar.now.instance t.spins) }
     ensures above { IfOk result (λ t. energy planar.now.instance t.spins ≡ energy planar.now.instance least.now.spins +ℤ t.cost) }
 {
     let ends = planar.instance().bonds().at(bond as usize);
     let other = other_product(&least.spins, ends);
-    let state = least_with(alloc, planar, bond, other)?;
+    let state = state_with(alloc, planar, states, bond, other)?;
     Ok(Turned {
         cost: state.energy - least.energy,
         spins: state.spins,
@@ -105,20 +120,23 @@ pub(crate) fn turn(
 fn cost(
     alloc: Global,
     planar: &Planar,
+    states: &mut BondStates,
     least: &Answer,
     known: &[Known],
     bond: u32,
 ) -> Result<i64, NoMemory>
     requires sum { weight planar.now.instance ≤ sum_limit }
+    requires states { states.old ≡ planar.now }
     requires bond_in { bond < bond_count planar.now.instance }
     requires ground_state { IsGroundState planar.now.instance least.now.spins }
     requires energy { least.now.energy ≡ energy planar.now.instance least.now.spins }
     requires known { AreKnown planar.now.instance least.now.spins known.now }
-    ensures { IfOk result (IsCost planar.now.instance bond) }
+    ensures states { OnOk result (states.new ≡ planar.now) }
+    ensures cost { IfOk result (IsCost planar.now.instance bond) }
 {
     match known[bond as usize] {
         Known::Exact(cost) => Ok(cost),
-        _ => Ok(turn(alloc, planar, least, bond)?.cost),
+        _ => Ok(turn(alloc, planar, states, least, bond)?.cost),
     }
 }
 
@@ -126,10 +144,12 @@ fn cost(
 fn listed(
     alloc: Global,
     planar: &Planar,
+    states: &mut BondStates,
     least: &Answer,
     known: &[Known],
 ) -> Result<CostList, NoMemory>
     requires sum { weight planar.now.instance ≤ sum_limit }
+    requires states { states.old ≡ planar.now }
     requires ground_state { IsGroundState planar.now.instance least.now.spins }
     requires energy { least.now.energy ≡ energy planar.now.instance least.now.spins }
     requires known { AreKnown planar.now.instance least.now.spins known.now }
@@ -137,7 +157,7 @@ fn listed(
 {
     let mut costs = CostList::new(alloc);
     for bond in 0..planar.instance().bonds().len() {
-        costs.push(cost(alloc, planar, least, known, bond as u32)?)?;
+        costs.push(cost(alloc, planar, states, least, known, bond as u32)?)?;
     }
     Ok(costs)
 }

@@ -7,6 +7,7 @@ ghost use Rattle.sg_model.specs.Energy.{energy, product, weight};
 ghost use Rattle.sg_bonds.specs.Cost.{IsLeastWith};
 
 use super::NoMemory;
+use super::states::BondStates;
 use sg_ground::solve;
 use sg_model::{Bond, Spins};
 use sg_planar::Planar;
@@ -14,7 +15,7 @@ use std::alloc::Global;
 
 /// Spins and their energy, the least with some product at some bond.
 #[derive(Drop)]
-pub(crate) struct LeastState {
+pub struct LeastState {
     pub energy: i64,
     pub spins: Spins,
 }
@@ -32,8 +33,33 @@ pub(crate) fn other_product(spins: &Spins, bond: &Bond) -> i64
     }
 }
 
-/// An assignment of the least energy among those with this product at the bond.
-pub(crate) fn least_with(
+/// An assignment of the least energy among those with this product at the bond: that which repairs
+/// prove, and else a ground state of a copy that forces it.
+pub(crate) fn state_with(
+    alloc: Global,
+    planar: &Planar,
+    states: &mut BondStates,
+    bond: u32,
+    wanted: i64,
+) -> Result<LeastState, NoMemory>
+    requires sum { weight planar.now.instance ≤ sum_limit }
+    requires states { states.old ≡ planar.now }
+    requires bond_in { bond < bond_count planar.now.instance }
+    requires up_or_down { IsUpOrDown wanted }
+    ensures states { states.new ≡ planar.now }
+    ensures least { IfOk result (λ t. IsLeastWith planar.now.instance bond wanted t.energy) }
+    ensures assignment { IfOk result (λ t. IsAssignment planar.now.instance t.spins) }
+    ensures product { IfOk result (λ t. product t.spins (bond_at planar.now.instance bond) ≡ wanted) }
+    ensures energy { IfOk result (λ t. t.energy ≡ energy planar.now.instance t.spins) }
+{
+    match states.least_with(alloc, bond, wanted)? {
+        Some(state) => Ok(state),
+        None => least_with(alloc, planar, bond, wanted),
+    }
+}
+
+// An assignment of the least energy among those with this product at the bond, by a new ground state.
+fn least_with(
     alloc: Global,
     planar: &Planar,
     bond: u32,

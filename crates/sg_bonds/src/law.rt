@@ -1,4 +1,6 @@
-ghost use Rattle.std.specs.Prelude.{◌≡◌, ◌<◌, ◌+ℤ◌, ◌-ℤ◌, ◌*ℤ◌, ℕ, ℤ, List, pos};
+ghost use Rattle.std.specs.Prelude.{◌≡◌, ◌<◌, ◌+ℤ◌, ◌-ℤ◌, ◌*ℤ◌, ℕ, ℤ, Bool, false, List, pos};
+ghost use Rattle.sg_sums.specs.Sets.{holds};
+ghost use Rattle.sg_graph.specs.Web.{Graph, edge_count};
 ghost use Rattle.sg_model.specs.Ising.{Ising, bond_at, bond_count};
 ghost use Rattle.sg_model.specs.WellFormed.{IsInstance};
 ghost use Rattle.sg_model.specs.Spins.{IsUpOrDown, spin};
@@ -6,6 +8,7 @@ ghost use Rattle.sg_model.specs.Energy.{IsGroundState, IsLeastEnergy, product, w
 ghost use Rattle.sg_model.specs.Changes.{with_coupling};
 ghost use Rattle.sg_bonds.specs.Cost.{IsLeastWith};
 ghost use Rattle.sg_bonds.specs.Cluster.{IsCluster};
+ghost use Rattle.sg_bonds.specs.JoinsWith.{IsLeastBeside, IsLeastJoinWith, turned_at, with_edge};
 
 /// The law on which `costs` rests, on every instance, planar or not: with the coupling `p m` at
 /// bond `k`, where `m` is larger than the sum of all sizes, every ground state has the product `p`
@@ -29,4 +32,17 @@ pub fn rigid_clusters_agree()
     ensures { (inst : Ising) (i j k : ℕ) → IsInstance inst → IsCluster inst i k → IsCluster inst j k →
         (s t : List ℤ) → IsGroundState inst s → IsGroundState inst t →
         (spin s i *ℤ spin s j) ≡ (spin t i *ℤ spin t j) }
+{}
+
+/// The law on which repairs rest, on every web: let a join that has not edge `k` be least where that
+/// edge weighs whatever it may, and the edge's two ends are terminals just where they are none, if the
+/// edge is to be had. Then with the edge, or as it is, it weighs least among the joins that have the
+/// edge, or that do not.
+///
+/// A join with the edge is, without it, a join of the terminals that are turned at its ends, and of
+/// the same weight in both webs but for the edge. It computes nothing.
+pub fn least_joins_with()
+    ensures { (g : Graph) (terminals edges : List ℕ) (k : ℕ) (has : Bool) → k < edge_count g →
+        holds edges k ≡ false → IsLeastBeside g (turned_at g terminals k has) k edges →
+        IsLeastJoinWith g terminals k has (with_edge g edges k has) }
 {}

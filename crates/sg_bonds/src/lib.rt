@@ -6,28 +6,35 @@
 //! other in the same way in every ground state (Barahona, Maynard, Rammal and Uhry 1982). Spins that
 //! rigid bonds join form clusters, which a lattice with many ground states keeps in all of them.
 //!
-//! For the next engineer: `specs/Cost.antt` and `specs/Cluster.antt` say what is computed. `costs` rests
-//! on the law `forced_minimum` and on the contract of `solve`, and on nothing of its body. It takes each
-//! component by itself (`components`): `proofs/PartCosts.antt` says why a bond costs in the whole what it
-//! costs there. `clusters` asks only whether a cost is above 0 (`telling`): the loops of a proof tell it
-//! of each bond that they leave room at (`room`), and `proofs/RigidBounds.antt` says why.
+//! For the next engineer: `specs/Cost.antt` and `specs/Cluster.antt` say what is computed. `costs` takes
+//! each component by itself (`components`): `proofs/PartCosts.antt` says why a bond costs in the whole
+//! what it costs there. The state that turns a bond comes from `BondStates` (`states`): regions are
+//! repaired on the dual, and what they propose is judged (`joins`), by the law `least_joins_with`
+//! (`proofs/EdgeJoins.antt`) and the contract of `sg_nest::Judge`. Where that proves nothing, `forcing`
+//! solves a copy that forces the bond, by the law `forced_minimum`. `clusters` asks only whether a cost
+//! is above 0 (`telling`): the loops of a proof tell it of each bond that they leave room at (`room`), and
+//! `proofs/RigidBounds.antt` says why.
 #![tactic(auto)]
 
 mod breaking;
 mod components;
 mod forcing;
+mod joins;
 mod known;
 mod law;
 mod naming;
 mod paths;
 mod room;
+mod states;
 mod telling;
 
 pub use breaking::rigid;
 pub use components::costs;
-pub use law::{forced_minimum, rigid_clusters_agree};
+pub use forcing::LeastState;
+pub use law::{forced_minimum, least_joins_with, rigid_clusters_agree};
 pub use naming::{clusters, clusters_by};
 use sg_list::Numbers;
+pub use states::BondStates;
 use std::alloc::AllocError;
 
 /// The allocator had no memory left.

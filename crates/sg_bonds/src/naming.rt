@@ -9,6 +9,7 @@ ghost use Rattle.sg_bonds.specs.Naming.{ShowsRigid};
 
 use super::NoMemory;
 use super::breaking::rigid;
+use super::components::costs;
 use super::telling::rigid_marks;
 use sg_model::{ClusterList, Instance};
 use sg_planar::Planar;
@@ -16,14 +17,19 @@ use sg_walk::names;
 use std::alloc::Global;
 
 /// For each spin the least spin of its cluster, those that it reaches over rigid bonds, itself
-/// among them. Which bonds are rigid is found without their costs. The only error is want of memory.
+/// among them. Which bonds of a connected instance are rigid is found without their costs. The only
+/// error is want of memory.
 ///
-/// Cost: at most one ground state for each bond and one more, in practice far fewer; beside them a
-/// walk over the bonds for each bond.
+/// Cost: one ground state, and at most a repair for each bond, in practice far fewer; beside them a
+/// walk over the bonds for each bond. Of several components that of `costs`.
 pub fn clusters(alloc: Global, planar: &Planar) -> Result<ClusterList, NoMemory>
     requires sum { weight planar.now.instance ≤ sum_limit }
     ensures { IfOk result (AreClusters planar.now.instance) }
 {
+    if !planar.is_connected() {
+        let costs = costs(alloc, planar)?;
+        return clusters_by(alloc, planar.instance(), costs.as_slice());
+    }
     let set = rigid_marks(alloc, planar)?;
     name_clusters(alloc, planar.instance(), &set)
 }

@@ -18,6 +18,7 @@ use super::breaking::turn;
 use super::known::{Turned, is_turned};
 use super::paths::joins;
 use super::room::{has_room, loads};
+use super::states::BondStates;
 use sg_ground::{Answer, solve};
 use sg_model::{Bond, Instance, Spins};
 use sg_planar::Planar;
@@ -46,17 +47,20 @@ pub(crate) fn rigid_marks(alloc: Global, planar: &Planar) -> Result<Vec<bool>, N
 {
     let least = solve(alloc, planar)?;
     let mut told = first_told(alloc, planar.instance(), &least)?;
-    gather_rigid(alloc, planar, &least, &mut told)
+    let mut states = BondStates::new(alloc, planar)?;
+    gather_rigid(alloc, planar, &mut states, &least, &mut told)
 }
 
 // Whether each bond is rigid, one by one.
 fn gather_rigid(
     alloc: Global,
     planar: &Planar,
+    states: &mut BondStates,
     least: &Answer,
     told: &mut [Told],
 ) -> Result<Vec<bool>, NoMemory>
     requires sum { weight planar.now.instance ≤ sum_limit }
+    requires states { states.old ≡ planar.now }
     requires ground_state { IsGroundState planar.now.instance least.now.spins }
     requires energy { least.now.energy ≡ energy planar.now.instance least.now.spins }
     requires told { AreTold planar.now.instance told.old }
@@ -65,7 +69,7 @@ fn gather_rigid(
 {
     let mut set = Vec::new(alloc);
     for bond in 0..planar.instance().bonds().len() {
-        set.push(is_rigid(alloc, planar, least, bond as u32, told)?)?;
+        set.push(is_rigid(alloc, planar, states, least, bond as u32, told)?)?;
     }
     Ok(set)
 }
@@ -99,22 +103,25 @@ fn told_by(load: u64, bond: &Bond) -> Told
 fn is_rigid(
     alloc: Global,
     planar: &Planar,
+    states: &mut BondStates,
     least: &Answer,
     bond: u32,
     told: &mut [Told],
 ) -> Result<bool, NoMemory>
     requires sum { weight planar.now.instance ≤ sum_limit }
+    requires states { states.old ≡ planar.now }
     requires bond_in { bond < bond_count planar.now.instance }
     requires ground_state { IsGroundState planar.now.instance least.now.spins }
     requires energy { least.now.energy ≡ energy planar.now.instance least.now.spins }
     requires told { AreTold planar.now.instance told.old }
+    ensures states { OnOk result (states.new ≡ planar.now) }
     ensures rigid { IfOk result (λ found. (found ≡ true) ↔ IsRigid planar.now.instance bond) }
     ensures told { OnOk result (AreTold planar.now.instance told.new) }
 {
     match told[bond as usize] {
         Told::Rigid => Ok(true),
         Told::Free => Ok(false),
-        Told::Unknown => find(alloc, planar, least, bond, told),
+        Told::Unknown => find(alloc, planar, states, least, bond, told),
     }
 }
 
@@ -123,15 +130,18 @@ fn is_rigid(
 fn find(
     alloc: Global,
     planar: &Planar,
+    states: &mut BondStates,
     least: &Answer,
     bond: u32,
     told: &mut [Told],
 ) -> Result<bool, NoMemory>
     requires sum { weight planar.now.instance ≤ sum_limit }
+    requires states { states.old ≡ planar.now }
     requires bond_in { bond < bond_count planar.now.instance }
     requires ground_state { IsGroundState planar.now.instance least.now.spins }
     requires energy { least.now.energy ≡ energy planar.now.instance least.now.spins }
     requires told { AreTold planar.now.instance told.old }
+    ensures states { OnOk result (states.new ≡ planar.now) }
     ensures rigid { IfOk result (λ found. (found ≡ true) ↔ IsRigid planar.now.instance bond) }
     ensures told { OnOk result (AreTold planar.now.instance told.new) }
 {
@@ -140,7 +150,7 @@ fn find(
         told[bond as usize] = Told::Rigid;
         return Ok(true);
     }
-    let turned = turn(alloc, planar, least, bond)?;
+    let turned = turn(alloc, planar, states, least, bond)?;
     if turned.cost > 0 {
         told[bond as usize] = Told::Rigid;
         return Ok(true);

@@ -12,8 +12,9 @@ loop-bond-preserved c =
     let pushed : c.push.new.self ≡ c.loop-bond.costs ++ c.in_ok-cost.field-0 ∷ [] = c.in_ok-push.ensures.ok
     ∙ ap (λ x. c.loop-bond.costs ++ x ∷ []) (to_z-of_z w64 c.in_ok-cost.field-0 fits) in
     record {
+      states = c.in_ok-cost.ensures.states;
       count = ap length pushed ∙ length_push c.loop-bond.costs c.in_ok-cost.field-0 ∙ ap (λ n. n + 1) c.loop-bond.invariant.count;
       each = λ k l. subst (λ costs. IsCost c.args.planar.now.instance k (get_or costs k (pos 0))) (sym pushed)
           (costs_more c.args.planar.now.instance c.loop-bond.costs c.in_ok-cost.field-0 c.loop-bond.bond c.loop-bond.invariant.count
-          c.loop-bond.invariant.each c.in_ok-cost.ensures k l);
+          c.loop-bond.invariant.each c.in_ok-cost.ensures.cost k l);
     }

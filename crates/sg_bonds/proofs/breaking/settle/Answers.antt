@@ -5,8 +5,8 @@ use Rattle.sg_bonds.specs.declared.known.Known.TheVariants.{AtMost, Exact}
 use Rattle.sg_bonds.proofs.PathBounds.{known_more, met_cost}
 use Rattle.sg_bonds.proofs.breaking.settle.Goals as goal
 
-pub returns-in-Some : goal.returns-in-Some
-returns-in-Some c =
+pub returns-in-Some-clause-known : goal.returns-in-Some-clause-known
+returns-in-Some-clause-known c =
     let good = c.instance.ensures.planar.instance in
     let same = c.instance.ensures.value in
     let fits = to_z-of_z {w = w64} {z = c.in-Some.cost} (search rules) in
@@ -20,8 +20,8 @@ returns-in-Some c =
     (met_cost c.args.planar.now.instance good c.args.least.now.spins c.requires.ground_state c.args.known.now c.requires.known c.args.bond
     c.requires.bond_in c.in-Some.cost bound met))
 
-pub returns-in_ok-turned-in-None : goal.returns-in_ok-turned-in-None
-returns-in_ok-turned-in-None c =
+pub returns-in_ok-turned-in-None-clause-known : goal.returns-in_ok-turned-in-None-clause-known
+returns-in_ok-turned-in-None-clause-known c =
     let good = c.instance.ensures.planar.instance in
     let same = c.instance-in-None.ensures.value in
     let fits = to_z-of_z {w = w64} {z = c.in_ok-turned-in-None.turned.cost} (search rules) in

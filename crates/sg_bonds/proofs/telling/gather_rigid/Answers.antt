@@ -7,6 +7,7 @@ use Rattle.sg_bonds.proofs.telling.gather_rigid.Goals as goal
 
 pub loop-bond-preserved : goal.loop-bond-preserved
 loop-bond-preserved c = record {
+  states = c.in_ok-is_rigid.ensures.states;
   told = c.in_ok-is_rigid.ensures.told;
   count = ap length c.in_ok-push.ensures.items ∙ length_push c.loop-bond.set.items c.in_ok-is_rigid.field-0 ∙ ap (λ n. n + 1) c.loop-bond.invariant.count;
   each = λ k l. subst (λ (set : List Bool). (has set k ≡ true) ↔ IsRigid c.args.planar.now.instance k) (sym c.in_ok-push.ensures.items)

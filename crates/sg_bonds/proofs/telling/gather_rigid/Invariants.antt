@@ -6,6 +6,7 @@ use Rattle.sg_bonds.proofs.telling.gather_rigid.Given as goal
 
 abbrev pub invariant-loop-bond : goal.invariant-loop-bond
 invariant-loop-bond l = record {
+  states : l.states ≡ l.planar;
   told : AreTold l.planar.instance l.told;
   count : length l.set.items ≡ l.bond;
   each : (k : ℕ) → k < l.bond → (has l.set.items k ≡ true) ↔ IsRigid l.planar.instance k;

@@ -1,0 +1,208 @@
+// Least joins among those that have an edge, or that do not: proposed by repairs, and judged.
+ghost use Rattle.std.specs.Prelude.{◌≡◌, ◌<◌, ◌≤◌, ◌^◌, ◌&&◌, ℕ, false, length, All, IfOk, IfSome, IsTrue};
+ghost use Rattle.std.specs.List.Sorted.{IsStrictlyIncreasing};
+ghost use Rattle.sg_limits.specs.Limits.{forced_limit};
+ghost use Rattle.sg_sums.specs.Ends.{is_end};
+ghost use Rattle.sg_sums.specs.Parity.{xor};
+ghost use Rattle.sg_sums.specs.Sets.{holds, is_marked};
+ghost use Rattle.sg_graph.specs.Join.{AreTerminals, IsLeastJoin};
+ghost use Rattle.sg_graph.specs.Web.{edge_at, edge_count, total_weight};
+ghost use Rattle.sg_bonds.specs.JoinsWith.{IsLeastBeside, IsLeastJoinWith, turned_at};
+
+use super::NoMemory;
+use sg_graph::{EdgeList, Terminals, Web, turn_ends};
+use sg_nest::{Judge, Nest};
+use sg_regions::{Repairs, propose_nest};
+use sg_sums::{all_below, flip, places};
+use std::alloc::Global;
+
+/// A web and its terminals, with a judge of joins.
+#[derive(Drop)]
+pub(crate) struct Court {
+    pub web: Web,
+    pub terminals: Terminals,
+    pub judge: Judge,
+}
+
+/// Finished regions, to be repaired for one edge after another, and a nest for the join that they
+/// prove. Nothing is promised of either.
+#[derive(Drop)]
+pub(crate) struct Proposals {
+    repairs: Repairs,
+    nest: Nest,
+}
+
+impl Proposals {
+    /// What the web's regions give, if they give anything.
+    pub(crate) fn new(
+        alloc: Global,
+        web: &Web,
+        terminals: &Terminals,
+    ) -> Result<Option<Self>, NoMemory> {
+        let Some(repairs) = Repairs::new(alloc, web, terminals)? else {
+            return Ok(None);
+        };
+        let Some(proposal) = propose_nest(alloc, web, terminals)? else {
+            return Ok(None);
+        };
+        Ok(Some(Proposals {
+            repairs,
+            nest: proposal.nest,
+        }))
+    }
+}
+
+/// A least join among those that have the edge, or that do not, as is said; nothing where what is
+/// proposed does not prove one. The web is left as it was.
+///
+/// The finished regions prove a least join. If it has the edge as is said, it is the answer. Else the
+/// regions are repaired for a web without the edge, and what they prove there is the answer, with the
+/// edge or as it is. An edge of one node leaves them as they are.
+pub(crate) fn join_with(
+    alloc: Global,
+    court: &mut Court,
+    proposals: &mut Proposals,
+    edge: u32,
+    has: bool,
+) -> Result<Option<EdgeList>, NoMemory>
+    requires edge { edge < edge_count court.old.web }
+    requires terminals { AreTerminals court.old.web court.old.terminals }
+    requires light { total_weight court.old.web ≤ forced_limit }
+    ensures web { court.new.web ≡ court.old.web }
+    ensures terminals { court.new.terminals ≡ court.old.terminals }
+    ensures join { IfOk result (λ found. IfSome found
+        (IsLeastJoinWith court.old.web court.old.terminals edge has)) }
+{
+    let mut marks = vec![in alloc; false; court.web.edges().len()]?;
+    turn_marks(&mut marks, proposals.repairs.join().as_slice());
+    if marks[edge as usize] == has {
+        return whole_join(alloc, court, &proposals.nest, &marks);
+    }
+    let Some(turn) = proposals.repairs.turn(edge)? else {
+        return turned_join(alloc, court, &proposals.nest, &mut marks, edge, has);
+    };
+    turn_marks(&mut marks, turn.walk.as_slice());
+    turned_join(alloc, court, &turn.nest, &mut marks, edge, has)
+}
+
+// Turns the marks at the places of the list, if it names no others.
+fn turn_marks(marks: &mut [bool], list: &[u32])
+    ensures { length marks.new ≡ length marks.old }
+{
+    if all_below(list, marks.len()) {
+        flip(marks, list);
+    }
+}
+
+// The marked edges, if the nest proves that they are a least join.
+fn whole_join(
+    alloc: Global,
+    court: &mut Court,
+    nest: &Nest,
+    marks: &[bool],
+) -> Result<Option<EdgeList>, NoMemory>
+    requires count { length marks.now ≡ edge_count court.old.web }
+    requires few { edge_count court.old.web ≤ 2 ^ 24 }
+    requires terminals { AreTerminals court.old.web court.old.terminals }
+    ensures web { court.new.web ≡ court.old.web }
+    ensures terminals { court.new.terminals ≡ court.old.terminals }
+    ensures join { IfOk result (λ found. IfSome found (λ edges. (k : ℕ) → k < edge_count court.old.web →
+        IsLeastJoinWith court.old.web court.old.terminals k (is_marked marks.now k) edges)) }
+{
+    let edges = places(alloc, marks)?;
+    if !court
+        .judge
+        .proves(&court.web, &court.terminals, &edges, nest)?
+    {
+        return Ok(None);
+    }
+    Ok(Some(edges))
+}
+
+// The marked edges, with the edge as is said, if the nest proves them least without it.
+fn turned_join(
+    alloc: Global,
+    court: &mut Court,
+    nest: &Nest,
+    marks: &mut [bool],
+    edge: u32,
+    has: bool,
+) -> Result<Option<EdgeList>, NoMemory>
+    requires edge { edge < edge_count court.old.web }
+    requires count { length marks.old ≡ edge_count court.old.web }
+    requires few { edge_count court.old.web ≤ 2 ^ 24 }
+    requires terminals { AreTerminals court.old.web court.old.terminals }
+    requires light { total_weight court.old.web ≤ forced_limit }
+    ensures web { court.new.web ≡ court.old.web }
+    ensures terminals { court.new.terminals ≡ court.old.terminals }
+    ensures join { IfOk result (λ found. IfSome found
+        (IsLeastJoinWith court.old.web court.old.terminals edge has)) }
+{
+    marks[edge as usize] = false;
+    let rest = places(alloc, marks)?;
+    let ends = terminals_turned(alloc, &court.web, &court.terminals, edge, has)?;
+    if !proves_beside(&mut court.web, &mut court.judge, edge, &ends, &rest, nest)? {
+        return Ok(None);
+    }
+    marks[edge as usize] = has;
+    Ok(Some(places(alloc, marks)?))
+}
+
+// The terminals, turned at the ends of the edge if it is to be had.
+fn terminals_turned(
+    alloc: Global,
+    web: &Web,
+    terminals: &Terminals,
+    edge: u32,
+    has: bool,
+) -> Result<Terminals, NoMemory>
+    requires edge { edge < edge_count web.now }
+    requires terminals { AreTerminals web.now terminals.now }
+    ensures { IfOk result (λ turned. turned ≡ turned_at web.now terminals.now edge has) }
+{
+    let mut marks = vec![in alloc; false; web.nodes() as usize]?;
+    turn_terminals(web, terminals.as_slice(), edge, has, &mut marks);
+    places(alloc, &marks)
+}
+
+// Marks the terminals, from marks of which none is set, and turns those at the ends of the edge if it is
+// to be had.
+fn turn_terminals(web: &Web, terminals: &[u32], edge: u32, has: bool, marks: &mut [bool])
+    requires edge { edge < edge_count web.now }
+    requires terminals { AreTerminals web.now terminals.now }
+    requires nodes { length marks.old ≡ web.now.nodes }
+    requires bare { (x : ℕ) → is_marked marks.old x ≡ false }
+    ensures count { length marks.new ≡ length marks.old }
+    ensures turned { (x : ℕ) → x < web.now.nodes → is_marked marks.new x
+        ≡ xor (holds terminals.now x) (has && is_end (edge_at web.now edge).a (edge_at web.now edge).b x) }
+{
+    flip(marks, terminals);
+    if has {
+        turn_ends(web, &[edge], marks);
+    }
+}
+
+// Whether the edges are proved to be a least join of the terminals in the web where the edge weighs as
+// much as all of them: so much that no height climbs past it. The web is left as it was.
+fn proves_beside(
+    web: &mut Web,
+    judge: &mut Judge,
+    edge: u32,
+    terminals: &Terminals,
+    edges: &EdgeList,
+    nest: &Nest,
+) -> Result<bool, NoMemory>
+    requires edge { edge < edge_count web.old }
+    requires terminals { AreTerminals web.old terminals.now }
+    requires rising { IsStrictlyIncreasing edges.now }
+    requires below { All (λ e. e < edge_count web.old) edges.now }
+    requires light { total_weight web.old ≤ forced_limit }
+    ensures web { web.new ≡ web.old }
+    ensures least { IfOk result (λ yes. IsTrue yes → IsLeastBeside web.old terminals.now edge edges.now) }
+{
+    let far = web.weight(edges.as_slice()) as i64;
+    let weight = web.set_weight(edge, far);
+    let verdict = judge.proves(web, terminals, edges, nest);
+    web.set_weight(edge, weight);
+    verdict
+}
