@@ -64,11 +64,11 @@ def fitted(rows):
     return slope, spread**-0.5, mean_y - slope * mean_x
 
 
-def style(axes, x, y):
+def style(axes, x, y, legend="best"):
     axes.set_xlabel(x)
     axes.set_ylabel(y)
     axes.spines[["top", "right"]].set_visible(False)
-    axes.legend(frameon=False, fontsize=8)
+    axes.legend(frameon=False, fontsize=8, loc=legend)
 
 
 def saved(figure, name):
@@ -124,7 +124,7 @@ def times_picture(times):
     sizes = [row["size"] for row in times]
     axes.set_xticks(sizes, [str(size) for size in sizes])
     axes.minorticks_off()
-    style(axes, "length of the lattice", "processor seconds for a ground state")
+    style(axes, "length of the lattice", "processor seconds for a ground state", "center right")
     saved(figure, "times.svg")
 
 

@@ -55,7 +55,8 @@ def ground_of(given: Any, loops: bool) -> Tuple[int, Any, Loops]:
     if not loops:
         return _ground(given, (0, 0))[0]
     bonds = min(len(given.couplings), MOST_BONDS)
-    wanted = (5 * bonds // 2 + 1, 12 * bonds + 64)
+    # Of strips the loops were seen to take 80 bonds for each bond. Room that is not written costs nothing.
+    wanted = (5 * bonds // 2 + 1, 128 * bonds + 64)
     found, needed = _ground(given, wanted)
     if needed[0] > wanted[0] or needed[1] > wanted[1]:
         found, needed = _ground(given, needed)
