@@ -58,6 +58,13 @@ _MEMBERS = {
     11: _Reason("", "start {1} of the loops is wrong", "first 0, never falling, at last all bonds"),
 }
 
+# What a weighted graph has in place of spins, bonds and couplings.
+_OF_GRAPHS = {
+    7: ("there are {0} nodes", "at most 2048"),
+    8: ("there are {0} edges or more", "at most 6144"),
+    13: ("the weights of all edges sum to {0}", "at most 2**44 = 17592186044416"),
+}
+
 _CUTS = {
     4: "cut {0} has a weight below 1, or an edge that is none or stands there twice",
     5: "cut {0} is not all edges of a set with an odd number of terminals",
@@ -106,6 +113,12 @@ def _reason_of(number: int, kept: Sequence[int]) -> _Reason:
     if number == 19 and kept and kept[0] in _MEMBERS:
         reason = _MEMBERS[kept[0]]._replace(name=reason.name)
     return reason
+
+
+def words_of_graphs(number: int, kept: Sequence[int]) -> Optional[Tuple[str, str]]:
+    """What a refusal of a weighted graph says, and what is allowed, where it is not as of an instance."""
+    sentence, allowed = _OF_GRAPHS.get(number, ("", ""))
+    return (_filled(sentence, kept), allowed) if sentence else None
 
 
 def verdict_sentence(number: int, kept: Sequence[int], of: str = "loops") -> str:
