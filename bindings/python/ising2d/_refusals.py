@@ -17,8 +17,8 @@ _SHORT = "whole numbers from 0 to 4294967295"
 _REASONS = {
     1: _Reason("TooLong", "the input is too long", "at most {0} bytes"),
     2: _Reason("Unended", "the records end before the awaited end", "a last record that says: end"),
-    3: _Reason("BadNumber", "field {1} of record {0} cannot stand there", "a number in the range of its place"),
-    4: _Reason("UnknownKind", "the first field of record {0} cannot stand there", "a word of docs/FORMATS.md"),
+    3: _Reason("BadNumber", "field {1} of record {0} cannot stand there", "a number in its range"),
+    4: _Reason("UnknownKind", "the first field of record {0} cannot stand there", "a word of FORMATS.md"),
     5: _Reason(
         "BadShape",
         "record {0} has a wrong number of fields, or comes a second time",
@@ -32,7 +32,9 @@ _REASONS = {
     11: _Reason("BadSeam", "{0} in the seam is no bond, or stands there twice", "bonds, each once"),
     12: _Reason("Trailing", "record {0} stands behind the end", "nothing"),
     13: _Reason("SumTooLarge", "the sizes of the couplings sum to {0}", "at most 2**44 = 17592186044416"),
-    15: _Reason("NotPlanar", "the graph is not drawn in the plane: its Euler number is {0}", "2, as on a sphere"),
+    15: _Reason(
+        "NotPlanar", "the graph is not drawn in the plane: its Euler number is {0}", "2, as on a sphere"
+    ),
     16: _Reason("NoSeam", "a wall is asked for, and the seam is empty", "a cylinder, or a seam of bonds"),
     17: _Reason("UnknownLaw", "no law of disorder has this name", "one, alternate, pm, uniform"),
     18: _Reason("BadJson", "the input is no JSON", "one object, and nothing behind it"),
