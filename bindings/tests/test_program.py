@@ -79,6 +79,10 @@ class Commands(unittest.TestCase):
             [line for line in found.stdout.decode().splitlines() if line[0] == "#"],
             [f"# {name}" for name in files],
         )
+        with_one_missing = program("energy", files[0], "/nowhere", files[0])
+        self.assertEqual(with_one_missing.returncode, 4)
+        self.assertEqual(with_one_missing.stdout.count(b"# "), 2)
+        self.assertIn(b"/nowhere", with_one_missing.stderr)
 
     def test_draws(self):
         self.assertEqual(
@@ -227,6 +231,9 @@ class Refusals(unittest.TestCase):
             "line 2, field 4: '-5' cannot stand there (allowed: a weight from 0",
         ),
         ("tjoin", "graph,2\nedge,0,1,5\nterm,0\nend\n", "line 3: there are 1 terminals"),
+        ("tjoin", "graph,3000\nend\n", "there are 3000 nodes (allowed: at most 2048)"),
+        ("tjoin", "graph,2\nedge,0,1,5\nterm,0,7\nend\n", "line 3: terminal 7 is no node"),
+        ("tjoin", "graph,3\nedge,0,1,5\nend\n", "no edges lead from node 0 to node 2 (allowed: one component)"),
         ("postman", "graph,2\nterm,0\nend\n", "line 2: 'term' cannot stand there (allowed: edge, end"),
         ("energy", b"\xff\xfes\x00q\x00", "line 1: "),
     )

@@ -353,8 +353,8 @@ class Join(Answer):
 
     def check(self) -> Verdict:
         """The verdict on this proof, by a judge in plain Python, which trusts no solver."""
-        finding = _known(self.network, "network").judge(self.terminals).on_join(self.weight, self.edges, self.cuts)
-        return Verdict(*finding, of="join")
+        judge = _known(self.network, "network").judge(self.terminals)
+        return Verdict(*judge.on_join(self.weight, self.edges, self.cuts), of="join")
 
 
 class Step(NamedTuple):

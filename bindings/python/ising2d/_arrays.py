@@ -5,7 +5,10 @@ import importlib
 import sys
 from array import array
 from collections.abc import Mapping, Set
-from typing import Any, List, Tuple
+from typing import Any, List, SupportsIndex, Tuple
+
+# A whole number by its own account: one of Python, or of numpy.
+Whole = SupportsIndex
 
 numpy: Any
 try:

@@ -3,10 +3,11 @@
 from typing import Any, List, Literal, Union, overload
 
 from ._answers import Clusters, Cut, DomainWall, Ground, Report, Turn, Verdict, Wall
+from ._arrays import Whole
 from ._lattices import Kind, Lattice
 
 
-def ground(kind: Kind, rows: int, cols: int, couplings: Any, loops: bool = True) -> Ground:
+def ground(kind: Kind, rows: Whole, cols: Whole, couplings: Any, loops: bool = True) -> Ground:
     """A ground state of a lattice, and the frustrated loops that prove it.
 
     ``couplings`` has one whole number for each bond, of shape ``(bonds,)``, in any unit. The spins are
@@ -24,21 +25,23 @@ def ground(kind: Kind, rows: int, cols: int, couplings: Any, loops: bool = True)
 
 
 @overload
-def wall(kind: Kind, rows: int, cols: int, couplings: Any, states: Literal[False] = False) -> Wall:
+def wall(kind: Kind, rows: Whole, cols: Whole, couplings: Any, states: Literal[False] = False) -> Wall:
     ...
 
 
 @overload
-def wall(kind: Kind, rows: int, cols: int, couplings: Any, states: Literal[True]) -> DomainWall:
+def wall(kind: Kind, rows: Whole, cols: Whole, couplings: Any, states: Literal[True]) -> DomainWall:
     ...
 
 
 @overload
-def wall(kind: Kind, rows: int, cols: int, couplings: Any, states: bool) -> Union[Wall, DomainWall]:
+def wall(kind: Kind, rows: Whole, cols: Whole, couplings: Any, states: bool) -> Union[Wall, DomainWall]:
     ...
 
 
-def wall(kind: Kind, rows: int, cols: int, couplings: Any, states: bool = False) -> Union[Wall, DomainWall]:
+def wall(
+    kind: Kind, rows: Whole, cols: Whole, couplings: Any, states: bool = False
+) -> Union[Wall, DomainWall]:
     """The energy of the domain wall along a cylinder: what its least energy gains where the signs of the
     couplings from the last column to the first are changed. With ``states=True`` also both ground
     states with their proofs, and the bonds between them. The other kinds are refused with the number 16.
@@ -49,7 +52,7 @@ def wall(kind: Kind, rows: int, cols: int, couplings: Any, states: bool = False)
     return Lattice(kind, rows, cols, couplings).wall(states)
 
 
-def costs(kind: Kind, rows: int, cols: int, couplings: Any) -> Any:
+def costs(kind: Kind, rows: Whole, cols: Whole, couplings: Any) -> Any:
     """What it costs to turn each bond, in the unit of the couplings: an array of shape ``(bonds,)`` with
     entries of 64 bits. A bond is rigid where it costs more than 0. ``bonds`` is another name of it.
 
@@ -59,7 +62,7 @@ def costs(kind: Kind, rows: int, cols: int, couplings: Any) -> Any:
     return Lattice(kind, rows, cols, couplings).costs()
 
 
-def clusters(kind: Kind, rows: int, cols: int, couplings: Any) -> Clusters:
+def clusters(kind: Kind, rows: Whole, cols: Whole, couplings: Any) -> Clusters:
     """The rigid clusters: for each spin the least spin of its cluster, and the sizes of the clusters.
 
     >>> clusters("square", 1, 3, [5, 0]).sizes
@@ -68,7 +71,7 @@ def clusters(kind: Kind, rows: int, cols: int, couplings: Any) -> Clusters:
     return Lattice(kind, rows, cols, couplings).clusters()
 
 
-def ranges(kind: Kind, rows: int, cols: int, couplings: Any) -> List[Turn]:
+def ranges(kind: Kind, rows: Whole, cols: Whole, couplings: Any) -> List[Turn]:
     """For each bond the coupling at which the ground states turn, and the side of it on which its own
     coupling lies.
 
@@ -78,7 +81,7 @@ def ranges(kind: Kind, rows: int, cols: int, couplings: Any) -> List[Turn]:
     return Lattice(kind, rows, cols, couplings).ranges()
 
 
-def maxcut(kind: Kind, rows: int, cols: int, couplings: Any) -> Cut:
+def maxcut(kind: Kind, rows: Whole, cols: Whole, couplings: Any) -> Cut:
     """The largest cut of a lattice with its couplings as weights, and the loops that prove it.
 
     >>> maxcut("square", 1, 2, [5]).weight
@@ -87,7 +90,7 @@ def maxcut(kind: Kind, rows: int, cols: int, couplings: Any) -> Cut:
     return Lattice(kind, rows, cols, couplings).maxcut()
 
 
-def report(kind: Kind, rows: int, cols: int, couplings: Any) -> Report:
+def report(kind: Kind, rows: Whole, cols: Whole, couplings: Any) -> Report:
     """All numbers of a lattice at once; takes little longer than the costs alone.
 
     >>> report("square", 1, 2, [5]).energy
@@ -96,7 +99,9 @@ def report(kind: Kind, rows: int, cols: int, couplings: Any) -> Report:
     return Lattice(kind, rows, cols, couplings).report()
 
 
-def check(kind: Kind, rows: int, cols: int, couplings: Any, energy: int, spins: Any, loops: Any) -> Verdict:
+def check(
+    kind: Kind, rows: Whole, cols: Whole, couplings: Any, energy: Whole, spins: Any, loops: Any
+) -> Verdict:
     """The verdict on a proof: whether the spins have this energy, and the loops show that no assignment
     has less. It trusts no solver.
 

@@ -3,7 +3,7 @@
 from typing import Any, List, Optional, Sequence
 
 from ._answers import Ensemble, Sample, Width
-from ._arrays import as_array, shortened, whole
+from ._arrays import Whole, as_array, shortened, whole
 from ._lattices import KINDS, Lattice
 from ._runs import answered, numbers, one_of, records_in
 
@@ -73,7 +73,7 @@ def _law(law: Any) -> _Law:
     return _Law(law)
 
 
-def draw(law: str, seed: int, kind: str, rows: int, cols: int) -> Lattice:
+def draw(law: str, seed: Whole, kind: str, rows: Whole, cols: Whole) -> Lattice:
     """A lattice whose couplings are the first draws of the law after the seed, bond by bond, the same on
     every machine. ``law`` is "one", "alternate", "pm" or "uniform".
 
@@ -84,7 +84,7 @@ def draw(law: str, seed: int, kind: str, rows: int, cols: int) -> Lattice:
     return Lattice(kind, rows, cols, numbers(lines[1].split(",")) if len(lines) > 2 else [])
 
 
-def sample(law: str, seed: int, rows: int, cols: int) -> Sample:
+def sample(law: str, seed: Whole, rows: Whole, cols: Whole) -> Sample:
     """The numbers of a drawn square lattice: its least energy, and what its broken bonds weigh.
 
     >>> sample("pm", 7, 24, 24).energy
@@ -94,7 +94,7 @@ def sample(law: str, seed: int, rows: int, cols: int) -> Sample:
     return Sample(*(int(fields[0]) for _, fields in records_in(text)))
 
 
-def ensemble(law: str, seed: int, rows: int, cols: int, count: int) -> Ensemble:
+def ensemble(law: str, seed: Whole, rows: Whole, cols: Whole, count: Whole) -> Ensemble:
     """What a domain wall costs on each of ``count`` cylinders, which are drawn one after another.
 
     >>> ensemble("one", 0, 1, 3, 2).walls.tolist()
@@ -105,7 +105,7 @@ def ensemble(law: str, seed: int, rows: int, cols: int, count: int) -> Ensemble:
     return Ensemble(as_array(walls, "int64"), one_of(text, "sum")[0], one_of(text, "squares")[0])
 
 
-def widths(law: str, seed: int, rows: int, max_cols: int, count: int) -> List[Width]:
+def widths(law: str, seed: Whole, rows: Whole, max_cols: Whole, count: Whole) -> List[Width]:
     """The sums of such an ensemble for each number of columns from 3 to ``max_cols``.
 
     >>> widths("one", 0, 1, 3, 2)

@@ -5,7 +5,7 @@ from typing import Any, Dict, List, Optional
 
 from ._lattices import KINDS
 from ._records import Record, is_json, object_of, records_of
-from ._refusals import Refusal
+from ._refusals import Refusal, words_of_graphs
 
 _NUMBER = "a whole number from -(2**63 - 1) to 2**63 - 1"
 _LONG = "a whole number from 0 to 4294967295"
@@ -85,13 +85,15 @@ class _Place:
 
 def explained(refusal: Refusal, text: str, command: str) -> Refusal:
     """The refusal of a text by a command, with the line, the value, and what is allowed."""
-    if is_json(text) and command not in ("check", "tjoin", "postman"):
+    is_graph = command in ("tjoin", "postman")
+    if is_json(text) and command != "check" and not is_graph:
         return _about_json(refusal, text)
     if refusal.number in (3, 4, 5, 12) and refusal.kept:
         place = _Place(text, refusal.kept[0])
         if place.record is not None:
             return _about_record(refusal, place, place.record, command)
-    return Refusal(refusal.number, refusal.kept, refusal.value, _line_of(refusal, text))
+    words = words_of_graphs(refusal.number, refusal.kept) if is_graph else None
+    return Refusal(refusal.number, refusal.kept, refusal.value, _line_of(refusal, text), words)
 
 
 def _about_record(refusal: Refusal, place: _Place, record: Record, command: str) -> Refusal:

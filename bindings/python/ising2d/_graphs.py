@@ -189,6 +189,13 @@ class Graph(Instance):
             return str(lists[kept[0]]) if kept[0] < len(lists) else None
         return None
 
+    def _words(self, number: int, kept: Sequence[int]) -> Optional[Tuple[str, str]]:
+        """What is wrong, and what to do, where no drawing was handed in."""
+        if number != 15 or self.rotation is not None:
+            return None
+        sentence = f"the darts in rising order are no drawing in the plane: the Euler number is {kept[0]}"
+        return sentence, "2; Graph.from_bonds and Graph.from_networkx find a drawing, or give the rotation"
+
     def ends(self) -> Ends:
         own = self._numbers.ends.tolist()
         return list(zip(own[::2], own[1::2]))

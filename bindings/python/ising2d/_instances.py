@@ -4,7 +4,7 @@ from typing import Any, Dict, Hashable, Iterable, List, Literal, Optional, Seque
 
 from . import _crossing
 from ._answers import Clusters, Cut, DomainWall, Ground, Report, Turn, Verdict, Wall
-from ._arrays import as_array, whole_numbers
+from ._arrays import Whole, as_array, whole_numbers
 from ._runs import answered, json_of, loops_in, members_of, one_of, records_in
 from ._loops import Loop
 from ._waiting import MANY_STATES, ONE_STATE, patiently
@@ -176,7 +176,7 @@ class Instance:
         """The rigid clusters: for each spin the least spin of its cluster, and the sizes."""
         return Clusters(self._many(_crossing.clusters_of), self)
 
-    def check(self, energy: int, spins: Any, loops: Any) -> Verdict:
+    def check(self, energy: Whole, spins: Any, loops: Any) -> Verdict:
         """The verdict on a proof: the energy in the unit of the couplings, the spins of shape
         ``(spins,)``, and any loops. The instance need not be planar."""
         stated = _crossing.proof_of(energy, spins, loops)

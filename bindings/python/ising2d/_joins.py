@@ -4,8 +4,9 @@ from functools import cached_property
 from typing import Any, Dict, Hashable, Iterable, List, Optional, Sequence, Tuple
 
 from ._answers import Join, OddCut, Step, Tour
-from ._arrays import in_32_bits, listed_of, numpy, refuse_unordered, shortened, whole, whole_numbers
+from ._arrays import Whole, in_32_bits, listed_of, numpy, refuse_unordered, shortened, whole, whole_numbers
 from ._judging import Edge, Judge, odd_nodes
+from ._refusals import words_of_graphs
 from ._runs import answered, numbers, one_of, records_in, weighted
 
 
@@ -27,7 +28,7 @@ class Network:
 
     def __init__(
         self,
-        n: int,
+        n: Whole,
         edges: Any,
         labels: Optional[Sequence[Hashable]] = None,
         names: Optional[Sequence[Hashable]] = None,
@@ -162,15 +163,15 @@ class _Asked:
             return str(self.network.n)
         if number == 3 and kept[0] <= len(self.network.edges):
             return str(self.network.edges[kept[0] - 1])
-        if number in (22, 23) and kept[0] < self.network.n:
-            return shortened(self.network.node_labels()[kept[0]])
+        if number in (22, 23) and self.network.labels is not None and kept[0] < self.network.n:
+            return shortened(self.network.labels[kept[0]])
         return None
 
     def _words(self, number: int, kept: Sequence[int]) -> Optional[Tuple[str, str]]:
-        """What a refusal says of a number of a record, and what is allowed."""
+        """What a refusal says in the words of a graph, and what is allowed."""
         value = self._shown(number, kept)
         if number != 3 or value is None:
-            return None
+            return words_of_graphs(number, kept)
         if kept[0] == 0:
             return f"n is {value}", "1 or more"
         last = self.network.n - 1
@@ -214,7 +215,7 @@ def _cuts(text: str) -> Tuple[OddCut, ...]:
     return tuple(OddCut(*row) for row in weighted(text, "cut"))
 
 
-def tjoin(n: int, edges: Any, terminals: Any) -> Join:
+def tjoin(n: Whole, edges: Any, terminals: Any) -> Join:
     """A least join of the terminals: a set of edges with an odd number of edge ends at each terminal, an
     even number at every other node, and the least weight, with cuts that prove it.
 
@@ -229,7 +230,7 @@ def tjoin(n: int, edges: Any, terminals: Any) -> Join:
     return Network(n, edges).tjoin(terminals)
 
 
-def postman(n: int, edges: Any) -> Tour:
+def postman(n: Whole, edges: Any) -> Tour:
     """A shortest closed walk over every edge of a connected graph, from node 0, with cuts that prove
     it: ``n`` and ``edges`` as for ``tjoin``.
 

@@ -3,12 +3,12 @@
 from typing import Any, Dict, Hashable, List, Optional, Sequence, Tuple, Union
 
 from . import _crossing
-from ._arrays import crossed, fixed, in_32_bits, shortened, whole, whole_numbers
+from ._arrays import Whole, crossed, fixed, in_32_bits, shortened, whole, whole_numbers
 from ._instances import Ends, Instance, Places
 from ._refusals import Refusal
 
 KINDS = ("square", "triangular", "hexagonal", "cylinder")
-Kind = Union[str, int]
+Kind = Union[str, Whole]
 
 _UNKNOWN_KIND = 255
 _HEIGHT = 3**0.5 / 2
@@ -28,7 +28,7 @@ class Lattice(Instance):
     [(0, 1), (2, 3), (0, 2), (1, 3)]
     """
 
-    def __init__(self, kind: Kind, rows: int, cols: int, couplings: Any) -> None:
+    def __init__(self, kind: Kind, rows: Whole, cols: Whole, couplings: Any) -> None:
         self.kind = _kind_of(kind)
         self.rows = in_32_bits(rows, "rows")
         self.cols = in_32_bits(cols, "cols")

@@ -5,6 +5,7 @@ import os
 import sys
 from typing import Any, Callable, Dict, List, NamedTuple, Optional, Sequence
 
+from ._answers import Run
 from ._draws import checked
 from ._explained import explained
 from ._progress import Progress
@@ -159,7 +160,7 @@ def _shown(name: str) -> str:
     return "standard input" if name == "-" else name
 
 
-def _refused(refusal: Refusal, name: str) -> None:
+def _refused(name: str, refusal: Refusal) -> None:
     """Says why a file is refused."""
     _say(f"{_shown(name)}{': ' if refusal.line is None else ', '}{refusal.sentence}")
 
@@ -174,21 +175,31 @@ def _study_files(command: str, names: Sequence[str], quiet: bool) -> int:
     status, several = 0, len(names) > 1
     progress = Progress(len(names), several and not quiet)
     for name in names:
-        given = _input(name)
+        try:
+            given = _input(name)
+        except OSError as fault:
+            _say(str(fault))
+            status = max(status, 4)
+            continue
         found = run([command], given)
         progress.step(1)
         if several:
             progress.end()
             _write(f"# {name}\n")
         _write(found.text)
-        if found.status == 1:
-            _refused(explained(refusal_of(found.text), as_text(given), command), name)
-        if found.status == 3:
-            number, *kept = numbers_of(found.text)
-            _say(f"{_shown(name)}: {verdict_sentence(number, kept)}")
+        _explain(command, name, given, found)
         status = max(status, found.status)
     progress.end()
     return status
+
+
+def _explain(command: str, name: str, given: bytes, found: Run) -> None:
+    """Says on standard error why a file is refused, or its proof fails."""
+    if found.status == 1:
+        _refused(name, explained(refusal_of(found.text), as_text(given), command))
+    if found.status == 3:
+        number, *kept = numbers_of(found.text)
+        _say(f"{_shown(name)}: {verdict_sentence(number, kept)}")
 
 
 def _draw(command: str, words: Sequence[str]) -> int:
@@ -245,7 +256,7 @@ def _picture(show: str, name: str) -> int:
         }
         text = svg(shown[show]())
     except Refusal as refusal:
-        _refused(refusal, name)
+        _refused(name, refusal)
         return 1
     _write(text + "\n")
     return 0

@@ -17,8 +17,8 @@ _SHORT = "whole numbers from 0 to 4294967295"
 _REASONS = {
     1: _Reason("TooLong", "the input is too long", "at most {0} bytes"),
     2: _Reason("Unended", "the records end before the awaited end", "a last record that says: end"),
-    3: _Reason("BadNumber", "field {1} of record {0} cannot stand there", "a number in the range of its place"),
-    4: _Reason("UnknownKind", "the first field of record {0} cannot stand there", "a word of docs/FORMATS.md"),
+    3: _Reason("BadNumber", "field {1} of record {0} cannot stand there", "a number in its range"),
+    4: _Reason("UnknownKind", "the first field of record {0} cannot stand there", "a word of FORMATS.md"),
     5: _Reason(
         "BadShape",
         "record {0} has a wrong number of fields, or comes a second time",
@@ -32,7 +32,9 @@ _REASONS = {
     11: _Reason("BadSeam", "{0} in the seam is no bond, or stands there twice", "bonds, each once"),
     12: _Reason("Trailing", "record {0} stands behind the end", "nothing"),
     13: _Reason("SumTooLarge", "the sizes of the couplings sum to {0}", "at most 2**44 = 17592186044416"),
-    15: _Reason("NotPlanar", "the graph is not drawn in the plane: its Euler number is {0}", "2, as on a sphere"),
+    15: _Reason(
+        "NotPlanar", "the graph is not drawn in the plane: its Euler number is {0}", "2, as on a sphere"
+    ),
     16: _Reason("NoSeam", "a wall is asked for, and the seam is empty", "a cylinder, or a seam of bonds"),
     17: _Reason("UnknownLaw", "no law of disorder has this name", "one, alternate, pm, uniform"),
     18: _Reason("BadJson", "the input is no JSON", "one object, and nothing behind it"),
@@ -56,6 +58,13 @@ _MEMBERS = {
     9: _Reason("", "entry {1} of the seam is wrong", _SHORT),
     10: _Reason("", "the value of spin {1} is wrong", "1 or -1"),
     11: _Reason("", "start {1} of the loops is wrong", "first 0, never falling, at last all bonds"),
+}
+
+# What a weighted graph has in place of spins, bonds and couplings.
+_OF_GRAPHS = {
+    7: ("there are {0} nodes", "at most 2048"),
+    8: ("there are {0} edges or more", "at most 6144"),
+    13: ("the weights of all edges sum to {0}", "at most 2**44 = 17592186044416"),
 }
 
 _CUTS = {
@@ -106,6 +115,12 @@ def _reason_of(number: int, kept: Sequence[int]) -> _Reason:
     if number == 19 and kept and kept[0] in _MEMBERS:
         reason = _MEMBERS[kept[0]]._replace(name=reason.name)
     return reason
+
+
+def words_of_graphs(number: int, kept: Sequence[int]) -> Optional[Tuple[str, str]]:
+    """What a refusal of a weighted graph says, and what is allowed, where it is not as of an instance."""
+    sentence, allowed = _OF_GRAPHS.get(number, ("", ""))
+    return (_filled(sentence, kept), allowed) if sentence else None
 
 
 def verdict_sentence(number: int, kept: Sequence[int], of: str = "loops") -> str:
