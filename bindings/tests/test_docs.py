@@ -99,6 +99,21 @@ class Pictures(unittest.TestCase):
             ]
             self.assertEqual([len(face.bonds) for face in faces], sizes)
 
+    def test_the_first_column_of_a_cylinder_is_drawn_twice(self):
+        from ising2d._faces import Drawing
+
+        drawing = Drawing(Lattice("cylinder", 2, 3, [1] * 9))
+        self.assertEqual([bond for bond in range(9) if len(drawing.shifts(bond)) == 2], [6])
+
+    def test_spins_near_each_other_lie_apart(self):
+        chain = Graph(4, [(0, 1, 1), (1, 2, 1), (2, 3, 1)], labels="abcd")
+        near = chain.ground().svg(places=[(0, 0), (100, 0), (101, 0), (200, 0)])
+        width = float(tree.fromstring(near).get("width"))
+        self.assertGreater(width, 800)
+        self.assertLess(width, 1000)
+        with self.assertRaises(ValueError):
+            chain.ground().svg(places=[(0, 0)] * 4, cell=0)
+
     def test_places_are_handed_in(self):
         graph = Graph(3, [(0, 1, 1), (1, 2, 1), (2, 0, -1)], [[0, 5], [2, 1], [4, 3]], labels="abc")
         for places in ([(0, 0), (1, 0), (0, 1)], {"a": (0, 0), "b": (1, 0), "c": (0, 1)}):

@@ -50,7 +50,7 @@ class Texts(unittest.TestCase):
         (ising2d.ground, ("square", 2, 2, {0: 1}), TypeError, ("couplings", "dict has no order")),
         (ising2d.ground, ("square", 2, 2, "3425"), TypeError, ("couplings", "text '3425'")),
         (ising2d.ground, ("square", 2, 2, 7), TypeError, ("couplings", "a list is wanted", "an int")),
-        (ising2d.ground, ("square", 2, 2, [3, 4, 2, 0.5]), TypeError, ("couplings", "float 0.5")),
+        (ising2d.ground, ("square", 2, 2, [3, 4, 2, 0.5]), TypeError, ("couplings", "float 0.5", "round(2**20 * x)")),
         (ising2d.ground, ("square", 2, 2, [3, 4, 2, 2**63]), OverflowError, ("couplings", str(2**63))),
         (ising2d.check, (*SQUARE, -10.0, [1] * 4, []), TypeError, ("energy", "float -10.0")),
         (ising2d.check, (*SQUARE, -10, [1, 1, 0, 1], []), Refusal, ("spin 2", ": 0", "1 or -1")),
@@ -154,9 +154,8 @@ class Numpy(unittest.TestCase):
             self.assertIs(raised, TypeError)
             self.assertIn(part, text)
         raised, text = told(Graph(2, numpy.array([[0, 1, 7.0]]), [[0], [1]]).ground)
-        self.assertEqual(
-            (raised, text), (TypeError, "bonds: whole numbers are wanted, and not an array of float64")
-        )
+        self.assertIs(raised, TypeError)
+        self.assertIn("bonds: whole numbers are wanted, and not an array of float64; scale", text)
         raised, text = told(ising2d.check, *SQUARE, -10, numpy.array([1, 1, 300, 1]), [])
         self.assertIs(raised, OverflowError)
         self.assertIn("300", text)

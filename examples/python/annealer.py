@@ -9,17 +9,10 @@ ROWS = COLS = 10
 SAMPLES = 20
 
 
-def bonds():
-    """The two ends of each bond: to the east row by row, then to the south."""
-    spins = [(row, col) for row in range(ROWS) for col in range(COLS)]
-    east = [(r * COLS + c, r * COLS + c + 1) for r, c in spins if c + 1 < COLS]
-    south = [(r * COLS + c, r * COLS + c + COLS) for r, c in spins if r + 1 < ROWS]
-    return east + south
-
-
-def anneal(ends, couplings, source, sweeps=200):
-    around = [[] for _ in range(ROWS * COLS)]
-    for (u, v), coupling in zip(ends, couplings):
+def anneal(lattice, source, sweeps=200):
+    """Spins of low energy, perhaps."""
+    around = [[] for _ in range(lattice.n)]
+    for (u, v), coupling in zip(lattice.ends(), lattice.couplings.tolist()):
         around[u].append((v, coupling))
         around[v].append((u, coupling))
     spins = [source.choice((1, -1)) for _ in around]
@@ -29,16 +22,16 @@ def anneal(ends, couplings, source, sweeps=200):
             rise = 2 * spins[i] * sum(coupling * spins[j] for j, coupling in near)
             if rise <= 0 or source.random() < math.exp(-rise / heat):
                 spins[i] = -spins[i]
-    return -sum(j * spins[u] * spins[v] for (u, v), j in zip(ends, couplings))
+    return spins
 
 
 def main():
-    source, ends, met = random.Random(7), bonds(), 0
+    source, met = random.Random(7), 0
     print("sample  proved  annealed")
     for sample in range(SAMPLES):
-        couplings = [source.choice((1, -1)) for _ in ends]
-        least = ising2d.ground("square", ROWS, COLS, couplings, loops=False).energy
-        found = anneal(ends, couplings, source)
+        lattice = ising2d.draw("pm", sample, "square", ROWS, COLS)
+        least = lattice.ground(loops=False).energy
+        found = lattice.energy_of(anneal(lattice, source))
         assert found >= least, "no assignment has less energy than the proved minimum"
         met += found == least
         print(f"{sample:6}  {least:6}  {found:8}")

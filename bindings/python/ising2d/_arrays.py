@@ -121,7 +121,7 @@ def _of_numpy(values: Any, kind: str, what: str) -> Any:
         numbers = [_in_range(value, low, high, what) for value in flat.tolist()]
         return numpy.array(numbers, dtype=kind)
     if flat.dtype.kind not in "iub":
-        raise TypeError(f"{what}: whole numbers are wanted, and not an array of {flat.dtype}")
+        raise of_another_kind(flat.dtype, what)
     if flat.size and (int(flat.min()) < low or int(flat.max()) > high):
         place = next(i for i, value in enumerate(flat.tolist()) if not low <= value <= high)
         _in_range(int(flat[place]), low, high, what)
@@ -133,8 +133,22 @@ def whole(value: Any, what: str) -> int:
     try:
         return int(value.__index__())
     except (AttributeError, TypeError):
-        name = type(value).__name__
-        raise TypeError(f"{what}: a whole number is wanted, and not the {name} {shortened(value)}") from None
+        name, hint = type(value).__name__, _advice(what) if isinstance(value, float) else ""
+        raise TypeError(
+            f"{what}: a whole number is wanted, and not the {name} {shortened(value)}{hint}"
+        ) from None
+
+
+def of_another_kind(kind: Any, what: str) -> TypeError:
+    """What an array of numpy that has no whole numbers raises."""
+    hint = _advice(what) if kind.kind == "f" else ""
+    return TypeError(f"{what}: whole numbers are wanted, and not an array of {kind}{hint}")
+
+
+def _advice(what: str) -> str:
+    """What to do with real numbers, where they are likely to be meant."""
+    is_real = any(word in what for word in ("coupling", "bonds", "weights"))
+    return "; scale real numbers and round them, as round(2**20 * x)" if is_real else ""
 
 
 def shortened(value: Any) -> str:

@@ -10,6 +10,7 @@ from ._arrays import (
     in_32_bits,
     listed_of,
     numpy,
+    of_another_kind,
     refuse_unordered,
     shortened,
     whole,
@@ -57,7 +58,7 @@ def _columns(bonds: Any) -> Tuple[Any, Any]:
     refuse_unordered(bonds, "bonds")
     if numpy is not None and isinstance(bonds, numpy.ndarray):
         if bonds.dtype.kind not in "iubO":
-            raise TypeError(f"bonds: whole numbers are wanted, and not an array of {bonds.dtype}")
+            raise of_another_kind(bonds.dtype, "bonds")
         if bonds.size and (bonds.ndim != 2 or bonds.shape[1] != 3):
             raise TypeError(f"bonds: an array of shape (bonds, 3) is wanted, and not {bonds.shape}")
         rows = bonds.reshape(-1, 3)

@@ -31,11 +31,11 @@ _RING = "printf 'cylinder,1,3\\n5,7,2\\nend\\n' | python3 -m ising2d {0}"
 
 _STUDIES = {
     "energy": _Study("the least energy, and spins that have it", _INSTANCE),
-    "ground": _Study("the same, and the loops that prove it", _INSTANCE),
+    "ground": _Study("the least energy, spins that have it, and the loops that prove it", _INSTANCE),
     "wall": _Study("what a domain wall at the seam costs", _RING),
     "bonds": _Study("what it costs to turn each bond", _INSTANCE),
     "clusters": _Study("the rigid cluster of each spin", _INSTANCE),
-    "report": _Study("all of these at once, as one line of JSON", _RING),
+    "report": _Study("energy, loops, costs, clusters and wall at once, as one line of JSON", _RING),
     "ranges": _Study("the coupling of each bond at which the ground states turn", _RING),
     "maxcut": _Study("the largest cut with the couplings as weights, and loops that prove it", _INSTANCE),
     "check": _Study(
@@ -51,6 +51,29 @@ _STUDIES = {
         "printf 'graph,2\\nedge,0,1,5\\nend\\n' | python3 -m ising2d {0}",
     ),
 }
+
+_INSTANCE_FORM = """\
+input:
+  KIND,ROWS,COLS            square, triangular, hexagonal or cylinder
+  COUPLING,COUPLING,..      to the east row by row, then to the south, then the diagonals
+  end
+
+  or any planar graph: general,SPINS, records bond,SPIN,SPIN,COUPLING, for each spin a
+  record rot,SPIN,DART,.. with its darts in cyclic order (bond k has 2k and 2k + 1), end
+
+  or one object of JSON, as of a line of `lines`
+"""
+_GRAPH_FORM = """\
+input:
+  graph,NODES
+  edge,NODE,NODE,WEIGHT     for each edge, with nodes from 0 and weights of 0 or more
+  term,NODE,NODE,..         for tjoin alone: the terminals
+  end
+"""
+_PROOF_FORM = """\
+input: an instance as records, and behind it an answer of ground
+"""
+_FORMS = {"tjoin": _GRAPH_FORM, "postman": _GRAPH_FORM, "check": _PROOF_FORM}
 
 _DRAWN = {
     "gen": (
@@ -107,7 +130,7 @@ def _parser() -> argparse.ArgumentParser:
     parser.add_argument("--version", action="version", version=f"{_NAME} {VERSION}")
     commands = parser.add_subparsers(dest="command", metavar="COMMAND", required=True)
     for name, study in _STUDIES.items():
-        _files(_command(commands, name, study))
+        _files(_command(commands, name, study, _FORMS.get(name, _INSTANCE_FORM)))
     for name, (words, study) in _DRAWN.items():
         own = _command(commands, name, study)
         for word in words:
@@ -119,21 +142,24 @@ def _parser() -> argparse.ArgumentParser:
     lines.add_argument("--jobs", type=_count, default=1, metavar="N", help="so many processes (1)")
     _files(lines)
     picture = _command(
-        commands, "svg", _Study("a picture of a ground state", _INSTANCE.replace("{0}", "svg > picture.svg"))
+        commands,
+        "svg",
+        _Study("a picture of a ground state", _INSTANCE.replace("{0}", "svg > picture.svg")),
+        _INSTANCE_FORM,
     )
     picture.add_argument("--show", choices=("ground", "clusters", "wall"), default="ground")
     _files(picture)
     return parser
 
 
-def _command(commands: Any, name: str, study: _Study) -> argparse.ArgumentParser:
+def _command(commands: Any, name: str, study: _Study, form: str = "") -> argparse.ArgumentParser:
     example = study.example.replace("{0}", name)
     own: argparse.ArgumentParser = commands.add_parser(
         name,
         help=study.answer,
         formatter_class=argparse.RawDescriptionHelpFormatter,
         description=study.answer[0].upper() + study.answer[1:] + ".",
-        epilog=f"example:\n  {example}",
+        epilog="\n".join([*([form] if form else []), f"example:\n  {example}"]),
     )
     return own
 
