@@ -16,8 +16,9 @@
  * Status. 0: answered. 1: refused; the line that says why stands in `line`, as the program prints it:
  * "refused,", the number of the refusal and the numbers that it keeps, and a line feed. 128 bytes are
  * room enough for every line. 3: a proof that is judged fails. 6: the memory is wanting. After 1
- * and 6 no result is written, and after 0 and 6 no line, but that a check writes one after 0 and 3. docs/FORMATS.md says what each refusal means; an array of numbers is
- * refused as the JSON member of its name. The tests of a lattice, in the order in which they are made:
+ * and 6 no result is written, and after 0 and 6 no line, but that a check writes one after 0 and 3.
+ * docs/FORMATS.md says what each refusal means; an array of numbers is refused as the JSON member of
+ * its name. The tests of a lattice, in the order in which they are made:
  *
  *   19,1,0  the kind is none
  *   19,3,0  there are no rows
