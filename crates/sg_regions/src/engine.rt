@@ -35,6 +35,16 @@ pub use changed::Order;
 pub use parts::{Base, Parts};
 use std::alloc::Global;
 
+// What becomes of odd cycles.
+#[derive(Clone, Copy)]
+pub enum Method {
+    // They grow on as blossoms at once. On the duals of drawn lattices that is as fast as the other, and
+    // its blossoms are smaller; but only a few steps are allowed for each node.
+    AtOnce,
+    // They rest until no tree is left.
+    InHalves,
+}
+
 // What an outer region sees over an arc: when it gets to the end or meets the region there, and
 // whether it lies there itself.
 #[derive(Clone, Copy)]
@@ -71,12 +81,17 @@ impl<'a> Engine<'a> {
         alloc: Global,
         arcs: &'a Adjacency,
         terminals: &'a [u32],
+        method: Method,
     ) -> Result<Engine<'a>, NoMemory> {
         let count = number(terminals.len());
         let room = terminals.len().saturating_add(terminals.len() / 2);
         let places = (arcs.nodes() as u64).saturating_add(arcs.darts() as u64);
         let hubs = Hubs::new(alloc, arcs)?;
         let clock = Clock::new(alloc, arcs.darts(), hubs.len())?;
+        let work = match method {
+            Method::AtOnce => Work::brief(places),
+            Method::InHalves => Work::new(count, places),
+        };
         Ok(Engine {
             alloc,
             arcs,
@@ -85,8 +100,8 @@ impl<'a> Engine<'a> {
             forest: Forest::new(alloc, terminals.len(), room)?,
             hubs,
             clock,
-            work: Work::new(count, places),
-            is_first: false,
+            work,
+            is_first: matches!(method, Method::InHalves),
             rests: 0,
             unpaired: count,
             cycle: Vec::new(alloc),

@@ -1,7 +1,7 @@
 // Regions that grow until each terminal has a mate.
 use super::NoMemory;
 use super::adjacency::Adjacency;
-use super::engine::Engine;
+use super::engine::{Engine, Method};
 use super::nest::{Nest, Pair};
 use std::alloc::Global;
 
@@ -12,7 +12,20 @@ pub fn grow(
     arcs: &Adjacency,
     terminals: &[u32],
 ) -> Result<Option<(Nest, Vec<Pair>)>, NoMemory> {
-    let mut engine = Engine::new(alloc, arcs, terminals)?;
+    match grow_by(alloc, arcs, terminals, Method::AtOnce)? {
+        None => grow_by(alloc, arcs, terminals, Method::InHalves),
+        found => Ok(found),
+    }
+}
+
+// The same by one method.
+fn grow_by(
+    alloc: Global,
+    arcs: &Adjacency,
+    terminals: &[u32],
+    method: Method,
+) -> Result<Option<(Nest, Vec<Pair>)>, NoMemory> {
+    let mut engine = Engine::new(alloc, arcs, terminals, method)?;
     if !engine.run()? {
         return Ok(None);
     }

@@ -4,7 +4,7 @@ mod old_ways;
 
 use super::NoMemory;
 use super::adjacency::{Adjacency, first_dart, second_dart};
-use super::engine::{Base, Ending, Engine, Parts};
+use super::engine::{Base, Ending, Engine, Method, Parts};
 use super::lists::{Slot, entry, number, set_entry};
 use super::proposal::arcs_of;
 use changes::Changes;
@@ -133,7 +133,7 @@ impl Repairs {
     // The same by regions that grow from nothing.
     fn regrown(&mut self, query: Query) -> Result<Option<Turn>, NoMemory> {
         let is_planted = planted(self.alloc, self.terminals.len(), query.ends)?;
-        let mut engine = Engine::new(self.alloc, &self.arcs, &self.terminals)?;
+        let mut engine = Engine::new(self.alloc, &self.arcs, &self.terminals, Method::InHalves)?;
         if !engine.run_from(&is_planted)? {
             return Ok(None);
         }
@@ -207,7 +207,21 @@ fn grow_all(
     terminals: &[u32],
     edges: usize,
 ) -> Result<Option<Grown>, NoMemory> {
-    let mut engine = Engine::new(alloc, arcs, terminals)?;
+    match grow_by(alloc, arcs, terminals, edges, Method::AtOnce)? {
+        None => grow_by(alloc, arcs, terminals, edges, Method::InHalves),
+        found => Ok(found),
+    }
+}
+
+// The same by one method.
+fn grow_by(
+    alloc: Global,
+    arcs: &Adjacency,
+    terminals: &[u32],
+    edges: usize,
+    method: Method,
+) -> Result<Option<Grown>, NoMemory> {
+    let mut engine = Engine::new(alloc, arcs, terminals, method)?;
     if !engine.run_from(&planted(alloc, terminals.len(), NO_END)?)? {
         return Ok(None);
     }

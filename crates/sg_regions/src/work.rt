@@ -26,6 +26,14 @@ impl Work {
         }
     }
 
+    // What is allowed before another method is tried, over so many nodes and darts together: some times
+    // what is wanted on the duals of drawn lattices.
+    pub fn brief(places: u64) -> Work {
+        Work {
+            left: places.saturating_mul(128).saturating_add(65536),
+        }
+    }
+
     // The steps that are left.
     pub fn left(&self) -> u64 {
         self.left

@@ -155,7 +155,7 @@ impl<'a> Engine<'a> {
     pub fn run(&mut self) -> Result<bool, NoMemory> {
         self.plant()?;
         self.wake_terminals()?;
-        self.run_halves(1)
+        self.run_by_method(1)
     }
 
     // Goes on until no tree is left. False if that did not come about within the work allowed.

@@ -121,6 +121,6 @@ impl<'a> Engine<'a> {
                 self.wake(*node)?;
             }
         }
-        self.run_halves(2)
+        self.run_by_method(2)
     }
 }

@@ -20,8 +20,16 @@ use std::mem::swap;
 impl<'a> Engine<'a> {
     // Runs until each terminal has a mate. False if that did not come about within the work allowed. All
     // arcs are so many times two as long as their edges weigh.
-    pub(super) fn run_halves(&mut self, unit: i64) -> Result<bool, NoMemory> {
-        self.is_first = true;
+    pub(super) fn run_by_method(&mut self, unit: i64) -> Result<bool, NoMemory> {
+        if self.is_first {
+            self.run_halves(unit)
+        } else {
+            self.go_on()
+        }
+    }
+
+    // The same in two halves.
+    fn run_halves(&mut self, unit: i64) -> Result<bool, NoMemory> {
         let is_done = self.go_on()?;
         self.is_first = false;
         if !is_done {
