@@ -21,15 +21,7 @@ mod steps;
 mod wake;
 
 use super::NoMemory;
-use super::adjacency::{Adjacency, Arc, reverse};
-use super::clock::{Clock, NEVER};
-use super::cover::{Cover, Held};
-use super::cycles::Link;
-use super::forest::Forest;
-use super::hubs::Hubs;
-use super::lists::number;
-use super::radii::{Reach, Role};
-use super::work::Work;
+use sg_growth::{Adjacency, Arc, Clock, Cover, Forest, Held, Hubs, Link, Reach, Role, Work, NEVER, number, reverse};
 pub use apart::Ending;
 pub use changed::Order;
 pub use parts::{Base, Parts};

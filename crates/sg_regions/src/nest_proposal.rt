@@ -1,11 +1,11 @@
 // Proposals without cuts: a join, and the finished regions as they are.
 use super::NoMemory;
 use super::grow::grow;
-use super::lists::{entry, number, set_entry};
 use super::nest::Nest;
 use super::proposal::arcs_of;
 use super::ways::join_of;
 use sg_graph::{EdgeList, Terminals, Web};
+use sg_growth::{entry, number, set_entry};
 use sg_nest::{Place, Places, Region, Regions};
 use std::alloc::Global;
 

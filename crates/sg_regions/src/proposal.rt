@@ -1,9 +1,9 @@
 use super::NoMemory;
-use super::adjacency::Adjacency;
 use super::chains::chains_of;
 use super::grow::grow;
 use super::ways::join_of;
 use sg_graph::{Terminals, Web};
+use sg_growth::Adjacency;
 use sg_join_check::Proposal;
 use std::alloc::Global;
 

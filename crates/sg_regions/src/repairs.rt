@@ -3,13 +3,12 @@ mod changes;
 mod old_ways;
 
 use super::NoMemory;
-use super::adjacency::{Adjacency, first_dart, second_dart};
 use super::engine::{Base, Ending, Engine, Method, Parts};
-use super::lists::{Slot, entry, number, set_entry};
 use super::proposal::arcs_of;
 use changes::Changes;
 use old_ways::OldWays;
 use sg_graph::{EdgeList, Terminals, Web};
+use sg_growth::{Adjacency, Slot, entry, first_dart, number, second_dart, set_entry};
 use sg_nest::Nest;
 use std::alloc::Global;
 

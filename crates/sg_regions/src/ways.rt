@@ -1,10 +1,9 @@
 // The join: a shortest way between each two mates, by what the finished regions know.
 use super::NoMemory;
-use super::adjacency::Adjacency;
 use super::edge_marks::EdgeMarks;
-use super::lists::{entry, set_entry};
 use super::nest::{Nest, Pair};
 use sg_graph::EdgeList;
+use sg_growth::{Adjacency, entry, set_entry};
 use std::alloc::Global;
 use std::mem::swap;
 

@@ -5,8 +5,7 @@
 use super::Engine;
 use super::finish::Exit;
 use crate::NoMemory;
-use crate::cycles::Link;
-use crate::lists::number;
+use sg_growth::{Link, number};
 
 // A node, its terminal that is none any more, and the one that is new there.
 #[derive(Clone, Copy)]

@@ -7,10 +7,7 @@
 // at a hub one look.
 use super::Engine;
 use crate::NoMemory;
-use crate::adjacency::{Arc, reverse};
-use crate::contact::{Contact, End};
-use crate::hubs::Soon;
-use crate::radii::Reach;
+use sg_growth::{Arc, Contact, End, Reach, Soon, reverse};
 
 impl<'a> Engine<'a> {
     // An outer region comes to a bare node of a free one. If another touches that node, the two meet;

@@ -2,11 +2,10 @@
 use super::Engine;
 use super::parts::Base;
 use crate::NoMemory;
-use crate::adjacency::first_dart;
 use crate::edge_marks::EdgeMarks;
-use crate::lists::{entry, number, set_entry};
 use crate::nest::Pair;
 use crate::ways::{Mates, Ways};
+use sg_growth::{entry, first_dart, number, set_entry};
 use sg_nest::{Place, Region};
 
 // The finished regions in an order, each before its parts; for each region its place counted from the

@@ -1,12 +1,7 @@
 // What comes of each event, and the run of all of them.
 use super::Engine;
 use crate::NoMemory;
-use crate::adjacency::{Arc, reverse};
-use crate::agenda::Subject;
-use crate::contact::{Contact, End};
-use crate::cover::Held;
-use crate::hubs::Soon;
-use crate::radii::{Reach, Role};
+use sg_growth::{Arc, Contact, End, Held, Reach, Role, Soon, Subject, reverse};
 
 impl<'a> Engine<'a> {
     // The event of an arc: the region at its start takes the node at its end, or meets a region. If

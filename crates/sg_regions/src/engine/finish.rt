@@ -1,9 +1,8 @@
 // Reading the finished regions off: the nest, and the mates of all terminals.
 use super::Engine;
 use crate::NoMemory;
-use crate::contact::End;
-use crate::lists::{Slot, number};
 use crate::nest::{Nest, Pair};
+use sg_growth::{End, Slot, number};
 
 // A region, and its terminal that is paired with one outside.
 #[derive(Clone, Copy)]

@@ -1,13 +1,7 @@
 // What of an engine outlives its arcs, and the finished regions to which it is put back.
 use super::Engine;
 use crate::NoMemory;
-use crate::adjacency::Adjacency;
-use crate::clock::Clock;
-use crate::cover::Cover;
-use crate::cycles::Link;
-use crate::forest::Forest;
-use crate::hubs::Hubs;
-use crate::work::Work;
+use sg_growth::{Adjacency, Clock, Cover, Forest, Hubs, Link, Work};
 use std::alloc::Global;
 
 // An engine without its arcs and terminals.

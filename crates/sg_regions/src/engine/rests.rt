@@ -12,9 +12,7 @@
 // the other kind becomes a root one later; and where arcs are four times as long, two later.
 use super::Engine;
 use crate::NoMemory;
-use crate::contact::Contact;
-use crate::lists::number;
-use crate::radii::Role;
+use sg_growth::{Contact, Role, number};
 use std::mem::swap;
 
 impl<'a> Engine<'a> {

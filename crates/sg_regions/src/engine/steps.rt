@@ -2,9 +2,7 @@
 // inner blossom expands again.
 use super::Engine;
 use crate::NoMemory;
-use crate::contact::{Contact, End};
-use crate::cycles::Link;
-use crate::radii::Role;
+use sg_growth::{Contact, End, Link, Role};
 use std::mem::swap;
 
 impl<'a> Engine<'a> {

@@ -1,11 +1,7 @@
 // Entering the events of arcs: to wake a node is to look at each of its arcs.
 use super::Engine;
 use crate::NoMemory;
-use crate::adjacency::{Arc, reverse};
-use crate::clock::NEVER;
-use crate::hubs::Soon;
-use crate::lists::Slot;
-use crate::radii::{Reach, Role};
+use sg_growth::{Arc, Reach, Role, Slot, Soon, NEVER, reverse};
 
 // An outer region that nears the end of an arc: the node at its start, the arc by its dart, and when it
 // comes.

@@ -3,10 +3,10 @@ use super::{OldWays, Query, Turn};
 use crate::NoMemory;
 use crate::edge_marks::EdgeMarks;
 use crate::engine::{Engine, Order};
-use crate::lists::{entry, number, set_entry};
 use crate::nest::Pair;
 use crate::ways::Ways;
 use sg_graph::EdgeList;
+use sg_growth::{entry, number, set_entry};
 use sg_nest::{Nest, Places, Region, Regions};
 use std::alloc::Global;
 

@@ -4,9 +4,9 @@ use super::changes::Changes;
 use crate::NoMemory;
 use crate::edge_marks::EdgeMarks;
 use crate::engine::Engine;
-use crate::lists::{Slot, count_at, entry, number, set_entry, sum_up};
 use crate::nest::Pair;
 use sg_graph::EdgeList;
+use sg_growth::{Slot, count_at, entry, number, set_entry, sum_up};
 use std::alloc::Global;
 
 // A stretch of a list.

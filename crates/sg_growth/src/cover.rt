@@ -11,8 +11,8 @@ use super::NoMemory;
 use super::lists::{Slot, copy_list, entry, put_entry, set_entry};
 use std::alloc::Global;
 
-// Of a node that is covered: the region that took it, the terminal from which it was reached, and the
-// radius of the region then.
+/// Of a node that is covered: the region that took it, the terminal from which it was reached, and the
+/// radius of the region then.
 #[derive(Clone, Copy)]
 pub struct Held {
     pub region: u32,
@@ -39,7 +39,7 @@ struct Place {
     birth: u32,
 }
 
-// A node of a row that is not deep, if one was found, and how many nodes were looked at.
+/// A node of a row that is not deep, if one was found, and how many nodes were looked at.
 #[derive(Clone, Copy)]
 pub struct Shallow {
     pub node: Slot,
@@ -56,7 +56,7 @@ struct Row {
     birth: Slot,
 }
 
-// The nodes, with the regions that hold them.
+/// The nodes, with the regions that hold them.
 #[derive(Drop)]
 pub struct Cover {
     taken: Vec<Taken>,
@@ -86,7 +86,7 @@ fn bare() -> Taken {
 }
 
 impl Cover {
-    // So many nodes, none of them covered, with room for so many regions.
+    /// So many nodes, none of them covered, with room for so many regions.
     pub fn new(alloc: Global, nodes: usize, room: usize) -> Result<Cover, NoMemory> {
         let place = Place {
             next: Slot::none(),
@@ -102,7 +102,7 @@ impl Cover {
         })
     }
 
-    // What the node's region knows of it, if one holds it.
+    /// What the node's region knows of it, if one holds it.
     pub fn held(&self, node: u32) -> Option<Held> {
         let taken = self.taken.get(node as usize)?;
         let region = taken.region.number()?;
@@ -113,7 +113,7 @@ impl Cover {
         })
     }
 
-    // The node that the same region took before this one.
+    /// The node that the same region took before this one.
     pub fn before(&self, node: u32) -> Slot {
         match self.taken.get(node as usize) {
             Some(taken) => taken.before,
@@ -121,19 +121,19 @@ impl Cover {
         }
     }
 
-    // A new region without nodes, also under a name that is used again.
+    /// A new region without nodes, also under a name that is used again.
     pub fn open(&mut self, name: u32) -> Result<(), NoMemory> {
         let birth = Slot::of(self.births);
         self.births = self.births.wrapping_add(1);
         put_entry(&mut self.rows, name, no_row(birth))
     }
 
-    // A region goes: it has no nodes, and no node is deep in it.
+    /// A region goes: it has no nodes, and no node is deep in it.
     pub fn close(&mut self, name: u32) {
         set_entry(&mut self.rows, name, no_row(Slot::none()));
     }
 
-    // Whether there is a region of this name.
+    /// Whether there is a region of this name.
     pub fn is_open(&self, name: u32) -> bool {
         !self.row(name).birth.is_none()
     }
@@ -143,22 +143,22 @@ impl Cover {
         entry(&self.rows, name).unwrap_or(no_row(Slot::none()))
     }
 
-    // The first node in the row of a region.
+    /// The first node in the row of a region.
     pub fn first(&self, name: u32) -> Slot {
         self.row(name).head
     }
 
-    // The last node in the row of a region.
+    /// The last node in the row of a region.
     pub fn end(&self, name: u32) -> Slot {
         self.row(name).tail
     }
 
-    // The node that a region took last.
+    /// The node that a region took last.
     pub fn last(&self, name: u32) -> Option<u32> {
         self.row(name).last.number()
     }
 
-    // The radius at which a region leaves the node that it took last, or has none.
+    /// The radius at which a region leaves the node that it took last, or has none.
     pub fn floor(&self, name: u32) -> i64 {
         match self.last(name) {
             Some(last) => self.radius_at(last),
@@ -166,7 +166,7 @@ impl Cover {
         }
     }
 
-    // The radius at which a node was taken.
+    /// The radius at which a node was taken.
     pub fn radius_at(&self, node: u32) -> i64 {
         match self.taken.get(node as usize) {
             Some(taken) => taken.radius,
@@ -174,7 +174,7 @@ impl Cover {
         }
     }
 
-    // A region takes a node: it is held so from now on.
+    /// A region takes a node: it is held so from now on.
     pub fn take(&mut self, node: u32, held: &Held) {
         let row = self.row(held.region);
         let taken = Taken {
@@ -224,7 +224,7 @@ impl Cover {
         }
     }
 
-    // A region leaves the node that it took last.
+    /// A region leaves the node that it took last.
     pub fn leave(&mut self, name: u32, node: u32) {
         let row = self.row(name);
         let before = self.before(node);
@@ -248,7 +248,7 @@ impl Cover {
         set_entry(&mut self.rows, name, shorter);
     }
 
-    // The row of a part comes behind that of the whole; the part keeps the ends of its own.
+    /// The row of a part comes behind that of the whole; the part keeps the ends of its own.
     pub fn append(&mut self, whole: u32, part: u32) {
         let row = self.row(whole);
         let added = self.row(part);
@@ -265,7 +265,7 @@ impl Cover {
         }
     }
 
-    // The row of a part is a row of its own again.
+    /// The row of a part is a row of its own again.
     pub fn cut(&mut self, part: u32) {
         let row = self.row(part);
         if let (Some(head), Some(tail)) = (row.head.number(), row.tail.number()) {
@@ -285,7 +285,7 @@ impl Cover {
         }
     }
 
-    // The first node that is not deep in a stretch of a row, from a node on to the end of the stretch.
+    /// The first node that is not deep in a stretch of a row, from a node on to the end of the stretch.
     pub fn shallow(&self, first: Slot, end: Slot) -> Shallow {
         let mut here = first;
         for passed in 0..self.places.len() {
@@ -311,7 +311,7 @@ impl Cover {
         }
     }
 
-    // The node behind another in a stretch of a row.
+    /// The node behind another in a stretch of a row.
     pub fn behind(&self, node: u32, end: Slot) -> Slot {
         match self.places.get(node as usize) {
             Some(place) if !end.is(node) => place.next,
@@ -319,7 +319,7 @@ impl Cover {
         }
     }
 
-    // Notes that all neighbours of a node lie in a region.
+    /// Notes that all neighbours of a node lie in a region.
     pub fn set_deep(&mut self, node: u32, region: u32) {
         let birth = self.row(region).birth.number();
         if (node as usize) < self.places.len() {
@@ -331,12 +331,12 @@ impl Cover {
         }
     }
 
-    // The number of a region among all that were born, if there is one of this name.
+    /// The number of a region among all that were born, if there is one of this name.
     pub fn birth(&self, name: u32) -> Slot {
         self.row(name).birth
     }
 
-    // A region leaves all nodes that it took itself; `close` has to follow.
+    /// A region leaves all nodes that it took itself; `close` has to follow.
     pub fn uncover(&mut self, name: u32) {
         let mut last = self.row(name).last;
         for _ in 0..self.taken.len() {
@@ -348,7 +348,7 @@ impl Cover {
         }
     }
 
-    // Makes all as it is in another cover.
+    /// Makes all as it is in another cover.
     pub fn restore(&mut self, base: &Cover) -> Result<(), NoMemory> {
         copy_list(&mut self.taken, &base.taken)?;
         copy_list(&mut self.places, &base.places)?;
@@ -357,7 +357,7 @@ impl Cover {
         Ok(())
     }
 
-    // Notes that a neighbour of a node was left.
+    /// Notes that a neighbour of a node was left.
     pub fn unset_deep(&mut self, node: u32) {
         if (node as usize) < self.places.len() {
             self.places[node as usize].deep = Slot::none();

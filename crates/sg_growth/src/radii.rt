@@ -9,8 +9,8 @@ use super::families::Families;
 use super::lists::{copy_list, entry, put_entry, set_entry};
 use std::alloc::Global;
 
-// The part that a region plays: an outer one grows, an inner one gives way, and a free one, which
-// stands in no tree, stays as it is. A part of a blossom plays none, and stays as it is too.
+/// The part that a region plays: an outer one grows, an inner one gives way, and a free one, which
+/// stands in no tree, stays as it is. A part of a blossom plays none, and stays as it is too.
 #[derive(Clone, Copy, PartialEq, Eq)]
 pub enum Role {
     Outer,
@@ -19,7 +19,7 @@ pub enum Role {
     Part,
 }
 
-// The top over a region, its role, and how far the two reach with all between.
+/// The top over a region, its role, and how far the two reach with all between.
 #[derive(Clone, Copy)]
 pub struct Reach {
     pub top: u32,
@@ -62,7 +62,7 @@ fn new_growth(family: u32, off: i64, now: i64) -> Growth {
     }
 }
 
-// The radius and the role of each region.
+/// The radius and the role of each region.
 #[derive(Drop)]
 pub struct Radii {
     growths: Vec<Growth>,
@@ -70,7 +70,7 @@ pub struct Radii {
 }
 
 impl Radii {
-    // Of no region, with room for so many.
+    /// Of no region, with room for so many.
     pub fn new(alloc: Global, room: usize) -> Result<Radii, NoMemory> {
         Ok(Radii {
             growths: Vec::with_capacity(alloc, room)?,
@@ -86,17 +86,18 @@ impl Radii {
         }
     }
 
+    /// What a region does.
     pub fn role(&self, name: u32) -> Role {
         self.growth(name).role
     }
 
-    // The radius of a region at a time.
+    /// The radius of a region at a time.
     pub fn radius(&self, name: u32, now: i64) -> i64 {
         self.growth(name).at(now)
     }
 
-    // The top over a region, and how far the two reach at a time with all between. A region that is a
-    // top itself takes one look.
+    /// The top over a region, and how far the two reach at a time with all between. A region that is a
+    /// top itself takes one look.
     #[inline(always)]
     pub fn reach(&self, name: u32, now: i64) -> Reach {
         let here = self.growth(name);
@@ -117,7 +118,7 @@ impl Radii {
         }
     }
 
-    // The top over a region.
+    /// The top over a region.
     pub fn top(&self, name: u32) -> u32 {
         let here = self.growth(name);
         if here.role == Role::Part {
@@ -127,7 +128,7 @@ impl Radii {
         }
     }
 
-    // Gives a region another role.
+    /// Gives a region another role.
     pub fn set_role(&mut self, name: u32, role: Role, now: i64) {
         let growth = self.growth(name);
         let changed = Growth {
@@ -139,19 +140,19 @@ impl Radii {
         set_entry(&mut self.growths, name, changed);
     }
 
-    // A new outer top without parts, of a family of its own.
+    /// A new outer top without parts, of a family of its own.
     pub fn plant(&mut self, name: u32, now: i64) -> Result<(), NoMemory> {
         let family = self.families.found(name)?;
         put_entry(&mut self.growths, name, new_growth(family, 0, now))
     }
 
-    // Makes all as it is in others.
+    /// Makes all as it is in others.
     pub fn restore(&mut self, base: &Radii) -> Result<(), NoMemory> {
         copy_list(&mut self.growths, &base.growths)?;
         self.families.restore(&base.families)
     }
 
-    // A new outer blossom over a top, its largest part, of whose family it is.
+    /// A new outer blossom over a top, its largest part, of whose family it is.
     pub fn crown(&mut self, blossom: u32, largest: u32, now: i64) -> Result<(), NoMemory> {
         let below = self.growth(largest);
         self.families.rise(below.family, blossom, below.at(now));
@@ -163,7 +164,7 @@ impl Radii {
         )
     }
 
-    // The opposite: the largest part is a top again, and the blossom is gone.
+    /// The opposite: the largest part is a top again, and the blossom is gone.
     pub fn uncrown(&mut self, blossom: u32, largest: u32, now: i64) {
         let below = self.growth(largest);
         let less = 0i64.wrapping_sub(below.at(now));
@@ -172,7 +173,7 @@ impl Radii {
         self.set_role(blossom, Role::Free, now);
     }
 
-    // A top, given with all regions in it, becomes a part of a blossom; its own family goes.
+    /// A top, given with all regions in it, becomes a part of a blossom; its own family goes.
     pub fn join(&mut self, regions: &[u32], blossom: u32, now: i64) -> Result<(), NoMemory> {
         let Some(top) = regions.first() else {
             return Ok(());
@@ -185,7 +186,7 @@ impl Radii {
         Ok(())
     }
 
-    // A part, given with all regions in it, becomes a free top with a family of its own.
+    /// A part, given with all regions in it, becomes a free top with a family of its own.
     pub fn part(&mut self, regions: &[u32], now: i64) -> Result<(), NoMemory> {
         let Some(top) = regions.first() else {
             return Ok(());

@@ -8,14 +8,14 @@ use super::NoMemory;
 use super::lists::{copy_list, number, put_entry, set_entry};
 use std::alloc::Global;
 
-// The top of a family, and the base that its regions count from.
+/// The top of a family, and the base that its regions count from.
 #[derive(Clone, Copy)]
 pub struct Family {
     pub top: u32,
     pub base: i64,
 }
 
-// The families, and the names of those that are gone, to be used again.
+/// The families, and the names of those that are gone, to be used again.
 #[derive(Drop)]
 pub struct Families {
     families: Vec<Family>,
@@ -23,7 +23,7 @@ pub struct Families {
 }
 
 impl Families {
-    // No families, with room for so many.
+    /// No families, with room for so many.
     pub fn new(alloc: Global, room: usize) -> Result<Families, NoMemory> {
         Ok(Families {
             families: Vec::with_capacity(alloc, room)?,
@@ -31,7 +31,7 @@ impl Families {
         })
     }
 
-    // A new family of a top, with base 0.
+    /// A new family of a top, with base 0.
     pub fn found(&mut self, top: u32) -> Result<u32, NoMemory> {
         let family = match self.free.pop() {
             Some(family) => family,
@@ -41,12 +41,13 @@ impl Families {
         Ok(family)
     }
 
-    // A family goes, but is there to be read until its name is used again.
+    /// A family goes, but is there to be read until its name is used again.
     pub fn free(&mut self, family: u32) -> Result<(), NoMemory> {
         self.free.push(family)?;
         Ok(())
     }
 
+    /// A family by its name.
     pub fn family(&self, name: u32) -> Family {
         match self.families.get(name as usize) {
             Some(family) => *family,
@@ -54,13 +55,13 @@ impl Families {
         }
     }
 
-    // Makes all as it is in others.
+    /// Makes all as it is in others.
     pub fn restore(&mut self, base: &Families) -> Result<(), NoMemory> {
         copy_list(&mut self.families, &base.families)?;
         copy_list(&mut self.free, &base.free)
     }
 
-    // A family has another top, and so much more of a base.
+    /// A family has another top, and so much more of a base.
     pub fn rise(&mut self, name: u32, top: u32, more: i64) {
         let base = self.family(name).base.wrapping_add(more);
         set_entry(&mut self.families, name, Family { top, base });

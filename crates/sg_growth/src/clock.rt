@@ -8,10 +8,10 @@ use super::agenda::{Agenda, Event, Subject};
 use super::lists::set_entry;
 use std::alloc::Global;
 
-// A time that never comes.
+/// A time that never comes.
 pub const NEVER: i64 = i64::MAX;
 
-// The time, with what waits.
+/// The time, with what waits.
 #[derive(Drop)]
 pub struct Clock {
     now: i64,
@@ -41,7 +41,7 @@ fn is_due(times: &mut [i64], place: u32, time: i64) -> bool {
 }
 
 impl Clock {
-    // Time 0, at which nothing waits.
+    /// Time 0, at which nothing waits.
     pub fn new(alloc: Global, darts: usize, hubs: usize) -> Result<Clock, NoMemory> {
         Ok(Clock {
             now: 0,
@@ -52,7 +52,7 @@ impl Clock {
         })
     }
 
-    // Time 0 again, at which nothing waits.
+    /// Time 0 again, at which nothing waits.
     pub fn restart(&mut self) {
         self.now = 0;
         self.agenda.clear();
@@ -61,16 +61,17 @@ impl Clock {
         self.regions.fill(NEVER);
     }
 
+    /// The time.
     pub fn now(&self) -> i64 {
         self.now
     }
 
-    // When the event of an arc comes that waits.
+    /// When the event of an arc comes that waits.
     pub fn due(&self, dart: u32) -> i64 {
         time_at(&self.arcs, dart)
     }
 
-    // Enters the event of an arc, if it comes before what waits at the arc and at its way back.
+    /// Enters the event of an arc, if it comes before what waits at the arc and at its way back.
     pub fn expect_arc(&mut self, dart: u32, time: i64) -> Result<(), NoMemory> {
         if time < time_at(&self.arcs, dart) && time < time_at(&self.arcs, reverse(dart)) {
             set_entry(&mut self.arcs, dart, time);
@@ -82,7 +83,7 @@ impl Clock {
         Ok(())
     }
 
-    // Enters the event of a hub, if it comes before what waits there.
+    /// Enters the event of a hub, if it comes before what waits there.
     pub fn expect_hub(&mut self, hub: u32, time: i64) -> Result<(), NoMemory> {
         if time < time_at(&self.hubs, hub) {
             set_entry(&mut self.hubs, hub, time);
@@ -94,7 +95,7 @@ impl Clock {
         Ok(())
     }
 
-    // Enters the event of an inner region, which comes so much later, if it comes before what waits there.
+    /// Enters the event of an inner region, which comes so much later, if it comes before what waits there.
     pub fn expect_region(&mut self, name: u32, left: i64) -> Result<(), NoMemory> {
         let place = name as usize;
         if place >= self.regions.len() {
@@ -111,7 +112,7 @@ impl Clock {
         Ok(())
     }
 
-    // Enters the event of a cycle at rest, which becomes a root so much later.
+    /// Enters the event of a cycle at rest, which becomes a root so much later.
     pub fn expect_root(&mut self, name: u32, left: i64) -> Result<(), NoMemory> {
         self.agenda.push(Event {
             time: self.now.wrapping_add(left),
@@ -119,12 +120,12 @@ impl Clock {
         })
     }
 
-    // The next event, which is no longer waiting.
+    /// The next event, which is no longer waiting.
     pub fn pop(&mut self) -> Result<Option<Event>, NoMemory> {
         self.agenda.pop()
     }
 
-    // Goes on to an event, unless another was entered in its place.
+    /// Goes on to an event, unless another was entered in its place.
     pub fn begin(&mut self, event: &Event) -> bool {
         let counts = match event.subject {
             Subject::Arc(dart) => is_due(&mut self.arcs, dart, event.time),
