@@ -3,8 +3,8 @@ use Rattle.std.proofs.Common.{◌≡◌, ℕ, List, [], ◌++◌, ap, ◌∙◌,
 use Rattle.std.specs.Prelude.{Result}
 use Rattle.std.proofs.lemmas.Option.{same_Some}
 use Rattle.sg_cli.specs.Laws.{Sends, WithAllLaws}
-use Rattle.sg_cli.specs.Promises.{IsAnswered}
-use Rattle.sg_cli.specs.declared.status.Status.{Status}
+use Rattle.sg_reply.specs.Exit.{IsAnswered}
+use Rattle.sg_reply.specs.declared.status.Status.{Status}
 use Rattle.ising2d_c.specs.Running.{Answers}
 
 pub run-answers : {E : Type 0} (words : List (List ℕ)) (input before text : List ℕ) (result : Result Status E) → before ≡ []

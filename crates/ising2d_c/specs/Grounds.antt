@@ -11,7 +11,7 @@ use Rattle.sg_wall.specs.Wall.{IsWall}
 use Rattle.sg_bonds.specs.Cost.{AreCosts}
 use Rattle.sg_bonds.specs.Cluster.{AreClusters}
 use Rattle.sg_report.specs.Text.{verdict_text}
-use Rattle.sg_cli.specs.Exit.{exit_code}
+use Rattle.sg_reply.specs.Exit.{exit_code}
 use Rattle.sg_cli.specs.Served.{status_by}
 use Rattle.ising2d_c.specs.Crossing.{Fills}
 

@@ -1,10 +1,10 @@
 -- What a run answers to a caller.
 use Rattle.std.specs.Prelude.{◌≡◌, ℕ, Bool, List, length}
-use Rattle.sg_cli.specs.Exit.{exit_code}
+use Rattle.sg_reply.specs.Exit.{exit_code}
 use Rattle.sg_cli.specs.Laws.{WithAllLaws}
-use Rattle.sg_cli.specs.Promises.{IsAnswered}
+use Rattle.sg_reply.specs.Exit.{IsAnswered}
 use Rattle.sg_cli.specs.Served.{Served}
-use Rattle.sg_cli.specs.declared.status.Status.{Status}
+use Rattle.sg_reply.specs.declared.status.Status.{Status}
 use Rattle.ising2d_c.specs.Crossing.{Fills}
 use Rattle.ising2d_c.specs.Words.{AreWords, IsUnended}
 

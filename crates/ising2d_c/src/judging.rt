@@ -7,7 +7,7 @@ ghost use Rattle.sg_check.specs.declared.verdict.Verdict.TheVariants.{Yes};
 ghost use Rattle.sg_reader.specs.Tests.{IsTestFault};
 ghost use Rattle.sg_report.specs.Text.{verdict_text as verdict_bytes};
 ghost use Rattle.sg_cli.specs.Served.{status_by};
-ghost use Rattle.sg_cli.specs.declared.status.Status.TheVariants.{Done as IsDone, No as IsNo};
+ghost use Rattle.sg_reply.specs.declared.status.Status.TheVariants.{Done as IsDone, No as IsNo};
 ghost use Rattle.ising2d_c.specs.Grounds.{IsJudged, Judges};
 ghost use Rattle.ising2d_c.specs.Refusing.{IsTold, IsToldFault};
 ghost use Rattle.ising2d_c.specs.Stated.{States, stated_fault};

@@ -1,6 +1,6 @@
 // A whole run for a caller: words and input in, a text and a status out.
 ghost use Rattle.std.specs.Prelude.{◌≡◌, [], true, map, string_bytes, IfOk};
-ghost use Rattle.sg_cli.specs.Promises.{IsAnswered};
+ghost use Rattle.sg_reply.specs.Exit.{IsAnswered};
 ghost use Rattle.ising2d_c.specs.Running.{Answers, Ends};
 
 use super::crossing::fill;

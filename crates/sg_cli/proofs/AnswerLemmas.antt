@@ -4,13 +4,15 @@ use Rattle.sg_io.specs.Devices.{Grows, Told}
 use Rattle.sg_io.specs.Writing.{GrowsByPrefix}
 use Rattle.sg_laws.specs.Named.{Law, first_named}
 use Rattle.sg_words.specs.Command.{command_of, law_word}
-use Rattle.sg_cli.specs.Promises.{AnswersInPart, AnswersSource, AnswersWhole, IsAnswered, IsServed}
-use Rattle.sg_cli.specs.Served.{AnswersLaw, usage_text}
+use Rattle.sg_reply.specs.Exit.{IsAnswered}
+use Rattle.sg_cli.specs.Promises.{AnswersInPart, AnswersSource, AnswersWhole, IsServed}
+use Rattle.sg_draws.specs.Drawn.{AnswersLaw}
+use Rattle.sg_cli.specs.Served.{usage_text}
 use Rattle.sg_words.specs.declared.command.Command.TheVariants.{Read, Draw}
 use Rattle.sg_words.specs.declared.command.Drawing.{Drawing}
 use Rattle.sg_words.specs.declared.command.Reading.{Reading}
-use Rattle.sg_cli.specs.declared.status.Status.{Status}
-use Rattle.sg_cli.specs.declared.status.Status.TheVariants.{Usage}
+use Rattle.sg_reply.specs.declared.status.Status.{Status}
+use Rattle.sg_reply.specs.declared.status.Status.TheVariants.{Usage}
 
 -- bytes that a source may have: those that it tells, or none
 abbrev pub told_or_none : Option (List ℕ) → List ℕ

@@ -19,9 +19,10 @@ use Rattle.sg_cli.specs.Input.{RefusesBy, RefusesProofBy}
 use Rattle.sg_json.specs.Text.{is_object_text}
 use Rattle.sg_json.specs.ReadJson.{IsJsonFault}
 use Rattle.sg_cli.specs.Promises.{AnswersSource}
-use Rattle.sg_cli.specs.Served.{AnswersText, IsRefused}
+use Rattle.sg_reply.specs.Refused.{IsRefused}
+use Rattle.sg_cli.specs.Served.{AnswersText}
 use Rattle.sg_words.specs.declared.command.Reading.{Reading}
-use Rattle.sg_cli.specs.declared.status.Status.{Status}
+use Rattle.sg_reply.specs.declared.status.Status.{Status}
 
 pub by_record : (bytes : List ℕ) (fault : Fault) → IsReadFault (kept_of bytes) fault → IsAloneFault bytes fault
 by_record bytes (Refused refusal) shown = AtRecord shown

@@ -1,7 +1,4 @@
-mod WidthByWidth
-mod Samples
 mod TakesLemmas
 mod AnswerLemmas
 mod InputLemmas
-mod FaultReplies
 mod LawLemmas

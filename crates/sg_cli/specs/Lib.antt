@@ -1,4 +1,3 @@
-pub mod Exit
 pub mod Input
 pub mod Graphs
 pub mod Served

@@ -1,5 +1,5 @@
 -- What a run owes, besides its status: the promises of the top call.
-use Rattle.std.specs.Prelude.{◌≡◌, ℕ, ◌+◌, ◌<◌, ◌≤◌, Bool, Option, None, Some, List, [], length, drop, ⊤}
+use Rattle.std.specs.Prelude.{◌≡◌, ℕ, ◌+◌, ◌<◌, ◌≤◌, Bool, Option, None, Some, List, [], length, drop}
 use Rattle.sg_limits.specs.Limits.{input_limit}
 use Rattle.sg_io.specs.Devices.{Grows, Told, next_count}
 use Rattle.sg_io.specs.Reading.{LosesAtMost}
@@ -10,18 +10,9 @@ use Rattle.sg_cli.specs.Served.{AnswersInput, Served, is_reading}
 use Rattle.sg_words.specs.declared.command.Reading.{Reading}
 use Rattle.sg_cli.specs.declared.serve.Stop.{Stop}
 use Rattle.sg_cli.specs.declared.serve.Stop.TheVariants as stop
-use Rattle.sg_cli.specs.declared.status.Status.{Status}
-use Rattle.sg_cli.specs.declared.status.Status.TheVariants.{Done, Refused, Usage, No, ReadFault, WriteFault, NoMemory}
-
--- a status that answers the words: all but the faults of devices and want of memory
-abbrev pub IsAnswered : Status → Type 0
-IsAnswered Done = ⊤
-IsAnswered Refused = ⊤
-IsAnswered Usage = ⊤
-IsAnswered No = ⊤
-IsAnswered ReadFault = ⊥
-IsAnswered WriteFault = ⊥
-IsAnswered NoMemory = ⊥
+use Rattle.sg_reply.specs.Exit.{IsAnswered}
+use Rattle.sg_reply.specs.declared.status.Status.{Status}
+use Rattle.sg_reply.specs.declared.status.Status.TheVariants.{ReadFault, WriteFault, NoMemory}
 
 -- the words name a command that reads its source
 abbrev pub reads : List (List ℕ) → Bool

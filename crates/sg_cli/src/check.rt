@@ -3,14 +3,13 @@
 ghost use Rattle.std.specs.Prelude.{◌≡◌, ◌<◌, length, IfOk, IfErr};
 ghost use Rattle.sg_limits.specs.Limits.{text_limit};
 ghost use Rattle.sg_cli.specs.Input.{GivesProof, RefusesProofBy};
-ghost use Rattle.sg_cli.specs.Promises.{IsAnswered};
+ghost use Rattle.sg_reply.specs.Exit.{IsAnswered};
 ghost use Rattle.sg_cli.specs.Served.{AnswersCheck, PrintsVerdict, status_by};
 
-use super::reply::{NoMemory, Reply, refuse_fault};
-use super::status::Status;
 use sg_check::{Checker, ResultText, Verdict};
 use sg_model::{Fault, Instance};
 use sg_reader::{Rows, no_more, read_instance, read_result};
+use sg_reply::{NoMemory, Reply, Status, refuse_fault};
 use sg_report::verdict_text;
 use std::alloc::Global;
 

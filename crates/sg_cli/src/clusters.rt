@@ -1,12 +1,12 @@
 // What `clusters` answers.
 ghost use Rattle.std.specs.Prelude.{IfOk};
 ghost use Rattle.sg_planar.specs.Fit.{IsFit};
-ghost use Rattle.sg_cli.specs.Promises.{IsAnswered};
+ghost use Rattle.sg_reply.specs.Exit.{IsAnswered};
 ghost use Rattle.sg_cli.specs.Served.{PrintsClusters};
 
-use super::reply::{NoMemory, Reply, done};
 use sg_bonds::clusters;
 use sg_planar::Planar;
+use sg_reply::{NoMemory, Reply, done};
 use sg_report::clusters_text;
 use std::alloc::Global;
 

@@ -1,11 +1,11 @@
 // What `energy` answers.
 ghost use Rattle.std.specs.Prelude.{IfOk};
-ghost use Rattle.sg_cli.specs.Promises.{IsAnswered};
+ghost use Rattle.sg_reply.specs.Exit.{IsAnswered};
 ghost use Rattle.sg_cli.specs.Served.{PrintsGroundState};
 
-use super::reply::{NoMemory, Reply, done};
 use sg_ground::ground_state;
 use sg_planar::Planar;
+use sg_reply::{NoMemory, Reply, done};
 use sg_report::energy_text;
 use std::alloc::Global;
 

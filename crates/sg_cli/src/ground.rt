@@ -1,11 +1,11 @@
 // What `ground` answers.
 ghost use Rattle.std.specs.Prelude.{IfOk};
-ghost use Rattle.sg_cli.specs.Promises.{IsAnswered};
+ghost use Rattle.sg_reply.specs.Exit.{IsAnswered};
 ghost use Rattle.sg_cli.specs.Served.{PrintsGround};
 
-use super::reply::{NoMemory, Reply, done};
 use sg_ground::solve;
 use sg_planar::Planar;
+use sg_reply::{NoMemory, Reply, done};
 use sg_report::ground_text;
 use std::alloc::Global;
 

@@ -3,12 +3,13 @@ ghost use Rattle.std.specs.Prelude.{◌≡◌, ◌≢◌, true, false, IsSome, I
 ghost use Rattle.sg_io.specs.Devices.{FaultShown};
 ghost use Rattle.sg_words.specs.Command.{command_of};
 ghost use Rattle.sg_cli.specs.Laws.{Sends, WithAllLaws};
-ghost use Rattle.sg_cli.specs.Promises.{IsAnswered, Leaves, reads, sink_faults, source_faults};
+ghost use Rattle.sg_reply.specs.Exit.{IsAnswered};
+ghost use Rattle.sg_cli.specs.Promises.{Leaves, reads, sink_faults, source_faults};
 
 use super::serve::run;
-use super::status::Status;
 use sg_io::{Sink, Source};
 use sg_laws::{Alternate, Disorder, One, PlusMinus, Uniform};
+use sg_reply::Status;
 use std::alloc::{AllocError, Global};
 
 /// Answers the words as [`run`] does, with the four laws to draw from: `one`, `alternate`, `pm` and

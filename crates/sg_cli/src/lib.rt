@@ -4,7 +4,8 @@
 //! it, a domain wall, the costs of the bonds, the rigid clusters, or all of these as one line of JSON;
 //! how far each coupling may move, or a largest cut.
 //! `check` judges the proof that stands behind an instance of any kind, `tjoin` and `postman` answer a
-//! weighted graph, and `gen`, `sample`, `ensemble` and `widths` read nothing and draw from a law.
+//! weighted graph, and `gen`, `sample`, `ensemble` and `widths` read nothing and draw from a law
+//! (`sg_draws`).
 //! Every other input is refused with the number of its first fault.
 //!
 //! For the next engineer: the contract of `run` is the headline of the whole project. Its clauses
@@ -17,29 +18,20 @@
 mod bonds;
 mod check;
 mod clusters;
-mod counts;
-mod draw;
-mod drawn;
 mod energy;
-mod ensemble;
-mod generate;
 mod graph;
 mod ground;
 mod laws;
 mod maxcut;
 mod postman;
 mod ranges;
-mod reply;
 mod report;
-mod sample;
 mod serve;
-mod status;
 mod study;
 mod tjoin;
 mod wall;
-mod widths;
 
 pub use laws::run_with_all_laws;
 pub use serve::run;
+pub use sg_reply::Status;
 pub use sg_words::{Command, Drawing, GraphTask, Reading, Size, Study};
-pub use status::Status;

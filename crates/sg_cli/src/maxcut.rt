@@ -1,11 +1,11 @@
 // What `maxcut` answers.
 ghost use Rattle.std.specs.Prelude.{IfOk};
-ghost use Rattle.sg_cli.specs.Promises.{IsAnswered};
+ghost use Rattle.sg_reply.specs.Exit.{IsAnswered};
 ghost use Rattle.sg_cli.specs.Served.{PrintsCut};
 
-use super::reply::{NoMemory, Reply, done};
 use sg_planar::Planar;
 use sg_ranges::largest_cut;
+use sg_reply::{NoMemory, Reply, done};
 use sg_report::maxcut_text;
 use std::alloc::Global;
 

@@ -2,12 +2,12 @@
 ghost use Rattle.std.specs.Prelude.{◌≡◌, map, IfOk};
 ghost use Rattle.sg_graph_text.specs.Network.{IsNetwork};
 ghost use Rattle.sg_cli.specs.Graphs.{PrintsTour, pair_of};
-ghost use Rattle.sg_cli.specs.Promises.{IsAnswered};
+ghost use Rattle.sg_reply.specs.Exit.{IsAnswered};
 
-use super::reply::{NoMemory, Reply, done};
 use sg_graph_text::Network;
 use sg_ground::cut_loops;
 use sg_postman::{Step, TourAnswer, tour};
+use sg_reply::{NoMemory, Reply, done};
 use sg_report::postman_text;
 use std::alloc::Global;
 

@@ -1,14 +1,13 @@
 // What `report` answers.
 ghost use Rattle.std.specs.Prelude.{IfOk};
 ghost use Rattle.sg_planar.specs.Fit.{IsFit};
-ghost use Rattle.sg_cli.specs.Promises.{IsAnswered};
+ghost use Rattle.sg_reply.specs.Exit.{IsAnswered};
 ghost use Rattle.sg_cli.specs.Served.{IsSeamWall, PrintsReport};
 
-use super::counts::{bond_count, size_sum};
-use super::reply::{NoMemory, Reply, done};
 use sg_bonds::{clusters_by, costs};
 use sg_ground::solve;
 use sg_planar::Planar;
+use sg_reply::{NoMemory, Reply, bond_count, done, size_sum};
 use sg_report::report_text;
 use sg_wall::wall;
 use std::alloc::Global;

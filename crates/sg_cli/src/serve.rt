@@ -5,18 +5,18 @@ ghost use Rattle.sg_io.specs.Reading.{LosesAtMost};
 ghost use Rattle.sg_io.specs.Writing.{GrowsByPrefix};
 ghost use Rattle.sg_words.specs.Command.{command_of};
 ghost use Rattle.sg_cli.specs.Served.{AnswersText};
-ghost use Rattle.sg_cli.specs.Promises.{AnswersInPart, AnswersSource, AnswersWhole, IsAnswered, Leaves, reads, sink_faults, source_faults, stop_faults, Takes};
+ghost use Rattle.sg_reply.specs.Exit.{IsAnswered};
+ghost use Rattle.sg_cli.specs.Promises.{AnswersInPart, AnswersSource, AnswersWhole, Leaves, reads, sink_faults, source_faults, stop_faults, Takes};
 
 use super::check::check_reply;
-use super::draw::draw_reply;
+use sg_draws::draw_reply;
 use super::graph::graph_reply;
-use super::reply::{NoMemory, Reply, refuse};
-use super::status::Status;
 use super::study::study_reply;
 use sg_io::{ReadEnd, Sink, Source, WriteFault, put, read_all};
 use sg_laws::Disorder;
 use sg_limits::INPUT_LIMIT;
 use sg_model::Refusal;
+use sg_reply::{NoMemory, Reply, Status, refuse};
 use sg_words::{Command, Reading, law_word, parse_command};
 use std::alloc::{AllocError, Global};
 

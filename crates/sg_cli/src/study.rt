@@ -3,7 +3,7 @@ ghost use Rattle.std.specs.Prelude.{◌<◌, length, IfOk, IfErr};
 ghost use Rattle.sg_limits.specs.Limits.{text_limit};
 ghost use Rattle.sg_planar.specs.Fit.{IsFit};
 ghost use Rattle.sg_cli.specs.Input.{GivesFit, GivesInstance, GivesRecords, IsAloneFault, RefusesBy};
-ghost use Rattle.sg_cli.specs.Promises.{IsAnswered};
+ghost use Rattle.sg_reply.specs.Exit.{IsAnswered};
 ghost use Rattle.sg_cli.specs.Served.{AnswersFit, AnswersStudy};
 
 use super::bonds::bonds_reply;
@@ -12,13 +12,13 @@ use super::energy::energy_reply;
 use super::ground::ground_reply;
 use super::maxcut::maxcut_reply;
 use super::ranges::ranges_reply;
-use super::reply::{NoMemory, Reply, refuse_fault};
 use super::report::report_reply;
 use super::wall::wall_reply;
 use sg_json::{is_json, read_json};
 use sg_model::{Fault, Instance};
 use sg_planar::Planar;
 use sg_reader::{Rows, no_more, read_instance};
+use sg_reply::{NoMemory, Reply, refuse_fault};
 use sg_words::Study;
 use std::alloc::Global;
 

@@ -1,11 +1,11 @@
 // What `wall` answers.
 ghost use Rattle.std.specs.Prelude.{IfOk};
-ghost use Rattle.sg_cli.specs.Promises.{IsAnswered};
+ghost use Rattle.sg_reply.specs.Exit.{IsAnswered};
 ghost use Rattle.sg_cli.specs.Served.{AnswersWall, PrintsWall};
 
-use super::reply::{NoMemory, Reply, done, refuse};
 use sg_model::Refusal;
 use sg_planar::Planar;
+use sg_reply::{NoMemory, Reply, done, refuse};
 use sg_report::wall_text;
 use sg_wall::wall;
 use std::alloc::Global;

@@ -1,8 +1,8 @@
 use Rattle.std.proofs.lemmas.Result.{IfOk-weaker}
-use Rattle.sg_cli.specs.declared.reply.Reply.{Reply}
+use Rattle.sg_reply.specs.declared.reply.Reply.{Reply}
 use Rattle.sg_cli.specs.Input.{RefusesProofBy}
 use Rattle.sg_cli.specs.Served.{AnswersCheck, Judged, PrintsVerdict, ProofFaultNamed}
-use Rattle.sg_cli.proofs.FaultReplies.{answers_fault}
+use Rattle.sg_reply.proofs.FaultReplies.{answers_fault}
 use Rattle.sg_cli.proofs.check.check_reply.Goals as goal
 
 pub returns-in-Ok-clause-served : goal.returns-in-Ok-clause-served

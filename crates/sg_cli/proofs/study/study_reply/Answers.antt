@@ -1,8 +1,8 @@
 use Rattle.std.proofs.lemmas.Result.{IfOk-weaker}
-use Rattle.sg_cli.specs.declared.reply.Reply.{Reply}
+use Rattle.sg_reply.specs.declared.reply.Reply.{Reply}
 use Rattle.sg_cli.specs.Input.{RefusesBy}
 use Rattle.sg_cli.specs.Served.{AnswersFit, AnswersStudy, FaultNamed, Studied}
-use Rattle.sg_cli.proofs.FaultReplies.{answers_fault}
+use Rattle.sg_reply.proofs.FaultReplies.{answers_fault}
 use Rattle.sg_cli.proofs.study.study_reply.Goals as goal
 
 pub returns-in-Ok-clause-served : goal.returns-in-Ok-clause-served

@@ -1,0 +1,2 @@
+mod WidthByWidth
+mod Samples
