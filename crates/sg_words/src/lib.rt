@@ -5,7 +5,7 @@
 //!
 //! For the next engineer: `specs/Command.antt` says which words name which command, as one definition
 //! over their bytes; `parse_command` is that definition. A further command is one more variant here, and
-//! one more case in `sg_cli`.
+//! one more case in `sg_cli` or `sg_draws`.
 #![tactic(auto)]
 
 mod command;
