@@ -7,8 +7,8 @@ ghost use Rattle.sg_lattice.specs.Tables.{IsSize, bond_total, coupled, darts, en
 use super::NoMemory;
 use super::kind::{Ends, Kind, Step};
 use super::shape::Shape;
-use sg_model::{Bond, BondList, Bonds, Couplings, Fault, Instance, Rotation};
-use std::alloc::{AllocError, Global};
+use sg_model::{Bond, BondList, Bonds, Couplings, Instance, Rotation};
+use std::alloc::Global;
 
 /// The number of bonds of a lattice. It takes no memory.
 pub fn bond_count(kind: Kind, rows: u32, cols: u32) -> u32
@@ -95,7 +95,7 @@ fn couple(alloc: Global, ends: &[Ends], j: &Couplings) -> Result<Bonds, NoMemory
 }
 
 impl Shape {
-    // The whole instance. Its parts are a rotation and a seam, so that only memory may be wanting.
+    // The whole instance. Its parts are a rotation and a seam, so that nothing is to be tested.
     fn lattice(self, alloc: Global, j: &Couplings) -> Result<Instance, NoMemory>
         requires count { length j.now ≡ bond_total self.kind self.rows self.cols }
         requires sizes { All (λ z. unsigned_abs z < 2 ^ 63) j.now }
@@ -104,11 +104,7 @@ impl Shape {
         let bonds = self.bonds(alloc, j)?;
         let rotation = self.rotation(alloc)?;
         let seam = self.seam(alloc)?;
-        match Instance::new(alloc, self.spins(), bonds, rotation, seam) {
-            Ok(lattice) => Ok(lattice),
-            Err(Fault::NoMemory) => Err(AllocError),
-            Err(Fault::Refused(_)) => unreachable!(),
-        }
+        Ok(Instance::of_parts(self.spins(), bonds, rotation, seam))
     }
 
     fn bonds(self, alloc: Global, j: &Couplings) -> Result<Bonds, NoMemory>

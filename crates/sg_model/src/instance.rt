@@ -90,6 +90,20 @@ impl Instance {
         })
     }
 
+    /// The instance of these parts, which the caller knows to make one. Nothing is tested, and no memory
+    /// is taken.
+    pub fn of_parts(n: u32, bonds: Bonds, rotation: Rotation, seam: BondList) -> Self
+        requires { IsInstance (record { n = n; bonds = bonds; rotation = rotation; seam = seam }) }
+        ensures { result ≡ record { n = n; bonds = bonds; rotation = rotation; seam = seam } }
+    {
+        Instance {
+            n,
+            bonds,
+            rotation,
+            seam,
+        }
+    }
+
     /// The number of spins.
     pub fn n(&self) -> u32
         ensures value { result ≡ self.now.n }

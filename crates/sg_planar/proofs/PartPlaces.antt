@@ -4,16 +4,10 @@ use Rattle.std.proofs.lemmas.List.{get_or-map, length-map, map-append, take_more
 use Rattle.std.proofs.lemmas.List.Elements.{All-from_get_or, All-head, All-map, All-tail}
 use Rattle.sg_sums.specs.Sets.{holds}
 use Rattle.sg_model.specs.declared.bond.Bond.{Bond}
-use Rattle.sg_model.specs.declared.refusal.Fault.{Fault}
-use Rattle.sg_model.specs.declared.refusal.Fault.TheVariants.{Refused}
-use Rattle.sg_model.specs.declared.refusal.Refusal.{Refusal}
-use Rattle.sg_model.specs.declared.refusal.Refusal.TheVariants.{BadRotation, BadSeam}
 use Rattle.sg_model.specs.Ising.{Ising, bond_at, bond_count}
 use Rattle.sg_model.specs.Rotation.{darts_of}
 use Rattle.sg_model.specs.WellFormed.{IsInstance}
-use Rattle.sg_model.specs.Faults.{IsFaultOf, IsRefusalOf}
 use Rattle.sg_model.specs.Connected.{all_bonds}
-use Rattle.sg_model.proofs.RotationFaults.{bad_rotation_refuted, bad_seam_refuted}
 use Rattle.sg_model.proofs.Rotations.{in_list}
 use Rattle.sg_walk.specs.Naming.{AllNamed}
 use Rattle.sg_planar.specs.Parts.{bond_in, dart_in, restricted}
@@ -70,15 +64,6 @@ module _ (inst : Ising) (good : IsInstance inst) (spins bonds : List ℕ) (part 
       (r ∙ map_alike (λ x. placed_darts bond_places (darts_of inst x)) (λ x. map (dart_in bonds) (darts_of inst x)) spins
       (All-from_get_or (λ x. placed_darts bond_places (darts_of inst x) ≡ map (dart_in bonds) (darts_of inst x)) spins 0
       (λ j b. darts_alike (get_or spins j 0) (holds_entry spins j b)))) s
-
--- no part that is an instance is refused
-no_refusal : (inst : Ising) → IsInstance inst → (refusal : Refusal) → IsRefusalOf inst refusal → ⊥
-no_refusal inst good (BadRotation spin dart) h = bad_rotation_refuted inst spin dart good.rotation h
-no_refusal inst good (BadSeam bond) h = bad_seam_refuted inst bond good.seam h.1
-no_refusal inst good _ h = h
-
-pub never_refused : (inst : Ising) → IsInstance inst → (fault : Fault) (refusal : Refusal) → fault ≡ Refused refusal → IsFaultOf inst fault → ⊥
-never_refused inst good fault refusal e h = no_refusal inst good refusal (subst (IsFaultOf inst) e h)
 
 -- names are spins, and so are the names of the bonds' first ends
 module _ (inst : Ising) (good : IsInstance inst) (names : List ℕ) (count : length names ≡ inst.n) (named : IsNaming inst (slice_index names)) where
