@@ -19,7 +19,8 @@ module _ (js : List ℤ) where
   length-coupled ends = length-map-range_with_len (bond_of ends) 0 (length ends)
 
   -- the bond between the next ends, with the next coupling
-  pub coupled_more : (ends : List Ends) (e : Ends) → coupled ends js ++ coupled_bond e (get_or js (length ends) (pos 0)) ∷ [] ≡ coupled (ends ++ e ∷ []) js
+  pub coupled_more : (ends : List Ends) (e : Ends) → coupled ends js ++ coupled_bond e (get_or js (length ends) (pos 0)) ∷ [] ≡ coupled (ends ++ e ∷ [])
+      js
   coupled_more ends e =
       fill_by_all (bond_of (ends ++ e ∷ [])) (coupled ends js ++ last ∷ []) (length (ends ++ e ∷ [])) no_bond
       (length_push (coupled ends js) last ∙ ap (λ n. n + 1) (length-coupled ends) ∙ sym (length_push ends e)) each

@@ -27,7 +27,8 @@ module _ (f : ℕ → ℕ) where
   absent zero x apart = refl
   absent (suc n) x apart =
       let e : n + 1 ≡ suc n = omega arith in
-      let more : count_by (λ y. eqb y x) (map f (range_with_len 0 (suc n))) ≡ count_by (λ y. eqb y x) (map f (range_with_len 0 n)) + cond (eqb (f n) x) 1 0 =
+      let more : count_by (λ y. eqb y x) (map f (range_with_len 0 (suc n))) ≡ count_by (λ y. eqb y x) (map f (range_with_len 0 n)) + cond (eqb (f n) x)
+      1 0 =
       ap (λ k. count_by (λ y. eqb y x) (map f (range_with_len 0 k))) (sym e)
       ∙ ap (count_by (λ y. eqb y x)) (map-range_with_len_more f 0 n n (omega arith))
       ∙ sum_by_push (λ y. cond (eqb y x) 1 0) (map f (range_with_len 0 n)) (f n) in
@@ -137,4 +138,5 @@ lattice_instance kind R C size js count sizes = record {
 pub assembled : (kind : Kind) (R C : ℕ) (js : List ℤ) (n : ℕ) (bonds : List Bond) (rotation : List (List ℕ)) (seam : List ℕ)
     → n ≡ R * C → bonds ≡ (lattice kind R C js).bonds → rotation ≡ (lattice kind R C js).rotation → seam ≡ (lattice kind R C js).seam
     → whole n bonds rotation seam ≡ lattice kind R C js
-assembled kind R C js n bonds rotation seam p q r s = ap₂ (λ x y. whole x y rotation seam) p q ∙ ap₂ (λ x y. whole (R * C) (lattice kind R C js).bonds x y) r s
+assembled kind R C js n bonds rotation seam p q r s = ap₂ (λ x y. whole x y rotation seam) p q
+    ∙ ap₂ (λ x y. whole (R * C) (lattice kind R C js).bonds x y) r s

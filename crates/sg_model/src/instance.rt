@@ -165,26 +165,6 @@ impl Instance {
         self.with_bonds(bonds)
     }
 
-    /// The same instance with the sign of the coupling changed on each bond of the seam, in time
-    /// linear in the bonds. The rotation is moved, and not copied.
-    pub fn with_seam_flipped(self) -> Result<Instance, NoMemory>
-        ensures { IfOk result (λ flipped. flipped ≡ with_seam_flipped self) }
-    {
-        let bonds = self.flipped_bonds()?;
-        let Instance {
-            n,
-            bonds: _,
-            rotation,
-            seam,
-        } = self;
-        Ok(Instance {
-            n,
-            bonds,
-            rotation,
-            seam,
-        })
-    }
-
     /// The same instance with these couplings, in the order of the bonds, in time linear in the bonds.
     /// It takes no memory: the rotation is moved, and not copied.
     pub fn with_couplings(self, couplings: &Couplings) -> Instance

@@ -1,5 +1,5 @@
 -- What tables of places make of the bonds and lists of a part: the part as it is defined.
-use Rattle.std.proofs.Common.{◌≡◌, ◌∙◌, sym, ap, ap₂, refl, subst, ℕ, ◌+◌, ◌*◌, ◌/◌, ◌%◌, ◌<◌, pos, Bool, true, List, [], ◌∷◌, ◌++◌, length, get_or, map, replicate, slice_index, take, All, arith}
+use Rattle.std.proofs.Common.{◌≡◌, ◌∙◌, ap, ap₂, refl, subst, ℕ, ◌+◌, ◌*◌, ◌/◌, ◌%◌, ◌<◌, pos, true, List, [], ◌∷◌, ◌++◌, length, get_or, map, slice_index, take, All, arith}
 use Rattle.std.proofs.lemmas.List.{get_or-map, length-map, map-append, take_more}
 use Rattle.std.proofs.lemmas.List.Elements.{All-from_get_or, All-head, All-map, All-tail}
 use Rattle.sg_sums.specs.Sets.{holds}
@@ -29,7 +29,8 @@ map_alike f g [] h = refl
 map_alike f g (x ∷ xs) h = ap₂ (λ y ys. y ∷ ys) (All-head (λ x. f x ≡ g x) x xs h) (map_alike f g xs (All-tail (λ x. f x ≡ g x) x xs h))
 
 -- one step more of a list that is mapped
-pub map_more : {X : Type 0} (f : ℕ → X) (xs : List ℕ) (i : ℕ) → i < length xs → map f (take (i + 1) xs) ≡ map f (take i xs) ++ f (get_or xs i 0) ∷ []
+pub map_more : {X : Type 0} (f : ℕ → X) (xs : List ℕ) (i : ℕ) → i < length xs →
+    map f (take (i + 1) xs) ≡ map f (take i xs) ++ f (get_or xs i 0) ∷ []
 map_more f xs i l = ap (map f) (take_more xs i 0 l) ∙ map-append f (take i xs) (get_or xs i 0 ∷ [])
 
 -- the bonds of the darts of a spin are bonds
@@ -53,7 +54,8 @@ module _ (inst : Ising) (good : IsInstance inst) (spins bonds : List ℕ) (part 
       (of_bonds.each (get_or (darts_of inst x) j e / 2) (listed_bond inst good spins bonds part x h j e b)))
 
   pub part_assembled : (n : ℕ) (list : List Bond) (rotation : List (List ℕ)) (seam : List ℕ) → n ≡ length spins →
-      list ≡ map (λ k. placed_bond spin_places (bond_at inst k)) bonds → rotation ≡ map (λ x. placed_darts bond_places (darts_of inst x)) spins → seam ≡ [] →
+      list ≡ map (λ k. placed_bond spin_places (bond_at inst k)) bonds → rotation ≡ map (λ x. placed_darts bond_places (darts_of inst x)) spins →
+      seam ≡ [] →
       record { n = n; bonds = list; rotation = rotation; seam = seam } ≡ restricted inst spins bonds
   part_assembled n list rotation seam p q r s =
       ap₂ (λ a b. record { n = a; bonds = b; rotation = rotation; seam = seam }) p

@@ -173,12 +173,7 @@ fn part_instance(
 {
     let list = placed_bonds(alloc, inst, bonds.as_slice(), spin_places)?;
     let rotation = placed_rotation(alloc, inst, spins.as_slice(), bond_places)?;
-    Ok(Instance::of_parts(
-        spins.len() as u32,
-        list,
-        rotation,
-        BondList::new(alloc),
-    ))
+    Ok(Instance::of_parts(spins.len() as u32, list, rotation, BondList::new(alloc)))
 }
 
 // The part of the component with this least spin.
