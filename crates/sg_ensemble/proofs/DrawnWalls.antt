@@ -21,8 +21,8 @@ last_slice xs ys a m e f =
     ap (λ n. take m (drop n (xs ++ ys))) (sym e) ∙ ap (take m) (drop-append_seam xs ys) ∙ take_all m ys (omega (arith, f))
 
 -- what holds of each slice of length m and its number, where one of each is added
-each_more : (P : List ℤ → ℤ → Type 0) (m count : ℕ) (draws next walls : List ℤ) (wall : ℤ) → length draws ≡ count * m → length next ≡ m → length walls ≡ count
-    → ((i : ℕ) → i < count → P (take m (drop (i * m) draws)) (get_or walls i (pos 0))) → P next wall
+each_more : (P : List ℤ → ℤ → Type 0) (m count : ℕ) (draws next walls : List ℤ) (wall : ℤ) → length draws ≡ count * m →
+    length next ≡ m → length walls ≡ count → ((i : ℕ) → i < count → P (take m (drop (i * m) draws)) (get_or walls i (pos 0))) → P next wall
     → (i : ℕ) → i < count + 1 → P (take m (drop (i * m) (draws ++ next))) (get_or (walls ++ wall ∷ []) i (pos 0))
 each_more P m count draws next walls wall long one counted before here i l = elim (cases_lt i count) [
   | inl b ↦
@@ -133,7 +133,8 @@ samples_same rows cols most f g new same s = record {
 }
 
 -- a stream behind some of its draws
-pub counts_behind : (mid new : ℕ → List ℤ) (m : ℕ) → ((c : ℕ) → length (mid c) ≡ c) → ((c : ℕ) → mid (m + c) ≡ mid m ++ new c) → (c : ℕ) → length (new c) ≡ c
+pub counts_behind : (mid new : ℕ → List ℤ) (m : ℕ) → ((c : ℕ) → length (mid c) ≡ c) → ((c : ℕ) → mid (m + c) ≡ mid m ++ new c) →
+    (c : ℕ) → length (new c) ≡ c
 counts_behind mid new m counts rest c =
     let e : length (mid m ++ new c) ≡ m + c = ap length (sym (rest c)) ∙ counts (m + c) in
     omega (arith, e, length-append (mid m) (new c), counts m)

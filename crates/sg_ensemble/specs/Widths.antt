@@ -23,4 +23,5 @@ pub record StopsAtWidth (rows last count : ℕ) (stream new : ℕ → List ℤ) 
 pub record AreWidths (rows count : ℕ) (stream : ℕ → List ℤ) (number : ℕ) (widths : List Width) : Type 0 where
   pub counted : length widths ≡ number
   pub each : (k : ℕ) → k < number
-      → IsWidth rows (3 + k) count stream (slice_index_or widths k (record { cols = 0; sum = pos 0; squares = pos 0 }))
+      → IsWidth rows (3 + k) count stream (slice_index_or widths k
+      (record { cols = 0; sum = pos 0; squares = pos 0 }))

@@ -21,7 +21,8 @@ use Rattle.sg_faces.specs.Faces.{bare_count, face_count, faces_before, is_bare}
 use Rattle.sg_faces.proofs.OrbitWalks.{count_range_more}
 
 -- tests that agree below n pass the same number below n
-pub counted_same : (p q : ℕ → Bool) (n : ℕ) → ((k : ℕ) → k < n → p k ≡ q k) → count_by p (range_with_len 0 n) ≡ count_by q (range_with_len 0 n)
+pub counted_same : (p q : ℕ → Bool) (n : ℕ) → ((k : ℕ) → k < n → p k ≡ q k) →
+    count_by p (range_with_len 0 n) ≡ count_by q (range_with_len 0 n)
 counted_same p q zero h = refl
 counted_same p q (suc n) h =
     let next : suc n ≡ n + 1 = omega arith in

@@ -24,7 +24,8 @@ pub record Walking (table old labels : List ℕ) (start label at : ℕ) : Type 0
   pub apart : (i j : ℕ) → i < j → j < taken → moves table i start ≢ moves table j start
   pub left : taken + left_over labels ≡ left_over old
 
-pub walking_none : (table old : List ℕ) (start label : ℕ) → length old ≡ length table → start < length table → Walking table old old start label start
+pub walking_none : (table old : List ℕ) (start label : ℕ) → length old ≡ length table → start < length table →
+    Walking table old old start label start
 walking_none table old start label long l = record {
   taken = 0;
   at_is = refl;
@@ -57,7 +58,8 @@ module _ (table old labels : List ℕ) (start label at : ℕ) (move : IsMove tab
       let s : left_over (set labels at label) + cond (eqb (get_or labels at 0) unlabelled) 1 0 ≡ left_over labels + cond (eqb label unlabelled) 1 0 =
       sum_by-set (λ x. cond (eqb x unlabelled) 1 0) labels at label 0 in_labels in
       let one : cond {A = ℕ} (eqb (get_or labels at 0) unlabelled) 1 0 ≡ 1 = ap (λ b. cond b 1 0) (eq-eqb (get_or labels at 0) unlabelled free) in
-      let none : cond {A = ℕ} (eqb label unlabelled) 1 0 ≡ 0 = ap (λ b. cond b 1 0) (ne_eqb label unlabelled (λ (e : label ≡ unlabelled). omega arith)) in
+      let none : cond {A = ℕ} (eqb label unlabelled) 1 0 ≡ 0 =
+      ap (λ b. cond b 1 0) (ne_eqb label unlabelled (λ (e : label ≡ unlabelled). omega arith)) in
       omega arith
 
   pub walking_more : Walking table old (set labels at label) start label (get_or table at 0)
@@ -77,10 +79,12 @@ module _ (table old labels : List ℕ) (start label at : ℕ) (move : IsMove tab
           (i : ℕ) × (i < suc w.taken) × (moves table i start ≡ x)
       fresh' x b h u = elim (cases_eq x at) [
         | inl e ↦ (w.taken, omega arith, w.at_is ∙ sym e)
-        | inr ne ↦ let f : (i : ℕ) × (i < w.taken) × (moves table i start ≡ x) = w.fresh x b (λ z. h (other x ne ∙ z)) u in (f.0, omega (arith, f.1), f.2)
+        | inr ne ↦ let f : (i : ℕ) × (i < w.taken) × (moves table i start ≡ x) =
+            w.fresh x b (λ z. h (other x ne ∙ z)) u in (f.0, omega (arith, f.1), f.2)
       ]
 
-      given' : (i : ℕ) → i < suc w.taken → (get_or (set labels at label) (moves table i start) 0 ≡ label) × (get_or old (moves table i start) 0 ≡ unlabelled)
+      given' : (i : ℕ) → i < suc w.taken → (get_or (set labels at label) (moves table i start) 0 ≡ label) × (get_or old
+          (moves table i start) 0 ≡ unlabelled)
       given' i b = elim (cases_eq i w.taken) [
         | inl e ↦ let here : moves table i start ≡ at = ap (λ j. moves table j start) e ∙ w.at_is in
             (ap (λ x. get_or (set labels at label) x 0) here ∙ get_or-set_same labels at label 0 in_labels, ap (λ x. get_or old x 0) here ∙ old_free)
@@ -103,8 +107,8 @@ moves_add table (suc i) j d =
     let e : suc i + j ≡ suc (i + j) = omega arith in ap (λ x. get_or table x 0) (moves_add table i j d) ∙ ap (λ k. moves table k d) (sym e)
 
 -- a labelled place leads to places of its label alone
-pub onward_all : (table labels : List ℕ) (count limit : ℕ) → LabelsOrbits table labels count limit → IsMove table → (j x : ℕ) → x < length table →
-    HasLabel labels x → get_or labels (moves table j x) 0 ≡ get_or labels x 0
+pub onward_all : (table labels : List ℕ) (count limit : ℕ) → LabelsOrbits table labels count limit → IsMove table → (j x : ℕ) →
+    x < length table → HasLabel labels x → get_or labels (moves table j x) 0 ≡ get_or labels x 0
 onward_all table labels count limit h move zero x l has = refl
 onward_all table labels count limit h move (suc j) x l has =
     let r : get_or labels (moves table j x) 0 ≡ get_or labels x 0 = onward_all table labels count limit h move j x l has in
@@ -200,11 +204,13 @@ module _ (table old labels : List ℕ) (start label at : ℕ) (move : IsMove tab
     where
       by_label : Labelled d → get_or labels (get_or table d 0) 0 ≡ get_or labels d 0
       by_label (was h e) =
-          let o : get_or old (get_or table d 0) 0 ≡ get_or old d 0 = labelled.onward d b h in w.kept (get_or table d 0) (λ z. h (sym o ∙ z)) ∙ o ∙ sym e
+          let o : get_or old (get_or table d 0) 0 ≡ get_or old d 0 = labelled.onward d b h in w.kept (get_or table d 0) (λ z. h (sym o ∙ z)) ∙ o
+          ∙ sym e
       by_label (now i c m e u) = elim (cases_lt (suc i) w.taken) [
         | inl less ↦ ap (λ x. get_or labels (get_or table x 0) 0) (sym m) ∙ (w.given (suc i) less).0 ∙ sym e
         | inr more ↦ let last : suc i ≡ w.taken = omega arith in
-            ap (λ x. get_or labels x 0) (ap (λ x. get_or table x 0) (sym m) ∙ ap (λ j. moves table j start) last ∙ w.at_is ∙ comes_back) ∙ marked_start ∙ sym e
+            ap (λ x. get_or labels x 0) (ap (λ x. get_or table x 0) (sym m) ∙ ap (λ j. moves table j start) last ∙ w.at_is ∙ comes_back)
+            ∙ marked_start ∙ sym e
       ]
 
   record New (d : ℕ) : Type 0 where
@@ -394,7 +400,8 @@ module _ (table labels : List ℕ) (count at : ℕ) (move : IsMove table) (small
   room_for = omega (arith, count_small table labels count at h)
 
   pub so_far_new : (labels' : List ℕ) → get_or labels at 0 ≡ unlabelled → LabelsOrbits table labels' (count + 1) (at + 1) →
-      ((d : ℕ) → HasLabel labels d → get_or labels' d 0 ≡ get_or labels d 0) → get_or labels' at 0 ≡ count → SoFar table labels' (count + 1) (at + 1)
+      ((d : ℕ) → HasLabel labels d → get_or labels' d 0 ≡ get_or labels d 0) → get_or labels' at 0 ≡ count →
+      SoFar table labels' (count + 1) (at + 1)
   so_far_new labels' free more kept marked = (
     more,
     all,

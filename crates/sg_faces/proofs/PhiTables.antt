@@ -29,7 +29,8 @@ following_after darts i after once l at = elim (cases_lt (i + 1) (length darts))
 module _ (darts table : List ℕ) (i after : ℕ) (once : IsDistinct darts) (l : i < length darts) (room : All (λ d. rev d < length table) darts)
     (at : IsAfter (length darts) i after) where
   pub linked_more : ((k : ℕ) → k < i → get_or table (rev (get_or darts k 0)) 0 ≡ following darts (get_or darts k 0)) →
-      (k : ℕ) → k < i + 1 → get_or (set table (rev (get_or darts i 0)) (get_or darts after 0)) (rev (get_or darts k 0)) 0 ≡ following darts (get_or darts k 0)
+      (k : ℕ) → k < i + 1 → get_or (set table (rev (get_or darts i 0)) (get_or darts after 0)) (rev (get_or darts k 0)) 0 ≡ following darts
+      (get_or darts k 0)
   linked_more h k b = elim (cases_eq k i) [
     | inl e ↦ ap (λ x. get_or (set table (rev (get_or darts i 0)) (get_or darts after 0)) (rev (get_or darts x 0)) 0) e
         ∙ get_or-set_same table (rev (get_or darts i 0)) (get_or darts after 0) 0 (room i 0 l) ∙ sym (following_after darts i after once l at)
@@ -39,11 +40,12 @@ module _ (darts table : List ℕ) (i after : ℕ) (once : IsDistinct darts) (l :
         (λ z. ne (same_place darts once k i (omega arith) l (rev_apart (get_or darts k 0) (get_or darts i 0) z))) ∙ h k (omega arith)
   ]
 
-  pub unlinked_kept : (x : ℕ) → All (λ d. rev d ≢ x) darts → get_or (set table (rev (get_or darts i 0)) (get_or darts after 0)) x 0 ≡ get_or table x 0
+  pub unlinked_kept : (x : ℕ) → All (λ d. rev d ≢ x) darts →
+      get_or (set table (rev (get_or darts i 0)) (get_or darts after 0)) x 0 ≡ get_or table x 0
   unlinked_kept x h = get_or-set_other table (rev (get_or darts i 0)) x (get_or darts after 0) 0 (λ z. h i 0 l (sym z))
 
-pub linked_all : (darts table : List ℕ) → ((k : ℕ) → k < length darts → get_or table (rev (get_or darts k 0)) 0 ≡ following darts (get_or darts k 0)) →
-    All (λ d. get_or table (rev d) 0 ≡ following darts d) darts
+pub linked_all : (darts table : List ℕ) → ((k : ℕ) → k < length darts →
+    get_or table (rev (get_or darts k 0)) 0 ≡ following darts (get_or darts k 0)) → All (λ d. get_or table (rev d) 0 ≡ following darts d) darts
 linked_all darts table h = All-from_get_or (λ d. get_or table (rev d) 0 ≡ following darts d) darts 0 (λ k b. h k b)
 
 module _ (inst : Ising) (good : IsInstance inst) where

@@ -83,7 +83,8 @@ module _ (inst : Ising) (bonds : List Bond) (same : HasSameEnds inst bonds) wher
               (λ d _. phi_same d) j d l ∙ s,
         )
 
-        back : (d e : ℕ) → d < dart_count inst → e < dart_count inst → SameFace (with_bonds inst bonds) d e → get_or faces.labels d 0 ≡ get_or faces.labels e 0
+        back : (d e : ℕ) → d < dart_count inst → e < dart_count inst → SameFace (with_bonds inst bonds) d e →
+            get_or faces.labels d 0 ≡ get_or faces.labels e 0
         back d e l m (j, s) = (h.same d e l m).1 (
           j,
           sym (after_steps_same (phi (with_bonds inst bonds)) (phi inst) (dart_count inst)

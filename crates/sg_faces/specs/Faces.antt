@@ -50,5 +50,6 @@ pub record IsFaceLabels (inst : Ising) (faces : Labelling) : Type 0 where
       (slice_index faces.labels d ≡ slice_index faces.labels e) ↔ SameFace inst d e
   pub used : (f : ℕ) → f < faces_before inst (dart_count inst) →
       (d : ℕ) × (d < dart_count inst) × (slice_index faces.labels d ≡ f)
-  pub order : (d : ℕ) → d < dart_count inst → is_least inst d ≡ true → slice_index faces.labels d ≡ faces_before inst d
+  pub order : (d : ℕ) → d < dart_count inst → is_least inst d ≡ true →
+      slice_index faces.labels d ≡ faces_before inst d
   pub counts : faces.count ≡ face_count inst

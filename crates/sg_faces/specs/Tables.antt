@@ -61,7 +61,8 @@ pub record IsOrbitLabels (table labels : List ℕ) (count : ℕ) : Type 0 where
   pub same : (d e : ℕ) → d < length table → e < length table →
       (slice_index labels d ≡ slice_index labels e) ↔ SameOrbit (entry table) d e
   pub used : (f : ℕ) → f < count → (d : ℕ) × (d < length table) × (slice_index labels d ≡ f)
-  pub order : (d : ℕ) → d < length table → is_least_of table d ≡ true → slice_index labels d ≡ least_before table d
+  pub order : (d : ℕ) → d < length table → is_least_of table d ≡ true →
+      slice_index labels d ≡ least_before table d
   pub counts : count ≡ least_before table (length table)
 
 -- the table holds `phi` at each dart that leads to a spin before `limit`

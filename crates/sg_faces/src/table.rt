@@ -1,6 +1,8 @@
-ghost use Rattle.std.specs.Prelude.{◌≡◌, ◌≢◌, ℕ, ◌<◌, length, slice_index, All, IfOk};
+ghost use Rattle.std.specs.Prelude.{◌≡◌, ◌≢◌, ◌==◌, ℕ, ◌<◌, ◌≤◌, if◌then◌else◌, length, slice_index, All, IfOk};
 ghost use Rattle.sg_model.specs.Rotation.{following, rev};
 ghost use Rattle.sg_model.specs.Seam.{IsDistinct};
+ghost use Rattle.sg_model.specs.WellFormed.{IsInstance};
+ghost use Rattle.sg_faces.specs.Faces.{bare_count};
 ghost use Rattle.sg_faces.specs.Tables.{IsPhiTable};
 
 use super::NoMemory;
@@ -33,13 +35,35 @@ fn link(darts: &[u32], table: &mut [u32])
     }
 }
 
-/// For each dart the dart behind it along its face.
-pub(crate) fn phi_table(alloc: Global, inst: &Instance) -> Result<Vec<u32>, NoMemory>
-    ensures { IfOk result (λ t. IsPhiTable inst.now t.items) }
+// 1 for a spin without a dart, and else 0.
+fn is_bare(darts: &[u32]) -> u32
+    ensures value { result ≡ (if length darts.now == 0 then 1 else 0) }
+    ensures few { result ≤ 1 }
+{
+    if darts.is_empty() { 1 } else { 0 }
+}
+
+/// The steps along the faces, with the spins that no step leads round.
+#[derive(Drop)]
+pub(crate) struct FaceSteps {
+    /// For each dart the dart behind it along its face.
+    pub(crate) table: Vec<u32>,
+    /// The number of spins without a bond.
+    pub(crate) bare: u32,
+}
+
+/// For each dart the dart behind it along its face, and the number of spins without a bond.
+pub(crate) fn phi_table(alloc: Global, inst: &Instance) -> Result<FaceSteps, NoMemory>
+    ensures table { IfOk result (λ steps. IsPhiTable inst.now steps.table.items) }
+    ensures bare { IfOk result (λ steps. steps.bare ≡ bare_count inst.now) }
+    ensures instance { IsInstance inst.now }
 {
     let mut table = vec![in alloc; 0u32; 2 * inst.bonds().len()]?;
+    let mut bare = 0;
     for spin in 0..inst.n() {
-        link(inst.rotation().at(spin as usize), &mut table);
+        let darts = inst.rotation().at(spin as usize);
+        link(darts, &mut table);
+        bare += is_bare(darts);
     }
-    Ok(table)
+    Ok(FaceSteps { table, bare })
 }

@@ -1,27 +1,12 @@
 ghost use Rattle.std.specs.Prelude.{◌≡◌, ℕ, ◌<◌, ◌≤◌, ◌↔◌, true, IfOk};
 ghost use Rattle.sg_model.specs.Rotation.{dart_count};
-ghost use Rattle.sg_model.specs.WellFormed.{IsInstance};
-ghost use Rattle.sg_faces.specs.Faces.{IsFaceLabels, SameFace, bare_count, is_least};
+ghost use Rattle.sg_faces.specs.Faces.{IsFaceLabels, SameFace, is_least};
 
 use super::labels::label_orbits;
 use super::table::phi_table;
 use super::{Faces, NoMemory};
 use sg_model::Instance;
 use std::alloc::Global;
-
-// How many spins have no bond.
-fn bare_spins(inst: &Instance) -> u32
-    ensures count { result ≡ bare_count inst.now }
-    ensures instance { IsInstance inst.now }
-{
-    let mut count = 0;
-    for spin in 0..inst.n() {
-        if inst.rotation().at(spin as usize).is_empty() {
-            count += 1;
-        }
-    }
-    count
-}
 
 /// Labels the faces of an instance by walking along each of them, in time linear in the spins and
 /// bonds.
@@ -36,8 +21,7 @@ pub fn trace(alloc: Global, inst: &Instance) -> Result<Faces, NoMemory>
     ensures least { (d : ℕ) → d < dart_count inst.now →
         (is_least inst.now d ≡ true) ↔ ((e : ℕ) → SameFace inst.now d e → d ≤ e) }
 {
-    let bare = bare_spins(inst);
-    let table = phi_table(alloc, inst)?;
-    let orbits = label_orbits(alloc, &table)?;
-    Ok(orbits.with_more(bare))
+    let steps = phi_table(alloc, inst)?;
+    let orbits = label_orbits(alloc, &steps.table)?;
+    Ok(orbits.with_more(steps.bare))
 }

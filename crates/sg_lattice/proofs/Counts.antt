@@ -76,7 +76,8 @@ south_counts R C = record {
     and_true false = refl
 
 -- in each row but the last a bond from each column but the last
-pub diagonal_counts : (R C W : ℕ) → C ≡ suc W → CountsRows (λ r c. ltb (r + 1) R && ltb (c + 1) C) R C (λ r c. r * W + cond (ltb (r + 1) R) (min c W) 0)
+pub diagonal_counts : (R C W : ℕ) → C ≡ suc W → CountsRows (λ r c. ltb (r + 1) R && ltb (c + 1) C) R C
+    (λ r c. r * W + cond (ltb (r + 1) R) (min c W) 0)
 diagonal_counts R C W e =
     rows_but_last R C (λ r c. ltb (c + 1) C) (λ r. r * W) (λ r c. min c W) (omega arith) (λ r. omega arith) (λ r c b. by_case c (cases_lt (c + 1) C))
     (λ r. omega arith)
@@ -89,7 +90,8 @@ diagonal_counts R C W e =
 abbrev pub half_row : ℕ → ℕ → ℕ
 half_row r c = cond (eqb (r % 2) 1) (c / 2) ((c + 1) / 2)
 
-pub half_counts : (R C : ℕ) → CountsRows (λ r c. ltb (r + 1) R && eqb ((r + c) % 2) 0) R C (λ r c. south_before C r + cond (ltb (r + 1) R) (half_row r c) 0)
+pub half_counts : (R C : ℕ) → CountsRows (λ r c. ltb (r + 1) R && eqb ((r + c) % 2) 0) R C
+    (λ r c. south_before C r + cond (ltb (r + 1) R) (half_row r c) 0)
 half_counts R C = rows_but_last R C (λ r c. eqb ((r + c) % 2) 0) (south_before C) half_row none first (λ r c b. more r c) next
   where
     none : south_before C 0 ≡ 0
@@ -116,7 +118,8 @@ half_counts R C = rows_but_last R C (λ r c. eqb ((r + c) % 2) 0) (south_before 
         no' : ((r + c) % 2 ≡ 0 → ⊥) → cond {A = ℕ} (eqb ((r + c) % 2) 0) 1 0 ≡ 0
         no' e = ap (λ t. cond {A = ℕ} t 1 0) (ne_eqb ((r + c) % 2) 0 e)
 
-        by_case : (r % 2 ≡ 1) ⊎ (r % 2 ≡ 1 → ⊥) → ((r + c) % 2 ≡ 0) ⊎ ((r + c) % 2 ≡ 0 → ⊥) → half_row r (suc c) ≡ half_row r c + cond (eqb ((r + c) % 2) 0) 1 0
+        by_case : (r % 2 ≡ 1) ⊎ (r % 2 ≡ 1 → ⊥) → ((r + c) % 2 ≡ 0) ⊎ ((r + c) % 2 ≡ 0 → ⊥) →
+            half_row r (suc c) ≡ half_row r c + cond (eqb ((r + c) % 2) 0) 1 0
         by_case (inl o) (inl e) = omega (arith, odd_row r (suc c / 2) ((suc c + 1) / 2) o, odd_row r (c / 2) ((c + 1) / 2) o, yes' e)
         by_case (inl o) (inr e) = omega (arith, odd_row r (suc c / 2) ((suc c + 1) / 2) o, odd_row r (c / 2) ((c + 1) / 2) o, no' e)
         by_case (inr o) (inl e) = omega (arith, even_row r (suc c / 2) ((suc c + 1) / 2) o, even_row r (c / 2) ((c + 1) / 2) o, yes' e)

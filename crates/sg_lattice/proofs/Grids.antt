@@ -7,7 +7,8 @@ use Rattle.sg_lattice.specs.Tables.{ends_at}
 use Rattle.sg_lattice.proofs.Ranks.{picked, rank, at_rank, rank_below, unrank, CountsRows, rank_at}
 
 -- where `has` says so a bond runs from (r, c) to (er, ec); where `comes` says so one runs from (sr, sc) to (r, c)
-pub record IsGridStep (R C : ℕ) (has : ℕ → ℕ → Bool) (er ec : ℕ → ℕ → ℕ) (comes : ℕ → ℕ → Bool) (sr sc : ℕ → ℕ → ℕ) : Type 0 where
+pub record IsGridStep (R C : ℕ) (has : ℕ → ℕ → Bool) (er ec : ℕ → ℕ → ℕ) (comes : ℕ → ℕ → Bool)
+    (sr sc : ℕ → ℕ → ℕ) : Type 0 where
   pub end_row : (r c : ℕ) → r < R → c < C → has r c ≡ true → er r c < R
   pub end_col : (r c : ℕ) → r < R → c < C → has r c ≡ true → ec r c < C
   pub moves : (r c : ℕ) → r < R → c < C → has r c ≡ true → er r c ≡ r → ec r c ≡ c → ⊥
@@ -35,7 +36,8 @@ module _ (inst : Ising) (ends : List Ends) (R C base : ℕ) (has : ℕ → ℕ �
   pub laid : (f : ℕ → Ends) → ((r c : ℕ) → c < C → ((f (r * C + c)).u ≡ r * C + c) × ((f (r * C + c)).v ≡ er r c * C + ec r c))
       → 0 < C → (g : ℕ → ℕ → ℕ) → CountsRows has R C g
       → ((r c : ℕ) → r < R → c < C → has r c ≡ true → number r c ≡ base + g r c)
-      → ((k : ℕ) → k < rank (λ i. has (i / C) (i % C)) (R * C) → ends_at ends (base + k) ≡ f (get_or (picked (λ i. has (i / C) (i % C)) (R * C)) k 0))
+      → ((k : ℕ) → k < rank (λ i. has (i / C) (i % C)) (R * C) →
+      ends_at ends (base + k) ≡ f (get_or (picked (λ i. has (i / C) (i % C)) (R * C)) k 0))
       → ((k : ℕ) → k < length ends → ((bond_at inst k).u ≡ (ends_at ends k).u) × ((bond_at inst k).v ≡ (ends_at ends k).v))
       → base + rank (λ i. has (i / C) (i % C)) (R * C) ≤ length ends
       → IsLaid inst R C base (rank (λ i. has (i / C) (i % C)) (R * C)) has number er ec
@@ -83,5 +85,6 @@ module _ (inst : Ising) (ends : List Ends) (R C base : ℕ) (has : ℕ → ℕ �
             a,
             b,
             w.2,
-            by_rank (w.0 / C) (w.0 % C) a b w.2 ∙ ap (λ i. base + rank (λ i. has (i / C) (i % C)) i) (div-add-mod' w.0 C) ∙ ap (λ k. base + k) w.3 ∙ back,
+            by_rank (w.0 / C) (w.0 % C) a b w.2 ∙ ap (λ i. base + rank (λ i. has (i / C) (i % C)) i) (div-add-mod' w.0 C) ∙ ap (λ k. base + k) w.3
+                ∙ back,
           )

@@ -33,7 +33,8 @@ same false false f g = refl
 dart_cases : (d : ℕ) → (d ≡ 2 * (d / 2)) ⊎ (d ≡ 2 * (d / 2) + 1)
 dart_cases d = elim (cases_eq (d % 2) 0) [ inl e ↦ inl (omega arith) | inr e ↦ inr (omega arith) ]
 
-module _ (inst : Ising) (R C base total : ℕ) (has : ℕ → ℕ → Bool) (number er ec : ℕ → ℕ → ℕ) (comes : ℕ → ℕ → Bool) (sr sc : ℕ → ℕ → ℕ)
+module _ (inst : Ising) (R C base total : ℕ) (has : ℕ → ℕ → Bool) (number er ec : ℕ → ℕ → ℕ) (comes : ℕ → ℕ → Bool)
+    (sr sc : ℕ → ℕ → ℕ)
     (step : IsGridStep R C has er ec comes sr sc)
     (laid : IsLaid inst R C base total has number er ec) where
   outside : (r c d : ℕ) → r < R → c < C → (d < 2 * base) ⊎ (2 * (base + total) ≤ d)
@@ -140,7 +141,8 @@ module _ (inst : Ising) (R C base total : ℕ) (has : ℕ → ℕ → Bool) (num
           cond {A = ℕ} (eqb (tail inst d) (r * C + c)) 1 0 ≡ cond {A = ℕ} (in_block base total d && eqb (tail inst d) (r * C + c)) 1 0
       inside lo hi = ap (λ t. cond {A = ℕ} (t && eqb (tail inst d) (r * C + c)) 1 0) (sym (in_block-yes base total d lo hi))
 
-      by_case : (d < 2 * base) ⊎ (2 * base ≤ d) → (d < 2 * (base + total)) ⊎ (2 * (base + total) ≤ d) → (d ≡ 2 * (d / 2)) ⊎ (d ≡ 2 * (d / 2) + 1)
+      by_case : (d < 2 * base) ⊎ (2 * base ≤ d) → (d < 2 * (base + total)) ⊎ (2 * (base + total) ≤ d) →
+          (d ≡ 2 * (d / 2)) ⊎ (d ≡ 2 * (d / 2) + 1)
           → cond {A = ℕ} (has r c && eqb (2 * number r c) d) 1 0 + cond {A = ℕ} (comes r c && eqb (2 * number (sr r c) (sc r c) + 1) d) 1 0
           ≡ cond {A = ℕ} (in_block base total d && eqb (tail inst d) (r * C + c)) 1 0
       by_case (inl l) s t = outside r c d a b (inl l)

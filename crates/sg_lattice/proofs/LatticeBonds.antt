@@ -84,7 +84,8 @@ module _ (kind : Kind) (R C : ℕ) (size : IsSize kind R C) where
   room SouthEast = omega (arith, length-starts SouthEast, length-ends_of, all_total kind R C)
 
   module _ (js : List ℤ) where
-    pub bond_is : (k : ℕ) → k < length (ends_of kind R C) → bond_at (lattice kind R C js) k ≡ coupled_bond (ends_at (ends_of kind R C) k) (get_or js k (pos 0))
+    pub bond_is : (k : ℕ) → k < length (ends_of kind R C) →
+        bond_at (lattice kind R C js) k ≡ coupled_bond (ends_at (ends_of kind R C) k) (get_or js k (pos 0))
     bond_is k l =
         get_or-map-range_with_len (λ i. coupled_bond (ends_at (ends_of kind R C) i) (get_or js i (pos 0))) 0 (length (ends_of kind R C)) k k no_bond l
         (omega arith)
@@ -105,11 +106,13 @@ module _ (kind : Kind) (R C : ℕ) (size : IsSize kind R C) where
         (listed step) read (room step))
       where
         ends_from_is : (r c : ℕ) → c < C →
-            ((ends_from kind step R C (r * C + c)).u ≡ r * C + c) × ((ends_from kind step R C (r * C + c)).v ≡ end_row step r c * C + end_col kind step C r c)
+            ((ends_from kind step R C (r * C + c)).u ≡ r * C + c) × ((ends_from kind step R C (r * C + c)).v ≡ end_row step r c * C + end_col kind step C r
+            c)
         ends_from_is r c b = (refl, ap₂ (neighbour kind step R C) (div-mul-add r C c b) (mod-mul-add r C c b) ∙ neighbour_is kind step R C r c)
 
         read : (k : ℕ) → k < length (ends_of kind R C) →
-            ((bond_at (lattice kind R C js) k).u ≡ (ends_at (ends_of kind R C) k).u) × ((bond_at (lattice kind R C js) k).v ≡ (ends_at (ends_of kind R C) k).v)
+            ((bond_at (lattice kind R C js) k).u ≡ (ends_at (ends_of kind R C) k).u) ×
+            ((bond_at (lattice kind R C js) k).v ≡ (ends_at (ends_of kind R C) k).v)
         read k l = (ap (λ (b : Bond). b.u) (bond_is k l), ap (λ (b : Bond). b.v) (bond_is k l))
 
     -- each bond joins two different spins

@@ -31,7 +31,8 @@ count_back : (g b : Bool) (x d : ℕ) → times d (cond g (cond b (x ∷ []) [])
 count_back true b x d = count_if b x d
 count_back false b x d = refl
 
-count_round : (t : Bool) (x y z d : ℕ) → times d (cond t ((2 * (x + y) + 1) ∷ []) ((2 * (x + z) + 1) ∷ [])) ≡ cond (eqb (2 * (x + cond t y z) + 1) d) 1 0
+count_round : (t : Bool) (x y z d : ℕ) → times d (cond t ((2 * (x + y) + 1) ∷ []) ((2 * (x + z) + 1) ∷ [])) ≡ cond (eqb (2 * (x + cond t y z) + 1) d)
+    1 0
 count_round true x y z d = count_one (2 * (x + y) + 1) d
 count_round false x y z d = count_one (2 * (x + z) + 1) d
 
@@ -47,11 +48,13 @@ count_six d a b e f g h =
     sum_by-append (λ x. cond (eqb x d) 1 0) a (b ++ (e ++ (f ++ (g ++ h))))
     ∙ ap (λ n. times d a + n) (sum_by-append (λ x. cond (eqb x d) 1 0) b (e ++ (f ++ (g ++ h)))
     ∙ ap (λ n. times d b + n) (sum_by-append (λ x. cond (eqb x d) 1 0) e (f ++ (g ++ h))
-    ∙ ap (λ n. times d e + n) (sum_by-append (λ x. cond (eqb x d) 1 0) f (g ++ h) ∙ ap (λ n. times d f + n) (sum_by-append (λ x. cond (eqb x d) 1 0) g h))))
+    ∙ ap (λ n. times d e + n) (sum_by-append (λ x. cond (eqb x d) 1 0) f (g ++ h)
+    ∙ ap (λ n. times d f + n) (sum_by-append (λ x. cond (eqb x d) 1 0) g h))))
 
 -- three blocks of darts make up all of them
 three_blocks : (d a b c m : ℕ) (t : Bool) → a + b + c ≡ m
-    → cond {A = ℕ} (in_block 0 a d && t) 1 0 + (cond {A = ℕ} (in_block a b d && t) 1 0 + cond {A = ℕ} (in_block (a + b) c d && t) 1 0) ≡ cond {A = ℕ}
+    → cond {A = ℕ} (in_block 0 a d && t) 1 0 + (cond {A = ℕ} (in_block a b d && t) 1 0 + cond {A = ℕ} (in_block (a + b) c d && t) 1 0) ≡ cond
+    {A = ℕ}
     (ltb d (2 * m) && t) 1 0
 three_blocks d a b c m t sum = by_case (cases_lt d (2 * a)) (cases_lt d (2 * (a + b))) (cases_lt d (2 * m))
   where
@@ -111,8 +114,8 @@ module _ (kind : Kind) (R C : ℕ) (size : IsSize kind R C) (js : List ℤ) wher
           (bond_number kind step R C) (end_row step) (end_col kind step C) (comes kind step R C) (source_row step) (source_col kind step C)
           (grid_step kind step R C size) (step_laid kind R C size js step) r c d a b
 
-      sums : (e n nw w s se e' n' nw' w' s' se' x y z all : ℕ) → e ≡ e' → n ≡ n' → nw ≡ nw' → w ≡ w' → s ≡ s' → se ≡ se' → e' + w' ≡ x → s' + n' ≡ y →
-          se' + nw' ≡ z → x + (y + z) ≡ all → e + (n + (nw + (w + (s + se)))) ≡ all
+      sums : (e n nw w s se e' n' nw' w' s' se' x y z all : ℕ) → e ≡ e' → n ≡ n' → nw ≡ nw' → w ≡ w' → s ≡ s' → se ≡ se' →
+          e' + w' ≡ x → s' + n' ≡ y → se' + nw' ≡ z → x + (y + z) ≡ all → e + (n + (nw + (w + (s + se)))) ≡ all
       sums e n nw w s se e' n' nw' w' s' se' x y z all p1 p2 p3 p4 p5 p6 q1 q2 q3 total = omega arith
 
   pub lattice_rotation : IsRotation (lattice kind R C js)

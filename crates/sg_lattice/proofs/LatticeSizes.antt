@@ -1,5 +1,6 @@
 -- The seam of a lattice, and how large its numbers get.
 use Rattle.std.proofs.Common.{◌≡◌, ◌≢◌, ◌⊎◌, inl, inr, ℕ, ℤ, zero, suc, ◌+◌, ◌-◌, ◌*◌, ◌/◌, ◌%◌, ◌<◌, ◌≤◌, ◌^◌, Bool, true, false, cond, eqb, List, [], length, get_or, map, count_by, refl, sym, ◌∙◌, ap, ap₂, subst, arith, All}
+use Rattle.std.specs.Prelude.{unsigned_abs}
 use Rattle.std.specs.List.{range_with_len}
 use Rattle.std.proofs.lemmas.Bool.{cases_eq, eq-eqb, ne_eqb}
 use Rattle.std.proofs.lemmas.Nat.{mul-add-lt, mul-le, same_from_place}
@@ -7,20 +8,16 @@ use Rattle.std.proofs.lemmas.List.Elements.{All-from_get_or}
 use Rattle.std.proofs.lemmas.List.Sums.{sum_by_push}
 use Rattle.std.proofs.lemmas.List.FromFn.{get_or-map-range_with_len, length-map-range_with_len, map-range_with_len_more}
 use Rattle.sg_model.specs.declared.bond.Bond.{Bond}
-use Rattle.sg_model.specs.declared.refusal.Fault.{Fault}
-use Rattle.sg_model.specs.declared.refusal.Fault.TheVariants.{Refused}
-use Rattle.sg_model.specs.declared.refusal.Refusal.{Refusal}
-use Rattle.sg_model.specs.declared.refusal.Refusal.TheVariants.{BadRotation, BadSeam}
 use Rattle.sg_model.specs.Ising.{Ising, bond_count}
 use Rattle.sg_model.specs.Rotation.{IsRotation}
 use Rattle.sg_model.specs.Seam.{IsSeam}
-use Rattle.sg_model.specs.Faults.{IsFaultOf, IsRefusalOf}
-use Rattle.sg_model.proofs.RotationFaults.{bad_rotation_refuted, bad_seam_refuted}
+use Rattle.sg_model.specs.WellFormed.{IsInstance}
 use Rattle.sg_lattice.specs.declared.kind.Kind.{Kind}
 use Rattle.sg_lattice.specs.declared.kind.Kind.TheVariants.{Square, Triangular, Hexagonal, Cylinder}
 use Rattle.sg_lattice.specs.Tables.{IsSize, bond_total, lattice, south_before}
 use Rattle.sg_lattice.proofs.KindSteps.{some_cols}
-use Rattle.sg_lattice.proofs.LatticeBonds.{bond_count_is}
+use Rattle.sg_lattice.proofs.LatticeBonds.{bond_count_is, lattice_joined}
+use Rattle.sg_lattice.proofs.LatticeRotation.{lattice_rotation}
 
 abbrev pub whole : ℕ → List Bond → List (List ℕ) → List ℕ → Ising
 whole n bonds rotation seam = record { n = n; bonds = bonds; rotation = rotation; seam = seam }
@@ -30,7 +27,8 @@ module _ (f : ℕ → ℕ) where
   absent zero x apart = refl
   absent (suc n) x apart =
       let e : n + 1 ≡ suc n = omega arith in
-      let more : count_by (λ y. eqb y x) (map f (range_with_len 0 (suc n))) ≡ count_by (λ y. eqb y x) (map f (range_with_len 0 n)) + cond (eqb (f n) x) 1 0 =
+      let more : count_by (λ y. eqb y x) (map f (range_with_len 0 (suc n))) ≡ count_by (λ y. eqb y x) (map f (range_with_len 0 n)) + cond (eqb (f n) x)
+      1 0 =
       ap (λ k. count_by (λ y. eqb y x) (map f (range_with_len 0 k))) (sym e)
       ∙ ap (count_by (λ y. eqb y x)) (map-range_with_len_more f 0 n n (omega arith))
       ∙ sum_by_push (λ y. cond (eqb y x) 1 0) (map f (range_with_len 0 n)) (f n) in
@@ -86,15 +84,6 @@ lattice_seam kind R C size js = record {
   distinct = λ x. omega arith;
 }
 
--- neither refusal can be given for a rotation and a seam
-no_refusal : (inst : Ising) → IsRotation inst → IsSeam inst → (refusal : Refusal) → IsRefusalOf inst refusal → ⊥
-no_refusal inst rotation seam (BadRotation spin dart) h = bad_rotation_refuted inst spin dart rotation h
-no_refusal inst rotation seam (BadSeam bond) h = bad_seam_refuted inst bond seam h.1
-no_refusal inst rotation seam _ h = h
-
-pub no_refused_fault : (inst : Ising) → IsRotation inst → IsSeam inst → (fault : Fault) (refusal : Refusal) → fault ≡ Refused refusal → IsFaultOf inst fault → ⊥
-no_refused_fault inst rotation seam fault refusal e h = no_refusal inst rotation seam refusal (subst (IsFaultOf inst) e h)
-
 pub some_spins : (kind : Kind) (R C : ℕ) → IsSize kind R C → 1 ≤ R * C
 some_spins kind R C size = omega (arith, mul-le 1 1 R C size.rows (some_cols kind R C size))
 
@@ -127,8 +116,27 @@ few_bonds Hexagonal R C size =
     omega (arith, size.few, few_cols Hexagonal R C size, mul-le R (C - 1) R C (omega arith) (omega arith), half_rows_few R C size.rows)
 few_bonds Cylinder R C size = omega (arith, size.few, mul-le (R - 1) C R C (omega arith) (omega arith))
 
+-- so it is an instance
+pub lattice_instance : (kind : Kind) (R C : ℕ) → IsSize kind R C → (js : List ℤ) → length js ≡ bond_total kind R C →
+    All (λ z. unsigned_abs z < 2 ^ 63) js → IsInstance (lattice kind R C js)
+lattice_instance kind R C size js count sizes = record {
+  draft = record {
+    has_spin = some_spins kind R C size;
+    few_spins = omega (arith, size.few);
+    few_bonds = omega (arith, bond_count_is kind R C size js, few_bonds kind R C size);
+    joined = lattice_joined kind R C size js count sizes;
+    lists = rotation.lists;
+  };
+  rotation = rotation;
+  seam = lattice_seam kind R C size js;
+}
+  where
+    rotation : IsRotation (lattice kind R C js)
+    rotation = lattice_rotation kind R C size js
+
 -- the parts make up the lattice
 pub assembled : (kind : Kind) (R C : ℕ) (js : List ℤ) (n : ℕ) (bonds : List Bond) (rotation : List (List ℕ)) (seam : List ℕ)
     → n ≡ R * C → bonds ≡ (lattice kind R C js).bonds → rotation ≡ (lattice kind R C js).rotation → seam ≡ (lattice kind R C js).seam
     → whole n bonds rotation seam ≡ lattice kind R C js
-assembled kind R C js n bonds rotation seam p q r s = ap₂ (λ x y. whole x y rotation seam) p q ∙ ap₂ (λ x y. whole (R * C) (lattice kind R C js).bonds x y) r s
+assembled kind R C js n bonds rotation seam p q r s = ap₂ (λ x y. whole x y rotation seam) p q
+    ∙ ap₂ (λ x y. whole (R * C) (lattice kind R C js).bonds x y) r s

@@ -1,4 +1,5 @@
 pub mod Ranks
+pub mod CoupledBonds
 pub mod Grids
 pub mod Laid
 pub mod Steps

@@ -68,8 +68,8 @@ module _ (p : ℕ → Bool) where
   unrank zero k l = absurd (omega arith)
   unrank (suc n) k l = by_case (cases_lt k (rank p n)) (unrank n k) (p n) refl
     where
-      by_case : (k < rank p n) ⊎ (rank p n ≤ k) → (k < rank p n → (i : ℕ) × (i < n) × (p i ≡ true) × (rank p i ≡ k)) → (b : Bool) → p n ≡ b
-          → (i : ℕ) × (i < suc n) × (p i ≡ true) × (rank p i ≡ k)
+      by_case : (k < rank p n) ⊎ (rank p n ≤ k) → (k < rank p n → (i : ℕ) × (i < n) × (p i ≡ true) × (rank p i ≡ k)) → (b : Bool) →
+          p n ≡ b → (i : ℕ) × (i < suc n) × (p i ≡ true) × (rank p i ≡ k)
       by_case (inl before) more b e = let w : (i : ℕ) × (i < n) × (p i ≡ true) × (rank p i ≡ k) = more before in (w.0, omega (arith, w.1), w.2, w.3)
       by_case (inr at) more true e =
           let one : cond {A = ℕ} (p n) 1 0 ≡ 1 = ap (λ b. cond {A = ℕ} b 1 0) e in
@@ -98,7 +98,8 @@ pub record CountsRows (has : ℕ → ℕ → Bool) (R C : ℕ) (g : ℕ → ℕ 
   pub next : (r : ℕ) → suc r < R → g (suc r) 0 ≡ g r C
 
 module _ (has : ℕ → ℕ → Bool) (R C : ℕ) (g : ℕ → ℕ → ℕ) (counts : CountsRows has R C g) where
-  rank_in_row : (r : ℕ) → r < R → rank (λ i. has (i / C) (i % C)) (r * C) ≡ g r 0 → (c : ℕ) → c ≤ C → rank (λ i. has (i / C) (i % C)) (r * C + c) ≡ g r c
+  rank_in_row : (r : ℕ) → r < R → rank (λ i. has (i / C) (i % C)) (r * C) ≡ g r 0 → (c : ℕ) → c ≤ C →
+      rank (λ i. has (i / C) (i % C)) (r * C + c) ≡ g r c
   rank_in_row r b base zero l = let e : r * C + 0 ≡ r * C = omega arith in ap (rank (λ i. has (i / C) (i % C))) e ∙ base
   rank_in_row r b base (suc c) l =
       let e : r * C + suc c ≡ suc (r * C + c) = omega arith in

@@ -122,7 +122,8 @@ before_of_next C c b = by_case (cases_lt (c + 1) C)
     by_case (inr l) = let at : c + 1 ≡ C = omega arith in ap (column_before C) (next_round C c at) ∙ before_round C 0 (omega arith) ∙ omega arith
 
 -- one column to the east, from the last to the first
-pub round_step : (R C : ℕ) → 2 ≤ C → IsGridStep R C (λ r c. true) (λ r c. r) (λ r c. (c + 1) % C) (λ r c. true) (λ r c. r) (λ r c. column_before C c)
+pub round_step : (R C : ℕ) → 2 ≤ C → IsGridStep R C (λ r c. true) (λ r c. r) (λ r c. (c + 1) % C) (λ r c. true) (λ r c. r)
+    (λ r c. column_before C c)
 round_step R C two = record {
   end_row = λ r c a b h. a;
   end_col = λ r c a b h. mod_below (c + 1) C (omega arith);

@@ -1,14 +1,15 @@
-ghost use Rattle.std.specs.Prelude.{◌≡◌, ◌<◌, ◌≤◌, ◌+◌, ◌-◌, ◌*◌, ◌/◌, ◌%◌, ◌^◌, [], ◌∷◌, ◌++◌, if◌then◌else◌, map, length, OnOk, IfOk, All, unsigned_abs};
+ghost use Rattle.std.specs.Prelude.{◌≡◌, ◌<◌, ◌≤◌, ◌+◌, ◌-◌, ◌*◌, ◌/◌, ◌%◌, ◌^◌, [], ◌∷◌, ◌++◌, if◌then◌else◌, List, pos, map, length, slice_index_or, OnOk, IfOk, All, unsigned_abs};
 ghost use Rattle.std.specs.List.{range_with_len};
 ghost use Rattle.sg_lattice.specs.declared.kind.Kind.TheVariants.{Square, Triangular, Hexagonal, Cylinder};
 ghost use Rattle.sg_list.specs.Pieces.{with_more};
-ghost use Rattle.sg_lattice.specs.Tables.{IsSize, bond_total, coupled, darts, ends_from, ends_of, forth, has_bond, back, lattice, north, north_west, seam_of, starts, west};
+ghost use Rattle.sg_lattice.specs.declared.kind.Ends.{Ends};
+ghost use Rattle.sg_lattice.specs.Tables.{IsSize, bond_total, coupled, coupled_bond, darts, ends_from, ends_of, forth, has_bond, back, lattice, north, north_west, seam_of, starts, west};
 
 use super::NoMemory;
 use super::kind::{Ends, Kind, Step};
 use super::shape::Shape;
-use sg_model::{Bond, BondList, Bonds, Couplings, Fault, Instance, Rotation};
-use std::alloc::{AllocError, Global};
+use sg_model::{Bond, BondList, Bonds, Couplings, Instance, Rotation};
+use std::alloc::Global;
 
 /// The number of bonds of a lattice. It takes no memory.
 pub fn bond_count(kind: Kind, rows: u32, cols: u32) -> u32
@@ -78,24 +79,29 @@ pub fn cylinder(alloc: Global, rows: u32, cols: u32, j: Couplings) -> Result<Ins
     build(alloc, Kind::Cylinder, rows, cols, j)
 }
 
-// The bonds between these ends, with these couplings.
-fn couple(alloc: Global, ends: &[Ends], j: &Couplings) -> Result<Bonds, NoMemory>
-    requires { length ends.now ≤ length j.now }
-    ensures { IfOk result (λ bonds. bonds ≡ coupled ends.now j.now) }
+// The coupling of bond `k`, and 0 past the last.
+fn coupling_at(j: &[i64], k: usize) -> i64
+    ensures { result ≡ slice_index_or j.now k (pos 0) }
 {
-    let mut bonds = Bonds::new(alloc);
-    for (k, pair) in ends.iter().enumerate() {
-        bonds.push(Bond {
-            u: pair.u,
-            v: pair.v,
-            j: j.at(k),
-        })?;
+    match j.get(k) {
+        Some(coupling) => *coupling,
+        None => 0,
     }
-    Ok(bonds)
+}
+
+// The bond between two ends, with its coupling.
+fn bond_between(ends: Ends, j: i64) -> Bond
+    ensures { result ≡ coupled_bond ends j }
+{
+    Bond {
+        u: ends.u,
+        v: ends.v,
+        j,
+    }
 }
 
 impl Shape {
-    // The whole instance. Its parts are a rotation and a seam, so that only memory may be wanting.
+    // The whole instance. Its parts are a rotation and a seam, so that nothing is to be tested.
     fn lattice(self, alloc: Global, j: &Couplings) -> Result<Instance, NoMemory>
         requires count { length j.now ≡ bond_total self.kind self.rows self.cols }
         requires sizes { All (λ z. unsigned_abs z < 2 ^ 63) j.now }
@@ -104,58 +110,49 @@ impl Shape {
         let bonds = self.bonds(alloc, j)?;
         let rotation = self.rotation(alloc)?;
         let seam = self.seam(alloc)?;
-        match Instance::new(alloc, self.spins(), bonds, rotation, seam) {
-            Ok(lattice) => Ok(lattice),
-            Err(Fault::NoMemory) => Err(AllocError),
-            Err(Fault::Refused(_)) => unreachable!(),
-        }
+        Ok(Instance::of_parts(self.spins(), bonds, rotation, seam))
     }
 
+    // The bonds of the table, with these couplings.
     fn bonds(self, alloc: Global, j: &Couplings) -> Result<Bonds, NoMemory>
-        requires { length j.now ≡ bond_total self.kind self.rows self.cols }
         ensures { IfOk result (λ bonds. bonds ≡ coupled (ends_of self.kind self.rows self.cols) j.now) }
     {
-        let ends = self.ends(alloc)?;
-        couple(alloc, &ends, j)
+        let mut bonds = Bonds::new(alloc);
+        self.push_bonds(Step::East, j, &mut bonds)?;
+        self.push_bonds(Step::South, j, &mut bonds)?;
+        self.push_bonds(Step::SouthEast, j, &mut bonds)?;
+        Ok(bonds)
     }
 
-    // The ends of all bonds.
-    fn ends(self, alloc: Global) -> Result<Vec<Ends>, NoMemory>
-        ensures { IfOk result (λ ends. ends.items ≡ ends_of self.kind self.rows self.cols) }
-    {
-        let mut ends = Vec::new(alloc);
-        self.push_ends(Step::East, &mut ends)?;
-        self.push_ends(Step::South, &mut ends)?;
-        self.push_ends(Step::SouthEast, &mut ends)?;
-        Ok(ends)
-    }
-
-    // Adds the ends of the bonds of one step.
-    fn push_ends(self, step: Step, ends: &mut Vec<Ends>) -> Result<(), NoMemory>
-        ensures { OnOk result (ends.new.items ≡ ends.old.items
-            ++ map (ends_from self.kind step self.rows self.cols) (starts self.kind step self.rows self.cols)) }
+    // Adds the bonds of one step, behind those between some ends.
+    fn push_bonds(self, step: Step, j: &Couplings, bonds: &mut Bonds) -> Result<(), NoMemory>
+        ensures { OnOk result ((ends : List Ends) → bonds.old ≡ coupled ends j.now → bonds.new ≡ coupled (ends
+            ++ map (ends_from self.kind step self.rows self.cols) (starts self.kind step self.rows self.cols)) j.now) }
     {
         for i in 0..self.spins() {
-            self.push_ends_from(step, i, ends)?;
+            self.push_bond(step, i, j, bonds)?;
         }
         Ok(())
     }
 
-    // Adds the ends of the bond of this step that runs from spin `i`, if there is one.
-    fn push_ends_from(self, step: Step, i: u32, ends: &mut Vec<Ends>) -> Result<(), NoMemory>
+    // Adds the bond of this step that runs from spin `i`, if there is one.
+    fn push_bond(self, step: Step, i: u32, j: &Couplings, bonds: &mut Bonds) -> Result<(), NoMemory>
         requires { i < self.rows * self.cols }
-        ensures { OnOk result (ends.new.items ≡ ends.old.items
+        ensures { OnOk result ((ends : List Ends) → bonds.old ≡ coupled ends j.now → bonds.new ≡ coupled (ends
             ++ (if has_bond self.kind step self.rows self.cols (i / self.cols) (i % self.cols)
-            then ends_from self.kind step self.rows self.cols i ∷ [] else [])) }
+            then ends_from self.kind step self.rows self.cols i ∷ [] else [])) j.now) }
     {
         let r = i / self.cols;
         let c = i % self.cols;
-        if self.has_bond(step, r, c) {
-            ends.push(Ends {
-                u: i,
-                v: self.neighbour(step, r, c),
-            })?;
+        if !self.has_bond(step, r, c) {
+            return Ok(());
         }
+        let ends = Ends {
+            u: i,
+            v: self.neighbour(step, r, c),
+        };
+        let coupling = coupling_at(j.as_slice(), bonds.len());
+        bonds.push(bond_between(ends, coupling))?;
         Ok(())
     }
 

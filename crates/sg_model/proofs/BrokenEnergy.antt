@@ -52,7 +52,8 @@ one_bond (negsuc a) p (inl e) = rw e (omega (arith, ints))
 one_bond (negsuc a) p (inr e) = rw e (omega (arith, ints))
 
 all_bonds : (s : List ℤ) (total : ℤ) (bonds : List Bond) → All (HasUnitEnds s) bonds →
-    fold (λ total b. total +ℤ (b.j *ℤ product s b)) total bonds +ℤ pos (sum_by (broken_cost s) bonds) ≡ total +ℤ pos (sum_by (λ b. unsigned_abs b.j) bonds)
+    fold (λ total b. total +ℤ (b.j *ℤ product s b)) total bonds +ℤ pos (sum_by (broken_cost s) bonds) ≡ total +ℤ pos
+    (sum_by (λ b. unsigned_abs b.j) bonds)
 all_bonds s total [] h = refl
 all_bonds s total (b ∷ bonds) h =
     let one : (b.j *ℤ product s b) +ℤ pos (broken_cost s b) ≡ pos (unsigned_abs b.j) =
@@ -62,7 +63,8 @@ all_bonds s total (b ∷ bonds) h =
     all_bonds s (total +ℤ (b.j *ℤ product s b)) bonds (All-tail (HasUnitEnds s) b bonds h) in
     simp (sum_by-cons (broken_cost s) b bonds, sum_by-cons (λ b. unsigned_abs b.j) b bonds) (added total (b.j *ℤ product s b) _ _ _ _ _ one rest)
   where
-    added : (acc t f : ℤ) (w r a v : ℕ) → t +ℤ pos w ≡ pos a → f +ℤ pos r ≡ (acc +ℤ t) +ℤ pos v → f +ℤ pos (w + r) ≡ acc +ℤ pos (a + v)
+    added : (acc t f : ℤ) (w r a v : ℕ) → t +ℤ pos w ≡ pos a → f +ℤ pos r ≡ (acc +ℤ t) +ℤ pos v →
+        f +ℤ pos (w + r) ≡ acc +ℤ pos (a + v)
     added acc t f w r a v p q = omega (arith, ints)
 
 -- the energy by what the broken bonds cost

@@ -13,7 +13,8 @@ one_place x xs i l e =
     let w : cond {A = ℕ} (eqb (get_or xs i 0) x) 1 0 ≡ 1 = ap (λ b. cond b 1 0) (eq-eqb (get_or xs i 0) x e) in
     omega arith
 
-two_places : (x : ℕ) (xs : List ℕ) (k i : ℕ) → k < i → i < length xs → get_or xs k 0 ≡ x → get_or xs i 0 ≡ x → 2 ≤ count_by (λ y. eqb y x) xs
+two_places : (x : ℕ) (xs : List ℕ) (k i : ℕ) → k < i → i < length xs → get_or xs k 0 ≡ x → get_or xs i 0 ≡ x →
+    2 ≤ count_by (λ y. eqb y x) xs
 two_places x [] k i lt l p q = absurd (omega arith)
 two_places x (y ∷ ys) k zero lt l p q = absurd (omega arith)
 two_places x (y ∷ ys) zero (suc i) lt l p q =

@@ -1,12 +1,12 @@
 -- Lists whose entries are all in place: they hold allowed numbers alone, and each of them at most once.
-use Rattle.std.proofs.Common.{◌≡◌, ℕ, zero, suc, ◌+◌, ◌<◌, ◌≤◌, Bool, true, false, cond, not, ◌||◌, eqb, List, [], ◌∷◌, length, get_or, take, refl, sym, ◌∙◌, ap, ap₂, subst, count_by, arith}
+use Rattle.std.proofs.Common.{◌≡◌, ℕ, zero, suc, ◌+◌, ◌<◌, ◌≤◌, Bool, true, false, cond, not, ◌||◌, eqb, List, length, get_or, take, refl, sym, ◌∙◌, ap, subst, count_by, arith}
 use Rattle.std.specs.Prelude.{Any}
 use Rattle.std.proofs.lemmas.List.{take_all, get_or_read}
 use Rattle.std.proofs.lemmas.List.Folds.{list_any_more, Any-from_list_any}
-use Rattle.std.proofs.lemmas.List.Sums.{get_or-le-sum_by, sum_by-cons, sum_by_more, sum_by_more_le}
-use Rattle.std.proofs.lemmas.Bool.{or_parts, not-false, eq-eqb, eqb-true}
+use Rattle.std.proofs.lemmas.List.Sums.{sum_by_more}
+use Rattle.std.proofs.lemmas.Bool.{or_parts, not-false, eqb-true}
 use Rattle.sg_sums.specs.Sets.{holds}
-use Rattle.sg_model.specs.Misplaced.{IsInPlace, IsFirstMisplaced}
+use Rattle.sg_model.specs.Misplaced.{IsInPlace}
 
 -- a number that a list holds has a place there
 pub place_held : (xs : List ℕ) (d : ℕ) → holds xs d ≡ true → (k : ℕ) × (k < length xs) × (get_or xs k 0 ≡ d)
@@ -43,7 +43,7 @@ module _ (allowed : ℕ → Bool) (xs : List ℕ) (good : IsInPlace allowed xs) 
       subst (λ ys. count_by (λ x. eqb x d) ys ≡ cond (holds ys d) 1 0) (take_all (length xs) xs (omega arith)) (count_before d (length xs) (omega arith))
 
   -- and only allowed numbers stand there
-  pub held_allowed : (d : ℕ) → holds xs d ≡ true → allowed d ≡ true
+  held_allowed : (d : ℕ) → holds xs d ≡ true → allowed d ≡ true
   held_allowed d h = let p : (k : ℕ) × (k < length xs) × (get_or xs k 0 ≡ d) = place_held xs d h in ap allowed (sym p.2) ∙ (in_place-parts p.0 p.1).0
 
   same : (h a : Bool) → (h ≡ true → a ≡ true) → (a ≡ true → h ≡ true) → h ≡ a
@@ -54,34 +54,3 @@ module _ (allowed : ℕ → Bool) (xs : List ℕ) (good : IsInPlace allowed xs) 
   -- where the list holds all allowed numbers, it holds each of them once and nothing else
   pub each_once_in_place : ((d : ℕ) → allowed d ≡ true → holds xs d ≡ true) → (d : ℕ) → count_by (λ x. eqb x d) xs ≡ cond (allowed d) 1 0
   each_once_in_place whole d = count_in_place d ∙ ap (λ b. cond {A = ℕ} b 1 0) (same (holds xs d) (allowed d) (held_allowed d) (whole d))
-
--- a number that a list holds is counted
-pub counted_from_holds : (xs : List ℕ) (d : ℕ) → holds xs d ≡ true → 1 ≤ count_by (λ x. eqb x d) xs
-counted_from_holds xs d h =
-    let p : (k : ℕ) × (k < length xs) × (get_or xs k 0 ≡ d) = place_held xs d h in
-    let one : cond {A = ℕ} (eqb (get_or xs p.0 0) d) 1 0 ≡ 1 = ap (λ b. cond {A = ℕ} b 1 0) (eq-eqb (get_or xs p.0 0) d p.2) in
-    omega (arith, get_or-le-sum_by (λ x. cond (eqb x d) 1 0) xs p.0 0 p.1)
-
--- a list without a number counts none of it
-pub counted_without : (xs : List ℕ) (d : ℕ) → holds xs d ≡ false → count_by (λ x. eqb x d) xs ≡ 0
-counted_without [] d h = refl
-counted_without (x ∷ xs) d h =
-    let both : (eqb x d ≡ false) × (holds xs d ≡ false) = or_parts (eqb x d) (holds xs d) h in
-    let none : cond {A = ℕ} (eqb x d) 1 0 ≡ 0 = ap (λ b. cond {A = ℕ} b 1 0) both.0 in
-    omega (arith, sum_by-cons (λ y. cond (eqb y d) 1 0) x xs, counted_without xs d both.1)
-
--- a list that holds each allowed number at most once, and nothing else, has no misplaced entry
-pub misplaced_refuted : (allowed : ℕ → Bool) (xs : List ℕ) (x : ℕ) → IsFirstMisplaced allowed xs x →
-    ((d : ℕ) → count_by (λ y. eqb y d) xs ≤ cond (allowed d) 1 0) → ⊥
-misplaced_refuted allowed xs x m most =
-    let here : cond {A = ℕ} (eqb (get_or xs m.place 0) x) 1 0 ≡ 1 = ap (λ b. cond {A = ℕ} b 1 0) (eq-eqb (get_or xs m.place 0) x m.entry) in
-    let among : count_by (λ y. eqb y x) (take m.place xs) + cond (eqb (get_or xs m.place 0) x) 1 0 ≤ count_by (λ y. eqb y x) xs =
-    sum_by_more_le (λ y. cond (eqb y x) 1 0) xs m.place 0 m.inside in
-    by_case (allowed x) (holds (take m.place xs) x)
-    (ap₂ (λ a h. not a || h) (ap allowed (sym m.entry)) (ap (holds (take m.place xs)) (sym m.entry)) ∙ m.misplaced)
-    (count_by (λ y. eqb y x) xs) (most x) (count_by (λ y. eqb y x) (take m.place xs)) (omega arith) (counted_from_holds (take m.place xs) x)
-  where
-    by_case : (a h : Bool) → (not a || h) ≡ true → (n : ℕ) → n ≤ cond a 1 0 → (k : ℕ) → k + 1 ≤ n → (h ≡ true → 1 ≤ k) → ⊥
-    by_case true true e n l k more f = let g : 1 ≤ k = f refl in omega arith
-    by_case true false e n l k more f = absurd (let w = e in cc)
-    by_case false h e n l k more f = omega arith

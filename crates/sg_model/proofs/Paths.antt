@@ -54,8 +54,11 @@ module _ (inst : Ising) (set : ℕ → Bool) where
             below = omega arith;
             in_set = ap set half ∙ inside;
             ends =
-                inl
-                (sym (tail_first inst k) ∙ ap (tail inst) (sym e), sym (tail_second inst k) ∙ ap (tail inst) (sym (rev_first k)) ∙ ap (head_of inst) (sym e));
+                inl (
+                  sym (tail_first inst k) ∙ ap (tail inst) (sym e),
+                  sym (tail_second inst k) ∙ ap (tail inst) (sym (rev_first k))
+                      ∙ ap (head_of inst) (sym e),
+                );
           }
       by_dart (k, inr e) =
           let half : k ≡ d / 2 = omega arith in
@@ -64,8 +67,11 @@ module _ (inst : Ising) (set : ℕ → Bool) where
             below = omega arith;
             in_set = ap set half ∙ inside;
             ends =
-                inr
-                (sym (tail_first inst k) ∙ ap (tail inst) (sym (rev_second k)) ∙ ap (head_of inst) (sym e), sym (tail_second inst k) ∙ ap (tail inst) (sym e));
+                inr (
+                  sym (tail_first inst k) ∙ ap (tail inst) (sym (rev_second k)) ∙ ap (head_of inst) (sym e),
+                  sym (tail_second inst k)
+                      ∙ ap (tail inst) (sym e),
+                );
           }
 
   -- so it joins the spin with any that the dart leads to, whatever their names

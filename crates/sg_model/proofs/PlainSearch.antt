@@ -28,7 +28,8 @@ up-reaches (x ∷ xs) n count some h up =
 abbrev pub BeatsHalves : Ising → ℤ → Type 0
 BeatsHalves inst e = (half : ℕ) → half < 2 ^ (inst.n - 1) → e ≤ℤ energy inst (coded inst.n (2 * half))
 
-beats-up : (inst : Ising) (e : ℤ) → IsInstance inst → BeatsHalves inst e → (t : List ℤ) → IsAssignment inst t → spin t 0 ≡ pos 1 → e ≤ℤ energy inst t
+beats-up : (inst : Ising) (e : ℤ) → IsInstance inst → BeatsHalves inst e → (t : List ℤ) → IsAssignment inst t → spin t 0 ≡ pos 1 →
+    e ≤ℤ energy inst t
 beats-up inst e good beats t h up =
     let found : (half : ℕ) × (half < 2 ^ (inst.n - 1)) × (coded inst.n (2 * half) ≡ t) = up-reaches t inst.n h.count good.draft.has_spin h.values up in
     subst (λ s. e ≤ℤ energy inst s) found.2 (beats found.0 found.1)
@@ -53,16 +54,16 @@ coded-first_up zero half some = absurd (omega arith)
 coded-first_up (suc n) half some = ap (λ s. spin s 0) (coded-even n half)
 
 -- a better one takes the place of the least so far
-pub beats-found : (f : ℕ → ℤ) (least here : ℤ) (half : ℕ) → here ≡ f half → here <ℤ least → ((k : ℕ) → k < half → least ≤ℤ f k) → (k : ℕ) →
-    k < half + 1 → here ≤ℤ f k
+pub beats-found : (f : ℕ → ℤ) (least here : ℤ) (half : ℕ) → here ≡ f half → here <ℤ least →
+    ((k : ℕ) → k < half → least ≤ℤ f k) → (k : ℕ) → k < half + 1 → here ≤ℤ f k
 beats-found f least here half found better before k l = elim (cases_eq k half) [
   | inl e ↦ let same : f k ≡ f half = ap f e in omega (arith, ints)
   | inr ne ↦ let old : least ≤ℤ f k = before k (omega arith) in omega (arith, ints)
 ]
 
 -- and one that is no better does not
-pub beats-kept : (f : ℕ → ℤ) (least here : ℤ) (half : ℕ) → here ≡ f half → least ≤ℤ here → ((k : ℕ) → k < half → least ≤ℤ f k) → (k : ℕ) →
-    k < half + 1 → least ≤ℤ f k
+pub beats-kept : (f : ℕ → ℤ) (least here : ℤ) (half : ℕ) → here ≡ f half → least ≤ℤ here →
+    ((k : ℕ) → k < half → least ≤ℤ f k) → (k : ℕ) → k < half + 1 → least ≤ℤ f k
 beats-kept f least here half found worse before k l = elim (cases_eq k half) [
   | inl e ↦ let same : f k ≡ f half = ap f e in omega (arith, ints)
   | inr ne ↦ before k (omega arith)

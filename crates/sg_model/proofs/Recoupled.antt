@@ -82,7 +82,8 @@ module _ (inst : Ising) where
     long : length (with_coupling inst bond z).bonds ≡ bond_count inst
     long = length-set inst.bonds bond (recoupled (bond_at inst bond) z)
 
-    at : (k : ℕ) → k < bond_count inst → get_or (with_coupling inst bond z).bonds k no_bond ≡ cond (eqb k bond) (recoupled (bond_at inst k) z) (bond_at inst k)
+    at : (k : ℕ) → k < bond_count inst → get_or (with_coupling inst bond z).bonds k no_bond ≡ cond (eqb k bond) (recoupled (bond_at inst k) z)
+        (bond_at inst k)
     at k l = by_case (cases_eq k bond)
       where
         by_case : (k ≡ bond) ⊎ (k ≡ bond → ⊥) →
@@ -101,7 +102,8 @@ module _ (inst : Ising) where
         → take k (with_coupling inst bond z).bonds ++ cond (eqb k bond) (recoupled (get_or items k no_bond) z) (get_or items k no_bond) ∷ [] ≡ take
         (k + 1) (with_coupling inst bond z).bonds
     coupling_step items k same l =
-        ap (λ (c : List Bond). take k (with_coupling inst bond z).bonds ++ cond (eqb k bond) (recoupled (get_or c k no_bond) z) (get_or c k no_bond) ∷ []) same
+        ap (λ (c : List Bond). take k (with_coupling inst bond z).bonds ++ cond (eqb k bond) (recoupled (get_or c k no_bond) z) (get_or c k no_bond) ∷ [])
+        same
         ∙ ap (λ (b : Bond). take k (with_coupling inst bond z).bonds ++ b ∷ []) (sym (at k l))
         ∙ sym (take_more (with_coupling inst bond z).bonds k no_bond (omega (arith, long)))
 
@@ -117,7 +119,8 @@ module _ (inst : Ising) where
         kept f e true b = e b
         kept f e false b = refl
 
-        ends : (f : Bond → ℕ) → ((b : Bond) → f (recoupled b z) ≡ f b) → (k : ℕ) → f (get_or (with_coupling inst bond z).bonds k no_bond) ≡ f (bond_at inst k)
+        ends : (f : Bond → ℕ) → ((b : Bond) → f (recoupled b z) ≡ f b) → (k : ℕ) →
+            f (get_or (with_coupling inst bond z).bonds k no_bond) ≡ f (bond_at inst k)
         ends f e k = elim (cases_lt k (bond_count inst)) [
           | inl l ↦ ap f (at k l) ∙ kept f e (eqb k bond) (bond_at inst k)
           | inr past ↦ ap f (get_or_past (with_coupling inst bond z).bonds k no_bond (omega (arith, long)) ∙ sym (get_or_past inst.bonds k no_bond past))
@@ -143,7 +146,8 @@ module _ (inst : Ising) where
         get_or (coupled_bonds inst.bonds couplings) k no_bond ≡ recoupled (bond_at inst k) (get_or couplings k (pos 0))
     coupled_at_place k l = get_or-map-range_with_len (coupled_at inst.bonds couplings) 0 (bond_count inst) k k no_bond l (omega arith)
 
-    pub couplings_ends : length couplings ≡ bond_count inst → All (λ z. unsigned_abs z < 2 ^ 63) couplings → HasSameEnds inst (coupled_bonds inst.bonds couplings)
+    pub couplings_ends : length couplings ≡ bond_count inst → All (λ z. unsigned_abs z < 2 ^ 63) couplings →
+        HasSameEnds inst (coupled_bonds inst.bonds couplings)
     couplings_ends given small = record {
       count = all_long;
       first = λ k. ends (λ b. b.u) (λ b z. refl) k;
@@ -159,7 +163,8 @@ module _ (inst : Ising) where
               ∙ sym (get_or_past inst.bonds k no_bond past))
         ]
 
-        sizes_at : (k : ℕ) → k < length (coupled_bonds inst.bonds couplings) → unsigned_abs (get_or (coupled_bonds inst.bonds couplings) k no_bond).j < 2 ^ 63
+        sizes_at : (k : ℕ) → k < length (coupled_bonds inst.bonds couplings) →
+            unsigned_abs (get_or (coupled_bonds inst.bonds couplings) k no_bond).j < 2 ^ 63
         sizes_at k b =
             let l : k < bond_count inst = omega (arith, all_long) in
             let h : unsigned_abs (get_or couplings k (pos 0)) < 2 ^ 63 = small k (pos 0) (omega (arith, l, given)) in

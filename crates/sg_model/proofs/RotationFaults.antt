@@ -1,6 +1,6 @@
--- What the marks on the darts and bonds say of the rotation and the seam, and that a fault refutes them.
-use Rattle.std.proofs.Common.{◌≡◌, ◌⊎◌, inl, inr, ℕ, ◌<◌, ◌≤◌, Bool, true, false, cond, not, ◌&&◌, eqb, List, length, get_or, refl, sym, ◌∙◌, ap, subst, count_by, arith}
-use Rattle.std.proofs.lemmas.Bool.{and_from, and_parts, not-true, not_from_false, ltb-true, lt-ltb}
+-- What the marks on the darts and bonds say of the rotation and the seam.
+use Rattle.std.proofs.Common.{◌≡◌, ◌⊎◌, inl, inr, ℕ, ◌<◌, ◌≤◌, Bool, true, false, cond, not, ◌&&◌, eqb, List, length, get_or, refl, sym, ◌∙◌, subst, count_by, arith}
+use Rattle.std.proofs.lemmas.Bool.{and_from, not_from_false, ltb-true}
 use Rattle.std.proofs.lemmas.List.Elements.{All-from_get_or}
 use Rattle.sg_model.specs.Ising.{Ising, bond_count}
 use Rattle.sg_model.specs.Rotation.{IsRotation, darts_of, is_dart_of}
@@ -8,9 +8,9 @@ use Rattle.sg_model.specs.Seam.{IsSeam}
 use Rattle.sg_sums.specs.Sets.{holds}
 use Rattle.sg_model.specs.Misplaced.{IsInPlace, IsFirstMisplaced}
 use Rattle.sg_model.specs.BadRotation.{IsBadRotation, IsLeastMissing}
-use Rattle.sg_model.specs.BadSeam.{IsBadSeam, is_bond}
+use Rattle.sg_model.specs.BadSeam.{is_bond}
 use Rattle.sg_model.specs.Marks.{AllMarked, IsLeastUnmarked, MarksSpins}
-use Rattle.sg_model.proofs.EachOnce.{in_place-parts, count_in_place, each_once_in_place, counted_without, misplaced_refuted, place_held}
+use Rattle.sg_model.proofs.EachOnce.{in_place-parts, count_in_place, each_once_in_place}
 
 module _ (inst : Ising) (marked : List Bool) (stop : ℕ) (marks : MarksSpins inst marked stop) where
   -- where all darts of the spins before `spin` are marked, their lists are right
@@ -35,7 +35,8 @@ module _ (inst : Ising) (marked : List Bool) (stop : ℕ) (marks : MarksSpins in
       none true false f = sym (f refl)
       none false h f = refl
 
-  pub bad_rotation : (first spin dart : ℕ) → AllMarked inst marked spin → (stop < inst.n → IsFirstMisplaced (is_dart_of inst stop) (darts_of inst stop) first)
+  pub bad_rotation : (first spin dart : ℕ) → AllMarked inst marked spin →
+      (stop < inst.n → IsFirstMisplaced (is_dart_of inst stop) (darts_of inst stop) first)
       → ((spin ≡ stop) × (dart ≡ first)) ⊎ IsLeastUnmarked inst marked stop spin dart → spin < inst.n → IsBadRotation inst spin dart
   bad_rotation first spin dart all misplaced (inl same) l = record {
     below = l;
@@ -69,30 +70,3 @@ seam_in_place inst good = record {
     once : (h : Bool) (n : ℕ) → n ≡ cond h 1 0 → n ≤ 1
     once true n e = omega arith
     once false n e = omega arith
-
--- a rotation has no fault
-pub bad_rotation_refuted : (inst : Ising) (spin dart : ℕ) → IsRotation inst → IsBadRotation inst spin dart → ⊥
-bad_rotation_refuted inst spin dart good bad = by_case bad.shown
-  where
-    by_case : IsFirstMisplaced (is_dart_of inst spin) (darts_of inst spin) dart ⊎ IsLeastMissing inst spin dart → ⊥
-    by_case (inl m) = misplaced_refuted (is_dart_of inst spin) (darts_of inst spin) dart m (λ d. omega (arith, good.each_once spin d bad.below))
-    by_case (inr m) =
-        let both : (is_dart_of inst spin dart ≡ true) × (not (holds (darts_of inst spin) dart) ≡ true) =
-        and_parts (is_dart_of inst spin dart) (not (holds (darts_of inst spin) dart)) m.missing in
-        let one : cond {A = ℕ} (is_dart_of inst spin dart) 1 0 ≡ 1 = ap (λ b. cond {A = ℕ} b 1 0) both.0 in
-        omega (arith, good.each_once spin dart bad.below, counted_without (darts_of inst spin) dart (not-true (holds (darts_of inst spin) dart) both.1))
-
--- a seam has none
-pub bad_seam_refuted : (inst : Ising) (bond : ℕ) → IsSeam inst → IsBadSeam inst bond → ⊥
-bad_seam_refuted inst bond good bad = misplaced_refuted (is_bond inst) inst.seam bond bad most
-  where
-    most : (d : ℕ) → count_by (λ y. eqb y d) inst.seam ≤ cond (is_bond inst d) 1 0
-    most d = by_case (holds inst.seam d) refl
-      where
-        by_case : (h : Bool) → holds inst.seam d ≡ h → count_by (λ y. eqb y d) inst.seam ≤ cond (is_bond inst d) 1 0
-        by_case true e =
-            let p : (k : ℕ) × (k < length inst.seam) × (get_or inst.seam k 0 ≡ d) = place_held inst.seam d e in
-            let b : d < bond_count inst = omega (arith, good.below p.0 0 p.1, p.2) in
-            let one : cond {A = ℕ} (is_bond inst d) 1 0 ≡ 1 = ap (λ b. cond {A = ℕ} b 1 0) (lt-ltb d (bond_count inst) b) in
-            omega (arith, good.distinct d)
-        by_case false e = omega (arith, counted_without inst.seam d e)

@@ -46,7 +46,8 @@ module _ (inst : Ising) (good : IsInstance inst) where
           let t : tail inst d ≡ (bond_at inst k).v = ap (tail inst) e ∙ tail_second inst k in omega (arith, t, w.second_end)
 
   -- and each dart stands in the list of the spin that it leaves
-  pub place_of : (d : ℕ) → d < dart_count inst → (j : ℕ) × (j < length (darts_of inst (tail inst d))) × (get_or (darts_of inst (tail inst d)) j 0 ≡ d)
+  pub place_of : (d : ℕ) → d < dart_count inst → (j : ℕ) × (j < length (darts_of inst (tail inst d))) × (get_or (darts_of inst (tail inst d))
+      j 0 ≡ d)
   place_of d l =
       place_from_count d (darts_of inst (tail inst d))
       (omega (arith, good.rotation.each_once (tail inst d) d (tail_below d l), ap (λ b. cond {A = ℕ} b 1 0) is_one))
@@ -55,7 +56,8 @@ module _ (inst : Ising) (good : IsInstance inst) where
       is_one = and_from (ltb d (dart_count inst)) (eqb (tail inst d) (tail inst d)) (lt-ltb d (dart_count inst) l) (eq-eqb (tail inst d) (tail inst d) refl)
 
   -- the same, where the spin has another name
-  pub place_at : (i d : ℕ) → d < dart_count inst → tail inst d ≡ i → (j : ℕ) × (j < length (darts_of inst i)) × (get_or (darts_of inst i) j 0 ≡ d)
+  pub place_at : (i d : ℕ) → d < dart_count inst → tail inst d ≡ i →
+      (j : ℕ) × (j < length (darts_of inst i)) × (get_or (darts_of inst i) j 0 ≡ d)
   place_at i d l e = subst (λ i. (j : ℕ) × (j < length (darts_of inst i)) × (get_or (darts_of inst i) j 0 ≡ d)) e (place_of d l)
 
   pub next_is : (d : ℕ) → next inst d ≡ following (darts_of inst (tail inst d)) d

@@ -19,5 +19,6 @@ pub record IsLeastMissing (inst : Ising) (i d : ℕ) : Type 0 where
 -- else the least that is missing
 pub record IsBadRotation (inst : Ising) (spin dart : ℕ) : Type 0 where
   pub below : spin < inst.n
-  pub earlier : (i d : ℕ) → i < spin → count_by (λ x. x == d) (darts_of inst i) ≡ cond (is_dart_of inst i d) 1 0
+  pub earlier : (i d : ℕ) → i < spin →
+      count_by (λ x. x == d) (darts_of inst i) ≡ cond (is_dart_of inst i d) 1 0
   pub shown : IsFirstMisplaced (is_dart_of inst spin) (darts_of inst spin) dart ⊎ IsLeastMissing inst spin dart

@@ -31,7 +31,8 @@ darts_of inst i = slice_index_or inst.rotation i []
 -- a list for each spin, which holds each dart that leaves it once and nothing else
 pub record IsRotation (inst : Ising) : Type 0 where
   pub lists : length inst.rotation ≡ inst.n
-  pub each_once : (i d : ℕ) → i < inst.n → count_by (λ x. x == d) (darts_of inst i) ≡ cond (is_dart_of inst i d) 1 0
+  pub each_once : (i d : ℕ) → i < inst.n →
+      count_by (λ x. x == d) (darts_of inst i) ≡ cond (is_dart_of inst i d) 1 0
 
 -- the entry behind d; behind the last comes the first
 unfoldable pub following : List ℕ → ℕ → ℕ

@@ -90,6 +90,20 @@ impl Instance {
         })
     }
 
+    /// The instance of these parts, which the caller knows to make one. Nothing is tested, and no memory
+    /// is taken.
+    pub fn of_parts(n: u32, bonds: Bonds, rotation: Rotation, seam: BondList) -> Self
+        requires { IsInstance (record { n = n; bonds = bonds; rotation = rotation; seam = seam }) }
+        ensures { result ≡ record { n = n; bonds = bonds; rotation = rotation; seam = seam } }
+    {
+        Instance {
+            n,
+            bonds,
+            rotation,
+            seam,
+        }
+    }
+
     /// The number of spins.
     pub fn n(&self) -> u32
         ensures value { result ≡ self.now.n }
@@ -149,26 +163,6 @@ impl Instance {
     {
         let bonds = self.flipped_bonds()?;
         self.with_bonds(bonds)
-    }
-
-    /// The same instance with the sign of the coupling changed on each bond of the seam, in time
-    /// linear in the bonds. The rotation is moved, and not copied.
-    pub fn with_seam_flipped(self) -> Result<Instance, NoMemory>
-        ensures { IfOk result (λ flipped. flipped ≡ with_seam_flipped self) }
-    {
-        let bonds = self.flipped_bonds()?;
-        let Instance {
-            n,
-            bonds: _,
-            rotation,
-            seam,
-        } = self;
-        Ok(Instance {
-            n,
-            bonds,
-            rotation,
-            seam,
-        })
     }
 
     /// The same instance with these couplings, in the order of the bonds, in time linear in the bonds.

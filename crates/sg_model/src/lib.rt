@@ -9,9 +9,10 @@
 //!
 //! For the next engineer: `specs/Ising.antt`, `specs/Rotation.antt`, `specs/Spins.antt` and
 //! `specs/Energy.antt` hold the definitions that every crate above cites, and `specs/WellFormed.antt`
-//! what each `Instance` keeps. `Instance::new` is the one way to make an instance;
-//! `specs/Faults.antt` says which fault it names. `least_plain` is the reference for each faster
-//! solver, since its contract is the definition of a ground state.
+//! what each `Instance` keeps. `Instance::new` makes an instance of parts that it tests, and
+//! `Instance::of_parts` one of parts that are known to be right; `specs/Faults.antt` says which fault
+//! the first names. `least_plain` is the reference for each faster solver, since its contract is the
+//! definition of a ground state.
 #![tactic(auto)]
 
 mod bond;

@@ -38,9 +38,11 @@ pub record IsEmbedding (n m F : ℕ) (tail next face : ℕ → ℕ) : Type 0 whe
   pub tail_below : (d : ℕ) → d < 2 * m → tail d < n
   pub next_tail : (d : ℕ) → d < 2 * m → tail (next d) ≡ tail d
   -- `next` only moves the darts
-  pub next_sum : (h : ℕ → Bool) → parity_below (λ k. xor (h (next (2 * k))) (h (next (2 * k + 1)))) m ≡ parity_below (λ k. xor (h (2 * k)) (h (2 * k + 1))) m
+  pub next_sum : (h : ℕ → Bool) → parity_below (λ k. xor (h (next (2 * k))) (h (next (2 * k + 1)))) m ≡ parity_below
+      (λ k. xor (h (2 * k)) (h (2 * k + 1))) m
   -- the darts of a spin are one cycle
-  pub one_cycle : (g : ℕ → Bool) → ((d : ℕ) → d < 2 * m → g (next d) ≡ g d) → (d e : ℕ) → d < 2 * m → e < 2 * m → tail d ≡ tail e → g d ≡ g e
+  pub one_cycle : (g : ℕ → Bool) → ((d : ℕ) → d < 2 * m → g (next d) ≡ g d) → (d e : ℕ) → d < 2 * m → e < 2 * m → tail d ≡ tail e →
+      g d ≡ g e
   -- the face on the far side of a dart is that of the next dart
   pub face_next : (k : ℕ) → k < m → (face (next (2 * k)) ≡ face (2 * k + 1)) × (face (next (2 * k + 1)) ≡ face (2 * k))
   pub face_below : (d : ℕ) → d < 2 * m → face d < F

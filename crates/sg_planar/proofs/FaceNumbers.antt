@@ -53,8 +53,8 @@ module _ (inst : Ising) (good : IsInstance inst) where
   least_dart d l = find_least d d l (omega arith)
 
   -- a face has one least dart
-  one_least : (d e a b : ℕ) → d < dart_count inst → e < dart_count inst → SameFace inst d e → is_least inst a ≡ true → is_least inst b ≡ true →
-      a < dart_count inst → b < dart_count inst → SameFace inst d a → SameFace inst e b → a ≡ b
+  one_least : (d e a b : ℕ) → d < dart_count inst → e < dart_count inst → SameFace inst d e → is_least inst a ≡ true →
+      is_least inst b ≡ true → a < dart_count inst → b < dart_count inst → SameFace inst d a → SameFace inst e b → a ≡ b
   one_least d e a b ld le de ha hb la lb da eb =
       let ab : SameFace inst a b = face_transitive inst a d b (face_symmetric inst good d a ld da) (face_transitive inst d e b de eb) in
       let first : a ≤ b = ((least_of_face inst good a la).0 ha) b ab in
@@ -70,7 +70,8 @@ module _ (inst : Ising) (good : IsInstance inst) where
   number d = number_of d (cases_lt d (dart_count inst))
 
   -- it is the rank of the least dart of the face
-  number_is : (d a : ℕ) → d < dart_count inst → a < dart_count inst → SameFace inst d a → is_least inst a ≡ true → number d ≡ rank (is_least inst) a
+  number_is : (d a : ℕ) → d < dart_count inst → a < dart_count inst → SameFace inst d a → is_least inst a ≡ true →
+      number d ≡ rank (is_least inst) a
   unfolding number_of
   number_is d a ld la da ha = by_case (cases_lt d (dart_count inst))
     where
@@ -108,7 +109,8 @@ module _ (inst : Ising) (good : IsInstance inst) where
       used f (r, b, h, e) = (r, b, number_is r r b b (0, refl) h ∙ e)
 
   -- labels of the faces are such numbers
-  pub labels_number : (faces : Labelling) → IsFaceLabels inst faces → AreFaceNumbers inst (λ d. get_or faces.labels d 0) (faces_before inst (dart_count inst))
+  pub labels_number : (faces : Labelling) → IsFaceLabels inst faces →
+      AreFaceNumbers inst (λ d. get_or faces.labels d 0) (faces_before inst (dart_count inst))
   labels_number faces labels = record {
     below = labels.below;
     along = λ d l. sym ((labels.same d (phi inst d) l (phi_below inst good d l)).1 (1, refl));

@@ -40,7 +40,8 @@ module _ (inst : Ising) (faces : Labelling) (list : List ℕ) (marks : List Bool
       counted p = odd-count_by (on p) (range_with_len 0 (dart_count inst)) ∙ parity_by_range (on p) (dart_count inst)
 
   -- the list fits where all these parities are even
-  pub fits_by_parities : (odds : List Bool) → ((f : ℕ) → f < faces.count → is_marked odds f ≡ parity_below (is_marked_side faces marks f) (dart_count inst)) →
+  pub fits_by_parities : (odds : List Bool) → ((f : ℕ) → f < faces.count →
+      is_marked odds f ≡ parity_below (is_marked_side faces marks f) (dart_count inst)) →
       ((f : ℕ) → f < faces.count → is_marked odds f ≡ false) ↔ FitsFaces inst faces list
   fits_by_parities odds counted = (
     λ even f l. back (sides_on inst faces f negative) (sides_on inst faces f (holds list)) (sym (face_parity f) ∙ sym (counted f l) ∙ even f l),

@@ -126,7 +126,8 @@ module _ (inst : Ising) (good : IsInstance inst) (unlike : ℕ → Bool) (order 
     where
       from : IsFoundFrom inst all_bonds order k → IsRight t down (get_or order k 0)
       from (j, before, joined) =
-          let d : (d : ℕ) × (d < dart_count inst) × (tail inst d ≡ get_or order j 0) × (head_of inst d ≡ get_or order k 0) × (all_bonds (d / 2) ≡ true) =
+          let d : (d : ℕ) × (d < dart_count inst) × (tail inst d ≡ get_or order j 0) × (head_of inst d ≡ get_or order k 0) × (all_bonds
+          (d / 2) ≡ true) =
           dart_of_step inst all_bonds (get_or order j 0) (get_or order k 0) joined in
           let place : (i : ℕ) × (i < length (darts_of inst (get_or order j 0))) × (get_or (darts_of inst (get_or order j 0)) i 0 ≡ d.0) =
           place_at inst good (get_or order j 0) d.0 d.1 d.2 in
@@ -191,7 +192,8 @@ module _ (inst : Ising) (down : List Bool) (lengths : length down ≡ inst.n) wh
   )
 
 -- so in the plane, where the instance is connected, the walked spins break exactly the bonds of a list that fits the faces
-pub walked_spins : (p : Embedding) → IsPlanar p → IsConnected p.instance → (list : List ℕ) → FitsFaces p.instance p.faces list → (unlike down : List Bool) →
+pub walked_spins : (p : Embedding) → IsPlanar p → IsConnected p.instance → (list : List ℕ) → FitsFaces p.instance p.faces list →
+    (unlike down : List Bool) →
     ((k : ℕ) → k < bond_count p.instance → is_marked unlike k ≡ is_unlike p.instance list k) → TellsDown p.instance (is_marked unlike) down →
     (spin (map value_of down) 0 ≡ pos 1) × BreaksExactly p.instance (map value_of down) list
 walked_spins p h connected list fits unlike down marks told =

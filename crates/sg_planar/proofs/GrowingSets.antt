@@ -134,7 +134,8 @@ module _ {X : Type 0} (a b : X → ℕ) where
   module _ (n : ℕ) where
     -- from A the edges lead to every node: a set that holds A and that no edge leaves holds all
     abbrev pub Reaches : (ℕ → Bool) → List X → Type 0
-    Reaches A E = (B : ℕ → Bool) → ((x : ℕ) → x < n → A x ≡ true → B x ≡ true) → All (λ e. B (a e) ≡ B (b e)) E → (x : ℕ) → x < n → B x ≡ true
+    Reaches A E = (B : ℕ → Bool) → ((x : ℕ) → x < n → A x ≡ true → B x ≡ true) → All (λ e. B (a e) ≡ B (b e)) E → (x : ℕ) →
+        x < n → B x ≡ true
 
     module _ (A : ℕ → Bool) (E : List X) (f : Leaving A E) (ends : EndsBelow a b n E) where
       -- what holds of the edge and of the others holds of all, and back
@@ -198,14 +199,15 @@ module _ {X : Type 0} (a b : X → ℕ) where
             parity_by-none (λ e. d e && is_end (a e) (b e) f.crosses.outer) f.others
             (All-weaker (λ e. d e ≡ false) (λ e. (d e && is_end (a e) (b e) f.crosses.outer) ≡ false)
             (λ e h. ap (λ v. v && is_end (a e) (b e) f.crosses.outer) h) f.others gone) in
-            sym (xor-false (d f.edge)) ∙ sym (ap₂ xor (ap (λ v. d f.edge && v) one ∙ and-true (d f.edge)) rest) ∙ sym (split_degree f.crosses.outer) ∙ even
+            sym (xor-false (d f.edge)) ∙ sym (ap₂ xor (ap (λ v. d f.edge && v) one ∙ and-true (d f.edge)) rest) ∙ sym (split_degree f.crosses.outer)
+            ∙ even
 
         pub whole_out : All (λ e. d e ≡ false) f.others → degree_parity a b d E f.crosses.outer ≡ false → All (λ e. d e ≡ false) E
         whole_out gone even = all_edges (λ e. d e ≡ false) (edge_out gone even) gone
 
     -- as many edges as nodes outside A, and they lead to every node: a set of them that is even at each node outside A is empty
-    pub eliminate : (d : X → Bool) (r : ℕ) (A : ℕ → Bool) (E : List X) → count_outside A n ≡ r → length E ≤ r → EndsBelow a b n E → Reaches A E →
-        ((x : ℕ) → x < n → A x ≡ false → degree_parity a b d E x ≡ false) → All (λ e. d e ≡ false) E
+    pub eliminate : (d : X → Bool) (r : ℕ) (A : ℕ → Bool) (E : List X) → count_outside A n ≡ r → length E ≤ r → EndsBelow a b n E →
+        Reaches A E → ((x : ℕ) → x < n → A x ≡ false → degree_parity a b d E x ≡ false) → All (λ e. d e ≡ false) E
     eliminate d zero A [] size short ends reach even = All-nil (λ e. d e ≡ false)
     eliminate d zero A (e ∷ E) size short ends reach even = absurd (omega arith)
     eliminate d (suc r) A E size short ends reach even = elim (find_leaving A E) [

@@ -100,13 +100,14 @@ couplings_small inst couplings given small = All-from_get_or (λ z. unsigned_abs
     at : (k : ℕ) → k < length couplings → unsigned_abs (get_or couplings k (pos 0)) < 2 ^ 63
     at k b =
         let new : List Bond = coupled_bonds inst.bonds couplings in
-        let here : get_or new k no_bond ≡ recoupled (bond_at inst k) (get_or couplings k (pos 0)) = coupled_at_place inst couplings k (omega (arith, b, given)) in
+        let here : get_or new k no_bond ≡ recoupled (bond_at inst k) (get_or couplings k (pos 0)) =
+        coupled_at_place inst couplings k (omega (arith, b, given)) in
         let at_most : size (get_or new k no_bond) ≤ sum_by size new = get_or-le-sum_by size new k no_bond
         (omega (arith, b, given, length-map-range_with_len (coupled_at inst.bonds couplings) 0 (bond_count inst))) in
         omega (arith, ap size here, at_most, small)
 
-pub couplings_drawing : (inst : Ising) (couplings : List ℤ) → length couplings ≡ bond_count inst → weight (with_couplings inst couplings) ≤ forced_limit
-    → HasSameDrawing inst (with_couplings inst couplings)
+pub couplings_drawing : (inst : Ising) (couplings : List ℤ) → length couplings ≡ bond_count inst →
+    weight (with_couplings inst couplings) ≤ forced_limit → HasSameDrawing inst (with_couplings inst couplings)
 couplings_drawing inst couplings given small =
     record { ends = couplings_ends inst couplings given (couplings_small inst couplings given small); kept = refl }
 
@@ -116,7 +117,7 @@ pub planar_redrawn : (p : Embedding) (other : Ising) → IsPlanar p → HasSameD
 planar_redrawn p other h same small =
     subst (λ (i : Ising). IsPlanar (record { instance = i; faces = p.faces })) (sym same.kept) (planar_recoupled p other.bonds h same.ends small)
 
-pub components_redrawn : (inst other : Ising) → IsInstance inst → HasSameDrawing inst other → (names leasts : List ℕ) → AreComponents inst names leasts
-    → AreComponents other names leasts
+pub components_redrawn : (inst other : Ising) → IsInstance inst → HasSameDrawing inst other → (names leasts : List ℕ) →
+    AreComponents inst names leasts → AreComponents other names leasts
 components_redrawn inst other good same names leasts h =
     subst (λ (i : Ising). AreComponents i names leasts) (sym same.kept) (components_same inst other.bonds same.ends good names leasts h)

@@ -41,10 +41,12 @@ bare_means inst i = (λ h d l e. there h d l e (dart_cases d), back)
     there : is_bare inst i ≡ true → (d : ℕ) → d < dart_count inst → tail inst d ≡ i → ((k : ℕ) × ((d ≡ 2 * k) ⊎ (d ≡ 2 * k + 1))) → ⊥
     there h d l e (k, inl is) =
         ended k (omega arith) h
-        (or_left (eqb (bond_at inst k).u i) (eqb (bond_at inst k).v i) (eq-eqb (bond_at inst k).u i (sym (tail_first inst k) ∙ ap (tail inst) (sym is) ∙ e)))
+        (or_left (eqb (bond_at inst k).u i) (eqb (bond_at inst k).v i)
+        (eq-eqb (bond_at inst k).u i (sym (tail_first inst k) ∙ ap (tail inst) (sym is) ∙ e)))
     there h d l e (k, inr is) =
         ended k (omega arith) h
-        (or_right (eqb (bond_at inst k).u i) (eqb (bond_at inst k).v i) (eq-eqb (bond_at inst k).v i (sym (tail_second inst k) ∙ ap (tail inst) (sym is) ∙ e)))
+        (or_right (eqb (bond_at inst k).u i) (eqb (bond_at inst k).v i)
+        (eq-eqb (bond_at inst k).v i (sym (tail_second inst k) ∙ ap (tail inst) (sym is) ∙ e)))
 
     back : ((d : ℕ) → d < dart_count inst → tail inst d ≢ i) → is_bare inst i ≡ true
     back h = list_all-from_AllPass is_other inst.bonds (All-from_get_or (λ b. is_other b ≡ true) inst.bonds no_bond at_bond)

@@ -1,19 +1,13 @@
 -- What tables of places make of the bonds and lists of a part: the part as it is defined.
-use Rattle.std.proofs.Common.{◌≡◌, ◌∙◌, sym, ap, ap₂, refl, subst, ℕ, ◌+◌, ◌*◌, ◌/◌, ◌%◌, ◌<◌, pos, Bool, true, List, [], ◌∷◌, ◌++◌, length, get_or, map, replicate, slice_index, take, All, arith}
+use Rattle.std.proofs.Common.{◌≡◌, ◌∙◌, ap, ap₂, refl, subst, ℕ, ◌+◌, ◌*◌, ◌/◌, ◌%◌, ◌<◌, pos, true, List, [], ◌∷◌, ◌++◌, length, get_or, map, slice_index, take, All, arith}
 use Rattle.std.proofs.lemmas.List.{get_or-map, length-map, map-append, take_more}
 use Rattle.std.proofs.lemmas.List.Elements.{All-from_get_or, All-head, All-map, All-tail}
 use Rattle.sg_sums.specs.Sets.{holds}
 use Rattle.sg_model.specs.declared.bond.Bond.{Bond}
-use Rattle.sg_model.specs.declared.refusal.Fault.{Fault}
-use Rattle.sg_model.specs.declared.refusal.Fault.TheVariants.{Refused}
-use Rattle.sg_model.specs.declared.refusal.Refusal.{Refusal}
-use Rattle.sg_model.specs.declared.refusal.Refusal.TheVariants.{BadRotation, BadSeam}
 use Rattle.sg_model.specs.Ising.{Ising, bond_at, bond_count}
 use Rattle.sg_model.specs.Rotation.{darts_of}
 use Rattle.sg_model.specs.WellFormed.{IsInstance}
-use Rattle.sg_model.specs.Faults.{IsFaultOf, IsRefusalOf}
 use Rattle.sg_model.specs.Connected.{all_bonds}
-use Rattle.sg_model.proofs.RotationFaults.{bad_rotation_refuted, bad_seam_refuted}
 use Rattle.sg_model.proofs.Rotations.{in_list}
 use Rattle.sg_walk.specs.Naming.{AllNamed}
 use Rattle.sg_planar.specs.Parts.{bond_in, dart_in, restricted}
@@ -35,7 +29,8 @@ map_alike f g [] h = refl
 map_alike f g (x ∷ xs) h = ap₂ (λ y ys. y ∷ ys) (All-head (λ x. f x ≡ g x) x xs h) (map_alike f g xs (All-tail (λ x. f x ≡ g x) x xs h))
 
 -- one step more of a list that is mapped
-pub map_more : {X : Type 0} (f : ℕ → X) (xs : List ℕ) (i : ℕ) → i < length xs → map f (take (i + 1) xs) ≡ map f (take i xs) ++ f (get_or xs i 0) ∷ []
+pub map_more : {X : Type 0} (f : ℕ → X) (xs : List ℕ) (i : ℕ) → i < length xs →
+    map f (take (i + 1) xs) ≡ map f (take i xs) ++ f (get_or xs i 0) ∷ []
 map_more f xs i l = ap (map f) (take_more xs i 0 l) ∙ map-append f (take i xs) (get_or xs i 0 ∷ [])
 
 -- the bonds of the darts of a spin are bonds
@@ -59,7 +54,8 @@ module _ (inst : Ising) (good : IsInstance inst) (spins bonds : List ℕ) (part 
       (of_bonds.each (get_or (darts_of inst x) j e / 2) (listed_bond inst good spins bonds part x h j e b)))
 
   pub part_assembled : (n : ℕ) (list : List Bond) (rotation : List (List ℕ)) (seam : List ℕ) → n ≡ length spins →
-      list ≡ map (λ k. placed_bond spin_places (bond_at inst k)) bonds → rotation ≡ map (λ x. placed_darts bond_places (darts_of inst x)) spins → seam ≡ [] →
+      list ≡ map (λ k. placed_bond spin_places (bond_at inst k)) bonds → rotation ≡ map (λ x. placed_darts bond_places (darts_of inst x)) spins →
+      seam ≡ [] →
       record { n = n; bonds = list; rotation = rotation; seam = seam } ≡ restricted inst spins bonds
   part_assembled n list rotation seam p q r s =
       ap₂ (λ a b. record { n = a; bonds = b; rotation = rotation; seam = seam }) p
@@ -70,15 +66,6 @@ module _ (inst : Ising) (good : IsInstance inst) (spins bonds : List ℕ) (part 
       (r ∙ map_alike (λ x. placed_darts bond_places (darts_of inst x)) (λ x. map (dart_in bonds) (darts_of inst x)) spins
       (All-from_get_or (λ x. placed_darts bond_places (darts_of inst x) ≡ map (dart_in bonds) (darts_of inst x)) spins 0
       (λ j b. darts_alike (get_or spins j 0) (holds_entry spins j b)))) s
-
--- no part that is an instance is refused
-no_refusal : (inst : Ising) → IsInstance inst → (refusal : Refusal) → IsRefusalOf inst refusal → ⊥
-no_refusal inst good (BadRotation spin dart) h = bad_rotation_refuted inst spin dart good.rotation h
-no_refusal inst good (BadSeam bond) h = bad_seam_refuted inst bond good.seam h.1
-no_refusal inst good _ h = h
-
-pub never_refused : (inst : Ising) → IsInstance inst → (fault : Fault) (refusal : Refusal) → fault ≡ Refused refusal → IsFaultOf inst fault → ⊥
-never_refused inst good fault refusal e h = no_refusal inst good refusal (subst (IsFaultOf inst) e h)
 
 -- names are spins, and so are the names of the bonds' first ends
 module _ (inst : Ising) (good : IsInstance inst) (names : List ℕ) (count : length names ≡ inst.n) (named : IsNaming inst (slice_index names)) where

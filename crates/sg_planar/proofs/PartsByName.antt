@@ -34,7 +34,8 @@ module _ (inst : Ising) (good : IsInstance inst) (name : ℕ → ℕ) (named : I
   pub name_alike : (x y : ℕ) → x < inst.n → y < inst.n → Reached inst all_bonds x y → name x ≡ name y
   name_alike x y l m r =
       let there : name x ≤ name y = named.least x (name y) l (reached_on inst all_bonds x y (name y) r (named.reached y m)) in
-      let back : name y ≤ name x = named.least y (name x) m (reached_on inst all_bonds y x (name x) (reached_back inst all_bonds x y r) (named.reached x l)) in
+      let back : name y ≤ name x = named.least y (name x) m (reached_on inst all_bonds y x (name x) (reached_back inst all_bonds x y r)
+      (named.reached x l)) in
       omega (arith, there, back)
 
   pub name_own : (x : ℕ) → x < inst.n → name (name x) ≡ name x

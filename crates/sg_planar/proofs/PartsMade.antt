@@ -25,7 +25,8 @@ use Rattle.sg_planar.proofs.PartDarts.{like_tests}
 use Rattle.sg_planar.proofs.PartsByName.{named_instance, bond_named, first_below, name_alike, name_below, name_own, named_connected, named_part, named_reached, named_spin, own_leasts, reached_named, spin_named}
 use Rattle.sg_planar.proofs.PartsPlanar.{part_euler, part_weight}
 
-zip_push : {A B : Type 0} (R : A → B → Type 0) (xs : List A) (ys : List B) (x : A) (y : B) → AllZip R xs ys → R x y → AllZip R (xs ++ x ∷ []) (ys ++ y ∷ [])
+zip_push : {A B : Type 0} (R : A → B → Type 0) (xs : List A) (ys : List B) (x : A) (y : B) → AllZip R xs ys → R x y →
+    AllZip R (xs ++ x ∷ []) (ys ++ y ∷ [])
 zip_push R [] [] x y z r = (r, tt)
 zip_push R [] (b ∷ ys) x y z r = absurd z
 zip_push R (a ∷ xs) [] x y z r = absurd z
@@ -142,13 +143,14 @@ zip_more inst name stop parts part z own is =
     subst (λ xs. AllZip (IsPart inst) xs (parts ++ part ∷ [])) (sym (chosen_below_yes (λ c. eqb (name c) c) stop (eq-eqb (name stop) stop own)))
     (zip_push (IsPart inst) (own_names name stop) parts stop part z is)
 
-pub zip_same : (inst : Ising) (name : ℕ → ℕ) (stop : ℕ) (parts : List Part) → AllZip (IsPart inst) (own_names name stop) parts → eqb (name stop) stop ≡ false →
-    AllZip (IsPart inst) (own_names name (stop + 1)) parts
+pub zip_same : (inst : Ising) (name : ℕ → ℕ) (stop : ℕ) (parts : List Part) → AllZip (IsPart inst) (own_names name stop) parts →
+    eqb (name stop) stop ≡ false → AllZip (IsPart inst) (own_names name (stop + 1)) parts
 zip_same inst name stop parts z other = subst (λ xs. AllZip (IsPart inst) xs parts) (sym (chosen_below_no (λ c. eqb (name c) c) stop other)) z
 
 -- what was dealt out to a least spin is its component
 module _ {inst : Ising} (good : IsInstance inst) {names : List ℕ} {spin_lists : List (List ℕ)} {spin_places : List ℕ} {bond_lists : List (List ℕ)}
-    {bond_places : List ℕ} (split : IsSplit inst names spin_lists spin_places bond_lists bond_places) (c : ℕ) (l : c < inst.n) (own : get_or names c 0 ≡ c)
+    {bond_places : List ℕ} (split : IsSplit inst names spin_lists spin_places bond_lists bond_places) (c : ℕ) (l : c < inst.n)
+    (own : get_or names c 0 ≡ c)
   where
     pub spins_dealt : (spins : List ℕ) → spins ≡ get_or spin_lists c spins → spins ≡ named_spins inst (slice_index names) c
     spins_dealt spins is = is ∙ get_or_default spin_lists c spins [] (omega (arith, l, split.spins.lists_count)) ∙ split.spins.dealt c l

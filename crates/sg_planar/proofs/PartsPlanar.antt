@@ -75,12 +75,14 @@ module _ (inst : Ising) (good : IsInstance inst) (name : ℕ → ℕ) (named : I
   -- a number that is no name has no spin and no bond
   no_spins : (c : ℕ) → name c ≢ c → named_spins inst name c ≡ []
   no_spins c ne =
-      chosen_none (λ x. eqb (name x) c) inst.n (λ x l. ne_eqb (name x) c (λ (e : name x ≡ c). ne (ap name (sym e) ∙ name_own inst good name named x l ∙ e)))
+      chosen_none (λ x. eqb (name x) c) inst.n (λ x l. ne_eqb (name x) c
+      (λ (e : name x ≡ c). ne (ap name (sym e) ∙ name_own inst good name named x l ∙ e)))
 
   no_bonds : (c : ℕ) → name c ≢ c → named_bonds inst name c ≡ []
   no_bonds c ne = chosen_none (λ k. eqb (name (bond_at inst k).u) c) (bond_count inst)
       (λ k l. ne_eqb (name (bond_at inst k).u) c
-      (λ (e : name (bond_at inst k).u ≡ c). ne (ap name (sym e) ∙ name_own inst good name named (bond_at inst k).u (first_below inst good name named k l) ∙ e)))
+      (λ (e : name (bond_at inst k).u ≡ c). ne (ap name (sym e) ∙ name_own inst good name named (bond_at inst k).u (first_below inst good name named k l)
+      ∙ e)))
 
   part_filled : (c : ℕ) (l : c < inst.n) (own : name c ≡ c) → (component inst name c).n + face_count (component inst name c) ≡ filled c
   part_filled c l own = ap₂ {A = ℕ} (λ a b. a + b) (sym (sum_of_ones (named_spins inst name c)))

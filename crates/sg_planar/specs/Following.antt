@@ -15,7 +15,8 @@ is_unlike inst broken k = xor (is_negative (bond_at inst k)) (holds broken k)
 -- spin 0 is up, and the two ends differ on exactly the bonds that pass; `down` tells which spins are down
 pub record Follows (inst : Ising) (unlike down : ℕ → Bool) : Type 0 where
   pub first_up : down 0 ≡ false
-  pub across : (k : ℕ) → k < bond_count inst → unlike k ≡ xor (down (bond_at inst k).u) (down (bond_at inst k).v)
+  pub across : (k : ℕ) → k < bond_count inst →
+      unlike k ≡ xor (down (bond_at inst k).u) (down (bond_at inst k).v)
 
 -- the value of a spin
 abbrev pub value_of : Bool → ℤ
@@ -42,12 +43,14 @@ pub record SetsHeads (inst : Ising) (t : ℕ → Bool) (darts : List ℕ) (old n
   pub heads : HeadsRight inst t now darts
 
 -- the heads of some darts of a spin are set as the bonds ask for it, whatever assignment follows them
-pub record HeadsSet (inst : Ising) (unlike : ℕ → Bool) (spin : ℕ) (darts : List ℕ) (old now : List Bool) : Type 0 where
+pub record HeadsSet (inst : Ising) (unlike : ℕ → Bool) (spin : ℕ) (darts : List ℕ)
+    (old now : List Bool) : Type 0 where
   pub lengths : length now ≡ length old
   pub sets : (t : ℕ → Bool) → Follows inst unlike t → IsRight t old spin → SetsHeads inst t darts old now
 
 -- the same for the darts of the first `next` spins of the order
-pub record SetTo (inst : Ising) (unlike : ℕ → Bool) (order : List ℕ) (next : ℕ) (down : List Bool) : Type 0 where
+pub record SetTo (inst : Ising) (unlike : ℕ → Bool) (order : List ℕ) (next : ℕ)
+    (down : List Bool) : Type 0 where
   pub lengths : length down ≡ inst.n
   pub first : (t : ℕ → Bool) → Follows inst unlike t → IsRight t down 0
   pub heads : (t : ℕ → Bool) → Follows inst unlike t → (k : ℕ) → k < next →

@@ -1,9 +1,10 @@
 ghost use Rattle.std.specs.Prelude.{◌≡◌, ◌<◌, ◌≤◌, ◌^◌, ◌+◌, ◌*◌, ◌/◌, ◌%◌, map, length, slice_index, All, IfOk};
 ghost use Rattle.sg_model.specs.Ising.{bond_at, bond_count};
 ghost use Rattle.sg_model.specs.Rotation.{darts_of};
-ghost use Rattle.sg_model.specs.Connected.{all_bonds};
+ghost use Rattle.sg_model.specs.Connected.{IsConnected, all_bonds};
 ghost use Rattle.sg_model.specs.WellFormed.{IsInstance};
 ghost use Rattle.sg_walk.specs.Naming.{AllNamed};
+ghost use Rattle.sg_planar.specs.declared.components.Division.TheVariants.{Whole};
 ghost use Rattle.sg_planar.specs.Parts.{AreParts, IsDivision, IsPart, restricted};
 ghost use Rattle.sg_planar.specs.Splitting.{ArePlaces, IsClosedPart, IsSplit, placed_bond, placed_darts};
 
@@ -11,9 +12,9 @@ use super::dealing::{Dealt, deal};
 use super::{NoMemory, Planar};
 use sg_faces::trace;
 use sg_list::{Numbers, Records};
-use sg_model::{Bond, BondList, Bonds, DartList, Fault, Instance, Rotation};
+use sg_model::{Bond, BondList, Bonds, DartList, Instance, Rotation};
 use sg_walk::Components;
-use std::alloc::{AllocError, Global};
+use std::alloc::Global;
 
 /// Numbers of spins.
 pub type SpinNumbers = Numbers<u32>;
@@ -51,7 +52,8 @@ pub enum Division {
 /// same time for each; of another the parts are made, as `parts` makes them. The only error is want of
 /// memory.
 pub fn divide(alloc: Global, p: &Planar) -> Result<Division, NoMemory>
-    ensures { IfOk result (IsDivision p.now.instance) }
+    ensures division { IfOk result (IsDivision p.now.instance) }
+    ensures whole { IfOk result (λ d. IsConnected p.now.instance → d ≡ Whole) }
 {
     if p.is_connected() {
         return Ok(Division::Whole);
@@ -154,7 +156,7 @@ fn placed_rotation(
     Ok(rotation)
 }
 
-// The instance of a part. Its lists are a rotation, so that only memory may be wanting.
+// The instance of a part. Its lists are a rotation, so that nothing is to be tested.
 fn part_instance(
     alloc: Global,
     inst: &Instance,
@@ -171,17 +173,7 @@ fn part_instance(
 {
     let list = placed_bonds(alloc, inst, bonds.as_slice(), spin_places)?;
     let rotation = placed_rotation(alloc, inst, spins.as_slice(), bond_places)?;
-    match Instance::new(
-        alloc,
-        spins.len() as u32,
-        list,
-        rotation,
-        BondList::new(alloc),
-    ) {
-        Ok(part) => Ok(part),
-        Err(Fault::NoMemory) => Err(AllocError),
-        Err(Fault::Refused(_)) => unreachable!(),
-    }
+    Ok(Instance::of_parts(spins.len() as u32, list, rotation, BondList::new(alloc)))
 }
 
 // The part of the component with this least spin.

@@ -6,7 +6,7 @@
 //! couplings' sizes is bounded too, so that all later numbers fit their types.
 //!
 //! Faces and components do not depend on the couplings. They are found once, by `Planar::new`, and stay
-//! where the couplings change (`with_couplings`, `with_seam_flipped`).
+//! where the couplings change (`with_couplings`).
 //!
 //! In such an instance that is connected, a list of bonds is that of the broken bonds of an assignment
 //! exactly where it fits the faces, and `spin_walk` finds the assignment. `parts` takes an instance

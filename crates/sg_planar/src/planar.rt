@@ -149,25 +149,6 @@ impl Planar {
         }
     }
 
-    /// The same drawing with the sign of the coupling changed on each bond of the seam, in time linear
-    /// in the bonds. The rotation, the faces and the components are moved, and not copied.
-    pub fn with_seam_flipped(self) -> Result<Planar, NoMemory>
-        ensures value { IfOk result (λ p.
-            p ≡ record { instance = with_seam_flipped self.instance; faces = self.faces }) }
-        ensures planar { IfOk result IsPlanar }
-    {
-        let Planar {
-            instance,
-            faces,
-            components,
-        } = self;
-        Ok(Planar {
-            instance: instance.with_seam_flipped()?,
-            faces,
-            components,
-        })
-    }
-
     /// A copy with the sign of the coupling changed on each bond of the seam. The faces stay.
     pub fn flip_seam(&self) -> Result<Planar, NoMemory>
         ensures copy { IfOk result (λ copy.
@@ -212,7 +193,7 @@ impl Planar {
         ensures planar { IfOk result IsPlanar }
     {
         let faces = self.faces.clone()?;
-        let components = self.components.copy()?;
+        let components = self.components.clone()?;
         Ok(Planar {
             instance,
             faces,

@@ -38,8 +38,8 @@ seam_inside r h = word-inside (codes "seam") refl r h
 pub IsBody-none : (fault : List Kept → Kept → Option Refusal) → IsBody fault []
 IsBody-none fault = record { goes_on = All-nil (λ (r : Kept). is_end r ≡ false); passes = λ k inside. absurd (omega arith) }
 
-pub IsBody-more : (fault : List Kept → Kept → Option Refusal) (body : List Kept) (r : Kept) → IsBody fault body → is_end r ≡ false → fault body r ≡ None
-    → IsBody fault (body ++ r ∷ [])
+pub IsBody-more : (fault : List Kept → Kept → Option Refusal) (body : List Kept) (r : Kept) → IsBody fault body → is_end r ≡ false →
+    fault body r ≡ None → IsBody fault (body ++ r ∷ [])
 IsBody-more fault body r h other good = record {
   goes_on = All-append (λ (q : Kept). is_end q ≡ false) body (r ∷ []) h.goes_on
       (All-cons (λ (q : Kept). is_end q ≡ false) r [] other (All-nil (λ (q : Kept). is_end q ≡ false)));
@@ -79,7 +79,8 @@ find-none p (r ∷ rest) h =
     rw (parts.0) (find-none p rest parts.1)
 
 -- a seam behind a body without one, and another record
-pub seam_in-first : (body : List Kept) (r : Kept) → list_any is_seam body ≡ false → is_seam r ≡ true → seam_in (body ++ r ∷ []) ≡ Some (sizes_from r 1)
+pub seam_in-first : (body : List Kept) (r : Kept) → list_any is_seam body ≡ false → is_seam r ≡ true →
+    seam_in (body ++ r ∷ []) ≡ Some (sizes_from r 1)
 unfolding seam_in
 seam_in-first body r none seam = rw (find-append is_seam body (r ∷ [])) (rw (find-none is_seam body none) (rw seam refl))
 
@@ -130,7 +131,8 @@ numbers-small r a (suc n) =
 all-small : (rs : List Kept) → All (λ j. unsigned_abs j < 2 ^ 63) (flat_map (λ q. numbers_from q 0) rs)
 all-small [] = All-nil (λ j. unsigned_abs j < 2 ^ 63)
 all-small (r ∷ rs) =
-    All-append (λ j. unsigned_abs j < 2 ^ 63) (numbers_from r 0) (flat_map (λ q. numbers_from q 0) rs) (numbers-small r 0 (length r.fields - 0)) (all-small rs)
+    All-append (λ j. unsigned_abs j < 2 ^ 63) (numbers_from r 0) (flat_map (λ q. numbers_from q 0) rs) (numbers-small r 0 (length r.fields - 0))
+    (all-small rs)
 
 pub couplings_in-small : (body : List Kept) → All (λ j. unsigned_abs j < 2 ^ 63) (couplings_in body)
 unfolding couplings_in

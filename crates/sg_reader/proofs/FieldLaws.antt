@@ -16,15 +16,16 @@ pub after_front_is : {X : Type 0} (p : X → Bool) (xs : List X) (n : ℕ) (d : 
     → (n < length xs → p (get_or xs n d) ≡ false) → drop n xs ≡ after_front p xs
 after_front_is p xs n d inside front stop = ap (λ k. drop k xs) (sym (prefix_len_is p xs n d inside front stop))
 
-pub before_end_is : {X : Type 0} (p : X → Bool) (xs : List X) (n : ℕ) (d : X) → n ≤ length xs → ((k : ℕ) → n ≤ k → k < length xs → p (get_or xs k d) ≡ true)
-    → (0 < n → p (get_or xs (n - 1) d) ≡ false) → before_end p xs ≡ take n xs
+pub before_end_is : {X : Type 0} (p : X → Bool) (xs : List X) (n : ℕ) (d : X) → n ≤ length xs →
+    ((k : ℕ) → n ≤ k → k < length xs → p (get_or xs k d) ≡ true) → (0 < n → p (get_or xs (n - 1) d) ≡ false) → before_end p xs ≡ take n xs
 before_end_is p xs n d inside back stop =
     let e = suffix_len_is p xs n d inside back stop in
     let same : length xs - suffix_len p xs ≡ n = omega (arith, e) in
     ap (λ k. take k xs) same
 
 -- the fields of a record, by the first of the empty ones at its end
-pub fields_in_is : (raw : List (List ℕ)) (n : ℕ) → n ≤ length raw → ((k : ℕ) → n ≤ k → k < length raw → is_empty (trimmed (get_or raw k [])) ≡ true)
+pub fields_in_is : (raw : List (List ℕ)) (n : ℕ) → n ≤ length raw →
+    ((k : ℕ) → n ≤ k → k < length raw → is_empty (trimmed (get_or raw k [])) ≡ true)
     → (0 < n → is_empty (trimmed (get_or raw (n - 1) [])) ≡ false) → fields_in raw ≡ take n (map trimmed raw)
 unfolding fields_in
 fields_in_is raw n inside back stop =
@@ -60,7 +61,8 @@ field_at-some (g ∷ fs) (suc i) f h = field_at-some fs i f h
 marked : (a b c : ℕ) → a ≡ 0xEF → b ≡ 0xBB → c ≡ 0xBF → is_bom a b c ≡ true
 marked a b c e f g = rw (e, f, g) refl
 
-pub without_marks-mark : (text : List ℕ) → starts_with nat_eq text (0xEF ∷ 0xBB ∷ 0xBF ∷ []) ≡ true → without_marks text ≡ without_marks (drop 3 text)
+pub without_marks-mark : (text : List ℕ) → starts_with nat_eq text (0xEF ∷ 0xBB ∷ 0xBF ∷ []) ≡ true →
+    without_marks text ≡ without_marks (drop 3 text)
 unfolding without_marks
 without_marks-mark [] h = absurd (false≢true h)
 without_marks-mark (a ∷ []) h = absurd (false≢true (grind (arith, nat_tests)))

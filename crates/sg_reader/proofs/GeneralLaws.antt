@@ -28,7 +28,8 @@ use Rattle.sg_reader.proofs.TestLaws.{bad_field-rest, is-not}
 use Rattle.sg_reader.proofs.BodyLaws.{IsBody-more, seam_in-first, seam_in-other, seam_in-seen}
 
 -- the tests of a bond
-pub bond_fault-number : (n m : ℕ) (r : Kept) (k : ℕ) → length r.fields ≡ 4 → bad_field r 1 (bond_range n) ≡ Some k → bond_fault n m r ≡ Some (BadNumber r.at k)
+pub bond_fault-number : (n m : ℕ) (r : Kept) (k : ℕ) → length r.fields ≡ 4 → bad_field r 1 (bond_range n) ≡ Some k →
+    bond_fault n m r ≡ Some (BadNumber r.at k)
 bond_fault-number n m r k count bad = rw (is-not (length r.fields) 4 count, bad) refl
 
 one-test : (test : Option Refusal) → option_or test None ≡ test
@@ -40,8 +41,8 @@ pub bond_fault-ends : (n m : ℕ) (r : Kept) (test : Option Refusal) → length 
 bond_fault-ends n m r test count good ends =
     rw (is-not (length r.fields) 4 count, good) (ap (λ (o : Option Refusal). option_or o None) ends ∙ one-test test)
 
-pub bond_fault-none : (n m : ℕ) (r : Kept) → length r.fields ≡ 4 → bad_field r 1 (bond_range n) ≡ None → m < bond_limit → (size_in r 1 ≡ size_in r 2 → ⊥)
-    → bond_fault n m r ≡ None
+pub bond_fault-none : (n m : ℕ) (r : Kept) → length r.fields ≡ 4 → bad_field r 1 (bond_range n) ≡ None → m < bond_limit →
+    (size_in r 1 ≡ size_in r 2 → ⊥) → bond_fault n m r ≡ None
 bond_fault-none n m r count good few other = rw (is-not (length r.fields) 4 count, good, lt-leb bond_limit m few, ne_eqb (size_in r 1) (size_in r 2) other) refl
 
 -- the tests of a rotation
@@ -62,7 +63,8 @@ pub rot_range-rest : (n : ℕ) (r : Kept) → 2 ≤ length r.fields → is_numbe
 rot_range-rest n r long good = bad_field-rest r (rot_range n) (λ i. any_index) long good
     (λ i low. let other : (i == 1) ≡ false = ne_eqb i 1 (λ e. absurd (omega (arith, e, low))) in rw other refl)
 
-pub rot_fault-darts : (n : ℕ) (seen : Bool) (r : Kept) → (length r.fields ≡ 1 → ⊥) → bad_field r 1 (rot_range n) ≡ bad_field r 2 (λ i. any_index) → (e : Fault)
+pub rot_fault-darts : (n : ℕ) (seen : Bool) (r : Kept) → (length r.fields ≡ 1 → ⊥) →
+    bad_field r 1 (rot_range n) ≡ bad_field r 2 (λ i. any_index) → (e : Fault)
     → IsTestFault (bad_number r 2 (λ i. any_index)) e → IsTestFault (rot_fault n seen r) e
 rot_fault-darts n seen r count rest (Refused x) h = rw (ne_eqb (length r.fields) 1 count, rest, h) refl
 rot_fault-darts n seen r count rest NoMemory h = tt
@@ -95,8 +97,12 @@ seam-no_rot r h = ap (λ (w : List ℕ). bytes_eq w (codes "rot")) (word-of r (c
 
 end-no : (r : Kept) → is_end r ≡ true → (is_bond r ≡ false) × (is_rot r ≡ false) × (is_seam r ≡ false)
 end-no r h =
-    let w = word-of r (codes "end") h in
-    (ap (λ (v : List ℕ). bytes_eq v (codes "bond")) w, ap (λ (v : List ℕ). bytes_eq v (codes "rot")) w, ap (λ (v : List ℕ). bytes_eq v (codes "seam")) w)
+    let w = word-of r (codes "end") h in (
+      ap (λ (v : List ℕ). bytes_eq v (codes "bond")) w,
+      ap (λ (v : List ℕ). bytes_eq v (codes "rot")) w,
+      ap (λ (v : List ℕ). bytes_eq v (codes "seam"))
+          w,
+    )
 
 pub general_fault-rot : (n : ℕ) (body : List Kept) (r : Kept) → is_rot r ≡ true → general_fault n body r ≡ rot_fault n (has_rot body (size_in r 1)) r
 unfolding general_fault
@@ -159,7 +165,8 @@ find-none : (p : Kept → Bool) (body : List Kept) → list_any p body ≡ false
 find-none p [] h = refl
 find-none p (r ∷ rest) h = let parts = or_parts (p r) (list_any p rest) h in rw (parts.0) (find-none p rest parts.1)
 
-pub darts_in-own : (body : List Kept) (r : Kept) (i : ℕ) → is_rot_of i r ≡ true → has_rot body i ≡ false → darts_in (body ++ r ∷ []) i ≡ sizes_from r 2
+pub darts_in-own : (body : List Kept) (r : Kept) (i : ℕ) → is_rot_of i r ≡ true → has_rot body i ≡ false →
+    darts_in (body ++ r ∷ []) i ≡ sizes_from r 2
 unfolding darts_in has_rot
 darts_in-own body r i h first = rw (find-append (is_rot_of i) body (r ∷ [])) (rw (find-none (is_rot_of i) body first) (rw h refl))
 
@@ -220,8 +227,8 @@ holds-bond body r old bonds h is added sound room =
 pub seen-seam : (body : List Kept) (state : GeneralBody) → HoldsGeneral body state → is_some state.seam ≡ list_any is_seam body
 seen-seam body state h = ap is_some h.cut ∙ seam_in-seen body
 
-pub holds-seam : (body : List Kept) (r : Kept) (old : GeneralBody) (seam : List ℕ) → HoldsGeneral body old → is_seam r ≡ true → is_some old.seam ≡ false
-    → seam ≡ sizes_from r 1
+pub holds-seam : (body : List Kept) (r : Kept) (old : GeneralBody) (seam : List ℕ) → HoldsGeneral body old → is_seam r ≡ true →
+    is_some old.seam ≡ false → seam ≡ sizes_from r 1
     → HoldsGeneral (body ++ r ∷ []) (record { n = old.n; bonds = old.bonds; rotation = old.rotation; seen = old.seen; seam = Some seam })
 holds-seam body r old seam h is first value = record {
   bonds = h.bonds ∙ sym (bonds_in-other body r (seam-no_bond r is));
@@ -233,8 +240,10 @@ holds-seam body r old seam h is first value = record {
 }
 
 -- the entry of a spin among the marks
-pub mark-of : (body : List Kept) (state : GeneralBody) (i : ℕ) (d : Bool) → HoldsGeneral body state → i < state.n → get_or state.seen.items i d ≡ has_rot body i
-mark-of body state i d h inside = ap (λ (l : List Bool). get_or l i d) h.marks ∙ get_or-map-range_with_len (has_rot body) 0 state.n i i d inside (omega arith)
+pub mark-of : (body : List Kept) (state : GeneralBody) (i : ℕ) (d : Bool) → HoldsGeneral body state → i < state.n →
+    get_or state.seen.items i d ≡ has_rot body i
+mark-of body state i d h inside = ap (λ (l : List Bool). get_or l i d) h.marks
+    ∙ get_or-map-range_with_len (has_rot body) 0 state.n i i d inside (omega arith)
 
 pub holds-rot : (body : List Kept) (r : Kept) (old new : GeneralBody) → HoldsGeneral body old → is_rot r ≡ true → size_in r 1 < old.n
     → has_rot body (size_in r 1) ≡ false
@@ -294,7 +303,8 @@ ended-general n all left rest r state sf next end pass = record {
 }
 
 pub one-more : (n : ℕ) (all left rest : List Kept) (r : Kept) (old new : GeneralBody) → (sf : GeneralSoFar n all left old) → left ≡ r ∷ rest
-    → is_end r ≡ false → general_fault old.n sf.body r ≡ None → HoldsGeneral (sf.body ++ r ∷ []) new → new.n ≡ old.n → GeneralSoFar n all rest new
+    → is_end r ≡ false → general_fault old.n sf.body r ≡ None → HoldsGeneral (sf.body ++ r ∷ []) new → new.n ≡ old.n →
+    GeneralSoFar n all rest new
 one-more n all left rest r old new sf next other good holds same = record {
   body = sf.body ++ r ∷ [];
   split = sf.split ∙ ap (λ (l : List Kept). sf.body ++ l) next ∙ sym (append_assoc sf.body (r ∷ []) rest);

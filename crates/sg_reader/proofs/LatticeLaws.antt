@@ -20,7 +20,8 @@ use Rattle.sg_reader.proofs.BodyLaws.{IsBody-more, IsBody-none, couplings_in-mor
 use Rattle.sg_reader.proofs.RecordCounts.{field_total}
 
 -- which test a record of a lattice meets
-pub lattice_fault-seam : (wanted : ℕ) (body : List Kept) (r : Kept) → is_seam r ≡ true → lattice_fault wanted body r ≡ seam_fault (list_any is_seam body) r
+pub lattice_fault-seam : (wanted : ℕ) (body : List Kept) (r : Kept) → is_seam r ≡ true →
+    lattice_fault wanted body r ≡ seam_fault (list_any is_seam body) r
 unfolding lattice_fault
 lattice_fault-seam wanted body r h = rw h refl
 

@@ -115,7 +115,8 @@ rest-on records middle left first second = record {
 
 -- what the call for the next record leaves
 pub rest-next : {E : Type 0} (result : Result Bool E) (records left : List Kept) (r : Kept)
-    → IfOk result (λ found. MatchBool found (records ≡ r ∷ left) ((records ≡ []) × (left ≡ []))) → OnErr result (left ≡ []) → IsRest records left
+    → IfOk result (λ found. MatchBool found (records ≡ r ∷ left) ((records ≡ []) × (left ≡ []))) → OnErr result (left ≡ []) →
+    IsRest records left
 rest-next (Ok true) records left r found failed = rest-one records left r found
 rest-next (Ok false) records left r found failed = rest-none records left found.1
 rest-next (Err e) records left r found failed = rest-none records left failed

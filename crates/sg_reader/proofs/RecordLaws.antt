@@ -101,7 +101,8 @@ records_from-enough (suc m) (suc n) s xs between a b = by (next_record default_c
     records_from-enough m n r.1 r.2 (ends_at_end-after_record s [] [] xs r e) (omega arith) (omega arith))
   where
     by : (o : Option Read) → next_record default_config s [] [] xs ≡ o
-        → ((r : Read) → next_record default_config s [] [] xs ≡ Some r → records_from default_config m r.1 r.2 ≡ records_from default_config n r.1 r.2)
+        → ((r : Read) → next_record default_config s [] [] xs ≡ Some r →
+        records_from default_config m r.1 r.2 ≡ records_from default_config n r.1 r.2)
         → records_next (records_from default_config m) o ≡ records_next (records_from default_config n) o
     by None e more = refl
     by (Some r) e more = ap (λ (t : List (List (List ℕ))). r.0 ∷ t) (more r e)

@@ -31,7 +31,8 @@ pub energy_fault-number : (r : Kept) → is_energy r ≡ true → length r.field
     → energy_fault r ≡ Some (BadNumber r.at 1)
 energy_fault-number r word count bad = rw (word, is-not (length r.fields) 2 count, bad_field-first r (λ i. any_number) (omega arith) bad) refl
 
-pub energy_fault-none : (r : Kept) → is_energy r ≡ true → length r.fields ≡ 2 → is_number_in any_number (field r 1) ≡ true → energy_fault r ≡ None
+pub energy_fault-none : (r : Kept) → is_energy r ≡ true → length r.fields ≡ 2 → is_number_in any_number (field r 1) ≡ true →
+    energy_fault r ≡ None
 energy_fault-none r word count good = rw (word, is-not (length r.fields) 2 count, bad_field-one r (λ i. any_number) count good) refl
 
 -- the tests of spins
@@ -43,7 +44,8 @@ unfolding bad_spin
 bad_spin-none r h =
     find_range-none (λ i. not (is_spin_value (number_of (field r i)))) 1 (length r.fields - 1) (λ i low high. not_from_true _ (h i low (omega arith)))
 
-pub bad_spin-some : (r : Kept) (k : ℕ) → 1 ≤ k → k < length r.fields → ((i : ℕ) → 1 ≤ i → i < k → is_spin_value (number_of (field r i)) ≡ true)
+pub bad_spin-some : (r : Kept) (k : ℕ) → 1 ≤ k → k < length r.fields →
+    ((i : ℕ) → 1 ≤ i → i < k → is_spin_value (number_of (field r i)) ≡ true)
     → is_spin_value (number_of (field r k)) ≡ false → bad_spin r ≡ Some k
 unfolding bad_spin
 bad_spin-some r k low high h e =
@@ -65,7 +67,8 @@ loop-long r word other =
       | inr e ↦ omega (arith, inside)
     ]
 
-pub loop_range-rest : (r : Kept) → 2 ≤ length r.fields → is_number_in any_number (field r 1) ≡ true → bad_field r 1 loop_range ≡ bad_field r 2 (λ i. any_index)
+pub loop_range-rest : (r : Kept) → 2 ≤ length r.fields → is_number_in any_number (field r 1) ≡ true →
+    bad_field r 1 loop_range ≡ bad_field r 2 (λ i. any_index)
 loop_range-rest r long good = bad_field-rest r loop_range (λ i. any_index) long good
     (λ i low. let other : (i == 1) ≡ false = ne_eqb i 1 (λ e. absurd (omega (arith, e, low))) in rw other refl)
 
@@ -76,7 +79,8 @@ loop_fault-number r k word count bad = rw (word, ne_eqb (length r.fields) 1 coun
 pub loop_fault-none : (r : Kept) → is_loop r ≡ true → (length r.fields ≡ 1 → ⊥) → bad_field r 1 loop_range ≡ None → loop_fault r ≡ None
 loop_fault-none r word count good = rw (word, ne_eqb (length r.fields) 1 count, good) refl
 
-pub loop_fault-bonds : (r : Kept) → is_loop r ≡ true → (length r.fields ≡ 1 → ⊥) → bad_field r 1 loop_range ≡ bad_field r 2 (λ i. any_index) → (e : Fault)
+pub loop_fault-bonds : (r : Kept) → is_loop r ≡ true → (length r.fields ≡ 1 → ⊥) →
+    bad_field r 1 loop_range ≡ bad_field r 2 (λ i. any_index) → (e : Fault)
     → IsTestFault (bad_number r 2 (λ i. any_index)) e → IsTestFault (loop_fault r) e
 loop_fault-bonds r word count rest (Refused x) h = rw (word, ne_eqb (length r.fields) 1 count, rest, h) refl
 loop_fault-bonds r word count rest NoMemory h = tt

@@ -23,8 +23,8 @@ find_range-some p a (suc n) k low high h e = elim (cases_eq a k) [
 ]
 
 -- all fields from `from` on are numbers of their ranges
-pub bad_field-none : (r : Kept) (from : ℕ) (range : ℕ → Range) → ((i : ℕ) → from ≤ i → i < length r.fields → is_number_in (range i) (field r i) ≡ true)
-    → bad_field r from range ≡ None
+pub bad_field-none : (r : Kept) (from : ℕ) (range : ℕ → Range) →
+    ((i : ℕ) → from ≤ i → i < length r.fields → is_number_in (range i) (field r i) ≡ true) → bad_field r from range ≡ None
 unfolding bad_field
 bad_field-none r from range h =
     find_range-none (λ i. not (is_number_in (range i) (field r i))) from (length r.fields - from) (λ i low high. not_from_true _ (h i low (omega arith)))
@@ -39,7 +39,8 @@ bad_field-some r from range k low high h e =
     (not_from_false _ e)
 
 -- the numbers of fields 1 and 2, one after the other
-pub bad_field-first : (r : Kept) (range : ℕ → Range) → 1 < length r.fields → is_number_in (range 1) (field r 1) ≡ false → bad_field r 1 range ≡ Some 1
+pub bad_field-first : (r : Kept) (range : ℕ → Range) → 1 < length r.fields → is_number_in (range 1) (field r 1) ≡ false →
+    bad_field r 1 range ≡ Some 1
 bad_field-first r range one bad = bad_field-some r 1 range 1 (omega arith) one (λ i low high. absurd (omega arith)) bad
 
 pub bad_field-second : (r : Kept) (range : ℕ → Range) → 2 < length r.fields → is_number_in (range 1) (field r 1) ≡ true
@@ -48,11 +49,12 @@ pub bad_field-second : (r : Kept) (range : ℕ → Range) → 2 < length r.field
 bad_field-second r range two good bad = bad_field-some r 1 range 2 (omega arith) two
     (λ i low high. let e : i ≡ 1 = omega arith in rw e good) bad
 
-pub bad_field-one : (r : Kept) (range : ℕ → Range) → length r.fields ≡ 2 → is_number_in (range 1) (field r 1) ≡ true → bad_field r 1 range ≡ None
+pub bad_field-one : (r : Kept) (range : ℕ → Range) → length r.fields ≡ 2 → is_number_in (range 1) (field r 1) ≡ true →
+    bad_field r 1 range ≡ None
 bad_field-one r range count good = bad_field-none r 1 range (λ i low high. let e : i ≡ 1 = omega arith in rw e good)
 
-pub bad_field-two : (r : Kept) (range : ℕ → Range) → length r.fields ≡ 3 → is_number_in (range 1) (field r 1) ≡ true → is_number_in (range 2) (field r 2) ≡ true
-    → bad_field r 1 range ≡ None
+pub bad_field-two : (r : Kept) (range : ℕ → Range) → length r.fields ≡ 3 → is_number_in (range 1) (field r 1) ≡ true →
+    is_number_in (range 2) (field r 2) ≡ true → bad_field r 1 range ≡ None
 bad_field-two r range count first second = bad_field-none r 1 range (λ i low high. elim (cases_eq i 1) [
   | inl e ↦ rw e first
   | inr other ↦ let e : i ≡ 2 = omega arith in rw e second

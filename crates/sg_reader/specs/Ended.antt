@@ -30,7 +30,8 @@ pub record IsEnded (fault : Table) (rest body : List Kept) (last : Kept) : Type 
   pub passes : fault body last ≡ None
 
 -- the records up to the `end` state x; `next` records of the text were read
-pub record StatesToEnd {X : Type 0} (fault : Table) (stated : List Kept → X) (records : List Kept) (x : X) (next : ℕ)
+pub record StatesToEnd {X : Type 0} (fault : Table) (stated : List Kept → X) (records : List Kept) (x : X)
+    (next : ℕ)
     : Type 0 where
   pub body : List Kept
   pub last : Kept

@@ -32,7 +32,8 @@ abbrev pub HoldsNext : GeneralBody → Kept → GeneralBody → Type 0
 HoldsNext old r new = (body : List Kept) → HoldsGeneral body old → HoldsGeneral (body ++ r ∷ []) new
 
 abbrev pub IsNextFault : GeneralBody → Kept → Fault → Type 0
-IsNextFault old r fault = (body : List Kept) → HoldsGeneral body old → IsTestFault (general_fault old.n body r) fault
+IsNextFault old r fault = (body : List Kept) → HoldsGeneral body old →
+    IsTestFault (general_fault old.n body r) fault
 
 -- the instance that the records gave, and why it is refused
 abbrev pub IsHeldInstance : GeneralBody → Ising → Type 0

@@ -13,7 +13,8 @@ pub record HoldsLattice (body : List Kept) (state : LatticeBody) : Type 0 where
 
 -- behind records that gave the state: the next one passes its tests; it gives the new state; it is refused
 abbrev pub PassesBehind : LatticeBody → Kept → Type 0
-PassesBehind old r = (body : List Kept) (wanted : ℕ) → HoldsLattice body old → lattice_fault wanted body r ≡ None
+PassesBehind old r = (body : List Kept) (wanted : ℕ) → HoldsLattice body old →
+    lattice_fault wanted body r ≡ None
 
 abbrev pub HoldsBehind : LatticeBody → Kept → LatticeBody → Type 0
 HoldsBehind old r new = (body : List Kept) → HoldsLattice body old → HoldsLattice (body ++ r ∷ []) new

@@ -39,7 +39,8 @@ pub record ReadsInstance (kept : List Kept) (inst : Ising) (after : ℕ) : Type 
 -- because they run out
 pub data RefusesBody (header : Header) (rest : List Kept) (refusal : Refusal) : Type 0 where
   AtRecord : (body : List Kept) (r : Kept) (more : List Kept) → rest ≡ body ++ r ∷ more
-      → IsBody (record_fault header) body → record_fault header body r ≡ Some refusal → RefusesBody header rest refusal
+      → IsBody (record_fault header) body → record_fault header body r ≡ Some refusal →
+      RefusesBody header rest refusal
   AtEnd : (body : List Kept) (last : Kept) → IsEnded (record_fault header) rest body last
       → IsRefusalOf (instance_of header body) refusal → RefusesBody header rest refusal
   WithoutEnd : IsBody (record_fault header) rest → refusal ≡ Unended → RefusesBody header rest refusal
@@ -49,7 +50,8 @@ pub data RefusesInstance (kept : List Kept) (refusal : Refusal) : Type 0 where
   WithoutFirst : kept ≡ [] → refusal ≡ Unended → RefusesInstance kept refusal
   AtFirst : (first : Kept) (rest : List Kept) → kept ≡ first ∷ rest → header_fault first ≡ Some refusal
       → RefusesInstance kept refusal
-  Behind : (first : Kept) (rest : List Kept) (header : Header) → kept ≡ first ∷ rest → header_fault first ≡ None
+  Behind : (first : Kept) (rest : List Kept) (header : Header) → kept ≡ first ∷ rest →
+      header_fault first ≡ None
       → header_of first ≡ Some header → RefusesBody header rest refusal → RefusesInstance kept refusal
 
 -- a refusal by these rules, or want of memory, which may come at any time

@@ -62,7 +62,8 @@ module _ (inst : Ising) where
     -- where there is one, it is the name of each spin
     pub connected_from_one : 1 ≤ inst.n → length leasts ≡ 1 → IsConnected inst
     connected_from_one some one i l =
-        let same : get_or names i 0 ≡ get_or names 0 0 = alone leasts one (get_or names i 0) (get_or names 0 0) (listed i l) (listed 0 (omega (arith, some))) in
+        let same : get_or names i 0 ≡ get_or names 0 0 = alone leasts one (get_or names i 0) (get_or names 0 0) (listed i l)
+        (listed 0 (omega (arith, some))) in
         let here : Reached inst all_bonds i (get_or names 0 0) = subst (Reached inst all_bonds i) same (are.named.each i l).reached in
         reached_on inst all_bonds 0 (get_or names 0 0) i (are.named.each 0 (omega (arith, some))).reached
         (reached_back inst all_bonds i (get_or names 0 0) here)

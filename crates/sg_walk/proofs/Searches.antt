@@ -22,7 +22,8 @@ noted_still : (order : List ℕ) (y x : ℕ) → IsNoted order x → IsNoted (or
 noted_still order y x (k, l, e) = (k, omega (arith, l, length_push order y), get_or_append_left order (y ∷ []) 0 k l ∙ e)
 
 -- one spin more is marked
-pub one_marked : (marks : List Bool) (x : ℕ) → x < length marks → get_or marks x false ≡ false → unmarked_count (set marks x true) + 1 ≡ unmarked_count marks
+pub one_marked : (marks : List Bool) (x : ℕ) → x < length marks → get_or marks x false ≡ false →
+    unmarked_count (set marks x true) + 1 ≡ unmarked_count marks
 one_marked marks x l free =
     let s : unmarked_count (set marks x true) + cond (not (get_or marks x false)) 1 0 ≡ unmarked_count marks + 0 =
     sum_by-set (λ z. cond (not z) 1 0) marks x true false l in
@@ -30,7 +31,8 @@ one_marked marks x l free =
     omega arith
 
 -- a spin that is not marked now was not before
-pub free_before : (old now : List Bool) (x : ℕ) → ((y : ℕ) → IsMarked old y → IsMarked now y) → get_or now x false ≡ false → get_or old x false ≡ false
+pub free_before : (old now : List Bool) (x : ℕ) → ((y : ℕ) → IsMarked old y → IsMarked now y) → get_or now x false ≡ false →
+    get_or old x false ≡ false
 free_before old now x kept free = by_mark (get_or old x false) refl
   where
     by_mark : (b : Bool) → get_or old x false ≡ b → get_or old x false ≡ false
@@ -89,8 +91,8 @@ module _ (inst : Ising) (bonds : ℕ → Bool) (spin : ℕ) where
       still x h = marked_still now to x to_in h
 
       -- each entry behind the old ones
-      each : (P : ℕ → Type 0) → ((k : ℕ) → length before ≤ k → k < length after → P (get_or after k 0)) → P to → (k : ℕ) → length before ≤ k →
-          k < length (after ++ to ∷ []) → P (get_or (after ++ to ∷ []) k 0)
+      each : (P : ℕ → Type 0) → ((k : ℕ) → length before ≤ k → k < length after → P (get_or after k 0)) → P to → (k : ℕ) →
+          length before ≤ k → k < length (after ++ to ∷ []) → P (get_or (after ++ to ∷ []) k 0)
       each P h here k b c = elim (cases_lt k (length after)) [
         | inl d ↦ subst P (sym (get_or_append_left after (to ∷ []) 0 k d)) (h k b d)
         | inr d ↦ let last : length after ≡ k = omega (arith, length_push after to) in subst P (sym (get_or_push after to 0 k last)) here
@@ -114,7 +116,8 @@ module _ (inst : Ising) (bonds : ℕ → Bool) (spin : ℕ) where
       }
         where
           -- an old entry is marked, and the new one was not
-          once' : (j k : ℕ) → length before ≤ j → j < k → k < length (after ++ to ∷ []) → get_or (after ++ to ∷ []) j 0 ≢ get_or (after ++ to ∷ []) k 0
+          once' : (j k : ℕ) → length before ≤ j → j < k → k < length (after ++ to ∷ []) →
+              get_or (after ++ to ∷ []) j 0 ≢ get_or (after ++ to ∷ []) k 0
           once' j k a b c e =
               let long : length (after ++ to ∷ []) ≡ length after + 1 = length_push after to in
               let first : get_or (after ++ to ∷ []) j 0 ≡ get_or after j 0 = get_or_append_left after (to ∷ []) 0 j (omega arith) in
@@ -158,7 +161,8 @@ module _ (inst : Ising) (good : IsInstance inst) (bonds : ℕ → Bool) (root : 
   order_in marks order next k h l = omega (arith, marked_in marks (get_or order k 0) (h.sound k l), h.lengths)
 
   -- one spin more is visited
-  pub search_more : (old now : List Bool) (before after : List ℕ) (next : ℕ) → next < length before → SearchedTo inst bonds root base old before next →
+  pub search_more : (old now : List Bool) (before after : List ℕ) (next : ℕ) → next < length before →
+      SearchedTo inst bonds root base old before next →
       Visits inst bonds (get_or before next 0) (darts_of inst (get_or before next 0)) old now before after → SearchedTo inst bonds root base now after
       (next + 1)
   search_more old now before after next l h v = record {
@@ -199,7 +203,8 @@ module _ (inst : Ising) (good : IsInstance inst) (bonds : ℕ → Bool) (root : 
         where
           by_place : j < length before → (k < length before) ⊎ (length before ≤ k) → ⊥
           by_place was (inl l) = h.once j k b l (sym (v.stays j was) ∙ e ∙ v.stays k l)
-          by_place was (inr l) = let w : false ≡ true = sym (v.fresh k l c) ∙ ap (λ x. get_or old x false) (sym e ∙ v.stays j was) ∙ h.sound j was in cc
+          by_place was (inr l) = let w : false ≡ true = sym (v.fresh k l c) ∙ ap (λ x. get_or old x false) (sym e ∙ v.stays j was)
+              ∙ h.sound j was in cc
 
       found_from' : (k : ℕ) → 0 < k → k < length after → IsFoundFrom inst bonds after k
       found_from' k p b = elim (cases_lt k (length before)) [
@@ -239,7 +244,8 @@ module _ (inst : Ising) (good : IsInstance inst) (bonds : ℕ → Bool) (root : 
   }
     where
       step : (a b : ℕ) → JoinedBy inst bonds a b →
-          ((d : ℕ) × (d < dart_count inst) × (tail inst d ≡ a) × (head_of inst d ≡ b) × (bonds (d / 2) ≡ true)) → IsNoted order a → IsMarked marks b
+          ((d : ℕ) × (d < dart_count inst) × (tail inst d ≡ a) × (head_of inst d ≡ b) × (bonds (d / 2) ≡ true)) → IsNoted order a →
+          IsMarked marks b
       step a b j (d, l, leaves, leads, inside) (k, kl, e) =
           let heads : All (IsSeen inst bonds marks) (darts_of inst a) =
           subst (λ s. All (IsSeen inst bonds marks) (darts_of inst s)) e (h.done k (omega (arith, kl))) in

@@ -74,6 +74,6 @@ module _ (inst : Ising) (set : ℕ → Bool) (spin : ℕ) (old now : List Bool) 
       done = λ x l. elim (cases_eq x spin) [ inl e ↦ subst (IsMarked now) (sym e) walk.root_marked | inr ne ↦ walk.kept x (was.done x (omega arith)) ];
     }
 
-pub all_named : (inst : Ising) (set : ℕ → Bool) (marks : List Bool) (names : List ℕ) (stop : ℕ) → inst.n ≤ stop → NamedTo inst set marks names stop
-    → AllNamed inst set names
+pub all_named : (inst : Ising) (set : ℕ → Bool) (marks : List Bool) (names : List ℕ) (stop : ℕ) → inst.n ≤ stop →
+    NamedTo inst set marks names stop → AllNamed inst set names
 all_named inst set marks names stop end h = record { count = h.names_count; each = λ x l. h.named x (h.done x (omega arith)) }

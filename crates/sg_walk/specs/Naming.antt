@@ -11,7 +11,8 @@ pub record IsNamed (inst : Ising) (set : ℕ → Bool) (names : List ℕ) (x : �
   pub least : (j : ℕ) → Reached inst set x j → slice_index names x ≤ j
 
 -- the spins before `stop` are marked, and all marked spins are named
-pub record NamedTo (inst : Ising) (set : ℕ → Bool) (marks : List Bool) (names : List ℕ) (stop : ℕ) : Type 0 where
+pub record NamedTo (inst : Ising) (set : ℕ → Bool) (marks : List Bool) (names : List ℕ)
+    (stop : ℕ) : Type 0 where
   pub marks_count : length marks ≡ inst.n
   pub names_count : length names ≡ inst.n
   pub named : (x : ℕ) → IsMarked marks x → IsNamed inst set names x

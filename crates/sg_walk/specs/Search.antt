@@ -27,7 +27,8 @@ pub record Visits (inst : Ising) (set : ℕ → Bool) (spin : ℕ) (darts : List
   pub sound : (k : ℕ) → length before ≤ k → k < length after → IsMarked now (slice_index after k)
   pub fresh : (k : ℕ) → length before ≤ k → k < length after → is_marked old (slice_index after k) ≡ false
   pub joined : (k : ℕ) → length before ≤ k → k < length after → JoinedBy inst set spin (slice_index after k)
-  pub once : (j k : ℕ) → length before ≤ j → j < k → k < length after → slice_index after j ≢ slice_index after k
+  pub once : (j k : ℕ) → length before ≤ j → j < k → k < length after →
+      slice_index after j ≢ slice_index after k
   pub count : unmarked_count now + length after ≡ unmarked_count old + length before
 
 -- after the visits of the first `next` spins of the order, from marks that were there before

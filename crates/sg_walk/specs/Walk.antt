@@ -23,7 +23,8 @@ IsFoundFrom inst set order k = (j : ℕ) × (j < k) × JoinedBy inst set (slice_
 -- the list has, each once, the spins that the root reaches, none of which was marked before: the root first, and each
 -- other one behind a spin that it is joined with
 -- they and the old ones are marked, and no others
-pub record IsWalked (inst : Ising) (set : ℕ → Bool) (root : ℕ) (old now : List Bool) (order : List ℕ) : Type 0 where
+pub record IsWalked (inst : Ising) (set : ℕ → Bool) (root : ℕ) (old now : List Bool)
+    (order : List ℕ) : Type 0 where
   pub lengths : length now ≡ length old
   pub kept : (x : ℕ) → IsMarked old x → IsMarked now x
   pub root_marked : IsMarked now root

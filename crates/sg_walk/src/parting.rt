@@ -9,7 +9,7 @@ use sg_model::Instance;
 use std::alloc::Global;
 
 /// The components of an instance: a component is what one spin reaches over all bonds.
-#[derive(Drop)]
+#[derive(Clone, Drop)]
 pub struct Components {
     /// For each spin the least spin of its component.
     pub names: Numbers<u32>,
@@ -43,15 +43,5 @@ impl Components {
             names: Numbers::from_vec(names),
             leasts: Numbers::from_vec(leasts),
         })
-    }
-
-    /// A copy, in time linear in the spins.
-    pub fn copy(&self) -> Result<Components, NoMemory>
-        ensures names { IfOk result (λ copy. copy.names ≡ self.now.names) }
-        ensures leasts { IfOk result (λ copy. copy.leasts ≡ self.now.leasts) }
-    {
-        let names = self.names.clone()?;
-        let leasts = self.leasts.clone()?;
-        Ok(Components { names, leasts })
     }
 }

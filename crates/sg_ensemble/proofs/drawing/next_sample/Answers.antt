@@ -18,7 +18,8 @@ with_couplings-requires-clause-count g c =
 pub with_couplings-requires-clause-sum : goal.with_couplings-requires-clause-sum
 with_couplings-requires-clause-sum g c =
     let j = c.from_vec-couplings.result in
-    let count : length j ≡ draw_count c.args.rows c.args.cols = ap length c.from_vec-couplings.ensures ∙ c.in_ok-drawn.ensures.count ∙ c.draw_total.ensures in
+    let count : length j ≡ draw_count c.args.rows c.args.cols = ap length c.from_vec-couplings.ensures ∙ c.in_ok-drawn.ensures.count
+    ∙ c.draw_total.ensures in
     let range : All IsDraw j = subst (All IsDraw) (sym c.from_vec-couplings.ensures) c.in_ok-drawn.ensures.range in
     let light : weight (with_couplings c.args.drawing.instance j) ≤ 2 ^ 32 =
     cylinder_light c.args.rows c.args.cols c.args.drawing.instance c.requires.cylinder c.requires.size j count range in
@@ -46,7 +47,8 @@ returns-clause-sample g c =
 pub returns-clause-small : goal.returns-clause-small
 returns-clause-small g c =
     let j = c.from_vec-couplings.result in
-    let count : length j ≡ draw_count c.args.rows c.args.cols = ap length c.from_vec-couplings.ensures ∙ c.in_ok-drawn.ensures.count ∙ c.draw_total.ensures in
+    let count : length j ≡ draw_count c.args.rows c.args.cols = ap length c.from_vec-couplings.ensures ∙ c.in_ok-drawn.ensures.count
+    ∙ c.draw_total.ensures in
     let range : All IsDraw j = subst (All IsDraw) (sym c.from_vec-couplings.ensures) c.in_ok-drawn.ensures.range in
     subst (λ (p : Embedding). weight p.instance ≤ 2 ^ 32) (sym c.with_couplings.ensures.value)
     (cylinder_light c.args.rows c.args.cols c.args.drawing.instance c.requires.cylinder c.requires.size j count range)

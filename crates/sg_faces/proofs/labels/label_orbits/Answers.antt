@@ -23,7 +23,8 @@ loop-start-preserved c =
           ap (λ v. v.items) w.labels-is ∙ with_items_is c.loop-start.labels w.label_orbit.new.labels (search rules) in
           rw (items_are, w.count-is) (so_far_new c.args.table.now c.loop-start.labels.items c.loop-start.count c.loop-start.start c.requires.is_move
           c.requires.room c.loop-start-test.true c.loop-start.invariant w.label_orbit.new.labels
-          (sym read ∙ w.if-index.true) w.label_orbit.ensures.labelled (rw w.deref_mut.ensures.value at w.label_orbit.ensures.kept) w.label_orbit.ensures.marked)
+          (sym read ∙ w.if-index.true) w.label_orbit.ensures.labelled (rw w.deref_mut.ensures.value at w.label_orbit.ensures.kept)
+          w.label_orbit.ensures.marked)
       | else-index w ↦
           rw (w.labels-is, w.count-is) (so_far_old c.args.table.now c.loop-start.labels.items c.loop-start.count c.loop-start.start
           c.requires.is_move c.requires.room c.loop-start-test.true c.loop-start.invariant

@@ -1,45 +1,70 @@
-use Rattle.std.proofs.Common.{◌≡◌, ◌<◌, [], All, length, get_or, sym, ◌∙◌, ap, subst, arith, rules}
+use Rattle.std.proofs.Common.{◌≡◌, ◌+◌, ◌<◌, ℕ, [], All, cond, count_by, eqb, length, get_or, sym, ◌∙◌, ap, ap₂, subst, arith, rules}
+use Rattle.std.specs.List.{range_with_len}
 use Rattle.std.proofs.lemmas.List.{with_items_is}
+use Rattle.std.proofs.lemmas.List.FromFn.{length-range_with_len}
+use Rattle.std.proofs.lemmas.List.Sums.{count_by-le-length}
 use Rattle.std.proofs.lemmas.Option.{get_or_from_slice_get}
 use Rattle.sg_model.specs.Rotation.{darts_of, rev}
 use Rattle.sg_model.specs.Seam.{IsDistinct}
-use Rattle.sg_faces.proofs.PhiTables.{darts_room, has_phi_more, has_phi_all}
 use Rattle.sg_model.proofs.Rotations.{spin_distinct}
+use Rattle.sg_faces.specs.Faces.{is_bare}
+use Rattle.sg_faces.proofs.BareSpins.{bare_by_list}
+use Rattle.sg_faces.proofs.OrbitWalks.{count_range_more}
+use Rattle.sg_faces.proofs.PhiTables.{darts_room, has_phi_more, has_phi_all}
 use Rattle.sg_faces.proofs.table.phi_table.Goals as goal
+use Rattle.sg_faces.proofs.table.phi_table.Goals.{After-at-darts}
 
 pub loop-spin-init : goal.loop-spin-init
-loop-spin-init c = record { lengths = search rules; entries = λ d l t. absurd (omega arith) }
+loop-spin-init c = record { entered = record { lengths = search rules; entries = λ d l t. absurd (omega arith) }; counted = search rules }
+
+-- the spin of this step, and its darts
+low : (c : After-at-darts) → c.loop-spin.spin < c.args.inst.now.n
+low c = omega (arith, c.loop-spin-test.true, c.n-spin-end.ensures.value)
+
+darts : (c : After-at-darts) → c.at-darts.result.now ≡ darts_of c.args.inst.now c.loop-spin.spin
+darts c =
+    sym (get_or_from_slice_get c.rotation.result.now c.loop-spin.spin c.at-darts.result.now [] c.at-darts.ensures)
+    ∙ ap (λ r. get_or r c.loop-spin.spin []) c.rotation.ensures.value
 
 pub link-requires-clause-distinct : goal.link-requires-clause-distinct
 link-requires-clause-distinct c =
-    let spin : c.loop-spin.spin < c.args.inst.now.n = omega (arith, c.loop-spin-test.true, c.n-spin-end.ensures.value) in
-    let darts : c.at.result.now ≡ darts_of c.args.inst.now c.loop-spin.spin =
-    sym (get_or_from_slice_get c.rotation.result.now c.loop-spin.spin c.at.result.now [] c.at.ensures)
-    ∙ ap (λ r. get_or r c.loop-spin.spin []) c.rotation.ensures.value in
-    subst IsDistinct (sym darts) (spin_distinct c.args.inst.now c.rotation.ensures.instance c.loop-spin.spin spin)
+    let here = (goal.at.link-requires-clause-distinct c).After-at-darts in
+    subst IsDistinct (sym (darts here)) (spin_distinct c.args.inst.now c.rotation.ensures.instance c.loop-spin.spin (low here))
 
 pub link-requires-clause-below : goal.link-requires-clause-below
 link-requires-clause-below c =
-    let spin : c.loop-spin.spin < c.args.inst.now.n = omega (arith, c.loop-spin-test.true, c.n-spin-end.ensures.value) in
-    let darts : c.at.result.now ≡ darts_of c.args.inst.now c.loop-spin.spin =
-    sym (get_or_from_slice_get c.rotation.result.now c.loop-spin.spin c.at.result.now [] c.at.ensures)
-    ∙ ap (λ r. get_or r c.loop-spin.spin []) c.rotation.ensures.value in
-    subst (All (λ d. rev d < length c.deref_mut.result.now)) (sym darts)
-    (darts_room c.args.inst.now c.rotation.ensures.instance c.loop-spin.spin (length c.deref_mut.result.now) spin
-    (ap length c.deref_mut.ensures.value ∙ c.loop-spin.invariant.lengths))
+    let here = (goal.at.link-requires-clause-below c).After-at-darts in
+    subst (All (λ d. rev d < length c.deref_mut.result.now)) (sym (darts here))
+    (darts_room c.args.inst.now c.rotation.ensures.instance c.loop-spin.spin (length c.deref_mut.result.now) (low here)
+    (ap length c.deref_mut.ensures.value ∙ c.loop-spin.invariant.entered.lengths))
+
+pub overflow_add-bare : goal.overflow_add-bare
+overflow_add-bare c =
+    omega (
+      arith,
+      c.loop-spin.invariant.counted,
+      count_by-le-length (is_bare c.args.inst.now) (range_with_len 0 c.loop-spin.spin),
+      length-range_with_len 0 c.loop-spin.spin,
+      c.is_bare-bare.ensures.few,
+    )
 
 pub loop-spin-preserved : goal.loop-spin-preserved
 loop-spin-preserved c =
-    let spin : c.loop-spin.spin < c.args.inst.now.n = omega (arith, c.loop-spin-test.true, c.n-spin-end.ensures.value) in
-    let darts : c.at.result.now ≡ darts_of c.args.inst.now c.loop-spin.spin =
-    sym (get_or_from_slice_get c.rotation.result.now c.loop-spin.spin c.at.result.now [] c.at.ensures)
-    ∙ ap (λ r. get_or r c.loop-spin.spin []) c.rotation.ensures.value in
-    rw (with_items_is c.loop-spin.table c.link.new.table (search rules))
-    (has_phi_more c.args.inst.now c.rotation.ensures.instance c.loop-spin.spin c.loop-spin.table.items c.link.new.table spin (search rules)
-    c.loop-spin.invariant
-    (rw darts at c.link.ensures.follows) (rw (c.deref_mut.ensures.value, darts) at c.link.ensures.kept))
+    let inst = c.args.inst.now in
+    let spin : ℕ = c.loop-spin.spin in
+    let here = (goal.at.loop-spin-preserved c).After-at-darts in
+    let bare : c.is_bare-bare.result ≡ cond (is_bare inst spin) 1 0 =
+    c.is_bare-bare.ensures.value
+    ∙ ap (λ b. cond b 1 0) (ap (λ xs. eqb (length xs) 0) (darts here) ∙ sym (bare_by_list inst c.rotation.ensures.instance spin (low here))) in
+    record {
+      entered = rw (with_items_is c.loop-spin.table c.link.new.table (search rules))
+          (has_phi_more inst c.rotation.ensures.instance spin c.loop-spin.table.items c.link.new.table (low here) (search rules)
+          c.loop-spin.invariant.entered
+          (rw (darts here) at c.link.ensures.follows) (rw (c.deref_mut.ensures.value, darts here) at c.link.ensures.kept));
+      counted = ap₂ (λ n m. n + m) c.loop-spin.invariant.counted bare ∙ sym (count_range_more (is_bare inst) spin);
+    }
 
-pub returns : goal.returns
-returns c =
+pub returns-clause-table : goal.returns-clause-table
+returns-clause-table c =
     has_phi_all c.args.inst.now c.n-spin-end.ensures.instance c.loop-spin.spin c.loop-spin.table.items
-    (omega (arith, c.loop-spin-test.false, c.n-spin-end.ensures.value)) c.loop-spin.invariant
+    (omega (arith, c.loop-spin-test.false, c.n-spin-end.ensures.value)) c.loop-spin.invariant.entered

@@ -1,14 +1,13 @@
 use Rattle.std.proofs.Common.{◌≡◌, ◌<◌, ℕ, List, map, get_or, sym, ◌∙◌, ap, subst, arith, All}
 use Rattle.std.proofs.lemmas.List.Elements.{All-from_get_or}
-use Rattle.sg_model.specs.Ising.{Ising, bond_at, bond_count}
+use Rattle.sg_model.specs.Ising.{bond_at, bond_count}
 use Rattle.sg_model.specs.Rotation.{darts_of}
 use Rattle.sg_model.specs.WellFormed.{IsInstance}
-use Rattle.sg_model.specs.Faults.{IsFaultOf}
 use Rattle.sg_planar.specs.Parts.{restricted}
 use Rattle.sg_planar.specs.Splitting.{placed_bond, placed_darts}
 use Rattle.sg_planar.proofs.Places.{holds_entry}
 use Rattle.sg_planar.proofs.PartDarts.{part_instance}
-use Rattle.sg_planar.proofs.PartPlaces.{never_refused, part_assembled}
+use Rattle.sg_planar.proofs.PartPlaces.{part_assembled}
 use Rattle.sg_planar.proofs.components.part_instance.Goals as goal
 use Rattle.sg_planar.proofs.components.part_instance.Goals.{After-new}
 
@@ -30,7 +29,7 @@ overflow_cast-len c =
     part_instance c.args.inst.now c.requires.instance c.args.spins.now c.args.bonds.now c.requires.closed in
     omega (arith, c.len.ensures, i.draft.few_spins)
 
--- the part as it is defined, and that it is an instance
+-- the part as it is defined
 whole : (c : After-new) →
     record { n = c.len.result; bonds = c.in_ok-list.list; rotation = c.in_ok-rotation.rotation; seam = c.new.result } ≡
     restricted c.args.inst.now c.args.spins.now c.args.bonds.now
@@ -41,24 +40,10 @@ whole c =
     (c.in_ok-rotation.ensures ∙ ap (map (λ x. placed_darts c.args.bond_places.now (darts_of c.args.inst.now x))) c.as_slice-2.ensures)
     c.new.ensures
 
-good : (c : After-new) → IsInstance (record { n = c.len.result; bonds = c.in_ok-list.list; rotation = c.in_ok-rotation.rotation; seam = c.new.result })
-good c = subst IsInstance (sym (whole c)) (part_instance c.args.inst.now c.requires.instance c.args.spins.now c.args.bonds.now c.requires.closed)
-
-pub new-requires-2-clause-few_spins : goal.new-requires-2-clause-few_spins
-new-requires-2-clause-few_spins c = (good c).draft.few_spins
-
-pub new-requires-2-clause-few_bonds : goal.new-requires-2-clause-few_bonds
-new-requires-2-clause-few_bonds c = (good c).draft.few_bonds
-
-pub new-requires-2-clause-joined : goal.new-requires-2-clause-joined
-new-requires-2-clause-joined c = (good c).draft.joined
-
-pub unreachable-requires : goal.unreachable-requires
-unreachable-requires c =
-    never_refused (restricted c.args.inst.now c.args.spins.now c.args.bonds.now)
+pub of_parts-requires : goal.of_parts-requires
+of_parts-requires c =
+    subst IsInstance (sym (whole (goal.at.of_parts-requires c).After-new))
     (part_instance c.args.inst.now c.requires.instance c.args.spins.now c.args.bonds.now c.requires.closed)
-    c.in-Err-Refused.field-0 c.in-Err-Refused.field-0-0 c.in-Err-Refused.field-0-is
-    (subst (λ (i : Ising). IsFaultOf i c.in-Err-Refused.field-0) (whole (goal.at.unreachable-requires c).After-new) c.in-Err-Refused.ensures.refused)
 
-pub returns-in-Ok : goal.returns-in-Ok
-returns-in-Ok c = c.in-Ok.ensures.ok ∙ whole (goal.at.returns-in-Ok c).After-new
+pub returns : goal.returns
+returns c = c.of_parts.ensures ∙ whole (goal.at.returns c).After-new

@@ -25,5 +25,6 @@ loop-spin-preserved c =
     sym (get_or_from_slice_get c.rotation.result.now s c.at-darts.result.now [] c.at-darts.ensures)
     ∙ ap (λ (xs : List (List ℕ)). get_or xs s []) c.rotation.ensures.value in
     c.in_ok-push.ensures.ok
-    ∙ ap₂ (λ (done : List (List ℕ)) (list : List ℕ). done ++ list ∷ []) c.loop-spin.invariant (c.as_slice.ensures ∙ c.in_ok-placed.ensures ∙ ap (placed_darts places) is)
+    ∙ ap₂ (λ (done : List (List ℕ)) (list : List ℕ). done ++ list ∷ []) c.loop-spin.invariant
+    (c.as_slice.ensures ∙ c.in_ok-placed.ensures ∙ ap (placed_darts places) is)
     ∙ sym (map_more (λ x. placed_darts places (darts_of inst x)) c.args.spins.now c.loop-spin.spin-index (omega arith))

@@ -26,7 +26,8 @@ loop-i-preserved c =
     let i = c.loop-i.i in
     let good = ap (λ (g : Range). is_number_in g (field r i)) (sym c.any_number.ensures) ∙ c.in_ok-coupling.ensures.ok.1 in
     let fits : FitsSigned w64 c.in_ok-coupling.coupling = search rules in
-    let value : to_z w64 (of_z w64 c.in_ok-coupling.coupling) ≡ number_in r i = to_z-of_z w64 c.in_ok-coupling.coupling fits ∙ c.in_ok-coupling.ensures.ok.0 in
+    let value : to_z w64 (of_z w64 c.in_ok-coupling.coupling) ≡ number_in r i = to_z-of_z w64 c.in_ok-coupling.coupling fits
+    ∙ c.in_ok-coupling.ensures.ok.0 in
     let more = map-range_with_len_more (λ k. number_in r k) 0 i i (omega arith) in
     record {
       good = below_more _ _ c.loop-i.invariant.good good;

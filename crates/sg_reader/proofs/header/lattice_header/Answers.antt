@@ -41,7 +41,8 @@ returns-then-spins-from-clause-refused c =
     let first = ap (λ (g : Range). is_number_in g (field r 1)) (sym c.at_least.ensures) ∙ c.in_ok-rows.ensures.ok.1 in
     let second = ap (λ (n : ℕ). is_number_in (at_least n) (field r 2)) (sym c.least_cols.ensures.value)
     ∙ ap (λ (g : Range). is_number_in g (field r 2)) (sym c.at_least-2.ensures) ∙ c.in_ok-cols.ensures.ok.1 in
-    let good : bad_field r 1 (header_range (form.Lattice c.args.kind)) ≡ None = bad_field-two r (header_range (form.Lattice c.args.kind)) count first second in
+    let good : bad_field r 1 (header_range (form.Lattice c.args.kind)) ≡ None =
+    bad_field-two r (header_range (form.Lattice c.args.kind)) count first second in
     let spins : c.from.result * c.from-2.result ≡ size_in r 1 * size_in r 2 =
     ap (λ (n : ℕ). n * c.from-2.result) (c.from.ensures ∙ c.in_ok-rows.ensures.ok.0)
     ∙ ap (λ (n : ℕ). size_in r 1 * n) (c.from-2.ensures ∙ c.in_ok-cols.ensures.ok.0) in
@@ -59,7 +60,8 @@ returns-clause-passes c =
     let first = ap (λ (g : Range). is_number_in g (field r 1)) (sym c.at_least.ensures) ∙ c.in_ok-rows.ensures.ok.1 in
     let second = ap (λ (n : ℕ). is_number_in (at_least n) (field r 2)) (sym c.least_cols.ensures.value)
     ∙ ap (λ (g : Range). is_number_in g (field r 2)) (sym c.at_least-2.ensures) ∙ c.in_ok-cols.ensures.ok.1 in
-    let good : bad_field r 1 (header_range (form.Lattice c.args.kind)) ≡ None = bad_field-two r (header_range (form.Lattice c.args.kind)) count first second in
+    let good : bad_field r 1 (header_range (form.Lattice c.args.kind)) ≡ None =
+    bad_field-two r (header_range (form.Lattice c.args.kind)) count first second in
     let spins : c.from.result * c.from-2.result ≡ size_in r 1 * size_in r 2 =
     ap (λ (n : ℕ). n * c.from-2.result) (c.from.ensures ∙ c.in_ok-rows.ensures.ok.0)
     ∙ ap (λ (n : ℕ). size_in r 1 * n) (c.from-2.ensures ∙ c.in_ok-cols.ensures.ok.0) in

@@ -11,7 +11,8 @@ returns-in-Some c =
     let numeral : IsNumeral 10 (without_leading_sign field) = subst (IsNumeral 10) c.after_sign.ensures c.in-Some.ensures.numeral in
     let value : c.in-Some.size ≡ size_of field = c.in-Some.ensures.value ∙ ap (digits_value 10) c.after_sign.ensures in
     let small : size_of field < 2 ^ 63 = omega (arith, c.in-Some.ensures.few, value) in
-    ap Some (to_z-of_z w64 c.signed.result (search rules) ∙ c.signed.ensures ∙ ap₂ (λ (b : Bool) (n : ℕ). cond b (neg_ℤ (pos n)) (pos n)) c.is_minus.ensures value) ∙ sym (number_of-some field numeral small)
+    ap Some (to_z-of_z w64 c.signed.result (search rules) ∙ c.signed.ensures
+    ∙ ap₂ (λ (b : Bool) (n : ℕ). cond b (neg_ℤ (pos n)) (pos n)) c.is_minus.ensures value) ∙ sym (number_of-some field numeral small)
 
 pub returns-in-None : goal.returns-in-None
 returns-in-None c =

@@ -30,7 +30,8 @@ loop-i-preserved c =
         | inr other ↦ c.loop-i.invariant.good k low (omega arith)
       ];
       listed = c.in_ok-push.ensures.ok ∙ ap (λ (l : List ℤ). l ++ to_z w8 (of_z w8 c.in_ok-value.value) ∷ []) c.loop-i.invariant.listed
-          ∙ ap (λ (n : ℤ). map (λ k. number_in r k) (range_with_len 1 (i - 1)) ++ n ∷ []) (to_z-of_z w8 c.in_ok-value.value fits ∙ c.in_ok-value.ensures.ok.0)
+          ∙ ap (λ (n : ℤ). map (λ k. number_in r k) (range_with_len 1 (i - 1)) ++ n ∷ [])
+          (to_z-of_z w8 c.in_ok-value.value fits ∙ c.in_ok-value.ensures.ok.0)
           ∙ sym more ∙ ap (λ (n : ℕ). map (λ k. number_in r k) (range_with_len 1 n)) (sym count);
     }
 

@@ -42,7 +42,8 @@ loop-dart-preserved c =
     let test : c.leads_on.result ≡
     (has c.args.set.now (get_or (darts_of c.args.inst.now c.args.spin) c.loop-dart.dart-index 0 / 2) && not (get_or c.loop-dart.marks c.head-to.result false))
     =
-    c.leads_on.ensures ∙ ap (λ xs. has c.args.set.now (get_or xs c.loop-dart.dart-index 0 / 2) && not (get_or c.loop-dart.marks c.head-to.result false)) list in
+    c.leads_on.ensures ∙ ap (λ xs. has c.args.set.now (get_or xs c.loop-dart.dart-index 0 / 2) && not (get_or c.loop-dart.marks c.head-to.result false))
+    list in
     elim c.if-leads_on.branch [
       | then-leads_on+in_ok-push w ↦
           let parts : (has c.args.set.now (get_or (darts_of c.args.inst.now c.args.spin) c.loop-dart.dart-index 0 / 2) ≡ true) ×

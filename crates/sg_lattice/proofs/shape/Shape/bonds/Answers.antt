@@ -1,17 +1,15 @@
-use Rattle.std.proofs.Common.{length, ap, arith}
+use Rattle.std.proofs.Common.{List, [], ◌∷◌, ◌++◌, map, ◌∙◌, ap, append_assoc}
 use Rattle.sg_lattice.specs.declared.kind.Ends.{Ends}
-use Rattle.sg_lattice.proofs.LatticeBonds.{length-ends_of}
+use Rattle.sg_lattice.specs.declared.kind.Step.{Step}
+use Rattle.sg_lattice.specs.declared.kind.Step.TheVariants.{East, South, SouthEast}
+use Rattle.sg_lattice.specs.Tables.{coupled, ends_from, starts}
 use Rattle.sg_lattice.proofs.shape.Shape.bonds.Goals as goal
 
-pub couple-requires : goal.couple-requires
-couple-requires c =
+-- the bonds of each step, behind those of the steps before
+pub returns : goal.returns
+returns c =
     let s = c.args.self in
-    omega (
-      arith,
-      c.requires,
-      length-ends_of s.kind s.rows s.cols s.size,
-      ap (length {A = Ends}) c.in_ok-ends.ensures,
-      c.deref.ensures.len,
-      ap
-          (length {A = Ends}) c.deref.ensures.value,
-    )
+    let part : Step → List Ends = λ step. map (ends_from s.kind step s.rows s.cols) (starts s.kind step s.rows s.cols) in
+    c.in_ok-push_bonds-3.ensures (part East ++ part South)
+    (c.in_ok-push_bonds-2.ensures (part East) (c.in_ok-push_bonds.ensures [] c.new-bonds.ensures))
+    ∙ ap (λ (ends : List Ends). coupled ends c.args.j.now) (append_assoc (part East) (part South) (part SouthEast))

@@ -8,7 +8,8 @@ use Rattle.sg_model.proofs.instance.Instance.with_bonds.Goals as goal
 pub returns : goal.returns
 returns c =
     let made =
-    λ (rotation : List (List ℕ)) (seam : List ℕ). let i : Ising = record { n = c.self.inside.n; bonds = c.args.bonds; rotation = rotation; seam = seam } in i in
+    λ (rotation : List (List ℕ)) (seam : List ℕ). let i : Ising =
+    record { n = c.self.inside.n; bonds = c.args.bonds; rotation = rotation; seam = seam } in i in
     ap₂ made c.in_ok-rotation.ensures.cases c.in_ok-seam.ensures.cases ∙ ap (λ (i : Ising). with_bonds i c.args.bonds) c.self.view_is
 
 pub invariant_of-result : goal.invariant_of-result

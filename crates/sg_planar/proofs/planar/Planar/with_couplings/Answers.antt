@@ -14,7 +14,8 @@ pub invariant_of-result : goal.invariant_of-result
 invariant_of-result c =
     let p : Embedding = record { instance = c.self.inside.instance; faces = c.self.inside.faces } in
     let couplings = c.args.couplings.now in
-    let count : length couplings ≡ bond_count p.instance = subst (λ (q : Embedding). length couplings ≡ bond_count q.instance) (sym c.self.view_is) c.requires.count in
+    let count : length couplings ≡ bond_count p.instance = subst (λ (q : Embedding). length couplings ≡ bond_count q.instance) (sym c.self.view_is)
+    c.requires.count in
     let sum : weight (with_couplings p.instance couplings) ≤ forced_limit =
     subst (λ (q : Embedding). weight (with_couplings q.instance couplings) ≤ forced_limit) (sym c.self.view_is) c.requires.sum in
     let drawing = couplings_drawing p.instance couplings count sum in
@@ -28,7 +29,8 @@ pub returns-clause-planar : goal.returns-clause-planar
 returns-clause-planar c =
     let p : Embedding = record { instance = c.self.inside.instance; faces = c.self.inside.faces } in
     let couplings = c.args.couplings.now in
-    let count : length couplings ≡ bond_count p.instance = subst (λ (q : Embedding). length couplings ≡ bond_count q.instance) (sym c.self.view_is) c.requires.count in
+    let count : length couplings ≡ bond_count p.instance = subst (λ (q : Embedding). length couplings ≡ bond_count q.instance) (sym c.self.view_is)
+    c.requires.count in
     let sum : weight (with_couplings p.instance couplings) ≤ forced_limit =
     subst (λ (q : Embedding). weight (with_couplings q.instance couplings) ≤ forced_limit) (sym c.self.view_is) c.requires.sum in
     rw c.with_couplings.ensures

@@ -17,7 +17,13 @@ returns-clause-ok c =
       | in-None w ↦ w.seam-is ∙ w.new-seam.ensures ∙ sym (ap (λ (o : Option (List ℕ)). unwrap_or o []) w.in-None.is)
     ] in
     let made =
-    λ (rotation : List (List ℕ)). let i : Ising = record { n = c.args.self.n; bonds = c.args.self.bonds; rotation = rotation; seam = c.match-seam.seam } in i in
+    λ (rotation : List (List ℕ)). let i : Ising = record {
+      n = c.args.self.n;
+      bonds = c.args.self.bonds;
+      rotation = rotation;
+      seam =
+          c.match-seam.seam;
+    } in i in
     let laid = ap made (c.in_ok-rotation.ensures ∙ c.as_slice.ensures) in
     IfOk-weaker c.new.result _ _ (λ inst e body h. e ∙ laid ∙ instance-general body c.args.self c.match-seam.seam h cut) c.new.ensures.ok
 
@@ -28,6 +34,13 @@ returns-clause-fault c =
       | in-None w ↦ w.seam-is ∙ w.new-seam.ensures ∙ sym (ap (λ (o : Option (List ℕ)). unwrap_or o []) w.in-None.is)
     ] in
     let made =
-    λ (rotation : List (List ℕ)). let i : Ising = record { n = c.args.self.n; bonds = c.args.self.bonds; rotation = rotation; seam = c.match-seam.seam } in i in
+    λ (rotation : List (List ℕ)). let i : Ising = record {
+      n = c.args.self.n;
+      bonds = c.args.self.bonds;
+      rotation = rotation;
+      seam =
+          c.match-seam.seam;
+    } in i in
     let laid = ap made (c.in_ok-rotation.ensures ∙ c.as_slice.ensures) in
-    IfErr-weaker c.new.result _ _ (λ e f body h. let same = laid ∙ instance-general body c.args.self c.match-seam.seam h cut in rw (← same) f) c.new.ensures.refused
+    IfErr-weaker c.new.result _ _ (λ e f body h. let same = laid ∙ instance-general body c.args.self c.match-seam.seam h cut in rw (← same) f)
+    c.new.ensures.refused

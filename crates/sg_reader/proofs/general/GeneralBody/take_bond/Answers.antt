@@ -13,14 +13,16 @@ returns-in_err-bond-clause-fault c =
     let r = c.args.row.now in
     let n = c.args.self.now.n in
     rw (p.1, p.2) (λ body h. general_fault-bond n body r c.requires.word
-    ∙ ap (λ (l : List Bond). bond_fault n (length l) r) (sym h.bonds) ∙ ap (λ (m : ℕ). bond_fault n m r) (sym c.len.ensures) ∙ c.in_err-bond.ensures.refused)
+    ∙ ap (λ (l : List Bond). bond_fault n (length l) r) (sym h.bonds) ∙ ap (λ (m : ℕ). bond_fault n m r) (sym c.len.ensures)
+    ∙ c.in_err-bond.ensures.refused)
 
 pub returns-clause-passes : goal.returns-clause-passes
 returns-clause-passes c = λ body h.
     let r = c.args.row.now in
     let n = c.args.self.now.n in
     general_fault-bond n body r c.requires.word
-    ∙ ap (λ (l : List Bond). bond_fault n (length l) r) (sym h.bonds) ∙ ap (λ (m : ℕ). bond_fault n m r) (sym c.len.ensures) ∙ c.in_ok-bond.ensures.passes
+    ∙ ap (λ (l : List Bond). bond_fault n (length l) r) (sym h.bonds) ∙ ap (λ (m : ℕ). bond_fault n m r) (sym c.len.ensures)
+    ∙ c.in_ok-bond.ensures.passes
 
 pub returns-clause-holds : goal.returns-clause-holds
 returns-clause-holds c = λ body h.

@@ -52,7 +52,9 @@ returns-clause-holds c = λ body h.
     let value = c.in_ok-spin.ensures.value in
     let below = c.in_ok-spin.ensures.below in
     let inside : size_in r 1 < c.args.self.now.n = omega (arith, value, below) in
-    let first = ap (has_rot body) (sym value) ∙ sym (mark-of body c.args.self.now spin c.index.result.now h below) ∙ sym c.index.ensures ∙ c.if-index.false in
+    let first = ap (has_rot body) (sym value) ∙ sym (mark-of body c.args.self.now spin c.index.result.now h below) ∙ sym c.index.ensures
+    ∙ c.if-index.false in
     holds-rot body r c.args.self.now _ h c.requires.word inside first refl refl refl
-    (c.set.ensures ∙ ap (set c.args.self.now.rotation spin) c.in_ok-darts.ensures.value ∙ ap (λ (k : ℕ). set c.args.self.now.rotation k (sizes_from r 2)) value)
+    (c.set.ensures ∙ ap (set c.args.self.now.rotation spin) c.in_ok-darts.ensures.value
+    ∙ ap (λ (k : ℕ). set c.args.self.now.rotation k (sizes_from r 2)) value)
     (ap (λ (k : ℕ). set c.args.self.now.seen.items k true) value)

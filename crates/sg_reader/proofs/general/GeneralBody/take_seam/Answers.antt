@@ -19,7 +19,8 @@ returns-in_err-bonds-clause-fault c =
 pub returns-clause-passes : goal.returns-clause-passes
 returns-clause-passes c = λ body h.
     let r = c.args.row.now in
-    general_fault-seam c.args.self.now.n body r c.requires ∙ ap (λ (b : Bool). seam_fault b r) (sym (seen-seam body c.args.self.now h) ∙ sym c.is_some.ensures)
+    general_fault-seam c.args.self.now.n body r c.requires ∙ ap (λ (b : Bool). seam_fault b r)
+    (sym (seen-seam body c.args.self.now h) ∙ sym c.is_some.ensures)
     ∙ c.in_ok-bonds.ensures.passes
 
 pub returns-clause-holds : goal.returns-clause-holds
