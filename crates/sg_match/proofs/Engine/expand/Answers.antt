@@ -156,7 +156,8 @@ invariant_of-self g c =
     let size : length c.expand.new.self.nodes ≡ length e.arena.nodes = ap (λ (f : Family). length f.nodes) c.expand.ensures.gone ∙
     length-with_slot e.arena c.args.node None in
     let leaves : length e.arena.leaf_nodes ≡ length c.expand.new.self.leaf_nodes = ap (λ (f : Family). length f.leaf_nodes) (sym c.expand.ensures.gone) in
-    let rooms = c.turn_to_odd-entry.ensures.room (2 * length e.arena.nodes + 1) (omega (arith, kept.room.cycle, c.list_ring.ensures.capacity)) kept.room.ring in (
+    let rooms = c.turn_to_odd-entry.ensures.room (2 * length e.arena.nodes + 1)
+    (omega (arith, kept.room.cycle, c.list_ring.ensures.capacity)) kept.room.ring in (
       after.0,
       record {
         room = record {
