@@ -45,6 +45,7 @@ pub finds : (Given Study : Ising → Type 0) (given : Result Embedding Fault) �
 finds Given Study (Ok p) gives study = record { instance = p.instance; given = gives; study = study }
 finds Given Study (Err e) gives study = absurd study
 
+-- an instance that the numbers give, of which something was found
 pub finds-any : (Given Study : Ising → Type 0) (given : Result Ising Fault) → IfOk given Given → IsOkAnd given Study → Finds Given Study
 finds-any Given Study (Ok inst) gives study = record { instance = inst; given = gives; study = study }
 finds-any Given Study (Err e) gives study = absurd study
@@ -55,6 +56,7 @@ pub told : {X : Type 0} (Owed : Fault → Type 0) (given : Result X Fault) (befo
 told Owed (Ok x) before after written owed line = absurd line
 told Owed (Err e) before after written owed line = record { fault = e; owed = owed; line = line }
 
+-- the caller has got the line of the fault of the instance, or of the proof
 pub told-proof : (Given : Ising → Type 0) (Fails : Fault → Type 0) (test : Option Refusal) (given : Result Ising Fault)
     (before after : List ℕ) (written : ℕ) → IfOk given Given → IfErr given Fails
     → IsErrAnd given (λ fault. IsToldFault fault before after written)

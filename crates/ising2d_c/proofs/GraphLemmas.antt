@@ -13,12 +13,14 @@ use Rattle.ising2d_c.specs.Graphs.{bond_by, bonds_by, coupling, first_bad, first
 
 -- the first bond that does not join two spins
 module _ (n : ℕ) (ends : List ℕ) (couplings : List ℤ) where
+  -- the first bond that does not join two spins is the bad one
   pub bad-some : (k : ℕ) → k < length couplings → ((i : ℕ) → i < k → is_bond n ends couplings i ≡ true) → is_bond n ends couplings k ≡ false
       → first_bad n ends couplings ≡ Some k
   bad-some k high earlier bad =
       find_range-some (λ i. not (is_bond n ends couplings i)) 0 (length couplings) k (omega arith) (omega (arith, high))
       (λ i l u. not_from_true _ (earlier i u)) (not_from_false _ bad)
 
+  -- where all bonds do none is bad
   pub bad-none : ((i : ℕ) → i < length couplings → is_bond n ends couplings i ≡ true) → first_bad n ends couplings ≡ None
   bad-none all = find_range-none (λ i. not (is_bond n ends couplings i)) 0 (length couplings) (λ i l u. not_from_true _ (all i (omega (arith, u))))
 
@@ -34,6 +36,7 @@ module _ (n : ℕ) (ends : List ℕ) (couplings : List ℤ) where
         size = ltb-true (unsigned_abs (coupling couplings k)) (2 ^ 63) second.1;
       }
 
+  -- bonds with good ends that differ join different spins
   pub bonds-join : ((k : ℕ) → k < length couplings → is_bond n ends couplings k ≡ true)
       → ((k : ℕ) → k < length couplings → entry ends (2 * k) ≡ entry ends (2 * k + 1) → ⊥) → All (IsBond n) (bonds_by ends couplings)
   bonds-join fit apart =
@@ -46,10 +49,12 @@ module _ (n : ℕ) (ends : List ℕ) (couplings : List ℤ) where
 
 -- the first bond between a spin and itself
 module _ (ends : List ℕ) (bonds : ℕ) where
+  -- the first bond between a spin and itself is the one told
   pub self-some : (k : ℕ) → k < bonds → ((i : ℕ) → i < k → entry ends (2 * i) ≡ entry ends (2 * i + 1) → ⊥) → entry ends (2 * k) ≡ entry ends (2 * k + 1)
       → first_self ends bonds ≡ Some k
   self-some k high earlier same =
       find_range-some (is_self ends) 0 bonds k (omega arith) (omega (arith, high)) (λ i l u. ne_eqb _ _ (earlier i u)) (eq-eqb _ _ same)
 
+  -- where none is there is nothing to tell
   pub self-none : ((i : ℕ) → i < bonds → entry ends (2 * i) ≡ entry ends (2 * i + 1) → ⊥) → first_self ends bonds ≡ None
   self-none apart = find_range-none (is_self ends) 0 bonds (λ i l u. ne_eqb _ _ (apart i (omega (arith, u))))

@@ -7,6 +7,7 @@ use Rattle.sg_reply.specs.Exit.{IsAnswered}
 use Rattle.sg_reply.specs.declared.status.Status.{Status}
 use Rattle.ising2d_c.specs.Running.{Answers}
 
+-- the text that was sent is the answer to the words
 pub run-answers : {E : Type 0} (words : List (List ℕ)) (input before text : List ℕ) (result : Result Status E) → before ≡ []
     → IfOk result (λ status. WithAllLaws (λ laws. Sends words laws status (Some input) (Some before) (Some text)))
     → IfOk result (λ status. IsAnswered status → Answers words input text status)

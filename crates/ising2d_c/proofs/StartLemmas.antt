@@ -96,6 +96,7 @@ fall-some starts k low high rises fall =
     find_range-some (falls starts) 1 (length starts - 1) k low (omega (arith, low, high)) (λ i l u. no_fall starts i l (rises (i - 1) (omega (arith, l, u))))
     (lt-ltb (entry starts k) (entry starts (k - 1)) fall)
 
+-- starts that rise do not fall
 pub fall-none : (starts : List ℕ) → ((i : ℕ) → i + 1 < length starts → entry starts i ≤ entry starts (i + 1)) → first_fall starts ≡ None
 fall-none starts rises =
     find_range-none (falls starts) 1 (length starts - 1) (λ i l u. no_fall starts i l (rises (i - 1) (omega (arith, l, u))))

@@ -46,9 +46,11 @@ module _ (inst : Ising) (good : IsInstance inst) (s t : List ℤ) (first : IsAss
   abbrev pub Agree : ℕ → ℕ → Type 0
   Agree a b = spin s a *ℤ spin s b ≡ spin t a *ℤ spin t b
 
+  -- what is said of a and b is said of b and a
   pub agree_back : (a b : ℕ) → Agree a b → Agree b a
   agree_back a b h = *ℤ_comm (spin s b) (spin s a) ∙ h ∙ *ℤ_comm (spin t a) (spin t b)
 
+  -- and what is said of a and b, and of b and c, of a and c
   pub agree_through : (a b c : ℕ) → Agree a b → Agree b c → Agree a c
   agree_through a b c p q =
       through (spin s a) (spin s b) (spin s c) (units inst s first a) (units inst s first b) (units inst s first c)

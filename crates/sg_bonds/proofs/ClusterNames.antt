@@ -21,6 +21,7 @@ module _ (inst : Ising) (k : ℕ) where
       level a b (subst (λ x. a ≤ℤ x) h.reached.3 (g.least h.reached.0 h.reached.1 h.reached.2))
       (subst (λ x. b ≤ℤ x) g.reached.3 (h.least g.reached.0 g.reached.1 g.reached.2))
 
+  -- a bond has one cost
   pub cost_once : (c d : ℤ) → IsCost inst k c → IsCost inst k d → c ≡ d
   cost_once c d g h =
       g.apart
@@ -36,6 +37,7 @@ has_rigid inst costs set right shows b l =
       λ (r : IsRigid inst b). (shows.shown b below).1 (subst (λ c. pos 0 <ℤ c) (cost_once inst b r.0 (get_or costs b (pos 0)) r.1 (right.each b l)) r.2),
     )
 
+-- names over the rigid bonds are the clusters
 pub are_clusters : (inst : Ising) (set : List Bool) (names : List ℕ) → HasRigid inst (has set) → AllNamed inst (has set) names → AreClusters inst names
 are_clusters inst set names rigid all = record {
   count = all.count;

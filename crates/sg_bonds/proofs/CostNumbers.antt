@@ -29,6 +29,7 @@ forced_sum inst k p w inside up small =
     omega (arith, weight_coupled inst k (p *ℤ pos (weight inst + 1)) inside, signed_size p (pos (weight inst + 1)) up)
 
 module _ (inst : Ising) (good : IsInstance inst) (k : ℕ) where
+  -- the least energy with a product is no larger than the weight
   pub least_with_size : (p e : ℤ) → IsLeastWith inst k p e → unsigned_abs e ≤ weight inst
   least_with_size p e h = omega (arith, energy_size inst h.reached.0 good h.reached.1, ap unsigned_abs h.reached.3)
 
@@ -80,9 +81,11 @@ costs_more inst costs c n long before here k l = elim (cases_lt k n) [
 abbrev kept : ℤ → ℤ
 kept x = to_z w64 (of_z w64 x)
 
+-- a cast keeps a number within the bound
 pub kept_small : (x : ℤ) (w : ℕ) → unsigned_abs x ≤ w → w < 2 ^ 63 → to_z w64 (of_z w64 x) ≡ x
 kept_small x w l m = to_z-of_z w64 x (fits_signed_from_abs w64 x (omega arith))
 
+-- and 1 and -1
 pub kept_unit : (p : ℤ) → IsUpOrDown p → to_z w64 (of_z w64 p) ≡ p
 kept_unit p (inl e) = kept_small p 1 (omega (arith, ap unsigned_abs e)) (omega arith)
 kept_unit p (inr e) = kept_small p 1 (omega (arith, ap unsigned_abs e)) (omega arith)
@@ -107,6 +110,7 @@ pub record IsForcedSolve (inst : Ising) (k : ℕ) (p f z e x j : ℤ) (forced : 
   pub own : x ≡ kept p *ℤ kept j
 
 module _ (inst : Ising) (good : IsInstance inst) (k : ℕ) (inside : k < bond_count inst) (small : weight inst ≤ sum_limit) where
+  -- a coupling of the bond fits 64 bits
   pub coupling_fits : (j : ℤ) → (bond_at inst k).j ≡ j → unsigned_abs (to_z w64 (of_z w64 j)) < 2 ^ 63
   coupling_fits j e =
       let size : unsigned_abs j ≤ weight inst = omega (arith, coupling_size inst good k inside, ap unsigned_abs e) in
@@ -165,9 +169,11 @@ module _ (inst : Ising) (good : IsInstance inst) (k : ℕ) (inside : k < bond_co
         gap_size (kept (kept e +ℤ kept f)) (kept x) (forced_limit + (sum_limit + 1)) sum_limit
         (omega (arith, ap unsigned_abs inner_kept, inner_bound)) (omega (arith, ap unsigned_abs own_kept, own_bound))
 
+    -- the difference in the code fits 64 bits
     pub gap_fits : FitsSigned w64 (to_z w64 (of_z w64 (to_z w64 (of_z w64 e) +ℤ to_z w64 (of_z w64 f))) -ℤ to_z w64 (of_z w64 x))
     gap_fits = fits_signed_from_abs w64 (kept (kept e +ℤ kept f) -ℤ kept x) (omega (arith, outer_bound))
 
+    -- it is the least energy with this product
     pub least_found : IsLeastWith inst k p (to_z w64 (of_z w64 (to_z w64 (of_z w64 (to_z w64 (of_z w64 e) +ℤ to_z w64 (of_z w64 f))) -ℤ to_z w64 (of_z w64 x))))
     least_found =
         subst (IsLeastWith inst k p) (sym (to_z-of_z w64 (kept (kept e +ℤ kept f) -ℤ kept x) gap_fits ∙ outer))
@@ -178,6 +184,7 @@ module _ (inst : Ising) (good : IsInstance inst) (k : ℕ) (inside : k < bond_co
     pub product_found : product s (bond_at inst k) ≡ p
     product_found = forced_product inst good k inside p up (weight inst + 1) (omega arith) s (subst (λ i. IsGroundState i s) copy_is solved.ground)
 
+    -- and the energy of the spins that were found
     pub energy_found : to_z w64 (of_z w64 (to_z w64 (of_z w64 (to_z w64 (of_z w64 e) +ℤ to_z w64 (of_z w64 f))) -ℤ to_z w64 (of_z w64 x))) ≡ energy inst s
     energy_found =
         to_z-of_z w64 (kept (kept e +ℤ kept f) -ℤ kept x) gap_fits ∙ outer
@@ -199,9 +206,11 @@ module _ (inst : Ising) (good : IsInstance inst) (k : ℕ) (small : weight inst 
   apart : (a b : ℤ) (m : ℕ) → unsigned_abs a ≤ m → unsigned_abs b ≤ m → unsigned_abs (a -ℤ b) ≤ m + m
   apart a b m x y = omega (arith, ints)
 
+  -- the difference of the two least energies fits 64 bits
   pub cost_fits : FitsSigned w64 (to_z w64 (of_z w64 e) -ℤ to_z w64 (of_z w64 l))
   cost_fits = fits_signed_from_abs w64 (kept e -ℤ kept l) (omega (arith, ap unsigned_abs both_kept, apart e l (weight inst) other_bound ground_bound))
 
+  -- it is the cost of the bond
   pub cost_found : IsCost inst k (to_z w64 (of_z w64 (to_z w64 (of_z w64 e) -ℤ to_z w64 (of_z w64 l))))
   cost_found =
       cost_from_other inst good k s q e (kept (kept e -ℤ kept l)) ground up own (subst (λ p. IsLeastWith inst k p e) (kept_unit q up) other)

@@ -129,6 +129,7 @@ module _ (g : Graph) (k : ℕ) (inside : k < edge_count g) (w : ℤ) where
   pub heavy_light : total_weight (with_weight g k w) ≤ total_weight g + unsigned_abs w
   heavy_light = omega (arith, sum_by-set weight_at g.edges k (record (edge_at g k) { w = w }) (record { a = 0; b = 0; w = pos 0 }) inside)
 
+  -- terminals stay such where an edge has another weight
   pub heavy_terminals : (terminals : List ℕ) → AreTerminals g terminals → AreTerminals (with_weight g k w) terminals
   heavy_terminals terminals are = record { rising = are.rising; below = are.below }
 
@@ -237,6 +238,7 @@ module _ (g : Graph) (k : ℕ) (inside : k < edge_count g) (w : ℤ) where
           ≡ sum_below (λ e. cond (holds edges e) (edge_weight heavy e) 0) (edge_count g) = ap (sum_below (λ e. cond (holds edges e) (edge_weight heavy e) 0)) same_count in
           omega (arith, chosen, split, added, own, members, counted)
 
+      -- with the edge put in, or left out, the join is least among those like it
       pub least_with_edge : IsLeastJoinWith g terminals k has (with_edge g edges k has)
       least_with_edge = record {
         join = whole_join;

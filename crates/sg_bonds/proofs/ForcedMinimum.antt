@@ -32,9 +32,11 @@ module _ (inst : Ising) (good : IsInstance inst) (k : ℕ) (inside : k < bond_co
   abbrev rest : List ℤ → ℤ
   rest s = energy loosened s
 
+  -- the bond joins two spins
   pub joined_at : IsBond inst.n (bond_at inst k)
   joined_at = good.draft.joined k no_bond inside
 
+  -- the product at it is 1 or -1
   pub unit_product : (s : List ℤ) → IsAssignment inst s → IsUpOrDown (product s (bond_at inst k))
   unit_product s h = product-up_or_down s (bond_at inst k) (unit_ends inst s good h k no_bond inside)
 
@@ -133,6 +135,7 @@ module _ (inst : Ising) (good : IsInstance inst) (k : ℕ) (inside : k < bond_co
             absurd (less (energy (with_coupling inst k (p *ℤ pos m)) s) (energy (with_coupling inst k (p *ℤ pos m)) other.0) (rest s) (rest other.0)
             (weight inst) (without_product s h ne) (with_product other.0 other.2) (rest_size s h) (rest_size other.0 other.1) large (least other.0 other.1))
 
+    -- with the forced coupling each ground state has this product
     pub forced_product : (s : List ℤ) → IsGroundState (with_coupling inst k (p *ℤ pos m)) s → product s (bond_at inst k) ≡ p
     forced_product s g = least_has_product s (record { count = g.assignment.count; values = g.assignment.values })
         (λ t h. g.least t (record { count = h.count; values = h.values }))
@@ -147,6 +150,7 @@ module _ (inst : Ising) (good : IsInstance inst) (k : ℕ) (inside : k < bond_co
         value : (n o r x : ℤ) → n ≡ r -ℤ pos m → o ≡ r -ℤ x → o ≡ (n +ℤ pos m) -ℤ x
         value n o r x a b = omega (arith, ints)
 
+    -- and its energy gives the least one with this product
     pub forced_minimum : (e : ℤ) → IsLeastEnergy (with_coupling inst k (p *ℤ pos m)) e → IsLeastWith inst k p ((e +ℤ pos m) -ℤ (p *ℤ (bond_at inst k).j))
     forced_minimum e h = record {
       reached = (

@@ -38,10 +38,12 @@ module _ (p : Embedding) (planar : IsPlanar p) (k : ℕ) (inside : k < bond_coun
     (joined : IsLeastJoinWith (dual_web p.instance p.faces) (frustrated_faces p.instance p.faces) k has edges) where
   module _ (s : List ℤ) (assigned : IsAssignment p.instance s) (breaks : BreaksExactly p.instance s edges)
       (x : ℤ) (up : IsUpOrDown x) (side : breaks_with (bond_at p.instance k) x ≡ has) where
+    -- the spins have this product at the bond
     pub state_product : product s (bond_at p.instance k) ≡ x
     state_product = same_by_break (bond_at p.instance k) (product s (bond_at p.instance k)) x
         (unit_product p.instance planar.instance k inside s assigned) up (breaks k inside ∙ joined.side ∙ sym side)
 
+    -- and no assignment with it has less energy
     pub state_least : IsLeastWith p.instance k x (energy p.instance s)
     state_least = record {
       reached = (s, assigned, state_product, refl);
@@ -62,15 +64,18 @@ module _ (p : Embedding) (planar : IsPlanar p) (k : ℕ) (inside : k < bond_coun
 
 -- what the dual keeps
 module _ (p : Embedding) (g : Graph) (terminals : List ℕ) (dual : IsDualOf p g terminals) where
+  -- the frustrated faces are terminals of the dual
   pub dual_terminals : AreTerminals g terminals
   dual_terminals = rw (dual.web, dual.frustrated) (record {
     rising = chosen_below_rises (is_frustrated p.instance p.faces) p.faces.count;
     below = chosen_below_low (is_frustrated p.instance p.faces) p.faces.count;
   })
 
+  -- the dual weighs no more than the limit
   pub dual_light : total_weight g ≤ forced_limit
   dual_light = omega (arith, ap total_weight dual.web, dual_weight p.instance p.faces, dual.planar.sum)
 
+  -- it has an edge for each bond
   pub dual_edges : edge_count g ≡ bond_count p.instance
   dual_edges = ap edge_count dual.web ∙ dual_edge_count p.instance p.faces
 

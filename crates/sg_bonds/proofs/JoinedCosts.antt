@@ -49,6 +49,7 @@ module _ (inst : Ising) (good : IsInstance inst) (parts : List Part) (are : AreP
     found_part : (least : ℕ) × IsPart inst least p
     found_part = subst (λ (q : Part). (least : ℕ) × IsPart inst least q) (sym same) (all_parts inst are.leasts parts are.each i p l)
 
+    -- the part is a share of the whole
     pub share : IsShare inst p.spins p.bonds p.planar.instance
     share = share_of_part inst found_part.0 p found_part.1
 

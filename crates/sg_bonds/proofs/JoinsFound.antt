@@ -31,6 +31,7 @@ pub turned_mark : (g : Graph) (terminals : List ℕ) → (k : ℕ) (has : Bool) 
 turned_mark g terminals k has yes_had mid new x was turned =
     turned ∙ ap₂ xor was (xor-false (is_end (edge_at g k).a (edge_at g k).b x) ∙ ap (λ h. h && is_end (edge_at g k).a (edge_at g k).b x) (sym yes_had))
 
+-- where the edge is not to be had the terminals are marked as they are
 pub same_mark : (g : Graph) (terminals : List ℕ) (k : ℕ) (has : Bool) → has ≡ false → (mid : List Bool) (x : ℕ) → is_marked mid x ≡ holds terminals x →
     is_marked mid x ≡ xor (holds terminals x) (has && is_end (edge_at g k).a (edge_at g k).b x)
 same_mark g terminals k has not_had mid x was =
@@ -50,15 +51,18 @@ module _ (g : Graph) (k : ℕ) (inside : k < edge_count g) (edges read : List �
   far_small : far ≤ forced_limit
   far_small = omega (arith, value, ap (weight_of g) same, rising_light g edges low up, light)
 
+  -- the weight of the join fits 64 bits
   pub far_fits : FitsSigned w64 (pos far)
   far_fits = fits_signed_from_abs w64 (pos far) (omega (arith, far_small))
 
   far_is : to_z w64 far ≡ pos far
   far_is = to_z_pos w64 far (omega (arith, far_small))
 
+  -- it is not negative
   pub far_positive : pos 0 ≤ℤ to_z w64 far
   far_positive = rw far_is (omega (arith, ints))
 
+  -- with the edge as heavy as that all edges stay light
   pub far_light : total_weight (with_weight g k (to_z w64 far)) ≤ 2 ^ 60
   far_light = rw far_is (omega (arith, far_small, light, heavy_light g k inside (pos far)))
 
@@ -70,13 +74,16 @@ turned_terminals g terminals k has ends is =
 
 -- marked places are a rising list of low numbers
 module _ (marks : List Bool) (n : ℕ) (long : length marks ≡ n) (list : List ℕ) (is : list ≡ chosen_below (is_marked marks) (length marks)) where
+  -- the places that are marked rise
   pub places_rise : IsStrictlyIncreasing list
   places_rise = subst IsStrictlyIncreasing (sym is) (chosen_below_rises (is_marked marks) (length marks))
 
+  -- they are places of the list
   pub places_low : All (λ k. k < n) list
   places_low = subst (λ (list : List ℕ). All (λ k. k < n) list) (sym is)
       (subst (λ m. All (λ k. k < m) (chosen_below (is_marked marks) (length marks))) long (chosen_below_low (is_marked marks) (length marks)))
 
+  -- and are those that are marked
   pub places_hold : (k : ℕ) → k < n → holds list k ≡ is_marked marks k
   places_hold k l = ap (λ (list : List ℕ). holds list k) is ∙ holds-chosen_below (is_marked marks) (length marks) k (omega (arith, l, long))
 
@@ -123,6 +130,7 @@ module _ (g : Graph) (terminals : List ℕ) (k : ℕ) (inside : k < edge_count g
         ∙ ap (chosen_below (is_marked (set (set marks k false) k has))) whole_marks
         ∙ chosen_below_same (is_marked (set (set marks k false) k has)) (λ e. cond (eqb k e) has (holds rest e)) (edge_count g) same_edges)
 
+    -- with the edge put in, or left out, the join is least among those like it
     pub turned_least : IsLeastJoinWith g terminals k has all
     turned_least =
         let (w, least) = beside in

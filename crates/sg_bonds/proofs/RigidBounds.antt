@@ -64,6 +64,7 @@ module _ (inst : Ising) (good : IsInstance inst) (s : List ℤ) (ground : IsGrou
           (subst (λ x. energy inst s ≤ℤ x) cost.least_unlike.reached.3 (ground.least cost.least_unlike.reached.0 cost.least_unlike.reached.1))
           (cost.least_unlike.least s ground.assignment down) cost.apart
 
+  -- a bond that no assignment turns at the least energy is rigid
   pub rigid_above : weight inst ≤ sum_limit → LiesAbove inst s k → IsRigid inst k
   rigid_above small above = let (c, cost) = some_cost inst good k inside small in (c, cost, positive c cost above)
 

@@ -48,6 +48,7 @@ module _ (inst : Ising) (good : IsInstance inst) (k : ℕ) (inside : k < bond_co
             (least_of_ground_state forced s (energy forced s) ground refl),
       )
 
+  -- each bond has a cost
   pub some_cost : (c : ℤ) × IsCost inst k c
   some_cost =
       let (like, least_like) = some_least_with (pos 1) (inl refl) in

@@ -45,6 +45,7 @@ module _ (inst : Ising) (text : ResultText) where
   yes_from_proof (Load bond sum) h proof = absurd (h.2.fails (proof.packs.within bond h.2.below))
   yes_from_proof (Sum found wanted) h proof = absurd (h.5 (h.3 ∙ proof.tight ∙ sym h.4))
 
+  -- a yes says that the spins have the stated energy, and that the loops prove it
   pub proof_from_yes : (v : Verdict) → IsVerdict inst text v → v ≡ Yes → Holds
   proof_from_yes v h e = subst (IsVerdict inst text) e h
 
@@ -52,5 +53,6 @@ module _ (inst : Ising) (text : ResultText) where
   pub ground_state_from_yes : IsInstance inst → (v : Verdict) → IsVerdict inst text v → v ≡ Yes → IsGroundState inst text.spins
   ground_state_from_yes good v h e = proves_ground_state inst good text.spins text.energy text.loops (proof_from_yes v h e)
 
+  -- a yes says that no assignment has less energy than the stated one
   pub least_energy_from_yes : IsInstance inst → (v : Verdict) → IsVerdict inst text v → v ≡ Yes → IsLeastEnergy inst text.energy
   least_energy_from_yes good v h e = proves_least_energy inst good text.spins text.energy text.loops (proof_from_yes v h e)

@@ -19,6 +19,7 @@ abbrev pub told_or_none : Option (List ℕ) → List ℕ
 told_or_none None = []
 told_or_none (Some bytes) = bytes
 
+-- the bytes that are told are those told
 pub told_or_none-told : (left : Option (List ℕ)) → Told left (told_or_none left)
 told_or_none-told None = tt
 told_or_none-told (Some bytes) = refl
@@ -54,6 +55,7 @@ pub served-whole : (words : List (List ℕ)) (laws : List Law) (left before afte
     IsServed words laws left text status → Grows text before after → AnswersWhole words laws status left before after
 served-whole words laws left before after text status served grown = record { text = text; served = served; written = grown }
 
+-- a text of which a prefix is written is served in part
 pub served-in_part : (words : List (List ℕ)) (laws : List Law) (left before after : Option (List ℕ)) (text : List ℕ) (status : Status) →
     IsServed words laws left text status → IsAnswered status → GrowsByPrefix text before after → AnswersInPart words laws left before after
 served-in_part words laws left before after text status served answered prefix = record {
@@ -72,6 +74,7 @@ pub drawn-whole : (words : List (List ℕ)) (laws : List Law) (drawing : Drawing
 drawn-whole words laws drawing name left before after text sent status named second same answers grown =
     served-whole words laws left before after text status (drawn-served words laws drawing left text status named (rw second at answers)) (rw same at grown)
 
+-- a prefix of a drawing's text is an answer in part
 pub drawn-in_part : (words : List (List ℕ)) (laws : List Law) (drawing : Drawing) (name : List ℕ) (left before after : Option (List ℕ))
     (text sent : List ℕ) (status : Status) →
     command_of words ≡ Some (Draw drawing) → name ≡ law_word words → sent ≡ text → AnswersLaw drawing (first_named name laws) text status →

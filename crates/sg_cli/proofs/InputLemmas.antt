@@ -24,23 +24,28 @@ use Rattle.sg_cli.specs.Served.{AnswersText}
 use Rattle.sg_words.specs.declared.command.Reading.{Reading}
 use Rattle.sg_reply.specs.declared.status.Status.{Status}
 
+-- what refuses the records refuses the text of records
 pub by_record : (bytes : List ℕ) (fault : Fault) → IsReadFault (kept_of bytes) fault → IsAloneFault bytes fault
 by_record bytes (Refused refusal) shown = AtRecord shown
 by_record bytes NoMemory shown = tt
 
+-- a record behind the `end` refuses the text of records
 pub by_trailing : (bytes : List ℕ) (inst : Ising) (after : ℕ) (fault : Fault) → ReadsInstance (kept_of bytes) inst after
     → IsTrailingFault (kept_of bytes) after fault → IsAloneFault bytes fault
 by_trailing bytes inst after (Refused refusal) reads shown = AtTrailing inst after reads shown
 by_trailing bytes inst after NoMemory reads shown = tt
 
+-- what refuses the records refuses a text that is no object
 pub by_records : (bytes : List ℕ) (fault : Fault) → is_object_text bytes ≡ false → IsAloneFault bytes fault → RefusesBy bytes fault
 by_records bytes (Refused refusal) kind shown = OfRecords kind shown
 by_records bytes NoMemory kind shown = tt
 
+-- what refuses the object refuses a text that is one
 pub by_json : (bytes : List ℕ) (fault : Fault) → is_object_text bytes ≡ true → IsJsonFault bytes fault → RefusesBy bytes fault
 by_json bytes (Refused refusal) kind shown = OfJson kind shown
 by_json bytes NoMemory kind shown = tt
 
+-- an instance that is not fit refuses the text
 pub by_fitness : (bytes : List ℕ) (inst : Ising) (fault : Fault) → GivesInstance bytes inst → IsUnfitFault inst fault → RefusesBy bytes fault
 by_fitness bytes inst (Refused refusal) gives shown = AtFitness inst gives shown
 by_fitness bytes inst NoMemory gives shown = tt
@@ -51,15 +56,18 @@ pub gives_fit : (bytes : List ℕ) (inst : Ising) (r : Result Embedding Fault) �
 gives_fit bytes inst (Ok p) gives same fit = subst (GivesFit bytes) (sym same) (record { gives = gives; fit = fit })
 gives_fit bytes inst (Err e) gives same fit = tt
 
+-- what refuses the instance refuses the proof
 pub by_instance : (bytes : List ℕ) (fault : Fault) → IsReadFault (kept_of bytes) fault → RefusesProofBy bytes fault
 by_instance bytes (Refused refusal) shown = InInstance shown
 by_instance bytes NoMemory shown = tt
 
+-- behind the instance, what refuses the result refuses the proof
 pub by_result : (bytes : List ℕ) (inst : Ising) (after : ℕ) (fault : Fault) → ReadsInstance (kept_of bytes) inst after →
     IsResultFault (behind after (kept_of bytes)) fault → RefusesProofBy bytes fault
 by_result bytes inst after (Refused refusal) reads shown = InResult inst after reads shown
 by_result bytes inst after NoMemory reads shown = tt
 
+-- behind both, a record more refuses the proof
 pub by_end : (bytes : List ℕ) (inst : Ising) (after : ℕ) (stated : ResultText) (next : ℕ) (fault : Fault) → ReadsInstance (kept_of bytes) inst after →
     ReadsResult (behind after (kept_of bytes)) stated next → IsTrailingFault (kept_of bytes) next fault → RefusesProofBy bytes fault
 by_end bytes inst after stated next (Refused refusal) reads states shown = BehindResult inst after stated next reads states shown

@@ -5,6 +5,7 @@ use Rattle.sg_laws.specs.Named.{Law}
 use Rattle.sg_laws.specs.Stream.{alternating, drawn, generator_of, level_of, sign_of}
 use Rattle.sg_cli.specs.Laws.{AreLaws, IsLaw}
 
+-- a list into which four laws were pushed has these, in this order
 pub four-laws : {B : Type 0} (law_of : B → Law) (none first second third fourth : List B) (a b c d : B)
     → none ≡ [] → first ≡ none ++ a ∷ [] → second ≡ first ++ b ∷ [] → third ≡ second ++ c ∷ [] → fourth ≡ third ++ d ∷ []
     → IsLaw (codes "one") (λ seed count. replicate count (pos 1)) (law_of a) → IsLaw (codes "alternate") alternating (law_of b)

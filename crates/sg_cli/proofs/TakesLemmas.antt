@@ -5,6 +5,7 @@ use Rattle.sg_io.specs.Devices.{Loses}
 use Rattle.sg_io.specs.Reading.{Empties}
 use Rattle.sg_cli.specs.Promises.{Takes}
 
+-- a source that was emptied within the limit gave its whole input
 pub takes-whole : (items : List ℕ) (old new : Option (List ℕ)) → Empties items old new → length items ≤ input_limit → Takes old new
 takes-whole items None new spent short = record {
   untold = λ _. spent;
@@ -17,6 +18,7 @@ takes-whole items (Some left) new spent short = record {
   too_long = λ bytes told long. absurd (let same : length items ≡ length bytes = ap length (spent.0 ∙ (cc)) in omega arith);
 }
 
+-- a source with more gave one byte past the limit
 pub takes-too_long : (old new : Option (List ℕ)) → Loses (input_limit + 1) old new → Takes old new
 takes-too_long None new lost = record {
   untold = λ _. lost;

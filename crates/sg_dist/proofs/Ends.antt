@@ -61,6 +61,7 @@ module _ (g : Graph) (source : ℕ) (low : source < g.nodes) where
       lib_at : ℕ → Option Route
       lib_at x = route_at (record { source = source; to = replicate g.nodes None }) x
 
+  -- at the start the source alone is found, and none of its edges is spread
   pub Spreads-first : Spreads g first_table [] source []
   Spreads-first = record {
     finds = record {
@@ -107,11 +108,13 @@ IsTableOf-end g t s = record {
 -- the first step, in the terms of the code
 module _ (g : Graph) (source : ℕ) (low : source < g.nodes) (t : Routes) (is : t ≡ first_table g source low) (items : List (Reverse Candidate))
     (none : items ≡ []) where
+  -- the same, in the terms of the code
   pub Spreads-start : Spreads g t (candidates items) source []
   Spreads-start =
       subst (λ u. Spreads g u (candidates items) source []) (sym is)
       (subst (λ xs. Spreads g (first_table g source low) (candidates xs) source []) (sym none) (Spreads-first g source low))
 
+  -- the source has the distance 0
   pub start_distance : 0 ≡ length_to t source
   start_distance = sym (ap (λ (u : Routes). length_to u source) is ∙ first_distance)
     where

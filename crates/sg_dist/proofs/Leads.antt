@@ -37,6 +37,7 @@ module _ (g : Graph) (t : Routes) (heap : List Candidate) (s : Searches g t heap
             (arith, way.2, is.distance, sum_by-append (edge_weight g) way.0 (c.edge ∷ []), sum_by-cons (edge_weight g) c.edge []),
       )
 
+  -- a node that is not found, of the least candidate, has that candidate's distance
   pub least_candidate : (c : Candidate) → IsCandidate g t c → All (λ b. c.distance ≤ b.distance) heap → is_reached t c.node ≡ false
       → IsDistance g t.source c.node c.distance
   least_candidate c is least new = record {

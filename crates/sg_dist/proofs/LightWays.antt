@@ -12,6 +12,7 @@ module _ (g : Graph) (t : Routes) where
   way_below [] x y w = All-nil (λ e. e < edge_count g)
   way_below (e ∷ es) x y w = All-cons (λ e. e < edge_count g) e es w.2.below (way_below es w.0 y w.3)
 
+  -- a distance is at most the weight of all edges
   pub distance_light : IsTableOf g t → (x : ℕ) → is_reached t x ≡ true → length_to t x ≤ total_weight g
   distance_light is x h =
       let way = is.back x (omega (arith, reached_low t x h, is.nodes)) h in

@@ -51,9 +51,11 @@ module _ (g : Graph) (t : Routes) (old new : List (Reverse Candidate)) (x : Reve
   is : IsCandidate g t x.0
   is = taken g t (candidates old) (candidates new) x.0 s perm' (IsCandidate g t) s.finds.candidates
 
+  -- the popped candidate leads to a node
   pub popped_low : x.0.node < g.nodes
   popped_low = (let l = leads_low g x.0.edge is.from x.0.node web is.leads in l.1)
 
+  -- its edge has a number that a table holds
   pub popped_edge : x.0.edge < 2 ^ 24
   popped_edge = omega (arith, is.leads.below, web.few_edges)
 
@@ -63,9 +65,11 @@ module _ (g : Graph) (t : Routes) (old new : List (Reverse Candidate)) (x : Reve
 
   -- the node is found now
   module _ (fresh : is_reached t x.0.node ≡ false) where
+    -- the distance of a popped candidate whose node is new is at most 2^60
     pub popped_small : x.0.distance ≤ 2 ^ 60
     popped_small = omega (arith, candidate_small g t (candidates old) x.0 s.finds is fresh, web.light)
 
+    -- such a node is not the source
     pub popped_not_source : x.0.node ≢ t.source
     popped_not_source e = absurd (let h : false ≡ true = sym fresh ∙ ap (is_reached t) e ∙ s.finds.home in cc)
 
@@ -76,17 +80,21 @@ module _ (g : Graph) (t : Routes) (old new : List (Reverse Candidate)) (x : Reve
       least : All (λ b. x.0.distance ≤ b.distance) (candidates new)
       least = nearest x new top
 
+      -- the node of the least candidate is found, and none of its edges is spread yet
       pub Spreads-popped : Spreads g next (candidates new) x.0.node []
       Spreads-popped = subst (λ u. Spreads g u (candidates new) x.0.node []) (sym set')
           (Spreads-found g t (candidates old) (candidates new) x.0 s perm' web least fresh)
 
+      -- its distance in the table is that of the candidate
       pub popped_distance : x.0.distance ≡ length_to next x.0.node
       popped_distance = sym (ap (λ (u : Routes). length_to u x.0.node) set'
           ∙ new_length g t (candidates old) (candidates new) x.0 s perm' web least fresh x.0.node refl)
 
+      -- one node more is found
       pub popped_count : reached_count next ≡ reached_count t + 1
       popped_count = ap reached_count set' ∙ one_more g t (candidates old) (candidates new) x.0 s perm' web least fresh
 
+      -- the source stays
       pub popped_source : next.source ≡ t.source
       popped_source = ap (λ (u : Routes). u.source) set
 

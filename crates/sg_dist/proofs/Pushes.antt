@@ -26,9 +26,11 @@ module _ (g : Graph) (t : Routes) (node : ℕ) (list : List ℕ) (i other : ℕ)
       (λ (es : List Edge). other_end node (get_or es this (record { a = 0; b = 0; w = pos 0 }))) same) in
       subst (λ z. Leads g this node z) far (leads_other g this node ends)
 
+  -- the other end of the edge is a node
   pub other_in : IsWeb g → other < g.nodes
   other_in web = (let l = leads_low g this node other web leads_to in l.1)
 
+  -- the weight in the code is that of the edge
   pub weight_is : unsigned_abs (get_or edges this (record { a = 0; b = 0; w = pos 0 })).w ≡ edge_weight g this
   weight_is = ap (λ (es : List Edge). unsigned_abs (get_or es this (record { a = 0; b = 0; w = pos 0 })).w) same
 
@@ -37,10 +39,12 @@ module _ (g : Graph) (t : Routes) (node : ℕ) (list : List ℕ) (i other : ℕ)
       → length_to t node + edge_weight g this ≤ total_weight g
   sum_small heap done s new = outward g t heap this node other s.finds s.here leads_to new
 
+  -- an edge to a node that is found wants no candidate
   pub Spreads-next_known : (heap : List Candidate) → is_reached t other ≡ true → Spreads g t heap node (take i list) → Spreads g t heap node (take (i + 1) list)
   Spreads-next_known heap found s = subst (Spreads g t heap node) (sym (take_more list i 0 low))
       (Spreads-known g t heap node this other (take i list) s leads_to found)
 
+  -- an edge to a node that is not found gets one
   pub Spreads-next_new : (old new : List (Reverse Candidate)) (d w : ℕ) → d ≡ length_to t node
       → w ≡ unsigned_abs (get_or edges this (record { a = 0; b = 0; w = pos 0 })).w
       → IsPermutation (record { 0 = record { distance = d + w; node = other; edge = this } } ∷ old) new

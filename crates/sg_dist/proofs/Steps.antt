@@ -53,6 +53,7 @@ module _ (g : Graph) (t : Routes) where
       (λ k d q. inner-le (get_or g.edges k d)) (omega arith) in
       omega (arith, f.light v found)
 
+  -- the distance of a candidate whose node is new is at most the weight of all edges
   pub candidate_small : (heap : List Candidate) (c : Candidate) → Finds g t heap → IsCandidate g t c → is_reached t c.node ≡ false → c.distance ≤ total_weight g
   candidate_small heap c f is new = omega (arith, is.distance, outward heap c.edge is.from c.node f is.reached is.leads new)
 
@@ -71,6 +72,7 @@ module _ (g : Graph) (t : Routes) (heap rest : List Candidate) (c : Candidate) (
   rest_all : (P : Candidate → Type 0) → All P heap → All P rest
   rest_all P h = All-tail P c rest (All-permutation P heap (c ∷ rest) perm h)
 
+  -- what holds of all of the heap holds of the candidate taken
   pub taken : (P : Candidate → Type 0) → All P heap → P c
   taken P h = All-head P c rest (All-permutation P heap (c ∷ rest) perm h)
 
@@ -100,6 +102,7 @@ module _ (g : Graph) (t : Routes) (heap rest : List Candidate) (c : Candidate) (
     c_is : IsCandidate g t c
     c_is = taken (IsCandidate g t) s.finds.candidates
 
+    -- the candidate's node is one of the table
     pub low : c.node < length t.to
     low = let l = leads_low g c.edge c_is.from c.node web c_is.leads in omega (arith, l.1, s.finds.count)
 
@@ -118,6 +121,7 @@ module _ (g : Graph) (t : Routes) (heap rest : List Candidate) (c : Candidate) (
     same_length : (x : ℕ) → is_reached t x ≡ true → length_to found x ≡ length_to t x
     same_length x h = length_there t c.node (pos c.distance) c.edge low x (other x h)
 
+    -- the node found now has the candidate's distance
     pub new_length : (x : ℕ) → x ≡ c.node → length_to found x ≡ c.distance
     new_length x e = ap (length_to found) e ∙ length_here t c.node (pos c.distance) c.edge low
 
@@ -128,6 +132,7 @@ module _ (g : Graph) (t : Routes) (heap rest : List Candidate) (c : Candidate) (
           (λ (z : Candidate). c.distance ≤ z.distance) h.2 q)
     ]
 
+    -- one node more is found
     pub one_more : reached_count found ≡ reached_count t + 1
     one_more =
         let s' : reached_count found + cond (is_reached t c.node) 1 0 ≡ reached_count t + 1 = sum_by-set
@@ -262,6 +267,7 @@ module _ (g : Graph) (t : Routes) (heap rest : List Candidate) (c : Candidate) (
           distance = omega (arith, is.distance, same_length is.from is.reached);
         }
 
+    -- a new node with its least candidate is found, and none of its edges is spread yet
     pub Spreads-found : Spreads g found rest c.node []
     Spreads-found = record {
       finds = Finds-found;

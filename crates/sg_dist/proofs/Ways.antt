@@ -22,6 +22,7 @@ module _ (g : Graph) (t : Routes) where
   step_to : (e x z : ℕ) → Leads g e z x → z ≡ other_end x (edge_at g e)
   step_to e x z l = other_only g e x z (turned g e z x l)
 
+  -- a way back gets longer by the parent edge at its end
   pub way-append : (es : List ℕ) (x y z e : ℕ) → IsWayBack g t x es y → parent_at t y ≡ Some e → Leads g e z y → IsWayBack g t x (es ++ e ∷ []) z
   way-append [] x y z e w p l = (z, ap (parent_at t) w ∙ p, subst (λ n. Leads g e z n) (sym w) l, refl)
   way-append (f ∷ es) x y z e w p l = (w.0, w.1, w.2, way-append es w.0 y z e w.3 p l)
@@ -69,6 +70,7 @@ module _ (g : Graph) (t : Routes) where
         | inr there ↦ (let q = way_unique (e ∷ es) r.2 x w (subst (λ n. IsWayBack g t n r.2 t.source) (sym there) r.5) in omega (arith, q, r.6))
       ])
 
+  -- a way back to the source has no edge twice
   pub way_once : (es : List ℕ) (x : ℕ) → IsWayBack g t x es t.source → AllPairs (λ e f. e ≢ f) es
   way_once [] x w = λ i j d l m. absurd (omega arith)
   way_once (e ∷ es) x w =
@@ -81,6 +83,7 @@ module _ (g : Graph) (t : Routes) where
       subst (λ fs. IsWalk g y fs x) (sym (reverse-append (e ∷ []) es))
       (walk-append g (reverse es) (e ∷ []) y w.0 x (way_walk es w.0 y w.3) (walk-one g e w.0 x w.2))
 
+  -- a list turned round weighs the same
   pub way_weight : (es : List ℕ) → weight_of g (reverse es) ≡ weight_of g es
   way_weight es = sum_by-IsPermutation (edge_weight g) es (reverse es) (IsPermutation-reverse es)
 
@@ -117,11 +120,13 @@ module _ (g : Graph) (t : Routes) (is : IsTableOf g t) where
       let rest = way_falls es w.0 y on.0 w.3 in
       (rest.0, omega (arith, rest.1, on.1, sum_by-cons (edge_weight g) e es))
 
+  -- the way back to the source weighs the distance
   pub way_distance : (es : List ℕ) (x : ℕ) → is_reached t x ≡ true → IsWayBack g t x es t.source → weight_of g es ≡ length_to t x
   way_distance es x h w =
       let falls = way_falls es x t.source h w in
       omega (arith, falls.1, distance-itself g t.source (length_to t t.source) (distance_is g t is t.source (low t.source falls.0) falls.0))
 
+  -- at the start the way back is empty
   pub Follows-first : (to : ℕ) → is_reached t to ≡ true → Follows g t to [] to
   Follows-first to h = record { so_far = refl; reached = h; left = (let way = is.back to (low to h) h in (way.0, way.1, omega (arith, way.2))) }
 
@@ -132,9 +137,11 @@ module _ (g : Graph) (t : Routes) (is : IsTableOf g t) where
     first_left [] w l = absurd (let p = parent_reached t at e parent in p.0 w)
     first_left (k ∷ es) w l = (w.0, es, subst (λ j. Leads g j w.0 at) (some_same g t k e (sym w.1 ∙ parent)) w.2, w.3, omega arith)
 
+    -- the parent edge leads on to some node
     pub next_edge : (z : ℕ) × Leads g e z at
     next_edge = (let r = first_left f.left.0 f.left.1 f.left.2 in (r.0, r.2))
 
+    -- the way back follows one parent edge more
     pub Follows-next : (edges' : List ℕ) (next : ℕ) → edges' ≡ edges ++ e ∷ [] → next ≡ other_end at (edge_at g e) → Follows g t to edges' next
     Follows-next edges' next grown is_other =
         let r = first_left f.left.0 f.left.1 f.left.2 in
@@ -150,6 +157,7 @@ module _ (g : Graph) (t : Routes) (is : IsTableOf g t) where
         push : (xs : List ℕ) (x : ℕ) → length (xs ++ x ∷ []) ≡ length xs + 1
         push xs x = length_push xs x
 
+  -- where there is no parent the way back has come to the source
   pub Follows-last : (to at : ℕ) (edges : List ℕ) → Follows g t to edges at → parent_at t at ≡ None → IsWayBack g t to edges t.source
   Follows-last to at edges f none = subst (λ n. IsWayBack g t to edges n) (last f.left.0 f.left.1) f.so_far
     where

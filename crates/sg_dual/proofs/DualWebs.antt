@@ -26,9 +26,11 @@ size_positive : (n : ℕ) → pos 0 ≤ℤ pos n
 size_positive n = omega (arith, ints)
 
 module _ (inst : Ising) (faces : Labelling) where
+  -- the dual has an edge for each bond
   pub dual_edge_count : edge_count (dual_web inst faces) ≡ bond_count inst
   dual_edge_count = length-map-range_with_len (dual_edge inst faces) 0 (bond_count inst)
 
+  -- edge k of the dual is that of bond k
   pub dual_edge_at : (k : ℕ) → k < bond_count inst → edge_at (dual_web inst faces) k ≡ dual_edge inst faces k
   dual_edge_at k l = get_or-map-range_with_len (dual_edge inst faces) 0 (bond_count inst) k k (record { a = 0; b = 0; w = pos 0 }) l (omega arith)
 
@@ -57,6 +59,7 @@ module _ (inst : Ising) (faces : Labelling) where
     ways = inl (ap (λ (e : Edge). e.a) (dual_edge_at k l), ap (λ (e : Edge). e.b) (dual_edge_at k l));
   }
 
+  -- a web with these nodes and edges is the dual
   pub web_is : (nodes : ℕ) (edges : List Edge) → nodes ≡ faces.count → edges ≡ map (dual_edge inst faces) (range_with_len 0 (bond_count inst))
       → record { nodes = nodes; edges = edges } ≡ dual_web inst faces
   web_is nodes edges n e = ap₂ (λ n es. let g : Graph = record { nodes = n; edges = es } in g) n e
@@ -66,6 +69,7 @@ module _ (inst : Ising) (faces : Labelling) where
     pub one_face_alone : IsInstance inst → IsConnected inst → bond_count inst ≡ 0 → faces.count ≡ 1
     one_face_alone good whole none = labels.counts ∙ one_face inst good whole none
 
+    -- every instance has a face
     pub has_face : IsInstance inst → 1 ≤ faces.count
     has_face good = elim (cases_eq (bond_count inst) 0) [
       | inl none ↦ omega (arith, labels.counts, faces_alone inst none, good.draft.has_spin)
@@ -88,6 +92,7 @@ module _ (inst : Ising) (faces : Labelling) where
             let low : i < bond_count inst = omega (arith, l, length-range_with_len 0 (bond_count inst)) in
             is_edge (get_or (range_with_len 0 (bond_count inst)) i d) (omega (arith, get_or-range_with_len 0 (bond_count inst) i d low))
 
+    -- the dual keeps what each web keeps, if faces are few and the bonds not too heavy
     pub dual_is_web : IsInstance inst → faces.count ≤ 2 ^ 24 → weight inst ≤ 2 ^ 60 → IsWeb (dual_web inst faces)
     dual_is_web good few light = record {
       has_node = has_face good;

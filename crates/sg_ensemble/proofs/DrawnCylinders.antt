@@ -66,6 +66,7 @@ module _ (rows cols : ℕ) (size : IsStudied rows cols) (j : List ℤ) (count : 
             (range k (pos 0) (omega (arith, count, bond_count_is Cylinder rows cols is_size j))),
       )
 
+  -- the couplings of a sample weigh at most 2^32 together
   pub drawn_weight : weight (lattice Cylinder rows cols j) ≤ 2 ^ 32
   drawn_weight =
       let all = sum_by-le (λ (b : Bond). unsigned_abs b.j) (2 ^ 20) (lattice Cylinder rows cols j).bonds

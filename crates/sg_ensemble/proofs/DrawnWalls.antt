@@ -90,9 +90,11 @@ module _ (rows cols count : ℕ) (old new : ℕ → List ℤ) (walls : List ℤ)
   drawn_first : old (count * draw_count rows cols) ≡ h.draws
   drawn_first = all_found old new h.draws (count * draw_count rows cols) h.goes_on counts
 
+  -- the walls are those of the first samples of the stream
   pub all_walls : AreWalls rows cols count (old (count * draw_count rows cols)) walls
   all_walls = subst (λ draws. AreWalls rows cols count draws walls) (sym drawn_first) h.are
 
+  -- the stream goes on behind the draws of all samples
   pub all_behind : Draws (count * draw_count rows cols) old new
   all_behind = all_made old new h.draws (count * draw_count rows cols) h.goes_on counts h.drawn
 
@@ -118,6 +120,7 @@ none_of rows cols most old counts =
     let none : (m : ℕ) → 0 ≡ 0 * m = λ m. omega arith in
     record { samples = 0; few = omega arith; drawn = subst (λ n. Draws n old old) (none (draw_count rows cols)) (none_made old counts) }
 
+-- the draws of one sample are those of at most one
 pub one_of : (rows cols : ℕ) (old new : ℕ → List ℤ) → Draws (draw_count rows cols) old new → DrawsSamples rows cols 1 old new
 one_of rows cols old new h =
     let one : (m : ℕ) → m ≡ 1 * m = λ m. omega arith in

@@ -48,12 +48,15 @@ lattice_again kind rows cols old new = ap (with_bonds (lattice kind rows cols ol
 
 -- so is a cylinder
 module _ (rows cols : ℕ) (inst : Ising) (h : IsCylinder rows cols inst) where
+  -- with other couplings it is the lattice of these
   pub cylinder_again : (draws : List ℤ) → with_couplings inst draws ≡ lattice Cylinder rows cols draws
   cylinder_again draws = ap (λ (i : Ising). with_couplings i draws) h.drawn ∙ lattice_again Cylinder rows cols h.couplings draws
 
+  -- it has as many bonds as a sample has draws
   pub cylinder_bonds : IsStudied rows cols → bond_count inst ≡ draw_count rows cols
   cylinder_bonds size = ap bond_count h.drawn ∙ bond_count_is Cylinder rows cols (studied_size rows cols size) h.couplings
 
+  -- with draws of a law as couplings it weighs at most 2^32
   pub cylinder_light : IsStudied rows cols → (draws : List ℤ) → length draws ≡ draw_count rows cols → All IsDraw draws
       → weight (with_couplings inst draws) ≤ 2 ^ 32
   cylinder_light size draws count range = omega (arith, ap weight (cylinder_again draws), drawn_weight rows cols size draws count range)

@@ -75,6 +75,7 @@ module _ (inst : Ising) where
   reaching_not_bare set i c ne ([], e) = absurd (ne e)
   reaching_not_bare set i c ne (x ∷ path, w) = joined_not_bare set i x w.0
 
+  -- there are no more bare spins than spins
   pub bare_few : bare_count inst ≤ inst.n
   bare_few = omega (arith, count_by-le-length (is_bare inst) (range_with_len 0 inst.n), length-range_with_len 0 inst.n)
 
@@ -88,6 +89,7 @@ module _ (inst : Ising) where
       omega (arith, no_face, bare)
 
   module _ (good : IsInstance inst) where
+    -- a spin is bare where its list of darts is empty
     pub bare_by_list : (i : ℕ) → i < inst.n → is_bare inst i ≡ eqb (length (darts_of inst i)) 0
     bare_by_list i l = elim (cases_eq (length (darts_of inst i)) 0) [
       | inl none ↦
@@ -150,6 +152,7 @@ module _ (inst : Ising) where
             | inr ne ↦ other i 0 l (omega (arith, l)) ne
           ]
 
+-- other couplings leave the bare spins as they are
 pub bare_same : (inst : Ising) (bonds : List Bond) → HasSameEnds inst bonds → IsInstance inst → bare_count (with_bonds inst bonds) ≡ bare_count inst
 bare_same inst bonds same good =
     counted_same (is_bare (with_bonds inst bonds)) (is_bare inst) inst.n

@@ -68,11 +68,13 @@ pigeonhole (suc k) g low = by_last (find g (g (suc k)) (suc k)) (pigeonhole k mo
             by_cases (inr p) (inl q) = let z : g i ≡ g (suc k) = rw (ne_eqb (g i) k p, eq-eqb (g j) k q) at e in absurd (f i a z)
             by_cases (inr p) (inr q) = let z : g i ≡ g j = rw (ne_eqb (g i) k p, ne_eqb (g j) k q) at e in z
 
+-- steps behind steps
 pub steps_add : (f : ℕ → ℕ) (i j d : ℕ) → after_steps f i (after_steps f j d) ≡ after_steps f (i + j) d
 steps_add f zero j d = let e : 0 + j ≡ j = omega arith in ap (λ k. after_steps f k d) (sym e)
 steps_add f (suc i) j d = let e : suc i + j ≡ suc (i + j) = omega arith in ap f (steps_add f i j d) ∙ ap (λ k. after_steps f k d) (sym e)
 
 module _ (f : ℕ → ℕ) (k : ℕ) (move : IsOneToOne f k) where
+  -- steps of a map below k stay below k
   pub steps_below : (j d : ℕ) → d < k → after_steps f j d < k
   steps_below zero d l = l
   steps_below (suc j) d l = move.below (after_steps f j d) (steps_below j d l)
@@ -152,5 +154,6 @@ module _ (f : ℕ → ℕ) (k : ℕ) (move : IsOneToOne f k) where
           (λ i x b. le-leb d (after_steps f (get_or (range_with_len 0 k) i x) d)
           (h (after_steps f (get_or (range_with_len 0 k) i x) d) (get_or (range_with_len 0 k) i x, refl)))
 
+-- two numbers on one orbit with a third are on one orbit
 pub orbit_transitive : (f : ℕ → ℕ) (a b c : ℕ) → SameOrbit f a b → SameOrbit f b c → SameOrbit f a c
 orbit_transitive f a b c (i, p) (j, q) = (j + i, sym (steps_add f j i a) ∙ ap (after_steps f j) p ∙ q)

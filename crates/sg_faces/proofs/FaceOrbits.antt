@@ -20,6 +20,7 @@ module _ (inst : Ising) (good : IsInstance inst) where
   pub face_short_way : (j d : ℕ) → d < dart_count inst → (i : ℕ) × (i < dart_count inst) × (steps inst i d ≡ steps inst j d)
   face_short_way = short_way (phi inst) (dart_count inst) (phi_one_to_one inst good)
 
+  -- a dart lies on the face of each dart of its face
   pub face_symmetric : (d e : ℕ) → d < dart_count inst → SameFace inst d e → SameFace inst e d
   face_symmetric = orbit_symmetric (phi inst) (dart_count inst) (phi_one_to_one inst good)
 
@@ -27,8 +28,10 @@ module _ (inst : Ising) (good : IsInstance inst) where
   pub least_of_face : (d : ℕ) → d < dart_count inst → (is_least inst d ≡ true) ↔ ((e : ℕ) → SameFace inst d e → d ≤ e)
   least_of_face = least_means (phi inst) (dart_count inst) (phi_one_to_one inst good)
 
+-- a dart lies on its own face
 pub face_reflexive : (inst : Ising) (d : ℕ) → SameFace inst d d
 face_reflexive inst d = (0, refl)
 
+-- two darts on one face with a third are on one face
 pub face_transitive : (inst : Ising) (a b c : ℕ) → SameFace inst a b → SameFace inst b c → SameFace inst a c
 face_transitive inst = orbit_transitive (phi inst)

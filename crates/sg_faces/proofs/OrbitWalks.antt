@@ -24,6 +24,7 @@ pub record Walking (table old labels : List ℕ) (start label at : ℕ) : Type 0
   pub apart : (i j : ℕ) → i < j → j < taken → moves table i start ≢ moves table j start
   pub left : taken + left_over labels ≡ left_over old
 
+-- at the start nothing has the new label
 pub walking_none : (table old : List ℕ) (start label : ℕ) → length old ≡ length table → start < length table →
     Walking table old old start label start
 walking_none table old start label long l = record {
@@ -53,6 +54,7 @@ module _ (table old labels : List ℕ) (start label at : ℕ) (move : IsMove tab
   given_differs i b e = let h : get_or labels (moves table i start) 0 ≡ label = (w.given i b).0 in let f : get_or labels
       (moves table i start) 0 ≡ unlabelled = ap (λ x. get_or labels x 0) e ∙ free in omega arith
 
+  -- one place more has a label
   pub one_less : left_over (set labels at label) + 1 ≡ left_over labels
   one_less =
       let s : left_over (set labels at label) + cond (eqb (get_or labels at 0) unlabelled) 1 0 ≡ left_over labels + cond (eqb label unlabelled) 1 0 =
@@ -62,6 +64,7 @@ module _ (table old labels : List ℕ) (start label at : ℕ) (move : IsMove tab
       ap (λ b. cond b 1 0) (ne_eqb label unlabelled (λ (e : label ≡ unlabelled). omega arith)) in
       omega arith
 
+  -- the place has the label, and the walk goes on to the next
   pub walking_more : Walking table old (set labels at label) start label (get_or table at 0)
   walking_more = record {
     taken = suc w.taken;
@@ -97,10 +100,12 @@ module _ (table old labels : List ℕ) (start label at : ℕ) (move : IsMove tab
         | inr ne ↦ w.apart i j b (omega arith)
       ]
 
+-- moves lead to places of the table
 pub moves_below : (table : List ℕ) → IsMove table → (j d : ℕ) → d < length table → moves table j d < length table
 moves_below table move zero d l = l
 moves_below table move (suc j) d l = move.below (moves table j d) (moves_below table move j d l)
 
+-- moves behind moves
 pub moves_add : (table : List ℕ) (i j d : ℕ) → moves table i (moves table j d) ≡ moves table (i + j) d
 moves_add table zero j d = let e : 0 + j ≡ j = omega arith in ap (λ k. moves table k d) (sym e)
 moves_add table (suc i) j d =
@@ -174,6 +179,7 @@ module _ (table old labels : List ℕ) (start label at : ℕ) (move : IsMove tab
       let f : (i : ℕ) × (i < w.taken) × (moves table i start ≡ start) = w.fresh start l has free in
       omega (arith, f.1)
 
+  -- back at the start the walk has labelled it
   pub marked_start : get_or labels start 0 ≡ label
   marked_start = (w.given 0 some_taken).0
 
@@ -282,6 +288,7 @@ module _ (table old labels : List ℕ) (start label at : ℕ) (move : IsMove tab
           by_label (was h k) = sym k ∙ e
           by_label (now i c m k u) = absurd (omega arith)
 
+  -- one orbit more has its label
   pub labelled_more : label ≡ least_before table start → LabelsOrbits table labels (label + 1) (start + 1)
   labelled_more ranked = record {
     lengths = w.lengths;
@@ -321,6 +328,7 @@ module _ (table labels : List ℕ) (count at : ℕ) (move : IsMove table) (label
       b.0 0 (omega (arith, b.1, length-range_with_len 0 (length table)))
       (lt-leb at (moves table (get_or (range_with_len 0 (length table)) b.0 0) at) (omega (arith, ap (λ j. moves table j at) place, b.2, r.early)))
 
+-- a place that has a label is passed over
 pub later_limit : (table labels : List ℕ) (count at : ℕ) → LabelsOrbits table labels count at → LabelsOrbits table labels count (at + 1)
 later_limit table labels count at h = record {
   lengths = h.lengths;
@@ -339,6 +347,7 @@ later_limit table labels count at h = record {
   });
 }
 
+-- at the start no place has a label
 pub no_labels : (table : List ℕ) → LabelsOrbits table (replicate (length table) unlabelled) 0 0
 no_labels table = record {
   lengths = length-replicate (length table) unlabelled;
@@ -347,6 +356,7 @@ no_labels table = record {
   roots = λ f b. absurd (omega arith);
 }
 
+-- at the end all orbits have their labels
 pub all_labelled : (table labels : List ℕ) (count limit : ℕ) → IsMove table → LabelsOrbits table labels count limit →
     ((d : ℕ) → d < length table → HasLabel labels d) → count ≡ least_before table (length table) → IsOrbitLabels table labels count
 all_labelled table labels count limit move h all counted = record {
@@ -381,6 +391,7 @@ all_labelled table labels count limit move h all counted = record {
     one_label : (d e : ℕ) → d < length table → SameOrbit (entry table) d e → get_or labels d 0 ≡ get_or labels e 0
     one_label d e b (j, s) = sym (onward_all table labels count limit h move j d b (all d b)) ∙ ap (λ x. get_or labels x 0) s
 
+-- a count over one number more
 pub count_range_more : (p : ℕ → Bool) (n : ℕ) → count_by p (range_with_len 0 (n + 1)) ≡ count_by p (range_with_len 0 n) + cond (p n) 1 0
 count_range_more p n =
     ap (sum_by (λ x. cond (p x) 1 0)) (sym (map-id (range_with_len 0 (n + 1))))
@@ -391,6 +402,7 @@ count_range_more p n =
 abbrev pub SoFar : List ℕ → List ℕ → ℕ → ℕ → Type 0
 SoFar table labels count at = LabelsOrbits table labels count at × ((d : ℕ) → d < at → HasLabel labels d) × (count ≡ least_before table at)
 
+-- there are no more labels than places seen
 pub count_small : (table labels : List ℕ) (count at : ℕ) → SoFar table labels count at → count ≤ at
 count_small table labels count at h = omega (arith, h.2, count_by-le-length (is_least_of table) (range_with_len 0 at), length-range_with_len 0 at)
 
@@ -399,6 +411,7 @@ module _ (table labels : List ℕ) (count at : ℕ) (move : IsMove table) (small
   room_for : count < unlabelled
   room_for = omega (arith, count_small table labels count at h)
 
+  -- a place without a label begins a new orbit
   pub so_far_new : (labels' : List ℕ) → get_or labels at 0 ≡ unlabelled → LabelsOrbits table labels' (count + 1) (at + 1) →
       ((d : ℕ) → HasLabel labels d → get_or labels' d 0 ≡ get_or labels d 0) → get_or labels' at 0 ≡ count →
       SoFar table labels' (count + 1) (at + 1)
@@ -420,6 +433,7 @@ module _ (table labels : List ℕ) (count at : ℕ) (move : IsMove table) (small
         | inr ne ↦ h.1 d (omega arith) (sym (kept d (h.1 d (omega arith))) ∙ e)
       ]
 
+  -- a place with a label is passed over
   pub so_far_old : HasLabel labels at → SoFar table labels count (at + 1)
   so_far_old has = (
     later_limit table labels count at h.0,

@@ -18,6 +18,7 @@ pub record IsAfter (n i after : ℕ) : Type 0 where
   pub inner : i + 1 < n → after ≡ i + 1
   pub last : n ≤ i + 1 → after ≡ 0
 
+-- the dart behind one in a list, by places
 pub following_after : (darts : List ℕ) (i after : ℕ) → IsDistinct darts → i < length darts → IsAfter (length darts) i after →
     following darts (get_or darts i 0) ≡ get_or darts after 0
 following_after darts i after once l at = elim (cases_lt (i + 1) (length darts)) [
@@ -28,6 +29,7 @@ following_after darts i after once l at = elim (cases_lt (i + 1) (length darts))
 -- one dart more is linked
 module _ (darts table : List ℕ) (i after : ℕ) (once : IsDistinct darts) (l : i < length darts) (room : All (λ d. rev d < length table) darts)
     (at : IsAfter (length darts) i after) where
+  -- one dart more of a list is entered
   pub linked_more : ((k : ℕ) → k < i → get_or table (rev (get_or darts k 0)) 0 ≡ following darts (get_or darts k 0)) →
       (k : ℕ) → k < i + 1 → get_or (set table (rev (get_or darts i 0)) (get_or darts after 0)) (rev (get_or darts k 0)) 0 ≡ following darts
       (get_or darts k 0)
@@ -40,10 +42,12 @@ module _ (darts table : List ℕ) (i after : ℕ) (once : IsDistinct darts) (l :
         (λ z. ne (same_place darts once k i (omega arith) l (rev_apart (get_or darts k 0) (get_or darts i 0) z))) ∙ h k (omega arith)
   ]
 
+  -- the entries of other darts stay
   pub unlinked_kept : (x : ℕ) → All (λ d. rev d ≢ x) darts →
       get_or (set table (rev (get_or darts i 0)) (get_or darts after 0)) x 0 ≡ get_or table x 0
   unlinked_kept x h = get_or-set_other table (rev (get_or darts i 0)) x (get_or darts after 0) 0 (λ z. h i 0 l (sym z))
 
+-- after the last dart of a list all of its entries are there
 pub linked_all : (darts table : List ℕ) → ((k : ℕ) → k < length darts →
     get_or table (rev (get_or darts k 0)) 0 ≡ following darts (get_or darts k 0)) → All (λ d. get_or table (rev d) 0 ≡ following darts d) darts
 linked_all darts table h = All-from_get_or (λ d. get_or table (rev d) 0 ≡ following darts d) darts 0 (λ k b. h k b)

@@ -26,6 +26,7 @@ module _ (inst : Ising) (bonds : List Bond) (same : HasSameEnds inst bonds) wher
   unfolding next
   next_same d = ap (λ i. following (darts_of inst i) d) (tail_same inst bonds same d)
 
+  -- other couplings leave `phi` as it is
   pub phi_same : (d : ℕ) → phi (with_bonds inst bonds) d ≡ phi inst d
   phi_same d = next_same (rev d)
 
@@ -50,9 +51,11 @@ module _ (inst : Ising) (bonds : List Bond) (same : HasSameEnds inst bonds) wher
     count_same =
         ap₂ {A = ℕ} (λ f b. f + b) orbits_same (bare_same inst bonds same good)
 
+    -- and the Euler number of a count of components
     pub euler_same : (components : ℕ) → euler (with_bonds inst bonds) components ≡ euler inst components
     euler_same components = ap₂ (λ f m. pos (inst.n + f) -ℤ pos (m + 2 * (components - 1))) count_same same.count
 
+    -- and that of the instance
     pub is_euler_same : (e : ℤ) → IsEuler inst e → IsEuler (with_bonds inst bonds) e
     is_euler_same e h = record {
       leasts = h.leasts;
@@ -60,6 +63,7 @@ module _ (inst : Ising) (bonds : List Bond) (same : HasSameEnds inst bonds) wher
       value = h.value ∙ sym (euler_same (length h.leasts));
     }
 
+    -- and the labels of the faces
     pub faces_same : (faces : Labelling) → IsFaceLabels inst faces → IsFaceLabels (with_bonds inst bonds) faces
     faces_same faces h = record {
       lengths = h.lengths ∙ sym darts_same;

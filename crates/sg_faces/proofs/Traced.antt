@@ -18,6 +18,7 @@ list_all_same p q h (x ∷ xs) = ap₂ (λ a b. a && b) (h x) (list_all_same p q
 
 -- two maps that agree below k have the same orbits there
 module _ (f g : ℕ → ℕ) (k : ℕ) (one : IsOneToOne g k) (same : (d : ℕ) → d < k → f d ≡ g d) where
+  -- a map that agrees with a one-to-one map below k is one
   pub one_to_one_same : IsOneToOne f k
   one_to_one_same = record {
     below = λ d l. (let b : g d < k = one.below d l in omega (arith, same d l));
@@ -28,14 +29,17 @@ module _ (f g : ℕ → ℕ) (k : ℕ) (one : IsOneToOne g k) (same : (d : ℕ) 
   steps_in zero d l = l
   steps_in (suc j) d l = one.below (after_steps g j d) (steps_in j d l)
 
+  -- and leads to the same after each number of steps
   pub after_steps_same : (j d : ℕ) → d < k → after_steps f j d ≡ after_steps g j d
   after_steps_same zero d l = refl
   after_steps_same (suc j) d l = ap f (after_steps_same j d l) ∙ same (after_steps g j d) (steps_in j d l)
 
+  -- and has the same least numbers of orbits
   pub is_least_same : (d : ℕ) → d < k → is_least_in f k d ≡ is_least_in g k d
   is_least_same d l = list_all_same (λ j. leb d (after_steps f j d)) (λ j. leb d (after_steps g j d)) (λ j. ap (leb d) (after_steps_same j d l))
       (range_with_len 0 k)
 
+  -- and as many of them below each bound
   pub orbits_before_same : (n : ℕ) → n ≤ k → orbits_before f k n ≡ orbits_before g k n
   orbits_before_same n l = sum_by-same (λ d. cond (is_least_in f k d) 1 0) (λ d. cond (is_least_in g k d) 1 0) (range_with_len 0 n) each
     where
@@ -68,6 +72,7 @@ module _ (inst : Ising) (good : IsInstance inst) (table : List ℕ) (is : IsPhiT
   one : IsOneToOne (phi inst) (length table)
   one = rw is.lengths (phi_one_to_one inst good)
 
+  -- the table of `phi` leads from places to places, one-to-one
   pub phi_table_moves : IsMove table
   phi_table_moves = one_to_one_same (entry table) (phi inst) (length table) one at_dart
 

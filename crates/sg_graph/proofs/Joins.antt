@@ -39,6 +39,7 @@ module _ (g : Graph) where
   ends_parity x (e ∷ es) = ap odd (sum_by-cons (ends_at g x) e es) ∙ odd_ends (eqb (a_end e) x) (eqb (b_end e) x)
       (parity_by (λ e. is_end (a_end e) (b_end e) x) es) (sum_by (ends_at g x) es) (ends_parity x es)
 
+  -- a number with the rest of a condition by 2 is odd where that holds
   pub odd_from_cond : (n : ℕ) (b : Bool) → n % 2 ≡ cond b 1 0 → odd n ≡ b
   odd_from_cond n true h = odd_from_mod n h
   odd_from_cond n false h = even_from_mod n h

@@ -18,6 +18,7 @@ is_odd_in xs e = parity_by (λ k. eqb k e) xs
 spread : (a b c : Bool) → (xor a b && c) ≡ xor (c && a) (b && c)
 spread a b c = grind arith
 
+-- the numbers that stand oddly in a list have the parity of the whole list
 pub odd_in-parity : (p : ℕ → Bool) (n : ℕ) (xs : List ℕ) → All (λ x. x < n) xs → parity_below (λ e. is_odd_in xs e && p e) n ≡ parity_by p xs
 odd_in-parity p n [] low = parity_below-none (λ e. false && p e) n (λ k l. refl)
 odd_in-parity p n (x ∷ xs) low =
@@ -31,6 +32,7 @@ gain true true u v h = omega arith
 gain true false u v h = omega (arith, h refl)
 gain false b u v h = omega arith
 
+-- the numbers that stand oddly in a list weigh at most as much as the list
 pub odd_in-weight : (w : ℕ → ℕ) (n : ℕ) (xs : List ℕ) → All (λ x. x < n) xs → sum_below (λ e. cond (is_odd_in xs e) (w e) 0) n ≤ sum_by w xs
 odd_in-weight w n [] low = let none : sum_below (λ e. cond false (w e) 0) n ≡ 0 = sum_below-zero (λ e. cond false (w e) 0) n (λ k l. refl) in omega arith
 odd_in-weight w n (x ∷ xs) low =
@@ -59,6 +61,7 @@ chosen_below-parity m p (suc n) =
     last true = xor-false (p n)
     last false = refl
 
+-- the weight of the chosen numbers is that of the marked ones
 pub chosen_below-weight : (m : ℕ → Bool) (w : ℕ → ℕ) (n : ℕ) → sum_by w (chosen_below m n) ≡ sum_below (λ e. cond (m e) (w e) 0) n
 chosen_below-weight m w zero = refl
 chosen_below-weight m w (suc n) =

@@ -20,6 +20,7 @@ first_alone : (x : ℕ) (xs : List ℕ) → AllPairs (λ e f. e ≢ f) (x ∷ xs
 first_alone x xs once = false_from_ne_true (holds xs x) (λ h. (let at = Contains-holds xs x h in once 0 (suc at.0) x (omega arith)
     (let low = at.1 in omega arith) (let same : get_or xs at.0 x ≡ x = at.2 in cc)))
 
+-- a list without repeats weighs at most as much as its members, each taken once
 pub once_weight : (w : ℕ → ℕ) (n : ℕ) (xs : List ℕ) → All (λ x. x < n) xs → AllPairs (λ e f. e ≢ f) xs
     → sum_by w xs ≤ sum_below (λ e. cond (holds xs e) (w e) 0) n
 once_weight w n [] low once = omega arith
@@ -41,6 +42,7 @@ once_weight w n (x ∷ xs) low once =
     new false b p q = cc
 
 module _ (g : Graph) where
+  -- edges without repeats weigh at most as much as all edges
   pub once_light : (es : List ℕ) → All (λ e. e < edge_count g) es → AllPairs (λ e f. e ≢ f) es → weight_of g es ≤ total_weight g
   once_light es low once =
       omega (
@@ -54,6 +56,7 @@ module _ (g : Graph) where
       part true v = omega arith
       part false v = omega arith
 
+  -- a rising list of edges weighs at most as much as all edges
   pub rising_light : (es : List ℕ) → All (λ e. e < edge_count g) es → IsStrictlyIncreasing es → weight_of g es ≤ total_weight g
   rising_light es low up = once_light es low (λ i j d l m. apart (get_or es i d) (get_or es j d) (AllPairs-from_increasing es up i j d l m))
     where

@@ -14,6 +14,7 @@ use Rattle.sg_graph.specs.Search.{MarksReached, Visits, unmarked}
 use Rattle.sg_graph.proofs.Walks.{leads_other, other_low, other_only, walk-append, walk-one}
 use Rattle.sg_graph.proofs.Incidences.{edges_at_leads}
 
+-- over no edge nothing is marked or noted
 pub Visits-none : (g : Graph) (node : ℕ) (marks : List Bool) (found : List ℕ) → Visits g node [] marks marks found found
 Visits-none g node marks found = record {
   count = refl;
@@ -72,6 +73,7 @@ module _ (g : Graph) (node : ℕ) (list : List ℕ) (i : ℕ) (old marks : List 
         let one : cond {A = ℕ} (is_marked marks far) 0 1 ≡ 1 = ap (λ b. cond b 0 1) fresh in
         omega arith
 
+    -- an edge to a node that is not marked marks and notes it
     pub Visits-new : Visits g node (take (i + 1) list) old after before (found ++ far ∷ [])
     Visits-new = record {
       count = length-set marks far true ∙ v.count;
@@ -105,6 +107,7 @@ pub record Explores (g : Graph) (marks : List Bool) (found : List ℕ) (next : �
   pub spread : (k e y : ℕ) → k < next → Leads g e (get_or found k 0) y → is_marked marks y ≡ true
   pub within : next ≤ length found
 
+-- a marked place is one of the list
 pub marked_low : (marks : List Bool) (x : ℕ) → is_marked marks x ≡ true → x < length marks
 marked_low marks x h = elim (cases_lt x (length marks)) [ inl l ↦ l | inr l ↦ absurd (false≢true (sym (get_or_past marks x false l) ∙ h)) ]
 
@@ -198,6 +201,7 @@ module _ (g : Graph) (node : ℕ) (list : List ℕ) (i other : ℕ) (edges : Lis
   is_far : other ≡ far g node list i old marks before found low v
   is_far = is ∙ ap (λ (es : List Edge). other_end node (get_or es (get_or list i 0) (record { a = 0; b = 0; w = pos 0 }))) same
 
+  -- one edge more, to a node that is marked: nothing changes
   pub Visits-more_same : (new : List Bool) (after : List ℕ) → is_marked marks other ≡ true → new ≡ marks → after ≡ found
       → Visits g node (take (i + 1) list) old new before after
   Visits-more_same new after h m f =
@@ -205,6 +209,7 @@ module _ (g : Graph) (node : ℕ) (list : List ℕ) (i other : ℕ) (edges : Lis
       (subst (λ fs. Visits g node (take (i + 1) list) old marks before fs) (sym f)
       (Visits-same g node list i old marks before found low v (ap (is_marked marks) (sym is_far) ∙ h)))
 
+  -- one edge more, to a node that is not marked: it is marked and noted
   pub Visits-more_new : (new : List Bool) (after : List ℕ) → EndsAt g node (get_or list i 0) → other < length marks → is_marked marks other ≡ false
       → new ≡ set marks other true → after ≡ found ++ other ∷ [] → Visits g node (take (i + 1) list) old new before after
   Visits-more_new new after ends in' h m f =
@@ -227,6 +232,7 @@ first_unmarked g marks x m low none all = record {
   before = λ y l. (m.right y (omega (arith, l, low))).0 (all y l);
 }
 
+-- the other end of an edge is a node
 pub other_in : (g : Graph) (node : ℕ) (list : List ℕ) (i other : ℕ) (edges : List Edge) → IsWeb g → edges ≡ g.edges
     → other ≡ other_end node (get_or edges (get_or list i 0) (record { a = 0; b = 0; w = pos 0 })) → EndsAt g node (get_or list i 0) → other < g.nodes
 other_in g node list i other edges web same is ends =

@@ -11,6 +11,7 @@ pub routes_of-replicate : (n : ℕ) → routes_of (replicate n (pos 0)) (replica
 routes_of-replicate zero = refl
 routes_of-replicate (suc n) = ap (λ (rs : List (Option Route)). None ∷ rs) (routes_of-replicate n)
 
+-- the routes are as many as the edges that tell them
 pub routes_of-length : (ds : List ℤ) (es : List ℕ) → length ds ≡ length es → length (routes_of ds es) ≡ length es
 routes_of-length [] [] same = refl
 routes_of-length [] (e ∷ es) same = absurd (omega arith)
@@ -43,6 +44,7 @@ route_of-edge d e low = ap (λ (b : Bool). cond b None (Some (record { distance 
 abbrev pub first_routes : ℕ → ℕ → List (Option Route)
 first_routes n source = set (replicate n None) source (Some at_home)
 
+-- a table of which the source alone is reached is a table
 pub IsTable-first : (n source : ℕ) → source < n → n ≤ 2 ^ 24 → IsTable (record { source = source; to = first_routes n source })
 IsTable-first n source low few =
     let count : length (replicate {A = Option Route} n None) ≡ n = length-replicate n None in
@@ -53,6 +55,7 @@ IsTable-first n source low few =
       home = get_or-set_same (replicate n None) source (Some at_home) None (omega arith);
     }
 
+-- a table stays one when a node other than the source gets a route
 pub IsTable-with_route : (t : Routes) (x : ℕ) (d : ℤ) (e : ℕ) → x ≢ t.source → IsTable t → IsTable (with_route t x d e)
 IsTable-with_route t x d e ne is =
     let same : length (set t.to x (Some (record { distance = d; edge = e }))) ≡ length t.to = length-set t.to x (Some (record { distance = d; edge = e })) in
@@ -74,6 +77,7 @@ with_route_is t source ds es x e d d' count low is same =
     made : ℕ → List (Option Route) → Routes
     made s rs = record { source = s; to = rs }
 
+-- the same, in the two lists of the code
 pub IsTable-set : (t : Routes) (source : ℕ) (ds : List ℤ) (es : List ℕ) (x e : ℕ) (d d' : ℤ) → length ds ≡ length es → e < 2 ^ 24
     → record { source = source; to = routes_of ds es } ≡ t → d' ≡ d → x ≢ t.source → IsTable (record { source = source; to = routes_of ds es })
     → IsTable (record { source = source; to = routes_of (set ds x d') (set es x e) })
@@ -94,6 +98,7 @@ first_routes_is n source ds es is_ds is_es = ap₂ (λ xs ys. routes_of xs (set 
 -- what is read of a table's lists
 module _ (t : Routes) (source : ℕ) (ds : List ℤ) (es : List ℕ) (same : length ds ≡ length es)
     (is : record { source = source; to = routes_of ds es } ≡ t) where
+  -- the two lists have an entry for each node
   pub lists_long : length t.to ≡ length es
   lists_long = sym (ap (λ (u : Routes). length u.to) is) ∙ routes_of-length ds es same
 
@@ -101,6 +106,7 @@ module _ (t : Routes) (source : ℕ) (ds : List ℤ) (es : List ℕ) (same : len
     read_route : route_at t x ≡ route_of (get_or ds x (pos 0)) (get_or es x 0)
     read_route = sym (ap (λ (u : Routes). route_at u x) is) ∙ routes_of-at ds es x same (omega (arith, lists_long))
 
+    -- a node is reached where its entry is an edge
     pub read_reached : is_reached t x ≡ not (eqb (get_or es x 0) unreached)
     read_reached = ap (λ (r : Option Route). is_some r) read_route ∙ by_test (eqb (get_or es x 0) unreached)
       where
@@ -108,6 +114,7 @@ module _ (t : Routes) (source : ℕ) (ds : List ℤ) (es : List ℕ) (same : len
         by_test true = refl
         by_test false = refl
 
+    -- the distance of a reached node stands in the list
     pub read_distance : is_reached t x ≡ true → get_or ds x (pos 0) ≡ distance_at t x
     read_distance h = sym (ap (λ (r : Option Route). option_map_or (λ (q : Route). q.distance) r (pos 0)) read_route
         ∙ by_test (eqb (get_or es x 0) unreached) (sym read_reached ∙ h))
@@ -117,6 +124,7 @@ module _ (t : Routes) (source : ℕ) (ds : List ℤ) (es : List ℕ) (same : len
         by_test true h = absurd (false≢true h)
         by_test false h = refl
 
+    -- the parent of a reached node other than the source is its entry
     pub read_parent : source ≢ x → get_or es x 0 ≢ unreached → Some (get_or es x 0) ≡ parent_at t x
     read_parent not_source ne = sym (
         ap (λ (b : Bool). cond b None (route_edge (route_at t x)))
@@ -126,9 +134,11 @@ module _ (t : Routes) (source : ℕ) (ds : List ℤ) (es : List ℕ) (same : len
         (ne_eqb (get_or es x 0) unreached ne)
         )
 
+    -- the source has no parent
     pub no_parent_source : source ≡ x → None ≡ parent_at t x
     no_parent_source h = sym (ap (λ (b : Bool). cond b None (route_edge (route_at t x))) (eq-eqb t.source x (sym (ap (λ (u : Routes). u.source) is) ∙ h)))
 
+    -- a node that is not reached has no parent
     pub no_parent_unreached : get_or es x 0 ≡ unreached → None ≡ parent_at t x
     no_parent_unreached h = sym (
         ap (λ (r : Option Route). cond (eqb t.source x) None (route_edge r))
@@ -146,41 +156,52 @@ module _ (t : Routes) (x : ℕ) (d : ℤ) (e : ℕ) (low : x < length t.to) wher
   abbrev pub made : Route
   made = record { distance = d; edge = e }
 
+  -- the node that was set has its new route
   pub route_here : route_at (with_route t x d e) x ≡ Some made
   route_here = get_or-set_same t.to x (Some made) None low
 
+  -- all other nodes have their old routes
   pub route_there : (y : ℕ) → y ≢ x → route_at (with_route t x d e) y ≡ route_at t y
   route_there y ne = get_or-set_other t.to x y (Some made) None ne
 
+  -- the node that was set is reached
   pub reached_here : is_reached (with_route t x d e) x ≡ true
   reached_here = ap (λ (r : Option Route). is_some r) route_here
 
+  -- another node is reached as before
   pub reached_there : (y : ℕ) → y ≢ x → is_reached (with_route t x d e) y ≡ is_reached t y
   reached_there y ne = ap (λ (r : Option Route). is_some r) (route_there y ne)
 
+  -- what was reached stays reached
   pub reached_kept : (y : ℕ) → is_reached t y ≡ true → is_reached (with_route t x d e) y ≡ true
   reached_kept y h = elim (cases_eq y x) [
     | inl same ↦ ap (is_reached (with_route t x d e)) same ∙ reached_here
     | inr ne ↦ reached_there y ne ∙ h
   ]
 
+  -- the node that was set has its new distance
   pub distance_here : distance_at (with_route t x d e) x ≡ d
   distance_here = ap (λ (r : Option Route). option_map_or (λ (q : Route). q.distance) r (pos 0)) route_here
 
+  -- all other nodes have their old distances
   pub distance_there : (y : ℕ) → y ≢ x → distance_at (with_route t x d e) y ≡ distance_at t y
   distance_there y ne = ap (λ (r : Option Route). option_map_or (λ (q : Route). q.distance) r (pos 0)) (route_there y ne)
 
+  -- the same as a natural number
   pub length_here : length_to (with_route t x d e) x ≡ unsigned_abs d
   length_here = ap unsigned_abs distance_here
 
+  -- all other distances as natural numbers stay
   pub length_there : (y : ℕ) → y ≢ x → length_to (with_route t x d e) y ≡ length_to t y
   length_there y ne = ap unsigned_abs (distance_there y ne)
 
+  -- the node that was set has its new parent
   pub parent_here : x ≢ t.source → parent_at (with_route t x d e) x ≡ Some e
   parent_here ne =
       ap (λ (b : Bool). cond b None (route_edge (route_at (with_route t x d e) x))) (ne_eqb t.source x (λ (h : t.source ≡ x). ne (sym h)))
       ∙ ap (λ (r : Option Route). route_edge r) route_here
 
+  -- all other nodes have their old parents
   pub parent_there : (y : ℕ) → y ≢ x → parent_at (with_route t x d e) y ≡ parent_at t y
   parent_there y ne = ap (λ (r : Option Route). cond (eqb t.source y) None (route_edge r)) (route_there y ne)
 

@@ -8,10 +8,12 @@ use Rattle.sg_graph.specs.Incidence.{EndsAt}
 use Rattle.sg_graph.specs.declared.web.Edge.{Edge}
 
 module _ (g : Graph) where
+  -- two walks that meet make one
   pub walk-append : (es fs : List ℕ) (x y z : ℕ) → IsWalk g x es y → IsWalk g y fs z → IsWalk g x (es ++ fs) z
   walk-append [] fs x y z w v = subst (λ n. IsWalk g n fs z) (sym w) v
   walk-append (e ∷ es) fs x y z w v = (w.0, w.1, walk-append es fs w.0 y z w.2 v)
 
+  -- an edge leads both ways
   pub turned : (e x y : ℕ) → Leads g e x y → Leads g e y x
   turned e x y h = record { below = h.below; ways = flip h.ways }
     where
@@ -19,9 +21,11 @@ module _ (g : Graph) where
       flip (inl p) = inr p
       flip (inr q) = inl q
 
+  -- a single edge is a walk
   pub walk-one : (e x y : ℕ) → Leads g e x y → IsWalk g x (e ∷ []) y
   walk-one e x y h = (y, h, refl)
 
+  -- each walk leads back with the same weight
   pub walk-back : (es : List ℕ) (x y : ℕ) → IsWalk g x es y → (fs : List ℕ) × IsWalk g y fs x × (weight_of g fs ≡ weight_of g es)
   walk-back [] x y w = ([], sym w, refl)
   walk-back (e ∷ es) x y w =
@@ -32,6 +36,7 @@ module _ (g : Graph) where
             (arith, r.2, sum_by-append (edge_weight g) r.0 (e ∷ []), sum_by-cons (edge_weight g) e es),
       )
 
+  -- a node is at distance 0 from itself
   pub distance-itself : (x d : ℕ) → IsDistance g x x d → d ≡ 0
   distance-itself x d h = omega (arith, h.least [] refl)
 
@@ -49,6 +54,7 @@ module _ (g : Graph) where
         r.2,
       )
 
+  -- over an edge the distance grows by no more than its weight
   pub distance-edge : (t x y e p q : ℕ) → Leads g e x y → IsDistance g t x p → IsDistance g t y q → q ≤ p + edge_weight g e
   distance-edge t x y e p q l a b =
       omega (
@@ -59,6 +65,7 @@ module _ (g : Graph) where
         a.reached.2,
       )
 
+  -- a way over an edge is no shorter than the distance
   pub distance-over : (t u x y e d p q : ℕ) → Leads g e x y → IsDistance g t u d → IsDistance g t x p → IsDistance g u y q → d ≤ p + edge_weight g e + q
   distance-over t u x y e d p q l h a b =
       let r = walk-back b.reached.0 u y b.reached.1 in
@@ -81,6 +88,7 @@ module _ (g : Graph) where
       ways edge true is ends = inl (eqb-true edge.a x is, refl)
       ways edge false is ends = inr (refl, elim ends [ inl a ↦ absurd (true≢false (sym (eq-eqb edge.a x a) ∙ is)) | inr b ↦ b ])
 
+  -- an edge leads to its other end alone
   pub other_only : (e x y : ℕ) → Leads g e x y → y ≡ other_end x (edge_at g e)
   other_only e x y l = only (edge_at g e) (eqb (edge_at g e).a x) refl l.ways
     where
@@ -96,6 +104,7 @@ module _ (g : Graph) where
       let edge = web.joined e (record { a = 0; b = 0; w = pos 0 }) low in
       elim (eqb (edge_at g e).a x) as (λ b. cond b (edge_at g e).b (edge_at g e).a < g.nodes) [ true ↦ edge.second_end | false ↦ edge.first_end ]
 
+  -- an edge leads between nodes
   pub leads_low : (e x y : ℕ) → IsWeb g → Leads g e x y → (x < g.nodes) × (y < g.nodes)
   leads_low e x y web l =
       let edge = web.joined e (record { a = 0; b = 0; w = pos 0 }) l.below in

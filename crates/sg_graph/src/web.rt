@@ -113,7 +113,7 @@ impl Web {
     }
 
     /// The number of edge ends at the node, an edge to itself twice, in time linear in the edges. It
-    /// takes no memory.
+    /// takes no memory. It is for a caller who asks of one node; who asks of all goes by incidence lists.
     pub fn degree(&self, node: u32) -> u32
         requires { node < self.now.nodes }
         ensures { result ≡ degree_of self.now node }

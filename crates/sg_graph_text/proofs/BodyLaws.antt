@@ -41,11 +41,13 @@ end-no_edge r h = ap (λ (w : List ℕ). bytes_eq w (codes "edge")) (word-of r (
 end-no_term : (r : Kept) → is_end r ≡ true → is_term r ≡ false
 end-no_term r h = ap (λ (w : List ℕ). bytes_eq w (codes "term")) (word-of r (codes "end") h)
 
+-- an `edge` is tested as one behind the edges before it
 pub body_fault-edge : (terms : Bool) (n : ℕ) (body : List Kept) (r : Kept) → is_edge r ≡ true
     → body_fault terms n body r ≡ edge_fault n (length (edges_in body)) r
 unfolding body_fault
 body_fault-edge terms n body r h = rw h refl
 
+-- where terminals may stand a `term` is tested as one behind the others
 pub body_fault-term : (terms : Bool) (n : ℕ) (body : List Kept) (r : Kept) → terms ≡ true → is_term r ≡ true
     → body_fault terms n body r ≡ term_fault (is_some (entries_given body)) r
 unfolding body_fault
@@ -55,17 +57,21 @@ and-no : (terms : Bool) → (terms && false) ≡ false
 and-no true = refl
 and-no false = refl
 
+-- where terminals may not stand no record is taken for a `term`
 pub not_allowed : (terms is : Bool) → terms ≡ false → (terms && is) ≡ false
 not_allowed terms is h = rw h refl
 
+-- a record that is no `term` is not taken for one
 pub no_term : (terms is : Bool) → is ≡ false → (terms && is) ≡ false
 no_term terms is h = rw h (and-no terms)
 
+-- an `end` is tested with the terminals before it
 pub body_fault-end : (terms : Bool) (n : ℕ) (body : List Kept) (r : Kept) → is_end r ≡ true
     → body_fault terms n body r ≡ graph_end_fault n (entries_in body) r
 unfolding body_fault
 body_fault-end terms n body r h = rw (end-no_edge r h, end-no_term r h, and-no terms, h) refl
 
+-- any other record is of no known kind
 pub body_fault-other : (terms : Bool) (n : ℕ) (body : List Kept) (r : Kept) → is_edge r ≡ false → (terms && is_term r) ≡ false → is_end r ≡ false
     → body_fault terms n body r ≡ Some (UnknownKind r.at)
 unfolding body_fault
@@ -131,6 +137,7 @@ holds-edge body r old new h is same_nodes same_entries added sound room =
       entries = same_entries ∙ h.entries ∙ sym kept;
     }
 
+-- what is kept after a `term`: its entries
 pub holds-term : (body : List Kept) (r : Kept) (old new : GraphBody) (list : List ℕ) → HoldsGraph body old → is_term r ≡ true
     → is_some old.entries ≡ false → list ≡ sizes_from r 1
     → new.nodes ≡ old.nodes → new.edges ≡ old.edges → new.entries ≡ Some list → HoldsGraph (body ++ r ∷ []) new
@@ -149,6 +156,7 @@ holds-term body r old new list h is first value same_nodes same_edges given =
     none-of None e = refl
     none-of (Some l) e = absurd (let w = e in cc)
 
+-- whether a `term` stood before is kept
 pub seen-term : (body : List Kept) (state : GraphBody) → HoldsGraph body state → is_some state.entries ≡ is_some (entries_given body)
 seen-term body state h = ap is_some h.entries
 
@@ -161,6 +169,7 @@ pub record BodySoFar (terms : Bool) (n : ℕ) (all left : List Kept) (state : Gr
   pub nodes : state.nodes ≡ n
   pub allowed : state.terms ≡ terms
 
+-- before the first record nothing is kept
 pub begun : (terms : Bool) (n : ℕ) (all : List Kept) (state : GraphBody) → state.nodes ≡ n → state.terms ≡ terms → HoldsGraph [] state
     → BodySoFar terms n all all state
 begun terms n all state nodes allowed holds = record {
@@ -172,6 +181,7 @@ begun terms n all state nodes allowed holds = record {
   allowed = allowed;
 }
 
+-- one record more, which passes its tests
 pub one-more : (terms : Bool) (n : ℕ) (all left rest : List Kept) (r : Kept) (old new : GraphBody) → (sf : BodySoFar terms n all left old)
     → left ≡ r ∷ rest → is_end r ≡ false → body_fault old.terms old.nodes sf.body r ≡ None → HoldsGraph (sf.body ++ r ∷ []) new
     → new.nodes ≡ old.nodes → new.terms ≡ old.terms → BodySoFar terms n all rest new
@@ -189,14 +199,17 @@ one-more terms n all left rest r old new sf next other good holds nodes allowed 
 pub end-passes : (n : ℕ) (entries : List ℕ) (r : Kept) → bare_end_fault r ≡ None → terminals_fault n entries ≡ None → graph_end_fault n entries r ≡ None
 end-passes n entries r bare good = rw (bare, good) refl
 
+-- an `end` with another field is refused for that
 pub end-bare : (n : ℕ) (entries : List ℕ) (r : Kept) (refusal : Refusal) → bare_end_fault r ≡ Some refusal → graph_end_fault n entries r ≡ Some refusal
 end-bare n entries r refusal bad = rw bad refl
 
+-- a bare `end` is refused for its terminals
 pub end-terminals : (n : ℕ) (entries : List ℕ) (r : Kept) (e : Fault) → bare_end_fault r ≡ None → IsTestFault (terminals_fault n entries) e
     → IsTestFault (graph_end_fault n entries r) e
 end-terminals n entries r (Refused x) bare bad = rw (bare, bad) refl
 end-terminals n entries r NoMemory bare bad = tt
 
+-- a bare `end` behind good terminals ends the records
 pub ended : (terms : Bool) (n : ℕ) (all left rest : List Kept) (r : Kept) (state : GraphBody) (sf : BodySoFar terms n all left state) → left ≡ r ∷ rest
     → is_end r ≡ true → bare_end_fault r ≡ None → terminals_fault n (entries_in sf.body) ≡ None → IsEnded (body_fault terms n) all sf.body r
 ended terms n all left rest r state sf next end bare good = record {
@@ -215,6 +228,7 @@ graph-held body state list h value =
     let same : list ≡ terminals_of state.nodes (entries_in body) = value ∙ ap (λ (o : Option (List ℕ)). terminals_of state.nodes (unwrap_or o [])) h.entries in
     λ i. record { nodes = state.nodes; edges = h.edges i; terminals = same i }
 
+-- what is kept makes a graph within the limits
 pub sound-held : (body : List Kept) (state : GraphBody) (list : List ℕ) → HoldsGraph body state → list ≡ terminals_of state.nodes (unwrap_or state.entries [])
     → 1 ≤ state.nodes → state.nodes ≤ spin_limit → length list % 2 ≡ 0
     → IsGraphText (record { nodes = state.nodes; edges = state.edges; terminals = list })

@@ -15,19 +15,23 @@ pub record-fault : (terms : Bool) (bytes : List ℕ) (e : Fault) → IsGraphFaul
 record-fault terms bytes (Refused x) bad = AtGraph bad
 record-fault terms bytes NoMemory bad = tt
 
+-- a record behind the `end` refuses the text
 pub trailing-fault : (terms : Bool) (bytes : List ℕ) (text : GraphText) (after : ℕ) (e : Fault) → ReadsGraph terms (kept_of bytes) text after
     → IsTrailingFault (kept_of bytes) after e → IsAloneFault terms bytes e
 trailing-fault terms bytes text after (Refused x) reads bad = AtTrailing text after reads bad
 trailing-fault terms bytes text after NoMemory reads bad = tt
 
+-- what refuses the records refuses the network
 pub alone-fault : (terms : Bool) (bytes : List ℕ) (e : Fault) → IsAloneFault terms bytes e → IsNetworkFault terms bytes e
 alone-fault terms bytes (Refused x) bad = AtRecords bad
 alone-fault terms bytes NoMemory bad = tt
 
+-- too heavy a graph refuses the network
 pub weight-fault : (terms : Bool) (bytes : List ℕ) (text : GraphText) (x : Refusal) → GivesAlone terms bytes text → IsTooHeavy (graph_in text) x
     → IsNetworkFault terms bytes (Refused x)
 weight-fault terms bytes text x gives bad = AtWeight text gives bad
 
+-- a graph that is not connected refuses the network
 pub reach-fault : (terms : Bool) (bytes : List ℕ) (text : GraphText) (g : Graph) (e : Fault) → GivesAlone terms bytes text → g ≡ graph_in text
     → total_weight g ≤ sum_limit → IsUnjoinedFault g e → IsNetworkFault terms bytes e
 reach-fault terms bytes text g (Refused x) gives same light bad = AtReach text gives (subst (λ (h : Graph). total_weight h ≤ sum_limit) same light)

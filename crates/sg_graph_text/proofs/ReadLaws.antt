@@ -29,6 +29,7 @@ pub size-fault : (terms : Bool) (all rest : List Kept) (r : Kept) (refusal : Ref
 unfolding graph_fault
 size-fault terms all rest r refusal split bad = AtRecord [] r rest split (IsBody-none (graph_fault terms)) bad
 
+-- without a record the text runs out
 pub without-size : (terms : Bool) (all : List Kept) → all ≡ [] → IsGraphFault terms all (Refused Unended)
 without-size terms all none = rw none (WithoutEnd (IsBody-none (graph_fault terms)) refl)
 
@@ -40,6 +41,7 @@ behind-fault terms all rest r (Refused x) split good bad =
     rw split (Refuses-cons (graph_fault terms) r rest x (size-no_end r good) good bad)
 behind-fault terms all rest r NoMemory split good bad = tt
 
+-- a first record that passes, and the records behind it, give the graph
 pub behind-graph : (terms : Bool) (all rest : List Kept) (r : Kept) (g : GraphText) (next : ℕ) → all ≡ r ∷ rest → size_fault r ≡ None
     → StatesToEnd (body_fault terms (size_in r 1)) (body_graph (size_in r 1)) rest g next → ReadsGraph terms all g next
 unfolding graph_fault graph_of

@@ -17,11 +17,13 @@ pub size_fault-number : (r : Kept) → is_graph r ≡ true → length r.fields �
     → size_fault r ≡ Some (BadNumber r.at 1)
 size_fault-number r word count bad = rw (word, is-not (length r.fields) 2 count, bad_field-first r (λ i. at_least 1) (omega arith) bad) refl
 
+-- a number of nodes above the limit is refused
 pub size_fault-many : (r : Kept) → is_graph r ≡ true → length r.fields ≡ 2 → is_number_in (at_least 1) (field r 1) ≡ true
     → spin_limit < size_in r 1 → size_fault r ≡ Some (TooManySpins (pos (size_in r 1)))
 size_fault-many r word count good many =
     rw (word, is-not (length r.fields) 2 count, bad_field-one r (λ i. at_least 1) count good, lt-ltb spin_limit (size_in r 1) many) refl
 
+-- a number of nodes within the limit passes
 pub size_fault-none : (r : Kept) → is_graph r ≡ true → length r.fields ≡ 2 → is_number_in (at_least 1) (field r 1) ≡ true
     → size_in r 1 ≤ spin_limit → size_fault r ≡ None
 size_fault-none r word count good few =
@@ -36,6 +38,7 @@ one-test : (test : Option Refusal) → option_or test None ≡ test
 one-test None = refl
 one-test (Some refusal) = refl
 
+-- an edge with good numbers is refused where it is one too many alone
 pub edge_fault-room : (n m : ℕ) (r : Kept) (test : Option Refusal) → length r.fields ≡ 4 → bad_field r 1 (edge_range n) ≡ None
     → room_fault m ≡ test → edge_fault n m r ≡ test
 edge_fault-room n m r test count good room =

@@ -76,6 +76,7 @@ module _ (inst : Ising) (faces : Labelling) (good : IsInstance inst) (labels : I
         ∙ ap₂ xor (sym (sides_parity inst faces f (is_negative_bond inst))) (turns_evenly f)
         ∙ xor-false (odd (negative_sides inst faces f))
 
+    -- the broken bonds of an assignment are a join of the frustrated faces
     pub IsJoin-broken : IsJoin (dual_web inst faces) (frustrated_faces inst faces) broken_bonds
     IsJoin-broken = record {
       rising = chosen_below_rises broken (bond_count inst);
@@ -93,6 +94,7 @@ module _ (inst : Ising) (faces : Labelling) (good : IsInstance inst) (labels : I
             ∙ sym (odd_test (negative_sides inst faces f))
             ∙ sym (holds-chosen_below (is_frustrated inst faces) faces.count f l)
 
+    -- and the assignment breaks just these
     pub BreaksExactly-broken : BreaksExactly inst s broken_bonds
     BreaksExactly-broken k l = sym (holds-chosen_below broken (bond_count inst) k l)
 
@@ -102,6 +104,7 @@ module _ (inst : Ising) (faces : Labelling) (good : IsInstance inst) (labels : I
   energy_of_join s edges assigned breaks join =
       energy_from_broken inst s good assigned ∙ ap (λ w. pos (2 * w) -ℤ pos (weight inst)) (broken_weight_is inst faces edges join s breaks)
 
+  -- spins that break a least join are a ground state
   pub ground_by_join : (s : List ℤ) (edges : List ℕ) → IsAssignment inst s → BreaksExactly inst s edges →
       IsLeastJoin (dual_web inst faces) (frustrated_faces inst faces) edges → IsGroundState inst s
   ground_by_join s edges assigned breaks least = record {
@@ -126,6 +129,7 @@ module _ (p : Embedding) (planar : IsPlanar p) (connected : IsConnected p.instan
       get_or-map t (range_with_len 0 p.instance.n) x 0 false (omega (arith, length-range_with_len 0 p.instance.n))
       ∙ ap t (get_or-range_with_len 0 p.instance.n x 0 l ∙ omega arith)
 
+  -- the least energy is twice the weight of a least join, less that of all bonds
   pub least_energy_by_join : IsLeastEnergy p.instance (pos (2 * weight_of (dual_web p.instance p.faces) edges) -ℤ pos (weight p.instance))
   least_energy_by_join =
       let found : (down : ℕ → Bool) × Follows p.instance (is_unlike p.instance edges) down =

@@ -151,6 +151,7 @@ module _ (inst : Ising) (faces : Labelling) where
         let found = some_from_odd (is_negative_bond inst) edges (sym (odd-count_by (is_negative_bond inst) edges) ∙ odd_negatives) in
         omega (arith, found.1)
 
+    -- an odd cut of the dual is a frustrated loop
     pub odd_cut_is_loop : IsFrustratedLoop inst edges
     odd_cut_is_loop = record {
       set = record { not_empty = some_bond; rising = rises; below = low };

@@ -31,6 +31,7 @@ same_rest : (a b : ℕ) → odd a ≡ odd b → a % 2 ≡ b % 2
 same_rest a b e = odd_is a ∙ ap (λ b. cond {A = ℕ} b 1 0) e ∙ sym (odd_is b)
 
 module _ (inst : Ising) (faces : Labelling) (edges : List ℕ) (join : IsJoin (dual_web inst faces) (frustrated_faces inst faces) edges) where
+  -- the edges of a join are bonds
   pub join_below : All (λ k. k < bond_count inst) edges
   join_below = subst (λ m. All (λ k. k < m) edges) (dual_edge_count inst faces) join.below
 

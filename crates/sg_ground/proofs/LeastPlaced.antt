@@ -27,9 +27,11 @@ use Rattle.sg_ground.proofs.Shares.{costs_over, in_place, share_assignment, valu
 none_least : (inst : Ising) → IsLeastPlaced inst [] (replicate inst.n (pos 1)) (pos 0)
 none_least inst = record { placed = all_up inst; least = λ t assigned. omega arith }
 
+-- before the first part all spins are up, and the energy is 0
 pub no_state : (inst : Ising) → IsStatePlaced inst [] (replicate inst.n (pos 1)) (pos 0)
 no_state inst = record { least = none_least inst; leasts_up = all_leasts_up inst }
 
+-- before the first part the weight is 0
 pub no_weight : (inst : Ising) → IsWeightPlaced inst [] (pos 0)
 no_weight inst = record { spins = replicate inst.n (pos 1); least = none_least inst }
 
@@ -38,6 +40,7 @@ pub least_size : (inst : Ising) (e : ℤ) → IsInstance inst → IsLeastEnergy 
 least_size inst e good found =
     omega (arith, energy_size inst found.reached.0 good found.reached.1, ap unsigned_abs found.reached.2)
 
+-- the energy of a ground state is no larger than the weight
 pub state_size : (inst : Ising) (s : List ℤ) (e : ℤ) → IsInstance inst → IsState inst s e → unsigned_abs e ≤ weight inst
 state_size inst s e good found = omega (arith, energy_size inst s good found.ground_state.assignment, ap unsigned_abs found.stated)
 
@@ -92,6 +95,7 @@ module _ (inst : Ising) (good : IsInstance inst) where
     placed_energy : energy inst s ≡ e
     placed_energy = energy_over inst good parts are s found.placed.assignment ∙ sym found.placed.stated
 
+  -- after the last part the whole has its ground state
   pub all_states : (parts : List Part) → AreParts inst parts → (s : List ℤ) (e : ℤ) → IsStatePlaced inst parts s e → IsState inst s e
   all_states parts are s e found = record {
     ground_state = placed_ground parts are s e found.least;

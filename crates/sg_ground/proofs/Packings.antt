@@ -29,6 +29,7 @@ pub loops_weight : (cuts : List Cut) → total_weight (map loop_of cuts) ≡ sum
 loops_weight [] = refl
 loops_weight (c ∷ cuts) = omega (arith, loops_weight cuts, sum_by-cons loop_weight (loop_of c) (map loop_of cuts), sum_by-cons cut_weight c cuts)
 
+-- a bond carries of the loops what its edge carries of the cuts
 pub loops_load : (cuts : List Cut) (k : ℕ) → load (map loop_of cuts) k ≡ cut_load cuts k
 loops_load [] k = refl
 loops_load (c ∷ cuts) k =
@@ -52,6 +53,7 @@ chosen_few inst faces =
 module _
     (inst : Ising) (faces : Labelling) (good : IsInstance inst) (labels : IsFaceLabels inst faces)
     (cuts : List Cut) (pack : CutsPack (dual_web inst faces) (frustrated_faces inst faces) cuts) where
+  -- a packing of odd cuts is a packing of loops
   pub packs_loops : Packs inst (map loop_of cuts)
   packs_loops = record {
     positive = All-map (λ (l : Loop). pos 1 ≤ℤ l.y) loop_of cuts pack.positive;

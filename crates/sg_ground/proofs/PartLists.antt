@@ -44,6 +44,7 @@ module _ (inst : Ising) (least : ℕ) (p : Part) (is : IsPart inst least p) wher
   joins : (i : ℕ) → i < length p.bonds → IsBond p.planar.instance.n (bond_at p.planar.instance i)
   joins i l = is.planar.instance.draft.joined i (record { u = 0; v = 0; j = pos 0 }) (omega (arith, l, bond_counts))
 
+  -- a part is a share of the whole
   pub share_of_part : IsShare inst p.spins p.bonds p.planar.instance
   share_of_part = record {
     good = is.planar.instance;
@@ -71,6 +72,7 @@ module _ (inst : Ising) (least : ℕ) (p : Part) (is : IsPart inst least p) wher
   first_inside k h = ((is.bonds k).0 h).1
 
   module _ (good : (k : ℕ) → k < bond_count inst → (bond_at inst k).v < inst.n) where
+    -- the second end of a bond of the part is one of its spins
     pub second_inside : (k : ℕ) → holds p.bonds k ≡ true → holds p.spins (bond_at inst k).v ≡ true
     second_inside k h =
         let low : k < bond_count inst = ((is.bonds k).0 h).0 in
@@ -87,6 +89,7 @@ module _ (inst : Ising) where
   some_part (least ∷ leasts) [] rest p h = (least, h.0)
   some_part (least ∷ leasts) (q ∷ done) rest p h = some_part leasts done rest p h.1
 
+  -- each of the first parts is a part of the whole
   pub parts_before : (leasts : List ℕ) (done rest : List Part) → AllZip (IsPart inst) leasts (done ++ rest) → All (λ p. (least : ℕ) × IsPart inst least p) done
   parts_before leasts done rest h i d l = at leasts done i h l
     where
@@ -97,6 +100,7 @@ module _ (inst : Ising) where
       at (least ∷ leasts) (p ∷ done) zero h l = (least, h.0)
       at (least ∷ leasts) (p ∷ done) (suc i) h l = at leasts done i h.1 (omega arith)
 
+  -- and so is each of all parts
   pub all_parts : (leasts : List ℕ) (parts : List Part) → AllZip (IsPart inst) leasts parts → All (λ p. (least : ℕ) × IsPart inst least p) parts
   all_parts leasts parts h = parts_before leasts parts [] (subst (AllZip (IsPart inst) leasts) (sym (append-nil parts)) h)
 

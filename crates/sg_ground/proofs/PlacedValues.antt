@@ -14,6 +14,7 @@ both_false : (a b : Bool) → (a || b) ≡ false → (a ≡ false) × (b ≡ fal
 both_false true b h = absurd (false≢true (sym h))
 both_false false b h = (refl, h)
 
+-- one value more at its place
 pub written_more : (places : List ℕ) (part old now : List ℤ) (i : ℕ) (y : ℤ) → IsStrictlyIncreasing places → All (λ x. x < length old) places →
     length part ≡ length places → i < length places → y ≡ get_or part i (pos 0) → Writes (take i places) part old now →
     Writes (take (i + 1) places) part old (set now (get_or places i 0) y)
@@ -62,6 +63,7 @@ some_written places part old up below count (suc i) l =
           (written_more places part old now i (get_or part i (pos 0)) up below count (omega (arith, l)) refl was),
     )
 
+-- all values can be written to their places
 pub all_written : (places : List ℕ) (part old : List ℤ) → IsStrictlyIncreasing places → All (λ x. x < length old) places → length part ≡ length places →
     (now : List ℤ) × Writes places part old now
 all_written places part old up below count =

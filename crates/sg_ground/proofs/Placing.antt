@@ -41,6 +41,7 @@ all_up inst = record {
   size = omega arith;
 }
 
+-- where all spins are up so are the least of the components
 pub all_leasts_up : (inst : Ising) → LeastsUp inst (replicate inst.n (pos 1))
 all_leasts_up inst i l least = get_or-replicate inst.n i (pos 1) (pos 1) l
 
@@ -62,12 +63,15 @@ module _ (inst : Ising) (good : IsInstance inst) where
     part : (least : ℕ) × IsPart inst least p
     part = some_part inst are.leasts done rest p (subst (λ ps. AllZip (IsPart inst) are.leasts ps) parted are.each)
 
+    -- the next part is a share of the whole
     pub share : IsShare inst p.spins p.bonds p.planar.instance
     share = share_of_part inst part.0 p part.1
 
+    -- the sizes of its couplings in the whole sum to its weight
     pub sizes_here : sum_by (size_at inst) p.bonds ≡ weight p.planar.instance
     sizes_here = weights_over inst p.spins p.bonds p.planar.instance share
 
+    -- with it the sizes of the parts so far grow by that
     pub sizes_more : over_bonds (size_at inst) (done ++ p ∷ []) ≡ over_bonds (size_at inst) done + sum_by (size_at inst) p.bonds
     sizes_more = sum_by_push (λ (q : Part). sum_by (size_at inst) q.bonds) done p
 
@@ -138,18 +142,22 @@ module _ (inst : Ising) (good : IsInstance inst) where
               kept (bond_at inst k).v (ends_low k low) (second_inside inst is.0 q is.1 ends_low k held) in
               rw (first, second) refl
 
+      -- what broken bonds cost in the parts so far stays
       pub costs_before : over_bonds (cost_at inst u) done ≡ over_bonds (cost_at inst s) done
       costs_before =
           sum_by-same (λ (q : Part). sum_by (cost_at inst u) q.bonds) (λ (q : Part). sum_by (cost_at inst s) q.bonds) done
           (λ i d l. cost_before (get_or done i d) (i, l, λ c. get_or_default done i c d l)
           (parts_before inst are.leasts done (p ∷ rest) (subst (AllZip (IsPart inst) are.leasts) parted are.each) i d l))
 
+      -- what they cost in the next part is what they cost there in the whole
       pub costs_here : sum_by (cost_at inst u) p.bonds ≡ sum_by (broken_cost t) p.planar.instance.bonds
       costs_here = costs_over inst p.spins p.bonds p.planar.instance share u t writes.values
 
+      -- with it the costs of the parts so far grow by that
       pub costs_more : over_bonds (cost_at inst u) (done ++ p ∷ []) ≡ over_bonds (cost_at inst s) done + sum_by (cost_at inst u) p.bonds
       costs_more = sum_by_push (λ (q : Part). sum_by (cost_at inst u) q.bonds) done p ∙ ap (λ c. c + sum_by (cost_at inst u) p.bonds) costs_before
 
+      -- the energy of the part, by costs and sizes
       pub energy_here : f ≡ pos (sum_by (cost_at inst u) p.bonds) -ℤ pos (sum_by (size_at inst) p.bonds)
       energy_here =
           sym stated ∙ energy_from_costs p.planar.instance t share.good assigned
@@ -174,13 +182,16 @@ module _ (inst : Ising) (good : IsInstance inst) where
 
   -- all parts together
   module _ (parts : List Part) (are : AreParts inst parts) where
+    -- over all parts the costs are those of the whole
     pub costs_all : (s : List ℤ) → over_bonds (cost_at inst s) parts ≡ sum_by (broken_cost s) inst.bonds
     costs_all s = dealt_to_parts inst parts are (cost_at inst s) ∙ sym (sum_by_is_sum_below (broken_cost s) inst.bonds (record { u = 0; v = 0; j = pos 0 }))
 
+    -- and the sizes sum to the weight of the whole
     pub sizes_all : over_bonds (size_at inst) parts ≡ weight inst
     sizes_all = dealt_to_parts inst parts are (size_at inst)
         ∙ sym (sum_by_is_sum_below (λ (b : Bond). unsigned_abs b.j) inst.bonds (record { u = 0; v = 0; j = pos 0 }))
 
+    -- the energy of the whole, by the costs and sizes of its parts
     pub energy_over : (s : List ℤ) → IsAssignment inst s →
         energy inst s ≡ pos (over_bonds (cost_at inst s) parts) -ℤ pos (over_bonds (size_at inst) parts)
     energy_over s assigned = energy_from_costs inst s good assigned ∙ ap₂ (λ c w. pos c -ℤ pos w) (sym (costs_all s)) (sym sizes_all)
@@ -200,9 +211,11 @@ module _ (inst : Ising) (good : IsInstance inst) (parts : List Part) (are : AreP
   found_part : (least : ℕ) × IsPart inst least p
   found_part = subst (λ (q : Part). (least : ℕ) × IsPart inst least q) (sym same) (all_parts inst are.leasts parts are.each i p l)
 
+  -- a part is connected
   pub part_connected : IsConnected p.planar.instance
   part_connected = found_part.1.connected
 
+  -- and is a share of the whole
   pub part_is_share : IsShare inst p.spins p.bonds p.planar.instance
   part_is_share = share_of_part inst found_part.0 p found_part.1
 
@@ -214,6 +227,7 @@ module _ (inst : Ising) (good : IsInstance inst) (parts : List Part) (are : AreP
   pub places_below : (old : List ℤ) → length old ≡ inst.n → All (λ x. x < length old) p.spins
   places_below old long = subst (λ n. All (λ x. x < n) p.spins) (sym long) part_is_share.spins_below
 
+  -- an assignment of the part has a value for each of its spins
   pub places_count : (t : List ℤ) → IsAssignment p.planar.instance t → length t ≡ length p.spins
   places_count t assigned = assigned.count ∙ part_is_share.spin_count
 

@@ -42,6 +42,7 @@ pub record IsShare (inst : Ising) (spins bonds : List ℕ) (share : Ising) : Typ
 abbrev pub values_in : List ℕ → List ℤ → List ℤ
 values_in spins s = map (spin s) spins
 
+-- the values of the whole at the spins of a part stand there
 pub in_place : (spins : List ℕ) (s : List ℤ) → HasValues spins s (values_in spins s)
 in_place spins s i l = sym (get_or-map (spin s) spins i 0 (pos 1) l)
 

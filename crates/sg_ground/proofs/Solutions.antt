@@ -56,6 +56,7 @@ module _ (p : Embedding) (planar : IsPlanar p) (connected : IsConnected p.instan
   pub bonds_of_join : (edges : List ℕ) (cuts : List Cut) → IsTightJoin p edges cuts → All (λ k. k < bond_count p.instance) edges
   bonds_of_join edges cuts tight = join_below p.instance p.faces edges tight.least.join
 
+  -- a least join fits the faces
   pub fits_of_join : (edges : List ℕ) (cuts : List Cut) → IsTightJoin p edges cuts → FitsFaces p.instance p.faces edges
   fits_of_join edges cuts tight = join_fits p.instance p.faces edges tight.least.join
 
@@ -84,6 +85,7 @@ module _ (inst : Ising) (good : IsInstance inst) (s : List ℤ) (e : ℤ) (loops
   pub ground_state_from_solution : IsGroundState inst s
   ground_state_from_solution = proves_ground_state inst good s e loops solution.proves
 
+  -- the energy of a solution is no larger than the weight
   pub size_from_solution : unsigned_abs e ≤ weight inst
   size_from_solution = omega (arith, energy_size inst s good solution.proves.assignment, ap unsigned_abs solution.proves.stated)
 
@@ -100,6 +102,7 @@ module _
   wide_energy : to_z w128 (of_z w128 e) ≡ e
   wide_energy = to_z-of_z w128 e (fits_signed_from_abs w128 e (omega (arith, small_energy, planar.sum)))
 
+  -- the energy fits 64 bits
   pub energy_fits : FitsSigned w64 (to_z w128 (of_z w128 e))
   energy_fits = fits_signed_from_abs w64 (to_z w128 (of_z w128 e)) (omega (arith, small_energy, planar.sum, ap unsigned_abs wide_energy))
 

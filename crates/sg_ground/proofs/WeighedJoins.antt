@@ -47,9 +47,11 @@ module _ (p : Embedding) (planar : IsPlanar p) (connected : IsConnected p.instan
         twice : (e w : ℤ) (k v : ℕ) → e ≡ (w +ℤ w) -ℤ pos v → w ≡ pos k → pos (2 * k) -ℤ pos v ≡ e
         twice e w k v h l = omega (arith, ints)
 
+    -- the energy by the join's weight is the least
     pub least_by_weight : IsLeastEnergy p.instance e
     least_by_weight = subst (IsLeastEnergy p.instance) energy_by_weight (least_energy_by_join p planar connected edges join.least)
 
+    -- spins that break just the join are a ground state of this energy
     pub state_by_weight : (s : List ℤ) → IsAssignment p.instance s → spin s 0 ≡ pos 1 → BreaksExactly p.instance s edges → IsState p.instance s e
     state_by_weight s assigned first_up breaks = record {
       ground_state = ground_by_join p.instance p.faces planar.instance planar.faces s edges assigned breaks join.least;

@@ -37,6 +37,7 @@ second-passes None None h = refl
 second-passes None (Some x) h = absurd (none-some x (sym h))
 second-passes (Some x) b h = absurd (none-some x (sym h))
 
+-- the bonds of a list that passes its tests join different spins
 pub bonds-joined : (n : ℕ) (ds : List Data) → entries_fault 7 (entry.Bond n) ds ≡ None → bonds_fault ds ≡ None → All (IsBond n) (map bond_of ds)
 bonds-joined n ds entries bonds =
     let apart = none-mapped (λ (k : ℕ). SelfBond k) _ (second-passes _ (self_fault (map bond_of ds)) bonds) in

@@ -19,6 +19,7 @@ use Rattle.sg_model.specs.declared.bond.Bond.{Bond}
 use Rattle.sg_model.specs.declared.refusal.Refusal.TheVariants.{SelfBond}
 use Rattle.sg_json.specs.Members.{bond_at, entries_fault, fits, is_self, misfit, self_fault}
 
+-- the items of an array are those that the code has
 pub listed_view : (vs : List Value) → listed (items_view vs) ≡ map view vs
 listed_view [] = refl
 listed_view (v ∷ vs) = ap (λ (ds : List Data). view v ∷ ds) (listed_view vs)
@@ -28,9 +29,11 @@ pub mapped : {X Y Z : Type 0} (f : Y → Z) (g : X → Y) (xs : List X) → map 
 mapped f g [] = refl
 mapped {X} {Y} {Z} f g (x ∷ xs) = ap (λ (l : List Z). f (g x) ∷ l) (mapped f g xs)
 
+-- the indices of a list, read one by one
 pub index-map : (vs : List Value) (d : Data) → map view vs ≡ items_in d → map (λ v. index_of (view v)) vs ≡ indices_of d
 index-map vs d h = sym (mapped index_of view vs) ∙ ap (map index_of) h
 
+-- a list of the code is a list of the data
 pub list_in-some : (d : Data) (vs : List Value) → Some (items_view vs) ≡ as_array d → list_in d ≡ Some (map view vs)
 list_in-some d vs h = ap (option_map listed) (sym h) ∙ ap Some (listed_view vs)
 
@@ -48,6 +51,7 @@ item_view vs i v inside is = get_or-map view vs i v null inside ∙ ap view (sym
 pub misfit-none : (what : Entry) (ds : List Data) → ((k : ℕ) → k < length ds → fits what (item_at ds k) ≡ true) → misfit what ds ≡ None
 misfit-none what ds h = find_range-none (λ i. not (fits what (item_at ds i))) 0 (length ds) (λ i low high. not_from_true _ (h i (omega arith)))
 
+-- the first entry that does not fit is the misfit
 pub misfit-some : (what : Entry) (ds : List Data) (k : ℕ) → k < length ds → ((i : ℕ) → i < k → fits what (item_at ds i) ≡ true)
     → fits what (item_at ds k) ≡ false → misfit what ds ≡ Some k
 misfit-some what ds k inside earlier bad =
@@ -61,6 +65,7 @@ self-some bonds k inside earlier here =
     ap (option_map (λ i. SelfBond i))
     (find_range-some (λ i. is_self (bond_at bonds i)) 0 (length bonds) k (omega arith) (omega arith) (λ i low high. earlier i high) here)
 
+-- where no bond joins a spin to itself no test fails
 pub self-none : (bonds : List Bond) → ((i : ℕ) → i < length bonds → is_self (bond_at bonds i) ≡ false) → self_fault bonds ≡ None
 self-none bonds h =
     ap (option_map (λ i. SelfBond i)) (find_range-none (λ i. is_self (bond_at bonds i)) 0 (length bonds) (λ i low high. h i (omega arith)))
@@ -79,6 +84,7 @@ find_range-all p a (suc n) k none low high =
       | inr other ↦ more h other
     ]
 
+-- a value made of nothing is nothing
 pub none-mapped : {X Y : Type 0} (f : X → Y) (o : Option X) → option_map f o ≡ None → o ≡ None
 none-mapped f None h = refl
 none-mapped f (Some x) h = absurd (none-some (f x) (sym h))
@@ -87,6 +93,7 @@ true-from_not : (b : Bool) → not b ≡ false → b ≡ true
 true-from_not true h = refl
 true-from_not false h = sym h
 
+-- where no test of the entries fails each of them fits
 pub entries-fit : (place : ℕ) (what : Entry) (ds : List Data) (k : ℕ) → entries_fault place what ds ≡ None → k < length ds
     → fits what (item_at ds k) ≡ true
 entries-fit place what ds k none inside =
@@ -98,6 +105,7 @@ kept : (b : Bool) (z y : ℤ) → cond b (Some z) None ≡ Some y → (b ≡ tru
 kept true z y h = (refl, same_Some z y h)
 kept false z y h = absurd (none-some y h)
 
+-- two conditions that hold together hold each
 pub both : (a b : Bool) → (a && b) ≡ true → (a ≡ true) × (b ≡ true)
 both true b h = (refl, h)
 both false b h = absurd (false≢true h)
@@ -112,6 +120,7 @@ in_range-small (negsuc n) y h =
     let few = leb-true n 9223372036854775806 (both (leb n 9223372036854775806) true k.0).0 in
     rw (← k.1) (omega (arith, few))
 
+-- a number of a value is less than 2^63 in size
 pub number-small : (d : Data) → unsigned_abs (number_of d) < 2 ^ 63
 number-small d = of_integer (option_and_then as_i64 (as_number d))
   where
@@ -123,6 +132,7 @@ number-small d = of_integer (option_and_then as_i64 (as_number d))
     of_integer None = omega arith
     of_integer (Some z) = of_kept (in_range z) (λ y e. in_range-small z y e)
 
+-- so are all of a list
 pub numbers-small : (ds : List Data) → All (λ j. unsigned_abs j < 2 ^ 63) (map number_of ds)
 numbers-small ds = All-map (λ j. unsigned_abs j < 2 ^ 63) number_of ds
     (All-from_get_or (λ (d : Data). unsigned_abs (number_of d) < 2 ^ 63) ds null (λ i inside. number-small (get_or ds i null)))

@@ -37,10 +37,12 @@ one-test (Some refusal) = refl
 pub rows-wrong : (kind : Kind) (d : Data) → size_at (codes "rows") 1 d ≡ None → lattice_size_fault kind d ≡ Some (BadMember 3 0)
 rows-wrong kind d rows = rw rows refl
 
+-- rows that are read and columns that are not: the columns are refused
 pub cols-wrong : (kind : Kind) (d : Data) (r : ℕ) → size_at (codes "rows") 1 d ≡ Some r → size_at (codes "cols") (least_cols kind) d ≡ None
     → lattice_size_fault kind d ≡ Some (BadMember 4 0)
 cols-wrong kind d r rows cols = rw (rows, cols) refl
 
+-- rows and columns that are read: their product may be too large alone
 pub sizes-read : (kind : Kind) (d : Data) (r k : ℕ) → size_at (codes "rows") 1 d ≡ Some r
     → size_at (codes "cols") (least_cols kind) d ≡ Some k → lattice_size_fault kind d ≡ many_fault (r * k)
 sizes-read kind d r k rows cols = rw (rows, cols) (one-test (many_fault (r * k)))
@@ -49,6 +51,7 @@ sizes-read kind d r k rows cols = rw (rows, cols) (one-test (many_fault (r * k))
 pub spins-wrong : (d : Data) → size_at (codes "n") 1 d ≡ None → general_size_fault d ≡ Some (BadMember 5 0)
 spins-wrong d n = rw n refl
 
+-- a number of spins that is read may be too large alone
 pub spins-read : (d : Data) (n : ℕ) → size_at (codes "n") 1 d ≡ Some n → general_size_fault d ≡ many_fault n
 spins-read d n is = rw is (one-test (many_fault n))
 
@@ -58,6 +61,7 @@ pub of_test : (test table : Option Refusal) (inst : Ising) (e : Fault) → ((x :
 of_test test table inst (Refused x) only bad = inl (only x bad)
 of_test test table inst NoMemory only bad = tt
 
+-- where the test passes the instance is refused by its own
 pub of_instance : (table : Option Refusal) (inst : Ising) (e : Fault) → table ≡ None → IsFaultOf inst e → IsTableFault table inst e
 of_instance table inst (Refused x) pass bad = inr (pass, bad)
 of_instance table inst NoMemory pass bad = tt
@@ -69,22 +73,27 @@ bonds-are ds test few self =
 
 -- the tests of a lattice, one behind the other
 module _ (kind : Kind) (d : Data) where
+  -- a fault of the size is the lattice's
   pub by_size : (x : Refusal) → lattice_size_fault kind d ≡ Some x → lattice_fault kind d ≡ Some x
   by_size x size = rw size refl
 
+  -- behind a good size a fault of the couplings is the lattice's
   pub by_list : (x : Refusal) → lattice_size_fault kind d ≡ None → list_fault 6 entry.Coupling (list_at (codes "couplings") d) ≡ Some x
       → lattice_fault kind d ≡ Some x
   by_list x size list = rw (size, list) refl
 
+  -- behind good couplings a fault of the seam is the lattice's
   pub by_seam : (x : Refusal) → lattice_size_fault kind d ≡ None → list_fault 6 entry.Coupling (list_at (codes "couplings") d) ≡ None
       → seam_fault (get (codes "seam") d) ≡ Some x → lattice_fault kind d ≡ Some x
   by_seam x size list seam = rw (size, list, seam) refl
 
+  -- behind all these the number of the couplings is tested
   pub by_count : lattice_size_fault kind d ≡ None → list_fault 6 entry.Coupling (list_at (codes "couplings") d) ≡ None
       → seam_fault (get (codes "seam") d) ≡ None
       → lattice_fault kind d ≡ count_fault (length (items_at (codes "couplings") d)) (bond_total kind (rows_in d) (cols_in kind d))
   by_count size list seam = rw (size, list, seam) (one-test _)
 
+-- the right number of couplings passes
 pub count-none : (found wanted : ℕ) → found ≡ wanted → count_fault found wanted ≡ None
 count-none found wanted same = rw (is-not found wanted same) refl
 
@@ -93,21 +102,26 @@ module _ (d : Data) where
   abbrev list_test : Option Refusal
   list_test = list_fault 7 (entry.Bond (spins_in d)) (list_at (codes "bonds") d)
 
+  -- a fault of the number of spins is the instance's
   pub by_spins : (x : Refusal) → general_size_fault d ≡ Some x → general_fault d ≡ Some x
   by_spins x size = rw size refl
 
+  -- behind it a fault of the bonds is the instance's
   pub by_bonds : (x : Refusal) → general_size_fault d ≡ None → list_test ≡ Some x → general_fault d ≡ Some x
   by_bonds x size list = rw (size, list) refl
 
+  -- behind them a fault of the rotation is the instance's
   pub by_rotation : (x : Refusal) → general_size_fault d ≡ None → list_test ≡ None
       → rotation_fault (spins_in d) (list_at (codes "rotation") d) ≡ Some x → general_fault d ≡ Some x
   by_rotation x size list rotation = rw (size, list, rotation) refl
 
+  -- behind it a fault of the seam is the instance's
   pub by_cut : (x : Refusal) → general_size_fault d ≡ None → list_test ≡ None
       → rotation_fault (spins_in d) (list_at (codes "rotation") d) ≡ None
       → seam_fault (get (codes "seam") d) ≡ Some x → general_fault d ≡ Some x
   by_cut x size list rotation seam = rw (size, list, rotation, seam) refl
 
+  -- behind all these the bonds are tested together
   pub by_ends : general_size_fault d ≡ None → list_test ≡ None
       → rotation_fault (spins_in d) (list_at (codes "rotation") d) ≡ None
       → seam_fault (get (codes "seam") d) ≡ None → general_fault d ≡ bonds_fault (items_at (codes "bonds") d)
@@ -117,10 +131,12 @@ module _ (d : Data) where
 pub no_kind : (d : Data) → form_in d ≡ None → json_fault d ≡ Some (BadMember 1 0)
 no_kind d kind = rw kind refl
 
+-- a member of another name is refused
 pub other_name : (d : Data) (form : Form) → form_in d ≡ Some form → list_all (is_known form) (names_in d) ≡ false
     → json_fault d ≡ Some (BadMember 2 0)
 other_name d form kind names = rw (kind, names) refl
 
+-- where all names are known the members are tested
 pub by_members : (d : Data) (form : Form) → form_in d ≡ Some form → list_all (is_known form) (names_in d) ≡ true
     → json_fault d ≡ members_fault form d
 by_members d form kind names = rw (kind, names) (one-test (members_fault form d))
@@ -131,6 +147,7 @@ data-fault d form (Refused x) kind names (inl bad) = AtMember (by_members d form
 data-fault d form (Refused x) kind names (inr bad) = AtInstance form kind (by_members d form kind names ∙ bad.0) bad.1
 data-fault d form NoMemory kind names bad = tt
 
+-- what refuses the data refuses the text
 pub json-fault : (bytes : List ℕ) (d : Data) (e : Fault) → length bytes ≤ json_limit → Says bytes d → IsDataFault d e → IsJsonFault bytes e
 json-fault bytes d (Refused x) short says bad = OfData short d says bad
 json-fault bytes d NoMemory short says bad = tt

@@ -34,6 +34,7 @@ no_counts R C = record {
 
 -- what the last row has is nothing, and each other row has its count
 module _ (R C : ℕ) (had : ℕ → ℕ → Bool) (before : ℕ → ℕ) (along : ℕ → ℕ → ℕ) where
+  -- a count along the rows, of bonds that the last row has not
   pub rows_but_last : before 0 ≡ 0 → ((r : ℕ) → along r 0 ≡ 0) → ((r c : ℕ) → c < C → along r (suc c) ≡ along r c + cond (had r c) 1 0) →
       ((r : ℕ) → before (suc r) ≡ before r + along r C)
       → CountsRows (λ r c. ltb (r + 1) R && had r c) R C (λ r c. before r + cond (ltb (r + 1) R) (along r c) 0)
@@ -90,6 +91,7 @@ diagonal_counts R C W e =
 abbrev pub half_row : ℕ → ℕ → ℕ
 half_row r c = cond (eqb (r % 2) 1) (c / 2) ((c + 1) / 2)
 
+-- the vertical bonds of a hexagonal lattice, row by row
 pub half_counts : (R C : ℕ) → CountsRows (λ r c. ltb (r + 1) R && eqb ((r + c) % 2) 0) R C
     (λ r c. south_before C r + cond (ltb (r + 1) R) (half_row r c) 0)
 half_counts R C = rows_but_last R C (λ r c. eqb ((r + c) % 2) 0) (south_before C) half_row none first (λ r c b. more r c) next

@@ -33,6 +33,7 @@ row_below R C i h l = div_below i C R h l
 
 -- the ends of the bonds stand in a list from `base` on, in the order of the spins from which they run
 module _ (inst : Ising) (ends : List Ends) (R C base : ℕ) (has : ℕ → ℕ → Bool) (number er ec : ℕ → ℕ → ℕ) where
+  -- the spins from which a step's bonds run, in order, have the bonds of the numbers told
   pub laid : (f : ℕ → Ends) → ((r c : ℕ) → c < C → ((f (r * C + c)).u ≡ r * C + c) × ((f (r * C + c)).v ≡ er r c * C + ec r c))
       → 0 < C → (g : ℕ → ℕ → ℕ) → CountsRows has R C g
       → ((r c : ℕ) → r < R → c < C → has r c ≡ true → number r c ≡ base + g r c)

@@ -62,17 +62,20 @@ before kind South R C r c = r * C + cond (ltb (r + 1) R) c 0
 before Triangular SouthEast R C r c = r * (C - 1) + cond (ltb (r + 1) R) (min c (C - 1)) 0
 before kind SouthEast R C r c = 0
 
+-- there is a column
 pub some_cols : (kind : Kind) (R C : ℕ) → IsSize kind R C → 1 ≤ C
 some_cols Hexagonal R C size = omega (arith, size.cols)
 some_cols Cylinder R C size = omega (arith, size.cols)
 some_cols kind R C size = size.cols
 
+-- where a bond leads, by its row and its column
 pub neighbour_is : (kind : Kind) (step : Step) (R C r c : ℕ) → neighbour kind step R C r c ≡ end_row step r c * C + end_col kind step C r c
 neighbour_is Cylinder East R C r c = refl
 neighbour_is kind East R C r c = refl
 neighbour_is kind South R C r c = refl
 neighbour_is kind SouthEast R C r c = refl
 
+-- the step leads on the grid, and back
 pub grid_step : (kind : Kind) (step : Step) (R C : ℕ) → IsSize kind R C
     → IsGridStep R C (has_bond kind step R C) (end_row step) (end_col kind step C) (comes kind step R C) (source_row step) (source_col kind step C)
 grid_step Cylinder East R C size = round_step R C (omega (arith, size.cols))
@@ -85,6 +88,7 @@ grid_step Triangular SouthEast R C size =
     (λ r c h. (ltb-true (r + 1) R (and_parts (ltb (r + 1) R) (ltb (c + 1) C) h).0, ltb-true (c + 1) C (and_parts (ltb (r + 1) R) (ltb (c + 1) C) h).1))
 grid_step kind SouthEast R C size = diagonal_step R C (λ r c. false) (λ r c h. absurd (false≢true h))
 
+-- how many bonds of the step stand before a spin
 pub counts : (kind : Kind) (step : Step) (R C : ℕ) → IsSize kind R C → CountsRows (has_bond kind step R C) R C (before kind step R C)
 counts Cylinder East R C size = all_counts R C
 counts Square East R C size = east_counts R C (C - 1) (omega (arith, size.cols))
@@ -104,6 +108,7 @@ row_more R W l = let e : R ≡ suc (R - 1) = omega arith in let step : suc (R - 
 east_all : (R C : ℕ) → 1 ≤ R → (R - 1) * (C - 1) + min C (C - 1) ≡ R * (C - 1)
 east_all R C l = let e : min C (C - 1) ≡ C - 1 = omega arith in ap (λ n. (R - 1) * (C - 1) + n) e ∙ row_more R (C - 1) l
 
+-- how many there are in all
 pub total_is : (kind : Kind) (step : Step) (R C : ℕ) → IsSize kind R C → before kind step R C (R - 1) C ≡ step_total kind step R C
 total_is Cylinder East R C size = row_more R C size.rows
 total_is kind East R C size = east_all R C size.rows
@@ -122,6 +127,7 @@ half_place r c e = elim (cases_eq (r % 2) 1) [
   | inr o ↦ let even : (c + 1) / 2 ≡ c / 2 = omega arith in ap (λ t. cond t (c / 2) ((c + 1) / 2)) (ne_eqb (r % 2) 1 o) ∙ even
 ]
 
+-- the number of a bond is the first of its step and those before it
 pub number_is : (kind : Kind) (step : Step) (R C : ℕ) → (r c : ℕ) → r < R → c < C → has_bond kind step R C r c ≡ true →
     bond_number kind step R C r c ≡ step_base kind step R C + before kind step R C r c
 number_is Cylinder East R C r c a b h = omega arith

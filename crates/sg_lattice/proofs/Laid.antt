@@ -11,12 +11,15 @@ use Rattle.sg_lattice.proofs.Grids.{IsGridStep, IsLaid}
 abbrev pub in_block : ℕ → ℕ → ℕ → Bool
 in_block base total d = leb (2 * base) d && ltb d (2 * (base + total))
 
+-- a dart of a bond of the step is in its block
 pub in_block-yes : (base total d : ℕ) → 2 * base ≤ d → d < 2 * (base + total) → in_block base total d ≡ true
 in_block-yes base total d lo hi = and_from (leb (2 * base) d) (ltb d (2 * (base + total))) (le-leb (2 * base) d lo) (lt-ltb d (2 * (base + total)) hi)
 
+-- a dart of an earlier step is not
 pub in_block-before : (base total d : ℕ) → d < 2 * base → in_block base total d ≡ false
 in_block-before base total d l = and_left (leb (2 * base) d) (ltb d (2 * (base + total))) (lt-leb (2 * base) d l)
 
+-- nor is a dart of a later one
 pub in_block-behind : (base total d : ℕ) → 2 * (base + total) ≤ d → in_block base total d ≡ false
 in_block-behind base total d l = and_right (leb (2 * base) d) (ltb d (2 * (base + total))) (le-ltb d (2 * (base + total)) l)
 

@@ -37,6 +37,7 @@ module _ (kind : Kind) (R C : ℕ) (size : IsSize kind R C) where
   part_length : (step : Step) → length (map (ends_from kind step R C) (starts kind step R C)) ≡ step_total kind step R C
   part_length step = length-map (starts kind step R C) (ends_from kind step R C) ∙ length-starts step
 
+  -- there are as many ends as bonds
   pub length-ends_of : length (ends_of kind R C) ≡ bond_total kind R C
   length-ends_of =
       let outer : length (ends_of kind R C) ≡ length (map (ends_from kind East R C) (starts kind East R C)) + length
@@ -84,12 +85,14 @@ module _ (kind : Kind) (R C : ℕ) (size : IsSize kind R C) where
   room SouthEast = omega (arith, length-starts SouthEast, length-ends_of, all_total kind R C)
 
   module _ (js : List ℤ) where
+    -- bond k has the ends at its place, and the coupling there
     pub bond_is : (k : ℕ) → k < length (ends_of kind R C) →
         bond_at (lattice kind R C js) k ≡ coupled_bond (ends_at (ends_of kind R C) k) (get_or js k (pos 0))
     bond_is k l =
         get_or-map-range_with_len (λ i. coupled_bond (ends_at (ends_of kind R C) i) (get_or js i (pos 0))) 0 (length (ends_of kind R C)) k k no_bond l
         (omega arith)
 
+    -- the lattice has the bonds of its kind and size
     pub bond_count_is : bond_count (lattice kind R C js) ≡ bond_total kind R C
     bond_count_is =
         length-map-range_with_len (λ i. coupled_bond (ends_at (ends_of kind R C) i) (get_or js i (pos 0))) 0 (length (ends_of kind R C)) ∙ length-ends_of
@@ -150,6 +153,7 @@ module _ (kind : Kind) (R C : ℕ) (size : IsSize kind R C) where
         by_case (inr a) (inl b) = step_joins South k a b
         by_case (inr a) (inr b) = step_joins SouthEast k b (omega (arith, all_total kind R C))
 
+    -- each bond joins two different spins, with a coupling that may stand
     pub lattice_joined : length js ≡ bond_total kind R C → All (λ z. unsigned_abs z < 2 ^ 63) js → All (IsBond (R * C)) (lattice kind R C js).bonds
     lattice_joined long sizes = All-from_get_or (IsBond (R * C)) (lattice kind R C js).bonds no_bond joined_at
       where

@@ -118,6 +118,7 @@ module _ (kind : Kind) (R C : ℕ) (size : IsSize kind R C) (js : List ℤ) wher
           e' + w' ≡ x → s' + n' ≡ y → se' + nw' ≡ z → x + (y + z) ≡ all → e + (n + (nw + (w + (s + se)))) ≡ all
       sums e n nw w s se e' n' nw' w' s' se' x y z all p1 p2 p3 p4 p5 p6 q1 q2 q3 total = omega arith
 
+  -- the darts of the tables are a rotation
   pub lattice_rotation : IsRotation (lattice kind R C js)
   lattice_rotation = record {
     lists = length-map-range_with_len (λ i. darts kind R C (i / C) (i % C)) 0 (R * C);

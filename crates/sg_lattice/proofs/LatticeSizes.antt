@@ -75,6 +75,7 @@ round_seam R C some m few = (
     apart : (i k : ℕ) → i < k → i * C + (C - 1) ≢ k * C + (C - 1)
     apart i k l e = let same : (i ≡ k) × (C - 1 ≡ C - 1) = same_from_place i (C - 1) k (C - 1) C (omega arith) (omega arith) e in omega (arith, same.0)
 
+-- the seam is one
 pub lattice_seam : (kind : Kind) (R C : ℕ) → IsSize kind R C → (js : List ℤ) → IsSeam (lattice kind R C js)
 lattice_seam Cylinder R C size js =
     let parts = round_seam R C (some_cols Cylinder R C size) (bond_count (lattice Cylinder R C js)) (omega (arith, bond_count_is Cylinder R C size js)) in
@@ -84,6 +85,7 @@ lattice_seam kind R C size js = record {
   distinct = λ x. omega arith;
 }
 
+-- there is a spin
 pub some_spins : (kind : Kind) (R C : ℕ) → IsSize kind R C → 1 ≤ R * C
 some_spins kind R C size = omega (arith, mul-le 1 1 R C size.rows (some_cols kind R C size))
 
@@ -91,6 +93,7 @@ some_spins kind R C size = omega (arith, mul-le 1 1 R C size.rows (some_cols kin
 pub few_rows : (kind : Kind) (R C : ℕ) → IsSize kind R C → R ≤ 2 ^ 20
 few_rows kind R C size = omega (arith, size.few, mul-le R 1 R C (omega arith) (some_cols kind R C size))
 
+-- there are at most 2^20 columns
 pub few_cols : (kind : Kind) (R C : ℕ) → IsSize kind R C → C ≤ 2 ^ 20
 few_cols kind R C size = omega (arith, size.few, mul-le 1 C R C size.rows (omega arith))
 
@@ -101,6 +104,7 @@ half_rows_few R C some = omega (arith, mul-le ((R - 1) / 2) C R C (omega arith) 
     most true = omega arith
     most false = omega arith
 
+-- there are at most 2^22 bonds
 pub few_bonds : (kind : Kind) (R C : ℕ) → IsSize kind R C → bond_total kind R C ≤ 2 ^ 22
 few_bonds Square R C size = omega (arith, size.few, mul-le R (C - 1) R C (omega arith) (omega arith), mul-le (R - 1) C R C (omega arith) (omega arith))
 few_bonds Triangular R C size =

@@ -15,6 +15,7 @@ picked p n = filter p (range_with_len 0 n)
 abbrev pub rank : (ℕ → Bool) → ℕ → ℕ
 rank p n = length (picked p n)
 
+-- a range longer by one
 pub range_more : (a n : ℕ) → range_with_len a (suc n) ≡ range_with_len a n ++ (a + n) ∷ []
 range_more a zero = let e : a ≡ a + 0 = omega arith in ap (λ x. x ∷ []) e
 range_more a (suc n) =
@@ -22,11 +23,13 @@ range_more a (suc n) =
     ap (λ xs. a ∷ xs) (range_more (a + 1) n ∙ ap (λ x. range_with_len (a + 1) n ++ x ∷ []) e)
 
 module _ (p : ℕ → Bool) where
+  -- the numbers that pass, below one more
   pub picked_more : (n : ℕ) → picked p (suc n) ≡ picked p n ++ cond (p n) (n ∷ []) []
   picked_more n =
       let e : 0 + n ≡ n = omega arith in
       ap (filter p) (range_more 0 n) ∙ filter-append p (range_with_len 0 n) ((0 + n) ∷ []) ∙ ap (λ k. picked p n ++ filter p (k ∷ [])) e
 
+  -- the rank of one number more
   pub rank_more : (n : ℕ) → rank p (suc n) ≡ rank p n + cond (p n) 1 0
   rank_more n = ap length (picked_more n) ∙ length-append (picked p n) (cond (p n) (n ∷ []) []) ∙ ap (λ k. rank p n + k) (one (p n))
     where
@@ -34,6 +37,7 @@ module _ (p : ℕ → Bool) where
       one true = refl
       one false = refl
 
+  -- a rank grows with the number
   pub rank_le : (i n : ℕ) → i ≤ n → rank p i ≤ rank p n
   rank_le i zero l = let e : i ≡ 0 = omega arith in omega (arith, ap (rank p) e)
   rank_le i (suc n) l = by_case (cases_lt i (suc n)) (rank_le i n)
@@ -42,6 +46,7 @@ module _ (p : ℕ → Bool) where
       by_case (inl before) more = let r : rank p i ≤ rank p n = more (omega arith) in omega (arith, rank_more n)
       by_case (inr at) more = let e : i ≡ suc n = omega arith in omega (arith, ap (rank p) e)
 
+  -- a number that passes has a rank below that of a later one
   pub rank_below : (i n : ℕ) → i < n → p i ≡ true → rank p i < rank p n
   rank_below i n l h =
       let one : cond {A = ℕ} (p i) 1 0 ≡ 1 = ap (λ b. cond {A = ℕ} b 1 0) h in
@@ -113,9 +118,11 @@ module _ (has : ℕ → ℕ → Bool) (R C : ℕ) (g : ℕ → ℕ → ℕ) (cou
       let e : suc r * C ≡ r * C + C = omega arith in
       ap (rank (λ i. has (i / C) (i % C))) e ∙ rank_in_row r (omega arith) (rank_row r (omega arith)) C (omega arith) ∙ sym (counts.next r b)
 
+  -- the rank at a place of the grid is the count before it
   pub rank_at : (r c : ℕ) → r < R → c ≤ C → rank (λ i. has (i / C) (i % C)) (r * C + c) ≡ g r c
   rank_at r c b l = rank_in_row r b (rank_row r b) c l
 
+  -- the rank behind the last place is the count of all
   pub rank_all : 1 ≤ R → rank (λ i. has (i / C) (i % C)) (R * C) ≡ g (R - 1) C
   rank_all h =
       let e : R ≡ suc (R - 1) = omega arith in

@@ -3,6 +3,7 @@ use Rattle.std.proofs.Common.{rules, arith, ◌≡◌, ◌≢◌, ◌+◌, ◌%�
 use Rattle.std.specs.List.{range_with_len}
 use Rattle.sg_laws.specs.Stream.{alternating, sign_of}
 
+-- there are as many signs as are asked for
 pub alternating_length : (s count : ℕ) → length (alternating s count) ≡ count
 alternating_length s zero = refl
 alternating_length s (suc count) = ap suc (alternating_length (s + 1) count)
@@ -18,6 +19,7 @@ same_alternating a b (suc count) e =
     ap (λ x. x ∷ alternating (a + 1) count) (same_sign a b e)
     ∙ ap (λ xs. sign_of b ∷ xs) (same_alternating (a + 1) (b + 1) count (let f : (a + 1) % 2 ≡ (b + 1) % 2 = grind (arith, e) in f))
 
+-- the signs depend on whether the first number is odd alone
 pub alternating_parity : (s count : ℕ) → alternating (s % 2) count ≡ alternating s count
 alternating_parity s count = same_alternating (s % 2) s count (let f : (s % 2) % 2 ≡ s % 2 = grind arith in f)
 
@@ -31,6 +33,7 @@ alternating_even s count e =
     alternating_next s count ∙ ap (λ x. x ∷ alternating (s + 1) count) (same_sign s 0 e)
     ∙ ap (λ xs. pos 1 ∷ xs) (same_alternating (s + 1) 1 count (let f : (s + 1) % 2 ≡ 1 % 2 = grind (arith, e) in f))
 
+-- from an odd number on the first sign is -1
 pub alternating_odd : (s count : ℕ) → s % 2 ≢ 0 → alternating s (count + 1) ≡ negsuc 0 ∷ alternating 0 count
 alternating_odd s count e =
     alternating_next s count ∙ ap (λ x. x ∷ alternating (s + 1) count) (same_sign s 1 (let f : s % 2 ≡ 1 % 2 = grind (arith, e) in f))

@@ -10,6 +10,7 @@ pub drawn_next : (draw : ℕ → ℤ) (count : ℕ) (g : Lcg) → drawn draw (co
 unfolding first_words
 drawn_next draw count g = rw (add-one count) refl
 
+-- there are as many draws as are asked for
 pub drawn_length : (draw : ℕ → ℤ) (count : ℕ) (g : Lcg) → length (drawn draw count g) ≡ count
 unfolding first_words
 drawn_length draw zero g = refl

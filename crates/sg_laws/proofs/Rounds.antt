@@ -5,6 +5,7 @@ use Rattle.std.proofs.Math.Nat.{add-mod_left, mod-eq_of_lt}
 use Rattle.std.proofs.lemmas.List.{get_or_default}
 use Rattle.sg_laws.specs.Stream.{round}
 
+-- there are as many draws as are asked for
 pub round_length : (draws : List ℤ) (place count : ℕ) → length (round draws place count) ≡ count
 round_length draws place zero = refl
 round_length draws place (suc count) = ap suc (round_length draws (place + 1) count)

@@ -15,12 +15,14 @@ same_made f g n d same =
     (λ k l. get_or-map-range_with_len f 0 n k k d l (omega arith) ∙ same k l)
 
 module _ {A : Type 0} where
+  -- there are as many pieces as starts
   pub length-pieces : (items : List A) (starts : List ℕ) → length (pieces items starts) ≡ length starts
   length-pieces items starts = length-map-range_with_len (piece items starts) 0 (length starts)
 
   get_or-pieces : (items : List A) (starts : List ℕ) (i : ℕ) (d : List A) → i < length starts → get_or (pieces items starts) i d ≡ piece items starts i
   get_or-pieces items starts i d l = get_or-map-range_with_len (piece items starts) 0 (length starts) i i d l (omega arith)
 
+  -- the list of pieces has piece i at place i
   pub slice_get-pieces : (items : List A) (starts : List ℕ) (i : ℕ) → i < length starts → slice_get (pieces items starts) i ≡ Some (piece items starts i)
   slice_get-pieces items starts i l =
       slice_get-get_or (pieces items starts) i [] (omega (arith, length-pieces items starts)) ∙ ap Some (get_or-pieces items starts i [] l)
@@ -57,6 +59,7 @@ module _ {A : Type 0} where
       ∙ map-range_with_len_more (piece items starts) 0 (length starts) (length starts) (omega arith)
       ∙ ap (λ (xs : List A). pieces items starts ++ xs ∷ []) (piece_past items starts (length starts) (omega arith))
 
+  -- a start more at the end is one that may stand
   pub starts_opened : (items : List A) (starts : List ℕ) → AreStarts items starts → AreStarts items (starts ++ length items ∷ [])
   starts_opened items starts good = record {
     inside = λ i. omega (arith, start_opened items starts i, good.inside i);
@@ -67,6 +70,7 @@ module _ {A : Type 0} where
   start_kept : (items more : List A) (starts : List ℕ) (i : ℕ) → i < length starts → start_of (items ++ more) starts i ≡ start_of items starts i
   start_kept items more starts i l = get_or_default starts i (length (items ++ more)) (length items) l
 
+  -- starts stay such when items are added
   pub starts_filled : (items more : List A) (starts : List ℕ) → AreStarts items starts → AreStarts (items ++ more) starts
   starts_filled items more starts good = record { inside = inside; rising = λ i. by_case i (cases_lt (i + 1) (length starts)) }
     where
@@ -102,6 +106,7 @@ module _ {A : Type 0} where
       (sym (ap (λ (t : ℕ). take (t - s) (drop s items)) (start_past items starts (i + 1) (omega arith))
       ∙ take_all (length items - s) (drop s items) (omega (arith, length-drop s items))))
 
+  -- items that are added go to the last piece
   pub pieces_filled : (items more : List A) (starts : List ℕ) → AreStarts items starts → 0 < length starts
       → pieces (items ++ more) starts ≡ with_more (pieces items starts) more
   pieces_filled items more starts good some =

@@ -11,6 +11,7 @@ use Rattle.sg_arena.specs.Family.{link_at}
 use Rattle.sg_match.proofs.TopLemmas.{top_of}
 
 module _ (f : Family) (fam : IsFamily f) where
+  -- a child is a node
   pub child_alive : (b i : ℕ) → i < length (cycle_of f b) → IsAlive f (link_at (cycle_of f b) i).node
   child_alive b i low = alive_from_holds f (link_at (cycle_of f b) i).node (link_at (cycle_of f b) i).from ((fam.cycles b (omega arith)).from i low)
 
@@ -23,6 +24,7 @@ module _ (f : Family) (fam : IsFamily f) where
   leaf-only l u low held =
       eqb-true l u (sym (or-false (eqb l u)) ∙ sym (ap (λ o. has_leaf (option_map_or (λ x. x.leaves) o []) u) (fam.leaf_set l low)) ∙ held)
 
+  -- a leaf's own node has no children
   pub leaf-plain : (l : ℕ) → l < leaf_count f → cycle_of f (leaf_node f l) ≡ []
   leaf-plain l low = ap (λ o. option_map_or (λ x. x.cycle) o []) (fam.leaf_set l low)
 

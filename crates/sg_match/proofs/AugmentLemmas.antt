@@ -159,6 +159,7 @@ module _ (f : Family) (cost : ℕ → ℕ → ℕ) (old now : List (Option Edge)
     new_exposed = twice_other unpaired_now tree_edge.outer there tree_edge.inner (Some edge) (Some (flipped edge)) in_out in_there ∙
         twice_first now tree_edge.inner tree_edge.outer None None (names tree_edge.inner top_in) in_out
 
+    -- one tree edge is turned over: the way goes on from its inner top
     pub IsAugmenting-turn : (next : ℕ) → IsTop f next → Holds f next tree_edge.up.to →
         IsAugmenting f cost old paired_now root edges v i next tree_edge.inner (flipped tree_edge.up)
     IsAugmenting-turn next top_next in_next =
@@ -249,6 +250,7 @@ module _ (f : Family) (cost : ℕ → ℕ → ℕ) (old now : List (Option Edge)
     in_root : Holds f root edge.from
     in_root = subst (λ n. Holds f n edge.from) (sym here_root) is.from
 
+    -- at the root the pairing is augmented
     pub IsAugmented-done : length now ≡ length old → IsAugmented f cost old done root v
     IsAugmented-done count =
         record {

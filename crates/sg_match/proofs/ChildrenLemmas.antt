@@ -40,6 +40,7 @@ module _ (f : Family) (fam : IsFamily f) (b start : ℕ) (low_start : start < le
   count : length ring ≡ length cycle
   count = length-rotated start cycle (omega (arith, low_start))
 
+  -- pairs of nodes outside the ring stay
   pub others : (m : ℕ) → ((i : ℕ) → i < length cycle → (link_at cycle i).node ≢ m) → pair_of new m ≡ pair_of old m
   others m away =
       ring_pairs.others m (λ i low same.
@@ -155,6 +156,7 @@ module _ (f : Family) (fam : IsFamily f) (b start : ℕ) (low_start : start < le
         ]
       ]
 
+  -- the children of the blossom are paired inside it, but for the one that has its pair
   pub IsPairedInside-ring : IsPairedInside f new b
   IsPairedInside-ring = record {
     own = λ i low. elim (side i low) [

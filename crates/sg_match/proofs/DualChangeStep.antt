@@ -233,6 +233,7 @@ module _ (s : State) (r delta : ℕ) (engine : IsEngine s) (rooted : s.root ≡ 
       })
       at.0 at.1 at.2 at.3 at.4
 
+  -- a raise changes nothing of the steps that are left
   pub left-raised : steps_left after ≡ steps_left s
   left-raised =
       subst (λ o. tree_left g' s.exposed o s.edges + 2 * blossoms_of g' ≡ tree_left s.family s.exposed o s.edges + 2 * blossoms_of s.family) (sym rooted)
@@ -353,11 +354,13 @@ whole_least f edges n amount delta least =
     ]
 
 module _ (s : State) (r : ℕ) (engine : IsEngine s) (rooted : s.root ≡ Some r) where
+  -- while a top has no pair there is something to come to
   pub HasNearest-engine : HasNearest s.family (cost s.table) r s.edges
   HasNearest-engine =
       HasNearest-tree s.family (cost s.table) s.pairs r s.edges engine.feasible.family engine.paired (tree_of s engine r rooted) engine.feasible s.exposed
       (exposed_of s engine r rooted) (even s engine)
 
+  -- the raise that was found may be made
   pub CanChangeDuals-changed : (event : Event) (amount delta : ℕ) → IsDualChange s r event amount delta →
       CanChangeDuals s.family (cost s.table) r s.edges delta
   CanChangeDuals-changed event amount delta changed =
@@ -416,6 +419,7 @@ pub record IsChangingDuals (s : State) (root : ℕ) (event : Event) (amount give
   pub whole : given ≡ pos (nat_of given)
   pub changed : IsDualChange s root event (nat_of amount) (nat_of given)
 
+-- what a round has found, as one record
 pub IsChangingDuals-made : (s now : State) (root : ℕ) (event : Event) (near reached : List TreeEdge) (amount most delta given : ℤ) → IsEngine s → s ≡ now →
     now.root ≡ Some root → near ≡ s.edges → reached ≡ s.edges → amount ≡ pos (nat_of amount) → most ≡ amount → given ≡ delta →
     IsNearest s.family (cost s.table) root near (nat_of amount) event → IsLeastDual s.family reached (length reached) most delta →
@@ -438,12 +442,15 @@ IsChangingDuals-made s now root event near reached amount most delta given engin
     }
 
 module _ {s : State} {root : ℕ} {event : Event} {amount given : ℤ} (p : IsChangingDuals s root event amount given) where
+  -- the raise may be made
   pub change : CanChangeDuals s.family (cost s.table) root s.edges (nat_of given)
   change = CanChangeDuals-changed s root p.engine p.rooted event (nat_of amount) (nat_of given) p.changed
 
+  -- the duals of the tops may be changed by it
   pub changed_can : CanRaise s.family (outers root s.edges) (inners s.edges) (nat_of given)
   changed_can = CanRaise-engine s root (nat_of given) p.engine p.rooted change
 
+  -- the state after it is sound
   pub changed_engine : IsEngine (after s root (nat_of given) p.engine p.rooted change)
   changed_engine = IsEngine-raised s root (nat_of given) p.engine p.rooted change
       (IsBounded-changed s root p.engine p.rooted event (nat_of amount) (nat_of given) p.changed)

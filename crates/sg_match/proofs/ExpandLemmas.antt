@@ -57,12 +57,14 @@ module _ (s : State) (b : ℕ) (engine : IsEngine s) (inner_zero : IsInnerZero s
     | inr some ↦ record { root = some.0; is = some.1; tree = tree_of s engine some.0 some.1; exposed = exposed_of s engine some.0 some.1 }
   ]
 
+  -- the blossom is one of the inner tops
   pub is_inner : Contains (inners s.edges) b
   is_inner =
       let low : inner_zero.place < length (inners s.edges) = omega (arith, inner_zero.within, length-inners s.edges) in
       subst (λ n. Contains (inners s.edges) n) (inner_at s.edges inner_zero.place inner_zero.within ∙ inner_zero.here)
       (Contains-get_or (inners s.edges) inner_zero.place 0 low)
 
+  -- it is a top
   pub blossom_top : IsTop f b
   blossom_top = subst (λ n. IsTop f n) inner_zero.here (inner_top f rooted.root s.edges rooted.tree.shape inner_zero.place inner_zero.within)
 
@@ -76,6 +78,7 @@ module _ (s : State) (b : ℕ) (engine : IsEngine s) (inner_zero : IsInnerZero s
   -- the ring from a child on
   module _ (base : ℕ) (child : IsChildOf f b base) (ring : List Link)
       (made : (blossom i : ℕ) → IsChildAt f blossom i base → ring ≡ rotated i (cycle_of f blossom)) where
+    -- its cycle, from the base on, is a ring
     pub ring_is : IsRing f price b ring
     ring_is = subst (λ xs. IsRing f price b xs) (sym (made b child.0 child.1))
         (IsRing-rotated f price b child.0 engine.feasible (symmetric s engine) child.1.within)
@@ -91,6 +94,7 @@ module _ (s : State) (b : ℕ) (engine : IsEngine s) (inner_zero : IsInnerZero s
         ∙ ap (λ k. (link_at (cycle_of f b) k).node) start
         ∙ child.1.here
 
+    -- the ring has all its children
     pub ring_has : (n : ℕ) → IsChildOf f b n → Contains (nodes_of ring) n
     ring_has n kid =
         let at = ring_is.seat kid.0 kid.1.within in
@@ -104,6 +108,7 @@ module _ (s : State) (b : ℕ) (engine : IsEngine s) (inner_zero : IsInnerZero s
     names_low : (i : ℕ) → i < length ring → (link_at ring i).node < length s.pairs
     names_low i low = omega (arith, node_bound f price b ring engine.feasible.family blossom_top is i low, engine.room)
 
+    -- the tree has room for the edges of the ring
     pub edges_fit : length s.edges + length ring ≤ length f.nodes
     edges_fit = ring_room f price b ring engine.feasible.family blossom_top is s.pairs rooted.root s.edges rooted.tree
 
@@ -164,6 +169,7 @@ pub record IsFound (s : State) (b at : ℕ) (tree_edge : TreeEdge) : Type 0 wher
   pub here : (edge_at s.edges at).inner ≡ b
   pub read : tree_edge ≡ edge_at s.edges at
 
+-- what was found of the inner blossom, as one record
 pub found : (s t : State) (b at : ℕ) (edges : List TreeEdge) (tree_edge : TreeEdge) → s ≡ t → IsEngine s → IsInnerZero t.family t.edges b →
     edges ≡ s.edges → at < length edges → (edge_at edges at).inner ≡ b → tree_edge ≡ get_or s.edges at tree_edge → IsFound s b at tree_edge
 found s t b at edges tree_edge same engine inner_zero lent low here read =
@@ -177,9 +183,11 @@ found s t b at edges tree_edge same engine inner_zero lent low here read =
     }
 
 module _ {s : State} {b at : ℕ} {tree_edge : TreeEdge} (is : IsFound s b at tree_edge) where
+  -- its pair leads from a leaf of it
   pub pair_held : Holds s.family b tree_edge.pair.from
   pair_held = subst (λ (l : TreeEdge). Holds s.family b l.pair.from) (sym is.read) (pair_in s b is.engine is.inner_zero at is.low is.here)
 
+  -- its tree edge leads from a leaf of it
   pub edge_held : Holds s.family b tree_edge.up.from
   edge_held = subst (λ (l : TreeEdge). Holds s.family b l.up.from) (sym is.read) (edge_in s b is.engine is.inner_zero at is.low is.here)
 
@@ -192,6 +200,7 @@ pub record IsCut (s : State) (b at : ℕ) (tree_edge : TreeEdge) (ring : List Li
   pub at_entry : Holds s.family (link_at ring entry).node (edge_at s.edges at).up.from
   pub facing : (entry ≡ 0) ⊎ IsOdd entry
 
+-- its ring turned the right way, as one record
 pub cut : (s : State) (b at : ℕ) (tree_edge : TreeEdge) (base end : ℕ) (ring lent : List Link) (place : ℕ) (turned_ring : List Link) (entry : ℕ) →
     IsFound s b at tree_edge → IsChildOf s.family b base → Holds s.family base tree_edge.pair.from →
     ((blossom i : ℕ) → IsChildAt s.family blossom i base → ring ≡ rotated i (cycle_of s.family blossom)) → Holds s.family end tree_edge.up.from →
@@ -213,12 +222,15 @@ cut s b at tree_edge base end ring lent place turned_ring entry is child holds_b
     }
 
 module _ {s : State} {b at : ℕ} {tree_edge : TreeEdge} {ring : List Link} {entry : ℕ} (is : IsCut s b at tree_edge ring entry) where
+  -- the tree has room for the edges of the ring
   pub ring_fits : length s.edges + length ring ≤ length s.family.nodes
   ring_fits = edges_fit s b is.found.engine is.found.inner_zero ring is.is
 
+  -- the nodes of the ring differ
   pub ring_differs : (lent : List Link) → lent ≡ ring → Differ (nodes_of lent)
   ring_differs lent same = subst (λ xs. Differ (nodes_of xs)) (sym same) (names_differ s b is.found.engine is.found.inner_zero ring is.is)
 
+  -- they have names that the pairs have entries for
   pub ring_named : (lent : List Link) (pairs : List (Option Edge)) → lent ≡ ring → pairs ≡ s.pairs → (i : ℕ) → i < length lent →
       (link_at lent i).node < length pairs
   ring_named lent pairs same own = subst (λ ps. (i : ℕ) → i < length lent → (link_at lent i).node < length ps) (sym own)

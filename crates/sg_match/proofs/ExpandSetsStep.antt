@@ -164,6 +164,7 @@ module _ (f : Family) (b : ℕ) (fam : IsFamily f) (top : IsTop f b) (blossom : 
           subst (λ n. Pairing n p) (hit.2 ∙ kid.2) (in_ring hit.0 hit.1 p (ap (λ n. pair_of now n) (hit.2 ∙ kid.2) ∙ at))
     ]
 
+    -- the pairs after the blossom is taken apart are pairs of tops
     pub IsPaired-expanded : IsPaired g good now
     unfolding Pairing
     IsPaired-expanded =

@@ -38,6 +38,7 @@ module _ (f : Family) (cost : ℕ → ℕ → ℕ) (b : ℕ) (ring : List Link) 
   node_out : (t : ℕ) → IsTop f t → (i : ℕ) → i < length ring → (link_at ring i).node ≢ t
   node_out t is_top i low same = let k = is.kid i low in top-no_child f fam t b k.0 is_top k.1 (k.2 ∙ same)
 
+  -- the nodes of the ring have names below the room
   pub node_bound : (i : ℕ) → i < length ring → (link_at ring i).node < length f.nodes
   node_bound i low = name_bound f (link_at ring i).node (alive_from_holds f (link_at ring i).node (link_at ring i).from (is.cycle.from i low))
 
@@ -165,6 +166,7 @@ module _ (f : Family) (cost : ℕ → ℕ → ℕ) (pairs now : List (Option Edg
             (is.back i low_i),
       ))
 
+  -- taken apart, the family stays feasible
   pub IsFeasible-expand : IsFeasible g cost
   IsFeasible-expand = IsFeasible-expanded f cost b feasible top blossom inner_zero room
 
@@ -318,6 +320,7 @@ module _ (f : Family) (cost : ℕ → ℕ → ℕ) (pairs now : List (Option Edg
             absurd (out (get_or (inners edges) i 0) (tree.shape.tops.inner_tops i low_i) 0 zero_low (sym c.1 ∙ sym same ∙ a.1))
         pick i j low_i low_j (inr a) (inr c) same = tree.shape.tops.inner_differ i j low_i low_j (sym a.1 ∙ same ∙ c.1)
 
+    -- the children may go into the tree in its place
     pub CanExpandTree-expand : (entry ≡ 0) ⊎ IsOdd entry → CanExpandTree g cost now root edges ring at entry
     CanExpandTree-expand facing =
         record {

@@ -26,6 +26,7 @@ pub record IsExpandingEdge (g : Family) (cost : ℕ → ℕ → ℕ) (now : List
 
 module _ (g : Family) (cost : ℕ → ℕ → ℕ) (now : List (Option Edge)) (root : ℕ) (old : List TreeEdge) (ring : List Link) (at entry : ℕ)
     (can : CanExpandTree g cost now root old ring at entry) where
+  -- the first child is put in the place of the blossom
   pub IsExpandingEdge-init : (edges : List TreeEdge) (i : ℕ) → edges ≡ set old at (with_inner (link_at ring 0).node (edge_at old at)) →
       ((entry ≡ 0) × (i ≡ length ring)) ⊎ ((entry ≢ 0) × (i ≡ entry)) → IsExpandingEdge g cost now root edges ring at i
   IsExpandingEdge-init edges i made (inl none) =
@@ -46,6 +47,7 @@ module _ (g : Family) (cost : ℕ → ℕ → ℕ) (now : List (Option Edge)) (r
         state = subst (λ xs. IsExpandingTree g cost now root xs ring at entry) (sym made) can.wanting;
       }
 
+  -- at the end of the ring the tree is one again
   pub IsExpandingEdge-done : (edges : List TreeEdge) (place i : ℕ) → i ≤ length ring → length ring ≤ i + 1 →
       IsExpandingEdge g cost now root edges ring place i → IsTree g cost now root edges
   IsExpandingEdge-done edges place i within end is = elim is.at [
@@ -53,6 +55,7 @@ module _ (g : Family) (cost : ℕ → ℕ → ℕ) (now : List (Option Edge)) (r
     | inr ahead ↦ absurd (omega (arith, is.odd, can.can.closed.odd, ahead.0, end))
   ]
 
+  -- two children more go into the tree
   pub IsExpandingEdge-insert_before : (edges new : List TreeEdge) (place i : ℕ) → i + 1 < length ring → IsExpandingEdge g cost now root edges ring place i →
       IsInserted edges new place (new_edge (edge_at edges place) (link_at ring i) (link_at ring (i + 1)))
       (hung_edge (edge_at edges place) (link_at ring (i + 1))) → IsExpandingEdge g cost now root new ring (place + 1) (i + 2)

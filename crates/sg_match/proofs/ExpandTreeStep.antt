@@ -150,6 +150,7 @@ module _ (g : Family) (cost : ℕ → ℕ → ℕ) (now : List (Option Edge)) (r
           plus : (n : ℕ) → suc n ≡ n + 1
           plus n = omega arith
 
+  -- the tree after two children more
   pub IsExpandingTree-insert_before : IsExpandingTree g cost now root new ring (place + 1) next
   IsExpandingTree-insert_before = record {
     place_low = omega (arith, is.place_low, insert_before.count);

@@ -221,12 +221,15 @@ module _ (f : Family) (table : Table) (pairs : List (Option Edge)) (exposed : Li
   reached : IsTightOuterFree (with_tree f table pairs exposed (Some root) edges) root u v
   reached = subst (λ (x : Option ℕ). IsTightOuterFree (with_tree f table pairs exposed x edges) root u v) here.root_is here.tight_edge
 
+  -- the root is a top
   pub root_top : IsTop f root
   root_top = rooted.tree.shape.tops.outer_tops 0 (omega (arith, length-outers root edges))
 
+  -- the two ends of a tree edge are tops
   pub edge_tops : (i : ℕ) → i < length edges → HasTops f (edge_at edges i)
   edge_tops = tops f table pairs exposed root edges rooted
 
+  -- there are fewer tree edges than names
   pub edge_fits : length edges < length f.nodes
   edge_fits = edge_room f root edges rooted.tree.shape
 
@@ -234,9 +237,11 @@ module _ (f : Family) (table : Table) (pairs : List (Option Edge)) (exposed : Li
     pair_here : pair_of pairs top ≡ Some pair
     pair_here = subst (λ (x : State). pair_of x.pairs top ≡ Some pair) (sym is) has_pair
 
+    -- the pair leads to a leaf
     pub pair_leaf : pair.to < leaf_count f
     pair_leaf = pair_low f table pairs exposed root edges rooted u v top reached here.is_top here.held pair pair_here
 
+    -- the state after the tree has grown is sound
     pub grown : (outer : ℕ) → IsTop f outer → Holds f outer pair.to →
         IsAfter (with_tree f table pairs exposed o (edges ++ grown_edge u v top outer pair ∷ [])) s
     grown outer top_outer pair_to =

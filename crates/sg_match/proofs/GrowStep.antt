@@ -50,6 +50,7 @@ module _ (f : Family) (cost : ℕ → ℕ → ℕ) (pairs : List (Option Edge)) 
   outer_old : (j : ℕ) → j < length (outers root edges) → get_or (outers root more) j 0 ≡ get_or (outers root edges) j 0
   outer_old j low = ap (λ xs. get_or xs j 0) outers_are ∙ get_or_append_left (outers root edges) (tree_edge.outer ∷ []) 0 j low
 
+  -- a tight edge to a pair outside makes the tree longer by it
   pub IsTree-grown : IsTree f cost pairs root more
   IsTree-grown =
       record {

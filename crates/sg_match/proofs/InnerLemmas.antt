@@ -18,6 +18,7 @@ some_cycle f n not = go (cycle_of f n) not
     go [] empty = absurd (empty refl)
     go (x ∷ xs) some = omega arith
 
+-- what has no cycle is no blossom
 pub no_cycle : (f : Family) (n : ℕ) → cycle_of f n ≡ [] → IsBlossom f n → ⊥
 no_cycle f n none blossom = absurd (omega (arith, blossom, ap length none))
 
@@ -31,6 +32,7 @@ IsBest f edges n None = (node : ℕ) → (o : IsInnerZero f edges node) → o.pl
 IsBest f edges n (Some name) = IsLeastBelow f edges n name
 
 module _ (f : Family) (edges : List TreeEdge) where
+  -- before the first inner top none is found
   pub IsBest-init : IsBest f edges 0 None
   IsBest-init = λ node o low. omega (arith, low)
 
@@ -45,6 +47,7 @@ module _ (f : Family) (edges : List TreeEdge) where
         | inr differ ↦ omega (arith, low, differ)
       ]
 
+  -- an inner top that is no blossom of dual 0 is passed over
   pub IsBest-skip : (n : ℕ) (best : Option ℕ) → ((IsBlossom f (edge_at edges n).inner × (dual_of f (edge_at edges n).inner ≡ 0)) → ⊥) →
       IsBest f edges n best → IsBest f edges (n + 1) best
   IsBest-skip n None not none = λ node o low. none node o (below n not node o low)
@@ -83,10 +86,12 @@ module _ (f : Family) (edges : List TreeEdge) where
             | inr differ ↦ omega (arith, less name refl, old.least node o (omega (arith, low, differ)))
           ]
 
+  -- what is found at the end is the least
   pub IsBest-some : (best : Option ℕ) → IsBest f edges (length edges) best → IfSome best (IsLeastInnerZero f edges)
   IsBest-some None none = tt
   IsBest-some (Some name) some = record { inner_zero = some.inner_zero; least = λ other o. some.least other o o.within }
 
+  -- where nothing is found there is none
   pub IsBest-none : (best : Option ℕ) → IsBest f edges (length edges) best → IfNone best ((node : ℕ) → IsInnerZero f edges node → ⊥)
   IsBest-none None none = λ node o. none node o o.within
   IsBest-none (Some name) some = tt
@@ -98,9 +103,11 @@ pub record IsLeastDual (f : Family) (edges : List TreeEdge) (n : ℕ) (most leas
   pub one : (least ≡ most) ⊎ ((i : ℕ) × (i < n) × IsBlossom f (edge_at edges i).inner × (least ≡ pos (dual_of f (edge_at edges i).inner)))
 
 module _ (f : Family) (edges : List TreeEdge) where
+  -- before the first inner top the bound stands
   pub IsLeastDual-init : (most : ℤ) → IsLeastDual f edges 0 most most
   IsLeastDual-init most = record { within = omega (arith, ints); duals = λ i low _. absurd (omega (arith, low)); one = inl refl }
 
+  -- an inner top that is no blossom is passed over
   pub IsLeastDual-skip : (n : ℕ) (most least : ℤ) → (IsBlossom f (edge_at edges n).inner → ⊥) → IsLeastDual f edges n most least →
       IsLeastDual f edges (n + 1) most least
   IsLeastDual-skip n most least not is =
@@ -113,6 +120,7 @@ module _ (f : Family) (edges : List TreeEdge) where
         one = elim is.one [ inl same ↦ inl same | inr at ↦ inr (at.0, omega (arith, at.1), at.2, at.3) ];
       }
 
+  -- the lesser of the bound and a blossom's dual is the new one
   pub IsLeastDual-take : (n : ℕ) (most least new : ℤ) → IsBlossom f (edge_at edges n).inner → new ≤ℤ least →
       new ≤ℤ pos (dual_of f (edge_at edges n).inner) → (new ≡ least) ⊎ (new ≡ pos (dual_of f (edge_at edges n).inner)) → IsLeastDual f edges n most least →
       IsLeastDual f edges (n + 1) most new
@@ -129,6 +137,7 @@ module _ (f : Family) (edges : List TreeEdge) where
         ];
       }
 
+-- the lesser of two numbers is one of them
 pub min_cases : (x y : ℤ) → (int_min x y ≡ x) ⊎ (int_min x y ≡ y)
 min_cases x y = go (int_lt y x)
   where

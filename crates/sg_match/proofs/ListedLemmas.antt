@@ -26,6 +26,7 @@ pub record ListsBelow (f : Family) (names : List ℕ) (count : ℕ) : Type 0 whe
   pub every : (t : ℕ) → IsTop f t → t < count → Stands names t
 
 module _ (f : Family) where
+  -- before the first name no top is listed
   pub ListsBelow-init : ListsBelow f [] 0
   ListsBelow-init = record {
     tops = λ k none. absurd (omega arith);
@@ -35,9 +36,11 @@ module _ (f : Family) where
   }
 
   module _ (names : List ℕ) (count : ℕ) (was : ListsBelow f names count) where
+    -- no more tops are listed than names were seen
     pub below_room : length names ≤ count
     below_room = short names count was.differ was.below
 
+    -- a name that is no top is passed over
     pub ListsBelow-skip : (IsTop f count → ⊥) → ListsBelow f names (count + 1)
     ListsBelow-skip no_top = record {
       tops = was.tops;
@@ -49,6 +52,7 @@ module _ (f : Family) where
       ];
     }
 
+    -- a top is listed
     pub ListsBelow-more : IsTop f count → ListsBelow f (names ++ count ∷ []) (count + 1)
     ListsBelow-more top = record {
       tops = λ k low. elim (at_end names count 0 k low) [
@@ -66,6 +70,7 @@ module _ (f : Family) where
       ];
     }
 
+    -- after the last name all tops are listed, each once
     pub ListsTops-done : (fam : IsFamily f) → length f.nodes ≤ count → ListsTops f names
     ListsTops-done fam whole = record {
       tops = was.tops;
@@ -85,10 +90,12 @@ module _ (f : Family) (fam : IsFamily f) (pairs : List (Option Edge)) (nodes : L
       let mine = own k low in
       subst (λ (x : Edge). Holds f (get_or nodes k 0) x.from) (same_Some _ _ (sym mine.is ∙ is)) mine.from
 
+  -- a pair leads from a leaf
   pub written_low : (k : ℕ) (p : Edge) → k < length nodes → pair_of pairs (get_or nodes k 0) ≡ Some p → p.from < leaf_count f
   written_low k p low is = leaf_bound f fam (get_or nodes k 0) p.from (own_from k p low is)
 
   module _ (mates : List ℕ) (k : ℕ) (low : k < length nodes) (was : IsWriting f pairs nodes mates k) where
+    -- a blossom has no mate to write
     pub IsWriting-blossom : (cycle_of f (get_or nodes k 0) ≡ [] → ⊥) → IsWriting f pairs nodes mates (k + 1)
     IsWriting-blossom some = record {
       count = was.count;
@@ -98,6 +105,7 @@ module _ (f : Family) (fam : IsFamily f) (pairs : List (Option Edge)) (nodes : L
       ];
     }
 
+    -- the mate of a leaf is the other end of its pair
     pub IsWriting-leaf : cycle_of f (get_or nodes k 0) ≡ [] → (p : Edge) → pair_of pairs (get_or nodes k 0) ≡ Some p →
         IsWriting f pairs nodes (set mates p.from p.to) (k + 1)
     IsWriting-leaf leaf p is = record {

@@ -56,6 +56,7 @@ module _ (root : ℕ) (edges : List TreeEdge) where
     whole-count : length whole ≡ length named
     whole-count = length-set half (edge_at edges i).outer Outer ∙ length-set named (edge_at edges i).inner Inner
 
+    -- the marks of the two tops of one tree edge more
     pub Seen-edge : (t : ℕ) → t < length (set (set named (edge_at edges i).inner Inner) (edge_at edges i).outer Outer) →
         Seen root edges (i + 1) t (get_or (set (set named (edge_at edges i).inner Inner) (edge_at edges i).outer Outer) t Free)
     Seen-edge t less =

@@ -197,6 +197,7 @@ module _ (f : Family) (cost : ℕ → ℕ → ℕ) (symmetric : (u v : ℕ) → 
             ])
       ])
 
+  -- pairs of all sets make a matching that leaves each set once
   pub is_matching : (mates : List ℕ) → length mates ≡ leaf_count f →
       ((n : ℕ) (p : Edge) → IsAlive f n → cycle_of f n ≡ [] → pair_of pairs n ≡ Some p → get_or mates p.from 0 ≡ p.to) → IsMatching f cost mates
   is_matching mates count written =

@@ -19,6 +19,7 @@ use Rattle.sg_match.specs.Rings.{rotated}
 use Rattle.sg_match.specs.MatePairs.{HasOwn, IsPairedInside, AreMatePairs, ListsTops}
 use Rattle.sg_match.specs.declared.Edge.{Edge}
 
+-- what stands in a list stands in a longer one
 pub Stands-left : (xs ys : List ℕ) (n : ℕ) → Stands xs n → Stands (xs ++ ys) n
 Stands-left xs ys n at = (at.0, omega (arith, at.1, length-append xs ys), get_or_append_left xs ys 0 at.0 at.1 ∙ at.2)
 
@@ -91,6 +92,7 @@ own_top f good pairs paired all t top = elim (cases_option (pair_of pairs t)) [
 ]
 
 module _ (f : Family) (fam : IsFamily f) (old : List (Option Edge)) where
+  -- at the start the list has the tops, whose pairs are known
   pub IsDeriving-init : (nodes : List ℕ) → ListsTops f nodes → ((t : ℕ) → IsTop f t → HasOwn f old t) → IsDeriving f old old nodes 0
   IsDeriving-init nodes lists own = record {
     count = refl;
@@ -105,6 +107,7 @@ module _ (f : Family) (fam : IsFamily f) (old : List (Option Edge)) where
   }
 
   module _ (pairs : List (Option Edge)) (nodes : List ℕ) (next : ℕ) (was : IsDeriving f old pairs nodes next) where
+    -- the list has nodes alone
     pub entry_alive : (k : ℕ) → k < length nodes → IsAlive f (get_or nodes k 0)
     entry_alive k low = let own = was.own k low in alive_from_holds f (get_or nodes k 0) own.pair.from own.from
 
@@ -118,6 +121,7 @@ module _ (f : Family) (fam : IsFamily f) (old : List (Option Edge)) where
         subst (λ d. Stands nodes (link_at (cycle_of f d) i).node) at.2
         (was.listed at.0 i (omega (arith, at.1, end)) (subst (λ d. i < length (cycle_of f d)) (sym at.2) low)))
 
+    -- at its end all sets have a pair
     pub AreMatePairs-done : length nodes ≤ next → AreMatePairs f old pairs
     AreMatePairs-done end = record {
       own = λ n alive. let at = all_listed end n alive in subst (λ m. HasOwn f pairs m) at.2 (was.own at.0 at.1);
@@ -223,6 +227,7 @@ module _ (f : Family) (fam : IsFamily f) (old : List (Option Edge)) where
                   (omega (arith, low_start)),
             )
 
+        -- the children of a blossom, paired, come behind the others
         pub IsDeriving-blossom : (new : List (Option Edge)) → length new ≡ length pairs → IsPairedInside f new b →
             ((n : ℕ) → ((i : ℕ) → i < length (cycle_of f b) → (link_at (cycle_of f b) i).node ≢ n) → pair_of new n ≡ pair_of pairs n) →
             IsDeriving f old new (nodes ++ kids) (next + 1)

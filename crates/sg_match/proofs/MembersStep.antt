@@ -60,6 +60,7 @@ module _ (old new : List Member) (leaf : ℕ) (total : ℤ) (mark : Mark) (marks
   abbrev joining : Member
   joining = record { leaf = leaf; total = total }
 
+  -- members stay marked when a leaf joins them
   pub AreMarked-joined : AreMarked old marks → AreMarked new marks
   AreMarked-joined was = elim joined [
     | inl at ↦ subst (λ xs. AreMarked xs marks) (sym at.1) (λ i within. elim (at_end old joining no_member i within) [
@@ -69,6 +70,7 @@ module _ (old new : List Member) (leaf : ℕ) (total : ℤ) (mark : Mark) (marks
     | inr same ↦ subst (λ xs. AreMarked xs marks) (sym same.1) was
   ]
 
+  -- the totals agree with them still
   pub Agree-joined : Agree old totals → Agree new totals
   Agree-joined was = elim joined [
     | inl at ↦ subst (λ xs. Agree xs totals) (sym at.1) (λ i within. elim (at_end old joining no_member i within) [
@@ -111,6 +113,7 @@ module _ (old new : List Member) (leaf : ℕ) (total : ℤ) (mark : Mark) (marks
         | inr a ↦ (length old, longer, ap (λ (m : Member). m.leaf) a.1)
       ]
 
+  -- each marked leaf up to this one is a member
   pub every-joined : ((u : ℕ) → u < leaf → mark_at marks u ≡ Outer → IsMember old u) → (u : ℕ) → u < leaf + 1 → mark_at marks u ≡ Outer → IsMember new u
   every-joined was u less outer = elim (below_next u leaf less) [
     | inl before ↦ member-stays u (was u before outer)
@@ -120,6 +123,7 @@ module _ (old new : List Member) (leaf : ℕ) (total : ℤ) (mark : Mark) (marks
 -- what is known in the tree is so in the tables, and the other way round
 module _ (f : Family) (root : ℕ) (edges : List TreeEdge) (tops : List ℕ) (totals : List ℤ) (marks : List Mark) (members : List Member)
     (listed : IsListed f tops totals) (marked : IsMarked f root edges marks) where
+  -- members that are marked as outer are outer leaves, with their totals
   pub AreOuter-marked : AreMarked members marks → Agree members totals → AreOuter f root edges members
   AreOuter-marked outer agree =
       record {
@@ -130,6 +134,7 @@ module _ (f : Family) (root : ℕ) (edges : List TreeEdge) (tops : List ℕ) (to
         total = λ i low. sym (agree i low) ∙ listed.total (member_at members i).leaf (omega (arith, (outer i low).0, marked.count));
       }
 
+  -- outer leaves that are members agree with the totals
   pub Agree-known : AreOuter f root edges members → AreMarked members marks → Agree members totals
   Agree-known known outer = λ i low.
       listed.total (member_at members i).leaf (omega (arith, (outer i low).0, marked.count)) ∙ sym (known.total i low)
@@ -153,6 +158,7 @@ module _ (f : Family) (cost : ℕ → ℕ → ℕ) (r : ℕ) (edges : List TreeE
       let at = place_of_any (λ t. holds f t (member_at members i).leaf) (outers r edges) 0 (known.outer i low) in
       total_outer f cost r edges delta fam can (get_or (outers r edges) at.0 0) (member_at members i).leaf at.0 at.1 refl at.2
 
+  -- the members' totals have room for the raise
   pub TotalsFit-raised : TotalsFit (pos delta) members
   TotalsFit-raised i low =
       omega (arith, ints, known.total i low, total-known i low, total-raised f (outers r edges) (inners edges) delta fam can (member_at members i).leaf)
@@ -164,6 +170,7 @@ module _ (f : Family) (cost : ℕ → ℕ → ℕ) (r : ℕ) (edges : List TreeE
   within : (i : ℕ) → i < length (grown (pos delta) members) → i < length members
   within i low = omega (arith, low, length-map {B = Member} members (λ (m : Member). (record { leaf = m.leaf; total = m.total +ℤ pos delta })))
 
+  -- after the raise they are outer leaves with their new totals
   pub AreOuter-raised : AreOuter g r edges (grown (pos delta) members)
   AreOuter-raised =
       record {

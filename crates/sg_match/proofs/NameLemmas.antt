@@ -36,6 +36,7 @@ Differ-append xs ys dx dy apart i j low_i low_j same =
       ]
     ]
 
+-- two different names differ
 pub Differ-two : (a b : ℕ) → a ≢ b → Differ (a ∷ b ∷ [])
 Differ-two a b apart zero zero i j same = refl
 Differ-two a b apart zero (suc zero) i j same = absurd (apart same)
@@ -45,6 +46,7 @@ Differ-two a b apart (suc zero) (suc zero) i j same = refl
 Differ-two a b apart (suc zero) (suc (suc j)) i low same = absurd (omega (arith, low))
 Differ-two a b apart (suc (suc i)) j low k same = absurd (omega (arith, low))
 
+-- a list of two has these two alone
 pub Contains-two : (a b n : ℕ) → Contains (a ∷ b ∷ []) n → (n ≡ a) ⊎ (n ≡ b)
 Contains-two a b n (zero, low, at) = inl (sym at)
 Contains-two a b n (suc zero, low, at) = inr (sym at)

@@ -165,6 +165,7 @@ module _ (f : Family) (table : Table) (root : ℕ) (edges : List TreeEdge) (tops
         omega (arith, between, same, costs.even u v pair.u_leaf pair.v_leaf, feasible.slack u v low_u low_v) in
         ((cost table u v - duals_between f u v) / 2, slack_is u v low_u low_v pair.apart ∙ ap pos (sym whole))
 
+    -- the tables of the leaves may be scanned
     pub CanScan-listed : (t v : ℕ) → IsTop f t → IsOut root edges t → Holds f t v → CanScan table tops totals marks
     CanScan-listed t v top out held =
         let low = leaf_bound f fam t v held in
@@ -220,6 +221,7 @@ module _ (f : Family) (table : Table) (root : ℕ) (edges : List TreeEdge) (tops
         slack = omega (arith, ints, at.1, slack_is u v low_u low_v pair.apart, feasible.slack u v low_u low_v);
       }
 
+  -- what the scans give is the amount of the raise, and what stops it
   pub IsNearest-scanned : (amount : ℕ) (event : Event) → IsScanned table tops totals marks amount event → IsNearest f (cost table) root edges amount event
   IsNearest-scanned amount event scanned =
       record {

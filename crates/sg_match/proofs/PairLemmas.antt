@@ -13,9 +13,11 @@ use Rattle.sg_match.specs.declared.Edge.{Edge}
 pub twice_other : (pairs : List (Option Edge)) (s t n : ℕ) (a b : Option Edge) → n ≢ s → n ≢ t → pair_of (set (set pairs s a) t b) n ≡ pair_of pairs n
 twice_other pairs s t n a b away_s away_t = get_or-set_other (set pairs s a) t n b None away_t ∙ get_or-set_other pairs s n a None away_s
 
+-- after two pairs are set the second has its own
 pub twice_second : (pairs : List (Option Edge)) (s t : ℕ) (a b : Option Edge) → t < length pairs → pair_of (set (set pairs s a) t b) t ≡ b
 twice_second pairs s t a b low = get_or-set_same (set pairs s a) t b None (omega (arith, low, length-set {A = Option Edge}))
 
+-- and so has the first
 pub twice_first : (pairs : List (Option Edge)) (s t : ℕ) (a b : Option Edge) → s < length pairs → s ≢ t → pair_of (set (set pairs s a) t b) s ≡ a
 twice_first pairs s t a b low away = get_or-set_other (set pairs s a) t s b None away ∙ get_or-set_same pairs s a None low
 
@@ -26,6 +28,7 @@ module _ (f : Family) (good : ℕ → ℕ → Type 0) (pairs : List (Option Edge
       let m = paired.other t p top_t is in
       subst (λ n. pair_of pairs n ≡ Some (flipped p)) (top-apart f fam m.0 s p.to m.1 top_s m.3 held) m.4
 
+  -- a top's pair leads to another top
   pub mate_differs : (t s : ℕ) (p : Edge) → IsTop f t → IsTop f s → pair_of pairs t ≡ Some p → Holds f s p.to → s ≢ t
   mate_differs t s p top_t top_s is held same =
       let m = paired.other t p top_t is in

@@ -48,6 +48,7 @@ module _ (f : Family) (cost : ℕ → ℕ → ℕ) (pairs : List (Option Edge)) 
       ((tree.shape.edge m within).pair_to) in
       last ∙ sym pair ∙ inside ∙ edge_up ∙ above
 
+  -- the totals of two outer leaves have one parity
   pub tree_parity : (i j u v w : ℕ) → Holds f r w → i < length (outers r edges) → j < length (outers r edges) → Holds f (get_or (outers r edges) i 0) u →
       Holds f (get_or (outers r edges) j 0) v → total_of f u % 2 ≡ total_of f v % 2
   tree_parity i j u v w in_w low_i low_j in_u in_v =

@@ -32,6 +32,7 @@ module _ (f : Family) (cost : ℕ → ℕ → ℕ) (r : ℕ) (edges : List TreeE
   abbrev g : Family
   g = raised f outer inner delta
 
+  -- a raise changes no set
   pub held : (n l : ℕ) → holds g n l ≡ holds f n l
   held n l = ap (λ xs. has_leaf xs l) (leaves-raised f outer inner delta fam can n)
 
@@ -61,6 +62,7 @@ module _ (f : Family) (cost : ℕ → ℕ → ℕ) (r : ℕ) (edges : List TreeE
         | inr none ↦ absurd (none.0 i low at)
       ]
 
+  -- totals of leaves in inner tops fall by the amount
   pub total_inner : (t l i : ℕ) → i < length inner → get_or inner i 0 ≡ t → Holds f t l → total_of g l + delta ≡ total_of f l
   total_inner t l i low at in_t =
       elim (cases_in outer t) [
@@ -79,6 +81,7 @@ module _ (f : Family) (cost : ℕ → ℕ → ℕ) (r : ℕ) (edges : List TreeE
         ]
       ]
 
+  -- totals of leaves outside the tree stay
   pub total_free : (t l : ℕ) → IsTop f t → IsOut r edges t → Holds f t l → total_of g l ≡ total_of f l
   total_free t l top out in_t =
       elim (cases_in outer t) [
@@ -91,6 +94,7 @@ module _ (f : Family) (cost : ℕ → ℕ → ℕ) (r : ℕ) (edges : List TreeE
         ]
       ]
 
+  -- between two tops the duals that count are the totals of both leaves
   pub between_after : (s t u v : ℕ) → IsTop f s → IsTop f t → s ≢ t → Holds f s u → Holds f t v → duals_between g u v ≡ total_of g u + total_of g v
   between_after s t u v top_s top_t differ in_s in_t =
       between-tops g (IsFamily-raised f outer inner delta fam can) s t u v (IsTop-raised f outer inner delta fam can s top_s)
@@ -325,6 +329,7 @@ pub record CanTree (f : Family) (cost : ℕ → ℕ → ℕ) : Type 0 where
   pub triangle : (u v w : ℕ) → u < leaf_count f → v < leaf_count f → w < leaf_count f → cost u w ≤ cost u v + cost v w
   pub small : (u v : ℕ) → u < leaf_count f → v < leaf_count f → cost u v ≤ 2 ^ 61
 
+-- the tops of a tree may be raised by an amount that is found
 pub CanRaise-tree : (f : Family) (cost : ℕ → ℕ → ℕ) (pairs : List (Option Edge)) (r : ℕ) (edges : List TreeEdge) (delta : ℕ) → IsFeasible f cost →
     IsPaired f (IsTight f cost) pairs → IsTree f cost pairs r edges → CanChangeDuals f cost r edges delta → CanTree f cost → (w free : ℕ) → IsTop f w →
     IsOut r edges w → Holds f w free → CanRaise f (outers r edges) (inners edges) delta

@@ -144,6 +144,7 @@ pub record IsFacing (f : Family) (cost : ℕ → ℕ → ℕ) (b : ℕ) (ring : 
   pub first : (link_at turned_ring 0).node ≡ (link_at ring 0).node
   pub there : (link_at turned_ring place).node ≡ (link_at ring entry).node
 
+-- a ring turned so that its entry lies on an even way faces the right way
 pub IsFacing-from : (f : Family) (cost : ℕ → ℕ → ℕ) (b : ℕ) (ring : List Link) (entry : ℕ) (turned_ring : List Link) (place : ℕ) → IsRing f cost b ring →
     entry < length ring → IsTurned ring entry turned_ring place → IsFacing f cost b ring entry turned_ring place
 IsFacing-from f cost b ring entry turned_ring place is low (inl same) =

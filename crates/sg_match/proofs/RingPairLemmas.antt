@@ -28,6 +28,7 @@ module _ (old : List (Option Edge)) (ring : List Link) (pair : Edge) (some : 0 <
       away (differ i j (omega (arith, low_i, length-nodes ring)) (omega (arith, low_j, length-nodes ring))
       (node_at_place ring i low_i ∙ same ∙ sym (node_at_place ring j low_j)))
 
+  -- at the start the first node has the blossom's pair
   pub IsRingPairedTo-init : IsRingPairedTo old (set old (link_at ring 0).node (Some pair)) ring pair 0
   IsRingPairedTo-init = record {
     same = length-set old (link_at ring 0).node (Some pair);
@@ -37,6 +38,7 @@ module _ (old : List (Option Edge)) (ring : List Link) (pair : Edge) (some : 0 <
     others = λ n away. get_or-set_other old (link_at ring 0).node n (Some pair) None (λ same. away 0 some (sym same));
   }
 
+  -- two nodes more are paired along their link
   pub IsRingPairedTo-more : (now : List (Option Edge)) (count : ℕ) → 2 * count + 2 < length ring → IsRingPairedTo old now ring pair count →
       IsRingPairedTo old (set (set now (link_at ring (2 * count + 1)).node (Some (edge_of (link_at ring (2 * count + 1)))))
       (link_at ring (2 * count + 2)).node (Some (flipped (edge_of (link_at ring (2 * count + 1)))))) ring pair (count + 1)
@@ -83,6 +85,7 @@ module _ (old : List (Option Edge)) (ring : List Link) (pair : Edge) (some : 0 <
       kept k in_k away_s away_t = twice_other now s t (link_at ring k).node (Some edge) (Some (flipped edge)) (apart k (2 * count + 1) in_k in_s away_s)
           (apart k (2 * count + 2) in_k low away_t)
 
+  -- at the end the ring is paired
   pub IsRingPaired-done : (now : List (Option Edge)) (count : ℕ) → length ring ≤ 2 * count + 2 → IsRingPairedTo old now ring pair count →
       IsRingPaired old now ring pair
   IsRingPaired-done now count whole was = record {

@@ -16,18 +16,21 @@ use Rattle.sg_match.specs.Rings.{rotated}
 abbrev pub wrapped : ℕ → ℕ → ℕ → ℕ
 wrapped n i j = cond {A = ℕ} (ltb (i + j) n) (i + j) (i + j - n)
 
+-- a place counted round a ring is the sum, or that less the length
 pub cases_wrapped : (n i j : ℕ) → ((i + j < n) × (wrapped n i j ≡ i + j)) ⊎ ((n ≤ i + j) × (wrapped n i j ≡ i + j - n))
 cases_wrapped n i j = elim (cases_lt (i + j) n) [
   | inl low ↦ inl (low, rw (lt-ltb (i + j) n low) refl)
   | inr high ↦ inr (high, rw (le-ltb (i + j) n high) refl)
 ]
 
+-- it is a place of the ring
 pub wrapped-within : (n i j : ℕ) → i < n → j < n → wrapped n i j < n
 wrapped-within n i j low_i low_j = elim (cases_wrapped n i j) [
   | inl at ↦ omega (arith, at.0, at.1)
   | inr at ↦ omega (arith, at.0, at.1)
 ]
 
+-- different steps lead to different places
 pub wrapped-differ : (n i j k : ℕ) → i < n → j < n → k < n → wrapped n i j ≡ wrapped n i k → j ≡ k
 wrapped-differ n i j k low_i low_j low_k same = elim (cases_wrapped n i j) [
   | inl a ↦ elim (cases_wrapped n i k) [
@@ -57,6 +60,7 @@ wrapped-after n i j low_i low_j =
         ((n ≤ i + next) × (there ≡ i + next - n)) → after ≡ there
     after_all w after next there at_w at_after at_next at_there = grind (arith, at_w, at_after, at_next, at_there, low_i, low_j)
 
+-- a ring read from another place is as long
 pub length-rotated : (i : ℕ) (c : List Link) → i ≤ length c → length (rotated i c) ≡ length c
 length-rotated i c low =
     omega (arith, length-append (drop i c) (take i c), length-drop i c, length-take-le i c low)
@@ -94,6 +98,7 @@ from_ring i c k low_i low_k =
     let at = unwrapped (length c) i k low_i low_k in
     (at.0, omega (arith, at.1, length-rotated i c (omega (arith, low_i))), link_at-rotated i c at.0 low_i at.1 ∙ ap (λ m. link_at c m) at.2)
 
+-- each of its places is one of the ring
 pub to_ring : (i : ℕ) (c : List Link) (j : ℕ) → i < length c → j < length (rotated i c) → (k : ℕ) × (k < length c) × (link_at c k ≡ link_at (rotated i c) j)
 to_ring i c j low_i low_j =
     let low : j < length c = omega (arith, low_j, length-rotated i c (omega (arith, low_i))) in
@@ -220,6 +225,7 @@ module _ (f : Family) (fam : IsFamily f) (blossom i child : ℕ) (at : IsChildAt
               absurd (differs (sym turning.here.here ∙ ap (λ k. (link_at (cycle_of f blossom) k).node) back ∙ at.here))
         ]
 
+    -- one child more on the way round
     pub IsTurning-more : next ≢ child → (after : ℕ) (link : Link) → link ≡ link_at (cycle_of f blossom) turning.place →
         IsChildAt f blossom (after_index (length (cycle_of f blossom)) turning.place) after → IsTurning f blossom i (ring ++ link ∷ []) after
     IsTurning-more differs after link is follows =

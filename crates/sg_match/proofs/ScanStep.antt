@@ -28,10 +28,12 @@ half_is z n is fits =
 pub less_is : (x y : ℤ) (a b : ℕ) → x ≡ pos a → y ≡ pos b → lt_z x y ≡ true → a < b
 less_is x y a b is_x is_y test = omega (arith, ints, is_x, is_y, test)
 
+-- signed numbers that are not less, as natural ones
 pub not_less_is : (x y : ℤ) (a b : ℕ) → x ≡ pos a → y ≡ pos b → lt_z x y ≡ false → b ≤ a
 not_less_is x y a b is_x is_y test = omega (arith, ints, is_x, is_y, test)
 
 module _ (t : Table) (tops : List ℕ) (totals : List ℤ) (marks : List Mark) where
+  -- the amount is that of a pair of an outer and a free leaf
   pub IsScanned-free : (free : Pair) (both : Option Pair) (amount : ℕ) → IsLeast t totals (IsOuterFree t marks) free → free.slack ≡ pos amount →
       Least t totals (IsOuterOuter t tops marks) both → ((q : Pair) → both ≡ Some q → pos (2 * amount) ≤ℤ q.slack) →
       IsScanned t tops totals marks amount (OuterFree free.u free.v)
@@ -47,6 +49,7 @@ module _ (t : Table) (tops : List ℕ) (totals : List ℤ) (marks : List Mark) w
       go None none less u v pair = absurd (none u v pair)
       go (Some q) found less u v pair = omega (arith, ints, less q refl, found.least u v pair)
 
+  -- the amount is half the slack of two outer leaves
   pub IsScanned-both : (free both : Pair) (amount : ℕ) → IsLeast t totals (IsOuterFree t marks) free → IsLeast t totals (IsOuterOuter t tops marks) both →
       both.slack ≡ pos (2 * amount) → pos amount ≤ℤ free.slack → IsScanned t tops totals marks amount (OuterOuter both.u both.v)
   IsScanned-both free both amount least least_both is less =

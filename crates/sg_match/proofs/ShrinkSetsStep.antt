@@ -52,6 +52,7 @@ path_at f (l ∷ rest) head tail (suc i) low p =
       last = λ e. at.last (omega (arith, e));
     }
 
+-- a path begins at its head
 pub path_head : (f : Family) (path : List Link) (head tail : ℕ) → 0 < length path → IsPath f path head tail → (link_at path 0).node ≡ head
 path_head f [] head tail low p = absurd (omega (arith, low))
 path_head f (l ∷ rest) head tail low p = p.0
@@ -178,6 +179,7 @@ module _ (f : Family) (cost : ℕ → ℕ → ℕ) (b : ℕ) (cycle : List Link)
     base_top : IsTop f base
     base_top = subst (λ n. IsTop f n) is_base (can.tops place at)
 
+    -- the pairs after the shrink are pairs of tops
     pub IsPaired-shrunk : IsPaired g (IsTight g cost) now
     IsPaired-shrunk =
         record {

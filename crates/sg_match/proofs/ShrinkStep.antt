@@ -48,6 +48,7 @@ module _ (s : State) (root : ℕ) (engine : IsEngine s) (rooted : s.root ≡ Som
   tree : IsTree f price s.pairs root s.edges
   tree = tree_of s engine root rooted
 
+  -- all tree edges are tight
   pub all_tight : HasTight f price s.edges
   all_tight = record {
     up = tree.up_tight;
@@ -65,6 +66,7 @@ module _ (s : State) (root : ℕ) (engine : IsEngine s) (rooted : s.root ≡ Som
   ]
 
   module _ (cycle : List Link) (place base : ℕ) (tree_cycle : IsTreeCycle f root s.edges cycle place base base) where
+    -- the cycle may be made a blossom
     pub can : CanShrink f cycle
     can = CanShrink-tree_cycle f root s.edges cycle place base tree_cycle
 
@@ -77,6 +79,7 @@ module _ (s : State) (root : ℕ) (engine : IsEngine s) (rooted : s.root ≡ Som
     base_in : Contains (nodes_of cycle) base
     base_in = subst (λ n. Contains (nodes_of cycle) n) base_first (node_in cycle 0 some)
 
+    -- the base has a name that the pairs have an entry for
     pub base_low : base < length s.pairs
     base_low = omega (arith, name_bound f base (subst (λ n. IsTop f n) base_first (can.tops 0 some)).alive, engine.room)
 
@@ -159,6 +162,7 @@ module _ (s : State) (root : ℕ) (engine : IsEngine s) (rooted : s.root ≡ Som
           let at = place_in cycle n is in
           new_holds f b cycle fam can dead room at.0 l at.1 (subst (λ m. Holds f m l) (sym at.2) held)
 
+      -- the tree edges of the cycle may go
       pub CanShrinkTree-shrunk : CanShrinkTree g (nodes_of cycle) base b s.edges
       CanShrinkTree-shrunk = record {
         top = IsTop-shrink f b cycle fam can dead room;
@@ -236,6 +240,7 @@ module _ (s : State) (root : ℕ) (engine : IsEngine s) (rooted : s.root ≡ Som
             at.2 in
             list_any_at (λ t. holds g t l) (outers top_root new) here.0 0 here.1 here.2
 
+        -- members stay outer leaves with their totals
         pub known-shrunk : (h : Family) → h ≡ g → (members : List Member) → AreOuter f root s.edges members → AreOuter h top_root new members
         known-shrunk h made members known =
             subst (λ x. AreOuter x top_root new members) (sym made)

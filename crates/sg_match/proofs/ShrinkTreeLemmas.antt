@@ -26,6 +26,7 @@ pub record IsShrinkingTree (nodes : List ℕ) (base blossom : ℕ) (old now : Li
   pub every : (j : ℕ) → i ≤ j → j < length old → (Contains nodes (edge_at old j).inner → ⊥) → (k : ℕ) × (i ≤ k) × (k < length now) × (at k ≡ j)
 
 module _ (nodes : List ℕ) (base blossom : ℕ) (old : List TreeEdge) where
+  -- at the start no tree edge is gone
   pub IsShrinkingTree-init : IsShrinkingTree nodes base blossom old old (length old)
   IsShrinkingTree-init = record {
     at = λ k. k;
@@ -44,6 +45,7 @@ module _ (nodes : List ℕ) (base blossom : ℕ) (old : List TreeEdge) where
     every = λ j from low. absurd (omega (arith, from, low));
   }
 
+  -- at the end all of the cycle are
   pub IsShrunkTree-done : (now : List TreeEdge) → IsShrinkingTree nodes base blossom old now 0 → IsShrunkTree blossom base nodes old now
   IsShrunkTree-done now is = record {
     at = is.at;

@@ -308,6 +308,7 @@ module _ (f : Family) (cost : ℕ → ℕ → ℕ) (b : ℕ) (cycle : List Link)
         (subst (λ (x : Edge). Holds f (edge_at edges (reg.at k)).outer x.to) (sym (reg.pair k low))
         ((tree.shape.edge (reg.at k) (reg.low k low)).pair_to))))
 
+    -- what is left is a tree, with the blossom as an outer top
     pub IsTree-shrunk : IsTree g cost now top_root new
     IsTree-shrunk =
         record {

@@ -80,6 +80,7 @@ module _ (s : State) (engine : IsEngine s) (bare : s.root ≡ None) (r : ℕ) (a
       let v = some_leaf s.family fam t top.alive in
       (t, v.0, top, away, v.1)
 
+  -- while another top has no pair there is something to come to
   pub HasNearest-exposed : HasNearest s.family (cost s.table) r s.edges
   HasNearest-exposed =
       let w = some_leaf s.family fam r top_r.alive in
@@ -100,6 +101,7 @@ module _ (s : State) (engine : IsEngine s) (bare : s.root ≡ None) (r : ℕ) (a
     size : (u : ℕ) → u < leaf_count s.family → u < s.table.size
     size u low_u = omega (arith, low_u, engine.leaves)
 
+    -- the unpaired top may be raised
     pub can : CanRaise s.family (outers r s.edges) (inners s.edges) delta
     can =
         CanRaise-tree s.family (cost s.table) s.pairs r s.edges delta engine.feasible engine.paired tree change
@@ -124,14 +126,17 @@ module _ (s : State) (engine : IsEngine s) (bare : s.root ≡ None) (r : ℕ) (a
       edges = s.edges;
     }
 
+    -- that is one step at most
     pub steps-started : after.family.steps ≤ s.family.steps + 1
     steps-started = omega (arith, raise_steps-most delta)
 
+    -- the steps that are left stay
     pub left-started : steps_left after ≡ steps_left s
     left-started =
         subst (λ o. tree_left g s.exposed o s.edges + 2 * blossoms_of g ≡ tree_left s.family s.exposed o s.edges + 2 * blossoms_of s.family)
         (sym bare) (omega (arith, blossoms-raised s.family (outers r s.edges) (inners s.edges) delta))
 
+    -- the state after it is sound
     pub IsEngine-started : s.family.steps + steps_left s + 1 ≤ 2 * s.table.size * s.table.size → IsEngine after
     IsEngine-started spare =
         record {
@@ -157,6 +162,7 @@ pub record IsStarting (s : State) (r : ℕ) (event : Event) (amount given : ℤ)
   pub less : nat_of given ≤ nat_of amount
   pub spare : s.family.steps + steps_left s + 1 ≤ 2 * s.table.size * s.table.size
 
+-- what the start of a tree has found, as one record
 pub IsStarting-made : (s : State) (r : ℕ) (event : Event) (amount delta given : ℤ) → IsEngine s → s.root ≡ None → Stands s.exposed r →
     IsNearest s.family (cost s.table) r s.edges (nat_of amount) event → given ≡ delta → pos 0 ≤ℤ delta → delta ≤ℤ amount →
     s.family.steps + steps_left s + 1 ≤ 2 * s.table.size * s.table.size → IsStarting s r event amount given
@@ -172,11 +178,14 @@ IsStarting-made s r event amount delta given engine bare at near same whole less
     }
 
 module _ {s : State} {r : ℕ} {event : Event} {amount given : ℤ} (p : IsStarting s r event amount given) where
+  -- the top may be raised by it
   pub started_can : CanRaise s.family (outers r s.edges) (inners s.edges) (nat_of given)
   started_can = can s p.engine p.bare r p.at event (nat_of amount) (nat_of given) p.near p.less
 
+  -- the state after it is sound
   pub started_engine : IsEngine (after s p.engine p.bare r p.at event (nat_of amount) (nat_of given) p.near p.less)
   started_engine = IsEngine-started s p.engine p.bare r p.at event (nat_of amount) (nat_of given) p.near p.less p.spare
 
+  -- the steps that are left stay
   pub started_left : steps_left (after s p.engine p.bare r p.at event (nat_of amount) (nat_of given) p.near p.less) ≡ steps_left s
   started_left = left-started s p.engine p.bare r p.at event (nat_of amount) (nat_of given) p.near p.less

@@ -16,6 +16,7 @@ use Rattle.sg_match.specs.Steps.{blossoms_of, has_children, rest_of}
 use Rattle.sg_match.specs.Tree.{any_top, outers}
 use Rattle.sg_match.specs.declared.TreeEdge.{TreeEdge}
 
+-- a test that one entry fails more counts fewer
 pub count_by-one_fewer : (p q : ℕ → Bool) (xs : List ℕ) (k : ℕ) → k < length xs → ((x : ℕ) → p x ≡ true → q x ≡ true) → p (get_or xs k 0) ≡ false →
     q (get_or xs k 0) ≡ true → count_by p xs + 1 ≤ count_by q xs
 count_by-one_fewer p q xs k low sub out is =
@@ -27,6 +28,7 @@ count_by-one_fewer p q xs k low sub out is =
     at_most true false sub = absurd (false≢true (sub refl))
     at_most false b sub = omega arith
 
+-- a shrink makes one blossom more
 pub blossoms-shrunk : (f : Family) (b : ℕ) (cycle : List Link) → node_at f b ≡ None → b < length f.nodes → 0 < length cycle →
     blossoms_of (with_slot f b (Some (blossom_of f cycle))) ≡ blossoms_of f + 1
 blossoms-shrunk f b cycle dead room some =
@@ -41,6 +43,7 @@ blossoms-shrunk f b cycle dead room some =
     one [] less = absurd (omega (arith, less))
     one (l ∷ rest) less = refl
 
+-- an expansion makes one fewer
 pub blossoms-expanded : (f : Family) (b : ℕ) → IsBlossom f b → b < length f.nodes → blossoms_of (with_slot f b None) + 1 ≡ blossoms_of f
 blossoms-expanded f b blossom room =
     omega (arith, sum_by-set (λ o. cond (has_children o) 1 0) f.nodes b None None room, go (node_at f b) blossom)
@@ -66,6 +69,7 @@ rest-fewer f g r s old new same more =
     (count_by-mono (λ l. not (any_top g (outers s new) l)) (λ l. not (any_top f (outers r old) l))
     (λ l. turn (any_top f (outers r old) l) (any_top g (outers s new) l) (more l)) (range_with_len 0 (leaf_count f)))
 
+-- a leaf that has become outer is one fewer to come
 pub rest-one_fewer : (f g : Family) (r s : ℕ) (old new : List TreeEdge) (leaf : ℕ) → leaf_count g ≡ leaf_count f → leaf < leaf_count f →
     ((l : ℕ) → any_top f (outers r old) l ≡ true → any_top g (outers s new) l ≡ true) → any_top f (outers r old) leaf ≡ false →
     any_top g (outers s new) leaf ≡ true → rest_of g s new + 1 ≤ rest_of f r old

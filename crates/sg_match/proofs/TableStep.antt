@@ -56,11 +56,13 @@ module _ (f : Family) (cost : ℕ → ℕ → ℕ) (r : ℕ) (edges : List TreeE
           } in
           listed.total leaf low ∙ ap pos (sym (total_free f cost r edges delta fam can (get_or tops leaf 0) leaf (listed.top leaf low) out in_top))
 
+  -- the new totals fit 64 bits
   pub moved-fits : (leaf : ℕ) → leaf < length totals → FitsSigned w64 (moved_total (mark_at marks leaf) (total_at totals leaf) (pos delta))
   moved-fits leaf low =
       subst (λ z. FitsSigned w64 z) (sym (moved-is leaf (omega (arith, low, listed.total_count))))
       (omega (arith, ints, total-raised f (outers r edges) (inners edges) delta fam can leaf))
 
+  -- the tables of the leaves after a raise
   pub IsListed-raised : (new : List ℤ) → length new ≡ length totals →
       ((leaf : ℕ) → leaf < length totals → total_at new leaf ≡ moved_total (mark_at marks leaf) (total_at totals leaf) (pos delta)) → IsListed g tops new
   IsListed-raised new count moved =
@@ -83,9 +85,11 @@ pub record IsMoving (f : Family) (r : ℕ) (edges : List TreeEdge) (given : ℤ)
 -- over the tables that are lent
 module _ {f : Family} {r : ℕ} {edges : List TreeEdge} {given : ℤ} {tops : List ℕ} {totals : List ℤ} {marks : List Mark}
     (p : IsMoving f r edges given tops totals marks) (lent : List ℤ) (marks_lent : List Mark) (same : lent ≡ totals) (same_marks : marks_lent ≡ marks) where
+  -- there are as many marks as totals
   pub moving-count : length marks_lent ≡ length lent
   moving-count = ap (λ ms. length ms) same_marks ∙ p.marked.count ∙ sym p.listed.total_count ∙ ap (λ xs. length xs) (sym same)
 
+  -- the new totals fit 64 bits
   pub moving-fits : (leaf : ℕ) → leaf < length lent → FitsSigned w64 (moved_total (mark_at marks_lent leaf) (total_at lent leaf) given)
   moving-fits =
       subst (λ xs. (leaf : ℕ) → leaf < length xs → FitsSigned w64 (moved_total (mark_at marks_lent leaf) (total_at xs leaf) given)) (sym same)
@@ -93,6 +97,7 @@ module _ {f : Family} {r : ℕ} {edges : List TreeEdge} {given : ℤ} {tops : Li
       (subst (λ z. (leaf : ℕ) → leaf < length totals → FitsSigned w64 (moved_total (mark_at marks leaf) (total_at totals leaf) z)) (sym p.whole)
       (moved-fits f (λ u v. 0) r edges (nat_of given) p.fam p.can tops totals marks p.listed p.marked)))
 
+  -- the tables after a raise, in the terms of the code
   pub IsListed-moved : (new stored : List ℤ) (g : Family) → length new ≡ length lent →
       ((leaf : ℕ) → leaf < length lent → total_at new leaf ≡ moved_total (mark_at marks_lent leaf) (total_at lent leaf) given) → stored ≡ new →
       g ≡ raised f (outers r edges) (inners edges) (nat_of given) → IsListed g tops stored
@@ -171,12 +176,14 @@ module _ {f : Family} {b : ℕ} {cycle : List Link} {g : Family} {tops : List �
   abbrev new_family : Family
   new_family = with_slot f b (Some (blossom_of f cycle))
 
+  -- each top listed is a node after the shrink
   pub lifting-alive : (leaf : ℕ) → leaf < length lent → IsAlive g (get_or lent leaf 0)
   lifting-alive =
       subst (λ x. (leaf : ℕ) → leaf < length lent → IsAlive x (get_or lent leaf 0)) (sym p.made)
       (subst (λ xs. (leaf : ℕ) → leaf < length xs → IsAlive new_family (get_or xs leaf 0)) (sym same)
       (alive-lifted f b cycle p.fam p.can p.dead p.room tops totals p.listed))
 
+  -- the tables after a shrink
   pub lifting-listed : (new stored : List ℕ) → length new ≡ length lent →
       ((leaf : ℕ) → leaf < length lent → IsLifted g (get_or lent leaf 0) (get_or new leaf 0)) → stored ≡ new → IsListed g stored totals
   lifting-listed new stored count lifted is =
@@ -221,12 +228,14 @@ pub record IsParting (f : Family) (b : ℕ) (g : Family) (tops : List ℕ) (tota
 
 -- over the table that is lent
 module _ {f : Family} {b : ℕ} {g : Family} {tops : List ℕ} {totals : List ℤ} (p : IsParting f b g tops totals) (lent : List ℕ) (same : lent ≡ tops) where
+  -- all leaves but those of the blossom have their tops
   pub parting-others : HasTopsBut g b lent
   parting-others =
       subst (λ x. HasTopsBut x b lent) (sym p.made)
       (subst (λ xs. HasTopsBut (with_slot f b None) b xs) (sym same)
       (others-parted f b p.fam p.top p.blossom p.flat p.room tops totals p.listed))
 
+  -- the tables after an expansion
   pub parting-listed : (new stored : List ℕ) → length new ≡ length lent → HasTops g (length lent) new → stored ≡ new → IsListed g stored totals
   parting-listed new stored count now is =
       subst (λ x. IsListed x stored totals) (sym p.made)

@@ -39,6 +39,7 @@ module _ (f : Family) (fam : IsFamily f) (l : ℕ) (low : l < leaf_count f) wher
         )
       ]
 
+  -- each leaf lies in a top
   pub top_of : (t : ℕ) × IsTop f t × Holds f t l
   top_of =
       let b = widest (length f.nodes) in (

@@ -32,6 +32,7 @@ module _ (f : Family) (cost : ℕ → ℕ → ℕ) where
             (ty (i - length xs) (omega (arith, low, b, length-append xs ys)))
       ]
 
+  -- a single tight link
   pub AreTight-one : (a : Link) → IsTight f cost a.from a.to → AreTight f cost (a ∷ [])
   AreTight-one a ta zero low = ta
   AreTight-one a ta (suc i) low = absurd (omega (arith, low))
@@ -55,10 +56,12 @@ module _ (f : Family) (cost : ℕ → ℕ → ℕ) where
         (leaf_bound f fam (edge_at edges i).inner (edge_at edges i).up.from (shape.up_from i within))
         (leaf_bound f fam (get_or (outers root edges) up.0 0) (edge_at edges i).up.to up.2)) (tight.up i within)
 
+    -- two tight links more at the tail
     pub AreTight-tail : (cycle : List Link) → AreTight f cost cycle → AreTight f cost (cycle ++ down_link (edge_at edges i) ∷ up_link (edge_at edges i) ∷ [])
     AreTight-tail cycle t = AreTight-append cycle (down_link (edge_at edges i) ∷ up_link (edge_at edges i) ∷ []) t
         (AreTight-two (down_link (edge_at edges i)) (up_link (edge_at edges i)) pair_back (tight.up i within))
 
+    -- two tight links more at the head
     pub AreTight-head : (cycle : List Link) (head : ℕ) → AreTight f cost cycle →
         AreTight f cost (step_link head (edge_at edges i) ∷ pair_link (edge_at edges i) ∷ cycle)
     AreTight-head cycle head t = AreTight-append (step_link head (edge_at edges i) ∷ pair_link (edge_at edges i) ∷ []) cycle
@@ -209,6 +212,7 @@ module _ (f : Family) (root : ℕ) (edges : List TreeEdge) (fam : IsFamily f) (s
       in_out : tree_edge.outer ≢ tree_edge.inner
       in_out e = shape.tops.apart (suc i) i low_out low_in (outer_at root edges i within ∙ e ∙ sym (inner_at edges i within))
 
+      -- the path goes on over one tree edge at its tail
       pub IsTreeCycle-tail : IsTreeCycle f root edges (cycle ++ more) i head next
       IsTreeCycle-tail =
           record {
@@ -325,6 +329,7 @@ module _ (f : Family) (root : ℕ) (edges : List TreeEdge) (fam : IsFamily f) (s
       head_in [] odd p = absurd (omega (arith, odd))
       head_in (l ∷ rest) odd p = (0, omega arith, p.0)
 
+      -- the path goes on over one tree edge at its head
       pub IsTreeCycle-head : IsTreeCycle f root edges longer i next tail
       IsTreeCycle-head =
           record {

@@ -13,22 +13,28 @@ use Rattle.sg_match.specs.Tree.{IsOut, IsShape, IsTree, blank_tree_edge, inners,
 use Rattle.sg_match.specs.declared.Edge.{Edge}
 use Rattle.sg_match.specs.declared.TreeEdge.{TreeEdge}
 
+-- there is one outer top more than tree edges
 pub length-outers : (r : ℕ) (edges : List TreeEdge) → length (outers r edges) ≡ suc (length edges)
 length-outers r edges = ap suc (length-map edges (λ l. l.outer))
 
+-- there are as many inner tops as tree edges
 pub length-inners : (edges : List TreeEdge) → length (inners edges) ≡ length edges
 length-inners edges = length-map edges (λ l. l.inner)
 
+-- inner top i is that of tree edge i
 pub inner_at : (edges : List TreeEdge) (i : ℕ) → i < length edges → get_or (inners edges) i 0 ≡ (edge_at edges i).inner
 inner_at edges i low = get_or-map (λ l. l.inner) edges i blank_tree_edge 0 low
 
+-- outer top i + 1 is that of tree edge i
 pub outer_at : (r : ℕ) (edges : List TreeEdge) (i : ℕ) → i < length edges → get_or (outers r edges) (suc i) 0 ≡ (edge_at edges i).outer
 outer_at r edges i low = get_or-map (λ l. l.outer) edges i blank_tree_edge 0 low
 
 module _ (f : Family) (r : ℕ) (edges : List TreeEdge) (shape : IsShape f r edges) where
+  -- an inner top is a top
   pub inner_top : (i : ℕ) → i < length edges → IsTop f (edge_at edges i).inner
   inner_top i low = subst (λ n. IsTop f n) (inner_at edges i low) (shape.tops.inner_tops i (omega (arith, low, length-inners edges)))
 
+  -- an outer top is a top
   pub outer_top : (i : ℕ) → i < length edges → IsTop f (edge_at edges i).outer
   outer_top i low = subst (λ n. IsTop f n) (outer_at r edges i low) (shape.tops.outer_tops (suc i) (omega (arith, low, length-outers r edges)))
 
@@ -42,9 +48,11 @@ module _ (f : Family) (r : ℕ) (edges : List TreeEdge) (shape : IsShape f r edg
   )
 
   module _ (fam : IsFamily f) (i : ℕ) (low : i < length edges) where
+    -- a tree edge leads up from a leaf
     pub up_leaf : (edge_at edges i).up.from < leaf_count f
     up_leaf = leaf_bound f fam (edge_at edges i).inner (edge_at edges i).up.from (shape.up_from i low)
 
+    -- the pair of an inner top leads to a leaf
     pub pair_leaf : (edge_at edges i).pair.to < leaf_count f
     pair_leaf = leaf_bound f fam (edge_at edges i).outer (edge_at edges i).pair.to ((shape.edge i low).pair_to)
 
@@ -68,9 +76,11 @@ outer_cases r edges (suc j) low = let within : j < length edges = omega (arith, 
 
 module _ (f : Family) (cost : ℕ → ℕ → ℕ) (pairs : List (Option Edge)) (r : ℕ) (edges : List TreeEdge) (fam : IsFamily f)
     (paired : IsPaired f (IsTight f cost) pairs) (tree : IsTree f cost pairs r edges) where
+  -- the pairs in the tree are tight
   pub pair_tight : (i : ℕ) → i < length edges → IsTight f cost (edge_at edges i).pair.from (edge_at edges i).pair.to
   pair_tight i low = paired.tight (edge_at edges i).inner (edge_at edges i).pair (inner_top f r edges tree.shape i low) (tree.pair i low)
 
+  -- an outer top has the pair of its inner top, the other way round
   pub outer_pair : (i : ℕ) → i < length edges → pair_of pairs (edge_at edges i).outer ≡ Some (flipped (edge_at edges i).pair)
   outer_pair i low = mate_is f (IsTight f cost) pairs fam paired (edge_at edges i).inner (edge_at edges i).outer (edge_at edges i).pair
       (inner_top f r edges tree.shape i low) (outer_top f r edges tree.shape i low) (tree.pair i low) ((tree.shape.edge i low).pair_to)

@@ -150,7 +150,7 @@ impl Model for Engine {
 
     ghost view = { λ e. record { family = e.arena; table = e.near.table; pairs = e.pairs.items; exposed = e.exposed.items; root = e.root; edges = e.edges.items } };
 
-    ghost use Rattle.sg_match.specs.Rooms.{IsRoomy};
+    ghost use Rattle.sg_match.specs.Rooms.{KeepsTables};
 
-    ghost invariant = { λ e. IsEngine (record { family = e.arena; table = e.near.table; pairs = e.pairs.items; exposed = e.exposed.items; root = e.root; edges = e.edges.items }) × IsRoomy e };
+    ghost invariant = { λ e. IsEngine (record { family = e.arena; table = e.near.table; pairs = e.pairs.items; exposed = e.exposed.items; root = e.root; edges = e.edges.items }) × KeepsTables e };
 }

@@ -63,6 +63,7 @@ module _ (f : Family) where
         (λ x l. ap (λ b. cond b (dual_of f x) 0) (false_from_ne_true (strictly_within f n x && holds f x leaf)
         (λ h. (let p = below_parts f n leaf x h in p.1 (least_set leaf x low p.2 p.0)))))
 
+    -- a leaf is noted at its own node, with no duals inside
     pub Climbing-start : (leaf : ℕ) (lists : List (List Member)) → leaf < leaf_count f → length lists ≡ length f.nodes →
         Climbing leaf (get_or f.leaf_nodes leaf 0) 0 lists
         (set lists (get_or f.leaf_nodes leaf 0) (list_at lists (get_or f.leaf_nodes leaf 0) ++ (record { leaf = leaf; inner = 0 }) ∷ []))
@@ -118,6 +119,7 @@ module _ (f : Family) where
           ))))
           ∙ sym (inner_and_own f at leaf held)
 
+      -- on the way up the leaf is noted at the next set, with the duals passed
       pub Climbing-step : (inner : ℕ) (old now : List (List Member)) → length old ≡ length f.nodes → Climbing leaf at inner old now →
           Climbing leaf p (inner + dual_of f at) old (set now p (list_at now p ++ (record { leaf = leaf; inner = inner + dual_of f at }) ∷ []))
       Climbing-step inner old now rooms h =
@@ -144,6 +146,7 @@ module _ (f : Family) where
                 (sym sum) each;
           }
 
+      -- each set on the way up has more leaves than the one before
       pub room_falls : leaf_count f - length (leaves_of f p) < leaf_count f - length (leaves_of f at)
       room_falls =
           omega (
@@ -156,9 +159,11 @@ module _ (f : Family) where
             length-range_with_len 0 (leaf_count f),
           )
 
+    -- the duals on the way up stay within the bound of totals
     pub Climbing-bound : (leaf at inner : ℕ) (old now : List (List Member)) → Climbing leaf at inner old now → inner + dual_of f at ≤ 2 ^ 61
     Climbing-bound leaf at inner old now h = omega (arith, h.sum, inner_total f at leaf h.held, fam.bounded leaf)
 
+    -- at a top the leaf is noted at all sets that hold it
     pub Climbing-top : (leaf at inner : ℕ) (old now : List (List Member)) → IsTop f at → Climbing leaf at inner old now → Climbed f leaf old now
     Climbing-top leaf at inner old now top h = record {
       count = h.count;
@@ -172,6 +177,7 @@ module _ (f : Family) where
     pub count : length lists ≡ length f.nodes
     pub each : (s : ℕ) → list_at lists s ≡ map (member_of f s) (chosen_below (holds f s) k)
 
+  -- before the first leaf all lists are empty
   pub AreMembersBelow-none : AreMembersBelow 0 (replicate (length f.nodes) [])
   AreMembersBelow-none = record { count = length-replicate (length f.nodes) []; each = empty (length f.nodes) }
     where
@@ -181,6 +187,7 @@ module _ (f : Family) where
         | inr high ↦ get_or_past (replicate n []) s [] (let l : length {A = List Member} (replicate n []) ≡ n = length-replicate n [] in omega arith)
       ]
 
+  -- after one climb more the lists have one leaf more
   pub AreMembersBelow-more : (k : ℕ) (old new : List (List Member)) → AreMembersBelow k old → Climbed f k old new → AreMembersBelow (k + 1) new
   AreMembersBelow-more k old new h c = record {
     count = c.count ∙ h.count;
@@ -196,5 +203,6 @@ module _ (f : Family) where
       mapped s true = refl
       mapped s false = refl
 
+  -- after the last climb each list has the leaves of its set, with the duals inside
   pub AreMembersBelow-all : IsFamily f → (lists : List (List Member)) → AreMembersBelow (leaf_count f) lists → AreMembers f lists
   AreMembersBelow-all fam lists h = record { count = h.count; each = λ s. h.each s ∙ ap (map (member_of f s)) (sym (fam.in_order s)) }

@@ -14,6 +14,7 @@ least_by g [] = 0
 least_by g (x ∷ []) = g x
 least_by g (x ∷ y ∷ ys) = min (g x) (least_by g (y ∷ ys))
 
+-- the least over a list is at most the value of each entry
 pub least_bounds : (g : ℕ → ℕ) (xs : List ℕ) (x : ℕ) → has_leaf xs x ≡ true → least_by g xs ≤ g x
 least_bounds g [] x h = absurd (false≢true h)
 least_bounds g (z ∷ []) x h = elim (or_cases (eqb z x) (has_leaf [] x) h) [
@@ -25,6 +26,7 @@ least_bounds g (z ∷ y ∷ ys) x h = elim (or_cases (eqb z x) (has_leaf (y ∷ 
   | inr there ↦ let r : least_by g (y ∷ ys) ≤ g x = least_bounds g (y ∷ ys) x there in omega arith
 ]
 
+-- the least over a list that is not empty is the value of some entry
 pub least_reached : (g : ℕ → ℕ) (xs : List ℕ) → 0 < length xs → (x : ℕ) × (has_leaf xs x ≡ true) × (g x ≡ least_by g xs)
 least_reached g [] h = absurd (omega arith)
 least_reached g (x ∷ []) h = (x, has_head x [], refl)
@@ -35,6 +37,7 @@ least_reached g (x ∷ y ∷ ys) h = pick (cases_lt (g x) (least_by g (y ∷ ys)
     pick (inl l) r = (x, has_head x (y ∷ ys), omega arith)
     pick (inr l) r = (r.0, or_right (eqb x r.0) (has_leaf (y ∷ ys) r.0) r.1, omega (arith, r.2))
 
+-- functions that agree on a list have one least there
 pub least_same : (g h : ℕ → ℕ) (xs : List ℕ) → ((x : ℕ) → has_leaf xs x ≡ true → g x ≡ h x) → least_by g xs ≡ least_by h xs
 least_same g h [] e = refl
 least_same g h (x ∷ []) e = e x (has_head x [])
@@ -70,9 +73,11 @@ module _ (dist far : ℕ → ℕ → ℕ) (a b w : ℕ) where
   twice_near : (t k : ℕ) → k < 2 * w → (twice_to t (suc k) ≤ twice_to t k + 1) × (twice_to t k ≤ twice_to t (suc k) + 1)
   twice_near t k l = (omega arith, omega arith)
 
+  -- at the first end of the edge it is twice the distance there
   pub twice_at_a : (t : ℕ) → dist t a ≤ dist t b + w → twice_to t 0 ≡ 2 * dist t a
   twice_at_a t h = omega arith
 
+  -- at the other end it is twice the distance there
   pub twice_at_b : (t : ℕ) → dist t b ≤ dist t a + w → twice_to t (2 * w) ≡ 2 * dist t b
   twice_at_b t h = omega arith
 
@@ -81,6 +86,7 @@ module _ (dist far : ℕ → ℕ → ℕ) (a b w : ℕ) where
     abbrev pub reach : ℕ → ℕ → ℕ
     reach s k = least_by (λ t. twice_to t k - inner_of f s t) (leaves_of f s)
 
+    -- over one unit step a set's reach changes by at most 1
     pub reach_near : (s : ℕ) → 0 < length (leaves_of f s) → (k : ℕ) → k < 2 * w → Near (reach s k) (reach s (suc k))
     reach_near s some k l = (
       least_near (λ t. twice_to t k - inner_of f s t) (λ t. twice_to t (suc k) - inner_of f s t) (leaves_of f s) some
@@ -116,15 +122,18 @@ module _ (dist far : ℕ → ℕ → ℕ) (a b w : ℕ) where
         apart_from : (g g' d d' r r' y y' far : ℕ) → d - r ≡ g → d' - r' ≡ g' → 2 * far ≤ d + d' → (r + y) + (r' + y') ≤ 2 * far → y + y' ≤ g + g'
         apart_from g g' d d' r r' y y' far e e' l h = omega arith
 
+    -- sets far enough apart reach no common point
     pub stands_apart : (s s' : ℕ) → 0 < length (leaves_of f s) → 0 < length (leaves_of f s') → ((t u : ℕ) → Holds f s t → Holds f s' u → Spans t u) →
         ((t u : ℕ) → Holds f s t → Holds f s' u → (inner_of f s t + dual_of f s) + (inner_of f s' u + dual_of f s') ≤ 2 * far t u) →
         Stands (dual_of f) reach (2 * w) s s'
     stands_apart s s' some some' spans h = disjoint (beside s s' some some' spans h)
 
+    -- a set that holds the other reaches no point that the other's moat is at
     pub stands_outer : (s s' : ℕ) → 0 < length (leaves_of f s') → ((t : ℕ) → Holds f s' t → Holds f s t × (inner_of f s' t + dual_of f s' ≤ inner_of f s t)) →
         Stands (dual_of f) reach (2 * w) s s'
     stands_outer s s' some h = outer (λ k l. inside s s' some h k)
 
+    -- the same, where the other set holds it
     pub stands_inner : (s s' : ℕ) → 0 < length (leaves_of f s) → ((t : ℕ) → Holds f s t → Holds f s' t × (inner_of f s t + dual_of f s ≤ inner_of f s' t)) →
         Stands (dual_of f) reach (2 * w) s s'
     stands_inner s s' some h = inner (λ k l. inside s' s some h k)

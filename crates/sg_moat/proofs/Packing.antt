@@ -40,6 +40,7 @@ pub record IsMoatInput (f : Family) (g : Graph) (terminals : List ℕ) (tables :
   pub distances : (i x : ℕ) → i < leaf_count f → x < g.nodes → IsDistance g (get_or terminals i 0) x (distance_from tables i x)
   pub slack : NoSlackIsNegative f (terminal_cost terminals tables)
 
+-- what the call asks for, as one record
 pub IsMoatInput-from : (f : Family) (g : Graph) (terminals : List ℕ) (tables : List Routes) → IsWeb g → IsConnected g → AreTerminals g terminals →
     leaf_count f ≡ length terminals → AreTerminalTables g terminals tables → NoSlackIsNegative f (terminal_cost terminals tables) →
     IsMoatInput f g terminals tables
@@ -282,6 +283,7 @@ module _ (f : Family) (fam : IsFamily f) (g : Graph) (terminals : List ℕ) (tab
           le-ltb (set_depth f tables s (term i)) level
           (omega (arith, depth_is, at.2, outside_duals f s at.0 i at.1 e, input.slack at.0 i (leaf_low s at.0 at.1) l))
 
+  -- a cut of a moat is an odd cut
   pub odd_cut : (c : Cut) → IsMoatCut f g tables c → IsOddCut g terminals c.edges
   odd_cut c h = record {
     inside = is_below (set_depth f tables h.name) h.slice.level;
@@ -298,9 +300,11 @@ module _ (f : Family) (fam : IsFamily f) (g : Graph) (terminals : List ℕ) (tab
           ∙ sym (sum_by-range (λ i. cond (holds f h.name i) 1 0) (leaf_count f))
           ∙ sym (size-is f fam h.name)
 
+  -- the cuts of all sets weigh as much as all duals
   pub duals_total : (cuts : List Cut) → Gathers f g tables (length f.nodes) cuts → sum_by cut_weight cuts ≡ sum_of_duals f
   duals_total cuts all = all.total ∙ sym (sum_by_is_sum_below dual_in f.nodes None)
 
+  -- the cuts of all sets pack
   pub packs : (cuts : List Cut) → Gathers f g tables (length f.nodes) cuts → CutsPack g terminals cuts
   packs cuts all = record {
     positive = All-weaker (IsMoatCut f g tables) (λ c. pos 1 ≤ℤ c.y) (λ c h. h.slice.positive) cuts all.are;

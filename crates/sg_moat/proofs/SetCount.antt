@@ -11,6 +11,7 @@ use Rattle.sg_arena.proofs.FamilyLemmas.{alive_from_holds, child-covered, child-
 use Rattle.sg_moat.specs.Sets.{alive_at, one_if}
 
 module _ (f : Family) (fam : IsFamily f) where
+  -- a node that is alive counts once
   pub alive_one : (name : ℕ) → IsAlive f name → alive_at f name ≡ 1
   alive_one name alive = go (node_at f name) alive
     where
@@ -122,6 +123,7 @@ module _ (f : Family) (fam : IsFamily f) where
       go (Some n) h = refl
       go None h = absurd (omega arith)
 
+  -- twice the number of sets is at most three times that of the leaves
   pub sets_few : 2 * sum_below (alive_at f) (length f.nodes) ≤ 3 * leaf_count f
   sets_few =
       let r : ℕ = length f.nodes in

@@ -64,6 +64,7 @@ module _ (f : Family) (fam : IsFamily f) (s : ℕ) where
       go (Some n) h = refl
       go None h = absurd (omega arith)
 
+  -- a dual is within the bound of totals
   pub dual_small : IsAlive f s → dual_of f s ≤ 2 ^ 61
   dual_small alive =
       let held = some_leaf f fam s alive in
@@ -104,6 +105,7 @@ module _ (g : Graph) (joined : All (IsEdge g.nodes) g.edges) (d c : ℕ → ℕ)
     is = h.is ∙ chosen_below_same (crosses g (is_below d h.level)) (crosses g (is_below c h.level)) (edge_count g) (crosses_same h.level);
   }
 
+  -- depths that agree on the nodes have the same cuts
   pub Slices-same : (cuts : List Cut) → Slices g d y cuts → Slices g c y cuts
   Slices-same cuts h = record {
     are = All-weaker (IsSlice g d y) (IsSlice g c y) slice_same cuts h.are;
@@ -190,6 +192,7 @@ module _ (f : Family) (g : Graph) (tables : List Routes) (name : ℕ) where
     few = omega arith;
   }
 
+  -- a set with a dual above 0 adds the cuts of its levels
   pub Adds-slices : (old new : List Cut) → 0 < dual_of f name → alive_at f name ≡ 1 → Sliced g (set_depth f tables name) (dual_of f name) old new →
       Adds f g tables name old new
   Adds-slices old new some alive s =
@@ -203,15 +206,18 @@ module _ (f : Family) (g : Graph) (tables : List Routes) (name : ℕ) where
         few = omega (arith, length-append old s.more, s.slices.few, alive);
       })
 
+  -- the same, by depths that agree with the set's
   pub Adds-by : (old new : List Cut) (d : ℕ → ℕ) → IsWeb g → 0 < dual_of f name → IsFamily f → ((x : ℕ) → x < g.nodes → d x ≡ set_depth f tables name x) →
       Sliced g d (dual_of f name) old new → Adds f g tables name old new
   Adds-by old new d web some fam same s =
       Adds-slices old new some (alive_one f fam name (dual_alive f name some))
       (record { more = s.more; is = s.is; slices = Slices-same g web.joined d (set_depth f tables name) same (dual_of f name) s.more s.slices })
 
+-- before the first name no cuts are gathered
 pub Gathers-start : (f : Family) (g : Graph) (tables : List Routes) → Gathers f g tables 0 []
 Gathers-start f g tables = record { are = All-nil (IsMoatCut f g tables); total = refl; loads = λ e l. refl; few = omega arith }
 
+-- after one name more its cuts are gathered too
 pub Gathers-more : (f : Family) (g : Graph) (tables : List Routes) (name : ℕ) (old new : List Cut) → Gathers f g tables name old →
     Adds f g tables name old new → Gathers f g tables (suc name) new
 Gathers-more f g tables name old new h a = record {

@@ -12,6 +12,7 @@ use Rattle.sg_arena.specs.Slack.{cut_share, duals_between, exactly_one}
 use Rattle.sg_arena.proofs.FamilyLemmas.{alive_from_holds, name_bound}
 use Rattle.sg_moat.specs.Sets.{within, strictly_within, share_below, inner_of}
 
+-- two conditions that imply each other are the same
 pub same_truth : (a b : Bool) → (a ≡ true → b ≡ true) → (b ≡ true → a ≡ true) → a ≡ b
 same_truth true b h k = sym (h refl)
 same_truth false true h k = k refl
@@ -30,6 +31,7 @@ two_sides true false t u v h k = let e : xor t u ≡ true = ap₂ xor (h refl).0
 two_sides false true t u v h k = let e : xor t u ≡ true = ap₂ xor (k refl).1 (k refl).0 in rw e (omega arith)
 two_sides false false t u v h k = omega arith
 
+-- a list has its first leaf
 pub has_head : (x : ℕ) (xs : List ℕ) → has_leaf (x ∷ xs) x ≡ true
 has_head x xs = ap (λ b. b || has_leaf xs x) (eq-eqb x x refl)
 
@@ -47,9 +49,11 @@ all_at p (x ∷ xs) h l k =
     ]
 
 module _ (f : Family) where
+  -- a set that covers another has it within
   pub within_from : (s x : ℕ) → Covers f s x → within f s x ≡ true
   within_from s x h = all_from (holds f s) (leaves_of f x) h
 
+  -- a set that has another within covers it
   pub covers_from : (s x : ℕ) → within f s x ≡ true → Covers f s x
   covers_from s x h = all_at (holds f s) (leaves_of f x) h
 
@@ -60,6 +64,7 @@ module _ (f : Family) where
       let b : (within f s x ≡ true) × (not (eqb x s) ≡ true) = and_parts (within f s x) (not (eqb x s)) a.0 in
       (covers_from s x b.0, (λ (e : x ≡ s). false≢true (sym (ap not (eq-eqb x s e)) ∙ b.1)), a.1)
 
+  -- a smaller set that holds the leaf is counted among those inside
   pub below_from : (s leaf x : ℕ) → Covers f s x → x ≢ s → Holds f x leaf → (strictly_within f s x && holds f x leaf) ≡ true
   below_from s leaf x c ne h =
       and_from (strictly_within f s x) (holds f x leaf) (and_from (within f s x) (not (eqb x s)) (within_from s x c) (ap not (ne_eqb x s ne))) h
@@ -72,6 +77,7 @@ module _ (f : Family) where
   abbrev pub up_to_share : ℕ → ℕ → ℕ → ℕ
   up_to_share s leaf x = cond (within f s x && holds f x leaf) (dual_of f x) 0
 
+  -- a set that holds a leaf has a name below the room
   pub dual_low : (s leaf : ℕ) → Holds f s leaf → s < length f.nodes
   dual_low s leaf h = name_bound f s (alive_from_holds f s leaf h)
 
@@ -128,6 +134,7 @@ module _ (f : Family) where
   abbrev pub between_share : ℕ → ℕ → ℕ → ℕ
   between_share i j x = cond (xor (holds f x i) (holds f x j)) (dual_of f x) 0
 
+  -- the duals between two leaves, as a sum over all names
   pub between_is : (i j : ℕ) → duals_between f i j ≡ sum_below (between_share i j) (length f.nodes)
   between_is i j =
       sum_by_is_sum_below (cut_share i j) f.nodes None

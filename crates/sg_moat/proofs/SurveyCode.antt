@@ -43,6 +43,7 @@ module _ (g : Graph) where
     low : other < length now
     low = omega (arith, in_web, count, s.goes.count)
 
+    -- arrivals over one edge more
     pub Spreads-more : Spreads g node height (edges ++ e ∷ []) old new before after heap next
     Spreads-more =
         let goes = Goes-raise g other (height - 2 * edge_weight g e) now new mid after waiting next low r in_web (omega (arith, small)) in
@@ -67,12 +68,15 @@ module _ (g : Graph) where
     other_is : other ≡ other_end node (edge_at g (get_or list i 0))
     other_is = is ∙ ap (λ (xs : List Edge). other_end node (get_or xs (get_or list i 0) blank_edge)) same
 
+    -- the other end of the edge is a node
     pub other_in : IsWeb g → EndsAt g node (get_or list i 0) → other < g.nodes
     other_in web ends = subst (λ n. n < g.nodes) (sym other_is) (other_low g (get_or list i 0) node web ends.0)
 
+    -- the weight in the code is that of the edge
     pub weight_is : unsigned_abs (get_or es (get_or list i 0) blank_edge).w ≡ edge_weight g (get_or list i 0)
     weight_is = ap (λ (xs : List Edge). unsigned_abs (get_or xs (get_or list i 0) blank_edge).w) same
 
+    -- the same, in the terms of the code
     pub Spreads-next : (height left : ℕ) (old now new before mid after : List ℕ) (heap waiting next : List Arrival) → IsWeb g →
         length old ≡ g.nodes → height < 2 ^ 64 → EndsAt g node (get_or list i 0) → left ≡ height - 2 * edge_weight g (get_or list i 0) →
         Spreads g node height (take i list) old now before mid heap waiting → Raises other left now new mid after waiting next →
@@ -105,6 +109,7 @@ module _ (g : Graph) where
     abbrev this : Member
     this = get_or members i blank_member
 
+    -- one terminal more as a seed, with the dual and the duals inside
     pub Seeds-next : i < length members → length old ≡ g.nodes → node ≡ (table_at tables this.leaf).source → node < g.nodes → y + this.inner < 2 ^ 64 →
         Seeds g tables (take i members) y old now before mid heap waiting → Raises node (y + this.inner) now new mid after waiting next →
         Seeds g tables (take (i + 1) members) y old new before after heap next
@@ -143,6 +148,7 @@ module _ (g : Graph) where
   -- the arrival a is taken, and skipped or spread
   module _ (old heights near : List ℕ) (heap rest : List Arrival) (a : Arrival)
       (f : Flooding g old heights near heap) (taken : IsPermutation heap (a ∷ rest)) where
+    -- an arrival that is no more the height of its node is dropped
     pub Flooding-skip : noted_at heights a.node ≢ a.height → Flooding g old heights near rest
     Flooding-skip differ = record {
       searching = Searching-skip g heights near heap rest a f.searching taken differ;
@@ -150,6 +156,7 @@ module _ (g : Graph) where
       below = f.below;
     }
 
+    -- an arrival that is the height of its node goes on over all its edges
     pub Flooding-spread : (lists : List (List ℕ)) → AreIncident g lists → (list new after : List ℕ) (next : List Arrival) → a.node < g.nodes →
         list ≡ list_at lists a.node → noted_at heights a.node ≡ a.height → Spreads g a.node a.height list heights new near after rest next →
         Flooding g old new after next
@@ -166,6 +173,7 @@ module _ (g : Graph) where
 pub Caps-none : (y : ℕ) (old : List ℕ) → Caps y [] old old
 Caps-none y old = record { count = refl; down = λ x. omega arith; same = λ x. refl; low = All-nil (λ x. noted_at old x ≤ y) }
 
+-- one node more whose height is cut to the dual
 pub Caps-more : (y : ℕ) (near old now new : List ℕ) (i : ℕ) → i < length near → get_or near i 0 < length old →
     Caps y (take i near) old now → new ≡ set now (get_or near i 0) (min (noted_at now (get_or near i 0)) y) → Caps y (take (i + 1) near) old new
 Caps-more y near old now new i low in_old h is =

@@ -153,6 +153,7 @@ module _ (g : Graph) (web : IsWeb g) (tables : List Routes) (members : List Memb
         | inr none ↦ omega (arith, caps.down x)
       ]
 
+      -- heights that are seeded, flooded and cut are the dual less the depths
       pub Surveys-end : Surveys g (height_by tables members y) new near
       Surveys-end = record {
         count = caps.count ∙ f.lists.count;

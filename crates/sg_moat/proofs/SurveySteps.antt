@@ -39,6 +39,7 @@ module _ (node height : ℕ) (old before : List ℕ) (heap : List Arrival) where
       unlisted zero l = le-ltb 0 height l
       unlisted (suc o) l = ap (λ b. b && ltb 0 height) (ne_eqb (suc o) 0 (λ e. absurd (omega (arith, e))))
 
+  -- a higher arrival is noted and waits
   pub Raises-higher : (after : List ℕ) (next : List Arrival) → noted_at old node < height → after ≡ before ++ cond (eqb (noted_at old node) 0) (node ∷ []) [] →
       IsPermutation (here ∷ heap) next → Raises node height old (set old node height) before after heap next
   Raises-higher after next more listed waits = record {
@@ -71,6 +72,7 @@ listed_by (suc o) h =
     ∙ sym (ap (λ b. cond {A = ℕ} b 1 0) second)
 
 module _ (g : Graph) where
+  -- where nothing arrives nothing changes
   pub Goes-none : (old before : List ℕ) (heap : List Arrival) → Goes g old old before before heap heap
   Goes-none old before heap = record {
     count = refl;
@@ -82,6 +84,7 @@ module _ (g : Graph) where
     work = omega arith;
   }
 
+  -- two stretches of a search make one
   pub Goes-on : (a b c p q r : List ℕ) (h k n : List Arrival) → Goes g a b p q h k → Goes g b c q r k n → Goes g a c p r h n
   Goes-on a b c p q r h k n first second = record {
     count = second.count ∙ first.count;
@@ -101,6 +104,7 @@ module _ (g : Graph) where
 
   module _ (node height : ℕ) (old new before after : List ℕ) (heap next : List Arrival) (low : node < length old)
       (r : Raises node height old new before after heap next) where
+    -- the node has the higher of its height and the arrival's
     pub raised_here : noted_at new node ≡ max (noted_at old node) height
     raised_here = ap (λ xs. noted_at xs node) r.noted ∙ get_or-set_same old node (max (noted_at old node) height) 0 low
 
@@ -113,6 +117,7 @@ module _ (g : Graph) where
       | inr ne ↦ omega (arith, raised_there x ne)
     ]
 
+    -- heights stay below every function that is above the arrival
     pub raised_below : (f : ℕ → ℕ) → height ≤ f node → AreBelow f old → AreBelow f new
     raised_below f most below x = elim (cases_eq x node) [
       | inl e ↦ subst (λ z. noted_at new z ≤ f z) (sym e) (omega (arith, raised_here, below node))
@@ -178,6 +183,7 @@ module _ (g : Graph) where
       room : room_above new + (2 ^ 64 - noted_at old node) ≡ room_above old + (2 ^ 64 - max (noted_at old node) height)
       room = ap (λ xs. room_above xs + (2 ^ 64 - noted_at old node)) r.noted ∙ sum_by-set (λ h. 2 ^ 64 - h) old node (max (noted_at old node) height) 0 low
 
+      -- one arrival is a stretch of the search
       pub Goes-raise : Goes g old new before after heap next
       Goes-raise = elim (cases_lt (noted_at old node) height) [
         | inl more ↦ record {
@@ -230,12 +236,14 @@ module _ (g : Graph) where
 
   -- the arrival a is taken from the heap
   module _ (heights near : List ℕ) (heap rest : List Arrival) (a : Arrival) (s : Searching g heights near heap) (taken : IsPermutation heap (a ∷ rest)) where
+    -- what is taken off the heap is at a node
     pub taken_low : a.node < g.nodes
     taken_low = All-permutation (λ a. a.node < g.nodes) heap (a ∷ rest) taken s.low 0 a (omega arith)
 
     rest_low : All (λ a. a.node < g.nodes) rest
     rest_low = All-tail (λ (a : Arrival). a.node < g.nodes) a rest (All-permutation (λ a. a.node < g.nodes) heap (a ∷ rest) taken s.low)
 
+    -- the heap is shorter by what is taken off
     pub taken_work : length rest + 1 ≡ length heap
     taken_work = let e = length_permutation heap (a ∷ rest) taken in omega arith
 
@@ -292,9 +300,11 @@ module _ (g : Graph) where
     pub up : (x : ℕ) → noted_at old x ≤ noted_at heights x
     pub below : (f : ℕ → ℕ) → IsLipschitz g f → AreBelow f old → AreBelow f heights
 
+  -- at the start the heights are those of the seeds
   pub Flooding-start : (old near : List ℕ) (heap : List Arrival) → Searching g old near heap → Flooding old old near heap
   Flooding-start old near heap s = record { searching = s; up = λ x. omega arith; below = λ f l b. b }
 
+  -- when none waits no edge is too steep
   pub Flooding-end : (old heights near : List ℕ) (heap : List Arrival) → heap ≡ [] → Flooding old heights near heap → Floods g old heights near
   Flooding-end old heights near heap none f = record {
     lists = f.searching.lists;
@@ -312,6 +322,7 @@ pub record Clearing (n : ℕ) (heights near : List ℕ) : Type 0 where
   pub low : All (λ x. x < n) near
   pub covers : (x : ℕ) → 0 < noted_at heights x → Contains near x
 
+-- one node more whose height is set back to 0
 pub Clearing-more : (n : ℕ) (heights near rest : List ℕ) (x : ℕ) → near ≡ rest ++ x ∷ [] → Clearing n heights near → Clearing n (set heights x 0) rest
 Clearing-more n heights near rest x is h = record {
   count = length-set heights x 0 ∙ h.count;
@@ -343,6 +354,7 @@ Clearing-more n heights near rest x is h = record {
         last (y ∷ ys) zero l h = absurd (omega arith)
         last (y ∷ ys) (suc k) l h = last ys k (omega arith) (omega arith)
 
+-- when no node is left all heights are 0
 pub Clearing-end : (n : ℕ) (heights : List ℕ) → Clearing n heights [] → heights ≡ replicate n 0
 Clearing-end n heights h = flat heights n h.count (λ x. zero_at x)
   where

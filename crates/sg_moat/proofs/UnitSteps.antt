@@ -84,6 +84,7 @@ module _ (y : ℕ → ℕ) (reach : ℕ → ℕ → ℕ) (n : ℕ) where
               ]
         ]
 
+    -- over n unit steps all depths together change by at most n
     pub depths_change : sum_below (λ s. gap (depth s 0) (depth s n)) count ≤ n
     unfolding moves
     depths_change = upto n (omega arith)

@@ -26,14 +26,17 @@ pub record HasUnitEnds (s : List ℤ) (b : Bond) : Type 0 where
   pub first : IsUpOrDown (spin s b.u)
   pub second : IsUpOrDown (spin s b.v)
 
+-- each value of an assignment is 1 or -1
 pub unit_at : (inst : Ising) (s : List ℤ) → IsAssignment inst s → (i : ℕ) → i < inst.n → IsUpOrDown (spin s i)
 unit_at inst s h i l = h.values i (pos 1) (omega (arith, h.count))
 
+-- so are the values at the ends of each bond
 pub unit_ends : (inst : Ising) (s : List ℤ) → IsInstance inst → IsAssignment inst s → All (HasUnitEnds s) inst.bonds
 unit_ends inst s good h =
     All-weaker (IsBond inst.n) (HasUnitEnds s) (λ b w. record { first = unit_at inst s h b.u w.first_end; second = unit_at inst s h b.v w.second_end })
     inst.bonds good.draft.joined
 
+-- and their product
 pub product-up_or_down : (s : List ℤ) (b : Bond) → HasUnitEnds s b → IsUpOrDown (product s b)
 product-up_or_down s b h = signs (spin s b.u) (spin s b.v) h.first h.second
   where

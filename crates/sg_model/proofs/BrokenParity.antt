@@ -17,6 +17,7 @@ use Rattle.sg_model.proofs.BrokenEnergy.{HasUnitEnds}
 abbrev pub is_down : ℤ → Bool
 is_down z = int_lt z (pos 0)
 
+-- a bond is broken where either it is negative or its ends differ
 pub is_broken_xor : (s : List ℤ) (b : Bond) → HasUnitEnds s b → is_broken s b ≡ xor (is_negative b) (xor (is_down (spin s b.u)) (is_down (spin s b.v)))
 is_broken_xor s b h = by_sign (is_negative b) (spin s b.u) (spin s b.v) h.first h.second
   where

@@ -7,6 +7,7 @@ use Rattle.std.proofs.lemmas.List.Elements.{All-nil, All-cons, All-head, All-tai
 use Rattle.sg_model.specs.Spins.{IsUpOrDown}
 use Rattle.sg_model.specs.Codes.{coded}
 
+-- a code gives a value for each spin
 pub coded-length : (n code : ℕ) → length (coded n code) ≡ n
 coded-length zero code = refl
 coded-length (suc n) code = ap suc (coded-length n (code / 2))
@@ -15,10 +16,12 @@ IsUpOrDown-cond : (b : Bool) → IsUpOrDown (cond b (pos 1) (negsuc 0))
 IsUpOrDown-cond true = inl refl
 IsUpOrDown-cond false = inr refl
 
+-- each of them 1 or -1
 pub coded-up_or_down : (n code : ℕ) → All IsUpOrDown (coded n code)
 coded-up_or_down zero code = All-nil IsUpOrDown
 coded-up_or_down (suc n) code = All-cons IsUpOrDown _ _ (IsUpOrDown-cond (eqb (code % 2) 0)) (coded-up_or_down n (code / 2))
 
+-- an even code has the first spin up
 pub coded-even : (n half : ℕ) → coded (suc n) (2 * half) ≡ pos 1 ∷ coded n half
 coded-even n half =
     let bit : eqb (2 * half % 2) 0 ≡ true = eq-eqb _ _ (omega arith) in
@@ -31,6 +34,7 @@ coded-odd n half =
     let rest : (2 * half + 1) / 2 ≡ half = omega arith in
     rw (bit, rest) refl
 
+-- lists with the same head and the same tail are the same
 pub same_cons : (x y : ℤ) (xs ys : List ℤ) → x ≡ y → xs ≡ ys → x ∷ xs ≡ y ∷ ys
 same_cons x y xs ys p q = cc
 

@@ -25,6 +25,7 @@ two_places x (y ∷ ys) (suc k) (suc i) lt l p q =
     let rest : 2 ≤ count_by (λ y. eqb y x) ys = two_places x ys k i (omega arith) (omega arith) p q in
     omega (arith, sum_by-cons (λ y. cond (eqb y x) 1 0) y ys)
 
+-- an entry of a list without repeats is found at its place
 pub position_at : (xs : List ℕ) → IsDistinct xs → (i : ℕ) → i < length xs → position_or_len (λ y. eqb y (get_or xs i 0)) xs ≡ i
 position_at xs once i l =
     position_or_len_is (λ y. eqb y (get_or xs i 0)) xs i 0 (omega arith)
@@ -84,5 +85,6 @@ place_from_count x (y ∷ ys) h = elim (cases_eq y x) [
       (suc r.0, omega (arith, r.1), r.2)
 ]
 
+-- an entry is counted at least once
 pub count_at_place : (xs : List ℕ) (i : ℕ) → i < length xs → 1 ≤ count_by (λ y. eqb y (get_or xs i 0)) xs
 count_at_place xs i l = one_place (get_or xs i 0) xs i l refl

@@ -25,6 +25,7 @@ rev_rev d = by_dart (dart_cases d)
 pub rev_apart : (d e : ℕ) → rev d ≡ rev e → d ≡ e
 rev_apart d e h = sym (rev_rev d) ∙ ap rev h ∙ rev_rev e
 
+-- the other dart of a bond is a dart
 pub rev_below : (inst : Ising) (d : ℕ) → d < dart_count inst → rev d < dart_count inst
 rev_below inst d l = by_dart (dart_cases d)
   where

@@ -91,6 +91,7 @@ module _ (inst : Ising) (leasts : List ℕ) (are : AreLeasts inst leasts) where
       let up : get_or leasts k 0 < get_or leasts (k + 1) 0 = are.rising k (omega (arith, l)) in
       omega (arith, above_place k (omega (arith, l)), up, ap (λ i. get_or leasts i 0) next)
 
+  -- there are no more components than spins
   pub leasts_few : length leasts ≤ inst.n
   leasts_few = elim (cases_eq (length leasts) 0) [
     | inl none ↦ omega (arith, none)

@@ -11,6 +11,7 @@ use Rattle.sg_model.specs.Energy.{product, energy}
 abbrev pub turned : List ℤ → List ℤ
 turned s = map neg_ℤ s
 
+-- a spin that is turned has the opposite value
 pub spin-turned : (s : List ℤ) (i : ℕ) → i < length s → spin (turned s) i ≡ neg_ℤ (spin s i)
 spin-turned s i h = get_or-map neg_ℤ s i (pos 1) (pos 1) h
 
@@ -24,6 +25,7 @@ neg-product x y (inl p) (inr q) = rw (p, q) refl
 neg-product x y (inr p) (inl q) = rw (p, q) refl
 neg-product x y (inr p) (inr q) = rw (p, q) refl
 
+-- an assignment turned is one
 pub turned-assignment : (inst : Ising) (s : List ℤ) → IsAssignment inst s → IsAssignment inst (turned s)
 turned-assignment inst s h = record {
   count = length-map s neg_ℤ ∙ h.count;
@@ -45,5 +47,6 @@ sum-turned inst s h total (b ∷ bonds) joined =
     ap (λ p. fold (λ total b. total +ℤ (b.j *ℤ product (turned s) b)) (total +ℤ (b.j *ℤ p)) bonds) same
     ∙ sum-turned inst s h (total +ℤ (b.j *ℤ product s b)) bonds (All-tail (IsBond inst.n) b bonds joined)
 
+-- and has the same energy
 pub energy-turned : (inst : Ising) (s : List ℤ) → IsInstance inst → IsAssignment inst s → energy inst (turned s) ≡ energy inst s
 energy-turned inst s good h = ap neg_ℤ (sum-turned inst s h (pos 0) inst.bonds good.draft.joined)

@@ -20,6 +20,7 @@ module _ (inst : Ising) (set : ℕ → Bool) where
   walk_append [] more a b c w v = subst (λ x. IsWalk inst set x more c) (sym w) v
   walk_append (d ∷ path) more a b c w v = (w.0, walk_append path more d b c w.1 v)
 
+  -- what is reached from a spin that is reached is reached
   pub reached_on : (a b c : ℕ) → Reached inst set a b → Reached inst set b c → Reached inst set a c
   reached_on a b c r q = (r.0 ++ q.0, walk_append r.0 q.0 a b c r.1 q.1)
 
@@ -27,6 +28,7 @@ module _ (inst : Ising) (set : ℕ → Bool) where
   pub reached_by_bond : (a b : ℕ) → JoinedBy inst set a b → Reached inst set a b
   reached_by_bond a b j = (b ∷ [], (j, refl))
 
+  -- and so over one bond more
   pub reached_more : (a b c : ℕ) → Reached inst set a b → JoinedBy inst set b c → Reached inst set a c
   reached_more a b c r j = reached_on a b c r (reached_by_bond b c j)
 
@@ -35,6 +37,7 @@ module _ (inst : Ising) (set : ℕ → Bool) where
   walk_back [] a b w = ([], sym w)
   walk_back (c ∷ path) a b w = reached_more b c a (walk_back path c b w.1) (joined_back a c w.0)
 
+  -- what is reached leads back
   pub reached_back : (a b : ℕ) → Reached inst set a b → Reached inst set b a
   reached_back a b r = walk_back r.0 a b r.1
 

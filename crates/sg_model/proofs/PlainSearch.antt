@@ -42,6 +42,7 @@ beats-all inst e good beats t h = elim (h.values 0 (pos 1) (omega (arith, h.coun
       subst (λ x. e ≤ℤ x) (energy-turned inst t good h) (beats-up inst e good beats (turned t) (turned-assignment inst t h) up)
 ]
 
+-- the least of the even codes is a ground state
 pub ground_state : (inst : Ising) (half : ℕ) → IsInstance inst → BeatsHalves inst (energy inst (coded inst.n (2 * half))) →
     IsGroundState inst (coded inst.n (2 * half))
 ground_state inst half good beats = record {
@@ -49,6 +50,7 @@ ground_state inst half good beats = record {
   least = beats-all inst (energy inst (coded inst.n (2 * half))) good beats;
 }
 
+-- an even code has spin 0 up
 pub coded-first_up : (n half : ℕ) → 1 ≤ n → spin (coded n (2 * half)) 0 ≡ pos 1
 coded-first_up zero half some = absurd (omega arith)
 coded-first_up (suc n) half some = ap (λ s. spin s 0) (coded-even n half)

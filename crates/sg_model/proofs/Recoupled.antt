@@ -28,6 +28,7 @@ module _ (inst : Ising) where
       ap₂ (λ t (c : List Bond). map (flipped_at inst) (range_with_len 0 k) ++ cond t (opposite (get_or c k no_bond)) (get_or c k no_bond) ∷ []) e same
       ∙ sym (map-range_with_len_more (flipped_at inst) 0 k k (omega arith))
 
+  -- the flipped bonds have the old ends
   pub flipped_ends : All (IsBond inst.n) inst.bonds → HasSameEnds inst (map (flipped_at inst) (range_with_len 0 (bond_count inst)))
   flipped_ends joined = record {
     count = long;
@@ -107,6 +108,7 @@ module _ (inst : Ising) where
         ∙ ap (λ (b : Bond). take k (with_coupling inst bond z).bonds ++ b ∷ []) (sym (at k l))
         ∙ sym (take_more (with_coupling inst bond z).bonds k no_bond (omega (arith, long)))
 
+    -- and so have the bonds with one coupling changed
     pub coupling_ends : All (IsBond inst.n) inst.bonds → unsigned_abs z < 2 ^ 63 → HasSameEnds inst (with_coupling inst bond z).bonds
     coupling_ends joined size = record {
       count = long;
@@ -139,13 +141,16 @@ module _ (inst : Ising) where
 
   -- each bond has the coupling of a list
   module _ (couplings : List ℤ) where
+    -- there are as many recoupled bonds as bonds
     pub all_long : length (coupled_bonds inst.bonds couplings) ≡ bond_count inst
     all_long = length-map-range_with_len (coupled_at inst.bonds couplings) 0 (bond_count inst)
 
+    -- recoupled bond k is bond k with the coupling there
     pub coupled_at_place : (k : ℕ) → k < bond_count inst →
         get_or (coupled_bonds inst.bonds couplings) k no_bond ≡ recoupled (bond_at inst k) (get_or couplings k (pos 0))
     coupled_at_place k l = get_or-map-range_with_len (coupled_at inst.bonds couplings) 0 (bond_count inst) k k no_bond l (omega arith)
 
+    -- the recoupled bonds have the old ends
     pub couplings_ends : length couplings ≡ bond_count inst → All (λ z. unsigned_abs z < 2 ^ 63) couplings →
         HasSameEnds inst (coupled_bonds inst.bonds couplings)
     couplings_ends given small = record {

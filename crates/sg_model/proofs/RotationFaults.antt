@@ -35,6 +35,7 @@ module _ (inst : Ising) (marked : List Bool) (stop : ℕ) (marks : MarksSpins in
       none true false f = sym (f refl)
       none false h f = refl
 
+  -- a misplaced dart, or one that is not marked, shows a bad rotation
   pub bad_rotation : (first spin dart : ℕ) → AllMarked inst marked spin →
       (stop < inst.n → IsFirstMisplaced (is_dart_of inst stop) (darts_of inst stop) first)
       → ((spin ≡ stop) × (dart ≡ first)) ⊎ IsLeastUnmarked inst marked stop spin dart → spin < inst.n → IsBadRotation inst spin dart
@@ -50,6 +51,7 @@ module _ (inst : Ising) (marked : List Bool) (stop : ℕ) (marks : MarksSpins in
     shown = inr (least_missing spin dart least);
   }
 
+  -- where all darts are marked it is a rotation
   pub rotation_marked : (first spin dart : ℕ) → length inst.rotation ≡ inst.n → stop ≤ inst.n → AllMarked inst marked spin
       → ((spin ≡ stop) × (dart ≡ first)) ⊎ IsLeastUnmarked inst marked stop spin dart → inst.n ≤ spin → IsRotation inst
   rotation_marked first spin dart lists within all (inl same) l = record {

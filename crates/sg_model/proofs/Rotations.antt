@@ -15,6 +15,7 @@ module _ (inst : Ising) (good : IsInstance inst) where
   one_or_none true n e = omega arith
   one_or_none false n e = omega arith
 
+  -- no dart stands twice in the list of its spin
   pub spin_distinct : (i : ℕ) → i < inst.n → IsDistinct (darts_of inst i)
   spin_distinct i l x = one_or_none (is_dart_of inst i x) (count_by (λ y. eqb y x) (darts_of inst i)) (good.rotation.each_once i x l)
 
@@ -34,6 +35,7 @@ module _ (inst : Ising) (good : IsInstance inst) where
       and_parts (ltb d (dart_count inst)) (eqb (tail inst d) i) (is_dart_from i d l (count_at_place (darts_of inst i) j b)) in
       (ltb-true d (dart_count inst) both.0, eqb-true (tail inst d) i both.1)
 
+  -- a dart leaves a spin
   pub tail_below : (d : ℕ) → d < dart_count inst → tail inst d < inst.n
   tail_below d l = by_dart (dart_cases d)
     where
@@ -60,6 +62,7 @@ module _ (inst : Ising) (good : IsInstance inst) where
       (j : ℕ) × (j < length (darts_of inst i)) × (get_or (darts_of inst i) j 0 ≡ d)
   place_at i d l e = subst (λ i. (j : ℕ) × (j < length (darts_of inst i)) × (get_or (darts_of inst i) j 0 ≡ d)) e (place_of d l)
 
+  -- the next dart is the one that follows in the list of its spin
   pub next_is : (d : ℕ) → next inst d ≡ following (darts_of inst (tail inst d)) d
   unfolding next
   next_is d = refl
@@ -80,6 +83,7 @@ module _ (inst : Ising) (good : IsInstance inst) where
           next_is d ∙ ap₂ (λ x y. following (darts_of inst x) y) t (sym e) ∙ following_at (darts_of inst i) (spin_distinct i b) j q in
           (omega (arith, same, (in_list i k b kb).0), ap (tail inst) same ∙ (in_list i k b kb).1 ∙ sym t)
 
+  -- different darts have different next ones
   pub next_apart : (a b : ℕ) → a < dart_count inst → b < dart_count inst → next inst a ≡ next inst b → a ≡ b
   next_apart a b la lb e = at_spin (tail inst a) (tail_below a la) (place_of a la) (place_at (tail inst a) b lb (sym tails)) refl
     where
@@ -94,5 +98,6 @@ module _ (inst : Ising) (good : IsInstance inst) where
           ∙ ap (λ s. following (darts_of inst s) b) (sym tails ∙ t) ∙ ap (following (darts_of inst i)) (sym kb)) in
           sym ja ∙ ap (λ x. get_or (darts_of inst i) x 0) same ∙ kb
 
+  -- a dart leads to a spin
   pub head_below : (d : ℕ) → d < dart_count inst → head_of inst d < inst.n
   head_below d l = tail_below (rev d) (rev_below inst d l)

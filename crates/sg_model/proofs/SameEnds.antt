@@ -13,6 +13,7 @@ module _ (inst : Ising) (bonds : List Bond) (same : HasSameEnds inst bonds) wher
   other : Ising
   other = with_bonds inst bonds
 
+  -- other couplings leave the tails
   pub tail_same : (d : ℕ) → tail (with_bonds inst bonds) d ≡ tail inst d
   tail_same d = elim (cases_eq (d % 2) 0) [
     | inl even ↦ tail_even (with_bonds inst bonds) d even ∙ same.first (d / 2) ∙ sym (tail_even inst d even)
@@ -22,6 +23,7 @@ module _ (inst : Ising) (bonds : List Bond) (same : HasSameEnds inst bonds) wher
   is_dart_same : (i d : ℕ) → is_dart_of (with_bonds inst bonds) i d ≡ is_dart_of inst i d
   is_dart_same i d = ap₂ (λ m t. ltb d (2 * m) && eqb t i) same.count (tail_same d)
 
+  -- and the instance one
   pub recoupled_instance : IsInstance inst → IsInstance (with_bonds inst bonds)
   recoupled_instance good = record {
     draft = record {

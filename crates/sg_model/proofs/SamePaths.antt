@@ -20,9 +20,11 @@ module _ (inst : Ising) (bonds : List Bond) (same : HasSameEnds inst bonds) wher
   walk_same set [] a b w = w
   walk_same set (c ∷ cs) a b w = (joined_same set a c w.0, walk_same set cs c b w.1)
 
+  -- other couplings leave what is reached
   pub reached_same : (set : ℕ → Bool) (a b : ℕ) → Reached inst set a b → Reached (with_bonds inst bonds) set a b
   reached_same set a b r = (r.0, walk_same set r.0 a b r.1)
 
+  -- and whether all is
   pub connected_same : IsConnected inst → IsConnected (with_bonds inst bonds)
   connected_same h i l = reached_same all_bonds 0 i (h i l)
 
@@ -35,6 +37,7 @@ ends_back inst bonds same good = record {
   sizes = λ k d l. (good.draft.joined k d l).size;
 }
 
+-- and the least spins of the components
 pub leasts_same : (inst : Ising) (bonds : List Bond) → HasSameEnds inst bonds → IsInstance inst → (leasts : List ℕ) → AreLeasts inst leasts
     → AreLeasts (with_bonds inst bonds) leasts
 leasts_same inst bonds same good leasts h = record {

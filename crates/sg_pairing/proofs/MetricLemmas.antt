@@ -5,6 +5,7 @@ use Rattle.sg_slack.specs.Table.{Table}
 use Rattle.sg_pairing.specs.Fit.{AreFit, IsDirect}
 use Rattle.sg_pairing.specs.Metric.{IsMetric}
 
+-- an even number of leaves, few, with fit entries and no shorter way over a third: costs that an engine takes
 pub IsMetric-parts : (t : Table) → t.size % 2 ≡ 0 → t.size ≤ 2 ^ 24 → AreFit t → ((u : ℕ) → u < t.size → IsDirect t u) → IsMetric t
 IsMetric-parts t even small fit direct = record {
   even_size = even;
@@ -17,5 +18,6 @@ IsMetric-parts t even small fit direct = record {
   triangle = λ u v w low_u low_v low_w. ((direct u low_u).over v low_v).direct w low_w;
 }
 
+-- in such costs no way over a third leaf is cheaper
 pub IsDirect-metric : (t : Table) → IsMetric t → (u : ℕ) → u < t.size → IsDirect t u
 IsDirect-metric t metric u low_u = record { over = λ v low_v. record { direct = λ w low_w. metric.triangle u v w low_u low_v low_w } }

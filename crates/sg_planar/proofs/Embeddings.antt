@@ -109,6 +109,7 @@ module _ (n m F : ℕ) (tail next face : ℕ → ℕ) (emb : IsEmbedding n m F t
   pub spin_ends : EndsBelow (first tail) (second tail) n (bonds m)
   spin_ends = All_range (λ k. (u k < n) × (v k < n)) m (λ k l. (emb.tail_below (2 * k) (omega arith), emb.tail_below (2 * k + 1) (omega arith)))
 
+  -- both faces of each edge are faces
   pub face_ends : EndsBelow (first face) (second face) F (bonds m)
   face_ends =
       All_range (λ k. (left k < F) × (right k < F)) m (λ k l. (emb.face_below (2 * k) (omega arith), emb.face_below (2 * k + 1) (omega arith)))

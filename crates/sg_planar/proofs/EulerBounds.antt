@@ -44,6 +44,7 @@ module _ (inst : Ising) (good : IsInstance inst) (connected : IsConnected inst) 
           (omega arith)
 
   module _ (faces : Labelling) (labels : IsFaceLabels inst faces) where
+    -- spins and faces together are at most the bonds and two
     pub euler_bound : inst.n + faces.count ≤ bond_count inst + 2
     euler_bound = omega (arith, euler_bound_faces, labels.counts)
 

@@ -81,6 +81,7 @@ module _ (inst : Ising) (good : IsInstance inst) where
           ap (rank (is_least inst)) (one_least d d r.dart a ld ld (0, refl) r.least ha r.below la r.same da)
       by_case (inr past) = absurd (omega arith)
 
+  -- the faces can be numbered in the order of their least darts
   pub face_numbers : (face : ℕ → ℕ) × AreFaceNumbers inst face (faces_before inst (dart_count inst))
   face_numbers = (
     number,

@@ -52,6 +52,7 @@ sides_parity inst faces f p =
         ap₂ (λ x y. xor (p x && eqb (face_at faces (2 * k)) f) (p y && eqb (face_at faces (2 * k + 1)) f)) first second
         ∙ sym (and-xor (p k) (eqb (face_at faces (2 * k)) f) (eqb (face_at faces (2 * k + 1)) f))
 
+-- numbers with one rest by 2 are both odd or both even
 pub same_parity : (a b : ℕ) → a % 2 ≡ b % 2 → xor (odd a) (odd b) ≡ false
 same_parity a b e = by_cases (odd a) (odd b) (odd_is a) (odd_is b)
   where
@@ -61,6 +62,7 @@ same_parity a b e = by_cases (odd a) (odd b) (odd_is a) (odd_is b)
     by_cases false true p q = absurd (omega arith)
     by_cases false false p q = refl
 
+-- a condition behind an `xor` goes into both sides
 pub xor-and : (x y e : Bool) → (xor x y && e) ≡ xor (x && e) (y && e)
 xor-and x y e = grind arith
 

@@ -23,6 +23,7 @@ positions f d (x ∷ xs) h =
     positions f d xs (All-tail (λ v. f v ≡ f d → v ≡ d) x xs h) in
     ap₂ {A = Bool} (λ b n. cond (not b) (1 + n) 0) same rest
 
+-- what follows in the picture of a list is the picture of what follows
 pub followed : (f : ℕ → ℕ) (d : ℕ) (xs : List ℕ) → 0 < length xs → All (λ x. f x ≡ f d → x ≡ d) xs →
     following (map f xs) (f d) ≡ f (following xs d)
 unfolding following

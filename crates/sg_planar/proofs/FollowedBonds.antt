@@ -173,6 +173,7 @@ module _ (inst : Ising) (down : List Bool) (lengths : length down ≡ inst.n) wh
   value_at : (i : ℕ) → i < inst.n → spin (map value_of down) i ≡ value_of (is_marked down i)
   value_at i l = get_or-map value_of down i false (pos 1) (omega arith)
 
+  -- the values are an assignment
   pub values_assigned : IsAssignment inst (map value_of down)
   values_assigned = record {
     count = length-map down value_of ∙ lengths;
@@ -180,6 +181,7 @@ module _ (inst : Ising) (down : List Bool) (lengths : length down ≡ inst.n) wh
         (λ i l. subst IsUpOrDown (sym (value_at i (omega (arith, l, length-map down value_of)))) (up_or_down (is_marked down i)));
   }
 
+  -- a spin is down where it is marked
   pub value_down : (x : ℕ) → x < inst.n → is_down (spin (map value_of down) x) ≡ is_marked down x
   value_down x l = ap is_down (value_at x l) ∙ down_value (is_marked down x)
 

@@ -80,6 +80,7 @@ crosses_same A B p q c e = elim c.ways [
   | inr w ↦ ap B (sym w.1) ∙ sym e ∙ ap B w.0
 ]
 
+-- a set that has both ends of an edge alike has its inner and outer end alike
 pub crosses_back : (A B : ℕ → Bool) (p q : ℕ) (c : Crosses A p q) → B p ≡ B q → B c.inner ≡ B c.outer
 crosses_back A B p q c e = elim c.ways [
   | inl w ↦ ap B w.0 ∙ e ∙ ap B (sym w.1)
@@ -93,9 +94,11 @@ crosses_xor A v p q c = elim c.ways [
   | inr w ↦ ap₂ (λ x y. xor (v x) (v y)) (sym w.1) (sym w.0) ∙ xor_comm (v c.outer) (v c.inner)
 ]
 
+-- the outer end of a crossing edge is a node
 pub crosses_below : (A : ℕ → Bool) (p q n : ℕ) (c : Crosses A p q) → p < n → q < n → c.outer < n
 crosses_below A p q n c lp lq = elim c.ways [ inl w ↦ omega arith | inr w ↦ omega arith ]
 
+-- the ends of a crossing edge, as inner and outer
 pub crosses_end : (A : ℕ → Bool) (p q : ℕ) (c : Crosses A p q) (z : ℕ) → is_end p q z ≡ is_end c.inner c.outer z
 crosses_end A p q c z = elim c.ways [
   | inl w ↦ ap₂ (λ x y. is_end x y z) (sym w.0) (sym w.1)
@@ -145,15 +148,18 @@ module _ {X : Type 0} (a b : X → ℕ) where
       the_edge : (P : X → Type 0) → All P E → P f.edge
       the_edge P h = All-head P f.edge f.others (All-permutation P E (f.edge ∷ f.others) f.is h)
 
+      -- what holds of all edges holds of the others
       pub other_edges : (P : X → Type 0) → All P E → All P f.others
       other_edges P h = All-tail P f.edge f.others (All-permutation P E (f.edge ∷ f.others) f.is h)
 
       edge_below : (a f.edge < n) × (b f.edge < n)
       edge_below = the_edge (λ e. (a e < n) × (b e < n)) ends
 
+      -- the inner end is a node
       pub inner_below : f.crosses.inner < n
       inner_below = elim f.crosses.ways [ inl w ↦ omega (arith, edge_below.0, w.0) | inr w ↦ omega (arith, edge_below.1, w.0) ]
 
+      -- the outer end is a node
       pub outer_below : f.crosses.outer < n
       outer_below = crosses_below A (a f.edge) (b f.edge) n f.crosses edge_below.0 edge_below.1
 
@@ -161,6 +167,7 @@ module _ {X : Type 0} (a b : X → ℕ) where
       pub fewer_outside : (r : ℕ) → count_outside A n ≡ suc r → count_outside (joined A f.crosses.outer) n ≡ r
       fewer_outside r h = omega (arith, count_outside-joined A f.crosses.outer n outer_below f.crosses.outside)
 
+      -- the others are one fewer
       pub fewer_edges : (r : ℕ) → length E ≤ suc r → length f.others ≤ r
       fewer_edges r h = let e : suc (length f.others) ≡ length E = length_permutation E (f.edge ∷ f.others) f.is in omega arith
 
@@ -202,6 +209,7 @@ module _ {X : Type 0} (a b : X → ℕ) where
             sym (xor-false (d f.edge)) ∙ sym (ap₂ xor (ap (λ v. d f.edge && v) one ∙ and-true (d f.edge)) rest) ∙ sym (split_degree f.crosses.outer)
             ∙ even
 
+        -- where the outer end is even the edge that leads there is out, and so are all
         pub whole_out : All (λ e. d e ≡ false) f.others → degree_parity a b d E f.crosses.outer ≡ false → All (λ e. d e ≡ false) E
         whole_out gone even = all_edges (λ e. d e ≡ false) (edge_out gone even) gone
 

@@ -30,6 +30,7 @@ no_bond = record { u = 0; v = 0; j = pos 0 }
 abbrev size : Bond → ℕ
 size b = unsigned_abs b.j
 
+-- with other couplings of a bounded sum it stays planar
 pub planar_recoupled : (p : Embedding) (bonds : List Bond) → IsPlanar p → HasSameEnds p.instance bonds
     → weight (with_bonds p.instance bonds) ≤ forced_limit → IsPlanar (record { instance = with_bonds p.instance bonds; faces = p.faces })
 planar_recoupled p bonds h same small = record {
@@ -61,6 +62,7 @@ weight_flipped inst =
     each k l = ap size (get_or-map-range_with_len (flipped_at inst) 0 (bond_count inst) k k no_bond l (omega arith))
         ∙ at_bond (holds inst.seam k) (bond_at inst k)
 
+-- other signs leave the weight
 pub weight_negated : (inst : Ising) → weight (negated inst) ≡ weight inst
 weight_negated inst = sum_by-map_of size opposite inst.bonds ∙ sum_by-agree (λ b. size (opposite b)) size inst.bonds size_opposite
 
@@ -82,9 +84,11 @@ coupling_size inst bond z l =
 pub flipped_drawing : (inst : Ising) → IsInstance inst → HasSameDrawing inst (with_seam_flipped inst)
 flipped_drawing inst good = record { ends = flipped_ends inst good.draft.joined; kept = refl }
 
+-- and the drawing
 pub negated_drawing : (inst : Ising) → IsInstance inst → HasSameDrawing inst (negated inst)
 negated_drawing inst good = record { ends = negated_ends inst good.draft.joined; kept = refl }
 
+-- another coupling at one bond leaves the drawing
 pub coupled_drawing : (inst : Ising) (bond : ℕ) (z : ℤ) → IsInstance inst → bond < bond_count inst
     → weight (with_coupling inst bond z) ≤ forced_limit → HasSameDrawing inst (with_coupling inst bond z)
 coupled_drawing inst bond z good l small = record {
@@ -106,6 +110,7 @@ couplings_small inst couplings given small = All-from_get_or (λ z. unsigned_abs
         (omega (arith, b, given, length-map-range_with_len (coupled_at inst.bonds couplings) 0 (bond_count inst))) in
         omega (arith, ap size here, at_most, small)
 
+-- other couplings at all bonds leave the drawing
 pub couplings_drawing : (inst : Ising) (couplings : List ℤ) → length couplings ≡ bond_count inst →
     weight (with_couplings inst couplings) ≤ forced_limit → HasSameDrawing inst (with_couplings inst couplings)
 couplings_drawing inst couplings given small =
@@ -117,6 +122,7 @@ pub planar_redrawn : (p : Embedding) (other : Ising) → IsPlanar p → HasSameD
 planar_redrawn p other h same small =
     subst (λ (i : Ising). IsPlanar (record { instance = i; faces = p.faces })) (sym same.kept) (planar_recoupled p other.bonds h same.ends small)
 
+-- the components are those of any instance with this drawing
 pub components_redrawn : (inst other : Ising) → IsInstance inst → HasSameDrawing inst other → (names leasts : List ℕ) →
     AreComponents inst names leasts → AreComponents other names leasts
 components_redrawn inst other good same names leasts h =

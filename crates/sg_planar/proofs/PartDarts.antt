@@ -21,21 +21,26 @@ use Rattle.sg_planar.proofs.Places.{entry_back, place_below, place_of_entry, pla
 abbrev pub lifted : (ℕ → ℕ) → ℕ → ℕ
 lifted f d = 2 * f (d / 2) + d % 2
 
+-- the bond of a lifted dart
 pub lifted_half : (f : ℕ → ℕ) (d : ℕ) → lifted f d / 2 ≡ f (d / 2)
 lifted_half f d = omega arith
 
+-- a dart lifted there and back
 pub lifted_back : (f g : ℕ → ℕ) (d : ℕ) → g (f (d / 2)) ≡ d / 2 → lifted g (lifted f d) ≡ d
 lifted_back f g d e =
     let half : g (lifted f d / 2) ≡ d / 2 = ap g (lifted_half f d) ∙ e in
     let rest : lifted f d % 2 ≡ d % 2 = omega arith in
     omega (arith, half, rest)
 
+-- the first dart of a bond is lifted to a first one
 pub lifted_first : (f : ℕ → ℕ) (k : ℕ) → lifted f (2 * k) ≡ 2 * f k
 lifted_first f k = let half : 2 * k / 2 ≡ k = omega arith in omega (arith, ap f half)
 
+-- and the second to a second one
 pub lifted_second : (f : ℕ → ℕ) (k : ℕ) → lifted f (2 * k + 1) ≡ 2 * f k + 1
 lifted_second f k = let half : (2 * k + 1) / 2 ≡ k = omega arith in omega (arith, ap f half)
 
+-- lifting and turning round may be exchanged
 pub lifted_rev : (f : ℕ → ℕ) (d : ℕ) → rev (lifted f d) ≡ lifted f (rev d)
 lifted_rev f d = by_dart (dart_cases d)
   where
@@ -51,6 +56,7 @@ lifted_rev f d = by_dart (dart_cases d)
 abbrev pub whole_dart : List ℕ → ℕ → ℕ
 whole_dart bonds e = lifted (λ k. get_or bonds k 0) e
 
+-- two conditions that imply each other are the same
 pub like_tests : (a b : Bool) → (a ≡ true → b ≡ true) → (b ≡ true → a ≡ true) → a ≡ b
 like_tests true b f g = sym (f refl)
 like_tests false true f g = g refl
@@ -67,6 +73,7 @@ module _ (inst : Ising) (good : IsInstance inst) (spins bonds : List ℕ) (part 
   abbrev small : Ising
   small = restricted inst spins bonds
 
+  -- the part has two darts for each of its bonds
   pub darts_in_part : dart_count small ≡ 2 * length bonds
   darts_in_part = ap (λ m. 2 * m) (length-map bonds (λ k. bond_in spins (bond_at inst k)))
 
@@ -82,9 +89,11 @@ module _ (inst : Ising) (good : IsInstance inst) (spins bonds : List ℕ) (part 
           let half : k ≡ d / 2 = omega arith in
           ap (holds spins) (ap (tail inst) e ∙ tail_second inst k) ∙ part.second_end k (omega arith) ∙ ap (holds bonds) half
 
+  -- a dart of the part belongs to one of its bonds in the whole
   pub whole_bond : (e : ℕ) → e < 2 * length bonds → holds bonds (whole_dart bonds e / 2) ≡ true
   whole_bond e l = ap (holds bonds) (lifted_half (λ k. get_or bonds k 0) e) ∙ holds_entry bonds (e / 2) (omega arith)
 
+  -- and is a dart of the whole
   pub whole_below : (e : ℕ) → e < 2 * length bonds → whole_dart bonds e < dart_count inst
   whole_below e l = let b : whole_dart bonds e / 2 < bond_count inst = part.bonds_below (whole_dart bonds e / 2) (whole_bond e l) in omega (arith, b)
 
@@ -92,15 +101,18 @@ module _ (inst : Ising) (good : IsInstance inst) (spins bonds : List ℕ) (part 
   pub part_of_whole : (e : ℕ) → e < 2 * length bonds → dart_in bonds (whole_dart bonds e) ≡ e
   part_of_whole e l = lifted_back (λ k. get_or bonds k 0) (place_in bonds) e (place_of_entry bonds part.bonds_rise (e / 2) (omega arith))
 
+  -- a dart of the whole, numbered in the part and back
   pub whole_of_part : (d : ℕ) → holds bonds (d / 2) ≡ true → whole_dart bonds (dart_in bonds d) ≡ d
   whole_of_part d h = lifted_back (place_in bonds) (λ k. get_or bonds k 0) d (entry_back bonds part.bonds_rise (d / 2) h)
 
+  -- a dart of a bond of the part has a number in it
   pub part_below : (d : ℕ) → holds bonds (d / 2) ≡ true → dart_in bonds d < 2 * length bonds
   part_below d h = let b : place_in bonds (d / 2) < length bonds = place_below bonds part.bonds_rise (d / 2) h in omega (arith, b)
 
   bond_in_part : (k : ℕ) → k < length bonds → bond_at small k ≡ bond_in spins (bond_at inst (get_or bonds k 0))
   bond_in_part k l = get_or-map (λ k. bond_in spins (bond_at inst k)) bonds k 0 (record { u = 0; v = 0; j = pos 0 }) l
 
+  -- a dart of the part leaves the spin at the place of the one that it leaves in the whole
   pub part_tail : (e : ℕ) → e < 2 * length bonds → tail small e ≡ place_in spins (tail inst (whole_dart bonds e))
   part_tail e l = by_dart (dart_cases e)
     where
@@ -114,6 +126,7 @@ module _ (inst : Ising) (good : IsInstance inst) (spins bonds : List ℕ) (part 
           ∙ ap (place_in spins)
           (sym (tail_second inst (get_or bonds k 0)) ∙ ap (tail inst) (sym (lifted_second (λ k. get_or bonds k 0) k) ∙ ap (whole_dart bonds) (sym is)))
 
+  -- the list of a spin is that of the whole, renumbered
   pub part_darts : (i : ℕ) → i < length spins → darts_of small i ≡ map (dart_in bonds) (darts_of inst (get_or spins i 0))
   part_darts i l = get_or-map (λ i. map (dart_in bonds) (darts_of inst i)) spins i 0 [] l
 

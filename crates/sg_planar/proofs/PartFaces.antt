@@ -92,6 +92,7 @@ module _ (inst : Ising) (good : IsInstance inst) (spins bonds : List ℕ) (part 
   whole_tail e l =
       tail_in_part inst good spins bonds part (whole_dart bonds e) (whole_below inst good spins bonds part e l) ∙ whole_bond inst good spins bonds part e l
 
+  -- the next dart in the part is the next one in the whole
   pub part_next : (e : ℕ) → e < 2 * length bonds → whole_dart bonds (next small e) ≡ next inst (whole_dart bonds e)
   part_next e l =
       ap (whole_dart bonds) (next_is small part_good e ∙ ap₂ (λ xs d. following xs d) list (sym (part_of_whole inst good spins bonds part e l))
@@ -128,6 +129,7 @@ module _ (inst : Ising) (good : IsInstance inst) (spins bonds : List ℕ) (part 
           sym (whole_of_part inst good spins bonds part (get_or (darts_of inst t) j d) (listed_bond inst good spins bonds part t held j d b))
           ∙ ap (whole_dart bonds) same ∙ whole_of_part inst good spins bonds part w (whole_bond inst good spins bonds part e l)
 
+  -- and so is the next on the face
   pub part_phi : (e : ℕ) → e < 2 * length bonds → whole_dart bonds (phi small e) ≡ phi inst (whole_dart bonds e)
   part_phi e l =
       part_next (rev e) (let b : rev e < dart_count small = rev_below small e (omega (arith, l, darts)) in omega (arith, b, darts))
@@ -136,6 +138,7 @@ module _ (inst : Ising) (good : IsInstance inst) (spins bonds : List ℕ) (part 
   steps_in_part : (j e : ℕ) → e < 2 * length bonds → steps small j e < 2 * length bonds
   steps_in_part j e l = let b : steps small j e < dart_count small = face_steps_below small part_good j e (omega (arith, l, darts)) in omega (arith, b, darts)
 
+  -- and so after any number of steps
   pub part_steps : (j e : ℕ) → e < 2 * length bonds → whole_dart bonds (steps small j e) ≡ steps inst j (whole_dart bonds e)
   part_steps zero e l = refl
   part_steps (suc j) e l = part_phi (steps small j e) (steps_in_part j e l) ∙ ap (phi inst) (part_steps j e l)
@@ -162,6 +165,7 @@ module _ (inst : Ising) (good : IsInstance inst) (spins bonds : List ℕ) (part 
     | inr keeps ↦ keeps
   ]
 
+  -- the least dart of a face is the least in the whole
   pub part_least : (e : ℕ) → e < 2 * length bonds → is_least small e ≡ is_least inst (whole_dart bonds e)
   part_least e l = like_tests (is_least small e) (is_least inst w) there back
     where
@@ -192,6 +196,7 @@ module _ (inst : Ising) (good : IsInstance inst) (spins bonds : List ℕ) (part 
               let low : e ≤ steps small j e = whole_back e (steps small j e) l (omega (arith, up, part_steps j e l)) in
               omega (arith, low, is)
 
+  -- a spin without bonds has none in the whole
   pub part_bare : (i : ℕ) → i < length spins → is_bare small i ≡ is_bare inst (get_or spins i 0)
   part_bare i l =
       like_tests (is_bare small i) (is_bare inst s)

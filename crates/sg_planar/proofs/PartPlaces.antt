@@ -53,6 +53,7 @@ module _ (inst : Ising) (good : IsInstance inst) (spins bonds : List ℕ) (part 
       (λ j e b. ap (λ p. 2 * p + get_or (darts_of inst x) j e % 2)
       (of_bonds.each (get_or (darts_of inst x) j e / 2) (listed_bond inst good spins bonds part x h j e b)))
 
+  -- by tables of places the part is the one that is defined
   pub part_assembled : (n : ℕ) (list : List Bond) (rotation : List (List ℕ)) (seam : List ℕ) → n ≡ length spins →
       list ≡ map (λ k. placed_bond spin_places (bond_at inst k)) bonds → rotation ≡ map (λ x. placed_darts bond_places (darts_of inst x)) spins →
       seam ≡ [] →
@@ -69,13 +70,16 @@ module _ (inst : Ising) (good : IsInstance inst) (spins bonds : List ℕ) (part 
 
 -- names are spins, and so are the names of the bonds' first ends
 module _ (inst : Ising) (good : IsInstance inst) (names : List ℕ) (count : length names ≡ inst.n) (named : IsNaming inst (slice_index names)) where
+  -- names are spins
   pub names_low : All (λ c. c < inst.n) names
   names_low = All-from_get_or (λ c. c < inst.n) names 0 (λ j b. name_below inst good (slice_index names) named j (omega (arith, b, count)))
 
+  -- so are the names of the bonds
   pub labels_low : All (λ c. c < inst.n) (map (λ (b : Bond). get_or names b.u 0) inst.bonds)
   labels_low = All-map (λ c. c < inst.n) (λ (b : Bond). get_or names b.u 0) inst.bonds
       (λ k d b. name_below inst good (slice_index names) named (get_or inst.bonds k d).u (good.draft.joined k d b).first_end)
 
+  -- spins and bonds dealt out by name are those of the components
   pub split_made : (labels : List ℕ) (spin_lists : List (List ℕ)) (spin_places : List ℕ) (bond_lists : List (List ℕ)) (bond_places : List ℕ) →
       labels ≡ map (λ (b : Bond). get_or names b.u 0) inst.bonds → IsDealt (slice_index names) inst.n (length names) spin_lists spin_places →
       IsDealt (slice_index labels) inst.n (length labels) bond_lists bond_places → IsSplit inst names spin_lists spin_places bond_lists bond_places

@@ -22,6 +22,7 @@ module _ (inst : Ising) (spins bonds : List ℕ) (part : IsClosedPart inst spins
       at_end (inl e) = sym (part.first_end j.bond j.below) ∙ ap (holds spins) e.0 ∙ h
       at_end (inr e) = sym (part.second_end j.bond j.below) ∙ ap (holds spins) e.1 ∙ h
 
+  -- a bond from a spin of the part leads to one of the part
   pub stays_in_part : (a b : ℕ) → JoinedBy inst all_bonds a b → holds spins a ≡ true → holds spins b ≡ true
   stays_in_part a b j h = at_end j.ends
     where

@@ -17,20 +17,24 @@ use Rattle.sg_planar.proofs.Places.{rises_past, entry_back, place_below, holds_e
 use Rattle.sg_planar.proofs.PartDarts.{part_instance}
 use Rattle.sg_planar.proofs.PartWalks.{part_connected}
 
+-- where no number passes none is chosen
 pub chosen_none : (p : ℕ → Bool) (n : ℕ) → ((k : ℕ) → k < n → p k ≡ false) → chosen_below p n ≡ []
 chosen_none p zero h = refl
 chosen_none p (suc n) h =
     let e : suc n ≡ n + 1 = omega arith in
     ap (chosen_below p) e ∙ chosen_below_no p n (h n (omega arith)) ∙ chosen_none p n (λ k l. h k (omega arith))
 
+-- a list has as many entries as it counts
 pub sum_of_ones : (xs : List ℕ) → sum_by (λ x. 1) xs ≡ length xs
 sum_of_ones [] = refl
 sum_of_ones (x ∷ xs) = let rest : sum_by (λ x. 1) xs ≡ length xs = sum_of_ones xs in omega (arith, sum_by-cons (λ x. 1) x xs)
 
 module _ (inst : Ising) (good : IsInstance inst) (name : ℕ → ℕ) (named : IsNaming inst name) where
+  -- a name is a spin
   pub name_below : (x : ℕ) → x < inst.n → name x < inst.n
   name_below x l = (let low : name x ≤ x = named.least x x l ([], refl) in omega arith)
 
+  -- spins that reach each other have one name
   pub name_alike : (x y : ℕ) → x < inst.n → y < inst.n → Reached inst all_bonds x y → name x ≡ name y
   name_alike x y l m r =
       let there : name x ≤ name y = named.least x (name y) l (reached_on inst all_bonds x y (name y) r (named.reached y m)) in
@@ -38,9 +42,11 @@ module _ (inst : Ising) (good : IsInstance inst) (name : ℕ → ℕ) (named : I
       (named.reached x l)) in
       omega (arith, there, back)
 
+  -- a name has itself as its name
   pub name_own : (x : ℕ) → x < inst.n → name (name x) ≡ name x
   name_own x l = sym (name_alike x (name x) l (name_below x l) (named.reached x l))
 
+  -- the first end of a bond is a spin
   pub first_below : (k : ℕ) → k < bond_count inst → (bond_at inst k).u < inst.n
   first_below k l = (good.draft.joined k (record { u = 0; v = 0; j = pos 0 }) l).first_end
 
@@ -58,9 +64,11 @@ module _ (inst : Ising) (good : IsInstance inst) (name : ℕ → ℕ) (named : I
       let l : x < inst.n = All-holds (λ x. x < inst.n) (named_spins inst name c) x (chosen_below_low (λ x. eqb (name x) c) inst.n) h in
       (l, eqb-true (name x) c (sym (holds-chosen_below (λ x. eqb (name x) c) inst.n x l) ∙ h))
 
+  -- a spin of the name is one of the list
   pub named_spin : (c x : ℕ) → x < inst.n → name x ≡ c → holds (named_spins inst name c) x ≡ true
   named_spin c x l e = holds-chosen_below (λ x. eqb (name x) c) inst.n x l ∙ eq-eqb (name x) c e
 
+  -- a bond of the list has the name
   pub bond_named : (c k : ℕ) → holds (named_bonds inst name c) k ≡ true → (k < bond_count inst) × (name (bond_at inst k).u ≡ c)
   bond_named c k h =
       let l : k < bond_count inst =
@@ -109,14 +117,17 @@ module _ (inst : Ising) (good : IsInstance inst) (name : ℕ → ℕ) (named : I
             let b : place_in (named_spins inst name c) c < length (named_spins inst name c) = place_below (named_spins inst name c)
             (chosen_below_rises (λ x. eqb (name x) c) inst.n) c (named_spin c c l own) in omega (arith, b)
 
+    -- the component is an instance
     pub named_instance : IsInstance (component inst name c)
     named_instance = part_instance inst good (named_spins inst name c) (named_bonds inst name c) named_part
 
+    -- the least spin reaches each of its component
     pub named_reached : (x : ℕ) → holds (named_spins inst name c) x ≡ true → Reached inst all_bonds c x
     named_reached x h =
         let b : (x < inst.n) × (name x ≡ c) = spin_named c x h in
         reached_back inst all_bonds x c (subst (Reached inst all_bonds x) b.1 (named.reached x b.0))
 
+    -- a spin that it reaches is one of the component
     pub reached_named : (x : ℕ) → x < inst.n → Reached inst all_bonds c x → holds (named_spins inst name c) x ≡ true
     reached_named x b r = named_spin c x b (sym (name_alike c x l b r) ∙ own)
 
@@ -144,5 +155,6 @@ module _ (inst : Ising) (good : IsInstance inst) (name : ℕ → ℕ) (named : I
         low : place_in xs c < length xs
         low = place_below xs rises c (named_spin c c l own)
 
+    -- the component is connected
     pub named_connected : IsConnected (component inst name c)
     named_connected = part_connected inst (named_spins inst name c) (named_bonds inst name c) named_part c (named_spin c c l own) own_first named_reached

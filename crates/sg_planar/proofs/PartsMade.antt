@@ -34,6 +34,7 @@ zip_push R (a ∷ xs) (b ∷ ys) x y z r = (z.0, zip_push R xs ys x y z.1 r)
 
 module _ (inst : Ising) (good : IsInstance inst) (name : ℕ → ℕ) (named : IsNaming inst name) where
   module _ (flat : IsEuler inst (pos 2)) (small : weight inst ≤ forced_limit) (c : ℕ) (l : c < inst.n) (own : name c ≡ c) where
+    -- a component of a planar instance is planar
     pub part_planar : (faces : Labelling) → IsFaceLabels (component inst name c) faces →
         IsPlanar (record { instance = component inst name c; faces = faces })
     part_planar faces labels = record {
@@ -43,6 +44,7 @@ module _ (inst : Ising) (good : IsInstance inst) (name : ℕ → ℕ) (named : I
       sum = omega (arith, part_weight inst good name named c l, small);
     }
 
+    -- and is the part of its least spin
     pub part_made : (p : Embedding) → p.instance ≡ component inst name c → IsPlanar p →
         IsPart inst c (record { spins = named_spins inst name c; bonds = named_bonds inst name c; planar = p })
     part_made p is planar = record {
@@ -115,6 +117,7 @@ module _ (inst : Ising) (good : IsInstance inst) (name : ℕ → ℕ) (named : I
       both false true h = absurd (true≢false (sym (h refl)))
       both false false h = refl
 
+  -- the parts of all least spins are the parts of the instance
   pub parts_made : (parts : List Part) → AllZip (IsPart inst) (own_names name inst.n) parts → AreParts inst parts
   parts_made parts z = record {
     leasts = own_names name inst.n;
@@ -143,6 +146,7 @@ zip_more inst name stop parts part z own is =
     subst (λ xs. AllZip (IsPart inst) xs (parts ++ part ∷ [])) (sym (chosen_below_yes (λ c. eqb (name c) c) stop (eq-eqb (name stop) stop own)))
     (zip_push (IsPart inst) (own_names name stop) parts stop part z is)
 
+-- a spin that is not the least of its component adds no part
 pub zip_same : (inst : Ising) (name : ℕ → ℕ) (stop : ℕ) (parts : List Part) → AllZip (IsPart inst) (own_names name stop) parts →
     eqb (name stop) stop ≡ false → AllZip (IsPart inst) (own_names name (stop + 1)) parts
 zip_same inst name stop parts z other = subst (λ xs. AllZip (IsPart inst) xs parts) (sym (chosen_below_no (λ c. eqb (name c) c) stop other)) z
@@ -152,19 +156,24 @@ module _ {inst : Ising} (good : IsInstance inst) {names : List ℕ} {spin_lists 
     {bond_places : List ℕ} (split : IsSplit inst names spin_lists spin_places bond_lists bond_places) (c : ℕ) (l : c < inst.n)
     (own : get_or names c 0 ≡ c)
   where
+    -- the spins dealt out are those of the component
     pub spins_dealt : (spins : List ℕ) → spins ≡ get_or spin_lists c spins → spins ≡ named_spins inst (slice_index names) c
     spins_dealt spins is = is ∙ get_or_default spin_lists c spins [] (omega (arith, l, split.spins.lists_count)) ∙ split.spins.dealt c l
 
+    -- and so are the bonds
     pub bonds_dealt : (bonds : List ℕ) → bonds ≡ get_or bond_lists c bonds → bonds ≡ named_bonds inst (slice_index names) c
     bonds_dealt bonds is = is ∙ get_or_default bond_lists c bonds [] (omega (arith, l, split.bonds.lists_count)) ∙ split.bonds.dealt c l
 
     module _ (spins bonds : List ℕ) (s : spins ≡ named_spins inst (slice_index names) c) (b : bonds ≡ named_bonds inst (slice_index names) c) where
+      -- they are closed: no bond leads out
       pub dealt_closed : IsClosedPart inst spins bonds
       dealt_closed = rw (s, b) (named_part inst good (slice_index names) split.naming c l own)
 
+      -- the places of the spins are those in the part
       pub spin_places_dealt : ArePlaces spins spin_places inst.n
       spin_places_dealt = rw s (dealt_places (slice_index names) inst.n inst.n spin_lists spin_places split.spins good.draft.few_spins c)
 
+      -- and those of the bonds too
       pub bond_places_dealt : ArePlaces bonds bond_places (bond_count inst)
       bond_places_dealt =
           rw b (dealt_places (λ k. get_or names (bond_at inst k).u 0) inst.n (bond_count inst) bond_lists bond_places split.bonds good.draft.few_bonds c)
@@ -173,11 +182,13 @@ module _ {inst : Ising} (good : IsInstance inst) {names : List ℕ} {spin_lists 
         dealt_is : part ≡ component inst (slice_index names) c
         dealt_is = is ∙ ap₂ (restricted inst) s b
 
+        -- the part that is made of them is planar
         pub dealt_planar : (faces : Labelling) → IsFaceLabels part faces → IsPlanar (record { instance = part; faces = faces })
         dealt_planar faces labels =
             subst (λ i. IsPlanar (record { instance = i; faces = faces })) (sym dealt_is)
             (part_planar inst good (slice_index names) split.naming flat small c l own faces (subst (λ i. IsFaceLabels i faces) dealt_is labels))
 
+        -- and is the part of its least spin
         pub dealt_part : (faces : Labelling) → IsFaceLabels part faces → (planar : Embedding) → planar ≡ record { instance = part; faces = faces } →
             IsPart inst c (record { spins = spins; bonds = bonds; planar = planar })
         dealt_part faces labels planar e =

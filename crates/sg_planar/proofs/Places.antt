@@ -36,9 +36,11 @@ module _ (xs : List ℕ) (up : IsStrictlyIncreasing xs) where
       let e : place_in xs x ≡ p.0 = ap (place_in xs) (sym p.2) ∙ place_of_entry p.0 p.1 in
       (omega (arith, p.1), ap (λ k. get_or xs k 0) e ∙ p.2)
 
+  -- a number that the list holds has a place in it
   pub place_below : (x : ℕ) → holds xs x ≡ true → place_in xs x < length xs
   place_below x h = (entry_of_place x h).0
 
+  -- at that place it stands
   pub entry_back : (x : ℕ) → holds xs x ≡ true → get_or xs (place_in xs x) 0 ≡ x
   entry_back x h = (entry_of_place x h).1
 

@@ -10,6 +10,7 @@ use Rattle.sg_walk.proofs.LeastSpins.{reached_by_all}
 use Rattle.sg_walk.proofs.Searches.{marked_along}
 use Rattle.sg_planar.specs.Following.{IsWalkOrder}
 
+-- the walk finds all spins, each but the first behind a neighbour
 pub walked_order : (inst : Ising) (all marks : List Bool) (order : List ℕ) → IsConnected inst → all ≡ replicate (bond_count inst) true →
     IsWalked inst (has all) 0 (replicate inst.n false) marks order → IsWalkOrder inst order
 walked_order inst all marks order connected is w = record {

@@ -46,6 +46,7 @@ one_more false s w v h = let q : 0 + s ≡ s = omega arith in let z : s * w ≡ 
 none : (w : ℕ) → 0 * w ≡ 0
 none w = grind arith
 
+-- a sum over a list, by how often each edge stands in it
 pub sum_by_stands : (w : ℕ → ℕ) (m : ℕ) (es : List ℕ) → All (λ e. e < m) es → sum_by w es ≡ sum_below (λ e. stands e es * w e) m
 sum_by_stands w m [] low = sym (sum_below-zero (λ e. stands e [] * w e) m (λ e l. none (w e)))
 sum_by_stands w m (k ∷ es) low =
@@ -115,6 +116,7 @@ module _ (g : Graph) (es : List ℕ) (closed : IsClosedWalk g es) where
         (ends_parity g x evens ∙ evens_parity x ∙ sym (holds-chosen_below (λ v. odd (degree_of g v)) g.nodes x l));
   }
 
+  -- a closed walk over every edge weighs at least all edges and a least join
   pub closed_walk_weighs : (join : List ℕ) → IsLeastJoin g (odd_nodes g) join → total_weight g + weight_of g join ≤ weight_of g es
   closed_walk_weighs join least =
       let once_more : ℕ → ℕ = λ e. cond (is_even_in e) (edge_weight g e) 0 in

@@ -32,6 +32,7 @@ once_or_twice n false h = inl h
 
 module _ (g : Graph) (join left : List ℕ) (is : IsJoin g (odd_nodes g) join)
     (copies : (e : ℕ) → e < edge_count g → left_of left e ≡ 1 + cond (holds join e) 1 0) where
+  -- each edge has a copy
   pub some_copies : (e : ℕ) → e < edge_count g → 0 < left_of left e
   some_copies e l = omega (arith, copies e l)
 
@@ -43,6 +44,7 @@ module _ (g : Graph) (join left : List ℕ) (is : IsJoin g (odd_nodes g) join)
       ∙ sum_below-add f (λ e. cond (holds join e) (f e) 0) (edge_count g)
       ∙ ap (λ n. sum_below f (edge_count g) + n) (members_sum f join (edge_count g) is.below is.rising)
 
+  -- the copies have an even number of ends at each node
   pub even_copies : (x : ℕ) → x < g.nodes → open_ends g left x % 2 ≡ 0
   even_copies x l =
       ap (λ n. n % 2) (copies_sum (ends_at g x)
@@ -66,6 +68,7 @@ module _ (g : Graph) (join left : List ℕ) (is : IsJoin g (odd_nodes g) join)
         ∙ copies_sum (edge_weight g)
         ∙ ap (λ n. n + weight_of g join) (sym (sum_by_is_sum_below weight_at g.edges (record { a = 0; b = 0; w = pos 0 })))
 
+    -- an Euler tour of the copies is a least tour
     pub euler_least : (weight : ℤ) (cuts : List Cut) → IsLeastJoin g (odd_nodes g) join → weight ≡ pos (total_weight g + weight_of g join)
         → CutsPack g (odd_nodes g) cuts → sum_by cut_weight cuts ≡ 2 * weight_of g join → IsLeastTour g weight ss cuts
     euler_least weight cuts least weighs packs tight = record {

@@ -24,6 +24,7 @@ module _ (g : Graph) where
   abbrev all_edges : List ℕ
   all_edges = range_with_len 0 (edge_count g)
 
+  -- a degree is odd where an odd number of edges has just one end at the node
   pub degree_parity : (x : ℕ) → odd (degree_of g x) ≡ parity_below (is_end_at x) (edge_count g)
   degree_parity x =
       ap odd (sum_by_is_sum_below (ends_on x) g.edges (record { a = 0; b = 0; w = pos 0 }) ∙ sym (sum_by-range (ends_at g x) (edge_count g)))
@@ -44,12 +45,14 @@ module _ (g : Graph) where
         ∙ parity_by_range (λ e. false) (edge_count g)
         ∙ parity_below-none (λ e. false) (edge_count g) (λ e l. refl)
 
+    -- the nodes of odd degree are even in number
     pub odd_nodes_even : length (odd_nodes g) % 2 ≡ 0
     odd_nodes_even =
         ap (λ n. n % 2) (length-filter (λ x. odd (degree_of g x)) (range_with_len 0 g.nodes))
         ∙ even_mod (count_by (λ x. odd (degree_of g x)) (range_with_len 0 g.nodes))
         (odd-count_by (λ x. odd (degree_of g x)) (range_with_len 0 g.nodes) ∙ parity_by_range (λ x. odd (degree_of g x)) g.nodes ∙ odd_degrees)
 
+  -- they are a rising list of nodes
   pub odd_nodes_terminals : AreTerminals g (odd_nodes g)
   odd_nodes_terminals = record {
     rising = chosen_below_rises (λ x. odd (degree_of g x)) g.nodes;

@@ -9,6 +9,7 @@ use Rattle.sg_graph.proofs.Walks.{leads_other}
 use Rattle.sg_postman.specs.Tracing.{AreTried, IsSpent, left_of}
 
 module _ (g : Graph) (lists : List (List ℕ)) (incident : AreIncident g lists) (x : ℕ) (low : x < g.nodes) where
+  -- each edge of a node's list ends there
   pub all_end : All (EndsAt g x) (list_at lists x)
   all_end = incident_ends g lists incident x low (list_at lists x) refl
 
@@ -26,6 +27,7 @@ zeros (suc n) zero = refl
 zeros (suc n) (suc x) = zeros n x
 
 module _ (lists : List (List ℕ)) where
+  -- at the start no edge was tried
   pub tried_none : (left tried : List ℕ) (n : ℕ) → tried ≡ replicate n 0 → length lists ≡ n → AreTried lists left tried
   tried_none left tried n is lists_count = record {
     count = ap length is ∙ length-replicate n 0 ∙ sym lists_count;

@@ -13,8 +13,10 @@ module _ (m n : ℕ) (a b : ℤ) (first : a ≡ pos m) (second : b ≡ pos n) (s
   both : to_z w64 (of_z w64 a) +ℤ to_z w64 (of_z w64 b) ≡ pos (m + n)
   both = ap₂ (λ x y. x +ℤ y) (kept a m first (omega (arith, small))) (kept b n second (omega (arith, small)))
 
+  -- the sum fits 64 bits
   pub sum_fits : FitsSigned w64 (to_z w64 (of_z w64 a) +ℤ to_z w64 (of_z w64 b))
   sum_fits = subst (FitsSigned w64) (sym both) (fits (m + n) small)
 
+  -- the sum in the code is the sum of the two weights
   pub sum_is : to_z w64 (of_z w64 (to_z w64 (of_z w64 a) +ℤ to_z w64 (of_z w64 b))) ≡ pos (m + n)
   sum_is = kept (to_z w64 (of_z w64 a) +ℤ to_z w64 (of_z w64 b)) (m + n) both small

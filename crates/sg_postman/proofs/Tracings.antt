@@ -14,6 +14,7 @@ use Rattle.sg_postman.specs.Tour.{AreSteps, end_of, times}
 use Rattle.sg_postman.specs.Tracing.{AreSpent, IsEulerTour, IsSpent, IsTracing, at_node, left_of, one_less, onward, open_ends}
 use Rattle.sg_postman.proofs.Trails.{end-append, times-append, trail-append, trail-last}
 
+-- one copy less of one edge, and all others as before
 pub taken : (left : List ℕ) (e k : ℕ) → e < length left → 0 < left_of left e → left_of left k ≡ left_of (one_less left e) k + cond (eqb e k) 1 0
 taken left e k l some = elim (cases_eq e k) [
   | inl is ↦
@@ -119,6 +120,7 @@ module _ (g : Graph) (web : IsWeb g) (copies : ℕ → ℕ) where
           spread (left_of left k) (left_of (one_less left e) k) (ends_at g x k) (ends_at g x e) (eqb e k) (taken left e k l some)
           (λ t. ap (ends_at g x) (eqb-true e k t))
 
+  -- a step out along an edge of which a copy is left
   pub forward : (left : List ℕ) (out back : List Step) (e : ℕ) → IsTracing g copies left out back → EndsAt g (end_of 0 out) e → 0 < left_of left e
       → IsTracing g copies (one_less left e) (out ++ onward g out e ∷ []) back
   forward left out back e tracing ends some = record {
@@ -169,6 +171,7 @@ module _ (g : Graph) (web : IsWeb g) (copies : ℕ → ℕ) where
         (elsewhere (end_of 0 back) (end_of 0 out) other) (tracing.even (end_of 0 out) low))
   ]
 
+  -- a step back from a node at which no copy is left
   pub backward : (left : List ℕ) (out back : List Step) (s : Step) → IsTracing g copies left (out ++ s ∷ []) back → s.to < g.nodes → IsSpent g left s.to
       → IsTracing g copies left out (back ++ record { edge = s.edge; to = end_of 0 out } ∷ [])
   backward left out back s tracing low spent =
@@ -212,6 +215,7 @@ module _ (g : Graph) (web : IsWeb g) (copies : ℕ → ℕ) where
     | inr other ↦ onto_spent left e a b s.to ss l t.1 h.1 last (later s ss e (false_from_ne_true (eqb s.edge e) (λ h. other (eqb-true s.edge e h))) some)
   ]
 
+  -- back at node 0, with no copy left there: an Euler tour
   pub finished : (left : List ℕ) (back : List Step) → IsConnected g → ((e : ℕ) → e < edge_count g → 0 < copies e)
       → IsTracing g copies left [] back → IsSpent g left 0 → IsEulerTour g copies back
   finished left back connected some tracing spent = record {

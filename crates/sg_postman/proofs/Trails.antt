@@ -6,10 +6,12 @@ use Rattle.sg_graph.specs.Walk.{IsWalk, Leads}
 use Rattle.sg_postman.specs.declared.steps.Step.{Step}
 use Rattle.sg_postman.specs.Tour.{AreSteps, edges_of, end_of, times}
 
+-- steps end where the last of them leads to
 pub end-append : (x : ℕ) (ss : List Step) (s : Step) → end_of x (ss ++ s ∷ []) ≡ s.to
 end-append x [] s = refl
 end-append x (t ∷ ss) s = end-append t.to ss s
 
+-- the same, by the place of the last step
 pub end_last : (x : ℕ) (ss : List Step) (d : Step) → 0 < length ss → end_of x ss ≡ (get_or ss (length ss - 1) d).to
 end_last x [] d l = absurd (omega arith)
 end_last x (s ∷ []) d l = refl
@@ -18,6 +20,7 @@ end_last x (s ∷ t ∷ ss) d l =
     end_last s.to (t ∷ ss) d (omega arith) ∙ ap (λ k. (get_or (s ∷ t ∷ ss) k d).to) (sym e)
 
 module _ (g : Graph) where
+  -- one step more, along its edge from where one stands
   pub trail-append : (x : ℕ) (ss : List Step) (s : Step) → AreSteps g x ss → Leads g s.edge (end_of x ss) s.to → AreSteps g x (ss ++ s ∷ [])
   trail-append x [] s t l = (l, tt)
   trail-append x (r ∷ ss) s t l = (t.0, trail-append r.to ss s t.1 l)
@@ -27,6 +30,7 @@ module _ (g : Graph) where
   trail-last x [] s t = (tt, t.0)
   trail-last x (r ∷ ss) s t = let b : AreSteps g r.to ss × Leads g s.edge (end_of r.to ss) s.to = trail-last r.to ss s t.1 in ((t.0, b.0), b.1)
 
+-- an edge stands once more where the step is over it
 pub times-append : (e : ℕ) (ss : List Step) (s : Step) → times e (ss ++ s ∷ []) ≡ times e ss + times e (s ∷ [])
 times-append e ss s = sum_by-append (λ (r : Step). cond (r.edge == e) 1 0) ss (s ∷ [])
 

@@ -81,9 +81,11 @@ module _ (inst : Ising) (s : List ℤ) (small : weight inst ≤ forced_limit) (x
   is_weight : x ≡ cut_weight inst s
   is_weight = value ∙ ap (fold (λ total b. total +ℤ cond (is_cut s b) b.j (pos 0)) (pos 0)) lent
 
+  -- the weight of a cut fits 64 bits
   pub cut_fits : FitsSigned w64 (to_z w128 (of_z w128 x))
   cut_fits = fits_signed_from_abs w64 (to_z w128 (of_z w128 x)) (omega (arith, cut_size inst s, ap unsigned_abs (wide ∙ is_weight)))
 
+  -- so the cast keeps it
   pub cut_kept : to_z w64 (of_z w64 (to_z w128 (of_z w128 x))) ≡ cut_weight inst s
   cut_kept = to_z-of_z w64 (to_z w128 (of_z w128 x)) cut_fits ∙ wide ∙ is_weight
 

@@ -31,6 +31,7 @@ word-inside w some r h = go r.fields h
     go [] e = absurd (false≢true (sym some ∙ e))
     go (f ∷ fs) e = omega arith
 
+-- a `seam` has a field
 pub seam_inside : (r : Kept) → is_seam r ≡ true → 1 ≤ length r.fields
 seam_inside r h = word-inside (codes "seam") refl r h
 
@@ -38,6 +39,7 @@ seam_inside r h = word-inside (codes "seam") refl r h
 pub IsBody-none : (fault : List Kept → Kept → Option Refusal) → IsBody fault []
 IsBody-none fault = record { goes_on = All-nil (λ (r : Kept). is_end r ≡ false); passes = λ k inside. absurd (omega arith) }
 
+-- one record more that is no `end` and passes its test
 pub IsBody-more : (fault : List Kept → Kept → Option Refusal) (body : List Kept) (r : Kept) → IsBody fault body → is_end r ≡ false →
     fault body r ≡ None → IsBody fault (body ++ r ∷ [])
 IsBody-more fault body r h other good = record {
@@ -84,6 +86,7 @@ pub seam_in-first : (body : List Kept) (r : Kept) → list_any is_seam body ≡ 
 unfolding seam_in
 seam_in-first body r none seam = rw (find-append is_seam body (r ∷ [])) (rw (find-none is_seam body none) (rw seam refl))
 
+-- a record that is no `seam` gives none
 pub seam_in-other : (body : List Kept) (r : Kept) → is_seam r ≡ false → seam_in (body ++ r ∷ []) ≡ seam_in body
 unfolding seam_in
 seam_in-other body r other = rw (find-append is_seam body (r ∷ [])) (rw other (by (find is_seam body)))
@@ -102,6 +105,7 @@ couplings_in-more body r other =
     ∙ ap (λ (b : Bool). flat_map f (filter test body) ++ flat_map f (cond (not b) (r ∷ []) [])) other
     ∙ ap (λ (l : List ℤ). flat_map f (filter test body) ++ l) (append-nil (f r))
 
+-- a `seam` gives no couplings
 pub couplings_in-seam : (body : List Kept) (r : Kept) → is_seam r ≡ true → couplings_in (body ++ r ∷ []) ≡ couplings_in body
 unfolding couplings_in
 couplings_in-seam body r seam =
@@ -111,6 +115,7 @@ couplings_in-seam body r seam =
     ∙ ap (λ (b : Bool). flat_map f (filter test body) ++ flat_map f (cond (not b) (r ∷ []) [])) seam
     ∙ append-nil (flat_map f (filter test body))
 
+-- there are as many numbers as fields from there on
 pub length-numbers_from : (r : Kept) (from : ℕ) → length (numbers_from r from) ≡ length r.fields - from
 length-numbers_from r from = length-map-range_with_len (λ i. number_in r i) from (length r.fields - from)
 
@@ -134,6 +139,7 @@ all-small (r ∷ rs) =
     All-append (λ j. unsigned_abs j < 2 ^ 63) (numbers_from r 0) (flat_map (λ q. numbers_from q 0) rs) (numbers-small r 0 (length r.fields - 0))
     (all-small rs)
 
+-- a coupling that is read is less than 2^63 in size
 pub couplings_in-small : (body : List Kept) → All (λ j. unsigned_abs j < 2 ^ 63) (couplings_in body)
 unfolding couplings_in
 couplings_in-small body = all-small (filter (λ q. not (is_seam q)) body)
@@ -144,6 +150,7 @@ pub record-fault : (head : Header) (all body rest : List Kept) (r : Kept) (e : F
 record-fault head all body rest r (Refused x) split is_body bad = AtRecord body r rest split is_body bad
 record-fault head all body rest r NoMemory split is_body bad = tt
 
+-- what refuses the instance at the `end` refuses the body
 pub end-fault : (head : Header) (all body : List Kept) (last : Kept) (e : Fault) → IsEnded (record_fault head) all body last
     → IsFaultOf (instance_of head body) e → IsBodyFault head all e
 end-fault head all body last (Refused x) ended bad = AtEnd body last ended bad

@@ -16,6 +16,7 @@ pub after_front_is : {X : Type 0} (p : X → Bool) (xs : List X) (n : ℕ) (d : 
     → (n < length xs → p (get_or xs n d) ≡ false) → drop n xs ≡ after_front p xs
 after_front_is p xs n d inside front stop = ap (λ k. drop k xs) (sym (prefix_len_is p xs n d inside front stop))
 
+-- a list without the items at its end that pass ends behind the last that does not
 pub before_end_is : {X : Type 0} (p : X → Bool) (xs : List X) (n : ℕ) (d : X) → n ≤ length xs →
     ((k : ℕ) → n ≤ k → k < length xs → p (get_or xs k d) ≡ true) → (0 < n → p (get_or xs (n - 1) d) ≡ false) → before_end p xs ≡ take n xs
 before_end_is p xs n d inside back stop =
@@ -34,6 +35,7 @@ fields_in_is raw n inside back stop =
     (λ k low high. let k_in : k < length raw = omega (arith, count) in rw (get_or-map trimmed raw k [] [] k_in) (back k low k_in))
     (λ some. let last : n - 1 < length raw = omega arith in rw (get_or-map trimmed raw (n - 1) [] [] last) (stop some))
 
+-- a record has no more fields than it was written with
 pub fields_in-short : (raw : List (List ℕ)) → length (fields_in raw) ≤ length raw
 unfolding fields_in
 fields_in-short raw =
@@ -41,6 +43,7 @@ fields_in-short raw =
     let count = length-map raw trimmed in
     omega (arith, kept, count)
 
+-- what stands behind the first three bytes, taken whole
 pub take-drop_3 : (text : List ℕ) → take (length text - 3) (drop 3 text) ≡ drop 3 text
 take-drop_3 text = take_rest text 3
 
@@ -51,6 +54,7 @@ field_at-none [] i h = omega arith
 field_at-none (f ∷ fs) zero h = absurd (none-some f (sym h))
 field_at-none (f ∷ fs) (suc i) h = let rest = field_at-none fs i h in omega arith
 
+-- a field that is there is the one at its place
 pub field_at-some : (fields : List (List ℕ)) (i : ℕ) (f : List ℕ) → Some f ≡ field_at fields i → f ≡ get_or fields i []
 unfolding field_at
 field_at-some [] i f h = absurd (none-some f (sym h))
@@ -61,6 +65,7 @@ field_at-some (g ∷ fs) (suc i) f h = field_at-some fs i f h
 marked : (a b c : ℕ) → a ≡ 0xEF → b ≡ 0xBB → c ≡ 0xBF → is_bom a b c ≡ true
 marked a b c e f g = rw (e, f, g) refl
 
+-- a mark in front is passed over
 pub without_marks-mark : (text : List ℕ) → starts_with nat_eq text (0xEF ∷ 0xBB ∷ 0xBF ∷ []) ≡ true →
     without_marks text ≡ without_marks (drop 3 text)
 unfolding without_marks
@@ -73,6 +78,7 @@ without_marks-mark (a ∷ b ∷ c ∷ rest) h =
     let third : c ≡ 0xBF = grind (arith, nat_tests) in
     rw (marked a b c first second third) refl
 
+-- a text that begins with no mark stays
 pub without_marks-no_mark : (text : List ℕ) → starts_with nat_eq text (0xEF ∷ 0xBB ∷ 0xBF ∷ []) ≡ false → without_marks text ≡ text
 unfolding without_marks
 without_marks-no_mark [] h = refl
@@ -98,6 +104,7 @@ strip_bom-without_marks (a ∷ b ∷ c ∷ rest) = elim (cases_Bool (is_bom a b 
   | inr e ↦ rw (e, e) refl
 ]
 
+-- without its marks a text is no longer
 pub length-without_marks : (text : List ℕ) → length (without_marks text) ≤ length text
 unfolding without_marks
 length-without_marks [] = omega arith

@@ -36,11 +36,13 @@ one-test : (test : Option Refusal) → option_or test None ≡ test
 one-test None = refl
 one-test (Some refusal) = refl
 
+-- a bond with good numbers is tested by its ends
 pub bond_fault-ends : (n m : ℕ) (r : Kept) (test : Option Refusal) → length r.fields ≡ 4
     → bad_field r 1 (bond_range n) ≡ None → ends_fault (size_in r 1) (size_in r 2) m ≡ test → bond_fault n m r ≡ test
 bond_fault-ends n m r test count good ends =
     rw (is-not (length r.fields) 4 count, good) (ap (λ (o : Option Refusal). option_or o None) ends ∙ one-test test)
 
+-- a bond with good numbers and different ends, within the limit, passes
 pub bond_fault-none : (n m : ℕ) (r : Kept) → length r.fields ≡ 4 → bad_field r 1 (bond_range n) ≡ None → m < bond_limit →
     (size_in r 1 ≡ size_in r 2 → ⊥) → bond_fault n m r ≡ None
 bond_fault-none n m r count good few other = rw (is-not (length r.fields) 4 count, good, lt-leb bond_limit m few, ne_eqb (size_in r 1) (size_in r 2) other) refl
@@ -50,19 +52,23 @@ pub rot_fault-number : (n : ℕ) (seen : Bool) (r : Kept) (k : ℕ) → (length 
     → rot_fault n seen r ≡ Some (BadNumber r.at k)
 rot_fault-number n seen r k count bad = rw (ne_eqb (length r.fields) 1 count, bad) refl
 
+-- a second `rot` of a spin is refused
 pub rot_fault-seen : (n : ℕ) (seen : Bool) (r : Kept) → (length r.fields ≡ 1 → ⊥) → bad_field r 1 (rot_range n) ≡ None → seen ≡ true
     → rot_fault n seen r ≡ Some (BadShape r.at)
 rot_fault-seen n seen r count good twice = rw (ne_eqb (length r.fields) 1 count, good, twice) refl
 
+-- a first `rot` with good numbers passes
 pub rot_fault-none : (n : ℕ) (seen : Bool) (r : Kept) → (length r.fields ≡ 1 → ⊥) → bad_field r 1 (rot_range n) ≡ None → seen ≡ false
     → rot_fault n seen r ≡ None
 rot_fault-none n seen r count good first = rw (ne_eqb (length r.fields) 1 count, good, first) refl
 
+-- behind the spin the numbers of a `rot` are darts
 pub rot_range-rest : (n : ℕ) (r : Kept) → 2 ≤ length r.fields → is_number_in (spin_below n) (field r 1) ≡ true
     → bad_field r 1 (rot_range n) ≡ bad_field r 2 (λ i. any_index)
 rot_range-rest n r long good = bad_field-rest r (rot_range n) (λ i. any_index) long good
     (λ i low. let other : (i == 1) ≡ false = ne_eqb i 1 (λ e. absurd (omega (arith, e, low))) in rw other refl)
 
+-- so a fault of the darts is the record's
 pub rot_fault-darts : (n : ℕ) (seen : Bool) (r : Kept) → (length r.fields ≡ 1 → ⊥) →
     bad_field r 1 (rot_range n) ≡ bad_field r 2 (λ i. any_index) → (e : Fault)
     → IsTestFault (bad_number r 2 (λ i. any_index)) e → IsTestFault (rot_fault n seen r) e
@@ -73,6 +79,7 @@ rot_fault-darts n seen r count rest NoMemory h = tt
 word-of : (r : Kept) (w : List ℕ) → bytes_eq (field r 0) w ≡ true → field r 0 ≡ w
 word-of r w h = (bytes_eq-Decides (field r 0) w).0 h
 
+-- a `bond` is tested as one behind the bonds before it
 pub general_fault-bond : (n : ℕ) (body : List Kept) (r : Kept) → is_bond r ≡ true → general_fault n body r ≡ bond_fault n (length (bonds_in body)) r
 unfolding general_fault
 general_fault-bond n body r h = rw h refl
@@ -104,18 +111,22 @@ end-no r h =
           w,
     )
 
+-- a `rot` is tested as one of its spin
 pub general_fault-rot : (n : ℕ) (body : List Kept) (r : Kept) → is_rot r ≡ true → general_fault n body r ≡ rot_fault n (has_rot body (size_in r 1)) r
 unfolding general_fault
 general_fault-rot n body r h = rw (rot-no_bond r h, h) refl
 
+-- a `seam` is tested as one behind the others
 pub general_fault-seam : (n : ℕ) (body : List Kept) (r : Kept) → is_seam r ≡ true → general_fault n body r ≡ seam_fault (list_any is_seam body) r
 unfolding general_fault
 general_fault-seam n body r h = rw (seam-no_bond r h, seam-no_rot r h, h) refl
 
+-- an `end` is tested as a bare one
 pub general_fault-end : (n : ℕ) (body : List Kept) (r : Kept) → is_end r ≡ true → general_fault n body r ≡ bare_end_fault r
 unfolding general_fault
 general_fault-end n body r h = let no = end-no r h in rw (no.0, no.1, no.2, h) refl
 
+-- any other record is of no known kind
 pub general_fault-other : (n : ℕ) (body : List Kept) (r : Kept) → is_bond r ≡ false → is_rot r ≡ false → is_seam r ≡ false → is_end r ≡ false
     → general_fault n body r ≡ Some (UnknownKind r.at)
 unfolding general_fault
@@ -128,6 +139,7 @@ bonds_in-more body r h =
     ap (map bond_of) (filter-append is_bond body (r ∷ [])) ∙ map-append bond_of (filter is_bond body) (filter is_bond (r ∷ []))
     ∙ ap (λ (b : Bool). map bond_of (filter is_bond body) ++ map bond_of (cond b (r ∷ []) [])) h
 
+-- a record that is no `bond` gives none
 pub bonds_in-other : (body : List Kept) (r : Kept) → is_bond r ≡ false → bonds_in (body ++ r ∷ []) ≡ bonds_in body
 unfolding bonds_in
 bonds_in-other body r h =
@@ -147,12 +159,15 @@ or-some : (b : Bool) → (b || (true || false)) ≡ true
 or-some true = refl
 or-some false = refl
 
+-- a record that is no `rot` of the spin gives it none
 pub has_rot-other : (body : List Kept) (r : Kept) (i : ℕ) → is_rot_of i r ≡ false → has_rot (body ++ r ∷ []) i ≡ has_rot body i
 has_rot-other body r i h = has_rot-more body r i false h ∙ or-none (has_rot body i)
 
+-- behind its `rot` the spin has one
 pub has_rot-own : (body : List Kept) (r : Kept) (i : ℕ) → is_rot_of i r ≡ true → has_rot (body ++ r ∷ []) i ≡ true
 has_rot-own body r i h = has_rot-more body r i true h ∙ or-some (has_rot body i)
 
+-- a record that is no `rot` of the spin leaves its darts
 pub darts_in-other : (body : List Kept) (r : Kept) (i : ℕ) → is_rot_of i r ≡ false → darts_in (body ++ r ∷ []) i ≡ darts_in body i
 unfolding darts_in
 darts_in-other body r i h = rw (find-append (is_rot_of i) body (r ∷ [])) (rw h (by (find (is_rot_of i) body)))
@@ -165,6 +180,7 @@ find-none : (p : Kept → Bool) (body : List Kept) → list_any p body ≡ false
 find-none p [] h = refl
 find-none p (r ∷ rest) h = let parts = or_parts (p r) (list_any p rest) h in rw (parts.0) (find-none p rest parts.1)
 
+-- behind its first `rot` the spin has these darts
 pub darts_in-own : (body : List Kept) (r : Kept) (i : ℕ) → is_rot_of i r ≡ true → has_rot body i ≡ false →
     darts_in (body ++ r ∷ []) i ≡ sizes_from r 2
 unfolding darts_in has_rot
@@ -208,6 +224,7 @@ marks-kept : (body : List Kept) (r : Kept) (n : ℕ) → is_rot r ≡ false
     → map (has_rot body) (range_with_len 0 n) ≡ map (has_rot (body ++ r ∷ [])) (range_with_len 0 n)
 marks-kept body r n h = table-same (has_rot body) (has_rot (body ++ r ∷ [])) n (λ i. has_rot-other body r i (no-rot_of r i h))
 
+-- what is kept after a `bond`
 pub holds-bond : (body : List Kept) (r : Kept) (old : GeneralBody) (bonds : List Bond) → HoldsGeneral body old → is_bond r ≡ true
     → bonds ≡ old.bonds ++ bond_of r ∷ [] → IsBond old.n (bond_of r) → length old.bonds < bond_limit
     → HoldsGeneral (body ++ r ∷ []) (record { n = old.n; bonds = bonds; rotation = old.rotation; seen = old.seen; seam = old.seam })
@@ -224,9 +241,11 @@ holds-bond body r old bonds h is added sound room =
       cut = h.cut ∙ sym (seam_in-other body r (bond-no_seam r is));
     }
 
+-- whether a `seam` stood before is kept
 pub seen-seam : (body : List Kept) (state : GeneralBody) → HoldsGeneral body state → is_some state.seam ≡ list_any is_seam body
 seen-seam body state h = ap is_some h.cut ∙ seam_in-seen body
 
+-- what is kept after a `seam`
 pub holds-seam : (body : List Kept) (r : Kept) (old : GeneralBody) (seam : List ℕ) → HoldsGeneral body old → is_seam r ≡ true →
     is_some old.seam ≡ false → seam ≡ sizes_from r 1
     → HoldsGeneral (body ++ r ∷ []) (record { n = old.n; bonds = old.bonds; rotation = old.rotation; seen = old.seen; seam = Some seam })
@@ -245,6 +264,7 @@ pub mark-of : (body : List Kept) (state : GeneralBody) (i : ℕ) (d : Bool) → 
 mark-of body state i d h inside = ap (λ (l : List Bool). get_or l i d) h.marks
     ∙ get_or-map-range_with_len (has_rot body) 0 state.n i i d inside (omega arith)
 
+-- what is kept after a `rot`
 pub holds-rot : (body : List Kept) (r : Kept) (old new : GeneralBody) → HoldsGeneral body old → is_rot r ≡ true → size_in r 1 < old.n
     → has_rot body (size_in r 1) ≡ false
     → new.n ≡ old.n → new.bonds ≡ old.bonds → new.seam ≡ old.seam → new.rotation ≡ set old.rotation (size_in r 1) (sizes_from r 2)
@@ -272,6 +292,7 @@ holds-rot body r old new h is inside first same_n same_bonds same_seam lists mar
 pub lists-count : (body : List Kept) (state : GeneralBody) → HoldsGeneral body state → length state.rotation ≡ state.n
 lists-count body state h = ap length h.darts ∙ length-map-range_with_len (darts_in body) 0 state.n
 
+-- there is a mark for each spin
 pub marks-count : (body : List Kept) (state : GeneralBody) → HoldsGeneral body state → length state.seen.items ≡ state.n
 marks-count body state h = ap length h.marks ∙ length-map-range_with_len (has_rot body) 0 state.n
 
@@ -291,6 +312,7 @@ pub record GeneralSoFar (n : ℕ) (all left : List Kept) (state : GeneralBody) :
   pub holds : HoldsGeneral body state
   pub spins : state.n ≡ n
 
+-- a bare `end` ends the records
 pub ended-general : (n : ℕ) (all left rest : List Kept) (r : Kept) (state : GeneralBody) (sf : GeneralSoFar n all left state) → left ≡ r ∷ rest
     → is_end r ≡ true
     → bare_end_fault r ≡ None → IsEnded (record_fault (header.General n)) all sf.body r
@@ -302,6 +324,7 @@ ended-general n all left rest r state sf next end pass = record {
   passes = general_fault-end n sf.body r end ∙ pass;
 }
 
+-- one record more, which passes its tests
 pub one-more : (n : ℕ) (all left rest : List Kept) (r : Kept) (old new : GeneralBody) → (sf : GeneralSoFar n all left old) → left ≡ r ∷ rest
     → is_end r ≡ false → general_fault old.n sf.body r ≡ None → HoldsGeneral (sf.body ++ r ∷ []) new → new.n ≡ old.n →
     GeneralSoFar n all rest new
@@ -334,6 +357,7 @@ pub no_darts-more : (lists : List (List ℕ)) (i : ℕ) → lists ≡ map (darts
 unfolding darts_in
 no_darts-more lists i h = ap (λ (l : List (List ℕ)). l ++ [] ∷ []) h ∙ sym (map-range_with_len_more (darts_in []) 0 i i (omega arith))
 
+-- before the first record no spin has a `rot`, one spin more
 pub no_marks-more : (marks : List Bool) (i : ℕ) → marks ≡ map (has_rot []) (range_with_len 0 i)
     → marks ++ false ∷ [] ≡ map (has_rot []) (range_with_len 0 (i + 1))
 unfolding has_rot

@@ -25,6 +25,7 @@ pub lattice_fault-seam : (wanted : ℕ) (body : List Kept) (r : Kept) → is_sea
 unfolding lattice_fault
 lattice_fault-seam wanted body r h = rw h refl
 
+-- a record that is neither `seam` nor `end` is tested as couplings
 pub lattice_fault-couplings : (wanted : ℕ) (body : List Kept) (r : Kept) → is_seam r ≡ false → is_end r ≡ false
     → lattice_fault wanted body r ≡ bad_number r 0 (λ i. any_number)
 unfolding lattice_fault
@@ -34,11 +35,13 @@ lattice_fault-couplings wanted body r h e = rw (h, e) refl
 end-no_seam : (r : Kept) → is_end r ≡ true → is_seam r ≡ false
 end-no_seam r h = let word = (bytes_eq-Decides (field r 0) (codes "end")).0 h in ap (λ (w : List ℕ). bytes_eq w (codes "seam")) word
 
+-- an `end` is tested by the number of couplings before it
 pub lattice_fault-end : (wanted : ℕ) (body : List Kept) (r : Kept) → is_end r ≡ true
     → lattice_fault wanted body r ≡ lattice_end_fault wanted (length (couplings_in body)) r
 unfolding lattice_fault
 lattice_fault-end wanted body r h = rw (end-no_seam r h, h) refl
 
+-- the records of a lattice give the lattice of their couplings, with their seam if there is one
 pub instance_of-lattice : (kind : Kind) (rows cols : ℕ) (body : List Kept)
     → instance_of (header.Lattice kind rows cols) body ≡ reseamed (seam_in body) (lattice kind rows cols (couplings_in body))
 unfolding instance_of
@@ -48,6 +51,7 @@ instance_of-lattice kind rows cols body = refl
 pub seen-seam : (body : List Kept) (state : LatticeBody) → HoldsLattice body state → is_some state.seam ≡ list_any is_seam body
 seen-seam body state h = ap is_some h.bonds ∙ seam_in-seen body
 
+-- a `seam` that passes is the first
 pub seam_fault-passes : (seen : Bool) (r : Kept) → seam_fault seen r ≡ None → seen ≡ false
 seam_fault-passes true r h = absurd (none-some _ (sym h))
 seam_fault-passes false r h = refl
@@ -60,6 +64,7 @@ holds-seam body r old new h seam first same bonds = record {
   bonds = bonds ∙ sym (seam_in-first body r (sym (seen-seam body old h) ∙ first) seam);
 }
 
+-- what is kept after a record of couplings
 pub holds-couplings : (body : List Kept) (r : Kept) (old new : LatticeBody) → HoldsLattice body old → is_seam r ≡ false
     → new.couplings ≡ old.couplings ++ numbers_from r 0 → new.seam ≡ old.seam → HoldsLattice (body ++ r ∷ []) new
 holds-couplings body r old new h other added same = record {
@@ -75,6 +80,7 @@ pub record LatticeSoFar (head : Header) (all left : List Kept) (state : LatticeB
   pub holds : HoldsLattice body state
   pub few : length state.couplings + field_total left < 2 ^ 32
 
+-- one record more, which passes its tests
 pub one-more : (head : Header) (all left rest : List Kept) (r : Kept) (old new : LatticeBody) → (sf : LatticeSoFar head all left old) → left ≡ r ∷ rest
     → is_end r ≡ false → record_fault head sf.body r ≡ None → HoldsLattice (sf.body ++ r ∷ []) new
     → length new.couplings ≤ length old.couplings + length r.fields → LatticeSoFar head all rest new
@@ -89,6 +95,7 @@ one-more head all left rest r old new sf next other good holds count =
       few = omega (arith, total, few, count);
     }
 
+-- before the first record nothing is kept
 pub none-yet : (head : Header) (all : List Kept) (state : LatticeBody) → state.couplings ≡ [] → state.seam ≡ None → field_total all < 2 ^ 32
     → LatticeSoFar head all all state
 unfolding couplings_in seam_in
@@ -116,6 +123,7 @@ ended-lattice kind rows cols all left rest r state sf next end pass = record {
       ∙ ap (λ (js : List ℤ). lattice_end_fault (bond_total kind rows cols) (length js) r) (sym sf.holds.couplings) ∙ pass;
 }
 
+-- what is kept makes the instance that the records give
 pub instance-lattice : (kind : Kind) (rows cols : ℕ) (body : List Kept) (state : LatticeBody) → HoldsLattice body state
     → reseamed state.seam (lattice kind rows cols state.couplings) ≡ instance_of (header.Lattice kind rows cols) body
 instance-lattice kind rows cols body state h =

@@ -64,6 +64,7 @@ left-above records left after above l =
     sym (behind-last 0 l.body left l.last (subst (λ (rs : List Kept). AreAbove 0 rs) l.split above))
     ∙ sym (ap₂ (λ (n : ℕ) (rs : List Kept). behind n rs) l.count l.split)
 
+-- what is left is what stands behind the records that were read
 pub left-kept : (bytes : List ℕ) (left : List Kept) (after : ℕ) → Leaves (kept_of bytes) left after → left ≡ behind after (kept_of bytes)
 left-kept bytes left after l = left-above (kept_of bytes) left after (above-kept bytes) l
 
@@ -91,6 +92,7 @@ pub nothing-left : (bytes : List ℕ) (left : List Kept) (after : ℕ) → Leave
     → trailing_fault (kept_of bytes) after ≡ None
 nothing-left bytes left after l none = ap left_fault (sym (left-kept bytes left after l)) ∙ none
 
+-- so a fault of what is left is the first record behind the last `end`
 pub some-left : (bytes : List ℕ) (left : List Kept) (after : ℕ) (e : Fault) → Leaves (kept_of bytes) left after → IsLeftFault left e
     → IsTrailingFault (kept_of bytes) after e
 some-left bytes left after e l bad = subst (λ (rs : List Kept). IsLeftFault rs e) (left-kept bytes left after l) bad
@@ -99,6 +101,7 @@ some-left bytes left after e l bad = subst (λ (rs : List Kept). IsLeftFault rs 
 pub rest-all : (records : List Kept) → IsRest records records
 rest-all records = record { read = []; split = refl }
 
+-- where nothing is left all was read
 pub rest-none : (records left : List Kept) → left ≡ [] → IsRest records left
 rest-none records left none = record { read = records; split = sym (append-nil records) ∙ ap (λ (rs : List Kept). records ++ rs) (sym none) }
 

@@ -42,6 +42,7 @@ is_numeral-true field h =
     let some : nat_lt 0 (length (without_leading_sign field)) ≡ true = let a = h.0 in grind (arith, nat_tests) in
     rw (some, digits-true (without_leading_sign field) h.1) refl
 
+-- a field that passes the test is digits behind a sign or none
 pub IsNumeral-from_true : (field : List ℕ) → is_numeral field ≡ true → IsNumeral 10 (without_leading_sign field)
 IsNumeral-from_true field h = elim (cases_Bool (nat_lt 0 (length (without_leading_sign field)))) [
   | inl e ↦ (grind (arith, nat_tests), digits-from (without_leading_sign field) (rw e at h))
@@ -104,6 +105,7 @@ ascii-numeral (c ∷ cs) h = elim (cases_Bool (c == 45)) [
   ]
 ]
 
+-- such a field is UTF-8
 pub IsUtf8-from_numeral : (field : List ℕ) → IsNumeral 10 (without_leading_sign field) → IsUtf8 field
 IsUtf8-from_numeral field h = IsUtf8-from_ascii field (ascii-numeral field h)
 
@@ -117,6 +119,7 @@ pub number_of-parsed : (field : List ℕ) (z : ℤ) → IsNumeral 10 (without_le
 number_of-parsed field z numeral fits e above =
     sym (number_of-some field numeral (size-from_fits (starts_with_minus field) (size_of field) fits (rw e at above)) ∙ ap Some (sym e))
 
+-- a number of -2^63 or less is none
 pub number_of-least : (field : List ℕ) (z : ℤ) → z ≡ signed_digits_value 10 field → z ≤ℤ negsuc 9223372036854775807 → number_of field ≡ None
 number_of-least field z e low = number_of-none field (λ numeral size.
     let above = above-from_size (starts_with_minus field) (size_of field) size in

@@ -8,10 +8,12 @@ use Rattle.sg_reader.specs.Kept.{Kept}
 use Rattle.sg_reader.specs.Header.{header_fault, header_of}
 use Rattle.sg_reader.specs.ReadInstance.{AtFirst, Behind, IsBodyFault, IsReadFault}
 
+-- what refuses the first record refuses the text
 pub first-fault : (kept : List Kept) (first : Kept) (rest : List Kept) (refusal : Refusal) → kept ≡ first ∷ rest → header_fault first ≡ Some refusal
     → IsReadFault kept (Refused refusal)
 first-fault kept first rest refusal split bad = AtFirst first rest split bad
 
+-- behind a good first record, what refuses the body refuses the text
 pub behind-fault : (kept : List Kept) (first : Kept) (rest : List Kept) (head : Header) (e : Fault) → kept ≡ first ∷ rest → header_fault first ≡ None
     → header_of first ≡ Some head → IsBodyFault head rest e → IsReadFault kept e
 behind-fault kept first rest head (Refused refusal) split good says bad = Behind first rest head split good says bad

@@ -95,9 +95,11 @@ count-records_from (suc n) s xs = by (next_record default_config s [] [] xs) (λ
     by None more = omega arith
     by (Some r) more = let others = more r in omega (arith, others)
 
+-- a text has at most one field more than bytes
 pub fields-records_of : (xs : List ℕ) → sum_by length (records_of xs) ≤ length xs + 1
 fields-records_of xs = fields-records_from (length xs + 1) st.StartRecord xs
 
+-- a text has at most one record more than bytes
 pub count-records_of : (xs : List ℕ) → length (records_of xs) ≤ length xs + 1
 count-records_of xs = count-records_from (length xs + 1) st.StartRecord xs
 
@@ -105,6 +107,7 @@ count-records_of xs = count-records_from (length xs + 1) st.StartRecord xs
 abbrev pub field_total : List Kept → ℕ
 field_total records = sum_by (λ (r : Kept). length r.fields) records
 
+-- the records that are kept have no more fields than all
 pub field_total-numbered : (at : ℕ) (raw : List (List (List ℕ))) → field_total (filter is_kept (numbered_from at raw)) ≤ sum_by length raw
 field_total-numbered at [] = omega arith
 field_total-numbered at (r ∷ raw) =

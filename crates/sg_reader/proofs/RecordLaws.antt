@@ -113,6 +113,7 @@ records_from-suc : (n : ℕ) (s : State) (xs : List ℕ) (r : Read) → next_rec
 unfolding records_from
 records_from-suc n s xs r h = rw h refl
 
+-- the records are the one that is read, and those of what is left
 pub records_from-some : (s : State) (xs : List ℕ) (r : Read) → next_record default_config s [] [] xs ≡ Some r → ends_at_end s ≡ false
     → records_from default_config (length xs + 1) s xs ≡ r.0 ∷ records_from default_config (length r.2 + 1) r.1 r.2
 records_from-some s xs r h between =

@@ -31,6 +31,7 @@ pub energy_fault-number : (r : Kept) → is_energy r ≡ true → length r.field
     → energy_fault r ≡ Some (BadNumber r.at 1)
 energy_fault-number r word count bad = rw (word, is-not (length r.fields) 2 count, bad_field-first r (λ i. any_number) (omega arith) bad) refl
 
+-- an `energy` with one number passes
 pub energy_fault-none : (r : Kept) → is_energy r ≡ true → length r.fields ≡ 2 → is_number_in any_number (field r 1) ≡ true →
     energy_fault r ≡ None
 energy_fault-none r word count good = rw (word, is-not (length r.fields) 2 count, bad_field-one r (λ i. any_number) count good) refl
@@ -39,11 +40,13 @@ energy_fault-none r word count good = rw (word, is-not (length r.fields) 2 count
 pub spins_inside : (r : Kept) → is_spins r ≡ true → 1 ≤ length r.fields
 spins_inside r h = word-inside (codes "spins") refl r h
 
+-- where all values are 1 or -1 none is bad
 pub bad_spin-none : (r : Kept) → ((i : ℕ) → 1 ≤ i → i < length r.fields → is_spin_value (number_of (field r i)) ≡ true) → bad_spin r ≡ None
 unfolding bad_spin
 bad_spin-none r h =
     find_range-none (λ i. not (is_spin_value (number_of (field r i)))) 1 (length r.fields - 1) (λ i low high. not_from_true _ (h i low (omega arith)))
 
+-- the first value that is neither is the bad one
 pub bad_spin-some : (r : Kept) (k : ℕ) → 1 ≤ k → k < length r.fields →
     ((i : ℕ) → 1 ≤ i → i < k → is_spin_value (number_of (field r i)) ≡ true)
     → is_spin_value (number_of (field r k)) ≡ false → bad_spin r ≡ Some k
@@ -52,9 +55,11 @@ bad_spin-some r k low high h e =
     find_range-some (λ i. not (is_spin_value (number_of (field r i)))) 1 (length r.fields - 1) k low (omega arith) (λ i l u. not_from_true _ (h i l u))
     (not_from_false _ e)
 
+-- a bad value refuses the `spins`
 pub spins_fault-number : (r : Kept) (k : ℕ) → is_spins r ≡ true → bad_spin r ≡ Some k → spins_fault r ≡ Some (BadNumber r.at k)
 spins_fault-number r k word bad = rw (word, bad) refl
 
+-- `spins` without one pass
 pub spins_fault-none : (r : Kept) → is_spins r ≡ true → bad_spin r ≡ None → spins_fault r ≡ None
 spins_fault-none r word good = rw (word, good) refl
 
@@ -67,18 +72,22 @@ loop-long r word other =
       | inr e ↦ omega (arith, inside)
     ]
 
+-- behind the weight the numbers of a `loop` are bonds
 pub loop_range-rest : (r : Kept) → 2 ≤ length r.fields → is_number_in any_number (field r 1) ≡ true →
     bad_field r 1 loop_range ≡ bad_field r 2 (λ i. any_index)
 loop_range-rest r long good = bad_field-rest r loop_range (λ i. any_index) long good
     (λ i low. let other : (i == 1) ≡ false = ne_eqb i 1 (λ e. absurd (omega (arith, e, low))) in rw other refl)
 
+-- a bad number refuses the `loop`
 pub loop_fault-number : (r : Kept) (k : ℕ) → is_loop r ≡ true → (length r.fields ≡ 1 → ⊥) → bad_field r 1 loop_range ≡ Some k
     → loop_fault r ≡ Some (BadNumber r.at k)
 loop_fault-number r k word count bad = rw (word, ne_eqb (length r.fields) 1 count, bad) refl
 
+-- a `loop` with good numbers passes
 pub loop_fault-none : (r : Kept) → is_loop r ≡ true → (length r.fields ≡ 1 → ⊥) → bad_field r 1 loop_range ≡ None → loop_fault r ≡ None
 loop_fault-none r word count good = rw (word, ne_eqb (length r.fields) 1 count, good) refl
 
+-- a fault of the bonds is the `loop`'s
 pub loop_fault-bonds : (r : Kept) → is_loop r ≡ true → (length r.fields ≡ 1 → ⊥) →
     bad_field r 1 loop_range ≡ bad_field r 2 (λ i. any_index) → (e : Fault)
     → IsTestFault (bad_number r 2 (λ i. any_index)) e → IsTestFault (loop_fault r) e
@@ -90,6 +99,7 @@ pub first-passes : (b : Bool) (refusal : Refusal) (tests : List (Option Refusal)
 first-passes true refusal tests h = refl
 first-passes false refusal tests h = absurd (none-some refusal (sym h))
 
+-- a record that begins with another word is no `end`
 pub other-word : (w : List ℕ) (r : Kept) → bytes_eq w (codes "end") ≡ false → bytes_eq (field r 0) w ≡ true → is_end r ≡ false
 other-word w r other h = ap (λ (v : List ℕ). bytes_eq v (codes "end")) ((bytes_eq-Decides (field r 0) w).0 h) ∙ other
 
@@ -120,6 +130,7 @@ IsBody-cons fault q body other good h = record {
     at zero inside = good
     at (suc k) inside = h.passes k (omega arith)
 
+-- a record in front that passes, and records that are ended behind it
 pub IsEnded-cons : (fault : Table) (q : Kept) (rest body : List Kept) (last : Kept) → is_end q ≡ false → fault [] q ≡ None
     → IsEnded (λ b r. fault (q ∷ b) r) rest body last → IsEnded fault (q ∷ rest) (q ∷ body) last
 IsEnded-cons fault q rest body last other good h = record {
@@ -130,6 +141,7 @@ IsEnded-cons fault q rest body last other good h = record {
   passes = h.passes;
 }
 
+-- a record in front that passes, and records that are refused behind it
 pub Refuses-cons : (fault : Table) (q : Kept) (rest : List Kept) (x : Refusal) → is_end q ≡ false → fault [] q ≡ None
     → RefusesRecords (λ b r. fault (q ∷ b) r) rest x → RefusesRecords fault (q ∷ rest) x
 Refuses-cons fault q rest x other good (AtRecord body r more split is_body bad) =
@@ -143,6 +155,7 @@ pub energy-fault : (all rest : List Kept) (r : Kept) (refusal : Refusal) → all
 unfolding result_fault
 energy-fault all rest r refusal split bad = AtRecord [] r rest split (IsBody-none result_fault) bad
 
+-- without a record the result runs out
 pub without-energy : (all : List Kept) → all ≡ [] → IsResultFault all (Refused Unended)
 without-energy all none = rw none (WithoutEnd (IsBody-none result_fault) refl)
 
@@ -157,6 +170,7 @@ unfolding result_fault
 spins-fault all rest q r e split good bad =
     record-fault result_fault (q ∷ all) (q ∷ []) rest r e (ap (λ (l : List Kept). q ∷ l) split) (begun-energy q good) bad
 
+-- with an energy alone it runs out too
 pub without-spins : (all : List Kept) (q : Kept) → all ≡ [] → energy_fault q ≡ None → IsResultFault (q ∷ all) (Refused Unended)
 without-spins all q none good = rw none (WithoutEnd (begun-energy q good) refl)
 
@@ -172,6 +186,7 @@ pub record LoopsSoFar (all left : List Kept) (loops : List Loop) : Type 0 where
   pub listed : loops ≡ loops_of body
   pub few : 2 * length loops + field_total left ≤ text_limit
 
+-- before the first loop nothing is kept
 pub no-loops : (all : List Kept) (loops : List Loop) → loops ≡ [] → field_total all ≤ text_limit → LoopsSoFar all all loops
 no-loops all loops none few =
     let count = ap length none in
@@ -210,12 +225,14 @@ pub end-fault : (all left rest : List Kept) (p : Kept) (loops : List Loop) (refu
 end-fault all left rest p loops refusal sf next end bad =
     AtRecord sf.body p rest (sf.split ∙ ap (λ (l : List Kept). sf.body ++ l) next) sf.is_body (loops_fault-end sf.body p end ∙ bad)
 
+-- what refuses a loop refuses the loops
 pub loop-fault : (all left rest : List Kept) (p : Kept) (loops : List Loop) (e : Fault) → LoopsSoFar all left loops
     → left ≡ p ∷ rest → is_end p ≡ false → IsTestFault (loop_fault p) e → IsRecordsFault loops_fault all e
 loop-fault all left rest p loops e sf next other bad =
     record-fault loops_fault all sf.body rest p e (sf.split ∙ ap (λ (l : List Kept). sf.body ++ l) next) sf.is_body
     (rw (loops_fault-loop sf.body p other) bad)
 
+-- loops without an `end` run out
 pub without-end : (all left : List Kept) (loops : List Loop) → LoopsSoFar all left loops → left ≡ []
     → IsRecordsFault loops_fault all (Refused Unended)
 without-end all left loops sf none =
@@ -246,6 +263,7 @@ pub record IsFront (all left : List Kept) (q r : Kept) : Type 0 where
   pub energy : energy_fault q ≡ None
   pub spins : spins_fault r ≡ None
 
+-- behind energy and spins, what refuses the loops refuses the result
 pub loops-fault : (all left : List Kept) (q r : Kept) (e : Fault) → IsFront all left q r → IsRecordsFault loops_fault left e
     → IsResultFault all e
 unfolding result_fault
@@ -261,6 +279,7 @@ unfolding result_of
 stated-result q r body energy spins loops stated valued listed =
     λ i. record { energy = stated i; spins = valued i; loops = listed i }
 
+-- energy, spins and loops that are read are the result
 pub stated : (all left : List Kept) (q r : Kept) (energy : ℤ) (spins : List ℤ) (loops : List Loop) (next : ℕ)
     → IsFront all left q r → energy ≡ number_in q 1 → spins ≡ numbers_from r 1
     → StatesToEnd loops_fault loops_of left loops next

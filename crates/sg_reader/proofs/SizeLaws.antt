@@ -28,6 +28,7 @@ half_rows R C some =
     most true = omega arith
     most false = omega arith
 
+-- a lattice has at most three bonds a spin
 pub bonds-of_lattice : (kind : Kind) (R C : ℕ) → IsSize kind R C → bond_total kind R C ≤ 3 * (R * C)
 bonds-of_lattice Square R C size =
     omega (arith, mul-le R (C - 1) R C (omega arith) (omega arith), mul-le (R - 1) C R C (omega arith) (omega arith))
@@ -51,10 +52,12 @@ reseamed-bonds : (seam : Option (List ℕ)) (inst : Ising) → bond_count (resea
 reseamed-bonds None inst = refl
 reseamed-bonds (Some seam) inst = refl
 
+-- a lattice that is read has its rows times its columns of spins
 pub lattice-spins : (kind : Kind) (R C : ℕ) (js : List ℤ) (seam : Option (List ℕ)) (inst : Ising)
     → inst ≡ reseamed seam (lattice kind R C js) → inst.n ≡ R * C
 lattice-spins kind R C js seam inst is = ap (λ (i : Ising). i.n) is ∙ reseamed-spins seam (lattice kind R C js)
 
+-- and at most three bonds for each
 pub lattice-bonds : (kind : Kind) (R C : ℕ) (js : List ℤ) (seam : Option (List ℕ)) (inst : Ising) → IsSize kind R C
     → inst ≡ reseamed seam (lattice kind R C js) → bond_count inst ≤ 3 * (R * C)
 lattice-bonds kind R C js seam inst size is =
@@ -66,6 +69,7 @@ pub general-spins : (n : ℕ) (body : List Kept) (inst : Ising) → inst ≡ ins
 unfolding instance_of
 general-spins n body inst is = ap (λ (i : Ising). i.n) is
 
+-- an instance that is read has no more bonds than the limit
 pub general-bonds : (n : ℕ) (body : List Kept) (state : GeneralBody) (inst : Ising) → HoldsGeneral body state
     → inst ≡ instance_of (header.General n) body → bond_count inst ≤ bond_limit
 unfolding instance_of

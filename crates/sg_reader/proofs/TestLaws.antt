@@ -12,6 +12,7 @@ pub find_range-none : (p : ℕ → Bool) (a n : ℕ) → ((i : ℕ) → a ≤ i 
 find_range-none p a zero h = refl
 find_range-none p a (suc n) h = rw (h a (omega arith) (omega arith)) (find_range-none p (a + 1) n (λ i low high. h i (omega arith) (omega arith)))
 
+-- the first number of a range that passes is the one found
 pub find_range-some : (p : ℕ → Bool) (a n k : ℕ) → a ≤ k → k < a + n → ((i : ℕ) → a ≤ i → i < k → p i ≡ false) → p k ≡ true
     → find p (range_with_len a n) ≡ Some k
 find_range-some p a zero k low high h e = absurd (omega arith)
@@ -43,16 +44,19 @@ pub bad_field-first : (r : Kept) (range : ℕ → Range) → 1 < length r.fields
     bad_field r 1 range ≡ Some 1
 bad_field-first r range one bad = bad_field-some r 1 range 1 (omega arith) one (λ i low high. absurd (omega arith)) bad
 
+-- the second number is bad where the first is good
 pub bad_field-second : (r : Kept) (range : ℕ → Range) → 2 < length r.fields → is_number_in (range 1) (field r 1) ≡ true
     → is_number_in (range 2) (field r 2) ≡ false
     → bad_field r 1 range ≡ Some 2
 bad_field-second r range two good bad = bad_field-some r 1 range 2 (omega arith) two
     (λ i low high. let e : i ≡ 1 = omega arith in rw e good) bad
 
+-- one good number
 pub bad_field-one : (r : Kept) (range : ℕ → Range) → length r.fields ≡ 2 → is_number_in (range 1) (field r 1) ≡ true →
     bad_field r 1 range ≡ None
 bad_field-one r range count good = bad_field-none r 1 range (λ i low high. let e : i ≡ 1 = omega arith in rw e good)
 
+-- two good numbers
 pub bad_field-two : (r : Kept) (range : ℕ → Range) → length r.fields ≡ 3 → is_number_in (range 1) (field r 1) ≡ true →
     is_number_in (range 2) (field r 2) ≡ true → bad_field r 1 range ≡ None
 bad_field-two r range count first second = bad_field-none r 1 range (λ i low high. elim (cases_eq i 1) [
@@ -65,6 +69,7 @@ find-agree : (p q : ℕ → Bool) (a n : ℕ) → ((i : ℕ) → a ≤ i → p i
 find-agree p q a zero h = refl
 find-agree p q a (suc n) h = rw (h a (omega arith)) (ap (λ (o : Option ℕ). cond (q a) (Some a) o) (find-agree p q (a + 1) n (λ i low. h i (omega arith))))
 
+-- behind a good first number the test goes on with the second
 pub bad_field-rest : (r : Kept) (range other : ℕ → Range) → 2 ≤ length r.fields → is_number_in (range 1) (field r 1) ≡ true
     → ((i : ℕ) → 2 ≤ i → range i ≡ other i)
     → bad_field r 1 range ≡ bad_field r 2 other
@@ -84,6 +89,7 @@ bad_field-third r range count first second bad = bad_field-some r 1 range 3 (ome
   | inr other ↦ let e : i ≡ 2 = omega arith in rw e second
 ]) bad
 
+-- three good numbers
 pub bad_field-three : (r : Kept) (range : ℕ → Range) → length r.fields ≡ 4 → is_number_in (range 1) (field r 1) ≡ true
     → is_number_in (range 2) (field r 2) ≡ true
     → is_number_in (range 3) (field r 3) ≡ true → bad_field r 1 range ≡ None
@@ -99,5 +105,6 @@ bad_field-three r range count first second third = bad_field-none r 1 range (λ 
 pub is-not : (a b : ℕ) → a ≡ b → not (a == b) ≡ false
 is-not a b h = not_from_true _ (eq-eqb a b h)
 
+-- different numbers are not equal
 pub is-other : (a b : ℕ) → (a ≡ b → ⊥) → not (a == b) ≡ true
 is-other a b h = not_from_false _ (ne_eqb a b h)

@@ -21,11 +21,13 @@ module _ {X : Type 0} (value : X → Data) (text : X → List ℕ) (is : (x : X)
   further_is [] = refl
   further_is (x ∷ xs) = ap (λ (s : List ℕ). 44 ∷ s) (rw (is x, further_is xs) (sym (append_assoc (text x) (further text xs) (codes "]"))))
 
+  -- the compact text of a list is the texts of its entries between commas and brackets
   pub list_is : (xs : List X) → compact_text (list_value value xs) ≡ list_text text xs
   list_is [] = refl
   list_is (x ∷ xs) = ap (λ (s : List ℕ). 91 ∷ s) (rw (is x, further_is xs) (sym (append_assoc (text x) (further text xs) (codes "]"))))
 
 module _ {X : Type 0} (value : X → Data) (plain : (x : X) → has_float (value x) ≡ false) where
+  -- a list of values without floats has none
   pub plain_list : (xs : List X) → items_have_float (items_of (map value xs)) ≡ false
   plain_list [] = refl
   plain_list (x ∷ xs) = rw (plain x) (plain_list xs)
@@ -47,6 +49,7 @@ unfolding serde_json_on_literals
 wall_is None = refl
 wall_is (Some w) = rw (number_is (int_at w 0), number_is (int_at w 1), number_is (int_at w 2)) (simp append_assoc refl)
 
+-- the compact text of a report's value is the text of the report
 pub report_is : (bonds : ℕ) (total energy : ℤ) (spins : List ℤ) (loops : List Loop) (costs : List ℤ) (clusters : List ℕ) (wall : Option (List ℤ))
     → compact_text (report_value bonds total energy spins loops costs clusters wall) ≡ report_object bonds total energy spins loops costs clusters wall
 unfolding serde_json_on_literals
@@ -71,6 +74,7 @@ plain_wall : (w : Option (List ℤ)) → has_float (wall_value w) ≡ false
 plain_wall None = refl
 plain_wall (Some w) = rw (plain_whole (int_at w 0), plain_whole (int_at w 1), plain_whole (int_at w 2)) refl
 
+-- the value of a report has no float
 pub plain_report : (bonds : ℕ) (total energy : ℤ) (spins : List ℤ) (loops : List Loop) (costs : List ℤ) (clusters : List ℕ) (wall : Option (List ℤ))
     → has_float (report_value bonds total energy spins loops costs clusters wall) ≡ false
 plain_report bonds total energy spins loops costs clusters wall =

@@ -23,9 +23,11 @@ module _ (members : List Member) (n : ℕ) (line : IsLine members n) where
       let low : is.0 < n = omega (arith, is.1, line.count) in
       omega (arith, low, is.2, ap (λ (m : Member). m.leaf) (line.member is.0 low))
 
+  -- each leaf below n is a member
   pub line-member : (u : ℕ) → u < n → IsMember members u
   line-member u low = (u, omega (arith, low, line.count), ap (λ (m : Member). m.leaf) (line.member u low))
 
+  -- totals that fall by one from leaf to leaf are those of the line
   pub line-agree : (totals : List ℤ) → n ≤ length totals → ((v : ℕ) → v < length totals → total_at totals v ≡ pos (n - v)) → Agree members totals
   line-agree totals long is = λ i within.
       let low : i < n = omega (arith, within, line.count) in
@@ -48,11 +50,13 @@ module _ (members : List Member) (n : ℕ) (line : IsLine members n) where
         a.1 ∙ ap (at_leaf n) none ∙ ap (λ k. at_line n k) (sym same)
   ]
 
+  -- totals of a short line may grow by one
   pub line-fits : n ≤ 8 → TotalsFit (pos 1) more
   line-fits small i within =
       let low : i < n + 1 = omega (arith, within, more-count) in
       omega (arith, ints, small, ap (λ (m : Member). m.total) (more-at i low))
 
+  -- one leaf more, with all others one higher, is a longer line
   pub line-more : IsLine (grown (pos 1) more) (n + 1)
   line-more =
       record {

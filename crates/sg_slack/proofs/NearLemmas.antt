@@ -37,9 +37,11 @@ no_member = record { leaf = 0; total = pos 0 }
 abbrev no_kept : Kept
 no_kept = record { leaf = 0; base = pos 0 }
 
+-- member i is what is kept at place i, with the common rise added
 pub member-is : (rise : ℤ) (ms : List Kept) (i : ℕ) → i < length ms → member_at (members_of rise ms) i ≡ member_of rise (kept_at ms i)
 member-is rise ms i low = get_or-map (member_of rise) ms i no_kept no_member low
 
+-- there are as many members as are kept
 pub members-count : (rise : ℤ) (ms : List Kept) → length (members_of rise ms) ≡ length ms
 members-count rise ms = length-map ms (member_of rise)
 
@@ -48,6 +50,7 @@ pub IsMember-kept : (rise : ℤ) (ms : List Kept) (i leaf : ℕ) → i < length 
 IsMember-kept rise ms i leaf low is =
     (i, omega (arith, low, members-count rise ms), ap (λ (m : Member). m.leaf) (member-is rise ms i low) ∙ is)
 
+-- a member is kept at some place
 pub kept-IsMember : (rise : ℤ) (ms : List Kept) (leaf : ℕ) → IsMember (members_of rise ms) leaf → (i : ℕ) × (i < length ms) × ((kept_at ms i).leaf ≡ leaf)
 kept-IsMember rise ms leaf at =
     let low : at.0 < length ms = omega (arith, at.1, members-count rise ms) in
@@ -60,6 +63,7 @@ members-grown rise delta (m ∷ ms) =
     let same : m.base +ℤ (rise +ℤ delta) ≡ (m.base +ℤ rise) +ℤ delta = omega (arith, ints) in
     rw (same, members-grown rise delta ms) refl
 
+-- where nothing is kept there are no members, whatever the rise
 pub members-none : (rise other delta : ℤ) (ms : List Kept) → length ms ≡ 0 → members_of other ms ≡ grown delta (members_of rise ms)
 members-none rise other delta [] none = refl
 members-none rise other delta (m ∷ ms) none = absurd (omega (arith, none))
@@ -71,6 +75,7 @@ total-agree rise ms totals agree i low =
     let is = member-is rise ms i low in
     ap (λ (m : Member). total_at totals m.leaf) (sym is) ∙ agree i (omega (arith, low, members-count rise ms)) ∙ ap (λ (m : Member). m.total) is
 
+-- totals that agree with the members are those kept, with the rise added
 pub AreRisen-agree : (rise : ℤ) (ms : List Kept) (totals : List ℤ) → Agree (members_of rise ms) totals → AreRisen ms totals
 AreRisen-agree rise ms totals agree = record { rise = rise; total = total-agree rise ms totals agree }
 
@@ -121,6 +126,7 @@ module _ (t : Table) (rise : ℤ) (ms : List Kept) (places : List ℕ) (nearest 
     total-kept : (i : ℕ) → i < length ms → total_at totals (kept_at ms i).leaf ≡ (kept_at ms i).base +ℤ rise
     total-kept = total-agree rise ms totals agree
 
+    -- the nearest member of a free leaf and that leaf are an outer and a free leaf
     pub nearest-outer : (u v : ℕ) → 0 < length ms → IsNearestFree t nearest marks u v → IsOuterFree t marks u v
     nearest-outer u v some is =
         let n = near.each v is.v_leaf some in
@@ -133,6 +139,7 @@ module _ (t : Table) (rise : ℤ) (ms : List Kept) (places : List ℕ) (nearest 
           free = is.free;
         }
 
+    -- no outer leaf has less slack with a free leaf than its nearest member
     pub nearest-least : (u v w : ℕ) → 0 < length ms → IsNearestFree t nearest marks w v → IsOuterFree t marks u v →
         slack_of t totals w v ≤ℤ slack_of t totals u v
     nearest-least u v w some is pair =
@@ -143,6 +150,7 @@ module _ (t : Table) (rise : ℤ) (ms : List Kept) (places : List ℕ) (nearest 
         rw (sym leaf, sym at.2)
         (omega (arith, ints, least, n.key, total-kept n.at n.low, total-kept at.0 at.1))
 
+    -- the least among the nearest is the least of all outer and free leaves
     pub Least-kept : (result : Option Pair) → 0 < length ms → Least t totals (IsNearestFree t nearest marks) result →
         Least t totals (IsOuterFree t marks) result
     Least-kept None some none = λ u v pair. none (nearest_at nearest v).leaf v (record { v_leaf = pair.v_leaf; nearest_is = refl; free = pair.free })
@@ -198,6 +206,7 @@ module _ (t : Table) (rise : ℤ) (ms : List Kept) (places : List ℕ) (nearest 
     other_leaf : (i : ℕ) → i < length ms → (kept_at ms i).leaf ≡ leaf → ⊥
     other_leaf i within is = fresh (IsMember-kept rise ms i leaf within is)
 
+    -- what is kept more is a member more
     pub members-more : members_of rise more ≡ members_of rise ms ++ record { leaf = leaf; total = total } ∷ []
     members-more =
         let same : (total -ℤ rise) +ℤ rise ≡ total = omega (arith, ints) in
@@ -295,6 +304,7 @@ module _ (t : Table) (rise : ℤ) (ms : List Kept) (places : List ℕ) (nearest 
             | inr a ↦ absurd (omega (arith, a.0, within))
           ]
 
+      -- after one member more each leaf's nearest is taken anew where that is nearer
       pub IsNear-added : IsNear t rise more (set places leaf (length ms)) new
       IsNear-added =
           record {
@@ -354,6 +364,7 @@ module _ (t : Table) (totals : List ℤ) (nearest : List Nearest) (marks : List 
     | inr same ↦ inr (same, is.1)
   ]
 
+  -- the least up to a free leaf, from the one before and the pair there
   pub Least-free : (best result : Option Pair) (v : ℕ) → v < t.size → mark_at marks v ≡ Free →
       IsNearer best (Some (record { u = (nearest_at nearest v).leaf; v = v; slack = slack_of t totals (nearest_at nearest v).leaf v })) result →
       Least t totals (Until v) best → Least t totals (Until (v + 1)) result
@@ -369,11 +380,13 @@ module _ (t : Table) (totals : List ℤ) (nearest : List Nearest) (marks : List 
             rw (same_leaf, here.0) (omega (arith, ints));
       })
 
+  -- a leaf that is not free is passed over
   pub Least-passed : (best : Option Pair) (v : ℕ) → (mark_at marks v ≡ Free → ⊥) → Least t totals (Until v) best → Least t totals (Until (v + 1)) best
   Least-passed best v passed least =
       Least-same t totals (Until v) (At v) (Until (v + 1)) (wider v) (reached v) (split v) best
       (λ a b here. passed (subst (λ w. mark_at marks w ≡ Free) here.0 here.1.free)) least
 
+  -- after the last leaf it is the least of all
   pub Least-all : (best : Option Pair) → Least t totals (Until t.size) best → Least t totals (IsNearestFree t nearest marks) best
   Least-all None none = λ u v is. none u v (is.v_leaf, is)
   Least-all (Some p) least = record { one = least.one.1; slack = least.slack; least = λ u v is. least.least u v (is.v_leaf, is) }
@@ -382,6 +395,7 @@ module _ (t : Table) (totals : List ℤ) (nearest : List Nearest) (marks : List 
 module _ (t : Table) (m : Kept) (first : Bool) (initial now : List Nearest) (v : ℕ) (n : Nearest) (count : length now ≡ t.size) (low : v < t.size)
     (taken : (w : ℕ) → w < v → IsTakenAt t m first w (nearest_at initial w) (nearest_at now w))
     (rest : (w : ℕ) → v ≤ w → nearest_at now w ≡ nearest_at initial w) (here : IsTakenAt t m first v (nearest_at now v) n) where
+  -- the entries up to this one are those that are to be taken
   pub taken-next : (w : ℕ) → w < v + 1 → IsTakenAt t m first w (nearest_at initial w) (nearest_at (set now v n) w)
   taken-next w less = elim (below_next w v less) [
     | inl before ↦
@@ -395,6 +409,7 @@ module _ (t : Table) (m : Kept) (first : Bool) (initial now : List Nearest) (v :
         (subst (λ x. IsTakenAt t m first w x n) was (subst (λ k. IsTakenAt t m first k (nearest_at now v) n) (sym same) here))
   ]
 
+  -- the entries behind it are as they were
   pub rest-next : (w : ℕ) → v + 1 ≤ w → nearest_at (set now v n) w ≡ nearest_at initial w
   rest-next w most =
       get_or-set_other now v w n (record { leaf = 0; key = pos 0 }) (λ same. absurd (omega (arith, same, most))) ∙ rest w (omega (arith, most))

@@ -43,6 +43,7 @@ module _ (t : Table) (ms more : List Kept) (n : ℕ) (group : ℕ → ℕ) (plac
             rw (u, same is.at is.low, same i low) (is.least i low other);
       }
 
+-- partners that are kept stay right when a member comes after them
 pub KeepsPartners-more : (t : Table) (ms : List Kept) (m : Kept) (p : Partners) → KeepsPartners t ms p → KeepsPartners t (ms ++ m ∷ []) p
 KeepsPartners-more t ms m p keeps =
     record {
@@ -62,6 +63,7 @@ IsCoarser-slots members n then now slots has i j low_i low_j same =
 -- groups of the same members
 module _ (t : Table) (members : List Kept) (n : ℕ) (group other : ℕ → ℕ) (place : ℕ) (same : (i : ℕ) → i < n → group i ≡ other i) (here : place < n)
   where
+    -- a partner stays one where the tops are grouped as before
     pub IsPartner-same : (o : Option Partner) → IsPartner t members n group place o → IsPartner t members n other place o
     IsPartner-same None is = λ i low. sym (same i low) ∙ is i low ∙ same place here
     IsPartner-same (Some p) is =
@@ -252,6 +254,7 @@ module _ (t : Table) (totals : List ℤ) (members : List Kept) (tops : List ℕ)
       | inr same ↦ inr (is.0, is.1, ap (λ i. (kept_at members i).leaf) (sym same) ∙ is.2.3)
     ]
 
+    -- the least from a start on, with one member more of another top
     pub From-more : (best result : Option Pair) → start ≤ place → get_or tops row 0 ≢ get_or tops (kept_at members place).leaf 0 →
         IsNearer best (Some (record { u = row; v = (kept_at members place).leaf; slack = slack_of t totals row (kept_at members place).leaf })) result →
         Least t totals (IsApartFrom start place members tops row) best → Least t totals (IsApartFrom start (place + 1) members tops row) result
@@ -265,6 +268,7 @@ module _ (t : Table) (totals : List ℤ) (members : List Kept) (tops : List ℕ)
           least = λ a b here. rw (here.0, sym here.2) (omega (arith, ints));
         })
 
+    -- a member of the same top is passed over
     pub From-passed : (best : Option Pair) → start ≤ place → (get_or tops row 0 ≢ get_or tops (kept_at members place).leaf 0 → ⊥) →
         Least t totals (IsApartFrom start place members tops row) best → Least t totals (IsApartFrom start (place + 1) members tops row) best
     From-passed best within passed least =

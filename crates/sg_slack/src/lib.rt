@@ -7,7 +7,8 @@
 //! less their two totals. Edmonds' method grows a tree from an unpaired leaf; it next needs the pair
 //! of least slack between the tree's outer leaves and the leaves outside, and that between two outer
 //! leaves of different sets. A [`Near`] gives both from the nearest leaves that it keeps, and the
-//! engine takes them from there; [`least_outer_free`] and [`least_outer_outer`] go over all pairs.
+//! engine takes them from there. [`least_outer_free`] and [`least_outer_outer`] go over all pairs and
+//! keep nothing: they are for a caller without a `Near`, and what tests compare its answers with.
 //!
 //! For the next engineer: the clause that matters is `Least` of `specs/Slack.antt`: a pair of least
 //! slack among those meant, and none exactly where there is none. Which of several such pairs is

@@ -12,6 +12,7 @@ module _ {L : Type 0} (y : L → ℕ) (has : L → ℕ → Bool) where
   marked_load false k [] = refl
   marked_load false k (l ∷ ls) = marked_load false k ls
 
+  -- all weights together are at most the capacities of the marked numbers
   pub weights_below_capacity : (p : ℕ → Bool) (cap : ℕ → ℕ) (m : ℕ) (ls : List L) → All (HasMarked y has p m) ls →
       ((k : ℕ) → k < m → load_at y has ls k ≤ cap k) → sum_by y ls ≤ sum_below (λ k. cond (p k) (cap k) 0) m
   weights_below_capacity p cap m ls marked within =

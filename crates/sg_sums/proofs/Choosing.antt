@@ -19,6 +19,7 @@ chosen_below_more p k =
 pub chosen_below_yes : (p : ℕ → Bool) (k : ℕ) → p k ≡ true → chosen_below p (k + 1) ≡ chosen_below p k ++ k ∷ []
 chosen_below_yes p k h = chosen_below_more p k ∙ ap (λ b. chosen_below p k ++ cond b (k ∷ []) []) h
 
+-- a number that does not pass adds nothing to the choice
 pub chosen_below_no : (p : ℕ → Bool) (k : ℕ) → p k ≡ false → chosen_below p (k + 1) ≡ chosen_below p k
 chosen_below_no p k h = chosen_below_more p k ∙ ap (λ b. chosen_below p k ++ cond b (k ∷ []) []) h ∙ append-nil (chosen_below p k)
 

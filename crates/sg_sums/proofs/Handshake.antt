@@ -16,6 +16,7 @@ one_edge t true a b n p q =
     ∙ ap₂ xor (parity_below_pick t a n p) (parity_below_pick t b n q))
 
 module _ {X : Type 0} (a b : X → ℕ) where
+  -- edges between two sides, up to an even number: the ends on one side, counted node by node
   pub handshake : (d : X → Bool) (t : ℕ → Bool) (n : ℕ) (E : List X) → EndsBelow a b n E →
       parity_by (λ e. d e && xor (t (a e)) (t (b e))) E ≡ parity_below (λ x. t x && degree_parity a b d E x) n
   handshake d t n E h =
@@ -26,6 +27,7 @@ module _ {X : Type 0} (a b : X → ℕ) where
       ∙ parity_below-same (λ x. parity_by (λ e. t x && (d e && is_end (a e) (b e) x)) E) (λ x. t x && degree_parity a b d E x) n
       (λ x l. parity_by-and (t x) (λ e. d e && is_end (a e) (b e) x) E)
 
+  -- edges that end evenly at every node cross evenly between any two sides
   pub even_set_meets_cut_evenly : (d : X → Bool) (t : ℕ → Bool) (n : ℕ) (E : List X) → EndsBelow a b n E →
       ((x : ℕ) → x < n → degree_parity a b d E x ≡ false) → parity_by (λ e. d e && xor (t (a e)) (t (b e))) E ≡ false
   even_set_meets_cut_evenly d t n E h even =

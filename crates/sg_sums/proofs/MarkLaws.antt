@@ -11,6 +11,7 @@ none_free n x = elim (cases_lt x n) [
   | inr past ↦ get_or_past (replicate n false) x false (omega (arith, length-replicate n false))
 ]
 
+-- where no mark is set no place is marked
 pub none_marked : (n x : ℕ) → IsMarked (replicate n false) x → ⊥
 none_marked n x h = let e : false ≡ true = sym (none_free n x) ∙ h in cc
 
@@ -22,12 +23,14 @@ marked_in marks x h = elim (cases_lt x (length marks)) [ inl l ↦ l | inr m ↦
 pub marked_here : (marks : List Bool) (x : ℕ) → x < length marks → IsMarked (set marks x true) x
 marked_here marks x l = get_or-set_same marks x true false l
 
+-- setting a mark keeps those that are set
 pub marked_still : (marks : List Bool) (x y : ℕ) → x < length marks → IsMarked marks y → IsMarked (set marks x true) y
 marked_still marks x y l h = elim (cases_eq y x) [
   | inl e ↦ ap (λ z. get_or (set marks x true) z false) e ∙ marked_here marks x l
   | inr ne ↦ get_or-set_other marks x y true false ne ∙ h
 ]
 
+-- after a mark is set a marked place was marked before, or is the one just set
 pub marked_or_here : (marks : List Bool) (x y : ℕ) → IsMarked (set marks x true) y → IsMarked marks y ⊎ (y ≡ x)
 marked_or_here marks x y h = elim (cases_eq y x) [
   | inl e ↦ inr e

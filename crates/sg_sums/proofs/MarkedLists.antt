@@ -70,6 +70,7 @@ marked_is marks =
     ∙ sym (sum_by_range (λ k. cond (is_marked marks k) 1 0) (length marks))
     ∙ sym (length-filter (is_marked marks) (range_with_len 0 (length marks)))
 
+-- a rising list of marked places, as long as there are marks, has all marked places
 pub lists_all : (marks : List Bool) (xs : List ℕ) → IsStrictlyIncreasing xs → All (λ k. k < length marks) xs → All (λ k. is_marked marks k ≡ true) xs
     → length xs ≡ count_by (λ b. b) marks → xs ≡ chosen_below (is_marked marks) (length marks)
 lists_all marks xs up low pass many =

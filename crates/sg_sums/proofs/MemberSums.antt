@@ -18,6 +18,7 @@ picked : (b : Bool) (f : ℕ → ℕ) (s x : ℕ) → (b ≡ true → s ≡ x) �
 picked true f s x h = ap f (sym (h refl))
 picked false f s x h = refl
 
+-- a sum over the members of a rising list, as a sum over all numbers below a bound
 pub members_sum : (f : ℕ → ℕ) (xs : List ℕ) (n : ℕ) → All (λ x. x < n) xs → IsStrictlyIncreasing xs → sum_below (λ x. cond (holds xs x) (f x) 0) n ≡ sum_by f xs
 members_sum f [] n low up = sum_below-zero (λ x. 0) n (λ x l. refl)
 members_sum f (s ∷ xs) n low up =

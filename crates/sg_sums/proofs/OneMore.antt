@@ -9,6 +9,7 @@ use Rattle.sg_sums.specs.Parity.{xor, parity_by}
 use Rattle.sg_sums.specs.Sets.{holds}
 use Rattle.sg_sums.proofs.ParityLaws.{parity_by-append, xor-false, xor_assoc}
 
+-- the parity over one element more of a list
 pub parity_by_more : {X : Type 0} (p : X → Bool) (xs : List X) (i : ℕ) (d : X) → i < length xs →
     parity_by p (take (i + 1) xs) ≡ xor (parity_by p (take i xs)) (p (get_or xs i d))
 parity_by_more p xs i d l =

@@ -5,48 +5,59 @@ use Rattle.std.proofs.lemmas.List.Sums.{sum_by-cons}
 use Rattle.std.proofs.lemmas.Bool.{eq-eqb, ne_eqb, cases_eq, cases_Bool, false≢true}
 use Rattle.sg_sums.specs.Parity.{xor, odd, parity_by, parity_below}
 
+-- `xor` of two in the other order
 pub xor_comm : (a b : Bool) → xor a b ≡ xor b a
 xor_comm true true = refl
 xor_comm true false = refl
 xor_comm false true = refl
 xor_comm false false = refl
 
+-- `xor` of three, put together either way
 pub xor_assoc : (a b c : Bool) → xor (xor a b) c ≡ xor a (xor b c)
 xor_assoc a b c = grind arith
 
+-- `xor` of a value with itself is false
 pub xor_self : (a : Bool) → xor a a ≡ false
 xor_self true = refl
 xor_self false = refl
 
+-- `xor` with false changes nothing
 pub xor-false : (a : Bool) → xor a false ≡ a
 xor-false true = refl
 xor-false false = refl
 
+-- two values with a false `xor` are the same
 pub xor_cancel : (a b : Bool) → xor a b ≡ false → a ≡ b
 xor_cancel true true e = refl
 xor_cancel true false e = cc
 xor_cancel false true e = cc
 xor_cancel false false e = refl
 
+-- `xor` of two pairs, with the inner two exchanged
 pub xor_swap4 : (a b c d : Bool) → xor (xor a b) (xor c d) ≡ xor (xor a c) (xor b d)
 xor_swap4 a b c d = grind arith
 
+-- "and" goes into both sides of `xor`
 pub and-xor : (a b c : Bool) → (a && xor b c) ≡ xor (a && b) (a && c)
 and-xor a b c = grind arith
 
+-- "and" with true changes nothing
 pub and-true : (a : Bool) → (a && true) ≡ a
 and-true true = refl
 and-true false = refl
 
+-- "and" with false is false
 pub and-false : (a : Bool) → (a && false) ≡ false
 and-false true = refl
 and-false false = refl
 
 module _ {X : Type 0} where
+  -- the parity of where just one of two tests passes is the `xor` of their parities
   pub parity_by-xor : (p q : X → Bool) (xs : List X) → parity_by (λ x. xor (p x) (q x)) xs ≡ xor (parity_by p xs) (parity_by q xs)
   parity_by-xor p q [] = refl
   parity_by-xor p q (x ∷ xs) = ap (xor (xor (p x) (q x))) (parity_by-xor p q xs) ∙ xor_swap4 (p x) (q x) (parity_by p xs) (parity_by q xs)
 
+  -- tests that agree on the list have one parity
   pub parity_by-same : (p q : X → Bool) (xs : List X) → All (λ x. p x ≡ q x) xs → parity_by p xs ≡ parity_by q xs
   parity_by-same p q [] h = refl
   parity_by-same p q (x ∷ xs) h =
@@ -54,6 +65,7 @@ module _ {X : Type 0} where
       let r : parity_by p xs ≡ parity_by q xs = parity_by-same p q xs (All-tail (λ x. p x ≡ q x) x xs h) in
       cc
 
+  -- where no element passes the parity is even
   pub parity_by-none : (p : X → Bool) (xs : List X) → All (λ x. p x ≡ false) xs → parity_by p xs ≡ false
   parity_by-none p [] h = refl
   parity_by-none p (x ∷ xs) h =
@@ -61,19 +73,23 @@ module _ {X : Type 0} where
       let r : parity_by p xs ≡ false = parity_by-none p xs (All-tail (λ x. p x ≡ false) x xs h) in
       rw e r
 
+  -- the parity of two lists joined
   pub parity_by-append : (p : X → Bool) (xs ys : List X) → parity_by p (xs ++ ys) ≡ xor (parity_by p xs) (parity_by p ys)
   parity_by-append p [] ys = refl
   parity_by-append p (x ∷ xs) ys = ap (xor (p x)) (parity_by-append p xs ys) ∙ sym (xor_assoc (p x) (parity_by p xs) (parity_by p ys))
 
+  -- a fixed condition may stand before the parity
   pub parity_by-and : (b : Bool) (p : X → Bool) (xs : List X) → parity_by (λ x. b && p x) xs ≡ (b && parity_by p xs)
   parity_by-and true p xs = refl
   parity_by-and false p [] = refl
   parity_by-and false p (x ∷ xs) = parity_by-and false p xs
 
+-- the parity below n of where just one of two tests passes
 pub parity_below-xor : (p q : ℕ → Bool) (n : ℕ) → parity_below (λ k. xor (p k) (q k)) n ≡ xor (parity_below p n) (parity_below q n)
 parity_below-xor p q zero = refl
 parity_below-xor p q (suc n) = ap (xor (xor (p n) (q n))) (parity_below-xor p q n) ∙ xor_swap4 (p n) (q n) (parity_below p n) (parity_below q n)
 
+-- tests that agree below n have one parity there
 pub parity_below-same : (p q : ℕ → Bool) (n : ℕ) → ((k : ℕ) → k < n → p k ≡ q k) → parity_below p n ≡ parity_below q n
 parity_below-same p q zero h = refl
 parity_below-same p q (suc n) h =
@@ -81,12 +97,14 @@ parity_below-same p q (suc n) h =
     let r : parity_below p n ≡ parity_below q n = parity_below-same p q n (λ k l. h k (omega arith)) in
     cc
 
+-- where no number below n passes the parity is even
 pub parity_below-none : (p : ℕ → Bool) (n : ℕ) → ((k : ℕ) → k < n → p k ≡ false) → parity_below p n ≡ false
 parity_below-none p zero h = refl
 parity_below-none p (suc n) h =
     let e : p n ≡ false = h n (omega arith) in
     rw e (parity_below-none p n (λ k l. h k (omega arith)))
 
+-- a fixed condition may stand before the parity below n
 pub parity_below-and : (b : Bool) (p : ℕ → Bool) (n : ℕ) → parity_below (λ k. b && p k) n ≡ (b && parity_below p n)
 parity_below-and true p n = refl
 parity_below-and false p zero = refl
@@ -122,6 +140,7 @@ parity_below_pick t u (suc n) h = elim (cases_eq u n) [
       ap₂ xor last (parity_below_pick t u n (omega arith))
 ]
 
+-- the rest by 2, from whether the number is odd
 pub odd_is : (n : ℕ) → n % 2 ≡ cond (odd n) 1 0
 odd_is zero = refl
 odd_is (suc n) = step (odd n) n (odd_is n)
@@ -130,6 +149,7 @@ odd_is (suc n) = step (odd n) n (odd_is n)
     step true n h = omega arith
     step false n h = omega arith
 
+-- a number with the rest 0 by 2 is not odd
 pub even_from_mod : (n : ℕ) → n % 2 ≡ 0 → odd n ≡ false
 even_from_mod n h = back (odd n) (odd_is n)
   where
@@ -137,6 +157,7 @@ even_from_mod n h = back (odd n) (odd_is n)
     back true e = absurd (omega arith)
     back false e = refl
 
+-- a number with the rest 1 by 2 is odd
 pub odd_from_mod : (n : ℕ) → n % 2 ≡ 1 → odd n ≡ true
 odd_from_mod n h = back (odd n) (odd_is n)
   where

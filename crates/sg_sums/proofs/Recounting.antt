@@ -19,6 +19,7 @@ All_range P n h k d l =
     let e : get_or (range_with_len 0 n) k d ≡ k = get_or-range_with_len 0 n k d below ∙ omega arith in
     subst P (sym e) (h k below)
 
+-- what holds of all of a range from 0 holds of each number below its length
 pub All_range_at : (P : ℕ → Type 0) (n : ℕ) → All P (range_with_len 0 n) → (k : ℕ) → k < n → P k
 All_range_at P n h k l =
     let e : get_or (range_with_len 0 n) k 0 ≡ k = get_or-range_with_len 0 n k 0 l ∙ omega arith in

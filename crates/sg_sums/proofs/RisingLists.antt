@@ -96,6 +96,7 @@ holds-chosen_below p n x l = holds-filter_range p 0 n x (omega arith) (omega ari
 
 -- what is chosen is below n, passes and rises
 module _ (p : ℕ → Bool) (n : ℕ) where
+  -- the chosen numbers are below the bound
   pub chosen_below_low : All (λ x. x < n) (chosen_below p n)
   chosen_below_low = All-filter p (λ x. x < n) (range_with_len 0 n) range_low
     where
@@ -104,9 +105,11 @@ module _ (p : ℕ → Bool) (n : ℕ) where
           let low : k < n = omega (arith, l, length-range_with_len 0 n) in
           omega (arith, get_or-range_with_len 0 n k d low)
 
+  -- the chosen numbers pass
   pub chosen_below_pass : All (λ x. p x ≡ true) (chosen_below p n)
   chosen_below_pass = filter_passes p (range_with_len 0 n)
 
+  -- the chosen numbers rise
   pub chosen_below_rises : IsStrictlyIncreasing (chosen_below p n)
   chosen_below_rises = IsStrictlyIncreasing-filter p (range_with_len 0 n) range_rises
     where

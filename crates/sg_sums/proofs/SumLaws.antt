@@ -6,18 +6,22 @@ use Rattle.std.proofs.lemmas.List.Sums.{sum_by-cons, sum_by_more}
 use Rattle.std.proofs.lemmas.Bool.{eq-eqb, ne_eqb, cases_eq}
 use Rattle.sg_sums.specs.Sums.{sum_below}
 
+-- a sum of sums is the sum of both sums
 pub sum_below-add : (f g : ℕ → ℕ) (n : ℕ) → sum_below (λ k. f k + g k) n ≡ sum_below f n + sum_below g n
 sum_below-add f g zero = refl
 sum_below-add f g (suc n) = omega (arith, sum_below-add f g n)
 
+-- a sum of zeros is 0
 pub sum_below-zero : (f : ℕ → ℕ) (n : ℕ) → ((k : ℕ) → k < n → f k ≡ 0) → sum_below f n ≡ 0
 sum_below-zero f zero h = refl
 sum_below-zero f (suc n) h = omega (arith, sum_below-zero f n (λ k l. h k (omega arith)), h n (omega arith))
 
+-- a sum grows with its terms
 pub sum_below-le : (f g : ℕ → ℕ) (n : ℕ) → ((k : ℕ) → k < n → f k ≤ g k) → sum_below f n ≤ sum_below g n
 sum_below-le f g zero h = omega arith
 sum_below-le f g (suc n) h = omega (arith, sum_below-le f g n (λ k l. h k (omega arith)), h n (omega arith))
 
+-- terms that agree below n have one sum
 pub sum_below-same : (f g : ℕ → ℕ) (n : ℕ) → ((k : ℕ) → k < n → f k ≡ g k) → sum_below f n ≡ sum_below g n
 sum_below-same f g zero h = refl
 sum_below-same f g (suc n) h = omega (arith, sum_below-same f g n (λ k l. h k (omega arith)), h n (omega arith))
@@ -38,6 +42,7 @@ sum_below_pick c u (suc n) h = elim (cases_eq u n) [
 ]
 
 module _ {X : Type 0} where
+  -- a sum over a list grows with its terms
   pub sum_by-le-all : (f g : X → ℕ) (xs : List X) → All (λ x. f x ≤ g x) xs → sum_by f xs ≤ sum_by g xs
   sum_by-le-all f g [] h = omega arith
   sum_by-le-all f g (x ∷ xs) h =
@@ -45,6 +50,7 @@ module _ {X : Type 0} where
       let r : sum_by f xs ≤ sum_by g xs = sum_by-le-all f g xs (All-tail (λ x. f x ≤ g x) x xs h) in
       omega (arith, sum_by-cons f x xs, sum_by-cons g x xs)
 
+  -- terms that agree on a list have one sum
   pub sum_by-same : (f g : X → ℕ) (xs : List X) → All (λ x. f x ≡ g x) xs → sum_by f xs ≡ sum_by g xs
   sum_by-same f g [] h = refl
   sum_by-same f g (x ∷ xs) h =
@@ -61,6 +67,7 @@ module _ {X : Type 0} where
       sum_below-same (λ k. sum_by (λ y. f y k) (x ∷ xs)) (λ k. f x k + sum_by (λ y. f y k) xs) n (λ k l. sum_by-cons (λ y. f y k) x xs) in
       omega (arith, sum_by-cons (λ x. sum_below (f x) n) x xs, sum_below-add (f x) (λ k. sum_by (λ y. f y k) xs) n)
 
+-- a single term is at most the sum
 pub at-le-sum_below : (f : ℕ → ℕ) (k n : ℕ) → k < n → f k ≤ sum_below f n
 at-le-sum_below f k zero h = absurd (omega arith)
 at-le-sum_below f k (suc n) h = elim (cases_eq k n) [
@@ -68,6 +75,7 @@ at-le-sum_below f k (suc n) h = elim (cases_eq k n) [
   | inr ne ↦ let r : f k ≤ sum_below f n = at-le-sum_below f k n (omega arith) in omega arith
 ]
 
+-- the sum over the first elements of a list, by their places
 pub sum_below-sum_by : {X : Type 0} (f : X → ℕ) (xs : List X) (d : X) (i : ℕ) → i ≤ length xs → sum_by f (take i xs) ≡ sum_below (λ k. f (get_or xs k d)) i
 sum_below-sum_by f xs d zero h = refl
 sum_below-sum_by f xs d (suc i) h =
@@ -78,6 +86,7 @@ sum_below-sum_by f xs d (suc i) h =
     subst (λ j. sum_by f (take j xs) ≡ sum_by f (take i xs) + f (get_or xs i d)) same step in
     omega arith
 
+-- the sum over a whole list, by the places of its elements
 pub sum_by_is_sum_below : {X : Type 0} (f : X → ℕ) (xs : List X) (d : X) → sum_by f xs ≡ sum_below (λ k. f (get_or xs k d)) (length xs)
 sum_by_is_sum_below f xs d = ap (sum_by f) (sym (take_all (length xs) xs (omega arith))) ∙ sum_below-sum_by f xs d (length xs) (omega arith)
 

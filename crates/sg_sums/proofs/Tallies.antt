@@ -71,6 +71,7 @@ module _ {X : Type 0} (f : X → ℕ) where
       sum_below-same (λ i. sum_below (one (get_or xs i d)) r) (λ i. 1) (length xs) (λ i l. sum_below_pick 1 (f (get_or xs i d)) r (low i l)) in
       omega (arith, sum_below_ones (length xs))
 
+  -- the tallies of the numbers below r sum to at most the length of the list
   pub times_at_most : (xs : List X) (r : ℕ) → sum_below (λ m. times m xs) r ≤ length xs
   times_at_most [] r = let z : sum_below (λ m. times m []) r ≡ 0 = sum_below-zero (λ m. times m []) r (λ k l. refl) in omega arith
   times_at_most (x ∷ xs) r =

@@ -6,6 +6,7 @@ use Rattle.sg_slack.specs.Table.{IsPairOf, SetsPair, Table, cost_of}
 use Rattle.sg_moat.specs.Input.{table_at, terminal_cost}
 use Rattle.sg_tjoin.specs.Doubled.{FillsRow, FillsRows}
 
+-- before the first pair of a row the table is as it was
 pub FillsRow-none : (terminals : List ℕ) (t : Routes) (i : ℕ) (table : Table) → FillsRow terminals t i 0 table table
 FillsRow-none terminals t i table = record {
   size = refl;
@@ -25,6 +26,7 @@ module _ (terminals : List ℕ) (t : Routes) (i j : ℕ) (old mid new : Table) (
   kept : (a b : ℕ) → a < old.size → b < old.size → (a ≡ i → b ≢ j) → (a ≡ j → b ≢ i) → cost_of new a b ≡ cost_of mid a b
   kept a b l m p q = s.others a b (omega (arith, h.size)) (omega (arith, h.size)) (not_pair a b p q)
 
+  -- one pair more of a row, by its doubled distance
   pub FillsRow-more : FillsRow terminals t i (j + 1) old new
   FillsRow-more = record {
     size = s.size ∙ h.size;
@@ -43,6 +45,7 @@ module _ (terminals : List ℕ) (t : Routes) (i j : ℕ) (old mid new : Table) (
 -- one row more
 module _ (terminals : List ℕ) (tables : List Routes) (i : ℕ) (old new : Table) (low : i < length terminals) (h : FillsRows terminals tables i old)
     (row : FillsRow terminals (table_at tables i) i i old new) where
+  -- one row more of the table
   pub FillsRows-more : FillsRows terminals tables (i + 1) new
   FillsRows-more = record {
     size = row.size ∙ h.size;

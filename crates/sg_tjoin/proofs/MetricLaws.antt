@@ -74,6 +74,7 @@ module _ (g : Graph) (terminals : List ℕ) (tables : List Routes) (connected : 
         near = omega (arith, light, distance_light g t (table_is i l) x known);
       }
 
+  -- doubled distances of an even number of terminals are costs that an engine takes
   pub AreMetric-distances : IsWeb g → length terminals % 2 ≡ 0 → total_weight g ≤ forced_limit → AreMetric terminals tables
   AreMetric-distances web even light = record {
     even = even;
@@ -103,9 +104,11 @@ module _ (terminals : List ℕ) (tables : List Routes) (t : Table) (metric : Are
         ]
       ]
 
+  -- the cost of two terminals is their doubled distance
   pub cost_is : (i j : ℕ) → i < t.size → j < t.size → cost t i j ≡ terminal_cost terminals tables i j
   cost_is i j l m = ap nat_of (entry i j l m)
 
+  -- the filled table is one that an engine takes
   pub IsMetric-rows : IsMetric t
   IsMetric-rows = record {
     even_size = subst (λ n. n % 2 ≡ 0) (sym rows.size) metric.even;
@@ -127,9 +130,11 @@ module _ (terminals : List ℕ) (tables : List Routes) (t : Table) (metric : Are
 
   -- what a family of the engine says of the terminals
   module _ (f : Family) (leaves : leaf_count f ≡ t.size) where
+    -- slacks by the table and by the distances are the same
     pub NoSlackIsNegative-matched : NoSlackIsNegative f (cost t) → NoSlackIsNegative f (terminal_cost terminals tables)
     NoSlackIsNegative-matched slack = λ i j l m. omega (arith, slack i j l m, cost_is i j (omega (arith, leaves)) (omega (arith, leaves)))
 
+    -- a matching of the engine pairs the terminals
     pub IsPairing-matched : (mates : List ℕ) → IsMatching f (cost t) mates → IsPairing (length terminals) mates
     IsPairing-matched mates matching = subst (λ n. IsPairing n mates) (leaves ∙ rows.size) matching.pairing
 

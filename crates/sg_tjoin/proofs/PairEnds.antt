@@ -74,6 +74,7 @@ module _ (terminals mates : List ℕ) (rising : IsStrictlyIncreasing terminals) 
       ∙ and-false (leads_pair mates k)
       ))
 
+  -- a node is an end of an odd number of pairs where it is a terminal
   pub pairs_parity : (x : ℕ) → parity_below (ends_pair terminals mates x) (length terminals) ≡ holds terminals x
   pairs_parity x = elim (cases_in terminals x) [
     | inl at ↦ subst (λ z. parity_below (ends_pair terminals mates z) (length terminals) ≡ true) at.2 (at_terminal at.0 at.1) ∙ sym at.3

@@ -15,10 +15,12 @@ pub record AreFirstTables (g : Graph) (terminals : List ℕ) (upto : ℕ) (table
   pub each : All (IsTableOf g) tables
   pub sources : (i : ℕ) → i < upto → (table_at tables i).source ≡ get_or terminals i 0
 
+-- before the first terminal there is no table
 pub AreFirstTables-none : (g : Graph) (terminals : List ℕ) → AreFirstTables g terminals 0 []
 AreFirstTables-none g terminals = record { count = refl; each = All-nil (IsTableOf g); sources = λ i l. absurd (omega arith) }
 
 module _ (g : Graph) (terminals : List ℕ) (upto : ℕ) (tables : List Routes) (s : AreFirstTables g terminals upto tables) where
+  -- one table more, of the next terminal
   pub AreFirstTables-more : (t : Routes) → IsTableOf g t → t.source ≡ get_or terminals upto 0 → AreFirstTables g terminals (upto + 1) (tables ++ t ∷ [])
   AreFirstTables-more t is source = record {
     count = omega (arith, s.count, length_push tables t);
@@ -31,5 +33,6 @@ module _ (g : Graph) (terminals : List ℕ) (upto : ℕ) (tables : List Routes) 
     ];
   }
 
+  -- after the last terminal each has its table
   pub AreFirstTables-all : upto ≡ length terminals → AreTerminalTables g terminals tables
   AreFirstTables-all all = record { count = s.count ∙ all; each = s.each; sources = λ i l. s.sources i (omega arith) }

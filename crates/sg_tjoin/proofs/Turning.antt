@@ -33,6 +33,7 @@ is_marked-none (suc n) zero = refl
 is_marked-none (suc n) (suc e) = is_marked-none n e
 
 module _ (g : Graph) (terminals : List ℕ) (tables : List Routes) (mates : List ℕ) where
+  -- before the first pair no edge is marked
   pub AreTurned-none : (marks : List Bool) → length marks ≡ edge_count g → marks ≡ replicate (edge_count g) false → AreTurned g terminals tables mates 0 marks
   AreTurned-none marks count is = record {
     count = count;
@@ -45,6 +46,7 @@ module _ (g : Graph) (terminals : List ℕ) (tables : List Routes) (mates : List
   }
 
   module _ (i : ℕ) (marks : List Bool) (t : AreTurned g terminals tables mates i marks) where
+    -- a leaf whose mate comes earlier turns nothing
     pub AreTurned-skip : get_or mates i 0 ≤ i → AreTurned g terminals tables mates (i + 1) marks
     AreTurned-skip h =
         let no_pair : leads_pair mates i ≡ false = le-ltb i (get_or mates i 0) h in
@@ -62,6 +64,7 @@ module _ (g : Graph) (terminals : List ℕ) (tables : List Routes) (mates : List
               omega (arith, t.weighs));
         })
 
+    -- one pair more, whose walk turns the marks of its edges
     pub AreTurned-more : (new : List Bool) → i < get_or mates i 0
         → TurnsWalk g (get_or terminals i 0) (get_or terminals (get_or mates i 0) 0) (apart terminals tables i (get_or mates i 0)) marks new
         → AreTurned g terminals tables mates (i + 1) new
@@ -101,6 +104,7 @@ module _ (g : Graph) (terminals : List ℕ) (tables : List Routes) (mates : List
         ∙ t.ends x
         ∙ pairs_parity terminals mates are.rising pairing x
 
+    -- the edges marked at the end are a join of the terminals
     pub IsJoin-turned : IsJoin g terminals chosen
     IsJoin-turned = record {
       rising = chosen_below_rises (is_marked marks) (edge_count g);
@@ -118,6 +122,7 @@ module _ (g : Graph) (terminals : List ℕ) (tables : List Routes) (mates : List
           | inr past ↦ get_or_past marks e false (omega (arith, t.count))
         ]
 
+    -- twice their weight is at most the cost of the pairing
     pub turned_weight : 2 * weight_of g chosen ≤ pairing_cost (terminal_cost terminals tables) mates
     turned_weight =
         omega (

@@ -33,6 +33,7 @@ module _ (inst : Ising) where
   pub reached_by_all : (a b : ℕ) → Reached inst all_bonds a b → Reached inst (has (replicate (bond_count inst) true)) a b
   reached_by_all a b r = (r.0, walk_by_all r.0 a b r.1)
 
+  -- the spins that have their own name over all bonds are the least ones of the components
   pub are_leasts : (all : List Bool) (names : List ℕ) → all ≡ replicate (bond_count inst) true → AllNamed inst (has all) names
       → AreLeasts inst (self_named names)
   are_leasts all names is named = record {

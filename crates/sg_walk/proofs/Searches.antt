@@ -45,12 +45,14 @@ seen_or_new true true h e = refl
 seen_or_new true false h e = sym h
 seen_or_new false m h e = let w = e in cc
 
+-- a bond of the set to a spin that is not marked: both conditions
 pub leads_parts : (inside marked : Bool) → (inside && not marked) ≡ true → (inside ≡ true) × (marked ≡ false)
 leads_parts true true h = let w = h in cc
 leads_parts true false h = (refl, refl)
 leads_parts false m h = let w = h in cc
 
 module _ (inst : Ising) (bonds : ℕ → Bool) (spin : ℕ) where
+  -- over no dart nothing is marked or noted
   pub visits_none : (marks : List Bool) (order : List ℕ) → Visits inst bonds spin [] marks marks order order
   visits_none marks order = record {
     lengths = refl;
@@ -98,6 +100,7 @@ module _ (inst : Ising) (bonds : ℕ → Bool) (spin : ℕ) where
         | inr d ↦ let last : length after ≡ k = omega (arith, length_push after to) in subst P (sym (get_or_push after to 0 k last)) here
       ]
 
+      -- one dart more of the set, to a spin that is not marked: it is marked and noted
       pub visits_new : Visits inst bonds spin (take (i + 1) darts) old (set now to true) before (after ++ to ∷ [])
       visits_new = record {
         lengths = length-set now to true ∙ w.lengths;
@@ -135,6 +138,7 @@ module _ (inst : Ising) (bonds : ℕ → Bool) (spin : ℕ) where
               (marked_or_here now to x h)
 
 module _ (inst : Ising) (good : IsInstance inst) (bonds : ℕ → Bool) (root : ℕ) (base : List Bool) where
+  -- at the start the root alone is marked and noted
   pub search_start : root < length base → get_or base root false ≡ false → SearchedTo inst bonds root base (set base root true) (root ∷ []) 0
   search_start l free = record {
     lengths = length-set base root true;

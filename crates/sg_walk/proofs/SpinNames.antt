@@ -65,6 +65,7 @@ module _ (inst : Ising) (set : ℕ → Bool) (spin : ℕ) (old now : List Bool) 
           least = λ j q. subst (λ y. y ≤ j) (sym name) (root_least x j found q);
         }
 
+    -- one walk more names the spins that it finds
     pub named_more : NamedTo inst set now after (spin + 1)
     named_more = record {
       marks_count = walk.lengths ∙ was.marks_count;
@@ -74,6 +75,7 @@ module _ (inst : Ising) (set : ℕ → Bool) (spin : ℕ) (old now : List Bool) 
       done = λ x l. elim (cases_eq x spin) [ inl e ↦ subst (IsMarked now) (sym e) walk.root_marked | inr ne ↦ walk.kept x (was.done x (omega arith)) ];
     }
 
+-- after the walks from all spins all are named
 pub all_named : (inst : Ising) (set : ℕ → Bool) (marks : List Bool) (names : List ℕ) (stop : ℕ) → inst.n ≤ stop →
     NamedTo inst set marks names stop → AllNamed inst set names
 all_named inst set marks names stop end h = record { count = h.names_count; each = λ x l. h.named x (h.done x (omega arith)) }

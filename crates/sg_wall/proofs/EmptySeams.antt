@@ -38,6 +38,7 @@ least_once inst a b p q =
     level : (x y : ℤ) → x ≤ℤ y → y ≤ℤ x → x ≡ y
     level x y l g = omega (arith, ints)
 
+-- with an empty seam the difference is 0
 pub no_wall : (inst : Ising) (p a d : ℤ) → IsLeastEnergy inst p → IsLeastEnergy (with_seam_flipped inst) a → d ≡ a -ℤ p → inst.seam ≡ [] →
     d ≡ pos 0
 no_wall inst p a d least flipped gain none =

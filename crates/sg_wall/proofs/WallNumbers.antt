@@ -30,12 +30,14 @@ module _
   difference_size : unsigned_abs (to_z w64 (of_z w64 f) -ℤ to_z w64 (of_z w64 e)) ≤ 2 * forced_limit
   difference_size = rw (first_kept, second_kept) (small e f (weight q.instance) (omega (arith, old_size, same_weight)) new_size planar.sum)
 
+  -- the difference of two least energies fits 64 bits
   pub difference_fits : FitsSigned w64 (to_z w64 (of_z w64 f) -ℤ to_z w64 (of_z w64 e))
   difference_fits = fits_signed_from_abs w64 (to_z w64 (of_z w64 f) -ℤ to_z w64 (of_z w64 e)) (omega (arith, difference_size))
 
   third_kept : to_z w64 (of_z w64 (to_z w64 (of_z w64 f) -ℤ to_z w64 (of_z w64 e))) ≡ to_z w64 (of_z w64 f) -ℤ to_z w64 (of_z w64 e)
   third_kept = to_z-of_z w64 (to_z w64 (of_z w64 f) -ℤ to_z w64 (of_z w64 e)) difference_fits
 
+  -- the three numbers are those of the wall
   pub is_wall : IsWall p.instance (to_z w64 (of_z w64 e)) (to_z w64 (of_z w64 f)) (to_z w64 (of_z w64 (to_z w64 (of_z w64 f) -ℤ to_z w64 (of_z w64 e))))
   is_wall = record {
     least = subst (IsLeastEnergy p.instance) (sym first_kept) old;
@@ -45,5 +47,6 @@ module _
     gain = third_kept;
   }
 
+  -- with an empty seam the difference in the code is 0
   pub no_gain : p.instance.seam ≡ [] → to_z w64 (of_z w64 (to_z w64 (of_z w64 f) -ℤ to_z w64 (of_z w64 e))) ≡ pos 0
   no_gain none = no_wall p.instance _ _ _ is_wall.least is_wall.least_flipped is_wall.gain none

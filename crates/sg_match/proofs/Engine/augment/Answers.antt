@@ -33,12 +33,14 @@ pub invariant_of-self : goal.invariant_of-self
 invariant_of-self c = (
   (after c).0,
   record {
-    edges = search rules;
-    exposed = search rules;
-    outer = search rules;
-    inner = search rules;
-    cycle = search rules;
-    ring = search rules;
+    room = record {
+      edges = search rules;
+      exposed = search rules;
+      outer = search rules;
+      inner = search rules;
+      cycle = search rules;
+      ring = search rules;
+    };
     named = search rules;
     marks = search rules;
     mates = search rules;

@@ -75,11 +75,11 @@ fits g c = let s = state_of c.self.inside in edge_room s.family c.args.root s.ed
 
 pub raise_tree-requires-clause-outer : goal.raise_tree-requires-clause-outer
 raise_tree-requires-clause-outer g c =
-    omega (arith, fits g (goal.at.raise_tree-requires-clause-outer g c).After-self, c.self.invariant.1.outer, ap (λ xs. length xs) c.deref-5.ensures.value)
+    omega (arith, fits g (goal.at.raise_tree-requires-clause-outer g c).After-self, c.self.invariant.1.room.outer, ap (λ xs. length xs) c.deref-5.ensures.value)
 
 pub raise_tree-requires-clause-inner : goal.raise_tree-requires-clause-inner
 raise_tree-requires-clause-inner g c =
-    omega (arith, fits g (goal.at.raise_tree-requires-clause-inner g c).After-self, c.self.invariant.1.inner, ap (λ xs. length xs) c.deref-5.ensures.value)
+    omega (arith, fits g (goal.at.raise_tree-requires-clause-inner g c).After-self, c.self.invariant.1.room.inner, ap (λ xs. length xs) c.deref-5.ensures.value)
 
 pub raise_tree-requires-clause-whole : goal.raise_tree-requires-clause-whole
 raise_tree-requires-clause-whole g c = let p = changing g (goal.at.raise_tree-requires-clause-whole g c).After-least_dual-delta in omega
@@ -194,23 +194,25 @@ invariant_of-self g c =
     let at = goal.at.invariant_of-self g c in
     let is = made g at.After-shift in
     let p = changing g at.After-least_dual-delta in
-    let room = c.self.invariant.1 in
+    let kept = c.self.invariant.1 in
     let names : length c.raise_tree.new.arena.nodes ≡ length e.arena.nodes = ap (λ a. length a.nodes) is ∙
     length-raised e.arena (outers c.args.root e.edges.items) (inners e.edges.items) (nat_of (given c.least_dual-delta.result)) in
     let leaves : length c.raise_tree.new.arena.leaf_nodes ≡ length e.arena.leaf_nodes = ap (λ a. length a.leaf_nodes) is in (
       engine_now g at.After-shift p,
       record {
-        edges = omega (arith, room.edges, names);
-        exposed = omega (arith, room.exposed, names);
-        outer = omega (arith, room.outer, names, c.raise_tree.ensures.outer_room);
-        inner = omega (arith, room.inner, names, c.raise_tree.ensures.inner_room);
-        cycle = omega (arith, room.cycle, names);
-        ring = omega (arith, room.ring, names);
-        named = sym (with_items e.named c.nearest-near.new.named).ok.0 ∙ e.named.ok.0 ∙ room.named ∙ sym names;
-        marks = sym (with_items e.marks c.nearest-near.new.marks).ok.0 ∙ e.marks.ok.0 ∙ room.marks ∙ sym leaves;
-        mates = room.mates ∙ sym leaves;
+        room = record {
+          edges = omega (arith, kept.room.edges, names);
+          exposed = omega (arith, kept.room.exposed, names);
+          outer = omega (arith, kept.room.outer, names, c.raise_tree.ensures.outer_room);
+          inner = omega (arith, kept.room.inner, names, c.raise_tree.ensures.inner_room);
+          cycle = omega (arith, kept.room.cycle, names);
+          ring = omega (arith, kept.room.ring, names);
+        };
+        named = sym (with_items e.named c.nearest-near.new.named).ok.0 ∙ e.named.ok.0 ∙ kept.named ∙ sym names;
+        marks = sym (with_items e.marks c.nearest-near.new.marks).ok.0 ∙ e.marks.ok.0 ∙ kept.marks ∙ sym leaves;
+        mates = kept.mates ∙ sym leaves;
         listed = listed_after g at.After-shift (marks_lent g at.After-deref-6) (moving g at.After-raise_tree p);
-        fresh = λ is. absurd (none-some c.args.root (sym (room.fresh is).0 ∙ rooted g at.After-self));
+        fresh = λ is. absurd (none-some c.args.root (sym (kept.fresh is).0 ∙ rooted g at.After-self));
         known = λ r some.
             subst (λ x. AreOuter c.raise_tree.new.arena x e.edges.items c.shift.new.self.members)
             (same_Some c.args.root r (sym (rooted g at.After-self) ∙ some)) (known_after g at.After-shift p (known_before g at.After-raise_tree));

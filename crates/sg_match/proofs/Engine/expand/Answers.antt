@@ -98,7 +98,7 @@ turn_to_odd-entry-requires-clause-room g c =
     omega (
       arith,
       edges_fit (state_of c.self.inside) c.args.node is.engine is.inner_zero c.list_ring.new.ring.items (listed g here.After-list_ring is),
-      c.self.invariant.1.ring,
+      c.self.invariant.1.room.ring,
     )
 
 pub expand-requires-clause-top : goal.expand-requires-clause-top
@@ -124,7 +124,7 @@ expand_edge-requires-clause-room g c =
       arith,
       ring_fits (ring_cut g here.After-turn_to_odd-entry (edge_found g here.After-index-tree_edge)),
       ap (λ xs. length xs) c.deref-4.ensures.value,
-      c.self.invariant.1.edges,
+      c.self.invariant.1.room.edges,
     )
 
 -- the tables where the blossom's leaves are listed anew
@@ -152,29 +152,32 @@ invariant_of-self g c =
     let here = goal.at.invariant_of-self g c in
     let after = expanding g here.After-expand_edge (ring_cut g here.After-turn_to_odd-entry (edge_found g here.After-index-tree_edge)) in
     let e = c.self.inside in
-    let roomy = c.self.invariant.1 in
+    let kept = c.self.invariant.1 in
     let size : length c.expand.new.self.nodes ≡ length e.arena.nodes = ap (λ (f : Family). length f.nodes) c.expand.ensures.gone ∙
     length-with_slot e.arena c.args.node None in
     let leaves : length e.arena.leaf_nodes ≡ length c.expand.new.self.leaf_nodes = ap (λ (f : Family). length f.leaf_nodes) (sym c.expand.ensures.gone) in
-    let rooms = c.turn_to_odd-entry.ensures.room (2 * length e.arena.nodes + 1) (omega (arith, roomy.cycle, c.list_ring.ensures.capacity)) roomy.ring in (
+    let rooms = c.turn_to_odd-entry.ensures.room (2 * length e.arena.nodes + 1)
+    (omega (arith, kept.room.cycle, c.list_ring.ensures.capacity)) kept.room.ring in (
       after.0,
       record {
-        edges = omega (arith, size, roomy.edges, c.expand_edge.ensures.capacity);
-        exposed = omega (arith, size, roomy.exposed);
-        outer = omega (arith, size, roomy.outer);
-        inner = omega (arith, size, roomy.inner);
-        cycle = omega (arith, size, rooms.0);
-        ring = omega (arith, size, rooms.1);
-        named = roomy.named ∙ sym size;
-        marks = roomy.marks ∙ leaves;
-        mates = roomy.mates ∙ leaves;
+        room = record {
+          edges = omega (arith, size, kept.room.edges, c.expand_edge.ensures.capacity);
+          exposed = omega (arith, size, kept.room.exposed);
+          outer = omega (arith, size, kept.room.outer);
+          inner = omega (arith, size, kept.room.inner);
+          cycle = omega (arith, size, rooms.0);
+          ring = omega (arith, size, rooms.1);
+        };
+        named = kept.named ∙ sym size;
+        marks = kept.marks ∙ leaves;
+        mates = kept.mates ∙ leaves;
         listed = parting-listed (parting g here.After-expand (edge_found g here.After-index-tree_edge)) c.deref_mut.result.now c.deref_mut.ensures.value
             c.part_tops.new.tops (with_items e.tops c.part_tops.new.tops).items c.part_tops.ensures.count c.part_tops.ensures.listed
             (with_items_is e.tops c.part_tops.new.tops (c.part_tops.auto.tops ∙ c.deref_mut.ensures.len));
         fresh = λ is.
             let at = edge_found g here.After-index-tree_edge in
-            absurd (omega (arith, at.inner_zero.within, ap (λ xs. length xs) (no_edges (state_of e) at.engine (roomy.fresh is).0)));
-        known = λ r some. after.2 e.near.members r some (roomy.known r some);
+            absurd (omega (arith, at.inner_zero.within, ap (λ xs. length xs) (no_edges (state_of e) at.engine (kept.fresh is).0)));
+        known = λ r some. after.2 e.near.members r some (kept.known r some);
       },
     )
 

@@ -12,7 +12,7 @@ top-outer-requires c = pair_leaf _ _ _ _ _ _ c.self.invariant.0 _ c.self.view_is
 pub push_reserved-requires : goal.push_reserved-requires
 push_reserved-requires c =
     let low = edge_fits _ _ _ _ _ _ c.self.invariant.0 _ c.self.view_is _ _ _ _ c.requires.tight_edge in
-    let room = c.self.invariant.1.edges in
+    let room = c.self.invariant.1.room.edges in
     search rules
 
 after : (c : goal.After-push_reserved) →
@@ -29,12 +29,14 @@ pub invariant_of-self : goal.invariant_of-self
 invariant_of-self c = (
   (after c).0,
   record {
-    edges = search rules;
-    exposed = search rules;
-    outer = search rules;
-    inner = search rules;
-    cycle = search rules;
-    ring = search rules;
+    room = record {
+      edges = search rules;
+      exposed = search rules;
+      outer = search rules;
+      inner = search rules;
+      cycle = search rules;
+      ring = search rules;
+    };
     named = search rules;
     marks = search rules;
     mates = search rules;

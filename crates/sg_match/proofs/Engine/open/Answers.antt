@@ -38,12 +38,14 @@ invariant_of-result c =
           c.in_ok-pairs.pairs.items
           (room_of here) (free_of here) c.in_ok-exposed.exposed.items c.in_ok-edges.edges.items c.in_ok-exposed.ensures.items c.in_ok-edges.ensures.items,
       record {
-        edges = omega (arith, c.in_ok-edges.ensures.capacity, c.room-room.ensures.value);
-        exposed = omega (arith, c.in_ok-exposed.ensures.room, c.room-room.ensures.value);
-        outer = omega (arith, c.in_ok-outer.ensures.capacity, c.room-room.ensures.value);
-        inner = omega (arith, c.in_ok-inner.ensures.capacity, c.room-room.ensures.value);
-        cycle = omega (arith, c.in_ok-cycle.ensures.capacity, c.room-room.ensures.value);
-        ring = omega (arith, c.in_ok-ring.ensures.capacity, c.room-room.ensures.value);
+        room = record {
+          edges = omega (arith, c.in_ok-edges.ensures.capacity, c.room-room.ensures.value);
+          exposed = omega (arith, c.in_ok-exposed.ensures.room, c.room-room.ensures.value);
+          outer = omega (arith, c.in_ok-outer.ensures.capacity, c.room-room.ensures.value);
+          inner = omega (arith, c.in_ok-inner.ensures.capacity, c.room-room.ensures.value);
+          cycle = omega (arith, c.in_ok-cycle.ensures.capacity, c.room-room.ensures.value);
+          ring = omega (arith, c.in_ok-ring.ensures.capacity, c.room-room.ensures.value);
+        };
         named = omega (arith, c.in_ok-named.ensures.len, c.room-room.ensures.value);
         marks = omega (arith, c.in_ok-marks.ensures.len, c.in_ok-arena.ensures.leaves);
         mates = omega (arith, c.in_ok-mates.ensures.len, c.in_ok-arena.ensures.leaves);

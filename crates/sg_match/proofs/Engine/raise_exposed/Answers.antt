@@ -93,11 +93,11 @@ few g c = ap (λ xs. length xs) (no_edges (state_of c.self.inside) c.self.invari
 
 pub raise_tree-requires-clause-outer : goal.raise_tree-requires-clause-outer
 raise_tree-requires-clause-outer g c =
-    omega (arith, few g (goal.at.raise_tree-requires-clause-outer g c).After-self, c.self.invariant.1.outer, ap (λ xs. length xs) c.deref-4.ensures.value)
+    omega (arith, few g (goal.at.raise_tree-requires-clause-outer g c).After-self, c.self.invariant.1.room.outer, ap (λ xs. length xs) c.deref-4.ensures.value)
 
 pub raise_tree-requires-clause-inner : goal.raise_tree-requires-clause-inner
 raise_tree-requires-clause-inner g c =
-    omega (arith, few g (goal.at.raise_tree-requires-clause-inner g c).After-self, c.self.invariant.1.inner, ap (λ xs. length xs) c.deref-4.ensures.value)
+    omega (arith, few g (goal.at.raise_tree-requires-clause-inner g c).After-self, c.self.invariant.1.room.inner, ap (λ xs. length xs) c.deref-4.ensures.value)
 
 pub raise_tree-requires-clause-whole : goal.raise_tree-requires-clause-whole
 raise_tree-requires-clause-whole g c =
@@ -168,21 +168,23 @@ invariant_of-self g c =
     let e = c.self.inside in
     let at = goal.at.invariant_of-self g c in
     let is = made g at.After-raise_tree in
-    let room = c.self.invariant.1 in
+    let kept = c.self.invariant.1 in
     let names : length c.raise_tree.new.arena.nodes ≡ length e.arena.nodes = ap (λ a. length a.nodes) is
     ∙ length-raised e.arena (outers c.args.root e.edges.items) (inners e.edges.items) (nat_of (given c.lesser-delta.result)) in
     let leaves : length c.raise_tree.new.arena.leaf_nodes ≡ length e.arena.leaf_nodes = ap (λ a. length a.leaf_nodes) is in (
       engine_now g at.After-raise_tree (starting g at.After-lesser-delta (bare g at.After-self) (root_at g at.After-self)),
       record {
-        edges = omega (arith, room.edges, names);
-        exposed = omega (arith, room.exposed, names);
-        outer = omega (arith, room.outer, names, c.raise_tree.ensures.outer_room);
-        inner = omega (arith, room.inner, names, c.raise_tree.ensures.inner_room);
-        cycle = omega (arith, room.cycle, names);
-        ring = omega (arith, room.ring, names);
-        named = sym (with_items e.named c.nearest-near.new.named).ok.0 ∙ e.named.ok.0 ∙ room.named ∙ sym names;
-        marks = sym (with_items e.marks c.nearest-near.new.marks).ok.0 ∙ e.marks.ok.0 ∙ room.marks ∙ sym leaves;
-        mates = room.mates ∙ sym leaves;
+        room = record {
+          edges = omega (arith, kept.room.edges, names);
+          exposed = omega (arith, kept.room.exposed, names);
+          outer = omega (arith, kept.room.outer, names, c.raise_tree.ensures.outer_room);
+          inner = omega (arith, kept.room.inner, names, c.raise_tree.ensures.inner_room);
+          cycle = omega (arith, kept.room.cycle, names);
+          ring = omega (arith, kept.room.ring, names);
+        };
+        named = sym (with_items e.named c.nearest-near.new.named).ok.0 ∙ e.named.ok.0 ∙ kept.named ∙ sym names;
+        marks = sym (with_items e.marks c.nearest-near.new.marks).ok.0 ∙ e.marks.ok.0 ∙ kept.marks ∙ sym leaves;
+        mates = kept.mates ∙ sym leaves;
         listed = listed_after g at.After-move_totals is (marks_lent g at.After-deref-5)
             (moving g at.After-raise_tree (starting g at.After-lesser-delta (bare g at.After-self) (root_at g at.After-self)));
         fresh = λ is. absurd (false≢true is);

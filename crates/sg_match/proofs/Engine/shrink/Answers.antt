@@ -20,7 +20,7 @@ use Rattle.sg_pairing.specs.Metric.{cost}
 use Rattle.sg_match.specs.Path.{AreTight, nodes_of}
 use Rattle.sg_match.specs.TreeCycle.{HasTight, IsTreeCycle}
 use Rattle.sg_match.specs.ShrunkTree.{CanShrinkTree}
-use Rattle.sg_match.specs.Rooms.{IsRoomy}
+use Rattle.sg_match.specs.Rooms.{KeepsTables}
 use Rattle.sg_match.specs.State.{State}
 use Rattle.sg_match.specs.Steps.{steps_left}
 use Rattle.sg_match.specs.Tree.{IsShape, IsTree, edge_at}
@@ -55,7 +55,7 @@ pub find_cycle-base-requires-clause-room : goal.find_cycle-base-requires-clause-
 find_cycle-base-requires-clause-room g c =
     let few = edge_room c.self.inside.arena c.args.root c.self.inside.edges.items
     (tree g (goal.at.find_cycle-base-requires-clause-room g c).After-self).shape in
-    omega (arith, c.self.invariant.1.cycle, ap (λ xs. length xs) c.deref.ensures.value, few)
+    omega (arith, c.self.invariant.1.room.cycle, ap (λ xs. length xs) c.deref.ensures.value, few)
 
 pub shrink-blossom-requires : goal.shrink-blossom-requires
 shrink-blossom-requires g c =
@@ -176,7 +176,7 @@ ending g c = let here = goal.at.returns-clause-engine g c in shrinking g c (root
 pub invariant_of-self : goal.invariant_of-self
 invariant_of-self g c =
     let here = goal.at.invariant_of-self g c in
-    let roomy : IsRoomy c.self.inside = c.self.invariant.1 in
+    let kept : KeepsTables c.self.inside = c.self.invariant.1 in
     let nodes : length c.shrink-blossom.new.self.nodes ≡ length c.self.inside.arena.nodes =
     ap (λ (f : Family). length f.nodes) c.shrink-blossom.ensures.made ∙ length-with_slot c.self.inside.arena c.shrink-blossom.result
     (Some (blossom_of c.self.inside.arena c.deref-2.result.now)) in
@@ -184,20 +184,22 @@ invariant_of-self g c =
     ap (λ (f : Family). length f.leaf_nodes) c.shrink-blossom.ensures.made in (
       (ending g c).0,
       record {
-        edges = omega (arith, nodes, roomy.edges, c.shrink_edges.ensures.capacity);
-        exposed = omega (arith, nodes, roomy.exposed);
-        outer = omega (arith, nodes, roomy.outer);
-        inner = omega (arith, nodes, roomy.inner);
-        cycle = omega (arith, nodes, roomy.cycle, c.find_cycle-base.ensures.capacity);
-        ring = omega (arith, nodes, roomy.ring);
-        named = omega (arith, nodes, roomy.named);
-        marks = omega (arith, leaves, roomy.marks);
-        mates = omega (arith, leaves, roomy.mates);
+        room = record {
+          edges = omega (arith, nodes, kept.room.edges, c.shrink_edges.ensures.capacity);
+          exposed = omega (arith, nodes, kept.room.exposed);
+          outer = omega (arith, nodes, kept.room.outer);
+          inner = omega (arith, nodes, kept.room.inner);
+          cycle = omega (arith, nodes, kept.room.cycle, c.find_cycle-base.ensures.capacity);
+          ring = omega (arith, nodes, kept.room.ring);
+        };
+        named = omega (arith, nodes, kept.named);
+        marks = omega (arith, leaves, kept.marks);
+        mates = omega (arith, leaves, kept.mates);
         listed = lifting-listed (lifting g here.After-shrink-blossom (rooted g here.After-self) (cycle_found g here.After-find_cycle-base))
             c.deref_mut.result.now c.deref_mut.ensures.value c.lift_tops.new.tops (with_items c.self.inside.tops c.lift_tops.new.tops).items
             c.lift_tops.ensures.count c.lift_tops.ensures.lifted
             (with_items_is c.self.inside.tops c.lift_tops.new.tops (c.lift_tops.auto.tops ∙ c.deref_mut.ensures.len));
-        fresh = λ is. absurd (none-some c.args.root (sym (roomy.fresh is).0 ∙ rooted g here.After-self));
+        fresh = λ is. absurd (none-some c.args.root (sym (kept.fresh is).0 ∙ rooted g here.After-self));
         known = λ r some. subst (λ x. AreOuter c.shrink-blossom.new.self x c.shrink_edges.new.edges.items c.self.inside.near.members)
             (same_Some c.renamed.result r some) (ending g c).2;
       },
