@@ -18,7 +18,7 @@ use std::alloc::Global;
 
 /// A web and its terminals, with a judge of joins.
 #[derive(Drop)]
-pub(crate) struct Court {
+pub(crate) struct JudgedWeb {
     pub web: Web,
     pub terminals: Terminals,
     pub judge: Judge,
@@ -60,29 +60,29 @@ impl Proposals {
 /// edge or as it is. An edge of one node leaves them as they are.
 pub(crate) fn join_with(
     alloc: Global,
-    court: &mut Court,
+    judged: &mut JudgedWeb,
     proposals: &mut Proposals,
     edge: u32,
     has: bool,
 ) -> Result<Option<EdgeList>, NoMemory>
-    requires edge { edge < edge_count court.old.web }
-    requires terminals { AreTerminals court.old.web court.old.terminals }
-    requires light { total_weight court.old.web ≤ forced_limit }
-    ensures web { court.new.web ≡ court.old.web }
-    ensures terminals { court.new.terminals ≡ court.old.terminals }
+    requires edge { edge < edge_count judged.old.web }
+    requires terminals { AreTerminals judged.old.web judged.old.terminals }
+    requires light { total_weight judged.old.web ≤ forced_limit }
+    ensures web { judged.new.web ≡ judged.old.web }
+    ensures terminals { judged.new.terminals ≡ judged.old.terminals }
     ensures join { IfOk result (λ found. IfSome found
-        (IsLeastJoinWith court.old.web court.old.terminals edge has)) }
+        (IsLeastJoinWith judged.old.web judged.old.terminals edge has)) }
 {
-    let mut marks = vec![in alloc; false; court.web.edges().len()]?;
+    let mut marks = vec![in alloc; false; judged.web.edges().len()]?;
     turn_marks(&mut marks, proposals.repairs.join().as_slice());
     if marks[edge as usize] == has {
-        return whole_join(alloc, court, &proposals.nest, &marks);
+        return whole_join(alloc, judged, &proposals.nest, &marks);
     }
     let Some(turn) = proposals.repairs.turn(edge)? else {
-        return turned_join(alloc, court, &proposals.nest, &mut marks, edge, has);
+        return turned_join(alloc, judged, &proposals.nest, &mut marks, edge, has);
     };
     turn_marks(&mut marks, turn.walk.as_slice());
-    turned_join(alloc, court, &turn.nest, &mut marks, edge, has)
+    turned_join(alloc, judged, &turn.nest, &mut marks, edge, has)
 }
 
 // Turns the marks at the places of the list, if it names no others.
@@ -97,22 +97,22 @@ fn turn_marks(marks: &mut [bool], list: &[u32])
 // The marked edges, if the nest proves that they are a least join.
 fn whole_join(
     alloc: Global,
-    court: &mut Court,
+    judged: &mut JudgedWeb,
     nest: &Nest,
     marks: &[bool],
 ) -> Result<Option<EdgeList>, NoMemory>
-    requires count { length marks.now ≡ edge_count court.old.web }
-    requires few { edge_count court.old.web ≤ 2 ^ 24 }
-    requires terminals { AreTerminals court.old.web court.old.terminals }
-    ensures web { court.new.web ≡ court.old.web }
-    ensures terminals { court.new.terminals ≡ court.old.terminals }
-    ensures join { IfOk result (λ found. IfSome found (λ edges. (k : ℕ) → k < edge_count court.old.web →
-        IsLeastJoinWith court.old.web court.old.terminals k (is_marked marks.now k) edges)) }
+    requires count { length marks.now ≡ edge_count judged.old.web }
+    requires few { edge_count judged.old.web ≤ 2 ^ 24 }
+    requires terminals { AreTerminals judged.old.web judged.old.terminals }
+    ensures web { judged.new.web ≡ judged.old.web }
+    ensures terminals { judged.new.terminals ≡ judged.old.terminals }
+    ensures join { IfOk result (λ found. IfSome found (λ edges. (k : ℕ) → k < edge_count judged.old.web →
+        IsLeastJoinWith judged.old.web judged.old.terminals k (is_marked marks.now k) edges)) }
 {
     let edges = places(alloc, marks)?;
-    if !court
+    if !judged
         .judge
-        .proves(&court.web, &court.terminals, &edges, nest)?
+        .proves(&judged.web, &judged.terminals, &edges, nest)?
     {
         return Ok(None);
     }
@@ -122,26 +122,26 @@ fn whole_join(
 // The marked edges, with the edge as is said, if the nest proves them least without it.
 fn turned_join(
     alloc: Global,
-    court: &mut Court,
+    judged: &mut JudgedWeb,
     nest: &Nest,
     marks: &mut [bool],
     edge: u32,
     has: bool,
 ) -> Result<Option<EdgeList>, NoMemory>
-    requires edge { edge < edge_count court.old.web }
-    requires count { length marks.old ≡ edge_count court.old.web }
-    requires few { edge_count court.old.web ≤ 2 ^ 24 }
-    requires terminals { AreTerminals court.old.web court.old.terminals }
-    requires light { total_weight court.old.web ≤ forced_limit }
-    ensures web { court.new.web ≡ court.old.web }
-    ensures terminals { court.new.terminals ≡ court.old.terminals }
+    requires edge { edge < edge_count judged.old.web }
+    requires count { length marks.old ≡ edge_count judged.old.web }
+    requires few { edge_count judged.old.web ≤ 2 ^ 24 }
+    requires terminals { AreTerminals judged.old.web judged.old.terminals }
+    requires light { total_weight judged.old.web ≤ forced_limit }
+    ensures web { judged.new.web ≡ judged.old.web }
+    ensures terminals { judged.new.terminals ≡ judged.old.terminals }
     ensures join { IfOk result (λ found. IfSome found
-        (IsLeastJoinWith court.old.web court.old.terminals edge has)) }
+        (IsLeastJoinWith judged.old.web judged.old.terminals edge has)) }
 {
     marks[edge as usize] = false;
     let rest = places(alloc, marks)?;
-    let ends = terminals_turned(alloc, &court.web, &court.terminals, edge, has)?;
-    if !proves_beside(&mut court.web, &mut court.judge, edge, &ends, &rest, nest)? {
+    let ends = terminals_turned(alloc, &judged.web, &judged.terminals, edge, has)?;
+    if !proves_beside(&mut judged.web, &mut judged.judge, edge, &ends, &rest, nest)? {
         return Ok(None);
     }
     marks[edge as usize] = has;

@@ -10,7 +10,7 @@ ghost use Rattle.sg_bonds.specs.JoinsWith.{IsDualOf, IsLeastJoinWith, breaks_wit
 
 use super::NoMemory;
 use super::forcing::LeastState;
-use super::joins::{Court, Proposals, join_with};
+use super::joins::{JudgedWeb, Proposals, join_with};
 use sg_dual::dual;
 use sg_graph::EdgeList;
 use sg_model::Bond;
@@ -22,7 +22,7 @@ use std::marker::Model;
 // The dual of an instance, and what its regions propose.
 #[derive(Drop)]
 struct Finder {
-    court: Court,
+    judged: JudgedWeb,
     proposals: Proposals,
 }
 
@@ -47,7 +47,7 @@ impl<'a> Model for BondStates<'a> {
 
     ghost view = { λ s. s.planar.now };
 
-    ghost invariant = { λ s. IfSome s.finder (λ f. IsDualOf s.planar.now f.court.web f.court.terminals) };
+    ghost invariant = { λ s. IfSome s.finder (λ f. IsDualOf s.planar.now f.judged.web f.judged.terminals) };
 }
 
 impl<'a> BondStates<'a> {
@@ -105,14 +105,14 @@ impl<'a> BondStates<'a> {
         let Some(finder) = &mut self.finder else {
             return Ok(None);
         };
-        join_with(alloc, &mut finder.court, &mut finder.proposals, bond, has)
+        join_with(alloc, &mut finder.judged, &mut finder.proposals, bond, has)
     }
 }
 
 // The dual of a connected instance and what its regions propose, if they propose anything.
 fn make_finder(alloc: Global, planar: &Planar) -> Result<Option<Finder>, NoMemory>
     ensures { IfOk result (λ found. IfSome found
-        (λ f. IsDualOf planar.now f.court.web f.court.terminals)) }
+        (λ f. IsDualOf planar.now f.judged.web f.judged.terminals)) }
 {
     if !planar.is_connected() {
         return Ok(None);
@@ -122,12 +122,12 @@ fn make_finder(alloc: Global, planar: &Planar) -> Result<Option<Finder>, NoMemor
     let Some(proposals) = Proposals::new(alloc, &web, &terminals)? else {
         return Ok(None);
     };
-    let court = Court {
+    let judged = JudgedWeb {
         web,
         terminals,
         judge,
     };
-    Ok(Some(Finder { court, proposals }))
+    Ok(Some(Finder { judged, proposals }))
 }
 
 // Whether spins with this product break the bond.
