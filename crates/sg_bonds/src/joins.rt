@@ -12,7 +12,7 @@ ghost use Rattle.sg_bonds.specs.JoinsWith.{IsLeastBeside, IsLeastJoinWith, turne
 use super::NoMemory;
 use sg_graph::{EdgeList, Terminals, Web, turn_ends};
 use sg_nest::{Judge, Nest};
-use sg_regions::{Repairs, propose_nest};
+use sg_regions::Repairs;
 use sg_sums::{all_below, flip, places};
 use std::alloc::Global;
 
@@ -24,32 +24,20 @@ pub(crate) struct JudgedWeb {
     pub judge: Judge,
 }
 
-/// Finished regions, to be repaired for one edge after another, and a nest for the join that they
-/// prove. Nothing is promised of either.
-#[derive(Drop)]
-pub(crate) struct Proposals {
-    repairs: Repairs,
-    nest: Nest,
-}
-
-impl Proposals {
-    /// What the web's regions give, if they give anything.
-    pub(crate) fn new(
-        alloc: Global,
-        web: &Web,
-        terminals: &Terminals,
-    ) -> Result<Option<Self>, NoMemory> {
-        let Some(repairs) = Repairs::new(alloc, web, terminals)? else {
-            return Ok(None);
-        };
-        let Some(proposal) = propose_nest(alloc, web, terminals)? else {
-            return Ok(None);
-        };
-        Ok(Some(Proposals {
-            repairs,
-            nest: proposal.nest,
-        }))
-    }
+/// The least join that the finished regions prove; nothing where they prove none. The web is left as it
+/// was.
+pub(crate) fn join_of(
+    alloc: Global,
+    judged: &mut JudgedWeb,
+    repairs: &Repairs,
+) -> Result<Option<EdgeList>, NoMemory>
+    requires { AreTerminals judged.old.web judged.old.terminals }
+    ensures web { judged.new.web ≡ judged.old.web }
+    ensures terminals { judged.new.terminals ≡ judged.old.terminals }
+    ensures least { IfOk result (λ found. IfSome found (IsLeastJoin judged.old.web judged.old.terminals)) }
+{
+    let marks = join_marks(alloc, &judged.web, repairs)?;
+    whole_join(alloc, judged, repairs.nest(), &marks)
 }
 
 /// A least join among those that have the edge, or that do not, as is said; nothing where what is
@@ -61,7 +49,7 @@ impl Proposals {
 pub(crate) fn join_with(
     alloc: Global,
     judged: &mut JudgedWeb,
-    proposals: &mut Proposals,
+    repairs: &mut Repairs,
     edge: u32,
     has: bool,
 ) -> Result<Option<EdgeList>, NoMemory>
@@ -73,16 +61,25 @@ pub(crate) fn join_with(
     ensures join { IfOk result (λ found. IfSome found
         (IsLeastJoinWith judged.old.web judged.old.terminals edge has)) }
 {
-    let mut marks = vec![in alloc; false; judged.web.edges().len()]?;
-    turn_marks(&mut marks, proposals.repairs.join().as_slice());
+    let mut marks = join_marks(alloc, &judged.web, repairs)?;
     if marks[edge as usize] == has {
-        return whole_join(alloc, judged, &proposals.nest, &marks);
+        return whole_join(alloc, judged, repairs.nest(), &marks);
     }
-    let Some(turn) = proposals.repairs.turn(edge)? else {
-        return turned_join(alloc, judged, &proposals.nest, &mut marks, edge, has);
+    let Some(turn) = repairs.turn(edge)? else {
+        return turned_join(alloc, judged, repairs.nest(), &mut marks, edge, has);
     };
     turn_marks(&mut marks, turn.walk.as_slice());
     turned_join(alloc, judged, &turn.nest, &mut marks, edge, has)
+}
+
+// A mark for each edge, set for those of the join that the finished regions prove.
+fn join_marks(alloc: Global, web: &Web, repairs: &Repairs) -> Result<Vec<bool>, NoMemory>
+    ensures count { IfOk result (λ marks. length marks.items ≡ edge_count web.now) }
+    ensures few { edge_count web.now ≤ 2 ^ 24 }
+{
+    let mut marks = vec![in alloc; false; web.edges().len()]?;
+    turn_marks(&mut marks, repairs.join().as_slice());
+    Ok(marks)
 }
 
 // Turns the marks at the places of the list, if it names no others.
@@ -106,6 +103,7 @@ fn whole_join(
     requires terminals { AreTerminals judged.old.web judged.old.terminals }
     ensures web { judged.new.web ≡ judged.old.web }
     ensures terminals { judged.new.terminals ≡ judged.old.terminals }
+    ensures least { IfOk result (λ found. IfSome found (IsLeastJoin judged.old.web judged.old.terminals)) }
     ensures join { IfOk result (λ found. IfSome found (λ edges. (k : ℕ) → k < edge_count judged.old.web →
         IsLeastJoinWith judged.old.web judged.old.terminals k (is_marked marks.now k) edges)) }
 {
