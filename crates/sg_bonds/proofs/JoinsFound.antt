@@ -19,14 +19,14 @@ use Rattle.sg_bonds.specs.JoinsWith.{IsLeastBeside, IsLeastJoinWith, turned_at, 
 use Rattle.sg_bonds.proofs.EdgeJoins.{heavy_light, least_with_edge}
 
 -- marks of the terminals
-pub terminal_mark : (g : Graph) (terminals : List ℕ) → AreTerminals g terminals → (old new : List Bool) (x : ℕ) → x < g.nodes → is_marked old x ≡ false →
-    is_marked new x ≡ xor (is_marked old x) (parity_by (λ k. eqb k x) terminals) → is_marked new x ≡ holds terminals x
+pub terminal_mark : (g : Graph) (terminals : List ℕ) → AreTerminals g terminals → (old new : List Bool) (x : ℕ) → x < g.nodes →
+    is_marked old x ≡ false → is_marked new x ≡ xor (is_marked old x) (parity_by (λ k. eqb k x) terminals) → is_marked new x ≡ holds terminals x
 terminal_mark g terminals are old new x l bare flipped =
     flipped ∙ ap (λ b. xor b (parity_by (λ k. eqb k x) terminals)) bare ∙ parity_of_rising terminals g.nodes x are.below are.rising l
 
 -- and those turned at the ends of an edge
-pub turned_mark : (g : Graph) (terminals : List ℕ) → (k : ℕ) (has : Bool) → has ≡ true → (mid new : List Bool) (x : ℕ) → is_marked mid x ≡ holds terminals x →
-    is_marked new x ≡ xor (is_marked mid x) (xor (is_end (edge_at g k).a (edge_at g k).b x) false) →
+pub turned_mark : (g : Graph) (terminals : List ℕ) → (k : ℕ) (has : Bool) → has ≡ true → (mid new : List Bool) (x : ℕ) →
+    is_marked mid x ≡ holds terminals x → is_marked new x ≡ xor (is_marked mid x) (xor (is_end (edge_at g k).a (edge_at g k).b x) false) →
     is_marked new x ≡ xor (holds terminals x) (has && is_end (edge_at g k).a (edge_at g k).b x)
 turned_mark g terminals k has yes_had mid new x was turned =
     turned ∙ ap₂ xor was (xor-false (is_end (edge_at g k).a (edge_at g k).b x) ∙ ap (λ h. h && is_end (edge_at g k).a (edge_at g k).b x) (sym yes_had))
@@ -67,7 +67,8 @@ module _ (g : Graph) (k : ℕ) (inside : k < edge_count g) (edges read : List �
   far_light = rw far_is (omega (arith, far_small, light, heavy_light g k inside (pos far)))
 
 -- the terminals that are turned at an edge are terminals
-pub turned_terminals : (g : Graph) (terminals : List ℕ) (k : ℕ) (has : Bool) (ends : List ℕ) → ends ≡ turned_at g terminals k has → AreTerminals g ends
+pub turned_terminals : (g : Graph) (terminals : List ℕ) (k : ℕ) (has : Bool) (ends : List ℕ) → ends ≡ turned_at g terminals k has →
+    AreTerminals g ends
 turned_terminals g terminals k has ends is =
     let turned : ℕ → Bool = λ x. xor (holds terminals x) (has && is_end (edge_at g k).a (edge_at g k).b x) in
     subst (AreTerminals g) (sym is) (record { rising = chosen_below_rises turned g.nodes; below = chosen_below_low turned g.nodes })

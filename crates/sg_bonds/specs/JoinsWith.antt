@@ -16,7 +16,8 @@ use Rattle.sg_planar.specs.Fit.{Embedding, IsPlanar}
 pub record IsLeastJoinWith (g : Graph) (terminals : List ℕ) (k : ℕ) (has : Bool) (edges : List ℕ) : Type 0 where
   pub join : IsJoin g terminals edges
   pub side : holds edges k ≡ has
-  pub least : (others : List ℕ) → IsJoin g terminals others → holds others k ≡ has → weight_of g edges ≤ weight_of g others
+  pub least : (others : List ℕ) → IsJoin g terminals others → holds others k ≡ has →
+      weight_of g edges ≤ weight_of g others
 
 -- the terminals, but for the two ends of edge k if it is to be had: each is one just where it was none
 abbrev pub turned_at : Graph → List ℕ → ℕ → Bool → List ℕ

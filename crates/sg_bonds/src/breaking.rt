@@ -6,12 +6,13 @@ ghost use Rattle.sg_model.specs.Energy.{IsGroundState, energy, weight};
 ghost use Rattle.sg_bonds.specs.Cost.{AreCosts, IsCost};
 ghost use Rattle.sg_bonds.specs.Known.{AreKnown};
 
-use super::forcing::{other_product, state_with};
-use super::known::{Known, Turned, note, widest};
+use super::forcing::{least_state, other_product, state_with};
+use super::known::{Known, Turned, note};
 use super::paths::met;
 use super::states::BondStates;
+use super::waiting::Waiting;
 use super::{CostList, NoMemory};
-use sg_ground::{Answer, solve};
+use sg_ground::State;
 use sg_planar::Planar;
 use std::alloc::Global;
 
@@ -20,8 +21,8 @@ pub(crate) fn part_costs(alloc: Global, planar: &Planar) -> Result<CostList, NoM
     requires sum { weight planar.now.instance ≤ sum_limit }
     ensures { IfOk result (AreCosts planar.now.instance) }
 {
-    let least = solve(alloc, planar)?;
     let mut states = BondStates::new(alloc, planar)?;
+    let least = least_state(alloc, planar, &mut states)?;
     let known = gather(alloc, planar, &mut states, &least)?;
     listed(alloc, planar, &mut states, &least, &known)
 }
@@ -38,7 +39,7 @@ fn gather(
     alloc: Global,
     planar: &Planar,
     states: &mut BondStates,
-    least: &Answer,
+    least: &State,
 ) -> Result<Vec<Known>, NoMemory>
     requires sum { weight planar.now.instance ≤ sum_limit }
     requires states { states.old ≡ planar.now }
@@ -49,8 +50,9 @@ fn gather(
 {
     let count = planar.instance().bonds().len();
     let mut known = vec![in alloc; Known::Nothing; count]?;
+    let mut waiting = Waiting::new(alloc, count)?;
     for _ in 0..count {
-        match widest(&known) {
+        match waiting.next(&known)? {
             Some(bond) => settle(alloc, planar, states, least, bond as u32, &mut known)?,
             None => break,
         }
@@ -63,7 +65,7 @@ fn settle(
     alloc: Global,
     planar: &Planar,
     states: &mut BondStates,
-    least: &Answer,
+    least: &State,
     bond: u32,
     known: &mut [Known],
 ) -> Result<(), NoMemory>
@@ -94,7 +96,7 @@ pub(crate) fn turn(
     alloc: Global,
     planar: &Planar,
     states: &mut BondStates,
-    least: &Answer,
+    least: &State,
     bond: u32,
 ) -> Result<Turned, NoMemory>
     requires sum { weight planar.now.instance ≤ sum_limit }
@@ -121,7 +123,7 @@ fn cost(
     alloc: Global,
     planar: &Planar,
     states: &mut BondStates,
-    least: &Answer,
+    least: &State,
     known: &[Known],
     bond: u32,
 ) -> Result<i64, NoMemory>
@@ -145,7 +147,7 @@ fn listed(
     alloc: Global,
     planar: &Planar,
     states: &mut BondStates,
-    least: &Answer,
+    least: &State,
     known: &[Known],
 ) -> Result<CostList, NoMemory>
     requires sum { weight planar.now.instance ≤ sum_limit }

@@ -3,12 +3,12 @@ ghost use Rattle.std.specs.Prelude.{◌≡◌, ◌+◌, ◌<◌, ◌≤◌, ◌^
 ghost use Rattle.sg_limits.specs.Limits.{sum_limit};
 ghost use Rattle.sg_model.specs.Ising.{IsBond, bond_at, bond_count};
 ghost use Rattle.sg_model.specs.Spins.{IsAssignment, IsUpOrDown};
-ghost use Rattle.sg_model.specs.Energy.{energy, product, weight};
+ghost use Rattle.sg_model.specs.Energy.{IsGroundState, energy, product, weight};
 ghost use Rattle.sg_bonds.specs.Cost.{IsLeastWith};
 
 use super::NoMemory;
 use super::states::BondStates;
-use sg_ground::solve;
+use sg_ground::{State, ground_state};
 use sg_model::{Bond, Spins};
 use sg_planar::Planar;
 use std::alloc::Global;
@@ -75,13 +75,30 @@ fn least_with(
 {
     let force = force(planar);
     let forced = planar.with_coupling(bond, signed(wanted, force))?;
-    let least = solve(alloc, &forced)?;
+    let least = ground_state(alloc, &forced)?;
     let coupling = planar.instance().bonds().at(bond as usize).j;
     let energy = least.energy + force - signed(wanted, coupling);
     Ok(LeastState {
         energy,
         spins: least.spins,
     })
+}
+
+/// A ground state: that which the regions prove, and else a new one.
+pub(crate) fn least_state(
+    alloc: Global,
+    planar: &Planar,
+    states: &mut BondStates,
+) -> Result<State, NoMemory>
+    requires states { states.old ≡ planar.now }
+    ensures states { states.new ≡ planar.now }
+    ensures ground_state { IfOk result (λ s. IsGroundState planar.now.instance s.spins) }
+    ensures energy { IfOk result (λ s. s.energy ≡ energy planar.now.instance s.spins) }
+{
+    match states.ground_state(alloc)? {
+        Some(state) => Ok(state),
+        None => ground_state(alloc, planar),
+    }
 }
 
 // One more than the sum of all sizes.

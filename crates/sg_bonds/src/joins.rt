@@ -12,44 +12,32 @@ ghost use Rattle.sg_bonds.specs.JoinsWith.{IsLeastBeside, IsLeastJoinWith, turne
 use super::NoMemory;
 use sg_graph::{EdgeList, Terminals, Web, turn_ends};
 use sg_nest::{Judge, Nest};
-use sg_regions::{Repairs, propose_nest};
+use sg_regions::Repairs;
 use sg_sums::{all_below, flip, places};
 use std::alloc::Global;
 
 /// A web and its terminals, with a judge of joins.
 #[derive(Drop)]
-pub(crate) struct Court {
+pub(crate) struct JudgedWeb {
     pub web: Web,
     pub terminals: Terminals,
     pub judge: Judge,
 }
 
-/// Finished regions, to be repaired for one edge after another, and a nest for the join that they
-/// prove. Nothing is promised of either.
-#[derive(Drop)]
-pub(crate) struct Proposals {
-    repairs: Repairs,
-    nest: Nest,
-}
-
-impl Proposals {
-    /// What the web's regions give, if they give anything.
-    pub(crate) fn new(
-        alloc: Global,
-        web: &Web,
-        terminals: &Terminals,
-    ) -> Result<Option<Self>, NoMemory> {
-        let Some(repairs) = Repairs::new(alloc, web, terminals)? else {
-            return Ok(None);
-        };
-        let Some(proposal) = propose_nest(alloc, web, terminals)? else {
-            return Ok(None);
-        };
-        Ok(Some(Proposals {
-            repairs,
-            nest: proposal.nest,
-        }))
-    }
+/// The least join that the finished regions prove; nothing where they prove none. The web is left as it
+/// was.
+pub(crate) fn join_of(
+    alloc: Global,
+    judged: &mut JudgedWeb,
+    repairs: &Repairs,
+) -> Result<Option<EdgeList>, NoMemory>
+    requires { AreTerminals judged.old.web judged.old.terminals }
+    ensures web { judged.new.web ≡ judged.old.web }
+    ensures terminals { judged.new.terminals ≡ judged.old.terminals }
+    ensures least { IfOk result (λ found. IfSome found (IsLeastJoin judged.old.web judged.old.terminals)) }
+{
+    let marks = join_marks(alloc, &judged.web, repairs)?;
+    whole_join(alloc, judged, repairs.nest(), &marks)
 }
 
 /// A least join among those that have the edge, or that do not, as is said; nothing where what is
@@ -60,29 +48,38 @@ impl Proposals {
 /// edge or as it is. An edge of one node leaves them as they are.
 pub(crate) fn join_with(
     alloc: Global,
-    court: &mut Court,
-    proposals: &mut Proposals,
+    judged: &mut JudgedWeb,
+    repairs: &mut Repairs,
     edge: u32,
     has: bool,
 ) -> Result<Option<EdgeList>, NoMemory>
-    requires edge { edge < edge_count court.old.web }
-    requires terminals { AreTerminals court.old.web court.old.terminals }
-    requires light { total_weight court.old.web ≤ forced_limit }
-    ensures web { court.new.web ≡ court.old.web }
-    ensures terminals { court.new.terminals ≡ court.old.terminals }
+    requires edge { edge < edge_count judged.old.web }
+    requires terminals { AreTerminals judged.old.web judged.old.terminals }
+    requires light { total_weight judged.old.web ≤ forced_limit }
+    ensures web { judged.new.web ≡ judged.old.web }
+    ensures terminals { judged.new.terminals ≡ judged.old.terminals }
     ensures join { IfOk result (λ found. IfSome found
-        (IsLeastJoinWith court.old.web court.old.terminals edge has)) }
+        (IsLeastJoinWith judged.old.web judged.old.terminals edge has)) }
 {
-    let mut marks = vec![in alloc; false; court.web.edges().len()]?;
-    turn_marks(&mut marks, proposals.repairs.join().as_slice());
+    let mut marks = join_marks(alloc, &judged.web, repairs)?;
     if marks[edge as usize] == has {
-        return whole_join(alloc, court, &proposals.nest, &marks);
+        return whole_join(alloc, judged, repairs.nest(), &marks);
     }
-    let Some(turn) = proposals.repairs.turn(edge)? else {
-        return turned_join(alloc, court, &proposals.nest, &mut marks, edge, has);
+    let Some(turn) = repairs.turn(edge)? else {
+        return turned_join(alloc, judged, repairs.nest(), &mut marks, edge, has);
     };
     turn_marks(&mut marks, turn.walk.as_slice());
-    turned_join(alloc, court, &turn.nest, &mut marks, edge, has)
+    turned_join(alloc, judged, &turn.nest, &mut marks, edge, has)
+}
+
+// A mark for each edge, set for those of the join that the finished regions prove.
+fn join_marks(alloc: Global, web: &Web, repairs: &Repairs) -> Result<Vec<bool>, NoMemory>
+    ensures count { IfOk result (λ marks. length marks.items ≡ edge_count web.now) }
+    ensures few { edge_count web.now ≤ 2 ^ 24 }
+{
+    let mut marks = vec![in alloc; false; web.edges().len()]?;
+    turn_marks(&mut marks, repairs.join().as_slice());
+    Ok(marks)
 }
 
 // Turns the marks at the places of the list, if it names no others.
@@ -97,22 +94,23 @@ fn turn_marks(marks: &mut [bool], list: &[u32])
 // The marked edges, if the nest proves that they are a least join.
 fn whole_join(
     alloc: Global,
-    court: &mut Court,
+    judged: &mut JudgedWeb,
     nest: &Nest,
     marks: &[bool],
 ) -> Result<Option<EdgeList>, NoMemory>
-    requires count { length marks.now ≡ edge_count court.old.web }
-    requires few { edge_count court.old.web ≤ 2 ^ 24 }
-    requires terminals { AreTerminals court.old.web court.old.terminals }
-    ensures web { court.new.web ≡ court.old.web }
-    ensures terminals { court.new.terminals ≡ court.old.terminals }
-    ensures join { IfOk result (λ found. IfSome found (λ edges. (k : ℕ) → k < edge_count court.old.web →
-        IsLeastJoinWith court.old.web court.old.terminals k (is_marked marks.now k) edges)) }
+    requires count { length marks.now ≡ edge_count judged.old.web }
+    requires few { edge_count judged.old.web ≤ 2 ^ 24 }
+    requires terminals { AreTerminals judged.old.web judged.old.terminals }
+    ensures web { judged.new.web ≡ judged.old.web }
+    ensures terminals { judged.new.terminals ≡ judged.old.terminals }
+    ensures least { IfOk result (λ found. IfSome found (IsLeastJoin judged.old.web judged.old.terminals)) }
+    ensures join { IfOk result (λ found. IfSome found (λ edges. (k : ℕ) → k < edge_count judged.old.web →
+        IsLeastJoinWith judged.old.web judged.old.terminals k (is_marked marks.now k) edges)) }
 {
     let edges = places(alloc, marks)?;
-    if !court
+    if !judged
         .judge
-        .proves(&court.web, &court.terminals, &edges, nest)?
+        .proves(&judged.web, &judged.terminals, &edges, nest)?
     {
         return Ok(None);
     }
@@ -122,26 +120,26 @@ fn whole_join(
 // The marked edges, with the edge as is said, if the nest proves them least without it.
 fn turned_join(
     alloc: Global,
-    court: &mut Court,
+    judged: &mut JudgedWeb,
     nest: &Nest,
     marks: &mut [bool],
     edge: u32,
     has: bool,
 ) -> Result<Option<EdgeList>, NoMemory>
-    requires edge { edge < edge_count court.old.web }
-    requires count { length marks.old ≡ edge_count court.old.web }
-    requires few { edge_count court.old.web ≤ 2 ^ 24 }
-    requires terminals { AreTerminals court.old.web court.old.terminals }
-    requires light { total_weight court.old.web ≤ forced_limit }
-    ensures web { court.new.web ≡ court.old.web }
-    ensures terminals { court.new.terminals ≡ court.old.terminals }
+    requires edge { edge < edge_count judged.old.web }
+    requires count { length marks.old ≡ edge_count judged.old.web }
+    requires few { edge_count judged.old.web ≤ 2 ^ 24 }
+    requires terminals { AreTerminals judged.old.web judged.old.terminals }
+    requires light { total_weight judged.old.web ≤ forced_limit }
+    ensures web { judged.new.web ≡ judged.old.web }
+    ensures terminals { judged.new.terminals ≡ judged.old.terminals }
     ensures join { IfOk result (λ found. IfSome found
-        (IsLeastJoinWith court.old.web court.old.terminals edge has)) }
+        (IsLeastJoinWith judged.old.web judged.old.terminals edge has)) }
 {
     marks[edge as usize] = false;
     let rest = places(alloc, marks)?;
-    let ends = terminals_turned(alloc, &court.web, &court.terminals, edge, has)?;
-    if !proves_beside(&mut court.web, &mut court.judge, edge, &ends, &rest, nest)? {
+    let ends = terminals_turned(alloc, &judged.web, &judged.terminals, edge, has)?;
+    if !proves_beside(&mut judged.web, &mut judged.judge, edge, &ends, &rest, nest)? {
         return Ok(None);
     }
     marks[edge as usize] = has;

@@ -1,5 +1,5 @@
 // What is known of the costs while they are found.
-ghost use Rattle.std.specs.Prelude.{◌≡◌, ◌⊎◌, ◌+ℤ◌, ◌<◌, neg_ℤ, true, length, IfSome};
+ghost use Rattle.std.specs.Prelude.{◌≡◌, ◌⊎◌, ◌+ℤ◌, neg_ℤ, true, length};
 ghost use Rattle.sg_model.specs.Ising.{IsBond};
 ghost use Rattle.sg_model.specs.Spins.{IsAssignment};
 ghost use Rattle.sg_model.specs.Energy.{energy, product};
@@ -24,28 +24,6 @@ pub(crate) enum Known {
     AtMost(i64),
     /// Nothing yet.
     Nothing,
-}
-
-/// The bond whose cost may be the largest, of those whose cost is not known: the first without a
-/// bound, and else the one of the largest bound.
-pub(crate) fn widest(known: &[Known]) -> Option<usize>
-    ensures { IfSome result (λ k. k < length known.now) }
-{
-    let mut found = None;
-    let mut most = 0;
-    for (k, entry) in known.iter().enumerate() {
-        match entry {
-            Known::Nothing => return Some(k),
-            Known::AtMost(bound) => {
-                if found.is_none() || *bound > most {
-                    found = Some(k);
-                    most = *bound;
-                }
-            }
-            Known::Exact(_) => {}
-        }
-    }
-    found
 }
 
 /// Whether the two have different products at the bond.

@@ -27,6 +27,7 @@ mod paths;
 mod room;
 mod states;
 mod telling;
+mod waiting;
 
 pub use breaking::rigid;
 pub use components::costs;

@@ -3,27 +3,32 @@ ghost use Rattle.std.specs.Prelude.{◌≡◌, ◌<◌, ℤ, IfOk, IfSome};
 ghost use Rattle.sg_model.specs.Ising.{bond_at, bond_count};
 ghost use Rattle.sg_model.specs.Connected.{IsConnected};
 ghost use Rattle.sg_model.specs.Spins.{IsAssignment, IsUpOrDown};
-ghost use Rattle.sg_model.specs.Energy.{energy, product};
+ghost use Rattle.sg_model.specs.Energy.{IsGroundState, energy, product};
+ghost use Rattle.sg_planar.specs.BrokenLists.{BreaksExactly};
+ghost use Rattle.sg_planar.specs.Fit.{IsPlanar};
+ghost use Rattle.sg_graph.specs.Join.{IsJoin, IsLeastJoin};
 ghost use Rattle.sg_dual.specs.Dual.{dual_web, frustrated_faces};
 ghost use Rattle.sg_bonds.specs.Cost.{IsLeastWith};
 ghost use Rattle.sg_bonds.specs.JoinsWith.{IsDualOf, IsLeastJoinWith, breaks_with};
 
 use super::NoMemory;
 use super::forcing::LeastState;
-use super::joins::{Court, Proposals, join_with};
+use super::joins::{JudgedWeb, join_of, join_with};
 use sg_dual::dual;
 use sg_graph::EdgeList;
+use sg_ground::State;
 use sg_model::Bond;
 use sg_nest::Judge;
 use sg_planar::{Planar, spin_walk};
+use sg_regions::Repairs;
 use std::alloc::Global;
 use std::marker::Model;
 
-// The dual of an instance, and what its regions propose.
+// The dual of an instance, and its finished regions.
 #[derive(Drop)]
 struct Finder {
-    court: Court,
-    proposals: Proposals,
+    judged: JudgedWeb,
+    repairs: Repairs,
 }
 
 /// States of an instance that are least among those with some product at some bond, found without a
@@ -47,7 +52,7 @@ impl<'a> Model for BondStates<'a> {
 
     ghost view = { λ s. s.planar.now };
 
-    ghost invariant = { λ s. IfSome s.finder (λ f. IsDualOf s.planar.now f.court.web f.court.terminals) };
+    ghost invariant = { λ s. IfSome s.finder (λ f. IsDualOf s.planar.now f.judged.web f.judged.terminals) };
 }
 
 impl<'a> BondStates<'a> {
@@ -89,6 +94,33 @@ impl<'a> BondStates<'a> {
         Ok(Some(state_of(alloc, self.planar, bond, has, &edges)?))
     }
 
+    /// A ground state, or nothing where the regions prove none. The only error is want of memory.
+    pub(crate) fn ground_state(&mut self, alloc: Global) -> Result<Option<State>, NoMemory>
+        ensures same { self.new ≡ self.old }
+        ensures ground_state { IfOk result (λ found. IfSome found
+            (λ s. IsGroundState self.old.instance s.spins)) }
+        ensures energy { IfOk result (λ found. IfSome found
+            (λ s. s.energy ≡ energy self.old.instance s.spins)) }
+    {
+        let Some(edges) = self.join(alloc)? else {
+            return Ok(None);
+        };
+        Ok(Some(state_breaking(alloc, self.planar, &edges)?))
+    }
+
+    // A least join of the frustrated faces.
+    fn join(&mut self, alloc: Global) -> Result<Option<EdgeList>, NoMemory>
+        ensures same { self.new ≡ self.old }
+        ensures connected { IfOk result (λ found. IfSome found (λ _. IsConnected self.old.instance)) }
+        ensures least { IfOk result (λ found. IfSome found (IsLeastJoin
+            (dual_web self.old.instance self.old.faces) (frustrated_faces self.old.instance self.old.faces))) }
+    {
+        let Some(finder) = &mut self.finder else {
+            return Ok(None);
+        };
+        join_of(alloc, &mut finder.judged, &finder.repairs)
+    }
+
     // A least join of the frustrated faces among those that have the bond, or that do not.
     fn join_with(
         &mut self,
@@ -105,29 +137,29 @@ impl<'a> BondStates<'a> {
         let Some(finder) = &mut self.finder else {
             return Ok(None);
         };
-        join_with(alloc, &mut finder.court, &mut finder.proposals, bond, has)
+        join_with(alloc, &mut finder.judged, &mut finder.repairs, bond, has)
     }
 }
 
 // The dual of a connected instance and what its regions propose, if they propose anything.
 fn make_finder(alloc: Global, planar: &Planar) -> Result<Option<Finder>, NoMemory>
     ensures { IfOk result (λ found. IfSome found
-        (λ f. IsDualOf planar.now f.court.web f.court.terminals)) }
+        (λ f. IsDualOf planar.now f.judged.web f.judged.terminals)) }
 {
     if !planar.is_connected() {
         return Ok(None);
     }
     let (web, terminals) = dual(alloc, planar.instance(), planar.faces())?;
     let judge = Judge::new(alloc, &web)?;
-    let Some(proposals) = Proposals::new(alloc, &web, &terminals)? else {
+    let Some(repairs) = Repairs::new(alloc, &web, &terminals)? else {
         return Ok(None);
     };
-    let court = Court {
+    let judged = JudgedWeb {
         web,
         terminals,
         judge,
     };
-    Ok(Some(Finder { court, proposals }))
+    Ok(Some(Finder { judged, repairs }))
 }
 
 // Whether spins with this product break the bond.
@@ -160,7 +192,24 @@ fn state_of(
     ensures assignment { IfOk result (λ t. IsAssignment planar.now.instance t.spins) }
     ensures energy { IfOk result (λ t. t.energy ≡ energy planar.now.instance t.spins) }
 {
+    let state = state_breaking(alloc, planar, edges)?;
+    Ok(LeastState {
+        energy: state.energy,
+        spins: state.spins,
+    })
+}
+
+// The state that breaks the edges of a join.
+fn state_breaking(alloc: Global, planar: &Planar, edges: &EdgeList) -> Result<State, NoMemory>
+    requires connected { IsConnected planar.now.instance }
+    requires join { IsJoin (dual_web planar.now.instance planar.now.faces)
+        (frustrated_faces planar.now.instance planar.now.faces) edges.now }
+    ensures assignment { IfOk result (λ s. IsAssignment planar.now.instance s.spins) }
+    ensures breaks { IfOk result (λ s. BreaksExactly planar.now.instance s.spins edges.now) }
+    ensures energy { IfOk result (λ s. s.energy ≡ energy planar.now.instance s.spins) }
+    ensures planar { IsPlanar planar.now }
+{
     let spins = spin_walk(alloc, planar, edges)?;
     let energy = planar.instance().energy(&spins) as i64;
-    Ok(LeastState { energy, spins })
+    Ok(State { spins, energy })
 }

@@ -19,7 +19,7 @@ use super::known::{Turned, is_turned};
 use super::paths::joins;
 use super::room::{has_room, loads};
 use super::states::BondStates;
-use sg_ground::{Answer, solve};
+use sg_ground::{Answer, State, solve};
 use sg_model::{Bond, Instance, Spins};
 use sg_planar::Planar;
 use std::alloc::Global;
@@ -45,8 +45,12 @@ pub(crate) fn rigid_marks(alloc: Global, planar: &Planar) -> Result<Vec<bool>, N
     ensures count { IfOk result (λ set. length set.items ≡ bond_count planar.now.instance) }
     ensures rigid { IfOk result (λ set. HasRigid planar.now.instance (has set.items)) }
 {
-    let least = solve(alloc, planar)?;
-    let mut told = first_told(alloc, planar.instance(), &least)?;
+    let answer = solve(alloc, planar)?;
+    let mut told = first_told(alloc, planar.instance(), &answer)?;
+    let least = State {
+        spins: answer.spins,
+        energy: answer.energy,
+    };
     let mut states = BondStates::new(alloc, planar)?;
     gather_rigid(alloc, planar, &mut states, &least, &mut told)
 }
@@ -56,7 +60,7 @@ fn gather_rigid(
     alloc: Global,
     planar: &Planar,
     states: &mut BondStates,
-    least: &Answer,
+    least: &State,
     told: &mut [Told],
 ) -> Result<Vec<bool>, NoMemory>
     requires sum { weight planar.now.instance ≤ sum_limit }
@@ -104,7 +108,7 @@ fn is_rigid(
     alloc: Global,
     planar: &Planar,
     states: &mut BondStates,
-    least: &Answer,
+    least: &State,
     bond: u32,
     told: &mut [Told],
 ) -> Result<bool, NoMemory>
@@ -131,7 +135,7 @@ fn find(
     alloc: Global,
     planar: &Planar,
     states: &mut BondStates,
-    least: &Answer,
+    least: &State,
     bond: u32,
     told: &mut [Told],
 ) -> Result<bool, NoMemory>

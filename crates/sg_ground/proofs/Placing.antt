@@ -84,7 +84,8 @@ module _ (inst : Ising) (good : IsInstance inst) where
         values = All-from_get_or IsUpOrDown u (pos 1) (λ x l. by_place x l (held_or_not p.spins x));
       }
         where
-          by_place : (x : ℕ) → x < length u → ((i : ℕ) × (i < length p.spins) × (get_or p.spins i 0 ≡ x)) ⊎ (holds p.spins x ≡ false) → IsUpOrDown (spin u x)
+          by_place : (x : ℕ) → x < length u → ((i : ℕ) × (i < length p.spins) × (get_or p.spins i 0 ≡ x)) ⊎ (holds p.spins x ≡ false) →
+              IsUpOrDown (spin u x)
           by_place x l (inl (i, m, same)) =
               subst IsUpOrDown (sym (ap (spin u) (sym same) ∙ writes.values i m))
               (unit_at p.planar.instance t assigned i (omega (arith, m, share.spin_count)))
@@ -114,14 +115,15 @@ module _ (inst : Ising) (good : IsInstance inst) where
               ]
 
       -- no spin of a part before is one of this part
-      apart : (q : Part) (x : ℕ) → x < inst.n → ((i : ℕ) × (i < length done) × ((d : Part) → get_or done i d ≡ q)) → holds q.spins x ≡ true →
-          holds p.spins x ≡ false
+      apart : (q : Part) (x : ℕ) → x < inst.n → ((i : ℕ) × (i < length done) × ((d : Part) → get_or done i d ≡ q)) →
+          holds q.spins x ≡ true → holds p.spins x ≡ false
       apart q x l stands held = elim (cases_Bool (holds p.spins x)) [
         | inr out ↦ out
         | inl both ↦
             let once : sum_by (λ (p : Part). cond (holds p.spins x) 1 0) (done ++ p ∷ rest) ≡ 1 =
             ap (sum_by (λ (p : Part). cond (holds p.spins x) 1 0)) (sym parted) ∙ are.spins_once x l in
-            let none : holds (get_or done stands.0 p).spins x ≡ false = not_before (λ (p : Part). holds p.spins x) done rest p once both stands.0 p stands.1 in
+            let none : holds (get_or done stands.0 p).spins x ≡ false =
+            not_before (λ (p : Part). holds p.spins x) done rest p once both stands.0 p stands.1 in
             absurd (false≢true (sym none ∙ ap (λ (q : Part). holds q.spins x) (stands.2 p) ∙ held))
       ]
 
@@ -174,7 +176,8 @@ module _ (inst : Ising) (good : IsInstance inst) where
         size = bounded e f _ _ _ placed.size size_here sizes_more;
       }
         where
-          added : (e f : ℤ) (a b c d v w : ℕ) → e ≡ pos a -ℤ pos b → f ≡ pos c -ℤ pos d → v ≡ a + c → w ≡ b + d → e +ℤ f ≡ pos v -ℤ pos w
+          added : (e f : ℤ) (a b c d v w : ℕ) → e ≡ pos a -ℤ pos b → f ≡ pos c -ℤ pos d → v ≡ a + c → w ≡ b + d →
+              e +ℤ f ≡ pos v -ℤ pos w
           added e f a b c d v w h k l m = omega (arith, ints)
 
           bounded : (e f : ℤ) (a b w : ℕ) → unsigned_abs e ≤ a → unsigned_abs f ≤ b → w ≡ a + b → unsigned_abs (e +ℤ f) ≤ w
@@ -245,6 +248,6 @@ module _ (inst : Ising) (good : IsInstance inst) (parts : List Part) (are : AreP
   part_energy_fits e f light before inside =
       fits_signed_from_abs w64 (e +ℤ f) (bounded e f _ _ _ before inside sizes_more_here (part_size inst good parts are (i + 1)) light)
     where
-      bounded : (e f : ℤ) (a w all : ℕ) → unsigned_abs e ≤ a → unsigned_abs f ≤ w → all ≡ a + w → all ≤ weight inst → weight inst ≤ forced_limit →
-          unsigned_abs (e +ℤ f) < 2 ^ 63
+      bounded : (e f : ℤ) (a w all : ℕ) → unsigned_abs e ≤ a → unsigned_abs f ≤ w → all ≡ a + w → all ≤ weight inst →
+          weight inst ≤ forced_limit → unsigned_abs (e +ℤ f) < 2 ^ 63
       bounded e f a w all h k more low light = omega (arith, ints)

@@ -32,12 +32,14 @@ mod least;
 mod loops;
 mod part;
 mod placed;
+mod solving;
 mod state;
 
-pub use answer::{Answer, solve};
+pub use answer::Answer;
 pub use law::{least_joins_break, odd_cuts_are_loops};
 pub use least::least_energy;
 pub use loops::cut_loops;
+pub use solving::solve;
 pub use state::{State, ground_state};
 use std::alloc::AllocError;
 

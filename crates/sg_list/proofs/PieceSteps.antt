@@ -9,7 +9,8 @@ use Rattle.sg_list.proofs.LastLists.{with_more-last}
 use Rattle.sg_list.specs.Pieces.{AreStarts, piece, pieces, start_of, with_more}
 
 -- two functions that agree below n make the same list
-same_made : {X : Type 0} (f g : ℕ → X) (n : ℕ) (d : X) → ((k : ℕ) → k < n → f k ≡ g k) → map f (range_with_len 0 n) ≡ map g (range_with_len 0 n)
+same_made : {X : Type 0} (f g : ℕ → X) (n : ℕ) (d : X) → ((k : ℕ) → k < n → f k ≡ g k) →
+    map f (range_with_len 0 n) ≡ map g (range_with_len 0 n)
 same_made f g n d same =
     fill_by_all g (map f (range_with_len 0 n)) n d (length-map-range_with_len f 0 n)
     (λ k l. get_or-map-range_with_len f 0 n k k d l (omega arith) ∙ same k l)
@@ -19,7 +20,8 @@ module _ {A : Type 0} where
   pub length-pieces : (items : List A) (starts : List ℕ) → length (pieces items starts) ≡ length starts
   length-pieces items starts = length-map-range_with_len (piece items starts) 0 (length starts)
 
-  get_or-pieces : (items : List A) (starts : List ℕ) (i : ℕ) (d : List A) → i < length starts → get_or (pieces items starts) i d ≡ piece items starts i
+  get_or-pieces : (items : List A) (starts : List ℕ) (i : ℕ) (d : List A) → i < length starts →
+      get_or (pieces items starts) i d ≡ piece items starts i
   get_or-pieces items starts i d l = get_or-map-range_with_len (piece items starts) 0 (length starts) i i d l (omega arith)
 
   -- the list of pieces has piece i at place i
@@ -81,7 +83,8 @@ module _ {A : Type 0} where
           at_case (inl l) = omega (arith, start_kept items more starts i l, good.inside i, length-append items more)
           at_case (inr l) = omega (arith, start_past (items ++ more) starts i l)
 
-      by_case : (i : ℕ) → (i + 1 < length starts) ⊎ (length starts ≤ i + 1) → start_of (items ++ more) starts i ≤ start_of (items ++ more) starts (i + 1)
+      by_case : (i : ℕ) → (i + 1 < length starts) ⊎ (length starts ≤ i + 1) →
+          start_of (items ++ more) starts i ≤ start_of (items ++ more) starts (i + 1)
       by_case i (inl l) = omega (arith, start_kept items more starts i (omega arith), start_kept items more starts (i + 1) l, good.rising i)
       by_case i (inr l) = omega (arith, inside i, start_past (items ++ more) starts (i + 1) l)
 

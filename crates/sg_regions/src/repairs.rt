@@ -56,6 +56,7 @@ pub struct Repairs {
     // The engine that was run last.
     parts: Option<Parts>,
     ways: OldWays,
+    nest: Nest,
     changes: Changes,
 }
 
@@ -90,6 +91,7 @@ impl Repairs {
             base: grown.base,
             parts: Some(grown.parts),
             ways: grown.ways,
+            nest: grown.nest,
             changes: grown.changes,
         }))
     }
@@ -97,6 +99,11 @@ impl Repairs {
     /// The join that the finished regions prove: its edges, rising.
     pub fn join(&self) -> &EdgeList {
         self.ways.join()
+    }
+
+    /// The finished regions themselves, with radii where arcs are four times as long as edges weigh.
+    pub fn nest(&self) -> &Nest {
+        &self.nest
     }
 
     /// What changes where an edge is gone from the web and, if it is not in the join, each of its two
@@ -187,6 +194,7 @@ struct Grown {
     base: Base,
     parts: Parts,
     ways: OldWays,
+    nest: Nest,
     changes: Changes,
 }
 
@@ -240,11 +248,13 @@ fn kept(
     let Some(ways) = OldWays::new(alloc, &engine, &mut changes, &pairs, edges)? else {
         return Ok(None);
     };
+    let nest = changes.nest(&engine)?;
     let parts = engine.into_parts();
     Ok(Some(Grown {
         base,
         parts,
         ways,
+        nest,
         changes,
     }))
 }

@@ -4,15 +4,10 @@ use Rattle.sg_sums.specs.Ends.{is_end}
 use Rattle.sg_sums.specs.Parity.{parity_by, parity_below, xor}
 use Rattle.sg_sums.specs.Sets.{is_marked}
 use Rattle.sg_sums.specs.Sums.{sum_below}
-use Rattle.sg_graph.specs.declared.web.Edge.{Edge}
 use Rattle.sg_graph.specs.Table.{Routes}
 use Rattle.sg_graph.specs.Walk.{IsWalk}
 use Rattle.sg_graph.specs.Web.{Graph, edge_at, edge_count, weight_of}
 use Rattle.sg_tjoin.specs.Doubled.{apart}
-
--- the weight of the edges with these numbers among all
-abbrev pub weight_in : List Edge → List ℕ → ℕ
-weight_in all edges = weight_of (record { nodes = 0; edges = all }) edges
 
 -- the marks of the edges of some walk of this weight are turned
 pub record TurnsWalk (g : Graph) (from to weight : ℕ) (old new : List Bool) : Type 0 where
@@ -20,7 +15,8 @@ pub record TurnsWalk (g : Graph) (from to weight : ℕ) (old new : List Bool) : 
   pub walk : List ℕ
   pub leads : IsWalk g from walk to
   pub weighs : weight_of g walk ≡ weight
-  pub turned : (e : ℕ) → e < length old → is_marked new e ≡ xor (is_marked old e) (parity_by (λ k. k == e) walk)
+  pub turned : (e : ℕ) → e < length old →
+      is_marked new e ≡ xor (is_marked old e) (parity_by (λ k. k == e) walk)
 
 -- i is the lesser of two mates
 abbrev pub leads_pair : List ℕ → ℕ → Bool

@@ -34,7 +34,7 @@ pub fn judged_join(
     if !proves_least(alloc, web, terminals, &proposal)? {
         return Ok(None);
     }
-    let weight = weight(web.edges().as_slice(), proposal.edges.as_slice());
+    let weight = weight(web, &proposal.edges);
     Ok(Some(Join {
         edges: proposal.edges,
         weight,

@@ -31,12 +31,11 @@ pub fn matched_join(alloc: Global, web: &Web, terminals: &Terminals) -> Result<J
     ensures bare { IfOk result (λ j. terminals.now ≡ [] → (j.edges ≡ []) × (j.cuts ≡ [])) }
     ensures tight { IfOk result (λ j. sum_by cut_weight j.cuts ≡ 2 * weight_of web.now j.edges) }
 {
-    let all = web.edges();
     let nodes = terminals.as_slice();
     let tables = terminal_tables(alloc, web, nodes)?;
     let matched = matching(alloc, nodes, &tables)?;
     let edges = odd_edges(alloc, web, nodes, &tables, matched.mates.as_slice())?;
-    let weight = weight(all.as_slice(), edges.as_slice());
+    let weight = weight(web, &edges);
     let cuts = levels(alloc, web, terminals, &tables, &matched.family)?;
     Ok(Join {
         edges,

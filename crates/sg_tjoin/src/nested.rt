@@ -28,7 +28,7 @@ pub fn nested_join(
     if !proves(alloc, web, terminals, &proposal.edges, &proposal.nest)? {
         return Ok(None);
     }
-    let weight = weight(web.edges().as_slice(), proposal.edges.as_slice());
+    let weight = weight(web, &proposal.edges);
     Ok(Some(LeastJoin {
         edges: proposal.edges,
         weight,

@@ -1,17 +1,14 @@
-ghost use Rattle.std.specs.Prelude.{◌≡◌, ◌<◌, ◌≤◌, ◌^◌, length, pos, All};
-ghost use Rattle.sg_tjoin.specs.Turns.{weight_in};
+ghost use Rattle.std.specs.Prelude.{◌≡◌, ◌<◌, pos, All};
+ghost use Rattle.std.specs.List.Sorted.{IsStrictlyIncreasing};
+ghost use Rattle.sg_graph.specs.Web.{edge_count, weight_of};
 
-use sg_graph::Edge;
+use sg_graph::{EdgeList, Web};
 
-/// The weight of the edges with these numbers.
-pub fn weight(all: &[Edge], edges: &[u32]) -> i64
-    requires low { All (λ e. e < length all.now) edges.now }
-    requires light { weight_in all.now edges.now ≤ 2 ^ 60 }
-    ensures { result ≡ pos (weight_in all.now edges.now) }
+/// What a join weighs.
+pub fn weight(web: &Web, edges: &EdgeList) -> i64
+    requires rising { IsStrictlyIncreasing edges.now }
+    requires below { All (λ e. e < edge_count web.now) edges.now }
+    ensures { result ≡ pos (weight_of web.now edges.now) }
 {
-    let mut sum: u64 = 0;
-    for edge in edges {
-        sum += all[*edge as usize].w.unsigned_abs();
-    }
-    sum as i64
+    web.weight(edges.as_slice()) as i64
 }

@@ -13,8 +13,26 @@ use std::alloc::{AllocError, Global};
 use std::process::Abort;
 use std::test::Fail;
 
+// Instances that are worked by hand, or that are the least of their kind.
+pub(crate) const WORKED: [&str; 14] = [
+    "square,1,1\nend\n",
+    "square,2,2\n3,4\n2,-5\nend\n",
+    "triangular,2,2\n-1,-1,-1,-1,-1\nend\n",
+    "hexagonal,2,3\n4,5,6,7\n3,-8\nend\n",
+    "general,2\nbond,0,1,3\nbond,0,1,-2\nbond,0,1,1\nrot,0,0,2,4\nrot,1,1,5,3\nend\n",
+    "general,2\nbond,0,1,3\nbond,0,1,-2\nbond,0,1,3\nbond,0,1,-7\nrot,0,0,2,4,6\nrot,1,1,7,5,3\nend\n",
+    "square,1,2\n17592186044416\nend\n",
+    "general,4\nbond,0,1,2\nbond,1,2,-3\nbond,1,3,4\nrot,0,0\nrot,1,1,2,4\nrot,2,3\nrot,3,5\nend\n",
+    "general,7\nbond,0,1,1\nbond,0,2,1\nbond,0,3,1\nbond,0,4,1\nbond,0,5,1\nbond,0,6,1\nbond,1,2,-1\nbond,2,3,-1\nbond,3,4,-1\nbond,4,5,-1\nbond,5,6,-1\nbond,6,1,-1\nrot,0,0,2,4,6,8,10\nrot,1,1,23,12\nrot,2,3,13,14\nrot,3,5,15,16\nrot,4,7,17,18\nrot,5,9,19,20\nrot,6,11,21,22\nend\n",
+    "square,4,4\n1,1,1,1,-1,1,1,1,1,1,1,1,1,1,1,1,1,1,1,1,1,1,1,1\nend\n",
+    "cylinder,1,3\n5,7,-2\nend\n",
+    "general,3\nend\n",
+    "general,4\nbond,0,1,2\nbond,2,3,-5\nrot,0,0\nrot,1,1\nrot,2,2\nrot,3,3\nend\n",
+    "general,6\nbond,0,2,3\nbond,2,4,-5\nbond,4,0,2\nbond,1,3,-7\nbond,3,5,1\nbond,5,1,4\nrot,0,0,5\nrot,1,6,11\nrot,2,1,2\nrot,3,7,8\nrot,4,3,4\nrot,5,9,10\nend\n",
+];
+
 // The instance of a text.
-fn instance(rt: &impl Abort, alloc: Global, text: &str) -> Result<Instance, Fail> {
+pub(crate) fn instance(rt: &impl Abort, alloc: Global, text: &str) -> Result<Instance, Fail> {
     assert!(rt; text.len() < 100_000);
     let (inst, _) = read_instance(alloc, &mut Rows::new(alloc, text.as_bytes()))?;
     Ok(inst)
@@ -64,27 +82,25 @@ fn assert_least(rt: &impl Abort, alloc: Global, text: &str) -> Result<(), Fail> 
 
 #[test]
 fn worked_instances(rt: HostRuntime) -> Result<(), Fail> {
-    let texts = [
-        "square,1,1\nend\n",
-        "square,2,2\n3,4\n2,-5\nend\n",
-        "triangular,2,2\n-1,-1,-1,-1,-1\nend\n",
-        "hexagonal,2,3\n4,5,6,7\n3,-8\nend\n",
-        "general,2\nbond,0,1,3\nbond,0,1,-2\nbond,0,1,1\nrot,0,0,2,4\nrot,1,1,5,3\nend\n",
-        "general,2\nbond,0,1,3\nbond,0,1,-2\nbond,0,1,3\nbond,0,1,-7\nrot,0,0,2,4,6\nrot,1,1,7,5,3\nend\n",
-        "square,1,2\n17592186044416\nend\n",
-        "general,4\nbond,0,1,2\nbond,1,2,-3\nbond,1,3,4\nrot,0,0\nrot,1,1,2,4\nrot,2,3\nrot,3,5\nend\n",
-        "general,7\nbond,0,1,1\nbond,0,2,1\nbond,0,3,1\nbond,0,4,1\nbond,0,5,1\nbond,0,6,1\nbond,1,2,-1\nbond,2,3,-1\nbond,3,4,-1\nbond,4,5,-1\nbond,5,6,-1\nbond,6,1,-1\nrot,0,0,2,4,6,8,10\nrot,1,1,23,12\nrot,2,3,13,14\nrot,3,5,15,16\nrot,4,7,17,18\nrot,5,9,19,20\nrot,6,11,21,22\nend\n",
-        "square,4,4\n1,1,1,1,-1,1,1,1,1,1,1,1,1,1,1,1,1,1,1,1,1,1,1,1\nend\n",
-        "cylinder,1,3\n5,7,-2\nend\n",
-        "general,3\nend\n",
-        "general,4\nbond,0,1,2\nbond,2,3,-5\nrot,0,0\nrot,1,1\nrot,2,2\nrot,3,3\nend\n",
-        "general,6\nbond,0,2,3\nbond,2,4,-5\nbond,4,0,2\nbond,1,3,-7\nbond,3,5,1\nbond,5,1,4\nrot,0,0,5\nrot,1,6,11\nrot,2,1,2\nrot,3,7,8\nrot,4,3,4\nrot,5,9,10\nend\n",
-    ];
-    for text in texts {
+    for text in WORKED {
         assert_least(&rt, rt.alloc(), text)?;
     }
     Ok(())
 }
+
+// Small lattices, each with the number of its bonds.
+pub(crate) const SHAPES: [(&str, u32); 10] = [
+    ("square,1,12", 11),
+    ("square,2,6", 16),
+    ("square,3,4", 17),
+    ("triangular,2,6", 21),
+    ("triangular,3,4", 23),
+    ("hexagonal,2,6", 13),
+    ("hexagonal,3,4", 13),
+    ("cylinder,1,9", 9),
+    ("cylinder,2,5", 15),
+    ("cylinder,3,4", 20),
+];
 
 // A coupling of one size, of one size or none, of few sizes with zeros, -1 alone, or of many sizes.
 fn coupling(kind: u32, word: u32) -> i64 {
@@ -98,7 +114,7 @@ fn coupling(kind: u32, word: u32) -> i64 {
 }
 
 // The text of a lattice with drawn couplings.
-fn drawn(
+pub(crate) fn drawn(
     alloc: Global,
     shape: &str,
     bonds: u32,
@@ -118,20 +134,8 @@ fn drawn(
 
 #[test]
 fn drawn_lattices(rt: HostRuntime) -> Result<(), Fail> {
-    let shapes = [
-        ("square,1,12", 11),
-        ("square,2,6", 16),
-        ("square,3,4", 17),
-        ("triangular,2,6", 21),
-        ("triangular,3,4", 23),
-        ("hexagonal,2,6", 13),
-        ("hexagonal,3,4", 13),
-        ("cylinder,1,9", 9),
-        ("cylinder,2,5", 15),
-        ("cylinder,3,4", 20),
-    ];
     let mut draws = Pcg32::new(42, 54);
-    for (shape, bonds) in shapes {
+    for (shape, bonds) in SHAPES {
         for trial in 0..20 {
             let text = drawn(rt.alloc(), shape, bonds, trial % 5, &mut draws)?;
             assert_least(&rt, rt.alloc(), text.as_str())?;

@@ -59,6 +59,14 @@ impl Changes {
         Ok(())
     }
 
+    // The finished regions in their order.
+    pub fn nest(&self, engine: &Engine) -> Result<Nest, NoMemory> {
+        Ok(Nest {
+            regions: Regions::from_vec(engine.regions(&self.order)?),
+            places: Places::from_vec(engine.places(&self.order)?),
+        })
+    }
+
     // The edges of a shortest way between two mates, if it is found.
     pub fn way(&mut self, engine: &Engine, pair: Pair) -> Result<Option<EdgeList>, NoMemory> {
         self.marks.clear();
@@ -172,14 +180,12 @@ impl Changes {
         let Some(walk) = self.walk(engine, old, pairs, query)? else {
             return Ok(None);
         };
-        let regions = engine.regions(&self.order)?;
-        if total_radius(&regions) != old.turned_length(engine, walk.as_slice(), query) {
+        let nest = self.nest(engine)?;
+        if total_radius(nest.regions.as_slice())
+            != old.turned_length(engine, walk.as_slice(), query)
+        {
             return Ok(None);
         }
-        let nest = Nest {
-            regions: Regions::from_vec(regions),
-            places: Places::from_vec(engine.places(&self.order)?),
-        };
         Ok(Some(Turn { walk, nest }))
     }
 }

@@ -1,30 +1,19 @@
-use Rattle.std.proofs.Common.{sym, subst}
-use Rattle.sg_ground.proofs.JoinFits.{join_below, join_fits}
-use Rattle.sg_ground.proofs.Solutions.{cast_energy, energy_fits}
+use Rattle.std.proofs.Common.{sym, subst, ◌∙◌, rules, w64, to_z-of_z}
 use Rattle.sg_bonds.specs.Cost.{IsLeastWith}
-use Rattle.sg_bonds.proofs.JoinStates.{state_least}
+use Rattle.sg_bonds.proofs.JoinStates.{state_least, state_product}
 use Rattle.sg_bonds.proofs.states.state_of.Goals as goal
 
-pub spin_walk-requires-clause-below : goal.spin_walk-requires-clause-below
-spin_walk-requires-clause-below c = join_below c.args.planar.now.instance c.args.planar.now.faces c.args.edges.now c.requires.join.join
-
-pub spin_walk-requires-clause-fits : goal.spin_walk-requires-clause-fits
-spin_walk-requires-clause-fits c = join_fits c.args.planar.now.instance c.args.planar.now.faces c.args.edges.now c.requires.join.join
-
-pub overflow_cast-energy : goal.overflow_cast-energy
-overflow_cast-energy c =
-    energy_fits c.args.planar.now c.instance.result.now c.in_ok-spins.spins c.energy-energy.result
-    c.instance.ensures.planar c.instance.ensures.value c.in_ok-spins.ensures.assignment c.energy-energy.ensures
+pub state_breaking-requires-clause-join : goal.state_breaking-requires-clause-join
+state_breaking-requires-clause-join c = c.requires.join.join
 
 pub returns-clause-least : goal.returns-clause-least
 returns-clause-least c = λ x up side.
     subst (IsLeastWith c.args.planar.now.instance c.args.bond x)
-    (cast_energy c.args.planar.now c.instance.result.now c.in_ok-spins.spins c.energy-energy.result
-    c.instance.ensures.planar c.instance.ensures.value c.in_ok-spins.ensures.assignment c.energy-energy.ensures)
-    (state_least c.args.planar.now c.instance.ensures.planar c.args.bond c.requires.bond_in c.args.has c.args.edges.now c.requires.join
-    c.in_ok-spins.spins c.in_ok-spins.ensures.assignment c.in_ok-spins.ensures.breaks x up side)
+    (sym (to_z-of_z {w = w64} {z = c.in_ok-state.state.energy} (search rules) ∙ c.in_ok-state.ensures.energy))
+    (state_least c.args.planar.now c.in_ok-state.ensures.planar c.args.bond c.requires.bond_in c.args.has c.args.edges.now c.requires.join
+    c.in_ok-state.state.spins c.in_ok-state.ensures.assignment c.in_ok-state.ensures.breaks x up side)
 
-pub returns-clause-energy : goal.returns-clause-energy
-returns-clause-energy c = sym (
-    cast_energy c.args.planar.now c.instance.result.now c.in_ok-spins.spins c.energy-energy.result
-    c.instance.ensures.planar c.instance.ensures.value c.in_ok-spins.ensures.assignment c.energy-energy.ensures)
+pub returns-clause-product : goal.returns-clause-product
+returns-clause-product c = λ x up side.
+    state_product c.args.planar.now c.in_ok-state.ensures.planar c.args.bond c.requires.bond_in c.args.has c.args.edges.now c.requires.join
+    c.in_ok-state.state.spins c.in_ok-state.ensures.assignment c.in_ok-state.ensures.breaks x up side

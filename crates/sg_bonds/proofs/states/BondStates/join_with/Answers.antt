@@ -11,31 +11,31 @@ use Rattle.sg_bonds.proofs.states.BondStates.join_with.Goals as goal
 pub join_with-requires-clause-edge : goal.join_with-requires-clause-edge
 join_with-requires-clause-edge c =
     let f = c.in-Some.finder in
-    let dual : IsDualOf c.self.inside.planar.now f.court.web f.court.terminals =
-    subst (λ (o : Option Finder). IfSome o (λ f. IsDualOf c.self.inside.planar.now f.court.web f.court.terminals)) c.in-Some.is c.self.invariant in
+    let dual : IsDualOf c.self.inside.planar.now f.judged.web f.judged.terminals =
+    subst (λ (o : Option Finder). IfSome o (λ f. IsDualOf c.self.inside.planar.now f.judged.web f.judged.terminals)) c.in-Some.is c.self.invariant in
     omega (
       arith,
       c.requires.bond_in,
       ap (λ (p : Embedding). bond_count p.instance) c.self.view_is,
-      dual_edges c.self.inside.planar.now f.court.web f.court.terminals dual,
+      dual_edges c.self.inside.planar.now f.judged.web f.judged.terminals dual,
     )
 
 pub join_with-requires-clause-terminals : goal.join_with-requires-clause-terminals
 join_with-requires-clause-terminals c =
     let f = c.in-Some.finder in
-    dual_terminals c.self.inside.planar.now f.court.web f.court.terminals
-    (subst (λ (o : Option Finder). IfSome o (λ f. IsDualOf c.self.inside.planar.now f.court.web f.court.terminals)) c.in-Some.is c.self.invariant)
+    dual_terminals c.self.inside.planar.now f.judged.web f.judged.terminals
+    (subst (λ (o : Option Finder). IfSome o (λ f. IsDualOf c.self.inside.planar.now f.judged.web f.judged.terminals)) c.in-Some.is c.self.invariant)
 
 pub join_with-requires-clause-light : goal.join_with-requires-clause-light
 join_with-requires-clause-light c =
     let f = c.in-Some.finder in
-    dual_light c.self.inside.planar.now f.court.web f.court.terminals
-    (subst (λ (o : Option Finder). IfSome o (λ f. IsDualOf c.self.inside.planar.now f.court.web f.court.terminals)) c.in-Some.is c.self.invariant)
+    dual_light c.self.inside.planar.now f.judged.web f.judged.terminals
+    (subst (λ (o : Option Finder). IfSome o (λ f. IsDualOf c.self.inside.planar.now f.judged.web f.judged.terminals)) c.in-Some.is c.self.invariant)
 
 pub returns-clause-connected : goal.returns-clause-connected
 returns-clause-connected c =
     let f = c.in-Some.finder in
-    let dual : IsDualOf c.self.inside.planar.now f.court.web f.court.terminals =
-    subst (λ (o : Option Finder). IfSome o (λ f. IsDualOf c.self.inside.planar.now f.court.web f.court.terminals)) c.in-Some.is c.self.invariant in
+    let dual : IsDualOf c.self.inside.planar.now f.judged.web f.judged.terminals =
+    subst (λ (o : Option Finder). IfSome o (λ f. IsDualOf c.self.inside.planar.now f.judged.web f.judged.terminals)) c.in-Some.is c.self.invariant in
     always_found c.join_with.result (IsConnected c.args.self.now.instance)
     (subst (λ (p : Embedding). IsConnected p.instance) c.self.view_is dual.connected)

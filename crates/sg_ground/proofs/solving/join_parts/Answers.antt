@@ -12,7 +12,7 @@ use Rattle.sg_ground.specs.Solution.{IsSolution}
 use Rattle.sg_ground.proofs.Gluing.{all_glued, part_glued, part_loops_below}
 use Rattle.sg_ground.proofs.Placing.{part_connected, part_energy_fits, part_is_share, places_below, places_count}
 use Rattle.sg_ground.proofs.Solutions.{size_from_solution}
-use Rattle.sg_ground.proofs.answer.join_parts.Goals as goal
+use Rattle.sg_ground.proofs.solving.join_parts.Goals as goal
 
 pub solve_part-requires : goal.solve_part-requires
 solve_part-requires c = record {

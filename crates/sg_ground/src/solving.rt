@@ -1,0 +1,79 @@
+ghost use Rattle.std.specs.Prelude.{◌≡◌, ◌≤◌, unsigned_abs, IfOk};
+ghost use Rattle.sg_limits.specs.Limits.{forced_limit};
+ghost use Rattle.sg_model.specs.Connected.{LeastsUp};
+ghost use Rattle.sg_model.specs.Energy.{energy, weight, IsGroundState};
+ghost use Rattle.sg_check.specs.Packing.{IsShort, Proves};
+ghost use Rattle.sg_planar.specs.Fit.{IsPlanar};
+ghost use Rattle.sg_planar.specs.Parts.{AreParts};
+ghost use Rattle.sg_ground.specs.Solution.{IsSolution};
+
+use super::part::solve_part;
+use super::placed::{place_loops, place_values, spins_of};
+use super::{Answer, NoMemory};
+use sg_check::Loops;
+use sg_model::Instance;
+use sg_planar::{Division, Part, Planar, divide};
+use std::alloc::Global;
+
+/// A ground state, with a packing of frustrated loops that proves it by plain addition.
+///
+/// `sg_check` judges spins, energy and loops as a proof: the loops go through no bond with more than
+/// twice the size of its coupling, and together weigh the energy plus the weight of all bonds. There
+/// are at most five loops for each two bonds. The instance need not be connected: each component is
+/// solved by itself, and its least spin is up. Which of several ground states is answered, and with
+/// which packing, is not said. The only error is want of memory.
+///
+/// Cost: that of `sg_tjoin::least_join` on the frustrated faces of each component, and linear in the
+/// instance and the answer for all components together. An instance that is connected is solved as
+/// it is, without a copy.
+pub fn solve(alloc: Global, planar: &Planar) -> Result<Answer, NoMemory>
+    ensures proves { IfOk result
+        (λ a. Proves planar.now.instance a.spins a.energy a.loops) }
+    ensures short { IfOk result (λ a. IsShort planar.now.instance a.loops) }
+    ensures ground_state { IfOk result (λ a. IsGroundState planar.now.instance a.spins) }
+    ensures first_up { IfOk result (λ a. LeastsUp planar.now.instance a.spins) }
+    ensures energy { IfOk result (λ a. a.energy ≡ energy planar.now.instance a.spins) }
+    ensures size { IfOk result (λ a. unsigned_abs a.energy ≤ weight planar.now.instance) }
+{
+    solve_all(alloc, planar)
+}
+
+// The instance as it is where it is connected, and else the solutions of all components, put together.
+fn solve_all(alloc: Global, planar: &Planar) -> Result<Answer, NoMemory>
+    ensures solution { IfOk result (λ a. IsSolution planar.now.instance a.spins a.energy a.loops) }
+    ensures planar { IsPlanar planar.now }
+{
+    let inst = planar.instance();
+    match divide(alloc, planar)? {
+        Division::Whole => solve_part(alloc, planar),
+        Division::Several(list) => join_parts(alloc, inst, list.as_slice()),
+    }
+}
+
+// The solutions of these parts, put together: values and loops take the numbers of the whole, and
+// energies add.
+fn join_parts(alloc: Global, inst: &Instance, parts: &[Part]) -> Result<Answer, NoMemory>
+    requires parts { AreParts inst.now parts.now }
+    requires light { weight inst.now ≤ forced_limit }
+    ensures { IfOk result (λ a. IsSolution inst.now a.spins a.energy a.loops) }
+{
+    let mut values = vec![in alloc; 1i8; inst.n() as usize]?;
+    let mut energy = 0i64;
+    let mut loops = Loops::new(alloc);
+    for part in parts {
+        let found = solve_part(alloc, &part.planar)?;
+        place_values(&mut values, part.spins.as_slice(), found.spins.as_slice());
+        energy += found.energy;
+        place_loops(
+            alloc,
+            &mut loops,
+            found.loops.as_slice(),
+            part.bonds.as_slice(),
+        )?;
+    }
+    Ok(Answer {
+        spins: spins_of(alloc, &values)?,
+        energy,
+        loops,
+    })
+}
