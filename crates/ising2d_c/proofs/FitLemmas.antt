@@ -6,15 +6,16 @@ use Rattle.sg_model.specs.declared.refusal.Fault.{Fault}
 use Rattle.sg_model.specs.declared.refusal.Fault.TheVariants.{Refused}
 use Rattle.sg_model.specs.declared.refusal.Refusal.{Refusal}
 use Rattle.sg_model.specs.declared.refusal.Refusal.TheVariants.{NoSeam}
-use Rattle.sg_reader.specs.Tests.{IsTestFault}
-use Rattle.sg_planar.specs.Fit.{Embedding, IsUnfitFault}
+use Rattle.sg_reader.specs.Tests.{Refuses}
+use Rattle.sg_planar.specs.Fit.{Embedding, IsUnfit}
 use Rattle.ising2d_c.specs.Fitting.{Finds, IsFitFault, IsFitOf, IsProofFault, IsWallFault}
-use Rattle.ising2d_c.specs.Refusing.{IsTold, IsToldFault}
+use Rattle.ising2d_c.specs.Refusing.{TellsRefusal, IsToldFault}
+use Rattle.sg_model.specs.Faults.{OrNoMemory}
 
 module _ (Given : Ising → Type 0) (Fails : Fault → Type 0) where
   -- why there is no fit instance
   pub fit-refused : (given : Result Ising Fault) (fit : Result Embedding Fault) → IfOk given Given → IfErr given Fails
-      → IfErr fit (λ fault. IsErrAnd given (λ e. fault ≡ e) ⊎ IsOkAnd given (λ inst. IsUnfitFault inst fault))
+      → IfErr fit (λ fault. IsErrAnd given (λ e. fault ≡ e) ⊎ IsOkAnd given (λ inst. OrNoMemory (IsUnfit inst) fault))
       → IfErr fit (IsFitFault Given Fails)
   fit-refused given (Ok p) gives fails why = tt
   fit-refused (Ok inst) (Err fault) gives fails (inl why) = absurd why
@@ -52,7 +53,7 @@ finds-any Given Study (Err e) gives study = absurd study
 
 -- why there is none
 pub told : {X : Type 0} (Owed : Fault → Type 0) (given : Result X Fault) (before after : List ℕ) (written : ℕ) → IfErr given Owed
-    → IsErrAnd given (λ fault. IsToldFault fault before after written) → IsTold Owed before after written
+    → IsErrAnd given (λ fault. IsToldFault fault before after written) → TellsRefusal Owed before after written
 told Owed (Ok x) before after written owed line = absurd line
 told Owed (Err e) before after written owed line = record { fault = e; owed = owed; line = line }
 
@@ -60,8 +61,8 @@ told Owed (Err e) before after written owed line = record { fault = e; owed = ow
 pub told-proof : (Given : Ising → Type 0) (Fails : Fault → Type 0) (test : Option Refusal) (given : Result Ising Fault)
     (before after : List ℕ) (written : ℕ) → IfOk given Given → IfErr given Fails
     → IsErrAnd given (λ fault. IsToldFault fault before after written)
-    ⊎ IsOkAnd given (λ _. IsTold (IsTestFault test) before after written)
-    → IsTold (IsProofFault Given Fails test) before after written
+    ⊎ IsOkAnd given (λ _. TellsRefusal (OrNoMemory (Refuses test)) before after written)
+    → TellsRefusal (IsProofFault Given Fails test) before after written
 told-proof Given Fails test (Ok inst) before after written gives fails (inl line) = absurd line
 told-proof Given Fails test (Ok inst) before after written gives fails (inr told) =
     record { fault = told.fault; owed = inr (inst, gives, told.owed); line = told.line }

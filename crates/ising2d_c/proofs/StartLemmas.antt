@@ -8,10 +8,10 @@ use Rattle.std.proofs.lemmas.Grind.{flat_map-append, same_number_lists}
 use Rattle.std.proofs.Math.Seq.{take-add, take-length}
 use Rattle.ising2d_c.specs.Crossing.{IsJoined, entries_before}
 use Rattle.sg_reader.proofs.TestLaws.{find_range-none, find_range-some}
-use Rattle.ising2d_c.specs.Starts.{IsDivision, entry, falls, first_fall}
+use Rattle.ising2d_c.specs.Starts.{DividesEntries, entry, start_falls, first_fall}
 
 -- no start is above the number of all entries
-pub below_last : (starts : List ℕ) (items entries gap k : ℕ) → IsDivision starts items entries → k + gap ≡ items → entry starts k ≤ entries
+pub below_last : (starts : List ℕ) (items entries gap k : ℕ) → DividesEntries starts items entries → k + gap ≡ items → entry starts k ≤ entries
 below_last starts items entries zero k division e =
     let last : entry starts items ≡ entries = division.last in
     let same : k ≡ items = omega (arith, e) in
@@ -30,7 +30,7 @@ pub record IsFront {A : Type 0} (entries : A → List ℕ) (items : List A) (sta
 
 -- one item more
 pub one_item : {A : Type 0} (entries : A → List ℕ) (items : List A) (starts joined : List ℕ) (n k : ℕ) (x : A)
-    → IsDivision starts n (length joined) → k < n → IsFront entries items starts joined k
+    → DividesEntries starts n (length joined) → k < n → IsFront entries items starts joined k
     → entries x ≡ take (entry starts (k + 1) - entry starts k) (drop (entry starts k) joined)
     → IsFront entries (items ++ x ∷ []) starts joined (k + 1)
 one_item {A} entries items starts joined n k x division less front own = record {
@@ -69,7 +69,7 @@ one_item {A} entries items starts joined n k x division less front own = record 
         ∙ ap (λ m. take m joined) step
 
 -- all items
-pub all_items : {A : Type 0} (entries : A → List ℕ) (items : List A) (starts joined : List ℕ) (n : ℕ) → IsDivision starts n (length joined)
+pub all_items : {A : Type 0} (entries : A → List ℕ) (items : List A) (starts joined : List ℕ) (n : ℕ) → DividesEntries starts n (length joined)
     → IsFront entries items starts joined n → IsJoined entries items starts joined
 all_items {A} entries items starts joined n division front = record {
   begun = same_number_lists starts (map (entries_before entries items) (range_with_len 0 (length items + 1))) lengths (λ k inside.
@@ -84,7 +84,7 @@ all_items {A} entries items starts joined n division front = record {
         ∙ sym (length-map-range_with_len (entries_before entries items) 0 (length items + 1))
 
 -- a start that is not less than the one in front of it
-no_fall : (starts : List ℕ) (i : ℕ) → 1 ≤ i → entry starts (i - 1) ≤ entry starts (i - 1 + 1) → falls starts i ≡ false
+no_fall : (starts : List ℕ) (i : ℕ) → 1 ≤ i → entry starts (i - 1) ≤ entry starts (i - 1 + 1) → start_falls starts i ≡ false
 no_fall starts i low rise =
     let same : i - 1 + 1 ≡ i = omega (arith, low) in
     le-ltb (entry starts i) (entry starts (i - 1)) (rw same at rise)
@@ -93,10 +93,11 @@ no_fall starts i low rise =
 pub fall-some : (starts : List ℕ) (k : ℕ) → 1 ≤ k → k < length starts → ((i : ℕ) → i + 1 < k → entry starts i ≤ entry starts (i + 1))
     → entry starts k < entry starts (k - 1) → first_fall starts ≡ Some k
 fall-some starts k low high rises fall =
-    find_range-some (falls starts) 1 (length starts - 1) k low (omega (arith, low, high)) (λ i l u. no_fall starts i l (rises (i - 1) (omega (arith, l, u))))
+    find_range-some (start_falls starts) 1 (length starts - 1) k low (omega (arith, low, high))
+        (λ i l u. no_fall starts i l (rises (i - 1) (omega (arith, l, u))))
     (lt-ltb (entry starts k) (entry starts (k - 1)) fall)
 
 -- starts that rise do not fall
 pub fall-none : (starts : List ℕ) → ((i : ℕ) → i + 1 < length starts → entry starts i ≤ entry starts (i + 1)) → first_fall starts ≡ None
 fall-none starts rises =
-    find_range-none (falls starts) 1 (length starts - 1) (λ i l u. no_fall starts i l (rises (i - 1) (omega (arith, l, u))))
+    find_range-none (start_falls starts) 1 (length starts - 1) (λ i l u. no_fall starts i l (rises (i - 1) (omega (arith, l, u))))

@@ -5,8 +5,9 @@ use Rattle.sg_model.specs.declared.refusal.Fault.{Fault}
 use Rattle.sg_model.specs.declared.refusal.Fault.TheVariants.{Refused}
 use Rattle.sg_model.specs.declared.refusal.Refusal.{Refusal}
 use Rattle.sg_model.specs.declared.refusal.Refusal.TheVariants.{NoSeam}
-use Rattle.sg_reader.specs.Tests.{IsTestFault}
-use Rattle.sg_planar.specs.Fit.{IsFit, IsUnfitFault}
+use Rattle.sg_reader.specs.Tests.{Refuses}
+use Rattle.sg_planar.specs.Fit.{IsFit, IsUnfit}
+use Rattle.sg_model.specs.Faults.{OrNoMemory}
 
 -- an instance that the numbers give is fit for a planar solver
 pub record IsFitOf (Given : Ising → Type 0) (inst : Ising) : Type 0 where
@@ -15,7 +16,7 @@ pub record IsFitOf (Given : Ising → Type 0) (inst : Ising) : Type 0 where
 
 -- why the numbers give none: they give no instance, or one that is not fit
 abbrev pub IsFitFault : (Ising → Type 0) → (Fault → Type 0) → Fault → Type 0
-IsFitFault Given Fails fault = Fails fault ⊎ ((inst : Ising) × Given inst × IsUnfitFault inst fault)
+IsFitFault Given Fails fault = Fails fault ⊎ ((inst : Ising) × Given inst × OrNoMemory (IsUnfit inst) fault)
 
 -- why they give no wall: no fit instance, or one without a seam
 abbrev pub IsWallFault : (Ising → Type 0) → (Fault → Type 0) → Fault → Type 0
@@ -25,7 +26,7 @@ IsWallFault Given Fails fault =
 
 -- why they give no verdict: they give no instance, or a test of what is stated of it fails
 abbrev pub IsProofFault : (Ising → Type 0) → (Fault → Type 0) → Option Refusal → Fault → Type 0
-IsProofFault Given Fails test fault = Fails fault ⊎ ((inst : Ising) × Given inst × IsTestFault test fault)
+IsProofFault Given Fails test fault = Fails fault ⊎ ((inst : Ising) × Given inst × OrNoMemory (Refuses test) fault)
 
 -- an instance that the numbers give, of which this was found
 pub record Finds (Given Study : Ising → Type 0) : Type 0 where

@@ -5,12 +5,12 @@ use Rattle.std.specs.List.{range_with_len}
 use Rattle.sg_limits.specs.Limits.{bond_limit}
 use Rattle.sg_model.specs.Ising.{Ising}
 use Rattle.sg_model.specs.WellFormed.{IsInstance}
-use Rattle.sg_model.specs.Faults.{IsFaultOf}
+use Rattle.sg_model.specs.Faults.{IsRefusalOf, OrNoMemory}
 use Rattle.sg_model.specs.declared.bond.Bond.{Bond}
 use Rattle.sg_model.specs.declared.refusal.Fault.{Fault}
 use Rattle.sg_model.specs.declared.refusal.Refusal.{Refusal}
 use Rattle.sg_model.specs.declared.refusal.Refusal.TheVariants.{BadMember, SelfBond, TooManyBonds}
-use Rattle.sg_reader.specs.Tests.{IsTestFault, first_of, refuse_if}
+use Rattle.sg_reader.specs.Tests.{first_of, refuse_if, Refuses}
 use Rattle.sg_json.specs.Members.{many_fault}
 use Rattle.ising2d_c.specs.Crossing.{IsJoined}
 use Rattle.ising2d_c.specs.Starts.{entry, starts_fault}
@@ -28,65 +28,66 @@ bonds_by ends couplings = map (bond_by ends couplings) (range_with_len 0 (length
 
 -- whether bond k joins two of n spins, with a coupling that is not the least number of 64 bits; and the first bond that
 -- does not
-abbrev pub is_bond : ℕ → List ℕ → List ℤ → ℕ → Bool
-is_bond n ends couplings k =
+abbrev pub is_given_bond : ℕ → List ℕ → List ℤ → ℕ → Bool
+is_given_bond n ends couplings k =
     nat_lt (entry ends (2 * k)) n
     && (nat_lt (entry ends (2 * k + 1)) n && nat_lt (unsigned_abs (coupling couplings k)) (2 ^ 63))
 
 abbrev pub first_bad : ℕ → List ℕ → List ℤ → Option ℕ
-first_bad n ends couplings = find (λ k. not (is_bond n ends couplings k)) (range_with_len 0 (length couplings))
+first_bad n ends couplings = find (λ k. not (is_given_bond n ends couplings k)) (range_with_len 0 (length couplings))
 
 -- the first bond between a spin and itself
-abbrev pub is_self : List ℕ → ℕ → Bool
-is_self ends k = entry ends (2 * k) == entry ends (2 * k + 1)
+abbrev pub is_given_self : List ℕ → ℕ → Bool
+is_given_self ends k = entry ends (2 * k) == entry ends (2 * k + 1)
 
 abbrev pub first_self : List ℕ → ℕ → Option ℕ
-first_self ends bonds = find (is_self ends) (range_with_len 0 bonds)
+first_self ends bonds = find (is_given_self ends) (range_with_len 0 bonds)
 
 -- the tests of the ends and couplings: two ends for each bond, and each bond; its number is told up to
 -- the last one of 32 bits
-abbrev pub ends_fault : ℕ → List ℕ → List ℤ → Option Refusal
-ends_fault n ends couplings = first_of (
+abbrev pub given_ends_fault : ℕ → List ℕ → List ℤ → Option Refusal
+given_ends_fault n ends couplings = first_of (
     refuse_if (not (length ends == 2 * length couplings)) (BadMember 7 0)
     ∷ option_map (λ k. BadMember 7 (min k 4294967295)) (first_bad n ends couplings)
     ∷ [])
 
 -- the tests of the bonds behind those: they are few, and none joins a spin to itself
-abbrev pub bonds_fault : List ℕ → ℕ → Option Refusal
-bonds_fault ends bonds = first_of (
+abbrev pub given_bonds_fault : List ℕ → ℕ → Option Refusal
+given_bonds_fault ends bonds = first_of (
     refuse_if (nat_lt bond_limit bonds) (TooManyBonds (bond_limit + 1))
     ∷ option_map (λ k. SelfBond k) (first_self ends bonds)
     ∷ [])
 
 -- the tests of the number of spins
-abbrev pub spins_fault : ℕ → Option Refusal
-spins_fault n = first_of (refuse_if (n == 0) (BadMember 5 0) ∷ many_fault n ∷ [])
+abbrev pub given_spins_fault : ℕ → Option Refusal
+given_spins_fault n = first_of (refuse_if (n == 0) (BadMember 5 0) ∷ many_fault n ∷ [])
 
 -- all tests in front of those of an instance
-abbrev pub graph_fault : ℕ → List ℕ → List ℤ → List ℕ → List ℕ → Option Refusal
-graph_fault n ends couplings starts darts = first_of (
-    spins_fault n
-    ∷ ends_fault n ends couplings
+abbrev pub given_graph_fault : ℕ → List ℕ → List ℤ → List ℕ → List ℕ → Option Refusal
+given_graph_fault n ends couplings starts darts = first_of (
+    given_spins_fault n
+    ∷ given_ends_fault n ends couplings
     ∷ starts_fault 8 starts n (length darts)
-    ∷ bonds_fault ends (length couplings)
+    ∷ given_bonds_fault ends (length couplings)
     ∷ [])
 
 -- the numbers pass these tests, and this is what they say: the bonds, the darts of each spin, and the seam
-pub record Says (n : ℕ) (ends : List ℕ) (couplings : List ℤ) (starts darts seam : List ℕ) (inst : Ising) : Type 0 where
-  pub passes : graph_fault n ends couplings starts darts ≡ None
+pub record SaysGraph (n : ℕ) (ends : List ℕ) (couplings : List ℤ) (starts darts seam : List ℕ)
+    (inst : Ising) : Type 0 where
+  pub passes : given_graph_fault n ends couplings starts darts ≡ None
   pub spins : inst.n ≡ n
   pub bonds : inst.bonds ≡ bonds_by ends couplings
   pub rotation : IsJoined (λ list. list) inst.rotation starts darts
-  pub cut : inst.seam ≡ seam
+  pub seam_is : inst.seam ≡ seam
 
 -- the graph of these numbers: its rotation is one, and so is its seam
 pub record IsGraph (n : ℕ) (ends : List ℕ) (couplings : List ℤ) (starts darts seam : List ℕ) (inst : Ising)
     : Type 0 where
-  pub says : Says n ends couplings starts darts seam inst
+  pub says : SaysGraph n ends couplings starts darts seam inst
   pub instance : IsInstance inst
 
 -- the first thing that is wrong with these numbers: a test fails, or what they say is no instance
-abbrev pub IsGraphFault : ℕ → List ℕ → List ℤ → List ℕ → List ℕ → List ℕ → Fault → Type 0
-IsGraphFault n ends couplings starts darts seam fault =
-    IsTestFault (graph_fault n ends couplings starts darts) fault
-    ⊎ ((inst : Ising) × Says n ends couplings starts darts seam inst × IsFaultOf inst fault)
+abbrev pub IsGivenGraphFault : ℕ → List ℕ → List ℤ → List ℕ → List ℕ → List ℕ → Fault → Type 0
+IsGivenGraphFault n ends couplings starts darts seam fault =
+    OrNoMemory (Refuses (given_graph_fault n ends couplings starts darts)) fault
+    ⊎ ((inst : Ising) × SaysGraph n ends couplings starts darts seam inst × OrNoMemory (IsRefusalOf inst) fault)

@@ -20,8 +20,8 @@ kind_numbered number =
     (if number == 3 then Some Cylinder else None)))
 
 -- the first fault of a lattice's size: its rows, its columns, or the number of its spins
-abbrev pub size_fault : Kind → ℕ → ℕ → Option Refusal
-size_fault kind R C =
+abbrev pub given_size_fault : Kind → ℕ → ℕ → Option Refusal
+given_size_fault kind R C =
     if R == 0 then Some (BadMember 3 0) else
     (if nat_lt C (least_cols kind) then Some (BadMember 4 0) else
     (if nat_lt spin_limit (R * C) then Some (TooManySpins (pos (R * C))) else None))
@@ -46,7 +46,7 @@ pub record IsCoupledLattice (kind : Kind) (R C : ℕ) (couplings : List ℤ) (in
 pub record IsLattice (number R C : ℕ) (couplings : List ℤ) (inst : Ising) : Type 0 where
   pub kind : Kind
   pub named : kind_numbered number ≡ Some kind
-  pub sized : size_fault kind R C ≡ None
+  pub sized : given_size_fault kind R C ≡ None
   pub coupled : IsCoupledLattice kind R C couplings inst
 
 -- what is wrong where the number of couplings is right: the first that is none, or else the memory
@@ -69,7 +69,7 @@ IsSizedFault None kind R C couplings fault = IsCouplingFault kind R C couplings 
 -- the first thing that is wrong: the number of the kind, or else what is wrong with a lattice of that kind
 abbrev pub IsKindFault : Option Kind → ℕ → ℕ → List ℤ → Fault → Type 0
 IsKindFault None R C couplings fault = fault ≡ Refused (BadMember 1 0)
-IsKindFault (Some kind) R C couplings fault = IsSizedFault (size_fault kind R C) kind R C couplings fault
+IsKindFault (Some kind) R C couplings fault = IsSizedFault (given_size_fault kind R C) kind R C couplings fault
 
 -- the first thing that is wrong with these numbers
 abbrev pub IsLatticeFault : ℕ → ℕ → ℕ → List ℤ → Fault → Type 0

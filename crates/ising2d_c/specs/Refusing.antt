@@ -11,7 +11,7 @@ IsToldFault (Refused refusal) before after written = Fills (refusal_text refusal
 IsToldFault NoMemory before after written = ⊥
 
 -- the caller has got the line of a refusal that is owed
-pub record IsTold (Owed : Fault → Type 0) (before after : List ℕ) (written : ℕ) : Type 0 where
+pub record TellsRefusal (Owed : Fault → Type 0) (before after : List ℕ) (written : ℕ) : Type 0 where
   pub fault : Fault
   pub owed : Owed fault
   pub line : IsToldFault fault before after written

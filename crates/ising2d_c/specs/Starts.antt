@@ -12,18 +12,18 @@ entry xs k = slice_index_or xs k 0
 
 -- the starts divide so many entries among so many items: one for each item and one more, which rise from 0 to the
 -- number of all entries
-pub record IsDivision (starts : List ℕ) (items entries : ℕ) : Type 0 where
+pub record DividesEntries (starts : List ℕ) (items entries : ℕ) : Type 0 where
   pub count : length starts ≡ items + 1
   pub first : entry starts 0 ≡ 0
   pub rises : (k : ℕ) → k < items → entry starts k ≤ entry starts (k + 1)
   pub last : entry starts items ≡ entries
 
 -- whether a start is less than the one in front of it, and the first such
-abbrev pub falls : List ℕ → ℕ → Bool
-falls starts k = nat_lt (entry starts k) (entry starts (k - 1))
+abbrev pub start_falls : List ℕ → ℕ → Bool
+start_falls starts k = nat_lt (entry starts k) (entry starts (k - 1))
 
 abbrev pub first_fall : List ℕ → Option ℕ
-first_fall starts = find (falls starts) (range_with_len 1 (length starts - 1))
+first_fall starts = find (start_falls starts) (range_with_len 1 (length starts - 1))
 
 -- the first fault of the starts at a place: there is another number of them than one more than the items, the first is
 -- not 0, one is less than the one in front of it, or the last is not the number of the entries

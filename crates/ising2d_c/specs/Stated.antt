@@ -26,8 +26,8 @@ values_fault spins = first_of (
     ∷ [])
 
 -- the tests of so many loops with so many bonds: no more than a text may have bytes, and their starts
-abbrev pub loops_fault : ℕ → List ℕ → ℕ → Option Refusal
-loops_fault loops starts bonds = first_of (
+abbrev pub given_loops_fault : ℕ → List ℕ → ℕ → Option Refusal
+given_loops_fault loops starts bonds = first_of (
     refuse_if (nat_lt input_limit loops) (TooLong input_limit)
     ∷ starts_fault 11 starts loops bonds
     ∷ [])
@@ -36,7 +36,7 @@ loops_fault loops starts bonds = first_of (
 abbrev pub stated_fault : List ℤ → List ℤ → List ℕ → List ℕ → Option Refusal
 stated_fault spins weights starts bonds = first_of (
     values_fault spins
-    ∷ loops_fault (length weights) starts (length bonds)
+    ∷ given_loops_fault (length weights) starts (length bonds)
     ∷ [])
 
 -- the numbers state this

@@ -2,7 +2,8 @@
 ghost use Rattle.std.specs.Prelude.{◌≡◌, ◌≢◌, ◌⊎◌, [], IfOk, IfErr, IsErrAnd, IsOkAnd};
 ghost use Rattle.sg_model.specs.declared.refusal.Fault.TheVariants.{Refused as IsRefused};
 ghost use Rattle.sg_model.specs.declared.refusal.Refusal.TheVariants.{NoSeam as HasNoSeam};
-ghost use Rattle.sg_planar.specs.Fit.{IsFit, IsUnfitFault};
+ghost use Rattle.sg_planar.specs.Fit.{IsFit, IsUnfit};
+ghost use Rattle.sg_model.specs.Faults.{OrNoMemory};
 
 use sg_model::{Fault, Instance, Refusal};
 use sg_planar::Planar;
@@ -11,7 +12,7 @@ use std::alloc::Global;
 /// The instance, fit for a planar solver. A fault that is handed in is handed on.
 pub fn fit(alloc: Global, given: Result<Instance, Fault>) -> Result<Planar, Fault>
     ensures gives { IfOk result (λ planar. IsOkAnd given (λ inst. (planar.instance ≡ inst) × IsFit inst)) }
-    ensures refuses { IfErr result (λ fault. IsErrAnd given (λ e. fault ≡ e) ⊎ IsOkAnd given (λ inst. IsUnfitFault inst fault)) }
+    ensures refuses { IfErr result (λ fault. IsErrAnd given (λ e. fault ≡ e) ⊎ IsOkAnd given (λ inst. OrNoMemory (IsUnfit inst) fault)) }
 {
     match given {
         Ok(instance) => Planar::test(alloc, instance),

@@ -3,8 +3,8 @@ ghost use Rattle.std.specs.Prelude.{◌≡◌, ◌≢◌, ◌⊎◌, IfOk, IfErr
 ghost use Rattle.ising2d_c.specs.Crossing.{HandsLoops, Shows};
 ghost use Rattle.ising2d_c.specs.Fitting.{Finds, IsFitFault, IsFitOf, IsProofFault, IsWallFault};
 ghost use Rattle.ising2d_c.specs.Grounds.{IsClustered, IsCosted, IsGround, IsWallAtSeam, Judges};
-ghost use Rattle.ising2d_c.specs.Graphs.{IsGraph, IsGraphFault};
-ghost use Rattle.ising2d_c.specs.Refusing.{IsTold};
+ghost use Rattle.ising2d_c.specs.Graphs.{IsGraph, IsGivenGraphFault};
+ghost use Rattle.ising2d_c.specs.Refusing.{TellsRefusal};
 ghost use Rattle.ising2d_c.specs.Stated.{States, stated_fault};
 
 use super::fitting::{fit, with_seam};
@@ -44,7 +44,7 @@ pub extern "C" fn ising2d_c_graph_ground(
           bonds_before = bonds.old;
           bonds_after = bonds.new;
         }) loop_count.new bond_count.new)) }
-    ensures refused { result ≡ 1 → IsTold (IsFitFault (IsGraph n ends.now couplings.now dart_starts.now darts.now seam.now) (IsGraphFault n ends.now couplings.now dart_starts.now darts.now seam.now)) line.old line.new line_written.new }
+    ensures refused { result ≡ 1 → TellsRefusal (IsFitFault (IsGraph n ends.now couplings.now dart_starts.now darts.now seam.now) (IsGivenGraphFault n ends.now couplings.now dart_starts.now darts.now seam.now)) line.old line.new line_written.new }
     ensures codes { (result ≡ 0) ⊎ ((result ≡ 1) ⊎ (result ≡ 6)) }
 
     // Beside another status than 0 no result is written, and beside another than 1 no line.
@@ -85,7 +85,7 @@ pub extern "C" fn ising2d_c_graph_wall(
     line_written: &mut usize,
 ) -> u8
     ensures found { result ≡ 0 → Finds (IsFitOf (IsGraph n ends.now couplings.now dart_starts.now darts.now seam.now)) (λ inst. IsWallAtSeam inst periodic.new antiperiodic.new difference.new) }
-    ensures refused { result ≡ 1 → IsTold (IsWallFault (IsGraph n ends.now couplings.now dart_starts.now darts.now seam.now) (IsGraphFault n ends.now couplings.now dart_starts.now darts.now seam.now)) line.old line.new line_written.new }
+    ensures refused { result ≡ 1 → TellsRefusal (IsWallFault (IsGraph n ends.now couplings.now dart_starts.now darts.now seam.now) (IsGivenGraphFault n ends.now couplings.now dart_starts.now darts.now seam.now)) line.old line.new line_written.new }
     ensures codes { (result ≡ 0) ⊎ ((result ≡ 1) ⊎ (result ≡ 6)) }
 
     // Beside another status than 0 no result is written, and beside another than 1 no line.
@@ -120,7 +120,7 @@ pub extern "C" fn ising2d_c_graph_bonds(
     line_written: &mut usize,
 ) -> u8
     ensures found { result ≡ 0 → Finds (IsFitOf (IsGraph n ends.now couplings.now dart_starts.now darts.now seam.now)) (λ inst. IsCosted inst (λ c. Shows c bond_costs.old bond_costs.new)) }
-    ensures refused { result ≡ 1 → IsTold (IsFitFault (IsGraph n ends.now couplings.now dart_starts.now darts.now seam.now) (IsGraphFault n ends.now couplings.now dart_starts.now darts.now seam.now)) line.old line.new line_written.new }
+    ensures refused { result ≡ 1 → TellsRefusal (IsFitFault (IsGraph n ends.now couplings.now dart_starts.now darts.now seam.now) (IsGivenGraphFault n ends.now couplings.now dart_starts.now darts.now seam.now)) line.old line.new line_written.new }
     ensures codes { (result ≡ 0) ⊎ ((result ≡ 1) ⊎ (result ≡ 6)) }
 
     // Beside another status than 0 no result is written, and beside another than 1 no line.
@@ -146,7 +146,7 @@ pub extern "C" fn ising2d_c_graph_clusters(
     line_written: &mut usize,
 ) -> u8
     ensures found { result ≡ 0 → Finds (IsFitOf (IsGraph n ends.now couplings.now dart_starts.now darts.now seam.now)) (λ inst. IsClustered inst (λ c. Shows c names.old names.new)) }
-    ensures refused { result ≡ 1 → IsTold (IsFitFault (IsGraph n ends.now couplings.now dart_starts.now darts.now seam.now) (IsGraphFault n ends.now couplings.now dart_starts.now darts.now seam.now)) line.old line.new line_written.new }
+    ensures refused { result ≡ 1 → TellsRefusal (IsFitFault (IsGraph n ends.now couplings.now dart_starts.now darts.now seam.now) (IsGivenGraphFault n ends.now couplings.now dart_starts.now darts.now seam.now)) line.old line.new line_written.new }
     ensures codes { (result ≡ 0) ⊎ ((result ≡ 1) ⊎ (result ≡ 6)) }
 
     // Beside another status than 0 no result is written, and beside another than 1 no line.
@@ -177,8 +177,8 @@ pub extern "C" fn ising2d_c_graph_check(
 ) -> u8
     ensures found { (result ≡ 0) ⊎ (result ≡ 3) → Finds (IsGraph n ends.now couplings.now dart_starts.now darts.now seam.now)
         (Judges (States energy spins.now weights.now starts.now bonds.now) line.old line.new line_written.new result) }
-    ensures refused { result ≡ 1 → IsTold (IsProofFault (IsGraph n ends.now couplings.now dart_starts.now darts.now seam.now)
-        (IsGraphFault n ends.now couplings.now dart_starts.now darts.now seam.now) (stated_fault spins.now weights.now starts.now bonds.now)) line.old line.new line_written.new }
+    ensures refused { result ≡ 1 → TellsRefusal (IsProofFault (IsGraph n ends.now couplings.now dart_starts.now darts.now seam.now)
+        (IsGivenGraphFault n ends.now couplings.now dart_starts.now darts.now seam.now) (stated_fault spins.now weights.now starts.now bonds.now)) line.old line.new line_written.new }
     ensures codes { (result ≡ 0) ⊎ ((result ≡ 1) ⊎ ((result ≡ 3) ⊎ (result ≡ 6))) }
 
     // Nothing is written where the memory is wanting.
@@ -209,7 +209,7 @@ fn fit_graph(
     seam: &[u32],
 ) -> Result<Planar, Fault>
     ensures gives { IfOk result (λ planar. IsFitOf (IsGraph n ends.now couplings.now dart_starts.now darts.now seam.now) planar.instance) }
-    ensures refuses { IfErr result (IsFitFault (IsGraph n ends.now couplings.now dart_starts.now darts.now seam.now) (IsGraphFault n ends.now couplings.now dart_starts.now darts.now seam.now)) }
+    ensures refuses { IfErr result (IsFitFault (IsGraph n ends.now couplings.now dart_starts.now darts.now seam.now) (IsGivenGraphFault n ends.now couplings.now dart_starts.now darts.now seam.now)) }
 {
     fit(
         alloc,

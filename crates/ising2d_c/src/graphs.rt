@@ -3,8 +3,8 @@ ghost use Rattle.std.specs.Prelude.{◌≡◌, ◌≢◌, ◌+◌, ◌*◌, ◌<
 ghost use Rattle.sg_limits.specs.Limits.{bond_limit, spin_limit};
 ghost use Rattle.sg_model.specs.Ising.{IsBond};
 ghost use Rattle.ising2d_c.specs.Crossing.{IsJoined};
-ghost use Rattle.ising2d_c.specs.Graphs.{IsGraph, IsGraphFault, bond_by as bond_numbered, bonds_by, bonds_fault, ends_fault, first_bad as first_bad_of, first_self as first_self_of, graph_fault, is_bond as is_bond_of, spins_fault};
-ghost use Rattle.ising2d_c.specs.Starts.{IsDivision, entry};
+ghost use Rattle.ising2d_c.specs.Graphs.{IsGraph, IsGivenGraphFault, bond_by as bond_numbered, bonds_by, given_bonds_fault, given_ends_fault, first_bad as first_bad_of, first_self as first_self_of, given_graph_fault, is_given_bond as is_bond_of, given_spins_fault};
+ghost use Rattle.ising2d_c.specs.Starts.{DividesEntries, entry};
 
 use super::lattices::is_coupling;
 use super::starts::{entries_at, refusal_of_starts};
@@ -29,7 +29,7 @@ pub fn graph_of(
     seam: &[u32],
 ) -> Result<Instance, Fault>
     ensures gives { IfOk result (IsGraph n ends.now couplings.now starts.now darts.now seam.now) }
-    ensures refuses { IfErr result (IsGraphFault n ends.now couplings.now starts.now darts.now seam.now) }
+    ensures refuses { IfErr result (IsGivenGraphFault n ends.now couplings.now starts.now darts.now seam.now) }
 {
     if let Some(refusal) = refusal_of_graph(n, ends, couplings, starts, darts) {
         return Err(Fault::Refused(refusal));
@@ -48,13 +48,13 @@ fn refusal_of_graph(
     starts: &[usize],
     darts: &[u32],
 ) -> Option<Refusal>
-    ensures value { result ≡ graph_fault n ends.now couplings.now starts.now darts.now }
+    ensures value { result ≡ given_graph_fault n ends.now couplings.now starts.now darts.now }
     ensures spins { result ≡ None → n ≤ spin_limit }
     ensures some { result ≡ None → 1 ≤ n }
     ensures ends { result ≡ None → length ends.now ≡ 2 * length couplings.now }
     ensures few { result ≡ None → length couplings.now ≤ bond_limit }
     ensures joined { result ≡ None → All (IsBond n) (bonds_by ends.now couplings.now) }
-    ensures division { result ≡ None → IsDivision starts.now n (length darts.now) }
+    ensures division { result ≡ None → DividesEntries starts.now n (length darts.now) }
 {
     if let Some(refusal) = refusal_of_spins(n) {
         return Some(refusal);
@@ -70,7 +70,7 @@ fn refusal_of_graph(
 
 // The first fault of the number of spins.
 fn refusal_of_spins(n: u32) -> Option<Refusal>
-    ensures value { result ≡ spins_fault n }
+    ensures value { result ≡ given_spins_fault n }
     ensures some { result ≡ None → 1 ≤ n }
     ensures few { result ≡ None → n ≤ spin_limit }
 {
@@ -85,7 +85,7 @@ fn refusal_of_spins(n: u32) -> Option<Refusal>
 
 // The first fault of the ends and the couplings.
 fn refusal_of_ends(n: u32, ends: &[u32], couplings: &[i64]) -> Option<Refusal>
-    ensures value { result ≡ ends_fault n ends.now couplings.now }
+    ensures value { result ≡ given_ends_fault n ends.now couplings.now }
     ensures count { result ≡ None → length ends.now ≡ 2 * length couplings.now }
     ensures joined { result ≡ None → (k : ℕ) → k < length couplings.now → is_bond_of n ends.now couplings.now k ≡ true }
 {
@@ -130,7 +130,7 @@ fn is_bond(n: u32, ends: &[u32], couplings: &[i64], k: usize) -> bool
 // The first fault of so many bonds, each of which joins two of the spins.
 fn refusal_of_bonds(ends: &[u32], bonds: usize) -> Option<Refusal>
     requires { length ends.now ≡ 2 * bonds }
-    ensures value { result ≡ bonds_fault ends.now bonds }
+    ensures value { result ≡ given_bonds_fault ends.now bonds }
     ensures few { result ≡ None → bonds ≤ bond_limit }
     ensures apart { result ≡ None → (k : ℕ) → k < bonds → entry ends.now (2 * k) ≢ entry ends.now (2 * k + 1) }
 {
@@ -190,7 +190,7 @@ fn rotation_of(
     starts: &[usize],
     darts: &[u32],
 ) -> Result<Rotation, AllocError>
-    requires { IsDivision starts.now n (length darts.now) }
+    requires { DividesEntries starts.now n (length darts.now) }
     ensures count { IfOk result (λ rotation. length rotation ≡ n) }
     ensures joined { IfOk result (λ rotation. IsJoined (λ list. list) rotation starts.now darts.now) }
 {

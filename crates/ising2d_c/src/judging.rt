@@ -4,13 +4,14 @@ ghost use Rattle.sg_limits.specs.Limits.{input_limit};
 ghost use Rattle.sg_model.specs.Energy.{IsGroundState};
 ghost use Rattle.sg_check.specs.Verdict.{IsVerdict};
 ghost use Rattle.sg_check.specs.declared.verdict.Verdict.TheVariants.{Yes};
-ghost use Rattle.sg_reader.specs.Tests.{IsTestFault};
+ghost use Rattle.sg_reader.specs.Tests.{Refuses};
 ghost use Rattle.sg_report.specs.Text.{verdict_text as verdict_bytes};
 ghost use Rattle.sg_cli.specs.Served.{status_by};
 ghost use Rattle.sg_reply.specs.declared.status.Status.TheVariants.{Done as IsDone, No as IsNo};
 ghost use Rattle.ising2d_c.specs.Grounds.{IsJudged, Judges};
-ghost use Rattle.ising2d_c.specs.Refusing.{IsTold, IsToldFault};
+ghost use Rattle.ising2d_c.specs.Refusing.{TellsRefusal, IsToldFault};
 ghost use Rattle.ising2d_c.specs.Stated.{States, stated_fault};
+ghost use Rattle.sg_model.specs.Faults.{OrNoMemory};
 
 use super::crossing::fill;
 use super::refusing::refuse;
@@ -44,7 +45,7 @@ pub fn judge_into(
     ensures judged { (result ≡ 0) ⊎ (result ≡ 3) → IsOkAnd given (Judges (States energy spins.now weights.now starts.now bonds.now)
         line.old line.new line_written.new result) }
     ensures refused { result ≡ 1 → IsErrAnd given (λ fault. IsToldFault fault line.old line.new line_written.new)
-        ⊎ IsOkAnd given (λ inst. IsTold (IsTestFault (stated_fault spins.now weights.now starts.now bonds.now))
+        ⊎ IsOkAnd given (λ inst. TellsRefusal (OrNoMemory (Refuses (stated_fault spins.now weights.now starts.now bonds.now)))
         line.old line.new line_written.new) }
     ensures codes { (result ≡ 0) ⊎ ((result ≡ 1) ⊎ ((result ≡ 3) ⊎ (result ≡ 6))) }
     ensures kept { result ≡ 6 → (line.new ≡ line.old) × (line_written.new ≡ line_written.old) }

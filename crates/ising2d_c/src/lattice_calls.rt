@@ -4,7 +4,7 @@ ghost use Rattle.ising2d_c.specs.Crossing.{HandsLoops, Shows};
 ghost use Rattle.ising2d_c.specs.Fitting.{Finds, IsFitFault, IsFitOf, IsProofFault, IsWallFault};
 ghost use Rattle.ising2d_c.specs.Grounds.{IsClustered, IsCosted, IsGround, IsWallAtSeam, Judges};
 ghost use Rattle.ising2d_c.specs.Lattices.{IsLattice, IsLatticeFault};
-ghost use Rattle.ising2d_c.specs.Refusing.{IsTold};
+ghost use Rattle.ising2d_c.specs.Refusing.{TellsRefusal};
 ghost use Rattle.ising2d_c.specs.Stated.{States, stated_fault};
 
 use super::fitting::{fit, with_seam};
@@ -42,7 +42,7 @@ pub extern "C" fn ising2d_c_ground(
           bonds_before = bonds.old;
           bonds_after = bonds.new;
         }) loop_count.new bond_count.new)) }
-    ensures refused { result ≡ 1 → IsTold (IsFitFault (IsLattice kind rows cols couplings.now) (IsLatticeFault kind rows cols couplings.now)) line.old line.new line_written.new }
+    ensures refused { result ≡ 1 → TellsRefusal (IsFitFault (IsLattice kind rows cols couplings.now) (IsLatticeFault kind rows cols couplings.now)) line.old line.new line_written.new }
     ensures codes { (result ≡ 0) ⊎ ((result ≡ 1) ⊎ (result ≡ 6)) }
 
     // Beside another status than 0 no result is written, and beside another than 1 no line.
@@ -81,7 +81,7 @@ pub extern "C" fn ising2d_c_wall(
     line_written: &mut usize,
 ) -> u8
     ensures found { result ≡ 0 → Finds (IsFitOf (IsLattice kind rows cols couplings.now)) (λ inst. IsWallAtSeam inst periodic.new antiperiodic.new difference.new) }
-    ensures refused { result ≡ 1 → IsTold (IsWallFault (IsLattice kind rows cols couplings.now) (IsLatticeFault kind rows cols couplings.now)) line.old line.new line_written.new }
+    ensures refused { result ≡ 1 → TellsRefusal (IsWallFault (IsLattice kind rows cols couplings.now) (IsLatticeFault kind rows cols couplings.now)) line.old line.new line_written.new }
     ensures codes { (result ≡ 0) ⊎ ((result ≡ 1) ⊎ (result ≡ 6)) }
 
     // Beside another status than 0 no result is written, and beside another than 1 no line.
@@ -114,7 +114,7 @@ pub extern "C" fn ising2d_c_bonds(
     line_written: &mut usize,
 ) -> u8
     ensures found { result ≡ 0 → Finds (IsFitOf (IsLattice kind rows cols couplings.now)) (λ inst. IsCosted inst (λ c. Shows c bond_costs.old bond_costs.new)) }
-    ensures refused { result ≡ 1 → IsTold (IsFitFault (IsLattice kind rows cols couplings.now) (IsLatticeFault kind rows cols couplings.now)) line.old line.new line_written.new }
+    ensures refused { result ≡ 1 → TellsRefusal (IsFitFault (IsLattice kind rows cols couplings.now) (IsLatticeFault kind rows cols couplings.now)) line.old line.new line_written.new }
     ensures codes { (result ≡ 0) ⊎ ((result ≡ 1) ⊎ (result ≡ 6)) }
 
     // Beside another status than 0 no result is written, and beside another than 1 no line.
@@ -138,7 +138,7 @@ pub extern "C" fn ising2d_c_clusters(
     line_written: &mut usize,
 ) -> u8
     ensures found { result ≡ 0 → Finds (IsFitOf (IsLattice kind rows cols couplings.now)) (λ inst. IsClustered inst (λ c. Shows c names.old names.new)) }
-    ensures refused { result ≡ 1 → IsTold (IsFitFault (IsLattice kind rows cols couplings.now) (IsLatticeFault kind rows cols couplings.now)) line.old line.new line_written.new }
+    ensures refused { result ≡ 1 → TellsRefusal (IsFitFault (IsLattice kind rows cols couplings.now) (IsLatticeFault kind rows cols couplings.now)) line.old line.new line_written.new }
     ensures codes { (result ≡ 0) ⊎ ((result ≡ 1) ⊎ (result ≡ 6)) }
 
     // Beside another status than 0 no result is written, and beside another than 1 no line.
@@ -167,7 +167,7 @@ pub extern "C" fn ising2d_c_check(
 ) -> u8
     ensures found { (result ≡ 0) ⊎ (result ≡ 3) → Finds (IsLattice kind rows cols couplings.now)
         (Judges (States energy spins.now weights.now starts.now bonds.now) line.old line.new line_written.new result) }
-    ensures refused { result ≡ 1 → IsTold (IsProofFault (IsLattice kind rows cols couplings.now)
+    ensures refused { result ≡ 1 → TellsRefusal (IsProofFault (IsLattice kind rows cols couplings.now)
         (IsLatticeFault kind rows cols couplings.now) (stated_fault spins.now weights.now starts.now bonds.now)) line.old line.new line_written.new }
     ensures codes { (result ≡ 0) ⊎ ((result ≡ 1) ⊎ ((result ≡ 3) ⊎ (result ≡ 6))) }
 

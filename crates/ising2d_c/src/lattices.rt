@@ -1,7 +1,7 @@
 // Lattices by numbers. No number is trusted: each is tested, and the first fault is named.
 ghost use Rattle.std.specs.Prelude.{◌≡◌, ◌↔◌, ◌<◌, ◌*◌, ◌^◌, length, None, All, IfOk, IfErr, IfSome, IsTrue, nat_lt, unsigned_abs};
 ghost use Rattle.sg_lattice.specs.Tables.{IsSize, bond_total};
-ghost use Rattle.ising2d_c.specs.Lattices.{IsCoupledLattice, IsCoupling, IsCouplingFault, IsFirstOut, IsLattice, IsLatticeFault, IsSizedFault, IsValueFault, kind_numbered, size_fault};
+ghost use Rattle.ising2d_c.specs.Lattices.{IsCoupledLattice, IsCoupling, IsCouplingFault, IsFirstOut, IsLattice, IsLatticeFault, IsSizedFault, IsValueFault, kind_numbered, given_size_fault};
 
 use sg_lattice::{Kind, bond_count, build};
 use sg_limits::SPIN_LIMIT;
@@ -49,7 +49,7 @@ fn kind_by(number: u8) -> Option<Kind>
 
 // The first fault of a size.
 fn fault_of_size(kind: Kind, rows: u32, cols: u32) -> Option<Refusal>
-    ensures value { result ≡ size_fault kind rows cols }
+    ensures value { result ≡ given_size_fault kind rows cols }
     ensures size { result ≡ None → IsSize kind rows cols }
 {
     if rows == 0 {
@@ -75,9 +75,9 @@ fn sized_lattice(
     cols: u32,
     couplings: &[i64],
 ) -> Result<Instance, Fault>
-    ensures size { IfOk result (λ _. size_fault kind rows cols ≡ None) }
+    ensures size { IfOk result (λ _. given_size_fault kind rows cols ≡ None) }
     ensures gives { IfOk result (IsCoupledLattice kind rows cols couplings.now) }
-    ensures refuses { IfErr result (IsSizedFault (size_fault kind rows cols) kind rows cols couplings.now) }
+    ensures refuses { IfErr result (IsSizedFault (given_size_fault kind rows cols) kind rows cols couplings.now) }
 {
     match fault_of_size(kind, rows, cols) {
         Some(refusal) => Err(Fault::Refused(refusal)),

@@ -1,6 +1,6 @@
 // Lists of lists as a caller gives them: for each list the place of its first entry.
 ghost use Rattle.std.specs.Prelude.{◌≡◌, ◌+◌, ◌-◌, ◌<◌, ◌≤◌, ◌^◌, ℕ, drop, length, take, None, IfOk, IfSome};
-ghost use Rattle.ising2d_c.specs.Starts.{IsDivision, entry, first_fall as first_fall_of, starts_fault};
+ghost use Rattle.ising2d_c.specs.Starts.{DividesEntries, entry, first_fall as first_fall_of, starts_fault};
 
 use sg_model::{BondList, Refusal};
 use std::alloc::{AllocError, Global};
@@ -14,7 +14,7 @@ pub fn refusal_of_starts(
 ) -> Option<Refusal>
     requires { items < 2 ^ 32 }
     ensures value { result ≡ starts_fault place starts.now items entries }
-    ensures division { result ≡ None → IsDivision starts.now items entries }
+    ensures division { result ≡ None → DividesEntries starts.now items entries }
 {
     if starts.len() != items + 1 {
         return Some(Refusal::BadMember { place, item: 0 });

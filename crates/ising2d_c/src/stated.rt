@@ -3,10 +3,11 @@ ghost use Rattle.std.specs.Prelude.{◌≡◌, ◌+◌, ◌-◌, ◌<◌, ◌≤
 ghost use Rattle.sg_limits.specs.Limits.{input_limit};
 ghost use Rattle.sg_model.specs.Spins.{IsUpOrDown};
 ghost use Rattle.sg_reader.specs.Result.{is_spin_value};
-ghost use Rattle.sg_reader.specs.Tests.{IsTestFault};
+ghost use Rattle.sg_reader.specs.Tests.{Refuses};
 ghost use Rattle.ising2d_c.specs.Crossing.{AreRows};
-ghost use Rattle.ising2d_c.specs.Starts.{IsDivision, entry};
-ghost use Rattle.ising2d_c.specs.Stated.{States, loops_fault, stated_fault, values_fault};
+ghost use Rattle.ising2d_c.specs.Starts.{DividesEntries, entry};
+ghost use Rattle.ising2d_c.specs.Stated.{States, given_loops_fault, stated_fault, values_fault};
+ghost use Rattle.sg_model.specs.Faults.{OrNoMemory};
 
 use super::starts::{entries_of, refusal_of_starts};
 use sg_check::{Loop, Loops, ResultText};
@@ -30,7 +31,7 @@ pub fn stated_by(
     ensures states { IfOk result (States energy spins.now weights.now starts.now bonds.now) }
     ensures few_spins { IfOk result (λ stated. length stated.spins ≤ input_limit) }
     ensures few_loops { IfOk result (λ stated. length stated.loops ≤ input_limit) }
-    ensures refuses { IfErr result (IsTestFault (stated_fault spins.now weights.now starts.now bonds.now)) }
+    ensures refuses { IfErr result (OrNoMemory (Refuses (stated_fault spins.now weights.now starts.now bonds.now))) }
 {
     let values = spins_by(alloc, spins)?;
     if let Some(refusal) = refusal_of_loops(weights.len(), starts, bonds.len()) {
@@ -49,7 +50,7 @@ fn spins_by(alloc: Global, values: &[i8]) -> Result<Spins, Fault>
     ensures value { IfOk result (λ spins. spins ≡ values.now) }
     ensures few { IfOk result (λ spins. length spins ≤ input_limit) }
     ensures passes { IfOk result (λ _. values_fault values.now ≡ None) }
-    ensures refuses { IfErr result (IsTestFault (values_fault values.now)) }
+    ensures refuses { IfErr result (OrNoMemory (Refuses (values_fault values.now))) }
 {
     if values.len() > INPUT_LIMIT {
         return Err(Fault::Refused(Refusal::TooLong {
@@ -79,9 +80,9 @@ fn is_spin(number: &i8) -> bool
 
 // The first fault of so many loops with so many bonds.
 fn refusal_of_loops(loops: usize, starts: &[usize], bonds: usize) -> Option<Refusal>
-    ensures value { result ≡ loops_fault loops starts.now bonds }
+    ensures value { result ≡ given_loops_fault loops starts.now bonds }
     ensures few { result ≡ None → loops ≤ input_limit }
-    ensures division { result ≡ None → IsDivision starts.now loops bonds }
+    ensures division { result ≡ None → DividesEntries starts.now loops bonds }
 {
     if loops > INPUT_LIMIT {
         return Some(Refusal::TooLong {
@@ -98,7 +99,7 @@ fn loops_by(
     starts: &[usize],
     bonds: &[u32],
 ) -> Result<Loops, AllocError>
-    requires { IsDivision starts.now (length weights.now) (length bonds.now) }
+    requires { DividesEntries starts.now (length weights.now) (length bonds.now) }
     ensures rows { IfOk result (λ loops. AreRows loops weights.now starts.now bonds.now) }
     ensures count { IfOk result (λ loops. length loops ≡ length weights.now) }
 {

@@ -4,7 +4,7 @@ ghost use Rattle.std.specs.Prelude.{◌≡◌, ℕ, ◌+◌, ◌-◌, ◌<◌, �
 ghost use Rattle.slab.specs.Slab.{ContainsKey, get};
 ghost use Rattle.sg_arena.specs.Family.{link_at};
 ghost use Rattle.sg_arena.specs.Forest.{links};
-ghost use Rattle.sg_arena.specs.CellWrites.{Seats, Frees, Rewrites, grown, fallen};
+ghost use Rattle.sg_arena.specs.CellWrites.{Seats, Frees, Rewrites, raised_cell, fallen};
 
 use crate::Link;
 use slab::Slab;
@@ -97,7 +97,7 @@ pub(crate) fn raise_duals(cells: &mut Slab<Cell>, nodes: &[usize], delta: u64)
         slice_index nodes.now i ≡ slice_index nodes.now j → i ≡ j }
     requires fits { (i : ℕ) (c : Cell) → i < length nodes.now →
         get cells.old (slice_index nodes.now i) ≡ Some c → c.dual + delta < 2 ^ 64 }
-    ensures { Rewrites (grown delta) cells.old cells.new nodes.now (length nodes.now) }
+    ensures { Rewrites (raised_cell delta) cells.old cells.new nodes.now (length nodes.now) }
 {
     for &node in nodes {
         let cell = cells[node];

@@ -23,7 +23,7 @@ use Rattle.sg_model.specs.Energy.{IsGroundState, energy, product, weight}
 use Rattle.sg_model.proofs.BrokenEnergy.{broken_cost, energy_from_costs}
 use Rattle.sg_check.specs.declared.packing.Loop.{Loop}
 use Rattle.sg_check.specs.Loop.{IsFrustratedLoop}
-use Rattle.sg_check.specs.Packing.{Proves, load, loop_weight, total_weight}
+use Rattle.sg_check.specs.Packing.{Proves, load, loop_weight, packed_weight}
 use Rattle.sg_check.proofs.WeakDuality.{loop_breaks_oddly, proves_ground_state}
 use Rattle.sg_bonds.specs.Cost.{IsCost, IsRigid}
 use Rattle.sg_bonds.proofs.Agreement.{Turns, agree_or_turn}
@@ -138,7 +138,7 @@ module _ (inst : Ising) (good : IsInstance inst) (s : List ℤ) (e : ℤ) (loops
     -- an assignment that breaks the bond has more energy
     broken_above : is_broken t (bond_at inst k) ≡ true → e <ℤ energy inst t
     broken_above broken =
-        let bound : total_weight loops ≤ sum_below (λ i. cond (breaks i) (cap i) 0) (bond_count inst) =
+        let bound : packed_weight loops ≤ sum_below (λ i. cond (breaks i) (cap i) 0) (bond_count inst) =
         weights_below_capacity loop_weight (λ (l : Loop). holds l.bonds) breaks cap (bond_count inst) loops
         (λ i d l. marked (get_or loops i d) (proof.packs.frustrated i d l)) within in
         let less : sum_below (λ i. cond (breaks i) (cap i) 0) (bond_count inst) + 1 ≤ sum_below
@@ -147,7 +147,7 @@ module _ (inst : Ising) (good : IsInstance inst) (s : List ℤ) (e : ℤ) (loops
         (λ i l. term i) own in
         let total : sum_by (broken_cost t) inst.bonds ≡ sum_below (λ i. cond (breaks i) (2 * unsigned_abs (bond_at inst i).j) 0) (bond_count inst) =
         sum_by_is_sum_below (broken_cost t) inst.bonds (record { u = 0; v = 0; j = pos 0 }) in
-        more e (energy inst t) (total_weight loops) (weight inst) (sum_by (broken_cost t) inst.bonds) proof.tight
+        more e (energy inst t) (packed_weight loops) (weight inst) (sum_by (broken_cost t) inst.bonds) proof.tight
         (energy_from_costs inst t good spins) (omega (arith, bound, less, total))
       where
         more : (e f : ℤ) (y w b : ℕ) → pos y ≡ e +ℤ pos w → f ≡ pos b -ℤ pos w → y + 1 ≤ b → e <ℤ f

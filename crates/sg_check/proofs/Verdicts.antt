@@ -6,7 +6,7 @@ use Rattle.sg_model.specs.Energy.{IsGroundState, IsLeastEnergy, weight}
 use Rattle.sg_check.specs.declared.packing.ResultText.{ResultText}
 use Rattle.sg_check.specs.declared.verdict.Verdict.{Verdict}
 use Rattle.sg_check.specs.declared.verdict.Verdict.TheVariants.{Yes, SpinCount, Energy, LoopShape, LoopEven, LoopSign, Load, Sum}
-use Rattle.sg_check.specs.Packing.{Proves, total_weight}
+use Rattle.sg_check.specs.Packing.{Proves, packed_weight}
 use Rattle.sg_check.specs.Verdict.{StatesEnergy, PassesLoops, PassesLoads, IsVerdict}
 use Rattle.sg_check.proofs.WeakDuality.{proves_ground_state, proves_least_energy}
 
@@ -16,7 +16,7 @@ module _ (inst : Ising) (text : ResultText) where
 
   -- all tests passed are a proof
   pub proof_from_tests : StatesEnergy inst text → PassesLoops inst text.loops → PassesLoads inst text.loops
-      → pos (total_weight text.loops) ≡ text.energy +ℤ pos (weight inst) → Holds
+      → pos (packed_weight text.loops) ≡ text.energy +ℤ pos (weight inst) → Holds
   proof_from_tests energy loops loads sum = record {
     assignment = energy.assignment;
     stated = energy.stated;

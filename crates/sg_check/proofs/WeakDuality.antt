@@ -23,7 +23,7 @@ use Rattle.sg_model.proofs.BrokenEnergy.{energy_from_costs, broken_cost, HasUnit
 use Rattle.sg_model.proofs.BrokenParity.{is_broken_xor, is_down}
 use Rattle.sg_check.specs.declared.packing.Loop.{Loop}
 use Rattle.sg_check.specs.Loop.{is_end_of, IsFrustratedLoop}
-use Rattle.sg_check.specs.Packing.{Proves, loop_weight, total_weight}
+use Rattle.sg_check.specs.Packing.{Proves, loop_weight, packed_weight}
 
 -- where the two ends differ, one of them is the spin exactly where one and not both are
 pub one_end : (a b x : ℕ) → a ≢ b → is_end a b x ≡ (eqb a x || eqb b x)
@@ -64,14 +64,15 @@ module _ (inst : Ising) (good : IsInstance inst) where
   -- no assignment has less than what a packing proves
   pub no_less : (s : List ℤ) (e : ℤ) (loops : List Loop) → Proves inst s e loops → (t : List ℤ) → IsAssignment inst t → e ≤ℤ energy inst t
   no_less s e loops h t spins =
-      let bound : total_weight loops ≤ sum_below (λ k. cond (is_broken t (bond_at inst k)) (2 * unsigned_abs (bond_at inst k).j) 0) (bond_count inst) =
+      let bound : packed_weight loops ≤ sum_below (λ k. cond (is_broken t (bond_at inst k)) (2 * unsigned_abs (bond_at inst k).j) 0) (bond_count inst) =
       weights_below_capacity loop_weight (λ l. holds l.bonds) (λ k. is_broken t (bond_at inst k)) (λ k. 2 * unsigned_abs (bond_at inst k).j)
       (bond_count inst) loops
       (λ i d l. marked t spins (get_or loops i d) (h.packs.frustrated i d l)) h.packs.within in
       let total : sum_by (broken_cost t) inst.bonds ≡ sum_below (λ k. cond (is_broken t (bond_at inst k)) (2 * unsigned_abs (bond_at inst k).j) 0)
       (bond_count inst) =
       sum_by_is_sum_below (broken_cost t) inst.bonds (record { u = 0; v = 0; j = pos 0 }) in
-      below e (energy inst t) (total_weight loops) (weight inst) (sum_by (broken_cost t) inst.bonds) h.tight (energy_from_costs inst t good spins) (omega arith)
+      below e (energy inst t) (packed_weight loops) (weight inst) (sum_by (broken_cost t) inst.bonds) h.tight (energy_from_costs inst t good spins)
+          (omega arith)
     where
       marked : (t : List ℤ) → IsAssignment inst t → (l : Loop) → IsFrustratedLoop inst l.bonds
           → HasMarked loop_weight (λ (l : Loop). holds l.bonds) (λ k. is_broken t (bond_at inst k)) (bond_count inst) l

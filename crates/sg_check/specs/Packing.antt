@@ -16,8 +16,8 @@ abbrev pub load : List Loop → ℕ → ℕ
 load loops k = sum_by (λ l. if holds l.bonds k then loop_weight l else 0) loops
 
 -- the weights of all loops
-abbrev pub total_weight : List Loop → ℕ
-total_weight loops = sum_by loop_weight loops
+abbrev pub packed_weight : List Loop → ℕ
+packed_weight loops = sum_by loop_weight loops
 
 -- the loops through bond k weigh at most twice the size of its coupling
 abbrev pub IsWithin : Ising → List Loop → ℕ → Type 0
@@ -34,7 +34,7 @@ pub record Proves (inst : Ising) (s : List ℤ) (e : ℤ) (loops : List Loop) : 
   pub assignment : IsAssignment inst s
   pub stated : energy inst s ≡ e
   pub packs : Packs inst loops
-  pub tight : pos (total_weight loops) ≡ e +ℤ pos (weight inst)
+  pub tight : pos (packed_weight loops) ≡ e +ℤ pos (weight inst)
 
 -- a proof of few loops: at most five for each two bonds
 abbrev pub IsShort : Ising → List Loop → Type 0

@@ -8,7 +8,7 @@ use Rattle.sg_check.specs.declared.packing.ResultText.{ResultText}
 use Rattle.sg_check.specs.declared.verdict.Verdict.{Verdict}
 use Rattle.sg_check.specs.declared.verdict.Verdict.TheVariants.{Yes, SpinCount, Energy, LoopShape, LoopEven, LoopSign, Load, Sum}
 use Rattle.sg_check.specs.Loop.{IsBondSet, IsEvenAt, IsEven, IsOddlyNegative}
-use Rattle.sg_check.specs.Packing.{load, total_weight, IsWithin, Proves}
+use Rattle.sg_check.specs.Packing.{load, packed_weight, IsWithin, Proves}
 
 -- the spins are an assignment of the instance, with the stated energy
 pub record StatesEnergy (inst : Ising) (text : ResultText) : Type 0 where
@@ -63,4 +63,4 @@ IsVerdict inst text (Load bond sum) =
     × IsFirstFailure (IsWithin inst text.loops) (bond_count inst) bond × (sum ≡ pos (load text.loops bond))
 IsVerdict inst text (Sum found wanted) =
     StatesEnergy inst text × PassesLoops inst text.loops × PassesLoads inst text.loops
-    × (found ≡ pos (total_weight text.loops)) × (wanted ≡ text.energy +ℤ pos (weight inst)) × (found ≢ wanted)
+    × (found ≡ pos (packed_weight text.loops)) × (wanted ≡ text.energy +ℤ pos (weight inst)) × (found ≢ wanted)

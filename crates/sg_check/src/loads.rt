@@ -2,7 +2,7 @@
 
 ghost use Rattle.std.specs.Prelude.{◌≡◌, ℕ, ◌<◌, ◌≤◌, ◌+◌, ◌*◌, ◌^◌, if◌then◌else◌, length, replicate, slice_index, All, IfNone, IfSome, unsigned_abs};
 ghost use Rattle.sg_model.specs.Ising.{bond_at, bond_count};
-ghost use Rattle.sg_check.specs.Packing.{IsWithin, load, total_weight};
+ghost use Rattle.sg_check.specs.Packing.{IsWithin, load, packed_weight};
 ghost use Rattle.sg_check.specs.Verdict.{HasShape, IsFirstFailure};
 
 use super::Loop;
@@ -71,7 +71,7 @@ pub fn first_overload(inst: &Instance, loops: &[Loop], loads: &mut [u128]) -> Op
 // The weights of all loops.
 pub fn sum_of_weights(loops: &[Loop]) -> u128
     requires { length loops.now < 2 ^ 32 }
-    ensures value { result ≡ total_weight loops.now }
+    ensures value { result ≡ packed_weight loops.now }
     ensures size { result < 2 ^ 96 }
 {
     let mut total: u128 = 0;

@@ -9,44 +9,47 @@ use Rattle.sg_model.specs.declared.refusal.Fault.TheVariants.{Refused, NoMemory}
 use Rattle.sg_model.specs.declared.refusal.Refusal.TheVariants.{TooLong}
 use Rattle.sg_model.specs.Ising.{Ising}
 use Rattle.sg_reader.specs.Kept.{behind, kept_of}
-use Rattle.sg_reader.specs.ReadInstance.{ReadsInstance, IsReadFault}
-use Rattle.sg_reader.specs.NoMore.{IsTrailingFault}
-use Rattle.sg_planar.specs.Fit.{Embedding, IsFit, IsUnfitFault}
+use Rattle.sg_reader.specs.ReadInstance.{ReadsInstance, RefusesInstance}
+use Rattle.sg_reader.specs.NoMore.{trailing_fault}
+use Rattle.sg_planar.specs.Fit.{Embedding, IsFit, IsUnfit}
 use Rattle.sg_check.specs.declared.packing.ResultText.{ResultText}
-use Rattle.sg_reader.specs.ReadResult.{IsResultFault, ReadsResult}
-use Rattle.sg_cli.specs.Input.{AtFitness, AtRecord, AtTrailing, BehindResult, GivesFit, GivesInstance, InInstance, InResult, IsAloneFault, OfJson, OfRecords}
-use Rattle.sg_cli.specs.Input.{RefusesBy, RefusesProofBy}
+use Rattle.sg_reader.specs.ReadResult.{ReadsResult, RefusesResult}
+use Rattle.sg_cli.specs.Input.{AtFitness, AtRecord, AtTrailing, BehindResult, GivesFit, GivesInstance, InInstance, InResult, OfJson, OfRecords, RefusesAlone}
+use Rattle.sg_cli.specs.Input.{RefusesText, RefusesProof}
 use Rattle.sg_json.specs.Text.{is_object_text}
-use Rattle.sg_json.specs.ReadJson.{IsJsonFault}
+use Rattle.sg_json.specs.ReadJson.{RefusesJson}
 use Rattle.sg_cli.specs.Promises.{AnswersSource}
 use Rattle.sg_reply.specs.Refused.{IsRefused}
 use Rattle.sg_cli.specs.Served.{AnswersText}
 use Rattle.sg_words.specs.declared.command.Reading.{Reading}
 use Rattle.sg_reply.specs.declared.status.Status.{Status}
+use Rattle.sg_model.specs.Faults.{OrNoMemory}
+use Rattle.sg_reader.specs.Tests.{Refuses}
 
 -- what refuses the records refuses the text of records
-pub by_record : (bytes : List ℕ) (fault : Fault) → IsReadFault (kept_of bytes) fault → IsAloneFault bytes fault
+pub by_record : (bytes : List ℕ) (fault : Fault) → OrNoMemory (RefusesInstance (kept_of bytes)) fault → OrNoMemory (RefusesAlone bytes) fault
 by_record bytes (Refused refusal) shown = AtRecord shown
 by_record bytes NoMemory shown = tt
 
 -- a record behind the `end` refuses the text of records
 pub by_trailing : (bytes : List ℕ) (inst : Ising) (after : ℕ) (fault : Fault) → ReadsInstance (kept_of bytes) inst after
-    → IsTrailingFault (kept_of bytes) after fault → IsAloneFault bytes fault
+    → OrNoMemory (Refuses (trailing_fault (kept_of bytes) after)) fault → OrNoMemory (RefusesAlone bytes) fault
 by_trailing bytes inst after (Refused refusal) reads shown = AtTrailing inst after reads shown
 by_trailing bytes inst after NoMemory reads shown = tt
 
 -- what refuses the records refuses a text that is no object
-pub by_records : (bytes : List ℕ) (fault : Fault) → is_object_text bytes ≡ false → IsAloneFault bytes fault → RefusesBy bytes fault
+pub by_records : (bytes : List ℕ) (fault : Fault) → is_object_text bytes ≡ false → OrNoMemory (RefusesAlone bytes) fault → OrNoMemory (RefusesText bytes) fault
 by_records bytes (Refused refusal) kind shown = OfRecords kind shown
 by_records bytes NoMemory kind shown = tt
 
 -- what refuses the object refuses a text that is one
-pub by_json : (bytes : List ℕ) (fault : Fault) → is_object_text bytes ≡ true → IsJsonFault bytes fault → RefusesBy bytes fault
+pub by_json : (bytes : List ℕ) (fault : Fault) → is_object_text bytes ≡ true → OrNoMemory (RefusesJson bytes) fault → OrNoMemory (RefusesText bytes) fault
 by_json bytes (Refused refusal) kind shown = OfJson kind shown
 by_json bytes NoMemory kind shown = tt
 
 -- an instance that is not fit refuses the text
-pub by_fitness : (bytes : List ℕ) (inst : Ising) (fault : Fault) → GivesInstance bytes inst → IsUnfitFault inst fault → RefusesBy bytes fault
+pub by_fitness : (bytes : List ℕ) (inst : Ising) (fault : Fault) → GivesInstance bytes inst → OrNoMemory (IsUnfit inst) fault
+    → OrNoMemory (RefusesText bytes) fault
 by_fitness bytes inst (Refused refusal) gives shown = AtFitness inst gives shown
 by_fitness bytes inst NoMemory gives shown = tt
 
@@ -57,19 +60,20 @@ gives_fit bytes inst (Ok p) gives same fit = subst (GivesFit bytes) (sym same) (
 gives_fit bytes inst (Err e) gives same fit = tt
 
 -- what refuses the instance refuses the proof
-pub by_instance : (bytes : List ℕ) (fault : Fault) → IsReadFault (kept_of bytes) fault → RefusesProofBy bytes fault
+pub by_instance : (bytes : List ℕ) (fault : Fault) → OrNoMemory (RefusesInstance (kept_of bytes)) fault → OrNoMemory (RefusesProof bytes) fault
 by_instance bytes (Refused refusal) shown = InInstance shown
 by_instance bytes NoMemory shown = tt
 
 -- behind the instance, what refuses the result refuses the proof
 pub by_result : (bytes : List ℕ) (inst : Ising) (after : ℕ) (fault : Fault) → ReadsInstance (kept_of bytes) inst after →
-    IsResultFault (behind after (kept_of bytes)) fault → RefusesProofBy bytes fault
+    OrNoMemory (RefusesResult (behind after (kept_of bytes))) fault → OrNoMemory (RefusesProof bytes) fault
 by_result bytes inst after (Refused refusal) reads shown = InResult inst after reads shown
 by_result bytes inst after NoMemory reads shown = tt
 
 -- behind both, a record more refuses the proof
 pub by_end : (bytes : List ℕ) (inst : Ising) (after : ℕ) (stated : ResultText) (next : ℕ) (fault : Fault) → ReadsInstance (kept_of bytes) inst after →
-    ReadsResult (behind after (kept_of bytes)) stated next → IsTrailingFault (kept_of bytes) next fault → RefusesProofBy bytes fault
+    ReadsResult (behind after (kept_of bytes)) stated next → OrNoMemory (Refuses (trailing_fault (kept_of bytes) next)) fault
+        → OrNoMemory (RefusesProof bytes) fault
 by_end bytes inst after stated next (Refused refusal) reads states shown = BehindResult inst after stated next reads states shown
 by_end bytes inst after stated next NoMemory reads states shown = tt
 

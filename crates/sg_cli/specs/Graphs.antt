@@ -3,7 +3,7 @@
 use Rattle.std.specs.Prelude.{◌≡◌, ℕ, ◌*◌, ℤ, pos, Bool, true, false, List, map, sum_by}
 use Rattle.sg_graph.specs.declared.cut.Cut.{Cut}
 use Rattle.sg_graph.specs.Join.{IsLeastJoin}
-use Rattle.sg_graph.specs.OddCut.{CutsPack, cut_weight}
+use Rattle.sg_graph.specs.OddCut.{CutsPack, odd_cut_weight}
 use Rattle.sg_graph.specs.Web.{Graph, weight_of}
 use Rattle.sg_ground.specs.Loops.{loop_of}
 use Rattle.sg_postman.specs.declared.steps.Step.{Step}
@@ -25,13 +25,13 @@ pub record PrintsJoin (g : Graph) (terminals text : List ℕ) (status : Status) 
   pub cuts : List Cut
   pub least : IsLeastJoin g terminals edges
   pub packs : CutsPack g terminals cuts
-  pub tight : sum_by cut_weight cuts ≡ 2 * weight_of g edges
+  pub tight : sum_by odd_cut_weight cuts ≡ 2 * weight_of g edges
   pub printed : text ≡ tjoin_text (pos (weight_of g edges)) edges (map loop_of cuts)
   pub done : status ≡ Done
 
 -- a step as a pair: its edge, and the node that it leads to
-abbrev pub pair_of : Step → ℕ × ℕ
-pair_of s = (s.edge, s.to)
+abbrev pub pair_of_step : Step → ℕ × ℕ
+pair_of_step s = (s.edge, s.to)
 
 -- a tour than which no closed walk over every edge weighs less, its weight, and a packing of odd cuts that proves it
 pub record PrintsTour (g : Graph) (text : List ℕ) (status : Status) : Type 0 where
@@ -39,7 +39,7 @@ pub record PrintsTour (g : Graph) (text : List ℕ) (status : Status) : Type 0 w
   pub steps : List Step
   pub cuts : List Cut
   pub least : IsLeastTour g weight steps cuts
-  pub printed : text ≡ postman_text weight (map pair_of steps) (map loop_of cuts)
+  pub printed : text ≡ postman_text weight (map pair_of_step steps) (map loop_of cuts)
   pub done : status ≡ Done
 
 -- what a task answers in a graph with these terminals

@@ -1,8 +1,6 @@
 -- What an input gives to a solver, an instance that is fit for it, and what it gives to the checker, an instance with a
 -- proof; or its first fault. The checker reads records alone.
-use Rattle.std.specs.Prelude.{◌≡◌, ℕ, true, false, None, Some, List, ⊤}
-use Rattle.sg_model.specs.declared.refusal.Fault.{Fault}
-use Rattle.sg_model.specs.declared.refusal.Fault.TheVariants.{Refused, NoMemory}
+use Rattle.std.specs.Prelude.{◌≡◌, ℕ, true, false, None, Some, List}
 use Rattle.sg_model.specs.declared.refusal.Refusal.{Refusal}
 use Rattle.sg_model.specs.Ising.{Ising}
 use Rattle.sg_reader.specs.Kept.{behind, kept_of}
@@ -13,6 +11,7 @@ use Rattle.sg_reader.specs.NoMore.{trailing_fault}
 use Rattle.sg_json.specs.Text.{is_object_text}
 use Rattle.sg_json.specs.ReadJson.{ReadsJson, RefusesJson}
 use Rattle.sg_planar.specs.Fit.{IsFit, IsUnfit}
+use Rattle.sg_model.specs.Faults.{OrNoMemory}
 
 -- the records of the text give the instance, and nothing stands behind its `end`
 pub record GivesRecords (bytes : List ℕ) (inst : Ising) : Type 0 where
@@ -36,21 +35,11 @@ pub data RefusesAlone (bytes : List ℕ) (refusal : Refusal) : Type 0 where
   AtTrailing : (inst : Ising) (after : ℕ) → ReadsInstance (kept_of bytes) inst after
       → trailing_fault (kept_of bytes) after ≡ Some refusal → RefusesAlone bytes refusal
 
--- why the records give no instance: their first fault, or want of memory, which may come at any time
-abbrev pub IsAloneFault : List ℕ → Fault → Type 0
-IsAloneFault bytes (Refused refusal) = RefusesAlone bytes refusal
-IsAloneFault bytes NoMemory = ⊤
-
 -- the first fault of a text: of the JSON object or of the records, or of the instance as a whole
 pub data RefusesText (bytes : List ℕ) (refusal : Refusal) : Type 0 where
   OfJson : is_object_text bytes ≡ true → RefusesJson bytes refusal → RefusesText bytes refusal
   OfRecords : is_object_text bytes ≡ false → RefusesAlone bytes refusal → RefusesText bytes refusal
   AtFitness : (inst : Ising) → GivesInstance bytes inst → IsUnfit inst refusal → RefusesText bytes refusal
-
--- why a text gives no instance to a solver: its first fault, or want of memory, which may come at any time
-abbrev pub RefusesBy : List ℕ → Fault → Type 0
-RefusesBy bytes (Refused refusal) = RefusesText bytes refusal
-RefusesBy bytes NoMemory = ⊤
 
 -- the records of the text give the instance and, behind it, what a proof states; nothing stands behind the last `end`
 pub record GivesProof (bytes : List ℕ) (inst : Ising) (stated : ResultText) : Type 0 where
@@ -69,8 +58,3 @@ pub data RefusesProof (bytes : List ℕ) (refusal : Refusal) : Type 0 where
   BehindResult : (inst : Ising) (after : ℕ) (stated : ResultText) (next : ℕ) → ReadsInstance (kept_of bytes) inst after
       → ReadsResult (behind after (kept_of bytes)) stated next
       → trailing_fault (kept_of bytes) next ≡ Some refusal → RefusesProof bytes refusal
-
--- why a text gives no proof to judge: its first fault, or want of memory, which may come at any time
-abbrev pub RefusesProofBy : List ℕ → Fault → Type 0
-RefusesProofBy bytes (Refused refusal) = RefusesProof bytes refusal
-RefusesProofBy bytes NoMemory = ⊤

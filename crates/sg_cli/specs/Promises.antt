@@ -71,7 +71,7 @@ pub record Takes (old new : Option (List ℕ)) : Type 0 where
       → new ≡ Some (drop (input_limit + 1) bytes)
 
 -- what a reading command has taken, by how the run ended: where it was stopped, no more than that, from the front
-abbrev pub Leaves : Status → Option (List ℕ) → Option (List ℕ) → Type 0
-Leaves ReadFault old new = LosesAtMost (input_limit + 1) old new
-Leaves NoMemory old new = LosesAtMost (input_limit + 1) old new
-Leaves _ old new = Takes old new
+abbrev pub LeavesSource : Status → Option (List ℕ) → Option (List ℕ) → Type 0
+LeavesSource ReadFault old new = LosesAtMost (input_limit + 1) old new
+LeavesSource NoMemory old new = LosesAtMost (input_limit + 1) old new
+LeavesSource _ old new = Takes old new

@@ -2,9 +2,10 @@
 // every graph.
 ghost use Rattle.std.specs.Prelude.{◌≡◌, ◌<◌, length, IfOk, IfErr};
 ghost use Rattle.sg_limits.specs.Limits.{text_limit};
-ghost use Rattle.sg_cli.specs.Input.{GivesProof, RefusesProofBy};
+ghost use Rattle.sg_cli.specs.Input.{GivesProof, RefusesProof};
 ghost use Rattle.sg_reply.specs.Exit.{IsAnswered};
 ghost use Rattle.sg_cli.specs.Served.{AnswersCheck, PrintsVerdict, status_by};
+ghost use Rattle.sg_model.specs.Faults.{OrNoMemory};
 
 use sg_check::{Checker, ResultText, Verdict};
 use sg_model::{Fault, Instance};
@@ -31,7 +32,7 @@ fn read_proof(alloc: Global, bytes: &[u8]) -> Result<(Instance, ResultText), Fau
     ensures gives { IfOk result (λ r. GivesProof bytes.now r.0 r.1) }
     ensures few_spins { IfOk result (λ r. length r.1.spins < text_limit) }
     ensures few_loops { IfOk result (λ r. length r.1.loops < text_limit) }
-    ensures refuses { IfErr result (RefusesProofBy bytes.now) }
+    ensures refuses { IfErr result (OrNoMemory (RefusesProof bytes.now)) }
 {
     let mut rows = Rows::new(alloc, bytes);
     let (instance, _) = read_instance(alloc, &mut rows)?;

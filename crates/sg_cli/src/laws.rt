@@ -4,7 +4,7 @@ ghost use Rattle.sg_io.specs.Devices.{FaultShown};
 ghost use Rattle.sg_words.specs.Command.{command_of};
 ghost use Rattle.sg_cli.specs.Laws.{Sends, WithAllLaws};
 ghost use Rattle.sg_reply.specs.Exit.{IsAnswered};
-ghost use Rattle.sg_cli.specs.Promises.{Leaves, reads, sink_faults, source_faults};
+ghost use Rattle.sg_cli.specs.Promises.{LeavesSource, reads, sink_faults, source_faults};
 
 use super::serve::run;
 use sg_io::{Sink, Source};
@@ -47,7 +47,7 @@ pub fn run_with_all_laws<S: Source, K: Sink>(
         ¬ FaultShown (K.faults sink.old) (K.faults sink.new) → status ≢ Status.NoMemory → IsAnswered status) }
 
     // What is left of the source; a command that does not read leaves it as it was.
-    ensures taken { IfOk result (λ status. reads (map string_bytes words.now) ≡ true → Leaves status (S.left source.old) (S.left source.new)) }
+    ensures taken { IfOk result (λ status. reads (map string_bytes words.now) ≡ true → LeavesSource status (S.left source.old) (S.left source.new)) }
     ensures unread { IfOk result (λ _. reads (map string_bytes words.now) ≡ false → source.new ≡ source.old) }
 {
     let mut laws: Vec<Box<dyn Disorder>> = Vec::new(alloc);

@@ -1,7 +1,7 @@
 // What `postman` answers.
 ghost use Rattle.std.specs.Prelude.{◌≡◌, map, IfOk};
 ghost use Rattle.sg_graph_text.specs.Network.{IsNetwork};
-ghost use Rattle.sg_cli.specs.Graphs.{PrintsTour, pair_of};
+ghost use Rattle.sg_cli.specs.Graphs.{PrintsTour, pair_of_step};
 ghost use Rattle.sg_reply.specs.Exit.{IsAnswered};
 
 use sg_graph_text::Network;
@@ -30,7 +30,7 @@ pub fn postman_reply(alloc: Global, network: &Network) -> Result<Reply, NoMemory
 
 // The steps as pairs of an edge and a node.
 fn step_pairs(alloc: Global, steps: &[Step]) -> Result<Vec<(u32, u32)>, NoMemory>
-    ensures { IfOk result (λ pairs. pairs.items ≡ map pair_of steps.now) }
+    ensures { IfOk result (λ pairs. pairs.items ≡ map pair_of_step steps.now) }
 {
     let mut pairs = Vec::new(alloc);
     for step in steps {

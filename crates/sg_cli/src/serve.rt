@@ -6,7 +6,7 @@ ghost use Rattle.sg_io.specs.Writing.{GrowsByPrefix};
 ghost use Rattle.sg_words.specs.Command.{command_of};
 ghost use Rattle.sg_cli.specs.Served.{AnswersText};
 ghost use Rattle.sg_reply.specs.Exit.{IsAnswered};
-ghost use Rattle.sg_cli.specs.Promises.{AnswersInPart, AnswersSource, AnswersWhole, Leaves, reads, sink_faults, source_faults, stop_faults, Takes};
+ghost use Rattle.sg_cli.specs.Promises.{AnswersInPart, AnswersSource, AnswersWhole, LeavesSource, reads, sink_faults, source_faults, stop_faults, Takes};
 
 use super::check::check_reply;
 use sg_draws::draw_reply;
@@ -59,7 +59,7 @@ pub fn run<S: Source, K: Sink>(
         ¬ FaultShown (K.faults sink.old) (K.faults sink.new) → result ≢ Status.NoMemory → IsAnswered result }
 
     // What is left of the source; a command that does not read leaves it as it was.
-    ensures taken { reads (map string_bytes words.now) ≡ true → Leaves result (S.left source.old) (S.left source.new) }
+    ensures taken { reads (map string_bytes words.now) ≡ true → LeavesSource result (S.left source.old) (S.left source.new) }
     ensures unread { reads (map string_bytes words.now) ≡ false → source.new ≡ source.old }
 {
     match parse_command(words) {

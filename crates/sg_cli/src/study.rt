@@ -2,9 +2,10 @@
 ghost use Rattle.std.specs.Prelude.{◌<◌, length, IfOk, IfErr};
 ghost use Rattle.sg_limits.specs.Limits.{text_limit};
 ghost use Rattle.sg_planar.specs.Fit.{IsFit};
-ghost use Rattle.sg_cli.specs.Input.{GivesFit, GivesInstance, GivesRecords, IsAloneFault, RefusesBy};
+ghost use Rattle.sg_cli.specs.Input.{GivesFit, GivesInstance, GivesRecords, RefusesAlone, RefusesText};
 ghost use Rattle.sg_reply.specs.Exit.{IsAnswered};
 ghost use Rattle.sg_cli.specs.Served.{AnswersFit, AnswersStudy};
+ghost use Rattle.sg_model.specs.Faults.{OrNoMemory};
 
 use super::bonds::bonds_reply;
 use super::clusters::clusters_reply;
@@ -38,7 +39,7 @@ pub fn study_reply(alloc: Global, study: Study, bytes: &[u8]) -> Result<Reply, N
 fn read_planar(alloc: Global, bytes: &[u8]) -> Result<Planar, Fault>
     requires { length bytes.now < text_limit }
     ensures gives { IfOk result (λ planar. GivesFit bytes.now planar.instance) }
-    ensures refuses { IfErr result (RefusesBy bytes.now) }
+    ensures refuses { IfErr result (OrNoMemory (RefusesText bytes.now)) }
 {
     match read_text(alloc, bytes) {
         Ok(instance) => Planar::test(alloc, instance),
@@ -50,7 +51,7 @@ fn read_planar(alloc: Global, bytes: &[u8]) -> Result<Planar, Fault>
 fn read_text(alloc: Global, bytes: &[u8]) -> Result<Instance, Fault>
     requires { length bytes.now < text_limit }
     ensures gives { IfOk result (GivesInstance bytes.now) }
-    ensures refuses { IfErr result (RefusesBy bytes.now) }
+    ensures refuses { IfErr result (OrNoMemory (RefusesText bytes.now)) }
 {
     if is_json(bytes) {
         read_json(alloc, bytes)
@@ -63,7 +64,7 @@ fn read_text(alloc: Global, bytes: &[u8]) -> Result<Instance, Fault>
 fn read_alone(alloc: Global, bytes: &[u8]) -> Result<Instance, Fault>
     requires { length bytes.now < text_limit }
     ensures gives { IfOk result (GivesRecords bytes.now) }
-    ensures refuses { IfErr result (IsAloneFault bytes.now) }
+    ensures refuses { IfErr result (OrNoMemory (RefusesAlone bytes.now)) }
 {
     let mut rows = Rows::new(alloc, bytes);
     match read_instance(alloc, &mut rows) {

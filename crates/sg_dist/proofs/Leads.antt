@@ -5,7 +5,7 @@ use Rattle.std.proofs.lemmas.Bool.{cases_Bool, false≢true}
 use Rattle.std.proofs.lemmas.List.Elements.{All-contains}
 use Rattle.std.proofs.lemmas.List.Sums.{sum_by-cons, sum_by-append}
 use Rattle.sg_graph.specs.Web.{Graph, edge_weight, weight_of}
-use Rattle.sg_graph.specs.Walk.{IsDistance, IsWalk}
+use Rattle.sg_graph.specs.Walk.{IsDistance, IsWebWalk}
 use Rattle.sg_graph.specs.Table.{Routes, is_reached, length_to}
 use Rattle.sg_graph.proofs.Walks.{distance-edge, walk-append, walk-one}
 use Rattle.sg_dist.specs.declared.candidate.Candidate.{Candidate}
@@ -13,7 +13,7 @@ use Rattle.sg_dist.specs.Search.{IsCandidate, Searches, candidate_over}
 
 module _ (g : Graph) (t : Routes) (heap : List Candidate) (s : Searches g t heap) where
   -- a walk from a node found to one that is not weighs at least as much as some candidate
-  walk_bound : (d : ℕ) → All (λ c. d ≤ c.distance) heap → (es : List ℕ) (v u : ℕ) → is_reached t v ≡ true → is_reached t u ≡ false → IsWalk g v es u
+  walk_bound : (d : ℕ) → All (λ c. d ≤ c.distance) heap → (es : List ℕ) (v u : ℕ) → is_reached t v ≡ true → is_reached t u ≡ false → IsWebWalk g v es u
       → d ≤ length_to t v + weight_of g es
   walk_bound d least [] v u found new w = absurd (false≢true (sym new ∙ ap (is_reached t) (sym w) ∙ found))
   walk_bound d least (e ∷ es) v u found new w = elim (cases_Bool (is_reached t w.0)) [
@@ -28,7 +28,7 @@ module _ (g : Graph) (t : Routes) (heap : List Candidate) (s : Searches g t heap
   ]
 
   -- the walk of a candidate
-  candidate_walk : (c : Candidate) → IsCandidate g t c → (es : List ℕ) × IsWalk g t.source es c.node × (weight_of g es ≡ c.distance)
+  candidate_walk : (c : Candidate) → IsCandidate g t c → (es : List ℕ) × IsWebWalk g t.source es c.node × (weight_of g es ≡ c.distance)
   candidate_walk c is =
       let way = (s.finds.right is.from is.reached).reached in (
         way.0 ++ c.edge ∷ [],
@@ -46,7 +46,7 @@ module _ (g : Graph) (t : Routes) (heap : List Candidate) (s : Searches g t heap
   }
 
 -- where no candidate is left, no walk leads out of the nodes found
-pub closed : (g : Graph) (t : Routes) → Searches g t [] → (es : List ℕ) (v u : ℕ) → is_reached t v ≡ true → IsWalk g v es u → is_reached t u ≡ true
+pub closed : (g : Graph) (t : Routes) → Searches g t [] → (es : List ℕ) (v u : ℕ) → is_reached t v ≡ true → IsWebWalk g v es u → is_reached t u ≡ true
 closed g t s [] v u found w = ap (is_reached t) (sym w) ∙ found
 closed g t s (e ∷ es) v u found w = elim (cases_Bool (is_reached t w.0)) [
   | inl on ↦ closed g t s es w.0 u on w.2

@@ -15,7 +15,7 @@ use Rattle.sg_graph.specs.Table.{IsNearer, IsWayBack, Route, Routes, distance_at
 use Rattle.sg_graph.proofs.Walks.{leads_low, other_only, turned}
 use Rattle.sg_graph.proofs.Tables.{distance_here, distance_there, length_here, length_there, parent_here, parent_reached, parent_there, reached_here, reached_kept, reached_there}
 use Rattle.sg_dist.specs.declared.candidate.Candidate.{Candidate}
-use Rattle.sg_dist.specs.Search.{Finds, IsCandidate, Searches, Spreads, candidate_over, inner_at, inner_weight, reached_count}
+use Rattle.sg_dist.specs.Search.{FindsNearest, IsCandidate, Searches, Spreads, candidate_over, inner_at, inner_weight, reached_count}
 use Rattle.sg_dist.proofs.Leads.{least_candidate}
 
 -- an edge that leads out of the nodes found is not between them
@@ -44,7 +44,7 @@ module _ (g : Graph) (t : Routes) where
       by_both false w = omega arith
 
   -- a step out of the nodes found weighs no more than all edges
-  pub outward : (heap : List Candidate) (e v u : ℕ) → Finds g t heap → is_reached t v ≡ true → Leads g e v u → is_reached t u ≡ false
+  pub outward : (heap : List Candidate) (e v u : ℕ) → FindsNearest g t heap → is_reached t v ≡ true → Leads g e v u → is_reached t u ≡ false
       → length_to t v + edge_weight g e ≤ total_weight g
   outward heap e v u f found l new =
       let none : inner_at t (get_or g.edges e (record { a = 0; b = 0; w = pos 0 })) ≡ 0 = not_inner e v u l new in
@@ -54,7 +54,8 @@ module _ (g : Graph) (t : Routes) where
       omega (arith, f.light v found)
 
   -- the distance of a candidate whose node is new is at most the weight of all edges
-  pub candidate_small : (heap : List Candidate) (c : Candidate) → Finds g t heap → IsCandidate g t c → is_reached t c.node ≡ false → c.distance ≤ total_weight g
+  pub candidate_small : (heap : List Candidate) (c : Candidate) → FindsNearest g t heap → IsCandidate g t c → is_reached t c.node ≡ false
+      → c.distance ≤ total_weight g
   candidate_small heap c f is new = omega (arith, is.distance, outward heap c.edge is.from c.node f is.reached is.leads new)
 
 in_rest : (c x : Candidate) (rest : List Candidate) → Contains (c ∷ rest) x → (x ≡ c) ⊎ Contains rest x
@@ -191,7 +192,7 @@ module _ (g : Graph) (t : Routes) (heap rest : List Candidate) (c : Candidate) (
             ∙ sym (other_only g e x near.from (turned g e near.from x near.leads))) ∙ near.reached
 
     -- what was found stays right
-    Finds-found : Finds g found rest
+    Finds-found : FindsNearest g found rest
     Finds-found = record {
       count = length-set t.to c.node (Some (record { distance = pos c.distance; edge = c.edge })) ∙ s.finds.count;
       home = kept t.source s.finds.home;

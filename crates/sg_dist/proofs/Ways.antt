@@ -8,7 +8,7 @@ use Rattle.std.proofs.lemmas.List.Sorted.{IsPermutation-reverse, sum_by-IsPermut
 use Rattle.std.proofs.lemmas.List.Sums.{sum_by-cons}
 use Rattle.sg_graph.specs.declared.web.Edge.{Edge}
 use Rattle.sg_graph.specs.Web.{Graph, edge_at, edge_weight, weight_of}
-use Rattle.sg_graph.specs.Walk.{IsWalk, Leads, other_end}
+use Rattle.sg_graph.specs.Walk.{IsWebWalk, Leads, other_end}
 use Rattle.sg_graph.specs.Table.{IsTableOf, IsWayBack, Routes, is_reached, length_to, parent_at}
 use Rattle.sg_graph.proofs.Walks.{distance-itself, other_only, turned, walk-append, walk-one}
 use Rattle.sg_graph.proofs.Tables.{parent_reached, reached_low}
@@ -77,10 +77,10 @@ module _ (g : Graph) (t : Routes) where
       AllPairs-cons (λ a b. a ≢ b) e es (All-from_get_or (λ f. e ≢ f) es 0 (λ k l. first_once e es x k l w)) (way_once es w.0 w.3)
 
   -- turned round it is a walk from the source
-  pub way_walk : (es : List ℕ) (x y : ℕ) → IsWayBack g t x es y → IsWalk g y (reverse es) x
+  pub way_walk : (es : List ℕ) (x y : ℕ) → IsWayBack g t x es y → IsWebWalk g y (reverse es) x
   way_walk [] x y w = sym w
   way_walk (e ∷ es) x y w =
-      subst (λ fs. IsWalk g y fs x) (sym (reverse-append (e ∷ []) es))
+      subst (λ fs. IsWebWalk g y fs x) (sym (reverse-append (e ∷ []) es))
       (walk-append g (reverse es) (e ∷ []) y w.0 x (way_walk es w.0 y w.3) (walk-one g e w.0 x w.2))
 
   -- a list turned round weighs the same

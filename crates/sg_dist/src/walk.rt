@@ -1,7 +1,7 @@
 ghost use Rattle.std.specs.Prelude.{◌≡◌, ◌≢◌, reverse, IfOk, IsTrue};
 ghost use Rattle.std.specs.List.{AllPairs};
 ghost use Rattle.sg_graph.specs.Web.{weight_of};
-ghost use Rattle.sg_graph.specs.Walk.{IsWalk};
+ghost use Rattle.sg_graph.specs.Walk.{IsWebWalk};
 ghost use Rattle.sg_graph.specs.Table.{IsTableOf, IsWayBack, is_reached, length_to};
 
 use super::NoMemory;
@@ -13,7 +13,7 @@ use std::alloc::Global;
 pub fn path(alloc: Global, web: &Web, table: &Table, to: u32) -> Result<EdgeList, NoMemory>
     requires table { IsTableOf web.now table.now }
     requires reached { IsTrue (is_reached table.now to) }
-    ensures walk { IfOk result (λ edges. IsWalk web.now table.now.source edges to) }
+    ensures walk { IfOk result (λ edges. IsWebWalk web.now table.now.source edges to) }
     ensures shortest { IfOk result (λ edges. weight_of web.now edges ≡ length_to table.now to) }
     ensures none_twice { IfOk result (AllPairs (λ e f. e ≢ f)) }
 {

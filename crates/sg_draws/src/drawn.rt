@@ -2,9 +2,10 @@
 ghost use Rattle.std.specs.Prelude.{◌≡◌, ℕ, length, All, IfErr, IfOk};
 ghost use Rattle.sg_lattice.specs.Tables.{bond_total};
 ghost use Rattle.sg_laws.specs.Stream.{IsDraw};
-ghost use Rattle.sg_planar.specs.Fit.{IsFit, IsPlanar, IsUnfitFault};
+ghost use Rattle.sg_planar.specs.Fit.{IsFit, IsPlanar, IsUnfit};
 ghost use Rattle.sg_words.specs.Command.{IsAllowedSize};
 ghost use Rattle.sg_draws.specs.Drawn.{drawn_couplings, drawn_lattice as lattice_of};
+ghost use Rattle.sg_model.specs.Faults.{OrNoMemory};
 
 use sg_lattice::{Kind, bond_count, build};
 use sg_laws::{Disorder, draws, start};
@@ -62,7 +63,7 @@ pub fn drawn_planar(
     ensures lattice { IfOk result (λ p. p.instance ≡ lattice_of kind size (seeded law.old seed)) }
     ensures fit { IfOk result (λ p. IsFit p.instance) }
     ensures planar { IfOk result IsPlanar }
-    ensures unfit { IfErr result (IsUnfitFault (lattice_of kind size (seeded law.old seed))) }
+    ensures unfit { IfErr result (OrNoMemory (IsUnfit (lattice_of kind size (seeded law.old seed)))) }
     ensures seeds { (s c : ℕ) → seeded law.new s c ≡ seeded law.old s c }
 {
     let lattice = drawn_lattice(alloc, law, seed, kind, size)?;

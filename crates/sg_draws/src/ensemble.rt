@@ -2,7 +2,8 @@
 ghost use Rattle.std.specs.Prelude.{◌≤◌, IfOk};
 ghost use Rattle.sg_lattice.specs.declared.kind.Kind.TheVariants.{Cylinder};
 ghost use Rattle.sg_ensemble.specs.Samples.{IsCylinder};
-ghost use Rattle.sg_words.specs.Command.{IsAllowedSize, sample_limit};
+ghost use Rattle.sg_words.specs.Command.{IsAllowedSize};
+ghost use Rattle.sg_limits.specs.Limits.{sample_limit};
 ghost use Rattle.sg_reply.specs.Exit.{IsAnswered};
 ghost use Rattle.sg_draws.specs.Drawn.{AnswersEnsemble, PrintsEnsemble};
 

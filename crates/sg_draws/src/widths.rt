@@ -1,13 +1,15 @@
 // What `widths` answers.
 ghost use Rattle.std.specs.Prelude.{◌≡◌, ◌≤◌, ◌-◌, ℕ, map, IfErr, IfOk, OnOk};
 ghost use Rattle.sg_lattice.specs.declared.kind.Kind.TheVariants.{Cylinder};
-ghost use Rattle.sg_planar.specs.Fit.{IsFit, IsUnfitFault};
+ghost use Rattle.sg_planar.specs.Fit.{IsFit, IsUnfit};
 ghost use Rattle.sg_ensemble.specs.Widths.{AreWidths, IsWidth};
 ghost use Rattle.sg_report.specs.Ensembles.{widths_text as widths_bytes};
-ghost use Rattle.sg_words.specs.Command.{IsAllowedSize, sample_limit, width_limit};
+ghost use Rattle.sg_words.specs.Command.{IsAllowedSize};
+ghost use Rattle.sg_limits.specs.Limits.{width_limit, sample_limit};
 ghost use Rattle.sg_reply.specs.Exit.{IsAnswered};
 ghost use Rattle.sg_draws.specs.Drawn.{AnswersWidths, IsWidthFault, drawn_lattice};
 ghost use Rattle.sg_reply.specs.declared.status.Status.TheVariants.{Done as IsDone};
+ghost use Rattle.sg_model.specs.Faults.{OrNoMemory};
 
 use super::drawn::drawn_planar;
 use sg_ensemble::{Width, WidthList, width_on};
@@ -84,7 +86,7 @@ fn sums_of(
     requires few { count ≤ sample_limit }
     ensures fit { OnOk result (IsFit (drawn_lattice Cylinder size (seeded law.old seed))) }
     ensures width { IfOk result (IsWidth size.rows size.cols count (seeded law.old seed)) }
-    ensures unfit { IfErr result (IsUnfitFault (drawn_lattice Cylinder size (seeded law.old seed))) }
+    ensures unfit { IfErr result (OrNoMemory (IsUnfit (drawn_lattice Cylinder size (seeded law.old seed)))) }
     ensures seeds { (s c : ℕ) → seeded law.new s c ≡ seeded law.old s c }
 {
     match drawn_planar(alloc, law, seed, Kind::Cylinder, size) {

@@ -12,7 +12,7 @@ use Rattle.sg_faces.proofs.BareSpins.{faces_bonded}
 use Rattle.sg_model.proofs.DartPairs.{dart_cases, rev_rev, rev_below}
 use Rattle.sg_model.proofs.CyclicLists.{following_inner}
 use Rattle.sg_model.proofs.Rotations.{spin_distinct, in_list, tail_below, place_at, next_is, next_in_list}
-use Rattle.sg_graph.specs.Walk.{IsReached, IsConnected}
+use Rattle.sg_graph.specs.Walk.{IsReached, IsConnectedWeb}
 use Rattle.sg_graph.proofs.Walks.{walk-append, walk-back, walk-one}
 use Rattle.sg_dual.specs.Dual.{face_of, dual_web}
 use Rattle.sg_dual.proofs.DualWebs.{dual_leads, one_face_alone}
@@ -107,7 +107,7 @@ module _ (inst : Ising) (faces : Labelling) where
         (linked_on s.0 (rev s.0) e (linked_across s.0 s.1) (linked_along path c b w.1 (rev s.0) e (rev_below inst s.0 s.1) m s.3 q))
 
     -- the dual of a connected instance is connected
-    pub dual_connected : IsConnectedInstance inst → IsConnected (dual_web inst faces)
+    pub dual_connected : IsConnectedInstance inst → IsConnectedWeb (dual_web inst faces)
     dual_connected whole x l = elim (cases_eq (bond_count inst) 0) [
       | inl none ↦ (let first : 0 ≡ x = omega (arith, one_face_alone inst faces labels good whole none) in ([], first))
       | inr some ↦

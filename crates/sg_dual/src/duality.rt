@@ -6,7 +6,7 @@ ghost use Rattle.sg_model.specs.WellFormed.{IsInstance};
 ghost use Rattle.sg_model.specs.Connected.{IsConnected as IsConnectedInstance};
 ghost use Rattle.sg_faces.specs.Faces.{IsFaceLabels};
 ghost use Rattle.sg_graph.specs.Join.{AreTerminals};
-ghost use Rattle.sg_graph.specs.Walk.{IsConnected};
+ghost use Rattle.sg_graph.specs.Walk.{IsConnectedWeb};
 ghost use Rattle.sg_sums.specs.Sets.{is_marked};
 ghost use Rattle.sg_dual.specs.Dual.{dual_edge, dual_web, is_frustrated, frustrated_faces};
 
@@ -31,7 +31,7 @@ pub fn dual(alloc: Global, inst: &Instance, faces: &Faces) -> Result<(Web, Termi
     ensures frustrated { IfOk result (λ d. d.1 ≡ frustrated_faces inst.now faces.now) }
     ensures terminals { IfOk result (λ d. AreTerminals d.0 d.1) }
     ensures even { IfOk result (λ d. length d.1 % 2 ≡ 0) }
-    ensures connected { IfOk result (λ d. IsConnectedInstance inst.now → IsConnected d.0) }
+    ensures connected { IfOk result (λ d. IsConnectedInstance inst.now → IsConnectedWeb d.0) }
 {
     let edges = dual_edges(alloc, inst, faces)?;
     let marks = frustration(alloc, inst, faces)?;

@@ -21,13 +21,14 @@ use Rattle.sg_model.proofs.SameEnds.{recoupled_instance}
 use Rattle.sg_model.specs.WellFormed.{IsInstance}
 use Rattle.sg_laws.specs.Stream.{IsDraw}
 use Rattle.sg_lattice.specs.declared.kind.Kind.TheVariants.{Cylinder}
-use Rattle.sg_lattice.specs.Tables.{IsSize, bond_total, coupled_bond, ends_at, ends_of, lattice}
+use Rattle.sg_lattice.specs.Tables.{IsSize, bond_total, coupled_bond, bond_ends, ends_of, lattice}
 use Rattle.sg_lattice.proofs.LatticeBonds.{bond_count_is, bond_is, length-ends_of}
 use Rattle.sg_faces.proofs.SameFaces.{is_euler_same, one_euler}
 use Rattle.sg_planar.proofs.OtherCouplings.{weight_flipped}
 use Rattle.sg_wall.specs.Wall.{IsWall}
-use Rattle.sg_planar.specs.Fit.{IsFit, IsUnfit, IsUnfitFault}
+use Rattle.sg_planar.specs.Fit.{IsFit, IsUnfit}
 use Rattle.sg_ensemble.specs.Samples.{IsSpherical, IsStudied, draw_count}
+use Rattle.sg_model.specs.Faults.{OrNoMemory}
 
 abbrev no_bond : Bond
 no_bond = record { u = 0; v = 0; j = pos 0 }
@@ -83,8 +84,8 @@ module _ (rows cols : ℕ) (size : IsStudied rows cols) (j : List ℤ) (count : 
   }
     where
       ends : (f : Bond → ℕ)
-          → ((i : ℕ) → f (coupled_bond (ends_at (ends_of Cylinder rows cols) i) (get_or j i (pos 0))) ≡ f
-          (coupled_bond (ends_at (ends_of Cylinder rows cols) i) (get_or other i (pos 0))))
+          → ((i : ℕ) → f (coupled_bond (bond_ends (ends_of Cylinder rows cols) i) (get_or j i (pos 0))) ≡ f
+          (coupled_bond (bond_ends (ends_of Cylinder rows cols) i) (get_or other i (pos 0))))
           → (k : ℕ) →
           f (bond_at (lattice Cylinder rows cols j) k) ≡ f (bond_at (lattice Cylinder rows cols other) k)
       ends f same k = elim (cases_lt k (bond_total Cylinder rows cols)) [
@@ -113,8 +114,8 @@ fit_not_unfit inst h (NotPlanar e) u = u.2 (one_euler inst e (pos 2) u.1 h.genus
 fit_not_unfit inst h _ u = u
 
 -- so it is not refused
-pub fit_not_refused : (inst : Ising) → IsFit inst → (fault : Fault) (refusal : Refusal) → fault ≡ Refused refusal → IsUnfitFault inst fault → ⊥
-fit_not_refused inst h fault refusal e unfit = fit_not_unfit inst h refusal (subst (IsUnfitFault inst) e unfit)
+pub fit_not_refused : (inst : Ising) → IsFit inst → (fault : Fault) (refusal : Refusal) → fault ≡ Refused refusal → OrNoMemory (IsUnfit inst) fault → ⊥
+fit_not_refused inst h fault refusal e unfit = fit_not_unfit inst h refusal (subst (OrNoMemory (IsUnfit inst)) e unfit)
 
 -- the energy of a wall is at most twice the weight of all bonds in size
 pub wall_size : (inst : Ising) (p a d : ℤ) → IsInstance inst → IsWall inst p a d → unsigned_abs d ≤ 2 * weight inst

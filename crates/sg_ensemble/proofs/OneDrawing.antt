@@ -11,7 +11,7 @@ use Rattle.sg_model.specs.Changes.{coupled_at, coupled_bonds, recoupled, with_bo
 use Rattle.sg_laws.specs.Stream.{IsDraw}
 use Rattle.sg_lattice.specs.declared.kind.Kind.{Kind}
 use Rattle.sg_lattice.specs.declared.kind.Kind.TheVariants.{Cylinder}
-use Rattle.sg_lattice.specs.Tables.{coupled, coupled_bond, ends_at, ends_of, lattice}
+use Rattle.sg_lattice.specs.Tables.{coupled, coupled_bond, bond_ends, ends_of, lattice}
 use Rattle.sg_lattice.proofs.LatticeBonds.{bond_count_is}
 use Rattle.sg_ensemble.specs.Samples.{IsCylinder, IsStudied, draw_count}
 use Rattle.sg_ensemble.proofs.DrawnCylinders.{drawn_weight, studied_size}
@@ -22,7 +22,7 @@ no_bond = record { u = 0; v = 0; j = pos 0 }
 -- the bonds of a lattice, with other couplings put in
 module _ (kind : Kind) (rows cols : ℕ) (old new : List ℤ) where
   abbrev bond_of : List ℤ → ℕ → Bond
-  bond_of couplings k = coupled_bond (ends_at (ends_of kind rows cols) k) (get_or couplings k (pos 0))
+  bond_of couplings k = coupled_bond (bond_ends (ends_of kind rows cols) k) (get_or couplings k (pos 0))
 
   count_is : length (coupled (ends_of kind rows cols) old) ≡ length (ends_of kind rows cols)
   count_is = length-map-range_with_len (bond_of old) 0 (length (ends_of kind rows cols))

@@ -1,6 +1,6 @@
 ghost use Rattle.std.specs.Prelude.{◌≡◌, ◌≤◌, ◌+◌, ◌-◌, ◌*◌, ℕ, IfOk, OnErr, OnOk};
 ghost use Rattle.sg_laws.specs.Stream.{Draws};
-ghost use Rattle.sg_limits.specs.Limits.{spin_limit};
+ghost use Rattle.sg_limits.specs.Limits.{sample_limit, spin_limit, width_limit};
 ghost use Rattle.sg_ensemble.specs.Samples.{DrawsSamples, IsCylinder, IsSpherical, IsStudied, draw_count};
 ghost use Rattle.sg_ensemble.specs.Widths.{AreWidths, IsWidth, StopsAtWidth};
 
@@ -37,10 +37,10 @@ pub fn widths(
 ) -> Result<WidthList, NoMemory>
     requires has_row { 1 ≤ rows }
     requires closes { 3 ≤ max_cols }
-    requires narrow { max_cols ≤ 64 }
+    requires narrow { max_cols ≤ width_limit }
     requires spins { rows * max_cols ≤ spin_limit }
     requires some { 1 ≤ count }
-    requires few { count ≤ 1000 }
+    requires few { count ≤ sample_limit }
     requires spherical { (cols : ℕ) → 3 ≤ cols → cols ≤ max_cols → IsSpherical rows cols }
     ensures widths { IfOk result (AreWidths rows count (seeded law.old seed) (max_cols - 2)) }
     ensures rest { OnOk result (Draws (count * draw_count rows max_cols) (seeded law.old seed) (next law.new)) }
@@ -68,7 +68,7 @@ fn one_width(
     requires size { IsStudied rows cols }
     requires spherical { IsSpherical rows cols }
     requires some { 1 ≤ count }
-    requires few { count ≤ 1000 }
+    requires few { count ≤ sample_limit }
     ensures width { IfOk result (IsWidth rows cols count (seeded law.old seed)) }
     ensures rest { OnOk result (Draws (count * draw_count rows cols) (seeded law.old seed) (next law.new)) }
     ensures made { DrawsSamples rows cols count (seeded law.old seed) (next law.new) }
@@ -95,7 +95,7 @@ pub fn width_on(
     requires size { IsStudied rows cols }
     requires cylinder { IsCylinder rows cols drawing.instance }
     requires some { 1 ≤ count }
-    requires few { count ≤ 1000 }
+    requires few { count ≤ sample_limit }
     ensures width { IfOk result (IsWidth rows cols count (seeded law.old seed)) }
     ensures rest { OnOk result (Draws (count * draw_count rows cols) (seeded law.old seed) (next law.new)) }
     ensures made { DrawsSamples rows cols count (seeded law.old seed) (next law.new) }

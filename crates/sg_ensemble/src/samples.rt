@@ -1,5 +1,6 @@
 ghost use Rattle.std.specs.Prelude.{◌≡◌, ◌≤◌, ◌*◌, ◌^◌, ℕ, All, IfOk, OnOk, unsigned_abs};
 ghost use Rattle.sg_laws.specs.Stream.{Draws};
+ghost use Rattle.sg_limits.specs.Limits.{sample_limit};
 ghost use Rattle.sg_ensemble.specs.Samples.{AreWalls, DrawsSamples, IsCylinder, IsSpherical, IsStudied, draw_count, total, total_of_squares};
 
 use super::drawing::{drawing_of, know_counts, next_sample, seam_wall};
@@ -35,7 +36,7 @@ pub fn ensemble(
     requires size { IsStudied rows cols }
     requires spherical { IsSpherical rows cols }
     requires some { 1 ≤ count }
-    requires few { count ≤ 1000 }
+    requires few { count ≤ sample_limit }
     ensures walls { IfOk result (λ a. AreWalls rows cols count (next law.old (count * draw_count rows cols)) a.walls) }
     ensures sum { IfOk result (λ a. a.sum ≡ total a.walls) }
     ensures squares { IfOk result (λ a. a.squares ≡ total_of_squares a.walls) }
@@ -62,7 +63,7 @@ pub fn ensemble_on(
     requires size { IsStudied rows cols }
     requires cylinder { IsCylinder rows cols drawing.instance }
     requires some { 1 ≤ count }
-    requires few { count ≤ 1000 }
+    requires few { count ≤ sample_limit }
     ensures walls { IfOk result (λ a. AreWalls rows cols count (next law.old (count * draw_count rows cols)) a.walls) }
     ensures sum { IfOk result (λ a. a.sum ≡ total a.walls) }
     ensures squares { IfOk result (λ a. a.squares ≡ total_of_squares a.walls) }

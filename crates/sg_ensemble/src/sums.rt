@@ -1,10 +1,11 @@
 // The sum of wall energies, and the sum of their squares.
 ghost use Rattle.std.specs.Prelude.{◌≡◌, ◌≤◌, ◌*◌, ◌^◌, ◌*ℤ◌, length, All, unsigned_abs};
+ghost use Rattle.sg_limits.specs.Limits.{sample_limit};
 ghost use Rattle.sg_ensemble.specs.Samples.{total, total_of_squares};
 
 /// The sum of at most 1000 wall energies.
 pub fn sum(walls: &[i64]) -> i64
-    requires few { length walls.now ≤ 1000 }
+    requires few { length walls.now ≤ sample_limit }
     requires small { All (λ d. unsigned_abs d ≤ 2 ^ 33) walls.now }
     ensures { result ≡ total walls.now }
 {
@@ -17,7 +18,7 @@ pub fn sum(walls: &[i64]) -> i64
 
 /// The sum of the squares of at most 1000 wall energies.
 pub fn sum_of_squares(walls: &[i64]) -> i128
-    requires few { length walls.now ≤ 1000 }
+    requires few { length walls.now ≤ sample_limit }
     requires small { All (λ d. unsigned_abs d ≤ 2 ^ 33) walls.now }
     ensures { result ≡ total_of_squares walls.now }
 {

@@ -3,7 +3,7 @@ use Rattle.std.proofs.Common.{inl, inr, ◌≡◌, ◌≢◌, ℕ, zero, suc, �
 use Rattle.std.proofs.lemmas.List.{map-id, length-replicate, get_or-replicate, length-set, get_or-set_same, get_or-set_other}
 use Rattle.std.proofs.lemmas.List.Sums.{list_all-from_AllPass, sum_by-set, count_by-le-length}
 use Rattle.std.proofs.lemmas.Bool.{eq-eqb, ne_eqb, cases_eq, cases_lt, le-leb, lt-leb, leb-true}
-use Rattle.sg_faces.specs.Tables.{entry, IsMove, moves, is_least_of, least_before, unlabelled, HasLabel, Root, LabelsOrbits, IsOrbitLabels}
+use Rattle.sg_faces.specs.Tables.{table_value, IsMove, moves, is_least_of, least_before, unlabelled, HasLabel, Root, LabelsOrbits, IsOrbitLabels}
 use Rattle.sg_faces.specs.Orbits.{SameOrbit}
 use Rattle.std.specs.List.{range_with_len, list_all}
 use Rattle.std.proofs.lemmas.List.FromFn.{length-range_with_len, get_or-range_with_len, sum_by-map-range_with_len_more}
@@ -381,14 +381,14 @@ all_labelled table labels count limit move h all counted = record {
         let same : r.first ≡ d = omega (arith, r.least d b refl, up) in
         r.rank ∙ ap (λ n. least_before table n) same
 
-    one_orbit : (d e : ℕ) → d < length table → e < length table → get_or labels d 0 ≡ get_or labels e 0 → SameOrbit (entry table) d e
+    one_orbit : (d e : ℕ) → d < length table → e < length table → get_or labels d 0 ≡ get_or labels e 0 → SameOrbit (table_value table) d e
     one_orbit d e b c same =
         let r : Root table labels limit (get_or labels d 0) = h.roots (get_or labels d 0) (h.below d b (all d b)) in
         let back : (j : ℕ) × (j < length table) × (moves table j d ≡ r.first) = r.back d b refl in
         let on : (j : ℕ) × (moves table j r.first ≡ e) = r.to e c (sym same) in
         (on.0 + back.0, sym (moves_add table on.0 back.0 d) ∙ ap (moves table on.0) back.2 ∙ on.1)
 
-    one_label : (d e : ℕ) → d < length table → SameOrbit (entry table) d e → get_or labels d 0 ≡ get_or labels e 0
+    one_label : (d e : ℕ) → d < length table → SameOrbit (table_value table) d e → get_or labels d 0 ≡ get_or labels e 0
     one_label d e b (j, s) = sym (onward_all table labels count limit h move j d b (all d b)) ∙ ap (λ x. get_or labels x 0) s
 
 -- a count over one number more

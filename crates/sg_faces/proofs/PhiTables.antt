@@ -5,7 +5,7 @@ use Rattle.std.proofs.lemmas.List.Elements.{All-from_get_or}
 use Rattle.std.proofs.lemmas.Bool.{cases_eq, cases_lt}
 use Rattle.sg_model.specs.Ising.{Ising}
 use Rattle.sg_model.specs.Rotation.{dart_count, darts_of, following, rev, tail}
-use Rattle.sg_model.specs.Seam.{IsDistinct}
+use Rattle.sg_sums.specs.Sets.{DifferByCount}
 use Rattle.sg_model.specs.WellFormed.{IsInstance}
 use Rattle.sg_faces.specs.Faces.{phi}
 use Rattle.sg_faces.specs.Tables.{HasPhi, IsPhiTable}
@@ -19,7 +19,7 @@ pub record IsAfter (n i after : ℕ) : Type 0 where
   pub last : n ≤ i + 1 → after ≡ 0
 
 -- the dart behind one in a list, by places
-pub following_after : (darts : List ℕ) (i after : ℕ) → IsDistinct darts → i < length darts → IsAfter (length darts) i after →
+pub following_after : (darts : List ℕ) (i after : ℕ) → DifferByCount darts → i < length darts → IsAfter (length darts) i after →
     following darts (get_or darts i 0) ≡ get_or darts after 0
 following_after darts i after once l at = elim (cases_lt (i + 1) (length darts)) [
   | inl b ↦ following_inner darts once i b ∙ ap (λ k. get_or darts k 0) (sym (at.inner b))
@@ -27,7 +27,7 @@ following_after darts i after once l at = elim (cases_lt (i + 1) (length darts))
 ]
 
 -- one dart more is linked
-module _ (darts table : List ℕ) (i after : ℕ) (once : IsDistinct darts) (l : i < length darts) (room : All (λ d. rev d < length table) darts)
+module _ (darts table : List ℕ) (i after : ℕ) (once : DifferByCount darts) (l : i < length darts) (room : All (λ d. rev d < length table) darts)
     (at : IsAfter (length darts) i after) where
   -- one dart more of a list is entered
   pub linked_more : ((k : ℕ) → k < i → get_or table (rev (get_or darts k 0)) 0 ≡ following darts (get_or darts k 0)) →

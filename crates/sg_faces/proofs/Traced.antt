@@ -9,7 +9,7 @@ use Rattle.sg_model.specs.Rotation.{dart_count}
 use Rattle.sg_model.specs.WellFormed.{IsInstance}
 use Rattle.sg_faces.specs.Orbits.{after_steps, SameOrbit, is_least_in, orbits_before, IsOneToOne}
 use Rattle.sg_faces.specs.Faces.{bare_count, phi, is_least, faces_before, Labelling, SameFace, IsFaceLabels}
-use Rattle.sg_faces.specs.Tables.{entry, IsMove, is_least_of, least_before, IsOrbitLabels, IsPhiTable}
+use Rattle.sg_faces.specs.Tables.{table_value, IsMove, is_least_of, least_before, IsOrbitLabels, IsPhiTable}
 use Rattle.sg_faces.proofs.PhiPermutes.{phi_one_to_one}
 
 list_all_same : (p q : ℕ → Bool) → ((x : ℕ) → p x ≡ q x) → (xs : List ℕ) → list_all p xs ≡ list_all q xs
@@ -66,7 +66,7 @@ label_below inst faces labels d l = (let low : get_or faces.labels d 0 < faces_b
     (arith, low, labels.counts))
 
 module _ (inst : Ising) (good : IsInstance inst) (table : List ℕ) (is : IsPhiTable inst table) where
-  at_dart : (d : ℕ) → d < length table → entry table d ≡ phi inst d
+  at_dart : (d : ℕ) → d < length table → table_value table d ≡ phi inst d
   at_dart d l = is.entries d (omega (arith, is.lengths))
 
   one : IsOneToOne (phi inst) (length table)
@@ -74,14 +74,14 @@ module _ (inst : Ising) (good : IsInstance inst) (table : List ℕ) (is : IsPhiT
 
   -- the table of `phi` leads from places to places, one-to-one
   pub phi_table_moves : IsMove table
-  phi_table_moves = one_to_one_same (entry table) (phi inst) (length table) one at_dart
+  phi_table_moves = one_to_one_same (table_value table) (phi inst) (length table) one at_dart
 
   least_same : (d : ℕ) → d < dart_count inst → is_least_of table d ≡ is_least inst d
-  least_same d l = is_least_same (entry table) (phi inst) (length table) one at_dart d (omega (arith, is.lengths))
+  least_same d l = is_least_same (table_value table) (phi inst) (length table) one at_dart d (omega (arith, is.lengths))
       ∙ ap (λ k. is_least_in (phi inst) k d) is.lengths
 
   counted : (n : ℕ) → n ≤ dart_count inst → least_before table n ≡ faces_before inst n
-  counted n l = orbits_before_same (entry table) (phi inst) (length table) one at_dart n (omega (arith, is.lengths))
+  counted n l = orbits_before_same (table_value table) (phi inst) (length table) one at_dart n (omega (arith, is.lengths))
       ∙ ap (λ k. orbits_before (phi inst) k n) is.lengths
 
   -- the labels of the orbits, and the spins without a bond counted beside them
@@ -100,9 +100,9 @@ module _ (inst : Ising) (good : IsInstance inst) (table : List ℕ) (is : IsPhiT
       all : orbits ≡ faces_before inst (dart_count inst)
       all = h.counts ∙ ap (least_before table) is.lengths ∙ counted (dart_count inst) (omega arith)
 
-      there : (d e : ℕ) → d < dart_count inst → SameOrbit (entry table) d e → SameFace inst d e
-      there d e l (j, s) = (j, sym (after_steps_same (entry table) (phi inst) (length table) one at_dart j d (omega (arith, is.lengths))) ∙ s)
+      there : (d e : ℕ) → d < dart_count inst → SameOrbit (table_value table) d e → SameFace inst d e
+      there d e l (j, s) = (j, sym (after_steps_same (table_value table) (phi inst) (length table) one at_dart j d (omega (arith, is.lengths))) ∙ s)
 
       back : (d e : ℕ) → d < dart_count inst → e < dart_count inst → SameFace inst d e → get_or labels d 0 ≡ get_or labels e 0
       back d e l m (j, s) = (h.same d e (omega (arith, is.lengths)) (omega (arith, is.lengths))).1
-          (j, after_steps_same (entry table) (phi inst) (length table) one at_dart j d (omega (arith, is.lengths)) ∙ s)
+          (j, after_steps_same (table_value table) (phi inst) (length table) one at_dart j d (omega (arith, is.lengths)) ∙ s)

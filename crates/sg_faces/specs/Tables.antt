@@ -6,24 +6,24 @@ use Rattle.sg_faces.specs.Orbits.{after_steps, SameOrbit, is_least_in, orbits_be
 use Rattle.sg_faces.specs.Faces.{phi}
 
 -- the value at place d
-abbrev pub entry : List ℕ → ℕ → ℕ
-entry table d = slice_index table d
+abbrev pub table_value : List ℕ → ℕ → ℕ
+table_value table d = slice_index table d
 
 -- different entries, each a place of the table
 abbrev pub IsMove : List ℕ → Type 0
-IsMove table = IsOneToOne (entry table) (length table)
+IsMove table = IsOneToOne (table_value table) (length table)
 
 -- the place that j moves lead to
 abbrev pub moves : List ℕ → ℕ → ℕ → ℕ
-moves table j d = after_steps (entry table) j d
+moves table j d = after_steps (table_value table) j d
 
 -- whether no place of the orbit of d is less than d
 abbrev pub is_least_of : List ℕ → ℕ → Bool
-is_least_of table d = is_least_in (entry table) (length table) d
+is_least_of table d = is_least_in (table_value table) (length table) d
 
 -- how many places before d are the least of their orbits
 abbrev pub least_before : List ℕ → ℕ → ℕ
-least_before table d = orbits_before (entry table) (length table) d
+least_before table d = orbits_before (table_value table) (length table) d
 
 -- what stands at a place without a label
 abbrev pub unlabelled : ℕ
@@ -59,7 +59,7 @@ pub record IsOrbitLabels (table labels : List ℕ) (count : ℕ) : Type 0 where
   pub lengths : length labels ≡ length table
   pub below : (d : ℕ) → d < length table → slice_index labels d < count
   pub same : (d e : ℕ) → d < length table → e < length table →
-      (slice_index labels d ≡ slice_index labels e) ↔ SameOrbit (entry table) d e
+      (slice_index labels d ≡ slice_index labels e) ↔ SameOrbit (table_value table) d e
   pub used : (f : ℕ) → f < count → (d : ℕ) × (d < length table) × (slice_index labels d ≡ f)
   pub order : (d : ℕ) → d < length table → is_least_of table d ≡ true →
       slice_index labels d ≡ least_before table d

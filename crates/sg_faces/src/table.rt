@@ -1,6 +1,6 @@
 ghost use Rattle.std.specs.Prelude.{◌≡◌, ◌≢◌, ◌==◌, ℕ, ◌<◌, ◌≤◌, if◌then◌else◌, length, slice_index, All, IfOk};
 ghost use Rattle.sg_model.specs.Rotation.{following, rev};
-ghost use Rattle.sg_model.specs.Seam.{IsDistinct};
+ghost use Rattle.sg_sums.specs.Sets.{DifferByCount};
 ghost use Rattle.sg_model.specs.WellFormed.{IsInstance};
 ghost use Rattle.sg_faces.specs.Faces.{bare_count};
 ghost use Rattle.sg_faces.specs.Tables.{IsPhiTable};
@@ -19,7 +19,7 @@ fn reverse(dart: u32) -> u32
 
 // Enters, at the reverse of each dart of a spin, the dart that follows it round the spin.
 fn link(darts: &[u32], table: &mut [u32])
-    requires distinct { IsDistinct darts.now }
+    requires distinct { DifferByCount darts.now }
     requires below { All (λ d. rev d < length table.old) darts.now }
     ensures follows { All (λ d. slice_index table.new (rev d) ≡ following darts.now d) darts.now }
     ensures kept { (x : ℕ) → All (λ d. rev d ≢ x) darts.now →

@@ -13,7 +13,7 @@ use Rattle.sg_sums.proofs.SumLaws.{sum_by-le-all}
 use Rattle.sg_graph.specs.Web.{Graph, IsEdge, edge_at, edge_count, edge_weight, ends_at, weight_of}
 use Rattle.sg_graph.specs.Join.{AreTerminals, IsJoin, IsLeastJoin}
 use Rattle.sg_graph.specs.declared.cut.Cut.{Cut}
-use Rattle.sg_graph.specs.OddCut.{CutsPack, IsOddCut, crosses, cut_load, cut_weight}
+use Rattle.sg_graph.specs.OddCut.{CutsPack, IsOddCut, crosses, cut_load, odd_cut_weight}
 
 -- ends counted as a parity
 odd_ends : (p q r : Bool) (n : ℕ) → odd n ≡ r → odd ((cond p 1 0 + cond q 1 0) + n) ≡ xor (xor p q) r
@@ -70,31 +70,32 @@ module _ (g : Graph) where
 
     -- what a join carries of the cuts
     pub join_carries : (es : List ℕ) (cuts : List Cut) → IsJoin g terminals es → All (λ c. IsOddCut g terminals c.edges) cuts
-        → sum_by cut_weight cuts ≤ sum_by (λ e. cut_load cuts e) es
+        → sum_by odd_cut_weight cuts ≤ sum_by (λ e. cut_load cuts e) es
     join_carries es [] join odds = omega arith
     join_carries es (c ∷ cs) join odds =
-        let rest : sum_by cut_weight cs ≤ sum_by (λ e. cut_load cs e) es = join_carries es cs join (All-tail (λ c. IsOddCut g terminals c.edges) c cs odds) in
+        let rest : sum_by odd_cut_weight cs ≤ sum_by (λ e. cut_load cs e) es =
+            join_carries es cs join (All-tail (λ c. IsOddCut g terminals c.edges) c cs odds) in
         let met = join_meets es c.edges join (All-head (λ c. IsOddCut g terminals c.edges) c cs odds) in
-        let own : ℕ → ℕ = λ e. cond (holds c.edges e) (cut_weight c) 0 in
+        let own : ℕ → ℕ = λ e. cond (holds c.edges e) (odd_cut_weight c) 0 in
         let part : own (get_or es met.0 0) ≤ sum_by own es = get_or-le-sum_by own es met.0 0 met.1 in
-        let one : own (get_or es met.0 0) ≡ cut_weight c = ap (λ b. cond b (cut_weight c) 0) met.2 in
-        omega (arith, sum_by-cons cut_weight c cs, parted es c cs)
+        let one : own (get_or es met.0 0) ≡ odd_cut_weight c = ap (λ b. cond b (odd_cut_weight c) 0) met.2 in
+        omega (arith, sum_by-cons odd_cut_weight c cs, parted es c cs)
       where
         parted : (es : List ℕ) (c : Cut) (cs : List Cut) → sum_by (λ e. cut_load (c ∷ cs) e) es ≡ sum_by
-            (λ e. cond (holds c.edges e) (cut_weight c) 0) es + sum_by (λ e. cut_load cs e) es
+            (λ e. cond (holds c.edges e) (odd_cut_weight c) 0) es + sum_by (λ e. cut_load cs e) es
         parted [] c cs = refl
         parted (e ∷ es) c cs =
             omega (
               arith,
               parted es c cs,
               sum_by-cons (λ e. cut_load (c ∷ cs) e) e es,
-              sum_by-cons (λ e. cond (holds c.edges e) (cut_weight c) 0) e es,
+              sum_by-cons (λ e. cond (holds c.edges e) (odd_cut_weight c) 0) e es,
               sum_by-cons (λ e. cut_load cs e) e es,
-              sum_by-cons (λ c. cond (holds c.edges e) (cut_weight c) 0) c cs,
+              sum_by-cons (λ c. cond (holds c.edges e) (odd_cut_weight c) 0) c cs,
             )
 
     -- the weights of a packing are at most twice the weight of any join
-    pub cuts_bound_join : (es : List ℕ) (cuts : List Cut) → IsJoin g terminals es → CutsPack g terminals cuts → sum_by cut_weight cuts ≤ 2 * weight_of g es
+    pub cuts_bound_join : (es : List ℕ) (cuts : List Cut) → IsJoin g terminals es → CutsPack g terminals cuts → sum_by odd_cut_weight cuts ≤ 2 * weight_of g es
     cuts_bound_join es cuts join p =
         let carried : sum_by (λ e. cut_load cuts e) es ≤ sum_by (λ e. 2 * edge_weight g e) es =
         sum_by-le-all (λ e. cut_load cuts e) (λ e. 2 * edge_weight g e) es (λ k d l. p.within (get_or es k d) (join.below k d l)) in
@@ -106,7 +107,7 @@ module _ (g : Graph) where
 
     -- so a join that weighs no more than half of a packing is least
     pub least_by_cuts : (es : List ℕ) (cuts : List Cut) → IsJoin g terminals es → CutsPack g terminals cuts
-        → 2 * weight_of g es ≤ sum_by cut_weight cuts → IsLeastJoin g terminals es
+        → 2 * weight_of g es ≤ sum_by odd_cut_weight cuts → IsLeastJoin g terminals es
     least_by_cuts es cuts join p tight = record {
       join = join;
       least = λ others other. omega (arith, tight, cuts_bound_join others cuts other p);

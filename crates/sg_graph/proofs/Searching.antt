@@ -7,15 +7,15 @@ use Rattle.std.proofs.lemmas.List.Sums.{sum_by-set}
 use Rattle.sg_sums.specs.Sets.{holds, is_marked}
 use Rattle.sg_graph.specs.declared.web.Edge.{Edge}
 use Rattle.sg_graph.specs.Web.{Graph, IsWeb, edge_at}
-use Rattle.sg_graph.specs.Walk.{IsConnected, IsFirstUnreached, IsReached, IsWalk, Leads, other_end}
+use Rattle.sg_graph.specs.Walk.{IsConnectedWeb, IsFirstUnreached, IsReached, IsWebWalk, Leads, other_end}
 use Rattle.sg_graph.specs.Incidence.{AreIncident, EndsAt, list_at}
 use Rattle.sg_sums.proofs.RisingLists.{All-holds}
-use Rattle.sg_graph.specs.Search.{MarksReached, Visits, unmarked}
+use Rattle.sg_graph.specs.Search.{MarksReached, VisitsEdges, unmarked}
 use Rattle.sg_graph.proofs.Walks.{leads_other, other_low, other_only, walk-append, walk-one}
 use Rattle.sg_graph.proofs.Incidences.{edges_at_leads}
 
 -- over no edge nothing is marked or noted
-pub Visits-none : (g : Graph) (node : ℕ) (marks : List Bool) (found : List ℕ) → Visits g node [] marks marks found found
+pub Visits-none : (g : Graph) (node : ℕ) (marks : List Bool) (found : List ℕ) → VisitsEdges g node [] marks marks found found
 Visits-none g node marks found = record {
   count = refl;
   kept = λ x h. h;
@@ -29,7 +29,7 @@ Visits-none g node marks found = record {
 }
 
 module _ (g : Graph) (node : ℕ) (list : List ℕ) (i : ℕ) (old marks : List Bool) (before found : List ℕ) (low : i < length list)
-    (v : Visits g node (take i list) old marks before found) where
+    (v : VisitsEdges g node (take i list) old marks before found) where
   abbrev pub this : ℕ
   this = get_or list i 0
 
@@ -37,7 +37,7 @@ module _ (g : Graph) (node : ℕ) (list : List ℕ) (i : ℕ) (old marks : List 
   far = other_end node (edge_at g this)
 
   -- the far end is marked already
-  pub Visits-same : is_marked marks far ≡ true → Visits g node (take (i + 1) list) old marks before found
+  pub Visits-same : is_marked marks far ≡ true → VisitsEdges g node (take (i + 1) list) old marks before found
   Visits-same marked = record {
     count = v.count;
     kept = v.kept;
@@ -74,7 +74,7 @@ module _ (g : Graph) (node : ℕ) (list : List ℕ) (i : ℕ) (old marks : List 
         omega arith
 
     -- an edge to a node that is not marked marks and notes it
-    pub Visits-new : Visits g node (take (i + 1) list) old after before (found ++ far ∷ [])
+    pub Visits-new : VisitsEdges g node (take (i + 1) list) old after before (found ++ far ∷ [])
     Visits-new = record {
       count = length-set marks far true ∙ v.count;
       kept = λ x h. still x (v.kept x h);
@@ -143,7 +143,7 @@ Explores-first g marks some is = record {
 
 -- the next node is spread
 pub Explores-more : (g : Graph) (old new : List Bool) (before after : List ℕ) (next node : ℕ) (lists : List (List ℕ)) → AreIncident g lists
-    → next < length before → node ≡ get_or before next 0 → Explores g old before next → Visits g node (list_at lists node) old new before after
+    → next < length before → node ≡ get_or before next 0 → Explores g old before next → VisitsEdges g node (list_at lists node) old new before after
     → Explores g new after (next + 1)
 Explores-more g old new before after next node lists incident low is s v = record {
   count = v.count ∙ s.count;
@@ -187,7 +187,7 @@ MarksReached-all g marks found next s done = record {
   right = λ x l. (λ h. s.sound x h, λ way. along way.0 0 x s.first way.1);
 }
   where
-    along : (es : List ℕ) (x y : ℕ) → is_marked marks x ≡ true → IsWalk g x es y → is_marked marks y ≡ true
+    along : (es : List ℕ) (x y : ℕ) → is_marked marks x ≡ true → IsWebWalk g x es y → is_marked marks y ≡ true
     along [] x y h w = ap (is_marked marks) (sym w) ∙ h
     along (e ∷ es) x y h w =
         let c : Contains found x = s.listed x h in
@@ -197,30 +197,30 @@ MarksReached-all g marks found next s done = record {
 -- one edge more, in the code's terms
 module _ (g : Graph) (node : ℕ) (list : List ℕ) (i other : ℕ) (edges : List Edge) (old marks : List Bool) (before found : List ℕ)
     (low : i < length list) (same : edges ≡ g.edges) (is : other ≡ other_end node
-    (get_or edges (get_or list i 0) (record { a = 0; b = 0; w = pos 0 }))) (v : Visits g node (take i list) old marks before found) where
+    (get_or edges (get_or list i 0) (record { a = 0; b = 0; w = pos 0 }))) (v : VisitsEdges g node (take i list) old marks before found) where
   is_far : other ≡ far g node list i old marks before found low v
   is_far = is ∙ ap (λ (es : List Edge). other_end node (get_or es (get_or list i 0) (record { a = 0; b = 0; w = pos 0 }))) same
 
   -- one edge more, to a node that is marked: nothing changes
   pub Visits-more_same : (new : List Bool) (after : List ℕ) → is_marked marks other ≡ true → new ≡ marks → after ≡ found
-      → Visits g node (take (i + 1) list) old new before after
+      → VisitsEdges g node (take (i + 1) list) old new before after
   Visits-more_same new after h m f =
-      subst (λ ms. Visits g node (take (i + 1) list) old ms before after) (sym m)
-      (subst (λ fs. Visits g node (take (i + 1) list) old marks before fs) (sym f)
+      subst (λ ms. VisitsEdges g node (take (i + 1) list) old ms before after) (sym m)
+      (subst (λ fs. VisitsEdges g node (take (i + 1) list) old marks before fs) (sym f)
       (Visits-same g node list i old marks before found low v (ap (is_marked marks) (sym is_far) ∙ h)))
 
   -- one edge more, to a node that is not marked: it is marked and noted
   pub Visits-more_new : (new : List Bool) (after : List ℕ) → EndsAt g node (get_or list i 0) → other < length marks → is_marked marks other ≡ false
-      → new ≡ set marks other true → after ≡ found ++ other ∷ [] → Visits g node (take (i + 1) list) old new before after
+      → new ≡ set marks other true → after ≡ found ++ other ∷ [] → VisitsEdges g node (take (i + 1) list) old new before after
   Visits-more_new new after ends in' h m f =
       let made = Visits-new g node list i old marks before found low v ends (subst (λ n. n < length marks) is_far in')
       (ap (is_marked marks) (sym is_far) ∙ h) in
-      subst (λ ms. Visits g node (take (i + 1) list) old ms before after) (sym (m ∙ ap (λ n. set marks n true) is_far))
-      (subst (λ fs. Visits g node (take (i + 1) list) old (set marks (far g node list i old marks before found low v) true) before fs)
+      subst (λ ms. VisitsEdges g node (take (i + 1) list) old ms before after) (sym (m ∙ ap (λ n. set marks n true) is_far))
+      (subst (λ fs. VisitsEdges g node (take (i + 1) list) old (set marks (far g node list i old marks before found low v) true) before fs)
       (sym (f ∙ ap (λ n. found ++ n ∷ []) is_far)) made)
 
 -- where all are marked the graph is connected
-pub all_marked : (g : Graph) (marks : List Bool) → MarksReached g marks → ((y : ℕ) → y < g.nodes → is_marked marks y ≡ true) → IsConnected g
+pub all_marked : (g : Graph) (marks : List Bool) → MarksReached g marks → ((y : ℕ) → y < g.nodes → is_marked marks y ≡ true) → IsConnectedWeb g
 all_marked g marks m all x l = (m.right x l).0 (all x l)
 
 -- the first that is not marked is the first that is not reached

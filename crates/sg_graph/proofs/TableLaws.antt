@@ -3,7 +3,7 @@ use Rattle.std.proofs.Common.{◌≡◌, ℕ, ◌<◌, ℤ, pos, true, Option, N
 use Rattle.std.specs.Option.{MatchOption, option_map_or}
 use Rattle.std.proofs.lemmas.Bool.{false≢true}
 use Rattle.sg_graph.specs.Web.{Graph}
-use Rattle.sg_graph.specs.Walk.{IsConnected, IsDistance, IsReached}
+use Rattle.sg_graph.specs.Walk.{IsConnectedWeb, IsDistance, IsReached}
 use Rattle.sg_graph.specs.Table.{IsTableOf, Route, Routes, distance_at, is_reached, length_to, route_at}
 use Rattle.sg_graph.proofs.Walks.{walk-append, walk-back}
 
@@ -36,7 +36,7 @@ module _ (g : Graph) (t : Routes) (is : IsTableOf g t) where
       by_route (Some q) m = refl
 
 -- in a connected graph a walk leads from each node to each other
-pub connected_reached : (g : Graph) → IsConnected g → (x y : ℕ) → x < g.nodes → y < g.nodes → IsReached g x y
+pub connected_reached : (g : Graph) → IsConnectedWeb g → (x y : ℕ) → x < g.nodes → y < g.nodes → IsReached g x y
 connected_reached g c x y p q =
     let there = c x p in
     let back = walk-back g there.0 0 x there.1 in
@@ -44,6 +44,6 @@ connected_reached g c x y p q =
     (back.0 ++ on.0, walk-append g back.0 on.0 x 0 y back.1 on.1)
 
 -- so a table of a connected graph reaches every node, at its distance
-pub connected_distance : (g : Graph) (t : Routes) → IsTableOf g t → IsConnected g → t.source < g.nodes → (x : ℕ) → x < g.nodes
+pub connected_distance : (g : Graph) (t : Routes) → IsTableOf g t → IsConnectedWeb g → t.source < g.nodes → (x : ℕ) → x < g.nodes
     → IsDistance g t.source x (length_to t x)
 connected_distance g t is c low x l = distance_is g t is x l (reached_if g t is x l (connected_reached g c t.source x low l))

@@ -3,14 +3,14 @@ use Rattle.std.proofs.Common.{inl, inr, ◌≡◌, ◌⊎◌, ℕ, ◌+◌, ◌<
 use Rattle.std.proofs.lemmas.Bool.{eqb-true, true≢false}
 use Rattle.std.proofs.lemmas.List.Sums.{sum_by-append, sum_by-cons}
 use Rattle.sg_graph.specs.Web.{Graph, IsWeb, edge_at, edge_count, edge_weight, weight_of}
-use Rattle.sg_graph.specs.Walk.{Leads, IsWalk, IsDistance, other_end}
+use Rattle.sg_graph.specs.Walk.{Leads, IsWebWalk, IsDistance, other_end}
 use Rattle.sg_graph.specs.Incidence.{EndsAt}
 use Rattle.sg_graph.specs.declared.web.Edge.{Edge}
 
 module _ (g : Graph) where
   -- two walks that meet make one
-  pub walk-append : (es fs : List ℕ) (x y z : ℕ) → IsWalk g x es y → IsWalk g y fs z → IsWalk g x (es ++ fs) z
-  walk-append [] fs x y z w v = subst (λ n. IsWalk g n fs z) (sym w) v
+  pub walk-append : (es fs : List ℕ) (x y z : ℕ) → IsWebWalk g x es y → IsWebWalk g y fs z → IsWebWalk g x (es ++ fs) z
+  walk-append [] fs x y z w v = subst (λ n. IsWebWalk g n fs z) (sym w) v
   walk-append (e ∷ es) fs x y z w v = (w.0, w.1, walk-append es fs w.0 y z w.2 v)
 
   -- an edge leads both ways
@@ -22,14 +22,14 @@ module _ (g : Graph) where
       flip (inr q) = inl q
 
   -- a single edge is a walk
-  pub walk-one : (e x y : ℕ) → Leads g e x y → IsWalk g x (e ∷ []) y
+  pub walk-one : (e x y : ℕ) → Leads g e x y → IsWebWalk g x (e ∷ []) y
   walk-one e x y h = (y, h, refl)
 
   -- each walk leads back with the same weight
-  pub walk-back : (es : List ℕ) (x y : ℕ) → IsWalk g x es y → (fs : List ℕ) × IsWalk g y fs x × (weight_of g fs ≡ weight_of g es)
+  pub walk-back : (es : List ℕ) (x y : ℕ) → IsWebWalk g x es y → (fs : List ℕ) × IsWebWalk g y fs x × (weight_of g fs ≡ weight_of g es)
   walk-back [] x y w = ([], sym w, refl)
   walk-back (e ∷ es) x y w =
-      let r : (fs : List ℕ) × IsWalk g y fs w.0 × (weight_of g fs ≡ weight_of g es) = walk-back es w.0 y w.2 in (
+      let r : (fs : List ℕ) × IsWebWalk g y fs w.0 × (weight_of g fs ≡ weight_of g es) = walk-back es w.0 y w.2 in (
         r.0 ++ e ∷ [],
         walk-append r.0 (e ∷ []) y w.0 x r.1 (walk-one e w.0 x (turned e x w.0 w.1)),
         omega

@@ -17,12 +17,12 @@ pub record IsOddCut (g : Graph) (terminals edges : List ℕ) : Type 0 where
   pub is : edges ≡ chosen_below (crosses g inside) (edge_count g)
 
 -- the weight of a cut, a natural number where it is at least 1
-abbrev pub cut_weight : Cut → ℕ
-cut_weight c = unsigned_abs c.y
+abbrev pub odd_cut_weight : Cut → ℕ
+odd_cut_weight c = unsigned_abs c.y
 
 -- the weights of the cuts that hold edge e
 abbrev pub cut_load : List Cut → ℕ → ℕ
-cut_load cuts e = load_at cut_weight (λ c. holds c.edges) cuts e
+cut_load cuts e = load_at odd_cut_weight (λ c. holds c.edges) cuts e
 
 -- weighted odd cuts that load no edge with more than twice its weight, and not too many of them
 pub record CutsPack (g : Graph) (terminals : List ℕ) (cuts : List Cut) : Type 0 where

@@ -14,7 +14,8 @@ abbrev pub unmarked : List Bool → ℕ
 unmarked marks = sum_by (λ b. cond b 0 1) marks
 
 -- the far ends of these edges at the node are marked, and those that were not before are noted
-pub record Visits (g : Graph) (node : ℕ) (edges : List ℕ) (old new : List Bool) (before after : List ℕ) : Type 0 where
+pub record VisitsEdges (g : Graph) (node : ℕ) (edges : List ℕ) (old new : List Bool)
+    (before after : List ℕ) : Type 0 where
   pub count : length new ≡ length old
   pub kept : (x : ℕ) → is_marked old x ≡ true → is_marked new x ≡ true
   pub longer : length before ≤ length after

@@ -9,17 +9,17 @@ pub record Leads (g : Graph) (e x y : ℕ) : Type 0 where
   pub ways : (((edge_at g e).a ≡ x) × ((edge_at g e).b ≡ y)) ⊎ (((edge_at g e).a ≡ y) × ((edge_at g e).b ≡ x))
 
 -- the edges lead one after another from x to y
-abbrev pub IsWalk : Graph → ℕ → List ℕ → ℕ → Type 0
-IsWalk g x [] y = x ≡ y
-IsWalk g x (e ∷ es) y = (z : ℕ) × Leads g e x z × IsWalk g z es y
+abbrev pub IsWebWalk : Graph → ℕ → List ℕ → ℕ → Type 0
+IsWebWalk g x [] y = x ≡ y
+IsWebWalk g x (e ∷ es) y = (z : ℕ) × Leads g e x z × IsWebWalk g z es y
 
 -- some walk leads from x to y
 abbrev pub IsReached : Graph → ℕ → ℕ → Type 0
-IsReached g x y = (es : List ℕ) × IsWalk g x es y
+IsReached g x y = (es : List ℕ) × IsWebWalk g x es y
 
 -- each node is reached from node 0
-abbrev pub IsConnected : Graph → Type 0
-IsConnected g = (x : ℕ) → x < g.nodes → IsReached g 0 x
+abbrev pub IsConnectedWeb : Graph → Type 0
+IsConnectedWeb g = (x : ℕ) → x < g.nodes → IsReached g 0 x
 
 -- x is a node that is not reached from node 0, and each node before it is
 pub record IsFirstUnreached (g : Graph) (x : ℕ) : Type 0 where
@@ -29,8 +29,8 @@ pub record IsFirstUnreached (g : Graph) (x : ℕ) : Type 0 where
 
 -- some walk from x to y weighs d, and none weighs less
 pub record IsDistance (g : Graph) (x y d : ℕ) : Type 0 where
-  pub reached : (es : List ℕ) × IsWalk g x es y × (weight_of g es ≡ d)
-  pub least : (es : List ℕ) → IsWalk g x es y → d ≤ weight_of g es
+  pub reached : (es : List ℕ) × IsWebWalk g x es y × (weight_of g es ≡ d)
+  pub least : (es : List ℕ) → IsWebWalk g x es y → d ≤ weight_of g es
 
 -- the end of the edge away from x; x itself for an edge to itself
 abbrev pub other_end : ℕ → Edge → ℕ

@@ -1,15 +1,15 @@
 ghost use Rattle.std.specs.Prelude.{◌↔◌, ◌≡◌, ◌<◌, length, All, IfOk, IsTrue, MatchOption, OnOk};
 ghost use Rattle.sg_graph.specs.Web.{Graph, IsEdge};
-ghost use Rattle.sg_graph.specs.Walk.{IsConnected, IsFirstUnreached};
+ghost use Rattle.sg_graph.specs.Walk.{IsConnectedWeb, IsFirstUnreached};
 ghost use Rattle.sg_graph.specs.Incidence.{EndsAt};
-ghost use Rattle.sg_graph.specs.Search.{MarksReached, Visits};
+ghost use Rattle.sg_graph.specs.Search.{MarksReached, VisitsEdges};
 
 use super::{Incidence, NoMemory, Web};
 use std::alloc::Global;
 
 /// Whether each node is reached from node 0, by a search in time linear in nodes and edges.
 pub fn connected(alloc: Global, web: &Web) -> Result<bool, NoMemory>
-    ensures { IfOk result (λ answer. IsTrue answer ↔ IsConnected web.now) }
+    ensures { IfOk result (λ answer. IsTrue answer ↔ IsConnectedWeb web.now) }
 {
     let unreached = first_unreached(alloc, web)?;
     Ok(unreached.is_none())
@@ -18,7 +18,7 @@ pub fn connected(alloc: Global, web: &Web) -> Result<bool, NoMemory>
 /// The least node that is not reached from node 0, and none where all are, by a search in time linear
 /// in nodes and edges.
 pub fn first_unreached(alloc: Global, web: &Web) -> Result<Option<u32>, NoMemory>
-    ensures { IfOk result (λ node. MatchOption node (IsConnected web.now) (IsFirstUnreached web.now)) }
+    ensures { IfOk result (λ node. MatchOption node (IsConnectedWeb web.now) (IsFirstUnreached web.now)) }
 {
     let marks = marks_from_first(alloc, web)?;
     let nodes = web.nodes();
@@ -58,7 +58,7 @@ fn visit(
 ) -> Result<(), NoMemory>
     requires here { All (EndsAt web.now node) edges_here.now }
     requires marks { length marks.old.items ≡ web.now.nodes }
-    ensures { OnOk result (Visits web.now node edges_here.now marks.old.items marks.new.items found.old.items found.new.items) }
+    ensures { OnOk result (VisitsEdges web.now node edges_here.now marks.old.items marks.new.items found.old.items found.new.items) }
 {
     let edges = web.edges().as_slice();
     for k in edges_here {

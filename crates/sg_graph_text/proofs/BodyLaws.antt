@@ -16,39 +16,40 @@ use Rattle.sg_model.specs.declared.refusal.Refusal.TheVariants.{UnknownKind}
 use Rattle.sg_graph.specs.declared.web.Edge.{Edge}
 use Rattle.sg_graph.specs.Web.{IsEdge}
 use Rattle.sg_reader.specs.Kept.{Kept, field}
-use Rattle.sg_reader.specs.Tests.{IsTestFault}
-use Rattle.sg_reader.specs.Body.{bare_end_fault, is_end, sizes_from}
+use Rattle.sg_reader.specs.Tests.{Refuses}
+use Rattle.sg_reader.specs.Body.{bare_end_fault, says_end, sizes_from}
 use Rattle.sg_reader.specs.Ended.{IsBody, IsEnded}
 use Rattle.sg_reader.proofs.BodyLaws.{IsBody-more, IsBody-none}
 use Rattle.sg_graph_text.specs.declared.body.GraphBody.{GraphBody}
-use Rattle.sg_graph_text.specs.Graph.{IsGraphText, body_fault, body_graph, edge_fault, edge_of, edges_in, entries_given, entries_in, graph_end_fault, is_edge, is_term, term_fault, terminals_fault, terminals_of}
+use Rattle.sg_graph_text.specs.Graph.{IsGraphText, body_fault, body_graph, edge_fault, edge_of, edges_in, entries_given, entries_in, graph_end_fault, says_edge, says_term, term_fault, terminals_fault, terminals_of}
 use Rattle.sg_graph_text.specs.GraphHolds.{HoldsGraph}
 use Rattle.sg_graph_text.proofs.TerminalLaws.{are_terminals}
+use Rattle.sg_model.specs.Faults.{OrNoMemory}
 
 -- which test a record meets
 word-of : (r : Kept) (w : List ℕ) → bytes_eq (field r 0) w ≡ true → field r 0 ≡ w
 word-of r w h = (bytes_eq-Decides (field r 0) w).0 h
 
-edge-no_term : (r : Kept) → is_edge r ≡ true → is_term r ≡ false
+edge-no_term : (r : Kept) → says_edge r ≡ true → says_term r ≡ false
 edge-no_term r h = ap (λ (w : List ℕ). bytes_eq w (codes "term")) (word-of r (codes "edge") h)
 
-term-no_edge : (r : Kept) → is_term r ≡ true → is_edge r ≡ false
+term-no_edge : (r : Kept) → says_term r ≡ true → says_edge r ≡ false
 term-no_edge r h = ap (λ (w : List ℕ). bytes_eq w (codes "edge")) (word-of r (codes "term") h)
 
-end-no_edge : (r : Kept) → is_end r ≡ true → is_edge r ≡ false
+end-no_edge : (r : Kept) → says_end r ≡ true → says_edge r ≡ false
 end-no_edge r h = ap (λ (w : List ℕ). bytes_eq w (codes "edge")) (word-of r (codes "end") h)
 
-end-no_term : (r : Kept) → is_end r ≡ true → is_term r ≡ false
+end-no_term : (r : Kept) → says_end r ≡ true → says_term r ≡ false
 end-no_term r h = ap (λ (w : List ℕ). bytes_eq w (codes "term")) (word-of r (codes "end") h)
 
 -- an `edge` is tested as one behind the edges before it
-pub body_fault-edge : (terms : Bool) (n : ℕ) (body : List Kept) (r : Kept) → is_edge r ≡ true
+pub body_fault-edge : (terms : Bool) (n : ℕ) (body : List Kept) (r : Kept) → says_edge r ≡ true
     → body_fault terms n body r ≡ edge_fault n (length (edges_in body)) r
 unfolding body_fault
 body_fault-edge terms n body r h = rw h refl
 
 -- where terminals may stand a `term` is tested as one behind the others
-pub body_fault-term : (terms : Bool) (n : ℕ) (body : List Kept) (r : Kept) → terms ≡ true → is_term r ≡ true
+pub body_fault-term : (terms : Bool) (n : ℕ) (body : List Kept) (r : Kept) → terms ≡ true → says_term r ≡ true
     → body_fault terms n body r ≡ term_fault (is_some (entries_given body)) r
 unfolding body_fault
 body_fault-term terms n body r allowed h = rw (term-no_edge r h, allowed, h) refl
@@ -66,44 +67,44 @@ pub no_term : (terms is : Bool) → is ≡ false → (terms && is) ≡ false
 no_term terms is h = rw h (and-no terms)
 
 -- an `end` is tested with the terminals before it
-pub body_fault-end : (terms : Bool) (n : ℕ) (body : List Kept) (r : Kept) → is_end r ≡ true
+pub body_fault-end : (terms : Bool) (n : ℕ) (body : List Kept) (r : Kept) → says_end r ≡ true
     → body_fault terms n body r ≡ graph_end_fault n (entries_in body) r
 unfolding body_fault
 body_fault-end terms n body r h = rw (end-no_edge r h, end-no_term r h, and-no terms, h) refl
 
 -- any other record is of no known kind
-pub body_fault-other : (terms : Bool) (n : ℕ) (body : List Kept) (r : Kept) → is_edge r ≡ false → (terms && is_term r) ≡ false → is_end r ≡ false
+pub body_fault-other : (terms : Bool) (n : ℕ) (body : List Kept) (r : Kept) → says_edge r ≡ false → (terms && says_term r) ≡ false → says_end r ≡ false
     → body_fault terms n body r ≡ Some (UnknownKind r.at)
 unfolding body_fault
 body_fault-other terms n body r a b c = rw (a, b, c) refl
 
 -- the edges of one more record
-edges_in-more : (body : List Kept) (r : Kept) → is_edge r ≡ true → edges_in (body ++ r ∷ []) ≡ edges_in body ++ edge_of r ∷ []
+edges_in-more : (body : List Kept) (r : Kept) → says_edge r ≡ true → edges_in (body ++ r ∷ []) ≡ edges_in body ++ edge_of r ∷ []
 unfolding edges_in
 edges_in-more body r h =
-    ap (map edge_of) (filter-append is_edge body (r ∷ [])) ∙ map-append edge_of (filter is_edge body) (filter is_edge (r ∷ []))
-    ∙ ap (λ (b : Bool). map edge_of (filter is_edge body) ++ map edge_of (cond b (r ∷ []) [])) h
+    ap (map edge_of) (filter-append says_edge body (r ∷ [])) ∙ map-append edge_of (filter says_edge body) (filter says_edge (r ∷ []))
+    ∙ ap (λ (b : Bool). map edge_of (filter says_edge body) ++ map edge_of (cond b (r ∷ []) [])) h
 
-edges_in-other : (body : List Kept) (r : Kept) → is_edge r ≡ false → edges_in (body ++ r ∷ []) ≡ edges_in body
+edges_in-other : (body : List Kept) (r : Kept) → says_edge r ≡ false → edges_in (body ++ r ∷ []) ≡ edges_in body
 unfolding edges_in
 edges_in-other body r h =
-    ap (map edge_of) (filter-append is_edge body (r ∷ [])) ∙ map-append edge_of (filter is_edge body) (filter is_edge (r ∷ []))
-    ∙ ap (λ (b : Bool). map edge_of (filter is_edge body) ++ map edge_of (cond b (r ∷ []) [])) h ∙ append-nil (map edge_of (filter is_edge body))
+    ap (map edge_of) (filter-append says_edge body (r ∷ [])) ∙ map-append edge_of (filter says_edge body) (filter says_edge (r ∷ []))
+    ∙ ap (λ (b : Bool). map edge_of (filter says_edge body) ++ map edge_of (cond b (r ∷ []) [])) h ∙ append-nil (map edge_of (filter says_edge body))
 
 -- the entries of one more record
-entries_given-first : (body : List Kept) (r : Kept) → entries_given body ≡ None → is_term r ≡ true
+entries_given-first : (body : List Kept) (r : Kept) → entries_given body ≡ None → says_term r ≡ true
     → entries_given (body ++ r ∷ []) ≡ Some (sizes_from r 1)
 unfolding entries_given
-entries_given-first body r none is = rw (find-append is_term body (r ∷ [])) (rw is (by (find is_term body) none))
+entries_given-first body r none is = rw (find-append says_term body (r ∷ [])) (rw is (by (find says_term body) none))
   where
     by : (o : Option Kept) → option_map (λ q. sizes_from q 1) o ≡ None
         → option_map (λ q. sizes_from q 1) (option_or o (Some r)) ≡ Some (sizes_from r 1)
     by None e = refl
     by (Some q) e = absurd (none-some (sizes_from q 1) (sym e))
 
-entries_given-other : (body : List Kept) (r : Kept) → is_term r ≡ false → entries_given (body ++ r ∷ []) ≡ entries_given body
+entries_given-other : (body : List Kept) (r : Kept) → says_term r ≡ false → entries_given (body ++ r ∷ []) ≡ entries_given body
 unfolding entries_given
-entries_given-other body r other = rw (find-append is_term body (r ∷ [])) (rw other (by (find is_term body)))
+entries_given-other body r other = rw (find-append says_term body (r ∷ [])) (rw other (by (find says_term body)))
   where
     by : (o : Option Kept) → option_map (λ q. sizes_from q 1) (option_or o None) ≡ option_map (λ q. sizes_from q 1) o
     by None = refl
@@ -122,7 +123,7 @@ holds-none state none no_entries =
     }
 
 -- one more record was taken
-pub holds-edge : (body : List Kept) (r : Kept) (old new : GraphBody) → HoldsGraph body old → is_edge r ≡ true
+pub holds-edge : (body : List Kept) (r : Kept) (old new : GraphBody) → HoldsGraph body old → says_edge r ≡ true
     → new.nodes ≡ old.nodes → new.entries ≡ old.entries → new.edges ≡ old.edges ++ edge_of r ∷ []
     → IsEdge old.nodes (edge_of r) → length old.edges < bond_limit → HoldsGraph (body ++ r ∷ []) new
 holds-edge body r old new h is same_nodes same_entries added sound room =
@@ -138,7 +139,7 @@ holds-edge body r old new h is same_nodes same_entries added sound room =
     }
 
 -- what is kept after a `term`: its entries
-pub holds-term : (body : List Kept) (r : Kept) (old new : GraphBody) (list : List ℕ) → HoldsGraph body old → is_term r ≡ true
+pub holds-term : (body : List Kept) (r : Kept) (old new : GraphBody) (list : List ℕ) → HoldsGraph body old → says_term r ≡ true
     → is_some old.entries ≡ false → list ≡ sizes_from r 1
     → new.nodes ≡ old.nodes → new.edges ≡ old.edges → new.entries ≡ Some list → HoldsGraph (body ++ r ∷ []) new
 holds-term body r old new list h is first value same_nodes same_edges given =
@@ -183,7 +184,7 @@ begun terms n all state nodes allowed holds = record {
 
 -- one record more, which passes its tests
 pub one-more : (terms : Bool) (n : ℕ) (all left rest : List Kept) (r : Kept) (old new : GraphBody) → (sf : BodySoFar terms n all left old)
-    → left ≡ r ∷ rest → is_end r ≡ false → body_fault old.terms old.nodes sf.body r ≡ None → HoldsGraph (sf.body ++ r ∷ []) new
+    → left ≡ r ∷ rest → says_end r ≡ false → body_fault old.terms old.nodes sf.body r ≡ None → HoldsGraph (sf.body ++ r ∷ []) new
     → new.nodes ≡ old.nodes → new.terms ≡ old.terms → BodySoFar terms n all rest new
 one-more terms n all left rest r old new sf next other good holds nodes allowed = record {
   body = sf.body ++ r ∷ [];
@@ -204,14 +205,14 @@ pub end-bare : (n : ℕ) (entries : List ℕ) (r : Kept) (refusal : Refusal) →
 end-bare n entries r refusal bad = rw bad refl
 
 -- a bare `end` is refused for its terminals
-pub end-terminals : (n : ℕ) (entries : List ℕ) (r : Kept) (e : Fault) → bare_end_fault r ≡ None → IsTestFault (terminals_fault n entries) e
-    → IsTestFault (graph_end_fault n entries r) e
+pub end-terminals : (n : ℕ) (entries : List ℕ) (r : Kept) (e : Fault) → bare_end_fault r ≡ None → OrNoMemory (Refuses (terminals_fault n entries)) e
+    → OrNoMemory (Refuses (graph_end_fault n entries r)) e
 end-terminals n entries r (Refused x) bare bad = rw (bare, bad) refl
 end-terminals n entries r NoMemory bare bad = tt
 
 -- a bare `end` behind good terminals ends the records
 pub ended : (terms : Bool) (n : ℕ) (all left rest : List Kept) (r : Kept) (state : GraphBody) (sf : BodySoFar terms n all left state) → left ≡ r ∷ rest
-    → is_end r ≡ true → bare_end_fault r ≡ None → terminals_fault n (entries_in sf.body) ≡ None → IsEnded (body_fault terms n) all sf.body r
+    → says_end r ≡ true → bare_end_fault r ≡ None → terminals_fault n (entries_in sf.body) ≡ None → IsEnded (body_fault terms n) all sf.body r
 ended terms n all left rest r state sf next end bare good = record {
   more = rest;
   split = sf.split ∙ ap (λ (l : List Kept). sf.body ++ l) next;

@@ -10,21 +10,21 @@ use Rattle.sg_reader.specs.Kept.{Kept, field}
 use Rattle.sg_reader.specs.Number.{number_of}
 use Rattle.sg_reader.specs.Tests.{at_least, bad_field, is_in, is_number_in, number_in, size_in}
 use Rattle.sg_reader.proofs.TestLaws.{bad_field-first, bad_field-one, is-not}
-use Rattle.sg_graph_text.specs.Graph.{edge_fault, edge_range, is_graph, room_fault, size_fault}
+use Rattle.sg_graph_text.specs.Graph.{edge_fault, edge_range, says_graph, room_fault, size_fault}
 
 -- the tests of the first record
-pub size_fault-number : (r : Kept) → is_graph r ≡ true → length r.fields ≡ 2 → is_number_in (at_least 1) (field r 1) ≡ false
+pub size_fault-number : (r : Kept) → says_graph r ≡ true → length r.fields ≡ 2 → is_number_in (at_least 1) (field r 1) ≡ false
     → size_fault r ≡ Some (BadNumber r.at 1)
 size_fault-number r word count bad = rw (word, is-not (length r.fields) 2 count, bad_field-first r (λ i. at_least 1) (omega arith) bad) refl
 
 -- a number of nodes above the limit is refused
-pub size_fault-many : (r : Kept) → is_graph r ≡ true → length r.fields ≡ 2 → is_number_in (at_least 1) (field r 1) ≡ true
+pub size_fault-many : (r : Kept) → says_graph r ≡ true → length r.fields ≡ 2 → is_number_in (at_least 1) (field r 1) ≡ true
     → spin_limit < size_in r 1 → size_fault r ≡ Some (TooManySpins (pos (size_in r 1)))
 size_fault-many r word count good many =
     rw (word, is-not (length r.fields) 2 count, bad_field-one r (λ i. at_least 1) count good, lt-ltb spin_limit (size_in r 1) many) refl
 
 -- a number of nodes within the limit passes
-pub size_fault-none : (r : Kept) → is_graph r ≡ true → length r.fields ≡ 2 → is_number_in (at_least 1) (field r 1) ≡ true
+pub size_fault-none : (r : Kept) → says_graph r ≡ true → length r.fields ≡ 2 → is_number_in (at_least 1) (field r 1) ≡ true
     → size_in r 1 ≤ spin_limit → size_fault r ≡ None
 size_fault-none r word count good few =
     rw (word, is-not (length r.fields) 2 count, bad_field-one r (λ i. at_least 1) count good, le-ltb spin_limit (size_in r 1) few) refl

@@ -13,30 +13,30 @@ use Rattle.sg_graph.specs.Join.{AreTerminals}
 use Rattle.sg_reader.specs.declared.range.Range.{Range}
 use Rattle.sg_reader.specs.Kept.{Kept, begins}
 use Rattle.sg_reader.specs.Tests.{any_index, at_least, bad_number, first_of, number_in, refuse_if, size_in, spin_below}
-use Rattle.sg_reader.specs.Body.{bare_end_fault, is_end, sizes_from}
+use Rattle.sg_reader.specs.Body.{bare_end_fault, says_end, sizes_from}
 use Rattle.sg_reader.specs.Ended.{record_at}
 use Rattle.sg_graph_text.specs.declared.graph.GraphText.{GraphText}
 
 -- what a record begins with
-abbrev pub is_graph : Kept → Bool
-is_graph r = begins (codes "graph") r
+abbrev pub says_graph : Kept → Bool
+says_graph r = begins (codes "graph") r
 
-abbrev pub is_edge : Kept → Bool
-is_edge r = begins (codes "edge") r
+abbrev pub says_edge : Kept → Bool
+says_edge r = begins (codes "edge") r
 
-abbrev pub is_term : Kept → Bool
-is_term r = begins (codes "term") r
+abbrev pub says_term : Kept → Bool
+says_term r = begins (codes "term") r
 
 -- the edges `edge,A,B,W`
 abbrev pub edge_of : Kept → Edge
 edge_of r = record { a = size_in r 1; b = size_in r 2; w = number_in r 3 }
 
 unfoldable pub edges_in : List Kept → List Edge
-edges_in body = map edge_of (filter is_edge body)
+edges_in body = map edge_of (filter says_edge body)
 
 -- the entries of the record `term,T,..`, in the order in which they stand there
 unfoldable pub entries_given : List Kept → Option (List ℕ)
-entries_given body = option_map (λ r. sizes_from r 1) (find is_term body)
+entries_given body = option_map (λ r. sizes_from r 1) (find says_term body)
 
 -- none where there is no such record
 abbrev pub entries_in : List Kept → List ℕ
@@ -45,7 +45,7 @@ entries_in body = unwrap_or (entries_given body) []
 -- the first record, `graph,N` with the number of nodes
 abbrev pub size_fault : Kept → Option Refusal
 size_fault r = first_of (
-    refuse_if (not (is_graph r)) (UnknownKind r.at)
+    refuse_if (not (says_graph r)) (UnknownKind r.at)
     ∷ refuse_if (not (length r.fields == 2)) (BadShape r.at)
     ∷ bad_number r 1 (λ i. at_least 1)
     ∷ refuse_if (nat_lt spin_limit (size_in r 1)) (TooManySpins (pos (size_in r 1)))
@@ -101,9 +101,9 @@ graph_end_fault n entries r = first_of (bare_end_fault r ∷ terminals_fault n e
 -- the tests of a record behind the first, in a graph of n nodes; only where `terms` is set may terminals be given
 unfoldable pub body_fault : Bool → ℕ → List Kept → Kept → Option Refusal
 body_fault terms n body r =
-    if is_edge r then edge_fault n (length (edges_in body)) r
-    else (if terms && is_term r then term_fault (is_some (entries_given body)) r
-    else (if is_end r then graph_end_fault n (entries_in body) r
+    if says_edge r then edge_fault n (length (edges_in body)) r
+    else (if terms && says_term r then term_fault (is_some (entries_given body)) r
+    else (if says_end r then graph_end_fault n (entries_in body) r
     else Some (UnknownKind r.at)))
 
 -- the tests of a record of a graph: the number of nodes comes first

@@ -1,17 +1,16 @@
 -- Which connected graph a text gives, or why it is refused: the first test that fails.
-use Rattle.std.specs.Prelude.{◌≡◌, ⊤, ℕ, ◌<◌, ◌≤◌, ◌%◌, Bool, pos, List, length, Some, None}
+use Rattle.std.specs.Prelude.{◌≡◌, ℕ, ◌<◌, ◌≤◌, ◌%◌, Bool, pos, List, length, Some, None}
 use Rattle.sg_limits.specs.Limits.{sum_limit}
-use Rattle.sg_model.specs.declared.refusal.Fault.{Fault}
-use Rattle.sg_model.specs.declared.refusal.Fault.TheVariants.{Refused, NoMemory}
 use Rattle.sg_model.specs.declared.refusal.Refusal.{Refusal}
 use Rattle.sg_model.specs.declared.refusal.Refusal.TheVariants.{NotJoined, SumTooLarge}
 use Rattle.sg_graph.specs.Join.{AreTerminals}
-use Rattle.sg_graph.specs.Walk.{IsConnected, IsFirstUnreached}
+use Rattle.sg_graph.specs.Walk.{IsConnectedWeb, IsFirstUnreached}
 use Rattle.sg_graph.specs.Web.{Graph, total_weight}
 use Rattle.sg_reader.specs.Kept.{kept_of}
 use Rattle.sg_reader.specs.NoMore.{trailing_fault}
 use Rattle.sg_graph_text.specs.declared.graph.GraphText.{GraphText}
 use Rattle.sg_graph_text.specs.ReadGraph.{ReadsGraph, RefusesGraph}
+use Rattle.sg_model.specs.Faults.{OrNoMemory}
 
 -- the graph without its terminals, and with them
 abbrev pub graph_in : GraphText → Graph
@@ -27,10 +26,10 @@ pub record GivesAlone (terms : Bool) (bytes : List ℕ) (text : GraphText) : Typ
   pub ends : trailing_fault (kept_of bytes) after ≡ None
 
 -- the first fault of the records: at one of them, or behind the `end`
-pub data RefusesAlone (terms : Bool) (bytes : List ℕ) (refusal : Refusal) : Type 0 where
-  AtGraph : RefusesGraph terms (kept_of bytes) refusal → RefusesAlone terms bytes refusal
+pub data RefusesGraphAlone (terms : Bool) (bytes : List ℕ) (refusal : Refusal) : Type 0 where
+  AtGraph : RefusesGraph terms (kept_of bytes) refusal → RefusesGraphAlone terms bytes refusal
   AtTrailing : (text : GraphText) (after : ℕ) → ReadsGraph terms (kept_of bytes) text after
-      → trailing_fault (kept_of bytes) after ≡ Some refusal → RefusesAlone terms bytes refusal
+      → trailing_fault (kept_of bytes) after ≡ Some refusal → RefusesGraphAlone terms bytes refusal
 
 -- all weights together are above the limit
 pub record IsTooHeavy (g : Graph) (refusal : Refusal) : Type 0 where
@@ -46,7 +45,7 @@ pub record IsUnjoined (g : Graph) (refusal : Refusal) : Type 0 where
 -- a connected graph within the limit of weight, with an even number of terminals, if any
 pub record IsNetwork (g : Graph) (terminals : List ℕ) : Type 0 where
   pub light : total_weight g ≤ sum_limit
-  pub connected : IsConnected g
+  pub connected : IsConnectedWeb g
   pub nodes : AreTerminals g terminals
   pub even : length terminals % 2 ≡ 0
 
@@ -54,25 +53,12 @@ pub record IsNetwork (g : Graph) (terminals : List ℕ) : Type 0 where
 pub record GivesNetwork (terms : Bool) (bytes : List ℕ) (g : Graph) (terminals : List ℕ) : Type 0 where
   pub gives : GivesAlone terms bytes (with_terminals g terminals)
   pub light : total_weight g ≤ sum_limit
-  pub connected : IsConnected g
+  pub connected : IsConnectedWeb g
 
 -- the first fault of a text: of its records, then of the weights, then of the graph as a whole
 pub data RefusesNetwork (terms : Bool) (bytes : List ℕ) (refusal : Refusal) : Type 0 where
-  AtRecords : RefusesAlone terms bytes refusal → RefusesNetwork terms bytes refusal
+  AtRecords : RefusesGraphAlone terms bytes refusal → RefusesNetwork terms bytes refusal
   AtWeight : (text : GraphText) → GivesAlone terms bytes text → IsTooHeavy (graph_in text) refusal
       → RefusesNetwork terms bytes refusal
   AtReach : (text : GraphText) → GivesAlone terms bytes text → total_weight (graph_in text) ≤ sum_limit
       → IsUnjoined (graph_in text) refusal → RefusesNetwork terms bytes refusal
-
--- a refusal by these rules, or want of memory, which may come at any time
-abbrev pub IsAloneFault : Bool → List ℕ → Fault → Type 0
-IsAloneFault terms bytes (Refused refusal) = RefusesAlone terms bytes refusal
-IsAloneFault terms bytes NoMemory = ⊤
-
-abbrev pub IsUnjoinedFault : Graph → Fault → Type 0
-IsUnjoinedFault g (Refused refusal) = IsUnjoined g refusal
-IsUnjoinedFault g NoMemory = ⊤
-
-abbrev pub IsNetworkFault : Bool → List ℕ → Fault → Type 0
-IsNetworkFault terms bytes (Refused refusal) = RefusesNetwork terms bytes refusal
-IsNetworkFault terms bytes NoMemory = ⊤

@@ -1,13 +1,14 @@
 ghost use Rattle.std.specs.Prelude.{◌≡◌, ◌<◌, ◌≤◌, ◌^◌, [], true, false, None, Some, length, pos, IfOk, IfErr, OnOk, ℤ, ◌≤ℤ◌, ◌+◌};
 ghost use Rattle.sg_limits.specs.Limits.{bond_limit, spin_limit};
 ghost use Rattle.sg_graph.specs.Web.{IsEdge};
-ghost use Rattle.sg_reader.specs.Body.{is_end, sizes_from};
+ghost use Rattle.sg_reader.specs.Body.{says_end, sizes_from};
 ghost use Rattle.sg_reader.specs.Leaves.{IsRest, Leaves};
-ghost use Rattle.sg_reader.specs.Ended.{IsRecordsFault, StatesToEnd};
+ghost use Rattle.sg_reader.specs.Ended.{StatesToEnd, RefusesRecords};
 ghost use Rattle.sg_reader.specs.Kept.{field};
-ghost use Rattle.sg_reader.specs.Tests.{IsTestFault, at_least, is_number_in, number_in};
-ghost use Rattle.sg_graph_text.specs.Graph.{body_fault, body_graph, edge_fault, edge_of, IsGraphText, is_edge, is_term, room_fault, term_fault};
-ghost use Rattle.sg_graph_text.specs.GraphHolds.{HoldsGraph, HoldsNext, HoldsSome, IsHeldFault, IsHeldGraph, IsNextFault, PassesHeld, PassesNext};
+ghost use Rattle.sg_reader.specs.Tests.{at_least, is_number_in, number_in, Refuses};
+ghost use Rattle.sg_graph_text.specs.Graph.{body_fault, body_graph, edge_fault, edge_of, IsGraphText, says_edge, says_term, room_fault, term_fault};
+ghost use Rattle.sg_graph_text.specs.GraphHolds.{HoldsGraph, HoldsNextGraph, HoldsSomeGraph, IsHeldGraphFault, IsHeldGraph, IsNextGraphFault, PassesHeld, PassesNextGraph};
+ghost use Rattle.sg_model.specs.Faults.{OrNoMemory};
 
 use super::graph::GraphText;
 use super::terminals::list_terminals;
@@ -67,11 +68,11 @@ fn read_edge(row: &Row, n: u32, m: usize) -> Result<Edge, Refusal>
 
 // The entries of a record `term,T,..`, where one may stand before it.
 fn read_term(alloc: Global, row: &Row, seen: bool) -> Result<Terminals, Fault>
-    requires { is_term row.now ≡ true }
+    requires { says_term row.now ≡ true }
     ensures passes { IfOk result (λ l. term_fault seen row.now ≡ None) }
     ensures value { IfOk result (λ l. l ≡ sizes_from row.now 1) }
     ensures first { IfOk result (λ l. seen ≡ false) }
-    ensures fault { IfErr result (IsTestFault (term_fault seen row.now)) }
+    ensures fault { IfErr result (OrNoMemory (Refuses (term_fault seen row.now))) }
 {
     if seen {
         return Err(Fault::Refused(Refusal::BadShape { at: row.at() }));
@@ -95,11 +96,11 @@ impl GraphBody {
 
     fn take_edge(&mut self, row: &Row) -> Result<(), Fault>
         requires some { 1 ≤ self.old.nodes }
-        requires word { is_edge row.now ≡ true }
-        ensures passes { OnOk result (PassesNext self.old row.now) }
-        ensures holds { OnOk result (HoldsNext self.old row.now self.new) }
+        requires word { says_edge row.now ≡ true }
+        ensures passes { OnOk result (PassesNextGraph self.old row.now) }
+        ensures holds { OnOk result (HoldsNextGraph self.old row.now self.new) }
         ensures same { OnOk result ((self.new.nodes ≡ self.old.nodes) × (self.new.terms ≡ self.old.terms)) }
-        ensures fault { IfErr result (IsNextFault self.old row.now) }
+        ensures fault { IfErr result (IsNextGraphFault self.old row.now) }
     {
         let edge = read_edge(row, self.nodes, self.edges.len())?;
         self.edges.push(edge)?;
@@ -108,11 +109,11 @@ impl GraphBody {
 
     fn take_term(&mut self, alloc: Global, row: &Row) -> Result<(), Fault>
         requires allowed { self.old.terms ≡ true }
-        requires word { is_term row.now ≡ true }
-        ensures passes { OnOk result (PassesNext self.old row.now) }
-        ensures holds { OnOk result (HoldsNext self.old row.now self.new) }
+        requires word { says_term row.now ≡ true }
+        ensures passes { OnOk result (PassesNextGraph self.old row.now) }
+        ensures holds { OnOk result (HoldsNextGraph self.old row.now self.new) }
         ensures same { OnOk result ((self.new.nodes ≡ self.old.nodes) × (self.new.terms ≡ self.old.terms)) }
-        ensures fault { IfErr result (IsNextFault self.old row.now) }
+        ensures fault { IfErr result (IsNextGraphFault self.old row.now) }
     {
         let entries = read_term(alloc, row, self.entries.is_some())?;
         self.entries = Some(entries);
@@ -122,11 +123,11 @@ impl GraphBody {
     // Takes a record that is not the `end`.
     fn take(&mut self, alloc: Global, row: &Row) -> Result<(), Fault>
         requires some { 1 ≤ self.old.nodes }
-        requires other { is_end row.now ≡ false }
-        ensures passes { OnOk result (PassesNext self.old row.now) }
-        ensures holds { OnOk result (HoldsNext self.old row.now self.new) }
+        requires other { says_end row.now ≡ false }
+        ensures passes { OnOk result (PassesNextGraph self.old row.now) }
+        ensures holds { OnOk result (HoldsNextGraph self.old row.now self.new) }
         ensures same { OnOk result ((self.new.nodes ≡ self.old.nodes) × (self.new.terms ≡ self.old.terms)) }
-        ensures fault { IfErr result (IsNextFault self.old row.now) }
+        ensures fault { IfErr result (IsNextGraphFault self.old row.now) }
     {
         if row.begins(EDGE) {
             self.take_edge(row)
@@ -141,11 +142,11 @@ impl GraphBody {
     fn graph(self, alloc: Global) -> Result<GraphText, Fault>
         requires some { 1 ≤ self.nodes }
         requires few { self.nodes ≤ spin_limit }
-        requires held { HoldsSome self }
+        requires held { HoldsSomeGraph self }
         ensures passes { IfOk result (λ g. PassesHeld self) }
         ensures value { IfOk result (IsHeldGraph self) }
         ensures sound { IfOk result IsGraphText }
-        ensures fault { IfErr result (IsHeldFault self) }
+        ensures fault { IfErr result (IsHeldGraphFault self) }
     {
         let GraphBody {
             nodes,
@@ -185,7 +186,7 @@ pub(crate) fn read_body(
     ensures read { IfOk result (λ r. StatesToEnd (body_fault terms n) (body_graph n) records.old r.0 r.1) }
     ensures left { IfOk result (λ r. Leaves records.old records.new r.1) }
     ensures sound { IfOk result (λ r. IsGraphText r.0) }
-    ensures fault { IfErr result (IsRecordsFault (body_fault terms n) records.old) }
+    ensures fault { IfErr result (OrNoMemory (RefusesRecords (body_fault terms n) records.old)) }
     ensures rest { IsRest records.old records.new }
 {
     let mut body = GraphBody::new(alloc, n, terms);

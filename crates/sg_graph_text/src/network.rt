@@ -1,10 +1,11 @@
 ghost use Rattle.std.specs.Prelude.{◌≡◌, ◌<◌, ◌≤◌, length, pos, IfOk, IfErr, OnOk};
 ghost use Rattle.std.specs.List.{sum_by};
 ghost use Rattle.sg_limits.specs.Limits.{bond_limit, sum_limit, text_limit};
-ghost use Rattle.sg_graph.specs.Walk.{IsConnected};
+ghost use Rattle.sg_graph.specs.Walk.{IsConnectedWeb};
 ghost use Rattle.sg_graph.specs.Web.{total_weight, weight_at};
 ghost use Rattle.sg_graph_text.specs.Graph.{IsGraphText};
-ghost use Rattle.sg_graph_text.specs.Network.{GivesAlone, GivesNetwork, IsAloneFault, IsNetwork, IsNetworkFault, IsTooHeavy, IsUnjoinedFault, graph_in};
+ghost use Rattle.sg_graph_text.specs.Network.{GivesAlone, GivesNetwork, IsNetwork, IsTooHeavy, graph_in, RefusesGraphAlone, IsUnjoined, RefusesNetwork};
+ghost use Rattle.sg_model.specs.Faults.{OrNoMemory};
 
 use super::graph::GraphText;
 use super::read::read_graph;
@@ -40,7 +41,7 @@ fn read_alone(alloc: Global, bytes: &[u8], terms: bool) -> Result<GraphText, Fau
     requires { length bytes.now < text_limit }
     ensures gives { IfOk result (GivesAlone terms bytes.now) }
     ensures sound { IfOk result IsGraphText }
-    ensures refuses { IfErr result (IsAloneFault terms bytes.now) }
+    ensures refuses { IfErr result (OrNoMemory (RefusesGraphAlone terms bytes.now)) }
 {
     let mut rows = Rows::new(alloc, bytes);
     match read_graph(alloc, &mut rows, terms) {
@@ -72,8 +73,8 @@ fn web_of(text: GraphText) -> Result<Network, Refusal>
 
 // Whether each node of a web is reached.
 fn check_joined(alloc: Global, web: &Web) -> Result<(), Fault>
-    ensures connected { OnOk result (IsConnected web.now) }
-    ensures refused { IfErr result (IsUnjoinedFault web.now) }
+    ensures connected { OnOk result (IsConnectedWeb web.now) }
+    ensures refused { IfErr result (OrNoMemory (IsUnjoined web.now)) }
 {
     match first_unreached(alloc, web)? {
         Some(node) => Err(Fault::Refused(Refusal::NotJoined { node })),
@@ -94,7 +95,7 @@ pub fn read_network(alloc: Global, bytes: &[u8], terms: bool) -> Result<Network,
     requires { length bytes.now < text_limit }
     ensures gives { IfOk result (λ n. GivesNetwork terms bytes.now n.web n.terminals) }
     ensures sound { IfOk result (λ n. IsNetwork n.web n.terminals) }
-    ensures refuses { IfErr result (IsNetworkFault terms bytes.now) }
+    ensures refuses { IfErr result (OrNoMemory (RefusesNetwork terms bytes.now)) }
 {
     let text = read_alone(alloc, bytes, terms)?;
     let network = web_of(text)?;

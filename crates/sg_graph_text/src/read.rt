@@ -3,7 +3,8 @@ ghost use Rattle.sg_limits.specs.Limits.{spin_limit};
 ghost use Rattle.sg_reader.specs.Leaves.{IsRest, Leaves};
 ghost use Rattle.sg_reader.specs.Tests.{size_in};
 ghost use Rattle.sg_graph_text.specs.Graph.{IsGraphText, size_fault};
-ghost use Rattle.sg_graph_text.specs.ReadGraph.{IsGraphFault, ReadsGraph};
+ghost use Rattle.sg_graph_text.specs.ReadGraph.{ReadsGraph, RefusesGraph};
+ghost use Rattle.sg_model.specs.Faults.{OrNoMemory};
 
 use super::body::read_body;
 use super::graph::GraphText;
@@ -19,7 +20,7 @@ fn next_size(rows: &mut Rows<'_>, row: &mut Row, terms: bool) -> Result<u32, Fau
     ensures value { IfOk result (λ n. n ≡ size_in row.new 1) }
     ensures some { IfOk result (λ n. 1 ≤ n) }
     ensures few { IfOk result (λ n. n ≤ spin_limit) }
-    ensures fault { IfErr result (IsGraphFault terms rows.old) }
+    ensures fault { IfErr result (OrNoMemory (RefusesGraph terms rows.old)) }
     ensures rest { IsRest rows.old rows.new }
 {
     if !rows.next(row)? {
@@ -61,7 +62,7 @@ pub fn read_graph(
     ensures read { IfOk result (λ r. ReadsGraph terms rows.old r.0 r.1) }
     ensures left { IfOk result (λ r. Leaves rows.old rows.new r.1) }
     ensures sound { IfOk result (λ r. IsGraphText r.0) }
-    ensures fault { IfErr result (IsGraphFault terms rows.old) }
+    ensures fault { IfErr result (OrNoMemory (RefusesGraph terms rows.old)) }
     ensures rest { IsRest rows.old rows.new }
 {
     let mut row = Row::new(alloc);

@@ -30,7 +30,7 @@ use Rattle.sg_dual.proofs.DualWebs.{dual_edge_at, dual_edge_count}
 use Rattle.sg_model.specs.Connected.{IsConnected}
 use Rattle.sg_planar.specs.BrokenLists.{BreaksExactly}
 use Rattle.sg_planar.specs.Fit.{Embedding, IsPlanar}
-use Rattle.sg_planar.specs.Following.{Follows, is_unlike, value_of}
+use Rattle.sg_planar.specs.Following.{FollowsBonds, is_unlike, value_of}
 use Rattle.sg_planar.proofs.FollowedBonds.{values_assigned, values_break}
 use Rattle.sg_planar.proofs.Embeddings.{cuts_meet_evenly}
 use Rattle.sg_planar.proofs.FaceNumbers.{labels_number}
@@ -132,7 +132,7 @@ module _ (p : Embedding) (planar : IsPlanar p) (connected : IsConnected p.instan
   -- the least energy is twice the weight of a least join, less that of all bonds
   pub least_energy_by_join : IsLeastEnergy p.instance (pos (2 * weight_of (dual_web p.instance p.faces) edges) -ℤ pos (weight p.instance))
   least_energy_by_join =
-      let found : (down : ℕ → Bool) × Follows p.instance (is_unlike p.instance edges) down =
+      let found : (down : ℕ → Bool) × FollowsBonds p.instance (is_unlike p.instance edges) down =
       fitting_follows p.instance planar.instance p.faces planar.faces connected planar.genus_zero edges (join_fits p.instance p.faces edges least.join) in
       let down : List Bool = joined_down found.0 in
       let lengths : length down ≡ p.instance.n = length-map (range_with_len 0 p.instance.n) found.0 ∙ length-range_with_len 0 p.instance.n in

@@ -7,7 +7,7 @@ use Rattle.sg_model.specs.Broken.{is_broken}
 use Rattle.sg_model.specs.Spins.{IsAssignment}
 use Rattle.sg_check.specs.declared.packing.Loop.{Loop}
 use Rattle.sg_check.specs.Loop.{IsFrustratedLoop}
-use Rattle.sg_check.specs.Packing.{load, total_weight}
+use Rattle.sg_check.specs.Packing.{load, packed_weight}
 use Rattle.sg_planar.specs.declared.components.Part.{Part}
 
 -- the sum over the bonds of these parts
@@ -53,5 +53,5 @@ pub record IsGlued (inst : Ising) (parts : List Part) (s : List ℤ) (e : ℤ) (
   pub positive : All (λ l. pos 1 ≤ℤ l.y) loops
   pub frustrated : All (λ l. IsFrustratedLoop inst l.bonds) loops
   pub within : (k : ℕ) → load loops k ≤ sum_by (λ p. cond (holds p.bonds k) (2 * size_at inst k) 0) parts
-  pub tight : total_weight loops ≡ over_bonds (cost_at inst s) parts
+  pub tight : packed_weight loops ≡ over_bonds (cost_at inst s) parts
   pub short : 2 * length loops ≤ 5 * over_bonds (λ _. 1) parts

@@ -13,10 +13,10 @@ use Rattle.sg_model.specs.WellFormed.{IsInstance}
 use Rattle.sg_model.specs.Energy.{weight}
 use Rattle.sg_check.specs.declared.packing.Loop.{Loop}
 use Rattle.sg_check.specs.Loop.{IsFrustratedLoop}
-use Rattle.sg_check.specs.Packing.{loop_weight, total_weight}
+use Rattle.sg_check.specs.Packing.{loop_weight, packed_weight}
 use Rattle.sg_planar.specs.declared.components.Part.{Part}
 use Rattle.sg_planar.specs.Parts.{AreParts}
-use Rattle.sg_ground.specs.Placed.{Writes, loop_in_whole, numbered}
+use Rattle.sg_ground.specs.Placed.{WritesSpins, loop_in_whole, numbered}
 use Rattle.sg_ground.specs.Solution.{IsSolution}
 use Rattle.sg_ground.proofs.Shares.{IsShare}
 use Rattle.sg_ground.proofs.Glued.{IsGlued, cost_at, over_bonds, size_at}
@@ -40,15 +40,15 @@ none_glued inst = record {
 module _ (inst : Ising) (good : IsInstance inst) where
   module _ (parts done rest : List Part) (p : Part) (are : AreParts inst parts) (parted : parts ≡ done ++ p ∷ rest)
       (s t u : List ℤ) (e f : ℤ) (loops more : List Loop)
-      (glued : IsGlued inst done s e loops) (solution : IsSolution p.planar.instance t f more) (writes : Writes p.spins t s u) where
+      (glued : IsGlued inst done s e loops) (solution : IsSolution p.planar.instance t f more) (writes : WritesSpins p.spins t s u) where
     here : IsShare inst p.spins p.bonds p.planar.instance
     here = share inst good parts done rest p are parted
 
     costs : over_bonds (cost_at inst u) (done ++ p ∷ []) ≡ over_bonds (cost_at inst s) done + sum_by (cost_at inst u) p.bonds
     costs = costs_more inst good parts done rest p are parted s t u e f glued.placed solution.proves.assignment solution.proves.stated writes
 
-    total_here : total_weight (map (loop_in_whole p.bonds) more) ≡ sum_by (cost_at inst u) p.bonds
-    total_here = total_over p.bonds more ∙ whole (total_weight more) f (sum_by (cost_at inst u) p.bonds) (sum_by (size_at inst) p.bonds)
+    total_here : packed_weight (map (loop_in_whole p.bonds) more) ≡ sum_by (cost_at inst u) p.bonds
+    total_here = total_over p.bonds more ∙ whole (packed_weight more) f (sum_by (cost_at inst u) p.bonds) (sum_by (size_at inst) p.bonds)
         (weight p.planar.instance)
         solution.proves.tight
         (energy_here inst good parts done rest p are parted s t u e f glued.placed solution.proves.assignment solution.proves.stated writes)
@@ -108,7 +108,7 @@ module _ (inst : Ising) (good : IsInstance inst) where
         frustrated = glued.frustrated;
         within = λ k l. omega (arith, glued.within k, once_each (λ (p : Part). holds p.bonds k) (2 * size_at inst k) parts (are.bonds_once k l));
       };
-      tight = whole (total_weight loops) e _ _ (weight inst) glued.tight glued.placed.stated (sizes_all inst good parts are);
+      tight = whole (packed_weight loops) e _ _ (weight inst) glued.tight glued.placed.stated (sizes_all inst good parts are);
     };
     short = omega (arith, glued.short, dealt_to_parts inst parts are (λ _. 1), sum_below_ones (bond_count inst));
     leasts_up = glued.leasts_up;
@@ -132,7 +132,7 @@ module _ (inst : Ising) (good : IsInstance inst) (parts : List Part) (are : AreP
 
   -- one part more
   pub part_glued : (s t u : List ℤ) (e f : ℤ) (loops more : List Loop) →
-      IsGlued inst (take i parts) s e loops → IsSolution p.planar.instance t f more → Writes p.spins t s u →
+      IsGlued inst (take i parts) s e loops → IsSolution p.planar.instance t f more → WritesSpins p.spins t s u →
       IsGlued inst (take (i + 1) parts) u (e +ℤ f) (loops ++ map (loop_in_whole p.bonds) more)
   part_glued s t u e f loops more glued solution writes =
       subst (λ ps. IsGlued inst ps u (e +ℤ f) (loops ++ map (loop_in_whole p.bonds) more)) (sym (with_this inst good parts are i p l same))

@@ -14,20 +14,20 @@ use Rattle.sg_model.specs.Connected.{IsConnected}
 use Rattle.sg_faces.specs.Faces.{Labelling, IsFaceLabels}
 use Rattle.sg_graph.specs.declared.cut.Cut.{Cut}
 use Rattle.sg_graph.specs.Web.{edge_weight, weight_at}
-use Rattle.sg_graph.specs.OddCut.{CutsPack, IsOddCut, cut_load, cut_weight}
+use Rattle.sg_graph.specs.OddCut.{CutsPack, IsOddCut, cut_load, odd_cut_weight}
 use Rattle.sg_dual.specs.Dual.{dual_web, frustrated_faces, is_frustrated}
 use Rattle.sg_dual.proofs.DualWebs.{dual_edge_at, dual_edge_count, one_face_alone}
 use Rattle.sg_dual.proofs.Frustration.{even_frustrated}
 use Rattle.sg_check.specs.declared.packing.Loop.{Loop}
 use Rattle.sg_check.specs.Loop.{IsFrustratedLoop}
-use Rattle.sg_check.specs.Packing.{Packs, IsShort, load, loop_weight, total_weight}
+use Rattle.sg_check.specs.Packing.{Packs, IsShort, load, loop_weight, packed_weight}
 use Rattle.sg_ground.specs.Loops.{loop_of}
 use Rattle.sg_ground.proofs.FrustratedCuts.{odd_cut_is_loop}
 
 -- the loops weigh what the cuts weigh, together and on each bond
-pub loops_weight : (cuts : List Cut) → total_weight (map loop_of cuts) ≡ sum_by cut_weight cuts
+pub loops_weight : (cuts : List Cut) → packed_weight (map loop_of cuts) ≡ sum_by odd_cut_weight cuts
 loops_weight [] = refl
-loops_weight (c ∷ cuts) = omega (arith, loops_weight cuts, sum_by-cons loop_weight (loop_of c) (map loop_of cuts), sum_by-cons cut_weight c cuts)
+loops_weight (c ∷ cuts) = omega (arith, loops_weight cuts, sum_by-cons loop_weight (loop_of c) (map loop_of cuts), sum_by-cons odd_cut_weight c cuts)
 
 -- a bond carries of the loops what its edge carries of the cuts
 pub loops_load : (cuts : List Cut) (k : ℕ) → load (map loop_of cuts) k ≡ cut_load cuts k
@@ -37,7 +37,7 @@ loops_load (c ∷ cuts) k =
       arith,
       loops_load cuts k,
       sum_by-cons (λ (l : Loop). cond (holds l.bonds k) (loop_weight l) 0) (loop_of c) (map loop_of cuts),
-      sum_by-cons (λ (c : Cut). cond (holds c.edges k) (cut_weight c) 0) c cuts,
+      sum_by-cons (λ (c : Cut). cond (holds c.edges k) (odd_cut_weight c) 0) c cuts,
     )
 
 -- a choice is no longer than what it is made from

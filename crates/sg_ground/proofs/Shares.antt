@@ -21,7 +21,7 @@ use Rattle.sg_model.specs.Broken.{is_negative}
 use Rattle.sg_model.proofs.BrokenEnergy.{broken_cost, unit_at}
 use Rattle.sg_check.specs.declared.packing.Loop.{Loop}
 use Rattle.sg_check.specs.Loop.{IsFrustratedLoop, degree, is_end_of, negative_count}
-use Rattle.sg_check.specs.Packing.{load, loop_weight, total_weight, IsWithin}
+use Rattle.sg_check.specs.Packing.{load, loop_weight, packed_weight, IsWithin}
 use Rattle.sg_ground.specs.Placed.{HasValues, loop_in_whole, numbered}
 
 -- a share of an instance: some of its spins and bonds in rising order, as an instance that numbers both by their places; its bonds join the
@@ -242,5 +242,5 @@ module _ (inst : Ising) (spins bonds : List ℕ) (share : Ising) (is : IsShare i
           omega (arith, nothing)
 
 -- the loops weigh the same together
-pub total_over : (bonds : List ℕ) (loops : List Loop) → total_weight (map (loop_in_whole bonds) loops) ≡ total_weight loops
+pub total_over : (bonds : List ℕ) (loops : List Loop) → packed_weight (map (loop_in_whole bonds) loops) ≡ packed_weight loops
 total_over bonds loops = sum_by-map_of loop_weight (loop_in_whole bonds) loops

@@ -15,9 +15,9 @@ use Rattle.sg_model.proofs.EnergyBounds.{energy_size}
 use Rattle.sg_graph.specs.declared.cut.Cut.{Cut}
 use Rattle.sg_graph.specs.Web.{Graph, weight_of}
 use Rattle.sg_graph.specs.Join.{IsLeastJoin}
-use Rattle.sg_graph.specs.OddCut.{CutsPack, cut_weight}
+use Rattle.sg_graph.specs.OddCut.{CutsPack, odd_cut_weight}
 use Rattle.sg_check.specs.declared.packing.Loop.{Loop}
-use Rattle.sg_check.specs.Packing.{total_weight}
+use Rattle.sg_check.specs.Packing.{packed_weight}
 use Rattle.sg_check.proofs.WeakDuality.{proves_ground_state}
 use Rattle.sg_planar.specs.Fit.{Embedding, IsPlanar}
 use Rattle.sg_planar.specs.BrokenLists.{BreaksExactly, FitsFaces}
@@ -45,7 +45,7 @@ module _ (p : Embedding) (planar : IsPlanar p) (connected : IsConnected p.instan
   -- a least join of the terminals in the web, where these are the dual and the frustrated faces
   pub tight_join : (web : Graph) (terminals edges : List ℕ) (cuts : List Cut) →
       web ≡ dual_web p.instance p.faces → terminals ≡ frustrated_faces p.instance p.faces →
-      IsLeastJoin web terminals edges → CutsPack web terminals cuts → sum_by cut_weight cuts ≡ 2 * weight_of web edges → IsTightJoin p edges cuts
+      IsLeastJoin web terminals edges → CutsPack web terminals cuts → sum_by odd_cut_weight cuts ≡ 2 * weight_of web edges → IsTightJoin p edges cuts
   tight_join web terminals edges cuts same_web same_terminals least packs tight = record {
     least = subst (λ ts. IsLeastJoin (dual_web p.instance p.faces) ts edges) same_terminals (subst (λ g. IsLeastJoin g terminals edges) same_web least);
     packs = subst (λ ts. CutsPack (dual_web p.instance p.faces) ts cuts) same_terminals (subst (λ g. CutsPack g terminals cuts) same_web packs);
@@ -69,7 +69,7 @@ module _ (p : Embedding) (planar : IsPlanar p) (connected : IsConnected p.instan
       assignment = assigned;
       stated = stated;
       packs = packs_loops p.instance p.faces planar.instance planar.faces cuts join.packs;
-      tight = tight_sum e (total_weight (map loop_of cuts)) (sum_by (broken_weight s) p.instance.bonds) (weight p.instance)
+      tight = tight_sum e (packed_weight (map loop_of cuts)) (sum_by (broken_weight s) p.instance.bonds) (weight p.instance)
           (loops_weight cuts ∙ join.tight ∙ ap (λ w. 2 * w) (sym (broken_weight_is p.instance p.faces edges join.least.join s breaks)))
           (sym stated ∙ energy_from_broken p.instance s planar.instance assigned);
     };

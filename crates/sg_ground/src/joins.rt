@@ -5,7 +5,7 @@ ghost use Rattle.sg_model.specs.Connected.{IsConnected};
 ghost use Rattle.sg_model.specs.Energy.{weight};
 ghost use Rattle.sg_planar.specs.Fit.{IsPlanar};
 ghost use Rattle.sg_graph.specs.Join.{AreTerminals};
-ghost use Rattle.sg_graph.specs.Walk.{IsConnected as IsConnectedWeb};
+ghost use Rattle.sg_graph.specs.Walk.{IsConnectedWeb};
 ghost use Rattle.sg_graph.specs.Web.{total_weight};
 ghost use Rattle.sg_dual.specs.Dual.{dual_web, frustrated_faces};
 ghost use Rattle.sg_ground.specs.TightJoin.{IsWeighedJoin};

@@ -2,7 +2,7 @@
 
 ghost use Rattle.std.specs.Prelude.{◌≡◌, ℕ, ◌<◌, ◌+◌, ◌*◌, ◌≤◌, ◌↔◌, IsTrue, length, All};
 ghost use Rattle.sg_graph.specs.Web.{IsWeb, edge_count};
-ghost use Rattle.sg_join_check.specs.Shape.{HasShape, IsEdgeSet};
+ghost use Rattle.sg_join_check.specs.Shape.{HasCutShape, IsEdgeSet};
 
 use sg_graph::{Cut, Web};
 use sg_sums::{all_below, is_rising};
@@ -15,14 +15,14 @@ pub fn is_edge_set(web: &Web, list: &[u32]) -> bool
 }
 
 fn has_shape(web: &Web, cut: &Cut) -> bool
-    ensures { IsTrue result ↔ HasShape web.now cut.now }
+    ensures { IsTrue result ↔ HasCutShape web.now cut.now }
 {
     cut.y >= 1 && is_edge_set(web, cut.edges.as_slice())
 }
 
 // Whether each cut has a weight of 1 or more, and a set of edges.
 pub fn all_shaped(web: &Web, cuts: &[Cut]) -> bool
-    ensures { IsTrue result → All (HasShape web.now) cuts.now }
+    ensures { IsTrue result → All (HasCutShape web.now) cuts.now }
 {
     for cut in cuts {
         if !has_shape(web, cut) {

@@ -14,10 +14,10 @@ use Rattle.serde_json.specs.View.{items_view, view}
 use Rattle.serde_json.specs.declared.value.Value.{Value}
 use Rattle.sg_reader.proofs.TestLaws.{find_range-none, find_range-some}
 use Rattle.sg_json.specs.declared.entry.Entry.{Entry}
-use Rattle.sg_json.specs.Values.{in_range, index_of, indices_of, item_at, items_in, list_in, listed, number_of, whole}
+use Rattle.sg_json.specs.Values.{in_range, index_of, indices_of, item_at, items_in, list_in, listed, value_number, whole}
 use Rattle.sg_model.specs.declared.bond.Bond.{Bond}
 use Rattle.sg_model.specs.declared.refusal.Refusal.TheVariants.{SelfBond}
-use Rattle.sg_json.specs.Members.{bond_at, entries_fault, fits, is_self, misfit, self_fault}
+use Rattle.sg_json.specs.Members.{member_bond, entries_fault, fits, is_self_bond, misfit, self_fault}
 
 -- the items of an array are those that the code has
 pub listed_view : (vs : List Value) → listed (items_view vs) ≡ map view vs
@@ -59,16 +59,16 @@ misfit-some what ds k inside earlier bad =
     (λ i low high. not_from_true _ (earlier i high)) (not_from_false _ bad)
 
 -- the first bond between a spin and itself
-pub self-some : (bonds : List Bond) (k : ℕ) → k < length bonds → ((i : ℕ) → i < k → is_self (bond_at bonds i) ≡ false)
-    → is_self (bond_at bonds k) ≡ true → self_fault bonds ≡ Some (SelfBond k)
+pub self-some : (bonds : List Bond) (k : ℕ) → k < length bonds → ((i : ℕ) → i < k → is_self_bond (member_bond bonds i) ≡ false)
+    → is_self_bond (member_bond bonds k) ≡ true → self_fault bonds ≡ Some (SelfBond k)
 self-some bonds k inside earlier here =
     ap (option_map (λ i. SelfBond i))
-    (find_range-some (λ i. is_self (bond_at bonds i)) 0 (length bonds) k (omega arith) (omega arith) (λ i low high. earlier i high) here)
+    (find_range-some (λ i. is_self_bond (member_bond bonds i)) 0 (length bonds) k (omega arith) (omega arith) (λ i low high. earlier i high) here)
 
 -- where no bond joins a spin to itself no test fails
-pub self-none : (bonds : List Bond) → ((i : ℕ) → i < length bonds → is_self (bond_at bonds i) ≡ false) → self_fault bonds ≡ None
+pub self-none : (bonds : List Bond) → ((i : ℕ) → i < length bonds → is_self_bond (member_bond bonds i) ≡ false) → self_fault bonds ≡ None
 self-none bonds h =
-    ap (option_map (λ i. SelfBond i)) (find_range-none (λ i. is_self (bond_at bonds i)) 0 (length bonds) (λ i low high. h i (omega arith)))
+    ap (option_map (λ i. SelfBond i)) (find_range-none (λ i. is_self_bond (member_bond bonds i)) 0 (length bonds) (λ i low high. h i (omega arith)))
 
 -- where no number of a range passes
 pub find_range-all : (p : ℕ → Bool) (a n k : ℕ) → find p (range_with_len a n) ≡ None → a ≤ k → k < a + n → p k ≡ false
@@ -121,7 +121,7 @@ in_range-small (negsuc n) y h =
     rw (← k.1) (omega (arith, few))
 
 -- a number of a value is less than 2^63 in size
-pub number-small : (d : Data) → unsigned_abs (number_of d) < 2 ^ 63
+pub number-small : (d : Data) → unsigned_abs (value_number d) < 2 ^ 63
 number-small d = of_integer (option_and_then as_i64 (as_number d))
   where
     of_kept : (o : Option ℤ) → ((y : ℤ) → o ≡ Some y → unsigned_abs y < 2 ^ 63) → unsigned_abs (unwrap_or o (pos 0)) < 2 ^ 63
@@ -133,6 +133,6 @@ number-small d = of_integer (option_and_then as_i64 (as_number d))
     of_integer (Some z) = of_kept (in_range z) (λ y e. in_range-small z y e)
 
 -- so are all of a list
-pub numbers-small : (ds : List Data) → All (λ j. unsigned_abs j < 2 ^ 63) (map number_of ds)
-numbers-small ds = All-map (λ j. unsigned_abs j < 2 ^ 63) number_of ds
-    (All-from_get_or (λ (d : Data). unsigned_abs (number_of d) < 2 ^ 63) ds null (λ i inside. number-small (get_or ds i null)))
+pub numbers-small : (ds : List Data) → All (λ j. unsigned_abs j < 2 ^ 63) (map value_number ds)
+numbers-small ds = All-map (λ j. unsigned_abs j < 2 ^ 63) value_number ds
+    (All-from_get_or (λ (d : Data). unsigned_abs (value_number d) < 2 ^ 63) ds null (λ i inside. number-small (get_or ds i null)))

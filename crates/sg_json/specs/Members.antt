@@ -21,7 +21,7 @@ use Rattle.sg_reader.specs.Tests.{first_of, refuse_if}
 use Rattle.sg_reader.specs.Body.{reseamed}
 use Rattle.sg_json.specs.declared.entry.Entry.{Entry}
 use Rattle.sg_json.specs.declared.entry.Entry.TheVariants as entry
-use Rattle.sg_json.specs.Values.{bond_of, index_of, indices_of, is_bond, is_index, is_index_list, is_whole, items_at, items_in, item_at, list_at, list_in, names_in, number_of, size_at}
+use Rattle.sg_json.specs.Values.{value_bond, index_of, indices_of, is_bond_value, is_index, is_index_list, is_whole, items_at, items_in, item_at, member_list, list_in, names_in, value_number, size_at}
 
 -- the kind, one of the five words
 abbrev pub form_in : Data → Option Form
@@ -40,7 +40,7 @@ is_known form.General name =
 -- whether a value may stand in a list
 abbrev pub fits : Entry → Data → Bool
 fits entry.Coupling d = is_whole d
-fits (entry.Bond n) d = is_bond n d
+fits (entry.Bond n) d = is_bond_value n d
 fits entry.Darts d = is_index_list d
 fits entry.Index d = is_index d
 
@@ -62,20 +62,20 @@ rotation_fault n None = Some (BadMember 8 0)
 rotation_fault n (Some ds) = if length ds == n then entries_fault 8 entry.Darts ds else Some (BadMember 8 0)
 
 -- the seam may be missing
-abbrev pub seam_fault : Option Data → Option Refusal
-seam_fault None = None
-seam_fault (Some d) = list_fault 9 entry.Index (list_in d)
+abbrev pub member_seam_fault : Option Data → Option Refusal
+member_seam_fault None = None
+member_seam_fault (Some d) = list_fault 9 entry.Index (list_in d)
 
 -- the first bond between a spin and itself
-abbrev pub bond_at : List Bond → ℕ → Bond
-bond_at bonds k = slice_index_or bonds k (record { u = 0; v = 0; j = pos 0 })
+abbrev pub member_bond : List Bond → ℕ → Bond
+member_bond bonds k = slice_index_or bonds k (record { u = 0; v = 0; j = pos 0 })
 
-abbrev pub is_self : Bond → Bool
-is_self b = b.u == b.v
+abbrev pub is_self_bond : Bond → Bool
+is_self_bond b = b.u == b.v
 
 abbrev pub self_fault : List Bond → Option Refusal
 self_fault bonds =
-    option_map (λ k. SelfBond k) (find (λ k. is_self (bond_at bonds k)) (range_with_len 0 (length bonds)))
+    option_map (λ k. SelfBond k) (find (λ k. is_self_bond (member_bond bonds k)) (range_with_len 0 (length bonds)))
 
 -- rows and columns of a lattice, and the spins of another instance
 abbrev pub rows_in : Data → ℕ
@@ -84,8 +84,8 @@ rows_in d = unwrap_or (size_at (codes "rows") 1 d) 0
 abbrev pub cols_in : Kind → Data → ℕ
 cols_in kind d = unwrap_or (size_at (codes "cols") (least_cols kind) d) 0
 
-abbrev pub spins_in : Data → ℕ
-spins_in d = unwrap_or (size_at (codes "n") 1 d) 0
+abbrev pub member_spins : Data → ℕ
+member_spins d = unwrap_or (size_at (codes "n") 1 d) 0
 
 abbrev pub many_fault : ℕ → Option Refusal
 many_fault n = refuse_if (nat_lt spin_limit n) (TooManySpins (pos n))
@@ -100,7 +100,7 @@ lattice_size_fault kind d = first_of (
 abbrev pub general_size_fault : Data → Option Refusal
 general_size_fault d = first_of (
     refuse_if (not (is_some (size_at (codes "n") 1 d))) (BadMember 5 0)
-    ∷ many_fault (spins_in d)
+    ∷ many_fault (member_spins d)
     ∷ [])
 
 -- how many couplings there are
@@ -108,66 +108,67 @@ abbrev pub count_fault : ℕ → ℕ → Option Refusal
 count_fault found wanted = refuse_if (not (found == wanted)) (CouplingCount found wanted)
 
 -- the tests of a lattice
-abbrev pub lattice_fault : Kind → Data → Option Refusal
-lattice_fault kind d = first_of (
+abbrev pub lattice_members_fault : Kind → Data → Option Refusal
+lattice_members_fault kind d = first_of (
     lattice_size_fault kind d
-    ∷ list_fault 6 entry.Coupling (list_at (codes "couplings") d)
-    ∷ seam_fault (get (codes "seam") d)
+    ∷ list_fault 6 entry.Coupling (member_list (codes "couplings") d)
+    ∷ member_seam_fault (get (codes "seam") d)
     ∷ count_fault (length (items_at (codes "couplings") d)) (bond_total kind (rows_in d) (cols_in kind d))
     ∷ [])
 
 -- the bonds of another instance
-abbrev pub bonds_in : Data → List Bond
-bonds_in d = map bond_of (items_at (codes "bonds") d)
+abbrev pub member_bonds : Data → List Bond
+member_bonds d = map value_bond (items_at (codes "bonds") d)
 
-abbrev pub bonds_fault : List Data → Option Refusal
-bonds_fault items = first_of (
+abbrev pub member_bonds_fault : List Data → Option Refusal
+member_bonds_fault items = first_of (
     refuse_if (nat_lt bond_limit (length items)) (TooManyBonds (bond_limit + 1))
-    ∷ self_fault (map bond_of items)
+    ∷ self_fault (map value_bond items)
     ∷ [])
 
 -- its tests
-abbrev pub general_fault : Data → Option Refusal
-general_fault d = first_of (
+abbrev pub general_members_fault : Data → Option Refusal
+general_members_fault d = first_of (
     general_size_fault d
-    ∷ list_fault 7 (entry.Bond (spins_in d)) (list_at (codes "bonds") d)
-    ∷ rotation_fault (spins_in d) (list_at (codes "rotation") d)
-    ∷ seam_fault (get (codes "seam") d)
-    ∷ bonds_fault (items_at (codes "bonds") d)
+    ∷ list_fault 7 (entry.Bond (member_spins d)) (member_list (codes "bonds") d)
+    ∷ rotation_fault (member_spins d) (member_list (codes "rotation") d)
+    ∷ member_seam_fault (get (codes "seam") d)
+    ∷ member_bonds_fault (items_at (codes "bonds") d)
     ∷ [])
 
 -- all tests of the members: the kind, the names, and what the kind wants
 abbrev pub members_fault : Form → Data → Option Refusal
-members_fault (form.Lattice kind) d = lattice_fault kind d
-members_fault form.General d = general_fault d
+members_fault (form.Lattice kind) d = lattice_members_fault kind d
+members_fault form.General d = general_members_fault d
 
-abbrev pub form_fault : Option Form → Data → Option Refusal
-form_fault None d = Some (BadMember 1 0)
-form_fault (Some what) d = first_of (
+abbrev pub kind_members_fault : Option Form → Data → Option Refusal
+kind_members_fault None d = Some (BadMember 1 0)
+kind_members_fault (Some what) d = first_of (
     refuse_if (not (list_all (is_known what) (names_in d))) (BadMember 2 0)
     ∷ members_fault what d
     ∷ [])
 
 abbrev pub json_fault : Data → Option Refusal
-json_fault d = form_fault (form_in d) d
+json_fault d = kind_members_fault (form_in d) d
 
 -- the seam, if the member stands
-abbrev pub seam_in : Data → Option (List ℕ)
-seam_in d = option_map indices_of (get (codes "seam") d)
+abbrev pub member_seam : Data → Option (List ℕ)
+member_seam d = option_map indices_of (get (codes "seam") d)
 
 -- the instance of the members
 abbrev pub lattice_in : Kind → Data → Ising
 lattice_in kind d =
-    reseamed (seam_in d) (lattice kind (rows_in d) (cols_in kind d) (map number_of (items_at (codes "couplings") d)))
+    reseamed (member_seam d)
+        (lattice kind (rows_in d) (cols_in kind d) (map value_number (items_at (codes "couplings") d)))
 
 abbrev pub general_in : Data → Ising
 general_in d = record {
-  n = spins_in d;
-  bonds = bonds_in d;
+  n = member_spins d;
+  bonds = member_bonds d;
   rotation = map indices_of (items_at (codes "rotation") d);
-  seam = unwrap_or (seam_in d) [];
+  seam = unwrap_or (member_seam d) [];
 }
 
-abbrev pub instance_of : Form → Data → Ising
-instance_of (form.Lattice kind) d = lattice_in kind d
-instance_of form.General d = general_in d
+abbrev pub members_instance : Form → Data → Ising
+members_instance (form.Lattice kind) d = lattice_in kind d
+members_instance form.General d = general_in d

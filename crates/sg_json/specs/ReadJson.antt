@@ -1,22 +1,20 @@
 -- Which instance a JSON text gives, or why it is refused: the first test that fails.
-use Rattle.std.specs.Prelude.{◌≡◌, ⊤, ◌⊎◌, ℕ, ◌<◌, ◌≤◌, List, length, Option, Some, None, IsUtf8}
+use Rattle.std.specs.Prelude.{◌≡◌, ◌⊎◌, ℕ, ◌<◌, ◌≤◌, List, length, Option, Some, None, IsUtf8}
 use Rattle.serde_json.specs.Data.{Data}
 use Rattle.serde_json.specs.Read.{read}
-use Rattle.sg_model.specs.declared.refusal.Fault.{Fault}
-use Rattle.sg_model.specs.declared.refusal.Fault.TheVariants.{Refused, NoMemory}
 use Rattle.sg_model.specs.declared.refusal.Refusal.{Refusal}
 use Rattle.sg_model.specs.declared.refusal.Refusal.TheVariants.{BadJson, JsonTooLong}
 use Rattle.sg_model.specs.Ising.{Ising}
 use Rattle.sg_model.specs.Rotation.{IsRotation}
 use Rattle.sg_model.specs.Seam.{IsSeam}
-use Rattle.sg_model.specs.Faults.{IsRefusalOf}
+use Rattle.sg_model.specs.Faults.{IsRefusalOf, OrNoMemory}
 use Rattle.sg_reader.specs.declared.header.Form.{Form}
 use Rattle.sg_reader.specs.Field.{without_marks}
-use Rattle.sg_json.specs.Members.{form_in, instance_of, json_fault}
-use Rattle.sg_json.specs.Text.{json_limit}
+use Rattle.sg_json.specs.Members.{form_in, members_instance, json_fault}
+use Rattle.sg_limits.specs.Limits.{json_limit}
 
 -- the bytes behind the byte-order marks are UTF-8, and `serde_json`'s own definition reads the data from them
-pub record Says (bytes : List ℕ) (d : Data) : Type 0 where
+pub record SaysData (bytes : List ℕ) (d : Data) : Type 0 where
   pub utf8 : IsUtf8 (without_marks bytes)
   pub reads : read (without_marks bytes) ≡ Some d
 
@@ -25,7 +23,7 @@ pub record Gives (d : Data) (inst : Ising) : Type 0 where
   pub form : Form
   pub kind : form_in d ≡ Some form
   pub passes : json_fault d ≡ None
-  pub value : inst ≡ instance_of form d
+  pub value : inst ≡ members_instance form d
   pub rotation : IsRotation inst
   pub seam : IsSeam inst
 
@@ -33,13 +31,14 @@ pub record Gives (d : Data) (inst : Ising) : Type 0 where
 pub record ReadsJson (bytes : List ℕ) (inst : Ising) : Type 0 where
   pub short : length bytes ≤ json_limit
   pub value : Data
-  pub says : Says bytes value
+  pub says : SaysData bytes value
   pub gives : Gives value inst
 
 -- the data is refused: a member fails a test, or the instance of the members does
 pub data RefusesData (d : Data) (refusal : Refusal) : Type 0 where
   AtMember : json_fault d ≡ Some refusal → RefusesData d refusal
-  AtInstance : (form : Form) → form_in d ≡ Some form → json_fault d ≡ None → IsRefusalOf (instance_of form d) refusal
+  AtInstance : (form : Form) → form_in d ≡ Some form → json_fault d ≡ None
+      → IsRefusalOf (members_instance form d) refusal
       → RefusesData d refusal
 
 -- the text is refused: it is too long, it is no JSON, or its data is refused
@@ -47,21 +46,8 @@ pub data RefusesJson (bytes : List ℕ) (refusal : Refusal) : Type 0 where
   TooLong : json_limit < length bytes → refusal ≡ JsonTooLong json_limit → RefusesJson bytes refusal
   NoData : length bytes ≤ json_limit → (IsUtf8 (without_marks bytes) → read (without_marks bytes) ≡ None) →
       refusal ≡ BadJson → RefusesJson bytes refusal
-  OfData : length bytes ≤ json_limit → (d : Data) → Says bytes d → RefusesData d refusal → RefusesJson bytes refusal
-
--- a refusal by these rules, or want of memory, which may come at any time
-abbrev pub IsDataFault : Data → Fault → Type 0
-IsDataFault d (Refused refusal) = RefusesData d refusal
-IsDataFault d NoMemory = ⊤
-
-abbrev pub IsJsonFault : List ℕ → Fault → Type 0
-IsJsonFault bytes (Refused refusal) = RefusesJson bytes refusal
-IsJsonFault bytes NoMemory = ⊤
+  OfData : length bytes ≤ json_limit → (d : Data) → SaysData bytes d → RefusesData d refusal → RefusesJson bytes refusal
 
 -- a test that fails, or the tests pass and the instance fails one of its own
 abbrev pub IsTableRefusal : Option Refusal → Ising → Refusal → Type 0
 IsTableRefusal test inst refusal = (test ≡ Some refusal) ⊎ ((test ≡ None) × IsRefusalOf inst refusal)
-
-abbrev pub IsTableFault : Option Refusal → Ising → Fault → Type 0
-IsTableFault test inst (Refused refusal) = IsTableRefusal test inst refusal
-IsTableFault test inst NoMemory = ⊤

@@ -2,10 +2,6 @@
 use Rattle.std.specs.Prelude.{ℕ, ◌==◌, ◌||◌, Bool, false, List, [], ◌∷◌}
 use Rattle.sg_reader.specs.Field.{after_front, without_marks}
 
--- the most bytes of an input that is read as JSON, 64 MiB
-abbrev pub json_limit : ℕ
-json_limit = 67108864
-
 -- a space, a tab, a carriage return or a line feed
 abbrev pub is_white : ℕ → Bool
 is_white byte = (byte == 32) || (byte == 9) || (byte == 13) || (byte == 10)

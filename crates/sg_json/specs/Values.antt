@@ -31,8 +31,8 @@ abbrev pub index : Data → Option ℕ
 index d = option_and_then from_zero (whole d)
 
 -- the number of a value, and 0 where it has none
-abbrev pub number_of : Data → ℤ
-number_of d = unwrap_or (whole d) (pos 0)
+abbrev pub value_number : Data → ℤ
+value_number d = unwrap_or (whole d) (pos 0)
 
 abbrev pub index_of : Data → ℕ
 index_of d = unwrap_or (index d) 0
@@ -49,17 +49,17 @@ abbrev pub item_at : List Data → ℕ → Data
 item_at ds i = slice_index_or ds i null
 
 -- the list of a member, its items, and a number of at least `least` in a member
-abbrev pub list_at : List ℕ → Data → Option (List Data)
-list_at name d = option_map listed (option_and_then as_array (get name d))
+abbrev pub member_list : List ℕ → Data → Option (List Data)
+member_list name d = option_map listed (option_and_then as_array (get name d))
 
 abbrev pub items_at : List ℕ → Data → List Data
-items_at name d = unwrap_or (list_at name d) []
+items_at name d = unwrap_or (member_list name d) []
 
-abbrev pub at_least : ℕ → ℤ → Option ℕ
-at_least least z = if int_le (pos least) z then Some (unsigned_abs z) else None
+abbrev pub from_least : ℕ → ℤ → Option ℕ
+from_least least z = if int_le (pos least) z then Some (unsigned_abs z) else None
 
 abbrev pub size_at : List ℕ → ℕ → Data → Option ℕ
-size_at name least d = option_and_then (at_least least) (option_and_then whole (get name d))
+size_at name least d = option_and_then (from_least least) (option_and_then whole (get name d))
 
 -- the names of the members
 abbrev pub names_in : Data → List (List ℕ)
@@ -72,17 +72,17 @@ is_whole d = is_some (whole d)
 abbrev pub is_index : Data → Bool
 is_index d = is_some (index d)
 
-abbrev pub is_below : ℕ → Option ℕ → Bool
-is_below n None = false
-is_below n (Some k) = nat_lt k n
+abbrev pub is_index_below : ℕ → Option ℕ → Bool
+is_index_below n None = false
+is_index_below n (Some k) = nat_lt k n
 
 abbrev pub is_triple : ℕ → List Data → Bool
 is_triple n ds =
     (length ds == 3)
-    && (is_below n (index (item_at ds 0)) && (is_below n (index (item_at ds 1)) && is_whole (item_at ds 2)))
+    && (is_index_below n (index (item_at ds 0)) && (is_index_below n (index (item_at ds 1)) && is_whole (item_at ds 2)))
 
-abbrev pub is_bond : ℕ → Data → Bool
-is_bond n d = is_triple n (items_in d)
+abbrev pub is_bond_value : ℕ → Data → Bool
+is_bond_value n d = is_triple n (items_in d)
 
 abbrev pub are_indices : Option (List Data) → Bool
 are_indices None = false
@@ -93,10 +93,10 @@ is_index_list d = are_indices (list_in d)
 
 -- the bond of three numbers, and the indices of a list
 abbrev pub triple : List Data → Bond
-triple ds = record { u = index_of (item_at ds 0); v = index_of (item_at ds 1); j = number_of (item_at ds 2) }
+triple ds = record { u = index_of (item_at ds 0); v = index_of (item_at ds 1); j = value_number (item_at ds 2) }
 
-abbrev pub bond_of : Data → Bond
-bond_of d = triple (items_in d)
+abbrev pub value_bond : Data → Bond
+value_bond d = triple (items_in d)
 
 abbrev pub indices_of : Data → List ℕ
 indices_of d = map index_of (items_in d)

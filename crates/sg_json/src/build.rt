@@ -1,6 +1,6 @@
 ghost use Rattle.std.specs.Prelude.{◌≡◌, map, IfOk};
 ghost use Rattle.serde_json.specs.View.{view};
-ghost use Rattle.sg_json.specs.Values.{bond_of, index_of, indices_of, item_at, number_of};
+ghost use Rattle.sg_json.specs.Values.{value_bond, index_of, indices_of, item_at, value_number};
 
 use super::NoMemory;
 use super::value::{index_or_zero, items, number_or_zero};
@@ -10,7 +10,7 @@ use std::alloc::Global;
 
 /// The couplings of a lattice.
 pub(crate) fn couplings(alloc: Global, items: &[Value]) -> Result<Couplings, NoMemory>
-    ensures { IfOk result (λ l. l ≡ map (λ v. number_of (view v)) items.now) }
+    ensures { IfOk result (λ l. l ≡ map (λ v. value_number (view v)) items.now) }
 {
     let mut list = Couplings::new(alloc);
     for item in items {
@@ -42,7 +42,7 @@ fn index_at(numbers: &[Value], i: usize) -> u32
 
 // The number at a place of a list, and 0 past its end.
 fn number_at(numbers: &[Value], i: usize) -> i64
-    ensures { result ≡ number_of (item_at (map view numbers.now) i) }
+    ensures { result ≡ value_number (item_at (map view numbers.now) i) }
 {
     match numbers.get(i) {
         Some(number) => number_or_zero(number),
@@ -52,7 +52,7 @@ fn number_at(numbers: &[Value], i: usize) -> i64
 
 // The bond of a list of three numbers.
 fn bond(value: &Value) -> Bond
-    ensures { result ≡ bond_of (view value.now) }
+    ensures { result ≡ value_bond (view value.now) }
 {
     let numbers = items(value);
     Bond {
@@ -64,7 +64,7 @@ fn bond(value: &Value) -> Bond
 
 /// The bonds of a general instance.
 pub(crate) fn bonds(alloc: Global, items: &[Value]) -> Result<Bonds, NoMemory>
-    ensures { IfOk result (λ l. l ≡ map (λ v. bond_of (view v)) items.now) }
+    ensures { IfOk result (λ l. l ≡ map (λ v. value_bond (view v)) items.now) }
 {
     let mut list = Bonds::new(alloc);
     for item in items {

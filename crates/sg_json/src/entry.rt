@@ -2,9 +2,10 @@ ghost use Rattle.std.specs.Prelude.{◌≡◌, ◌<◌, None, Some, map, length,
 ghost use Rattle.std.specs.List.{list_all};
 ghost use Rattle.serde_json.specs.View.{view};
 ghost use Rattle.sg_model.specs.declared.refusal.Refusal.TheVariants.{BadMember as IsBadMember};
-ghost use Rattle.sg_reader.specs.Tests.{IsTestFault};
+ghost use Rattle.sg_reader.specs.Tests.{Refuses};
 ghost use Rattle.sg_json.specs.Members.{entries_fault, fits, list_fault, misfit};
-ghost use Rattle.sg_json.specs.Values.{index as index_in_data, is_below, is_bond as is_bond_data, is_index, is_index_list, list_at};
+ghost use Rattle.sg_json.specs.Values.{index as index_in_data, is_index_below, is_bond_value as is_bond_data, is_index, is_index_list, member_list};
+ghost use Rattle.sg_model.specs.Faults.{OrNoMemory};
 
 use super::value::{index, items, list_member, whole};
 use serde_json::Value;
@@ -25,7 +26,7 @@ pub(crate) enum Entry {
 
 // Whether a value is the number of a spin.
 fn is_spin(value: &Value, n: u32) -> bool
-    ensures { result ≡ is_below n (index_in_data (view value.now)) }
+    ensures { result ≡ is_index_below n (index_in_data (view value.now)) }
 {
     match index(value) {
         Some(spin) => spin < n,
@@ -87,7 +88,7 @@ fn first_misfit(items: &[Value], what: Entry) -> Option<usize>
 /// The refusal of an entry. A list whose places do not fit 32 bits has more items than an input
 /// within the limit can have, and is refused for want of memory.
 fn bad_entry(place: u32, item: usize) -> Fault
-    ensures { IsTestFault (Some (IsBadMember place item)) result }
+    ensures { OrNoMemory (Refuses (Some (IsBadMember place item))) result }
 {
     if item > u32::MAX as usize {
         return Fault::NoMemory;
@@ -104,7 +105,7 @@ fn bad_entry(place: u32, item: usize) -> Fault
 /// `BadMember` with the first item that may not stand there.
 pub(crate) fn check_entries(items: &[Value], place: u32, what: Entry) -> Result<(), Fault>
     ensures passes { OnOk result (entries_fault place what (map view items.now) ≡ None) }
-    ensures fault { IfErr result (IsTestFault (entries_fault place what (map view items.now))) }
+    ensures fault { IfErr result (OrNoMemory (Refuses (entries_fault place what (map view items.now)))) }
 {
     match first_misfit(items, what) {
         Some(item) => Err(bad_entry(place, item)),
@@ -123,9 +124,9 @@ pub(crate) fn check_list<'a>(
     place: u32,
     what: Entry,
 ) -> Result<&'a [Value], Fault>
-    ensures items { IfOk result (λ s. list_at name.now (view value.now) ≡ Some (map view s.now)) }
+    ensures items { IfOk result (λ s. member_list name.now (view value.now) ≡ Some (map view s.now)) }
     ensures passes { IfOk result (λ s. entries_fault place what (map view s.now) ≡ None) }
-    ensures fault { IfErr result (IsTestFault (list_fault place what (list_at name.now (view value.now)))) }
+    ensures fault { IfErr result (OrNoMemory (Refuses (list_fault place what (member_list name.now (view value.now))))) }
 {
     match list_member(value, name) {
         Some(items) => {

@@ -5,10 +5,11 @@ ghost use Rattle.sg_model.specs.declared.refusal.Fault.TheVariants.{NoMemory as 
 ghost use Rattle.sg_model.specs.declared.refusal.Refusal.TheVariants.{SelfBond as IsSelfBond};
 ghost use Rattle.sg_model.specs.Ising.{bond_count as count_of};
 ghost use Rattle.sg_model.specs.WellFormed.{IsInstance};
-ghost use Rattle.sg_reader.specs.Tests.{IsTestFault};
-ghost use Rattle.sg_json.specs.Members.{bonds_fault, general_fault, general_in, rotation_fault, self_fault};
-ghost use Rattle.sg_json.specs.ReadJson.{IsTableFault};
-ghost use Rattle.sg_json.specs.Values.{bond_of, index_of, list_at};
+ghost use Rattle.sg_reader.specs.Tests.{Refuses};
+ghost use Rattle.sg_json.specs.Members.{member_bonds_fault, general_members_fault, general_in, rotation_fault, self_fault};
+ghost use Rattle.sg_json.specs.ReadJson.{IsTableRefusal};
+ghost use Rattle.sg_json.specs.Values.{value_bond, index_of, member_list};
+ghost use Rattle.sg_model.specs.Faults.{OrNoMemory};
 
 use super::build::{bonds, indices, rotation};
 use super::entry::{Entry, check_entries, check_list};
@@ -35,10 +36,10 @@ fn first_self(bonds: &[Bond]) -> Option<usize>
 
 // The bonds of the items, which are few and join different spins.
 fn read_bonds(alloc: Global, items: &[Value]) -> Result<Bonds, Fault>
-    ensures value { IfOk result (λ l. l ≡ map (λ v. bond_of (view v)) items.now) }
+    ensures value { IfOk result (λ l. l ≡ map (λ v. value_bond (view v)) items.now) }
     ensures few { IfOk result (λ l. length l ≤ bond_limit) }
-    ensures passes { IfOk result (λ l. bonds_fault (map view items.now) ≡ None) }
-    ensures fault { IfErr result (IsTestFault (bonds_fault (map view items.now))) }
+    ensures passes { IfOk result (λ l. member_bonds_fault (map view items.now) ≡ None) }
+    ensures fault { IfErr result (OrNoMemory (Refuses (member_bonds_fault (map view items.now)))) }
 {
     if items.len() > BOND_LIMIT as usize {
         return Err(Fault::Refused(Refusal::TooManyBonds { m: BOND_LIMIT + 1 }));
@@ -52,10 +53,10 @@ fn read_bonds(alloc: Global, items: &[Value]) -> Result<Bonds, Fault>
 
 // The lists of the rotation.
 fn check_rotation(value: &Value, n: u32) -> Result<&[Value], Fault>
-    ensures passes { IfOk result (λ s. rotation_fault n (list_at (codes "rotation") (view value.now)) ≡ None) }
-    ensures items { IfOk result (λ s. list_at (codes "rotation") (view value.now) ≡ Some (map view s.now)) }
+    ensures passes { IfOk result (λ s. rotation_fault n (member_list (codes "rotation") (view value.now)) ≡ None) }
+    ensures items { IfOk result (λ s. member_list (codes "rotation") (view value.now) ≡ Some (map view s.now)) }
     ensures count { IfOk result (λ s. length s.now ≡ n) }
-    ensures fault { IfErr result (IsTestFault (rotation_fault n (list_at (codes "rotation") (view value.now)))) }
+    ensures fault { IfErr result (OrNoMemory (Refuses (rotation_fault n (member_list (codes "rotation") (view value.now))))) }
 {
     match list_member(value, "rotation") {
         Some(lists) => {
@@ -89,12 +90,12 @@ fn seam_bonds(alloc: Global, seam: Option<&[Value]>) -> Result<BondList, Fault>
 /// In this order: `BadMember` for the number of spins, `TooManySpins`, `BadMember` for the bonds, for
 /// the rotation and for the seam, `TooManyBonds`, `SelfBond`, `BadRotation` and `BadSeam`.
 pub(crate) fn read_general(alloc: Global, value: &Value) -> Result<Instance, Fault>
-    ensures passes { IfOk result (λ inst. general_fault (view value.now) ≡ None) }
+    ensures passes { IfOk result (λ inst. general_members_fault (view value.now) ≡ None) }
     ensures value { IfOk result (λ inst. inst ≡ general_in (view value.now)) }
     ensures instance { IfOk result IsInstance }
     ensures few_spins { IfOk result (λ inst. inst.n ≤ spin_limit) }
     ensures few_bonds { IfOk result (λ inst. count_of inst ≤ bond_limit) }
-    ensures fault { IfErr result (IsTableFault (general_fault (view value.now)) (general_in (view value.now))) }
+    ensures fault { IfErr result (OrNoMemory (IsTableRefusal (general_members_fault (view value.now)) (general_in (view value.now)))) }
 {
     let n = general_size(value)?;
     let items = check_list(value, "bonds", 7, Entry::Bond { n })?;

@@ -2,13 +2,13 @@ ghost use Rattle.std.specs.Prelude.{◌≡◌, ◌≤◌, None, Some, codes, map
 ghost use Rattle.serde_json.specs.Data.{Data};
 ghost use Rattle.serde_json.specs.View.{view};
 ghost use Rattle.sg_limits.specs.Limits.{bond_limit, spin_limit};
-ghost use Rattle.sg_model.specs.Faults.{IsFaultOf};
+ghost use Rattle.sg_model.specs.Faults.{IsRefusalOf, OrNoMemory};
 ghost use Rattle.sg_model.specs.Ising.{bond_count as count_of};
 ghost use Rattle.sg_model.specs.WellFormed.{IsInstance};
 ghost use Rattle.sg_reader.specs.Body.{reseamed};
-ghost use Rattle.sg_reader.specs.Tests.{IsTestFault};
-ghost use Rattle.sg_json.specs.Members.{count_fault, lattice_fault, lattice_in};
-ghost use Rattle.sg_json.specs.ReadJson.{IsTableFault};
+ghost use Rattle.sg_reader.specs.Tests.{Refuses};
+ghost use Rattle.sg_json.specs.Members.{count_fault, lattice_members_fault, lattice_in};
+ghost use Rattle.sg_json.specs.ReadJson.{IsTableRefusal};
 ghost use Rattle.sg_json.specs.Values.{index_of};
 
 use super::build::{couplings, indices};
@@ -25,7 +25,7 @@ use std::alloc::Global;
 fn check_count(found: usize, wanted: u32) -> Result<(), Fault>
     ensures count { OnOk result (found ≡ wanted) }
     ensures passes { OnOk result (count_fault found wanted ≡ None) }
-    ensures fault { IfErr result (IsTestFault (count_fault found wanted)) }
+    ensures fault { IfErr result (OrNoMemory (Refuses (count_fault found wanted))) }
 {
     if found > u32::MAX as usize {
         return Err(Fault::NoMemory);
@@ -45,8 +45,8 @@ fn reseam(alloc: Global, inst: Instance, seam: Option<&[Value]>) -> Result<Insta
     ensures value { IfOk result (λ copy. copy
         ≡ reseamed (option_map (λ s. map (λ v. index_of (view v)) s.now) seam.entry) inst) }
     ensures instance { IfOk result IsInstance }
-    ensures fault { IfErr result (IsFaultOf (reseamed
-        (option_map (λ s. map (λ v. index_of (view v)) s.now) seam.entry) inst)) }
+    ensures fault { IfErr result (OrNoMemory (IsRefusalOf (reseamed
+        (option_map (λ s. map (λ v. index_of (view v)) s.now) seam.entry) inst))) }
 {
     match seam {
         Some(items) => {
@@ -63,12 +63,12 @@ fn reseam(alloc: Global, inst: Instance, seam: Option<&[Value]>) -> Result<Insta
 /// In this order: `BadMember` for the rows and for the columns, `TooManySpins`, `BadMember` for the
 /// couplings and for the seam, `CouplingCount`, and `BadSeam`.
 pub(crate) fn read_lattice(alloc: Global, value: &Value, kind: Kind) -> Result<Instance, Fault>
-    ensures passes { IfOk result (λ inst. lattice_fault kind (view value.now) ≡ None) }
+    ensures passes { IfOk result (λ inst. lattice_members_fault kind (view value.now) ≡ None) }
     ensures value { IfOk result (λ inst. inst ≡ lattice_in kind (view value.now)) }
     ensures instance { IfOk result IsInstance }
     ensures few_spins { IfOk result (λ inst. inst.n ≤ spin_limit) }
     ensures few_bonds { IfOk result (λ inst. count_of inst ≤ bond_limit) }
-    ensures fault { IfErr result (IsTableFault (lattice_fault kind (view value.now)) (lattice_in kind (view value.now))) }
+    ensures fault { IfErr result (OrNoMemory (IsTableRefusal (lattice_members_fault kind (view value.now)) (lattice_in kind (view value.now)))) }
 {
     let size = lattice_size(value, kind)?;
     let items = check_list(value, "couplings", 6, Entry::Coupling)?;

@@ -3,13 +3,14 @@ ghost use Rattle.serde_json.specs.View.{view};
 ghost use Rattle.sg_limits.specs.Limits.{bond_limit, spin_limit};
 ghost use Rattle.sg_model.specs.Ising.{bond_count as count_of};
 ghost use Rattle.sg_model.specs.WellFormed.{IsInstance};
-ghost use Rattle.sg_json.specs.Members.{instance_of, members_fault};
-ghost use Rattle.sg_json.specs.ReadJson.{Gives, IsDataFault, IsJsonFault, IsTableFault, ReadsJson};
+ghost use Rattle.sg_json.specs.Members.{members_instance, members_fault};
+ghost use Rattle.sg_json.specs.ReadJson.{Gives, ReadsJson, RefusesData, RefusesJson, IsTableRefusal};
+ghost use Rattle.sg_model.specs.Faults.{OrNoMemory};
 
 use super::form::{form_member, has_known_names};
 use super::general::read_general;
 use super::lattice::read_lattice;
-use super::text::JSON_LIMIT;
+use sg_limits::JSON_LIMIT;
 use serde_json::Value;
 use sg_model::{Fault, Instance, Refusal};
 use sg_reader::{Form, without_marks};
@@ -18,11 +19,11 @@ use std::alloc::Global;
 // The instance of a form that the members give.
 fn read_form(alloc: Global, value: &Value, form: Form) -> Result<Instance, Fault>
     ensures passes { IfOk result (λ inst. members_fault form (view value.now) ≡ None) }
-    ensures value { IfOk result (λ inst. inst ≡ instance_of form (view value.now)) }
+    ensures value { IfOk result (λ inst. inst ≡ members_instance form (view value.now)) }
     ensures instance { IfOk result IsInstance }
     ensures few_spins { IfOk result (λ inst. inst.n ≤ spin_limit) }
     ensures few_bonds { IfOk result (λ inst. count_of inst ≤ bond_limit) }
-    ensures fault { IfErr result (IsTableFault (members_fault form (view value.now)) (instance_of form (view value.now))) }
+    ensures fault { IfErr result (OrNoMemory (IsTableRefusal (members_fault form (view value.now)) (members_instance form (view value.now)))) }
 {
     match form {
         Form::Lattice(kind) => read_lattice(alloc, value, kind),
@@ -36,7 +37,7 @@ fn read_value(alloc: Global, value: &Value) -> Result<Instance, Fault>
     ensures instance { IfOk result IsInstance }
     ensures few_spins { IfOk result (λ inst. inst.n ≤ spin_limit) }
     ensures few_bonds { IfOk result (λ inst. count_of inst ≤ bond_limit) }
-    ensures fault { IfErr result (IsDataFault (view value.now)) }
+    ensures fault { IfErr result (OrNoMemory (RefusesData (view value.now))) }
 {
     let Some(form) = form_member(value) else {
         return Err(Fault::Refused(Refusal::BadMember { place: 1, item: 0 }));
@@ -73,7 +74,7 @@ pub fn read_json(alloc: Global, bytes: &[u8]) -> Result<Instance, Fault>
     ensures instance { IfOk result IsInstance }
     ensures few_spins { IfOk result (λ inst. inst.n ≤ spin_limit) }
     ensures few_bonds { IfOk result (λ inst. count_of inst ≤ bond_limit) }
-    ensures fault { IfErr result (IsJsonFault bytes.now) }
+    ensures fault { IfErr result (OrNoMemory (RefusesJson bytes.now)) }
 {
     if bytes.len() > JSON_LIMIT {
         return Err(Fault::Refused(Refusal::JsonTooLong {

@@ -2,7 +2,7 @@ ghost use Rattle.std.specs.Prelude.{◌≡◌, ◌<◌, ◌≤◌, ◌*◌, ◌^
 ghost use Rattle.serde_json.specs.View.{view};
 ghost use Rattle.sg_lattice.specs.Tables.{IsSize};
 ghost use Rattle.sg_limits.specs.Limits.{spin_limit};
-ghost use Rattle.sg_json.specs.Members.{cols_in, general_size_fault, lattice_size_fault, many_fault, rows_in, spins_in};
+ghost use Rattle.sg_json.specs.Members.{cols_in, general_size_fault, lattice_size_fault, many_fault, rows_in, member_spins};
 
 use super::value::size_member;
 use serde_json::Value;
@@ -62,7 +62,7 @@ pub(crate) fn lattice_size(value: &Value, kind: Kind) -> Result<Size, Refusal>
 /// `BadMember`, and then `TooManySpins`.
 pub(crate) fn general_size(value: &Value) -> Result<u32, Refusal>
     ensures passes { IfOk result (λ n. general_size_fault (view value.now) ≡ None) }
-    ensures value { IfOk result (λ n. n ≡ spins_in (view value.now)) }
+    ensures value { IfOk result (λ n. n ≡ member_spins (view value.now)) }
     ensures some { IfOk result (λ n. 1 ≤ n) }
     ensures few { IfOk result (λ n. n ≤ spin_limit) }
     ensures refused { IfErr result (λ e. general_size_fault (view value.now) ≡ Some e) }

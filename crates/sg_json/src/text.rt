@@ -1,17 +1,8 @@
 ghost use Rattle.std.specs.Prelude.{◌≡◌};
 ghost use Rattle.sg_reader.specs.Field.{after_front};
-ghost use Rattle.sg_json.specs.Text.{is_object_text, is_white as is_white_byte, json_limit, opens as opens_list};
+ghost use Rattle.sg_json.specs.Text.{is_object_text, is_white as is_white_byte, opens as opens_list};
 
 use sg_reader::without_marks;
-
-/// The most bytes of an input that is read as JSON, 64 MiB: as a value it takes some twenty times
-/// its bytes.
-pub(crate) const JSON_LIMIT: usize = 67_108_864;
-
-/// The constant is the numeral of the definition. It computes nothing.
-pub fn limit_is_as_stated()
-    ensures { JSON_LIMIT ≡ json_limit }
-{}
 
 fn is_white(byte: u8) -> bool
     ensures { result ≡ is_white_byte byte }

@@ -2,7 +2,7 @@ ghost use Rattle.std.specs.Prelude.{◌≡◌, ◌<◌, ◌≤◌, ◌^◌, map,
 ghost use Rattle.serde_json.specs.Data.{Data};
 ghost use Rattle.serde_json.specs.Find.{as_array, get};
 ghost use Rattle.serde_json.specs.View.{items_view, view};
-ghost use Rattle.sg_json.specs.Values.{index as index_in_data, index_of, item_at, items_in, list_at, number_of, size_at, whole as whole_in_data};
+ghost use Rattle.sg_json.specs.Values.{index as index_in_data, index_of, item_at, items_in, member_list, value_number, size_at, whole as whole_in_data};
 
 use serde_json::Value;
 
@@ -32,7 +32,7 @@ pub(crate) fn index(value: &Value) -> Option<u32>
 
 /// The whole number of a value, and 0 where it has none.
 pub(crate) fn number_or_zero(value: &Value) -> i64
-    ensures { result ≡ number_of (view value.now) }
+    ensures { result ≡ value_number (view value.now) }
 {
     match whole(value) {
         Some(number) => number,
@@ -70,7 +70,7 @@ fn array_member<'a>(value: &'a Value, name: &str) -> Option<&'a Vec<Value>>
 
 /// The items of the list in a member, if there is one.
 pub(crate) fn list_member<'a>(value: &'a Value, name: &str) -> Option<&'a [Value]>
-    ensures { option_map (λ s. map view s.now) result ≡ list_at name.now (view value.now) }
+    ensures { option_map (λ s. map view s.now) result ≡ member_list name.now (view value.now) }
 {
     match array_member(value, name) {
         Some(list) => Some(list.as_slice()),

@@ -6,14 +6,14 @@ use Rattle.std.proofs.lemmas.List.{get_or_append_left, get_or_push, length-appen
 use Rattle.std.proofs.lemmas.List.FromFn.{fill_by_all, get_or-map-range_with_len, length-map-range_with_len}
 use Rattle.sg_model.specs.declared.bond.Bond.{Bond}
 use Rattle.sg_lattice.specs.declared.kind.Ends.{Ends}
-use Rattle.sg_lattice.specs.Tables.{coupled, coupled_bond, ends_at}
+use Rattle.sg_lattice.specs.Tables.{coupled, coupled_bond, bond_ends}
 
 abbrev no_bond : Bond
 no_bond = record { u = 0; v = 0; j = pos 0 }
 
 module _ (js : List ℤ) where
   abbrev bond_of : List Ends → ℕ → Bond
-  bond_of ends k = coupled_bond (ends_at ends k) (get_or js k (pos 0))
+  bond_of ends k = coupled_bond (bond_ends ends k) (get_or js k (pos 0))
 
   pub length-coupled : (ends : List Ends) → length (coupled ends js) ≡ length ends
   length-coupled ends = length-map-range_with_len (bond_of ends) 0 (length ends)

@@ -3,7 +3,7 @@ use Rattle.std.proofs.Common.{◌≡◌, ℕ, ◌+◌, ◌-◌, ◌*◌, ◌/◌
 use Rattle.std.proofs.lemmas.Nat.{div-mul-add, mod-mul-add, mul-add-lt, div-add-mod', div_below, mod_below}
 use Rattle.sg_model.specs.Ising.{Ising, bond_at}
 use Rattle.sg_lattice.specs.declared.kind.Ends.{Ends}
-use Rattle.sg_lattice.specs.Tables.{ends_at}
+use Rattle.sg_lattice.specs.Tables.{bond_ends}
 use Rattle.sg_lattice.proofs.Ranks.{picked, rank, at_rank, rank_below, unrank, CountsRows, rank_at}
 
 -- where `has` says so a bond runs from (r, c) to (er, ec); where `comes` says so one runs from (sr, sc) to (r, c)
@@ -38,8 +38,8 @@ module _ (inst : Ising) (ends : List Ends) (R C base : ℕ) (has : ℕ → ℕ �
       → 0 < C → (g : ℕ → ℕ → ℕ) → CountsRows has R C g
       → ((r c : ℕ) → r < R → c < C → has r c ≡ true → number r c ≡ base + g r c)
       → ((k : ℕ) → k < rank (λ i. has (i / C) (i % C)) (R * C) →
-      ends_at ends (base + k) ≡ f (get_or (picked (λ i. has (i / C) (i % C)) (R * C)) k 0))
-      → ((k : ℕ) → k < length ends → ((bond_at inst k).u ≡ (ends_at ends k).u) × ((bond_at inst k).v ≡ (ends_at ends k).v))
+      bond_ends ends (base + k) ≡ f (get_or (picked (λ i. has (i / C) (i % C)) (R * C)) k 0))
+      → ((k : ℕ) → k < length ends → ((bond_at inst k).u ≡ (bond_ends ends k).u) × ((bond_at inst k).v ≡ (bond_ends ends k).v))
       → base + rank (λ i. has (i / C) (i % C)) (R * C) ≤ length ends
       → IsLaid inst R C base (rank (λ i. has (i / C) (i % C)) (R * C)) has number er ec
   laid f f_is pos_col g counts place listed read room = record {
@@ -66,7 +66,7 @@ module _ (inst : Ising) (ends : List Ends) (R C base : ℕ) (has : ℕ → ℕ �
           ((bond_at inst (number r c)).u ≡ (f (r * C + c)).u) × ((bond_at inst (number r c)).v ≡ (f (r * C + c)).v)
       ends_of_bond r c a b h =
           let k : ℕ = rank (λ i. has (i / C) (i % C)) (r * C + c) in
-          let e : ends_at ends (base + k) ≡ f (r * C + c) =
+          let e : bond_ends ends (base + k) ≡ f (r * C + c) =
           listed k (below r c a b h) ∙ ap f (at_rank (λ i. has (i / C) (i % C)) (R * C) (r * C + c) (spin_below r c a b) (at r c b ∙ h)) in
           let l : base + k < length ends = omega (arith, below r c a b h) in (
             ap (λ n. (bond_at inst n).u) (by_rank r c a b h) ∙ (read (base + k) l).0 ∙ ap (λ (x : Ends). x.u) e,

@@ -12,7 +12,7 @@ use Rattle.sg_lattice.specs.declared.kind.Kind.{Kind}
 use Rattle.sg_lattice.specs.declared.kind.Step.{Step}
 use Rattle.sg_lattice.specs.declared.kind.Step.TheVariants.{East, South, SouthEast}
 use Rattle.sg_lattice.specs.declared.kind.Ends.{Ends}
-use Rattle.sg_lattice.specs.Tables.{IsSize, bond_number, bond_total, coupled_bond, ends_at, ends_from, ends_of, has_bond, lattice, neighbour, starts}
+use Rattle.sg_lattice.specs.Tables.{IsSize, bond_number, bond_total, coupled_bond, bond_ends, ends_from, ends_of, has_bond, lattice, neighbour, starts}
 use Rattle.sg_lattice.proofs.Ranks.{rank_all}
 use Rattle.sg_lattice.proofs.Grids.{IsLaid, laid}
 use Rattle.sg_lattice.proofs.KindSteps.{all_total, before, counts, end_col, end_row, grid_step, neighbour_is, number_is, some_cols, step_base, step_total, total_is}
@@ -23,11 +23,11 @@ no_ends = record { u = 0; v = 0 }
 abbrev no_bond : Bond
 no_bond = record { u = 0; v = 0; j = pos 0 }
 
-first_part : (f : ℕ → Ends) (xs : List ℕ) (rest : List Ends) (k : ℕ) → k < length xs → ends_at (map f xs ++ rest) k ≡ f (get_or xs k 0)
+first_part : (f : ℕ → Ends) (xs : List ℕ) (rest : List Ends) (k : ℕ) → k < length xs → bond_ends (map f xs ++ rest) k ≡ f (get_or xs k 0)
 first_part f xs rest k l = get_or_append_left (map f xs) rest no_ends k (omega (arith, length-map xs f)) ∙ get_or-map f xs k 0 no_ends l
 
-later_part : (front rest : List Ends) (n k : ℕ) → length front ≡ n → ends_at (front ++ rest) (n + k) ≡ ends_at rest k
-later_part front rest n k e = ap (λ m. ends_at (front ++ rest) (m + k)) (sym e) ∙ get_or-append-add front rest k no_ends
+later_part : (front rest : List Ends) (n k : ℕ) → length front ≡ n → bond_ends (front ++ rest) (n + k) ≡ bond_ends rest k
+later_part front rest n k e = ap (λ m. bond_ends (front ++ rest) (m + k)) (sym e) ∙ get_or-append-add front rest k no_ends
 
 module _ (kind : Kind) (R C : ℕ) (size : IsSize kind R C) where
   -- how many bonds a step has
@@ -58,10 +58,10 @@ module _ (kind : Kind) (R C : ℕ) (size : IsSize kind R C) where
       joined n a bc b c x y z p q e f g = omega arith
 
   listed : (step : Step) (k : ℕ) → k < length (starts kind step R C) →
-      ends_at (ends_of kind R C) (step_base kind step R C + k) ≡ ends_from kind step R C (get_or (starts kind step R C) k 0)
+      bond_ends (ends_of kind R C) (step_base kind step R C + k) ≡ ends_from kind step R C (get_or (starts kind step R C) k 0)
   listed East k l =
       let e : 0 + k ≡ k = omega arith in
-      ap (ends_at (ends_of kind R C)) e
+      ap (bond_ends (ends_of kind R C)) e
       ∙ first_part (ends_from kind East R C) (starts kind East R C)
       (map (ends_from kind South R C) (starts kind South R C) ++ map (ends_from kind SouthEast R C) (starts kind SouthEast R C)) k l
   listed South k l =
@@ -71,7 +71,7 @@ module _ (kind : Kind) (R C : ℕ) (size : IsSize kind R C) where
       ∙ first_part (ends_from kind South R C) (starts kind South R C) (map (ends_from kind SouthEast R C) (starts kind SouthEast R C)) k l
   listed SouthEast k l =
       let e : step_total kind East R C + step_total kind South R C + k ≡ step_total kind East R C + (step_total kind South R C + k) = omega arith in
-      ap (ends_at (ends_of kind R C)) e
+      ap (bond_ends (ends_of kind R C)) e
       ∙ later_part (map (ends_from kind East R C) (starts kind East R C))
       (map (ends_from kind South R C) (starts kind South R C) ++ map (ends_from kind SouthEast R C) (starts kind SouthEast R C))
       (step_total kind East R C) (step_total kind South R C + k) (part_length East)
@@ -87,15 +87,15 @@ module _ (kind : Kind) (R C : ℕ) (size : IsSize kind R C) where
   module _ (js : List ℤ) where
     -- bond k has the ends at its place, and the coupling there
     pub bond_is : (k : ℕ) → k < length (ends_of kind R C) →
-        bond_at (lattice kind R C js) k ≡ coupled_bond (ends_at (ends_of kind R C) k) (get_or js k (pos 0))
+        bond_at (lattice kind R C js) k ≡ coupled_bond (bond_ends (ends_of kind R C) k) (get_or js k (pos 0))
     bond_is k l =
-        get_or-map-range_with_len (λ i. coupled_bond (ends_at (ends_of kind R C) i) (get_or js i (pos 0))) 0 (length (ends_of kind R C)) k k no_bond l
+        get_or-map-range_with_len (λ i. coupled_bond (bond_ends (ends_of kind R C) i) (get_or js i (pos 0))) 0 (length (ends_of kind R C)) k k no_bond l
         (omega arith)
 
     -- the lattice has the bonds of its kind and size
     pub bond_count_is : bond_count (lattice kind R C js) ≡ bond_total kind R C
     bond_count_is =
-        length-map-range_with_len (λ i. coupled_bond (ends_at (ends_of kind R C) i) (get_or js i (pos 0))) 0 (length (ends_of kind R C)) ∙ length-ends_of
+        length-map-range_with_len (λ i. coupled_bond (bond_ends (ends_of kind R C) i) (get_or js i (pos 0))) 0 (length (ends_of kind R C)) ∙ length-ends_of
 
     -- the bonds of each step, by their numbers
     pub step_laid : (step : Step) → IsLaid (lattice kind R C js) R C (step_base kind step R C) (step_total kind step R C) (has_bond kind step R C)
@@ -114,8 +114,8 @@ module _ (kind : Kind) (R C : ℕ) (size : IsSize kind R C) where
         ends_from_is r c b = (refl, ap₂ (neighbour kind step R C) (div-mul-add r C c b) (mod-mul-add r C c b) ∙ neighbour_is kind step R C r c)
 
         read : (k : ℕ) → k < length (ends_of kind R C) →
-            ((bond_at (lattice kind R C js) k).u ≡ (ends_at (ends_of kind R C) k).u) ×
-            ((bond_at (lattice kind R C js) k).v ≡ (ends_at (ends_of kind R C) k).v)
+            ((bond_at (lattice kind R C js) k).u ≡ (bond_ends (ends_of kind R C) k).u) ×
+            ((bond_at (lattice kind R C js) k).v ≡ (bond_ends (ends_of kind R C) k).v)
         read k l = (ap (λ (b : Bond). b.u) (bond_is k l), ap (λ (b : Bond). b.v) (bond_is k l))
 
     -- each bond joins two different spins

@@ -75,8 +75,8 @@ ends_of kind R C =
     ++ map (ends_from kind SouthEast R C) (starts kind SouthEast R C))
 
 -- the ends of bond k
-abbrev pub ends_at : List Ends → ℕ → Ends
-ends_at ends k = slice_index_or ends k (record { u = 0; v = 0 })
+abbrev pub bond_ends : List Ends → ℕ → Ends
+bond_ends ends k = slice_index_or ends k (record { u = 0; v = 0 })
 
 abbrev pub coupled_bond : Ends → ℤ → Bond
 coupled_bond ends coupling = record { u = ends.u; v = ends.v; j = coupling }
@@ -84,7 +84,7 @@ coupled_bond ends coupling = record { u = ends.u; v = ends.v; j = coupling }
 -- the bonds between given ends with given couplings
 abbrev pub coupled : List Ends → List ℤ → List Bond
 coupled ends couplings =
-    map (λ k. coupled_bond (ends_at ends k) (slice_index_or couplings k (pos 0))) (range_with_len 0 (length ends))
+    map (λ k. coupled_bond (bond_ends ends k) (slice_index_or couplings k (pos 0))) (range_with_len 0 (length ends))
 
 -- the dart that leaves spin (r, c) by its own bond
 abbrev pub forth : Kind → Step → ℕ → ℕ → ℕ → ℕ → List ℕ

@@ -28,3 +28,15 @@ input_limit = 536870912
 -- what the length of every text that is read is below
 abbrev pub text_limit : ℕ
 text_limit = 2 ^ 30
+
+-- the most samples of an ensemble
+abbrev pub sample_limit : ℕ
+sample_limit = 1000
+
+-- the most columns of a study over widths
+abbrev pub width_limit : ℕ
+width_limit = 64
+
+-- the most bytes of an input that is read as JSON, 64 MiB
+abbrev pub json_limit : ℕ
+json_limit = 67108864

@@ -5,7 +5,7 @@
 #![tactic(auto)]
 
 ghost use Rattle.std.specs.Prelude.{◌≡◌, pos};
-ghost use Rattle.sg_limits.specs.Limits.{spin_limit, bond_limit, sum_limit, forced_limit, cost_limit, input_limit, text_limit};
+ghost use Rattle.sg_limits.specs.Limits.{spin_limit, bond_limit, sum_limit, forced_limit, cost_limit, input_limit, text_limit, sample_limit, width_limit, json_limit};
 
 /// The most spins of an instance: a lattice of 45 by 45 fits.
 pub const SPIN_LIMIT: u32 = 2048;
@@ -28,6 +28,16 @@ pub const INPUT_LIMIT: usize = 536_870_912;
 /// Every text that is read has fewer bytes, so its records, fields and items are numbered in 32 bits.
 pub const TEXT_LIMIT: usize = 1 << 30;
 
+/// The most samples of an ensemble.
+pub const SAMPLE_LIMIT: u64 = 1000;
+
+/// The most columns of a study over widths.
+pub const WIDTH_LIMIT: u32 = 64;
+
+/// The most bytes of an input that is read as JSON, 64 MiB: as a value it takes some twenty times
+/// its bytes.
+pub const JSON_LIMIT: usize = 67_108_864;
+
 /// The constants are the numerals of the definitions. It computes nothing.
 pub fn limits_are_as_stated()
     ensures spins { SPIN_LIMIT ≡ spin_limit }
@@ -37,4 +47,7 @@ pub fn limits_are_as_stated()
     ensures cost { COST_LIMIT ≡ pos cost_limit }
     ensures input { INPUT_LIMIT ≡ input_limit }
     ensures text { TEXT_LIMIT ≡ text_limit }
+    ensures samples { SAMPLE_LIMIT ≡ sample_limit }
+    ensures widths { WIDTH_LIMIT ≡ width_limit }
+    ensures json { JSON_LIMIT ≡ json_limit }
 {}

@@ -11,7 +11,7 @@ use Rattle.sg_match.proofs.TreeLemmas.{inner_at, inner_top, length-inners, lengt
 use Rattle.sg_match.specs.Augmented.{CanAugment, IsAugmented}
 use Rattle.sg_pairing.specs.Tight.{IsTight}
 use Rattle.sg_match.specs.Pairs.{IsPaired, flipped, pair_of}
-use Rattle.sg_match.specs.Tree.{inners, edge_at, outers}
+use Rattle.sg_match.specs.Tree.{inners, tree_edge_at, outers}
 use Rattle.sg_match.specs.declared.Edge.{Edge}
 use Rattle.sg_match.specs.declared.TreeEdge.{TreeEdge}
 
@@ -69,7 +69,7 @@ module _ (f : Family) (cost : ℕ → ℕ → ℕ) (old now : List (Option Edge)
       }
 
   -- past a tree edge that isn't on the way
-  pub IsAugmenting-skip : (i here there : ℕ) (edge : Edge) → i < length edges → (edge_at edges i).outer ≢ here →
+  pub IsAugmenting-skip : (i here there : ℕ) (edge : Edge) → i < length edges → (tree_edge_at edges i).outer ≢ here →
       IsAugmenting f cost old now root edges v (i + 1) here there edge → IsAugmenting f cost old now root edges v i here there edge
   IsAugmenting-skip i here there edge within differs is =
       record {
@@ -94,10 +94,10 @@ module _ (f : Family) (cost : ℕ → ℕ → ℕ) (old now : List (Option Edge)
       }
 
   -- past a tree edge on the way
-  module _ (i here there : ℕ) (edge : Edge) (within : i < length edges) (same : (edge_at edges i).outer ≡ here) (top_there : IsTop f there)
+  module _ (i here there : ℕ) (edge : Edge) (within : i < length edges) (same : (tree_edge_at edges i).outer ≡ here) (top_there : IsTop f there)
       (is : IsAugmenting f cost old now root edges v (i + 1) here there edge) where
     abbrev tree_edge : TreeEdge
-    tree_edge = edge_at edges i
+    tree_edge = tree_edge_at edges i
 
     abbrev unpaired_now : List (Option Edge)
     unpaired_now = set (set now tree_edge.inner None) tree_edge.outer None

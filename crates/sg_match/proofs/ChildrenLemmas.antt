@@ -6,9 +6,9 @@ use Rattle.sg_arena.specs.declared.Link.{Link}
 use Rattle.sg_match.proofs.AboveLemmas.{child_alive, not_own_child}
 use Rattle.sg_match.proofs.RotateLemmas.{IsCycle-rotated, cases_after, cases_wrapped, length-rotated, link_at-rotated, to_ring, unwrapped, wrapped}
 use Rattle.sg_match.proofs.RotateLemmas.{wrapped-differ, wrapped-within}
-use Rattle.sg_match.specs.Pairs.{edge_of, flipped, pair_of}
+use Rattle.sg_match.specs.Pairs.{edge_of_link, flipped, pair_of}
 use Rattle.sg_match.specs.Rings.{IsRingPaired, rotated}
-use Rattle.sg_match.specs.MatePairs.{IsJoined, IsPairedInside}
+use Rattle.sg_match.specs.MatePairs.{HasMateInCycle, IsPairedInside}
 use Rattle.sg_match.specs.declared.Edge.{Edge}
 
 -- a place is the first one, or the first or second of a two behind it
@@ -53,7 +53,7 @@ module _ (f : Family) (fam : IsFamily f) (b start : ℕ) (low_start : start < le
   -- a child has the blossom's pair or one with a sibling, from a leaf of it
   abbrev IsSide : ℕ → Type 0
   IsSide i = ((pair_of new (link_at cycle i).node ≡ Some pair) × Holds f (link_at cycle i).node pair.from) ⊎
-      ((j : IsJoined f new cycle i) × Holds f (link_at cycle i).node j.pair.from)
+      ((j : HasMateInCycle f new cycle i) × Holds f (link_at cycle i).node j.pair.from)
 
   first_side : (i : ℕ) → link_at ring 0 ≡ link_at cycle i → IsSide i
   first_side i read = inl (ap (λ (l : Link). pair_of new l.node) (sym read) ∙ ring_pairs.first, subst (λ (l : Link). Holds f l.node pair.from) read held)
@@ -86,7 +86,7 @@ module _ (f : Family) (fam : IsFamily f) (b start : ℕ) (low_start : start < le
         omega (arith, e)
 
     abbrev edge : Edge
-    edge = edge_of (link_at ring (2 * j + 1))
+    edge = edge_of_link (link_at ring (2 * j + 1))
 
     is_a : pair_of new (link_at cycle a).node ≡ Some edge
     is_a = ap (λ (l : Link). pair_of new l.node) (sym read_a) ∙ ring_pairs.odd j low_ring
@@ -119,7 +119,7 @@ module _ (f : Family) (fam : IsFamily f) (b start : ℕ) (low_start : start < le
         to = to_z;
         along = a;
         low_along = low_a;
-        link = inl (ap (λ (l : Link). edge_of l) read_a);
+        link = inl (ap (λ (l : Link). edge_of_link l) read_a);
       },
       from_a,
     )
@@ -136,7 +136,7 @@ module _ (f : Family) (fam : IsFamily f) (b start : ℕ) (low_start : start < le
         to = from_a;
         along = a;
         low_along = low_a;
-        link = inr (ap (λ (l : Link). flipped (edge_of l)) read_a);
+        link = inr (ap (λ (l : Link). flipped (edge_of_link l)) read_a);
       },
       to_z,
     )

@@ -36,7 +36,7 @@ use Rattle.sg_match.specs.Pairs.{IsPaired, pair_of}
 use Rattle.sg_match.specs.Nearest.{HasNearest, IsAt, IsOuterFreeAt, IsOuterOuterAt, IsNearest}
 use Rattle.sg_match.specs.State.{State}
 use Rattle.sg_match.specs.Steps.{blossoms_of, has_children, rest_of, steps_left, tree_left}
-use Rattle.sg_match.specs.Tree.{IsFreeLeaf, IsOut, IsTree, any_top, inners, edge_at, outers}
+use Rattle.sg_match.specs.Tree.{IsFreeLeaf, IsOut, IsTree, any_top, inners, tree_edge_at, outers}
 use Rattle.sg_match.specs.declared.Edge.{Edge}
 use Rattle.sg_match.specs.declared.Event.{Event}
 use Rattle.sg_match.specs.declared.Event.TheVariants.{InnerZero, OuterOuter, OuterFree}
@@ -149,14 +149,14 @@ module _ (f : Family) (cost : ℕ → ℕ → ℕ) (r : ℕ) (edges : List TreeE
       lowered n out in_inner (Some x) = rw (out, in_inner) refl
 
   -- an inner blossom whose dual the raise took is of dual 0 now
-  IsInnerZero-raised : (i : ℕ) → i < length edges → IsBlossom f (edge_at edges i).inner → dual_of f (edge_at edges i).inner ≡ delta →
-      IsInnerZero g edges (edge_at edges i).inner
+  IsInnerZero-raised : (i : ℕ) → i < length edges → IsBlossom f (tree_edge_at edges i).inner → dual_of f (tree_edge_at edges i).inner ≡ delta →
+      IsInnerZero g edges (tree_edge_at edges i).inner
   IsInnerZero-raised i low blossom all =
       record {
         place = i;
         within = low;
         here = refl;
-        blossom = subst (λ c. 0 < length c) (sym (cycle-raised f (outers r edges) (inners edges) delta fam can (edge_at edges i).inner)) blossom;
+        blossom = subst (λ c. 0 < length c) (sym (cycle-raised f (outers r edges) (inners edges) delta fam can (tree_edge_at edges i).inner)) blossom;
         inner_zero =
             let is = subst (λ n. dual_of g n ≡ dual_of f n - delta) (inner_at edges i low) (dual-raised i (omega (arith, low, length-inners edges))) in
             omega (arith, is, all);
@@ -379,7 +379,7 @@ module _ (s : State) (r : ℕ) (engine : IsEngine s) (rooted : s.root ≡ Some r
       elim changed.least.one [
         | inl same ↦ IsNext-raised s r delta engine rooted (CanChangeDuals-changed event amount delta changed) event
             (subst (λ n. IsAt s.family (cost s.table) r s.edges n event) (omega (arith, ints, same)) changed.near.one)
-        | inr at ↦ absurd (none (edge_at s.edges at.0).inner
+        | inr at ↦ absurd (none (tree_edge_at s.edges at.0).inner
             (IsInnerZero-raised s.family (cost s.table) r s.edges delta engine.feasible.family
             (CanRaise-engine s r delta engine rooted (CanChangeDuals-changed event amount delta changed)) at.0 at.1 at.2 (omega (arith, ints, at.3))))
       ]

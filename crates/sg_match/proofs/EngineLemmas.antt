@@ -6,7 +6,7 @@ use Rattle.sg_match.specs.Engine.{IsEngine}
 use Rattle.sg_match.specs.Exposed.{IsExposed}
 use Rattle.sg_pairing.specs.Metric.{cost}
 use Rattle.sg_match.specs.State.{State}
-use Rattle.sg_match.specs.Tree.{IsTree, edge_at}
+use Rattle.sg_match.specs.Tree.{IsTree, tree_edge_at}
 use Rattle.sg_match.specs.declared.Engine.TheInside.{Inside}
 
 -- what contracts see of the fields
@@ -36,5 +36,5 @@ module _ (s : State) (engine : IsEngine s) where
     exposed_of = subst (λ o. IsExposed s.family s.pairs o s.exposed) rooted engine.exposed
 
     -- an inner top is a node
-    pub inner_alive : (i : ℕ) → i < length s.edges → IsAlive s.family (edge_at s.edges i).inner
+    pub inner_alive : (i : ℕ) → i < length s.edges → IsAlive s.family (tree_edge_at s.edges i).inner
     inner_alive i low = (inner_top s.family root s.edges tree_of.shape i low).alive

@@ -25,15 +25,15 @@ use Rattle.sg_match.proofs.TreeLemmas.{inner_at, inner_top, length-inners}
 use Rattle.sg_match.specs.InnerZeros.{IsInnerZero}
 use Rattle.sg_match.specs.Engine.{IsEngine}
 use Rattle.sg_match.specs.ExpandedTree.{CanExpandTree}
-use Rattle.sg_match.specs.Rings.{IsTurned, IsOdd, IsRingPaired, rotated}
+use Rattle.sg_match.specs.Rings.{IsTurnedRing, IsOdd, IsRingPaired, rotated}
 use Rattle.sg_match.specs.InsertedEdges.{OuterStays}
 use Rattle.sg_match.specs.Exposed.{IsExposed}
 use Rattle.sg_pairing.specs.Metric.{cost}
-use Rattle.sg_match.specs.Names.{Differ}
+use Rattle.sg_sums.specs.Sets.{Differ}
 use Rattle.sg_match.specs.Path.{nodes_of}
 use Rattle.sg_match.specs.State.{State}
 use Rattle.sg_match.specs.Steps.{blossoms_of, steps_left, tree_left}
-use Rattle.sg_match.specs.Tree.{IsTree, blank_tree_edge, inners, edge_at}
+use Rattle.sg_match.specs.Tree.{IsTree, blank_tree_edge, inners, tree_edge_at}
 use Rattle.sg_match.specs.declared.Edge.{Edge}
 use Rattle.sg_match.specs.declared.TreeEdge.{TreeEdge}
 
@@ -68,12 +68,12 @@ module _ (s : State) (b : ℕ) (engine : IsEngine s) (inner_zero : IsInnerZero s
   pub blossom_top : IsTop f b
   blossom_top = subst (λ n. IsTop f n) inner_zero.here (inner_top f rooted.root s.edges rooted.tree.shape inner_zero.place inner_zero.within)
 
-  module _ (at : ℕ) (low : at < length s.edges) (here : (edge_at s.edges at).inner ≡ b) where
-    pair_in : Holds f b (edge_at s.edges at).pair.from
-    pair_in = subst (λ n. Holds f n (edge_at s.edges at).pair.from) here ((rooted.tree.shape.edge at low).pair_from)
+  module _ (at : ℕ) (low : at < length s.edges) (here : (tree_edge_at s.edges at).inner ≡ b) where
+    pair_in : Holds f b (tree_edge_at s.edges at).pair.from
+    pair_in = subst (λ n. Holds f n (tree_edge_at s.edges at).pair.from) here ((rooted.tree.shape.edge at low).pair_from)
 
-    edge_in : Holds f b (edge_at s.edges at).up.from
-    edge_in = subst (λ n. Holds f n (edge_at s.edges at).up.from) here (rooted.tree.shape.up_from at low)
+    edge_in : Holds f b (tree_edge_at s.edges at).up.from
+    edge_in = subst (λ n. Holds f n (tree_edge_at s.edges at).up.from) here (rooted.tree.shape.up_from at low)
 
   -- the ring from a child on
   module _ (base : ℕ) (child : IsChildOf f b base) (ring : List Link)
@@ -112,10 +112,10 @@ module _ (s : State) (b : ℕ) (engine : IsEngine s) (inner_zero : IsInnerZero s
     pub edges_fit : length s.edges + length ring ≤ length f.nodes
     edges_fit = ring_room f price b ring engine.feasible.family blossom_top is s.pairs rooted.root s.edges rooted.tree
 
-    module _ (at entry : ℕ) (low : at < length s.edges) (here : (edge_at s.edges at).inner ≡ b)
-        (base : Holds f (link_at ring 0).node (edge_at s.edges at).pair.from) (within : entry < length ring)
-        (at_entry : Holds f (link_at ring entry).node (edge_at s.edges at).up.from) (facing : (entry ≡ 0) ⊎ IsOdd entry)
-        (now : List (Option Edge)) (ring_pairs : IsRingPaired s.pairs now ring (edge_at s.edges at).pair) (count : length now ≡ length s.pairs)
+    module _ (at entry : ℕ) (low : at < length s.edges) (here : (tree_edge_at s.edges at).inner ≡ b)
+        (base : Holds f (link_at ring 0).node (tree_edge_at s.edges at).pair.from) (within : entry < length ring)
+        (at_entry : Holds f (link_at ring entry).node (tree_edge_at s.edges at).up.from) (facing : (entry ≡ 0) ⊎ IsOdd entry)
+        (now : List (Option Edge)) (ring_pairs : IsRingPaired s.pairs now ring (tree_edge_at s.edges at).pair) (count : length now ≡ length s.pairs)
         (grown : List TreeEdge) (expanded_tree : (g : Family) (cost : ℕ → ℕ → ℕ) (pairs : List (Option Edge)) (root : ℕ) →
         CanExpandTree g cost pairs root s.edges ring at entry → IsTree g cost pairs root grown) (stays : OuterStays s.edges grown) where
       abbrev g : Family
@@ -166,19 +166,19 @@ pub record IsFound (s : State) (b at : ℕ) (tree_edge : TreeEdge) : Type 0 wher
   pub engine : IsEngine s
   pub inner_zero : IsInnerZero s.family s.edges b
   pub low : at < length s.edges
-  pub here : (edge_at s.edges at).inner ≡ b
-  pub read : tree_edge ≡ edge_at s.edges at
+  pub here : (tree_edge_at s.edges at).inner ≡ b
+  pub read : tree_edge ≡ tree_edge_at s.edges at
 
 -- what was found of the inner blossom, as one record
 pub found : (s t : State) (b at : ℕ) (edges : List TreeEdge) (tree_edge : TreeEdge) → s ≡ t → IsEngine s → IsInnerZero t.family t.edges b →
-    edges ≡ s.edges → at < length edges → (edge_at edges at).inner ≡ b → tree_edge ≡ get_or s.edges at tree_edge → IsFound s b at tree_edge
+    edges ≡ s.edges → at < length edges → (tree_edge_at edges at).inner ≡ b → tree_edge ≡ get_or s.edges at tree_edge → IsFound s b at tree_edge
 found s t b at edges tree_edge same engine inner_zero lent low here read =
     let within : at < length s.edges = subst (λ xs. at < length xs) lent low in
     record {
       engine = engine;
       inner_zero = subst (λ (x : State). IsInnerZero x.family x.edges b) (sym same) inner_zero;
       low = within;
-      here = subst (λ xs. (edge_at xs at).inner ≡ b) lent here;
+      here = subst (λ xs. (tree_edge_at xs at).inner ≡ b) lent here;
       read = read ∙ get_or_default s.edges at tree_edge blank_tree_edge within;
     }
 
@@ -195,16 +195,16 @@ module _ {s : State} {b at : ℕ} {tree_edge : TreeEdge} (is : IsFound s b at tr
 pub record IsCut (s : State) (b at : ℕ) (tree_edge : TreeEdge) (ring : List Link) (entry : ℕ) : Type 0 where
   pub found : IsFound s b at tree_edge
   pub is : IsRing s.family (cost s.table) b ring
-  pub base : Holds s.family (link_at ring 0).node (edge_at s.edges at).pair.from
+  pub base : Holds s.family (link_at ring 0).node (tree_edge_at s.edges at).pair.from
   pub within : entry < length ring
-  pub at_entry : Holds s.family (link_at ring entry).node (edge_at s.edges at).up.from
+  pub at_entry : Holds s.family (link_at ring entry).node (tree_edge_at s.edges at).up.from
   pub facing : (entry ≡ 0) ⊎ IsOdd entry
 
 -- its ring turned the right way, as one record
 pub cut : (s : State) (b at : ℕ) (tree_edge : TreeEdge) (base end : ℕ) (ring lent : List Link) (place : ℕ) (turned_ring : List Link) (entry : ℕ) →
     IsFound s b at tree_edge → IsChildOf s.family b base → Holds s.family base tree_edge.pair.from →
     ((blossom i : ℕ) → IsChildAt s.family blossom i base → ring ≡ rotated i (cycle_of s.family blossom)) → Holds s.family end tree_edge.up.from →
-    lent ≡ ring → place < length lent → (link_at lent place).node ≡ end → IsTurned ring place turned_ring entry → (entry ≡ 0) ⊎ IsOdd entry →
+    lent ≡ ring → place < length lent → (link_at lent place).node ≡ end → IsTurnedRing ring place turned_ring entry → (entry ≡ 0) ⊎ IsOdd entry →
     IsCut s b at tree_edge turned_ring entry
 cut s b at tree_edge base end ring lent place turned_ring entry is child holds_base made holds_end same low here turned facing =
     let within : place < length ring = subst (λ xs. place < length xs) same low in
@@ -213,10 +213,10 @@ cut s b at tree_edge base end ring lent place turned_ring entry is child holds_b
     record {
       found = is;
       is = now.is;
-      base = subst (λ n. Holds s.family n (edge_at s.edges at).pair.from) (sym (now.first ∙ ring_first s b is.engine is.inner_zero base child ring made))
+      base = subst (λ n. Holds s.family n (tree_edge_at s.edges at).pair.from) (sym (now.first ∙ ring_first s b is.engine is.inner_zero base child ring made))
           (subst (λ (l : TreeEdge). Holds s.family base l.pair.from) is.read holds_base);
       within = now.within;
-      at_entry = subst (λ n. Holds s.family n (edge_at s.edges at).up.from) (sym (now.there ∙ subst (λ xs. (link_at xs place).node ≡ end) same here))
+      at_entry = subst (λ n. Holds s.family n (tree_edge_at s.edges at).up.from) (sym (now.there ∙ subst (λ xs. (link_at xs place).node ≡ end) same here))
           (subst (λ (l : TreeEdge). Holds s.family end l.up.from) is.read holds_end);
       facing = facing;
     }
@@ -245,7 +245,7 @@ module _ {s : State} {b at : ℕ} {tree_edge : TreeEdge} {ring : List Link} {ent
       (steps_left (record { family = g; table = s.table; pairs = stored; exposed = s.exposed; root = s.root; edges = grown }) + 2 ≤ steps_left s) ×
       ((members : List Member) (r : ℕ) → s.root ≡ Some r → AreOuter s.family r s.edges members → AreOuter g r grown members)
   IsEngine-after lent again old now stored grown g same same_again own put made ring_pairs count expanded_tree stays =
-      let ring_pairs_s : IsRingPaired s.pairs now ring (edge_at s.edges at).pair =
+      let ring_pairs_s : IsRingPaired s.pairs now ring (tree_edge_at s.edges at).pair =
       subst (λ (l : TreeEdge). IsRingPaired s.pairs now ring l.pair) is.found.read
       (subst (λ xs. IsRingPaired s.pairs now xs tree_edge.pair) same (subst (λ ps. IsRingPaired ps now lent tree_edge.pair) own ring_pairs)) in
       let count_s : length now ≡ length s.pairs = count ∙ ap (λ ps. length ps) own in

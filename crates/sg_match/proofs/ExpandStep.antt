@@ -29,7 +29,7 @@ use Rattle.sg_match.specs.Exposed.{IsExposed}
 use Rattle.sg_match.specs.Pairs.{IsPaired, pair_of}
 use Rattle.sg_match.specs.Path.{nodes_of}
 use Rattle.sg_match.specs.Steps.{blossoms_of, rest_of, tree_left}
-use Rattle.sg_match.specs.Tree.{IsTree, any_top, blank_tree_edge, inners, edge_at, outers}
+use Rattle.sg_match.specs.Tree.{IsTree, any_top, blank_tree_edge, inners, tree_edge_at, outers}
 use Rattle.sg_match.specs.declared.Edge.{Edge}
 use Rattle.sg_match.specs.declared.TreeEdge.{TreeEdge}
 
@@ -74,9 +74,9 @@ module _ (f : Family) (cost : ℕ → ℕ → ℕ) (b : ℕ) (ring : List Link) 
       ]
 
 module _ (f : Family) (cost : ℕ → ℕ → ℕ) (pairs now : List (Option Edge)) (root : ℕ) (edges : List TreeEdge) (b at : ℕ) (ring : List Link)
-    (feasible : IsFeasible f cost) (tree : IsTree f cost pairs root edges) (low : at < length edges) (here : (edge_at edges at).inner ≡ b)
+    (feasible : IsFeasible f cost) (tree : IsTree f cost pairs root edges) (low : at < length edges) (here : (tree_edge_at edges at).inner ≡ b)
     (blossom : IsBlossom f b) (inner_zero : dual_of f b ≡ 0) (is : IsRing f cost b ring)
-    (ring_pairs : IsRingPaired pairs now ring (edge_at edges at).pair) where
+    (ring_pairs : IsRingPaired pairs now ring (tree_edge_at edges at).pair) where
   abbrev g : Family
   g = with_slot f b None
 
@@ -154,12 +154,12 @@ module _ (f : Family) (cost : ℕ → ℕ → ℕ) (pairs now : List (Option Edg
       }
 
   -- the pairs are those of the new tops
-  pub IsPaired-expand : IsPaired f (IsTight f cost) pairs → Holds f (link_at ring 0).node (edge_at edges at).pair.from → IsPaired g (IsTight g cost) now
+  pub IsPaired-expand : IsPaired f (IsTight f cost) pairs → Holds f (link_at ring 0).node (tree_edge_at edges at).pair.from → IsPaired g (IsTight g cost) now
   IsPaired-expand paired base =
-      IsPaired-expanded f b fam top blossom room (IsTight g cost) pairs now ring (edge_at edges at).pair
+      IsPaired-expanded f b fam top blossom room (IsTight g cost) pairs now ring (tree_edge_at edges at).pair
       (record { own = paired.own; other = paired.other; tight = λ t p is_top e. tight_same p.from p.to (paired.tight t p is_top e) })
       (ap (λ n. pair_of pairs n) (sym here) ∙ tree.pair at low) can ring_pairs is.kid is.seat
-      (rest (link_at ring 0).node (edge_at edges at).pair.from (out b top 0 (omega (arith, is.cycle.long))) base)
+      (rest (link_at ring 0).node (tree_edge_at edges at).pair.from (out b top 0 (omega (arith, is.cycle.long))) base)
       (λ i low_i. (
         tight_same (link_at ring i).from (link_at ring i).to (is.tight i low_i),
         tight_same (link_at ring i).to (link_at ring i).from
@@ -170,13 +170,13 @@ module _ (f : Family) (cost : ℕ → ℕ → ℕ) (pairs now : List (Option Edg
   pub IsFeasible-expand : IsFeasible g cost
   IsFeasible-expand = IsFeasible-expanded f cost b feasible top blossom inner_zero room
 
-  module _ (entry : ℕ) (base : Holds f (link_at ring 0).node (edge_at edges at).pair.from) (entry_low : entry < length ring)
-      (at_entry : Holds f (link_at ring entry).node (edge_at edges at).up.from) where
+  module _ (entry : ℕ) (base : Holds f (link_at ring 0).node (tree_edge_at edges at).pair.from) (entry_low : entry < length ring)
+      (at_entry : Holds f (link_at ring entry).node (tree_edge_at edges at).up.from) where
     abbrev first : ℕ
     first = (link_at ring 0).node
 
     abbrev tree_edge : TreeEdge
-    tree_edge = edge_at edges at
+    tree_edge = tree_edge_at edges at
 
     abbrev new : List TreeEdge
     new = set edges at (with_inner first tree_edge)
@@ -184,15 +184,15 @@ module _ (f : Family) (cost : ℕ → ℕ → ℕ) (pairs now : List (Option Edg
     count : length new ≡ length edges
     count = length-set edges at (with_inner first tree_edge)
 
-    written : edge_at new at ≡ with_inner first tree_edge
+    written : tree_edge_at new at ≡ with_inner first tree_edge
     written = get_or-set_same edges at (with_inner first tree_edge) blank_tree_edge low
 
-    other : (k : ℕ) → k ≢ at → edge_at new k ≡ edge_at edges k
+    other : (k : ℕ) → k ≢ at → tree_edge_at new k ≡ tree_edge_at edges k
     other k away = get_or-set_other edges at k (with_inner first tree_edge) blank_tree_edge away
 
-    kept : {X : Type 0} (p : TreeEdge → X) → p (with_inner first tree_edge) ≡ p tree_edge → (k : ℕ) → p (edge_at new k) ≡ p (edge_at edges k)
+    kept : {X : Type 0} (p : TreeEdge → X) → p (with_inner first tree_edge) ≡ p tree_edge → (k : ℕ) → p (tree_edge_at new k) ≡ p (tree_edge_at edges k)
     kept p e k = elim (cases_eq k at) [
-      | inl same ↦ ap (λ x. p (edge_at new x)) same ∙ ap p written ∙ e ∙ ap (λ x. p (edge_at edges x)) (sym same)
+      | inl same ↦ ap (λ x. p (tree_edge_at new x)) same ∙ ap p written ∙ e ∙ ap (λ x. p (tree_edge_at edges x)) (sym same)
       | inr away ↦ ap p (other k away)
     ]
 
@@ -216,7 +216,7 @@ module _ (f : Family) (cost : ℕ → ℕ → ℕ) (pairs now : List (Option Edg
     inner_case i less =
         let low_i : i < length new = omega (arith, less, length-inners new) in
         elim (cases_eq i at) [
-          | inl same ↦ inl (same, inner_at new i low_i ∙ ap (λ x. (edge_at new x).inner) same ∙ ap (λ l. l.inner) written)
+          | inl same ↦ inl (same, inner_at new i low_i ∙ ap (λ x. (tree_edge_at new x).inner) same ∙ ap (λ l. l.inner) written)
           | inr away ↦ inr (away, inner_at new i low_i ∙ ap (λ l. l.inner) (other i away) ∙ sym (inner_at edges i (omega (arith, low_i, count))))
         ]
 
@@ -255,28 +255,28 @@ module _ (f : Family) (cost : ℕ → ℕ → ℕ) (pairs now : List (Option Edg
           };
           exposed_root = same_pair root (tree.shape.tops.outer_tops 0 (omega (arith, length-outers root edges))) ∙ tree.exposed_root;
           pair = λ i less. elim (cases_eq i at) [
-            | inl same ↦ subst (λ x. pair_of now (edge_at new x).inner ≡ Some (edge_at new x).pair) (sym same)
+            | inl same ↦ subst (λ x. pair_of now (tree_edge_at new x).inner ≡ Some (tree_edge_at new x).pair) (sym same)
                 (subst (λ (l : TreeEdge). pair_of now l.inner ≡ Some l.pair) (sym written) ring_pairs.first)
             | inr away ↦ subst (λ (l : TreeEdge). pair_of now l.inner ≡ Some l.pair) (sym (other i away))
-                (same_pair (edge_at edges i).inner (inner_top f root edges tree.shape i (omega (arith, less, count))) ∙
+                (same_pair (tree_edge_at edges i).inner (inner_top f root edges tree.shape i (omega (arith, less, count))) ∙
                 tree.pair i (omega (arith, less, count)))
           ];
           edge = λ i less. record {
             pair_from = elim (cases_eq i at) [
-              | inl same ↦ subst (λ x. Holds g (edge_at new x).inner (edge_at new x).pair.from) (sym same)
+              | inl same ↦ subst (λ x. Holds g (tree_edge_at new x).inner (tree_edge_at new x).pair.from) (sym same)
                   (subst (λ (l : TreeEdge). Holds g l.inner l.pair.from) (sym written) (rest first tree_edge.pair.from (out b top 0 zero_low) base))
               | inr away ↦
                   let low_i : i < length edges = omega (arith, less, count) in
                   subst (λ (l : TreeEdge). Holds g l.inner l.pair.from) (sym (other i away))
-                  (rest (edge_at edges i).inner (edge_at edges i).pair.from
+                  (rest (tree_edge_at edges i).inner (tree_edge_at edges i).pair.from
                   (λ same. inner_away i (omega (arith, low_i, length-inners edges)) away (inner_at edges i low_i ∙ same))
                   ((tree.shape.edge i low_i).pair_from))
             ];
             pair_to =
                 let low_i : i < length edges = omega (arith, less, count) in
-                subst (λ n. Holds g n (edge_at new i).pair.to) (sym (kept (λ l. l.outer) refl i))
-                (subst (λ (e : Edge). Holds g (edge_at edges i).outer e.to) (sym (kept (λ l. l.pair) refl i))
-                (rest (edge_at edges i).outer (edge_at edges i).pair.to
+                subst (λ n. Holds g n (tree_edge_at new i).pair.to) (sym (kept (λ l. l.outer) refl i))
+                (subst (λ (e : Edge). Holds g (tree_edge_at edges i).outer e.to) (sym (kept (λ l. l.pair) refl i))
+                (rest (tree_edge_at edges i).outer (tree_edge_at edges i).pair.to
                 (λ same. outer_away (suc i) (omega (arith, low_i, length-outers root edges)) (outer_at root edges i low_i ∙ same))
                 ((tree.shape.edge i low_i).pair_to)));
             up_to =
@@ -285,20 +285,20 @@ module _ (f : Family) (cost : ℕ → ℕ → ℕ) (pairs now : List (Option Edg
                 let outer_i : old.0 < length (outers root edges) = omega (arith, old.1, low_i, length-outers root edges) in (
                   old.0,
                   old.1,
-                  subst (λ n. Holds g n (edge_at new i).up.to) (sym (outer_same old.0 (omega (arith, old.1, less, length-outers root new))))
+                  subst (λ n. Holds g n (tree_edge_at new i).up.to) (sym (outer_same old.0 (omega (arith, old.1, less, length-outers root new))))
                       (subst (λ (e : Edge). Holds g (get_or (outers root edges) old.0 0) e.to) (sym (kept (λ l. l.up) refl i))
-                      (rest (get_or (outers root edges) old.0 0) (edge_at edges i).up.to (outer_away old.0 outer_i) old.2)),
+                      (rest (get_or (outers root edges) old.0 0) (tree_edge_at edges i).up.to (outer_away old.0 outer_i) old.2)),
                 );
           };
           up_from = λ i less away.
               let low_i : i < length edges = omega (arith, less, count) in
               subst (λ (l : TreeEdge). Holds g l.inner l.up.from) (sym (other i away))
-              (rest (edge_at edges i).inner (edge_at edges i).up.from
+              (rest (tree_edge_at edges i).inner (tree_edge_at edges i).up.from
               (λ same. inner_away i (omega (arith, low_i, length-inners edges)) away (inner_at edges i low_i ∙ same)) (tree.shape.up_from i low_i));
           up_entry = subst (λ (l : TreeEdge). Holds g (link_at ring entry).node l.up.from) (sym written)
               (rest (link_at ring entry).node tree_edge.up.from (out b top entry entry_low) at_entry);
           up_tight = λ i less. subst (λ (e : Edge). IsTight g cost e.from e.to) (sym (kept (λ l. l.up) refl i))
-              (tight_same (edge_at edges i).up.from (edge_at edges i).up.to (tree.up_tight i (omega (arith, less, count))));
+              (tight_same (tree_edge_at edges i).up.from (tree_edge_at edges i).up.to (tree.up_tight i (omega (arith, less, count))));
           base = ap (λ l. l.inner) written;
           fresh = λ e positive from less some.
               record {

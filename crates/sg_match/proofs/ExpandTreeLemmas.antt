@@ -12,7 +12,7 @@ use Rattle.sg_match.specs.ExpandedTree.{CanExpandTree, IsExpandingTree, with_inn
 use Rattle.sg_match.specs.InsertedEdges.{IsInserted, OuterStays, hung_edge, new_edge}
 use Rattle.sg_match.specs.Rings.{IsOdd}
 use Rattle.sg_match.specs.Pairs.{pair_of}
-use Rattle.sg_match.specs.Tree.{IsTree, blank_tree_edge, edge_at}
+use Rattle.sg_match.specs.Tree.{IsTree, blank_tree_edge, tree_edge_at}
 use Rattle.sg_match.specs.declared.Edge.{Edge}
 use Rattle.sg_match.specs.declared.TreeEdge.{TreeEdge}
 
@@ -27,7 +27,7 @@ pub record IsExpandingEdge (g : Family) (cost : ℕ → ℕ → ℕ) (now : List
 module _ (g : Family) (cost : ℕ → ℕ → ℕ) (now : List (Option Edge)) (root : ℕ) (old : List TreeEdge) (ring : List Link) (at entry : ℕ)
     (can : CanExpandTree g cost now root old ring at entry) where
   -- the first child is put in the place of the blossom
-  pub IsExpandingEdge-init : (edges : List TreeEdge) (i : ℕ) → edges ≡ set old at (with_inner (link_at ring 0).node (edge_at old at)) →
+  pub IsExpandingEdge-init : (edges : List TreeEdge) (i : ℕ) → edges ≡ set old at (with_inner (link_at ring 0).node (tree_edge_at old at)) →
       ((entry ≡ 0) × (i ≡ length ring)) ⊎ ((entry ≢ 0) × (i ≡ entry)) → IsExpandingEdge g cost now root edges ring at i
   IsExpandingEdge-init edges i made (inl none) =
       record {
@@ -57,8 +57,8 @@ module _ (g : Family) (cost : ℕ → ℕ → ℕ) (now : List (Option Edge)) (r
 
   -- two children more go into the tree
   pub IsExpandingEdge-insert_before : (edges new : List TreeEdge) (place i : ℕ) → i + 1 < length ring → IsExpandingEdge g cost now root edges ring place i →
-      IsInserted edges new place (new_edge (edge_at edges place) (link_at ring i) (link_at ring (i + 1)))
-      (hung_edge (edge_at edges place) (link_at ring (i + 1))) → IsExpandingEdge g cost now root new ring (place + 1) (i + 2)
+      IsInserted edges new place (new_edge (tree_edge_at edges place) (link_at ring i) (link_at ring (i + 1)))
+      (hung_edge (tree_edge_at edges place) (link_at ring (i + 1))) → IsExpandingEdge g cost now root new ring (place + 1) (i + 2)
   IsExpandingEdge-insert_before edges new place i more is insert_before = elim is.at [
     | inl closed ↦ absurd (omega (arith, closed.0, more))
     | inr ahead ↦ go (subst (λ d. IsExpandingTree g cost now root edges ring place d) ahead.1 is.state)
@@ -107,20 +107,20 @@ module _ (g : Family) (cost : ℕ → ℕ → ℕ) (now : List (Option Edge)) (r
       ]
 
 -- a tree edge with another inner top keeps its outer top
-pub OuterStays-init : (old : List TreeEdge) (at node : ℕ) → at < length old → OuterStays old (set old at (with_inner node (edge_at old at)))
+pub OuterStays-init : (old : List TreeEdge) (at node : ℕ) → at < length old → OuterStays old (set old at (with_inner node (tree_edge_at old at)))
 OuterStays-init old at node low i within = (
   i,
-  omega (arith, within, length-set old at (with_inner node (edge_at old at))),
+  omega (arith, within, length-set old at (with_inner node (tree_edge_at old at))),
   elim (cases_eq i at) [
-    | inl same ↦ ap (λ k. (edge_at (set old at (with_inner node (edge_at old at))) k).outer) same ∙
-        ap (λ l. l.outer) (get_or-set_same old at (with_inner node (edge_at old at)) blank_tree_edge low) ∙ ap (λ k. (edge_at old k).outer) (sym same)
-    | inr differs ↦ ap (λ l. l.outer) (get_or-set_other old at i (with_inner node (edge_at old at)) blank_tree_edge differs)
+    | inl same ↦ ap (λ k. (tree_edge_at (set old at (with_inner node (tree_edge_at old at))) k).outer) same ∙
+        ap (λ l. l.outer) (get_or-set_same old at (with_inner node (tree_edge_at old at)) blank_tree_edge low) ∙ ap (λ k. (tree_edge_at old k).outer) (sym same)
+    | inr differs ↦ ap (λ l. l.outer) (get_or-set_other old at i (with_inner node (tree_edge_at old at)) blank_tree_edge differs)
   ],
 )
 
 -- and an insertion keeps them all
 pub OuterStays-insert_before : (old edges new : List TreeEdge) (place : ℕ) (one two : Link) → place < length edges → OuterStays old edges →
-    IsInserted edges new place (new_edge (edge_at edges place) one two) (hung_edge (edge_at edges place) two) → OuterStays old new
+    IsInserted edges new place (new_edge (tree_edge_at edges place) one two) (hung_edge (tree_edge_at edges place) two) → OuterStays old new
 OuterStays-insert_before old edges new place one two low stays insert_before i within =
     let at = stays i within in
     elim (cases_lt at.0 place) [
@@ -129,7 +129,7 @@ OuterStays-insert_before old edges new place one two low stays insert_before i w
         | inl same ↦ (
           place + 1,
           omega (arith, low, insert_before.count),
-          ap (λ l. l.outer) insert_before.second ∙ ap (λ k. (edge_at edges k).outer) same ∙
+          ap (λ l. l.outer) insert_before.second ∙ ap (λ k. (tree_edge_at edges k).outer) same ∙
               at.2,
         )
         | inr differs ↦ (

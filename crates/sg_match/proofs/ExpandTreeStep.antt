@@ -9,7 +9,7 @@ use Rattle.sg_pairing.specs.Tight.{IsTight}
 use Rattle.sg_match.specs.InsertedEdges.{IsInserted}
 use Rattle.sg_match.specs.ExpandedTree.{IsExpandingTree}
 use Rattle.sg_match.specs.Pairs.{pair_of}
-use Rattle.sg_match.specs.Tree.{IsOut, IsTree, inners, edge_at, outers}
+use Rattle.sg_match.specs.Tree.{IsOut, IsTree, inners, tree_edge_at, outers}
 use Rattle.sg_match.specs.declared.Edge.{Edge}
 use Rattle.sg_match.specs.declared.TreeEdge.{TreeEdge}
 
@@ -22,8 +22,8 @@ IsTree-expanded_tree g cost now root edges ring place is =
         tops = is.tops;
         edge = is.edge;
         up_from = λ i low. elim (cases_eq i place) [
-          | inl same ↦ subst (λ k. Holds g (edge_at edges k).inner (edge_at edges k).up.from) (sym same)
-              (subst (λ n. Holds g n (edge_at edges place).up.from) (sym is.base) is.up_entry)
+          | inl same ↦ subst (λ k. Holds g (tree_edge_at edges k).inner (tree_edge_at edges k).up.from) (sym same)
+              (subst (λ n. Holds g n (tree_edge_at edges place).up.from) (sym is.base) is.up_entry)
           | inr differs ↦ is.up_from i low differs
         ];
       };
@@ -42,16 +42,16 @@ module _ (g : Family) (cost : ℕ → ℕ → ℕ) (now : List (Option Edge)) (r
     (record {
       inner = (link_at ring d).node;
       outer = (link_at ring (d + 1)).node;
-      up = (edge_at edges place).up;
+      up = (tree_edge_at edges place).up;
       pair =
           record { from = (link_at ring d).from; to = (link_at ring d).to };
     })
     (record {
-      inner = (edge_at edges place).inner;
-      outer = (edge_at edges place).outer;
+      inner = (tree_edge_at edges place).inner;
+      outer = (tree_edge_at edges place).outer;
       up =
           record { from = (link_at ring (d + 1)).to; to = (link_at ring (d + 1)).from };
-      pair = (edge_at edges place).pair;
+      pair = (tree_edge_at edges place).pair;
     })) where
   low_d : d < length ring
   low_d = omega (arith, more)
@@ -59,9 +59,9 @@ module _ (g : Family) (cost : ℕ → ℕ → ℕ) (now : List (Option Edge)) (r
   -- what a tree edge of the new tree was
   data Slot (k : ℕ) : Type 0 where
     is_new : k ≡ place → Slot k
-    is_old : (j : ℕ) → j < length edges → ((k < place) × (j ≡ k)) ⊎ ((place < k) × (k ≡ j + 1)) → (edge_at new k).inner ≡ (edge_at edges j).inner →
-        (edge_at new k).outer ≡ (edge_at edges j).outer → (edge_at new k).pair ≡ (edge_at edges j).pair →
-        (k ≢ place + 1 → (edge_at new k).up ≡ (edge_at edges j).up) → Slot k
+    is_old : (j : ℕ) → j < length edges → ((k < place) × (j ≡ k)) ⊎ ((place < k) × (k ≡ j + 1)) → (tree_edge_at new k).inner ≡ (tree_edge_at edges j).inner →
+        (tree_edge_at new k).outer ≡ (tree_edge_at edges j).outer → (tree_edge_at new k).pair ≡ (tree_edge_at edges j).pair →
+        (k ≢ place + 1 → (tree_edge_at new k).up ≡ (tree_edge_at edges j).up) → Slot k
 
   slot : (k : ℕ) → k < length new → Slot k
   slot k low =
@@ -72,12 +72,12 @@ module _ (g : Family) (cost : ℕ → ℕ → ℕ) (now : List (Option Edge)) (r
           | inl same ↦ is_new same
           | inr differs ↦ elim (cases_eq k (place + 1)) [
             | inl at ↦
-                let e = ap (λ x. edge_at new x) at ∙ insert_before.second in
+                let e = ap (λ x. tree_edge_at new x) at ∙ insert_before.second in
                 is_old place is.place_low (inr (omega (arith, at), at)) (ap (λ l. l.inner) e) (ap (λ l. l.outer) e) (ap (λ l. l.pair) e)
                 (λ away. absurd (away at))
             | inr far ↦
                 let back : k ≡ (k - 1) + 1 = omega (arith, from, differs) in
-                let e = ap (λ x. edge_at new x) back ∙ insert_before.after (k - 1) (omega (arith, from, differs, far))
+                let e = ap (λ x. tree_edge_at new x) back ∙ insert_before.after (k - 1) (omega (arith, from, differs, far))
                 (omega (arith, low, insert_before.count, from, differs)) in
                 is_old (k - 1) (omega (arith, low, insert_before.count, from, differs)) (inr (omega (arith, from, differs), back)) (ap (λ l. l.inner) e)
                 (ap (λ l. l.outer) e) (ap (λ l. l.pair) e) (λ _. ap (λ l. l.up) e)
@@ -101,7 +101,7 @@ module _ (g : Family) (cost : ℕ → ℕ → ℕ) (now : List (Option Edge)) (r
       low_k = omega (arith, low, length-outers root new)
 
       go : Slot k → Out (suc k)
-      go (is_new same) = out_new (ap suc same) (outer_at root new k low_k ∙ ap (λ x. (edge_at new x).outer) same ∙ ap (λ l. l.outer) insert_before.first)
+      go (is_new same) = out_new (ap suc same) (outer_at root new k low_k ∙ ap (λ x. (tree_edge_at new x).outer) same ∙ ap (λ l. l.outer) insert_before.first)
       go (is_old j low_j (inl where_it) a o b e) = out_old (suc j) (omega (arith, low_j, length-outers root edges))
           (inl (omega (arith, where_it.0), ap suc where_it.1)) (outer_at root new k low_k ∙ o ∙ sym (outer_at root edges j low_j))
       go (is_old j low_j (inr where_it) a o b e) = out_old (suc j) (omega (arith, low_j, length-outers root edges))
@@ -116,7 +116,7 @@ module _ (g : Family) (cost : ℕ → ℕ → ℕ) (now : List (Option Edge)) (r
   inn k low = go (slot k (new_low k low))
     where
       go : Slot k → In k
-      go (is_new same) = in_new same (inner_at new k (new_low k low) ∙ ap (λ x. (edge_at new x).inner) same ∙ ap (λ l. l.inner) insert_before.first)
+      go (is_new same) = in_new same (inner_at new k (new_low k low) ∙ ap (λ x. (tree_edge_at new x).inner) same ∙ ap (λ l. l.inner) insert_before.first)
       go (is_old j low_j at a o b e) = in_old j (omega (arith, low_j, length-inners edges)) at
           (inner_at new k (new_low k low) ∙ a ∙ sym (inner_at edges j low_j))
 
@@ -140,11 +140,11 @@ module _ (g : Family) (cost : ℕ → ℕ → ℕ) (now : List (Option Edge)) (r
       let low_j : j < length edges = omega (arith, low, length-outers root edges) in
       outer_at root new (suc j) (omega (arith, low_j, insert_before.count)) ∙ moved j low_j (omega (arith, from)) ∙ sym (outer_at root edges j low_j)
     where
-      moved : (j : ℕ) → j < length edges → place ≤ j → (edge_at new (suc j)).outer ≡ (edge_at edges j).outer
+      moved : (j : ℕ) → j < length edges → place ≤ j → (tree_edge_at new (suc j)).outer ≡ (tree_edge_at edges j).outer
       moved j low_j from = elim (cases_eq place j) [
-        | inl same ↦ ap (λ x. (edge_at new x).outer) (plus j ∙ ap (λ x. x + 1) (sym same)) ∙ ap (λ l. l.outer) insert_before.second ∙
-            ap (λ x. (edge_at edges x).outer) same
-        | inr differs ↦ ap (λ x. (edge_at new x).outer) (plus j) ∙ ap (λ l. l.outer) (insert_before.after j (omega (arith, from, differs)) low_j)
+        | inl same ↦ ap (λ x. (tree_edge_at new x).outer) (plus j ∙ ap (λ x. x + 1) (sym same)) ∙ ap (λ l. l.outer) insert_before.second ∙
+            ap (λ x. (tree_edge_at edges x).outer) same
+        | inr differs ↦ ap (λ x. (tree_edge_at new x).outer) (plus j) ∙ ap (λ l. l.outer) (insert_before.after j (omega (arith, from, differs)) low_j)
       ]
         where
           plus : (n : ℕ) → suc n ≡ n + 1
@@ -170,37 +170,37 @@ module _ (g : Family) (cost : ℕ → ℕ → ℕ) (now : List (Option Edge)) (r
     };
     exposed_root = is.exposed_root;
     pair = λ k low. elim (slot k low) [
-      | is_new same ↦ subst (λ x. pair_of now (edge_at new x).inner ≡ Some (edge_at new x).pair) (sym same)
+      | is_new same ↦ subst (λ x. pair_of now (tree_edge_at new x).inner ≡ Some (tree_edge_at new x).pair) (sym same)
           (subst (λ (l : TreeEdge). pair_of now l.inner ≡ Some l.pair) (sym insert_before.first) paired)
       | is_old j low_j at a o b e ↦ ap (λ n. pair_of now n) a ∙ is.pair j low_j ∙ ap (λ x. Some x) (sym b)
     ];
     edge = λ k low. record {
       pair_from = elim (slot k low) [
-        | is_new same ↦ subst (λ x. Holds g (edge_at new x).inner (edge_at new x).pair.from) (sym same)
+        | is_new same ↦ subst (λ x. Holds g (tree_edge_at new x).inner (tree_edge_at new x).pair.from) (sym same)
             (subst (λ (l : TreeEdge). Holds g l.inner l.pair.from) (sym insert_before.first) (can.closed.from d low_d))
-        | is_old j low_j at a o b e ↦ subst (λ (x : Edge). Holds g (edge_at new k).inner x.from) (sym b)
-            (subst (λ n. Holds g n (edge_at edges j).pair.from) (sym a) ((is.edge j low_j).pair_from))
+        | is_old j low_j at a o b e ↦ subst (λ (x : Edge). Holds g (tree_edge_at new k).inner x.from) (sym b)
+            (subst (λ n. Holds g n (tree_edge_at edges j).pair.from) (sym a) ((is.edge j low_j).pair_from))
       ];
       pair_to = elim (slot k low) [
-        | is_new same ↦ subst (λ x. Holds g (edge_at new x).outer (edge_at new x).pair.to) (sym same)
+        | is_new same ↦ subst (λ x. Holds g (tree_edge_at new x).outer (tree_edge_at new x).pair.to) (sym same)
             (subst (λ (l : TreeEdge). Holds g l.outer l.pair.to) (sym insert_before.first) to_one)
-        | is_old j low_j at a o b e ↦ subst (λ (x : Edge). Holds g (edge_at new k).outer x.to) (sym b)
-            (subst (λ n. Holds g n (edge_at edges j).pair.to) (sym o) ((is.edge j low_j).pair_to))
+        | is_old j low_j at a o b e ↦ subst (λ (x : Edge). Holds g (tree_edge_at new k).outer x.to) (sym b)
+            (subst (λ n. Holds g n (tree_edge_at edges j).pair.to) (sym o) ((is.edge j low_j).pair_to))
       ];
       up_to = edge_case k (slot k low);
     };
     up_from = λ k low away. elim (slot k low) [
-      | is_new same ↦ subst (λ x. Holds g (edge_at new x).inner (edge_at new x).up.from) (sym same)
+      | is_new same ↦ subst (λ x. Holds g (tree_edge_at new x).inner (tree_edge_at new x).up.from) (sym same)
           (subst (λ (l : TreeEdge). Holds g l.inner l.up.from) (sym insert_before.first) is.up_entry)
-      | is_old j low_j at a o b e ↦ subst (λ (x : Edge). Holds g (edge_at new k).inner x.from) (sym (e away))
-          (subst (λ n. Holds g n (edge_at edges j).up.from) (sym a) (is.up_from j low_j (λ same. away (place_of j at same))))
+      | is_old j low_j at a o b e ↦ subst (λ (x : Edge). Holds g (tree_edge_at new k).inner x.from) (sym (e away))
+          (subst (λ n. Holds g n (tree_edge_at edges j).up.from) (sym a) (is.up_from j low_j (λ same. away (place_of j at same))))
     ];
     up_entry = subst (λ (l : TreeEdge). Holds g (link_at ring next).node l.up.from) (sym insert_before.second) to_two;
     up_tight = λ k low. elim (slot k low) [
-      | is_new same ↦ subst (λ x. IsTight g cost (edge_at new x).up.from (edge_at new x).up.to) (sym same)
+      | is_new same ↦ subst (λ x. IsTight g cost (tree_edge_at new x).up.from (tree_edge_at new x).up.to) (sym same)
           (subst (λ (l : TreeEdge). IsTight g cost l.up.from l.up.to) (sym insert_before.first) (is.up_tight place is.place_low))
       | is_old j low_j at a o b e ↦ elim (cases_eq k (place + 1)) [
-        | inl here ↦ subst (λ x. IsTight g cost (edge_at new x).up.from (edge_at new x).up.to) (sym here)
+        | inl here ↦ subst (λ x. IsTight g cost (tree_edge_at new x).up.from (tree_edge_at new x).up.to) (sym here)
             (subst (λ (l : TreeEdge). IsTight g cost l.up.from l.up.to) (sym insert_before.second) tight_two)
         | inr away ↦ subst (λ (x : Edge). IsTight g cost x.from x.to) (sym (e away)) (is.up_tight j low_j)
       ]
@@ -257,18 +257,18 @@ module _ (g : Family) (cost : ℕ → ℕ → ℕ) (now : List (Option Edge)) (r
       apart_pick i j (out_old x low_x at h) (in_new a e) same = fresh_d.outer x low_x (sym h ∙ same ∙ e)
       apart_pick i j (out_old x low_x at h) (in_old y low_y a k) same = is.tops.apart x y low_x low_y (sym h ∙ same ∙ k)
 
-      edge_case : (k : ℕ) → Slot k → (j : ℕ) × (j ≤ k) × Holds g (get_or (outers root new) j 0) (edge_at new k).up.to
+      edge_case : (k : ℕ) → Slot k → (j : ℕ) × (j ≤ k) × Holds g (get_or (outers root new) j 0) (tree_edge_at new k).up.to
       edge_case k (is_new same) =
           let old = (is.edge place is.place_low).up_to in
-          subst (λ x. (j : ℕ) × (j ≤ x) × Holds g (get_or (outers root new) j 0) (edge_at new x).up.to) (sym same) (
+          subst (λ x. (j : ℕ) × (j ≤ x) × Holds g (get_or (outers root new) j 0) (tree_edge_at new x).up.to) (sym same) (
             old.0,
             old.1,
             subst (λ (l : TreeEdge). Holds g (get_or (outers root new) old.0 0) l.up.to) (sym insert_before.first)
-                (subst (λ n. Holds g n (edge_at edges place).up.to) (sym (kept old.0 old.1)) old.2),
+                (subst (λ n. Holds g n (tree_edge_at edges place).up.to) (sym (kept old.0 old.1)) old.2),
           )
       edge_case k (is_old y low_y at a o b e) = elim (cases_eq k (place + 1)) [
         | inl here ↦
-            subst (λ x. (j : ℕ) × (j ≤ x) × Holds g (get_or (outers root new) j 0) (edge_at new x).up.to) (sym here) (
+            subst (λ x. (j : ℕ) × (j ≤ x) × Holds g (get_or (outers root new) j 0) (tree_edge_at new x).up.to) (sym here) (
               suc place,
               omega arith,
               subst (λ (l : TreeEdge). Holds g (get_or (outers root new) (suc place) 0) l.up.to) (sym insert_before.second)
@@ -278,16 +278,16 @@ module _ (g : Family) (cost : ℕ → ℕ → ℕ) (now : List (Option Edge)) (r
             )
         | inr away ↦
             let old = (is.edge y low_y).up_to in
-            let back : Holds g (get_or (outers root edges) old.0 0) (edge_at new k).up.to =
+            let back : Holds g (get_or (outers root edges) old.0 0) (tree_edge_at new k).up.to =
             subst (λ (x : Edge). Holds g (get_or (outers root edges) old.0 0) x.to) (sym (e away)) old.2 in
             elim (cases_lt place old.0) [
               | inl far ↦ (
                 suc old.0,
                 step_below at far old.1,
-                subst (λ n. Holds g n (edge_at new k).up.to)
+                subst (λ n. Holds g n (tree_edge_at new k).up.to)
                     (sym (later old.0 far (omega (arith, old.1, low_y, length-outers root edges)))) back,
               )
-              | inr near ↦ (old.0, below at old.1, subst (λ n. Holds g n (edge_at new k).up.to) (sym (kept old.0 near)) back)
+              | inr near ↦ (old.0, below at old.1, subst (λ n. Holds g n (tree_edge_at new k).up.to) (sym (kept old.0 near)) back)
             ]
       ]
         where

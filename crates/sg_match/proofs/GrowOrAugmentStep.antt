@@ -17,7 +17,7 @@ use Rattle.sg_match.proofs.PairLemmas.{mate_differs}
 use Rattle.sg_match.proofs.StepsStep.{rest-one_fewer}
 use Rattle.sg_pairing.proofs.TightLemmas.{tight-back}
 use Rattle.sg_match.proofs.TreeLemmas.{inner_top, length-outers, edge_room, mate_out, outer_top}
-use Rattle.sg_match.specs.Augmented.{CanAugment, IsAugmented, HasTops}
+use Rattle.sg_match.specs.Augmented.{CanAugment, IsAugmented, HasTwoTops}
 use Rattle.sg_match.specs.Engine.{IsEngine}
 use Rattle.sg_match.specs.Events.{IsTightOuterFree, IsTightInto}
 use Rattle.sg_pairing.specs.Tight.{IsTight}
@@ -27,7 +27,7 @@ use Rattle.sg_pairing.specs.Metric.{cost}
 use Rattle.sg_match.specs.Pairs.{pair_of}
 use Rattle.sg_match.specs.State.{State}
 use Rattle.sg_match.specs.Steps.{blossoms_of, rest_of, steps_left}
-use Rattle.sg_match.specs.Tree.{IsOut, IsTree, any_top, edge_at, outers}
+use Rattle.sg_match.specs.Tree.{IsOut, IsTree, any_top, tree_edge_at, outers}
 use Rattle.sg_match.specs.declared.Edge.{Edge}
 use Rattle.sg_match.specs.declared.TreeEdge.{TreeEdge}
 use Rattle.sg_slack.specs.Table.{Table}
@@ -51,13 +51,13 @@ module _ (f : Family) (table : Table) (pairs : List (Option Edge)) (exposed : Li
     tree : IsTree f (cost table) pairs root edges
     tree = engine.tree
 
-    tops : (i : ℕ) → i < length edges → HasTops f (edge_at edges i)
+    tops : (i : ℕ) → i < length edges → HasTwoTops f (tree_edge_at edges i)
     tops i low =
         let to = (tree.shape.edge i low).up_to in
         record {
           inner = inner_top f root edges tree.shape i low;
           outer = outer_top f root edges tree.shape i low;
-          to = leaf_bound f fam (get_or (outers root edges) to.0 0) (edge_at edges i).up.to to.2;
+          to = leaf_bound f fam (get_or (outers root edges) to.0 0) (tree_edge_at edges i).up.to to.2;
         }
 
     module _ (u v top : ℕ) (tight_edge : IsTightOuterFree (with_tree (Some root) edges) root u v) (is_top : IsTop f top) (held : Holds f top v) where
@@ -226,7 +226,7 @@ module _ (f : Family) (table : Table) (pairs : List (Option Edge)) (exposed : Li
   root_top = rooted.tree.shape.tops.outer_tops 0 (omega (arith, length-outers root edges))
 
   -- the two ends of a tree edge are tops
-  pub edge_tops : (i : ℕ) → i < length edges → HasTops f (edge_at edges i)
+  pub edge_tops : (i : ℕ) → i < length edges → HasTwoTops f (tree_edge_at edges i)
   edge_tops = tops f table pairs exposed root edges rooted
 
   -- there are fewer tree edges than names

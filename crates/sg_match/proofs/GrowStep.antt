@@ -6,9 +6,9 @@ use Rattle.sg_slack.proofs.DistinctLemmas.{at_end}
 use Rattle.sg_match.proofs.NameLemmas.{Differ-last}
 use Rattle.sg_match.proofs.TreeLemmas.{length-outers}
 use Rattle.sg_pairing.specs.Tight.{IsTight}
-use Rattle.sg_match.specs.Names.{Differ}
+use Rattle.sg_sums.specs.Sets.{Differ}
 use Rattle.sg_match.specs.Pairs.{pair_of}
-use Rattle.sg_match.specs.Tree.{IsOut, IsTree, blank_tree_edge, inners, edge_at, outers}
+use Rattle.sg_match.specs.Tree.{IsOut, IsTree, blank_tree_edge, inners, tree_edge_at, outers}
 use Rattle.sg_match.specs.declared.Edge.{Edge}
 use Rattle.sg_match.specs.declared.TreeEdge.{TreeEdge}
 
@@ -41,7 +41,7 @@ module _ (f : Family) (cost : ℕ → ℕ → ℕ) (pairs : List (Option Edge)) 
       ((i ≡ length (inners edges)) × (get_or xs i 0 ≡ tree_edge.inner))) (sym inners_are)
       (at_end (inners edges) tree_edge.inner 0 i (subst (λ xs. i < length xs) inners_are low))
 
-  each : (P : TreeEdge → Type 0) → ((i : ℕ) → i < length edges → P (edge_at edges i)) → P tree_edge → (i : ℕ) → i < length more → P (edge_at more i)
+  each : (P : TreeEdge → Type 0) → ((i : ℕ) → i < length edges → P (tree_edge_at edges i)) → P tree_edge → (i : ℕ) → i < length more → P (tree_edge_at more i)
   each P old new i low = elim (at_end edges tree_edge blank_tree_edge i low) [
     | inl at ↦ subst (λ (l : TreeEdge). P l) (sym at.1) (old i at.0)
     | inr at ↦ subst (λ (l : TreeEdge). P l) (sym at.1) new
@@ -87,7 +87,8 @@ module _ (f : Family) (cost : ℕ → ℕ → ℕ) (pairs : List (Option Edge)) 
                     old.0,
                     old.1,
                     subst (λ (l : TreeEdge). Holds f (get_or (outers root more) old.0 0) l.up.to) (sym at.1)
-                        (subst (λ n. Holds f n (edge_at edges i).up.to) (sym (outer_old old.0 (omega (arith, old.1, at.0, length-outers root edges)))) old.2),
+                        (subst (λ n. Holds f n (tree_edge_at edges i).up.to)
+                            (sym (outer_old old.0 (omega (arith, old.1, at.0, length-outers root edges)))) old.2),
                   )
               | inr at ↦ (
                 up_to.0,

@@ -14,7 +14,7 @@ use Rattle.sg_slack.proofs.DistinctLemmas.{at_end, short}
 use Rattle.sg_match.proofs.NameLemmas.{Differ-last}
 use Rattle.sg_match.proofs.MatesStep.{Stands-left}
 use Rattle.sg_match.specs.Pairs.{pair_of}
-use Rattle.sg_match.specs.Names.{Differ, Stands}
+use Rattle.sg_sums.specs.Sets.{Differ, Stands}
 use Rattle.sg_match.specs.MatePairs.{HasOwn, ListsTops}
 use Rattle.sg_match.specs.declared.Edge.{Edge}
 

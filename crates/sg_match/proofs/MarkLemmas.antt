@@ -3,7 +3,7 @@ use Rattle.std.proofs.Common.{◌≡◌, ◌≢◌, ◌⊎◌, ℕ, zero, suc, �
 use Rattle.std.proofs.lemmas.Bool.{cases_eq}
 use Rattle.std.proofs.lemmas.List.{get_or-set_other, get_or-set_same, length-set}
 use Rattle.sg_match.proofs.TreeLemmas.{inner_at, length-inners, length-outers, outer_at}
-use Rattle.sg_match.specs.Tree.{StandsAt, edge_at, outers}
+use Rattle.sg_match.specs.Tree.{StandsAt, tree_edge_at, outers}
 use Rattle.sg_match.specs.declared.TreeEdge.{TreeEdge}
 use Rattle.sg_slack.proofs.ScanLemmas.{below_next}
 use Rattle.sg_slack.specs.declared.Mark.{Mark}
@@ -11,13 +11,13 @@ use Rattle.sg_slack.specs.declared.Mark.TheVariants.{Free, Inner, Outer}
 
 -- where a name stands among the root and the tree edges before a place
 abbrev pub Seen : ℕ → List TreeEdge → ℕ → ℕ → Mark → Type 0
-Seen root edges i t Outer = (root ≡ t) ⊎ ((k : ℕ) × (k < i) × ((edge_at edges k).outer ≡ t))
-Seen root edges i t Inner = (k : ℕ) × (k < i) × ((edge_at edges k).inner ≡ t)
-Seen root edges i t Free = (root ≢ t) × ((k : ℕ) → k < i → ((edge_at edges k).outer ≢ t) × ((edge_at edges k).inner ≢ t))
+Seen root edges i t Outer = (root ≡ t) ⊎ ((k : ℕ) × (k < i) × ((tree_edge_at edges k).outer ≡ t))
+Seen root edges i t Inner = (k : ℕ) × (k < i) × ((tree_edge_at edges k).inner ≡ t)
+Seen root edges i t Free = (root ≢ t) × ((k : ℕ) → k < i → ((tree_edge_at edges k).outer ≢ t) × ((tree_edge_at edges k).inner ≢ t))
 
 module _ (root : ℕ) (edges : List TreeEdge) where
   -- one more tree edge, of other names
-  Seen-next : (i t : ℕ) (m : Mark) → (edge_at edges i).outer ≢ t → (edge_at edges i).inner ≢ t → Seen root edges i t m → Seen root edges (i + 1) t m
+  Seen-next : (i t : ℕ) (m : Mark) → (tree_edge_at edges i).outer ≢ t → (tree_edge_at edges i).inner ≢ t → Seen root edges i t m → Seen root edges (i + 1) t m
   Seen-next i t Outer away apart (inl is) = inl is
   Seen-next i t Outer away apart (inr at) = inr (at.0, omega (arith, at.1), at.2)
   Seen-next i t Inner away apart at = (at.0, omega (arith, at.1), at.2)
@@ -25,7 +25,7 @@ module _ (root : ℕ) (edges : List TreeEdge) where
     none.0,
     λ k low. elim (below_next k i low) [
       | inl less ↦ none.1 k less
-      | inr same ↦ ((λ e. away (ap (λ n. (edge_at edges n).outer) (sym same) ∙ e)), (λ e. apart (ap (λ n. (edge_at edges n).inner) (sym same) ∙ e)))
+      | inr same ↦ ((λ e. away (ap (λ n. (tree_edge_at edges n).outer) (sym same) ∙ e)), (λ e. apart (ap (λ n. (tree_edge_at edges n).inner) (sym same) ∙ e)))
     ],
   )
 
@@ -45,34 +45,34 @@ module _ (root : ℕ) (edges : List TreeEdge) where
       ]
 
   -- one more tree edge
-  module _ (i : ℕ) (named : List Mark) (inner_low : (edge_at edges i).inner < length named) (outer_low : (edge_at edges i).outer < length named)
+  module _ (i : ℕ) (named : List Mark) (inner_low : (tree_edge_at edges i).inner < length named) (outer_low : (tree_edge_at edges i).outer < length named)
       (seen : (t : ℕ) → t < length named → Seen root edges i t (get_or named t Free)) where
     abbrev half : List Mark
-    half = set named (edge_at edges i).inner Inner
+    half = set named (tree_edge_at edges i).inner Inner
 
     abbrev whole : List Mark
-    whole = set half (edge_at edges i).outer Outer
+    whole = set half (tree_edge_at edges i).outer Outer
 
     whole-count : length whole ≡ length named
-    whole-count = length-set half (edge_at edges i).outer Outer ∙ length-set named (edge_at edges i).inner Inner
+    whole-count = length-set half (tree_edge_at edges i).outer Outer ∙ length-set named (tree_edge_at edges i).inner Inner
 
     -- the marks of the two tops of one tree edge more
-    pub Seen-edge : (t : ℕ) → t < length (set (set named (edge_at edges i).inner Inner) (edge_at edges i).outer Outer) →
-        Seen root edges (i + 1) t (get_or (set (set named (edge_at edges i).inner Inner) (edge_at edges i).outer Outer) t Free)
+    pub Seen-edge : (t : ℕ) → t < length (set (set named (tree_edge_at edges i).inner Inner) (tree_edge_at edges i).outer Outer) →
+        Seen root edges (i + 1) t (get_or (set (set named (tree_edge_at edges i).inner Inner) (tree_edge_at edges i).outer Outer) t Free)
     Seen-edge t less =
-        elim (cases_eq (edge_at edges i).outer t) [
+        elim (cases_eq (tree_edge_at edges i).outer t) [
           | inl same ↦
               let is : get_or whole t Free ≡ Outer = ap (λ n. get_or whole n Free) (sym same)
-              ∙ get_or-set_same half (edge_at edges i).outer Outer Free (omega (arith, outer_low, length-set named (edge_at edges i).inner Inner)) in
+              ∙ get_or-set_same half (tree_edge_at edges i).outer Outer Free (omega (arith, outer_low, length-set named (tree_edge_at edges i).inner Inner)) in
               subst (λ m. Seen root edges (i + 1) t m) (sym is) (inr (i, omega arith, same))
-          | inr away ↦ elim (cases_eq (edge_at edges i).inner t) [
+          | inr away ↦ elim (cases_eq (tree_edge_at edges i).inner t) [
             | inl same ↦
-                let is : get_or whole t Free ≡ Inner = get_or-set_other half (edge_at edges i).outer t Outer Free (λ e. away (sym e))
-                ∙ ap (λ n. get_or half n Free) (sym same) ∙ get_or-set_same named (edge_at edges i).inner Inner Free inner_low in
+                let is : get_or whole t Free ≡ Inner = get_or-set_other half (tree_edge_at edges i).outer t Outer Free (λ e. away (sym e))
+                ∙ ap (λ n. get_or half n Free) (sym same) ∙ get_or-set_same named (tree_edge_at edges i).inner Inner Free inner_low in
                 subst (λ m. Seen root edges (i + 1) t m) (sym is) (i, omega arith, same)
             | inr apart ↦
-                let is : get_or whole t Free ≡ get_or named t Free = get_or-set_other half (edge_at edges i).outer t Outer Free (λ e. away (sym e))
-                ∙ get_or-set_other named (edge_at edges i).inner t Inner Free (λ e. apart (sym e)) in
+                let is : get_or whole t Free ≡ get_or named t Free = get_or-set_other half (tree_edge_at edges i).outer t Outer Free (λ e. away (sym e))
+                ∙ get_or-set_other named (tree_edge_at edges i).inner t Inner Free (λ e. apart (sym e)) in
                 subst (λ m. Seen root edges (i + 1) t m) (sym is)
                 (Seen-next i t (get_or named t Free) away apart (seen t (omega (arith, less, whole-count))))
           ]

@@ -11,7 +11,7 @@ use Rattle.sg_match.specs.Feasible.{IsFeasible}
 use Rattle.sg_pairing.specs.Tight.{IsTight}
 use Rattle.sg_pairing.specs.Matching.{IsLeftOnce, IsMatching, IsPairing}
 use Rattle.sg_match.specs.Pairs.{IsPaired, flipped, pair_of}
-use Rattle.sg_match.specs.MatePairs.{IsJoined, AreMatePairs}
+use Rattle.sg_match.specs.MatePairs.{HasMateInCycle, AreMatePairs}
 use Rattle.sg_match.specs.declared.Edge.{Edge}
 
 module _ (f : Family) (fam : IsFamily f) (good : ℕ → ℕ → Type 0) (old pairs : List (Option Edge)) (paired : IsPaired f good old)
@@ -29,7 +29,7 @@ module _ (f : Family) (fam : IsFamily f) (good : ℕ → ℕ → Type 0) (old pa
       let m = paired.other t p top (sym (derived.tops t top) ∙ is) in
       (m.0, m.1, m.2, m.3, derived.tops m.0 m.1 ∙ m.4)
 
-  sides : (b i : ℕ) → i < length (cycle_of f b) → (pair_of pairs (link_at (cycle_of f b) i).node ≡ pair_of pairs b) ⊎ IsJoined f pairs (cycle_of f b) i
+  sides : (b i : ℕ) → i < length (cycle_of f b) → (pair_of pairs (link_at (cycle_of f b) i).node ≡ pair_of pairs b) ⊎ HasMateInCycle f pairs (cycle_of f b) i
   sides b i low = (derived.inside b (omega arith)).child i low
 
   -- a set's pair leads out of it

@@ -13,7 +13,7 @@ use Rattle.sg_match.proofs.NameLemmas.{Differ-append, place_of_name}
 use Rattle.sg_match.proofs.NodeLemmas.{length-nodes, node_at_place}
 use Rattle.sg_match.proofs.RotateLemmas.{Differ-cycle, IsCycle-rotated, from_ring, length-rotated, to_ring}
 use Rattle.sg_match.specs.Pairs.{AllPaired, IsPaired, pair_of}
-use Rattle.sg_match.specs.Names.{Differ, Stands}
+use Rattle.sg_sums.specs.Sets.{Differ, Stands}
 use Rattle.sg_match.specs.Path.{nodes_of}
 use Rattle.sg_match.specs.Rings.{rotated}
 use Rattle.sg_match.specs.MatePairs.{HasOwn, IsPairedInside, AreMatePairs, ListsTops}

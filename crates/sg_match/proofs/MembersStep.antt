@@ -17,8 +17,8 @@ use Rattle.sg_slack.specs.declared.Mark.{Mark}
 use Rattle.sg_slack.specs.declared.Mark.TheVariants.{Outer}
 use Rattle.sg_match.proofs.NearestStep.{mark-outer}
 use Rattle.sg_match.proofs.RaiseStep.{held, total_outer}
-use Rattle.sg_match.specs.Marks.{IsListed, IsMarked}
-use Rattle.sg_match.specs.Members.{AreMarked, AreOuter, IsJoined}
+use Rattle.sg_match.specs.Marks.{IsListed, AreRightMarks}
+use Rattle.sg_match.specs.Members.{AreMarked, AreOuter, JoinsMembers}
 use Rattle.sg_match.specs.Tree.{IsShape, any_top, inners, outers}
 use Rattle.sg_match.specs.declared.TreeEdge.{TreeEdge}
 
@@ -55,7 +55,7 @@ AreOuter-grown f root edges tree_edge members known =
     ∙ ap (λ b. b || any_top f (tree_edge.outer ∷ []) l) is) (λ l. refl)
 
 -- a leaf that joins
-module _ (old new : List Member) (leaf : ℕ) (total : ℤ) (mark : Mark) (marks : List Mark) (totals : List ℤ) (joined : IsJoined old new leaf total mark)
+module _ (old new : List Member) (leaf : ℕ) (total : ℤ) (mark : Mark) (marks : List Mark) (totals : List ℤ) (joined : JoinsMembers old new leaf total mark)
     (low : leaf < length marks) (mark_is : mark_at marks leaf ≡ mark) (total_is : total_at totals leaf ≡ total) where
   abbrev joining : Member
   joining = record { leaf = leaf; total = total }
@@ -122,7 +122,7 @@ module _ (old new : List Member) (leaf : ℕ) (total : ℤ) (mark : Mark) (marks
 
 -- what is known in the tree is so in the tables, and the other way round
 module _ (f : Family) (root : ℕ) (edges : List TreeEdge) (tops : List ℕ) (totals : List ℤ) (marks : List Mark) (members : List Member)
-    (listed : IsListed f tops totals) (marked : IsMarked f root edges marks) where
+    (listed : IsListed f tops totals) (marked : AreRightMarks f root edges marks) where
   -- members that are marked as outer are outer leaves, with their totals
   pub AreOuter-marked : AreMarked members marks → Agree members totals → AreOuter f root edges members
   AreOuter-marked outer agree =
@@ -141,7 +141,7 @@ module _ (f : Family) (root : ℕ) (edges : List TreeEdge) (tops : List ℕ) (to
 
 -- a leaf that is known is marked as outer
 pub AreMarked-known : (f : Family) (root : ℕ) (edges : List TreeEdge) (marks : List Mark) (members : List Member) → IsFamily f → IsShape f root edges →
-    IsMarked f root edges marks → AreOuter f root edges members → AreMarked members marks
+    AreRightMarks f root edges marks → AreOuter f root edges members → AreMarked members marks
 AreMarked-known f root edges marks members fam shape marked known i low =
     let at = place_of_any (λ t. holds f t (member_at members i).leaf) (outers root edges) 0 (known.outer i low) in
     let bound = leaf_bound f fam (get_or (outers root edges) at.0 0) (member_at members i).leaf at.2 in

@@ -12,7 +12,7 @@ use Rattle.sg_match.specs.declared.Event.TheVariants.{InnerZero, OuterOuter, Out
 use Rattle.sg_match.specs.Scans.{CanScan, IsScanned, IsScannedAt}
 use Rattle.sg_match.specs.Nearest.{IsAt, IsNearest}
 use Rattle.sg_match.specs.Feasible.{IsFeasible}
-use Rattle.sg_match.specs.Marks.{IsListed, IsMarked}
+use Rattle.sg_match.specs.Marks.{IsListed, AreRightMarks}
 use Rattle.sg_pairing.specs.Metric.{IsMetric, cost}
 use Rattle.sg_match.specs.Tree.{IsOut, IsShape, StandsAt, inners, outers}
 use Rattle.sg_match.specs.declared.TreeEdge.{TreeEdge}
@@ -24,7 +24,7 @@ use Rattle.sg_slack.specs.declared.Mark.TheVariants.{Free, Inner, Outer}
 -- the mark of a leaf's top says where the leaf stands
 pub IsMarked-stands : (f : Family) (root : ℕ) (edges : List TreeEdge) (tops : List ℕ) (totals : List ℤ) (marks : List Mark) → IsFamily f →
     IsShape f root edges → IsListed f tops totals → length marks ≡ leaf_count f →
-    ((leaf : ℕ) → leaf < leaf_count f → StandsAt root edges (get_or tops leaf 0) (mark_at marks leaf)) → IsMarked f root edges marks
+    ((leaf : ℕ) → leaf < leaf_count f → StandsAt root edges (get_or tops leaf 0) (mark_at marks leaf)) → AreRightMarks f root edges marks
 IsMarked-stands f root edges tops totals marks fam shape listed count stands =
     record {
       count = count;
@@ -38,7 +38,7 @@ IsMarked-stands f root edges tops totals marks fam shape listed count stands =
     }
 
 -- a leaf of an outer top is marked so
-pub mark-outer : (f : Family) (root : ℕ) (edges : List TreeEdge) (marks : List Mark) → IsFamily f → IsShape f root edges → IsMarked f root edges marks →
+pub mark-outer : (f : Family) (root : ℕ) (edges : List TreeEdge) (marks : List Mark) → IsFamily f → IsShape f root edges → AreRightMarks f root edges marks →
     (u i : ℕ) → u < leaf_count f → i < length (outers root edges) → Holds f (get_or (outers root edges) i 0) u → mark_at marks u ≡ Outer
 mark-outer f root edges marks fam shape marked u i low within held = go (mark_at marks u) refl
   where
@@ -67,7 +67,7 @@ CanChangeDuals-nearest f cost root edges amount event delta near less blossoms =
 
 module _ (f : Family) (table : Table) (root : ℕ) (edges : List TreeEdge) (tops : List ℕ) (totals : List ℤ) (marks : List Mark) (costs : IsMetric table)
     (count : leaf_count f ≡ table.size) (feasible : IsFeasible f (cost table)) (shape : IsShape f root edges) (listed : IsListed f tops totals)
-    (marked : IsMarked f root edges marks) where
+    (marked : AreRightMarks f root edges marks) where
   abbrev fam : IsFamily f
   fam = feasible.family
 

@@ -7,7 +7,7 @@ use Rattle.sg_match.proofs.TreeLemmas.{pair_tight, inner_at, inner_top, length-i
 use Rattle.sg_match.specs.Feasible.{IsFeasible}
 use Rattle.sg_pairing.specs.Tight.{IsTight}
 use Rattle.sg_match.specs.Pairs.{IsPaired}
-use Rattle.sg_match.specs.Tree.{IsTree, inners, edge_at, outers}
+use Rattle.sg_match.specs.Tree.{IsTree, inners, tree_edge_at, outers}
 use Rattle.sg_match.specs.declared.Edge.{Edge}
 use Rattle.sg_match.specs.declared.TreeEdge.{TreeEdge}
 
@@ -28,7 +28,7 @@ module _ (f : Family) (cost : ℕ → ℕ → ℕ) (pairs : List (Option Edge)) 
   to_root (suc n) zero w in_w fuel low u held = feasible.parity r u w (tree.shape.tops.outer_tops 0 low) held in_w
   to_root (suc n) (suc m) w in_w fuel low u held =
       let within : m < length edges = omega (arith, low, length-outers r edges) in
-      let l = edge_at edges m in
+      let l = tree_edge_at edges m in
       let up = (tree.shape.edge m within).up_to in
       let low_up : up.0 < length (outers r edges) = omega (arith, up.1, low) in
       let above = to_root n up.0 w in_w (omega (arith, up.1, fuel)) low_up l.up.to up.2 in

@@ -17,7 +17,7 @@ use Rattle.sg_match.specs.Feasible.{IsFeasible}
 use Rattle.sg_pairing.specs.Tight.{IsTight}
 use Rattle.sg_match.specs.Exposed.{IsExposed}
 use Rattle.sg_match.specs.Pairs.{IsPaired, flipped, pair_of}
-use Rattle.sg_match.specs.Tree.{IsOut, IsTree, inners, edge_at, outers}
+use Rattle.sg_match.specs.Tree.{IsOut, IsTree, inners, tree_edge_at, outers}
 use Rattle.sg_match.specs.declared.Edge.{Edge}
 use Rattle.sg_match.specs.declared.TreeEdge.{TreeEdge}
 
@@ -257,17 +257,17 @@ module _ (f : Family) (cost : ℕ → ℕ → ℕ) (r : ℕ) (edges : List TreeE
               apart = tree.shape.tops.apart;
             };
             edge = λ i low. record {
-              pair_from = held (edge_at edges i).inner (edge_at edges i).pair.from ∙ (tree.shape.edge i low).pair_from;
-              pair_to = held (edge_at edges i).outer (edge_at edges i).pair.to ∙ (tree.shape.edge i low).pair_to;
-              up_to = let at = (tree.shape.edge i low).up_to in (at.0, at.1, held (get_or outer at.0 0) (edge_at edges i).up.to ∙ at.2);
+              pair_from = held (tree_edge_at edges i).inner (tree_edge_at edges i).pair.from ∙ (tree.shape.edge i low).pair_from;
+              pair_to = held (tree_edge_at edges i).outer (tree_edge_at edges i).pair.to ∙ (tree.shape.edge i low).pair_to;
+              up_to = let at = (tree.shape.edge i low).up_to in (at.0, at.1, held (get_or outer at.0 0) (tree_edge_at edges i).up.to ∙ at.2);
             };
-            up_from = λ i low. held (edge_at edges i).inner (edge_at edges i).up.from ∙ tree.shape.up_from i low;
+            up_from = λ i low. held (tree_edge_at edges i).inner (tree_edge_at edges i).up.from ∙ tree.shape.up_from i low;
           };
           exposed_root = tree.exposed_root;
           pair = tree.pair;
           up_tight = λ i low.
               let at = (tree.shape.edge i low).up_to in
-              tight_tree (edge_at edges i).inner (get_or outer at.0 0) (edge_at edges i).up.from (edge_at edges i).up.to i at.0
+              tight_tree (tree_edge_at edges i).inner (get_or outer at.0 0) (tree_edge_at edges i).up.from (tree_edge_at edges i).up.to i at.0
               (omega (arith, low, length-inners edges)) (inner_at edges i low) (omega (arith, low, at.1, length-outers r edges)) refl
               (tree.shape.up_from i low) at.2 (tree.up_tight i low);
         }
@@ -287,23 +287,23 @@ module _ (f : Family) (cost : ℕ → ℕ → ℕ) (r : ℕ) (edges : List TreeE
             elim (outer_cases r edges i low) [
               | inl root ↦ absurd (none-some _ (sym tree.exposed_root ∙ ap (λ n. pair_of pairs n) (sym root.1 ∙ at) ∙ is))
               | inr tree_edge ↦
-                  let e : flipped (edge_at edges tree_edge.0).pair ≡ p =
+                  let e : flipped (tree_edge_at edges tree_edge.0).pair ≡ p =
                   same_Some _ _ (sym (outer_pair f cost pairs r edges fam paired tree tree_edge.0 tree_edge.1) ∙
                   ap (λ n. pair_of pairs n) (sym tree_edge.3 ∙ at) ∙ is) in
                   subst (λ x. IsTight g cost x.from x.to) e
-                  (tight_tree_back (edge_at edges tree_edge.0).inner t (edge_at edges tree_edge.0).pair.from
-                  (edge_at edges tree_edge.0).pair.to tree_edge.0 i (omega (arith, tree_edge.1, length-inners edges))
+                  (tight_tree_back (tree_edge_at edges tree_edge.0).inner t (tree_edge_at edges tree_edge.0).pair.from
+                  (tree_edge_at edges tree_edge.0).pair.to tree_edge.0 i (omega (arith, tree_edge.1, length-inners edges))
                   (inner_at edges tree_edge.0 tree_edge.1) low at
                   ((tree.shape.edge tree_edge.0 tree_edge.1).pair_from)
-                  (subst (λ n. Holds f n (edge_at edges tree_edge.0).pair.to) (sym tree_edge.3 ∙ at) ((tree.shape.edge tree_edge.0 tree_edge.1).pair_to))
+                  (subst (λ n. Holds f n (tree_edge_at edges tree_edge.0).pair.to) (sym tree_edge.3 ∙ at) ((tree.shape.edge tree_edge.0 tree_edge.1).pair_to))
                   (subst (λ x. IsTight f cost x.from x.to) (sym e) (paired.tight t p top is)))
             ]
         go t p top is (in_inner i low at) =
             let within : i < length edges = omega (arith, low, length-inners edges) in
-            let e : (edge_at edges i).pair ≡ p =
+            let e : (tree_edge_at edges i).pair ≡ p =
             same_Some _ _ (sym (tree.pair i within) ∙ ap (λ n. pair_of pairs n) (sym (inner_at edges i within) ∙ at) ∙ is) in
             subst (λ x. IsTight g cost x.from x.to) e
-            (tight_tree (edge_at edges i).inner (edge_at edges i).outer (edge_at edges i).pair.from (edge_at edges i).pair.to i (suc i) low
+            (tight_tree (tree_edge_at edges i).inner (tree_edge_at edges i).outer (tree_edge_at edges i).pair.from (tree_edge_at edges i).pair.to i (suc i) low
             (inner_at edges i within) (omega (arith, within, length-outers r edges)) (outer_at r edges i within)
             ((tree.shape.edge i within).pair_from) ((tree.shape.edge i within).pair_to) (pair_tight f cost pairs r edges fam paired tree i within))
         go t p top is (in_free out) =
@@ -363,7 +363,7 @@ CanRaise-tree f cost pairs r edges delta feasible paired tree change law w free 
         let named = fam.leaf_named n top.alive plain in
         let l = named.0 in
         let n_is : get_or f.leaf_nodes l 0 ≡ n = get_or_default f.leaf_nodes l 0 n named.1 ∙ named.2 in
-        let b = edge_at edges i in
+        let b = tree_edge_at edges i in
         let at = (tree.shape.edge i within).up_to in
         let from_edge : Holds f n b.up.from = subst (λ m. Holds f m b.up.from) (sym (inner_at edges i within)) (tree.shape.up_from i within) in
         let from_pair : Holds f n b.pair.from = subst (λ m. Holds f m b.pair.from) (sym (inner_at edges i within)) ((tree.shape.edge i within).pair_from) in

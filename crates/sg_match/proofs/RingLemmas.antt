@@ -8,7 +8,7 @@ use Rattle.sg_match.proofs.RotateLemmas.{IsCycle-rotated, cases_after, from_ring
 use Rattle.sg_pairing.proofs.TightLemmas.{tight-back}
 use Rattle.sg_match.specs.Feasible.{IsFeasible}
 use Rattle.sg_pairing.specs.Tight.{IsTight}
-use Rattle.sg_match.specs.Rings.{IsBackwards, IsTurned, rotated}
+use Rattle.sg_match.specs.Rings.{IsBackwards, IsTurnedRing, rotated}
 
 -- the children of a blossom as a ring of tight links
 pub record IsRing (f : Family) (cost : ℕ → ℕ → ℕ) (b : ℕ) (ring : List Link) : Type 0 where
@@ -146,7 +146,7 @@ pub record IsFacing (f : Family) (cost : ℕ → ℕ → ℕ) (b : ℕ) (ring : 
 
 -- a ring turned so that its entry lies on an even way faces the right way
 pub IsFacing-from : (f : Family) (cost : ℕ → ℕ → ℕ) (b : ℕ) (ring : List Link) (entry : ℕ) (turned_ring : List Link) (place : ℕ) → IsRing f cost b ring →
-    entry < length ring → IsTurned ring entry turned_ring place → IsFacing f cost b ring entry turned_ring place
+    entry < length ring → IsTurnedRing ring entry turned_ring place → IsFacing f cost b ring entry turned_ring place
 IsFacing-from f cost b ring entry turned_ring place is low (inl same) =
     record {
       is = subst (λ xs. IsRing f cost b xs) (sym same.0) is;

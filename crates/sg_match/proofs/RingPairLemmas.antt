@@ -7,8 +7,8 @@ use Rattle.sg_arena.specs.Family.{link_at}
 use Rattle.sg_arena.specs.declared.Link.{Link}
 use Rattle.sg_match.proofs.NodeLemmas.{length-nodes, node_at_place}
 use Rattle.sg_match.proofs.PairLemmas.{twice_first, twice_other, twice_second}
-use Rattle.sg_match.specs.Pairs.{edge_of, flipped, pair_of}
-use Rattle.sg_match.specs.Names.{Differ}
+use Rattle.sg_match.specs.Pairs.{edge_of_link, flipped, pair_of}
+use Rattle.sg_sums.specs.Sets.{Differ}
 use Rattle.sg_match.specs.Path.{nodes_of}
 use Rattle.sg_match.specs.Rings.{IsRingPaired}
 use Rattle.sg_match.specs.declared.Edge.{Edge}
@@ -17,8 +17,9 @@ use Rattle.sg_match.specs.declared.Edge.{Edge}
 pub record IsRingPairedTo (old new : List (Option Edge)) (ring : List Link) (pair : Edge) (count : ℕ) : Type 0 where
   pub same : length new ≡ length old
   pub first : pair_of new (link_at ring 0).node ≡ Some pair
-  pub odd : (j : ℕ) → j < count → 2 * j + 2 < length ring → pair_of new (link_at ring (2 * j + 1)).node ≡ Some (edge_of (link_at ring (2 * j + 1)))
-  pub even : (j : ℕ) → j < count → 2 * j + 2 < length ring → pair_of new (link_at ring (2 * j + 2)).node ≡ Some (flipped (edge_of (link_at ring (2 * j + 1))))
+  pub odd : (j : ℕ) → j < count → 2 * j + 2 < length ring → pair_of new (link_at ring (2 * j + 1)).node ≡ Some (edge_of_link (link_at ring (2 * j + 1)))
+  pub even : (j : ℕ) → j < count → 2 * j + 2 < length ring
+      → pair_of new (link_at ring (2 * j + 2)).node ≡ Some (flipped (edge_of_link (link_at ring (2 * j + 1))))
   pub others : (n : ℕ) → ((i : ℕ) → i < length ring → (link_at ring i).node ≢ n) → pair_of new n ≡ pair_of old n
 
 module _ (old : List (Option Edge)) (ring : List Link) (pair : Edge) (some : 0 < length ring)
@@ -40,20 +41,20 @@ module _ (old : List (Option Edge)) (ring : List Link) (pair : Edge) (some : 0 <
 
   -- two nodes more are paired along their link
   pub IsRingPairedTo-more : (now : List (Option Edge)) (count : ℕ) → 2 * count + 2 < length ring → IsRingPairedTo old now ring pair count →
-      IsRingPairedTo old (set (set now (link_at ring (2 * count + 1)).node (Some (edge_of (link_at ring (2 * count + 1)))))
-      (link_at ring (2 * count + 2)).node (Some (flipped (edge_of (link_at ring (2 * count + 1)))))) ring pair (count + 1)
+      IsRingPairedTo old (set (set now (link_at ring (2 * count + 1)).node (Some (edge_of_link (link_at ring (2 * count + 1)))))
+      (link_at ring (2 * count + 2)).node (Some (flipped (edge_of_link (link_at ring (2 * count + 1)))))) ring pair (count + 1)
   IsRingPairedTo-more now count low was = record {
     same = length-set (set now s (Some edge)) t (Some (flipped edge)) ∙ length-set now s (Some edge) ∙ was.same;
     first = kept 0 some (λ e. omega arith) (λ e. omega arith) ∙ was.first;
     odd = λ j below within. elim (cases_eq j count) [
       | inl here ↦ ap (λ k. pair_of new (link_at ring (2 * k + 1)).node) here ∙ twice_first now s t (Some edge) (Some (flipped edge)) low_s
-          (apart (2 * count + 1) (2 * count + 2) in_s low (λ e. omega arith)) ∙ ap (λ k. Some (edge_of (link_at ring (2 * k + 1)))) (sym here)
+          (apart (2 * count + 1) (2 * count + 2) in_s low (λ e. omega arith)) ∙ ap (λ k. Some (edge_of_link (link_at ring (2 * k + 1)))) (sym here)
       | inr away ↦ kept (2 * j + 1) (omega (arith, within)) (λ e. omega (arith, away, e)) (λ e. omega (arith, away, e)) ∙
           was.odd j (omega (arith, below, away)) within
     ];
     even = λ j below within. elim (cases_eq j count) [
       | inl here ↦ ap (λ k. pair_of new (link_at ring (2 * k + 2)).node) here ∙ twice_second now s t (Some edge) (Some (flipped edge)) low_t ∙
-          ap (λ k. Some (flipped (edge_of (link_at ring (2 * k + 1))))) (sym here)
+          ap (λ k. Some (flipped (edge_of_link (link_at ring (2 * k + 1))))) (sym here)
       | inr away ↦ kept (2 * j + 2) within (λ e. omega (arith, away, e)) (λ e. omega (arith, away, e)) ∙ was.even j (omega (arith, below, away)) within
     ];
     others = λ n away. twice_other now s t n (Some edge) (Some (flipped edge)) (λ e. away (2 * count + 1) in_s (sym e))
@@ -67,7 +68,7 @@ module _ (old : List (Option Edge)) (ring : List Link) (pair : Edge) (some : 0 <
       t = (link_at ring (2 * count + 2)).node
 
       edge : Edge
-      edge = edge_of (link_at ring (2 * count + 1))
+      edge = edge_of_link (link_at ring (2 * count + 1))
 
       new : List (Option Edge)
       new = set (set now s (Some edge)) t (Some (flipped edge))

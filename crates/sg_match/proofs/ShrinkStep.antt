@@ -23,7 +23,7 @@ use Rattle.sg_match.proofs.TreeLemmas.{pair_tight, inner_at, inner_top, length-i
 use Rattle.sg_match.specs.Engine.{IsEngine}
 use Rattle.sg_match.specs.Members.{AreOuter}
 use Rattle.sg_slack.specs.Members.{Member}
-use Rattle.sg_match.specs.Exposed.{IsExposed, one_if}
+use Rattle.sg_match.specs.Exposed.{IsExposed, root_count}
 use Rattle.sg_pairing.specs.Metric.{cost}
 use Rattle.sg_match.specs.Pairs.{pair_of}
 use Rattle.sg_match.specs.Path.{AreTight, nodes_of}
@@ -31,7 +31,7 @@ use Rattle.sg_match.specs.TreeCycle.{HasTight, IsTreeCycle}
 use Rattle.sg_match.specs.ShrunkTree.{CanShrinkTree, IsShrunkTree}
 use Rattle.sg_match.specs.State.{State}
 use Rattle.sg_match.specs.Steps.{blossoms_of, rest_of, steps_left, tree_left}
-use Rattle.sg_match.specs.Tree.{IsTree, any_top, edge_at, outers}
+use Rattle.sg_match.specs.Tree.{IsTree, any_top, tree_edge_at, outers}
 use Rattle.sg_match.specs.declared.Edge.{Edge}
 use Rattle.sg_match.specs.declared.TreeEdge.{TreeEdge}
 
@@ -97,7 +97,7 @@ module _ (s : State) (root : ℕ) (engine : IsEngine s) (rooted : s.root ≡ Som
     ]
 
     -- a tree edge whose inner top is in the cycle
-    edge_in : (m : ℕ) × (place ≤ m) × (m < length s.edges) × Contains (nodes_of cycle) (edge_at s.edges m).inner
+    edge_in : (m : ℕ) × (place ≤ m) × (m < length s.edges) × Contains (nodes_of cycle) (tree_edge_at s.edges m).inner
     edge_in = elim (tree_cycle.spot second (node_in cycle 1 two)) [
       | inl head ↦ absurd (zero_one (can.closed.differ 0 1 some two (base_first ∙ sym head)))
       | inr rest ↦ elim rest [
@@ -118,7 +118,7 @@ module _ (s : State) (root : ℕ) (engine : IsEngine s) (rooted : s.root ≡ Som
         zero_one e = omega (arith, e)
 
         from_outer : (j : ℕ) → place < j → j < length (outers root s.edges) → get_or (outers root s.edges) j 0 ≡ (link_at cycle 1).node →
-            (m : ℕ) × (place ≤ m) × (m < length s.edges) × Contains (nodes_of cycle) (edge_at s.edges m).inner
+            (m : ℕ) × (place ≤ m) × (m < length s.edges) × Contains (nodes_of cycle) (tree_edge_at s.edges m).inner
         from_outer zero far low at = absurd (omega (arith, far))
         from_outer (suc m) far low at =
             let low_m : m < length s.edges = omega (arith, low, length-outers root s.edges) in
@@ -131,9 +131,9 @@ module _ (s : State) (root : ℕ) (engine : IsEngine s) (rooted : s.root ≡ Som
             )
 
     -- an outer top of the cycle whose inner top is not in it is the base
-    outer_is_base : (i : ℕ) → i < length s.edges → (Contains (nodes_of cycle) (edge_at s.edges i).inner → ⊥) →
-        Contains (nodes_of cycle) (edge_at s.edges i).outer → (edge_at s.edges i).outer ≡ base
-    outer_is_base i low away is = elim (tree_cycle.spot (edge_at s.edges i).outer is) [
+    outer_is_base : (i : ℕ) → i < length s.edges → (Contains (nodes_of cycle) (tree_edge_at s.edges i).inner → ⊥) →
+        Contains (nodes_of cycle) (tree_edge_at s.edges i).outer → (tree_edge_at s.edges i).outer ≡ base
+    outer_is_base i low away is = elim (tree_cycle.spot (tree_edge_at s.edges i).outer is) [
       | inl head ↦ head
       | inr rest ↦ elim rest [
         | inl out ↦
@@ -166,12 +166,13 @@ module _ (s : State) (root : ℕ) (engine : IsEngine s) (rooted : s.root ≡ Som
       pub CanShrinkTree-shrunk : CanShrinkTree g (nodes_of cycle) base b s.edges
       CanShrinkTree-shrunk = record {
         top = IsTop-shrink f b cycle fam can dead room;
-        hit = λ i low is. in_cycle (edge_at s.edges i).inner (edge_at s.edges i).up.from (inner_top f root s.edges tree.shape i low)
+        hit = λ i low is. in_cycle (tree_edge_at s.edges i).inner (tree_edge_at s.edges i).up.from (inner_top f root s.edges tree.shape i low)
             (tree.shape.up_from i low) is;
-        miss = λ i low no is. no (in_blossom (edge_at s.edges i).inner (edge_at s.edges i).up.from is (tree.shape.up_from i low));
+        miss = λ i low no is. no (in_blossom (tree_edge_at s.edges i).inner (tree_edge_at s.edges i).up.from is (tree.shape.up_from i low));
         outer_hit = λ i low away is. outer_is_base i low away
-            (in_cycle (edge_at s.edges i).outer (edge_at s.edges i).pair.to (outer_top f root s.edges tree.shape i low) ((tree.shape.edge i low).pair_to) is);
-        outer_miss = λ i low same. in_blossom (edge_at s.edges i).outer (edge_at s.edges i).pair.to
+            (in_cycle (tree_edge_at s.edges i).outer (tree_edge_at s.edges i).pair.to (outer_top f root s.edges tree.shape i low)
+                ((tree.shape.edge i low).pair_to) is);
+        outer_miss = λ i low same. in_blossom (tree_edge_at s.edges i).outer (tree_edge_at s.edges i).pair.to
             (subst (λ n. Contains (nodes_of cycle) n) (sym same) base_in) ((tree.shape.edge i low).pair_to);
       }
 
@@ -226,7 +227,7 @@ module _ (s : State) (root : ℕ) (engine : IsEngine s) (rooted : s.root ≡ Som
             ]
 
             even_again : (length s.exposed + 1) % 2 ≡ 0
-            even_again = subst (λ o. (length s.exposed + one_if o) % 2 ≡ 0) rooted engine.exposed.even
+            even_again = subst (λ o. (length s.exposed + root_count o) % 2 ≡ 0) rooted engine.exposed.even
 
         abbrev after : State
         after = record { family = g; table = s.table; pairs = now; exposed = s.exposed; root = Some top_root; edges = new }
@@ -249,14 +250,14 @@ module _ (s : State) (root : ℕ) (engine : IsEngine s) (rooted : s.root ≡ Som
         -- a leaf of an inner top of the cycle is an outer leaf now
         rest_falls : rest_of g top_root new + 1 ≤ rest_of f root s.edges
         rest_falls =
-            rest-one_fewer f g root top_root s.edges new leaf.0 refl (leaf_bound f fam (edge_at s.edges edge_in.0).inner leaf.0 leaf.1)
+            rest-one_fewer f g root top_root s.edges new leaf.0 refl (leaf_bound f fam (tree_edge_at s.edges edge_in.0).inner leaf.0 leaf.1)
             kept before gained
           where
-            inner_is_top : IsTop f (edge_at s.edges edge_in.0).inner
+            inner_is_top : IsTop f (tree_edge_at s.edges edge_in.0).inner
             inner_is_top = inner_top f root s.edges tree.shape edge_in.0 edge_in.2
 
-            leaf : (l : ℕ) × Holds f (edge_at s.edges edge_in.0).inner l
-            leaf = some_leaf f fam (edge_at s.edges edge_in.0).inner inner_is_top.alive
+            leaf : (l : ℕ) × Holds f (tree_edge_at s.edges edge_in.0).inner l
+            leaf = some_leaf f fam (tree_edge_at s.edges edge_in.0).inner inner_is_top.alive
 
             gained : any_top g (outers top_root new) leaf.0 ≡ true
             gained =
@@ -270,7 +271,7 @@ module _ (s : State) (root : ℕ) (engine : IsEngine s) (rooted : s.root ≡ Som
               | inl is ↦
                   let at = place_of_any (λ t. holds f t leaf.0) (outers root s.edges) 0 is in
                   absurd (tree.shape.tops.apart at.0 edge_in.0 at.1 (omega (arith, edge_in.2, length-inners s.edges))
-                  (top-apart f fam (get_or (outers root s.edges) at.0 0) (edge_at s.edges edge_in.0).inner leaf.0
+                  (top-apart f fam (get_or (outers root s.edges) at.0 0) (tree_edge_at s.edges edge_in.0).inner leaf.0
                   (tree.shape.tops.outer_tops at.0 at.1) inner_is_top at.2 leaf.1 ∙ sym (inner_at s.edges edge_in.0 edge_in.2)))
               | inr away ↦ away
             ]

@@ -2,7 +2,7 @@
 use Rattle.std.proofs.Common.{◌≡◌, ◌≢◌, ℕ, ◌+◌, ◌-◌, ◌<◌, ◌≤◌, cond, eqb, eq-eqb, List, length, Contains, refl, sym, ap, ◌∙◌, subst, inl, inr, arith}
 use Rattle.std.proofs.lemmas.Bool.{cases_eq, ne_eqb}
 use Rattle.sg_match.specs.ShrunkTree.{IsShrunkTree}
-use Rattle.sg_match.specs.Tree.{edge_at}
+use Rattle.sg_match.specs.Tree.{tree_edge_at}
 use Rattle.sg_match.specs.declared.TreeEdge.{TreeEdge}
 
 -- a map with one value changed to its own argument
@@ -11,19 +11,19 @@ put_at i at k = cond (eqb k i) i (at k)
 
 pub record IsShrinkingTree (nodes : List ℕ) (base blossom : ℕ) (old now : List TreeEdge) (i : ℕ) : Type 0 where
   pub at : ℕ → ℕ
-  pub front : (k : ℕ) → k < i → edge_at now k ≡ edge_at old k
+  pub front : (k : ℕ) → k < i → tree_edge_at now k ≡ tree_edge_at old k
   pub shorter : length now ≤ length old
   pub long : i ≤ length now
   pub back : (k : ℕ) → i ≤ k → k < length now → i ≤ at k
   pub low : (k : ℕ) → i ≤ k → k < length now → at k < length old
   pub rises : (j k : ℕ) → i ≤ j → j < k → k < length now → at j < at k
-  pub inner : (k : ℕ) → i ≤ k → k < length now → (edge_at now k).inner ≡ (edge_at old (at k)).inner
-  pub up : (k : ℕ) → i ≤ k → k < length now → (edge_at now k).up ≡ (edge_at old (at k)).up
-  pub pair : (k : ℕ) → i ≤ k → k < length now → (edge_at now k).pair ≡ (edge_at old (at k)).pair
-  pub outer_base : (k : ℕ) → i ≤ k → k < length now → (edge_at old (at k)).outer ≡ base → (edge_at now k).outer ≡ blossom
-  pub outer_other : (k : ℕ) → i ≤ k → k < length now → (edge_at old (at k)).outer ≢ base → (edge_at now k).outer ≡ (edge_at old (at k)).outer
-  pub kept : (k : ℕ) → i ≤ k → k < length now → Contains nodes (edge_at now k).inner → ⊥
-  pub every : (j : ℕ) → i ≤ j → j < length old → (Contains nodes (edge_at old j).inner → ⊥) → (k : ℕ) × (i ≤ k) × (k < length now) × (at k ≡ j)
+  pub inner : (k : ℕ) → i ≤ k → k < length now → (tree_edge_at now k).inner ≡ (tree_edge_at old (at k)).inner
+  pub up : (k : ℕ) → i ≤ k → k < length now → (tree_edge_at now k).up ≡ (tree_edge_at old (at k)).up
+  pub pair : (k : ℕ) → i ≤ k → k < length now → (tree_edge_at now k).pair ≡ (tree_edge_at old (at k)).pair
+  pub outer_base : (k : ℕ) → i ≤ k → k < length now → (tree_edge_at old (at k)).outer ≡ base → (tree_edge_at now k).outer ≡ blossom
+  pub outer_other : (k : ℕ) → i ≤ k → k < length now → (tree_edge_at old (at k)).outer ≢ base → (tree_edge_at now k).outer ≡ (tree_edge_at old (at k)).outer
+  pub kept : (k : ℕ) → i ≤ k → k < length now → Contains nodes (tree_edge_at now k).inner → ⊥
+  pub every : (j : ℕ) → i ≤ j → j < length old → (Contains nodes (tree_edge_at old j).inner → ⊥) → (k : ℕ) × (i ≤ k) × (k < length now) × (at k ≡ j)
 
 module _ (nodes : List ℕ) (base blossom : ℕ) (old : List TreeEdge) where
   -- at the start no tree edge is gone
@@ -62,8 +62,9 @@ module _ (nodes : List ℕ) (base blossom : ℕ) (old : List TreeEdge) where
 
   module _ (now : List TreeEdge) (i : ℕ) (within : i < length now) (is : IsShrinkingTree nodes base blossom old now (i + 1)) where
     -- a tree edge of the blossom is taken out
-    pub IsShrinkingTree-drop : (new : List TreeEdge) → length new + 1 ≡ length now → ((k : ℕ) → k < i → edge_at new k ≡ edge_at now k) →
-        ((k : ℕ) → i ≤ k → edge_at new k ≡ edge_at now (k + 1)) → Contains nodes (edge_at old i).inner → IsShrinkingTree nodes base blossom old new i
+    pub IsShrinkingTree-drop : (new : List TreeEdge) → length new + 1 ≡ length now → ((k : ℕ) → k < i → tree_edge_at new k ≡ tree_edge_at now k) →
+        ((k : ℕ) → i ≤ k → tree_edge_at new k ≡ tree_edge_at now (k + 1)) → Contains nodes (tree_edge_at old i).inner
+            → IsShrinkingTree nodes base blossom old new i
     IsShrinkingTree-drop new count below above gone = record {
       at = λ k. is.at (k + 1);
       front = λ k low. below k low ∙ is.front k (omega (arith, low));
@@ -80,7 +81,7 @@ module _ (nodes : List ℕ) (base blossom : ℕ) (old : List TreeEdge) where
       kept = λ k from low h. is.kept (k + 1) (omega (arith, from)) (omega (arith, low, count))
           (subst (λ (l : TreeEdge). Contains nodes l.inner) (above k from) h);
       every = λ j from low out. elim (cases_eq i j) [
-        | inl same ↦ absurd (out (subst (λ x. Contains nodes (edge_at old x).inner) same gone))
+        | inl same ↦ absurd (out (subst (λ x. Contains nodes (tree_edge_at old x).inner) same gone))
         | inr differs ↦
             let h = is.every j (omega (arith, from, differs)) low out in
             let one : (h.0 - 1) + 1 ≡ h.0 = omega (arith, h.1) in
@@ -89,10 +90,12 @@ module _ (nodes : List ℕ) (base blossom : ℕ) (old : List TreeEdge) where
     }
 
     -- a tree edge stays, maybe with another outer name
-    pub IsShrinkingTree-keep : (new : List TreeEdge) → length new ≡ length now → ((k : ℕ) → k ≢ i → edge_at new k ≡ edge_at now k) →
-        (edge_at new i).inner ≡ (edge_at now i).inner → (edge_at new i).up ≡ (edge_at now i).up → (edge_at new i).pair ≡ (edge_at now i).pair →
-        ((edge_at old i).outer ≡ base → (edge_at new i).outer ≡ blossom) → ((edge_at old i).outer ≢ base → (edge_at new i).outer ≡ (edge_at now i).outer) →
-        (Contains nodes (edge_at old i).inner → ⊥) → IsShrinkingTree nodes base blossom old new i
+    pub IsShrinkingTree-keep : (new : List TreeEdge) → length new ≡ length now → ((k : ℕ) → k ≢ i → tree_edge_at new k ≡ tree_edge_at now k) →
+        (tree_edge_at new i).inner ≡ (tree_edge_at now i).inner → (tree_edge_at new i).up ≡ (tree_edge_at now i).up
+            → (tree_edge_at new i).pair ≡ (tree_edge_at now i).pair →
+        ((tree_edge_at old i).outer ≡ base → (tree_edge_at new i).outer ≡ blossom)
+            → ((tree_edge_at old i).outer ≢ base → (tree_edge_at new i).outer ≡ (tree_edge_at now i).outer) →
+        (Contains nodes (tree_edge_at old i).inner → ⊥) → IsShrinkingTree nodes base blossom old new i
     IsShrinkingTree-keep new count others same_inner same_edge same_pair at_base at_other out = record {
       at = put_at i is.at;
       front = λ k low. others k (omega (arith, low)) ∙ is.front k (omega (arith, low));
@@ -127,7 +130,7 @@ module _ (nodes : List ℕ) (base blossom : ℕ) (old : List TreeEdge) where
       outer_other = λ k from low. field k from low (λ x y. y.outer ≢ base → x.outer ≡ y.outer) (λ e. at_other e ∙ ap (λ l. l.outer) here)
           (λ n e. ap (λ l. l.outer) (others k n) ∙ is.outer_other k (omega (arith, from, n)) (omega (arith, low, count)) e);
       kept = λ k from low h. elim (cases_eq k i) [
-        | inl e ↦ out (subst (λ n. Contains nodes n) (ap (λ x. (edge_at new x).inner) e ∙ same_inner ∙ ap (λ l. l.inner) here) h)
+        | inl e ↦ out (subst (λ n. Contains nodes n) (ap (λ x. (tree_edge_at new x).inner) e ∙ same_inner ∙ ap (λ l. l.inner) here) h)
         | inr n ↦ is.kept k (omega (arith, from, n)) (omega (arith, low, count)) (subst (λ (l : TreeEdge). Contains nodes l.inner) (others k n) h)
       ];
       every = λ j from low away. elim (cases_eq j i) [
@@ -143,12 +146,13 @@ module _ (nodes : List ℕ) (base blossom : ℕ) (old : List TreeEdge) where
         to_other : (k : ℕ) → k ≢ i → put_at i is.at k ≡ is.at k
         to_other k n = rw (ne_eqb k i n) refl
 
-        here : edge_at now i ≡ edge_at old i
+        here : tree_edge_at now i ≡ tree_edge_at old i
         here = is.front i (omega arith)
 
-        field : (k : ℕ) → i ≤ k → k < length new → (P : TreeEdge → TreeEdge → Type 0) → P (edge_at new i) (edge_at old i) →
-            (k ≢ i → P (edge_at new k) (edge_at old (is.at k))) → P (edge_at new k) (edge_at old (put_at i is.at k))
+        field : (k : ℕ) → i ≤ k → k < length new → (P : TreeEdge → TreeEdge → Type 0) → P (tree_edge_at new i) (tree_edge_at old i) →
+            (k ≢ i → P (tree_edge_at new k) (tree_edge_at old (is.at k))) → P (tree_edge_at new k) (tree_edge_at old (put_at i is.at k))
         field k from low P first rest = elim (cases_eq k i) [
-          | inl e ↦ subst (λ x. P (edge_at new x) (edge_at old (put_at i is.at x))) (sym e) (subst (λ x. P (edge_at new i) (edge_at old x)) (sym to_i) first)
-          | inr n ↦ subst (λ x. P (edge_at new k) (edge_at old x)) (sym (to_other k n)) (rest n)
+          | inl e ↦ subst (λ x. P (tree_edge_at new x) (tree_edge_at old (put_at i is.at x))) (sym e)
+              (subst (λ x. P (tree_edge_at new i) (tree_edge_at old x)) (sym to_i) first)
+          | inr n ↦ subst (λ x. P (tree_edge_at new k) (tree_edge_at old x)) (sym (to_other k n)) (rest n)
         ]

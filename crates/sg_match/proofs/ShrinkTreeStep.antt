@@ -20,7 +20,7 @@ use Rattle.sg_match.specs.Pairs.{IsPaired, flipped, pair_of}
 use Rattle.sg_match.specs.Path.{AreTight, nodes_of}
 use Rattle.sg_match.specs.TreeCycle.{IsTreeCycle}
 use Rattle.sg_match.specs.ShrunkTree.{IsShrunkTree}
-use Rattle.sg_match.specs.Tree.{IsTree, inners, edge_at, outers}
+use Rattle.sg_match.specs.Tree.{IsTree, inners, tree_edge_at, outers}
 use Rattle.sg_match.specs.declared.Edge.{Edge}
 use Rattle.sg_match.specs.declared.TreeEdge.{TreeEdge}
 
@@ -50,15 +50,15 @@ module _ (f : Family) (cost : ℕ → ℕ → ℕ) (b : ℕ) (cycle : List Link)
           | inl out ↦ outer_case out.0 out.1 out.2 out.3
           | inr inn ↦
               let m = edge_low inn.0 inn.2 in
-              let e : (edge_at edges inn.0).pair ≡ p =
+              let e : (tree_edge_at edges inn.0).pair ≡ p =
               same_Some _ _ (sym (tree.pair inn.0 m) ∙ ap (λ n. pair_of pairs n) (sym (inner_at edges inn.0 m) ∙ inn.3) ∙ is) in
-              let hit = place_in cycle (edge_at edges inn.0).outer
+              let hit = place_in cycle (tree_edge_at edges inn.0).outer
               ((tree_cycle.whole inn.0 inn.1 m).0 (subst (λ n. Contains (nodes_of cycle) n) (sym inn.3 ∙ inner_at edges inn.0 m) (node_in cycle i low)))
               in (
                 hit.0,
                 hit.1,
                 subst (λ x. Holds f (link_at cycle hit.0).node x.to) e
-                    (subst (λ n. Holds f n (edge_at edges inn.0).pair.to) (sym hit.2) ((tree.shape.edge inn.0 m).pair_to)),
+                    (subst (λ n. Holds f n (tree_edge_at edges inn.0).pair.to) (sym hit.2) ((tree.shape.edge inn.0 m).pair_to)),
               )
         ]
       ]
@@ -68,22 +68,22 @@ module _ (f : Family) (cost : ℕ → ℕ → ℕ) (b : ℕ) (cycle : List Link)
       outer_case zero from low_j at = absurd (omega (arith, from))
       outer_case (suc m) from low_j at =
           let low_m : m < length edges = omega (arith, low_j, length-outers root edges) in
-          let e : flipped (edge_at edges m).pair ≡ p =
+          let e : flipped (tree_edge_at edges m).pair ≡ p =
           same_Some _ _ (sym (outer_pair f cost pairs root edges fam paired tree m low_m) ∙
           ap (λ n. pair_of pairs n) (sym (outer_at root edges m low_m) ∙ at) ∙ is) in
-          let hit = place_in cycle (edge_at edges m).inner
+          let hit = place_in cycle (tree_edge_at edges m).inner
           ((tree_cycle.whole m (omega (arith, from)) low_m).1
           (subst (λ n. Contains (nodes_of cycle) n) (sym at ∙ outer_at root edges m low_m) (node_in cycle i low))) in (
             hit.0,
             hit.1,
             subst (λ x. Holds f (link_at cycle hit.0).node x.to) e
-                (subst (λ n. Holds f n (edge_at edges m).pair.from) (sym hit.2) ((tree.shape.edge m low_m).pair_from)),
+                (subst (λ n. Holds f n (tree_edge_at edges m).pair.from) (sym hit.2) ((tree.shape.edge m low_m).pair_from)),
           )
 
   -- a tree edge before the place keeps its inner top out of the cycle
-  inner_out : (m : ℕ) → m < place → m < length edges → Contains (nodes_of cycle) (edge_at edges m).inner → ⊥
+  inner_out : (m : ℕ) → m < place → m < length edges → Contains (nodes_of cycle) (tree_edge_at edges m).inner → ⊥
   inner_out m before low is =
-      elim (tree_cycle.spot (edge_at edges m).inner is) [
+      elim (tree_cycle.spot (tree_edge_at edges m).inner is) [
         | inl e ↦ tree.shape.tops.apart tree_cycle.head_at.0 m (omega (arith, tree_cycle.head_at.1, bound)) (low_inner m low)
             (tree_cycle.head_at.2 ∙ sym e ∙ sym (inner_at edges m low))
         | inr rest ↦ elim rest [
@@ -103,10 +103,10 @@ module _ (f : Family) (cost : ℕ → ℕ → ℕ) (b : ℕ) (cycle : List Link)
       go zero below at = none-some _ (sym tree.exposed_root ∙ ap (λ n. pair_of pairs n) at ∙ is)
       go (suc m) below at =
           let low_m : m < length edges = omega (arith, below, tree_cycle.within) in
-          let e : flipped (edge_at edges m).pair ≡ p =
+          let e : flipped (tree_edge_at edges m).pair ≡ p =
           same_Some _ _ (sym (outer_pair f cost pairs root edges fam paired tree m low_m) ∙
           ap (λ n. pair_of pairs n) (sym (outer_at root edges m low_m) ∙ at) ∙ is) in
-          let same = top-apart f fam (link_at cycle j).node (edge_at edges m).inner (edge_at edges m).pair.from (can.tops j low)
+          let same = top-apart f fam (link_at cycle j).node (tree_edge_at edges m).inner (tree_edge_at edges m).pair.from (can.tops j low)
           (inner_top f root edges tree.shape m low_m) (subst (λ x. Holds f (link_at cycle j).node x.to) (sym e) held)
           ((tree.shape.edge m low_m).pair_from) in
           inner_out m (omega (arith, below)) low_m (subst (λ n. Contains (nodes_of cycle) n) same (node_in cycle j low))
@@ -157,7 +157,7 @@ module _ (f : Family) (cost : ℕ → ℕ → ℕ) (b : ℕ) (cycle : List Link)
     image (suc k) low =
         let low_k : k < length new = omega (arith, low, length-outers top_root new) in
         let old = outer_at root edges (reg.at k) (reg.low k low_k) in
-        elim (cases_eq (edge_at edges (reg.at k)).outer base) [
+        elim (cases_eq (tree_edge_at edges (reg.at k)).outer base) [
           | inl e ↦ changed (old ∙ e) (outer_at top_root new k low_k ∙ reg.outer_base k low_k e)
           | inr e ↦ same_name (λ h. e (sym old ∙ h)) (outer_at top_root new k low_k ∙ reg.outer_other k low_k e ∙ sym old)
         ]
@@ -199,7 +199,7 @@ module _ (f : Family) (cost : ℕ → ℕ → ℕ) (b : ℕ) (cycle : List Link)
               suc mine.0,
               omega (arith, mine.1, length-outers top_root new),
               outer_at top_root new mine.0 mine.1 ∙
-                  reg.outer_base mine.0 mine.1 (ap (λ x. (edge_at edges x).outer) mine.2 ∙ sym (outer_at root edges h low_h) ∙ at),
+                  reg.outer_base mine.0 mine.1 (ap (λ x. (tree_edge_at edges x).outer) mine.2 ∙ sym (outer_at root edges h low_h) ∙ at),
               (λ k low_k far. elim (cases_lt mine.0 k) [
                 | inl less ↦ omega (arith, less)
                 | inr more ↦ absurd (elim (cases_eq mine.0 k) [
@@ -238,14 +238,14 @@ module _ (f : Family) (cost : ℕ → ℕ → ℕ) (b : ℕ) (cycle : List Link)
     )
     moved (suc m) l low held =
         let low_m : m < length edges = omega (arith, low, length-outers root edges) in
-        elim (cases_in (nodes_of cycle) (edge_at edges m).inner) [
+        elim (cases_in (nodes_of cycle) (tree_edge_at edges m).inner) [
           | inl hit ↦
-              let is : Contains (nodes_of cycle) (edge_at edges m).inner = subst (λ n. Contains (nodes_of cycle) n) hit.2
+              let is : Contains (nodes_of cycle) (tree_edge_at edges m).inner = subst (λ n. Contains (nodes_of cycle) n) hit.2
               (Contains-get_or (nodes_of cycle) hit.0 0 hit.1) in
               elim (cases_lt m place) [
                 | inl early ↦ absurd (inner_out m early low_m is)
                 | inr late ↦
-                    let spot = place_in cycle (edge_at edges m).outer ((tree_cycle.whole m late low_m).0 is) in
+                    let spot = place_in cycle (tree_edge_at edges m).outer ((tree_cycle.whole m late low_m).0 is) in
                     let home = base_place m late low_m in (
                       home.0,
                       home.1,
@@ -255,7 +255,7 @@ module _ (f : Family) (cost : ℕ → ℕ → ℕ) (b : ℕ) (cycle : List Link)
                     )
               ]
           | inr miss ↦
-              let mine = reg.every m low_m (λ h. miss.0 h.0 h.1 (get_or_default (nodes_of cycle) h.0 0 (edge_at edges m).inner h.1 ∙ h.2)) in
+              let mine = reg.every m low_m (λ h. miss.0 h.0 h.1 (get_or_default (nodes_of cycle) h.0 0 (tree_edge_at edges m).inner h.1 ∙ h.2)) in
               let within : suc mine.0 < length (outers top_root new) = omega (arith, mine.1, length-outers top_root new) in
               let before : (k : ℕ) → k < length new → suc m ≤ reg.at k → suc mine.0 ≤ k = λ k low_k behind. elim (cases_lt mine.0 k) [
                 | inl less ↦ omega (arith, less)
@@ -272,17 +272,18 @@ module _ (f : Family) (cost : ℕ → ℕ → ℕ) (b : ℕ) (cycle : List Link)
         ]
 
     -- the blossom is an outer top, so it holds the leaves of inner tops of its cycle
-    pub inner_taken : (m l : ℕ) → place ≤ m → m < length edges → Contains (nodes_of cycle) (edge_at edges m).inner → Holds f (edge_at edges m).inner l →
+    pub inner_taken : (m l : ℕ) → place ≤ m → m < length edges → Contains (nodes_of cycle) (tree_edge_at edges m).inner
+        → Holds f (tree_edge_at edges m).inner l →
         (i : ℕ) × (i < length (outers top_root new)) × Holds g (get_or (outers top_root new) i 0) l
     inner_taken m l late low is held =
-        let spot = place_in cycle (edge_at edges m).inner is in
+        let spot = place_in cycle (tree_edge_at edges m).inner is in
         let home = base_place m late low in
         (home.0, home.1, subst (λ n. Holds g n l) (sym home.2) (in_blossom spot.0 l spot.1 (subst (λ n. Holds f n l) (sym spot.2) held)))
 
-    inner_old : (k : ℕ) → k < length new → get_or (inners new) k 0 ≡ (edge_at edges (reg.at k)).inner
+    inner_old : (k : ℕ) → k < length new → get_or (inners new) k 0 ≡ (tree_edge_at edges (reg.at k)).inner
     inner_old k low = inner_at new k low ∙ reg.inner k low
 
-    old_top : (k : ℕ) → k < length new → IsTop f (edge_at edges (reg.at k)).inner
+    old_top : (k : ℕ) → k < length new → IsTop f (tree_edge_at edges (reg.at k)).inner
     old_top k low = inner_top f root edges tree.shape (reg.at k) (reg.low k low)
 
     new_low : (k : ℕ) → k < length (inners new) → k < length new
@@ -299,13 +300,13 @@ module _ (f : Family) (cost : ℕ → ℕ → ℕ) (b : ℕ) (cycle : List Link)
     outer_pick i j low_i low_j (same_name e is) (same_name d at) same =
         was_same i j low_i low_j (tree.shape.tops.outer_differ (was i) (was j) (was_low i low_i) (was_low j low_j) (sym is ∙ same ∙ at))
 
-    pair_image : (k : ℕ) → k < length new → Holds g (edge_at new k).outer (edge_at new k).pair.to
+    pair_image : (k : ℕ) → k < length new → Holds g (tree_edge_at new k).outer (tree_edge_at new k).pair.to
     unfolding was
     pair_image k low =
-        subst (λ n. Holds g n (edge_at new k).pair.to) (outer_at top_root new k low)
-        (image_holds (suc k) (edge_at new k).pair.to (omega (arith, low, length-outers top_root new))
-        (subst (λ n. Holds f n (edge_at new k).pair.to) (sym (outer_at root edges (reg.at k) (reg.low k low)))
-        (subst (λ (x : Edge). Holds f (edge_at edges (reg.at k)).outer x.to) (sym (reg.pair k low))
+        subst (λ n. Holds g n (tree_edge_at new k).pair.to) (outer_at top_root new k low)
+        (image_holds (suc k) (tree_edge_at new k).pair.to (omega (arith, low, length-outers top_root new))
+        (subst (λ n. Holds f n (tree_edge_at new k).pair.to) (sym (outer_at root edges (reg.at k) (reg.low k low)))
+        (subst (λ (x : Edge). Holds f (tree_edge_at edges (reg.at k)).outer x.to) (sym (reg.pair k low))
         ((tree.shape.edge (reg.at k) (reg.low k low)).pair_to))))
 
     -- what is left is a tree, with the blossom as an outer top
@@ -322,8 +323,8 @@ module _ (f : Family) (cost : ℕ → ℕ → ℕ) (b : ℕ) (cycle : List Link)
               ];
               inner_tops = λ k low. let low_k = new_low k low in
                   subst (λ n. IsTop g n) (sym (inner_old k low_k))
-                  (IsTop-shrink_other f b cycle fam can dead room (edge_at edges (reg.at k)).inner (old_top k low_k)
-                  (away_from (edge_at edges (reg.at k)).inner
+                  (IsTop-shrink_other f b cycle fam can dead room (tree_edge_at edges (reg.at k)).inner (old_top k low_k)
+                  (away_from (tree_edge_at edges (reg.at k)).inner
                   (λ h. reg.kept k low_k (subst (λ n. Contains (nodes_of cycle) n) (sym (reg.inner k low_k)) h))));
               outer_differ = λ i j low_i low_j same. outer_pick i j low_i low_j (image i low_i) (image j low_j) same;
               inner_differ = λ i j low_i low_j same.
@@ -333,30 +334,30 @@ module _ (f : Family) (cost : ℕ → ℕ → ℕ) (b : ℕ) (cycle : List Link)
                   (inner_at edges (reg.at i) (reg.low i (new_low i low_i)) ∙ sym (inner_old i (new_low i low_i)) ∙ same ∙ inner_old j (new_low j low_j) ∙
                   sym (inner_at edges (reg.at j) (reg.low j (new_low j low_j)))));
               apart = λ i k low_i low same. let low_k = new_low k low in elim (image i low_i) [
-                | changed e is ↦ top-not_dead f b dead (edge_at edges (reg.at k)).inner (old_top k low_k) (sym (inner_old k low_k) ∙ sym same ∙ is)
+                | changed e is ↦ top-not_dead f b dead (tree_edge_at edges (reg.at k)).inner (old_top k low_k) (sym (inner_old k low_k) ∙ sym same ∙ is)
                 | same_name e is ↦ tree.shape.tops.apart (was i) (reg.at k) (was_low i low_i) (low_inner (reg.at k) (reg.low k low_k))
                     (sym is ∙ same ∙ inner_old k low_k ∙ sym (inner_at edges (reg.at k) (reg.low k low_k)))
               ];
             };
             edge = λ k low. record {
               pair_from =
-                  holds_other f b cycle fam can dead room (edge_at new k).inner (edge_at new k).pair.from
-                  (λ e. top-not_dead f b dead (edge_at edges (reg.at k)).inner (old_top k low) (sym (reg.inner k low) ∙ e))
-                  ∙ subst (λ n. Holds f n (edge_at new k).pair.from) (sym (reg.inner k low))
-                  (subst (λ (x : Edge). Holds f (edge_at edges (reg.at k)).inner x.from) (sym (reg.pair k low))
+                  holds_other f b cycle fam can dead room (tree_edge_at new k).inner (tree_edge_at new k).pair.from
+                  (λ e. top-not_dead f b dead (tree_edge_at edges (reg.at k)).inner (old_top k low) (sym (reg.inner k low) ∙ e))
+                  ∙ subst (λ n. Holds f n (tree_edge_at new k).pair.from) (sym (reg.inner k low))
+                  (subst (λ (x : Edge). Holds f (tree_edge_at edges (reg.at k)).inner x.from) (sym (reg.pair k low))
                   ((tree.shape.edge (reg.at k) (reg.low k low)).pair_from));
               pair_to = pair_image k low;
               up_to =
                   let old = (tree.shape.edge (reg.at k) (reg.low k low)).up_to in
-                  let at = moved old.0 (edge_at new k).up.to (omega (arith, old.1, reg.low k low, length-outers root edges))
+                  let at = moved old.0 (tree_edge_at new k).up.to (omega (arith, old.1, reg.low k low, length-outers root edges))
                   (subst (λ (x : Edge). Holds f (get_or (outers root edges) old.0 0) x.to) (sym (reg.up k low)) old.2) in
                   (at.0, at.3 k low old.1, at.2);
             };
             up_from = λ k low.
-                holds_other f b cycle fam can dead room (edge_at new k).inner (edge_at new k).up.from
-                (λ e. top-not_dead f b dead (edge_at edges (reg.at k)).inner (old_top k low) (sym (reg.inner k low) ∙ e))
-                ∙ subst (λ n. Holds f n (edge_at new k).up.from) (sym (reg.inner k low))
-                (subst (λ (x : Edge). Holds f (edge_at edges (reg.at k)).inner x.from) (sym (reg.up k low))
+                holds_other f b cycle fam can dead room (tree_edge_at new k).inner (tree_edge_at new k).up.from
+                (λ e. top-not_dead f b dead (tree_edge_at edges (reg.at k)).inner (old_top k low) (sym (reg.inner k low) ∙ e))
+                ∙ subst (λ n. Holds f n (tree_edge_at new k).up.from) (sym (reg.inner k low))
+                (subst (λ (x : Edge). Holds f (tree_edge_at edges (reg.at k)).inner x.from) (sym (reg.up k low))
                 (tree.shape.up_from (reg.at k) (reg.low k low)));
           };
           exposed_root = elim (cases_eq root base) [
@@ -367,11 +368,11 @@ module _ (f : Family) (cost : ℕ → ℕ → ℕ) (b : ℕ) (cycle : List Link)
           ];
           pair = λ k low.
               ap (λ n. pair_of now n) (reg.inner k low)
-              ∙ get_or-set_other pairs b (edge_at edges (reg.at k)).inner (pair_of pairs base) None
-              (top-not_dead f b dead (edge_at edges (reg.at k)).inner (old_top k low))
+              ∙ get_or-set_other pairs b (tree_edge_at edges (reg.at k)).inner (pair_of pairs base) None
+              (top-not_dead f b dead (tree_edge_at edges (reg.at k)).inner (old_top k low))
               ∙ tree.pair (reg.at k) (reg.low k low)
               ∙ ap (λ x. Some x) (sym (reg.pair k low));
           up_tight = λ k low.
-              duals_between-shrink f b cycle fam can dead room (edge_at new k).up.from (edge_at new k).up.to
+              duals_between-shrink f b cycle fam can dead room (tree_edge_at new k).up.from (tree_edge_at new k).up.to
               ∙ subst (λ (x : Edge). IsTight f cost x.from x.to) (sym (reg.up k low)) (tree.up_tight (reg.at k) (reg.low k low));
         }

@@ -19,8 +19,8 @@ use Rattle.sg_match.proofs.TopLemmas.{top_of}
 use Rattle.sg_match.proofs.TreeLemmas.{length-inners}
 use Rattle.sg_match.specs.DualChange.{CanChangeDuals}
 use Rattle.sg_match.specs.Engine.{IsEngine}
-use Rattle.sg_match.specs.Exposed.{one_if}
-use Rattle.sg_match.specs.Names.{Stands}
+use Rattle.sg_match.specs.Exposed.{root_count}
+use Rattle.sg_sums.specs.Sets.{Stands}
 use Rattle.sg_match.specs.Nearest.{HasNearest, IsNearest}
 use Rattle.sg_match.specs.Pairs.{pair_of}
 use Rattle.sg_match.specs.State.{State}
@@ -57,7 +57,7 @@ module _ (s : State) (engine : IsEngine s) (bare : s.root ≡ None) (r : ℕ) (a
   -- another unpaired top
   other : (j : ℕ) × (j < length s.exposed) × (j ≢ at.0)
   other =
-      let even : (length s.exposed + 0) % 2 ≡ 0 = subst (λ o. (length s.exposed + one_if o) % 2 ≡ 0) bare engine.exposed.even in
+      let even : (length s.exposed + 0) % 2 ≡ 0 = subst (λ o. (length s.exposed + root_count o) % 2 ≡ 0) bare engine.exposed.even in
       elim (cases_eq at.0 0) [
         | inl first ↦ (1, omega (arith, at.1, even), λ same. absurd (omega (arith, first, same)))
         | inr later ↦ (0, omega (arith, at.1), λ same. later (sym same))

@@ -15,7 +15,7 @@ use Rattle.sg_arena.specs.Family.{total_of}
 use Rattle.sg_arena.specs.declared.Link.{Link}
 use Rattle.sg_match.proofs.RaiseStep.{held, total_free, total_inner, total_outer}
 use Rattle.sg_match.proofs.ShrinkSetsStep.{top-not_dead}
-use Rattle.sg_match.specs.Marks.{IsListed, IsMarked}
+use Rattle.sg_match.specs.Marks.{IsListed, AreRightMarks}
 use Rattle.sg_match.specs.TableChanges.{HasTops, HasTopsBut, IsLifted, moved_total}
 use Rattle.sg_match.specs.Tree.{IsOut, inners, outers}
 use Rattle.sg_match.specs.declared.TreeEdge.{TreeEdge}
@@ -33,7 +33,7 @@ moved_total-none Free total = refl
 -- a raise of the tree
 module _ (f : Family) (cost : ℕ → ℕ → ℕ) (r : ℕ) (edges : List TreeEdge) (delta : ℕ) (fam : IsFamily f)
     (can : CanRaise f (outers r edges) (inners edges) delta) (tops : List ℕ) (totals : List ℤ) (marks : List Mark) (listed : IsListed f tops totals)
-    (marked : IsMarked f r edges marks) where
+    (marked : AreRightMarks f r edges marks) where
   abbrev g : Family
   g = raised f (outers r edges) (inners edges) delta
 
@@ -80,7 +80,7 @@ pub record IsMoving (f : Family) (r : ℕ) (edges : List TreeEdge) (given : ℤ)
   pub whole : given ≡ pos (nat_of given)
   pub can : CanRaise f (outers r edges) (inners edges) (nat_of given)
   pub listed : IsListed f tops totals
-  pub marked : IsMarked f r edges marks
+  pub marked : AreRightMarks f r edges marks
 
 -- over the tables that are lent
 module _ {f : Family} {r : ℕ} {edges : List TreeEdge} {given : ℤ} {tops : List ℕ} {totals : List ℤ} {marks : List Mark}

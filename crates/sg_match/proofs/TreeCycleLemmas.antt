@@ -14,9 +14,9 @@ use Rattle.sg_match.proofs.TreeLemmas.{inner_at, length-inners, length-outers, o
 use Rattle.sg_pairing.specs.Tight.{IsTight}
 use Rattle.sg_match.specs.Links.{pair_link, down_link, step_link, up_link}
 use Rattle.sg_match.specs.Path.{AreTight, IsPath, nodes_of}
-use Rattle.sg_match.specs.Names.{Differ}
+use Rattle.sg_sums.specs.Sets.{Differ}
 use Rattle.sg_match.specs.TreeCycle.{HasTight, IsTreeCycle}
-use Rattle.sg_match.specs.Tree.{IsShape, inners, edge_at, outers}
+use Rattle.sg_match.specs.Tree.{IsShape, inners, tree_edge_at, outers}
 use Rattle.sg_match.specs.declared.TreeEdge.{TreeEdge}
 
 IsPath-append : (f : Family) (xs ys : List Link) (head mid tail : ℕ) → IsPath f xs head mid → IsPath f ys mid tail → IsPath f (xs ++ ys) head tail
@@ -44,28 +44,29 @@ module _ (f : Family) (cost : ℕ → ℕ → ℕ) where
 
   module _ (root : ℕ) (edges : List TreeEdge) (fam : IsFamily f) (shape : IsShape f root edges) (tight : HasTight f cost edges) (i : ℕ)
       (within : i < length edges) where
-    pair_back : IsTight f cost (edge_at edges i).pair.to (edge_at edges i).pair.from
-    pair_back = tight-back f cost (edge_at edges i).pair.from (edge_at edges i).pair.to
-        (tight.symmetric (edge_at edges i).pair.from (edge_at edges i).pair.to
-        (leaf_bound f fam (edge_at edges i).inner (edge_at edges i).pair.from ((shape.edge i within).pair_from))
-        (leaf_bound f fam (edge_at edges i).outer (edge_at edges i).pair.to ((shape.edge i within).pair_to))) (tight.pair i within)
+    pair_back : IsTight f cost (tree_edge_at edges i).pair.to (tree_edge_at edges i).pair.from
+    pair_back = tight-back f cost (tree_edge_at edges i).pair.from (tree_edge_at edges i).pair.to
+        (tight.symmetric (tree_edge_at edges i).pair.from (tree_edge_at edges i).pair.to
+        (leaf_bound f fam (tree_edge_at edges i).inner (tree_edge_at edges i).pair.from ((shape.edge i within).pair_from))
+        (leaf_bound f fam (tree_edge_at edges i).outer (tree_edge_at edges i).pair.to ((shape.edge i within).pair_to))) (tight.pair i within)
 
-    edge_back : IsTight f cost (edge_at edges i).up.to (edge_at edges i).up.from
-    edge_back = let up = (shape.edge i within).up_to in tight-back f cost (edge_at edges i).up.from (edge_at edges i).up.to
-        (tight.symmetric (edge_at edges i).up.from (edge_at edges i).up.to
-        (leaf_bound f fam (edge_at edges i).inner (edge_at edges i).up.from (shape.up_from i within))
-        (leaf_bound f fam (get_or (outers root edges) up.0 0) (edge_at edges i).up.to up.2)) (tight.up i within)
+    edge_back : IsTight f cost (tree_edge_at edges i).up.to (tree_edge_at edges i).up.from
+    edge_back = let up = (shape.edge i within).up_to in tight-back f cost (tree_edge_at edges i).up.from (tree_edge_at edges i).up.to
+        (tight.symmetric (tree_edge_at edges i).up.from (tree_edge_at edges i).up.to
+        (leaf_bound f fam (tree_edge_at edges i).inner (tree_edge_at edges i).up.from (shape.up_from i within))
+        (leaf_bound f fam (get_or (outers root edges) up.0 0) (tree_edge_at edges i).up.to up.2)) (tight.up i within)
 
     -- two tight links more at the tail
-    pub AreTight-tail : (cycle : List Link) → AreTight f cost cycle → AreTight f cost (cycle ++ down_link (edge_at edges i) ∷ up_link (edge_at edges i) ∷ [])
-    AreTight-tail cycle t = AreTight-append cycle (down_link (edge_at edges i) ∷ up_link (edge_at edges i) ∷ []) t
-        (AreTight-two (down_link (edge_at edges i)) (up_link (edge_at edges i)) pair_back (tight.up i within))
+    pub AreTight-tail : (cycle : List Link) → AreTight f cost cycle
+        → AreTight f cost (cycle ++ down_link (tree_edge_at edges i) ∷ up_link (tree_edge_at edges i) ∷ [])
+    AreTight-tail cycle t = AreTight-append cycle (down_link (tree_edge_at edges i) ∷ up_link (tree_edge_at edges i) ∷ []) t
+        (AreTight-two (down_link (tree_edge_at edges i)) (up_link (tree_edge_at edges i)) pair_back (tight.up i within))
 
     -- two tight links more at the head
     pub AreTight-head : (cycle : List Link) (head : ℕ) → AreTight f cost cycle →
-        AreTight f cost (step_link head (edge_at edges i) ∷ pair_link (edge_at edges i) ∷ cycle)
-    AreTight-head cycle head t = AreTight-append (step_link head (edge_at edges i) ∷ pair_link (edge_at edges i) ∷ []) cycle
-        (AreTight-two (step_link head (edge_at edges i)) (pair_link (edge_at edges i)) edge_back (tight.pair i within)) t
+        AreTight f cost (step_link head (tree_edge_at edges i) ∷ pair_link (tree_edge_at edges i) ∷ cycle)
+    AreTight-head cycle head t = AreTight-append (step_link head (tree_edge_at edges i) ∷ pair_link (tree_edge_at edges i) ∷ []) cycle
+        (AreTight-two (step_link head (tree_edge_at edges i)) (pair_link (tree_edge_at edges i)) edge_back (tight.pair i within)) t
 
 module _ (f : Family) (root : ℕ) (edges : List TreeEdge) (fam : IsFamily f) (shape : IsShape f root edges) where
   -- one edge between two outer tops
@@ -125,7 +126,7 @@ module _ (f : Family) (root : ℕ) (edges : List TreeEdge) (fam : IsFamily f) (s
   module _ (cycle : List Link) (i head tail : ℕ) (within : i < length edges) (apart : head ≢ tail)
       (is : IsTreeCycle f root edges cycle (i + 1) head tail) where
     abbrev tree_edge : TreeEdge
-    tree_edge = edge_at edges i
+    tree_edge = tree_edge_at edges i
 
     abbrev nodes : List ℕ
     nodes = nodes_of cycle
@@ -176,8 +177,8 @@ module _ (f : Family) (root : ℕ) (edges : List TreeEdge) (fam : IsFamily f) (s
           head_at = below head away_head is.head_at;
           tail_at = below tail away_tail is.tail_at;
           whole = λ j from low. elim (cases_eq i j) [
-            | inl same ↦ subst (λ k. (Contains nodes (edge_at edges k).inner → Contains nodes (edge_at edges k).outer) ×
-                (Contains nodes (edge_at edges k).outer → Contains nodes (edge_at edges k).inner)) same (
+            | inl same ↦ subst (λ k. (Contains nodes (tree_edge_at edges k).inner → Contains nodes (tree_edge_at edges k).outer) ×
+                (Contains nodes (tree_edge_at edges k).outer → Contains nodes (tree_edge_at edges k).inner)) same (
                   (λ in_n. absurd (no_inner tree_edge.inner (inner_at edges i within) in_n)),
                   (λ in_n. absurd (away_head (only_head (suc i) tree_edge.outer (omega arith) (outer_at root edges i within) in_n))),
                 )
@@ -253,14 +254,14 @@ module _ (f : Family) (root : ℕ) (edges : List TreeEdge) (fam : IsFamily f) (s
             ];
             tail_at = next_at;
             whole = λ j from low. elim (cases_eq i j) [
-              | inl here ↦ subst (λ k. (Contains (nodes_of (cycle ++ more)) (edge_at edges k).inner →
-                  Contains (nodes_of (cycle ++ more)) (edge_at edges k).outer) ×
-                  (Contains (nodes_of (cycle ++ more)) (edge_at edges k).outer → Contains (nodes_of (cycle ++ more)) (edge_at edges k).inner)) here
+              | inl here ↦ subst (λ k. (Contains (nodes_of (cycle ++ more)) (tree_edge_at edges k).inner →
+                  Contains (nodes_of (cycle ++ more)) (tree_edge_at edges k).outer) ×
+                  (Contains (nodes_of (cycle ++ more)) (tree_edge_at edges k).outer → Contains (nodes_of (cycle ++ more)) (tree_edge_at edges k).inner)) here
                   ((λ _. in_new tree_edge.outer (0, omega arith, refl)), (λ _. in_new tree_edge.inner (1, omega arith, refl)))
               | inr differs ↦
                   let old = is.whole j (omega (arith, from, differs)) low in (
-                    (λ in_n. in_old (edge_at edges j).outer (old.0 (was_inner j low differs in_n))),
-                    (λ in_n. in_old (edge_at edges j).inner (old.1 (was_outer j low differs in_n))),
+                    (λ in_n. in_old (tree_edge_at edges j).outer (old.0 (was_inner j low differs in_n))),
+                    (λ in_n. in_old (tree_edge_at edges j).inner (old.1 (was_outer j low differs in_n))),
                   )
             ];
             some = λ _. omega (arith, length-append cycle more);
@@ -275,13 +276,13 @@ module _ (f : Family) (root : ℕ) (edges : List TreeEdge) (fam : IsFamily f) (s
           suc_same : {a b : ℕ} → suc a ≡ suc b → a ≡ b
           suc_same {a} {b} e = omega (arith, e)
 
-          was_inner : (j : ℕ) → j < length edges → i ≢ j → Contains (nodes_of (cycle ++ more)) (edge_at edges j).inner →
-              Contains nodes (edge_at edges j).inner
+          was_inner : (j : ℕ) → j < length edges → i ≢ j → Contains (nodes_of (cycle ++ more)) (tree_edge_at edges j).inner →
+              Contains nodes (tree_edge_at edges j).inner
           was_inner j low differs in_n = elim
-              (Contains-append_cases nodes (tree_edge.outer ∷ tree_edge.inner ∷ []) (edge_at edges j).inner
-              (subst (λ xs. Contains xs (edge_at edges j).inner) nodes_are in_n)) [
+              (Contains-append_cases nodes (tree_edge.outer ∷ tree_edge.inner ∷ []) (tree_edge_at edges j).inner
+              (subst (λ xs. Contains xs (tree_edge_at edges j).inner) nodes_are in_n)) [
                 | inl old ↦ old
-                | inr new ↦ elim (Contains-two tree_edge.outer tree_edge.inner (edge_at edges j).inner new) [
+                | inr new ↦ elim (Contains-two tree_edge.outer tree_edge.inner (tree_edge_at edges j).inner new) [
                   | inl out ↦ absurd (shape.tops.apart (suc i) j low_out (omega (arith, low, length-inners edges))
                       (outer_at root edges i within ∙ sym out ∙ sym (inner_at edges j low)))
                   | inr inn ↦ absurd (differs (shape.tops.inner_differ i j low_in (omega (arith, low, length-inners edges))
@@ -289,13 +290,13 @@ module _ (f : Family) (root : ℕ) (edges : List TreeEdge) (fam : IsFamily f) (s
                 ]
               ]
 
-          was_outer : (j : ℕ) → j < length edges → i ≢ j → Contains (nodes_of (cycle ++ more)) (edge_at edges j).outer →
-              Contains nodes (edge_at edges j).outer
+          was_outer : (j : ℕ) → j < length edges → i ≢ j → Contains (nodes_of (cycle ++ more)) (tree_edge_at edges j).outer →
+              Contains nodes (tree_edge_at edges j).outer
           was_outer j low differs in_n = elim
-              (Contains-append_cases nodes (tree_edge.outer ∷ tree_edge.inner ∷ []) (edge_at edges j).outer
-              (subst (λ xs. Contains xs (edge_at edges j).outer) nodes_are in_n)) [
+              (Contains-append_cases nodes (tree_edge.outer ∷ tree_edge.inner ∷ []) (tree_edge_at edges j).outer
+              (subst (λ xs. Contains xs (tree_edge_at edges j).outer) nodes_are in_n)) [
                 | inl old ↦ old
-                | inr new ↦ elim (Contains-two tree_edge.outer tree_edge.inner (edge_at edges j).outer new) [
+                | inr new ↦ elim (Contains-two tree_edge.outer tree_edge.inner (tree_edge_at edges j).outer new) [
                   | inl out ↦ absurd (differs (suc_same
                       (shape.tops.outer_differ (suc i) (suc j) low_out (omega (arith, low, length-outers root edges))
                       (outer_at root edges i within ∙ sym out ∙ sym (outer_at root edges j low)))))
@@ -321,7 +322,7 @@ module _ (f : Family) (root : ℕ) (edges : List TreeEdge) (fam : IsFamily f) (s
       next_differs j from low e = absurd
           (omega (arith, from, up_at.1, shape.tops.outer_differ j up_at.0 low (up_place up_at.0 (omega (arith, up_at.1))) (e ∙ sym up_at.2)))
 
-      next_inner : (j : ℕ) → j < length edges → next ≢ (edge_at edges j).inner
+      next_inner : (j : ℕ) → j < length edges → next ≢ (tree_edge_at edges j).inner
       next_inner j low e = shape.tops.apart up_at.0 j (up_place up_at.0 (omega (arith, up_at.1))) (omega (arith, low, length-inners edges))
           (up_at.2 ∙ e ∙ sym (inner_at edges j low))
 
@@ -375,25 +376,25 @@ module _ (f : Family) (root : ℕ) (edges : List TreeEdge) (fam : IsFamily f) (s
               | inr before ↦ (is.tail_at.0, omega (arith, is.tail_at.1, before), is.tail_at.2)
             ];
             whole = λ j from low. elim (cases_eq i j) [
-              | inl here ↦ subst (λ k. (Contains (nodes_of longer) (edge_at edges k).inner → Contains (nodes_of longer) (edge_at edges k).outer) ×
-                  (Contains (nodes_of longer) (edge_at edges k).outer → Contains (nodes_of longer) (edge_at edges k).inner)) here (
+              | inl here ↦ subst (λ k. (Contains (nodes_of longer) (tree_edge_at edges k).inner → Contains (nodes_of longer) (tree_edge_at edges k).outer) ×
+                  (Contains (nodes_of longer) (tree_edge_at edges k).outer → Contains (nodes_of longer) (tree_edge_at edges k).inner)) here (
                     (λ _. Contains-append_right (next ∷ tree_edge.inner ∷ []) nodes tree_edge.outer
                         (subst (λ n. Contains nodes n) (sym same) (head_in cycle is.odd is.path))),
                     (λ _. Contains-append_left (next ∷ tree_edge.inner ∷ []) nodes tree_edge.inner (1, omega arith, refl)),
                   )
               | inr differs ↦
                   let old = is.whole j (omega (arith, from, differs)) low in (
-                    (λ in_n. Contains-append_right (next ∷ tree_edge.inner ∷ []) nodes (edge_at edges j).outer (old.0 (was_inner j low differs in_n))),
-                    (λ in_n. Contains-append_right (next ∷ tree_edge.inner ∷ []) nodes (edge_at edges j).inner
+                    (λ in_n. Contains-append_right (next ∷ tree_edge.inner ∷ []) nodes (tree_edge_at edges j).outer (old.0 (was_inner j low differs in_n))),
+                    (λ in_n. Contains-append_right (next ∷ tree_edge.inner ∷ []) nodes (tree_edge_at edges j).inner
                         (old.1 (was_outer j (omega (arith, from, differs)) low in_n))),
                   )
             ];
             some = λ _. omega arith;
           }
         where
-          was_inner : (j : ℕ) → j < length edges → i ≢ j → Contains (nodes_of longer) (edge_at edges j).inner → Contains nodes (edge_at edges j).inner
-          was_inner j low differs in_n = elim (Contains-append_cases (next ∷ tree_edge.inner ∷ []) nodes (edge_at edges j).inner in_n) [
-            | inl new ↦ elim (Contains-two next tree_edge.inner (edge_at edges j).inner new) [
+          was_inner : (j : ℕ) → j < length edges → i ≢ j → Contains (nodes_of longer) (tree_edge_at edges j).inner → Contains nodes (tree_edge_at edges j).inner
+          was_inner j low differs in_n = elim (Contains-append_cases (next ∷ tree_edge.inner ∷ []) nodes (tree_edge_at edges j).inner in_n) [
+            | inl new ↦ elim (Contains-two next tree_edge.inner (tree_edge_at edges j).inner new) [
               | inl up ↦ absurd (next_inner j low (sym up))
               | inr inn ↦ absurd (differs (shape.tops.inner_differ i j low_in (omega (arith, low, length-inners edges))
                   (inner_at edges i within ∙ sym inn ∙ sym (inner_at edges j low))))
@@ -401,9 +402,10 @@ module _ (f : Family) (root : ℕ) (edges : List TreeEdge) (fam : IsFamily f) (s
             | inr old ↦ old
           ]
 
-          was_outer : (j : ℕ) → i + 1 ≤ j → j < length edges → Contains (nodes_of longer) (edge_at edges j).outer → Contains nodes (edge_at edges j).outer
-          was_outer j from low in_n = elim (Contains-append_cases (next ∷ tree_edge.inner ∷ []) nodes (edge_at edges j).outer in_n) [
-            | inl new ↦ elim (Contains-two next tree_edge.inner (edge_at edges j).outer new) [
+          was_outer : (j : ℕ) → i + 1 ≤ j → j < length edges → Contains (nodes_of longer) (tree_edge_at edges j).outer
+              → Contains nodes (tree_edge_at edges j).outer
+          was_outer j from low in_n = elim (Contains-append_cases (next ∷ tree_edge.inner ∷ []) nodes (tree_edge_at edges j).outer in_n) [
+            | inl new ↦ elim (Contains-two next tree_edge.inner (tree_edge_at edges j).outer new) [
               | inl up ↦ absurd (next_differs (suc j) (omega (arith, from)) (omega (arith, low, length-outers root edges)) (outer_at root edges j low ∙ up))
               | inr inn ↦ absurd (shape.tops.apart (suc j) i (omega (arith, low, length-outers root edges)) low_in
                   (outer_at root edges j low ∙ inn ∙ sym (inner_at edges i within)))

@@ -9,7 +9,7 @@ use Rattle.sg_slack.proofs.DistinctLemmas.{short}
 use Rattle.sg_match.proofs.PairLemmas.{mate_is}
 use Rattle.sg_pairing.specs.Tight.{IsTight}
 use Rattle.sg_match.specs.Pairs.{IsPaired, flipped, pair_of}
-use Rattle.sg_match.specs.Tree.{IsOut, IsShape, IsTree, blank_tree_edge, inners, edge_at, outers}
+use Rattle.sg_match.specs.Tree.{IsOut, IsShape, IsTree, blank_tree_edge, inners, tree_edge_at, outers}
 use Rattle.sg_match.specs.declared.Edge.{Edge}
 use Rattle.sg_match.specs.declared.TreeEdge.{TreeEdge}
 
@@ -22,20 +22,20 @@ pub length-inners : (edges : List TreeEdge) → length (inners edges) ≡ length
 length-inners edges = length-map edges (λ l. l.inner)
 
 -- inner top i is that of tree edge i
-pub inner_at : (edges : List TreeEdge) (i : ℕ) → i < length edges → get_or (inners edges) i 0 ≡ (edge_at edges i).inner
+pub inner_at : (edges : List TreeEdge) (i : ℕ) → i < length edges → get_or (inners edges) i 0 ≡ (tree_edge_at edges i).inner
 inner_at edges i low = get_or-map (λ l. l.inner) edges i blank_tree_edge 0 low
 
 -- outer top i + 1 is that of tree edge i
-pub outer_at : (r : ℕ) (edges : List TreeEdge) (i : ℕ) → i < length edges → get_or (outers r edges) (suc i) 0 ≡ (edge_at edges i).outer
+pub outer_at : (r : ℕ) (edges : List TreeEdge) (i : ℕ) → i < length edges → get_or (outers r edges) (suc i) 0 ≡ (tree_edge_at edges i).outer
 outer_at r edges i low = get_or-map (λ l. l.outer) edges i blank_tree_edge 0 low
 
 module _ (f : Family) (r : ℕ) (edges : List TreeEdge) (shape : IsShape f r edges) where
   -- an inner top is a top
-  pub inner_top : (i : ℕ) → i < length edges → IsTop f (edge_at edges i).inner
+  pub inner_top : (i : ℕ) → i < length edges → IsTop f (tree_edge_at edges i).inner
   inner_top i low = subst (λ n. IsTop f n) (inner_at edges i low) (shape.tops.inner_tops i (omega (arith, low, length-inners edges)))
 
   -- an outer top is a top
-  pub outer_top : (i : ℕ) → i < length edges → IsTop f (edge_at edges i).outer
+  pub outer_top : (i : ℕ) → i < length edges → IsTop f (tree_edge_at edges i).outer
   outer_top i low = subst (λ n. IsTop f n) (outer_at r edges i low) (shape.tops.outer_tops (suc i) (omega (arith, low, length-outers r edges)))
 
   -- the outer tops are different names
@@ -49,12 +49,12 @@ module _ (f : Family) (r : ℕ) (edges : List TreeEdge) (shape : IsShape f r edg
 
   module _ (fam : IsFamily f) (i : ℕ) (low : i < length edges) where
     -- a tree edge leads up from a leaf
-    pub up_leaf : (edge_at edges i).up.from < leaf_count f
-    up_leaf = leaf_bound f fam (edge_at edges i).inner (edge_at edges i).up.from (shape.up_from i low)
+    pub up_leaf : (tree_edge_at edges i).up.from < leaf_count f
+    up_leaf = leaf_bound f fam (tree_edge_at edges i).inner (tree_edge_at edges i).up.from (shape.up_from i low)
 
     -- the pair of an inner top leads to a leaf
-    pub pair_leaf : (edge_at edges i).pair.to < leaf_count f
-    pair_leaf = leaf_bound f fam (edge_at edges i).outer (edge_at edges i).pair.to ((shape.edge i low).pair_to)
+    pub pair_leaf : (tree_edge_at edges i).pair.to < leaf_count f
+    pair_leaf = leaf_bound f fam (tree_edge_at edges i).outer (tree_edge_at edges i).pair.to ((shape.edge i low).pair_to)
 
 -- no top of the tree holds a leaf of a top outside it
 pub out_holds : (f : Family) → IsFamily f → (r : ℕ) (edges : List TreeEdge) →
@@ -69,7 +69,7 @@ out_holds f fam r edges outer_tops inner_tops t l top held out = (
 
 -- an outer top is the root or a tree edge's
 pub outer_cases : (r : ℕ) (edges : List TreeEdge) (i : ℕ) → i < length (outers r edges) → ((i ≡ 0) × (get_or (outers r edges) i 0 ≡ r)) ⊎
-    ((j : ℕ) × (j < length edges) × (i ≡ suc j) × (get_or (outers r edges) i 0 ≡ (edge_at edges j).outer))
+    ((j : ℕ) × (j < length edges) × (i ≡ suc j) × (get_or (outers r edges) i 0 ≡ (tree_edge_at edges j).outer))
 outer_cases r edges zero low = inl (refl, refl)
 outer_cases r edges (suc j) low = let within : j < length edges = omega (arith, low, length-outers r edges) in inr
     (j, within, refl, outer_at r edges j within)
@@ -77,12 +77,12 @@ outer_cases r edges (suc j) low = let within : j < length edges = omega (arith, 
 module _ (f : Family) (cost : ℕ → ℕ → ℕ) (pairs : List (Option Edge)) (r : ℕ) (edges : List TreeEdge) (fam : IsFamily f)
     (paired : IsPaired f (IsTight f cost) pairs) (tree : IsTree f cost pairs r edges) where
   -- the pairs in the tree are tight
-  pub pair_tight : (i : ℕ) → i < length edges → IsTight f cost (edge_at edges i).pair.from (edge_at edges i).pair.to
-  pair_tight i low = paired.tight (edge_at edges i).inner (edge_at edges i).pair (inner_top f r edges tree.shape i low) (tree.pair i low)
+  pub pair_tight : (i : ℕ) → i < length edges → IsTight f cost (tree_edge_at edges i).pair.from (tree_edge_at edges i).pair.to
+  pair_tight i low = paired.tight (tree_edge_at edges i).inner (tree_edge_at edges i).pair (inner_top f r edges tree.shape i low) (tree.pair i low)
 
   -- an outer top has the pair of its inner top, the other way round
-  pub outer_pair : (i : ℕ) → i < length edges → pair_of pairs (edge_at edges i).outer ≡ Some (flipped (edge_at edges i).pair)
-  outer_pair i low = mate_is f (IsTight f cost) pairs fam paired (edge_at edges i).inner (edge_at edges i).outer (edge_at edges i).pair
+  pub outer_pair : (i : ℕ) → i < length edges → pair_of pairs (tree_edge_at edges i).outer ≡ Some (flipped (tree_edge_at edges i).pair)
+  outer_pair i low = mate_is f (IsTight f cost) pairs fam paired (tree_edge_at edges i).inner (tree_edge_at edges i).outer (tree_edge_at edges i).pair
       (inner_top f r edges tree.shape i low) (outer_top f r edges tree.shape i low) (tree.pair i low) ((tree.shape.edge i low).pair_to)
 
   -- the mate of a top outside the tree is outside it
@@ -93,18 +93,18 @@ module _ (f : Family) (cost : ℕ → ℕ → ℕ) (pairs : List (Option Edge)) 
         outer = λ i low same. elim (outer_cases r edges i low) [
           | inl root ↦ absurd (none-some _ (sym tree.exposed_root ∙ ap (λ n. pair_of pairs n) (sym root.1 ∙ same) ∙ back))
           | inr at ↦
-              let e : p ≡ (edge_at edges at.0).pair = unflip (sym back ∙ ap (λ n. pair_of pairs n) (sym same ∙ at.3) ∙ outer_pair at.0 at.1) in
-              let t_is : (edge_at edges at.0).inner ≡ t = top-apart f fam (edge_at edges at.0).inner t p.from
+              let e : p ≡ (tree_edge_at edges at.0).pair = unflip (sym back ∙ ap (λ n. pair_of pairs n) (sym same ∙ at.3) ∙ outer_pair at.0 at.1) in
+              let t_is : (tree_edge_at edges at.0).inner ≡ t = top-apart f fam (tree_edge_at edges at.0).inner t p.from
               (inner_top f r edges tree.shape at.0 at.1) top_t
-              (subst (λ x. Holds f (edge_at edges at.0).inner x.from) (sym e) ((tree.shape.edge at.0 at.1).pair_from)) (paired.own t p top_t is) in
+              (subst (λ x. Holds f (tree_edge_at edges at.0).inner x.from) (sym e) ((tree.shape.edge at.0 at.1).pair_from)) (paired.own t p top_t is) in
               absurd (out.inner at.0 (omega (arith, at.1, length-inners edges)) (inner_at edges at.0 at.1 ∙ t_is))
         ];
         inner = λ i low same.
             let within : i < length edges = omega (arith, low, length-inners edges) in
-            let e : flipped p ≡ (edge_at edges i).pair =
+            let e : flipped p ≡ (tree_edge_at edges i).pair =
             same_Some _ _ (sym back ∙ ap (λ n. pair_of pairs n) (sym same ∙ inner_at edges i within) ∙ tree.pair i within) in
-            let t_is : (edge_at edges i).outer ≡ t = top-apart f fam (edge_at edges i).outer t p.from (outer_top f r edges tree.shape i within) top_t
-            (subst (λ x. Holds f (edge_at edges i).outer x.to) (sym e) ((tree.shape.edge i within).pair_to)) (paired.own t p top_t is) in
+            let t_is : (tree_edge_at edges i).outer ≡ t = top-apart f fam (tree_edge_at edges i).outer t p.from (outer_top f r edges tree.shape i within) top_t
+            (subst (λ x. Holds f (tree_edge_at edges i).outer x.to) (sym e) ((tree.shape.edge i within).pair_to)) (paired.own t p top_t is) in
             absurd (out.outer (suc i) (omega (arith, within, length-outers r edges)) (outer_at r edges i within ∙ t_is));
       }
     where

@@ -8,7 +8,7 @@ use Rattle.sg_match.specs.declared.Edge.{Edge}
 use Rattle.sg_match.specs.declared.TreeEdge.{TreeEdge}
 
 -- the two tops of a tree edge, and the leaf where it ends
-pub record HasTops (f : Family) (tree_edge : TreeEdge) : Type 0 where
+pub record HasTwoTops (f : Family) (tree_edge : TreeEdge) : Type 0 where
   pub inner : IsTop f tree_edge.inner
   pub outer : IsTop f tree_edge.outer
   pub to : tree_edge.up.to < leaf_count f

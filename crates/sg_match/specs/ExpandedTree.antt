@@ -5,9 +5,9 @@ use Rattle.sg_arena.specs.Changes.{AreTops, CanShrink}
 use Rattle.sg_arena.specs.Family.{Family, Holds, link_at}
 use Rattle.sg_arena.specs.declared.Link.{Link}
 use Rattle.sg_pairing.specs.Tight.{IsTight}
-use Rattle.sg_match.specs.Pairs.{pair_of, edge_of}
+use Rattle.sg_match.specs.Pairs.{pair_of, edge_of_link}
 use Rattle.sg_match.specs.Rings.{IsOdd}
-use Rattle.sg_match.specs.Tree.{edge_at, outers, inners, IsTreeEdge, IsOut}
+use Rattle.sg_match.specs.Tree.{tree_edge_at, outers, inners, IsTreeEdge, IsOut}
 use Rattle.sg_match.specs.declared.Edge.{Edge}
 use Rattle.sg_match.specs.declared.TreeEdge.{TreeEdge}
 
@@ -18,14 +18,14 @@ pub record IsExpandingTree (g : Family) (cost : ℕ → ℕ → ℕ) (now : List
   pub entry_low : entry < length ring
   pub tops : AreTops g (outers root edges) (inners edges)
   pub exposed_root : pair_of now root ≡ None
-  pub pair : (i : ℕ) → i < length edges → pair_of now (edge_at edges i).inner ≡ Some (edge_at edges i).pair
+  pub pair : (i : ℕ) → i < length edges → pair_of now (tree_edge_at edges i).inner ≡ Some (tree_edge_at edges i).pair
   pub edge : (i : ℕ) → i < length edges → IsTreeEdge g root edges i
   pub up_from : (i : ℕ) → i < length edges → i ≢ place →
-      Holds g (edge_at edges i).inner (edge_at edges i).up.from
-  pub up_entry : Holds g (link_at ring entry).node (edge_at edges place).up.from
+      Holds g (tree_edge_at edges i).inner (tree_edge_at edges i).up.from
+  pub up_entry : Holds g (link_at ring entry).node (tree_edge_at edges place).up.from
   pub up_tight : (i : ℕ) → i < length edges →
-      IsTight g cost (edge_at edges i).up.from (edge_at edges i).up.to
-  pub base : (edge_at edges place).inner ≡ (link_at ring 0).node
+      IsTight g cost (tree_edge_at edges i).up.from (tree_edge_at edges i).up.to
+  pub base : (tree_edge_at edges place).inner ≡ (link_at ring 0).node
   pub fresh : (e : ℕ) → 0 < e → entry ≤ e → e < length ring → 0 < entry → IsOut root edges (link_at ring e).node
 
 -- the tree edge with another inner top
@@ -38,7 +38,7 @@ pub record CanExpandTree (g : Family) (cost : ℕ → ℕ → ℕ) (now : List (
   pub can : CanShrink g ring
   pub tight : (i : ℕ) → i < length ring → IsTight g cost (link_at ring i).to (link_at ring i).from
   pub paired : (j : ℕ) → 2 * j + 2 < length ring →
-      pair_of now (link_at ring (2 * j + 1)).node ≡ Some (edge_of (link_at ring (2 * j + 1)))
+      pair_of now (link_at ring (2 * j + 1)).node ≡ Some (edge_of_link (link_at ring (2 * j + 1)))
   pub facing : (entry ≡ 0) ⊎ IsOdd entry
   pub wanting : IsExpandingTree g cost now root
-      (slice_set edges at (with_inner (link_at ring 0).node (edge_at edges at))) ring at entry
+      (slice_set edges at (with_inner (link_at ring 0).node (tree_edge_at edges at))) ring at entry

@@ -1,14 +1,14 @@
 -- Inner blossoms of dual 0, which a raise may not lower.
 use Rattle.std.specs.Prelude.{◌≡◌, ℕ, ◌<◌, ◌≤◌, List, length}
 use Rattle.sg_arena.specs.Family.{Family, IsBlossom, dual_of}
-use Rattle.sg_match.specs.Tree.{edge_at}
+use Rattle.sg_match.specs.Tree.{tree_edge_at}
 use Rattle.sg_match.specs.declared.TreeEdge.{TreeEdge}
 
 -- an inner top that is a blossom of dual 0
 pub record IsInnerZero (f : Family) (edges : List TreeEdge) (node : ℕ) : Type 0 where
   pub place : ℕ
   pub within : place < length edges
-  pub here : (edge_at edges place).inner ≡ node
+  pub here : (tree_edge_at edges place).inner ≡ node
   pub blossom : IsBlossom f node
   pub inner_zero : dual_of f node ≡ 0
 

@@ -2,8 +2,8 @@
 use Rattle.std.specs.Prelude.{◌≡◌, ◌≢◌, ℕ, ◌<◌, List, length, slice_index, Option, Some, ◌⊎◌}
 use Rattle.sg_arena.specs.Family.{Family, Holds, IsBlossom, IsTop, cycle_of, link_at, IsAlive}
 use Rattle.sg_arena.specs.declared.Link.{Link}
-use Rattle.sg_match.specs.Names.{Differ, Stands}
-use Rattle.sg_match.specs.Pairs.{pair_of, flipped, edge_of}
+use Rattle.sg_sums.specs.Sets.{Differ, Stands}
+use Rattle.sg_match.specs.Pairs.{pair_of, flipped, edge_of_link}
 use Rattle.sg_match.specs.declared.Edge.{Edge}
 
 -- the list has each top once, and nothing else
@@ -19,7 +19,7 @@ pub record HasOwn (f : Family) (pairs : List (Option Edge)) (n : ℕ) : Type 0 w
   pub from : Holds f n pair.from
 
 -- the node at place i of a cycle is paired with another of the same cycle, along a link
-pub record IsJoined (f : Family) (pairs : List (Option Edge)) (cycle : List Link) (i : ℕ) : Type 0 where
+pub record HasMateInCycle (f : Family) (pairs : List (Option Edge)) (cycle : List Link) (i : ℕ) : Type 0 where
   pub pair : Edge
   pub is : pair_of pairs (link_at cycle i).node ≡ Some pair
   pub other : ℕ
@@ -29,14 +29,14 @@ pub record IsJoined (f : Family) (pairs : List (Option Edge)) (cycle : List Link
   pub to : Holds f (link_at cycle other).node pair.to
   pub along : ℕ
   pub low_along : along < length cycle
-  pub link : (pair ≡ edge_of (link_at cycle along)) ⊎ (pair ≡ flipped (edge_of (link_at cycle along)))
+  pub link : (pair ≡ edge_of_link (link_at cycle along)) ⊎ (pair ≡ flipped (edge_of_link (link_at cycle along)))
 
 -- each child of a blossom has the blossom's pair, as at least one has, or one with a sibling
 pub record IsPairedInside (f : Family) (pairs : List (Option Edge)) (blossom : ℕ) : Type 0 where
   pub own : (i : ℕ) → i < length (cycle_of f blossom) → HasOwn f pairs (link_at (cycle_of f blossom) i).node
   pub child : (i : ℕ) → i < length (cycle_of f blossom) →
       (pair_of pairs (link_at (cycle_of f blossom) i).node ≡ pair_of pairs blossom) ⊎
-      IsJoined f pairs (cycle_of f blossom) i
+      HasMateInCycle f pairs (cycle_of f blossom) i
   pub base : IsBlossom f blossom → (i : ℕ) × (i < length (cycle_of f blossom)) ×
       (pair_of pairs (link_at (cycle_of f blossom) i).node ≡ pair_of pairs blossom)
 

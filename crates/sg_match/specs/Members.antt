@@ -19,7 +19,7 @@ AreMarked members marks = (i : ℕ) → i < length members → ((member_at membe
     (mark_at marks (member_at members i).leaf ≡ Outer)
 
 -- a leaf that is marked as outer has become a member, if it was none; no other leaf has
-abbrev pub IsJoined : List Member → List Member → ℕ → ℤ → Mark → Type 0
-IsJoined old new leaf total mark =
+abbrev pub JoinsMembers : List Member → List Member → ℕ → ℤ → Mark → Type 0
+JoinsMembers old new leaf total mark =
     ((mark ≡ Outer) × (new ≡ old ++ record { leaf = leaf; total = total } ∷ [])) ⊎
     ((mark ≡ Outer → IsMember old leaf) × (new ≡ old))

@@ -13,8 +13,8 @@ abbrev pub flipped : Edge → Edge
 flipped e = record { from = e.to; to = e.from }
 
 -- the edge that a link is
-abbrev pub edge_of : Link → Edge
-edge_of l = record { from = l.from; to = l.to }
+abbrev pub edge_of_link : Link → Edge
+edge_of_link l = record { from = l.from; to = l.to }
 
 -- a top's pair leads from a leaf of it to a leaf of another top, whose pair is its flip, and is good
 pub record IsPaired (f : Family) (good : ℕ → ℕ → Type 0) (pairs : List (Option Edge)) : Type 0 where

@@ -3,7 +3,7 @@ use Rattle.std.specs.Prelude.{◌≡◌, ◌≢◌, ℕ, ◌+◌, ◌*◌, ◌<�
 use Rattle.std.specs.Prelude.{◌++◌, drop, take, ◌==◌}
 use Rattle.sg_arena.specs.Family.{link_at}
 use Rattle.sg_arena.specs.declared.Link.{Link}
-use Rattle.sg_match.specs.Pairs.{pair_of, flipped, edge_of}
+use Rattle.sg_match.specs.Pairs.{pair_of, flipped, edge_of_link}
 use Rattle.sg_match.specs.declared.Edge.{Edge}
 
 -- the list from place i on, and then what stood before
@@ -23,15 +23,15 @@ abbrev pub IsOdd : ℕ → Type 0
 IsOdd n = n % 2 ≡ 1
 
 -- a ring and the place of its entry, as they were or the other way round
-abbrev pub IsTurned : List Link → ℕ → List Link → ℕ → Type 0
-IsTurned ring entry turned_ring place = ((turned_ring ≡ ring) × (place ≡ entry)) ⊎
+abbrev pub IsTurnedRing : List Link → ℕ → List Link → ℕ → Type 0
+IsTurnedRing ring entry turned_ring place = ((turned_ring ≡ ring) × (place ≡ entry)) ⊎
     (IsBackwards ring turned_ring × (0 < entry) × (place ≡ length ring - entry))
 
 -- the first node of a ring has this pair, and the others are paired along their links, two by two
 pub record IsRingPaired (old new : List (Option Edge)) (ring : List Link) (pair : Edge) : Type 0 where
   pub first : pair_of new (link_at ring 0).node ≡ Some pair
   pub odd : (j : ℕ) → 2 * j + 2 < length ring →
-      pair_of new (link_at ring (2 * j + 1)).node ≡ Some (edge_of (link_at ring (2 * j + 1)))
+      pair_of new (link_at ring (2 * j + 1)).node ≡ Some (edge_of_link (link_at ring (2 * j + 1)))
   pub even : (j : ℕ) → 2 * j + 2 < length ring →
-      pair_of new (link_at ring (2 * j + 2)).node ≡ Some (flipped (edge_of (link_at ring (2 * j + 1))))
+      pair_of new (link_at ring (2 * j + 2)).node ≡ Some (flipped (edge_of_link (link_at ring (2 * j + 1))))
   pub others : (n : ℕ) → ((i : ℕ) → i < length ring → (link_at ring i).node ≢ n) → pair_of new n ≡ pair_of old n

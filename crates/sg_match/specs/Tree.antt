@@ -7,7 +7,7 @@ use Rattle.sg_arena.specs.Family.{Family, Holds, holds}
 use Rattle.sg_slack.specs.declared.Mark.{Mark}
 use Rattle.sg_slack.specs.declared.Mark.TheVariants.{Free, Inner, Outer}
 use Rattle.sg_pairing.specs.Tight.{IsTight}
-use Rattle.sg_match.specs.Names.{Stands}
+use Rattle.sg_sums.specs.Sets.{Stands}
 use Rattle.sg_match.specs.Pairs.{pair_of}
 use Rattle.sg_match.specs.declared.Edge.{Edge}
 use Rattle.sg_match.specs.declared.TreeEdge.{TreeEdge}
@@ -21,8 +21,8 @@ abbrev pub blank_tree_edge : TreeEdge
 blank_tree_edge = record { inner = 0; outer = 0; up = blank_edge; pair = blank_edge }
 
 -- the tree edge at a place
-abbrev pub edge_at : List TreeEdge → ℕ → TreeEdge
-edge_at edges i = slice_index_or edges i blank_tree_edge
+abbrev pub tree_edge_at : List TreeEdge → ℕ → TreeEdge
+tree_edge_at edges i = slice_index_or edges i blank_tree_edge
 
 -- the outer tops of a tree: its root, and the outer top of each tree edge
 abbrev pub outers : ℕ → List TreeEdge → List ℕ
@@ -49,24 +49,24 @@ IsFreeLeaf f root edges u =
 
 -- a tree edge ends at an earlier outer top, and its pair joins its two tops
 pub record IsTreeEdge (f : Family) (root : ℕ) (edges : List TreeEdge) (i : ℕ) : Type 0 where
-  pub pair_from : Holds f (edge_at edges i).inner (edge_at edges i).pair.from
-  pub pair_to : Holds f (edge_at edges i).outer (edge_at edges i).pair.to
-  pub up_to : (j : ℕ) × (j ≤ i) × Holds f (slice_index (outers root edges) j) (edge_at edges i).up.to
+  pub pair_from : Holds f (tree_edge_at edges i).inner (tree_edge_at edges i).pair.from
+  pub pair_to : Holds f (tree_edge_at edges i).outer (tree_edge_at edges i).pair.to
+  pub up_to : (j : ℕ) × (j ≤ i) × Holds f (slice_index (outers root edges) j) (tree_edge_at edges i).up.to
 
 -- tops that differ, and tree edges each of which begins at its inner top
 pub record IsShape (f : Family) (root : ℕ) (edges : List TreeEdge) : Type 0 where
   pub tops : AreTops f (outers root edges) (inners edges)
   pub edge : (i : ℕ) → i < length edges → IsTreeEdge f root edges i
-  pub up_from : (i : ℕ) → i < length edges → Holds f (edge_at edges i).inner (edge_at edges i).up.from
+  pub up_from : (i : ℕ) → i < length edges → Holds f (tree_edge_at edges i).inner (tree_edge_at edges i).up.from
 
 -- tight edges, from an unpaired root, and the pairs of the inner tops
 pub record IsTree (f : Family) (cost : ℕ → ℕ → ℕ) (pairs : List (Option Edge)) (root : ℕ) (edges : List TreeEdge)
     : Type 0 where
   pub shape : IsShape f root edges
   pub exposed_root : pair_of pairs root ≡ None
-  pub pair : (i : ℕ) → i < length edges → pair_of pairs (edge_at edges i).inner ≡ Some (edge_at edges i).pair
+  pub pair : (i : ℕ) → i < length edges → pair_of pairs (tree_edge_at edges i).inner ≡ Some (tree_edge_at edges i).pair
   pub up_tight : (i : ℕ) → i < length edges →
-      IsTight f cost (edge_at edges i).up.from (edge_at edges i).up.to
+      IsTight f cost (tree_edge_at edges i).up.from (tree_edge_at edges i).up.to
 
 -- a top outside the tree
 pub record IsOut (root : ℕ) (edges : List TreeEdge) (t : ℕ) : Type 0 where

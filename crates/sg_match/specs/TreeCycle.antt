@@ -3,9 +3,9 @@ use Rattle.std.specs.Prelude.{◌≡◌, ℕ, ◌<◌, ◌≤◌, List, length, 
 use Rattle.sg_arena.specs.Family.{Family, leaf_count}
 use Rattle.sg_arena.specs.declared.Link.{Link}
 use Rattle.sg_pairing.specs.Tight.{IsTight}
-use Rattle.sg_match.specs.Names.{Differ}
+use Rattle.sg_sums.specs.Sets.{Differ}
 use Rattle.sg_match.specs.Path.{IsPath, nodes_of}
-use Rattle.sg_match.specs.Tree.{edge_at, outers, inners}
+use Rattle.sg_match.specs.Tree.{tree_edge_at, outers, inners}
 use Rattle.sg_match.specs.declared.TreeEdge.{TreeEdge}
 
 -- the head, or a top of the tree edges from a place on
@@ -25,12 +25,13 @@ pub record IsTreeCycle (f : Family) (root : ℕ) (edges : List TreeEdge) (cycle 
   pub head_at : (j : ℕ) × (j ≤ place) × (slice_index (outers root edges) j ≡ head)
   pub tail_at : (j : ℕ) × (j ≤ place) × (slice_index (outers root edges) j ≡ tail)
   pub whole : (j : ℕ) → place ≤ j → j < length edges →
-      (Contains (nodes_of cycle) (edge_at edges j).inner → Contains (nodes_of cycle) (edge_at edges j).outer) ×
-      (Contains (nodes_of cycle) (edge_at edges j).outer → Contains (nodes_of cycle) (edge_at edges j).inner)
+      (Contains (nodes_of cycle) (tree_edge_at edges j).inner
+          → Contains (nodes_of cycle) (tree_edge_at edges j).outer) ×
+      (Contains (nodes_of cycle) (tree_edge_at edges j).outer → Contains (nodes_of cycle) (tree_edge_at edges j).inner)
   pub some : head ≡ tail → 2 ≤ length cycle
 
 -- the tree's edges and pairs are tight, and costs are symmetric
 pub record HasTight (f : Family) (cost : ℕ → ℕ → ℕ) (edges : List TreeEdge) : Type 0 where
-  pub up : (i : ℕ) → i < length edges → IsTight f cost (edge_at edges i).up.from (edge_at edges i).up.to
-  pub pair : (i : ℕ) → i < length edges → IsTight f cost (edge_at edges i).pair.from (edge_at edges i).pair.to
+  pub up : (i : ℕ) → i < length edges → IsTight f cost (tree_edge_at edges i).up.from (tree_edge_at edges i).up.to
+  pub pair : (i : ℕ) → i < length edges → IsTight f cost (tree_edge_at edges i).pair.from (tree_edge_at edges i).pair.to
   pub symmetric : (a b : ℕ) → a < leaf_count f → b < leaf_count f → cost a b ≡ cost b a

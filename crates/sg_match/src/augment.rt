@@ -1,7 +1,7 @@
 ghost use Rattle.std.specs.Prelude.{◌≡◌, ◌≢◌, ℕ, ◌<◌, ◌≤◌, length, slice_index, vec_capacity};
 ghost use Rattle.sg_arena.specs.Family.{IsFamily, IsTop, leaf_count};
-ghost use Rattle.sg_match.specs.Tree.{edge_at};
-ghost use Rattle.sg_match.specs.Augmented.{HasTops, CanAugment, IsAugmented};
+ghost use Rattle.sg_match.specs.Tree.{tree_edge_at};
+ghost use Rattle.sg_match.specs.Augmented.{HasTwoTops, CanAugment, IsAugmented};
 ghost use Rattle.sg_match.specs.Names.{IsTaken};
 
 use super::pairs::{flipped, pair_tops, unpair_tops};
@@ -20,7 +20,7 @@ pub fn augment_path(
     requires family { IsFamily arena.now }
     requires names { (t : ℕ) → IsTop arena.now t → t < length pairs.old }
     requires root { IsTop arena.now root }
-    requires edges { (i : ℕ) → i < length edges.now → HasTops arena.now (edge_at edges.now i) }
+    requires edges { (i : ℕ) → i < length edges.now → HasTwoTops arena.now (tree_edge_at edges.now i) }
     requires u { u < leaf_count arena.now }
     requires v { v < leaf_count arena.now }
     ensures { (cost : ℕ → ℕ → ℕ) → CanAugment arena.now cost pairs.old root edges.now u v → IsAugmented arena.now cost pairs.old pairs.new root v }

@@ -6,8 +6,8 @@ ghost use Rattle.sg_pairing.specs.Metric.{IsMetric, cost};
 ghost use Rattle.sg_match.specs.Nearest.{HasNearest, IsNearest};
 ghost use Rattle.sg_match.specs.Scans.{CanScan, IsScanned};
 ghost use Rattle.sg_match.specs.Tree.{inners, outers};
-ghost use Rattle.sg_match.specs.Marks.{IsListed, IsMarked};
-ghost use Rattle.sg_match.specs.Members.{AreMarked, AreOuter, IsJoined};
+ghost use Rattle.sg_match.specs.Marks.{IsListed, AreRightMarks};
+ghost use Rattle.sg_match.specs.Members.{AreMarked, AreOuter, JoinsMembers};
 ghost use Rattle.sg_slack.specs.Members.{Agree, IsMember};
 ghost use Rattle.sg_slack.specs.Slack.{mark_at, IsOuterFree, IsOuterOuter, Least, SumsFit};
 ghost use Rattle.sg_slack.specs.declared.Mark.TheVariants.{Outer};
@@ -50,7 +50,7 @@ pub fn nearest(
     ensures nearest { IsNearest arena.now (cost near.old.table) root edges.now (nat_of result.amount) result.event }
     ensures table { near.new.table ≡ near.old.table }
     ensures members { AreOuter arena.now root edges.now near.new.members }
-    ensures marked { IsMarked arena.now root edges.now marks.new }
+    ensures marked { AreRightMarks arena.now root edges.now marks.new }
 {
     mark_tops(root, edges, named);
     mark_leaves(named, tops, marks);
@@ -80,7 +80,7 @@ fn add_outer(near: &mut Near, totals: &[i64], marks: &[Mark])
 fn join(near: &mut Near, leaf: u32, total: i64, mark: Mark)
     requires { leaf < near.old.table.size }
     ensures table { near.new.table ≡ near.old.table }
-    ensures members { IsJoined near.old.members near.new.members leaf total mark }
+    ensures members { JoinsMembers near.old.members near.new.members leaf total mark }
 {
     match mark {
         Mark::Outer if !near.has(leaf) => near.add(leaf, total),

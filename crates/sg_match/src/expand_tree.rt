@@ -2,9 +2,9 @@ ghost use Rattle.std.specs.Prelude.{◌≡◌, ℕ, ◌+◌, ◌-◌, ◌<◌, �
 ghost use Rattle.std.specs.List.{insert};
 ghost use Rattle.sg_arena.specs.Family.{Family};
 ghost use Rattle.sg_match.specs.ExpandedTree.{CanExpandTree};
-ghost use Rattle.sg_match.specs.Rings.{IsTurned, IsOdd};
+ghost use Rattle.sg_match.specs.Rings.{IsTurnedRing, IsOdd};
 ghost use Rattle.sg_match.specs.InsertedEdges.{IsInserted, OuterStays, hung_edge, new_edge};
-ghost use Rattle.sg_match.specs.Tree.{IsTree, inners, edge_at};
+ghost use Rattle.sg_match.specs.Tree.{IsTree, inners, tree_edge_at};
 ghost use Rattle.sg_match.specs.declared.Edge.{Edge};
 
 use super::rings::turn_back;
@@ -16,7 +16,7 @@ use std::mem::swap;
 pub fn place_of_inner(edges: &[TreeEdge], node: usize) -> usize
     requires { Contains (inners edges.now) node }
     ensures within { result < length edges.now }
-    ensures here { (edge_at edges.now result).inner ≡ node }
+    ensures here { (tree_edge_at edges.now result).inner ≡ node }
 {
     for i in 0..edges.len() {
         if edges[i].inner == node {
@@ -32,7 +32,7 @@ pub fn turn_to_odd(ring: &mut Vec<Link>, spare: &mut Vec<Link>, entry: usize) ->
     requires within { entry < length ring.old.items }
     requires odd { IsOdd (length ring.old.items) }
     requires room { length ring.old.items ≤ vec_capacity spare.old }
-    ensures turned_ring { IsTurned ring.old.items entry ring.new.items result }
+    ensures turned_ring { IsTurnedRing ring.old.items entry ring.new.items result }
     ensures odd { (result ≡ 0) ⊎ IsOdd result }
     ensures room { (n : ℕ) → n ≤ vec_capacity ring.old → n ≤ vec_capacity spare.old → (n ≤ vec_capacity ring.new) × (n ≤ vec_capacity spare.new) }
 {
@@ -61,7 +61,7 @@ pub fn insert_edge(edges: &mut Vec<TreeEdge>, at: usize, tree_edge: TreeEdge)
 pub fn insert_before(edges: &mut Vec<TreeEdge>, place: usize, one: Link, two: Link)
     requires within { place < length edges.old.items }
     requires room { length edges.old.items < vec_capacity edges.old }
-    ensures insert_before { IsInserted edges.old.items edges.new.items place (new_edge (edge_at edges.old.items place) one two) (hung_edge (edge_at edges.old.items place) two) }
+    ensures insert_before { IsInserted edges.old.items edges.new.items place (new_edge (tree_edge_at edges.old.items place) one two) (hung_edge (tree_edge_at edges.old.items place) two) }
     ensures capacity { vec_capacity edges.new ≡ vec_capacity edges.old }
 {
     let tree_edge = edges[place];

@@ -5,7 +5,7 @@ ghost use Rattle.sg_slack.specs.Slack.{mark_at, total_at};
 ghost use Rattle.sg_slack.specs.declared.Mark.TheVariants.{Free};
 ghost use Rattle.sg_match.specs.Marks.{IsListed};
 ghost use Rattle.sg_match.specs.TableChanges.{HasTops, HasTopsBut, IsLifted, IsTopOf, moved_total};
-ghost use Rattle.sg_match.specs.Tree.{StandsAt, edge_at, outers, inners};
+ghost use Rattle.sg_match.specs.Tree.{StandsAt, tree_edge_at, outers, inners};
 
 use super::TreeEdge;
 use sg_arena::Arena;
@@ -148,8 +148,8 @@ fn unmark(named: &mut [Mark])
 // Where each top stands, by its name.
 pub fn mark_tops(root: usize, edges: &[TreeEdge], named: &mut [Mark])
     requires root { root < length named.old }
-    requires inner { (i : ℕ) → i < length edges.now → (edge_at edges.now i).inner < length named.old }
-    requires outer { (i : ℕ) → i < length edges.now → (edge_at edges.now i).outer < length named.old }
+    requires inner { (i : ℕ) → i < length edges.now → (tree_edge_at edges.now i).inner < length named.old }
+    requires outer { (i : ℕ) → i < length edges.now → (tree_edge_at edges.now i).outer < length named.old }
     ensures count { length named.new ≡ length named.old }
     ensures named { (t : ℕ) → t < length named.new → StandsAt root edges.now t (slice_index_or named.new t Free) }
 {

@@ -4,7 +4,7 @@ ghost use Rattle.sg_match.specs.Feasible.{IsFeasible};
 ghost use Rattle.sg_pairing.specs.Tight.{IsTight};
 ghost use Rattle.sg_pairing.specs.Matching.{IsMatching};
 ghost use Rattle.sg_match.specs.Pairs.{IsPaired, AllPaired, pair_of};
-ghost use Rattle.sg_match.specs.Names.{Differ};
+ghost use Rattle.sg_sums.specs.Sets.{Differ};
 ghost use Rattle.sg_match.specs.Path.{nodes_of};
 ghost use Rattle.sg_match.specs.Rings.{rotated};
 ghost use Rattle.sg_match.specs.MatePairs.{HasOwn, IsPairedInside, ListsTops};

@@ -40,7 +40,7 @@ fn half_of(costs: &Costs, event: Event) -> i64 {
 impl Engine {
     ghost use Rattle.std.specs.Prelude.{◌≡◌, ◌+◌, ◌*◌, ◌<◌, ◌≤◌, None, length};
     ghost use Rattle.sg_match.specs.Engine.{IsEngine};
-    ghost use Rattle.sg_match.specs.Names.{Stands};
+    ghost use Rattle.sg_sums.specs.Sets.{Stands};
     ghost use Rattle.sg_match.specs.State.{KeepsTree};
     ghost use Rattle.sg_match.specs.Steps.{steps_left};
 

@@ -14,20 +14,20 @@ use Rattle.sg_arena.specs.Family.{Node, Family, leaf_count, leaves_of, dual_of, 
 use Rattle.sg_arena.proofs.FamilyLemmas.{alive_from_holds, child-covered, child-smaller, leaf-held, name_bound, top-covers}
 use Rattle.sg_moat.specs.declared.members.Member.{Member}
 use Rattle.sg_moat.specs.Sets.{within, strictly_within, share_below, inner_of}
-use Rattle.sg_moat.specs.Members.{AreMembers, Climbed, list_at, member_of}
+use Rattle.sg_moat.specs.Members.{AreMembers, Climbed, list_under, member_of}
 use Rattle.sg_moat.proofs.SetDuals.{below_from, below_parts, covers_from, inner_and_own, inner_total, same_truth, up_to_share, within_from}
 
 -- the list of one name grows, and so the lists have a member more under the names of a wider test
 noted_each : (m : ℕ → Member) (old now : List (List Member)) (p : ℕ) (q r : ℕ → Bool) → p < length now →
-    ((s : ℕ) → list_at now s ≡ list_at old s ++ cond (q s) (m s ∷ []) []) → q p ≡ false → r p ≡ true → ((s : ℕ) → s ≢ p → r s ≡ q s) →
-    (s : ℕ) → list_at (set now p (list_at now p ++ m p ∷ [])) s ≡ list_at old s ++ cond (r s) (m s ∷ []) []
+    ((s : ℕ) → list_under now s ≡ list_under old s ++ cond (q s) (m s ∷ []) []) → q p ≡ false → r p ≡ true → ((s : ℕ) → s ≢ p → r s ≡ q s) →
+    (s : ℕ) → list_under (set now p (list_under now p ++ m p ∷ [])) s ≡ list_under old s ++ cond (r s) (m s ∷ []) []
 noted_each m old now p q r low before out in_r same s = elim (cases_eq s p) [
   | inl e ↦
-      subst (λ z. list_at (set now p (list_at now p ++ m p ∷ [])) z ≡ list_at old z ++ cond (r z) (m z ∷ []) []) (sym e)
-      (get_or-set_same now p (list_at now p ++ m p ∷ []) [] low
-      ∙ ap (λ xs. xs ++ m p ∷ []) (before p ∙ ap (λ b. list_at old p ++ cond b (m p ∷ []) []) out ∙ append-nil (list_at old p))
-      ∙ ap (λ b. list_at old p ++ cond b (m p ∷ []) []) (sym in_r))
-  | inr ne ↦ get_or-set_other now p s (list_at now p ++ m p ∷ []) [] ne ∙ before s ∙ ap (λ b. list_at old s ++ cond b (m s ∷ []) []) (sym (same s ne))
+      subst (λ z. list_under (set now p (list_under now p ++ m p ∷ [])) z ≡ list_under old z ++ cond (r z) (m z ∷ []) []) (sym e)
+      (get_or-set_same now p (list_under now p ++ m p ∷ []) [] low
+      ∙ ap (λ xs. xs ++ m p ∷ []) (before p ∙ ap (λ b. list_under old p ++ cond b (m p ∷ []) []) out ∙ append-nil (list_under old p))
+      ∙ ap (λ b. list_under old p ++ cond b (m p ∷ []) []) (sym in_r))
+  | inr ne ↦ get_or-set_other now p s (list_under now p ++ m p ∷ []) [] ne ∙ before s ∙ ap (λ b. list_under old s ++ cond b (m s ∷ []) []) (sym (same s ne))
 ]
 
 module _ (f : Family) where
@@ -40,7 +40,7 @@ module _ (f : Family) where
     pub held : Holds f at leaf
     pub sum : inner ≡ inner_of f at leaf
     pub count : length now ≡ length old
-    pub each : (s : ℕ) → list_at now s ≡ list_at old s ++ cond (is_passed leaf at s) (member_of f s leaf ∷ []) []
+    pub each : (s : ℕ) → list_under now s ≡ list_under old s ++ cond (is_passed leaf at s) (member_of f s leaf ∷ []) []
 
   module _ (fam : IsFamily f) where
     -- the leaf's own node is within each set that holds it
@@ -66,23 +66,23 @@ module _ (f : Family) where
     -- a leaf is noted at its own node, with no duals inside
     pub Climbing-start : (leaf : ℕ) (lists : List (List Member)) → leaf < leaf_count f → length lists ≡ length f.nodes →
         Climbing leaf (get_or f.leaf_nodes leaf 0) 0 lists
-        (set lists (get_or f.leaf_nodes leaf 0) (list_at lists (get_or f.leaf_nodes leaf 0) ++ (record { leaf = leaf; inner = 0 }) ∷ []))
+        (set lists (get_or f.leaf_nodes leaf 0) (list_under lists (get_or f.leaf_nodes leaf 0) ++ (record { leaf = leaf; inner = 0 }) ∷ []))
     Climbing-start leaf lists low rooms =
         let n : ℕ = get_or f.leaf_nodes leaf 0 in
         let held : Holds f n leaf = leaf-held f fam leaf low in
         let none : inner_of f n leaf ≡ 0 = no_inner leaf low in
         let bound : n < length f.nodes = name_bound f n (alive_from_holds f n leaf held) in
-        let each : (s : ℕ) → list_at (set lists n (list_at lists n ++ member_of f n leaf ∷ [])) s ≡ list_at lists s ++ cond (is_passed leaf n s)
+        let each : (s : ℕ) → list_under (set lists n (list_under lists n ++ member_of f n leaf ∷ [])) s ≡ list_under lists s ++ cond (is_passed leaf n s)
         (member_of f s leaf ∷ []) [] =
-        noted_each (λ s. member_of f s leaf) lists lists n (λ s. false) (is_passed leaf n) (omega arith) (λ s. sym (append-nil (list_at lists s))) refl
+        noted_each (λ s. member_of f s leaf) lists lists n (λ s. false) (is_passed leaf n) (omega arith) (λ s. sym (append-nil (list_under lists s))) refl
         (and_from (within f n n) (holds f n leaf) (within_from f n n (λ l k. k)) held)
         (λ s ne. false_from_ne_true (is_passed leaf n s)
         (λ h. (let both = and_parts (within f n s) (holds f s leaf) h in ne (least_set leaf s low both.1 (covers_from f n s both.0))))) in
         record {
           held = held;
           sum = sym none;
-          count = length-set lists n (list_at lists n ++ (record { leaf = leaf; inner = 0 }) ∷ []);
-          each = subst (λ z. (s : ℕ) → list_at (set lists n (list_at lists n ++ (record { leaf = leaf; inner = z }) ∷ [])) s ≡ list_at lists s ++ cond
+          count = length-set lists n (list_under lists n ++ (record { leaf = leaf; inner = 0 }) ∷ []);
+          each = subst (λ z. (s : ℕ) → list_under (set lists n (list_under lists n ++ (record { leaf = leaf; inner = z }) ∷ [])) s ≡ list_under lists s ++ cond
               (is_passed leaf n s) (member_of f s leaf ∷ []) []) none each;
         }
 
@@ -121,12 +121,12 @@ module _ (f : Family) where
 
       -- on the way up the leaf is noted at the next set, with the duals passed
       pub Climbing-step : (inner : ℕ) (old now : List (List Member)) → length old ≡ length f.nodes → Climbing leaf at inner old now →
-          Climbing leaf p (inner + dual_of f at) old (set now p (list_at now p ++ (record { leaf = leaf; inner = inner + dual_of f at }) ∷ []))
+          Climbing leaf p (inner + dual_of f at) old (set now p (list_under now p ++ (record { leaf = leaf; inner = inner + dual_of f at }) ∷ []))
       Climbing-step inner old now rooms h =
           let up : Holds f p leaf = over leaf held in
           let sum : inner + dual_of f at ≡ inner_of f p leaf = omega (arith, h.sum, inner_step) in
           let bound : p < length f.nodes = name_bound f p (alive_from_holds f p leaf up) in
-          let each : (s : ℕ) → list_at (set now p (list_at now p ++ member_of f p leaf ∷ [])) s ≡ list_at old s ++ cond (is_passed leaf p s)
+          let each : (s : ℕ) → list_under (set now p (list_under now p ++ member_of f p leaf ∷ [])) s ≡ list_under old s ++ cond (is_passed leaf p s)
           (member_of f s leaf ∷ []) [] =
           noted_each (λ s. member_of f s leaf) old now p (is_passed leaf at) (is_passed leaf p) (omega (arith, h.count)) h.each
           (false_from_ne_true (is_passed leaf at p) (λ h. smaller (covers_from f at p (and_parts (within f at p) (holds f p leaf) h).0)))
@@ -139,9 +139,9 @@ module _ (f : Family) where
           record {
             held = up;
             sum = sum;
-            count = length-set now p (list_at now p ++ (record { leaf = leaf; inner = inner + dual_of f at }) ∷ []) ∙ h.count;
+            count = length-set now p (list_under now p ++ (record { leaf = leaf; inner = inner + dual_of f at }) ∷ []) ∙ h.count;
             each =
-                subst (λ z. (s : ℕ) → list_at (set now p (list_at now p ++ (record { leaf = leaf; inner = z }) ∷ [])) s ≡ list_at old s ++ cond
+                subst (λ z. (s : ℕ) → list_under (set now p (list_under now p ++ (record { leaf = leaf; inner = z }) ∷ [])) s ≡ list_under old s ++ cond
                 (is_passed leaf p s) (member_of f s leaf ∷ []) [])
                 (sym sum) each;
           }
@@ -167,7 +167,7 @@ module _ (f : Family) where
     pub Climbing-top : (leaf at inner : ℕ) (old now : List (List Member)) → IsTop f at → Climbing leaf at inner old now → Climbed f leaf old now
     Climbing-top leaf at inner old now top h = record {
       count = h.count;
-      each = λ s. h.each s ∙ ap (λ b. list_at old s ++ cond b (member_of f s leaf ∷ []) []) (same_truth (is_passed leaf at s) (holds f s leaf)
+      each = λ s. h.each s ∙ ap (λ b. list_under old s ++ cond b (member_of f s leaf ∷ []) []) (same_truth (is_passed leaf at s) (holds f s leaf)
           (λ k. (and_parts (within f at s) (holds f s leaf) k).1)
           (λ k. and_from (within f at s) (holds f s leaf) (within_from f at s (top-covers f fam at s leaf top h.held k)) k));
     }
@@ -175,13 +175,13 @@ module _ (f : Family) where
   -- the lists with the leaves below k
   pub record AreMembersBelow (k : ℕ) (lists : List (List Member)) : Type 0 where
     pub count : length lists ≡ length f.nodes
-    pub each : (s : ℕ) → list_at lists s ≡ map (member_of f s) (chosen_below (holds f s) k)
+    pub each : (s : ℕ) → list_under lists s ≡ map (member_of f s) (chosen_below (holds f s) k)
 
   -- before the first leaf all lists are empty
   pub AreMembersBelow-none : AreMembersBelow 0 (replicate (length f.nodes) [])
   AreMembersBelow-none = record { count = length-replicate (length f.nodes) []; each = empty (length f.nodes) }
     where
-      empty : (n s : ℕ) → list_at (replicate n []) s ≡ []
+      empty : (n s : ℕ) → list_under (replicate n []) s ≡ []
       empty n s = elim (cases_lt s n) [
         | inl low ↦ get_or-replicate n s [] [] low
         | inr high ↦ get_or_past (replicate n []) s [] (let l : length {A = List Member} (replicate n []) ≡ n = length-replicate n [] in omega arith)

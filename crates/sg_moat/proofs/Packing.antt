@@ -11,9 +11,9 @@ use Rattle.sg_sums.proofs.SumLaws.{sum_below-add, sum_below-le, sum_below-same, 
 use Rattle.sg_sums.proofs.Tallies.{below_exchange, cond_small, sum_below_ones, sum_below_unique, sum_by-range}
 use Rattle.sg_graph.specs.declared.cut.Cut.{Cut}
 use Rattle.sg_graph.specs.Web.{Graph, IsEdge, IsWeb, edge_at, edge_count, edge_weight}
-use Rattle.sg_graph.specs.Walk.{IsConnected, IsDistance, Leads}
+use Rattle.sg_graph.specs.Walk.{IsConnectedWeb, IsDistance, Leads}
 use Rattle.sg_graph.specs.Join.{AreTerminals}
-use Rattle.sg_graph.specs.OddCut.{CutsPack, IsOddCut, cut_weight}
+use Rattle.sg_graph.specs.OddCut.{CutsPack, IsOddCut, odd_cut_weight}
 use Rattle.sg_graph.specs.Table.{IsTableOf, Routes}
 use Rattle.sg_graph.proofs.TableLaws.{connected_distance}
 use Rattle.sg_graph.proofs.Walks.{distance-edge, distance-itself, distance-joined, distance-over, turned}
@@ -23,7 +23,8 @@ use Rattle.sg_arena.proofs.FamilyLemmas.{leaf_bound, size-is, size-positive}
 use Rattle.sg_moat.specs.Input.{AreTerminalTables, distance_from, table_at, terminal_cost}
 use Rattle.sg_pairing.specs.Matching.{NoSlackIsNegative, dual_in, sum_of_duals}
 use Rattle.sg_moat.specs.Sets.{alive_at, inner_of}
-use Rattle.sg_moat.specs.Slices.{change_over, gap, inside_count, is_below, is_inside}
+use Rattle.sg_moat.specs.Slices.{change_over, inside_count, is_below_level, is_inside}
+use Rattle.sg_sums.specs.Naturals.{gap}
 use Rattle.sg_moat.specs.Gathers.{Gathers, IsMoatCut, reach_from, set_depth}
 use Rattle.sg_moat.proofs.SetCount.{sets_few}
 use Rattle.sg_moat.proofs.SetDuals.{apart_duals, nested_duals, outside_duals}
@@ -41,7 +42,7 @@ pub record IsMoatInput (f : Family) (g : Graph) (terminals : List ℕ) (tables :
   pub slack : NoSlackIsNegative f (terminal_cost terminals tables)
 
 -- what the call asks for, as one record
-pub IsMoatInput-from : (f : Family) (g : Graph) (terminals : List ℕ) (tables : List Routes) → IsWeb g → IsConnected g → AreTerminals g terminals →
+pub IsMoatInput-from : (f : Family) (g : Graph) (terminals : List ℕ) (tables : List Routes) → IsWeb g → IsConnectedWeb g → AreTerminals g terminals →
     leaf_count f ≡ length terminals → AreTerminalTables g terminals tables → NoSlackIsNegative f (terminal_cost terminals tables) →
     IsMoatInput f g terminals tables
 IsMoatInput-from f g terminals tables web connected chosen leaves are slack = record {
@@ -265,7 +266,7 @@ module _ (f : Family) (fam : IsFamily f) (g : Graph) (terminals : List ℕ) (tab
       ]
 
   -- a cut at a level holds exactly the terminals of its set
-  inside_is : (s level i : ℕ) → 0 < level → level ≤ dual_of f s → i < leaf_count f → is_below (set_depth f tables s) level (term i) ≡ holds f s i
+  inside_is : (s level i : ℕ) → 0 < level → level ≤ dual_of f s → i < leaf_count f → is_below_level (set_depth f tables s) level (term i) ≡ holds f s i
   inside_is s level i some top l = by_side (holds f s i) refl
     where
       some_dual : 0 < dual_of f s
@@ -274,7 +275,7 @@ module _ (f : Family) (fam : IsFamily f) (g : Graph) (terminals : List ℕ) (tab
       depth_is : set_depth f tables s (term i) ≡ min (dual_of f s) (least_by (reach_from f tables s (term i)) (leaves_of f s))
       depth_is = fold_least (reach_from f tables s (term i)) (leaves_of f s) (dual_of f s) (some_leaves s some_dual)
 
-      by_side : (b : Bool) → holds f s i ≡ b → is_below (set_depth f tables s) level (term i) ≡ b
+      by_side : (b : Bool) → holds f s i ≡ b → is_below_level (set_depth f tables s) level (term i) ≡ b
       by_side true e =
           lt-ltb (set_depth f tables s (term i)) level
           (omega (arith, depth_is, least_bounds (reach_from f tables s (term i)) (leaves_of f s) i e, own i l))
@@ -286,22 +287,22 @@ module _ (f : Family) (fam : IsFamily f) (g : Graph) (terminals : List ℕ) (tab
   -- a cut of a moat is an odd cut
   pub odd_cut : (c : Cut) → IsMoatCut f g tables c → IsOddCut g terminals c.edges
   odd_cut c h = record {
-    inside = is_below (set_depth f tables h.name) h.slice.level;
+    inside = is_below_level (set_depth f tables h.name) h.slice.level;
     odd = ap (λ n. n % 2) counted ∙ fam.odd h.name (dual_alive f h.name h.positive);
     is = h.slice.is;
   }
     where
-      counted : count_by (is_below (set_depth f tables h.name) h.slice.level) terminals ≡ length (leaves_of f h.name)
+      counted : count_by (is_below_level (set_depth f tables h.name) h.slice.level) terminals ≡ length (leaves_of f h.name)
       counted =
-          sum_by_is_sum_below (λ t. cond (is_below (set_depth f tables h.name) h.slice.level t) 1 0) terminals 0
-          ∙ ap (sum_below (λ i. cond (is_below (set_depth f tables h.name) h.slice.level (term i)) 1 0)) (sym input.leaves)
-          ∙ sum_below-same (λ i. cond (is_below (set_depth f tables h.name) h.slice.level (term i)) 1 0) (λ i. cond (holds f h.name i) 1 0) (leaf_count f)
+          sum_by_is_sum_below (λ t. cond (is_below_level (set_depth f tables h.name) h.slice.level t) 1 0) terminals 0
+          ∙ ap (sum_below (λ i. cond (is_below_level (set_depth f tables h.name) h.slice.level (term i)) 1 0)) (sym input.leaves)
+          ∙ sum_below-same (λ i. cond (is_below_level (set_depth f tables h.name) h.slice.level (term i)) 1 0) (λ i. cond (holds f h.name i) 1 0) (leaf_count f)
           (λ i l. ap (λ b. cond b 1 0) (inside_is h.name h.slice.level i h.slice.above h.slice.up_to l))
           ∙ sym (sum_by-range (λ i. cond (holds f h.name i) 1 0) (leaf_count f))
           ∙ sym (size-is f fam h.name)
 
   -- the cuts of all sets weigh as much as all duals
-  pub duals_total : (cuts : List Cut) → Gathers f g tables (length f.nodes) cuts → sum_by cut_weight cuts ≡ sum_of_duals f
+  pub duals_total : (cuts : List Cut) → Gathers f g tables (length f.nodes) cuts → sum_by odd_cut_weight cuts ≡ sum_of_duals f
   duals_total cuts all = all.total ∙ sym (sum_by_is_sum_below dual_in f.nodes None)
 
   -- the cuts of all sets pack

@@ -8,14 +8,14 @@ use Rattle.sg_sums.proofs.Tallies.{below_exchange, sum_below_times, sum_below_un
 use Rattle.sg_arena.specs.declared.Link.{Link}
 use Rattle.sg_arena.specs.Family.{Node, Family, leaf_count, node_at, IsAlive, leaves_of, cycle_of, Holds, Covers, blank_link, link_at, IsFamily}
 use Rattle.sg_arena.proofs.FamilyLemmas.{alive_from_holds, child-covered, child-smaller, name_bound}
-use Rattle.sg_moat.specs.Sets.{alive_at, one_if}
+use Rattle.sg_moat.specs.Sets.{alive_at, node_count}
 
 module _ (f : Family) (fam : IsFamily f) where
   -- a node that is alive counts once
   pub alive_one : (name : ℕ) → IsAlive f name → alive_at f name ≡ 1
   alive_one name alive = go (node_at f name) alive
     where
-      go : (o : Option Node) → IsSome o → one_if o ≡ 1
+      go : (o : Option Node) → IsSome o → node_count o ≡ 1
       go (Some n) s = refl
       go None s = absurd (let e : false ≡ true = s in cc)
 
@@ -100,7 +100,7 @@ module _ (f : Family) (fam : IsFamily f) where
   alive_small : (name : ℕ) → alive_at f name ≤ 1
   alive_small name = go (node_at f name)
     where
-      go : (o : Option Node) → one_if o ≤ 1
+      go : (o : Option Node) → node_count o ≤ 1
       go (Some n) = omega arith
       go None = omega arith
 
@@ -119,7 +119,7 @@ module _ (f : Family) (fam : IsFamily f) where
     | inr none ↦ omega arith
   ]
     where
-      go : (o : Option Node) → 0 < one_if o → IsSome o
+      go : (o : Option Node) → 0 < node_count o → IsSome o
       go (Some n) h = refl
       go None h = absurd (omega arith)
 

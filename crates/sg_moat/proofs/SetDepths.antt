@@ -13,9 +13,9 @@ use Rattle.sg_sums.proofs.SumLaws.{sum_below-same}
 use Rattle.sg_sums.proofs.Choosing.{chosen_below_more}
 use Rattle.sg_graph.specs.declared.cut.Cut.{Cut}
 use Rattle.sg_graph.specs.Web.{Graph, IsEdge, IsWeb, edge_at, edge_count}
-use Rattle.sg_graph.specs.OddCut.{crosses, cut_weight}
+use Rattle.sg_graph.specs.OddCut.{crosses, odd_cut_weight}
 use Rattle.sg_graph.specs.Join.{AreTerminals}
-use Rattle.sg_graph.specs.Walk.{IsConnected}
+use Rattle.sg_graph.specs.Walk.{IsConnectedWeb}
 use Rattle.sg_graph.specs.Table.{Routes}
 use Rattle.sg_graph.proofs.TableLaws.{connected_distance}
 use Rattle.sg_arena.specs.Family.{Family, Holds, IsAlive, IsFamily, Node, dual_of, leaf_count, leaves_of, node_at}
@@ -25,7 +25,8 @@ use Rattle.sg_moat.specs.Depths.{AreFull, depth_by, height_by}
 use Rattle.sg_moat.specs.Input.{AreTerminalTables, blank_table, table_at}
 use Rattle.sg_moat.specs.Members.{member_of}
 use Rattle.sg_moat.specs.Sets.{alive_at, inner_of}
-use Rattle.sg_moat.specs.Slices.{IsSlice, Sliced, Slices, gap, inside_count, is_below, is_inside}
+use Rattle.sg_moat.specs.Slices.{IsSlice, Sliced, Slices, inside_count, is_below_level, is_inside}
+use Rattle.sg_sums.specs.Naturals.{gap}
 use Rattle.sg_moat.specs.Gathers.{Adds, Gathers, IsMoatCut, reach_from, set_depth}
 use Rattle.sg_moat.specs.Survey.{Surveys, noted_at}
 use Rattle.sg_sums.proofs.Tallies.{times_place}
@@ -91,7 +92,7 @@ chosen_below_same p q (suc n) h =
 
 -- what depths that agree at the nodes give
 module _ (g : Graph) (joined : All (IsEdge g.nodes) g.edges) (d c : ℕ → ℕ) (same : (x : ℕ) → x < g.nodes → d x ≡ c x) (y : ℕ) where
-  crosses_same : (level e : ℕ) → e < edge_count g → crosses g (is_below d level) e ≡ crosses g (is_below c level) e
+  crosses_same : (level e : ℕ) → e < edge_count g → crosses g (is_below_level d level) e ≡ crosses g (is_below_level c level) e
   crosses_same level e l =
       let edge : IsEdge g.nodes (edge_at g e) = joined e (record { a = 0; b = 0; w = pos 0 }) l in
       ap₂ (λ u v. xor (ltb u level) (ltb v level)) (same (edge_at g e).a edge.first_end) (same (edge_at g e).b edge.second_end)
@@ -102,7 +103,7 @@ module _ (g : Graph) (joined : All (IsEdge g.nodes) g.edges) (d c : ℕ → ℕ)
     level = h.level;
     above = h.above;
     up_to = h.up_to;
-    is = h.is ∙ chosen_below_same (crosses g (is_below d h.level)) (crosses g (is_below c h.level)) (edge_count g) (crosses_same h.level);
+    is = h.is ∙ chosen_below_same (crosses g (is_below_level d h.level)) (crosses g (is_below_level c h.level)) (edge_count g) (crosses_same h.level);
   }
 
   -- depths that agree on the nodes have the same cuts
@@ -155,7 +156,7 @@ Surveys-covers g height heights near s x some =
     ]
 
 -- in a connected graph the tables of terminals have a distance for every node
-pub tables_full : (g : Graph) (terminals : List ℕ) (tables : List Routes) → IsConnected g → AreTerminals g terminals →
+pub tables_full : (g : Graph) (terminals : List ℕ) (tables : List Routes) → IsConnectedWeb g → AreTerminals g terminals →
     AreTerminalTables g terminals tables → AreFull g tables
 tables_full g terminals tables connected chosen are = record {
   sources = source_low;
@@ -201,8 +202,8 @@ module _ (f : Family) (g : Graph) (tables : List Routes) (name : ℕ) where
             All-append (IsMoatCut f g tables) old s.more h
             (All-weaker (IsSlice g (set_depth f tables name) (dual_of f name)) (IsMoatCut f g tables)
             (λ c i. record { name = name; positive = some; slice = i }) s.more s.slices.are);
-        total = omega (arith, sum_by-append cut_weight old s.more, s.slices.total);
-        loads = λ e l. omega (arith, sum_by-append (λ c. cond (holds c.edges e) (cut_weight c) 0) old s.more, s.slices.loads e l);
+        total = omega (arith, sum_by-append odd_cut_weight old s.more, s.slices.total);
+        loads = λ e l. omega (arith, sum_by-append (λ c. cond (holds c.edges e) (odd_cut_weight c) 0) old s.more, s.slices.loads e l);
         few = omega (arith, length-append old s.more, s.slices.few, alive);
       })
 

@@ -13,7 +13,7 @@ use Rattle.sg_graph.proofs.Walks.{leads_other, other_low}
 use Rattle.sg_moat.specs.declared.arrival.Arrival.{Arrival}
 use Rattle.sg_moat.specs.declared.members.Member.{Member}
 use Rattle.sg_moat.specs.Input.{table_at}
-use Rattle.sg_moat.specs.Survey.{Caps, IsSeeded, Raises, Seeds, Spreads, noted_at}
+use Rattle.sg_moat.specs.Survey.{Caps, IsSeeded, Raises, Seeds, SpreadsHeight, noted_at}
 use Rattle.sg_moat.proofs.SurveySteps.{Flooding, Goes-none, Goes-on, Goes-raise, Searching-skip, Searching-spread, raised_below, raised_here}
 
 -- what is read past the last member
@@ -26,7 +26,7 @@ blank_edge = record { a = 0; b = 0; w = pos 0 }
 
 module _ (g : Graph) where
   -- along a list of edges at a node
-  pub Spreads-none : (node height : ℕ) (old before : List ℕ) (heap : List Arrival) → Spreads g node height [] old old before before heap heap
+  pub Spreads-none : (node height : ℕ) (old before : List ℕ) (heap : List Arrival) → SpreadsHeight g node height [] old old before before heap heap
   Spreads-none node height old before heap = record {
     goes = Goes-none g old before heap;
     spread = All-nil (λ e. height ≤ noted_at old (other_end node (edge_at g e)) + 2 * edge_weight g e);
@@ -35,7 +35,7 @@ module _ (g : Graph) where
 
   module _ (node height : ℕ) (edges : List ℕ) (e : ℕ) (old now new before mid after : List ℕ) (heap waiting next : List Arrival)
       (count : length old ≡ g.nodes) (small : height < 2 ^ 64) (ends : EndsAt g node e) (in_web : other_end node (edge_at g e) < g.nodes)
-      (s : Spreads g node height edges old now before mid heap waiting)
+      (s : SpreadsHeight g node height edges old now before mid heap waiting)
       (r : Raises (other_end node (edge_at g e)) (height - 2 * edge_weight g e) now new mid after waiting next) where
     abbrev other : ℕ
     other = other_end node (edge_at g e)
@@ -44,7 +44,7 @@ module _ (g : Graph) where
     low = omega (arith, in_web, count, s.goes.count)
 
     -- arrivals over one edge more
-    pub Spreads-more : Spreads g node height (edges ++ e ∷ []) old new before after heap next
+    pub Spreads-more : SpreadsHeight g node height (edges ++ e ∷ []) old new before after heap next
     Spreads-more =
         let goes = Goes-raise g other (height - 2 * edge_weight g e) now new mid after waiting next low r in_web (omega (arith, small)) in
         let now_there = raised_here g other (height - 2 * edge_weight g e) now new mid after waiting next low r in
@@ -79,10 +79,10 @@ module _ (g : Graph) where
     -- the same, in the terms of the code
     pub Spreads-next : (height left : ℕ) (old now new before mid after : List ℕ) (heap waiting next : List Arrival) → IsWeb g →
         length old ≡ g.nodes → height < 2 ^ 64 → EndsAt g node (get_or list i 0) → left ≡ height - 2 * edge_weight g (get_or list i 0) →
-        Spreads g node height (take i list) old now before mid heap waiting → Raises other left now new mid after waiting next →
-        Spreads g node height (take (i + 1) list) old new before after heap next
+        SpreadsHeight g node height (take i list) old now before mid heap waiting → Raises other left now new mid after waiting next →
+        SpreadsHeight g node height (take (i + 1) list) old new before after heap next
     Spreads-next height left old now new before mid after heap waiting next web count small ends left_is s r =
-        subst (λ xs. Spreads g node height xs old new before after heap next) (sym (take_more list i 0 low))
+        subst (λ xs. SpreadsHeight g node height xs old new before after heap next) (sym (take_more list i 0 low))
         (Spreads-more node height (take i list) (get_or list i 0) old now new before mid after heap waiting next count small ends
         (subst (λ n. n < g.nodes) other_is (other_in web ends)) s
         (subst (λ n. Raises n (height - 2 * edge_weight g (get_or list i 0)) now new mid after waiting next) other_is
@@ -158,13 +158,13 @@ module _ (g : Graph) where
 
     -- an arrival that is the height of its node goes on over all its edges
     pub Flooding-spread : (lists : List (List ℕ)) → AreIncident g lists → (list new after : List ℕ) (next : List Arrival) → a.node < g.nodes →
-        list ≡ list_at lists a.node → noted_at heights a.node ≡ a.height → Spreads g a.node a.height list heights new near after rest next →
+        list ≡ list_at lists a.node → noted_at heights a.node ≡ a.height → SpreadsHeight g a.node a.height list heights new near after rest next →
         Flooding g old new after next
     Flooding-spread lists incident list new after next in_web list_is latest s =
         let all : list ≡ edges_at g a.node = list_is ∙ incident.each a.node in_web in
         record {
           searching = Searching-spread g heights near heap rest a f.searching taken new after next latest
-              (subst (λ xs. Spreads g a.node a.height xs heights new near after rest next) all s);
+              (subst (λ xs. SpreadsHeight g a.node a.height xs heights new near after rest next) all s);
           up = λ x. omega (arith, f.up x, s.goes.up x);
           below = λ h l b. s.below h l (omega (arith, latest, f.below h l b a.node)) (f.below h l b);
         }

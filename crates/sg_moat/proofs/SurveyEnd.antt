@@ -6,7 +6,7 @@ use Rattle.std.proofs.lemmas.List.Elements.{All-from_get_or}
 use Rattle.std.proofs.lemmas.List.Sums.{sum_by-cons}
 use Rattle.sg_sums.proofs.Tallies.{times_place}
 use Rattle.sg_graph.specs.Web.{Graph, IsWeb, edge_weight, weight_of}
-use Rattle.sg_graph.specs.Walk.{IsWalk}
+use Rattle.sg_graph.specs.Walk.{IsWebWalk}
 use Rattle.sg_graph.specs.Table.{Routes}
 use Rattle.sg_graph.proofs.Walks.{distance-edge, distance-itself, leads_low}
 use Rattle.sg_moat.specs.declared.arrival.Arrival.{Arrival}
@@ -112,7 +112,7 @@ module _ (g : Graph) (web : IsWeb g) (tables : List Routes) (members : List Memb
           omega (arith, none, left_bound tables source members y k l)
 
   -- along a walk what is left falls by at most twice its weight
-  along : (f : ℕ → ℕ) → IsLipschitz g f → (es : List ℕ) (x z : ℕ) → IsWalk g x es z → f x ≤ f z + 2 * weight_of g es
+  along : (f : ℕ → ℕ) → IsLipschitz g f → (es : List ℕ) (x z : ℕ) → IsWebWalk g x es z → f x ≤ f z + 2 * weight_of g es
   along f l [] x z walk = subst (λ v. f x ≤ f v + 2 * weight_of g []) walk (omega arith)
   along f l (e ∷ es) x z walk = omega (arith, l e x walk.0 walk.1, along f l es walk.0 z walk.2, sum_by-cons (edge_weight g) e es)
 

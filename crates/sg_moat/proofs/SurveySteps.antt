@@ -14,7 +14,7 @@ use Rattle.sg_graph.specs.Incidence.{edges_at}
 use Rattle.sg_graph.proofs.Incidences.{edges_at_leads}
 use Rattle.sg_graph.proofs.Walks.{other_only}
 use Rattle.sg_moat.specs.declared.arrival.Arrival.{Arrival}
-use Rattle.sg_moat.specs.Survey.{AreBelow, Floods, Goes, IsLipschitz, Lists, Raises, Searching, Spreads, arrival_at, noted_at, room_above, times_listed}
+use Rattle.sg_moat.specs.Survey.{AreBelow, Floods, Goes, IsLipschitz, Lists, Raises, Searching, SpreadsHeight, arrival_at, noted_at, room_above, times_listed}
 
 in_front : {X : Type 0} (a x : X) (rest : List X) → Contains (a ∷ rest) x → (x ≡ a) ⊎ Contains rest x
 in_front a x rest (zero, l, e) = inl (sym e)
@@ -267,7 +267,7 @@ module _ (g : Graph) where
 
     -- its node is spread
     pub Searching-spread : (new after : List ℕ) (next : List Arrival) → noted_at heights a.node ≡ a.height →
-        Spreads g a.node a.height (edges_at g a.node) heights new near after rest next → Searching g new after next
+        SpreadsHeight g a.node a.height (edges_at g a.node) heights new near after rest next → Searching g new after next
     Searching-spread new after next latest spreads = record {
       lists = spreads.goes.lists s.lists;
       low = spreads.goes.low rest_low;

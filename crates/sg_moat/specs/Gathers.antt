@@ -4,7 +4,7 @@ use Rattle.sg_sums.specs.Sums.{sum_below}
 use Rattle.sg_arena.specs.Family.{Family, dual_of, leaves_of}
 use Rattle.sg_graph.specs.declared.cut.Cut.{Cut}
 use Rattle.sg_graph.specs.Web.{Graph, edge_count}
-use Rattle.sg_graph.specs.OddCut.{cut_load, cut_weight}
+use Rattle.sg_graph.specs.OddCut.{cut_load, odd_cut_weight}
 use Rattle.sg_graph.specs.Table.{Routes}
 use Rattle.sg_moat.specs.Input.{distance_from}
 use Rattle.sg_moat.specs.Sets.{alive_at, inner_of}
@@ -27,14 +27,14 @@ pub record IsMoatCut (f : Family) (g : Graph) (tables : List Routes) (c : Cut) :
 -- the cuts of one set are added to those before
 pub record Adds (f : Family) (g : Graph) (tables : List Routes) (name : ℕ) (old new : List Cut) : Type 0 where
   pub are : All (IsMoatCut f g tables) old → All (IsMoatCut f g tables) new
-  pub total : sum_by cut_weight new ≡ sum_by cut_weight old + dual_of f name
+  pub total : sum_by odd_cut_weight new ≡ sum_by odd_cut_weight old + dual_of f name
   pub loads : (e : ℕ) → e < edge_count g → cut_load new e ≡ cut_load old e + change_over g (set_depth f tables name) e
   pub few : length new ≤ length old + (alive_at f name + inside_count g (set_depth f tables name) (dual_of f name))
 
 -- the cuts of the sets with names below a number
 pub record Gathers (f : Family) (g : Graph) (tables : List Routes) (upto : ℕ) (cuts : List Cut) : Type 0 where
   pub are : All (IsMoatCut f g tables) cuts
-  pub total : sum_by cut_weight cuts ≡ sum_below (dual_of f) upto
+  pub total : sum_by odd_cut_weight cuts ≡ sum_below (dual_of f) upto
   pub loads : (e : ℕ) → e < edge_count g →
       cut_load cuts e ≡ sum_below (λ s. change_over g (set_depth f tables s) e) upto
   pub few : length cuts ≤ sum_below (λ s. alive_at f s + inside_count g (set_depth f tables s) (dual_of f s)) upto

@@ -21,9 +21,9 @@ abbrev pub inner_of : Family → ℕ → ℕ → ℕ
 inner_of f s leaf = sum_below (share_below f s leaf) (length f.nodes)
 
 -- how many nodes stand under a name: 1 or 0
-abbrev pub one_if : Option Node → ℕ
-one_if (Some n) = 1
-one_if None = 0
+abbrev pub node_count : Option Node → ℕ
+node_count (Some n) = 1
+node_count None = 0
 
 abbrev pub alive_at : Family → ℕ → ℕ
-alive_at f name = one_if (node_at f name)
+alive_at f name = node_count (node_at f name)

@@ -1,19 +1,16 @@
 -- The cuts at the levels of one set, by the depths of the nodes.
-use Rattle.std.specs.Prelude.{◌≡◌, ℕ, ◌+◌, ◌-◌, ◌<◌, ◌≤◌, ◌≤ℤ◌, ◌&&◌, ◌++◌, pos, Bool, List, length, All, sum_by}
+use Rattle.std.specs.Prelude.{◌≡◌, ℕ, ◌+◌, ◌<◌, ◌≤◌, ◌≤ℤ◌, ◌&&◌, ◌++◌, pos, Bool, List, length, All, sum_by}
 use Rattle.std.specs.Prelude.{nat_lt, cond}
 use Rattle.sg_sums.specs.Sums.{sum_below}
 use Rattle.sg_sums.specs.Sets.{chosen_below}
 use Rattle.sg_graph.specs.declared.cut.Cut.{Cut}
 use Rattle.sg_graph.specs.Web.{Graph, edge_at, edge_count}
-use Rattle.sg_graph.specs.OddCut.{crosses, cut_load, cut_weight}
-
--- how far two numbers are apart
-abbrev pub gap : ℕ → ℕ → ℕ
-gap x y = (x - y) + (y - x)
+use Rattle.sg_graph.specs.OddCut.{crosses, cut_load, odd_cut_weight}
+use Rattle.sg_sums.specs.Naturals.{gap}
 
 -- the node is at a depth below the level
-abbrev pub is_below : (ℕ → ℕ) → ℕ → ℕ → Bool
-is_below depth level x = nat_lt (depth x) level
+abbrev pub is_below_level : (ℕ → ℕ) → ℕ → ℕ → Bool
+is_below_level depth level x = nat_lt (depth x) level
 
 -- a depth strictly between 0 and y
 abbrev pub is_inside : ℕ → ℕ → Bool
@@ -33,13 +30,13 @@ pub record IsSlice (g : Graph) (depth : ℕ → ℕ) (y : ℕ) (c : Cut) : Type 
   pub level : ℕ
   pub above : 0 < level
   pub up_to : level ≤ y
-  pub is : c.edges ≡ chosen_below (crosses g (is_below depth level)) (edge_count g)
+  pub is : c.edges ≡ chosen_below (crosses g (is_below_level depth level)) (edge_count g)
 
 -- the cuts of one set: together they weigh its dual, at each edge what the depth changes over it, and there is at
 -- most one of them more than nodes strictly inside
 pub record Slices (g : Graph) (depth : ℕ → ℕ) (y : ℕ) (cuts : List Cut) : Type 0 where
   pub are : All (IsSlice g depth y) cuts
-  pub total : sum_by cut_weight cuts ≡ y
+  pub total : sum_by odd_cut_weight cuts ≡ y
   pub loads : (e : ℕ) → e < edge_count g → cut_load cuts e ≡ change_over g depth e
   pub few : length cuts ≤ inside_count g depth y + 1
 

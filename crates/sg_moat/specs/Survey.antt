@@ -56,14 +56,14 @@ abbrev pub arrival_at : List ℕ → ℕ → Arrival
 arrival_at heights x = record { height = noted_at heights x; node = x }
 
 -- over each edge from node x the height falls by at most twice the weight
-abbrev pub IsSpread : Graph → List ℕ → ℕ → Type 0
-IsSpread g heights x = (e z : ℕ) → Leads g e x z → noted_at heights x ≤ noted_at heights z + 2 * edge_weight g e
+abbrev pub IsSpreadFrom : Graph → List ℕ → ℕ → Type 0
+IsSpreadFrom g heights x = (e z : ℕ) → Leads g e x z → noted_at heights x ≤ noted_at heights z + 2 * edge_weight g e
 
 -- each node is spread, or waits for it
 pub record Searching (g : Graph) (heights near : List ℕ) (heap : List Arrival) : Type 0 where
   pub lists : Lists g heights near
   pub low : All (λ a. a.node < g.nodes) heap
-  pub waits : (x : ℕ) → IsSpread g heights x ⊎ Contains heap (arrival_at heights x)
+  pub waits : (x : ℕ) → IsSpreadFrom g heights x ⊎ Contains heap (arrival_at heights x)
 
 -- how far 64-bit heights may rise yet
 abbrev pub room_above : List ℕ → ℕ
@@ -94,7 +94,7 @@ pub record Seeds (g : Graph) (tables : List Routes) (members : List Member) (y :
   pub below : (f : ℕ → ℕ) → IsSeeded tables members y f → AreBelow f old → AreBelow f new
 
 -- arrivals from a node of this height over some edges at it
-pub record Spreads (g : Graph) (node height : ℕ) (edges old new before after : List ℕ)
+pub record SpreadsHeight (g : Graph) (node height : ℕ) (edges old new before after : List ℕ)
     (heap next : List Arrival) : Type 0 where
   pub goes : Goes g old new before after heap next
   pub spread : All (λ e. height ≤ noted_at new (other_end node (edge_at g e)) + 2 * edge_weight g e) edges

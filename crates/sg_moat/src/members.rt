@@ -1,6 +1,6 @@
 ghost use Rattle.std.specs.Prelude.{◌≡◌, ◌++◌, ◌∷◌, [], ◌<◌, ◌≤◌, ◌^◌, length, replicate, slice_set, IfOk, OnOk};
 ghost use Rattle.sg_arena.specs.Family.{IsAlive, dual_of, leaf_count};
-ghost use Rattle.sg_moat.specs.Members.{AreMembers, Climbed, list_at};
+ghost use Rattle.sg_moat.specs.Members.{AreMembers, Climbed, list_under};
 
 use super::NoMemory;
 use sg_arena::Arena;
@@ -47,7 +47,7 @@ impl Members {
     /// The members of the set with this name. It takes no memory.
     pub fn of(&self, name: usize) -> &[Member]
         requires { name < length self.now }
-        ensures { result.now ≡ list_at self.now name }
+        ensures { result.now ≡ list_under self.now name }
     {
         self.lists[name].as_slice()
     }
@@ -66,7 +66,7 @@ impl Members {
     // Adds a member to one set.
     fn note(&mut self, name: usize, member: Member) -> Result<(), NoMemory>
         requires { name < length self.old }
-        ensures { OnOk result (self.new ≡ slice_set self.old name (list_at self.old name ++ member ∷ [])) }
+        ensures { OnOk result (self.new ≡ slice_set self.old name (list_under self.old name ++ member ∷ [])) }
     {
         self.lists[name].push(member)
     }

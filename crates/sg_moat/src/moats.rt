@@ -2,8 +2,8 @@ ghost use Rattle.std.specs.Prelude.{◌≡◌, ◌<◌, [], length, replicate, I
 ghost use Rattle.sg_arena.specs.Family.{leaf_count};
 ghost use Rattle.sg_graph.specs.Incidence.{AreIncident};
 ghost use Rattle.sg_graph.specs.Join.{AreTerminals};
-ghost use Rattle.sg_graph.specs.OddCut.{CutsPack, cut_weight};
-ghost use Rattle.sg_graph.specs.Walk.{IsConnected};
+ghost use Rattle.sg_graph.specs.OddCut.{CutsPack, odd_cut_weight};
+ghost use Rattle.sg_graph.specs.Walk.{IsConnectedWeb};
 ghost use Rattle.sg_pairing.specs.Matching.{NoSlackIsNegative, sum_of_duals};
 ghost use Rattle.sg_moat.specs.Depths.{AreFull};
 ghost use Rattle.sg_moat.specs.Gathers.{Adds, Gathers};
@@ -38,13 +38,13 @@ pub fn levels(
     tables: &[Table],
     family: &Arena,
 ) -> Result<Cuts, NoMemory>
-    requires connected { IsConnected web.now }
+    requires connected { IsConnectedWeb web.now }
     requires terminals { AreTerminals web.now terminals.now }
     requires leaves { leaf_count family.now ≡ length terminals.now }
     requires tables { AreTerminalTables web.now terminals.now tables.now }
     requires slack { NoSlackIsNegative family.now (terminal_cost terminals.now tables.now) }
     ensures packs { IfOk result (CutsPack web.now terminals.now) }
-    ensures total { IfOk result (λ cuts. sum_by cut_weight cuts ≡ sum_of_duals family.now) }
+    ensures total { IfOk result (λ cuts. sum_by odd_cut_weight cuts ≡ sum_of_duals family.now) }
 {
     let _room = family.room();
     let _nodes = web.nodes();

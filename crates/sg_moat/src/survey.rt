@@ -3,7 +3,7 @@ ghost use Rattle.std.specs.Prelude.{All, Contains, OnOk};
 ghost use Rattle.std.specs.BinaryHeap.{heap_items};
 ghost use Rattle.sg_graph.specs.Incidence.{AreIncident, EndsAt};
 ghost use Rattle.sg_moat.specs.Depths.{AreFull, height_by};
-ghost use Rattle.sg_moat.specs.Survey.{Caps, Floods, Lists, Raises, Searching, Seeds, Spreads, Surveys, noted_at};
+ghost use Rattle.sg_moat.specs.Survey.{Caps, Floods, Lists, Raises, Searching, Seeds, SpreadsHeight, Surveys, noted_at};
 
 use super::NoMemory;
 use super::arrival::Arrival;
@@ -117,7 +117,7 @@ fn spread(
 ) -> Result<(), NoMemory>
     requires here { All (EndsAt web.now node) edges_here.now }
     requires count { length heights.old.items ≡ web.now.nodes }
-    ensures { OnOk result (Spreads web.now node height edges_here.now heights.old.items heights.new.items
+    ensures { OnOk result (SpreadsHeight web.now node height edges_here.now heights.old.items heights.new.items
         near.old.items near.new.items (heap_items heap.old) (heap_items heap.new)) }
 {
     let edges = web.edges().as_slice();

@@ -5,7 +5,7 @@ use Rattle.std.proofs.Math.Nat.{mod_self, mod-eq_of_lt, mod-lt}
 use Rattle.std.proofs.lemmas.List.Sums.{sum_by-cons, get_or-le-sum_by, position_or_len_is}
 use Rattle.std.proofs.lemmas.Bool.{eq-eqb, ne_eqb, cases_eq, cases_lt}
 use Rattle.sg_model.specs.Rotation.{following}
-use Rattle.sg_model.specs.Seam.{IsDistinct}
+use Rattle.sg_sums.specs.Sets.{DifferByCount}
 
 one_place : (x : ℕ) (xs : List ℕ) (i : ℕ) → i < length xs → get_or xs i 0 ≡ x → 1 ≤ count_by (λ y. eqb y x) xs
 one_place x xs i l e =
@@ -26,7 +26,7 @@ two_places x (y ∷ ys) (suc k) (suc i) lt l p q =
     omega (arith, sum_by-cons (λ y. cond (eqb y x) 1 0) y ys)
 
 -- an entry of a list without repeats is found at its place
-pub position_at : (xs : List ℕ) → IsDistinct xs → (i : ℕ) → i < length xs → position_or_len (λ y. eqb y (get_or xs i 0)) xs ≡ i
+pub position_at : (xs : List ℕ) → DifferByCount xs → (i : ℕ) → i < length xs → position_or_len (λ y. eqb y (get_or xs i 0)) xs ≡ i
 position_at xs once i l =
     position_or_len_is (λ y. eqb y (get_or xs i 0)) xs i 0 (omega arith)
     (λ k b. ne_eqb (get_or xs k 0) (get_or xs i 0) (λ (e : get_or xs k 0 ≡ get_or xs i 0). twice k b e))
@@ -37,20 +37,20 @@ position_at xs once i l =
         (λ y. eqb y (get_or xs i 0)) xs ≤ 1 = once (get_or xs i 0) in omega arith
 
 -- equal entries stand at one place
-pub same_place : (xs : List ℕ) → IsDistinct xs → (i j : ℕ) → i < length xs → j < length xs → get_or xs i 0 ≡ get_or xs j 0 → i ≡ j
+pub same_place : (xs : List ℕ) → DifferByCount xs → (i j : ℕ) → i < length xs → j < length xs → get_or xs i 0 ≡ get_or xs j 0 → i ≡ j
 same_place xs once i j b c e = sym (position_at xs once i b) ∙ ap (λ x. position_or_len (λ y. eqb y x) xs) e ∙ position_at xs once j c
 
 -- what follows the entry at i
-pub following_at : (xs : List ℕ) → IsDistinct xs → (i : ℕ) → i < length xs → following xs (get_or xs i 0) ≡ get_or xs ((i + 1) % length xs) 0
+pub following_at : (xs : List ℕ) → DifferByCount xs → (i : ℕ) → i < length xs → following xs (get_or xs i 0) ≡ get_or xs ((i + 1) % length xs) 0
 unfolding following
 following_at xs once i l = ap (λ k. get_or xs ((k + 1) % length xs) 0) (position_at xs once i l)
 
 -- what follows an entry that is not the last
-pub following_inner : (xs : List ℕ) → IsDistinct xs → (i : ℕ) → i + 1 < length xs → following xs (get_or xs i 0) ≡ get_or xs (i + 1) 0
+pub following_inner : (xs : List ℕ) → DifferByCount xs → (i : ℕ) → i + 1 < length xs → following xs (get_or xs i 0) ≡ get_or xs (i + 1) 0
 following_inner xs once i l = following_at xs once i (omega arith) ∙ ap (λ k. get_or xs k 0) (mod-eq_of_lt l)
 
 -- what follows the last
-pub following_last : (xs : List ℕ) → IsDistinct xs → (i : ℕ) → i + 1 ≡ length xs → following xs (get_or xs i 0) ≡ get_or xs 0 0
+pub following_last : (xs : List ℕ) → DifferByCount xs → (i : ℕ) → i + 1 ≡ length xs → following xs (get_or xs i 0) ≡ get_or xs 0 0
 following_last xs once i l =
     following_at xs once i (omega arith) ∙ ap (λ k. get_or xs k 0) (ap (λ n. n % length xs) l ∙ mod_self (length xs))
 
@@ -67,7 +67,7 @@ same_turn j k n a b e = by_ends (cases_lt (j + 1) n) (cases_lt (k + 1) n)
     by_ends (inr p) (inr q) = omega arith
 
 -- different places are followed by different entries
-pub following_apart : (xs : List ℕ) → IsDistinct xs → (j k : ℕ) → j < length xs → k < length xs →
+pub following_apart : (xs : List ℕ) → DifferByCount xs → (j k : ℕ) → j < length xs → k < length xs →
     following xs (get_or xs j 0) ≡ following xs (get_or xs k 0) → j ≡ k
 following_apart xs once j k b c e =
     same_turn j k (length xs) b c

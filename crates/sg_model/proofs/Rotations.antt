@@ -4,7 +4,7 @@ use Rattle.std.proofs.Math.Nat.{mod-lt}
 use Rattle.std.proofs.lemmas.Bool.{eq-eqb, eqb-true, ltb-true, lt-ltb, and_parts, and_from}
 use Rattle.sg_model.specs.Ising.{Ising, IsBond, bond_at}
 use Rattle.sg_model.specs.Rotation.{dart_count, rev, tail, head_of, is_dart_of, darts_of, following, next}
-use Rattle.sg_model.specs.Seam.{IsDistinct}
+use Rattle.sg_sums.specs.Sets.{DifferByCount}
 use Rattle.sg_model.specs.WellFormed.{IsInstance}
 use Rattle.sg_model.proofs.Darts.{tail_first, tail_second}
 use Rattle.sg_model.proofs.DartPairs.{dart_cases, rev_below}
@@ -16,7 +16,7 @@ module _ (inst : Ising) (good : IsInstance inst) where
   one_or_none false n e = omega arith
 
   -- no dart stands twice in the list of its spin
-  pub spin_distinct : (i : ℕ) → i < inst.n → IsDistinct (darts_of inst i)
+  pub spin_distinct : (i : ℕ) → i < inst.n → DifferByCount (darts_of inst i)
   spin_distinct i l x = one_or_none (is_dart_of inst i x) (count_by (λ y. eqb y x) (darts_of inst i)) (good.rotation.each_once i x l)
 
   is_dart_from : (i d : ℕ) → i < inst.n → 1 ≤ count_by (λ x. eqb x d) (darts_of inst i) → is_dart_of inst i d ≡ true

@@ -14,7 +14,7 @@ IsRefusalOf inst (BadRotation spin dart) = IsBadRotation inst spin dart
 IsRefusalOf inst (BadSeam bond) = IsRotation inst × IsBadSeam inst bond
 IsRefusalOf inst _ = ⊥
 
--- a refusal, or want of memory, which may come at any time
-abbrev pub IsFaultOf : Ising → Fault → Type 0
-IsFaultOf inst (Refused refusal) = IsRefusalOf inst refusal
-IsFaultOf inst NoMemory = Unit {0}
+-- a refusal that is so, or want of memory, which may come at any time
+abbrev pub OrNoMemory : (Refusal → Type 0) → Fault → Type 0
+OrNoMemory Refuses (Refused refusal) = Refuses refusal
+OrNoMemory Refuses NoMemory = Unit {0}

@@ -2,7 +2,7 @@ ghost use Rattle.std.specs.Prelude.{◌≡◌, ◌≤◌, ◌<◌, ◌*◌, ◌^
 ghost use Rattle.std.specs.List.{range_with_len};
 ghost use Rattle.sg_model.specs.Ising.{IsBond, bond_count};
 ghost use Rattle.sg_model.specs.WellFormed.{IsInstance};
-ghost use Rattle.sg_model.specs.Faults.{IsFaultOf};
+ghost use Rattle.sg_model.specs.Faults.{IsRefusalOf, OrNoMemory};
 ghost use Rattle.sg_sums.specs.Sets.{holds, is_marked};
 ghost use Rattle.sg_model.specs.Changes.{HasSameEnds, coupled_bonds, flipped_at, negated, opposite, recoupled, with_bonds, with_coupling, with_couplings, with_seam, with_seam_flipped};
 ghost use Rattle.sg_model.specs.Energy.{energy, product, weight as weight_of};
@@ -59,7 +59,7 @@ impl Instance {
             (λ inst. inst ≡ record { n = n; bonds = bonds; rotation = rotation; seam = seam }) }
         ensures well_formed { IfOk result IsInstance }
         ensures refused { IfErr result
-            (IsFaultOf (record { n = n; bonds = bonds; rotation = rotation; seam = seam })) }
+            (OrNoMemory (IsRefusalOf (record { n = n; bonds = bonds; rotation = rotation; seam = seam }))) }
     {
         let draft = Draft {
             n,
@@ -218,7 +218,7 @@ impl Instance {
     pub fn with_seam(self, seam: BondList) -> Result<Instance, Fault>
         ensures ok { IfOk result (λ copy. copy ≡ with_seam self seam) }
         ensures well_formed { IfOk result IsInstance }
-        ensures refused { IfErr result (IsFaultOf (with_seam self seam)) }
+        ensures refused { IfErr result (OrNoMemory (IsRefusalOf (with_seam self seam))) }
     {
         let alloc = self.bonds.allocator();
         let Instance {

@@ -12,14 +12,14 @@ pub record IsEvenCost (c : ℤ) : Type 0 where
   pub bounded : nat_of c ≤ cost_limit
 
 -- an even cost, the same both ways
-pub record IsFit (t : Table) (u v : ℕ) : Type 0 where
+pub record IsFitCost (t : Table) (u v : ℕ) : Type 0 where
   pub even : IsEvenCost (cost_of t u v)
   pub symmetric : cost_of t u v ≡ cost_of t v u
 
 -- a leaf's costs are fit, and it is joined to itself for nothing
 pub record IsFitRow (t : Table) (u : ℕ) : Type 0 where
   pub diagonal : cost_of t u u ≡ pos 0
-  pub fit : (v : ℕ) → v < t.size → IsFit t u v
+  pub fit : (v : ℕ) → v < t.size → IsFitCost t u v
 
 -- all leaves' costs are fit
 pub record AreFit (t : Table) : Type 0 where

@@ -1,6 +1,6 @@
 ghost use Rattle.std.specs.Prelude.{◌≡◌, ◌↔◌, ℕ, ◌<◌, ◌≤◌, IsTrue};
 ghost use Rattle.sg_limits.specs.Limits.{cost_limit};
-ghost use Rattle.sg_pairing.specs.Fit.{IsEvenCost, IsFit, IsFitRow, AreFit, IsNoShortcut, IsDirect};
+ghost use Rattle.sg_pairing.specs.Fit.{IsEvenCost, IsFitCost, IsFitRow, AreFit, IsNoShortcut, IsDirect};
 ghost use Rattle.sg_pairing.specs.Metric.{IsMetric, cost};
 
 use sg_limits::COST_LIMIT;
@@ -35,7 +35,7 @@ fn is_even_cost(cost: i64) -> bool
 fn is_fit(costs: &Costs, u: u32, v: u32) -> bool
     requires u { u < costs.now.size }
     requires v { v < costs.now.size }
-    ensures { IsTrue result ↔ IsFit costs.now u v }
+    ensures { IsTrue result ↔ IsFitCost costs.now u v }
 {
     is_even_cost(costs.cost(u, v)) && costs.cost(u, v) == costs.cost(v, u)
 }

@@ -22,7 +22,7 @@ use Rattle.sg_faces.specs.Sides.{sides_on}
 use Rattle.sg_faces.specs.Euler.{IsEuler}
 use Rattle.sg_faces.proofs.BareSpins.{faces_bonded}
 use Rattle.sg_planar.specs.BrokenLists.{FitsFaces, BreaksExactly}
-use Rattle.sg_planar.specs.Following.{is_unlike, Follows}
+use Rattle.sg_planar.specs.Following.{is_unlike, FollowsBonds}
 use Rattle.sg_planar.proofs.PlanarDuality.{planar_duality, CutBy}
 use Rattle.sg_planar.proofs.FaceNumbers.{AreFaceNumbers, labels_number}
 use Rattle.sg_planar.proofs.RotationSums.{numbered_embedding, spins_connected}
@@ -71,7 +71,7 @@ undone x y = grind arith
 
 module _ (inst : Ising) (good : IsInstance inst) where
   -- an assignment that is down where the ends ask for it breaks the bonds of the list and no others
-  pub breaks_from_follows : (list : List ℕ) (down : ℕ → Bool) → Follows inst (is_unlike inst list) down →
+  pub breaks_from_follows : (list : List ℕ) (down : ℕ → Bool) → FollowsBonds inst (is_unlike inst list) down →
       (s : List ℤ) → IsAssignment inst s → ((x : ℕ) → x < inst.n → is_down (spin s x) ≡ down x) → BreaksExactly inst s list
   breaks_from_follows list down follows s assigned same k l =
       let bond : IsBond inst.n (bond_at inst k) = good.draft.joined k (record { u = 0; v = 0; j = pos 0 }) l in
@@ -102,7 +102,7 @@ module _ (inst : Ising) (good : IsInstance inst) where
         ∙ same_parity (sides_on inst faces f negative) (sides_on inst faces f (holds list)) (sym (fits f b))
 
     -- so some assignment breaks exactly the bonds of the list
-    pub fitting_follows : (down : ℕ → Bool) × Follows inst (is_unlike inst list) down
+    pub fitting_follows : (down : ℕ → Bool) × FollowsBonds inst (is_unlike inst list) down
     fitting_follows = elim (cases_eq (bond_count inst) 0) [
       | inl none ↦ ((λ x. false), record { first_up = refl; across = λ k l. absurd (omega arith) })
       | inr ne ↦ from_cut (cut (omega arith))
@@ -118,7 +118,7 @@ module _ (inst : Ising) (good : IsInstance inst) where
             (numbered_embedding inst good (face_at faces) (faces_before inst (dart_count inst)) numbers) (is_unlike inst list) good.draft.has_spin
             (spins_connected inst good connected) (omega arith) (omega arith) (λ f l. even_on_faces f (omega (arith, labels.counts)))
 
-        from_cut : CutBy (bond_count inst) (tail inst) (is_unlike inst list) → (down : ℕ → Bool) × Follows inst (is_unlike inst list) down
+        from_cut : CutBy (bond_count inst) (tail inst) (is_unlike inst list) → (down : ℕ → Bool) × FollowsBonds inst (is_unlike inst list) down
         from_cut c = (
           c.values,
           record {

@@ -6,7 +6,7 @@ use Rattle.std.proofs.lemmas.Bool.{cases_eq}
 use Rattle.std.proofs.lemmas.List.{length-set, length-map, get_or-map, get_or-set_same, get_or-set_other, length-replicate}
 use Rattle.std.proofs.lemmas.List.Elements.{All-nil, All-more, All-weaker, All-from_get_or}
 use Rattle.sg_sums.specs.Parity.{xor, parity_by}
-use Rattle.sg_sums.specs.Sets.{is_marked}
+use Rattle.sg_sums.specs.Sets.{is_marked, Stands}
 use Rattle.sg_sums.proofs.RisingLists.{parity_of_rising}
 use Rattle.sg_sums.proofs.MarkLaws.{none_free}
 use Rattle.sg_model.specs.Ising.{Ising, bond_at, bond_count}
@@ -20,9 +20,9 @@ use Rattle.sg_model.proofs.DartPairs.{dart_cases}
 use Rattle.sg_model.proofs.Rotations.{place_at}
 use Rattle.sg_model.proofs.Paths.{dart_of_step}
 use Rattle.sg_model.proofs.BrokenParity.{is_down}
-use Rattle.sg_walk.specs.Walk.{IsFoundFrom, IsNoted}
+use Rattle.sg_walk.specs.Walk.{IsFoundFrom}
 use Rattle.sg_planar.specs.BrokenLists.{BreaksExactly, FitsFaces}
-use Rattle.sg_planar.specs.Following.{is_unlike, Follows, value_of, IsWalkOrder, IsRight, HeadsRight, SetsHeads, HeadsSet, SetTo, TellsDown}
+use Rattle.sg_planar.specs.Following.{is_unlike, FollowsBonds, value_of, IsWalkOrder, IsRight, HeadsRight, SetsHeads, HeadsSet, SetTo, TellsDown}
 use Rattle.sg_planar.specs.Fit.{Embedding, IsPlanar}
 use Rattle.sg_planar.proofs.FittingBonds.{breaks_from_follows, fitting_follows}
 
@@ -44,7 +44,7 @@ ne_is_xor false true = refl
 ne_is_xor false false = refl
 
 -- over a dart the value changes as its bond asks for it
-pub follows_dart : (inst : Ising) (unlike t : ℕ → Bool) → Follows inst unlike t → (d : ℕ) → d < dart_count inst →
+pub follows_dart : (inst : Ising) (unlike t : ℕ → Bool) → FollowsBonds inst unlike t → (d : ℕ) → d < dart_count inst →
     t (head_of inst d) ≡ xor (t (tail inst d)) (unlike (d / 2))
 follows_dart inst unlike t h d l = by_dart (dart_cases d)
   where
@@ -86,7 +86,7 @@ module _ (inst : Ising) (unlike : ℕ → Bool) where
     sets = λ t follows right. step t follows right (h.sets t follows right);
   }
     where
-      step : (t : ℕ → Bool) → Follows inst unlike t → IsRight t old spin → SetsHeads inst t (take i darts) old now →
+      step : (t : ℕ → Bool) → FollowsBonds inst unlike t → IsRight t old spin → SetsHeads inst t (take i darts) old now →
           SetsHeads inst t (take (i + 1) darts) old (set now to v)
       step t follows right s = record {
         kept = λ x r. still x (s.kept x r);
@@ -117,7 +117,7 @@ module _ (inst : Ising) (good : IsInstance inst) (unlike : ℕ → Bool) (order 
   }
 
   -- the spins up to the next are right
-  pub right_in_order : (next : ℕ) (down : List Bool) → SetTo inst unlike order next down → (t : ℕ → Bool) → Follows inst unlike t →
+  pub right_in_order : (next : ℕ) (down : List Bool) → SetTo inst unlike order next down → (t : ℕ → Bool) → FollowsBonds inst unlike t →
       (k : ℕ) → k < length order → k < next + 1 → IsRight t down (get_or order k 0)
   right_in_order next down h t follows k l b = elim (cases_eq k 0) [
     | inl e ↦ subst (IsRight t down) (sym (ap (λ j. get_or order j 0) e ∙ walk.root_first.1)) (h.first t follows)
@@ -142,10 +142,10 @@ module _ (inst : Ising) (good : IsInstance inst) (unlike : ℕ → Bool) (order 
     heads = heads';
   }
     where
-      set : (t : ℕ → Bool) → Follows inst unlike t → SetsHeads inst t (darts_of inst (get_or order next 0)) old now
+      set : (t : ℕ → Bool) → FollowsBonds inst unlike t → SetsHeads inst t (darts_of inst (get_or order next 0)) old now
       set t follows = v.sets t follows (right_in_order next old h t follows next l (omega arith))
 
-      heads' : (t : ℕ → Bool) → Follows inst unlike t → (k : ℕ) → k < next + 1 → HeadsRight inst t now (darts_of inst (get_or order k 0))
+      heads' : (t : ℕ → Bool) → FollowsBonds inst unlike t → (k : ℕ) → k < next + 1 → HeadsRight inst t now (darts_of inst (get_or order k 0))
       heads' t follows k b = elim (cases_eq k next) [
         | inl e ↦ subst (λ j. HeadsRight inst t now (darts_of inst (get_or order j 0))) (sym e) (set t follows).heads
         | inr ne ↦ All-weaker (λ d. IsRight t old (head_of inst d)) (λ d. IsRight t now (head_of inst d)) (λ d r. (set t follows).kept (head_of inst d) r)
@@ -156,7 +156,7 @@ module _ (inst : Ising) (good : IsInstance inst) (unlike : ℕ → Bool) (order 
   pub set_to_all : (next : ℕ) (down : List Bool) → length order ≤ next → SetTo inst unlike order next down → TellsDown inst unlike down
   set_to_all next down all h = record {
     lengths = h.lengths;
-    right = λ t follows x l. (let n : IsNoted order x = walk.complete x l in
+    right = λ t follows x l. (let n : Stands order x = walk.complete x l in
         subst (IsRight t down) n.2 (right_in_order next down h t follows n.0 n.1 (omega (arith, n.1))));
   }
 
@@ -186,7 +186,7 @@ module _ (inst : Ising) (down : List Bool) (lengths : length down ≡ inst.n) wh
   value_down x l = ap is_down (value_at x l) ∙ down_value (is_marked down x)
 
   -- and which breaks the bonds of the list, where the marks are those of an assignment that follows
-  pub values_break : (list : List ℕ) → IsInstance inst → (t : ℕ → Bool) → Follows inst (is_unlike inst list) t →
+  pub values_break : (list : List ℕ) → IsInstance inst → (t : ℕ → Bool) → FollowsBonds inst (is_unlike inst list) t →
       ((x : ℕ) → x < inst.n → IsRight t down x) → (spin (map value_of down) 0 ≡ pos 1) × BreaksExactly inst (map value_of down) list
   values_break list good t follows right = (
     value_at 0 good.draft.has_spin ∙ ap value_of (right 0 good.draft.has_spin ∙ follows.first_up),
@@ -199,7 +199,7 @@ pub walked_spins : (p : Embedding) → IsPlanar p → IsConnected p.instance →
     ((k : ℕ) → k < bond_count p.instance → is_marked unlike k ≡ is_unlike p.instance list k) → TellsDown p.instance (is_marked unlike) down →
     (spin (map value_of down) 0 ≡ pos 1) × BreaksExactly p.instance (map value_of down) list
 walked_spins p h connected list fits unlike down marks told =
-    let t : (t : ℕ → Bool) × Follows p.instance (is_unlike p.instance list) t =
+    let t : (t : ℕ → Bool) × FollowsBonds p.instance (is_unlike p.instance list) t =
     fitting_follows p.instance h.instance p.faces h.faces connected h.genus_zero list fits in
     values_break p.instance down told.lengths list h.instance t.0 t.1
     (told.right t.0 (record { first_up = t.1.first_up; across = λ k l. marks k l ∙ t.1.across k l }))

@@ -11,7 +11,7 @@ use Rattle.sg_sums.proofs.Ranges.{parity_by_range}
 use Rattle.sg_sums.proofs.Recounting.{parity_below_first, parity_by_index, parity_by_counts, parity_below_by_pairs, All_range_at}
 use Rattle.sg_model.specs.Ising.{Ising, bond_at, bond_count}
 use Rattle.sg_model.specs.Rotation.{dart_count, tail, is_dart_of, darts_of, following, next}
-use Rattle.sg_model.specs.Seam.{IsDistinct}
+use Rattle.sg_sums.specs.Sets.{DifferByCount}
 use Rattle.sg_model.specs.WellFormed.{IsInstance}
 use Rattle.sg_model.specs.Connected.{JoinedBy, IsWalk, Reached, IsConnected, all_bonds}
 use Rattle.sg_model.proofs.Darts.{tail_first, tail_second, rev_first, rev_second}
@@ -21,7 +21,7 @@ use Rattle.sg_planar.proofs.FaceNumbers.{AreFaceNumbers}
 use Rattle.sg_planar.proofs.Embeddings.{IsEmbedding, SpinsConnected}
 
 -- to go one step on round a cycle changes no sum over it
-pub following_sum : (h : ℕ → Bool) (xs : List ℕ) → IsDistinct xs → parity_by (λ d. h (following xs d)) xs ≡ parity_by h xs
+pub following_sum : (h : ℕ → Bool) (xs : List ℕ) → DifferByCount xs → parity_by (λ d. h (following xs d)) xs ≡ parity_by h xs
 following_sum h xs once =
     parity_by_index (λ d. h (following xs d)) xs
     ∙ parity_below-same (λ i. h (following xs (get_or xs i 0))) (λ i. g ((i + 1) % length xs)) (length xs) (λ i l. ap h (following_at xs once i l))
@@ -41,7 +41,7 @@ following_sum h xs once =
         inside i l = let b : i + 1 < suc q = omega arith in mod-eq_of_lt b ∙ omega arith
 
 -- what stays over each step of a cycle is one value on it
-pub constant_on_cycle : (g : ℕ → Bool) (xs : List ℕ) → IsDistinct xs → All (λ d. g (following xs d) ≡ g d) xs →
+pub constant_on_cycle : (g : ℕ → Bool) (xs : List ℕ) → DifferByCount xs → All (λ d. g (following xs d) ≡ g d) xs →
     (i : ℕ) → i < length xs → g (get_or xs i 0) ≡ g (get_or xs 0 0)
 constant_on_cycle g xs once same zero l = refl
 constant_on_cycle g xs once same (suc i) l =

@@ -1,7 +1,5 @@
 -- Fit for the planar method: a sum within the limit, and of genus zero by Euler's formula.
 use Rattle.std.specs.Prelude.{◌≡◌, ◌≢◌, ◌<◌, ◌≤◌, pos}
-use Rattle.sg_model.specs.declared.refusal.Fault.{Fault}
-use Rattle.sg_model.specs.declared.refusal.Fault.TheVariants.{Refused, NoMemory}
 use Rattle.sg_model.specs.declared.refusal.Refusal.{Refusal}
 use Rattle.sg_model.specs.declared.refusal.Refusal.TheVariants.{SumTooLarge, NotPlanar}
 use Rattle.sg_model.specs.Ising.{Ising}
@@ -10,6 +8,7 @@ use Rattle.sg_model.specs.Energy.{weight}
 use Rattle.sg_faces.specs.Faces.{Labelling, IsFaceLabels}
 use Rattle.sg_faces.specs.Euler.{IsEuler}
 use Rattle.sg_limits.specs.Limits.{sum_limit, forced_limit}
+use Rattle.sg_model.specs.Faults.{OrNoMemory}
 
 -- the two facts that every planar solver asks for
 pub record IsFit (inst : Ising) : Type 0 where
@@ -21,11 +20,6 @@ abbrev pub IsUnfit : Ising → Refusal → Type 0
 IsUnfit inst (SumTooLarge sum) = (sum_limit < weight inst) × (sum ≡ pos (weight inst))
 IsUnfit inst (NotPlanar e) = (weight inst ≤ sum_limit) × IsEuler inst e × (e ≢ pos 2)
 IsUnfit inst _ = ⊥
-
--- the fact that fails, or want of memory, which may come at any time
-abbrev pub IsUnfitFault : Ising → Fault → Type 0
-IsUnfitFault inst (Refused refusal) = IsUnfit inst refusal
-IsUnfitFault inst NoMemory = Unit {0}
 
 -- an instance and its faces
 pub record Embedding : Type 0 where

@@ -1,19 +1,19 @@
 -- Spins that follow the bonds: which bonds are to join unlike spins, and how a walk gives the spins their values.
 use Rattle.std.specs.Prelude.{◌≡◌, ℕ, ◌<◌, ℤ, pos, negsuc, Bool, false, cond, List, length, slice_index, All}
 use Rattle.sg_sums.specs.Parity.{xor}
-use Rattle.sg_sums.specs.Sets.{holds, is_marked}
+use Rattle.sg_sums.specs.Sets.{holds, is_marked, Stands}
 use Rattle.sg_model.specs.Ising.{Ising, bond_at, bond_count}
 use Rattle.sg_model.specs.Rotation.{darts_of, head_of}
 use Rattle.sg_model.specs.Broken.{is_negative}
 use Rattle.sg_model.specs.Connected.{all_bonds}
-use Rattle.sg_walk.specs.Walk.{IsFoundFrom, IsNoted}
+use Rattle.sg_walk.specs.Walk.{IsFoundFrom}
 
 -- a bond joins unlike spins where it is negative or broken, and not both
 abbrev pub is_unlike : Ising → List ℕ → ℕ → Bool
 is_unlike inst broken k = xor (is_negative (bond_at inst k)) (holds broken k)
 
 -- spin 0 is up, and the two ends differ on exactly the bonds that pass; `down` tells which spins are down
-pub record Follows (inst : Ising) (unlike down : ℕ → Bool) : Type 0 where
+pub record FollowsBonds (inst : Ising) (unlike down : ℕ → Bool) : Type 0 where
   pub first_up : down 0 ≡ false
   pub across : (k : ℕ) → k < bond_count inst →
       unlike k ≡ xor (down (bond_at inst k).u) (down (bond_at inst k).v)
@@ -27,7 +27,7 @@ pub record IsWalkOrder (inst : Ising) (order : List ℕ) : Type 0 where
   pub root_first : (0 < length order) × (slice_index order 0 ≡ 0)
   pub below : (k : ℕ) → k < length order → slice_index order k < inst.n
   pub found_from : (k : ℕ) → 0 < k → k < length order → IsFoundFrom inst all_bonds order k
-  pub complete : (x : ℕ) → x < inst.n → IsNoted order x
+  pub complete : (x : ℕ) → x < inst.n → Stands order x
 
 -- the mark of spin x is what t says
 abbrev pub IsRight : (ℕ → Bool) → List Bool → ℕ → Type 0
@@ -46,17 +46,17 @@ pub record SetsHeads (inst : Ising) (t : ℕ → Bool) (darts : List ℕ) (old n
 pub record HeadsSet (inst : Ising) (unlike : ℕ → Bool) (spin : ℕ) (darts : List ℕ)
     (old now : List Bool) : Type 0 where
   pub lengths : length now ≡ length old
-  pub sets : (t : ℕ → Bool) → Follows inst unlike t → IsRight t old spin → SetsHeads inst t darts old now
+  pub sets : (t : ℕ → Bool) → FollowsBonds inst unlike t → IsRight t old spin → SetsHeads inst t darts old now
 
 -- the same for the darts of the first `next` spins of the order
 pub record SetTo (inst : Ising) (unlike : ℕ → Bool) (order : List ℕ) (next : ℕ)
     (down : List Bool) : Type 0 where
   pub lengths : length down ≡ inst.n
-  pub first : (t : ℕ → Bool) → Follows inst unlike t → IsRight t down 0
-  pub heads : (t : ℕ → Bool) → Follows inst unlike t → (k : ℕ) → k < next →
+  pub first : (t : ℕ → Bool) → FollowsBonds inst unlike t → IsRight t down 0
+  pub heads : (t : ℕ → Bool) → FollowsBonds inst unlike t → (k : ℕ) → k < next →
       HeadsRight inst t down (darts_of inst (slice_index order k))
 
 -- the marks are those of each assignment that follows the bonds
 pub record TellsDown (inst : Ising) (unlike : ℕ → Bool) (down : List Bool) : Type 0 where
   pub lengths : length down ≡ inst.n
-  pub right : (t : ℕ → Bool) → Follows inst unlike t → (x : ℕ) → x < inst.n → IsRight t down x
+  pub right : (t : ℕ → Bool) → FollowsBonds inst unlike t → (x : ℕ) → x < inst.n → IsRight t down x

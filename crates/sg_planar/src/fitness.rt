@@ -3,7 +3,8 @@ ghost use Rattle.sg_model.specs.Connected.{AreLeasts};
 ghost use Rattle.sg_faces.specs.Faces.{IsFaceLabels};
 ghost use Rattle.sg_faces.specs.Euler.{IsEuler};
 ghost use Rattle.sg_walk.specs.Naming.{AreComponents};
-ghost use Rattle.sg_planar.specs.Fit.{IsFit, IsUnfitFault};
+ghost use Rattle.sg_planar.specs.Fit.{IsFit, IsUnfit};
+ghost use Rattle.sg_model.specs.Faults.{OrNoMemory};
 
 use super::NoMemory;
 use sg_faces::{Faces, trace};
@@ -44,7 +45,7 @@ pub(crate) fn judge(alloc: Global, inst: &Instance) -> Result<Drawing, Fault>
     ensures fit { IfOk result (λ _. IsFit inst.now) }
     ensures faces { IfOk result (λ d. IsFaceLabels inst.now d.faces) }
     ensures components { IfOk result (λ d. AreComponents inst.now d.components.names d.components.leasts) }
-    ensures unfit { IfErr result (IsUnfitFault inst.now) }
+    ensures unfit { IfErr result (OrNoMemory (IsUnfit inst.now)) }
 {
     let sum = inst.weight();
     if sum > SUM_LIMIT {

@@ -5,7 +5,8 @@ ghost use Rattle.sg_model.specs.Energy.{weight};
 ghost use Rattle.sg_model.specs.Changes.{HasSameDrawing, negated, with_coupling, with_couplings, with_seam_flipped};
 ghost use Rattle.sg_model.specs.Connected.{IsConnected};
 ghost use Rattle.sg_walk.specs.Naming.{AreComponents};
-ghost use Rattle.sg_planar.specs.Fit.{IsFit, IsPlanar, IsUnfitFault};
+ghost use Rattle.sg_planar.specs.Fit.{IsFit, IsPlanar, IsUnfit};
+ghost use Rattle.sg_model.specs.Faults.{OrNoMemory};
 
 use super::NoMemory;
 use super::fitness::{Drawing, judge};
@@ -54,7 +55,7 @@ impl Planar {
         ensures fit { IfOk result (λ _. IsFit instance) }
         ensures planar { IfOk result IsPlanar }
         ensures handed_back { IfErr result (λ e. e.instance ≡ instance) }
-        ensures unfit { IfErr result (λ e. IsUnfitFault instance e.fault) }
+        ensures unfit { IfErr result (λ e. OrNoMemory (IsUnfit instance) e.fault) }
     {
         match judge(alloc, &instance) {
             Ok(drawing) => {
@@ -74,7 +75,7 @@ impl Planar {
         ensures instance { IfOk result (λ p. p.instance ≡ instance) }
         ensures fit { IfOk result (λ _. IsFit instance) }
         ensures planar { IfOk result IsPlanar }
-        ensures unfit { IfErr result (IsUnfitFault instance) }
+        ensures unfit { IfErr result (OrNoMemory (IsUnfit instance)) }
     {
         match Planar::new(alloc, instance) {
             Ok(planar) => Ok(planar),

@@ -9,7 +9,7 @@ use Rattle.sg_sums.proofs.RisingLists.{holds-chosen_below}
 use Rattle.sg_sums.proofs.SumLaws.{sum_below-add, sum_below-same, sum_by_is_sum_below}
 use Rattle.sg_graph.specs.declared.cut.Cut.{Cut}
 use Rattle.sg_graph.specs.Join.{IsJoin, IsLeastJoin}
-use Rattle.sg_graph.specs.OddCut.{CutsPack, cut_weight}
+use Rattle.sg_graph.specs.OddCut.{CutsPack, odd_cut_weight}
 use Rattle.sg_graph.specs.Web.{Graph, degree_of, edge_count, edge_weight, ends_at, ends_on, total_weight, weight_at, weight_of}
 use Rattle.sg_graph.proofs.WalkEnds.{walk_below}
 use Rattle.sg_postman.specs.declared.steps.Step.{Step}
@@ -70,7 +70,7 @@ module _ (g : Graph) (join left : List ℕ) (is : IsJoin g (odd_nodes g) join)
 
     -- an Euler tour of the copies is a least tour
     pub euler_least : (weight : ℤ) (cuts : List Cut) → IsLeastJoin g (odd_nodes g) join → weight ≡ pos (total_weight g + weight_of g join)
-        → CutsPack g (odd_nodes g) cuts → sum_by cut_weight cuts ≡ 2 * weight_of g join → IsLeastTour g weight ss cuts
+        → CutsPack g (odd_nodes g) cuts → sum_by odd_cut_weight cuts ≡ 2 * weight_of g join → IsLeastTour g weight ss cuts
     euler_least weight cuts least weighs packs tight = record {
       tour = euler_tour;
       weighs = weighs ∙ ap (λ n. pos n) (sym euler_weighs);

@@ -6,7 +6,7 @@ use Rattle.sg_graph.specs.Walk.{other_end}
 use Rattle.sg_graph.specs.Web.{Graph, edge_at}
 use Rattle.sg_graph.proofs.Incidences.{incident_ends, incident_leads}
 use Rattle.sg_graph.proofs.Walks.{leads_other}
-use Rattle.sg_postman.specs.Tracing.{AreTried, IsSpent, left_of}
+use Rattle.sg_postman.specs.Tracing.{AreTried, IsUsedUp, left_of}
 
 module _ (g : Graph) (lists : List (List ℕ)) (incident : AreIncident g lists) (x : ℕ) (low : x < g.nodes) where
   -- each edge of a node's list ends there
@@ -14,7 +14,7 @@ module _ (g : Graph) (lists : List (List ℕ)) (incident : AreIncident g lists) 
   all_end = incident_ends g lists incident x low (list_at lists x) refl
 
   -- where no edge of the list has a copy left, the node is spent
-  pub spent_at : (left : List ℕ) → ((k : ℕ) → k < length (list_at lists x) → left_of left (slice_index (list_at lists x) k) ≡ 0) → IsSpent g left x
+  pub spent_at : (left : List ℕ) → ((k : ℕ) → k < length (list_at lists x) → left_of left (slice_index (list_at lists x) k) ≡ 0) → IsUsedUp g left x
   spent_at left none e ends =
       let found : Contains (list_at lists x) e =
       incident_leads g lists incident x low (list_at lists x) refl e (other_end x (edge_at g e)) (leads_other g e x ends) in

@@ -5,13 +5,13 @@ use Rattle.std.proofs.lemmas.List.{get_or-set_same, get_or-set_other}
 use Rattle.std.proofs.lemmas.List.Sums.{sum_by-cons}
 use Rattle.sg_sums.proofs.SumLaws.{sum_below-add, sum_below-same, sum_below-zero, sum_below_pick}
 use Rattle.sg_graph.specs.Web.{Graph, IsWeb, edge_at, edge_count, ends_at, ends_on}
-use Rattle.sg_graph.specs.Walk.{Leads, IsWalk, IsConnected}
+use Rattle.sg_graph.specs.Walk.{Leads, IsWebWalk, IsConnectedWeb}
 use Rattle.sg_graph.specs.Incidence.{EndsAt}
 use Rattle.sg_graph.specs.declared.web.Edge.{Edge}
 use Rattle.sg_graph.proofs.Walks.{leads_other, turned, leads_low}
 use Rattle.sg_postman.specs.declared.steps.Step.{Step}
 use Rattle.sg_postman.specs.Tour.{AreSteps, end_of, times}
-use Rattle.sg_postman.specs.Tracing.{AreSpent, IsEulerTour, IsSpent, IsTracing, at_node, left_of, one_less, onward, open_ends}
+use Rattle.sg_postman.specs.Tracing.{AreUsedUp, IsEulerTour, IsUsedUp, IsTracing, at_node, left_of, one_less, onward, open_ends}
 use Rattle.sg_postman.proofs.Trails.{end-append, times-append, trail-append, trail-last}
 
 -- one copy less of one edge, and all others as before
@@ -97,12 +97,12 @@ same_ends g e a b x y l m = elim l.ways [
   | inr p ↦ elim m.ways [ inl q ↦ inl (sym p.0 ∙ q.0) | inr q ↦ inr (sym p.0 ∙ q.0) ]
 ]
 
-spent-less : (g : Graph) (old new : List ℕ) → ((k : ℕ) → left_of new k ≤ left_of old k) → (x : ℕ) (ss : List Step) → AreSpent g old x ss → AreSpent g new x ss
+spent-less : (g : Graph) (old new : List ℕ) → ((k : ℕ) → left_of new k ≤ left_of old k) → (x : ℕ) (ss : List Step) → AreUsedUp g old x ss → AreUsedUp g new x ss
 spent-less g old new less x [] h = tt
 spent-less g old new less x (s ∷ ss) h = (λ e ends. omega (arith, less e, h.0 e ends), spent-less g old new less s.to ss h.1)
 
-spent-append : (g : Graph) (left : List ℕ) (x : ℕ) (ss : List Step) (s : Step) → AreSpent g left x ss
-    → IsSpent g left (end_of x ss) → AreSpent g left x (ss ++ s ∷ [])
+spent-append : (g : Graph) (left : List ℕ) (x : ℕ) (ss : List Step) (s : Step) → AreUsedUp g left x ss
+    → IsUsedUp g left (end_of x ss) → AreUsedUp g left x (ss ++ s ∷ [])
 spent-append g left x [] s h last = (last, tt)
 spent-append g left x (r ∷ ss) s h last = (h.0, spent-append g left r.to ss s h.1 last)
 
@@ -151,7 +151,7 @@ module _ (g : Graph) (web : IsWeb g) (copies : ℕ → ℕ) where
   stands_low left out back tracing = trail_low 0 out web.has_node tracing.out_trail
 
   -- where nothing is left, no end is open
-  none_open : (left : List ℕ) (x : ℕ) → IsSpent g left x → open_ends g left x ≡ 0
+  none_open : (left : List ℕ) (x : ℕ) → IsUsedUp g left x → open_ends g left x ≡ 0
   none_open left x spent = sum_below-zero (λ k. left_of left k * ends_at g x k) (edge_count g) each
     where
       each : (k : ℕ) → k < edge_count g → left_of left k * ends_at g x k ≡ 0
@@ -162,7 +162,7 @@ module _ (g : Graph) (web : IsWeb g) (copies : ℕ → ℕ) where
 
   -- one is stuck only where the done trail stands
   pub stuck : (left : List ℕ) (out back : List Step) → IsTracing g copies left out back → end_of 0 out < g.nodes
-      → IsSpent g left (end_of 0 out) → end_of 0 back ≡ end_of 0 out
+      → IsUsedUp g left (end_of 0 out) → end_of 0 back ≡ end_of 0 out
   stuck left out back tracing low spent = elim (cases_eq (end_of 0 back) (end_of 0 out)) [
     | inl same ↦ same
     | inr other ↦
@@ -172,7 +172,7 @@ module _ (g : Graph) (web : IsWeb g) (copies : ℕ → ℕ) where
   ]
 
   -- a step back from a node at which no copy is left
-  pub backward : (left : List ℕ) (out back : List Step) (s : Step) → IsTracing g copies left (out ++ s ∷ []) back → s.to < g.nodes → IsSpent g left s.to
+  pub backward : (left : List ℕ) (out back : List Step) (s : Step) → IsTracing g copies left (out ++ s ∷ []) back → s.to < g.nodes → IsUsedUp g left s.to
       → IsTracing g copies left out (back ++ record { edge = s.edge; to = end_of 0 out } ∷ [])
   backward left out back s tracing low spent =
       let here : end_of 0 (out ++ s ∷ []) ≡ s.to = end-append 0 out s in
@@ -193,31 +193,31 @@ module _ (g : Graph) (web : IsWeb g) (copies : ℕ → ℕ) where
   -- the trail back from a step with nothing left at its end
   pub backed : (left : List ℕ) (out old back more : List Step) (s : Step) → IsTracing g copies left old back → old ≡ out ++ s ∷ []
       → more ≡ back ++ record { edge = s.edge; to = end_of 0 out } ∷ []
-      → IsSpent g left (end_of 0 old) → IsTracing g copies left out more
+      → IsUsedUp g left (end_of 0 old) → IsTracing g copies left out more
   backed left out old back more s tracing e m spent =
       let here : end_of 0 old ≡ s.to = ap (end_of 0) e ∙ end-append 0 out s in
       rw m (backward left out back s (subst (λ o. IsTracing g copies left o back) e tracing)
-      (rw (← here) (stands_low left old back tracing)) (subst (IsSpent g left) here spent))
+      (rw (← here) (stands_low left old back tracing)) (subst (IsUsedUp g left) here spent))
 
-  first_spent : (left : List ℕ) (x : ℕ) (ss : List Step) → AreSpent g left x ss → IsSpent g left (end_of x ss) → IsSpent g left x
+  first_spent : (left : List ℕ) (x : ℕ) (ss : List Step) → AreUsedUp g left x ss → IsUsedUp g left (end_of x ss) → IsUsedUp g left x
   first_spent left x [] h last = last
   first_spent left x (s ∷ ss) h last = h.0
 
   -- what an edge of the trail leads to is spent
-  onto_spent : (left : List ℕ) (e a b x : ℕ) (ss : List Step) → Leads g e a b → AreSteps g x ss → AreSpent g left x ss
-      → IsSpent g left (end_of x ss) → 0 < times e ss → IsSpent g left b
+  onto_spent : (left : List ℕ) (e a b x : ℕ) (ss : List Step) → Leads g e a b → AreSteps g x ss → AreUsedUp g left x ss
+      → IsUsedUp g left (end_of x ss) → 0 < times e ss → IsUsedUp g left b
   onto_spent left e a b x [] l t h last some = absurd (omega (arith, some))
   onto_spent left e a b x (s ∷ ss) l t h last some = elim (cases_eq s.edge e) [
     | inl here ↦ elim (same_ends g e a b x s.to l (subst (λ k. Leads g k x s.to) here t.0)) [
-      | inl first ↦ subst (IsSpent g left) (sym first) h.0
-      | inr second ↦ subst (IsSpent g left) (sym second) (first_spent left s.to ss h.1 last)
+      | inl first ↦ subst (IsUsedUp g left) (sym first) h.0
+      | inr second ↦ subst (IsUsedUp g left) (sym second) (first_spent left s.to ss h.1 last)
     ]
     | inr other ↦ onto_spent left e a b s.to ss l t.1 h.1 last (later s ss e (false_from_ne_true (eqb s.edge e) (λ h. other (eqb-true s.edge e h))) some)
   ]
 
   -- back at node 0, with no copy left there: an Euler tour
-  pub finished : (left : List ℕ) (back : List Step) → IsConnected g → ((e : ℕ) → e < edge_count g → 0 < copies e)
-      → IsTracing g copies left [] back → IsSpent g left 0 → IsEulerTour g copies back
+  pub finished : (left : List ℕ) (back : List Step) → IsConnectedWeb g → ((e : ℕ) → e < edge_count g → 0 < copies e)
+      → IsTracing g copies left [] back → IsUsedUp g left 0 → IsEulerTour g copies back
   finished left back connected some tracing spent = record {
     trail = tracing.back_trail;
     closed = closed;
@@ -229,12 +229,12 @@ module _ (g : Graph) (web : IsWeb g) (copies : ℕ → ℕ) where
       closed : end_of 0 back ≡ 0
       closed = stuck left [] back tracing web.has_node spent
 
-      reach : (x : ℕ) (es : List ℕ) (y : ℕ) → IsSpent g left x → IsWalk g x es y → IsSpent g left y
-      reach x [] y here w = subst (IsSpent g left) w here
+      reach : (x : ℕ) (es : List ℕ) (y : ℕ) → IsUsedUp g left x → IsWebWalk g x es y → IsUsedUp g left y
+      reach x [] y here w = subst (IsUsedUp g left) w here
       reach x (e ∷ es) y here w =
           let out = here e (w.1.below, elim w.1.ways [ inl p ↦ inl p.0 | inr p ↦ inr p.1 ]) in
           let stands : 0 < times e back = omega (arith, tracing.copies_are e w.1.below, out, some e w.1.below) in
           reach w.0 es y (onto_spent left e x w.0 0 back w.1 tracing.back_trail tracing.spent (rw closed spent) stands) w.2
 
-      all_spent : (x : ℕ) → x < g.nodes → IsSpent g left x
+      all_spent : (x : ℕ) → x < g.nodes → IsUsedUp g left x
       all_spent x l = let r = connected x l in reach 0 r.0 x spent r.1

@@ -2,7 +2,7 @@
 use Rattle.std.proofs.Common.{◌≡◌, ◌∙◌, sym, ap, refl, ℕ, ◌+◌, List, [], ◌∷◌, ◌++◌, count_by, cond, ◌==◌, suc, ◌<◌, ◌-◌, length, get_or, arith, eqb}
 use Rattle.std.proofs.lemmas.List.Sums.{sum_by-append, sum_by-cons}
 use Rattle.sg_graph.specs.Web.{Graph}
-use Rattle.sg_graph.specs.Walk.{IsWalk, Leads}
+use Rattle.sg_graph.specs.Walk.{IsWebWalk, Leads}
 use Rattle.sg_postman.specs.declared.steps.Step.{Step}
 use Rattle.sg_postman.specs.Tour.{AreSteps, edges_of, end_of, times}
 
@@ -35,7 +35,7 @@ pub times-append : (e : ℕ) (ss : List Step) (s : Step) → times e (ss ++ s �
 times-append e ss s = sum_by-append (λ (r : Step). cond (r.edge == e) 1 0) ss (s ∷ [])
 
 -- the edges of a trail are a walk
-pub trail_walk : (g : Graph) (x : ℕ) (ss : List Step) → AreSteps g x ss → IsWalk g x (edges_of ss) (end_of x ss)
+pub trail_walk : (g : Graph) (x : ℕ) (ss : List Step) → AreSteps g x ss → IsWebWalk g x (edges_of ss) (end_of x ss)
 trail_walk g x [] t = refl
 trail_walk g x (s ∷ ss) t = (s.to, t.0, trail_walk g s.to ss t.1)
 

@@ -3,8 +3,8 @@ use Rattle.std.specs.Prelude.{◌≡◌, ◌⊎◌, ℕ, ◌+◌, ◌*◌, ◌==
 use Rattle.sg_sums.specs.Parity.{odd}
 use Rattle.sg_sums.specs.Sets.{chosen_below, holds}
 use Rattle.sg_graph.specs.declared.cut.Cut.{Cut}
-use Rattle.sg_graph.specs.OddCut.{CutsPack, cut_weight}
-use Rattle.sg_graph.specs.Walk.{IsWalk, Leads}
+use Rattle.sg_graph.specs.OddCut.{CutsPack, odd_cut_weight}
+use Rattle.sg_graph.specs.Walk.{IsWebWalk, Leads}
 use Rattle.sg_graph.specs.Web.{Graph, degree_of, edge_count, total_weight, weight_of}
 use Rattle.sg_postman.specs.declared.steps.Step.{Step}
 
@@ -35,7 +35,7 @@ pub record IsTour (g : Graph) (ss : List Step) : Type 0 where
 -- a walk that ends where it began, and holds every edge
 pub record IsClosedWalk (g : Graph) (es : List ℕ) : Type 0 where
   pub from : ℕ
-  pub walk : IsWalk g from es from
+  pub walk : IsWebWalk g from es from
   pub every : (e : ℕ) → e < edge_count g → holds es e ≡ true
 
 -- the nodes of odd degree, rising
@@ -49,4 +49,4 @@ pub record IsLeastTour (g : Graph) (weight : ℤ) (steps : List Step) (cuts : Li
   pub least : (es : List ℕ) → IsClosedWalk g es → weight_of g (edges_of steps) ≤ weight_of g es
   pub packs : CutsPack g (odd_nodes g) cuts
   -- the cuts weigh twice as much as the tour beyond all edges
-  pub tight : sum_by cut_weight cuts + 2 * total_weight g ≡ 2 * weight_of g (edges_of steps)
+  pub tight : sum_by odd_cut_weight cuts + 2 * total_weight g ≡ 2 * weight_of g (edges_of steps)

@@ -19,13 +19,13 @@ abbrev pub left_of : List ℕ → ℕ → ℕ
 left_of left e = slice_index left e
 
 -- no copy is left of an edge that ends at x
-abbrev pub IsSpent : Graph → List ℕ → ℕ → Type 0
-IsSpent g left x = (e : ℕ) → EndsAt g x e → left_of left e ≡ 0
+abbrev pub IsUsedUp : Graph → List ℕ → ℕ → Type 0
+IsUsedUp g left x = (e : ℕ) → EndsAt g x e → left_of left e ≡ 0
 
 -- the nodes that the steps leave are spent
-abbrev pub AreSpent : Graph → List ℕ → ℕ → List Step → Type 0
-AreSpent g left x [] = Unit {0}
-AreSpent g left x (s ∷ ss) = IsSpent g left x × AreSpent g left s.to ss
+abbrev pub AreUsedUp : Graph → List ℕ → ℕ → List Step → Type 0
+AreUsedUp g left x [] = Unit {0}
+AreUsedUp g left x (s ∷ ss) = IsUsedUp g left x × AreUsedUp g left s.to ss
 
 -- for each node a place in its list such that no copy is left of the edges before it
 pub record AreTried (lists : List (List ℕ)) (left tried : List ℕ) : Type 0 where
@@ -48,7 +48,7 @@ pub record IsTracing (g : Graph) (copies : ℕ → ℕ) (left : List ℕ) (out b
   pub back_trail : AreSteps g 0 back
   pub copies_are : (e : ℕ) → e < edge_count g → left_of left e + times e out + times e back ≡ copies e
   pub even : (x : ℕ) → x < g.nodes → (open_ends g left x + at_node (end_of 0 out) x + at_node (end_of 0 back) x) % 2 ≡ 0
-  pub spent : AreSpent g left 0 back
+  pub spent : AreUsedUp g left 0 back
 
 -- one copy of e less
 abbrev pub one_less : List ℕ → ℕ → List ℕ

@@ -1,9 +1,9 @@
 ghost use Rattle.std.specs.Prelude.{◌≡◌, ℕ, ◌<◌, ◌≤◌, ◌%◌, ◌++◌, ◌∷◌, [], length, true, false, IfOk, OnOk, MatchOption, All, slice_index, ◌+◌, cond};
 ghost use Rattle.sg_graph.specs.Web.{edge_count};
-ghost use Rattle.sg_graph.specs.Walk.{IsConnected};
+ghost use Rattle.sg_graph.specs.Walk.{IsConnectedWeb};
 ghost use Rattle.sg_graph.specs.Incidence.{AreIncident, EndsAt, list_at};
 ghost use Rattle.sg_postman.specs.Tour.{end_of};
-ghost use Rattle.sg_postman.specs.Tracing.{left_of, open_ends, one_less, onward, to_go, AreTried, IsEulerTour, IsSpent, IsTracing};
+ghost use Rattle.sg_postman.specs.Tracing.{left_of, open_ends, one_less, onward, to_go, AreTried, IsEulerTour, IsUsedUp, IsTracing};
 ghost use Rattle.sg_postman.specs.declared.steps.Step.{Step};
 
 use super::{NoMemory, Step};
@@ -19,7 +19,7 @@ use std::alloc::Global;
 /// the trail `back`, turned round. Degrees are even, so `back` stands just there, and it is a trail
 /// from node 0 all the time: nothing is spliced, nor turned round in the end.
 pub fn trace(alloc: Global, web: &Web, left: &mut [u32]) -> Result<Vec<Step>, NoMemory>
-    requires connected { IsConnected web.now }
+    requires connected { IsConnectedWeb web.now }
     requires count { length left.old ≡ edge_count web.now }
     requires some { (e : ℕ) → e < edge_count web.now → 0 < left_of left.old e }
     requires even { (x : ℕ) → x < web.now.nodes → open_ends web.now left.old x % 2 ≡ 0 }
@@ -52,7 +52,7 @@ fn advance(
     ensures tracing { OnOk result ((copies : ℕ → ℕ) → IsTracing web.now copies left.old out.old.items back.old.items
         → IsTracing web.now copies left.new out.new.items back.new.items) }
     ensures falls { IfOk result (λ more. to_go left.new out.new.items + cond more 1 0 ≤ to_go left.old out.old.items) }
-    ensures done { IfOk result (λ more. more ≡ false → (out.new.items ≡ []) × IsSpent web.now left.new 0) }
+    ensures done { IfOk result (λ more. more ≡ false → (out.new.items ≡ []) × IsUsedUp web.now left.new 0) }
 {
     let node = standing(out.as_slice());
     let _nodes = web.nodes();

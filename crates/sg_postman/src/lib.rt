@@ -22,7 +22,7 @@ mod law;
 mod steps;
 
 ghost use Rattle.std.specs.Prelude.{◌≤◌, IfOk};
-ghost use Rattle.sg_graph.specs.Walk.{IsConnected};
+ghost use Rattle.sg_graph.specs.Walk.{IsConnectedWeb};
 ghost use Rattle.sg_graph.specs.Web.{total_weight};
 ghost use Rattle.sg_limits.specs.Limits.{forced_limit};
 ghost use Rattle.sg_postman.specs.Tour.{IsLeastTour};
@@ -48,7 +48,7 @@ pub type NoMemory = AllocError;
 /// Cost: that of `sg_tjoin::least_join` for the nodes of odd degree, and time and memory linear in
 /// nodes and edges beside it.
 pub fn tour(alloc: Global, web: &Web) -> Result<TourAnswer, NoMemory>
-    requires connected { IsConnected web.now }
+    requires connected { IsConnectedWeb web.now }
     requires light { total_weight web.now ≤ forced_limit }
     ensures { IfOk result (λ t. IsLeastTour web.now t.weight t.steps t.cuts) }
 {

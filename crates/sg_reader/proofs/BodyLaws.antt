@@ -13,14 +13,14 @@ use Rattle.std.proofs.lemmas.List.FromFn.{length-map-range_with_len}
 use Rattle.sg_model.specs.declared.refusal.Fault.{Fault}
 use Rattle.sg_model.specs.declared.refusal.Fault.TheVariants.{Refused, NoMemory}
 use Rattle.sg_model.specs.declared.refusal.Refusal.{Refusal}
-use Rattle.sg_model.specs.Faults.{IsFaultOf}
+use Rattle.sg_model.specs.Faults.{IsRefusalOf, OrNoMemory}
 use Rattle.sg_reader.specs.declared.header.Header.{Header}
 use Rattle.sg_reader.specs.Kept.{Kept, begins, field}
 use Rattle.sg_reader.specs.Number.{number_of}
-use Rattle.sg_reader.specs.Tests.{IsTestFault, number_in}
-use Rattle.sg_reader.specs.Body.{couplings_in, instance_of, is_end, is_seam, numbers_from, record_fault, seam_in, sizes_from}
+use Rattle.sg_reader.specs.Tests.{number_in, Refuses}
+use Rattle.sg_reader.specs.Body.{couplings_in, instance_of, says_end, says_seam, numbers_from, record_fault, seam_in, sizes_from}
 use Rattle.sg_reader.specs.Ended.{IsBody, IsEnded, record_at}
-use Rattle.sg_reader.specs.ReadInstance.{AtEnd, AtRecord, IsBodyFault}
+use Rattle.sg_reader.specs.ReadInstance.{AtEnd, AtRecord, RefusesBody}
 use Rattle.sg_reader.proofs.NumberLaws.{size-of_number}
 
 -- a record that begins with a word has a field
@@ -32,19 +32,19 @@ word-inside w some r h = go r.fields h
     go (f ∷ fs) e = omega arith
 
 -- a `seam` has a field
-pub seam_inside : (r : Kept) → is_seam r ≡ true → 1 ≤ length r.fields
+pub seam_inside : (r : Kept) → says_seam r ≡ true → 1 ≤ length r.fields
 seam_inside r h = word-inside (codes "seam") refl r h
 
 -- one more record of the body
 pub IsBody-none : (fault : List Kept → Kept → Option Refusal) → IsBody fault []
-IsBody-none fault = record { goes_on = All-nil (λ (r : Kept). is_end r ≡ false); passes = λ k inside. absurd (omega arith) }
+IsBody-none fault = record { goes_on = All-nil (λ (r : Kept). says_end r ≡ false); passes = λ k inside. absurd (omega arith) }
 
 -- one record more that is no `end` and passes its test
-pub IsBody-more : (fault : List Kept → Kept → Option Refusal) (body : List Kept) (r : Kept) → IsBody fault body → is_end r ≡ false →
+pub IsBody-more : (fault : List Kept → Kept → Option Refusal) (body : List Kept) (r : Kept) → IsBody fault body → says_end r ≡ false →
     fault body r ≡ None → IsBody fault (body ++ r ∷ [])
 IsBody-more fault body r h other good = record {
-  goes_on = All-append (λ (q : Kept). is_end q ≡ false) body (r ∷ []) h.goes_on
-      (All-cons (λ (q : Kept). is_end q ≡ false) r [] other (All-nil (λ (q : Kept). is_end q ≡ false)));
+  goes_on = All-append (λ (q : Kept). says_end q ≡ false) body (r ∷ []) h.goes_on
+      (All-cons (λ (q : Kept). says_end q ≡ false) r [] other (All-nil (λ (q : Kept). says_end q ≡ false)));
   passes = λ k inside. at k inside;
 }
   where
@@ -64,13 +64,13 @@ IsBody-more fault body r h other good = record {
         ]
 
 -- whether the body has a seam
-pub seam_in-seen : (body : List Kept) → is_some (seam_in body) ≡ list_any is_seam body
+pub seam_in-seen : (body : List Kept) → is_some (seam_in body) ≡ list_any says_seam body
 unfolding seam_in
 seam_in-seen [] = refl
-seam_in-seen (r ∷ rest) = by (is_seam r) (seam_in-seen rest)
+seam_in-seen (r ∷ rest) = by (says_seam r) (seam_in-seen rest)
   where
-    by : (b : Bool) → is_some (option_map (λ q. sizes_from q 1) (find is_seam rest)) ≡ list_any is_seam rest
-        → is_some (option_map (λ q. sizes_from q 1) (cond b (Some r) (find is_seam rest))) ≡ (b || list_any is_seam rest)
+    by : (b : Bool) → is_some (option_map (λ q. sizes_from q 1) (find says_seam rest)) ≡ list_any says_seam rest
+        → is_some (option_map (λ q. sizes_from q 1) (cond b (Some r) (find says_seam rest))) ≡ (b || list_any says_seam rest)
     by true e = refl
     by false e = e
 
@@ -81,35 +81,35 @@ find-none p (r ∷ rest) h =
     rw (parts.0) (find-none p rest parts.1)
 
 -- a seam behind a body without one, and another record
-pub seam_in-first : (body : List Kept) (r : Kept) → list_any is_seam body ≡ false → is_seam r ≡ true →
+pub seam_in-first : (body : List Kept) (r : Kept) → list_any says_seam body ≡ false → says_seam r ≡ true →
     seam_in (body ++ r ∷ []) ≡ Some (sizes_from r 1)
 unfolding seam_in
-seam_in-first body r none seam = rw (find-append is_seam body (r ∷ [])) (rw (find-none is_seam body none) (rw seam refl))
+seam_in-first body r none seam = rw (find-append says_seam body (r ∷ [])) (rw (find-none says_seam body none) (rw seam refl))
 
 -- a record that is no `seam` gives none
-pub seam_in-other : (body : List Kept) (r : Kept) → is_seam r ≡ false → seam_in (body ++ r ∷ []) ≡ seam_in body
+pub seam_in-other : (body : List Kept) (r : Kept) → says_seam r ≡ false → seam_in (body ++ r ∷ []) ≡ seam_in body
 unfolding seam_in
-seam_in-other body r other = rw (find-append is_seam body (r ∷ [])) (rw other (by (find is_seam body)))
+seam_in-other body r other = rw (find-append says_seam body (r ∷ [])) (rw other (by (find says_seam body)))
   where
     by : (o : Option Kept) → option_map (λ q. sizes_from q 1) (option_or o None) ≡ option_map (λ q. sizes_from q 1) o
     by None = refl
     by (Some q) = refl
 
 -- the couplings of one more record
-pub couplings_in-more : (body : List Kept) (r : Kept) → is_seam r ≡ false → couplings_in (body ++ r ∷ []) ≡ couplings_in body ++ numbers_from r 0
+pub couplings_in-more : (body : List Kept) (r : Kept) → says_seam r ≡ false → couplings_in (body ++ r ∷ []) ≡ couplings_in body ++ numbers_from r 0
 unfolding couplings_in
 couplings_in-more body r other =
-    let test : Kept → Bool = λ q. not (is_seam q) in
+    let test : Kept → Bool = λ q. not (says_seam q) in
     let f : Kept → List ℤ = λ q. numbers_from q 0 in
     ap (flat_map f) (filter-append test body (r ∷ [])) ∙ flat_map-append f (filter test body) (filter test (r ∷ []))
     ∙ ap (λ (b : Bool). flat_map f (filter test body) ++ flat_map f (cond (not b) (r ∷ []) [])) other
     ∙ ap (λ (l : List ℤ). flat_map f (filter test body) ++ l) (append-nil (f r))
 
 -- a `seam` gives no couplings
-pub couplings_in-seam : (body : List Kept) (r : Kept) → is_seam r ≡ true → couplings_in (body ++ r ∷ []) ≡ couplings_in body
+pub couplings_in-seam : (body : List Kept) (r : Kept) → says_seam r ≡ true → couplings_in (body ++ r ∷ []) ≡ couplings_in body
 unfolding couplings_in
 couplings_in-seam body r seam =
-    let test : Kept → Bool = λ q. not (is_seam q) in
+    let test : Kept → Bool = λ q. not (says_seam q) in
     let f : Kept → List ℤ = λ q. numbers_from q 0 in
     ap (flat_map f) (filter-append test body (r ∷ [])) ∙ flat_map-append f (filter test body) (filter test (r ∷ []))
     ∙ ap (λ (b : Bool). flat_map f (filter test body) ++ flat_map f (cond (not b) (r ∷ []) [])) seam
@@ -142,16 +142,16 @@ all-small (r ∷ rs) =
 -- a coupling that is read is less than 2^63 in size
 pub couplings_in-small : (body : List Kept) → All (λ j. unsigned_abs j < 2 ^ 63) (couplings_in body)
 unfolding couplings_in
-couplings_in-small body = all-small (filter (λ q. not (is_seam q)) body)
+couplings_in-small body = all-small (filter (λ q. not (says_seam q)) body)
 
 -- a record fails a test, and an instance that is whole does
 pub record-fault : (head : Header) (all body rest : List Kept) (r : Kept) (e : Fault) → all ≡ body ++ r ∷ rest → IsBody (record_fault head) body
-    → IsTestFault (record_fault head body r) e → IsBodyFault head all e
+    → OrNoMemory (Refuses (record_fault head body r)) e → OrNoMemory (RefusesBody head all) e
 record-fault head all body rest r (Refused x) split is_body bad = AtRecord body r rest split is_body bad
 record-fault head all body rest r NoMemory split is_body bad = tt
 
 -- what refuses the instance at the `end` refuses the body
 pub end-fault : (head : Header) (all body : List Kept) (last : Kept) (e : Fault) → IsEnded (record_fault head) all body last
-    → IsFaultOf (instance_of head body) e → IsBodyFault head all e
+    → OrNoMemory (IsRefusalOf (instance_of head body)) e → OrNoMemory (RefusesBody head all) e
 end-fault head all body last (Refused x) ended bad = AtEnd body last ended bad
 end-fault head all body last NoMemory ended bad = tt

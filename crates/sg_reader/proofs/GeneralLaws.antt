@@ -20,12 +20,13 @@ use Rattle.sg_reader.specs.declared.header.Header.TheVariants as header
 use Rattle.sg_reader.specs.declared.general.GeneralBody.{GeneralBody}
 use Rattle.sg_limits.specs.Limits.{bond_limit}
 use Rattle.sg_reader.specs.Kept.{Kept, field}
-use Rattle.sg_reader.specs.Tests.{IsTestFault, any_index, bad_field, bad_number, is_number_in, size_in, spin_below}
-use Rattle.sg_reader.specs.Body.{bond_fault, bond_of, bond_range, ends_fault, bonds_in, darts_in, bare_end_fault, general_fault, has_rot, instance_of, is_bond, is_end, is_rot, is_rot_of, is_seam, record_fault, rot_fault, rot_range, seam_fault, seam_in, sizes_from}
+use Rattle.sg_reader.specs.Tests.{any_index, bad_field, bad_number, is_number_in, size_in, spin_below, Refuses}
+use Rattle.sg_reader.specs.Body.{bond_fault, bond_of, bond_range, ends_fault, bonds_in, darts_in, bare_end_fault, general_fault, has_rot, instance_of, says_bond, says_end, says_rot, says_rot_of, says_seam, record_fault, rot_fault, rot_range, seam_fault, seam_in, sizes_from}
 use Rattle.sg_reader.specs.Ended.{IsBody, IsEnded}
 use Rattle.sg_reader.specs.GeneralHolds.{HoldsGeneral}
 use Rattle.sg_reader.proofs.TestLaws.{bad_field-rest, is-not}
 use Rattle.sg_reader.proofs.BodyLaws.{IsBody-more, seam_in-first, seam_in-other, seam_in-seen}
+use Rattle.sg_model.specs.Faults.{OrNoMemory}
 
 -- the tests of a bond
 pub bond_fault-number : (n m : ℕ) (r : Kept) (k : ℕ) → length r.fields ≡ 4 → bad_field r 1 (bond_range n) ≡ Some k →
@@ -71,7 +72,7 @@ rot_range-rest n r long good = bad_field-rest r (rot_range n) (λ i. any_index) 
 -- so a fault of the darts is the record's
 pub rot_fault-darts : (n : ℕ) (seen : Bool) (r : Kept) → (length r.fields ≡ 1 → ⊥) →
     bad_field r 1 (rot_range n) ≡ bad_field r 2 (λ i. any_index) → (e : Fault)
-    → IsTestFault (bad_number r 2 (λ i. any_index)) e → IsTestFault (rot_fault n seen r) e
+    → OrNoMemory (Refuses (bad_number r 2 (λ i. any_index))) e → OrNoMemory (Refuses (rot_fault n seen r)) e
 rot_fault-darts n seen r count rest (Refused x) h = rw (ne_eqb (length r.fields) 1 count, rest, h) refl
 rot_fault-darts n seen r count rest NoMemory h = tt
 
@@ -80,29 +81,29 @@ word-of : (r : Kept) (w : List ℕ) → bytes_eq (field r 0) w ≡ true → fiel
 word-of r w h = (bytes_eq-Decides (field r 0) w).0 h
 
 -- a `bond` is tested as one behind the bonds before it
-pub general_fault-bond : (n : ℕ) (body : List Kept) (r : Kept) → is_bond r ≡ true → general_fault n body r ≡ bond_fault n (length (bonds_in body)) r
+pub general_fault-bond : (n : ℕ) (body : List Kept) (r : Kept) → says_bond r ≡ true → general_fault n body r ≡ bond_fault n (length (bonds_in body)) r
 unfolding general_fault
 general_fault-bond n body r h = rw h refl
 
-rot-no_bond : (r : Kept) → is_rot r ≡ true → is_bond r ≡ false
+rot-no_bond : (r : Kept) → says_rot r ≡ true → says_bond r ≡ false
 rot-no_bond r h = ap (λ (w : List ℕ). bytes_eq w (codes "bond")) (word-of r (codes "rot") h)
 
-bond-no_rot : (r : Kept) → is_bond r ≡ true → is_rot r ≡ false
+bond-no_rot : (r : Kept) → says_bond r ≡ true → says_rot r ≡ false
 bond-no_rot r h = ap (λ (w : List ℕ). bytes_eq w (codes "rot")) (word-of r (codes "bond") h)
 
-bond-no_seam : (r : Kept) → is_bond r ≡ true → is_seam r ≡ false
+bond-no_seam : (r : Kept) → says_bond r ≡ true → says_seam r ≡ false
 bond-no_seam r h = ap (λ (w : List ℕ). bytes_eq w (codes "seam")) (word-of r (codes "bond") h)
 
-rot-no_seam : (r : Kept) → is_rot r ≡ true → is_seam r ≡ false
+rot-no_seam : (r : Kept) → says_rot r ≡ true → says_seam r ≡ false
 rot-no_seam r h = ap (λ (w : List ℕ). bytes_eq w (codes "seam")) (word-of r (codes "rot") h)
 
-seam-no_bond : (r : Kept) → is_seam r ≡ true → is_bond r ≡ false
+seam-no_bond : (r : Kept) → says_seam r ≡ true → says_bond r ≡ false
 seam-no_bond r h = ap (λ (w : List ℕ). bytes_eq w (codes "bond")) (word-of r (codes "seam") h)
 
-seam-no_rot : (r : Kept) → is_seam r ≡ true → is_rot r ≡ false
+seam-no_rot : (r : Kept) → says_seam r ≡ true → says_rot r ≡ false
 seam-no_rot r h = ap (λ (w : List ℕ). bytes_eq w (codes "rot")) (word-of r (codes "seam") h)
 
-end-no : (r : Kept) → is_end r ≡ true → (is_bond r ≡ false) × (is_rot r ≡ false) × (is_seam r ≡ false)
+end-no : (r : Kept) → says_end r ≡ true → (says_bond r ≡ false) × (says_rot r ≡ false) × (says_seam r ≡ false)
 end-no r h =
     let w = word-of r (codes "end") h in (
       ap (λ (v : List ℕ). bytes_eq v (codes "bond")) w,
@@ -112,44 +113,44 @@ end-no r h =
     )
 
 -- a `rot` is tested as one of its spin
-pub general_fault-rot : (n : ℕ) (body : List Kept) (r : Kept) → is_rot r ≡ true → general_fault n body r ≡ rot_fault n (has_rot body (size_in r 1)) r
+pub general_fault-rot : (n : ℕ) (body : List Kept) (r : Kept) → says_rot r ≡ true → general_fault n body r ≡ rot_fault n (has_rot body (size_in r 1)) r
 unfolding general_fault
 general_fault-rot n body r h = rw (rot-no_bond r h, h) refl
 
 -- a `seam` is tested as one behind the others
-pub general_fault-seam : (n : ℕ) (body : List Kept) (r : Kept) → is_seam r ≡ true → general_fault n body r ≡ seam_fault (list_any is_seam body) r
+pub general_fault-seam : (n : ℕ) (body : List Kept) (r : Kept) → says_seam r ≡ true → general_fault n body r ≡ seam_fault (list_any says_seam body) r
 unfolding general_fault
 general_fault-seam n body r h = rw (seam-no_bond r h, seam-no_rot r h, h) refl
 
 -- an `end` is tested as a bare one
-pub general_fault-end : (n : ℕ) (body : List Kept) (r : Kept) → is_end r ≡ true → general_fault n body r ≡ bare_end_fault r
+pub general_fault-end : (n : ℕ) (body : List Kept) (r : Kept) → says_end r ≡ true → general_fault n body r ≡ bare_end_fault r
 unfolding general_fault
 general_fault-end n body r h = let no = end-no r h in rw (no.0, no.1, no.2, h) refl
 
 -- any other record is of no known kind
-pub general_fault-other : (n : ℕ) (body : List Kept) (r : Kept) → is_bond r ≡ false → is_rot r ≡ false → is_seam r ≡ false → is_end r ≡ false
+pub general_fault-other : (n : ℕ) (body : List Kept) (r : Kept) → says_bond r ≡ false → says_rot r ≡ false → says_seam r ≡ false → says_end r ≡ false
     → general_fault n body r ≡ Some (UnknownKind r.at)
 unfolding general_fault
 general_fault-other n body r a b c d = rw (a, b, c, d) refl
 
 -- the bonds of one more record
-pub bonds_in-more : (body : List Kept) (r : Kept) → is_bond r ≡ true → bonds_in (body ++ r ∷ []) ≡ bonds_in body ++ bond_of r ∷ []
+pub bonds_in-more : (body : List Kept) (r : Kept) → says_bond r ≡ true → bonds_in (body ++ r ∷ []) ≡ bonds_in body ++ bond_of r ∷ []
 unfolding bonds_in
 bonds_in-more body r h =
-    ap (map bond_of) (filter-append is_bond body (r ∷ [])) ∙ map-append bond_of (filter is_bond body) (filter is_bond (r ∷ []))
-    ∙ ap (λ (b : Bool). map bond_of (filter is_bond body) ++ map bond_of (cond b (r ∷ []) [])) h
+    ap (map bond_of) (filter-append says_bond body (r ∷ [])) ∙ map-append bond_of (filter says_bond body) (filter says_bond (r ∷ []))
+    ∙ ap (λ (b : Bool). map bond_of (filter says_bond body) ++ map bond_of (cond b (r ∷ []) [])) h
 
 -- a record that is no `bond` gives none
-pub bonds_in-other : (body : List Kept) (r : Kept) → is_bond r ≡ false → bonds_in (body ++ r ∷ []) ≡ bonds_in body
+pub bonds_in-other : (body : List Kept) (r : Kept) → says_bond r ≡ false → bonds_in (body ++ r ∷ []) ≡ bonds_in body
 unfolding bonds_in
 bonds_in-other body r h =
-    ap (map bond_of) (filter-append is_bond body (r ∷ [])) ∙ map-append bond_of (filter is_bond body) (filter is_bond (r ∷ []))
-    ∙ ap (λ (b : Bool). map bond_of (filter is_bond body) ++ map bond_of (cond b (r ∷ []) [])) h ∙ append-nil (map bond_of (filter is_bond body))
+    ap (map bond_of) (filter-append says_bond body (r ∷ [])) ∙ map-append bond_of (filter says_bond body) (filter says_bond (r ∷ []))
+    ∙ ap (λ (b : Bool). map bond_of (filter says_bond body) ++ map bond_of (cond b (r ∷ []) [])) h ∙ append-nil (map bond_of (filter says_bond body))
 
 -- whether a spin has its darts, and which, with one more record
-has_rot-more : (body : List Kept) (r : Kept) (i : ℕ) (b : Bool) → is_rot_of i r ≡ b → has_rot (body ++ r ∷ []) i ≡ (has_rot body i || (b || false))
+has_rot-more : (body : List Kept) (r : Kept) (i : ℕ) (b : Bool) → says_rot_of i r ≡ b → has_rot (body ++ r ∷ []) i ≡ (has_rot body i || (b || false))
 unfolding has_rot
-has_rot-more body r i b h = list_any-append (is_rot_of i) body (r ∷ []) ∙ ap (λ (c : Bool). list_any (is_rot_of i) body || (c || false)) h
+has_rot-more body r i b h = list_any-append (says_rot_of i) body (r ∷ []) ∙ ap (λ (c : Bool). list_any (says_rot_of i) body || (c || false)) h
 
 or-none : (b : Bool) → (b || (false || false)) ≡ b
 or-none true = refl
@@ -160,17 +161,17 @@ or-some true = refl
 or-some false = refl
 
 -- a record that is no `rot` of the spin gives it none
-pub has_rot-other : (body : List Kept) (r : Kept) (i : ℕ) → is_rot_of i r ≡ false → has_rot (body ++ r ∷ []) i ≡ has_rot body i
+pub has_rot-other : (body : List Kept) (r : Kept) (i : ℕ) → says_rot_of i r ≡ false → has_rot (body ++ r ∷ []) i ≡ has_rot body i
 has_rot-other body r i h = has_rot-more body r i false h ∙ or-none (has_rot body i)
 
 -- behind its `rot` the spin has one
-pub has_rot-own : (body : List Kept) (r : Kept) (i : ℕ) → is_rot_of i r ≡ true → has_rot (body ++ r ∷ []) i ≡ true
+pub has_rot-own : (body : List Kept) (r : Kept) (i : ℕ) → says_rot_of i r ≡ true → has_rot (body ++ r ∷ []) i ≡ true
 has_rot-own body r i h = has_rot-more body r i true h ∙ or-some (has_rot body i)
 
 -- a record that is no `rot` of the spin leaves its darts
-pub darts_in-other : (body : List Kept) (r : Kept) (i : ℕ) → is_rot_of i r ≡ false → darts_in (body ++ r ∷ []) i ≡ darts_in body i
+pub darts_in-other : (body : List Kept) (r : Kept) (i : ℕ) → says_rot_of i r ≡ false → darts_in (body ++ r ∷ []) i ≡ darts_in body i
 unfolding darts_in
-darts_in-other body r i h = rw (find-append (is_rot_of i) body (r ∷ [])) (rw h (by (find (is_rot_of i) body)))
+darts_in-other body r i h = rw (find-append (says_rot_of i) body (r ∷ [])) (rw h (by (find (says_rot_of i) body)))
   where
     by : (o : Option Kept) → unwrap_or (option_map (λ q. sizes_from q 2) (option_or o None)) [] ≡ unwrap_or (option_map (λ q. sizes_from q 2) o) []
     by None = refl
@@ -181,10 +182,10 @@ find-none p [] h = refl
 find-none p (r ∷ rest) h = let parts = or_parts (p r) (list_any p rest) h in rw (parts.0) (find-none p rest parts.1)
 
 -- behind its first `rot` the spin has these darts
-pub darts_in-own : (body : List Kept) (r : Kept) (i : ℕ) → is_rot_of i r ≡ true → has_rot body i ≡ false →
+pub darts_in-own : (body : List Kept) (r : Kept) (i : ℕ) → says_rot_of i r ≡ true → has_rot body i ≡ false →
     darts_in (body ++ r ∷ []) i ≡ sizes_from r 2
 unfolding darts_in has_rot
-darts_in-own body r i h first = rw (find-append (is_rot_of i) body (r ∷ [])) (rw (find-none (is_rot_of i) body first) (rw h refl))
+darts_in-own body r i h first = rw (find-append (says_rot_of i) body (r ∷ [])) (rw (find-none (says_rot_of i) body first) (rw h refl))
 
 -- a table over the spins with one entry changed
 table-set : {X : Type 0} (f g : ℕ → X) (n s : ℕ) (v : X) → s < n → g s ≡ v → ((i : ℕ) → (i ≡ s → ⊥) → g i ≡ f i)
@@ -206,26 +207,26 @@ table-set {X} f g n s v inside here others =
 table-same : {X : Type 0} (f g : ℕ → X) (n : ℕ) → ((i : ℕ) → g i ≡ f i) → map f (range_with_len 0 n) ≡ map g (range_with_len 0 n)
 table-same f g n same = λ j. map (λ i. sym (same i) j) (range_with_len 0 n)
 
-no-rot_of : (r : Kept) (i : ℕ) → is_rot r ≡ false → is_rot_of i r ≡ false
+no-rot_of : (r : Kept) (i : ℕ) → says_rot r ≡ false → says_rot_of i r ≡ false
 no-rot_of r i h = rw h refl
 
-own-rot_of : (r : Kept) → is_rot r ≡ true → is_rot_of (size_in r 1) r ≡ true
+own-rot_of : (r : Kept) → says_rot r ≡ true → says_rot_of (size_in r 1) r ≡ true
 own-rot_of r h = rw (h, eq-eqb (size_in r 1) (size_in r 1) refl) refl
 
-other-rot_of : (r : Kept) (i : ℕ) → is_rot r ≡ true → (i ≡ size_in r 1 → ⊥) → is_rot_of i r ≡ false
+other-rot_of : (r : Kept) (i : ℕ) → says_rot r ≡ true → (i ≡ size_in r 1 → ⊥) → says_rot_of i r ≡ false
 other-rot_of r i h other = rw (h, ne_eqb (size_in r 1) i (λ e. other (sym e))) refl
 
 -- what is kept behind a record that gives no darts
-darts-kept : (body : List Kept) (r : Kept) (n : ℕ) → is_rot r ≡ false
+darts-kept : (body : List Kept) (r : Kept) (n : ℕ) → says_rot r ≡ false
     → map (darts_in body) (range_with_len 0 n) ≡ map (darts_in (body ++ r ∷ [])) (range_with_len 0 n)
 darts-kept body r n h = table-same (darts_in body) (darts_in (body ++ r ∷ [])) n (λ i. darts_in-other body r i (no-rot_of r i h))
 
-marks-kept : (body : List Kept) (r : Kept) (n : ℕ) → is_rot r ≡ false
+marks-kept : (body : List Kept) (r : Kept) (n : ℕ) → says_rot r ≡ false
     → map (has_rot body) (range_with_len 0 n) ≡ map (has_rot (body ++ r ∷ [])) (range_with_len 0 n)
 marks-kept body r n h = table-same (has_rot body) (has_rot (body ++ r ∷ [])) n (λ i. has_rot-other body r i (no-rot_of r i h))
 
 -- what is kept after a `bond`
-pub holds-bond : (body : List Kept) (r : Kept) (old : GeneralBody) (bonds : List Bond) → HoldsGeneral body old → is_bond r ≡ true
+pub holds-bond : (body : List Kept) (r : Kept) (old : GeneralBody) (bonds : List Bond) → HoldsGeneral body old → says_bond r ≡ true
     → bonds ≡ old.bonds ++ bond_of r ∷ [] → IsBond old.n (bond_of r) → length old.bonds < bond_limit
     → HoldsGeneral (body ++ r ∷ []) (record { n = old.n; bonds = bonds; rotation = old.rotation; seen = old.seen; seam = old.seam })
 holds-bond body r old bonds h is added sound room =
@@ -238,15 +239,15 @@ holds-bond body r old bonds h is added sound room =
           (All-append (IsBond old.n) old.bonds (bond_of r ∷ []) h.joined (All-cons (IsBond old.n) (bond_of r) [] sound (All-nil (IsBond old.n))));
       darts = h.darts ∙ darts-kept body r old.n (bond-no_rot r is);
       marks = h.marks ∙ marks-kept body r old.n (bond-no_rot r is);
-      cut = h.cut ∙ sym (seam_in-other body r (bond-no_seam r is));
+      seam = h.seam ∙ sym (seam_in-other body r (bond-no_seam r is));
     }
 
 -- whether a `seam` stood before is kept
-pub seen-seam : (body : List Kept) (state : GeneralBody) → HoldsGeneral body state → is_some state.seam ≡ list_any is_seam body
-seen-seam body state h = ap is_some h.cut ∙ seam_in-seen body
+pub seen-seam : (body : List Kept) (state : GeneralBody) → HoldsGeneral body state → is_some state.seam ≡ list_any says_seam body
+seen-seam body state h = ap is_some h.seam ∙ seam_in-seen body
 
 -- what is kept after a `seam`
-pub holds-seam : (body : List Kept) (r : Kept) (old : GeneralBody) (seam : List ℕ) → HoldsGeneral body old → is_seam r ≡ true →
+pub holds-seam : (body : List Kept) (r : Kept) (old : GeneralBody) (seam : List ℕ) → HoldsGeneral body old → says_seam r ≡ true →
     is_some old.seam ≡ false → seam ≡ sizes_from r 1
     → HoldsGeneral (body ++ r ∷ []) (record { n = old.n; bonds = old.bonds; rotation = old.rotation; seen = old.seen; seam = Some seam })
 holds-seam body r old seam h is first value = record {
@@ -255,7 +256,7 @@ holds-seam body r old seam h is first value = record {
   joined = h.joined;
   darts = h.darts ∙ darts-kept body r old.n (seam-no_rot r is);
   marks = h.marks ∙ marks-kept body r old.n (seam-no_rot r is);
-  cut = ap Some value ∙ sym (seam_in-first body r (sym (seen-seam body old h) ∙ first) is);
+  seam = ap Some value ∙ sym (seam_in-first body r (sym (seen-seam body old h) ∙ first) is);
 }
 
 -- the entry of a spin among the marks
@@ -265,7 +266,7 @@ mark-of body state i d h inside = ap (λ (l : List Bool). get_or l i d) h.marks
     ∙ get_or-map-range_with_len (has_rot body) 0 state.n i i d inside (omega arith)
 
 -- what is kept after a `rot`
-pub holds-rot : (body : List Kept) (r : Kept) (old new : GeneralBody) → HoldsGeneral body old → is_rot r ≡ true → size_in r 1 < old.n
+pub holds-rot : (body : List Kept) (r : Kept) (old new : GeneralBody) → HoldsGeneral body old → says_rot r ≡ true → size_in r 1 < old.n
     → has_rot body (size_in r 1) ≡ false
     → new.n ≡ old.n → new.bonds ≡ old.bonds → new.seam ≡ old.seam → new.rotation ≡ set old.rotation (size_in r 1) (sizes_from r 2)
     → new.seen.items ≡ set old.seen.items (size_in r 1) true → HoldsGeneral (body ++ r ∷ []) new
@@ -285,7 +286,7 @@ holds-rot body r old new h is inside first same_n same_bonds same_seam lists mar
           ∙ table-set (has_rot body) (has_rot (body ++ r ∷ [])) old.n s true inside (has_rot-own body r s (own-rot_of r is))
           (λ i other. has_rot-other body r i (other-rot_of r i is other))
           ∙ ap (λ (n : ℕ). map (has_rot (body ++ r ∷ [])) (range_with_len 0 n)) (sym same_n);
-      cut = same_seam ∙ h.cut ∙ sym (seam_in-other body r (rot-no_seam r is));
+      seam = same_seam ∙ h.seam ∙ sym (seam_in-other body r (rot-no_seam r is));
     }
 
 -- how many lists and marks there are
@@ -301,7 +302,7 @@ pub instance-general : (body : List Kept) (state : GeneralBody) (seam : List ℕ
     → record { n = state.n; bonds = state.bonds; rotation = state.rotation; seam = seam } ≡ instance_of (header.General state.n) body
 unfolding instance_of
 instance-general body state seam h cut =
-    let same : seam ≡ unwrap_or (seam_in body) [] = cut ∙ ap (λ (o : Option (List ℕ)). unwrap_or o []) h.cut in
+    let same : seam ≡ unwrap_or (seam_in body) [] = cut ∙ ap (λ (o : Option (List ℕ)). unwrap_or o []) h.seam in
     λ i. record { n = state.n; bonds = h.bonds i; rotation = h.darts i; seam = same i }
 
 -- the records so far, which are the body, and what is left of all of them
@@ -314,7 +315,7 @@ pub record GeneralSoFar (n : ℕ) (all left : List Kept) (state : GeneralBody) :
 
 -- a bare `end` ends the records
 pub ended-general : (n : ℕ) (all left rest : List Kept) (r : Kept) (state : GeneralBody) (sf : GeneralSoFar n all left state) → left ≡ r ∷ rest
-    → is_end r ≡ true
+    → says_end r ≡ true
     → bare_end_fault r ≡ None → IsEnded (record_fault (header.General n)) all sf.body r
 ended-general n all left rest r state sf next end pass = record {
   more = rest;
@@ -326,7 +327,7 @@ ended-general n all left rest r state sf next end pass = record {
 
 -- one record more, which passes its tests
 pub one-more : (n : ℕ) (all left rest : List Kept) (r : Kept) (old new : GeneralBody) → (sf : GeneralSoFar n all left old) → left ≡ r ∷ rest
-    → is_end r ≡ false → general_fault old.n sf.body r ≡ None → HoldsGeneral (sf.body ++ r ∷ []) new → new.n ≡ old.n →
+    → says_end r ≡ false → general_fault old.n sf.body r ≡ None → HoldsGeneral (sf.body ++ r ∷ []) new → new.n ≡ old.n →
     GeneralSoFar n all rest new
 one-more n all left rest r old new sf next other good holds same = record {
   body = sf.body ++ r ∷ [];
@@ -348,7 +349,7 @@ holds-none state none cut darts marks =
       joined = All-same (IsBond state.n) state.bonds [] none (All-nil (IsBond state.n));
       darts = darts;
       marks = marks;
-      cut = cut;
+      seam = cut;
     }
 
 -- one more spin without darts

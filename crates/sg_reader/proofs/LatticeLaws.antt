@@ -13,30 +13,30 @@ use Rattle.sg_reader.specs.declared.header.Header.TheVariants as header
 use Rattle.sg_reader.specs.declared.lattice.LatticeBody.{LatticeBody}
 use Rattle.sg_reader.specs.Kept.{Kept, field}
 use Rattle.sg_reader.specs.Tests.{any_number, bad_number}
-use Rattle.sg_reader.specs.Body.{couplings_in, instance_of, is_end, is_seam, lattice_end_fault, lattice_fault, numbers_from, record_fault, reseamed, seam_fault, seam_in, sizes_from}
+use Rattle.sg_reader.specs.Body.{couplings_in, instance_of, says_end, says_seam, lattice_end_fault, lattice_fault, numbers_from, record_fault, reseamed, seam_fault, seam_in, sizes_from}
 use Rattle.sg_reader.specs.Ended.{IsBody, IsEnded}
 use Rattle.sg_reader.specs.Holds.{HoldsLattice}
 use Rattle.sg_reader.proofs.BodyLaws.{IsBody-more, IsBody-none, couplings_in-more, couplings_in-seam, seam_in-first, seam_in-other, seam_in-seen}
 use Rattle.sg_reader.proofs.RecordCounts.{field_total}
 
 -- which test a record of a lattice meets
-pub lattice_fault-seam : (wanted : ℕ) (body : List Kept) (r : Kept) → is_seam r ≡ true →
-    lattice_fault wanted body r ≡ seam_fault (list_any is_seam body) r
+pub lattice_fault-seam : (wanted : ℕ) (body : List Kept) (r : Kept) → says_seam r ≡ true →
+    lattice_fault wanted body r ≡ seam_fault (list_any says_seam body) r
 unfolding lattice_fault
 lattice_fault-seam wanted body r h = rw h refl
 
 -- a record that is neither `seam` nor `end` is tested as couplings
-pub lattice_fault-couplings : (wanted : ℕ) (body : List Kept) (r : Kept) → is_seam r ≡ false → is_end r ≡ false
+pub lattice_fault-couplings : (wanted : ℕ) (body : List Kept) (r : Kept) → says_seam r ≡ false → says_end r ≡ false
     → lattice_fault wanted body r ≡ bad_number r 0 (λ i. any_number)
 unfolding lattice_fault
 lattice_fault-couplings wanted body r h e = rw (h, e) refl
 
 -- `end` is no seam
-end-no_seam : (r : Kept) → is_end r ≡ true → is_seam r ≡ false
+end-no_seam : (r : Kept) → says_end r ≡ true → says_seam r ≡ false
 end-no_seam r h = let word = (bytes_eq-Decides (field r 0) (codes "end")).0 h in ap (λ (w : List ℕ). bytes_eq w (codes "seam")) word
 
 -- an `end` is tested by the number of couplings before it
-pub lattice_fault-end : (wanted : ℕ) (body : List Kept) (r : Kept) → is_end r ≡ true
+pub lattice_fault-end : (wanted : ℕ) (body : List Kept) (r : Kept) → says_end r ≡ true
     → lattice_fault wanted body r ≡ lattice_end_fault wanted (length (couplings_in body)) r
 unfolding lattice_fault
 lattice_fault-end wanted body r h = rw (end-no_seam r h, h) refl
@@ -48,8 +48,8 @@ unfolding instance_of
 instance_of-lattice kind rows cols body = refl
 
 -- whether a seam was seen
-pub seen-seam : (body : List Kept) (state : LatticeBody) → HoldsLattice body state → is_some state.seam ≡ list_any is_seam body
-seen-seam body state h = ap is_some h.bonds ∙ seam_in-seen body
+pub seen-seam : (body : List Kept) (state : LatticeBody) → HoldsLattice body state → is_some state.seam ≡ list_any says_seam body
+seen-seam body state h = ap is_some h.seam ∙ seam_in-seen body
 
 -- a `seam` that passes is the first
 pub seam_fault-passes : (seen : Bool) (r : Kept) → seam_fault seen r ≡ None → seen ≡ false
@@ -57,19 +57,19 @@ seam_fault-passes true r h = absurd (none-some _ (sym h))
 seam_fault-passes false r h = refl
 
 -- what is kept behind one more record
-pub holds-seam : (body : List Kept) (r : Kept) (old new : LatticeBody) → HoldsLattice body old → is_seam r ≡ true → is_some old.seam ≡ false
+pub holds-seam : (body : List Kept) (r : Kept) (old new : LatticeBody) → HoldsLattice body old → says_seam r ≡ true → is_some old.seam ≡ false
     → new.couplings ≡ old.couplings → new.seam ≡ Some (sizes_from r 1) → HoldsLattice (body ++ r ∷ []) new
 holds-seam body r old new h seam first same bonds = record {
   couplings = same ∙ h.couplings ∙ sym (couplings_in-seam body r seam);
-  bonds = bonds ∙ sym (seam_in-first body r (sym (seen-seam body old h) ∙ first) seam);
+  seam = bonds ∙ sym (seam_in-first body r (sym (seen-seam body old h) ∙ first) seam);
 }
 
 -- what is kept after a record of couplings
-pub holds-couplings : (body : List Kept) (r : Kept) (old new : LatticeBody) → HoldsLattice body old → is_seam r ≡ false
+pub holds-couplings : (body : List Kept) (r : Kept) (old new : LatticeBody) → HoldsLattice body old → says_seam r ≡ false
     → new.couplings ≡ old.couplings ++ numbers_from r 0 → new.seam ≡ old.seam → HoldsLattice (body ++ r ∷ []) new
 holds-couplings body r old new h other added same = record {
   couplings = added ∙ ap (λ (l : List ℤ). l ++ numbers_from r 0) h.couplings ∙ sym (couplings_in-more body r other);
-  bonds = same ∙ h.bonds ∙ sym (seam_in-other body r other);
+  seam = same ∙ h.seam ∙ sym (seam_in-other body r other);
 }
 
 -- the records so far, which are the body, and what is left of all of them
@@ -82,7 +82,7 @@ pub record LatticeSoFar (head : Header) (all left : List Kept) (state : LatticeB
 
 -- one record more, which passes its tests
 pub one-more : (head : Header) (all left rest : List Kept) (r : Kept) (old new : LatticeBody) → (sf : LatticeSoFar head all left old) → left ≡ r ∷ rest
-    → is_end r ≡ false → record_fault head sf.body r ≡ None → HoldsLattice (sf.body ++ r ∷ []) new
+    → says_end r ≡ false → record_fault head sf.body r ≡ None → HoldsLattice (sf.body ++ r ∷ []) new
     → length new.couplings ≤ length old.couplings + length r.fields → LatticeSoFar head all rest new
 one-more head all left rest r old new sf next other good holds count =
     let total : field_total left ≡ length r.fields + field_total rest = ap field_total next ∙ sum_by-cons (λ (q : Kept). length q.fields) r rest in
@@ -105,14 +105,14 @@ none-yet head all state couplings bonds few =
       body = [];
       split = refl;
       is_body = IsBody-none (record_fault head);
-      holds = record { couplings = couplings; bonds = bonds };
+      holds = record { couplings = couplings; seam = bonds };
       few = omega (arith, count, few);
     }
 
 -- the record that ends the lattice
 pub ended-lattice : (kind : Kind) (rows cols : ℕ) (all left rest : List Kept) (r : Kept) (state : LatticeBody)
     (sf : LatticeSoFar (header.Lattice kind rows cols) all left state)
-    → left ≡ r ∷ rest → is_end r ≡ true → lattice_end_fault (bond_total kind rows cols) (length state.couplings) r ≡ None
+    → left ≡ r ∷ rest → says_end r ≡ true → lattice_end_fault (bond_total kind rows cols) (length state.couplings) r ≡ None
     → IsEnded (record_fault (header.Lattice kind rows cols)) all sf.body r
 ended-lattice kind rows cols all left rest r state sf next end pass = record {
   more = rest;
@@ -127,6 +127,6 @@ ended-lattice kind rows cols all left rest r state sf next end pass = record {
 pub instance-lattice : (kind : Kind) (rows cols : ℕ) (body : List Kept) (state : LatticeBody) → HoldsLattice body state
     → reseamed state.seam (lattice kind rows cols state.couplings) ≡ instance_of (header.Lattice kind rows cols) body
 instance-lattice kind rows cols body state h =
-    ap (λ (s : Option (List ℕ)). reseamed s (lattice kind rows cols state.couplings)) h.bonds
+    ap (λ (s : Option (List ℕ)). reseamed s (lattice kind rows cols state.couplings)) h.seam
     ∙ ap (λ (js : List ℤ). reseamed (seam_in body) (lattice kind rows cols js)) h.couplings
     ∙ sym (instance_of-lattice kind rows cols body)

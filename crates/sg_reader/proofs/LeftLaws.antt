@@ -7,8 +7,10 @@ use Rattle.sg_model.specs.declared.refusal.Fault.{Fault}
 use Rattle.sg_reader.specs.Field.{fields_in, without_marks}
 use Rattle.sg_reader.specs.Kept.{Kept, behind, is_kept, kept_of, numbered_from}
 use Rattle.sg_reader.specs.Leaves.{IsRest, Leaves}
-use Rattle.sg_reader.specs.NoMore.{IsLeftFault, IsTrailingFault, left_fault, trailing_fault}
+use Rattle.sg_reader.specs.NoMore.{left_fault, trailing_fault}
 use Rattle.sg_reader.specs.Records.{records_of}
+use Rattle.sg_reader.specs.Tests.{Refuses}
+use Rattle.sg_model.specs.Faults.{OrNoMemory}
 
 -- the numbers of the records rise, from n or above it
 abbrev AreAbove : ℕ → List Kept → Type 0
@@ -93,9 +95,9 @@ pub nothing-left : (bytes : List ℕ) (left : List Kept) (after : ℕ) → Leave
 nothing-left bytes left after l none = ap left_fault (sym (left-kept bytes left after l)) ∙ none
 
 -- so a fault of what is left is the first record behind the last `end`
-pub some-left : (bytes : List ℕ) (left : List Kept) (after : ℕ) (e : Fault) → Leaves (kept_of bytes) left after → IsLeftFault left e
-    → IsTrailingFault (kept_of bytes) after e
-some-left bytes left after e l bad = subst (λ (rs : List Kept). IsLeftFault rs e) (left-kept bytes left after l) bad
+pub some-left : (bytes : List ℕ) (left : List Kept) (after : ℕ) (e : Fault) → Leaves (kept_of bytes) left after → OrNoMemory (Refuses (left_fault left)) e
+    → OrNoMemory (Refuses (trailing_fault (kept_of bytes) after)) e
+some-left bytes left after e l bad = subst (λ (rs : List Kept). OrNoMemory (Refuses (left_fault rs)) e) (left-kept bytes left after l) bad
 
 -- nothing was read, and nothing is left
 pub rest-all : (records : List Kept) → IsRest records records

@@ -16,17 +16,17 @@ use Rattle.sg_reader.specs.Kept.{Kept, begins}
 use Rattle.sg_reader.specs.Tests.{any_index, any_number, bad_number, first_of, number_in, refuse_if, size_in, spin_below}
 
 -- what a record begins with
-abbrev pub is_end : Kept → Bool
-is_end r = begins (codes "end") r
+abbrev pub says_end : Kept → Bool
+says_end r = begins (codes "end") r
 
-abbrev pub is_seam : Kept → Bool
-is_seam r = begins (codes "seam") r
+abbrev pub says_seam : Kept → Bool
+says_seam r = begins (codes "seam") r
 
-abbrev pub is_bond : Kept → Bool
-is_bond r = begins (codes "bond") r
+abbrev pub says_bond : Kept → Bool
+says_bond r = begins (codes "bond") r
 
-abbrev pub is_rot : Kept → Bool
-is_rot r = begins (codes "rot") r
+abbrev pub says_rot : Kept → Bool
+says_rot r = begins (codes "rot") r
 
 -- the numbers in the fields from field `from` on
 abbrev pub numbers_from : Kept → ℕ → List ℤ
@@ -37,28 +37,28 @@ sizes_from r from = map (λ i. size_in r i) (range_with_len from (length r.field
 
 -- the seam, if a record gives one
 unfoldable pub seam_in : List Kept → Option (List ℕ)
-seam_in body = option_map (λ r. sizes_from r 1) (find is_seam body)
+seam_in body = option_map (λ r. sizes_from r 1) (find says_seam body)
 
 -- the couplings of a lattice: all fields of the records that are no seam
 unfoldable pub couplings_in : List Kept → List ℤ
-couplings_in body = flat_map (λ r. numbers_from r 0) (filter (λ r. not (is_seam r)) body)
+couplings_in body = flat_map (λ r. numbers_from r 0) (filter (λ r. not (says_seam r)) body)
 
 -- the bonds `bond,U,V,J`
 abbrev pub bond_of : Kept → Bond
 bond_of r = record { u = size_in r 1; v = size_in r 2; j = number_in r 3 }
 
 unfoldable pub bonds_in : List Kept → List Bond
-bonds_in body = map bond_of (filter is_bond body)
+bonds_in body = map bond_of (filter says_bond body)
 
 -- the darts of spin i, by its record `rot,I,D,D,D`; the empty list where it has none
-abbrev pub is_rot_of : ℕ → Kept → Bool
-is_rot_of i r = is_rot r && (size_in r 1 == i)
+abbrev pub says_rot_of : ℕ → Kept → Bool
+says_rot_of i r = says_rot r && (size_in r 1 == i)
 
 unfoldable pub has_rot : List Kept → ℕ → Bool
-has_rot body i = list_any (is_rot_of i) body
+has_rot body i = list_any (says_rot_of i) body
 
 unfoldable pub darts_in : List Kept → ℕ → List ℕ
-darts_in body i = unwrap_or (option_map (λ r. sizes_from r 2) (find (is_rot_of i) body)) []
+darts_in body i = unwrap_or (option_map (λ r. sizes_from r 2) (find (says_rot_of i) body)) []
 
 -- a record that begins with `seam`, where one may stand before: it is the second, or a field is no bond's number
 abbrev pub seam_fault : Bool → Kept → Option Refusal
@@ -77,8 +77,8 @@ lattice_end_fault wanted found r = first_of (
 -- the tests of a record of a lattice
 unfoldable pub lattice_fault : ℕ → List Kept → Kept → Option Refusal
 lattice_fault wanted body r =
-    if is_seam r then seam_fault (list_any is_seam body) r
-    else (if is_end r then lattice_end_fault wanted (length (couplings_in body)) r
+    if says_seam r then seam_fault (list_any says_seam body) r
+    else (if says_end r then lattice_end_fault wanted (length (couplings_in body)) r
     else bad_number r 0 (λ i. any_number))
 
 -- the range of field i of a `bond` and of a `rot`
@@ -118,10 +118,10 @@ bare_end_fault r = refuse_if (not (length r.fields == 1)) (BadShape r.at)
 -- the tests of a record of a general instance of n spins
 unfoldable pub general_fault : ℕ → List Kept → Kept → Option Refusal
 general_fault n body r =
-    if is_bond r then bond_fault n (length (bonds_in body)) r
-    else (if is_rot r then rot_fault n (has_rot body (size_in r 1)) r
-    else (if is_seam r then seam_fault (list_any is_seam body) r
-    else (if is_end r then bare_end_fault r
+    if says_bond r then bond_fault n (length (bonds_in body)) r
+    else (if says_rot r then rot_fault n (has_rot body (size_in r 1)) r
+    else (if says_seam r then seam_fault (list_any says_seam body) r
+    else (if says_end r then bare_end_fault r
     else Some (UnknownKind r.at))))
 
 -- the first test that a record fails

@@ -27,8 +27,8 @@ pub record IsBetweenRecords (reader : Reader (Bor (List ℕ))) : Type 0 where
   pub ready : Ready reader
 
 -- a cursor at the end, or one whose reader failed, has nothing left
-abbrev pub left_of : Inside → List (List (List ℕ))
-left_of cursor = if cursor.is_done then [] else records_left cursor.reader
+abbrev pub cursor_left : Inside → List (List (List ℕ))
+cursor_left cursor = if cursor.is_done then [] else records_left cursor.reader
 
-abbrev pub IsSound : Inside → Type 0
-IsSound cursor = cursor.is_done ≡ false → IsBetweenRecords cursor.reader
+abbrev pub IsSoundCursor : Inside → Type 0
+IsSoundCursor cursor = cursor.is_done ≡ false → IsBetweenRecords cursor.reader

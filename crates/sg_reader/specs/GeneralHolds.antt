@@ -2,13 +2,13 @@
 use Rattle.std.specs.Prelude.{◌≡◌, ◌≤◌, List, [], ◌∷◌, ◌++◌, All, length, map, None}
 use Rattle.std.specs.List.{range_with_len}
 use Rattle.sg_model.specs.declared.refusal.Fault.{Fault}
-use Rattle.sg_model.specs.Faults.{IsFaultOf}
+use Rattle.sg_model.specs.Faults.{IsRefusalOf, OrNoMemory}
 use Rattle.sg_model.specs.Ising.{IsBond, Ising}
 use Rattle.sg_reader.specs.declared.general.GeneralBody.{GeneralBody}
 use Rattle.sg_limits.specs.Limits.{bond_limit}
 use Rattle.sg_reader.specs.declared.header.Header.TheVariants as header
 use Rattle.sg_reader.specs.Kept.{Kept}
-use Rattle.sg_reader.specs.Tests.{IsTestFault}
+use Rattle.sg_reader.specs.Tests.{Refuses}
 use Rattle.sg_reader.specs.Body.{bonds_in, darts_in, general_fault, has_rot, instance_of, seam_in}
 
 -- the bonds, the darts of each spin, the spins whose darts were given, and the seam of the records
@@ -18,7 +18,7 @@ pub record HoldsGeneral (body : List Kept) (state : GeneralBody) : Type 0 where
   pub joined : All (IsBond state.n) state.bonds
   pub darts : state.rotation ≡ map (darts_in body) (range_with_len 0 state.n)
   pub marks : state.seen.items ≡ map (has_rot body) (range_with_len 0 state.n)
-  pub cut : state.seam ≡ seam_in body
+  pub seam : state.seam ≡ seam_in body
 
 -- it is what some records give
 abbrev pub HoldsSome : GeneralBody → Type 0
@@ -33,7 +33,7 @@ HoldsNext old r new = (body : List Kept) → HoldsGeneral body old → HoldsGene
 
 abbrev pub IsNextFault : GeneralBody → Kept → Fault → Type 0
 IsNextFault old r fault = (body : List Kept) → HoldsGeneral body old →
-    IsTestFault (general_fault old.n body r) fault
+    OrNoMemory (Refuses (general_fault old.n body r)) fault
 
 -- the instance that the records gave, and why it is refused
 abbrev pub IsHeldInstance : GeneralBody → Ising → Type 0
@@ -42,4 +42,5 @@ IsHeldInstance state inst =
 
 abbrev pub IsHeldFault : GeneralBody → Fault → Type 0
 IsHeldFault state fault =
-    (body : List Kept) → HoldsGeneral body state → IsFaultOf (instance_of (header.General state.n) body) fault
+    (body : List Kept) → HoldsGeneral body state
+        → OrNoMemory (IsRefusalOf (instance_of (header.General state.n) body)) fault

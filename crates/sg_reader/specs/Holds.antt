@@ -4,12 +4,13 @@ use Rattle.sg_model.specs.declared.refusal.Fault.{Fault}
 use Rattle.sg_reader.specs.declared.lattice.LatticeBody.{LatticeBody}
 use Rattle.sg_reader.specs.Kept.{Kept}
 use Rattle.sg_reader.specs.Body.{couplings_in, lattice_fault, seam_in}
-use Rattle.sg_reader.specs.Tests.{IsTestFault}
+use Rattle.sg_reader.specs.Tests.{Refuses}
+use Rattle.sg_model.specs.Faults.{OrNoMemory}
 
 -- the couplings and the seam of the records
 pub record HoldsLattice (body : List Kept) (state : LatticeBody) : Type 0 where
   pub couplings : state.couplings ≡ couplings_in body
-  pub bonds : state.seam ≡ seam_in body
+  pub seam : state.seam ≡ seam_in body
 
 -- behind records that gave the state: the next one passes its tests; it gives the new state; it is refused
 abbrev pub PassesBehind : LatticeBody → Kept → Type 0
@@ -21,4 +22,4 @@ HoldsBehind old r new = (body : List Kept) → HoldsLattice body old → HoldsLa
 
 abbrev pub IsFaultBehind : LatticeBody → Kept → Fault → Type 0
 IsFaultBehind old r fault =
-    (body : List Kept) (wanted : ℕ) → HoldsLattice body old → IsTestFault (lattice_fault wanted body r) fault
+    (body : List Kept) (wanted : ℕ) → HoldsLattice body old → OrNoMemory (Refuses (lattice_fault wanted body r)) fault

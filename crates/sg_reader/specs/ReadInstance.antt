@@ -1,13 +1,11 @@
 -- Which instance a text gives, or why it is refused: the first test that a record fails, in the order of the records.
-use Rattle.std.specs.Prelude.{◌≡◌, ℕ, ◌+◌, List, [], ◌∷◌, ◌++◌, Some, None, ⊤}
-use Rattle.sg_model.specs.declared.refusal.Fault.{Fault}
-use Rattle.sg_model.specs.declared.refusal.Fault.TheVariants.{Refused, NoMemory}
+use Rattle.std.specs.Prelude.{◌≡◌, ℕ, ◌+◌, List, [], ◌∷◌, ◌++◌, Some, None}
 use Rattle.sg_model.specs.declared.refusal.Refusal.{Refusal}
 use Rattle.sg_model.specs.declared.refusal.Refusal.TheVariants.{Unended}
 use Rattle.sg_model.specs.Ising.{Ising}
 use Rattle.sg_model.specs.Rotation.{IsRotation}
 use Rattle.sg_model.specs.Seam.{IsSeam}
-use Rattle.sg_model.specs.Faults.{IsRefusalOf}
+use Rattle.sg_model.specs.Faults.{IsRefusalOf, OrNoMemory}
 use Rattle.sg_reader.specs.declared.header.Header.{Header}
 use Rattle.sg_reader.specs.Kept.{Kept}
 use Rattle.sg_reader.specs.Header.{header_fault, header_of}
@@ -53,12 +51,3 @@ pub data RefusesInstance (kept : List Kept) (refusal : Refusal) : Type 0 where
   Behind : (first : Kept) (rest : List Kept) (header : Header) → kept ≡ first ∷ rest →
       header_fault first ≡ None
       → header_of first ≡ Some header → RefusesBody header rest refusal → RefusesInstance kept refusal
-
--- a refusal by these rules, or want of memory, which may come at any time
-abbrev pub IsBodyFault : Header → List Kept → Fault → Type 0
-IsBodyFault header rest (Refused refusal) = RefusesBody header rest refusal
-IsBodyFault header rest NoMemory = ⊤
-
-abbrev pub IsReadFault : List Kept → Fault → Type 0
-IsReadFault kept (Refused refusal) = RefusesInstance kept refusal
-IsReadFault kept NoMemory = ⊤

@@ -10,18 +10,18 @@ use Rattle.sg_reader.specs.declared.range.Range.{Range}
 use Rattle.sg_reader.specs.Number.{number_of}
 use Rattle.sg_reader.specs.Kept.{Kept, begins, field}
 use Rattle.sg_reader.specs.Tests.{any_index, any_number, bad_number, first_of, number_in, refuse_if}
-use Rattle.sg_reader.specs.Body.{bare_end_fault, is_end, numbers_from, sizes_from}
+use Rattle.sg_reader.specs.Body.{bare_end_fault, says_end, numbers_from, sizes_from}
 use Rattle.sg_reader.specs.Ended.{record_at}
 
 -- what a record begins with
-abbrev pub is_energy : Kept → Bool
-is_energy r = begins (codes "energy") r
+abbrev pub says_energy : Kept → Bool
+says_energy r = begins (codes "energy") r
 
-abbrev pub is_spins : Kept → Bool
-is_spins r = begins (codes "spins") r
+abbrev pub says_spins : Kept → Bool
+says_spins r = begins (codes "spins") r
 
-abbrev pub is_loop : Kept → Bool
-is_loop r = begins (codes "loop") r
+abbrev pub says_loop : Kept → Bool
+says_loop r = begins (codes "loop") r
 
 -- the value of a spin: 1 or -1
 abbrev pub is_spin_value : Option ℤ → Bool
@@ -35,7 +35,7 @@ bad_spin r = find (λ i. not (is_spin_value (number_of (field r i)))) (range_wit
 -- the energy, `energy,E`
 abbrev pub energy_fault : Kept → Option Refusal
 energy_fault r = first_of (
-    refuse_if (not (is_energy r)) (UnknownKind r.at)
+    refuse_if (not (says_energy r)) (UnknownKind r.at)
     ∷ refuse_if (not (length r.fields == 2)) (BadShape r.at)
     ∷ bad_number r 1 (λ i. any_number)
     ∷ [])
@@ -43,7 +43,7 @@ energy_fault r = first_of (
 -- the spins, `spins,S,S,..`, perhaps none
 abbrev pub spins_fault : Kept → Option Refusal
 spins_fault r = first_of (
-    refuse_if (not (is_spins r)) (UnknownKind r.at)
+    refuse_if (not (says_spins r)) (UnknownKind r.at)
     ∷ option_map (λ i. BadNumber r.at i) (bad_spin r)
     ∷ [])
 
@@ -54,14 +54,14 @@ loop_range i = if i == 1 then any_number else any_index
 -- a loop, perhaps without bonds
 abbrev pub loop_fault : Kept → Option Refusal
 loop_fault r = first_of (
-    refuse_if (not (is_loop r)) (UnknownKind r.at)
+    refuse_if (not (says_loop r)) (UnknownKind r.at)
     ∷ refuse_if (length r.fields == 1) (BadShape r.at)
     ∷ bad_number r 1 loop_range
     ∷ [])
 
 -- the tests of a record behind the energy and the spins: a loop, or the `end`
 abbrev pub loops_fault : List Kept → Kept → Option Refusal
-loops_fault loops r = if is_end r then bare_end_fault r else loop_fault r
+loops_fault loops r = if says_end r then bare_end_fault r else loop_fault r
 
 -- the tests of a record of a result: the energy comes first, then the spins, then loops up to the `end`
 unfoldable pub result_fault : List Kept → Kept → Option Refusal
@@ -70,16 +70,16 @@ result_fault (energy ∷ []) r = spins_fault r
 result_fault (energy ∷ spins ∷ loops) r = loops_fault loops r
 
 -- the loop of a record
-abbrev pub loop_of : Kept → Loop
-loop_of r = record { y = number_in r 1; bonds = sizes_from r 2 }
+abbrev pub stated_loop : Kept → Loop
+stated_loop r = record { y = number_in r 1; bonds = sizes_from r 2 }
 
-abbrev pub loops_of : List Kept → List Loop
-loops_of body = map loop_of body
+abbrev pub stated_loops : List Kept → List Loop
+stated_loops body = map stated_loop body
 
 -- what the records in front of the `end` state
 unfoldable pub result_of : List Kept → ResultText
 result_of body = record {
   energy = number_in (record_at body 0) 1;
   spins = numbers_from (record_at body 1) 1;
-  loops = loops_of (drop 2 body);
+  loops = stated_loops (drop 2 body);
 }

@@ -1,14 +1,13 @@
 -- Tests of a record: each gives its refusal where it fails, and of several the first that fails counts.
-use Rattle.std.specs.Prelude.{◌≡◌, ⊤, ℕ, ◌-◌, ◌^◌, ◌&&◌, Bool, false, not, ℤ, pos, neg_ℤ, int_le, unsigned_abs, if◌then◌else◌, List, [], ◌∷◌, length, find, Option, Some, None, option_map, unwrap_or}
+use Rattle.std.specs.Prelude.{◌≡◌, ℕ, ◌-◌, ◌^◌, ◌&&◌, Bool, false, not, ℤ, pos, neg_ℤ, int_le, unsigned_abs, if◌then◌else◌, List, [], ◌∷◌, length, find, Option, Some, None, option_map, unwrap_or}
 use Rattle.std.specs.List.{range_with_len}
 use Rattle.std.specs.Option.{option_or}
-use Rattle.sg_model.specs.declared.refusal.Fault.{Fault}
-use Rattle.sg_model.specs.declared.refusal.Fault.TheVariants.{Refused, NoMemory}
 use Rattle.sg_model.specs.declared.refusal.Refusal.{Refusal}
 use Rattle.sg_model.specs.declared.refusal.Refusal.TheVariants.{BadNumber}
 use Rattle.sg_reader.specs.declared.range.Range.{Range}
 use Rattle.sg_reader.specs.Number.{number_of}
 use Rattle.sg_reader.specs.Kept.{Kept, field}
+use Rattle.sg_model.specs.Faults.{OrNoMemory}
 
 -- the refusal, if the test fails
 abbrev pub refuse_if : Bool → Refusal → Option Refusal
@@ -56,7 +55,6 @@ bad_field r from range =
 abbrev pub bad_number : Kept → ℕ → (ℕ → Range) → Option Refusal
 bad_number r from range = option_map (λ i. BadNumber r.at i) (bad_field r from range)
 
--- what a fault says of a test: its refusal, or want of memory, which may come at any time
-abbrev pub IsTestFault : Option Refusal → Fault → Type 0
-IsTestFault test (Refused refusal) = test ≡ Some refusal
-IsTestFault test NoMemory = ⊤
+-- the test fails with this refusal
+abbrev pub Refuses : Option Refusal → Refusal → Type 0
+Refuses test refusal = test ≡ Some refusal

@@ -1,6 +1,7 @@
 ghost use Rattle.std.specs.Prelude.{◌≡◌, ◌≤◌, ◌++◌, length, None, Some, IfOk, IfErr, OnOk};
 ghost use Rattle.sg_reader.specs.Body.{bare_end_fault, numbers_from, seam_fault, sizes_from};
-ghost use Rattle.sg_reader.specs.Tests.{any_index, any_number, bad_field, bad_number, IsTestFault};
+ghost use Rattle.sg_reader.specs.Tests.{any_index, any_number, bad_field, bad_number, Refuses};
+ghost use Rattle.sg_model.specs.Faults.{OrNoMemory};
 
 use super::range::Range;
 use super::row::Row;
@@ -17,7 +18,7 @@ pub(crate) const SEAM: &[u8] = b"seam";
 pub(crate) fn push_couplings(couplings: &mut Couplings, row: &Row) -> Result<(), Fault>
     ensures passes { OnOk result (bad_field row.now 0 (λ i. any_number) ≡ None) }
     ensures added { OnOk result (couplings.new ≡ couplings.old ++ numbers_from row.now 0) }
-    ensures fault { IfErr result (IsTestFault (bad_number row.now 0 (λ i. any_number))) }
+    ensures fault { IfErr result (OrNoMemory (Refuses (bad_number row.now 0 (λ i. any_number)))) }
 {
     for i in 0..row.len() {
         let coupling = row.number(i, Range::any_number())?;
@@ -31,7 +32,7 @@ pub fn indices(alloc: Global, row: &Row, from: usize) -> Result<BondList, Fault>
     requires { from ≤ length row.now.fields }
     ensures passes { IfOk result (λ l. bad_field row.now from (λ i. any_index) ≡ None) }
     ensures value { IfOk result (λ l. l ≡ sizes_from row.now from) }
-    ensures fault { IfErr result (IsTestFault (bad_number row.now from (λ i. any_index))) }
+    ensures fault { IfErr result (OrNoMemory (Refuses (bad_number row.now from (λ i. any_index)))) }
 {
     let mut list = BondList::new(alloc);
     for i in from..row.len() {
@@ -49,7 +50,7 @@ pub(crate) fn seam(alloc: Global, row: &Row, seen: bool) -> Result<BondList, Fau
     requires { 1 ≤ length row.now.fields }
     ensures passes { IfOk result (λ l. seam_fault seen row.now ≡ None) }
     ensures value { IfOk result (λ l. l ≡ sizes_from row.now 1) }
-    ensures fault { IfErr result (IsTestFault (seam_fault seen row.now)) }
+    ensures fault { IfErr result (OrNoMemory (Refuses (seam_fault seen row.now))) }
 {
     if seen {
         return Err(Fault::Refused(Refusal::BadShape { at: row.at() }));

@@ -21,11 +21,11 @@ impl<'a> Model for Cursor<'a> {
 
     ghost Value = { List (List (List ℕ)) };
 
-    ghost use Rattle.sg_reader.specs.Cursor.{left_of, IsSound};
+    ghost use Rattle.sg_reader.specs.Cursor.{cursor_left, IsSoundCursor};
 
-    ghost view = { left_of };
+    ghost view = { cursor_left };
 
-    ghost invariant = { IsSound };
+    ghost invariant = { IsSoundCursor };
 }
 
 impl<'a> Cursor<'a> {

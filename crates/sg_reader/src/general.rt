@@ -5,11 +5,12 @@ ghost use Rattle.sg_model.specs.Ising.{IsBond, bond_count};
 ghost use Rattle.sg_model.specs.WellFormed.{IsInstance};
 ghost use Rattle.sg_reader.specs.declared.header.Header.TheVariants as header;
 ghost use Rattle.sg_reader.specs.Kept.{Kept, field};
-ghost use Rattle.sg_reader.specs.Tests.{IsTestFault, is_number_in, size_in, spin_below};
-ghost use Rattle.sg_reader.specs.Body.{bond_fault, bond_of, ends_fault, is_bond, is_end, is_rot, is_seam, rot_fault};
-ghost use Rattle.sg_reader.specs.ReadInstance.{IsBodyFault, ReadsBody};
+ghost use Rattle.sg_reader.specs.Tests.{is_number_in, size_in, spin_below, Refuses};
+ghost use Rattle.sg_reader.specs.Body.{bond_fault, bond_of, ends_fault, says_bond, says_end, says_rot, says_seam, rot_fault};
+ghost use Rattle.sg_reader.specs.ReadInstance.{ReadsBody, RefusesBody};
 ghost use Rattle.sg_reader.specs.Leaves.{IsRest, Leaves};
 ghost use Rattle.sg_reader.specs.GeneralHolds.{HoldsGeneral, HoldsNext, HoldsSome, IsHeldFault, IsHeldInstance, IsNextFault, PassesNext};
+ghost use Rattle.sg_model.specs.Faults.{OrNoMemory};
 
 use super::NoMemory;
 use super::body::{END, SEAM, bare_end, indices, seam};
@@ -117,7 +118,7 @@ impl GeneralBody {
     fn take_bond(&mut self, row: &Row) -> Result<(), Fault>
         requires some { 1 ≤ self.old.n }
         requires few { length self.old.bonds ≤ bond_limit }
-        requires word { is_bond row.now ≡ true }
+        requires word { says_bond row.now ≡ true }
         ensures passes { OnOk result (PassesNext self.old row.now) }
         ensures holds { OnOk result (HoldsNext self.old row.now self.new) }
         ensures same { OnOk result (self.new.n ≡ self.old.n) }
@@ -132,7 +133,7 @@ impl GeneralBody {
         requires some { 1 ≤ self.old.n }
         requires lists { length self.old.rotation ≡ self.old.n }
         requires marks { vec_len self.old.seen ≡ self.old.n }
-        requires word { is_rot row.now ≡ true }
+        requires word { says_rot row.now ≡ true }
         ensures passes { OnOk result (PassesNext self.old row.now) }
         ensures holds { OnOk result (HoldsNext self.old row.now self.new) }
         ensures same { OnOk result (self.new.n ≡ self.old.n) }
@@ -149,7 +150,7 @@ impl GeneralBody {
     }
 
     fn take_seam(&mut self, alloc: Global, row: &Row) -> Result<(), Fault>
-        requires { is_seam row.now ≡ true }
+        requires { says_seam row.now ≡ true }
         ensures passes { OnOk result (PassesNext self.old row.now) }
         ensures holds { OnOk result (HoldsNext self.old row.now self.new) }
         ensures same { OnOk result (self.new.n ≡ self.old.n) }
@@ -166,7 +167,7 @@ impl GeneralBody {
         requires few { length self.old.bonds ≤ bond_limit }
         requires lists { length self.old.rotation ≡ self.old.n }
         requires marks { vec_len self.old.seen ≡ self.old.n }
-        requires other { is_end row.now ≡ false }
+        requires other { says_end row.now ≡ false }
         ensures passes { OnOk result (PassesNext self.old row.now) }
         ensures holds { OnOk result (HoldsNext self.old row.now self.new) }
         ensures same { OnOk result (self.new.n ≡ self.old.n) }
@@ -238,7 +239,7 @@ pub(crate) fn read_general(
     ensures instance { IfOk result (λ r. IsInstance r.0) }
     ensures spins { IfOk result (λ r. (r.0).n ≡ n) }
     ensures bonds { IfOk result (λ r. bond_count r.0 ≤ bond_limit) }
-    ensures fault { IfErr result (IsBodyFault (header.General n) records.old) }
+    ensures fault { IfErr result (OrNoMemory (RefusesBody (header.General n) records.old)) }
     ensures rest { IsRest records.old records.new }
 {
     let mut body = GeneralBody::new(alloc, n)?;

@@ -1,13 +1,13 @@
 ghost use Rattle.std.specs.Prelude.{◌≡◌, ◌<◌, ◌≤◌, ◌+◌, ◌*◌, ◌++◌, ◌∷◌, [], ◌^◌, ℕ, List, false, true, None, Some, length, All, IfOk, IfErr, OnOk, unsigned_abs};
 ghost use Rattle.std.specs.List.{sum_by};
-ghost use Rattle.sg_model.specs.Faults.{IsFaultOf};
+ghost use Rattle.sg_model.specs.Faults.{IsRefusalOf, OrNoMemory};
 ghost use Rattle.sg_model.specs.Ising.{bond_count};
 ghost use Rattle.sg_model.specs.WellFormed.{IsInstance};
 ghost use Rattle.sg_lattice.specs.Tables.{IsSize, bond_total, lattice};
 ghost use Rattle.sg_reader.specs.declared.header.Header.TheVariants as header;
-ghost use Rattle.sg_reader.specs.Tests.{IsTestFault};
-ghost use Rattle.sg_reader.specs.Body.{is_end, lattice_end_fault, reseamed};
-ghost use Rattle.sg_reader.specs.ReadInstance.{IsBodyFault, ReadsBody};
+ghost use Rattle.sg_reader.specs.Tests.{Refuses};
+ghost use Rattle.sg_reader.specs.Body.{says_end, lattice_end_fault, reseamed};
+ghost use Rattle.sg_reader.specs.ReadInstance.{ReadsBody, RefusesBody};
 ghost use Rattle.sg_reader.specs.Leaves.{IsRest, Leaves};
 ghost use Rattle.sg_reader.specs.Holds.{HoldsBehind, IsFaultBehind, PassesBehind};
 
@@ -28,7 +28,7 @@ pub(crate) struct LatticeBody {
 impl LatticeBody {
     /// Takes a record that is not the `end`.
     fn take(&mut self, alloc: Global, row: &Row) -> Result<(), Fault>
-        requires { is_end row.now ≡ false }
+        requires { says_end row.now ≡ false }
         ensures passes { OnOk result (PassesBehind self.old row.now) }
         ensures holds { OnOk result (HoldsBehind self.old row.now self.new) }
         ensures count { OnOk result (length self.new.couplings ≤ length self.old.couplings + length row.now.fields) }
@@ -71,7 +71,7 @@ fn lattice_of(
     requires fit { All (λ j. unsigned_abs j < 2 ^ 63) body.couplings }
     ensures ok { IfOk result (λ inst. inst ≡ reseamed body.seam (lattice kind rows cols body.couplings)) }
     ensures instance { IfOk result IsInstance }
-    ensures fault { IfErr result (IsFaultOf (reseamed body.seam (lattice kind rows cols body.couplings))) }
+    ensures fault { IfErr result (OrNoMemory (IsRefusalOf (reseamed body.seam (lattice kind rows cols body.couplings)))) }
 {
     let LatticeBody { couplings, seam } = body;
     let inst = build(alloc, kind, rows, cols, couplings)?;
@@ -102,7 +102,7 @@ pub(crate) fn read_lattice(
     ensures instance { IfOk result (λ r. IsInstance r.0) }
     ensures spins { IfOk result (λ r. (r.0).n ≡ rows * cols) }
     ensures bonds { IfOk result (λ r. bond_count r.0 ≤ 3 * (rows * cols)) }
-    ensures fault { IfErr result (IsBodyFault (header.Lattice kind rows cols) records.old) }
+    ensures fault { IfErr result (OrNoMemory (RefusesBody (header.Lattice kind rows cols) records.old)) }
     ensures rest { IsRest records.old records.new }
 {
     let mut body = LatticeBody {

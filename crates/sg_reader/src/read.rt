@@ -3,8 +3,10 @@ ghost use Rattle.sg_limits.specs.Limits.{bond_limit, spin_limit};
 ghost use Rattle.sg_model.specs.Ising.{bond_count};
 ghost use Rattle.sg_model.specs.WellFormed.{IsInstance};
 ghost use Rattle.sg_reader.specs.Leaves.{IsRest, Leaves};
-ghost use Rattle.sg_reader.specs.NoMore.{IsLeftFault, LeavesBehind, left_fault};
-ghost use Rattle.sg_reader.specs.ReadInstance.{IsReadFault, ReadsInstance};
+ghost use Rattle.sg_reader.specs.NoMore.{LeavesBehind, left_fault};
+ghost use Rattle.sg_reader.specs.ReadInstance.{ReadsInstance, RefusesInstance};
+ghost use Rattle.sg_reader.specs.Tests.{Refuses};
+ghost use Rattle.sg_model.specs.Faults.{OrNoMemory};
 
 use super::general::read_general;
 use super::header::{Header, read_header};
@@ -44,7 +46,7 @@ pub fn read_instance(alloc: Global, rows: &mut Rows<'_>) -> Result<(Instance, u3
     ensures instance { IfOk result (λ r. IsInstance r.0) }
     ensures few_spins { IfOk result (λ r. (r.0).n ≤ spin_limit) }
     ensures few_bonds { IfOk result (λ r. bond_count r.0 ≤ bond_limit) }
-    ensures fault { IfErr result (IsReadFault rows.old) }
+    ensures fault { IfErr result (OrNoMemory (RefusesInstance rows.old)) }
     ensures rest { IsRest rows.old rows.new }
 {
     let mut row = Row::new(alloc);
@@ -71,7 +73,7 @@ pub fn read_instance(alloc: Global, rows: &mut Rows<'_>) -> Result<(Instance, u3
 pub fn no_more(alloc: Global, rows: &mut Rows<'_>) -> Result<(), Fault>
     ensures none { OnOk result (left_fault rows.old ≡ None) }
     ensures left { OnOk result (rows.new ≡ []) }
-    ensures fault { IfErr result (IsLeftFault rows.old) }
+    ensures fault { IfErr result (OrNoMemory (Refuses (left_fault rows.old))) }
     ensures behind { IfErr result (LeavesBehind rows.old rows.new) }
 {
     let mut row = Row::new(alloc);

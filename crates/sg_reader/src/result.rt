@@ -2,12 +2,13 @@ ghost use Rattle.std.specs.Prelude.{◌≡◌, ◌<◌, ◌≤◌, ◌∷◌, No
 ghost use Rattle.std.specs.List.{sum_by};
 ghost use Rattle.sg_limits.specs.Limits.{text_limit};
 ghost use Rattle.sg_reader.specs.Body.{numbers_from};
-ghost use Rattle.sg_reader.specs.Ended.{IsRecordsFault, StatesToEnd};
+ghost use Rattle.sg_reader.specs.Ended.{StatesToEnd, RefusesRecords};
 ghost use Rattle.sg_reader.specs.Kept.{Kept};
 ghost use Rattle.sg_reader.specs.Leaves.{IsRest, Leaves};
-ghost use Rattle.sg_reader.specs.Result.{energy_fault, loop_fault, loop_of, loops_fault, loops_of, spins_fault};
-ghost use Rattle.sg_reader.specs.ReadResult.{IsResultFault, ReadsResult};
-ghost use Rattle.sg_reader.specs.Tests.{IsTestFault, number_in};
+ghost use Rattle.sg_reader.specs.Result.{energy_fault, loop_fault, stated_loop, loops_fault, stated_loops, spins_fault};
+ghost use Rattle.sg_reader.specs.ReadResult.{ReadsResult, RefusesResult};
+ghost use Rattle.sg_reader.specs.Tests.{number_in, Refuses};
+ghost use Rattle.sg_model.specs.Faults.{OrNoMemory};
 
 use super::body::{END, bare_end, indices};
 use super::range::Range;
@@ -44,7 +45,7 @@ fn read_spins(alloc: Global, row: &Row) -> Result<Spins, Fault>
     ensures passes { IfOk result (λ s. spins_fault row.now ≡ None) }
     ensures value { IfOk result (λ s. s ≡ numbers_from row.now 1) }
     ensures count { IfOk result (λ s. length s < length row.now.fields) }
-    ensures fault { IfErr result (IsTestFault (spins_fault row.now)) }
+    ensures fault { IfErr result (OrNoMemory (Refuses (spins_fault row.now))) }
 {
     if !row.begins(SPINS) {
         return Err(Fault::Refused(Refusal::UnknownKind { at: row.at() }));
@@ -60,9 +61,9 @@ fn read_spins(alloc: Global, row: &Row) -> Result<Spins, Fault>
 // The weight and the bonds of a record `loop,Y,B,B,..`.
 fn read_loop(alloc: Global, row: &Row) -> Result<Loop, Fault>
     ensures passes { IfOk result (λ l. loop_fault row.now ≡ None) }
-    ensures value { IfOk result (λ l. l ≡ loop_of row.now) }
+    ensures value { IfOk result (λ l. l ≡ stated_loop row.now) }
     ensures count { IfOk result (λ l. 1 < length row.now.fields) }
-    ensures fault { IfErr result (IsTestFault (loop_fault row.now)) }
+    ensures fault { IfErr result (OrNoMemory (Refuses (loop_fault row.now))) }
 {
     if !row.begins(LOOP) {
         return Err(Fault::Refused(Refusal::UnknownKind { at: row.at() }));
@@ -80,7 +81,7 @@ fn next_energy(rows: &mut Rows<'_>, row: &mut Row) -> Result<i64, Fault>
     ensures split { IfOk result (λ e. rows.old ≡ row.new ∷ rows.new) }
     ensures passes { IfOk result (λ e. energy_fault row.new ≡ None) }
     ensures value { IfOk result (λ e. e ≡ number_in row.new 1) }
-    ensures fault { IfErr result (IsResultFault rows.old) }
+    ensures fault { IfErr result (OrNoMemory (RefusesResult rows.old)) }
     ensures rest { IsRest rows.old rows.new }
 {
     if !rows.next(row)? {
@@ -98,7 +99,7 @@ fn next_spins(alloc: Global, rows: &mut Rows<'_>, row: &mut Row) -> Result<Spins
     ensures count { IfOk result (λ s. length s < text_limit) }
     ensures few { IfOk result (λ s. sum_by (λ r. length r.fields) rows.new ≤ text_limit) }
     ensures fault { IfErr result (λ e. (energy : Kept) → energy_fault energy ≡ None →
-        IsResultFault (energy ∷ rows.old) e) }
+        OrNoMemory (RefusesResult (energy ∷ rows.old)) e) }
     ensures rest { IsRest rows.old rows.new }
 {
     if !rows.next(row)? {
@@ -110,10 +111,10 @@ fn next_spins(alloc: Global, rows: &mut Rows<'_>, row: &mut Row) -> Result<Spins
 // The loops up to the `end`, with the number of records of the text up to and with it.
 fn read_loops(alloc: Global, rows: &mut Rows<'_>, row: &mut Row) -> Result<(Loops, u32), Fault>
     requires { sum_by (λ r. length r.fields) rows.old ≤ text_limit }
-    ensures read { IfOk result (λ r. StatesToEnd loops_fault loops_of rows.old r.0 r.1) }
+    ensures read { IfOk result (λ r. StatesToEnd loops_fault stated_loops rows.old r.0 r.1) }
     ensures left { IfOk result (λ r. Leaves rows.old rows.new r.1) }
     ensures few { IfOk result (λ r. length r.0 < text_limit) }
-    ensures fault { IfErr result (IsRecordsFault loops_fault rows.old) }
+    ensures fault { IfErr result (OrNoMemory (RefusesRecords loops_fault rows.old)) }
     ensures rest { IsRest rows.old rows.new }
 {
     let mut loops = Loops::new(alloc);
@@ -148,7 +149,7 @@ pub fn read_result(alloc: Global, rows: &mut Rows<'_>) -> Result<(ResultText, u3
     ensures left { IfOk result (λ r. Leaves rows.old rows.new r.1) }
     ensures few_spins { IfOk result (λ r. length r.0.spins < text_limit) }
     ensures few_loops { IfOk result (λ r. length r.0.loops < text_limit) }
-    ensures fault { IfErr result (IsResultFault rows.old) }
+    ensures fault { IfErr result (OrNoMemory (RefusesResult rows.old)) }
     ensures rest { IsRest rows.old rows.new }
 {
     let mut row = Row::new(alloc);

@@ -4,12 +4,12 @@ use Rattle.std.specs.Fmt.{signed_decimal}
 use Rattle.std.specs.List.{flat_map}
 
 -- a comma and a number in decimal
-abbrev pub entry : ℤ → List ℕ
-entry number = 44 ∷ signed_decimal number
+abbrev pub listed_number : ℤ → List ℕ
+listed_number number = 44 ∷ signed_decimal number
 
 -- a word and its numbers
 abbrev pub entries : List ℕ → List ℤ → List ℕ
-entries word numbers = word ++ flat_map entry numbers
+entries word numbers = word ++ flat_map listed_number numbers
 
 -- a whole line
 abbrev pub line : List ℕ → List ℤ → List ℕ

@@ -1,7 +1,7 @@
 // Energies, spins and the loops that prove them.
 ghost use Rattle.std.specs.Prelude.{◌≡◌, ◌++◌, pos, map, IfOk, OnOk};
 ghost use Rattle.std.specs.List.{flat_map};
-ghost use Rattle.sg_report.specs.Line.{entry};
+ghost use Rattle.sg_report.specs.Line.{listed_number};
 ghost use Rattle.sg_report.specs.Text.{energy_text as energy_bytes, ground_text as ground_bytes, loop_line, state_lines};
 
 use super::NoMemory;
@@ -50,7 +50,7 @@ fn push_state(text: &mut Vec<u8>, energy: i64, spins: &Spins) -> Result<(), NoMe
 
 // Adds a comma and a value for each spin.
 pub fn push_spins(text: &mut Vec<u8>, spins: &[i8]) -> Result<(), NoMemory>
-    ensures { OnOk result (text.new.items ≡ text.old.items ++ flat_map entry spins.now) }
+    ensures { OnOk result (text.new.items ≡ text.old.items ++ flat_map listed_number spins.now) }
 {
     for value in spins {
         push_entry(text, i128::from(*value))?;
@@ -70,7 +70,7 @@ pub fn push_loops(text: &mut Vec<u8>, loops: &[Loop]) -> Result<(), NoMemory>
 
 // Adds the line of a loop.
 fn push_loop(text: &mut Vec<u8>, entry: &Loop) -> Result<(), NoMemory>
-    ensures { OnOk result (text.new.items ≡ text.old.items ++ loop_line entry.now) }
+    ensures { OnOk result (text.new.items ≡ text.old.items ++ loop_line listed_number.now) }
 {
     push_entries(text, b"loop", &[i128::from(entry.y)])?;
     push_bonds(text, entry.bonds.as_slice())?;
@@ -80,7 +80,7 @@ fn push_loop(text: &mut Vec<u8>, entry: &Loop) -> Result<(), NoMemory>
 
 /// Adds a comma and a number for each bond, or for each edge.
 pub fn push_bonds(text: &mut Vec<u8>, bonds: &[u32]) -> Result<(), NoMemory>
-    ensures { OnOk result (text.new.items ≡ text.old.items ++ flat_map entry (map pos bonds.now)) }
+    ensures { OnOk result (text.new.items ≡ text.old.items ++ flat_map listed_number (map pos bonds.now)) }
 {
     for bond in bonds {
         push_entry(text, i128::from(*bond))?;

@@ -1,6 +1,6 @@
 // The parts of lines.
 ghost use Rattle.std.specs.Prelude.{◌≡◌, [], ◌∷◌, ◌++◌, IfOk, OnOk};
-ghost use Rattle.sg_report.specs.Line.{entries, entry, line};
+ghost use Rattle.sg_report.specs.Line.{entries, listed_number, line};
 
 use super::NoMemory;
 use itoa::Buffer;
@@ -8,7 +8,7 @@ use std::alloc::Global;
 
 /// Adds a comma and a number to a text.
 pub fn push_entry(text: &mut Vec<u8>, number: i128) -> Result<(), NoMemory>
-    ensures { OnOk result (text.new.items ≡ text.old.items ++ entry number) }
+    ensures { OnOk result (text.new.items ≡ text.old.items ++ listed_number number) }
 {
     text.push(b',')?;
     let mut buffer = Buffer::new();

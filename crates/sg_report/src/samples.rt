@@ -2,7 +2,7 @@
 ghost use Rattle.std.specs.Prelude.{◌≡◌, ◌++◌, ◌+ℤ◌, ℤ, IfOk, OnOk};
 ghost use Rattle.std.specs.Fmt.{signed_decimal};
 ghost use Rattle.std.specs.List.{flat_map};
-ghost use Rattle.sg_report.specs.Line.{entry};
+ghost use Rattle.sg_report.specs.Line.{listed_number};
 ghost use Rattle.sg_report.specs.Samples.{couplings_line, instance_text as instance_bytes, kind_word, sample_text as sample_bytes};
 
 use super::NoMemory;
@@ -63,7 +63,7 @@ fn push_couplings(text: &mut Vec<u8>, j: &[i64]) -> Result<(), NoMemory>
 
 // Adds a comma and a number for each of these.
 fn push_all(text: &mut Vec<u8>, numbers: &[i64]) -> Result<(), NoMemory>
-    ensures { OnOk result (text.new.items ≡ text.old.items ++ flat_map entry numbers.now) }
+    ensures { OnOk result (text.new.items ≡ text.old.items ++ flat_map listed_number numbers.now) }
 {
     for number in numbers {
         push_entry(text, i128::from(*number))?;

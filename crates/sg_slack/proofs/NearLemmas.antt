@@ -10,7 +10,7 @@ use Rattle.sg_slack.proofs.ScanLemmas.{Least-nearer, Least-same, below_next}
 use Rattle.sg_slack.specs.Kept.{IsKeyOf, IsNear, IsNearestOf, IsTakenAt, key_of, kept_at, members_of, nearest_at}
 use Rattle.sg_slack.specs.Members.{Agree, IsMember, Member, TotalsFit, grown, member_at}
 use Rattle.sg_slack.specs.Partner.{AreRisen}
-use Rattle.sg_slack.specs.Scan.{IsNearer, IsNearestFree}
+use Rattle.sg_slack.specs.Scan.{IsLesser, IsNearestFree}
 use Rattle.sg_slack.specs.Slack.{IsOuterFree, Least, mark_at, slack_of, total_at}
 use Rattle.sg_slack.specs.Table.{Table, cost_of}
 use Rattle.sg_slack.specs.declared.Mark.{Mark}
@@ -366,7 +366,7 @@ module _ (t : Table) (totals : List ℤ) (nearest : List Nearest) (marks : List 
 
   -- the least up to a free leaf, from the one before and the pair there
   pub Least-free : (best result : Option Pair) (v : ℕ) → v < t.size → mark_at marks v ≡ Free →
-      IsNearer best (Some (record { u = (nearest_at nearest v).leaf; v = v; slack = slack_of t totals (nearest_at nearest v).leaf v })) result →
+      IsLesser best (Some (record { u = (nearest_at nearest v).leaf; v = v; slack = slack_of t totals (nearest_at nearest v).leaf v })) result →
       Least t totals (Until v) best → Least t totals (Until (v + 1)) result
   Least-free best result v low free nearer least =
       let is : IsNearestFree t nearest marks (nearest_at nearest v).leaf v = record { v_leaf = low; nearest_is = refl; free = free } in

@@ -10,7 +10,7 @@ use Rattle.sg_slack.proofs.ScanLemmas.{Bound-keep, Bounds-nearer, Bounds-of, Lea
 use Rattle.sg_slack.specs.Kept.{kept_at}
 use Rattle.sg_slack.specs.Partner.{AreLeaves, ArePartners, AreRisen, HasCost, HasRoom, HasSlots, IsCoarser, KeepsPartners}
 use Rattle.sg_slack.specs.Partner.{IsPairWith, IsPartner, IsPartnerOf, away_of, group_at, partner_at, top_of}
-use Rattle.sg_slack.specs.Scan.{Bounds, IsApartBefore, IsApartFrom, IsApartOf, IsNearer, IsNoMore, IsWithMember, LeastBefore}
+use Rattle.sg_slack.specs.Scan.{Bounds, IsApartBefore, IsApartFrom, IsApartOf, IsLesser, IsNoMore, IsWithMember, LeastBefore}
 use Rattle.sg_slack.specs.Slack.{Least, slack_of, total_at}
 use Rattle.sg_slack.specs.Table.{Table, cost_of}
 use Rattle.sg_slack.specs.declared.Pair.{Pair}
@@ -131,7 +131,7 @@ module _ (t : Table) (totals : List ℤ) (members : List Kept) (tops : List ℕ)
   -- the members that come later are looked at too
   pub Bounds-extended : (start : ℕ) (kept more result : Option Pair) → start ≤ all →
       Bounds t totals (IsWithMember members row) (IsApartOf start members tops row) kept → Least t totals (IsApartFrom start all members tops row) more →
-      IsNearer kept more result → Bounds t totals (IsWithMember members row) (IsApartOf all members tops row) result
+      IsLesser kept more result → Bounds t totals (IsWithMember members row) (IsApartOf all members tops row) result
   Bounds-extended start kept more result within bound least nearer =
       Bounds-nearer t totals (IsWithMember members row) (IsApartOf start members tops row) (IsApartFrom start all members tops row)
       (IsApartOf all members tops row)
@@ -195,7 +195,7 @@ module _ (t : Table) (totals : List ℤ) (members : List Kept) (tops : List ℕ)
 
   -- one more member, which has been looked at
   pub LeastBefore-more : (best pair result : Option Pair) → place < all → LeastBefore t totals place members tops best →
-      Least t totals (IsApartOf all members tops row) pair → IsNearer best pair result → LeastBefore t totals (place + 1) members tops result
+      Least t totals (IsApartOf all members tops row) pair → IsLesser best pair result → LeastBefore t totals (place + 1) members tops result
   LeastBefore-more best pair result here before least nearer =
       Bounds-nearer t totals (IsApartBefore all members tops) (IsApartBefore place members tops) (IsApartOf all members tops row)
       (IsApartBefore (place + 1) members tops) split-place best pair result nearer before
@@ -256,7 +256,7 @@ module _ (t : Table) (totals : List ℤ) (members : List Kept) (tops : List ℕ)
 
     -- the least from a start on, with one member more of another top
     pub From-more : (best result : Option Pair) → start ≤ place → get_or tops row 0 ≢ get_or tops (kept_at members place).leaf 0 →
-        IsNearer best (Some (record { u = row; v = (kept_at members place).leaf; slack = slack_of t totals row (kept_at members place).leaf })) result →
+        IsLesser best (Some (record { u = row; v = (kept_at members place).leaf; slack = slack_of t totals row (kept_at members place).leaf })) result →
         Least t totals (IsApartFrom start place members tops row) best → Least t totals (IsApartFrom start (place + 1) members tops row) result
     From-more best result within apart nearer least =
         Least-nearer t totals (IsApartFrom start place members tops row) Here' (IsApartFrom start (place + 1) members tops row) more-from

@@ -5,7 +5,7 @@ use Rattle.std.proofs.lemmas.Bool.{cases_lt}
 use Rattle.sg_slack.specs.declared.Pair.{Pair}
 use Rattle.sg_slack.specs.Table.{Table}
 use Rattle.sg_slack.specs.Slack.{slack_of, Least}
-use Rattle.sg_slack.specs.Scan.{Bounds, IsBound, IsNearer}
+use Rattle.sg_slack.specs.Scan.{Bounds, IsBound, IsLesser}
 
 le_refl : (a : ℤ) → a ≤ℤ a
 le_refl a = omega (arith, ints)
@@ -56,7 +56,7 @@ module _ (t : Table) (totals : List ℤ) (Among Old More New : ℕ → ℕ → T
       }
 
   -- the nearer of a bound of some pairs and one of others bounds all
-  pub Bounds-nearer : (best other result : Option Pair) → IsNearer best other result → Bounds t totals Among Old best → Bounds t totals Among More other →
+  pub Bounds-nearer : (best other result : Option Pair) → IsLesser best other result → Bounds t totals Among Old best → Bounds t totals Among More other →
       Bounds t totals Among New result
   Bounds-nearer None None result is none none' =
       subst (λ r. Bounds t totals Among New r) (sym is) (λ u v new. elim (back u v new) [
@@ -77,7 +77,7 @@ module _ (t : Table) (totals : List ℤ) (Among Old More New : ℕ → ℕ → T
 module _ (t : Table) (totals : List ℤ) (Old More New : ℕ → ℕ → Type 0) (old : (u v : ℕ) → Old u v → New u v) (more : (u v : ℕ) → More u v → New u v)
     (back : (u v : ℕ) → New u v → Old u v ⊎ More u v) where
   -- the nearer of the least of some pairs and the least of others is the least of all
-  pub Least-nearer : (best other result : Option Pair) → IsNearer best other result → Least t totals Old best → Least t totals More other →
+  pub Least-nearer : (best other result : Option Pair) → IsLesser best other result → Least t totals Old best → Least t totals More other →
       Least t totals New result
   Least-nearer best other result is least least' =
       Least-of t totals New result (Bounds-nearer t totals New Old More New back best other result is (Bounds-of t totals New Old old best least)
@@ -116,7 +116,7 @@ module _ (t : Table) (totals : List ℤ) (Is : ℕ → ℕ → Type 0) (row : �
 
   -- one more pair of the row
   pub Row-pair : (best result : Option Pair) (place : ℕ) → Is row place →
-      IsNearer best (Some (record { u = row; v = place; slack = slack_of t totals row place })) result → Least t totals (Before place) best →
+      IsLesser best (Some (record { u = row; v = place; slack = slack_of t totals row place })) result → Least t totals (Before place) best →
       Least t totals (Before (place + 1)) result
   Row-pair best result place is nearer least =
       Least-nearer t totals (Before place) (Here place) (Before (place + 1)) (wider place) (reached place) (split place) best
@@ -159,7 +159,7 @@ module _ (t : Table) (totals : List ℤ) (Is : ℕ → ℕ → Type 0) where
   ]
 
   -- one more row
-  pub Rows-more : (best more result : Option Pair) (row : ℕ) → IsNearer best more result → Least t totals (Above row) best → Least t totals (Of row) more →
+  pub Rows-more : (best more result : Option Pair) (row : ℕ) → IsLesser best more result → Least t totals (Above row) best → Least t totals (Of row) more →
       Least t totals (Above (row + 1)) result
   Rows-more best more result row =
       Least-nearer t totals (Above row) (Of row) (Above (row + 1)) (wider' row) (reached' row) (split' row) best more result

@@ -73,8 +73,8 @@ IsNoMore None slack = ⊥
 IsNoMore (Some p) slack = p.slack ≤ℤ slack
 
 -- the pair of less slack, where there are two
-abbrev pub IsNearer : Option Pair → Option Pair → Option Pair → Type 0
-IsNearer None more result = result ≡ more
-IsNearer (Some p) None result = result ≡ Some p
-IsNearer (Some p) (Some q) result = ((result ≡ Some p) × (p.slack ≤ℤ q.slack)) ⊎
+abbrev pub IsLesser : Option Pair → Option Pair → Option Pair → Type 0
+IsLesser None more result = result ≡ more
+IsLesser (Some p) None result = result ≡ Some p
+IsLesser (Some p) (Some q) result = ((result ≡ Some p) × (p.slack ≤ℤ q.slack)) ⊎
     ((result ≡ Some q) × (q.slack ≤ℤ p.slack))

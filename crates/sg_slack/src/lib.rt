@@ -21,7 +21,7 @@
 ghost use Rattle.std.specs.Prelude.{◌≡◌, ◌≢◌, ◌↔◌, ◌<◌, ◌-ℤ◌, FitsSigned, IsTrue, Some, false, length};
 ghost use Rattle.std.specs.Int.{w64};
 ghost use Rattle.sg_slack.specs.Slack.{mark_at, slack_of, IsOuterFree, IsOuterOuter, Least, SumsFit};
-ghost use Rattle.sg_slack.specs.Scan.{IsNearer, IsOuterFreeOf, IsOuterOuterOf};
+ghost use Rattle.sg_slack.specs.Scan.{IsLesser, IsOuterFreeOf, IsOuterOuterOf};
 
 mod member;
 mod near;
@@ -235,7 +235,7 @@ fn is_other_outer(mark: Mark, top: usize, other: usize) -> bool
 // The pair of less slack, where the second one counts. Its slack is looked at first, since it is
 // rarely less.
 fn nearer_if(best: Option<Pair>, more: Pair, counts: bool) -> Option<Pair>
-    ensures yes { IsTrue counts → IsNearer best (Some more) result }
+    ensures yes { IsTrue counts → IsLesser best (Some more) result }
     ensures no { counts ≡ false → result ≡ best }
 {
     match best {
@@ -281,7 +281,7 @@ fn difference(a: i64, b: i64) -> i64
 
 // The pair of less slack; the first where they are equal.
 fn nearer(best: Option<Pair>, more: Option<Pair>) -> Option<Pair>
-    ensures { IsNearer best more result }
+    ensures { IsLesser best more result }
 {
     match (best, more) {
         (Some(first), Some(second)) if second.slack < first.slack => more,

@@ -1,7 +1,11 @@
 -- Whole numbers as natural ones.
-use Rattle.std.specs.Prelude.{ℕ, ℤ, pos, negsuc}
+use Rattle.std.specs.Prelude.{ℕ, ℤ, pos, negsuc, ◌+◌, ◌-◌}
 
 -- the natural number that a whole number is, 0 where it is negative
 abbrev pub nat_of : ℤ → ℕ
 nat_of (pos n) = n
 nat_of (negsuc n) = 0
+
+-- how far two numbers are apart
+abbrev pub gap : ℕ → ℕ → ℕ
+gap x y = (x - y) + (y - x)

@@ -5,7 +5,7 @@ use Rattle.std.specs.Result.{IfOk}
 use Rattle.sg_limits.specs.Limits.{forced_limit}
 use Rattle.sg_sums.specs.Naturals.{nat_of}
 use Rattle.sg_graph.specs.Web.{Graph, IsWeb, total_weight}
-use Rattle.sg_graph.specs.Walk.{IsConnected, IsDistance}
+use Rattle.sg_graph.specs.Walk.{IsConnectedWeb, IsDistance}
 use Rattle.sg_graph.specs.Join.{AreTerminals}
 use Rattle.sg_graph.specs.Table.{IsTableOf, Routes, is_reached}
 use Rattle.sg_graph.proofs.OnceLists.{rising_few}
@@ -21,7 +21,7 @@ use Rattle.sg_sums.proofs.SumLaws.{sum_below-same}
 use Rattle.sg_moat.specs.Input.{AreTerminalTables, blank_table, table_at, terminal_cost}
 use Rattle.sg_tjoin.specs.Doubled.{AreMetric, FillsRows, Reaches, apart}
 
-module _ (g : Graph) (terminals : List ℕ) (tables : List Routes) (connected : IsConnected g) (are : AreTerminals g terminals)
+module _ (g : Graph) (terminals : List ℕ) (tables : List Routes) (connected : IsConnectedWeb g) (are : AreTerminals g terminals)
     (is : AreTerminalTables g terminals tables) where
   low : (i : ℕ) → i < length terminals → get_or terminals i 0 < g.nodes
   low i l = are.below i 0 l

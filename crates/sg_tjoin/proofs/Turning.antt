@@ -23,7 +23,7 @@ use Rattle.sg_pairing.specs.Matching.{IsPairing, pairing_cost}
 use Rattle.sg_pairing.proofs.PairingSums.{sum_by-range}
 use Rattle.sg_moat.specs.Input.{terminal_cost}
 use Rattle.sg_tjoin.specs.Doubled.{apart}
-use Rattle.sg_tjoin.specs.Turns.{AreTurned, TurnsWalk, ends_pair, is_end_of, leads_pair}
+use Rattle.sg_tjoin.specs.Turns.{AreTurned, TurnsWalk, ends_pair, is_odd_end, leads_pair}
 use Rattle.sg_tjoin.proofs.PairEnds.{pairs_parity}
 
 -- no mark is set
@@ -79,7 +79,7 @@ module _ (g : Graph) (terminals : List ℕ) (tables : List Routes) (mates : List
           turned = λ e l. turn.turned e (omega (arith, t.count)) ∙ ap (λ b. xor b (is_odd_in turn.walk e)) (t.turned e l)
               ∙ sym (parity_by-append (λ k. eqb k e) t.walks turn.walk);
           ends = λ x.
-              parity_by-append (is_end_of g x) t.walks turn.walk
+              parity_by-append (is_odd_end g x) t.walks turn.walk
               ∙ ap₂ xor (t.ends x) (walk_parity g turn.walk (get_or terminals i 0) (get_or terminals (get_or mates i 0) 0) x turn.leads)
               ∙ xor_comm (parity_below (ends_pair terminals mates x) i) (xor (eqb (get_or terminals i 0) x) (eqb (get_or terminals (get_or mates i 0) 0) x))
               ∙ sym (ap (λ b. xor (b && xor (eqb (get_or terminals i 0) x) (eqb (get_or terminals (get_or mates i 0) 0) x))
@@ -95,12 +95,12 @@ module _ (g : Graph) (terminals : List ℕ) (tables : List Routes) (mates : List
     abbrev chosen : List ℕ
     chosen = chosen_below (is_marked marks) (edge_count g)
 
-    chosen_parity : (x : ℕ) → parity_by (is_end_of g x) chosen ≡ holds terminals x
+    chosen_parity : (x : ℕ) → parity_by (is_odd_end g x) chosen ≡ holds terminals x
     chosen_parity x =
-        chosen_below-parity (is_marked marks) (is_end_of g x) (edge_count g)
-        ∙ parity_below-same (λ e. is_marked marks e && is_end_of g x e) (λ e. is_odd_in t.walks e && is_end_of g x e) (edge_count g)
-        (λ e l. ap (λ b. b && is_end_of g x e) (t.turned e l))
-        ∙ odd_in-parity (is_end_of g x) (edge_count g) t.walks t.below
+        chosen_below-parity (is_marked marks) (is_odd_end g x) (edge_count g)
+        ∙ parity_below-same (λ e. is_marked marks e && is_odd_end g x e) (λ e. is_odd_in t.walks e && is_odd_end g x e) (edge_count g)
+        (λ e l. ap (λ b. b && is_odd_end g x e) (t.turned e l))
+        ∙ odd_in-parity (is_odd_end g x) (edge_count g) t.walks t.below
         ∙ t.ends x
         ∙ pairs_parity terminals mates are.rising pairing x
 

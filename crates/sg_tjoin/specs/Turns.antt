@@ -5,7 +5,7 @@ use Rattle.sg_sums.specs.Parity.{parity_by, parity_below, xor}
 use Rattle.sg_sums.specs.Sets.{is_marked}
 use Rattle.sg_sums.specs.Sums.{sum_below}
 use Rattle.sg_graph.specs.Table.{Routes}
-use Rattle.sg_graph.specs.Walk.{IsWalk}
+use Rattle.sg_graph.specs.Walk.{IsWebWalk}
 use Rattle.sg_graph.specs.Web.{Graph, edge_at, edge_count, weight_of}
 use Rattle.sg_tjoin.specs.Doubled.{apart}
 
@@ -13,7 +13,7 @@ use Rattle.sg_tjoin.specs.Doubled.{apart}
 pub record TurnsWalk (g : Graph) (from to weight : ℕ) (old new : List Bool) : Type 0 where
   pub count : length new ≡ length old
   pub walk : List ℕ
-  pub leads : IsWalk g from walk to
+  pub leads : IsWebWalk g from walk to
   pub weighs : weight_of g walk ≡ weight
   pub turned : (e : ℕ) → e < length old →
       is_marked new e ≡ xor (is_marked old e) (parity_by (λ k. k == e) walk)
@@ -28,8 +28,8 @@ ends_pair terminals mates x i = leads_pair mates i && xor (slice_index terminals
     (slice_index terminals (slice_index mates i) == x)
 
 -- x is one end of edge e, and not both
-abbrev pub is_end_of : Graph → ℕ → ℕ → Bool
-is_end_of g x e = is_end (edge_at g e).a (edge_at g e).b x
+abbrev pub is_odd_end : Graph → ℕ → ℕ → Bool
+is_odd_end g x e = is_end (edge_at g e).a (edge_at g e).b x
 
 -- the marks of all edges of walks between the first few mates were turned
 pub record AreTurned (g : Graph) (terminals : List ℕ) (tables : List Routes) (mates : List ℕ) (upto : ℕ)
@@ -39,6 +39,6 @@ pub record AreTurned (g : Graph) (terminals : List ℕ) (tables : List Routes) (
   pub bare : upto ≡ 0 → walks ≡ []
   pub below : All (λ e. e < edge_count g) walks
   pub turned : (e : ℕ) → e < edge_count g → is_marked marks e ≡ parity_by (λ k. k == e) walks
-  pub ends : (x : ℕ) → parity_by (is_end_of g x) walks ≡ parity_below (ends_pair terminals mates x) upto
+  pub ends : (x : ℕ) → parity_by (is_odd_end g x) walks ≡ parity_below (ends_pair terminals mates x) upto
   pub weighs : weight_of g walks ≡ sum_below (λ i. cond (leads_pair mates i)
       (apart terminals tables i (slice_index mates i)) 0) upto

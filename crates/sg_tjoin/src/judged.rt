@@ -1,6 +1,6 @@
 ghost use Rattle.std.specs.Prelude.{◌≡◌, ◌*◌, [], pos, sum_by, IfOk, IfSome};
 ghost use Rattle.sg_graph.specs.Join.{AreTerminals, IsLeastJoin};
-ghost use Rattle.sg_graph.specs.OddCut.{CutsPack, cut_weight};
+ghost use Rattle.sg_graph.specs.OddCut.{CutsPack, odd_cut_weight};
 ghost use Rattle.sg_graph.specs.Web.{weight_of};
 
 use super::weight::weight;
@@ -23,7 +23,7 @@ pub fn judged_join(
     ensures bare { IfOk result (λ found. IfSome found
         (λ j. terminals.now ≡ [] → (j.edges ≡ []) × (j.cuts ≡ []))) }
     ensures tight { IfOk result (λ found. IfSome found
-        (λ j. sum_by cut_weight j.cuts ≡ 2 * weight_of web.now j.edges)) }
+        (λ j. sum_by odd_cut_weight j.cuts ≡ 2 * weight_of web.now j.edges)) }
 {
     if terminals.is_empty() {
         return Ok(None);

@@ -1,7 +1,7 @@
 ghost use Rattle.std.specs.Prelude.{◌≡◌, ℕ, ◌*◌, ◌≤◌, List, sum_by};
 ghost use Rattle.sg_graph.specs.declared.cut.Cut.{Cut};
 ghost use Rattle.sg_graph.specs.Join.{AreTerminals, IsJoin, IsLeastJoin};
-ghost use Rattle.sg_graph.specs.OddCut.{CutsPack, cut_weight};
+ghost use Rattle.sg_graph.specs.OddCut.{CutsPack, odd_cut_weight};
 ghost use Rattle.sg_graph.specs.Web.{Graph, IsWeb, weight_of};
 
 /// Weak duality of joins and odd cuts (Edmonds and Johnson 1973), for all webs: each join has an edge
@@ -12,8 +12,8 @@ ghost use Rattle.sg_graph.specs.Web.{Graph, IsWeb, weight_of};
 pub fn cuts_bound_joins()
     ensures bound { (g : Graph) (terminals edges : List ℕ) (cuts : List Cut) →
         IsWeb g → AreTerminals g terminals → IsJoin g terminals edges → CutsPack g terminals cuts →
-        sum_by cut_weight cuts ≤ 2 * weight_of g edges }
+        sum_by odd_cut_weight cuts ≤ 2 * weight_of g edges }
     ensures least { (g : Graph) (terminals edges : List ℕ) (cuts : List Cut) →
         IsWeb g → AreTerminals g terminals → IsJoin g terminals edges → CutsPack g terminals cuts →
-        sum_by cut_weight cuts ≡ 2 * weight_of g edges → IsLeastJoin g terminals edges }
+        sum_by odd_cut_weight cuts ≡ 2 * weight_of g edges → IsLeastJoin g terminals edges }
 {}

@@ -28,8 +28,8 @@ mod weight;
 
 ghost use Rattle.std.specs.Prelude.{◌≡◌, ◌*◌, ◌%◌, ◌≤◌, [], length, pos, sum_by, IfOk};
 ghost use Rattle.sg_graph.specs.Join.{AreTerminals, IsLeastJoin};
-ghost use Rattle.sg_graph.specs.OddCut.{CutsPack, cut_weight};
-ghost use Rattle.sg_graph.specs.Walk.{IsConnected};
+ghost use Rattle.sg_graph.specs.OddCut.{CutsPack, odd_cut_weight};
+ghost use Rattle.sg_graph.specs.Walk.{IsConnectedWeb};
 ghost use Rattle.sg_graph.specs.Web.{total_weight, weight_of};
 ghost use Rattle.sg_limits.specs.Limits.{forced_limit};
 
@@ -62,7 +62,7 @@ pub struct Join {
 /// `k` terminals: that is the promise of `sg_match::Engine::run`, which counts them in the family that
 /// it hands back, and not of this call. A join that comes from elsewhere takes no such steps.
 pub fn least_join(alloc: Global, web: &Web, terminals: &Terminals) -> Result<Join, NoMemory>
-    requires connected { IsConnected web.now }
+    requires connected { IsConnectedWeb web.now }
     requires terminals { AreTerminals web.now terminals.now }
     requires even { length terminals.now % 2 ≡ 0 }
     requires light { total_weight web.now ≤ forced_limit }
@@ -70,7 +70,7 @@ pub fn least_join(alloc: Global, web: &Web, terminals: &Terminals) -> Result<Joi
     ensures weight { IfOk result (λ j. j.weight ≡ pos (weight_of web.now j.edges)) }
     ensures packs { IfOk result (λ j. CutsPack web.now terminals.now j.cuts) }
     ensures bare { IfOk result (λ j. terminals.now ≡ [] → (j.edges ≡ []) × (j.cuts ≡ [])) }
-    ensures tight { IfOk result (λ j. sum_by cut_weight j.cuts ≡ 2 * weight_of web.now j.edges) }
+    ensures tight { IfOk result (λ j. sum_by odd_cut_weight j.cuts ≡ 2 * weight_of web.now j.edges) }
 {
     if let Some(join) = judged_join(alloc, web, terminals)? {
         return Ok(join);
@@ -91,7 +91,7 @@ pub struct LeastJoin {
 /// Cost: that of `sg_regions::propose_nest` and of `sg_nest::proves`, and where these have no answer
 /// that of [`least_join`].
 pub fn least_weight(alloc: Global, web: &Web, terminals: &Terminals) -> Result<LeastJoin, NoMemory>
-    requires connected { IsConnected web.now }
+    requires connected { IsConnectedWeb web.now }
     requires terminals { AreTerminals web.now terminals.now }
     requires even { length terminals.now % 2 ≡ 0 }
     requires light { total_weight web.now ≤ forced_limit }

@@ -1,7 +1,7 @@
 ghost use Rattle.std.specs.Prelude.{◌≡◌, ◌*◌, ◌%◌, ◌≤◌, [], length, pos, sum_by, IfOk};
 ghost use Rattle.sg_graph.specs.Join.{AreTerminals, IsLeastJoin};
-ghost use Rattle.sg_graph.specs.OddCut.{CutsPack, cut_weight};
-ghost use Rattle.sg_graph.specs.Walk.{IsConnected};
+ghost use Rattle.sg_graph.specs.OddCut.{CutsPack, odd_cut_weight};
+ghost use Rattle.sg_graph.specs.Walk.{IsConnectedWeb};
 ghost use Rattle.sg_graph.specs.Web.{total_weight, weight_of};
 ghost use Rattle.sg_limits.specs.Limits.{forced_limit};
 
@@ -21,7 +21,7 @@ use std::alloc::Global;
 /// the matching in at most `2 k^2` steps of `k^2`, and the cuts as `sg_moat::levels` says. Memory:
 /// `12 k n + 8 k^2` bytes, and what the cuts take.
 pub fn matched_join(alloc: Global, web: &Web, terminals: &Terminals) -> Result<Join, NoMemory>
-    requires connected { IsConnected web.now }
+    requires connected { IsConnectedWeb web.now }
     requires terminals { AreTerminals web.now terminals.now }
     requires even { length terminals.now % 2 ≡ 0 }
     requires light { total_weight web.now ≤ forced_limit }
@@ -29,7 +29,7 @@ pub fn matched_join(alloc: Global, web: &Web, terminals: &Terminals) -> Result<J
     ensures weight { IfOk result (λ j. j.weight ≡ pos (weight_of web.now j.edges)) }
     ensures packs { IfOk result (λ j. CutsPack web.now terminals.now j.cuts) }
     ensures bare { IfOk result (λ j. terminals.now ≡ [] → (j.edges ≡ []) × (j.cuts ≡ [])) }
-    ensures tight { IfOk result (λ j. sum_by cut_weight j.cuts ≡ 2 * weight_of web.now j.edges) }
+    ensures tight { IfOk result (λ j. sum_by odd_cut_weight j.cuts ≡ 2 * weight_of web.now j.edges) }
 {
     let nodes = terminals.as_slice();
     let tables = terminal_tables(alloc, web, nodes)?;

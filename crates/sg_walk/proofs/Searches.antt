@@ -4,7 +4,7 @@ use Rattle.std.proofs.lemmas.List.{length-set, length_push, get_or_push, get_or_
 use Rattle.std.proofs.lemmas.List.Elements.{All-nil, All-more, All-weaker}
 use Rattle.std.proofs.lemmas.List.Sums.{sum_by-set}
 use Rattle.std.proofs.lemmas.Bool.{cases_eq, cases_lt}
-use Rattle.sg_sums.specs.Sets.{IsMarked}
+use Rattle.sg_sums.specs.Sets.{IsMarked, Stands}
 use Rattle.sg_sums.proofs.MarkLaws.{marked_in, marked_here, marked_still, marked_or_here, none_marked}
 use Rattle.sg_model.specs.Ising.{Ising}
 use Rattle.sg_model.specs.Rotation.{darts_of, dart_count, head_of, tail}
@@ -12,13 +12,13 @@ use Rattle.sg_model.specs.Connected.{JoinedBy, IsWalk, Reached}
 use Rattle.sg_model.specs.WellFormed.{IsInstance}
 use Rattle.sg_model.proofs.Rotations.{place_at}
 use Rattle.sg_model.proofs.Paths.{reached_more, dart_of_step}
-use Rattle.sg_walk.specs.Walk.{IsClosed, IsFoundFrom, IsNoted, IsWalked}
+use Rattle.sg_walk.specs.Walk.{IsClosed, IsFoundFrom, IsWalked}
 use Rattle.sg_walk.specs.Search.{unmarked_count, IsSeen, Visits, SearchedTo}
 
-noted_push : (order : List ℕ) (y x : ℕ) → y ≡ x → IsNoted (order ++ y ∷ []) x
+noted_push : (order : List ℕ) (y x : ℕ) → y ≡ x → Stands (order ++ y ∷ []) x
 noted_push order y x e = (length order, omega (arith, length_push order y), get_or_push order y 0 (length order) refl ∙ e)
 
-noted_still : (order : List ℕ) (y x : ℕ) → IsNoted order x → IsNoted (order ++ y ∷ []) x
+noted_still : (order : List ℕ) (y x : ℕ) → Stands order x → Stands (order ++ y ∷ []) x
 noted_still order y x (k, l, e) = (k, omega (arith, l, length_push order y), get_or_append_left order (y ∷ []) 0 k l ∙ e)
 
 -- one spin more is marked
@@ -131,9 +131,9 @@ module _ (inst : Ising) (bonds : ℕ → Bool) (spin : ℕ) where
                     let w : false ≡ true = sym free ∙ ap (λ x. get_or now x false) (sym same) ∙ w.sound j a (omega arith) in cc
               ]
 
-          found' : (x : ℕ) → IsMarked (set now to true) x → IsMarked old x ⊎ IsNoted (after ++ to ∷ []) x
+          found' : (x : ℕ) → IsMarked (set now to true) x → IsMarked old x ⊎ Stands (after ++ to ∷ []) x
           found' x h = ⊎_elim
-              (λ (m : IsMarked now x). ⊎_elim (λ (o : IsMarked old x). inl o) (λ (c : IsNoted after x). inr (noted_still after to x c)) (w.found x m))
+              (λ (m : IsMarked now x). ⊎_elim (λ (o : IsMarked old x). inl o) (λ (c : Stands after x). inr (noted_still after to x c)) (w.found x m))
               (λ (e : x ≡ to). inr (noted_push after to x (sym e)))
               (marked_or_here now to x h)
 
@@ -180,7 +180,7 @@ module _ (inst : Ising) (good : IsInstance inst) (bonds : ℕ → Bool) (root : 
         (λ k b c. reached_more inst bonds root (get_or before next 0) (get_or after k 0) (h.reached next l) (v.joined k b c));
     root_first = (omega (arith, h.root_first.0, v.longer), v.stays 0 h.root_first.0 ∙ h.root_first.1);
     found_from = found_from';
-    noted = λ x m. ⊎_elim (λ (o : IsMarked old x). keep x (h.noted x o)) (λ (c : IsNoted after x). inr c) (v.found x m);
+    noted = λ x m. ⊎_elim (λ (o : IsMarked old x). keep x (h.noted x o)) (λ (c : Stands after x). inr c) (v.found x m);
     once = once';
     done = done';
     count = omega (arith, v.count, h.count);
@@ -194,7 +194,7 @@ module _ (inst : Ising) (good : IsInstance inst) (bonds : ℕ → Bool) (root : 
         | inr c ↦ second k c b
       ]
 
-      keep : (x : ℕ) → IsMarked base x ⊎ IsNoted before x → IsMarked base x ⊎ IsNoted after x
+      keep : (x : ℕ) → IsMarked base x ⊎ Stands before x → IsMarked base x ⊎ Stands after x
       keep x (inl m) = inl m
       keep x (inr (k, b, e)) = inr (k, omega (arith, b, v.longer), v.stays k b ∙ e)
 
@@ -244,11 +244,11 @@ module _ (inst : Ising) (good : IsInstance inst) (bonds : ℕ → Bool) (root : 
     found_from = h.found_from;
     once = h.once;
     closed = λ a b j m. ⊎_elim (λ (o : IsMarked base a). h.kept b (closed a b j o))
-        (λ (n : IsNoted order a). step a b j (dart_of_step inst bonds a b j) n) (h.noted a m);
+        (λ (n : Stands order a). step a b j (dart_of_step inst bonds a b j) n) (h.noted a m);
   }
     where
       step : (a b : ℕ) → JoinedBy inst bonds a b →
-          ((d : ℕ) × (d < dart_count inst) × (tail inst d ≡ a) × (head_of inst d ≡ b) × (bonds (d / 2) ≡ true)) → IsNoted order a →
+          ((d : ℕ) × (d < dart_count inst) × (tail inst d ≡ a) × (head_of inst d ≡ b) × (bonds (d / 2) ≡ true)) → Stands order a →
           IsMarked marks b
       step a b j (d, l, leaves, leads, inside) (k, kl, e) =
           let heads : All (IsSeen inst bonds marks) (darts_of inst a) =

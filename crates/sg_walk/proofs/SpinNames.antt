@@ -2,12 +2,12 @@
 use Rattle.std.proofs.Common.{◌≡◌, ◌≢◌, ◌⊎◌, inl, inr, ℕ, ◌+◌, ◌<◌, ◌≤◌, Bool, true, false, List, length, get_or, replicate, sym, ◌∙◌, ap, subst, arith}
 use Rattle.std.proofs.lemmas.Bool.{cases_eq, cases_lt}
 use Rattle.std.proofs.lemmas.List.{length-replicate}
-use Rattle.sg_sums.specs.Sets.{IsMarked}
+use Rattle.sg_sums.specs.Sets.{IsMarked, Stands}
 use Rattle.sg_sums.proofs.MarkLaws.{none_marked}
 use Rattle.sg_model.specs.Ising.{Ising}
 use Rattle.sg_model.specs.Connected.{Reached}
 use Rattle.sg_model.proofs.Paths.{reached_back, reached_on}
-use Rattle.sg_walk.specs.Walk.{IsNoted, IsWalked}
+use Rattle.sg_walk.specs.Walk.{IsWalked}
 use Rattle.sg_walk.specs.Naming.{AllNamed, IsNamed, NamedTo}
 use Rattle.sg_walk.proofs.Searches.{marked_along, none_closed}
 
@@ -50,7 +50,7 @@ module _ (inst : Ising) (set : ℕ → Bool) (spin : ℕ) (old now : List Bool) 
           absurd (cc)
     ]
 
-    named_now : (x : ℕ) → IsMarked old x ⊎ IsNoted order x → IsNamed inst set after x
+    named_now : (x : ℕ) → IsMarked old x ⊎ Stands order x → IsNamed inst set after x
     named_now x (inl h) =
         let name : get_or after x 0 ≡ get_or before x 0 = stays x h in
         record {

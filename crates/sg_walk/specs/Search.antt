@@ -1,10 +1,10 @@
 -- A breadth-first search from a spin: one visit, and the visits so far.
 use Rattle.std.specs.Prelude.{◌≡◌, ◌≢◌, ◌⊎◌, ℕ, ◌+◌, ◌/◌, ◌<◌, ◌≤◌, Bool, true, false, not, List, length, slice_index, All, count_by}
-use Rattle.sg_sums.specs.Sets.{is_marked, IsMarked}
+use Rattle.sg_sums.specs.Sets.{is_marked, IsMarked, Stands}
 use Rattle.sg_model.specs.Ising.{Ising}
 use Rattle.sg_model.specs.Rotation.{darts_of, head_of}
 use Rattle.sg_model.specs.Connected.{JoinedBy, Reached}
-use Rattle.sg_walk.specs.Walk.{IsFoundFrom, IsNoted}
+use Rattle.sg_walk.specs.Walk.{IsFoundFrom}
 
 -- how many spins are not marked
 abbrev pub unmarked_count : List Bool → ℕ
@@ -23,7 +23,7 @@ pub record Visits (inst : Ising) (set : ℕ → Bool) (spin : ℕ) (darts : List
   pub heads : All (IsSeen inst set now) darts
   pub longer : length before ≤ length after
   pub stays : (k : ℕ) → k < length before → slice_index after k ≡ slice_index before k
-  pub found : (x : ℕ) → IsMarked now x → IsMarked old x ⊎ IsNoted after x
+  pub found : (x : ℕ) → IsMarked now x → IsMarked old x ⊎ Stands after x
   pub sound : (k : ℕ) → length before ≤ k → k < length after → IsMarked now (slice_index after k)
   pub fresh : (k : ℕ) → length before ≤ k → k < length after → is_marked old (slice_index after k) ≡ false
   pub joined : (k : ℕ) → length before ≤ k → k < length after → JoinedBy inst set spin (slice_index after k)
@@ -42,7 +42,7 @@ pub record SearchedTo (inst : Ising) (set : ℕ → Bool) (root : ℕ) (base mar
   pub reached : (k : ℕ) → k < length order → Reached inst set root (slice_index order k)
   pub root_first : (0 < length order) × (slice_index order 0 ≡ root)
   pub found_from : (k : ℕ) → 0 < k → k < length order → IsFoundFrom inst set order k
-  pub noted : (x : ℕ) → IsMarked marks x → IsMarked base x ⊎ IsNoted order x
+  pub noted : (x : ℕ) → IsMarked marks x → IsMarked base x ⊎ Stands order x
   pub once : (j k : ℕ) → j < k → k < length order → slice_index order j ≢ slice_index order k
   pub done : (k : ℕ) → k < next → All (IsSeen inst set marks) (darts_of inst (slice_index order k))
   pub count : unmarked_count marks + length order ≡ unmarked_count base

@@ -1,16 +1,12 @@
 -- What a walk over a set of bonds leaves: which spins are marked, and the list of those that it found.
 use Rattle.std.specs.Prelude.{◌≡◌, ◌≢◌, ◌⊎◌, ℕ, ◌<◌, Bool, false, List, length, slice_index}
-use Rattle.sg_sums.specs.Sets.{is_marked, IsMarked}
+use Rattle.sg_sums.specs.Sets.{is_marked, IsMarked, Stands}
 use Rattle.sg_model.specs.Ising.{Ising}
 use Rattle.sg_model.specs.Connected.{JoinedBy, Reached}
 
 -- whether bond b is in the set
 abbrev pub has : List Bool → ℕ → Bool
 has set b = is_marked set b
-
--- spin x stands in the list
-abbrev pub IsNoted : List ℕ → ℕ → Type 0
-IsNoted order x = (k : ℕ) × (k < length order) × (slice_index order k ≡ x)
 
 -- a bond of the set joins a marked spin only with marked ones
 abbrev pub IsClosed : Ising → (ℕ → Bool) → List Bool → Type 0
@@ -28,7 +24,7 @@ pub record IsWalked (inst : Ising) (set : ℕ → Bool) (root : ℕ) (old now : 
   pub lengths : length now ≡ length old
   pub kept : (x : ℕ) → IsMarked old x → IsMarked now x
   pub root_marked : IsMarked now root
-  pub noted : (x : ℕ) → IsMarked now x → IsMarked old x ⊎ IsNoted order x
+  pub noted : (x : ℕ) → IsMarked now x → IsMarked old x ⊎ Stands order x
   pub marked : (k : ℕ) → k < length order → IsMarked now (slice_index order k)
   pub fresh : (k : ℕ) → k < length order → is_marked old (slice_index order k) ≡ false
   pub reached : (k : ℕ) → k < length order → Reached inst set root (slice_index order k)

@@ -7,7 +7,7 @@ use Rattle.std.specs.Str.Parse.{AllDigits, IsNumeral, digits_value, without_lead
 use Rattle.std.proofs.lemmas.Bool.{cases_Bool, false≢true}
 use Rattle.std.proofs.lemmas.Bool.Decides.{nat_tests}
 use Rattle.std.proofs.lemmas.Str.{digit_value_digit}
-use Rattle.sg_words.specs.Numeral.{number_in}
+use Rattle.sg_words.specs.Numeral.{word_number}
 
 digit-from : (c : ℕ) → is_ascii_digit c ≡ true → digit_value c < 10
 digit-from c h =
@@ -33,7 +33,7 @@ no_plus (c ∷ cs) h = elim (cases_Bool (is_ascii_digit c)) [
 
 -- digits that are not parsed are none, or their number is too large
 pub number_in-unparsed : (least most : ℕ) (word : List ℕ) → most < 2 ^ 64 → list_all is_ascii_digit word ≡ true
-    → (IsNumeral 10 (without_leading_plus word) × (digits_value 10 (without_leading_plus word) < 2 ^ 64) → ⊥) → number_in least most word ≡ None
+    → (IsNumeral 10 (without_leading_plus word) × (digits_value 10 (without_leading_plus word) < 2 ^ 64) → ⊥) → word_number least most word ≡ None
 number_in-unparsed least most word small digits h = elim (cases_Bool (nat_lt 0 (length word))) [
   | inl some ↦ elim (cases_Bool (nat_le (digits_value 10 word) most)) [
     | inl low ↦

@@ -2,11 +2,11 @@
 use Rattle.std.specs.Prelude.{ℕ, ◌*◌, ◌≤◌, nat_le, Option, Some, None, List, [], ◌∷◌, codes, if◌then◌else◌, ⊤}
 use Rattle.std.specs.Str.{bytes_eq}
 use Rattle.std.specs.Option.{option_and_then}
-use Rattle.sg_limits.specs.Limits.{spin_limit}
+use Rattle.sg_limits.specs.Limits.{spin_limit, sample_limit, width_limit}
 use Rattle.sg_lattice.specs.declared.kind.Kind.{Kind}
 use Rattle.sg_lattice.specs.declared.kind.Kind.TheVariants.{Square, Triangular, Hexagonal, Cylinder}
 use Rattle.sg_lattice.specs.Tables.{least_cols}
-use Rattle.sg_words.specs.Numeral.{number_in}
+use Rattle.sg_words.specs.Numeral.{word_number}
 use Rattle.sg_words.specs.declared.command.Command.{Command}
 use Rattle.sg_words.specs.declared.command.Command.TheVariants.{Read, Draw}
 use Rattle.sg_words.specs.declared.command.Reading.TheVariants.{Study, Check, Graph}
@@ -44,46 +44,38 @@ kind_named word =
 
 -- a seed: any number of 64 bits
 abbrev pub seed_in : List ℕ → Option ℕ
-seed_in word = number_in 0 18446744073709551615 word
+seed_in word = word_number 0 18446744073709551615 word
 
 -- rows and columns, of no more spins together than the limit, with at least and at most so many columns
-abbrev pub size_in : ℕ → ℕ → List ℕ → List ℕ → Option Size
-size_in least most rows cols =
+abbrev pub size_of_words : ℕ → ℕ → List ℕ → List ℕ → Option Size
+size_of_words least most rows cols =
     option_and_then (λ R. option_and_then (λ C.
     if nat_le (R * C) spin_limit then Some (record { rows = R; cols = C }) else None)
-    (number_in least most cols)) (number_in 1 spin_limit rows)
-
--- the most samples of an ensemble
-abbrev pub sample_limit : ℕ
-sample_limit = 1000
-
--- the most columns of a study over widths
-abbrev pub width_limit : ℕ
-width_limit = 64
+    (word_number least most cols)) (word_number 1 spin_limit rows)
 
 -- a lattice of a kind
 abbrev pub gen_of : List ℕ → List ℕ → List ℕ → List ℕ → Option Command
 gen_of seed kind rows cols =
     option_and_then (λ s. option_and_then (λ k. option_and_then (λ size. Some (Draw (Gen s k size)))
-    (size_in (least_cols k) spin_limit rows cols)) (kind_named kind)) (seed_in seed)
+    (size_of_words (least_cols k) spin_limit rows cols)) (kind_named kind)) (seed_in seed)
 
 -- a sample of the square lattice
 abbrev pub sample_of : List ℕ → List ℕ → List ℕ → Option Command
 sample_of seed rows cols =
     option_and_then (λ s. option_and_then (λ size. Some (Draw (Sample s size)))
-    (size_in 1 spin_limit rows cols)) (seed_in seed)
+    (size_of_words 1 spin_limit rows cols)) (seed_in seed)
 
 -- an ensemble of so many cylinders
 abbrev pub ensemble_of : List ℕ → List ℕ → List ℕ → List ℕ → Option Command
 ensemble_of seed rows cols count =
     option_and_then (λ s. option_and_then (λ size. option_and_then (λ n. Some (Draw (Ensemble s size n)))
-    (number_in 1 sample_limit count)) (size_in 3 spin_limit rows cols)) (seed_in seed)
+    (word_number 1 sample_limit count)) (size_of_words 3 spin_limit rows cols)) (seed_in seed)
 
 -- an ensemble for each width from 3 on
 abbrev pub widths_of : List ℕ → List ℕ → List ℕ → List ℕ → Option Command
 widths_of seed rows cols count =
     option_and_then (λ s. option_and_then (λ size. option_and_then (λ n. Some (Draw (Widths s size n)))
-    (number_in 1 sample_limit count)) (size_in 3 width_limit rows cols)) (seed_in seed)
+    (word_number 1 sample_limit count)) (size_of_words 3 width_limit rows cols)) (seed_in seed)
 
 -- the command of six words, of which the second is left out
 unfoldable pub six_words : List ℕ → List ℕ → List ℕ → List ℕ → List ℕ → Option Command

@@ -1,18 +1,12 @@
 ghost use Rattle.std.specs.Prelude.{◌≡◌, ◌≤◌, Some, None, codes, if◌then◌else◌, map, string_bytes, IfSome};
 ghost use Rattle.std.specs.Str.{bytes_eq};
 ghost use Rattle.sg_lattice.specs.Tables.{least_cols as least_columns};
-ghost use Rattle.sg_words.specs.Command.{command_named, command_of, ensemble_of, gen_of, IsAllowed, IsAllowedSize, kind_named, law_word as second_word, sample_of, six_words, size_in, widths_of};
+ghost use Rattle.sg_words.specs.Command.{command_named, command_of, ensemble_of, gen_of, IsAllowed, IsAllowedSize, kind_named, law_word as second_word, sample_of, six_words, size_of_words, widths_of};
 
 use super::numeral::number_in;
 use sg_lattice::Kind;
-use sg_limits::SPIN_LIMIT;
+use sg_limits::{SAMPLE_LIMIT, SPIN_LIMIT, WIDTH_LIMIT};
 use sg_reader::least_cols;
-
-// The most samples of an ensemble.
-const SAMPLE_LIMIT: u64 = 1000;
-
-// The most columns of a study over widths.
-const WIDTH_LIMIT: u32 = 64;
 
 /// A command of the program.
 #[derive(Clone, Copy)]
@@ -231,7 +225,7 @@ fn kind_named(word: &str) -> Option<Kind>
 // Rows and columns of a lattice of this kind, with no more columns than `most`, and no more spins than
 // the limit.
 fn size_in(kind: Kind, most: u32, rows: &str, cols: &str) -> Option<Size>
-    ensures value { result ≡ size_in (least_columns kind) most rows.now cols.now }
+    ensures value { result ≡ size_of_words (least_columns kind) most rows.now cols.now }
     ensures allowed { IfSome result (IsAllowedSize kind) }
     ensures most { IfSome result (λ size. size.cols ≤ most) }
 {

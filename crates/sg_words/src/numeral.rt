@@ -2,7 +2,7 @@
 ghost use Rattle.std.specs.Prelude.{◌≡◌, ◌≤◌, IfSome};
 ghost use Rattle.std.specs.List.{list_all};
 ghost use Rattle.std.specs.Char.{is_ascii_digit};
-ghost use Rattle.sg_words.specs.Numeral.{number_in as number_from_to};
+ghost use Rattle.sg_words.specs.Numeral.{word_number as number_from_to};
 
 /// The number that a word spells, where it is from `least` to `most`: one decimal digit or more, and
 /// nothing else. Leading zeros may stand, a sign may not. In time linear in the word, and without

@@ -1,5 +1,5 @@
 use Rattle.std.proofs.Common.{rules, w64, to_z-of_z}
-use Rattle.ising2d_c.specs.Graphs.{IsGraph, IsGraphFault}
+use Rattle.ising2d_c.specs.Graphs.{IsGraph, IsGivenGraphFault}
 use Rattle.ising2d_c.specs.Grounds.{Judges}
 use Rattle.ising2d_c.specs.Stated.{States, stated_fault}
 use Rattle.ising2d_c.proofs.FitLemmas.{finds-any, told-proof}
@@ -16,7 +16,7 @@ returns-clause-found c = λ judged.
 pub returns-clause-refused : goal.returns-clause-refused
 returns-clause-refused c = λ refused.
     told-proof (IsGraph c.args.n c.args.ends.now c.args.couplings.now c.args.dart_starts.now c.args.darts.now c.args.seam.now)
-    (IsGraphFault c.args.n c.args.ends.now c.args.couplings.now c.args.dart_starts.now c.args.darts.now c.args.seam.now)
+    (IsGivenGraphFault c.args.n c.args.ends.now c.args.couplings.now c.args.dart_starts.now c.args.darts.now c.args.seam.now)
     (stated_fault c.args.spins.now c.args.weights.now c.args.starts.now c.args.bonds.now) c.graph_of-given.result
     c.args.line.now c.judge_into.new.line c.judge_into.new.line_written c.graph_of-given.ensures.gives c.graph_of-given.ensures.refuses
     (c.judge_into.ensures.refused refused)

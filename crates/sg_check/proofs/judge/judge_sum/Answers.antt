@@ -4,7 +4,7 @@ use Rattle.std.specs.Prelude.{FitsSigned}
 use Rattle.std.proofs.lemmas.Int.{ints, to_z-of_z, to_z_pos}
 use Rattle.sg_model.specs.Energy.{weight}
 use Rattle.sg_model.proofs.BrokenParity.{weight-le}
-use Rattle.sg_check.specs.Packing.{total_weight}
+use Rattle.sg_check.specs.Packing.{packed_weight}
 use Rattle.sg_check.proofs.Verdicts.{proof_from_tests}
 use Rattle.sg_check.proofs.judge.judge_sum.Goals as goal
 
@@ -29,8 +29,8 @@ pub returns-then-found-wanted : goal.returns-then-found-wanted
 returns-then-found-wanted c =
     let fits : FitsSigned w64 c.args.text.now.energy = search rules in
     let bound : weight c.args.inst.now ≤ 2 ^ 24 * 2 ^ 63 = weight-le c.args.inst.now c.requires.instance in
-    let total : c.sum_of_weights-found.result ≡ total_weight c.args.text.now.loops = c.sum_of_weights-found.ensures.value
-    ∙ ap total_weight c.as_slice.ensures in
+    let total : c.sum_of_weights-found.result ≡ packed_weight c.args.text.now.loops = c.sum_of_weights-found.ensures.value
+    ∙ ap packed_weight c.as_slice.ensures in
     proof_from_tests c.args.inst.now c.args.text.now c.requires.energy c.requires.loops c.requires.loads
     (ap pos (sym total)
     ∙ sym (to_z_pos w128 c.sum_of_weights-found.result (omega (arith, c.sum_of_weights-found.ensures.size)))
@@ -43,8 +43,8 @@ pub returns-else-found-wanted : goal.returns-else-found-wanted
 returns-else-found-wanted c =
     let fits : FitsSigned w64 c.args.text.now.energy = search rules in
     let bound : weight c.args.inst.now ≤ 2 ^ 24 * 2 ^ 63 = weight-le c.args.inst.now c.requires.instance in
-    let total : c.sum_of_weights-found.result ≡ total_weight c.args.text.now.loops = c.sum_of_weights-found.ensures.value
-    ∙ ap total_weight c.as_slice.ensures in
+    let total : c.sum_of_weights-found.result ≡ packed_weight c.args.text.now.loops = c.sum_of_weights-found.ensures.value
+    ∙ ap packed_weight c.as_slice.ensures in
     let found : cast_signed w128 c.sum_of_weights-found.result ≡ pos c.sum_of_weights-found.result = to_z_pos w128 c.sum_of_weights-found.result
     (omega (arith, c.sum_of_weights-found.ensures.size)) in
     let wanted : cast_signed w128 (cast_unsigned w128 (computed c.from.result c.weight.result)) ≡ computed c.from.result c.weight.result =

@@ -1,8 +1,9 @@
 use Rattle.std.proofs.lemmas.Result.{IfOk-weaker}
 use Rattle.sg_reply.specs.declared.reply.Reply.{Reply}
-use Rattle.sg_cli.specs.Input.{RefusesProofBy}
+use Rattle.sg_cli.specs.Input.{RefusesProof}
 use Rattle.sg_cli.specs.Served.{AnswersCheck, Judged, PrintsVerdict, ProofFaultNamed}
 use Rattle.sg_reply.proofs.FaultReplies.{answers_fault}
+use Rattle.sg_model.specs.Faults.{OrNoMemory}
 use Rattle.sg_cli.proofs.check.check_reply.Goals as goal
 
 pub returns-in-Ok-clause-served : goal.returns-in-Ok-clause-served
@@ -15,6 +16,6 @@ returns-in-Ok-clause-served c =
 
 pub returns-in-Err-clause-served : goal.returns-in-Err-clause-served
 returns-in-Err-clause-served c =
-    answers_fault c.refuse_fault.result c.in-Err.fault (RefusesProofBy c.args.bytes.now) (AnswersCheck c.args.bytes.now) c.in-Err.ensures.refuses
+    answers_fault c.refuse_fault.result c.in-Err.fault (OrNoMemory (RefusesProof c.args.bytes.now)) (AnswersCheck c.args.bytes.now) c.in-Err.ensures.refuses
     (λ refusal text status shown line. ProofFaultNamed refusal shown line)
     c.refuse_fault.ensures.named

@@ -2,17 +2,19 @@ use Rattle.std.proofs.Common.{List, subst}
 use Rattle.std.proofs.lemmas.Result.{err_from_is_err_and}
 use Rattle.sg_reader.specs.Kept.{Kept, kept_of}
 use Rattle.sg_reader.specs.Leaves.{Leaves}
-use Rattle.sg_reader.specs.ReadInstance.{IsReadFault, ReadsInstance}
-use Rattle.sg_reader.specs.ReadResult.{IsResultFault, ReadsResult}
+use Rattle.sg_reader.specs.ReadInstance.{ReadsInstance, RefusesInstance}
+use Rattle.sg_reader.specs.ReadResult.{ReadsResult, RefusesResult}
 use Rattle.sg_reader.proofs.LeftLaws.{leaves-on, left-kept, nothing-left, some-left}
 use Rattle.sg_cli.proofs.InputLemmas.{by_end, by_instance, by_result}
+use Rattle.sg_model.specs.Faults.{OrNoMemory}
 use Rattle.sg_cli.proofs.check.read_proof.Goals as goal
 
 pub returns-in_err-instance-clause-refuses : goal.returns-in_err-instance-clause-refuses
 returns-in_err-instance-clause-refuses c =
     let p = err_from_is_err_and c.from_residual.result c.from_residual.ensures.1 in
     let e = c.in_err-instance.field-0.0 in
-    rw (p.1, p.2) (by_instance c.args.bytes.now e (subst (λ (rs : List Kept). IsReadFault rs e) c.new-rows.ensures c.in_err-instance.ensures.fault))
+    rw (p.1, p.2)
+        (by_instance c.args.bytes.now e (subst (λ (rs : List Kept). OrNoMemory (RefusesInstance rs) e) c.new-rows.ensures c.in_err-instance.ensures.fault))
 
 pub returns-in_err-stated-clause-refuses : goal.returns-in_err-stated-clause-refuses
 returns-in_err-stated-clause-refuses c =
@@ -24,7 +26,7 @@ returns-in_err-stated-clause-refuses c =
     let reads = subst (λ (rs : List Kept). ReadsInstance rs inst after) c.new-rows.ensures c.in_ok-instance.ensures.read in
     let left = subst (λ (rs : List Kept). Leaves rs middle after) c.new-rows.ensures c.in_ok-instance.ensures.left in
     rw (p.1, p.2) (by_result c.args.bytes.now inst after e reads
-    (subst (λ (rs : List Kept). IsResultFault rs e) (left-kept c.args.bytes.now middle after left) c.in_err-stated.ensures.fault))
+    (subst (λ (rs : List Kept). OrNoMemory (RefusesResult rs) e) (left-kept c.args.bytes.now middle after left) c.in_err-stated.ensures.fault))
 
 pub returns-in_err-no_more-clause-refuses : goal.returns-in_err-no_more-clause-refuses
 returns-in_err-no_more-clause-refuses c =

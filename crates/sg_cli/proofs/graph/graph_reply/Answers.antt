@@ -1,9 +1,10 @@
 use Rattle.std.proofs.lemmas.Result.{IfOk-weaker}
 use Rattle.sg_reply.specs.declared.reply.Reply.{Reply}
-use Rattle.sg_graph_text.specs.Network.{IsNetworkFault}
+use Rattle.sg_graph_text.specs.Network.{RefusesNetwork}
 use Rattle.sg_cli.specs.Graphs.{AnswersTask, takes_terms}
 use Rattle.sg_cli.specs.Served.{AnswersGraph, GraphFaultNamed, GraphSolved}
 use Rattle.sg_reply.proofs.FaultReplies.{answers_fault}
+use Rattle.sg_model.specs.Faults.{OrNoMemory}
 use Rattle.sg_cli.proofs.graph.graph_reply.Goals as goal
 
 pub returns-in-Ok-clause-served : goal.returns-in-Ok-clause-served
@@ -16,7 +17,7 @@ returns-in-Ok-clause-served c =
 
 pub returns-in-Err-clause-served : goal.returns-in-Err-clause-served
 returns-in-Err-clause-served c =
-    answers_fault c.refuse_fault.result c.in-Err.fault (IsNetworkFault (takes_terms c.args.task) c.args.bytes.now)
+    answers_fault c.refuse_fault.result c.in-Err.fault (OrNoMemory (RefusesNetwork (takes_terms c.args.task) c.args.bytes.now))
     (AnswersGraph c.args.task c.args.bytes.now) (rw c.takes_terminals.ensures at c.in-Err.ensures.refuses)
     (λ refusal text status shown line. GraphFaultNamed refusal shown line)
     c.refuse_fault.ensures.named

@@ -1,9 +1,10 @@
 use Rattle.std.proofs.Common.{List, subst}
 use Rattle.sg_reader.specs.Kept.{Kept}
 use Rattle.sg_reader.specs.Leaves.{Leaves}
-use Rattle.sg_reader.specs.ReadInstance.{IsReadFault, ReadsInstance}
+use Rattle.sg_reader.specs.ReadInstance.{ReadsInstance, RefusesInstance}
 use Rattle.sg_reader.proofs.LeftLaws.{nothing-left, some-left}
 use Rattle.sg_cli.proofs.InputLemmas.{by_record, by_trailing}
+use Rattle.sg_model.specs.Faults.{OrNoMemory}
 use Rattle.sg_cli.proofs.study.read_alone.Goals as goal
 
 pub returns-in-Ok-no_more-clause-gives : goal.returns-in-Ok-no_more-clause-gives
@@ -26,4 +27,5 @@ returns-in-Ok-clause-refuses c =
 
 pub returns-clause-refuses : goal.returns-clause-refuses
 returns-clause-refuses c =
-    by_record c.args.bytes.now c.in-Err.fault (subst (λ (rs : List Kept). IsReadFault rs c.in-Err.fault) c.new-rows.ensures c.in-Err.ensures.fault)
+    by_record c.args.bytes.now c.in-Err.fault
+        (subst (λ (rs : List Kept). OrNoMemory (RefusesInstance rs) c.in-Err.fault) c.new-rows.ensures c.in-Err.ensures.fault)

@@ -1,8 +1,9 @@
 use Rattle.std.proofs.lemmas.Result.{IfOk-weaker}
 use Rattle.sg_reply.specs.declared.reply.Reply.{Reply}
-use Rattle.sg_cli.specs.Input.{RefusesBy}
+use Rattle.sg_cli.specs.Input.{RefusesText}
 use Rattle.sg_cli.specs.Served.{AnswersFit, AnswersStudy, FaultNamed, Studied}
 use Rattle.sg_reply.proofs.FaultReplies.{answers_fault}
+use Rattle.sg_model.specs.Faults.{OrNoMemory}
 use Rattle.sg_cli.proofs.study.study_reply.Goals as goal
 
 pub returns-in-Ok-clause-served : goal.returns-in-Ok-clause-served
@@ -15,6 +16,7 @@ returns-in-Ok-clause-served c =
 
 pub returns-in-Err-clause-served : goal.returns-in-Err-clause-served
 returns-in-Err-clause-served c =
-    answers_fault c.refuse_fault.result c.in-Err.fault (RefusesBy c.args.bytes.now) (AnswersStudy c.args.study c.args.bytes.now) c.in-Err.ensures.refuses
+    answers_fault c.refuse_fault.result c.in-Err.fault (OrNoMemory (RefusesText c.args.bytes.now))
+        (AnswersStudy c.args.study c.args.bytes.now) c.in-Err.ensures.refuses
     (λ refusal text status shown line. FaultNamed refusal shown line)
     c.refuse_fault.ensures.named

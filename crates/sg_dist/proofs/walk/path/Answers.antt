@@ -2,7 +2,7 @@ use Rattle.std.proofs.Common.{◌≡◌, ◌≢◌, ◌∙◌, ℕ, List, ap, re
 use Rattle.std.specs.List.{AllPairs}
 use Rattle.std.proofs.lemmas.Result.{IfOk-weaker}
 use Rattle.sg_graph.specs.Web.{weight_of}
-use Rattle.sg_graph.specs.Walk.{IsWalk}
+use Rattle.sg_graph.specs.Walk.{IsWebWalk}
 use Rattle.sg_graph.specs.Table.{length_to}
 use Rattle.sg_dist.proofs.Ways.{once_reversed, way_distance, way_once, way_walk, way_weight}
 use Rattle.sg_dist.proofs.walk.path.Goals as goal
@@ -11,7 +11,7 @@ pub returns : goal.returns
 returns c =
     let back : List ℕ = c.in_ok-back.back.items in
     let way = c.in_ok-back.ensures in
-    let Walks : List ℕ → Type 0 = λ edges. IsWalk c.args.web.now c.args.table.now.source edges c.args.to in
+    let Walks : List ℕ → Type 0 = λ edges. IsWebWalk c.args.web.now c.args.table.now.source edges c.args.to in
     let Weighs : List ℕ → Type 0 = λ edges. weight_of c.args.web.now edges ≡ length_to c.args.table.now c.args.to in
     let Once : List ℕ → Type 0 = λ edges. AllPairs (λ (e f : ℕ). e ≢ f) edges in
     let walk : Walks (reverse back) = way_walk c.args.web.now c.args.table.now back c.args.to c.args.table.now.source way in

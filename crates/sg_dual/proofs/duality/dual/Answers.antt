@@ -1,6 +1,6 @@
 use Rattle.std.proofs.Common.{ap, length, ◌∙◌, ◌%◌, sym, subst}
 use Rattle.sg_graph.specs.Web.{Graph, IsWeb}
-use Rattle.sg_graph.specs.Walk.{IsConnected}
+use Rattle.sg_graph.specs.Walk.{IsConnectedWeb}
 use Rattle.sg_graph.specs.Join.{AreTerminals}
 use Rattle.sg_dual.specs.Dual.{dual_web}
 use Rattle.sg_dual.proofs.DualWebs.{dual_is_web, web_is}
@@ -32,4 +32,4 @@ returns-clause-even c = ap (λ ts. length ts % 2) (returns-clause-frustrated c) 
 
 pub returns-clause-connected : goal.returns-clause-connected
 returns-clause-connected c = λ whole.
-    subst IsConnected (sym (returns-clause-web c)) (dual_connected c.args.inst.now c.args.faces.now c.dual_edges.ensures.instance c.requires.labels whole)
+    subst IsConnectedWeb (sym (returns-clause-web c)) (dual_connected c.args.inst.now c.args.faces.now c.dual_edges.ensures.instance c.requires.labels whole)

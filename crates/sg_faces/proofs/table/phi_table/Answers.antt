@@ -5,7 +5,7 @@ use Rattle.std.proofs.lemmas.List.FromFn.{length-range_with_len}
 use Rattle.std.proofs.lemmas.List.Sums.{count_by-le-length}
 use Rattle.std.proofs.lemmas.Option.{get_or_from_slice_get}
 use Rattle.sg_model.specs.Rotation.{darts_of, rev}
-use Rattle.sg_model.specs.Seam.{IsDistinct}
+use Rattle.sg_sums.specs.Sets.{DifferByCount}
 use Rattle.sg_model.proofs.Rotations.{spin_distinct}
 use Rattle.sg_faces.specs.Faces.{is_bare}
 use Rattle.sg_faces.proofs.BareSpins.{bare_by_list}
@@ -29,7 +29,7 @@ darts c =
 pub link-requires-clause-distinct : goal.link-requires-clause-distinct
 link-requires-clause-distinct c =
     let here = (goal.at.link-requires-clause-distinct c).After-at-darts in
-    subst IsDistinct (sym (darts here)) (spin_distinct c.args.inst.now c.rotation.ensures.instance c.loop-spin.spin (low here))
+    subst DifferByCount (sym (darts here)) (spin_distinct c.args.inst.now c.rotation.ensures.instance c.loop-spin.spin (low here))
 
 pub link-requires-clause-below : goal.link-requires-clause-below
 link-requires-clause-below c =

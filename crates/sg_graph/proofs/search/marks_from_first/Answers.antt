@@ -1,7 +1,7 @@
 use Rattle.std.proofs.Common.{◌≡◌, ◌<◌, ap, arith, get_or, length, subst, true, ◌∙◌}
 use Rattle.std.proofs.lemmas.List.{get_or_read}
 use Rattle.sg_sums.specs.Sets.{is_marked}
-use Rattle.sg_graph.specs.Search.{Visits}
+use Rattle.sg_graph.specs.Search.{VisitsEdges}
 use Rattle.sg_graph.proofs.Incidences.{incident_ends}
 use Rattle.sg_graph.proofs.Searching.{Explores-more, MarksReached-all, marked_low}
 use Rattle.sg_graph.proofs.search.marks_from_first.Goals as goal
@@ -27,7 +27,7 @@ loop-next-preserved c =
     Explores-more c.args.web.now c.loop-next.marks.items _ c.loop-next.found.items _ c.loop-next.next c.index-node.result.now
     c.in_ok-incidence.incidence c.in_ok-incidence.ensures low
     (get_or_read c.loop-next.found.items c.loop-next.next c.index-node.result.now low c.index-node.ensures 0) c.loop-next.invariant
-    (subst (λ es. Visits c.args.web.now c.index-node.result.now es c.loop-next.marks.items c.visit.new.marks.items c.loop-next.found.items
+    (subst (λ es. VisitsEdges c.args.web.now c.index-node.result.now es c.loop-next.marks.items c.visit.new.marks.items c.loop-next.found.items
     c.visit.new.found.items) c.at.ensures c.in_ok-visit.ensures)
 
 pub returns : goal.returns

@@ -2,12 +2,13 @@ use Rattle.std.proofs.Common.{◌≡◌, ◌+◌, ◌++◌, ℕ, Bool, List, tru
 use Rattle.std.proofs.lemmas.Result.{err_from_is_err_and}
 use Rattle.sg_model.specs.declared.refusal.Fault.TheVariants.{Refused}
 use Rattle.sg_reader.specs.Kept.{Kept}
-use Rattle.sg_reader.specs.Tests.{IsTestFault}
-use Rattle.sg_reader.specs.Body.{is_end}
+use Rattle.sg_reader.specs.Tests.{Refuses}
+use Rattle.sg_reader.specs.Body.{says_end}
 use Rattle.sg_reader.proofs.LeftLaws.{rest-more}
 use Rattle.sg_reader.proofs.ResultLaws.{record-fault}
 use Rattle.sg_graph_text.specs.Graph.{body_fault, body_graph, entries_in, terminals_fault}
 use Rattle.sg_graph_text.proofs.BodyLaws.{body_fault-end, end-bare, end-terminals, ended, one-more}
+use Rattle.sg_model.specs.Faults.{OrNoMemory}
 use Rattle.sg_graph_text.proofs.body.read_body.Goals as goal
 
 pub returns-in_err-bare_end-clause-fault : goal.returns-in_err-bare_end-clause-fault
@@ -16,7 +17,7 @@ returns-in_err-bare_end-clause-fault c =
     let sf = c.loop-body.invariant in
     let r = c.next.new.row in
     let next = rw c.if-branch.true at c.in_ok-next.ensures.found in
-    let end : is_end r ≡ true = sym c.begins.ensures ∙ c.if-begins.true in
+    let end : says_end r ≡ true = sym c.begins.ensures ∙ c.if-begins.true in
     let bad : body_fault c.args.terms c.args.n sf.body r ≡ Some c.in_err-bare_end.field-0.0 =
     body_fault-end c.args.terms c.args.n sf.body r end ∙ end-bare c.args.n (entries_in sf.body) r _ c.in_err-bare_end.ensures.refused in
     rw (p.1, p.2) (record-fault (body_fault c.args.terms c.args.n) c.args.records.now sf.body c.next.new.self r (Refused c.in_err-bare_end.field-0.0)
@@ -28,10 +29,10 @@ returns-in_err-graph-clause-fault c =
     let sf = c.loop-body.invariant in
     let r = c.next.new.row in
     let next = rw c.if-branch.true at c.in_ok-next.ensures.found in
-    let end : is_end r ≡ true = sym c.begins.ensures ∙ c.if-begins.true in
-    let held = subst (λ (k : ℕ). IsTestFault (terminals_fault k (entries_in sf.body)) c.in_err-graph.field-0.0) sf.nodes
+    let end : says_end r ≡ true = sym c.begins.ensures ∙ c.if-begins.true in
+    let held = subst (λ (k : ℕ). OrNoMemory (Refuses (terminals_fault k (entries_in sf.body))) c.in_err-graph.field-0.0) sf.nodes
     (c.in_err-graph.ensures.fault sf.body sf.holds) in
-    let bad : IsTestFault (body_fault c.args.terms c.args.n sf.body r) c.in_err-graph.field-0.0 =
+    let bad : OrNoMemory (Refuses (body_fault c.args.terms c.args.n sf.body r)) c.in_err-graph.field-0.0 =
     rw (body_fault-end c.args.terms c.args.n sf.body r end) (end-terminals c.args.n (entries_in sf.body) r _ c.in_ok-bare_end.ensures.passes held) in
     rw (p.1, p.2) (record-fault (body_fault c.args.terms c.args.n) c.args.records.now sf.body c.next.new.self r c.in_err-graph.field-0.0
     (sf.split ∙ ap (λ (l : List Kept). sf.body ++ l) next) sf.is_body bad)
@@ -41,7 +42,7 @@ returns-then-begins-clause-read c =
     let sf = c.loop-body.invariant in
     let r = c.next.new.row in
     let next = rw c.if-branch.true at c.in_ok-next.ensures.found in
-    let end : is_end r ≡ true = sym c.begins.ensures ∙ c.if-begins.true in
+    let end : says_end r ≡ true = sym c.begins.ensures ∙ c.if-begins.true in
     let good : terminals_fault c.args.n (entries_in sf.body) ≡ None =
     ap (λ (k : ℕ). terminals_fault k (entries_in sf.body)) (sym sf.nodes) ∙ c.in_ok-graph.ensures.passes sf.body sf.holds in
     record {
@@ -57,7 +58,7 @@ pub loop-body-preserved : goal.loop-body-preserved
 loop-body-preserved c =
     let sf = c.loop-body.invariant in
     let next = rw c.if-branch.true at c.in_ok-next.ensures.found in
-    let other : is_end c.next.new.row ≡ false = sym c.begins.ensures ∙ c.if-begins.false in
+    let other : says_end c.next.new.row ≡ false = sym c.begins.ensures ∙ c.if-begins.false in
     one-more c.args.terms c.args.n c.args.records.now c.loop-body.records c.next.new.self c.next.new.row c.loop-body.body c.take.new.self sf next other
     (c.in_ok-take.ensures.passes sf.body sf.holds) (c.in_ok-take.ensures.holds sf.body sf.holds) c.in_ok-take.ensures.same.0 c.in_ok-take.ensures.same.1
 
@@ -67,8 +68,8 @@ returns-in_err-take-clause-fault c =
     let sf = c.loop-body.invariant in
     let next = rw c.if-branch.true at c.in_ok-next.ensures.found in
     let held = c.in_err-take.ensures.fault sf.body sf.holds in
-    let fault = subst (λ (k : ℕ). IsTestFault (body_fault c.args.terms k sf.body c.next.new.row) c.in_err-take.field-0.0) sf.nodes
-    (subst (λ (b : Bool). IsTestFault (body_fault b c.loop-body.body.nodes sf.body c.next.new.row) c.in_err-take.field-0.0) sf.allowed held) in
+    let fault = subst (λ (k : ℕ). OrNoMemory (Refuses (body_fault c.args.terms k sf.body c.next.new.row)) c.in_err-take.field-0.0) sf.nodes
+    (subst (λ (b : Bool). OrNoMemory (Refuses (body_fault b c.loop-body.body.nodes sf.body c.next.new.row)) c.in_err-take.field-0.0) sf.allowed held) in
     rw (p.1, p.2) (record-fault (body_fault c.args.terms c.args.n) c.args.records.now sf.body c.next.new.self c.next.new.row c.in_err-take.field-0.0
     (sf.split ∙ ap (λ (l : List Kept). sf.body ++ l) next) sf.is_body fault)
 

@@ -2,8 +2,9 @@ use Rattle.std.proofs.Common.{List, subst}
 use Rattle.sg_reader.specs.Kept.{Kept}
 use Rattle.sg_reader.specs.Leaves.{Leaves}
 use Rattle.sg_reader.proofs.LeftLaws.{nothing-left, some-left}
-use Rattle.sg_graph_text.specs.ReadGraph.{IsGraphFault, ReadsGraph}
+use Rattle.sg_graph_text.specs.ReadGraph.{ReadsGraph, RefusesGraph}
 use Rattle.sg_graph_text.proofs.NetworkLaws.{record-fault, trailing-fault}
+use Rattle.sg_model.specs.Faults.{OrNoMemory}
 use Rattle.sg_graph_text.proofs.network.read_alone.Goals as goal
 
 pub returns-in-Ok-no_more-clause-gives : goal.returns-in-Ok-no_more-clause-gives
@@ -27,4 +28,4 @@ returns-in-Ok-clause-refuses c =
 pub returns-clause-refuses : goal.returns-clause-refuses
 returns-clause-refuses c =
     record-fault c.args.terms c.args.bytes.now c.in-Err.fault
-    (subst (λ (rs : List Kept). IsGraphFault c.args.terms rs c.in-Err.fault) c.new-rows.ensures c.in-Err.ensures.fault)
+    (subst (λ (rs : List Kept). OrNoMemory (RefusesGraph c.args.terms rs) c.in-Err.fault) c.new-rows.ensures c.in-Err.ensures.fault)

@@ -4,7 +4,7 @@ use Rattle.sg_limits.specs.Limits.{forced_limit}
 use Rattle.sg_model.specs.Connected.{IsConnected}
 use Rattle.sg_model.specs.Energy.{weight}
 use Rattle.sg_faces.specs.Faces.{Labelling}
-use Rattle.sg_graph.specs.Walk.{IsConnected as IsConnectedWeb}
+use Rattle.sg_graph.specs.Walk.{IsConnectedWeb}
 use Rattle.sg_graph.specs.Web.{Graph, total_weight}
 use Rattle.sg_dual.specs.Dual.{dual_web}
 use Rattle.sg_dual.proofs.DualWebs.{dual_weight}

@@ -1,7 +1,7 @@
 use Rattle.std.proofs.Common.{◌≡◌, ◌*◌, ℕ, List, Result, Ok, Err, IfOk, sum_by}
 use Rattle.sg_graph.specs.Web.{Graph, weight_of}
 use Rattle.sg_graph.specs.Join.{IsLeastJoin}
-use Rattle.sg_graph.specs.OddCut.{CutsPack, cut_weight}
+use Rattle.sg_graph.specs.OddCut.{CutsPack, odd_cut_weight}
 use Rattle.sg_planar.specs.Fit.{Embedding}
 use Rattle.sg_tjoin.specs.declared.Join.{Join}
 use Rattle.sg_ground.specs.TightJoin.{IsTightJoin}
@@ -21,7 +21,7 @@ returns-clause-join c =
     all_three c.least_join.result
     (λ (j : Join). IsLeastJoin web terminals j.edges)
     (λ (j : Join). CutsPack web terminals j.cuts)
-    (λ (j : Join). sum_by cut_weight j.cuts ≡ 2 * weight_of web j.edges)
+    (λ (j : Join). sum_by odd_cut_weight j.cuts ≡ 2 * weight_of web j.edges)
     (λ (j : Join). IsTightJoin p j.edges j.cuts)
     (λ (j : Join). tight_join p c.dual_of.ensures.planar c.requires.connected web terminals j.edges j.cuts c.in_ok-web.ensures.web
     c.in_ok-web.ensures.frustrated)

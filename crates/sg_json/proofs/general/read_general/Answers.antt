@@ -3,11 +3,11 @@ use Rattle.std.specs.Prelude.{unwrap_or}
 use Rattle.std.proofs.lemmas.Result.{IfErr-weaker, IfOk-weaker}
 use Rattle.serde_json.specs.Data.{Data}
 use Rattle.serde_json.specs.View.{view}
-use Rattle.sg_model.specs.Faults.{IsFaultOf}
+use Rattle.sg_model.specs.Faults.{IsRefusalOf, OrNoMemory}
 use Rattle.sg_model.specs.Ising.{Ising}
 use Rattle.sg_json.specs.declared.entry.Entry.TheVariants as entry
-use Rattle.sg_json.specs.Values.{bond_of, indices_of, items_at, list_at}
-use Rattle.sg_json.specs.Members.{bonds_fault, entries_fault, general_fault, general_in, list_fault, rotation_fault, spins_in}
+use Rattle.sg_json.specs.Values.{value_bond, indices_of, items_at, member_list}
+use Rattle.sg_json.specs.Members.{member_bonds_fault, entries_fault, general_members_fault, general_in, list_fault, rotation_fault, member_spins}
 use Rattle.sg_json.proofs.Lists.{mapped, seam-map}
 use Rattle.sg_json.proofs.Joined.{bonds-joined}
 use Rattle.sg_json.proofs.Stages.{by_ends, general-value, of_instance}
@@ -17,7 +17,7 @@ use Rattle.sg_json.proofs.general.read_general.Goals.{After-new}
 pub new-requires-clause-joined : goal.new-requires-clause-joined
 new-requires-clause-joined c =
     let items = c.in_ok-items.items.now in
-    rw (c.in_ok-bonds.ensures.value ∙ sym (mapped bond_of view items))
+    rw (c.in_ok-bonds.ensures.value ∙ sym (mapped value_bond view items))
     (bonds-joined c.in_ok-n.n (map view items) c.in_ok-items.ensures.passes c.in_ok-bonds.ensures.passes)
 
 -- the parts make up the instance of the members
@@ -29,7 +29,7 @@ same_instance c =
     let lists = c.in_ok-lists.lists.now in
     let at : items_at (codes "bonds") d ≡ map view items = ap (λ (o : Option (List Data)). unwrap_or o []) c.in_ok-items.ensures.items in
     let darts_at : items_at (codes "rotation") d ≡ map view lists = ap (λ (o : Option (List Data)). unwrap_or o []) c.in_ok-lists.ensures.items in
-    let bonds = c.in_ok-bonds.ensures.value ∙ sym (mapped bond_of view items) ∙ ap (λ (l : List Data). map bond_of l) (sym at) in
+    let bonds = c.in_ok-bonds.ensures.value ∙ sym (mapped value_bond view items) ∙ ap (λ (l : List Data). map value_bond l) (sym at) in
     let darts = c.in_ok-darts.ensures ∙ sym (mapped indices_of view lists) ∙ ap (λ (l : List Data). map indices_of l) (sym darts_at) in
     let cut = c.in_ok-cut.ensures.value ∙ ap (λ (o : Option (List ℕ)). unwrap_or o []) (seam-map c.in_ok-seam.seam ∙ c.in_ok-seam.ensures.value) in
     general-value d c.in_ok-n.n c.in_ok-bonds.bonds c.in_ok-darts.darts c.in_ok-cut.cut c.in_ok-n.ensures.value bonds darts cut
@@ -44,11 +44,11 @@ returns-clause-fault c =
     let items = c.in_ok-items.items.now in
     let at : items_at (codes "bonds") d ≡ map view items = ap (λ (o : Option (List Data)). unwrap_or o []) c.in_ok-items.ensures.items in
     let n = sym c.in_ok-n.ensures.value in
-    let list = ap (λ (o : Option (List Data)). list_fault 7 (entry.Bond (spins_in d)) o) c.in_ok-items.ensures.items
+    let list = ap (λ (o : Option (List Data)). list_fault 7 (entry.Bond (member_spins d)) o) c.in_ok-items.ensures.items
     ∙ ap (λ (k : ℕ). entries_fault 7 (entry.Bond k) (map view items)) n ∙ c.in_ok-items.ensures.passes in
-    let lists = ap (λ (k : ℕ). rotation_fault k (list_at (codes "rotation") d)) n ∙ c.in_ok-lists.ensures.passes in
-    let ends = ap bonds_fault at ∙ c.in_ok-bonds.ensures.passes in
+    let lists = ap (λ (k : ℕ). rotation_fault k (member_list (codes "rotation") d)) n ∙ c.in_ok-lists.ensures.passes in
+    let ends = ap member_bonds_fault at ∙ c.in_ok-bonds.ensures.passes in
     let pass = by_ends d c.in_ok-n.ensures.passes list lists c.in_ok-seam.ensures.passes ∙ ends in
     let same = same_instance (goal.at.returns-clause-fault c).After-new in
     IfErr-weaker c.new.result _ _
-    (λ e bad. of_instance (general_fault d) (general_in d) e pass (subst (λ (i : Ising). IsFaultOf i e) same bad)) c.new.ensures.refused
+    (λ e bad. of_instance (general_members_fault d) (general_in d) e pass (subst (λ (i : Ising). OrNoMemory (IsRefusalOf i) e) same bad)) c.new.ensures.refused

@@ -4,14 +4,14 @@ use Rattle.std.proofs.lemmas.List.{length-map}
 use Rattle.std.proofs.lemmas.Result.{IfErr-weaker, IfOk-weaker}
 use Rattle.serde_json.specs.Data.{Data}
 use Rattle.serde_json.specs.View.{view}
-use Rattle.sg_model.specs.Faults.{IsFaultOf}
+use Rattle.sg_model.specs.Faults.{IsRefusalOf, OrNoMemory}
 use Rattle.sg_model.specs.Ising.{Ising}
 use Rattle.sg_lattice.specs.Tables.{bond_total}
 use Rattle.sg_reader.specs.Body.{reseamed}
 use Rattle.sg_reader.proofs.SizeLaws.{lattice-bonds}
 use Rattle.sg_json.specs.declared.entry.Entry.TheVariants as entry
-use Rattle.sg_json.specs.Values.{index_of, items_at, list_at, number_of}
-use Rattle.sg_json.specs.Members.{lattice_fault, lattice_in, list_fault}
+use Rattle.sg_json.specs.Values.{index_of, items_at, member_list, value_number}
+use Rattle.sg_json.specs.Members.{lattice_members_fault, lattice_in, list_fault}
 use Rattle.sg_json.proofs.Lists.{mapped, numbers-small, seam-map}
 use Rattle.sg_json.proofs.Stages.{by_count, count-none, lattice-value, of_instance}
 use Rattle.sg_json.proofs.lattice.read_lattice.Goals as goal
@@ -20,7 +20,7 @@ use Rattle.sg_json.proofs.lattice.read_lattice.Goals.{After-reseam}
 pub build-requires-clause-sizes : goal.build-requires-clause-sizes
 build-requires-clause-sizes c =
     let items = c.in_ok-items.items.now in
-    rw (c.in_ok-list.ensures ∙ sym (mapped number_of view items)) (numbers-small (map view items))
+    rw (c.in_ok-list.ensures ∙ sym (mapped value_number view items)) (numbers-small (map view items))
 
 -- the lattice with its seam is that of the members
 same_lattice : (c : After-reseam)
@@ -29,7 +29,7 @@ same_lattice c =
     let d = view c.args.value.now in
     let items = c.in_ok-items.items.now in
     let at : items_at (codes "couplings") d ≡ map view items = ap (λ (o : Option (List Data)). unwrap_or o []) c.in_ok-items.ensures.items in
-    let numbers = c.in_ok-list.ensures ∙ sym (mapped number_of view items) ∙ ap (λ (l : List Data). map number_of l) (sym at) in
+    let numbers = c.in_ok-list.ensures ∙ sym (mapped value_number view items) ∙ ap (λ (l : List Data). map value_number l) (sym at) in
     let cut = seam-map c.in_ok-seam.seam ∙ c.in_ok-seam.ensures.value in
     ap (λ (i : Ising). reseamed (option_map (λ s. map (λ v. index_of (view v)) s.now) c.in_ok-seam.seam) i) c.in_ok-inst.ensures
     ∙ lattice-value c.args.kind d c.in_ok-size.size.rows c.in_ok-size.size.cols c.in_ok-list.list _
@@ -61,4 +61,5 @@ returns-clause-fault c =
     let pass = by_count kind d c.in_ok-size.ensures.passes list c.in_ok-seam.ensures.passes ∙ count-none _ _ found in
     let same = same_lattice (goal.at.returns-clause-fault c).After-reseam in
     IfErr-weaker c.reseam.result _ _
-    (λ e bad. of_instance (lattice_fault kind d) (lattice_in kind d) e pass (subst (λ (i : Ising). IsFaultOf i e) same bad)) c.reseam.ensures.fault
+    (λ e bad. of_instance (lattice_members_fault kind d) (lattice_in kind d) e pass
+        (subst (λ (i : Ising). OrNoMemory (IsRefusalOf i) e) same bad)) c.reseam.ensures.fault

@@ -5,8 +5,8 @@ use Rattle.std.proofs.lemmas.Option.{none-some}
 use Rattle.std.specs.Vec.{with_items}
 use Rattle.sg_match.proofs.Engine.augment.Goals as goal
 use Rattle.sg_match.proofs.GrowOrAugmentStep.{IsAfter, IsEngine-augmented, edge_tops, root_top, with_tree}
-use Rattle.sg_match.specs.Augmented.{HasTops}
-use Rattle.sg_match.specs.Tree.{edge_at}
+use Rattle.sg_match.specs.Augmented.{HasTwoTops}
+use Rattle.sg_match.specs.Tree.{tree_edge_at}
 use Rattle.sg_match.specs.declared.TreeEdge.{TreeEdge}
 
 pub augment_path-requires-clause-root : goal.augment_path-requires-clause-root
@@ -14,7 +14,7 @@ augment_path-requires-clause-root c = root_top _ _ _ _ _ _ c.self.invariant.0 _ 
 
 pub augment_path-requires-clause-edges : goal.augment_path-requires-clause-edges
 augment_path-requires-clause-edges c =
-    subst (λ (ls : List TreeEdge). (i : ℕ) → i < length ls → HasTops c.self.inside.arena (edge_at ls i)) (sym c.deref.ensures.value)
+    subst (λ (ls : List TreeEdge). (i : ℕ) → i < length ls → HasTwoTops c.self.inside.arena (tree_edge_at ls i)) (sym c.deref.ensures.value)
     (edge_tops _ _ _ _ _ _ c.self.invariant.0 _ c.self.view_is _ _ _ _ c.requires.tight_edge)
 
 after : (c : goal.After-clear) →

@@ -16,7 +16,7 @@ use Rattle.sg_match.proofs.EngineLemmas.{inner_alive, state_of, tree_of}
 use Rattle.sg_match.proofs.TreeLemmas.{edge_room}
 use Rattle.sg_match.proofs.MembersStep.{AreOuter-raised, TotalsFit-raised}
 use Rattle.sg_match.proofs.TableStep.{IsListed-moved, IsMoving, moving-count, moving-fits}
-use Rattle.sg_match.specs.Marks.{IsListed, IsMarked}
+use Rattle.sg_match.specs.Marks.{IsListed, AreRightMarks}
 use Rattle.sg_match.specs.Members.{AreOuter}
 use Rattle.sg_slack.specs.Members.{TotalsFit, grown}
 use Rattle.sg_slack.specs.Table.{Table}
@@ -28,7 +28,7 @@ use Rattle.sg_match.specs.Nearest.{HasNearest}
 use Rattle.sg_pairing.specs.Metric.{cost}
 use Rattle.sg_match.specs.State.{State}
 use Rattle.sg_match.specs.Steps.{steps_left}
-use Rattle.sg_match.specs.Tree.{inners, edge_at, outers}
+use Rattle.sg_match.specs.Tree.{inners, tree_edge_at, outers}
 use Rattle.sg_match.specs.declared.Engine.TheInside.{Inside}
 use Rattle.sg_match.specs.declared.TreeEdge.{TreeEdge}
 
@@ -67,7 +67,7 @@ nearest-near-requires-clause-stands g c =
 pub least_dual-delta-requires : goal.least_dual-delta-requires
 least_dual-delta-requires g c =
     let s = state_of c.self.inside in
-    subst (λ (xs : List TreeEdge). (i : ℕ) → i < length xs → IsAlive s.family (edge_at xs i).inner) (sym c.deref-4.ensures.value)
+    subst (λ (xs : List TreeEdge). (i : ℕ) → i < length xs → IsAlive s.family (tree_edge_at xs i).inner) (sym c.deref-4.ensures.value)
     (inner_alive s c.self.invariant.0 c.args.root (rooted g (goal.at.least_dual-delta-requires g c).After-self))
 
 fits : (g : Over) (c : After-self g) → length c.self.inside.edges.items < length c.self.inside.arena.nodes
@@ -95,8 +95,8 @@ pub least_inner_zero-requires : goal.least_inner_zero-requires
 least_inner_zero-requires g c =
     let s = state_of c.self.inside in
     let p = changing g (goal.at.least_inner_zero-requires g c).After-least_dual-delta in
-    subst (λ (xs : List TreeEdge). (i : ℕ) → i < length xs → IsAlive c.raise_tree.new.arena (edge_at xs i).inner) (sym c.deref-7.ensures.value)
-    (subst (λ a. (i : ℕ) → i < length s.edges → IsAlive a (edge_at s.edges i).inner) (sym (made g (goal.at.least_inner_zero-requires g c).After-shift))
+    subst (λ (xs : List TreeEdge). (i : ℕ) → i < length xs → IsAlive c.raise_tree.new.arena (tree_edge_at xs i).inner) (sym c.deref-7.ensures.value)
+    (subst (λ a. (i : ℕ) → i < length s.edges → IsAlive a (tree_edge_at s.edges i).inner) (sym (made g (goal.at.least_inner_zero-requires g c).After-shift))
     (inner_alive (after s c.args.root (nat_of (given c.least_dual-delta.result)) p.engine p.rooted (change p)) (changed_engine p) c.args.root p.rooted))
 
 same_table : (g : Over) (c : After-shift g) → c.shift.new.self.table ≡ c.self.inside.near.table
@@ -159,7 +159,7 @@ moving g c p = record {
   whole = p.whole;
   can = changed_can p;
   listed = c.self.invariant.1.listed;
-  marked = subst (λ xs. IsMarked c.self.inside.arena c.args.root xs c.nearest-near.new.marks) c.deref.ensures.value c.nearest-near.ensures.marked;
+  marked = subst (λ xs. AreRightMarks c.self.inside.arena c.args.root xs c.nearest-near.new.marks) c.deref.ensures.value c.nearest-near.ensures.marked;
 }
 
 marks_lent : (g : Over) (c : After-deref-6 g) → c.deref-6.result.now ≡ c.nearest-near.new.marks

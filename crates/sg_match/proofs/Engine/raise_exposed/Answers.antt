@@ -15,8 +15,8 @@ use Rattle.sg_match.proofs.EngineLemmas.{no_edges, state_of}
 use Rattle.sg_match.proofs.StartStep.{HasNearest-exposed, IsStarting, IsStarting-made, started_can, started_engine, started_left}
 use Rattle.sg_match.proofs.TableStep.{IsListed-moved, IsMoving, moving-count, moving-fits}
 use Rattle.sg_match.specs.Engine.{IsEngine}
-use Rattle.sg_match.specs.Marks.{IsListed, IsMarked}
-use Rattle.sg_match.specs.Names.{Stands}
+use Rattle.sg_match.specs.Marks.{IsListed, AreRightMarks}
+use Rattle.sg_sums.specs.Sets.{Stands}
 use Rattle.sg_match.specs.Nearest.{HasNearest, IsNearest}
 use Rattle.sg_match.specs.State.{State}
 use Rattle.sg_match.specs.Steps.{steps_left}
@@ -132,7 +132,7 @@ moving g c p = record {
   whole = p.whole;
   can = started_can p;
   listed = c.self.invariant.1.listed;
-  marked = subst (λ xs. IsMarked c.self.inside.arena c.args.root xs c.nearest-near.new.marks) c.deref.ensures.value c.nearest-near.ensures.marked;
+  marked = subst (λ xs. AreRightMarks c.self.inside.arena c.args.root xs c.nearest-near.new.marks) c.deref.ensures.value c.nearest-near.ensures.marked;
 }
 
 marks_lent : (g : Over) (c : After-deref-5 g) → c.deref-5.result.now ≡ c.nearest-near.new.marks

@@ -23,7 +23,7 @@ use Rattle.sg_match.specs.ShrunkTree.{CanShrinkTree}
 use Rattle.sg_match.specs.Rooms.{KeepsTables}
 use Rattle.sg_match.specs.State.{State}
 use Rattle.sg_match.specs.Steps.{steps_left}
-use Rattle.sg_match.specs.Tree.{IsShape, IsTree, edge_at}
+use Rattle.sg_match.specs.Tree.{IsShape, IsTree, tree_edge_at}
 
 rooted : (g : Over) (c : After-self g) → c.self.inside.root ≡ Some c.args.root
 rooted g c = ap (λ (s : State). s.root) c.self.view_is ∙ c.requires.root
@@ -78,13 +78,13 @@ index-requires g c =
 
 pub shrink_edges-requires-clause-from : goal.shrink_edges-requires-clause-from
 shrink_edges-requires-clause-from g c i low =
-    subst (λ (f : Family). (edge_at c.self.inside.edges.items i).up.from < leaf_count f) (sym c.shrink-blossom.ensures.made)
+    subst (λ (f : Family). (tree_edge_at c.self.inside.edges.items i).up.from < leaf_count f) (sym c.shrink-blossom.ensures.made)
     (up_leaf c.self.inside.arena c.args.root c.self.inside.edges.items
     (tree g (goal.at.shrink_edges-requires-clause-from g c).After-self).shape c.self.invariant.0.feasible.family i low)
 
 pub shrink_edges-requires-clause-to : goal.shrink_edges-requires-clause-to
 shrink_edges-requires-clause-to g c i low =
-    subst (λ (f : Family). (edge_at c.self.inside.edges.items i).pair.to < leaf_count f) (sym c.shrink-blossom.ensures.made)
+    subst (λ (f : Family). (tree_edge_at c.self.inside.edges.items i).pair.to < leaf_count f) (sym c.shrink-blossom.ensures.made)
     (pair_leaf c.self.inside.arena c.args.root c.self.inside.edges.items
     (tree g (goal.at.shrink_edges-requires-clause-to g c).After-self).shape c.self.invariant.0.feasible.family i low)
 

@@ -5,7 +5,7 @@ use Rattle.sg_match.proofs.augment.augment_path.Goals as goal
 use Rattle.sg_match.proofs.AugmentLemmas.{IsAugmented-done, IsAugmenting, IsAugmenting-init, IsAugmenting-skip, IsAugmenting-turn}
 use Rattle.sg_match.specs.Augmented.{IsAugmented}
 use Rattle.sg_match.specs.Pairs.{flipped}
-use Rattle.sg_match.specs.Tree.{edge_at}
+use Rattle.sg_match.specs.Tree.{tree_edge_at}
 use Rattle.sg_match.specs.declared.Edge.{Edge}
 
 pub loop-i-init : goal.loop-i-init
@@ -22,7 +22,7 @@ pub loop-i-preserved-then-tree_edge-here : goal.loop-i-preserved-then-tree_edge-
 loop-i-preserved-then-tree_edge-here c =
     let i = c.loop-i.i - 1 in
     let f = c.args.arena.now in
-    let tree_edge = edge_at c.args.edges.now i in
+    let tree_edge = tree_edge_at c.args.edges.now i in
     let edge = c.loop-i.edge in
     let back : c.loop-i.i ≡ i + 1 = omega arith in
     let within : i < length c.args.edges.now = omega (arith, c.loop-i.invariant.within) in

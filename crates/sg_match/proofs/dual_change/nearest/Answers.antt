@@ -3,10 +3,10 @@ use Rattle.std.proofs.Common.{◌≡◌, ◌<◌, get_or, length, ◌∙◌, sub
 use Rattle.sg_arena.proofs.FamilyLemmas.{name_bound}
 use Rattle.sg_sums.specs.Naturals.{nat_of}
 use Rattle.sg_match.proofs.TreeLemmas.{inner_top, length-outers, outer_top}
-use Rattle.sg_match.specs.Tree.{StandsAt, edge_at}
+use Rattle.sg_match.specs.Tree.{StandsAt, tree_edge_at}
 use Rattle.sg_match.proofs.MembersStep.{Agree-known, AreMarked-known, AreOuter-marked}
 use Rattle.sg_match.proofs.NearestStep.{CanScan-listed, IsMarked-stands, IsNearest-scanned, SumsFit-listed}
-use Rattle.sg_match.specs.Marks.{IsMarked}
+use Rattle.sg_match.specs.Marks.{AreRightMarks}
 use Rattle.sg_match.specs.Members.{AreMarked}
 use Rattle.sg_match.specs.Scans.{CanScan, IsScanned}
 use Rattle.sg_slack.specs.Slack.{SumsFit, mark_at}
@@ -33,7 +33,7 @@ mark_tops-requires-clause-inner c i low =
     omega (
       arith,
       c.requires.named,
-      name_bound c.args.arena.now (edge_at c.args.edges.now i).inner
+      name_bound c.args.arena.now (tree_edge_at c.args.edges.now i).inner
           (inner_top c.args.arena.now c.args.root c.args.edges.now c.requires.stands.shape i low).alive,
     )
 
@@ -42,7 +42,7 @@ mark_tops-requires-clause-outer c i low =
     omega (
       arith,
       c.requires.named,
-      name_bound c.args.arena.now (edge_at c.args.edges.now i).outer
+      name_bound c.args.arena.now (tree_edge_at c.args.edges.now i).outer
           (outer_top c.args.arena.now c.args.root c.args.edges.now c.requires.stands.shape i low).alive,
     )
 
@@ -59,7 +59,7 @@ mark_leaves-requires-clause-names c leaf low =
 pub mark_leaves-requires-clause-count : goal.mark_leaves-requires-clause-count
 mark_leaves-requires-clause-count c = c.requires.marks ∙ sym c.requires.listed.top_count
 
-marked : (c : After-mark_leaves) → IsMarked c.args.arena.now c.args.root c.args.edges.now c.mark_leaves.new.marks
+marked : (c : After-mark_leaves) → AreRightMarks c.args.arena.now c.args.root c.args.edges.now c.mark_leaves.new.marks
 marked c =
     let can = c.requires.stands in
     let tops = c.args.tops.now in

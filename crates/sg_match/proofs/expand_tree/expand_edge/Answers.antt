@@ -9,7 +9,7 @@ use Rattle.sg_match.proofs.ExpandTreeLemmas.{IsExpandingEdge-done, IsExpandingEd
 use Rattle.sg_match.proofs.ExpandTreeLemmas.{OuterStays-init}
 use Rattle.sg_match.specs.InsertedEdges.{OuterStays}
 use Rattle.sg_match.specs.ExpandedTree.{with_inner}
-use Rattle.sg_match.specs.Tree.{blank_tree_edge, edge_at}
+use Rattle.sg_match.specs.Tree.{blank_tree_edge, tree_edge_at}
 use Rattle.sg_match.specs.declared.TreeEdge.{TreeEdge}
 
 pub loop-i-init : goal.loop-i-init
@@ -17,7 +17,7 @@ loop-i-init c =
     let old = c.args.edges.now.items in
     let base = (link_at c.args.ring.now 0).node in
     let made = set old c.args.at (with_inner base c.index-tree_edge.result.now) in
-    let is : made ≡ set old c.args.at (with_inner base (edge_at old c.args.at)) =
+    let is : made ≡ set old c.args.at (with_inner base (tree_edge_at old c.args.at)) =
     ap (λ (l : TreeEdge). set old c.args.at (with_inner base l))
     (c.index-tree_edge.ensures ∙ get_or_default old c.args.at c.index-tree_edge.result.now blank_tree_edge c.requires.within) in
     let count : length made ≡ length old = length-set old c.args.at (with_inner base c.index-tree_edge.result.now) in

@@ -6,7 +6,7 @@ use Rattle.sg_arena.specs.Family.{dual_of}
 use Rattle.sg_match.proofs.InnerLemmas.{IsLeastDual, IsLeastDual-init, IsLeastDual-skip, IsLeastDual-take, min_cases, no_cycle, some_cycle}
 use Rattle.sg_match.proofs.inner.least_dual.Goals as goal
 use Rattle.sg_match.proofs.inner.least_dual.Goals.{then-not-is_leaf, else-not-is_leaf}
-use Rattle.sg_match.specs.Tree.{edge_at}
+use Rattle.sg_match.specs.Tree.{tree_edge_at}
 
 pub loop-tree_edge-init : goal.loop-tree_edge-init
 loop-tree_edge-init c = IsLeastDual-init c.args.arena.now c.args.edges.now (to_z w64 (of_z w64 c.args.most))
@@ -16,7 +16,7 @@ loop-tree_edge-preserved c =
     let f = c.args.arena.now in
     let edges = c.args.edges.now in
     let i = c.loop-tree_edge.tree_edge-index in
-    let node = (edge_at edges i).inner in
+    let node = (tree_edge_at edges i).inner in
     let most = to_z w64 (of_z w64 c.args.most) in
     let old = to_z w64 c.loop-tree_edge.least-bits in
     elim c.if-not-is_leaf.branch [

@@ -9,7 +9,7 @@ use Rattle.sg_match.proofs.inner.least_inner_zero.Goals.{then-not-is_leaf+then-d
 use Rattle.sg_match.proofs.inner.least_inner_zero.Goals.{else-not-is_leaf-via-then-not-is_leaf+else-dual-eq0, else-not-is_leaf-via-else-not-is_leaf}
 use Rattle.sg_arena.specs.Family.{dual_of}
 use Rattle.sg_match.proofs.InnerLemmas.{IsBest, IsBest-init, IsBest-less, IsBest-none, IsBest-skip, IsBest-some, IsBest-take, no_cycle, some_cycle}
-use Rattle.sg_match.specs.Tree.{edge_at}
+use Rattle.sg_match.specs.Tree.{tree_edge_at}
 
 pub loop-tree_edge-init : goal.loop-tree_edge-init
 loop-tree_edge-init c = IsBest-init c.args.arena.now c.args.edges.now
@@ -19,7 +19,7 @@ loop-tree_edge-preserved c =
     let f = c.args.arena.now in
     let edges = c.args.edges.now in
     let i = c.loop-tree_edge.tree_edge-index in
-    let node = (edge_at edges i).inner in
+    let node = (tree_edge_at edges i).inner in
     elim c.if-not-is_leaf.branch [
       | then-not-is_leaf+then-dual-eq0+in-Some w ↦
           subst (λ o. IsBest f edges (i + 1) o) (sym w.least-is)

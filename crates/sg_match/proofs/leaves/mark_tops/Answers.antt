@@ -3,7 +3,7 @@ use Rattle.std.proofs.Common.{◌<◌, length, get_or, set, ◌∙◌, arith}
 use Rattle.std.proofs.lemmas.List.{length-set}
 use Rattle.sg_match.proofs.MarkLemmas.{Seen-edge, Seen-root, Seen-whole}
 use Rattle.sg_match.proofs.leaves.mark_tops.Goals as goal
-use Rattle.sg_match.specs.Tree.{edge_at}
+use Rattle.sg_match.specs.Tree.{tree_edge_at}
 use Rattle.sg_slack.specs.declared.Mark.TheVariants.{Free, Inner, Outer}
 
 pub loop-tree_edge-init : goal.loop-tree_edge-init
@@ -18,10 +18,11 @@ loop-tree_edge-preserved c =
     let i = c.loop-tree_edge.tree_edge-index in
     let now = c.loop-tree_edge.named in
     let count = c.loop-tree_edge.invariant.count in
-    let inner_low : (edge_at edges i).inner < length now = omega (arith, count, c.requires.inner i (omega arith)) in
-    let outer_low : (edge_at edges i).outer < length now = omega (arith, count, c.requires.outer i (omega arith)) in
+    let inner_low : (tree_edge_at edges i).inner < length now = omega (arith, count, c.requires.inner i (omega arith)) in
+    let outer_low : (tree_edge_at edges i).outer < length now = omega (arith, count, c.requires.outer i (omega arith)) in
     record {
-      count = length-set (set now (edge_at edges i).inner Inner) (edge_at edges i).outer Outer ∙ length-set now (edge_at edges i).inner Inner ∙ count;
+      count = length-set (set now (tree_edge_at edges i).inner Inner) (tree_edge_at edges i).outer Outer ∙ length-set now
+          (tree_edge_at edges i).inner Inner ∙ count;
       seen = Seen-edge c.args.root edges i now inner_low outer_low c.loop-tree_edge.invariant.seen;
     }
 

@@ -7,7 +7,7 @@ use Rattle.sg_match.proofs.MatePairLemmas.{is_matching}
 use Rattle.sg_match.proofs.MatesStep.{AreMatePairs-done, IsDeriving, IsDeriving-blossom, IsDeriving-init, IsDeriving-leaf, all_listed, entries_room}
 use Rattle.sg_match.proofs.MatesStep.{entry_alive, more_room, own_top, some_links}
 use Rattle.sg_match.specs.Pairs.{pair_of}
-use Rattle.sg_match.specs.Names.{Differ}
+use Rattle.sg_sums.specs.Sets.{Differ}
 use Rattle.sg_match.specs.MatePairs.{HasOwn}
 use Rattle.sg_match.proofs.mates.derive_mates.Goals as goal
 use Rattle.sg_match.proofs.mates.derive_mates.Goals.{After-index-node}

@@ -4,7 +4,7 @@ use Rattle.sg_arena.specs.Family.{Holds, cycle_of, link_at}
 use Rattle.sg_arena.specs.declared.Link.{Link}
 use Rattle.sg_match.proofs.ChildrenLemmas.{IsPairedInside-ring, first_rotated, others, ring_names}
 use Rattle.sg_match.proofs.RotateLemmas.{Differ-cycle, IsCycle-rotated}
-use Rattle.sg_match.specs.Names.{Differ}
+use Rattle.sg_sums.specs.Sets.{Differ}
 use Rattle.sg_match.specs.Path.{nodes_of}
 use Rattle.sg_match.specs.Rings.{IsRingPaired, rotated}
 use Rattle.sg_match.proofs.mates.pair_children.Goals as goal

@@ -1,7 +1,7 @@
 -- `pair_ring`: two nodes at a time are paired along a link.
 use Rattle.std.proofs.Common.{ap, set, Some, ◌∙◌, length, refl, subst, sym, ◌+◌, ◌*◌, ◌<◌, ◌≡◌, arith}
 use Rattle.sg_arena.specs.Family.{link_at}
-use Rattle.sg_match.specs.Pairs.{edge_of, flipped}
+use Rattle.sg_match.specs.Pairs.{edge_of_link, flipped}
 use Rattle.sg_match.proofs.RingPairLemmas.{IsRingPaired-done, IsRingPairedTo, IsRingPairedTo-init, IsRingPairedTo-more}
 use Rattle.sg_match.proofs.rings.pair_ring.Goals as goal
 
@@ -20,10 +20,10 @@ loop-i-preserved c =
     let low : 2 * at.0 + 2 < length ring = omega (arith, c.loop-i-test.true, here) in
     let a = link_at ring (2 * at.0 + 1) in
     let b = (link_at ring (2 * at.0 + 2)).node in
-    let made : c.pair_tops.new.pairs ≡ set (set c.loop-i.pairs a.node (Some (edge_of a))) b (Some (flipped (edge_of a))) =
-    c.pair_tops.ensures ∙ ap (λ i. set (set c.loop-i.pairs (link_at ring i).node (Some (edge_of (link_at ring i)))) (link_at ring (c.loop-i.i + 1)).node
-    (Some (flipped (edge_of (link_at ring i))))) here ∙
-    ap (λ i. set (set c.loop-i.pairs a.node (Some (edge_of a))) (link_at ring i).node (Some (flipped (edge_of a)))) next in
+    let made : c.pair_tops.new.pairs ≡ set (set c.loop-i.pairs a.node (Some (edge_of_link a))) b (Some (flipped (edge_of_link a))) =
+    c.pair_tops.ensures ∙ ap (λ i. set (set c.loop-i.pairs (link_at ring i).node (Some (edge_of_link (link_at ring i)))) (link_at ring (c.loop-i.i + 1)).node
+    (Some (flipped (edge_of_link (link_at ring i))))) here ∙
+    ap (λ i. set (set c.loop-i.pairs a.node (Some (edge_of_link a))) (link_at ring i).node (Some (flipped (edge_of_link a)))) next in
     record {
       within = omega (arith, c.loop-i-test.true);
       twos = (

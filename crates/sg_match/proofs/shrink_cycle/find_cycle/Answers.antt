@@ -11,7 +11,7 @@ use Rattle.sg_match.proofs.TreeCycleLemmas.{IsTreeCycle-tail, tree_cycle-back}
 use Rattle.sg_match.specs.Links.{down_link, up_link}
 use Rattle.sg_match.specs.Path.{AreTight}
 use Rattle.sg_match.specs.TreeCycle.{IsTreeCycle}
-use Rattle.sg_match.specs.Tree.{edge_at}
+use Rattle.sg_match.specs.Tree.{tree_edge_at}
 
 pub top-head-requires : goal.top-head-requires
 top-head-requires c = leaf_bound c.args.arena.now c.requires.family _ c.args.v c.requires.v.2
@@ -51,7 +51,7 @@ top-tail-requires-then-tree_edge-tail c =
     let edges = c.args.edges.now in
     let i = c.loop-head.i - 1 in
     let at = next_edge (goal.at.top-tail-requires-then-tree_edge-tail c).In-loop-head in
-    leaf_bound f c.requires.family _ (edge_at edges i).up.to ((c.requires.shape.edge i at.1).up_to).2
+    leaf_bound f c.requires.family _ (tree_edge_at edges i).up.to ((c.requires.shape.edge i at.1).up_to).2
 
 pub loop-head-preserved-then-tree_edge-tail : goal.loop-head-preserved-then-tree_edge-tail
 loop-head-preserved-then-tree_edge-tail c =
@@ -69,7 +69,7 @@ loop-head-preserved-then-tree_edge-tail c =
         at.0,
         ap (λ xs. length xs) made,
         length-append c.loop-head.cycle.items
-            (down_link (edge_at edges i) ∷ up_link (edge_at edges i) ∷ []),
+            (down_link (tree_edge_at edges i) ∷ up_link (tree_edge_at edges i) ∷ []),
       );
       room = c.lengthen_tail.ensures.capacity ∙ c.loop-head.invariant.room;
       find_cycle = subst (λ xs. IsTreeCycle f c.args.root edges xs i c.loop-head.head next.result) (sym made)
@@ -86,7 +86,7 @@ top-head-requires-then-tree_edge-head c =
     let edges = c.args.edges.now in
     let i = c.loop-head.i - 1 in
     let at = next_edge (goal.at.top-head-requires-then-tree_edge-head c).In-loop-head in
-    leaf_bound f c.requires.family _ (edge_at edges i).up.to ((c.requires.shape.edge i at.1).up_to).2
+    leaf_bound f c.requires.family _ (tree_edge_at edges i).up.to ((c.requires.shape.edge i at.1).up_to).2
 
 pub loop-head-preserved-then-tree_edge-head : goal.loop-head-preserved-then-tree_edge-head
 loop-head-preserved-then-tree_edge-head c =

@@ -7,7 +7,7 @@ use Rattle.sg_match.proofs.shrink_tree.shrink_edges.Goals.{After-index-tree_edge
 use Rattle.sg_arena.proofs.FamilyLemmas.{top-apart}
 use Rattle.sg_arena.specs.Family.{Holds}
 use Rattle.sg_match.proofs.ShrinkTreeLemmas.{IsShrunkTree-done, IsShrinkingTree, IsShrinkingTree-drop, IsShrinkingTree-init, IsShrinkingTree-keep}
-use Rattle.sg_match.specs.Tree.{blank_tree_edge, edge_at}
+use Rattle.sg_match.specs.Tree.{blank_tree_edge, tree_edge_at}
 use Rattle.sg_match.specs.declared.TreeEdge.{TreeEdge}
 
 pub loop-i-init : goal.loop-i-init
@@ -27,15 +27,15 @@ record IsRead (c : After-index-tree_edge) : Type 0 where
   back : c.loop-i.i ≡ (c.loop-i.i - 1) + 1
   low : c.loop-i.i - 1 < length c.loop-i.edges.items
   low_old : c.loop-i.i - 1 < length c.args.edges.now.items
-  mine : c.index-tree_edge.result.now ≡ edge_at c.loop-i.edges.items (c.loop-i.i - 1)
-  read : c.index-tree_edge.result.now ≡ edge_at c.args.edges.now.items (c.loop-i.i - 1)
+  mine : c.index-tree_edge.result.now ≡ tree_edge_at c.loop-i.edges.items (c.loop-i.i - 1)
+  read : c.index-tree_edge.result.now ≡ tree_edge_at c.args.edges.now.items (c.loop-i.i - 1)
 
 edge_read : (c : After-index-tree_edge) → IsRead c
 edge_read c =
     let i = c.loop-i.i - 1 in
     let back : c.loop-i.i ≡ i + 1 = omega arith in
     let low : i < length c.loop-i.edges.items = omega (arith, c.loop-i.invariant.count, back) in
-    let mine : c.index-tree_edge.result.now ≡ edge_at c.loop-i.edges.items i = c.index-tree_edge.ensures ∙
+    let mine : c.index-tree_edge.result.now ≡ tree_edge_at c.loop-i.edges.items i = c.index-tree_edge.ensures ∙
     get_or_default c.loop-i.edges.items i c.index-tree_edge.result.now blank_tree_edge low in
     record {
       back = back;
@@ -77,7 +77,7 @@ loop-i-preserved-then-top-blossom-2 c =
       pair =
           c.index-tree_edge.result.now.pair;
     } in
-    let written : edge_at (set c.loop-i.edges.items i made) i ≡ made = get_or-set_same c.loop-i.edges.items i made blank_tree_edge at.low in
+    let written : tree_edge_at (set c.loop-i.edges.items i made) i ≡ made = get_or-set_same c.loop-i.edges.items i made blank_tree_edge at.low in
     let other = λ (k : ℕ) (n : k ≢ i). get_or-set_other c.loop-i.edges.items i k made blank_tree_edge n in
     record {
       within = omega (arith, at.low_old);
@@ -115,7 +115,7 @@ loop-i-preserved c =
           let away = can.miss i at.low_old
           (λ h. c.if-top-blossom.false (top-apart c.args.arena.now c.requires.family c.top.result c.args.blossom c.index-tree_edge.result.now.up.from
           c.top.ensures.top can.top c.top.ensures.holds (subst (λ (l : TreeEdge). Holds c.args.arena.now c.args.blossom l.up.from) (sym at.read) h))) in
-          let not_base = λ (e : (edge_at c.args.edges.now.items i).outer ≡ base). c.if-top-blossom-2.false
+          let not_base = λ (e : (tree_edge_at c.args.edges.now.items i).outer ≡ base). c.if-top-blossom-2.false
           (top-apart c.args.arena.now c.requires.family c.top-else-top-blossom.result c.args.blossom c.index-tree_edge.result.now.pair.to
           c.top-else-top-blossom.ensures.top can.top c.top-else-top-blossom.ensures.holds
           (subst (λ (l : TreeEdge). Holds c.args.arena.now c.args.blossom l.pair.to) (sym at.read) (can.outer_miss i at.low_old e))) in

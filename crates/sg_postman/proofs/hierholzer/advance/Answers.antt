@@ -1,7 +1,7 @@
 use Rattle.std.proofs.Common.{◌≡◌, ◌∙◌, sym, ap, subst, arith, ◌<◌, ℕ, length, true, false, Bool, refl, slice_index}
 use Rattle.sg_graph.specs.Incidence.{EndsAt, list_at}
 use Rattle.sg_postman.specs.Tour.{end_of}
-use Rattle.sg_postman.specs.Tracing.{IsSpent, left_of, one_less}
+use Rattle.sg_postman.specs.Tracing.{IsUsedUp, left_of, one_less}
 use Rattle.sg_postman.proofs.OpenEdges.{all_end, spent_at, tried_less}
 use Rattle.sg_postman.proofs.Tracings.{stands_low, forward, backed, one_less_low}
 use Rattle.sg_postman.proofs.hierholzer.advance.Goals as goal
@@ -41,9 +41,9 @@ ends c k e l is =
 -- where no edge of the list has a copy left, the node is spent
 spent : (c : After-nodes-nodes) → ((k : ℕ) → k < length (list_at c.args.incidence.now c.standing-node.result)
     → left_of c.args.left.now (slice_index (list_at c.args.incidence.now c.standing-node.result) k) ≡ 0)
-    → IsSpent c.args.web.now c.args.left.now (end_of 0 c.args.out.now.items)
+    → IsUsedUp c.args.web.now c.args.left.now (end_of 0 c.args.out.now.items)
 spent c none =
-    subst (IsSpent c.args.web.now c.args.left.now) (node_is c)
+    subst (IsUsedUp c.args.web.now c.args.left.now) (node_is c)
     (spent_at c.args.web.now c.args.incidence.now c.requires.incident c.standing-node.result (low c) c.args.left.now none)
 
 pub go-requires-clause-ends : goal.go-requires-clause-ends

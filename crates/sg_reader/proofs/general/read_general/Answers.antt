@@ -3,11 +3,10 @@ use Rattle.std.proofs.lemmas.Result.{err_from_is_err_and}
 use Rattle.sg_model.specs.declared.refusal.Fault.TheVariants.{Refused}
 use Rattle.sg_reader.specs.declared.header.Header.TheVariants as header
 use Rattle.sg_reader.specs.Kept.{Kept}
-use Rattle.sg_reader.specs.Tests.{IsTestFault}
-use Rattle.sg_reader.specs.Body.{general_fault, is_end, record_fault}
+use Rattle.sg_reader.specs.Tests.{Refuses}
+use Rattle.sg_reader.specs.Body.{general_fault, says_end, record_fault, instance_of}
 use Rattle.std.proofs.Common.{subst}
-use Rattle.sg_model.specs.Faults.{IsFaultOf}
-use Rattle.sg_reader.specs.Body.{instance_of}
+use Rattle.sg_model.specs.Faults.{IsRefusalOf, OrNoMemory}
 use Rattle.sg_reader.proofs.LeftLaws.{rest-more}
 use Rattle.sg_reader.proofs.BodyLaws.{end-fault, record-fault}
 use Rattle.sg_reader.proofs.GeneralLaws.{ended-general, general_fault-end, lists-count, marks-count, one-more}
@@ -20,7 +19,7 @@ returns-in_err-bare_end-clause-fault c =
     let sf = c.loop-body.invariant in
     let r = c.next.new.row in
     let next = rw c.if-branch.true at c.in_ok-next.ensures.found in
-    let end : is_end r ≡ true = sym c.begins.ensures ∙ c.if-begins.true in
+    let end : says_end r ≡ true = sym c.begins.ensures ∙ c.if-begins.true in
     let bad : record_fault (header.General c.args.n) sf.body r ≡ Some c.in_err-bare_end.field-0.0 = general_fault-end c.args.n sf.body r end
     ∙ c.in_err-bare_end.ensures.refused in
     rw (p.1, p.2) (record-fault (header.General c.args.n) c.args.records.now sf.body c.next.new.self r (Refused c.in_err-bare_end.field-0.0)
@@ -32,10 +31,10 @@ returns-in_err-inst-clause-fault c =
     let sf = c.loop-body.invariant in
     let r = c.next.new.row in
     let next = rw c.if-branch.true at c.in_ok-next.ensures.found in
-    let end : is_end r ≡ true = sym c.begins.ensures ∙ c.if-begins.true in
+    let end : says_end r ≡ true = sym c.begins.ensures ∙ c.if-begins.true in
     let is_ended = ended-general c.args.n c.args.records.now c.loop-body.records c.next.new.self r c.loop-body.body sf next end
     c.in_ok-bare_end.ensures.passes in
-    let fault = subst (λ (k : ℕ). IsFaultOf (instance_of (header.General k) sf.body) c.in_err-inst.field-0.0) sf.spins
+    let fault = subst (λ (k : ℕ). OrNoMemory (IsRefusalOf (instance_of (header.General k) sf.body)) c.in_err-inst.field-0.0) sf.spins
     (c.in_err-inst.ensures.fault sf.body sf.holds) in
     rw (p.1, p.2) (end-fault (header.General c.args.n) c.args.records.now sf.body r c.in_err-inst.field-0.0 is_ended fault)
 
@@ -44,7 +43,7 @@ returns-then-begins-clause-read c =
     let sf = c.loop-body.invariant in
     let r = c.next.new.row in
     let next = rw c.if-branch.true at c.in_ok-next.ensures.found in
-    let end : is_end r ≡ true = sym c.begins.ensures ∙ c.if-begins.true in
+    let end : says_end r ≡ true = sym c.begins.ensures ∙ c.if-begins.true in
     record {
       body = sf.body;
       last = r;
@@ -69,7 +68,7 @@ pub loop-body-preserved : goal.loop-body-preserved
 loop-body-preserved c =
     let sf = c.loop-body.invariant in
     let next = rw c.if-branch.true at c.in_ok-next.ensures.found in
-    let other : is_end c.next.new.row ≡ false = sym c.begins.ensures ∙ c.if-begins.false in
+    let other : says_end c.next.new.row ≡ false = sym c.begins.ensures ∙ c.if-begins.false in
     one-more c.args.n c.args.records.now c.loop-body.records c.next.new.self c.next.new.row c.loop-body.body c.take.new.self sf next other
     (c.in_ok-take.ensures.passes sf.body sf.holds) (c.in_ok-take.ensures.holds sf.body sf.holds) c.in_ok-take.ensures.same
 
@@ -78,7 +77,7 @@ returns-in_err-take-clause-fault c =
     let p = err_from_is_err_and c.from_residual-in_err-take.result c.from_residual-in_err-take.ensures.1 in
     let sf = c.loop-body.invariant in
     let next = rw c.if-branch.true at c.in_ok-next.ensures.found in
-    let fault = subst (λ (k : ℕ). IsTestFault (general_fault k sf.body c.next.new.row) c.in_err-take.field-0.0) sf.spins
+    let fault = subst (λ (k : ℕ). OrNoMemory (Refuses (general_fault k sf.body c.next.new.row)) c.in_err-take.field-0.0) sf.spins
     (c.in_err-take.ensures.fault sf.body sf.holds) in
     rw (p.1, p.2) (record-fault (header.General c.args.n) c.args.records.now sf.body c.next.new.self c.next.new.row c.in_err-take.field-0.0
     (sf.split ∙ ap (λ (l : List Kept). sf.body ++ l) next) sf.is_body fault)

@@ -4,7 +4,7 @@ use Rattle.sg_model.specs.declared.refusal.Fault.TheVariants.{Refused}
 use Rattle.sg_lattice.specs.Tables.{bond_total}
 use Rattle.sg_reader.specs.declared.header.Header.TheVariants as header
 use Rattle.sg_reader.specs.Kept.{Kept}
-use Rattle.sg_reader.specs.Body.{is_end, lattice_end_fault, record_fault}
+use Rattle.sg_reader.specs.Body.{says_end, lattice_end_fault, record_fault}
 use Rattle.sg_reader.proofs.LeftLaws.{rest-more}
 use Rattle.sg_reader.proofs.BodyLaws.{couplings_in-small, end-fault, record-fault}
 use Rattle.sg_reader.proofs.LatticeLaws.{ended-lattice, instance-lattice, lattice_fault-end, none-yet}
@@ -20,7 +20,7 @@ returns-in_err-end_lattice-clause-fault c =
     let sf = c.loop-body.invariant in
     let r = c.next.new.row in
     let next = rw c.if-branch.true at c.in_ok-next.ensures.found in
-    let end : is_end r ≡ true = sym c.begins.ensures ∙ c.if-begins.true in
+    let end : says_end r ≡ true = sym c.begins.ensures ∙ c.if-begins.true in
     let wanted = bond_total c.args.kind c.args.rows c.args.cols in
     let bad : record_fault (header.Lattice c.args.kind c.args.rows c.args.cols) sf.body r ≡ Some c.in_err-end_lattice.field-0.0 =
     lattice_fault-end wanted sf.body r end
@@ -41,7 +41,7 @@ returns-in_err-inst-clause-fault c =
     let sf = c.loop-body.invariant in
     let r = c.next.new.row in
     let next = rw c.if-branch.true at c.in_ok-next.ensures.found in
-    let end : is_end r ≡ true = sym c.begins.ensures ∙ c.if-begins.true in
+    let end : says_end r ≡ true = sym c.begins.ensures ∙ c.if-begins.true in
     let wanted = bond_total c.args.kind c.args.rows c.args.cols in
     let pass : lattice_end_fault wanted (length c.loop-body.body.couplings) r ≡ None =
     ap (λ (n : ℕ). lattice_end_fault wanted n r) (sym c.len.ensures) ∙ ap (λ (n : ℕ). lattice_end_fault n c.len.result r) (sym c.bond_count.ensures)
@@ -58,7 +58,7 @@ returns-then-begins-clause-read c =
     let sf = c.loop-body.invariant in
     let r = c.next.new.row in
     let next = rw c.if-branch.true at c.in_ok-next.ensures.found in
-    let end : is_end r ≡ true = sym c.begins.ensures ∙ c.if-begins.true in
+    let end : says_end r ≡ true = sym c.begins.ensures ∙ c.if-begins.true in
     let wanted = bond_total c.args.kind c.args.rows c.args.cols in
     let pass : lattice_end_fault wanted (length c.loop-body.body.couplings) r ≡ None =
     ap (λ (n : ℕ). lattice_end_fault wanted n r) (sym c.len.ensures) ∙ ap (λ (n : ℕ). lattice_end_fault n c.len.result r) (sym c.bond_count.ensures)

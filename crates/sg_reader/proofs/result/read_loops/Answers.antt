@@ -1,7 +1,7 @@
 use Rattle.std.proofs.Common.{◌≡◌, ◌∙◌, ◌+◌, ◌∷◌, ◌++◌, [], ℕ, true, false, sym, ap}
 use Rattle.std.proofs.lemmas.Result.{err_from_is_err_and}
 use Rattle.sg_check.specs.declared.packing.Loop.{Loop}
-use Rattle.sg_reader.specs.Body.{is_end}
+use Rattle.sg_reader.specs.Body.{says_end}
 use Rattle.sg_reader.proofs.LeftLaws.{rest-more}
 use Rattle.sg_reader.proofs.ResultLaws.{end-fault, ended-loops, loop-fault, one-more}
 use Rattle.sg_reader.proofs.result.read_loops.Goals as goal
@@ -11,7 +11,7 @@ returns-in_err-bare_end-clause-fault c =
     let p = err_from_is_err_and c.from_residual-in_err-bare_end.result c.from_residual-in_err-bare_end.ensures.1 in
     let r = c.next.new.row in
     let next = rw c.if-branch.true at c.in_ok-next.ensures.found in
-    let end : is_end r ≡ true = sym c.begins.ensures ∙ c.if-begins.true in
+    let end : says_end r ≡ true = sym c.begins.ensures ∙ c.if-begins.true in
     rw (p.1, p.2) (end-fault c.args.rows.now c.loop-loops.rows c.next.new.self r c.loop-loops.loops
     c.in_err-bare_end.field-0.0 c.loop-loops.invariant next end c.in_err-bare_end.ensures.refused)
 
@@ -19,7 +19,7 @@ pub returns-then-begins-clause-read : goal.returns-then-begins-clause-read
 returns-then-begins-clause-read c =
     let last = c.next.new.row in
     let next = rw c.if-branch.true at c.in_ok-next.ensures.found in
-    let end : is_end last ≡ true = sym c.begins.ensures ∙ c.if-begins.true in
+    let end : says_end last ≡ true = sym c.begins.ensures ∙ c.if-begins.true in
     ended-loops c.args.rows.now c.loop-loops.rows c.next.new.self last c.loop-loops.loops _
     c.loop-loops.invariant next end c.in_ok-bare_end.ensures.passes (ap (λ (n : ℕ). n + 1) c.at.ensures.value)
 
@@ -28,7 +28,7 @@ returns-in_err-entry-clause-fault c =
     let p = err_from_is_err_and c.from_residual-in_err-entry.result c.from_residual-in_err-entry.ensures.1 in
     let r = c.next.new.row in
     let next = rw c.if-branch.true at c.in_ok-next.ensures.found in
-    let other : is_end r ≡ false = sym c.begins.ensures ∙ c.if-begins.false in
+    let other : says_end r ≡ false = sym c.begins.ensures ∙ c.if-begins.false in
     let fault = c.in_err-entry.ensures.fault in
     rw (p.1, p.2) (loop-fault c.args.rows.now c.loop-loops.rows c.next.new.self r c.loop-loops.loops
     c.in_err-entry.field-0.0 c.loop-loops.invariant next other fault)
@@ -37,7 +37,7 @@ pub loop-loops-preserved : goal.loop-loops-preserved
 loop-loops-preserved c =
     let r = c.next.new.row in
     let next = rw c.if-branch.true at c.in_ok-next.ensures.found in
-    let other : is_end r ≡ false = sym c.begins.ensures ∙ c.if-begins.false in
+    let other : says_end r ≡ false = sym c.begins.ensures ∙ c.if-begins.false in
     one-more c.args.rows.now c.loop-loops.rows c.next.new.self r c.loop-loops.loops c.push.new.self
     c.loop-loops.invariant next other c.in_ok-entry.ensures.passes
     (c.in_ok-push.ensures.ok ∙ ap (λ (l : Loop). c.loop-loops.loops ++ l ∷ []) c.in_ok-entry.ensures.value) c.in_ok-entry.ensures.count

@@ -1,7 +1,7 @@
 -- `nearest_kept`: leaf by leaf, where it is free.
 use Rattle.std.proofs.Common.{◌≡◌, ◌<◌, ◌+◌, Some, arith, inl, inr, subst, sym, ◌∙◌}
 use Rattle.std.proofs.lemmas.Bool.{cases_Bool, false≢true}
-use Rattle.sg_slack.specs.Scan.{IsNearer, IsNearestFree}
+use Rattle.sg_slack.specs.Scan.{IsLesser, IsNearestFree}
 use Rattle.sg_slack.specs.Slack.{Least}
 use Rattle.sg_slack.proofs.NearLemmas.{Least-all, Least-free, Least-passed}
 use Rattle.sg_slack.proofs.near.nearest_kept.Goals as goal
@@ -16,7 +16,7 @@ loop-v-preserved c =
     elim (cases_Bool c.is_free.result) [
       | inl counted ↦
           Least-free costs total nearest mark c.loop-v.best c.nearer_if-best.result v (omega arith) (c.is_free.ensures.0 counted)
-          (subst (λ p. IsNearer c.loop-v.best (Some p) c.nearer_if-best.result) c.pair_by_key-pair.ensures (c.nearer_if-best.ensures.yes counted))
+          (subst (λ p. IsLesser c.loop-v.best (Some p) c.nearer_if-best.result) c.pair_by_key-pair.ensures (c.nearer_if-best.ensures.yes counted))
           c.loop-v.invariant
       | inr passed ↦
           subst (λ r. Least costs total (λ a b. (b < v + 1) × IsNearestFree costs nearest mark a b) r) (sym (c.nearer_if-best.ensures.no passed))

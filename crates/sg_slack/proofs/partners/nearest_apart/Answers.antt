@@ -1,7 +1,7 @@
 -- `nearest_apart`: member by member, where its top is another.
 use Rattle.std.proofs.Common.{◌≡◌, ◌+◌, ◌≤◌, Some, length, arith, inl, inr, subst, sym, ◌∙◌}
 use Rattle.std.proofs.lemmas.Bool.{cases_Bool, false≢true}
-use Rattle.sg_slack.specs.Scan.{IsApartFrom, IsNearer}
+use Rattle.sg_slack.specs.Scan.{IsApartFrom, IsLesser}
 use Rattle.sg_slack.specs.Slack.{Least}
 use Rattle.sg_slack.proofs.PartnerLemmas.{From-more, From-passed}
 use Rattle.sg_slack.proofs.partners.nearest_apart.Goals as goal
@@ -18,7 +18,7 @@ loop-place-preserved c =
     elim (cases_Bool c.is_apart-counts.result) [
       | inl counted ↦
           From-more costs total members top c.args.u start i c.loop-place.best c.nearer_if-best.result within (c.is_apart-counts.ensures.0 counted)
-          (subst (λ p. IsNearer c.loop-place.best (Some p) c.nearer_if-best.result) c.pair_beside-pair.ensures (c.nearer_if-best.ensures.yes counted))
+          (subst (λ p. IsLesser c.loop-place.best (Some p) c.nearer_if-best.result) c.pair_beside-pair.ensures (c.nearer_if-best.ensures.yes counted))
           c.loop-place.invariant
       | inr passed ↦
           subst (λ r. Least costs total (IsApartFrom start (i + 1) members top c.args.u) r) (sym (c.nearer_if-best.ensures.no passed))

@@ -1,7 +1,7 @@
 use Rattle.std.proofs.Common.{◌≡◌, ℕ, false, Some, sym, ◌∙◌, ap}
 use Rattle.std.specs.Prelude.{◌&&◌}
 use Rattle.sg_model.specs.declared.refusal.Refusal.TheVariants.{UnknownKind}
-use Rattle.sg_graph_text.specs.Graph.{is_term}
+use Rattle.sg_graph_text.specs.Graph.{says_term}
 use Rattle.sg_graph_text.proofs.BodyLaws.{body_fault-other, no_term, not_allowed}
 use Rattle.sg_graph_text.proofs.body.GraphBody.take.Goals as goal
 use Rattle.sg_graph_text.proofs.body.GraphBody.take.Goals.{else-self-via-then-self+else-begins-2, else-self-via-else-self}
@@ -10,9 +10,9 @@ pub returns-else-self-clause-fault : goal.returns-else-self-clause-fault
 returns-else-self-clause-fault c =
     let old = c.args.self.now in
     let r = c.args.row.now in
-    let none : (old.terms && is_term r) ≡ false = elim c.else-self.branch [
-      | else-self-via-then-self+else-begins-2 w ↦ no_term old.terms (is_term r) (sym w.begins-then-self.ensures ∙ w.if-begins-2.false)
-      | else-self-via-else-self w ↦ not_allowed old.terms (is_term r) w.if-self.false
+    let none : (old.terms && says_term r) ≡ false = elim c.else-self.branch [
+      | else-self-via-then-self+else-begins-2 w ↦ no_term old.terms (says_term r) (sym w.begins-then-self.ensures ∙ w.if-begins-2.false)
+      | else-self-via-else-self w ↦ not_allowed old.terms (says_term r) w.if-self.false
     ] in
     λ body h. body_fault-other old.terms old.nodes body r (sym c.begins.ensures ∙ c.if-begins.false) none c.requires.other
     ∙ ap (λ (k : ℕ). Some (UnknownKind k)) (sym c.at.ensures.value)
