@@ -94,7 +94,7 @@ pub fall-some : (starts : List ℕ) (k : ℕ) → 1 ≤ k → k < length starts 
     → entry starts k < entry starts (k - 1) → first_fall starts ≡ Some k
 fall-some starts k low high rises fall =
     find_range-some (start_falls starts) 1 (length starts - 1) k low (omega (arith, low, high))
-        (λ i l u. no_fall starts i l (rises (i - 1) (omega (arith, l, u))))
+    (λ i l u. no_fall starts i l (rises (i - 1) (omega (arith, l, u))))
     (lt-ltb (entry starts k) (entry starts (k - 1)) fall)
 
 -- starts that rise do not fall

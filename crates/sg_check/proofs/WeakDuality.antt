@@ -72,7 +72,7 @@ module _ (inst : Ising) (good : IsInstance inst) where
       (bond_count inst) =
       sum_by_is_sum_below (broken_cost t) inst.bonds (record { u = 0; v = 0; j = pos 0 }) in
       below e (energy inst t) (packed_weight loops) (weight inst) (sum_by (broken_cost t) inst.bonds) h.tight (energy_from_costs inst t good spins)
-          (omega arith)
+      (omega arith)
     where
       marked : (t : List ℤ) → IsAssignment inst t → (l : Loop) → IsFrustratedLoop inst l.bonds
           → HasMarked loop_weight (λ (l : Loop). holds l.bonds) (λ k. is_broken t (bond_at inst k)) (bond_count inst) l

@@ -73,7 +73,7 @@ by_result bytes inst after NoMemory reads shown = tt
 -- behind both, a record more refuses the proof
 pub by_end : (bytes : List ℕ) (inst : Ising) (after : ℕ) (stated : ResultText) (next : ℕ) (fault : Fault) → ReadsInstance (kept_of bytes) inst after →
     ReadsResult (behind after (kept_of bytes)) stated next → OrNoMemory (Refuses (trailing_fault (kept_of bytes) next)) fault
-        → OrNoMemory (RefusesProof bytes) fault
+    → OrNoMemory (RefusesProof bytes) fault
 by_end bytes inst after stated next (Refused refusal) reads states shown = BehindResult inst after stated next reads states shown
 by_end bytes inst after stated next NoMemory reads states shown = tt
 

@@ -9,9 +9,9 @@ ghost use Rattle.sg_reply.specs.Exit.{IsAnswered};
 ghost use Rattle.sg_cli.specs.Promises.{AnswersInPart, AnswersSource, AnswersWhole, LeavesSource, reads, sink_faults, source_faults, stop_faults, Takes};
 
 use super::check::check_reply;
-use sg_draws::draw_reply;
 use super::graph::graph_reply;
 use super::study::study_reply;
+use sg_draws::draw_reply;
 use sg_io::{ReadEnd, Sink, Source, WriteFault, put, read_all};
 use sg_laws::Disorder;
 use sg_limits::INPUT_LIMIT;

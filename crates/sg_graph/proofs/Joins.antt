@@ -74,7 +74,7 @@ module _ (g : Graph) where
     join_carries es [] join odds = omega arith
     join_carries es (c ∷ cs) join odds =
         let rest : sum_by odd_cut_weight cs ≤ sum_by (λ e. cut_load cs e) es =
-            join_carries es cs join (All-tail (λ c. IsOddCut g terminals c.edges) c cs odds) in
+        join_carries es cs join (All-tail (λ c. IsOddCut g terminals c.edges) c cs odds) in
         let met = join_meets es c.edges join (All-head (λ c. IsOddCut g terminals c.edges) c cs odds) in
         let own : ℕ → ℕ = λ e. cond (holds c.edges e) (odd_cut_weight c) 0 in
         let part : own (get_or es met.0 0) ≤ sum_by own es = get_or-le-sum_by own es met.0 0 met.1 in

@@ -42,4 +42,4 @@ IsHeldGraph state g = (body : List Kept) → HoldsGraph body state → g ≡ bod
 abbrev pub IsHeldGraphFault : GraphBody → Fault → Type 0
 IsHeldGraphFault state fault =
     (body : List Kept) → HoldsGraph body state
-        → OrNoMemory (Refuses (terminals_fault state.nodes (entries_in body))) fault
+    → OrNoMemory (Refuses (terminals_fault state.nodes (entries_in body))) fault

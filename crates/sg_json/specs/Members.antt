@@ -159,7 +159,7 @@ member_seam d = option_map indices_of (get (codes "seam") d)
 abbrev pub lattice_in : Kind → Data → Ising
 lattice_in kind d =
     reseamed (member_seam d)
-        (lattice kind (rows_in d) (cols_in kind d) (map value_number (items_at (codes "couplings") d)))
+    (lattice kind (rows_in d) (cols_in kind d) (map value_number (items_at (codes "couplings") d)))
 
 abbrev pub general_in : Data → Ising
 general_in d = record {

@@ -88,7 +88,7 @@ module _ (f : Family) (cost : ℕ → ℕ → ℕ) (pairs : List (Option Edge)) 
                     old.1,
                     subst (λ (l : TreeEdge). Holds f (get_or (outers root more) old.0 0) l.up.to) (sym at.1)
                         (subst (λ n. Holds f n (tree_edge_at edges i).up.to)
-                            (sym (outer_old old.0 (omega (arith, old.1, at.0, length-outers root edges)))) old.2),
+                        (sym (outer_old old.0 (omega (arith, old.1, at.0, length-outers root edges)))) old.2),
                   )
               | inr at ↦ (
                 up_to.0,

@@ -124,7 +124,7 @@ module _ (f : Family) (edges : List TreeEdge) where
   -- the lesser of the bound and a blossom's dual is the new one
   pub IsLeastDual-take : (n : ℕ) (most least new : ℤ) → IsBlossom f (tree_edge_at edges n).inner → new ≤ℤ least →
       new ≤ℤ pos (dual_of f (tree_edge_at edges n).inner) → (new ≡ least) ⊎ (new ≡ pos (dual_of f (tree_edge_at edges n).inner))
-          → IsLeastDual f edges n most least →
+      → IsLeastDual f edges n most least →
       IsLeastDual f edges (n + 1) most new
   IsLeastDual-take n most least new blossom less here which is =
       record {

@@ -171,7 +171,7 @@ module _ (s : State) (root : ℕ) (engine : IsEngine s) (rooted : s.root ≡ Som
         miss = λ i low no is. no (in_blossom (tree_edge_at s.edges i).inner (tree_edge_at s.edges i).up.from is (tree.shape.up_from i low));
         outer_hit = λ i low away is. outer_is_base i low away
             (in_cycle (tree_edge_at s.edges i).outer (tree_edge_at s.edges i).pair.to (outer_top f root s.edges tree.shape i low)
-                ((tree.shape.edge i low).pair_to) is);
+            ((tree.shape.edge i low).pair_to) is);
         outer_miss = λ i low same. in_blossom (tree_edge_at s.edges i).outer (tree_edge_at s.edges i).pair.to
             (subst (λ n. Contains (nodes_of cycle) n) (sym same) base_in) ((tree.shape.edge i low).pair_to);
       }

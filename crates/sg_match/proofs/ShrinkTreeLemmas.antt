@@ -64,7 +64,7 @@ module _ (nodes : List ℕ) (base blossom : ℕ) (old : List TreeEdge) where
     -- a tree edge of the blossom is taken out
     pub IsShrinkingTree-drop : (new : List TreeEdge) → length new + 1 ≡ length now → ((k : ℕ) → k < i → tree_edge_at new k ≡ tree_edge_at now k) →
         ((k : ℕ) → i ≤ k → tree_edge_at new k ≡ tree_edge_at now (k + 1)) → Contains nodes (tree_edge_at old i).inner
-            → IsShrinkingTree nodes base blossom old new i
+        → IsShrinkingTree nodes base blossom old new i
     IsShrinkingTree-drop new count below above gone = record {
       at = λ k. is.at (k + 1);
       front = λ k low. below k low ∙ is.front k (omega (arith, low));
@@ -92,9 +92,9 @@ module _ (nodes : List ℕ) (base blossom : ℕ) (old : List TreeEdge) where
     -- a tree edge stays, maybe with another outer name
     pub IsShrinkingTree-keep : (new : List TreeEdge) → length new ≡ length now → ((k : ℕ) → k ≢ i → tree_edge_at new k ≡ tree_edge_at now k) →
         (tree_edge_at new i).inner ≡ (tree_edge_at now i).inner → (tree_edge_at new i).up ≡ (tree_edge_at now i).up
-            → (tree_edge_at new i).pair ≡ (tree_edge_at now i).pair →
+        → (tree_edge_at new i).pair ≡ (tree_edge_at now i).pair →
         ((tree_edge_at old i).outer ≡ base → (tree_edge_at new i).outer ≡ blossom)
-            → ((tree_edge_at old i).outer ≢ base → (tree_edge_at new i).outer ≡ (tree_edge_at now i).outer) →
+        → ((tree_edge_at old i).outer ≢ base → (tree_edge_at new i).outer ≡ (tree_edge_at now i).outer) →
         (Contains nodes (tree_edge_at old i).inner → ⊥) → IsShrinkingTree nodes base blossom old new i
     IsShrinkingTree-keep new count others same_inner same_edge same_pair at_base at_other out = record {
       at = put_at i is.at;

@@ -26,7 +26,7 @@ pub record IsTreeCycle (f : Family) (root : ℕ) (edges : List TreeEdge) (cycle 
   pub tail_at : (j : ℕ) × (j ≤ place) × (slice_index (outers root edges) j ≡ tail)
   pub whole : (j : ℕ) → place ≤ j → j < length edges →
       (Contains (nodes_of cycle) (tree_edge_at edges j).inner
-          → Contains (nodes_of cycle) (tree_edge_at edges j).outer) ×
+      → Contains (nodes_of cycle) (tree_edge_at edges j).outer) ×
       (Contains (nodes_of cycle) (tree_edge_at edges j).outer → Contains (nodes_of cycle) (tree_edge_at edges j).inner)
   pub some : head ≡ tail → 2 ≤ length cycle
 

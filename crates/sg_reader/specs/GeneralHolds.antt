@@ -43,4 +43,4 @@ IsHeldInstance state inst =
 abbrev pub IsHeldFault : GeneralBody → Fault → Type 0
 IsHeldFault state fault =
     (body : List Kept) → HoldsGeneral body state
-        → OrNoMemory (IsRefusalOf (instance_of (header.General state.n) body)) fault
+    → OrNoMemory (IsRefusalOf (instance_of (header.General state.n) body)) fault

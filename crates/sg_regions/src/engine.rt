@@ -21,10 +21,13 @@ mod steps;
 mod wake;
 
 use super::NoMemory;
-use sg_growth::{Adjacency, Arc, Clock, Cover, Forest, Held, Hubs, Link, Reach, Role, Work, NEVER, number, reverse};
 pub use apart::Ending;
 pub use changed::Order;
 pub use parts::{Base, Parts};
+use sg_growth::{
+    Adjacency, Arc, Clock, Cover, Forest, Held, Hubs, Link, NEVER, Reach, Role, Work, number,
+    reverse,
+};
 use std::alloc::Global;
 
 // What becomes of odd cycles.

@@ -1,7 +1,7 @@
 // Entering the events of arcs: to wake a node is to look at each of its arcs.
 use super::Engine;
 use crate::NoMemory;
-use sg_growth::{Arc, Reach, Role, Slot, Soon, NEVER, reverse};
+use sg_growth::{Arc, NEVER, Reach, Role, Slot, Soon, reverse};
 
 // An outer region that nears the end of an arc: the node at its start, the arc by its dart, and when it
 // comes.

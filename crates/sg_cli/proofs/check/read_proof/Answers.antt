@@ -14,7 +14,7 @@ returns-in_err-instance-clause-refuses c =
     let p = err_from_is_err_and c.from_residual.result c.from_residual.ensures.1 in
     let e = c.in_err-instance.field-0.0 in
     rw (p.1, p.2)
-        (by_instance c.args.bytes.now e (subst (λ (rs : List Kept). OrNoMemory (RefusesInstance rs) e) c.new-rows.ensures c.in_err-instance.ensures.fault))
+    (by_instance c.args.bytes.now e (subst (λ (rs : List Kept). OrNoMemory (RefusesInstance rs) e) c.new-rows.ensures c.in_err-instance.ensures.fault))
 
 pub returns-in_err-stated-clause-refuses : goal.returns-in_err-stated-clause-refuses
 returns-in_err-stated-clause-refuses c =

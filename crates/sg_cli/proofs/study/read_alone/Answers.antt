@@ -28,4 +28,4 @@ returns-in-Ok-clause-refuses c =
 pub returns-clause-refuses : goal.returns-clause-refuses
 returns-clause-refuses c =
     by_record c.args.bytes.now c.in-Err.fault
-        (subst (λ (rs : List Kept). OrNoMemory (RefusesInstance rs) c.in-Err.fault) c.new-rows.ensures c.in-Err.ensures.fault)
+    (subst (λ (rs : List Kept). OrNoMemory (RefusesInstance rs) c.in-Err.fault) c.new-rows.ensures c.in-Err.ensures.fault)

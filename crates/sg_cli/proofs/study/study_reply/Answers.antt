@@ -17,6 +17,6 @@ returns-in-Ok-clause-served c =
 pub returns-in-Err-clause-served : goal.returns-in-Err-clause-served
 returns-in-Err-clause-served c =
     answers_fault c.refuse_fault.result c.in-Err.fault (OrNoMemory (RefusesText c.args.bytes.now))
-        (AnswersStudy c.args.study c.args.bytes.now) c.in-Err.ensures.refuses
+    (AnswersStudy c.args.study c.args.bytes.now) c.in-Err.ensures.refuses
     (λ refusal text status shown line. FaultNamed refusal shown line)
     c.refuse_fault.ensures.named

@@ -21,7 +21,7 @@ returns-clause-fault c =
     IfErr-weaker c.read_body.result _ _
     (λ e bad. behind-fault c.args.terms c.args.rows.now c.next_size.new.rows c.next_size.new.row e split c.in_ok-nodes.ensures.passes
     (subst (λ (n : ℕ). OrNoMemory
-        (RefusesRecords (body_fault c.args.terms n) c.next_size.new.rows) e) c.in_ok-nodes.ensures.value bad)) c.read_body.ensures.fault
+    (RefusesRecords (body_fault c.args.terms n) c.next_size.new.rows) e) c.in_ok-nodes.ensures.value bad)) c.read_body.ensures.fault
 
 pub returns-clause-left : goal.returns-clause-left
 returns-clause-left c =

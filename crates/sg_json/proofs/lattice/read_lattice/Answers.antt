@@ -62,4 +62,4 @@ returns-clause-fault c =
     let same = same_lattice (goal.at.returns-clause-fault c).After-reseam in
     IfErr-weaker c.reseam.result _ _
     (λ e bad. of_instance (lattice_members_fault kind d) (lattice_in kind d) e pass
-        (subst (λ (i : Ising). OrNoMemory (IsRefusalOf i) e) same bad)) c.reseam.ensures.fault
+    (subst (λ (i : Ising). OrNoMemory (IsRefusalOf i) e) same bad)) c.reseam.ensures.fault

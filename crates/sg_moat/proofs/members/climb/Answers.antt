@@ -36,7 +36,7 @@ loop-parent-preserved c =
     let inner = c.loop-parent.inner in
     subst (λ ls. Climbing f leaf p (inner + c.dual-inner.result) old ls) (sym c.in_ok-note-2.ensures)
     (subst (λ d. Climbing f leaf p (inner + d) old (set now p (list_under now p ++ (record { leaf = leaf; inner = inner + d }) ∷ [])))
-        (sym c.dual-inner.ensures)
+    (sym c.dual-inner.ensures)
     (Climbing-step f c.room-room.ensures.family leaf c.loop-parent.at p c.in-Some.ensures.0 c.loop-parent.invariant.held c.in-Some.ensures.1 inner old now
     c.requires.names c.loop-parent.invariant))
 
