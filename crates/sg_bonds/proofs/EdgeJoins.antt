@@ -166,7 +166,8 @@ module _ (g : Graph) (k : ℕ) (inside : k < edge_count g) (w : ℤ) where
       abbrev rest : ℕ → Bool
       rest e = cond (eqb k e) false (holds others e)
 
-      rest_join : IsJoin (with_weight g k w) (turned_at g terminals k has) (chosen_below (λ e. cond (eqb k e) false (holds others e)) (edge_count (with_weight g k w)))
+      rest_join : IsJoin (with_weight g k w) (turned_at g terminals k has)
+          (chosen_below (λ e. cond (eqb k e) false (holds others e)) (edge_count (with_weight g k w)))
       rest_join = join_by_parity (with_weight g k w) (turned_at g terminals k has) rest (λ x l. (
           same_parity rest x
           ∙ parity_changed others false x (ap (λ b. xor b false) side ∙ xor-false has)
@@ -175,7 +176,8 @@ module _ (g : Graph) (k : ℕ) (inside : k < edge_count g) (w : ℤ) where
           ∙ sym (turned_holds x l)))
 
       rest_weight : weight_of g others
-          ≡ cond has (edge_weight g k) 0 + weight_of (with_weight g k w) (chosen_below (λ e. cond (eqb k e) false (holds others e)) (edge_count (with_weight g k w)))
+          ≡ cond has (edge_weight g k) 0 + weight_of (with_weight g k w)
+          (chosen_below (λ e. cond (eqb k e) false (holds others e)) (edge_count (with_weight g k w)))
       rest_weight =
           let split : sum_below (λ e. cond (holds others e) (edge_weight g e) 0) (edge_count g)
           ≡ sum_below (λ e. cond (eqb k e) (cond has (edge_weight g k) 0) 0 + cond (rest e) (edge_weight heavy e) 0) (edge_count g) =
@@ -184,7 +186,8 @@ module _ (g : Graph) (k : ℕ) (inside : k < edge_count g) (w : ℤ) where
           (λ e _. part (eqb k e) has (holds others e) (edge_weight g e) (edge_weight heavy e) (edge_weight g k)
           (λ same. (ap (holds others) (sym (eqb-true k e same)) ∙ side, ap (edge_weight g) (sym (eqb-true k e same)))) (other_weight e)) in
           let added : sum_below (λ e. cond (eqb k e) (cond has (edge_weight g k) 0) 0 + cond (rest e) (edge_weight heavy e) 0) (edge_count g)
-          ≡ sum_below (λ e. cond (eqb k e) (cond has (edge_weight g k) 0) 0) (edge_count g) + sum_below (λ e. cond (rest e) (edge_weight heavy e) 0) (edge_count g) =
+          ≡ sum_below (λ e. cond (eqb k e) (cond has (edge_weight g k) 0) 0) (edge_count g)
+          + sum_below (λ e. cond (rest e) (edge_weight heavy e) 0) (edge_count g) =
           sum_below-add (λ e. cond (eqb k e) (cond has (edge_weight g k) 0) 0) (λ e. cond (rest e) (edge_weight heavy e) 0) (edge_count g) in
           let own : sum_below (λ e. cond (eqb k e) (cond has (edge_weight g k) 0) 0) (edge_count g) ≡ cond has (edge_weight g k) 0 =
           sum_below_pick (cond has (edge_weight g k) 0) k (edge_count g) inside in
@@ -235,7 +238,8 @@ module _ (g : Graph) (k : ℕ) (inside : k < edge_count g) (w : ℤ) where
           let members : sum_below (λ e. cond (holds edges e) (edge_weight heavy e) 0) (edge_count heavy) ≡ weight_of heavy edges =
           members_sum (edge_weight heavy) edges (edge_count heavy) least.join.below least.join.rising in
           let counted : sum_below (λ e. cond (holds edges e) (edge_weight heavy e) 0) (edge_count heavy)
-          ≡ sum_below (λ e. cond (holds edges e) (edge_weight heavy e) 0) (edge_count g) = ap (sum_below (λ e. cond (holds edges e) (edge_weight heavy e) 0)) same_count in
+          ≡ sum_below (λ e. cond (holds edges e) (edge_weight heavy e) 0) (edge_count g)
+          = ap (sum_below (λ e. cond (holds edges e) (edge_weight heavy e) 0)) same_count in
           omega (arith, chosen, split, added, own, members, counted)
 
       -- with the edge put in, or left out, the join is least among those like it

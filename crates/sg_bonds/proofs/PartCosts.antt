@@ -167,7 +167,8 @@ module _ (inst : Ising) (good : IsInstance inst) (least : ℕ) (p : Part) (is : 
             least = λ t a same.
                 less (energy inst t) (energy p.planar.instance (values_in p.spins t)) e (outside t) (outside g) (weight inst) (weight p.planar.instance)
                 (energy_split t (values_in p.spins t) a (part_assignment t a) (in_place p.spins t))
-                (h.least (values_in p.spins t) (part_assignment t a) (sym (same_product t (values_in p.spins t) (in_place p.spins t)) ∙ same)) (least_outside t a);
+                (h.least (values_in p.spins t) (part_assignment t a)
+                (sym (same_product t (values_in p.spins t) (in_place p.spins t)) ∙ same)) (least_outside t a);
           }
         where
           less : (f a e : ℤ) (u o w v : ℕ) → f ≡ a +ℤ ((pos u +ℤ pos v) -ℤ pos w) → e ≤ℤ a → o ≤ u → (e +ℤ ((pos o +ℤ pos v) -ℤ pos w)) ≤ℤ f
