@@ -1,12 +1,12 @@
 -- Euler's number of an instance, and bounds by Euler's formula on a connected one.
-use Rattle.std.proofs.Common.{inl, inr, ◌≡◌, ℕ, ◌+◌, ◌-◌, ◌*◌, ◌<◌, ◌≤◌, pos, ◌-ℤ◌, [], ◌∷◌, arith, refl}
+use Rattle.std.proofs.Common.{inl, inr, ◌≡◌, ℕ, ◌+◌, ◌-◌, ◌*◌, ◌<◌, ◌≤◌, pos, ◌-ℤ◌, [], ◌∷◌, length, arith, refl}
 use Rattle.std.proofs.lemmas.Int.{ints}
 use Rattle.std.proofs.lemmas.Bool.{cases_eq}
 use Rattle.sg_model.specs.Ising.{Ising, bond_count}
 use Rattle.sg_model.specs.Rotation.{dart_count, next, tail}
 use Rattle.sg_model.specs.WellFormed.{IsInstance}
 use Rattle.sg_model.specs.Connected.{IsConnected}
-use Rattle.sg_model.proofs.LeastSpins.{connected_leasts}
+use Rattle.sg_model.proofs.LeastSpins.{connected_leasts, leasts_few}
 use Rattle.sg_faces.specs.Faces.{Labelling, IsFaceLabels, face_count, faces_before}
 use Rattle.sg_faces.specs.Euler.{IsEuler, euler}
 use Rattle.sg_faces.proofs.BareSpins.{faces_bonded, one_face, one_spin, two_spins}
@@ -51,3 +51,15 @@ module _ (inst : Ising) (good : IsInstance inst) (connected : IsConnected inst) 
     -- in the plane a connected instance with a bond has no more faces than bonds
     pub faces_few : IsEuler inst (pos 2) → 0 < bond_count inst → faces.count ≤ bond_count inst
     faces_few genus_zero some = omega (arith, connected_sum genus_zero, two_spins inst good some, labels.counts)
+
+-- where the Euler number is 2: each component has no more faces than bonds and a spin
+within_sum : (n f m c : ℕ) → 1 ≤ n → c ≤ n → pos 2 ≡ pos (n + f) -ℤ pos (m + 2 * (c - 1)) → f ≤ n + m
+within_sum n f m c some few h = omega (arith, ints)
+
+-- in the plane there are no more faces than spins and bonds, whatever the components
+pub faces_within : (inst : Ising) → IsInstance inst → (faces : Labelling) → IsFaceLabels inst faces → IsEuler inst (pos 2)
+    → faces.count ≤ inst.n + bond_count inst
+faces_within inst good faces labels e =
+    let within : face_count inst ≤ inst.n + bond_count inst =
+    within_sum inst.n (face_count inst) (bond_count inst) (length e.leasts) good.draft.has_spin (leasts_few inst e.leasts e.components) e.value in
+    omega (arith, within, labels.counts)
