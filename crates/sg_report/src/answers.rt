@@ -70,7 +70,7 @@ pub fn push_loops(text: &mut Vec<u8>, loops: &[Loop]) -> Result<(), NoMemory>
 
 // Adds the line of a loop.
 fn push_loop(text: &mut Vec<u8>, entry: &Loop) -> Result<(), NoMemory>
-    ensures { OnOk result (text.new.items ≡ text.old.items ++ loop_line listed_number.now) }
+    ensures { OnOk result (text.new.items ≡ text.old.items ++ loop_line entry.now) }
 {
     push_entries(text, b"loop", &[i128::from(entry.y)])?;
     push_bonds(text, entry.bonds.as_slice())?;
