@@ -55,6 +55,7 @@ fn dual_edges(alloc: Global, inst: &Instance, faces: &Faces) -> Result<Edges, No
     ensures instance { IsInstance inst.now }
 {
     let mut edges = Edges::new(alloc);
+    edges.reserve(inst.bonds().len())?;
     for (k, bond) in inst.bonds().as_slice().iter().enumerate() {
         let dart = 2 * k as u32;
         edges.push(Edge {

@@ -118,6 +118,7 @@ impl Shape {
         ensures { IfOk result (λ bonds. bonds ≡ coupled (ends_of self.kind self.rows self.cols) j.now) }
     {
         let mut bonds = Bonds::new(alloc);
+        bonds.reserve(j.len())?;
         self.push_bonds(Step::East, j, &mut bonds)?;
         self.push_bonds(Step::South, j, &mut bonds)?;
         self.push_bonds(Step::SouthEast, j, &mut bonds)?;
@@ -162,6 +163,7 @@ impl Shape {
             map (λ i. darts self.kind self.rows self.cols (i / self.cols) (i % self.cols)) (range_with_len 0 (self.rows * self.cols))) }
     {
         let mut rotation = Rotation::new(alloc);
+        rotation.reserve(self.spins() as usize, 2 * self.bond_total() as usize)?;
         for i in 0..self.spins() {
             self.push_spin(&mut rotation, i / self.cols, i % self.cols)?;
         }

@@ -35,6 +35,16 @@ impl<T: Copy> Lists<T> {
         }
     }
 
+    /// Makes room for so many lists more, and so many items in them, which are then added without being
+    /// moved. The lists are as they were.
+    pub fn reserve(&mut self, lists: usize, items: usize) -> Result<(), NoMemory>
+        ensures { self.new ≡ self.old }
+    {
+        self.starts.reserve(lists)?;
+        self.items.reserve(items)?;
+        Ok(())
+    }
+
     /// Adds an empty list at the end. After want of memory the lists are as they were.
     pub fn open(&mut self) -> Result<(), NoMemory>
         ensures ok { OnOk result (self.new ≡ self.old ++ [] ∷ []) }

@@ -28,6 +28,15 @@ impl<T: Drop> Records<T> {
         }
     }
 
+    /// Makes room for so many items more, which are then added without being moved. The list is as it
+    /// was.
+    pub fn reserve(&mut self, more: usize) -> Result<(), NoMemory>
+        ensures { self.new ≡ self.old }
+    {
+        self.items.reserve(more)?;
+        Ok(())
+    }
+
     /// Adds one item at the end. After want of memory the list is as it was.
     pub fn push(&mut self, item: T) -> Result<(), NoMemory>
         ensures ok { OnOk result (self.new ≡ self.old ++ item ∷ []) }

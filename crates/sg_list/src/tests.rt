@@ -4,6 +4,7 @@ use std::test::Fail;
 #[test]
 fn both_lists_keep_their_items_in_order(rt: HostRuntime) -> Result<(), Fail> {
     let mut list = Numbers::new(rt.alloc());
+    list.reserve(2)?;
     assert!(rt; list.is_empty());
     list.push(7u32)?;
     list.push(9)?;
@@ -12,6 +13,7 @@ fn both_lists_keep_their_items_in_order(rt: HostRuntime) -> Result<(), Fail> {
     let same = Numbers::from_vec(Vec::from_slice(rt.alloc(), list.as_slice())?);
     assert_eq!(rt; same.as_slice(), [7, 9].as_slice());
     let mut rows = Records::new(rt.alloc());
+    rows.reserve(1)?;
     rows.push(list)?;
     assert_eq!(rt; rows.len(), 1);
     assert!(rt; !rows.is_empty());
@@ -24,6 +26,7 @@ fn both_lists_keep_their_items_in_order(rt: HostRuntime) -> Result<(), Fail> {
 #[test]
 fn flat_lists_keep_their_items_apart(rt: HostRuntime) -> Result<(), Fail> {
     let mut lists = Lists::new(rt.alloc());
+    lists.reserve(3, 3)?;
     assert!(rt; lists.is_empty());
     lists.push([7u32, 9].as_slice())?;
     lists.open()?;

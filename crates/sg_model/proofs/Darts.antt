@@ -1,6 +1,6 @@
 -- The spins that darts leave.
-use Rattle.std.proofs.Common.{◌≡◌, ◌≢◌, ℕ, ◌+◌, ◌*◌, ◌/◌, ◌%◌, ◌<◌, true, false, eqb, ltb, refl, sym, ◌∙◌, ap, arith}
-use Rattle.std.proofs.lemmas.Bool.{eq-eqb, ne_eqb, eqb-true, ltb-true, lt-ltb, and_parts, and_from, and_right}
+use Rattle.std.proofs.Common.{◌≡◌, ◌≢◌, ℕ, ◌+◌, ◌*◌, ◌/◌, ◌%◌, ◌<◌, true, eqb, ltb, refl, ◌∙◌, ap, arith}
+use Rattle.std.proofs.lemmas.Bool.{eq-eqb, eqb-true, ltb-true, lt-ltb, and_parts, and_from}
 use Rattle.sg_model.specs.Ising.{Ising, bond_at}
 use Rattle.sg_model.specs.Rotation.{dart_count, is_dart_of, rev, tail, head_of}
 
@@ -35,12 +35,6 @@ module _ (inst : Ising) where
   -- a dart that leaves a spin is one of its darts
   pub is_dart_of-from : (i d : ℕ) → d < dart_count inst → tail inst d ≡ i → is_dart_of inst i d ≡ true
   is_dart_of-from i d l e = and_from (ltb d (dart_count inst)) (eqb (tail inst d) i) (lt-ltb d (dart_count inst) l) (eq-eqb (tail inst d) i e)
-
-  -- a dart leaves one spin alone
-  pub is_dart_of-other : (i k d : ℕ) → i ≢ k → is_dart_of inst i d ≡ true → is_dart_of inst k d ≡ false
-  is_dart_of-other i k d ne h =
-      let t : tail inst d ≡ i = (is_dart_of-parts i d h).1 in
-      and_right (ltb d (dart_count inst)) (eqb (tail inst d) k) (ne_eqb (tail inst d) k (λ (e : tail inst d ≡ k). ne (sym t ∙ e)))
 
 -- the other dart of 2k is 2k + 1
 pub rev_first : (k : ℕ) → rev (2 * k) ≡ 2 * k + 1

@@ -6,7 +6,7 @@ use Rattle.sg_model.specs.declared.bond.Bond.{Bond}
 use Rattle.sg_model.specs.Ising.{Ising, IsBond, bond_at}
 use Rattle.sg_model.specs.Rotation.{is_dart_of, tail}
 use Rattle.sg_model.specs.WellFormed.{IsInstance}
-use Rattle.sg_model.specs.Changes.{HasSameDrawing, HasSameEnds, with_bonds}
+use Rattle.sg_model.specs.Changes.{HasSameEnds, with_bonds}
 use Rattle.sg_model.proofs.Darts.{tail_even, tail_odd}
 
 module _ (inst : Ising) (bonds : List Bond) (same : HasSameEnds inst bonds) where
@@ -52,15 +52,3 @@ module _ (inst : Ising) (bonds : List Bond) (same : HasSameEnds inst bonds) wher
             ends_differ = λ e. was.ends_differ (sym (same.first k) ∙ e ∙ same.second k);
             size = same.sizes k (record { u = 0; v = 0; j = pos 0 }) b;
           }
-
--- one drawing of three
-pub same_drawing_on : (a b c : Ising) → HasSameDrawing a b → HasSameDrawing b c → HasSameDrawing a c
-same_drawing_on a b c p q = record {
-  ends = record {
-    count = q.ends.count ∙ p.ends.count;
-    first = λ k. q.ends.first k ∙ p.ends.first k;
-    second = λ k. q.ends.second k ∙ p.ends.second k;
-    sizes = q.ends.sizes;
-  };
-  kept = q.kept ∙ ap (λ (i : Ising). with_bonds i c.bonds) p.kept;
-}

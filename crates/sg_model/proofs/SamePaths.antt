@@ -3,7 +3,7 @@ use Rattle.std.proofs.Common.{⊎_elim, inl, inr, ◌≡◌, ℕ, ◌<◌, Bool,
 use Rattle.sg_model.specs.declared.bond.Bond.{Bond}
 use Rattle.sg_model.specs.Ising.{Ising, bond_at}
 use Rattle.sg_model.specs.WellFormed.{IsInstance}
-use Rattle.sg_model.specs.Connected.{AreLeasts, IsConnected, IsLeastReached, IsWalk, JoinedBy, Reached, all_bonds}
+use Rattle.sg_model.specs.Connected.{AreLeasts, IsLeastReached, IsWalk, JoinedBy, Reached, all_bonds}
 use Rattle.sg_model.specs.Changes.{HasSameEnds, with_bonds}
 
 module _ (inst : Ising) (bonds : List Bond) (same : HasSameEnds inst bonds) where
@@ -23,10 +23,6 @@ module _ (inst : Ising) (bonds : List Bond) (same : HasSameEnds inst bonds) wher
   -- other couplings leave what is reached
   pub reached_same : (set : ℕ → Bool) (a b : ℕ) → Reached inst set a b → Reached (with_bonds inst bonds) set a b
   reached_same set a b r = (r.0, walk_same set r.0 a b r.1)
-
-  -- and whether all is
-  pub connected_same : IsConnected inst → IsConnected (with_bonds inst bonds)
-  connected_same h i l = reached_same all_bonds 0 i (h i l)
 
 -- the old bonds have the ends of the new ones
 pub ends_back : (inst : Ising) (bonds : List Bond) → HasSameEnds inst bonds → IsInstance inst → HasSameEnds (with_bonds inst bonds) inst.bonds

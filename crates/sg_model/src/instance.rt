@@ -192,6 +192,7 @@ impl Instance {
         ensures { IfOk result (λ copy. copy ≡ negated self.now) }
     {
         let mut bonds = Bonds::new(self.bonds.allocator());
+        bonds.reserve(self.bonds.len())?;
         for bond in self.bonds.as_slice() {
             bonds.push(flipped_if(*bond, true))?;
         }
@@ -205,6 +206,7 @@ impl Instance {
         ensures { IfOk result (λ copy. copy ≡ with_coupling self.now bond j) }
     {
         let mut bonds = Bonds::new(self.bonds.allocator());
+        bonds.reserve(self.bonds.len())?;
         for (k, old) in self.bonds.as_slice().iter().enumerate() {
             bonds.push(recoupled_if(*old, k == bond as usize, j))?;
         }
@@ -236,6 +238,7 @@ impl Instance {
         ensures instance { IsInstance self.now }
     {
         let mut bonds = Bonds::new(self.bonds.allocator());
+        bonds.reserve(self.bonds.len())?;
         let on_seam = self.on_seam()?;
         for (k, bond) in self.bonds.as_slice().iter().enumerate() {
             bonds.push(flipped_if(*bond, on_seam[k]))?;

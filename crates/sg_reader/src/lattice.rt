@@ -11,6 +11,7 @@ ghost use Rattle.sg_reader.specs.ReadInstance.{ReadsBody, RefusesBody};
 ghost use Rattle.sg_reader.specs.Leaves.{IsRest, Leaves};
 ghost use Rattle.sg_reader.specs.Holds.{HoldsBehind, IsFaultBehind, PassesBehind};
 
+use super::NoMemory;
 use super::body::{END, SEAM, push_couplings, seam};
 use super::row::Row;
 use super::rows::Rows;
@@ -26,6 +27,19 @@ pub(crate) struct LatticeBody {
 }
 
 impl LatticeBody {
+    // Nothing was given yet; there is room for so many couplings.
+    fn new(alloc: Global, bonds: u32) -> Result<Self, NoMemory>
+        ensures couplings { IfOk result (λ body. body.couplings ≡ []) }
+        ensures seam { IfOk result (λ body. body.seam ≡ None) }
+    {
+        let mut couplings = Couplings::new(alloc);
+        couplings.reserve(bonds as usize)?;
+        Ok(LatticeBody {
+            couplings,
+            seam: None,
+        })
+    }
+
     /// Takes a record that is not the `end`.
     fn take(&mut self, alloc: Global, row: &Row) -> Result<(), Fault>
         requires { says_end row.now ≡ false }
@@ -105,17 +119,11 @@ pub(crate) fn read_lattice(
     ensures fault { IfErr result (OrNoMemory (RefusesBody (header.Lattice kind rows cols) records.old)) }
     ensures rest { IsRest records.old records.new }
 {
-    let mut body = LatticeBody {
-        couplings: Couplings::new(alloc),
-        seam: None,
-    };
+    let bonds = bond_count(kind, rows, cols);
+    let mut body = LatticeBody::new(alloc, bonds)?;
     while records.next(row)? {
         if row.begins(END) {
-            end_lattice(
-                row,
-                body.couplings.len() as u32,
-                bond_count(kind, rows, cols),
-            )?;
+            end_lattice(row, body.couplings.len() as u32, bonds)?;
             let inst = lattice_of(alloc, kind, rows, cols, body)?;
             return Ok((inst, row.at() + 1));
         }

@@ -1,4 +1,4 @@
-use Rattle.std.proofs.Common.{◌≡◌, ℕ, ◌<◌, ◌^◌, Bool, cond, ℤ, pos, neg_ℤ, Some, sym, ◌∙◌, ap, ap₂, subst, arith, rules, w64}
+use Rattle.std.proofs.Common.{◌≡◌, ℕ, ◌<◌, ◌^◌, Bool, cond, pos, neg_ℤ, Some, sym, ◌∙◌, ap, ap₂, subst, arith, rules, w64}
 use Rattle.std.proofs.lemmas.Int.{to_z-of_z}
 use Rattle.std.specs.Str.Parse.{IsNumeral, digits_value, without_leading_sign}
 use Rattle.sg_reader.specs.Number.{size_of}

@@ -1,4 +1,4 @@
-use Rattle.std.proofs.Common.{List, [], ◌∷◌, ◌++◌, map, ◌∙◌, ap, append_assoc}
+use Rattle.std.proofs.Common.{List, [], ◌++◌, map, ◌∙◌, ap, append_assoc}
 use Rattle.sg_lattice.specs.declared.kind.Ends.{Ends}
 use Rattle.sg_lattice.specs.declared.kind.Step.{Step}
 use Rattle.sg_lattice.specs.declared.kind.Step.TheVariants.{East, South, SouthEast}
@@ -11,5 +11,5 @@ returns c =
     let s = c.args.self in
     let part : Step → List Ends = λ step. map (ends_from s.kind step s.rows s.cols) (starts s.kind step s.rows s.cols) in
     c.in_ok-push_bonds-3.ensures (part East ++ part South)
-    (c.in_ok-push_bonds-2.ensures (part East) (c.in_ok-push_bonds.ensures [] c.new-bonds.ensures))
+    (c.in_ok-push_bonds-2.ensures (part East) (c.in_ok-push_bonds.ensures [] (c.reserve.ensures ∙ c.new-bonds.ensures)))
     ∙ ap (λ (ends : List Ends). coupled ends c.args.j.now) (append_assoc (part East) (part South) (part SouthEast))

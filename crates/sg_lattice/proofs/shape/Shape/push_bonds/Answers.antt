@@ -1,4 +1,4 @@
-use Rattle.std.proofs.Common.{◌≡◌, ℕ, Bool, ◌/◌, ◌%◌, List, ◌++◌, map, sym, ◌∙◌, ap, append-nil}
+use Rattle.std.proofs.Common.{ℕ, Bool, ◌/◌, ◌%◌, List, ◌++◌, map, sym, ◌∙◌, ap, append-nil}
 use Rattle.sg_lattice.specs.declared.kind.Ends.{Ends}
 use Rattle.sg_lattice.specs.Tables.{coupled, ends_from, has_bond}
 use Rattle.sg_lattice.proofs.Ranks.{map_picked_more, picked}
