@@ -31,6 +31,7 @@ pub fn matched_join(alloc: Global, web: &Web, terminals: &Terminals) -> Result<J
     ensures bare { IfOk result (λ j. terminals.now ≡ [] → (j.edges ≡ []) × (j.cuts ≡ [])) }
     ensures tight { IfOk result (λ j. sum_by odd_cut_weight j.cuts ≡ 2 * weight_of web.now j.edges) }
 {
+    let _edges = web.edges();
     let nodes = terminals.as_slice();
     let tables = terminal_tables(alloc, web, nodes)?;
     let matched = matching(alloc, nodes, &tables)?;
