@@ -8,11 +8,10 @@ use Rattle.std.proofs.lemmas.Int.{ints}
 use Rattle.std.proofs.lemmas.Bool.{cases_eq}
 use Rattle.sg_model.specs.declared.bond.Bond.{Bond}
 use Rattle.sg_model.specs.Ising.{Ising, bond_at, bond_count}
-use Rattle.sg_model.specs.Rotation.{dart_count}
 use Rattle.sg_model.specs.Energy.{weight}
 use Rattle.sg_model.specs.WellFormed.{IsInstance}
 use Rattle.sg_model.specs.Connected.{IsConnected}
-use Rattle.sg_faces.specs.Faces.{faces_before, Labelling, IsFaceLabels}
+use Rattle.sg_faces.specs.Faces.{Labelling, IsFaceLabels}
 use Rattle.sg_faces.proofs.Traced.{label_below}
 use Rattle.sg_faces.proofs.BareSpins.{faces_alone, one_face}
 use Rattle.sg_graph.specs.declared.web.Edge.{Edge}
