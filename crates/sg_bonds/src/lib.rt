@@ -8,11 +8,12 @@
 //!
 //! For the next engineer: `specs/Cost.antt` and `specs/Cluster.antt` say what is computed. `costs` takes
 //! each component by itself (`components`): `proofs/PartCosts.antt` says why a bond costs in the whole
-//! what it costs there. The state that turns a bond comes from `BondStates` (`states`): regions are
-//! repaired on the dual, and what they propose is judged (`joins`), by the law `least_joins_with`
-//! (`proofs/EdgeJoins.antt`) and the contract of `sg_nest::Judge`. Where that proves nothing, `forcing`
-//! solves a copy that forces the bond, by the law `forced_minimum`. `clusters` asks only whether a cost
-//! is above 0 (`telling`): the loops of a proof tell it of each bond that they leave room at (`room`), and
+//! what it costs there. A ground state and the states that turn a bond come from `BondStates` (`states`):
+//! regions grow once on the dual and are repaired, and what they propose is judged (`joins`), by the
+//! contract of `sg_nest::Judge` and the law `least_joins_with` (`proofs/EdgeJoins.antt`). Where that
+//! proves nothing, `forcing` solves a copy that forces the bond, by the law `forced_minimum`. Which bond
+//! is asked next, `waiting` picks by a heap. `clusters` asks only whether a cost is above 0 (`telling`):
+//! the loops of a proof tell it of each bond that they leave room at (`room`), and
 //! `proofs/RigidBounds.antt` says why.
 #![tactic(auto)]
 

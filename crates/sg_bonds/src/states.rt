@@ -209,7 +209,8 @@ fn state_breaking(alloc: Global, planar: &Planar, edges: &EdgeList) -> Result<St
     ensures energy { IfOk result (λ s. s.energy ≡ energy planar.now.instance s.spins) }
     ensures planar { IsPlanar planar.now }
 {
+    let inst = planar.instance();
     let spins = spin_walk(alloc, planar, edges)?;
-    let energy = planar.instance().energy(&spins) as i64;
+    let energy = inst.energy(&spins) as i64;
     Ok(State { spins, energy })
 }

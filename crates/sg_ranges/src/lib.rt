@@ -8,7 +8,7 @@
 //! largest cut is a ground state where every sign is changed (Barahona 1982).
 //!
 //! For the next engineer: `specs/Turn.antt` and `specs/Cut.antt` say what is computed. `turns` rests on
-//! the contracts of `solve` and `costs`, `largest_cut` on that of `solve`, and on nothing of their
+//! the contracts of `ground_state` and `costs`, `largest_cut` on that of `solve`, and on nothing of their
 //! bodies. `proofs/MovedCouplings.antt` and `proofs/Cuts.antt` tie energies to couplings and to cuts.
 #![tactic(auto)]
 

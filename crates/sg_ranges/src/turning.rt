@@ -8,7 +8,7 @@ ghost use Rattle.sg_ranges.specs.Turn.{AreTurningPoints, AreTurns, IsDouble};
 
 use super::NoMemory;
 use sg_bonds::{CostList, costs};
-use sg_ground::solve;
+use sg_ground::ground_state;
 use sg_model::{Bond, Instance, Spins};
 use sg_planar::Planar;
 use std::alloc::Global;
@@ -27,7 +27,7 @@ pub fn turns(alloc: Global, planar: &Planar) -> Result<CostList, NoMemory>
     ensures turns { IfOk result (AreTurns planar.now.instance) }
     ensures turning_points { IfOk result (AreTurningPoints planar.now.instance) }
 {
-    let least = solve(alloc, planar)?;
+    let least = ground_state(alloc, planar)?;
     let costs = costs(alloc, planar)?;
     listed(alloc, planar.instance(), &least.spins, costs.as_slice())
 }

@@ -11,10 +11,10 @@ spin_walk-requires-clause-fits c = join_fits c.args.planar.now.instance c.args.p
 
 pub overflow_cast-energy : goal.overflow_cast-energy
 overflow_cast-energy c =
-    energy_fits c.args.planar.now c.instance.result.now c.in_ok-spins.spins c.energy-energy.result
-    c.instance.ensures.planar c.instance.ensures.value c.in_ok-spins.ensures.assignment c.energy-energy.ensures
+    energy_fits c.args.planar.now c.instance-inst.result.now c.in_ok-spins.spins c.energy-energy.result
+    c.instance-inst.ensures.planar c.instance-inst.ensures.value c.in_ok-spins.ensures.assignment c.energy-energy.ensures
 
 pub returns-clause-energy : goal.returns-clause-energy
 returns-clause-energy c = sym (
-    cast_energy c.args.planar.now c.instance.result.now c.in_ok-spins.spins c.energy-energy.result
-    c.instance.ensures.planar c.instance.ensures.value c.in_ok-spins.ensures.assignment c.energy-energy.ensures)
+    cast_energy c.args.planar.now c.instance-inst.result.now c.in_ok-spins.spins c.energy-energy.result
+    c.instance-inst.ensures.planar c.instance-inst.ensures.value c.in_ok-spins.ensures.assignment c.energy-energy.ensures)
