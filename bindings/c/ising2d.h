@@ -16,26 +16,27 @@
  * Status. 0: answered. 1: refused; the line that says why stands in `line`, as the program prints it:
  * "refused,", the number of the refusal and the numbers that it keeps, and a line feed. 128 bytes are
  * room enough for every line. 3: a proof that is judged fails. 6: the memory is wanting. After 1
- * and 6 no result is written, and after 0 and 6 no line, but that a check writes one after 0 and 3.
+ * and 6 no result is written, and after 0 and 6 no line, but that a check of loops writes one after 0
+ * and 3.
  * docs/FORMATS.md says what each refusal means; an array of numbers is refused as the JSON member of
  * its name. The tests of a lattice, in the order in which they are made:
  *
  *   19,1,0  the kind is none
  *   19,3,0  there are no rows
  *   19,4,0  too few columns
- *   7,n     more than 2048 spins
+ *   7,n     more than 1048576 spins; for costs and clusters more than 2048
  *   6,found,wanted  the number of couplings is another
  *   19,6,k  coupling k is -2^63
  *
  * of a general graph:
  *
  *   19,5,0  there are no spins
- *   7,n     more than 2048 spins
+ *   7,n     more than 1048576 spins; for costs and clusters more than 2048
  *   19,7,0  there are not two ends for each coupling
  *   19,7,k  an end of bond k is no spin, or its coupling is -2^63
  *   19,8,k  start k of the darts is wrong: it is not 0 at first, less than the one in front of it, or
  *           not the number of darts at last; 19,8,0 where there are not n + 1
- *   8,6145  more than 6144 bonds
+ *   8,3145729  more than 3145728 bonds; for costs and clusters 8,6145, more than 6144
  *   9,k     both ends of bond k are the same spin
  *   10,spin,dart  the darts of a spin are not those that leave it, each once
  *   11,bond  an entry of the seam is no bond, or stands there twice
@@ -46,12 +47,14 @@
  *   15,euler  the graph is not drawn on a sphere
  *   16      a wall is asked for, and the seam is empty
  *
- * and for a check, of the proof:
+ * (a check of a nest makes the first two of them); and for a check, of the proof:
  *
  *   1,536870912  more spins than that
  *   19,10,k  the value of spin k is neither 1 nor -1
  *   1,536870912  more loops than that
  *   19,11,k  start k of the loops is wrong, as above
+ *   19,12,0  of a nest, there are not as many radii as parents
+ *   19,13,0  of a nest, there are not as many radii as regions for the faces
  */
 #ifndef ISING2D_H
 #define ISING2D_H
@@ -97,8 +100,8 @@ uint8_t ising2d_c_run(const uint8_t *words, size_t words_len, const uint8_t *inp
 /*
  * Finds a ground state of a lattice, and the loops that prove it.
  *
- * kind, rows, cols  the lattice. Spin (r, c) has the number r * cols + c. At most 2048 spins; rows
- *                   is 1 or more, cols 1 or more (hexagonal 2, cylinder 3).
+ * kind, rows, cols  the lattice. Spin (r, c) has the number r * cols + c. At most 1048576 (2^20)
+ *                   spins; rows is 1 or more, cols 1 or more (hexagonal 2, cylinder 3).
  * couplings         the couplings in the order of the bonds: all to the east, row by row, then those
  *                   to the south, then the diagonals. The energy is minus the sum of coupling times
  *                   both spins. Whole numbers in any unit; the energy is in the same.
@@ -116,6 +119,53 @@ uint8_t ising2d_c_ground(uint8_t kind, uint32_t rows, uint32_t cols, const int64
                          uint32_t *bonds, size_t bonds_room, size_t *loop_count, size_t *loop_bonds,
                          uint8_t *line, size_t line_room, size_t *line_written);
 
+/* What stands for no region, as the parent of a region that lies in none. */
+#define ISING2D_NONE UINT32_MAX
+
+/*
+ * Finds a ground state of a lattice, and a nest of regions that proves it. The proof takes room of the
+ * order of the lattice, where loops may take ten times that and more: of large lattices ask for this.
+ *
+ * The faces are numbered in the order of their least darts: bond k has the dart 2k, from its first spin
+ * to its second, and the dart 2k + 1 back, and a face is what the walk goes round that leaves each dart
+ * by the next one in the cyclic order at its end; behind these the spins without a bond have one face
+ * each. A face is frustrated where an odd number of its darts belong to negative couplings.
+ *
+ * energy, spins  as of ising2d_c_ground.
+ * parents, radii  for each region the one that it is a part of, a later one, or ISING2D_NONE; and its
+ *                radius, in quarters of the unit of the couplings.
+ * regions, at_radii  for each face the region that took it, or ISING2D_NONE; and the radius at which
+ *                that took it.
+ * region_count, face_count  how many there are. Both are 0 where no nest was found; then the state is
+ *                one nevertheless. On a connected graph there are as many faces as bonds and two more,
+ *                less the spins; room for one and a half times as many regions has always been enough.
+ *
+ * Why it proves the state: over a face a region has a height, its radius, less the at_radius where it
+ * took the face itself, and 0 where neither it nor a part of it did. A region that has grown holds an odd
+ * number of frustrated faces, each taken at 0, so the broken bonds of any spins climb out of it over
+ * its whole radius; over a bond all heights together change by at most four times the size of its
+ * coupling; so the broken bonds of any spins weigh at least a quarter of all radii. Those of these spins
+ * weigh just that.
+ */
+uint8_t ising2d_c_nest(uint8_t kind, uint32_t rows, uint32_t cols, const int64_t *couplings,
+                       size_t couplings_len, int64_t *energy, int8_t *spins, size_t spins_room,
+                       uint32_t *parents, size_t parents_room, uint64_t *radii, size_t radii_room,
+                       uint32_t *regions, size_t regions_room, uint64_t *at_radii,
+                       size_t at_radii_room, size_t *region_count, size_t *face_count,
+                       uint8_t *line, size_t line_room, size_t *line_written);
+
+/*
+ * Judges such a proof: whether the spins have the energy, and the nest shows that no assignment has less.
+ * It trusts nobody, and takes time linear in the lattice. The instance has to be fit, as for
+ * ising2d_c_nest. Returns 0 where the proof holds, 3 where it fails, and then writes no line; 1 or 6.
+ */
+uint8_t ising2d_c_nest_check(uint8_t kind, uint32_t rows, uint32_t cols, const int64_t *couplings,
+                             size_t couplings_len, int64_t energy, const int8_t *spins,
+                             size_t spins_len, const uint32_t *parents, size_t parents_len,
+                             const uint64_t *radii, size_t radii_len, const uint32_t *regions,
+                             size_t regions_len, const uint64_t *at_radii, size_t at_radii_len,
+                             uint8_t *line, size_t line_room, size_t *line_written);
+
 /*
  * Finds the energy of the domain wall along a cylinder: the least energy, the least energy with the
  * signs changed of the couplings from the last column to the first, and the second minus the first.
@@ -128,7 +178,7 @@ uint8_t ising2d_c_wall(uint8_t kind, uint32_t rows, uint32_t cols, const int64_t
 /*
  * Finds what it costs to turn each bond: the difference, without its sign, between the least energies
  * with like and with unlike spins at its ends. There are as many costs as couplings. A bond is rigid
- * where it costs more than 0.
+ * where it costs more than 0. At most 2048 spins, and so for clusters.
  */
 uint8_t ising2d_c_bonds(uint8_t kind, uint32_t rows, uint32_t cols, const int64_t *couplings,
                         size_t couplings_len, int64_t *costs, size_t costs_room, uint8_t *line,
@@ -161,8 +211,9 @@ uint8_t ising2d_c_check(uint8_t kind, uint32_t rows, uint32_t cols, const int64_
 /*
  * The same calls for a general graph, drawn on a sphere (for a check, on any surface).
  *
- * n            the number of spins, 1 to 2048, which are numbered from 0.
- * ends         two spins for each bond: bond k joins ends[2k] and ends[2k + 1]. At most 6144 bonds.
+ * n            the number of spins, 1 to 1048576 (for costs and clusters 2048), numbered from 0.
+ * ends         two spins for each bond: bond k joins ends[2k] and ends[2k + 1]. At most
+ *              3145728 bonds (for costs and clusters 6144).
  * couplings    one for each bond.
  * dart_starts, darts  the drawing. Bond k has the dart 2k, which leaves its first end, and the dart
  *              2k + 1, which leaves its second. The darts that leave spin i, in cyclic order, are
@@ -212,6 +263,28 @@ uint8_t ising2d_c_graph_check(uint32_t n, const uint32_t *ends, size_t ends_len,
                               const size_t *starts, size_t starts_len, const uint32_t *bonds,
                               size_t bonds_len, uint8_t *line, size_t line_room,
                               size_t *line_written);
+
+uint8_t ising2d_c_graph_nest(uint32_t n, const uint32_t *ends, size_t ends_len,
+                             const int64_t *couplings, size_t couplings_len,
+                             const size_t *dart_starts, size_t dart_starts_len,
+                             const uint32_t *darts, size_t darts_len, const uint32_t *seam,
+                             size_t seam_len, int64_t *energy, int8_t *spins, size_t spins_room,
+                             uint32_t *parents, size_t parents_room, uint64_t *radii,
+                             size_t radii_room, uint32_t *regions, size_t regions_room,
+                             uint64_t *at_radii, size_t at_radii_room, size_t *region_count,
+                             size_t *face_count, uint8_t *line, size_t line_room,
+                             size_t *line_written);
+
+uint8_t ising2d_c_graph_nest_check(uint32_t n, const uint32_t *ends, size_t ends_len,
+                                   const int64_t *couplings, size_t couplings_len,
+                                   const size_t *dart_starts, size_t dart_starts_len,
+                                   const uint32_t *darts, size_t darts_len, const uint32_t *seam,
+                                   size_t seam_len, int64_t energy, const int8_t *spins,
+                                   size_t spins_len, const uint32_t *parents, size_t parents_len,
+                                   const uint64_t *radii, size_t radii_len,
+                                   const uint32_t *regions, size_t regions_len,
+                                   const uint64_t *at_radii, size_t at_radii_len, uint8_t *line,
+                                   size_t line_room, size_t *line_written);
 
 #ifdef __cplusplus
 }

@@ -27,13 +27,14 @@ void *__wrap_malloc(size_t size) { return is_granted() ? __real_malloc(size) : N
 void *__wrap_realloc(void *block, size_t size) { return is_granted() ? __real_realloc(block, size) : NULL; }
 
 /* Room for what is written of four spins and four bonds. */
-enum { SPINS = 4, BONDS = 4, LOOPS = 10, LOOP_BONDS = 40, LINE = 124 };
+enum { SPINS = 4, BONDS = 4, LOOPS = 10, LOOP_BONDS = 40, REGIONS = 4, FACES = 2, LINE = 124 };
 
 /* All places of a caller, for every export, with no byte between them. */
 struct places {
     int64_t energy, periodic, antiperiodic, difference, weights[LOOPS], costs[BONDS];
-    size_t starts[LOOPS + 1], loop_count, bond_count, written, whole;
-    uint32_t names[SPINS], bonds[LOOP_BONDS];
+    uint64_t radii[REGIONS], at_radii[FACES];
+    size_t starts[LOOPS + 1], loop_count, bond_count, region_count, face_count, written, whole;
+    uint32_t names[SPINS], bonds[LOOP_BONDS], parents[REGIONS], regions[FACES];
     int8_t spins[SPINS];
     uint8_t line[LINE];
 };
@@ -55,12 +56,17 @@ static const int64_t ring[] = {5, 7, 2}, heavy[] = {4};
 static const int8_t spins[] = {1, 1, -1, -1};
 static const size_t begun[] = {0, 4};
 static const uint32_t through[] = {0, 1, 2, 3};
+static const uint32_t alone[] = {ISING2D_NONE, ISING2D_NONE}, taken[] = {0, 1};
+static const uint64_t grown[] = {4, 4}, at[] = {0, 0};
 static const char input[] = "square,2,2\n3,4\n2,-5\nend\nenergy,-9\nspins,1,1,-1,-1\nloop,4,0,1,2,3\nend\n";
 
 #define LATTICE given->kind, 2, 2, couplings, given->couplings_len
 #define GRAPH given->n, ends, 8, couplings, 4, dart_starts, 5, darts, 8, seam, 1
 #define LOOPS_OF(p) p->weights, LOOPS, p->starts, LOOPS + 1, p->bonds, LOOP_BONDS, &p->loop_count, &p->bond_count
 #define PROOF given->energy, spins, 4, heavy, 1, begun, 2, through, 4
+#define NEST_OF(p) p->parents, REGIONS, p->radii, REGIONS, p->regions, FACES, p->at_radii, FACES, \
+                   &p->region_count, &p->face_count
+#define NEST given->energy, spins, 4, alone, 2, grown, 2, taken, 2, at, 2
 #define TOLD(p) p->line, LINE, &p->written
 
 static uint8_t run(const struct given *given, struct places *p) {
@@ -85,6 +91,22 @@ static uint8_t clusters(const struct given *given, struct places *p) {
 }
 
 static uint8_t check(const struct given *given, struct places *p) { return ising2d_c_check(LATTICE, PROOF, TOLD(p)); }
+
+static uint8_t nest(const struct given *given, struct places *p) {
+    return ising2d_c_nest(LATTICE, &p->energy, p->spins, SPINS, NEST_OF(p), TOLD(p));
+}
+
+static uint8_t nest_check(const struct given *given, struct places *p) {
+    return ising2d_c_nest_check(LATTICE, NEST, TOLD(p));
+}
+
+static uint8_t graph_nest(const struct given *given, struct places *p) {
+    return ising2d_c_graph_nest(GRAPH, &p->energy, p->spins, SPINS, NEST_OF(p), TOLD(p));
+}
+
+static uint8_t graph_nest_check(const struct given *given, struct places *p) {
+    return ising2d_c_graph_nest_check(GRAPH, NEST, TOLD(p));
+}
 
 static uint8_t graph_ground(const struct given *given, struct places *p) {
     return ising2d_c_graph_ground(GRAPH, &p->energy, p->spins, SPINS, LOOPS_OF(p), TOLD(p));
@@ -157,6 +179,27 @@ static void take_loops(struct places *wanted, const struct places *found) {
     wanted->bond_count = found->bond_count;
 }
 
+/* A nest may differ too. */
+static void take_nest(struct places *wanted, const struct places *found) {
+    struct places judged = *blank();
+    if (found->region_count > REGIONS || found->face_count != FACES ||
+        ising2d_c_nest_check(ISING2D_SQUARE, 2, 2, couplings, 4, found->energy, found->spins, 4, found->parents,
+                             found->region_count, found->radii, found->region_count, found->regions,
+                             found->face_count, found->at_radii, found->face_count, judged.line, LINE,
+                             &judged.written) != ISING2D_DONE) {
+        return;
+    }
+    memcpy(wanted->parents, found->parents, found->region_count * sizeof *found->parents);
+    memcpy(wanted->radii, found->radii, found->region_count * sizeof *found->radii);
+    memcpy(wanted->regions, found->regions, sizeof found->regions);
+    memcpy(wanted->at_radii, found->at_radii, sizeof found->at_radii);
+    wanted->region_count = found->region_count;
+    wanted->face_count = found->face_count;
+}
+
+/* What of an answer may differ. */
+enum proof { NONE, LOOP_PROOF, NEST_PROOF };
+
 static int passed = 0, failed = 0;
 
 static void judge(int holds, const char *name, unsigned status) {
@@ -172,11 +215,14 @@ typedef uint8_t call(const struct given *, struct places *);
 
 /* One call, which must end so, and leave all places so. */
 static void ends_with(const char *name, call *called, const struct given *given, uint8_t status,
-                      const struct places *wanted, int with_loops) {
+                      const struct places *wanted, enum proof proof) {
     struct places found = *blank(), all = *wanted;
     uint8_t ended = called(given, &found);
-    if (with_loops) {
+    if (proof == LOOP_PROOF) {
         take_loops(&all, &found);
+    }
+    if (proof == NEST_PROOF) {
+        take_nest(&all, &found);
     }
     judge(ended == status && memcmp(&found, &all, sizeof all) == 0, name, status);
 }
@@ -206,14 +252,14 @@ struct row {
     struct given answered, refused;
     struct places wanted;
     const char *line;
-    int with_loops;
+    enum proof proof;
 };
 
 static void try_row(const struct row *row) {
     struct places told = *blank();
     text(&told, row->line);
-    ends_with(row->name, row->called, &row->answered, ISING2D_DONE, &row->wanted, row->with_loops);
-    ends_with(row->name, row->called, &row->refused, ISING2D_REFUSED, &told, 0);
+    ends_with(row->name, row->called, &row->answered, ISING2D_DONE, &row->wanted, row->proof);
+    ends_with(row->name, row->called, &row->refused, ISING2D_REFUSED, &told, NONE);
     wants_memory(row->name, row->called, &row->answered, blank());
 }
 
@@ -228,29 +274,36 @@ static struct places with(void (*written)(struct places *)) {
 
 static void tube_walls(struct places *p) { energies(p, -14, -10); }
 static void seam_walls(struct places *p) { energies(p, -10, -14); }
+static void unsaid(struct places *p) { (void)p; }
 static void yes(struct places *p) { text(p, "yes\n"); }
 static void no(struct places *p) { text(p, "no,2,-10\n"); }
 
 static void try_numbers(void) {
     const char *few_couplings = "refused,6,3,4\n", *no_spins = "refused,19,5,0\n";
     const struct row rows[] = {
-        {"ising2d_c_ground", ground, right, few, with(least), few_couplings, 1},
-        {"ising2d_c_wall", wall, tube, few, with(tube_walls), "refused,6,3,2\n", 0},
-        {"ising2d_c_bonds", bonds, right, few, with(turned), few_couplings, 0},
-        {"ising2d_c_clusters", clusters, right, few, with(joined), few_couplings, 0},
-        {"ising2d_c_check", check, right, few, with(yes), few_couplings, 0},
-        {"ising2d_c_graph_ground", graph_ground, right, few, with(least), no_spins, 1},
-        {"ising2d_c_graph_wall", graph_wall, right, few, with(seam_walls), no_spins, 0},
-        {"ising2d_c_graph_bonds", graph_bonds, right, few, with(turned), no_spins, 0},
-        {"ising2d_c_graph_clusters", graph_clusters, right, few, with(joined), no_spins, 0},
-        {"ising2d_c_graph_check", graph_check, right, few, with(yes), no_spins, 0},
+        {"ising2d_c_ground", ground, right, few, with(least), few_couplings, LOOP_PROOF},
+        {"ising2d_c_wall", wall, tube, few, with(tube_walls), "refused,6,3,2\n", NONE},
+        {"ising2d_c_bonds", bonds, right, few, with(turned), few_couplings, NONE},
+        {"ising2d_c_clusters", clusters, right, few, with(joined), few_couplings, NONE},
+        {"ising2d_c_check", check, right, few, with(yes), few_couplings, NONE},
+        {"ising2d_c_nest", nest, right, few, with(least), few_couplings, NEST_PROOF},
+        {"ising2d_c_nest_check", nest_check, right, few, with(unsaid), few_couplings, NONE},
+        {"ising2d_c_graph_nest", graph_nest, right, few, with(least), no_spins, NEST_PROOF},
+        {"ising2d_c_graph_nest_check", graph_nest_check, right, few, with(unsaid), no_spins, NONE},
+        {"ising2d_c_graph_ground", graph_ground, right, few, with(least), no_spins, LOOP_PROOF},
+        {"ising2d_c_graph_wall", graph_wall, right, few, with(seam_walls), no_spins, NONE},
+        {"ising2d_c_graph_bonds", graph_bonds, right, few, with(turned), no_spins, NONE},
+        {"ising2d_c_graph_clusters", graph_clusters, right, few, with(joined), no_spins, NONE},
+        {"ising2d_c_graph_check", graph_check, right, few, with(yes), no_spins, NONE},
     };
-    const struct places failing = with(no);
+    const struct places failing = with(no), silent = with(unsaid);
     for (size_t k = 0; k < sizeof rows / sizeof *rows; k++) {
         try_row(&rows[k]);
     }
-    ends_with("ising2d_c_check", check, &raised, ISING2D_NO, &failing, 0);
-    ends_with("ising2d_c_graph_check", graph_check, &raised, ISING2D_NO, &failing, 0);
+    ends_with("ising2d_c_check", check, &raised, ISING2D_NO, &failing, NONE);
+    ends_with("ising2d_c_graph_check", graph_check, &raised, ISING2D_NO, &failing, NONE);
+    ends_with("ising2d_c_nest_check", nest_check, &raised, ISING2D_NO, &silent, NONE);
+    ends_with("ising2d_c_graph_nest_check", graph_nest_check, &raised, ISING2D_NO, &silent, NONE);
 }
 
 /* Words, each ended by a byte 0; the last of them by the end of the string. */
@@ -270,12 +323,12 @@ static void try_run(void) {
                        unended = {0, 0, 0, 0, "energy", 6};
     const struct places line = with(drawn), no_law = with(unknown), more = with(trailing), shape = with(usage),
                         fails = with(judged), silent = with(nothing);
-    ends_with(name, run, &gen, ISING2D_DONE, &line, 0);
-    ends_with(name, run, &other, ISING2D_REFUSED, &no_law, 0);
-    ends_with(name, run, &energy, ISING2D_REFUSED, &more, 0);
-    ends_with(name, run, &none, ISING2D_USAGE, &shape, 0);
-    ends_with(name, run, &verdict, ISING2D_NO, &fails, 0);
-    ends_with(name, run, &unended, ISING2D_NO_WORDS, &silent, 0);
+    ends_with(name, run, &gen, ISING2D_DONE, &line, NONE);
+    ends_with(name, run, &other, ISING2D_REFUSED, &no_law, NONE);
+    ends_with(name, run, &energy, ISING2D_REFUSED, &more, NONE);
+    ends_with(name, run, &none, ISING2D_USAGE, &shape, NONE);
+    ends_with(name, run, &verdict, ISING2D_NO, &fails, NONE);
+    ends_with(name, run, &unended, ISING2D_NO_WORDS, &silent, NONE);
     wants_memory(name, run, &gen, &silent);
 }
 

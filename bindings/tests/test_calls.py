@@ -186,7 +186,11 @@ class WrongArguments(unittest.TestCase):
         self.refused(19, (4, 0), "square", 2, 0, [])
         self.refused(19, (4, 0), "hexagonal", 2, 1, [1])
         self.refused(19, (4, 0), "cylinder", 2, 2, [1])
-        self.refused(7, (2070,), "square", 45, 46, [])
+        for call in (ising2d.bonds, ising2d.clusters):
+            with self.assertRaises(Refusal) as caught:
+                call("square", 45, 46, [1] * 4049)
+            self.assertEqual((caught.exception.number, caught.exception.kept), (7, (2070,)))
+        self.refused(7, (1049600,), "square", 1025, 1024, [])
         self.refused(7, ((2**32 - 1) ** 2,), "square", 2**32 - 1, 2**32 - 1, [])
         self.refused(6, (3, 4), "square", 2, 2, [3, 4, 2])
         self.refused(6, (5, 4), "square", 2, 2, [3, 4, 2, -5, 1])

@@ -32,7 +32,8 @@ class Texts(unittest.TestCase):
         (ising2d.ground, ("kagome", 2, 2, []), Refusal, ("'kagome'", "square, triangular")),
         (ising2d.ground, ("square", 0, 2, []), Refusal, ("rows", ": 0", "1 or more")),
         (ising2d.ground, ("cylinder", 2, 2, [1]), Refusal, ("columns", ": 2", "cylinder 3")),
-        (ising2d.ground, ("square", 45, 46, []), Refusal, ("2070 spins", "at most 2048")),
+        (ising2d.ground, ("square", 1025, 1024, []), Refusal, ("1049600 spins", "at most 1048576")),
+        (ising2d.costs, ("square", 45, 46, []), Refusal, ("2070 spins", "at most 2048")),
         (ising2d.ground, ("square", 2, 2, [1]), Refusal, ("1 couplings", "lattice, 4")),
         (
             ising2d.ground,

@@ -8,8 +8,9 @@
 A lattice is a kind ("square", "triangular", "hexagonal" or "cylinder"), its rows and columns, and
 its couplings, one whole number for each bond: first all bonds to the east, row by row, then those to
 the south, then the diagonals. Spin (r, c) has the number ``r * cols + c``. The energy is minus the
-sum of coupling times both spins, in the unit of the couplings. There are at most 2048 spins, and the
-sizes of the couplings sum to at most 2**44. ``Graph`` is any other planar graph.
+sum of coupling times both spins, in the unit of the couplings. There are at most 2**20 spins, for
+costs, clusters, ranges, cuts and reports at most 2048, and the sizes of the couplings sum to at most
+2**44. ``Graph`` is any other planar graph.
 
 Where numpy is there, arrays are given as numpy arrays, which are not to be changed, and else as arrays
 of the module ``array``; any sequence of whole numbers is taken. Wrong numbers raise a ``Refusal`` (a
@@ -45,6 +46,7 @@ from ._instances import Instance
 from ._joins import Network, postman, tjoin
 from ._lattices import Lattice
 from ._loops import Loop, Loops
+from ._nests import Nest
 from ._pictures import svg
 from ._reading import read
 from ._refusals import Refusal
@@ -65,6 +67,7 @@ __all__ = [
     "Lattice",
     "Loop",
     "Loops",
+    "Nest",
     "Network",
     "OddCut",
     "Refusal",

@@ -5,6 +5,7 @@ from dataclasses import dataclass, field, fields
 from typing import TYPE_CHECKING, Any, Dict, Hashable, Iterator, List, NamedTuple, Optional, Tuple, TypeVar
 
 from ._loops import Loop
+from ._nests import Nest
 from ._refusals import verdict_sentence
 
 if TYPE_CHECKING:
@@ -78,8 +79,8 @@ def _known(source: Optional[Source], what: str) -> Source:
 class Verdict(Answer):
     """The verdict on a proof: ``number`` is 0 where it holds, else the number of the first test that
     fails, ``kept`` are the numbers that show it, and ``sentence`` says it. A verdict is true where the
-    proof holds. ``of`` is the kind of proof: the loops of a ground state, or the cuts of a join or of a
-    walk.
+    proof holds. ``of`` is the kind of proof: the loops or the nest of a ground state, or the cuts of a
+    join or of a walk.
 
     >>> import ising2d
     >>> print(ising2d.check("square", 1, 2, [7], 7, [1, 1], []))
@@ -105,8 +106,8 @@ class Verdict(Answer):
 @dataclass(frozen=True, eq=False)
 class Ground(Answer):
     """A ground state: its energy, in the unit of the couplings; an array of shape ``(spins,)`` with 1
-    or -1 for each spin; and the loops that prove it, a sequence of ``Loop``. ``instance`` is the
-    lattice or graph that was asked for.
+    or -1 for each spin; and the loops that prove it, a sequence of ``Loop``, or the ``nest`` that does, a
+    ``Nest``. ``instance`` is the lattice or graph that was asked for.
 
     >>> import ising2d
     >>> found = ising2d.ground("square", 2, 2, [3, 4, 2, -5])
@@ -120,13 +121,15 @@ class Ground(Answer):
     spins: Any
     loops: "Sequence[Loop]"
     instance: Optional["Instance"] = field(default=None, compare=False, repr=False)
+    nest: Optional[Nest] = field(default=None, compare=False, repr=False)
 
     def _known(self) -> "Instance":
         return _known(self.instance, "instance")
 
     def check(self) -> Verdict:
-        """The verdict on this proof, by the checker, which trusts no solver."""
-        return self._known().check(self.energy, self.spins, self.loops)
+        """The verdict on this proof, by the checker, which trusts no solver: on the nest where there is
+        one, and else on the loops."""
+        return self._known().check(self.energy, self.spins, self.loops, self.nest)
 
     def broken(self) -> List[int]:
         """The bonds that are not satisfied: coupling times both spins is below 0."""

@@ -108,7 +108,12 @@ class _Crew:
             self.ahead.release()
 
 
-def ground_many(instances: Iterable[Any], loops: bool = True, threads: Optional[int] = None) -> List[Ground]:
+def ground_many(
+    instances: Iterable[Any],
+    loops: Optional[bool] = None,
+    threads: Optional[int] = None,
+    nest: Optional[bool] = None,
+) -> List[Ground]:
     """A ground state of each instance, side by side in threads: the lock of Python is free while the
     library works. An instance is a ``Lattice``, a ``Graph``, or the arguments of ``ground``.
 
@@ -117,7 +122,7 @@ def ground_many(instances: Iterable[Any], loops: bool = True, threads: Optional[
     >>> [found.energy for found in ising2d.ground_many([square] * 3)]
     [-10, -10, -10]
     """
-    return list(in_order(lambda given: _instance(given).ground(loops), instances, threads))
+    return list(in_order(lambda given: _instance(given).ground(loops, nest), instances, threads))
 
 
 def _instance(given: Any) -> Instance:

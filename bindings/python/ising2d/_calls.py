@@ -1,19 +1,28 @@
 """The calls on lattices, by kind, rows, columns and couplings."""
 
-from typing import Any, List, Literal, Union, overload
+from typing import Any, List, Literal, Optional, Union, overload
 
 from ._answers import Clusters, Cut, DomainWall, Ground, Report, Turn, Verdict, Wall
 from ._arrays import Whole
 from ._lattices import Kind, Lattice
 
 
-def ground(kind: Kind, rows: Whole, cols: Whole, couplings: Any, loops: bool = True) -> Ground:
-    """A ground state of a lattice, and the frustrated loops that prove it.
+def ground(
+    kind: Kind,
+    rows: Whole,
+    cols: Whole,
+    couplings: Any,
+    loops: Optional[bool] = None,
+    nest: Optional[bool] = None,
+) -> Ground:
+    """A ground state of a lattice, and what proves it: up to 2048 spins frustrated loops, and beyond
+    that, up to 2**20 spins, a nest of regions, whose size is that of the lattice. ``loops=True`` and
+    ``nest=True`` ask for either.
 
     ``couplings`` has one whole number for each bond, of shape ``(bonds,)``, in any unit. The spins are
     an array of shape ``(rows * cols,)`` with entries 1 or -1, the least of each component 1. The
     weights of the loops sum to the energy plus the sizes of all couplings, and no bond carries more
-    than twice the size of its coupling. With ``loops=False`` none are given.
+    than twice the size of its coupling. With ``loops=False`` alone no proof is given.
 
     Raises ``Refusal`` where the numbers give no lattice, ``TypeError`` where they are no whole numbers,
     ``OverflowError`` where one does not fit its place, and ``MemoryError``; so do all calls.
@@ -21,7 +30,7 @@ def ground(kind: Kind, rows: Whole, cols: Whole, couplings: Any, loops: bool = T
     >>> ground("square", 2, 2, [3, 4, 2, -5]).energy
     -10
     """
-    return Lattice(kind, rows, cols, couplings).ground(loops)
+    return Lattice(kind, rows, cols, couplings).ground(loops, nest)
 
 
 @overload
@@ -100,10 +109,17 @@ def report(kind: Kind, rows: Whole, cols: Whole, couplings: Any) -> Report:
 
 
 def check(
-    kind: Kind, rows: Whole, cols: Whole, couplings: Any, energy: Whole, spins: Any, loops: Any
+    kind: Kind,
+    rows: Whole,
+    cols: Whole,
+    couplings: Any,
+    energy: Whole,
+    spins: Any,
+    loops: Any = (),
+    nest: Any = None,
 ) -> Verdict:
-    """The verdict on a proof: whether the spins have this energy, and the loops show that no assignment
-    has less. It trusts no solver.
+    """The verdict on a proof: whether the spins have this energy, and the loops, or the nest, show that
+    no assignment has less. It trusts no solver.
 
     ``couplings`` as for ``ground``, the energy in their unit, ``spins`` of shape ``(rows * cols,)``
     with entries 1 or -1, and any loops: those of ``ground`` cross as they are, and else each is a
@@ -112,4 +128,4 @@ def check(
     >>> check("square", 2, 2, [3, 4, 2, -5], -10, [1, 1, -1, -1], [(4, (0, 1, 2, 3))]).sentence
     'the proof holds: no assignment has less energy'
     """
-    return Lattice(kind, rows, cols, couplings).check(energy, spins, loops)
+    return Lattice(kind, rows, cols, couplings).check(energy, spins, loops, nest)

@@ -1,15 +1,18 @@
 """The calls by numbers: a lattice or a graph and an answer's arrays cross to the library and back."""
 
 import ctypes
-from typing import Any, Callable, Dict, NamedTuple, Sequence, Tuple
+from typing import Any, Callable, Dict, NamedTuple, Optional, Sequence, Tuple
 
 from ._arrays import crossed, fixed, in_64_bits, room, settled, space, whole_numbers
 from ._library import library
 from ._loops import Loops, rows_of
+from ._nests import Nest, nest_of
 from ._refusals import numbers_of, refusal_of
 
 DONE, REFUSED, NO, NO_MEMORY = 0, 1, 3, 6
-MOST_SPINS, MOST_BONDS = 2048, 6144
+MOST_SPINS, MOST_BONDS = 2**20, 3 * 2**20
+# What the program takes, and the calls for costs and clusters.
+PROGRAM_SPINS = 2048
 
 
 class Exports(NamedTuple):
@@ -20,6 +23,8 @@ class Exports(NamedTuple):
     bonds: Callable[..., int]
     clusters: Callable[..., int]
     check: Callable[..., int]
+    nest: Callable[..., int]
+    nest_check: Callable[..., int]
 
 
 def _exports(front: str) -> Exports:
@@ -42,18 +47,67 @@ class _Line:
     def text(self) -> str:
         return self.bytes.raw[: self.written.value].decode("ascii")
 
-    def judge(self, status: int, given: Any) -> None:
-        """Raises what the status says."""
+    def judge(self, status: int, given: Any, large: bool = True) -> None:
+        """Raises what the status says; ``large`` is whether the call takes large instances."""
         if status == REFUSED:
-            raise refusal_of(self.text(), given)
+            raise refusal_of(self.text(), given, large)
         if status != DONE:
             raise MemoryError("the library has no memory left")
 
 
-def ground_of(given: Any, loops: bool) -> Tuple[int, Any, Loops]:
-    """The energy, the spins and the loops of a ground state of a lattice or of a graph."""
-    if not loops:
-        return _ground(given, (0, 0))[0]
+Found = Tuple[int, Any, Loops, Optional[Nest]]
+
+
+def ground_of(given: Any, loops: Optional[bool], nest: Optional[bool]) -> Found:
+    """The energy, the spins, and the loops or the nest of a ground state of a lattice or of a graph."""
+    is_large = given._spin_room() > PROGRAM_SPINS
+    with_nest = nest if nest is not None else loops is None and is_large
+    with_loops = loops if loops is not None else not with_nest
+    if with_loops and not with_nest:
+        return (*_with_loops(given), None)
+    energy, spins, found = _nested(given, bool(with_nest))
+    if with_loops or (with_nest and found is None):
+        # Loops for the asking, or where no nest was found.
+        return (*_with_loops(given), found)
+    return energy, spins, _loops(*(room(kind, 0) for kind in ("int64", "uint64", "uint32")), (0, 0)), found
+
+
+def _nested(given: Any, with_nest: bool) -> Tuple[int, Any, Optional[Nest]]:
+    """A ground state, with its nest where that is wanted and found."""
+    line, energy = _Line(), ctypes.c_int64()
+    counts = ctypes.c_size_t(), ctypes.c_size_t()
+    # By Euler's formula there are at most as many faces as spins and bonds, and a region of parts has
+    # three at the least. Room that is not written costs nothing.
+    faces = min(len(given.couplings), MOST_BONDS) + given._spin_room() if with_nest else 0
+    spins = room("int8", given._spin_room())
+    parents, radii = space("uint32", 2 * faces), space("uint64", 2 * faces)
+    regions, at_radii = space("uint32", faces), space("uint64", faces)
+    status = given._exports().nest(
+        *given._arguments(),
+        ctypes.byref(energy),
+        *crossed(spins),
+        *crossed(parents),
+        *crossed(radii),
+        *crossed(regions),
+        *crossed(at_radii),
+        ctypes.byref(counts[0]),
+        ctypes.byref(counts[1]),
+        *line.arguments(),
+    )
+    line.judge(status, given)
+    if not with_nest or not counts[1].value or counts[0].value > 2 * faces or counts[1].value > faces:
+        return energy.value, fixed(spins), None
+    nest = Nest(
+        settled("uint32", parents, counts[0].value),
+        settled("uint64", radii, counts[0].value),
+        settled("uint32", regions, counts[1].value),
+        settled("uint64", at_radii, counts[1].value),
+    )
+    return energy.value, fixed(spins), nest
+
+
+def _with_loops(given: Any) -> Tuple[int, Any, Loops]:
+    """The energy, the spins and the loops."""
     bonds = min(len(given.couplings), MOST_BONDS)
     # Of strips the loops were seen to take 80 bonds for each bond. Room that is not written costs nothing.
     wanted = (5 * bonds // 2 + 1, 128 * bonds + 64)
@@ -106,14 +160,16 @@ def wall_of(given: Any) -> Tuple[int, int, int]:
 def costs_of(given: Any) -> Any:
     """The cost of each bond of a lattice or of a graph."""
     line, costs = _Line(), room("int64", min(len(given.couplings), MOST_BONDS))
-    line.judge(given._exports().bonds(*given._arguments(), *crossed(costs), *line.arguments()), given)
+    status = given._exports().bonds(*given._arguments(), *crossed(costs), *line.arguments())
+    line.judge(status, given, large=False)
     return fixed(costs)
 
 
 def clusters_of(given: Any) -> Any:
     """The cluster of each spin of a lattice or of a graph."""
     line, names = _Line(), room("uint32", given._spin_room())
-    line.judge(given._exports().clusters(*given._arguments(), *crossed(names), *line.arguments()), given)
+    status = given._exports().clusters(*given._arguments(), *crossed(names), *line.arguments())
+    line.judge(status, given, large=False)
     return fixed(names)
 
 
@@ -153,5 +209,41 @@ def check_of(given: Any, stated: Proof) -> Tuple[int, Tuple[int, ...]]:
         number, *kept = numbers_of(line.text())
         return number, tuple(kept)
     about_proof = status == REFUSED and numbers_of(line.text())[:2] in ((19, 10), (19, 11))
+    line.judge(status, stated if about_proof else given)
+    return 0, ()
+
+
+class NestProof(NamedTuple):
+    """A proof by a nest as it crosses."""
+
+    energy: int
+    spins: Any
+    nest: Nest
+
+    def _shown(self, number: int, kept: Sequence[int]) -> Optional[str]:
+        """The value that a refusal is about."""
+        if number == 19 and kept[0] == 10 and kept[1] < len(self.spins):
+            return str(int(self.spins[kept[1]]))
+        return self.nest._shown(number, kept)
+
+
+def nest_proof_of(energy: Any, spins: Any, nest: Any) -> NestProof:
+    """What is stated, as it crosses."""
+    return NestProof(in_64_bits(energy, "energy"), whole_numbers(spins, "int8", "spins"), nest_of(nest))
+
+
+def nest_check_of(given: Any, stated: NestProof) -> Tuple[int, Tuple[int, ...]]:
+    """The number of the verdict on a proof by a nest: 0 or 1."""
+    line = _Line()
+    status = given._exports().nest_check(
+        *given._arguments(),
+        stated.energy,
+        *crossed(stated.spins),
+        *(part for own in stated.nest for part in crossed(own)),
+        *line.arguments(),
+    )
+    if status == NO:
+        return 1, ()
+    about_proof = status == REFUSED and numbers_of(line.text())[:2] in ((19, 10), (19, 12), (19, 13))
     line.judge(status, stated if about_proof else given)
     return 0, ()

@@ -129,11 +129,12 @@ class Instance:
         """A call that finds many ground states."""
         return patiently(self._spin_room() > MANY_STATES, call, self, *arguments)
 
-    def ground(self, loops: bool = True) -> Ground:
-        """A ground state, with the least spin of each component up, and the loops that prove it; none
-        with ``loops=False``."""
-        energy, spins, found = self._one(_crossing.ground_of, loops)
-        return Ground(energy, spins, found, self)
+    def ground(self, loops: Optional[bool] = None, nest: Optional[bool] = None) -> Ground:
+        """A ground state, with the least spin of each component up, and what proves it: up to 2048 spins
+        the loops, beyond that the nest, or what is asked for by ``loops=True`` or ``nest=True``; with
+        ``loops=False`` alone no proof."""
+        energy, spins, found, regions = self._one(_crossing.ground_of, loops, nest)
+        return Ground(energy, spins, found, self, regions)
 
     @overload
     def wall(self, states: Literal[False] = False) -> Wall:
@@ -176,9 +177,13 @@ class Instance:
         """The rigid clusters: for each spin the least spin of its cluster, and the sizes."""
         return Clusters(self._many(_crossing.clusters_of), self)
 
-    def check(self, energy: Whole, spins: Any, loops: Any) -> Verdict:
+    def check(self, energy: Whole, spins: Any, loops: Any = (), nest: Any = None) -> Verdict:
         """The verdict on a proof: the energy in the unit of the couplings, the spins of shape
-        ``(spins,)``, and any loops. The instance need not be planar."""
+        ``(spins,)``, and any loops, for which the instance need not be planar; or a nest, for which it
+        has to be, and then the loops are not looked at."""
+        if nest is not None:
+            regions = _crossing.nest_proof_of(energy, spins, nest)
+            return Verdict(*self._one(_crossing.nest_check_of, regions), of="nest")
         stated = _crossing.proof_of(energy, spins, loops)
         return Verdict(*self._one(_crossing.check_of, stated))
 

@@ -15,13 +15,16 @@ _NUMBER = ctypes.POINTER(ctypes.c_int64)
 _COUNT = ctypes.POINTER(_SIZE)
 
 # A general graph: the number of spins, the ends, the couplings, the starts of the darts, the darts, the
-# seam. A ground state: the energy, spins, weights, starts, bonds, and the numbers of loops and bonds. A
-# proof: the same without the counts.
+# seam. A ground state: the energy, spins, weights, starts, bonds, and the numbers of loops and bonds; or
+# in place of the loops a nest: parents, radii, regions, radii of faces, and the numbers of regions and
+# faces. A proof: the same without the counts.
 _GRAPH = [ctypes.c_uint32] + [_ARRAY, _SIZE] * 5
 _GROUND = [_NUMBER] + [_ARRAY, _SIZE] * 4 + [_COUNT, _COUNT] + _LINE
 _WALL = [_NUMBER] * 3 + _LINE
 _LIST = [_ARRAY, _SIZE] + _LINE
+_NEST = [_NUMBER] + [_ARRAY, _SIZE] * 5 + [_COUNT, _COUNT] + _LINE
 _PROOF = [ctypes.c_int64] + [_ARRAY, _SIZE] * 4 + _LINE
+_NEST_PROOF = [ctypes.c_int64] + [_ARRAY, _SIZE] * 5 + _LINE
 
 _CALLS: Dict[str, List[Any]] = {
     "ising2d_c_run": [_ARRAY, _SIZE, _ARRAY, _SIZE, _ARRAY, _SIZE, _COUNT, _COUNT]
@@ -32,6 +35,8 @@ for _name, _given in (("ising2d_c_", _LATTICE), ("ising2d_c_graph_", _GRAPH)):
     _CALLS[_name + "bonds"] = _given + _LIST
     _CALLS[_name + "clusters"] = _given + _LIST
     _CALLS[_name + "check"] = _given + _PROOF
+    _CALLS[_name + "nest"] = _given + _NEST
+    _CALLS[_name + "nest_check"] = _given + _NEST_PROOF
 
 
 def _places() -> Iterator[Path]:

@@ -58,7 +58,12 @@ _MEMBERS = {
     9: _Reason("", "entry {1} of the seam is wrong", _SHORT),
     10: _Reason("", "the value of spin {1} is wrong", "1 or -1"),
     11: _Reason("", "start {1} of the loops is wrong", "first 0, never falling, at last all bonds"),
+    12: _Reason("", "the radii of a nest are wrong", "one for each region"),
+    13: _Reason("", "the radii of a nest's faces are wrong", "one for each face"),
 }
+
+# What a call allows that takes large instances.
+_OF_LARGE = {7: "at most 1048576", 8: "at most 3145728"}
 
 # What a weighted graph has in place of spins, bonds and couplings.
 _OF_GRAPHS = {
@@ -74,7 +79,7 @@ _CUTS = {
     7: "all cuts weigh {0} together, and {1} is wanted",
 }
 
-# The verdicts on each kind of proof: the loops of a ground state, and the cuts of a join and of a walk.
+# The verdicts on each kind of proof: the loops or the nest of a ground state, and the cuts of a join and of a walk.
 _VERDICTS = {
     "loops": {
         0: "the proof holds: no assignment has less energy",
@@ -85,6 +90,10 @@ _VERDICTS = {
         5: "loop {0} has an even number of negative couplings, so it is not frustrated",
         6: "the loops through bond {0} weigh {1} together, more than twice the size of its coupling",
         7: "all loops weigh {0} together, and the stated energy plus the sizes of all couplings is {1}",
+    },
+    "nest": {
+        0: "the proof holds: no assignment has less energy",
+        1: "the spins have not the stated energy, or the nest does not prove it",
     },
     "join": {
         0: "the proof holds: no join of these terminals weighs less",
@@ -121,6 +130,13 @@ def words_of_graphs(number: int, kept: Sequence[int]) -> Optional[Tuple[str, str
     """What a refusal of a weighted graph says, and what is allowed, where it is not as of an instance."""
     sentence, allowed = _OF_GRAPHS.get(number, ("", ""))
     return (_filled(sentence, kept), allowed) if sentence else None
+
+
+def words_of_large(number: int, kept: Sequence[int]) -> Optional[Tuple[str, str]]:
+    """The same of a call that takes large instances."""
+    if number not in _OF_LARGE:
+        return None
+    return _filled(_REASONS[number].sentence, kept), _OF_LARGE[number]
 
 
 def verdict_sentence(number: int, kept: Sequence[int], of: str = "loops") -> str:
@@ -177,10 +193,13 @@ def numbers_of(line: str) -> Tuple[int, ...]:
     return tuple(int(field) for field in line.strip().split(",")[1:])
 
 
-def refusal_of(line: str, given: object = None) -> Refusal:
+def refusal_of(line: str, given: object = None, large: bool = False) -> Refusal:
     """The refusal of a line ``refused,NUMBER,..``, with the value that ``given`` has at the place, and its
-    own words for it, where it has any."""
+    own words for it, where it has any; ``large`` is whether the call takes large instances."""
     number, *kept = numbers_of(line)
     shown, words = getattr(given, "_shown", None), getattr(given, "_words", None)
     value = shown(number, kept) if shown is not None else None
-    return Refusal(number, kept, value, words=words(number, kept) if words is not None else None)
+    own = words(number, kept) if words is not None else None
+    if large and own is None:
+        own = words_of_large(number, kept)
+    return Refusal(number, kept, value, words=own)

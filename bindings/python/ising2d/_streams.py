@@ -33,7 +33,7 @@ def _energy(given: Instance) -> Dict[str, Any]:
 
 
 def _ground(given: Instance) -> Dict[str, Any]:
-    found = given.ground()
+    found = given.ground(loops=True)
     return {"energy": found.energy, "spins": found.spins.tolist(), "loops": _loops(found.loops)}
 
 

@@ -8,7 +8,7 @@ use Rattle.sg_model.specs.declared.refusal.Refusal.{Refusal}
 use Rattle.sg_model.specs.declared.refusal.Refusal.TheVariants.{NoSeam}
 use Rattle.sg_reader.specs.Tests.{Refuses}
 use Rattle.sg_planar.specs.Fit.{Embedding, IsUnfit}
-use Rattle.ising2d_c.specs.Fitting.{Finds, IsFitFault, IsFitOf, IsProofFault, IsWallFault}
+use Rattle.ising2d_c.specs.Fitting.{Finds, IsFitFault, IsFitOf, IsFitProofFault, IsProofFault, IsWallFault}
 use Rattle.ising2d_c.specs.Refusing.{TellsRefusal, IsToldFault}
 use Rattle.sg_model.specs.Faults.{OrNoMemory}
 
@@ -68,6 +68,18 @@ told-proof Given Fails test (Ok inst) before after written gives fails (inr told
     record { fault = told.fault; owed = inr (inst, gives, told.owed); line = told.line }
 told-proof Given Fails test (Err e) before after written gives fails (inl line) = record { fault = e; owed = inl fails; line = line }
 told-proof Given Fails test (Err e) before after written gives fails (inr told) = absurd told
+
+-- the same where the instance has to be fit
+pub told-fit-proof : (Given : Ising → Type 0) (Fails : Fault → Type 0) (test : Option Refusal) (given : Result Embedding Fault)
+    (before after : List ℕ) (written : ℕ) → IfOk given (λ p. IsFitOf Given p.instance) → IfErr given (IsFitFault Given Fails)
+    → IsErrAnd given (λ fault. IsToldFault fault before after written)
+    ⊎ IsOkAnd given (λ _. TellsRefusal (OrNoMemory (Refuses test)) before after written)
+    → TellsRefusal (IsFitProofFault Given Fails test) before after written
+told-fit-proof Given Fails test (Ok p) before after written gives fails (inl line) = absurd line
+told-fit-proof Given Fails test (Ok p) before after written gives fails (inr told) =
+    record { fault = told.fault; owed = inr (p.instance, gives, told.owed); line = told.line }
+told-fit-proof Given Fails test (Err e) before after written gives fails (inl line) = record { fault = e; owed = inl fails; line = line }
+told-fit-proof Given Fails test (Err e) before after written gives fails (inr told) = absurd told
 
 -- what holds of the value that a result was
 pub was-ok : {T E : Type 0} (given : Result T E) (x : T) (P : T → Type 0) → given ≡ Ok x → P x → IsOkAnd given P

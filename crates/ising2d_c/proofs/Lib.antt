@@ -6,3 +6,4 @@ mod StartLemmas
 mod FitLemmas
 mod GraphLemmas
 mod StatedLemmas
+mod NestLemmas

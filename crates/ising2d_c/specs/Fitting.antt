@@ -28,6 +28,11 @@ IsWallFault Given Fails fault =
 abbrev pub IsProofFault : (Ising → Type 0) → (Fault → Type 0) → Option Refusal → Fault → Type 0
 IsProofFault Given Fails test fault = Fails fault ⊎ ((inst : Ising) × Given inst × OrNoMemory (Refuses test) fault)
 
+-- the same where the instance has to be fit
+abbrev pub IsFitProofFault : (Ising → Type 0) → (Fault → Type 0) → Option Refusal → Fault → Type 0
+IsFitProofFault Given Fails test fault =
+    IsFitFault Given Fails fault ⊎ ((inst : Ising) × IsFitOf Given inst × OrNoMemory (Refuses test) fault)
+
 -- an instance that the numbers give, of which this was found
 pub record Finds (Given Study : Ising → Type 0) : Type 0 where
   pub instance : Ising

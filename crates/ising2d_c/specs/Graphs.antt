@@ -2,16 +2,15 @@
 use Rattle.std.specs.Prelude.{◌≡◌, ◌⊎◌, ℕ, ℤ, pos, ◌+◌, ◌*◌, ◌^◌, min, ◌==◌, ◌&&◌, Bool, not, nat_lt, unsigned_abs}
 use Rattle.std.specs.Prelude.{Option, None, option_map, find, List, [], ◌∷◌, length, map, slice_index_or}
 use Rattle.std.specs.List.{range_with_len}
-use Rattle.sg_limits.specs.Limits.{bond_limit}
 use Rattle.sg_model.specs.Ising.{Ising}
 use Rattle.sg_model.specs.WellFormed.{IsInstance}
 use Rattle.sg_model.specs.Faults.{IsRefusalOf, OrNoMemory}
 use Rattle.sg_model.specs.declared.bond.Bond.{Bond}
 use Rattle.sg_model.specs.declared.refusal.Fault.{Fault}
 use Rattle.sg_model.specs.declared.refusal.Refusal.{Refusal}
-use Rattle.sg_model.specs.declared.refusal.Refusal.TheVariants.{BadMember, SelfBond, TooManyBonds}
+use Rattle.sg_model.specs.declared.refusal.Refusal.TheVariants.{BadMember, SelfBond, TooManyBonds, TooManySpins}
 use Rattle.sg_reader.specs.Tests.{first_of, refuse_if, Refuses}
-use Rattle.sg_json.specs.Members.{many_fault}
+use Rattle.ising2d_c.specs.declared.limits.Limits.{Limits}
 use Rattle.ising2d_c.specs.Crossing.{IsJoined}
 use Rattle.ising2d_c.specs.Starts.{entry, starts_fault}
 
@@ -52,42 +51,46 @@ given_ends_fault n ends couplings = first_of (
     ∷ [])
 
 -- the tests of the bonds behind those: they are few, and none joins a spin to itself
-abbrev pub given_bonds_fault : List ℕ → ℕ → Option Refusal
-given_bonds_fault ends bonds = first_of (
-    refuse_if (nat_lt bond_limit bonds) (TooManyBonds (bond_limit + 1))
+abbrev pub given_bonds_fault : Limits → List ℕ → ℕ → Option Refusal
+given_bonds_fault most ends bonds = first_of (
+    refuse_if (nat_lt most.bonds bonds) (TooManyBonds (most.bonds + 1))
     ∷ option_map (λ k. SelfBond k) (first_self ends bonds)
     ∷ [])
 
 -- the tests of the number of spins
-abbrev pub given_spins_fault : ℕ → Option Refusal
-given_spins_fault n = first_of (refuse_if (n == 0) (BadMember 5 0) ∷ many_fault n ∷ [])
+abbrev pub given_spins_fault : Limits → ℕ → Option Refusal
+given_spins_fault most n = first_of (
+    refuse_if (n == 0) (BadMember 5 0)
+    ∷ refuse_if (nat_lt most.spins n) (TooManySpins (pos n))
+    ∷ [])
 
 -- all tests in front of those of an instance
-abbrev pub given_graph_fault : ℕ → List ℕ → List ℤ → List ℕ → List ℕ → Option Refusal
-given_graph_fault n ends couplings starts darts = first_of (
-    given_spins_fault n
+abbrev pub given_graph_fault : Limits → ℕ → List ℕ → List ℤ → List ℕ → List ℕ → Option Refusal
+given_graph_fault most n ends couplings starts darts = first_of (
+    given_spins_fault most n
     ∷ given_ends_fault n ends couplings
     ∷ starts_fault 8 starts n (length darts)
-    ∷ given_bonds_fault ends (length couplings)
+    ∷ given_bonds_fault most ends (length couplings)
     ∷ [])
 
 -- the numbers pass these tests, and this is what they say: the bonds, the darts of each spin, and the seam
-pub record SaysGraph (n : ℕ) (ends : List ℕ) (couplings : List ℤ) (starts darts seam : List ℕ)
+pub record SaysGraph (most : Limits) (n : ℕ) (ends : List ℕ) (couplings : List ℤ) (starts darts seam : List ℕ)
     (inst : Ising) : Type 0 where
-  pub passes : given_graph_fault n ends couplings starts darts ≡ None
+  pub passes : given_graph_fault most n ends couplings starts darts ≡ None
   pub spins : inst.n ≡ n
   pub bonds : inst.bonds ≡ bonds_by ends couplings
   pub rotation : IsJoined (λ list. list) inst.rotation starts darts
   pub seam_is : inst.seam ≡ seam
 
--- the graph of these numbers: its rotation is one, and so is its seam
-pub record IsGraph (n : ℕ) (ends : List ℕ) (couplings : List ℤ) (starts darts seam : List ℕ) (inst : Ising)
-    : Type 0 where
-  pub says : SaysGraph n ends couplings starts darts seam inst
+-- the graph of these numbers, within the limits: its rotation is one, and so is its seam
+pub record IsGraph (most : Limits) (n : ℕ) (ends : List ℕ) (couplings : List ℤ) (starts darts seam : List ℕ)
+    (inst : Ising) : Type 0 where
+  pub says : SaysGraph most n ends couplings starts darts seam inst
   pub instance : IsInstance inst
 
 -- the first thing that is wrong with these numbers: a test fails, or what they say is no instance
-abbrev pub IsGivenGraphFault : ℕ → List ℕ → List ℤ → List ℕ → List ℕ → List ℕ → Fault → Type 0
-IsGivenGraphFault n ends couplings starts darts seam fault =
-    OrNoMemory (Refuses (given_graph_fault n ends couplings starts darts)) fault
-    ⊎ ((inst : Ising) × SaysGraph n ends couplings starts darts seam inst × OrNoMemory (IsRefusalOf inst) fault)
+abbrev pub IsGivenGraphFault
+    : Limits → ℕ → List ℕ → List ℤ → List ℕ → List ℕ → List ℕ → Fault → Type 0
+IsGivenGraphFault most n ends couplings starts darts seam fault =
+    OrNoMemory (Refuses (given_graph_fault most n ends couplings starts darts)) fault
+    ⊎ ((inst : Ising) × SaysGraph most n ends couplings starts darts seam inst × OrNoMemory (IsRefusalOf inst) fault)

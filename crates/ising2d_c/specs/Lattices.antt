@@ -1,7 +1,6 @@
 -- Lattices by numbers: which numbers give one, and what is wrong with others.
 use Rattle.std.specs.Prelude.{◌≡◌, ◌≢◌, ◌⊎◌, ℕ, ℤ, pos, ◌*◌, ◌<◌, ◌^◌, min, ◌==◌, nat_lt, unsigned_abs, if◌then◌else◌}
 use Rattle.std.specs.Prelude.{Option, Some, None, List, length, take, All, slice_index_or}
-use Rattle.sg_limits.specs.Limits.{spin_limit}
 use Rattle.sg_model.specs.Ising.{Ising}
 use Rattle.sg_model.specs.declared.refusal.Fault.{Fault}
 use Rattle.sg_model.specs.declared.refusal.Fault.TheVariants.{Refused, NoMemory}
@@ -10,6 +9,7 @@ use Rattle.sg_model.specs.declared.refusal.Refusal.TheVariants.{BadMember, Coupl
 use Rattle.sg_lattice.specs.declared.kind.Kind.{Kind}
 use Rattle.sg_lattice.specs.declared.kind.Kind.TheVariants.{Square, Triangular, Hexagonal, Cylinder}
 use Rattle.sg_lattice.specs.Tables.{bond_total, lattice, least_cols}
+use Rattle.ising2d_c.specs.declared.limits.Limits.{Limits}
 
 -- the kinds by their numbers
 abbrev pub kind_numbered : ℕ → Option Kind
@@ -20,11 +20,11 @@ kind_numbered number =
     (if number == 3 then Some Cylinder else None)))
 
 -- the first fault of a lattice's size: its rows, its columns, or the number of its spins
-abbrev pub given_size_fault : Kind → ℕ → ℕ → Option Refusal
-given_size_fault kind R C =
+abbrev pub given_size_fault : Limits → Kind → ℕ → ℕ → Option Refusal
+given_size_fault most kind R C =
     if R == 0 then Some (BadMember 3 0) else
     (if nat_lt C (least_cols kind) then Some (BadMember 4 0) else
-    (if nat_lt spin_limit (R * C) then Some (TooManySpins (pos (R * C))) else None))
+    (if nat_lt most.spins (R * C) then Some (TooManySpins (pos (R * C))) else None))
 
 -- a coupling is a number of 64 bits, and not the least of them
 abbrev pub IsCoupling : ℤ → Type 0
@@ -42,11 +42,11 @@ pub record IsCoupledLattice (kind : Kind) (R C : ℕ) (couplings : List ℤ) (in
   pub range : All IsCoupling couplings
   pub is : inst ≡ lattice kind R C couplings
 
--- the lattice of these numbers
-pub record IsLattice (number R C : ℕ) (couplings : List ℤ) (inst : Ising) : Type 0 where
+-- the lattice of these numbers, within the limits
+pub record IsLattice (most : Limits) (number R C : ℕ) (couplings : List ℤ) (inst : Ising) : Type 0 where
   pub kind : Kind
   pub named : kind_numbered number ≡ Some kind
-  pub sized : given_size_fault kind R C ≡ None
+  pub sized : given_size_fault most kind R C ≡ None
   pub coupled : IsCoupledLattice kind R C couplings inst
 
 -- what is wrong where the number of couplings is right: the first that is none, or else the memory
@@ -67,10 +67,11 @@ IsSizedFault (Some refusal) kind R C couplings fault = fault ≡ Refused refusal
 IsSizedFault None kind R C couplings fault = IsCouplingFault kind R C couplings fault
 
 -- the first thing that is wrong: the number of the kind, or else what is wrong with a lattice of that kind
-abbrev pub IsKindFault : Option Kind → ℕ → ℕ → List ℤ → Fault → Type 0
-IsKindFault None R C couplings fault = fault ≡ Refused (BadMember 1 0)
-IsKindFault (Some kind) R C couplings fault = IsSizedFault (given_size_fault kind R C) kind R C couplings fault
+abbrev pub IsKindFault : Limits → Option Kind → ℕ → ℕ → List ℤ → Fault → Type 0
+IsKindFault most None R C couplings fault = fault ≡ Refused (BadMember 1 0)
+IsKindFault most (Some kind) R C couplings fault =
+    IsSizedFault (given_size_fault most kind R C) kind R C couplings fault
 
 -- the first thing that is wrong with these numbers
-abbrev pub IsLatticeFault : ℕ → ℕ → ℕ → List ℤ → Fault → Type 0
-IsLatticeFault number R C couplings fault = IsKindFault (kind_numbered number) R C couplings fault
+abbrev pub IsLatticeFault : Limits → ℕ → ℕ → ℕ → List ℤ → Fault → Type 0
+IsLatticeFault most number R C couplings fault = IsKindFault most (kind_numbered number) R C couplings fault

@@ -1,3 +1,4 @@
+pub mod Limits
 pub mod Crossing
 pub mod Words
 pub mod Running
@@ -8,3 +9,5 @@ pub mod Stated
 pub mod Fitting
 pub mod Refusing
 pub mod Grounds
+pub mod Nests
+pub mod Nested

@@ -1,15 +1,18 @@
 // The calls on a general graph by numbers.
-ghost use Rattle.std.specs.Prelude.{◌≡◌, ◌≢◌, ◌⊎◌, IfOk, IfErr};
+ghost use Rattle.std.specs.Prelude.{◌≡◌, ◌≢◌, ◌⊎◌, ◌≤◌, IfOk, IfErr};
+ghost use Rattle.sg_limits.specs.Limits.{large_bond_limit, large_spin_limit};
 ghost use Rattle.ising2d_c.specs.Crossing.{HandsLoops, Shows};
 ghost use Rattle.ising2d_c.specs.Fitting.{Finds, IsFitFault, IsFitOf, IsProofFault, IsWallFault};
 ghost use Rattle.ising2d_c.specs.Grounds.{IsClustered, IsCosted, IsGround, IsWallAtSeam, Judges};
 ghost use Rattle.ising2d_c.specs.Graphs.{IsGraph, IsGivenGraphFault};
+ghost use Rattle.ising2d_c.specs.Limits.{large_limits, program_limits};
 ghost use Rattle.ising2d_c.specs.Refusing.{TellsRefusal};
 ghost use Rattle.ising2d_c.specs.Stated.{States, stated_fault};
 
 use super::fitting::{fit, with_seam};
 use super::graphs::graph_of;
 use super::judging::judge_into;
+use super::limits::{Limits, large, of_program};
 use super::studies::{clusters_into, costs_into, ground_into, wall_into};
 use sg_model::Fault;
 use sg_planar::Planar;
@@ -35,7 +38,7 @@ pub extern "C" fn ising2d_c_graph_ground(
     line: &mut [u8],
     line_written: &mut usize,
 ) -> u8
-    ensures found { result ≡ 0 → Finds (IsFitOf (IsGraph n ends.now couplings.now dart_starts.now darts.now seam.now)) (λ inst. IsGround inst energy.new (λ s loops. Shows s spins.old spins.new
+    ensures found { result ≡ 0 → Finds (IsFitOf (IsGraph large_limits n ends.now couplings.now dart_starts.now darts.now seam.now)) (λ inst. IsGround inst energy.new (λ s loops. Shows s spins.old spins.new
         × HandsLoops loops (record {
           weights_before = weights.old;
           weights_after = weights.new;
@@ -44,7 +47,7 @@ pub extern "C" fn ising2d_c_graph_ground(
           bonds_before = bonds.old;
           bonds_after = bonds.new;
         }) loop_count.new bond_count.new)) }
-    ensures refused { result ≡ 1 → TellsRefusal (IsFitFault (IsGraph n ends.now couplings.now dart_starts.now darts.now seam.now) (IsGivenGraphFault n ends.now couplings.now dart_starts.now darts.now seam.now)) line.old line.new line_written.new }
+    ensures refused { result ≡ 1 → TellsRefusal (IsFitFault (IsGraph large_limits n ends.now couplings.now dart_starts.now darts.now seam.now) (IsGivenGraphFault large_limits n ends.now couplings.now dart_starts.now darts.now seam.now)) line.old line.new line_written.new }
     ensures codes { (result ≡ 0) ⊎ ((result ≡ 1) ⊎ (result ≡ 6)) }
 
     // Beside another status than 0 no result is written, and beside another than 1 no line.
@@ -52,7 +55,7 @@ pub extern "C" fn ising2d_c_graph_ground(
         × (starts.new ≡ starts.old) × (bonds.new ≡ bonds.old) × (loop_count.new ≡ loop_count.old) × (bond_count.new ≡ bond_count.old) }
     ensures kept_line { result ≢ 1 → (line.new ≡ line.old) × (line_written.new ≡ line_written.old) }
 {
-    let planar = fit_graph(alloc, n, ends, couplings, dart_starts, darts, seam);
+    let planar = fit_graph(alloc, large(), n, ends, couplings, dart_starts, darts, seam);
     ground_into(
         alloc,
         planar,
@@ -84,8 +87,8 @@ pub extern "C" fn ising2d_c_graph_wall(
     line: &mut [u8],
     line_written: &mut usize,
 ) -> u8
-    ensures found { result ≡ 0 → Finds (IsFitOf (IsGraph n ends.now couplings.now dart_starts.now darts.now seam.now)) (λ inst. IsWallAtSeam inst periodic.new antiperiodic.new difference.new) }
-    ensures refused { result ≡ 1 → TellsRefusal (IsWallFault (IsGraph n ends.now couplings.now dart_starts.now darts.now seam.now) (IsGivenGraphFault n ends.now couplings.now dart_starts.now darts.now seam.now)) line.old line.new line_written.new }
+    ensures found { result ≡ 0 → Finds (IsFitOf (IsGraph large_limits n ends.now couplings.now dart_starts.now darts.now seam.now)) (λ inst. IsWallAtSeam inst periodic.new antiperiodic.new difference.new) }
+    ensures refused { result ≡ 1 → TellsRefusal (IsWallFault (IsGraph large_limits n ends.now couplings.now dart_starts.now darts.now seam.now) (IsGivenGraphFault large_limits n ends.now couplings.now dart_starts.now darts.now seam.now)) line.old line.new line_written.new }
     ensures codes { (result ≡ 0) ⊎ ((result ≡ 1) ⊎ (result ≡ 6)) }
 
     // Beside another status than 0 no result is written, and beside another than 1 no line.
@@ -93,7 +96,7 @@ pub extern "C" fn ising2d_c_graph_wall(
         × (difference.new ≡ difference.old) }
     ensures kept_line { result ≢ 1 → (line.new ≡ line.old) × (line_written.new ≡ line_written.old) }
 {
-    let planar = with_seam(fit_graph(alloc, n, ends, couplings, dart_starts, darts, seam));
+    let planar = with_seam(fit_graph(alloc, large(), n, ends, couplings, dart_starts, darts, seam));
     wall_into(
         alloc,
         planar,
@@ -119,15 +122,24 @@ pub extern "C" fn ising2d_c_graph_bonds(
     line: &mut [u8],
     line_written: &mut usize,
 ) -> u8
-    ensures found { result ≡ 0 → Finds (IsFitOf (IsGraph n ends.now couplings.now dart_starts.now darts.now seam.now)) (λ inst. IsCosted inst (λ c. Shows c bond_costs.old bond_costs.new)) }
-    ensures refused { result ≡ 1 → TellsRefusal (IsFitFault (IsGraph n ends.now couplings.now dart_starts.now darts.now seam.now) (IsGivenGraphFault n ends.now couplings.now dart_starts.now darts.now seam.now)) line.old line.new line_written.new }
+    ensures found { result ≡ 0 → Finds (IsFitOf (IsGraph program_limits n ends.now couplings.now dart_starts.now darts.now seam.now)) (λ inst. IsCosted inst (λ c. Shows c bond_costs.old bond_costs.new)) }
+    ensures refused { result ≡ 1 → TellsRefusal (IsFitFault (IsGraph program_limits n ends.now couplings.now dart_starts.now darts.now seam.now) (IsGivenGraphFault program_limits n ends.now couplings.now dart_starts.now darts.now seam.now)) line.old line.new line_written.new }
     ensures codes { (result ≡ 0) ⊎ ((result ≡ 1) ⊎ (result ≡ 6)) }
 
     // Beside another status than 0 no result is written, and beside another than 1 no line.
     ensures kept { result ≢ 0 → bond_costs.new ≡ bond_costs.old }
     ensures kept_line { result ≢ 1 → (line.new ≡ line.old) × (line_written.new ≡ line_written.old) }
 {
-    let planar = fit_graph(alloc, n, ends, couplings, dart_starts, darts, seam);
+    let planar = fit_graph(
+        alloc,
+        of_program(),
+        n,
+        ends,
+        couplings,
+        dart_starts,
+        darts,
+        seam,
+    );
     costs_into(alloc, planar, bond_costs, line, line_written)
 }
 
@@ -145,15 +157,24 @@ pub extern "C" fn ising2d_c_graph_clusters(
     line: &mut [u8],
     line_written: &mut usize,
 ) -> u8
-    ensures found { result ≡ 0 → Finds (IsFitOf (IsGraph n ends.now couplings.now dart_starts.now darts.now seam.now)) (λ inst. IsClustered inst (λ c. Shows c names.old names.new)) }
-    ensures refused { result ≡ 1 → TellsRefusal (IsFitFault (IsGraph n ends.now couplings.now dart_starts.now darts.now seam.now) (IsGivenGraphFault n ends.now couplings.now dart_starts.now darts.now seam.now)) line.old line.new line_written.new }
+    ensures found { result ≡ 0 → Finds (IsFitOf (IsGraph program_limits n ends.now couplings.now dart_starts.now darts.now seam.now)) (λ inst. IsClustered inst (λ c. Shows c names.old names.new)) }
+    ensures refused { result ≡ 1 → TellsRefusal (IsFitFault (IsGraph program_limits n ends.now couplings.now dart_starts.now darts.now seam.now) (IsGivenGraphFault program_limits n ends.now couplings.now dart_starts.now darts.now seam.now)) line.old line.new line_written.new }
     ensures codes { (result ≡ 0) ⊎ ((result ≡ 1) ⊎ (result ≡ 6)) }
 
     // Beside another status than 0 no result is written, and beside another than 1 no line.
     ensures kept { result ≢ 0 → names.new ≡ names.old }
     ensures kept_line { result ≢ 1 → (line.new ≡ line.old) × (line_written.new ≡ line_written.old) }
 {
-    let planar = fit_graph(alloc, n, ends, couplings, dart_starts, darts, seam);
+    let planar = fit_graph(
+        alloc,
+        of_program(),
+        n,
+        ends,
+        couplings,
+        dart_starts,
+        darts,
+        seam,
+    );
     clusters_into(alloc, planar, names, line, line_written)
 }
 
@@ -175,16 +196,16 @@ pub extern "C" fn ising2d_c_graph_check(
     line: &mut [u8],
     line_written: &mut usize,
 ) -> u8
-    ensures found { (result ≡ 0) ⊎ (result ≡ 3) → Finds (IsGraph n ends.now couplings.now dart_starts.now darts.now seam.now)
+    ensures found { (result ≡ 0) ⊎ (result ≡ 3) → Finds (IsGraph large_limits n ends.now couplings.now dart_starts.now darts.now seam.now)
         (Judges (States energy spins.now weights.now starts.now bonds.now) line.old line.new line_written.new result) }
-    ensures refused { result ≡ 1 → TellsRefusal (IsProofFault (IsGraph n ends.now couplings.now dart_starts.now darts.now seam.now)
-        (IsGivenGraphFault n ends.now couplings.now dart_starts.now darts.now seam.now) (stated_fault spins.now weights.now starts.now bonds.now)) line.old line.new line_written.new }
+    ensures refused { result ≡ 1 → TellsRefusal (IsProofFault (IsGraph large_limits n ends.now couplings.now dart_starts.now darts.now seam.now)
+        (IsGivenGraphFault large_limits n ends.now couplings.now dart_starts.now darts.now seam.now) (stated_fault spins.now weights.now starts.now bonds.now)) line.old line.new line_written.new }
     ensures codes { (result ≡ 0) ⊎ ((result ≡ 1) ⊎ ((result ≡ 3) ⊎ (result ≡ 6))) }
 
     // Nothing is written where the memory is wanting.
     ensures kept { result ≡ 6 → (line.new ≡ line.old) × (line_written.new ≡ line_written.old) }
 {
-    let given = graph_of(alloc, n, ends, couplings, dart_starts, darts, seam);
+    let given = graph_of(alloc, large(), n, ends, couplings, dart_starts, darts, seam);
     judge_into(
         alloc,
         given,
@@ -198,9 +219,10 @@ pub extern "C" fn ising2d_c_graph_check(
     )
 }
 
-// The instance of these numbers, fit for a planar solver.
-fn fit_graph(
+/// The instance of these numbers, within the limits and fit for a planar solver.
+pub fn fit_graph(
     alloc: Global,
+    most: Limits,
     n: u32,
     ends: &[u32],
     couplings: &[i64],
@@ -208,11 +230,13 @@ fn fit_graph(
     darts: &[u32],
     seam: &[u32],
 ) -> Result<Planar, Fault>
-    ensures gives { IfOk result (λ planar. IsFitOf (IsGraph n ends.now couplings.now dart_starts.now darts.now seam.now) planar.instance) }
-    ensures refuses { IfErr result (IsFitFault (IsGraph n ends.now couplings.now dart_starts.now darts.now seam.now) (IsGivenGraphFault n ends.now couplings.now dart_starts.now darts.now seam.now)) }
+    requires spins { most.spins ≤ large_spin_limit }
+    requires bonds { most.bonds ≤ large_bond_limit }
+    ensures gives { IfOk result (λ planar. IsFitOf (IsGraph most n ends.now couplings.now dart_starts.now darts.now seam.now) planar.instance) }
+    ensures refuses { IfErr result (IsFitFault (IsGraph most n ends.now couplings.now dart_starts.now darts.now seam.now) (IsGivenGraphFault most n ends.now couplings.now dart_starts.now darts.now seam.now)) }
 {
     fit(
         alloc,
-        graph_of(alloc, n, ends, couplings, dart_starts, darts, seam),
+        graph_of(alloc, most, n, ends, couplings, dart_starts, darts, seam),
     )
 }

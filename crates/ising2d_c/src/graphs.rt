@@ -1,19 +1,19 @@
 // General graphs by numbers. No number is trusted: each is tested, and the first fault is named.
 ghost use Rattle.std.specs.Prelude.{◌≡◌, ◌≢◌, ◌+◌, ◌*◌, ◌<◌, ◌≤◌, ℕ, length, All, None, IfOk, IfErr, IfSome, true};
-ghost use Rattle.sg_limits.specs.Limits.{bond_limit, spin_limit};
+ghost use Rattle.sg_limits.specs.Limits.{large_bond_limit, large_spin_limit};
 ghost use Rattle.sg_model.specs.Ising.{IsBond};
 ghost use Rattle.ising2d_c.specs.Crossing.{IsJoined};
 ghost use Rattle.ising2d_c.specs.Graphs.{IsGraph, IsGivenGraphFault, bond_by as bond_numbered, bonds_by, given_bonds_fault, given_ends_fault, first_bad as first_bad_of, first_self as first_self_of, given_graph_fault, is_given_bond as is_bond_of, given_spins_fault};
 ghost use Rattle.ising2d_c.specs.Starts.{DividesEntries, entry};
 
 use super::lattices::is_coupling;
+use super::limits::Limits;
 use super::starts::{entries_at, refusal_of_starts};
-use sg_limits::{BOND_LIMIT, SPIN_LIMIT};
 use sg_model::{Bond, BondList, Bonds, Fault, Instance, Refusal, Rotation};
 use std::alloc::{AllocError, Global};
 
 /// The general graph of these numbers: two ends for each bond, its coupling, the darts of each spin
-/// from its start on, and the bonds of the seam.
+/// from its start on, and the bonds of the seam; within the limits.
 ///
 /// # Errors
 /// The first that is wrong, in this order: `BadMember` for the number of spins, `TooManySpins`,
@@ -21,6 +21,7 @@ use std::alloc::{AllocError, Global};
 /// `BadRotation`, `BadSeam`.
 pub fn graph_of(
     alloc: Global,
+    most: Limits,
     n: u32,
     ends: &[u32],
     couplings: &[i64],
@@ -28,10 +29,12 @@ pub fn graph_of(
     darts: &[u32],
     seam: &[u32],
 ) -> Result<Instance, Fault>
-    ensures gives { IfOk result (IsGraph n ends.now couplings.now starts.now darts.now seam.now) }
-    ensures refuses { IfErr result (IsGivenGraphFault n ends.now couplings.now starts.now darts.now seam.now) }
+    requires spins { most.spins ≤ large_spin_limit }
+    requires bonds { most.bonds ≤ large_bond_limit }
+    ensures gives { IfOk result (IsGraph most n ends.now couplings.now starts.now darts.now seam.now) }
+    ensures refuses { IfErr result (IsGivenGraphFault most n ends.now couplings.now starts.now darts.now seam.now) }
 {
-    if let Some(refusal) = refusal_of_graph(n, ends, couplings, starts, darts) {
+    if let Some(refusal) = refusal_of_graph(most, n, ends, couplings, starts, darts) {
         return Err(Fault::Refused(refusal));
     }
     let bonds = bonds_of(alloc, ends, couplings)?;
@@ -42,21 +45,23 @@ pub fn graph_of(
 
 // The first test that the numbers fail, in front of those of an instance.
 fn refusal_of_graph(
+    most: Limits,
     n: u32,
     ends: &[u32],
     couplings: &[i64],
     starts: &[usize],
     darts: &[u32],
 ) -> Option<Refusal>
-    ensures value { result ≡ given_graph_fault n ends.now couplings.now starts.now darts.now }
-    ensures spins { result ≡ None → n ≤ spin_limit }
+    requires { most.bonds ≤ large_bond_limit }
+    ensures value { result ≡ given_graph_fault most n ends.now couplings.now starts.now darts.now }
+    ensures spins { result ≡ None → n ≤ most.spins }
     ensures some { result ≡ None → 1 ≤ n }
     ensures ends { result ≡ None → length ends.now ≡ 2 * length couplings.now }
-    ensures few { result ≡ None → length couplings.now ≤ bond_limit }
+    ensures few { result ≡ None → length couplings.now ≤ most.bonds }
     ensures joined { result ≡ None → All (IsBond n) (bonds_by ends.now couplings.now) }
     ensures division { result ≡ None → DividesEntries starts.now n (length darts.now) }
 {
-    if let Some(refusal) = refusal_of_spins(n) {
+    if let Some(refusal) = refusal_of_spins(most, n) {
         return Some(refusal);
     }
     if let Some(refusal) = refusal_of_ends(n, ends, couplings) {
@@ -65,19 +70,19 @@ fn refusal_of_graph(
     if let Some(refusal) = refusal_of_starts(8, starts, n as usize, darts.len()) {
         return Some(refusal);
     }
-    refusal_of_bonds(ends, couplings.len())
+    refusal_of_bonds(most, ends, couplings.len())
 }
 
 // The first fault of the number of spins.
-fn refusal_of_spins(n: u32) -> Option<Refusal>
-    ensures value { result ≡ given_spins_fault n }
+fn refusal_of_spins(most: Limits, n: u32) -> Option<Refusal>
+    ensures value { result ≡ given_spins_fault most n }
     ensures some { result ≡ None → 1 ≤ n }
-    ensures few { result ≡ None → n ≤ spin_limit }
+    ensures few { result ≡ None → n ≤ most.spins }
 {
     if n == 0 {
         return Some(Refusal::BadMember { place: 5, item: 0 });
     }
-    if n > SPIN_LIMIT {
+    if n > most.spins {
         return Some(Refusal::TooManySpins { n: i128::from(n) });
     }
     None
@@ -128,14 +133,15 @@ fn is_bond(n: u32, ends: &[u32], couplings: &[i64], k: usize) -> bool
 }
 
 // The first fault of so many bonds, each of which joins two of the spins.
-fn refusal_of_bonds(ends: &[u32], bonds: usize) -> Option<Refusal>
-    requires { length ends.now ≡ 2 * bonds }
-    ensures value { result ≡ given_bonds_fault ends.now bonds }
-    ensures few { result ≡ None → bonds ≤ bond_limit }
+fn refusal_of_bonds(most: Limits, ends: &[u32], bonds: usize) -> Option<Refusal>
+    requires count { length ends.now ≡ 2 * bonds }
+    requires room { most.bonds ≤ large_bond_limit }
+    ensures value { result ≡ given_bonds_fault most ends.now bonds }
+    ensures few { result ≡ None → bonds ≤ most.bonds }
     ensures apart { result ≡ None → (k : ℕ) → k < bonds → entry ends.now (2 * k) ≢ entry ends.now (2 * k + 1) }
 {
-    if bonds > BOND_LIMIT as usize {
-        return Some(Refusal::TooManyBonds { m: BOND_LIMIT + 1 });
+    if bonds > most.bonds as usize {
+        return Some(Refusal::TooManyBonds { m: most.bonds + 1 });
     }
     match first_self(ends, bonds) {
         Some(bond) => Some(Refusal::SelfBond { bond: bond as u32 }),

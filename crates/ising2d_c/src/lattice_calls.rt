@@ -1,15 +1,18 @@
 // The calls on a lattice by numbers.
-ghost use Rattle.std.specs.Prelude.{◌≡◌, ◌≢◌, ◌⊎◌, IfOk, IfErr};
+ghost use Rattle.std.specs.Prelude.{◌≡◌, ◌≢◌, ◌⊎◌, ◌≤◌, IfOk, IfErr};
+ghost use Rattle.sg_limits.specs.Limits.{large_spin_limit};
 ghost use Rattle.ising2d_c.specs.Crossing.{HandsLoops, Shows};
 ghost use Rattle.ising2d_c.specs.Fitting.{Finds, IsFitFault, IsFitOf, IsProofFault, IsWallFault};
 ghost use Rattle.ising2d_c.specs.Grounds.{IsClustered, IsCosted, IsGround, IsWallAtSeam, Judges};
 ghost use Rattle.ising2d_c.specs.Lattices.{IsLattice, IsLatticeFault};
+ghost use Rattle.ising2d_c.specs.Limits.{large_limits, program_limits};
 ghost use Rattle.ising2d_c.specs.Refusing.{TellsRefusal};
 ghost use Rattle.ising2d_c.specs.Stated.{States, stated_fault};
 
 use super::fitting::{fit, with_seam};
 use super::judging::judge_into;
 use super::lattices::lattice_of;
+use super::limits::{Limits, large, of_program};
 use super::studies::{clusters_into, costs_into, ground_into, wall_into};
 use sg_model::Fault;
 use sg_planar::Planar;
@@ -33,7 +36,7 @@ pub extern "C" fn ising2d_c_ground(
     line: &mut [u8],
     line_written: &mut usize,
 ) -> u8
-    ensures found { result ≡ 0 → Finds (IsFitOf (IsLattice kind rows cols couplings.now)) (λ inst. IsGround inst energy.new (λ s loops. Shows s spins.old spins.new
+    ensures found { result ≡ 0 → Finds (IsFitOf (IsLattice large_limits kind rows cols couplings.now)) (λ inst. IsGround inst energy.new (λ s loops. Shows s spins.old spins.new
         × HandsLoops loops (record {
           weights_before = weights.old;
           weights_after = weights.new;
@@ -42,7 +45,7 @@ pub extern "C" fn ising2d_c_ground(
           bonds_before = bonds.old;
           bonds_after = bonds.new;
         }) loop_count.new bond_count.new)) }
-    ensures refused { result ≡ 1 → TellsRefusal (IsFitFault (IsLattice kind rows cols couplings.now) (IsLatticeFault kind rows cols couplings.now)) line.old line.new line_written.new }
+    ensures refused { result ≡ 1 → TellsRefusal (IsFitFault (IsLattice large_limits kind rows cols couplings.now) (IsLatticeFault large_limits kind rows cols couplings.now)) line.old line.new line_written.new }
     ensures codes { (result ≡ 0) ⊎ ((result ≡ 1) ⊎ (result ≡ 6)) }
 
     // Beside another status than 0 no result is written, and beside another than 1 no line.
@@ -50,7 +53,7 @@ pub extern "C" fn ising2d_c_ground(
         × (starts.new ≡ starts.old) × (bonds.new ≡ bonds.old) × (loop_count.new ≡ loop_count.old) × (bond_count.new ≡ bond_count.old) }
     ensures kept_line { result ≢ 1 → (line.new ≡ line.old) × (line_written.new ≡ line_written.old) }
 {
-    let planar = fit_lattice(alloc, kind, rows, cols, couplings);
+    let planar = fit_lattice(alloc, large(), kind, rows, cols, couplings);
     ground_into(
         alloc,
         planar,
@@ -80,8 +83,8 @@ pub extern "C" fn ising2d_c_wall(
     line: &mut [u8],
     line_written: &mut usize,
 ) -> u8
-    ensures found { result ≡ 0 → Finds (IsFitOf (IsLattice kind rows cols couplings.now)) (λ inst. IsWallAtSeam inst periodic.new antiperiodic.new difference.new) }
-    ensures refused { result ≡ 1 → TellsRefusal (IsWallFault (IsLattice kind rows cols couplings.now) (IsLatticeFault kind rows cols couplings.now)) line.old line.new line_written.new }
+    ensures found { result ≡ 0 → Finds (IsFitOf (IsLattice large_limits kind rows cols couplings.now)) (λ inst. IsWallAtSeam inst periodic.new antiperiodic.new difference.new) }
+    ensures refused { result ≡ 1 → TellsRefusal (IsWallFault (IsLattice large_limits kind rows cols couplings.now) (IsLatticeFault large_limits kind rows cols couplings.now)) line.old line.new line_written.new }
     ensures codes { (result ≡ 0) ⊎ ((result ≡ 1) ⊎ (result ≡ 6)) }
 
     // Beside another status than 0 no result is written, and beside another than 1 no line.
@@ -89,7 +92,7 @@ pub extern "C" fn ising2d_c_wall(
         × (difference.new ≡ difference.old) }
     ensures kept_line { result ≢ 1 → (line.new ≡ line.old) × (line_written.new ≡ line_written.old) }
 {
-    let planar = with_seam(fit_lattice(alloc, kind, rows, cols, couplings));
+    let planar = with_seam(fit_lattice(alloc, large(), kind, rows, cols, couplings));
     wall_into(
         alloc,
         planar,
@@ -113,15 +116,15 @@ pub extern "C" fn ising2d_c_bonds(
     line: &mut [u8],
     line_written: &mut usize,
 ) -> u8
-    ensures found { result ≡ 0 → Finds (IsFitOf (IsLattice kind rows cols couplings.now)) (λ inst. IsCosted inst (λ c. Shows c bond_costs.old bond_costs.new)) }
-    ensures refused { result ≡ 1 → TellsRefusal (IsFitFault (IsLattice kind rows cols couplings.now) (IsLatticeFault kind rows cols couplings.now)) line.old line.new line_written.new }
+    ensures found { result ≡ 0 → Finds (IsFitOf (IsLattice program_limits kind rows cols couplings.now)) (λ inst. IsCosted inst (λ c. Shows c bond_costs.old bond_costs.new)) }
+    ensures refused { result ≡ 1 → TellsRefusal (IsFitFault (IsLattice program_limits kind rows cols couplings.now) (IsLatticeFault program_limits kind rows cols couplings.now)) line.old line.new line_written.new }
     ensures codes { (result ≡ 0) ⊎ ((result ≡ 1) ⊎ (result ≡ 6)) }
 
     // Beside another status than 0 no result is written, and beside another than 1 no line.
     ensures kept { result ≢ 0 → bond_costs.new ≡ bond_costs.old }
     ensures kept_line { result ≢ 1 → (line.new ≡ line.old) × (line_written.new ≡ line_written.old) }
 {
-    let planar = fit_lattice(alloc, kind, rows, cols, couplings);
+    let planar = fit_lattice(alloc, of_program(), kind, rows, cols, couplings);
     costs_into(alloc, planar, bond_costs, line, line_written)
 }
 
@@ -137,15 +140,15 @@ pub extern "C" fn ising2d_c_clusters(
     line: &mut [u8],
     line_written: &mut usize,
 ) -> u8
-    ensures found { result ≡ 0 → Finds (IsFitOf (IsLattice kind rows cols couplings.now)) (λ inst. IsClustered inst (λ c. Shows c names.old names.new)) }
-    ensures refused { result ≡ 1 → TellsRefusal (IsFitFault (IsLattice kind rows cols couplings.now) (IsLatticeFault kind rows cols couplings.now)) line.old line.new line_written.new }
+    ensures found { result ≡ 0 → Finds (IsFitOf (IsLattice program_limits kind rows cols couplings.now)) (λ inst. IsClustered inst (λ c. Shows c names.old names.new)) }
+    ensures refused { result ≡ 1 → TellsRefusal (IsFitFault (IsLattice program_limits kind rows cols couplings.now) (IsLatticeFault program_limits kind rows cols couplings.now)) line.old line.new line_written.new }
     ensures codes { (result ≡ 0) ⊎ ((result ≡ 1) ⊎ (result ≡ 6)) }
 
     // Beside another status than 0 no result is written, and beside another than 1 no line.
     ensures kept { result ≢ 0 → names.new ≡ names.old }
     ensures kept_line { result ≢ 1 → (line.new ≡ line.old) × (line_written.new ≡ line_written.old) }
 {
-    let planar = fit_lattice(alloc, kind, rows, cols, couplings);
+    let planar = fit_lattice(alloc, of_program(), kind, rows, cols, couplings);
     clusters_into(alloc, planar, names, line, line_written)
 }
 
@@ -165,16 +168,16 @@ pub extern "C" fn ising2d_c_check(
     line: &mut [u8],
     line_written: &mut usize,
 ) -> u8
-    ensures found { (result ≡ 0) ⊎ (result ≡ 3) → Finds (IsLattice kind rows cols couplings.now)
+    ensures found { (result ≡ 0) ⊎ (result ≡ 3) → Finds (IsLattice large_limits kind rows cols couplings.now)
         (Judges (States energy spins.now weights.now starts.now bonds.now) line.old line.new line_written.new result) }
-    ensures refused { result ≡ 1 → TellsRefusal (IsProofFault (IsLattice kind rows cols couplings.now)
-        (IsLatticeFault kind rows cols couplings.now) (stated_fault spins.now weights.now starts.now bonds.now)) line.old line.new line_written.new }
+    ensures refused { result ≡ 1 → TellsRefusal (IsProofFault (IsLattice large_limits kind rows cols couplings.now)
+        (IsLatticeFault large_limits kind rows cols couplings.now) (stated_fault spins.now weights.now starts.now bonds.now)) line.old line.new line_written.new }
     ensures codes { (result ≡ 0) ⊎ ((result ≡ 1) ⊎ ((result ≡ 3) ⊎ (result ≡ 6))) }
 
     // Nothing is written where the memory is wanting.
     ensures kept { result ≡ 6 → (line.new ≡ line.old) × (line_written.new ≡ line_written.old) }
 {
-    let given = lattice_of(alloc, kind, rows, cols, couplings);
+    let given = lattice_of(alloc, large(), kind, rows, cols, couplings);
     judge_into(
         alloc,
         given,
@@ -188,16 +191,18 @@ pub extern "C" fn ising2d_c_check(
     )
 }
 
-// The instance of these numbers, fit for a planar solver.
-fn fit_lattice(
+/// The instance of these numbers, within the limits and fit for a planar solver.
+pub fn fit_lattice(
     alloc: Global,
+    most: Limits,
     kind: u8,
     rows: u32,
     cols: u32,
     couplings: &[i64],
 ) -> Result<Planar, Fault>
-    ensures gives { IfOk result (λ planar. IsFitOf (IsLattice kind rows cols couplings.now) planar.instance) }
-    ensures refuses { IfErr result (IsFitFault (IsLattice kind rows cols couplings.now) (IsLatticeFault kind rows cols couplings.now)) }
+    requires { most.spins ≤ large_spin_limit }
+    ensures gives { IfOk result (λ planar. IsFitOf (IsLattice most kind rows cols couplings.now) planar.instance) }
+    ensures refuses { IfErr result (IsFitFault (IsLattice most kind rows cols couplings.now) (IsLatticeFault most kind rows cols couplings.now)) }
 {
-    fit(alloc, lattice_of(alloc, kind, rows, cols, couplings))
+    fit(alloc, lattice_of(alloc, most, kind, rows, cols, couplings))
 }

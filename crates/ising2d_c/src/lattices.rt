@@ -1,31 +1,34 @@
 // Lattices by numbers. No number is trusted: each is tested, and the first fault is named.
-ghost use Rattle.std.specs.Prelude.{◌≡◌, ◌↔◌, ◌<◌, ◌*◌, ◌^◌, length, None, All, IfOk, IfErr, IfSome, IsTrue, nat_lt, unsigned_abs};
+ghost use Rattle.std.specs.Prelude.{◌≡◌, ◌↔◌, ◌<◌, ◌≤◌, ◌*◌, ◌^◌, length, None, All, IfOk, IfErr, IfSome, IsTrue, nat_lt, unsigned_abs};
+ghost use Rattle.sg_limits.specs.Limits.{large_spin_limit};
 ghost use Rattle.sg_lattice.specs.Tables.{IsSize, bond_total};
 ghost use Rattle.ising2d_c.specs.Lattices.{IsCoupledLattice, IsCoupling, IsCouplingFault, IsFirstOut, IsLattice, IsLatticeFault, IsSizedFault, IsValueFault, kind_numbered, given_size_fault};
 
+use super::limits::Limits;
 use sg_lattice::{Kind, bond_count, build};
-use sg_limits::SPIN_LIMIT;
 use sg_model::{Couplings, Fault, Instance, Refusal};
 use sg_reader::least_cols;
 use std::alloc::Global;
 
-/// The lattice of these numbers.
+/// The lattice of these numbers, within the limits.
 ///
 /// # Errors
 /// The first that is wrong of the kind, the rows, the columns, the number of spins, the number of
 /// couplings, and the values of the couplings.
 pub fn lattice_of(
     alloc: Global,
+    most: Limits,
     kind: u8,
     rows: u32,
     cols: u32,
     couplings: &[i64],
 ) -> Result<Instance, Fault>
-    ensures gives { IfOk result (IsLattice kind rows cols couplings.now) }
-    ensures refuses { IfErr result (IsLatticeFault kind rows cols couplings.now) }
+    requires { most.spins ≤ large_spin_limit }
+    ensures gives { IfOk result (IsLattice most kind rows cols couplings.now) }
+    ensures refuses { IfErr result (IsLatticeFault most kind rows cols couplings.now) }
 {
     match kind_by(kind) {
-        Some(kind) => sized_lattice(alloc, kind, rows, cols, couplings),
+        Some(kind) => sized_lattice(alloc, most, kind, rows, cols, couplings),
         None => Err(Fault::Refused(Refusal::BadMember { place: 1, item: 0 })),
     }
 }
@@ -48,8 +51,9 @@ fn kind_by(number: u8) -> Option<Kind>
 }
 
 // The first fault of a size.
-fn fault_of_size(kind: Kind, rows: u32, cols: u32) -> Option<Refusal>
-    ensures value { result ≡ given_size_fault kind rows cols }
+fn fault_of_size(most: Limits, kind: Kind, rows: u32, cols: u32) -> Option<Refusal>
+    requires { most.spins ≤ large_spin_limit }
+    ensures value { result ≡ given_size_fault most kind rows cols }
     ensures size { result ≡ None → IsSize kind rows cols }
 {
     if rows == 0 {
@@ -59,7 +63,7 @@ fn fault_of_size(kind: Kind, rows: u32, cols: u32) -> Option<Refusal>
         return Some(Refusal::BadMember { place: 4, item: 0 });
     }
     let spins = u64::from(rows) * u64::from(cols);
-    if spins > u64::from(SPIN_LIMIT) {
+    if spins > u64::from(most.spins) {
         return Some(Refusal::TooManySpins {
             n: i128::from(spins),
         });
@@ -70,16 +74,18 @@ fn fault_of_size(kind: Kind, rows: u32, cols: u32) -> Option<Refusal>
 // The lattice of a kind, once its size is tested.
 fn sized_lattice(
     alloc: Global,
+    most: Limits,
     kind: Kind,
     rows: u32,
     cols: u32,
     couplings: &[i64],
 ) -> Result<Instance, Fault>
-    ensures size { IfOk result (λ _. given_size_fault kind rows cols ≡ None) }
+    requires { most.spins ≤ large_spin_limit }
+    ensures size { IfOk result (λ _. given_size_fault most kind rows cols ≡ None) }
     ensures gives { IfOk result (IsCoupledLattice kind rows cols couplings.now) }
-    ensures refuses { IfErr result (IsSizedFault (given_size_fault kind rows cols) kind rows cols couplings.now) }
+    ensures refuses { IfErr result (IsSizedFault (given_size_fault most kind rows cols) kind rows cols couplings.now) }
 {
-    match fault_of_size(kind, rows, cols) {
+    match fault_of_size(most, kind, rows, cols) {
         Some(refusal) => Err(Fault::Refused(refusal)),
         None => coupled_lattice(alloc, kind, rows, cols, couplings),
     }

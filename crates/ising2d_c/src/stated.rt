@@ -45,8 +45,8 @@ pub fn stated_by(
     })
 }
 
-// The spins of these values.
-fn spins_by(alloc: Global, values: &[i8]) -> Result<Spins, Fault>
+/// The spins of these values.
+pub fn spins_by(alloc: Global, values: &[i8]) -> Result<Spins, Fault>
     ensures value { IfOk result (λ spins. spins ≡ values.now) }
     ensures few { IfOk result (λ spins. length spins ≤ input_limit) }
     ensures passes { IfOk result (λ _. values_fault values.now ≡ None) }

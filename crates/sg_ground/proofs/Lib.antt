@@ -13,3 +13,4 @@ pub mod Placing
 pub mod Gluing
 pub mod LeastPlaced
 pub mod WalkedSpins
+pub mod NestProofs

@@ -2,3 +2,4 @@ pub mod TightJoin
 pub mod Loops
 pub mod Solution
 pub mod Placed
+pub mod Nested

@@ -11,7 +11,9 @@
 //! as it is.
 //!
 //! Who prints no loops asks `ground_state`, and who prints no spins `least_energy`: by
-//! `least_joins_break` a least join alone gives both.
+//! `least_joins_break` a least join alone gives both. Of large instances the regions that grow on the
+//! dual are the better proof, since their size is that of the instance: `nested_state` hands them out,
+//! and `proves_by_nest` judges such a proof, whoever found it.
 //!
 //! For the next engineer: `solve`, `ground_state` and `least_energy` are the calls that matter, and
 //! what is built on them rests on their contracts and on nothing of their bodies. A part goes one way
@@ -20,7 +22,7 @@
 //! (`odd_cuts_are_loops`, by `proofs/FrustratedCuts.antt`), a packing of cuts is one of loops, and not
 //! too many (`Packings`), a join fits the faces and weighs what the broken bonds weigh (`JoinFits`),
 //! and all of it together (`Solutions`); what every assignment breaks is a join (`BrokenJoins`), and
-//! so a least one needs no loops (`WeighedJoins`). The proof of the whole: what a part gives
+//! so a least one needs no loops (`WeighedJoins`), also where a nest proves it (`NestProofs`). The proof of the whole: what a part gives
 //! (`Shares`), what the parts are together (`PartLists`), and one part more: of spins and energies
 //! (`Placing`), of loops (`Gluing`), and of states than which no other has less energy (`LeastPlaced`).
 #![tactic(auto)]
@@ -30,6 +32,7 @@ mod joins;
 mod law;
 mod least;
 mod loops;
+mod nested;
 mod part;
 mod placed;
 mod solving;
@@ -39,6 +42,7 @@ pub use answer::Answer;
 pub use law::{least_joins_break, odd_cuts_are_loops};
 pub use least::least_energy;
 pub use loops::cut_loops;
+pub use nested::{NestedState, nested_state, proves_by_nest};
 pub use solving::solve;
 pub use state::{State, ground_state};
 use std::alloc::AllocError;

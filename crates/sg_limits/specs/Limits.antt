@@ -1,5 +1,5 @@
--- The limits of the program as numerals: what contracts mean by them.
-use Rattle.std.specs.Prelude.{ℕ, ◌+◌, ◌^◌}
+-- The limits of the program and of the library as numerals: what contracts mean by them.
+use Rattle.std.specs.Prelude.{ℕ, ◌+◌, ◌*◌, ◌^◌}
 
 -- the most spins of an instance
 abbrev pub spin_limit : ℕ
@@ -8,6 +8,14 @@ spin_limit = 2048
 -- the most bonds of an instance
 abbrev pub bond_limit : ℕ
 bond_limit = 6144
+
+-- the most spins of a large instance, which the calls of a library take and the program does not
+abbrev pub large_spin_limit : ℕ
+large_spin_limit = 2 ^ 20
+
+-- the most bonds of a large instance
+abbrev pub large_bond_limit : ℕ
+large_bond_limit = 3 * 2 ^ 20
 
 -- the largest sum of the couplings' sizes of an instance that is solved
 abbrev pub sum_limit : ℕ

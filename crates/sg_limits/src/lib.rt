@@ -1,11 +1,11 @@
-//! The limits of the program, each once, with its reason.
+//! The limits of the program and of the library, each once, with its reason.
 //!
 //! Contracts cite the numerals of `specs/Limits.antt`, so that no constant of the code can change a
 //! theorem; the code uses the constants here, and [`limits_are_as_stated`] shows the two equal.
 #![tactic(auto)]
 
 ghost use Rattle.std.specs.Prelude.{◌≡◌, pos};
-ghost use Rattle.sg_limits.specs.Limits.{spin_limit, bond_limit, sum_limit, forced_limit, cost_limit, input_limit, text_limit, sample_limit, width_limit, json_limit};
+ghost use Rattle.sg_limits.specs.Limits.{spin_limit, bond_limit, large_spin_limit, large_bond_limit, sum_limit, forced_limit, cost_limit, input_limit, text_limit, sample_limit, width_limit, json_limit};
 
 /// The most spins of an instance: a lattice of 45 by 45 fits.
 pub const SPIN_LIMIT: u32 = 2048;
@@ -13,7 +13,14 @@ pub const SPIN_LIMIT: u32 = 2048;
 /// The most bonds of an instance, three for each spin.
 pub const BOND_LIMIT: u32 = 6144;
 
-/// The largest sum of the couplings' sizes of an instance that is solved.
+/// The most spins of a large instance, which the calls of a library take and the program does not: a
+/// lattice of 1024 by 1024.
+pub const LARGE_SPIN_LIMIT: u32 = 1 << 20;
+
+/// The most bonds of a large instance, three for each spin.
+pub const LARGE_BOND_LIMIT: u32 = 3 << 20;
+
+/// The largest sum of the couplings' sizes of an instance that is solved, also of a large one.
 pub const SUM_LIMIT: i128 = 1 << 44;
 
 /// The largest such sum where one coupling is made larger than all others together, to force its bond.
@@ -42,6 +49,8 @@ pub const JSON_LIMIT: usize = 67_108_864;
 pub fn limits_are_as_stated()
     ensures spins { SPIN_LIMIT ≡ spin_limit }
     ensures bonds { BOND_LIMIT ≡ bond_limit }
+    ensures large_spins { LARGE_SPIN_LIMIT ≡ large_spin_limit }
+    ensures large_bonds { LARGE_BOND_LIMIT ≡ large_bond_limit }
     ensures sum { SUM_LIMIT ≡ pos sum_limit }
     ensures forced { FORCED_LIMIT ≡ pos forced_limit }
     ensures cost { COST_LIMIT ≡ pos cost_limit }

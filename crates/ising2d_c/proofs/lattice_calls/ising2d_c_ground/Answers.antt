@@ -1,9 +1,17 @@
-use Rattle.ising2d_c.specs.Fitting.{IsFitOf}
-use Rattle.ising2d_c.specs.Lattices.{IsLattice}
-use Rattle.ising2d_c.proofs.FitLemmas.{finds}
+use Rattle.ising2d_c.specs.Fitting.{IsFitFault, IsFitOf}
+use Rattle.ising2d_c.specs.Lattices.{IsLattice, IsLatticeFault}
+use Rattle.ising2d_c.specs.Limits.{large_limits}
+use Rattle.ising2d_c.proofs.FitLemmas.{finds, told}
 use Rattle.ising2d_c.proofs.lattice_calls.ising2d_c_ground.Goals as goal
 
 pub returns-clause-found : goal.returns-clause-found
 returns-clause-found c = λ done.
-    finds (IsFitOf (IsLattice c.args.kind c.args.rows c.args.cols c.args.couplings.now)) _
-    c.fit_lattice-planar.result c.fit_lattice-planar.ensures.gives (c.ground_into.ensures.found done)
+    finds (IsFitOf (IsLattice large_limits c.args.kind c.args.rows c.args.cols c.args.couplings.now)) _
+    c.fit_lattice-planar.result (rw c.large.ensures.value at c.fit_lattice-planar.ensures.gives) (c.ground_into.ensures.found done)
+
+pub returns-clause-refused : goal.returns-clause-refused
+returns-clause-refused c = λ refused.
+    told (IsFitFault (IsLattice large_limits c.args.kind c.args.rows c.args.cols c.args.couplings.now)
+    (IsLatticeFault large_limits c.args.kind c.args.rows c.args.cols c.args.couplings.now))
+    c.fit_lattice-planar.result c.args.line.now c.ground_into.new.line c.ground_into.new.line_written
+    (rw c.large.ensures.value at c.fit_lattice-planar.ensures.refuses) (c.ground_into.ensures.refused refused)

@@ -1,0 +1,60 @@
+-- A nest that proves a join proves the spins that break just its edges.
+use Rattle.std.proofs.Common.{◌≡◌, ℕ, ◌*◌, ℤ, pos, Some, List, ap, sym, subst, ◌∙◌}
+use Rattle.sg_model.specs.Connected.{IsConnected}
+use Rattle.sg_model.specs.Energy.{IsGroundState, energy}
+use Rattle.sg_model.specs.Spins.{IsAssignment, spin}
+use Rattle.sg_planar.specs.BrokenLists.{BreaksExactly}
+use Rattle.sg_planar.specs.Fit.{Embedding, IsPlanar}
+use Rattle.sg_graph.specs.Join.{IsJoin, IsLeastJoin}
+use Rattle.sg_graph.specs.Web.{Graph}
+use Rattle.sg_dual.specs.Dual.{dual_web, frustrated_faces}
+use Rattle.sg_nest.specs.Nest.{NestProves}
+use Rattle.sg_nest.specs.declared.nest.Nest.{Nest}
+use Rattle.sg_ground.specs.Nested.{IsNestedState, ProvesByNest, broken_bonds}
+use Rattle.sg_ground.proofs.BrokenJoins.{BreaksExactly-broken, IsJoin-broken, ground_by_join}
+use Rattle.sg_ground.proofs.FirstUp.{leasts_up}
+use Rattle.sg_ground.proofs.JoinFits.{broken_weight_is}
+
+module _ (p : Embedding) (planar : IsPlanar p) (s : List ℤ) (assigned : IsAssignment p.instance s) where
+  own_breaks : BreaksExactly p.instance s (broken_bonds p.instance s)
+  own_breaks = BreaksExactly-broken p.instance p.faces planar.instance planar.faces s assigned
+
+  -- the bonds that they break weigh as much as any join of which they break just the edges
+  proves_broken : (edges : List ℕ) (nest : Nest) → BreaksExactly p.instance s edges
+      → NestProves (dual_web p.instance p.faces) (frustrated_faces p.instance p.faces) edges nest
+      → NestProves (dual_web p.instance p.faces) (frustrated_faces p.instance p.faces) (broken_bonds p.instance s) nest
+  proves_broken edges nest breaks proves =
+      let join : IsJoin (dual_web p.instance p.faces) (frustrated_faces p.instance p.faces) (broken_bonds p.instance s) =
+      IsJoin-broken p.instance p.faces planar.instance planar.faces s assigned in
+      record {
+        join = join;
+        fits = proves.fits;
+        tight = proves.tight
+            ∙ ap (λ w. 4 * w) (sym (broken_weight_is p.instance p.faces edges proves.join s breaks)
+            ∙ broken_weight_is p.instance p.faces (broken_bonds p.instance s) join s own_breaks);
+      }
+
+  -- spins of a connected instance that break just the edges of a least join that a nest proves
+  pub nested_by_join : IsConnected p.instance → (e : ℤ) (edges : List ℕ) (nest : Nest) → spin s 0 ≡ pos 1 → BreaksExactly p.instance s edges
+      → energy p.instance s ≡ e → IsLeastJoin (dual_web p.instance p.faces) (frustrated_faces p.instance p.faces) edges
+      → NestProves (dual_web p.instance p.faces) (frustrated_faces p.instance p.faces) edges nest → IsNestedState p s e (Some nest)
+  nested_by_join connected e edges nest first_up breaks stated least proves = record {
+    state = record {
+      ground_state = ground_by_join p.instance p.faces planar.instance planar.faces s edges assigned breaks least;
+      stated = stated;
+      leasts_up = leasts_up p.instance connected s first_up;
+    };
+    proves = record { assignment = assigned; stated = stated; nested = proves_broken edges nest breaks proves };
+  }
+
+  -- where a web, terminals and edges are the dual, the frustrated faces and the broken bonds, and the edges a least join,
+  -- the spins are a ground state
+  pub ground_by_broken : (web : Graph) (terminals broken : List ℕ) → web ≡ dual_web p.instance p.faces
+      → terminals ≡ frustrated_faces p.instance p.faces → broken ≡ broken_bonds p.instance s → IsLeastJoin web terminals broken
+      → IsGroundState p.instance s
+  ground_by_broken web terminals broken same_web same_terminals same least =
+      let here : IsLeastJoin (dual_web p.instance p.faces) (frustrated_faces p.instance p.faces) (broken_bonds p.instance s) =
+      subst (λ (bs : List ℕ). IsLeastJoin (dual_web p.instance p.faces) (frustrated_faces p.instance p.faces) bs) same
+      (subst (λ (ts : List ℕ). IsLeastJoin (dual_web p.instance p.faces) ts broken) same_terminals
+      (subst (λ (g : Graph). IsLeastJoin g terminals broken) same_web least)) in
+      ground_by_join p.instance p.faces planar.instance planar.faces s (broken_bonds p.instance s) assigned own_breaks here

@@ -1,0 +1,7 @@
+use Rattle.std.proofs.Common.{◌≡◌, map, take}
+use Rattle.sg_model.specs.Broken.{is_broken}
+use Rattle.sg_ground.proofs.nested.broken_marks.Given as goal
+
+-- the marks of the bonds so far
+abbrev pub invariant-loop-bond : goal.invariant-loop-bond
+invariant-loop-bond l = l.marks.items ≡ map (is_broken l.spins) (take l.bond-index l.bonds)

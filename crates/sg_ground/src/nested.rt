@@ -1,0 +1,286 @@
+// Ground states with the nests of regions that prove them, and the judge of such proofs.
+ghost use Rattle.std.specs.Prelude.{◌≡◌, ◌↔◌, ◌<◌, ◌≤◌, ◌^◌, ℕ, map, length, All, IfOk, IfSome, IsTrue};
+ghost use Rattle.sg_model.specs.Connected.{IsConnected, LeastsUp};
+ghost use Rattle.sg_model.specs.Broken.{is_broken};
+ghost use Rattle.sg_model.specs.Energy.{energy, IsGroundState};
+ghost use Rattle.sg_model.specs.Ising.{IsBond};
+ghost use Rattle.sg_model.specs.Spins.{IsAssignment};
+ghost use Rattle.sg_planar.specs.Fit.{IsPlanar};
+ghost use Rattle.sg_graph.specs.Join.{AreTerminals, IsLeastJoin};
+ghost use Rattle.sg_dual.specs.Dual.{dual_web, frustrated_faces};
+ghost use Rattle.sg_nest.specs.Nest.{NestProves};
+ghost use Rattle.sg_ground.specs.Nested.{IsNestedState, ProvesByNest, broken_bonds as bonds_broken};
+
+use super::NoMemory;
+use super::joins::dual_of;
+use super::state::ground_state;
+use sg_dual::dual;
+use sg_graph::{EdgeList, Terminals, Web};
+use sg_model::{Bond, BondList, Instance, Spins};
+use sg_nest::{Nest, Places, Regions, proves};
+use sg_planar::{Planar, spin_walk};
+use sg_regions::{NestProposal, propose_nest};
+use sg_sums::places;
+use std::alloc::{AllocError, Global};
+
+// The most faces of a dual: no instance of 2^24 spins and bonds together has more.
+const MOST_FACES: u32 = 1 << 24;
+
+/// A ground state, its energy, and a nest of regions over the faces that proves it, where one was found.
+#[derive(Drop)]
+pub struct NestedState {
+    pub spins: Spins,
+    pub energy: i64,
+    pub nest: Option<Nest>,
+}
+
+/// A ground state with the least spin of each component up, its energy, and a proof of linear size: a
+/// nest of regions over the faces.
+///
+/// [`proves_by_nest`] judges such a proof. Nodes are the faces by their labels, and a radius is in
+/// quarters of the unit of the couplings. That there is a nest no clause says: there is none where no
+/// proposal is accepted, and the ground state is found without it. The only error is want of memory.
+///
+/// Cost: that of `sg_regions::propose_nest` on the frustrated faces and of the judge; of an instance
+/// that is not connected that of [`ground_state`] too.
+pub fn nested_state(alloc: Global, planar: &Planar) -> Result<NestedState, NoMemory>
+    ensures ground_state { IfOk result (λ a. IsGroundState planar.now.instance a.spins) }
+    ensures first_up { IfOk result (λ a. LeastsUp planar.now.instance a.spins) }
+    ensures energy { IfOk result (λ a. a.energy ≡ energy planar.now.instance a.spins) }
+    ensures proves { IfOk result (λ a. IfSome a.nest (ProvesByNest planar.now a.spins a.energy)) }
+    ensures planar { IsPlanar planar.now }
+{
+    nested(alloc, planar)
+}
+
+// The same, as one record.
+fn nested(alloc: Global, planar: &Planar) -> Result<NestedState, NoMemory>
+    ensures state { IfOk result (λ a. IsNestedState planar.now a.spins a.energy a.nest) }
+    ensures planar { IsPlanar planar.now }
+{
+    if planar.is_connected() {
+        nested_whole(alloc, planar)
+    } else {
+        nested_apart(alloc, planar)
+    }
+}
+
+// The state of a connected instance: the broken bonds are the join that is proposed, where its nest
+// proves it.
+fn nested_whole(alloc: Global, planar: &Planar) -> Result<NestedState, NoMemory>
+    requires connected { IsConnected planar.now.instance }
+    ensures state { IfOk result (λ a. IsNestedState planar.now a.spins a.energy a.nest) }
+    ensures planar { IsPlanar planar.now }
+{
+    let (web, frustrated) = dual_of(alloc, planar)?;
+    match proved_proposal(alloc, &web, &frustrated)? {
+        Some(proposal) => state_of_proposal(alloc, planar, proposal),
+        None => bare_state(alloc, planar),
+    }
+}
+
+// The state that breaks just the edges of a proposal that is proved.
+fn state_of_proposal(
+    alloc: Global,
+    planar: &Planar,
+    proposal: NestProposal,
+) -> Result<NestedState, NoMemory>
+    requires connected { IsConnected planar.now.instance }
+    requires proved { NestProves (dual_web planar.now.instance planar.now.faces)
+        (frustrated_faces planar.now.instance planar.now.faces) proposal.edges proposal.nest }
+    requires least { IsLeastJoin (dual_web planar.now.instance planar.now.faces)
+        (frustrated_faces planar.now.instance planar.now.faces) proposal.edges }
+    ensures { IfOk result (λ a. IsNestedState planar.now a.spins a.energy a.nest) }
+{
+    let spins = spin_walk(alloc, planar, &proposal.edges)?;
+    let energy = planar.instance().energy(&spins) as i64;
+    Ok(NestedState {
+        spins,
+        energy,
+        nest: Some(proposal.nest),
+    })
+}
+
+// The state of an instance of several components, with a nest over the faces of all of them, where that
+// proves it.
+fn nested_apart(alloc: Global, planar: &Planar) -> Result<NestedState, NoMemory>
+    ensures state { IfOk result (λ a. IsNestedState planar.now a.spins a.energy a.nest) }
+    ensures planar { IsPlanar planar.now }
+{
+    let (web, frustrated) = whole_dual(alloc, planar)?;
+    match proposal_of(alloc, &web, &frustrated)? {
+        Some(proposal) => judged_state(alloc, planar, proposal.nest),
+        None => bare_state(alloc, planar),
+    }
+}
+
+// A ground state, with the nest where that proves it.
+fn judged_state(alloc: Global, planar: &Planar, nest: Nest) -> Result<NestedState, NoMemory>
+    ensures { IfOk result (λ a. IsNestedState planar.now a.spins a.energy a.nest) }
+{
+    let state = ground_state(alloc, planar)?;
+    if proves_by_nest(alloc, planar, state.energy, &state.spins, &nest)? {
+        return Ok(NestedState {
+            spins: state.spins,
+            energy: state.energy,
+            nest: Some(nest),
+        });
+    }
+    Ok(NestedState {
+        spins: state.spins,
+        energy: state.energy,
+        nest: None,
+    })
+}
+
+// A ground state without a nest.
+fn bare_state(alloc: Global, planar: &Planar) -> Result<NestedState, NoMemory>
+    ensures { IfOk result (λ a. IsNestedState planar.now a.spins a.energy a.nest) }
+{
+    let state = ground_state(alloc, planar)?;
+    Ok(NestedState {
+        spins: state.spins,
+        energy: state.energy,
+        nest: None,
+    })
+}
+
+// Edges with a nest that proves them a least join, where such are proposed.
+fn proved_proposal(
+    alloc: Global,
+    web: &Web,
+    terminals: &Terminals,
+) -> Result<Option<NestProposal>, NoMemory>
+    requires { AreTerminals web.now terminals.now }
+    ensures proves { IfOk result (λ found. IfSome found (λ p. NestProves web.now terminals.now p.edges p.nest)) }
+    ensures least { IfOk result (λ found. IfSome found (λ p. IsLeastJoin web.now terminals.now p.edges)) }
+{
+    let Some(proposal) = proposal_of(alloc, web, terminals)? else {
+        return Ok(None);
+    };
+    if !proves(alloc, web, terminals, &proposal.edges, &proposal.nest)? {
+        return Ok(None);
+    }
+    Ok(Some(proposal))
+}
+
+// What is proposed; without terminals no edges, and no regions.
+fn proposal_of(
+    alloc: Global,
+    web: &Web,
+    terminals: &Terminals,
+) -> Result<Option<NestProposal>, NoMemory> {
+    if !terminals.is_empty() {
+        return propose_nest(alloc, web, terminals);
+    }
+    let places = vec![in alloc; None; web.nodes() as usize]?;
+    Ok(Some(NestProposal {
+        edges: EdgeList::new(alloc),
+        nest: Nest {
+            regions: Regions::new(alloc),
+            places: Places::from_vec(places),
+        },
+    }))
+}
+
+/// Whether the spins have the energy, and the nest over the faces proves that no assignment has less.
+/// The instance need not be connected.
+///
+/// It takes time linear in spins, bonds and regions, but for what `sg_nest::proves` says. The only error
+/// is want of memory; more than 2^24 faces are answered with it.
+pub fn proves_by_nest(
+    alloc: Global,
+    planar: &Planar,
+    stated: i64,
+    spins: &Spins,
+    nest: &Nest,
+) -> Result<bool, NoMemory>
+    ensures proves { IfOk result (λ yes. IsTrue yes ↔ ProvesByNest planar.now spins.now stated nest.now) }
+    ensures least { IfOk result (λ yes. IsTrue yes → IsGroundState planar.now.instance spins.now) }
+    ensures planar { IsPlanar planar.now }
+{
+    if !is_assignment(planar, spins) {
+        return Ok(false);
+    }
+    if !has_energy(planar, stated, spins) {
+        return Ok(false);
+    }
+    proves_broken(alloc, planar, spins, nest)
+}
+
+// Whether there is a spin for each of the instance.
+fn is_assignment(planar: &Planar, spins: &Spins) -> bool
+    ensures value { IsTrue result ↔ IsAssignment planar.now.instance spins.now }
+    ensures planar { IsPlanar planar.now }
+{
+    spins.as_slice().len() == planar.instance().n() as usize
+}
+
+// Whether the spins have this energy.
+fn has_energy(planar: &Planar, stated: i64, spins: &Spins) -> bool
+    requires { IsAssignment planar.now.instance spins.now }
+    ensures { IsTrue result ↔ (energy planar.now.instance spins.now ≡ stated) }
+{
+    planar.instance().energy(spins) == i128::from(stated)
+}
+
+// Whether the nest proves the bonds that the spins break a least join.
+fn proves_broken(
+    alloc: Global,
+    planar: &Planar,
+    spins: &Spins,
+    nest: &Nest,
+) -> Result<bool, NoMemory>
+    requires { IsAssignment planar.now.instance spins.now }
+    ensures proves { IfOk result (λ yes. IsTrue yes ↔ NestProves (dual_web planar.now.instance planar.now.faces)
+        (frustrated_faces planar.now.instance planar.now.faces) (bonds_broken planar.now.instance spins.now) nest.now) }
+    ensures least { IfOk result (λ yes. IsTrue yes → IsGroundState planar.now.instance spins.now) }
+{
+    let (web, frustrated) = whole_dual(alloc, planar)?;
+    let broken = broken_bonds(alloc, planar.instance(), spins)?;
+    proves(alloc, &web, &frustrated, &broken, nest)
+}
+
+// The dual, and the frustrated faces.
+fn whole_dual(alloc: Global, planar: &Planar) -> Result<(Web, Terminals), NoMemory>
+    ensures web { IfOk result (λ d. d.0 ≡ dual_web planar.now.instance planar.now.faces) }
+    ensures frustrated { IfOk result (λ d. d.1 ≡ frustrated_faces planar.now.instance planar.now.faces) }
+    ensures terminals { IfOk result (λ d. AreTerminals d.0 d.1) }
+    ensures planar { IsPlanar planar.now }
+{
+    let faces = planar.faces();
+    if faces.count() > MOST_FACES {
+        return Err(AllocError);
+    }
+    dual(alloc, planar.instance(), faces)
+}
+
+// The bonds that the spins break.
+fn broken_bonds(alloc: Global, inst: &Instance, spins: &Spins) -> Result<BondList, NoMemory>
+    requires { IsAssignment inst.now spins.now }
+    ensures { IfOk result (λ broken. broken ≡ bonds_broken inst.now spins.now) }
+{
+    let marks = broken_marks(alloc, inst.bonds().as_slice(), spins)?;
+    places(alloc, &marks)
+}
+
+// For each bond whether the spins break it.
+fn broken_marks(alloc: Global, bonds: &[Bond], spins: &Spins) -> Result<Vec<bool>, NoMemory>
+    requires { All (IsBond (length spins.now)) bonds.now }
+    ensures { IfOk result (λ marks. marks.items ≡ map (is_broken spins.now) bonds.now) }
+{
+    let mut marks = Vec::new(alloc);
+    for bond in bonds {
+        marks.push(breaks(bond, spins))?;
+    }
+    Ok(marks)
+}
+
+// Whether the spins break the bond.
+fn breaks(bond: &Bond, spins: &Spins) -> bool
+    requires { IsBond (length spins.now) bond.now }
+    ensures { result ≡ is_broken spins.now bond.now }
+{
+    let like = spins.at(bond.u as usize) == spins.at(bond.v as usize);
+    (bond.j < 0) == like
+}
