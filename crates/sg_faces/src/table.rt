@@ -14,7 +14,8 @@ use std::alloc::Global;
 fn reverse(dart: u32) -> u32
     ensures { result ≡ rev dart }
 {
-    if dart % 2 == 0 { dart + 1 } else { dart - 1 }
+    let second = dart % 2;
+    (dart - second) + (1 - second)
 }
 
 // Enters, at the reverse of each dart of a spin, the dart that follows it round the spin.

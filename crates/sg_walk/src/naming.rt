@@ -46,7 +46,7 @@ fn name_all(
     requires start { NamedTo inst.now (has set.now) marks.old names.old 0 }
     ensures { OnOk result (AllNamed inst.now (has set.now) names.new) }
 {
-    let mut order = Vec::with_capacity(alloc, inst.n() as usize)?;
+    let mut order = Vec::new(alloc);
     for spin in 0..inst.n() {
         name_from(inst, set, spin, marks, &mut order, names)?;
     }

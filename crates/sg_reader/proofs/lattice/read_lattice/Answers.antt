@@ -12,7 +12,8 @@ use Rattle.sg_reader.proofs.SizeLaws.{lattice-bonds, lattice-spins}
 use Rattle.sg_reader.proofs.lattice.read_lattice.Goals as goal
 
 pub loop-body-init : goal.loop-body-init
-loop-body-init c = none-yet (header.Lattice c.args.kind c.args.rows c.args.cols) c.args.records.now _ c.in_ok-body.ensures.couplings c.in_ok-body.ensures.seam c.requires.few
+loop-body-init c = none-yet (header.Lattice c.args.kind c.args.rows c.args.cols) c.args.records.now _ c.in_ok-body.ensures.couplings c.in_ok-body.ensures.seam
+    c.requires.few
 
 pub returns-in_err-end_lattice-clause-fault : goal.returns-in_err-end_lattice-clause-fault
 returns-in_err-end_lattice-clause-fault c =
@@ -44,7 +45,8 @@ returns-in_err-inst-clause-fault c =
     let end : says_end r ≡ true = sym c.begins.ensures ∙ c.if-begins.true in
     let wanted = bond_total c.args.kind c.args.rows c.args.cols in
     let pass : lattice_end_fault wanted (length c.loop-body.body.couplings) r ≡ None =
-    ap (λ (n : ℕ). lattice_end_fault wanted n r) (sym c.len.ensures) ∙ ap (λ (n : ℕ). lattice_end_fault n c.len.result r) (sym c.bond_count-bonds.ensures)
+    ap (λ (n : ℕ). lattice_end_fault wanted n r) (sym c.len.ensures)
+    ∙ ap (λ (n : ℕ). lattice_end_fault n c.len.result r) (sym c.bond_count-bonds.ensures)
     ∙ c.in_ok-end_lattice.ensures.passes in
     let is_ended = ended-lattice c.args.kind c.args.rows c.args.cols c.args.records.now c.loop-body.records c.next.new.self r c.loop-body.body sf next end
     pass in
@@ -61,7 +63,8 @@ returns-then-begins-clause-read c =
     let end : says_end r ≡ true = sym c.begins.ensures ∙ c.if-begins.true in
     let wanted = bond_total c.args.kind c.args.rows c.args.cols in
     let pass : lattice_end_fault wanted (length c.loop-body.body.couplings) r ≡ None =
-    ap (λ (n : ℕ). lattice_end_fault wanted n r) (sym c.len.ensures) ∙ ap (λ (n : ℕ). lattice_end_fault n c.len.result r) (sym c.bond_count-bonds.ensures)
+    ap (λ (n : ℕ). lattice_end_fault wanted n r) (sym c.len.ensures)
+    ∙ ap (λ (n : ℕ). lattice_end_fault n c.len.result r) (sym c.bond_count-bonds.ensures)
     ∙ c.in_ok-end_lattice.ensures.passes in
     record {
       body = sf.body;
