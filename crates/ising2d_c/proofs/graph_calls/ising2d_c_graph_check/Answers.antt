@@ -19,5 +19,7 @@ returns-clause-refused c = λ refused.
     told-proof (IsGraph large_limits c.args.n c.args.ends.now c.args.couplings.now c.args.dart_starts.now c.args.darts.now c.args.seam.now)
     (IsGivenGraphFault large_limits c.args.n c.args.ends.now c.args.couplings.now c.args.dart_starts.now c.args.darts.now c.args.seam.now)
     (stated_fault c.args.spins.now c.args.weights.now c.args.starts.now c.args.bonds.now) c.graph_of-given.result
-    c.args.line.now c.judge_into.new.line c.judge_into.new.line_written (rw c.large.ensures.value at c.graph_of-given.ensures.gives) (rw c.large.ensures.value at c.graph_of-given.ensures.refuses)
+    c.args.line.now c.judge_into.new.line c.judge_into.new.line_written
+    (rw c.large.ensures.value at c.graph_of-given.ensures.gives)
+    (rw c.large.ensures.value at c.graph_of-given.ensures.refuses)
     (c.judge_into.ensures.refused refused)

@@ -16,6 +16,7 @@ returns-clause-refused c = λ refused.
     let Given = IsGraph large_limits c.args.n c.args.ends.now c.args.couplings.now c.args.dart_starts.now c.args.darts.now c.args.seam.now in
     let Fails = IsGivenGraphFault large_limits c.args.n c.args.ends.now c.args.couplings.now c.args.dart_starts.now c.args.darts.now c.args.seam.now in
     told (IsWallFault Given Fails) c.with_seam-planar.result c.args.line.now c.wall_into.new.line c.wall_into.new.line_written
-    (seam-refused Given Fails c.fit_graph.result c.with_seam-planar.result (rw c.large.ensures.value at c.fit_graph.ensures.gives) (rw c.large.ensures.value at c.fit_graph.ensures.refuses)
+    (seam-refused Given Fails c.fit_graph.result c.with_seam-planar.result (rw c.large.ensures.value at c.fit_graph.ensures.gives)
+    (rw c.large.ensures.value at c.fit_graph.ensures.refuses)
     c.with_seam-planar.ensures.refuses)
     (c.wall_into.ensures.refused refused)

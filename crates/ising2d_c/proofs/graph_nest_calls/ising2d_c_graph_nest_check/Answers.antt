@@ -17,5 +17,7 @@ returns-clause-refused c = λ refused.
     told-fit-proof (IsGraph large_limits c.args.n c.args.ends.now c.args.couplings.now c.args.dart_starts.now c.args.darts.now c.args.seam.now)
     (IsGivenGraphFault large_limits c.args.n c.args.ends.now c.args.couplings.now c.args.dart_starts.now c.args.darts.now c.args.seam.now)
     (nest_fault c.args.spins.now c.args.parents.now c.args.radii.now c.args.regions.now c.args.at_radii.now) c.fit_graph-planar.result
-    c.args.line.now c.judge_nest.new.line c.judge_nest.new.line_written (rw c.large.ensures.value at c.fit_graph-planar.ensures.gives) (rw c.large.ensures.value at c.fit_graph-planar.ensures.refuses)
+    c.args.line.now c.judge_nest.new.line c.judge_nest.new.line_written
+    (rw c.large.ensures.value at c.fit_graph-planar.ensures.gives)
+    (rw c.large.ensures.value at c.fit_graph-planar.ensures.refuses)
     (c.judge_nest.ensures.refused refused)

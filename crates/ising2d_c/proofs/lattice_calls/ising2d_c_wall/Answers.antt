@@ -16,6 +16,7 @@ returns-clause-refused c = λ refused.
     let Given = IsLattice large_limits c.args.kind c.args.rows c.args.cols c.args.couplings.now in
     let Fails = IsLatticeFault large_limits c.args.kind c.args.rows c.args.cols c.args.couplings.now in
     told (IsWallFault Given Fails) c.with_seam-planar.result c.args.line.now c.wall_into.new.line c.wall_into.new.line_written
-    (seam-refused Given Fails c.fit_lattice.result c.with_seam-planar.result (rw c.large.ensures.value at c.fit_lattice.ensures.gives) (rw c.large.ensures.value at c.fit_lattice.ensures.refuses)
+    (seam-refused Given Fails c.fit_lattice.result c.with_seam-planar.result (rw c.large.ensures.value at c.fit_lattice.ensures.gives)
+    (rw c.large.ensures.value at c.fit_lattice.ensures.refuses)
     c.with_seam-planar.ensures.refuses)
     (c.wall_into.ensures.refused refused)

@@ -17,5 +17,7 @@ returns-clause-refused c = λ refused.
     told-fit-proof (IsLattice large_limits c.args.kind c.args.rows c.args.cols c.args.couplings.now)
     (IsLatticeFault large_limits c.args.kind c.args.rows c.args.cols c.args.couplings.now)
     (nest_fault c.args.spins.now c.args.parents.now c.args.radii.now c.args.regions.now c.args.at_radii.now) c.fit_lattice-planar.result
-    c.args.line.now c.judge_nest.new.line c.judge_nest.new.line_written (rw c.large.ensures.value at c.fit_lattice-planar.ensures.gives) (rw c.large.ensures.value at c.fit_lattice-planar.ensures.refuses)
+    c.args.line.now c.judge_nest.new.line c.judge_nest.new.line_written
+    (rw c.large.ensures.value at c.fit_lattice-planar.ensures.gives)
+    (rw c.large.ensures.value at c.fit_lattice-planar.ensures.refuses)
     (c.judge_nest.ensures.refused refused)
