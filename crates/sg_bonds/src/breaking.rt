@@ -22,9 +22,18 @@ pub(crate) fn part_costs(alloc: Global, planar: &Planar) -> Result<CostList, NoM
     ensures { IfOk result (AreCosts planar.now.instance) }
 {
     let mut states = BondStates::new(alloc, planar)?;
-    let least = least_state(alloc, planar, &mut states)?;
-    let known = gather(alloc, planar, &mut states, &least)?;
-    listed(alloc, planar, &mut states, &least, &known)
+    costs_by(alloc, planar, &mut states)
+}
+
+// The costs in one component, by its states.
+fn costs_by(alloc: Global, planar: &Planar, states: &mut BondStates) -> Result<CostList, NoMemory>
+    requires sum { weight planar.now.instance ≤ sum_limit }
+    requires states { states.old ≡ planar.now }
+    ensures { IfOk result (AreCosts planar.now.instance) }
+{
+    let least = least_state(alloc, planar, states)?;
+    let known = gather(alloc, planar, states, &least)?;
+    listed(alloc, planar, states, &least, &known)
 }
 
 /// Whether a bond of this cost is rigid.

@@ -47,12 +47,20 @@ pub(crate) fn rigid_marks(alloc: Global, planar: &Planar) -> Result<Vec<bool>, N
 {
     let answer = solve(alloc, planar)?;
     let mut told = first_told(alloc, planar.instance(), &answer)?;
-    let least = State {
-        spins: answer.spins,
-        energy: answer.energy,
-    };
+    let least = without_loops(answer);
     let mut states = BondStates::new(alloc, planar)?;
     gather_rigid(alloc, planar, &mut states, &least, &mut told)
+}
+
+// The spins of an answer and their energy.
+fn without_loops(answer: Answer) -> State
+    ensures spins { result.spins ≡ answer.spins }
+    ensures energy { result.energy ≡ answer.energy }
+{
+    State {
+        spins: answer.spins,
+        energy: answer.energy,
+    }
 }
 
 // Whether each bond is rigid, one by one.
