@@ -7,3 +7,4 @@ mod FitLemmas
 mod GraphLemmas
 mod StatedLemmas
 mod NestLemmas
+mod SizeLemmas

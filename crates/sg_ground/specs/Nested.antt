@@ -1,5 +1,5 @@
 -- Proofs of ground states by nests of regions over the faces, in linear size.
-use Rattle.std.specs.Prelude.{◌≡◌, ℕ, ℤ, List, Option, IfSome}
+use Rattle.std.specs.Prelude.{◌≡◌, ◌≤◌, ◌+◌, ◌^◌, ℕ, ℤ, List, Option, IfSome}
 use Rattle.sg_sums.specs.Sets.{chosen_below}
 use Rattle.sg_model.specs.Ising.{Ising, bond_at, bond_count}
 use Rattle.sg_model.specs.Broken.{is_broken}
@@ -10,6 +10,11 @@ use Rattle.sg_dual.specs.Dual.{dual_web, frustrated_faces}
 use Rattle.sg_nest.specs.Nest.{NestProves}
 use Rattle.sg_nest.specs.declared.nest.Nest.{Nest}
 use Rattle.sg_ground.specs.Solution.{IsState}
+
+-- spins and bonds together are no more than a web has nodes at most, so that all faces are nodes, of however many
+-- components
+abbrev pub IsSmall : Ising → Type 0
+IsSmall inst = inst.n + bond_count inst ≤ 2 ^ 24
 
 -- the bonds that the spins break, rising
 abbrev pub broken_bonds : Ising → List ℤ → List ℕ

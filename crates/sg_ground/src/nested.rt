@@ -9,7 +9,7 @@ ghost use Rattle.sg_planar.specs.Fit.{IsPlanar};
 ghost use Rattle.sg_graph.specs.Join.{AreTerminals, IsLeastJoin};
 ghost use Rattle.sg_dual.specs.Dual.{dual_web, frustrated_faces};
 ghost use Rattle.sg_nest.specs.Nest.{NestProves};
-ghost use Rattle.sg_ground.specs.Nested.{IsNestedState, ProvesByNest, broken_bonds as bonds_broken};
+ghost use Rattle.sg_ground.specs.Nested.{IsNestedState, IsSmall, ProvesByNest, broken_bonds as bonds_broken};
 
 use super::NoMemory;
 use super::joins::dual_of;
@@ -21,10 +21,10 @@ use sg_nest::{Nest, Places, Regions, proves};
 use sg_planar::{Planar, spin_walk};
 use sg_regions::{NestProposal, propose_nest};
 use sg_sums::places;
-use std::alloc::{AllocError, Global};
+use std::alloc::Global;
 
-// The most faces of a dual: no instance of 2^24 spins and bonds together has more.
-const MOST_FACES: u32 = 1 << 24;
+// The most spins and bonds together of an instance whose faces are sure to be few enough for a web.
+const MOST_TOGETHER: usize = 1 << 24;
 
 /// A ground state, its energy, and a nest of regions over the faces that proves it, where one was found.
 #[derive(Drop)]
@@ -39,7 +39,8 @@ pub struct NestedState {
 ///
 /// [`proves_by_nest`] judges such a proof. Nodes are the faces by their labels, and a radius is in
 /// quarters of the unit of the couplings. That there is a nest no clause says: there is none where no
-/// proposal is accepted, and the ground state is found without it. The only error is want of memory.
+/// proposal is accepted, nor for several components of more than 2^24 spins and bonds together, and the
+/// ground state is found without it. The only error is want of memory.
 ///
 /// Cost: that of `sg_regions::propose_nest` on the frustrated faces and of the judge; of an instance
 /// that is not connected that of [`ground_state`] too.
@@ -107,6 +108,9 @@ fn nested_apart(alloc: Global, planar: &Planar) -> Result<NestedState, NoMemory>
     ensures state { IfOk result (λ a. IsNestedState planar.now a.spins a.energy a.nest) }
     ensures planar { IsPlanar planar.now }
 {
+    if !is_small(planar) {
+        return bare_state(alloc, planar);
+    }
     let (web, frustrated) = whole_dual(alloc, planar)?;
     match proposal_of(alloc, &web, &frustrated)? {
         Some(proposal) => judged_state(alloc, planar, proposal.nest),
@@ -114,8 +118,18 @@ fn nested_apart(alloc: Global, planar: &Planar) -> Result<NestedState, NoMemory>
     }
 }
 
+// Whether spins and bonds together are few enough for all faces to be nodes of a web.
+fn is_small(planar: &Planar) -> bool
+    ensures small { IsTrue result → IsSmall planar.now.instance }
+    ensures planar { IsPlanar planar.now }
+{
+    let inst = planar.instance();
+    inst.n() as usize + inst.bonds().len() <= MOST_TOGETHER
+}
+
 // A ground state, with the nest where that proves it.
 fn judged_state(alloc: Global, planar: &Planar, nest: Nest) -> Result<NestedState, NoMemory>
+    requires { IsSmall planar.now.instance }
     ensures { IfOk result (λ a. IsNestedState planar.now a.spins a.energy a.nest) }
 {
     let state = ground_state(alloc, planar)?;
@@ -187,7 +201,7 @@ fn proposal_of(
 /// The instance need not be connected.
 ///
 /// It takes time linear in spins, bonds and regions, but for what `sg_nest::proves` says. The only error
-/// is want of memory; more than 2^24 faces are answered with it.
+/// is want of memory.
 pub fn proves_by_nest(
     alloc: Global,
     planar: &Planar,
@@ -195,6 +209,7 @@ pub fn proves_by_nest(
     spins: &Spins,
     nest: &Nest,
 ) -> Result<bool, NoMemory>
+    requires { IsSmall planar.now.instance }
     ensures proves { IfOk result (λ yes. IsTrue yes ↔ ProvesByNest planar.now spins.now stated nest.now) }
     ensures least { IfOk result (λ yes. IsTrue yes → IsGroundState planar.now.instance spins.now) }
     ensures planar { IsPlanar planar.now }
@@ -231,7 +246,8 @@ fn proves_broken(
     spins: &Spins,
     nest: &Nest,
 ) -> Result<bool, NoMemory>
-    requires { IsAssignment planar.now.instance spins.now }
+    requires assignment { IsAssignment planar.now.instance spins.now }
+    requires small { IsSmall planar.now.instance }
     ensures proves { IfOk result (λ yes. IsTrue yes ↔ NestProves (dual_web planar.now.instance planar.now.faces)
         (frustrated_faces planar.now.instance planar.now.faces) (bonds_broken planar.now.instance spins.now) nest.now) }
     ensures least { IfOk result (λ yes. IsTrue yes → IsGroundState planar.now.instance spins.now) }
@@ -243,16 +259,13 @@ fn proves_broken(
 
 // The dual, and the frustrated faces.
 fn whole_dual(alloc: Global, planar: &Planar) -> Result<(Web, Terminals), NoMemory>
+    requires { IsSmall planar.now.instance }
     ensures web { IfOk result (λ d. d.0 ≡ dual_web planar.now.instance planar.now.faces) }
     ensures frustrated { IfOk result (λ d. d.1 ≡ frustrated_faces planar.now.instance planar.now.faces) }
     ensures terminals { IfOk result (λ d. AreTerminals d.0 d.1) }
     ensures planar { IsPlanar planar.now }
 {
-    let faces = planar.faces();
-    if faces.count() > MOST_FACES {
-        return Err(AllocError);
-    }
-    dual(alloc, planar.instance(), faces)
+    dual(alloc, planar.instance(), planar.faces())
 }
 
 // The bonds that the spins break.

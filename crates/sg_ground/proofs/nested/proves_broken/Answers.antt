@@ -18,6 +18,6 @@ returns-clause-least c =
     IfOk-weaker c.proves.result (λ (yes : Bool). IsTrue yes → IsLeastJoin web terminals broken)
     (λ (yes : Bool). IsTrue yes → IsGroundState p.instance c.args.spins.now)
     (λ (yes : Bool) least so.
-    ground_by_broken p c.whole_dual.ensures.planar c.args.spins.now c.requires web terminals broken c.in_ok-web.ensures.web
+    ground_by_broken p c.whole_dual.ensures.planar c.args.spins.now c.requires.assignment web terminals broken c.in_ok-web.ensures.web
     c.in_ok-web.ensures.frustrated same (least so))
     c.proves.ensures.least
