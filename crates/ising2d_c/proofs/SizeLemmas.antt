@@ -5,8 +5,8 @@ use Rattle.sg_lattice.specs.declared.kind.Kind.{Kind}
 use Rattle.sg_lattice.specs.Tables.{IsSize, lattice}
 use Rattle.sg_lattice.proofs.LatticeSizes.{few_bonds}
 use Rattle.sg_lattice.proofs.LatticeBonds.{bond_count_is}
-use Rattle.sg_ground.specs.Nested.{IsSmall}
+use Rattle.sg_ground.specs.Nested.{FitsWeb}
 
 -- so is a lattice of a size that is allowed
-pub lattice_small : (kind : Kind) (R C : ℕ) → IsSize kind R C → (js : List ℤ) → IsSmall (lattice kind R C js)
+pub lattice_small : (kind : Kind) (R C : ℕ) → IsSize kind R C → (js : List ℤ) → FitsWeb (lattice kind R C js)
 lattice_small kind R C size js = omega (arith, size.few, bond_count_is kind R C size js, few_bonds kind R C size)

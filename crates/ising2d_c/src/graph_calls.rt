@@ -1,7 +1,7 @@
 // The calls on a general graph by numbers.
 ghost use Rattle.std.specs.Prelude.{◌≡◌, ◌≢◌, ◌⊎◌, ◌≤◌, IfOk, IfErr};
 ghost use Rattle.sg_limits.specs.Limits.{large_bond_limit, large_spin_limit};
-ghost use Rattle.sg_ground.specs.Nested.{IsSmall};
+ghost use Rattle.sg_ground.specs.Nested.{FitsWeb};
 ghost use Rattle.ising2d_c.specs.Crossing.{HandsLoops, Shows};
 ghost use Rattle.ising2d_c.specs.Fitting.{Finds, IsFitFault, IsFitOf, IsProofFault, IsWallFault};
 ghost use Rattle.ising2d_c.specs.Grounds.{IsClustered, IsCosted, IsGround, IsWallAtSeam, Judges};
@@ -234,7 +234,7 @@ pub fn fit_graph(
     requires spins { most.spins ≤ large_spin_limit }
     requires bonds { most.bonds ≤ large_bond_limit }
     ensures gives { IfOk result (λ planar. IsFitOf (IsGraph most n ends.now couplings.now dart_starts.now darts.now seam.now) planar.instance) }
-    ensures small { IfOk result (λ planar. IsSmall planar.instance) }
+    ensures small { IfOk result (λ planar. FitsWeb planar.instance) }
     ensures refuses { IfErr result (IsFitFault (IsGraph most n ends.now couplings.now dart_starts.now darts.now seam.now) (IsGivenGraphFault most n ends.now couplings.now dart_starts.now darts.now seam.now)) }
 {
     fit(

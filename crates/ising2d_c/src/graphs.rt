@@ -2,7 +2,7 @@
 ghost use Rattle.std.specs.Prelude.{◌≡◌, ◌≢◌, ◌+◌, ◌*◌, ◌<◌, ◌≤◌, ℕ, length, All, None, IfOk, IfErr, IfSome, true};
 ghost use Rattle.sg_limits.specs.Limits.{large_bond_limit, large_spin_limit};
 ghost use Rattle.sg_model.specs.Ising.{IsBond};
-ghost use Rattle.sg_ground.specs.Nested.{IsSmall};
+ghost use Rattle.sg_ground.specs.Nested.{FitsWeb};
 ghost use Rattle.ising2d_c.specs.Crossing.{IsJoined};
 ghost use Rattle.ising2d_c.specs.Graphs.{IsGraph, IsGivenGraphFault, bond_by as bond_numbered, bonds_by, given_bonds_fault, given_ends_fault, first_bad as first_bad_of, first_self as first_self_of, given_graph_fault, is_given_bond as is_bond_of, given_spins_fault};
 ghost use Rattle.ising2d_c.specs.Starts.{DividesEntries, entry};
@@ -33,7 +33,7 @@ pub fn graph_of(
     requires spins { most.spins ≤ large_spin_limit }
     requires bonds { most.bonds ≤ large_bond_limit }
     ensures gives { IfOk result (IsGraph most n ends.now couplings.now starts.now darts.now seam.now) }
-    ensures small { IfOk result IsSmall }
+    ensures small { IfOk result FitsWeb }
     ensures refuses { IfErr result (IsGivenGraphFault most n ends.now couplings.now starts.now darts.now seam.now) }
 {
     if let Some(refusal) = refusal_of_graph(most, n, ends, couplings, starts, darts) {

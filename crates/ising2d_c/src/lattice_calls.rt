@@ -1,7 +1,7 @@
 // The calls on a lattice by numbers.
 ghost use Rattle.std.specs.Prelude.{◌≡◌, ◌≢◌, ◌⊎◌, ◌≤◌, IfOk, IfErr};
 ghost use Rattle.sg_limits.specs.Limits.{large_spin_limit};
-ghost use Rattle.sg_ground.specs.Nested.{IsSmall};
+ghost use Rattle.sg_ground.specs.Nested.{FitsWeb};
 ghost use Rattle.ising2d_c.specs.Crossing.{HandsLoops, Shows};
 ghost use Rattle.ising2d_c.specs.Fitting.{Finds, IsFitFault, IsFitOf, IsProofFault, IsWallFault};
 ghost use Rattle.ising2d_c.specs.Grounds.{IsClustered, IsCosted, IsGround, IsWallAtSeam, Judges};
@@ -203,7 +203,7 @@ pub fn fit_lattice(
 ) -> Result<Planar, Fault>
     requires { most.spins ≤ large_spin_limit }
     ensures gives { IfOk result (λ planar. IsFitOf (IsLattice most kind rows cols couplings.now) planar.instance) }
-    ensures small { IfOk result (λ planar. IsSmall planar.instance) }
+    ensures small { IfOk result (λ planar. FitsWeb planar.instance) }
     ensures refuses { IfErr result (IsFitFault (IsLattice most kind rows cols couplings.now) (IsLatticeFault most kind rows cols couplings.now)) }
 {
     fit(alloc, lattice_of(alloc, most, kind, rows, cols, couplings))

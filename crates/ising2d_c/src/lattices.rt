@@ -2,7 +2,7 @@
 ghost use Rattle.std.specs.Prelude.{◌≡◌, ◌↔◌, ◌<◌, ◌≤◌, ◌*◌, ◌^◌, length, None, All, IfOk, IfErr, IfSome, IsTrue, nat_lt, unsigned_abs};
 ghost use Rattle.sg_limits.specs.Limits.{large_spin_limit};
 ghost use Rattle.sg_lattice.specs.Tables.{IsSize, bond_total};
-ghost use Rattle.sg_ground.specs.Nested.{IsSmall};
+ghost use Rattle.sg_ground.specs.Nested.{FitsWeb};
 ghost use Rattle.ising2d_c.specs.Lattices.{IsCoupledLattice, IsCoupling, IsCouplingFault, IsFirstOut, IsLattice, IsLatticeFault, IsSizedFault, IsValueFault, kind_numbered, given_size_fault};
 
 use super::limits::Limits;
@@ -26,7 +26,7 @@ pub fn lattice_of(
 ) -> Result<Instance, Fault>
     requires { most.spins ≤ large_spin_limit }
     ensures gives { IfOk result (IsLattice most kind rows cols couplings.now) }
-    ensures small { IfOk result IsSmall }
+    ensures small { IfOk result FitsWeb }
     ensures refuses { IfErr result (IsLatticeFault most kind rows cols couplings.now) }
 {
     match kind_by(kind) {
@@ -85,7 +85,7 @@ fn sized_lattice(
     requires { most.spins ≤ large_spin_limit }
     ensures size { IfOk result (λ _. given_size_fault most kind rows cols ≡ None) }
     ensures gives { IfOk result (IsCoupledLattice kind rows cols couplings.now) }
-    ensures small { IfOk result IsSmall }
+    ensures small { IfOk result FitsWeb }
     ensures refuses { IfErr result (IsSizedFault (given_size_fault most kind rows cols) kind rows cols couplings.now) }
 {
     match fault_of_size(most, kind, rows, cols) {
@@ -104,7 +104,7 @@ fn coupled_lattice(
 ) -> Result<Instance, Fault>
     requires { IsSize kind rows cols }
     ensures gives { IfOk result (IsCoupledLattice kind rows cols couplings.now) }
-    ensures small { IfOk result IsSmall }
+    ensures small { IfOk result FitsWeb }
     ensures refuses { IfErr result (IsCouplingFault kind rows cols couplings.now) }
 {
     let wanted = bond_count(kind, rows, cols);
@@ -127,7 +127,7 @@ fn valued_lattice(
     requires count { length couplings.now ≡ bond_total kind rows cols }
     requires few { length couplings.now < 2 ^ 32 }
     ensures gives { IfOk result (IsCoupledLattice kind rows cols couplings.now) }
-    ensures small { IfOk result IsSmall }
+    ensures small { IfOk result FitsWeb }
     ensures refuses { IfErr result (IsValueFault couplings.now) }
 {
     if let Some(item) = first_out(couplings) {

@@ -1,7 +1,7 @@
 // Ground states with nests for a caller, and the judge of such proofs.
 ghost use Rattle.std.specs.Prelude.{◌≡◌, ◌≢◌, ◌⊎◌, ◌↔◌, IfOk, IfErr, IsErrAnd, IsOkAnd, IsTrue};
 ghost use Rattle.sg_planar.specs.Fit.{IsFit};
-ghost use Rattle.sg_ground.specs.Nested.{IsSmall};
+ghost use Rattle.sg_ground.specs.Nested.{FitsWeb};
 ghost use Rattle.sg_reader.specs.Tests.{Refuses};
 ghost use Rattle.ising2d_c.specs.Crossing.{Shows};
 ghost use Rattle.ising2d_c.specs.Nested.{IsNested, IsNestVerdict};
@@ -109,7 +109,7 @@ pub fn judge_nest(
     line: &mut [u8],
     line_written: &mut usize,
 ) -> u8
-    requires { IfOk given (λ p. IsSmall p.instance) }
+    requires { IfOk given (λ p. FitsWeb p.instance) }
     ensures judged { (result ≡ 0) ⊎ (result ≡ 3) → IsOkAnd given (λ p. IsNestVerdict
         (λ nest. AreNestRows nest parents.now radii.now regions.now at_radii.now) spins.now energy result p.instance) }
     ensures refused { result ≡ 1 → IsErrAnd given (λ fault. IsToldFault fault line.old line.new line_written.new)
@@ -143,7 +143,7 @@ fn nest_verdict(
     regions: &[u32],
     at_radii: &[u64],
 ) -> Result<u8, Fault>
-    requires { IsSmall planar.now.instance }
+    requires { FitsWeb planar.now.instance }
     ensures verdict { IfOk result (λ code. IsNestVerdict
         (λ nest. AreNestRows nest parents.now radii.now regions.now at_radii.now) spins.now energy code planar.now.instance) }
     ensures codes { IfOk result (λ code. (code ≡ 0) ⊎ (code ≡ 3)) }

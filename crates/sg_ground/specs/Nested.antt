@@ -13,8 +13,8 @@ use Rattle.sg_ground.specs.Solution.{IsState}
 
 -- spins and bonds together are no more than a web has nodes at most, so that all faces are nodes, of however many
 -- components
-abbrev pub IsSmall : Ising → Type 0
-IsSmall inst = inst.n + bond_count inst ≤ 2 ^ 24
+abbrev pub FitsWeb : Ising → Type 0
+FitsWeb inst = inst.n + bond_count inst ≤ 2 ^ 24
 
 -- the bonds that the spins break, rising
 abbrev pub broken_bonds : Ising → List ℤ → List ℕ

@@ -9,7 +9,7 @@ ghost use Rattle.sg_planar.specs.Fit.{IsPlanar};
 ghost use Rattle.sg_graph.specs.Join.{AreTerminals, IsLeastJoin};
 ghost use Rattle.sg_dual.specs.Dual.{dual_web, frustrated_faces};
 ghost use Rattle.sg_nest.specs.Nest.{NestProves};
-ghost use Rattle.sg_ground.specs.Nested.{IsNestedState, IsSmall, ProvesByNest, broken_bonds as bonds_broken};
+ghost use Rattle.sg_ground.specs.Nested.{IsNestedState, FitsWeb, ProvesByNest, broken_bonds as bonds_broken};
 
 use super::NoMemory;
 use super::joins::dual_of;
@@ -108,7 +108,7 @@ fn nested_apart(alloc: Global, planar: &Planar) -> Result<NestedState, NoMemory>
     ensures state { IfOk result (λ a. IsNestedState planar.now a.spins a.energy a.nest) }
     ensures planar { IsPlanar planar.now }
 {
-    if !is_small(planar) {
+    if !fits_web(planar) {
         return bare_state(alloc, planar);
     }
     let (web, frustrated) = whole_dual(alloc, planar)?;
@@ -119,8 +119,8 @@ fn nested_apart(alloc: Global, planar: &Planar) -> Result<NestedState, NoMemory>
 }
 
 // Whether spins and bonds together are few enough for all faces to be nodes of a web.
-fn is_small(planar: &Planar) -> bool
-    ensures small { IsTrue result → IsSmall planar.now.instance }
+fn fits_web(planar: &Planar) -> bool
+    ensures small { IsTrue result → FitsWeb planar.now.instance }
     ensures planar { IsPlanar planar.now }
 {
     let inst = planar.instance();
@@ -129,7 +129,7 @@ fn is_small(planar: &Planar) -> bool
 
 // A ground state, with the nest where that proves it.
 fn judged_state(alloc: Global, planar: &Planar, nest: Nest) -> Result<NestedState, NoMemory>
-    requires { IsSmall planar.now.instance }
+    requires { FitsWeb planar.now.instance }
     ensures { IfOk result (λ a. IsNestedState planar.now a.spins a.energy a.nest) }
 {
     let state = ground_state(alloc, planar)?;
@@ -209,7 +209,7 @@ pub fn proves_by_nest(
     spins: &Spins,
     nest: &Nest,
 ) -> Result<bool, NoMemory>
-    requires { IsSmall planar.now.instance }
+    requires { FitsWeb planar.now.instance }
     ensures proves { IfOk result (λ yes. IsTrue yes ↔ ProvesByNest planar.now spins.now stated nest.now) }
     ensures least { IfOk result (λ yes. IsTrue yes → IsGroundState planar.now.instance spins.now) }
     ensures planar { IsPlanar planar.now }
@@ -247,7 +247,7 @@ fn proves_broken(
     nest: &Nest,
 ) -> Result<bool, NoMemory>
     requires assignment { IsAssignment planar.now.instance spins.now }
-    requires small { IsSmall planar.now.instance }
+    requires small { FitsWeb planar.now.instance }
     ensures proves { IfOk result (λ yes. IsTrue yes ↔ NestProves (dual_web planar.now.instance planar.now.faces)
         (frustrated_faces planar.now.instance planar.now.faces) (bonds_broken planar.now.instance spins.now) nest.now) }
     ensures least { IfOk result (λ yes. IsTrue yes → IsGroundState planar.now.instance spins.now) }
@@ -259,7 +259,7 @@ fn proves_broken(
 
 // The dual, and the frustrated faces.
 fn whole_dual(alloc: Global, planar: &Planar) -> Result<(Web, Terminals), NoMemory>
-    requires { IsSmall planar.now.instance }
+    requires { FitsWeb planar.now.instance }
     ensures web { IfOk result (λ d. d.0 ≡ dual_web planar.now.instance planar.now.faces) }
     ensures frustrated { IfOk result (λ d. d.1 ≡ frustrated_faces planar.now.instance planar.now.faces) }
     ensures terminals { IfOk result (λ d. AreTerminals d.0 d.1) }
