@@ -18,7 +18,7 @@ use Rattle.sg_model.specs.Spins.{spin}
 use Rattle.sg_model.specs.Energy.{weight}
 use Rattle.sg_planar.specs.declared.components.Part.{Part}
 use Rattle.sg_planar.specs.Parts.{AreParts, IsPart}
-use Rattle.sg_ground.specs.Placed.{WritesSpins}
+use Rattle.sg_ground.specs.Placed.{WritesAt}
 use Rattle.sg_ground.proofs.Glued.{size_at}
 use Rattle.sg_ground.proofs.PartLists.{all_parts, share_of_part}
 use Rattle.sg_ground.proofs.Shares.{IsShare, weights_over}
@@ -70,7 +70,7 @@ module _ (inst : Ising) (good : IsInstance inst) (parts : List Part) (are : AreP
         some false c = omega arith
 
     -- one part more
-    pub joined_more : (old now found : List ℤ) → AreJoined inst parts i old → AreCosts p.planar.instance found → WritesSpins p.bonds found old now →
+    pub joined_more : (old now found : List ℤ) → AreJoined inst parts i old → AreCosts p.planar.instance found → WritesAt p.bonds found old now →
         AreJoined inst parts (i + 1) now
     joined_more old now found was costs writes = record { count = long; each = each }
       where

@@ -19,7 +19,7 @@ use Rattle.sg_model.proofs.BrokenEnergy.{broken_cost, energy_from_costs, unit_at
 use Rattle.sg_model.proofs.Paths.{reached_more}
 use Rattle.sg_planar.specs.declared.components.Part.{Part}
 use Rattle.sg_planar.specs.Parts.{IsPart}
-use Rattle.sg_ground.specs.Placed.{HasValues, WritesSpins, numbered}
+use Rattle.sg_ground.specs.Placed.{HasValues, WritesAt, numbered}
 use Rattle.sg_ground.proofs.Glued.{cost_at}
 use Rattle.sg_ground.proofs.PartLists.{share_of_part}
 use Rattle.sg_ground.proofs.PlacedValues.{all_written}
@@ -69,7 +69,7 @@ module _ (inst : Ising) (good : IsInstance inst) (least : ℕ) (p : Part) (is : 
   -- an assignment of the whole with other values in the part
   record Changed (t q : List ℤ) : Type 0 where
     now : List ℤ
-    writes : WritesSpins p.spins q t now
+    writes : WritesAt p.spins q t now
     assignment : IsAssignment inst now
 
   change : (t q : List ℤ) → IsAssignment inst t → IsAssignment p.planar.instance q → Changed t q
@@ -85,7 +85,7 @@ module _ (inst : Ising) (good : IsInstance inst) (least : ℕ) (p : Part) (is : 
         };
       }
     where
-      by_place : (now : List ℤ) → WritesSpins p.spins q t now → (x : ℕ) → x < inst.n →
+      by_place : (now : List ℤ) → WritesAt p.spins q t now → (x : ℕ) → x < inst.n →
           ((i : ℕ) × (i < length p.spins) × (get_or p.spins i 0 ≡ x) × (holds p.spins x ≡ true)) ⊎
           (((i : ℕ) → i < length p.spins → get_or p.spins i 0 ≢ x) × (holds p.spins x ≡ false)) → IsUpOrDown (spin now x)
       by_place now writes x l (inl (i, m, same, held)) =
@@ -107,7 +107,7 @@ module _ (inst : Ising) (good : IsInstance inst) (least : ℕ) (p : Part) (is : 
       false≢true (sym (first_out k l out) ∙ (is.spins (bond_at inst k).u).1
       ((joins k l).first_end, reached_more inst all_bonds least (bond_at inst k).v (bond_at inst k).u ((is.spins (bond_at inst k).v).0 h).1 back))))
 
-  same_outside : (t q now : List ℤ) → WritesSpins p.spins q t now → outside now ≡ outside t
+  same_outside : (t q now : List ℤ) → WritesAt p.spins q t now → outside now ≡ outside t
   same_outside t q now writes =
       sum_below-same (λ k. cond (holds p.bonds k) 0 (cost_at inst now k)) (λ k. cond (holds p.bonds k) 0 (cost_at inst t k)) (bond_count inst)
       (λ k l. each k l (cases_Bool (holds p.bonds k)))

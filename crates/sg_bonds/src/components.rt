@@ -4,7 +4,7 @@ ghost use Rattle.std.specs.List.Sorted.{IsStrictlyIncreasing};
 ghost use Rattle.sg_limits.specs.Limits.{sum_limit};
 ghost use Rattle.sg_model.specs.Energy.{weight};
 ghost use Rattle.sg_planar.specs.Parts.{AreParts};
-ghost use Rattle.sg_ground.specs.Placed.{WritesSpins};
+ghost use Rattle.sg_ground.specs.Placed.{WritesAt};
 ghost use Rattle.sg_bonds.specs.Cost.{AreCosts};
 
 use super::breaking::part_costs;
@@ -54,7 +54,7 @@ fn place_costs(costs: &mut [i64], places: &[u32], part: &[i64])
     requires rising { IsStrictlyIncreasing places.now }
     requires below { All (λ k. k < length costs.old) places.now }
     requires count { length part.now ≡ length places.now }
-    ensures { WritesSpins places.now part.now costs.old costs.new }
+    ensures { WritesAt places.now part.now costs.old costs.new }
 {
     for (i, place) in places.iter().enumerate() {
         costs[*place as usize] = part[i];

@@ -16,7 +16,7 @@ use Rattle.sg_check.specs.Loop.{IsFrustratedLoop}
 use Rattle.sg_check.specs.Packing.{loop_weight, packed_weight}
 use Rattle.sg_planar.specs.declared.components.Part.{Part}
 use Rattle.sg_planar.specs.Parts.{AreParts}
-use Rattle.sg_ground.specs.Placed.{WritesSpins, loop_in_whole, numbered}
+use Rattle.sg_ground.specs.Placed.{WritesAt, loop_in_whole, numbered}
 use Rattle.sg_ground.specs.Solution.{IsSolution}
 use Rattle.sg_ground.proofs.Shares.{IsShare}
 use Rattle.sg_ground.proofs.Glued.{IsGlued, cost_at, over_bonds, size_at}
@@ -40,7 +40,7 @@ none_glued inst = record {
 module _ (inst : Ising) (good : IsInstance inst) where
   module _ (parts done rest : List Part) (p : Part) (are : AreParts inst parts) (parted : parts ≡ done ++ p ∷ rest)
       (s t u : List ℤ) (e f : ℤ) (loops more : List Loop)
-      (glued : IsGlued inst done s e loops) (solution : IsSolution p.planar.instance t f more) (writes : WritesSpins p.spins t s u) where
+      (glued : IsGlued inst done s e loops) (solution : IsSolution p.planar.instance t f more) (writes : WritesAt p.spins t s u) where
     here : IsShare inst p.spins p.bonds p.planar.instance
     here = share inst good parts done rest p are parted
 
@@ -132,7 +132,7 @@ module _ (inst : Ising) (good : IsInstance inst) (parts : List Part) (are : AreP
 
   -- one part more
   pub part_glued : (s t u : List ℤ) (e f : ℤ) (loops more : List Loop) →
-      IsGlued inst (take i parts) s e loops → IsSolution p.planar.instance t f more → WritesSpins p.spins t s u →
+      IsGlued inst (take i parts) s e loops → IsSolution p.planar.instance t f more → WritesAt p.spins t s u →
       IsGlued inst (take (i + 1) parts) u (e +ℤ f) (loops ++ map (loop_in_whole p.bonds) more)
   part_glued s t u e f loops more glued solution writes =
       subst (λ ps. IsGlued inst ps u (e +ℤ f) (loops ++ map (loop_in_whole p.bonds) more)) (sym (with_this inst good parts are i p l same))

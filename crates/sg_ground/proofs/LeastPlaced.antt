@@ -14,7 +14,7 @@ use Rattle.sg_model.proofs.BrokenEnergy.{broken_cost, energy_from_costs}
 use Rattle.sg_model.proofs.EnergyBounds.{energy_size, least_of_ground_state}
 use Rattle.sg_planar.specs.declared.components.Part.{Part}
 use Rattle.sg_planar.specs.Parts.{AreParts}
-use Rattle.sg_ground.specs.Placed.{WritesSpins}
+use Rattle.sg_ground.specs.Placed.{WritesAt}
 use Rattle.sg_ground.specs.Solution.{IsState}
 use Rattle.sg_ground.proofs.Shares.{IsShare}
 use Rattle.sg_ground.proofs.Glued.{IsEnergyPlaced, IsLeastPlaced, IsStatePlaced, IsWeightPlaced, cost_at, over_bonds, size_at}
@@ -48,7 +48,7 @@ module _ (inst : Ising) (good : IsInstance inst) where
   module _ (parts done rest : List Part) (p : Part) (are : AreParts inst parts) (parted : parts ≡ done ++ p ∷ rest)
       (s t u : List ℤ) (e f : ℤ) (was : IsLeastPlaced inst done s e)
       (assigned : IsAssignment p.planar.instance t) (stated : energy p.planar.instance t ≡ f)
-      (lowest : (q : List ℤ) → IsAssignment p.planar.instance q → f ≤ℤ energy p.planar.instance q) (writes : WritesSpins p.spins t s u) where
+      (lowest : (q : List ℤ) → IsAssignment p.planar.instance q → f ≤ℤ energy p.planar.instance q) (writes : WritesAt p.spins t s u) where
     here : IsShare inst p.spins p.bonds p.planar.instance
     here = share inst good parts done rest p are parted
 
@@ -117,7 +117,7 @@ module _ (inst : Ising) (good : IsInstance inst) (parts : List Part) (are : AreP
     (l : i < length parts) (same : p ≡ get_or parts i p) where
   least_more : (s t u : List ℤ) (e f : ℤ) → IsLeastPlaced inst (take i parts) s e →
       IsAssignment p.planar.instance t → energy p.planar.instance t ≡ f →
-      ((q : List ℤ) → IsAssignment p.planar.instance q → f ≤ℤ energy p.planar.instance q) → WritesSpins p.spins t s u →
+      ((q : List ℤ) → IsAssignment p.planar.instance q → f ≤ℤ energy p.planar.instance q) → WritesAt p.spins t s u →
       IsLeastPlaced inst (take (i + 1) parts) u (e +ℤ f)
   least_more s t u e f was assigned stated lowest writes =
       subst (λ ps. IsLeastPlaced inst ps u (e +ℤ f)) (sym (with_this inst good parts are i p l same))
@@ -125,7 +125,7 @@ module _ (inst : Ising) (good : IsInstance inst) (parts : List Part) (are : AreP
 
   -- its state beside those before
   pub part_state_placed : (s t u : List ℤ) (e f : ℤ) → IsStatePlaced inst (take i parts) s e → IsState p.planar.instance t f →
-      WritesSpins p.spins t s u → IsStatePlaced inst (take (i + 1) parts) u (e +ℤ f)
+      WritesAt p.spins t s u → IsStatePlaced inst (take (i + 1) parts) u (e +ℤ f)
   part_state_placed s t u e f was found writes = record {
     least = least_more s t u e f was.least found.ground_state.assignment found.stated
         (λ q other. subst (λ x. x ≤ℤ energy p.planar.instance q) found.stated (found.ground_state.least q other)) writes;

@@ -8,7 +8,7 @@ use Rattle.std.proofs.lemmas.List.Folds.{list_any_more}
 use Rattle.sg_sums.specs.Sets.{holds}
 use Rattle.sg_sums.proofs.OneMore.{rising_order}
 use Rattle.sg_model.specs.Spins.{spin}
-use Rattle.sg_ground.specs.Placed.{WritesSpins, numbered}
+use Rattle.sg_ground.specs.Placed.{WritesAt, numbered}
 
 both_false : (a b : Bool) → (a || b) ≡ false → (a ≡ false) × (b ≡ false)
 both_false true b h = absurd (false≢true (sym h))
@@ -16,8 +16,8 @@ both_false false b h = (refl, h)
 
 -- one value more at its place
 pub written_more : (places : List ℕ) (part old now : List ℤ) (i : ℕ) (y : ℤ) → IsStrictlyIncreasing places → All (λ x. x < length old) places →
-    length part ≡ length places → i < length places → y ≡ get_or part i (pos 0) → WritesSpins (take i places) part old now →
-    WritesSpins (take (i + 1) places) part old (set now (get_or places i 0) y)
+    length part ≡ length places → i < length places → y ≡ get_or part i (pos 0) → WritesAt (take i places) part old now →
+    WritesAt (take (i + 1) places) part old (set now (get_or places i 0) y)
 written_more places part old now i y up below count l value was = record {
   count = length-set now (get_or places i 0) y ∙ was.count;
   values = values_more;
@@ -53,19 +53,19 @@ written_more places part old now i y up below count l value was = record {
 
 -- values can be written to rising places
 some_written : (places : List ℕ) (part old : List ℤ) → IsStrictlyIncreasing places → All (λ x. x < length old) places → length part ≡ length places →
-    (i : ℕ) → i ≤ length places → (now : List ℤ) × WritesSpins (take i places) part old now
+    (i : ℕ) → i ≤ length places → (now : List ℤ) × WritesAt (take i places) part old now
 some_written places part old up below count zero l = (old, record { count = refl; values = λ k m. absurd (omega (arith, m)); others = λ x out. refl })
 some_written places part old up below count (suc i) l =
     let (now, was) = some_written places part old up below count i (omega (arith, l)) in
     let next : i + 1 ≡ suc i = omega arith in (
       set now (get_or places i 0) (get_or part i (pos 0)),
-      subst (λ j. WritesSpins (take j places) part old (set now (get_or places i 0) (get_or part i (pos 0)))) next
+      subst (λ j. WritesAt (take j places) part old (set now (get_or places i 0) (get_or part i (pos 0)))) next
           (written_more places part old now i (get_or part i (pos 0)) up below count (omega (arith, l)) refl was),
     )
 
 -- all values can be written to their places
 pub all_written : (places : List ℕ) (part old : List ℤ) → IsStrictlyIncreasing places → All (λ x. x < length old) places → length part ≡ length places →
-    (now : List ℤ) × WritesSpins places part old now
+    (now : List ℤ) × WritesAt places part old now
 all_written places part old up below count =
     let (now, some) = some_written places part old up below count (length places) (omega arith) in
-    (now, subst (λ xs. WritesSpins xs part old now) (take_all (length places) places (omega arith)) some)
+    (now, subst (λ xs. WritesAt xs part old now) (take_all (length places) places (omega arith)) some)

@@ -23,7 +23,7 @@ use Rattle.sg_model.proofs.BrokenEnergy.{broken_cost, energy_from_costs, unit_at
 use Rattle.sg_model.proofs.EnergyBounds.{energy_size}
 use Rattle.sg_planar.specs.declared.components.Part.{Part}
 use Rattle.sg_planar.specs.Parts.{AreParts, IsPart}
-use Rattle.sg_ground.specs.Placed.{WritesSpins, numbered}
+use Rattle.sg_ground.specs.Placed.{WritesAt, numbered}
 use Rattle.sg_ground.proofs.Shares.{IsShare}
 use Rattle.sg_ground.proofs.Glued.{IsPlaced, cost_at, over_bonds, size_at}
 use Rattle.sg_ground.proofs.PartLists.{all_parts, dealt_to_parts, first_inside, holds_at, not_before}
@@ -76,7 +76,7 @@ module _ (inst : Ising) (good : IsInstance inst) where
     sizes_more = sum_by_push (λ (q : Part). sum_by (size_at inst) q.bonds) done p
 
     module _ (s t u : List ℤ) (e f : ℤ) (placed : IsPlaced inst done s e)
-        (assigned : IsAssignment p.planar.instance t) (stated : energy p.planar.instance t ≡ f) (writes : WritesSpins p.spins t s u) where
+        (assigned : IsAssignment p.planar.instance t) (stated : energy p.planar.instance t ≡ f) (writes : WritesAt p.spins t s u) where
       -- each value is still up or down
       placed_assignment : IsAssignment inst u
       placed_assignment = record {

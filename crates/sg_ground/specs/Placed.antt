@@ -17,7 +17,7 @@ abbrev pub HasValues : List ℕ → List ℤ → List ℤ → Type 0
 HasValues spins s t = (i : ℕ) → i < length spins → spin s (numbered spins i) ≡ spin t i
 
 -- the values t stand at these spins, and elsewhere nothing is new
-pub record WritesSpins (spins : List ℕ) (t old new : List ℤ) : Type 0 where
+pub record WritesAt (spins : List ℕ) (t old new : List ℤ) : Type 0 where
   pub count : length new ≡ length old
   pub values : HasValues spins new t
   pub others : (x : ℕ) → holds spins x ≡ false → spin new x ≡ spin old x

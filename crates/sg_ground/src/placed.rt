@@ -3,7 +3,7 @@
 ghost use Rattle.std.specs.Prelude.{◌≡◌, ◌<◌, ◌++◌, length, map, All, IfOk, OnOk};
 ghost use Rattle.std.specs.List.Sorted.{IsStrictlyIncreasing};
 ghost use Rattle.sg_model.specs.Spins.{IsUpOrDown};
-ghost use Rattle.sg_ground.specs.Placed.{WritesSpins, loop_in_whole, numbered};
+ghost use Rattle.sg_ground.specs.Placed.{WritesAt, loop_in_whole, numbered};
 
 use super::NoMemory;
 use sg_check::{Loop, Loops};
@@ -15,7 +15,7 @@ pub fn place_values(values: &mut [i8], places: &[u32], part: &[i8])
     requires rising { IsStrictlyIncreasing places.now }
     requires below { All (λ x. x < length values.old) places.now }
     requires count { length part.now ≡ length places.now }
-    ensures { WritesSpins places.now part.now values.old values.new }
+    ensures { WritesAt places.now part.now values.old values.new }
 {
     for (i, place) in places.iter().enumerate() {
         values[*place as usize] = part[i];

@@ -2,7 +2,7 @@ use Rattle.std.proofs.Common.{◌≡◌, ◌<◌, ◌∙◌, ℤ, List, ℕ, All
 use Rattle.std.specs.List.Sorted.{IsStrictlyIncreasing}
 use Rattle.std.proofs.lemmas.List.{with_items_is}
 use Rattle.sg_model.specs.Ising.{bond_count}
-use Rattle.sg_ground.specs.Placed.{WritesSpins}
+use Rattle.sg_ground.specs.Placed.{WritesAt}
 use Rattle.sg_bonds.proofs.JoinedCosts.{all_joined, joined_more, part_light, share}
 use Rattle.sg_bonds.proofs.components.join_costs.Goals as goal
 
@@ -27,10 +27,10 @@ place_costs-requires c =
 pub loop-part-preserved : goal.loop-part-preserved
 loop-part-preserved c =
     let new : List ℤ = c.place_costs.new.costs in
-    let writes : WritesSpins c.part-item.result.bonds c.in_ok-found.found c.loop-part.costs.items new =
-    subst (λ (old : List ℤ). WritesSpins c.part-item.result.bonds c.in_ok-found.found old new) c.deref_mut.ensures.value
-    (subst (λ (found : List ℤ). WritesSpins c.part-item.result.bonds found c.deref_mut.result.now new) c.as_slice-in-loop-part.ensures
-    (subst (λ (list : List ℕ). WritesSpins list c.as_slice-in-loop-part.result.now c.deref_mut.result.now new) c.as_slice.ensures c.place_costs.ensures)) in
+    let writes : WritesAt c.part-item.result.bonds c.in_ok-found.found c.loop-part.costs.items new =
+    subst (λ (old : List ℤ). WritesAt c.part-item.result.bonds c.in_ok-found.found old new) c.deref_mut.ensures.value
+    (subst (λ (found : List ℤ). WritesAt c.part-item.result.bonds found c.deref_mut.result.now new) c.as_slice-in-loop-part.ensures
+    (subst (λ (list : List ℕ). WritesAt list c.as_slice-in-loop-part.result.now c.deref_mut.result.now new) c.as_slice.ensures c.place_costs.ensures)) in
     rw (with_items_is c.loop-part.costs new (c.place_costs.auto.costs ∙ c.deref_mut.ensures.len))
     (joined_more c.args.inst.now c.bonds.ensures.instance c.args.parts.now c.requires.parts c.loop-part.part-index
     c.part-item.result c.loop-part-test.true c.part-item.is c.loop-part.costs.items new c.in_ok-found.found c.loop-part.invariant c.in_ok-found.ensures writes)

@@ -1,6 +1,6 @@
 use Rattle.std.proofs.Common.{take}
-use Rattle.sg_ground.specs.Placed.{WritesSpins}
+use Rattle.sg_ground.specs.Placed.{WritesAt}
 use Rattle.sg_bonds.proofs.components.place_costs.Given as goal
 
 abbrev pub invariant-loop-i : goal.invariant-loop-i
-invariant-loop-i l = WritesSpins (take l.i l.places) l.part l.initial.costs l.costs
+invariant-loop-i l = WritesAt (take l.i l.places) l.part l.initial.costs l.costs

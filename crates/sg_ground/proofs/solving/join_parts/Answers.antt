@@ -6,7 +6,7 @@ use Rattle.std.proofs.lemmas.List.{take_all, with_items_is}
 use Rattle.sg_model.specs.Ising.{Ising}
 use Rattle.sg_check.specs.declared.packing.Loop.{Loop}
 use Rattle.sg_planar.specs.declared.components.Part.{Part}
-use Rattle.sg_ground.specs.Placed.{WritesSpins, loop_in_whole}
+use Rattle.sg_ground.specs.Placed.{WritesAt, loop_in_whole}
 use Rattle.sg_ground.proofs.Glued.{IsGlued}
 use Rattle.sg_ground.specs.Solution.{IsSolution}
 use Rattle.sg_ground.proofs.Gluing.{all_glued, part_glued, part_loops_below}
@@ -76,10 +76,10 @@ loop-part-preserved c =
     (to_z w64 c.loop-part.energy-bits) found.energy c.requires.light c.loop-part.invariant.placed.size
     (size_from_solution p.planar.instance (part_is_share inst c.n.ensures.instance c.args.parts.now c.requires.parts c.loop-part.part-index p
     c.loop-part-test.true c.part-item.is).good found.spins found.energy found.loops c.in_ok-found.ensures) in
-    let writes : WritesSpins p.spins found.spins c.loop-part.values.items new =
-    subst (λ old. WritesSpins p.spins found.spins old new) c.deref_mut.ensures.value
-    (subst (λ t. WritesSpins p.spins t c.deref_mut.result.now new) c.as_slice-in-loop-part.ensures.value
-    (subst (λ xs. WritesSpins xs c.as_slice-in-loop-part.result.now c.deref_mut.result.now new) c.as_slice.ensures c.place_values.ensures)) in
+    let writes : WritesAt p.spins found.spins c.loop-part.values.items new =
+    subst (λ old. WritesAt p.spins found.spins old new) c.deref_mut.ensures.value
+    (subst (λ t. WritesAt p.spins t c.deref_mut.result.now new) c.as_slice-in-loop-part.ensures.value
+    (subst (λ xs. WritesAt xs c.as_slice-in-loop-part.result.now c.deref_mut.result.now new) c.as_slice.ensures c.place_values.ensures)) in
     let glued : IsGlued inst (take (c.loop-part.part-index + 1) c.args.parts.now) new (to_z w64 c.loop-part.energy-bits +ℤ found.energy)
     (c.loop-part.loops ++ map (loop_in_whole p.bonds) found.loops) =
     part_glued inst c.n.ensures.instance c.args.parts.now c.requires.parts c.loop-part.part-index p c.loop-part-test.true c.part-item.is

@@ -5,7 +5,7 @@ use Rattle.std.proofs.lemmas.Int.{to_z-of_z}
 use Rattle.std.proofs.lemmas.List.{take_all, with_items_is}
 use Rattle.sg_model.specs.Ising.{Ising}
 use Rattle.sg_planar.specs.declared.components.Part.{Part}
-use Rattle.sg_ground.specs.Placed.{WritesSpins}
+use Rattle.sg_ground.specs.Placed.{WritesAt}
 use Rattle.sg_ground.specs.Solution.{IsState}
 use Rattle.sg_ground.proofs.Glued.{IsStatePlaced}
 use Rattle.sg_ground.proofs.LeastPlaced.{all_states, part_state_placed, state_size}
@@ -58,10 +58,10 @@ loop-part-preserved c =
     part_energy_fits inst c.n.ensures.instance c.args.parts.now c.requires.parts c.loop-part.part-index p c.loop-part-test.true c.part-item.is
     (to_z w64 c.loop-part.energy-bits) found.energy c.requires.light c.loop-part.invariant.least.placed.size
     (state_size p.planar.instance found.spins found.energy c.in_ok-found.ensures.planar.instance c.in_ok-found.ensures.state) in
-    let writes : WritesSpins p.spins found.spins c.loop-part.values.items new =
-    subst (λ old. WritesSpins p.spins found.spins old new) c.deref_mut.ensures.value
-    (subst (λ t. WritesSpins p.spins t c.deref_mut.result.now new) c.as_slice-in-loop-part.ensures.value
-    (subst (λ xs. WritesSpins xs c.as_slice-in-loop-part.result.now c.deref_mut.result.now new) c.as_slice.ensures c.place_values.ensures)) in
+    let writes : WritesAt p.spins found.spins c.loop-part.values.items new =
+    subst (λ old. WritesAt p.spins found.spins old new) c.deref_mut.ensures.value
+    (subst (λ t. WritesAt p.spins t c.deref_mut.result.now new) c.as_slice-in-loop-part.ensures.value
+    (subst (λ xs. WritesAt xs c.as_slice-in-loop-part.result.now c.deref_mut.result.now new) c.as_slice.ensures c.place_values.ensures)) in
     let placed : IsStatePlaced inst (take (c.loop-part.part-index + 1) c.args.parts.now) new (to_z w64 c.loop-part.energy-bits +ℤ found.energy) =
     part_state_placed inst c.n.ensures.instance c.args.parts.now c.requires.parts c.loop-part.part-index p c.loop-part-test.true c.part-item.is
     c.loop-part.values.items found.spins new (to_z w64 c.loop-part.energy-bits) found.energy c.loop-part.invariant c.in_ok-found.ensures.state writes in
