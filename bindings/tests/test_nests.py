@@ -101,7 +101,7 @@ def forged(source, found):
         spins[source.randrange(len(spins))] *= -1
     elif change < 5 and row:
         place = source.randrange(len(row))
-        row[place] = max(0, row[place] + source.choice((-4, -1, 1, 4))) if change < 4 else NONE
+        row[place] = min(NONE, max(0, row[place] + source.choice((-4, -1, 1, 4)))) if change < 4 else NONE
     elif row:
         own = rows[:2] if row in rows[:2] else rows[2:]
         for other in own:

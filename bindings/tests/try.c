@@ -103,6 +103,10 @@ static void try_cylinder(void) {
     expect(ising2d_c_bonds(ISING2D_CYLINDER, 1, 3, couplings, 3, costs, 3, line, sizeof line,
                            &written) == ISING2D_DONE, "costs");
     expect(costs[0] == 14 && costs[1] == 18 && costs[2] == 14, "the costs of a ring");
+    /* Costs keep the limit of the program. */
+    expect(ising2d_c_bonds(ISING2D_CYLINDER, 45, 46, couplings, 3, costs, 3, line, sizeof line,
+                           &written) == ISING2D_REFUSED, "the costs of 2070 spins");
+    expect(written == 15 && memcmp(line, "refused,7,2070\n", 15) == 0, "their line");
     expect(ising2d_c_clusters(ISING2D_CYLINDER, 1, 3, couplings, 3, names, 3, line, sizeof line,
                               &written) == ISING2D_DONE, "clusters");
     expect(names[0] == 0 && names[1] == 0 && names[2] == 0, "one cluster");
@@ -227,7 +231,7 @@ static void try_graphs(void) {
     WITH((void)0, ISING2D_DONE, "answered");
     WITH(other.seam_len = 0, ISING2D_REFUSED, "refused,16\n");
     WITH(other.n = 0, ISING2D_REFUSED, "refused,19,5,0\n");
-    WITH(other.n = 2049, ISING2D_REFUSED, "refused,7,2049\n");
+    WITH(other.n = 1048577, ISING2D_REFUSED, "refused,7,1048577\n");
     WITH(other.n = UINT32_MAX, ISING2D_REFUSED, "refused,7,4294967295\n");
     WITH(other.ends_len = 7, ISING2D_REFUSED, "refused,19,7,0\n");
     WITH(other.ends_len = 0, ISING2D_REFUSED, "refused,19,7,0\n");
@@ -265,7 +269,7 @@ int main(void) {
     try_refusal(0, 0, 2, couplings, 4, 128, "refused,19,3,0\n");
     try_refusal(0, 2, 0, couplings, 4, 128, "refused,19,4,0\n");
     try_refusal(3, 2, 2, couplings, 4, 3, "refused,19,4,0\n");
-    try_refusal(0, 45, 46, couplings, 4, 128, "refused,7,2070\n");
+    try_refusal(0, 1024, 1025, couplings, 4, 128, "refused,7,1049600\n");
     try_refusal(0, UINT32_MAX, UINT32_MAX, couplings, 4, 128, "refused,7,18446744065119617025\n");
     try_refusal(0, 2, 2, couplings, 3, 128, "refused,6,3,4\n");
     try_refusal(0, 2, 2, couplings, 0, 0, "refused,6,0,4\n");
