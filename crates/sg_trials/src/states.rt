@@ -66,14 +66,21 @@ fn are_alike(first: &[LeastState], second: &[LeastState]) -> bool {
     first.len() == second.len()
 }
 
-// Whether repairs prove all states of an instance, and the same ones when they are asked again.
-fn are_proved(alloc: Global, planar: &Planar) -> Result<bool, AllocError> {
-    let mut states = BondStates::new(alloc, planar)?;
+// Whether repairs prove all states, and the same ones when they are asked again.
+fn are_kept(alloc: Global, planar: &Planar, states: &mut BondStates) -> Result<bool, AllocError>
+    requires { states.old ≡ planar.now }
+{
     let mut first = Vec::new(alloc);
     let mut second = Vec::new(alloc);
-    let all_first = ask_all(alloc, planar, &mut states, &mut first)?;
-    let all_second = ask_all(alloc, planar, &mut states, &mut second)?;
+    let all_first = ask_all(alloc, planar, states, &mut first)?;
+    let all_second = ask_all(alloc, planar, states, &mut second)?;
     Ok(all_first && all_second && are_alike(&first, &second))
+}
+
+// Whether repairs prove all states of an instance, asked twice.
+fn are_proved(alloc: Global, planar: &Planar) -> Result<bool, AllocError> {
+    let mut states = BondStates::new(alloc, planar)?;
+    are_kept(alloc, planar, &mut states)
 }
 
 // All states of these parts have to be proved by repairs.
