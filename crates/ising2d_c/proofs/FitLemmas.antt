@@ -6,7 +6,7 @@ use Rattle.sg_model.specs.declared.refusal.Fault.{Fault}
 use Rattle.sg_model.specs.declared.refusal.Fault.TheVariants.{Refused}
 use Rattle.sg_model.specs.declared.refusal.Refusal.{Refusal}
 use Rattle.sg_model.specs.declared.refusal.Refusal.TheVariants.{NoSeam}
-use Rattle.sg_reader.specs.Tests.{Refuses}
+use Rattle.sg_draft.specs.Tests.{Refuses}
 use Rattle.sg_planar.specs.Fit.{Embedding, IsUnfit}
 use Rattle.ising2d_c.specs.Fitting.{Finds, IsFitFault, IsFitOf, IsFitProofFault, IsProofFault, IsWallFault}
 use Rattle.ising2d_c.specs.Refusing.{TellsRefusal, IsToldFault}

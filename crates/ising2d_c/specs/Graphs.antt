@@ -9,7 +9,7 @@ use Rattle.sg_model.specs.declared.bond.Bond.{Bond}
 use Rattle.sg_model.specs.declared.refusal.Fault.{Fault}
 use Rattle.sg_model.specs.declared.refusal.Refusal.{Refusal}
 use Rattle.sg_model.specs.declared.refusal.Refusal.TheVariants.{BadMember, SelfBond, TooManyBonds, TooManySpins}
-use Rattle.sg_reader.specs.Tests.{first_of, refuse_if, Refuses}
+use Rattle.sg_draft.specs.Tests.{first_of, refuse_if, Refuses}
 use Rattle.ising2d_c.specs.declared.limits.Limits.{Limits}
 use Rattle.ising2d_c.specs.Crossing.{IsJoined}
 use Rattle.ising2d_c.specs.Starts.{entry, starts_fault}

@@ -5,7 +5,7 @@ use Rattle.sg_model.specs.declared.refusal.Refusal.TheVariants.{BadMember}
 use Rattle.sg_nest.specs.declared.nest.Nest.{Nest}
 use Rattle.sg_nest.specs.declared.nest.Place.{Place}
 use Rattle.sg_nest.specs.declared.nest.Region.{Region}
-use Rattle.sg_reader.specs.Tests.{first_of, refuse_if}
+use Rattle.sg_draft.specs.Tests.{first_of, refuse_if}
 use Rattle.ising2d_c.specs.Crossing.{Shows}
 use Rattle.ising2d_c.specs.Stated.{values_fault}
 

@@ -4,7 +4,7 @@ use Rattle.std.specs.Prelude.{List, [], ◌∷◌, length, slice_index_or}
 use Rattle.std.specs.List.{range_with_len}
 use Rattle.sg_model.specs.declared.refusal.Refusal.{Refusal}
 use Rattle.sg_model.specs.declared.refusal.Refusal.TheVariants.{BadMember}
-use Rattle.sg_reader.specs.Tests.{first_of, refuse_if}
+use Rattle.sg_draft.specs.Tests.{first_of, refuse_if}
 
 -- entry k of a list, and 0 past its end
 abbrev pub entry : List ℕ → ℕ → ℕ

@@ -7,7 +7,7 @@ use Rattle.sg_model.specs.declared.refusal.Refusal.{Refusal}
 use Rattle.sg_model.specs.declared.refusal.Refusal.TheVariants.{BadMember, TooLong}
 use Rattle.sg_check.specs.declared.packing.ResultText.{ResultText}
 use Rattle.sg_reader.specs.Result.{is_spin_value}
-use Rattle.sg_reader.specs.Tests.{first_of, refuse_if}
+use Rattle.sg_draft.specs.Tests.{first_of, refuse_if}
 use Rattle.ising2d_c.specs.Crossing.{AreRows}
 use Rattle.ising2d_c.specs.Starts.{starts_fault}
 

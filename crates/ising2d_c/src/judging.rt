@@ -4,7 +4,7 @@ ghost use Rattle.sg_limits.specs.Limits.{input_limit};
 ghost use Rattle.sg_model.specs.Energy.{IsGroundState};
 ghost use Rattle.sg_check.specs.Verdict.{IsVerdict};
 ghost use Rattle.sg_check.specs.declared.verdict.Verdict.TheVariants.{Yes};
-ghost use Rattle.sg_reader.specs.Tests.{Refuses};
+ghost use Rattle.sg_draft.specs.Tests.{Refuses};
 ghost use Rattle.sg_report.specs.Text.{verdict_text as verdict_bytes};
 ghost use Rattle.sg_cli.specs.Served.{status_by};
 ghost use Rattle.sg_reply.specs.declared.status.Status.TheVariants.{Done as IsDone, No as IsNo};

@@ -6,9 +6,8 @@ ghost use Rattle.sg_ground.specs.Nested.{FitsWeb};
 ghost use Rattle.ising2d_c.specs.Lattices.{IsCoupledLattice, IsCoupling, IsCouplingFault, IsFirstOut, IsLattice, IsLatticeFault, IsSizedFault, IsValueFault, kind_numbered, given_size_fault};
 
 use super::limits::Limits;
-use sg_lattice::{Kind, bond_count, build};
+use sg_lattice::{Kind, bond_count, build, least_cols};
 use sg_model::{Couplings, Fault, Instance, Refusal};
-use sg_reader::least_cols;
 use std::alloc::Global;
 
 /// The lattice of these numbers, within the limits.

@@ -2,7 +2,7 @@
 ghost use Rattle.std.specs.Prelude.{◌≡◌, ◌≢◌, ◌⊎◌, ◌↔◌, IfOk, IfErr, IsErrAnd, IsOkAnd, IsTrue};
 ghost use Rattle.sg_planar.specs.Fit.{IsFit};
 ghost use Rattle.sg_ground.specs.Nested.{FitsWeb};
-ghost use Rattle.sg_reader.specs.Tests.{Refuses};
+ghost use Rattle.sg_draft.specs.Tests.{Refuses};
 ghost use Rattle.ising2d_c.specs.Crossing.{Shows};
 ghost use Rattle.ising2d_c.specs.Nested.{IsNested, IsNestVerdict};
 ghost use Rattle.ising2d_c.specs.Nests.{AreNestRows, AreRowsOf, HandsNest, nest_fault};

@@ -3,7 +3,7 @@ ghost use Rattle.std.specs.Prelude.{◌≡◌, ◌+◌, ◌-◌, ◌<◌, ◌≤
 ghost use Rattle.sg_limits.specs.Limits.{input_limit};
 ghost use Rattle.sg_model.specs.Spins.{IsUpOrDown};
 ghost use Rattle.sg_reader.specs.Result.{is_spin_value};
-ghost use Rattle.sg_reader.specs.Tests.{Refuses};
+ghost use Rattle.sg_draft.specs.Tests.{Refuses};
 ghost use Rattle.ising2d_c.specs.Crossing.{AreRows};
 ghost use Rattle.ising2d_c.specs.Starts.{DividesEntries, entry};
 ghost use Rattle.ising2d_c.specs.Stated.{States, given_loops_fault, stated_fault, values_fault};

@@ -24,7 +24,7 @@ use Rattle.sg_cli.specs.Served.{AnswersText}
 use Rattle.sg_words.specs.declared.command.Reading.{Reading}
 use Rattle.sg_reply.specs.declared.status.Status.{Status}
 use Rattle.sg_model.specs.Faults.{OrNoMemory}
-use Rattle.sg_reader.specs.Tests.{Refuses}
+use Rattle.sg_draft.specs.Tests.{Refuses}
 
 -- what refuses the records refuses the text of records
 pub by_record : (bytes : List ℕ) (fault : Fault) → OrNoMemory (RefusesInstance (kept_of bytes)) fault → OrNoMemory (RefusesAlone bytes) fault

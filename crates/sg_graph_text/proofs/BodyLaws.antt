@@ -16,7 +16,7 @@ use Rattle.sg_model.specs.declared.refusal.Refusal.TheVariants.{UnknownKind}
 use Rattle.sg_graph.specs.declared.web.Edge.{Edge}
 use Rattle.sg_graph.specs.Web.{IsEdge}
 use Rattle.sg_reader.specs.Kept.{Kept, field}
-use Rattle.sg_reader.specs.Tests.{Refuses}
+use Rattle.sg_draft.specs.Tests.{Refuses}
 use Rattle.sg_reader.specs.Body.{bare_end_fault, says_end, sizes_from}
 use Rattle.sg_reader.specs.Ended.{IsBody, IsEnded}
 use Rattle.sg_reader.proofs.BodyLaws.{IsBody-more, IsBody-none}

@@ -10,7 +10,7 @@ use Rattle.sg_reader.specs.NoMore.{trailing_fault}
 use Rattle.sg_graph_text.specs.declared.graph.GraphText.{GraphText}
 use Rattle.sg_graph_text.specs.ReadGraph.{ReadsGraph, RefusesGraph}
 use Rattle.sg_graph_text.specs.Network.{AtGraph, AtReach, AtRecords, AtTrailing, AtWeight, GivesAlone, IsTooHeavy, IsUnjoined, graph_in, RefusesGraphAlone, RefusesNetwork}
-use Rattle.sg_reader.specs.Tests.{Refuses}
+use Rattle.sg_draft.specs.Tests.{Refuses}
 use Rattle.sg_model.specs.Faults.{OrNoMemory}
 
 pub record-fault : (terms : Bool) (bytes : List ℕ) (e : Fault) → OrNoMemory (RefusesGraph terms (kept_of bytes)) e → OrNoMemory

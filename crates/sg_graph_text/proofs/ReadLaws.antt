@@ -8,7 +8,8 @@ use Rattle.sg_model.specs.declared.refusal.Refusal.TheVariants.{BadShape, TooMan
 use Rattle.sg_limits.specs.Limits.{spin_limit}
 use Rattle.std.specs.Prelude.{◌==◌, length, nat_lt, pos}
 use Rattle.sg_reader.specs.Kept.{Kept}
-use Rattle.sg_reader.specs.Tests.{at_least, bad_number, refuse_if, size_in}
+use Rattle.sg_draft.specs.Tests.{refuse_if}
+use Rattle.sg_reader.specs.Tests.{at_least, bad_number, size_in}
 use Rattle.sg_reader.specs.Body.{says_end}
 use Rattle.sg_reader.specs.Ended.{AtRecord, StatesToEnd, WithoutEnd, RefusesRecords}
 use Rattle.sg_reader.proofs.BodyLaws.{IsBody-none}

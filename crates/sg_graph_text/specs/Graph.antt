@@ -12,7 +12,8 @@ use Rattle.sg_graph.specs.Web.{IsEdge}
 use Rattle.sg_graph.specs.Join.{AreTerminals}
 use Rattle.sg_reader.specs.declared.range.Range.{Range}
 use Rattle.sg_reader.specs.Kept.{Kept, begins}
-use Rattle.sg_reader.specs.Tests.{any_index, at_least, bad_number, first_of, number_in, refuse_if, size_in, spin_below}
+use Rattle.sg_draft.specs.Tests.{first_of, refuse_if}
+use Rattle.sg_reader.specs.Tests.{any_index, at_least, bad_number, number_in, size_in, spin_below}
 use Rattle.sg_reader.specs.Body.{bare_end_fault, says_end, sizes_from}
 use Rattle.sg_reader.specs.Ended.{record_at}
 use Rattle.sg_graph_text.specs.declared.graph.GraphText.{GraphText}

@@ -4,7 +4,7 @@ use Rattle.sg_limits.specs.Limits.{bond_limit}
 use Rattle.sg_model.specs.declared.refusal.Fault.{Fault}
 use Rattle.sg_graph.specs.Web.{IsEdge}
 use Rattle.sg_reader.specs.Kept.{Kept}
-use Rattle.sg_reader.specs.Tests.{Refuses}
+use Rattle.sg_draft.specs.Tests.{Refuses}
 use Rattle.sg_graph_text.specs.declared.body.GraphBody.{GraphBody}
 use Rattle.sg_graph_text.specs.declared.graph.GraphText.{GraphText}
 use Rattle.sg_graph_text.specs.Graph.{body_fault, body_graph, edges_in, entries_given, entries_in, terminals_fault}

@@ -10,7 +10,7 @@ use Rattle.sg_model.specs.declared.bond.Bond.{Bond}
 use Rattle.sg_model.specs.declared.refusal.Refusal.{Refusal}
 use Rattle.sg_model.specs.declared.refusal.Refusal.TheVariants.{SelfBond}
 use Rattle.sg_model.specs.Ising.{IsBond}
-use Rattle.sg_reader.specs.Tests.{first_of}
+use Rattle.sg_draft.specs.Tests.{first_of}
 use Rattle.sg_json.specs.declared.entry.Entry.TheVariants as entry
 use Rattle.sg_json.specs.Values.{value_bond, index, is_index_below, is_triple, is_whole, item_at, items_in, triple}
 use Rattle.sg_json.specs.Members.{member_bond, member_bonds_fault, entries_fault, is_self_bond, self_fault}

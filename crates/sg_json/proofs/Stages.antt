@@ -20,7 +20,7 @@ use Rattle.sg_lattice.specs.declared.kind.Kind.{Kind}
 use Rattle.sg_lattice.specs.Tables.{bond_total, lattice, least_cols}
 use Rattle.sg_reader.specs.declared.header.Form.{Form}
 use Rattle.sg_reader.specs.Body.{reseamed}
-use Rattle.sg_reader.specs.Tests.{Refuses}
+use Rattle.sg_draft.specs.Tests.{Refuses}
 use Rattle.sg_reader.proofs.TestLaws.{is-not}
 use Rattle.sg_json.specs.declared.entry.Entry.{Entry}
 use Rattle.sg_json.specs.declared.entry.Entry.TheVariants as entry

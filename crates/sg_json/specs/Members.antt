@@ -17,7 +17,7 @@ use Rattle.sg_lattice.specs.Tables.{bond_total, lattice, least_cols}
 use Rattle.sg_reader.specs.declared.header.Form.{Form}
 use Rattle.sg_reader.specs.declared.header.Form.TheVariants as form
 use Rattle.sg_reader.specs.Header.{form_of}
-use Rattle.sg_reader.specs.Tests.{first_of, refuse_if}
+use Rattle.sg_draft.specs.Tests.{first_of, refuse_if}
 use Rattle.sg_reader.specs.Body.{reseamed}
 use Rattle.sg_json.specs.declared.entry.Entry.{Entry}
 use Rattle.sg_json.specs.declared.entry.Entry.TheVariants as entry

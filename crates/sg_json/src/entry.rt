@@ -2,7 +2,7 @@ ghost use Rattle.std.specs.Prelude.{◌≡◌, ◌<◌, None, Some, map, length,
 ghost use Rattle.std.specs.List.{list_all};
 ghost use Rattle.serde_json.specs.View.{view};
 ghost use Rattle.sg_model.specs.declared.refusal.Refusal.TheVariants.{BadMember as IsBadMember};
-ghost use Rattle.sg_reader.specs.Tests.{Refuses};
+ghost use Rattle.sg_draft.specs.Tests.{Refuses};
 ghost use Rattle.sg_json.specs.Members.{entries_fault, fits, list_fault, misfit};
 ghost use Rattle.sg_json.specs.Values.{index as index_in_data, is_index_below, is_bond_value as is_bond_data, is_index, is_index_list, member_list};
 ghost use Rattle.sg_model.specs.Faults.{OrNoMemory};

@@ -5,7 +5,7 @@ ghost use Rattle.sg_model.specs.declared.refusal.Fault.TheVariants.{NoMemory as 
 ghost use Rattle.sg_model.specs.declared.refusal.Refusal.TheVariants.{SelfBond as IsSelfBond};
 ghost use Rattle.sg_model.specs.Ising.{bond_count as count_of};
 ghost use Rattle.sg_model.specs.WellFormed.{IsInstance};
-ghost use Rattle.sg_reader.specs.Tests.{Refuses};
+ghost use Rattle.sg_draft.specs.Tests.{Refuses};
 ghost use Rattle.sg_json.specs.Members.{member_bonds_fault, general_members_fault, general_in, rotation_fault, self_fault};
 ghost use Rattle.sg_json.specs.ReadJson.{IsTableRefusal};
 ghost use Rattle.sg_json.specs.Values.{value_bond, index_of, member_list};

@@ -6,7 +6,7 @@ ghost use Rattle.sg_model.specs.Faults.{IsRefusalOf, OrNoMemory};
 ghost use Rattle.sg_model.specs.Ising.{bond_count as count_of};
 ghost use Rattle.sg_model.specs.WellFormed.{IsInstance};
 ghost use Rattle.sg_reader.specs.Body.{reseamed};
-ghost use Rattle.sg_reader.specs.Tests.{Refuses};
+ghost use Rattle.sg_draft.specs.Tests.{Refuses};
 ghost use Rattle.sg_json.specs.Members.{count_fault, lattice_members_fault, lattice_in};
 ghost use Rattle.sg_json.specs.ReadJson.{IsTableRefusal};
 ghost use Rattle.sg_json.specs.Values.{index_of};

@@ -1,7 +1,7 @@
 ghost use Rattle.std.specs.Prelude.{◌≡◌, None, Some, option_map, codes, map, IfOk, IfErr};
 ghost use Rattle.serde_json.specs.Find.{get};
 ghost use Rattle.serde_json.specs.View.{view};
-ghost use Rattle.sg_reader.specs.Tests.{Refuses};
+ghost use Rattle.sg_draft.specs.Tests.{Refuses};
 ghost use Rattle.sg_json.specs.Members.{member_seam_fault, member_seam};
 ghost use Rattle.sg_json.specs.Values.{index_of, items_in};
 ghost use Rattle.sg_model.specs.Faults.{OrNoMemory};

@@ -6,10 +6,9 @@ ghost use Rattle.sg_json.specs.Members.{cols_in, general_size_fault, lattice_siz
 
 use super::value::size_member;
 use serde_json::Value;
-use sg_lattice::Kind;
+use sg_lattice::{Kind, least_cols};
 use sg_limits::SPIN_LIMIT;
 use sg_model::Refusal;
-use sg_reader::least_cols;
 
 /// Rows and columns of a lattice.
 #[derive(Clone, Copy)]

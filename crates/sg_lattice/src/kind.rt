@@ -1,3 +1,6 @@
+ghost use Rattle.std.specs.Prelude.{◌≡◌, ◌≤◌};
+ghost use Rattle.sg_lattice.specs.Tables.{least_cols as least_cols_of};
+
 /// The kind of a lattice of rows, which grow to the south, and columns, which grow to the east.
 #[derive(Clone, Copy, Debug, PartialEq, Eq)]
 pub enum Kind {
@@ -25,4 +28,16 @@ pub(crate) enum Step {
 pub(crate) struct Ends {
     pub(crate) u: u32,
     pub(crate) v: u32,
+}
+
+/// The least number of columns of a lattice.
+pub fn least_cols(kind: Kind) -> u32
+    ensures value { result ≡ least_cols_of kind }
+    ensures some { 1 ≤ result }
+{
+    match kind {
+        Kind::Square | Kind::Triangular => 1,
+        Kind::Hexagonal => 2,
+        Kind::Cylinder => 3,
+    }
 }

@@ -17,7 +17,7 @@ mod kind;
 mod lattice;
 mod shape;
 
-pub use kind::Kind;
+pub use kind::{Kind, least_cols};
 pub use lattice::{bond_count, build, cylinder, hexagonal, square, triangular};
 use std::alloc::AllocError;
 

@@ -17,7 +17,8 @@ use Rattle.sg_model.specs.Faults.{IsRefusalOf, OrNoMemory}
 use Rattle.sg_reader.specs.declared.header.Header.{Header}
 use Rattle.sg_reader.specs.Kept.{Kept, begins, field}
 use Rattle.sg_reader.specs.Number.{number_of}
-use Rattle.sg_reader.specs.Tests.{number_in, Refuses}
+use Rattle.sg_draft.specs.Tests.{Refuses}
+use Rattle.sg_reader.specs.Tests.{number_in}
 use Rattle.sg_reader.specs.Body.{couplings_in, instance_of, says_end, says_seam, numbers_from, record_fault, seam_in, sizes_from}
 use Rattle.sg_reader.specs.Ended.{IsBody, IsEnded, record_at}
 use Rattle.sg_reader.specs.ReadInstance.{AtEnd, AtRecord, RefusesBody}

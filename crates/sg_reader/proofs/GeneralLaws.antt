@@ -20,7 +20,8 @@ use Rattle.sg_reader.specs.declared.header.Header.TheVariants as header
 use Rattle.sg_reader.specs.declared.general.GeneralBody.{GeneralBody}
 use Rattle.sg_limits.specs.Limits.{bond_limit}
 use Rattle.sg_reader.specs.Kept.{Kept, field}
-use Rattle.sg_reader.specs.Tests.{any_index, bad_field, bad_number, is_number_in, size_in, spin_below, Refuses}
+use Rattle.sg_draft.specs.Tests.{Refuses}
+use Rattle.sg_reader.specs.Tests.{any_index, bad_field, bad_number, is_number_in, size_in, spin_below}
 use Rattle.sg_reader.specs.Body.{bond_fault, bond_of, bond_range, ends_fault, bonds_in, darts_in, bare_end_fault, general_fault, has_rot, instance_of, says_bond, says_end, says_rot, says_rot_of, says_seam, record_fault, rot_fault, rot_range, seam_fault, seam_in, sizes_from}
 use Rattle.sg_reader.specs.Ended.{IsBody, IsEnded}
 use Rattle.sg_reader.specs.GeneralHolds.{HoldsGeneral}

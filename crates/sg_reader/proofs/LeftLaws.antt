@@ -9,7 +9,7 @@ use Rattle.sg_reader.specs.Kept.{Kept, behind, is_kept, kept_of, numbered_from}
 use Rattle.sg_reader.specs.Leaves.{IsRest, Leaves}
 use Rattle.sg_reader.specs.NoMore.{left_fault, trailing_fault}
 use Rattle.sg_reader.specs.Records.{records_of}
-use Rattle.sg_reader.specs.Tests.{Refuses}
+use Rattle.sg_draft.specs.Tests.{Refuses}
 use Rattle.sg_model.specs.Faults.{OrNoMemory}
 
 -- the numbers of the records rise, from n or above it

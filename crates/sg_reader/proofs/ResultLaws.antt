@@ -16,7 +16,8 @@ use Rattle.sg_model.specs.declared.refusal.Refusal.TheVariants.{BadNumber, BadSh
 use Rattle.sg_check.specs.declared.packing.Loop.{Loop}
 use Rattle.sg_reader.specs.Kept.{Kept, field}
 use Rattle.sg_reader.specs.Number.{number_of}
-use Rattle.sg_reader.specs.Tests.{any_index, any_number, bad_field, bad_number, first_of, is_number_in, number_in, refuse_if, Refuses}
+use Rattle.sg_draft.specs.Tests.{first_of, refuse_if, Refuses}
+use Rattle.sg_reader.specs.Tests.{any_index, any_number, bad_field, bad_number, is_number_in, number_in}
 use Rattle.sg_reader.specs.Body.{bare_end_fault, says_end, numbers_from}
 use Rattle.sg_limits.specs.Limits.{text_limit}
 use Rattle.sg_reader.specs.Ended.{AtRecord, IsBody, IsEnded, RefusesRecords, StatesToEnd, TestTable, WithoutEnd, record_at}

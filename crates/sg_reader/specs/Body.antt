@@ -13,7 +13,8 @@ use Rattle.sg_reader.specs.declared.header.Header.{Header}
 use Rattle.sg_reader.specs.declared.header.Header.TheVariants as header
 use Rattle.sg_reader.specs.declared.range.Range.{Range}
 use Rattle.sg_reader.specs.Kept.{Kept, begins}
-use Rattle.sg_reader.specs.Tests.{any_index, any_number, bad_number, first_of, number_in, refuse_if, size_in, spin_below}
+use Rattle.sg_draft.specs.Tests.{first_of, refuse_if}
+use Rattle.sg_reader.specs.Tests.{any_index, any_number, bad_number, number_in, size_in, spin_below}
 
 -- what a record begins with
 abbrev pub says_end : Kept → Bool

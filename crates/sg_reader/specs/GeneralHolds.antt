@@ -8,7 +8,7 @@ use Rattle.sg_reader.specs.declared.general.GeneralBody.{GeneralBody}
 use Rattle.sg_limits.specs.Limits.{bond_limit}
 use Rattle.sg_reader.specs.declared.header.Header.TheVariants as header
 use Rattle.sg_reader.specs.Kept.{Kept}
-use Rattle.sg_reader.specs.Tests.{Refuses}
+use Rattle.sg_draft.specs.Tests.{Refuses}
 use Rattle.sg_reader.specs.Body.{bonds_in, darts_in, general_fault, has_rot, instance_of, seam_in}
 
 -- the bonds, the darts of each spin, the spins whose darts were given, and the seam of the records

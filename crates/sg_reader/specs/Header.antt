@@ -13,7 +13,8 @@ use Rattle.sg_reader.specs.declared.header.Header.{Header}
 use Rattle.sg_reader.specs.declared.header.Header.TheVariants as header
 use Rattle.sg_reader.specs.declared.range.Range.{Range}
 use Rattle.sg_reader.specs.Kept.{Kept, field}
-use Rattle.sg_reader.specs.Tests.{at_least, bad_number, first_of, refuse_if, size_in}
+use Rattle.sg_draft.specs.Tests.{first_of, refuse_if}
+use Rattle.sg_reader.specs.Tests.{at_least, bad_number, size_in}
 
 -- the form of an instance that a word names
 unfoldable pub form_of : List ℕ → Option Form

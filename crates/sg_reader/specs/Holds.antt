@@ -4,7 +4,7 @@ use Rattle.sg_model.specs.declared.refusal.Fault.{Fault}
 use Rattle.sg_reader.specs.declared.lattice.LatticeBody.{LatticeBody}
 use Rattle.sg_reader.specs.Kept.{Kept}
 use Rattle.sg_reader.specs.Body.{couplings_in, lattice_fault, seam_in}
-use Rattle.sg_reader.specs.Tests.{Refuses}
+use Rattle.sg_draft.specs.Tests.{Refuses}
 use Rattle.sg_model.specs.Faults.{OrNoMemory}
 
 -- the couplings and the seam of the records

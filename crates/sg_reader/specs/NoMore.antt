@@ -5,7 +5,7 @@ use Rattle.sg_model.specs.declared.refusal.Fault.TheVariants.{Refused, NoMemory}
 use Rattle.sg_model.specs.declared.refusal.Refusal.{Refusal}
 use Rattle.sg_model.specs.declared.refusal.Refusal.TheVariants.{Trailing}
 use Rattle.sg_reader.specs.Kept.{Kept, behind}
-use Rattle.sg_reader.specs.Tests.{Refuses}
+use Rattle.sg_draft.specs.Tests.{Refuses}
 use Rattle.sg_model.specs.Faults.{OrNoMemory}
 
 -- the first of the records that are left, if there is one

@@ -9,7 +9,8 @@ use Rattle.sg_check.specs.declared.packing.ResultText.{ResultText}
 use Rattle.sg_reader.specs.declared.range.Range.{Range}
 use Rattle.sg_reader.specs.Number.{number_of}
 use Rattle.sg_reader.specs.Kept.{Kept, begins, field}
-use Rattle.sg_reader.specs.Tests.{any_index, any_number, bad_number, first_of, number_in, refuse_if}
+use Rattle.sg_draft.specs.Tests.{first_of, refuse_if}
+use Rattle.sg_reader.specs.Tests.{any_index, any_number, bad_number, number_in}
 use Rattle.sg_reader.specs.Body.{bare_end_fault, says_end, numbers_from, sizes_from}
 use Rattle.sg_reader.specs.Ended.{record_at}
 

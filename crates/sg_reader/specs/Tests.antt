@@ -1,4 +1,4 @@
--- Tests of a record: each gives its refusal where it fails, and of several the first that fails counts.
+-- Tests of the numbers of a record: each gives its refusal where it fails.
 use Rattle.std.specs.Prelude.{◌≡◌, ℕ, ◌-◌, ◌^◌, ◌&&◌, Bool, false, not, ℤ, pos, neg_ℤ, int_le, unsigned_abs, if◌then◌else◌, List, [], ◌∷◌, length, find, Option, Some, None, option_map, unwrap_or}
 use Rattle.std.specs.List.{range_with_len}
 use Rattle.std.specs.Option.{option_or}
@@ -8,15 +8,6 @@ use Rattle.sg_reader.specs.declared.range.Range.{Range}
 use Rattle.sg_reader.specs.Number.{number_of}
 use Rattle.sg_reader.specs.Kept.{Kept, field}
 use Rattle.sg_model.specs.Faults.{OrNoMemory}
-
--- the refusal, if the test fails
-abbrev pub refuse_if : Bool → Refusal → Option Refusal
-refuse_if fails refusal = if fails then Some refusal else None
-
--- the first of the tests that fails
-abbrev pub first_of : List (Option Refusal) → Option Refusal
-first_of [] = None
-first_of (test ∷ tests) = option_or test (first_of tests)
 
 -- the ranges of the places: couplings, rows and columns and spins in all, spins by number, darts and bonds by number
 abbrev pub any_number : Range
@@ -54,7 +45,3 @@ bad_field r from range =
 -- the test of the numbers of a record
 abbrev pub bad_number : Kept → ℕ → (ℕ → Range) → Option Refusal
 bad_number r from range = option_map (λ i. BadNumber r.at i) (bad_field r from range)
-
--- the test fails with this refusal
-abbrev pub Refuses : Option Refusal → Refusal → Type 0
-Refuses test refusal = test ≡ Some refusal

@@ -1,6 +1,7 @@
 ghost use Rattle.std.specs.Prelude.{◌≡◌, ◌≤◌, ◌++◌, length, None, Some, IfOk, IfErr, OnOk};
 ghost use Rattle.sg_reader.specs.Body.{bare_end_fault, numbers_from, seam_fault, sizes_from};
-ghost use Rattle.sg_reader.specs.Tests.{any_index, any_number, bad_field, bad_number, Refuses};
+ghost use Rattle.sg_draft.specs.Tests.{Refuses};
+ghost use Rattle.sg_reader.specs.Tests.{any_index, any_number, bad_field, bad_number};
 ghost use Rattle.sg_model.specs.Faults.{OrNoMemory};
 
 use super::range::Range;

@@ -1,11 +1,10 @@
 ghost use Rattle.std.specs.Prelude.{◌≡◌, ◌≤◌, ◌*◌, None, Some, IfOk, IfErr};
-ghost use Rattle.sg_lattice.specs.Tables.{least_cols as least_cols_of};
 ghost use Rattle.sg_reader.specs.declared.header.Form.TheVariants as form;
 ghost use Rattle.sg_reader.specs.Header.{form_fault, form_of, header_fault, header_of, header_with, IsHeader};
 
 use super::range::Range;
 use super::row::Row;
-use sg_lattice::Kind;
+use sg_lattice::{Kind, least_cols};
 use sg_limits::SPIN_LIMIT;
 use sg_model::Refusal;
 
@@ -52,18 +51,6 @@ pub fn form_named(word: &[u8]) -> Option<Form>
         Some(Form::General)
     } else {
         None
-    }
-}
-
-/// The least number of columns of a lattice.
-pub fn least_cols(kind: Kind) -> u32
-    ensures value { result ≡ least_cols_of kind }
-    ensures some { 1 ≤ result }
-{
-    match kind {
-        Kind::Square | Kind::Triangular => 1,
-        Kind::Hexagonal => 2,
-        Kind::Cylinder => 3,
     }
 }
 

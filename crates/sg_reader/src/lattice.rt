@@ -5,7 +5,7 @@ ghost use Rattle.sg_model.specs.Ising.{bond_count};
 ghost use Rattle.sg_model.specs.WellFormed.{IsInstance};
 ghost use Rattle.sg_lattice.specs.Tables.{IsSize, bond_total, lattice};
 ghost use Rattle.sg_reader.specs.declared.header.Header.TheVariants as header;
-ghost use Rattle.sg_reader.specs.Tests.{Refuses};
+ghost use Rattle.sg_draft.specs.Tests.{Refuses};
 ghost use Rattle.sg_reader.specs.Body.{says_end, lattice_end_fault, reseamed};
 ghost use Rattle.sg_reader.specs.ReadInstance.{ReadsBody, RefusesBody};
 ghost use Rattle.sg_reader.specs.Leaves.{IsRest, Leaves};

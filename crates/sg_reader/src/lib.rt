@@ -31,7 +31,7 @@ mod rows;
 
 pub use body::{END, bare_end, indices};
 pub use field::without_marks;
-pub use header::{Form, form_named, least_cols};
+pub use header::{Form, form_named};
 pub use numeral::number;
 pub use range::Range;
 pub use read::{no_more, read_instance};

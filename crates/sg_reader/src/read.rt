@@ -5,7 +5,7 @@ ghost use Rattle.sg_model.specs.WellFormed.{IsInstance};
 ghost use Rattle.sg_reader.specs.Leaves.{IsRest, Leaves};
 ghost use Rattle.sg_reader.specs.NoMore.{LeavesBehind, left_fault};
 ghost use Rattle.sg_reader.specs.ReadInstance.{ReadsInstance, RefusesInstance};
-ghost use Rattle.sg_reader.specs.Tests.{Refuses};
+ghost use Rattle.sg_draft.specs.Tests.{Refuses};
 ghost use Rattle.sg_model.specs.Faults.{OrNoMemory};
 
 use super::general::read_general;

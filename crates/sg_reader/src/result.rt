@@ -7,7 +7,8 @@ ghost use Rattle.sg_reader.specs.Kept.{Kept};
 ghost use Rattle.sg_reader.specs.Leaves.{IsRest, Leaves};
 ghost use Rattle.sg_reader.specs.Result.{energy_fault, loop_fault, stated_loop, loops_fault, stated_loops, spins_fault};
 ghost use Rattle.sg_reader.specs.ReadResult.{ReadsResult, RefusesResult};
-ghost use Rattle.sg_reader.specs.Tests.{number_in, Refuses};
+ghost use Rattle.sg_draft.specs.Tests.{Refuses};
+ghost use Rattle.sg_reader.specs.Tests.{number_in};
 ghost use Rattle.sg_model.specs.Faults.{OrNoMemory};
 
 use super::body::{END, bare_end, indices};

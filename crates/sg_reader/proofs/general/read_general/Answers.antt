@@ -3,7 +3,7 @@ use Rattle.std.proofs.lemmas.Result.{err_from_is_err_and}
 use Rattle.sg_model.specs.declared.refusal.Fault.TheVariants.{Refused}
 use Rattle.sg_reader.specs.declared.header.Header.TheVariants as header
 use Rattle.sg_reader.specs.Kept.{Kept}
-use Rattle.sg_reader.specs.Tests.{Refuses}
+use Rattle.sg_draft.specs.Tests.{Refuses}
 use Rattle.sg_reader.specs.Body.{general_fault, says_end, record_fault, instance_of}
 use Rattle.std.proofs.Common.{subst}
 use Rattle.sg_model.specs.Faults.{IsRefusalOf, OrNoMemory}
