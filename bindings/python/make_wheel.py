@@ -52,7 +52,8 @@ get_requires_for_build_editable = get_requires_for_build_wheel
 def _files():
     """The files of the package, by their places in the wheel."""
     package = HERE / NAME
-    files = {f"{NAME}/{path.name}": path.read_bytes() for path in sorted(package.glob("*.py"))}
+    own = sorted([*package.glob("*.py"), *package.glob("*.csv")])
+    files = {f"{NAME}/{path.name}": path.read_bytes() for path in own}
     files[f"{NAME}/py.typed"] = b""
     files[f"{NAME}/{LIBRARY.name}"] = LIBRARY.read_bytes()
     return files

@@ -1,11 +1,11 @@
 """Refusals of texts, with the line, the value, and what is allowed."""
 
 import json
-from typing import Any, Dict, List, Optional
+from typing import Any, Dict, List, Optional, Tuple
 
 from ._lattices import KINDS
 from ._records import Record, is_json, object_of, records_of
-from ._refusals import Refusal, words_of_graphs
+from ._refusals import Refusal, member_name, words_of
 
 _NUMBER = "a whole number from -(2**63 - 1) to 2**63 - 1"
 _LONG = "a whole number from 0 to 4294967295"
@@ -92,27 +92,26 @@ def explained(refusal: Refusal, text: str, command: str) -> Refusal:
         place = _Place(text, refusal.kept[0])
         if place.record is not None:
             return _about_record(refusal, place, place.record, command)
-    words = words_of_graphs(refusal.number, refusal.kept) if is_graph else None
+    words = words_of("graph", refusal.number, refusal.kept) if is_graph else None
     return Refusal(refusal.number, refusal.kept, refusal.value, _line_of(refusal, text), words)
 
 
 def _about_record(refusal: Refusal, place: _Place, record: Record, command: str) -> Refusal:
     """The refusal with its record."""
     number, kept = refusal.number, refusal.kept
+    told: Tuple[object, ...]
     if number == 3:
         field = kept[1]
         value = repr(record.fields[field]) if field < len(record.fields) else "a missing field"
-        words = f"field {field + 1}: {value} cannot stand there", place.allowed(field)
+        told, allowed = (field + 1, value), place.allowed(field)
     elif number == 4:
         value = repr(place.word())
-        words = f"{value} cannot stand there", place.words(command)
+        told, allowed = (value,), place.words(command)
     else:
         value = repr(",".join(record.fields))
-        words = f"{value} stands behind the end", "nothing"
-        if number == 5:
-            form = _FORMS.get(place.word(), "another number of fields")
-            words = f"{value} has a wrong number of fields, or comes a second time", form
-    return Refusal(number, kept, value, record.line, words)
+        form = _FORMS.get(place.word(), "another number of fields")
+        told, allowed = (value,), form if number == 5 else ""
+    return Refusal(number, kept, value, record.line, words_of("line", number, told, allowed))
 
 
 def _about_json(refusal: Refusal, text: str) -> Refusal:
@@ -126,8 +125,6 @@ def _about_json(refusal: Refusal, text: str) -> Refusal:
 MEMBERS = {"general": {"kind", "n", "bonds", "rotation", "seam"}}
 MEMBERS.update({kind: {"kind", "rows", "cols", "couplings", "seam"} for kind in KINDS})
 
-_PLACES = {1: "kind", 3: "rows", 4: "cols", 5: "n", 6: "couplings", 7: "bonds", 8: "rotation", 9: "seam"}
-
 
 def member_shown(members: Dict[str, Any], refusal: Refusal) -> Optional[str]:
     """The wrong member of an object of JSON, or its wrong entry."""
@@ -137,7 +134,7 @@ def member_shown(members: Dict[str, Any], refusal: Refusal) -> Optional[str]:
     if place == 2:
         allowed = MEMBERS.get(str(members.get("kind")), set())
         return next((repr(name) for name in members if name not in allowed), None)
-    name = _PLACES.get(place, "")
+    name = member_name(place)
     if name not in members:
         return f"there is no member {name}"
     value = members[name]

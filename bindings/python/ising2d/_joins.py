@@ -6,7 +6,7 @@ from typing import Any, Dict, Hashable, Iterable, List, Optional, Sequence, Tupl
 from ._answers import Join, OddCut, Step, Tour
 from ._arrays import Whole, in_32_bits, listed_of, numpy, refuse_unordered, shortened, whole, whole_numbers
 from ._judging import Edge, Judge, odd_nodes
-from ._refusals import words_of_graphs
+from ._refusals import words_of
 from ._runs import answered, numbers, one_of, records_in, weighted
 
 
@@ -171,7 +171,7 @@ class _Asked:
         """What a refusal says in the words of a graph, and what is allowed."""
         value = self._shown(number, kept)
         if number != 3 or value is None:
-            return words_of_graphs(number, kept)
+            return words_of("graph", number, kept)
         if kept[0] == 0:
             return f"n is {value}", "1 or more"
         last = self.network.n - 1

@@ -5,7 +5,7 @@ from typing import Any, Dict, Hashable, List, Optional, Sequence, Tuple, Union
 from . import _crossing
 from ._arrays import Whole, crossed, fixed, in_32_bits, shortened, whole, whole_numbers
 from ._instances import Ends, Instance, Places
-from ._refusals import Refusal, words_of_large
+from ._refusals import Refusal, words_of
 
 KINDS = ("square", "triangular", "hexagonal", "cylinder")
 Kind = Union[str, Whole]
@@ -82,7 +82,7 @@ class Lattice(Instance):
         if self.kind not in KINDS:
             raise Refusal(19, (1, 0), repr(self.kind))
         if self.n > _crossing.MOST_SPINS:
-            raise Refusal(7, (self.n,), words=words_of_large(7, (self.n,)))
+            raise Refusal(7, (self.n,), words=words_of("large", 7, (self.n,)))
 
     def ends(self) -> Ends:
         self._fit()
