@@ -1,8 +1,7 @@
 -- A nest that proves a join proves the spins that break just its edges.
-use Rattle.std.proofs.Common.{◌≡◌, ℕ, ◌*◌, ℤ, pos, Some, List, ap, sym, subst, ◌∙◌}
-use Rattle.sg_model.specs.Connected.{IsConnected}
-use Rattle.sg_model.specs.Energy.{IsGroundState, energy}
-use Rattle.sg_model.specs.Spins.{IsAssignment, spin}
+use Rattle.std.proofs.Common.{◌≡◌, ℕ, ◌*◌, ℤ, Option, Some, None, List, IfSome, ap, sym, subst, ◌∙◌}
+use Rattle.sg_model.specs.Energy.{IsGroundState}
+use Rattle.sg_model.specs.Spins.{IsAssignment}
 use Rattle.sg_planar.specs.BrokenLists.{BreaksExactly}
 use Rattle.sg_planar.specs.Fit.{Embedding, IsPlanar}
 use Rattle.sg_graph.specs.Join.{IsJoin, IsLeastJoin}
@@ -10,9 +9,9 @@ use Rattle.sg_graph.specs.Web.{Graph}
 use Rattle.sg_dual.specs.Dual.{dual_web, frustrated_faces}
 use Rattle.sg_nest.specs.Nest.{NestProves}
 use Rattle.sg_nest.specs.declared.nest.Nest.{Nest}
+use Rattle.sg_ground.specs.Solution.{IsState}
 use Rattle.sg_ground.specs.Nested.{IsNestedState, ProvesByNest, broken_bonds}
 use Rattle.sg_ground.proofs.BrokenJoins.{BreaksExactly-broken, IsJoin-broken, ground_by_join}
-use Rattle.sg_ground.proofs.FirstUp.{leasts_up}
 use Rattle.sg_ground.proofs.JoinFits.{broken_weight_is}
 
 module _ (p : Embedding) (planar : IsPlanar p) (s : List ℤ) (assigned : IsAssignment p.instance s) where
@@ -34,17 +33,13 @@ module _ (p : Embedding) (planar : IsPlanar p) (s : List ℤ) (assigned : IsAssi
             ∙ broken_weight_is p.instance p.faces (broken_bonds p.instance s) join s own_breaks);
       }
 
-  -- spins of a connected instance that break just the edges of a least join that a nest proves
-  pub nested_by_join : IsConnected p.instance → (e : ℤ) (edges : List ℕ) (nest : Nest) → spin s 0 ≡ pos 1 → BreaksExactly p.instance s edges
-      → energy p.instance s ≡ e → IsLeastJoin (dual_web p.instance p.faces) (frustrated_faces p.instance p.faces) edges
-      → NestProves (dual_web p.instance p.faces) (frustrated_faces p.instance p.faces) edges nest → IsNestedState p s e (Some nest)
-  nested_by_join connected e edges nest first_up breaks stated least proves = record {
-    state = record {
-      ground_state = ground_by_join p.instance p.faces planar.instance planar.faces s edges assigned breaks least;
-      stated = stated;
-      leasts_up = leasts_up p.instance connected s first_up;
-    };
-    proves = record { assignment = assigned; stated = stated; nested = proves_broken edges nest breaks proves };
+  -- a state that breaks just the edges of a join, and perhaps a nest that proves these
+  pub nested_by_state : (e : ℤ) (edges : List ℕ) (found : Option Nest) → BreaksExactly p.instance s edges → IsState p.instance s e
+      → IfSome found (NestProves (dual_web p.instance p.faces) (frustrated_faces p.instance p.faces) edges) → IsNestedState p s e found
+  nested_by_state e edges None breaks state proves = record { state = state; proves = tt }
+  nested_by_state e edges (Some nest) breaks state proves = record {
+    state = state;
+    proves = record { assignment = assigned; stated = state.stated; nested = proves_broken edges nest breaks proves };
   }
 
   -- where a web, terminals and edges are the dual, the frustrated faces and the broken bonds, and the edges a least join,

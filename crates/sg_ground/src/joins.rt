@@ -1,5 +1,5 @@
 // Least joins of the frustrated faces of one component, with their weight, and the energy by it.
-ghost use Rattle.std.specs.Prelude.{◌≡◌, ◌≤◌, ◌+ℤ◌, ◌-ℤ◌, ◌%◌, length, pos, unsigned_abs, IfOk};
+ghost use Rattle.std.specs.Prelude.{◌≡◌, ◌≤◌, ◌+ℤ◌, ◌-ℤ◌, ◌%◌, length, pos, unsigned_abs, IfOk, IfSome};
 ghost use Rattle.sg_limits.specs.Limits.{forced_limit};
 ghost use Rattle.sg_model.specs.Connected.{IsConnected};
 ghost use Rattle.sg_model.specs.Energy.{weight};
@@ -8,6 +8,7 @@ ghost use Rattle.sg_graph.specs.Join.{AreTerminals};
 ghost use Rattle.sg_graph.specs.Walk.{IsConnectedWeb};
 ghost use Rattle.sg_graph.specs.Web.{total_weight};
 ghost use Rattle.sg_dual.specs.Dual.{dual_web, frustrated_faces};
+ghost use Rattle.sg_nest.specs.Nest.{NestProves};
 ghost use Rattle.sg_ground.specs.TightJoin.{IsWeighedJoin};
 
 use super::NoMemory;
@@ -32,10 +33,13 @@ pub fn dual_of(alloc: Global, planar: &Planar) -> Result<(Web, Terminals), NoMem
     dual(alloc, planar.instance(), planar.faces())
 }
 
-/// A least join of the frustrated faces of a connected instance, and its weight.
+/// A least join of the frustrated faces of a connected instance, its weight, and a nest that proves it,
+/// where one was found.
 pub fn weighed_join(alloc: Global, planar: &Planar) -> Result<LeastJoin, NoMemory>
     requires connected { IsConnected planar.now.instance }
     ensures join { IfOk result (λ j. IsWeighedJoin planar.now j.edges j.weight) }
+    ensures proves { IfOk result (λ j. IfSome j.nest (NestProves
+        (dual_web planar.now.instance planar.now.faces) (frustrated_faces planar.now.instance planar.now.faces) j.edges)) }
     ensures planar { IsPlanar planar.now }
 {
     let (web, frustrated) = dual_of(alloc, planar)?;

@@ -37,12 +37,13 @@ mod part;
 mod placed;
 mod solving;
 mod state;
+mod whole;
 
-pub use answer::Answer;
+pub use answer::{Answer, NestedState};
 pub use law::{least_joins_break, odd_cuts_are_loops};
 pub use least::least_energy;
 pub use loops::cut_loops;
-pub use nested::{NestedState, nested_state, proves_by_nest};
+pub use nested::{nested_state, proves_by_nest};
 pub use solving::solve;
 pub use state::{State, ground_state};
 use std::alloc::AllocError;

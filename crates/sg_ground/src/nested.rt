@@ -12,27 +12,20 @@ ghost use Rattle.sg_nest.specs.Nest.{NestProves};
 ghost use Rattle.sg_ground.specs.Nested.{IsNestedState, FitsWeb, ProvesByNest, broken_bonds as bonds_broken};
 
 use super::NoMemory;
-use super::joins::dual_of;
-use super::state::ground_state;
+use super::answer::NestedState;
+use super::state::{State, ground_state};
+use super::whole::whole_state;
 use sg_dual::dual;
-use sg_graph::{EdgeList, Terminals, Web};
+use sg_graph::{Terminals, Web};
 use sg_model::{Bond, BondList, Instance, Spins};
-use sg_nest::{Nest, Places, Regions, proves};
-use sg_planar::{Planar, spin_walk};
-use sg_regions::{NestProposal, propose_nest};
+use sg_nest::{Nest, proves};
+use sg_planar::Planar;
+use sg_regions::{NestProposal, propose_nest, propose_nest_again};
 use sg_sums::places;
 use std::alloc::Global;
 
 // The most spins and bonds together of an instance whose faces are sure to be few enough for a web.
 const MOST_TOGETHER: usize = 1 << 24;
-
-/// A ground state, its energy, and a nest of regions over the faces that proves it, where one was found.
-#[derive(Drop)]
-pub struct NestedState {
-    pub spins: Spins,
-    pub energy: i64,
-    pub nest: Option<Nest>,
-}
 
 /// A ground state with the least spin of each component up, its energy, and a proof of linear size: a
 /// nest of regions over the faces.
@@ -42,8 +35,9 @@ pub struct NestedState {
 /// proposal is accepted, nor for several components of more than 2^24 spins and bonds together, and the
 /// ground state is found without it. The only error is want of memory.
 ///
-/// Cost: that of `sg_regions::propose_nest` on the frustrated faces and of the judge; of an instance
-/// that is not connected that of [`ground_state`] too.
+/// Cost: that of [`ground_state`]; of an instance that is not connected also that of
+/// `sg_regions::propose_nest` on the frustrated faces of all components, of the judge, and where it says
+/// no as much once more.
 pub fn nested_state(alloc: Global, planar: &Planar) -> Result<NestedState, NoMemory>
     ensures ground_state { IfOk result (λ a. IsGroundState planar.now.instance a.spins) }
     ensures first_up { IfOk result (λ a. LeastsUp planar.now.instance a.spins) }
@@ -60,46 +54,10 @@ fn nested(alloc: Global, planar: &Planar) -> Result<NestedState, NoMemory>
     ensures planar { IsPlanar planar.now }
 {
     if planar.is_connected() {
-        nested_whole(alloc, planar)
+        whole_state(alloc, planar)
     } else {
         nested_apart(alloc, planar)
     }
-}
-
-// The state of a connected instance: the broken bonds are the join that is proposed, where its nest
-// proves it.
-fn nested_whole(alloc: Global, planar: &Planar) -> Result<NestedState, NoMemory>
-    requires connected { IsConnected planar.now.instance }
-    ensures state { IfOk result (λ a. IsNestedState planar.now a.spins a.energy a.nest) }
-    ensures planar { IsPlanar planar.now }
-{
-    let (web, frustrated) = dual_of(alloc, planar)?;
-    match proved_proposal(alloc, &web, &frustrated)? {
-        Some(proposal) => state_of_proposal(alloc, planar, proposal),
-        None => bare_state(alloc, planar),
-    }
-}
-
-// The state that breaks just the edges of a proposal that is proved.
-fn state_of_proposal(
-    alloc: Global,
-    planar: &Planar,
-    proposal: NestProposal,
-) -> Result<NestedState, NoMemory>
-    requires connected { IsConnected planar.now.instance }
-    requires proved { NestProves (dual_web planar.now.instance planar.now.faces)
-        (frustrated_faces planar.now.instance planar.now.faces) proposal.edges proposal.nest }
-    requires least { IsLeastJoin (dual_web planar.now.instance planar.now.faces)
-        (frustrated_faces planar.now.instance planar.now.faces) proposal.edges }
-    ensures { IfOk result (λ a. IsNestedState planar.now a.spins a.energy a.nest) }
-{
-    let spins = spin_walk(alloc, planar, &proposal.edges)?;
-    let energy = planar.instance().energy(&spins) as i64;
-    Ok(NestedState {
-        spins,
-        energy,
-        nest: Some(proposal.nest),
-    })
 }
 
 // The state of an instance of several components, with a nest over the faces of all of them, where that
@@ -108,14 +66,56 @@ fn nested_apart(alloc: Global, planar: &Planar) -> Result<NestedState, NoMemory>
     ensures state { IfOk result (λ a. IsNestedState planar.now a.spins a.energy a.nest) }
     ensures planar { IsPlanar planar.now }
 {
-    if !fits_web(planar) {
-        return bare_state(alloc, planar);
+    let is_small = fits_web(planar);
+    let state = ground_state(alloc, planar)?;
+    let nest = nest_over_all(alloc, planar, &state, is_small)?;
+    Ok(NestedState {
+        spins: state.spins,
+        energy: state.energy,
+        nest,
+    })
+}
+
+// A nest over the faces of all components that proves the state, where these fit a web and one is
+// proposed: at first, or else once more.
+fn nest_over_all(
+    alloc: Global,
+    planar: &Planar,
+    state: &State,
+    is_small: bool,
+) -> Result<Option<Nest>, NoMemory>
+    requires { IsTrue is_small → FitsWeb planar.now.instance }
+    ensures { IfOk result (λ found. IfSome found (ProvesByNest planar.now state.now.spins state.now.energy)) }
+{
+    if !is_small {
+        return Ok(None);
     }
     let (web, frustrated) = whole_dual(alloc, planar)?;
-    match proposal_of(alloc, &web, &frustrated)? {
-        Some(proposal) => judged_state(alloc, planar, proposal.nest),
-        None => bare_state(alloc, planar),
+    let first = propose_nest(alloc, &web, &frustrated)?;
+    if let Some(nest) = accepted(alloc, planar, state, first)? {
+        return Ok(Some(nest));
     }
+    let second = propose_nest_again(alloc, &web, &frustrated)?;
+    accepted(alloc, planar, state, second)
+}
+
+// The nest of a proposal, where it proves the state.
+fn accepted(
+    alloc: Global,
+    planar: &Planar,
+    state: &State,
+    proposal: Option<NestProposal>,
+) -> Result<Option<Nest>, NoMemory>
+    requires { FitsWeb planar.now.instance }
+    ensures { IfOk result (λ found. IfSome found (ProvesByNest planar.now state.now.spins state.now.energy)) }
+{
+    let Some(proposal) = proposal else {
+        return Ok(None);
+    };
+    if !proves_by_nest(alloc, planar, state.energy, &state.spins, &proposal.nest)? {
+        return Ok(None);
+    }
+    Ok(Some(proposal.nest))
 }
 
 // Whether spins and bonds together are few enough for all faces to be nodes of a web.
@@ -125,76 +125,6 @@ fn fits_web(planar: &Planar) -> bool
 {
     let inst = planar.instance();
     inst.n() as usize + inst.bonds().len() <= MOST_TOGETHER
-}
-
-// A ground state, with the nest where that proves it.
-fn judged_state(alloc: Global, planar: &Planar, nest: Nest) -> Result<NestedState, NoMemory>
-    requires { FitsWeb planar.now.instance }
-    ensures { IfOk result (λ a. IsNestedState planar.now a.spins a.energy a.nest) }
-{
-    let state = ground_state(alloc, planar)?;
-    if proves_by_nest(alloc, planar, state.energy, &state.spins, &nest)? {
-        return Ok(NestedState {
-            spins: state.spins,
-            energy: state.energy,
-            nest: Some(nest),
-        });
-    }
-    Ok(NestedState {
-        spins: state.spins,
-        energy: state.energy,
-        nest: None,
-    })
-}
-
-// A ground state without a nest.
-fn bare_state(alloc: Global, planar: &Planar) -> Result<NestedState, NoMemory>
-    ensures { IfOk result (λ a. IsNestedState planar.now a.spins a.energy a.nest) }
-{
-    let state = ground_state(alloc, planar)?;
-    Ok(NestedState {
-        spins: state.spins,
-        energy: state.energy,
-        nest: None,
-    })
-}
-
-// Edges with a nest that proves them a least join, where such are proposed.
-fn proved_proposal(
-    alloc: Global,
-    web: &Web,
-    terminals: &Terminals,
-) -> Result<Option<NestProposal>, NoMemory>
-    requires { AreTerminals web.now terminals.now }
-    ensures proves { IfOk result (λ found. IfSome found (λ p. NestProves web.now terminals.now p.edges p.nest)) }
-    ensures least { IfOk result (λ found. IfSome found (λ p. IsLeastJoin web.now terminals.now p.edges)) }
-{
-    let Some(proposal) = proposal_of(alloc, web, terminals)? else {
-        return Ok(None);
-    };
-    if !proves(alloc, web, terminals, &proposal.edges, &proposal.nest)? {
-        return Ok(None);
-    }
-    Ok(Some(proposal))
-}
-
-// What is proposed; without terminals no edges, and no regions.
-fn proposal_of(
-    alloc: Global,
-    web: &Web,
-    terminals: &Terminals,
-) -> Result<Option<NestProposal>, NoMemory> {
-    if !terminals.is_empty() {
-        return propose_nest(alloc, web, terminals);
-    }
-    let places = vec![in alloc; None; web.nodes() as usize]?;
-    Ok(Some(NestProposal {
-        edges: EdgeList::new(alloc),
-        nest: Nest {
-            regions: Regions::new(alloc),
-            places: Places::from_vec(places),
-        },
-    }))
 }
 
 /// Whether the spins have the energy, and the nest over the faces proves that no assignment has less.

@@ -7,10 +7,10 @@ ghost use Rattle.sg_planar.specs.Parts.{AreParts};
 ghost use Rattle.sg_ground.specs.Solution.{IsState};
 
 use super::NoMemory;
-use super::joins::{broken_energy, weighed_join};
 use super::placed::{place_values, spins_of};
+use super::whole::whole_state;
 use sg_model::{Instance, Spins};
-use sg_planar::{Division, Part, Planar, divide, spin_walk};
+use sg_planar::{Division, Part, Planar, divide};
 use std::alloc::Global;
 
 /// A ground state with the least spin of each component up, and its energy.
@@ -50,16 +50,17 @@ fn state_of_all(alloc: Global, planar: &Planar) -> Result<State, NoMemory>
     }
 }
 
-// The state of a connected instance: the broken bonds are a least join of the frustrated faces.
+// The state of a connected instance, without the nest.
 fn state_of_part(alloc: Global, planar: &Planar) -> Result<State, NoMemory>
     requires connected { IsConnected planar.now.instance }
     ensures state { IfOk result (λ s. IsState planar.now.instance s.spins s.energy) }
     ensures planar { IsPlanar planar.now }
 {
-    let join = weighed_join(alloc, planar)?;
-    let spins = spin_walk(alloc, planar, &join.edges)?;
-    let energy = broken_energy(planar.instance(), join.weight);
-    Ok(State { spins, energy })
+    let state = whole_state(alloc, planar)?;
+    Ok(State {
+        spins: state.spins,
+        energy: state.energy,
+    })
 }
 
 // The states of these parts, put together: values take the numbers of the whole, and energies add.

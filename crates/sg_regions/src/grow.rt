@@ -18,6 +18,16 @@ pub fn grow(
     }
 }
 
+// The regions that have grown once more, from terminals and over arcs in another order: at once in
+// halves, so that not only ties are taken otherwise.
+pub fn grow_again(
+    alloc: Global,
+    arcs: &Adjacency,
+    terminals: &[u32],
+) -> Result<Option<(Nest, Vec<Pair>)>, NoMemory> {
+    grow_by(alloc, arcs, terminals, Method::InHalves)
+}
+
 // The same by one method.
 fn grow_by(
     alloc: Global,

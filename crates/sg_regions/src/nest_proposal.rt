@@ -1,11 +1,11 @@
 // Proposals without cuts: a join, and the finished regions as they are.
 use super::NoMemory;
-use super::grow::grow;
-use super::nest::Nest;
-use super::proposal::arcs_of;
+use super::grow::{grow, grow_again};
+use super::nest::{Nest, Pair};
+use super::proposal::{arcs_of, reversed, reversed_arcs};
 use super::ways::join_of;
 use sg_graph::{EdgeList, Terminals, Web};
-use sg_growth::{entry, number, set_entry};
+use sg_growth::{Adjacency, entry, number, set_entry};
 use sg_nest::{Place, Places, Region, Regions};
 use std::alloc::Global;
 
@@ -19,7 +19,7 @@ pub struct NestProposal {
 /// Proposes a least join of the terminals with a nest of regions that proves it, or nothing.
 ///
 /// Nothing is promised of the proposal: a caller has it judged by `sg_nest::proves`. The only error is
-/// want of memory.
+/// want of memory. Without terminals there are no edges and no regions.
 ///
 /// Cost: that of growing the regions, and then time linear in the web and in the regions. Memory is
 /// linear in the web.
@@ -28,12 +28,52 @@ pub fn propose_nest(
     web: &Web,
     terminals: &Terminals,
 ) -> Result<Option<NestProposal>, NoMemory> {
-    let count = web.edges().len();
-    let adjacency = arcs_of(alloc, web, 2)?;
-    let Some((nest, pairs)) = grow(alloc, &adjacency, terminals.as_slice())? else {
+    if terminals.is_empty() {
+        return Ok(Some(bare(alloc, web.nodes())?));
+    }
+    let arcs = arcs_of(alloc, web, 2)?;
+    let grown = grow(alloc, &arcs, terminals.as_slice())?;
+    nest_proposal(alloc, &arcs, grown, web.edges().len())
+}
+
+/// Proposes once more, for a caller to whom the first proposal was of no use: what comes at one time is
+/// taken in the opposite order, and the regions grow in two halves at once.
+///
+/// Nothing is promised of it either. Cost: at most what [`propose_nest`] takes.
+pub fn propose_nest_again(
+    alloc: Global,
+    web: &Web,
+    terminals: &Terminals,
+) -> Result<Option<NestProposal>, NoMemory> {
+    let arcs = reversed_arcs(alloc, web)?;
+    let seeds = reversed(alloc, terminals.as_slice())?;
+    let grown = grow_again(alloc, &arcs, &seeds)?;
+    nest_proposal(alloc, &arcs, grown, web.edges().len())
+}
+
+// No edges, and no regions over so many nodes.
+fn bare(alloc: Global, nodes: u32) -> Result<NestProposal, NoMemory> {
+    let places = vec![in alloc; None; nodes as usize]?;
+    Ok(NestProposal {
+        edges: EdgeList::new(alloc),
+        nest: sg_nest::Nest {
+            regions: Regions::new(alloc),
+            places: Places::from_vec(places),
+        },
+    })
+}
+
+// What finished regions over so many edges propose.
+fn nest_proposal(
+    alloc: Global,
+    arcs: &Adjacency,
+    grown: Option<(Nest, Vec<Pair>)>,
+    edges: usize,
+) -> Result<Option<NestProposal>, NoMemory> {
+    let Some((nest, pairs)) = grown else {
         return Ok(None);
     };
-    let Some(edges) = join_of(alloc, &adjacency, &nest, pairs.as_slice(), count)? else {
+    let Some(edges) = join_of(alloc, arcs, &nest, pairs.as_slice(), edges)? else {
         return Ok(None);
     };
     let nest = handed(alloc, &nest)?;

@@ -1,6 +1,7 @@
 use super::NoMemory;
 use super::chains::chains_of;
-use super::grow::grow;
+use super::grow::{grow, grow_again};
+use super::nest::{Nest, Pair};
 use super::ways::join_of;
 use sg_graph::{Terminals, Web};
 use sg_growth::Adjacency;
@@ -19,21 +20,60 @@ pub fn propose(
     web: &Web,
     terminals: &Terminals,
 ) -> Result<Option<Proposal>, NoMemory> {
-    let count = web.edges().len();
-    let adjacency = arcs_of(alloc, web, 2)?;
-    let Some((nest, pairs)) = grow(alloc, &adjacency, terminals.as_slice())? else {
+    let arcs = arcs_of(alloc, web, 2)?;
+    let grown = grow(alloc, &arcs, terminals.as_slice())?;
+    proposal(alloc, &arcs, grown, web.edges().len())
+}
+
+/// Proposes once more, for a caller to whom the first proposal was of no use: what comes at one time is
+/// taken in the opposite order, and the regions grow in two halves at once.
+///
+/// Nothing is promised of it either. Cost: at most what [`propose`] takes.
+pub fn propose_again(
+    alloc: Global,
+    web: &Web,
+    terminals: &Terminals,
+) -> Result<Option<Proposal>, NoMemory> {
+    let arcs = reversed_arcs(alloc, web)?;
+    let seeds = reversed(alloc, terminals.as_slice())?;
+    let grown = grow_again(alloc, &arcs, &seeds)?;
+    proposal(alloc, &arcs, grown, web.edges().len())
+}
+
+// What finished regions over so many edges propose.
+fn proposal(
+    alloc: Global,
+    arcs: &Adjacency,
+    grown: Option<(Nest, Vec<Pair>)>,
+    count: usize,
+) -> Result<Option<Proposal>, NoMemory> {
+    let Some((nest, pairs)) = grown else {
         return Ok(None);
     };
-    let Some(edges) = join_of(alloc, &adjacency, &nest, pairs.as_slice(), count)? else {
+    let Some(edges) = join_of(alloc, arcs, &nest, pairs.as_slice(), count)? else {
         return Ok(None);
     };
-    let chains = chains_of(alloc, &adjacency, &nest, count)?;
+    let chains = chains_of(alloc, arcs, &nest, count)?;
     Ok(Some(Proposal {
         edges,
         cuts: chains.cuts,
         growths: chains.growths,
         nodes: chains.nodes,
     }))
+}
+
+// The terminals, the last one first.
+pub fn reversed(alloc: Global, terminals: &[u32]) -> Result<Vec<u32>, NoMemory> {
+    let mut seeds = Vec::from_slice(alloc, terminals)?;
+    seeds.reverse();
+    Ok(seeds)
+}
+
+// The arcs, twice as long as edges weigh, those that leave a node in the opposite order.
+pub fn reversed_arcs(alloc: Global, web: &Web) -> Result<Adjacency, NoMemory> {
+    let mut arcs = arcs_of(alloc, web, 2)?;
+    arcs.reverse_arcs();
+    Ok(arcs)
 }
 
 // The arcs between the nodes, each so many times as long as its edge weighs. An edge to itself has

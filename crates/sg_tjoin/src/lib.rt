@@ -5,13 +5,15 @@
 //! edge weighs the `|J|` of the bond that it crosses, and the bonds that a ground state breaks are a
 //! least join. [`least_join`] finds one on every connected web, planar or not. Regions that grow on
 //! the web propose one with its odd cuts, and a judge that is proved says whether the cuts prove it.
-//! Where there is no proposal or the verdict is no, [`matched_join`] answers: the terminals are
-//! matched at costs of twice their distances, and an edge belongs to the join where it stands in an
-//! odd number of the mates' shortest walks. The duals of the matching become odd cuts that weigh
-//! twice as much as the join, and by [`cuts_bound_joins`] no join weighs less.
+//! Where there is no proposal or the verdict is no, they grow once more in another order; and where
+//! that is of no use either, [`matched_join`] answers: the terminals are matched at costs of twice
+//! their distances, and an edge belongs to the join where it stands in an odd number of the mates'
+//! shortest walks. The duals of the matching become odd cuts that weigh twice as much as the join, and
+//! by [`cuts_bound_joins`] no join weighs less.
 //!
-//! For the next engineer: nothing here looks into the proposer, the judge or the engine. `judged` hands
-//! on what `sg_join_check` says yes to. `matched` is the way by a matching: `tables` searches from
+//! For the next engineer: nothing here looks into the proposer, the judges or the engine. `judged` hands
+//! on what `sg_join_check` says yes to, and `nested` what `sg_nest` does; these two are the only places
+//! where a second proposal is asked for. `matched` is the way by a matching: `tables` searches from
 //! each terminal over one incidence, `matching` lets the engine match them, `walks` marks what the
 //! mates' walks cross, and `sg_moat` draws the cuts. That a join is least follows from the cuts alone:
 //! no join is taken apart into walks.
@@ -26,11 +28,12 @@ mod tables;
 mod walks;
 mod weight;
 
-ghost use Rattle.std.specs.Prelude.{◌≡◌, ◌*◌, ◌%◌, ◌≤◌, [], length, pos, sum_by, IfOk};
+ghost use Rattle.std.specs.Prelude.{◌≡◌, ◌*◌, ◌%◌, ◌≤◌, [], length, pos, sum_by, IfOk, IfSome};
 ghost use Rattle.sg_graph.specs.Join.{AreTerminals, IsLeastJoin};
 ghost use Rattle.sg_graph.specs.OddCut.{CutsPack, odd_cut_weight};
 ghost use Rattle.sg_graph.specs.Walk.{IsConnectedWeb};
 ghost use Rattle.sg_graph.specs.Web.{total_weight, weight_of};
+ghost use Rattle.sg_nest.specs.Nest.{NestProves};
 ghost use Rattle.sg_limits.specs.Limits.{forced_limit};
 
 use judged::judged_join;
@@ -38,6 +41,7 @@ pub use law::cuts_bound_joins;
 pub use matched::matched_join;
 use nested::nested_join;
 use sg_graph::{Cuts, EdgeList, Terminals, Web};
+use sg_nest::Nest;
 use std::alloc::{AllocError, Global};
 
 /// The allocator had no memory left.
@@ -57,10 +61,11 @@ pub struct Join {
 /// cut holds all edges that leave some set with an odd number of terminals, and no edge is loaded
 /// with more than twice its weight. Without terminals there is no edge, and no cut.
 ///
-/// Cost: that of `sg_regions::propose` and of the judge, linear in the web and the cuts; and where
-/// these have no answer that of `matched_join` too. The matching inside takes at most `2 k^2` steps for
-/// `k` terminals: that is the promise of `sg_match::Engine::run`, which counts them in the family that
-/// it hands back, and not of this call. A join that comes from elsewhere takes no such steps.
+/// Cost: that of `sg_regions::propose` and of the judge, linear in the web and the cuts; where these
+/// have no answer as much once more, and where they have none again that of `matched_join` too. The
+/// matching inside takes at most `2 k^2` steps for `k` terminals: that is the promise of
+/// `sg_match::Engine::run`, which counts them in the family that it hands back, and not of this call. A
+/// join that comes from elsewhere takes no such steps.
 pub fn least_join(alloc: Global, web: &Web, terminals: &Terminals) -> Result<Join, NoMemory>
     requires connected { IsConnectedWeb web.now }
     requires terminals { AreTerminals web.now terminals.now }
@@ -78,18 +83,20 @@ pub fn least_join(alloc: Global, web: &Web, terminals: &Terminals) -> Result<Joi
     matched_join(alloc, web, terminals)
 }
 
-/// A join and its weight.
+/// A join and its weight, with a nest of regions that proves it, where one was found.
 #[derive(Drop)]
 pub struct LeastJoin {
     pub edges: EdgeList,
     pub weight: i64,
+    pub nest: Option<Nest>,
 }
 
 /// A join of the terminals than which none weighs less, and its weight, for callers that print no
-/// cuts: none are made where the regions that grow on the web prove it themselves, as a nest.
+/// cuts: none are made, since the regions that grow on the web prove it themselves, as a nest. That
+/// there is a nest no clause says.
 ///
-/// Cost: that of `sg_regions::propose_nest` and of `sg_nest::proves`, and where these have no answer
-/// that of [`least_join`].
+/// Cost: that of `sg_regions::propose_nest` and of `sg_nest::proves`, where these have no answer as much
+/// once more, and where they have none again that of [`matched_join`].
 pub fn least_weight(alloc: Global, web: &Web, terminals: &Terminals) -> Result<LeastJoin, NoMemory>
     requires connected { IsConnectedWeb web.now }
     requires terminals { AreTerminals web.now terminals.now }
@@ -97,14 +104,16 @@ pub fn least_weight(alloc: Global, web: &Web, terminals: &Terminals) -> Result<L
     requires light { total_weight web.now ≤ forced_limit }
     ensures least { IfOk result (λ j. IsLeastJoin web.now terminals.now j.edges) }
     ensures weight { IfOk result (λ j. j.weight ≡ pos (weight_of web.now j.edges)) }
+    ensures proves { IfOk result (λ j. IfSome j.nest (NestProves web.now terminals.now j.edges)) }
 {
     if let Some(join) = nested_join(alloc, web, terminals)? {
         return Ok(join);
     }
-    let join = least_join(alloc, web, terminals)?;
+    let join = matched_join(alloc, web, terminals)?;
     Ok(LeastJoin {
         edges: join.edges,
         weight: join.weight,
+        nest: None,
     })
 }
 

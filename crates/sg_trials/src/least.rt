@@ -1,14 +1,13 @@
 // The energies that are answered, beside the least over all assignments.
 
+use super::proposals::assert_good;
 use rand_core::utils::NextWord;
 use rand_pcg::Pcg32;
 use sg_dual::dual;
 use sg_ground::solve;
-use sg_join_check::proves_least;
 use sg_model::{Instance, least_plain};
 use sg_planar::{Part, Planar, parts};
 use sg_reader::{Rows, read_instance};
-use sg_regions::propose;
 use std::alloc::{AllocError, Global};
 use std::process::Abort;
 use std::test::Fail;
@@ -38,17 +37,12 @@ pub(crate) fn instance(rt: &impl Abort, alloc: Global, text: &str) -> Result<Ins
     Ok(inst)
 }
 
-// What is proposed for the dual of an instance has to be there and good, else `solve` would match the
-// faces each time and nobody notice.
+// What is proposed for the dual of an instance has to be good.
 fn assert_part(rt: &impl Abort, alloc: Global, planar: &Planar, text: &str) -> Result<(), Fail> {
     let faces = planar.faces();
     assert!(rt; faces.count() <= 1 << 24);
     let (web, terminals) = dual(alloc, planar.instance(), faces)?;
-    let Some(proposal) = propose(alloc, &web, &terminals)? else {
-        return Err(Fail::new("there is a proposal"));
-    };
-    assert!(rt; proves_least(alloc, &web, &terminals, &proposal)?, "{text}");
-    Ok(())
+    assert_good(rt, alloc, &web, &terminals, text)
 }
 
 // The same for each part of an instance.

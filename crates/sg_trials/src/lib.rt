@@ -3,12 +3,14 @@
 //! there and to be good.
 //!
 //! The contract of `sg_ground::solve` says that no assignment has less energy; here both are run. That
-//! a proposal is there, that the judge says yes to it, and that a repair proves the state that it is
-//! asked for, no contract says.
+//! a proposal is there, at first and once more, that the judges say yes to it, and that a repair proves
+//! the state that it is asked for, no contract says.
 #![tactic(auto)]
 
 #[cfg(test)]
 mod least;
+#[cfg(test)]
+mod proposals;
 #[cfg(test)]
 mod states;
 #[cfg(test)]

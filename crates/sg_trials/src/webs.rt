@@ -3,25 +3,21 @@
 ghost use Rattle.std.specs.Prelude.{◌≤◌};
 ghost use Rattle.sg_graph_text.specs.Network.{IsNetwork};
 
+use super::proposals::assert_good;
 use rand_core::utils::NextWord;
 use rand_pcg::Pcg32;
 use sg_graph_text::{Network, read_network};
-use sg_join_check::proves_least;
-use sg_regions::propose;
 use sg_tjoin::{least_join, matched_join};
 use std::alloc::{AllocError, Global};
 use std::process::Abort;
 use std::test::Fail;
 
-// The proposal has to be there and good, and its join to weigh what that of the matching weighs.
+// What is proposed has to be good, and the join to weigh what that of the matching weighs.
 fn assert_network(rt: &impl Abort, alloc: Global, network: &Network, text: &str) -> Result<(), Fail>
     requires { IsNetwork network.now.web network.now.terminals }
 {
     let (web, terminals) = (&network.web, &network.terminals);
-    let Some(proposal) = propose(alloc, web, terminals)? else {
-        return Err(Fail::new("there is a proposal"));
-    };
-    assert!(rt; proves_least(alloc, web, terminals, &proposal)?, "{text}");
+    assert_good(rt, alloc, web, terminals, text)?;
     let answered = least_join(alloc, web, terminals)?.weight;
     let matched = matched_join(alloc, web, terminals)?.weight;
     assert_eq!(rt; answered, matched, "{text}");

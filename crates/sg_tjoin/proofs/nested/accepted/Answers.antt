@@ -1,4 +1,4 @@
-use Rattle.sg_tjoin.proofs.nested.nested_join.Goals as goal
+use Rattle.sg_tjoin.proofs.nested.accepted.Goals as goal
 
 pub weight-weight-requires-clause-rising : goal.weight-weight-requires-clause-rising
 weight-weight-requires-clause-rising c = (c.in_ok-proves.ensures.least c.if-not-branch.false).join.rising

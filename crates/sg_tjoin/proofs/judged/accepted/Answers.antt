@@ -1,4 +1,4 @@
-use Rattle.sg_tjoin.proofs.judged.judged_join.Goals as goal
+use Rattle.sg_tjoin.proofs.judged.accepted.Goals as goal
 
 pub weight-weight-requires-clause-rising : goal.weight-weight-requires-clause-rising
 weight-weight-requires-clause-rising c = (c.in_ok-proves_least.ensures.proves c.if-not-branch.false).join.rising
