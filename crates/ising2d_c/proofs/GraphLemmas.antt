@@ -6,7 +6,7 @@ use Rattle.std.proofs.lemmas.List.Elements.{All-from_get_or}
 use Rattle.std.proofs.lemmas.List.FromFn.{get_or-map-range_with_len, length-map-range_with_len}
 use Rattle.sg_model.specs.declared.bond.Bond.{Bond}
 use Rattle.sg_model.specs.Ising.{IsBond}
-use Rattle.sg_json.proofs.Lists.{both}
+use Rattle.sg_draft.proofs.Drafts.{both}
 use Rattle.sg_reader.proofs.TestLaws.{find_range-none, find_range-some}
 use Rattle.ising2d_c.specs.Starts.{entry}
 use Rattle.ising2d_c.specs.Graphs.{bond_by, bonds_by, coupling, first_bad, first_self, is_given_bond, is_given_self}

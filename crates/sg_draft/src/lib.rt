@@ -1,13 +1,33 @@
-//! What an input says of an instance before it is judged: its members, and the tests that inputs of all
-//! kinds share.
+//! What an input says of an instance before it is judged: its members, their tests, and the instance that
+//! they give.
 //!
 //! An instance comes as records, as JSON or as numbers of a caller. Each of these reads its members in its
-//! own way; what is wrong with them is tested, and named, by one table.
+//! own way: a value, or the entry at which the member is wrong. What is wrong with them is tested, in one
+//! order, and named here, and here the instance is made.
 //!
-//! For the next engineer: `specs/Tests.antt` says how tests follow each other, and `specs/Members.antt` has
-//! the members with the numbers that the line of a refusal prints for them, which stand nowhere else.
+//! A caller reads the members, asks `check_lattice` or `check_general` for the first test that fails, which
+//! takes no memory, then makes the lists and hands them to `build_lattice` or `build_general`. The tests
+//! have names of their own too, for a caller that makes them in another order.
+//!
+//! For the next engineer: `specs/Draft.antt` has the table of tests and the instance; `specs/Members.antt`
+//! has the members with the numbers that the line of a refusal prints for them, which stand nowhere else;
+//! `specs/Tests.antt` says how tests follow each other.
 #![tactic(auto)]
 
+mod building;
+mod checking;
+mod entries;
+mod limits;
 mod member;
+mod numbers;
+mod read;
 
+pub use building::{build_general, build_lattice};
+pub use checking::{check_general, check_lattice};
+pub use entries::{check_entry, check_list, is_among, is_coupling};
+pub use limits::Limits;
 pub use member::{Member, bad_entry, bad_member};
+pub use numbers::{
+    Size, check_bond_count, check_coupling_count, check_lattice_size, check_spin_count,
+};
+pub use read::{Read, unless};

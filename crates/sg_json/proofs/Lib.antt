@@ -1,3 +1,2 @@
 pub mod Lists
-pub mod Stages
-pub mod Joined
+pub mod Said

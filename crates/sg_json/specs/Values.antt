@@ -1,7 +1,6 @@
 -- Numbers, lists and members in the data of a JSON text.
-use Rattle.std.specs.Prelude.{ℕ, ◌^◌, ◌==◌, ◌&&◌, ℤ, pos, negsuc, int_le, nat_lt, unsigned_abs, List, [], ◌∷◌, length, map, slice_index_or}
-use Rattle.std.specs.Prelude.{Bool, false, if◌then◌else◌, Option, Some, None, option_map, option_and_then, is_some, unwrap_or}
-use Rattle.std.specs.List.{list_all}
+use Rattle.std.specs.Prelude.{ℕ, ◌^◌, ℤ, pos, int_le, nat_lt, unsigned_abs, List, [], ◌∷◌, map, slice_index_or}
+use Rattle.std.specs.Prelude.{if◌then◌else◌, Option, Some, None, option_map, option_and_then, unwrap_or}
 use Rattle.serde_json.specs.Data.{Data, null, Items, no_items, item, Members, no_members, member}
 use Rattle.serde_json.specs.Find.{get, as_number, as_i64, as_array, as_object}
 use Rattle.sg_model.specs.declared.bond.Bond.{Bond}
@@ -15,20 +14,23 @@ abbrev pub named : Members → List (List ℕ)
 named no_members = []
 named (member name d ms) = name ∷ named ms
 
--- the number, from -9223372036854775807 to 9223372036854775807
-abbrev pub in_range : ℤ → Option ℤ
-in_range z = if int_le (negsuc 9223372036854775806) z && int_le z (pos 9223372036854775807) then Some z else None
-
 -- a whole number, as `serde_json` reads it
 abbrev pub whole : Data → Option ℤ
-whole d = option_and_then in_range (option_and_then as_i64 (as_number d))
+whole d = option_and_then as_i64 (as_number d)
 
--- the number, from 0 to 4294967295
+-- the number, from 0 on
 abbrev pub from_zero : ℤ → Option ℕ
-from_zero z = if int_le (pos 0) z && int_le z (pos 4294967295) then Some (unsigned_abs z) else None
+from_zero z = if int_le (pos 0) z then Some (unsigned_abs z) else None
+
+abbrev pub natural : Data → Option ℕ
+natural d = option_and_then from_zero (whole d)
+
+-- the number, up to 4294967295
+abbrev pub in_word : ℕ → Option ℕ
+in_word n = if nat_lt n (2 ^ 32) then Some n else None
 
 abbrev pub index : Data → Option ℕ
-index d = option_and_then from_zero (whole d)
+index d = option_and_then in_word (natural d)
 
 -- the number of a value, and 0 where it has none
 abbrev pub value_number : Data → ℤ
@@ -48,48 +50,19 @@ items_in d = unwrap_or (list_in d) []
 abbrev pub item_at : List Data → ℕ → Data
 item_at ds i = slice_index_or ds i null
 
--- the list of a member, its items, and a number of at least `least` in a member
+-- the list of a member, its items, and the number from 0 on in a member
 abbrev pub member_list : List ℕ → Data → Option (List Data)
-member_list name d = option_map listed (option_and_then as_array (get name d))
+member_list name d = option_and_then list_in (get name d)
 
 abbrev pub items_at : List ℕ → Data → List Data
 items_at name d = unwrap_or (member_list name d) []
 
-abbrev pub from_least : ℕ → ℤ → Option ℕ
-from_least least z = if int_le (pos least) z then Some (unsigned_abs z) else None
-
-abbrev pub size_at : List ℕ → ℕ → Data → Option ℕ
-size_at name least d = option_and_then (from_least least) (option_and_then whole (get name d))
+abbrev pub size_at : List ℕ → Data → Option ℕ
+size_at name d = option_and_then natural (get name d)
 
 -- the names of the members
 abbrev pub names_in : Data → List (List ℕ)
 names_in d = unwrap_or (option_map named (as_object d)) []
-
--- what the entries of the lists must be: numbers; three numbers, the first two of them spins; lists of indices; indices
-abbrev pub is_whole : Data → Bool
-is_whole d = is_some (whole d)
-
-abbrev pub is_index : Data → Bool
-is_index d = is_some (index d)
-
-abbrev pub is_index_below : ℕ → Option ℕ → Bool
-is_index_below n None = false
-is_index_below n (Some k) = nat_lt k n
-
-abbrev pub is_triple : ℕ → List Data → Bool
-is_triple n ds =
-    (length ds == 3)
-    && (is_index_below n (index (item_at ds 0)) && (is_index_below n (index (item_at ds 1)) && is_whole (item_at ds 2)))
-
-abbrev pub is_bond_value : ℕ → Data → Bool
-is_bond_value n d = is_triple n (items_in d)
-
-abbrev pub are_indices : Option (List Data) → Bool
-are_indices None = false
-are_indices (Some ds) = list_all is_index ds
-
-abbrev pub is_index_list : Data → Bool
-is_index_list d = are_indices (list_in d)
 
 -- the bond of three numbers, and the indices of a list
 abbrev pub triple : List Data → Bond

@@ -1,4 +1,5 @@
-ghost use Rattle.std.specs.Prelude.{◌≡◌, map, IfOk};
+ghost use Rattle.std.specs.Prelude.{◌≡◌, codes, map, option_map, IfOk};
+ghost use Rattle.serde_json.specs.Find.{get};
 ghost use Rattle.serde_json.specs.View.{view};
 ghost use Rattle.sg_json.specs.Values.{value_bond, index_of, indices_of, item_at, value_number};
 
@@ -19,8 +20,8 @@ pub(crate) fn couplings(alloc: Global, items: &[Value]) -> Result<Couplings, NoM
     Ok(list)
 }
 
-/// The bonds of a seam, or the darts of a spin.
-pub(crate) fn indices(alloc: Global, items: &[Value]) -> Result<BondList, NoMemory>
+// The numbers of the items, as indices.
+fn indices(alloc: Global, items: &[Value]) -> Result<BondList, NoMemory>
     ensures { IfOk result (λ l. l ≡ map (λ v. index_of (view v)) items.now) }
 {
     let mut list = BondList::new(alloc);
@@ -28,6 +29,26 @@ pub(crate) fn indices(alloc: Global, items: &[Value]) -> Result<BondList, NoMemo
         list.push(index_or_zero(item))?;
     }
     Ok(list)
+}
+
+// The indices of a list: the bonds of a seam, or the darts of a spin.
+fn indices_in(alloc: Global, value: &Value) -> Result<BondList, NoMemory>
+    ensures { IfOk result (λ l. l ≡ indices_of (view value.now)) }
+{
+    indices(alloc, items(value))
+}
+
+/// The bonds of the seam, if it stands.
+pub(crate) fn seam(alloc: Global, value: &Value) -> Result<Option<BondList>, NoMemory>
+    ensures { IfOk result (λ o. o ≡ option_map indices_of (get (codes "seam") (view value.now))) }
+{
+    match value.get("seam") {
+        Some(list) => {
+            let bonds = indices_in(alloc, list)?;
+            Ok(Some(bonds))
+        }
+        None => Ok(None),
+    }
 }
 
 // The index at a place of a list, and 0 past its end.
@@ -50,8 +71,8 @@ fn number_at(numbers: &[Value], i: usize) -> i64
     }
 }
 
-// The bond of a list of three numbers.
-fn bond(value: &Value) -> Bond
+/// The bond of a list of three numbers.
+pub(crate) fn bond(value: &Value) -> Bond
     ensures { result ≡ value_bond (view value.now) }
 {
     let numbers = items(value);
@@ -73,20 +94,13 @@ pub(crate) fn bonds(alloc: Global, items: &[Value]) -> Result<Bonds, NoMemory>
     Ok(list)
 }
 
-// The darts of a spin.
-fn darts(alloc: Global, value: &Value) -> Result<BondList, NoMemory>
-    ensures { IfOk result (λ l. l ≡ indices_of (view value.now)) }
-{
-    indices(alloc, items(value))
-}
-
 /// The darts of each spin.
 pub(crate) fn rotation(alloc: Global, lists: &[Value]) -> Result<Rotation, NoMemory>
     ensures { IfOk result (λ l. l ≡ map (λ v. indices_of (view v)) lists.now) }
 {
     let mut rotation = Rotation::new(alloc);
     for list in lists {
-        let own = darts(alloc, list)?;
+        let own = indices_in(alloc, list)?;
         rotation.push(own.as_slice())?;
     }
     Ok(rotation)

@@ -1,73 +1,63 @@
-ghost use Rattle.std.specs.Prelude.{◌≡◌, ◌<◌, None, Some, map, length, IfOk, IfErr, OnOk};
+ghost use Rattle.std.specs.Prelude.{◌≡◌, ◌<◌, Some, map, length, option_map, is_some};
 ghost use Rattle.std.specs.List.{list_all};
+ghost use Rattle.serde_json.specs.Find.{get};
 ghost use Rattle.serde_json.specs.View.{view};
-ghost use Rattle.sg_model.specs.declared.refusal.Refusal.TheVariants.{BadMember as IsBadMember};
-ghost use Rattle.sg_draft.specs.Tests.{Refuses};
-ghost use Rattle.sg_json.specs.Members.{entries_fault, fits, list_fault, misfit};
-ghost use Rattle.sg_json.specs.Values.{index as index_in_data, is_index_below, is_bond_value as is_bond_data, is_index, is_index_list, member_list};
-ghost use Rattle.sg_model.specs.Faults.{OrNoMemory};
+ghost use Rattle.std.specs.Prelude.{codes};
+ghost use Rattle.sg_json.specs.Members.{are_indices as are_indices_in_data, fits, is_triple as is_triple_of_data, misfit, wrong_list as wrong_list_in_data, wrong_rotation as wrong_rotation_in_data, wrong_seam as wrong_seam_in_data};
+ghost use Rattle.sg_json.specs.Values.{index as index_in_data, list_in};
 
-use super::value::{index, items, list_member, whole};
+use super::build::bond;
+use super::value::{index, items, list_items, number_or_zero};
 use serde_json::Value;
-use sg_model::{Fault, Refusal};
+use sg_draft::{is_among, is_coupling};
 
 /// What each entry of a list must be.
 #[derive(Clone, Copy)]
 pub(crate) enum Entry {
-    /// A whole number.
+    /// A whole number that is a coupling.
     Coupling,
-    /// A list of two spins below `n` and a whole number.
-    Bond { n: u32 },
+    /// A list of two spins below `n` and a coupling.
+    Bond { n: u64 },
     /// A list of indices.
     Darts,
     /// A whole number from 0 to 4294967295.
     Index,
 }
 
-// Whether a value is the number of a spin.
-fn is_spin(value: &Value, n: u32) -> bool
-    ensures { result ≡ is_index_below n (index_in_data (view value.now)) }
+// Whether a list is one of two indices and a whole number.
+fn is_triple(numbers: &[Value]) -> bool
+    ensures { result ≡ is_triple_of_data (map view numbers.now) }
 {
-    match index(value) {
-        Some(spin) => spin < n,
-        None => false,
-    }
-}
-
-fn is_bond(value: &Value, n: u32) -> bool
-    ensures { result ≡ is_bond_data n (view value.now) }
-{
-    let numbers = items(value);
     if numbers.len() != 3 {
         return false;
     }
-    is_spin(&numbers[0], n) && is_spin(&numbers[1], n) && whole(&numbers[2]).is_some()
+    index(&numbers[0]).is_some() && index(&numbers[1]).is_some() && numbers[2].as_i64().is_some()
 }
 
 fn are_indices(items: &[Value]) -> bool
-    ensures { result ≡ list_all (λ v. is_index (view v)) items.now }
+    ensures { result ≡ list_all (λ v. is_some (index_in_data (view v))) items.now }
 {
     items.iter().all(|item| index(item).is_some())
 }
 
-fn is_index_list_value(value: &Value) -> bool
-    ensures { result ≡ is_index_list (view value.now) }
+fn is_index_list(value: &Value) -> bool
+    ensures { result ≡ are_indices_in_data (list_in (view value.now)) }
 {
-    match value.as_array() {
-        Some(list) => are_indices(list.as_slice()),
+    match list_items(value) {
+        Some(items) => are_indices(items),
         None => false,
     }
 }
 
 impl Entry {
-    /// Whether a value may stand in the list.
-    pub(crate) fn fits(self, value: &Value) -> bool
+    // Whether a value may stand in the list.
+    fn fits(self, value: &Value) -> bool
         ensures { result ≡ fits self (view value.now) }
     {
         match self {
-            Entry::Coupling => whole(value).is_some(),
-            Entry::Bond { n } => is_bond(value, n),
-            Entry::Darts => is_index_list_value(value),
+            Entry::Coupling => value.as_i64().is_some() && is_coupling(number_or_zero(value)),
+            Entry::Bond { n } => is_triple(items(value)) && is_among(n, bond(value)),
+            Entry::Darts => is_index_list(value),
             Entry::Index => index(value).is_some(),
         }
     }
@@ -85,54 +75,33 @@ fn first_misfit(items: &[Value], what: Entry) -> Option<usize>
     None
 }
 
-/// The refusal of an entry. A list whose places do not fit 32 bits has more items than an input
-/// within the limit can have, and is refused for want of memory.
-fn bad_entry(place: u32, item: usize) -> Fault
-    ensures { OrNoMemory (Refuses (Some (IsBadMember place item))) result }
+/// The entry at which a list is wrong, if one is, and 0 where there is no list.
+pub(crate) fn wrong_list(list: Option<&[Value]>, what: Entry) -> Option<usize>
+    ensures { result ≡ wrong_list_in_data what (option_map (λ s. map view s.now) list.entry) }
 {
-    if item > u32::MAX as usize {
-        return Fault::NoMemory;
-    }
-    Fault::Refused(Refusal::BadMember {
-        place,
-        item: item as u32,
-    })
-}
-
-/// Tests the items of the list at a place.
-///
-/// # Errors
-/// `BadMember` with the first item that may not stand there.
-pub(crate) fn check_entries(items: &[Value], place: u32, what: Entry) -> Result<(), Fault>
-    ensures passes { OnOk result (entries_fault place what (map view items.now) ≡ None) }
-    ensures fault { IfErr result (OrNoMemory (Refuses (entries_fault place what (map view items.now)))) }
-{
-    match first_misfit(items, what) {
-        Some(item) => Err(bad_entry(place, item)),
-        None => Ok(()),
+    match list {
+        Some(items) => first_misfit(items, what),
+        None => Some(0),
     }
 }
 
-/// The items of the list in a member, each tested.
-///
-/// # Errors
-/// `BadMember` with 0 where the member is missing or no list, and with the first item that may not
-/// stand there.
-pub(crate) fn check_list<'a>(
-    value: &'a Value,
-    name: &str,
-    place: u32,
-    what: Entry,
-) -> Result<&'a [Value], Fault>
-    ensures items { IfOk result (λ s. member_list name.now (view value.now) ≡ Some (map view s.now)) }
-    ensures passes { IfOk result (λ s. entries_fault place what (map view s.now) ≡ None) }
-    ensures fault { IfErr result (OrNoMemory (Refuses (list_fault place what (member_list name.now (view value.now))))) }
+/// The entry at which the rotation of `n` spins is wrong, if one is, and 0 where it is another number of
+/// lists or none.
+pub(crate) fn wrong_rotation(list: Option<&[Value]>, n: u64) -> Option<usize>
+    ensures { result ≡ wrong_rotation_in_data n (option_map (λ s. map view s.now) list.entry) }
 {
-    match list_member(value, name) {
-        Some(items) => {
-            check_entries(items, place, what)?;
-            Ok(items)
-        }
-        None => Err(Fault::Refused(Refusal::BadMember { place, item: 0 })),
+    match list {
+        Some(lists) if lists.len() as u64 == n => first_misfit(lists, Entry::Darts),
+        _ => Some(0),
+    }
+}
+
+/// The entry at which the seam is wrong, if it stands and one is.
+pub(crate) fn wrong_seam(value: &Value) -> Option<usize>
+    ensures { result ≡ wrong_seam_in_data (get (codes "seam") (view value.now)) }
+{
+    match value.get("seam") {
+        Some(seam) => wrong_list(list_items(seam), Entry::Index),
+        None => None,
     }
 }

@@ -5,20 +5,17 @@
 //! refusal that names its first fault, by member and entry. What a text is as data is the definition
 //! of `serde_json`; all tests are made on that data.
 //!
-//! For the next engineer: `specs/Members.antt` is the table of tests, `specs/ReadJson.antt` says what
-//! a text gives and why it is refused. In the code `read.rt` is the way through, `lattice.rt` and
-//! `general.rt` read the two forms, `size.rt`, `seam.rt` and `entry.rt` test members and lists, `value.rt` looks into values and
-//! `build.rt` makes the lists of an instance.
+//! For the next engineer: `specs/Members.antt` says which draft the members give, whose tests are those of
+//! `sg_draft`; `specs/ReadJson.antt` says what a text gives and why it is refused. In the code `read.rt` is
+//! the way through, `members.rt` reads the two forms, `entry.rt` tests entries of lists, `value.rt` looks
+//! into values and `build.rt` makes the lists of an instance.
 #![tactic(auto)]
 
 mod build;
 mod entry;
 mod form;
-mod general;
-mod lattice;
+mod members;
 mod read;
-mod seam;
-mod size;
 mod text;
 mod value;
 

@@ -1,16 +1,18 @@
-ghost use Rattle.std.specs.Prelude.{◌≡◌, ◌≤◌, None, Some, IfOk, IfErr};
+ghost use Rattle.std.specs.Prelude.{◌≤◌, IfOk, IfErr};
 ghost use Rattle.serde_json.specs.View.{view};
 ghost use Rattle.sg_limits.specs.Limits.{bond_limit, spin_limit};
+ghost use Rattle.sg_model.specs.Faults.{OrNoMemory};
 ghost use Rattle.sg_model.specs.Ising.{bond_count as count_of};
 ghost use Rattle.sg_model.specs.WellFormed.{IsInstance};
-ghost use Rattle.sg_json.specs.Members.{members_instance, members_fault};
-ghost use Rattle.sg_json.specs.ReadJson.{Gives, ReadsJson, RefusesData, RefusesJson, IsTableRefusal};
-ghost use Rattle.sg_model.specs.Faults.{OrNoMemory};
+ghost use Rattle.sg_draft.specs.Draft.{IsDraftRefusal, IsDrafted};
+ghost use Rattle.sg_draft.specs.Limits.{program_limits};
+ghost use Rattle.sg_json.specs.Members.{draft_of};
+ghost use Rattle.sg_json.specs.ReadJson.{Gives, ReadsJson, RefusesData, RefusesJson};
 
 use super::form::{form_member, has_known_names};
-use super::general::read_general;
-use super::lattice::read_lattice;
+use super::members::{read_general, read_lattice};
 use serde_json::Value;
+use sg_draft::{Member, bad_member};
 use sg_limits::JSON_LIMIT;
 use sg_model::{Fault, Instance, Refusal};
 use sg_reader::{Form, without_marks};
@@ -18,12 +20,10 @@ use std::alloc::Global;
 
 // The instance of a form that the members give.
 fn read_form(alloc: Global, value: &Value, form: Form) -> Result<Instance, Fault>
-    ensures passes { IfOk result (λ inst. members_fault form (view value.now) ≡ None) }
-    ensures value { IfOk result (λ inst. inst ≡ members_instance form (view value.now)) }
-    ensures instance { IfOk result IsInstance }
+    ensures gives { IfOk result (IsDrafted program_limits (draft_of form (view value.now))) }
     ensures few_spins { IfOk result (λ inst. inst.n ≤ spin_limit) }
     ensures few_bonds { IfOk result (λ inst. count_of inst ≤ bond_limit) }
-    ensures fault { IfErr result (OrNoMemory (IsTableRefusal (members_fault form (view value.now)) (members_instance form (view value.now)))) }
+    ensures fault { IfErr result (OrNoMemory (IsDraftRefusal program_limits (draft_of form (view value.now)))) }
 {
     match form {
         Form::Lattice(kind) => read_lattice(alloc, value, kind),
@@ -34,16 +34,15 @@ fn read_form(alloc: Global, value: &Value, form: Form) -> Result<Instance, Fault
 // The instance of a value.
 fn read_value(alloc: Global, value: &Value) -> Result<Instance, Fault>
     ensures gives { IfOk result (Gives (view value.now)) }
-    ensures instance { IfOk result IsInstance }
     ensures few_spins { IfOk result (λ inst. inst.n ≤ spin_limit) }
     ensures few_bonds { IfOk result (λ inst. count_of inst ≤ bond_limit) }
     ensures fault { IfErr result (OrNoMemory (RefusesData (view value.now))) }
 {
     let Some(form) = form_member(value) else {
-        return Err(Fault::Refused(Refusal::BadMember { place: 1, item: 0 }));
+        return Err(Fault::Refused(bad_member(Member::Kind)));
     };
     if !has_known_names(value, form) {
-        return Err(Fault::Refused(Refusal::BadMember { place: 2, item: 0 }));
+        return Err(Fault::Refused(bad_member(Member::Names)));
     }
     read_form(alloc, value, form)
 }

@@ -13,7 +13,8 @@ use Rattle.sg_reader.specs.declared.header.Header.TheVariants as header
 use Rattle.sg_reader.specs.declared.lattice.LatticeBody.{LatticeBody}
 use Rattle.sg_reader.specs.Kept.{Kept, field}
 use Rattle.sg_reader.specs.Tests.{any_number, bad_number}
-use Rattle.sg_reader.specs.Body.{couplings_in, instance_of, says_end, says_seam, lattice_end_fault, lattice_fault, numbers_from, record_fault, reseamed, seam_fault, seam_in, sizes_from}
+use Rattle.sg_draft.specs.Draft.{reseamed}
+use Rattle.sg_reader.specs.Body.{couplings_in, instance_of, says_end, says_seam, lattice_end_fault, lattice_fault, numbers_from, record_fault, seam_fault, seam_in, sizes_from}
 use Rattle.sg_reader.specs.Ended.{IsBody, IsEnded}
 use Rattle.sg_reader.specs.Holds.{HoldsLattice}
 use Rattle.sg_reader.proofs.BodyLaws.{IsBody-more, IsBody-none, couplings_in-more, couplings_in-seam, seam_in-first, seam_in-other, seam_in-seen}

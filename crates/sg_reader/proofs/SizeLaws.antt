@@ -10,7 +10,8 @@ use Rattle.sg_lattice.proofs.LatticeBonds.{bond_count_is}
 use Rattle.sg_reader.specs.declared.general.GeneralBody.{GeneralBody}
 use Rattle.sg_reader.specs.declared.header.Header.TheVariants as header
 use Rattle.sg_reader.specs.Kept.{Kept}
-use Rattle.sg_reader.specs.Body.{bonds_in, instance_of, reseamed}
+use Rattle.sg_draft.specs.Draft.{reseamed}
+use Rattle.sg_reader.specs.Body.{bonds_in, instance_of}
 use Rattle.sg_reader.specs.GeneralHolds.{HoldsGeneral}
 
 -- a lattice has three bonds for each spin at most

@@ -6,13 +6,13 @@ use Rattle.sg_model.specs.declared.bond.Bond.{Bond}
 use Rattle.sg_model.specs.declared.refusal.Refusal.{Refusal}
 use Rattle.sg_model.specs.declared.refusal.Refusal.TheVariants.{BadShape, CouplingCount, SelfBond, TooManyBonds, UnknownKind}
 use Rattle.sg_model.specs.Ising.{Ising}
-use Rattle.sg_model.specs.Changes.{with_seam}
 use Rattle.sg_limits.specs.Limits.{bond_limit}
 use Rattle.sg_lattice.specs.Tables.{bond_total, lattice}
 use Rattle.sg_reader.specs.declared.header.Header.{Header}
 use Rattle.sg_reader.specs.declared.header.Header.TheVariants as header
 use Rattle.sg_reader.specs.declared.range.Range.{Range}
 use Rattle.sg_reader.specs.Kept.{Kept, begins}
+use Rattle.sg_draft.specs.Draft.{reseamed}
 use Rattle.sg_draft.specs.Tests.{first_of, refuse_if}
 use Rattle.sg_reader.specs.Tests.{any_index, any_number, bad_number, number_in, size_in, spin_below}
 
@@ -129,11 +129,6 @@ general_fault n body r =
 abbrev pub record_fault : Header → List Kept → Kept → Option Refusal
 record_fault (header.Lattice kind rows cols) body r = lattice_fault (bond_total kind rows cols) body r
 record_fault (header.General n) body r = general_fault n body r
-
--- the instance with another seam, if there is one
-abbrev pub reseamed : Option (List ℕ) → Ising → Ising
-reseamed None inst = inst
-reseamed (Some seam) inst = with_seam inst seam
 
 -- the instance that the records give
 unfoldable pub instance_of : Header → List Kept → Ising

@@ -3,7 +3,7 @@ use Rattle.std.specs.Prelude.{unwrap_or}
 use Rattle.std.specs.List.{list_all}
 use Rattle.std.specs.Map.{keys_of}
 use Rattle.serde_json.specs.Data.{Members}
-use Rattle.serde_json.specs.View.{members_view, view}
+use Rattle.serde_json.specs.View.{members_view}
 use Rattle.serde_json.specs.declared.value.Value.{Value}
 use Rattle.sg_json.specs.Values.{named}
 use Rattle.sg_json.specs.Members.{is_known}

@@ -1,7 +1,7 @@
 use Rattle.std.proofs.Common.{◌∙◌, sym}
 use Rattle.std.proofs.lemmas.Result.{IfErr-weaker}
 use Rattle.serde_json.specs.View.{view}
-use Rattle.sg_json.proofs.Stages.{data-fault}
+use Rattle.sg_json.proofs.Said.{data-fault}
 use Rattle.sg_json.proofs.read.read_value.Goals as goal
 
 pub returns-clause-fault : goal.returns-clause-fault

@@ -1,0 +1,24 @@
+use Rattle.std.proofs.Common.{◌≡◌, ◌∙◌, ℕ, [], List, None, Option, option_map, sym, ap, subst}
+use Rattle.std.specs.Prelude.{unwrap_or}
+use Rattle.std.proofs.lemmas.Result.{IfErr-weaker}
+use Rattle.sg_model.specs.Faults.{IsRefusalOf, OrNoMemory}
+use Rattle.sg_model.specs.declared.refusal.Refusal.TheVariants.{SelfBond}
+use Rattle.sg_draft.specs.Bonds.{self_fault}
+use Rattle.sg_draft.proofs.Drafts.{behind-test, joined}
+use Rattle.sg_draft.proofs.building.build_general.Goals as goal
+
+pub new-requires-clause-joined : goal.new-requires-clause-joined
+new-requires-clause-joined c =
+    let apart : self_fault c.args.bonds ≡ None = ap self_fault (sym c.as_slice.ensures) ∙ ap (λ (o : Option ℕ). option_map (λ k. SelfBond k) o) (sym c.in_default.ensures.first) in
+    joined c.args.n c.args.bonds c.requires.among apart
+
+pub returns-clause-refused : goal.returns-clause-refused
+returns-clause-refused c =
+    let apart : self_fault c.args.bonds ≡ None = ap self_fault (sym c.as_slice.ensures) ∙ ap (λ (o : Option ℕ). option_map (λ k. SelfBond k) o) (sym c.in_default.ensures.first) in
+    let n = c.args.n in
+    let bonds = c.args.bonds in
+    let rotation = c.args.rotation in
+    IfErr-weaker c.new.result _ _ (λ e bad.
+    behind-test (self_fault bonds) (record { n = n; bonds = bonds; rotation = rotation; seam = unwrap_or c.args.seam [] }) e apart
+    (subst (λ (cut : List ℕ). OrNoMemory (IsRefusalOf (record { n = n; bonds = bonds; rotation = rotation; seam = cut })) e) c.seam_or_none-cut.ensures bad))
+    c.new.ensures.refused

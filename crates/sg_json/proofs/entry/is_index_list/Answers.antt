@@ -1,0 +1,13 @@
+use Rattle.std.proofs.Common.{◌∙◌, List, Option, sym, ap}
+use Rattle.std.specs.Prelude.{is_some}
+use Rattle.std.proofs.lemmas.List.Folds.{list_all-map}
+use Rattle.serde_json.specs.Data.{Data}
+use Rattle.serde_json.specs.View.{view}
+use Rattle.sg_json.specs.Values.{index}
+use Rattle.sg_json.specs.Members.{are_indices}
+use Rattle.sg_json.proofs.entry.is_index_list.Goals as goal
+
+pub returns-in-Some : goal.returns-in-Some
+returns-in-Some c =
+    c.are_indices.ensures ∙ sym (list_all-map (λ d. is_some (index d)) view c.in-Some.items.now)
+    ∙ ap (λ (o : Option (List Data)). are_indices o) c.in-Some.ensures

@@ -1,7 +1,0 @@
-use Rattle.std.proofs.Common.{◌≡◌, ◌<◌, ℕ, false}
-use Rattle.sg_json.specs.Members.{member_bond, is_self_bond}
-use Rattle.sg_json.proofs.general.first_self.Given as goal
-
--- no bond so far joins a spin to itself
-abbrev pub invariant-loop-k : goal.invariant-loop-k
-invariant-loop-k l = (i : ℕ) → i < l.k → is_self_bond (member_bond l.bonds i) ≡ false
