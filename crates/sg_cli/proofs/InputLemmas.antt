@@ -8,13 +8,13 @@ use Rattle.sg_model.specs.declared.refusal.Fault.{Fault}
 use Rattle.sg_model.specs.declared.refusal.Fault.TheVariants.{Refused, NoMemory}
 use Rattle.sg_model.specs.declared.refusal.Refusal.TheVariants.{TooLong}
 use Rattle.sg_model.specs.Ising.{Ising}
-use Rattle.sg_reader.specs.Kept.{behind, kept_of}
+use Rattle.sg_reader.specs.Kept.{Kept, kept_of}
 use Rattle.sg_reader.specs.ReadInstance.{ReadsInstance, RefusesInstance}
-use Rattle.sg_reader.specs.NoMore.{trailing_fault}
+use Rattle.sg_reader.specs.Rest.{Fails, RefusesAlone}
+use Rattle.sg_reader.proofs.RestLaws.{or-no-memory}
 use Rattle.sg_planar.specs.Fit.{Embedding, IsFit, IsUnfit}
-use Rattle.sg_check.specs.declared.packing.ResultText.{ResultText}
 use Rattle.sg_reader.specs.ReadResult.{ReadsResult, RefusesResult}
-use Rattle.sg_cli.specs.Input.{AtFitness, AtRecord, AtTrailing, BehindResult, GivesFit, GivesInstance, InInstance, InResult, OfJson, OfRecords, RefusesAlone}
+use Rattle.sg_cli.specs.Input.{AtFitness, BehindInstance, GivesFit, GivesInstance, InInstance, OfJson, OfRecords}
 use Rattle.sg_cli.specs.Input.{RefusesText, RefusesProof}
 use Rattle.sg_json.specs.Text.{is_object_text}
 use Rattle.sg_json.specs.ReadJson.{RefusesJson}
@@ -24,21 +24,10 @@ use Rattle.sg_cli.specs.Served.{AnswersText}
 use Rattle.sg_words.specs.declared.command.Reading.{Reading}
 use Rattle.sg_reply.specs.declared.status.Status.{Status}
 use Rattle.sg_model.specs.Faults.{OrNoMemory}
-use Rattle.sg_draft.specs.Tests.{Refuses}
-
--- what refuses the records refuses the text of records
-pub by_record : (bytes : List ℕ) (fault : Fault) → OrNoMemory (RefusesInstance (kept_of bytes)) fault → OrNoMemory (RefusesAlone bytes) fault
-by_record bytes (Refused refusal) shown = AtRecord shown
-by_record bytes NoMemory shown = tt
-
--- a record behind the `end` refuses the text of records
-pub by_trailing : (bytes : List ℕ) (inst : Ising) (after : ℕ) (fault : Fault) → ReadsInstance (kept_of bytes) inst after
-    → OrNoMemory (Refuses (trailing_fault (kept_of bytes) after)) fault → OrNoMemory (RefusesAlone bytes) fault
-by_trailing bytes inst after (Refused refusal) reads shown = AtTrailing inst after reads shown
-by_trailing bytes inst after NoMemory reads shown = tt
 
 -- what refuses the records refuses a text that is no object
-pub by_records : (bytes : List ℕ) (fault : Fault) → is_object_text bytes ≡ false → OrNoMemory (RefusesAlone bytes) fault → OrNoMemory (RefusesText bytes) fault
+pub by_records : (bytes : List ℕ) (fault : Fault) → is_object_text bytes ≡ false
+    → OrNoMemory (RefusesAlone (ReadsInstance (kept_of bytes)) (RefusesInstance (kept_of bytes))) fault → OrNoMemory (RefusesText bytes) fault
 by_records bytes (Refused refusal) kind shown = OfRecords kind shown
 by_records bytes NoMemory kind shown = tt
 
@@ -60,22 +49,16 @@ gives_fit bytes inst (Ok p) gives same fit = subst (GivesFit bytes) (sym same) (
 gives_fit bytes inst (Err e) gives same fit = tt
 
 -- what refuses the instance refuses the proof
-pub by_instance : (bytes : List ℕ) (fault : Fault) → OrNoMemory (RefusesInstance (kept_of bytes)) fault → OrNoMemory (RefusesProof bytes) fault
-by_instance bytes (Refused refusal) shown = InInstance shown
-by_instance bytes NoMemory shown = tt
-
--- behind the instance, what refuses the result refuses the proof
-pub by_result : (bytes : List ℕ) (inst : Ising) (after : ℕ) (fault : Fault) → ReadsInstance (kept_of bytes) inst after →
-    OrNoMemory (RefusesResult (behind after (kept_of bytes))) fault → OrNoMemory (RefusesProof bytes) fault
-by_result bytes inst after (Refused refusal) reads shown = InResult inst after reads shown
-by_result bytes inst after NoMemory reads shown = tt
-
--- behind both, a record more refuses the proof
-pub by_end : (bytes : List ℕ) (inst : Ising) (after : ℕ) (stated : ResultText) (next : ℕ) (fault : Fault) → ReadsInstance (kept_of bytes) inst after →
-    ReadsResult (behind after (kept_of bytes)) stated next → OrNoMemory (Refuses (trailing_fault (kept_of bytes) next)) fault
+pub by_instance : (bytes : List ℕ) (rest : List Kept) (fault : Fault) → Fails (RefusesInstance (kept_of bytes)) (kept_of bytes) rest fault
     → OrNoMemory (RefusesProof bytes) fault
-by_end bytes inst after stated next (Refused refusal) reads states shown = BehindResult inst after stated next reads states shown
-by_end bytes inst after stated next NoMemory reads states shown = tt
+by_instance bytes rest fault shown =
+    or-no-memory (RefusesInstance (kept_of bytes)) (RefusesProof bytes) (kept_of bytes) rest (λ refusal bad. InInstance rest bad) fault shown
+
+-- behind the instance, what refuses the result, or a record more, refuses the proof
+pub by_result : (bytes : List ℕ) (inst : Ising) (behind : List Kept) (fault : Fault) → ReadsInstance (kept_of bytes) inst behind
+    → OrNoMemory (RefusesAlone (ReadsResult behind) (RefusesResult behind)) fault → OrNoMemory (RefusesProof bytes) fault
+by_result bytes inst behind (Refused refusal) reads shown = BehindInstance inst behind reads shown
+by_result bytes inst behind NoMemory reads shown = tt
 
 -- the bytes that were read are those that the source told
 pub empties-told : (items : List ℕ) (old new : Option (List ℕ)) → Empties items old new → Told old items

@@ -9,7 +9,7 @@ ghost use Rattle.sg_model.specs.Faults.{OrNoMemory};
 
 use sg_check::{Checker, ResultText, Verdict};
 use sg_model::{Fault, Instance};
-use sg_reader::{Rows, no_more, read_instance, read_result};
+use sg_reader::{Rows, alone, read_instance, read_result};
 use sg_reply::{NoMemory, Reply, Status, refuse_fault};
 use sg_report::verdict_text;
 use std::alloc::Global;
@@ -35,9 +35,9 @@ fn read_proof(alloc: Global, bytes: &[u8]) -> Result<(Instance, ResultText), Fau
     ensures refuses { IfErr result (OrNoMemory (RefusesProof bytes.now)) }
 {
     let mut rows = Rows::new(alloc, bytes);
-    let (instance, _) = read_instance(alloc, &mut rows)?;
-    let (stated, _) = read_result(alloc, &mut rows)?;
-    no_more(alloc, &mut rows)?;
+    let instance = read_instance(alloc, &mut rows)?;
+    let given = read_result(alloc, &mut rows);
+    let stated = alone(alloc, given, &mut rows)?;
     Ok((instance, stated))
 }
 

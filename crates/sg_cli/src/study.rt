@@ -1,8 +1,11 @@
 // What a study answers to a text: its first fault, or the answer to its instance.
-ghost use Rattle.std.specs.Prelude.{◌<◌, length, IfOk, IfErr};
+ghost use Rattle.std.specs.Prelude.{◌<◌, [], length, IfOk, IfErr};
 ghost use Rattle.sg_limits.specs.Limits.{text_limit};
 ghost use Rattle.sg_planar.specs.Fit.{IsFit};
-ghost use Rattle.sg_cli.specs.Input.{GivesFit, GivesInstance, GivesRecords, RefusesAlone, RefusesText};
+ghost use Rattle.sg_cli.specs.Input.{GivesFit, GivesInstance, RefusesText};
+ghost use Rattle.sg_reader.specs.Kept.{kept_of};
+ghost use Rattle.sg_reader.specs.ReadInstance.{ReadsInstance, RefusesInstance};
+ghost use Rattle.sg_reader.specs.Rest.{RefusesAlone};
 ghost use Rattle.sg_reply.specs.Exit.{IsAnswered};
 ghost use Rattle.sg_cli.specs.Served.{AnswersFit, AnswersStudy};
 ghost use Rattle.sg_model.specs.Faults.{OrNoMemory};
@@ -18,7 +21,7 @@ use super::wall::wall_reply;
 use sg_json::{is_json, read_json};
 use sg_model::{Fault, Instance};
 use sg_planar::Planar;
-use sg_reader::{Rows, no_more, read_instance};
+use sg_reader::{Rows, alone, read_instance};
 use sg_reply::{NoMemory, Reply, refuse_fault};
 use sg_words::Study;
 use std::alloc::Global;
@@ -63,17 +66,13 @@ fn read_text(alloc: Global, bytes: &[u8]) -> Result<Instance, Fault>
 // The instance of a text with nothing behind it, or the first fault of the records.
 fn read_alone(alloc: Global, bytes: &[u8]) -> Result<Instance, Fault>
     requires { length bytes.now < text_limit }
-    ensures gives { IfOk result (GivesRecords bytes.now) }
-    ensures refuses { IfErr result (OrNoMemory (RefusesAlone bytes.now)) }
+    ensures gives { IfOk result (λ inst. ReadsInstance (kept_of bytes.now) inst []) }
+    ensures refuses { IfErr result (OrNoMemory (RefusesAlone (ReadsInstance (kept_of bytes.now))
+        (RefusesInstance (kept_of bytes.now)))) }
 {
     let mut rows = Rows::new(alloc, bytes);
-    match read_instance(alloc, &mut rows) {
-        Ok((instance, _)) => match no_more(alloc, &mut rows) {
-            Ok(()) => Ok(instance),
-            Err(fault) => Err(fault),
-        },
-        Err(fault) => Err(fault),
-    }
+    let given = read_instance(alloc, &mut rows);
+    alone(alloc, given, &mut rows)
 }
 
 // What a study answers to an instance that is fit.

@@ -18,8 +18,7 @@ use Rattle.sg_graph.specs.Web.{IsEdge}
 use Rattle.sg_reader.specs.Kept.{Kept, field}
 use Rattle.sg_draft.specs.Tests.{Refuses}
 use Rattle.sg_reader.specs.Body.{bare_end_fault, says_end, sizes_from}
-use Rattle.sg_reader.specs.Ended.{IsBody, IsEnded}
-use Rattle.sg_reader.proofs.BodyLaws.{IsBody-more, IsBody-none}
+use Rattle.sg_reader.specs.Taken.{HoldsSome, RefusesNext, Takes}
 use Rattle.sg_graph_text.specs.declared.body.GraphBody.{GraphBody}
 use Rattle.sg_graph_text.specs.Graph.{IsGraphText, body_fault, body_graph, edge_fault, edge_of, edges_in, entries_given, entries_in, graph_end_fault, says_edge, says_term, term_fault, terminals_fault, terminals_of}
 use Rattle.sg_graph_text.specs.GraphHolds.{HoldsGraph}
@@ -111,133 +110,142 @@ entries_given-other body r other = rw (find-append says_term body (r ∷ [])) (r
     by (Some q) = refl
 
 -- nothing was read yet
-pub holds-none : (state : GraphBody) → state.edges ≡ [] → state.entries ≡ None → HoldsGraph [] state
+pub holds-none : (state : GraphBody) → 1 ≤ state.nodes → state.nodes ≤ spin_limit → state.edges ≡ [] → state.entries ≡ None → HoldsGraph state [] state
 unfolding edges_in entries_given
-holds-none state none no_entries =
+holds-none state some few none no_entries =
     let count = ap length none in
     record {
+      nodes = refl;
+      terms = refl;
+      some = some;
+      few_nodes = few;
       edges = none;
       few = omega (arith, count);
       joined = All-same (IsEdge state.nodes) state.edges [] none (All-nil (IsEdge state.nodes));
       entries = no_entries;
     }
 
--- one more record was taken
-pub holds-edge : (body : List Kept) (r : Kept) (old new : GraphBody) → HoldsGraph body old → says_edge r ≡ true
-    → new.nodes ≡ old.nodes → new.entries ≡ old.entries → new.edges ≡ old.edges ++ edge_of r ∷ []
-    → IsEdge old.nodes (edge_of r) → length old.edges < bond_limit → HoldsGraph (body ++ r ∷ []) new
-holds-edge body r old new h is same_nodes same_entries added sound room =
-    let count = length-append old.edges (edge_of r ∷ []) in
-    let all = ap length added in
-    let kept = entries_given-other body r (edge-no_term r is) in
-    record {
-      edges = added ∙ ap (λ (l : List Edge). l ++ edge_of r ∷ []) h.edges ∙ sym (edges_in-more body r is);
-      few = omega (arith, all, count);
-      joined = rw same_nodes (All-same (IsEdge old.nodes) new.edges (old.edges ++ edge_of r ∷ []) added
-          (All-append (IsEdge old.nodes) old.edges (edge_of r ∷ []) h.joined (All-cons (IsEdge old.nodes) (edge_of r) [] sound (All-nil (IsEdge old.nodes)))));
-      entries = same_entries ∙ h.entries ∙ sym kept;
-    }
+edge-tested : (old : GraphBody) (r : Kept) (m : ℕ) → m ≡ length old.edges → says_edge r ≡ true → (start : GraphBody) (body : List Kept)
+    → HoldsGraph start body old → body_fault start.terms start.nodes body r ≡ edge_fault old.nodes m r
+edge-tested old r m many is start body h =
+    body_fault-edge start.terms start.nodes body r is ∙ ap (λ (l : List Edge). edge_fault start.nodes (length l) r) (sym h.edges)
+    ∙ ap (λ (k : ℕ). edge_fault start.nodes k r) (sym many) ∙ ap (λ (k : ℕ). edge_fault k m r) (sym h.nodes)
 
--- what is kept after a `term`: its entries
-pub holds-term : (body : List Kept) (r : Kept) (old new : GraphBody) (list : List ℕ) → HoldsGraph body old → says_term r ≡ true
-    → is_some old.entries ≡ false → list ≡ sizes_from r 1
-    → new.nodes ≡ old.nodes → new.edges ≡ old.edges → new.entries ≡ Some list → HoldsGraph (body ++ r ∷ []) new
-holds-term body r old new list h is first value same_nodes same_edges given =
-    let all = ap length same_edges in
-    let few = h.few in
-    let now = entries_given-first body r (sym h.entries ∙ none-of old.entries first) is in
-    record {
-      edges = same_edges ∙ h.edges ∙ sym (edges_in-other body r (term-no_edge r is));
-      few = omega (arith, all, few);
-      joined = rw (same_nodes, same_edges) h.joined;
-      entries = given ∙ ap (λ (l : List ℕ). Some l) value ∙ sym now;
-    }
+-- an `edge` is taken
+pub edge-taken : (old new : GraphBody) (r : Kept) (m : ℕ) → m ≡ length old.edges → says_edge r ≡ true → edge_fault old.nodes m r ≡ None
+    → new.nodes ≡ old.nodes → new.terms ≡ old.terms → new.entries ≡ old.entries → new.edges ≡ old.edges ++ edge_of r ∷ []
+    → IsEdge old.nodes (edge_of r) → m < bond_limit → Takes (λ s. body_fault s.terms s.nodes) HoldsGraph old r new
+edge-taken old new r m many is good same_nodes same_terms same_entries added sound room = record {
+  passes = λ start body h. edge-tested old r m many is start body h ∙ good;
+  goes_on = λ start body h.
+      let count = length-append old.edges (edge_of r ∷ []) in
+      let all = ap length added in
+      let some = h.some in
+      let few = h.few_nodes in
+      record {
+        nodes = same_nodes ∙ h.nodes;
+        terms = same_terms ∙ h.terms;
+        some = omega (arith, same_nodes, some);
+        few_nodes = omega (arith, same_nodes, few);
+        edges = added ∙ ap (λ (l : List Edge). l ++ edge_of r ∷ []) h.edges ∙ sym (edges_in-more body r is);
+        few = omega (arith, all, count, many, room);
+        joined = rw same_nodes (All-same (IsEdge old.nodes) new.edges (old.edges ++ edge_of r ∷ []) added
+            (All-append (IsEdge old.nodes) old.edges (edge_of r ∷ []) h.joined (All-cons (IsEdge old.nodes) (edge_of r) [] sound (All-nil (IsEdge old.nodes)))));
+        entries = same_entries ∙ h.entries ∙ sym (entries_given-other body r (edge-no_term r is));
+      };
+}
+
+-- an `edge` is refused
+pub edge-refused : (old : GraphBody) (r : Kept) (m : ℕ) (x : Refusal) → m ≡ length old.edges → says_edge r ≡ true → edge_fault old.nodes m r ≡ Some x
+    → RefusesNext (λ s. body_fault s.terms s.nodes) HoldsGraph old r (Refused x)
+edge-refused old r m x many is bad = record { refused = λ start body h. edge-tested old r m many is start body h ∙ bad }
+
+term-tested : (old : GraphBody) (r : Kept) (seen : Bool) → is_some old.entries ≡ seen → old.terms ≡ true → says_term r ≡ true
+    → (start : GraphBody) (body : List Kept) → HoldsGraph start body old → body_fault start.terms start.nodes body r ≡ term_fault seen r
+term-tested old r seen was allowed is start body h =
+    body_fault-term start.terms start.nodes body r (sym h.terms ∙ allowed) is
+    ∙ ap (λ (b : Bool). term_fault b r) (sym (ap is_some h.entries) ∙ was)
+
+-- a `term` is taken
+pub term-taken : (old new : GraphBody) (r : Kept) (seen : Bool) (list : List ℕ) → is_some old.entries ≡ seen → seen ≡ false → old.terms ≡ true
+    → says_term r ≡ true → term_fault seen r ≡ None → list ≡ sizes_from r 1 → new.nodes ≡ old.nodes → new.terms ≡ old.terms
+    → new.edges ≡ old.edges → new.entries ≡ Some list → Takes (λ s. body_fault s.terms s.nodes) HoldsGraph old r new
+term-taken old new r seen list was first allowed is good value same_nodes same_terms same_edges given = record {
+  passes = λ start body h. term-tested old r seen was allowed is start body h ∙ good;
+  goes_on = λ start body h.
+      let all = ap length same_edges in
+      let few = h.few in
+      let some = h.some in
+      let most = h.few_nodes in
+      let now = entries_given-first body r (sym h.entries ∙ none-of old.entries (was ∙ first)) is in
+      record {
+        nodes = same_nodes ∙ h.nodes;
+        terms = same_terms ∙ h.terms;
+        some = omega (arith, same_nodes, some);
+        few_nodes = omega (arith, same_nodes, most);
+        edges = same_edges ∙ h.edges ∙ sym (edges_in-other body r (term-no_edge r is));
+        few = omega (arith, all, few);
+        joined = rw (same_nodes, same_edges) h.joined;
+        entries = given ∙ ap (λ (l : List ℕ). Some l) value ∙ sym now;
+      };
+}
   where
     none-of : (o : Option (List ℕ)) → is_some o ≡ false → o ≡ None
     none-of None e = refl
     none-of (Some l) e = absurd (let w = e in cc)
 
--- whether a `term` stood before is kept
-pub seen-term : (body : List Kept) (state : GraphBody) → HoldsGraph body state → is_some state.entries ≡ is_some (entries_given body)
-seen-term body state h = ap is_some h.entries
+-- a `term` is refused
+pub term-refused : (old : GraphBody) (r : Kept) (seen : Bool) (e : Fault) → is_some old.entries ≡ seen → old.terms ≡ true → says_term r ≡ true
+    → OrNoMemory (Refuses (term_fault seen r)) e → RefusesNext (λ s. body_fault s.terms s.nodes) HoldsGraph old r e
+term-refused old r seen e was allowed is bad = record { refused = λ start body h. rw (term-tested old r seen was allowed is start body h) bad }
 
--- the records so far, which are the body, and what is left of all of them
-pub record BodySoFar (terms : Bool) (n : ℕ) (all left : List Kept) (state : GraphBody) : Type 0 where
-  pub body : List Kept
-  pub split : all ≡ body ++ left
-  pub is_body : IsBody (body_fault terms n) body
-  pub holds : HoldsGraph body state
-  pub nodes : state.nodes ≡ n
-  pub allowed : state.terms ≡ terms
-
--- before the first record nothing is kept
-pub begun : (terms : Bool) (n : ℕ) (all : List Kept) (state : GraphBody) → state.nodes ≡ n → state.terms ≡ terms → HoldsGraph [] state
-    → BodySoFar terms n all all state
-begun terms n all state nodes allowed holds = record {
-  body = [];
-  split = refl;
-  is_body = IsBody-none (body_fault terms n);
-  holds = holds;
-  nodes = nodes;
-  allowed = allowed;
+-- any other record is refused
+pub other-refused : (old : GraphBody) (r : Kept) → says_edge r ≡ false → (old.terms && says_term r) ≡ false → says_end r ≡ false
+    → RefusesNext (λ s. body_fault s.terms s.nodes) HoldsGraph old r (Refused (UnknownKind r.at))
+other-refused old r a b c = record {
+  refused = λ start body h. body_fault-other start.terms start.nodes body r a (ap (λ (t : Bool). t && says_term r) (sym h.terms) ∙ b) c;
 }
 
--- one record more, which passes its tests
-pub one-more : (terms : Bool) (n : ℕ) (all left rest : List Kept) (r : Kept) (old new : GraphBody) → (sf : BodySoFar terms n all left old)
-    → left ≡ r ∷ rest → says_end r ≡ false → body_fault old.terms old.nodes sf.body r ≡ None → HoldsGraph (sf.body ++ r ∷ []) new
-    → new.nodes ≡ old.nodes → new.terms ≡ old.terms → BodySoFar terms n all rest new
-one-more terms n all left rest r old new sf next other good holds nodes allowed = record {
-  body = sf.body ++ r ∷ [];
-  split = sf.split ∙ ap (λ (l : List Kept). sf.body ++ l) next ∙ sym (append_assoc sf.body (r ∷ []) rest);
-  is_body = IsBody-more (body_fault terms n) sf.body r sf.is_body other
-      (ap (λ (k : ℕ). body_fault terms k sf.body r) (sym sf.nodes) ∙ ap (λ (b : Bool). body_fault b old.nodes sf.body r) (sym sf.allowed) ∙ good);
-  holds = holds;
-  nodes = nodes ∙ sf.nodes;
-  allowed = allowed ∙ sf.allowed;
-}
+-- a bare `end` is tested with the terminals before it
+end-tested : (now : GraphBody) (r : Kept) → says_end r ≡ true → (start : GraphBody) (body : List Kept) → HoldsGraph start body now
+    → body_fault start.terms start.nodes body r ≡ graph_end_fault now.nodes (unwrap_or now.entries []) r
+end-tested now r end start body h =
+    body_fault-end start.terms start.nodes body r end ∙ ap (λ (o : Option (List ℕ)). graph_end_fault start.nodes (unwrap_or o []) r) (sym h.entries)
+    ∙ ap (λ (n : ℕ). graph_end_fault n (unwrap_or now.entries []) r) (sym h.nodes)
 
--- the `end`
-pub end-passes : (n : ℕ) (entries : List ℕ) (r : Kept) → bare_end_fault r ≡ None → terminals_fault n entries ≡ None → graph_end_fault n entries r ≡ None
-end-passes n entries r bare good = rw (bare, good) refl
+-- a bare `end` behind good terminals passes
+pub end-passes : (now : GraphBody) (r : Kept) → says_end r ≡ true → bare_end_fault r ≡ None → terminals_fault now.nodes (unwrap_or now.entries []) ≡ None
+    → (start : GraphBody) (body : List Kept) → HoldsGraph start body now → body_fault start.terms start.nodes body r ≡ None
+end-passes now r end bare good start body h = end-tested now r end start body h ∙ rw (bare, good) refl
 
 -- an `end` with another field is refused for that
-pub end-bare : (n : ℕ) (entries : List ℕ) (r : Kept) (refusal : Refusal) → bare_end_fault r ≡ Some refusal → graph_end_fault n entries r ≡ Some refusal
-end-bare n entries r refusal bad = rw bad refl
+pub end-bare : (now : GraphBody) (r : Kept) (x : Refusal) → says_end r ≡ true → bare_end_fault r ≡ Some x
+    → RefusesNext (λ s. body_fault s.terms s.nodes) HoldsGraph now r (Refused x)
+end-bare now r x end bad = record { refused = λ start body h. end-tested now r end start body h ∙ rw bad refl }
 
 -- a bare `end` is refused for its terminals
-pub end-terminals : (n : ℕ) (entries : List ℕ) (r : Kept) (e : Fault) → bare_end_fault r ≡ None → OrNoMemory (Refuses (terminals_fault n entries)) e
-    → OrNoMemory (Refuses (graph_end_fault n entries r)) e
-end-terminals n entries r (Refused x) bare bad = rw (bare, bad) refl
-end-terminals n entries r NoMemory bare bad = tt
-
--- a bare `end` behind good terminals ends the records
-pub ended : (terms : Bool) (n : ℕ) (all left rest : List Kept) (r : Kept) (state : GraphBody) (sf : BodySoFar terms n all left state) → left ≡ r ∷ rest
-    → says_end r ≡ true → bare_end_fault r ≡ None → terminals_fault n (entries_in sf.body) ≡ None → IsEnded (body_fault terms n) all sf.body r
-ended terms n all left rest r state sf next end bare good = record {
-  more = rest;
-  split = sf.split ∙ ap (λ (l : List Kept). sf.body ++ l) next;
-  is_body = sf.is_body;
-  ends = end;
-  passes = body_fault-end terms n sf.body r end ∙ end-passes n (entries_in sf.body) r bare good;
-}
+pub end-terminals : (now : GraphBody) (r : Kept) (e : Fault) → says_end r ≡ true → bare_end_fault r ≡ None
+    → OrNoMemory (Refuses (terminals_fault now.nodes (unwrap_or now.entries []))) e → RefusesNext (λ s. body_fault s.terms s.nodes) HoldsGraph now r e
+end-terminals now r (Refused x) end bare bad = record { refused = λ start body h. end-tested now r end start body h ∙ rw (bare, bad) refl }
+end-terminals now r NoMemory end bare bad = record { refused = λ start body h. tt }
 
 -- the graph that is kept
-pub graph-held : (body : List Kept) (state : GraphBody) (list : List ℕ) → HoldsGraph body state → list ≡ terminals_of state.nodes (unwrap_or state.entries [])
-    → record { nodes = state.nodes; edges = state.edges; terminals = list } ≡ body_graph state.nodes body
+pub graph-held : (now : GraphBody) (list : List ℕ) → list ≡ terminals_of now.nodes (unwrap_or now.entries [])
+    → (start : GraphBody) (body : List Kept) → HoldsGraph start body now
+    → record { nodes = now.nodes; edges = now.edges; terminals = list } ≡ body_graph start.nodes body
 unfolding body_graph
-graph-held body state list h value =
-    let same : list ≡ terminals_of state.nodes (entries_in body) = value ∙ ap (λ (o : Option (List ℕ)). terminals_of state.nodes (unwrap_or o [])) h.entries in
-    λ i. record { nodes = state.nodes; edges = h.edges i; terminals = same i }
+graph-held now list value start body h =
+    let same : list ≡ terminals_of now.nodes (entries_in body) = value ∙ ap (λ (o : Option (List ℕ)). terminals_of now.nodes (unwrap_or o [])) h.entries in
+    rw (← h.nodes) (λ i. record { nodes = now.nodes; edges = h.edges i; terminals = same i })
 
 -- what is kept makes a graph within the limits
-pub sound-held : (body : List Kept) (state : GraphBody) (list : List ℕ) → HoldsGraph body state → list ≡ terminals_of state.nodes (unwrap_or state.entries [])
-    → 1 ≤ state.nodes → state.nodes ≤ spin_limit → length list % 2 ≡ 0
-    → IsGraphText (record { nodes = state.nodes; edges = state.edges; terminals = list })
-sound-held body state list h value some few even = record {
-  has_node = some;
-  few_nodes = few;
-  few_edges = h.few;
-  joined = h.joined;
-  terminals = rw value (are_terminals state.nodes state.edges (unwrap_or state.entries []));
+pub sound-held : (now : GraphBody) (list : List ℕ) → list ≡ terminals_of now.nodes (unwrap_or now.entries []) → length list % 2 ≡ 0
+    → HoldsSome HoldsGraph now → IsGraphText (record { nodes = now.nodes; edges = now.edges; terminals = list })
+sound-held now list value even h = record {
+  has_node = h.held.some;
+  few_nodes = h.held.few_nodes;
+  few_edges = h.held.few;
+  joined = h.held.joined;
+  terminals = rw value (are_terminals now.nodes now.edges (unwrap_or now.entries []));
   even = even;
 }

@@ -1,41 +1,30 @@
 -- Faults of a text that gives no connected graph, by the step that finds them.
-use Rattle.std.proofs.Common.{◌≡◌, ℕ, ◌≤◌, Bool, List, subst}
+use Rattle.std.proofs.Common.{◌≡◌, ℕ, ◌≤◌, Bool, List, [], subst}
 use Rattle.sg_limits.specs.Limits.{sum_limit}
 use Rattle.sg_model.specs.declared.refusal.Fault.{Fault}
 use Rattle.sg_model.specs.declared.refusal.Fault.TheVariants.{Refused, NoMemory}
 use Rattle.sg_model.specs.declared.refusal.Refusal.{Refusal}
 use Rattle.sg_graph.specs.Web.{Graph, total_weight}
 use Rattle.sg_reader.specs.Kept.{kept_of}
-use Rattle.sg_reader.specs.NoMore.{trailing_fault}
+use Rattle.sg_reader.specs.Rest.{RefusesAlone}
 use Rattle.sg_graph_text.specs.declared.graph.GraphText.{GraphText}
 use Rattle.sg_graph_text.specs.ReadGraph.{ReadsGraph, RefusesGraph}
-use Rattle.sg_graph_text.specs.Network.{AtGraph, AtReach, AtRecords, AtTrailing, AtWeight, GivesAlone, IsTooHeavy, IsUnjoined, graph_in, RefusesGraphAlone, RefusesNetwork}
-use Rattle.sg_draft.specs.Tests.{Refuses}
+use Rattle.sg_graph_text.specs.Network.{AtReach, AtRecords, AtWeight, IsTooHeavy, IsUnjoined, graph_in, RefusesNetwork}
 use Rattle.sg_model.specs.Faults.{OrNoMemory}
 
-pub record-fault : (terms : Bool) (bytes : List ℕ) (e : Fault) → OrNoMemory (RefusesGraph terms (kept_of bytes)) e → OrNoMemory
-    (RefusesGraphAlone terms bytes) e
-record-fault terms bytes (Refused x) bad = AtGraph bad
-record-fault terms bytes NoMemory bad = tt
-
--- a record behind the `end` refuses the text
-pub trailing-fault : (terms : Bool) (bytes : List ℕ) (text : GraphText) (after : ℕ) (e : Fault) → ReadsGraph terms (kept_of bytes) text after
-    → OrNoMemory (Refuses (trailing_fault (kept_of bytes) after)) e → OrNoMemory (RefusesGraphAlone terms bytes) e
-trailing-fault terms bytes text after (Refused x) reads bad = AtTrailing text after reads bad
-trailing-fault terms bytes text after NoMemory reads bad = tt
-
 -- what refuses the records refuses the network
-pub alone-fault : (terms : Bool) (bytes : List ℕ) (e : Fault) → OrNoMemory (RefusesGraphAlone terms bytes) e → OrNoMemory (RefusesNetwork terms bytes) e
+pub alone-fault : (terms : Bool) (bytes : List ℕ) (e : Fault) → OrNoMemory (RefusesAlone (ReadsGraph terms (kept_of bytes)) (RefusesGraph terms (kept_of bytes))) e
+    → OrNoMemory (RefusesNetwork terms bytes) e
 alone-fault terms bytes (Refused x) bad = AtRecords bad
 alone-fault terms bytes NoMemory bad = tt
 
 -- too heavy a graph refuses the network
-pub weight-fault : (terms : Bool) (bytes : List ℕ) (text : GraphText) (x : Refusal) → GivesAlone terms bytes text → IsTooHeavy (graph_in text) x
+pub weight-fault : (terms : Bool) (bytes : List ℕ) (text : GraphText) (x : Refusal) → ReadsGraph terms (kept_of bytes) text [] → IsTooHeavy (graph_in text) x
     → OrNoMemory (RefusesNetwork terms bytes) (Refused x)
 weight-fault terms bytes text x gives bad = AtWeight text gives bad
 
 -- a graph that is not connected refuses the network
-pub reach-fault : (terms : Bool) (bytes : List ℕ) (text : GraphText) (g : Graph) (e : Fault) → GivesAlone terms bytes text → g ≡ graph_in text
+pub reach-fault : (terms : Bool) (bytes : List ℕ) (text : GraphText) (g : Graph) (e : Fault) → ReadsGraph terms (kept_of bytes) text [] → g ≡ graph_in text
     → total_weight g ≤ sum_limit → OrNoMemory (IsUnjoined g) e → OrNoMemory (RefusesNetwork terms bytes) e
 reach-fault terms bytes text g (Refused x) gives same light bad = AtReach text gives (subst (λ (h : Graph). total_weight h ≤ sum_limit) same light)
     (subst (λ (h : Graph). IsUnjoined h x) same bad)

@@ -1,19 +1,23 @@
 -- A graph by its first record and those behind it.
-use Rattle.std.proofs.Common.{◌≡◌, ℕ, Bool, false, List, [], ◌∷◌, Some, None, refl, codes}
+use Rattle.std.proofs.Common.{◌≡◌, ℕ, Bool, false, List, [], ◌∷◌, None, refl, sym, ap, ap₂, subst, ◌∙◌, codes}
 use Rattle.std.specs.Prelude.{not}
 use Rattle.sg_model.specs.declared.refusal.Fault.{Fault}
-use Rattle.sg_model.specs.declared.refusal.Fault.TheVariants.{Refused, NoMemory}
-use Rattle.sg_model.specs.declared.refusal.Refusal.{Refusal}
-use Rattle.sg_model.specs.declared.refusal.Refusal.TheVariants.{BadShape, TooManySpins, Unended, UnknownKind}
+use Rattle.sg_model.specs.declared.refusal.Refusal.TheVariants.{BadShape, TooManySpins, UnknownKind}
 use Rattle.sg_limits.specs.Limits.{spin_limit}
 use Rattle.std.specs.Prelude.{◌==◌, length, nat_lt, pos}
 use Rattle.sg_reader.specs.Kept.{Kept}
 use Rattle.sg_draft.specs.Tests.{refuse_if}
 use Rattle.sg_reader.specs.Tests.{at_least, bad_number, size_in}
 use Rattle.sg_reader.specs.Body.{says_end}
-use Rattle.sg_reader.specs.Ended.{AtRecord, StatesToEnd, WithoutEnd, RefusesRecords}
-use Rattle.sg_reader.proofs.BodyLaws.{IsBody-none}
-use Rattle.sg_reader.proofs.ResultLaws.{IsEnded-cons, Refuses-cons, first-passes, other-word}
+use Rattle.sg_reader.specs.Ended.{IsEnded, RefusesRecords, StatesToEnd, TestTable}
+use Rattle.sg_reader.specs.Rest.{Fails}
+use Rattle.sg_reader.specs.Taken.{HoldsToEnd, RefusesNext}
+use Rattle.sg_draft.specs.Tests.{Refuses}
+use Rattle.sg_reader.proofs.EndedLaws.{end-fault, first-fault, refuses-cons, states-cons}
+use Rattle.sg_reader.proofs.RestLaws.{fails-on}
+use Rattle.sg_reader.proofs.ResultLaws.{first-passes, other-word}
+use Rattle.sg_graph_text.specs.declared.body.GraphBody.{GraphBody}
+use Rattle.sg_graph_text.specs.GraphHolds.{HoldsGraph}
 use Rattle.sg_graph_text.specs.declared.graph.GraphText.{GraphText}
 use Rattle.sg_graph_text.specs.Graph.{body_fault, body_graph, graph_fault, graph_of, says_graph, size_fault}
 use Rattle.sg_graph_text.specs.ReadGraph.{ReadsGraph, RefusesGraph}
@@ -25,32 +29,52 @@ size-no_end r h =
     (first-passes (says_graph r) (UnknownKind r.at) (refuse_if (not (length r.fields == 2)) (BadShape r.at) ∷ bad_number r 1 (λ i. at_least 1)
     ∷ refuse_if (nat_lt spin_limit (size_in r 1)) (TooManySpins (pos (size_in r 1))) ∷ []) h)
 
--- the first record fails a test, or there is none
-pub size-fault : (terms : Bool) (all rest : List Kept) (r : Kept) (refusal : Refusal) → all ≡ r ∷ rest → size_fault r ≡ Some refusal
-    → OrNoMemory (RefusesGraph terms all) (Refused refusal)
+-- what refuses the first record refuses the graph
+pub size-fault : (terms : Bool) (all : List Kept) (r : Kept) (rest : List Kept) (e : Fault) → all ≡ r ∷ rest → OrNoMemory (Refuses (size_fault r)) e
+    → Fails (RefusesGraph terms all) all rest e
 unfolding graph_fault
-size-fault terms all rest r refusal split bad = AtRecord [] r rest split (IsBody-none (graph_fault terms)) bad
+size-fault terms all r rest e split bad = first-fault (graph_fault terms) all r rest e split bad
 
--- without a record the text runs out
-pub without-size : (terms : Bool) (all : List Kept) → all ≡ [] → OrNoMemory (RefusesGraph terms all) (Refused Unended)
-without-size terms all none = rw none (WithoutEnd (IsBody-none (graph_fault terms)) refl)
+-- the tests of the body are those of the graph
+tests-graph : (terms : Bool) (n : ℕ) (start : GraphBody) → start.terms ≡ terms → start.nodes ≡ n → body_fault start.terms start.nodes ≡ body_fault terms n
+tests-graph terms n start allowed nodes = ap₂ body_fault allowed nodes
 
--- the records behind the first are refused, or give the graph
-pub behind-fault : (terms : Bool) (all rest : List Kept) (r : Kept) (e : Fault) → all ≡ r ∷ rest → size_fault r ≡ None
-    → OrNoMemory (RefusesRecords (body_fault terms (size_in r 1)) rest) e → OrNoMemory (RefusesGraph terms all) e
+-- what refuses a record behind the first refuses the body
+pub body-fails : (terms : Bool) (n : ℕ) (start : GraphBody) (all rest : List Kept) (e : Fault) → start.terms ≡ terms → start.nodes ≡ n
+    → Fails (RefusesRecords (body_fault start.terms start.nodes) all) all rest e → Fails (RefusesRecords (body_fault terms n) all) all rest e
+body-fails terms n start all rest e allowed nodes bad =
+    subst (λ (t : TestTable). Fails (RefusesRecords t all) all rest e) (tests-graph terms n start allowed nodes) bad
+
+module _ (terms : Bool) (n : ℕ) (start : GraphBody) (all : List Kept) (now : GraphBody) (last : Kept) (rest : List Kept)
+    (h : HoldsToEnd (λ s. body_fault s.terms s.nodes) HoldsGraph start all now last rest) where
+  -- what refuses the `end` refuses the body
+  pub end-fails : (e : Fault) → start.terms ≡ terms → start.nodes ≡ n → RefusesNext (λ s. body_fault s.terms s.nodes) HoldsGraph now last e
+      → Fails (RefusesRecords (body_fault terms n) all) all rest e
+  end-fails e allowed nodes bad =
+      body-fails terms n start all rest e allowed nodes
+      (end-fault (λ s. body_fault s.terms s.nodes) HoldsGraph start all now last rest h e (bad.refused start h.body h.held))
+
+  -- an `end` that passes makes the graph that is stated
+  pub body-states : (g : GraphText) → start.terms ≡ terms → start.nodes ≡ n → body_fault start.terms start.nodes h.body last ≡ None
+      → g ≡ body_graph start.nodes h.body → StatesToEnd (body_fault terms n) (body_graph n) all g rest
+  body-states g allowed nodes good value = record {
+    body = h.body;
+    last = last;
+    ended = subst (λ (t : TestTable). IsEnded t all h.body last rest) (tests-graph terms n start allowed nodes) h.ended;
+    passes = ap (λ (t : TestTable). t h.body last) (sym (tests-graph terms n start allowed nodes)) ∙ good;
+    value = value ∙ ap (λ (k : ℕ). body_graph k h.body) nodes;
+  }
+
+-- behind a good first record, what refuses the body refuses the graph
+pub behind-fault : (terms : Bool) (all : List Kept) (r : Kept) (more rest : List Kept) (e : Fault) → all ≡ r ∷ more → size_fault r ≡ None
+    → Fails (RefusesRecords (body_fault terms (size_in r 1)) more) more rest e → Fails (RefusesGraph terms all) all rest e
 unfolding graph_fault
-behind-fault terms all rest r (Refused x) split good bad =
-    rw split (Refuses-cons (graph_fault terms) r rest x (size-no_end r good) good bad)
-behind-fault terms all rest r NoMemory split good bad = tt
+behind-fault terms all r more rest e split good bad =
+    fails-on (RefusesRecords (body_fault terms (size_in r 1)) more) (RefusesGraph terms all) all (r ∷ []) more rest split
+    (λ x refused. refuses-cons (graph_fault terms) all more r x rest split (size-no_end r good) good refused) e bad
 
 -- a first record that passes, and the records behind it, give the graph
-pub behind-graph : (terms : Bool) (all rest : List Kept) (r : Kept) (g : GraphText) (next : ℕ) → all ≡ r ∷ rest → size_fault r ≡ None
-    → StatesToEnd (body_fault terms (size_in r 1)) (body_graph (size_in r 1)) rest g next → ReadsGraph terms all g next
+pub behind-graph : (terms : Bool) (all : List Kept) (r : Kept) (more : List Kept) (g : GraphText) (rest : List Kept) → all ≡ r ∷ more
+    → size_fault r ≡ None → StatesToEnd (body_fault terms (size_in r 1)) (body_graph (size_in r 1)) more g rest → ReadsGraph terms all g rest
 unfolding graph_fault graph_of
-behind-graph terms all rest r g next split good st = record {
-  body = r ∷ st.body;
-  last = st.last;
-  ended = rw split (IsEnded-cons (graph_fault terms) r rest st.body st.last (size-no_end r good) good st.ended);
-  value = st.value;
-  count = st.count;
-}
+behind-graph terms all r more g rest split good st = states-cons (graph_fault terms) graph_of all more r g rest split (size-no_end r good) good st

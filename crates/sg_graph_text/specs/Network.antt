@@ -1,5 +1,5 @@
 -- Which connected graph a text gives, or why it is refused: the first test that fails.
-use Rattle.std.specs.Prelude.{◌≡◌, ℕ, ◌<◌, ◌≤◌, ◌%◌, Bool, pos, List, length, Some, None}
+use Rattle.std.specs.Prelude.{◌≡◌, ℕ, ◌<◌, ◌≤◌, ◌%◌, Bool, pos, List, [], length}
 use Rattle.sg_limits.specs.Limits.{sum_limit}
 use Rattle.sg_model.specs.declared.refusal.Refusal.{Refusal}
 use Rattle.sg_model.specs.declared.refusal.Refusal.TheVariants.{NotJoined, SumTooLarge}
@@ -7,10 +7,9 @@ use Rattle.sg_graph.specs.Join.{AreTerminals}
 use Rattle.sg_graph.specs.Walk.{IsConnectedWeb, IsFirstUnreached}
 use Rattle.sg_graph.specs.Web.{Graph, total_weight}
 use Rattle.sg_reader.specs.Kept.{kept_of}
-use Rattle.sg_reader.specs.NoMore.{trailing_fault}
+use Rattle.sg_reader.specs.Rest.{RefusesAlone}
 use Rattle.sg_graph_text.specs.declared.graph.GraphText.{GraphText}
 use Rattle.sg_graph_text.specs.ReadGraph.{ReadsGraph, RefusesGraph}
-use Rattle.sg_model.specs.Faults.{OrNoMemory}
 
 -- the graph without its terminals, and with them
 abbrev pub graph_in : GraphText → Graph
@@ -18,18 +17,6 @@ graph_in text = record { nodes = text.nodes; edges = text.edges }
 
 abbrev pub with_terminals : Graph → List ℕ → GraphText
 with_terminals g terminals = record { nodes = g.nodes; edges = g.edges; terminals = terminals }
-
--- the records of the text give the graph, and nothing stands behind its `end`
-pub record GivesAlone (terms : Bool) (bytes : List ℕ) (text : GraphText) : Type 0 where
-  pub after : ℕ
-  pub reads : ReadsGraph terms (kept_of bytes) text after
-  pub ends : trailing_fault (kept_of bytes) after ≡ None
-
--- the first fault of the records: at one of them, or behind the `end`
-pub data RefusesGraphAlone (terms : Bool) (bytes : List ℕ) (refusal : Refusal) : Type 0 where
-  AtGraph : RefusesGraph terms (kept_of bytes) refusal → RefusesGraphAlone terms bytes refusal
-  AtTrailing : (text : GraphText) (after : ℕ) → ReadsGraph terms (kept_of bytes) text after
-      → trailing_fault (kept_of bytes) after ≡ Some refusal → RefusesGraphAlone terms bytes refusal
 
 -- all weights together are above the limit
 pub record IsTooHeavy (g : Graph) (refusal : Refusal) : Type 0 where
@@ -49,16 +36,17 @@ pub record IsNetwork (g : Graph) (terminals : List ℕ) : Type 0 where
   pub nodes : AreTerminals g terminals
   pub even : length terminals % 2 ≡ 0
 
--- the text gives a connected graph within the limit of weight, and terminals
+-- the text gives a connected graph within the limit of weight, and terminals; no record is left
 pub record GivesNetwork (terms : Bool) (bytes : List ℕ) (g : Graph) (terminals : List ℕ) : Type 0 where
-  pub gives : GivesAlone terms bytes (with_terminals g terminals)
+  pub gives : ReadsGraph terms (kept_of bytes) (with_terminals g terminals) []
   pub light : total_weight g ≤ sum_limit
   pub connected : IsConnectedWeb g
 
--- the first fault of a text: of its records, then of the weights, then of the graph as a whole
+-- the first fault of a text: of its records, or a record that is left, then of the weights, then of the graph as a whole
 pub data RefusesNetwork (terms : Bool) (bytes : List ℕ) (refusal : Refusal) : Type 0 where
-  AtRecords : RefusesGraphAlone terms bytes refusal → RefusesNetwork terms bytes refusal
-  AtWeight : (text : GraphText) → GivesAlone terms bytes text → IsTooHeavy (graph_in text) refusal
+  AtRecords : RefusesAlone (ReadsGraph terms (kept_of bytes)) (RefusesGraph terms (kept_of bytes)) refusal
       → RefusesNetwork terms bytes refusal
-  AtReach : (text : GraphText) → GivesAlone terms bytes text → total_weight (graph_in text) ≤ sum_limit
+  AtWeight : (text : GraphText) → ReadsGraph terms (kept_of bytes) text [] → IsTooHeavy (graph_in text) refusal
+      → RefusesNetwork terms bytes refusal
+  AtReach : (text : GraphText) → ReadsGraph terms (kept_of bytes) text [] → total_weight (graph_in text) ≤ sum_limit
       → IsUnjoined (graph_in text) refusal → RefusesNetwork terms bytes refusal

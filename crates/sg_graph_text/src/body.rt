@@ -1,14 +1,14 @@
-ghost use Rattle.std.specs.Prelude.{◌≡◌, ◌<◌, ◌≤◌, ◌^◌, [], true, false, None, Some, length, pos, IfOk, IfErr, OnOk, ℤ, ◌≤ℤ◌, ◌+◌};
+ghost use Rattle.std.specs.Prelude.{◌≡◌, ◌<◌, ◌≤◌, [], List, true, false, None, Some, length, unwrap_or, IfOk, IfErr, OnOk};
 ghost use Rattle.sg_limits.specs.Limits.{bond_limit, spin_limit};
 ghost use Rattle.sg_graph.specs.Web.{IsEdge};
 ghost use Rattle.sg_reader.specs.Body.{says_end, sizes_from};
-ghost use Rattle.sg_reader.specs.Leaves.{IsRest, Leaves};
-ghost use Rattle.sg_reader.specs.Ended.{StatesToEnd, RefusesRecords};
-ghost use Rattle.sg_reader.specs.Kept.{field};
+ghost use Rattle.sg_reader.specs.Ended.{RefusesRecords, StatesToEnd};
+ghost use Rattle.sg_reader.specs.Kept.{Kept};
+ghost use Rattle.sg_reader.specs.Rest.{Fails};
+ghost use Rattle.sg_reader.specs.Taken.{HoldsSome, RefusesNext, Takes};
 ghost use Rattle.sg_draft.specs.Tests.{Refuses};
-ghost use Rattle.sg_reader.specs.Tests.{at_least, is_number_in, number_in};
 ghost use Rattle.sg_graph_text.specs.Graph.{body_fault, body_graph, edge_fault, edge_of, IsGraphText, says_edge, says_term, room_fault, term_fault};
-ghost use Rattle.sg_graph_text.specs.GraphHolds.{HoldsGraph, HoldsNextGraph, HoldsSomeGraph, IsHeldGraphFault, IsHeldGraph, IsNextGraphFault, PassesHeld, PassesNextGraph};
+ghost use Rattle.sg_graph_text.specs.GraphHolds.{HoldsGraph};
 ghost use Rattle.sg_model.specs.Faults.{OrNoMemory};
 
 use super::graph::GraphText;
@@ -16,7 +16,7 @@ use super::terminals::list_terminals;
 use sg_graph::{Edge, Edges, Terminals};
 use sg_limits::BOND_LIMIT;
 use sg_model::{Fault, Refusal};
-use sg_reader::{END, Range, Row, Rows, bare_end, indices};
+use sg_reader::{Gather, Range, Row, Rows, bare_end, indices, read_to_end};
 use std::alloc::Global;
 
 const EDGE: &[u8] = b"edge";
@@ -83,9 +83,11 @@ fn read_term(alloc: Global, row: &Row, seen: bool) -> Result<Terminals, Fault>
 
 impl GraphBody {
     fn new(alloc: Global, nodes: u32, terms: bool) -> Self
+        requires some { 1 ≤ nodes }
+        requires few { nodes ≤ spin_limit }
         ensures nodes { result.nodes ≡ nodes }
         ensures terms { result.terms ≡ terms }
-        ensures holds { HoldsGraph [] result }
+        ensures holds { HoldsGraph result [] result }
     {
         GraphBody {
             nodes,
@@ -96,12 +98,10 @@ impl GraphBody {
     }
 
     fn take_edge(&mut self, row: &Row) -> Result<(), Fault>
-        requires some { 1 ≤ self.old.nodes }
+        requires held { HoldsSome HoldsGraph self.old }
         requires word { says_edge row.now ≡ true }
-        ensures passes { OnOk result (PassesNextGraph self.old row.now) }
-        ensures holds { OnOk result (HoldsNextGraph self.old row.now self.new) }
-        ensures same { OnOk result ((self.new.nodes ≡ self.old.nodes) × (self.new.terms ≡ self.old.terms)) }
-        ensures fault { IfErr result (IsNextGraphFault self.old row.now) }
+        ensures taken { OnOk result (Takes (λ s. body_fault s.terms s.nodes) HoldsGraph self.old row.now self.new) }
+        ensures fault { IfErr result (RefusesNext (λ s. body_fault s.terms s.nodes) HoldsGraph self.old row.now) }
     {
         let edge = read_edge(row, self.nodes, self.edges.len())?;
         self.edges.push(edge)?;
@@ -111,54 +111,33 @@ impl GraphBody {
     fn take_term(&mut self, alloc: Global, row: &Row) -> Result<(), Fault>
         requires allowed { self.old.terms ≡ true }
         requires word { says_term row.now ≡ true }
-        ensures passes { OnOk result (PassesNextGraph self.old row.now) }
-        ensures holds { OnOk result (HoldsNextGraph self.old row.now self.new) }
-        ensures same { OnOk result ((self.new.nodes ≡ self.old.nodes) × (self.new.terms ≡ self.old.terms)) }
-        ensures fault { IfErr result (IsNextGraphFault self.old row.now) }
+        ensures taken { OnOk result (Takes (λ s. body_fault s.terms s.nodes) HoldsGraph self.old row.now self.new) }
+        ensures fault { IfErr result (RefusesNext (λ s. body_fault s.terms s.nodes) HoldsGraph self.old row.now) }
     {
         let entries = read_term(alloc, row, self.entries.is_some())?;
         self.entries = Some(entries);
         Ok(())
     }
 
-    // Takes a record that is not the `end`.
-    fn take(&mut self, alloc: Global, row: &Row) -> Result<(), Fault>
-        requires some { 1 ≤ self.old.nodes }
-        requires other { says_end row.now ≡ false }
-        ensures passes { OnOk result (PassesNextGraph self.old row.now) }
-        ensures holds { OnOk result (HoldsNextGraph self.old row.now self.new) }
-        ensures same { OnOk result ((self.new.nodes ≡ self.old.nodes) × (self.new.terms ≡ self.old.terms)) }
-        ensures fault { IfErr result (IsNextGraphFault self.old row.now) }
-    {
-        if row.begins(EDGE) {
-            self.take_edge(row)
-        } else if self.terms && row.begins(TERM) {
-            self.take_term(alloc, row)
-        } else {
-            Err(Fault::Refused(Refusal::UnknownKind { at: row.at() }))
-        }
-    }
-
-    // The graph, once all records were taken.
-    fn graph(self, alloc: Global) -> Result<GraphText, Fault>
-        requires some { 1 ≤ self.nodes }
-        requires few { self.nodes ≤ spin_limit }
-        requires held { HoldsSomeGraph self }
-        ensures passes { IfOk result (λ g. PassesHeld self) }
-        ensures value { IfOk result (IsHeldGraph self) }
+    // The graph, where `row` is the `end` behind the records that were taken.
+    fn graph(self, alloc: Global, row: &Row) -> Result<GraphText, Fault>
+        requires end { says_end row.now ≡ true }
+        requires held { HoldsSome HoldsGraph self }
+        ensures passes { IfOk result (λ g. (start : _) (body : List Kept) → HoldsGraph start body self
+            → body_fault start.terms start.nodes body row.now ≡ None) }
+        ensures value { IfOk result (λ g. (start : _) (body : List Kept) → HoldsGraph start body self
+            → g ≡ body_graph start.nodes body) }
         ensures sound { IfOk result IsGraphText }
-        ensures fault { IfErr result (IsHeldGraphFault self) }
+        ensures fault { IfErr result (RefusesNext (λ s. body_fault s.terms s.nodes) HoldsGraph self row.now) }
     {
+        bare_end(row)?;
         let GraphBody {
             nodes,
             terms: _,
             edges,
             entries,
         } = self;
-        let entries = match entries {
-            Some(list) => list,
-            None => Terminals::new(alloc),
-        };
+        let entries = entries_or_none(alloc, entries);
         let terminals = list_terminals(alloc, nodes, entries.as_slice())?;
         Ok(GraphText {
             nodes,
@@ -168,9 +147,34 @@ impl GraphBody {
     }
 }
 
-/// Reads the records of a graph of `n` nodes behind the first, up to its `end`, and gives the graph
-/// and the number of records of the text up to and with the `end`. `terms` says whether a record of
-/// terminals may stand.
+impl Gather for GraphBody {
+    ghost tests = { λ start. body_fault start.terms start.nodes };
+
+    ghost holds = { HoldsGraph };
+
+    fn take(&mut self, alloc: Global, row: &Row) -> Result<(), Fault> {
+        if row.begins(EDGE) {
+            self.take_edge(row)
+        } else if self.terms && row.begins(TERM) {
+            self.take_term(alloc, row)
+        } else {
+            Err(Fault::Refused(Refusal::UnknownKind { at: row.at() }))
+        }
+    }
+}
+
+// The entries, none where they were not given.
+fn entries_or_none(alloc: Global, entries: Option<Terminals>) -> Terminals
+    ensures { result ≡ unwrap_or entries [] }
+{
+    match entries {
+        Some(list) => list,
+        None => Terminals::new(alloc),
+    }
+}
+
+/// Reads the records of a graph of `n` nodes behind the first, up to its `end`, and gives the graph.
+/// `terms` says whether a record of terminals may stand.
 ///
 /// # Errors
 /// The first test that a record fails, `UnknownKind` for a record of no kind, `BadTerminal` and
@@ -181,23 +185,15 @@ pub(crate) fn read_body(
     row: &mut Row,
     n: u32,
     terms: bool,
-) -> Result<(GraphText, u32), Fault>
+) -> Result<GraphText, Fault>
     requires some { 1 ≤ n }
     requires few { n ≤ spin_limit }
-    ensures read { IfOk result (λ r. StatesToEnd (body_fault terms n) (body_graph n) records.old r.0 r.1) }
-    ensures left { IfOk result (λ r. Leaves records.old records.new r.1) }
-    ensures sound { IfOk result (λ r. IsGraphText r.0) }
-    ensures fault { IfErr result (OrNoMemory (RefusesRecords (body_fault terms n) records.old)) }
-    ensures rest { IsRest records.old records.new }
+    ensures read { IfOk result (λ g. StatesToEnd (body_fault terms n) (body_graph n) records.old g records.new) }
+    ensures sound { IfOk result IsGraphText }
+    ensures fault { IfErr result (Fails (RefusesRecords (body_fault terms n) records.old) records.old records.new) }
 {
     let mut body = GraphBody::new(alloc, n, terms);
-    while records.next(row)? {
-        if row.begins(END) {
-            bare_end(row)?;
-            let graph = body.graph(alloc)?;
-            return Ok((graph, row.at() + 1));
-        }
-        body.take(alloc, row)?;
-    }
-    Err(Fault::Refused(Refusal::Unended))
+    read_to_end(alloc, records, row, &mut body)?;
+    let graph = body.graph(alloc, row)?;
+    Ok(graph)
 }

@@ -1,10 +1,13 @@
-ghost use Rattle.std.specs.Prelude.{◌≡◌, ◌<◌, ◌≤◌, length, pos, IfOk, IfErr, OnOk};
+ghost use Rattle.std.specs.Prelude.{◌≡◌, ◌<◌, ◌≤◌, [], length, pos, IfOk, IfErr, OnOk};
 ghost use Rattle.std.specs.List.{sum_by};
 ghost use Rattle.sg_limits.specs.Limits.{bond_limit, sum_limit, text_limit};
 ghost use Rattle.sg_graph.specs.Walk.{IsConnectedWeb};
 ghost use Rattle.sg_graph.specs.Web.{total_weight, weight_at};
 ghost use Rattle.sg_graph_text.specs.Graph.{IsGraphText};
-ghost use Rattle.sg_graph_text.specs.Network.{GivesAlone, GivesNetwork, IsNetwork, IsTooHeavy, graph_in, RefusesGraphAlone, IsUnjoined, RefusesNetwork};
+ghost use Rattle.sg_graph_text.specs.Network.{GivesNetwork, IsNetwork, IsTooHeavy, graph_in, IsUnjoined, RefusesNetwork};
+ghost use Rattle.sg_graph_text.specs.ReadGraph.{ReadsGraph, RefusesGraph};
+ghost use Rattle.sg_reader.specs.Kept.{kept_of};
+ghost use Rattle.sg_reader.specs.Rest.{RefusesAlone};
 ghost use Rattle.sg_model.specs.Faults.{OrNoMemory};
 
 use super::graph::GraphText;
@@ -12,7 +15,7 @@ use super::read::read_graph;
 use sg_graph::{Edge, Terminals, Web, first_unreached};
 use sg_limits::SUM_LIMIT;
 use sg_model::{Fault, Refusal};
-use sg_reader::{Rows, no_more};
+use sg_reader::{Rows, alone};
 use std::alloc::Global;
 
 /// A connected weighted graph, and a set of its nodes.
@@ -39,18 +42,14 @@ fn sum_of(edges: &[Edge]) -> i128
 // The graph of a text with nothing behind it, or the first fault of the records.
 fn read_alone(alloc: Global, bytes: &[u8], terms: bool) -> Result<GraphText, Fault>
     requires { length bytes.now < text_limit }
-    ensures gives { IfOk result (GivesAlone terms bytes.now) }
+    ensures gives { IfOk result (λ text. ReadsGraph terms (kept_of bytes.now) text []) }
     ensures sound { IfOk result IsGraphText }
-    ensures refuses { IfErr result (OrNoMemory (RefusesGraphAlone terms bytes.now)) }
+    ensures refuses { IfErr result (OrNoMemory (RefusesAlone (ReadsGraph terms (kept_of bytes.now))
+        (RefusesGraph terms (kept_of bytes.now)))) }
 {
     let mut rows = Rows::new(alloc, bytes);
-    match read_graph(alloc, &mut rows, terms) {
-        Ok((text, _)) => match no_more(alloc, &mut rows) {
-            Ok(()) => Ok(text),
-            Err(fault) => Err(fault),
-        },
-        Err(fault) => Err(fault),
-    }
+    let given = read_graph(alloc, &mut rows, terms);
+    alone(alloc, given, &mut rows)
 }
 
 // The web of a graph, where its weights together are within the limit.

@@ -1,10 +1,9 @@
 ghost use Rattle.std.specs.Prelude.{◌≡◌, ◌≤◌, ◌∷◌, None, IfOk, IfErr};
 ghost use Rattle.sg_limits.specs.Limits.{spin_limit};
-ghost use Rattle.sg_reader.specs.Leaves.{IsRest, Leaves};
+ghost use Rattle.sg_reader.specs.Rest.{Fails};
 ghost use Rattle.sg_reader.specs.Tests.{size_in};
 ghost use Rattle.sg_graph_text.specs.Graph.{IsGraphText, size_fault};
 ghost use Rattle.sg_graph_text.specs.ReadGraph.{ReadsGraph, RefusesGraph};
-ghost use Rattle.sg_model.specs.Faults.{OrNoMemory};
 
 use super::body::read_body;
 use super::graph::GraphText;
@@ -20,8 +19,7 @@ fn next_size(rows: &mut Rows<'_>, row: &mut Row, terms: bool) -> Result<u32, Fau
     ensures value { IfOk result (λ n. n ≡ size_in row.new 1) }
     ensures some { IfOk result (λ n. 1 ≤ n) }
     ensures few { IfOk result (λ n. n ≤ spin_limit) }
-    ensures fault { IfErr result (OrNoMemory (RefusesGraph terms rows.old)) }
-    ensures rest { IsRest rows.old rows.new }
+    ensures fault { IfErr result (Fails (RefusesGraph terms rows.old) rows.old rows.new) }
 {
     if !rows.next(row)? {
         return Err(Fault::Refused(Refusal::Unended));
@@ -30,9 +28,8 @@ fn next_size(rows: &mut Rows<'_>, row: &mut Row, terms: bool) -> Result<u32, Fau
     Ok(nodes)
 }
 
-/// Reads a graph from the records of a text, and gives it with the number of `csv` records of the text
-/// up to and with its `end`. Those behind the `end` are left. `terms` says whether terminals may be
-/// given.
+/// Reads a graph from the records of a text. Those behind its `end` are left. `terms` says whether
+/// terminals may be given.
 ///
 /// The records count as those of an instance do.
 ///
@@ -49,21 +46,15 @@ fn next_size(rows: &mut Rows<'_>, row: &mut Row, terms: bool) -> Result<u32, Fau
 /// `BadShape`, `BadNumber`, `TooManyBonds` above 6144 edges; of the terminals `BadShape` where they
 /// are given a second time, `BadNumber`; of another record `UnknownKind`; of the `end` `BadShape`,
 /// then `BadTerminal` with the first terminal that is no node or stands earlier too, then
-/// `OddTerminals`. `Unended` where the records run out. `NoMemory` may come at any time. What was read
-/// is gone then too, and what stands behind it is left.
+/// `OddTerminals`. What stands behind that record is left. `Unended` where the records run out.
+/// `NoMemory` may come at any time, and some records are left then, perhaps none.
 ///
 /// The time is linear in the bytes and the nodes, and the memory is that of the graph and of the
 /// longest record.
-pub fn read_graph(
-    alloc: Global,
-    rows: &mut Rows<'_>,
-    terms: bool,
-) -> Result<(GraphText, u32), Fault>
-    ensures read { IfOk result (λ r. ReadsGraph terms rows.old r.0 r.1) }
-    ensures left { IfOk result (λ r. Leaves rows.old rows.new r.1) }
-    ensures sound { IfOk result (λ r. IsGraphText r.0) }
-    ensures fault { IfErr result (OrNoMemory (RefusesGraph terms rows.old)) }
-    ensures rest { IsRest rows.old rows.new }
+pub fn read_graph(alloc: Global, rows: &mut Rows<'_>, terms: bool) -> Result<GraphText, Fault>
+    ensures read { IfOk result (λ g. ReadsGraph terms rows.old g rows.new) }
+    ensures sound { IfOk result IsGraphText }
+    ensures fault { IfErr result (Fails (RefusesGraph terms rows.old) rows.old rows.new) }
 {
     let mut row = Row::new(alloc);
     let nodes = next_size(rows, &mut row, terms)?;

@@ -4,24 +4,16 @@ use Rattle.std.specs.Prelude.{All, ◌||◌, cond, filter, find, is_some, not, o
 use Rattle.std.specs.List.{flat_map, list_any, range_with_len}
 use Rattle.std.specs.Option.{option_or}
 use Rattle.std.specs.Str.{bytes_eq}
-use Rattle.std.proofs.lemmas.Bool.{cases_eq, false≢true, or_parts}
+use Rattle.std.proofs.lemmas.Bool.{false≢true, or_parts}
 use Rattle.std.proofs.lemmas.Grind.{flat_map-append}
-use Rattle.std.proofs.lemmas.List.{append-nil, get_or_append_left, get_or_at, length_push, take-append-le, take_at}
+use Rattle.std.proofs.lemmas.List.{append-nil}
 use Rattle.std.proofs.lemmas.List.Elements.{All-append, All-cons, All-nil, filter-append}
 use Rattle.std.proofs.lemmas.List.Folds.{find-append}
 use Rattle.std.proofs.lemmas.List.FromFn.{length-map-range_with_len}
-use Rattle.sg_model.specs.declared.refusal.Fault.{Fault}
-use Rattle.sg_model.specs.declared.refusal.Fault.TheVariants.{Refused, NoMemory}
-use Rattle.sg_model.specs.declared.refusal.Refusal.{Refusal}
-use Rattle.sg_model.specs.Faults.{IsRefusalOf, OrNoMemory}
-use Rattle.sg_reader.specs.declared.header.Header.{Header}
 use Rattle.sg_reader.specs.Kept.{Kept, begins, field}
 use Rattle.sg_reader.specs.Number.{number_of}
-use Rattle.sg_draft.specs.Tests.{Refuses}
 use Rattle.sg_reader.specs.Tests.{number_in}
-use Rattle.sg_reader.specs.Body.{couplings_in, instance_of, says_end, says_seam, numbers_from, record_fault, seam_in, sizes_from}
-use Rattle.sg_reader.specs.Ended.{IsBody, IsEnded, record_at}
-use Rattle.sg_reader.specs.ReadInstance.{AtEnd, AtRecord, RefusesBody}
+use Rattle.sg_reader.specs.Body.{couplings_in, says_seam, numbers_from, seam_in, sizes_from}
 use Rattle.sg_reader.proofs.NumberLaws.{size-of_number}
 
 -- a record that begins with a word has a field
@@ -36,34 +28,6 @@ word-inside w some r h = go r.fields h
 pub seam_inside : (r : Kept) → says_seam r ≡ true → 1 ≤ length r.fields
 seam_inside r h = word-inside (codes "seam") refl r h
 
--- one more record of the body
-pub IsBody-none : (fault : List Kept → Kept → Option Refusal) → IsBody fault []
-IsBody-none fault = record { goes_on = All-nil (λ (r : Kept). says_end r ≡ false); passes = λ k inside. absurd (omega arith) }
-
--- one record more that is no `end` and passes its test
-pub IsBody-more : (fault : List Kept → Kept → Option Refusal) (body : List Kept) (r : Kept) → IsBody fault body → says_end r ≡ false →
-    fault body r ≡ None → IsBody fault (body ++ r ∷ [])
-IsBody-more fault body r h other good = record {
-  goes_on = All-append (λ (q : Kept). says_end q ≡ false) body (r ∷ []) h.goes_on
-      (All-cons (λ (q : Kept). says_end q ≡ false) r [] other (All-nil (λ (q : Kept). says_end q ≡ false)));
-  passes = λ k inside. at k inside;
-}
-  where
-    at : (k : ℕ) → k < length (body ++ r ∷ []) → fault (take k (body ++ r ∷ [])) (record_at (body ++ r ∷ []) k) ≡ None
-    at k inside =
-        let count = length_push body r in
-        elim (cases_eq k (length body)) [
-          | inl e ↦
-              let front : take k (body ++ r ∷ []) ≡ body = take_at body (r ∷ []) k (sym e) in
-              let here : record_at (body ++ r ∷ []) k ≡ r = get_or_at body r [] (record { at = 0; fields = [] }) k (sym e) in
-              rw (front, here) good
-          | inr other ↦
-              let below : k < length body = omega (arith, count) in
-              let front : take k (body ++ r ∷ []) ≡ take k body = take-append-le k body (r ∷ []) (omega arith) in
-              let here : record_at (body ++ r ∷ []) k ≡ record_at body k = get_or_append_left body (r ∷ []) (record { at = 0; fields = [] }) k below in
-              rw (front, here) (h.passes k below)
-        ]
-
 -- whether the body has a seam
 pub seam_in-seen : (body : List Kept) → is_some (seam_in body) ≡ list_any says_seam body
 unfolding seam_in
@@ -75,7 +39,8 @@ seam_in-seen (r ∷ rest) = by (says_seam r) (seam_in-seen rest)
     by true e = refl
     by false e = e
 
-find-none : (p : Kept → Bool) (body : List Kept) → list_any p body ≡ false → find p body ≡ None
+-- what no record passes is not found
+pub find-none : (p : Kept → Bool) (body : List Kept) → list_any p body ≡ false → find p body ≡ None
 find-none p [] h = refl
 find-none p (r ∷ rest) h =
     let parts = or_parts (p r) (list_any p rest) h in
@@ -144,15 +109,3 @@ all-small (r ∷ rs) =
 pub couplings_in-small : (body : List Kept) → All (λ j. unsigned_abs j < 2 ^ 63) (couplings_in body)
 unfolding couplings_in
 couplings_in-small body = all-small (filter (λ q. not (says_seam q)) body)
-
--- a record fails a test, and an instance that is whole does
-pub record-fault : (head : Header) (all body rest : List Kept) (r : Kept) (e : Fault) → all ≡ body ++ r ∷ rest → IsBody (record_fault head) body
-    → OrNoMemory (Refuses (record_fault head body r)) e → OrNoMemory (RefusesBody head all) e
-record-fault head all body rest r (Refused x) split is_body bad = AtRecord body r rest split is_body bad
-record-fault head all body rest r NoMemory split is_body bad = tt
-
--- what refuses the instance at the `end` refuses the body
-pub end-fault : (head : Header) (all body : List Kept) (last : Kept) (e : Fault) → IsEnded (record_fault head) all body last
-    → OrNoMemory (IsRefusalOf (instance_of head body)) e → OrNoMemory (RefusesBody head all) e
-end-fault head all body last (Refused x) ended bad = AtEnd body last ended bad
-end-fault head all body last NoMemory ended bad = tt

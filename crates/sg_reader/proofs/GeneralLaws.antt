@@ -15,7 +15,11 @@ use Rattle.sg_model.specs.declared.refusal.Fault.{Fault}
 use Rattle.sg_model.specs.declared.refusal.Fault.TheVariants.{Refused, NoMemory}
 use Rattle.sg_model.specs.declared.refusal.Refusal.{Refusal}
 use Rattle.sg_model.specs.declared.refusal.Refusal.TheVariants.{BadNumber, BadShape, UnknownKind}
-use Rattle.sg_model.specs.Ising.{IsBond}
+use Rattle.sg_model.specs.Ising.{IsBond, Ising}
+use Rattle.sg_reader.specs.ReadInstance.{RefusesBody, StatesInstance}
+use Rattle.sg_reader.specs.Rest.{Fails}
+use Rattle.sg_reader.proofs.EndedLaws.{end-fault}
+use Rattle.sg_reader.proofs.ReadLaws.{body-fault, body-states}
 use Rattle.sg_reader.specs.declared.header.Header.TheVariants as header
 use Rattle.sg_reader.specs.declared.general.GeneralBody.{GeneralBody}
 use Rattle.sg_limits.specs.Limits.{bond_limit}
@@ -23,10 +27,11 @@ use Rattle.sg_reader.specs.Kept.{Kept, field}
 use Rattle.sg_draft.specs.Tests.{Refuses}
 use Rattle.sg_reader.specs.Tests.{any_index, bad_field, bad_number, is_number_in, size_in, spin_below}
 use Rattle.sg_reader.specs.Body.{bond_fault, bond_of, bond_range, ends_fault, bonds_in, darts_in, bare_end_fault, general_fault, has_rot, instance_of, says_bond, says_end, says_rot, says_rot_of, says_seam, record_fault, rot_fault, rot_range, seam_fault, seam_in, sizes_from}
-use Rattle.sg_reader.specs.Ended.{IsBody, IsEnded}
-use Rattle.sg_reader.specs.GeneralHolds.{HoldsGeneral}
+use Rattle.sg_reader.specs.Holds.{HoldsGeneral}
+use Rattle.sg_reader.specs.Taken.{HoldsToEnd, RefusesNext, Takes}
 use Rattle.sg_reader.proofs.TestLaws.{bad_field-rest, is-not}
-use Rattle.sg_reader.proofs.BodyLaws.{IsBody-more, seam_in-first, seam_in-other, seam_in-seen}
+use Rattle.sg_reader.proofs.BodyLaws.{find-none, seam_in-first, seam_in-other, seam_in-seen}
+use Rattle.sg_reader.proofs.LatticeLaws.{seam_fault-passes}
 use Rattle.sg_model.specs.Faults.{OrNoMemory}
 
 -- the tests of a bond
@@ -178,10 +183,6 @@ darts_in-other body r i h = rw (find-append (says_rot_of i) body (r ∷ [])) (rw
     by None = refl
     by (Some q) = refl
 
-find-none : (p : Kept → Bool) (body : List Kept) → list_any p body ≡ false → find p body ≡ None
-find-none p [] h = refl
-find-none p (r ∷ rest) h = let parts = or_parts (p r) (list_any p rest) h in rw (parts.0) (find-none p rest parts.1)
-
 -- behind its first `rot` the spin has these darts
 pub darts_in-own : (body : List Kept) (r : Kept) (i : ℕ) → says_rot_of i r ≡ true → has_rot body i ≡ false →
     darts_in (body ++ r ∷ []) i ≡ sizes_from r 2
@@ -226,125 +227,164 @@ marks-kept : (body : List Kept) (r : Kept) (n : ℕ) → says_rot r ≡ false
     → map (has_rot body) (range_with_len 0 n) ≡ map (has_rot (body ++ r ∷ [])) (range_with_len 0 n)
 marks-kept body r n h = table-same (has_rot body) (has_rot (body ++ r ∷ [])) n (λ i. has_rot-other body r i (no-rot_of r i h))
 
--- what is kept after a `bond`
-pub holds-bond : (body : List Kept) (r : Kept) (old : GeneralBody) (bonds : List Bond) → HoldsGeneral body old → says_bond r ≡ true
-    → bonds ≡ old.bonds ++ bond_of r ∷ [] → IsBond old.n (bond_of r) → length old.bonds < bond_limit
-    → HoldsGeneral (body ++ r ∷ []) (record { n = old.n; bonds = bonds; rotation = old.rotation; seen = old.seen; seam = old.seam })
-holds-bond body r old bonds h is added sound room =
-    let count = length-append old.bonds (bond_of r ∷ []) in
-    let all = ap length added in
-    record {
-      bonds = added ∙ ap (λ (l : List Bond). l ++ bond_of r ∷ []) h.bonds ∙ sym (bonds_in-more body r is);
-      few = omega (arith, all, count);
-      joined = All-same (IsBond old.n) bonds (old.bonds ++ bond_of r ∷ []) added
-          (All-append (IsBond old.n) old.bonds (bond_of r ∷ []) h.joined (All-cons (IsBond old.n) (bond_of r) [] sound (All-nil (IsBond old.n))));
-      darts = h.darts ∙ darts-kept body r old.n (bond-no_rot r is);
-      marks = h.marks ∙ marks-kept body r old.n (bond-no_rot r is);
-      seam = h.seam ∙ sym (seam_in-other body r (bond-no_seam r is));
-    }
+bond-tested : (old : GeneralBody) (r : Kept) (m : ℕ) → m ≡ length old.bonds → says_bond r ≡ true → (start : GeneralBody) (body : List Kept)
+    → HoldsGeneral start body old → general_fault start.n body r ≡ bond_fault old.n m r
+bond-tested old r m many is start body h =
+    general_fault-bond start.n body r is ∙ ap (λ (l : List Bond). bond_fault start.n (length l) r) (sym h.bonds)
+    ∙ ap (λ (k : ℕ). bond_fault start.n k r) (sym many) ∙ ap (λ (k : ℕ). bond_fault k m r) (sym h.spins)
+
+-- a `bond` is taken
+pub bond-taken : (old new : GeneralBody) (r : Kept) (m : ℕ) → m ≡ length old.bonds → says_bond r ≡ true → bond_fault old.n m r ≡ None
+    → new.n ≡ old.n → new.bonds ≡ old.bonds ++ bond_of r ∷ [] → new.rotation ≡ old.rotation → new.seen.items ≡ old.seen.items → new.seam ≡ old.seam
+    → IsBond old.n (bond_of r) → m < bond_limit → Takes (λ s. general_fault s.n) HoldsGeneral old r new
+bond-taken old new r m many is good same added lists marks cut sound room = record {
+  passes = λ start body h. bond-tested old r m many is start body h ∙ good;
+  goes_on = λ start body h.
+      let count = length-append old.bonds (bond_of r ∷ []) in
+      let all = ap length added in
+      let some = h.some in
+      record {
+        spins = same ∙ h.spins;
+        some = omega (arith, same, some);
+        bonds = added ∙ ap (λ (l : List Bond). l ++ bond_of r ∷ []) h.bonds ∙ sym (bonds_in-more body r is);
+        few = omega (arith, all, count, many, room);
+        joined = rw same (All-same (IsBond old.n) new.bonds (old.bonds ++ bond_of r ∷ []) added
+            (All-append (IsBond old.n) old.bonds (bond_of r ∷ []) h.joined (All-cons (IsBond old.n) (bond_of r) [] sound (All-nil (IsBond old.n)))));
+        darts = rw same (lists ∙ h.darts ∙ darts-kept body r old.n (bond-no_rot r is));
+        marks = rw same (marks ∙ h.marks ∙ marks-kept body r old.n (bond-no_rot r is));
+        seam = cut ∙ h.seam ∙ sym (seam_in-other body r (bond-no_seam r is));
+      };
+}
+
+-- a `bond` is refused
+pub bond-refused : (old : GeneralBody) (r : Kept) (m : ℕ) (x : Refusal) → m ≡ length old.bonds → says_bond r ≡ true → bond_fault old.n m r ≡ Some x
+    → RefusesNext (λ s. general_fault s.n) HoldsGeneral old r (Refused x)
+bond-refused old r m x many is bad = record { refused = λ start body h. bond-tested old r m many is start body h ∙ bad }
 
 -- whether a `seam` stood before is kept
-pub seen-seam : (body : List Kept) (state : GeneralBody) → HoldsGeneral body state → is_some state.seam ≡ list_any says_seam body
-seen-seam body state h = ap is_some h.seam ∙ seam_in-seen body
+seen-seam : (start : GeneralBody) (body : List Kept) (state : GeneralBody) → HoldsGeneral start body state → is_some state.seam ≡ list_any says_seam body
+seen-seam start body state h = ap is_some h.seam ∙ seam_in-seen body
 
--- what is kept after a `seam`
-pub holds-seam : (body : List Kept) (r : Kept) (old : GeneralBody) (seam : List ℕ) → HoldsGeneral body old → says_seam r ≡ true →
-    is_some old.seam ≡ false → seam ≡ sizes_from r 1
-    → HoldsGeneral (body ++ r ∷ []) (record { n = old.n; bonds = old.bonds; rotation = old.rotation; seen = old.seen; seam = Some seam })
-holds-seam body r old seam h is first value = record {
-  bonds = h.bonds ∙ sym (bonds_in-other body r (seam-no_bond r is));
-  few = h.few;
-  joined = h.joined;
-  darts = h.darts ∙ darts-kept body r old.n (seam-no_rot r is);
-  marks = h.marks ∙ marks-kept body r old.n (seam-no_rot r is);
-  seam = ap Some value ∙ sym (seam_in-first body r (sym (seen-seam body old h) ∙ first) is);
+seam-tested : (old : GeneralBody) (r : Kept) (seen : Bool) → is_some old.seam ≡ seen → says_seam r ≡ true → (start : GeneralBody) (body : List Kept)
+    → HoldsGeneral start body old → general_fault start.n body r ≡ seam_fault seen r
+seam-tested old r seen was is start body h =
+    general_fault-seam start.n body r is ∙ ap (λ (b : Bool). seam_fault b r) (sym (seen-seam start body old h) ∙ was)
+
+-- a `seam` is taken
+pub seam-taken : (old new : GeneralBody) (r : Kept) (seen : Bool) → is_some old.seam ≡ seen → says_seam r ≡ true → seam_fault seen r ≡ None
+    → new.n ≡ old.n → new.bonds ≡ old.bonds → new.rotation ≡ old.rotation → new.seen.items ≡ old.seen.items → new.seam ≡ Some (sizes_from r 1)
+    → Takes (λ s. general_fault s.n) HoldsGeneral old r new
+seam-taken old new r seen was is good same kept lists marks cut = record {
+  passes = λ start body h. seam-tested old r seen was is start body h ∙ good;
+  goes_on = λ start body h.
+      let count = ap length kept in
+      let few = h.few in
+      let some = h.some in
+      record {
+        spins = same ∙ h.spins;
+        some = omega (arith, same, some);
+        bonds = kept ∙ h.bonds ∙ sym (bonds_in-other body r (seam-no_bond r is));
+        few = omega (arith, count, few);
+        joined = rw (same, kept) h.joined;
+        darts = rw same (lists ∙ h.darts ∙ darts-kept body r old.n (seam-no_rot r is));
+        marks = rw same (marks ∙ h.marks ∙ marks-kept body r old.n (seam-no_rot r is));
+        seam = cut ∙ sym (seam_in-first body r (sym (seen-seam start body old h) ∙ was ∙ seam_fault-passes seen r good) is);
+      };
 }
+
+-- a `seam` is refused
+pub seam-refused : (old : GeneralBody) (r : Kept) (seen : Bool) (e : Fault) → is_some old.seam ≡ seen → says_seam r ≡ true
+    → OrNoMemory (Refuses (seam_fault seen r)) e → RefusesNext (λ s. general_fault s.n) HoldsGeneral old r e
+seam-refused old r seen e was is bad = record { refused = λ start body h. rw (seam-tested old r seen was is start body h) bad }
 
 -- the entry of a spin among the marks
-pub mark-of : (body : List Kept) (state : GeneralBody) (i : ℕ) (d : Bool) → HoldsGeneral body state → i < state.n →
+mark-of : (start : GeneralBody) (body : List Kept) (state : GeneralBody) (i : ℕ) (d : Bool) → HoldsGeneral start body state → i < state.n →
     get_or state.seen.items i d ≡ has_rot body i
-mark-of body state i d h inside = ap (λ (l : List Bool). get_or l i d) h.marks
+mark-of start body state i d h inside = ap (λ (l : List Bool). get_or l i d) h.marks
     ∙ get_or-map-range_with_len (has_rot body) 0 state.n i i d inside (omega arith)
 
--- what is kept after a `rot`
-pub holds-rot : (body : List Kept) (r : Kept) (old new : GeneralBody) → HoldsGeneral body old → says_rot r ≡ true → size_in r 1 < old.n
-    → has_rot body (size_in r 1) ≡ false
-    → new.n ≡ old.n → new.bonds ≡ old.bonds → new.seam ≡ old.seam → new.rotation ≡ set old.rotation (size_in r 1) (sizes_from r 2)
-    → new.seen.items ≡ set old.seen.items (size_in r 1) true → HoldsGeneral (body ++ r ∷ []) new
-holds-rot body r old new h is inside first same_n same_bonds same_seam lists marks =
-    let s = size_in r 1 in
-    let count = ap length same_bonds in
-    let few = h.few in
-    record {
-      bonds = same_bonds ∙ h.bonds ∙ sym (bonds_in-other body r (rot-no_bond r is));
-      few = omega (arith, count, few);
-      joined = rw (same_n, same_bonds) h.joined;
-      darts = lists ∙ ap (λ (l : List (List ℕ)). set l s (sizes_from r 2)) h.darts
-          ∙ table-set (darts_in body) (darts_in (body ++ r ∷ [])) old.n s (sizes_from r 2) inside (darts_in-own body r s (own-rot_of r is) first)
-          (λ i other. darts_in-other body r i (other-rot_of r i is other))
-          ∙ ap (λ (n : ℕ). map (darts_in (body ++ r ∷ [])) (range_with_len 0 n)) (sym same_n);
-      marks = marks ∙ ap (λ (l : List Bool). set l s true) h.marks
-          ∙ table-set (has_rot body) (has_rot (body ++ r ∷ [])) old.n s true inside (has_rot-own body r s (own-rot_of r is))
-          (λ i other. has_rot-other body r i (other-rot_of r i is other))
-          ∙ ap (λ (n : ℕ). map (has_rot (body ++ r ∷ [])) (range_with_len 0 n)) (sym same_n);
-      seam = same_seam ∙ h.seam ∙ sym (seam_in-other body r (rot-no_seam r is));
-    }
+rot-tested : (old : GeneralBody) (r : Kept) (seen d : Bool) → get_or old.seen.items (size_in r 1) d ≡ seen → size_in r 1 < old.n → says_rot r ≡ true
+    → (start : GeneralBody) (body : List Kept) → HoldsGeneral start body old → general_fault start.n body r ≡ rot_fault old.n seen r
+rot-tested old r seen d was inside is start body h =
+    general_fault-rot start.n body r is ∙ ap (λ (b : Bool). rot_fault start.n b r) (sym (mark-of start body old (size_in r 1) d h inside) ∙ was)
+    ∙ ap (λ (k : ℕ). rot_fault k seen r) (sym h.spins)
+
+-- a `rot` is taken
+pub rot-taken : (old new : GeneralBody) (r : Kept) (d : Bool) → get_or old.seen.items (size_in r 1) d ≡ false → size_in r 1 < old.n → says_rot r ≡ true
+    → rot_fault old.n false r ≡ None → new.n ≡ old.n → new.bonds ≡ old.bonds → new.seam ≡ old.seam
+    → new.rotation ≡ set old.rotation (size_in r 1) (sizes_from r 2) → new.seen.items ≡ set old.seen.items (size_in r 1) true
+    → Takes (λ s. general_fault s.n) HoldsGeneral old r new
+rot-taken old new r d was inside is good same kept cut lists marks = record {
+  passes = λ start body h. rot-tested old r false d was inside is start body h ∙ good;
+  goes_on = λ start body h.
+      let s = size_in r 1 in
+      let first = sym (mark-of start body old s d h inside) ∙ was in
+      let count = ap length kept in
+      let few = h.few in
+      let some = h.some in
+      record {
+        spins = same ∙ h.spins;
+        some = omega (arith, same, some);
+        bonds = kept ∙ h.bonds ∙ sym (bonds_in-other body r (rot-no_bond r is));
+        few = omega (arith, count, few);
+        joined = rw (same, kept) h.joined;
+        darts = rw same (lists ∙ ap (λ (l : List (List ℕ)). set l s (sizes_from r 2)) h.darts
+            ∙ table-set (darts_in body) (darts_in (body ++ r ∷ [])) old.n s (sizes_from r 2) inside (darts_in-own body r s (own-rot_of r is) first)
+            (λ i other. darts_in-other body r i (other-rot_of r i is other)));
+        marks = rw same (marks ∙ ap (λ (l : List Bool). set l s true) h.marks
+            ∙ table-set (has_rot body) (has_rot (body ++ r ∷ [])) old.n s true inside (has_rot-own body r s (own-rot_of r is))
+            (λ i other. has_rot-other body r i (other-rot_of r i is other)));
+        seam = cut ∙ h.seam ∙ sym (seam_in-other body r (rot-no_seam r is));
+      };
+}
+
+-- a second `rot` of a spin is refused
+pub rot-refused : (old : GeneralBody) (r : Kept) (d : Bool) (x : Refusal) → get_or old.seen.items (size_in r 1) d ≡ true → size_in r 1 < old.n
+    → says_rot r ≡ true → rot_fault old.n true r ≡ Some x → RefusesNext (λ s. general_fault s.n) HoldsGeneral old r (Refused x)
+rot-refused old r d x was inside is bad = record { refused = λ start body h. rot-tested old r true d was inside is start body h ∙ bad }
+
+-- a `rot` is refused for a number, whether its spin was seen or not
+pub rot-numbers : (old : GeneralBody) (r : Kept) (e : Fault) → says_rot r ≡ true → ((seen : Bool) → OrNoMemory (Refuses (rot_fault old.n seen r)) e)
+    → RefusesNext (λ s. general_fault s.n) HoldsGeneral old r e
+rot-numbers old r e is bad = record {
+  refused = λ start body h.
+      let same : general_fault start.n body r ≡ rot_fault old.n (has_rot body (size_in r 1)) r =
+      general_fault-rot start.n body r is ∙ ap (λ (k : ℕ). rot_fault k (has_rot body (size_in r 1)) r) (sym h.spins) in
+      rw same (bad (has_rot body (size_in r 1)));
+}
+
+-- any other record is refused
+pub other-refused : (old : GeneralBody) (r : Kept) → says_bond r ≡ false → says_rot r ≡ false → says_seam r ≡ false → says_end r ≡ false
+    → RefusesNext (λ s. general_fault s.n) HoldsGeneral old r (Refused (UnknownKind r.at))
+other-refused old r a b c d = record { refused = λ start body h. general_fault-other start.n body r a b c d }
 
 -- how many lists and marks there are
-pub lists-count : (body : List Kept) (state : GeneralBody) → HoldsGeneral body state → length state.rotation ≡ state.n
-lists-count body state h = ap length h.darts ∙ length-map-range_with_len (darts_in body) 0 state.n
+pub lists-count : (start : GeneralBody) (body : List Kept) (state : GeneralBody) → HoldsGeneral start body state → length state.rotation ≡ state.n
+lists-count start body state h = ap length h.darts ∙ length-map-range_with_len (darts_in body) 0 state.n
 
 -- there is a mark for each spin
-pub marks-count : (body : List Kept) (state : GeneralBody) → HoldsGeneral body state → length state.seen.items ≡ state.n
-marks-count body state h = ap length h.marks ∙ length-map-range_with_len (has_rot body) 0 state.n
+pub marks-count : (start : GeneralBody) (body : List Kept) (state : GeneralBody) → HoldsGeneral start body state → length state.seen.items ≡ state.n
+marks-count start body state h = ap length h.marks ∙ length-map-range_with_len (has_rot body) 0 state.n
 
 -- the instance that is kept
-pub instance-general : (body : List Kept) (state : GeneralBody) (seam : List ℕ) → HoldsGeneral body state → seam ≡ unwrap_or state.seam []
-    → record { n = state.n; bonds = state.bonds; rotation = state.rotation; seam = seam } ≡ instance_of (header.General state.n) body
+pub instance-general : (start : GeneralBody) (body : List Kept) (state : GeneralBody) (seam : List ℕ) → HoldsGeneral start body state
+    → seam ≡ unwrap_or state.seam []
+    → record { n = state.n; bonds = state.bonds; rotation = state.rotation; seam = seam } ≡ instance_of (header.General start.n) body
 unfolding instance_of
-instance-general body state seam h cut =
+instance-general start body state seam h cut =
     let same : seam ≡ unwrap_or (seam_in body) [] = cut ∙ ap (λ (o : Option (List ℕ)). unwrap_or o []) h.seam in
-    λ i. record { n = state.n; bonds = h.bonds i; rotation = h.darts i; seam = same i }
-
--- the records so far, which are the body, and what is left of all of them
-pub record GeneralSoFar (n : ℕ) (all left : List Kept) (state : GeneralBody) : Type 0 where
-  pub body : List Kept
-  pub split : all ≡ body ++ left
-  pub is_body : IsBody (record_fault (header.General n)) body
-  pub holds : HoldsGeneral body state
-  pub spins : state.n ≡ n
-
--- a bare `end` ends the records
-pub ended-general : (n : ℕ) (all left rest : List Kept) (r : Kept) (state : GeneralBody) (sf : GeneralSoFar n all left state) → left ≡ r ∷ rest
-    → says_end r ≡ true
-    → bare_end_fault r ≡ None → IsEnded (record_fault (header.General n)) all sf.body r
-ended-general n all left rest r state sf next end pass = record {
-  more = rest;
-  split = sf.split ∙ ap (λ (l : List Kept). sf.body ++ l) next;
-  is_body = sf.is_body;
-  ends = end;
-  passes = general_fault-end n sf.body r end ∙ pass;
-}
-
--- one record more, which passes its tests
-pub one-more : (n : ℕ) (all left rest : List Kept) (r : Kept) (old new : GeneralBody) → (sf : GeneralSoFar n all left old) → left ≡ r ∷ rest
-    → says_end r ≡ false → general_fault old.n sf.body r ≡ None → HoldsGeneral (sf.body ++ r ∷ []) new → new.n ≡ old.n →
-    GeneralSoFar n all rest new
-one-more n all left rest r old new sf next other good holds same = record {
-  body = sf.body ++ r ∷ [];
-  split = sf.split ∙ ap (λ (l : List Kept). sf.body ++ l) next ∙ sym (append_assoc sf.body (r ∷ []) rest);
-  is_body = IsBody-more (record_fault (header.General n)) sf.body r sf.is_body other (ap (λ (k : ℕ). general_fault k sf.body r) (sym sf.spins) ∙ good);
-  holds = holds;
-  spins = same ∙ sf.spins;
-}
+    rw (← h.spins) (λ i. record { n = state.n; bonds = h.bonds i; rotation = h.darts i; seam = same i })
 
 -- nothing was read yet
-pub holds-none : (state : GeneralBody) → state.bonds ≡ [] → state.seam ≡ None → state.rotation ≡ map (darts_in []) (range_with_len 0 state.n)
-    → state.seen.items ≡ map (has_rot []) (range_with_len 0 state.n) → HoldsGeneral [] state
+pub holds-none : (state : GeneralBody) → 1 ≤ state.n → state.bonds ≡ [] → state.seam ≡ None
+    → state.rotation ≡ map (darts_in []) (range_with_len 0 state.n) → state.seen.items ≡ map (has_rot []) (range_with_len 0 state.n)
+    → HoldsGeneral state [] state
 unfolding bonds_in seam_in
-holds-none state none cut darts marks =
+holds-none state some none cut darts marks =
     let count = ap length none in
     record {
+      spins = refl;
+      some = some;
       bonds = none;
       few = omega (arith, count);
       joined = All-same (IsBond state.n) state.bonds [] none (All-nil (IsBond state.n));
@@ -364,3 +404,19 @@ pub no_marks-more : (marks : List Bool) (i : ℕ) → marks ≡ map (has_rot [])
     → marks ++ false ∷ [] ≡ map (has_rot []) (range_with_len 0 (i + 1))
 unfolding has_rot
 no_marks-more marks i h = ap (λ (l : List Bool). l ++ false ∷ []) h ∙ sym (map-range_with_len_more (has_rot []) 0 i i (omega arith))
+
+-- a general instance whose records were taken up to the `end`
+module _ (n : ℕ) (start : GeneralBody) (all : List Kept) (now : GeneralBody) (last : Kept) (rest : List Kept)
+    (h : HoldsToEnd (λ s. general_fault s.n) HoldsGeneral start all now last rest) (was : start.n ≡ n) where
+  -- a bare `end` makes it the instance that is stated
+  pub general-states : (inst : Ising) → bare_end_fault last ≡ None → inst ≡ instance_of (header.General start.n) h.body
+      → StatesInstance (header.General n) all inst rest
+  general-states inst end value =
+      body-states (header.General n) (general_fault start.n) all h.body last rest inst (ap general_fault was) h.ended
+      (general_fault-end start.n h.body last h.ended.ends ∙ end) (value ∙ ap (λ (k : ℕ). instance_of (header.General k) h.body) was)
+
+  -- another `end` refuses the body
+  pub general-ends : (x : Refusal) → bare_end_fault last ≡ Some x → Fails (RefusesBody (header.General n) all) all rest (Refused x)
+  general-ends x end =
+      body-fault (header.General n) (general_fault start.n) all rest (Refused x) (ap general_fault was)
+      (end-fault (λ s. general_fault s.n) HoldsGeneral start all now last rest h (Refused x) (general_fault-end start.n h.body last h.ended.ends ∙ end))

@@ -1,24 +1,33 @@
 -- The records of a lattice behind the first, up to its `end`.
 use Rattle.std.proofs.Common.{◌≡◌, ℕ, ℤ, ◌+◌, ◌<◌, ◌≤◌, ◌^◌, Bool, true, false, List, [], ◌∷◌, ◌++◌, length, Option, Some, None, refl, sym, ap, ◌∙◌, arith, append_assoc, codes}
-use Rattle.std.specs.Prelude.{is_some}
+use Rattle.std.specs.Prelude.{All, is_some, option_map, unsigned_abs}
 use Rattle.std.specs.List.{list_any}
 use Rattle.std.specs.Str.{bytes_eq}
-use Rattle.std.proofs.lemmas.List.Sums.{sum_by-cons}
+use Rattle.std.proofs.lemmas.List.{length-append}
 use Rattle.std.proofs.lemmas.Option.{none-some}
 use Rattle.std.proofs.lemmas.Slice.Eq.{bytes_eq-Decides}
 use Rattle.sg_lattice.specs.declared.kind.Kind.{Kind}
 use Rattle.sg_lattice.specs.Tables.{bond_total, lattice}
-use Rattle.sg_reader.specs.declared.header.Header.{Header}
 use Rattle.sg_reader.specs.declared.header.Header.TheVariants as header
 use Rattle.sg_reader.specs.declared.lattice.LatticeBody.{LatticeBody}
 use Rattle.sg_reader.specs.Kept.{Kept, field}
-use Rattle.sg_reader.specs.Tests.{any_number, bad_number}
 use Rattle.sg_draft.specs.Draft.{reseamed}
+use Rattle.sg_reader.specs.Tests.{any_number, bad_field, bad_number}
 use Rattle.sg_reader.specs.Body.{couplings_in, instance_of, says_end, says_seam, lattice_end_fault, lattice_fault, numbers_from, record_fault, seam_fault, seam_in, sizes_from}
-use Rattle.sg_reader.specs.Ended.{IsBody, IsEnded}
+use Rattle.sg_reader.specs.Taken.{HoldsToEnd, RefusesNext, Takes}
 use Rattle.sg_reader.specs.Holds.{HoldsLattice}
-use Rattle.sg_reader.proofs.BodyLaws.{IsBody-more, IsBody-none, couplings_in-more, couplings_in-seam, seam_in-first, seam_in-other, seam_in-seen}
-use Rattle.sg_reader.proofs.RecordCounts.{field_total}
+use Rattle.sg_reader.proofs.BodyLaws.{couplings_in-small, couplings_in-more, couplings_in-seam, length-numbers_from, seam_in-first, seam_in-other, seam_in-seen}
+use Rattle.sg_reader.proofs.RecordCounts.{field_total, field_total-around, field_total-more}
+use Rattle.sg_draft.specs.Tests.{Refuses}
+use Rattle.sg_model.specs.Faults.{OrNoMemory}
+use Rattle.sg_model.specs.declared.refusal.Fault.{Fault}
+use Rattle.sg_model.specs.declared.refusal.Fault.TheVariants.{Refused}
+use Rattle.sg_model.specs.declared.refusal.Refusal.{Refusal}
+use Rattle.sg_reader.specs.ReadInstance.{RefusesBody, StatesInstance}
+use Rattle.sg_reader.specs.Rest.{Fails}
+use Rattle.sg_reader.proofs.EndedLaws.{end-fault}
+use Rattle.sg_reader.proofs.ReadLaws.{body-fault, body-states}
+use Rattle.sg_model.specs.declared.refusal.Refusal.TheVariants.{BadNumber}
 
 -- which test a record of a lattice meets
 pub lattice_fault-seam : (wanted : ℕ) (body : List Kept) (r : Kept) → says_seam r ≡ true →
@@ -49,85 +58,117 @@ unfolding instance_of
 instance_of-lattice kind rows cols body = refl
 
 -- whether a seam was seen
-pub seen-seam : (body : List Kept) (state : LatticeBody) → HoldsLattice body state → is_some state.seam ≡ list_any says_seam body
-seen-seam body state h = ap is_some h.seam ∙ seam_in-seen body
+pub seen-seam : (start : LatticeBody) (body : List Kept) (state : LatticeBody) → HoldsLattice start body state → is_some state.seam ≡ list_any says_seam body
+seen-seam start body state h = ap is_some h.seam ∙ seam_in-seen body
 
 -- a `seam` that passes is the first
 pub seam_fault-passes : (seen : Bool) (r : Kept) → seam_fault seen r ≡ None → seen ≡ false
 seam_fault-passes true r h = absurd (none-some _ (sym h))
 seam_fault-passes false r h = refl
 
--- what is kept behind one more record
-pub holds-seam : (body : List Kept) (r : Kept) (old new : LatticeBody) → HoldsLattice body old → says_seam r ≡ true → is_some old.seam ≡ false
-    → new.couplings ≡ old.couplings → new.seam ≡ Some (sizes_from r 1) → HoldsLattice (body ++ r ∷ []) new
-holds-seam body r old new h seam first same bonds = record {
-  couplings = same ∙ h.couplings ∙ sym (couplings_in-seam body r seam);
-  seam = bonds ∙ sym (seam_in-first body r (sym (seen-seam body old h) ∙ first) seam);
-}
-
--- what is kept after a record of couplings
-pub holds-couplings : (body : List Kept) (r : Kept) (old new : LatticeBody) → HoldsLattice body old → says_seam r ≡ false
-    → new.couplings ≡ old.couplings ++ numbers_from r 0 → new.seam ≡ old.seam → HoldsLattice (body ++ r ∷ []) new
-holds-couplings body r old new h other added same = record {
-  couplings = added ∙ ap (λ (l : List ℤ). l ++ numbers_from r 0) h.couplings ∙ sym (couplings_in-more body r other);
-  seam = same ∙ h.seam ∙ sym (seam_in-other body r other);
-}
-
--- the records so far, which are the body, and what is left of all of them
-pub record LatticeSoFar (head : Header) (all left : List Kept) (state : LatticeBody) : Type 0 where
-  pub body : List Kept
-  pub split : all ≡ body ++ left
-  pub is_body : IsBody (record_fault head) body
-  pub holds : HoldsLattice body state
-  pub few : length state.couplings + field_total left < 2 ^ 32
-
--- one record more, which passes its tests
-pub one-more : (head : Header) (all left rest : List Kept) (r : Kept) (old new : LatticeBody) → (sf : LatticeSoFar head all left old) → left ≡ r ∷ rest
-    → says_end r ≡ false → record_fault head sf.body r ≡ None → HoldsLattice (sf.body ++ r ∷ []) new
-    → length new.couplings ≤ length old.couplings + length r.fields → LatticeSoFar head all rest new
-one-more head all left rest r old new sf next other good holds count =
-    let total : field_total left ≡ length r.fields + field_total rest = ap field_total next ∙ sum_by-cons (λ (q : Kept). length q.fields) r rest in
-    let few = sf.few in
-    record {
-      body = sf.body ++ r ∷ [];
-      split = sf.split ∙ ap (λ (l : List Kept). sf.body ++ l) next ∙ sym (append_assoc sf.body (r ∷ []) rest);
-      is_body = IsBody-more (record_fault head) sf.body r sf.is_body other good;
-      holds = holds;
-      few = omega (arith, total, few, count);
-    }
-
--- before the first record nothing is kept
-pub none-yet : (head : Header) (all : List Kept) (state : LatticeBody) → state.couplings ≡ [] → state.seam ≡ None → field_total all < 2 ^ 32
-    → LatticeSoFar head all all state
+-- nothing was read yet
+pub holds-none : (state : LatticeBody) → state.couplings ≡ [] → state.seam ≡ None → HoldsLattice state [] state
 unfolding couplings_in seam_in
-none-yet head all state couplings bonds few =
-    let count = ap length couplings in
-    record {
-      body = [];
-      split = refl;
-      is_body = IsBody-none (record_fault head);
-      holds = record { couplings = couplings; seam = bonds };
-      few = omega (arith, count, few);
-    }
+holds-none state none cut = let count = ap length none in record { wanted = refl; couplings = none; seam = cut; few = omega (arith, count) }
 
--- the record that ends the lattice
-pub ended-lattice : (kind : Kind) (rows cols : ℕ) (all left rest : List Kept) (r : Kept) (state : LatticeBody)
-    (sf : LatticeSoFar (header.Lattice kind rows cols) all left state)
-    → left ≡ r ∷ rest → says_end r ≡ true → lattice_end_fault (bond_total kind rows cols) (length state.couplings) r ≡ None
-    → IsEnded (record_fault (header.Lattice kind rows cols)) all sf.body r
-ended-lattice kind rows cols all left rest r state sf next end pass = record {
-  more = rest;
-  split = sf.split ∙ ap (λ (l : List Kept). sf.body ++ l) next;
-  is_body = sf.is_body;
-  ends = end;
-  passes = lattice_fault-end (bond_total kind rows cols) sf.body r end
-      ∙ ap (λ (js : List ℤ). lattice_end_fault (bond_total kind rows cols) (length js) r) (sym sf.holds.couplings) ∙ pass;
+-- a `seam` is taken
+pub seam-taken : (old new : LatticeBody) (r : Kept) (seen : Bool) → is_some old.seam ≡ seen → says_seam r ≡ true → seam_fault seen r ≡ None
+    → new.wanted ≡ old.wanted → new.couplings ≡ old.couplings → new.seam ≡ Some (sizes_from r 1)
+    → Takes (λ s. lattice_fault s.wanted) HoldsLattice old r new
+seam-taken old new r seen was seam good same kept bonds = record {
+  passes = λ start body h. lattice_fault-seam start.wanted body r seam ∙ ap (λ (b : Bool). seam_fault b r) (sym (seen-seam start body old h) ∙ was) ∙ good;
+  goes_on = λ start body h.
+      let count = ap length kept in
+      let total = field_total-more body r in
+      let few = h.few in
+      record {
+        wanted = same ∙ h.wanted;
+        couplings = kept ∙ h.couplings ∙ sym (couplings_in-seam body r seam);
+        seam = bonds ∙ sym (seam_in-first body r (sym (seen-seam start body old h) ∙ was ∙ seam_fault-passes seen r good) seam);
+        few = omega (arith, count, total, few);
+      };
 }
+
+-- a `seam` is refused
+pub seam-refused : (old : LatticeBody) (r : Kept) (seen : Bool) (e : Fault) → is_some old.seam ≡ seen → says_seam r ≡ true
+    → OrNoMemory (Refuses (seam_fault seen r)) e → RefusesNext (λ s. lattice_fault s.wanted) HoldsLattice old r e
+seam-refused old r seen e was seam bad = record {
+  refused = λ start body h.
+      let same : lattice_fault start.wanted body r ≡ seam_fault seen r =
+      lattice_fault-seam start.wanted body r seam ∙ ap (λ (b : Bool). seam_fault b r) (sym (seen-seam start body old h) ∙ was) in
+      rw same bad;
+}
+
+-- couplings are taken
+pub couplings-taken : (old new : LatticeBody) (r : Kept) → says_seam r ≡ false → says_end r ≡ false → bad_field r 0 (λ i. any_number) ≡ None
+    → new.wanted ≡ old.wanted → new.couplings ≡ old.couplings ++ numbers_from r 0 → new.seam ≡ old.seam
+    → Takes (λ s. lattice_fault s.wanted) HoldsLattice old r new
+couplings-taken old new r other goes_on good same added kept = record {
+  passes = λ start body h.
+      lattice_fault-couplings start.wanted body r other goes_on ∙ ap (λ (o : Option ℕ). option_map (λ i. BadNumber r.at i) o) good;
+  goes_on = λ start body h.
+      let all = ap length added in
+      let sum = length-append old.couplings (numbers_from r 0) in
+      let count = length-numbers_from r 0 in
+      let total = field_total-more body r in
+      let few = h.few in
+      record {
+        wanted = same ∙ h.wanted;
+        couplings = added ∙ ap (λ (l : List ℤ). l ++ numbers_from r 0) h.couplings ∙ sym (couplings_in-more body r other);
+        seam = kept ∙ h.seam ∙ sym (seam_in-other body r other);
+        few = omega (arith, all, sum, count, total, few);
+      };
+}
+
+-- couplings are refused
+pub couplings-refused : (old : LatticeBody) (r : Kept) (e : Fault) → says_seam r ≡ false → says_end r ≡ false
+    → OrNoMemory (Refuses (bad_number r 0 (λ i. any_number))) e → RefusesNext (λ s. lattice_fault s.wanted) HoldsLattice old r e
+couplings-refused old r e other goes_on bad = record { refused = λ start body h. rw (lattice_fault-couplings start.wanted body r other goes_on) bad }
+
+module _ (start : LatticeBody) (all : List Kept) (now : LatticeBody) (last : Kept) (rest : List Kept)
+    (h : HoldsToEnd (λ s. lattice_fault s.wanted) HoldsLattice start all now last rest) where
+  -- the couplings are fewer than the fields
+  pub couplings-few : field_total all < 2 ^ 32 → length now.couplings < 2 ^ 32
+  couplings-few short =
+      let total = field_total-around all h.body last rest h.ended.split in
+      let few = h.held.few in
+      omega (arith, total, few, short)
+
+  -- the `end` is tested by the couplings that were found
+  pub end-tested : lattice_fault start.wanted h.body last ≡ lattice_end_fault start.wanted (length now.couplings) last
+  end-tested = lattice_fault-end start.wanted h.body last h.ended.ends
+      ∙ ap (λ (js : List ℤ). lattice_end_fault start.wanted (length js) last) (sym h.held.couplings)
+
+  -- the couplings that were found are within their range
+  pub couplings-small : All (λ j. unsigned_abs j < 2 ^ 63) now.couplings
+  couplings-small = rw h.held.couplings (couplings_in-small h.body)
 
 -- what is kept makes the instance that the records give
-pub instance-lattice : (kind : Kind) (rows cols : ℕ) (body : List Kept) (state : LatticeBody) → HoldsLattice body state
+pub instance-lattice : (kind : Kind) (rows cols : ℕ) (start : LatticeBody) (body : List Kept) (state : LatticeBody) → HoldsLattice start body state
     → reseamed state.seam (lattice kind rows cols state.couplings) ≡ instance_of (header.Lattice kind rows cols) body
-instance-lattice kind rows cols body state h =
+instance-lattice kind rows cols start body state h =
     ap (λ (s : Option (List ℕ)). reseamed s (lattice kind rows cols state.couplings)) h.seam
     ∙ ap (λ (js : List ℤ). reseamed (seam_in body) (lattice kind rows cols js)) h.couplings
     ∙ sym (instance_of-lattice kind rows cols body)
+
+-- a lattice whose records were taken up to the `end`, with so many couplings found where so many are wanted
+module _ (kind : Kind) (rows cols : ℕ) (start : LatticeBody) (all : List Kept) (now : LatticeBody) (last : Kept) (rest : List Kept)
+    (h : HoldsToEnd (λ s. lattice_fault s.wanted) HoldsLattice start all now last rest) (wanted found : ℕ) (was : start.wanted ≡ wanted)
+    (total : wanted ≡ bond_total kind rows cols) (many : found ≡ length now.couplings) where
+  tested : (test : Option Refusal) → lattice_end_fault wanted found last ≡ test → lattice_fault start.wanted h.body last ≡ test
+  tested test end =
+      end-tested start all now last rest h ∙ ap (λ (n : ℕ). lattice_end_fault n (length now.couplings) last) was
+      ∙ ap (λ (n : ℕ). lattice_end_fault wanted n last) (sym many) ∙ end
+
+  -- an `end` that passes makes it the instance that is stated
+  pub lattice-states : lattice_end_fault wanted found last ≡ None
+      → StatesInstance (header.Lattice kind rows cols) all (reseamed now.seam (lattice kind rows cols now.couplings)) rest
+  lattice-states end =
+      body-states (header.Lattice kind rows cols) (lattice_fault start.wanted) all h.body last rest _ (ap lattice_fault (was ∙ total)) h.ended
+      (tested None end) (instance-lattice kind rows cols start h.body now h.held)
+
+  -- another `end` refuses the body
+  pub lattice-ends : (x : Refusal) → lattice_end_fault wanted found last ≡ Some x → Fails (RefusesBody (header.Lattice kind rows cols) all) all rest (Refused x)
+  lattice-ends x end =
+      body-fault (header.Lattice kind rows cols) (lattice_fault start.wanted) all rest (Refused x) (ap lattice_fault (was ∙ total))
+      (end-fault (λ s. lattice_fault s.wanted) HoldsLattice start all now last rest h (Refused x) (tested (Some x) end))

@@ -10,6 +10,7 @@ pub mod ResultLaws
 pub mod ReadLaws
 pub mod HeaderLaws
 pub mod RecordCounts
-pub mod LeftLaws
+pub mod RestLaws
+pub mod EndedLaws
 mod WorkedRecords
 pub mod SizeLaws

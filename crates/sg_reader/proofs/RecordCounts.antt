@@ -1,10 +1,10 @@
 -- How many records, and how many fields in all, a text may have.
-use Rattle.std.proofs.Common.{◌≡◌, ℕ, zero, suc, ◌+◌, ◌≤◌, Bool, true, false, List, [], ◌∷◌, length, Option, Some, None, refl, ap, arith, inl, inr}
+use Rattle.std.proofs.Common.{◌≡◌, ℕ, zero, suc, ◌+◌, ◌≤◌, Bool, true, false, List, [], ◌∷◌, ◌++◌, length, Option, Some, None, refl, ap, arith, inl, inr}
 use Rattle.std.specs.Prelude.{◌⊎◌, filter, cond}
 use Rattle.std.specs.List.{sum_by}
 use Rattle.std.proofs.lemmas.Bool.{cases_Bool}
 use Rattle.std.proofs.lemmas.List.{length-append}
-use Rattle.std.proofs.lemmas.List.Sums.{sum_by-cons}
+use Rattle.std.proofs.lemmas.List.Sums.{sum_by-append, sum_by-cons}
 use Rattle.std.proofs.lemmas.Option.{none-some, same_Some}
 use Rattle.csv.specs.Machine.{Read, ends_at_end, field_after, fields_after, is_end, next_record, step}
 use Rattle.csv.specs.Reading.{default_config, records_from, records_next}
@@ -106,6 +106,22 @@ count-records_of xs = count-records_from (length xs + 1) st.StartRecord xs
 -- the fields of the records that are kept
 abbrev pub field_total : List Kept → ℕ
 field_total records = sum_by (λ (r : Kept). length r.fields) records
+
+-- the fields of one more record
+pub field_total-more : (body : List Kept) (r : Kept) → field_total (body ++ r ∷ []) ≡ field_total body + length r.fields
+field_total-more body r =
+    let all = sum_by-append (λ (q : Kept). length q.fields) body (r ∷ []) in
+    let one = sum_by-cons (λ (q : Kept). length q.fields) r [] in
+    omega (arith, all, one)
+
+-- the fields of records round one
+pub field_total-around : (records body : List Kept) (r : Kept) (rest : List Kept) → records ≡ body ++ r ∷ rest
+    → field_total records ≡ field_total body + (length r.fields + field_total rest)
+field_total-around records body r rest split =
+    let same = ap field_total split in
+    let all = sum_by-append (λ (q : Kept). length q.fields) body (r ∷ rest) in
+    let one = sum_by-cons (λ (q : Kept). length q.fields) r rest in
+    omega (arith, same, all, one)
 
 -- the records that are kept have no more fields than all
 pub field_total-numbered : (at : ℕ) (raw : List (List (List ℕ))) → field_total (filter is_kept (numbered_from at raw)) ≤ sum_by length raw

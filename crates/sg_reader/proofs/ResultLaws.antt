@@ -20,12 +20,18 @@ use Rattle.sg_draft.specs.Tests.{first_of, refuse_if, Refuses}
 use Rattle.sg_reader.specs.Tests.{any_index, any_number, bad_field, bad_number, is_number_in, number_in}
 use Rattle.sg_reader.specs.Body.{bare_end_fault, says_end, numbers_from}
 use Rattle.sg_limits.specs.Limits.{text_limit}
-use Rattle.sg_reader.specs.Ended.{AtRecord, IsBody, IsEnded, RefusesRecords, StatesToEnd, TestTable, WithoutEnd, record_at}
+use Rattle.sg_reader.specs.declared.result.LoopsBody.{LoopsBody}
+use Rattle.sg_reader.specs.Ended.{IsEnded, RefusesRecords, StatesToEnd}
+use Rattle.sg_reader.specs.Holds.{HoldsLoops}
+use Rattle.sg_reader.specs.Rest.{Fails}
+use Rattle.sg_reader.specs.Taken.{RefusesNext, Takes}
 use Rattle.sg_reader.specs.Result.{bad_spin, energy_fault, says_energy, says_loop, is_spin_value, says_spins, loop_fault, stated_loop, loop_range, loops_fault, stated_loops, result_fault, result_of, spins_fault}
 use Rattle.sg_reader.specs.ReadResult.{ReadsResult, RefusesResult}
 use Rattle.sg_reader.proofs.TestLaws.{bad_field-first, bad_field-one, bad_field-rest, find_range-none, find_range-some, is-not}
-use Rattle.sg_reader.proofs.BodyLaws.{IsBody-more, IsBody-none, word-inside}
-use Rattle.sg_reader.proofs.RecordCounts.{field_total}
+use Rattle.sg_reader.proofs.BodyLaws.{word-inside}
+use Rattle.sg_reader.proofs.EndedLaws.{first-fault, refuses-cons, states-cons}
+use Rattle.sg_reader.proofs.RecordCounts.{field_total, field_total-around, field_total-more}
+use Rattle.sg_reader.proofs.RestLaws.{fails-on}
 use Rattle.sg_model.specs.Faults.{OrNoMemory}
 
 -- the tests of an energy
@@ -114,184 +120,82 @@ spins-no_end : (r : Kept) → spins_fault r ≡ None → says_end r ≡ false
 spins-no_end r h =
     other-word (codes "spins") r refl (first-passes (says_spins r) (UnknownKind r.at) (option_map (λ i. BadNumber r.at i) (bad_spin r) ∷ []) h)
 
--- a record fails a test, or they run out
-pub record-fault : (fault : TestTable) (all body rest : List Kept) (r : Kept) (e : Fault)
-    → all ≡ body ++ r ∷ rest → IsBody fault body → OrNoMemory (Refuses (fault body r)) e → OrNoMemory (RefusesRecords fault all) e
-record-fault fault all body rest r (Refused x) split is_body bad = AtRecord body r rest split is_body bad
-record-fault fault all body rest r NoMemory split is_body bad = tt
-
--- one more record in front, which is no `end` and fails no test
-IsBody-cons : (fault : TestTable) (q : Kept) (body : List Kept) → says_end q ≡ false → fault [] q ≡ None
-    → IsBody (λ b r. fault (q ∷ b) r) body → IsBody fault (q ∷ body)
-IsBody-cons fault q body other good h = record {
-  goes_on = All-cons (λ (r : Kept). says_end r ≡ false) q body other h.goes_on;
-  passes = at;
-}
-  where
-    at : (k : ℕ) → k < length (q ∷ body) → fault (take k (q ∷ body)) (record_at (q ∷ body) k) ≡ None
-    at zero inside = good
-    at (suc k) inside = h.passes k (omega arith)
-
--- a record in front that passes, and records that are ended behind it
-pub IsEnded-cons : (fault : TestTable) (q : Kept) (rest body : List Kept) (last : Kept) → says_end q ≡ false → fault [] q ≡ None
-    → IsEnded (λ b r. fault (q ∷ b) r) rest body last → IsEnded fault (q ∷ rest) (q ∷ body) last
-IsEnded-cons fault q rest body last other good h = record {
-  more = h.more;
-  split = ap (λ (l : List Kept). q ∷ l) h.split;
-  is_body = IsBody-cons fault q body other good h.is_body;
-  ends = h.ends;
-  passes = h.passes;
-}
-
--- a record in front that passes, and records that are refused behind it
-pub Refuses-cons : (fault : TestTable) (q : Kept) (rest : List Kept) (x : Refusal) → says_end q ≡ false → fault [] q ≡ None
-    → RefusesRecords (λ b r. fault (q ∷ b) r) rest x → RefusesRecords fault (q ∷ rest) x
-Refuses-cons fault q rest x other good (AtRecord body r more split is_body bad) =
-    AtRecord (q ∷ body) r more (ap (λ (l : List Kept). q ∷ l) split) (IsBody-cons fault q body other good is_body) bad
-Refuses-cons fault q rest x other good (WithoutEnd is_body none) =
-    WithoutEnd (IsBody-cons fault q rest other good is_body) none
-
--- the energy
-pub energy-fault : (all rest : List Kept) (r : Kept) (refusal : Refusal) → all ≡ r ∷ rest → energy_fault r ≡ Some refusal
-    → OrNoMemory (RefusesResult all) (Refused refusal)
-unfolding result_fault
-energy-fault all rest r refusal split bad = AtRecord [] r rest split (IsBody-none result_fault) bad
-
--- without a record the result runs out
-pub without-energy : (all : List Kept) → all ≡ [] → OrNoMemory (RefusesResult all) (Refused Unended)
-without-energy all none = rw none (WithoutEnd (IsBody-none result_fault) refl)
-
-begun-energy : (q : Kept) → energy_fault q ≡ None → IsBody result_fault (q ∷ [])
-unfolding result_fault
-begun-energy q good = IsBody-cons result_fault q [] (energy-no_end q good) good (IsBody-none (λ b r. result_fault (q ∷ b) r))
-
--- the spins behind an energy
-pub spins-fault : (all rest : List Kept) (q r : Kept) (e : Fault) → all ≡ r ∷ rest → energy_fault q ≡ None
-    → OrNoMemory (Refuses (spins_fault r)) e → OrNoMemory (RefusesResult (q ∷ all)) e
-unfolding result_fault
-spins-fault all rest q r e split good bad =
-    record-fault result_fault (q ∷ all) (q ∷ []) rest r e (ap (λ (l : List Kept). q ∷ l) split) (begun-energy q good) bad
-
--- with an energy alone it runs out too
-pub without-spins : (all : List Kept) (q : Kept) → all ≡ [] → energy_fault q ≡ None → OrNoMemory (RefusesResult (q ∷ all)) (Refused Unended)
-without-spins all q none good = rw none (WithoutEnd (begun-energy q good) refl)
-
--- the fields that are left behind a record
-pub fields-behind : (all rest : List Kept) (r : Kept) → all ≡ r ∷ rest → field_total all ≡ length r.fields + field_total rest
-fields-behind all rest r split = ap field_total split ∙ sum_by-cons (λ (p : Kept). length p.fields) r rest
-
--- the loops so far, and what is left of all records behind the spins
-pub record LoopsSoFar (all left : List Kept) (loops : List Loop) : Type 0 where
-  pub body : List Kept
-  pub split : all ≡ body ++ left
-  pub is_body : IsBody loops_fault body
-  pub listed : loops ≡ stated_loops body
-  pub few : 2 * length loops + field_total left ≤ text_limit
-
--- before the first loop nothing is kept
-pub no-loops : (all : List Kept) (loops : List Loop) → loops ≡ [] → field_total all ≤ text_limit → LoopsSoFar all all loops
-no-loops all loops none few =
-    let count = ap length none in
-    record {
-      body = [];
-      split = refl;
-      is_body = IsBody-none loops_fault;
-      listed = none;
-      few = omega (arith, few, count);
-    }
-
-loops_fault-end : (body : List Kept) (r : Kept) → says_end r ≡ true → loops_fault body r ≡ bare_end_fault r
+-- an `end` behind the spins is to be a bare one
+pub loops_fault-end : (body : List Kept) (r : Kept) → says_end r ≡ true → loops_fault body r ≡ bare_end_fault r
 loops_fault-end body r h = rw h refl
 
 loops_fault-loop : (body : List Kept) (r : Kept) → says_end r ≡ false → loops_fault body r ≡ loop_fault r
 loops_fault-loop body r h = rw h refl
 
--- one more loop
-pub one-more : (all left rest : List Kept) (p : Kept) (loops new : List Loop) → LoopsSoFar all left loops → left ≡ p ∷ rest
-    → says_end p ≡ false → loop_fault p ≡ None → new ≡ loops ++ stated_loop p ∷ [] → 1 < length p.fields → LoopsSoFar all rest new
-one-more all left rest p loops new sf next other good added long =
-    let total = fields-behind left rest p next in
-    let few = sf.few in
-    let count = ap length added ∙ length-append loops (stated_loop p ∷ []) in
-    record {
-      body = sf.body ++ p ∷ [];
-      split = sf.split ∙ ap (λ (l : List Kept). sf.body ++ l) next ∙ sym (append_assoc sf.body (p ∷ []) rest);
-      is_body = IsBody-more loops_fault sf.body p sf.is_body other (loops_fault-loop sf.body p other ∙ good);
-      listed = added ∙ ap (λ (l : List Loop). l ++ stated_loop p ∷ []) sf.listed ∙ sym (map-append stated_loop sf.body (p ∷ []));
-      few = omega (arith, total, few, count, long);
-    }
-
--- a record behind the spins fails a test, or they run out
-pub end-fault : (all left rest : List Kept) (p : Kept) (loops : List Loop) (refusal : Refusal) → LoopsSoFar all left loops
-    → left ≡ p ∷ rest → says_end p ≡ true → bare_end_fault p ≡ Some refusal → OrNoMemory (RefusesRecords loops_fault all) (Refused refusal)
-end-fault all left rest p loops refusal sf next end bad =
-    AtRecord sf.body p rest (sf.split ∙ ap (λ (l : List Kept). sf.body ++ l) next) sf.is_body (loops_fault-end sf.body p end ∙ bad)
-
--- what refuses a loop refuses the loops
-pub loop-fault : (all left rest : List Kept) (p : Kept) (loops : List Loop) (e : Fault) → LoopsSoFar all left loops
-    → left ≡ p ∷ rest → says_end p ≡ false → OrNoMemory (Refuses (loop_fault p)) e → OrNoMemory (RefusesRecords loops_fault all) e
-loop-fault all left rest p loops e sf next other bad =
-    record-fault loops_fault all sf.body rest p e (sf.split ∙ ap (λ (l : List Kept). sf.body ++ l) next) sf.is_body
-    (rw (loops_fault-loop sf.body p other) bad)
-
--- loops without an `end` run out
-pub without-end : (all left : List Kept) (loops : List Loop) → LoopsSoFar all left loops → left ≡ []
-    → OrNoMemory (RefusesRecords loops_fault all) (Refused Unended)
-without-end all left loops sf none =
-    let same : all ≡ sf.body = sf.split ∙ ap (λ (l : List Kept). sf.body ++ l) none ∙ append-nil sf.body in
-    rw same (WithoutEnd sf.is_body refl)
-
--- the `end`
-pub ended-loops : (all left rest : List Kept) (last : Kept) (loops : List Loop) (next_at : ℕ) → LoopsSoFar all left loops
-    → left ≡ last ∷ rest → says_end last ≡ true → bare_end_fault last ≡ None → next_at ≡ last.at + 1
-    → StatesToEnd loops_fault stated_loops all loops next_at
-ended-loops all left rest last loops next_at sf next end pass count = record {
-  body = sf.body;
-  last = last;
-  ended = record {
-    more = rest;
-    split = sf.split ∙ ap (λ (l : List Kept). sf.body ++ l) next;
-    is_body = sf.is_body;
-    ends = end;
-    passes = loops_fault-end sf.body last end ∙ pass;
-  };
-  value = sf.listed;
-  count = count;
+-- one more loop is taken
+pub loop-taken : (old new : LoopsBody) (r : Kept) → says_end r ≡ false → loop_fault r ≡ None → new.loops ≡ old.loops ++ stated_loop r ∷ []
+    → 1 < length r.fields → Takes (λ s. loops_fault) HoldsLoops old r new
+loop-taken old new r other good added long = record {
+  passes = λ start body h. loops_fault-loop body r other ∙ good;
+  goes_on = λ start body h.
+      let count = ap length added ∙ length-append old.loops (stated_loop r ∷ []) in
+      let total = field_total-more body r in
+      let few = h.few in
+      record {
+        loops = added ∙ ap (λ (l : List Loop). l ++ stated_loop r ∷ []) h.loops ∙ sym (map-append stated_loop body (r ∷ []));
+        few = omega (arith, count, total, few, long);
+      };
 }
 
--- an energy, spins and what is behind them
-pub record IsFront (all left : List Kept) (q r : Kept) : Type 0 where
-  pub split : all ≡ q ∷ r ∷ left
-  pub energy : energy_fault q ≡ None
-  pub spins : spins_fault r ≡ None
+-- what refuses a loop refuses the record
+pub loop-refused : (old : LoopsBody) (r : Kept) (e : Fault) → says_end r ≡ false → OrNoMemory (Refuses (loop_fault r)) e
+    → RefusesNext (λ s. loops_fault) HoldsLoops old r e
+loop-refused old r e other bad = record { refused = λ start body h. rw (loops_fault-loop body r other) bad }
 
--- behind energy and spins, what refuses the loops refuses the result
-pub loops-fault : (all left : List Kept) (q r : Kept) (e : Fault) → IsFront all left q r → OrNoMemory (RefusesRecords loops_fault left) e
-    → OrNoMemory (RefusesResult all) e
+-- there are fewer loops than a text has bytes
+pub loops-few : (all body : List Kept) (last : Kept) (rest : List Kept) (loops : List Loop) → IsEnded loops_fault all body last rest
+    → length loops ≤ field_total body → field_total all ≤ text_limit → length loops < text_limit
+loops-few all body last rest loops ended few short =
+    let total = field_total-around all body last rest ended.split in
+    let inside = word-inside (codes "end") refl last ended.ends in
+    omega (arith, total, inside, few, short)
+
+-- what refuses the first record refuses the result
+pub energy-fault : (all : List Kept) (r : Kept) (rest : List Kept) (e : Fault) → all ≡ r ∷ rest → OrNoMemory (Refuses (energy_fault r)) e
+    → Fails (RefusesResult all) all rest e
 unfolding result_fault
-loops-fault all left q r (Refused x) front bad =
-    rw front.split (Refuses-cons result_fault q (r ∷ left) x (energy-no_end q front.energy) front.energy
-    (Refuses-cons (λ b p. result_fault (q ∷ b) p) r left x (spins-no_end r front.spins) front.spins bad))
-loops-fault all left q r NoMemory front bad = tt
+energy-fault all r rest e split bad = first-fault result_fault all r rest e split bad
 
-stated-result : (q r : Kept) (body : List Kept) (energy : ℤ) (spins : List ℤ) (loops : List Loop)
-    → energy ≡ number_in q 1 → spins ≡ numbers_from r 1 → loops ≡ stated_loops body
-    → record { energy = energy; spins = spins; loops = loops } ≡ result_of (q ∷ r ∷ body)
-unfolding result_of
-stated-result q r body energy spins loops stated valued listed =
-    λ i. record { energy = stated i; spins = valued i; loops = listed i }
+-- what refuses the second refuses the records behind the first
+pub spins-fault : (q : Kept) (all : List Kept) (r : Kept) (rest : List Kept) (e : Fault) → all ≡ r ∷ rest → OrNoMemory (Refuses (spins_fault r)) e
+    → Fails (RefusesRecords (λ body. result_fault (q ∷ body)) all) all rest e
+unfolding result_fault
+spins-fault q all r rest e split bad = first-fault (λ body. result_fault (q ∷ body)) all r rest e split bad
+
+-- behind an energy, what refuses the others refuses the result
+pub behind-energy : (all more : List Kept) (q : Kept) (rest : List Kept) (e : Fault) → all ≡ q ∷ more → energy_fault q ≡ None
+    → Fails (RefusesRecords (λ body. result_fault (q ∷ body)) more) more rest e → Fails (RefusesResult all) all rest e
+unfolding result_fault
+behind-energy all more q rest e split good bad =
+    fails-on (RefusesRecords (λ body. result_fault (q ∷ body)) more) (RefusesResult all) all (q ∷ []) more rest split
+    (λ x refused. refuses-cons result_fault all more q x rest split (energy-no_end q good) good refused) e bad
+
+-- behind spins, what refuses the loops refuses the others
+pub behind-spins : (q : Kept) (all more : List Kept) (r : Kept) (rest : List Kept) (e : Fault) → all ≡ r ∷ more → spins_fault r ≡ None
+    → Fails (RefusesRecords loops_fault more) more rest e → Fails (RefusesRecords (λ body. result_fault (q ∷ body)) all) all rest e
+unfolding result_fault
+behind-spins q all more r rest e split good bad =
+    fails-on (RefusesRecords loops_fault more) (RefusesRecords (λ body. result_fault (q ∷ body)) all) all (r ∷ []) more rest split
+    (λ x refused. refuses-cons (λ body. result_fault (q ∷ body)) all more r x rest split (spins-no_end r good) good refused) e bad
 
 -- energy, spins and loops that are read are the result
-pub stated : (all left : List Kept) (q r : Kept) (energy : ℤ) (spins : List ℤ) (loops : List Loop) (next : ℕ)
-    → IsFront all left q r → energy ≡ number_in q 1 → spins ≡ numbers_from r 1
-    → StatesToEnd loops_fault stated_loops left loops next
-    → ReadsResult all (record { energy = energy; spins = spins; loops = loops }) next
-unfolding result_fault
-stated all left q r energy spins loops next front says_energy are_spins st = record {
-  body = q ∷ r ∷ st.body;
-  last = st.last;
-  ended = rw front.split (IsEnded-cons result_fault q (r ∷ left) (r ∷ st.body) st.last (energy-no_end q front.energy) front.energy
-      (IsEnded-cons (λ b p. result_fault (q ∷ b) p) r left st.body st.last (spins-no_end r front.spins) front.spins st.ended));
-  value = stated-result q r st.body energy spins loops says_energy are_spins st.value;
-  count = st.count;
-}
+pub stated : (all more left : List Kept) (q r : Kept) (energy : ℤ) (spins : List ℤ) (loops : List Loop) (rest : List Kept)
+    → all ≡ q ∷ more → more ≡ r ∷ left → energy_fault q ≡ None → spins_fault r ≡ None → energy ≡ number_in q 1 → spins ≡ numbers_from r 1
+    → StatesToEnd loops_fault stated_loops left loops rest
+    → ReadsResult all (record { energy = energy; spins = spins; loops = loops }) rest
+unfolding result_fault result_of
+stated all more left q r energy spins loops rest split next good_energy good_spins is_energy are_spins st =
+    states-cons result_fault result_of all more q _ rest split (energy-no_end q good_energy) good_energy
+    (states-cons (λ body. result_fault (q ∷ body)) (λ body. result_of (q ∷ body)) more left r _ rest next (spins-no_end r good_spins) good_spins
+    (record {
+      body = st.body;
+      last = st.last;
+      ended = st.ended;
+      passes = st.passes;
+      value = λ i. record { energy = is_energy i; spins = are_spins i; loops = st.value i };
+    }))

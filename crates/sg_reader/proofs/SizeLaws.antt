@@ -12,7 +12,7 @@ use Rattle.sg_reader.specs.declared.header.Header.TheVariants as header
 use Rattle.sg_reader.specs.Kept.{Kept}
 use Rattle.sg_draft.specs.Draft.{reseamed}
 use Rattle.sg_reader.specs.Body.{bonds_in, instance_of}
-use Rattle.sg_reader.specs.GeneralHolds.{HoldsGeneral}
+use Rattle.sg_reader.specs.Holds.{HoldsGeneral}
 
 -- a lattice has three bonds for each spin at most
 row-more : (k C : ℕ) → (k + 1) * C ≡ k * C + C
@@ -71,10 +71,10 @@ unfolding instance_of
 general-spins n body inst is = ap (λ (i : Ising). i.n) is
 
 -- an instance that is read has no more bonds than the limit
-pub general-bonds : (n : ℕ) (body : List Kept) (state : GeneralBody) (inst : Ising) → HoldsGeneral body state
+pub general-bonds : (n : ℕ) (start : GeneralBody) (body : List Kept) (state : GeneralBody) (inst : Ising) → HoldsGeneral start body state
     → inst ≡ instance_of (header.General n) body → bond_count inst ≤ bond_limit
 unfolding instance_of
-general-bonds n body state inst h is =
+general-bonds n start body state inst h is =
     let count : bond_count inst ≡ length (bonds_in body) = ap bond_count is in
     let held = ap length h.bonds in
     let few = h.few in

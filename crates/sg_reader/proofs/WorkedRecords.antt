@@ -4,7 +4,7 @@ use Rattle.sg_model.specs.declared.refusal.Refusal.TheVariants.{BadNumber, BadSh
 use Rattle.sg_lattice.specs.declared.kind.Kind.TheVariants.{Cylinder}
 use Rattle.sg_reader.specs.declared.header.Header.TheVariants as header
 use Rattle.sg_reader.specs.Field.{fields_in, trimmed, without_marks}
-use Rattle.sg_reader.specs.Kept.{Kept, behind}
+use Rattle.sg_reader.specs.Kept.{Kept}
 use Rattle.sg_reader.specs.Number.{number_of}
 use Rattle.sg_reader.specs.Tests.{bad_field}
 use Rattle.sg_reader.specs.Header.{form_of, header_fault, header_of}
@@ -151,7 +151,3 @@ loop-range = refl
 loop-bare : result_fault stated (row 8 (codes "loop" ∷ codes "0" ∷ [])) ≡ None
 unfolding result_fault bad_field number_of
 loop-bare = refl
-
-behind-four : behind 4 (row 1 (codes "3" ∷ []) ∷ row 4 (codes "energy" ∷ []) ∷ row 6 (codes "end" ∷ []) ∷ [])
-    ≡ row 4 (codes "energy" ∷ []) ∷ row 6 (codes "end" ∷ []) ∷ []
-behind-four = refl

@@ -1,5 +1,5 @@
 -- The records of a text that count, with their numbers.
-use Rattle.std.specs.Prelude.{ℕ, nat_le, ◌==◌, ◌&&◌, Bool, false, not, List, [], ◌∷◌, length, map, filter, slice_index_or}
+use Rattle.std.specs.Prelude.{ℕ, ◌==◌, ◌&&◌, Bool, false, not, List, [], ◌∷◌, length, map, filter, slice_index_or}
 use Rattle.std.specs.List.{enumerate_from}
 use Rattle.std.specs.Str.{bytes_eq}
 use Rattle.sg_reader.specs.Records.{records_of}
@@ -34,7 +34,3 @@ numbered_from at raw = map (λ p. record { at = p.0; fields = fields_in p.1 }) (
 -- the records of a text that are not skipped; those that are skipped keep their numbers
 unfoldable pub kept_of : List ℕ → List Kept
 kept_of bytes = filter is_kept (numbered_from 0 (records_of (without_marks bytes)))
-
--- the records behind the first `after` of a text
-abbrev pub behind : ℕ → List Kept → List Kept
-behind after kept = filter (λ r. nat_le after r.at) kept

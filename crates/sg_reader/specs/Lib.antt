@@ -10,7 +10,6 @@ pub mod Ended
 pub mod ReadInstance
 pub mod Result
 pub mod ReadResult
-pub mod NoMore
-pub mod Leaves
+pub mod Rest
+pub mod Taken
 pub mod Holds
-pub mod GeneralHolds

@@ -1,53 +1,47 @@
--- Which instance a text gives, or why it is refused: the first test that a record fails, in the order of the records.
-use Rattle.std.specs.Prelude.{◌≡◌, ℕ, ◌+◌, List, [], ◌∷◌, ◌++◌, Some, None}
+-- Which instance records give, or why they are refused: the first test that a record fails, in the order of the records.
+use Rattle.std.specs.Prelude.{◌≡◌, List, [], ◌∷◌, Some, None}
 use Rattle.sg_model.specs.declared.refusal.Refusal.{Refusal}
 use Rattle.sg_model.specs.declared.refusal.Refusal.TheVariants.{Unended}
 use Rattle.sg_model.specs.Ising.{Ising}
 use Rattle.sg_model.specs.Rotation.{IsRotation}
 use Rattle.sg_model.specs.Seam.{IsSeam}
-use Rattle.sg_model.specs.Faults.{IsRefusalOf, OrNoMemory}
+use Rattle.sg_model.specs.Faults.{IsRefusalOf}
 use Rattle.sg_reader.specs.declared.header.Header.{Header}
 use Rattle.sg_reader.specs.Kept.{Kept}
 use Rattle.sg_reader.specs.Header.{header_fault, header_of}
 use Rattle.sg_reader.specs.Body.{instance_of, record_fault}
-use Rattle.sg_reader.specs.Ended.{IsBody, IsEnded}
+use Rattle.sg_reader.specs.Ended.{RefusesRecords, StatesToEnd}
 
--- the records behind the first give the instance, which passes the tests of an instance; `after` records of the text
--- were read
-pub record ReadsBody (header : Header) (rest : List Kept) (inst : Ising) (after : ℕ) : Type 0 where
-  pub body : List Kept
-  pub last : Kept
-  pub ended : IsEnded (record_fault header) rest body last
-  pub value : inst ≡ instance_of header body
+-- the records behind the first state the instance up to their `end`
+abbrev pub StatesInstance : Header → List Kept → Ising → List Kept → Type 0
+StatesInstance header records inst rest = StatesToEnd (record_fault header) (instance_of header) records inst rest
+
+-- and it passes the tests of an instance
+pub record ReadsBody (header : Header) (records : List Kept) (inst : Ising) (rest : List Kept) : Type 0 where
+  pub states : StatesInstance header records inst rest
   pub rotation : IsRotation inst
   pub seam : IsSeam inst
-  pub count : after ≡ last.at + 1
 
--- the records give the instance
-pub record ReadsInstance (kept : List Kept) (inst : Ising) (after : ℕ) : Type 0 where
+-- the records give the instance, and `rest` is left behind its `end`
+pub record ReadsInstance (records : List Kept) (inst : Ising) (rest : List Kept) : Type 0 where
   pub first : Kept
-  pub rest : List Kept
+  pub more : List Kept
   pub header : Header
-  pub split : kept ≡ first ∷ rest
+  pub split : records ≡ first ∷ more
   pub passes : header_fault first ≡ None
   pub says : header_of first ≡ Some header
-  pub reads : ReadsBody header rest inst after
+  pub reads : ReadsBody header more inst rest
 
--- the records behind the first are refused: at a record that fails a test, at the `end` by the tests of an instance, or
--- because they run out
-pub data RefusesBody (header : Header) (rest : List Kept) (refusal : Refusal) : Type 0 where
-  AtRecord : (body : List Kept) (r : Kept) (more : List Kept) → rest ≡ body ++ r ∷ more
-      → IsBody (record_fault header) body → record_fault header body r ≡ Some refusal →
-      RefusesBody header rest refusal
-  AtEnd : (body : List Kept) (last : Kept) → IsEnded (record_fault header) rest body last
-      → IsRefusalOf (instance_of header body) refusal → RefusesBody header rest refusal
-  WithoutEnd : IsBody (record_fault header) rest → refusal ≡ Unended → RefusesBody header rest refusal
+-- the records behind the first are refused, at one of them, or at the `end` by the tests of an instance
+pub data RefusesBody (header : Header) (records : List Kept) (refusal : Refusal) (rest : List Kept) : Type 0 where
+  AtOne : RefusesRecords (record_fault header) records refusal rest → RefusesBody header records refusal rest
+  AtWhole : (inst : Ising) → StatesInstance header records inst rest → IsRefusalOf inst refusal
+      → RefusesBody header records refusal rest
 
--- the records are refused: there is none, the first fails a test, or those behind it are refused
-pub data RefusesInstance (kept : List Kept) (refusal : Refusal) : Type 0 where
-  WithoutFirst : kept ≡ [] → refusal ≡ Unended → RefusesInstance kept refusal
-  AtFirst : (first : Kept) (rest : List Kept) → kept ≡ first ∷ rest → header_fault first ≡ Some refusal
-      → RefusesInstance kept refusal
-  Behind : (first : Kept) (rest : List Kept) (header : Header) → kept ≡ first ∷ rest →
-      header_fault first ≡ None
-      → header_of first ≡ Some header → RefusesBody header rest refusal → RefusesInstance kept refusal
+-- the records are refused, and `rest` is left: there is none, the first fails a test, or those behind it are refused
+pub data RefusesInstance (records : List Kept) (refusal : Refusal) (rest : List Kept) : Type 0 where
+  WithoutFirst : records ≡ [] → refusal ≡ Unended → rest ≡ [] → RefusesInstance records refusal rest
+  AtFirst : (first : Kept) → records ≡ first ∷ rest → header_fault first ≡ Some refusal
+      → RefusesInstance records refusal rest
+  Behind : (first : Kept) (more : List Kept) (header : Header) → records ≡ first ∷ more → header_fault first ≡ None
+      → header_of first ≡ Some header → RefusesBody header more refusal rest → RefusesInstance records refusal rest

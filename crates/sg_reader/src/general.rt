@@ -1,20 +1,20 @@
-ghost use Rattle.std.specs.Prelude.{Bool, ◌≡◌, ◌≢◌, ◌<◌, ◌≤◌, ◌+◌, ◌++◌, ◌∷◌, [], ◌^◌, ℕ, List, false, true, None, Some, length, vec_len, IfOk, IfErr, OnOk};
-ghost use Rattle.std.specs.List.{sum_by};
+ghost use Rattle.std.specs.Prelude.{Bool, ◌≡◌, ◌≢◌, ◌<◌, ◌≤◌, [], ◌^◌, List, true, None, Some, length, unwrap_or, IfOk, IfErr, OnOk};
 ghost use Rattle.sg_limits.specs.Limits.{bond_limit};
 ghost use Rattle.sg_model.specs.Ising.{IsBond, bond_count};
 ghost use Rattle.sg_model.specs.WellFormed.{IsInstance};
 ghost use Rattle.sg_reader.specs.declared.header.Header.TheVariants as header;
 ghost use Rattle.sg_reader.specs.Kept.{Kept, field};
-ghost use Rattle.sg_draft.specs.Tests.{Refuses};
 ghost use Rattle.sg_reader.specs.Tests.{is_number_in, size_in, spin_below};
-ghost use Rattle.sg_reader.specs.Body.{bond_fault, bond_of, ends_fault, says_bond, says_end, says_rot, says_seam, rot_fault};
+ghost use Rattle.sg_reader.specs.Body.{bond_fault, bond_of, ends_fault, general_fault, instance_of, says_bond, says_rot, says_seam, rot_fault};
+ghost use Rattle.sg_reader.specs.Holds.{HoldsGeneral};
 ghost use Rattle.sg_reader.specs.ReadInstance.{ReadsBody, RefusesBody};
-ghost use Rattle.sg_reader.specs.Leaves.{IsRest, Leaves};
-ghost use Rattle.sg_reader.specs.GeneralHolds.{HoldsGeneral, HoldsNext, HoldsSome, IsHeldFault, IsHeldInstance, IsNextFault, PassesNext};
-ghost use Rattle.sg_model.specs.Faults.{OrNoMemory};
+ghost use Rattle.sg_reader.specs.Rest.{Fails};
+ghost use Rattle.sg_reader.specs.Taken.{HoldsSome, RefusesNext, Takes};
+ghost use Rattle.sg_model.specs.Faults.{IsRefusalOf, OrNoMemory};
 
 use super::NoMemory;
-use super::body::{END, SEAM, bare_end, indices, seam};
+use super::body::{SEAM, bare_end, indices, seam};
+use super::ended::{Gather, read_to_end};
 use super::range::Range;
 use super::row::Row;
 use super::rows::Rows;
@@ -98,8 +98,9 @@ fn rot_spin(row: &Row, n: u32) -> Result<u32, Refusal>
 impl GeneralBody {
     // Nothing was given yet.
     fn new(alloc: Global, n: u32) -> Result<Self, NoMemory>
+        requires { 1 ≤ n }
         ensures value { IfOk result (λ s. s.n ≡ n) }
-        ensures holds { IfOk result (HoldsGeneral []) }
+        ensures holds { IfOk result (λ s. HoldsGeneral s [] s) }
     {
         let mut rotation = Records::new(alloc);
         let mut seen = Vec::new(alloc);
@@ -117,13 +118,10 @@ impl GeneralBody {
     }
 
     fn take_bond(&mut self, row: &Row) -> Result<(), Fault>
-        requires some { 1 ≤ self.old.n }
-        requires few { length self.old.bonds ≤ bond_limit }
+        requires held { HoldsSome HoldsGeneral self.old }
         requires word { says_bond row.now ≡ true }
-        ensures passes { OnOk result (PassesNext self.old row.now) }
-        ensures holds { OnOk result (HoldsNext self.old row.now self.new) }
-        ensures same { OnOk result (self.new.n ≡ self.old.n) }
-        ensures fault { IfErr result (IsNextFault self.old row.now) }
+        ensures taken { OnOk result (Takes (λ s. general_fault s.n) HoldsGeneral self.old row.now self.new) }
+        ensures fault { IfErr result (RefusesNext (λ s. general_fault s.n) HoldsGeneral self.old row.now) }
     {
         let bond = read_bond(row, self.n, self.bonds.len())?;
         self.bonds.push(bond)?;
@@ -131,14 +129,10 @@ impl GeneralBody {
     }
 
     fn take_rot(&mut self, alloc: Global, row: &Row) -> Result<(), Fault>
-        requires some { 1 ≤ self.old.n }
-        requires lists { length self.old.rotation ≡ self.old.n }
-        requires marks { vec_len self.old.seen ≡ self.old.n }
+        requires held { HoldsSome HoldsGeneral self.old }
         requires word { says_rot row.now ≡ true }
-        ensures passes { OnOk result (PassesNext self.old row.now) }
-        ensures holds { OnOk result (HoldsNext self.old row.now self.new) }
-        ensures same { OnOk result (self.new.n ≡ self.old.n) }
-        ensures fault { IfErr result (IsNextFault self.old row.now) }
+        ensures taken { OnOk result (Takes (λ s. general_fault s.n) HoldsGeneral self.old row.now self.new) }
+        ensures fault { IfErr result (RefusesNext (λ s. general_fault s.n) HoldsGeneral self.old row.now) }
     {
         let spin = rot_spin(row, self.n)?;
         let darts = indices(alloc, row, 2)?;
@@ -152,28 +146,43 @@ impl GeneralBody {
 
     fn take_seam(&mut self, alloc: Global, row: &Row) -> Result<(), Fault>
         requires { says_seam row.now ≡ true }
-        ensures passes { OnOk result (PassesNext self.old row.now) }
-        ensures holds { OnOk result (HoldsNext self.old row.now self.new) }
-        ensures same { OnOk result (self.new.n ≡ self.old.n) }
-        ensures fault { IfErr result (IsNextFault self.old row.now) }
+        ensures taken { OnOk result (Takes (λ s. general_fault s.n) HoldsGeneral self.old row.now self.new) }
+        ensures fault { IfErr result (RefusesNext (λ s. general_fault s.n) HoldsGeneral self.old row.now) }
     {
         let bonds = seam(alloc, row, self.seam.is_some())?;
         self.seam = Some(bonds);
         Ok(())
     }
 
-    // Takes a record that is not the `end`.
-    fn take(&mut self, alloc: Global, row: &Row) -> Result<(), Fault>
-        requires some { 1 ≤ self.old.n }
-        requires few { length self.old.bonds ≤ bond_limit }
-        requires lists { length self.old.rotation ≡ self.old.n }
-        requires marks { vec_len self.old.seen ≡ self.old.n }
-        requires other { says_end row.now ≡ false }
-        ensures passes { OnOk result (PassesNext self.old row.now) }
-        ensures holds { OnOk result (HoldsNext self.old row.now self.new) }
-        ensures same { OnOk result (self.new.n ≡ self.old.n) }
-        ensures fault { IfErr result (IsNextFault self.old row.now) }
+    // The instance, once all records were taken.
+    fn instance(self, alloc: Global) -> Result<Instance, Fault>
+        requires small { self.n ≤ 2 ^ 24 }
+        requires held { HoldsSome HoldsGeneral self }
+        ensures ok { IfOk result (λ inst. (start : _) (body : List Kept) → HoldsGeneral start body self
+            → inst ≡ instance_of (header.General start.n) body) }
+        ensures instance { IfOk result IsInstance }
+        ensures fault { IfErr result (λ e. (start : _) (body : List Kept) → HoldsGeneral start body self
+            → OrNoMemory (IsRefusalOf (instance_of (header.General start.n) body)) e) }
     {
+        let GeneralBody {
+            n,
+            bonds,
+            rotation,
+            seen: _,
+            seam,
+        } = self;
+        let seam = seam_or_none(alloc, seam);
+        let rotation = laid_out(alloc, rotation.as_slice())?;
+        Instance::new(alloc, n, bonds, rotation, seam)
+    }
+}
+
+impl Gather for GeneralBody {
+    ghost tests = { λ start. general_fault start.n };
+
+    ghost holds = { HoldsGeneral };
+
+    fn take(&mut self, alloc: Global, row: &Row) -> Result<(), Fault> {
         if row.begins(BOND) {
             self.take_bond(row)
         } else if row.begins(ROT) {
@@ -184,29 +193,15 @@ impl GeneralBody {
             Err(Fault::Refused(Refusal::UnknownKind { at: row.at() }))
         }
     }
+}
 
-    // The instance, once all records were taken.
-    fn instance(self, alloc: Global) -> Result<Instance, Fault>
-        requires some { 1 ≤ self.n }
-        requires small { self.n ≤ 2 ^ 24 }
-        requires held { HoldsSome self }
-        ensures ok { IfOk result (IsHeldInstance self) }
-        ensures instance { IfOk result IsInstance }
-        ensures fault { IfErr result (IsHeldFault self) }
-    {
-        let GeneralBody {
-            n,
-            bonds,
-            rotation,
-            seen: _,
-            seam,
-        } = self;
-        let seam = match seam {
-            Some(bonds) => bonds,
-            None => BondList::new(alloc),
-        };
-        let rotation = laid_out(alloc, rotation.as_slice())?;
-        Instance::new(alloc, n, bonds, rotation, seam)
+// The seam, which is empty where none was given.
+fn seam_or_none(alloc: Global, seam: Option<BondList>) -> BondList
+    ensures { result ≡ unwrap_or seam [] }
+{
+    match seam {
+        Some(bonds) => bonds,
+        None => BondList::new(alloc),
     }
 }
 
@@ -222,7 +217,7 @@ fn laid_out(alloc: Global, lists: &[DartList]) -> Result<Rotation, NoMemory>
 }
 
 /// Reads the records of a general instance of `n` spins behind the first, up to its `end`, and gives
-/// the instance and the number of records of the text up to and with the `end`.
+/// the instance.
 ///
 /// # Errors
 /// The first test that a record fails, `UnknownKind` for a record of no kind, `BadRotation` and
@@ -232,25 +227,18 @@ pub(crate) fn read_general(
     records: &mut Rows<'_>,
     row: &mut Row,
     n: u32,
-) -> Result<(Instance, u32), Fault>
+) -> Result<Instance, Fault>
     requires some { 1 ≤ n }
     requires small { n ≤ 2 ^ 24 }
-    ensures read { IfOk result (λ r. ReadsBody (header.General n) records.old r.0 r.1) }
-    ensures left { IfOk result (λ r. Leaves records.old records.new r.1) }
-    ensures instance { IfOk result (λ r. IsInstance r.0) }
-    ensures spins { IfOk result (λ r. (r.0).n ≡ n) }
-    ensures bonds { IfOk result (λ r. bond_count r.0 ≤ bond_limit) }
-    ensures fault { IfErr result (OrNoMemory (RefusesBody (header.General n) records.old)) }
-    ensures rest { IsRest records.old records.new }
+    ensures read { IfOk result (λ inst. ReadsBody (header.General n) records.old inst records.new) }
+    ensures instance { IfOk result IsInstance }
+    ensures spins { IfOk result (λ inst. inst.n ≡ n) }
+    ensures bonds { IfOk result (λ inst. bond_count inst ≤ bond_limit) }
+    ensures fault { IfErr result (Fails (RefusesBody (header.General n) records.old) records.old records.new) }
 {
     let mut body = GeneralBody::new(alloc, n)?;
-    while records.next(row)? {
-        if row.begins(END) {
-            bare_end(row)?;
-            let inst = body.instance(alloc)?;
-            return Ok((inst, row.at() + 1));
-        }
-        body.take(alloc, row)?;
-    }
-    Err(Fault::Refused(Refusal::Unended))
+    read_to_end(alloc, records, row, &mut body)?;
+    bare_end(row)?;
+    let inst = body.instance(alloc)?;
+    Ok(inst)
 }

@@ -1,4 +1,4 @@
-ghost use Rattle.std.specs.Prelude.{◌≡◌, ◌<◌, ◌≤◌, ◌+◌, ◌*◌, ◌++◌, ◌∷◌, [], ◌^◌, ℕ, List, false, true, None, Some, length, All, IfOk, IfErr, OnOk, unsigned_abs};
+ghost use Rattle.std.specs.Prelude.{◌≡◌, ◌<◌, ◌≤◌, ◌*◌, [], ◌^◌, None, Some, length, All, IfOk, IfErr, OnOk, unsigned_abs};
 ghost use Rattle.std.specs.List.{sum_by};
 ghost use Rattle.sg_model.specs.Faults.{IsRefusalOf, OrNoMemory};
 ghost use Rattle.sg_model.specs.Ising.{bond_count};
@@ -6,55 +6,57 @@ ghost use Rattle.sg_model.specs.WellFormed.{IsInstance};
 ghost use Rattle.sg_lattice.specs.Tables.{IsSize, bond_total, lattice};
 ghost use Rattle.sg_reader.specs.declared.header.Header.TheVariants as header;
 ghost use Rattle.sg_draft.specs.Draft.{reseamed};
-ghost use Rattle.sg_draft.specs.Tests.{Refuses};
-ghost use Rattle.sg_reader.specs.Body.{says_end, lattice_end_fault};
+ghost use Rattle.sg_reader.specs.Body.{lattice_end_fault, lattice_fault};
+ghost use Rattle.sg_reader.specs.Holds.{HoldsLattice};
 ghost use Rattle.sg_reader.specs.ReadInstance.{ReadsBody, RefusesBody};
-ghost use Rattle.sg_reader.specs.Leaves.{IsRest, Leaves};
-ghost use Rattle.sg_reader.specs.Holds.{HoldsBehind, IsFaultBehind, PassesBehind};
+ghost use Rattle.sg_reader.specs.Rest.{Fails};
 
 use super::NoMemory;
-use super::body::{END, SEAM, push_couplings, seam};
+use super::body::{SEAM, push_couplings, seam};
+use super::ended::{Gather, read_to_end};
 use super::row::Row;
 use super::rows::Rows;
 use sg_lattice::{Kind, bond_count, build};
 use sg_model::{BondList, Couplings, Fault, Instance, Refusal};
 use std::alloc::Global;
 
-/// What the records of a lattice have given so far.
+/// What the records of a lattice have given so far; so many couplings are wanted.
 #[derive(Drop)]
 pub(crate) struct LatticeBody {
+    wanted: u32,
     couplings: Couplings,
     seam: Option<BondList>,
 }
 
 impl LatticeBody {
-    // Nothing was given yet; there is room for so many couplings.
-    fn new(alloc: Global, bonds: u32) -> Result<Self, NoMemory>
-        ensures couplings { IfOk result (λ body. body.couplings ≡ []) }
-        ensures seam { IfOk result (λ body. body.seam ≡ None) }
+    // Nothing was given yet; there is room for the couplings.
+    fn new(alloc: Global, wanted: u32) -> Result<Self, NoMemory>
+        ensures wanted { IfOk result (λ body. body.wanted ≡ wanted) }
+        ensures holds { IfOk result (λ body. HoldsLattice body [] body) }
     {
         let mut couplings = Couplings::new(alloc);
-        couplings.reserve(bonds as usize)?;
+        couplings.reserve(wanted as usize)?;
         Ok(LatticeBody {
+            wanted,
             couplings,
             seam: None,
         })
     }
+}
 
-    /// Takes a record that is not the `end`.
-    fn take(&mut self, alloc: Global, row: &Row) -> Result<(), Fault>
-        requires { says_end row.now ≡ false }
-        ensures passes { OnOk result (PassesBehind self.old row.now) }
-        ensures holds { OnOk result (HoldsBehind self.old row.now self.new) }
-        ensures count { OnOk result (length self.new.couplings ≤ length self.old.couplings + length row.now.fields) }
-        ensures fault { IfErr result (IsFaultBehind self.old row.now) }
-    {
+impl Gather for LatticeBody {
+    ghost tests = { λ start. lattice_fault start.wanted };
+
+    ghost holds = { HoldsLattice };
+
+    fn take(&mut self, alloc: Global, row: &Row) -> Result<(), Fault> {
         if row.begins(SEAM) {
             let bonds = seam(alloc, row, self.seam.is_some())?;
             self.seam = Some(bonds);
             return Ok(());
         }
-        push_couplings(&mut self.couplings, row)
+        push_couplings(&mut self.couplings, row)?;
+        Ok(())
     }
 }
 
@@ -88,7 +90,11 @@ fn lattice_of(
     ensures instance { IfOk result IsInstance }
     ensures fault { IfErr result (OrNoMemory (IsRefusalOf (reseamed body.seam (lattice kind rows cols body.couplings)))) }
 {
-    let LatticeBody { couplings, seam } = body;
+    let LatticeBody {
+        wanted: _,
+        couplings,
+        seam,
+    } = body;
     let inst = build(alloc, kind, rows, cols, couplings)?;
     match seam {
         Some(bonds) => inst.with_seam(bonds),
@@ -96,8 +102,7 @@ fn lattice_of(
     }
 }
 
-/// Reads the records of a lattice behind the first, up to its `end`, and gives the instance and the
-/// number of records of the text up to and with the `end`.
+/// Reads the records of a lattice behind the first, up to its `end`, and gives the instance.
 ///
 /// # Errors
 /// The first test that a record fails: `BadShape`, `BadNumber`, `CouplingCount`, `BadSeam`; `Unended`
@@ -109,26 +114,19 @@ pub(crate) fn read_lattice(
     kind: Kind,
     rows: u32,
     cols: u32,
-) -> Result<(Instance, u32), Fault>
+) -> Result<Instance, Fault>
     requires size { IsSize kind rows cols }
     requires few { sum_by (λ r. length r.fields) records.old < 2 ^ 32 }
-    ensures read { IfOk result (λ r. ReadsBody (header.Lattice kind rows cols) records.old r.0 r.1) }
-    ensures left { IfOk result (λ r. Leaves records.old records.new r.1) }
-    ensures instance { IfOk result (λ r. IsInstance r.0) }
-    ensures spins { IfOk result (λ r. (r.0).n ≡ rows * cols) }
-    ensures bonds { IfOk result (λ r. bond_count r.0 ≤ 3 * (rows * cols)) }
-    ensures fault { IfErr result (OrNoMemory (RefusesBody (header.Lattice kind rows cols) records.old)) }
-    ensures rest { IsRest records.old records.new }
+    ensures read { IfOk result (λ inst. ReadsBody (header.Lattice kind rows cols) records.old inst records.new) }
+    ensures instance { IfOk result IsInstance }
+    ensures spins { IfOk result (λ inst. inst.n ≡ rows * cols) }
+    ensures bonds { IfOk result (λ inst. bond_count inst ≤ 3 * (rows * cols)) }
+    ensures fault { IfErr result (Fails (RefusesBody (header.Lattice kind rows cols) records.old) records.old records.new) }
 {
     let bonds = bond_count(kind, rows, cols);
     let mut body = LatticeBody::new(alloc, bonds)?;
-    while records.next(row)? {
-        if row.begins(END) {
-            end_lattice(row, body.couplings.len() as u32, bonds)?;
-            let inst = lattice_of(alloc, kind, rows, cols, body)?;
-            return Ok((inst, row.at() + 1));
-        }
-        body.take(alloc, row)?;
-    }
-    Err(Fault::Refused(Refusal::Unended))
+    read_to_end(alloc, records, row, &mut body)?;
+    end_lattice(row, body.couplings.len() as u32, bonds)?;
+    let inst = lattice_of(alloc, kind, rows, cols, body)?;
+    Ok(inst)
 }

@@ -4,7 +4,7 @@
 //!
 //! A text is a list of `csv` records. `read_instance` gives the instance at its front, or the one
 //! refusal that names its first fault, by record and field; `read_result` does so for the result
-//! behind an instance, and `no_more` tells what stands behind both.
+//! behind an instance, `no_more` tells whether a record is left, and `alone` asks for that.
 //!
 //! For the next engineer: `specs/ReadInstance.antt` and `specs/ReadResult.antt` say what a text gives
 //! and why it is refused, over the whole list of its records; `specs/Header.antt`, `specs/Body.antt`
@@ -13,11 +13,12 @@
 //! `read_result`. In the code `rows.rt` gives the records that count, `header.rt` reads the first of
 //! an instance, `lattice.rt` and `general.rt` those behind it, `result.rt` those of a result;
 //! `cursor.rt` alone speaks to `csv`. `Rows`, `Row` and `Range` are for readers of other records, which
-//! state what they read over any table of tests (`specs/Ended.antt`).
+//! state what they read over any table of tests (`specs/Ended.antt`), and gather it by `Gather`.
 #![tactic(auto)]
 
 mod body;
 mod cursor;
+mod ended;
 mod field;
 mod general;
 mod header;
@@ -29,12 +30,13 @@ mod result;
 mod row;
 mod rows;
 
-pub use body::{END, bare_end, indices};
+pub use body::{bare_end, indices};
+pub use ended::{Gather, read_to_end};
 pub use field::without_marks;
 pub use header::{Form, form_named};
 pub use numeral::number;
 pub use range::Range;
-pub use read::{no_more, read_instance};
+pub use read::{alone, no_more, read_instance};
 pub use result::read_result;
 pub use row::Row;
 pub use rows::Rows;

@@ -1,12 +1,9 @@
-ghost use Rattle.std.specs.Prelude.{◌≡◌, ◌≤◌, [], None, IfOk, IfErr, OnOk};
+ghost use Rattle.std.specs.Prelude.{◌≡◌, ◌≤◌, [], Ok, MatchResult, IfOk, IfErr, OnOk};
 ghost use Rattle.sg_limits.specs.Limits.{bond_limit, spin_limit};
 ghost use Rattle.sg_model.specs.Ising.{bond_count};
 ghost use Rattle.sg_model.specs.WellFormed.{IsInstance};
-ghost use Rattle.sg_reader.specs.Leaves.{IsRest, Leaves};
-ghost use Rattle.sg_reader.specs.NoMore.{LeavesBehind, left_fault};
 ghost use Rattle.sg_reader.specs.ReadInstance.{ReadsInstance, RefusesInstance};
-ghost use Rattle.sg_draft.specs.Tests.{Refuses};
-ghost use Rattle.sg_model.specs.Faults.{OrNoMemory};
+ghost use Rattle.sg_reader.specs.Rest.{Fails, IsTrailing};
 
 use super::general::read_general;
 use super::header::{Header, read_header};
@@ -16,8 +13,7 @@ use super::rows::Rows;
 use sg_model::{Fault, Instance, Refusal};
 use std::alloc::Global;
 
-/// Reads an instance from the records of a text, and gives it with the number of `csv` records of the
-/// text up to and with its `end`. Those behind the `end` are left.
+/// Reads an instance from the records of a text. Those behind its `end` are left.
 ///
 /// Byte-order marks at the front are passed over. Of each record the fields are trimmed of spaces and
 /// tabs, and the empty fields at the end are dropped; blank records and those whose first field
@@ -36,18 +32,17 @@ use std::alloc::Global;
 /// is the second, `BadNumber`; of couplings `BadNumber`; of a bond `BadShape`, `BadNumber`,
 /// `TooManyBonds`, `SelfBond`; of a rotation `BadShape`, `BadNumber`, `BadShape` where its spin has
 /// one; of another record of a general instance `UnknownKind`; of the `end` `BadShape`,
-/// `CouplingCount` for a lattice, `BadRotation`, `BadSeam`. `Unended` where the records run out.
-/// `NoMemory` may come at any time. What was read is gone then too, and what stands behind it is left.
+/// `CouplingCount` for a lattice, `BadRotation`, `BadSeam`. What stands behind that record is left.
+/// `Unended` where the records run out. `NoMemory` may come at any time, and some records are left then,
+/// perhaps none.
 ///
 /// The time is linear in the bytes, and the memory is that of the instance and of the longest record.
-pub fn read_instance(alloc: Global, rows: &mut Rows<'_>) -> Result<(Instance, u32), Fault>
-    ensures read { IfOk result (λ r. ReadsInstance rows.old r.0 r.1) }
-    ensures left { IfOk result (λ r. Leaves rows.old rows.new r.1) }
-    ensures instance { IfOk result (λ r. IsInstance r.0) }
-    ensures few_spins { IfOk result (λ r. (r.0).n ≤ spin_limit) }
-    ensures few_bonds { IfOk result (λ r. bond_count r.0 ≤ bond_limit) }
-    ensures fault { IfErr result (OrNoMemory (RefusesInstance rows.old)) }
-    ensures rest { IsRest rows.old rows.new }
+pub fn read_instance(alloc: Global, rows: &mut Rows<'_>) -> Result<Instance, Fault>
+    ensures read { IfOk result (λ inst. ReadsInstance rows.old inst rows.new) }
+    ensures instance { IfOk result IsInstance }
+    ensures few_spins { IfOk result (λ inst. inst.n ≤ spin_limit) }
+    ensures few_bonds { IfOk result (λ inst. bond_count inst ≤ bond_limit) }
+    ensures fault { IfErr result (Fails (RefusesInstance rows.old) rows.old rows.new) }
 {
     let mut row = Row::new(alloc);
     if !rows.next(&mut row)? {
@@ -66,19 +61,41 @@ pub fn read_instance(alloc: Global, rows: &mut Rows<'_>) -> Result<(Instance, u3
 /// Whether no record of a text is left.
 ///
 /// # Errors
-/// `Trailing` with the first of those that are left; those behind it are left then. `NoMemory`; none is
-/// left then.
+/// `Trailing` with the first of those that are left; those behind it are left then. `NoMemory`.
 ///
 /// The time is linear in the bytes that are left, and the memory that of the longest record.
 pub fn no_more(alloc: Global, rows: &mut Rows<'_>) -> Result<(), Fault>
-    ensures none { OnOk result (left_fault rows.old ≡ None) }
+    ensures none { OnOk result (rows.old ≡ []) }
     ensures left { OnOk result (rows.new ≡ []) }
-    ensures fault { IfErr result (OrNoMemory (Refuses (left_fault rows.old))) }
-    ensures behind { IfErr result (LeavesBehind rows.old rows.new) }
+    ensures fault { IfErr result (Fails (IsTrailing rows.old) rows.old rows.new) }
 {
     let mut row = Row::new(alloc);
     if rows.next(&mut row)? {
         return Err(Fault::Refused(Refusal::Trailing { at: row.at() }));
     }
     Ok(())
+}
+
+/// What a reading gave, where it left no record.
+///
+/// # Errors
+/// That of the reading; else those of `no_more`.
+pub fn alone<T: Drop>(
+    alloc: Global,
+    given: Result<T, Fault>,
+    rows: &mut Rows<'_>,
+) -> Result<T, Fault>
+    ensures value { IfOk result (λ x. given ≡ Ok x) }
+    ensures none { OnOk result (rows.old ≡ []) }
+    ensures left { OnOk result (rows.new ≡ []) }
+    ensures fault { IfErr result (λ e. MatchResult given (λ x. Fails (IsTrailing rows.old) rows.old rows.new e)
+        (λ why. (e ≡ why) × (rows.new ≡ rows.old))) }
+{
+    match given {
+        Ok(value) => match no_more(alloc, rows) {
+            Ok(()) => Ok(value),
+            Err(fault) => Err(fault),
+        },
+        Err(fault) => Err(fault),
+    }
 }

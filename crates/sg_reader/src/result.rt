@@ -1,17 +1,19 @@
-ghost use Rattle.std.specs.Prelude.{◌≡◌, ◌<◌, ◌≤◌, ◌∷◌, None, length, IfOk, IfErr};
+ghost use Rattle.std.specs.Prelude.{◌≡◌, ◌<◌, ◌≤◌, ◌∷◌, [], None, length, IfOk, IfErr};
 ghost use Rattle.std.specs.List.{sum_by};
 ghost use Rattle.sg_limits.specs.Limits.{text_limit};
 ghost use Rattle.sg_reader.specs.Body.{numbers_from};
-ghost use Rattle.sg_reader.specs.Ended.{StatesToEnd, RefusesRecords};
+ghost use Rattle.sg_reader.specs.Ended.{RefusesRecords, StatesToEnd};
+ghost use Rattle.sg_reader.specs.Holds.{HoldsLoops};
 ghost use Rattle.sg_reader.specs.Kept.{Kept};
-ghost use Rattle.sg_reader.specs.Leaves.{IsRest, Leaves};
-ghost use Rattle.sg_reader.specs.Result.{energy_fault, loop_fault, stated_loop, loops_fault, stated_loops, spins_fault};
+ghost use Rattle.sg_reader.specs.Rest.{Fails};
+ghost use Rattle.sg_reader.specs.Result.{energy_fault, loop_fault, stated_loop, loops_fault, result_fault, stated_loops, spins_fault};
 ghost use Rattle.sg_reader.specs.ReadResult.{ReadsResult, RefusesResult};
 ghost use Rattle.sg_draft.specs.Tests.{Refuses};
 ghost use Rattle.sg_reader.specs.Tests.{number_in};
 ghost use Rattle.sg_model.specs.Faults.{OrNoMemory};
 
-use super::body::{END, bare_end, indices};
+use super::body::{bare_end, indices};
+use super::ended::{Gather, read_to_end};
 use super::range::Range;
 use super::row::Row;
 use super::rows::Rows;
@@ -82,8 +84,7 @@ fn next_energy(rows: &mut Rows<'_>, row: &mut Row) -> Result<i64, Fault>
     ensures split { IfOk result (λ e. rows.old ≡ row.new ∷ rows.new) }
     ensures passes { IfOk result (λ e. energy_fault row.new ≡ None) }
     ensures value { IfOk result (λ e. e ≡ number_in row.new 1) }
-    ensures fault { IfErr result (OrNoMemory (RefusesResult rows.old)) }
-    ensures rest { IsRest rows.old rows.new }
+    ensures fault { IfErr result (Fails (RefusesResult rows.old) rows.old rows.new) }
 {
     if !rows.next(row)? {
         return Err(Fault::Refused(Refusal::Unended));
@@ -99,9 +100,8 @@ fn next_spins(alloc: Global, rows: &mut Rows<'_>, row: &mut Row) -> Result<Spins
     ensures value { IfOk result (λ s. s ≡ numbers_from row.new 1) }
     ensures count { IfOk result (λ s. length s < text_limit) }
     ensures few { IfOk result (λ s. sum_by (λ r. length r.fields) rows.new ≤ text_limit) }
-    ensures fault { IfErr result (λ e. (energy : Kept) → energy_fault energy ≡ None →
-        OrNoMemory (RefusesResult (energy ∷ rows.old)) e) }
-    ensures rest { IsRest rows.old rows.new }
+    ensures fault { IfErr result (λ e. (energy : Kept) →
+        Fails (RefusesRecords (λ body. result_fault (energy ∷ body)) rows.old) rows.old rows.new e) }
 {
     if !rows.next(row)? {
         return Err(Fault::Refused(Refusal::Unended));
@@ -109,29 +109,40 @@ fn next_spins(alloc: Global, rows: &mut Rows<'_>, row: &mut Row) -> Result<Spins
     read_spins(alloc, row)
 }
 
-// The loops up to the `end`, with the number of records of the text up to and with it.
-fn read_loops(alloc: Global, rows: &mut Rows<'_>, row: &mut Row) -> Result<(Loops, u32), Fault>
-    requires { sum_by (λ r. length r.fields) rows.old ≤ text_limit }
-    ensures read { IfOk result (λ r. StatesToEnd loops_fault stated_loops rows.old r.0 r.1) }
-    ensures left { IfOk result (λ r. Leaves rows.old rows.new r.1) }
-    ensures few { IfOk result (λ r. length r.0 < text_limit) }
-    ensures fault { IfErr result (OrNoMemory (RefusesRecords loops_fault rows.old)) }
-    ensures rest { IsRest rows.old rows.new }
-{
-    let mut loops = Loops::new(alloc);
-    while rows.next(row)? {
-        if row.begins(END) {
-            bare_end(row)?;
-            return Ok((loops, row.at() + 1));
-        }
-        let entry = read_loop(alloc, row)?;
-        loops.push(entry)?;
-    }
-    Err(Fault::Refused(Refusal::Unended))
+/// The loops so far.
+#[derive(Drop)]
+pub(crate) struct LoopsBody {
+    loops: Loops,
 }
 
-/// Reads a result from the records of a text, and gives it with the number of `csv` records of the
-/// text up to and with its `end`. Those behind the `end` are left.
+impl Gather for LoopsBody {
+    ghost tests = { λ start. loops_fault };
+
+    ghost holds = { HoldsLoops };
+
+    fn take(&mut self, alloc: Global, row: &Row) -> Result<(), Fault> {
+        let entry = read_loop(alloc, row)?;
+        self.loops.push(entry)?;
+        Ok(())
+    }
+}
+
+// The loops up to the `end`.
+fn read_loops(alloc: Global, rows: &mut Rows<'_>, row: &mut Row) -> Result<Loops, Fault>
+    requires { sum_by (λ r. length r.fields) rows.old ≤ text_limit }
+    ensures read { IfOk result (λ loops. StatesToEnd loops_fault stated_loops rows.old loops rows.new) }
+    ensures few { IfOk result (λ loops. length loops < text_limit) }
+    ensures fault { IfErr result (Fails (RefusesRecords loops_fault rows.old) rows.old rows.new) }
+{
+    let mut body = LoopsBody {
+        loops: Loops::new(alloc),
+    };
+    read_to_end(alloc, rows, row, &mut body)?;
+    bare_end(row)?;
+    Ok(body.loops)
+}
+
+/// Reads a result from the records of a text. Those behind its `end` are left.
 ///
 /// The records count as those of an instance do. The first is `energy,E`; the second is `spins,S,..`
 /// with the value 1 or -1 of each spin; then come the loops, each `loop,Y,B,..` with its weight and
@@ -140,27 +151,24 @@ fn read_loops(alloc: Global, rows: &mut Rows<'_>, row: &mut Row) -> Result<(Loop
 /// # Errors
 /// The refusal of the first record that fails a test, and of its tests the first that fails:
 /// `UnknownKind` for another word than may stand in its place; `BadShape` for an energy without its
-/// one number, a loop without a weight, an `end` with a number; `BadNumber`. `Unended` where the
-/// records run out. `NoMemory` may come at any time. What was read is gone then too, and what stands
-/// behind it is left.
+/// one number, a loop without a weight, an `end` with a number; `BadNumber`. What stands behind that
+/// record is left. `Unended` where the records run out. `NoMemory` may come at any time, and some
+/// records are left then, perhaps none.
 ///
 /// The time is linear in the bytes, and the memory is that of the result and of the longest record.
-pub fn read_result(alloc: Global, rows: &mut Rows<'_>) -> Result<(ResultText, u32), Fault>
-    ensures read { IfOk result (λ r. ReadsResult rows.old r.0 r.1) }
-    ensures left { IfOk result (λ r. Leaves rows.old rows.new r.1) }
-    ensures few_spins { IfOk result (λ r. length r.0.spins < text_limit) }
-    ensures few_loops { IfOk result (λ r. length r.0.loops < text_limit) }
-    ensures fault { IfErr result (OrNoMemory (RefusesResult rows.old)) }
-    ensures rest { IsRest rows.old rows.new }
+pub fn read_result(alloc: Global, rows: &mut Rows<'_>) -> Result<ResultText, Fault>
+    ensures read { IfOk result (λ text. ReadsResult rows.old text rows.new) }
+    ensures few_spins { IfOk result (λ text. length text.spins < text_limit) }
+    ensures few_loops { IfOk result (λ text. length text.loops < text_limit) }
+    ensures fault { IfErr result (Fails (RefusesResult rows.old) rows.old rows.new) }
 {
     let mut row = Row::new(alloc);
     let energy = next_energy(rows, &mut row)?;
     let spins = next_spins(alloc, rows, &mut row)?;
-    let (loops, next) = read_loops(alloc, rows, &mut row)?;
-    let text = ResultText {
+    let loops = read_loops(alloc, rows, &mut row)?;
+    Ok(ResultText {
         energy,
         spins,
         loops,
-    };
-    Ok((text, next))
+    })
 }

@@ -290,7 +290,7 @@ fn reads_as(alloc: Global, input: &[u8]) -> Result<Option<String>, AllocError> {
         return Ok(None);
     }
     match read_instance(alloc, &mut Rows::new(alloc, input)) {
-        Ok((inst, _)) => Ok(Some(written(alloc, &inst)?)),
+        Ok(inst) => Ok(Some(written(alloc, &inst)?)),
         Err(Fault::Refused(_)) => Ok(None),
         Err(Fault::NoMemory) => Err(AllocError),
     }

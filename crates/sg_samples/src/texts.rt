@@ -9,6 +9,5 @@ pub fn instance(alloc: Global, text: &str) -> Result<Instance, Fault> {
     if bytes.len() > 1000 {
         return Err(Fault::NoMemory);
     }
-    let (instance, _) = read_instance(alloc, &mut Rows::new(alloc, bytes))?;
-    Ok(instance)
+    read_instance(alloc, &mut Rows::new(alloc, bytes))
 }

@@ -33,7 +33,7 @@ pub(crate) const WORKED: [&str; 14] = [
 // The instance of a text.
 pub(crate) fn instance(rt: &impl Abort, alloc: Global, text: &str) -> Result<Instance, Fail> {
     assert!(rt; text.len() < 100_000);
-    let (inst, _) = read_instance(alloc, &mut Rows::new(alloc, text.as_bytes()))?;
+    let inst = read_instance(alloc, &mut Rows::new(alloc, text.as_bytes()))?;
     Ok(inst)
 }
 

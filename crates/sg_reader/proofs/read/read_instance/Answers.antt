@@ -1,83 +1,58 @@
-use Rattle.std.proofs.Common.{Some, ◌∙◌, ap, arith, subst}
+use Rattle.std.proofs.Common.{Some, ◌∙◌, ap, arith, refl, subst}
 use Rattle.std.proofs.lemmas.Result.{IfErr-weaker, IfOk-weaker, err_from_is_err_and}
 use Rattle.sg_reader.specs.declared.header.Header.TheVariants as header
 use Rattle.sg_reader.specs.Header.{IsHeader}
-use Rattle.sg_reader.proofs.LeftLaws.{leaves-behind, rest-next, rest-on}
-use Rattle.sg_reader.proofs.ReadLaws.{behind-fault, first-fault}
+use Rattle.sg_reader.specs.ReadInstance.{AtFirst, WithoutFirst}
+use Rattle.sg_reader.proofs.ReadLaws.{behind-fault}
+use Rattle.sg_reader.proofs.RestLaws.{rest-none}
 use Rattle.sg_reader.proofs.read.read_instance.Goals as goal
+
+pub returns-in_err-next-clause-fault : goal.returns-in_err-next-clause-fault
+returns-in_err-next-clause-fault c =
+    let p = err_from_is_err_and c.from_residual.result c.from_residual.ensures.1 in
+    rw (p.1, p.2) (rest-none c.args.rows.now c.next.new.self c.in_err-next.ensures.failed)
+
+pub returns-then-not-branch-clause-fault : goal.returns-then-not-branch-clause-fault
+returns-then-not-branch-clause-fault c =
+    let none = rw c.if-not-branch.true at c.in_ok-next.ensures.found in
+    WithoutFirst none.0 refl none.1
 
 pub returns-in_err-kind-clause-fault : goal.returns-in_err-kind-clause-fault
 returns-in_err-kind-clause-fault c =
     let p = err_from_is_err_and c.from_residual-in_err-kind.result c.from_residual-in_err-kind.ensures.1 in
     let next = rw c.if-not-branch.false at c.in_ok-next.ensures.found in
-    rw (p.1, p.2) (first-fault c.args.rows.now c.next.new.row c.next.new.self c.in_err-kind.field-0.0 next c.in_err-kind.ensures.refused)
+    rw (p.1, p.2) (AtFirst c.next.new.row next c.in_err-kind.ensures.refused)
 
 pub returns-in-Lattice-clause-fault : goal.returns-in-Lattice-clause-fault
 returns-in-Lattice-clause-fault c =
     let next = rw c.if-not-branch.false at c.in_ok-next.ensures.found in
     let says = c.in_ok-kind.ensures.value ∙ ap Some c.in-Lattice.is in
     IfErr-weaker c.read_lattice.result _ _
-    (λ e fault. behind-fault c.args.rows.now c.next.new.row c.next.new.self (header.Lattice c.in-Lattice.kind c.in-Lattice.high c.in-Lattice.wide) e
-    next c.in_ok-kind.ensures.passes says fault)
-    c.read_lattice.ensures.fault
+    (λ e fault. behind-fault c.args.rows.now c.next.new.row c.next.new.self (header.Lattice c.in-Lattice.kind c.in-Lattice.high c.in-Lattice.wide)
+    c.read_lattice.new.records e next c.in_ok-kind.ensures.passes says fault) c.read_lattice.ensures.fault
 
 pub returns-clause-fault : goal.returns-clause-fault
 returns-clause-fault c =
     let next = rw c.if-not-branch.false at c.in_ok-next.ensures.found in
     let says = c.in_ok-kind.ensures.value ∙ ap Some c.in-General.is in
     IfErr-weaker c.read_general.result _ _
-    (λ e fault. behind-fault c.args.rows.now c.next.new.row c.next.new.self (header.General c.in-General.n) e
-    next c.in_ok-kind.ensures.passes says fault)
-    c.read_general.ensures.fault
+    (λ e fault. behind-fault c.args.rows.now c.next.new.row c.next.new.self (header.General c.in-General.n)
+    c.read_general.new.records e next c.in_ok-kind.ensures.passes says fault) c.read_general.ensures.fault
 
 pub returns-in-Lattice-clause-few_spins : goal.returns-in-Lattice-clause-few_spins
 returns-in-Lattice-clause-few_spins c =
     let sound : IsHeader (header.Lattice c.in-Lattice.kind c.in-Lattice.high c.in-Lattice.wide) = subst IsHeader c.in-Lattice.is c.in_ok-kind.ensures.sound in
     let few = sound.1 in
-    IfOk-weaker c.read_lattice.result _ _ (λ r spins. omega (arith, spins, few)) c.read_lattice.ensures.spins
+    IfOk-weaker c.read_lattice.result _ _ (λ inst spins. omega (arith, spins, few)) c.read_lattice.ensures.spins
 
 pub returns-in-Lattice-clause-few_bonds : goal.returns-in-Lattice-clause-few_bonds
 returns-in-Lattice-clause-few_bonds c =
     let sound : IsHeader (header.Lattice c.in-Lattice.kind c.in-Lattice.high c.in-Lattice.wide) = subst IsHeader c.in-Lattice.is c.in_ok-kind.ensures.sound in
     let few = sound.1 in
-    IfOk-weaker c.read_lattice.result _ _ (λ r bonds. omega (arith, bonds, few)) c.read_lattice.ensures.bonds
+    IfOk-weaker c.read_lattice.result _ _ (λ inst bonds. omega (arith, bonds, few)) c.read_lattice.ensures.bonds
 
 pub returns-clause-few_spins : goal.returns-clause-few_spins
 returns-clause-few_spins c =
     let sound : IsHeader (header.General c.in-General.n) = subst IsHeader c.in-General.is c.in_ok-kind.ensures.sound in
     let few = sound.1 in
-    IfOk-weaker c.read_general.result _ _ (λ r spins. omega (arith, spins, few)) c.read_general.ensures.spins
-
-pub returns-in-Lattice-clause-left : goal.returns-in-Lattice-clause-left
-returns-in-Lattice-clause-left c =
-    let next = rw c.if-not-branch.false at c.in_ok-next.ensures.found in
-    IfOk-weaker c.read_lattice.result _ _
-    (λ r left. leaves-behind c.args.rows.now c.next.new.self c.read_lattice.new.records c.next.new.row r.1 next left) c.read_lattice.ensures.left
-
-pub returns-clause-left : goal.returns-clause-left
-returns-clause-left c =
-    let next = rw c.if-not-branch.false at c.in_ok-next.ensures.found in
-    IfOk-weaker c.read_general.result _ _
-    (λ r left. leaves-behind c.args.rows.now c.next.new.self c.read_general.new.records c.next.new.row r.1 next left) c.read_general.ensures.left
-
-pub returns-in_err-next-clause-rest : goal.returns-in_err-next-clause-rest
-returns-in_err-next-clause-rest c =
-    rest-next c.next.result c.args.rows.now c.next.new.self c.next.new.row c.next.ensures.found c.next.ensures.failed
-
-pub returns-then-not-branch-clause-rest : goal.returns-then-not-branch-clause-rest
-returns-then-not-branch-clause-rest c =
-    rest-next c.next.result c.args.rows.now c.next.new.self c.next.new.row c.next.ensures.found c.next.ensures.failed
-
-pub returns-in_err-kind-clause-rest : goal.returns-in_err-kind-clause-rest
-returns-in_err-kind-clause-rest c =
-    rest-next c.next.result c.args.rows.now c.next.new.self c.next.new.row c.next.ensures.found c.next.ensures.failed
-
-pub returns-in-Lattice-clause-rest : goal.returns-in-Lattice-clause-rest
-returns-in-Lattice-clause-rest c =
-    rest-on c.args.rows.now c.next.new.self c.read_lattice.new.records
-    (rest-next c.next.result c.args.rows.now c.next.new.self c.next.new.row c.next.ensures.found c.next.ensures.failed) c.read_lattice.ensures.rest
-
-pub returns-clause-rest : goal.returns-clause-rest
-returns-clause-rest c =
-    rest-on c.args.rows.now c.next.new.self c.read_general.new.records
-    (rest-next c.next.result c.args.rows.now c.next.new.self c.next.new.row c.next.ensures.found c.next.ensures.failed) c.read_general.ensures.rest
+    IfOk-weaker c.read_general.result _ _ (λ inst spins. omega (arith, spins, few)) c.read_general.ensures.spins

@@ -1,24 +1,32 @@
-use Rattle.std.proofs.Common.{◌≡◌, [], ℕ, List, Option, sym, ◌∙◌, ap}
-use Rattle.std.specs.Prelude.{unwrap_or}
-use Rattle.sg_graph_text.specs.Graph.{terminals_of}
-use Rattle.sg_graph_text.proofs.BodyLaws.{graph-held, sound-held}
+use Rattle.std.proofs.Common.{◌∙◌, ℕ, List, ap, sym}
+use Rattle.std.proofs.lemmas.Result.{err_from_is_err_and}
+use Rattle.sg_graph_text.specs.Graph.{terminals_fault, terminals_of}
+use Rattle.sg_graph_text.proofs.BodyLaws.{end-bare, end-passes, end-terminals, graph-held, sound-held}
 use Rattle.sg_graph_text.proofs.body.GraphBody.graph.Goals as goal
-use Rattle.sg_graph_text.proofs.body.GraphBody.graph.Goals.{in-Some, in-None}
+
+pub returns-in_err-bare_end-clause-fault : goal.returns-in_err-bare_end-clause-fault
+returns-in_err-bare_end-clause-fault c =
+    let p = err_from_is_err_and c.from_residual.result c.from_residual.ensures.1 in
+    rw (p.1, p.2) (end-bare c.args.self c.args.row.now c.in_err-bare_end.field-0.0 c.requires.end c.in_err-bare_end.ensures.refused)
+
+pub returns-in_err-terminals-clause-fault : goal.returns-in_err-terminals-clause-fault
+returns-in_err-terminals-clause-fault c =
+    let p = err_from_is_err_and c.from_residual-in_err-terminals.result c.from_residual-in_err-terminals.ensures.1 in
+    let bad = rw (c.as_slice.ensures, c.entries_or_none-entries.ensures) at c.in_err-terminals.ensures.fault in
+    rw (p.1, p.2) (end-terminals c.args.self c.args.row.now c.in_err-terminals.field-0.0 c.requires.end c.in_ok-bare_end.ensures.passes bad)
+
+pub returns-clause-passes : goal.returns-clause-passes
+returns-clause-passes c =
+    end-passes c.args.self c.args.row.now c.requires.end c.in_ok-bare_end.ensures.passes
+    (ap (terminals_fault c.args.self.nodes) (sym (c.as_slice.ensures ∙ c.entries_or_none-entries.ensures)) ∙ c.in_ok-terminals.ensures.passes)
 
 pub returns-clause-value : goal.returns-clause-value
 returns-clause-value c =
-    let cut : c.match-entries.entries ≡ unwrap_or c.args.self.entries [] = elim c.match-entries.branch [
-      | in-Some w ↦ w.entries-is ∙ sym (ap (λ (o : Option (List ℕ)). unwrap_or o []) w.in-Some.is)
-      | in-None w ↦ w.entries-is ∙ w.new-entries.ensures ∙ sym (ap (λ (o : Option (List ℕ)). unwrap_or o []) w.in-None.is)
-    ] in
-    let value = c.in_ok-terminals.ensures.value ∙ ap (terminals_of c.args.self.nodes) (c.as_slice.ensures ∙ cut) in
-    λ body h. graph-held body c.args.self c.in_ok-terminals.terminals h value
+    graph-held c.args.self c.in_ok-terminals.terminals
+    (c.in_ok-terminals.ensures.value ∙ ap (terminals_of c.args.self.nodes) (c.as_slice.ensures ∙ c.entries_or_none-entries.ensures))
 
 pub returns-clause-sound : goal.returns-clause-sound
 returns-clause-sound c =
-    let cut : c.match-entries.entries ≡ unwrap_or c.args.self.entries [] = elim c.match-entries.branch [
-      | in-Some w ↦ w.entries-is ∙ sym (ap (λ (o : Option (List ℕ)). unwrap_or o []) w.in-Some.is)
-      | in-None w ↦ w.entries-is ∙ w.new-entries.ensures ∙ sym (ap (λ (o : Option (List ℕ)). unwrap_or o []) w.in-None.is)
-    ] in
-    let value = c.in_ok-terminals.ensures.value ∙ ap (terminals_of c.args.self.nodes) (c.as_slice.ensures ∙ cut) in
-    sound-held c.requires.held.0 c.args.self c.in_ok-terminals.terminals c.requires.held.1 value c.requires.some c.requires.few c.in_ok-terminals.ensures.even
+    sound-held c.args.self c.in_ok-terminals.terminals
+    (c.in_ok-terminals.ensures.value ∙ ap (terminals_of c.args.self.nodes) (c.as_slice.ensures ∙ c.entries_or_none-entries.ensures))
+    c.in_ok-terminals.ensures.even c.requires.held

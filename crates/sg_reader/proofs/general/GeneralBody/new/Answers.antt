@@ -7,7 +7,7 @@ use Rattle.sg_reader.proofs.general.GeneralBody.new.Goals as goal
 pub returns-clause-holds : goal.returns-clause-holds
 returns-clause-holds c =
     let all : c.loop-spin._spin ≡ c.args.n = omega arith in
-    holds-none _ c.new-2.ensures refl (c.loop-spin.invariant.darts ∙ ap (λ (k : ℕ). map (darts_in []) (range_with_len 0 k)) all)
+    holds-none _ c.requires c.new-2.ensures refl (c.loop-spin.invariant.darts ∙ ap (λ (k : ℕ). map (darts_in []) (range_with_len 0 k)) all)
     (c.loop-spin.invariant.marks ∙ ap (λ (k : ℕ). map (has_rot []) (range_with_len 0 k)) all)
 
 pub loop-spin-preserved : goal.loop-spin-preserved
