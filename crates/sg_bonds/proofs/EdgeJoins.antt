@@ -16,7 +16,7 @@ use Rattle.sg_sums.proofs.RisingLists.{chosen_below_low, chosen_below_rises, hol
 use Rattle.sg_sums.proofs.SumLaws.{sum_below-add, sum_below-same, sum_below_pick}
 use Rattle.sg_graph.specs.declared.web.Edge.{Edge}
 use Rattle.sg_graph.specs.Web.{Graph, edge_at, edge_count, edge_weight, ends_at, total_weight, weight_at, weight_of, with_weight}
-use Rattle.sg_graph.specs.Join.{AreTerminals, IsJoin, IsLeastJoin}
+use Rattle.sg_graph.specs.Join.{IsJoin, IsLeastJoin}
 use Rattle.sg_graph.proofs.Joins.{ends_parity, odd_from_cond}
 use Rattle.sg_graph.proofs.OddLists.{chosen_below-parity, chosen_below-weight}
 use Rattle.sg_bonds.specs.JoinsWith.{IsLeastJoinWith, turned_at, with_edge}
@@ -128,10 +128,6 @@ module _ (g : Graph) (k : ℕ) (inside : k < edge_count g) (w : ℤ) where
   -- it weighs no more than it did with the new weight
   pub heavy_light : total_weight (with_weight g k w) ≤ total_weight g + unsigned_abs w
   heavy_light = omega (arith, sum_by-set weight_at g.edges k (record (edge_at g k) { w = w }) (record { a = 0; b = 0; w = pos 0 }) inside)
-
-  -- terminals stay such where an edge has another weight
-  pub heavy_terminals : (terminals : List ℕ) → AreTerminals g terminals → AreTerminals (with_weight g k w) terminals
-  heavy_terminals terminals are = record { rising = are.rising; below = are.below }
 
   module _ (terminals : List ℕ) (has : Bool) where
     abbrev at_ends : ℕ → Bool

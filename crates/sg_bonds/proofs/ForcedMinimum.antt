@@ -87,9 +87,6 @@ module _ (inst : Ising) (good : IsInstance inst) (k : ℕ) (inside : k < bond_co
       turned r e x q h = omega (arith, ints)
 
   module _ (p : ℤ) (up : IsUpOrDown p) (m : ℕ) (large : weight inst < m) where
-    abbrev forced : Ising
-    forced = with_coupling inst k (p *ℤ pos m)
-
     new_energy : (s : List ℤ) → energy (with_coupling inst k (p *ℤ pos m)) s ≡ rest s -ℤ ((p *ℤ pos m) *ℤ product s (bond_at inst k))
     new_energy s = turned (rest s) (energy inst s) ((bond_at inst k).j *ℤ product s (bond_at inst k)) ((p *ℤ pos m) *ℤ product s (bond_at inst k))
         (energy (with_coupling inst k (p *ℤ pos m)) s) (old_energy s) (energy_coupled inst k (p *ℤ pos m) s inside)

@@ -1,10 +1,10 @@
 -- Bounds of costs: who turns a bond turns some bond of each path that joins its ends, so the bond costs at least as much as the
 -- cheapest bond of the path; and an assignment that turns it bounds its cost from above.
-use Rattle.std.proofs.Common.{◌≡◌, ◌≢◌, ◌⊎◌, inl, inr, ℕ, ◌<◌, Bool, true, ℤ, pos, negsuc, neg_ℤ, ◌+ℤ◌, ◌-ℤ◌, ◌≤ℤ◌, List, refl, sym, ◌∙◌, ap, subst, arith, length, set, replicate, [], ◌∷◌}
+use Rattle.std.proofs.Common.{◌≡◌, ◌≢◌, ◌⊎◌, inl, inr, ℕ, ◌<◌, Bool, true, ℤ, pos, negsuc, neg_ℤ, ◌+ℤ◌, ◌-ℤ◌, ◌≤ℤ◌, List, refl, sym, ◌∙◌, ap, subst, arith, set, [], ◌∷◌}
 use Rattle.std.specs.Prelude.{unsigned_abs}
 use Rattle.std.proofs.lemmas.Bool.{cases_eq}
 use Rattle.std.proofs.lemmas.Int.{ints}
-use Rattle.std.proofs.lemmas.List.{get_or-set_same, get_or-set_other, length-set, get_or-replicate, length-replicate}
+use Rattle.std.proofs.lemmas.List.{get_or-set_same, get_or-set_other, length-set}
 use Rattle.sg_model.specs.Ising.{Ising, bond_at, bond_count}
 use Rattle.sg_model.specs.WellFormed.{IsInstance}
 use Rattle.sg_model.specs.Spins.{IsUpOrDown, IsAssignment}
@@ -19,9 +19,6 @@ use Rattle.sg_bonds.proofs.ForcedMinimum.{unit_product}
 use Rattle.sg_bonds.proofs.CostNumbers.{cost_from_other}
 
 module _ (inst : Ising) (good : IsInstance inst) (s : List ℤ) (ground : IsGroundState inst s) where
-  abbrev product_at : List ℤ → ℕ → ℤ
-  product_at t k = product t (bond_at inst k)
-
   -- an assignment that turns a bond lies at least its cost above the ground state
   pub turned_costs : (k : ℕ) (c : ℤ) (t : List ℤ) → IsCost inst k c → IsUpOrDown (product s (bond_at inst k)) → IsAssignment inst t
       → product t (bond_at inst k) ≡ neg_ℤ (product s (bond_at inst k)) → (energy inst s +ℤ c) ≤ℤ energy inst t
@@ -134,13 +131,6 @@ module _ (inst : Ising) (s : List ℤ) (known : List Known) (holds : AreKnown in
   noted_true k now cost t old h above turns turned (inl same) = subst (IsTrueOf inst s k) (sym same) old
   noted_true k now cost t old h above turns turned (inr (yes_turned, is)) =
       subst (IsTrueOf inst s k) (sym is) (t, record { assignment = h; turned = turned yes_turned; above = above })
-
--- nothing is known at first
-pub nothing_known : (inst : Ising) (s : List ℤ) (known : List Known) → known ≡ replicate (bond_count inst) Nothing → AreKnown inst s known
-nothing_known inst s known fresh = record {
-  count = ap length fresh ∙ length-replicate (bond_count inst) Nothing;
-  each = λ k l. subst (IsTrueOf inst s k) (sym (ap (λ ns. known_at ns k) fresh ∙ get_or-replicate (bond_count inst) k Nothing Nothing l)) tt;
-}
 
 -- a path over one set of bonds is one over a set that has them too
 pub reached_over : (inst : Ising) (set more : ℕ → Bool) → ((k : ℕ) → k < bond_count inst → set k ≡ true → more k ≡ true) → (a b : ℕ)

@@ -1,4 +1,4 @@
-ghost use Rattle.std.specs.Prelude.{◌≡◌, ◌↔◌, ◌+ℤ◌, ◌<◌, ◌≤◌, ◌<ℤ◌, pos, length, slice_index_or, IfOk, IfSome, OnOk, IsTrue};
+ghost use Rattle.std.specs.Prelude.{◌≡◌, ◌↔◌, ◌+ℤ◌, ◌<◌, ◌≤◌, ◌<ℤ◌, pos, IfOk, OnOk, IsTrue};
 ghost use Rattle.sg_limits.specs.Limits.{sum_limit};
 ghost use Rattle.sg_model.specs.Ising.{bond_count};
 ghost use Rattle.sg_model.specs.Spins.{IsAssignment};

@@ -110,10 +110,10 @@ fn force(planar: &Planar) -> i64
 }
 
 // A number with the sign of a product.
-fn signed(product: i64, x: i64) -> i64
+fn signed(product: i64, number: i64) -> i64
     requires up_or_down { IsUpOrDown product }
-    requires size { unsigned_abs x < 2 ^ 63 }
-    ensures { result ≡ product *ℤ x }
+    requires size { unsigned_abs number < 2 ^ 63 }
+    ensures { result ≡ product *ℤ number }
 {
-    if product == 1 { x } else { -x }
+    if product == 1 { number } else { -number }
 }

@@ -3,7 +3,7 @@ ghost use Rattle.std.specs.Prelude.{◌≡◌, ◌<◌, ℕ, true, false, length
 ghost use Rattle.sg_model.specs.Ising.{bond_at, bond_count};
 ghost use Rattle.sg_model.specs.Connected.{Reached};
 ghost use Rattle.sg_walk.specs.Walk.{has};
-ghost use Rattle.sg_bonds.specs.declared.known.Known.TheVariants.{AtMost, Nothing};
+ghost use Rattle.sg_bonds.specs.declared.known.Known.TheVariants.{AtMost};
 ghost use Rattle.sg_bonds.specs.Known.{IsMet, costs_at_least, known_at};
 
 use super::NoMemory;

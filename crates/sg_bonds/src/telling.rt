@@ -11,7 +11,7 @@ ghost use Rattle.sg_bonds.specs.declared.telling.Told.TheVariants.{Free, Rigid, 
 ghost use Rattle.sg_bonds.specs.Cost.{IsRigid};
 ghost use Rattle.sg_bonds.specs.Cluster.{HasRigid};
 ghost use Rattle.sg_bonds.specs.Loads.{LeavesRoom};
-ghost use Rattle.sg_bonds.specs.Told.{AreTold, told_at, told_rigid};
+ghost use Rattle.sg_bonds.specs.Told.{AreTold, told_rigid};
 
 use super::NoMemory;
 use super::breaking::turn;

@@ -5,11 +5,11 @@ use Rattle.std.specs.declared.cmp.Reverse.{Reverse}
 use Rattle.std.proofs.lemmas.List.{take_more}
 use Rattle.std.proofs.lemmas.List.Sorted.{IsPermutation-map}
 use Rattle.sg_graph.specs.declared.web.Edge.{Edge}
-use Rattle.sg_graph.specs.Web.{Graph, IsWeb, edge_at, edge_weight, total_weight}
+use Rattle.sg_graph.specs.Web.{Graph, edge_at, edge_weight, total_weight}
 use Rattle.sg_graph.specs.Walk.{Leads, other_end}
 use Rattle.sg_graph.specs.Incidence.{EndsAt}
 use Rattle.sg_graph.specs.Table.{Routes, is_reached, length_to}
-use Rattle.sg_graph.proofs.Walks.{leads_low, leads_other}
+use Rattle.sg_graph.proofs.Walks.{leads_other}
 use Rattle.sg_dist.specs.declared.candidate.Candidate.{Candidate}
 use Rattle.sg_dist.specs.Search.{Spreads, candidate_over, candidates}
 use Rattle.sg_dist.proofs.Steps.{Spreads-known, Spreads-more, outward}
@@ -25,10 +25,6 @@ module _ (g : Graph) (t : Routes) (node : ℕ) (list : List ℕ) (i other : ℕ)
       let far : other_end node (edge_at g this) ≡ other = sym (is ∙ ap
       (λ (es : List Edge). other_end node (get_or es this (record { a = 0; b = 0; w = pos 0 }))) same) in
       subst (λ z. Leads g this node z) far (leads_other g this node ends)
-
-  -- the other end of the edge is a node
-  pub other_in : IsWeb g → other < g.nodes
-  other_in web = (let l = leads_low g this node other web leads_to in l.1)
 
   -- the weight in the code is that of the edge
   pub weight_is : unsigned_abs (get_or edges this (record { a = 0; b = 0; w = pos 0 })).w ≡ edge_weight g this

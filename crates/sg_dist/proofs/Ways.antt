@@ -1,5 +1,5 @@
 -- The way back from a node to the source: it is the only one, it weighs the distance, and no edge stands in it twice.
-use Rattle.std.proofs.Common.{inl, inr, ◌≡◌, ◌≢◌, ◌⊎◌, ℕ, zero, suc, ◌+◌, ◌-◌, ◌<◌, true, None, Some, List, [], ◌∷◌, ◌++◌, reverse, refl, sym, ◌∙◌, ap, subst, arith, length, get_or}
+use Rattle.std.proofs.Common.{inl, inr, ◌≡◌, ◌≢◌, ◌⊎◌, ℕ, zero, suc, ◌+◌, ◌-◌, ◌<◌, true, Some, List, [], ◌∷◌, ◌++◌, reverse, refl, sym, ◌∙◌, ap, subst, arith, length, get_or}
 use Rattle.std.specs.List.{AllPairs}
 use Rattle.std.proofs.lemmas.List.{get_or-reverse, length-reverse, length_push, reverse-append}
 use Rattle.std.proofs.lemmas.List.Elements.{All-from_get_or}
@@ -126,10 +126,6 @@ module _ (g : Graph) (t : Routes) (is : IsTableOf g t) where
       let falls = way_falls es x t.source h w in
       omega (arith, falls.1, distance-itself g t.source (length_to t t.source) (distance_is g t is t.source (low t.source falls.0) falls.0))
 
-  -- at the start the way back is empty
-  pub Follows-first : (to : ℕ) → is_reached t to ≡ true → Follows g t to [] to
-  Follows-first to h = record { so_far = refl; reached = h; left = (let way = is.back to (low to h) h in (way.0, way.1, omega (arith, way.2))) }
-
   -- the next parent
   module _ (to at e : ℕ) (edges : List ℕ) (f : Follows g t to edges at) (parent : parent_at t at ≡ Some e) where
     first_left : (es : List ℕ) → IsWayBack g t at es t.source → length edges + length es < g.nodes
@@ -156,11 +152,3 @@ module _ (g : Graph) (t : Routes) (is : IsTableOf g t) where
       where
         push : (xs : List ℕ) (x : ℕ) → length (xs ++ x ∷ []) ≡ length xs + 1
         push xs x = length_push xs x
-
-  -- where there is no parent the way back has come to the source
-  pub Follows-last : (to at : ℕ) (edges : List ℕ) → Follows g t to edges at → parent_at t at ≡ None → IsWayBack g t to edges t.source
-  Follows-last to at edges f none = subst (λ n. IsWayBack g t to edges n) (last f.left.0 f.left.1) f.so_far
-    where
-      last : (es : List ℕ) → IsWayBack g t at es t.source → at ≡ t.source
-      last [] w = w
-      last (e ∷ es) w = absurd (let h : None ≡ Some e = sym none ∙ w.1 in cc)

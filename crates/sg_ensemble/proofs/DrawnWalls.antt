@@ -1,5 +1,5 @@
 -- Sample after sample from one stream.
-use Rattle.std.proofs.Common.{◌≡◌, inl, inr, ℕ, ℤ, pos, ◌+◌, ◌*◌, ◌<◌, ◌≤◌, List, [], ◌∷◌, ◌++◌, length, get_or, take, drop, refl, sym, ◌∙◌, ap, subst, arith, append_assoc, length-append, length-drop}
+use Rattle.std.proofs.Common.{◌≡◌, inl, inr, ℕ, ℤ, pos, ◌+◌, ◌*◌, ◌<◌, ◌≤◌, List, [], ◌∷◌, ◌++◌, length, get_or, take, drop, sym, ◌∙◌, ap, subst, arith, append_assoc, length-append, length-drop}
 use Rattle.std.proofs.Math.Nat.{mul-le-mul_right}
 use Rattle.std.proofs.Math.Seq.{drop-append_seam}
 use Rattle.std.proofs.lemmas.Bool.{cases_lt}
@@ -42,21 +42,6 @@ pub record IsDrawn (rows cols count : ℕ) (old new : ℕ → List ℤ) (walls :
   pub drawn : length draws ≡ count * draw_count rows cols
   pub goes_on : (c : ℕ) → old (count * draw_count rows cols + c) ≡ draws ++ new c
   pub are : AreWalls rows cols count draws walls
-
--- no sample yet
-pub none_drawn : (rows cols : ℕ) (old : ℕ → List ℤ) → IsDrawn rows cols 0 old old []
-none_drawn rows cols old = record {
-  draws = [];
-  drawn = none (draw_count rows cols);
-  goes_on = λ c. ap old (nothing (draw_count rows cols) c);
-  are = record { counted = refl; each = λ i l. absurd (omega (arith, l)) };
-}
-  where
-    none : (m : ℕ) → 0 ≡ 0 * m
-    none m = omega arith
-
-    nothing : (m c : ℕ) → 0 * m + c ≡ c
-    nothing m c = omega arith
 
 -- one more sample
 pub one_drawn : (rows cols count : ℕ) (old mid new : ℕ → List ℤ) (walls : List ℤ) (wall : ℤ) → IsDrawn rows cols count old mid walls

@@ -1,5 +1,5 @@
 -- One width after another.
-use Rattle.std.proofs.Common.{◌≡◌, inl, inr, ℕ, ℤ, pos, ◌+◌, ◌*◌, ◌<◌, List, [], ◌∷◌, ◌++◌, get_or, refl, sym, ◌∙◌, ap, subst, arith}
+use Rattle.std.proofs.Common.{◌≡◌, inl, inr, ℕ, ℤ, pos, ◌+◌, ◌*◌, ◌<◌, List, [], ◌∷◌, ◌++◌, get_or, sym, ◌∙◌, ap, subst, arith}
 use Rattle.std.proofs.lemmas.Bool.{cases_lt}
 use Rattle.std.proofs.lemmas.List.{get_or_append_left, get_or_push, length_push}
 use Rattle.sg_ensemble.specs.declared.by_width.Width.{Width}
@@ -19,10 +19,6 @@ same_stream rows cols count f g width same h = record {
   summed = h.summed;
   squared = h.squared;
 }
-
--- no width yet
-pub none_wide : (rows count : ℕ) (stream : ℕ → List ℤ) → AreWidths rows count stream 0 []
-none_wide rows count stream = record { counted = refl; each = λ k l. absurd (omega (arith, l)) }
 
 -- one more width
 pub one_wide : (rows count : ℕ) (stream : ℕ → List ℤ) (n : ℕ) (widths : List Width) (width : Width) → AreWidths rows count stream n widths

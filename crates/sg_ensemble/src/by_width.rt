@@ -1,4 +1,4 @@
-ghost use Rattle.std.specs.Prelude.{◌≡◌, ◌≤◌, ◌+◌, ◌-◌, ◌*◌, ℕ, IfOk, OnErr, OnOk};
+ghost use Rattle.std.specs.Prelude.{◌≡◌, ◌≤◌, ◌-◌, ◌*◌, ℕ, IfOk, OnErr, OnOk};
 ghost use Rattle.sg_laws.specs.Stream.{Draws};
 ghost use Rattle.sg_limits.specs.Limits.{sample_limit, spin_limit, width_limit};
 ghost use Rattle.sg_ensemble.specs.Samples.{DrawsSamples, IsCylinder, IsSpherical, IsStudied, draw_count};

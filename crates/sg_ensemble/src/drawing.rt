@@ -8,7 +8,7 @@ ghost use Rattle.sg_lattice.specs.Tables.{lattice};
 ghost use Rattle.sg_ensemble.specs.Samples.{DrawsSamples, HasWall, IsCylinder, IsSpherical, IsStudied, draw_count};
 
 use super::NoMemory;
-use sg_lattice::{Kind, bond_count, cylinder};
+use sg_lattice::{Kind, bond_count, build};
 use sg_laws::{Disorder, draws};
 use sg_model::{Couplings, Fault};
 use sg_planar::Planar;
@@ -21,7 +21,7 @@ pub fn drawing_of(alloc: Global, rows: u32, cols: u32) -> Result<Planar, NoMemor
     requires spherical { IsSpherical rows cols }
     ensures { IfOk result (λ p. IsCylinder rows cols p.instance) }
 {
-    let bare = cylinder(alloc, rows, cols, no_couplings(alloc, rows, cols)?)?;
+    let bare = build(alloc, Kind::Cylinder, rows, cols, no_couplings(alloc, rows, cols)?)?;
     match Planar::test(alloc, bare) {
         Ok(drawing) => Ok(drawing),
         Err(Fault::NoMemory) => Err(AllocError),

@@ -1,6 +1,6 @@
 -- A walk along one orbit that gives labels, until it comes back.
-use Rattle.std.proofs.Common.{inl, inr, ◌≡◌, ◌≢◌, ℕ, zero, suc, ◌+◌, ◌-◌, ◌^◌, ◌<◌, ◌≤◌, sum_by, Bool, true, false, cond, eqb, leb, replicate, List, set, refl, sym, ◌∙◌, ap, arith, length, get_or, count_by}
-use Rattle.std.proofs.lemmas.List.{map-id, length-replicate, get_or-replicate, length-set, get_or-set_same, get_or-set_other}
+use Rattle.std.proofs.Common.{inl, inr, ◌≡◌, ◌≢◌, ℕ, zero, suc, ◌+◌, ◌-◌, ◌^◌, ◌<◌, ◌≤◌, sum_by, Bool, true, false, cond, eqb, leb, List, set, refl, sym, ◌∙◌, ap, arith, length, get_or, count_by}
+use Rattle.std.proofs.lemmas.List.{map-id, length-set, get_or-set_same, get_or-set_other}
 use Rattle.std.proofs.lemmas.List.Sums.{list_all-from_AllPass, sum_by-set, count_by-le-length}
 use Rattle.std.proofs.lemmas.Bool.{eq-eqb, ne_eqb, cases_eq, cases_lt, le-leb, lt-leb, leb-true}
 use Rattle.sg_faces.specs.Tables.{table_value, IsMove, moves, is_least_of, least_before, unlabelled, HasLabel, Root, LabelsOrbits, IsOrbitLabels}
@@ -23,21 +23,6 @@ pub record Walking (table old labels : List ℕ) (start label at : ℕ) : Type 0
   pub given : (i : ℕ) → i < taken → (get_or labels (moves table i start) 0 ≡ label) × (get_or old (moves table i start) 0 ≡ unlabelled)
   pub apart : (i j : ℕ) → i < j → j < taken → moves table i start ≢ moves table j start
   pub left : taken + left_over labels ≡ left_over old
-
--- at the start nothing has the new label
-pub walking_none : (table old : List ℕ) (start label : ℕ) → length old ≡ length table → start < length table →
-    Walking table old old start label start
-walking_none table old start label long l = record {
-  taken = 0;
-  at_is = refl;
-  at_below = l;
-  lengths = long;
-  kept = λ x h. refl;
-  fresh = λ x b h u. absurd (h u);
-  given = λ i b. absurd (omega arith);
-  apart = λ i j b c. absurd (omega arith);
-  left = omega arith;
-}
 
 module _ (table old labels : List ℕ) (start label at : ℕ) (move : IsMove table) (w : Walking table old labels start label at)
     (free : get_or labels at 0 ≡ unlabelled) (room : label < unlabelled) where
@@ -345,15 +330,6 @@ later_limit table labels count at h = record {
     back = r.back;
     least = r.least;
   });
-}
-
--- at the start no place has a label
-pub no_labels : (table : List ℕ) → LabelsOrbits table (replicate (length table) unlabelled) 0 0
-no_labels table = record {
-  lengths = length-replicate (length table) unlabelled;
-  below = λ d b h. absurd (h (get_or-replicate (length table) d unlabelled 0 b));
-  onward = λ d b h. absurd (h (get_or-replicate (length table) d unlabelled 0 b));
-  roots = λ f b. absurd (omega arith);
 }
 
 -- at the end all orbits have their labels

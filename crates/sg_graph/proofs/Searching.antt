@@ -1,8 +1,8 @@
 -- A search from node 0, edge by edge and node by node.
-use Rattle.std.proofs.Common.{inl, inr, ⊎_elim, ◌≡◌, ◌≢◌, ℕ, ◌+◌, ◌<◌, ◌≤◌, Bool, true, false, cond, List, [], ◌∷◌, ◌++◌, set, take, replicate, All, Contains, refl, sym, ◌∙◌, ap, subst, arith, length, get_or, pos}
+use Rattle.std.proofs.Common.{inl, inr, ⊎_elim, ◌≡◌, ◌≢◌, ℕ, ◌+◌, ◌<◌, ◌≤◌, Bool, true, false, cond, List, [], ◌∷◌, ◌++◌, set, take, All, Contains, sym, ◌∙◌, ap, subst, arith, length, get_or, pos}
 use Rattle.std.proofs.lemmas.Bool.{cases_eq, cases_lt, false≢true, true≢false}
-use Rattle.std.proofs.lemmas.List.{length-set, length_push, get_or-set_same, get_or-set_other, get_or_append_left, get_or-replicate, get_or_past, length-replicate, get_or_default}
-use Rattle.std.proofs.lemmas.List.Elements.{All-cons, All-more, All-nil, All-push, All-weaker, Contains-append_left, Contains-push}
+use Rattle.std.proofs.lemmas.List.{length-set, length_push, get_or-set_same, get_or-set_other, get_or_append_left, get_or_past, get_or_default}
+use Rattle.std.proofs.lemmas.List.Elements.{All-more, All-push, All-weaker, Contains-append_left, Contains-push}
 use Rattle.std.proofs.lemmas.List.Sums.{sum_by-set}
 use Rattle.sg_sums.specs.Sets.{holds, is_marked}
 use Rattle.sg_graph.specs.declared.web.Edge.{Edge}
@@ -13,20 +13,6 @@ use Rattle.sg_sums.proofs.RisingLists.{All-holds}
 use Rattle.sg_graph.specs.Search.{MarksReached, VisitsEdges, unmarked}
 use Rattle.sg_graph.proofs.Walks.{leads_other, other_low, other_only, walk-append, walk-one}
 use Rattle.sg_graph.proofs.Incidences.{edges_at_leads}
-
--- over no edge nothing is marked or noted
-pub Visits-none : (g : Graph) (node : ℕ) (marks : List Bool) (found : List ℕ) → VisitsEdges g node [] marks marks found found
-Visits-none g node marks found = record {
-  count = refl;
-  kept = λ x h. h;
-  longer = omega arith;
-  stays = λ k l. refl;
-  sound = λ x h. inl h;
-  listed = λ x h. inl h;
-  noted = λ h. h;
-  spread = All-nil (λ e. is_marked marks (other_end node (edge_at g e)) ≡ true);
-  total = refl;
-}
 
 module _ (g : Graph) (node : ℕ) (list : List ℕ) (i : ℕ) (old marks : List Bool) (before found : List ℕ) (low : i < length list)
     (v : VisitsEdges g node (take i list) old marks before found) where
@@ -110,36 +96,6 @@ pub record Explores (g : Graph) (marks : List Bool) (found : List ℕ) (next : �
 -- a marked place is one of the list
 pub marked_low : (marks : List Bool) (x : ℕ) → is_marked marks x ≡ true → x < length marks
 marked_low marks x h = elim (cases_lt x (length marks)) [ inl l ↦ l | inr l ↦ absurd (false≢true (sym (get_or_past marks x false l) ∙ h)) ]
-
--- node 0 alone
-pub Explores-first : (g : Graph) (marks : List Bool) → 1 ≤ g.nodes → marks ≡ replicate g.nodes false → Explores g (set marks 0 true) (0 ∷ []) 0
-Explores-first g marks some is = record {
-  count = length-set marks 0 true ∙ count;
-  sound = λ x h. ([], sym (only x h));
-  noted = All-cons (λ x. is_marked (set marks 0 true) x ≡ true) 0 [] here (All-nil (λ x. is_marked (set marks 0 true) x ≡ true));
-  listed = λ x h. (0, omega arith, sym (only x h));
-  first = here;
-  spread = λ k e y l. absurd (omega arith);
-  within = omega arith;
-}
-  where
-    count : length marks ≡ g.nodes
-    count = ap length is ∙ length-replicate g.nodes false
-
-    here : is_marked (set marks 0 true) 0 ≡ true
-    here = get_or-set_same marks 0 true false (omega (arith, count))
-
-    only : (x : ℕ) → is_marked (set marks 0 true) x ≡ true → x ≡ 0
-    only x h = elim (cases_eq x 0) [
-      | inl e ↦ e
-      | inr ne ↦ absurd (false≢true (sym (none x) ∙ sym (get_or-set_other marks 0 x true false ne) ∙ h))
-    ]
-      where
-        none : (x : ℕ) → is_marked marks x ≡ false
-        none x = ap (λ (ms : List Bool). is_marked ms x) is ∙ elim (cases_lt x g.nodes) [
-          | inl l ↦ get_or-replicate g.nodes x false false l
-          | inr l ↦ get_or_past (replicate g.nodes false) x false (omega (arith, length-replicate g.nodes false))
-        ]
 
 -- the next node is spread
 pub Explores-more : (g : Graph) (old new : List Bool) (before after : List ℕ) (next node : ℕ) (lists : List (List ℕ)) → AreIncident g lists

@@ -1,5 +1,4 @@
-ghost use Rattle.std.specs.Prelude.{◌↔◌, ◌≡◌, ◌<◌, length, All, IfOk, IsTrue, MatchOption, OnOk};
-ghost use Rattle.sg_graph.specs.Web.{Graph, IsEdge};
+ghost use Rattle.std.specs.Prelude.{◌↔◌, ◌≡◌, length, All, IfOk, IsTrue, MatchOption, OnOk};
 ghost use Rattle.sg_graph.specs.Walk.{IsConnectedWeb, IsFirstUnreached};
 ghost use Rattle.sg_graph.specs.Incidence.{EndsAt};
 ghost use Rattle.sg_graph.specs.Search.{MarksReached, VisitsEdges};

@@ -1,10 +1,10 @@
 -- The solutions of the parts, one behind another, make one of the whole: their loops prove it together.
 use Rattle.std.proofs.Common.{◌≡◌, ℕ, ◌+◌, ◌*◌, ◌<◌, ℤ, pos, ◌+ℤ◌, ◌-ℤ◌, cond, List}
-use Rattle.std.proofs.Common.{[], ◌∷◌, ◌++◌, map, refl, sym, ◌∙◌, subst, arith, sum_by, length, get_or, replicate, take, drop, All}
+use Rattle.std.proofs.Common.{[], ◌∷◌, ◌++◌, map, refl, sym, ◌∙◌, subst, arith, sum_by, length, get_or, take, drop, All}
 use Rattle.std.specs.Prelude.{◌≤ℤ◌}
 use Rattle.std.proofs.lemmas.Int.{ints}
 use Rattle.std.proofs.lemmas.List.{length-append, length-map}
-use Rattle.std.proofs.lemmas.List.Elements.{All-append, All-map, All-nil, All-weaker}
+use Rattle.std.proofs.lemmas.List.Elements.{All-append, All-map, All-weaker}
 use Rattle.std.proofs.lemmas.List.Sums.{sum_by-append, sum_by-cons, sum_by_push}
 use Rattle.sg_sums.specs.Sets.{holds}
 use Rattle.sg_sums.proofs.Tallies.{sum_below_ones}
@@ -21,21 +21,9 @@ use Rattle.sg_ground.specs.Solution.{IsSolution}
 use Rattle.sg_ground.proofs.Shares.{IsShare}
 use Rattle.sg_ground.proofs.Glued.{IsGlued, cost_at, over_bonds, size_at}
 use Rattle.sg_ground.proofs.PartLists.{dealt_to_parts, once_each}
-use Rattle.sg_ground.proofs.Placing.{all_leasts_up, all_up, costs_more, energy_here, energy_over, more_placed, parted_at, part_is_share}
+use Rattle.sg_ground.proofs.Placing.{costs_more, energy_here, energy_over, more_placed, parted_at, part_is_share}
 use Rattle.sg_ground.proofs.Placing.{placed_leasts, share, sizes_all, sizes_here, with_this}
 use Rattle.sg_ground.proofs.Shares.{load_over, loop_over, total_over}
-
--- before the first part there is no loop
-pub none_glued : (inst : Ising) → IsGlued inst [] (replicate inst.n (pos 1)) (pos 0) []
-none_glued inst = record {
-  placed = all_up inst;
-  leasts_up = all_leasts_up inst;
-  positive = All-nil (λ (l : Loop). pos 1 ≤ℤ l.y);
-  frustrated = All-nil (λ (l : Loop). IsFrustratedLoop inst l.bonds);
-  within = λ k. omega arith;
-  tight = refl;
-  short = omega arith;
-}
 
 module _ (inst : Ising) (good : IsInstance inst) where
   module _ (parts done rest : List Part) (p : Part) (are : AreParts inst parts) (parted : parts ≡ done ++ p ∷ rest)

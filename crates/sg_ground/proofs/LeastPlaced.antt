@@ -19,17 +19,13 @@ use Rattle.sg_ground.specs.Solution.{IsState}
 use Rattle.sg_ground.proofs.Shares.{IsShare}
 use Rattle.sg_ground.proofs.Glued.{IsEnergyPlaced, IsLeastPlaced, IsStatePlaced, IsWeightPlaced, cost_at, over_bonds, size_at}
 use Rattle.sg_ground.proofs.PlacedValues.{all_written}
-use Rattle.sg_ground.proofs.Placing.{all_leasts_up, all_up, costs_more, energy_here, energy_over, more_placed, parted_at, part_is_share}
+use Rattle.sg_ground.proofs.Placing.{all_up, costs_more, energy_here, energy_over, more_placed, parted_at, part_is_share}
 use Rattle.sg_ground.proofs.Placing.{part_size, placed_leasts, places_below, places_count, share, sizes_all, sizes_here, sizes_more_here, with_this}
 use Rattle.sg_ground.proofs.Shares.{costs_over, in_place, share_assignment, values_in}
 
 -- before the first part
 none_least : (inst : Ising) → IsLeastPlaced inst [] (replicate inst.n (pos 1)) (pos 0)
 none_least inst = record { placed = all_up inst; least = λ t assigned. omega arith }
-
--- before the first part all spins are up, and the energy is 0
-pub no_state : (inst : Ising) → IsStatePlaced inst [] (replicate inst.n (pos 1)) (pos 0)
-no_state inst = record { least = none_least inst; leasts_up = all_leasts_up inst }
 
 -- before the first part the weight is 0
 pub no_weight : (inst : Ising) → IsWeightPlaced inst [] (pos 0)

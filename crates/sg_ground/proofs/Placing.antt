@@ -41,10 +41,6 @@ all_up inst = record {
   size = omega arith;
 }
 
--- where all spins are up so are the least of the components
-pub all_leasts_up : (inst : Ising) → LeastsUp inst (replicate inst.n (pos 1))
-all_leasts_up inst i l least = get_or-replicate inst.n i (pos 1) (pos 1) l
-
 -- a number that stands in a list, and one that does not
 held_or_not : (xs : List ℕ) (x : ℕ) → ((i : ℕ) × (i < length xs) × (get_or xs i 0 ≡ x)) ⊎ (holds xs x ≡ false)
 held_or_not xs x = elim (cases_in xs x) [

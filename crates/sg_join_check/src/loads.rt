@@ -1,6 +1,6 @@
 // The tests of the weights: the load of each edge, and the sums.
 
-ghost use Rattle.std.specs.Prelude.{◌≡◌, ℕ, ◌<◌, ◌≤◌, ◌+◌, ◌*◌, ◌^◌, cond, length, slice_index, replicate, All, IsTrue, IfOk, sum_by};
+ghost use Rattle.std.specs.Prelude.{◌≡◌, ℕ, ◌<◌, ◌≤◌, ◌*◌, ◌^◌, length, slice_index, replicate, All, IsTrue, IfOk, sum_by};
 ghost use Rattle.sg_graph.specs.OddCut.{cut_load, odd_cut_weight};
 ghost use Rattle.sg_graph.specs.Web.{edge_count, edge_weight, weight_of};
 ghost use Rattle.sg_join_check.specs.Shape.{HasCutShape};

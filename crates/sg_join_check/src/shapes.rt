@@ -1,7 +1,7 @@
 // The tests of lists alone.
 
-ghost use Rattle.std.specs.Prelude.{◌≡◌, ℕ, ◌<◌, ◌+◌, ◌*◌, ◌≤◌, ◌↔◌, IsTrue, length, All};
-ghost use Rattle.sg_graph.specs.Web.{IsWeb, edge_count};
+ghost use Rattle.std.specs.Prelude.{◌+◌, ◌*◌, ◌≤◌, ◌↔◌, IsTrue, All};
+ghost use Rattle.sg_graph.specs.Web.{IsWeb};
 ghost use Rattle.sg_join_check.specs.Shape.{HasCutShape, IsEdgeSet};
 
 use sg_graph::{Cut, Web};

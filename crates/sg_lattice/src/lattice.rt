@@ -1,6 +1,5 @@
 ghost use Rattle.std.specs.Prelude.{◌≡◌, ◌<◌, ◌≤◌, ◌+◌, ◌-◌, ◌*◌, ◌/◌, ◌%◌, ◌^◌, [], ◌∷◌, ◌++◌, if◌then◌else◌, List, pos, map, length, slice_index_or, OnOk, IfOk, All, unsigned_abs};
 ghost use Rattle.std.specs.List.{range_with_len};
-ghost use Rattle.sg_lattice.specs.declared.kind.Kind.TheVariants.{Square, Triangular, Hexagonal, Cylinder};
 ghost use Rattle.sg_list.specs.Pieces.{with_more};
 ghost use Rattle.sg_lattice.specs.declared.kind.Ends.{Ends};
 ghost use Rattle.sg_lattice.specs.Tables.{IsSize, bond_total, coupled, coupled_bond, darts, ends_from, ends_of, forth, has_bond, back, lattice, north, north_west, seam_of, starts, west};
@@ -37,46 +36,6 @@ pub fn build(
     ensures { IfOk result (λ inst. inst ≡ lattice kind rows cols j) }
 {
     Shape::new(kind, rows, cols).lattice(alloc, &j)
-}
-
-/// The square lattice: `build` for `Kind::Square`.
-pub fn square(alloc: Global, rows: u32, cols: u32, j: Couplings) -> Result<Instance, NoMemory>
-    requires size { IsSize Square rows cols }
-    requires count { length j ≡ bond_total Square rows cols }
-    requires sizes { All (λ z. unsigned_abs z < 2 ^ 63) j }
-    ensures { IfOk result (λ inst. inst ≡ lattice Square rows cols j) }
-{
-    build(alloc, Kind::Square, rows, cols, j)
-}
-
-/// The triangular lattice: `build` for `Kind::Triangular`.
-pub fn triangular(alloc: Global, rows: u32, cols: u32, j: Couplings) -> Result<Instance, NoMemory>
-    requires size { IsSize Triangular rows cols }
-    requires count { length j ≡ bond_total Triangular rows cols }
-    requires sizes { All (λ z. unsigned_abs z < 2 ^ 63) j }
-    ensures { IfOk result (λ inst. inst ≡ lattice Triangular rows cols j) }
-{
-    build(alloc, Kind::Triangular, rows, cols, j)
-}
-
-/// The hexagonal lattice: `build` for `Kind::Hexagonal`.
-pub fn hexagonal(alloc: Global, rows: u32, cols: u32, j: Couplings) -> Result<Instance, NoMemory>
-    requires size { IsSize Hexagonal rows cols }
-    requires count { length j ≡ bond_total Hexagonal rows cols }
-    requires sizes { All (λ z. unsigned_abs z < 2 ^ 63) j }
-    ensures { IfOk result (λ inst. inst ≡ lattice Hexagonal rows cols j) }
-{
-    build(alloc, Kind::Hexagonal, rows, cols, j)
-}
-
-/// The cylinder: `build` for `Kind::Cylinder`.
-pub fn cylinder(alloc: Global, rows: u32, cols: u32, j: Couplings) -> Result<Instance, NoMemory>
-    requires size { IsSize Cylinder rows cols }
-    requires count { length j ≡ bond_total Cylinder rows cols }
-    requires sizes { All (λ z. unsigned_abs z < 2 ^ 63) j }
-    ensures { IfOk result (λ inst. inst ≡ lattice Cylinder rows cols j) }
-{
-    build(alloc, Kind::Cylinder, rows, cols, j)
 }
 
 // The coupling of bond `k`, and 0 past the last.

@@ -18,7 +18,7 @@ mod lattice;
 mod shape;
 
 pub use kind::{Kind, least_cols};
-pub use lattice::{bond_count, build, cylinder, hexagonal, square, triangular};
+pub use lattice::{bond_count, build};
 use std::alloc::AllocError;
 
 /// The allocator had no memory left.

@@ -1,6 +1,5 @@
 -- Signs by turns.
-use Rattle.std.proofs.Common.{rules, arith, ◌≡◌, ◌≢◌, ◌+◌, ◌%◌, ◌==◌, ℕ, zero, suc, ℤ, pos, negsuc, List, [], ◌∷◌, length, map, ap, ◌∙◌, sym, refl, add-one, if◌then◌else◌}
-use Rattle.std.specs.List.{range_with_len}
+use Rattle.std.proofs.Common.{arith, ◌≡◌, ◌≢◌, ◌+◌, ◌%◌, ◌==◌, ℕ, zero, suc, pos, negsuc, ◌∷◌, length, ap, ◌∙◌, refl, add-one, if◌then◌else◌}
 use Rattle.sg_laws.specs.Stream.{alternating, sign_of}
 
 -- there are as many signs as are asked for

@@ -1,6 +1,5 @@
 -- A list gone round.
-use Rattle.std.proofs.Common.{rules, arith, ◌≡◌, ◌+◌, ◌%◌, ◌<◌, ◌≤◌, ◌≤ℤ◌, ◌==◌, ℕ, zero, suc, ℤ, pos, List, [], ◌∷◌, length, map, ap, ◌∙◌, sym, refl, add-one, slice_index_or, All, true, false, nat_lt, if◌then◌else◌}
-use Rattle.std.specs.List.{range_with_len}
+use Rattle.std.proofs.Common.{arith, ◌≡◌, ◌+◌, ◌%◌, ◌<◌, ℕ, zero, suc, ℤ, pos, List, ◌∷◌, length, ap, ◌∙◌, sym, refl, add-one, slice_index_or}
 use Rattle.std.proofs.Math.Nat.{add-mod_left, mod-eq_of_lt}
 use Rattle.std.proofs.lemmas.List.{get_or_default}
 use Rattle.sg_laws.specs.Stream.{round}
@@ -9,10 +8,6 @@ use Rattle.sg_laws.specs.Stream.{round}
 pub round_length : (draws : List ℤ) (place count : ℕ) → length (round draws place count) ≡ count
 round_length draws place zero = refl
 round_length draws place (suc count) = ap suc (round_length draws (place + 1) count)
-
--- the entry at a place, round and round
-entry_at : List ℤ → ℕ → ℤ
-entry_at draws i = slice_index_or draws (i % length draws) (pos 0)
 
 -- once round leads to the same draws
 pub once_round : (draws : List ℤ) (k count : ℕ) → round draws (length draws + k) count ≡ round draws k count

@@ -159,9 +159,6 @@ pub record IsTurning (f : Family) (blossom i : ℕ) (ring : List Link) (next : �
       ((length (cycle_of f blossom) ≤ i + length ring) × (place + length (cycle_of f blossom) ≡ i + length ring))
 
 module _ (f : Family) (fam : IsFamily f) (blossom i child : ℕ) (at : IsChildAt f blossom i child) where
-  cycle : List Link
-  cycle = cycle_of f blossom
-
   turn_again : (ring : List Link) (next after : ℕ) (link : Link) → length ring < length (cycle_of f blossom) → (place : ℕ) →
       IsChildAt f blossom place next → ring ≡ take (length ring) (rotated i (cycle_of f blossom)) →
       ((i + length ring < length (cycle_of f blossom)) × (place ≡ i + length ring)) ⊎

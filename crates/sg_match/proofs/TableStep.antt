@@ -24,12 +24,6 @@ use Rattle.sg_slack.specs.Slack.{mark_at, total_at}
 use Rattle.sg_slack.specs.declared.Mark.{Mark}
 use Rattle.sg_slack.specs.declared.Mark.TheVariants.{Free, Inner, Outer}
 
--- a raise by nothing moves no total
-pub moved_total-none : (m : Mark) (total : ℤ) → moved_total m total (pos 0) ≡ total
-moved_total-none Outer total = omega (arith, ints)
-moved_total-none Inner total = omega (arith, ints)
-moved_total-none Free total = refl
-
 -- a raise of the tree
 module _ (f : Family) (cost : ℕ → ℕ → ℕ) (r : ℕ) (edges : List TreeEdge) (delta : ℕ) (fam : IsFamily f)
     (can : CanRaise f (outers r edges) (inners edges) delta) (tops : List ℕ) (totals : List ℤ) (marks : List Mark) (listed : IsListed f tops totals)

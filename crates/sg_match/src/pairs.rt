@@ -13,21 +13,21 @@ pub fn flipped(edge: Edge) -> Edge
 }
 
 // Takes the pair from two paired tops.
-pub fn unpair_tops(pairs: &mut [Option<Edge>], s: usize, t: usize)
-    requires s { s < length pairs.old }
-    requires t { t < length pairs.old }
-    ensures { pairs.new ≡ slice_set (slice_set pairs.old s None) t None }
+pub fn unpair_tops(pairs: &mut [Option<Edge>], one: usize, other: usize)
+    requires one { one < length pairs.old }
+    requires other { other < length pairs.old }
+    ensures { pairs.new ≡ slice_set (slice_set pairs.old one None) other None }
 {
-    pairs[s] = None;
-    pairs[t] = None;
+    pairs[one] = None;
+    pairs[other] = None;
 }
 
 // Pairs two tops, by an edge from the first to the second.
-pub fn pair_tops(pairs: &mut [Option<Edge>], s: usize, t: usize, edge: Edge)
-    requires s { s < length pairs.old }
-    requires t { t < length pairs.old }
-    ensures { pairs.new ≡ slice_set (slice_set pairs.old s (Some edge)) t (Some (flip_of edge)) }
+pub fn pair_tops(pairs: &mut [Option<Edge>], one: usize, other: usize, edge: Edge)
+    requires one { one < length pairs.old }
+    requires other { other < length pairs.old }
+    ensures { pairs.new ≡ slice_set (slice_set pairs.old one (Some edge)) other (Some (flip_of edge)) }
 {
-    pairs[s] = Some(edge);
-    pairs[t] = Some(flipped(edge));
+    pairs[one] = Some(edge);
+    pairs[other] = Some(flipped(edge));
 }

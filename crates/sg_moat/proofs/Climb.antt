@@ -1,10 +1,10 @@
 -- Up from a leaf's own node through the sets that hold it: each gets the leaf, with the duals of the sets before it.
-use Rattle.std.proofs.Common.{◌≡◌, ◌≢◌, ℕ, ◌+◌, ◌-◌, ◌^◌, ◌<◌, ◌≤◌, ◌&&◌, ◌||◌, ◌++◌, Bool, true, false, cond, List, [], ◌∷◌, length, map, set, replicate}
+use Rattle.std.proofs.Common.{◌≡◌, ◌≢◌, ℕ, ◌+◌, ◌-◌, ◌^◌, ◌<◌, ◌≤◌, ◌&&◌, ◌||◌, ◌++◌, Bool, true, false, cond, List, [], ◌∷◌, length, map, set}
 use Rattle.std.proofs.Common.{get_or, refl, sym, ap, ◌∙◌, subst, inl, inr, arith}
 use Rattle.std.specs.List.{range_with_len}
 use Rattle.std.specs.Option.{option_map_or}
-use Rattle.std.proofs.lemmas.Bool.{cases_eq, cases_lt, ne_eqb, and_from, and_parts, false≢true, false_from_ne_true}
-use Rattle.std.proofs.lemmas.List.{append-nil, get_or-set_same, get_or-set_other, get_or-replicate, get_or_past, length-set, length-replicate, map-append}
+use Rattle.std.proofs.lemmas.Bool.{cases_eq, ne_eqb, and_from, and_parts, false≢true, false_from_ne_true}
+use Rattle.std.proofs.lemmas.List.{append-nil, get_or-set_same, get_or-set_other, length-set, map-append}
 use Rattle.std.proofs.lemmas.List.Sums.{length-filter, count_by-le-length}
 use Rattle.std.proofs.lemmas.List.FromFn.{length-range_with_len}
 use Rattle.sg_sums.specs.Sets.{chosen_below}
@@ -14,7 +14,7 @@ use Rattle.sg_arena.specs.Family.{Node, Family, leaf_count, leaves_of, dual_of, 
 use Rattle.sg_arena.proofs.FamilyLemmas.{alive_from_holds, child-covered, child-smaller, leaf-held, name_bound, top-covers}
 use Rattle.sg_moat.specs.declared.members.Member.{Member}
 use Rattle.sg_moat.specs.Sets.{within, strictly_within, share_below, inner_of}
-use Rattle.sg_moat.specs.Members.{AreMembers, Climbed, list_under, member_of}
+use Rattle.sg_moat.specs.Members.{Climbed, list_under, member_of}
 use Rattle.sg_moat.proofs.SetDuals.{below_from, below_parts, covers_from, inner_and_own, inner_total, same_truth, up_to_share, within_from}
 
 -- the list of one name grows, and so the lists have a member more under the names of a wider test
@@ -177,16 +177,6 @@ module _ (f : Family) where
     pub count : length lists ≡ length f.nodes
     pub each : (s : ℕ) → list_under lists s ≡ map (member_of f s) (chosen_below (holds f s) k)
 
-  -- before the first leaf all lists are empty
-  pub AreMembersBelow-none : AreMembersBelow 0 (replicate (length f.nodes) [])
-  AreMembersBelow-none = record { count = length-replicate (length f.nodes) []; each = empty (length f.nodes) }
-    where
-      empty : (n s : ℕ) → list_under (replicate n []) s ≡ []
-      empty n s = elim (cases_lt s n) [
-        | inl low ↦ get_or-replicate n s [] [] low
-        | inr high ↦ get_or_past (replicate n []) s [] (let l : length {A = List Member} (replicate n []) ≡ n = length-replicate n [] in omega arith)
-      ]
-
   -- after one climb more the lists have one leaf more
   pub AreMembersBelow-more : (k : ℕ) (old new : List (List Member)) → AreMembersBelow k old → Climbed f k old new → AreMembersBelow (k + 1) new
   AreMembersBelow-more k old new h c = record {
@@ -202,7 +192,3 @@ module _ (f : Family) where
       mapped : (s : ℕ) (b : Bool) → cond b (member_of f s k ∷ []) [] ≡ map (member_of f s) (cond b (k ∷ []) [])
       mapped s true = refl
       mapped s false = refl
-
-  -- after the last climb each list has the leaves of its set, with the duals inside
-  pub AreMembersBelow-all : IsFamily f → (lists : List (List Member)) → AreMembersBelow (leaf_count f) lists → AreMembers f lists
-  AreMembersBelow-all fam lists h = record { count = h.count; each = λ s. h.each s ∙ ap (map (member_of f s)) (sym (fam.in_order s)) }

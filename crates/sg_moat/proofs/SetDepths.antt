@@ -4,7 +4,7 @@ use Rattle.std.proofs.Common.{length, get_or, pos, refl, sym, ap, ◌∙◌, sub
 use Rattle.std.specs.Option.{option_map_or}
 use Rattle.std.specs.List.Sorted.{IsStrictlyIncreasing}
 use Rattle.std.proofs.lemmas.List.{get_or_past, length-append, length-map}
-use Rattle.std.proofs.lemmas.List.Elements.{All-append, All-map, All-nil, All-weaker, All-from_get_or}
+use Rattle.std.proofs.lemmas.List.Elements.{All-append, All-map, All-weaker, All-from_get_or}
 use Rattle.std.proofs.lemmas.List.Sums.{sum_by-append}
 use Rattle.std.proofs.lemmas.List.Folds.{list_any_at}
 use Rattle.sg_sums.specs.Parity.{xor}
@@ -19,7 +19,7 @@ use Rattle.sg_graph.specs.Walk.{IsConnectedWeb}
 use Rattle.sg_graph.specs.Table.{Routes}
 use Rattle.sg_graph.proofs.TableLaws.{connected_distance}
 use Rattle.sg_arena.specs.Family.{Family, Holds, IsAlive, IsFamily, Node, dual_of, leaf_count, leaves_of, node_at}
-use Rattle.sg_arena.proofs.FamilyLemmas.{leaf_bound, share-total, size-positive, some_leaf}
+use Rattle.sg_arena.proofs.FamilyLemmas.{leaf_bound, share-total, some_leaf}
 use Rattle.sg_moat.specs.declared.members.Member.{Member}
 use Rattle.sg_moat.specs.Depths.{AreFull, depth_by, height_by}
 use Rattle.sg_moat.specs.Input.{AreTerminalTables, blank_table, table_at}
@@ -27,7 +27,7 @@ use Rattle.sg_moat.specs.Members.{member_of}
 use Rattle.sg_moat.specs.Sets.{alive_at, inner_of}
 use Rattle.sg_moat.specs.Slices.{IsSlice, Sliced, Slices, inside_count, is_below_level, is_inside}
 use Rattle.sg_sums.specs.Naturals.{gap}
-use Rattle.sg_moat.specs.Gathers.{Adds, Gathers, IsMoatCut, reach_from, set_depth}
+use Rattle.sg_moat.specs.Gathers.{Adds, IsMoatCut, reach_from, set_depth}
 use Rattle.sg_moat.specs.Survey.{Surveys, noted_at}
 use Rattle.sg_sums.proofs.Tallies.{times_place}
 use Rattle.std.proofs.lemmas.Bool.{cases_lt, lt-ltb}
@@ -70,16 +70,6 @@ module _ (f : Family) (fam : IsFamily f) (s : ℕ) where
   dual_small alive =
       let held = some_leaf f fam s alive in
       omega (arith, share-total f s held.0 held.1, fam.bounded held.0)
-
-  -- a name without members has no dual
-  pub members_none : length (map (member_of f s) (leaves_of f s)) ≡ 0 → dual_of f s ≡ 0
-  members_none none = go (node_at f s) refl
-    where
-      go : (o : Option Node) → node_at f s ≡ o → option_map_or (λ (n : Node). n.dual) o 0 ≡ 0
-      go None e = refl
-      go (Some n) e =
-          let alive : IsAlive f s = subst (λ o. IsSome o) (sym e) refl in
-          absurd (omega (arith, length-map (leaves_of f s) (member_of f s), size-positive f fam s alive))
 
 -- tests that agree below n choose the same
 chosen_below_same : (p q : ℕ → Bool) (n : ℕ) → ((k : ℕ) → k < n → p k ≡ q k) → chosen_below p n ≡ chosen_below q n
@@ -136,10 +126,6 @@ pub heights_full : (g : Graph) (tables : List Routes) (heights near : List ℕ) 
     Surveys g (height_by tables members y) heights near → All (λ h. h ≤ y) heights
 heights_full g tables heights near members y s =
     All-from_get_or (λ h. h ≤ y) heights 0 (λ x l. (let low : x < g.nodes = omega (arith, s.count) in omega (arith, s.settled x low)))
-
--- what was noted, as heights of its own
-pub Surveys-noted : (g : Graph) (height : ℕ → ℕ) (heights near : List ℕ) → Surveys g height heights near → Surveys g (λ x. noted_at heights x) heights near
-Surveys-noted g height heights near s = record { count = s.count; settled = λ x l. refl; once = s.once; low = s.low }
 
 -- a node with a height is listed
 pub Surveys-covers : (g : Graph) (height : ℕ → ℕ) (heights near : List ℕ) → Surveys g height heights near → (x : ℕ) → 0 < noted_at heights x → Contains near x
@@ -213,17 +199,3 @@ module _ (f : Family) (g : Graph) (tables : List Routes) (name : ℕ) where
   Adds-by old new d web some fam same s =
       Adds-slices old new some (alive_one f fam name (dual_alive f name some))
       (record { more = s.more; is = s.is; slices = Slices-same g web.joined d (set_depth f tables name) same (dual_of f name) s.more s.slices })
-
--- before the first name no cuts are gathered
-pub Gathers-start : (f : Family) (g : Graph) (tables : List Routes) → Gathers f g tables 0 []
-Gathers-start f g tables = record { are = All-nil (IsMoatCut f g tables); total = refl; loads = λ e l. refl; few = omega arith }
-
--- after one name more its cuts are gathered too
-pub Gathers-more : (f : Family) (g : Graph) (tables : List Routes) (name : ℕ) (old new : List Cut) → Gathers f g tables name old →
-    Adds f g tables name old new → Gathers f g tables (suc name) new
-Gathers-more f g tables name old new h a = record {
-  are = a.are h.are;
-  total = omega (arith, a.total, h.total);
-  loads = λ e l. omega (arith, a.loads e l, h.loads e l);
-  few = omega (arith, a.few, h.few);
-}

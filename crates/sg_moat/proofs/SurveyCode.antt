@@ -1,8 +1,7 @@
 -- The steps of the search for the nodes of a moat, in the terms of the code.
-use Rattle.std.proofs.Common.{inl, inr, ◌≡◌, ◌≢◌, ℕ, ◌+◌, ◌-◌, ◌*◌, ◌^◌, ◌<◌, ◌≤◌, ◌++◌, min, List, [], ◌∷◌, take}
-use Rattle.std.proofs.Common.{length, get_or, set, replicate, refl, sym, ◌∙◌, ap, subst, arith, pos, unsigned_abs, All, IsPermutation}
-use Rattle.std.proofs.lemmas.Bool.{cases_eq}
-use Rattle.std.proofs.lemmas.List.{get_or-set_same, get_or-set_other, get_or_append_left, length-append, length-set, take_more}
+use Rattle.std.proofs.Common.{◌≡◌, ◌≢◌, ℕ, ◌+◌, ◌-◌, ◌*◌, ◌^◌, ◌<◌, ◌≤◌, ◌++◌, List, [], ◌∷◌, take}
+use Rattle.std.proofs.Common.{length, get_or, replicate, refl, sym, ◌∙◌, ap, subst, arith, pos, unsigned_abs, IsPermutation}
+use Rattle.std.proofs.lemmas.List.{get_or_append_left, length-append, take_more}
 use Rattle.std.proofs.lemmas.List.Elements.{All-nil, All-push, All-weaker}
 use Rattle.sg_graph.specs.declared.web.Edge.{Edge}
 use Rattle.sg_graph.specs.Web.{Graph, IsWeb, edge_at, edge_weight}
@@ -13,7 +12,7 @@ use Rattle.sg_graph.proofs.Walks.{leads_other, other_low}
 use Rattle.sg_moat.specs.declared.arrival.Arrival.{Arrival}
 use Rattle.sg_moat.specs.declared.members.Member.{Member}
 use Rattle.sg_moat.specs.Input.{table_at}
-use Rattle.sg_moat.specs.Survey.{Caps, IsSeeded, Raises, Seeds, SpreadsHeight, noted_at}
+use Rattle.sg_moat.specs.Survey.{IsSeeded, Raises, Seeds, SpreadsHeight, noted_at}
 use Rattle.sg_moat.proofs.SurveySteps.{Flooding, Goes-none, Goes-on, Goes-raise, Searching-skip, Searching-spread, raised_below, raised_here}
 
 -- what is read past the last member
@@ -88,14 +87,6 @@ module _ (g : Graph) where
         (subst (λ n. Raises n (height - 2 * edge_weight g (get_or list i 0)) now new mid after waiting next) other_is
         (subst (λ n. Raises other n now new mid after waiting next) left_is r)))
 
-  -- the members, one by one
-  pub Seeds-none : (tables : List Routes) (y : ℕ) (old before : List ℕ) (heap : List Arrival) → Seeds g tables [] y old old before before heap heap
-  Seeds-none tables y old before heap = record {
-    goes = Goes-none g old before heap;
-    seeded = All-nil (λ (m : Member). y + m.inner ≤ noted_at old (table_at tables m.leaf).source);
-    below = λ f s b. b;
-  }
-
   -- where nothing was noted before
   pub Seeds-flat : (tables : List Routes) (members : List Member) (y : ℕ) (old new before after : List ℕ) (heap next : List Arrival) →
       old ≡ replicate g.nodes 0 → before ≡ [] → heap ≡ [] → Seeds g tables members y old new before after heap next →
@@ -168,33 +159,3 @@ module _ (g : Graph) where
           up = λ x. omega (arith, f.up x, s.goes.up x);
           below = λ h l b. s.below h l (omega (arith, latest, f.below h l b a.node)) (f.below h l b);
         }
-
--- the heights listed so far are cut
-pub Caps-none : (y : ℕ) (old : List ℕ) → Caps y [] old old
-Caps-none y old = record { count = refl; down = λ x. omega arith; same = λ x. refl; low = All-nil (λ x. noted_at old x ≤ y) }
-
--- one node more whose height is cut to the dual
-pub Caps-more : (y : ℕ) (near old now new : List ℕ) (i : ℕ) → i < length near → get_or near i 0 < length old →
-    Caps y (take i near) old now → new ≡ set now (get_or near i 0) (min (noted_at now (get_or near i 0)) y) → Caps y (take (i + 1) near) old new
-Caps-more y near old now new i low in_old h is =
-    let node : ℕ = get_or near i 0 in
-    let here : noted_at new node ≡ min (noted_at now node) y =
-    ap (λ xs. noted_at xs node) is ∙ get_or-set_same now node (min (noted_at now node) y) 0 (omega (arith, in_old, h.count)) in
-    let there : (x : ℕ) → x ≢ node → noted_at new x ≡ noted_at now x =
-    λ x ne. ap (λ xs. noted_at xs x) is ∙ get_or-set_other now node x (min (noted_at now node) y) 0 ne in
-    let down : (x : ℕ) → noted_at new x ≤ noted_at now x = λ x. elim (cases_eq x node) [
-      | inl e ↦ subst (λ z. noted_at new z ≤ noted_at now z) (sym e) (omega (arith, here))
-      | inr ne ↦ omega (arith, there x ne)
-    ] in
-    record {
-      count = ap length is ∙ length-set now node (min (noted_at now node) y) ∙ h.count;
-      down = λ x. omega (arith, down x, h.down x);
-      same = λ x. elim (cases_eq x node) [
-        | inl e ↦ subst (λ z. min (noted_at new z) y ≡ min (noted_at old z) y) (sym e) (omega (arith, here, h.same node))
-        | inr ne ↦ omega (arith, there x ne, h.same x)
-      ];
-      low = subst (λ xs. All (λ x. noted_at new x ≤ y) xs) (sym (take_more near i 0 low))
-          (All-push (λ x. noted_at new x ≤ y) (take i near) node
-          (All-weaker (λ x. noted_at now x ≤ y) (λ x. noted_at new x ≤ y) (λ x k. omega (arith, k, down x)) (take i near) h.low)
-          (omega (arith, here)));
-    }

@@ -1,9 +1,9 @@
 -- The steps of the search for the nodes of a moat: one arrival, the heights that rise, and what is known when none waits.
 use Rattle.std.proofs.Common.{inl, inr, ◌≡◌, ◌≢◌, ◌⊎◌, ◌&&◌, ℕ, zero, suc, ◌+◌, ◌*◌, ◌-◌, ◌^◌, ◌<◌, ◌≤◌, ◌++◌, max, Bool, true, false, cond}
-use Rattle.std.proofs.Common.{eqb, ltb, List, [], ◌∷◌, length, get_or, set, replicate, refl, sym, ◌∙◌, ap, ap₂, subst, arith, All, Contains, IsPermutation, eq-eqb}
+use Rattle.std.proofs.Common.{eqb, ltb, List, [], ◌∷◌, length, set, replicate, refl, sym, ◌∙◌, ap, ap₂, subst, arith, All, Contains, IsPermutation, eq-eqb}
 use Rattle.std.proofs.lemmas.Bool.{cases_eq, cases_lt, ne_eqb, lt-ltb, le-ltb}
 use Rattle.std.proofs.lemmas.List.{append-nil, get_or-set_same, get_or-set_other, get_or-replicate, length-replicate, length-set, set-get_or}
-use Rattle.std.proofs.lemmas.List.{get_or_append_left, get_or_past, length-append}
+use Rattle.std.proofs.lemmas.List.{get_or_past}
 use Rattle.std.proofs.lemmas.List.Elements.{All-append, All-nil, All-cons, All-tail}
 use Rattle.std.proofs.lemmas.List.Sorted.{All-permutation, Contains-permutation, IsPermutation-refl, length_permutation}
 use Rattle.std.proofs.lemmas.List.Sums.{sum_by-append, sum_by-cons, sum_by-set}
@@ -243,10 +243,6 @@ module _ (g : Graph) where
     rest_low : All (λ a. a.node < g.nodes) rest
     rest_low = All-tail (λ (a : Arrival). a.node < g.nodes) a rest (All-permutation (λ a. a.node < g.nodes) heap (a ∷ rest) taken s.low)
 
-    -- the heap is shorter by what is taken off
-    pub taken_work : length rest + 1 ≡ length heap
-    taken_work = let e = length_permutation heap (a ∷ rest) taken in omega arith
-
     still : (x : Arrival) → x ≢ a → Contains heap x → Contains rest x
     still x ne h = elim (in_front a x rest (Contains-permutation heap (a ∷ rest) x taken h)) [
       | inl e ↦ absurd (ne e)
@@ -300,10 +296,6 @@ module _ (g : Graph) where
     pub up : (x : ℕ) → noted_at old x ≤ noted_at heights x
     pub below : (f : ℕ → ℕ) → IsLipschitz g f → AreBelow f old → AreBelow f heights
 
-  -- at the start the heights are those of the seeds
-  pub Flooding-start : (old near : List ℕ) (heap : List Arrival) → Searching g old near heap → Flooding old old near heap
-  Flooding-start old near heap s = record { searching = s; up = λ x. omega arith; below = λ f l b. b }
-
   -- when none waits no edge is too steep
   pub Flooding-end : (old heights near : List ℕ) (heap : List Arrival) → heap ≡ [] → Flooding old heights near heap → Floods g old heights near
   Flooding-end old heights near heap none f = record {
@@ -321,51 +313,3 @@ pub record Clearing (n : ℕ) (heights near : List ℕ) : Type 0 where
   pub count : length heights ≡ n
   pub low : All (λ x. x < n) near
   pub covers : (x : ℕ) → 0 < noted_at heights x → Contains near x
-
--- one node more whose height is set back to 0
-pub Clearing-more : (n : ℕ) (heights near rest : List ℕ) (x : ℕ) → near ≡ rest ++ x ∷ [] → Clearing n heights near → Clearing n (set heights x 0) rest
-Clearing-more n heights near rest x is h = record {
-  count = length-set heights x 0 ∙ h.count;
-  low = λ k d l. subst (λ v. v < n) (get_or_append_left rest (x ∷ []) d k l)
-      (subst (λ xs. All (λ x. x < n) xs) is h.low k d (omega (arith, length-append rest (x ∷ []))));
-  covers = λ z some. elim (cases_eq z x) [
-    | inl e ↦ absurd (let low : x < length heights = omega (arith, h.count, in_list) in let none : noted_at (set heights x 0) z ≡ 0 =
-        ap (noted_at (set heights x 0)) e ∙ get_or-set_same heights x 0 0 low in omega arith)
-    | inr ne ↦ Contains-other rest x z ne (subst (λ xs. Contains xs z) is (h.covers z (omega (arith, get_or-set_other heights x z 0 0 ne))))
-  ];
-}
-  where
-    in_list : x < n
-    in_list = subst (λ v. v < n) (at_end rest) (subst (λ xs. All (λ x. x < n) xs) is h.low (length rest) 0 (omega (arith, length-append rest (x ∷ []))))
-      where
-        at_end : (xs : List ℕ) → get_or (xs ++ x ∷ []) (length xs) 0 ≡ x
-        at_end [] = refl
-        at_end (y ∷ ys) = at_end ys
-
-    Contains-other : (xs : List ℕ) (x z : ℕ) → z ≢ x → Contains (xs ++ x ∷ []) z → Contains xs z
-    Contains-other xs x z ne c = elim (cases_lt c.0 (length xs)) [
-      | inl l ↦ (c.0, l, sym (get_or_append_left xs (x ∷ []) z c.0 l) ∙ c.2)
-      | inr l ↦ absurd (ne (sym c.2 ∙ last xs c.0 l (omega (arith, c.1, length-append xs (x ∷ [])))))
-    ]
-      where
-        last : (xs : List ℕ) (k : ℕ) → length xs ≤ k → k < length xs + 1 → get_or (xs ++ x ∷ []) k z ≡ x
-        last [] zero l h = refl
-        last [] (suc k) l h = absurd (omega arith)
-        last (y ∷ ys) zero l h = absurd (omega arith)
-        last (y ∷ ys) (suc k) l h = last ys k (omega arith) (omega arith)
-
--- when no node is left all heights are 0
-pub Clearing-end : (n : ℕ) (heights : List ℕ) → Clearing n heights [] → heights ≡ replicate n 0
-Clearing-end n heights h = flat heights n h.count (λ x. zero_at x)
-  where
-    zero_at : (x : ℕ) → noted_at heights x ≡ 0
-    zero_at x = elim (cases_lt 0 (noted_at heights x)) [
-      | inl some ↦ absurd (let c = h.covers x some in omega (arith, c.1))
-      | inr none ↦ omega arith
-    ]
-
-    flat : (xs : List ℕ) (n : ℕ) → length xs ≡ n → ((x : ℕ) → get_or xs x 0 ≡ 0) → xs ≡ replicate n 0
-    flat [] zero e z = refl
-    flat [] (suc n) e z = absurd (omega arith)
-    flat (x ∷ xs) zero e z = absurd (omega arith)
-    flat (x ∷ xs) (suc n) e z = ap₂ (λ y ys. y ∷ ys) (z 0) (flat xs n (omega arith) (λ k. z (suc k)))

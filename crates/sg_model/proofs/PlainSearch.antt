@@ -1,5 +1,5 @@
 -- The least among the even codes is the least of all, since each assignment or its opposite has spin 0 up.
-use Rattle.std.proofs.Common.{◌≡◌, ℕ, zero, suc, ◌+◌, ◌-◌, ◌*◌, ◌^◌, ◌<◌, ◌≤◌, inl, inr, ℤ, pos, neg_ℤ, ◌≤ℤ◌, ◌<ℤ◌, List, [], ◌∷◌, length, sym, ap, ◌∙◌, subst, arith, All}
+use Rattle.std.proofs.Common.{◌≡◌, ℕ, suc, ◌+◌, ◌-◌, ◌*◌, ◌^◌, ◌<◌, ◌≤◌, inl, inr, ℤ, pos, neg_ℤ, ◌≤ℤ◌, ◌<ℤ◌, List, [], ◌∷◌, length, sym, ap, ◌∙◌, subst, arith, All}
 use Rattle.std.proofs.lemmas.Int.{ints}
 use Rattle.std.proofs.lemmas.Bool.{cases_eq}
 use Rattle.std.proofs.lemmas.List.Elements.{All-tail}
@@ -49,11 +49,6 @@ ground_state inst half good beats = record {
   assignment = record { count = coded-length inst.n (2 * half); values = coded-up_or_down inst.n (2 * half) };
   least = beats-all inst (energy inst (coded inst.n (2 * half))) good beats;
 }
-
--- an even code has spin 0 up
-pub coded-first_up : (n half : ℕ) → 1 ≤ n → spin (coded n (2 * half)) 0 ≡ pos 1
-coded-first_up zero half some = absurd (omega arith)
-coded-first_up (suc n) half some = ap (λ s. spin s 0) (coded-even n half)
 
 -- a better one takes the place of the least so far
 pub beats-found : (f : ℕ → ℤ) (least here : ℤ) (half : ℕ) → here ≡ f half → here <ℤ least →

@@ -10,9 +10,6 @@ use Rattle.sg_model.specs.Changes.{HasSameEnds, with_bonds}
 use Rattle.sg_model.proofs.Darts.{tail_even, tail_odd}
 
 module _ (inst : Ising) (bonds : List Bond) (same : HasSameEnds inst bonds) where
-  other : Ising
-  other = with_bonds inst bonds
-
   -- other couplings leave the tails
   pub tail_same : (d : ℕ) → tail (with_bonds inst bonds) d ≡ tail inst d
   tail_same d = elim (cases_eq (d % 2) 0) [

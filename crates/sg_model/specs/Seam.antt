@@ -1,5 +1,5 @@
 -- Seams: the bonds whose signs are changed together, to put a domain wall into the lattice.
-use Rattle.std.specs.Prelude.{ℕ, ◌<◌, List, All}
+use Rattle.std.specs.Prelude.{◌<◌, All}
 use Rattle.sg_model.specs.Ising.{Ising, bond_count}
 use Rattle.sg_sums.specs.Sets.{DifferByCount}
 

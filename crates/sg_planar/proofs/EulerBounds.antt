@@ -44,10 +44,6 @@ module _ (inst : Ising) (good : IsInstance inst) (connected : IsConnected inst) 
           (omega arith)
 
   module _ (faces : Labelling) (labels : IsFaceLabels inst faces) where
-    -- spins and faces together are at most the bonds and two
-    pub euler_bound : inst.n + faces.count ≤ bond_count inst + 2
-    euler_bound = omega (arith, euler_bound_faces, labels.counts)
-
     -- in the plane a connected instance with a bond has no more faces than bonds
     pub faces_few : IsEuler inst (pos 2) → 0 < bond_count inst → faces.count ≤ bond_count inst
     faces_few genus_zero some = omega (arith, connected_sum genus_zero, two_spins inst good some, labels.counts)

@@ -1,14 +1,13 @@
 -- A walk over the bonds gives each spin the value that every assignment which follows the bonds has there.
-use Rattle.std.proofs.Common.{inl, inr, ap₂, subst, ◌≡◌, ◌⊎◌, ℕ, ◌+◌, ◌*◌, ◌/◌, ◌<◌, ◌≤◌, pos, Bool, true, false, not, List, [], map, replicate, set, take, refl, sym, ◌∙◌, ap, arith, All, length, get_or, eqb}
+use Rattle.std.proofs.Common.{inl, inr, ap₂, subst, ◌≡◌, ◌⊎◌, ℕ, ◌+◌, ◌*◌, ◌/◌, ◌<◌, ◌≤◌, pos, Bool, true, false, not, List, map, set, take, refl, sym, ◌∙◌, ap, arith, All, length, get_or, eqb}
 use Rattle.std.specs.List.Sorted.{IsStrictlyIncreasing}
 use Rattle.std.proofs.Math.Bool.{beq}
 use Rattle.std.proofs.lemmas.Bool.{cases_eq}
-use Rattle.std.proofs.lemmas.List.{length-set, length-map, get_or-map, get_or-set_same, get_or-set_other, length-replicate}
-use Rattle.std.proofs.lemmas.List.Elements.{All-nil, All-more, All-weaker, All-from_get_or}
+use Rattle.std.proofs.lemmas.List.{length-set, length-map, get_or-map, get_or-set_same, get_or-set_other}
+use Rattle.std.proofs.lemmas.List.Elements.{All-more, All-weaker, All-from_get_or}
 use Rattle.sg_sums.specs.Parity.{xor, parity_by}
 use Rattle.sg_sums.specs.Sets.{is_marked, Stands}
 use Rattle.sg_sums.proofs.RisingLists.{parity_of_rising}
-use Rattle.sg_sums.proofs.MarkLaws.{none_free}
 use Rattle.sg_model.specs.Ising.{Ising, bond_at, bond_count}
 use Rattle.sg_model.specs.Rotation.{dart_count, darts_of, head_of, tail}
 use Rattle.sg_model.specs.WellFormed.{IsInstance}
@@ -69,13 +68,6 @@ follows_dart inst unlike t h d l = by_dart (dart_cases d)
         ∙ ap₂ xor (ap t (sym here)) (ap unlike (sym half))
 
 module _ (inst : Ising) (unlike : ℕ → Bool) where
-  -- no dart yet
-  pub heads_none : (spin : ℕ) (down : List Bool) → HeadsSet inst unlike spin [] down down
-  heads_none spin down = record {
-    lengths = refl;
-    sets = λ t h right. record { kept = λ x r. r; heads = All-nil (λ d. IsRight t down (head_of inst d)) };
-  }
-
   -- one dart more
   pub heads_more : (spin : ℕ) (darts : List ℕ) (old now : List Bool) (i to : ℕ) (v : Bool) → i < length darts →
       get_or darts i 0 < dart_count inst → tail inst (get_or darts i 0) ≡ spin → to ≡ head_of inst (get_or darts i 0) → to < length now →
@@ -108,14 +100,6 @@ module _ (inst : Ising) (unlike : ℕ → Bool) where
           ]
 
 module _ (inst : Ising) (good : IsInstance inst) (unlike : ℕ → Bool) (order : List ℕ) (walk : IsWalkOrder inst order) where
-  -- spin 0 is up, and no spin is visited
-  pub set_to_start : SetTo inst unlike order 0 (replicate inst.n false)
-  set_to_start = record {
-    lengths = length-replicate inst.n false;
-    first = λ t follows. none_free inst.n 0 ∙ sym follows.first_up;
-    heads = λ t follows k l. absurd (omega arith);
-  }
-
   -- the spins up to the next are right
   pub right_in_order : (next : ℕ) (down : List Bool) → SetTo inst unlike order next down → (t : ℕ → Bool) → FollowsBonds inst unlike t →
       (k : ℕ) → k < length order → k < next + 1 → IsRight t down (get_or order k 0)

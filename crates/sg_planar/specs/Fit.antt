@@ -8,7 +8,6 @@ use Rattle.sg_model.specs.Energy.{weight}
 use Rattle.sg_faces.specs.Faces.{Labelling, IsFaceLabels}
 use Rattle.sg_faces.specs.Euler.{IsEuler}
 use Rattle.sg_limits.specs.Limits.{sum_limit, forced_limit}
-use Rattle.sg_model.specs.Faults.{OrNoMemory}
 
 -- the two facts that every planar solver asks for
 pub record IsFit (inst : Ising) : Type 0 where

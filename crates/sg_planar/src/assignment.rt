@@ -22,16 +22,16 @@ use std::alloc::Global;
 /// where a bond with the face on both of its sides counts twice. In the plane such lists are the
 /// broken bonds of the assignments (Bieche, Maynard, Rammal and Uhry 1980): a walk over the bonds
 /// from spin 0 goes on to an unlike spin where the bond is negative or broken, and not both.
-pub fn spin_walk(alloc: Global, p: &Planar, broken: &BondList) -> Result<Spins, NoMemory>
-    requires connected { IsConnected p.now.instance }
+pub fn spin_walk(alloc: Global, planar: &Planar, broken: &BondList) -> Result<Spins, NoMemory>
+    requires connected { IsConnected planar.now.instance }
     requires rising { IsStrictlyIncreasing broken.now }
-    requires below { All (λ k. k < bond_count p.now.instance) broken.now }
-    requires fits { FitsFaces p.now.instance p.now.faces broken.now }
-    ensures assignment { IfOk result (λ s. IsAssignment p.now.instance s) }
+    requires below { All (λ k. k < bond_count planar.now.instance) broken.now }
+    requires fits { FitsFaces planar.now.instance planar.now.faces broken.now }
+    ensures assignment { IfOk result (λ s. IsAssignment planar.now.instance s) }
     ensures first_up { IfOk result (λ s. spin s 0 ≡ pos 1) }
-    ensures breaks { IfOk result (λ s. BreaksExactly p.now.instance s broken.now) }
+    ensures breaks { IfOk result (λ s. BreaksExactly planar.now.instance s broken.now) }
 {
-    let inst = p.instance();
+    let inst = planar.instance();
     let unlike = unlike_bonds(alloc, inst, broken)?;
     let order = walk_order(alloc, inst)?;
     let down = follow(alloc, inst, &unlike, &order)?;

@@ -51,14 +51,14 @@ pub enum Division {
 /// The components of an instance. Of one that is connected nothing is copied, and the answer takes the
 /// same time for each; of another the parts are made, as `parts` makes them. The only error is want of
 /// memory.
-pub fn divide(alloc: Global, p: &Planar) -> Result<Division, NoMemory>
-    ensures division { IfOk result (IsDivision p.now.instance) }
-    ensures whole { IfOk result (λ d. IsConnected p.now.instance → d ≡ Whole) }
+pub fn divide(alloc: Global, planar: &Planar) -> Result<Division, NoMemory>
+    ensures division { IfOk result (IsDivision planar.now.instance) }
+    ensures whole { IfOk result (λ d. IsConnected planar.now.instance → d ≡ Whole) }
 {
-    if p.is_connected() {
+    if planar.is_connected() {
         return Ok(Division::Whole);
     }
-    Ok(Division::Several(parts(alloc, p)?))
+    Ok(Division::Several(parts(alloc, planar)?))
 }
 
 /// The components of an instance, each as an instance of its own, in the order of their least spins.
@@ -67,12 +67,12 @@ pub fn divide(alloc: Global, p: &Planar) -> Result<Division, NoMemory>
 /// that all parts together take time and memory linear in the spins and bonds. Each part is connected
 /// and drawn on a sphere as the whole is: its spins and faces are at most two more than its bonds, by
 /// Euler's formula, and summed over the parts they are just that. The only error is want of memory.
-pub fn parts(alloc: Global, p: &Planar) -> Result<PartList, NoMemory>
-    ensures { IfOk result (AreParts p.now.instance) }
+pub fn parts(alloc: Global, planar: &Planar) -> Result<PartList, NoMemory>
+    ensures { IfOk result (AreParts planar.now.instance) }
 {
-    let names = p.components().names.as_slice();
-    let split = deal_out(alloc, p.instance(), names)?;
-    parts_of(alloc, p, names, &split)
+    let names = planar.components().names.as_slice();
+    let split = deal_out(alloc, planar.instance(), names)?;
+    parts_of(alloc, planar, names, &split)
 }
 
 // For each bond the least spin of its component.
@@ -179,18 +179,18 @@ fn part_instance(
 // The part of the component with this least spin.
 fn part_from(
     alloc: Global,
-    p: &Planar,
+    planar: &Planar,
     names: &[u32],
     split: &Split,
     least: u32,
 ) -> Result<Part, NoMemory>
-    requires split { IsSplit p.now.instance names.now split.now.spins.lists.items
+    requires split { IsSplit planar.now.instance names.now split.now.spins.lists.items
         split.now.spins.places.items split.now.bonds.lists.items split.now.bonds.places.items }
-    requires least_in { least < p.now.instance.n }
+    requires least_in { least < planar.now.instance.n }
     requires least_own { slice_index names.now least ≡ least }
-    ensures { IfOk result (IsPart p.now.instance least) }
+    ensures { IfOk result (IsPart planar.now.instance least) }
 {
-    let inst = p.instance();
+    let inst = planar.instance();
     let spins = split.spins.lists[least as usize].clone()?;
     let bonds = split.bonds.lists[least as usize].clone()?;
     let instance = part_instance(
@@ -212,15 +212,20 @@ fn part_from(
 }
 
 // The parts of all components.
-fn parts_of(alloc: Global, p: &Planar, names: &[u32], split: &Split) -> Result<PartList, NoMemory>
-    requires { IsSplit p.now.instance names.now split.now.spins.lists.items
+fn parts_of(
+    alloc: Global,
+    planar: &Planar,
+    names: &[u32],
+    split: &Split,
+) -> Result<PartList, NoMemory>
+    requires { IsSplit planar.now.instance names.now split.now.spins.lists.items
         split.now.spins.places.items split.now.bonds.lists.items split.now.bonds.places.items }
-    ensures { IfOk result (AreParts p.now.instance) }
+    ensures { IfOk result (AreParts planar.now.instance) }
 {
     let mut parts = PartList::new(alloc);
-    for spin in 0..p.instance().n() {
+    for spin in 0..planar.instance().n() {
         if names[spin as usize] == spin {
-            parts.push(part_from(alloc, p, names, split, spin)?)?;
+            parts.push(part_from(alloc, planar, names, split, spin)?)?;
         }
     }
     Ok(parts)

@@ -15,14 +15,14 @@ use std::alloc::Global;
 /// Whether the list can be that of the broken bonds of an assignment, as `spin_walk` asks for it: on
 /// each face as many darts of its bonds as darts of negative bonds, up to an even number. The time is
 /// linear in the bonds. It is for a caller whose list comes from outside: a join is known to fit.
-pub fn fits_faces(alloc: Global, p: &Planar, broken: &BondList) -> Result<bool, NoMemory>
+pub fn fits_faces(alloc: Global, planar: &Planar, broken: &BondList) -> Result<bool, NoMemory>
     requires rising { IsStrictlyIncreasing broken.now }
-    requires below { All (λ k. k < bond_count p.now.instance) broken.now }
+    requires below { All (λ k. k < bond_count planar.now.instance) broken.now }
     ensures { IfOk result
-        (λ fits. (fits ≡ true) ↔ FitsFaces p.now.instance p.now.faces broken.now) }
+        (λ fits. (fits ≡ true) ↔ FitsFaces planar.now.instance planar.now.faces broken.now) }
 {
-    let unlike = unlike_bonds(alloc, p.instance(), broken)?;
-    let odd = odd_faces(alloc, p.faces(), &unlike)?;
+    let unlike = unlike_bonds(alloc, planar.instance(), broken)?;
+    let odd = odd_faces(alloc, planar.faces(), &unlike)?;
     Ok(all_unmarked(&odd))
 }
 

@@ -32,10 +32,6 @@ once_or_twice n false h = inl h
 
 module _ (g : Graph) (join left : List ℕ) (is : IsJoin g (odd_nodes g) join)
     (copies : (e : ℕ) → e < edge_count g → left_of left e ≡ 1 + cond (holds join e) 1 0) where
-  -- each edge has a copy
-  pub some_copies : (e : ℕ) → e < edge_count g → 0 < left_of left e
-  some_copies e l = omega (arith, copies e l)
-
   -- a sum over the copies is a sum over all edges and over the join
   copies_sum : (f : ℕ → ℕ) → sum_below (λ e. left_of left e * f e) (edge_count g) ≡ sum_below f (edge_count g) + sum_by f join
   copies_sum f =

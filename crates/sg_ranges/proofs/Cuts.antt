@@ -94,10 +94,6 @@ pub cut_again : (inst : Ising) (s : List ℤ) (x : ℤ) → weight inst ≤ forc
 cut_again inst s x small e = to_z-of_z w64 x (fits_signed_from_abs w64 x (omega (arith, cut_size inst s, ap unsigned_abs e))) ∙ e
 
 module _ (inst other : Ising) (good : IsInstance inst) (same : other ≡ negated inst) (s : List ℤ) where
-  -- the assignments of the one are those of the other
-  pub cut_assignment : IsAssignment other s → IsAssignment inst s
-  cut_assignment h = let g : IsAssignment (negated inst) s = subst (λ i. IsAssignment i s) same h in record { count = g.count; values = g.values }
-
   -- a ground state where every sign is changed is a largest cut
   pub cut_found : (x : ℤ) → IsGroundState other s → x ≡ cut_weight inst s → IsLargestCut inst s x
   cut_found x g value = record {

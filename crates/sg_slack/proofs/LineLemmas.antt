@@ -74,7 +74,3 @@ module _ (members : List Member) (n : ℕ) (line : IsLine members n) where
     where
       both : (a b : ℕ) (x y : ℤ) → a ≡ b → x ≡ y → ◌≡◌ {A = Member} (record { leaf = a; total = x }) (record { leaf = b; total = y })
       both a b x y e f = rw (e, f) refl
-
--- nobody has come
-pub line-none : (members : List Member) → members ≡ [] → IsLine members 0
-line-none members none = record { count = ap (λ (xs : List Member). length xs) none; member = λ i low. absurd (omega (arith, low)) }

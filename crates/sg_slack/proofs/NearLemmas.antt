@@ -1,6 +1,6 @@
 -- What a `Near` keeps, call by call.
 use Rattle.std.proofs.Common.{◌≡◌, ℕ, ◌<◌, ◌≤◌, ◌+◌, List, [], ◌∷◌, ◌++◌, length, map, get_or, set, ℤ, pos}
-use Rattle.std.proofs.Common.{◌+ℤ◌, ◌-ℤ◌, ◌≤ℤ◌, Option, Some, None, Bool, true, false, FitsSigned, ◌^◌}
+use Rattle.std.proofs.Common.{◌+ℤ◌, ◌-ℤ◌, ◌≤ℤ◌, Option, Some, None, Bool, true, false, FitsSigned}
 use Rattle.std.proofs.Common.{◌⊎◌, inl, inr, refl, sym, ap, ◌∙◌, subst, arith, w64, of_z, to_z, length-append}
 use Rattle.std.proofs.lemmas.Int.{ints, to_z-of_z}
 use Rattle.std.specs.Int.{w128}
@@ -163,12 +163,6 @@ module _ (t : Table) (rise : ℤ) (ms : List Kept) (places : List ℕ) (nearest 
               omega (arith, ints, least.least (nearest_at nearest v).leaf v here, nearest-least u v (nearest_at nearest v).leaf some here pair);
         }
 
-    -- without members there is no outer leaf
-    pub Least-none : length ms ≡ 0 → Least t totals (IsOuterFree t marks) None
-    Least-none none u v pair =
-        let at = kept-IsMember rise ms u ((members u pair.u_leaf).0 pair.outer) in
-        omega (arith, none, at.1)
-
   -- a shift
   pub IsNear-shifted : (delta : ℤ) → 0 < length ms → pos 0 ≤ℤ delta → TotalsFit delta (members_of rise ms) → IsNear t (rise +ℤ delta) ms places nearest
   IsNear-shifted delta some whole fits =
@@ -187,10 +181,6 @@ module _ (t : Table) (rise : ℤ) (ms : List Kept) (places : List ℕ) (nearest 
         placed = near.placed;
         each = near.each;
       }
-
-  -- what all have risen by is less than the range of a total
-  pub rise-bounded : 0 < length ms → rise ≤ℤ pos (2 ^ 66)
-  rise-bounded some = omega (arith, ints, near.first some, near.fits 0 some)
 
   -- a new member
   module _ (leaf : ℕ) (total : ℤ) (low : leaf < t.size) (fresh : IsMember (members_of rise ms) leaf → ⊥) (fits : FitsSigned w64 total) where

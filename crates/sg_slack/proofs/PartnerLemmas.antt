@@ -3,12 +3,11 @@ use Rattle.std.proofs.Common.{◌≡◌, ◌≢◌, ℕ, ◌<◌, ◌≤◌, ◌
 use Rattle.std.proofs.Common.{◌+ℤ◌, ◌-ℤ◌, Option, Some, None, ◌⊎◌, inl, inr, refl, sym, ap, ◌∙◌, subst, arith}
 use Rattle.std.proofs.lemmas.Bool.{cases_eq, cases_lt}
 use Rattle.std.proofs.lemmas.Int.{ints}
-use Rattle.std.proofs.lemmas.Option.{same_Some, none-some}
 use Rattle.std.proofs.lemmas.List.{get_or_append_left, get_or-set_other, get_or-set_same}
 use Rattle.sg_slack.proofs.NearLemmas.{Least-renamed}
 use Rattle.sg_slack.proofs.ScanLemmas.{Bound-keep, Bounds-nearer, Bounds-of, Least-nearer, Least-same, below_next}
 use Rattle.sg_slack.specs.Kept.{kept_at}
-use Rattle.sg_slack.specs.Partner.{AreLeaves, ArePartners, AreRisen, HasCost, HasRoom, HasSlots, IsCoarser, KeepsPartners}
+use Rattle.sg_slack.specs.Partner.{ArePartners, AreRisen, KeepsPartners}
 use Rattle.sg_slack.specs.Partner.{IsPairWith, IsPartner, IsPartnerOf, away_of, group_at, partner_at, top_of}
 use Rattle.sg_slack.specs.Scan.{Bounds, IsApartBefore, IsApartFrom, IsApartOf, IsLesser, IsNoMore, IsWithMember, LeastBefore}
 use Rattle.sg_slack.specs.Slack.{Least, slack_of, total_at}
@@ -17,15 +16,6 @@ use Rattle.sg_slack.specs.declared.Pair.{Pair}
 use Rattle.sg_slack.specs.declared.member.Kept.{Kept}
 use Rattle.sg_slack.specs.declared.partners.Partner.{Partner}
 use Rattle.sg_slack.specs.declared.partners.Partners.{Partners}
-
--- where nothing is kept, nothing is asked
-pub KeepsPartners-bare : (t : Table) (members : List Kept) (p : Partners) → HasRoom t.size p → p.seen ≡ 0 → KeepsPartners t members p
-KeepsPartners-bare t members p room bare =
-    record {
-      room = room;
-      within = omega (arith, bare);
-      each = λ i low. absurd (omega (arith, bare, low));
-    }
 
 module _ (t : Table) (ms more : List Kept) (n : ℕ) (group : ℕ → ℕ) (place : ℕ) (same : (i : ℕ) → i < n → kept_at more i ≡ kept_at ms i)
     (here : place < n) where
@@ -55,37 +45,9 @@ KeepsPartners-more t ms m p keeps =
           low (partner_at p.nearest.items i) (keeps.each i low);
     }
 
--- a top that has come into the top of its slot has come into one top
-pub IsCoarser-slots : (members : List Kept) (n : ℕ) (then now slots : List ℕ) → HasSlots members n then now slots → IsCoarser members n then now
-IsCoarser-slots members n then now slots has i j low_i low_j same =
-    sym (has i low_i) ∙ ap (λ k. get_or slots k 0) same ∙ has j low_j
-
--- groups of the same members
-module _ (t : Table) (members : List Kept) (n : ℕ) (group other : ℕ → ℕ) (place : ℕ) (same : (i : ℕ) → i < n → group i ≡ other i) (here : place < n)
-  where
-    -- a partner stays one where the tops are grouped as before
-    pub IsPartner-same : (o : Option Partner) → IsPartner t members n group place o → IsPartner t members n other place o
-    IsPartner-same None is = λ i low. sym (same i low) ∙ is i low ∙ same place here
-    IsPartner-same (Some p) is =
-        record {
-          at = is.at;
-          low = is.low;
-          leaf = is.leaf;
-          cost = is.cost;
-          least = λ i low differ. is.least i low (λ equal. differ (sym (same i low) ∙ equal ∙ same place here));
-        }
-
 -- groups that have come into those of the tops
 abbrev pub ComeTogether : List Kept → ℕ → (ℕ → ℕ) → List ℕ → Type 0
 ComeTogether members n group tops = (i j : ℕ) → i < n → j < n → group i ≡ group j → top_of members tops i ≡ top_of members tops j
-
--- what is kept has its cost
-pub HasCost-kept : (t : Table) (members : List Kept) (n : ℕ) (group : ℕ → ℕ) (place : ℕ) → AreLeaves t.size members → n ≤ length members →
-    (o : Option Partner) → IsPartner t members n group place o → HasCost t (kept_at members place).leaf o
-HasCost-kept t members n group place leaves within None is p same = absurd (none-some p same)
-HasCost-kept t members n group place leaves within (Some q) is p same =
-    subst (λ (r : Partner). (r.leaf < t.size) × (r.cost ≡ cost_of t (kept_at members place).leaf r.leaf)) (same_Some q p same)
-    (subst (λ k. k < t.size) is.leaf (leaves.low is.at (omega (arith, is.low, within))), is.cost)
 
 module _ (t : Table) (totals : List ℤ) (members : List Kept) (tops : List ℕ) (risen : AreRisen members totals) (place : ℕ) where
   abbrev row : ℕ
@@ -234,10 +196,6 @@ ArePartners-set t members tops nearest place o here are is i low = elim (cases_e
 
 -- the scan of the members from a place on
 module _ (t : Table) (totals : List ℤ) (members : List Kept) (tops : List ℕ) (row start : ℕ) where
-  -- before the first one there is none
-  pub From-start : Least t totals (IsApartFrom start start members tops row) None
-  From-start u v is = absurd (omega (arith, is.2.1, is.2.2))
-
   module _ (place : ℕ) where
     abbrev Here' : ℕ → ℕ → Type 0
     Here' u v = (u ≡ row) × (get_or tops u 0 ≢ get_or tops v 0) × ((kept_at members place).leaf ≡ v)

@@ -133,11 +133,6 @@ module _ (t : Table) (totals : List ℤ) (Is : ℕ → ℕ → Type 0) (row : �
       Least-same t totals (Before place) (Here place) (Before (place + 1)) (wider place) (reached place) (split place) best
       (λ u v here. none (subst (λ a. Is a place) (in_row u v here.1) (subst (λ b. Is u b) here.0 here.1))) least
 
-  -- the whole row
-  pub Row-whole : (best : Option Pair) (size : ℕ) → ((u v : ℕ) → Is u v → v < size) → Least t totals (Before size) best → Least t totals Is best
-  Row-whole None size low none = λ u v is. none u v (low u v is, is)
-  Row-whole (Some p) size low least = record { one = least.one.1; slack = least.slack; least = λ u v is. least.least u v (low u v is, is) }
-
 -- row by row
 module _ (t : Table) (totals : List ℤ) (Is : ℕ → ℕ → Type 0) where
   abbrev Above : ℕ → ℕ → ℕ → Type 0
@@ -167,8 +162,3 @@ module _ (t : Table) (totals : List ℤ) (Is : ℕ → ℕ → Type 0) where
   -- a row without a pair
   pub Rows-none : (best : Option Pair) (row : ℕ) → ((u v : ℕ) → Of row u v → ⊥) → Least t totals (Above row) best → Least t totals (Above (row + 1)) best
   Rows-none best row = Least-same t totals (Above row) (Of row) (Above (row + 1)) (wider' row) (reached' row) (split' row) best
-
-  -- all rows
-  pub Rows-all : (best : Option Pair) (size : ℕ) → ((u v : ℕ) → Is u v → u < size) → Least t totals (Above size) best → Least t totals Is best
-  Rows-all None size low none = λ u v is. none u v (low u v is, is)
-  Rows-all (Some p) size low least = record { one = least.one.1; slack = least.slack; least = λ u v is. least.least u v (low u v is, is) }

@@ -104,12 +104,6 @@ parity_below-none p (suc n) h =
     let e : p n ≡ false = h n (omega arith) in
     rw e (parity_below-none p n (λ k l. h k (omega arith)))
 
--- a fixed condition may stand before the parity below n
-pub parity_below-and : (b : Bool) (p : ℕ → Bool) (n : ℕ) → parity_below (λ k. b && p k) n ≡ (b && parity_below p n)
-parity_below-and true p n = refl
-parity_below-and false p zero = refl
-parity_below-and false p (suc n) = parity_below-and false p n
-
 -- the order of two sums is free
 pub parity_exchange : {X : Type 0} (f : X → ℕ → Bool) (xs : List X) (n : ℕ) →
     parity_by (λ x. parity_below (f x) n) xs ≡ parity_below (λ k. parity_by (λ x. f x k) xs) n

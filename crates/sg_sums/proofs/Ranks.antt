@@ -1,6 +1,6 @@
 -- Ranks: how many of the lesser numbers pass. Each rank below the count is that of a number that passes, and of no other.
-use Rattle.std.proofs.Common.{inl, inr, ◌≡◌, ◌∙◌, sym, ap, refl, ℕ, zero, suc, ◌+◌, ◌<◌, ◌≤◌, Bool, true, false, cond, arith}
-use Rattle.std.proofs.lemmas.Bool.{cases_Bool, cases_eq, cases_lt}
+use Rattle.std.proofs.Common.{inl, inr, ◌≡◌, ◌∙◌, sym, ap, ℕ, zero, suc, ◌+◌, ◌<◌, ◌≤◌, Bool, true, false, cond, arith}
+use Rattle.std.proofs.lemmas.Bool.{cases_Bool, cases_eq}
 use Rattle.sg_sums.specs.Sums.{sum_below}
 
 -- how many of the numbers below n pass
@@ -25,16 +25,6 @@ rank_rises p m (suc n) l = elim (cases_eq m (suc n)) [
 -- the rank of a number that passes is below each later one
 pub rank_less : (p : ℕ → Bool) (m n : ℕ) → m < n → p m ≡ true → rank p m < rank p n
 rank_less p m n l h = let next : rank p (suc m) ≤ rank p n = rank_rises p (suc m) n (omega arith) in omega (arith, rank_yes p m h)
-
--- so numbers that pass have different ranks
-pub rank_apart : (p : ℕ → Bool) (m n : ℕ) → p m ≡ true → p n ≡ true → rank p m ≡ rank p n → m ≡ n
-rank_apart p m n h k e = elim (cases_eq m n) [
-  | inl same ↦ same
-  | inr ne ↦ elim (cases_lt m n) [
-    | inl l ↦ (let less : rank p m < rank p n = rank_less p m n l h in absurd (omega arith))
-    | inr g ↦ (let less : rank p n < rank p m = rank_less p n m (omega arith) k in absurd (omega arith))
-  ]
-]
 
 -- the number that passes with a rank below the count
 pub at_rank : (p : ℕ → Bool) (c n : ℕ) → c < rank p n → (r : ℕ) × (r < n) × (p r ≡ true) × (rank p r ≡ c)

@@ -11,12 +11,6 @@ use Rattle.sg_pairing.specs.Matching.{IsPairing}
 use Rattle.sg_tjoin.specs.Turns.{ends_pair, leads_pair}
 
 module _ (terminals mates : List ℕ) (rising : IsStrictlyIncreasing terminals) (pairing : IsPairing (length terminals) mates) where
-  term : ℕ → ℕ
-  term i = get_or terminals i 0
-
-  mate : ℕ → ℕ
-  mate i = get_or mates i 0
-
   distinct : (i j : ℕ) → i < length terminals → j < length terminals → get_or terminals i 0 ≡ get_or terminals j 0 → i ≡ j
   distinct i j l m e = elim (cases_lt i j) [
     | inl lt ↦ absurd (omega (arith, rising_order terminals rising i j lt m, e))

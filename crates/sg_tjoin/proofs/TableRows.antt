@@ -1,23 +1,19 @@
 -- Tables of the terminals, one after another.
-use Rattle.std.proofs.Common.{inl, inr, ◌≡◌, ℕ, ◌+◌, ◌<◌, List, [], ◌∷◌, ◌++◌, ◌∙◌, sym, ap, arith, All, length, get_or, refl}
+use Rattle.std.proofs.Common.{inl, inr, ◌≡◌, ℕ, ◌+◌, ◌<◌, List, [], ◌∷◌, ◌++◌, ◌∙◌, sym, ap, arith, All, length, get_or}
 use Rattle.std.proofs.lemmas.Bool.{cases_eq}
 use Rattle.std.proofs.lemmas.List.{length_push}
 use Rattle.std.proofs.Math.ListN.{get_or-append}
 use Rattle.std.proofs.Math.Seq.{get_or-append_seam}
-use Rattle.std.proofs.lemmas.List.Elements.{All-nil, All-push}
+use Rattle.std.proofs.lemmas.List.Elements.{All-push}
 use Rattle.sg_graph.specs.Web.{Graph}
 use Rattle.sg_graph.specs.Table.{IsTableOf, Routes}
-use Rattle.sg_moat.specs.Input.{AreTerminalTables, blank_table, table_at}
+use Rattle.sg_moat.specs.Input.{blank_table, table_at}
 
 -- a table for each of the first few terminals
 pub record AreFirstTables (g : Graph) (terminals : List ℕ) (upto : ℕ) (tables : List Routes) : Type 0 where
   pub count : length tables ≡ upto
   pub each : All (IsTableOf g) tables
   pub sources : (i : ℕ) → i < upto → (table_at tables i).source ≡ get_or terminals i 0
-
--- before the first terminal there is no table
-pub AreFirstTables-none : (g : Graph) (terminals : List ℕ) → AreFirstTables g terminals 0 []
-AreFirstTables-none g terminals = record { count = refl; each = All-nil (IsTableOf g); sources = λ i l. absurd (omega arith) }
 
 module _ (g : Graph) (terminals : List ℕ) (upto : ℕ) (tables : List Routes) (s : AreFirstTables g terminals upto tables) where
   -- one table more, of the next terminal
@@ -32,7 +28,3 @@ module _ (g : Graph) (terminals : List ℕ) (upto : ℕ) (tables : List Routes) 
       | inr differs ↦ ap (λ (u : Routes). u.source) (get_or-append tables (t ∷ []) blank_table i (omega (arith, s.count))) ∙ s.sources i (omega arith)
     ];
   }
-
-  -- after the last terminal each has its table
-  pub AreFirstTables-all : upto ≡ length terminals → AreTerminalTables g terminals tables
-  AreFirstTables-all all = record { count = s.count ∙ all; each = s.each; sources = λ i l. s.sources i (omega arith) }

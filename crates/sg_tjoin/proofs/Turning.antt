@@ -1,10 +1,10 @@
 -- The edges that are marked when the walks of all pairs of mates were turned: a join of the terminals, of half the cost
 -- of the pairs at most.
-use Rattle.std.proofs.Common.{inl, inr, ap₂, ◌≡◌, ℕ, zero, suc, ◌+◌, ◌*◌, ◌<◌, ◌≤◌, ◌++◌, add-one, Bool, true, false, cond, ◌&&◌, eqb, List, [], refl, ◌∙◌, sym, ap, arith, length, get_or, replicate, sum_by}
+use Rattle.std.proofs.Common.{inl, inr, ap₂, ◌≡◌, ℕ, zero, suc, ◌+◌, ◌*◌, ◌<◌, ◌≤◌, ◌++◌, add-one, Bool, true, false, cond, ◌&&◌, eqb, List, [], refl, ◌∙◌, sym, ap, arith, length, get_or, sum_by}
 use Rattle.std.specs.List.{range_with_len}
 use Rattle.std.proofs.lemmas.Bool.{cases_lt, le-ltb, lt-ltb}
 use Rattle.std.proofs.lemmas.List.{get_or_past}
-use Rattle.std.proofs.lemmas.List.Elements.{All-append, All-nil}
+use Rattle.std.proofs.lemmas.List.Elements.{All-append}
 use Rattle.std.proofs.lemmas.List.Sums.{sum_by-append}
 use Rattle.sg_sums.specs.Parity.{parity_below, parity_by, xor}
 use Rattle.sg_sums.specs.Sets.{chosen_below, holds, is_marked}
@@ -26,25 +26,7 @@ use Rattle.sg_tjoin.specs.Doubled.{apart}
 use Rattle.sg_tjoin.specs.Turns.{AreTurned, TurnsWalk, ends_pair, is_odd_end, leads_pair}
 use Rattle.sg_tjoin.proofs.PairEnds.{pairs_parity}
 
--- no mark is set
-is_marked-none : (n e : ℕ) → is_marked (replicate n false) e ≡ false
-is_marked-none zero e = refl
-is_marked-none (suc n) zero = refl
-is_marked-none (suc n) (suc e) = is_marked-none n e
-
 module _ (g : Graph) (terminals : List ℕ) (tables : List Routes) (mates : List ℕ) where
-  -- before the first pair no edge is marked
-  pub AreTurned-none : (marks : List Bool) → length marks ≡ edge_count g → marks ≡ replicate (edge_count g) false → AreTurned g terminals tables mates 0 marks
-  AreTurned-none marks count is = record {
-    count = count;
-    walks = [];
-    bare = λ e. refl;
-    below = All-nil (λ e. e < edge_count g);
-    turned = λ e l. ap (λ ms. is_marked ms e) is ∙ is_marked-none (edge_count g) e;
-    ends = λ x. refl;
-    weighs = refl;
-  }
-
   module _ (i : ℕ) (marks : List Bool) (t : AreTurned g terminals tables mates i marks) where
     -- a leaf whose mate comes earlier turns nothing
     pub AreTurned-skip : get_or mates i 0 ≤ i → AreTurned g terminals tables mates (i + 1) marks

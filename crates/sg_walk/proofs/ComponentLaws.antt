@@ -7,7 +7,7 @@ use Rattle.sg_sums.specs.Sets.{holds}
 use Rattle.sg_model.specs.declared.bond.Bond.{Bond}
 use Rattle.sg_model.specs.Ising.{Ising, bond_count}
 use Rattle.sg_model.specs.WellFormed.{IsInstance}
-use Rattle.sg_model.specs.Connected.{AreLeasts, IsConnected, Reached, all_bonds}
+use Rattle.sg_model.specs.Connected.{IsConnected, Reached, all_bonds}
 use Rattle.sg_model.specs.Changes.{HasSameEnds, with_bonds}
 use Rattle.sg_model.proofs.LeastSpins.{connected_leasts, one_list}
 use Rattle.sg_model.proofs.Paths.{reached_back, reached_on}

@@ -1,11 +1,11 @@
 -- A search: one dart of a visit, one visit, and the whole.
-use Rattle.std.proofs.Common.{⊎_elim, subst, inl, inr, ◌≡◌, ◌≢◌, ◌⊎◌, ℕ, ◌+◌, ◌/◌, ◌<◌, ◌≤◌, Bool, true, false, not, ◌&&◌, cond, List, [], ◌∷◌, ◌++◌, set, take, replicate, refl, sym, ◌∙◌, ap, arith, All, length, get_or}
+use Rattle.std.proofs.Common.{⊎_elim, subst, inl, inr, ◌≡◌, ◌≢◌, ◌⊎◌, ℕ, ◌+◌, ◌/◌, ◌<◌, ◌≤◌, Bool, true, false, not, ◌&&◌, cond, List, [], ◌∷◌, ◌++◌, set, take, refl, sym, ◌∙◌, ap, arith, All, length, get_or}
 use Rattle.std.proofs.lemmas.List.{length-set, length_push, get_or_push, get_or_append_left}
-use Rattle.std.proofs.lemmas.List.Elements.{All-nil, All-more, All-weaker}
+use Rattle.std.proofs.lemmas.List.Elements.{All-more, All-weaker}
 use Rattle.std.proofs.lemmas.List.Sums.{sum_by-set}
 use Rattle.std.proofs.lemmas.Bool.{cases_eq, cases_lt}
 use Rattle.sg_sums.specs.Sets.{IsMarked, Stands}
-use Rattle.sg_sums.proofs.MarkLaws.{marked_in, marked_here, marked_still, marked_or_here, none_marked}
+use Rattle.sg_sums.proofs.MarkLaws.{marked_in, marked_here, marked_still, marked_or_here}
 use Rattle.sg_model.specs.Ising.{Ising}
 use Rattle.sg_model.specs.Rotation.{darts_of, dart_count, head_of, tail}
 use Rattle.sg_model.specs.Connected.{JoinedBy, IsWalk, Reached}
@@ -52,22 +52,6 @@ leads_parts true false h = (refl, refl)
 leads_parts false m h = let w = h in cc
 
 module _ (inst : Ising) (bonds : ℕ → Bool) (spin : ℕ) where
-  -- over no dart nothing is marked or noted
-  pub visits_none : (marks : List Bool) (order : List ℕ) → Visits inst bonds spin [] marks marks order order
-  visits_none marks order = record {
-    lengths = refl;
-    kept = λ x h. h;
-    heads = All-nil (IsSeen inst bonds marks);
-    longer = omega arith;
-    stays = λ k l. refl;
-    found = λ x h. inl h;
-    sound = λ k a b. absurd (omega arith);
-    fresh = λ k a b. absurd (omega arith);
-    joined = λ k a b. absurd (omega arith);
-    once = λ j k a b c. absurd (omega arith);
-    count = refl;
-  }
-
   module _ (darts : List ℕ) (old now : List Bool) (before after : List ℕ) (i : ℕ) (l : i < length darts)
       (w : Visits inst bonds spin (take i darts) old now before after) where
     -- the dart is not of the set, or leads to a marked spin
@@ -255,10 +239,6 @@ module _ (inst : Ising) (good : IsInstance inst) (bonds : ℕ → Bool) (root : 
           subst (λ s. All (IsSeen inst bonds marks) (darts_of inst s)) e (h.done k (omega (arith, kl))) in
           let place : (j : ℕ) × (j < length (darts_of inst a)) × (get_or (darts_of inst a) j 0 ≡ d) = place_at inst good a d l leaves in
           subst (IsMarked marks) (ap (head_of inst) place.2 ∙ leads) (heads place.0 0 place.1 (ap (λ x. bonds (x / 2)) place.2 ∙ inside))
-
--- where nothing is marked, no bond leaves a marked spin
-pub none_closed : (inst : Ising) (bonds : ℕ → Bool) (n : ℕ) → IsClosed inst bonds (replicate n false)
-none_closed inst bonds n a b j m = absurd (none_marked n a m)
 
 -- marks that no bond of the set leaves hold what their spins reach
 pub marked_along : (inst : Ising) (bonds : ℕ → Bool) (marks : List Bool) → IsClosed inst bonds marks → (a b : ℕ) → Reached inst bonds a b →

@@ -1,37 +1,15 @@
 -- Names of spins: one walk names the spins that it finds, and the walks from all spins name all.
-use Rattle.std.proofs.Common.{◌≡◌, ◌≢◌, ◌⊎◌, inl, inr, ℕ, ◌+◌, ◌<◌, ◌≤◌, Bool, true, false, List, length, get_or, replicate, sym, ◌∙◌, ap, subst, arith}
+use Rattle.std.proofs.Common.{◌≡◌, ◌≢◌, ◌⊎◌, inl, inr, ℕ, ◌+◌, ◌<◌, ◌≤◌, Bool, true, false, List, length, get_or, sym, ◌∙◌, ap, subst, arith}
 use Rattle.std.proofs.lemmas.Bool.{cases_eq, cases_lt}
-use Rattle.std.proofs.lemmas.List.{length-replicate}
 use Rattle.sg_sums.specs.Sets.{IsMarked, Stands}
-use Rattle.sg_sums.proofs.MarkLaws.{none_marked}
 use Rattle.sg_model.specs.Ising.{Ising}
 use Rattle.sg_model.specs.Connected.{Reached}
 use Rattle.sg_model.proofs.Paths.{reached_back, reached_on}
 use Rattle.sg_walk.specs.Walk.{IsWalked}
 use Rattle.sg_walk.specs.Naming.{AllNamed, IsNamed, NamedTo}
-use Rattle.sg_walk.proofs.Searches.{marked_along, none_closed}
-
--- before the first walk
-pub named_none : (inst : Ising) (set : ℕ → Bool) (names : List ℕ) → length names ≡ inst.n → NamedTo inst set (replicate inst.n false) names 0
-named_none inst set names count = record {
-  marks_count = length-replicate inst.n false;
-  names_count = count;
-  named = λ x h. absurd (none_marked inst.n x h);
-  closed = none_closed inst set inst.n;
-  done = λ x l. absurd (omega arith);
-}
+use Rattle.sg_walk.proofs.Searches.{marked_along}
 
 module _ (inst : Ising) (set : ℕ → Bool) (spin : ℕ) (old now : List Bool) (order before after : List ℕ) (was : NamedTo inst set old before spin) where
-  -- a spin that has a name needs no walk
-  pub named_before : IsMarked old spin → NamedTo inst set old before (spin + 1)
-  named_before here = record {
-    marks_count = was.marks_count;
-    names_count = was.names_count;
-    named = was.named;
-    closed = was.closed;
-    done = λ x l. elim (cases_eq x spin) [ inl e ↦ subst (IsMarked old) (sym e) here | inr ne ↦ was.done x (omega arith) ];
-  }
-
   module _ (free : get_or old spin false ≡ false) (walk : IsWalked inst set spin old now order)
       (given : (k : ℕ) → k < length order → get_or after (get_or order k 0) 0 ≡ spin)
       (others : (x : ℕ) → ((k : ℕ) → k < length order → get_or order k 0 ≢ x) → get_or after x 0 ≡ get_or before x 0)

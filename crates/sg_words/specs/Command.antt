@@ -79,10 +79,10 @@ widths_of seed rows cols count =
 
 -- the command of six words, of which the second is left out
 unfoldable pub six_words : List ℕ → List ℕ → List ℕ → List ℕ → List ℕ → Option Command
-six_words word seed a b c =
-    if bytes_eq word (codes "gen") then gen_of seed a b c
-    else (if bytes_eq word (codes "ensemble") then ensemble_of seed a b c
-    else (if bytes_eq word (codes "widths") then widths_of seed a b c
+six_words word seed fourth fifth sixth =
+    if bytes_eq word (codes "gen") then gen_of seed fourth fifth sixth
+    else (if bytes_eq word (codes "ensemble") then ensemble_of seed fourth fifth sixth
+    else (if bytes_eq word (codes "widths") then widths_of seed fourth fifth sixth
     else None))
 
 -- the command of the words, each given by its bytes; none where the words have no shape. The second word of a command
@@ -91,7 +91,7 @@ abbrev pub command_of : List (List ℕ) → Option Command
 command_of (word ∷ []) = command_named word
 command_of (word ∷ law ∷ seed ∷ rows ∷ cols ∷ []) =
     if bytes_eq word (codes "sample") then sample_of seed rows cols else None
-command_of (word ∷ law ∷ seed ∷ a ∷ b ∷ c ∷ []) = six_words word seed a b c
+command_of (word ∷ law ∷ seed ∷ fourth ∷ fifth ∷ sixth ∷ []) = six_words word seed fourth fifth sixth
 command_of _ = None
 
 -- the name of a law, where the words have one

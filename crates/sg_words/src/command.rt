@@ -1,4 +1,4 @@
-ghost use Rattle.std.specs.Prelude.{◌≡◌, ◌≤◌, Some, None, codes, if◌then◌else◌, map, string_bytes, IfSome};
+ghost use Rattle.std.specs.Prelude.{◌≡◌, ◌≤◌, None, codes, if◌then◌else◌, map, string_bytes, IfSome};
 ghost use Rattle.std.specs.Str.{bytes_eq};
 ghost use Rattle.sg_lattice.specs.Tables.{least_cols as least_columns};
 ghost use Rattle.sg_words.specs.Command.{command_named, command_of, ensemble_of, gen_of, IsAllowed, IsAllowedSize, kind_named, law_word as second_word, sample_of, six_words, size_of_words, widths_of};
@@ -85,7 +85,7 @@ pub fn parse_command(words: &[String]) -> Option<Command>
     match words {
         [word] => command_named(word.as_str()),
         [word, _, seed, rows, cols] => five_words(word, seed, rows, cols),
-        [word, _, seed, a, b, c] => six_words(word, seed, a, b, c),
+        [word, _, seed, fourth, fifth, sixth] => six_words(word, seed, fourth, fifth, sixth),
         _ => None,
     }
 }
@@ -146,16 +146,16 @@ fn five_words(word: &str, seed: &str, rows: &str, cols: &str) -> Option<Command>
 
 // The command of six words, of which the second is left out.
 #[tactic(auto, unfolding(crate::specs::Command::six_words))]
-fn six_words(word: &str, seed: &str, a: &str, b: &str, c: &str) -> Option<Command>
-    ensures value { result ≡ six_words word.now seed.now a.now b.now c.now }
+fn six_words(word: &str, seed: &str, fourth: &str, fifth: &str, sixth: &str) -> Option<Command>
+    ensures value { result ≡ six_words word.now seed.now fourth.now fifth.now sixth.now }
     ensures allowed { IfSome result IsAllowed }
 {
     if word == "gen" {
-        gen_of(seed, a, b, c)
+        gen_of(seed, fourth, fifth, sixth)
     } else if word == "ensemble" {
-        ensemble_of(seed, a, b, c)
+        ensemble_of(seed, fourth, fifth, sixth)
     } else if word == "widths" {
-        widths_of(seed, a, b, c)
+        widths_of(seed, fourth, fifth, sixth)
     } else {
         None
     }

@@ -1,4 +1,4 @@
-use Rattle.std.proofs.Common.{rules, ◌≡◌, ◌++◌, ap, ◌∙◌, sym, subst, arith, w64, to_z-of_z}
+use Rattle.std.proofs.Common.{rules, ◌≡◌, ◌∙◌, sym, subst, arith, w64, to_z-of_z}
 use Rattle.std.proofs.lemmas.List.Elements.{All-push}
 use Rattle.sg_laws.specs.Stream.{Draws, IsDraw}
 use Rattle.sg_laws.proofs.Streams.{one_more, one_fewer, all_found, all_made}

@@ -1,4 +1,4 @@
-use Rattle.std.proofs.Common.{rules, arith, ◌≡◌, ◌+◌, ℕ, length}
+use Rattle.std.proofs.Common.{rules, ◌≡◌, ◌+◌, length}
 use Rattle.sg_laws.proofs.Rounds.{round_wrapped}
 use Rattle.sg_laws.proofs.table.place_after.Goals as goal
 

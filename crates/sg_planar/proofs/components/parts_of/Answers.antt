@@ -10,7 +10,7 @@ use Rattle.sg_planar.proofs.components.parts_of.Goals.{then-names-spin+in_ok-par
 pub loop-spin-preserved : goal.loop-spin-preserved
 loop-spin-preserved c =
     let names = c.args.names.now in
-    let inst = c.args.p.now.instance in
+    let inst = c.args.planar.now.instance in
     let spin = c.loop-spin.spin in
     elim c.if-names-spin.branch [
       | then-names-spin+in_ok-part_from+in_ok-push w ↦
@@ -26,7 +26,7 @@ loop-spin-preserved c =
 pub returns : goal.returns
 returns c =
     let names = c.args.names.now in
-    let inst = c.args.p.now.instance in
+    let inst = c.args.planar.now.instance in
     let all : c.loop-spin.spin ≡ inst.n =
     omega (arith, c.loop-spin-test.false, c.loop-spin.auto.spin-end, c.n-spin-end.ensures.value, ap (λ i. i.n) c.instance.ensures.value) in
     parts_made inst c.instance.ensures.planar.instance (slice_index names) c.requires.naming c.loop-spin.parts

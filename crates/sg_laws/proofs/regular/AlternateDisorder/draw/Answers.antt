@@ -1,4 +1,4 @@
-use Rattle.std.proofs.Common.{rules, arith, ◌≡◌, ◌≢◌, ◌+◌, ◌%◌, ℕ, eq-eqb}
+use Rattle.std.proofs.Common.{rules, ◌≡◌, ◌≢◌, ◌%◌}
 use Rattle.sg_laws.proofs.Alternations.{alternating_even, alternating_odd}
 use Rattle.sg_laws.proofs.regular.AlternateDisorder.draw.Goals as goal
 

@@ -1,5 +1,4 @@
-use Rattle.std.proofs.Common.{rules, ◌≡◌, ◌+◌, ◌<◌, ◌∷◌, ◌∙◌, ℕ, ap, sym, length, w64, to_z-of_z}
-use Rattle.sg_laws.specs.Stream.{round}
+use Rattle.std.proofs.Common.{rules, w64, to_z-of_z}
 use Rattle.sg_laws.proofs.Rounds.{round_read}
 use Rattle.sg_laws.proofs.table.TableDisorder.draw.Goals as goal
 

@@ -1,4 +1,4 @@
-use Rattle.std.proofs.Common.{◌≡◌, ℕ, List, [], ◌∷◌, replicate, ◌∙◌, ap}
+use Rattle.std.proofs.Common.{◌≡◌, [], ◌∷◌, replicate, ◌∙◌, ap}
 use Rattle.sg_walk.proofs.ComponentLaws.{one_component}
 use Rattle.sg_walk.proofs.parting.Components.whole.Goals as goal
 
