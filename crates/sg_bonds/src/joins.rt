@@ -12,7 +12,7 @@ ghost use Rattle.sg_bonds.specs.JoinsWith.{IsLeastBeside, IsLeastJoinWith, turne
 use super::NoMemory;
 use sg_graph::{EdgeList, Terminals, Web, turn_ends};
 use sg_nest::{Judge, Nest};
-use sg_regions::Repairs;
+use sg_repairs::Repairs;
 use sg_sums::{all_below, flip, places};
 use std::alloc::Global;
 

@@ -20,7 +20,7 @@ use sg_ground::State;
 use sg_model::Bond;
 use sg_nest::Judge;
 use sg_planar::{Planar, spin_walk};
-use sg_regions::Repairs;
+use sg_repairs::Repairs;
 use std::alloc::Global;
 use std::marker::Model;
 

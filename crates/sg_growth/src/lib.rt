@@ -1,5 +1,5 @@
-//! What growing regions keep: the lists that `sg_regions` finds its proposals by, each by its own rules
-//! and none with a part of the method.
+//! What growing regions keep, and what is left of them in the end: the lists that `sg_region_engine`
+//! works on, each by its own rules and none with a part of the method.
 //!
 //! - [`Adjacency`] has the arcs between nodes, each edge with two darts.
 //! - [`Cover`] tells which region has taken a node, and at which radius; [`Forest`] which region is a part
@@ -8,6 +8,7 @@
 //!   base, so that a region that moves moves all its parts at once.
 //! - [`Clock`] has the time, and what comes next of all that waits: at most one event for each dart, each
 //!   region and each hub. [`Hubs`] orders the arcs at nodes of high degree, so that only the soonest waits.
+//! - [`Nest`] has the finished regions: who took each node and when, and how they lie in one another.
 //! - [`Work`] counts what is done, against what is allowed.
 //! - [`Slot`] is a number that may be missing, in four bytes; the free functions read and write lists at
 //!   places that may lie beyond their end.
@@ -28,6 +29,7 @@ mod families;
 mod forest;
 mod hubs;
 mod lists;
+mod nest;
 mod radii;
 mod trees;
 mod work;
@@ -41,6 +43,7 @@ pub use cycles::{Cycles, Link};
 pub use forest::{Forest, Step};
 pub use hubs::{Hubs, Soon};
 pub use lists::{Slot, copy_list, count_at, entry, number, put_entry, set_entry, sum_up};
+pub use nest::{Nest, Pair};
 pub use radii::{Reach, Role};
 use std::alloc::AllocError;
 pub use work::Work;

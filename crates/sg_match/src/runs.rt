@@ -1,10 +1,11 @@
-ghost use Rattle.std.specs.Prelude.{◌≡◌, ◌≤◌, IfOk, None, replicate, vec_capacity};
+ghost use Rattle.std.specs.Prelude.{◌≡◌, ◌≤◌, ◌+◌, ◌*◌, ◌^◌, [], IfOk, None, length, replicate, vec_capacity};
 ghost use Rattle.sg_arena.specs.Family.{leaf_count};
+ghost use Rattle.sg_match.specs.Marks.{IsListed};
 
 use super::leaves::list_leaves;
 use super::mates::derive_mates;
-use super::{Edge, Engine, Matched, Mates, NoMemory, Stage};
-use sg_arena::Arena;
+use super::{Edge, Engine, Matched, Mates, NoMemory, Stage, TreeEdge};
+use sg_arena::{Arena, Link};
 use sg_slack::{Costs, Mark, Near};
 use sg_steps::Steps;
 use std::alloc::Global;
@@ -31,6 +32,92 @@ fn no_pairs(alloc: Global, room: usize) -> Result<Vec<Option<Edge>>, NoMemory>
     Ok(vec![in alloc; None; room]?)
 }
 
+// Lists that a step fills.
+#[derive(Drop)]
+struct Lists {
+    edges: Vec<TreeEdge>,
+    outer: Vec<usize>,
+    inner: Vec<usize>,
+    cycle: Vec<Link>,
+    ring: Vec<Link>,
+}
+
+// Empty lists, with room for so many names, and for the links of all of them and of one more.
+fn empty_lists(alloc: Global, room: usize) -> Result<Lists, NoMemory>
+    ensures empty { IfOk result (λ lists. lists.edges.items ≡ []) }
+    ensures edges { IfOk result (λ lists. room ≤ vec_capacity lists.edges) }
+    ensures outer { IfOk result (λ lists. room + 1 ≤ vec_capacity lists.outer) }
+    ensures inner { IfOk result (λ lists. room ≤ vec_capacity lists.inner) }
+    ensures cycle { IfOk result (λ lists. 2 * room + 1 ≤ vec_capacity lists.cycle) }
+    ensures ring { IfOk result (λ lists. 2 * room + 1 ≤ vec_capacity lists.ring) }
+{
+    let edges = Vec::with_capacity(alloc, room)?;
+    let outer = Vec::with_capacity(alloc, room + 1)?;
+    let inner = Vec::with_capacity(alloc, room)?;
+    let cycle = Vec::with_capacity(alloc, 2 * room + 1)?;
+    let ring = Vec::with_capacity(alloc, 2 * room + 1)?;
+    Ok(Lists {
+        edges,
+        outer,
+        inner,
+        cycle,
+        ring,
+    })
+}
+
+// The top and the total of each leaf.
+#[derive(Drop)]
+struct Listed {
+    tops: Vec<usize>,
+    totals: Vec<i64>,
+}
+
+// The top and the total of each of so many leaves.
+fn listed_leaves(alloc: Global, arena: &Arena, k: u32) -> Result<Listed, NoMemory>
+    requires leaves { k ≡ leaf_count arena.now }
+    requires small { k ≤ 2 ^ 24 }
+    ensures { IfOk result (λ listed. IsListed arena.now listed.tops.items listed.totals.items) }
+{
+    let count = k as usize;
+    let mut tops = vec![in alloc; 0usize; count]?;
+    let mut totals = vec![in alloc; 0i64; count]?;
+    list_leaves(arena, &mut tops, &mut totals);
+    Ok(Listed { tops, totals })
+}
+
+// Tables by name and by leaf.
+#[derive(Drop)]
+struct Tables {
+    named: Vec<Mark>,
+    tops: Vec<usize>,
+    totals: Vec<i64>,
+    marks: Vec<Mark>,
+    mates: Vec<u32>,
+}
+
+// The tables over so many leaves and names: the tops and totals as they are, no mark, and no mate.
+fn tables_of(alloc: Global, arena: &Arena, k: u32, room: usize) -> Result<Tables, NoMemory>
+    requires leaves { k ≡ leaf_count arena.now }
+    requires small { k ≤ 2 ^ 24 }
+    ensures named { IfOk result (λ tables. length tables.named.items ≡ room) }
+    ensures marks { IfOk result (λ tables. length tables.marks.items ≡ leaf_count arena.now) }
+    ensures mates { IfOk result (λ tables. length tables.mates.items ≡ leaf_count arena.now) }
+    ensures listed { IfOk result (λ tables. IsListed arena.now tables.tops.items tables.totals.items) }
+{
+    let listed = listed_leaves(alloc, arena, k)?;
+    let count = k as usize;
+    let named = vec![in alloc; Mark::Free; room]?;
+    let marks = vec![in alloc; Mark::Free; count]?;
+    let mates = vec![in alloc; 0u32; count]?;
+    Ok(Tables {
+        named,
+        tops: listed.tops,
+        totals: listed.totals,
+        marks,
+        mates,
+    })
+}
+
 impl Engine {
     ghost use Rattle.std.specs.Prelude.{◌≡◌, ℕ, ◌+◌, ◌*◌, ◌≤◌, List, IfOk};
     ghost use Rattle.sg_arena.specs.Changes.{OnlyLeaves};
@@ -54,22 +141,12 @@ impl Engine {
     {
         let near = Near::open(alloc, costs)?;
         let k = near.costs().size();
-        let count = k as usize;
         let arena = Arena::open(alloc, k)?;
         let room = arena.room();
         let pairs = no_pairs(alloc, room)?;
         let exposed = leaf_names(alloc, &arena, k, room)?;
-        let edges = Vec::with_capacity(alloc, room)?;
-        let named = vec![in alloc; Mark::Free; room]?;
-        let mut tops = vec![in alloc; 0usize; count]?;
-        let mut totals = vec![in alloc; 0i64; count]?;
-        let marks = vec![in alloc; Mark::Free; count]?;
-        let outer = Vec::with_capacity(alloc, room + 1)?;
-        let inner = Vec::with_capacity(alloc, room)?;
-        let cycle = Vec::with_capacity(alloc, 2 * room + 1)?;
-        let ring = Vec::with_capacity(alloc, 2 * room + 1)?;
-        let mates = vec![in alloc; 0u32; count]?;
-        list_leaves(&arena, &mut tops, &mut totals);
+        let lists = empty_lists(alloc, room)?;
+        let tables = tables_of(alloc, &arena, k, room)?;
         Ok(Engine {
             near,
             arena,
@@ -77,16 +154,16 @@ impl Engine {
             exposed,
             root: None,
             fresh: true,
-            edges,
-            named,
-            tops,
-            totals,
-            marks,
-            outer,
-            inner,
-            cycle,
-            ring,
-            mates,
+            edges: lists.edges,
+            named: tables.named,
+            tops: tables.tops,
+            totals: tables.totals,
+            marks: tables.marks,
+            outer: lists.outer,
+            inner: lists.inner,
+            cycle: lists.cycle,
+            ring: lists.ring,
+            mates: tables.mates,
         })
     }
 

@@ -1,8 +1,7 @@
 // Regions that grow until each terminal has a mate.
 use super::NoMemory;
-use super::engine::{Engine, Method};
-use super::nest::{Nest, Pair};
-use sg_growth::Adjacency;
+use sg_growth::{Adjacency, Nest, Pair};
+use sg_region_engine::{Engine, Method};
 use std::alloc::Global;
 
 // The regions that have grown from the terminals until each has a mate, with the pairs; none where the

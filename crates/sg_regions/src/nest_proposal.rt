@@ -1,12 +1,11 @@
 // Proposals without cuts: a join, and the finished regions as they are.
 use super::NoMemory;
 use super::grow::{grow, grow_again};
-use super::nest::{Nest, Pair};
 use super::proposal::{arcs_of, reversed, reversed_arcs};
-use super::ways::join_of;
 use sg_graph::{EdgeList, Terminals, Web};
-use sg_growth::{Adjacency, entry, number, set_entry};
+use sg_growth::{Adjacency, Nest, Pair, entry, number, set_entry};
 use sg_nest::{Place, Places, Region, Regions};
+use sg_region_ways::join_of;
 use std::alloc::Global;
 
 /// Edges that may be a least join, and a nest of regions that may prove it.

@@ -1,11 +1,9 @@
 use super::NoMemory;
-use super::chains::chains_of;
 use super::grow::{grow, grow_again};
-use super::nest::{Nest, Pair};
-use super::ways::join_of;
 use sg_graph::{Terminals, Web};
 use sg_growth::Adjacency;
 use sg_join_check::Proposal;
+use sg_region_ways::{chains_of, join_of};
 use std::alloc::Global;
 
 /// Proposes a least join of the terminals with odd cuts that prove it, or nothing.
@@ -76,8 +74,8 @@ pub fn reversed_arcs(alloc: Global, web: &Web) -> Result<Adjacency, NoMemory> {
     Ok(arcs)
 }
 
-// The arcs between the nodes, each so many times as long as its edge weighs. An edge to itself has
-// none.
+/// The arcs between the nodes, each so many times as long as its edge weighs. An edge to itself has
+/// none. The only error is want of memory.
 pub fn arcs_of(alloc: Global, web: &Web, times: i64) -> Result<Adjacency, NoMemory> {
     let edges = web.edges().as_slice();
     let mut sides = Vec::with_capacity(alloc, edges.len().saturating_mul(2))?;

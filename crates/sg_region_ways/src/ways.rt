@@ -1,9 +1,8 @@
 // The join: a shortest way between each two mates, by what the finished regions know.
 use super::NoMemory;
 use super::edge_marks::EdgeMarks;
-use super::nest::{Nest, Pair};
 use sg_graph::EdgeList;
-use sg_growth::{Adjacency, entry, set_entry};
+use sg_growth::{Adjacency, Nest, Pair, entry, set_entry};
 use std::alloc::Global;
 use std::mem::swap;
 
@@ -36,7 +35,7 @@ fn heights_of_regions(alloc: Global, nest: &Nest) -> Result<Vec<i64>, NoMemory> 
     Ok(heights)
 }
 
-// Two nodes that are mates, and what both have in common: the radii of all regions over both.
+/// Two nodes that are mates, and what both have in common: the radii of all regions over both.
 #[derive(Clone, Copy)]
 pub struct Mates {
     pub one: u32,
@@ -131,7 +130,7 @@ impl Search {
     }
 }
 
-// Searches between mates, one after another.
+/// Searches between mates, one after another.
 #[derive(Drop)]
 pub struct Ways {
     // How far all regions over a node reach beyond it. Along a shortest way from a mate this falls by as
@@ -151,7 +150,7 @@ struct Meeting {
 }
 
 impl Ways {
-    // Over so many nodes, none of which has a height yet.
+    /// Over so many nodes, none of which has a height yet.
     pub fn new(alloc: Global, nodes: usize) -> Result<Ways, NoMemory> {
         Ok(Ways {
             heights: Vec::with_capacity(alloc, nodes)?,
@@ -160,12 +159,12 @@ impl Ways {
         })
     }
 
-    // No node has a height.
+    /// No node has a height.
     pub fn clear_heights(&mut self) {
         self.heights.clear();
     }
 
-    // Gives the next node its height.
+    /// Gives the next node its height.
     pub fn add_height(&mut self, height: i64) -> Result<(), NoMemory> {
         self.heights.push(height)?;
         Ok(())
@@ -241,7 +240,10 @@ impl Ways {
         Ok(None)
     }
 
-    // Turns the marks of the edges of a shortest way between two mates, and says whether there is one.
+    /// Turns the marks of the edges of a shortest way between two mates, and says whether there is one.
+    /// The only error is want of memory.
+    ///
+    /// Cost: linear in the arcs of the nodes that are on shortest ways.
     pub fn turn_way(
         &mut self,
         adjacency: &Adjacency,
@@ -276,9 +278,9 @@ fn add_heights(nest: &Nest, regions: &[i64], ways: &mut Ways) -> Result<(), NoMe
     Ok(())
 }
 
-// The edges that lie on an odd number of the ways between mates, rising, or nothing where a way is not
-// found. A way is searched from both mates, through such nodes only whose height tells that they are
-// on a shortest one.
+/// The edges that lie on an odd number of the ways between mates, rising, or nothing where a way is not
+/// found. A way is searched from both mates, through such nodes only whose height tells that they are
+/// on a shortest one. The only error is want of memory.
 pub fn join_of(
     alloc: Global,
     adjacency: &Adjacency,

@@ -1,12 +1,12 @@
 // The ways between the mates of finished regions, before any repair.
-use super::Query;
+use super::NoMemory;
 use super::changes::Changes;
-use crate::NoMemory;
-use crate::edge_marks::EdgeMarks;
-use crate::engine::Engine;
-use crate::nest::Pair;
+use super::order::length_of;
+use super::repairs::Query;
 use sg_graph::EdgeList;
-use sg_growth::{Slot, count_at, entry, number, set_entry, sum_up};
+use sg_growth::{Pair, Slot, count_at, entry, number, set_entry, sum_up};
+use sg_region_engine::Engine;
+use sg_region_ways::EdgeMarks;
 use std::alloc::Global;
 
 // A stretch of a list.
@@ -56,7 +56,7 @@ impl OldWays {
         pairs: &[Pair],
         edges: usize,
     ) -> Result<Option<OldWays>, NoMemory> {
-        let mut ways = OldWays::empty(alloc, engine.terminals(), edges)?;
+        let mut ways = OldWays::empty(alloc, engine.terminals.len(), edges)?;
         if !ways.add_all(engine, changes, pairs)? {
             return Ok(None);
         }
@@ -170,7 +170,7 @@ impl OldWays {
         self.join = join.listed(alloc)?;
         for edge in self.join.as_slice() {
             set_entry(&mut self.is_in_join, *edge, true);
-            self.length = self.length.wrapping_add(engine.length(*edge));
+            self.length = self.length.wrapping_add(length_of(engine, *edge));
         }
         Ok(())
     }
@@ -189,7 +189,7 @@ impl OldWays {
     pub fn turned_length(&self, engine: &Engine, walk: &[u32], query: Query) -> i64 {
         let mut sum = self.length;
         for edge in walk {
-            let length = engine.length(*edge);
+            let length = length_of(engine, *edge);
             if *edge == query.edge {
                 continue;
             }

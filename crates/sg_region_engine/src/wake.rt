@@ -126,8 +126,8 @@ impl<'a> Engine<'a> {
         Ok(is_own)
     }
 
-    // Enters the events of the arcs that leave a node, if an outer region covers it.
-    pub(super) fn wake(&mut self, node: u32) -> Result<(), NoMemory> {
+    /// Enters the events of the arcs that leave a node, if an outer region covers it.
+    pub fn wake(&mut self, node: u32) -> Result<(), NoMemory> {
         if let Some(here) = self.outer_reach(node) {
             self.wake_by(node, here)?;
         }
@@ -189,8 +189,8 @@ impl<'a> Engine<'a> {
         })
     }
 
-    // Enters the events of the arcs that leave the nodes of a region in an outer top.
-    pub(super) fn wake_region(&mut self, name: u32, top: u32) -> Result<(), NoMemory> {
+    /// Enters the events of the arcs that leave the nodes of a region in an outer top.
+    pub fn wake_region(&mut self, name: u32, top: u32) -> Result<(), NoMemory> {
         let end = self.cover.end(name);
         let mut next = self.cover.first(name);
         for _ in 0..self.arcs.nodes() {

@@ -5,11 +5,11 @@
 // at its node `seed(t)`; all others are blossoms, and a name of none of them has no parent, no nodes,
 // no parts and radius 0, and does not stand in `order`. Each call takes the same time for any nest.
 use super::NoMemory;
-use sg_growth::{Slot, entry, number, set_entry};
+use super::lists::{Slot, entry, number, set_entry};
 use std::alloc::Global;
 
-// Two terminals that are mates, by the names of their regions (`Nest::seed` has their nodes), and the
-// least region that has both; none where they lie in two tops.
+/// Two terminals that are mates, by the names of their regions (`Nest::seed` has their nodes), and the
+/// least region that has both; none where they lie in two tops.
 #[derive(Clone, Copy)]
 pub struct Pair {
     pub one: u32,
@@ -38,7 +38,7 @@ struct Finished {
     radius: i64,
 }
 
-// The finished regions.
+/// The finished regions.
 #[derive(Drop)]
 pub struct Nest {
     taken: Vec<Taken>,
@@ -49,17 +49,17 @@ pub struct Nest {
 }
 
 impl Nest {
-    // The number of nodes.
+    /// The number of nodes.
     pub fn nodes(&self) -> u32 {
         number(self.taken.len())
     }
 
-    // The lowest region that has the node.
+    /// The lowest region that has the node.
     pub fn region_of(&self, node: u32) -> Option<u32> {
         entry(&self.taken, node)?.region.number()
     }
 
-    // The radius of that region when it took the node.
+    /// The radius of that region when it took the node.
     pub fn taken_at(&self, node: u32) -> i64 {
         match self.taken.get(node as usize) {
             Some(taken) => taken.radius,
@@ -67,27 +67,27 @@ impl Nest {
         }
     }
 
-    // The node that the same region took before this one.
+    /// The node that the same region took before this one.
     pub fn before(&self, node: u32) -> Option<u32> {
         entry(&self.taken, node)?.before.number()
     }
 
-    // The number of names.
+    /// The number of names.
     pub fn regions(&self) -> u32 {
         number(self.regions.len())
     }
 
-    // The node that the region took last, its parts aside.
+    /// The node that the region took last, its parts aside.
     pub fn last(&self, region: u32) -> Option<u32> {
         entry(&self.regions, region)?.last.number()
     }
 
-    // The region that it is a part of.
+    /// The region that it is a part of.
     pub fn parent(&self, region: u32) -> Option<u32> {
         entry(&self.regions, region)?.parent.number()
     }
 
-    // How far the region has grown, its parts aside.
+    /// How far the region has grown, its parts aside.
     pub fn radius(&self, region: u32) -> i64 {
         match self.regions.get(region as usize) {
             Some(finished) => finished.radius,
@@ -95,27 +95,27 @@ impl Nest {
         }
     }
 
-    // The node of the terminal, where the region is that of one.
+    /// The node of the terminal, where the region is that of one.
     pub fn seed(&self, region: u32) -> Option<u32> {
         entry(&self.regions, region)?.seed.number()
     }
 
-    // The regions that a blossom was made of, in the order of its cycle.
+    /// The regions that a blossom was made of, in the order of its cycle.
     pub fn parts(&self, region: u32) -> &[u32] {
         parts_of(&self.regions, &self.parts, region)
     }
 
-    // The part with the most nodes, a node for each region in it counted beside.
+    /// The part with the most nodes, a node for each region in it counted beside.
     pub fn heaviest(&self, region: u32) -> Option<u32> {
         entry(&self.regions, region)?.heaviest.number()
     }
 
-    // All regions that there are, once each, parts before what they are parts of.
+    /// All regions that there are, once each, parts before what they are parts of.
     pub fn order(&self) -> &[u32] {
         &self.order
     }
 
-    // Nodes that no region has, and names of no region.
+    /// Nodes that no region has, and names of no region.
     pub fn new(alloc: Global, nodes: usize, names: usize) -> Result<Nest, NoMemory> {
         let taken = Taken {
             region: Slot::none(),
@@ -130,7 +130,7 @@ impl Nest {
         })
     }
 
-    // Adds a node that a region took itself.
+    /// Adds a node that a region took itself.
     pub fn add_node(&mut self, node: u32, region: u32, radius: i64, before: Slot) {
         let taken = Taken {
             region: Slot::of(region),
@@ -140,7 +140,7 @@ impl Nest {
         set_entry(&mut self.taken, node, taken);
     }
 
-    // Adds a region, as yet without parts.
+    /// Adds a region, as yet without parts.
     pub fn add_region(
         &mut self,
         name: u32,
@@ -166,7 +166,7 @@ impl Nest {
         Ok(())
     }
 
-    // Adds a part to the region that was added last.
+    /// Adds a part to the region that was added last.
     pub fn add_part(&mut self, name: u32, part: u32) -> Result<(), NoMemory> {
         self.parts.push(part)?;
         if (name as usize) < self.regions.len() {
@@ -175,7 +175,7 @@ impl Nest {
         Ok(())
     }
 
-    // Puts the regions into their order and finds the largest part of each, once all are added.
+    /// Puts the regions into their order and finds the largest part of each, once all are added.
     pub fn close(&mut self, alloc: Global) -> Result<(), NoMemory> {
         for place in 0..self.regions.len() {
             let Some(name) = self.order.as_slice().get(place).copied() else {

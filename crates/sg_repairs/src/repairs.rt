@@ -1,15 +1,14 @@
-//! Finished regions that are repaired for one edge after another.
-mod changes;
-mod old_ways;
-
 use super::NoMemory;
-use super::engine::{Base, Ending, Engine, Method, Parts};
-use super::proposal::arcs_of;
-use changes::Changes;
-use old_ways::OldWays;
+use super::apart::{Ending, repair};
+use super::changes::Changes;
+use super::old_ways::OldWays;
+use super::order::changed_pairs;
+use super::parts::{Base, Parts, run_from};
 use sg_graph::{EdgeList, Terminals, Web};
 use sg_growth::{Adjacency, Slot, entry, first_dart, number, second_dart, set_entry};
 use sg_nest::Nest;
+use sg_region_engine::{Engine, Method};
+use sg_regions::arcs_of;
 use std::alloc::Global;
 
 // How many terminals an edge may add to those of the web.
@@ -44,7 +43,6 @@ pub struct Turn {
 ///
 /// Nothing is promised of what it gives: a caller has it judged by `sg_nest::proves`. Memory is linear
 /// in the web and in the ways between mates.
-#[derive(Drop)]
 pub struct Repairs {
     alloc: Global,
     arcs: Adjacency,
@@ -52,12 +50,35 @@ pub struct Repairs {
     terminals: Vec<u32>,
     // For each node its terminal.
     at: Vec<Slot>,
-    base: Base,
+    finished: Finished,
     // The engine that was run last.
     parts: Option<Parts>,
+    changes: Changes,
+}
+
+// Regions that grew until each terminal had a mate: as they are put back, with the ways between mates,
+// and in their order.
+#[derive(Drop)]
+struct Finished {
+    base: Base,
     ways: OldWays,
     nest: Nest,
-    changes: Changes,
+}
+
+// A drop of its own, which who keeps repairs calls: else each way out of a function that has some lets go of
+// all these lists one by one, and proving that takes long.
+impl Drop for Repairs {
+    fn drop(self) {
+        let Repairs {
+            alloc: _,
+            arcs: _arcs,
+            terminals: _terminals,
+            at: _at,
+            finished: _finished,
+            parts: _parts,
+            changes: _changes,
+        } = self;
+    }
 }
 
 // An edge that is taken out, with its two ends as they are then.
@@ -88,22 +109,20 @@ impl Repairs {
             arcs,
             terminals,
             at,
-            base: grown.base,
+            finished: grown.finished,
             parts: Some(grown.parts),
-            ways: grown.ways,
-            nest: grown.nest,
             changes: grown.changes,
         }))
     }
 
     /// The join that the finished regions prove: its edges, rising.
     pub fn join(&self) -> &EdgeList {
-        self.ways.join()
+        self.finished.ways.join()
     }
 
     /// The finished regions themselves, with radii where arcs are four times as long as edges weigh.
     pub fn nest(&self) -> &Nest {
-        &self.nest
+        &self.finished.nest
     }
 
     /// What changes where an edge is gone from the web and, if it is not in the join, each of its two
@@ -124,10 +143,9 @@ impl Repairs {
         };
         let query = self.query(edge, one, other);
         self.arcs.take_out(edge);
-        let mut engine = Engine::of_parts(self.alloc, &self.arcs, &self.terminals, parts);
-        let changes = &mut self.changes;
-        let found = repaired(&mut engine, &self.base, &self.ways, changes, query);
-        self.parts = Some(engine.into_parts());
+        let mut engine = parts.engine(self.alloc, &self.arcs, &self.terminals);
+        let found = repaired(&mut engine, &self.finished, &mut self.changes, query);
+        self.parts = Some(Parts::of(engine));
         let found = match found {
             Ok(None) => self.regrown(query),
             found => found,
@@ -138,18 +156,13 @@ impl Repairs {
 
     // The same by regions that grow from nothing.
     fn regrown(&mut self, query: Query) -> Result<Option<Turn>, NoMemory> {
-        let is_planted = planted(self.alloc, self.terminals.len(), query.ends)?;
         let mut engine = Engine::new(self.alloc, &self.arcs, &self.terminals, Method::InHalves)?;
-        if !engine.run_from(&is_planted)? {
-            return Ok(None);
-        }
-        let pairs = engine.pairs()?;
-        self.changes.turn(&engine, &self.ways, &pairs, query)
+        grown_anew(&mut engine, &self.finished, &mut self.changes, query)
     }
 
     // The ends of an edge that is taken out.
     fn query(&mut self, edge: u32, one: u32, other: u32) -> Query {
-        let is_in_join = self.ways.has(edge);
+        let is_in_join = self.finished.ways.has(edge);
         let spare = number(self.terminals.len().saturating_sub(SPARE));
         let first = self.ending(one, is_in_join, spare);
         let second = self.ending(other, is_in_join, spare.wrapping_add(1));
@@ -191,10 +204,8 @@ impl Repairs {
 // What regions leave that grew until each terminal had a mate.
 #[derive(Drop)]
 struct Grown {
-    base: Base,
+    finished: Finished,
     parts: Parts,
-    ways: OldWays,
-    nest: Nest,
     changes: Changes,
 }
 
@@ -229,50 +240,79 @@ fn grow_by(
     method: Method,
 ) -> Result<Option<Grown>, NoMemory> {
     let mut engine = Engine::new(alloc, arcs, terminals, method)?;
-    if !engine.run_from(&planted(alloc, terminals.len(), NO_END)?)? {
+    if !run_between(&mut engine, NO_END)? {
         return Ok(None);
     }
-    kept(alloc, engine, edges, terminals.len())
+    let mut changes = Changes::new(alloc, &engine, edges, terminals.len())?;
+    match kept(alloc, &engine, &mut changes, edges)? {
+        None => Ok(None),
+        Some(finished) => Ok(Some(Grown {
+            finished,
+            parts: Parts::of(engine),
+            changes,
+        })),
+    }
 }
 
-// What is kept of an engine that ran to its end.
+// Runs from the terminals that are there when the ends of an edge are these.
+fn run_between(engine: &mut Engine, ends: [Ending; 2]) -> Result<bool, NoMemory> {
+    let is_planted = planted(engine.alloc, engine.terminals.len(), ends)?;
+    run_from(engine, &is_planted)
+}
+
+// What is kept of an engine that ran to its end; nothing where a way is not found.
 fn kept(
     alloc: Global,
-    mut engine: Engine,
+    engine: &Engine,
+    changes: &mut Changes,
     edges: usize,
-    terminals: usize,
-) -> Result<Option<Grown>, NoMemory> {
-    let base = engine.base()?;
-    let mut changes = Changes::new(alloc, &engine, edges, terminals)?;
-    let pairs = engine.pairs()?;
-    let Some(ways) = OldWays::new(alloc, &engine, &mut changes, &pairs, edges)? else {
+) -> Result<Option<Finished>, NoMemory> {
+    let Some(ways) = ways_of(alloc, engine, changes, edges)? else {
         return Ok(None);
     };
-    let nest = changes.nest(&engine)?;
-    let parts = engine.into_parts();
-    Ok(Some(Grown {
-        base,
-        parts,
-        ways,
-        nest,
-        changes,
-    }))
+    let nest = changes.nest(engine)?;
+    let base = Base::of(engine)?;
+    Ok(Some(Finished { base, ways, nest }))
+}
+
+// The ways between the mates of an engine that ran to its end.
+fn ways_of(
+    alloc: Global,
+    engine: &Engine,
+    changes: &mut Changes,
+    edges: usize,
+) -> Result<Option<OldWays>, NoMemory> {
+    let pairs = engine.pairs()?;
+    OldWays::new(alloc, engine, changes, &pairs, edges)
 }
 
 // The repair for one edge.
 fn repaired(
     engine: &mut Engine,
-    base: &Base,
-    ways: &OldWays,
+    finished: &Finished,
     changes: &mut Changes,
     query: Query,
 ) -> Result<Option<Turn>, NoMemory> {
-    engine.restore(base)?;
-    if !engine.repair(query.ends)? {
+    finished.base.put_back(engine)?;
+    if !repair(engine, query.ends)? {
         return Ok(None);
     }
-    let pairs = engine.changed_pairs(base)?;
-    changes.turn(engine, ways, &pairs, query)
+    let pairs = changed_pairs(engine, &finished.base)?;
+    changes.turn(engine, &finished.ways, &pairs, query)
+}
+
+// The same by regions that grow from nothing.
+fn grown_anew(
+    engine: &mut Engine,
+    finished: &Finished,
+    changes: &mut Changes,
+    query: Query,
+) -> Result<Option<Turn>, NoMemory> {
+    if !run_between(engine, query.ends)? {
+        return Ok(None);
+    }
+    let pairs = engine.pairs()?;
+    changes.turn(engine, &finished.ways, &pairs, query)
 }
 
 // The marks of the terminals that are there when the ends of an edge are these.

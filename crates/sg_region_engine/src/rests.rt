@@ -16,9 +16,9 @@ use sg_growth::{Contact, Role, number};
 use std::mem::swap;
 
 impl<'a> Engine<'a> {
-    // Runs until each terminal has a mate. False if that did not come about within the work allowed. All
-    // arcs are so many times two as long as their edges weigh.
-    pub(super) fn run_by_method(&mut self, unit: i64) -> Result<bool, NoMemory> {
+    /// Runs until each terminal has a mate. False if that did not come about within the work allowed. All
+    /// arcs are so many times two as long as their edges weigh.
+    pub fn run_by_method(&mut self, unit: i64) -> Result<bool, NoMemory> {
         if self.is_first {
             self.run_halves(unit)
         } else {

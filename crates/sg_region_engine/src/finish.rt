@@ -1,18 +1,17 @@
 // Reading the finished regions off: the nest, and the mates of all terminals.
 use super::Engine;
 use crate::NoMemory;
-use crate::nest::{Nest, Pair};
-use sg_growth::{End, Slot, number};
+use sg_growth::{End, Nest, Pair, Slot, number};
 
-// A region, and its terminal that is paired with one outside.
+/// A region, and its terminal that is paired with one outside.
 #[derive(Clone, Copy)]
-pub(super) struct Exit {
-    pub(super) region: u32,
-    pub(super) terminal: u32,
+pub struct Exit {
+    pub region: u32,
+    pub terminal: u32,
 }
 
 impl<'a> Engine<'a> {
-    // The finished regions.
+    /// The finished regions. The only error is want of memory.
     pub fn nest(&self) -> Result<Nest, NoMemory> {
         let mut nest = Nest::new(self.alloc, self.arcs.nodes(), self.forest.len())?;
         for name in 0..number(self.forest.len()) {
@@ -59,7 +58,7 @@ impl<'a> Engine<'a> {
         }
     }
 
-    // The pairs of all terminals: those of the tops, and down in the blossoms those along their cycles.
+    /// The pairs of all terminals: those of the tops, and down in the blossoms those along their cycles.
     pub fn pairs(&self) -> Result<Vec<Pair>, NoMemory> {
         let mut pairs = Vec::new(self.alloc);
         let mut open = Vec::new(self.alloc);
@@ -72,8 +71,8 @@ impl<'a> Engine<'a> {
         Ok(pairs)
     }
 
-    // The pair of a top, once for both.
-    pub(super) fn pair_top(
+    /// Lists the pair of a top, once for both, and the top with its terminal that is paired.
+    pub fn pair_top(
         &self,
         name: u32,
         pairs: &mut Vec<Pair>,
@@ -98,8 +97,8 @@ impl<'a> Engine<'a> {
         Ok(())
     }
 
-    // The pairs in the regions of a list, which is empty then.
-    pub(super) fn pair_within(
+    /// Lists the pairs in the regions of a list, which is empty then.
+    pub fn pair_within(
         &self,
         pairs: &mut Vec<Pair>,
         open: &mut Vec<Exit>,

@@ -1,13 +1,13 @@
 // What a repair changes: the walk, and the nest.
-use super::{OldWays, Query, Turn};
-use crate::NoMemory;
-use crate::edge_marks::EdgeMarks;
-use crate::engine::{Engine, Order};
-use crate::nest::Pair;
-use crate::ways::Ways;
+use super::NoMemory;
+use super::old_ways::OldWays;
+use super::order::{Order, common, height_of, list_order, places_of, regions_of, turn_way};
+use super::repairs::{Query, Turn};
 use sg_graph::EdgeList;
-use sg_growth::{entry, number, set_entry};
+use sg_growth::{Pair, entry, number, set_entry};
 use sg_nest::{Nest, Places, Region, Regions};
+use sg_region_engine::Engine;
+use sg_region_ways::{EdgeMarks, Ways};
 use std::alloc::Global;
 
 // Lists that are used from repair to repair.
@@ -40,7 +40,7 @@ impl Changes {
                 places: Vec::new(alloc),
                 heights: Vec::new(alloc),
             },
-            ways: Ways::new(alloc, engine.nodes())?,
+            ways: Ways::new(alloc, engine.arcs.nodes())?,
             repair: 0,
             turned: vec![in alloc; 0u32; terminals]?,
             walked: vec![in alloc; 0u32; terminals]?,
@@ -51,10 +51,10 @@ impl Changes {
 
     // Puts the finished regions into their order, and finds how high each and each node is.
     fn find_heights(&mut self, engine: &Engine) -> Result<(), NoMemory> {
-        engine.list_order(&mut self.order)?;
+        list_order(engine, &mut self.order)?;
         self.ways.clear_heights();
-        for node in 0..number(engine.nodes()) {
-            self.ways.add_height(engine.height_of(node, &self.order))?;
+        for node in 0..number(engine.arcs.nodes()) {
+            self.ways.add_height(height_of(engine, node, &self.order))?;
         }
         Ok(())
     }
@@ -62,8 +62,8 @@ impl Changes {
     // The finished regions in their order.
     pub fn nest(&self, engine: &Engine) -> Result<Nest, NoMemory> {
         Ok(Nest {
-            regions: Regions::from_vec(engine.regions(&self.order)?),
-            places: Places::from_vec(engine.places(&self.order)?),
+            regions: Regions::from_vec(regions_of(engine, &self.order)?),
+            places: Places::from_vec(places_of(engine, &self.order)?),
         })
     }
 
@@ -78,7 +78,7 @@ impl Changes {
 
     // Turns a shortest way between two mates, and says whether there is one.
     fn turn_new(&mut self, engine: &Engine, pair: Pair) -> Result<bool, NoMemory> {
-        engine.turn_way(pair, &self.order, &mut self.ways, &mut self.marks)
+        turn_way(engine, pair, &self.order, &mut self.ways, &mut self.marks)
     }
 
     // Turns the way that a terminal and its mate had, once.
@@ -116,7 +116,7 @@ impl Changes {
                 let Some(pair) = old.pair(*first) else {
                     return Ok(false);
                 };
-                let base = engine.common(pair.one, pair.other, &self.order);
+                let base = common(engine, pair.one, pair.other, &self.order);
                 if !self.turn_new(engine, Pair { base, ..pair })? {
                     return Ok(false);
                 }

@@ -40,8 +40,8 @@ impl<'a> Engine<'a> {
         self.meet(Contact { own, other })
     }
 
-    // A region takes a node, reached from a terminal.
-    pub(super) fn take(&mut self, region: u32, node: u32, terminal: u32) {
+    /// A region takes a node, reached from a terminal.
+    pub fn take(&mut self, region: u32, node: u32, terminal: u32) {
         let radius = self.forest.radius(region, self.clock.now());
         let held = Held {
             region,
@@ -102,8 +102,8 @@ impl<'a> Engine<'a> {
         }
     }
 
-    // The node of the terminal, where the region is that of one.
-    pub(super) fn seed(&self, name: u32) -> Option<u32> {
+    /// The node of the terminal, where the region is that of one.
+    pub fn seed(&self, name: u32) -> Option<u32> {
         self.terminals.get(name as usize).copied()
     }
 
@@ -146,15 +146,16 @@ impl<'a> Engine<'a> {
         Ok(())
     }
 
-    // Runs until each terminal has a mate. False if that did not come about within the work allowed.
+    /// Runs until each terminal has a mate. False if that did not come about within the work allowed.
+    /// Arcs are twice as long as their edges weigh. The only error is want of memory.
     pub fn run(&mut self) -> Result<bool, NoMemory> {
         self.plant()?;
         self.wake_terminals()?;
         self.run_by_method(1)
     }
 
-    // Goes on until no tree is left. False if that did not come about within the work allowed.
-    pub(super) fn go_on(&mut self) -> Result<bool, NoMemory> {
+    /// Goes on until no tree is left. False if that did not come about within the work allowed.
+    pub fn go_on(&mut self) -> Result<bool, NoMemory> {
         for _ in 0..self.work.left() {
             if self.unpaired <= self.rests || self.work.left() == 0 {
                 break;

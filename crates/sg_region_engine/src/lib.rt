@@ -1,42 +1,49 @@
-// The regions over the nodes, and what they near.
-//
-// The parts of the state are kept apart, each by its own rules: the cover of the nodes, the forest of
-// the regions, the clock, and the hubs' heaps. The one rule between them: where an outer region nears
-// something over an arc, an event waits at this arc or at its way back, for no later than it comes; of
-// a hub the event is that of its soonest arc, and of the arcs from one region to a hub the soonest
-// stands for all.
-//
-// `wake` enters events, `steps` has the steps of the method, `rests` those of the first half of a run,
-// `bare` what happens at bare nodes, `events` what comes of each event, and `finish` reads the nest and
-// the pairs off. For repairs, `parts` keeps what outlives the arcs, `apart` takes finished regions apart,
-// and `changed` reads off what is not as it was.
-mod apart;
+//! Regions that grow from terminals over a graph until each terminal has a mate: the method.
+//!
+//! The method is Edmonds' (1965) with all alternating trees at once, on the graph itself. Each
+//! *terminal* is the seed of a *region*, a moat in the words of Jünger and Pulleyblank (1993); an arc
+//! between two nodes is as long as its edge weighs twice, and all regions grow at one speed. Where
+//! regions meet, alternating trees arise: *outer* regions grow on, *inner* ones give way, and an odd
+//! cycle of regions grows on as one, a *blossom*. Where two trees meet, both roots are paired. It needs no
+//! distance between terminals.
+//!
+//! For the next engineer: nothing is promised of what it finds, since whoever uses that has it judged.
+//! Each function has only to be safe and to return. The parts of the state stand in `sg_growth`, each by
+//! its own rules: the cover of the nodes, the forest of the regions, the clock, and the hubs' heaps. The
+//! one rule between them: where an outer region nears something over an arc, an event waits at this arc
+//! or at its way back, for no later than it comes; of a hub the event is that of its soonest arc, and of
+//! the arcs from one region to a hub the soonest stands for all. The fields are open to `sg_repairs`,
+//! which takes finished regions apart and lets what is left grow on.
+//!
+//! `wake` enters events, `steps` has the steps of the method, `rests` those of the first half of a run,
+//! `bare` what happens at bare nodes, `events` what comes of each event, and `finish` reads the nest and
+//! the pairs off.
+#![tactic(auto)]
+
 mod bare;
-mod changed;
 mod events;
 mod finish;
-mod parts;
 mod rests;
 mod steps;
 mod wake;
 
-use super::NoMemory;
-pub use apart::Ending;
-pub use changed::Order;
-pub use parts::{Base, Parts};
+pub use finish::Exit;
 use sg_growth::{
     Adjacency, Arc, Clock, Cover, Forest, Held, Hubs, Link, NEVER, Reach, Role, Work, number,
     reverse,
 };
-use std::alloc::Global;
+use std::alloc::{AllocError, Global};
 
-// What becomes of odd cycles.
+/// The allocator had no memory left.
+pub type NoMemory = AllocError;
+
+/// What becomes of odd cycles.
 #[derive(Clone, Copy)]
 pub enum Method {
-    // They grow on as blossoms at once. On the duals of drawn lattices that is as fast as the other, and
-    // its blossoms are smaller; but only a few steps are allowed for each node.
+    /// They grow on as blossoms at once. On the duals of drawn lattices that is as fast as the other, and
+    /// its blossoms are smaller; but only a few steps are allowed for each node.
     AtOnce,
-    // They rest until no tree is left.
+    /// They rest until no tree is left.
     InHalves,
 }
 
@@ -48,30 +55,43 @@ struct Sight {
     is_own: bool,
 }
 
-// The regions at a time.
+/// The regions at a time, over the nodes that they have taken.
+///
+/// A region has a name: below the number of terminals that of its terminal, all others are blossoms.
 #[derive(Drop)]
 pub struct Engine<'a> {
-    alloc: Global,
-    arcs: &'a Adjacency,
-    // The nodes that are terminals; region `t` is that of terminal `t`.
-    terminals: &'a [u32],
-    cover: Cover,
-    forest: Forest,
-    hubs: Hubs,
-    clock: Clock,
-    work: Work,
-    // Whether a tree ends with its first odd cycle, and how many cycles are at rest.
-    is_first: bool,
-    rests: u32,
-    // How many trees there are, with the cycles at rest.
-    unpaired: u32,
-    // A cycle, and regions that were inner: lists that are used again.
-    cycle: Vec<Link>,
-    inner: Vec<u32>,
+    /// The allocator of all lists.
+    pub alloc: Global,
+    /// The arcs between the nodes, each edge with two darts.
+    pub arcs: &'a Adjacency,
+    /// The nodes that are terminals; region `t` is that of terminal `t`.
+    pub terminals: &'a [u32],
+    /// Which region took each node, and at which radius.
+    pub cover: Cover,
+    /// The regions, what they are parts of, their radii, and the trees.
+    pub forest: Forest,
+    /// The arcs at nodes of high degree, by their times.
+    pub hubs: Hubs,
+    /// The time, and the events that wait.
+    pub clock: Clock,
+    /// What was done, against what is allowed.
+    pub work: Work,
+    /// Whether a tree ends with its first odd cycle.
+    pub is_first: bool,
+    /// How many cycles are at rest.
+    pub rests: u32,
+    /// How many trees there are, with the cycles at rest.
+    pub unpaired: u32,
+    /// A cycle: a list that is used again.
+    pub cycle: Vec<Link>,
+    /// Regions that were inner: a list that is used again.
+    pub inner: Vec<u32>,
 }
 
 impl<'a> Engine<'a> {
-    // A region for each terminal, none grown yet.
+    /// A region for each terminal, none grown yet. The only error is want of memory.
+    ///
+    /// Cost: linear in the nodes and arcs.
     pub fn new(
         alloc: Global,
         arcs: &'a Adjacency,

@@ -1,0 +1,23 @@
+//! What finished regions tell: the shortest ways between mates, which give the edges of a join, and cuts
+//! round the regions.
+//!
+//! `ways` searches the ways, `rows` puts the nodes of each region side by side, and `chains` makes the
+//! cuts, in chains that grow by nodes; `edge_marks` keeps a set of edges as bits.
+//!
+//! For the next engineer: nothing is promised of a join or of a cut, since whoever uses them has them
+//! judged. Each function has only to be safe and to return: what is read beyond the end of a list is
+//! nothing, each loop has a bound known at its entry, and sums wrap.
+#![tactic(auto)]
+
+mod chains;
+mod edge_marks;
+mod rows;
+mod ways;
+
+pub use chains::{Chains, chains_of};
+pub use edge_marks::EdgeMarks;
+use std::alloc::AllocError;
+pub use ways::{Mates, Ways, join_of};
+
+/// The allocator had no memory left.
+pub type NoMemory = AllocError;

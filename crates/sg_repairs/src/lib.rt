@@ -1,0 +1,25 @@
+//! Finished regions that are repaired for one edge after another.
+//!
+//! `Repairs` grows regions once (`sg_region_engine`), and keeps them with the least join that they prove.
+//! For an edge that is gone it takes the regions over the edge's two ends apart, lets what is left over
+//! grow until each terminal has a mate again, and reads off what has changed.
+//!
+//! For the next engineer: nothing is promised of a repair. Whoever asks for one has it judged by
+//! `sg_nest::proves`, and asks a solver that is proved where there is none or where the verdict is no. So
+//! each function here has only to be safe and to return. `parts` keeps what of an engine outlives its
+//! arcs, `apart` takes finished regions apart, `order` puts them into an order and reads them off,
+//! `old_ways` has the ways between mates before any repair, and `changes` what a repair changes of them.
+#![tactic(auto)]
+
+mod apart;
+mod changes;
+mod old_ways;
+mod order;
+mod parts;
+mod repairs;
+
+pub use repairs::{Repairs, Turn};
+use std::alloc::AllocError;
+
+/// The allocator had no memory left.
+pub type NoMemory = AllocError;
