@@ -1,5 +1,5 @@
 -- From the members of a JSON text to their draft.
-use Rattle.std.proofs.Common.{◌≡◌, ℕ, ◌≤◌, Bool, true, false, ℤ, List, [], map, length, Option, Some, None, refl, sym, ap, ◌∙◌, inl, inr, codes, cond}
+use Rattle.std.proofs.Common.{◌≡◌, ℕ, ◌≤◌, Bool, true, false, ℤ, List, [], map, length, Option, Some, None, refl, sym, ap, ◌∙◌, codes, cond}
 use Rattle.std.specs.Prelude.{◌==◌, option_map, unwrap_or}
 use Rattle.std.specs.List.{list_all}
 use Rattle.std.proofs.lemmas.Bool.{eqb-true}
@@ -16,17 +16,15 @@ use Rattle.sg_lattice.specs.declared.kind.Kind.{Kind}
 use Rattle.sg_lattice.specs.Tables.{lattice}
 use Rattle.sg_reader.specs.declared.header.Form.{Form}
 use Rattle.sg_draft.specs.declared.limits.Limits.{Limits}
-use Rattle.sg_draft.specs.declared.member.Member.TheVariants as member
 use Rattle.sg_draft.specs.Draft.{IsDraftRefusal, OfGeneral, OfLattice, draft_fault, drafted, general_draft_fault, lattice_draft_fault, reseamed}
 use Rattle.sg_draft.specs.Limits.{program_limits}
-use Rattle.sg_draft.specs.Members.{bad_member}
 use Rattle.sg_draft.specs.Reads.{counted, unless, value_or, wrong_entry}
-use Rattle.sg_draft.proofs.Drafts.{counted-unless, one-test, wrong-unless}
+use Rattle.sg_draft.proofs.Drafts.{counted-unless, wrong-unless}
 use Rattle.sg_json.specs.declared.entry.Entry.{Entry}
 use Rattle.sg_json.specs.declared.entry.Entry.TheVariants as entry
 use Rattle.sg_json.specs.Values.{indices_of, items_at, member_list, names_in, size_at, value_bond, value_number}
-use Rattle.sg_json.specs.Members.{draft_of, form_in, general_draft, is_known, json_fault, lattice_draft, member_spins, misfit, wrong_list, wrong_rotation, wrong_seam}
-use Rattle.sg_json.specs.ReadJson.{AtInstance, AtMember, OfData, RefusesData, RefusesJson, SaysData}
+use Rattle.sg_json.specs.Members.{draft_of, form_in, general_draft, is_known, lattice_draft, member_spins, misfit, wrong_list, wrong_rotation, wrong_seam}
+use Rattle.sg_json.specs.ReadJson.{OfData, OfDraft, RefusesData, RefusesJson, SaysData}
 
 -- how many entries a list of a member has, where none is wrong
 told : {X : Type 0} (f : Data → X) (wrong : Option ℕ) (ds : List Data) → counted (unless wrong (map f ds)) ≡ unless wrong (length ds)
@@ -96,25 +94,10 @@ pub right-list : (what : Entry) (o : Option (List Data)) → wrong_list what o �
 right-list what None h = absurd (none-some 0 (sym h))
 right-list what (Some ds) h = h
 
--- all tests
-pub no_kind : (d : Data) → form_in d ≡ None → json_fault d ≡ Some (bad_member member.Kind)
-no_kind d kind = rw kind refl
-
--- a member of another name is refused
-pub other_name : (d : Data) (form : Form) → form_in d ≡ Some form → list_all (is_known form) (names_in d) ≡ false
-    → json_fault d ≡ Some (bad_member member.Names)
-other_name d form kind names = rw (kind, names) refl
-
--- where all names are known the draft is tested
-pub by_draft : (d : Data) (form : Form) → form_in d ≡ Some form → list_all (is_known form) (names_in d) ≡ true
-    → json_fault d ≡ draft_fault program_limits (draft_of form d)
-by_draft d form kind names = rw (kind, names) (one-test (draft_fault program_limits (draft_of form d)))
-
 -- what refuses the draft refuses the data
 pub data-fault : (d : Data) (form : Form) (e : Fault) → form_in d ≡ Some form → list_all (is_known form) (names_in d) ≡ true
     → OrNoMemory (IsDraftRefusal program_limits (draft_of form d)) e → OrNoMemory (RefusesData d) e
-data-fault d form (Refused x) kind names (inl bad) = AtMember (by_draft d form kind names ∙ bad)
-data-fault d form (Refused x) kind names (inr bad) = AtInstance form kind (by_draft d form kind names ∙ bad.0) bad.1
+data-fault d form (Refused x) kind names bad = OfDraft form kind names bad
 data-fault d form NoMemory kind names bad = tt
 
 -- what refuses the data refuses the text

@@ -1,27 +1,22 @@
--- The members of an instance in JSON: what each says, as a draft, and the first fault.
-use Rattle.std.specs.Prelude.{ℕ, ℤ, ◌==◌, ◌&&◌, ◌||◌, Bool, false, not, if◌then◌else◌, List, [], ◌∷◌, length, map, find, codes}
+-- The members of an instance in JSON: which may stand, and what they say, as a draft.
+use Rattle.std.specs.Prelude.{ℕ, ℤ, ◌==◌, ◌&&◌, ◌||◌, Bool, false, not, if◌then◌else◌, List, length, map, find, codes}
 use Rattle.std.specs.Prelude.{Option, Some, None, option_map, option_and_then, is_some, unwrap_or}
 use Rattle.std.specs.List.{list_all, range_with_len}
 use Rattle.std.specs.Str.{bytes_eq}
 use Rattle.serde_json.specs.Data.{Data}
 use Rattle.serde_json.specs.Find.{get, as_str}
 use Rattle.sg_model.specs.declared.bond.Bond.{Bond}
-use Rattle.sg_model.specs.declared.refusal.Refusal.{Refusal}
 use Rattle.sg_lattice.specs.declared.kind.Kind.{Kind}
 use Rattle.sg_reader.specs.declared.header.Form.{Form}
 use Rattle.sg_reader.specs.declared.header.Form.TheVariants as form
 use Rattle.sg_reader.specs.Header.{form_of}
-use Rattle.sg_draft.specs.declared.member.Member.TheVariants as member
 use Rattle.sg_draft.specs.declared.read.Read.{Read}
 use Rattle.sg_draft.specs.Bonds.{is_among, is_coupling}
-use Rattle.sg_draft.specs.Draft.{Draft, GeneralDraft, LatticeDraft, OfGeneral, OfLattice, draft_fault}
-use Rattle.sg_draft.specs.Limits.{program_limits}
-use Rattle.sg_draft.specs.Members.{bad_member}
+use Rattle.sg_draft.specs.Draft.{Draft, GeneralDraft, LatticeDraft, OfGeneral, OfLattice}
 use Rattle.sg_draft.specs.Reads.{unless}
-use Rattle.sg_draft.specs.Tests.{first_of, refuse_if}
 use Rattle.sg_json.specs.declared.entry.Entry.{Entry}
 use Rattle.sg_json.specs.declared.entry.Entry.TheVariants as entry
-use Rattle.sg_json.specs.Values.{index, indices_of, item_at, items_at, items_in, list_in, member_list, names_in, size_at, value_bond, value_number, whole}
+use Rattle.sg_json.specs.Values.{index, indices_of, item_at, items_at, items_in, list_in, member_list, size_at, value_bond, value_number, whole}
 
 -- the kind, one of the five words
 abbrev pub form_in : Data → Option Form
@@ -110,14 +105,3 @@ general_draft d = record {
 abbrev pub draft_of : Form → Data → Draft
 draft_of (form.Lattice kind) d = OfLattice (lattice_draft kind d)
 draft_of form.General d = OfGeneral (general_draft d)
-
--- all tests: the kind, the names, and those of the draft
-abbrev pub kind_fault : Option Form → Data → Option Refusal
-kind_fault None d = Some (bad_member member.Kind)
-kind_fault (Some what) d = first_of (
-    refuse_if (not (list_all (is_known what) (names_in d))) (bad_member member.Names)
-    ∷ draft_fault program_limits (draft_of what d)
-    ∷ [])
-
-abbrev pub json_fault : Data → Option Refusal
-json_fault d = kind_fault (form_in d) d
