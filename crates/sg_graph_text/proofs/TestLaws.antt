@@ -1,16 +1,15 @@
 -- The tests of one record, by which of them fails.
-use Rattle.std.proofs.Common.{◌≡◌, ℕ, ℤ, pos, negsuc, ◌<◌, ◌≤◌, true, false, length, Option, Some, None, refl, ap, ◌∙◌, arith}
-use Rattle.std.specs.Prelude.{unsigned_abs, unwrap_or}
+use Rattle.std.proofs.Common.{◌≡◌, ℕ, pos, ◌<◌, ◌≤◌, true, false, length, Option, Some, None, refl, ap, ◌∙◌, arith}
 use Rattle.std.specs.Option.{option_or}
-use Rattle.std.proofs.lemmas.Bool.{false≢true, le-ltb, lt-ltb}
+use Rattle.std.proofs.lemmas.Bool.{le-ltb, lt-ltb}
 use Rattle.sg_limits.specs.Limits.{spin_limit}
 use Rattle.sg_model.specs.declared.refusal.Refusal.{Refusal}
 use Rattle.sg_model.specs.declared.refusal.Refusal.TheVariants.{BadNumber, TooManySpins}
 use Rattle.sg_reader.specs.Kept.{Kept, field}
-use Rattle.sg_reader.specs.Number.{number_of}
-use Rattle.sg_reader.specs.Tests.{at_least, bad_field, is_in, is_number_in, number_in, size_in}
-use Rattle.sg_reader.proofs.TestLaws.{bad_field-first, bad_field-one, is-not}
-use Rattle.sg_graph_text.specs.Graph.{edge_fault, edge_range, says_graph, room_fault, size_fault}
+use Rattle.sg_reader.specs.Body.{link_fault}
+use Rattle.sg_reader.specs.Tests.{at_least, is_number_in, size_in}
+use Rattle.sg_reader.proofs.TestLaws.{bad_field-first, bad_field-one, is-not, one-test}
+use Rattle.sg_graph_text.specs.Graph.{edge_fault, says_graph, room_fault, size_fault}
 
 -- the tests of the first record
 pub size_fault-number : (r : Kept) → says_graph r ≡ true → length r.fields ≡ 2 → is_number_in (at_least 1) (field r 1) ≡ false
@@ -30,25 +29,9 @@ size_fault-none r word count good few =
     rw (word, is-not (length r.fields) 2 count, bad_field-one r (λ i. at_least 1) count good, le-ltb spin_limit (size_in r 1) few) refl
 
 -- the tests of an edge
-pub edge_fault-number : (n m : ℕ) (r : Kept) (k : ℕ) → length r.fields ≡ 4 → bad_field r 1 (edge_range n) ≡ Some k
-    → edge_fault n m r ≡ Some (BadNumber r.at k)
-edge_fault-number n m r k count bad = rw (is-not (length r.fields) 4 count, bad) refl
-
-one-test : (test : Option Refusal) → option_or test None ≡ test
-one-test None = refl
-one-test (Some refusal) = refl
+pub edge_fault-link : (n m : ℕ) (r : Kept) (x : Refusal) → link_fault (at_least 0) n r ≡ Some x → edge_fault n m r ≡ Some x
+edge_fault-link n m r x bad = rw bad refl
 
 -- an edge with good numbers is refused where it is one too many alone
-pub edge_fault-room : (n m : ℕ) (r : Kept) (test : Option Refusal) → length r.fields ≡ 4 → bad_field r 1 (edge_range n) ≡ None
-    → room_fault m ≡ test → edge_fault n m r ≡ test
-edge_fault-room n m r test count good room =
-    rw (is-not (length r.fields) 4 count, good) (ap (λ (o : Option Refusal). option_or o None) room ∙ one-test test)
-
--- a number that is at least 0 is its own size
-pub number-of_size : (r : Kept) (i : ℕ) → is_number_in (at_least 0) (field r i) ≡ true → number_in r i ≡ pos (size_in r i)
-number-of_size r i h = by (number_of (field r i)) h
-  where
-    by : (o : Option ℤ) → is_in (at_least 0) o ≡ true → unwrap_or o (pos 0) ≡ pos (unsigned_abs (unwrap_or o (pos 0)))
-    by None h = refl
-    by (Some (pos n)) h = refl
-    by (Some (negsuc n)) h = absurd (false≢true h)
+pub edge_fault-room : (n m : ℕ) (r : Kept) (test : Option Refusal) → link_fault (at_least 0) n r ≡ None → room_fault m ≡ test → edge_fault n m r ≡ test
+edge_fault-room n m r test good room = rw good (ap (λ (o : Option Refusal). option_or o None) room ∙ one-test test)

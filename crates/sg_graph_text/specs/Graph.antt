@@ -10,11 +10,10 @@ use Rattle.sg_model.specs.Misplaced.{is_misplaced}
 use Rattle.sg_graph.specs.declared.web.Edge.{Edge}
 use Rattle.sg_graph.specs.Web.{IsEdge}
 use Rattle.sg_graph.specs.Join.{AreTerminals}
-use Rattle.sg_reader.specs.declared.range.Range.{Range}
 use Rattle.sg_reader.specs.Kept.{Kept, begins}
 use Rattle.sg_draft.specs.Tests.{first_of, refuse_if}
-use Rattle.sg_reader.specs.Tests.{any_index, at_least, bad_number, number_in, size_in, spin_below}
-use Rattle.sg_reader.specs.Body.{bare_end_fault, says_end, sizes_from}
+use Rattle.sg_reader.specs.Tests.{any_index, at_least, bad_number, number_in, size_in}
+use Rattle.sg_reader.specs.Body.{bare_end_fault, link_fault, says_end, sizes_from}
 use Rattle.sg_reader.specs.Ended.{record_at}
 use Rattle.sg_graph_text.specs.declared.graph.GraphText.{GraphText}
 
@@ -52,21 +51,13 @@ size_fault r = first_of (
     ∷ refuse_if (nat_lt spin_limit (size_in r 1)) (TooManySpins (pos (size_in r 1)))
     ∷ [])
 
--- the range of field i of an edge: its ends are nodes, and its weight is not negative
-abbrev pub edge_range : ℕ → ℕ → Range
-edge_range n i = if i == 3 then at_least 0 else spin_below n
-
 -- edge m is one too many
 abbrev pub room_fault : ℕ → Option Refusal
 room_fault m = refuse_if (nat_le bond_limit m) (TooManyBonds (bond_limit + 1))
 
--- an edge of a graph of n nodes, behind m edges
+-- an edge of a graph of n nodes, behind m edges: its ends are nodes, and its weight is not negative
 abbrev pub edge_fault : ℕ → ℕ → Kept → Option Refusal
-edge_fault n m r = first_of (
-    refuse_if (not (length r.fields == 4)) (BadShape r.at)
-    ∷ bad_number r 1 (edge_range n)
-    ∷ room_fault m
-    ∷ [])
+edge_fault n m r = first_of (link_fault (at_least 0) n r ∷ room_fault m ∷ [])
 
 -- the terminals, which may have been given before
 abbrev pub term_fault : Bool → Kept → Option Refusal

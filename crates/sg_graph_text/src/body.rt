@@ -16,7 +16,7 @@ use super::terminals::list_terminals;
 use sg_graph::{Edge, Edges, Terminals};
 use sg_limits::BOND_LIMIT;
 use sg_model::{Fault, Refusal};
-use sg_reader::{Gather, Range, Row, Rows, bare_end, indices, read_to_end};
+use sg_reader::{Gather, Link, Range, Row, Rows, bare_end, indices, read_link, read_to_end};
 use std::alloc::Global;
 
 const EDGE: &[u8] = b"edge";
@@ -53,17 +53,12 @@ fn read_edge(row: &Row, n: u32, m: usize) -> Result<Edge, Refusal>
     ensures room { IfOk result (λ e. m < bond_limit) }
     ensures refused { IfErr result (λ e. edge_fault n m row.now ≡ Some e) }
 {
-    if row.len() != 4 {
-        return Err(Refusal::BadShape { at: row.at() });
-    }
-    let a = row.size(1, Range::spin_below(n))?;
-    let b = row.size(2, Range::spin_below(n))?;
-    let w = row.size(3, Range::at_least(0))?;
+    let Link { u, v, value } = read_link(row, n, Range::at_least(0))?;
     check_room(m)?;
     Ok(Edge {
-        a: a as u32,
-        b: b as u32,
-        w: w as i64,
+        a: u,
+        b: v,
+        w: value,
     })
 }
 

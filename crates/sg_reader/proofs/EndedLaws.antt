@@ -1,6 +1,5 @@
 -- Records up to an `end`, over any table of tests.
-use Rattle.std.proofs.Common.{◌≡◌, ℕ, zero, suc, ◌+◌, ◌<◌, true, false, List, [], ◌∷◌, ◌++◌, length, take, Some, None, refl, sym, ap, subst, ◌∙◌, arith, inl, inr, append_assoc, append-nil}
-use Rattle.std.specs.Prelude.{All}
+use Rattle.std.proofs.Common.{◌≡◌, ℕ, zero, suc, ◌<◌, true, false, List, [], ◌∷◌, ◌++◌, length, take, None, refl, sym, ap, subst, ◌∙◌, arith, inl, inr, append_assoc, append-nil}
 use Rattle.std.proofs.lemmas.Bool.{cases_eq}
 use Rattle.std.proofs.lemmas.List.{get_or_append_left, get_or_at, length_push, take-append-le, take_at}
 use Rattle.std.proofs.lemmas.List.Elements.{All-append, All-cons, All-nil}
@@ -12,7 +11,7 @@ use Rattle.sg_model.specs.Faults.{OrNoMemory}
 use Rattle.sg_draft.specs.Tests.{Refuses}
 use Rattle.sg_reader.specs.Kept.{Kept}
 use Rattle.sg_reader.specs.Body.{says_end}
-use Rattle.sg_reader.specs.Ended.{AtRecord, IsBody, IsEnded, RefusesRecords, StatesToEnd, TestTable, WithoutEnd, record_at}
+use Rattle.sg_reader.specs.Ended.{AtRecord, IsBody, RefusesRecords, StatesToEnd, TestTable, WithoutEnd, record_at}
 use Rattle.sg_reader.specs.Rest.{Fails}
 use Rattle.sg_reader.specs.Taken.{HoldsToEnd, RefusesNext, Takes}
 use Rattle.sg_reader.proofs.RestLaws.{rest-behind}

@@ -1,10 +1,10 @@
 -- The records of a general instance behind the first, up to its `end`.
-use Rattle.std.proofs.Common.{◌≡◌, ℕ, ◌+◌, ◌<◌, ◌≤◌, Bool, true, false, List, [], ◌∷◌, ◌++◌, length, map, get_or, set, Option, Some, None, refl, sym, ap, ◌∙◌, arith, inl, inr, append_assoc, codes}
+use Rattle.std.proofs.Common.{◌≡◌, ℕ, ◌+◌, ◌<◌, ◌≤◌, Bool, true, false, List, [], ◌∷◌, ◌++◌, length, map, get_or, set, Option, Some, None, refl, sym, ap, ◌∙◌, arith, inl, inr, codes}
 use Rattle.std.specs.Prelude.{◌||◌, ◌==◌, cond, filter, find, is_some, option_map, unwrap_or}
 use Rattle.std.specs.List.{list_any, range_with_len}
 use Rattle.std.specs.Option.{option_or}
 use Rattle.std.specs.Str.{bytes_eq}
-use Rattle.std.proofs.lemmas.Bool.{cases_eq, eq-eqb, lt-leb, ne_eqb, or_parts}
+use Rattle.std.proofs.lemmas.Bool.{cases_eq, eq-eqb, lt-leb, ne_eqb}
 use Rattle.std.proofs.lemmas.List.{append-nil, length-append, length-set, map-append, same_lists, get_or-set_same, get_or-set_other}
 use Rattle.std.proofs.lemmas.List.Elements.{All-append, All-cons, All-nil, All-same, filter-append}
 use Rattle.std.proofs.lemmas.List.Folds.{find-append, list_any-append}
@@ -25,34 +25,27 @@ use Rattle.sg_reader.specs.declared.general.GeneralBody.{GeneralBody}
 use Rattle.sg_limits.specs.Limits.{bond_limit}
 use Rattle.sg_reader.specs.Kept.{Kept, field}
 use Rattle.sg_draft.specs.Tests.{Refuses}
-use Rattle.sg_reader.specs.Tests.{any_index, bad_field, bad_number, is_number_in, size_in, spin_below}
-use Rattle.sg_reader.specs.Body.{bond_fault, bond_of, bond_range, ends_fault, bonds_in, darts_in, bare_end_fault, general_fault, has_rot, instance_of, says_bond, says_end, says_rot, says_rot_of, says_seam, record_fault, rot_fault, rot_range, seam_fault, seam_in, sizes_from}
+use Rattle.sg_reader.specs.Tests.{any_index, any_number, bad_field, bad_number, is_number_in, size_in, spin_below}
+use Rattle.sg_reader.specs.Body.{bond_fault, bond_of, ends_fault, link_fault, bonds_in, darts_in, bare_end_fault, general_fault, has_rot, instance_of, says_bond, says_end, says_rot, says_rot_of, says_seam, rot_fault, rot_range, seam_fault, seam_in, sizes_from}
 use Rattle.sg_reader.specs.Holds.{HoldsGeneral}
-use Rattle.sg_reader.specs.Taken.{HoldsToEnd, RefusesNext, Takes}
-use Rattle.sg_reader.proofs.TestLaws.{bad_field-rest, is-not}
+use Rattle.sg_reader.specs.Taken.{HoldsSome, HoldsToEnd, RefusesNext, Takes}
+use Rattle.sg_reader.proofs.TestLaws.{bad_field-rest, one-test}
 use Rattle.sg_reader.proofs.BodyLaws.{find-none, seam_in-first, seam_in-other, seam_in-seen}
 use Rattle.sg_reader.proofs.LatticeLaws.{seam_fault-passes}
 use Rattle.sg_model.specs.Faults.{OrNoMemory}
 
 -- the tests of a bond
-pub bond_fault-number : (n m : ℕ) (r : Kept) (k : ℕ) → length r.fields ≡ 4 → bad_field r 1 (bond_range n) ≡ Some k →
-    bond_fault n m r ≡ Some (BadNumber r.at k)
-bond_fault-number n m r k count bad = rw (is-not (length r.fields) 4 count, bad) refl
-
-one-test : (test : Option Refusal) → option_or test None ≡ test
-one-test None = refl
-one-test (Some refusal) = refl
+pub bond_fault-link : (n m : ℕ) (r : Kept) (x : Refusal) → link_fault any_number n r ≡ Some x → bond_fault n m r ≡ Some x
+bond_fault-link n m r x bad = rw bad refl
 
 -- a bond with good numbers is tested by its ends
-pub bond_fault-ends : (n m : ℕ) (r : Kept) (test : Option Refusal) → length r.fields ≡ 4
-    → bad_field r 1 (bond_range n) ≡ None → ends_fault (size_in r 1) (size_in r 2) m ≡ test → bond_fault n m r ≡ test
-bond_fault-ends n m r test count good ends =
-    rw (is-not (length r.fields) 4 count, good) (ap (λ (o : Option Refusal). option_or o None) ends ∙ one-test test)
+pub bond_fault-ends : (n m : ℕ) (r : Kept) (test : Option Refusal) → link_fault any_number n r ≡ None → ends_fault (size_in r 1) (size_in r 2) m ≡ test
+    → bond_fault n m r ≡ test
+bond_fault-ends n m r test good ends = rw good (ap (λ (o : Option Refusal). option_or o None) ends ∙ one-test test)
 
--- a bond with good numbers and different ends, within the limit, passes
-pub bond_fault-none : (n m : ℕ) (r : Kept) → length r.fields ≡ 4 → bad_field r 1 (bond_range n) ≡ None → m < bond_limit →
-    (size_in r 1 ≡ size_in r 2 → ⊥) → bond_fault n m r ≡ None
-bond_fault-none n m r count good few other = rw (is-not (length r.fields) 4 count, good, lt-leb bond_limit m few, ne_eqb (size_in r 1) (size_in r 2) other) refl
+-- different ends within the limit pass
+pub ends_fault-none : (u v m : ℕ) → m < bond_limit → (u ≡ v → ⊥) → ends_fault u v m ≡ None
+ends_fault-none u v m few other = rw (lt-leb bond_limit m few, ne_eqb u v other) refl
 
 -- the tests of a rotation
 pub rot_fault-number : (n : ℕ) (seen : Bool) (r : Kept) (k : ℕ) → (length r.fields ≡ 1 → ⊥) → bad_field r 1 (rot_range n) ≡ Some k
@@ -362,9 +355,14 @@ other-refused old r a b c d = record { refused = λ start body h. general_fault-
 pub lists-count : (start : GeneralBody) (body : List Kept) (state : GeneralBody) → HoldsGeneral start body state → length state.rotation ≡ state.n
 lists-count start body state h = ap length h.darts ∙ length-map-range_with_len (darts_in body) 0 state.n
 
--- there is a mark for each spin
-pub marks-count : (start : GeneralBody) (body : List Kept) (state : GeneralBody) → HoldsGeneral start body state → length state.seen.items ≡ state.n
-marks-count start body state h = ap length h.marks ∙ length-map-range_with_len (has_rot body) 0 state.n
+-- a spin has its place among the lists, and among the marks
+pub among-lists : (state : GeneralBody) (i : ℕ) → HoldsSome HoldsGeneral state → i < state.n → i < length state.rotation
+among-lists state i h inside = let count = lists-count h.start h.body state h.held in omega (arith, count, inside)
+
+pub among-marks : (state : GeneralBody) (i : ℕ) → HoldsSome HoldsGeneral state → i < state.n → i < length state.seen.items
+among-marks state i h inside =
+    let count = ap length h.held.marks ∙ length-map-range_with_len (has_rot h.body) 0 state.n in
+    omega (arith, count, inside)
 
 -- the instance that is kept
 pub instance-general : (start : GeneralBody) (body : List Kept) (state : GeneralBody) (seam : List ℕ) → HoldsGeneral start body state

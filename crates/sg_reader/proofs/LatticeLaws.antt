@@ -1,5 +1,5 @@
 -- The records of a lattice behind the first, up to its `end`.
-use Rattle.std.proofs.Common.{◌≡◌, ℕ, ℤ, ◌+◌, ◌<◌, ◌≤◌, ◌^◌, Bool, true, false, List, [], ◌∷◌, ◌++◌, length, Option, Some, None, refl, sym, ap, ◌∙◌, arith, append_assoc, codes}
+use Rattle.std.proofs.Common.{◌≡◌, ℕ, ℤ, ◌<◌, ◌^◌, Bool, true, false, List, [], ◌++◌, length, Option, Some, None, refl, sym, ap, ◌∙◌, arith, codes}
 use Rattle.std.specs.Prelude.{All, is_some, option_map, unsigned_abs}
 use Rattle.std.specs.List.{list_any}
 use Rattle.std.specs.Str.{bytes_eq}
@@ -13,7 +13,7 @@ use Rattle.sg_reader.specs.declared.lattice.LatticeBody.{LatticeBody}
 use Rattle.sg_reader.specs.Kept.{Kept, field}
 use Rattle.sg_draft.specs.Draft.{reseamed}
 use Rattle.sg_reader.specs.Tests.{any_number, bad_field, bad_number}
-use Rattle.sg_reader.specs.Body.{couplings_in, instance_of, says_end, says_seam, lattice_end_fault, lattice_fault, numbers_from, record_fault, seam_fault, seam_in, sizes_from}
+use Rattle.sg_reader.specs.Body.{couplings_in, instance_of, says_end, says_seam, lattice_end_fault, lattice_fault, numbers_from, seam_fault, seam_in, sizes_from}
 use Rattle.sg_reader.specs.Taken.{HoldsToEnd, RefusesNext, Takes}
 use Rattle.sg_reader.specs.Holds.{HoldsLattice}
 use Rattle.sg_reader.proofs.BodyLaws.{couplings_in-small, couplings_in-more, couplings_in-seam, length-numbers_from, seam_in-first, seam_in-other, seam_in-seen}

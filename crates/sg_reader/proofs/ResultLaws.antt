@@ -1,18 +1,16 @@
 -- The records of a result, one more at a time.
-use Rattle.std.proofs.Common.{◌≡◌, ℕ, ℤ, zero, suc, ◌+◌, ◌-◌, ◌*◌, ◌<◌, ◌≤◌, Bool, true, false, List, [], ◌∷◌, ◌++◌, length, take}
-use Rattle.std.proofs.Common.{Option, Some, None, refl, sym, ap, ◌∙◌, arith, append_assoc, codes, inl, inr}
+use Rattle.std.proofs.Common.{◌≡◌, ℕ, ℤ, ◌-◌, ◌<◌, ◌≤◌, Bool, true, false, List, [], ◌∷◌, ◌++◌, length}
+use Rattle.std.proofs.Common.{Option, Some, None, refl, sym, ap, ◌∙◌, arith, codes, inl, inr}
 use Rattle.std.specs.Prelude.{◌==◌, not, option_map}
 use Rattle.std.specs.Str.{bytes_eq}
 use Rattle.std.proofs.lemmas.Bool.{cases_eq, ne_eqb, not_from_false, not_from_true}
-use Rattle.std.proofs.lemmas.List.{append-nil, length-append, map-append}
-use Rattle.std.proofs.lemmas.List.Elements.{All-cons}
-use Rattle.std.proofs.lemmas.List.Sums.{sum_by-cons}
+use Rattle.std.proofs.lemmas.List.{length-append, map-append}
 use Rattle.std.proofs.lemmas.Option.{none-some}
 use Rattle.std.proofs.lemmas.Slice.Eq.{bytes_eq-Decides}
 use Rattle.sg_model.specs.declared.refusal.Fault.{Fault}
 use Rattle.sg_model.specs.declared.refusal.Fault.TheVariants.{Refused, NoMemory}
 use Rattle.sg_model.specs.declared.refusal.Refusal.{Refusal}
-use Rattle.sg_model.specs.declared.refusal.Refusal.TheVariants.{BadNumber, BadShape, UnknownKind, Unended}
+use Rattle.sg_model.specs.declared.refusal.Refusal.TheVariants.{BadNumber, BadShape, UnknownKind}
 use Rattle.sg_check.specs.declared.packing.Loop.{Loop}
 use Rattle.sg_reader.specs.Kept.{Kept, field}
 use Rattle.sg_reader.specs.Number.{number_of}

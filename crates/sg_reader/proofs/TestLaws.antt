@@ -3,6 +3,10 @@ use Rattle.std.proofs.Common.{◌≡◌, ℕ, zero, suc, ◌+◌, ◌-◌, ◌<�
 use Rattle.std.specs.Prelude.{◌==◌, cond, not, find}
 use Rattle.std.specs.List.{range_with_len}
 use Rattle.std.proofs.lemmas.Bool.{cases_eq, eq-eqb, ne_eqb, not_from_true, not_from_false}
+use Rattle.std.specs.Option.{option_or}
+use Rattle.sg_model.specs.declared.refusal.Refusal.{Refusal}
+use Rattle.sg_model.specs.declared.refusal.Refusal.TheVariants.{BadNumber, BadShape}
+use Rattle.sg_reader.specs.Body.{link_fault, link_range}
 use Rattle.sg_reader.specs.declared.range.Range.{Range}
 use Rattle.sg_reader.specs.Kept.{Kept, field}
 use Rattle.sg_reader.specs.Tests.{bad_field, is_number_in}
@@ -108,3 +112,24 @@ is-not a b h = not_from_true _ (eq-eqb a b h)
 -- different numbers are not equal
 pub is-other : (a b : ℕ) → (a ≡ b → ⊥) → not (a == b) ≡ true
 is-other a b h = not_from_false _ (ne_eqb a b h)
+
+-- a last test alone
+pub one-test : (test : Option Refusal) → option_or test None ≡ test
+one-test None = refl
+one-test (Some refusal) = refl
+
+-- a bad number refuses a record that joins two spins
+pub link_fault-number : (range : Range) (n : ℕ) (r : Kept) (k : ℕ) → length r.fields ≡ 4 → bad_field r 1 (link_range range n) ≡ Some k
+    → link_fault range n r ≡ Some (BadNumber r.at k)
+unfolding link_fault
+link_fault-number range n r k count bad = rw (is-not (length r.fields) 4 count, bad) refl
+
+-- good numbers pass
+pub link_fault-none : (range : Range) (n : ℕ) (r : Kept) → length r.fields ≡ 4 → bad_field r 1 (link_range range n) ≡ None → link_fault range n r ≡ None
+unfolding link_fault
+link_fault-none range n r count good = rw (is-not (length r.fields) 4 count, good) refl
+
+-- another number of fields is refused first
+pub link_fault-shape : (range : Range) (n : ℕ) (r : Kept) → (length r.fields ≡ 4 → ⊥) → link_fault range n r ≡ Some (BadShape r.at)
+unfolding link_fault
+link_fault-shape range n r other = rw (is-other (length r.fields) 4 other) refl

@@ -8,7 +8,7 @@ use Rattle.sg_reader.specs.Kept.{Kept}
 use Rattle.sg_reader.specs.Number.{number_of}
 use Rattle.sg_reader.specs.Tests.{bad_field}
 use Rattle.sg_reader.specs.Header.{form_of, header_fault, header_of}
-use Rattle.sg_reader.specs.Body.{bonds_in, couplings_in, darts_in, general_fault, has_rot, lattice_fault, seam_in}
+use Rattle.sg_reader.specs.Body.{bonds_in, couplings_in, darts_in, general_fault, has_rot, lattice_fault, link_fault, seam_in}
 use Rattle.sg_reader.specs.Result.{bad_spin, result_fault, result_of}
 
 abbrev row : ℕ → List (List ℕ) → Kept
@@ -99,11 +99,11 @@ unfolding general_fault has_rot bad_field number_of
 second-rot = refl
 
 self-bond : general_fault 2 pair (row 4 (codes "bond" ∷ codes "0" ∷ codes "0" ∷ codes "1" ∷ [])) ≡ Some (SelfBond 1)
-unfolding general_fault bonds_in bad_field number_of
+unfolding general_fault bonds_in bad_field number_of link_fault
 self-bond = refl
 
 past-spin : general_fault 2 pair (row 4 (codes "bond" ∷ codes "0" ∷ codes "2" ∷ codes "z" ∷ [])) ≡ Some (BadNumber 4 2)
-unfolding general_fault bonds_in bad_field number_of
+unfolding general_fault bonds_in bad_field number_of link_fault
 past-spin = refl
 
 other-word : general_fault 2 pair (row 4 (codes "3" ∷ [])) ≡ Some (UnknownKind 4)

@@ -82,10 +82,17 @@ lattice_fault wanted body r =
     else (if says_end r then lattice_end_fault wanted (length (couplings_in body)) r
     else bad_number r 0 (λ i. any_number))
 
--- the range of field i of a `bond` and of a `rot`
-abbrev pub bond_range : ℕ → ℕ → Range
-bond_range n i = if i == 3 then any_number else spin_below n
+-- the range of field i of a record that joins two of n spins, with a number of the range behind them; and its tests
+abbrev pub link_range : Range → ℕ → ℕ → Range
+link_range range n i = if i == 3 then range else spin_below n
 
+unfoldable pub link_fault : Range → ℕ → Kept → Option Refusal
+link_fault range n r = first_of (
+    refuse_if (not (length r.fields == 4)) (BadShape r.at)
+    ∷ bad_number r 1 (link_range range n)
+    ∷ [])
+
+-- the range of field i of a `rot`
 abbrev pub rot_range : ℕ → ℕ → Range
 rot_range n i = if i == 1 then spin_below n else any_index
 
@@ -98,11 +105,7 @@ ends_fault u v m = first_of (
 
 -- a bond of an instance of n spins, behind m bonds
 abbrev pub bond_fault : ℕ → ℕ → Kept → Option Refusal
-bond_fault n m r = first_of (
-    refuse_if (not (length r.fields == 4)) (BadShape r.at)
-    ∷ bad_number r 1 (bond_range n)
-    ∷ ends_fault (size_in r 1) (size_in r 2) m
-    ∷ [])
+bond_fault n m r = first_of (link_fault any_number n r ∷ ends_fault (size_in r 1) (size_in r 2) m ∷ [])
 
 -- the darts of a spin, which may have been given before
 abbrev pub rot_fault : ℕ → Bool → Kept → Option Refusal

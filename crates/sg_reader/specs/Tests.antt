@@ -1,13 +1,11 @@
 -- Tests of the numbers of a record: each gives its refusal where it fails.
-use Rattle.std.specs.Prelude.{◌≡◌, ℕ, ◌-◌, ◌^◌, ◌&&◌, Bool, false, not, ℤ, pos, neg_ℤ, int_le, unsigned_abs, if◌then◌else◌, List, [], ◌∷◌, length, find, Option, Some, None, option_map, unwrap_or}
+use Rattle.std.specs.Prelude.{ℕ, ◌-◌, ◌^◌, ◌&&◌, Bool, false, not, ℤ, pos, neg_ℤ, int_le, unsigned_abs, List, length, find, Option, Some, None, option_map, unwrap_or}
 use Rattle.std.specs.List.{range_with_len}
-use Rattle.std.specs.Option.{option_or}
 use Rattle.sg_model.specs.declared.refusal.Refusal.{Refusal}
 use Rattle.sg_model.specs.declared.refusal.Refusal.TheVariants.{BadNumber}
 use Rattle.sg_reader.specs.declared.range.Range.{Range}
 use Rattle.sg_reader.specs.Number.{number_of}
 use Rattle.sg_reader.specs.Kept.{Kept, field}
-use Rattle.sg_model.specs.Faults.{OrNoMemory}
 
 -- the ranges of the places: couplings, rows and columns and spins in all, spins by number, darts and bonds by number
 abbrev pub any_number : Range

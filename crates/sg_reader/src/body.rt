@@ -1,7 +1,8 @@
-ghost use Rattle.std.specs.Prelude.{◌≡◌, ◌≤◌, ◌++◌, length, None, Some, IfOk, IfErr, OnOk};
-ghost use Rattle.sg_reader.specs.Body.{bare_end_fault, numbers_from, seam_fault, sizes_from};
+ghost use Rattle.std.specs.Prelude.{◌≡◌, ◌<◌, ◌≤◌, ◌++◌, true, length, None, Some, IfOk, IfErr, OnOk};
+ghost use Rattle.sg_reader.specs.Body.{bare_end_fault, link_fault, numbers_from, seam_fault, sizes_from};
 ghost use Rattle.sg_draft.specs.Tests.{Refuses};
-ghost use Rattle.sg_reader.specs.Tests.{any_index, any_number, bad_field, bad_number};
+ghost use Rattle.sg_reader.specs.Tests.{any_index, any_number, bad_field, bad_number, is_number_in, number_in, size_in};
+ghost use Rattle.sg_reader.specs.Kept.{field};
 ghost use Rattle.sg_model.specs.Faults.{OrNoMemory};
 
 use super::range::Range;
@@ -43,7 +44,7 @@ pub fn indices(alloc: Global, row: &Row, from: usize) -> Result<BondList, Fault>
     Ok(list)
 }
 
-/// The bonds of a record `seam,..`.
+//// The bonds of a record `seam,..`.
 ///
 /// # Errors
 /// In this order: `BadShape` where a seam was seen before, and `BadNumber`.
@@ -57,6 +58,39 @@ pub(crate) fn seam(alloc: Global, row: &Row, seen: bool) -> Result<BondList, Fau
         return Err(Fault::Refused(Refusal::BadShape { at: row.at() }));
     }
     indices(alloc, row, 1)
+}
+
+/// Two of the spins of an instance, or of the nodes of a graph, and a number.
+#[derive(Clone, Copy)]
+pub struct Link {
+    pub u: u32,
+    pub v: u32,
+    pub value: i64,
+}
+
+/// What a record `WORD,U,V,Z` says: two of `n` spins, and a number of the range.
+///
+/// # Errors
+/// In this order: `BadShape` for another number of fields, and `BadNumber`.
+pub fn read_link(row: &Row, n: u32, range: Range) -> Result<Link, Refusal>
+    requires { 1 ≤ n }
+    ensures passes { IfOk result (λ l. link_fault range n row.now ≡ None) }
+    ensures u { IfOk result (λ l. (l.u ≡ size_in row.now 1) × (l.u < n)) }
+    ensures v { IfOk result (λ l. (l.v ≡ size_in row.now 2) × (l.v < n)) }
+    ensures value { IfOk result (λ l. (l.value ≡ number_in row.now 3) × (is_number_in range (field row.now 3) ≡ true)) }
+    ensures refused { IfErr result (λ e. link_fault range n row.now ≡ Some e) }
+{
+    if row.len() != 4 {
+        return Err(Refusal::BadShape { at: row.at() });
+    }
+    let u = row.size(1, Range::spin_below(n))?;
+    let v = row.size(2, Range::spin_below(n))?;
+    let value = row.number(3, range)?;
+    Ok(Link {
+        u: u as u32,
+        v: v as u32,
+        value,
+    })
 }
 
 /// The tests of an `end` that has no numbers beside it.

@@ -13,7 +13,7 @@ ghost use Rattle.sg_reader.specs.Taken.{HoldsSome, RefusesNext, Takes};
 ghost use Rattle.sg_model.specs.Faults.{IsRefusalOf, OrNoMemory};
 
 use super::NoMemory;
-use super::body::{SEAM, bare_end, indices, seam};
+use super::body::{Link, SEAM, bare_end, indices, read_link, seam};
 use super::ended::{Gather, read_to_end};
 use super::range::Range;
 use super::row::Row;
@@ -39,7 +39,7 @@ pub(crate) struct GeneralBody {
 }
 
 // The tests of bond `m` between two spins: there is room for it, and its ends differ.
-fn check_ends(u: u64, v: u64, m: usize) -> Result<(), Refusal>
+fn check_ends(u: u32, v: u32, m: usize) -> Result<(), Refusal>
     requires { m ≤ bond_limit }
     ensures room { OnOk result (m < bond_limit) }
     ensures differ { OnOk result (u ≢ v) }
@@ -64,18 +64,9 @@ fn read_bond(row: &Row, n: u32, m: usize) -> Result<Bond, Refusal>
     ensures room { IfOk result (λ b. m < bond_limit) }
     ensures refused { IfErr result (λ e. bond_fault n m row.now ≡ Some e) }
 {
-    if row.len() != 4 {
-        return Err(Refusal::BadShape { at: row.at() });
-    }
-    let u = row.size(1, Range::spin_below(n))?;
-    let v = row.size(2, Range::spin_below(n))?;
-    let j = row.number(3, Range::any_number())?;
+    let Link { u, v, value } = read_link(row, n, Range::any_number())?;
     check_ends(u, v, m)?;
-    Ok(Bond {
-        u: u as u32,
-        v: v as u32,
-        j,
-    })
+    Ok(Bond { u, v, j: value })
 }
 
 // The spin of a record `rot,I,D,..`.

@@ -30,7 +30,7 @@ mod result;
 mod row;
 mod rows;
 
-pub use body::{bare_end, indices};
+pub use body::{Link, bare_end, indices, read_link};
 pub use ended::{Gather, read_to_end};
 pub use field::without_marks;
 pub use header::{Form, form_named};

@@ -1,4 +1,3 @@
-use Rattle.std.proofs.Common.{ℕ, Bool, subst}
 use Rattle.std.proofs.lemmas.Result.{err_from_is_err_and}
 use Rattle.sg_graph_text.proofs.ReadLaws.{body-fails, body-states, end-fails}
 use Rattle.sg_graph_text.proofs.body.read_body.Goals as goal

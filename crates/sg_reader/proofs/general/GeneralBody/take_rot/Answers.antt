@@ -1,9 +1,8 @@
-use Rattle.std.proofs.Common.{◌≡◌, ◌<◌, ℕ, Bool, false, true, Some, set, get_or, sym, ◌∙◌, ap, subst, arith, refl}
+use Rattle.std.proofs.Common.{ℕ, false, true, Some, set, get_or, sym, ◌∙◌, ap, arith, refl}
 use Rattle.std.proofs.lemmas.Result.{err_from_is_err_and}
 use Rattle.sg_model.specs.declared.refusal.Refusal.TheVariants.{BadShape}
-use Rattle.sg_reader.specs.Tests.{size_in}
 use Rattle.sg_reader.specs.Body.{sizes_from}
-use Rattle.sg_reader.proofs.GeneralLaws.{lists-count, marks-count, rot-numbers, rot-refused, rot-taken, rot_fault-darts, rot_fault-none, rot_fault-seen, rot_range-rest}
+use Rattle.sg_reader.proofs.GeneralLaws.{among-lists, among-marks, rot-numbers, rot-refused, rot-taken, rot_fault-darts, rot_fault-none, rot_fault-seen, rot_range-rest}
 use Rattle.sg_reader.proofs.general.GeneralBody.take_rot.Goals as goal
 
 pub rot_spin-requires-clause-some : goal.rot_spin-requires-clause-some
@@ -55,21 +54,13 @@ returns-clause-taken c =
 
 pub index-requires : goal.index-requires
 index-requires c =
-    let h = c.requires.held in
-    let count = marks-count h.start h.body c.args.self.now h.held in
-    let below = c.in_ok-spin.ensures.below in
-    omega (arith, count, below)
+    let inside = among-marks c.args.self.now c.in_ok-spin.spin c.requires.held c.in_ok-spin.ensures.below in
+    omega (arith, inside)
 
 pub set-requires : goal.set-requires
-set-requires c =
-    let h = c.requires.held in
-    let count = lists-count h.start h.body c.args.self.now h.held in
-    let below = c.in_ok-spin.ensures.below in
-    omega (arith, count, below)
+set-requires c = among-lists c.args.self.now c.in_ok-spin.spin c.requires.held c.in_ok-spin.ensures.below
 
 pub index_mut-requires : goal.index_mut-requires
 index_mut-requires c =
-    let h = c.requires.held in
-    let count = marks-count h.start h.body c.args.self.now h.held in
-    let below = c.in_ok-spin.ensures.below in
-    omega (arith, count, below)
+    let inside = among-marks c.args.self.now c.in_ok-spin.spin c.requires.held c.in_ok-spin.ensures.below in
+    omega (arith, inside)
