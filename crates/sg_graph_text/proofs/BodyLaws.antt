@@ -18,7 +18,7 @@ use Rattle.sg_graph.specs.Web.{IsEdge}
 use Rattle.sg_reader.specs.Kept.{Kept, field}
 use Rattle.sg_draft.specs.Tests.{Refuses}
 use Rattle.sg_reader.specs.Body.{bare_end_fault, says_end, sizes_from}
-use Rattle.sg_reader.specs.Taken.{HoldsSome, RefusesNext, Takes}
+use Rattle.sg_reader.specs.Taken.{HoldsSome, RefusesNext, TakesNext}
 use Rattle.sg_graph_text.specs.declared.body.GraphBody.{GraphBody}
 use Rattle.sg_graph_text.specs.Graph.{IsGraphText, body_fault, body_graph, edge_fault, edge_of, edges_in, entries_given, entries_in, graph_end_fault, says_edge, says_term, term_fault, terminals_fault, terminals_of}
 use Rattle.sg_graph_text.specs.GraphHolds.{HoldsGraph}
@@ -134,7 +134,7 @@ edge-tested old r m many is start body h =
 -- an `edge` is taken
 pub edge-taken : (old new : GraphBody) (r : Kept) (m : ℕ) → m ≡ length old.edges → says_edge r ≡ true → edge_fault old.nodes m r ≡ None
     → new.nodes ≡ old.nodes → new.terms ≡ old.terms → new.entries ≡ old.entries → new.edges ≡ old.edges ++ edge_of r ∷ []
-    → IsEdge old.nodes (edge_of r) → m < bond_limit → Takes (λ s. body_fault s.terms s.nodes) HoldsGraph old r new
+    → IsEdge old.nodes (edge_of r) → m < bond_limit → TakesNext (λ s. body_fault s.terms s.nodes) HoldsGraph old r new
 edge-taken old new r m many is good same_nodes same_terms same_entries added sound room = record {
   passes = λ start body h. edge-tested old r m many is start body h ∙ good;
   goes_on = λ start body h.
@@ -169,7 +169,7 @@ term-tested old r seen was allowed is start body h =
 -- a `term` is taken
 pub term-taken : (old new : GraphBody) (r : Kept) (seen : Bool) (list : List ℕ) → is_some old.entries ≡ seen → seen ≡ false → old.terms ≡ true
     → says_term r ≡ true → term_fault seen r ≡ None → list ≡ sizes_from r 1 → new.nodes ≡ old.nodes → new.terms ≡ old.terms
-    → new.edges ≡ old.edges → new.entries ≡ Some list → Takes (λ s. body_fault s.terms s.nodes) HoldsGraph old r new
+    → new.edges ≡ old.edges → new.entries ≡ Some list → TakesNext (λ s. body_fault s.terms s.nodes) HoldsGraph old r new
 term-taken old new r seen list was first allowed is good value same_nodes same_terms same_edges given = record {
   passes = λ start body h. term-tested old r seen was allowed is start body h ∙ good;
   goes_on = λ start body h.

@@ -5,7 +5,7 @@ ghost use Rattle.sg_reader.specs.Body.{says_end, sizes_from};
 ghost use Rattle.sg_reader.specs.Ended.{RefusesRecords, StatesToEnd};
 ghost use Rattle.sg_reader.specs.Kept.{Kept};
 ghost use Rattle.sg_reader.specs.Rest.{Fails};
-ghost use Rattle.sg_reader.specs.Taken.{HoldsSome, RefusesNext, Takes};
+ghost use Rattle.sg_reader.specs.Taken.{HoldsSome, RefusesNext, TakesNext};
 ghost use Rattle.sg_draft.specs.Tests.{Refuses};
 ghost use Rattle.sg_graph_text.specs.Graph.{body_fault, body_graph, edge_fault, edge_of, IsGraphText, says_edge, says_term, room_fault, term_fault};
 ghost use Rattle.sg_graph_text.specs.GraphHolds.{HoldsGraph};
@@ -95,7 +95,7 @@ impl GraphBody {
     fn take_edge(&mut self, row: &Row) -> Result<(), Fault>
         requires held { HoldsSome HoldsGraph self.old }
         requires word { says_edge row.now ≡ true }
-        ensures taken { OnOk result (Takes (λ s. body_fault s.terms s.nodes) HoldsGraph self.old row.now self.new) }
+        ensures taken { OnOk result (TakesNext (λ s. body_fault s.terms s.nodes) HoldsGraph self.old row.now self.new) }
         ensures fault { IfErr result (RefusesNext (λ s. body_fault s.terms s.nodes) HoldsGraph self.old row.now) }
     {
         let edge = read_edge(row, self.nodes, self.edges.len())?;
@@ -106,7 +106,7 @@ impl GraphBody {
     fn take_term(&mut self, alloc: Global, row: &Row) -> Result<(), Fault>
         requires allowed { self.old.terms ≡ true }
         requires word { says_term row.now ≡ true }
-        ensures taken { OnOk result (Takes (λ s. body_fault s.terms s.nodes) HoldsGraph self.old row.now self.new) }
+        ensures taken { OnOk result (TakesNext (λ s. body_fault s.terms s.nodes) HoldsGraph self.old row.now self.new) }
         ensures fault { IfErr result (RefusesNext (λ s. body_fault s.terms s.nodes) HoldsGraph self.old row.now) }
     {
         let entries = read_term(alloc, row, self.entries.is_some())?;

@@ -13,7 +13,7 @@ use Rattle.sg_reader.specs.Kept.{Kept}
 use Rattle.sg_reader.specs.Body.{says_end}
 use Rattle.sg_reader.specs.Ended.{AtRecord, IsBody, RefusesRecords, StatesToEnd, TestTable, WithoutEnd, record_at}
 use Rattle.sg_reader.specs.Rest.{Fails}
-use Rattle.sg_reader.specs.Taken.{HoldsToEnd, RefusesNext, Takes}
+use Rattle.sg_reader.specs.Taken.{HoldsToEnd, RefusesNext, TakesNext}
 use Rattle.sg_reader.proofs.RestLaws.{rest-behind}
 
 -- no record fails a test where there is none
@@ -114,7 +114,7 @@ module _ {S : Type 0} (tests : S → TestTable) (holds : S → List Kept → S �
   divided r rest next = sf.split ∙ ap (λ (l : List Kept). sf.body ++ l) next
 
   -- one more is taken
-  pub taken-more : (r : Kept) (rest : List Kept) (new : S) → left ≡ r ∷ rest → says_end r ≡ false → Takes tests holds now r new
+  pub taken-more : (r : Kept) (rest : List Kept) (new : S) → left ≡ r ∷ rest → says_end r ≡ false → TakesNext tests holds now r new
       → TakenSoFar tests holds start all rest new
   taken-more r rest new next other takes = record {
     body = sf.body ++ r ∷ [];

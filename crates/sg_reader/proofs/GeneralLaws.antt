@@ -28,7 +28,7 @@ use Rattle.sg_draft.specs.Tests.{Refuses}
 use Rattle.sg_reader.specs.Tests.{any_index, any_number, bad_field, bad_number, is_number_in, size_in, spin_below}
 use Rattle.sg_reader.specs.Body.{bond_fault, bond_of, ends_fault, link_fault, bonds_in, darts_in, bare_end_fault, general_fault, has_rot, instance_of, says_bond, says_end, says_rot, says_rot_of, says_seam, rot_fault, rot_range, seam_fault, seam_in, sizes_from}
 use Rattle.sg_reader.specs.Holds.{HoldsGeneral}
-use Rattle.sg_reader.specs.Taken.{HoldsSome, HoldsToEnd, RefusesNext, Takes}
+use Rattle.sg_reader.specs.Taken.{HoldsSome, HoldsToEnd, RefusesNext, TakesNext}
 use Rattle.sg_reader.proofs.TestLaws.{bad_field-rest, one-test}
 use Rattle.sg_reader.proofs.BodyLaws.{find-none, seam_in-first, seam_in-other, seam_in-seen}
 use Rattle.sg_reader.proofs.LatticeLaws.{seam_fault-passes}
@@ -229,7 +229,7 @@ bond-tested old r m many is start body h =
 -- a `bond` is taken
 pub bond-taken : (old new : GeneralBody) (r : Kept) (m : ℕ) → m ≡ length old.bonds → says_bond r ≡ true → bond_fault old.n m r ≡ None
     → new.n ≡ old.n → new.bonds ≡ old.bonds ++ bond_of r ∷ [] → new.rotation ≡ old.rotation → new.seen.items ≡ old.seen.items → new.seam ≡ old.seam
-    → IsBond old.n (bond_of r) → m < bond_limit → Takes (λ s. general_fault s.n) HoldsGeneral old r new
+    → IsBond old.n (bond_of r) → m < bond_limit → TakesNext (λ s. general_fault s.n) HoldsGeneral old r new
 bond-taken old new r m many is good same added lists marks cut sound room = record {
   passes = λ start body h. bond-tested old r m many is start body h ∙ good;
   goes_on = λ start body h.
@@ -266,7 +266,7 @@ seam-tested old r seen was is start body h =
 -- a `seam` is taken
 pub seam-taken : (old new : GeneralBody) (r : Kept) (seen : Bool) → is_some old.seam ≡ seen → says_seam r ≡ true → seam_fault seen r ≡ None
     → new.n ≡ old.n → new.bonds ≡ old.bonds → new.rotation ≡ old.rotation → new.seen.items ≡ old.seen.items → new.seam ≡ Some (sizes_from r 1)
-    → Takes (λ s. general_fault s.n) HoldsGeneral old r new
+    → TakesNext (λ s. general_fault s.n) HoldsGeneral old r new
 seam-taken old new r seen was is good same kept lists marks cut = record {
   passes = λ start body h. seam-tested old r seen was is start body h ∙ good;
   goes_on = λ start body h.
@@ -306,7 +306,7 @@ rot-tested old r seen d was inside is start body h =
 pub rot-taken : (old new : GeneralBody) (r : Kept) (d : Bool) → get_or old.seen.items (size_in r 1) d ≡ false → size_in r 1 < old.n → says_rot r ≡ true
     → rot_fault old.n false r ≡ None → new.n ≡ old.n → new.bonds ≡ old.bonds → new.seam ≡ old.seam
     → new.rotation ≡ set old.rotation (size_in r 1) (sizes_from r 2) → new.seen.items ≡ set old.seen.items (size_in r 1) true
-    → Takes (λ s. general_fault s.n) HoldsGeneral old r new
+    → TakesNext (λ s. general_fault s.n) HoldsGeneral old r new
 rot-taken old new r d was inside is good same kept cut lists marks = record {
   passes = λ start body h. rot-tested old r false d was inside is start body h ∙ good;
   goes_on = λ start body h.

@@ -14,7 +14,7 @@ use Rattle.sg_reader.specs.Kept.{Kept, field}
 use Rattle.sg_draft.specs.Draft.{reseamed}
 use Rattle.sg_reader.specs.Tests.{any_number, bad_field, bad_number}
 use Rattle.sg_reader.specs.Body.{couplings_in, instance_of, says_end, says_seam, lattice_end_fault, lattice_fault, numbers_from, seam_fault, seam_in, sizes_from}
-use Rattle.sg_reader.specs.Taken.{HoldsToEnd, RefusesNext, Takes}
+use Rattle.sg_reader.specs.Taken.{HoldsToEnd, RefusesNext, TakesNext}
 use Rattle.sg_reader.specs.Holds.{HoldsLattice}
 use Rattle.sg_reader.proofs.BodyLaws.{couplings_in-small, couplings_in-more, couplings_in-seam, length-numbers_from, seam_in-first, seam_in-other, seam_in-seen}
 use Rattle.sg_reader.proofs.RecordCounts.{field_total, field_total-around, field_total-more}
@@ -74,7 +74,7 @@ holds-none state none cut = let count = ap length none in record { wanted = refl
 -- a `seam` is taken
 pub seam-taken : (old new : LatticeBody) (r : Kept) (seen : Bool) → is_some old.seam ≡ seen → says_seam r ≡ true → seam_fault seen r ≡ None
     → new.wanted ≡ old.wanted → new.couplings ≡ old.couplings → new.seam ≡ Some (sizes_from r 1)
-    → Takes (λ s. lattice_fault s.wanted) HoldsLattice old r new
+    → TakesNext (λ s. lattice_fault s.wanted) HoldsLattice old r new
 seam-taken old new r seen was seam good same kept bonds = record {
   passes = λ start body h. lattice_fault-seam start.wanted body r seam ∙ ap (λ (b : Bool). seam_fault b r) (sym (seen-seam start body old h) ∙ was) ∙ good;
   goes_on = λ start body h.
@@ -102,7 +102,7 @@ seam-refused old r seen e was seam bad = record {
 -- couplings are taken
 pub couplings-taken : (old new : LatticeBody) (r : Kept) → says_seam r ≡ false → says_end r ≡ false → bad_field r 0 (λ i. any_number) ≡ None
     → new.wanted ≡ old.wanted → new.couplings ≡ old.couplings ++ numbers_from r 0 → new.seam ≡ old.seam
-    → Takes (λ s. lattice_fault s.wanted) HoldsLattice old r new
+    → TakesNext (λ s. lattice_fault s.wanted) HoldsLattice old r new
 couplings-taken old new r other goes_on good same added kept = record {
   passes = λ start body h.
       lattice_fault-couplings start.wanted body r other goes_on ∙ ap (λ (o : Option ℕ). option_map (λ i. BadNumber r.at i) o) good;

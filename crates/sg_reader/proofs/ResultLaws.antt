@@ -22,7 +22,7 @@ use Rattle.sg_reader.specs.declared.result.LoopsBody.{LoopsBody}
 use Rattle.sg_reader.specs.Ended.{IsEnded, RefusesRecords, StatesToEnd}
 use Rattle.sg_reader.specs.Holds.{HoldsLoops}
 use Rattle.sg_reader.specs.Rest.{Fails}
-use Rattle.sg_reader.specs.Taken.{RefusesNext, Takes}
+use Rattle.sg_reader.specs.Taken.{RefusesNext, TakesNext}
 use Rattle.sg_reader.specs.Result.{bad_spin, energy_fault, says_energy, says_loop, is_spin_value, says_spins, loop_fault, stated_loop, loop_range, loops_fault, stated_loops, result_fault, result_of, spins_fault}
 use Rattle.sg_reader.specs.ReadResult.{ReadsResult, RefusesResult}
 use Rattle.sg_reader.proofs.TestLaws.{bad_field-first, bad_field-one, bad_field-rest, find_range-none, find_range-some, is-not}
@@ -127,7 +127,7 @@ loops_fault-loop body r h = rw h refl
 
 -- one more loop is taken
 pub loop-taken : (old new : LoopsBody) (r : Kept) → says_end r ≡ false → loop_fault r ≡ None → new.loops ≡ old.loops ++ stated_loop r ∷ []
-    → 1 < length r.fields → Takes (λ s. loops_fault) HoldsLoops old r new
+    → 1 < length r.fields → TakesNext (λ s. loops_fault) HoldsLoops old r new
 loop-taken old new r other good added long = record {
   passes = λ start body h. loops_fault-loop body r other ∙ good;
   goes_on = λ start body h.

@@ -4,7 +4,7 @@ ghost use Rattle.sg_reader.specs.Body.{says_end};
 ghost use Rattle.sg_reader.specs.Ended.{RefusesRecords, TestTable};
 ghost use Rattle.sg_reader.specs.Kept.{Kept};
 ghost use Rattle.sg_reader.specs.Rest.{Fails};
-ghost use Rattle.sg_reader.specs.Taken.{HoldsSome, HoldsToEnd, RefusesNext, Takes};
+ghost use Rattle.sg_reader.specs.Taken.{HoldsSome, HoldsToEnd, RefusesNext, TakesNext};
 
 use super::body::END;
 use super::row::Row;
@@ -20,18 +20,18 @@ pub trait Gather {
     // From the first value on the records gave the second.
     ghost holds: { Self → List Kept → Self → Type 0 };
 
-    /// Takes a record that is not the `end`.
+    /// TakesNext a record that is not the `end`.
     ///
     /// # Errors
     /// The first of its tests that fails. `NoMemory`.
     fn take(&mut self, alloc: Global, row: &Row) -> Result<(), Fault>
         requires other { says_end row.now ≡ false }
         requires held { HoldsSome holds self.old }
-        ensures taken { OnOk result (Takes tests holds self.old row.now self.new) }
+        ensures taken { OnOk result (TakesNext tests holds self.old row.now self.new) }
         ensures fault { IfErr result (RefusesNext tests holds self.old row.now) };
 }
 
-/// Takes the records up to an `end`, which is then in `row`, and is not tested yet. Those behind it are
+/// TakesNext the records up to an `end`, which is then in `row`, and is not tested yet. Those behind it are
 /// left.
 ///
 /// # Errors

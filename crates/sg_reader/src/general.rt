@@ -9,7 +9,7 @@ ghost use Rattle.sg_reader.specs.Body.{bond_fault, bond_of, ends_fault, general_
 ghost use Rattle.sg_reader.specs.Holds.{HoldsGeneral};
 ghost use Rattle.sg_reader.specs.ReadInstance.{ReadsBody, RefusesBody};
 ghost use Rattle.sg_reader.specs.Rest.{Fails};
-ghost use Rattle.sg_reader.specs.Taken.{HoldsSome, RefusesNext, Takes};
+ghost use Rattle.sg_reader.specs.Taken.{HoldsSome, RefusesNext, TakesNext};
 ghost use Rattle.sg_model.specs.Faults.{IsRefusalOf, OrNoMemory};
 
 use super::NoMemory;
@@ -111,7 +111,7 @@ impl GeneralBody {
     fn take_bond(&mut self, row: &Row) -> Result<(), Fault>
         requires held { HoldsSome HoldsGeneral self.old }
         requires word { says_bond row.now ≡ true }
-        ensures taken { OnOk result (Takes (λ s. general_fault s.n) HoldsGeneral self.old row.now self.new) }
+        ensures taken { OnOk result (TakesNext (λ s. general_fault s.n) HoldsGeneral self.old row.now self.new) }
         ensures fault { IfErr result (RefusesNext (λ s. general_fault s.n) HoldsGeneral self.old row.now) }
     {
         let bond = read_bond(row, self.n, self.bonds.len())?;
@@ -122,7 +122,7 @@ impl GeneralBody {
     fn take_rot(&mut self, alloc: Global, row: &Row) -> Result<(), Fault>
         requires held { HoldsSome HoldsGeneral self.old }
         requires word { says_rot row.now ≡ true }
-        ensures taken { OnOk result (Takes (λ s. general_fault s.n) HoldsGeneral self.old row.now self.new) }
+        ensures taken { OnOk result (TakesNext (λ s. general_fault s.n) HoldsGeneral self.old row.now self.new) }
         ensures fault { IfErr result (RefusesNext (λ s. general_fault s.n) HoldsGeneral self.old row.now) }
     {
         let spin = rot_spin(row, self.n)?;
@@ -137,7 +137,7 @@ impl GeneralBody {
 
     fn take_seam(&mut self, alloc: Global, row: &Row) -> Result<(), Fault>
         requires { says_seam row.now ≡ true }
-        ensures taken { OnOk result (Takes (λ s. general_fault s.n) HoldsGeneral self.old row.now self.new) }
+        ensures taken { OnOk result (TakesNext (λ s. general_fault s.n) HoldsGeneral self.old row.now self.new) }
         ensures fault { IfErr result (RefusesNext (λ s. general_fault s.n) HoldsGeneral self.old row.now) }
     {
         let bonds = seam(alloc, row, self.seam.is_some())?;
