@@ -71,12 +71,12 @@ abbrev pub is_node : ℕ → ℕ → Bool
 is_node n t = nat_lt t n
 
 -- the first entry that is no node, or stands earlier too
-unfoldable pub bad_entry : ℕ → List ℕ → Option ℕ
-bad_entry n entries =
+unfoldable pub bad_terminal : ℕ → List ℕ → Option ℕ
+bad_terminal n entries =
     option_map (slice_index entries) (find (is_misplaced (is_node n) entries) (range_with_len 0 (length entries)))
 
 abbrev pub entry_fault : ℕ → List ℕ → Option Refusal
-entry_fault n entries = option_map (λ t. BadTerminal t) (bad_entry n entries)
+entry_fault n entries = option_map (λ t. BadTerminal t) (bad_terminal n entries)
 
 -- the terminals are odd in number
 abbrev pub odd_fault : ℕ → Option Refusal

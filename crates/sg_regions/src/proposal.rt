@@ -1,7 +1,7 @@
 use super::NoMemory;
 use super::grow::{grow, grow_again};
 use sg_graph::{Terminals, Web};
-use sg_growth::Adjacency;
+use sg_growth::{Adjacency, Nest, Pair};
 use sg_join_check::Proposal;
 use sg_region_ways::{chains_of, join_of};
 use std::alloc::Global;
