@@ -27,21 +27,27 @@ void *__wrap_malloc(size_t size) { return is_granted() ? __real_malloc(size) : N
 void *__wrap_realloc(void *block, size_t size) { return is_granted() ? __real_realloc(block, size) : NULL; }
 
 /* Room for what is written of four spins and four bonds. */
-enum { SPINS = 4, BONDS = 4, LOOPS = 10, LOOP_BONDS = 40, REGIONS = 4, FACES = 2, LINE = 124 };
+enum { SPINS = 4, BONDS = 4, LOOPS = 10, LOOP_BONDS = 40, REGIONS = 4, FACES = 2, SEAM = 2, LINE = 124 };
 
 /* All places of a caller, for every export, with no byte between them. */
 struct places {
-    int64_t energy, periodic, antiperiodic, difference, weights[LOOPS], costs[BONDS];
+    struct ising2d_ground ground;
+    struct ising2d_nest nest;
+    struct ising2d_wall wall;
+    struct ising2d_tables tables;
+    int64_t weights[LOOPS], costs[BONDS];
     uint64_t radii[REGIONS], at_radii[FACES];
-    size_t starts[LOOPS + 1], loop_count, bond_count, region_count, face_count, written, whole;
+    size_t starts[LOOPS + 1], dart_starts[SPINS + 1], written, whole;
+    uint32_t ends[2 * BONDS], darts[2 * BONDS], seam[SEAM];
     uint32_t names[SPINS], bonds[LOOP_BONDS], parents[REGIONS], regions[FACES];
     int8_t spins[SPINS];
     uint8_t line[LINE];
 };
 
-/* What a caller gives: the same square as a lattice and as a graph, a proof, and words. */
+/* What a caller gives: a square as a lattice and as a graph, a proof, and words. */
 struct given {
     uint8_t kind;
+    uint32_t cols;
     uint32_t n;
     size_t couplings_len;
     int64_t energy;
@@ -52,7 +58,9 @@ struct given {
 static const int64_t couplings[] = {3, 4, 2, -5};
 static const uint32_t ends[] = {0, 1, 2, 3, 0, 2, 1, 3}, darts[] = {0, 4, 1, 6, 2, 5, 3, 7}, seam[] = {0};
 static const size_t dart_starts[] = {0, 2, 4, 6, 8};
-static const int64_t ring[] = {5, 7, 2}, heavy[] = {4};
+static const uint32_t ring_ends[] = {0, 1, 1, 2, 2, 0}, ring_darts[] = {0, 5, 2, 1, 4, 3}, ring_seam[] = {2};
+static const size_t ring_starts[] = {0, 2, 4, 6};
+static const int64_t heavy[] = {4};
 static const int8_t spins[] = {1, 1, -1, -1};
 static const size_t begun[] = {0, 4};
 static const uint32_t through[] = {0, 1, 2, 3};
@@ -60,13 +68,13 @@ static const uint32_t alone[] = {ISING2D_NONE, ISING2D_NONE}, taken[] = {0, 1};
 static const uint64_t grown[] = {4, 4}, at[] = {0, 0};
 static const char input[] = "square,2,2\n3,4\n2,-5\nend\nenergy,-9\nspins,1,1,-1,-1\nloop,4,0,1,2,3\nend\n";
 
-#define LATTICE given->kind, 2, 2, couplings, given->couplings_len
-#define GRAPH given->n, ends, 8, couplings, 4, dart_starts, 5, darts, 8, seam, 1
-#define LOOPS_OF(p) p->weights, LOOPS, p->starts, LOOPS + 1, p->bonds, LOOP_BONDS, &p->loop_count, &p->bond_count
+#define GRAPH_OF(n) n, ends, 8, couplings, 4, dart_starts, 5, darts, 8, seam, 1
+#define GRAPH GRAPH_OF(given->n)
+#define LOOPS_OF(p) p->weights, LOOPS, p->starts, LOOPS + 1, p->bonds, LOOP_BONDS
 #define PROOF given->energy, spins, 4, heavy, 1, begun, 2, through, 4
-#define NEST_OF(p) p->parents, REGIONS, p->radii, REGIONS, p->regions, FACES, p->at_radii, FACES, \
-                   &p->region_count, &p->face_count
+#define NEST_OF(p) p->parents, REGIONS, p->radii, REGIONS, p->regions, FACES, p->at_radii, FACES
 #define NEST given->energy, spins, 4, alone, 2, grown, 2, taken, 2, at, 2
+#define TABLES_OF(p) p->ends, 2 * BONDS, p->dart_starts, SPINS + 1, p->darts, 2 * BONDS, p->seam, SEAM
 #define TOLD(p) p->line, LINE, &p->written
 
 static uint8_t run(const struct given *given, struct places *p) {
@@ -74,58 +82,33 @@ static uint8_t run(const struct given *given, struct places *p) {
                          p->line, LINE, &p->written, &p->whole);
 }
 
-static uint8_t ground(const struct given *given, struct places *p) {
-    return ising2d_c_ground(LATTICE, &p->energy, p->spins, SPINS, LOOPS_OF(p), TOLD(p));
+static uint8_t lattice(const struct given *given, struct places *p) {
+    return ising2d_c_lattice(given->kind, given->kind == ISING2D_CYLINDER ? 1 : 2, given->cols, couplings,
+                             given->couplings_len, ISING2D_MOST_SPINS, &p->tables, TABLES_OF(p), TOLD(p));
 }
 
-static uint8_t wall(const struct given *given, struct places *p) {
-    return ising2d_c_wall(given->kind, 1, 3, ring, 3, &p->periodic, &p->antiperiodic, &p->difference, TOLD(p));
+static uint8_t ground(const struct given *given, struct places *p) {
+    return ising2d_c_ground(GRAPH, &p->ground, p->spins, SPINS, LOOPS_OF(p), TOLD(p));
 }
+
+static uint8_t nest(const struct given *given, struct places *p) {
+    return ising2d_c_nest(GRAPH, &p->nest, p->spins, SPINS, NEST_OF(p), TOLD(p));
+}
+
+static uint8_t wall(const struct given *given, struct places *p) { return ising2d_c_wall(GRAPH, &p->wall, TOLD(p)); }
 
 static uint8_t bonds(const struct given *given, struct places *p) {
-    return ising2d_c_bonds(LATTICE, p->costs, BONDS, TOLD(p));
+    return ising2d_c_bonds(GRAPH, p->costs, BONDS, TOLD(p));
 }
 
 static uint8_t clusters(const struct given *given, struct places *p) {
-    return ising2d_c_clusters(LATTICE, p->names, SPINS, TOLD(p));
+    return ising2d_c_clusters(GRAPH, p->names, SPINS, TOLD(p));
 }
 
-static uint8_t check(const struct given *given, struct places *p) { return ising2d_c_check(LATTICE, PROOF, TOLD(p)); }
-
-static uint8_t nest(const struct given *given, struct places *p) {
-    return ising2d_c_nest(LATTICE, &p->energy, p->spins, SPINS, NEST_OF(p), TOLD(p));
-}
+static uint8_t check(const struct given *given, struct places *p) { return ising2d_c_check(GRAPH, PROOF, TOLD(p)); }
 
 static uint8_t nest_check(const struct given *given, struct places *p) {
-    return ising2d_c_nest_check(LATTICE, NEST, TOLD(p));
-}
-
-static uint8_t graph_nest(const struct given *given, struct places *p) {
-    return ising2d_c_graph_nest(GRAPH, &p->energy, p->spins, SPINS, NEST_OF(p), TOLD(p));
-}
-
-static uint8_t graph_nest_check(const struct given *given, struct places *p) {
-    return ising2d_c_graph_nest_check(GRAPH, NEST, TOLD(p));
-}
-
-static uint8_t graph_ground(const struct given *given, struct places *p) {
-    return ising2d_c_graph_ground(GRAPH, &p->energy, p->spins, SPINS, LOOPS_OF(p), TOLD(p));
-}
-
-static uint8_t graph_wall(const struct given *given, struct places *p) {
-    return ising2d_c_graph_wall(GRAPH, &p->periodic, &p->antiperiodic, &p->difference, TOLD(p));
-}
-
-static uint8_t graph_bonds(const struct given *given, struct places *p) {
-    return ising2d_c_graph_bonds(GRAPH, p->costs, BONDS, TOLD(p));
-}
-
-static uint8_t graph_clusters(const struct given *given, struct places *p) {
-    return ising2d_c_graph_clusters(GRAPH, p->names, SPINS, TOLD(p));
-}
-
-static uint8_t graph_check(const struct given *given, struct places *p) {
-    return ising2d_c_graph_check(GRAPH, PROOF, TOLD(p));
+    return ising2d_c_nest_check(GRAPH, NEST, TOLD(p));
 }
 
 /* What a call must leave: places that were as `blank` says, but for these. */
@@ -139,15 +122,31 @@ static void whole_text(struct places *p, const char *line) {
     p->whole = strlen(line);
 }
 
-static void energies(struct places *p, int64_t periodic, int64_t antiperiodic) {
-    p->periodic = periodic;
-    p->antiperiodic = antiperiodic;
-    p->difference = antiperiodic - periodic;
+static void least(struct places *p) {
+    p->ground.energy = -10;
+    memcpy(p->spins, spins, sizeof spins);
 }
 
-static void least(struct places *p) {
-    p->energy = -10;
+static void least_of_nest(struct places *p) {
+    p->nest.energy = -10;
     memcpy(p->spins, spins, sizeof spins);
+}
+
+static void walls(struct places *p) { p->wall = (struct ising2d_wall){-10, -14, -4}; }
+
+static void square(struct places *p) {
+    p->tables = (struct ising2d_tables){8, 5, 8, 0};
+    memcpy(p->ends, ends, sizeof ends);
+    memcpy(p->dart_starts, dart_starts, sizeof dart_starts);
+    memcpy(p->darts, darts, sizeof darts);
+}
+
+static void tube(struct places *p) {
+    p->tables = (struct ising2d_tables){6, 4, 6, 1};
+    memcpy(p->ends, ring_ends, sizeof ring_ends);
+    memcpy(p->dart_starts, ring_starts, sizeof ring_starts);
+    memcpy(p->darts, ring_darts, sizeof ring_darts);
+    memcpy(p->seam, ring_seam, sizeof ring_seam);
 }
 
 static void turned(struct places *p) {
@@ -166,35 +165,35 @@ static const struct places *blank(void) {
 /* The loops may differ, so they are judged by the checker and then taken for right. */
 static void take_loops(struct places *wanted, const struct places *found) {
     struct places judged = *blank();
-    if (found->loop_count > LOOPS || found->bond_count > LOOP_BONDS ||
-        ising2d_c_check(ISING2D_SQUARE, 2, 2, couplings, 4, found->energy, found->spins, 4, found->weights,
-                        found->loop_count, found->starts, found->loop_count + 1, found->bonds, found->bond_count,
-                        judged.line, LINE, &judged.written) != ISING2D_DONE) {
+    size_t count = found->ground.loop_count, all = found->ground.bond_count;
+    if (count > LOOPS || all > LOOP_BONDS ||
+        ising2d_c_check(GRAPH_OF(4), found->ground.energy, found->spins, 4, found->weights, count, found->starts,
+                        count + 1, found->bonds, all, judged.line, LINE, &judged.written) != ISING2D_DONE) {
         return;
     }
-    memcpy(wanted->weights, found->weights, found->loop_count * sizeof *found->weights);
-    memcpy(wanted->starts, found->starts, (found->loop_count + 1) * sizeof *found->starts);
-    memcpy(wanted->bonds, found->bonds, found->bond_count * sizeof *found->bonds);
-    wanted->loop_count = found->loop_count;
-    wanted->bond_count = found->bond_count;
+    memcpy(wanted->weights, found->weights, count * sizeof *found->weights);
+    memcpy(wanted->starts, found->starts, (count + 1) * sizeof *found->starts);
+    memcpy(wanted->bonds, found->bonds, all * sizeof *found->bonds);
+    wanted->ground.loop_count = count;
+    wanted->ground.bond_count = all;
 }
 
 /* A nest may differ too. */
 static void take_nest(struct places *wanted, const struct places *found) {
     struct places judged = *blank();
-    if (found->region_count > REGIONS || found->face_count != FACES ||
-        ising2d_c_nest_check(ISING2D_SQUARE, 2, 2, couplings, 4, found->energy, found->spins, 4, found->parents,
-                             found->region_count, found->radii, found->region_count, found->regions,
-                             found->face_count, found->at_radii, found->face_count, judged.line, LINE,
+    size_t count = found->nest.region_count, faces = found->nest.face_count;
+    if (count > REGIONS || faces != FACES ||
+        ising2d_c_nest_check(GRAPH_OF(4), found->nest.energy, found->spins, 4, found->parents, count, found->radii,
+                             count, found->regions, faces, found->at_radii, faces, judged.line, LINE,
                              &judged.written) != ISING2D_DONE) {
         return;
     }
-    memcpy(wanted->parents, found->parents, found->region_count * sizeof *found->parents);
-    memcpy(wanted->radii, found->radii, found->region_count * sizeof *found->radii);
+    memcpy(wanted->parents, found->parents, count * sizeof *found->parents);
+    memcpy(wanted->radii, found->radii, count * sizeof *found->radii);
     memcpy(wanted->regions, found->regions, sizeof found->regions);
     memcpy(wanted->at_radii, found->at_radii, sizeof found->at_radii);
-    wanted->region_count = found->region_count;
-    wanted->face_count = found->face_count;
+    wanted->nest.region_count = count;
+    wanted->nest.face_count = faces;
 }
 
 /* What of an answer may differ. */
@@ -263,8 +262,8 @@ static void try_row(const struct row *row) {
     wants_memory(row->name, row->called, &row->answered, blank());
 }
 
-static const struct given right = {ISING2D_SQUARE, 4, 4, -10, "", 0}, tube = {ISING2D_CYLINDER, 4, 4, -10, "", 0},
-                          few = {ISING2D_SQUARE, 0, 3, -10, "", 0}, raised = {ISING2D_SQUARE, 4, 4, -9, "", 0};
+static const struct given right = {ISING2D_SQUARE, 2, 4, 4, -10, "", 0}, ring = {ISING2D_CYLINDER, 3, 3, 3, 0, "", 0},
+                          few = {ISING2D_SQUARE, 2, 0, 3, -10, "", 0}, raised = {ISING2D_SQUARE, 2, 4, 4, -9, "", 0};
 
 static struct places with(void (*written)(struct places *)) {
     struct places found = *blank();
@@ -272,8 +271,6 @@ static struct places with(void (*written)(struct places *)) {
     return found;
 }
 
-static void tube_walls(struct places *p) { energies(p, -14, -10); }
-static void seam_walls(struct places *p) { energies(p, -10, -14); }
 static void unsaid(struct places *p) { (void)p; }
 static void yes(struct places *p) { text(p, "yes\n"); }
 static void no(struct places *p) { text(p, "no,2,-10\n"); }
@@ -281,33 +278,26 @@ static void no(struct places *p) { text(p, "no,2,-10\n"); }
 static void try_numbers(void) {
     const char *few_couplings = "refused,6,3,4\n", *no_spins = "refused,19,5,0\n";
     const struct row rows[] = {
-        {"ising2d_c_ground", ground, right, few, with(least), few_couplings, LOOP_PROOF},
-        {"ising2d_c_wall", wall, tube, few, with(tube_walls), "refused,6,3,2\n", NONE},
-        {"ising2d_c_bonds", bonds, right, few, with(turned), few_couplings, NONE},
-        {"ising2d_c_clusters", clusters, right, few, with(joined), few_couplings, NONE},
-        {"ising2d_c_check", check, right, few, with(yes), few_couplings, NONE},
-        {"ising2d_c_nest", nest, right, few, with(least), few_couplings, NEST_PROOF},
-        {"ising2d_c_nest_check", nest_check, right, few, with(unsaid), few_couplings, NONE},
-        {"ising2d_c_graph_nest", graph_nest, right, few, with(least), no_spins, NEST_PROOF},
-        {"ising2d_c_graph_nest_check", graph_nest_check, right, few, with(unsaid), no_spins, NONE},
-        {"ising2d_c_graph_ground", graph_ground, right, few, with(least), no_spins, LOOP_PROOF},
-        {"ising2d_c_graph_wall", graph_wall, right, few, with(seam_walls), no_spins, NONE},
-        {"ising2d_c_graph_bonds", graph_bonds, right, few, with(turned), no_spins, NONE},
-        {"ising2d_c_graph_clusters", graph_clusters, right, few, with(joined), no_spins, NONE},
-        {"ising2d_c_graph_check", graph_check, right, few, with(yes), no_spins, NONE},
+        {"ising2d_c_lattice", lattice, right, few, with(square), few_couplings, NONE},
+        {"ising2d_c_lattice", lattice, ring, few, with(tube), few_couplings, NONE},
+        {"ising2d_c_ground", ground, right, few, with(least), no_spins, LOOP_PROOF},
+        {"ising2d_c_nest", nest, right, few, with(least_of_nest), no_spins, NEST_PROOF},
+        {"ising2d_c_wall", wall, right, few, with(walls), no_spins, NONE},
+        {"ising2d_c_bonds", bonds, right, few, with(turned), no_spins, NONE},
+        {"ising2d_c_clusters", clusters, right, few, with(joined), no_spins, NONE},
+        {"ising2d_c_check", check, right, few, with(yes), no_spins, NONE},
+        {"ising2d_c_nest_check", nest_check, right, few, with(unsaid), no_spins, NONE},
     };
     const struct places failing = with(no), silent = with(unsaid);
     for (size_t k = 0; k < sizeof rows / sizeof *rows; k++) {
         try_row(&rows[k]);
     }
     ends_with("ising2d_c_check", check, &raised, ISING2D_NO, &failing, NONE);
-    ends_with("ising2d_c_graph_check", graph_check, &raised, ISING2D_NO, &failing, NONE);
     ends_with("ising2d_c_nest_check", nest_check, &raised, ISING2D_NO, &silent, NONE);
-    ends_with("ising2d_c_graph_nest_check", graph_nest_check, &raised, ISING2D_NO, &silent, NONE);
 }
 
 /* Words, each ended by a byte 0; the last of them by the end of the string. */
-#define WORDS(string) {0, 0, 0, 0, string, sizeof string}
+#define WORDS(string) {0, 0, 0, 0, 0, string, sizeof string}
 
 static void nothing(struct places *p) { p->written = p->whole = 0; }
 static void drawn(struct places *p) { whole_text(p, "square,2,2\n-1,-1,1,-1\nend\n"); }
@@ -319,8 +309,8 @@ static void judged(struct places *p) { whole_text(p, "no,2,-10\n"); }
 static void try_run(void) {
     const char *name = "ising2d_c_run";
     const struct given gen = WORDS("gen\0pm\00042\0square\0002\0002"), other = WORDS("gen\0none\00042\0square\0002\0002"),
-                       energy = WORDS("energy"), none = {0, 0, 0, 0, "", 0}, verdict = WORDS("check"),
-                       unended = {0, 0, 0, 0, "energy", 6};
+                       energy = WORDS("energy"), none = {0, 0, 0, 0, 0, "", 0}, verdict = WORDS("check"),
+                       unended = {0, 0, 0, 0, 0, "energy", 6};
     const struct places line = with(drawn), no_law = with(unknown), more = with(trailing), shape = with(usage),
                         fails = with(judged), silent = with(nothing);
     ends_with(name, run, &gen, ISING2D_DONE, &line, NONE);

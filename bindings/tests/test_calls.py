@@ -9,6 +9,7 @@ from pathlib import Path
 
 import ising2d
 from ising2d import Loop, Refusal
+from ising2d._lattices import KINDS, ends
 
 EXAMPLES = Path(__file__).resolve().parents[2] / "examples"
 CASES = int(os.environ.get("CASES", "2000"))
@@ -196,6 +197,50 @@ class WrongArguments(unittest.TestCase):
         self.refused(6, (5, 4), "square", 2, 2, [3, 4, 2, -5, 1])
         self.refused(19, (6, 3), "square", 2, 2, [3, 4, 2, -(2**63)])
         self.refused(13, (2**63 + 2,), "square", 2, 2, [2**63 - 1, 1, 1, 1])
+
+    def test_the_limit_of_a_call_comes_in_front_of_the_couplings(self):
+        for call, number, kept in (
+            (ising2d.bonds, 7, (3000,)),
+            (ising2d.clusters, 7, (3000,)),
+            (ising2d.ground, 6, (1, 5890)),
+            (ising2d.wall, 6, (1, 5890)),
+        ):
+            with self.assertRaises(Refusal) as caught:
+                call("square", 50, 60, [1])
+            self.assertEqual((caught.exception.number, caught.exception.kept), (number, kept))
+
+    def test_couplings_that_were_changed_are_refused_as_those_of_a_lattice(self):
+        lattice = ising2d.Lattice(*SQUARE)
+        self.assertEqual(lattice.ground().energy, -10)
+        lattice.couplings = array("q", [3, 4, 2, -(2**63)])
+        with self.assertRaises(Refusal) as caught:
+            lattice.ground()
+        self.assertEqual((caught.exception.number, caught.exception.kept), (19, (6, 3)))
+        lattice.couplings = array("q", [3, 4, 2])
+        with self.assertRaises(Refusal) as caught:
+            lattice.ground()
+        self.assertEqual((caught.exception.number, caught.exception.kept), (6, (3, 4)))
+
+    def test_the_tables_of_each_kind(self):
+        """The library's tables are those that the package lists, and give the lattice as a graph."""
+        for kind, rows, cols in (
+            *((kind, rows, cols) for kind in KINDS for rows in (1, 2, 3, 4) for cols in (3, 4, 5)),
+            ("square", 1, 1),
+            ("hexagonal", 5, 2),
+            ("triangular", 1, 2),
+        ):
+            bonds = len(ends(kind, rows, cols))
+            lattice = ising2d.Lattice(kind, rows, cols, [(7 * k) % 11 - 5 for k in range(bonds)])
+            found = lattice._numbers_within(rows * cols)
+            starts, darts = list(found.starts), list(found.darts)
+            with self.subTest(kind=kind, rows=rows, cols=cols):
+                self.assertEqual(list(zip(found.ends[::2], found.ends[1::2])), lattice.ends())
+                self.assertEqual([darts[a:b] for a, b in zip(starts, starts[1:])], lattice.darts())
+                self.assertEqual(list(found.seam), lattice.seam_bonds())
+            if rows * cols > 1:
+                with self.assertRaises(Refusal) as caught:
+                    lattice._numbers_within(rows * cols - 1)
+                self.assertEqual((caught.exception.number, caught.exception.kept), (7, (rows * cols,)))
 
     def test_each_argument_of_a_proof(self):
         spins, loops = [1, 1, -1, -1], [Loop(2, (0, 1, 2, 3))] * 2

@@ -1,6 +1,8 @@
 """Wrong input: which exception it raises, and that its text names the value and what is allowed."""
 
 import os
+import re
+import shutil
 import subprocess
 import sys
 import tempfile
@@ -185,9 +187,25 @@ class TheLibrary(unittest.TestCase):
         found = self.load(place.name, place.parent)
         self.assertEqual((found.stdout, found.stderr), ("-10\n", ""))
 
-    def test_the_heap_is_not_seen_from_outside(self):
-        self.assertTrue(hasattr(ising2d._library.library, "ising2d_c_run"))
-        self.assertFalse(hasattr(ising2d._library.library, "rattle_alloc"))
+    def told_of(self, *words):
+        """What a tool of binutils prints of the library."""
+        if shutil.which(words[0]) is None:
+            self.skipTest(f"there is no {words[0]}")
+        place = ising2d._library.library._name
+        return subprocess.run([*words, place], capture_output=True, text=True, check=True).stdout
+
+    def test_the_calls_of_the_header_are_seen_from_outside_and_nothing_else(self):
+        header = Path(__file__).resolve().parents[1] / "c" / "ising2d.h"
+        declared = set(re.findall(r"^uint8_t (ising2d_c_\w+)\(", header.read_text(), re.MULTILINE))
+        seen = [line.split()[-1] for line in self.told_of("nm", "-D", "--defined-only").splitlines()]
+        self.assertEqual(set(seen), declared)
+        self.assertEqual(set(ising2d._library._CALLS), declared)
+
+    def test_the_library_has_a_name_with_a_number(self):
+        told = self.told_of("readelf", "-d")
+        self.assertIn("Library soname: [libising2d.so.2]", told)
+        place = Path(ising2d._library.library._name)
+        self.assertEqual(place.with_name("libising2d.so.2").resolve(), place.resolve())
 
     def test_a_place_with_nothing_or_something_else(self):
         self.assertIn(

@@ -10,26 +10,35 @@
 enum { SIDE = 32, SPINS = SIDE * SIDE, BONDS = 2 * SIDE * (SIDE - 1), LOOPS = 5 * BONDS / 2, ROOM = 12 * BONDS };
 enum { CALLS = 100 };
 
-static int64_t couplings[BONDS], energy, periodic, antiperiodic, difference, weights[LOOPS];
+static int64_t couplings[BONDS], weights[LOOPS];
 static int8_t spins[SPINS];
-static size_t starts[LOOPS + 1], loop_count, loop_bonds, written;
-static uint32_t bonds[ROOM];
+static size_t starts[LOOPS + 1], dart_starts[SPINS + 1], written;
+static uint32_t ends[2 * BONDS], darts[2 * BONDS], seam[1], bonds[ROOM];
 static uint8_t line[128];
+static struct ising2d_ground answer;
+static struct ising2d_tables counts;
 
-static uint8_t ground(void) {
-    return ising2d_c_ground(ISING2D_SQUARE, SIDE, SIDE, couplings, BONDS, &energy, spins, SPINS, weights, LOOPS,
-                            starts, LOOPS + 1, bonds, ROOM, &loop_count, &loop_bonds, line, sizeof line, &written);
+#define GRAPH SPINS, ends, 2 * BONDS, couplings, BONDS, dart_starts, SPINS + 1, darts, 2 * BONDS, seam, 0
+
+static uint8_t lattice(void) {
+    return ising2d_c_lattice(ISING2D_SQUARE, SIDE, SIDE, couplings, BONDS, ISING2D_MOST_SPINS, &counts, ends, 2 * BONDS,
+                             dart_starts, SPINS + 1, darts, 2 * BONDS, seam, 1, line, sizeof line, &written);
 }
 
-/* A wall of a lattice without a seam: it is refused when all else has been read and tested. */
+static uint8_t ground(void) {
+    return ising2d_c_ground(GRAPH, &answer, spins, SPINS, weights, LOOPS, starts, LOOPS + 1, bonds, ROOM, line,
+                            sizeof line, &written);
+}
+
+/* A wall of a graph without a seam: it is refused when all else has been read and tested. */
 static uint8_t fitness(void) {
-    return ising2d_c_wall(ISING2D_SQUARE, SIDE, SIDE, couplings, BONDS, &periodic, &antiperiodic, &difference, line,
-                          sizeof line, &written);
+    struct ising2d_wall wall;
+    return ising2d_c_wall(GRAPH, &wall, line, sizeof line, &written);
 }
 
 static uint8_t check(void) {
-    return ising2d_c_check(ISING2D_SQUARE, SIDE, SIDE, couplings, BONDS, energy, spins, SPINS, weights, loop_count,
-                           starts, loop_count + 1, bonds, loop_bonds, line, sizeof line, &written);
+    return ising2d_c_check(GRAPH, answer.energy, spins, SPINS, weights, answer.loop_count, starts,
+                           answer.loop_count + 1, bonds, answer.bond_count, line, sizeof line, &written);
 }
 
 static double seconds(void) {
@@ -66,6 +75,7 @@ int main(void) {
             return 1;
         }
     }
+    measure("ising2d_c_lattice: the tables", lattice, ISING2D_DONE);
     measure("ising2d_c_ground, with its loops", ground, ISING2D_DONE);
     measure("the part of it that reads the numbers and tests that they are fit", fitness, ISING2D_REFUSED);
     measure("ising2d_c_check of that proof", check, ISING2D_DONE);

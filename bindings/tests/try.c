@@ -50,6 +50,48 @@ static void try_unended(void) {
     expect(written == 0 && whole == 0 && out[0] == 1, "nothing is written beside it");
 }
 
+/* The tables of a lattice, each with exactly the room that it takes. */
+struct tables {
+    uint32_t n, *ends, *darts, *seam;
+    size_t *starts;
+    struct ising2d_tables counts;
+};
+
+/* They are asked for without room first, which is how a caller learns how many entries there are. */
+static uint8_t take_tables(struct tables *found, uint8_t kind, uint32_t rows, uint32_t cols,
+                           const int64_t *couplings, size_t count, uint32_t most, uint8_t *line,
+                           size_t room, size_t *written) {
+    struct ising2d_tables again;
+    uint32_t none = 7;
+    size_t no_start = 7;
+    uint8_t status = ising2d_c_lattice(kind, rows, cols, couplings, count, most, &found->counts, &none, 0,
+                                       &no_start, 0, &none, 0, &none, 0, line, room, written);
+    expect(none == 7 && no_start == 7, "nothing is written where there is no room");
+    if (status != ISING2D_DONE) {
+        return status;
+    }
+    found->n = rows * cols;
+    found->ends = place(found->counts.ends * sizeof *found->ends);
+    found->starts = place(found->counts.starts * sizeof *found->starts);
+    found->darts = place(found->counts.darts * sizeof *found->darts);
+    found->seam = place(found->counts.seam * sizeof *found->seam);
+    status = ising2d_c_lattice(kind, rows, cols, couplings, count, most, &again, found->ends, found->counts.ends,
+                               found->starts, found->counts.starts, found->darts, found->counts.darts,
+                               found->seam, found->counts.seam, line, room, written);
+    expect(memcmp(&again, &found->counts, sizeof again) == 0, "the same numbers of entries");
+    expect(found->counts.ends == 2 * count && found->counts.darts == 2 * count, "two ends and darts a bond");
+    expect(found->counts.starts == (size_t)found->n + 1, "a start for each spin, and one more");
+    return status;
+}
+
+static void drop_tables(struct tables *given) {
+    free(given->ends), free(given->starts), free(given->darts), free(given->seam);
+}
+
+#define TABLES(t, couplings, count)                                                                  \
+    (t).n, (t).ends, (t).counts.ends, couplings, count, (t).starts, (t).counts.starts, (t).darts,    \
+        (t).counts.darts, (t).seam, (t).counts.seam
+
 static void try_ground(size_t spins_room, size_t loops_room, size_t bonds_room) {
     const int64_t given[] = {3, 4, 2, -5};
     int64_t *couplings = place(sizeof given);
@@ -58,58 +100,73 @@ static void try_ground(size_t spins_room, size_t loops_room, size_t bonds_room) 
     size_t *starts = place((loops_room + 1) * sizeof *starts);
     uint32_t *bonds = place(bonds_room * sizeof *bonds);
     uint8_t *line = place(128);
-    int64_t energy = 0;
-    size_t loop_count = 0, loop_bonds = 0, written = 0;
+    struct ising2d_ground answer = {0, 0, 0};
+    struct tables square;
+    size_t written = 0;
     const int8_t wanted[] = {1, 1, -1, -1};
     memcpy(couplings, given, sizeof given);
-    uint8_t status = ising2d_c_ground(ISING2D_SQUARE, 2, 2, couplings, 4, &energy, spins, spins_room,
-                                      weights, loops_room, starts, loops_room + 1, bonds, bonds_room,
-                                      &loop_count, &loop_bonds, line, 128, &written);
+    uint8_t status = take_tables(&square, ISING2D_SQUARE, 2, 2, couplings, 4, ISING2D_MOST_SPINS, line, 128, &written);
+    expect(status == ISING2D_DONE, "the tables of a square");
+    status = ising2d_c_ground(TABLES(square, couplings, 4), &answer, spins, spins_room, weights, loops_room,
+                              starts, loops_room + 1, bonds, bonds_room, line, 128, &written);
     size_t fits = spins_room < 4 ? spins_room : 4;
-    expect(status == ISING2D_DONE && energy == -10, "a ground state");
+    expect(status == ISING2D_DONE && answer.energy == -10, "a ground state");
     expect(memcmp(spins, wanted, fits) == 0, "its spins");
-    expect(loop_count == 2 && loop_bonds == 8, "the numbers of loops and of their bonds");
+    expect(answer.loop_count == 2 && answer.bond_count == 8, "the numbers of loops and of their bonds");
     if (loops_room >= 2 && bonds_room >= 8) {
         expect(starts[0] == 0 && starts[1] == 4 && starts[2] == 8, "the starts of the loops");
         expect(weights[0] == 2 && weights[1] == 2, "their weights");
         expect(bonds[0] == 0 && bonds[3] == 3 && bonds[7] == 3, "their bonds");
     }
+    drop_tables(&square);
     free(couplings), free(spins), free(weights), free(starts), free(bonds), free(line);
 }
 
+/* A wall of a lattice: refused for its numbers, or for the graph of its tables. */
 static void try_refusal(uint8_t kind, uint32_t rows, uint32_t cols, const int64_t *couplings,
                         size_t count, size_t room, const char *wanted) {
-    int64_t periodic = 7, antiperiodic = 7, difference = 7;
+    struct ising2d_wall answer = {7, 7, 7};
     uint8_t *line = place(room);
     size_t written = 0;
-    uint8_t status = ising2d_c_wall(kind, rows, cols, couplings, count, &periodic, &antiperiodic,
-                                    &difference, line, room, &written);
+    struct tables given;
+    uint8_t status = take_tables(&given, kind, rows, cols, couplings, count, UINT32_MAX, line, room, &written);
+    if (status == ISING2D_DONE) {
+        status = ising2d_c_wall(TABLES(given, couplings, count), &answer, line, room, &written);
+        drop_tables(&given);
+    }
     size_t fits = room < strlen(wanted) ? room : strlen(wanted);
     expect(status == ISING2D_REFUSED && written == fits, wanted);
     expect(memcmp(line, wanted, fits) == 0, wanted);
-    expect(periodic == 7 && antiperiodic == 7 && difference == 7, "no wall beside a refusal");
+    expect(answer.periodic == 7 && answer.antiperiodic == 7 && answer.difference == 7, "no wall beside a refusal");
     free(line);
 }
 
 static void try_cylinder(void) {
     const int64_t couplings[] = {5, 7, 2};
-    int64_t periodic, antiperiodic, difference, costs[3];
+    struct ising2d_wall answer;
+    struct tables ring;
+    int64_t costs[3];
     uint32_t names[3];
     uint8_t line[128];
     size_t written;
-    expect(ising2d_c_wall(ISING2D_CYLINDER, 1, 3, couplings, 3, &periodic, &antiperiodic, &difference,
-                          line, sizeof line, &written) == ISING2D_DONE, "a wall");
-    expect(periodic == -14 && antiperiodic == -10 && difference == 4, "its energies");
-    expect(ising2d_c_bonds(ISING2D_CYLINDER, 1, 3, couplings, 3, costs, 3, line, sizeof line,
-                           &written) == ISING2D_DONE, "costs");
+    expect(take_tables(&ring, ISING2D_CYLINDER, 1, 3, couplings, 3, ISING2D_MOST_SPINS_OF_COSTS, line,
+                       sizeof line, &written) == ISING2D_DONE, "the tables of a ring");
+    expect(ring.counts.seam == 1 && ring.seam[0] == 2, "its seam");
+    expect(ising2d_c_wall(TABLES(ring, couplings, 3), &answer, line, sizeof line, &written) == ISING2D_DONE, "a wall");
+    expect(answer.periodic == -14 && answer.antiperiodic == -10 && answer.difference == 4, "its energies");
+    expect(ising2d_c_bonds(TABLES(ring, couplings, 3), costs, 3, line, sizeof line, &written) == ISING2D_DONE, "costs");
     expect(costs[0] == 14 && costs[1] == 18 && costs[2] == 14, "the costs of a ring");
-    /* Costs keep the limit of the program. */
-    expect(ising2d_c_bonds(ISING2D_CYLINDER, 45, 46, couplings, 3, costs, 3, line, sizeof line,
-                           &written) == ISING2D_REFUSED, "the costs of 2070 spins");
-    expect(written == 15 && memcmp(line, "refused,7,2070\n", 15) == 0, "their line");
-    expect(ising2d_c_clusters(ISING2D_CYLINDER, 1, 3, couplings, 3, names, 3, line, sizeof line,
-                              &written) == ISING2D_DONE, "clusters");
+    expect(ising2d_c_clusters(TABLES(ring, couplings, 3), names, 3, line, sizeof line, &written) == ISING2D_DONE,
+           "clusters");
     expect(names[0] == 0 && names[1] == 0 && names[2] == 0, "one cluster");
+    drop_tables(&ring);
+    /* Of costs to come the limit is the program's, in front of the number of couplings. */
+    expect(take_tables(&ring, ISING2D_CYLINDER, 45, 46, couplings, 3, ISING2D_MOST_SPINS_OF_COSTS, line,
+                       sizeof line, &written) == ISING2D_REFUSED, "the costs of 2070 spins");
+    expect(written == 15 && memcmp(line, "refused,7,2070\n", 15) == 0, "their line");
+    expect(take_tables(&ring, ISING2D_CYLINDER, 45, 46, couplings, 3, ISING2D_MOST_SPINS, line, sizeof line,
+                       &written) == ISING2D_REFUSED, "2070 spins with three couplings");
+    expect(written == 17 && memcmp(line, "refused,6,3,4094\n", 17) == 0, "their line");
 }
 
 /* A copy with room for its entries, and not one more. */
@@ -130,9 +187,12 @@ static void try_check(int64_t energy, const int8_t *spins, size_t spins_len, siz
     size_t *starts = copy(begun, starts_len * sizeof *starts), written = 99;
     uint32_t *bonds = copy(through, bonds_len * sizeof *bonds);
     uint8_t *line = place(room);
-    uint8_t status = ising2d_c_check(ISING2D_SQUARE, 2, 2, couplings, 4, energy, values, spins_len,
-                                     weights, 2, starts, starts_len, bonds, bonds_len, line, room,
-                                     &written);
+    struct tables square;
+    expect(take_tables(&square, ISING2D_SQUARE, 2, 2, couplings, 4, ISING2D_MOST_SPINS, line, room, &written) ==
+               ISING2D_DONE, "the tables of a square");
+    uint8_t status = ising2d_c_check(TABLES(square, couplings, 4), energy, values, spins_len, weights, 2, starts,
+                                     starts_len, bonds, bonds_len, line, room, &written);
+    drop_tables(&square);
     size_t fits = room < strlen(text) ? room : strlen(text);
     expect(status == wanted && written == fits, text);
     expect(memcmp(line, text, fits) == 0, text);
@@ -187,34 +247,34 @@ static void try_graph(const struct graph *given, uint8_t wanted, const char *tex
     uint32_t *darts = copy(given->darts, given->darts_len * sizeof *darts);
     uint32_t *seam = copy(given->seam, given->seam_len * sizeof *seam);
     uint8_t *line = place(128);
-    int64_t periodic = 7, antiperiodic = 7, difference = 7, energy = 7;
+    struct ising2d_wall wall = {7, 7, 7};
+    struct ising2d_ground answer = {7, 7, 7};
     int64_t costs[4] = {7, 7, 7, 7}, weights[9];
     int8_t spins[4] = {7, 7, 7, 7};
-    size_t loop_starts[10], loop_count = 0, loop_bonds = 0, written = 99;
+    size_t loop_starts[10], written = 99;
     uint32_t names[4] = {7, 7, 7, 7}, bonds[40];
 #define GIVEN                                                                                        \
     given->n, ends, given->ends_len, couplings, given->couplings_len, starts, given->starts_len, darts, \
         given->darts_len, seam, given->seam_len
-    uint8_t status = ising2d_c_graph_wall(GIVEN, &periodic, &antiperiodic, &difference, line, 128, &written);
+    uint8_t status = ising2d_c_wall(GIVEN, &wall, line, 128, &written);
     expect(status == wanted, text);
     if (status == ISING2D_DONE) {
-        expect(periodic == -10 && antiperiodic == -14 && difference == -4, "the wall of a graph");
+        expect(wall.periodic == -10 && wall.antiperiodic == -14 && wall.difference == -4, "the wall of a graph");
     } else {
         expect(written == strlen(text) && memcmp(line, text, written) == 0, text);
-        expect(periodic == 7 && antiperiodic == 7 && difference == 7, "no wall beside a refusal");
+        expect(wall.periodic == 7 && wall.antiperiodic == 7 && wall.difference == 7, "no wall beside a refusal");
     }
     uint8_t others = strcmp(text, "refused,16\n") ? wanted : ISING2D_DONE;
-    status = ising2d_c_graph_ground(GIVEN, &energy, spins, 4, weights, 9, loop_starts, 10, bonds, 40,
-                                    &loop_count, &loop_bonds, line, 128, &written);
-    expect(status == others && energy == (others ? 7 : -10), "a ground state of a graph");
+    status = ising2d_c_ground(GIVEN, &answer, spins, 4, weights, 9, loop_starts, 10, bonds, 40, line, 128, &written);
+    expect(status == others && answer.energy == (others ? 7 : -10), "a ground state of a graph");
     expect(spins[3] == (others ? 7 : -1), "its spins");
-    status = ising2d_c_graph_bonds(GIVEN, costs, 4, line, 128, &written);
+    status = ising2d_c_bonds(GIVEN, costs, 4, line, 128, &written);
     expect(status == others && costs[2] == (others ? 7 : 2), "the costs of a graph");
-    status = ising2d_c_graph_clusters(GIVEN, names, 4, line, 128, &written);
+    status = ising2d_c_clusters(GIVEN, names, 4, line, 128, &written);
     expect(status == others && names[3] == (others ? 7 : 0), "the clusters of a graph");
     if (others == ISING2D_DONE) {
-        status = ising2d_c_graph_check(GIVEN, energy, spins, 4, weights, loop_count, loop_starts,
-                                       loop_count + 1, bonds, loop_bonds, line, 128, &written);
+        status = ising2d_c_check(GIVEN, answer.energy, spins, 4, weights, answer.loop_count, loop_starts,
+                                 answer.loop_count + 1, bonds, answer.bond_count, line, 128, &written);
         expect(status == ISING2D_DONE && written == 4, "a proof for a graph");
     }
     free(ends), free(couplings), free(starts), free(darts), free(seam), free(line);

@@ -1,10 +1,11 @@
-"""The calls by numbers: a lattice or a graph and an answer's arrays cross to the library and back."""
+"""The calls by numbers: a graph and an answer's arrays cross to the library and back. A lattice crosses as
+the graph of its tables, for which the library is asked first."""
 
 import ctypes
-from typing import Any, Callable, Dict, NamedTuple, Optional, Sequence, Tuple
+from typing import Any, NamedTuple, Optional, Sequence, Tuple
 
 from ._arrays import crossed, fixed, in_64_bits, room, settled, space, whole_numbers
-from ._library import library
+from ._library import GroundNumbers, NestNumbers, TableNumbers, WallNumbers, library
 from ._loops import Loops, rows_of
 from ._nests import Nest, nest_of
 from ._refusals import numbers_of, refusal_of
@@ -15,23 +16,54 @@ MOST_SPINS, MOST_BONDS = 2**20, 3 * 2**20
 PROGRAM_SPINS = 2048
 
 
-class Exports(NamedTuple):
-    """The exports for one form of instance."""
+class Numbers(NamedTuple):
+    """A graph as it crosses."""
 
-    ground: Callable[..., int]
-    wall: Callable[..., int]
-    bonds: Callable[..., int]
-    clusters: Callable[..., int]
-    check: Callable[..., int]
-    nest: Callable[..., int]
-    nest_check: Callable[..., int]
-
-
-def _exports(front: str) -> Exports:
-    return Exports(*(getattr(library, front + name) for name in Exports._fields))
+    n: int
+    ends: Any
+    couplings: Any
+    starts: Any
+    darts: Any
+    seam: Any
 
 
-EXPORTS: Dict[str, Exports] = {"lattice": _exports("ising2d_c_"), "graph": _exports("ising2d_c_graph_")}
+def _call(name: str, given: Any, *arguments: Any, most: int = MOST_SPINS) -> int:
+    """A call on a graph, or on a lattice of at most so many spins, which is refused before by its own
+    tests."""
+    numbers = given._numbers_within(most)
+    own = (part for values in numbers[1:] for part in crossed(values))
+    return int(getattr(library, "ising2d_c_" + name)(numbers.n, *own, *arguments))
+
+
+def tables_of(given: Any, number: int, most: int) -> Numbers:
+    """The tables of a lattice with the number of its kind; at most so many spins are allowed."""
+    line, counts = _Line(), TableNumbers()
+    # A lattice has as many bonds as couplings, or is refused. Room that is not written costs nothing.
+    bonds, spins = min(len(given.couplings), MOST_BONDS), given._spin_room()
+    ends, darts = space("uint32", 2 * bonds), space("uint32", 2 * bonds)
+    starts, seam = space("uint64", spins + 1), space("uint32", min(given.rows, spins))
+    status = library.ising2d_c_lattice(
+        number,
+        given.rows,
+        given.cols,
+        *crossed(given.couplings),
+        most,
+        ctypes.byref(counts),
+        *crossed(ends),
+        *crossed(starts),
+        *crossed(darts),
+        *crossed(seam),
+        *line.arguments(),
+    )
+    line.judge(status, given, large=most == MOST_SPINS)
+    return Numbers(
+        given.n,
+        ends[: counts.ends],
+        given.couplings,
+        starts[: counts.starts],
+        darts[: counts.darts],
+        seam[: counts.seam],
+    )
 
 
 class _Line:
@@ -74,36 +106,35 @@ def ground_of(given: Any, loops: Optional[bool], nest: Optional[bool]) -> Found:
 
 def _nested(given: Any, with_nest: bool) -> Tuple[int, Any, Optional[Nest]]:
     """A ground state, with its nest where that is wanted and found."""
-    line, energy = _Line(), ctypes.c_int64()
-    counts = ctypes.c_size_t(), ctypes.c_size_t()
+    line, answer = _Line(), NestNumbers()
     # By Euler's formula there are at most as many faces as spins and bonds, and a region of parts has
     # three at the least. Room that is not written costs nothing.
     faces = min(len(given.couplings), MOST_BONDS) + given._spin_room() if with_nest else 0
     spins = room("int8", given._spin_room())
     parents, radii = space("uint32", 2 * faces), space("uint64", 2 * faces)
     regions, at_radii = space("uint32", faces), space("uint64", faces)
-    status = given._exports().nest(
-        *given._arguments(),
-        ctypes.byref(energy),
+    status = _call(
+        "nest",
+        given,
+        ctypes.byref(answer),
         *crossed(spins),
         *crossed(parents),
         *crossed(radii),
         *crossed(regions),
         *crossed(at_radii),
-        ctypes.byref(counts[0]),
-        ctypes.byref(counts[1]),
         *line.arguments(),
     )
     line.judge(status, given)
-    if not with_nest or not counts[1].value or counts[0].value > 2 * faces or counts[1].value > faces:
-        return energy.value, fixed(spins), None
+    count, own = answer.region_count, answer.face_count
+    if not with_nest or not own or count > 2 * faces or own > faces:
+        return answer.energy, fixed(spins), None
     nest = Nest(
-        settled("uint32", parents, counts[0].value),
-        settled("uint64", radii, counts[0].value),
-        settled("uint32", regions, counts[1].value),
-        settled("uint64", at_radii, counts[1].value),
+        settled("uint32", parents, count),
+        settled("uint64", radii, count),
+        settled("uint32", regions, own),
+        settled("uint64", at_radii, own),
     )
-    return energy.value, fixed(spins), nest
+    return answer.energy, fixed(spins), nest
 
 
 def _with_loops(given: Any) -> Tuple[int, Any, Loops]:
@@ -119,27 +150,25 @@ def _with_loops(given: Any) -> Tuple[int, Any, Loops]:
 
 def _ground(given: Any, rooms: Tuple[int, int]) -> Tuple[Tuple[int, Any, Loops], Tuple[int, int]]:
     """A ground state with its loops where there is room for them, and the rooms that they want."""
-    line, energy = _Line(), ctypes.c_int64()
-    counts = ctypes.c_size_t(), ctypes.c_size_t()
+    line, answer = _Line(), GroundNumbers()
     spins, weights = room("int8", given._spin_room()), space("int64", rooms[0])
     starts = space("uint64", rooms[0] + 1 if rooms[0] else 0)
     bonds = space("uint32", rooms[1])
-    status = given._exports().ground(
-        *given._arguments(),
-        ctypes.byref(energy),
+    status = _call(
+        "ground",
+        given,
+        ctypes.byref(answer),
         *crossed(spins),
         *crossed(weights),
         *crossed(starts),
         *crossed(bonds),
-        ctypes.byref(counts[0]),
-        ctypes.byref(counts[1]),
         *line.arguments(),
     )
     line.judge(status, given)
-    needed = counts[0].value, counts[1].value
+    needed = answer.loop_count, answer.bond_count
     fits = needed[0] <= rooms[0] and needed[1] <= rooms[1]
     loops = _loops(weights, starts, bonds, needed if fits else (0, 0))
-    return (energy.value, fixed(spins), loops), needed
+    return (answer.energy, fixed(spins), loops), needed
 
 
 def _loops(weights: Any, starts: Any, bonds: Any, counts: Tuple[int, int]) -> Loops:
@@ -150,17 +179,15 @@ def _loops(weights: Any, starts: Any, bonds: Any, counts: Tuple[int, int]) -> Lo
 
 def wall_of(given: Any) -> Tuple[int, int, int]:
     """The energies of the wall at the seam of a lattice or of a graph."""
-    line = _Line()
-    energies = ctypes.c_int64(), ctypes.c_int64(), ctypes.c_int64()
-    places = (ctypes.byref(energy) for energy in energies)
-    line.judge(given._exports().wall(*given._arguments(), *places, *line.arguments()), given)
-    return energies[0].value, energies[1].value, energies[2].value
+    line, answer = _Line(), WallNumbers()
+    line.judge(_call("wall", given, ctypes.byref(answer), *line.arguments()), given)
+    return answer.periodic, answer.antiperiodic, answer.difference
 
 
 def costs_of(given: Any) -> Any:
     """The cost of each bond of a lattice or of a graph."""
     line, costs = _Line(), room("int64", min(len(given.couplings), MOST_BONDS))
-    status = given._exports().bonds(*given._arguments(), *crossed(costs), *line.arguments())
+    status = _call("bonds", given, *crossed(costs), *line.arguments(), most=PROGRAM_SPINS)
     line.judge(status, given, large=False)
     return fixed(costs)
 
@@ -168,7 +195,7 @@ def costs_of(given: Any) -> Any:
 def clusters_of(given: Any) -> Any:
     """The cluster of each spin of a lattice or of a graph."""
     line, names = _Line(), room("uint32", given._spin_room())
-    status = given._exports().clusters(*given._arguments(), *crossed(names), *line.arguments())
+    status = _call("clusters", given, *crossed(names), *line.arguments(), most=PROGRAM_SPINS)
     line.judge(status, given, large=False)
     return fixed(names)
 
@@ -196,8 +223,9 @@ def proof_of(energy: Any, spins: Any, loops: Any) -> Proof:
 def check_of(given: Any, stated: Proof) -> Tuple[int, Tuple[int, ...]]:
     """The number of the verdict on a proof, and the numbers that it keeps."""
     line, rows = _Line(), stated.loops
-    status = given._exports().check(
-        *given._arguments(),
+    status = _call(
+        "check",
+        given,
         stated.energy,
         *crossed(stated.spins),
         *crossed(rows.weights),
@@ -235,8 +263,9 @@ def nest_proof_of(energy: Any, spins: Any, nest: Any) -> NestProof:
 def nest_check_of(given: Any, stated: NestProof) -> Tuple[int, Tuple[int, ...]]:
     """The number of the verdict on a proof by a nest: 0 or 1."""
     line = _Line()
-    status = given._exports().nest_check(
-        *given._arguments(),
+    status = _call(
+        "nest_check",
+        given,
         stated.energy,
         *crossed(stated.spins),
         *(part for own in stated.nest for part in crossed(own)),

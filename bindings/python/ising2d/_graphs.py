@@ -6,7 +6,6 @@ from typing import Any, Dict, Hashable, Iterable, List, Optional, Sequence, Tupl
 
 from . import _crossing
 from ._arrays import (
-    crossed,
     in_32_bits,
     listed_of,
     numpy,
@@ -32,15 +31,8 @@ class _Numbers:
         self.darts = whole_numbers(darts, "uint32", "darts of the rotation")
         self.seam = whole_numbers(graph.seam, "uint32", "bonds of the seam")
 
-    def arguments(self) -> Tuple[Any, ...]:
-        return (
-            self.n,
-            *crossed(self.ends),
-            *crossed(self.couplings),
-            *crossed(self.starts),
-            *crossed(self.darts),
-            *crossed(self.seam),
-        )
+    def crossing(self) -> _crossing.Numbers:
+        return _crossing.Numbers(self.n, self.ends, self.couplings, self.starts, self.darts, self.seam)
 
     def lists(self) -> List[List[int]]:
         """The darts of each spin."""
@@ -159,11 +151,8 @@ class Graph(Instance):
         """The coupling of each bond."""
         return self._numbers.couplings
 
-    def _exports(self) -> _crossing.Exports:
-        return _crossing.EXPORTS["graph"]
-
-    def _arguments(self) -> Tuple[Any, ...]:
-        return self._numbers.arguments()
+    def _numbers_within(self, most: int) -> _crossing.Numbers:
+        return self._numbers.crossing()
 
     def _spin_room(self) -> int:
         return min(self._numbers.n, _crossing.MOST_SPINS)

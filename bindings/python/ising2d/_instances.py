@@ -22,12 +22,8 @@ class Instance:
 
     # What crosses.
 
-    def _exports(self) -> _crossing.Exports:
-        """The exports for this form of instance."""
-        raise NotImplementedError
-
-    def _arguments(self) -> Tuple[Any, ...]:
-        """The arguments of an export in front of its results."""
+    def _numbers_within(self, most: int) -> _crossing.Numbers:
+        """The graph as it crosses, of a lattice where it has at most so many spins."""
         raise NotImplementedError
 
     def _spin_room(self) -> int:

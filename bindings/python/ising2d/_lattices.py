@@ -3,7 +3,7 @@
 from typing import Any, Dict, Hashable, List, Optional, Sequence, Tuple, Union
 
 from . import _crossing
-from ._arrays import Whole, crossed, fixed, in_32_bits, shortened, whole, whole_numbers
+from ._arrays import Whole, fixed, in_32_bits, shortened, whole, whole_numbers
 from ._instances import Ends, Instance, Places
 from ._refusals import Refusal, words_of
 
@@ -51,12 +51,9 @@ class Lattice(Instance):
     def __hash__(self) -> int:
         return hash(self._numbers())
 
-    def _exports(self) -> _crossing.Exports:
-        return _crossing.EXPORTS["lattice"]
-
-    def _arguments(self) -> Tuple[Any, ...]:
+    def _numbers_within(self, most: int) -> _crossing.Numbers:
         number = KINDS.index(self.kind) if self.kind in KINDS else _UNKNOWN_KIND
-        return (number, self.rows, self.cols, *crossed(self.couplings))
+        return _crossing.tables_of(self, number, most)
 
     def _spin_room(self) -> int:
         return min(self.n, _crossing.MOST_SPINS)

@@ -9,34 +9,43 @@ NAME = "libising2d.so"
 
 _SIZE = ctypes.c_size_t
 _ARRAY = ctypes.c_void_p
-_LATTICE: List[Any] = [ctypes.c_uint8, ctypes.c_uint32, ctypes.c_uint32, _ARRAY, _SIZE]
-_LINE = [_ARRAY, _SIZE, ctypes.POINTER(_SIZE)]
-_NUMBER = ctypes.POINTER(ctypes.c_int64)
 _COUNT = ctypes.POINTER(_SIZE)
+_LINE: List[Any] = [_ARRAY, _SIZE, _COUNT]
 
-# A general graph: the number of spins, the ends, the couplings, the starts of the darts, the darts, the
-# seam. A ground state: the energy, spins, weights, starts, bonds, and the numbers of loops and bonds; or
-# in place of the loops a nest: parents, radii, regions, radii of faces, and the numbers of regions and
-# faces. A proof: the same without the counts.
-_GRAPH = [ctypes.c_uint32] + [_ARRAY, _SIZE] * 5
-_GROUND = [_NUMBER] + [_ARRAY, _SIZE] * 4 + [_COUNT, _COUNT] + _LINE
-_WALL = [_NUMBER] * 3 + _LINE
-_LIST = [_ARRAY, _SIZE] + _LINE
-_NEST = [_NUMBER] + [_ARRAY, _SIZE] * 5 + [_COUNT, _COUNT] + _LINE
-_PROOF = [ctypes.c_int64] + [_ARRAY, _SIZE] * 4 + _LINE
-_NEST_PROOF = [ctypes.c_int64] + [_ARRAY, _SIZE] * 5 + _LINE
+
+class GroundNumbers(ctypes.Structure):
+    _fields_ = [("energy", ctypes.c_int64), ("loop_count", _SIZE), ("bond_count", _SIZE)]
+
+
+class NestNumbers(ctypes.Structure):
+    _fields_ = [("energy", ctypes.c_int64), ("region_count", _SIZE), ("face_count", _SIZE)]
+
+
+class WallNumbers(ctypes.Structure):
+    _fields_ = [(name, ctypes.c_int64) for name in ("periodic", "antiperiodic", "difference")]
+
+
+class TableNumbers(ctypes.Structure):
+    _fields_ = [(name, _SIZE) for name in ("ends", "starts", "darts", "seam")]
+
+
+# A graph: the number of spins, the ends, the couplings, the starts of the darts, the darts, the seam. A
+# proof: the energy, spins, and the weights, starts and bonds of loops; or in place of these the parents and
+# radii of a nest, and the regions of the faces with their radii.
+_LATTICE: List[Any] = [ctypes.c_uint8, ctypes.c_uint32, ctypes.c_uint32, _ARRAY, _SIZE, ctypes.c_uint32]
+_GRAPH: List[Any] = [ctypes.c_uint32] + [_ARRAY, _SIZE] * 5
 
 _CALLS: Dict[str, List[Any]] = {
-    "ising2d_c_run": [_ARRAY, _SIZE, _ARRAY, _SIZE, _ARRAY, _SIZE, _COUNT, _COUNT]
+    "ising2d_c_run": [_ARRAY, _SIZE, _ARRAY, _SIZE, _ARRAY, _SIZE, _COUNT, _COUNT],
+    "ising2d_c_lattice": _LATTICE + [ctypes.POINTER(TableNumbers)] + [_ARRAY, _SIZE] * 4 + _LINE,
+    "ising2d_c_ground": _GRAPH + [ctypes.POINTER(GroundNumbers)] + [_ARRAY, _SIZE] * 4 + _LINE,
+    "ising2d_c_nest": _GRAPH + [ctypes.POINTER(NestNumbers)] + [_ARRAY, _SIZE] * 5 + _LINE,
+    "ising2d_c_wall": _GRAPH + [ctypes.POINTER(WallNumbers)] + _LINE,
+    "ising2d_c_bonds": _GRAPH + [_ARRAY, _SIZE] + _LINE,
+    "ising2d_c_clusters": _GRAPH + [_ARRAY, _SIZE] + _LINE,
+    "ising2d_c_check": _GRAPH + [ctypes.c_int64] + [_ARRAY, _SIZE] * 4 + _LINE,
+    "ising2d_c_nest_check": _GRAPH + [ctypes.c_int64] + [_ARRAY, _SIZE] * 5 + _LINE,
 }
-for _name, _given in (("ising2d_c_", _LATTICE), ("ising2d_c_graph_", _GRAPH)):
-    _CALLS[_name + "ground"] = _given + _GROUND
-    _CALLS[_name + "wall"] = _given + _WALL
-    _CALLS[_name + "bonds"] = _given + _LIST
-    _CALLS[_name + "clusters"] = _given + _LIST
-    _CALLS[_name + "check"] = _given + _PROOF
-    _CALLS[_name + "nest"] = _given + _NEST
-    _CALLS[_name + "nest_check"] = _given + _NEST_PROOF
 
 
 def _places() -> Iterator[Path]:

@@ -14,7 +14,7 @@ class Nest(NamedTuple):
     there is none, and its radius, in quarters of the unit of the couplings. ``regions`` and ``at_radii``
     have for each face the region that took it, or ``Nest.NONE``, and the radius at which that did. All
     radii together are four times what the broken bonds weigh. The header of the library says how the
-    faces are numbered, and why a nest proves a ground state.
+    faces are numbered, and docs/BINDINGS.md why a nest proves a ground state.
 
     >>> import ising2d
     >>> found = ising2d.ground("square", 2, 2, [3, 4, 2, -5], nest=True)

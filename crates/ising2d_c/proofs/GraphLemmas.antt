@@ -1,60 +1,65 @@
--- The tests of the numbers of a general graph, and what holds of the bonds that pass them.
-use Rattle.std.proofs.Common.{◌≡◌, ℕ, ◌+◌, ◌*◌, ◌<◌, ◌^◌, ℤ, pos, true, false, None, Some, arith, List, All, length, sym, subst}
-use Rattle.std.specs.Prelude.{nat_lt, not, unsigned_abs}
-use Rattle.std.proofs.lemmas.Bool.{eq-eqb, ltb-true, ne_eqb, not_from_false, not_from_true}
+-- From the tests of the numbers of a general graph to the draft that they are.
+use Rattle.std.proofs.Common.{◌≡◌, ℕ, ◌<◌, ℤ, [], pos, true, Option, None, Some, arith, List, All, ap, length, sym, ◌∙◌, refl, subst}
 use Rattle.std.proofs.lemmas.List.Elements.{All-from_get_or}
 use Rattle.std.proofs.lemmas.List.FromFn.{get_or-map-range_with_len, length-map-range_with_len}
 use Rattle.sg_model.specs.declared.bond.Bond.{Bond}
-use Rattle.sg_model.specs.Ising.{IsBond}
-use Rattle.sg_draft.proofs.Drafts.{both}
-use Rattle.sg_reader.proofs.TestLaws.{find_range-none, find_range-some}
-use Rattle.ising2d_c.specs.Starts.{entry}
-use Rattle.ising2d_c.specs.Graphs.{bond_by, bonds_by, coupling, first_bad, first_self, is_given_bond, is_given_self}
+use Rattle.sg_model.specs.declared.refusal.Refusal.{Refusal}
+use Rattle.sg_model.specs.Ising.{Ising}
+use Rattle.sg_draft.specs.declared.limits.Limits.{Limits}
+use Rattle.sg_draft.specs.declared.read.Read.TheVariants.{Known}
+use Rattle.sg_draft.specs.Bonds.{IsAmong, is_among, self_fault}
+use Rattle.sg_draft.specs.Draft.{GeneralDraft, draft_fault, drafted, general_draft_fault}
+use Rattle.sg_draft.specs.Reads.{counted, unless, value_or, wrong_entry}
+use Rattle.sg_draft.proofs.Drafts.{among-of, counted-unless, general-none, general-some, wrong-unless}
+use Rattle.ising2d_c.specs.Starts.{wrong_start}
+use Rattle.ising2d_c.specs.Graphs.{Numbers, bond_by, bonds_by, graph_draft, lists_by, wrong_bond}
 
--- the first bond that does not join two spins
-module _ (n : ℕ) (ends : List ℕ) (couplings : List ℤ) where
-  -- the first bond that does not join two spins is the bad one
-  pub bad-some : (k : ℕ) → k < length couplings → ((i : ℕ) → i < k → is_given_bond n ends couplings i ≡ true) → is_given_bond n ends couplings k ≡ false
-      → first_bad n ends couplings ≡ Some k
-  bad-some k high earlier bad =
-      find_range-some (λ i. not (is_given_bond n ends couplings i)) 0 (length couplings) k (omega arith) (omega (arith, high))
-      (λ i l u. not_from_true _ (earlier i u)) (not_from_false _ bad)
+-- bonds that pass are among the spins
+pub bonds-among : (n : ℕ) (ends : List ℕ) (js : List ℤ) → ((k : ℕ) → k < length js → is_among n (bond_by ends js k) ≡ true) → All (IsAmong n) (bonds_by ends js)
+bonds-among n ends js pass =
+    let none : Bond = record { u = 0; v = 0; j = pos 0 } in
+    let count = length-map-range_with_len (bond_by ends js) 0 (length js) in
+    All-from_get_or (IsAmong n) (bonds_by ends js) none (λ k inside.
+    let here : k < length js = omega (arith, inside, count) in
+    let same = get_or-map-range_with_len (bond_by ends js) 0 (length js) k k none here (omega arith) in
+    subst (IsAmong n) (sym same) (among-of n (bond_by ends js k) (pass k here)))
 
-  -- where all bonds do none is bad
-  pub bad-none : ((i : ℕ) → i < length couplings → is_given_bond n ends couplings i ≡ true) → first_bad n ends couplings ≡ None
-  bad-none all = find_range-none (λ i. not (is_given_bond n ends couplings i)) 0 (length couplings) (λ i l u. not_from_true _ (all i (omega (arith, u))))
+module _ (most : Limits) (g : Numbers) where
+  -- the tests in front of those of each bond, as code makes them
+  abbrev pub front_tests : Option Refusal
+  front_tests =
+      general_draft_fault most (Some g.n) (unless (wrong_bond g.n g.ends g.couplings) (length g.couplings)) (wrong_start g.starts g.n (length g.darts)) None
 
-  -- a bond that passes, between different spins
-  pub bond-joins : (k : ℕ) → is_given_bond n ends couplings k ≡ true → (entry ends (2 * k) ≡ entry ends (2 * k + 1) → ⊥) → IsBond n (bond_by ends couplings k)
-  bond-joins k fits apart =
-      let first = both (nat_lt (entry ends (2 * k)) n) _ fits in
-      let second = both (nat_lt (entry ends (2 * k + 1)) n) _ first.1 in
-      record {
-        first_end = ltb-true (entry ends (2 * k)) n first.0;
-        second_end = ltb-true (entry ends (2 * k + 1)) n second.0;
-        ends_differ = apart;
-        size = ltb-true (unsigned_abs (coupling couplings k)) (2 ^ 63) second.1;
-      }
+  abbrev parts : GeneralDraft
+  parts = record {
+    spins = Some g.n;
+    bonds = unless (wrong_bond g.n g.ends g.couplings) (bonds_by g.ends g.couplings);
+    rotation = unless (wrong_start g.starts g.n (length g.darts)) (lists_by g.n g.starts g.darts);
+    seam = Known (Some g.seam);
+  }
 
-  -- bonds with good ends that differ join different spins
-  pub bonds-join : ((k : ℕ) → k < length couplings → is_given_bond n ends couplings k ≡ true)
-      → ((k : ℕ) → k < length couplings → entry ends (2 * k) ≡ entry ends (2 * k + 1) → ⊥) → All (IsBond n) (bonds_by ends couplings)
-  bonds-join fit apart =
-      let none : Bond = record { u = 0; v = 0; j = pos 0 } in
-      let count = length-map-range_with_len (bond_by ends couplings) 0 (length couplings) in
-      All-from_get_or (IsBond n) (bonds_by ends couplings) none (λ k inside.
-      let here : k < length couplings = omega (arith, inside, count) in
-      let same = get_or-map-range_with_len (bond_by ends couplings) 0 (length couplings) k k none here (omega arith) in
-      subst (IsBond n) (sym same) (bond-joins k (fit k here) (apart k here)))
+  same : general_draft_fault most parts.spins (counted parts.bonds) (wrong_entry parts.rotation) (wrong_entry parts.seam) ≡ front_tests
+  same = rw (
+    counted-unless (wrong_bond g.n g.ends g.couplings) (bonds_by g.ends g.couplings),
+    length-map-range_with_len (bond_by g.ends g.couplings) 0 (length g.couplings),
+    wrong-unless (wrong_start g.starts g.n (length g.darts)) (lists_by g.n g.starts g.darts),
+  ) refl
 
--- the first bond between a spin and itself
-module _ (ends : List ℕ) (bonds : ℕ) where
-  -- the first bond between a spin and itself is the one told
-  pub self-some : (k : ℕ) → k < bonds → ((i : ℕ) → i < k → entry ends (2 * i) ≡ entry ends (2 * i + 1) → ⊥) → entry ends (2 * k) ≡ entry ends (2 * k + 1)
-      → first_self ends bonds ≡ Some k
-  self-some k high earlier same =
-      find_range-some (is_given_self ends) 0 bonds k (omega arith) (omega (arith, high)) (λ i l u. ne_eqb _ _ (earlier i u)) (eq-eqb _ _ same)
+  -- a test in front that fails is the draft's
+  pub graph-some : (x : Refusal) → front_tests ≡ Some x → draft_fault most (graph_draft g) ≡ Some x
+  graph-some x bad = general-some most parts x (same ∙ bad)
 
-  -- where none is there is nothing to tell
-  pub self-none : ((i : ℕ) → i < bonds → entry ends (2 * i) ≡ entry ends (2 * i + 1) → ⊥) → first_self ends bonds ≡ None
-  self-none apart = find_range-none (is_given_self ends) 0 bonds (λ i l u. ne_eqb _ _ (apart i (omega (arith, u))))
+  -- behind those that pass each bond is tested
+  pub graph-none : front_tests ≡ None → wrong_bond g.n g.ends g.couplings ≡ None → draft_fault most (graph_draft g) ≡ self_fault (bonds_by g.ends g.couplings)
+  graph-none pass good =
+      general-none most parts (same ∙ pass) ∙ ap (λ (wrong : Option ℕ). self_fault (value_or [] (unless wrong (bonds_by g.ends g.couplings)))) good
+
+-- and this is what the numbers say
+pub graph-says : (g : Numbers) → wrong_bond g.n g.ends g.couplings ≡ None → wrong_start g.starts g.n (length g.darts) ≡ None
+    → drafted (graph_draft g) ≡ record {
+      n = g.n;
+      bonds = bonds_by g.ends g.couplings;
+      rotation = lists_by g.n g.starts g.darts;
+      seam = g.seam;
+    }
+graph-says g bonds starts = rw (bonds, starts) refl

@@ -2,9 +2,10 @@ mod RunLemmas
 mod WordLemmas
 mod RowLemmas
 mod CrossingLemmas
+mod FirstLemmas
 mod StartLemmas
 mod FitLemmas
 mod GraphLemmas
 mod StatedLemmas
 mod NestLemmas
-mod SizeLemmas
+mod TableLemmas

@@ -7,7 +7,7 @@ use Rattle.std.proofs.lemmas.List.FromFn.{get_or-map-range_with_len, length-map-
 use Rattle.std.proofs.lemmas.Grind.{flat_map-append, same_number_lists}
 use Rattle.std.proofs.Math.Seq.{take-add, take-length}
 use Rattle.ising2d_c.specs.Crossing.{IsJoined, entries_before}
-use Rattle.sg_reader.proofs.TestLaws.{find_range-none, find_range-some}
+use Rattle.sg_draft.proofs.Finds.{find_range-none, find_range-some}
 use Rattle.ising2d_c.specs.Starts.{DividesEntries, entry, start_falls, first_fall}
 
 -- no start is above the number of all entries

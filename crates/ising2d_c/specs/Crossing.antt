@@ -22,28 +22,28 @@ pub record IsJoined {A : Type 0} (entries : A → List ℕ) (items : List A) (st
   pub begun : starts ≡ map (entries_before entries items) (range_with_len 0 (length items + 1))
   pub bound : joined ≡ flat_map entries items
 
--- loops as three lists: their weights, their starts, and their bonds
-pub record AreRows (loops : List Loop) (weights : List ℤ) (starts bonds : List ℕ) : Type 0 where
-  pub weighed : weights ≡ map (λ each. each.y) loops
-  pub joined : IsJoined (λ each. each.bonds) loops starts bonds
-
--- three places of a caller before and after a call
-pub record Places : Type 0 where
-  pub weights_before : List ℤ
-  pub weights_after : List ℤ
-  pub starts_before : List ℕ
-  pub starts_after : List ℕ
-  pub bonds_before : List ℕ
-  pub bonds_after : List ℕ
-
--- loops have crossed as three lists, with how many loops there are and how many bonds they have together
-pub record HandsLoops (loops : List Loop) (places : Places) (loop_count bond_count : ℕ) : Type 0 where
+-- three lists: for each loop its weight, the place of its first bond with the number of all behind them, and the
+-- bonds of all loops
+pub record LoopLists : Type 0 where
   pub weights : List ℤ
   pub starts : List ℕ
   pub bonds : List ℕ
-  pub rows : AreRows loops weights starts bonds
-  pub shows_weights : Shows weights places.weights_before places.weights_after
-  pub shows_starts : Shows starts places.starts_before places.starts_after
-  pub shows_bonds : Shows bonds places.bonds_before places.bonds_after
+
+abbrev pub loop_lists : List ℤ → List ℕ → List ℕ → LoopLists
+loop_lists weights starts bonds = record { weights = weights; starts = starts; bonds = bonds }
+
+-- loops as three lists
+pub record AreRows (lists : LoopLists) (loops : List Loop) : Type 0 where
+  pub weighed : lists.weights ≡ map (λ each. each.y) loops
+  pub joined : IsJoined (λ each. each.bonds) loops lists.starts lists.bonds
+
+-- loops have crossed as three lists into places of a caller, with how many loops there are and how many bonds they have
+-- together
+pub record HandsLoops (loops : List Loop) (before after : LoopLists) (loop_count bond_count : ℕ) : Type 0 where
+  pub lists : LoopLists
+  pub rows : AreRows lists loops
+  pub shows_weights : Shows lists.weights before.weights after.weights
+  pub shows_starts : Shows lists.starts before.starts after.starts
+  pub shows_bonds : Shows lists.bonds before.bonds after.bonds
   pub counts_loops : loop_count ≡ length loops
-  pub counts_bonds : bond_count ≡ length bonds
+  pub counts_bonds : bond_count ≡ length lists.bonds

@@ -1,11 +1,15 @@
 -- What a study of an instance answers to a caller.
-use Rattle.std.specs.Prelude.{◌≡◌, ◌≢◌, ℕ, ℤ, [], List}
+use Rattle.std.specs.Prelude.{◌≡◌, ◌≢◌, ◌↔◌, ℕ, ℤ, [], Option, List}
 use Rattle.sg_model.specs.Ising.{Ising}
 use Rattle.sg_model.specs.Energy.{IsGroundState}
 use Rattle.sg_check.specs.declared.packing.Loop.{Loop}
 use Rattle.sg_check.specs.declared.packing.ResultText.{ResultText}
 use Rattle.sg_check.specs.declared.verdict.Verdict.{Verdict}
+use Rattle.sg_check.specs.declared.verdict.Verdict.TheVariants.{Yes}
 use Rattle.sg_check.specs.Verdict.{IsVerdict}
+use Rattle.sg_faces.specs.Faces.{IsFaceLabels, Labelling}
+use Rattle.sg_nest.specs.declared.nest.Nest.{Nest}
+use Rattle.sg_ground.specs.Nested.{IsNestedState, ProvesByNest}
 use Rattle.sg_ground.specs.Solution.{IsSolution}
 use Rattle.sg_wall.specs.Wall.{IsWall}
 use Rattle.sg_bonds.specs.Cost.{AreCosts}
@@ -40,17 +44,37 @@ pub record IsClustered (inst : Ising) (Crosses : List ℕ → Type 0) : Type 0 w
   pub exact : AreClusters inst names
   pub crossed : Crosses names
 
--- the verdict on what is stated as a proof of the instance: its line has crossed, and its status; where it is yes, the
--- stated spins are a ground state
-pub record IsJudged (inst : Ising) (stated : ResultText) (before after : List ℕ) (written code : ℕ) : Type 0 where
-  pub verdict : Verdict
-  pub exact : IsVerdict inst stated verdict
-  pub line : Fills (verdict_text verdict) before after written
-  pub ended : code ≡ exit_code (status_by verdict)
-  pub least : code ≡ 0 → IsGroundState inst stated.spins
+-- a ground state with its energy, and perhaps a nest over the faces that proves it, have crossed so
+pub record IsNested (inst : Ising) (energy : ℤ) (Crosses : List ℤ → Option Nest → Type 0) : Type 0 where
+  pub spins : List ℤ
+  pub nest : Option Nest
+  pub faces : Labelling
+  pub labels : IsFaceLabels inst faces
+  pub state : IsNestedState (record { instance = inst; faces = faces }) spins energy nest
+  pub crossed : Crosses spins nest
 
--- the same for what some numbers state
-pub record Judges (Says : ResultText → Type 0) (before after : List ℕ) (written code : ℕ) (inst : Ising) : Type 0 where
+-- whether the spins with this energy, and a nest that is stated so, are a proof; where they are, the spins are a ground
+-- state
+pub record IsNestVerdict (Says : Nest → Type 0) (s : List ℤ) (e : ℤ) (code : ℕ) (inst : Ising) : Type 0 where
+  pub faces : Labelling
+  pub labels : IsFaceLabels inst faces
+  pub nest : Nest
+  pub says : Says nest
+  pub proves : (code ≡ 0) ↔ ProvesByNest (record { instance = inst; faces = faces }) s e nest
+  pub least : code ≡ 0 → IsGroundState inst s
+
+-- the verdict on what some numbers state as a proof of the instance; where it is yes, the stated spins are a ground
+-- state
+pub record IsJudged (Says : ResultText → Type 0) (inst : Ising) (verdict : Verdict) : Type 0 where
   pub stated : ResultText
   pub says : Says stated
-  pub judged : IsJudged inst stated before after written code
+  pub exact : IsVerdict inst stated verdict
+  pub least : verdict ≡ Yes → IsGroundState inst stated.spins
+
+-- its line has crossed, and its status
+pub record Judges (Says : ResultText → Type 0) (before after : List ℕ) (written code : ℕ) (inst : Ising) : Type 0 where
+  pub verdict : Verdict
+  pub judged : IsJudged Says inst verdict
+  pub line : Fills (verdict_text verdict) before after written
+  pub ended : code ≡ exit_code (status_by verdict)
+  pub least : code ≡ 0 → IsGroundState inst judged.stated.spins

@@ -1,15 +1,25 @@
--- Lattices by numbers: which numbers give one, and what is wrong with others.
-use Rattle.std.specs.Prelude.{◌≡◌, ◌≢◌, ◌⊎◌, ℕ, ℤ, pos, ◌*◌, ◌<◌, ◌^◌, min, ◌==◌, nat_lt, unsigned_abs, if◌then◌else◌}
-use Rattle.std.specs.Prelude.{Option, Some, None, List, length, take, All, slice_index_or}
-use Rattle.sg_model.specs.Ising.{Ising}
+-- Lattices by numbers: which numbers give one, what is wrong with others, and the tables by which one is a graph.
+use Rattle.std.specs.Prelude.{◌≡◌, ℕ, ℤ, pos, ◌≤◌, min, ◌==◌, not, if◌then◌else◌}
+use Rattle.std.specs.Prelude.{Option, Some, None, find, List, [], ◌∷◌, length, slice_index_or}
+use Rattle.std.specs.List.{range_with_len}
+use Rattle.sg_limits.specs.Limits.{large_bond_limit, large_spin_limit}
+use Rattle.sg_model.specs.Ising.{Ising, bond_count}
+use Rattle.sg_model.specs.Faults.{OrNoMemory}
 use Rattle.sg_model.specs.declared.refusal.Fault.{Fault}
-use Rattle.sg_model.specs.declared.refusal.Fault.TheVariants.{Refused, NoMemory}
 use Rattle.sg_model.specs.declared.refusal.Refusal.{Refusal}
-use Rattle.sg_model.specs.declared.refusal.Refusal.TheVariants.{BadMember, CouplingCount, TooManySpins}
 use Rattle.sg_lattice.specs.declared.kind.Kind.{Kind}
 use Rattle.sg_lattice.specs.declared.kind.Kind.TheVariants.{Square, Triangular, Hexagonal, Cylinder}
-use Rattle.sg_lattice.specs.Tables.{bond_total, lattice, least_cols}
-use Rattle.ising2d_c.specs.declared.limits.Limits.{Limits}
+use Rattle.sg_lattice.specs.Tables.{bond_total, lattice}
+use Rattle.sg_draft.specs.declared.limits.Limits.{Limits}
+use Rattle.sg_draft.specs.declared.member.Member.TheVariants as member
+use Rattle.sg_draft.specs.Bonds.{is_coupling}
+use Rattle.sg_draft.specs.Members.{bad_member}
+use Rattle.sg_draft.specs.Numbers.{coupling_count_fault, lattice_size_fault}
+use Rattle.sg_draft.specs.Reads.{member_fault}
+use Rattle.sg_draft.specs.Tests.{first_of, Refuses}
+use Rattle.ising2d_c.specs.declared.tables.TableNumbers.{TableNumbers}
+use Rattle.ising2d_c.specs.Crossing.{Shows}
+use Rattle.ising2d_c.specs.Graphs.{IsGraph, Numbers, numbers}
 
 -- the kinds by their numbers
 abbrev pub kind_numbered : ℕ → Option Kind
@@ -19,59 +29,68 @@ kind_numbered number =
     (if number == 2 then Some Hexagonal else
     (if number == 3 then Some Cylinder else None)))
 
--- the first fault of a lattice's size: its rows, its columns, or the number of its spins
-abbrev pub given_size_fault : Limits → Kind → ℕ → ℕ → Option Refusal
-given_size_fault most kind R C =
-    if R == 0 then Some (BadMember 3 0) else
-    (if nat_lt C (least_cols kind) then Some (BadMember 4 0) else
-    (if nat_lt most.spins (R * C) then Some (TooManySpins (pos (R * C))) else None))
+-- the first coupling that is the least number of 64 bits
+abbrev pub first_out : List ℤ → Option ℕ
+first_out couplings =
+    find (λ k. not (is_coupling (slice_index_or couplings k (pos 0)))) (range_with_len 0 (length couplings))
 
--- a coupling is a number of 64 bits, and not the least of them
-abbrev pub IsCoupling : ℤ → Type 0
-IsCoupling j = unsigned_abs j < 2 ^ 63
+-- the tests: the kind, the size of a lattice of that kind, the number of its couplings, and each of them
+abbrev pub given_kind_fault : Limits → Option Kind → ℕ → ℕ → List ℤ → Option Refusal
+given_kind_fault most None R C couplings = Some (bad_member member.Kind)
+given_kind_fault most (Some kind) R C couplings = first_of (
+    lattice_size_fault most kind (Some R) (Some C)
+    ∷ coupling_count_fault (length couplings) (bond_total kind R C)
+    ∷ member_fault member.Couplings (first_out couplings)
+    ∷ [])
 
--- the first entry that is no coupling
-pub record IsFirstOut (couplings : List ℤ) (k : ℕ) : Type 0 where
-  pub within : k < length couplings
-  pub before : All IsCoupling (take k couplings)
-  pub out : ¬ IsCoupling (slice_index_or couplings k (pos 0))
+abbrev pub lattice_numbers_fault : Limits → ℕ → ℕ → ℕ → List ℤ → Option Refusal
+lattice_numbers_fault most number R C couplings = given_kind_fault most (kind_numbered number) R C couplings
 
--- the lattice of a kind with these couplings
-pub record IsCoupledLattice (kind : Kind) (R C : ℕ) (couplings : List ℤ) (inst : Ising) : Type 0 where
-  pub count : length couplings ≡ bond_total kind R C
-  pub range : All IsCoupling couplings
-  pub is : inst ≡ lattice kind R C couplings
+-- the limits of a call that takes so many spins, at most those of large instances
+abbrev pub limits_of : ℕ → Limits
+limits_of spins = record { spins = min spins large_spin_limit; bonds = large_bond_limit }
 
 -- the lattice of these numbers, within the limits
 pub record IsLattice (most : Limits) (number R C : ℕ) (couplings : List ℤ) (inst : Ising) : Type 0 where
   pub kind : Kind
   pub named : kind_numbered number ≡ Some kind
-  pub sized : given_size_fault most kind R C ≡ None
-  pub coupled : IsCoupledLattice kind R C couplings inst
-
--- what is wrong where the number of couplings is right: the first that is none, or else the memory
-abbrev pub IsValueFault : List ℤ → Fault → Type 0
-IsValueFault couplings fault =
-    ((k : ℕ) × IsFirstOut couplings k × (fault ≡ Refused (BadMember 6 k)))
-    ⊎ (All IsCoupling couplings × (fault ≡ NoMemory))
-
--- what is wrong where the size is right: the number of couplings, told up to the last number of 32 bits; else a value
-pub record IsCouplingFault (kind : Kind) (R C : ℕ) (couplings : List ℤ) (fault : Fault) : Type 0 where
-  pub other_count : length couplings ≢ bond_total kind R C
-      → fault ≡ Refused (CouplingCount (min (length couplings) 4294967295) (bond_total kind R C))
-  pub same_count : length couplings ≡ bond_total kind R C → IsValueFault couplings fault
-
--- what is wrong with a lattice of a kind: its size, or else a coupling
-abbrev pub IsSizedFault : Option Refusal → Kind → ℕ → ℕ → List ℤ → Fault → Type 0
-IsSizedFault (Some refusal) kind R C couplings fault = fault ≡ Refused refusal
-IsSizedFault None kind R C couplings fault = IsCouplingFault kind R C couplings fault
-
--- the first thing that is wrong: the number of the kind, or else what is wrong with a lattice of that kind
-abbrev pub IsKindFault : Limits → Option Kind → ℕ → ℕ → List ℤ → Fault → Type 0
-IsKindFault most None R C couplings fault = fault ≡ Refused (BadMember 1 0)
-IsKindFault most (Some kind) R C couplings fault =
-    IsSizedFault (given_size_fault most kind R C) kind R C couplings fault
+  pub passes : lattice_numbers_fault most number R C couplings ≡ None
+  pub is : inst ≡ lattice kind R C couplings
 
 -- the first thing that is wrong with these numbers
 abbrev pub IsLatticeFault : Limits → ℕ → ℕ → ℕ → List ℤ → Fault → Type 0
-IsLatticeFault most number R C couplings fault = IsKindFault most (kind_numbered number) R C couplings fault
+IsLatticeFault most number R C couplings fault = OrNoMemory (Refuses (lattice_numbers_fault most number R C couplings)) fault
+
+-- four lists: two ends for each bond, the darts of each spin from its start on, and the bonds of the seam
+pub record TableLists : Type 0 where
+  pub ends : List ℕ
+  pub starts : List ℕ
+  pub darts : List ℕ
+  pub seam : List ℕ
+
+abbrev pub table_lists : List ℕ → List ℕ → List ℕ → List ℕ → TableLists
+table_lists ends starts darts seam = record { ends = ends; starts = starts; darts = darts; seam = seam }
+
+-- the numbers of a graph with these tables
+abbrev pub tabled : ℕ → List ℤ → TableLists → Numbers
+tabled n couplings lists = numbers n lists.ends couplings lists.starts lists.darts lists.seam
+
+-- the lists are the tables of the instance: with its couplings they give it as a graph within all limits that it keeps,
+-- and so no other one
+abbrev pub AreTables : TableLists → List ℤ → Ising → Type 0
+AreTables lists couplings inst = (most : Limits) → inst.n ≤ most.spins → bond_count inst ≤ most.bonds
+    → IsGraph most (tabled inst.n couplings lists) inst
+
+-- the tables have crossed into places of a caller, with the number of entries of each
+pub record HandsTables (couplings : List ℤ) (before after : TableLists) (counts : TableNumbers) (inst : Ising)
+    : Type 0 where
+  pub lists : TableLists
+  pub tables : AreTables lists couplings inst
+  pub shows_ends : Shows lists.ends before.ends after.ends
+  pub shows_starts : Shows lists.starts before.starts after.starts
+  pub shows_darts : Shows lists.darts before.darts after.darts
+  pub shows_seam : Shows lists.seam before.seam after.seam
+  pub counts_ends : counts.ends ≡ length lists.ends
+  pub counts_starts : counts.starts ≡ length lists.starts
+  pub counts_darts : counts.darts ≡ length lists.darts
+  pub counts_seam : counts.seam ≡ length lists.seam

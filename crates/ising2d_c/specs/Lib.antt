@@ -1,13 +1,11 @@
-pub mod Limits
 pub mod Crossing
 pub mod Words
 pub mod Running
 pub mod Starts
-pub mod Lattices
 pub mod Graphs
+pub mod Lattices
 pub mod Stated
 pub mod Fitting
 pub mod Refusing
 pub mod Grounds
 pub mod Nests
-pub mod Nested

@@ -1,10 +1,8 @@
 -- Lists of lists that a caller gives as two lists: which starts divide the entries, and what is wrong with others.
-use Rattle.std.specs.Prelude.{◌≡◌, ℕ, ◌+◌, ◌-◌, ◌<◌, ◌≤◌, ◌==◌, Bool, not, nat_lt, find, Option, option_map}
-use Rattle.std.specs.Prelude.{List, [], ◌∷◌, length, slice_index_or}
+use Rattle.std.specs.Prelude.{◌≡◌, ℕ, ◌+◌, ◌-◌, ◌<◌, ◌≤◌, ◌==◌, Bool, not, nat_lt, find, if◌then◌else◌}
+use Rattle.std.specs.Prelude.{Option, Some, None, List, length, slice_index_or}
 use Rattle.std.specs.List.{range_with_len}
-use Rattle.sg_model.specs.declared.refusal.Refusal.{Refusal}
-use Rattle.sg_model.specs.declared.refusal.Refusal.TheVariants.{BadMember}
-use Rattle.sg_draft.specs.Tests.{first_of, refuse_if}
+use Rattle.std.specs.Option.{option_or}
 
 -- entry k of a list, and 0 past its end
 abbrev pub entry : List ℕ → ℕ → ℕ
@@ -25,12 +23,13 @@ start_falls starts k = nat_lt (entry starts k) (entry starts (k - 1))
 abbrev pub first_fall : List ℕ → Option ℕ
 first_fall starts = find (start_falls starts) (range_with_len 1 (length starts - 1))
 
--- the first fault of the starts at a place: there is another number of them than one more than the items, the first is
--- not 0, one is less than the one in front of it, or the last is not the number of the entries
-abbrev pub starts_fault : ℕ → List ℕ → ℕ → ℕ → Option Refusal
-starts_fault place starts items entries = first_of (
-    refuse_if (not (length starts == items + 1)) (BadMember place 0)
-    ∷ refuse_if (not (entry starts 0 == 0)) (BadMember place 0)
-    ∷ option_map (λ k. BadMember place k) (first_fall starts)
-    ∷ refuse_if (not (entry starts items == entries)) (BadMember place items)
-    ∷ [])
+-- the start that is wrong: the first, where there is another number of them than one more than the items, or where it
+-- is not 0; one that is less than the one in front of it; or the last, where it is not the number of the entries
+abbrev pub wrong_if : Bool → ℕ → Option ℕ
+wrong_if fails k = if fails then Some k else None
+
+abbrev pub wrong_start : List ℕ → ℕ → ℕ → Option ℕ
+wrong_start starts items entries =
+    option_or (wrong_if (not (length starts == items + 1)) 0)
+    (option_or (wrong_if (not (entry starts 0 == 0)) 0)
+    (option_or (first_fall starts) (wrong_if (not (entry starts items == entries)) items)))

@@ -1,165 +1,119 @@
 // General graphs by numbers. No number is trusted: each is tested, and the first fault is named.
-ghost use Rattle.std.specs.Prelude.{◌≡◌, ◌≢◌, ◌+◌, ◌*◌, ◌<◌, ◌≤◌, ℕ, length, All, None, IfOk, IfErr, IfSome, true};
+ghost use Rattle.std.specs.Prelude.{◌≡◌, ◌+◌, ◌*◌, ◌<◌, ◌≤◌, ℕ, length, All, None, IfErr, IfOk, OnOk};
 ghost use Rattle.sg_limits.specs.Limits.{large_bond_limit, large_spin_limit};
-ghost use Rattle.sg_model.specs.Ising.{IsBond};
+ghost use Rattle.sg_draft.specs.Bonds.{IsAmong, self_fault};
+ghost use Rattle.sg_draft.specs.Draft.{draft_fault, drafted};
 ghost use Rattle.sg_ground.specs.Nested.{FitsWeb};
-ghost use Rattle.ising2d_c.specs.Crossing.{IsJoined};
-ghost use Rattle.ising2d_c.specs.Graphs.{IsGraph, IsGivenGraphFault, bond_by as bond_numbered, bonds_by, given_bonds_fault, given_ends_fault, first_bad as first_bad_of, first_self as first_self_of, given_graph_fault, is_given_bond as is_bond_of, given_spins_fault};
-ghost use Rattle.ising2d_c.specs.Starts.{DividesEntries, entry};
+ghost use Rattle.ising2d_c.specs.Fitting.{IsFitFault, IsFitGraph};
+ghost use Rattle.ising2d_c.specs.Graphs.{IsGraph, IsGraphFault, bond_by as bond_numbered, bonds_by, first_bad as first_bad_of, graph_draft, lists_by, numbers_of, wrong_bond as wrong_bond_of};
+ghost use Rattle.ising2d_c.specs.Starts.{DividesEntries};
 
-use super::lattices::is_coupling;
-use super::limits::Limits;
-use super::starts::{entries_at, refusal_of_starts};
+use super::starts::{entries_at, wrong_start};
+use sg_draft::{Limits, build_general, check_general, is_among, unless};
 use sg_model::{Bond, BondList, Bonds, Fault, Instance, Refusal, Rotation};
+use sg_planar::Planar;
 use std::alloc::{AllocError, Global};
 
-/// The general graph of these numbers: two ends for each bond, its coupling, the darts of each spin
-/// from its start on, and the bonds of the seam; within the limits.
+/// The numbers of a general graph: its spins, two ends for each bond and its coupling, the darts of
+/// each spin from its start on, and the bonds of the seam.
+#[derive(Drop)]
+pub struct Given<'a> {
+    pub n: u32,
+    pub ends: &'a [u32],
+    pub couplings: &'a [i64],
+    pub starts: &'a [usize],
+    pub darts: &'a [u32],
+    pub seam: &'a [u32],
+}
+
+/// The graph of these numbers, within the limits and fit for a planar solver.
+pub fn fit_graph(alloc: Global, most: Limits, given: &Given) -> Result<Planar, Fault>
+    requires spins { most.spins ≤ large_spin_limit }
+    requires bonds { most.bonds ≤ large_bond_limit }
+    ensures gives { IfOk result (λ planar. IsFitGraph most (numbers_of given.now) planar.instance) }
+    ensures small { IfOk result (λ planar. FitsWeb planar.instance) }
+    ensures refuses { IfErr result (IsFitFault most (numbers_of given.now)) }
+{
+    match graph_of(alloc, most, given) {
+        Ok(instance) => Planar::test(alloc, instance),
+        Err(fault) => Err(fault),
+    }
+}
+
+/// The graph of these numbers, within the limits.
 ///
 /// # Errors
 /// The first that is wrong, in this order: `BadMember` for the number of spins, `TooManySpins`,
 /// `BadMember` for the bonds and for the starts of the darts, `TooManyBonds`, `SelfBond`,
 /// `BadRotation`, `BadSeam`.
-pub fn graph_of(
-    alloc: Global,
-    most: Limits,
-    n: u32,
-    ends: &[u32],
-    couplings: &[i64],
-    starts: &[usize],
-    darts: &[u32],
-    seam: &[u32],
-) -> Result<Instance, Fault>
+pub fn graph_of(alloc: Global, most: Limits, given: &Given) -> Result<Instance, Fault>
     requires spins { most.spins ≤ large_spin_limit }
     requires bonds { most.bonds ≤ large_bond_limit }
-    ensures gives { IfOk result (IsGraph most n ends.now couplings.now starts.now darts.now seam.now) }
+    ensures gives { IfOk result (IsGraph most (numbers_of given.now)) }
     ensures small { IfOk result FitsWeb }
-    ensures refuses { IfErr result (IsGivenGraphFault most n ends.now couplings.now starts.now darts.now seam.now) }
+    ensures refuses { IfErr result (IsGraphFault most (numbers_of given.now)) }
 {
-    if let Some(refusal) = refusal_of_graph(most, n, ends, couplings, starts, darts) {
-        return Err(Fault::Refused(refusal));
+    match check_graph(most, given) {
+        Ok(()) => {
+            let bonds = bonds_of(alloc, given.ends, given.couplings)?;
+            let rotation = rotation_of(alloc, given.n, given.starts, given.darts)?;
+            let cut = BondList::from_vec(Vec::from_slice(alloc, given.seam)?);
+            build_general(alloc, given.n, bonds, rotation, Some(cut))
+        }
+        Err(refusal) => Err(Fault::Refused(refusal)),
     }
-    let bonds = bonds_of(alloc, ends, couplings)?;
-    let rotation = rotation_of(alloc, n, starts, darts)?;
-    let cut = BondList::from_vec(Vec::from_slice(alloc, seam)?);
-    Instance::new(alloc, n, bonds, rotation, cut)
 }
 
-// The first test that the numbers fail, in front of those of an instance.
-fn refusal_of_graph(
-    most: Limits,
-    n: u32,
-    ends: &[u32],
-    couplings: &[i64],
-    starts: &[usize],
-    darts: &[u32],
-) -> Option<Refusal>
+// The tests of the numbers in front of those of each bond.
+fn check_graph(most: Limits, given: &Given) -> Result<(), Refusal>
     requires { most.bonds ≤ large_bond_limit }
-    ensures value { result ≡ given_graph_fault most n ends.now couplings.now starts.now darts.now }
-    ensures spins { result ≡ None → n ≤ most.spins }
-    ensures some { result ≡ None → 1 ≤ n }
-    ensures ends { result ≡ None → length ends.now ≡ 2 * length couplings.now }
-    ensures few { result ≡ None → length couplings.now ≤ most.bonds }
-    ensures joined { result ≡ None → All (IsBond n) (bonds_by ends.now couplings.now) }
-    ensures division { result ≡ None → DividesEntries starts.now n (length darts.now) }
+    ensures some { OnOk result (1 ≤ given.now.n) }
+    ensures spins { OnOk result (given.now.n ≤ most.spins) }
+    ensures few { OnOk result (length given.now.couplings.now ≤ most.bonds) }
+    ensures count { OnOk result (length given.now.ends.now ≡ 2 * length given.now.couplings.now) }
+    ensures among { OnOk result (All (IsAmong given.now.n) (bonds_by given.now.ends.now given.now.couplings.now)) }
+    ensures division { OnOk result (DividesEntries given.now.starts.now given.now.n (length given.now.darts.now)) }
+    ensures passes { OnOk result (draft_fault most (graph_draft (numbers_of given.now)) ≡ self_fault (bonds_by given.now.ends.now given.now.couplings.now)) }
+    ensures says { OnOk result (drafted (graph_draft (numbers_of given.now)) ≡ record {
+      n = given.now.n;
+      bonds = bonds_by given.now.ends.now given.now.couplings.now;
+      rotation = lists_by given.now.n given.now.starts.now given.now.darts.now;
+      seam = given.now.seam.now;
+    }) }
+    ensures refused { IfErr result (λ e. draft_fault most (graph_draft (numbers_of given.now)) ≡ Some e) }
 {
-    if let Some(refusal) = refusal_of_spins(most, n) {
-        return Some(refusal);
+    let bad = wrong_bond(given.n, given.ends, given.couplings);
+    let bonds = unless(bad, given.couplings.len());
+    let start = wrong_start(given.starts, given.n as usize, given.darts.len());
+    match check_general(most, Some(u64::from(given.n)), bonds, start, None) {
+        Ok(_) => Ok(()),
+        Err(refusal) => Err(refusal),
     }
-    if let Some(refusal) = refusal_of_ends(n, ends, couplings) {
-        return Some(refusal);
-    }
-    if let Some(refusal) = refusal_of_starts(8, starts, n as usize, darts.len()) {
-        return Some(refusal);
-    }
-    refusal_of_bonds(most, ends, couplings.len())
 }
 
-// The first fault of the number of spins.
-fn refusal_of_spins(most: Limits, n: u32) -> Option<Refusal>
-    ensures value { result ≡ given_spins_fault most n }
-    ensures some { result ≡ None → 1 ≤ n }
-    ensures few { result ≡ None → n ≤ most.spins }
-{
-    if n == 0 {
-        return Some(Refusal::BadMember { place: 5, item: 0 });
-    }
-    if n > most.spins {
-        return Some(Refusal::TooManySpins { n: i128::from(n) });
-    }
-    None
-}
-
-// The first fault of the ends and the couplings.
-fn refusal_of_ends(n: u32, ends: &[u32], couplings: &[i64]) -> Option<Refusal>
-    ensures value { result ≡ given_ends_fault n ends.now couplings.now }
+// The first bond that is wrong; the whole list where there are not two ends for each coupling.
+fn wrong_bond(n: u32, ends: &[u32], couplings: &[i64]) -> Option<usize>
+    ensures value { result ≡ wrong_bond_of n ends.now couplings.now }
     ensures count { result ≡ None → length ends.now ≡ 2 * length couplings.now }
-    ensures joined { result ≡ None → (k : ℕ) → k < length couplings.now → is_bond_of n ends.now couplings.now k ≡ true }
+    ensures among { result ≡ None → All (IsAmong n) (bonds_by ends.now couplings.now) }
 {
     if ends.len() % 2 != 0 {
-        return Some(Refusal::BadMember { place: 7, item: 0 });
+        return Some(0);
     }
     if ends.len() / 2 != couplings.len() {
-        return Some(Refusal::BadMember { place: 7, item: 0 });
+        return Some(0);
     }
-    match first_bad(n, ends, couplings) {
-        Some(bond) => Some(Refusal::BadMember {
-            place: 7,
-            item: bond.min(u32::MAX as usize) as u32,
-        }),
-        None => None,
-    }
+    first_bad(n, ends, couplings)
 }
 
 // The first bond that does not join two of the spins with a coupling.
 fn first_bad(n: u32, ends: &[u32], couplings: &[i64]) -> Option<usize>
     requires { length ends.now ≡ 2 * length couplings.now }
     ensures value { result ≡ first_bad_of n ends.now couplings.now }
-    ensures joined { result ≡ None → (k : ℕ) → k < length couplings.now → is_bond_of n ends.now couplings.now k ≡ true }
+    ensures among { result ≡ None → All (IsAmong n) (bonds_by ends.now couplings.now) }
 {
     for k in 0..couplings.len() {
-        if !is_bond(n, ends, couplings, k) {
-            return Some(k);
-        }
-    }
-    None
-}
-
-// Whether bond `k` joins two of the spins with a coupling.
-fn is_bond(n: u32, ends: &[u32], couplings: &[i64], k: usize) -> bool
-    requires count { length ends.now ≡ 2 * length couplings.now }
-    requires within { k < length couplings.now }
-    ensures { result ≡ is_bond_of n ends.now couplings.now k }
-{
-    ends[2 * k] < n && ends[2 * k + 1] < n && is_coupling(&couplings[k])
-}
-
-// The first fault of so many bonds, each of which joins two of the spins.
-fn refusal_of_bonds(most: Limits, ends: &[u32], bonds: usize) -> Option<Refusal>
-    requires count { length ends.now ≡ 2 * bonds }
-    requires room { most.bonds ≤ large_bond_limit }
-    ensures value { result ≡ given_bonds_fault most ends.now bonds }
-    ensures few { result ≡ None → bonds ≤ most.bonds }
-    ensures apart { result ≡ None → (k : ℕ) → k < bonds → entry ends.now (2 * k) ≢ entry ends.now (2 * k + 1) }
-{
-    if bonds > most.bonds as usize {
-        return Some(Refusal::TooManyBonds { m: most.bonds + 1 });
-    }
-    match first_self(ends, bonds) {
-        Some(bond) => Some(Refusal::SelfBond { bond: bond as u32 }),
-        None => None,
-    }
-}
-
-// The first bond between a spin and itself.
-fn first_self(ends: &[u32], bonds: usize) -> Option<usize>
-    requires { length ends.now ≡ 2 * bonds }
-    ensures value { result ≡ first_self_of ends.now bonds }
-    ensures within { IfSome result (λ k. k < bonds) }
-    ensures apart { result ≡ None → (k : ℕ) → k < bonds → entry ends.now (2 * k) ≢ entry ends.now (2 * k + 1) }
-{
-    for k in 0..bonds {
-        if ends[2 * k] == ends[2 * k + 1] {
+        if !is_among(u64::from(n), bond_by(ends, couplings, k)) {
             return Some(k);
         }
     }
@@ -199,8 +153,7 @@ fn rotation_of(
     darts: &[u32],
 ) -> Result<Rotation, AllocError>
     requires { DividesEntries starts.now n (length darts.now) }
-    ensures count { IfOk result (λ rotation. length rotation ≡ n) }
-    ensures joined { IfOk result (λ rotation. IsJoined (λ list. list) rotation starts.now darts.now) }
+    ensures { IfOk result (λ rotation. rotation ≡ lists_by n starts.now darts.now) }
 {
     let mut rotation = Rotation::new(alloc);
     for spin in 0..n as usize {

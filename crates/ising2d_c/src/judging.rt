@@ -1,85 +1,57 @@
-// The checker for a caller: what is stated as a proof in, the verdict out.
-ghost use Rattle.std.specs.Prelude.{◌≡◌, ◌⊎◌, ◌≤◌, length, IfOk, IsErrAnd, IsOkAnd};
+// The judges of stated proofs: the numbers in, a verdict out.
+ghost use Rattle.std.specs.Prelude.{◌≡◌, ◌⊎◌, ◌↔◌, ◌≤◌, length, IfOk, IfErr, IsTrue};
 ghost use Rattle.sg_limits.specs.Limits.{input_limit};
 ghost use Rattle.sg_model.specs.Energy.{IsGroundState};
+ghost use Rattle.sg_model.specs.Faults.{OrNoMemory};
 ghost use Rattle.sg_check.specs.Verdict.{IsVerdict};
 ghost use Rattle.sg_check.specs.declared.verdict.Verdict.TheVariants.{Yes};
 ghost use Rattle.sg_draft.specs.Tests.{Refuses};
+ghost use Rattle.sg_ground.specs.Nested.{FitsWeb};
 ghost use Rattle.sg_report.specs.Text.{verdict_text as verdict_bytes};
+ghost use Rattle.sg_reply.specs.Exit.{exit_code};
 ghost use Rattle.sg_cli.specs.Served.{status_by};
-ghost use Rattle.sg_reply.specs.declared.status.Status.TheVariants.{Done as IsDone, No as IsNo};
-ghost use Rattle.ising2d_c.specs.Grounds.{IsJudged, Judges};
-ghost use Rattle.ising2d_c.specs.Refusing.{TellsRefusal, IsToldFault};
-ghost use Rattle.ising2d_c.specs.Stated.{States, stated_fault};
-ghost use Rattle.sg_model.specs.Faults.{OrNoMemory};
+ghost use Rattle.ising2d_c.specs.Fitting.{Finds, IsFitGraph, IsFitProofFault, IsProofFault};
+ghost use Rattle.ising2d_c.specs.Graphs.{IsGraph, numbers_of};
+ghost use Rattle.ising2d_c.specs.Grounds.{IsJudged, IsNestVerdict};
+ghost use Rattle.sg_draft.specs.Limits.{large_limits};
+ghost use Rattle.ising2d_c.specs.Nests.{AreNestRows, nest_given, nest_fault};
+ghost use Rattle.ising2d_c.specs.Stated.{States, loops_of, stated_fault};
 
-use super::crossing::fill;
-use super::refusing::refuse;
-use super::stated::stated_by;
+use super::graphs::{Given, fit_graph, graph_of};
+use super::nests::{GivenNest, nest_by, refusal_of_lists};
+use super::stated::{GivenLoops, spins_by, stated_by};
 use sg_check::{Checker, ResultText, Verdict};
 use sg_cli::Status;
+use sg_draft::Limits;
+use sg_ground::proves_by_nest;
 use sg_model::{Fault, Instance};
+use sg_planar::Planar;
 use sg_report::verdict_text;
 use std::alloc::{AllocError, Global};
 
-// A verdict, and its line.
+/// A verdict, and its line.
 #[derive(Drop)]
-struct Judged {
-    verdict: Verdict,
-    line: Vec<u8>,
+pub struct Judged {
+    pub verdict: Verdict,
+    pub line: Vec<u8>,
 }
 
-/// Writes the line of the verdict on what these numbers state as a proof of the instance; or the line
-/// of the fault that is handed in, or of the first one of these numbers.
-pub fn judge_into(
+/// The verdict on what these numbers state as a proof of the graph.
+pub fn judge(
     alloc: Global,
-    given: Result<Instance, Fault>,
+    given: &Given,
     energy: i64,
     spins: &[i8],
-    weights: &[i64],
-    starts: &[usize],
-    bonds: &[u32],
-    line: &mut [u8],
-    line_written: &mut usize,
-) -> u8
-    ensures judged { (result ≡ 0) ⊎ (result ≡ 3) → IsOkAnd given (Judges (States energy spins.now weights.now starts.now bonds.now)
-        line.old line.new line_written.new result) }
-    ensures refused { result ≡ 1 → IsErrAnd given (λ fault. IsToldFault fault line.old line.new line_written.new)
-        ⊎ IsOkAnd given (λ inst. TellsRefusal (OrNoMemory (Refuses (stated_fault spins.now weights.now starts.now bonds.now)))
-        line.old line.new line_written.new) }
-    ensures codes { (result ≡ 0) ⊎ ((result ≡ 1) ⊎ ((result ≡ 3) ⊎ (result ≡ 6))) }
-    ensures kept { result ≡ 6 → (line.new ≡ line.old) × (line_written.new ≡ line_written.old) }
+    loops: &GivenLoops,
+) -> Result<Judged, Fault>
+    ensures gives { IfOk result (λ found. Finds (IsGraph large_limits (numbers_of given.now))
+        (λ inst. IsJudged (States energy spins.now (loops_of loops.now)) inst found.verdict)) }
+    ensures line { IfOk result (λ found. found.line.items ≡ verdict_bytes found.verdict) }
+    ensures refuses { IfErr result (IsProofFault large_limits (numbers_of given.now) (stated_fault spins.now (loops_of loops.now))) }
 {
-    match given {
-        Ok(instance) => match stated_by(alloc, energy, spins, weights, starts, bonds) {
-            Ok(stated) => judge(alloc, &instance, &stated, line, line_written),
-            Err(fault) => refuse(alloc, &fault, line, line_written),
-        },
-        Err(fault) => refuse(alloc, &fault, line, line_written),
-    }
-}
-
-// Writes the line of the verdict on what is stated.
-fn judge(
-    alloc: Global,
-    instance: &Instance,
-    stated: &ResultText,
-    line: &mut [u8],
-    line_written: &mut usize,
-) -> u8
-    requires few_spins { length stated.now.spins ≤ input_limit }
-    requires few_loops { length stated.now.loops ≤ input_limit }
-    ensures judged { (result ≡ 0) ⊎ (result ≡ 3) → IsJudged instance.now stated.now line.old line.new line_written.new result }
-    ensures codes { (result ≡ 0) ⊎ ((result ≡ 3) ⊎ (result ≡ 6)) }
-    ensures kept { result ≡ 6 → (line.new ≡ line.old) × (line_written.new ≡ line_written.old) }
-{
-    match verdict_on(alloc, instance, stated) {
-        Ok(found) => {
-            *line_written = fill(found.line.as_slice(), line);
-            status_of(found.verdict).exit_code()
-        }
-        Err(AllocError) => Status::NoMemory.exit_code(),
-    }
+    let instance = graph_of(alloc, Limits::large(), given)?;
+    let stated = stated_by(alloc, energy, spins, loops)?;
+    Ok(verdict_on(alloc, &instance, &stated)?)
 }
 
 // The verdict on what is stated, and its line.
@@ -96,14 +68,65 @@ fn verdict_on(alloc: Global, instance: &Instance, stated: &ResultText) -> Result
     Ok(Judged { verdict, line })
 }
 
-// How a call ends by a verdict.
-fn status_of(verdict: Verdict) -> Status
-    ensures by_verdict { result ≡ status_by verdict }
-    ensures yes { (result ≡ IsDone) → verdict ≡ Yes }
-    ensures either { (result ≡ IsDone) ⊎ (result ≡ IsNo) }
+/// How a call ends by a verdict.
+pub fn code_by(verdict: Verdict) -> u8
+    ensures by_verdict { result ≡ exit_code (status_by verdict) }
+    ensures yes { result ≡ 0 → verdict ≡ Yes }
+    ensures either { (result ≡ 0) ⊎ (result ≡ 3) }
 {
     match verdict {
-        Verdict::Yes => Status::Done,
-        _ => Status::No,
+        Verdict::Yes => Status::Done.exit_code(),
+        _ => Status::No.exit_code(),
+    }
+}
+
+/// How a call ends that judges what these numbers state as a proof of the graph by a nest.
+pub fn judge_nest(
+    alloc: Global,
+    given: &Given,
+    energy: i64,
+    spins: &[i8],
+    nest: &GivenNest,
+) -> Result<u8, Fault>
+    ensures gives { IfOk result (λ code. Finds (IsFitGraph large_limits (numbers_of given.now))
+        (IsNestVerdict (AreNestRows (nest_given nest.now)) spins.now energy code)) }
+    ensures codes { IfOk result (λ code. (code ≡ 0) ⊎ (code ≡ 3)) }
+    ensures refuses { IfErr result (IsFitProofFault large_limits (numbers_of given.now) (nest_fault spins.now (nest_given nest.now))) }
+{
+    let planar = fit_graph(alloc, Limits::large(), given)?;
+    nest_verdict(alloc, &planar, energy, spins, nest)
+}
+
+// The same of a graph that is fit.
+fn nest_verdict(
+    alloc: Global,
+    planar: &Planar,
+    energy: i64,
+    spins: &[i8],
+    given: &GivenNest,
+) -> Result<u8, Fault>
+    requires { FitsWeb planar.now.instance }
+    ensures verdict { IfOk result (λ code. IsNestVerdict (AreNestRows (nest_given given.now)) spins.now energy code planar.now.instance) }
+    ensures codes { IfOk result (λ code. (code ≡ 0) ⊎ (code ≡ 3)) }
+    ensures refuses { IfErr result (OrNoMemory (Refuses (nest_fault spins.now (nest_given given.now)))) }
+{
+    let values = spins_by(alloc, spins)?;
+    if let Some(refusal) = refusal_of_lists(given) {
+        return Err(Fault::Refused(refusal));
+    }
+    let nest = nest_by(alloc, given)?;
+    let yes = proves_by_nest(alloc, planar, energy, &values, &nest)?;
+    Ok(code_of(yes))
+}
+
+// How a call ends by a verdict on a nest.
+fn code_of(yes: bool) -> u8
+    ensures done { (result ≡ 0) ↔ IsTrue yes }
+    ensures either { (result ≡ 0) ⊎ (result ≡ 3) }
+{
+    if yes {
+        Status::Done.exit_code()
+    } else {
+        Status::No.exit_code()
     }
 }

@@ -1,7 +1,8 @@
 // Nests of regions as four lists of numbers.
 ghost use Rattle.std.specs.Prelude.{◌≡◌, length, map, None, IfOk};
-ghost use Rattle.ising2d_c.specs.Nests.{AreNestRows, ArePlaceRows, AreRegionRows, AreRowsOf, number_or_none, parent_number, place_radius, place_region, region_radius, rows_fault};
+ghost use Rattle.ising2d_c.specs.Nests.{AreNestRows, ArePlaceRows, AreRegionRows, AreRowsOf, lists_fault, nest_given, nest_lists, parent_number, place_radius, place_region, region_radius};
 
+use sg_draft::{Member, bad_member};
 use sg_model::Refusal;
 use sg_nest::{Nest, Place, Places, Region, Regions};
 use std::alloc::{AllocError, Global};
@@ -19,9 +20,18 @@ pub struct NestRows {
     pub at_radii: Vec<u64>,
 }
 
+/// The same as a caller gives it.
+#[derive(Drop)]
+pub struct GivenNest<'a> {
+    pub parents: &'a [u32],
+    pub radii: &'a [u64],
+    pub regions: &'a [u32],
+    pub at_radii: &'a [u64],
+}
+
 /// The nest that there may be as rows, none where there is none.
 pub fn rows_of_nest(alloc: Global, nest: &Option<Nest>) -> Result<NestRows, AllocError>
-    ensures { IfOk result (λ rows. AreRowsOf nest.now rows.parents.items rows.radii.items rows.regions.items rows.at_radii.items) }
+    ensures { IfOk result (λ rows. AreRowsOf (nest_lists rows.parents.items rows.radii.items rows.regions.items rows.at_radii.items) nest.now) }
 {
     match nest {
         Some(nest) => nest_rows(alloc, nest),
@@ -36,7 +46,7 @@ pub fn rows_of_nest(alloc: Global, nest: &Option<Nest>) -> Result<NestRows, Allo
 
 // The nest as rows.
 fn nest_rows(alloc: Global, nest: &Nest) -> Result<NestRows, AllocError>
-    ensures { IfOk result (λ rows. AreNestRows nest.now rows.parents.items rows.radii.items rows.regions.items rows.at_radii.items) }
+    ensures { IfOk result (λ rows. AreNestRows (nest_lists rows.parents.items rows.radii.items rows.regions.items rows.at_radii.items) nest.now) }
 {
     Ok(NestRows {
         parents: parents_of(alloc, nest.regions.as_slice())?,
@@ -104,21 +114,15 @@ fn radius_of(place: Option<Place>) -> u64
     }
 }
 
-/// The nest of these rows. Whether it is one is not asked.
-pub fn nest_by(
-    alloc: Global,
-    parents: &[u32],
-    radii: &[u64],
-    regions: &[u32],
-    at_radii: &[u64],
-) -> Result<Nest, AllocError>
-    requires radii { length radii.now ≡ length parents.now }
-    requires at_radii { length at_radii.now ≡ length regions.now }
-    ensures { IfOk result (λ nest. AreNestRows nest parents.now radii.now regions.now at_radii.now) }
+/// The nest of these lists. Whether it is one is not asked.
+pub fn nest_by(alloc: Global, given: &GivenNest) -> Result<Nest, AllocError>
+    requires radii { length given.now.radii.now ≡ length given.now.parents.now }
+    requires at_radii { length given.now.at_radii.now ≡ length given.now.regions.now }
+    ensures { IfOk result (AreNestRows (nest_given given.now)) }
 {
     Ok(Nest {
-        regions: regions_by(alloc, parents, radii)?,
-        places: places_by(alloc, regions, at_radii)?,
+        regions: regions_by(alloc, given.parents, given.radii)?,
+        places: places_by(alloc, given.regions, given.at_radii)?,
     })
 }
 
@@ -167,22 +171,17 @@ fn place_by(region: u32, at: u64) -> Option<Place>
     }
 }
 
-/// The first fault of rows of so many entries.
-pub fn refusal_of_rows(
-    parents: usize,
-    radii: usize,
-    regions: usize,
-    at_radii: usize,
-) -> Option<Refusal>
-    ensures value { result ≡ rows_fault parents radii regions at_radii }
-    ensures radii { result ≡ None → radii ≡ parents }
-    ensures at_radii { result ≡ None → at_radii ≡ regions }
+/// The first fault of the lists.
+pub fn refusal_of_lists(given: &GivenNest) -> Option<Refusal>
+    ensures value { result ≡ lists_fault (nest_given given.now) }
+    ensures radii { result ≡ None → length given.now.radii.now ≡ length given.now.parents.now }
+    ensures at_radii { result ≡ None → length given.now.at_radii.now ≡ length given.now.regions.now }
 {
-    if radii != parents {
-        return Some(Refusal::BadMember { place: 12, item: 0 });
+    if given.radii.len() != given.parents.len() {
+        return Some(bad_member(Member::Radii));
     }
-    if at_radii != regions {
-        return Some(Refusal::BadMember { place: 13, item: 0 });
+    if given.at_radii.len() != given.regions.len() {
+        return Some(bad_member(Member::FaceRadii));
     }
     None
 }

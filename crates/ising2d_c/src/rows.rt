@@ -1,6 +1,6 @@
 // Loops as three lists of numbers.
 ghost use Rattle.std.specs.Prelude.{◌≡◌, map, IfOk};
-ghost use Rattle.ising2d_c.specs.Crossing.{AreRows};
+ghost use Rattle.ising2d_c.specs.Crossing.{AreRows, loop_lists};
 
 use sg_check::Loop;
 use std::alloc::{AllocError, Global};
@@ -16,7 +16,7 @@ pub struct Rows {
 
 /// The loops as rows.
 pub fn rows_of(alloc: Global, loops: &[Loop]) -> Result<Rows, AllocError>
-    ensures { IfOk result (λ rows. AreRows loops.now rows.weights.items rows.starts.items rows.bonds.items) }
+    ensures { IfOk result (λ rows. AreRows (loop_lists rows.weights.items rows.starts.items rows.bonds.items) loops.now) }
 {
     let weights = weights_of(alloc, loops)?;
     let mut starts = Vec::new(alloc);

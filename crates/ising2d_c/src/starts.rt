@@ -1,38 +1,27 @@
 // Lists of lists as a caller gives them: for each list the place of its first entry.
 ghost use Rattle.std.specs.Prelude.{◌≡◌, ◌+◌, ◌-◌, ◌<◌, ◌≤◌, ◌^◌, ℕ, drop, length, take, None, IfOk, IfSome};
-ghost use Rattle.ising2d_c.specs.Starts.{DividesEntries, entry, first_fall as first_fall_of, starts_fault};
+ghost use Rattle.ising2d_c.specs.Starts.{DividesEntries, entry, first_fall as first_fall_of, wrong_start as wrong_start_of};
 
-use sg_model::{BondList, Refusal};
+use sg_model::BondList;
 use std::alloc::{AllocError, Global};
 
-/// The first fault of the starts, which stand at this place among the arguments.
-pub fn refusal_of_starts(
-    place: u32,
-    starts: &[usize],
-    items: usize,
-    entries: usize,
-) -> Option<Refusal>
+/// The start that is wrong, where so many entries are to be divided among so many items.
+pub fn wrong_start(starts: &[usize], items: usize, entries: usize) -> Option<usize>
     requires { items < 2 ^ 32 }
-    ensures value { result ≡ starts_fault place starts.now items entries }
+    ensures value { result ≡ wrong_start_of starts.now items entries }
     ensures division { result ≡ None → DividesEntries starts.now items entries }
 {
     if starts.len() != items + 1 {
-        return Some(Refusal::BadMember { place, item: 0 });
+        return Some(0);
     }
     if starts[0] != 0 {
-        return Some(Refusal::BadMember { place, item: 0 });
+        return Some(0);
     }
     if let Some(item) = first_fall(starts) {
-        return Some(Refusal::BadMember {
-            place,
-            item: item as u32,
-        });
+        return Some(item);
     }
     if starts[items] != entries {
-        return Some(Refusal::BadMember {
-            place,
-            item: items as u32,
-        });
+        return Some(items);
     }
     None
 }

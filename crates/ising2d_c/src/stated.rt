@@ -4,16 +4,26 @@ ghost use Rattle.sg_limits.specs.Limits.{input_limit};
 ghost use Rattle.sg_model.specs.Spins.{IsUpOrDown};
 ghost use Rattle.sg_reader.specs.Result.{is_spin_value};
 ghost use Rattle.sg_draft.specs.Tests.{Refuses};
-ghost use Rattle.ising2d_c.specs.Crossing.{AreRows};
+ghost use Rattle.ising2d_c.specs.Crossing.{AreRows, loop_lists};
 ghost use Rattle.ising2d_c.specs.Starts.{DividesEntries, entry};
-ghost use Rattle.ising2d_c.specs.Stated.{States, given_loops_fault, stated_fault, values_fault};
+ghost use Rattle.ising2d_c.specs.Stated.{States, given_loops_fault, loops_of, stated_fault, values_fault};
 ghost use Rattle.sg_model.specs.Faults.{OrNoMemory};
 
-use super::starts::{entries_of, refusal_of_starts};
+use super::starts::{entries_of, wrong_start};
 use sg_check::{Loop, Loops, ResultText};
+use sg_draft::{Member, bad_entry};
 use sg_limits::INPUT_LIMIT;
 use sg_model::{Fault, Refusal, Spins};
 use std::alloc::{AllocError, Global};
+
+/// Loops as a caller gives them: for each its weight, and the place of its first bond with the number of
+/// all behind them; and the bonds of all loops.
+#[derive(Drop)]
+pub struct GivenLoops<'a> {
+    pub weights: &'a [i64],
+    pub starts: &'a [usize],
+    pub bonds: &'a [u32],
+}
 
 /// The energy, the spins and the loops that these numbers state. Whether they are a proof is not asked.
 ///
@@ -24,20 +34,19 @@ pub fn stated_by(
     alloc: Global,
     energy: i64,
     spins: &[i8],
-    weights: &[i64],
-    starts: &[usize],
-    bonds: &[u32],
+    given: &GivenLoops,
 ) -> Result<ResultText, Fault>
-    ensures states { IfOk result (States energy spins.now weights.now starts.now bonds.now) }
+    ensures states { IfOk result (States energy spins.now (loops_of given.now)) }
     ensures few_spins { IfOk result (λ stated. length stated.spins ≤ input_limit) }
     ensures few_loops { IfOk result (λ stated. length stated.loops ≤ input_limit) }
-    ensures refuses { IfErr result (OrNoMemory (Refuses (stated_fault spins.now weights.now starts.now bonds.now))) }
+    ensures refuses { IfErr result (OrNoMemory (Refuses (stated_fault spins.now (loops_of given.now)))) }
 {
     let values = spins_by(alloc, spins)?;
-    if let Some(refusal) = refusal_of_loops(weights.len(), starts, bonds.len()) {
+    let count = given.weights.len();
+    if let Some(refusal) = refusal_of_loops(count, given.starts, given.bonds.len()) {
         return Err(Fault::Refused(refusal));
     }
-    let loops = loops_by(alloc, weights, starts, bonds)?;
+    let loops = loops_by(alloc, given.weights, given.starts, given.bonds)?;
     Ok(ResultText {
         energy,
         spins: values,
@@ -60,10 +69,7 @@ pub fn spins_by(alloc: Global, values: &[i8]) -> Result<Spins, Fault>
     let mut spins = Spins::new(alloc);
     for k in 0..values.len() {
         if !is_spin(&values[k]) {
-            return Err(Fault::Refused(Refusal::BadMember {
-                place: 10,
-                item: k as u32,
-            }));
+            return Err(Fault::Refused(bad_entry(Member::Spins, k)));
         }
         spins.push(values[k])?;
     }
@@ -89,7 +95,10 @@ fn refusal_of_loops(loops: usize, starts: &[usize], bonds: usize) -> Option<Refu
             limit: INPUT_LIMIT as u64,
         });
     }
-    refusal_of_starts(11, starts, loops, bonds)
+    match wrong_start(starts, loops, bonds) {
+        Some(item) => Some(bad_entry(Member::Loops, item)),
+        None => None,
+    }
 }
 
 // The loops of these rows.
@@ -100,7 +109,7 @@ fn loops_by(
     bonds: &[u32],
 ) -> Result<Loops, AllocError>
     requires { DividesEntries starts.now (length weights.now) (length bonds.now) }
-    ensures rows { IfOk result (λ loops. AreRows loops weights.now starts.now bonds.now) }
+    ensures rows { IfOk result (AreRows (loop_lists weights.now starts.now bonds.now)) }
     ensures count { IfOk result (λ loops. length loops ≡ length weights.now) }
 {
     let mut loops = Loops::new(alloc);

@@ -1,179 +1,97 @@
-// Studies of an instance for a caller: what is found is written into the caller's places.
-ghost use Rattle.std.specs.Prelude.{◌≡◌, ◌≢◌, ◌⊎◌, ◌≤◌, [], IfOk, IsErrAnd, IsOkAnd};
-ghost use Rattle.sg_limits.specs.Limits.{sum_limit};
-ghost use Rattle.sg_model.specs.Energy.{weight};
-ghost use Rattle.sg_planar.specs.Fit.{IsFit};
-ghost use Rattle.ising2d_c.specs.Crossing.{AreRows, HandsLoops, Shows};
-ghost use Rattle.ising2d_c.specs.Grounds.{IsClustered, IsCosted, IsGround, IsWallAtSeam};
-ghost use Rattle.ising2d_c.specs.Refusing.{IsToldFault};
+// Studies of a graph: what is found of it, as it crosses to a caller.
+ghost use Rattle.std.specs.Prelude.{◌≡◌, IfOk, IfErr};
+ghost use Rattle.ising2d_c.specs.Crossing.{AreRows, loop_lists};
+ghost use Rattle.ising2d_c.specs.Fitting.{Finds, IsFitFault, IsFitGraph, IsWallFault};
+ghost use Rattle.ising2d_c.specs.Graphs.{numbers_of};
+ghost use Rattle.ising2d_c.specs.Grounds.{IsClustered, IsCosted, IsGround, IsNested, IsWallAtSeam};
+ghost use Rattle.sg_draft.specs.Limits.{large_limits, program_limits};
+ghost use Rattle.ising2d_c.specs.Nests.{AreRowsOf, nest_lists};
 
-use super::crossing::fill;
-use super::refusing::refuse;
+use super::graphs::{Given, fit_graph};
+use super::nests::{NestRows, rows_of_nest};
 use super::rows::{Rows, rows_of};
-use sg_bonds::{clusters, costs};
-use sg_cli::Status;
-use sg_ground::solve;
-use sg_model::{Fault, Spins};
-use sg_planar::Planar;
-use sg_wall::wall;
-use std::alloc::{AllocError, Global};
+use sg_bonds::{CostList, clusters, costs};
+use sg_draft::Limits;
+use sg_ground::{nested_state, solve};
+use sg_model::{ClusterList, Fault, Refusal, Spins};
+use sg_wall::{WallAnswer, wall};
+use std::alloc::Global;
 
-// A ground state as it crosses.
+/// A ground state, and the loops that prove it.
 #[derive(Drop)]
-struct Found {
-    energy: i64,
-    spins: Spins,
-    rows: Rows,
+pub struct Grounded {
+    pub energy: i64,
+    pub spins: Spins,
+    pub rows: Rows,
 }
 
-/// Writes a ground state of the instance, and the loops that prove it; or the line of the fault that
-/// is handed in.
-pub fn ground_into(
-    alloc: Global,
-    given: Result<Planar, Fault>,
-    energy: &mut i64,
-    spins: &mut [i8],
-    weights: &mut [i64],
-    starts: &mut [usize],
-    bonds: &mut [u32],
-    loop_count: &mut usize,
-    bond_count: &mut usize,
-    line: &mut [u8],
-    line_written: &mut usize,
-) -> u8
-    requires { IfOk given (λ p. IsFit p.instance) }
-    ensures found { result ≡ 0 → IsOkAnd given (λ p. IsGround p.instance energy.new (λ s loops. Shows s spins.old spins.new
-        × HandsLoops loops (record {
-          weights_before = weights.old;
-          weights_after = weights.new;
-          starts_before = starts.old;
-          starts_after = starts.new;
-          bonds_before = bonds.old;
-          bonds_after = bonds.new;
-        }) loop_count.new bond_count.new)) }
-    ensures refused { result ≡ 1 → IsErrAnd given (λ fault. IsToldFault fault line.old line.new line_written.new) }
-    ensures codes { (result ≡ 0) ⊎ ((result ≡ 1) ⊎ (result ≡ 6)) }
-    ensures kept { result ≢ 0 → (energy.new ≡ energy.old) × (spins.new ≡ spins.old) × (weights.new ≡ weights.old)
-        × (starts.new ≡ starts.old) × (bonds.new ≡ bonds.old) × (loop_count.new ≡ loop_count.old) × (bond_count.new ≡ bond_count.old) }
-    ensures kept_line { result ≢ 1 → (line.new ≡ line.old) × (line_written.new ≡ line_written.old) }
-{
-    match given {
-        Ok(planar) => match ground(alloc, &planar) {
-            Ok(found) => {
-                *energy = found.energy;
-                fill(found.spins.as_slice(), spins);
-                fill(found.rows.weights.as_slice(), weights);
-                fill(found.rows.starts.as_slice(), starts);
-                fill(found.rows.bonds.as_slice(), bonds);
-                *loop_count = found.rows.weights.len();
-                *bond_count = found.rows.bonds.len();
-                Status::Done.exit_code()
-            }
-            Err(AllocError) => Status::NoMemory.exit_code(),
-        },
-        Err(fault) => refuse(alloc, &fault, line, line_written),
-    }
+/// A ground state, and the nest that proves it, where one was found.
+#[derive(Drop)]
+pub struct Nested {
+    pub energy: i64,
+    pub spins: Spins,
+    pub rows: NestRows,
 }
 
-// A ground state of an instance, with its loops as rows.
-fn ground(alloc: Global, planar: &Planar) -> Result<Found, AllocError>
-    requires { weight planar.now.instance ≤ sum_limit }
-    ensures { IfOk result (λ found. IsGround planar.now.instance found.energy (λ s loops.
-        (found.spins ≡ s) × AreRows loops found.rows.weights.items found.rows.starts.items found.rows.bonds.items)) }
+/// A ground state of the graph of these numbers.
+pub fn ground_of(alloc: Global, given: &Given) -> Result<Grounded, Fault>
+    ensures gives { IfOk result (λ found. Finds (IsFitGraph large_limits (numbers_of given.now)) (λ inst. IsGround inst found.energy (λ s loops.
+        (found.spins ≡ s) × AreRows (loop_lists found.rows.weights.items found.rows.starts.items found.rows.bonds.items) loops))) }
+    ensures refuses { IfErr result (IsFitFault large_limits (numbers_of given.now)) }
 {
-    let answer = solve(alloc, planar)?;
+    let planar = fit_graph(alloc, Limits::large(), given)?;
+    let answer = solve(alloc, &planar)?;
     let rows = rows_of(alloc, answer.loops.as_slice())?;
-    Ok(Found {
+    Ok(Grounded {
         energy: answer.energy,
         spins: answer.spins,
         rows,
     })
 }
 
-/// Writes the energies of the wall at the seam of the instance, which has one; or the line of the
-/// fault that is handed in.
-pub fn wall_into(
-    alloc: Global,
-    given: Result<Planar, Fault>,
-    periodic: &mut i64,
-    antiperiodic: &mut i64,
-    difference: &mut i64,
-    line: &mut [u8],
-    line_written: &mut usize,
-) -> u8
-    requires fit { IfOk given (λ p. IsFit p.instance) }
-    requires seam { IfOk given (λ p. p.instance.seam ≢ []) }
-    ensures found { result ≡ 0 → IsOkAnd given (λ p. IsWallAtSeam p.instance periodic.new antiperiodic.new difference.new) }
-    ensures refused { result ≡ 1 → IsErrAnd given (λ fault. IsToldFault fault line.old line.new line_written.new) }
-    ensures codes { (result ≡ 0) ⊎ ((result ≡ 1) ⊎ (result ≡ 6)) }
-    ensures kept { result ≢ 0 → (periodic.new ≡ periodic.old) × (antiperiodic.new ≡ antiperiodic.old)
-        × (difference.new ≡ difference.old) }
-    ensures kept_line { result ≢ 1 → (line.new ≡ line.old) × (line_written.new ≡ line_written.old) }
+/// A ground state of the graph of these numbers, with its nest.
+pub fn nest_of(alloc: Global, given: &Given) -> Result<Nested, Fault>
+    ensures gives { IfOk result (λ found. Finds (IsFitGraph large_limits (numbers_of given.now)) (λ inst. IsNested inst found.energy (λ s nest.
+        (found.spins ≡ s) × AreRowsOf (nest_lists found.rows.parents.items found.rows.radii.items found.rows.regions.items found.rows.at_radii.items) nest))) }
+    ensures refuses { IfErr result (IsFitFault large_limits (numbers_of given.now)) }
 {
-    match given {
-        Ok(planar) => match wall(alloc, &planar) {
-            Ok(found) => {
-                *periodic = found.periodic;
-                *antiperiodic = found.antiperiodic;
-                *difference = found.difference;
-                Status::Done.exit_code()
-            }
-            Err(AllocError) => Status::NoMemory.exit_code(),
-        },
-        Err(fault) => refuse(alloc, &fault, line, line_written),
-    }
+    let planar = fit_graph(alloc, Limits::large(), given)?;
+    let state = nested_state(alloc, &planar)?;
+    let rows = rows_of_nest(alloc, &state.nest)?;
+    Ok(Nested {
+        energy: state.energy,
+        spins: state.spins,
+        rows,
+    })
 }
 
-/// Writes the cost of each bond of the instance; or the line of the fault that is handed in.
-pub fn costs_into(
-    alloc: Global,
-    given: Result<Planar, Fault>,
-    bond_costs: &mut [i64],
-    line: &mut [u8],
-    line_written: &mut usize,
-) -> u8
-    requires { IfOk given (λ p. IsFit p.instance) }
-    ensures found { result ≡ 0 → IsOkAnd given (λ p. IsCosted p.instance (λ c. Shows c bond_costs.old bond_costs.new)) }
-    ensures refused { result ≡ 1 → IsErrAnd given (λ fault. IsToldFault fault line.old line.new line_written.new) }
-    ensures codes { (result ≡ 0) ⊎ ((result ≡ 1) ⊎ (result ≡ 6)) }
-    ensures kept { result ≢ 0 → bond_costs.new ≡ bond_costs.old }
-    ensures kept_line { result ≢ 1 → (line.new ≡ line.old) × (line_written.new ≡ line_written.old) }
+/// The energies of the wall at the seam of the graph of these numbers.
+pub fn wall_of(alloc: Global, given: &Given) -> Result<WallAnswer, Fault>
+    ensures gives { IfOk result (λ found. Finds (IsFitGraph large_limits (numbers_of given.now))
+        (λ inst. IsWallAtSeam inst found.periodic found.antiperiodic found.difference)) }
+    ensures refuses { IfErr result (IsWallFault large_limits (numbers_of given.now)) }
 {
-    match given {
-        Ok(planar) => match costs(alloc, &planar) {
-            Ok(found) => {
-                fill(found.as_slice(), bond_costs);
-                Status::Done.exit_code()
-            }
-            Err(AllocError) => Status::NoMemory.exit_code(),
-        },
-        Err(fault) => refuse(alloc, &fault, line, line_written),
+    let planar = fit_graph(alloc, Limits::large(), given)?;
+    if planar.instance().seam().is_empty() {
+        return Err(Fault::Refused(Refusal::NoSeam));
     }
+    Ok(wall(alloc, &planar)?)
 }
 
-/// Writes the cluster of each spin of the instance; or the line of the fault that is handed in.
-pub fn clusters_into(
-    alloc: Global,
-    given: Result<Planar, Fault>,
-    names: &mut [u32],
-    line: &mut [u8],
-    line_written: &mut usize,
-) -> u8
-    requires { IfOk given (λ p. IsFit p.instance) }
-    ensures found { result ≡ 0 → IsOkAnd given (λ p. IsClustered p.instance (λ c. Shows c names.old names.new)) }
-    ensures refused { result ≡ 1 → IsErrAnd given (λ fault. IsToldFault fault line.old line.new line_written.new) }
-    ensures codes { (result ≡ 0) ⊎ ((result ≡ 1) ⊎ (result ≡ 6)) }
-    ensures kept { result ≢ 0 → names.new ≡ names.old }
-    ensures kept_line { result ≢ 1 → (line.new ≡ line.old) × (line_written.new ≡ line_written.old) }
+/// The cost of each bond of the graph of these numbers.
+pub fn costs_of(alloc: Global, given: &Given) -> Result<CostList, Fault>
+    ensures gives { IfOk result (λ found. Finds (IsFitGraph program_limits (numbers_of given.now)) (λ inst. IsCosted inst (λ c. found ≡ c))) }
+    ensures refuses { IfErr result (IsFitFault program_limits (numbers_of given.now)) }
 {
-    match given {
-        Ok(planar) => match clusters(alloc, &planar) {
-            Ok(found) => {
-                fill(found.as_slice(), names);
-                Status::Done.exit_code()
-            }
-            Err(AllocError) => Status::NoMemory.exit_code(),
-        },
-        Err(fault) => refuse(alloc, &fault, line, line_written),
-    }
+    let planar = fit_graph(alloc, Limits::of_program(), given)?;
+    Ok(costs(alloc, &planar)?)
+}
+
+/// The cluster of each spin of the graph of these numbers.
+pub fn clusters_of(alloc: Global, given: &Given) -> Result<ClusterList, Fault>
+    ensures gives { IfOk result (λ found. Finds (IsFitGraph program_limits (numbers_of given.now)) (λ inst. IsClustered inst (λ c. found ≡ c))) }
+    ensures refuses { IfErr result (IsFitFault program_limits (numbers_of given.now)) }
+{
+    let planar = fit_graph(alloc, Limits::of_program(), given)?;
+    Ok(clusters(alloc, &planar)?)
 }

@@ -1,5 +1,8 @@
-use Rattle.std.proofs.Common.{◌≡◌, ◌+◌, ◌-◌, arith, List, ℕ, length}
-use Rattle.ising2d_c.proofs.StartLemmas.{all_items, below_last, one_item}
+use Rattle.std.proofs.Common.{◌≡◌, ◌∙◌, ◌+◌, ◌-◌, ◌++◌, ◌∷◌, [], ap, arith, List, ℕ, length, map, sym}
+use Rattle.std.specs.List.{range_with_len}
+use Rattle.std.proofs.lemmas.List.FromFn.{map-range_with_len_more}
+use Rattle.ising2d_c.specs.Graphs.{darts_by}
+use Rattle.ising2d_c.proofs.StartLemmas.{below_last}
 use Rattle.ising2d_c.proofs.graphs.rotation_of.Goals as goal
 
 pub entries_at-requires-clause-last : goal.entries_at-requires-clause-last
@@ -8,10 +11,14 @@ entries_at-requires-clause-last c =
 
 pub loop-spin-preserved : goal.loop-spin-preserved
 loop-spin-preserved c =
-    rw c.in_ok-push.ensures.ok (one_item (λ (list : List ℕ). list) c.loop-spin.rotation c.args.starts.now c.args.darts.now c.args.n c.loop-spin.spin
-    c.entries_at.result.now c.requires c.loop-spin-test.true c.loop-spin.invariant c.entries_at.ensures)
+    let spin = c.loop-spin.spin in
+    let made = darts_by c.args.starts.now c.args.darts.now in
+    c.in_ok-push.ensures.ok
+    ∙ ap (λ (l : List (List ℕ)). l ++ c.entries_at.result.now ∷ []) c.loop-spin.invariant
+    ∙ ap (λ (l : List ℕ). map made (range_with_len 0 spin) ++ l ∷ []) c.entries_at.ensures
+    ∙ sym (map-range_with_len_more made 0 spin spin (omega arith))
 
-pub returns-clause-joined : goal.returns-clause-joined
-returns-clause-joined c =
+pub returns : goal.returns
+returns c =
     let end : c.loop-spin.spin ≡ c.args.n = omega (arith, c.loop-spin-test.false, c.loop-spin.auto.spin-end) in
-    all_items (λ (list : List ℕ). list) c.loop-spin.rotation c.args.starts.now c.args.darts.now c.args.n c.requires (rw end at c.loop-spin.invariant)
+    rw end at c.loop-spin.invariant
