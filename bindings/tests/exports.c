@@ -56,7 +56,7 @@ struct given {
 };
 
 static const int64_t couplings[] = {3, 4, 2, -5};
-static const uint32_t ends[] = {0, 1, 2, 3, 0, 2, 1, 3}, darts[] = {0, 4, 1, 6, 2, 5, 3, 7}, seam[] = {0};
+static const uint32_t ends[] = {0, 1, 2, 3, 0, 2, 1, 3}, darts[] = {0, 4, 1, 6, 2, 5, 7, 3}, seam[] = {0};
 static const size_t dart_starts[] = {0, 2, 4, 6, 8};
 static const uint32_t ring_ends[] = {0, 1, 1, 2, 2, 0}, ring_darts[] = {0, 5, 2, 1, 4, 3}, ring_seam[] = {2};
 static const size_t ring_starts[] = {0, 2, 4, 6};

@@ -1,4 +1,4 @@
-use Rattle.std.proofs.Common.{rules, ◌≡◌, ◌∙◌, ◌^◌, Bool, ℕ, ℤ, List, false, ap, pos, arith, length, sym}
+use Rattle.std.proofs.Common.{rules, ◌≡◌, ◌^◌, Bool, ℕ, ℤ, List, false, pos, arith, length, sym}
 use Rattle.std.specs.Prelude.{slice_index_or, unsigned_abs}
 use Rattle.std.proofs.lemmas.Bool.{ltb-true}
 use Rattle.std.proofs.lemmas.List.Elements.{All-from_get_or}

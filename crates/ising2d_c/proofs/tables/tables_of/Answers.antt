@@ -1,4 +1,4 @@
-use Rattle.std.proofs.Common.{◌≡◌, ◌∙◌, ap, sym, subst}
+use Rattle.std.proofs.Common.{◌∙◌, ap, sym, subst}
 use Rattle.sg_model.specs.Ising.{Ising, bond_count}
 use Rattle.sg_model.specs.WellFormed.{IsInstance}
 use Rattle.ising2d_c.proofs.TableLemmas.{AreCouplings, are-tables, lattice-couplings}
