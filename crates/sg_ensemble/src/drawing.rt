@@ -21,7 +21,13 @@ pub fn drawing_of(alloc: Global, rows: u32, cols: u32) -> Result<Planar, NoMemor
     requires spherical { IsSpherical rows cols }
     ensures { IfOk result (λ p. IsCylinder rows cols p.instance) }
 {
-    let bare = build(alloc, Kind::Cylinder, rows, cols, no_couplings(alloc, rows, cols)?)?;
+    let bare = build(
+        alloc,
+        Kind::Cylinder,
+        rows,
+        cols,
+        no_couplings(alloc, rows, cols)?,
+    )?;
     match Planar::test(alloc, bare) {
         Ok(drawing) => Ok(drawing),
         Err(Fault::NoMemory) => Err(AllocError),

@@ -240,18 +240,36 @@ fn grow_by(
     method: Method,
 ) -> Result<Option<Grown>, NoMemory> {
     let mut engine = Engine::new(alloc, arcs, terminals, method)?;
-    if !run_between(&mut engine, NO_END)? {
+    let found = found_by(alloc, &mut engine, edges);
+    let parts = Parts::of(engine);
+    match found {
+        Ok(Some(found)) => Ok(Some(Grown {
+            finished: found.finished,
+            parts,
+            changes: found.changes,
+        })),
+        Ok(None) => Ok(None),
+        Err(none_left) => Err(none_left),
+    }
+}
+
+// What is kept of regions beside the engine that grew them.
+#[derive(Drop)]
+struct Found {
+    finished: Finished,
+    changes: Changes,
+}
+
+// Runs an engine over so many edges, and reads off what is kept.
+fn found_by(alloc: Global, engine: &mut Engine, edges: usize) -> Result<Option<Found>, NoMemory> {
+    if !run_between(engine, NO_END)? {
         return Ok(None);
     }
-    let mut changes = Changes::new(alloc, &engine, edges, terminals.len())?;
-    match kept(alloc, &engine, &mut changes, edges)? {
-        None => Ok(None),
-        Some(finished) => Ok(Some(Grown {
-            finished,
-            parts: Parts::of(engine),
-            changes,
-        })),
-    }
+    let mut changes = Changes::new(alloc, engine, edges, engine.terminals.len())?;
+    let Some(finished) = kept(alloc, engine, &mut changes, edges)? else {
+        return Ok(None);
+    };
+    Ok(Some(Found { finished, changes }))
 }
 
 // Runs from the terminals that are there when the ends of an edge are these.
