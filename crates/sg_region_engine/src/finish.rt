@@ -98,11 +98,7 @@ impl<'a> Engine<'a> {
     }
 
     /// Lists the pairs in the regions of a list, which is empty then.
-    pub fn pair_within(
-        &self,
-        pairs: &mut Vec<Pair>,
-        open: &mut Vec<Exit>,
-    ) -> Result<(), NoMemory> {
+    pub fn pair_within(&self, pairs: &mut Vec<Pair>, open: &mut Vec<Exit>) -> Result<(), NoMemory> {
         for _ in 0..self.forest.len() {
             let Some(exit) = open.pop() else {
                 break;
