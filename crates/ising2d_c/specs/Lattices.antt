@@ -59,7 +59,8 @@ pub record IsLattice (most : Limits) (number R C : ℕ) (couplings : List ℤ) (
 
 -- the first thing that is wrong with these numbers
 abbrev pub IsLatticeFault : Limits → ℕ → ℕ → ℕ → List ℤ → Fault → Type 0
-IsLatticeFault most number R C couplings fault = OrNoMemory (Refuses (lattice_numbers_fault most number R C couplings)) fault
+IsLatticeFault most number R C couplings fault =
+    OrNoMemory (Refuses (lattice_numbers_fault most number R C couplings)) fault
 
 -- four lists: two ends for each bond, the darts of each spin from its start on, and the bonds of the seam
 pub record TableLists : Type 0 where

@@ -12,7 +12,7 @@ use Rattle.sg_json.specs.Text.{is_object_text}
 use Rattle.sg_json.specs.ReadJson.{ReadsJson, RefusesJson}
 use Rattle.sg_planar.specs.Fit.{IsFit, IsUnfit}
 
--- the text gives the instance: as one JSON object where it begins as one, and else by its records, of which none is left
+-- the text gives the instance: as one JSON object where it begins as one, and else by its records, with none left
 pub data GivesInstance (bytes : List ℕ) (inst : Ising) : Type 0 where
   ByJson : is_object_text bytes ≡ true → ReadsJson bytes inst → GivesInstance bytes inst
   ByRecords : is_object_text bytes ≡ false → ReadsInstance (kept_of bytes) inst [] → GivesInstance bytes inst
@@ -26,7 +26,8 @@ pub record GivesFit (bytes : List ℕ) (inst : Ising) : Type 0 where
 pub data RefusesText (bytes : List ℕ) (refusal : Refusal) : Type 0 where
   OfJson : is_object_text bytes ≡ true → RefusesJson bytes refusal → RefusesText bytes refusal
   OfRecords : is_object_text bytes ≡ false
-      → RefusesAlone (ReadsInstance (kept_of bytes)) (RefusesInstance (kept_of bytes)) refusal → RefusesText bytes refusal
+      → RefusesAlone (ReadsInstance (kept_of bytes)) (RefusesInstance (kept_of bytes)) refusal
+      → RefusesText bytes refusal
   AtFitness : (inst : Ising) → GivesInstance bytes inst → IsUnfit inst refusal → RefusesText bytes refusal
 
 -- the records of the text give the instance, those behind it what a proof states, and none is left

@@ -150,7 +150,8 @@ edge-taken old new r m many is good same_nodes same_terms same_entries added sou
         edges = added ∙ ap (λ (l : List Edge). l ++ edge_of r ∷ []) h.edges ∙ sym (edges_in-more body r is);
         few = omega (arith, all, count, many, room);
         joined = rw same_nodes (All-same (IsEdge old.nodes) new.edges (old.edges ++ edge_of r ∷ []) added
-            (All-append (IsEdge old.nodes) old.edges (edge_of r ∷ []) h.joined (All-cons (IsEdge old.nodes) (edge_of r) [] sound (All-nil (IsEdge old.nodes)))));
+            (All-append (IsEdge old.nodes) old.edges (edge_of r ∷ []) h.joined (All-cons (IsEdge old.nodes) (edge_of r) [] sound
+            (All-nil (IsEdge old.nodes)))));
         entries = same_entries ∙ h.entries ∙ sym (entries_given-other body r (edge-no_term r is));
       };
 }

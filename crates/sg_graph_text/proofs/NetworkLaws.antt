@@ -13,7 +13,8 @@ use Rattle.sg_graph_text.specs.Network.{AtReach, AtRecords, AtWeight, IsTooHeavy
 use Rattle.sg_model.specs.Faults.{OrNoMemory}
 
 -- what refuses the records refuses the network
-pub alone-fault : (terms : Bool) (bytes : List ℕ) (e : Fault) → OrNoMemory (RefusesAlone (ReadsGraph terms (kept_of bytes)) (RefusesGraph terms (kept_of bytes))) e
+pub alone-fault : (terms : Bool) (bytes : List ℕ) (e : Fault)
+    → OrNoMemory (RefusesAlone (ReadsGraph terms (kept_of bytes)) (RefusesGraph terms (kept_of bytes))) e
     → OrNoMemory (RefusesNetwork terms bytes) e
 alone-fault terms bytes (Refused x) bad = AtRecords bad
 alone-fault terms bytes NoMemory bad = tt

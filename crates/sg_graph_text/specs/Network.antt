@@ -42,7 +42,7 @@ pub record GivesNetwork (terms : Bool) (bytes : List ℕ) (g : Graph) (terminals
   pub light : total_weight g ≤ sum_limit
   pub connected : IsConnectedWeb g
 
--- the first fault of a text: of its records, or a record that is left, then of the weights, then of the graph as a whole
+-- the first fault of a text: of its records or of one that is left, then of the weights, then of the whole graph
 pub data RefusesNetwork (terms : Bool) (bytes : List ℕ) (refusal : Refusal) : Type 0 where
   AtRecords : RefusesAlone (ReadsGraph terms (kept_of bytes)) (RefusesGraph terms (kept_of bytes)) refusal
       → RefusesNetwork terms bytes refusal

@@ -49,13 +49,15 @@ pub lattice-said : (kind : Kind) (d : Data) (rows cols : ℕ) (js : List ℤ) (s
     → seam ≡ option_map indices_of (get (codes "seam") d)
     → reseamed seam (lattice kind rows cols js) ≡ drafted (OfLattice (lattice_draft kind d))
 lattice-said kind d rows cols js seam r c fit j apart s =
-    let list : js ≡ _ = j ∙ sym (sound (wrong_list entry.Coupling (member_list (codes "couplings") d)) [] (map value_number (items_at (codes "couplings") d)) fit) in
+    let list : js ≡ _ = j ∙ sym (sound (wrong_list entry.Coupling (member_list (codes "couplings") d)) []
+    (map value_number (items_at (codes "couplings") d)) fit) in
     let cut : seam ≡ _ = s ∙ sym (sound (wrong_seam (get (codes "seam") d)) None (option_map indices_of (get (codes "seam") d)) apart) in
     λ i. reseamed (cut i) (lattice kind (unwrap_or (sym r i) 0) (unwrap_or (sym c i) 0) (list i))
 
 -- the tests of a general instance, of what the code counts
 pub general-tests : (most : Limits) (d : Data)
-    → general_draft_fault most (size_at (codes "n") d) (counted (general_draft d).bonds) (wrong_entry (general_draft d).rotation) (wrong_entry (general_draft d).seam)
+    → general_draft_fault most (size_at (codes "n") d) (counted (general_draft d).bonds) (wrong_entry (general_draft d).rotation)
+    (wrong_entry (general_draft d).seam)
     ≡ general_draft_fault most (size_at (codes "n") d)
     (unless (wrong_list (entry.Bond (member_spins d)) (member_list (codes "bonds") d)) (length (items_at (codes "bonds") d)))
     (wrong_rotation (member_spins d) (member_list (codes "rotation") d)) (wrong_seam (get (codes "seam") d))
@@ -76,7 +78,8 @@ pub general-said : (d : Data) (n : ℕ) (bonds : List Bond) (rotation : List (Li
     → seam ≡ option_map indices_of (get (codes "seam") d)
     → record { n = n; bonds = bonds; rotation = rotation; seam = unwrap_or seam [] } ≡ drafted (OfGeneral (general_draft d))
 general-said d n bonds rotation seam spins b turned r apart s =
-    let lists : rotation ≡ _ = r ∙ sym (sound (wrong_rotation (member_spins d) (member_list (codes "rotation") d)) [] (map indices_of (items_at (codes "rotation") d)) turned) in
+    let lists : rotation ≡ _ = r ∙ sym (sound (wrong_rotation (member_spins d) (member_list (codes "rotation") d)) []
+    (map indices_of (items_at (codes "rotation") d)) turned) in
     let cut : seam ≡ _ = s ∙ sym (sound (wrong_seam (get (codes "seam") d)) None (option_map indices_of (get (codes "seam") d)) apart) in
     λ i. record { n = unwrap_or (sym spins i) 0; bonds = b i; rotation = lists i; seam = unwrap_or (cut i) [] }
 

@@ -72,7 +72,8 @@ read_seam seam = unless (wrong_seam seam) (option_map indices_of seam)
 
 abbrev pub read_couplings : Data → Read (List ℤ)
 read_couplings d =
-    unless (wrong_list entry.Coupling (member_list (codes "couplings") d)) (map value_number (items_at (codes "couplings") d))
+    unless (wrong_list entry.Coupling (member_list (codes "couplings") d))
+    (map value_number (items_at (codes "couplings") d))
 
 abbrev pub read_bonds : ℕ → Data → Read (List Bond)
 read_bonds n d =

@@ -144,7 +144,8 @@ module _ {S : Type 0} (tests : S → TestTable) (holds : S → List Kept → S �
       WithoutEnd (subst (λ (l : List Kept). IsBody (tests start) l) (sym same) sf.is_body) refl nothing
 
 -- at the `end` a test fails, or memory is wanting for it
-pub end-fault : {S : Type 0} (tests : S → TestTable) (holds : S → List Kept → S → Type 0) (start : S) (all : List Kept) (now : S) (last : Kept) (rest : List Kept)
+pub end-fault : {S : Type 0} (tests : S → TestTable) (holds : S → List Kept → S → Type 0) (start : S)
+    (all : List Kept) (now : S) (last : Kept) (rest : List Kept)
     (h : HoldsToEnd tests holds start all now last rest) (e : Fault)
     → OrNoMemory (Refuses (tests start h.body last)) e → Fails (RefusesRecords (tests start) all) all rest e
 end-fault tests holds start all now last rest h e bad = record-fault (tests start) all h.body last rest e h.ended.split h.ended.is_body bad

@@ -1,4 +1,4 @@
--- Which instance records give, or why they are refused: the first test that a record fails, in the order of the records.
+-- Which instance records give, or why they are refused: the first test that one fails, in the order of the records.
 use Rattle.std.specs.Prelude.{◌≡◌, List, [], ◌∷◌, Some, None}
 use Rattle.sg_model.specs.declared.refusal.Refusal.{Refusal}
 use Rattle.sg_model.specs.declared.refusal.Refusal.TheVariants.{Unended}

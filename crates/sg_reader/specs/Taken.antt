@@ -14,7 +14,8 @@ pub record HoldsSome {S : Type 0} (holds : S → List Kept → S → Type 0) (no
   pub held : holds start body now
 
 -- behind records that gave `old` the next one passes its test, and with it they give `new`
-pub record TakesNext {S : Type 0} (tests : S → TestTable) (holds : S → List Kept → S → Type 0) (old : S) (r : Kept) (new : S)
+pub record TakesNext {S : Type 0} (tests : S → TestTable) (holds : S → List Kept → S → Type 0)
+    (old : S) (r : Kept) (new : S)
     : Type 0 where
   pub passes : (start : S) (body : List Kept) → holds start body old → tests start body r ≡ None
   pub goes_on : (start : S) (body : List Kept) → holds start body old → holds start (body ++ r ∷ []) new

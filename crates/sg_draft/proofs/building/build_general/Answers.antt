@@ -9,12 +9,14 @@ use Rattle.sg_draft.proofs.building.build_general.Goals as goal
 
 pub new-requires-clause-joined : goal.new-requires-clause-joined
 new-requires-clause-joined c =
-    let apart : self_fault c.args.bonds ≡ None = ap self_fault (sym c.as_slice.ensures) ∙ ap (λ (o : Option ℕ). option_map (λ k. SelfBond k) o) (sym c.in_default.ensures.first) in
+    let apart : self_fault c.args.bonds ≡ None = ap self_fault (sym c.as_slice.ensures)
+    ∙ ap (λ (o : Option ℕ). option_map (λ k. SelfBond k) o) (sym c.in_default.ensures.first) in
     joined c.args.n c.args.bonds c.requires.among apart
 
 pub returns-clause-refused : goal.returns-clause-refused
 returns-clause-refused c =
-    let apart : self_fault c.args.bonds ≡ None = ap self_fault (sym c.as_slice.ensures) ∙ ap (λ (o : Option ℕ). option_map (λ k. SelfBond k) o) (sym c.in_default.ensures.first) in
+    let apart : self_fault c.args.bonds ≡ None = ap self_fault (sym c.as_slice.ensures)
+    ∙ ap (λ (o : Option ℕ). option_map (λ k. SelfBond k) o) (sym c.in_default.ensures.first) in
     let n = c.args.n in
     let bonds = c.args.bonds in
     let rotation = c.args.rotation in

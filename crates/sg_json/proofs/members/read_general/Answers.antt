@@ -112,7 +112,8 @@ returns-clause-gives c =
     let apart = IfOk-weaker c.build_general.result _ (λ inst. draft_fault program_limits (OfGeneral (general_draft d)) ≡ None)
     (λ inst none. general-none program_limits (general_draft d) numbers ∙ ap self_fault (sym bonds) ∙ none) c.build_general.ensures.apart in
     both-ok c.build_general.result _ _ _ (λ inst pass whole. record { passes = pass; value = whole.0 ∙ said; instance = whole.1 }) apart
-    (both-ok c.build_general.result _ _ (λ inst. (inst ≡ _) × IsInstance inst) (λ inst is whole. (is, whole)) c.build_general.ensures.ok c.build_general.ensures.well_formed)
+    (both-ok c.build_general.result _ _ (λ inst. (inst ≡ _) × IsInstance inst)
+    (λ inst is whole. (is, whole)) c.build_general.ensures.ok c.build_general.ensures.well_formed)
 
 pub returns-clause-fault : goal.returns-clause-fault
 returns-clause-fault c =

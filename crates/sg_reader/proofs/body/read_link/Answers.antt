@@ -10,7 +10,8 @@ use Rattle.sg_reader.proofs.body.read_link.Goals as goal
 
 pub returns-then-len-ne4-clause-refused : goal.returns-then-len-ne4-clause-refused
 returns-then-len-ne4-clause-refused c =
-    link_fault-shape c.args.range c.args.n c.args.row.now (λ e. c.if-len-ne4.true (c.len.ensures.value ∙ e)) ∙ ap (λ (k : ℕ). Some (BadShape k)) (sym c.at.ensures.value)
+    link_fault-shape c.args.range c.args.n c.args.row.now (λ e. c.if-len-ne4.true (c.len.ensures.value ∙ e))
+    ∙ ap (λ (k : ℕ). Some (BadShape k)) (sym c.at.ensures.value)
 
 pub returns-in_err-u-clause-refused : goal.returns-in_err-u-clause-refused
 returns-in_err-u-clause-refused c =

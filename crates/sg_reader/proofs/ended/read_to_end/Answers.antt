@@ -17,14 +17,16 @@ pub returns-then-begins-clause-ended : goal.returns-then-begins-clause-ended
 returns-then-begins-clause-ended g c =
     let next = rw c.if-branch.true at c.in_ok-next.ensures.found in
     let end : says_end c.next.new.row ≡ true = sym c.begins.ensures ∙ c.if-begins.true in
-    taken-end g.B.Gather.tests g.B.Gather.holds c.args.body.now c.args.rows.now c.loop-row.rows c.loop-row.body c.loop-row.invariant c.next.new.row c.next.new.self
+    taken-end g.B.Gather.tests g.B.Gather.holds c.args.body.now c.args.rows.now c.loop-row.rows c.loop-row.body c.loop-row.invariant c.next.new.row
+    c.next.new.self
     next end
 
 pub returns-in_err-take-clause-fault : goal.returns-in_err-take-clause-fault
 returns-in_err-take-clause-fault g c =
     let p = err_from_is_err_and c.from_residual-in_err-take.result c.from_residual-in_err-take.ensures.1 in
     let next = rw c.if-branch.true at c.in_ok-next.ensures.found in
-    rw (p.1, p.2) (taken-fault g.B.Gather.tests g.B.Gather.holds c.args.body.now c.args.rows.now c.loop-row.rows c.loop-row.body c.loop-row.invariant c.next.new.row
+    rw (p.1, p.2) (taken-fault g.B.Gather.tests g.B.Gather.holds c.args.body.now c.args.rows.now c.loop-row.rows c.loop-row.body c.loop-row.invariant
+    c.next.new.row
     c.next.new.self c.in_err-take.field-0.0 next c.in_err-take.ensures.fault)
 
 pub take-requires-clause-held : goal.take-requires-clause-held
@@ -40,4 +42,5 @@ loop-row-preserved g c =
 pub returns-clause-fault : goal.returns-clause-fault
 returns-clause-fault g c =
     let none = rw c.if-branch.false at c.in_ok-next.ensures.found in
-    taken-without g.B.Gather.tests g.B.Gather.holds c.args.body.now c.args.rows.now c.loop-row.rows c.loop-row.body c.loop-row.invariant c.next.new.self none.0 none.1
+    taken-without g.B.Gather.tests g.B.Gather.holds c.args.body.now c.args.rows.now c.loop-row.rows c.loop-row.body c.loop-row.invariant
+    c.next.new.self none.0 none.1
