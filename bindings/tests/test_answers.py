@@ -339,8 +339,10 @@ class Batches(unittest.TestCase):
         answers.close()
 
 
+# What runs without a terminal, as behind `nohup`, may have been told to pass over the interrupt.
 LONG = """
-import ising2d, sys
+import ising2d, signal, sys
+signal.signal(signal.SIGINT, signal.default_int_handler)
 lattice = ising2d.draw("uniform", 1, "square", 45, 45)
 print("go", flush=True)
 try:
