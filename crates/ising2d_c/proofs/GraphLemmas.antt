@@ -14,7 +14,8 @@ use Rattle.ising2d_c.specs.Starts.{wrong_start}
 use Rattle.ising2d_c.specs.Graphs.{Numbers, bond_by, bonds_by, graph_draft, lists_by, wrong_bond}
 
 -- bonds that pass are among the spins
-pub bonds-among : (n : ℕ) (ends : List ℕ) (js : List ℤ) → ((k : ℕ) → k < length js → is_among n (bond_by ends js k) ≡ true) → All (IsAmong n) (bonds_by ends js)
+pub bonds-among : (n : ℕ) (ends : List ℕ) (js : List ℤ) → ((k : ℕ) → k < length js → is_among n (bond_by ends js k) ≡ true)
+    → All (IsAmong n) (bonds_by ends js)
 bonds-among n ends js pass =
     let none : Bond = record { u = 0; v = 0; j = pos 0 } in
     let count = length-map-range_with_len (bond_by ends js) 0 (length js) in
@@ -49,7 +50,8 @@ module _ (most : Limits) (g : Numbers) where
   graph-some x bad = general-some most parts x (same ∙ bad)
 
   -- behind those that pass each bond is tested
-  pub graph-none : front_tests ≡ None → wrong_bond g.n g.ends g.couplings ≡ None → draft_fault most (graph_draft g) ≡ self_fault (bonds_by g.ends g.couplings)
+  pub graph-none : front_tests ≡ None → wrong_bond g.n g.ends g.couplings ≡ None
+      → draft_fault most (graph_draft g) ≡ self_fault (bonds_by g.ends g.couplings)
   graph-none pass good =
       general-none most parts (same ∙ pass) ∙ ap (λ (wrong : Option ℕ). self_fault (value_or [] (unless wrong (bonds_by g.ends g.couplings)))) good
 

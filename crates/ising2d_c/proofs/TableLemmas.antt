@@ -64,7 +64,8 @@ pub record AreCouplings (bonds : List Bond) (couplings : List ℤ) : Type 0 wher
   pub each : (k : ℕ) → k < length bonds → (get_or bonds k no_bond).j ≡ slice_index_or couplings k (pos 0)
 
 -- a bond by its ends and its coupling
-bond-back : (bonds : List Bond) (js : List ℤ) (k : ℕ) → AreCouplings bonds js → k < length bonds → bond_by (flat_map two bonds) js k ≡ get_or bonds k no_bond
+bond-back : (bonds : List Bond) (js : List ℤ) (k : ℕ) → AreCouplings bonds js → k < length bonds
+    → bond_by (flat_map two bonds) js k ≡ get_or bonds k no_bond
 bond-back bonds js k coupled low =
     let b = get_or bonds k no_bond in
     same-bond (entry (flat_map two bonds) (2 * k)) b.u (entry (flat_map two bonds) (2 * k + 1)) b.v (slice_index_or js k (pos 0)) b.j
@@ -181,7 +182,8 @@ no-self n bonds joined =
     ne_eqb (get_or bonds k no_bond).u (get_or bonds k no_bond).v is.ends_differ)) refl
 
 -- the numbers of an instance within the limits pass theirs
-numbers-pass : (most : Limits) (n m : ℕ) → 1 ≤ n → n ≤ most.spins → m ≤ most.bonds → (ends : List ℕ) (js : List ℤ) (starts darts seam : List ℕ)
+numbers-pass : (most : Limits) (n m : ℕ) → 1 ≤ n → n ≤ most.spins → m ≤ most.bonds
+    → (ends : List ℕ) (js : List ℤ) (starts darts seam : List ℕ)
     → length js ≡ m → wrong_bond n ends js ≡ None → wrong_start starts n (length darts) ≡ None
     → front_tests most (numbers n ends js starts darts seam) ≡ None
 numbers-pass most n m some few small ends js starts darts seam count good begun =

@@ -72,7 +72,8 @@ pub record IsJudged (Says : ResultText → Type 0) (inst : Ising) (verdict : Ver
   pub least : verdict ≡ Yes → IsGroundState inst stated.spins
 
 -- its line has crossed, and its status
-pub record Judges (Says : ResultText → Type 0) (before after : List ℕ) (written code : ℕ) (inst : Ising) : Type 0 where
+pub record Judges (Says : ResultText → Type 0) (before after : List ℕ) (written code : ℕ)
+    (inst : Ising) : Type 0 where
   pub verdict : Verdict
   pub judged : IsJudged Says inst verdict
   pub line : Fills (verdict_text verdict) before after written

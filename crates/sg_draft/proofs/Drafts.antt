@@ -63,7 +63,8 @@ both-ok (Ok x) P Q R f p q = f x p q
 both-ok (Err e) P Q R f p q = tt
 
 -- behind a test that passes a refusal of the instance is the first fault
-pub behind-test : (test : Option Refusal) (inst : Ising) (e : Fault) → test ≡ None → OrNoMemory (IsRefusalOf inst) e → OrNoMemory (IsFirstFault test inst) e
+pub behind-test : (test : Option Refusal) (inst : Ising) (e : Fault) → test ≡ None → OrNoMemory (IsRefusalOf inst) e
+    → OrNoMemory (IsFirstFault test inst) e
 behind-test test inst (Refused x) pass bad = inr (pass, bad)
 behind-test test inst NoMemory pass bad = tt
 

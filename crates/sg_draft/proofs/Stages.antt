@@ -29,7 +29,8 @@ pub sizes-read : (most : Limits) (kind : Kind) (r c : ℕ) → is_number_from 1 
 sizes-read most kind r c rows cols = rw (rows, cols) (one-test (many_spins_fault most (r * c)))
 
 -- a number of spins that is missing or none is refused
-pub spins-wrong : (most : Limits) (spins : Option ℕ) → is_number_from 1 spins ≡ false → spin_count_fault most spins ≡ Some (bad_member member.SpinCount)
+pub spins-wrong : (most : Limits) (spins : Option ℕ) → is_number_from 1 spins ≡ false
+    → spin_count_fault most spins ≡ Some (bad_member member.SpinCount)
 spins-wrong most spins bad = rw bad refl
 
 -- a number of spins that is read may be too large alone

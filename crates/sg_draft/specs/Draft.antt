@@ -38,7 +38,8 @@ pub data Draft : Type 0 where
   OfGeneral : GeneralDraft → Draft
 
 -- the tests of a lattice: its size, its lists, and how many couplings it has
-abbrev pub lattice_draft_fault : Limits → Kind → Option ℕ → Option ℕ → Read ℕ → Option ℕ → Option Refusal
+abbrev pub lattice_draft_fault : Limits → Kind → Option ℕ → Option ℕ → Read ℕ → Option ℕ
+    → Option Refusal
 lattice_draft_fault most kind rows cols couplings wrong_seam = first_of (
     lattice_size_fault most kind rows cols
     ∷ member_fault member.Couplings (wrong_entry couplings)

@@ -110,7 +110,8 @@ entries_given-other body r other = rw (find-append says_term body (r ∷ [])) (r
     by (Some q) = refl
 
 -- nothing was read yet
-pub holds-none : (state : GraphBody) → 1 ≤ state.nodes → state.nodes ≤ spin_limit → state.edges ≡ [] → state.entries ≡ None → HoldsGraph state [] state
+pub holds-none : (state : GraphBody) → 1 ≤ state.nodes → state.nodes ≤ spin_limit → state.edges ≡ [] → state.entries ≡ None
+    → HoldsGraph state [] state
 unfolding edges_in entries_given
 holds-none state some few none no_entries =
     let count = ap length none in
@@ -157,7 +158,8 @@ edge-taken old new r m many is good same_nodes same_terms same_entries added sou
 }
 
 -- an `edge` is refused
-pub edge-refused : (old : GraphBody) (r : Kept) (m : ℕ) (x : Refusal) → m ≡ length old.edges → says_edge r ≡ true → edge_fault old.nodes m r ≡ Some x
+pub edge-refused : (old : GraphBody) (r : Kept) (m : ℕ) (x : Refusal) → m ≡ length old.edges → says_edge r ≡ true
+    → edge_fault old.nodes m r ≡ Some x
     → RefusesNext (λ s. body_fault s.terms s.nodes) HoldsGraph old r (Refused x)
 edge-refused old r m x many is bad = record { refused = λ start body h. edge-tested old r m many is start body h ∙ bad }
 
@@ -215,7 +217,8 @@ end-tested now r end start body h =
     ∙ ap (λ (n : ℕ). graph_end_fault n (unwrap_or now.entries []) r) (sym h.nodes)
 
 -- a bare `end` behind good terminals passes
-pub end-passes : (now : GraphBody) (r : Kept) → says_end r ≡ true → bare_end_fault r ≡ None → terminals_fault now.nodes (unwrap_or now.entries []) ≡ None
+pub end-passes : (now : GraphBody) (r : Kept) → says_end r ≡ true → bare_end_fault r ≡ None
+    → terminals_fault now.nodes (unwrap_or now.entries []) ≡ None
     → (start : GraphBody) (body : List Kept) → HoldsGraph start body now → body_fault start.terms start.nodes body r ≡ None
 end-passes now r end bare good start body h = end-tested now r end start body h ∙ rw (bare, good) refl
 
@@ -236,7 +239,8 @@ pub graph-held : (now : GraphBody) (list : List ℕ) → list ≡ terminals_of n
     → record { nodes = now.nodes; edges = now.edges; terminals = list } ≡ body_graph start.nodes body
 unfolding body_graph
 graph-held now list value start body h =
-    let same : list ≡ terminals_of now.nodes (entries_in body) = value ∙ ap (λ (o : Option (List ℕ)). terminals_of now.nodes (unwrap_or o [])) h.entries in
+    let same : list ≡ terminals_of now.nodes (entries_in body) = value
+    ∙ ap (λ (o : Option (List ℕ)). terminals_of now.nodes (unwrap_or o [])) h.entries in
     rw (← h.nodes) (λ i. record { nodes = now.nodes; edges = h.edges i; terminals = same i })
 
 -- what is kept makes a graph within the limits

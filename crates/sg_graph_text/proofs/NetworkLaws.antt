@@ -20,12 +20,14 @@ alone-fault terms bytes (Refused x) bad = AtRecords bad
 alone-fault terms bytes NoMemory bad = tt
 
 -- too heavy a graph refuses the network
-pub weight-fault : (terms : Bool) (bytes : List ℕ) (text : GraphText) (x : Refusal) → ReadsGraph terms (kept_of bytes) text [] → IsTooHeavy (graph_in text) x
+pub weight-fault : (terms : Bool) (bytes : List ℕ) (text : GraphText) (x : Refusal) → ReadsGraph terms (kept_of bytes) text []
+    → IsTooHeavy (graph_in text) x
     → OrNoMemory (RefusesNetwork terms bytes) (Refused x)
 weight-fault terms bytes text x gives bad = AtWeight text gives bad
 
 -- a graph that is not connected refuses the network
-pub reach-fault : (terms : Bool) (bytes : List ℕ) (text : GraphText) (g : Graph) (e : Fault) → ReadsGraph terms (kept_of bytes) text [] → g ≡ graph_in text
+pub reach-fault : (terms : Bool) (bytes : List ℕ) (text : GraphText) (g : Graph) (e : Fault) → ReadsGraph terms (kept_of bytes) text []
+    → g ≡ graph_in text
     → total_weight g ≤ sum_limit → OrNoMemory (IsUnjoined g) e → OrNoMemory (RefusesNetwork terms bytes) e
 reach-fault terms bytes text g (Refused x) gives same light bad = AtReach text gives (subst (λ (h : Graph). total_weight h ≤ sum_limit) same light)
     (subst (λ (h : Graph). IsUnjoined h x) same bad)

@@ -36,7 +36,8 @@ unfolding graph_fault
 size-fault terms all r rest e split bad = first-fault (graph_fault terms) all r rest e split bad
 
 -- the tests of the body are those of the graph
-tests-graph : (terms : Bool) (n : ℕ) (start : GraphBody) → start.terms ≡ terms → start.nodes ≡ n → body_fault start.terms start.nodes ≡ body_fault terms n
+tests-graph : (terms : Bool) (n : ℕ) (start : GraphBody) → start.terms ≡ terms → start.nodes ≡ n
+    → body_fault start.terms start.nodes ≡ body_fault terms n
 tests-graph terms n start allowed nodes = ap₂ body_fault allowed nodes
 
 -- what refuses a record behind the first refuses the body

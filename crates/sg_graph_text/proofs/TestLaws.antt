@@ -33,5 +33,6 @@ pub edge_fault-link : (n m : ℕ) (r : Kept) (x : Refusal) → link_fault (at_le
 edge_fault-link n m r x bad = rw bad refl
 
 -- an edge with good numbers is refused where it is one too many alone
-pub edge_fault-room : (n m : ℕ) (r : Kept) (test : Option Refusal) → link_fault (at_least 0) n r ≡ None → room_fault m ≡ test → edge_fault n m r ≡ test
+pub edge_fault-room : (n m : ℕ) (r : Kept) (test : Option Refusal) → link_fault (at_least 0) n r ≡ None → room_fault m ≡ test
+    → edge_fault n m r ≡ test
 edge_fault-room n m r test good room = rw good (ap (λ (o : Option Refusal). option_or o None) room ∙ one-test test)

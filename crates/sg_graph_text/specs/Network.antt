@@ -48,5 +48,6 @@ pub data RefusesNetwork (terms : Bool) (bytes : List ℕ) (refusal : Refusal) : 
       → RefusesNetwork terms bytes refusal
   AtWeight : (text : GraphText) → ReadsGraph terms (kept_of bytes) text [] → IsTooHeavy (graph_in text) refusal
       → RefusesNetwork terms bytes refusal
-  AtReach : (text : GraphText) → ReadsGraph terms (kept_of bytes) text [] → total_weight (graph_in text) ≤ sum_limit
+  AtReach : (text : GraphText) → ReadsGraph terms (kept_of bytes) text []
+      → total_weight (graph_in text) ≤ sum_limit
       → IsUnjoined (graph_in text) refusal → RefusesNetwork terms bytes refusal

@@ -97,7 +97,8 @@ pub without-first : (fault : TestTable) (all rest : List Kept) → all ≡ [] �
 without-first fault all rest none nothing = WithoutEnd (subst (λ (l : List Kept). IsBody fault l) (sym none) (IsBody-none fault)) refl nothing
 
 -- the records so far were taken, and the others are left
-pub record TakenSoFar {S : Type 0} (tests : S → TestTable) (holds : S → List Kept → S → Type 0) (start : S) (all left : List Kept) (now : S) : Type 0 where
+pub record TakenSoFar {S : Type 0} (tests : S → TestTable) (holds : S → List Kept → S → Type 0) (start : S) (all left : List Kept)
+    (now : S) : Type 0 where
   pub body : List Kept
   pub split : all ≡ body ++ left
   pub is_body : IsBody (tests start) body

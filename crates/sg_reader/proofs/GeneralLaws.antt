@@ -39,7 +39,8 @@ pub bond_fault-link : (n m : ℕ) (r : Kept) (x : Refusal) → link_fault any_nu
 bond_fault-link n m r x bad = rw bad refl
 
 -- a bond with good numbers is tested by its ends
-pub bond_fault-ends : (n m : ℕ) (r : Kept) (test : Option Refusal) → link_fault any_number n r ≡ None → ends_fault (size_in r 1) (size_in r 2) m ≡ test
+pub bond_fault-ends : (n m : ℕ) (r : Kept) (test : Option Refusal) → link_fault any_number n r ≡ None
+    → ends_fault (size_in r 1) (size_in r 2) m ≡ test
     → bond_fault n m r ≡ test
 bond_fault-ends n m r test good ends = rw good (ap (λ (o : Option Refusal). option_or o None) ends ∙ one-test test)
 
@@ -228,7 +229,8 @@ bond-tested old r m many is start body h =
 
 -- a `bond` is taken
 pub bond-taken : (old new : GeneralBody) (r : Kept) (m : ℕ) → m ≡ length old.bonds → says_bond r ≡ true → bond_fault old.n m r ≡ None
-    → new.n ≡ old.n → new.bonds ≡ old.bonds ++ bond_of r ∷ [] → new.rotation ≡ old.rotation → new.seen.items ≡ old.seen.items → new.seam ≡ old.seam
+    → new.n ≡ old.n → new.bonds ≡ old.bonds ++ bond_of r ∷ [] → new.rotation ≡ old.rotation → new.seen.items ≡ old.seen.items
+    → new.seam ≡ old.seam
     → IsBond old.n (bond_of r) → m < bond_limit → TakesNext (λ s. general_fault s.n) HoldsGeneral old r new
 bond-taken old new r m many is good same added lists marks cut sound room = record {
   passes = λ start body h. bond-tested old r m many is start body h ∙ good;
@@ -250,7 +252,8 @@ bond-taken old new r m many is good same added lists marks cut sound room = reco
 }
 
 -- a `bond` is refused
-pub bond-refused : (old : GeneralBody) (r : Kept) (m : ℕ) (x : Refusal) → m ≡ length old.bonds → says_bond r ≡ true → bond_fault old.n m r ≡ Some x
+pub bond-refused : (old : GeneralBody) (r : Kept) (m : ℕ) (x : Refusal) → m ≡ length old.bonds → says_bond r ≡ true
+    → bond_fault old.n m r ≡ Some x
     → RefusesNext (λ s. general_fault s.n) HoldsGeneral old r (Refused x)
 bond-refused old r m x many is bad = record { refused = λ start body h. bond-tested old r m many is start body h ∙ bad }
 
@@ -265,7 +268,8 @@ seam-tested old r seen was is start body h =
 
 -- a `seam` is taken
 pub seam-taken : (old new : GeneralBody) (r : Kept) (seen : Bool) → is_some old.seam ≡ seen → says_seam r ≡ true → seam_fault seen r ≡ None
-    → new.n ≡ old.n → new.bonds ≡ old.bonds → new.rotation ≡ old.rotation → new.seen.items ≡ old.seen.items → new.seam ≡ Some (sizes_from r 1)
+    → new.n ≡ old.n → new.bonds ≡ old.bonds → new.rotation ≡ old.rotation → new.seen.items ≡ old.seen.items
+    → new.seam ≡ Some (sizes_from r 1)
     → TakesNext (λ s. general_fault s.n) HoldsGeneral old r new
 seam-taken old new r seen was is good same kept lists marks cut = record {
   passes = λ start body h. seam-tested old r seen was is start body h ∙ good;
@@ -303,7 +307,8 @@ rot-tested old r seen d was inside is start body h =
     ∙ ap (λ (k : ℕ). rot_fault k seen r) (sym h.spins)
 
 -- a `rot` is taken
-pub rot-taken : (old new : GeneralBody) (r : Kept) (d : Bool) → get_or old.seen.items (size_in r 1) d ≡ false → size_in r 1 < old.n → says_rot r ≡ true
+pub rot-taken : (old new : GeneralBody) (r : Kept) (d : Bool) → get_or old.seen.items (size_in r 1) d ≡ false → size_in r 1 < old.n
+    → says_rot r ≡ true
     → rot_fault old.n false r ≡ None → new.n ≡ old.n → new.bonds ≡ old.bonds → new.seam ≡ old.seam
     → new.rotation ≡ set old.rotation (size_in r 1) (sizes_from r 2) → new.seen.items ≡ set old.seen.items (size_in r 1) true
     → TakesNext (λ s. general_fault s.n) HoldsGeneral old r new

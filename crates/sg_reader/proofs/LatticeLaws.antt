@@ -58,7 +58,8 @@ unfolding instance_of
 instance_of-lattice kind rows cols body = refl
 
 -- whether a seam was seen
-pub seen-seam : (start : LatticeBody) (body : List Kept) (state : LatticeBody) → HoldsLattice start body state → is_some state.seam ≡ list_any says_seam body
+pub seen-seam : (start : LatticeBody) (body : List Kept) (state : LatticeBody) → HoldsLattice start body state
+    → is_some state.seam ≡ list_any says_seam body
 seen-seam start body state h = ap is_some h.seam ∙ seam_in-seen body
 
 -- a `seam` that passes is the first
@@ -76,7 +77,8 @@ pub seam-taken : (old new : LatticeBody) (r : Kept) (seen : Bool) → is_some ol
     → new.wanted ≡ old.wanted → new.couplings ≡ old.couplings → new.seam ≡ Some (sizes_from r 1)
     → TakesNext (λ s. lattice_fault s.wanted) HoldsLattice old r new
 seam-taken old new r seen was seam good same kept bonds = record {
-  passes = λ start body h. lattice_fault-seam start.wanted body r seam ∙ ap (λ (b : Bool). seam_fault b r) (sym (seen-seam start body old h) ∙ was) ∙ good;
+  passes = λ start body h. lattice_fault-seam start.wanted body r seam
+      ∙ ap (λ (b : Bool). seam_fault b r) (sym (seen-seam start body old h) ∙ was) ∙ good;
   goes_on = λ start body h.
       let count = ap length kept in
       let total = field_total-more body r in
@@ -168,7 +170,8 @@ module _ (kind : Kind) (rows cols : ℕ) (start : LatticeBody) (all : List Kept)
       (tested None end) (instance-lattice kind rows cols start h.body now h.held)
 
   -- another `end` refuses the body
-  pub lattice-ends : (x : Refusal) → lattice_end_fault wanted found last ≡ Some x → Fails (RefusesBody (header.Lattice kind rows cols) all) all rest (Refused x)
+  pub lattice-ends : (x : Refusal) → lattice_end_fault wanted found last ≡ Some x
+      → Fails (RefusesBody (header.Lattice kind rows cols) all) all rest (Refused x)
   lattice-ends x end =
       body-fault (header.Lattice kind rows cols) (lattice_fault start.wanted) all rest (Refused x) (ap lattice_fault (was ∙ total))
       (end-fault (λ s. lattice_fault s.wanted) HoldsLattice start all now last rest h (Refused x) (tested (Some x) end))

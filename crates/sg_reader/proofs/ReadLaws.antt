@@ -41,4 +41,5 @@ whole-fault head all inst rest NoMemory states bad = rest-behind all states.body
 pub behind-fault : (all : List Kept) (first : Kept) (more : List Kept) (head : Header) (rest : List Kept) (e : Fault) → all ≡ first ∷ more
     → header_fault first ≡ None → header_of first ≡ Some head → Fails (RefusesBody head more) more rest e → Fails (RefusesInstance all) all rest e
 behind-fault all first more head rest e split good says bad =
-    fails-on (RefusesBody head more) (RefusesInstance all) all (first ∷ []) more rest split (λ x refused. Behind first more head split good says refused) e bad
+    fails-on (RefusesBody head more) (RefusesInstance all) all (first ∷ []) more rest split
+    (λ x refused. Behind first more head split good says refused) e bad

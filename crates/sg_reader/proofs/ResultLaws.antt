@@ -183,7 +183,8 @@ behind-spins q all more r rest e split good bad =
 
 -- energy, spins and loops that are read are the result
 pub stated : (all more left : List Kept) (q r : Kept) (energy : ℤ) (spins : List ℤ) (loops : List Loop) (rest : List Kept)
-    → all ≡ q ∷ more → more ≡ r ∷ left → energy_fault q ≡ None → spins_fault r ≡ None → energy ≡ number_in q 1 → spins ≡ numbers_from r 1
+    → all ≡ q ∷ more → more ≡ r ∷ left → energy_fault q ≡ None → spins_fault r ≡ None → energy ≡ number_in q 1
+    → spins ≡ numbers_from r 1
     → StatesToEnd loops_fault stated_loops left loops rest
     → ReadsResult all (record { energy = energy; spins = spins; loops = loops }) rest
 unfolding result_fault result_of

@@ -125,7 +125,8 @@ unfolding link_fault
 link_fault-number range n r k count bad = rw (is-not (length r.fields) 4 count, bad) refl
 
 -- good numbers pass
-pub link_fault-none : (range : Range) (n : ℕ) (r : Kept) → length r.fields ≡ 4 → bad_field r 1 (link_range range n) ≡ None → link_fault range n r ≡ None
+pub link_fault-none : (range : Range) (n : ℕ) (r : Kept) → length r.fields ≡ 4 → bad_field r 1 (link_range range n) ≡ None
+    → link_fault range n r ≡ None
 unfolding link_fault
 link_fault-none range n r count good = rw (is-not (length r.fields) 4 count, good) refl
 

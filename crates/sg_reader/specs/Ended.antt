@@ -39,4 +39,5 @@ pub record StatesToEnd {X : Type 0} (fault : TestTable) (stated : List Kept → 
 pub data RefusesRecords (fault : TestTable) (records : List Kept) (refusal : Refusal) (rest : List Kept) : Type 0 where
   AtRecord : (body : List Kept) (r : Kept) → records ≡ body ++ r ∷ rest → IsBody fault body
       → fault body r ≡ Some refusal → RefusesRecords fault records refusal rest
-  WithoutEnd : IsBody fault records → refusal ≡ Unended → rest ≡ [] → RefusesRecords fault records refusal rest
+  WithoutEnd : IsBody fault records → refusal ≡ Unended → rest ≡ []
+      → RefusesRecords fault records refusal rest

@@ -43,5 +43,7 @@ pub data RefusesInstance (records : List Kept) (refusal : Refusal) (rest : List 
   WithoutFirst : records ≡ [] → refusal ≡ Unended → rest ≡ [] → RefusesInstance records refusal rest
   AtFirst : (first : Kept) → records ≡ first ∷ rest → header_fault first ≡ Some refusal
       → RefusesInstance records refusal rest
-  Behind : (first : Kept) (more : List Kept) (header : Header) → records ≡ first ∷ more → header_fault first ≡ None
-      → header_of first ≡ Some header → RefusesBody header more refusal rest → RefusesInstance records refusal rest
+  Behind : (first : Kept) (more : List Kept) (header : Header) → records ≡ first ∷ more
+      → header_fault first ≡ None
+      → header_of first ≡ Some header → RefusesBody header more refusal rest
+      → RefusesInstance records refusal rest

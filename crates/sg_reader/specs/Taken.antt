@@ -21,10 +21,12 @@ pub record TakesNext {S : Type 0} (tests : S → TestTable) (holds : S → List 
   pub goes_on : (start : S) (body : List Kept) → holds start body old → holds start (body ++ r ∷ []) new
 
 -- behind records that gave `old` the next one is refused
-pub record RefusesNext {S : Type 0} (tests : S → TestTable) (holds : S → List Kept → S → Type 0) (old : S) (r : Kept)
+pub record RefusesNext {S : Type 0} (tests : S → TestTable) (holds : S → List Kept → S → Type 0)
+    (old : S) (r : Kept)
     (fault : Fault)
     : Type 0 where
-  pub refused : (start : S) (body : List Kept) → holds start body old → OrNoMemory (Refuses (tests start body r)) fault
+  pub refused : (start : S) (body : List Kept) → holds start body old
+      → OrNoMemory (Refuses (tests start body r)) fault
 
 -- the records up to an `end`, which is not tested yet, gave `now`
 pub record HoldsToEnd {S : Type 0} (tests : S → TestTable) (holds : S → List Kept → S → Type 0) (start : S)

@@ -16,7 +16,8 @@ returns-clause-read c =
     IfOk-weaker c.read_body.result _ _
     (λ g st. behind-graph c.args.terms c.args.rows.now c.next_size.new.row c.next_size.new.rows g c.read_body.new.records c.in_ok-nodes.ensures.split
     c.in_ok-nodes.ensures.passes
-    (subst (λ (n : ℕ). StatesToEnd (body_fault c.args.terms n) (body_graph n) c.next_size.new.rows g c.read_body.new.records) c.in_ok-nodes.ensures.value st))
+    (subst (λ (n : ℕ). StatesToEnd (body_fault c.args.terms n)
+    (body_graph n) c.next_size.new.rows g c.read_body.new.records) c.in_ok-nodes.ensures.value st))
     c.read_body.ensures.read
 
 pub returns-clause-fault : goal.returns-clause-fault

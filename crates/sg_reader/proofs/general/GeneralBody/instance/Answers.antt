@@ -15,7 +15,8 @@ returns-clause-ok c =
     let made =
     λ (rotation : List (List ℕ)). let i : Ising = record { n = c.args.self.n; bonds = c.args.self.bonds; rotation = rotation; seam = seam } in i in
     let laid = ap made (c.in_ok-rotation.ensures ∙ c.as_slice.ensures) in
-    IfOk-weaker c.new.result _ _ (λ inst e start body h. e ∙ laid ∙ instance-general start body c.args.self seam h c.seam_or_none-seam.ensures) c.new.ensures.ok
+    IfOk-weaker c.new.result _ _ (λ inst e start body h. e ∙ laid
+    ∙ instance-general start body c.args.self seam h c.seam_or_none-seam.ensures) c.new.ensures.ok
 
 pub returns-clause-fault : goal.returns-clause-fault
 returns-clause-fault c =
@@ -24,4 +25,5 @@ returns-clause-fault c =
     λ (rotation : List (List ℕ)). let i : Ising = record { n = c.args.self.n; bonds = c.args.self.bonds; rotation = rotation; seam = seam } in i in
     let laid = ap made (c.in_ok-rotation.ensures ∙ c.as_slice.ensures) in
     IfErr-weaker c.new.result _ _
-    (λ e f start body h. let same = laid ∙ instance-general start body c.args.self seam h c.seam_or_none-seam.ensures in rw (← same) f) c.new.ensures.refused
+    (λ e f start body h. let same = laid
+    ∙ instance-general start body c.args.self seam h c.seam_or_none-seam.ensures in rw (← same) f) c.new.ensures.refused
