@@ -20,7 +20,7 @@ pub trait Gather {
     // From the first value on the records gave the second.
     ghost holds: { Self → List Kept → Self → Type 0 };
 
-    /// TakesNext a record that is not the `end`.
+    /// Takes a record that is not the `end`.
     ///
     /// # Errors
     /// The first of its tests that fails. `NoMemory`.
@@ -31,7 +31,7 @@ pub trait Gather {
         ensures fault { IfErr result (RefusesNext tests holds self.old row.now) };
 }
 
-/// TakesNext the records up to an `end`, which is then in `row`, and is not tested yet. Those behind it are
+/// Takes the records up to an `end`, which is then in `row`, and is not tested yet. Those behind it are
 /// left.
 ///
 /// # Errors
