@@ -8,7 +8,8 @@ use Rattle.sg_model.specs.declared.refusal.Refusal.TheVariants.{BadNumber, TooMa
 use Rattle.sg_reader.specs.Kept.{Kept, field}
 use Rattle.sg_reader.specs.Body.{link_fault}
 use Rattle.sg_reader.specs.Tests.{at_least, is_number_in, size_in}
-use Rattle.sg_reader.proofs.TestLaws.{bad_field-first, bad_field-one, is-not, one-test}
+use Rattle.sg_draft.proofs.Drafts.{one-test}
+use Rattle.sg_reader.proofs.TestLaws.{bad_field-first, bad_field-one, is-not}
 use Rattle.sg_graph_text.specs.Graph.{edge_fault, says_graph, room_fault, size_fault}
 
 -- the tests of the first record

@@ -29,7 +29,8 @@ use Rattle.sg_reader.specs.Tests.{any_index, any_number, bad_field, bad_number, 
 use Rattle.sg_reader.specs.Body.{bond_fault, bond_of, ends_fault, link_fault, bonds_in, darts_in, bare_end_fault, general_fault, has_rot, instance_of, says_bond, says_end, says_rot, says_rot_of, says_seam, rot_fault, rot_range, seam_fault, seam_in, sizes_from}
 use Rattle.sg_reader.specs.Holds.{HoldsGeneral}
 use Rattle.sg_reader.specs.Taken.{HoldsSome, HoldsToEnd, RefusesNext, TakesNext}
-use Rattle.sg_reader.proofs.TestLaws.{bad_field-rest, one-test}
+use Rattle.sg_draft.proofs.Drafts.{one-test}
+use Rattle.sg_reader.proofs.TestLaws.{bad_field-rest}
 use Rattle.sg_reader.proofs.BodyLaws.{find-none, seam_in-first, seam_in-other, seam_in-seen}
 use Rattle.sg_reader.proofs.LatticeLaws.{seam_fault-passes}
 use Rattle.sg_model.specs.Faults.{OrNoMemory}

@@ -25,7 +25,8 @@ use Rattle.sg_reader.specs.Rest.{Fails}
 use Rattle.sg_reader.specs.Taken.{RefusesNext, TakesNext}
 use Rattle.sg_reader.specs.Result.{bad_spin, energy_fault, says_energy, says_loop, is_spin_value, says_spins, loop_fault, stated_loop, loop_range, loops_fault, stated_loops, result_fault, result_of, spins_fault}
 use Rattle.sg_reader.specs.ReadResult.{ReadsResult, RefusesResult}
-use Rattle.sg_reader.proofs.TestLaws.{bad_field-first, bad_field-one, bad_field-rest, find_range-none, find_range-some, is-not}
+use Rattle.sg_draft.proofs.Finds.{find_range-none, find_range-some}
+use Rattle.sg_reader.proofs.TestLaws.{bad_field-first, bad_field-one, bad_field-rest, is-not}
 use Rattle.sg_reader.proofs.BodyLaws.{word-inside}
 use Rattle.sg_reader.proofs.EndedLaws.{first-fault, refuses-cons, states-cons}
 use Rattle.sg_reader.proofs.RecordCounts.{field_total, field_total-around, field_total-more}

@@ -1,31 +1,14 @@
 -- Tests in order, and the first field that is no number of its range.
-use Rattle.std.proofs.Common.{◌≡◌, ℕ, zero, suc, ◌+◌, ◌-◌, ◌<◌, ◌≤◌, Bool, true, false, length, Option, Some, None, refl, ap, ◌∙◌, arith, inl, inr}
+use Rattle.std.proofs.Common.{◌≡◌, ℕ, zero, suc, ◌+◌, ◌-◌, ◌<◌, ◌≤◌, Bool, true, false, length, Option, Some, None, refl, ap, arith, inl, inr}
 use Rattle.std.specs.Prelude.{◌==◌, cond, not, find}
 use Rattle.std.specs.List.{range_with_len}
 use Rattle.std.proofs.lemmas.Bool.{cases_eq, eq-eqb, ne_eqb, not_from_true, not_from_false}
-use Rattle.std.specs.Option.{option_or}
-use Rattle.sg_model.specs.declared.refusal.Refusal.{Refusal}
+use Rattle.sg_draft.proofs.Finds.{find_range-none, find_range-some}
 use Rattle.sg_model.specs.declared.refusal.Refusal.TheVariants.{BadNumber, BadShape}
 use Rattle.sg_reader.specs.Body.{link_fault, link_range}
 use Rattle.sg_reader.specs.declared.range.Range.{Range}
 use Rattle.sg_reader.specs.Kept.{Kept, field}
 use Rattle.sg_reader.specs.Tests.{bad_field, is_number_in}
-
--- the first number of a range that passes
-pub find_range-none : (p : ℕ → Bool) (a n : ℕ) → ((i : ℕ) → a ≤ i → i < a + n → p i ≡ false) → find p (range_with_len a n) ≡ None
-find_range-none p a zero h = refl
-find_range-none p a (suc n) h = rw (h a (omega arith) (omega arith)) (find_range-none p (a + 1) n (λ i low high. h i (omega arith) (omega arith)))
-
--- the first number of a range that passes is the one found
-pub find_range-some : (p : ℕ → Bool) (a n k : ℕ) → a ≤ k → k < a + n → ((i : ℕ) → a ≤ i → i < k → p i ≡ false) → p k ≡ true
-    → find p (range_with_len a n) ≡ Some k
-find_range-some p a zero k low high h e = absurd (omega arith)
-find_range-some p a (suc n) k low high h e = elim (cases_eq a k) [
-  | inl same ↦ rw (← same) (rw (ap p same ∙ e) refl)
-  | inr other ↦
-      let less : a < k = omega arith in
-      rw (h a (omega arith) less) (find_range-some p (a + 1) n k (omega arith) (omega arith) (λ i l u. h i (omega arith) u) e)
-]
 
 -- all fields from `from` on are numbers of their ranges
 pub bad_field-none : (r : Kept) (from : ℕ) (range : ℕ → Range) →
@@ -112,11 +95,6 @@ is-not a b h = not_from_true _ (eq-eqb a b h)
 -- different numbers are not equal
 pub is-other : (a b : ℕ) → (a ≡ b → ⊥) → not (a == b) ≡ true
 is-other a b h = not_from_false _ (ne_eqb a b h)
-
--- a last test alone
-pub one-test : (test : Option Refusal) → option_or test None ≡ test
-one-test None = refl
-one-test (Some refusal) = refl
 
 -- a bad number refuses a record that joins two spins
 pub link_fault-number : (range : Range) (n : ℕ) (r : Kept) (k : ℕ) → length r.fields ≡ 4 → bad_field r 1 (link_range range n) ≡ Some k
