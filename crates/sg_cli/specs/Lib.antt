@@ -1,4 +1,3 @@
-pub mod Input
 pub mod Graphs
 pub mod Served
 pub mod Promises

@@ -28,7 +28,7 @@ use Rattle.sg_ranges.specs.Turn.{AreTurns}
 use Rattle.sg_ranges.specs.Cut.{IsLargestCut, coupling_sum}
 use Rattle.sg_words.specs.Command.{command_of, law_word}
 use Rattle.sg_cli.specs.Graphs.{AnswersTask, takes_terms}
-use Rattle.sg_cli.specs.Input.{GivesFit, GivesProof, RefusesProof, RefusesText}
+use Rattle.sg_input.specs.Input.{GivesFit, GivesProof, RefusesProof, RefusesText}
 use Rattle.sg_words.specs.declared.command.Command.{Command}
 use Rattle.sg_words.specs.declared.command.Command.TheVariants.{Read, Draw}
 use Rattle.sg_words.specs.declared.command.GraphTask.{GraphTask}

@@ -5,7 +5,7 @@
 use super::NoMemory;
 use super::adjacency::reverse;
 use super::agenda::{Agenda, Event, Subject};
-use super::lists::set_entry;
+use sg_slots::set_entry;
 use std::alloc::Global;
 
 /// A time that never comes.

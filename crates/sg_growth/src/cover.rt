@@ -8,7 +8,7 @@
 // A node is deep in a region if all its neighbours were seen to lie in it. It is deep as long as the
 // region is there and none of the neighbours is left; such a node need not be woken.
 use super::NoMemory;
-use super::lists::{Slot, copy_list, entry, put_entry, set_entry};
+use sg_slots::{Slot, copy_list, entry, put_entry, set_entry};
 use std::alloc::Global;
 
 /// Of a node that is covered: the region that took it, the terminal from which it was reached, and the

@@ -5,7 +5,7 @@
 // at its node `seed(t)`; all others are blossoms, and a name of none of them has no parent, no nodes,
 // no parts and radius 0, and does not stand in `order`. Each call takes the same time for any nest.
 use super::NoMemory;
-use super::lists::{Slot, entry, number, set_entry};
+use sg_slots::{Slot, entry, number, set_entry};
 use std::alloc::Global;
 
 /// Two terminals that are mates, by the names of their regions (`Nest::seed` has their nodes), and the

@@ -7,7 +7,8 @@
 // at a hub one look.
 use super::Engine;
 use crate::NoMemory;
-use sg_growth::{Arc, Contact, End, Reach, Soon, reverse};
+use sg_forest::{Contact, End, Reach};
+use sg_growth::{Arc, Soon, reverse};
 
 impl<'a> Engine<'a> {
     // An outer region comes to a bare node of a free one. If another touches that node, the two meet;

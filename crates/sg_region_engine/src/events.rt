@@ -1,7 +1,8 @@
 // What comes of each event, and the run of all of them.
 use super::Engine;
 use crate::NoMemory;
-use sg_growth::{Arc, Contact, End, Held, Reach, Role, Soon, Subject, reverse};
+use sg_forest::{Contact, End, Reach, Role};
+use sg_growth::{Arc, Held, Soon, Subject, reverse};
 
 impl<'a> Engine<'a> {
     // The event of an arc: the region at its start takes the node at its end, or meets a region. If

@@ -1,7 +1,9 @@
 // Reading the finished regions off: the nest, and the mates of all terminals.
 use super::Engine;
 use crate::NoMemory;
-use sg_growth::{End, Nest, Pair, Slot, number};
+use sg_forest::End;
+use sg_growth::{Nest, Pair};
+use sg_slots::{Slot, number};
 
 /// A region, and its terminal that is paired with one outside.
 #[derive(Clone, Copy)]

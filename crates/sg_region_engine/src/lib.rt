@@ -8,12 +8,12 @@
 //! distance between terminals.
 //!
 //! For the next engineer: nothing is promised of what it finds, since whoever uses that has it judged.
-//! Each function has only to be safe and to return. The parts of the state stand in `sg_growth`, each by
-//! its own rules: the cover of the nodes, the forest of the regions, the clock, and the hubs' heaps. The
-//! one rule between them: where an outer region nears something over an arc, an event waits at this arc
-//! or at its way back, for no later than it comes; of a hub the event is that of its soonest arc, and of
-//! the arcs from one region to a hub the soonest stands for all. The fields are open to `sg_repairs`,
-//! which takes finished regions apart and lets what is left grow on.
+//! Each function has only to be safe and to return. The parts of the state have rules of their own: the
+//! forest of the regions (`sg_forest`), and the cover of the nodes, the clock and the hubs' heaps
+//! (`sg_growth`). The one rule between them: where an outer region nears something over an arc, an event
+//! waits at this arc or at its way back, for no later than it comes; of a hub the event is that of its
+//! soonest arc, and of the arcs from one region to a hub the soonest stands for all. The fields are open to
+//! `sg_repairs`, which takes finished regions apart and lets what is left grow on.
 //!
 //! `wake` enters events, `steps` has the steps of the method, `rests` those of the first half of a run,
 //! `bare` what happens at bare nodes, `events` what comes of each event, and `finish` reads the nest and
@@ -28,10 +28,9 @@ mod steps;
 mod wake;
 
 pub use finish::Exit;
-use sg_growth::{
-    Adjacency, Arc, Clock, Cover, Forest, Held, Hubs, Link, NEVER, Reach, Role, Work, number,
-    reverse,
-};
+use sg_forest::{Forest, Link, Reach, Role, Work};
+use sg_growth::{Adjacency, Arc, Clock, Cover, Held, Hubs, NEVER, reverse};
+use sg_slots::number;
 use std::alloc::{AllocError, Global};
 
 /// The allocator had no memory left.

@@ -12,7 +12,8 @@
 // the other kind becomes a root one later; and where arcs are four times as long, two later.
 use super::Engine;
 use crate::NoMemory;
-use sg_growth::{Contact, Role, number};
+use sg_forest::{Contact, Role};
+use sg_slots::number;
 use std::mem::swap;
 
 impl<'a> Engine<'a> {

@@ -2,7 +2,7 @@
 // inner blossom expands again.
 use super::Engine;
 use crate::NoMemory;
-use sg_growth::{Contact, End, Link, Role};
+use sg_forest::{Contact, End, Link, Role};
 use std::mem::swap;
 
 impl<'a> Engine<'a> {

@@ -2,7 +2,8 @@
 use super::NoMemory;
 use super::edge_marks::EdgeMarks;
 use sg_graph::EdgeList;
-use sg_growth::{Adjacency, Nest, Pair, entry, set_entry};
+use sg_growth::{Adjacency, Nest, Pair};
+use sg_slots::{entry, set_entry};
 use std::alloc::Global;
 use std::mem::swap;
 

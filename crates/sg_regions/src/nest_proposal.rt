@@ -3,9 +3,10 @@ use super::NoMemory;
 use super::grow::{grow, grow_again};
 use super::proposal::{arcs_of, reversed, reversed_arcs};
 use sg_graph::{EdgeList, Terminals, Web};
-use sg_growth::{Adjacency, Nest, Pair, entry, number, set_entry};
+use sg_growth::{Adjacency, Nest, Pair};
 use sg_nest::{Place, Places, Region, Regions};
 use sg_region_ways::join_of;
+use sg_slots::{entry, number, set_entry};
 use std::alloc::Global;
 
 /// Edges that may be a least join, and a nest of regions that may prove it.

@@ -4,8 +4,9 @@
 // over has no mate: it becomes the root of a tree, and grows.
 use super::NoMemory;
 use super::parts::allow_work;
-use sg_growth::{Link, number};
+use sg_forest::Link;
 use sg_region_engine::{Engine, Exit};
+use sg_slots::number;
 
 // A node, its terminal that is none any more, and the one that is new there.
 #[derive(Clone, Copy)]

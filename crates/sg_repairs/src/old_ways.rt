@@ -4,9 +4,10 @@ use super::changes::Changes;
 use super::order::length_of;
 use super::repairs::Query;
 use sg_graph::EdgeList;
-use sg_growth::{Pair, Slot, count_at, entry, number, set_entry, sum_up};
+use sg_growth::Pair;
 use sg_region_engine::Engine;
 use sg_region_ways::EdgeMarks;
+use sg_slots::{Slot, count_at, entry, number, set_entry, sum_up};
 use std::alloc::Global;
 
 // A stretch of a list.

@@ -1,10 +1,11 @@
 // The finished regions in their order, and what a repair has changed of their pairs.
 use super::NoMemory;
 use super::parts::Base;
-use sg_growth::{Pair, entry, first_dart, number, set_entry};
+use sg_growth::{Pair, first_dart};
 use sg_nest::{Place, Region};
 use sg_region_engine::Engine;
 use sg_region_ways::{EdgeMarks, Mates, Ways};
+use sg_slots::{entry, number, set_entry};
 
 // The finished regions in an order, each before its parts; for each region its place counted from the
 // end, and the radii of it and of all that it is a part of.

@@ -1,6 +1,7 @@
 // What of an engine outlives its arcs, and the finished regions to which it is put back.
 use super::NoMemory;
-use sg_growth::{Adjacency, Clock, Cover, Forest, Hubs, Link, Work};
+use sg_forest::{Forest, Link, Work};
+use sg_growth::{Adjacency, Clock, Cover, Hubs};
 use sg_region_engine::Engine;
 use std::alloc::Global;
 

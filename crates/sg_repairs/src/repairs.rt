@@ -5,10 +5,11 @@ use super::old_ways::OldWays;
 use super::order::changed_pairs;
 use super::parts::{Base, Parts, run_from};
 use sg_graph::{EdgeList, Terminals, Web};
-use sg_growth::{Adjacency, Slot, entry, first_dart, number, second_dart, set_entry};
+use sg_growth::{Adjacency, first_dart, second_dart};
 use sg_nest::Nest;
 use sg_region_engine::{Engine, Method};
 use sg_regions::arcs_of;
+use sg_slots::{Slot, entry, number, set_entry};
 use std::alloc::Global;
 
 // How many terminals an edge may add to those of the web.

@@ -1,6 +1,6 @@
 use Rattle.std.proofs.lemmas.Result.{IfOk-weaker}
 use Rattle.sg_reply.specs.declared.reply.Reply.{Reply}
-use Rattle.sg_cli.specs.Input.{RefusesText}
+use Rattle.sg_input.specs.Input.{RefusesText}
 use Rattle.sg_cli.specs.Served.{AnswersFit, AnswersStudy, FaultNamed, Studied}
 use Rattle.sg_reply.proofs.FaultReplies.{answers_fault}
 use Rattle.sg_model.specs.Faults.{OrNoMemory}

@@ -1,9 +1,9 @@
 use Rattle.std.proofs.Common.{◌≡◌, ◌∙◌, true, false, sym}
 use Rattle.std.proofs.lemmas.Result.{IfErr-weaker, IfOk-weaker}
 use Rattle.sg_json.specs.Text.{is_object_text}
-use Rattle.sg_cli.specs.Input.{ByJson, ByRecords}
-use Rattle.sg_cli.proofs.InputLemmas.{by_json, by_records}
-use Rattle.sg_cli.proofs.study.read_text.Goals as goal
+use Rattle.sg_input.specs.Input.{ByJson, ByRecords}
+use Rattle.sg_input.proofs.InputLemmas.{by_json, by_records}
+use Rattle.sg_input.proofs.fit.read_text.Goals as goal
 
 pub returns-then-is_json-clause-gives : goal.returns-then-is_json-clause-gives
 returns-then-is_json-clause-gives c =

@@ -1,7 +1,7 @@
 use Rattle.sg_reader.specs.Kept.{kept_of}
 use Rattle.sg_reader.specs.ReadInstance.{ReadsInstance, RefusesInstance}
 use Rattle.sg_reader.proofs.RestLaws.{alone-reads, alone-refuses}
-use Rattle.sg_cli.proofs.study.read_alone.Goals as goal
+use Rattle.sg_input.proofs.fit.read_alone.Goals as goal
 
 pub returns-clause-gives : goal.returns-clause-gives
 returns-clause-gives c =

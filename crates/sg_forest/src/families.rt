@@ -5,7 +5,7 @@
 // much the radii over it differ from the base (`radii`). So the top over a region is found in two
 // looks however deep a blossom is, and a change of the top is one write.
 use super::NoMemory;
-use super::lists::{copy_list, number, put_entry, set_entry};
+use sg_slots::{copy_list, number, put_entry, set_entry};
 use std::alloc::Global;
 
 /// The top of a family, and the base that its regions count from.

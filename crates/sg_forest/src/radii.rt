@@ -6,7 +6,7 @@
 // at most as often as its top doubles. All else takes the same time for any blossoms.
 use super::NoMemory;
 use super::families::Families;
-use super::lists::{copy_list, entry, put_entry, set_entry};
+use sg_slots::{copy_list, entry, put_entry, set_entry};
 use std::alloc::Global;
 
 /// The part that a region plays: an outer one grows, an inner one gives way, and a free one, which

@@ -1,8 +1,8 @@
 use Rattle.std.proofs.lemmas.Result.{err_from_is_err_and}
 use Rattle.sg_reader.specs.ReadResult.{ReadsResult, RefusesResult}
 use Rattle.sg_reader.proofs.RestLaws.{alone-reads, alone-refuses}
-use Rattle.sg_cli.proofs.InputLemmas.{by_instance, by_result}
-use Rattle.sg_cli.proofs.check.read_proof.Goals as goal
+use Rattle.sg_input.proofs.InputLemmas.{by_instance, by_result}
+use Rattle.sg_input.proofs.proof.read_proof.Goals as goal
 
 pub returns-in_err-instance-clause-refuses : goal.returns-in_err-instance-clause-refuses
 returns-in_err-instance-clause-refuses c =
