@@ -21,6 +21,3 @@ pub use walk::path;
 
 /// The allocator had no memory left.
 pub type NoMemory = AllocError;
-
-#[cfg(test)]
-mod tests;

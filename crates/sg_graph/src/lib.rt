@@ -29,6 +29,3 @@ pub use web::{Edge, EdgeList, Edges, Terminals, Web};
 
 /// The allocator had no memory left.
 pub type NoMemory = AllocError;
-
-#[cfg(test)]
-mod tests;

@@ -9,8 +9,8 @@
 //! the nodes that change sides, and never goes over all edges for one cut.
 //!
 //! For the next engineer: a yes of `proves_least` carries all that the contract of a least join asks
-//! for. When it says yes no clause says, and a body that always says no would be proved: the tests
-//! show where it does. `specs/Side.antt` has what is kept from cut to cut, `proofs/Sides.antt` that one
+//! for. When it says yes no clause says, and a body that always says no would be proved: tests
+//! (`sg_web_rows`) show where it does. `specs/Side.antt` has what is kept from cut to cut, `proofs/Sides.antt` that one
 //! node more on the other side keeps it, and `MarkedLists` of `sg_sums` the counting by which a rising
 //! list of marked places, as long as there are marks, is the list of all that is marked.
 #![tactic(auto)]
@@ -30,6 +30,3 @@ use std::alloc::AllocError;
 
 /// The allocator had no memory left.
 pub type NoMemory = AllocError;
-
-#[cfg(test)]
-mod tests;

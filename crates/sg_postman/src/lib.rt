@@ -63,6 +63,3 @@ pub fn tour(alloc: Global, web: &Web) -> Result<TourAnswer, NoMemory>
         cuts: join.cuts,
     })
 }
-
-#[cfg(test)]
-mod tests;

@@ -289,8 +289,3 @@ fn nearer(best: Option<Pair>, more: Option<Pair>) -> Option<Pair>
         _ => best,
     }
 }
-
-#[cfg(test)]
-mod near_tests;
-#[cfg(test)]
-mod tests;

@@ -1,0 +1,18 @@
+//! Tests of webs and of what is found in them, by their public calls: tables of distances, shortest walks,
+//! the judges of joins by cuts and by nests, and closed walks over every edge.
+//!
+//! Their values come from outside the program: worked by hand, or by trying all walks.
+#![tactic(auto)]
+
+#[cfg(test)]
+mod distances;
+#[cfg(test)]
+mod graphs;
+#[cfg(test)]
+mod judged;
+#[cfg(test)]
+mod nests;
+#[cfg(test)]
+mod tours;
+#[cfg(test)]
+mod webs;
