@@ -22,8 +22,7 @@ use Rattle.sg_draft.specs.Reads.{counted, unless, value_or, wrong_entry}
 use Rattle.sg_draft.proofs.Drafts.{counted-unless, wrong-unless}
 use Rattle.sg_json.specs.declared.entry.Entry.{Entry}
 use Rattle.sg_json.specs.declared.entry.Entry.TheVariants as entry
-use Rattle.sg_json.specs.Values.{indices_of, items_at, member_list, names_in, size_at, value_bond, value_number}
-use Rattle.sg_json.specs.Members.{draft_of, form_in, general_draft, is_known, lattice_draft, member_spins, misfit, wrong_list, wrong_rotation, wrong_seam}
+use Rattle.sg_json.specs.Members.{draft_of, form_in, general_draft, indices_of, is_known, items_at, lattice_draft, member_list, member_spins, misfit, names_in, size_at, value_bond, value_number, wrong_list, wrong_rotation, wrong_seam}
 use Rattle.sg_json.specs.ReadJson.{OfData, OfDraft, RefusesData, RefusesJson, SaysData}
 
 -- how many entries a list of a member has, where none is wrong

@@ -1,4 +1,3 @@
 pub mod Text
-pub mod Values
 pub mod Members
 pub mod ReadJson

@@ -12,8 +12,7 @@ use Rattle.sg_draft.specs.Limits.{program_limits}
 use Rattle.sg_draft.specs.Members.{bad_member}
 use Rattle.sg_reader.specs.declared.header.Form.{Form}
 use Rattle.sg_reader.specs.Field.{without_marks}
-use Rattle.sg_json.specs.Members.{draft_of, form_in, is_known}
-use Rattle.sg_json.specs.Values.{names_in}
+use Rattle.sg_json.specs.Members.{draft_of, form_in, is_known, names_in}
 use Rattle.sg_limits.specs.Limits.{json_limit}
 
 -- the bytes behind the byte-order marks are UTF-8, and `serde_json`'s own definition reads the data from them

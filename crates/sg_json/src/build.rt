@@ -1,7 +1,7 @@
 ghost use Rattle.std.specs.Prelude.{◌≡◌, codes, map, option_map, IfOk};
 ghost use Rattle.serde_json.specs.Find.{get};
 ghost use Rattle.serde_json.specs.View.{view};
-ghost use Rattle.sg_json.specs.Values.{value_bond, index_of, indices_of, item_at, value_number};
+ghost use Rattle.sg_json.specs.Members.{index_of, indices_of, item_at, value_bond, value_number};
 
 use super::NoMemory;
 use super::value::{index_or_zero, items, number_or_zero};
@@ -13,29 +13,16 @@ use std::alloc::Global;
 pub(crate) fn couplings(alloc: Global, items: &[Value]) -> Result<Couplings, NoMemory>
     ensures { IfOk result (λ l. l ≡ map (λ v. value_number (view v)) items.now) }
 {
-    let mut list = Couplings::new(alloc);
-    for item in items {
-        list.push(number_or_zero(item))?;
-    }
-    Ok(list)
-}
-
-// The numbers of the items, as indices.
-fn indices(alloc: Global, items: &[Value]) -> Result<BondList, NoMemory>
-    ensures { IfOk result (λ l. l ≡ map (λ v. index_of (view v)) items.now) }
-{
-    let mut list = BondList::new(alloc);
-    for item in items {
-        list.push(index_or_zero(item))?;
-    }
-    Ok(list)
+    let list = items.iter().map(number_or_zero).collect(alloc)?;
+    Ok(Couplings::from_vec(list))
 }
 
 // The indices of a list: the bonds of a seam, or the darts of a spin.
-fn indices_in(alloc: Global, value: &Value) -> Result<BondList, NoMemory>
+fn indices(alloc: Global, value: &Value) -> Result<BondList, NoMemory>
     ensures { IfOk result (λ l. l ≡ indices_of (view value.now)) }
 {
-    indices(alloc, items(value))
+    let list = items(value).iter().map(index_or_zero).collect(alloc)?;
+    Ok(BondList::from_vec(list))
 }
 
 /// The bonds of the seam, if it stands.
@@ -43,10 +30,7 @@ pub(crate) fn seam(alloc: Global, value: &Value) -> Result<Option<BondList>, NoM
     ensures { IfOk result (λ o. o ≡ option_map indices_of (get (codes "seam") (view value.now))) }
 {
     match value.get("seam") {
-        Some(list) => {
-            let bonds = indices_in(alloc, list)?;
-            Ok(Some(bonds))
-        }
+        Some(list) => Ok(Some(indices(alloc, list)?)),
         None => Ok(None),
     }
 }
@@ -55,20 +39,14 @@ pub(crate) fn seam(alloc: Global, value: &Value) -> Result<Option<BondList>, NoM
 fn index_at(numbers: &[Value], i: usize) -> u32
     ensures { result ≡ index_of (item_at (map view numbers.now) i) }
 {
-    match numbers.get(i) {
-        Some(number) => index_or_zero(number),
-        None => 0,
-    }
+    numbers.get(i).map_or(0, index_or_zero)
 }
 
 // The number at a place of a list, and 0 past its end.
 fn number_at(numbers: &[Value], i: usize) -> i64
     ensures { result ≡ value_number (item_at (map view numbers.now) i) }
 {
-    match numbers.get(i) {
-        Some(number) => number_or_zero(number),
-        None => 0,
-    }
+    numbers.get(i).map_or(0, number_or_zero)
 }
 
 /// The bond of a list of three numbers.
@@ -100,7 +78,7 @@ pub(crate) fn rotation(alloc: Global, lists: &[Value]) -> Result<Rotation, NoMem
 {
     let mut rotation = Rotation::new(alloc);
     for list in lists {
-        let own = indices_in(alloc, list)?;
+        let own = indices(alloc, list)?;
         rotation.push(own.as_slice())?;
     }
     Ok(rotation)

@@ -1,10 +1,7 @@
-ghost use Rattle.std.specs.Prelude.{◌≡◌, ◌<◌, Some, map, length, option_map, is_some};
-ghost use Rattle.std.specs.List.{list_all};
+ghost use Rattle.std.specs.Prelude.{◌≡◌, codes, map, option_map};
 ghost use Rattle.serde_json.specs.Find.{get};
 ghost use Rattle.serde_json.specs.View.{view};
-ghost use Rattle.std.specs.Prelude.{codes};
-ghost use Rattle.sg_json.specs.Members.{are_indices as are_indices_in_data, fits, is_triple as is_triple_of_data, misfit, wrong_list as wrong_list_in_data, wrong_rotation as wrong_rotation_in_data, wrong_seam as wrong_seam_in_data};
-ghost use Rattle.sg_json.specs.Values.{index as index_in_data, list_in};
+ghost use Rattle.sg_json.specs.Members.{are_indices as are_indices_in_data, fits, index as index_in_data, is_triple as is_triple_of_data, list_in, misfit, wrong_list as wrong_list_in_data, wrong_rotation as wrong_rotation_in_data, wrong_seam as wrong_seam_in_data};
 
 use super::build::bond;
 use super::value::{index, items, list_items, number_or_zero};
@@ -34,17 +31,12 @@ fn is_triple(numbers: &[Value]) -> bool
     index(&numbers[0]).is_some() && index(&numbers[1]).is_some() && numbers[2].as_i64().is_some()
 }
 
-fn are_indices(items: &[Value]) -> bool
-    ensures { result ≡ list_all (λ v. is_some (index_in_data (view v))) items.now }
-{
-    items.iter().all(|item| index(item).is_some())
-}
-
+// Whether a value is a list of indices.
 fn is_index_list(value: &Value) -> bool
     ensures { result ≡ are_indices_in_data (list_in (view value.now)) }
 {
     match list_items(value) {
-        Some(items) => are_indices(items),
+        Some(items) => items.iter().all(|item| index(item).is_some()),
         None => false,
     }
 }
@@ -67,22 +59,14 @@ impl Entry {
 fn first_misfit(items: &[Value], what: Entry) -> Option<usize>
     ensures { result ≡ misfit what (map view items.now) }
 {
-    for (i, item) in items.iter().enumerate() {
-        if !what.fits(item) {
-            return Some(i);
-        }
-    }
-    None
+    items.iter().position(|item| !what.fits(item))
 }
 
 /// The entry at which a list is wrong, if one is, and 0 where there is no list.
 pub(crate) fn wrong_list(list: Option<&[Value]>, what: Entry) -> Option<usize>
     ensures { result ≡ wrong_list_in_data what (option_map (λ s. map view s.now) list.entry) }
 {
-    match list {
-        Some(items) => first_misfit(items, what),
-        None => Some(0),
-    }
+    list.map_or(Some(0), |items| first_misfit(items, what))
 }
 
 /// The entry at which the rotation of `n` spins is wrong, if one is, and 0 where it is another number of
@@ -100,8 +84,5 @@ pub(crate) fn wrong_rotation(list: Option<&[Value]>, n: u64) -> Option<usize>
 pub(crate) fn wrong_seam(value: &Value) -> Option<usize>
     ensures { result ≡ wrong_seam_in_data (get (codes "seam") (view value.now)) }
 {
-    match value.get("seam") {
-        Some(seam) => wrong_list(list_items(seam), Entry::Index),
-        None => None,
-    }
+    wrong_list(list_items(value.get("seam")?), Entry::Index)
 }

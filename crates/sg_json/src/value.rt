@@ -1,6 +1,6 @@
 ghost use Rattle.std.specs.Prelude.{◌≡◌, ◌<◌, ◌^◌, map, option_map, IfSome};
 ghost use Rattle.serde_json.specs.View.{view};
-ghost use Rattle.sg_json.specs.Values.{index as index_in_data, index_of, items_at as items_in_member, items_in, list_in, member_list, natural as natural_in_data, value_number, size_at};
+ghost use Rattle.sg_json.specs.Members.{index as index_in_data, index_of, items_at as items_in_member, items_in, list_in, member_list, natural as natural_in_data, size_at, value_number};
 
 use serde_json::Value;
 
@@ -17,52 +17,36 @@ fn natural(value: &Value) -> Option<u64>
 pub(crate) fn index(value: &Value) -> Option<u32>
     ensures { result ≡ index_in_data (view value.now) }
 {
-    let found = natural(value)?;
-    if found < 1 << 32 {
-        Some(found as u32)
-    } else {
-        None
-    }
+    let n = natural(value)?;
+    if n < 1 << 32 { Some(n as u32) } else { None }
 }
 
 /// The whole number of a value, and 0 where it has none.
 pub(crate) fn number_or_zero(value: &Value) -> i64
     ensures { result ≡ value_number (view value.now) }
 {
-    match value.as_i64() {
-        Some(number) => number,
-        None => 0,
-    }
+    value.as_i64().unwrap_or(0)
 }
 
 /// The index of a value, and 0 where it has none.
 pub(crate) fn index_or_zero(value: &Value) -> u32
     ensures { result ≡ index_of (view value.now) }
 {
-    match index(value) {
-        Some(index) => index,
-        None => 0,
-    }
+    index(value).unwrap_or(0)
 }
 
 /// The items of a value, if it is a list.
 pub(crate) fn list_items(value: &Value) -> Option<&[Value]>
     ensures { option_map (λ s. map view s.now) result ≡ list_in (view value.now) }
 {
-    match value.as_array() {
-        Some(list) => Some(list.as_slice()),
-        None => None,
-    }
+    Some(value.as_array()?.as_slice())
 }
 
 /// The items of a list, and none where the value is no list.
 pub(crate) fn items(value: &Value) -> &[Value]
     ensures { map view result.now ≡ items_in (view value.now) }
 {
-    match list_items(value) {
-        Some(items) => items,
-        None => &[],
-    }
+    list_items(value).unwrap_or(&[])
 }
 
 /// The items of the list in a member, if there is one.
@@ -76,10 +60,7 @@ pub(crate) fn list_member<'a>(value: &'a Value, name: &str) -> Option<&'a [Value
 pub(crate) fn items_at<'a>(value: &'a Value, name: &str) -> &'a [Value]
     ensures { map view result.now ≡ items_in_member name.now (view value.now) }
 {
-    match list_member(value, name) {
-        Some(items) => items,
-        None => &[],
-    }
+    list_member(value, name).unwrap_or(&[])
 }
 
 /// The whole number in a member, from 0 on.

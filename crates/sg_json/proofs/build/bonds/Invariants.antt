@@ -1,6 +1,6 @@
 use Rattle.std.proofs.Common.{◌≡◌, map, take}
 use Rattle.serde_json.specs.View.{view}
-use Rattle.sg_json.specs.Values.{value_bond}
+use Rattle.sg_json.specs.Members.{value_bond}
 use Rattle.sg_json.proofs.build.bonds.Given as goal
 
 -- the bonds of the items so far

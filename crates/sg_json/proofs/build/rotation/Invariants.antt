@@ -1,6 +1,6 @@
 use Rattle.std.proofs.Common.{◌≡◌, map, take}
 use Rattle.serde_json.specs.View.{view}
-use Rattle.sg_json.specs.Values.{indices_of}
+use Rattle.sg_json.specs.Members.{indices_of}
 use Rattle.sg_json.proofs.build.rotation.Given as goal
 
 -- the darts of the spins so far

@@ -1,12 +1,13 @@
-use Rattle.std.proofs.Common.{◌≡◌, ◌∙◌, ℕ, sym, ap, refl, Option, option_map, List, [], ◌∷◌, Bool, ◌&&◌, string_bytes, String, Global}
+use Rattle.std.proofs.Common.{◌≡◌, ◌∙◌, ℕ, sym, ap, refl, Option, option_map, List, [], ◌∷◌, Bool, ◌&&◌, rules, string_bytes, tests, String, Global}
 use Rattle.std.specs.Prelude.{unwrap_or}
 use Rattle.std.specs.List.{list_all}
 use Rattle.std.specs.Map.{keys_of}
+use Rattle.std.proofs.lemmas.Iterator.Consumers.{YieldsList-from_rest}
+use Rattle.std.proofs.lemmas.Iterator.Search.{all_from_yields_List}
 use Rattle.serde_json.specs.Data.{Members}
 use Rattle.serde_json.specs.View.{members_view}
 use Rattle.serde_json.specs.declared.value.Value.{Value}
-use Rattle.sg_json.specs.Values.{named}
-use Rattle.sg_json.specs.Members.{is_known}
+use Rattle.sg_json.specs.Members.{is_known, named}
 use Rattle.sg_json.proofs.form.has_known_names.Goals as goal
 
 -- a test of all names is one of all keys
@@ -16,5 +17,7 @@ all_keys t (e ∷ es) = ap (λ (b : Bool). t (string_bytes e.0) && b) (all_keys 
 
 pub returns-in-Some : goal.returns-in-Some
 returns-in-Some c =
-    c.has_known_keys.ensures ∙ sym (all_keys (is_known c.args.form) c.in-Some.map.now.entries)
+    all_from_yields_List (λ k. is_known c.args.form (string_bytes k)) _ _ _ c.all.ensures.ran
+    (YieldsList-from_rest (keys_of c.in-Some.map.now.entries) c.keys.ensures.rest) (λ x b q k. search (rules, tests))
+    ∙ sym (all_keys (is_known c.args.form) c.in-Some.map.now.entries)
     ∙ ap (λ (o : Option Members). list_all (is_known c.args.form) (unwrap_or (option_map named o) [])) c.in-Some.ensures

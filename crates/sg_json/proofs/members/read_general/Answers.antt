@@ -12,8 +12,7 @@ use Rattle.sg_draft.specs.declared.read.Read.TheVariants.{Known}
 use Rattle.sg_draft.specs.Reads.{counted, unless, value_or, wrong_entry}
 use Rattle.sg_draft.proofs.Drafts.{both-ok, general-none, general-some, same-fault, unless-known}
 use Rattle.sg_json.specs.declared.entry.Entry.TheVariants as entry
-use Rattle.sg_json.specs.Values.{indices_of, items_at, member_list, size_at, value_bond}
-use Rattle.sg_json.specs.Members.{general_draft, member_spins, wrong_list, wrong_rotation}
+use Rattle.sg_json.specs.Members.{general_draft, indices_of, items_at, member_list, member_spins, size_at, value_bond, wrong_list, wrong_rotation}
 use Rattle.sg_json.proofs.Lists.{bonds-fit, mapped}
 use Rattle.sg_json.proofs.Said.{bonds-said, general-said, general-tests, right-list, rotation-counts}
 use Rattle.sg_json.proofs.members.read_general.Goals as goal

@@ -13,8 +13,7 @@ use Rattle.sg_draft.specs.Limits.{program_limits}
 use Rattle.sg_draft.specs.Reads.{unless}
 use Rattle.sg_draft.proofs.Drafts.{behind-test, both-ok, unless-known}
 use Rattle.sg_json.specs.declared.entry.Entry.TheVariants as entry
-use Rattle.sg_json.specs.Values.{items_at, member_list, value_number}
-use Rattle.sg_json.specs.Members.{lattice_draft, wrong_list}
+use Rattle.sg_json.specs.Members.{items_at, lattice_draft, member_list, value_number, wrong_list}
 use Rattle.sg_json.proofs.Lists.{couplings-fit, mapped}
 use Rattle.sg_json.proofs.Said.{lattice-said, lattice-tests, right-list}
 use Rattle.sg_json.proofs.members.read_lattice.Goals as goal
