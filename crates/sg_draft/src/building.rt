@@ -50,16 +50,6 @@ fn first_self(bonds: &[Bond]) -> Option<usize>
     None
 }
 
-// The seam, and an empty one where none is given.
-fn seam_or_none(alloc: Global, seam: Option<BondList>) -> BondList
-    ensures { result ≡ unwrap_or seam [] }
-{
-    match seam {
-        Some(list) => list,
-        None => BondList::new(alloc),
-    }
-}
-
 /// The general instance of its parts, with an empty seam where none is given, in time linear in the bonds
 /// and darts.
 ///
@@ -87,6 +77,6 @@ pub fn build_general(
     if let Some(k) = first_self(bonds.as_slice()) {
         return Err(Fault::Refused(Refusal::SelfBond { bond: k as u32 }));
     }
-    let cut = seam_or_none(alloc, seam);
+    let cut = seam.unwrap_or(BondList::new(alloc));
     Instance::new(alloc, n, bonds, rotation, cut)
 }

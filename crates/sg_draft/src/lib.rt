@@ -28,6 +28,6 @@ pub use entries::{check_entry, check_list, is_among, is_coupling};
 pub use limits::Limits;
 pub use member::{Member, bad_entry, bad_member};
 pub use numbers::{
-    Size, check_bond_count, check_coupling_count, check_lattice_size, check_spin_count,
+    Size, check_bond_count, check_coupling_count, check_lattice_size, check_spin_count, check_spins,
 };
 pub use read::{Read, unless};

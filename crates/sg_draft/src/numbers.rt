@@ -29,8 +29,11 @@ fn at_least(least: u32, size: Option<u64>) -> Option<u64>
     }
 }
 
-// The test of the number of spins.
-fn check_spins(most: Limits, n: u128) -> Result<(), Refusal>
+/// The test of how many spins there are.
+///
+/// # Errors
+/// `TooManySpins`.
+pub fn check_spins(most: Limits, n: u128) -> Result<(), Refusal>
     requires { n < 2 ^ 127 }
     ensures few { OnOk result (n ≤ most.spins) }
     ensures passes { OnOk result (many_spins_fault most n ≡ None) }

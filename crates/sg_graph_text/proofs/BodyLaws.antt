@@ -1,13 +1,8 @@
 -- The records of a graph behind the first, one more at a time.
-use Rattle.std.proofs.Common.{◌≡◌, ℕ, ◌%◌, ◌<◌, ◌≤◌, Bool, true, false, List, [], ◌∷◌, ◌++◌, length, map, Option, Some, None, refl, sym, ap, ◌∙◌, arith, codes}
-use Rattle.std.specs.Prelude.{◌&&◌, cond, filter, find, is_some, option_map, unwrap_or}
-use Rattle.std.specs.Option.{option_or}
-use Rattle.std.specs.Str.{bytes_eq}
-use Rattle.std.proofs.lemmas.List.{append-nil, length-append, map-append}
-use Rattle.std.proofs.lemmas.List.Elements.{All-append, All-cons, All-nil, All-same, filter-append}
-use Rattle.std.proofs.lemmas.List.Folds.{find-append}
-use Rattle.std.proofs.lemmas.Option.{none-some}
-use Rattle.std.proofs.lemmas.Slice.Eq.{bytes_eq-Decides}
+use Rattle.std.proofs.Common.{◌≡◌, ℕ, ◌%◌, ◌<◌, ◌≤◌, Bool, true, false, List, [], ◌∷◌, ◌++◌, length, Option, Some, None, refl, sym, ap, ◌∙◌, arith, codes}
+use Rattle.std.specs.Prelude.{◌&&◌, is_some, unwrap_or}
+use Rattle.std.proofs.lemmas.List.{length-append}
+use Rattle.std.proofs.lemmas.List.Elements.{All-append, All-cons, All-nil, All-same}
 use Rattle.sg_limits.specs.Limits.{bond_limit, spin_limit}
 use Rattle.sg_model.specs.declared.refusal.Fault.{Fault}
 use Rattle.sg_model.specs.declared.refusal.Fault.TheVariants.{Refused, NoMemory}
@@ -15,31 +10,16 @@ use Rattle.sg_model.specs.declared.refusal.Refusal.{Refusal}
 use Rattle.sg_model.specs.declared.refusal.Refusal.TheVariants.{UnknownKind}
 use Rattle.sg_graph.specs.declared.web.Edge.{Edge}
 use Rattle.sg_graph.specs.Web.{IsEdge}
-use Rattle.sg_reader.specs.Kept.{Kept, field}
+use Rattle.sg_reader.specs.Kept.{Kept}
 use Rattle.sg_draft.specs.Tests.{Refuses}
-use Rattle.sg_reader.specs.Body.{bare_end_fault, says_end, sizes_from}
-use Rattle.sg_reader.specs.Taken.{HoldsSome, RefusesNext, TakesNext}
+use Rattle.sg_reader.specs.Body.{once_fault, says_end, sizes_from}
+use Rattle.sg_reader.specs.Tests.{shape_fault}
+use Rattle.sg_reader.proofs.BodyLaws.{given-first, given-other, once_fault-passes, other-word, said-more, said-other}
+use Rattle.sg_reader.specs.Ended.{HoldsSome, RefusesNext, TakesNext}
 use Rattle.sg_graph_text.specs.declared.body.GraphBody.{GraphBody}
-use Rattle.sg_graph_text.specs.Graph.{IsGraphText, body_fault, body_graph, edge_fault, edge_of, edges_in, entries_given, entries_in, graph_end_fault, says_edge, says_term, term_fault, terminals_fault, terminals_of}
-use Rattle.sg_graph_text.specs.GraphHolds.{HoldsGraph}
+use Rattle.sg_graph_text.specs.Graph.{IsGraphText, body_fault, body_graph, edge_fault, edge_of, edges_in, entries_given, entries_in, graph_end_fault, says_edge, says_term, terminals_fault, terminals_of, HoldsGraph}
 use Rattle.sg_graph_text.proofs.TerminalLaws.{are_terminals}
 use Rattle.sg_model.specs.Faults.{OrNoMemory}
-
--- which test a record meets
-word-of : (r : Kept) (w : List ℕ) → bytes_eq (field r 0) w ≡ true → field r 0 ≡ w
-word-of r w h = (bytes_eq-Decides (field r 0) w).0 h
-
-edge-no_term : (r : Kept) → says_edge r ≡ true → says_term r ≡ false
-edge-no_term r h = ap (λ (w : List ℕ). bytes_eq w (codes "term")) (word-of r (codes "edge") h)
-
-term-no_edge : (r : Kept) → says_term r ≡ true → says_edge r ≡ false
-term-no_edge r h = ap (λ (w : List ℕ). bytes_eq w (codes "edge")) (word-of r (codes "term") h)
-
-end-no_edge : (r : Kept) → says_end r ≡ true → says_edge r ≡ false
-end-no_edge r h = ap (λ (w : List ℕ). bytes_eq w (codes "edge")) (word-of r (codes "end") h)
-
-end-no_term : (r : Kept) → says_end r ≡ true → says_term r ≡ false
-end-no_term r h = ap (λ (w : List ℕ). bytes_eq w (codes "term")) (word-of r (codes "end") h)
 
 -- an `edge` is tested as one behind the edges before it
 pub body_fault-edge : (terms : Bool) (n : ℕ) (body : List Kept) (r : Kept) → says_edge r ≡ true
@@ -49,9 +29,9 @@ body_fault-edge terms n body r h = rw h refl
 
 -- where terminals may stand a `term` is tested as one behind the others
 pub body_fault-term : (terms : Bool) (n : ℕ) (body : List Kept) (r : Kept) → terms ≡ true → says_term r ≡ true
-    → body_fault terms n body r ≡ term_fault (is_some (entries_given body)) r
+    → body_fault terms n body r ≡ once_fault (is_some (entries_given body)) r
 unfolding body_fault
-body_fault-term terms n body r allowed h = rw (term-no_edge r h, allowed, h) refl
+body_fault-term terms n body r allowed h = rw (other-word r (codes "term") (codes "edge") h refl, allowed, h) refl
 
 and-no : (terms : Bool) → (terms && false) ≡ false
 and-no true = refl
@@ -69,7 +49,7 @@ no_term terms is h = rw h (and-no terms)
 pub body_fault-end : (terms : Bool) (n : ℕ) (body : List Kept) (r : Kept) → says_end r ≡ true
     → body_fault terms n body r ≡ graph_end_fault n (entries_in body) r
 unfolding body_fault
-body_fault-end terms n body r h = rw (end-no_edge r h, end-no_term r h, and-no terms, h) refl
+body_fault-end terms n body r h = rw (other-word r (codes "end") (codes "edge") h refl, other-word r (codes "end") (codes "term") h refl, and-no terms, h) refl
 
 -- any other record is of no known kind
 pub body_fault-other : (terms : Bool) (n : ℕ) (body : List Kept) (r : Kept) → says_edge r ≡ false → (terms && says_term r) ≡ false → says_end r ≡ false
@@ -80,34 +60,21 @@ body_fault-other terms n body r a b c = rw (a, b, c) refl
 -- the edges of one more record
 edges_in-more : (body : List Kept) (r : Kept) → says_edge r ≡ true → edges_in (body ++ r ∷ []) ≡ edges_in body ++ edge_of r ∷ []
 unfolding edges_in
-edges_in-more body r h =
-    ap (map edge_of) (filter-append says_edge body (r ∷ [])) ∙ map-append edge_of (filter says_edge body) (filter says_edge (r ∷ []))
-    ∙ ap (λ (b : Bool). map edge_of (filter says_edge body) ++ map edge_of (cond b (r ∷ []) [])) h
+edges_in-more body r h = said-more says_edge edge_of body r h
 
 edges_in-other : (body : List Kept) (r : Kept) → says_edge r ≡ false → edges_in (body ++ r ∷ []) ≡ edges_in body
 unfolding edges_in
-edges_in-other body r h =
-    ap (map edge_of) (filter-append says_edge body (r ∷ [])) ∙ map-append edge_of (filter says_edge body) (filter says_edge (r ∷ []))
-    ∙ ap (λ (b : Bool). map edge_of (filter says_edge body) ++ map edge_of (cond b (r ∷ []) [])) h ∙ append-nil (map edge_of (filter says_edge body))
+edges_in-other body r h = said-other says_edge edge_of body r h
 
 -- the entries of one more record
-entries_given-first : (body : List Kept) (r : Kept) → entries_given body ≡ None → says_term r ≡ true
+entries_given-first : (body : List Kept) (r : Kept) → is_some (entries_given body) ≡ false → says_term r ≡ true
     → entries_given (body ++ r ∷ []) ≡ Some (sizes_from r 1)
 unfolding entries_given
-entries_given-first body r none is = rw (find-append says_term body (r ∷ [])) (rw is (by (find says_term body) none))
-  where
-    by : (o : Option Kept) → option_map (λ q. sizes_from q 1) o ≡ None
-        → option_map (λ q. sizes_from q 1) (option_or o (Some r)) ≡ Some (sizes_from r 1)
-    by None e = refl
-    by (Some q) e = absurd (none-some (sizes_from q 1) (sym e))
+entries_given-first body r none is = given-first says_term (λ q. sizes_from q 1) body r none is
 
 entries_given-other : (body : List Kept) (r : Kept) → says_term r ≡ false → entries_given (body ++ r ∷ []) ≡ entries_given body
 unfolding entries_given
-entries_given-other body r other = rw (find-append says_term body (r ∷ [])) (rw other (by (find says_term body)))
-  where
-    by : (o : Option Kept) → option_map (λ q. sizes_from q 1) (option_or o None) ≡ option_map (λ q. sizes_from q 1) o
-    by None = refl
-    by (Some q) = refl
+entries_given-other body r other = given-other says_term (λ q. sizes_from q 1) body r other
 
 -- nothing was read yet
 pub holds-none : (state : GraphBody) → 1 ≤ state.nodes → state.nodes ≤ spin_limit → state.edges ≡ [] → state.entries ≡ None
@@ -153,7 +120,7 @@ edge-taken old new r m many is good same_nodes same_terms same_entries added sou
         joined = rw same_nodes (All-same (IsEdge old.nodes) new.edges (old.edges ++ edge_of r ∷ []) added
             (All-append (IsEdge old.nodes) old.edges (edge_of r ∷ []) h.joined (All-cons (IsEdge old.nodes) (edge_of r) [] sound
             (All-nil (IsEdge old.nodes)))));
-        entries = same_entries ∙ h.entries ∙ sym (entries_given-other body r (edge-no_term r is));
+        entries = same_entries ∙ h.entries ∙ sym (entries_given-other body r (other-word r (codes "edge") (codes "term") is refl));
       };
 }
 
@@ -164,42 +131,38 @@ pub edge-refused : (old : GraphBody) (r : Kept) (m : ℕ) (x : Refusal) → m �
 edge-refused old r m x many is bad = record { refused = λ start body h. edge-tested old r m many is start body h ∙ bad }
 
 term-tested : (old : GraphBody) (r : Kept) (seen : Bool) → is_some old.entries ≡ seen → old.terms ≡ true → says_term r ≡ true
-    → (start : GraphBody) (body : List Kept) → HoldsGraph start body old → body_fault start.terms start.nodes body r ≡ term_fault seen r
+    → (start : GraphBody) (body : List Kept) → HoldsGraph start body old → body_fault start.terms start.nodes body r ≡ once_fault seen r
 term-tested old r seen was allowed is start body h =
     body_fault-term start.terms start.nodes body r (sym h.terms ∙ allowed) is
-    ∙ ap (λ (b : Bool). term_fault b r) (sym (ap is_some h.entries) ∙ was)
+    ∙ ap (λ (b : Bool). once_fault b r) (sym (ap is_some h.entries) ∙ was)
 
 -- a `term` is taken
-pub term-taken : (old new : GraphBody) (r : Kept) (seen : Bool) (list : List ℕ) → is_some old.entries ≡ seen → seen ≡ false → old.terms ≡ true
-    → says_term r ≡ true → term_fault seen r ≡ None → list ≡ sizes_from r 1 → new.nodes ≡ old.nodes → new.terms ≡ old.terms
+pub term-taken : (old new : GraphBody) (r : Kept) (seen : Bool) (list : List ℕ) → is_some old.entries ≡ seen → old.terms ≡ true
+    → says_term r ≡ true → once_fault seen r ≡ None → list ≡ sizes_from r 1 → new.nodes ≡ old.nodes → new.terms ≡ old.terms
     → new.edges ≡ old.edges → new.entries ≡ Some list → TakesNext (λ s. body_fault s.terms s.nodes) HoldsGraph old r new
-term-taken old new r seen list was first allowed is good value same_nodes same_terms same_edges given = record {
+term-taken old new r seen list was allowed is good value same_nodes same_terms same_edges given = record {
   passes = λ start body h. term-tested old r seen was allowed is start body h ∙ good;
   goes_on = λ start body h.
       let all = ap length same_edges in
       let few = h.few in
       let some = h.some in
       let most = h.few_nodes in
-      let now = entries_given-first body r (sym h.entries ∙ none-of old.entries (was ∙ first)) is in
+      let now = entries_given-first body r (ap is_some (sym h.entries) ∙ was ∙ once_fault-passes seen r good) is in
       record {
         nodes = same_nodes ∙ h.nodes;
         terms = same_terms ∙ h.terms;
         some = omega (arith, same_nodes, some);
         few_nodes = omega (arith, same_nodes, most);
-        edges = same_edges ∙ h.edges ∙ sym (edges_in-other body r (term-no_edge r is));
+        edges = same_edges ∙ h.edges ∙ sym (edges_in-other body r (other-word r (codes "term") (codes "edge") is refl));
         few = omega (arith, all, few);
         joined = rw (same_nodes, same_edges) h.joined;
         entries = given ∙ ap (λ (l : List ℕ). Some l) value ∙ sym now;
       };
 }
-  where
-    none-of : (o : Option (List ℕ)) → is_some o ≡ false → o ≡ None
-    none-of None e = refl
-    none-of (Some l) e = absurd (let w = e in cc)
 
 -- a `term` is refused
 pub term-refused : (old : GraphBody) (r : Kept) (seen : Bool) (e : Fault) → is_some old.entries ≡ seen → old.terms ≡ true → says_term r ≡ true
-    → OrNoMemory (Refuses (term_fault seen r)) e → RefusesNext (λ s. body_fault s.terms s.nodes) HoldsGraph old r e
+    → OrNoMemory (Refuses (once_fault seen r)) e → RefusesNext (λ s. body_fault s.terms s.nodes) HoldsGraph old r e
 term-refused old r seen e was allowed is bad = record { refused = λ start body h. rw (term-tested old r seen was allowed is start body h) bad }
 
 -- any other record is refused
@@ -217,18 +180,18 @@ end-tested now r end start body h =
     ∙ ap (λ (n : ℕ). graph_end_fault n (unwrap_or now.entries []) r) (sym h.nodes)
 
 -- a bare `end` behind good terminals passes
-pub end-passes : (now : GraphBody) (r : Kept) → says_end r ≡ true → bare_end_fault r ≡ None
+pub end-passes : (now : GraphBody) (r : Kept) → says_end r ≡ true → shape_fault 1 r ≡ None
     → terminals_fault now.nodes (unwrap_or now.entries []) ≡ None
     → (start : GraphBody) (body : List Kept) → HoldsGraph start body now → body_fault start.terms start.nodes body r ≡ None
 end-passes now r end bare good start body h = end-tested now r end start body h ∙ rw (bare, good) refl
 
 -- an `end` with another field is refused for that
-pub end-bare : (now : GraphBody) (r : Kept) (x : Refusal) → says_end r ≡ true → bare_end_fault r ≡ Some x
+pub end-bare : (now : GraphBody) (r : Kept) (x : Refusal) → says_end r ≡ true → shape_fault 1 r ≡ Some x
     → RefusesNext (λ s. body_fault s.terms s.nodes) HoldsGraph now r (Refused x)
 end-bare now r x end bad = record { refused = λ start body h. end-tested now r end start body h ∙ rw bad refl }
 
 -- a bare `end` is refused for its terminals
-pub end-terminals : (now : GraphBody) (r : Kept) (e : Fault) → says_end r ≡ true → bare_end_fault r ≡ None
+pub end-terminals : (now : GraphBody) (r : Kept) (e : Fault) → says_end r ≡ true → shape_fault 1 r ≡ None
     → OrNoMemory (Refuses (terminals_fault now.nodes (unwrap_or now.entries []))) e → RefusesNext (λ s. body_fault s.terms s.nodes) HoldsGraph now r e
 end-terminals now r (Refused x) end bare bad = record { refused = λ start body h. end-tested now r end start body h ∙ rw (bare, bad) refl }
 end-terminals now r NoMemory end bare bad = record { refused = λ start body h. tt }

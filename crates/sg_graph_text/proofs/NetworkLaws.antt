@@ -6,9 +6,9 @@ use Rattle.sg_model.specs.declared.refusal.Fault.TheVariants.{Refused, NoMemory}
 use Rattle.sg_model.specs.declared.refusal.Refusal.{Refusal}
 use Rattle.sg_graph.specs.Web.{Graph, total_weight}
 use Rattle.sg_reader.specs.Kept.{kept_of}
-use Rattle.sg_reader.specs.Rest.{RefusesAlone}
+use Rattle.sg_reader.specs.Ended.{RefusesAlone}
 use Rattle.sg_graph_text.specs.declared.graph.GraphText.{GraphText}
-use Rattle.sg_graph_text.specs.ReadGraph.{ReadsGraph, RefusesGraph}
+use Rattle.sg_graph_text.specs.Graph.{ReadsGraph, RefusesGraph}
 use Rattle.sg_graph_text.specs.Network.{AtReach, AtRecords, AtWeight, IsTooHeavy, IsUnjoined, graph_in, RefusesNetwork}
 use Rattle.sg_model.specs.Faults.{OrNoMemory}
 

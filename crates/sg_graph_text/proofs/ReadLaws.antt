@@ -1,33 +1,25 @@
 -- A graph by its first record and those behind it.
 use Rattle.std.proofs.Common.{◌≡◌, ℕ, Bool, false, List, [], ◌∷◌, None, refl, sym, ap, ap₂, subst, ◌∙◌, codes}
-use Rattle.std.specs.Prelude.{not}
 use Rattle.sg_model.specs.declared.refusal.Fault.{Fault}
-use Rattle.sg_model.specs.declared.refusal.Refusal.TheVariants.{BadShape, TooManySpins, UnknownKind}
-use Rattle.sg_limits.specs.Limits.{spin_limit}
-use Rattle.std.specs.Prelude.{◌==◌, length, nat_lt, pos}
+use Rattle.sg_draft.specs.Limits.{program_limits}
+use Rattle.sg_draft.specs.Numbers.{many_spins_fault}
 use Rattle.sg_reader.specs.Kept.{Kept}
-use Rattle.sg_draft.specs.Tests.{refuse_if}
-use Rattle.sg_reader.specs.Tests.{at_least, bad_number, size_in}
+use Rattle.sg_reader.specs.Tests.{at_least, bad_number, shape_fault, size_in}
 use Rattle.sg_reader.specs.Body.{says_end}
-use Rattle.sg_reader.specs.Ended.{IsEnded, RefusesRecords, StatesToEnd, TestTable}
-use Rattle.sg_reader.specs.Rest.{Fails}
-use Rattle.sg_reader.specs.Taken.{HoldsToEnd, RefusesNext}
+use Rattle.sg_reader.specs.Ended.{IsEnded, RefusesRecords, StatesToEnd, TestTable, Fails, HoldsToEnd, RefusesNext}
 use Rattle.sg_draft.specs.Tests.{Refuses}
 use Rattle.sg_reader.proofs.EndedLaws.{end-fault, first-fault, refuses-cons, states-cons}
 use Rattle.sg_reader.proofs.RestLaws.{fails-on}
-use Rattle.sg_reader.proofs.ResultLaws.{first-passes, other-word}
+use Rattle.sg_reader.proofs.ResultLaws.{word-passes}
 use Rattle.sg_graph_text.specs.declared.body.GraphBody.{GraphBody}
-use Rattle.sg_graph_text.specs.GraphHolds.{HoldsGraph}
+use Rattle.sg_graph_text.specs.Graph.{HoldsGraph, body_fault, body_graph, graph_fault, graph_of, size_fault, ReadsGraph, RefusesGraph}
 use Rattle.sg_graph_text.specs.declared.graph.GraphText.{GraphText}
-use Rattle.sg_graph_text.specs.Graph.{body_fault, body_graph, graph_fault, graph_of, says_graph, size_fault}
-use Rattle.sg_graph_text.specs.ReadGraph.{ReadsGraph, RefusesGraph}
 use Rattle.sg_model.specs.Faults.{OrNoMemory}
 
 size-no_end : (r : Kept) → size_fault r ≡ None → says_end r ≡ false
 size-no_end r h =
-    other-word (codes "graph") r refl
-    (first-passes (says_graph r) (UnknownKind r.at) (refuse_if (not (length r.fields == 2)) (BadShape r.at) ∷ bad_number r 1 (λ i. at_least 1)
-    ∷ refuse_if (nat_lt spin_limit (size_in r 1)) (TooManySpins (pos (size_in r 1))) ∷ []) h)
+    word-passes (codes "graph") (codes "end") r
+    (shape_fault 2 r ∷ bad_number r 1 (λ i. at_least 1) ∷ many_spins_fault program_limits (size_in r 1) ∷ []) refl h
 
 -- what refuses the first record refuses the graph
 pub size-fault : (terms : Bool) (all : List Kept) (r : Kept) (rest : List Kept) (e : Fault) → all ≡ r ∷ rest → OrNoMemory (Refuses (size_fault r)) e

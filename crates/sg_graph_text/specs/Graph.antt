@@ -1,26 +1,26 @@
 -- The records of a weighted graph: which word stands in which place, the tests of each record, and the graph that they
--- give.
-use Rattle.std.specs.Prelude.{◌≡◌, ℕ, ◌+◌, ◌%◌, ◌≤◌, ◌==◌, ◌&&◌, Bool, not, nat_le, nat_lt, pos, if◌then◌else◌, List, [], ◌∷◌, length, map, filter, find, drop, codes, All, slice_index, Option, Some, option_map, is_some, unwrap_or}
+-- give; the first test that a record fails, in the order of the records, refuses them.
+use Rattle.std.specs.Prelude.{◌≡◌, ℕ, ◌+◌, ◌%◌, ◌≤◌, ◌==◌, ◌&&◌, Bool, nat_lt, if◌then◌else◌, List, [], ◌∷◌, length, map, filter, find, drop, codes, All, slice_index, Option, Some, option_map, is_some, unwrap_or}
 use Rattle.std.specs.List.{range_with_len}
 use Rattle.sg_sums.specs.Sets.{chosen_below, holds}
 use Rattle.sg_limits.specs.Limits.{bond_limit, spin_limit}
 use Rattle.sg_model.specs.declared.refusal.Refusal.{Refusal}
-use Rattle.sg_model.specs.declared.refusal.Refusal.TheVariants.{BadShape, BadTerminal, OddTerminals, TooManyBonds, TooManySpins, UnknownKind}
+use Rattle.sg_model.specs.declared.refusal.Refusal.TheVariants.{BadTerminal, OddTerminals, UnknownKind}
 use Rattle.sg_model.specs.Misplaced.{is_misplaced}
 use Rattle.sg_graph.specs.declared.web.Edge.{Edge}
 use Rattle.sg_graph.specs.Web.{IsEdge}
 use Rattle.sg_graph.specs.Join.{AreTerminals}
 use Rattle.sg_reader.specs.Kept.{Kept, begins}
+use Rattle.sg_draft.specs.Limits.{program_limits}
+use Rattle.sg_draft.specs.Numbers.{bond_count_fault, many_spins_fault}
 use Rattle.sg_draft.specs.Tests.{first_of, refuse_if}
-use Rattle.sg_reader.specs.Tests.{any_index, at_least, bad_number, number_in, size_in}
-use Rattle.sg_reader.specs.Body.{bare_end_fault, link_fault, says_end, sizes_from}
-use Rattle.sg_reader.specs.Ended.{record_at}
+use Rattle.sg_reader.specs.Tests.{at_least, bad_number, number_in, shape_fault, size_in, word_fault}
+use Rattle.sg_reader.specs.Body.{link_fault, once_fault, says_end, sizes_from}
+use Rattle.sg_reader.specs.Ended.{RefusesRecords, StatesToEnd, record_at}
+use Rattle.sg_graph_text.specs.declared.body.GraphBody.{GraphBody}
 use Rattle.sg_graph_text.specs.declared.graph.GraphText.{GraphText}
 
 -- what a record begins with
-abbrev pub says_graph : Kept → Bool
-says_graph r = begins (codes "graph") r
-
 abbrev pub says_edge : Kept → Bool
 says_edge r = begins (codes "edge") r
 
@@ -45,26 +45,15 @@ entries_in body = unwrap_or (entries_given body) []
 -- the first record, `graph,N` with the number of nodes
 abbrev pub size_fault : Kept → Option Refusal
 size_fault r = first_of (
-    refuse_if (not (says_graph r)) (UnknownKind r.at)
-    ∷ refuse_if (not (length r.fields == 2)) (BadShape r.at)
+    word_fault (codes "graph") r
+    ∷ shape_fault 2 r
     ∷ bad_number r 1 (λ i. at_least 1)
-    ∷ refuse_if (nat_lt spin_limit (size_in r 1)) (TooManySpins (pos (size_in r 1)))
+    ∷ many_spins_fault program_limits (size_in r 1)
     ∷ [])
 
--- edge m is one too many
-abbrev pub room_fault : ℕ → Option Refusal
-room_fault m = refuse_if (nat_le bond_limit m) (TooManyBonds (bond_limit + 1))
-
--- an edge of a graph of n nodes, behind m edges: its ends are nodes, and its weight is not negative
+-- an edge of a graph of n nodes, behind m edges: its ends are nodes, its weight is not negative, and there is room
 abbrev pub edge_fault : ℕ → ℕ → Kept → Option Refusal
-edge_fault n m r = first_of (link_fault (at_least 0) n r ∷ room_fault m ∷ [])
-
--- the terminals, which may have been given before
-abbrev pub term_fault : Bool → Kept → Option Refusal
-term_fault seen r = first_of (
-    refuse_if seen (BadShape r.at)
-    ∷ bad_number r 1 (λ i. any_index)
-    ∷ [])
+edge_fault n m r = first_of (link_fault (at_least 0) n r ∷ bond_count_fault program_limits (m + 1) ∷ [])
 
 -- t is one of n nodes
 abbrev pub is_node : ℕ → ℕ → Bool
@@ -88,13 +77,13 @@ terminals_fault n entries = first_of (entry_fault n entries ∷ odd_fault (lengt
 
 -- the record that ends the graph
 abbrev pub graph_end_fault : ℕ → List ℕ → Kept → Option Refusal
-graph_end_fault n entries r = first_of (bare_end_fault r ∷ terminals_fault n entries ∷ [])
+graph_end_fault n entries r = first_of (shape_fault 1 r ∷ terminals_fault n entries ∷ [])
 
 -- the tests of a record behind the first, in a graph of n nodes; only where `terms` is set may terminals be given
 unfoldable pub body_fault : Bool → ℕ → List Kept → Kept → Option Refusal
 body_fault terms n body r =
     if says_edge r then edge_fault n (length (edges_in body)) r
-    else (if terms && says_term r then term_fault (is_some (entries_given body)) r
+    else (if terms && says_term r then once_fault (is_some (entries_given body)) r
     else (if says_end r then graph_end_fault n (entries_in body) r
     else Some (UnknownKind r.at)))
 
@@ -124,3 +113,22 @@ pub record IsGraphText (g : GraphText) : Type 0 where
   pub joined : All (IsEdge g.nodes) g.edges
   pub terminals : AreTerminals (record { nodes = g.nodes; edges = g.edges }) g.terminals
   pub even : length g.terminals % 2 ≡ 0
+
+-- the records give the graph, and `rest` is left behind its `end`. Terminals may be given where `terms` is set
+abbrev pub ReadsGraph : Bool → List Kept → GraphText → List Kept → Type 0
+ReadsGraph terms records g rest = StatesToEnd (graph_fault terms) graph_of records g rest
+
+-- the records are refused: at a record that fails a test, or because they run out
+abbrev pub RefusesGraph : Bool → List Kept → Refusal → List Kept → Type 0
+RefusesGraph terms records refusal rest = RefusesRecords (graph_fault terms) records refusal rest
+
+-- what is kept while they are read: the edges of the records, and the entries of their terminals
+pub record HoldsGraph (start : GraphBody) (body : List Kept) (now : GraphBody) : Type 0 where
+  pub nodes : now.nodes ≡ start.nodes
+  pub terms : now.terms ≡ start.terms
+  pub some : 1 ≤ now.nodes
+  pub few_nodes : now.nodes ≤ spin_limit
+  pub edges : now.edges ≡ edges_in body
+  pub few : length now.edges ≤ bond_limit
+  pub joined : All (IsEdge now.nodes) now.edges
+  pub entries : now.entries ≡ entries_given body

@@ -1,4 +1,2 @@
 pub mod Graph
-pub mod ReadGraph
-pub mod GraphHolds
 pub mod Network

@@ -7,9 +7,9 @@ use Rattle.sg_graph.specs.Join.{AreTerminals}
 use Rattle.sg_graph.specs.Walk.{IsConnectedWeb, IsFirstUnreached}
 use Rattle.sg_graph.specs.Web.{Graph, total_weight}
 use Rattle.sg_reader.specs.Kept.{kept_of}
-use Rattle.sg_reader.specs.Rest.{RefusesAlone}
+use Rattle.sg_reader.specs.Ended.{RefusesAlone}
 use Rattle.sg_graph_text.specs.declared.graph.GraphText.{GraphText}
-use Rattle.sg_graph_text.specs.ReadGraph.{ReadsGraph, RefusesGraph}
+use Rattle.sg_graph_text.specs.Graph.{ReadsGraph, RefusesGraph}
 
 -- the graph without its terminals, and with them
 abbrev pub graph_in : GraphText → Graph

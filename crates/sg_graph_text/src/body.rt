@@ -1,22 +1,17 @@
-ghost use Rattle.std.specs.Prelude.{◌≡◌, ◌<◌, ◌≤◌, [], List, true, false, None, Some, length, unwrap_or, IfOk, IfErr, OnOk};
+ghost use Rattle.std.specs.Prelude.{◌≡◌, ◌<◌, ◌≤◌, [], List, true, None, Some, length, IfOk, IfErr, OnOk};
 ghost use Rattle.sg_limits.specs.Limits.{bond_limit, spin_limit};
 ghost use Rattle.sg_graph.specs.Web.{IsEdge};
-ghost use Rattle.sg_reader.specs.Body.{says_end, sizes_from};
-ghost use Rattle.sg_reader.specs.Ended.{RefusesRecords, StatesToEnd};
+ghost use Rattle.sg_reader.specs.Body.{says_end};
+ghost use Rattle.sg_reader.specs.Ended.{RefusesRecords, StatesToEnd, Fails, HoldsSome, RefusesNext, TakesNext};
 ghost use Rattle.sg_reader.specs.Kept.{Kept};
-ghost use Rattle.sg_reader.specs.Rest.{Fails};
-ghost use Rattle.sg_reader.specs.Taken.{HoldsSome, RefusesNext, TakesNext};
-ghost use Rattle.sg_draft.specs.Tests.{Refuses};
-ghost use Rattle.sg_graph_text.specs.Graph.{body_fault, body_graph, edge_fault, edge_of, IsGraphText, says_edge, says_term, room_fault, term_fault};
-ghost use Rattle.sg_graph_text.specs.GraphHolds.{HoldsGraph};
-ghost use Rattle.sg_model.specs.Faults.{OrNoMemory};
+ghost use Rattle.sg_graph_text.specs.Graph.{body_fault, body_graph, edge_fault, edge_of, IsGraphText, says_edge, says_term, HoldsGraph};
 
 use super::graph::GraphText;
 use super::terminals::list_terminals;
+use sg_draft::{Limits, check_bond_count};
 use sg_graph::{Edge, Edges, Terminals};
-use sg_limits::BOND_LIMIT;
 use sg_model::{Fault, Refusal};
-use sg_reader::{Gather, Link, Range, Row, Rows, bare_end, indices, read_link, read_to_end};
+use sg_reader::{Gather, Link, Range, Row, Rows, list_once, read_link, read_to_end};
 use std::alloc::Global;
 
 const EDGE: &[u8] = b"edge";
@@ -32,21 +27,10 @@ pub(crate) struct GraphBody {
     entries: Option<Terminals>,
 }
 
-// The test of edge `m`: there is room for it.
-fn check_room(m: usize) -> Result<(), Refusal>
-    ensures room { OnOk result (m < bond_limit) }
-    ensures passes { OnOk result (room_fault m ≡ None) }
-    ensures refused { IfErr result (λ e. room_fault m ≡ Some e) }
-{
-    if m >= BOND_LIMIT as usize {
-        return Err(Refusal::TooManyBonds { m: BOND_LIMIT + 1 });
-    }
-    Ok(())
-}
-
 // The edge of a record `edge,A,B,W`, where `m` edges stand before it.
 fn read_edge(row: &Row, n: u32, m: usize) -> Result<Edge, Refusal>
-    requires { 1 ≤ n }
+    requires some { 1 ≤ n }
+    requires few { m ≤ bond_limit }
     ensures passes { IfOk result (λ e. edge_fault n m row.now ≡ None) }
     ensures value { IfOk result (λ e. e ≡ edge_of row.now) }
     ensures sound { IfOk result (IsEdge n) }
@@ -54,26 +38,12 @@ fn read_edge(row: &Row, n: u32, m: usize) -> Result<Edge, Refusal>
     ensures refused { IfErr result (λ e. edge_fault n m row.now ≡ Some e) }
 {
     let Link { u, v, value } = read_link(row, n, Range::at_least(0))?;
-    check_room(m)?;
+    check_bond_count(Limits::of_program(), m + 1)?;
     Ok(Edge {
         a: u,
         b: v,
         w: value,
     })
-}
-
-// The entries of a record `term,T,..`, where one may stand before it.
-fn read_term(alloc: Global, row: &Row, seen: bool) -> Result<Terminals, Fault>
-    requires { says_term row.now ≡ true }
-    ensures passes { IfOk result (λ l. term_fault seen row.now ≡ None) }
-    ensures value { IfOk result (λ l. l ≡ sizes_from row.now 1) }
-    ensures first { IfOk result (λ l. seen ≡ false) }
-    ensures fault { IfErr result (OrNoMemory (Refuses (term_fault seen row.now))) }
-{
-    if seen {
-        return Err(Fault::Refused(Refusal::BadShape { at: row.at() }));
-    }
-    indices(alloc, row, 1)
 }
 
 impl GraphBody {
@@ -109,7 +79,7 @@ impl GraphBody {
         ensures taken { OnOk result (TakesNext (λ s. body_fault s.terms s.nodes) HoldsGraph self.old row.now self.new) }
         ensures fault { IfErr result (RefusesNext (λ s. body_fault s.terms s.nodes) HoldsGraph self.old row.now) }
     {
-        let entries = read_term(alloc, row, self.entries.is_some())?;
+        let entries = list_once(alloc, row, self.entries.is_some())?;
         self.entries = Some(entries);
         Ok(())
     }
@@ -125,18 +95,12 @@ impl GraphBody {
         ensures sound { IfOk result IsGraphText }
         ensures fault { IfErr result (RefusesNext (λ s. body_fault s.terms s.nodes) HoldsGraph self row.now) }
     {
-        bare_end(row)?;
-        let GraphBody {
-            nodes,
-            terms: _,
-            edges,
-            entries,
-        } = self;
-        let entries = entries_or_none(alloc, entries);
-        let terminals = list_terminals(alloc, nodes, entries.as_slice())?;
+        row.check_shape(1)?;
+        let entries = self.entries.unwrap_or(Terminals::new(alloc));
+        let terminals = list_terminals(alloc, self.nodes, entries.as_slice())?;
         Ok(GraphText {
-            nodes,
-            edges,
+            nodes: self.nodes,
+            edges: self.edges,
             terminals,
         })
     }
@@ -155,16 +119,6 @@ impl Gather for GraphBody {
         } else {
             Err(Fault::Refused(Refusal::UnknownKind { at: row.at() }))
         }
-    }
-}
-
-// The entries, none where they were not given.
-fn entries_or_none(alloc: Global, entries: Option<Terminals>) -> Terminals
-    ensures { result ≡ unwrap_or entries [] }
-{
-    match entries {
-        Some(list) => list,
-        None => Terminals::new(alloc),
     }
 }
 

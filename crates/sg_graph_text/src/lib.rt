@@ -5,11 +5,11 @@
 //! fault; `read_network` goes on to the end of the text, and gives the graph where it is connected. A
 //! graph knows nothing of spins: it is what `tjoin` and `postman` are asked of.
 //!
-//! For the next engineer: `specs/Graph.antt` is the table of tests, over the records of `sg_reader`;
-//! `specs/ReadGraph.antt` says what a text gives and why it is refused, by the rules for records up
-//! to an `end` by which results are read too; `specs/Network.antt` has the tests of the whole. In the
-//! code `network.rt` and `read.rt` are the way through, `size.rt` reads the first record, `body.rt`
-//! those behind it, and `terminals.rt` tests the entries of the terminals and lists them rising.
+//! For the next engineer: `specs/Graph.antt` is the table of tests, over the records of `sg_reader`,
+//! and says what a text gives and why it is refused, by the rules for records up to an `end` by which
+//! results are read too; `specs/Network.antt` has the tests of the whole. In the code `network.rt` and
+//! `read.rt` are the way through, `size.rt` reads the first record, `body.rt` those behind it, and
+//! `terminals.rt` tests the entries of the terminals and lists them rising.
 #![tactic(auto)]
 
 mod body;

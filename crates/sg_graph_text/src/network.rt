@@ -3,11 +3,10 @@ ghost use Rattle.std.specs.List.{sum_by};
 ghost use Rattle.sg_limits.specs.Limits.{bond_limit, sum_limit, text_limit};
 ghost use Rattle.sg_graph.specs.Walk.{IsConnectedWeb};
 ghost use Rattle.sg_graph.specs.Web.{total_weight, weight_at};
-ghost use Rattle.sg_graph_text.specs.Graph.{IsGraphText};
+ghost use Rattle.sg_graph_text.specs.Graph.{IsGraphText, ReadsGraph, RefusesGraph};
 ghost use Rattle.sg_graph_text.specs.Network.{GivesNetwork, IsNetwork, IsTooHeavy, graph_in, IsUnjoined, RefusesNetwork};
-ghost use Rattle.sg_graph_text.specs.ReadGraph.{ReadsGraph, RefusesGraph};
 ghost use Rattle.sg_reader.specs.Kept.{kept_of};
-ghost use Rattle.sg_reader.specs.Rest.{RefusesAlone};
+ghost use Rattle.sg_reader.specs.Ended.{RefusesAlone};
 ghost use Rattle.sg_model.specs.Faults.{OrNoMemory};
 
 use super::graph::GraphText;

@@ -3,7 +3,7 @@ ghost use Rattle.sg_limits.specs.Limits.{spin_limit};
 ghost use Rattle.sg_reader.specs.Tests.{size_in};
 ghost use Rattle.sg_graph_text.specs.Graph.{size_fault};
 
-use sg_limits::SPIN_LIMIT;
+use sg_draft::{Limits, check_spins};
 use sg_model::Refusal;
 use sg_reader::{Range, Row};
 
@@ -21,17 +21,9 @@ pub(crate) fn read_size(row: &Row) -> Result<u32, Refusal>
     ensures few { IfOk result (λ n. n ≤ spin_limit) }
     ensures refused { IfErr result (λ e. size_fault row.now ≡ Some e) }
 {
-    if !row.begins(GRAPH) {
-        return Err(Refusal::UnknownKind { at: row.at() });
-    }
-    if row.len() != 2 {
-        return Err(Refusal::BadShape { at: row.at() });
-    }
+    row.check_word(GRAPH)?;
+    row.check_shape(2)?;
     let nodes = row.size(1, Range::at_least(1))?;
-    if nodes > u64::from(SPIN_LIMIT) {
-        return Err(Refusal::TooManySpins {
-            n: i128::from(nodes),
-        });
-    }
+    check_spins(Limits::of_program(), u128::from(nodes))?;
     Ok(nodes as u32)
 }

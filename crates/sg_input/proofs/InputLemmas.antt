@@ -6,8 +6,8 @@ use Rattle.sg_model.specs.Faults.{OrNoMemory}
 use Rattle.sg_model.specs.Ising.{Ising}
 use Rattle.sg_reader.specs.Kept.{Kept, kept_of}
 use Rattle.sg_reader.specs.ReadInstance.{ReadsInstance, RefusesInstance}
-use Rattle.sg_reader.specs.ReadResult.{ReadsResult, RefusesResult}
-use Rattle.sg_reader.specs.Rest.{Fails, RefusesAlone}
+use Rattle.sg_reader.specs.Result.{ReadsResult, RefusesResult}
+use Rattle.sg_reader.specs.Ended.{Fails, RefusesAlone}
 use Rattle.sg_reader.proofs.RestLaws.{or-no-memory}
 use Rattle.sg_planar.specs.Fit.{Embedding, IsFit, IsUnfit}
 use Rattle.sg_json.specs.Text.{is_object_text}

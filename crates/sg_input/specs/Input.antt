@@ -6,8 +6,8 @@ use Rattle.sg_model.specs.Ising.{Ising}
 use Rattle.sg_reader.specs.Kept.{Kept, kept_of}
 use Rattle.sg_reader.specs.ReadInstance.{ReadsInstance, RefusesInstance}
 use Rattle.sg_check.specs.declared.packing.ResultText.{ResultText}
-use Rattle.sg_reader.specs.ReadResult.{ReadsResult, RefusesResult}
-use Rattle.sg_reader.specs.Rest.{RefusesAlone}
+use Rattle.sg_reader.specs.Result.{ReadsResult, RefusesResult}
+use Rattle.sg_reader.specs.Ended.{RefusesAlone}
 use Rattle.sg_json.specs.Text.{is_object_text}
 use Rattle.sg_json.specs.ReadJson.{ReadsJson, RefusesJson}
 use Rattle.sg_planar.specs.Fit.{IsFit, IsUnfit}

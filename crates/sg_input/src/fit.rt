@@ -4,7 +4,7 @@ ghost use Rattle.sg_limits.specs.Limits.{text_limit};
 ghost use Rattle.sg_model.specs.Faults.{OrNoMemory};
 ghost use Rattle.sg_reader.specs.Kept.{kept_of};
 ghost use Rattle.sg_reader.specs.ReadInstance.{ReadsInstance, RefusesInstance};
-ghost use Rattle.sg_reader.specs.Rest.{RefusesAlone};
+ghost use Rattle.sg_reader.specs.Ended.{RefusesAlone};
 ghost use Rattle.sg_input.specs.Input.{GivesFit, GivesInstance, RefusesText};
 
 use sg_json::{is_json, read_json};

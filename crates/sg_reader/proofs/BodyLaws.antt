@@ -4,17 +4,25 @@ use Rattle.std.specs.Prelude.{All, ◌||◌, cond, filter, find, is_some, not, o
 use Rattle.std.specs.List.{flat_map, list_any, range_with_len}
 use Rattle.std.specs.Option.{option_or}
 use Rattle.std.specs.Str.{bytes_eq}
-use Rattle.std.proofs.lemmas.Bool.{false≢true, or_parts}
+use Rattle.std.proofs.lemmas.Bool.{false≢true}
 use Rattle.std.proofs.lemmas.Grind.{flat_map-append}
-use Rattle.std.proofs.lemmas.List.{append-nil}
+use Rattle.std.proofs.lemmas.List.{append-nil, map-append}
 use Rattle.std.proofs.lemmas.List.Elements.{All-append, All-cons, All-nil, filter-append}
 use Rattle.std.proofs.lemmas.List.Folds.{find-append}
-use Rattle.std.proofs.lemmas.List.FromFn.{length-map-range_with_len}
+use Rattle.std.proofs.lemmas.Option.{none-some}
+use Rattle.std.proofs.lemmas.Slice.Eq.{bytes_eq-Decides}
 use Rattle.sg_reader.specs.Kept.{Kept, begins, field}
-use Rattle.sg_reader.specs.Number.{number_of}
-use Rattle.sg_reader.specs.Tests.{number_in}
-use Rattle.sg_reader.specs.Body.{couplings_in, says_seam, numbers_from, seam_in, sizes_from}
+use Rattle.sg_reader.specs.Tests.{number_of, number_in}
+use Rattle.sg_reader.specs.Body.{couplings_in, says_seam, numbers_from, once_fault, seam_in, sizes_from}
 use Rattle.sg_reader.proofs.NumberLaws.{size-of_number}
+
+-- a record that begins with a word
+pub word-of : (r : Kept) (w : List ℕ) → begins w r ≡ true → field r 0 ≡ w
+word-of r w h = (bytes_eq-Decides (field r 0) w).0 h
+
+-- begins with no other
+pub other-word : (r : Kept) (w v : List ℕ) → begins w r ≡ true → bytes_eq w v ≡ false → begins v r ≡ false
+other-word r w v h other = ap (λ (u : List ℕ). bytes_eq u v) (word-of r w h) ∙ other
 
 -- a record that begins with a word has a field
 pub word-inside : (w : List ℕ) → bytes_eq [] w ≡ false → (r : Kept) → begins w r ≡ true → 1 ≤ length r.fields
@@ -28,38 +36,63 @@ word-inside w some r h = go r.fields h
 pub seam_inside : (r : Kept) → says_seam r ≡ true → 1 ≤ length r.fields
 seam_inside r h = word-inside (codes "seam") refl r h
 
--- whether the body has a seam
-pub seam_in-seen : (body : List Kept) → is_some (seam_in body) ≡ list_any says_seam body
-unfolding seam_in
-seam_in-seen [] = refl
-seam_in-seen (r ∷ rest) = by (says_seam r) (seam_in-seen rest)
-  where
-    by : (b : Bool) → is_some (option_map (λ q. sizes_from q 1) (find says_seam rest)) ≡ list_any says_seam rest
-        → is_some (option_map (λ q. sizes_from q 1) (cond b (Some r) (find says_seam rest))) ≡ (b || list_any says_seam rest)
-    by true e = refl
-    by false e = e
+-- what the first record that passes a test gives, if there is one
+module _ {X : Type 0} (p : Kept → Bool) (f : Kept → X) where
+  -- there is one where some record passes
+  pub given-seen : (body : List Kept) → is_some (option_map f (find p body)) ≡ list_any p body
+  given-seen [] = refl
+  given-seen (r ∷ rest) = by (p r) (given-seen rest)
+    where
+      by : (b : Bool) → is_some (option_map f (find p rest)) ≡ list_any p rest
+          → is_some (option_map f (cond b (Some r) (find p rest))) ≡ (b || list_any p rest)
+      by true e = refl
+      by false e = e
 
--- what no record passes is not found
-pub find-none : (p : Kept → Bool) (body : List Kept) → list_any p body ≡ false → find p body ≡ None
-find-none p [] h = refl
-find-none p (r ∷ rest) h =
-    let parts = or_parts (p r) (list_any p rest) h in
-    rw (parts.0) (find-none p rest parts.1)
+  -- a record that passes behind a body where none does
+  pub given-first : (body : List Kept) (r : Kept) → is_some (option_map f (find p body)) ≡ false → p r ≡ true
+      → option_map f (find p (body ++ r ∷ [])) ≡ Some (f r)
+  given-first body r none is = rw (find-append p body (r ∷ [])) (rw is (by (find p body) none))
+    where
+      by : (o : Option Kept) → is_some (option_map f o) ≡ false → option_map f (option_or o (Some r)) ≡ Some (f r)
+      by None e = refl
+      by (Some q) e = absurd (false≢true (sym e))
 
--- a seam behind a body without one, and another record
-pub seam_in-first : (body : List Kept) (r : Kept) → list_any says_seam body ≡ false → says_seam r ≡ true →
-    seam_in (body ++ r ∷ []) ≡ Some (sizes_from r 1)
+  -- a record that does not pass gives nothing
+  pub given-other : (body : List Kept) (r : Kept) → p r ≡ false → option_map f (find p (body ++ r ∷ [])) ≡ option_map f (find p body)
+  given-other body r other = rw (find-append p body (r ∷ [])) (rw other (by (find p body)))
+    where
+      by : (o : Option Kept) → option_map f (option_or o None) ≡ option_map f o
+      by None = refl
+      by (Some q) = refl
+
+  -- what all records that pass give, with one more record
+  said-with : (body : List Kept) (r : Kept) (b : Bool) → p r ≡ b → map f (filter p (body ++ r ∷ [])) ≡ map f (filter p body) ++ map f (cond b (r ∷ []) [])
+  said-with body r b is =
+      ap (map f) (filter-append p body (r ∷ [])) ∙ map-append f (filter p body) (filter p (r ∷ []))
+      ∙ ap (λ (c : Bool). map f (filter p body) ++ map f (cond c (r ∷ []) [])) is
+
+  -- one that passes
+  pub said-more : (body : List Kept) (r : Kept) → p r ≡ true → map f (filter p (body ++ r ∷ [])) ≡ map f (filter p body) ++ f r ∷ []
+  said-more body r is = said-with body r true is
+
+  -- one that does not
+  pub said-other : (body : List Kept) (r : Kept) → p r ≡ false → map f (filter p (body ++ r ∷ [])) ≡ map f (filter p body)
+  said-other body r other = said-with body r false other ∙ append-nil (map f (filter p body))
+
+-- a seam behind a body without one
+pub seam_in-first : (body : List Kept) (r : Kept) → is_some (seam_in body) ≡ false → says_seam r ≡ true → seam_in (body ++ r ∷ []) ≡ Some (sizes_from r 1)
 unfolding seam_in
-seam_in-first body r none seam = rw (find-append says_seam body (r ∷ [])) (rw (find-none says_seam body none) (rw seam refl))
+seam_in-first body r none is = given-first says_seam (λ q. sizes_from q 1) body r none is
 
 -- a record that is no `seam` gives none
 pub seam_in-other : (body : List Kept) (r : Kept) → says_seam r ≡ false → seam_in (body ++ r ∷ []) ≡ seam_in body
 unfolding seam_in
-seam_in-other body r other = rw (find-append says_seam body (r ∷ [])) (rw other (by (find says_seam body)))
-  where
-    by : (o : Option Kept) → option_map (λ q. sizes_from q 1) (option_or o None) ≡ option_map (λ q. sizes_from q 1) o
-    by None = refl
-    by (Some q) = refl
+seam_in-other body r other = given-other says_seam (λ q. sizes_from q 1) body r other
+
+-- whether a seam was seen
+pub seam_in-seen : (body : List Kept) → is_some (seam_in body) ≡ list_any says_seam body
+unfolding seam_in
+seam_in-seen body = given-seen says_seam (λ q. sizes_from q 1) body
 
 -- the couplings of one more record
 pub couplings_in-more : (body : List Kept) (r : Kept) → says_seam r ≡ false → couplings_in (body ++ r ∷ []) ≡ couplings_in body ++ numbers_from r 0
@@ -81,9 +114,10 @@ couplings_in-seam body r seam =
     ∙ ap (λ (b : Bool). flat_map f (filter test body) ++ flat_map f (cond (not b) (r ∷ []) [])) seam
     ∙ append-nil (flat_map f (filter test body))
 
--- there are as many numbers as fields from there on
-pub length-numbers_from : (r : Kept) (from : ℕ) → length (numbers_from r from) ≡ length r.fields - from
-length-numbers_from r from = length-map-range_with_len (λ i. number_in r i) from (length r.fields - from)
+-- a list that may be given once and passes is the first
+pub once_fault-passes : (seen : Bool) (r : Kept) → once_fault seen r ≡ None → seen ≡ false
+once_fault-passes true r h = absurd (none-some _ (sym h))
+once_fault-passes false r h = refl
 
 -- each number that is read has a size that fits
 pub number_in-small : (r : Kept) (i : ℕ) → unsigned_abs (number_in r i) < 2 ^ 63

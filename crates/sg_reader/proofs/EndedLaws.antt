@@ -11,9 +11,7 @@ use Rattle.sg_model.specs.Faults.{OrNoMemory}
 use Rattle.sg_draft.specs.Tests.{Refuses}
 use Rattle.sg_reader.specs.Kept.{Kept}
 use Rattle.sg_reader.specs.Body.{says_end}
-use Rattle.sg_reader.specs.Ended.{AtRecord, IsBody, RefusesRecords, StatesToEnd, TestTable, WithoutEnd, record_at}
-use Rattle.sg_reader.specs.Rest.{Fails}
-use Rattle.sg_reader.specs.Taken.{HoldsToEnd, RefusesNext, TakesNext}
+use Rattle.sg_reader.specs.Ended.{AtRecord, IsBody, RefusesRecords, StatesToEnd, TestTable, WithoutEnd, record_at, Fails, HoldsToEnd, RefusesNext, TakesNext}
 use Rattle.sg_reader.proofs.RestLaws.{rest-behind}
 
 -- no record fails a test where there is none

@@ -1,38 +1,32 @@
 -- The records of a general instance behind the first, up to its `end`.
 use Rattle.std.proofs.Common.{◌≡◌, ℕ, ◌+◌, ◌<◌, ◌≤◌, Bool, true, false, List, [], ◌∷◌, ◌++◌, length, map, get_or, set, Option, Some, None, refl, sym, ap, ◌∙◌, arith, inl, inr, codes}
-use Rattle.std.specs.Prelude.{◌||◌, ◌==◌, cond, filter, find, is_some, option_map, unwrap_or}
+use Rattle.std.specs.Prelude.{◌||◌, is_some, unwrap_or}
 use Rattle.std.specs.List.{list_any, range_with_len}
 use Rattle.std.specs.Option.{option_or}
-use Rattle.std.specs.Str.{bytes_eq}
-use Rattle.std.proofs.lemmas.Bool.{cases_eq, eq-eqb, lt-leb, ne_eqb}
-use Rattle.std.proofs.lemmas.List.{append-nil, length-append, length-set, map-append, same_lists, get_or-set_same, get_or-set_other}
-use Rattle.std.proofs.lemmas.List.Elements.{All-append, All-cons, All-nil, All-same, filter-append}
-use Rattle.std.proofs.lemmas.List.Folds.{find-append, list_any-append}
+use Rattle.std.proofs.lemmas.Bool.{cases_eq, eq-eqb, ne_eqb}
+use Rattle.std.proofs.lemmas.List.{length-append, length-set, same_lists, get_or-set_same, get_or-set_other}
+use Rattle.std.proofs.lemmas.List.Elements.{All-append, All-cons, All-nil, All-same}
+use Rattle.std.proofs.lemmas.List.Folds.{list_any-append}
 use Rattle.std.proofs.lemmas.List.FromFn.{get_or-map-range_with_len, length-map-range_with_len, map-range_with_len_more}
-use Rattle.std.proofs.lemmas.Slice.Eq.{bytes_eq-Decides}
 use Rattle.sg_model.specs.declared.bond.Bond.{Bond}
 use Rattle.sg_model.specs.declared.refusal.Fault.{Fault}
 use Rattle.sg_model.specs.declared.refusal.Fault.TheVariants.{Refused, NoMemory}
 use Rattle.sg_model.specs.declared.refusal.Refusal.{Refusal}
 use Rattle.sg_model.specs.declared.refusal.Refusal.TheVariants.{BadNumber, BadShape, UnknownKind}
 use Rattle.sg_model.specs.Ising.{IsBond, Ising}
-use Rattle.sg_reader.specs.ReadInstance.{RefusesBody, StatesInstance}
-use Rattle.sg_reader.specs.Rest.{Fails}
+use Rattle.sg_reader.specs.ReadInstance.{RefusesBody, StatesInstance, HoldsGeneral}
+use Rattle.sg_reader.specs.Ended.{Fails, HoldsSome, HoldsToEnd, RefusesNext, TakesNext}
 use Rattle.sg_reader.proofs.EndedLaws.{end-fault}
 use Rattle.sg_reader.proofs.ReadLaws.{body-fault, body-states}
 use Rattle.sg_reader.specs.declared.header.Header.TheVariants as header
 use Rattle.sg_reader.specs.declared.general.GeneralBody.{GeneralBody}
 use Rattle.sg_limits.specs.Limits.{bond_limit}
-use Rattle.sg_reader.specs.Kept.{Kept, field}
+use Rattle.sg_reader.specs.Kept.{Kept}
 use Rattle.sg_draft.specs.Tests.{Refuses}
-use Rattle.sg_reader.specs.Tests.{any_index, any_number, bad_field, bad_number, is_number_in, size_in, spin_below}
-use Rattle.sg_reader.specs.Body.{bond_fault, bond_of, ends_fault, link_fault, bonds_in, darts_in, bare_end_fault, general_fault, has_rot, instance_of, says_bond, says_end, says_rot, says_rot_of, says_seam, rot_fault, rot_range, seam_fault, seam_in, sizes_from}
-use Rattle.sg_reader.specs.Holds.{HoldsGeneral}
-use Rattle.sg_reader.specs.Taken.{HoldsSome, HoldsToEnd, RefusesNext, TakesNext}
+use Rattle.sg_reader.specs.Tests.{any_index, any_number, bad_field, bad_number, led_range, shape_fault, size_in, spin_below}
+use Rattle.sg_reader.specs.Body.{bond_fault, bond_of, ends_fault, link_fault, bonds_in, darts_in, general_fault, has_rot, instance_of, says_bond, says_end, says_rot, says_rot_of, says_seam, rot_fault, once_fault, seam_in, sizes_from}
 use Rattle.sg_draft.proofs.Drafts.{one-test}
-use Rattle.sg_reader.proofs.TestLaws.{bad_field-rest}
-use Rattle.sg_reader.proofs.BodyLaws.{find-none, seam_in-first, seam_in-other, seam_in-seen}
-use Rattle.sg_reader.proofs.LatticeLaws.{seam_fault-passes}
+use Rattle.sg_reader.proofs.BodyLaws.{given-first, given-other, given-seen, once_fault-passes, other-word, said-more, said-other, seam_in-first, seam_in-other, seam_in-seen}
 use Rattle.sg_model.specs.Faults.{OrNoMemory}
 
 -- the tests of a bond
@@ -45,88 +39,53 @@ pub bond_fault-ends : (n m : ℕ) (r : Kept) (test : Option Refusal) → link_fa
     → bond_fault n m r ≡ test
 bond_fault-ends n m r test good ends = rw good (ap (λ (o : Option Refusal). option_or o None) ends ∙ one-test test)
 
--- different ends within the limit pass
-pub ends_fault-none : (u v m : ℕ) → m < bond_limit → (u ≡ v → ⊥) → ends_fault u v m ≡ None
-ends_fault-none u v m few other = rw (lt-leb bond_limit m few, ne_eqb u v other) refl
-
 -- the tests of a rotation
-pub rot_fault-number : (n : ℕ) (seen : Bool) (r : Kept) (k : ℕ) → (length r.fields ≡ 1 → ⊥) → bad_field r 1 (rot_range n) ≡ Some k
+pub rot_fault-number : (n : ℕ) (seen : Bool) (r : Kept) (k : ℕ) → (length r.fields ≡ 1 → ⊥) → bad_field r 1 (led_range (spin_below n)) ≡ Some k
     → rot_fault n seen r ≡ Some (BadNumber r.at k)
 rot_fault-number n seen r k count bad = rw (ne_eqb (length r.fields) 1 count, bad) refl
 
 -- a second `rot` of a spin is refused
-pub rot_fault-seen : (n : ℕ) (seen : Bool) (r : Kept) → (length r.fields ≡ 1 → ⊥) → bad_field r 1 (rot_range n) ≡ None → seen ≡ true
+pub rot_fault-seen : (n : ℕ) (seen : Bool) (r : Kept) → (length r.fields ≡ 1 → ⊥) → bad_field r 1 (led_range (spin_below n)) ≡ None → seen ≡ true
     → rot_fault n seen r ≡ Some (BadShape r.at)
 rot_fault-seen n seen r count good twice = rw (ne_eqb (length r.fields) 1 count, good, twice) refl
 
 -- a first `rot` with good numbers passes
-pub rot_fault-none : (n : ℕ) (seen : Bool) (r : Kept) → (length r.fields ≡ 1 → ⊥) → bad_field r 1 (rot_range n) ≡ None → seen ≡ false
+pub rot_fault-none : (n : ℕ) (seen : Bool) (r : Kept) → (length r.fields ≡ 1 → ⊥) → bad_field r 1 (led_range (spin_below n)) ≡ None → seen ≡ false
     → rot_fault n seen r ≡ None
 rot_fault-none n seen r count good first = rw (ne_eqb (length r.fields) 1 count, good, first) refl
 
--- behind the spin the numbers of a `rot` are darts
-pub rot_range-rest : (n : ℕ) (r : Kept) → 2 ≤ length r.fields → is_number_in (spin_below n) (field r 1) ≡ true
-    → bad_field r 1 (rot_range n) ≡ bad_field r 2 (λ i. any_index)
-rot_range-rest n r long good = bad_field-rest r (rot_range n) (λ i. any_index) long good
-    (λ i low. let other : (i == 1) ≡ false = ne_eqb i 1 (λ e. absurd (omega (arith, e, low))) in rw other refl)
-
--- so a fault of the darts is the record's
+-- a fault of the darts is the record's
 pub rot_fault-darts : (n : ℕ) (seen : Bool) (r : Kept) → (length r.fields ≡ 1 → ⊥) →
-    bad_field r 1 (rot_range n) ≡ bad_field r 2 (λ i. any_index) → (e : Fault)
+    bad_field r 1 (led_range (spin_below n)) ≡ bad_field r 2 (λ i. any_index) → (e : Fault)
     → OrNoMemory (Refuses (bad_number r 2 (λ i. any_index))) e → OrNoMemory (Refuses (rot_fault n seen r)) e
 rot_fault-darts n seen r count rest (Refused x) h = rw (ne_eqb (length r.fields) 1 count, rest, h) refl
 rot_fault-darts n seen r count rest NoMemory h = tt
-
--- which test a record meets
-word-of : (r : Kept) (w : List ℕ) → bytes_eq (field r 0) w ≡ true → field r 0 ≡ w
-word-of r w h = (bytes_eq-Decides (field r 0) w).0 h
 
 -- a `bond` is tested as one behind the bonds before it
 pub general_fault-bond : (n : ℕ) (body : List Kept) (r : Kept) → says_bond r ≡ true → general_fault n body r ≡ bond_fault n (length (bonds_in body)) r
 unfolding general_fault
 general_fault-bond n body r h = rw h refl
 
-rot-no_bond : (r : Kept) → says_rot r ≡ true → says_bond r ≡ false
-rot-no_bond r h = ap (λ (w : List ℕ). bytes_eq w (codes "bond")) (word-of r (codes "rot") h)
-
-bond-no_rot : (r : Kept) → says_bond r ≡ true → says_rot r ≡ false
-bond-no_rot r h = ap (λ (w : List ℕ). bytes_eq w (codes "rot")) (word-of r (codes "bond") h)
-
-bond-no_seam : (r : Kept) → says_bond r ≡ true → says_seam r ≡ false
-bond-no_seam r h = ap (λ (w : List ℕ). bytes_eq w (codes "seam")) (word-of r (codes "bond") h)
-
-rot-no_seam : (r : Kept) → says_rot r ≡ true → says_seam r ≡ false
-rot-no_seam r h = ap (λ (w : List ℕ). bytes_eq w (codes "seam")) (word-of r (codes "rot") h)
-
-seam-no_bond : (r : Kept) → says_seam r ≡ true → says_bond r ≡ false
-seam-no_bond r h = ap (λ (w : List ℕ). bytes_eq w (codes "bond")) (word-of r (codes "seam") h)
-
-seam-no_rot : (r : Kept) → says_seam r ≡ true → says_rot r ≡ false
-seam-no_rot r h = ap (λ (w : List ℕ). bytes_eq w (codes "rot")) (word-of r (codes "seam") h)
-
-end-no : (r : Kept) → says_end r ≡ true → (says_bond r ≡ false) × (says_rot r ≡ false) × (says_seam r ≡ false)
-end-no r h =
-    let w = word-of r (codes "end") h in (
-      ap (λ (v : List ℕ). bytes_eq v (codes "bond")) w,
-      ap (λ (v : List ℕ). bytes_eq v (codes "rot")) w,
-      ap (λ (v : List ℕ). bytes_eq v (codes "seam"))
-          w,
-    )
-
 -- a `rot` is tested as one of its spin
 pub general_fault-rot : (n : ℕ) (body : List Kept) (r : Kept) → says_rot r ≡ true → general_fault n body r ≡ rot_fault n (has_rot body (size_in r 1)) r
 unfolding general_fault
-general_fault-rot n body r h = rw (rot-no_bond r h, h) refl
+general_fault-rot n body r h = rw (other-word r (codes "rot") (codes "bond") h refl, h) refl
 
 -- a `seam` is tested as one behind the others
-pub general_fault-seam : (n : ℕ) (body : List Kept) (r : Kept) → says_seam r ≡ true → general_fault n body r ≡ seam_fault (list_any says_seam body) r
+pub general_fault-seam : (n : ℕ) (body : List Kept) (r : Kept) → says_seam r ≡ true → general_fault n body r ≡ once_fault (list_any says_seam body) r
 unfolding general_fault
-general_fault-seam n body r h = rw (seam-no_bond r h, seam-no_rot r h, h) refl
+general_fault-seam n body r h = rw (other-word r (codes "seam") (codes "bond") h refl, other-word r (codes "seam") (codes "rot") h refl, h) refl
 
 -- an `end` is tested as a bare one
-pub general_fault-end : (n : ℕ) (body : List Kept) (r : Kept) → says_end r ≡ true → general_fault n body r ≡ bare_end_fault r
+pub general_fault-end : (n : ℕ) (body : List Kept) (r : Kept) → says_end r ≡ true → general_fault n body r ≡ shape_fault 1 r
 unfolding general_fault
-general_fault-end n body r h = let no = end-no r h in rw (no.0, no.1, no.2, h) refl
+general_fault-end n body r h =
+    rw (
+      other-word r (codes "end") (codes "bond") h refl,
+      other-word r (codes "end") (codes "rot") h refl,
+      other-word r (codes "end") (codes "seam") h refl,
+      h,
+    ) refl
 
 -- any other record is of no known kind
 pub general_fault-other : (n : ℕ) (body : List Kept) (r : Kept) → says_bond r ≡ false → says_rot r ≡ false → says_seam r ≡ false → says_end r ≡ false
@@ -137,16 +96,12 @@ general_fault-other n body r a b c d = rw (a, b, c, d) refl
 -- the bonds of one more record
 pub bonds_in-more : (body : List Kept) (r : Kept) → says_bond r ≡ true → bonds_in (body ++ r ∷ []) ≡ bonds_in body ++ bond_of r ∷ []
 unfolding bonds_in
-bonds_in-more body r h =
-    ap (map bond_of) (filter-append says_bond body (r ∷ [])) ∙ map-append bond_of (filter says_bond body) (filter says_bond (r ∷ []))
-    ∙ ap (λ (b : Bool). map bond_of (filter says_bond body) ++ map bond_of (cond b (r ∷ []) [])) h
+bonds_in-more body r h = said-more says_bond bond_of body r h
 
 -- a record that is no `bond` gives none
 pub bonds_in-other : (body : List Kept) (r : Kept) → says_bond r ≡ false → bonds_in (body ++ r ∷ []) ≡ bonds_in body
 unfolding bonds_in
-bonds_in-other body r h =
-    ap (map bond_of) (filter-append says_bond body (r ∷ [])) ∙ map-append bond_of (filter says_bond body) (filter says_bond (r ∷ []))
-    ∙ ap (λ (b : Bool). map bond_of (filter says_bond body) ++ map bond_of (cond b (r ∷ []) [])) h ∙ append-nil (map bond_of (filter says_bond body))
+bonds_in-other body r h = said-other says_bond bond_of body r h
 
 -- whether a spin has its darts, and which, with one more record
 has_rot-more : (body : List Kept) (r : Kept) (i : ℕ) (b : Bool) → says_rot_of i r ≡ b → has_rot (body ++ r ∷ []) i ≡ (has_rot body i || (b || false))
@@ -172,17 +127,15 @@ has_rot-own body r i h = has_rot-more body r i true h ∙ or-some (has_rot body 
 -- a record that is no `rot` of the spin leaves its darts
 pub darts_in-other : (body : List Kept) (r : Kept) (i : ℕ) → says_rot_of i r ≡ false → darts_in (body ++ r ∷ []) i ≡ darts_in body i
 unfolding darts_in
-darts_in-other body r i h = rw (find-append (says_rot_of i) body (r ∷ [])) (rw h (by (find (says_rot_of i) body)))
-  where
-    by : (o : Option Kept) → unwrap_or (option_map (λ q. sizes_from q 2) (option_or o None)) [] ≡ unwrap_or (option_map (λ q. sizes_from q 2) o) []
-    by None = refl
-    by (Some q) = refl
+darts_in-other body r i h = ap (λ (o : Option (List ℕ)). unwrap_or o []) (given-other (says_rot_of i) (λ q. sizes_from q 2) body r h)
 
 -- behind its first `rot` the spin has these darts
 pub darts_in-own : (body : List Kept) (r : Kept) (i : ℕ) → says_rot_of i r ≡ true → has_rot body i ≡ false →
     darts_in (body ++ r ∷ []) i ≡ sizes_from r 2
 unfolding darts_in has_rot
-darts_in-own body r i h first = rw (find-append (says_rot_of i) body (r ∷ [])) (rw (find-none (says_rot_of i) body first) (rw h refl))
+darts_in-own body r i h first =
+    let f : Kept → List ℕ = λ q. sizes_from q 2 in
+    ap (λ (o : Option (List ℕ)). unwrap_or o []) (given-first (says_rot_of i) f body r (given-seen (says_rot_of i) f body ∙ first) h)
 
 -- a table over the spins with one entry changed
 table-set : {X : Type 0} (f g : ℕ → X) (n s : ℕ) (v : X) → s < n → g s ≡ v → ((i : ℕ) → (i ≡ s → ⊥) → g i ≡ f i)
@@ -246,9 +199,9 @@ bond-taken old new r m many is good same added lists marks cut sound room = reco
         few = omega (arith, all, count, many, room);
         joined = rw same (All-same (IsBond old.n) new.bonds (old.bonds ++ bond_of r ∷ []) added
             (All-append (IsBond old.n) old.bonds (bond_of r ∷ []) h.joined (All-cons (IsBond old.n) (bond_of r) [] sound (All-nil (IsBond old.n)))));
-        darts = rw same (lists ∙ h.darts ∙ darts-kept body r old.n (bond-no_rot r is));
-        marks = rw same (marks ∙ h.marks ∙ marks-kept body r old.n (bond-no_rot r is));
-        seam = cut ∙ h.seam ∙ sym (seam_in-other body r (bond-no_seam r is));
+        darts = rw same (lists ∙ h.darts ∙ darts-kept body r old.n (other-word r (codes "bond") (codes "rot") is refl));
+        marks = rw same (marks ∙ h.marks ∙ marks-kept body r old.n (other-word r (codes "bond") (codes "rot") is refl));
+        seam = cut ∙ h.seam ∙ sym (seam_in-other body r (other-word r (codes "bond") (codes "seam") is refl));
       };
 }
 
@@ -258,41 +211,51 @@ pub bond-refused : (old : GeneralBody) (r : Kept) (m : ℕ) (x : Refusal) → m 
     → RefusesNext (λ s. general_fault s.n) HoldsGeneral old r (Refused x)
 bond-refused old r m x many is bad = record { refused = λ start body h. bond-tested old r m many is start body h ∙ bad }
 
+-- what is kept behind a record that gives no bond
+behind-other : (old new : GeneralBody) (start : GeneralBody) (body : List Kept) (r : Kept) → says_bond r ≡ false → new.n ≡ old.n → new.bonds ≡ old.bonds
+    → HoldsGeneral start body old → new.rotation ≡ map (darts_in (body ++ r ∷ [])) (range_with_len 0 old.n)
+    → new.seen.items ≡ map (has_rot (body ++ r ∷ [])) (range_with_len 0 old.n) → new.seam ≡ seam_in (body ++ r ∷ [])
+    → HoldsGeneral start (body ++ r ∷ []) new
+behind-other old new start body r other same kept h darts marks cut =
+    let count = ap length kept in
+    let few = h.few in
+    let some = h.some in
+    record {
+      spins = same ∙ h.spins;
+      some = omega (arith, same, some);
+      bonds = kept ∙ h.bonds ∙ sym (bonds_in-other body r other);
+      few = omega (arith, count, few);
+      joined = rw (same, kept) h.joined;
+      darts = rw same darts;
+      marks = rw same marks;
+      seam = cut;
+    }
+
 -- whether a `seam` stood before is kept
 seen-seam : (start : GeneralBody) (body : List Kept) (state : GeneralBody) → HoldsGeneral start body state → is_some state.seam ≡ list_any says_seam body
 seen-seam start body state h = ap is_some h.seam ∙ seam_in-seen body
 
 seam-tested : (old : GeneralBody) (r : Kept) (seen : Bool) → is_some old.seam ≡ seen → says_seam r ≡ true → (start : GeneralBody) (body : List Kept)
-    → HoldsGeneral start body old → general_fault start.n body r ≡ seam_fault seen r
+    → HoldsGeneral start body old → general_fault start.n body r ≡ once_fault seen r
 seam-tested old r seen was is start body h =
-    general_fault-seam start.n body r is ∙ ap (λ (b : Bool). seam_fault b r) (sym (seen-seam start body old h) ∙ was)
+    general_fault-seam start.n body r is ∙ ap (λ (b : Bool). once_fault b r) (sym (seen-seam start body old h) ∙ was)
 
 -- a `seam` is taken
-pub seam-taken : (old new : GeneralBody) (r : Kept) (seen : Bool) → is_some old.seam ≡ seen → says_seam r ≡ true → seam_fault seen r ≡ None
+pub seam-taken : (old new : GeneralBody) (r : Kept) (seen : Bool) → is_some old.seam ≡ seen → says_seam r ≡ true → once_fault seen r ≡ None
     → new.n ≡ old.n → new.bonds ≡ old.bonds → new.rotation ≡ old.rotation → new.seen.items ≡ old.seen.items
     → new.seam ≡ Some (sizes_from r 1)
     → TakesNext (λ s. general_fault s.n) HoldsGeneral old r new
 seam-taken old new r seen was is good same kept lists marks cut = record {
   passes = λ start body h. seam-tested old r seen was is start body h ∙ good;
-  goes_on = λ start body h.
-      let count = ap length kept in
-      let few = h.few in
-      let some = h.some in
-      record {
-        spins = same ∙ h.spins;
-        some = omega (arith, same, some);
-        bonds = kept ∙ h.bonds ∙ sym (bonds_in-other body r (seam-no_bond r is));
-        few = omega (arith, count, few);
-        joined = rw (same, kept) h.joined;
-        darts = rw same (lists ∙ h.darts ∙ darts-kept body r old.n (seam-no_rot r is));
-        marks = rw same (marks ∙ h.marks ∙ marks-kept body r old.n (seam-no_rot r is));
-        seam = cut ∙ sym (seam_in-first body r (sym (seen-seam start body old h) ∙ was ∙ seam_fault-passes seen r good) is);
-      };
+  goes_on = λ start body h. behind-other old new start body r (other-word r (codes "seam") (codes "bond") is refl) same kept h
+      (lists ∙ h.darts ∙ darts-kept body r old.n (other-word r (codes "seam") (codes "rot") is refl))
+      (marks ∙ h.marks ∙ marks-kept body r old.n (other-word r (codes "seam") (codes "rot") is refl))
+      (cut ∙ sym (seam_in-first body r (ap is_some (sym h.seam) ∙ was ∙ once_fault-passes seen r good) is));
 }
 
 -- a `seam` is refused
 pub seam-refused : (old : GeneralBody) (r : Kept) (seen : Bool) (e : Fault) → is_some old.seam ≡ seen → says_seam r ≡ true
-    → OrNoMemory (Refuses (seam_fault seen r)) e → RefusesNext (λ s. general_fault s.n) HoldsGeneral old r e
+    → OrNoMemory (Refuses (once_fault seen r)) e → RefusesNext (λ s. general_fault s.n) HoldsGeneral old r e
 seam-refused old r seen e was is bad = record { refused = λ start body h. rw (seam-tested old r seen was is start body h) bad }
 
 -- the entry of a spin among the marks
@@ -318,23 +281,14 @@ rot-taken old new r d was inside is good same kept cut lists marks = record {
   goes_on = λ start body h.
       let s = size_in r 1 in
       let first = sym (mark-of start body old s d h inside) ∙ was in
-      let count = ap length kept in
-      let few = h.few in
-      let some = h.some in
-      record {
-        spins = same ∙ h.spins;
-        some = omega (arith, same, some);
-        bonds = kept ∙ h.bonds ∙ sym (bonds_in-other body r (rot-no_bond r is));
-        few = omega (arith, count, few);
-        joined = rw (same, kept) h.joined;
-        darts = rw same (lists ∙ ap (λ (l : List (List ℕ)). set l s (sizes_from r 2)) h.darts
-            ∙ table-set (darts_in body) (darts_in (body ++ r ∷ [])) old.n s (sizes_from r 2) inside (darts_in-own body r s (own-rot_of r is) first)
-            (λ i other. darts_in-other body r i (other-rot_of r i is other)));
-        marks = rw same (marks ∙ ap (λ (l : List Bool). set l s true) h.marks
-            ∙ table-set (has_rot body) (has_rot (body ++ r ∷ [])) old.n s true inside (has_rot-own body r s (own-rot_of r is))
-            (λ i other. has_rot-other body r i (other-rot_of r i is other)));
-        seam = cut ∙ h.seam ∙ sym (seam_in-other body r (rot-no_seam r is));
-      };
+      behind-other old new start body r (other-word r (codes "rot") (codes "bond") is refl) same kept h
+      (lists ∙ ap (λ (l : List (List ℕ)). set l s (sizes_from r 2)) h.darts
+      ∙ table-set (darts_in body) (darts_in (body ++ r ∷ [])) old.n s (sizes_from r 2) inside (darts_in-own body r s (own-rot_of r is) first)
+      (λ i other. darts_in-other body r i (other-rot_of r i is other)))
+      (marks ∙ ap (λ (l : List Bool). set l s true) h.marks
+      ∙ table-set (has_rot body) (has_rot (body ++ r ∷ [])) old.n s true inside (has_rot-own body r s (own-rot_of r is))
+      (λ i other. has_rot-other body r i (other-rot_of r i is other)))
+      (cut ∙ h.seam ∙ sym (seam_in-other body r (other-word r (codes "rot") (codes "seam") is refl)));
 }
 
 -- a second `rot` of a spin is refused
@@ -413,14 +367,14 @@ no_marks-more marks i h = ap (λ (l : List Bool). l ++ false ∷ []) h ∙ sym (
 module _ (n : ℕ) (start : GeneralBody) (all : List Kept) (now : GeneralBody) (last : Kept) (rest : List Kept)
     (h : HoldsToEnd (λ s. general_fault s.n) HoldsGeneral start all now last rest) (was : start.n ≡ n) where
   -- a bare `end` makes it the instance that is stated
-  pub general-states : (inst : Ising) → bare_end_fault last ≡ None → inst ≡ instance_of (header.General start.n) h.body
+  pub general-states : (inst : Ising) → shape_fault 1 last ≡ None → inst ≡ instance_of (header.General start.n) h.body
       → StatesInstance (header.General n) all inst rest
   general-states inst end value =
       body-states (header.General n) (general_fault start.n) all h.body last rest inst (ap general_fault was) h.ended
       (general_fault-end start.n h.body last h.ended.ends ∙ end) (value ∙ ap (λ (k : ℕ). instance_of (header.General k) h.body) was)
 
   -- another `end` refuses the body
-  pub general-ends : (x : Refusal) → bare_end_fault last ≡ Some x → Fails (RefusesBody (header.General n) all) all rest (Refused x)
+  pub general-ends : (x : Refusal) → shape_fault 1 last ≡ Some x → Fails (RefusesBody (header.General n) all) all rest (Refused x)
   general-ends x end =
       body-fault (header.General n) (general_fault start.n) all rest (Refused x) (ap general_fault was)
       (end-fault (λ s. general_fault s.n) HoldsGeneral start all now last rest h (Refused x) (general_fault-end start.n h.body last h.ended.ends ∙ end))

@@ -1,34 +1,31 @@
 -- The tests of a first record.
-use Rattle.std.proofs.Common.{◌≡◌, ℕ, ◌<◌, ◌≤◌, pos, length, Option, Some, None, refl, ap}
-use Rattle.std.proofs.lemmas.Bool.{le-ltb, lt-ltb}
-use Rattle.sg_model.specs.declared.refusal.Refusal.TheVariants.{BadNumber, BadShape, TooManySpins}
+use Rattle.std.proofs.Common.{◌≡◌, ◌∙◌, ℕ, length, Option, Some, None, refl, ap}
+use Rattle.std.specs.Option.{option_or}
+use Rattle.sg_model.specs.declared.refusal.Refusal.{Refusal}
+use Rattle.sg_model.specs.declared.refusal.Refusal.TheVariants.{BadNumber}
+use Rattle.sg_draft.specs.Limits.{program_limits}
+use Rattle.sg_draft.specs.Numbers.{many_spins_fault}
+use Rattle.sg_draft.proofs.Drafts.{one-test}
 use Rattle.sg_reader.specs.declared.header.Form.{Form}
 use Rattle.sg_reader.specs.Kept.{Kept, field}
-use Rattle.sg_reader.specs.Tests.{bad_field}
+use Rattle.sg_reader.specs.Tests.{bad_field, shape_fault}
 use Rattle.sg_reader.specs.Header.{field_count, form_fault, form_of, header_fault, header_of, header_range, header_with, spins_in}
-use Rattle.sg_limits.specs.Limits.{spin_limit}
-use Rattle.sg_reader.proofs.TestLaws.{is-not, is-other}
+use Rattle.sg_reader.proofs.TestLaws.{is-not}
 
 -- a first record with another number of fields is refused for that
-pub form_fault-shape : (form : Form) (r : Kept) → (length r.fields ≡ field_count form → ⊥) → form_fault (Some form) r ≡ Some (BadShape r.at)
-form_fault-shape form r h = rw (is-other (length r.fields) (field_count form) h) refl
+pub form_fault-shape : (form : Form) (r : Kept) (x : Refusal) → shape_fault (field_count form) r ≡ Some x → form_fault (Some form) r ≡ Some x
+form_fault-shape form r x bad = rw bad refl
 
 -- then for the first field that is no number of its range
 pub form_fault-number : (form : Form) (r : Kept) (k : ℕ) → length r.fields ≡ field_count form → bad_field r 1 (header_range form) ≡ Some k
     → form_fault (Some form) r ≡ Some (BadNumber r.at k)
 form_fault-number form r k count bad = rw (is-not (length r.fields) (field_count form) count, bad) refl
 
--- then for too many spins
-pub form_fault-spins : (form : Form) (r : Kept) → length r.fields ≡ field_count form → bad_field r 1 (header_range form) ≡ None
-    → spin_limit < spins_in form r → form_fault (Some form) r ≡ Some (TooManySpins (pos (spins_in form r)))
-form_fault-spins form r count good many =
-    rw (is-not (length r.fields) (field_count form) count, good, lt-ltb spin_limit (spins_in form r) many) refl
-
--- and else it passes
-pub form_fault-none : (form : Form) (r : Kept) → length r.fields ≡ field_count form → bad_field r 1 (header_range form) ≡ None
-    → spins_in form r ≤ spin_limit → form_fault (Some form) r ≡ None
-form_fault-none form r count good few =
-    rw (is-not (length r.fields) (field_count form) count, good, le-ltb spin_limit (spins_in form r) few) refl
+-- and then for too many spins alone
+pub form_fault-spins : (form : Form) (r : Kept) (test : Option Refusal) → length r.fields ≡ field_count form → bad_field r 1 (header_range form) ≡ None
+    → many_spins_fault program_limits (spins_in form r) ≡ test → form_fault (Some form) r ≡ test
+form_fault-spins form r test count good spins =
+    rw (is-not (length r.fields) (field_count form) count, good) (ap (λ (o : Option Refusal). option_or o None) spins ∙ one-test test)
 
 -- a first record whose word is known
 pub header_fault-of : (r : Kept) (form : Option Form) → form_of (field r 0) ≡ form → header_fault r ≡ form_fault form r

@@ -1,37 +1,30 @@
 -- The records of a lattice behind the first, up to its `end`.
-use Rattle.std.proofs.Common.{◌≡◌, ℕ, ℤ, ◌<◌, ◌^◌, Bool, true, false, List, [], ◌++◌, length, Option, Some, None, refl, sym, ap, ◌∙◌, arith, codes}
+use Rattle.std.proofs.Common.{◌≡◌, ℕ, ℤ, ◌<◌, ◌^◌, Bool, true, false, List, [], ◌++◌, length, Option, Some, None, refl, sym, ap, ◌∙◌, codes}
 use Rattle.std.specs.Prelude.{All, is_some, option_map, unsigned_abs}
 use Rattle.std.specs.List.{list_any}
-use Rattle.std.specs.Str.{bytes_eq}
-use Rattle.std.proofs.lemmas.List.{length-append}
-use Rattle.std.proofs.lemmas.Option.{none-some}
-use Rattle.std.proofs.lemmas.Slice.Eq.{bytes_eq-Decides}
 use Rattle.sg_lattice.specs.declared.kind.Kind.{Kind}
 use Rattle.sg_lattice.specs.Tables.{bond_total, lattice}
 use Rattle.sg_reader.specs.declared.header.Header.TheVariants as header
 use Rattle.sg_reader.specs.declared.lattice.LatticeBody.{LatticeBody}
-use Rattle.sg_reader.specs.Kept.{Kept, field}
+use Rattle.sg_reader.specs.Kept.{Kept}
 use Rattle.sg_draft.specs.Draft.{reseamed}
 use Rattle.sg_reader.specs.Tests.{any_number, bad_field, bad_number}
-use Rattle.sg_reader.specs.Body.{couplings_in, instance_of, says_end, says_seam, lattice_end_fault, lattice_fault, numbers_from, seam_fault, seam_in, sizes_from}
-use Rattle.sg_reader.specs.Taken.{HoldsToEnd, RefusesNext, TakesNext}
-use Rattle.sg_reader.specs.Holds.{HoldsLattice}
-use Rattle.sg_reader.proofs.BodyLaws.{couplings_in-small, couplings_in-more, couplings_in-seam, length-numbers_from, seam_in-first, seam_in-other, seam_in-seen}
-use Rattle.sg_reader.proofs.RecordCounts.{field_total, field_total-around, field_total-more}
+use Rattle.sg_reader.specs.Body.{couplings_in, instance_of, says_end, says_seam, lattice_end_fault, lattice_fault, numbers_from, once_fault, seam_in, sizes_from}
+use Rattle.sg_reader.specs.Ended.{HoldsToEnd, RefusesNext, TakesNext, Fails}
+use Rattle.sg_reader.specs.ReadInstance.{HoldsLattice, RefusesBody, StatesInstance}
+use Rattle.sg_reader.proofs.BodyLaws.{couplings_in-small, couplings_in-more, couplings_in-seam, once_fault-passes, other-word, seam_in-first, seam_in-other, seam_in-seen}
 use Rattle.sg_draft.specs.Tests.{Refuses}
 use Rattle.sg_model.specs.Faults.{OrNoMemory}
 use Rattle.sg_model.specs.declared.refusal.Fault.{Fault}
 use Rattle.sg_model.specs.declared.refusal.Fault.TheVariants.{Refused}
 use Rattle.sg_model.specs.declared.refusal.Refusal.{Refusal}
-use Rattle.sg_reader.specs.ReadInstance.{RefusesBody, StatesInstance}
-use Rattle.sg_reader.specs.Rest.{Fails}
 use Rattle.sg_reader.proofs.EndedLaws.{end-fault}
 use Rattle.sg_reader.proofs.ReadLaws.{body-fault, body-states}
 use Rattle.sg_model.specs.declared.refusal.Refusal.TheVariants.{BadNumber}
 
 -- which test a record of a lattice meets
 pub lattice_fault-seam : (wanted : ℕ) (body : List Kept) (r : Kept) → says_seam r ≡ true →
-    lattice_fault wanted body r ≡ seam_fault (list_any says_seam body) r
+    lattice_fault wanted body r ≡ once_fault (list_any says_seam body) r
 unfolding lattice_fault
 lattice_fault-seam wanted body r h = rw h refl
 
@@ -41,15 +34,11 @@ pub lattice_fault-couplings : (wanted : ℕ) (body : List Kept) (r : Kept) → s
 unfolding lattice_fault
 lattice_fault-couplings wanted body r h e = rw (h, e) refl
 
--- `end` is no seam
-end-no_seam : (r : Kept) → says_end r ≡ true → says_seam r ≡ false
-end-no_seam r h = let word = (bytes_eq-Decides (field r 0) (codes "end")).0 h in ap (λ (w : List ℕ). bytes_eq w (codes "seam")) word
-
 -- an `end` is tested by the number of couplings before it
 pub lattice_fault-end : (wanted : ℕ) (body : List Kept) (r : Kept) → says_end r ≡ true
     → lattice_fault wanted body r ≡ lattice_end_fault wanted (length (couplings_in body)) r
 unfolding lattice_fault
-lattice_fault-end wanted body r h = rw (end-no_seam r h, h) refl
+lattice_fault-end wanted body r h = rw (other-word r (codes "end") (codes "seam") h refl, h) refl
 
 -- the records of a lattice give the lattice of their couplings, with their seam if there is one
 pub instance_of-lattice : (kind : Kind) (rows cols : ℕ) (body : List Kept)
@@ -62,42 +51,32 @@ pub seen-seam : (start : LatticeBody) (body : List Kept) (state : LatticeBody) �
     → is_some state.seam ≡ list_any says_seam body
 seen-seam start body state h = ap is_some h.seam ∙ seam_in-seen body
 
--- a `seam` that passes is the first
-pub seam_fault-passes : (seen : Bool) (r : Kept) → seam_fault seen r ≡ None → seen ≡ false
-seam_fault-passes true r h = absurd (none-some _ (sym h))
-seam_fault-passes false r h = refl
-
 -- nothing was read yet
 pub holds-none : (state : LatticeBody) → state.couplings ≡ [] → state.seam ≡ None → HoldsLattice state [] state
 unfolding couplings_in seam_in
-holds-none state none cut = let count = ap length none in record { wanted = refl; couplings = none; seam = cut; few = omega (arith, count) }
+holds-none state none cut = record { wanted = refl; couplings = none; seam = cut }
 
 -- a `seam` is taken
-pub seam-taken : (old new : LatticeBody) (r : Kept) (seen : Bool) → is_some old.seam ≡ seen → says_seam r ≡ true → seam_fault seen r ≡ None
+pub seam-taken : (old new : LatticeBody) (r : Kept) (seen : Bool) → is_some old.seam ≡ seen → says_seam r ≡ true → once_fault seen r ≡ None
     → new.wanted ≡ old.wanted → new.couplings ≡ old.couplings → new.seam ≡ Some (sizes_from r 1)
     → TakesNext (λ s. lattice_fault s.wanted) HoldsLattice old r new
 seam-taken old new r seen was seam good same kept bonds = record {
   passes = λ start body h. lattice_fault-seam start.wanted body r seam
-      ∙ ap (λ (b : Bool). seam_fault b r) (sym (seen-seam start body old h) ∙ was) ∙ good;
-  goes_on = λ start body h.
-      let count = ap length kept in
-      let total = field_total-more body r in
-      let few = h.few in
-      record {
-        wanted = same ∙ h.wanted;
-        couplings = kept ∙ h.couplings ∙ sym (couplings_in-seam body r seam);
-        seam = bonds ∙ sym (seam_in-first body r (sym (seen-seam start body old h) ∙ was ∙ seam_fault-passes seen r good) seam);
-        few = omega (arith, count, total, few);
-      };
+      ∙ ap (λ (b : Bool). once_fault b r) (sym (seen-seam start body old h) ∙ was) ∙ good;
+  goes_on = λ start body h. record {
+    wanted = same ∙ h.wanted;
+    couplings = kept ∙ h.couplings ∙ sym (couplings_in-seam body r seam);
+    seam = bonds ∙ sym (seam_in-first body r (ap is_some (sym h.seam) ∙ was ∙ once_fault-passes seen r good) seam);
+  };
 }
 
 -- a `seam` is refused
 pub seam-refused : (old : LatticeBody) (r : Kept) (seen : Bool) (e : Fault) → is_some old.seam ≡ seen → says_seam r ≡ true
-    → OrNoMemory (Refuses (seam_fault seen r)) e → RefusesNext (λ s. lattice_fault s.wanted) HoldsLattice old r e
+    → OrNoMemory (Refuses (once_fault seen r)) e → RefusesNext (λ s. lattice_fault s.wanted) HoldsLattice old r e
 seam-refused old r seen e was seam bad = record {
   refused = λ start body h.
-      let same : lattice_fault start.wanted body r ≡ seam_fault seen r =
-      lattice_fault-seam start.wanted body r seam ∙ ap (λ (b : Bool). seam_fault b r) (sym (seen-seam start body old h) ∙ was) in
+      let same : lattice_fault start.wanted body r ≡ once_fault seen r =
+      lattice_fault-seam start.wanted body r seam ∙ ap (λ (b : Bool). once_fault b r) (sym (seen-seam start body old h) ∙ was) in
       rw same bad;
 }
 
@@ -108,18 +87,11 @@ pub couplings-taken : (old new : LatticeBody) (r : Kept) → says_seam r ≡ fal
 couplings-taken old new r other goes_on good same added kept = record {
   passes = λ start body h.
       lattice_fault-couplings start.wanted body r other goes_on ∙ ap (λ (o : Option ℕ). option_map (λ i. BadNumber r.at i) o) good;
-  goes_on = λ start body h.
-      let all = ap length added in
-      let sum = length-append old.couplings (numbers_from r 0) in
-      let count = length-numbers_from r 0 in
-      let total = field_total-more body r in
-      let few = h.few in
-      record {
-        wanted = same ∙ h.wanted;
-        couplings = added ∙ ap (λ (l : List ℤ). l ++ numbers_from r 0) h.couplings ∙ sym (couplings_in-more body r other);
-        seam = kept ∙ h.seam ∙ sym (seam_in-other body r other);
-        few = omega (arith, all, sum, count, total, few);
-      };
+  goes_on = λ start body h. record {
+    wanted = same ∙ h.wanted;
+    couplings = added ∙ ap (λ (l : List ℤ). l ++ numbers_from r 0) h.couplings ∙ sym (couplings_in-more body r other);
+    seam = kept ∙ h.seam ∙ sym (seam_in-other body r other);
+  };
 }
 
 -- couplings are refused
@@ -129,13 +101,6 @@ couplings-refused old r e other goes_on bad = record { refused = λ start body h
 
 module _ (start : LatticeBody) (all : List Kept) (now : LatticeBody) (last : Kept) (rest : List Kept)
     (h : HoldsToEnd (λ s. lattice_fault s.wanted) HoldsLattice start all now last rest) where
-  -- the couplings are fewer than the fields
-  pub couplings-few : field_total all < 2 ^ 32 → length now.couplings < 2 ^ 32
-  couplings-few short =
-      let total = field_total-around all h.body last rest h.ended.split in
-      let few = h.held.few in
-      omega (arith, total, few, short)
-
   -- the `end` is tested by the couplings that were found
   pub end-tested : lattice_fault start.wanted h.body last ≡ lattice_end_fault start.wanted (length now.couplings) last
   end-tested = lattice_fault-end start.wanted h.body last h.ended.ends

@@ -13,7 +13,7 @@ use Rattle.std.proofs.lemmas.Fmt.{IsAscii-from_digits}
 use Rattle.std.proofs.lemmas.Int.{ints}
 use Rattle.std.proofs.lemmas.Option.{none-some, same_Some}
 use mir.Syntax.{w64}
-use Rattle.sg_reader.specs.Number.{is_numeral, number_of, size_of}
+use Rattle.sg_reader.specs.Tests.{is_numeral, number_of, size_of}
 
 digit-true : (c : ℕ) → digit_value c < 10 → is_ascii_digit c ≡ true
 digit-true c h = let r = digit_from_value c h in grind (arith, nat_tests)

@@ -8,9 +8,8 @@ use Rattle.sg_reader.specs.declared.header.Header.{Header}
 use Rattle.sg_reader.specs.Kept.{Kept}
 use Rattle.sg_reader.specs.Header.{header_fault, header_of}
 use Rattle.sg_reader.specs.Body.{instance_of, record_fault}
-use Rattle.sg_reader.specs.Ended.{IsEnded, RefusesRecords, TestTable}
+use Rattle.sg_reader.specs.Ended.{IsEnded, RefusesRecords, TestTable, Fails}
 use Rattle.sg_reader.specs.ReadInstance.{AtOne, AtWhole, Behind, RefusesBody, RefusesInstance, StatesInstance}
-use Rattle.sg_reader.specs.Rest.{Fails}
 use Rattle.sg_reader.proofs.RestLaws.{fails-on, rest-behind}
 
 -- what refuses a record by the tests of the header refuses the body

@@ -14,8 +14,7 @@ use Rattle.csv.specs.declared.parser.Action.TheVariants as act
 use Rattle.csv.specs.declared.parser.State.{State}
 use Rattle.csv.specs.declared.parser.State.TheVariants as st
 use Rattle.sg_reader.specs.Field.{fields_in}
-use Rattle.sg_reader.specs.Kept.{Kept, is_kept, numbered_from}
-use Rattle.sg_reader.specs.Records.{records_of}
+use Rattle.sg_reader.specs.Kept.{Kept, is_kept, numbered_from, records_of}
 use Rattle.sg_reader.proofs.FieldLaws.{fields_in-short}
 use Rattle.sg_reader.proofs.RecordLaws.{ends_at_end-after_record, records_from-none}
 
@@ -138,14 +137,3 @@ field_total-numbered at (r ∷ raw) =
         → field_total (cond b (record { at = at; fields = fields_in r } ∷ rest) rest) ≤ sum_by length (r ∷ raw)
     by true rest others first all = let e = sum_by-cons (λ (q : Kept). length q.fields) (record { at = at; fields = fields_in r }) rest in omega (arith, e)
     by false rest others first all = omega arith
-
--- what passes a test has no more fields
-pub field_total-filter : (p : Kept → Bool) (rs : List Kept) → field_total (filter p rs) ≤ field_total rs
-field_total-filter p [] = omega arith
-field_total-filter p (r ∷ rs) = by (p r) (field_total-filter p rs)
-  where
-    by : (b : Bool) → field_total (filter p rs) ≤ field_total rs → field_total (cond b (r ∷ filter p rs) (filter p rs)) ≤ field_total (r ∷ rs)
-    by true less =
-        let a = sum_by-cons (λ (q : Kept). length q.fields) r (filter p rs) in let b = sum_by-cons (λ (q : Kept). length q.fields) r rs in omega
-        (arith, less, a, b)
-    by false less = let b = sum_by-cons (λ (q : Kept). length q.fields) r rs in omega (arith, less, b)

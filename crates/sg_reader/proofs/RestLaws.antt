@@ -7,7 +7,7 @@ use Rattle.sg_model.specs.declared.refusal.Fault.TheVariants.{Refused, NoMemory}
 use Rattle.sg_model.specs.declared.refusal.Refusal.{Refusal}
 use Rattle.sg_model.specs.Faults.{OrNoMemory}
 use Rattle.sg_reader.specs.Kept.{Kept}
-use Rattle.sg_reader.specs.Rest.{AtTrailing, Fails, IsRest, IsTrailing, RefusesAlone, WhileRead}
+use Rattle.sg_reader.specs.Ended.{AtTrailing, Fails, IsRest, IsTrailing, RefusesAlone, WhileRead}
 
 -- nothing was read
 pub rest-all : (records : List Kept) → IsRest records records

@@ -1,50 +1,49 @@
 -- The records of a result, one more at a time.
 use Rattle.std.proofs.Common.{◌≡◌, ℕ, ℤ, ◌-◌, ◌<◌, ◌≤◌, Bool, true, false, List, [], ◌∷◌, ◌++◌, length}
 use Rattle.std.proofs.Common.{Option, Some, None, refl, sym, ap, ◌∙◌, arith, codes, inl, inr}
-use Rattle.std.specs.Prelude.{◌==◌, not, option_map}
+use Rattle.std.specs.Prelude.{not, option_map}
+use Rattle.std.specs.Option.{option_or}
 use Rattle.std.specs.Str.{bytes_eq}
 use Rattle.std.proofs.lemmas.Bool.{cases_eq, ne_eqb, not_from_false, not_from_true}
 use Rattle.std.proofs.lemmas.List.{length-append, map-append}
 use Rattle.std.proofs.lemmas.Option.{none-some}
-use Rattle.std.proofs.lemmas.Slice.Eq.{bytes_eq-Decides}
 use Rattle.sg_model.specs.declared.refusal.Fault.{Fault}
 use Rattle.sg_model.specs.declared.refusal.Fault.TheVariants.{Refused, NoMemory}
 use Rattle.sg_model.specs.declared.refusal.Refusal.{Refusal}
-use Rattle.sg_model.specs.declared.refusal.Refusal.TheVariants.{BadNumber, BadShape, UnknownKind}
+use Rattle.sg_model.specs.declared.refusal.Refusal.TheVariants.{BadNumber, UnknownKind}
 use Rattle.sg_check.specs.declared.packing.Loop.{Loop}
-use Rattle.sg_reader.specs.Kept.{Kept, field}
-use Rattle.sg_reader.specs.Number.{number_of}
+use Rattle.sg_reader.specs.Kept.{Kept, begins, field}
+use Rattle.sg_reader.specs.Tests.{number_of, any_index, any_number, bad_field, bad_number, is_number_in, led_range, number_in, shape_fault, word_fault}
 use Rattle.sg_draft.specs.Tests.{first_of, refuse_if, Refuses}
-use Rattle.sg_reader.specs.Tests.{any_index, any_number, bad_field, bad_number, is_number_in, number_in}
-use Rattle.sg_reader.specs.Body.{bare_end_fault, says_end, numbers_from}
+use Rattle.sg_reader.specs.Body.{says_end, numbers_from}
 use Rattle.sg_limits.specs.Limits.{text_limit}
 use Rattle.sg_reader.specs.declared.result.LoopsBody.{LoopsBody}
-use Rattle.sg_reader.specs.Ended.{IsEnded, RefusesRecords, StatesToEnd}
-use Rattle.sg_reader.specs.Holds.{HoldsLoops}
-use Rattle.sg_reader.specs.Rest.{Fails}
-use Rattle.sg_reader.specs.Taken.{RefusesNext, TakesNext}
-use Rattle.sg_reader.specs.Result.{bad_spin, energy_fault, says_energy, says_loop, is_spin_value, says_spins, loop_fault, stated_loop, loop_range, loops_fault, stated_loops, result_fault, result_of, spins_fault}
-use Rattle.sg_reader.specs.ReadResult.{ReadsResult, RefusesResult}
+use Rattle.sg_reader.specs.Ended.{IsEnded, RefusesRecords, StatesToEnd, Fails, RefusesNext, TakesNext}
+use Rattle.sg_reader.specs.Result.{HoldsLoops, bad_spin, energy_fault, is_spin_value, loop_fault, stated_loop, loops_fault, stated_loops, result_fault, result_of, spins_fault, ReadsResult, RefusesResult}
 use Rattle.sg_draft.proofs.Finds.{find_range-none, find_range-some}
-use Rattle.sg_reader.proofs.TestLaws.{bad_field-first, bad_field-one, bad_field-rest, is-not}
-use Rattle.sg_reader.proofs.BodyLaws.{word-inside}
+use Rattle.sg_reader.proofs.TestLaws.{bad_field-first, bad_field-one, is-not}
+use Rattle.sg_reader.proofs.BodyLaws.{other-word, word-inside}
 use Rattle.sg_reader.proofs.EndedLaws.{first-fault, refuses-cons, states-cons}
 use Rattle.sg_reader.proofs.RecordCounts.{field_total, field_total-around, field_total-more}
 use Rattle.sg_reader.proofs.RestLaws.{fails-on}
 use Rattle.sg_model.specs.Faults.{OrNoMemory}
 
 -- the tests of an energy
-pub energy_fault-number : (r : Kept) → says_energy r ≡ true → length r.fields ≡ 2 → is_number_in any_number (field r 1) ≡ false
+pub energy_fault-number : (r : Kept) → begins (codes "energy") r ≡ true → length r.fields ≡ 2 → is_number_in any_number (field r 1) ≡ false
     → energy_fault r ≡ Some (BadNumber r.at 1)
 energy_fault-number r word count bad = rw (word, is-not (length r.fields) 2 count, bad_field-first r (λ i. any_number) (omega arith) bad) refl
 
+-- an `energy` with another number of fields is refused for that
+pub energy_fault-shape : (r : Kept) (x : Refusal) → begins (codes "energy") r ≡ true → shape_fault 2 r ≡ Some x → energy_fault r ≡ Some x
+energy_fault-shape r x word bad = rw (word, bad) refl
+
 -- an `energy` with one number passes
-pub energy_fault-none : (r : Kept) → says_energy r ≡ true → length r.fields ≡ 2 → is_number_in any_number (field r 1) ≡ true →
+pub energy_fault-none : (r : Kept) → begins (codes "energy") r ≡ true → length r.fields ≡ 2 → is_number_in any_number (field r 1) ≡ true →
     energy_fault r ≡ None
 energy_fault-none r word count good = rw (word, is-not (length r.fields) 2 count, bad_field-one r (λ i. any_number) count good) refl
 
 -- the tests of spins
-pub spins_inside : (r : Kept) → says_spins r ≡ true → 1 ≤ length r.fields
+pub spins_inside : (r : Kept) → begins (codes "spins") r ≡ true → 1 ≤ length r.fields
 spins_inside r h = word-inside (codes "spins") refl r h
 
 -- where all values are 1 or -1 none is bad
@@ -63,15 +62,15 @@ bad_spin-some r k low high h e =
     (not_from_false _ e)
 
 -- a bad value refuses the `spins`
-pub spins_fault-number : (r : Kept) (k : ℕ) → says_spins r ≡ true → bad_spin r ≡ Some k → spins_fault r ≡ Some (BadNumber r.at k)
+pub spins_fault-number : (r : Kept) (k : ℕ) → begins (codes "spins") r ≡ true → bad_spin r ≡ Some k → spins_fault r ≡ Some (BadNumber r.at k)
 spins_fault-number r k word bad = rw (word, bad) refl
 
 -- `spins` without one pass
-pub spins_fault-none : (r : Kept) → says_spins r ≡ true → bad_spin r ≡ None → spins_fault r ≡ None
+pub spins_fault-none : (r : Kept) → begins (codes "spins") r ≡ true → bad_spin r ≡ None → spins_fault r ≡ None
 spins_fault-none r word good = rw (word, good) refl
 
 -- the tests of a loop
-pub loop-long : (r : Kept) → says_loop r ≡ true → (length r.fields ≡ 1 → ⊥) → 2 ≤ length r.fields
+pub loop-long : (r : Kept) → begins (codes "loop") r ≡ true → (length r.fields ≡ 1 → ⊥) → 2 ≤ length r.fields
 loop-long r word other =
     let inside = word-inside (codes "loop") refl r word in
     elim (cases_eq (length r.fields) 1) [
@@ -79,48 +78,40 @@ loop-long r word other =
       | inr e ↦ omega (arith, inside)
     ]
 
--- behind the weight the numbers of a `loop` are bonds
-pub loop_range-rest : (r : Kept) → 2 ≤ length r.fields → is_number_in any_number (field r 1) ≡ true →
-    bad_field r 1 loop_range ≡ bad_field r 2 (λ i. any_index)
-loop_range-rest r long good = bad_field-rest r loop_range (λ i. any_index) long good
-    (λ i low. let other : (i == 1) ≡ false = ne_eqb i 1 (λ e. absurd (omega (arith, e, low))) in rw other refl)
-
 -- a bad number refuses the `loop`
-pub loop_fault-number : (r : Kept) (k : ℕ) → says_loop r ≡ true → (length r.fields ≡ 1 → ⊥) → bad_field r 1 loop_range ≡ Some k
+pub loop_fault-number : (r : Kept) (k : ℕ) → begins (codes "loop") r ≡ true → (length r.fields ≡ 1 → ⊥) → bad_field r 1 (led_range any_number) ≡ Some k
     → loop_fault r ≡ Some (BadNumber r.at k)
 loop_fault-number r k word count bad = rw (word, ne_eqb (length r.fields) 1 count, bad) refl
 
 -- a `loop` with good numbers passes
-pub loop_fault-none : (r : Kept) → says_loop r ≡ true → (length r.fields ≡ 1 → ⊥) → bad_field r 1 loop_range ≡ None → loop_fault r ≡ None
+pub loop_fault-none : (r : Kept) → begins (codes "loop") r ≡ true → (length r.fields ≡ 1 → ⊥) → bad_field r 1 (led_range any_number) ≡ None
+    → loop_fault r ≡ None
 loop_fault-none r word count good = rw (word, ne_eqb (length r.fields) 1 count, good) refl
 
 -- a fault of the bonds is the `loop`'s
-pub loop_fault-bonds : (r : Kept) → says_loop r ≡ true → (length r.fields ≡ 1 → ⊥) →
-    bad_field r 1 loop_range ≡ bad_field r 2 (λ i. any_index) → (e : Fault)
+pub loop_fault-bonds : (r : Kept) → begins (codes "loop") r ≡ true → (length r.fields ≡ 1 → ⊥) →
+    bad_field r 1 (led_range any_number) ≡ bad_field r 2 (λ i. any_index) → (e : Fault)
     → OrNoMemory (Refuses (bad_number r 2 (λ i. any_index))) e → OrNoMemory (Refuses (loop_fault r)) e
 loop_fault-bonds r word count rest (Refused x) h = rw (word, ne_eqb (length r.fields) 1 count, rest, h) refl
 loop_fault-bonds r word count rest NoMemory h = tt
 
--- a record that passes its first test begins with its word, which is not `end`
-pub first-passes : (b : Bool) (refusal : Refusal) (tests : List (Option Refusal)) → first_of (refuse_if (not b) refusal ∷ tests) ≡ None → b ≡ true
-first-passes true refusal tests h = refl
-first-passes false refusal tests h = absurd (none-some refusal (sym h))
-
--- a record that begins with another word is no `end`
-pub other-word : (w : List ℕ) (r : Kept) → bytes_eq w (codes "end") ≡ false → bytes_eq (field r 0) w ≡ true → says_end r ≡ false
-other-word w r other h = ap (λ (v : List ℕ). bytes_eq v (codes "end")) ((bytes_eq-Decides (field r 0) w).0 h) ∙ other
+-- a record whose word passes begins with it, and so with no other
+pub word-passes : (w v : List ℕ) (r : Kept) (tests : List (Option Refusal)) → bytes_eq w v ≡ false
+    → first_of (word_fault w r ∷ tests) ≡ None → begins v r ≡ false
+word-passes w v r tests other h = other-word r w v (by (begins w r) h) other
+  where
+    by : (b : Bool) → option_or (refuse_if (not b) (UnknownKind r.at)) (first_of tests) ≡ None → b ≡ true
+    by true e = refl
+    by false e = absurd (none-some (UnknownKind r.at) (sym e))
 
 energy-no_end : (r : Kept) → energy_fault r ≡ None → says_end r ≡ false
-energy-no_end r h =
-    other-word (codes "energy") r refl
-    (first-passes (says_energy r) (UnknownKind r.at) (refuse_if (not (length r.fields == 2)) (BadShape r.at) ∷ bad_number r 1 (λ i. any_number) ∷ []) h)
+energy-no_end r h = word-passes (codes "energy") (codes "end") r (shape_fault 2 r ∷ bad_number r 1 (λ i. any_number) ∷ []) refl h
 
 spins-no_end : (r : Kept) → spins_fault r ≡ None → says_end r ≡ false
-spins-no_end r h =
-    other-word (codes "spins") r refl (first-passes (says_spins r) (UnknownKind r.at) (option_map (λ i. BadNumber r.at i) (bad_spin r) ∷ []) h)
+spins-no_end r h = word-passes (codes "spins") (codes "end") r (option_map (λ i. BadNumber r.at i) (bad_spin r) ∷ []) refl h
 
 -- an `end` behind the spins is to be a bare one
-pub loops_fault-end : (body : List Kept) (r : Kept) → says_end r ≡ true → loops_fault body r ≡ bare_end_fault r
+pub loops_fault-end : (body : List Kept) (r : Kept) → says_end r ≡ true → loops_fault body r ≡ shape_fault 1 r
 loops_fault-end body r h = rw h refl
 
 loops_fault-loop : (body : List Kept) (r : Kept) → says_end r ≡ false → loops_fault body r ≡ loop_fault r

@@ -12,7 +12,7 @@ use Rattle.sg_reader.specs.declared.header.Header.TheVariants as header
 use Rattle.sg_reader.specs.Kept.{Kept}
 use Rattle.sg_draft.specs.Draft.{reseamed}
 use Rattle.sg_reader.specs.Body.{bonds_in, instance_of}
-use Rattle.sg_reader.specs.Holds.{HoldsGeneral}
+use Rattle.sg_reader.specs.ReadInstance.{HoldsGeneral}
 
 -- a lattice has three bonds for each spin at most
 row-more : (k C : ℕ) → (k + 1) * C ≡ k * C + C

@@ -3,12 +3,15 @@ use Rattle.std.proofs.Common.{◌≡◌, ℕ, zero, suc, ◌+◌, ◌-◌, ◌<�
 use Rattle.std.specs.Prelude.{◌==◌, cond, not, find}
 use Rattle.std.specs.List.{range_with_len}
 use Rattle.std.proofs.lemmas.Bool.{cases_eq, eq-eqb, ne_eqb, not_from_true, not_from_false}
+use Rattle.std.specs.Option.{option_or}
+use Rattle.sg_draft.proofs.Drafts.{fails-first}
 use Rattle.sg_draft.proofs.Finds.{find_range-none, find_range-some}
-use Rattle.sg_model.specs.declared.refusal.Refusal.TheVariants.{BadNumber, BadShape}
+use Rattle.sg_model.specs.declared.refusal.Refusal.{Refusal}
+use Rattle.sg_model.specs.declared.refusal.Refusal.TheVariants.{BadNumber}
 use Rattle.sg_reader.specs.Body.{link_fault, link_range}
 use Rattle.sg_reader.specs.declared.range.Range.{Range}
 use Rattle.sg_reader.specs.Kept.{Kept, field}
-use Rattle.sg_reader.specs.Tests.{bad_field, is_number_in}
+use Rattle.sg_reader.specs.Tests.{any_index, bad_field, bad_number, is_number_in, led_range, shape_fault}
 
 -- all fields from `from` on are numbers of their ranges
 pub bad_field-none : (r : Kept) (from : ℕ) (range : ℕ → Range) →
@@ -92,9 +95,11 @@ bad_field-three r range count first second third = bad_field-none r 1 range (λ 
 pub is-not : (a b : ℕ) → a ≡ b → not (a == b) ≡ false
 is-not a b h = not_from_true _ (eq-eqb a b h)
 
--- different numbers are not equal
-pub is-other : (a b : ℕ) → (a ≡ b → ⊥) → not (a == b) ≡ true
-is-other a b h = not_from_false _ (ne_eqb a b h)
+-- behind a first number of its range the numbers of such a record are those of items
+pub led_range-rest : (range : Range) (r : Kept) → 2 ≤ length r.fields → is_number_in range (field r 1) ≡ true
+    → bad_field r 1 (led_range range) ≡ bad_field r 2 (λ i. any_index)
+led_range-rest range r long good = bad_field-rest r (led_range range) (λ i. any_index) long good
+    (λ i low. let other : (i == 1) ≡ false = ne_eqb i 1 (λ e. absurd (omega (arith, e, low))) in rw other refl)
 
 -- a bad number refuses a record that joins two spins
 pub link_fault-number : (range : Range) (n : ℕ) (r : Kept) (k : ℕ) → length r.fields ≡ 4 → bad_field r 1 (link_range range n) ≡ Some k
@@ -109,6 +114,6 @@ unfolding link_fault
 link_fault-none range n r count good = rw (is-not (length r.fields) 4 count, good) refl
 
 -- another number of fields is refused first
-pub link_fault-shape : (range : Range) (n : ℕ) (r : Kept) → (length r.fields ≡ 4 → ⊥) → link_fault range n r ≡ Some (BadShape r.at)
+pub link_fault-shape : (range : Range) (n : ℕ) (r : Kept) (x : Refusal) → shape_fault 4 r ≡ Some x → link_fault range n r ≡ Some x
 unfolding link_fault
-link_fault-shape range n r other = rw (is-other (length r.fields) 4 other) refl
+link_fault-shape range n r x bad = fails-first (shape_fault 4 r) (option_or (bad_number r 1 (link_range range n)) None) x bad

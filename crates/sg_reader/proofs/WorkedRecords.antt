@@ -5,8 +5,7 @@ use Rattle.sg_lattice.specs.declared.kind.Kind.TheVariants.{Cylinder}
 use Rattle.sg_reader.specs.declared.header.Header.TheVariants as header
 use Rattle.sg_reader.specs.Field.{fields_in, trimmed, without_marks}
 use Rattle.sg_reader.specs.Kept.{Kept}
-use Rattle.sg_reader.specs.Number.{number_of}
-use Rattle.sg_reader.specs.Tests.{bad_field}
+use Rattle.sg_reader.specs.Tests.{number_of, bad_field}
 use Rattle.sg_reader.specs.Header.{form_of, header_fault, header_of}
 use Rattle.sg_reader.specs.Body.{bonds_in, couplings_in, darts_in, general_fault, has_rot, lattice_fault, link_fault, seam_in}
 use Rattle.sg_reader.specs.Result.{bad_spin, result_fault, result_of}

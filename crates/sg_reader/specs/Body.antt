@@ -1,20 +1,21 @@
 -- The records of an instance after the first, up to its `end`: each is tested from the records between the first and
 -- itself, its `body`.
-use Rattle.std.specs.Prelude.{ℕ, ◌+◌, ◌-◌, ◌==◌, ◌&&◌, Bool, not, nat_le, if◌then◌else◌, ℤ, List, [], ◌∷◌, length, map, filter, find, codes, Option, Some, None, option_map, unwrap_or}
+use Rattle.std.specs.Prelude.{ℕ, ◌+◌, ◌-◌, ◌==◌, ◌&&◌, Bool, not, if◌then◌else◌, ℤ, List, [], ◌∷◌, length, map, filter, find, codes, Option, Some, option_map, unwrap_or}
 use Rattle.std.specs.List.{flat_map, list_any, range_with_len}
 use Rattle.sg_model.specs.declared.bond.Bond.{Bond}
 use Rattle.sg_model.specs.declared.refusal.Refusal.{Refusal}
-use Rattle.sg_model.specs.declared.refusal.Refusal.TheVariants.{BadShape, CouplingCount, SelfBond, TooManyBonds, UnknownKind}
+use Rattle.sg_model.specs.declared.refusal.Refusal.TheVariants.{BadShape, SelfBond, UnknownKind}
 use Rattle.sg_model.specs.Ising.{Ising}
-use Rattle.sg_limits.specs.Limits.{bond_limit}
 use Rattle.sg_lattice.specs.Tables.{bond_total, lattice}
 use Rattle.sg_reader.specs.declared.header.Header.{Header}
 use Rattle.sg_reader.specs.declared.header.Header.TheVariants as header
 use Rattle.sg_reader.specs.declared.range.Range.{Range}
 use Rattle.sg_reader.specs.Kept.{Kept, begins}
 use Rattle.sg_draft.specs.Draft.{reseamed}
+use Rattle.sg_draft.specs.Limits.{program_limits}
+use Rattle.sg_draft.specs.Numbers.{bond_count_fault, coupling_count_fault}
 use Rattle.sg_draft.specs.Tests.{first_of, refuse_if}
-use Rattle.sg_reader.specs.Tests.{any_index, any_number, bad_number, number_in, size_in, spin_below}
+use Rattle.sg_reader.specs.Tests.{any_index, any_number, bad_number, led_range, number_in, shape_fault, size_in, spin_below}
 
 -- what a record begins with
 abbrev pub says_end : Kept → Bool
@@ -61,24 +62,18 @@ has_rot body i = list_any (says_rot_of i) body
 unfoldable pub darts_in : List Kept → ℕ → List ℕ
 darts_in body i = unwrap_or (option_map (λ r. sizes_from r 2) (find (says_rot_of i) body)) []
 
--- a record that begins with `seam`, where one may stand before: it is the second, or a field is no bond's number
-abbrev pub seam_fault : Bool → Kept → Option Refusal
-seam_fault seen r = first_of (
-    refuse_if seen (BadShape r.at)
-    ∷ bad_number r 1 (λ i. any_index)
-    ∷ [])
+-- a list that may be given once, where one may stand before: it is the second, or a field is no number of an item
+abbrev pub once_fault : Bool → Kept → Option Refusal
+once_fault seen r = first_of (refuse_if seen (BadShape r.at) ∷ bad_number r 1 (λ i. any_index) ∷ [])
 
 -- the record that ends a lattice of `wanted` bonds with the couplings that were found
 abbrev pub lattice_end_fault : ℕ → ℕ → Kept → Option Refusal
-lattice_end_fault wanted found r = first_of (
-    refuse_if (not (length r.fields == 1)) (BadShape r.at)
-    ∷ refuse_if (not (found == wanted)) (CouplingCount found wanted)
-    ∷ [])
+lattice_end_fault wanted found r = first_of (shape_fault 1 r ∷ coupling_count_fault found wanted ∷ [])
 
 -- the tests of a record of a lattice
 unfoldable pub lattice_fault : ℕ → List Kept → Kept → Option Refusal
 lattice_fault wanted body r =
-    if says_seam r then seam_fault (list_any says_seam body) r
+    if says_seam r then once_fault (list_any says_seam body) r
     else (if says_end r then lattice_end_fault wanted (length (couplings_in body)) r
     else bad_number r 0 (λ i. any_number))
 
@@ -87,21 +82,11 @@ abbrev pub link_range : Range → ℕ → ℕ → Range
 link_range range n i = if i == 3 then range else spin_below n
 
 unfoldable pub link_fault : Range → ℕ → Kept → Option Refusal
-link_fault range n r = first_of (
-    refuse_if (not (length r.fields == 4)) (BadShape r.at)
-    ∷ bad_number r 1 (link_range range n)
-    ∷ [])
-
--- the range of field i of a `rot`
-abbrev pub rot_range : ℕ → ℕ → Range
-rot_range n i = if i == 1 then spin_below n else any_index
+link_fault range n r = first_of (shape_fault 4 r ∷ bad_number r 1 (link_range range n) ∷ [])
 
 -- bond m between spins u and v: it is one too many, or it joins a spin to itself
 abbrev pub ends_fault : ℕ → ℕ → ℕ → Option Refusal
-ends_fault u v m = first_of (
-    refuse_if (nat_le bond_limit m) (TooManyBonds (bond_limit + 1))
-    ∷ refuse_if (u == v) (SelfBond m)
-    ∷ [])
+ends_fault u v m = first_of (bond_count_fault program_limits (m + 1) ∷ refuse_if (u == v) (SelfBond m) ∷ [])
 
 -- a bond of an instance of n spins, behind m bonds
 abbrev pub bond_fault : ℕ → ℕ → Kept → Option Refusal
@@ -111,21 +96,17 @@ bond_fault n m r = first_of (link_fault any_number n r ∷ ends_fault (size_in r
 abbrev pub rot_fault : ℕ → Bool → Kept → Option Refusal
 rot_fault n seen r = first_of (
     refuse_if (length r.fields == 1) (BadShape r.at)
-    ∷ bad_number r 1 (rot_range n)
+    ∷ bad_number r 1 (led_range (spin_below n))
     ∷ refuse_if seen (BadShape r.at)
     ∷ [])
-
--- an `end` with no other field
-abbrev pub bare_end_fault : Kept → Option Refusal
-bare_end_fault r = refuse_if (not (length r.fields == 1)) (BadShape r.at)
 
 -- the tests of a record of a general instance of n spins
 unfoldable pub general_fault : ℕ → List Kept → Kept → Option Refusal
 general_fault n body r =
     if says_bond r then bond_fault n (length (bonds_in body)) r
     else (if says_rot r then rot_fault n (has_rot body (size_in r 1)) r
-    else (if says_seam r then seam_fault (list_any says_seam body) r
-    else (if says_end r then bare_end_fault r
+    else (if says_seam r then once_fault (list_any says_seam body) r
+    else (if says_end r then shape_fault 1 r
     else Some (UnknownKind r.at))))
 
 -- the first test that a record fails

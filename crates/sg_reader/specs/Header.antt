@@ -1,9 +1,9 @@
 -- The first record of an instance: the kind of a lattice with its rows and columns, or `general` with the number of
 -- spins.
-use Rattle.std.specs.Prelude.{ℕ, ◌*◌, ◌≤◌, ◌==◌, not, nat_lt, pos, if◌then◌else◌, List, [], ◌∷◌, length, codes, Option, Some, None, option_map}
+use Rattle.std.specs.Prelude.{ℕ, ◌*◌, ◌≤◌, ◌==◌, if◌then◌else◌, List, [], ◌∷◌, codes, Option, Some, None, option_map}
 use Rattle.std.specs.Str.{bytes_eq}
 use Rattle.sg_model.specs.declared.refusal.Refusal.{Refusal}
-use Rattle.sg_model.specs.declared.refusal.Refusal.TheVariants.{BadShape, TooManySpins, UnknownKind}
+use Rattle.sg_model.specs.declared.refusal.Refusal.TheVariants.{UnknownKind}
 use Rattle.sg_limits.specs.Limits.{spin_limit}
 use Rattle.sg_lattice.specs.declared.kind.Kind.TheVariants.{Square, Triangular, Hexagonal, Cylinder}
 use Rattle.sg_lattice.specs.Tables.{IsSize, least_cols}
@@ -13,8 +13,10 @@ use Rattle.sg_reader.specs.declared.header.Header.{Header}
 use Rattle.sg_reader.specs.declared.header.Header.TheVariants as header
 use Rattle.sg_reader.specs.declared.range.Range.{Range}
 use Rattle.sg_reader.specs.Kept.{Kept, field}
-use Rattle.sg_draft.specs.Tests.{first_of, refuse_if}
-use Rattle.sg_reader.specs.Tests.{at_least, bad_number, size_in}
+use Rattle.sg_draft.specs.Limits.{program_limits}
+use Rattle.sg_draft.specs.Numbers.{many_spins_fault}
+use Rattle.sg_draft.specs.Tests.{first_of}
+use Rattle.sg_reader.specs.Tests.{at_least, bad_number, shape_fault, size_in}
 
 -- the form of an instance that a word names
 unfoldable pub form_of : List ℕ → Option Form
@@ -45,9 +47,9 @@ spins_in form.General r = size_in r 1
 abbrev pub form_fault : Option Form → Kept → Option Refusal
 form_fault None r = Some (UnknownKind r.at)
 form_fault (Some form) r = first_of (
-    refuse_if (not (length r.fields == field_count form)) (BadShape r.at)
+    shape_fault (field_count form) r
     ∷ bad_number r 1 (header_range form)
-    ∷ refuse_if (nat_lt spin_limit (spins_in form r)) (TooManySpins (pos (spins_in form r)))
+    ∷ many_spins_fault program_limits (spins_in form r)
     ∷ [])
 
 unfoldable pub header_fault : Kept → Option Refusal

@@ -2,7 +2,7 @@
 use Rattle.std.specs.Prelude.{ℕ, ◌==◌, ◌&&◌, Bool, false, not, List, [], ◌∷◌, length, map, filter, slice_index_or}
 use Rattle.std.specs.List.{enumerate_from}
 use Rattle.std.specs.Str.{bytes_eq}
-use Rattle.sg_reader.specs.Records.{records_of}
+use Rattle.csv.specs.Reading.{default_config, records}
 use Rattle.sg_reader.specs.Field.{fields_in, without_marks}
 
 -- a record: its number among the records of the text, counted from 0, and its fields
@@ -26,6 +26,11 @@ is_comment (byte ∷ rest) = byte == 35
 -- a record is skipped where it has no field left, or where its first field begins with `#`
 abbrev pub is_kept : Kept → Bool
 is_kept r = not (length r.fields == 0) && not (is_comment (field r 0))
+
+-- the records that `csv` gives, without a header row and of any lengths: fields between commas, in double quotes where
+-- wanted, and no record for an empty line. The bytes have no byte-order mark at the front
+abbrev pub records_of : List ℕ → List (List (List ℕ))
+records_of bytes = records default_config bytes
 
 -- the records of a list, numbered from `at` on
 abbrev pub numbered_from : ℕ → List (List (List ℕ)) → List Kept

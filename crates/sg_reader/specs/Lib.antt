@@ -1,5 +1,3 @@
-pub mod Number
-pub mod Records
 pub mod Cursor
 pub mod Field
 pub mod Kept
@@ -9,7 +7,3 @@ pub mod Body
 pub mod Ended
 pub mod ReadInstance
 pub mod Result
-pub mod ReadResult
-pub mod Rest
-pub mod Taken
-pub mod Holds

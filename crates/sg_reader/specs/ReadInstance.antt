@@ -1,15 +1,19 @@
 -- Which instance records give, or why they are refused: the first test that one fails, in the order of the records.
-use Rattle.std.specs.Prelude.{◌≡◌, List, [], ◌∷◌, Some, None}
+use Rattle.std.specs.Prelude.{◌≡◌, ◌≤◌, List, [], ◌∷◌, All, length, map, Some, None}
+use Rattle.std.specs.List.{range_with_len}
+use Rattle.sg_limits.specs.Limits.{bond_limit}
 use Rattle.sg_model.specs.declared.refusal.Refusal.{Refusal}
 use Rattle.sg_model.specs.declared.refusal.Refusal.TheVariants.{Unended}
-use Rattle.sg_model.specs.Ising.{Ising}
+use Rattle.sg_model.specs.Ising.{IsBond, Ising}
 use Rattle.sg_model.specs.Rotation.{IsRotation}
 use Rattle.sg_model.specs.Seam.{IsSeam}
 use Rattle.sg_model.specs.Faults.{IsRefusalOf}
+use Rattle.sg_reader.specs.declared.general.GeneralBody.{GeneralBody}
 use Rattle.sg_reader.specs.declared.header.Header.{Header}
+use Rattle.sg_reader.specs.declared.lattice.LatticeBody.{LatticeBody}
 use Rattle.sg_reader.specs.Kept.{Kept}
 use Rattle.sg_reader.specs.Header.{header_fault, header_of}
-use Rattle.sg_reader.specs.Body.{instance_of, record_fault}
+use Rattle.sg_reader.specs.Body.{bonds_in, couplings_in, darts_in, has_rot, instance_of, record_fault, seam_in}
 use Rattle.sg_reader.specs.Ended.{RefusesRecords, StatesToEnd}
 
 -- the records behind the first state the instance up to their `end`
@@ -47,3 +51,20 @@ pub data RefusesInstance (records : List Kept) (refusal : Refusal) (rest : List 
       → header_fault first ≡ None
       → header_of first ≡ Some header → RefusesBody header more refusal rest
       → RefusesInstance records refusal rest
+
+-- what is kept while they are read: the couplings and the seam of the records
+pub record HoldsLattice (start : LatticeBody) (body : List Kept) (now : LatticeBody) : Type 0 where
+  pub wanted : now.wanted ≡ start.wanted
+  pub couplings : now.couplings ≡ couplings_in body
+  pub seam : now.seam ≡ seam_in body
+
+-- the bonds, the darts of each spin, the spins whose darts were given, and the seam of the records
+pub record HoldsGeneral (start : GeneralBody) (body : List Kept) (now : GeneralBody) : Type 0 where
+  pub spins : now.n ≡ start.n
+  pub some : 1 ≤ now.n
+  pub bonds : now.bonds ≡ bonds_in body
+  pub few : length now.bonds ≤ bond_limit
+  pub joined : All (IsBond now.n) now.bonds
+  pub darts : now.rotation ≡ map (darts_in body) (range_with_len 0 now.n)
+  pub marks : now.seen.items ≡ map (has_rot body) (range_with_len 0 now.n)
+  pub seam : now.seam ≡ seam_in body

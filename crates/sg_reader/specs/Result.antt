@@ -1,28 +1,17 @@
 -- The records of a result, which states an energy, spins and loops: which word stands in which place, the tests of each
--- record, and what they state.
-use Rattle.std.specs.Prelude.{ℕ, ◌-◌, ◌==◌, Bool, false, not, ℤ, unsigned_abs, if◌then◌else◌, List, [], ◌∷◌, length, map, drop, find, codes, Option, Some, None, option_map}
-use Rattle.std.specs.List.{range_with_len}
+-- record, and what they state; the first test that a record fails, in the order of the records, refuses them.
+use Rattle.std.specs.Prelude.{◌≡◌, ℕ, ◌-◌, ◌≤◌, ◌==◌, Bool, false, not, ℤ, unsigned_abs, if◌then◌else◌, List, [], ◌∷◌, length, map, drop, find, codes, Option, Some, None, option_map}
+use Rattle.std.specs.List.{range_with_len, sum_by}
 use Rattle.sg_model.specs.declared.refusal.Refusal.{Refusal}
-use Rattle.sg_model.specs.declared.refusal.Refusal.TheVariants.{BadNumber, BadShape, UnknownKind}
+use Rattle.sg_model.specs.declared.refusal.Refusal.TheVariants.{BadNumber, BadShape}
 use Rattle.sg_check.specs.declared.packing.Loop.{Loop}
 use Rattle.sg_check.specs.declared.packing.ResultText.{ResultText}
-use Rattle.sg_reader.specs.declared.range.Range.{Range}
-use Rattle.sg_reader.specs.Number.{number_of}
-use Rattle.sg_reader.specs.Kept.{Kept, begins, field}
+use Rattle.sg_reader.specs.declared.result.LoopsBody.{LoopsBody}
+use Rattle.sg_reader.specs.Kept.{Kept, field}
 use Rattle.sg_draft.specs.Tests.{first_of, refuse_if}
-use Rattle.sg_reader.specs.Tests.{any_index, any_number, bad_number, number_in}
-use Rattle.sg_reader.specs.Body.{bare_end_fault, says_end, numbers_from, sizes_from}
-use Rattle.sg_reader.specs.Ended.{record_at}
-
--- what a record begins with
-abbrev pub says_energy : Kept → Bool
-says_energy r = begins (codes "energy") r
-
-abbrev pub says_spins : Kept → Bool
-says_spins r = begins (codes "spins") r
-
-abbrev pub says_loop : Kept → Bool
-says_loop r = begins (codes "loop") r
+use Rattle.sg_reader.specs.Tests.{any_number, bad_number, led_range, number_in, number_of, shape_fault, word_fault}
+use Rattle.sg_reader.specs.Body.{says_end, numbers_from, sizes_from}
+use Rattle.sg_reader.specs.Ended.{RefusesRecords, StatesToEnd, record_at}
 
 -- the value of a spin: 1 or -1
 abbrev pub is_spin_value : Option ℤ → Bool
@@ -35,34 +24,24 @@ bad_spin r = find (λ i. not (is_spin_value (number_of (field r i)))) (range_wit
 
 -- the energy, `energy,E`
 abbrev pub energy_fault : Kept → Option Refusal
-energy_fault r = first_of (
-    refuse_if (not (says_energy r)) (UnknownKind r.at)
-    ∷ refuse_if (not (length r.fields == 2)) (BadShape r.at)
-    ∷ bad_number r 1 (λ i. any_number)
-    ∷ [])
+energy_fault r =
+    first_of (word_fault (codes "energy") r ∷ shape_fault 2 r ∷ bad_number r 1 (λ i. any_number) ∷ [])
 
 -- the spins, `spins,S,S,..`, perhaps none
 abbrev pub spins_fault : Kept → Option Refusal
-spins_fault r = first_of (
-    refuse_if (not (says_spins r)) (UnknownKind r.at)
-    ∷ option_map (λ i. BadNumber r.at i) (bad_spin r)
-    ∷ [])
+spins_fault r = first_of (word_fault (codes "spins") r ∷ option_map (λ i. BadNumber r.at i) (bad_spin r) ∷ [])
 
--- the range of field i of a loop `loop,Y,B,B,..`: any weight, and then bonds
-abbrev pub loop_range : ℕ → Range
-loop_range i = if i == 1 then any_number else any_index
-
--- a loop, perhaps without bonds
+-- a loop `loop,Y,B,B,..`: any weight, and then bonds, perhaps none
 abbrev pub loop_fault : Kept → Option Refusal
 loop_fault r = first_of (
-    refuse_if (not (says_loop r)) (UnknownKind r.at)
+    word_fault (codes "loop") r
     ∷ refuse_if (length r.fields == 1) (BadShape r.at)
-    ∷ bad_number r 1 loop_range
+    ∷ bad_number r 1 (led_range any_number)
     ∷ [])
 
 -- the tests of a record behind the energy and the spins: a loop, or the `end`
 abbrev pub loops_fault : List Kept → Kept → Option Refusal
-loops_fault loops r = if says_end r then bare_end_fault r else loop_fault r
+loops_fault loops r = if says_end r then shape_fault 1 r else loop_fault r
 
 -- the tests of a record of a result: the energy comes first, then the spins, then loops up to the `end`
 unfoldable pub result_fault : List Kept → Kept → Option Refusal
@@ -84,3 +63,16 @@ result_of body = record {
   spins = numbers_from (record_at body 1) 1;
   loops = stated_loops (drop 2 body);
 }
+
+-- the records give the result, and `rest` is left behind its `end`
+abbrev pub ReadsResult : List Kept → ResultText → List Kept → Type 0
+ReadsResult records text rest = StatesToEnd result_fault result_of records text rest
+
+-- the records are refused: at a record that fails a test, or because they run out
+abbrev pub RefusesResult : List Kept → Refusal → List Kept → Type 0
+RefusesResult records refusal rest = RefusesRecords result_fault records refusal rest
+
+-- what is kept while they are read: the loops of the records, each of which has a field
+pub record HoldsLoops (start : LoopsBody) (body : List Kept) (now : LoopsBody) : Type 0 where
+  pub loops : now.loops ≡ stated_loops body
+  pub few : length now.loops ≤ sum_by (λ r. length r.fields) body

@@ -1,11 +1,26 @@
--- Tests of the numbers of a record: each gives its refusal where it fails.
-use Rattle.std.specs.Prelude.{ℕ, ◌-◌, ◌^◌, ◌&&◌, Bool, false, not, ℤ, pos, neg_ℤ, int_le, unsigned_abs, List, length, find, Option, Some, None, option_map, unwrap_or}
+-- Whole numbers in the fields of a text, and the tests of those of a record: each gives its refusal where it fails.
+use Rattle.std.specs.Prelude.{ℕ, ◌-◌, ◌^◌, ◌==◌, ◌&&◌, nat_lt, if◌then◌else◌, Bool, false, not, ℤ, pos, neg_ℤ, int_le, unsigned_abs, List, length, find, Option, Some, None, option_map, unwrap_or}
 use Rattle.std.specs.List.{range_with_len}
+use Rattle.std.specs.Str.{all_ascii_digits}
+use Rattle.std.specs.Str.Parse.{digits_value, signed_digits_value, without_leading_sign}
 use Rattle.sg_model.specs.declared.refusal.Refusal.{Refusal}
-use Rattle.sg_model.specs.declared.refusal.Refusal.TheVariants.{BadNumber}
+use Rattle.sg_model.specs.declared.refusal.Refusal.TheVariants.{BadNumber, BadShape, UnknownKind}
+use Rattle.sg_draft.specs.Tests.{refuse_if}
 use Rattle.sg_reader.specs.declared.range.Range.{Range}
-use Rattle.sg_reader.specs.Number.{number_of}
-use Rattle.sg_reader.specs.Kept.{Kept, field}
+use Rattle.sg_reader.specs.Kept.{Kept, begins, field}
+
+-- the field is one decimal digit or more, after a `+`, a `-` or no sign
+abbrev pub is_numeral : List ℕ → Bool
+is_numeral field = nat_lt 0 (length (without_leading_sign field)) && all_ascii_digits (without_leading_sign field)
+
+-- the size of the number that the digits of a field spell; leading zeros count for nothing
+abbrev pub size_of : List ℕ → ℕ
+size_of field = digits_value 10 (without_leading_sign field)
+
+-- the number that a field spells, from -9223372036854775807 to 9223372036854775807; None where it spells none of these
+unfoldable pub number_of : List ℕ → Option ℤ
+number_of field =
+    if is_numeral field && nat_lt (size_of field) (2 ^ 63) then Some (signed_digits_value 10 field) else None
 
 -- the ranges of the places: couplings, rows and columns and spins in all, spins by number, darts and bonds by number
 abbrev pub any_number : Range
@@ -19,6 +34,10 @@ spin_below n = record { low = pos 0; high = pos (n - 1) }
 
 abbrev pub any_index : Range
 any_index = record { low = pos 0; high = pos (2 ^ 32 - 1) }
+
+-- the range of field i of a record whose first number is of the range, and whose others number items
+abbrev pub led_range : Range → ℕ → Range
+led_range range i = if i == 1 then range else any_index
 
 -- whether a field is a number of the range
 abbrev pub is_in : Range → Option ℤ → Bool
@@ -43,3 +62,10 @@ bad_field r from range =
 -- the test of the numbers of a record
 abbrev pub bad_number : Kept → ℕ → (ℕ → Range) → Option Refusal
 bad_number r from range = option_map (λ i. BadNumber r.at i) (bad_field r from range)
+
+-- the tests of the word of a record, and of how many fields it has
+abbrev pub word_fault : List ℕ → Kept → Option Refusal
+word_fault word r = refuse_if (not (begins word r)) (UnknownKind r.at)
+
+abbrev pub shape_fault : ℕ → Kept → Option Refusal
+shape_fault fields r = refuse_if (not (length r.fields == fields)) (BadShape r.at)

@@ -1,5 +1,5 @@
 ghost use Rattle.std.specs.Prelude.{◌≡◌, ◌<◌, ◌≤◌, ◌++◌, true, length, None, Some, IfOk, IfErr, OnOk};
-ghost use Rattle.sg_reader.specs.Body.{bare_end_fault, link_fault, numbers_from, seam_fault, sizes_from};
+ghost use Rattle.sg_reader.specs.Body.{link_fault, numbers_from, once_fault, sizes_from};
 ghost use Rattle.sg_draft.specs.Tests.{Refuses};
 ghost use Rattle.sg_reader.specs.Tests.{any_index, any_number, bad_field, bad_number, is_number_in, number_in, size_in};
 ghost use Rattle.sg_reader.specs.Kept.{field};
@@ -30,7 +30,7 @@ pub(crate) fn push_couplings(couplings: &mut Couplings, row: &Row) -> Result<(),
 }
 
 /// The numbers of bonds or darts in the fields of a record from field `from` on.
-pub fn indices(alloc: Global, row: &Row, from: usize) -> Result<BondList, Fault>
+pub(crate) fn indices(alloc: Global, row: &Row, from: usize) -> Result<BondList, Fault>
     requires { from ≤ length row.now.fields }
     ensures passes { IfOk result (λ l. bad_field row.now from (λ i. any_index) ≡ None) }
     ensures value { IfOk result (λ l. l ≡ sizes_from row.now from) }
@@ -44,15 +44,15 @@ pub fn indices(alloc: Global, row: &Row, from: usize) -> Result<BondList, Fault>
     Ok(list)
 }
 
-//// The bonds of a record `seam,..`.
+/// The numbers behind the word of a record that may stand once.
 ///
 /// # Errors
-/// In this order: `BadShape` where a seam was seen before, and `BadNumber`.
-pub(crate) fn seam(alloc: Global, row: &Row, seen: bool) -> Result<BondList, Fault>
+/// In this order: `BadShape` where one was seen before, and `BadNumber`.
+pub fn list_once(alloc: Global, row: &Row, seen: bool) -> Result<BondList, Fault>
     requires { 1 ≤ length row.now.fields }
-    ensures passes { IfOk result (λ l. seam_fault seen row.now ≡ None) }
+    ensures passes { IfOk result (λ l. once_fault seen row.now ≡ None) }
     ensures value { IfOk result (λ l. l ≡ sizes_from row.now 1) }
-    ensures fault { IfErr result (OrNoMemory (Refuses (seam_fault seen row.now))) }
+    ensures fault { IfErr result (OrNoMemory (Refuses (once_fault seen row.now))) }
 {
     if seen {
         return Err(Fault::Refused(Refusal::BadShape { at: row.at() }));
@@ -80,9 +80,7 @@ pub fn read_link(row: &Row, n: u32, range: Range) -> Result<Link, Refusal>
     ensures value { IfOk result (λ l. (l.value ≡ number_in row.now 3) × (is_number_in range (field row.now 3) ≡ true)) }
     ensures refused { IfErr result (λ e. link_fault range n row.now ≡ Some e) }
 {
-    if row.len() != 4 {
-        return Err(Refusal::BadShape { at: row.at() });
-    }
+    row.check_shape(4)?;
     let u = row.size(1, Range::spin_below(n))?;
     let v = row.size(2, Range::spin_below(n))?;
     let value = row.number(3, range)?;
@@ -91,15 +89,4 @@ pub fn read_link(row: &Row, n: u32, range: Range) -> Result<Link, Refusal>
         v: v as u32,
         value,
     })
-}
-
-/// The tests of an `end` that has no numbers beside it.
-pub fn bare_end(row: &Row) -> Result<(), Refusal>
-    ensures passes { OnOk result (bare_end_fault row.now ≡ None) }
-    ensures refused { IfErr result (λ e. bare_end_fault row.now ≡ Some e) }
-{
-    if row.len() != 1 {
-        return Err(Refusal::BadShape { at: row.at() });
-    }
-    Ok(())
 }

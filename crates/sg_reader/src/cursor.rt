@@ -2,7 +2,7 @@ ghost use Rattle.std.specs.Prelude.{◌≡◌, [], ◌∷◌, IfOk, OnErr};
 ghost use Rattle.std.specs.Bool.{MatchBool};
 ghost use Rattle.csv.specs.Reading.{strip_bom};
 ghost use Rattle.csv.specs.Records.{fields_of};
-ghost use Rattle.sg_reader.specs.Records.{records_of};
+ghost use Rattle.sg_reader.specs.Kept.{records_of};
 
 use super::NoMemory;
 use csv::{ByteRecord, ErrorKind, Reader, ReaderBuilder};

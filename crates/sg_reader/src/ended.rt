@@ -1,10 +1,8 @@
 // Records up to an `end`, whatever they are gathered in.
 ghost use Rattle.std.specs.Prelude.{◌≡◌, List, [], false, IfErr, OnOk};
 ghost use Rattle.sg_reader.specs.Body.{says_end};
-ghost use Rattle.sg_reader.specs.Ended.{RefusesRecords, TestTable};
+ghost use Rattle.sg_reader.specs.Ended.{RefusesRecords, TestTable, Fails, HoldsSome, HoldsToEnd, RefusesNext, TakesNext};
 ghost use Rattle.sg_reader.specs.Kept.{Kept};
-ghost use Rattle.sg_reader.specs.Rest.{Fails};
-ghost use Rattle.sg_reader.specs.Taken.{HoldsSome, HoldsToEnd, RefusesNext, TakesNext};
 
 use super::body::END;
 use super::row::Row;

@@ -1,4 +1,4 @@
-ghost use Rattle.std.specs.Prelude.{Bool, ◌≡◌, ◌≢◌, ◌<◌, ◌≤◌, [], ◌^◌, List, true, None, Some, length, unwrap_or, IfOk, IfErr, OnOk};
+ghost use Rattle.std.specs.Prelude.{Bool, ◌≡◌, ◌≢◌, ◌<◌, ◌≤◌, [], ◌^◌, List, true, None, Some, length, IfOk, IfErr, OnOk};
 ghost use Rattle.sg_limits.specs.Limits.{bond_limit};
 ghost use Rattle.sg_model.specs.Ising.{IsBond, bond_count};
 ghost use Rattle.sg_model.specs.WellFormed.{IsInstance};
@@ -6,19 +6,17 @@ ghost use Rattle.sg_reader.specs.declared.header.Header.TheVariants as header;
 ghost use Rattle.sg_reader.specs.Kept.{Kept, field};
 ghost use Rattle.sg_reader.specs.Tests.{is_number_in, size_in, spin_below};
 ghost use Rattle.sg_reader.specs.Body.{bond_fault, bond_of, ends_fault, general_fault, instance_of, says_bond, says_rot, says_seam, rot_fault};
-ghost use Rattle.sg_reader.specs.Holds.{HoldsGeneral};
-ghost use Rattle.sg_reader.specs.ReadInstance.{ReadsBody, RefusesBody};
-ghost use Rattle.sg_reader.specs.Rest.{Fails};
-ghost use Rattle.sg_reader.specs.Taken.{HoldsSome, RefusesNext, TakesNext};
+ghost use Rattle.sg_reader.specs.ReadInstance.{HoldsGeneral, ReadsBody, RefusesBody};
+ghost use Rattle.sg_reader.specs.Ended.{Fails, HoldsSome, RefusesNext, TakesNext};
 ghost use Rattle.sg_model.specs.Faults.{IsRefusalOf, OrNoMemory};
 
 use super::NoMemory;
-use super::body::{Link, SEAM, bare_end, indices, read_link, seam};
+use super::body::{Link, SEAM, indices, list_once, read_link};
 use super::ended::{Gather, read_to_end};
 use super::range::Range;
 use super::row::Row;
 use super::rows::Rows;
-use sg_limits::BOND_LIMIT;
+use sg_draft::{Limits, check_bond_count};
 use sg_list::Records;
 use sg_model::{Bond, BondList, Bonds, DartList, Fault, Instance, Refusal, Rotation};
 use std::alloc::Global;
@@ -41,13 +39,12 @@ pub(crate) struct GeneralBody {
 // The tests of bond `m` between two spins: there is room for it, and its ends differ.
 fn check_ends(u: u32, v: u32, m: usize) -> Result<(), Refusal>
     requires { m ≤ bond_limit }
+    ensures passes { OnOk result (ends_fault u v m ≡ None) }
     ensures room { OnOk result (m < bond_limit) }
     ensures differ { OnOk result (u ≢ v) }
     ensures refused { IfErr result (λ e. ends_fault u v m ≡ Some e) }
 {
-    if m >= BOND_LIMIT as usize {
-        return Err(Refusal::TooManyBonds { m: BOND_LIMIT + 1 });
-    }
+    check_bond_count(Limits::of_program(), m + 1)?;
     if u == v {
         return Err(Refusal::SelfBond { bond: m as u32 });
     }
@@ -140,7 +137,7 @@ impl GeneralBody {
         ensures taken { OnOk result (TakesNext (λ s. general_fault s.n) HoldsGeneral self.old row.now self.new) }
         ensures fault { IfErr result (RefusesNext (λ s. general_fault s.n) HoldsGeneral self.old row.now) }
     {
-        let bonds = seam(alloc, row, self.seam.is_some())?;
+        let bonds = list_once(alloc, row, self.seam.is_some())?;
         self.seam = Some(bonds);
         Ok(())
     }
@@ -155,16 +152,9 @@ impl GeneralBody {
         ensures fault { IfErr result (λ e. (start : _) (body : List Kept) → HoldsGeneral start body self
             → OrNoMemory (IsRefusalOf (instance_of (header.General start.n) body)) e) }
     {
-        let GeneralBody {
-            n,
-            bonds,
-            rotation,
-            seen: _,
-            seam,
-        } = self;
-        let seam = seam_or_none(alloc, seam);
-        let rotation = laid_out(alloc, rotation.as_slice())?;
-        Instance::new(alloc, n, bonds, rotation, seam)
+        let seam = self.seam.unwrap_or(BondList::new(alloc));
+        let rotation = laid_out(alloc, self.rotation.as_slice())?;
+        Instance::new(alloc, self.n, self.bonds, rotation, seam)
     }
 }
 
@@ -183,16 +173,6 @@ impl Gather for GeneralBody {
         } else {
             Err(Fault::Refused(Refusal::UnknownKind { at: row.at() }))
         }
-    }
-}
-
-// The seam, which is empty where none was given.
-fn seam_or_none(alloc: Global, seam: Option<BondList>) -> BondList
-    ensures { result ≡ unwrap_or seam [] }
-{
-    match seam {
-        Some(bonds) => bonds,
-        None => BondList::new(alloc),
     }
 }
 
@@ -229,7 +209,7 @@ pub(crate) fn read_general(
 {
     let mut body = GeneralBody::new(alloc, n)?;
     read_to_end(alloc, records, row, &mut body)?;
-    bare_end(row)?;
+    row.check_shape(1)?;
     let inst = body.instance(alloc)?;
     Ok(inst)
 }

@@ -4,8 +4,8 @@ ghost use Rattle.sg_reader.specs.Header.{form_fault, form_of, header_fault, head
 
 use super::range::Range;
 use super::row::Row;
+use sg_draft::{Limits, check_spins};
 use sg_lattice::{Kind, least_cols};
-use sg_limits::SPIN_LIMIT;
 use sg_model::Refusal;
 
 const SQUARE: &[u8] = b"square";
@@ -61,15 +61,10 @@ fn lattice_header(row: &Row, kind: Kind) -> Result<Header, Refusal>
     ensures sound { IfOk result IsHeader }
     ensures refused { IfErr result (λ e. form_fault (Some (form.Lattice kind)) row.now ≡ Some e) }
 {
-    if row.len() != 3 {
-        return Err(Refusal::BadShape { at: row.at() });
-    }
+    row.check_shape(3)?;
     let rows = row.size(1, Range::at_least(1))?;
     let cols = row.size(2, Range::at_least(least_cols(kind)))?;
-    let spins = u128::from(rows) * u128::from(cols);
-    if spins > u128::from(SPIN_LIMIT) {
-        return Err(Refusal::TooManySpins { n: spins as i128 });
-    }
+    check_spins(Limits::of_program(), u128::from(rows) * u128::from(cols))?;
     Ok(Header::Lattice {
         kind,
         rows: rows as u32,
@@ -84,15 +79,9 @@ fn general_header(row: &Row) -> Result<Header, Refusal>
     ensures sound { IfOk result IsHeader }
     ensures refused { IfErr result (λ e. form_fault (Some form.General) row.now ≡ Some e) }
 {
-    if row.len() != 2 {
-        return Err(Refusal::BadShape { at: row.at() });
-    }
+    row.check_shape(2)?;
     let spins = row.size(1, Range::at_least(1))?;
-    if spins > u64::from(SPIN_LIMIT) {
-        return Err(Refusal::TooManySpins {
-            n: i128::from(spins),
-        });
-    }
+    check_spins(Limits::of_program(), u128::from(spins))?;
     Ok(Header::General { n: spins as u32 })
 }
 

@@ -6,14 +6,14 @@
 //! refusal that names its first fault, by record and field; `read_result` does so for the result
 //! behind an instance, `no_more` tells whether a record is left, and `alone` asks for that.
 //!
-//! For the next engineer: `specs/ReadInstance.antt` and `specs/ReadResult.antt` say what a text gives
-//! and why it is refused, over the whole list of its records; `specs/Header.antt`, `specs/Body.antt`
-//! and `specs/Result.antt` are the tables of tests, `specs/Kept.antt` and `specs/Field.antt` say which
-//! records and fields count. The contracts that matter are those of `read_instance` and
-//! `read_result`. In the code `rows.rt` gives the records that count, `header.rt` reads the first of
-//! an instance, `lattice.rt` and `general.rt` those behind it, `result.rt` those of a result;
-//! `cursor.rt` alone speaks to `csv`. `Rows`, `Row` and `Range` are for readers of other records, which
-//! state what they read over any table of tests (`specs/Ended.antt`), and gather it by `Gather`.
+//! For the next engineer: `specs/ReadInstance.antt` and `specs/Result.antt` say what a text gives and
+//! why it is refused, over the whole list of its records; `specs/Header.antt`, `specs/Body.antt` and
+//! `specs/Result.antt` are the tables of tests, `specs/Kept.antt` and `specs/Field.antt` say which
+//! records and fields count. The contracts that matter are those of `read_instance` and `read_result`.
+//! In the code `rows.rt` gives the records that count, `header.rt` reads the first of an instance,
+//! `lattice.rt` and `general.rt` those behind it, `result.rt` those of a result; `cursor.rt` alone
+//! speaks to `csv`. `Rows`, `Row` and `Range` are for readers of other records, which state what they
+//! read over any table of tests (`specs/Ended.antt`), and gather it by `Gather`.
 #![tactic(auto)]
 
 mod body;
@@ -30,7 +30,7 @@ mod result;
 mod row;
 mod rows;
 
-pub use body::{Link, bare_end, indices, read_link};
+pub use body::{Link, list_once, read_link};
 pub use ended::{Gather, read_to_end};
 pub use field::without_marks;
 pub use header::{Form, form_named};

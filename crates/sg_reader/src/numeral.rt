@@ -1,6 +1,6 @@
-ghost use Rattle.std.specs.Prelude.{◌≡◌, ◌≤◌, ◌<◌, ◌^◌, pos, neg_ℤ, if◌then◌else◌, ◌==◌, length, slice_index, IfSome, IfNone};
+ghost use Rattle.std.specs.Prelude.{◌≡◌, ◌≤◌, ◌<◌, ◌^◌, pos, neg_ℤ, if◌then◌else◌, length, IfSome, IfNone};
 ghost use Rattle.std.specs.Str.Parse.{IsNumeral, digits_value, starts_with_minus, without_leading_sign};
-ghost use Rattle.sg_reader.specs.Number.{number_of};
+ghost use Rattle.sg_reader.specs.Tests.{number_of};
 
 use std::str;
 
@@ -35,39 +35,24 @@ fn short_number(field: &[u8]) -> Option<i64>
     requires { length field.now ≤ 18 }
     ensures { result ≡ number_of field.now }
 {
-    match short_size(after_sign(field)) {
-        Some(size) => Some(signed(size, is_minus(field))),
-        None => None,
-    }
+    let size = short_size(after_sign(field))?;
+    Some(signed(size, is_minus(field)))
 }
 
 fn is_minus(field: &[u8]) -> bool
     ensures { result ≡ starts_with_minus field.now }
 {
-    !field.is_empty() && field[0] == b'-'
-}
-
-fn is_plus(field: &[u8]) -> bool
-    requires { 0 < length field.now }
-    ensures { result ≡ (slice_index field.now 0 == 43) }
-{
-    field[0] == b'+'
+    matches!(field, [b'-', ..])
 }
 
 // The field behind its sign.
 fn after_sign(field: &[u8]) -> &[u8]
     ensures { result.now ≡ without_leading_sign field.now }
 {
-    if field.is_empty() {
-        return field;
+    match field {
+        [b'-' | b'+', digits @ ..] => digits,
+        _ => field,
     }
-    if is_minus(field) {
-        return &field[1..];
-    }
-    if is_plus(field) {
-        return &field[1..];
-    }
-    field
 }
 
 // The size that a few digits spell; none where they are no digits, or there is none.

@@ -3,7 +3,7 @@ ghost use Rattle.sg_limits.specs.Limits.{bond_limit, spin_limit};
 ghost use Rattle.sg_model.specs.Ising.{bond_count};
 ghost use Rattle.sg_model.specs.WellFormed.{IsInstance};
 ghost use Rattle.sg_reader.specs.ReadInstance.{ReadsInstance, RefusesInstance};
-ghost use Rattle.sg_reader.specs.Rest.{Fails, IsTrailing};
+ghost use Rattle.sg_reader.specs.Ended.{Fails, IsTrailing};
 
 use super::general::read_general;
 use super::header::{Header, read_header};
@@ -91,11 +91,7 @@ pub fn alone<T: Drop>(
     ensures fault { IfErr result (λ e. MatchResult given (λ x. Fails (IsTrailing rows.old) rows.old rows.new e)
         (λ why. (e ≡ why) × (rows.new ≡ rows.old))) }
 {
-    match given {
-        Ok(value) => match no_more(alloc, rows) {
-            Ok(()) => Ok(value),
-            Err(fault) => Err(fault),
-        },
-        Err(fault) => Err(fault),
-    }
+    let value = given?;
+    no_more(alloc, rows)?;
+    Ok(value)
 }

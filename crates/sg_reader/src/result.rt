@@ -2,17 +2,14 @@ ghost use Rattle.std.specs.Prelude.{◌≡◌, ◌<◌, ◌≤◌, ◌∷◌, []
 ghost use Rattle.std.specs.List.{sum_by};
 ghost use Rattle.sg_limits.specs.Limits.{text_limit};
 ghost use Rattle.sg_reader.specs.Body.{numbers_from};
-ghost use Rattle.sg_reader.specs.Ended.{RefusesRecords, StatesToEnd};
-ghost use Rattle.sg_reader.specs.Holds.{HoldsLoops};
+ghost use Rattle.sg_reader.specs.Ended.{RefusesRecords, StatesToEnd, Fails};
+ghost use Rattle.sg_reader.specs.Result.{HoldsLoops, energy_fault, loop_fault, stated_loop, loops_fault, result_fault, stated_loops, spins_fault, ReadsResult, RefusesResult};
 ghost use Rattle.sg_reader.specs.Kept.{Kept};
-ghost use Rattle.sg_reader.specs.Rest.{Fails};
-ghost use Rattle.sg_reader.specs.Result.{energy_fault, loop_fault, stated_loop, loops_fault, result_fault, stated_loops, spins_fault};
-ghost use Rattle.sg_reader.specs.ReadResult.{ReadsResult, RefusesResult};
 ghost use Rattle.sg_draft.specs.Tests.{Refuses};
 ghost use Rattle.sg_reader.specs.Tests.{number_in};
 ghost use Rattle.sg_model.specs.Faults.{OrNoMemory};
 
-use super::body::{bare_end, indices};
+use super::body::indices;
 use super::ended::{Gather, read_to_end};
 use super::range::Range;
 use super::row::Row;
@@ -34,12 +31,8 @@ fn read_energy(row: &Row) -> Result<i64, Refusal>
     ensures count { IfOk result (λ e. length row.now.fields ≡ 2) }
     ensures refused { IfErr result (λ e. energy_fault row.now ≡ Some e) }
 {
-    if !row.begins(ENERGY) {
-        return Err(Refusal::UnknownKind { at: row.at() });
-    }
-    if row.len() != 2 {
-        return Err(Refusal::BadShape { at: row.at() });
-    }
+    row.check_word(ENERGY)?;
+    row.check_shape(2)?;
     row.number(1, Range::any_number())
 }
 
@@ -50,9 +43,7 @@ fn read_spins(alloc: Global, row: &Row) -> Result<Spins, Fault>
     ensures count { IfOk result (λ s. length s < length row.now.fields) }
     ensures fault { IfErr result (OrNoMemory (Refuses (spins_fault row.now))) }
 {
-    if !row.begins(SPINS) {
-        return Err(Fault::Refused(Refusal::UnknownKind { at: row.at() }));
-    }
+    row.check_word(SPINS)?;
     let mut spins = Spins::new(alloc);
     for i in 1..row.len() {
         let value = row.spin(i)?;
@@ -68,9 +59,7 @@ fn read_loop(alloc: Global, row: &Row) -> Result<Loop, Fault>
     ensures count { IfOk result (λ l. 1 < length row.now.fields) }
     ensures fault { IfErr result (OrNoMemory (Refuses (loop_fault row.now))) }
 {
-    if !row.begins(LOOP) {
-        return Err(Fault::Refused(Refusal::UnknownKind { at: row.at() }));
-    }
+    row.check_word(LOOP)?;
     if row.len() == 1 {
         return Err(Fault::Refused(Refusal::BadShape { at: row.at() }));
     }
@@ -138,7 +127,7 @@ fn read_loops(alloc: Global, rows: &mut Rows<'_>, row: &mut Row) -> Result<Loops
         loops: Loops::new(alloc),
     };
     read_to_end(alloc, rows, row, &mut body)?;
-    bare_end(row)?;
+    row.check_shape(1)?;
     Ok(body.loops)
 }
 

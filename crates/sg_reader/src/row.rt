@@ -1,13 +1,12 @@
-ghost use Rattle.std.specs.Prelude.{◌≡◌, ◌<◌, ◌+◌, ◌^◌, [], ◌∷◌, ◌≤◌, true, false, length, pos, IfOk, IfErr, OnErr, MatchBool, ◌≤ℤ◌, ℕ, List};
+ghost use Rattle.std.specs.Prelude.{◌≡◌, ◌<◌, ◌+◌, ◌^◌, [], ◌∷◌, ◌≤◌, None, Some, true, false, length, pos, IfOk, IfErr, OnErr, OnOk, MatchBool, ◌≤ℤ◌, ℕ, List};
 ghost use Rattle.std.specs.Str.{bytes_eq};
 ghost use Rattle.std.specs.List.{sum_by};
 ghost use Rattle.sg_model.specs.declared.refusal.Refusal.TheVariants.{BadNumber as IsBadNumber};
 ghost use Rattle.sg_reader.specs.Field.{fields_in};
-ghost use Rattle.sg_reader.specs.Kept.{field as field_of, is_kept as is_kept_row, is_comment as is_comment_field};
+ghost use Rattle.sg_reader.specs.Kept.{begins as begins_with, field as field_of, is_kept as is_kept_row, is_comment as is_comment_field};
 ghost use Rattle.sg_model.specs.Spins.{IsUpOrDown};
-ghost use Rattle.sg_reader.specs.Number.{number_of};
+ghost use Rattle.sg_reader.specs.Tests.{is_number_in, number_in, number_of, shape_fault, size_in, word_fault};
 ghost use Rattle.sg_reader.specs.Result.{is_spin_value};
-ghost use Rattle.sg_reader.specs.Tests.{is_number_in, number_in, size_in};
 
 use super::cursor::Cursor;
 use super::field::{field_at, field_count};
@@ -111,6 +110,36 @@ impl Row {
         self.word() == word
     }
 
+    /// The test of the word with which the record begins.
+    ///
+    /// # Errors
+    /// `UnknownKind` for another one.
+    pub fn check_word(&self, word: &[u8]) -> Result<(), Refusal>
+        ensures passes { OnOk result (word_fault word.now self.now ≡ None) }
+        ensures says { OnOk result (begins_with word.now self.now ≡ true) }
+        ensures refused { IfErr result (λ e. word_fault word.now self.now ≡ Some e) }
+    {
+        if !self.begins(word) {
+            return Err(Refusal::UnknownKind { at: self.at });
+        }
+        Ok(())
+    }
+
+    /// The test of how many fields the record has.
+    ///
+    /// # Errors
+    /// `BadShape` for another number of them.
+    pub fn check_shape(&self, fields: usize) -> Result<(), Refusal>
+        ensures passes { OnOk result (shape_fault fields self.now ≡ None) }
+        ensures count { OnOk result (length self.now.fields ≡ fields) }
+        ensures refused { IfErr result (λ e. shape_fault fields self.now ≡ Some e) }
+    {
+        if self.count != fields {
+            return Err(Refusal::BadShape { at: self.at });
+        }
+        Ok(())
+    }
+
     /// Whether the record counts: it has a field, and the first does not begin with `#`.
     pub(crate) fn is_kept(&self) -> bool
         ensures { result ≡ is_kept_row self.now }
@@ -172,8 +201,5 @@ impl Row {
 fn is_comment(field: &[u8]) -> bool
     ensures { result ≡ is_comment_field field.now }
 {
-    match field {
-        [first, ..] => *first == b'#',
-        [] => false,
-    }
+    matches!(field, [b'#', ..])
 }

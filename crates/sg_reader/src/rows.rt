@@ -1,9 +1,7 @@
-ghost use Rattle.std.specs.Prelude.{◌≡◌, ◌<◌, ◌≤◌, [], ◌∷◌, filter, length, IfOk, OnErr, MatchBool};
+ghost use Rattle.std.specs.Prelude.{◌≡◌, ◌<◌, ◌≤◌, [], ◌∷◌, length, IfOk, OnErr, MatchBool};
 ghost use Rattle.std.specs.List.{sum_by};
 ghost use Rattle.sg_limits.specs.Limits.{text_limit};
-ghost use Rattle.sg_reader.specs.Kept.{is_kept, kept_of, numbered_from};
-ghost use Rattle.sg_reader.specs.Field.{without_marks as without_marks_of};
-ghost use Rattle.sg_reader.specs.Records.{records_of};
+ghost use Rattle.sg_reader.specs.Kept.{kept_of};
 
 use super::NoMemory;
 use super::cursor::Cursor;
@@ -12,65 +10,25 @@ use super::row::Row;
 use std::alloc::Global;
 use std::marker::Model;
 
-/// The records of a text that are left, with their numbers.
-#[derive(Drop)]
-struct Numbered<'a> {
-    cursor: Cursor<'a>,
-    taken: u32,
-}
-
-impl<'a> Model for Numbered<'a> {
-    ghost use Rattle.std.specs.Prelude.{◌+◌, ◌<◌, ◌≤◌, ◌^◌, List, length};
-    ghost use Rattle.std.specs.List.{sum_by};
-    ghost use Rattle.sg_limits.specs.Limits.{text_limit};
-    ghost use Rattle.sg_reader.specs.Kept.{Kept, numbered_from};
-
-    ghost Value = { List Kept };
-
-    ghost view = { λ r. numbered_from r.taken r.cursor };
-
-    ghost invariant = { λ r. (r.taken + length r.cursor + 1 < 2 ^ 32) × (sum_by length r.cursor ≤ text_limit) };
-}
-
-impl<'a> Numbered<'a> {
-    fn new(alloc: Global, bytes: &'a [u8]) -> Self
-        requires { length bytes.now < text_limit }
-        ensures { result ≡ numbered_from 0 (records_of (without_marks_of bytes.now)) }
-    {
-        Numbered {
-            cursor: Cursor::new(alloc, without_marks(bytes)),
-            taken: 0,
-        }
-    }
-
-    fn next(&mut self, row: &mut Row) -> Result<bool, NoMemory>
-        ensures found { IfOk result (λ found. MatchBool found
-            (self.old ≡ row.new ∷ self.new)
-            ((self.old ≡ []) × (self.new ≡ []))) }
-        ensures failed { OnErr result (self.new ≡ []) }
-        ensures few { sum_by (λ r. length r.fields) (filter is_kept self.old) ≤ text_limit }
-    {
-        if !row.fill(&mut self.cursor, self.taken)? {
-            return Ok(false);
-        }
-        self.taken += 1;
-        Ok(true)
-    }
-}
-
 /// The records of a text that are left, without those that are skipped: blank ones and comments.
 #[derive(Drop)]
 pub struct Rows<'a> {
-    records: Numbered<'a>,
+    cursor: Cursor<'a>,
+    // How many stand in front of those that are left, also of those that are skipped.
+    taken: u32,
 }
 
 impl<'a> Model for Rows<'a> {
-    ghost use Rattle.std.specs.Prelude.{List, filter};
-    ghost use Rattle.sg_reader.specs.Kept.{Kept, is_kept};
+    ghost use Rattle.std.specs.Prelude.{◌+◌, ◌<◌, ◌≤◌, ◌^◌, List, filter, length};
+    ghost use Rattle.std.specs.List.{sum_by};
+    ghost use Rattle.sg_limits.specs.Limits.{text_limit};
+    ghost use Rattle.sg_reader.specs.Kept.{Kept, is_kept, numbered_from};
 
     ghost Value = { List Kept };
 
-    ghost view = { λ r. filter is_kept r.records };
+    ghost view = { λ r. filter is_kept (numbered_from r.taken r.cursor) };
+
+    ghost invariant = { λ r. (r.taken + length r.cursor + 1 < 2 ^ 32) × (sum_by length r.cursor ≤ text_limit) };
 }
 
 impl<'a> Rows<'a> {
@@ -80,7 +38,8 @@ impl<'a> Rows<'a> {
         ensures { result ≡ kept_of bytes.now }
     {
         Rows {
-            records: Numbered::new(alloc, bytes),
+            cursor: Cursor::new(alloc, without_marks(bytes)),
+            taken: 0,
         }
     }
 
@@ -93,7 +52,8 @@ impl<'a> Rows<'a> {
         ensures failed { OnErr result (self.new ≡ []) }
         ensures few { sum_by (λ r. length r.fields) self.old ≤ text_limit }
     {
-        while self.records.next(row)? {
+        while row.fill(&mut self.cursor, self.taken)? {
+            self.taken += 1;
             if row.is_kept() {
                 return Ok(true);
             }

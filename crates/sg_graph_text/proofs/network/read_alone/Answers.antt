@@ -1,6 +1,6 @@
 use Rattle.sg_reader.specs.Kept.{kept_of}
 use Rattle.sg_reader.proofs.RestLaws.{alone-reads, alone-refuses}
-use Rattle.sg_graph_text.specs.ReadGraph.{ReadsGraph, RefusesGraph}
+use Rattle.sg_graph_text.specs.Graph.{ReadsGraph, RefusesGraph}
 use Rattle.sg_graph_text.proofs.network.read_alone.Goals as goal
 
 pub returns-clause-gives : goal.returns-clause-gives

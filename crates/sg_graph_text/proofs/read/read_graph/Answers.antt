@@ -1,7 +1,6 @@
 use Rattle.std.proofs.Common.{ℕ, subst}
 use Rattle.std.proofs.lemmas.Result.{IfErr-weaker, IfOk-weaker, err_from_is_err_and}
-use Rattle.sg_reader.specs.Ended.{StatesToEnd, RefusesRecords}
-use Rattle.sg_reader.specs.Rest.{Fails}
+use Rattle.sg_reader.specs.Ended.{StatesToEnd, RefusesRecords, Fails}
 use Rattle.sg_graph_text.specs.Graph.{body_fault, body_graph}
 use Rattle.sg_graph_text.proofs.ReadLaws.{behind-fault, behind-graph}
 use Rattle.sg_graph_text.proofs.read.read_graph.Goals as goal

@@ -1,5 +1,5 @@
 use Rattle.std.proofs.lemmas.Result.{err_from_is_err_and}
-use Rattle.sg_reader.specs.ReadResult.{ReadsResult, RefusesResult}
+use Rattle.sg_reader.specs.Result.{ReadsResult, RefusesResult}
 use Rattle.sg_reader.proofs.RestLaws.{alone-reads, alone-refuses}
 use Rattle.sg_input.proofs.InputLemmas.{by_instance, by_result}
 use Rattle.sg_input.proofs.proof.read_proof.Goals as goal

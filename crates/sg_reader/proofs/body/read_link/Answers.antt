@@ -1,6 +1,5 @@
-use Rattle.std.proofs.Common.{◌≡◌, ℕ, Some, length, sym, ◌∙◌, ap, arith}
+use Rattle.std.proofs.Common.{Some, sym, ◌∙◌, ap, arith}
 use Rattle.std.proofs.lemmas.Result.{err_from_is_err_and}
-use Rattle.sg_model.specs.declared.refusal.Refusal.TheVariants.{BadShape}
 use Rattle.sg_reader.specs.declared.range.Range.{Range}
 use Rattle.sg_reader.specs.Kept.{field}
 use Rattle.sg_reader.specs.Tests.{is_number_in}
@@ -8,16 +7,16 @@ use Rattle.sg_reader.specs.Body.{link_range}
 use Rattle.sg_reader.proofs.TestLaws.{bad_field-first, bad_field-second, bad_field-third, bad_field-three, link_fault-none, link_fault-number, link_fault-shape}
 use Rattle.sg_reader.proofs.body.read_link.Goals as goal
 
-pub returns-then-len-ne4-clause-refused : goal.returns-then-len-ne4-clause-refused
-returns-then-len-ne4-clause-refused c =
-    link_fault-shape c.args.range c.args.n c.args.row.now (λ e. c.if-len-ne4.true (c.len.ensures.value ∙ e))
-    ∙ ap (λ (k : ℕ). Some (BadShape k)) (sym c.at.ensures.value)
+pub returns-in_err-check_shape-clause-refused : goal.returns-in_err-check_shape-clause-refused
+returns-in_err-check_shape-clause-refused c =
+    let p = err_from_is_err_and c.from_residual.result c.from_residual.ensures.1 in
+    rw (p.1, p.2) (link_fault-shape c.args.range c.args.n c.args.row.now _ c.in_err-check_shape.ensures.refused)
 
 pub returns-in_err-u-clause-refused : goal.returns-in_err-u-clause-refused
 returns-in_err-u-clause-refused c =
-    let p = err_from_is_err_and c.from_residual.result c.from_residual.ensures.1 in
+    let p = err_from_is_err_and c.from_residual-in_err-u.result c.from_residual-in_err-u.ensures.1 in
     let r = c.args.row.now in
-    let count : length r.fields ≡ 4 = omega arith in
+    let count = c.in_ok-check_shape.ensures.count in
     let bad = ap (λ (g : Range). is_number_in g (field r 1)) (sym c.spin_below.ensures) ∙ c.in_err-u.ensures.refused.1 in
     rw (p.1, p.2) (link_fault-number c.args.range c.args.n r 1 count (bad_field-first r (link_range c.args.range c.args.n) (omega arith) bad)
     ∙ ap Some (sym c.in_err-u.ensures.refused.0))
@@ -26,7 +25,7 @@ pub returns-in_err-v-clause-refused : goal.returns-in_err-v-clause-refused
 returns-in_err-v-clause-refused c =
     let p = err_from_is_err_and c.from_residual-in_err-v.result c.from_residual-in_err-v.ensures.1 in
     let r = c.args.row.now in
-    let count : length r.fields ≡ 4 = omega arith in
+    let count = c.in_ok-check_shape.ensures.count in
     let first = ap (λ (g : Range). is_number_in g (field r 1)) (sym c.spin_below.ensures) ∙ c.in_ok-u.ensures.ok.1 in
     let bad = ap (λ (g : Range). is_number_in g (field r 2)) (sym c.spin_below-2.ensures) ∙ c.in_err-v.ensures.refused.1 in
     rw (p.1, p.2) (link_fault-number c.args.range c.args.n r 2 count (bad_field-second r (link_range c.args.range c.args.n) (omega arith) first bad)
@@ -36,7 +35,7 @@ pub returns-in_err-value-clause-refused : goal.returns-in_err-value-clause-refus
 returns-in_err-value-clause-refused c =
     let p = err_from_is_err_and c.from_residual-in_err-value.result c.from_residual-in_err-value.ensures.1 in
     let r = c.args.row.now in
-    let count : length r.fields ≡ 4 = omega arith in
+    let count = c.in_ok-check_shape.ensures.count in
     let first = ap (λ (g : Range). is_number_in g (field r 1)) (sym c.spin_below.ensures) ∙ c.in_ok-u.ensures.ok.1 in
     let second = ap (λ (g : Range). is_number_in g (field r 2)) (sym c.spin_below-2.ensures) ∙ c.in_ok-v.ensures.ok.1 in
     let bad = c.in_err-value.ensures.refused.1 in
@@ -46,7 +45,7 @@ returns-in_err-value-clause-refused c =
 pub returns-clause-passes : goal.returns-clause-passes
 returns-clause-passes c =
     let r = c.args.row.now in
-    let count : length r.fields ≡ 4 = omega arith in
+    let count = c.in_ok-check_shape.ensures.count in
     let first = ap (λ (g : Range). is_number_in g (field r 1)) (sym c.spin_below.ensures) ∙ c.in_ok-u.ensures.ok.1 in
     let second = ap (λ (g : Range). is_number_in g (field r 2)) (sym c.spin_below-2.ensures) ∙ c.in_ok-v.ensures.ok.1 in
     link_fault-none c.args.range c.args.n r count

@@ -2,8 +2,7 @@ use Rattle.std.proofs.Common.{ℕ, ◌∙◌, ap, ap₂, sym}
 use Rattle.std.proofs.lemmas.Result.{err_from_is_err_and}
 use Rattle.sg_reader.specs.declared.range.Range.{Range}
 use Rattle.sg_reader.specs.Body.{ends_fault, link_fault}
-use Rattle.sg_reader.specs.Tests.{size_in}
-use Rattle.sg_reader.proofs.GeneralLaws.{bond_fault-ends, bond_fault-link, ends_fault-none}
+use Rattle.sg_reader.proofs.GeneralLaws.{bond_fault-ends, bond_fault-link}
 use Rattle.sg_reader.proofs.general.read_bond.Goals as goal
 
 pub returns-in_err-u-clause-refused : goal.returns-in_err-u-clause-refused
@@ -24,5 +23,5 @@ pub returns-clause-passes : goal.returns-clause-passes
 returns-clause-passes c =
     let r = c.args.row.now in
     let good = ap (λ (g : Range). link_fault g c.args.n r) (sym c.any_number.ensures) ∙ c.in_ok-u.ensures.passes in
-    bond_fault-ends c.args.n c.args.m r _ good (ends_fault-none (size_in r 1) (size_in r 2) c.args.m c.in_ok-check_ends.ensures.room
-    (λ e. c.in_ok-check_ends.ensures.differ (c.in_ok-u.ensures.u.0 ∙ e ∙ sym c.in_ok-u.ensures.v.0)))
+    bond_fault-ends c.args.n c.args.m r _ good
+    (ap₂ (λ (u v : ℕ). ends_fault u v c.args.m) (sym c.in_ok-u.ensures.u.0) (sym c.in_ok-u.ensures.v.0) ∙ c.in_ok-check_ends.ensures.passes)

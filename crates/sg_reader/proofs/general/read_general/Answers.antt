@@ -20,12 +20,12 @@ returns-in_err-read_to_end-clause-fault c =
     rw (p.1, p.2) (body-fault (header.General c.args.n) (general_fault c.in_ok-body.body.n) c.args.records.now c.read_to_end.new.rows
     c.in_err-read_to_end.field-0.0 (ap general_fault c.in_ok-body.ensures.value) bad)
 
-pub returns-in_err-bare_end-clause-fault : goal.returns-in_err-bare_end-clause-fault
-returns-in_err-bare_end-clause-fault c =
-    let p = err_from_is_err_and c.from_residual-in_err-bare_end.result c.from_residual-in_err-bare_end.ensures.1 in
+pub returns-in_err-check_shape-clause-fault : goal.returns-in_err-check_shape-clause-fault
+returns-in_err-check_shape-clause-fault c =
+    let p = err_from_is_err_and c.from_residual-in_err-check_shape.result c.from_residual-in_err-check_shape.ensures.1 in
     rw (p.1, p.2) (general-ends c.args.n c.in_ok-body.body c.args.records.now c.read_to_end.new.body c.read_to_end.new.row c.read_to_end.new.rows
     c.in_ok-read_to_end.ensures.ended
-    c.in_ok-body.ensures.value c.in_err-bare_end.field-0.0 c.in_err-bare_end.ensures.refused)
+    c.in_ok-body.ensures.value c.in_err-check_shape.field-0.0 c.in_err-check_shape.ensures.refused)
 
 pub instance-requires-clause-small : goal.instance-requires-clause-small
 instance-requires-clause-small c =
@@ -47,7 +47,7 @@ returns-in_err-inst-clause-fault c =
     c.read_to_end.new.rows c.in_err-inst.field-0.0
     (general-states c.args.n c.in_ok-body.body c.args.records.now c.read_to_end.new.body c.read_to_end.new.row c.read_to_end.new.rows
     c.in_ok-read_to_end.ensures.ended
-    c.in_ok-body.ensures.value _ c.in_ok-bare_end.ensures.passes refl) (c.in_err-inst.ensures.fault c.in_ok-body.body h.body h.held))
+    c.in_ok-body.ensures.value _ c.in_ok-check_shape.ensures.passes refl) (c.in_err-inst.ensures.fault c.in_ok-body.body h.body h.held))
 
 pub returns-clause-read : goal.returns-clause-read
 returns-clause-read c =
@@ -55,7 +55,7 @@ returns-clause-read c =
     record {
       states = general-states c.args.n c.in_ok-body.body c.args.records.now c.read_to_end.new.body c.read_to_end.new.row c.read_to_end.new.rows
           c.in_ok-read_to_end.ensures.ended
-          c.in_ok-body.ensures.value _ c.in_ok-bare_end.ensures.passes (c.in_ok-inst.ensures.ok c.in_ok-body.body h.body h.held);
+          c.in_ok-body.ensures.value _ c.in_ok-check_shape.ensures.passes (c.in_ok-inst.ensures.ok c.in_ok-body.body h.body h.held);
       rotation = c.in_ok-inst.ensures.instance.rotation;
       seam = c.in_ok-inst.ensures.instance.seam;
     }

@@ -1,6 +1,6 @@
 use Rattle.std.proofs.Common.{negsuc, Some, sym, ap, ◌∙◌, w64, ◌<ℤ◌, ◌≤ℤ◌, FitsSigned, arith}
 use Rattle.std.proofs.lemmas.Int.{ints, to_z-of_z}
-use Rattle.sg_reader.specs.Number.{number_of}
+use Rattle.sg_reader.specs.Tests.{number_of}
 use Rattle.sg_reader.proofs.NumberLaws.{number_of-least, number_of-no_text, number_of-parsed, number_of-unparsed}
 use Rattle.sg_reader.proofs.numeral.long_number.Goals as goal
 

@@ -1,9 +1,8 @@
 use Rattle.std.proofs.Common.{◌≡◌, ◌≤◌, ◌<◌, ◌-◌, ℕ, true, map}
 use Rattle.std.specs.List.{range_with_len}
 use Rattle.sg_reader.specs.Kept.{field}
-use Rattle.sg_reader.specs.Number.{number_of}
+use Rattle.sg_reader.specs.Tests.{number_of, number_in}
 use Rattle.sg_reader.specs.Result.{is_spin_value}
-use Rattle.sg_reader.specs.Tests.{number_in}
 use Rattle.sg_reader.proofs.result.read_spins.Given as goal
 
 -- the fields so far are values of spins, and are listed

@@ -1,32 +1,34 @@
 use Rattle.std.proofs.Common.{◌∙◌, ap, sym}
+use Rattle.std.specs.Prelude.{unwrap_or}
 use Rattle.std.proofs.lemmas.Result.{err_from_is_err_and}
 use Rattle.sg_graph_text.specs.Graph.{terminals_fault, terminals_of}
 use Rattle.sg_graph_text.proofs.BodyLaws.{end-bare, end-passes, end-terminals, graph-held, sound-held}
 use Rattle.sg_graph_text.proofs.body.GraphBody.graph.Goals as goal
 
-pub returns-in_err-bare_end-clause-fault : goal.returns-in_err-bare_end-clause-fault
-returns-in_err-bare_end-clause-fault c =
+pub returns-in_err-check_shape-clause-fault : goal.returns-in_err-check_shape-clause-fault
+returns-in_err-check_shape-clause-fault c =
     let p = err_from_is_err_and c.from_residual.result c.from_residual.ensures.1 in
-    rw (p.1, p.2) (end-bare c.args.self c.args.row.now c.in_err-bare_end.field-0.0 c.requires.end c.in_err-bare_end.ensures.refused)
+    rw (p.1, p.2) (end-bare c.args.self c.args.row.now c.in_err-check_shape.field-0.0 c.requires.end c.in_err-check_shape.ensures.refused)
 
 pub returns-in_err-terminals-clause-fault : goal.returns-in_err-terminals-clause-fault
 returns-in_err-terminals-clause-fault c =
     let p = err_from_is_err_and c.from_residual-in_err-terminals.result c.from_residual-in_err-terminals.ensures.1 in
-    let bad = rw (c.as_slice.ensures, c.entries_or_none-entries.ensures) at c.in_err-terminals.ensures.fault in
-    rw (p.1, p.2) (end-terminals c.args.self c.args.row.now c.in_err-terminals.field-0.0 c.requires.end c.in_ok-bare_end.ensures.passes bad)
+    let bad = rw (c.as_slice.ensures, c.unwrap_or-entries.ensures, c.new.ensures) at c.in_err-terminals.ensures.fault in
+    rw (p.1, p.2) (end-terminals c.args.self c.args.row.now c.in_err-terminals.field-0.0 c.requires.end c.in_ok-check_shape.ensures.passes bad)
 
 pub returns-clause-passes : goal.returns-clause-passes
 returns-clause-passes c =
-    end-passes c.args.self c.args.row.now c.requires.end c.in_ok-bare_end.ensures.passes
-    (ap (terminals_fault c.args.self.nodes) (sym (c.as_slice.ensures ∙ c.entries_or_none-entries.ensures)) ∙ c.in_ok-terminals.ensures.passes)
+    let entries = c.as_slice.ensures ∙ c.unwrap_or-entries.ensures ∙ ap (unwrap_or c.args.self.entries) c.new.ensures in
+    end-passes c.args.self c.args.row.now c.requires.end c.in_ok-check_shape.ensures.passes
+    (ap (terminals_fault c.args.self.nodes) (sym entries) ∙ c.in_ok-terminals.ensures.passes)
 
 pub returns-clause-value : goal.returns-clause-value
 returns-clause-value c =
-    graph-held c.args.self c.in_ok-terminals.terminals
-    (c.in_ok-terminals.ensures.value ∙ ap (terminals_of c.args.self.nodes) (c.as_slice.ensures ∙ c.entries_or_none-entries.ensures))
+    let entries = c.as_slice.ensures ∙ c.unwrap_or-entries.ensures ∙ ap (unwrap_or c.args.self.entries) c.new.ensures in
+    graph-held c.args.self c.in_ok-terminals.terminals (c.in_ok-terminals.ensures.value ∙ ap (terminals_of c.args.self.nodes) entries)
 
 pub returns-clause-sound : goal.returns-clause-sound
 returns-clause-sound c =
-    sound-held c.args.self c.in_ok-terminals.terminals
-    (c.in_ok-terminals.ensures.value ∙ ap (terminals_of c.args.self.nodes) (c.as_slice.ensures ∙ c.entries_or_none-entries.ensures))
+    let entries = c.as_slice.ensures ∙ c.unwrap_or-entries.ensures ∙ ap (unwrap_or c.args.self.entries) c.new.ensures in
+    sound-held c.args.self c.in_ok-terminals.terminals (c.in_ok-terminals.ensures.value ∙ ap (terminals_of c.args.self.nodes) entries)
     c.in_ok-terminals.ensures.even c.requires.held

@@ -5,8 +5,11 @@ use Rattle.sg_graph.specs.Web.{IsEdge}
 use Rattle.sg_graph_text.proofs.BodyLaws.{edge-refused, edge-taken}
 use Rattle.sg_graph_text.proofs.body.GraphBody.take_edge.Goals as goal
 
-pub read_edge-requires : goal.read_edge-requires
-read_edge-requires c = c.requires.held.held.some
+pub read_edge-requires-clause-some : goal.read_edge-requires-clause-some
+read_edge-requires-clause-some c = c.requires.held.held.some
+
+pub read_edge-requires-clause-few : goal.read_edge-requires-clause-few
+read_edge-requires-clause-few c = rw c.len.ensures c.requires.held.held.few
 
 pub returns-in_err-edge-clause-fault : goal.returns-in_err-edge-clause-fault
 returns-in_err-edge-clause-fault c =

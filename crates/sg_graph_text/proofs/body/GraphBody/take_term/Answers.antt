@@ -12,5 +12,5 @@ returns-in_err-entries-clause-fault c =
 
 pub returns-clause-taken : goal.returns-clause-taken
 returns-clause-taken c =
-    term-taken c.args.self.now _ c.args.row.now c.is_some.result c.in_ok-entries.entries (sym c.is_some.ensures) c.in_ok-entries.ensures.first
+    term-taken c.args.self.now _ c.args.row.now c.is_some.result c.in_ok-entries.entries (sym c.is_some.ensures)
     c.requires.allowed c.requires.word c.in_ok-entries.ensures.passes c.in_ok-entries.ensures.value refl refl refl refl

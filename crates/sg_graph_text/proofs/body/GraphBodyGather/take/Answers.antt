@@ -2,9 +2,8 @@ use Rattle.std.proofs.Common.{◌≡◌, ℕ, false, sym, ◌∙◌, subst}
 use Rattle.std.specs.Prelude.{◌&&◌}
 use Rattle.sg_model.specs.declared.refusal.Fault.TheVariants.{Refused}
 use Rattle.sg_model.specs.declared.refusal.Refusal.TheVariants.{UnknownKind}
-use Rattle.sg_reader.specs.Taken.{RefusesNext}
-use Rattle.sg_graph_text.specs.Graph.{body_fault, says_term}
-use Rattle.sg_graph_text.specs.GraphHolds.{HoldsGraph}
+use Rattle.sg_reader.specs.Ended.{RefusesNext}
+use Rattle.sg_graph_text.specs.Graph.{body_fault, says_term, HoldsGraph}
 use Rattle.sg_graph_text.proofs.BodyLaws.{no_term, not_allowed, other-refused}
 use Rattle.sg_graph_text.proofs.body.GraphBodyGather.take.Goals as goal
 use Rattle.sg_graph_text.proofs.body.GraphBodyGather.take.Goals.{else-self-via-then-self+else-begins-2, else-self-via-else-self}

@@ -2,8 +2,8 @@ use Rattle.std.proofs.Common.{ℕ, sym, ◌∙◌, subst}
 use Rattle.sg_model.specs.declared.refusal.Fault.TheVariants.{Refused}
 use Rattle.sg_model.specs.declared.refusal.Refusal.TheVariants.{UnknownKind}
 use Rattle.sg_reader.specs.Body.{general_fault}
-use Rattle.sg_reader.specs.Holds.{HoldsGeneral}
-use Rattle.sg_reader.specs.Taken.{RefusesNext}
+use Rattle.sg_reader.specs.ReadInstance.{HoldsGeneral}
+use Rattle.sg_reader.specs.Ended.{RefusesNext}
 use Rattle.sg_reader.proofs.GeneralLaws.{other-refused}
 use Rattle.sg_reader.proofs.general.GeneralBodyGather.take.Goals as goal
 

@@ -1,13 +1,16 @@
-use Rattle.std.proofs.Common.{◌≤◌, ◌∙◌, List, sym, subst}
-use Rattle.sg_limits.specs.Limits.{text_limit}
+use Rattle.std.proofs.Common.{List, ap, arith}
 use Rattle.sg_reader.specs.Kept.{Kept}
-use Rattle.sg_reader.proofs.RecordCounts.{field_total}
+use Rattle.sg_reader.proofs.RecordCounts.{field_total, field_total-numbered}
 use Rattle.sg_reader.proofs.rows.Rows.next.Goals as goal
 
-pub returns-in_err-next-clause-few : goal.returns-in_err-next-clause-few
-returns-in_err-next-clause-few c =
-    subst (λ (l : List Kept). field_total l ≤ text_limit) (sym c.loop-row.invariant ∙ c.self.view_is) c.in_err-next.ensures.few
+pub returns-in_err-fill-clause-few : goal.returns-in_err-fill-clause-few
+returns-in_err-fill-clause-few c =
+    let kept = field_total-numbered c.self.inside.taken c.self.inside.cursor in
+    let all = ap (λ (l : List Kept). field_total l) c.self.view_is in
+    omega (arith, all, kept, c.self.invariant.1)
 
 pub returns-then-is_kept-clause-few : goal.returns-then-is_kept-clause-few
 returns-then-is_kept-clause-few c =
-    subst (λ (l : List Kept). field_total l ≤ text_limit) (sym c.loop-row.invariant ∙ c.self.view_is) c.in_ok-next.ensures.few
+    let kept = field_total-numbered c.self.inside.taken c.self.inside.cursor in
+    let all = ap (λ (l : List Kept). field_total l) c.self.view_is in
+    omega (arith, all, kept, c.self.invariant.1)
