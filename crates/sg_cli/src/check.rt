@@ -6,7 +6,7 @@ ghost use Rattle.sg_reply.specs.Exit.{IsAnswered};
 ghost use Rattle.sg_cli.specs.Served.{AnswersCheck, PrintsVerdict, status_by};
 
 use sg_check::{Checker, ResultText, Verdict};
-use sg_input::{StatedProof, read_proof};
+use sg_input::read_proof;
 use sg_model::Instance;
 use sg_reply::{NoMemory, Reply, Status, refuse_fault};
 use sg_report::verdict_text;
@@ -19,7 +19,7 @@ pub fn check_reply(alloc: Global, bytes: &[u8]) -> Result<Reply, NoMemory>
     ensures answered { IfOk result (λ reply. IsAnswered reply.status) }
 {
     match read_proof(alloc, bytes) {
-        Ok(StatedProof { instance, stated }) => verdict_reply(alloc, &instance, &stated),
+        Ok(proof) => verdict_reply(alloc, &proof.instance, &proof.stated),
         Err(fault) => refuse_fault(alloc, &fault),
     }
 }

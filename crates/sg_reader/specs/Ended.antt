@@ -31,8 +31,7 @@ pub record IsEnded (fault : TestTable) (records body : List Kept) (last : Kept) 
 
 -- the records up to the `end`, which passes its test too, state x, and `rest` is left
 pub record StatesToEnd {X : Type 0} (fault : TestTable) (stated : List Kept → X) (records : List Kept) (x : X)
-    (rest : List Kept)
-    : Type 0 where
+    (rest : List Kept) : Type 0 where
   pub body : List Kept
   pub last : Kept
   pub ended : IsEnded fault records body last rest
@@ -64,8 +63,7 @@ pub record IsTrailing (records : List Kept) (refusal : Refusal) (rest : List Kep
 
 -- records that are to give one thing are refused: while they are read, or at the first record that is left
 pub data RefusesAlone {X : Type 0} (reads : X → List Kept → Type 0) (refuses : Refusal → List Kept → Type 0)
-    (refusal : Refusal)
-    : Type 0 where
+    (refusal : Refusal) : Type 0 where
   WhileRead : (rest : List Kept) → refuses refusal rest → RefusesAlone reads refuses refusal
   AtTrailing : (x : X) (left rest : List Kept) → reads x left → IsTrailing left refusal rest
       → RefusesAlone reads refuses refusal
@@ -81,23 +79,19 @@ pub record HoldsSome {S : Type 0} (holds : S → List Kept → S → Type 0) (no
 
 -- behind records that gave `old` the next one passes its test, and with it they give `new`
 pub record TakesNext {S : Type 0} (tests : S → TestTable) (holds : S → List Kept → S → Type 0)
-    (old : S) (r : Kept) (new : S)
-    : Type 0 where
+    (old : S) (r : Kept) (new : S) : Type 0 where
   pub passes : (start : S) (body : List Kept) → holds start body old → tests start body r ≡ None
   pub goes_on : (start : S) (body : List Kept) → holds start body old → holds start (body ++ r ∷ []) new
 
 -- behind records that gave `old` the next one is refused
 pub record RefusesNext {S : Type 0} (tests : S → TestTable) (holds : S → List Kept → S → Type 0)
-    (old : S) (r : Kept)
-    (fault : Fault)
-    : Type 0 where
+    (old : S) (r : Kept) (fault : Fault) : Type 0 where
   pub refused : (start : S) (body : List Kept) → holds start body old
       → OrNoMemory (Refuses (tests start body r)) fault
 
 -- the records up to an `end`, which is not tested yet, gave `now`
 pub record HoldsToEnd {S : Type 0} (tests : S → TestTable) (holds : S → List Kept → S → Type 0) (start : S)
-    (records : List Kept) (now : S) (last : Kept) (rest : List Kept)
-    : Type 0 where
+    (records : List Kept) (now : S) (last : Kept) (rest : List Kept) : Type 0 where
   pub body : List Kept
   pub ended : IsEnded (tests start) records body last rest
   pub held : holds start body now

@@ -48,8 +48,7 @@ pub data RefusesInstance (records : List Kept) (refusal : Refusal) (rest : List 
   AtFirst : (first : Kept) → records ≡ first ∷ rest → header_fault first ≡ Some refusal
       → RefusesInstance records refusal rest
   Behind : (first : Kept) (more : List Kept) (header : Header) → records ≡ first ∷ more
-      → header_fault first ≡ None
-      → header_of first ≡ Some header → RefusesBody header more refusal rest
+      → header_fault first ≡ None → header_of first ≡ Some header → RefusesBody header more refusal rest
       → RefusesInstance records refusal rest
 
 -- what is kept while they are read: the couplings and the seam of the records

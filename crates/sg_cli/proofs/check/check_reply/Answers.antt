@@ -9,9 +9,9 @@ use Rattle.sg_cli.proofs.check.check_reply.Goals as goal
 pub returns-in-Ok-clause-served : goal.returns-in-Ok-clause-served
 returns-in-Ok-clause-served c =
     IfOk-weaker c.verdict_reply.result
-    (λ (reply : Reply). PrintsVerdict c.in-Ok.instance c.in-Ok.stated reply.text.items reply.status)
+    (λ (reply : Reply). PrintsVerdict c.in-Ok.proof.instance c.in-Ok.proof.stated reply.text.items reply.status)
     (λ (reply : Reply). AnswersCheck c.args.bytes.now reply.text.items reply.status)
-    (λ reply judged. Judged c.in-Ok.instance c.in-Ok.stated c.in-Ok.ensures.gives judged)
+    (λ reply judged. Judged c.in-Ok.proof.instance c.in-Ok.proof.stated c.in-Ok.ensures.gives judged)
     c.verdict_reply.ensures.served
 
 pub returns-in-Err-clause-served : goal.returns-in-Err-clause-served
