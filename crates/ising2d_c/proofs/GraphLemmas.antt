@@ -10,8 +10,8 @@ use Rattle.sg_draft.specs.Bonds.{IsAmong, is_among, self_fault}
 use Rattle.sg_draft.specs.Draft.{GeneralDraft, draft_fault, drafted, general_draft_fault}
 use Rattle.sg_draft.specs.Reads.{counted, unless, value_or, wrong_entry}
 use Rattle.sg_draft.proofs.Drafts.{among-of, counted-unless, general-none, general-some, wrong-unless}
-use Rattle.ising2d_c.specs.Starts.{wrong_start}
-use Rattle.ising2d_c.specs.Graphs.{Numbers, bond_by, bonds_by, graph_draft, lists_by, wrong_bond}
+use Rattle.ising2d_c.specs.Crossing.{wrong_start}
+use Rattle.ising2d_c.specs.Graphs.{bond_by, bonds_by, graph_draft, lists_by, Numbers, wrong_bond}
 
 -- bonds that pass are among the spins
 pub bonds-among : (n : ℕ) (ends : List ℕ) (js : List ℤ) → ((k : ℕ) → k < length js → is_among n (bond_by ends js k) ≡ true)

@@ -4,7 +4,6 @@ mod RowLemmas
 mod CrossingLemmas
 mod FirstLemmas
 mod StartLemmas
-mod FitLemmas
 mod GraphLemmas
 mod StatedLemmas
 mod NestLemmas

@@ -1,14 +1,14 @@
 -- Items that starts divide, one behind the other.
-use Rattle.std.proofs.Common.{◌≡◌, ℕ, zero, suc, ◌+◌, ◌-◌, ◌<◌, ◌≤◌, false, None, Some, arith, List, [], ◌∷◌, ◌++◌, ap, sym, ◌∙◌, map, flat_map, length, take, drop, inl, inr}
+use Rattle.std.proofs.Common.{◌≡◌, ℕ, zero, suc, ◌+◌, ◌-◌, ◌<◌, ◌≤◌, Bool, false, None, Some, arith, List, [], ◌∷◌, ◌++◌, ap, sym, ◌∙◌, map, flat_map, length, take, inl, inr}
+use Rattle.std.specs.Prelude.{nat_lt}
 use Rattle.std.specs.List.{range_with_len}
 use Rattle.std.proofs.lemmas.Bool.{cases_eq, le-ltb, lt-ltb}
 use Rattle.std.proofs.lemmas.List.{append-nil, length-append, length-take-le, take-append-le, take_all}
 use Rattle.std.proofs.lemmas.List.FromFn.{get_or-map-range_with_len, length-map-range_with_len}
 use Rattle.std.proofs.lemmas.Grind.{flat_map-append, same_number_lists}
 use Rattle.std.proofs.Math.Seq.{take-add, take-length}
-use Rattle.ising2d_c.specs.Crossing.{IsJoined, entries_before}
+use Rattle.ising2d_c.specs.Crossing.{DividesEntries, entries_before, entries_of, entry, first_fall, IsJoined}
 use Rattle.sg_draft.proofs.Finds.{find_range-none, find_range-some}
-use Rattle.ising2d_c.specs.Starts.{DividesEntries, entry, start_falls, first_fall}
 
 -- no start is above the number of all entries
 pub below_last : (starts : List ℕ) (items entries gap k : ℕ) → DividesEntries starts items entries → k + gap ≡ items → entry starts k ≤ entries
@@ -31,7 +31,7 @@ pub record IsFront {A : Type 0} (entries : A → List ℕ) (items : List A) (sta
 -- one item more
 pub one_item : {A : Type 0} (entries : A → List ℕ) (items : List A) (starts joined : List ℕ) (n k : ℕ) (x : A)
     → DividesEntries starts n (length joined) → k < n → IsFront entries items starts joined k
-    → entries x ≡ take (entry starts (k + 1) - entry starts k) (drop (entry starts k) joined)
+    → entries x ≡ entries_of starts joined k
     → IsFront entries (items ++ x ∷ []) starts joined (k + 1)
 one_item {A} entries items starts joined n k x division less front own = record {
   count = more;
@@ -82,6 +82,9 @@ all_items {A} entries items starts joined n division front = record {
     lengths : length starts ≡ length (map (entries_before entries items) (range_with_len 0 (length items + 1)))
     lengths = division.count ∙ ap (λ m. m + 1) (sym front.count)
         ∙ sym (length-map-range_with_len (entries_before entries items) 0 (length items + 1))
+
+abbrev start_falls : List ℕ → ℕ → Bool
+start_falls starts k = nat_lt (entry starts k) (entry starts (k - 1))
 
 -- a start that is not less than the one in front of it
 no_fall : (starts : List ℕ) (i : ℕ) → 1 ≤ i → entry starts (i - 1) ≤ entry starts (i - 1 + 1) → start_falls starts i ≡ false

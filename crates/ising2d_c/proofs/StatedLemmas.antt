@@ -6,7 +6,7 @@ use Rattle.sg_check.specs.declared.packing.Loop.{Loop}
 use Rattle.sg_limits.specs.Limits.{input_limit}
 use Rattle.sg_draft.specs.Members.{bad_entry}
 use Rattle.sg_draft.specs.declared.member.Member.TheVariants as member
-use Rattle.ising2d_c.specs.Stated.{first_bad_spin, values_fault}
+use Rattle.ising2d_c.specs.Proofs.{first_bad_spin, values_fault}
 
 module _ (values : List ℤ) where
   -- a bad value refuses the values

@@ -16,9 +16,8 @@ use Rattle.sg_lattice.specs.Tables.{bond_ends, coupled_bond, ends_of, lattice}
 use Rattle.sg_draft.specs.declared.limits.Limits.{Limits}
 use Rattle.sg_draft.specs.Bonds.{is_among, is_self_bond, listed_bond, self_fault}
 use Rattle.sg_draft.proofs.Finds.{find_range-none}
-use Rattle.ising2d_c.specs.Crossing.{IsJoined, entries_before}
-use Rattle.ising2d_c.specs.Starts.{DividesEntries, entry, wrong_start}
-use Rattle.ising2d_c.specs.Graphs.{bond_by, bonds_by, darts_by, lists_by, numbers, wrong_bond}
+use Rattle.ising2d_c.specs.Crossing.{DividesEntries, entries_before, entries_of, entry, IsJoined, wrong_start}
+use Rattle.ising2d_c.specs.Graphs.{bond_by, bonds_by, lists_by, numbers, wrong_bond}
 use Rattle.ising2d_c.specs.Lattices.{AreTables, table_lists}
 use Rattle.ising2d_c.proofs.FirstLemmas.{fails-none}
 use Rattle.ising2d_c.proofs.GraphLemmas.{front_tests, graph-none, graph-says}
@@ -136,7 +135,7 @@ piece (x ∷ xs) (suc k) less =
 
 lists-back : (xs : List (List ℕ)) (starts joined : List ℕ) → IsJoined own xs starts joined → lists_by (length xs) starts joined ≡ xs
 lists-back xs starts joined cut =
-    let f = darts_by starts joined in
+    let f = entries_of starts joined in
     let long = length-map-range_with_len f 0 (length xs) in
     ext_get_or [] (lists_by (length xs) starts joined) xs long (λ k inside.
     let low : k < length xs = omega (arith, inside, long) in

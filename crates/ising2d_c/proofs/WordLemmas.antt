@@ -4,7 +4,7 @@ use Rattle.std.proofs.lemmas.List.{append_assoc, map-append}
 use Rattle.std.proofs.lemmas.Grind.{flat_map-append}
 use Rattle.std.proofs.lemmas.List.Elements.{All-push}
 use Rattle.std.specs.Str.Lossy.{utf8_lossy}
-use Rattle.ising2d_c.specs.Words.{HasNoZero, ended}
+use Rattle.ising2d_c.specs.Running.{ended, HasNoZero}
 
 -- the bytes are some words, each ended, and this rest
 pub record IsFront (bytes rest : List ℕ) (words : List (List ℕ)) : Type 0 where

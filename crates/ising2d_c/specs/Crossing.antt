@@ -1,7 +1,12 @@
--- What crosses to a caller and back: lists that are copied as far as there is room, and lists of lists as two lists.
-use Rattle.std.specs.Prelude.{◌≡◌, ℕ, ℤ, min, ◌+◌, List, ◌++◌, length, take, drop, map, flat_map}
+-- What crosses to a caller and back: lists that are copied as far as there is room, the line of a refusal, and lists of
+-- lists as two lists, which may be wrong.
+use Rattle.std.specs.Prelude.{◌≡◌, ℕ, ◌+◌, ◌-◌, ◌<◌, ◌≤◌, ◌==◌, ◌&&◌, not, nat_lt, min, if◌then◌else◌, Option, Some, List, ◌++◌, length, take, drop, map, flat_map, find, slice_index_or}
+use Rattle.std.specs.Bool.{then_some}
 use Rattle.std.specs.List.{range_with_len}
-use Rattle.sg_check.specs.declared.packing.Loop.{Loop}
+use Rattle.std.specs.Option.{option_or}
+use Rattle.sg_model.specs.declared.refusal.Fault.{Fault}
+use Rattle.sg_model.specs.declared.refusal.Fault.TheVariants.{Refused, NoMemory}
+use Rattle.sg_report.specs.Text.{refusal_text}
 
 -- the front of a list stands in the place that the caller gave, as much of it as fits; what lies behind is as before
 pub record Fills {A : Type 0} (list before after : List A) (written : ℕ) : Type 0 where
@@ -11,6 +16,17 @@ pub record Fills {A : Type 0} (list before after : List A) (written : ℕ) : Typ
 -- the same, where the count is not told
 abbrev pub Shows : {A : Type 0} → List A → List A → List A → Type 0
 Shows list before after = Fills list before after (min (length list) (length before))
+
+-- the caller has got the line of this fault, which is a refusal
+abbrev pub IsToldFault : Fault → List ℕ → List ℕ → ℕ → Type 0
+IsToldFault (Refused refusal) before after written = Fills (refusal_text refusal) before after written
+IsToldFault NoMemory before after written = ⊥
+
+-- the caller has got the line of a refusal that is owed
+pub record TellsRefusal (Owed : Fault → Type 0) (before after : List ℕ) (written : ℕ) : Type 0 where
+  pub fault : Fault
+  pub owed : Owed fault
+  pub line : IsToldFault fault before after written
 
 -- how many entries the first items have together
 abbrev pub entries_before : {A : Type 0} → (A → List ℕ) → List A → ℕ → ℕ
@@ -22,28 +38,30 @@ pub record IsJoined {A : Type 0} (entries : A → List ℕ) (items : List A) (st
   pub begun : starts ≡ map (entries_before entries items) (range_with_len 0 (length items + 1))
   pub bound : joined ≡ flat_map entries items
 
--- three lists: for each loop its weight, the place of its first bond with the number of all behind them, and the
--- bonds of all loops
-pub record LoopLists : Type 0 where
-  pub weights : List ℤ
-  pub starts : List ℕ
-  pub bonds : List ℕ
+-- entry k of a list, and 0 past its end
+abbrev pub entry : List ℕ → ℕ → ℕ
+entry xs k = slice_index_or xs k 0
 
-abbrev pub loop_lists : List ℤ → List ℕ → List ℕ → LoopLists
-loop_lists weights starts bonds = record { weights = weights; starts = starts; bonds = bonds }
+-- the entries of item k, from its start to the next one
+abbrev pub entries_of : List ℕ → List ℕ → ℕ → List ℕ
+entries_of starts joined k = take (entry starts (k + 1) - entry starts k) (drop (entry starts k) joined)
 
--- loops as three lists
-pub record AreRows (lists : LoopLists) (loops : List Loop) : Type 0 where
-  pub weighed : lists.weights ≡ map (λ each. each.y) loops
-  pub joined : IsJoined (λ each. each.bonds) loops lists.starts lists.bonds
+-- the starts divide so many entries among so many items: one for each item and one more, which rise from 0 to the
+-- number of all entries
+pub record DividesEntries (starts : List ℕ) (items entries : ℕ) : Type 0 where
+  pub count : length starts ≡ items + 1
+  pub first : entry starts 0 ≡ 0
+  pub rises : (k : ℕ) → k < items → entry starts k ≤ entry starts (k + 1)
+  pub last : entry starts items ≡ entries
 
--- loops have crossed as three lists into places of a caller, with how many loops there are and how many bonds they have
--- together
-pub record HandsLoops (loops : List Loop) (before after : LoopLists) (loop_count bond_count : ℕ) : Type 0 where
-  pub lists : LoopLists
-  pub rows : AreRows lists loops
-  pub shows_weights : Shows lists.weights before.weights after.weights
-  pub shows_starts : Shows lists.starts before.starts after.starts
-  pub shows_bonds : Shows lists.bonds before.bonds after.bonds
-  pub counts_loops : loop_count ≡ length loops
-  pub counts_bonds : bond_count ≡ length lists.bonds
+-- the first start that is less than the one in front of it
+abbrev pub first_fall : List ℕ → Option ℕ
+first_fall starts = find (λ k. nat_lt (entry starts k) (entry starts (k - 1))) (range_with_len 1 (length starts - 1))
+
+-- the start that is wrong: the first, where there is another number of them than one more than the items, or where it
+-- is not 0; one that is less than the one in front of it; or the last, where it is not the number of the entries
+abbrev pub wrong_start : List ℕ → ℕ → ℕ → Option ℕ
+wrong_start starts items entries =
+    if length starts == items + 1 && entry starts 0 == 0
+    then option_or (first_fall starts) (then_some (not (entry starts items == entries)) items)
+    else Some 0

@@ -1,18 +1,23 @@
--- General graphs by numbers: what they say, which numbers give one, and what is wrong with others.
-use Rattle.std.specs.Prelude.{ℕ, ℤ, pos, ◌+◌, ◌-◌, ◌*◌, ◌==◌, not, if◌then◌else◌}
-use Rattle.std.specs.Prelude.{Option, Some, find, List, length, map, take, drop, slice_index_or}
+-- General graphs by numbers: what they say, which numbers give one, what is wrong with others, and what a study or a
+-- checker finds of one.
+use Rattle.std.specs.Prelude.{◌≡◌, ◌⊎◌, ℕ, ℤ, pos, ◌+◌, ◌*◌, ◌==◌, not, if◌then◌else◌, Option, Some, find, List, [], length, map, slice_index_or}
 use Rattle.std.specs.List.{range_with_len}
 use Rattle.sg_model.specs.Ising.{Ising}
 use Rattle.sg_model.specs.Faults.{OrNoMemory}
 use Rattle.sg_model.specs.declared.bond.Bond.{Bond}
 use Rattle.sg_model.specs.declared.refusal.Fault.{Fault}
+use Rattle.sg_model.specs.declared.refusal.Fault.TheVariants.{Refused}
+use Rattle.sg_model.specs.declared.refusal.Refusal.{Refusal}
+use Rattle.sg_model.specs.declared.refusal.Refusal.TheVariants.{NoSeam}
+use Rattle.sg_planar.specs.Fit.{IsFit, IsUnfit}
 use Rattle.sg_draft.specs.declared.limits.Limits.{Limits}
 use Rattle.sg_draft.specs.declared.read.Read.TheVariants.{Known}
 use Rattle.sg_draft.specs.Bonds.{is_among}
 use Rattle.sg_draft.specs.Draft.{Draft, IsDrafted, IsDraftRefusal, OfGeneral}
 use Rattle.sg_draft.specs.Reads.{unless}
+use Rattle.sg_draft.specs.Tests.{Refuses}
 use Rattle.ising2d_c.specs.declared.graphs.Given.{Given}
-use Rattle.ising2d_c.specs.Starts.{entry, wrong_start}
+use Rattle.ising2d_c.specs.Crossing.{entries_of, entry, wrong_start}
 
 -- the numbers of a graph: its spins, two ends for each bond and its coupling, the darts of each spin from its start on,
 -- and the bonds of the seam
@@ -41,20 +46,15 @@ bonds_by ends couplings = map (bond_by ends couplings) (range_with_len 0 (length
 
 -- the first bond that joins no two of n spins or has no coupling; the list itself where there are not two ends for each
 -- bond
-abbrev pub first_bad : ℕ → List ℕ → List ℤ → Option ℕ
-first_bad n ends couplings =
-    find (λ k. not (is_among n (bond_by ends couplings k))) (range_with_len 0 (length couplings))
-
 abbrev pub wrong_bond : ℕ → List ℕ → List ℤ → Option ℕ
 wrong_bond n ends couplings =
-    if length ends == 2 * length couplings then first_bad n ends couplings else Some 0
+    if length ends == 2 * length couplings
+    then find (λ k. not (is_among n (bond_by ends couplings k))) (range_with_len 0 (length couplings))
+    else Some 0
 
--- the darts of each of n spins, from its start to the next one
-abbrev pub darts_by : List ℕ → List ℕ → ℕ → List ℕ
-darts_by starts darts i = take (entry starts (i + 1) - entry starts i) (drop (entry starts i) darts)
-
+-- the darts of each of n spins
 abbrev pub lists_by : ℕ → List ℕ → List ℕ → List (List ℕ)
-lists_by n starts darts = map (darts_by starts darts) (range_with_len 0 n)
+lists_by n starts darts = map (entries_of starts darts) (range_with_len 0 n)
 
 -- what the numbers say
 abbrev pub graph_draft : Numbers → Draft
@@ -72,3 +72,35 @@ IsGraph most g inst = IsDrafted most (graph_draft g) inst
 -- the first thing that is wrong with these numbers: a test fails, or what they say is no instance
 abbrev pub IsGraphFault : Limits → Numbers → Fault → Type 0
 IsGraphFault most g fault = OrNoMemory (IsDraftRefusal most (graph_draft g)) fault
+
+-- the graph of the numbers is fit for a planar solver
+pub record IsFitGraph (most : Limits) (g : Numbers) (inst : Ising) : Type 0 where
+  pub given : IsGraph most g inst
+  pub fit : IsFit inst
+
+-- why the numbers give none: they give no graph, or one that is not fit
+abbrev pub IsFitFault : Limits → Numbers → Fault → Type 0
+IsFitFault most g fault =
+    IsGraphFault most g fault ⊎ ((inst : Ising) × IsGraph most g inst × OrNoMemory (IsUnfit inst) fault)
+
+-- why they give no wall: no fit graph, or one without a seam
+abbrev pub IsWallFault : Limits → Numbers → Fault → Type 0
+IsWallFault most g fault =
+    IsFitFault most g fault
+    ⊎ ((inst : Ising) × IsFitGraph most g inst × (inst.seam ≡ []) × (fault ≡ Refused NoSeam))
+
+-- why they give no verdict: they give no graph, or a test of what is stated of it fails
+abbrev pub IsProofFault : Limits → Numbers → Option Refusal → Fault → Type 0
+IsProofFault most g test fault =
+    IsGraphFault most g fault ⊎ ((inst : Ising) × IsGraph most g inst × OrNoMemory (Refuses test) fault)
+
+-- the same where the graph has to be fit
+abbrev pub IsFitProofFault : Limits → Numbers → Option Refusal → Fault → Type 0
+IsFitProofFault most g test fault =
+    IsFitFault most g fault ⊎ ((inst : Ising) × IsFitGraph most g inst × OrNoMemory (Refuses test) fault)
+
+-- an instance that the numbers give, of which this was found
+pub record Finds (Given Study : Ising → Type 0) : Type 0 where
+  pub instance : Ising
+  pub given : Given instance
+  pub study : Study instance

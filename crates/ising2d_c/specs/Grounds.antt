@@ -12,8 +12,6 @@ use Rattle.sg_nest.specs.declared.nest.Nest.{Nest}
 use Rattle.sg_ground.specs.Nested.{IsNestedState, ProvesByNest}
 use Rattle.sg_ground.specs.Solution.{IsSolution}
 use Rattle.sg_wall.specs.Wall.{IsWall}
-use Rattle.sg_bonds.specs.Cost.{AreCosts}
-use Rattle.sg_bonds.specs.Cluster.{AreClusters}
 use Rattle.sg_report.specs.Text.{verdict_text}
 use Rattle.sg_reply.specs.Exit.{exit_code}
 use Rattle.sg_cli.specs.Served.{status_by}
@@ -32,17 +30,11 @@ pub record IsWallAtSeam (inst : Ising) (periodic antiperiodic difference : ℤ) 
   pub seam : inst.seam ≢ []
   pub wall : IsWall inst periodic antiperiodic difference
 
--- the costs of all bonds have crossed so
-pub record IsCosted (inst : Ising) (Crosses : List ℤ → Type 0) : Type 0 where
-  pub costs : List ℤ
-  pub exact : AreCosts inst costs
-  pub crossed : Crosses costs
-
--- the clusters of all spins have crossed so
-pub record IsClustered (inst : Ising) (Crosses : List ℕ → Type 0) : Type 0 where
-  pub names : List ℕ
-  pub exact : AreClusters inst names
-  pub crossed : Crosses names
+-- the exact list, as the costs of all bonds or the clusters of all spins, has crossed so
+pub record IsExact {A : Type 0} (Is Crosses : List A → Type 0) : Type 0 where
+  pub list : List A
+  pub exact : Is list
+  pub crossed : Crosses list
 
 -- a ground state with its energy, and perhaps a nest over the faces that proves it, have crossed so
 pub record IsNested (inst : Ising) (energy : ℤ) (Crosses : List ℤ → Option Nest → Type 0) : Type 0 where

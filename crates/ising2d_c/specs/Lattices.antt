@@ -1,7 +1,5 @@
 -- Lattices by numbers: which numbers give one, what is wrong with others, and the tables by which one is a graph.
-use Rattle.std.specs.Prelude.{◌≡◌, ℕ, ℤ, pos, ◌≤◌, min, ◌==◌, not, if◌then◌else◌}
-use Rattle.std.specs.Prelude.{Option, Some, None, find, List, [], ◌∷◌, length, slice_index_or}
-use Rattle.std.specs.List.{range_with_len}
+use Rattle.std.specs.Prelude.{◌≡◌, ℕ, ℤ, ◌≤◌, min, ◌==◌, not, if◌then◌else◌, Option, Some, None, List, [], ◌∷◌, length, position}
 use Rattle.sg_limits.specs.Limits.{large_bond_limit, large_spin_limit}
 use Rattle.sg_model.specs.Ising.{Ising, bond_count}
 use Rattle.sg_model.specs.Faults.{OrNoMemory}
@@ -19,7 +17,7 @@ use Rattle.sg_draft.specs.Reads.{member_fault}
 use Rattle.sg_draft.specs.Tests.{first_of, Refuses}
 use Rattle.ising2d_c.specs.declared.tables.TableNumbers.{TableNumbers}
 use Rattle.ising2d_c.specs.Crossing.{Shows}
-use Rattle.ising2d_c.specs.Graphs.{IsGraph, Numbers, numbers}
+use Rattle.ising2d_c.specs.Graphs.{IsGraph, numbers}
 
 -- the kinds by their numbers
 abbrev pub kind_numbered : ℕ → Option Kind
@@ -31,20 +29,16 @@ kind_numbered number =
 
 -- the first coupling that is the least number of 64 bits
 abbrev pub first_out : List ℤ → Option ℕ
-first_out couplings =
-    find (λ k. not (is_coupling (slice_index_or couplings k (pos 0)))) (range_with_len 0 (length couplings))
+first_out couplings = position (λ number. not (is_coupling number)) couplings
 
 -- the tests: the kind, the size of a lattice of that kind, the number of its couplings, and each of them
-abbrev pub given_kind_fault : Limits → Option Kind → ℕ → ℕ → List ℤ → Option Refusal
-given_kind_fault most None R C couplings = Some (bad_member member.Kind)
-given_kind_fault most (Some kind) R C couplings = first_of (
+abbrev pub lattice_numbers_fault : Limits → Option Kind → ℕ → ℕ → List ℤ → Option Refusal
+lattice_numbers_fault most None R C couplings = Some (bad_member member.Kind)
+lattice_numbers_fault most (Some kind) R C couplings = first_of (
     lattice_size_fault most kind (Some R) (Some C)
     ∷ coupling_count_fault (length couplings) (bond_total kind R C)
     ∷ member_fault member.Couplings (first_out couplings)
     ∷ [])
-
-abbrev pub lattice_numbers_fault : Limits → ℕ → ℕ → ℕ → List ℤ → Option Refusal
-lattice_numbers_fault most number R C couplings = given_kind_fault most (kind_numbered number) R C couplings
 
 -- the limits of a call that takes so many spins, at most those of large instances
 abbrev pub limits_of : ℕ → Limits
@@ -54,13 +48,13 @@ limits_of spins = record { spins = min spins large_spin_limit; bonds = large_bon
 pub record IsLattice (most : Limits) (number R C : ℕ) (couplings : List ℤ) (inst : Ising) : Type 0 where
   pub kind : Kind
   pub named : kind_numbered number ≡ Some kind
-  pub passes : lattice_numbers_fault most number R C couplings ≡ None
+  pub passes : lattice_numbers_fault most (kind_numbered number) R C couplings ≡ None
   pub is : inst ≡ lattice kind R C couplings
 
 -- the first thing that is wrong with these numbers
 abbrev pub IsLatticeFault : Limits → ℕ → ℕ → ℕ → List ℤ → Fault → Type 0
 IsLatticeFault most number R C couplings fault =
-    OrNoMemory (Refuses (lattice_numbers_fault most number R C couplings)) fault
+    OrNoMemory (Refuses (lattice_numbers_fault most (kind_numbered number) R C couplings)) fault
 
 -- four lists: two ends for each bond, the darts of each spin from its start on, and the bonds of the seam
 pub record TableLists : Type 0 where
@@ -72,15 +66,11 @@ pub record TableLists : Type 0 where
 abbrev pub table_lists : List ℕ → List ℕ → List ℕ → List ℕ → TableLists
 table_lists ends starts darts seam = record { ends = ends; starts = starts; darts = darts; seam = seam }
 
--- the numbers of a graph with these tables
-abbrev pub tabled : ℕ → List ℤ → TableLists → Numbers
-tabled n couplings lists = numbers n lists.ends couplings lists.starts lists.darts lists.seam
-
 -- the lists are the tables of the instance: with its couplings they give it as a graph within all limits that it keeps,
 -- and so no other one
 abbrev pub AreTables : TableLists → List ℤ → Ising → Type 0
 AreTables lists couplings inst = (most : Limits) → inst.n ≤ most.spins → bond_count inst ≤ most.bonds
-    → IsGraph most (tabled inst.n couplings lists) inst
+    → IsGraph most (numbers inst.n lists.ends couplings lists.starts lists.darts lists.seam) inst
 
 -- the tables have crossed into places of a caller, with the number of entries of each
 pub record HandsTables (couplings : List ℤ) (before after : TableLists) (counts : TableNumbers) (inst : Ising)

@@ -1,11 +1,6 @@
 pub mod Crossing
-pub mod Words
 pub mod Running
-pub mod Starts
 pub mod Graphs
 pub mod Lattices
-pub mod Stated
-pub mod Fitting
-pub mod Refusing
+pub mod Proofs
 pub mod Grounds
-pub mod Nests

@@ -1,12 +1,34 @@
--- What a run answers to a caller.
-use Rattle.std.specs.Prelude.{◌≡◌, ℕ, Bool, List, length}
-use Rattle.sg_reply.specs.Exit.{exit_code}
-use Rattle.sg_cli.specs.Laws.{WithAllLaws}
-use Rattle.sg_reply.specs.Exit.{IsAnswered}
-use Rattle.sg_cli.specs.Served.{Served}
+-- What a run answers to a caller, and its words as they cross: each ended by a byte 0.
+use Rattle.std.specs.Prelude.{◌≡◌, ◌≢◌, ℕ, Bool, List, [], ◌∷◌, ◌++◌, length, map, flat_map, All}
+use Rattle.std.specs.Str.Lossy.{utf8_lossy}
+use Rattle.sg_reply.specs.Exit.{exit_code, IsAnswered}
 use Rattle.sg_reply.specs.declared.status.Status.{Status}
+use Rattle.sg_cli.specs.Laws.{WithAllLaws}
+use Rattle.sg_cli.specs.Served.{Served}
 use Rattle.ising2d_c.specs.Crossing.{Fills}
-use Rattle.ising2d_c.specs.Words.{AreWords, IsUnended}
+
+-- no byte is 0
+abbrev pub HasNoZero : List ℕ → Type 0
+HasNoZero word = All (λ byte. byte ≢ 0) word
+
+-- a word with the byte 0 that ends it
+abbrev pub ended : List ℕ → List ℕ
+ended word = word ++ 0 ∷ []
+
+-- the bytes are these words, each ended by a byte 0; what is no UTF-8 in a word is replaced
+pub record AreWords (bytes : List ℕ) (words : List (List ℕ)) : Type 0 where
+  pub pieces : List (List ℕ)
+  pub whole : bytes ≡ flat_map ended pieces
+  pub clean : All HasNoZero pieces
+  pub texts : words ≡ map utf8_lossy pieces
+
+-- behind the last byte 0 something stands
+pub record IsUnended (bytes : List ℕ) : Type 0 where
+  pub pieces : List (List ℕ)
+  pub rest : List ℕ
+  pub whole : bytes ≡ flat_map ended pieces ++ rest
+  pub clean : HasNoZero rest
+  pub some : rest ≢ []
 
 -- the text and the status that belong to the words and the input, with the four laws
 pub record Answers (words : List (List ℕ)) (input text : List ℕ) (status : Status) : Type 0 where

@@ -1,23 +1,36 @@
-// The calls on a general graph by numbers.
+// The calls on a general graph by numbers. Beside another status than 0 no result is written, and beside
+// another than 1 no line; but the line of a verdict on loops is written beside 0 and 3.
 ghost use Rattle.std.specs.Prelude.{◌≡◌, ◌≢◌, ◌⊎◌};
-ghost use Rattle.ising2d_c.specs.Crossing.{HandsLoops, Shows, loop_lists};
-ghost use Rattle.ising2d_c.specs.Fitting.{Finds, IsFitFault, IsFitGraph, IsFitProofFault, IsProofFault, IsWallFault};
-ghost use Rattle.ising2d_c.specs.Graphs.{IsGraph, numbers};
-ghost use Rattle.ising2d_c.specs.Grounds.{IsClustered, IsCosted, IsGround, IsNestVerdict, IsNested, IsWallAtSeam, Judges};
+ghost use Rattle.sg_bonds.specs.Cluster.{AreClusters};
+ghost use Rattle.sg_bonds.specs.Cost.{AreCosts};
+ghost use Rattle.ising2d_c.specs.Proofs.{AreNestRows, HandsLoops, HandsNest, loop_lists, nest_fault, nest_lists, stated_fault, States};
+ghost use Rattle.ising2d_c.specs.Crossing.{Shows, TellsRefusal};
+ghost use Rattle.ising2d_c.specs.Graphs.{Finds, IsFitFault, IsFitGraph, IsFitProofFault, IsGraph, IsProofFault, IsWallFault, numbers};
+ghost use Rattle.ising2d_c.specs.Grounds.{IsExact, IsGround, IsNested, IsNestVerdict, IsWallAtSeam, Judges};
 ghost use Rattle.sg_draft.specs.Limits.{large_limits, program_limits};
-ghost use Rattle.ising2d_c.specs.Nests.{AreNestRows, HandsNest, nest_fault, nest_lists};
-ghost use Rattle.ising2d_c.specs.Refusing.{TellsRefusal};
-ghost use Rattle.ising2d_c.specs.Stated.{States, stated_fault};
 
-use super::crossing::fill;
+use super::crossing::{fill, refuse};
 use super::graphs::Given;
 use super::judging::{code_by, judge, judge_nest};
 use super::nests::GivenNest;
-use super::refusing::refuse;
 use super::stated::GivenLoops;
 use super::studies::{clusters_of, costs_of, ground_of, nest_of, wall_of};
 use sg_cli::Status;
 use std::alloc::Global;
+
+// The numbers of a graph as one. It is a macro, so that proofs see the fields.
+macro_rules! given {
+    ($n:ident, $ends:ident, $couplings:ident, $starts:ident, $darts:ident, $seam:ident) => {
+        Given {
+            n: $n,
+            ends: $ends,
+            couplings: $couplings,
+            starts: $starts,
+            darts: $darts,
+            seam: $seam,
+        }
+    };
+}
 
 /// The least energy, and how many loops prove it, with how many bonds together.
 #[repr(C)]
@@ -68,30 +81,21 @@ pub extern "C" fn ising2d_c_ground(
         × HandsLoops loops (loop_lists weights.old starts.old bonds.old) (loop_lists weights.new starts.new bonds.new) answer.new.loop_count answer.new.bond_count)) }
     ensures refused { result ≡ 1 → TellsRefusal (IsFitFault large_limits (numbers n ends.now couplings.now dart_starts.now darts.now seam.now)) line.old line.new line_written.new }
     ensures codes { (result ≡ 0) ⊎ ((result ≡ 1) ⊎ (result ≡ 6)) }
-
-    // Beside another status than 0 no result is written, and beside another than 1 no line.
     ensures kept { result ≢ 0 → (answer.new ≡ answer.old) × (spins.new ≡ spins.old) × (weights.new ≡ weights.old) × (starts.new ≡ starts.old) × (bonds.new ≡ bonds.old) }
     ensures kept_line { result ≢ 1 → (line.new ≡ line.old) × (line_written.new ≡ line_written.old) }
 {
-    let given = Given {
-        n,
-        ends,
-        couplings,
-        starts: dart_starts,
-        darts,
-        seam,
-    };
+    let given = given!(n, ends, couplings, dart_starts, darts, seam);
     match ground_of(alloc, &given) {
-        Ok(found) => {
+        Ok((found, rows)) => {
             *answer = GroundNumbers {
                 energy: found.energy,
-                loop_count: found.rows.weights.len(),
-                bond_count: found.rows.bonds.len(),
+                loop_count: rows.weights.len(),
+                bond_count: rows.bonds.len(),
             };
             fill(found.spins.as_slice(), spins);
-            fill(found.rows.weights.as_slice(), weights);
-            fill(found.rows.starts.as_slice(), starts);
-            fill(found.rows.bonds.as_slice(), bonds);
+            fill(rows.weights.as_slice(), weights);
+            fill(rows.starts.as_slice(), starts);
+            fill(rows.bonds.as_slice(), bonds);
             Status::Done.exit_code()
         }
         Err(fault) => refuse(alloc, &fault, line, line_written),
@@ -121,32 +125,23 @@ pub extern "C" fn ising2d_c_nest(
         × HandsNest nest (nest_lists parents.old radii.old regions.old at_radii.old) (nest_lists parents.new radii.new regions.new at_radii.new) answer.new.region_count answer.new.face_count)) }
     ensures refused { result ≡ 1 → TellsRefusal (IsFitFault large_limits (numbers n ends.now couplings.now dart_starts.now darts.now seam.now)) line.old line.new line_written.new }
     ensures codes { (result ≡ 0) ⊎ ((result ≡ 1) ⊎ (result ≡ 6)) }
-
-    // Beside another status than 0 no result is written, and beside another than 1 no line.
     ensures kept { result ≢ 0 → (answer.new ≡ answer.old) × (spins.new ≡ spins.old) × (parents.new ≡ parents.old) × (radii.new ≡ radii.old)
         × (regions.new ≡ regions.old) × (at_radii.new ≡ at_radii.old) }
     ensures kept_line { result ≢ 1 → (line.new ≡ line.old) × (line_written.new ≡ line_written.old) }
 {
-    let given = Given {
-        n,
-        ends,
-        couplings,
-        starts: dart_starts,
-        darts,
-        seam,
-    };
+    let given = given!(n, ends, couplings, dart_starts, darts, seam);
     match nest_of(alloc, &given) {
-        Ok(found) => {
+        Ok((found, rows)) => {
             *answer = NestNumbers {
                 energy: found.energy,
-                region_count: found.rows.parents.len(),
-                face_count: found.rows.regions.len(),
+                region_count: rows.parents.len(),
+                face_count: rows.regions.len(),
             };
             fill(found.spins.as_slice(), spins);
-            fill(found.rows.parents.as_slice(), parents);
-            fill(found.rows.radii.as_slice(), radii);
-            fill(found.rows.regions.as_slice(), regions);
-            fill(found.rows.at_radii.as_slice(), at_radii);
+            fill(rows.parents.as_slice(), parents);
+            fill(rows.radii.as_slice(), radii);
+            fill(rows.regions.as_slice(), regions);
+            fill(rows.at_radii.as_slice(), at_radii);
             Status::Done.exit_code()
         }
         Err(fault) => refuse(alloc, &fault, line, line_written),
@@ -170,19 +165,10 @@ pub extern "C" fn ising2d_c_wall(
     ensures found { result ≡ 0 → Finds (IsFitGraph large_limits (numbers n ends.now couplings.now dart_starts.now darts.now seam.now)) (λ inst. IsWallAtSeam inst answer.new.periodic answer.new.antiperiodic answer.new.difference) }
     ensures refused { result ≡ 1 → TellsRefusal (IsWallFault large_limits (numbers n ends.now couplings.now dart_starts.now darts.now seam.now)) line.old line.new line_written.new }
     ensures codes { (result ≡ 0) ⊎ ((result ≡ 1) ⊎ (result ≡ 6)) }
-
-    // Beside another status than 0 no result is written, and beside another than 1 no line.
     ensures kept { result ≢ 0 → answer.new ≡ answer.old }
     ensures kept_line { result ≢ 1 → (line.new ≡ line.old) × (line_written.new ≡ line_written.old) }
 {
-    let given = Given {
-        n,
-        ends,
-        couplings,
-        starts: dart_starts,
-        darts,
-        seam,
-    };
+    let given = given!(n, ends, couplings, dart_starts, darts, seam);
     match wall_of(alloc, &given) {
         Ok(found) => {
             *answer = WallNumbers {
@@ -210,22 +196,13 @@ pub extern "C" fn ising2d_c_bonds(
     line: &mut [u8],
     line_written: &mut usize,
 ) -> u8
-    ensures found { result ≡ 0 → Finds (IsFitGraph program_limits (numbers n ends.now couplings.now dart_starts.now darts.now seam.now)) (λ inst. IsCosted inst (λ c. Shows c bond_costs.old bond_costs.new)) }
+    ensures found { result ≡ 0 → Finds (IsFitGraph program_limits (numbers n ends.now couplings.now dart_starts.now darts.now seam.now)) (λ inst. IsExact (AreCosts inst) (λ c. Shows c bond_costs.old bond_costs.new)) }
     ensures refused { result ≡ 1 → TellsRefusal (IsFitFault program_limits (numbers n ends.now couplings.now dart_starts.now darts.now seam.now)) line.old line.new line_written.new }
     ensures codes { (result ≡ 0) ⊎ ((result ≡ 1) ⊎ (result ≡ 6)) }
-
-    // Beside another status than 0 no result is written, and beside another than 1 no line.
     ensures kept { result ≢ 0 → bond_costs.new ≡ bond_costs.old }
     ensures kept_line { result ≢ 1 → (line.new ≡ line.old) × (line_written.new ≡ line_written.old) }
 {
-    let given = Given {
-        n,
-        ends,
-        couplings,
-        starts: dart_starts,
-        darts,
-        seam,
-    };
+    let given = given!(n, ends, couplings, dart_starts, darts, seam);
     match costs_of(alloc, &given) {
         Ok(found) => {
             fill(found.as_slice(), bond_costs);
@@ -249,22 +226,13 @@ pub extern "C" fn ising2d_c_clusters(
     line: &mut [u8],
     line_written: &mut usize,
 ) -> u8
-    ensures found { result ≡ 0 → Finds (IsFitGraph program_limits (numbers n ends.now couplings.now dart_starts.now darts.now seam.now)) (λ inst. IsClustered inst (λ c. Shows c names.old names.new)) }
+    ensures found { result ≡ 0 → Finds (IsFitGraph program_limits (numbers n ends.now couplings.now dart_starts.now darts.now seam.now)) (λ inst. IsExact (AreClusters inst) (λ c. Shows c names.old names.new)) }
     ensures refused { result ≡ 1 → TellsRefusal (IsFitFault program_limits (numbers n ends.now couplings.now dart_starts.now darts.now seam.now)) line.old line.new line_written.new }
     ensures codes { (result ≡ 0) ⊎ ((result ≡ 1) ⊎ (result ≡ 6)) }
-
-    // Beside another status than 0 no result is written, and beside another than 1 no line.
     ensures kept { result ≢ 0 → names.new ≡ names.old }
     ensures kept_line { result ≢ 1 → (line.new ≡ line.old) × (line_written.new ≡ line_written.old) }
 {
-    let given = Given {
-        n,
-        ends,
-        couplings,
-        starts: dart_starts,
-        darts,
-        seam,
-    };
+    let given = given!(n, ends, couplings, dart_starts, darts, seam);
     match clusters_of(alloc, &given) {
         Ok(found) => {
             fill(found.as_slice(), names);
@@ -296,18 +264,9 @@ pub extern "C" fn ising2d_c_check(
         (Judges (States energy spins.now (loop_lists weights.now starts.now bonds.now)) line.old line.new line_written.new result) }
     ensures refused { result ≡ 1 → TellsRefusal (IsProofFault large_limits (numbers n ends.now couplings.now dart_starts.now darts.now seam.now) (stated_fault spins.now (loop_lists weights.now starts.now bonds.now))) line.old line.new line_written.new }
     ensures codes { (result ≡ 0) ⊎ ((result ≡ 1) ⊎ ((result ≡ 3) ⊎ (result ≡ 6))) }
-
-    // Nothing is written where the memory is wanting.
     ensures kept { result ≡ 6 → (line.new ≡ line.old) × (line_written.new ≡ line_written.old) }
 {
-    let given = Given {
-        n,
-        ends,
-        couplings,
-        starts: dart_starts,
-        darts,
-        seam,
-    };
+    let given = given!(n, ends, couplings, dart_starts, darts, seam);
     let loops = GivenLoops {
         weights,
         starts,
@@ -345,18 +304,9 @@ pub extern "C" fn ising2d_c_nest_check(
         (IsNestVerdict (AreNestRows (nest_lists parents.now radii.now regions.now at_radii.now)) spins.now energy result) }
     ensures refused { result ≡ 1 → TellsRefusal (IsFitProofFault large_limits (numbers n ends.now couplings.now dart_starts.now darts.now seam.now) (nest_fault spins.now (nest_lists parents.now radii.now regions.now at_radii.now))) line.old line.new line_written.new }
     ensures codes { (result ≡ 0) ⊎ ((result ≡ 1) ⊎ ((result ≡ 3) ⊎ (result ≡ 6))) }
-
-    // Beside another status than 1 nothing is written.
     ensures kept_line { result ≢ 1 → (line.new ≡ line.old) × (line_written.new ≡ line_written.old) }
 {
-    let given = Given {
-        n,
-        ends,
-        couplings,
-        starts: dart_starts,
-        darts,
-        seam,
-    };
+    let given = given!(n, ends, couplings, dart_starts, darts, seam);
     let nest = GivenNest {
         parents,
         radii,

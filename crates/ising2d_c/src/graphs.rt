@@ -1,12 +1,11 @@
 // General graphs by numbers. No number is trusted: each is tested, and the first fault is named.
-ghost use Rattle.std.specs.Prelude.{◌≡◌, ◌+◌, ◌*◌, ◌<◌, ◌≤◌, ℕ, length, All, None, IfErr, IfOk, OnOk};
+ghost use Rattle.std.specs.Prelude.{◌≡◌, ◌*◌, ◌<◌, ◌≤◌, length, All, None, IfErr, IfOk, OnOk};
 ghost use Rattle.sg_limits.specs.Limits.{large_bond_limit, large_spin_limit};
 ghost use Rattle.sg_draft.specs.Bonds.{IsAmong, self_fault};
 ghost use Rattle.sg_draft.specs.Draft.{draft_fault, drafted};
 ghost use Rattle.sg_ground.specs.Nested.{FitsWeb};
-ghost use Rattle.ising2d_c.specs.Fitting.{IsFitFault, IsFitGraph};
-ghost use Rattle.ising2d_c.specs.Graphs.{IsGraph, IsGraphFault, bond_by as bond_numbered, bonds_by, first_bad as first_bad_of, graph_draft, lists_by, numbers_of, wrong_bond as wrong_bond_of};
-ghost use Rattle.ising2d_c.specs.Starts.{DividesEntries};
+ghost use Rattle.ising2d_c.specs.Graphs.{bond_by as bond_numbered, bonds_by, graph_draft, IsFitFault, IsFitGraph, IsGraph, IsGraphFault, lists_by, numbers_of, wrong_bond as wrong_bond_of};
+ghost use Rattle.ising2d_c.specs.Crossing.{DividesEntries};
 
 use super::starts::{entries_at, wrong_start};
 use sg_draft::{Limits, build_general, check_general, is_among, unless};
@@ -34,10 +33,8 @@ pub fn fit_graph(alloc: Global, most: Limits, given: &Given) -> Result<Planar, F
     ensures small { IfOk result (λ planar. FitsWeb planar.instance) }
     ensures refuses { IfErr result (IsFitFault most (numbers_of given.now)) }
 {
-    match graph_of(alloc, most, given) {
-        Ok(instance) => Planar::test(alloc, instance),
-        Err(fault) => Err(fault),
-    }
+    let instance = graph_of(alloc, most, given)?;
+    Planar::test(alloc, instance)
 }
 
 /// The graph of these numbers, within the limits.
@@ -53,15 +50,11 @@ pub fn graph_of(alloc: Global, most: Limits, given: &Given) -> Result<Instance, 
     ensures small { IfOk result FitsWeb }
     ensures refuses { IfErr result (IsGraphFault most (numbers_of given.now)) }
 {
-    match check_graph(most, given) {
-        Ok(()) => {
-            let bonds = bonds_of(alloc, given.ends, given.couplings)?;
-            let rotation = rotation_of(alloc, given.n, given.starts, given.darts)?;
-            let cut = BondList::from_vec(Vec::from_slice(alloc, given.seam)?);
-            build_general(alloc, given.n, bonds, rotation, Some(cut))
-        }
-        Err(refusal) => Err(Fault::Refused(refusal)),
-    }
+    check_graph(most, given)?;
+    let bonds = bonds_of(alloc, given.ends, given.couplings)?;
+    let rotation = rotation_of(alloc, given.n, given.starts, given.darts)?;
+    let cut = BondList::from_vec(Vec::from_slice(alloc, given.seam)?);
+    build_general(alloc, given.n, bonds, rotation, Some(cut))
 }
 
 // The tests of the numbers in front of those of each bond.
@@ -91,27 +84,16 @@ fn check_graph(most: Limits, given: &Given) -> Result<(), Refusal>
     }
 }
 
-// The first bond that is wrong; the whole list where there are not two ends for each coupling.
+// The first bond that does not join two of the spins with a coupling; the whole list where there are
+// not two ends for each.
 fn wrong_bond(n: u32, ends: &[u32], couplings: &[i64]) -> Option<usize>
     ensures value { result ≡ wrong_bond_of n ends.now couplings.now }
     ensures count { result ≡ None → length ends.now ≡ 2 * length couplings.now }
     ensures among { result ≡ None → All (IsAmong n) (bonds_by ends.now couplings.now) }
 {
-    if ends.len() % 2 != 0 {
+    if ends.len() % 2 != 0 || ends.len() / 2 != couplings.len() {
         return Some(0);
     }
-    if ends.len() / 2 != couplings.len() {
-        return Some(0);
-    }
-    first_bad(n, ends, couplings)
-}
-
-// The first bond that does not join two of the spins with a coupling.
-fn first_bad(n: u32, ends: &[u32], couplings: &[i64]) -> Option<usize>
-    requires { length ends.now ≡ 2 * length couplings.now }
-    ensures value { result ≡ first_bad_of n ends.now couplings.now }
-    ensures among { result ≡ None → All (IsAmong n) (bonds_by ends.now couplings.now) }
-{
     for k in 0..couplings.len() {
         if !is_among(u64::from(n), bond_by(ends, couplings, k)) {
             return Some(k);

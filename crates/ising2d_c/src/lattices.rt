@@ -1,9 +1,8 @@
 // Lattices by numbers. No number is trusted: each is tested, and the first fault is named.
-ghost use Rattle.std.specs.Prelude.{◌≡◌, ◌≤◌, length, None, All, IfOk, IfErr};
+ghost use Rattle.std.specs.Prelude.{◌≡◌, ◌≤◌, length, IfOk, IfErr};
 ghost use Rattle.sg_limits.specs.Limits.{large_spin_limit};
 ghost use Rattle.sg_model.specs.Ising.{bond_count as bonds_in};
-ghost use Rattle.sg_draft.specs.Bonds.{IsCoupling};
-ghost use Rattle.ising2d_c.specs.Lattices.{IsLattice, IsLatticeFault, first_out as first_out_of, kind_numbered};
+ghost use Rattle.ising2d_c.specs.Lattices.{first_out as first_out_of, IsLattice, IsLatticeFault, kind_numbered};
 
 use sg_draft::{
     Limits, Member, bad_member, check_coupling_count, check_entry, check_lattice_size, is_coupling,
@@ -44,28 +43,18 @@ pub fn lattice_of(
 fn kind_by(number: u8) -> Option<Kind>
     ensures { result ≡ kind_numbered number }
 {
-    if number == 0 {
-        Some(Kind::Square)
-    } else if number == 1 {
-        Some(Kind::Triangular)
-    } else if number == 2 {
-        Some(Kind::Hexagonal)
-    } else if number == 3 {
-        Some(Kind::Cylinder)
-    } else {
-        None
+    match number {
+        0 => Some(Kind::Square),
+        1 => Some(Kind::Triangular),
+        2 => Some(Kind::Hexagonal),
+        3 => Some(Kind::Cylinder),
+        _ => None,
     }
 }
 
 // The place of the first number that is no coupling.
 fn first_out(couplings: &[i64]) -> Option<usize>
-    ensures value { result ≡ first_out_of couplings.now }
-    ensures none { result ≡ None → All IsCoupling couplings.now }
+    ensures { result ≡ first_out_of couplings.now }
 {
-    for place in 0..couplings.len() {
-        if !is_coupling(couplings[place]) {
-            return Some(place);
-        }
-    }
-    None
+    couplings.iter().position(|number| !is_coupling(*number))
 }

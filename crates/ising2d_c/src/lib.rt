@@ -11,15 +11,15 @@
 //! that the program prints. It trusts that pointers and lengths are what they say.
 //!
 //! For the next engineer: each export states what `sg_cli::run`, `sg_ground::solve`, `Checker::check`
-//! and the others state, over the lists that cross. `specs/Graphs.antt` and `specs/Lattices.antt` say
-//! which numbers give an instance and what is wrong with others, by the tests of
-//! `sg_draft`; `specs/Stated.antt` and `specs/Nests.antt` say it of a proof by loops and by
-//! a nest, and `specs/Starts.antt` of lists of lists. `specs/Grounds.antt` says what is answered of an
-//! instance, `specs/Running.antt` how a run ends, and `specs/Crossing.antt` what stands in a caller's
-//! place. `calls.rt` and `tables.rt` have the exports; what they find is found in `studies.rt` and
-//! `judging.rt`, where no caller's place is at hand. A list that does not fit is cut off, so no clause
-//! asks for room. The header for C and the module for Python are in `bindings/`; that they fit is
-//! tested there.
+//! and the others state, over the lists that cross. `specs/Crossing.antt` says what stands in a
+//! caller's place, and how lists of lists are two lists; `specs/Graphs.antt` and
+//! `specs/Lattices.antt` which numbers give an instance and what is wrong with others, by the tests
+//! of `sg_draft`; `specs/Proofs.antt` the same of a proof by loops and by a nest;
+//! `specs/Grounds.antt` what is answered of an instance, and `specs/Running.antt` how a run ends.
+//! `calls.rt` and `tables.rt` have the exports; what they find is found in `studies.rt` and
+//! `judging.rt`, where no caller's place is at hand. A list that does not fit is cut off, so no
+//! clause asks for room. The header for C and the module for Python are in `bindings/`; that they fit
+//! is tested there.
 #![tactic(auto)]
 
 mod calls;
@@ -29,7 +29,6 @@ mod graphs;
 mod judging;
 mod lattices;
 mod nests;
-mod refusing;
 mod rows;
 mod running;
 mod starts;

@@ -1,6 +1,6 @@
 // Nests of regions as four lists of numbers.
-ghost use Rattle.std.specs.Prelude.{◌≡◌, length, map, None, IfOk};
-ghost use Rattle.ising2d_c.specs.Nests.{AreNestRows, ArePlaceRows, AreRegionRows, AreRowsOf, lists_fault, nest_given, nest_lists, parent_number, place_radius, place_region, region_radius};
+ghost use Rattle.std.specs.Prelude.{◌≡◌, length, map, None, IfOk, IfErr, OnOk};
+ghost use Rattle.ising2d_c.specs.Proofs.{AreNestRows, AreRowsOf, lists_fault, nest_given, nest_lists, parent_number, place_radius, place_region};
 
 use sg_draft::{Member, bad_member};
 use sg_model::Refusal;
@@ -34,84 +34,37 @@ pub fn rows_of_nest(alloc: Global, nest: &Option<Nest>) -> Result<NestRows, Allo
     ensures { IfOk result (λ rows. AreRowsOf (nest_lists rows.parents.items rows.radii.items rows.regions.items rows.at_radii.items) nest.now) }
 {
     match nest {
-        Some(nest) => nest_rows(alloc, nest),
-        None => Ok(NestRows {
-            parents: Vec::new(alloc),
-            radii: Vec::new(alloc),
-            regions: Vec::new(alloc),
-            at_radii: Vec::new(alloc),
-        }),
+        Some(nest) => nest_rows(alloc, nest.regions.as_slice(), nest.places.as_slice()),
+        None => nest_rows(alloc, &[], &[]),
     }
 }
 
-// The nest as rows.
-fn nest_rows(alloc: Global, nest: &Nest) -> Result<NestRows, AllocError>
-    ensures { IfOk result (λ rows. AreNestRows (nest_lists rows.parents.items rows.radii.items rows.regions.items rows.at_radii.items) nest.now) }
+// The regions and the places of a nest as rows.
+fn nest_rows(
+    alloc: Global,
+    regions: &[Region],
+    places: &[Option<Place>],
+) -> Result<NestRows, AllocError>
+    ensures parents { IfOk result (λ rows. rows.parents.items ≡ map parent_number regions.now) }
+    ensures radii { IfOk result (λ rows. rows.radii.items ≡ map (λ region. region.radius) regions.now) }
+    ensures regions { IfOk result (λ rows. rows.regions.items ≡ map place_region places.now) }
+    ensures at_radii { IfOk result (λ rows. rows.at_radii.items ≡ map place_radius places.now) }
 {
     Ok(NestRows {
-        parents: parents_of(alloc, nest.regions.as_slice())?,
-        radii: radii_of(alloc, nest.regions.as_slice())?,
-        regions: regions_of(alloc, nest.places.as_slice())?,
-        at_radii: at_radii_of(alloc, nest.places.as_slice())?,
+        parents: regions
+            .iter()
+            .map(|region| region.parent.unwrap_or(NONE))
+            .collect(alloc)?,
+        radii: regions.iter().map(|region| region.radius).collect(alloc)?,
+        regions: places
+            .iter()
+            .map(|place| place.map_or(NONE, |p| p.region))
+            .collect(alloc)?,
+        at_radii: places
+            .iter()
+            .map(|place| place.map_or(0, |p| p.at))
+            .collect(alloc)?,
     })
-}
-
-fn parents_of(alloc: Global, regions: &[Region]) -> Result<Vec<u32>, AllocError>
-    ensures { IfOk result (λ list. list.items ≡ map parent_number regions.now) }
-{
-    let mut list = Vec::new(alloc);
-    for region in regions {
-        list.push(region.parent.unwrap_or(NONE))?;
-    }
-    Ok(list)
-}
-
-fn radii_of(alloc: Global, regions: &[Region]) -> Result<Vec<u64>, AllocError>
-    ensures { IfOk result (λ list. list.items ≡ map region_radius regions.now) }
-{
-    let mut list = Vec::new(alloc);
-    for region in regions {
-        list.push(region.radius)?;
-    }
-    Ok(list)
-}
-
-fn regions_of(alloc: Global, places: &[Option<Place>]) -> Result<Vec<u32>, AllocError>
-    ensures { IfOk result (λ list. list.items ≡ map place_region places.now) }
-{
-    let mut list = Vec::new(alloc);
-    for place in places {
-        list.push(region_of(*place))?;
-    }
-    Ok(list)
-}
-
-fn at_radii_of(alloc: Global, places: &[Option<Place>]) -> Result<Vec<u64>, AllocError>
-    ensures { IfOk result (λ list. list.items ≡ map place_radius places.now) }
-{
-    let mut list = Vec::new(alloc);
-    for place in places {
-        list.push(radius_of(*place))?;
-    }
-    Ok(list)
-}
-
-fn region_of(place: Option<Place>) -> u32
-    ensures { result ≡ place_region place }
-{
-    match place {
-        Some(p) => p.region,
-        None => NONE,
-    }
-}
-
-fn radius_of(place: Option<Place>) -> u64
-    ensures { result ≡ place_radius place }
-{
-    match place {
-        Some(p) => p.at,
-        None => 0,
-    }
 }
 
 /// The nest of these lists. Whether it is one is not asked.
@@ -129,7 +82,8 @@ pub fn nest_by(alloc: Global, given: &GivenNest) -> Result<Nest, AllocError>
 // The regions with these parents and radii.
 fn regions_by(alloc: Global, parents: &[u32], radii: &[u64]) -> Result<Regions, AllocError>
     requires { length radii.now ≡ length parents.now }
-    ensures { IfOk result (λ list. AreRegionRows list parents.now radii.now) }
+    ensures parents { IfOk result (λ list. parents.now ≡ map parent_number list) }
+    ensures radii { IfOk result (λ list. radii.now ≡ map (λ region. region.radius) list) }
 {
     let mut list = Regions::new(alloc);
     for r in 0..parents.len() {
@@ -150,7 +104,8 @@ fn region_by(parent: u32, radius: u64) -> Region
 // The places in these regions at these radii.
 fn places_by(alloc: Global, regions: &[u32], at_radii: &[u64]) -> Result<Places, AllocError>
     requires { length at_radii.now ≡ length regions.now }
-    ensures { IfOk result (λ list. ArePlaceRows list regions.now at_radii.now) }
+    ensures regions { IfOk result (λ list. regions.now ≡ map place_region list) }
+    ensures at_radii { IfOk result (λ list. at_radii.now ≡ map place_radius list) }
 {
     let mut list = Places::new(alloc);
     for x in 0..regions.len() {
@@ -171,17 +126,21 @@ fn place_by(region: u32, at: u64) -> Option<Place>
     }
 }
 
-/// The first fault of the lists.
-pub fn refusal_of_lists(given: &GivenNest) -> Option<Refusal>
-    ensures value { result ≡ lists_fault (nest_given given.now) }
-    ensures radii { result ≡ None → length given.now.radii.now ≡ length given.now.parents.now }
-    ensures at_radii { result ≡ None → length given.now.at_radii.now ≡ length given.now.regions.now }
+/// The tests of the lists.
+///
+/// # Errors
+/// `BadMember` for the first of them that has not an entry for each region or for each face.
+pub fn check_lists(given: &GivenNest) -> Result<(), Refusal>
+    ensures passes { OnOk result (lists_fault (nest_given given.now) ≡ None) }
+    ensures radii { OnOk result (length given.now.radii.now ≡ length given.now.parents.now) }
+    ensures at_radii { OnOk result (length given.now.at_radii.now ≡ length given.now.regions.now) }
+    ensures refuses { IfErr result (λ e. lists_fault (nest_given given.now) ≡ Some e) }
 {
     if given.radii.len() != given.parents.len() {
-        return Some(bad_member(Member::Radii));
+        return Err(bad_member(Member::Radii));
     }
     if given.at_radii.len() != given.regions.len() {
-        return Some(bad_member(Member::FaceRadii));
+        return Err(bad_member(Member::FaceRadii));
     }
-    None
+    Ok(())
 }

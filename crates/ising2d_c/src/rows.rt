@@ -1,6 +1,6 @@
 // Loops as three lists of numbers.
 ghost use Rattle.std.specs.Prelude.{◌≡◌, map, IfOk};
-ghost use Rattle.ising2d_c.specs.Crossing.{AreRows, loop_lists};
+ghost use Rattle.ising2d_c.specs.Proofs.{AreRows, loop_lists};
 
 use sg_check::Loop;
 use std::alloc::{AllocError, Global};
@@ -21,12 +21,11 @@ pub fn rows_of(alloc: Global, loops: &[Loop]) -> Result<Rows, AllocError>
     let weights = weights_of(alloc, loops)?;
     let mut starts = Vec::new(alloc);
     let mut bonds = Vec::new(alloc);
+    starts.push(0)?;
     for each in loops {
-        starts.push(bonds.len())?;
         bonds.extend_from_slice(each.bonds.as_slice())?;
+        starts.push(bonds.len())?;
     }
-    let all = bonds.len();
-    starts.push(all)?;
     Ok(Rows {
         weights,
         starts,
@@ -38,9 +37,5 @@ pub fn rows_of(alloc: Global, loops: &[Loop]) -> Result<Rows, AllocError>
 fn weights_of(alloc: Global, loops: &[Loop]) -> Result<Vec<i64>, AllocError>
     ensures { IfOk result (λ weights. weights.items ≡ map (λ each. each.y) loops.now) }
 {
-    let mut weights = Vec::new(alloc);
-    for each in loops {
-        weights.push(each.y)?;
-    }
-    Ok(weights)
+    loops.iter().map(|each| each.y).collect(alloc)
 }

@@ -1,9 +1,6 @@
 // Lists of lists as a caller gives them: for each list the place of its first entry.
-ghost use Rattle.std.specs.Prelude.{◌≡◌, ◌+◌, ◌-◌, ◌<◌, ◌≤◌, ◌^◌, ℕ, drop, length, take, None, IfOk, IfSome};
-ghost use Rattle.ising2d_c.specs.Starts.{DividesEntries, entry, first_fall as first_fall_of, wrong_start as wrong_start_of};
-
-use sg_model::BondList;
-use std::alloc::{AllocError, Global};
+ghost use Rattle.std.specs.Prelude.{◌≡◌, ◌+◌, ◌<◌, ◌≤◌, ◌^◌, ℕ, length, None, IfSome};
+ghost use Rattle.ising2d_c.specs.Crossing.{DividesEntries, entries_of, entry, first_fall as first_fall_of, wrong_start as wrong_start_of};
 
 /// The start that is wrong, where so many entries are to be divided among so many items.
 pub fn wrong_start(starts: &[usize], items: usize, entries: usize) -> Option<usize>
@@ -11,19 +8,10 @@ pub fn wrong_start(starts: &[usize], items: usize, entries: usize) -> Option<usi
     ensures value { result ≡ wrong_start_of starts.now items entries }
     ensures division { result ≡ None → DividesEntries starts.now items entries }
 {
-    if starts.len() != items + 1 {
+    if starts.len() != items + 1 || starts[0] != 0 {
         return Some(0);
     }
-    if starts[0] != 0 {
-        return Some(0);
-    }
-    if let Some(item) = first_fall(starts) {
-        return Some(item);
-    }
-    if starts[items] != entries {
-        return Some(items);
-    }
-    None
+    first_fall(starts).or((starts[items] != entries).then_some(items))
 }
 
 // The first start that is less than the one in front of it.
@@ -40,29 +28,12 @@ fn first_fall(starts: &[usize]) -> Option<usize>
     None
 }
 
-/// The entries of item `k`, as a list of their own.
-pub fn entries_of(
-    alloc: Global,
-    starts: &[usize],
-    joined: &[u32],
-    k: usize,
-) -> Result<BondList, AllocError>
-    requires within { k + 1 < length starts.now }
-    requires order { entry starts.now k ≤ entry starts.now (k + 1) }
-    requires last { entry starts.now (k + 1) ≤ length joined.now }
-    ensures { IfOk result (λ list.
-        list ≡ take (entry starts.now (k + 1) - entry starts.now k) (drop (entry starts.now k) joined.now)) }
-{
-    let own = entries_at(starts, joined, k);
-    Ok(BondList::from_vec(Vec::from_slice(alloc, own)?))
-}
-
 /// The entries of item `k`.
 pub fn entries_at<'a>(starts: &[usize], joined: &'a [u32], k: usize) -> &'a [u32]
     requires within { k + 1 < length starts.now }
     requires order { entry starts.now k ≤ entry starts.now (k + 1) }
     requires last { entry starts.now (k + 1) ≤ length joined.now }
-    ensures { result.now ≡ take (entry starts.now (k + 1) - entry starts.now k) (drop (entry starts.now k) joined.now) }
+    ensures { result.now ≡ entries_of starts.now joined.now k }
 {
     &joined[starts[k]..starts[k + 1]]
 }

@@ -1,19 +1,18 @@
 // What a caller states as a proof, by numbers. No number is trusted.
-ghost use Rattle.std.specs.Prelude.{◌≡◌, ◌+◌, ◌-◌, ◌<◌, ◌≤◌, drop, length, pos, slice_index_or, take, true, None, Some, IfOk, IfErr};
+ghost use Rattle.std.specs.Prelude.{◌≡◌, ◌≤◌, length, true, None, Some, IfOk, IfErr, OnOk};
 ghost use Rattle.sg_limits.specs.Limits.{input_limit};
 ghost use Rattle.sg_model.specs.Spins.{IsUpOrDown};
 ghost use Rattle.sg_reader.specs.Result.{is_spin_value};
 ghost use Rattle.sg_draft.specs.Tests.{Refuses};
-ghost use Rattle.ising2d_c.specs.Crossing.{AreRows, loop_lists};
-ghost use Rattle.ising2d_c.specs.Starts.{DividesEntries, entry};
-ghost use Rattle.ising2d_c.specs.Stated.{States, given_loops_fault, loops_of, stated_fault, values_fault};
+ghost use Rattle.ising2d_c.specs.Proofs.{AreRows, loop_lists, given_loops_fault, loops_of, stated_fault, States, values_fault};
+ghost use Rattle.ising2d_c.specs.Crossing.{DividesEntries};
 ghost use Rattle.sg_model.specs.Faults.{OrNoMemory};
 
-use super::starts::{entries_of, wrong_start};
+use super::starts::{entries_at, wrong_start};
 use sg_check::{Loop, Loops, ResultText};
-use sg_draft::{Member, bad_entry};
+use sg_draft::{Member, bad_entry, check_entry};
 use sg_limits::INPUT_LIMIT;
-use sg_model::{Fault, Refusal, Spins};
+use sg_model::{BondList, Fault, Refusal, Spins};
 use std::alloc::{AllocError, Global};
 
 /// Loops as a caller gives them: for each its weight, and the place of its first bond with the number of
@@ -41,15 +40,12 @@ pub fn stated_by(
     ensures few_loops { IfOk result (λ stated. length stated.loops ≤ input_limit) }
     ensures refuses { IfErr result (OrNoMemory (Refuses (stated_fault spins.now (loops_of given.now)))) }
 {
-    let values = spins_by(alloc, spins)?;
-    let count = given.weights.len();
-    if let Some(refusal) = refusal_of_loops(count, given.starts, given.bonds.len()) {
-        return Err(Fault::Refused(refusal));
-    }
+    let spins = spins_by(alloc, spins)?;
+    check_loops(given)?;
     let loops = loops_by(alloc, given.weights, given.starts, given.bonds)?;
     Ok(ResultText {
         energy,
-        spins: values,
+        spins,
         loops,
     })
 }
@@ -84,21 +80,23 @@ fn is_spin(number: &i8) -> bool
     number.unsigned_abs() == 1
 }
 
-// The first fault of so many loops with so many bonds.
-fn refusal_of_loops(loops: usize, starts: &[usize], bonds: usize) -> Option<Refusal>
-    ensures value { result ≡ given_loops_fault loops starts.now bonds }
-    ensures few { result ≡ None → loops ≤ input_limit }
-    ensures division { result ≡ None → DividesEntries starts.now loops bonds }
+// The tests of loops.
+fn check_loops(given: &GivenLoops) -> Result<(), Refusal>
+    ensures few { OnOk result (length given.now.weights.now ≤ input_limit) }
+    ensures division { OnOk result (DividesEntries given.now.starts.now (length given.now.weights.now) (length given.now.bonds.now)) }
+    ensures passes { OnOk result (given_loops_fault (loops_of given.now) ≡ None) }
+    ensures refuses { IfErr result (λ e. given_loops_fault (loops_of given.now) ≡ Some e) }
 {
-    if loops > INPUT_LIMIT {
-        return Some(Refusal::TooLong {
+    let count = given.weights.len();
+    if count > INPUT_LIMIT {
+        return Err(Refusal::TooLong {
             limit: INPUT_LIMIT as u64,
         });
     }
-    match wrong_start(starts, loops, bonds) {
-        Some(item) => Some(bad_entry(Member::Loops, item)),
-        None => None,
-    }
+    check_entry(
+        Member::Loops,
+        wrong_start(given.starts, count, given.bonds.len()),
+    )
 }
 
 // The loops of these rows.
@@ -114,29 +112,11 @@ fn loops_by(
 {
     let mut loops = Loops::new(alloc);
     for k in 0..weights.len() {
-        loops.push(loop_by(alloc, weights, starts, bonds, k)?)?;
+        let own = Vec::from_slice(alloc, entries_at(starts, bonds, k))?;
+        loops.push(Loop {
+            y: weights[k],
+            bonds: BondList::from_vec(own),
+        })?;
     }
     Ok(loops)
-}
-
-// Loop `k`.
-fn loop_by(
-    alloc: Global,
-    weights: &[i64],
-    starts: &[usize],
-    bonds: &[u32],
-    k: usize,
-) -> Result<Loop, AllocError>
-    requires weighed { k < length weights.now }
-    requires begun { k + 1 < length starts.now }
-    requires order { entry starts.now k ≤ entry starts.now (k + 1) }
-    requires last { entry starts.now (k + 1) ≤ length bonds.now }
-    ensures weight { IfOk result (λ each. each.y ≡ slice_index_or weights.now k (pos 0)) }
-    ensures bonds { IfOk result (λ each.
-        each.bonds ≡ take (entry starts.now (k + 1) - entry starts.now k) (drop (entry starts.now k) bonds.now)) }
-{
-    Ok(Loop {
-        y: weights[k],
-        bonds: entries_of(alloc, starts, bonds, k)?,
-    })
 }

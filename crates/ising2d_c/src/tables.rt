@@ -1,14 +1,12 @@
 // The tables of a lattice, by which it is a general graph.
 ghost use Rattle.std.specs.Prelude.{◌≡◌, ◌≢◌, ◌⊎◌, ◌≤◌, ◌∷◌, [], flat_map, IfErr, IfOk};
 ghost use Rattle.sg_limits.specs.Limits.{large_spin_limit};
-ghost use Rattle.ising2d_c.specs.Crossing.{IsJoined};
-ghost use Rattle.ising2d_c.specs.Fitting.{Finds};
+ghost use Rattle.ising2d_c.specs.Crossing.{IsJoined, TellsRefusal};
+ghost use Rattle.ising2d_c.specs.Graphs.{Finds};
 ghost use Rattle.ising2d_c.specs.Lattices.{AreTables, HandsTables, IsLattice, IsLatticeFault, limits_of, table_lists};
-ghost use Rattle.ising2d_c.specs.Refusing.{TellsRefusal};
 
-use super::crossing::fill;
+use super::crossing::{fill, refuse};
 use super::lattices::lattice_of;
-use super::refusing::refuse;
 use sg_cli::Status;
 use sg_draft::Limits;
 use sg_limits::{LARGE_BOND_LIMIT, LARGE_SPIN_LIMIT};
@@ -46,8 +44,6 @@ pub extern "C" fn ising2d_c_lattice(
         (HandsTables couplings.now (table_lists ends.old dart_starts.old darts.old seam.old) (table_lists ends.new dart_starts.new darts.new seam.new) counts.new) }
     ensures refused { result ≡ 1 → TellsRefusal (IsLatticeFault (limits_of most_spins) kind rows cols couplings.now) line.old line.new line_written.new }
     ensures codes { (result ≡ 0) ⊎ ((result ≡ 1) ⊎ (result ≡ 6)) }
-
-    // Beside another status than 0 no result is written, and beside another than 1 no line.
     ensures kept { result ≢ 0 → (counts.new ≡ counts.old) × (ends.new ≡ ends.old) × (dart_starts.new ≡ dart_starts.old)
         × (darts.new ≡ darts.old) × (seam.new ≡ seam.old) }
     ensures kept_line { result ≢ 1 → (line.new ≡ line.old) × (line_written.new ≡ line_written.old) }
@@ -127,11 +123,10 @@ fn joined(alloc: Global, rotation: &Rotation) -> Result<(Vec<usize>, Vec<u32>), 
 {
     let mut starts = Vec::new(alloc);
     let mut darts = Vec::new(alloc);
+    starts.push(0)?;
     for spin in 0..rotation.len() {
-        starts.push(darts.len())?;
         darts.extend_from_slice(rotation.at(spin))?;
+        starts.push(darts.len())?;
     }
-    let all = darts.len();
-    starts.push(all)?;
     Ok((starts, darts))
 }

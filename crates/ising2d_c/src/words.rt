@@ -1,6 +1,6 @@
 // The words of a run, as they cross.
 ghost use Rattle.std.specs.Prelude.{◌≡◌, ◌∷◌, ◌++◌, map, string_bytes, IfOk, IfSome, None};
-ghost use Rattle.ising2d_c.specs.Words.{AreWords, HasNoZero, IsUnended};
+ghost use Rattle.ising2d_c.specs.Running.{AreWords, HasNoZero, IsUnended};
 
 use std::alloc::{AllocError, Global};
 
@@ -15,11 +15,7 @@ pub fn words_in(alloc: Global, bytes: &[u8]) -> Result<Option<Vec<String>>, Allo
         words.push(String::from_utf8_lossy(alloc, word)?)?;
         rest = after;
     }
-    if rest.is_empty() {
-        Ok(Some(words))
-    } else {
-        Ok(None)
-    }
+    Ok(rest.is_empty().then_some(words))
 }
 
 // What stands in front of the first byte 0, and behind it.
@@ -28,10 +24,6 @@ fn cut(bytes: &[u8]) -> Option<(&[u8], &[u8])>
     ensures word { IfSome result (λ r. HasNoZero r.0.now) }
     ensures none { result ≡ None → HasNoZero bytes.now }
 {
-    for at in 0..bytes.len() {
-        if bytes[at] == 0 {
-            return Some((&bytes[..at], &bytes[at + 1..]));
-        }
-    }
-    None
+    let at = bytes.iter().position(|byte| *byte == 0)?;
+    Some((&bytes[..at], &bytes[at + 1..]))
 }

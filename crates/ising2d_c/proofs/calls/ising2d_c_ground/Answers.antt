@@ -1,6 +1,6 @@
 use Rattle.std.proofs.Common.{rules, ◌≡◌, ◌∙◌, ap, length, w64, to_z-of_z}
 use Rattle.std.proofs.lemmas.List.{length-map}
-use Rattle.ising2d_c.specs.Crossing.{loop_lists}
+use Rattle.ising2d_c.specs.Proofs.{loop_lists}
 use Rattle.ising2d_c.proofs.CrossingLemmas.{shows}
 use Rattle.ising2d_c.proofs.calls.ising2d_c_ground.Goals as goal
 
@@ -8,7 +8,7 @@ pub returns-in-Ok-clause-found : goal.returns-in-Ok-clause-found
 returns-in-Ok-clause-found c = λ done.
     let all = c.in-Ok.ensures.gives in
     let found = all.study in
-    let rows = c.in-Ok.found.rows in
+    let rows = c.in-Ok.rows in
     let loops : c.len.result ≡ length rows.weights.items = search rules in
     let bonds : c.len-in-Ok.result ≡ length rows.bonds.items = search rules in
     rw (to_z-of_z {w = w64} {z = c.in-Ok.found.energy} (search rules)) (record {

@@ -1,5 +1,5 @@
 use Rattle.std.proofs.Common.{rules, ◌≡◌, ◌∙◌, length, w64, to_z-of_z}
-use Rattle.ising2d_c.specs.Nests.{nest_lists}
+use Rattle.ising2d_c.specs.Proofs.{nest_lists}
 use Rattle.ising2d_c.proofs.CrossingLemmas.{shows}
 use Rattle.ising2d_c.proofs.calls.ising2d_c_nest.Goals as goal
 
@@ -7,7 +7,7 @@ pub returns-in-Ok-clause-found : goal.returns-in-Ok-clause-found
 returns-in-Ok-clause-found c = λ done.
     let all = c.in-Ok.ensures.gives in
     let found = all.study in
-    let rows = c.in-Ok.found.rows in
+    let rows = c.in-Ok.rows in
     let regions : c.len.result ≡ length rows.parents.items = search rules in
     let faces : c.len-in-Ok.result ≡ length rows.regions.items = search rules in
     rw (to_z-of_z {w = w64} {z = c.in-Ok.found.energy} (search rules)) (record {

@@ -1,8 +1,20 @@
-use Rattle.std.proofs.Common.{◌≡◌, ◌∙◌, ap, sym}
+use Rattle.std.proofs.Common.{◌≡◌, ◌^◌, ◌∙◌, None, ap, get_or, sym}
+use Rattle.std.specs.Prelude.{unsigned_abs}
+use Rattle.std.proofs.lemmas.Bool.{ltb-true}
 use Rattle.sg_model.specs.Ising.{bond_count}
 use Rattle.sg_lattice.specs.Tables.{bond_total}
 use Rattle.sg_lattice.proofs.LatticeBonds.{bond_count_is}
+use Rattle.sg_draft.specs.Bonds.{is_coupling}
+use Rattle.ising2d_c.specs.Lattices.{first_out}
+use Rattle.ising2d_c.proofs.FirstLemmas.{all-pass}
 use Rattle.ising2d_c.proofs.lattices.lattice_of.Goals as goal
+
+pub build-requires-clause-sizes : goal.build-requires-clause-sizes
+build-requires-clause-sizes c = λ k d inside.
+    let js = c.args.couplings.now in
+    let none : first_out js ≡ None = sym c.first_out.ensures ∙ c.in_ok-check_entry.ensures.passes in
+    let list : c.from_vec-list.result ≡ js = c.from_vec-list.ensures ∙ c.in_ok-from_slice.ensures.items in
+    rw list (ltb-true (unsigned_abs (get_or js k d)) (2 ^ 63) (all-pass is_coupling js d none k (rw list at inside)))
 
 pub returns-clause-count : goal.returns-clause-count
 returns-clause-count c =

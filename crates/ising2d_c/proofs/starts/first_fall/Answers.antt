@@ -1,5 +1,5 @@
 use Rattle.std.proofs.Common.{rules, ◌-◌, ◌<◌, arith, sym}
-use Rattle.ising2d_c.specs.Starts.{entry}
+use Rattle.ising2d_c.specs.Crossing.{entry}
 use Rattle.ising2d_c.proofs.StartLemmas.{fall-none, fall-some}
 use Rattle.ising2d_c.proofs.starts.first_fall.Goals as goal
 

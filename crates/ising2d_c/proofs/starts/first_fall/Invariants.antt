@@ -1,5 +1,5 @@
 use Rattle.std.proofs.Common.{ℕ, ◌+◌, ◌<◌, ◌≤◌}
-use Rattle.ising2d_c.specs.Starts.{entry}
+use Rattle.ising2d_c.specs.Crossing.{entry}
 use Rattle.ising2d_c.proofs.starts.first_fall.Given as goal
 
 -- no start so far is less than the one in front of it

@@ -1,25 +1,30 @@
-use Rattle.std.proofs.Common.{◌≡◌, ◌∙◌, ◌+◌, ◌-◌, arith, ap, sym, length, take}
+use Rattle.std.proofs.Common.{rules, get_or, pos, refl, w64, to_z-of_z, ◌≡◌, ◌∙◌, ◌+◌, ◌-◌, arith, ap, sym, length, take}
 use Rattle.std.proofs.Math.Seq.{take-length}
 use Rattle.sg_check.specs.declared.packing.Loop.{Loop}
+use Rattle.ising2d_c.specs.Crossing.{entries_of}
 use Rattle.ising2d_c.proofs.StartLemmas.{all_items, below_last, one_item}
 use Rattle.ising2d_c.proofs.StatedLemmas.{weights_more}
 use Rattle.ising2d_c.proofs.stated.loops_by.Goals as goal
 
-pub loop_by-requires-clause-last : goal.loop_by-requires-clause-last
-loop_by-requires-clause-last c =
+pub entries_at-requires-clause-last : goal.entries_at-requires-clause-last
+entries_at-requires-clause-last c =
     below_last c.args.starts.now (length c.args.weights.now) (length c.args.bonds.now) (length c.args.weights.now - (c.loop-k.k + 1)) (c.loop-k.k + 1)
     c.requires (omega arith)
 
 pub loop-k-preserved : goal.loop-k-preserved
 loop-k-preserved c =
     let k = c.loop-k.k in
+    let starts = c.args.starts.now in
     let weights = c.args.weights.now in
-    let each = c.in_ok-loop_by.field-0 in
-    rw c.in_ok-push.ensures.ok (record {
-      front = one_item (λ (l : Loop). l.bonds) c.loop-k.loops c.args.starts.now c.args.bonds.now (length weights) k each c.requires c.loop-k-test.true
-          c.loop-k.invariant.front c.in_ok-loop_by.ensures.bonds;
-      weights = weights_more c.loop-k.loops each weights k c.loop-k-test.true c.loop-k.invariant.weights c.in_ok-loop_by.ensures.weight;
-    })
+    let bonds = c.args.bonds.now in
+    let y = get_or weights k (pos 0) in
+    let each : Loop = record { y = y; bonds = c.from_vec.result } in
+    let own : c.from_vec.result ≡ entries_of starts bonds k = c.from_vec.ensures ∙ c.in_ok-own.ensures.items ∙ c.entries_at.ensures in
+    rw c.in_ok-push.ensures.ok (rw (to_z-of_z {w = w64} {z = y} (search rules)) (record {
+      front = one_item (λ (l : Loop). l.bonds) c.loop-k.loops starts bonds (length weights) k each c.requires c.loop-k-test.true
+          c.loop-k.invariant.front own;
+      weights = weights_more c.loop-k.loops each weights k c.loop-k-test.true c.loop-k.invariant.weights refl;
+    }))
 
 pub returns-clause-rows : goal.returns-clause-rows
 returns-clause-rows c =

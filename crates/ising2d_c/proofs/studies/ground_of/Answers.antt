@@ -1,11 +1,11 @@
-use Rattle.std.proofs.Common.{rules, w64, to_z-of_z, refl}
+use Rattle.std.proofs.Common.{refl}
 use Rattle.ising2d_c.proofs.studies.ground_of.Goals as goal
 
 pub returns-clause-gives : goal.returns-clause-gives
 returns-clause-gives c =
     let answer = c.in_ok-answer.answer in
     let known = c.in_ok-answer.ensures in
-    rw (to_z-of_z {w = w64} {z = answer.energy} (search rules)) (record {
+    record {
       instance = c.in_ok-planar.planar.instance;
       given = rw c.large.ensures.value at c.in_ok-planar.ensures.gives;
       study = record {
@@ -15,4 +15,4 @@ returns-clause-gives c =
         solution = record { proves = known.proves; short = known.short; leasts_up = known.first_up };
         crossed = (refl, rw c.as_slice.ensures at c.in_ok-rows.ensures);
       };
-    })
+    }

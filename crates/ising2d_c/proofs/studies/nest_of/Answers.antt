@@ -1,11 +1,11 @@
-use Rattle.std.proofs.Common.{rules, sym, w64, to_z-of_z, refl}
+use Rattle.std.proofs.Common.{sym, refl}
 use Rattle.ising2d_c.proofs.studies.nest_of.Goals as goal
 
 pub returns-clause-gives : goal.returns-clause-gives
 returns-clause-gives c =
     let state = c.in_ok-state.state in
     let known = c.in_ok-state.ensures in
-    rw (to_z-of_z {w = w64} {z = state.energy} (search rules)) (record {
+    record {
       instance = c.in_ok-planar.planar.instance;
       given = rw c.large.ensures.value at c.in_ok-planar.ensures.gives;
       study = record {
@@ -19,4 +19,4 @@ returns-clause-gives c =
         };
         crossed = (refl, c.in_ok-rows.ensures);
       };
-    })
+    }
