@@ -32,8 +32,7 @@ pub record TellsRefusal (Owed : Fault → Type 0) (before after : List ℕ) (wri
 abbrev pub entries_before : {A : Type 0} → (A → List ℕ) → List A → ℕ → ℕ
 entries_before entries items count = length (flat_map entries (take count items))
 
--- items as two lists: for each the place of its first entry, and the number of all; and their entries, one item behind
--- the other
+-- items as two lists: the place of the first entry of each, with the number of all behind; and all entries in turn
 pub record IsJoined {A : Type 0} (entries : A → List ℕ) (items : List A) (starts joined : List ℕ) : Type 0 where
   pub begun : starts ≡ map (entries_before entries items) (range_with_len 0 (length items + 1))
   pub bound : joined ≡ flat_map entries items

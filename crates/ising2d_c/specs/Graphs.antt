@@ -44,8 +44,7 @@ bond_by ends couplings k =
 abbrev pub bonds_by : List ℕ → List ℤ → List Bond
 bonds_by ends couplings = map (bond_by ends couplings) (range_with_len 0 (length couplings))
 
--- the first bond that joins no two of n spins or has no coupling; the list itself where there are not two ends for each
--- bond
+-- the first bond that joins no two of n spins or has no coupling, and 0 where there are not two ends for each bond
 abbrev pub wrong_bond : ℕ → List ℕ → List ℤ → Option ℕ
 wrong_bond n ends couplings =
     if length ends == 2 * length couplings

@@ -45,8 +45,7 @@ pub record IsNested (inst : Ising) (energy : ℤ) (Crosses : List ℤ → Option
   pub state : IsNestedState (record { instance = inst; faces = faces }) spins energy nest
   pub crossed : Crosses spins nest
 
--- whether the spins with this energy, and a nest that is stated so, are a proof; where they are, the spins are a ground
--- state
+-- whether the spins with this energy and a nest that is stated so are a proof; if so, the spins are a ground state
 pub record IsNestVerdict (Says : Nest → Type 0) (s : List ℤ) (e : ℤ) (code : ℕ) (inst : Ising) : Type 0 where
   pub faces : Labelling
   pub labels : IsFaceLabels inst faces
@@ -55,8 +54,7 @@ pub record IsNestVerdict (Says : Nest → Type 0) (s : List ℤ) (e : ℤ) (code
   pub proves : (code ≡ 0) ↔ ProvesByNest (record { instance = inst; faces = faces }) s e nest
   pub least : code ≡ 0 → IsGroundState inst s
 
--- the verdict on what some numbers state as a proof of the instance; where it is yes, the stated spins are a ground
--- state
+-- the verdict on what numbers state as a proof of the instance; if it is yes, the stated spins are a ground state
 pub record IsJudged (Says : ResultText → Type 0) (inst : Ising) (verdict : Verdict) : Type 0 where
   pub stated : ResultText
   pub says : Says stated

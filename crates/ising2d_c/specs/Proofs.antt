@@ -18,8 +18,7 @@ use Rattle.ising2d_c.specs.declared.nests.GivenNest.{GivenNest}
 use Rattle.ising2d_c.specs.declared.stated.GivenLoops.{GivenLoops}
 use Rattle.ising2d_c.specs.Crossing.{IsJoined, Shows, wrong_start}
 
--- three lists: for each loop its weight, the place of its first bond with the number of all behind them, and the
--- bonds of all loops
+-- three lists: the weights of loops, the place of the first bond of each with the number of all behind, and all bonds
 pub record LoopLists : Type 0 where
   pub weights : List ℤ
   pub starts : List ℕ
@@ -36,8 +35,7 @@ pub record AreRows (lists : LoopLists) (loops : List Loop) : Type 0 where
   pub weighed : lists.weights ≡ map (λ each. each.y) loops
   pub joined : IsJoined (λ each. each.bonds) loops lists.starts lists.bonds
 
--- loops have crossed as three lists into places of a caller, with how many loops there are and how many bonds they have
--- together
+-- loops have crossed as three lists into places of a caller, with the numbers of loops and of all their bonds
 pub record HandsLoops (loops : List Loop) (before after : LoopLists) (loop_count bond_count : ℕ) : Type 0 where
   pub lists : LoopLists
   pub rows : AreRows lists loops
@@ -114,8 +112,7 @@ abbrev pub AreRowsOf : NestLists → Option Nest → Type 0
 AreRowsOf lists None = lists ≡ nest_lists [] [] [] []
 AreRowsOf lists (Some nest) = AreNestRows lists nest
 
--- a nest that there may be has crossed as four lists into places of a caller, with the numbers of its regions and of
--- its faces
+-- a nest, if there is one, has crossed as four lists into places of a caller, with its numbers of regions and faces
 pub record HandsNest (nest : Option Nest) (before after : NestLists) (region_count face_count : ℕ) : Type 0 where
   pub lists : NestLists
   pub rows : AreRowsOf lists nest

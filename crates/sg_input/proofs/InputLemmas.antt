@@ -22,7 +22,8 @@ by_records bytes (Refused refusal) kind shown = OfRecords kind shown
 by_records bytes NoMemory kind shown = tt
 
 -- what refuses the object refuses a text that is one
-pub by_json : (bytes : List ℕ) (fault : Fault) → is_object_text bytes ≡ true → OrNoMemory (RefusesJson bytes) fault → OrNoMemory (RefusesText bytes) fault
+pub by_json : (bytes : List ℕ) (fault : Fault) → is_object_text bytes ≡ true → OrNoMemory (RefusesJson bytes) fault
+    → OrNoMemory (RefusesText bytes) fault
 by_json bytes (Refused refusal) kind shown = OfJson kind shown
 by_json bytes NoMemory kind shown = tt
 

@@ -124,7 +124,8 @@ abbrev pub wrong_seam : Option Data → Option ℕ
 wrong_seam seam = option_and_then (λ d. wrong_list entry.Index (list_in d)) seam
 
 -- what the members say: a list as its entries, unless one is wrong, the seam, and the number of spins
-abbrev pub read_list : {X : Type 0} → (Option (List Data) → Option ℕ) → (Data → X) → List ℕ → Data → Read (List X)
+abbrev pub read_list : {X : Type 0} → (Option (List Data) → Option ℕ) → (Data → X) → List ℕ → Data
+    → Read (List X)
 read_list wrong entry_of name d = unless (wrong (member_list name d)) (map entry_of (items_at name d))
 
 abbrev pub read_seam : Option Data → Read (Option (List ℕ))

@@ -66,7 +66,8 @@ module _ {X : Type 0} (p : Kept → Bool) (f : Kept → X) where
       by (Some q) = refl
 
   -- what all records that pass give, with one more record
-  said-with : (body : List Kept) (r : Kept) (b : Bool) → p r ≡ b → map f (filter p (body ++ r ∷ [])) ≡ map f (filter p body) ++ map f (cond b (r ∷ []) [])
+  said-with : (body : List Kept) (r : Kept) (b : Bool) → p r ≡ b
+      → map f (filter p (body ++ r ∷ [])) ≡ map f (filter p body) ++ map f (cond b (r ∷ []) [])
   said-with body r b is =
       ap (map f) (filter-append p body (r ∷ [])) ∙ map-append f (filter p body) (filter p (r ∷ []))
       ∙ ap (λ (c : Bool). map f (filter p body) ++ map f (cond c (r ∷ []) [])) is
@@ -80,7 +81,8 @@ module _ {X : Type 0} (p : Kept → Bool) (f : Kept → X) where
   said-other body r other = said-with body r false other ∙ append-nil (map f (filter p body))
 
 -- a seam behind a body without one
-pub seam_in-first : (body : List Kept) (r : Kept) → is_some (seam_in body) ≡ false → says_seam r ≡ true → seam_in (body ++ r ∷ []) ≡ Some (sizes_from r 1)
+pub seam_in-first : (body : List Kept) (r : Kept) → is_some (seam_in body) ≡ false → says_seam r ≡ true
+    → seam_in (body ++ r ∷ []) ≡ Some (sizes_from r 1)
 unfolding seam_in
 seam_in-first body r none is = given-first says_seam (λ q. sizes_from q 1) body r none is
 

@@ -45,12 +45,14 @@ pub rot_fault-number : (n : ℕ) (seen : Bool) (r : Kept) (k : ℕ) → (length 
 rot_fault-number n seen r k count bad = rw (ne_eqb (length r.fields) 1 count, bad) refl
 
 -- a second `rot` of a spin is refused
-pub rot_fault-seen : (n : ℕ) (seen : Bool) (r : Kept) → (length r.fields ≡ 1 → ⊥) → bad_field r 1 (led_range (spin_below n)) ≡ None → seen ≡ true
+pub rot_fault-seen : (n : ℕ) (seen : Bool) (r : Kept) → (length r.fields ≡ 1 → ⊥)
+    → bad_field r 1 (led_range (spin_below n)) ≡ None → seen ≡ true
     → rot_fault n seen r ≡ Some (BadShape r.at)
 rot_fault-seen n seen r count good twice = rw (ne_eqb (length r.fields) 1 count, good, twice) refl
 
 -- a first `rot` with good numbers passes
-pub rot_fault-none : (n : ℕ) (seen : Bool) (r : Kept) → (length r.fields ≡ 1 → ⊥) → bad_field r 1 (led_range (spin_below n)) ≡ None → seen ≡ false
+pub rot_fault-none : (n : ℕ) (seen : Bool) (r : Kept) → (length r.fields ≡ 1 → ⊥)
+    → bad_field r 1 (led_range (spin_below n)) ≡ None → seen ≡ false
     → rot_fault n seen r ≡ None
 rot_fault-none n seen r count good first = rw (ne_eqb (length r.fields) 1 count, good, first) refl
 
@@ -212,7 +214,8 @@ pub bond-refused : (old : GeneralBody) (r : Kept) (m : ℕ) (x : Refusal) → m 
 bond-refused old r m x many is bad = record { refused = λ start body h. bond-tested old r m many is start body h ∙ bad }
 
 -- what is kept behind a record that gives no bond
-behind-other : (old new : GeneralBody) (start : GeneralBody) (body : List Kept) (r : Kept) → says_bond r ≡ false → new.n ≡ old.n → new.bonds ≡ old.bonds
+behind-other : (old new : GeneralBody) (start : GeneralBody) (body : List Kept) (r : Kept) → says_bond r ≡ false → new.n ≡ old.n
+    → new.bonds ≡ old.bonds
     → HoldsGeneral start body old → new.rotation ≡ map (darts_in (body ++ r ∷ [])) (range_with_len 0 old.n)
     → new.seen.items ≡ map (has_rot (body ++ r ∷ [])) (range_with_len 0 old.n) → new.seam ≡ seam_in (body ++ r ∷ [])
     → HoldsGeneral start (body ++ r ∷ []) new

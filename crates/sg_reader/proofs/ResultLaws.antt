@@ -79,7 +79,8 @@ loop-long r word other =
     ]
 
 -- a bad number refuses the `loop`
-pub loop_fault-number : (r : Kept) (k : ℕ) → begins (codes "loop") r ≡ true → (length r.fields ≡ 1 → ⊥) → bad_field r 1 (led_range any_number) ≡ Some k
+pub loop_fault-number : (r : Kept) (k : ℕ) → begins (codes "loop") r ≡ true → (length r.fields ≡ 1 → ⊥)
+    → bad_field r 1 (led_range any_number) ≡ Some k
     → loop_fault r ≡ Some (BadNumber r.at k)
 loop_fault-number r k word count bad = rw (word, ne_eqb (length r.fields) 1 count, bad) refl
 

@@ -68,10 +68,8 @@ pub data RefusesAlone {X : Type 0} (reads : X → List Kept → Type 0) (refuses
   AtTrailing : (x : X) (left rest : List Kept) → reads x left → IsTrailing left refusal rest
       → RefusesAlone reads refuses refusal
 
--- How records are gathered, one after another: `tests` has for each value the table of tests of the records from it on,
--- and `holds start body now` says that from `start` on the records `body` gave `now`.
-
--- it is what some records gave
+-- How records are gathered: `tests` has for each value the tests of the records from it on, and `holds start body now`
+-- says that from `start` on the records `body` gave `now`. So this is what some records gave
 pub record HoldsSome {S : Type 0} (holds : S → List Kept → S → Type 0) (now : S) : Type 0 where
   pub start : S
   pub body : List Kept
