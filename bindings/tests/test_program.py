@@ -1,5 +1,6 @@
 """The command line: files and streams, help, refusals in words, lines of JSON."""
 
+import functools
 import json
 import os
 import signal
@@ -154,7 +155,9 @@ class Terminals(unittest.TestCase):
 
     def interrupted(self, words):
         """The seconds from an interrupt behind the first line to the end of the process."""
-        with subprocess.Popen(words, stdout=subprocess.PIPE) as child:
+        # A shell has what it starts in the background ignore interrupts, which all below would inherit.
+        heeds = functools.partial(signal.signal, signal.SIGINT, signal.SIG_DFL)
+        with subprocess.Popen(words, stdout=subprocess.PIPE, preexec_fn=heeds) as child:
             self.assertTrue(child.stdout.readline())
             begun = time.monotonic()
             child.send_signal(signal.SIGINT)
