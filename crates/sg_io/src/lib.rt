@@ -31,6 +31,3 @@ pub type NoMemory = AllocError;
 
 /// The numbers of calls, counted from 0: those at which a device in memory fails.
 pub type CallList = Numbers<u64>;
-
-#[cfg(test)]
-mod tests;

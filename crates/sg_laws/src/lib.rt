@@ -29,6 +29,3 @@ pub use table::Table;
 
 /// The allocator had no memory left.
 pub type NoMemory = AllocError;
-
-#[cfg(test)]
-mod tests;

@@ -1,4 +1,4 @@
-//! Tests of the matching engine, and of the nested blossoms and the slacks below it, by their public calls.
+//! Tests of the matching engine, and of the nested blossoms, the slacks and the metrics below it, by their public calls.
 //!
 //! The costs of all pairings of eight places are compared with what the engine finds, and families are
 //! read after each change. Values come from outside: worked by hand, or by trying all pairings.
@@ -8,6 +8,8 @@
 mod blossoms;
 #[cfg(test)]
 mod matching;
+#[cfg(test)]
+mod metrics;
 #[cfg(test)]
 mod near;
 #[cfg(test)]

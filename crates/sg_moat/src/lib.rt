@@ -29,6 +29,3 @@ use std::alloc::AllocError;
 
 /// The allocator had no memory left.
 pub type NoMemory = AllocError;
-
-#[cfg(test)]
-mod tests;

@@ -19,6 +19,3 @@ mod metric;
 
 pub use law::matching_is_least;
 pub use metric::is_metric;
-
-#[cfg(test)]
-mod tests;

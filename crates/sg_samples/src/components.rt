@@ -1,6 +1,6 @@
 // The parts of small instances: one for each component.
-use super::texts::instance;
-use sg_planar::{Part, Planar, parts};
+use super::texts::planar;
+use sg_planar::{Part, parts};
 use std::alloc::{AllocError, Global};
 use std::test::Fail;
 
@@ -42,28 +42,9 @@ fn each_component_is_a_part(rt: HostRuntime) -> Result<(), Fail> {
         ("general,2\nend\n", &[1, 0, 0, 1, 1, 0]),
     ];
     for (text, wanted) in rows {
-        let inst = instance(rt.alloc(), text)?;
-        let Ok(planar) = Planar::new(rt.alloc(), inst) else {
-            return Err(Fail::new("the instance is planar"));
-        };
-        let list = parts(rt.alloc(), &planar)?;
+        let list = parts(rt.alloc(), &planar(rt.alloc(), text)?)?;
         let numbers = written(rt.alloc(), list.as_slice())?;
         assert_eq!(rt; numbers.as_slice(), wanted, "{text}");
     }
-    Ok(())
-}
-
-#[test]
-fn every_sign_is_changed(rt: HostRuntime) -> Result<(), Fail> {
-    let inst = instance(rt.alloc(), "square,2,2\n3,4\n2,-5\nend\n")?;
-    let Ok(planar) = Planar::new(rt.alloc(), inst) else {
-        return Err(Fail::new("the instance is planar"));
-    };
-    let opposite = planar.negated()?;
-    let mut couplings = Vec::new(rt.alloc());
-    for bond in opposite.instance().bonds().as_slice() {
-        couplings.push(bond.j)?;
-    }
-    assert_eq!(rt; couplings.as_slice(), [-3, -4, -2, 5].as_slice());
     Ok(())
 }

@@ -1,6 +1,6 @@
-//! Tests of the parts below the solver, over instances that are read from texts: the tables of the
-//! lattices, the faces, the dual web, the components, other couplings, the walk that breaks given bonds,
-//! and the plain reference solver.
+//! Tests of the parts below the solver, by their public calls: lists, laws and devices; and over instances
+//! that are read from texts the tables of the lattices, the faces, the dual web, the components, other
+//! couplings, the walk that breaks given bonds, and the plain reference solver.
 //!
 //! Their values come from outside the program: drawn and counted by hand.
 #![tactic(auto)]
@@ -8,9 +8,15 @@
 #[cfg(test)]
 mod components;
 #[cfg(test)]
+mod devices;
+#[cfg(test)]
 mod drawings;
 #[cfg(test)]
 mod duals;
+#[cfg(test)]
+mod laws;
+#[cfg(test)]
+mod lists;
 #[cfg(test)]
 mod spins;
 #[cfg(test)]

@@ -1,5 +1,5 @@
-// Ground states by trying all assignments, and other couplings on a copy.
-use super::texts::instance;
+// Ground states by trying all assignments, and other couplings.
+use super::texts::{instance, planar};
 use sg_model::{Instance, least_plain};
 use std::alloc::{AllocError, Global};
 use std::test::Fail;
@@ -41,15 +41,32 @@ fn the_weakest_bond_breaks(rt: HostRuntime) -> Result<(), Fail> {
     Ok(())
 }
 
+// A ring of three spins.
+const RING: &str = "cylinder,1,3\n5,7,2\nend\n";
+
 #[test]
-fn couplings_change_on_a_copy(rt: HostRuntime) -> Result<(), Fail> {
-    let ring = instance(rt.alloc(), "cylinder,1,3\n5,7,2\nend\n")?;
-    let flipped = couplings(rt.alloc(), &ring.flip_seam()?)?;
-    assert_eq!(rt; flipped.as_slice(), [5, 7, -2].as_slice());
+fn the_seam_is_flipped_on_a_copy(rt: HostRuntime) -> Result<(), Fail> {
+    let flipped = instance(rt.alloc(), RING)?.flip_seam()?;
+    let numbers = couplings(rt.alloc(), &flipped)?;
+    assert_eq!(rt; numbers.as_slice(), [5, 7, -2].as_slice());
+    Ok(())
+}
+
+#[test]
+fn a_coupling_is_changed_on_a_copy(rt: HostRuntime) -> Result<(), Fail> {
+    let ring = instance(rt.alloc(), RING)?;
     if ring.bonds().is_empty() {
         return Err(Fail::new("a ring has bonds"));
     }
-    let changed = couplings(rt.alloc(), &ring.with_coupling(0, 9)?)?;
-    assert_eq!(rt; changed.as_slice(), [9, 7, 2].as_slice());
+    let numbers = couplings(rt.alloc(), &ring.with_coupling(0, 9)?)?;
+    assert_eq!(rt; numbers.as_slice(), [9, 7, 2].as_slice());
+    Ok(())
+}
+
+#[test]
+fn every_sign_is_changed(rt: HostRuntime) -> Result<(), Fail> {
+    let opposite = planar(rt.alloc(), "square,2,2\n3,4\n2,-5\nend\n")?.negated()?;
+    let numbers = couplings(rt.alloc(), opposite.instance())?;
+    assert_eq!(rt; numbers.as_slice(), [-3, -4, -2, 5].as_slice());
     Ok(())
 }

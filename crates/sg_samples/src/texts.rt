@@ -1,7 +1,9 @@
 // Instances from texts.
 use sg_model::{Fault, Instance};
+use sg_planar::Planar;
 use sg_reader::{Rows, read_instance};
 use std::alloc::Global;
+use std::test::Fail;
 
 // The instance that a short text gives.
 pub fn instance(alloc: Global, text: &str) -> Result<Instance, Fault> {
@@ -10,4 +12,12 @@ pub fn instance(alloc: Global, text: &str) -> Result<Instance, Fault> {
         return Err(Fault::NoMemory);
     }
     read_instance(alloc, &mut Rows::new(alloc, bytes))
+}
+
+// The same with its faces.
+pub fn planar(alloc: Global, text: &str) -> Result<Planar, Fail> {
+    match Planar::new(alloc, instance(alloc, text)?) {
+        Ok(found) => Ok(found),
+        Err(_) => Err(Fail::new("the instance is planar")),
+    }
 }

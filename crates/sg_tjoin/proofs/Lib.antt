@@ -4,4 +4,3 @@ pub mod CostRows
 pub mod PairEnds
 pub mod Turning
 pub mod CutLeast
-pub mod Slacks

@@ -116,6 +116,3 @@ pub fn least_weight(alloc: Global, web: &Web, terminals: &Terminals) -> Result<L
         nest: None,
     })
 }
-
-#[cfg(test)]
-mod tests;

@@ -4,18 +4,16 @@ use std::test::Fail;
 
 #[test]
 fn nodes_without_edges_are_not_connected(rt: HostRuntime) -> Result<(), Fail> {
-    let apart = web(&rt, rt.alloc(), 2, &[])?;
-    assert!(rt; !connected(rt.alloc(), &apart)?);
-    assert_eq!(rt; first_unreached(rt.alloc(), &apart)?, Some(1));
-    let joined = web(
-        &rt,
-        rt.alloc(),
-        2,
-        &[(0, 1, 3), (1, 0, 4), (1, 0, 2), (0, 1, 5)],
-    )?;
-    assert!(rt; connected(rt.alloc(), &joined)?);
-    assert_eq!(rt; first_unreached(rt.alloc(), &joined)?, None);
-    assert_eq!(rt; joined.edges().len(), 4);
+    let rows: [(&[(u32, u32, i64)], Option<u32>); 2] = [
+        (&[], Some(1)),
+        (&[(0, 1, 3), (1, 0, 4), (1, 0, 2), (0, 1, 5)], None),
+    ];
+    for (list, unreached) in rows {
+        let small = web(&rt, rt.alloc(), 2, list)?;
+        assert_eq!(rt; small.edges().len(), list.len());
+        assert_eq!(rt; connected(rt.alloc(), &small)?, unreached.is_none());
+        assert_eq!(rt; first_unreached(rt.alloc(), &small)?, unreached);
+    }
     Ok(())
 }
 

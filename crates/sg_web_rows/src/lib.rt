@@ -1,7 +1,7 @@
 //! Tests of webs and of what is found in them, by their public calls: tables of distances, shortest walks,
-//! the judges of joins by cuts and by nests, and closed walks over every edge.
+//! least joins, the cuts of moats, the judges of joins by cuts and by nests, and closed walks over every edge.
 //!
-//! Their values come from outside the program: worked by hand, or by trying all walks.
+//! Their values come from outside the program: worked by hand, or by trying all walks or all joins.
 #![tactic(auto)]
 
 #[cfg(test)]
@@ -9,7 +9,11 @@ mod distances;
 #[cfg(test)]
 mod graphs;
 #[cfg(test)]
+mod joins;
+#[cfg(test)]
 mod judged;
+#[cfg(test)]
+mod moats;
 #[cfg(test)]
 mod nests;
 #[cfg(test)]

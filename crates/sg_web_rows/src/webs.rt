@@ -1,8 +1,8 @@
-// Webs of a few edges.
+// Webs of a few edges, and their cuts.
 ghost use Rattle.std.specs.Prelude.{◌≡◌, ◌≤◌, IfOk};
 ghost use Rattle.sg_graph.specs.Web.{IsEdge, total_weight, weight_at};
 
-use sg_graph::{Edge, Edges, NoMemory, Web};
+use sg_graph::{Cuts, Edge, Edges, NoMemory, Web};
 use std::alloc::Global;
 use std::process::Abort;
 
@@ -34,4 +34,13 @@ pub fn web(
         edges.push(edge(rt, nodes, *a, *b, *w))?;
     }
     Ok(Web::new(nodes, edges))
+}
+
+/// The sum of the weights of the cuts.
+pub fn cut_sum(cuts: &Cuts) -> i64 {
+    let mut sum = 0i64;
+    for cut in cuts.as_slice() {
+        sum = sum.saturating_add(cut.y);
+    }
+    sum
 }

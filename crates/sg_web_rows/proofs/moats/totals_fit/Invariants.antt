@@ -1,6 +1,6 @@
 -- The rows before the next fit.
-use Rattle.sg_tjoin.proofs.Slacks.{DoTotalsFit}
-use Rattle.sg_tjoin.proofs.tests.totals_fit.Given as goal
+use Rattle.sg_web_rows.proofs.Slacks.{DoTotalsFit}
+use Rattle.sg_web_rows.proofs.moats.totals_fit.Given as goal
 
 abbrev pub invariant-loop-i : goal.invariant-loop-i
 invariant-loop-i l = DoTotalsFit l.family l.terminals l.tables l.i

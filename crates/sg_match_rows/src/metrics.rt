@@ -1,6 +1,6 @@
 ghost use Rattle.std.specs.Prelude.{◌≡◌, IfOk};
 
-use super::is_metric;
+use sg_pairing::is_metric;
 use sg_slack::{Costs, NoMemory};
 use std::alloc::Global;
 use std::test::Fail;

@@ -1,4 +1,4 @@
-use super::{Alternate, Disorder, One, PlusMinus, Table, Uniform, draws, named, start};
+use sg_laws::{Alternate, Disorder, One, PlusMinus, Table, Uniform, draws, named, start};
 use std::alloc::Global;
 use std::test::Fail;
 

@@ -1,4 +1,4 @@
-use super::{Lists, Numbers, Records};
+use sg_list::{Lists, Numbers, Records};
 use std::test::Fail;
 
 #[test]

@@ -1,6 +1,6 @@
 ghost use Rattle.std.specs.Prelude.{◌≤◌, IfOk};
 
-use super::{
+use sg_io::{
     CallList, Gave, MemSink, MemSource, ReadEnd, ReadSource, Sink, Source, Took, WriteFault,
     WriteSink, put, read_all,
 };

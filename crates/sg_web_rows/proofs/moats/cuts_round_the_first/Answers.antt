@@ -5,7 +5,7 @@ use Rattle.sg_graph.specs.Walk.{IsConnectedWeb}
 use Rattle.sg_graph.specs.Web.{total_weight}
 use Rattle.sg_moat.specs.Input.{AreTerminalTables}
 use Rattle.sg_tjoin.proofs.MetricLaws.{AreMetric-distances}
-use Rattle.sg_tjoin.proofs.tests.cuts_of_four.Goals as goal
+use Rattle.sg_web_rows.proofs.moats.cuts_round_the_first.Goals as goal
 
 pub totals_fit-requires-clause-metric : goal.totals_fit-requires-clause-metric
 totals_fit-requires-clause-metric g c =
