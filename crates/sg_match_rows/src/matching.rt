@@ -18,8 +18,8 @@ const PAIRS: [(u32, u32); 6] = [(0, 1), (0, 2), (0, 3), (1, 2), (1, 3), (2, 3)];
 // The pairs that eight leaves can form: 7 for the first leaf, 5 for the next, 3 and 1.
 const PAIRINGS: usize = 105;
 
-// The costs of four leaves.
-fn table(alloc: Global, entries: [i64; 6]) -> Result<Costs, NoMemory>
+/// The costs of four leaves.
+pub fn table(alloc: Global, entries: [i64; 6]) -> Result<Costs, NoMemory>
     ensures { IfOk result (λ costs. costs.size ≡ 4) }
 {
     let mut costs = Costs::new(alloc, 4)?;
