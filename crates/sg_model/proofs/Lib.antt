@@ -16,3 +16,4 @@ pub mod EnergyBounds
 pub mod CoupledEnergy
 pub mod LeastSpins
 pub mod SamePaths
+pub mod OneFault
