@@ -2,3 +2,7 @@ mod TakesLemmas
 mod AnswerLemmas
 mod InputLemmas
 mod LawLemmas
+mod Settled
+mod OneText
+mod Replies
+mod OneDraw

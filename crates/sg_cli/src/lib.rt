@@ -15,12 +15,14 @@
 //! A command that asks something of a planar instance is a study (`study.rt`).
 #![tactic(auto)]
 
+mod answering;
 mod bonds;
 mod check;
 mod clusters;
 mod energy;
 mod graph;
 mod ground;
+mod law;
 mod laws;
 mod maxcut;
 mod postman;
@@ -31,7 +33,9 @@ mod study;
 mod tjoin;
 mod wall;
 
+pub use answering::{answer, answer_with_all_laws};
+pub use law::answers_are_settled;
 pub use laws::run_with_all_laws;
 pub use serve::run;
-pub use sg_reply::Status;
+pub use sg_reply::{Reply, Status};
 pub use sg_words::{Command, Drawing, GraphTask, Reading, Size, Study};

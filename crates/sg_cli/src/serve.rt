@@ -1,16 +1,13 @@
-ghost use Rattle.std.specs.Prelude.{◌≡◌, ◌≢◌, ◌⊎◌, ◌↔◌, ◌+◌, ◌<◌, true, false, length, IsSome, IfOk, IfErr, OnOk, OnErr, map, string_bytes};
-ghost use Rattle.sg_limits.specs.Limits.{input_limit, text_limit};
+ghost use Rattle.std.specs.Prelude.{◌≡◌, ◌≢◌, ◌⊎◌, ◌↔◌, ◌+◌, true, false, IsSome, IfOk, IfErr, OnOk, OnErr, map, string_bytes};
+ghost use Rattle.sg_limits.specs.Limits.{input_limit};
 ghost use Rattle.sg_io.specs.Devices.{FaultShown, Grows};
 ghost use Rattle.sg_io.specs.Reading.{LosesAtMost};
 ghost use Rattle.sg_io.specs.Writing.{GrowsByPrefix};
 ghost use Rattle.sg_words.specs.Command.{command_of};
-ghost use Rattle.sg_cli.specs.Served.{AnswersText};
 ghost use Rattle.sg_reply.specs.Exit.{IsAnswered};
 ghost use Rattle.sg_cli.specs.Promises.{AnswersInPart, AnswersSource, AnswersWhole, LeavesSource, reads, sink_faults, source_faults, stop_faults, Takes};
 
-use super::check::check_reply;
-use super::graph::graph_reply;
-use super::study::study_reply;
+use super::answering::input_reply;
 use sg_draws::draw_reply;
 use sg_io::{ReadEnd, Sink, Source, WriteFault, put, read_all};
 use sg_laws::Disorder;
@@ -116,7 +113,7 @@ fn serve<S: Source>(alloc: Global, reading: Reading, source: &mut S) -> Result<R
     ensures last { result ≡ Err Stop.ReadFault → S.failed source.new ≡ true }
 {
     match read_all(alloc, source, INPUT_LIMIT) {
-        Ok(bytes) => Ok(text_reply(alloc, reading, bytes.as_slice())?),
+        Ok(bytes) => Ok(input_reply(alloc, reading, bytes.as_slice())?),
         Err(ReadEnd::TooLong) => Ok(refuse(
             alloc,
             &Refusal::TooLong {
@@ -125,19 +122,6 @@ fn serve<S: Source>(alloc: Global, reading: Reading, source: &mut S) -> Result<R
         )?),
         Err(ReadEnd::ReadFault) => Err(Stop::ReadFault),
         Err(ReadEnd::NoMemory) => Err(Stop::NoMemory),
-    }
-}
-
-/// What a command that reads answers to a text within the limit of bytes.
-fn text_reply(alloc: Global, reading: Reading, bytes: &[u8]) -> Result<Reply, NoMemory>
-    requires { length bytes.now < text_limit }
-    ensures served { IfOk result (λ reply. AnswersText reading bytes.now reply.text.items reply.status) }
-    ensures answered { IfOk result (λ reply. IsAnswered reply.status) }
-{
-    match reading {
-        Reading::Study(study) => study_reply(alloc, study, bytes),
-        Reading::Check => check_reply(alloc, bytes),
-        Reading::Graph(task) => graph_reply(alloc, task, bytes),
     }
 }
 

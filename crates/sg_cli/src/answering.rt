@@ -1,0 +1,152 @@
+// What the words answer to an input: the headline of the project, from bytes to bytes.
+ghost use Rattle.std.specs.Prelude.{◌≡◌, ◌≤◌, ◌<◌, ℕ, length, Some, IfOk, map, string_bytes};
+ghost use Rattle.sg_limits.specs.Limits.{input_limit, text_limit};
+ghost use Rattle.sg_model.specs.Ising.{Ising};
+ghost use Rattle.sg_input.specs.Input.{GivesFit, RefusesText};
+ghost use Rattle.sg_words.specs.Command.{IsAllowed, command_of};
+ghost use Rattle.sg_words.specs.declared.command.Study.{Study};
+ghost use Rattle.sg_reply.specs.Exit.{IsAnswered};
+ghost use Rattle.sg_reply.specs.Refused.{IsRefused};
+ghost use Rattle.sg_cli.specs.Laws.{WithAllLaws};
+ghost use Rattle.sg_cli.specs.Served.{AnswersFit, AnswersInput, AnswersText, Served, ServedBy, usage_text};
+ghost use Rattle.sg_cli.specs.Settled.{CanBeStudied, SettlesInput};
+
+use super::check::check_reply;
+use super::graph::graph_reply;
+use super::study::study_reply;
+use sg_draws::draw_reply;
+use sg_laws::{Alternate, Disorder, One, PlusMinus, Uniform};
+use sg_limits::INPUT_LIMIT;
+use sg_model::Refusal;
+use sg_reply::{NoMemory, Reply, Status, refuse};
+use sg_words::{Command, Reading, law_word, parse_command};
+use std::alloc::Global;
+
+/// What the words answer to an input, where draws are made of the first of the laws that has the name in
+/// the words. Everything that the program promises of its answers is promised here, from bytes to bytes;
+/// `run` takes the bytes from a source and sends the text to a sink.
+///
+/// # Errors
+/// Want of memory, and nothing else.
+pub fn answer(
+    alloc: Global,
+    words: &[String],
+    bytes: &[u8],
+    laws: Vec<Box<dyn Disorder>>,
+) -> Result<Reply, NoMemory>
+    // The reply is what the words answer to the bytes among these laws.
+    ensures served { let known = map (λ law. record { title = title law; stream = seeded law }) laws.items in
+        IfOk result (λ reply. Served (map string_bytes words.now) known bytes.now reply.text.items reply.status) }
+    ensures answered { IfOk result (λ reply. IsAnswered reply.status) }
+
+    // To an input that gives a fit instance a study answers what this instance is answered, and is done.
+    ensures fit { IfOk result (λ reply. (study : Study) (inst : Ising) →
+        command_of (map string_bytes words.now) ≡ Some (Command.Read (Reading.Study study)) →
+        length bytes.now ≤ input_limit → GivesFit bytes.now inst →
+        AnswersFit study inst reply.text.items reply.status) }
+    ensures done { IfOk result (λ reply. (study : Study) (inst : Ising) →
+        command_of (map string_bytes words.now) ≡ Some (Command.Read (Reading.Study study)) →
+        length bytes.now ≤ input_limit → GivesFit bytes.now inst → CanBeStudied study inst →
+        reply.status ≡ Status.Done) }
+
+    // To an input that is refused it answers the line of the refusal.
+    ensures refused { IfOk result (λ reply. (study : Study) (refusal : Refusal) →
+        command_of (map string_bytes words.now) ≡ Some (Command.Read (Reading.Study study)) →
+        length bytes.now ≤ input_limit → RefusesText bytes.now refusal →
+        IsRefused refusal reply.text.items reply.status) }
+
+    // And so do the checker and the tasks on graphs.
+    ensures settled { IfOk result (λ reply. (reading : Reading) →
+        command_of (map string_bytes words.now) ≡ Some (Command.Read reading) →
+        SettlesInput reading bytes.now reply.text.items reply.status) }
+{
+    match parse_command(words) {
+        Some(command) => command_reply(alloc, command, law_word(words), bytes, laws),
+        None => usage_reply(alloc),
+    }
+}
+
+/// What the words answer to an input, as [`answer`] does, with the four laws to draw from.
+///
+/// # Errors
+/// Want of memory, and nothing else.
+pub fn answer_with_all_laws(
+    alloc: Global,
+    words: &[String],
+    bytes: &[u8],
+) -> Result<Reply, NoMemory>
+    ensures served { IfOk result (λ reply. WithAllLaws (λ laws.
+        Served (map string_bytes words.now) laws bytes.now reply.text.items reply.status)) }
+    ensures answered { IfOk result (λ reply. IsAnswered reply.status) }
+    ensures settled { IfOk result (λ reply. (reading : Reading) →
+        command_of (map string_bytes words.now) ≡ Some (Command.Read reading) →
+        SettlesInput reading bytes.now reply.text.items reply.status) }
+{
+    let mut laws: Vec<Box<dyn Disorder>> = Vec::new(alloc);
+    laws.push(Box::new(alloc, One::new())?)?;
+    laws.push(Box::new(alloc, Alternate::new())?)?;
+    laws.push(Box::new(alloc, PlusMinus::new())?)?;
+    laws.push(Box::new(alloc, Uniform::new())?)?;
+    answer(alloc, words, bytes, laws)
+}
+
+// The line where the words have no shape.
+fn usage_reply(alloc: Global) -> Result<Reply, NoMemory>
+    ensures served { IfOk result (λ reply. (reply.status ≡ Status.Usage) × (reply.text.items ≡ usage_text)) }
+    ensures answered { IfOk result (λ reply. IsAnswered reply.status) }
+{
+    let mut text = Vec::new(alloc);
+    text.extend_from_slice(b"usage\n")?;
+    Ok(Reply {
+        status: Status::Usage,
+        text,
+    })
+}
+
+/// What a command answers to an input, with the first of the laws that has the name.
+pub fn command_reply(
+    alloc: Global,
+    command: Command,
+    name: &str,
+    bytes: &[u8],
+    laws: Vec<Box<dyn Disorder>>,
+) -> Result<Reply, NoMemory>
+    requires { IsAllowed command }
+    ensures served { let known = map (λ law. record { title = title law; stream = seeded law }) laws.items in
+        IfOk result (λ reply. ServedBy (Some command) name.now known bytes.now reply.text.items reply.status) }
+    ensures answered { IfOk result (λ reply. IsAnswered reply.status) }
+{
+    match command {
+        Command::Read(reading) => input_reply(alloc, reading, bytes),
+        Command::Draw(drawing) => draw_reply(alloc, drawing, name, laws),
+    }
+}
+
+/// What a command that reads answers to an input, which may be too long.
+pub fn input_reply(alloc: Global, reading: Reading, bytes: &[u8]) -> Result<Reply, NoMemory>
+    ensures served { IfOk result (λ reply. AnswersInput reading bytes.now reply.text.items reply.status) }
+    ensures answered { IfOk result (λ reply. IsAnswered reply.status) }
+{
+    if bytes.len() > INPUT_LIMIT {
+        return refuse(
+            alloc,
+            &Refusal::TooLong {
+                limit: INPUT_LIMIT as u64,
+            },
+        );
+    }
+    text_reply(alloc, reading, bytes)
+}
+
+// What a command that reads answers to a text within the limit of bytes.
+fn text_reply(alloc: Global, reading: Reading, bytes: &[u8]) -> Result<Reply, NoMemory>
+    requires { length bytes.now < text_limit }
+    ensures served { IfOk result (λ reply. AnswersText reading bytes.now reply.text.items reply.status) }
+    ensures answered { IfOk result (λ reply. IsAnswered reply.status) }
+{
+    match reading {
+        Reading::Study(study) => study_reply(alloc, study, bytes),
+        Reading::Check => check_reply(alloc, bytes),
+        Reading::Graph(task) => graph_reply(alloc, task, bytes),
+    }
+}
