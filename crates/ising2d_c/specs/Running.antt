@@ -1,7 +1,7 @@
 -- What a run answers to a caller, and its words as they cross: each ended by a byte 0.
 use Rattle.std.specs.Prelude.{◌≡◌, ◌≢◌, ℕ, List, [], ◌∷◌, ◌++◌, length, map, flat_map, All}
 use Rattle.std.specs.Str.Lossy.{utf8_lossy}
-use Rattle.sg_reply.specs.Exit.{exit_code, IsAnswered}
+use Rattle.sg_reply.specs.Exit.{exit_code, IsReply}
 use Rattle.sg_reply.specs.declared.status.Status.{Status}
 use Rattle.sg_cli.specs.Laws.{WithAllLaws}
 use Rattle.sg_cli.specs.Served.{Served}
@@ -32,7 +32,7 @@ pub record IsUnended (bytes : List ℕ) : Type 0 where
 
 -- the text and the status that belong to the words and the input, with the four laws
 pub record Answers (words : List (List ℕ)) (input text : List ℕ) (status : Status) : Type 0 where
-  pub answered : IsAnswered status
+  pub replied : IsReply status
   pub served : WithAllLaws (λ laws. Served words laws input text status)
 
 -- nothing is written

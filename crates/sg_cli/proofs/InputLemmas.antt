@@ -1,7 +1,7 @@
 -- From the bytes that were read to what is answered to the source.
 use Rattle.std.proofs.Common.{ℕ, ◌<◌, ◌≤◌, List, length, Option, None, Some, arith}
 use Rattle.sg_limits.specs.Limits.{input_limit}
-use Rattle.sg_io.specs.Devices.{Told}
+use Rattle.sg_io.specs.Devices.{AgreesWith}
 use Rattle.sg_io.specs.Reading.{Empties, IsTooLong}
 use Rattle.sg_io.specs.declared.reading.ReadEnd.TheVariants as ends
 use Rattle.sg_model.specs.declared.refusal.Refusal.TheVariants.{TooLong}
@@ -12,7 +12,7 @@ use Rattle.sg_reply.specs.Refused.{IsRefused}
 use Rattle.sg_reply.specs.declared.status.Status.{Status}
 
 -- the bytes that were read are those that the source told
-pub empties-told : (items : List ℕ) (old new : Option (List ℕ)) → Empties items old new → Told old items
+pub empties-told : (items : List ℕ) (old new : Option (List ℕ)) → Empties items old new → AgreesWith old items
 empties-told items None new emptied = tt
 empties-told items (Some left) new emptied = emptied.0
 

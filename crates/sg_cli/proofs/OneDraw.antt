@@ -9,7 +9,7 @@ use Rattle.sg_lattice.specs.declared.kind.Kind.TheVariants.{Cylinder}
 use Rattle.sg_lattice.specs.Tables.{lattice}
 use Rattle.sg_planar.specs.Fit.{IsFit, IsUnfit}
 use Rattle.sg_planar.proofs.OneFitness.{fit_not_unfit, unfit-one}
-use Rattle.sg_ensemble.specs.Samples.{AreWalls, HasWall, draw_count, sample_at, total, total_of_squares}
+use Rattle.sg_ensemble.specs.Samples.{AreWalls, IsFitWithWall, draw_count, sample_at, total, total_of_squares}
 use Rattle.sg_words.specs.declared.command.Size.{Size}
 use Rattle.sg_report.specs.Ensembles.{ensemble_text}
 use Rattle.sg_report.specs.Text.{refusal_text}
@@ -43,7 +43,7 @@ sample-one inst s v t u (SampleSolved fit prints) (SampleUnfit r bad line) = abs
 sample-one inst s v t u (SampleSolved fit prints) (SampleSolved fit2 prints2) = sample-text inst s v t u prints prints2
 
 -- the walls of an ensemble
-has-one : (inst : Ising) (c d : ℤ) → HasWall inst c → HasWall inst d → c ≡ d
+has-one : (inst : Ising) (c d : ℤ) → IsFitWithWall inst c → IsFitWithWall inst d → c ≡ d
 has-one inst c d p q = (wall-one inst p.periodic p.antiperiodic c q.periodic q.antiperiodic d p.wall q.wall).2
 
 walls-one : (rows cols count : ℕ) (draws xs ys : List ℤ) → AreWalls rows cols count draws xs → AreWalls rows cols count draws ys → xs ≡ ys

@@ -23,7 +23,7 @@ use Rattle.sg_words.specs.declared.command.Command.{Command}
 use Rattle.sg_words.specs.declared.command.Command.TheVariants.{Read}
 use Rattle.sg_words.specs.Command.{command_of, law_word}
 use Rattle.sg_laws.specs.Named.{Law}
-use Rattle.sg_io.specs.Devices.{Told}
+use Rattle.sg_io.specs.Devices.{AgreesWith}
 use Rattle.sg_reply.specs.Refused.{IsRefused}
 use Rattle.sg_reply.specs.declared.status.Status.{Status}
 use Rattle.sg_reply.specs.declared.status.Status.TheVariants.{Done, Refused, No}
@@ -106,7 +106,7 @@ told-settled words laws status left before after bytes reading whole told named 
 }
   where
     same : whole.served.bytes ≡ bytes
-    same = subst (λ (l : Option (List ℕ)). Told l whole.served.bytes) told whole.served.told
+    same = subst (λ (l : Option (List ℕ)). AgreesWith l whole.served.bytes) told whole.served.told
 
     asked : AnswersInput reading whole.served.bytes whole.text status
     asked = subst (λ (k : Option Command). ServedBy k (law_word words) laws whole.served.bytes whole.text status) named whole.served.served

@@ -5,7 +5,7 @@ ghost use Rattle.sg_model.specs.Ising.{Ising};
 ghost use Rattle.sg_input.specs.Input.{GivesFit, RefusesText};
 ghost use Rattle.sg_words.specs.Command.{IsAllowed, command_of};
 ghost use Rattle.sg_words.specs.declared.command.Study.{Study};
-ghost use Rattle.sg_reply.specs.Exit.{IsAnswered};
+ghost use Rattle.sg_reply.specs.Exit.{IsReply};
 ghost use Rattle.sg_reply.specs.Refused.{IsRefused};
 ghost use Rattle.sg_cli.specs.Laws.{WithAllLaws};
 ghost use Rattle.sg_cli.specs.Served.{AnswersFit, AnswersInput, AnswersText, Served, ServedBy, usage_text};
@@ -37,7 +37,7 @@ pub fn answer(
     // The reply is what the words answer to the bytes among these laws.
     ensures served { let known = map (λ law. record { title = title law; stream = seeded law }) laws.items in
         IfOk result (λ reply. Served (map string_bytes words.now) known bytes.now reply.text.items reply.status) }
-    ensures answered { IfOk result (λ reply. IsAnswered reply.status) }
+    ensures replied { IfOk result (λ reply. IsReply reply.status) }
 
     // To an input that gives a fit instance a study answers what this instance is answered, and is done.
     ensures fit { IfOk result (λ reply. (study : Study) (inst : Ising) →
@@ -77,7 +77,7 @@ pub fn answer_with_all_laws(
 ) -> Result<Reply, NoMemory>
     ensures served { IfOk result (λ reply. WithAllLaws (λ laws.
         Served (map string_bytes words.now) laws bytes.now reply.text.items reply.status)) }
-    ensures answered { IfOk result (λ reply. IsAnswered reply.status) }
+    ensures replied { IfOk result (λ reply. IsReply reply.status) }
     ensures settled { IfOk result (λ reply. (reading : Reading) →
         command_of (map string_bytes words.now) ≡ Some (Command.Read reading) →
         SettlesInput reading bytes.now reply.text.items reply.status) }
@@ -93,7 +93,7 @@ pub fn answer_with_all_laws(
 // The line where the words have no shape.
 fn usage_reply(alloc: Global) -> Result<Reply, NoMemory>
     ensures served { IfOk result (λ reply. (reply.status ≡ Status.Usage) × (reply.text.items ≡ usage_text)) }
-    ensures answered { IfOk result (λ reply. IsAnswered reply.status) }
+    ensures replied { IfOk result (λ reply. IsReply reply.status) }
 {
     let mut text = Vec::new(alloc);
     text.extend_from_slice(b"usage\n")?;
@@ -114,7 +114,7 @@ pub fn command_reply(
     requires { IsAllowed command }
     ensures served { let known = map (λ law. record { title = title law; stream = seeded law }) laws.items in
         IfOk result (λ reply. ServedBy (Some command) name.now known bytes.now reply.text.items reply.status) }
-    ensures answered { IfOk result (λ reply. IsAnswered reply.status) }
+    ensures replied { IfOk result (λ reply. IsReply reply.status) }
 {
     match command {
         Command::Read(reading) => input_reply(alloc, reading, bytes),
@@ -125,7 +125,7 @@ pub fn command_reply(
 /// What a command that reads answers to an input, which may be too long.
 pub fn input_reply(alloc: Global, reading: Reading, bytes: &[u8]) -> Result<Reply, NoMemory>
     ensures served { IfOk result (λ reply. AnswersInput reading bytes.now reply.text.items reply.status) }
-    ensures answered { IfOk result (λ reply. IsAnswered reply.status) }
+    ensures replied { IfOk result (λ reply. IsReply reply.status) }
 {
     if bytes.len() > INPUT_LIMIT {
         return refuse(
@@ -142,7 +142,7 @@ pub fn input_reply(alloc: Global, reading: Reading, bytes: &[u8]) -> Result<Repl
 fn text_reply(alloc: Global, reading: Reading, bytes: &[u8]) -> Result<Reply, NoMemory>
     requires { length bytes.now < text_limit }
     ensures served { IfOk result (λ reply. AnswersText reading bytes.now reply.text.items reply.status) }
-    ensures answered { IfOk result (λ reply. IsAnswered reply.status) }
+    ensures replied { IfOk result (λ reply. IsReply reply.status) }
 {
     match reading {
         Reading::Study(study) => study_reply(alloc, study, bytes),

@@ -4,8 +4,8 @@ ghost use Rattle.sg_io.specs.Devices.{FaultShown, Grows};
 ghost use Rattle.sg_io.specs.Reading.{LosesAtMost};
 ghost use Rattle.sg_io.specs.Writing.{GrowsByPrefix};
 ghost use Rattle.sg_words.specs.Command.{command_of};
-ghost use Rattle.sg_reply.specs.Exit.{IsAnswered};
-ghost use Rattle.sg_cli.specs.Promises.{AnswersInPart, AnswersSource, AnswersWhole, LeavesSource, reads, sink_faults, source_faults, stop_faults, Takes};
+ghost use Rattle.sg_reply.specs.Exit.{IsReply};
+ghost use Rattle.sg_cli.specs.Promises.{AnswersInPart, AnswersSource, AnswersWhole, LeavesSource, reads, sink_faults, source_faults, stop_faults, TakesInput};
 
 use super::answering::input_reply;
 use sg_draws::draw_reply;
@@ -32,7 +32,7 @@ pub fn run<S: Source, K: Sink>(
 ) -> Status
     // The sink has grown by exactly a text that the words answer to the input with this status.
     ensures answer { let known = map (λ law. record { title = title law; stream = seeded law }) laws.items in
-        IsAnswered result →
+        IsReply result →
         AnswersWhole (map string_bytes words.now) known result (S.left source.old) (K.written sink.old) (K.written sink.new) }
 
     // After a read fault the last read failed, and nothing is written.
@@ -53,7 +53,7 @@ pub fn run<S: Source, K: Sink>(
 
     // Without a fault of a device and with memory enough, there is an answer.
     ensures completeness { ¬ FaultShown (S.faults source.old) (S.faults source.new) →
-        ¬ FaultShown (K.faults sink.old) (K.faults sink.new) → result ≢ Status.NoMemory → IsAnswered result }
+        ¬ FaultShown (K.faults sink.old) (K.faults sink.new) → result ≢ Status.NoMemory → IsReply result }
 
     // What is left of the source; a command that does not read leaves it as it was.
     ensures taken { reads (map string_bytes words.now) ≡ true → LeavesSource result (S.left source.old) (S.left source.new) }
@@ -105,8 +105,8 @@ impl From<AllocError> for Stop {
 /// Reads the source to its end, and answers what was read.
 fn serve<S: Source>(alloc: Global, reading: Reading, source: &mut S) -> Result<Reply, Stop>
     ensures served { IfOk result (λ reply. AnswersSource reading (S.left source.old) reply.text.items reply.status) }
-    ensures answered { IfOk result (λ reply. IsAnswered reply.status) }
-    ensures taken { OnOk result (Takes (S.left source.old) (S.left source.new)) }
+    ensures replied { IfOk result (λ reply. IsReply reply.status) }
+    ensures taken { OnOk result (TakesInput (S.left source.old) (S.left source.new)) }
     ensures stopped { OnErr result (LosesAtMost (input_limit + 1) (S.left source.old) (S.left source.new)) }
     ensures faultless { OnOk result (S.faults source.new ≡ S.faults source.old) }
     ensures fault { IfErr result (λ stop. S.faults source.new ≡ stop_faults stop (S.faults source.old)) }
@@ -127,11 +127,11 @@ fn serve<S: Source>(alloc: Global, reading: Reading, source: &mut S) -> Result<R
 
 /// Writes a whole text, and ends with the status, or with the fault of the sink in its place.
 fn send<K: Sink>(sink: &mut K, text: &[u8], status: Status) -> Status
-    requires { IsAnswered status }
-    ensures sent { IsAnswered result → (result ≡ status) × Grows text.now (K.written sink.old) (K.written sink.new) }
+    requires { IsReply status }
+    ensures sent { IsReply result → (result ≡ status) × Grows text.now (K.written sink.old) (K.written sink.new) }
     ensures fault { result ≡ Status.WriteFault → (K.failed sink.new ≡ true) × GrowsByPrefix text.now (K.written sink.old) (K.written sink.new) }
     ensures faults { K.faults sink.new ≡ sink_faults result (K.faults sink.old) }
-    ensures ends { IsAnswered result ⊎ (result ≡ Status.WriteFault) }
+    ensures ends { IsReply result ⊎ (result ≡ Status.WriteFault) }
 {
     match put(sink, text) {
         Ok(()) => status,

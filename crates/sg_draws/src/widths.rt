@@ -6,7 +6,7 @@ ghost use Rattle.sg_ensemble.specs.Widths.{AreWidths, IsWidth};
 ghost use Rattle.sg_report.specs.Ensembles.{widths_text as widths_bytes};
 ghost use Rattle.sg_words.specs.Command.{IsAllowedSize};
 ghost use Rattle.sg_limits.specs.Limits.{width_limit, sample_limit};
-ghost use Rattle.sg_reply.specs.Exit.{IsAnswered};
+ghost use Rattle.sg_reply.specs.Exit.{IsReply};
 ghost use Rattle.sg_draws.specs.Drawn.{AnswersWidths, IsWidthFault, drawn_lattice};
 ghost use Rattle.sg_reply.specs.declared.status.Status.TheVariants.{Done as IsDone};
 ghost use Rattle.sg_model.specs.Faults.{OrNoMemory};
@@ -36,7 +36,7 @@ pub fn widths_reply(
     requires few { count ≤ sample_limit }
     ensures served { IfOk result (λ reply.
         AnswersWidths size count (seeded law.old seed) reply.text.items reply.status) }
-    ensures answered { IfOk result (λ reply. IsAnswered reply.status) }
+    ensures replied { IfOk result (λ reply. IsReply reply.status) }
 {
     match sums(alloc, law, seed, size, count) {
         Ok(found) => sums_reply(alloc, found.as_slice()),
@@ -100,7 +100,7 @@ fn sums_reply(alloc: Global, widths: &[Width]) -> Result<Reply, NoMemory>
     ensures printed { IfOk result (λ reply. reply.text.items
         ≡ widths_bytes (map (λ w. w.cols) widths.now) (map (λ w. w.sum) widths.now) (map (λ w. w.squares) widths.now)) }
     ensures done { IfOk result (λ reply. reply.status ≡ IsDone) }
-    ensures answered { IfOk result (λ reply. IsAnswered reply.status) }
+    ensures replied { IfOk result (λ reply. IsReply reply.status) }
 {
     let text = text_of(alloc, widths)?;
     Ok(done(text))

@@ -27,7 +27,7 @@ use Rattle.sg_reader.specs.declared.header.Header.{Header}
 use Rattle.sg_reader.specs.declared.header.Header.TheVariants as header
 use Rattle.sg_reader.specs.declared.range.Range.{Range}
 use Rattle.sg_reader.specs.Kept.{Kept, field}
-use Rattle.sg_reader.specs.Tests.{any_number, at_least, bad_field, bad_number, is_in, is_number_in, number_of, shape_fault, size_in, spin_below}
+use Rattle.sg_reader.specs.Tests.{any_number, at_least, bad_field, bad_number, is_in, is_number_in, number_of, field_count_fault, size_in, spin_below}
 use Rattle.sg_reader.specs.Header.{IsHeader, form_fault, form_of, header_fault, header_of, header_range, header_with}
 use Rattle.sg_reader.specs.Body.{bond_fault, bond_of, bonds_in, couplings_in, ends_fault, general_fault, instance_of, lattice_end_fault, lattice_fault, link_fault, link_range, says_bond, seam_in}
 use Rattle.sg_reader.specs.Ended.{IsBody, record_at}
@@ -47,7 +47,7 @@ passed-if true x h = absurd (none-some x (sym h))
 passed-if false x h = refl
 
 -- a record of the right shape has so many fields
-shape-count : (fields : ℕ) (r : Kept) → shape_fault fields r ≡ None → length r.fields ≡ fields
+shape-count : (fields : ℕ) (r : Kept) → field_count_fault fields r ≡ None → length r.fields ≡ fields
 shape-count fields r h = eqb-true (length r.fields) fields (not-false (eqb (length r.fields) fields) (passed-if _ _ h))
 
 -- a number that passes is of the range of its place
@@ -77,7 +77,7 @@ header-good r head passes says = by (form_of (field r 0)) passes says
     by : (f : Option Form) → form_fault f r ≡ None → option_map (header_with r) f ≡ Some head → IsHeader head
     by None p s = absurd (none-some head s)
     by (Some (form.Lattice kind)) p s =
-        let first = first-none (shape_fault 3 r) _ p in
+        let first = first-none (field_count_fault 3 r) _ p in
         let count : length r.fields ≡ 3 = shape-count 3 r first.0 in
         let numbers = first-none (bad_number r 1 (header_range (form.Lattice kind))) _ first.1 in
         let spins = first-none _ _ numbers.1 in
@@ -87,7 +87,7 @@ header-good r head passes says = by (form_of (field r 0)) passes says
         subst IsHeader (same_Some (header.Lattice kind (size_in r 1) (size_in r 2)) head s)
         (record { rows = rows; cols = cols; few = omega (arith, many) }, many)
     by (Some form.General) p s =
-        let first = first-none (shape_fault 2 r) _ p in
+        let first = first-none (field_count_fault 2 r) _ p in
         let count : length r.fields ≡ 2 = shape-count 2 r first.0 in
         let numbers = first-none (bad_number r 1 (header_range form.General)) _ first.1 in
         let spins = first-none _ _ numbers.1 in
@@ -108,7 +108,7 @@ module _ (n : ℕ) (some : 1 ≤ n) where
   unfolding link_fault
   bond-sound m r h =
       let parts = first-none (link_fault any_number n r) _ h in
-      let link = first-none (shape_fault 4 r) _ parts.0 in
+      let link = first-none (field_count_fault 4 r) _ parts.0 in
       let count : length r.fields ≡ 4 = shape-count 4 r link.0 in
       let numbers = (first-none (bad_number r 1 (link_range any_number n)) _ link.1).0 in
       let ends = first-none (bond_count_fault program_limits (m + 1)) _ (first-none (ends_fault (size_in r 1) (size_in r 2) m) _ parts.1).0 in
@@ -181,7 +181,7 @@ body-given (header.Lattice kind rows cols) records inst rest good given =
     let ended : lattice_end_fault (bond_total kind rows cols) (length (couplings_in body)) given.states.last ≡ None =
     sym (lattice_fault-end (bond_total kind rows cols) body given.states.last given.states.ended.ends) ∙ given.states.passes in
     let counted = (first-none (coupling_count_fault (length (couplings_in body)) (bond_total kind rows cols)) _
-    (first-none (shape_fault 1 given.states.last) _ ended).1).0 in
+    (first-none (field_count_fault 1 given.states.last) _ ended).1).0 in
     let count : length (couplings_in body) ≡ bond_total kind rows cols =
     eqb-true _ _ (not-false (eqb (length (couplings_in body)) (bond_total kind rows cols)) (passed-if _ _ counted)) in
     let whole = lattice_instance kind rows cols good.0 (couplings_in body) count (couplings_in-small body) in

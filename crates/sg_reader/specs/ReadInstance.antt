@@ -21,13 +21,14 @@ use Rattle.sg_reader.specs.Ended.{RefusesRecords, StatesToEnd}
 abbrev pub StatesInstance : Header → List Kept → Ising → List Kept → Type 0
 StatesInstance header records inst rest = StatesToEnd (record_fault header) (instance_of header) records inst rest
 
--- and it passes the tests of an instance
+-- the records behind the first state the instance up to their `end`, and its rotation and its seam are right
 pub record ReadsBody (header : Header) (records : List Kept) (inst : Ising) (rest : List Kept) : Type 0 where
   pub states : StatesInstance header records inst rest
   pub rotation : IsRotation inst
   pub seam : IsSeam inst
 
--- the records give the instance, and `rest` is left behind its `end`
+-- the records give the instance, and `rest` is left behind its `end`. What they give is an instance within the limits
+-- (`IsGiven`), as the law `records_have_one_answer` says
 pub record ReadsInstance (records : List Kept) (inst : Ising) (rest : List Kept) : Type 0 where
   pub first : Kept
   pub more : List Kept

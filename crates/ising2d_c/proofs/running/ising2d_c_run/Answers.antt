@@ -6,5 +6,5 @@ pub returns-in-Ok : goal.returns-in-Ok
 returns-in-Ok c =
     Answered (map string_bytes c.in-Ok-Some.list.items) c.in-Ok.reply.text.items c.in-Ok.reply.status
     (rw c.in-Ok-Some.field-0-is at c.in-Ok-Some.ensures.ended)
-    (record { answered = c.in-Ok.ensures.answered; served = rw c.as_slice.ensures.value at c.in-Ok.ensures.served })
+    (record { replied = c.in-Ok.ensures.replied; served = rw c.as_slice.ensures.value at c.in-Ok.ensures.served })
     (rw c.as_slice-text.ensures.value at c.fill.ensures) (ap length c.as_slice-text.ensures.value) c.exit_code-in-Ok.ensures
