@@ -15,7 +15,7 @@ use Rattle.sg_draft.specs.Limits.{program_limits}
 use Rattle.sg_draft.specs.Numbers.{bond_count_fault, is_number_from, lattice_size_fault, many_spins_fault, number_fault, spin_count_fault}
 use Rattle.sg_draft.specs.Reads.{counted, member_fault, value_or, wrong_entry}
 use Rattle.sg_reader.specs.ReadInstance.{IsGiven}
-use Rattle.sg_reader.proofs.GivenInstance.{first-none, passed-if}
+use Rattle.sg_draft.proofs.Drafts.{first-none, passed-if}
 use Rattle.sg_reader.proofs.SizeLaws.{lattice-bonds, lattice-spins}
 use Rattle.sg_json.specs.ReadJson.{ReadsJson}
 

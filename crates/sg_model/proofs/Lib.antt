@@ -17,3 +17,4 @@ pub mod CoupledEnergy
 pub mod LeastSpins
 pub mod SamePaths
 pub mod OneFault
+pub mod OneEnergy

@@ -20,6 +20,7 @@ use Rattle.sg_draft.specs.Draft.{reseamed}
 use Rattle.sg_draft.specs.Limits.{program_limits}
 use Rattle.sg_draft.specs.Numbers.{bond_count_fault, coupling_count_fault}
 use Rattle.sg_draft.specs.Tests.{first_of, refuse_if}
+use Rattle.sg_draft.proofs.Drafts.{first-none, passed-if}
 use Rattle.sg_draft.proofs.Finds.{find_range-all, none-mapped}
 use Rattle.sg_reader.specs.declared.header.Form.{Form}
 use Rattle.sg_reader.specs.declared.header.Form.TheVariants as form
@@ -36,15 +37,6 @@ use Rattle.sg_reader.proofs.BodyLaws.{couplings_in-small, number_in-small}
 use Rattle.sg_reader.proofs.GeneralLaws.{bonds_in-more, bonds_in-other, general_fault-bond}
 use Rattle.sg_reader.proofs.LatticeLaws.{instance_of-lattice, lattice_fault-end}
 use Rattle.sg_reader.proofs.SizeLaws.{lattice-bonds, lattice-spins}
-
--- of tests that all pass each passes
-pub first-none : (test rest : Option Refusal) → option_or test rest ≡ None → (test ≡ None) × (rest ≡ None)
-first-none None rest h = (refl, h)
-first-none (Some x) rest h = absurd (none-some x (sym h))
-
-pub passed-if : (b : Bool) (x : Refusal) → refuse_if b x ≡ None → b ≡ false
-passed-if true x h = absurd (none-some x (sym h))
-passed-if false x h = refl
 
 -- a record of the right shape has so many fields
 shape-count : (fields : ℕ) (r : Kept) → field_count_fault fields r ≡ None → length r.fields ≡ fields
