@@ -5,4 +5,3 @@ mod LawLemmas
 mod Settled
 mod OneText
 mod Replies
-mod OneDraw

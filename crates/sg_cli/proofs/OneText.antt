@@ -1,98 +1,102 @@
--- Where an answer leaves nothing free: the energies of a wall, the costs of the bonds, the clusters.
-use Rattle.std.proofs.Common.{◌≡◌, ◌<◌, ◌≤◌, ℕ, ℤ, pos, negsuc, ◌-ℤ◌, ◌≤ℤ◌, Bool, true, List, [], ◌∷◌, length, get_or, sym, ap, ap₂, ◌∙◌, arith}
-use Rattle.std.specs.Prelude.{unsigned_abs}
-use Rattle.std.proofs.lemmas.Int.{ints}
-use Rattle.std.proofs.lemmas.List.{get_or_default, same_lists}
-use Rattle.sg_model.specs.Ising.{Ising, bond_count}
-use Rattle.sg_model.specs.Connected.{IsWalk, JoinedBy, Reached}
-use Rattle.sg_model.specs.Energy.{IsLeastEnergy}
-use Rattle.sg_model.specs.Changes.{with_seam_flipped}
-use Rattle.sg_wall.specs.Wall.{IsWall}
-use Rattle.sg_bonds.specs.Cost.{AreCosts, IsCost, IsLeastWith}
-use Rattle.sg_bonds.specs.Cluster.{AreClusters, IsCluster}
+-- Where a reply leaves nothing free: studies that find numbers alone, verdicts, and commands that draw.
+use Rattle.std.proofs.Common.{◌≡◌, inl, inr, ℕ, Option, Some, List, [], ◌∷◌, length, map, refl, sym, ap, subst, ◌∙◌}
+use Rattle.std.proofs.lemmas.Bool.{cases_lt}
+use Rattle.sg_limits.specs.Limits.{input_limit}
+use Rattle.sg_model.specs.declared.refusal.Refusal.{Refusal}
+use Rattle.sg_model.specs.declared.refusal.Refusal.TheVariants.{NoSeam, TooLong}
+use Rattle.sg_model.specs.Ising.{Ising}
+use Rattle.sg_model.specs.WellFormed.{IsInstance}
+use Rattle.sg_wall.proofs.OneWall.{wall-one}
+use Rattle.sg_bonds.proofs.OneCost.{clusters-one, costs-one}
+use Rattle.sg_ranges.proofs.MovedCouplings.{turns-one}
 use Rattle.sg_check.specs.declared.packing.ResultText.{ResultText}
 use Rattle.sg_check.proofs.OneVerdict.{one_verdict}
-use Rattle.sg_report.specs.Text.{verdict_text}
+use Rattle.sg_input.proofs.OneInput.{text-given}
+use Rattle.sg_laws.specs.Named.{Law, first_named}
+use Rattle.sg_report.specs.Ranges.{ranges_text}
+use Rattle.sg_report.specs.Text.{bonds_text, clusters_text, verdict_text}
+use Rattle.sg_words.specs.Command.{command_of, law_word}
+use Rattle.sg_words.specs.declared.command.Command.{Command}
+use Rattle.sg_words.specs.declared.command.Command.TheVariants.{Draw}
+use Rattle.sg_words.specs.declared.command.Drawing.{Drawing}
+use Rattle.sg_words.specs.declared.command.Reading.{Reading}
+use Rattle.sg_words.specs.declared.command.Reading.TheVariants as reading
+use Rattle.sg_words.specs.declared.command.Study.{Study}
+use Rattle.sg_words.specs.declared.command.Study.TheVariants.{Energy, Ground, Wall, Bonds, Clusters, Report, Ranges, Maxcut}
+use Rattle.sg_reply.specs.Refused.{IsRefused}
+use Rattle.sg_reply.specs.Same.{IsSameReply}
 use Rattle.sg_reply.specs.declared.status.Status.{Status}
-use Rattle.sg_cli.specs.Served.{PrintsClusters, PrintsCosts, PrintsVerdict, PrintsWall}
+use Rattle.sg_draws.proofs.OneReply.{law-one}
+use Rattle.sg_cli.specs.Served.{AnswersFit, AnswersInput, AnswersText, AnswersWall, PrintsVerdict, PrintsWall, Served, ServedBy}
+use Rattle.sg_cli.specs.Served.{FaultNamed, Judged, ProofFaultNamed, Studied}
+use Rattle.sg_cli.specs.Settled.{FindsNumbers, HasOneText}
+use Rattle.sg_cli.proofs.Settled.{check-settled, study-settled}
 
-meet : (d e x y : ℤ) → d ≤ℤ x → e ≤ℤ y → y ≡ d → x ≡ e → d ≡ e
-meet d e x y p q r s = omega (arith, ints)
+-- the line of a refusal
+line-text : (refusal : Refusal) (t u : List ℕ) (s v : Status) → IsRefused refusal t s → IsRefused refusal u v → t ≡ u
+line-text refusal t u s v p q = p.printed ∙ sym q.printed
 
--- an instance has one least energy
-pub least-one : (inst : Ising) (d e : ℤ) → IsLeastEnergy inst d → IsLeastEnergy inst e → d ≡ e
-least-one inst d e p q =
-    meet d e _ _ (p.least q.reached.0 q.reached.1) (q.least p.reached.0 p.reached.1) p.reached.2 q.reached.2
-
--- a seam has one wall
-pub wall-one : (inst : Ising) (a b c x y z : ℤ) → IsWall inst a b c → IsWall inst x y z → (a ≡ x) × (b ≡ y) × (c ≡ z)
-wall-one inst a b c x y z p q =
-    let first : a ≡ x = least-one inst a x p.least q.least in
-    let second : b ≡ y = least-one (with_seam_flipped inst) b y p.least_flipped q.least_flipped in
-    (first, second, p.gain ∙ ap₂ (λ (v w : ℤ). v -ℤ w) second first ∙ sym q.gain)
-
-pub wall-text : (inst : Ising) (t u : List ℕ) (s v : Status) → PrintsWall inst t s → PrintsWall inst u v → t ≡ u
-wall-text inst t u s v p q =
+-- the energies of a wall
+wall-printed : (inst : Ising) (t u : List ℕ) (s v : Status) → PrintsWall inst t s → PrintsWall inst u v → t ≡ u
+wall-printed inst t u s v p q =
     let same = wall-one inst p.periodic p.antiperiodic p.difference q.periodic q.antiperiodic q.difference p.wall q.wall in
     let first : p.periodic ≡ q.periodic = same.0 in
     let second : p.antiperiodic ≡ q.antiperiodic = same.1 in
     let third : p.difference ≡ q.difference = same.2 in
     p.printed ∙ rw (first, second, third) (sym q.printed)
 
--- a bond has one cost
-with-one : (inst : Ising) (k : ℕ) (p d e : ℤ) → IsLeastWith inst k p d → IsLeastWith inst k p e → d ≡ e
-with-one inst k p d e a b =
-    meet d e _ _ (a.least b.reached.0 b.reached.1 b.reached.2) (b.least a.reached.0 a.reached.1 a.reached.2) a.reached.3 b.reached.3
+wall-text : (inst : Ising) (t u : List ℕ) (s v : Status) → AnswersWall inst t s → AnswersWall inst u v → t ≡ u
+wall-text inst t u s v p q = by_seam inst.seam refl
+  where
+    by_seam : (seam : List ℕ) → inst.seam ≡ seam → t ≡ u
+    by_seam [] none = line-text NoSeam t u s v (p.without_seam none) (q.without_seam none)
+    by_seam (x ∷ xs) some =
+        let given : inst.seam ≡ [] → ⊥ = λ none. let e : x ∷ xs ≡ [] = sym some ∙ none in cc e in
+        wall-printed inst t u s v (p.with_seam given) (q.with_seam given)
 
-pub cost-one : (inst : Ising) (k : ℕ) (c d : ℤ) → IsCost inst k c → IsCost inst k d → c ≡ d
-cost-one inst k c d p q =
-    p.apart
-    ∙ ap₂ (λ (u l : ℤ). pos (unsigned_abs (u -ℤ l))) (with-one inst k (negsuc 0) p.unlike q.unlike p.least_unlike q.least_unlike)
-    (with-one inst k (pos 1) p.like q.like p.least_like q.least_like)
-    ∙ sym q.apart
-
-pub costs-one : (inst : Ising) (xs ys : List ℤ) → AreCosts inst xs → AreCosts inst ys → xs ≡ ys
-costs-one inst xs ys p q =
-    same_lists xs ys (p.count ∙ sym q.count)
-    (λ k d l.
-    get_or_default xs k d (pos 0) l
-    ∙ cost-one inst k (get_or xs k (pos 0)) (get_or ys k (pos 0)) (p.each k (omega (arith, l, p.count))) (q.each k (omega (arith, l, p.count)))
-    ∙ sym (get_or_default ys k d (pos 0) (omega (arith, l, p.count, q.count))))
-
-pub costs-text : (inst : Ising) (t u : List ℕ) (s v : Status) → PrintsCosts inst t s → PrintsCosts inst u v → t ≡ u
-costs-text inst t u s v p q =
-    let same : p.costs ≡ q.costs = costs-one inst p.costs q.costs p.exact q.exact in
-    p.printed ∙ rw same (sym q.printed)
-
--- a walk over bonds of one set is one over those of another that has them too
-walk-kept : (inst : Ising) (set other : ℕ → Bool) → ((b : ℕ) → b < bond_count inst → set b ≡ true → other b ≡ true) → (path : List ℕ) (a b : ℕ)
-    → IsWalk inst set a path b → IsWalk inst other a path b
-walk-kept inst set other more [] a b w = w
-walk-kept inst set other more (c ∷ cs) a b w = (
-  record { bond = w.0.bond; below = w.0.below; in_set = more w.0.bond w.0.below w.0.in_set; ends = w.0.ends },
-  walk-kept inst set other more cs c b w.1,
-)
-
--- a spin has one cluster
-pub cluster-one : (inst : Ising) (i k l : ℕ) → IsCluster inst i k → IsCluster inst i l → k ≡ l
-cluster-one inst i k l p q =
-    let forth : Reached inst q.set i k = (p.reached.0, walk-kept inst p.set q.set (λ b low h. (q.rigid b low).1 ((p.rigid b low).0 h)) p.reached.0 i k p.reached.1) in
-    let back : Reached inst p.set i l = (q.reached.0, walk-kept inst q.set p.set (λ b low h. (p.rigid b low).1 ((q.rigid b low).0 h)) q.reached.0 i l q.reached.1) in
-    omega (arith, p.least l back, q.least k forth)
-
-pub clusters-one : (inst : Ising) (xs ys : List ℕ) → AreClusters inst xs → AreClusters inst ys → xs ≡ ys
-clusters-one inst xs ys p q =
-    same_lists xs ys (p.count ∙ sym q.count)
-    (λ k d l.
-    get_or_default xs k d 0 l
-    ∙ cluster-one inst k (get_or xs k 0) (get_or ys k 0) (p.each k (omega (arith, l, p.count))) (q.each k (omega (arith, l, p.count)))
-    ∙ sym (get_or_default ys k d 0 (omega (arith, l, p.count, q.count))))
-
-pub clusters-text : (inst : Ising) (t u : List ℕ) (s v : Status) → PrintsClusters inst t s → PrintsClusters inst u v → t ≡ u
-clusters-text inst t u s v p q =
-    let same : p.names ≡ q.names = clusters-one inst p.names q.names p.exact q.exact in
-    p.printed ∙ rw same (sym q.printed)
+-- a study that finds numbers alone
+fit-text : (study : Study) (inst : Ising) (t u : List ℕ) (s v : Status) → IsInstance inst → FindsNumbers study → AnswersFit study inst t s
+    → AnswersFit study inst u v → t ≡ u
+fit-text Wall inst t u s v good numbers p q = wall-text inst t u s v p q
+fit-text Bonds inst t u s v good numbers p q = p.printed ∙ ap bonds_text (costs-one inst p.costs q.costs p.exact q.exact) ∙ sym q.printed
+fit-text Clusters inst t u s v good numbers p q = p.printed ∙ ap clusters_text (clusters-one inst p.names q.names p.exact q.exact) ∙ sym q.printed
+fit-text Ranges inst t u s v good numbers p q =
+    p.printed ∙ ap (ranges_text (map (λ b. b.j) inst.bonds)) (turns-one inst p.turns q.turns good p.exact q.exact) ∙ sym q.printed
+fit-text Energy inst t u s v good numbers p q = absurd numbers
+fit-text Ground inst t u s v good numbers p q = absurd numbers
+fit-text Report inst t u s v good numbers p q = absurd numbers
+fit-text Maxcut inst t u s v good numbers p q = absurd numbers
 
 -- a stated proof has one verdict
-pub verdict-text : (inst : Ising) (stated : ResultText) (t u : List ℕ) (s v : Status) → PrintsVerdict inst stated t s → PrintsVerdict inst stated u v → t ≡ u
-verdict-text inst stated t u s v p q = p.printed ∙ ap verdict_text (one_verdict inst stated p.judged q.judged p.found q.found) ∙ sym q.printed
+verdict-printed : (inst : Ising) (stated : ResultText) (t u : List ℕ) (s v : Status) → PrintsVerdict inst stated t s → PrintsVerdict inst stated u v → t ≡ u
+verdict-printed inst stated t u s v p q =
+    p.printed ∙ ap verdict_text (one_verdict inst stated p.judged q.judged p.found q.found) ∙ sym q.printed
+
+-- a text
+text-printed : (reading : Reading) (bytes t u : List ℕ) (s v : Status) → HasOneText reading → AnswersText reading bytes t s → AnswersText reading bytes u v
+    → t ≡ u
+text-printed (reading.Study study) bytes t u s v one (FaultNamed refusal bad line) q =
+    line-text refusal t u s v line ((study-settled study bytes u v q).refused refusal bad)
+text-printed (reading.Study study) bytes t u s v one (Studied inst given answers) q =
+    fit-text study inst t u s v (text-given bytes inst given.gives).instance one answers ((study-settled study bytes u v q).fit inst given)
+text-printed reading.Check bytes t u s v one (ProofFaultNamed refusal bad line) q =
+    line-text refusal t u s v line ((check-settled bytes u v q).refused refusal bad)
+text-printed reading.Check bytes t u s v one (Judged inst stated given prints) q =
+    verdict-printed inst stated t u s v prints ((check-settled bytes u v q).judged inst stated given)
+text-printed (reading.Graph task) bytes t u s v one p q = absurd one
+
+-- one text for an input
+pub input-text : (reading : Reading) (bytes t u : List ℕ) (s v : Status) → HasOneText reading → AnswersInput reading bytes t s
+    → AnswersInput reading bytes u v → t ≡ u
+input-text reading bytes t u s v one p q = elim (cases_lt input_limit (length bytes)) [
+  | inl long ↦ line-text (TooLong input_limit) t u s v (p.too_long long) (q.too_long long)
+  | inr short ↦ text-printed reading bytes t u s v one (p.short short) (q.short short)
+]
+
+-- one reply to words that draw, whatever the input
+pub words-one : (drawing : Drawing) (words : List (List ℕ)) (laws : List Law) (bytes other t u : List ℕ) (s v : Status)
+    → command_of words ≡ Some (Draw drawing) → Served words laws bytes t s → Served words laws other u v → IsSameReply s v t u
+words-one drawing words laws bytes other t u s v named p q =
+    law-one drawing (first_named (law_word words) laws) t u s v
+    (subst (λ (k : Option Command). ServedBy k (law_word words) laws bytes t s) named p)
+    (subst (λ (k : Option Command). ServedBy k (law_word words) laws other u v) named q)

@@ -1,5 +1,5 @@
 -- What is answered to an input is settled by what the input gives or by what refuses it.
-use Rattle.std.proofs.Common.{◌≡◌, ◌<◌, ◌≤◌, inl, inr, ℕ, Option, Some, List, [], ◌∷◌, length, refl, sym, ap, subst, ◌∙◌, arith}
+use Rattle.std.proofs.Common.{◌≡◌, inl, inr, ℕ, Option, Some, List, [], ◌∷◌, length, refl, sym, ap, subst, ◌∙◌}
 use Rattle.std.proofs.lemmas.Bool.{cases_lt}
 use Rattle.sg_limits.specs.Limits.{input_limit}
 use Rattle.sg_model.specs.declared.refusal.Refusal.{Refusal}
@@ -8,8 +8,7 @@ use Rattle.sg_model.specs.Ising.{Ising}
 use Rattle.sg_check.specs.declared.packing.ResultText.{ResultText}
 use Rattle.sg_check.specs.declared.verdict.Verdict.{Verdict}
 use Rattle.sg_check.specs.declared.verdict.Verdict.TheVariants as verdict
-use Rattle.sg_check.specs.Verdict.{IsVerdict}
-use Rattle.sg_check.proofs.Verdicts.{yes_from_proof}
+use Rattle.sg_check.proofs.OneVerdict.{one_verdict}
 use Rattle.sg_graph.specs.Web.{Graph}
 use Rattle.sg_graph_text.proofs.OneNetwork.{network-one_answer}
 use Rattle.sg_input.proofs.OneInput.{input-one_answer, proof-one_answer}
@@ -26,9 +25,9 @@ use Rattle.sg_laws.specs.Named.{Law}
 use Rattle.sg_io.specs.Devices.{AgreesWith}
 use Rattle.sg_reply.specs.Refused.{IsRefused}
 use Rattle.sg_reply.specs.declared.status.Status.{Status}
-use Rattle.sg_reply.specs.declared.status.Status.TheVariants.{Done, Refused, No}
+use Rattle.sg_reply.specs.declared.status.Status.TheVariants.{Done, Refused}
 use Rattle.sg_cli.specs.Graphs.{AnswersTask, takes_terms}
-use Rattle.sg_cli.specs.Served.{AnswersCheck, AnswersFit, AnswersGraph, AnswersInput, AnswersStudy, AnswersText, AnswersWall, PrintsVerdict, ServedBy, status_by}
+use Rattle.sg_cli.specs.Served.{AnswersCheck, AnswersFit, AnswersGraph, AnswersInput, AnswersStudy, AnswersText, PrintsVerdict, ServedBy, status_by}
 use Rattle.sg_cli.specs.Served.{FaultNamed, GraphFaultNamed, GraphSolved, Judged, ProofFaultNamed, Studied}
 use Rattle.sg_cli.specs.Promises.{AnswersWhole}
 use Rattle.sg_cli.specs.Settled.{CanBeStudied, HasGot, IsSameKind, SettlesCheck, SettlesGraph, SettlesInput, SettlesStudy, SettlesText}
@@ -136,11 +135,6 @@ fit-kind Ranges inst s v t u p q = done-kind s v t u p.done q.done
 fit-kind Maxcut inst s v t u p q = done-kind s v t u p.done q.done
 
 -- verdicts on one proof
-one-ended : (inst : Ising) (stated : ResultText) (v w : Verdict) → IsVerdict inst stated v → IsVerdict inst stated w → status_by v ≡ status_by w
-one-ended inst stated verdict.Yes w p q = ap status_by (sym (yes_from_proof inst stated w q p))
-one-ended inst stated v verdict.Yes p q = ap status_by (yes_from_proof inst stated v p q)
-one-ended inst stated _ _ p q = refl
-
 verdict-answers : (v : Verdict) → status_by v ≡ Refused → ⊥
 verdict-answers verdict.Yes e = cc e
 verdict-answers _ e = cc e
@@ -148,7 +142,7 @@ verdict-answers _ e = cc e
 verdict-kind : (inst : Ising) (stated : ResultText) (s v : Status) (t u : List ℕ) → PrintsVerdict inst stated t s → PrintsVerdict inst stated u v
     → IsSameKind s v t u
 verdict-kind inst stated s v t u p q = record {
-  ended = p.ended ∙ one-ended inst stated p.judged q.judged p.found q.found ∙ sym q.ended;
+  ended = p.ended ∙ ap status_by (one_verdict inst stated p.judged q.judged p.found q.found) ∙ sym q.ended;
   refused = λ bad. absurd (verdict-answers p.judged (sym p.ended ∙ bad));
 }
 

@@ -14,7 +14,7 @@ use Rattle.sg_words.specs.declared.command.GraphTask.{GraphTask}
 use Rattle.sg_words.specs.declared.command.Reading.{Reading}
 use Rattle.sg_words.specs.declared.command.Reading.TheVariants as reading
 use Rattle.sg_words.specs.declared.command.Study.{Study}
-use Rattle.sg_words.specs.declared.command.Study.TheVariants.{Wall}
+use Rattle.sg_words.specs.declared.command.Study.TheVariants.{Bonds, Clusters, Ranges, Wall}
 use Rattle.sg_reply.specs.Refused.{IsRefused}
 use Rattle.sg_reply.specs.declared.status.Status.{Status}
 use Rattle.sg_reply.specs.declared.status.Status.TheVariants.{Refused}
@@ -57,6 +57,21 @@ CanBeStudied _ inst = ⊤
 pub record IsSameKind (first second : Status) (text line : List ℕ) : Type 0 where
   pub ended : first ≡ second
   pub refused : first ≡ Refused → text ≡ line
+
+-- a study that finds numbers alone, of which each instance has one
+abbrev pub FindsNumbers : Study → Type 0
+FindsNumbers Wall = ⊤
+FindsNumbers Bonds = ⊤
+FindsNumbers Clusters = ⊤
+FindsNumbers Ranges = ⊤
+FindsNumbers _ = ⊥
+
+-- a command that reads and whose text leaves nothing free: a study that finds numbers alone, and `check`. The others
+-- print one of several ground states, packings, joins or walks
+abbrev pub HasOneText : Reading → Type 0
+HasOneText (reading.Study study) = FindsNumbers study
+HasOneText reading.Check = ⊤
+HasOneText (reading.Graph task) = ⊥
 
 -- a sink has got exactly one text, and this holds of it
 pub record HasGot (Holds : List ℕ → Type 0) (before after : Option (List ℕ)) : Type 0 where

@@ -1,4 +1,4 @@
-// What the words answer to an input: the headline of the project, from bytes to bytes.
+// The reply to words and an input: the claim of the project, from bytes to bytes.
 ghost use Rattle.std.specs.Prelude.{◌≡◌, ◌≤◌, ◌<◌, ℕ, length, Some, IfOk, map, string_bytes};
 ghost use Rattle.sg_limits.specs.Limits.{input_limit, text_limit};
 ghost use Rattle.sg_model.specs.Ising.{Ising};
@@ -22,24 +22,26 @@ use sg_reply::{NoMemory, Reply, Status, refuse};
 use sg_words::{Command, Reading, law_word, parse_command};
 use std::alloc::Global;
 
-/// What the words answer to an input, where draws are made of the first of the laws that has the name in
-/// the words. Everything that the program promises of its answers is promised here, from bytes to bytes;
-/// `run` takes the bytes from a source and sends the text to a sink.
+/// The reply to the words and an input of any length: a status, and the whole text. Commands that draw take
+/// the first of the laws that has the name in the words, and leave the input alone.
+///
+/// What the program promises of its answers is promised here; [`run`](super::run) reads the input from a
+/// source and writes the text to a sink.
 ///
 /// # Errors
-/// Want of memory, and nothing else.
+/// `NoMemory` where an allocation failed, and no other.
 pub fn answer(
     alloc: Global,
     words: &[String],
     bytes: &[u8],
     laws: Vec<Box<dyn Disorder>>,
 ) -> Result<Reply, NoMemory>
-    // The reply is what the words answer to the bytes among these laws.
+    // The status and the text are what the words answer to the bytes.
     ensures served { let known = map (λ law. record { title = title law; stream = seeded law }) laws.items in
         IfOk result (λ reply. Served (map string_bytes words.now) known bytes.now reply.text.items reply.status) }
     ensures replied { IfOk result (λ reply. IsReply reply.status) }
 
-    // To an input that gives a fit instance a study answers what this instance is answered, and is done.
+    // If the input gives a fit instance, a study replies with its answer to this instance, and is done.
     ensures fit { IfOk result (λ reply. (study : Study) (inst : Ising) →
         command_of (map string_bytes words.now) ≡ Some (Command.Read (Reading.Study study)) →
         length bytes.now ≤ input_limit → GivesFit bytes.now inst →
@@ -49,13 +51,13 @@ pub fn answer(
         length bytes.now ≤ input_limit → GivesFit bytes.now inst → CanBeStudied study inst →
         reply.status ≡ Status.Done) }
 
-    // To an input that is refused it answers the line of the refusal.
+    // If a test of the input fails, a study replies with the line of this refusal.
     ensures refused { IfOk result (λ reply. (study : Study) (refusal : Refusal) →
         command_of (map string_bytes words.now) ≡ Some (Command.Read (Reading.Study study)) →
         length bytes.now ≤ input_limit → RefusesText bytes.now refusal →
         IsRefused refusal reply.text.items reply.status) }
 
-    // And so do the checker and the tasks on graphs.
+    // The same for every command that reads: studies, `check`, and the tasks on graphs.
     ensures settled { IfOk result (λ reply. (reading : Reading) →
         command_of (map string_bytes words.now) ≡ Some (Command.Read reading) →
         SettlesInput reading bytes.now reply.text.items reply.status) }
@@ -66,10 +68,10 @@ pub fn answer(
     }
 }
 
-/// What the words answer to an input, as [`answer`] does, with the four laws to draw from.
+/// The reply to the words and an input, as [`answer`] gives it, with the four laws to draw from.
 ///
 /// # Errors
-/// Want of memory, and nothing else.
+/// `NoMemory` where an allocation failed, and no other.
 pub fn answer_with_all_laws(
     alloc: Global,
     words: &[String],
@@ -90,7 +92,7 @@ pub fn answer_with_all_laws(
     answer(alloc, words, bytes, laws)
 }
 
-// The line where the words have no shape.
+// The reply to words that name no command.
 fn usage_reply(alloc: Global) -> Result<Reply, NoMemory>
     ensures served { IfOk result (λ reply. (reply.status ≡ Status.Usage) × (reply.text.items ≡ usage_text)) }
     ensures replied { IfOk result (λ reply. IsReply reply.status) }
@@ -103,7 +105,7 @@ fn usage_reply(alloc: Global) -> Result<Reply, NoMemory>
     })
 }
 
-/// What a command answers to an input, with the first of the laws that has the name.
+/// The reply of a command to an input; one that draws takes the first of the laws that has the name.
 pub fn command_reply(
     alloc: Global,
     command: Command,
@@ -122,7 +124,7 @@ pub fn command_reply(
     }
 }
 
-/// What a command that reads answers to an input, which may be too long.
+/// The reply of a command that reads to an input of any length.
 pub fn input_reply(alloc: Global, reading: Reading, bytes: &[u8]) -> Result<Reply, NoMemory>
     ensures served { IfOk result (λ reply. AnswersInput reading bytes.now reply.text.items reply.status) }
     ensures replied { IfOk result (λ reply. IsReply reply.status) }
@@ -138,7 +140,7 @@ pub fn input_reply(alloc: Global, reading: Reading, bytes: &[u8]) -> Result<Repl
     text_reply(alloc, reading, bytes)
 }
 
-// What a command that reads answers to a text within the limit of bytes.
+// The reply of a command that reads to a text within the limit of bytes.
 fn text_reply(alloc: Global, reading: Reading, bytes: &[u8]) -> Result<Reply, NoMemory>
     requires { length bytes.now < text_limit }
     ensures served { IfOk result (λ reply. AnswersText reading bytes.now reply.text.items reply.status) }

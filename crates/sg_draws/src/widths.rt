@@ -7,7 +7,7 @@ ghost use Rattle.sg_report.specs.Ensembles.{widths_text as widths_bytes};
 ghost use Rattle.sg_words.specs.Command.{IsAllowedSize};
 ghost use Rattle.sg_limits.specs.Limits.{width_limit, sample_limit};
 ghost use Rattle.sg_reply.specs.Exit.{IsReply};
-ghost use Rattle.sg_draws.specs.Drawn.{AnswersWidths, IsWidthFault, drawn_lattice};
+ghost use Rattle.sg_draws.specs.Drawn.{AnswersWidths, AreFitWidths, IsWidthFault, drawn_lattice};
 ghost use Rattle.sg_reply.specs.declared.status.Status.TheVariants.{Done as IsDone};
 ghost use Rattle.sg_model.specs.Faults.{OrNoMemory};
 
@@ -56,6 +56,7 @@ fn sums(
     requires narrow { size.cols ≤ width_limit }
     requires some { 1 ≤ count }
     requires few { count ≤ sample_limit }
+    ensures fit { OnOk result (AreFitWidths size (seeded law.old seed)) }
     ensures widths { IfOk result (AreWidths size.rows count (seeded law.old seed) (size.cols - 2)) }
     ensures unfit { IfErr result (IsWidthFault size (seeded law.old seed)) }
 {
