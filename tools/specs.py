@@ -3,7 +3,8 @@
 A definition is public where a clause of a public function cites it, or a definition that is public does;
 the others are private: only private contracts cite them. A public function is one that a crate exports: by
 its lib.rt, as a method of a type or a trait that this exports, or to C. What a value of an exported type is
-for clauses (`ghost Value`) counts as a clause. The definitions of the toolchain's libraries are not followed.
+for clauses (`ghost Value`) counts as a clause. The definitions of the toolchain's libraries are not followed;
+which of them a definition cites `Specs.foreign` says.
 """
 import pathlib
 import re
@@ -12,6 +13,8 @@ TOP = pathlib.Path(__file__).resolve().parent.parent
 STARTS = re.compile(r"^(?:pub )?(?:abbrev|unfoldable|record|data)\b(?: pub)? *([^\s:(]+)")
 WORD = re.compile(r"[^\s(){}\[\],;.·→×∷≡↔]+")
 IMPORT = re.compile(r"^ *(?:ghost )?use Rattle\.(\w+)\.specs\.([\w.]+)\.\{([^}]*)\};?$", re.M)
+# The library that every definition may cite.
+COMMON = "std"
 CLAUSE = re.compile(r"^ *(?:requires|ensures)\b.*(?:\n(?! *(?:requires|ensures|\{)).*)*", re.M)
 FUNCTION = re.compile(r'^( *)(pub )?(extern "C" )?fn (\w+)', re.M)
 VALUE = re.compile(r"^ *ghost Value = .*$", re.M)
@@ -37,10 +40,11 @@ class Definition:
 
 
 class Function:
-    """A function of src/: its crate, the line that owns it, its name, its clauses, and whether it is public."""
+    """A function of src/: its crate, the line that owns it, its name, its text up to its body, what its clauses
+    cite, and whether it is public."""
 
-    def __init__(self, crate, owner, name, clauses, is_public):
-        self.crate, self.owner, self.name = crate, owner, name
+    def __init__(self, crate, owner, name, head, clauses, is_public):
+        self.crate, self.owner, self.name, self.head = crate, owner, name, head
         self.clauses, self.is_public = clauses, is_public
 
 
@@ -106,9 +110,9 @@ class Specs:
                 clauses = known_words("\n".join(CLAUSE.findall(head)), known)
                 is_shown = match[2] or "trait " in owner or " for " in owner
                 is_public = bool(match[3]) or bool(is_shown and shown and (owner or match[4] in exported))
-                self.functions.append(Function(crate, owner, match[4], clauses, is_public))
+                self.functions.append(Function(crate, owner, match[4], head, clauses, is_public))
             values = known_words("\n".join(VALUE.findall(own)), known)
-            self.functions.append(Function(crate, owner, "Value", values, bool(owner) and shown))
+            self.functions.append(Function(crate, owner, "Value", "", values, bool(owner) and shown))
 
     def cited(self, definition):
         """The definitions that a definition cites, in the order of its text."""
@@ -117,6 +121,14 @@ class Specs:
             key = self.uses[crate, module].get(word, (crate, module, word))
             if word != name and key in self.definitions:
                 yield self.definitions[key]
+
+    def foreign(self, definition):
+        """The definitions of libraries, but for `std`, that a definition cites: the library and the name of each."""
+        crates = {key[0] for key in self.definitions}
+        for word in words(definition.text):
+            library, _, name = self.uses[definition.crate, definition.module].get(word, (COMMON, "", ""))
+            if library != COMMON and library not in crates:
+                yield library, name
 
     def behind(self, keys):
         """The definitions behind those named, and these, each behind those that it cites."""
@@ -134,14 +146,25 @@ class Specs:
                 visit(self.definitions[key])
         return found
 
-    def contract(self, claim):
-        """What the clauses of a public function cite: CRATE::FUNCTION or CRATE::TYPE::FUNCTION."""
+    def function(self, claim):
+        """A public function with clauses: CRATE::FUNCTION or CRATE::TYPE::FUNCTION."""
         crate, *path = claim.split("::")
         for it in self.functions:
             is_owner = len(path) == 1 or re.search(rf"\b{path[0]}\b", it.owner)
             if it.crate == crate and it.name == path[-1] and it.is_public and is_owner and it.clauses:
-                return it.clauses
+                return it
         raise SystemExit(f"no public function {claim} has clauses")
+
+    def full_name(self, name):
+        """The public function of this name alone, with its crate, where one crate has it."""
+        crates = dict.fromkeys(it.crate for it in self.functions if it.name == name and it.is_public and it.clauses)
+        if len(crates) != 1:
+            raise SystemExit(f"name the crate of {name}: {', '.join(crates) or 'no public function with clauses has this name'}")
+        return f"{next(iter(crates))}::{name}"
+
+    def contract(self, claim):
+        """What the clauses of a public function cite."""
+        return self.function(claim).clauses
 
     def public(self):
         """The keys of all public definitions."""

@@ -1,4 +1,3 @@
-mod RunLemmas
 mod WordLemmas
 mod RowLemmas
 mod CrossingLemmas

@@ -1,7 +1,7 @@
 -- What a run answers to a caller, and its words as they cross: each ended by a byte 0.
-use Rattle.std.specs.Prelude.{◌≡◌, ◌≢◌, ℕ, Bool, List, [], ◌∷◌, ◌++◌, length, map, flat_map, All}
+use Rattle.std.specs.Prelude.{◌≡◌, ◌≢◌, ℕ, List, [], ◌∷◌, ◌++◌, length, map, flat_map, All}
 use Rattle.std.specs.Str.Lossy.{utf8_lossy}
-use Rattle.sg_reply.specs.Exit.{exit_code, IsAnswered}
+use Rattle.sg_reply.specs.Exit.{exit_code, IsReply}
 use Rattle.sg_reply.specs.declared.status.Status.{Status}
 use Rattle.sg_cli.specs.Laws.{WithAllLaws}
 use Rattle.sg_cli.specs.Served.{Served}
@@ -32,14 +32,8 @@ pub record IsUnended (bytes : List ℕ) : Type 0 where
 
 -- the text and the status that belong to the words and the input, with the four laws
 pub record Answers (words : List (List ℕ)) (input text : List ℕ) (status : Status) : Type 0 where
-  pub answered : IsAnswered status
+  pub replied : IsReply status
   pub served : WithAllLaws (λ laws. Served words laws input text status)
-
--- a text that has been written so far, with the count of failed writes and whether the last one failed
-pub record Written : Type 0 where
-  pub bytes : List ℕ
-  pub faults : ℕ
-  pub failed : Bool
 
 -- nothing is written
 pub record IsSilent (before after : List ℕ) (written whole : ℕ) : Type 0 where

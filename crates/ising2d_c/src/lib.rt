@@ -24,7 +24,6 @@
 
 mod calls;
 mod crossing;
-mod devices;
 mod graphs;
 mod judging;
 mod lattices;

@@ -1,18 +1,15 @@
 // A whole run for a caller: words and input in, a text and a status out.
-ghost use Rattle.std.specs.Prelude.{◌≡◌, [], true, map, string_bytes, IfOk};
-ghost use Rattle.sg_reply.specs.Exit.{IsAnswered};
-ghost use Rattle.ising2d_c.specs.Running.{Answers, Ends};
+ghost use Rattle.ising2d_c.specs.Running.{Ends};
 
 use super::crossing::fill;
-use super::devices::{Input, Text};
 use super::words::words_in;
-use sg_cli::{Status, run_with_all_laws};
+use sg_cli::{Status, answer_with_all_laws};
 use std::alloc::{AllocError, Global};
 
 // Where the words are not ended.
 const NO_WORDS: u8 = 7;
 
-/// Runs the words on the input, as the program does, and writes the text as far as there is room.
+/// Answers the words to the input, as the program does, and writes the text as far as there is room.
 #[unsafe(no_mangle)]
 pub extern "C" fn ising2d_c_run(
     alloc: Global,
@@ -31,37 +28,13 @@ pub extern "C" fn ising2d_c_run(
         Ok(None) => return NO_WORDS,
         Err(AllocError) => return Status::NoMemory.exit_code(),
     };
-    let mut text = Text::new(alloc);
-    match run_on(alloc, list.as_slice(), input, &mut text) {
-        Ok(status) if is_answer(status) => {
-            *written = fill(text.bytes(), out);
-            *whole = text.bytes().len();
-            status.exit_code()
+    match answer_with_all_laws(alloc, list.as_slice(), input) {
+        Ok(reply) => {
+            let text = reply.text.as_slice();
+            *written = fill(text, out);
+            *whole = text.len();
+            reply.status.exit_code()
         }
-        _ => Status::NoMemory.exit_code(),
+        Err(AllocError) => Status::NoMemory.exit_code(),
     }
-}
-
-// Whether a run that ends so has answered. Nothing else but the memory can be wanting.
-fn is_answer(status: Status) -> bool
-    ensures { result ≡ true → IsAnswered status }
-{
-    match status {
-        Status::Done | Status::Refused | Status::Usage | Status::No => true,
-        Status::ReadFault | Status::WriteFault | Status::NoMemory => false,
-    }
-}
-
-// A run on an input in memory, with the text as its sink.
-fn run_on(
-    alloc: Global,
-    words: &[String],
-    input: &[u8],
-    text: &mut Text,
-) -> Result<Status, AllocError>
-    requires { text.old.bytes ≡ [] }
-    ensures { IfOk result (λ status. IsAnswered status → Answers (map string_bytes words.now) input.now text.new.bytes status) }
-{
-    let mut source = Input::new(input);
-    run_with_all_laws(alloc, words, &mut source, text)
 }

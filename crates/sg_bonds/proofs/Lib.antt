@@ -1,6 +1,7 @@
 pub mod ForcedMinimum
 pub mod RigidProducts
 pub mod CostNumbers
+pub mod OneCost
 pub mod ClusterNames
 pub mod Agreement
 pub mod PathBounds

@@ -1,3 +1,4 @@
 pub mod WeakDuality
 pub mod Verdicts
 mod OddSpins
+pub mod OneVerdict

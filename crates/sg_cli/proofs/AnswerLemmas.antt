@@ -1,10 +1,10 @@
 -- From what the parts of a run say to what the run owes.
 use Rattle.std.proofs.Common.{◌≡◌, ℕ, List, [], Option, None, Some, refl}
-use Rattle.sg_io.specs.Devices.{Grows, Told}
+use Rattle.sg_io.specs.Devices.{Grows, AgreesWith}
 use Rattle.sg_io.specs.Writing.{GrowsByPrefix}
 use Rattle.sg_laws.specs.Named.{Law, first_named}
 use Rattle.sg_words.specs.Command.{command_of, law_word}
-use Rattle.sg_reply.specs.Exit.{IsAnswered}
+use Rattle.sg_reply.specs.Exit.{IsReply}
 use Rattle.sg_cli.specs.Promises.{AnswersInPart, AnswersSource, AnswersWhole, IsServed}
 use Rattle.sg_draws.specs.Drawn.{AnswersLaw}
 use Rattle.sg_cli.specs.Served.{usage_text}
@@ -20,7 +20,7 @@ told_or_none None = []
 told_or_none (Some bytes) = bytes
 
 -- the bytes that are told are those told
-pub told_or_none-told : (left : Option (List ℕ)) → Told left (told_or_none left)
+pub told_or_none-told : (left : Option (List ℕ)) → AgreesWith left (told_or_none left)
 told_or_none-told None = tt
 told_or_none-told (Some bytes) = refl
 
@@ -57,11 +57,11 @@ served-whole words laws left before after text status served grown = record { te
 
 -- a text of which a prefix is written is served in part
 pub served-in_part : (words : List (List ℕ)) (laws : List Law) (left before after : Option (List ℕ)) (text : List ℕ) (status : Status) →
-    IsServed words laws left text status → IsAnswered status → GrowsByPrefix text before after → AnswersInPart words laws left before after
-served-in_part words laws left before after text status served answered prefix = record {
+    IsServed words laws left text status → IsReply status → GrowsByPrefix text before after → AnswersInPart words laws left before after
+served-in_part words laws left before after text status served replied prefix = record {
   text = text;
   status = status;
-  answered = answered;
+  replied = replied;
   served = served;
   written = prefix;
 }
@@ -78,7 +78,7 @@ drawn-whole words laws drawing name left before after text sent status named sec
 pub drawn-in_part : (words : List (List ℕ)) (laws : List Law) (drawing : Drawing) (name : List ℕ) (left before after : Option (List ℕ))
     (text sent : List ℕ) (status : Status) →
     command_of words ≡ Some (Draw drawing) → name ≡ law_word words → sent ≡ text → AnswersLaw drawing (first_named name laws) text status →
-    IsAnswered status → GrowsByPrefix sent before after → AnswersInPart words laws left before after
-drawn-in_part words laws drawing name left before after text sent status named second same answers answered prefix =
-    served-in_part words laws left before after text status (drawn-served words laws drawing left text status named (rw second at answers)) answered
+    IsReply status → GrowsByPrefix sent before after → AnswersInPart words laws left before after
+drawn-in_part words laws drawing name left before after text sent status named second same answers replied prefix =
+    served-in_part words laws left before after text status (drawn-served words laws drawing left text status named (rw second at answers)) replied
     (rw same at prefix)

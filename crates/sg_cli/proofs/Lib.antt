@@ -2,3 +2,6 @@ mod TakesLemmas
 mod AnswerLemmas
 mod InputLemmas
 mod LawLemmas
+mod Settled
+mod OneText
+mod Replies

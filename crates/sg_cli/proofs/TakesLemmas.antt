@@ -3,10 +3,10 @@ use Rattle.std.proofs.Common.{◌≡◌, ℕ, ◌+◌, ◌≤◌, List, length, 
 use Rattle.sg_limits.specs.Limits.{input_limit}
 use Rattle.sg_io.specs.Devices.{Loses}
 use Rattle.sg_io.specs.Reading.{Empties}
-use Rattle.sg_cli.specs.Promises.{Takes}
+use Rattle.sg_cli.specs.Promises.{TakesInput}
 
 -- a source that was emptied within the limit gave its whole input
-pub takes-whole : (items : List ℕ) (old new : Option (List ℕ)) → Empties items old new → length items ≤ input_limit → Takes old new
+pub takes-whole : (items : List ℕ) (old new : Option (List ℕ)) → Empties items old new → length items ≤ input_limit → TakesInput old new
 takes-whole items None new spent short = record {
   untold = λ _. spent;
   whole = λ bytes told. absurd (cc);
@@ -19,7 +19,7 @@ takes-whole items (Some left) new spent short = record {
 }
 
 -- a source with more gave one byte past the limit
-pub takes-too_long : (old new : Option (List ℕ)) → Loses (input_limit + 1) old new → Takes old new
+pub takes-too_long : (old new : Option (List ℕ)) → Loses (input_limit + 1) old new → TakesInput old new
 takes-too_long None new lost = record {
   untold = λ _. lost;
   whole = λ bytes told. absurd (cc);

@@ -2,7 +2,7 @@
 use Rattle.std.specs.Prelude.{◌≡◌, ℕ, ℤ, pos, Option, List, [], ◌∷◌, codes, replicate}
 use Rattle.sg_laws.specs.Named.{Law}
 use Rattle.sg_laws.specs.Stream.{alternating, drawn, generator_of, level_of, sign_of}
-use Rattle.sg_reply.specs.Exit.{IsAnswered}
+use Rattle.sg_reply.specs.Exit.{IsReply}
 use Rattle.sg_cli.specs.Promises.{AnswersInPart, AnswersWhole}
 use Rattle.sg_reply.specs.declared.status.Status.{Status}
 use Rattle.sg_reply.specs.declared.status.Status.TheVariants.{WriteFault}
@@ -27,7 +27,7 @@ pub record AreLaws (laws : List Law) : Type 0 where
 -- what the sink has got of a run among these laws: the whole answer, or a part of one after a write fault
 pub record Sends (words : List (List ℕ)) (laws : List Law) (status : Status)
     (left before after : Option (List ℕ)) : Type 0 where
-  pub whole : IsAnswered status → AnswersWhole words laws status left before after
+  pub whole : IsReply status → AnswersWhole words laws status left before after
   pub in_part : status ≡ WriteFault → AnswersInPart words laws left before after
 
 -- this holds of the four laws

@@ -1,7 +1,7 @@
 -- What a run owes, besides its status: the promises of the top call.
 use Rattle.std.specs.Prelude.{◌≡◌, ℕ, ◌+◌, ◌<◌, ◌≤◌, Bool, Option, None, Some, List, [], length, drop}
 use Rattle.sg_limits.specs.Limits.{input_limit}
-use Rattle.sg_io.specs.Devices.{Grows, Told, next_count}
+use Rattle.sg_io.specs.Devices.{Grows, AgreesWith, next_count}
 use Rattle.sg_io.specs.Reading.{LosesAtMost}
 use Rattle.sg_io.specs.Writing.{GrowsByPrefix}
 use Rattle.sg_laws.specs.Named.{Law}
@@ -10,7 +10,7 @@ use Rattle.sg_cli.specs.Served.{AnswersInput, Served, is_reading}
 use Rattle.sg_words.specs.declared.command.Reading.{Reading}
 use Rattle.sg_cli.specs.declared.serve.Stop.{Stop}
 use Rattle.sg_cli.specs.declared.serve.Stop.TheVariants as stop
-use Rattle.sg_reply.specs.Exit.{IsAnswered}
+use Rattle.sg_reply.specs.Exit.{IsReply}
 use Rattle.sg_reply.specs.declared.status.Status.{Status}
 use Rattle.sg_reply.specs.declared.status.Status.TheVariants.{ReadFault, WriteFault, NoMemory}
 
@@ -22,7 +22,7 @@ reads words = is_reading (command_of words)
 -- answer to them
 pub record AnswersSource (reading : Reading) (left : Option (List ℕ)) (text : List ℕ) (status : Status) : Type 0 where
   pub bytes : List ℕ
-  pub told : Told left bytes
+  pub told : AgreesWith left bytes
   pub answers : AnswersInput reading bytes text status
 
 -- what the words answer among these laws: there are bytes, those that the source tells where it tells them, and this
@@ -30,7 +30,7 @@ pub record AnswersSource (reading : Reading) (left : Option (List ℕ)) (text : 
 pub record IsServed (words : List (List ℕ)) (laws : List Law) (left : Option (List ℕ)) (text : List ℕ)
     (status : Status) : Type 0 where
   pub bytes : List ℕ
-  pub told : Told left bytes
+  pub told : AgreesWith left bytes
   pub served : Served words laws bytes text status
 
 -- the sink has got exactly one text, and it is what the words answer to the input with this status
@@ -44,7 +44,7 @@ pub record AnswersWhole (words : List (List ℕ)) (laws : List Law) (status : St
 pub record AnswersInPart (words : List (List ℕ)) (laws : List Law) (left before after : Option (List ℕ)) : Type 0 where
   pub text : List ℕ
   pub status : Status
-  pub answered : IsAnswered status
+  pub replied : IsReply status
   pub served : IsServed words laws left text status
   pub written : GrowsByPrefix text before after
 
@@ -58,13 +58,13 @@ abbrev pub sink_faults : Status → ℕ → ℕ
 sink_faults WriteFault faults = next_count faults
 sink_faults _ faults = faults
 
--- the count of faults of the source where there is no reply
+-- the count of faults of the source where there is no reply: one more after a read fault
 abbrev pub stop_faults : Stop → ℕ → ℕ
 stop_faults stop.ReadFault faults = next_count faults
 stop_faults stop.NoMemory faults = faults
 
 -- a reading command has taken its whole input, or one byte more than the limit where it is longer
-pub record Takes (old new : Option (List ℕ)) : Type 0 where
+pub record TakesInput (old new : Option (List ℕ)) : Type 0 where
   pub untold : old ≡ None → new ≡ None
   pub whole : (bytes : List ℕ) → old ≡ Some bytes → length bytes ≤ input_limit → new ≡ Some []
   pub too_long : (bytes : List ℕ) → old ≡ Some bytes → input_limit < length bytes
@@ -74,4 +74,4 @@ pub record Takes (old new : Option (List ℕ)) : Type 0 where
 abbrev pub LeavesSource : Status → Option (List ℕ) → Option (List ℕ) → Type 0
 LeavesSource ReadFault old new = LosesAtMost (input_limit + 1) old new
 LeavesSource NoMemory old new = LosesAtMost (input_limit + 1) old new
-LeavesSource _ old new = Takes old new
+LeavesSource _ old new = TakesInput old new

@@ -1,7 +1,7 @@
 // What `bonds` answers.
 ghost use Rattle.std.specs.Prelude.{IfOk};
 ghost use Rattle.sg_planar.specs.Fit.{IsFit};
-ghost use Rattle.sg_reply.specs.Exit.{IsAnswered};
+ghost use Rattle.sg_reply.specs.Exit.{IsReply};
 ghost use Rattle.sg_cli.specs.Served.{PrintsCosts};
 
 use sg_bonds::costs;
@@ -14,7 +14,7 @@ use std::alloc::Global;
 pub fn bonds_reply(alloc: Global, planar: &Planar) -> Result<Reply, NoMemory>
     requires { IsFit planar.now.instance }
     ensures served { IfOk result (λ reply. PrintsCosts planar.now.instance reply.text.items reply.status) }
-    ensures answered { IfOk result (λ reply. IsAnswered reply.status) }
+    ensures replied { IfOk result (λ reply. IsReply reply.status) }
 {
     let found = costs(alloc, planar)?;
     let text = bonds_text(alloc, found.as_slice())?;

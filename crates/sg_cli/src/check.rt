@@ -2,7 +2,7 @@
 // every graph.
 ghost use Rattle.std.specs.Prelude.{◌≡◌, ◌<◌, length, IfOk};
 ghost use Rattle.sg_limits.specs.Limits.{text_limit};
-ghost use Rattle.sg_reply.specs.Exit.{IsAnswered};
+ghost use Rattle.sg_reply.specs.Exit.{IsReply};
 ghost use Rattle.sg_cli.specs.Served.{AnswersCheck, PrintsVerdict, status_by};
 
 use sg_check::{Checker, ResultText, Verdict};
@@ -16,7 +16,7 @@ use std::alloc::Global;
 pub fn check_reply(alloc: Global, bytes: &[u8]) -> Result<Reply, NoMemory>
     requires { length bytes.now < text_limit }
     ensures served { IfOk result (λ reply. AnswersCheck bytes.now reply.text.items reply.status) }
-    ensures answered { IfOk result (λ reply. IsAnswered reply.status) }
+    ensures replied { IfOk result (λ reply. IsReply reply.status) }
 {
     match read_proof(alloc, bytes) {
         Ok(proof) => verdict_reply(alloc, &proof.instance, &proof.stated),
@@ -29,7 +29,7 @@ fn verdict_reply(alloc: Global, instance: &Instance, stated: &ResultText) -> Res
     requires few_spins { length stated.now.spins < text_limit }
     requires few_loops { length stated.now.loops < text_limit }
     ensures served { IfOk result (λ reply. PrintsVerdict instance.now stated.now reply.text.items reply.status) }
-    ensures answered { IfOk result (λ reply. IsAnswered reply.status) }
+    ensures replied { IfOk result (λ reply. IsReply reply.status) }
 {
     let mut checker = Checker::open(alloc, instance)?;
     let verdict = checker.check(stated);
@@ -43,7 +43,7 @@ fn verdict_reply(alloc: Global, instance: &Instance, stated: &ResultText) -> Res
 // How a run ends by a verdict.
 fn verdict_status(verdict: Verdict) -> Status
     ensures by_verdict { result ≡ status_by verdict }
-    ensures answered { IsAnswered result }
+    ensures replied { IsReply result }
 {
     match verdict {
         Verdict::Yes => Status::Done,

@@ -1,6 +1,6 @@
 // What `energy` answers.
 ghost use Rattle.std.specs.Prelude.{IfOk};
-ghost use Rattle.sg_reply.specs.Exit.{IsAnswered};
+ghost use Rattle.sg_reply.specs.Exit.{IsReply};
 ghost use Rattle.sg_cli.specs.Served.{PrintsGroundState};
 
 use sg_ground::ground_state;
@@ -12,7 +12,7 @@ use std::alloc::Global;
 /// The least energy, and spins that have it.
 pub fn energy_reply(alloc: Global, planar: &Planar) -> Result<Reply, NoMemory>
     ensures served { IfOk result (λ reply. PrintsGroundState planar.now.instance reply.text.items reply.status) }
-    ensures answered { IfOk result (λ reply. IsAnswered reply.status) }
+    ensures replied { IfOk result (λ reply. IsReply reply.status) }
 {
     let state = ground_state(alloc, planar)?;
     let text = energy_text(alloc, state.energy, &state.spins)?;

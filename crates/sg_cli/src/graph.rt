@@ -4,7 +4,7 @@ ghost use Rattle.std.specs.Prelude.{◌≡◌, ◌<◌, length, IfOk};
 ghost use Rattle.sg_limits.specs.Limits.{text_limit};
 ghost use Rattle.sg_graph_text.specs.Network.{IsNetwork};
 ghost use Rattle.sg_cli.specs.Graphs.{AnswersTask, takes_terms};
-ghost use Rattle.sg_reply.specs.Exit.{IsAnswered};
+ghost use Rattle.sg_reply.specs.Exit.{IsReply};
 ghost use Rattle.sg_cli.specs.Served.{AnswersGraph};
 
 use super::postman::postman_reply;
@@ -18,7 +18,7 @@ use std::alloc::Global;
 pub fn graph_reply(alloc: Global, task: GraphTask, bytes: &[u8]) -> Result<Reply, NoMemory>
     requires { length bytes.now < text_limit }
     ensures served { IfOk result (λ reply. AnswersGraph task bytes.now reply.text.items reply.status) }
-    ensures answered { IfOk result (λ reply. IsAnswered reply.status) }
+    ensures replied { IfOk result (λ reply. IsReply reply.status) }
 {
     match read_network(alloc, bytes, takes_terminals(task)) {
         Ok(network) => network_reply(alloc, task, &network),
@@ -41,7 +41,7 @@ fn network_reply(alloc: Global, task: GraphTask, network: &Network) -> Result<Re
     requires { IsNetwork network.now.web network.now.terminals }
     ensures served { IfOk result (λ reply.
         AnswersTask task network.now.web network.now.terminals reply.text.items reply.status) }
-    ensures answered { IfOk result (λ reply. IsAnswered reply.status) }
+    ensures replied { IfOk result (λ reply. IsReply reply.status) }
 {
     match task {
         GraphTask::TJoin => tjoin_reply(alloc, network),

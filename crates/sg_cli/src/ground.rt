@@ -1,6 +1,6 @@
 // What `ground` answers.
 ghost use Rattle.std.specs.Prelude.{IfOk};
-ghost use Rattle.sg_reply.specs.Exit.{IsAnswered};
+ghost use Rattle.sg_reply.specs.Exit.{IsReply};
 ghost use Rattle.sg_cli.specs.Served.{PrintsGround};
 
 use sg_ground::solve;
@@ -12,7 +12,7 @@ use std::alloc::Global;
 /// The least energy, spins that have it, and a packing of frustrated loops that proves it.
 pub fn ground_reply(alloc: Global, planar: &Planar) -> Result<Reply, NoMemory>
     ensures served { IfOk result (λ reply. PrintsGround planar.now.instance reply.text.items reply.status) }
-    ensures answered { IfOk result (λ reply. IsAnswered reply.status) }
+    ensures replied { IfOk result (λ reply. IsReply reply.status) }
 {
     let answer = solve(alloc, planar)?;
     let text = ground_text(alloc, answer.energy, &answer.spins, &answer.loops)?;

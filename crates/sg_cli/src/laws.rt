@@ -3,7 +3,7 @@ ghost use Rattle.std.specs.Prelude.{◌≡◌, ◌≢◌, true, false, IsSome, I
 ghost use Rattle.sg_io.specs.Devices.{FaultShown};
 ghost use Rattle.sg_words.specs.Command.{command_of};
 ghost use Rattle.sg_cli.specs.Laws.{Sends, WithAllLaws};
-ghost use Rattle.sg_reply.specs.Exit.{IsAnswered};
+ghost use Rattle.sg_reply.specs.Exit.{IsReply};
 ghost use Rattle.sg_cli.specs.Promises.{LeavesSource, reads, sink_faults, source_faults};
 
 use super::serve::run;
@@ -44,7 +44,7 @@ pub fn run_with_all_laws<S: Source, K: Sink>(
 
     // Without a fault of a device and with memory enough, there is an answer.
     ensures completeness { IfOk result (λ status. ¬ FaultShown (S.faults source.old) (S.faults source.new) →
-        ¬ FaultShown (K.faults sink.old) (K.faults sink.new) → status ≢ Status.NoMemory → IsAnswered status) }
+        ¬ FaultShown (K.faults sink.old) (K.faults sink.new) → status ≢ Status.NoMemory → IsReply status) }
 
     // What is left of the source; a command that does not read leaves it as it was.
     ensures taken { IfOk result (λ status. reads (map string_bytes words.now) ≡ true → LeavesSource status (S.left source.old) (S.left source.new)) }

@@ -2,7 +2,7 @@
 ghost use Rattle.std.specs.Prelude.{◌≡◌, map, IfOk};
 ghost use Rattle.sg_graph_text.specs.Network.{IsNetwork};
 ghost use Rattle.sg_cli.specs.Graphs.{PrintsTour, pair_of_step};
-ghost use Rattle.sg_reply.specs.Exit.{IsAnswered};
+ghost use Rattle.sg_reply.specs.Exit.{IsReply};
 
 use sg_graph_text::Network;
 use sg_ground::cut_loops;
@@ -15,7 +15,7 @@ use std::alloc::Global;
 pub fn postman_reply(alloc: Global, network: &Network) -> Result<Reply, NoMemory>
     requires { IsNetwork network.now.web network.now.terminals }
     ensures served { IfOk result (λ reply. PrintsTour network.now.web reply.text.items reply.status) }
-    ensures answered { IfOk result (λ reply. IsAnswered reply.status) }
+    ensures replied { IfOk result (λ reply. IsReply reply.status) }
 {
     let TourAnswer {
         weight,

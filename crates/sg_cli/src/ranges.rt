@@ -1,7 +1,7 @@
 // What `ranges` answers.
 ghost use Rattle.std.specs.Prelude.{◌≡◌, map, IfOk};
 ghost use Rattle.sg_planar.specs.Fit.{IsFit};
-ghost use Rattle.sg_reply.specs.Exit.{IsAnswered};
+ghost use Rattle.sg_reply.specs.Exit.{IsReply};
 ghost use Rattle.sg_cli.specs.Served.{PrintsTurns};
 
 use sg_model::Bond;
@@ -15,7 +15,7 @@ use std::alloc::Global;
 pub fn ranges_reply(alloc: Global, planar: &Planar) -> Result<Reply, NoMemory>
     requires { IsFit planar.now.instance }
     ensures served { IfOk result (λ reply. PrintsTurns planar.now.instance reply.text.items reply.status) }
-    ensures answered { IfOk result (λ reply. IsAnswered reply.status) }
+    ensures replied { IfOk result (λ reply. IsReply reply.status) }
 {
     let found = turns(alloc, planar)?;
     let couplings = couplings(alloc, planar.instance().bonds().as_slice())?;

@@ -1,7 +1,7 @@
 // What `report` answers.
 ghost use Rattle.std.specs.Prelude.{IfOk};
 ghost use Rattle.sg_planar.specs.Fit.{IsFit};
-ghost use Rattle.sg_reply.specs.Exit.{IsAnswered};
+ghost use Rattle.sg_reply.specs.Exit.{IsReply};
 ghost use Rattle.sg_cli.specs.Served.{IsSeamWall, PrintsReport};
 
 use sg_bonds::{clusters_by, costs};
@@ -16,7 +16,7 @@ use std::alloc::Global;
 pub fn report_reply(alloc: Global, planar: &Planar) -> Result<Reply, NoMemory>
     requires { IsFit planar.now.instance }
     ensures served { IfOk result (λ reply. PrintsReport planar.now.instance reply.text.items reply.status) }
-    ensures answered { IfOk result (λ reply. IsAnswered reply.status) }
+    ensures replied { IfOk result (λ reply. IsReply reply.status) }
 {
     let instance = planar.instance();
     let answer = solve(alloc, planar)?;

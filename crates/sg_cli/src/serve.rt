@@ -1,16 +1,13 @@
-ghost use Rattle.std.specs.Prelude.{◌≡◌, ◌≢◌, ◌⊎◌, ◌↔◌, ◌+◌, ◌<◌, true, false, length, IsSome, IfOk, IfErr, OnOk, OnErr, map, string_bytes};
-ghost use Rattle.sg_limits.specs.Limits.{input_limit, text_limit};
+ghost use Rattle.std.specs.Prelude.{◌≡◌, ◌≢◌, ◌⊎◌, ◌↔◌, ◌+◌, true, false, IsSome, IfOk, IfErr, OnOk, OnErr, map, string_bytes};
+ghost use Rattle.sg_limits.specs.Limits.{input_limit};
 ghost use Rattle.sg_io.specs.Devices.{FaultShown, Grows};
 ghost use Rattle.sg_io.specs.Reading.{LosesAtMost};
 ghost use Rattle.sg_io.specs.Writing.{GrowsByPrefix};
 ghost use Rattle.sg_words.specs.Command.{command_of};
-ghost use Rattle.sg_cli.specs.Served.{AnswersText};
-ghost use Rattle.sg_reply.specs.Exit.{IsAnswered};
-ghost use Rattle.sg_cli.specs.Promises.{AnswersInPart, AnswersSource, AnswersWhole, LeavesSource, reads, sink_faults, source_faults, stop_faults, Takes};
+ghost use Rattle.sg_reply.specs.Exit.{IsReply};
+ghost use Rattle.sg_cli.specs.Promises.{AnswersInPart, AnswersSource, AnswersWhole, LeavesSource, reads, sink_faults, source_faults, stop_faults, TakesInput};
 
-use super::check::check_reply;
-use super::graph::graph_reply;
-use super::study::study_reply;
+use super::answering::input_reply;
 use sg_draws::draw_reply;
 use sg_io::{ReadEnd, Sink, Source, WriteFault, put, read_all};
 use sg_laws::Disorder;
@@ -35,7 +32,7 @@ pub fn run<S: Source, K: Sink>(
 ) -> Status
     // The sink has grown by exactly a text that the words answer to the input with this status.
     ensures answer { let known = map (λ law. record { title = title law; stream = seeded law }) laws.items in
-        IsAnswered result →
+        IsReply result →
         AnswersWhole (map string_bytes words.now) known result (S.left source.old) (K.written sink.old) (K.written sink.new) }
 
     // After a read fault the last read failed, and nothing is written.
@@ -56,7 +53,7 @@ pub fn run<S: Source, K: Sink>(
 
     // Without a fault of a device and with memory enough, there is an answer.
     ensures completeness { ¬ FaultShown (S.faults source.old) (S.faults source.new) →
-        ¬ FaultShown (K.faults sink.old) (K.faults sink.new) → result ≢ Status.NoMemory → IsAnswered result }
+        ¬ FaultShown (K.faults sink.old) (K.faults sink.new) → result ≢ Status.NoMemory → IsReply result }
 
     // What is left of the source; a command that does not read leaves it as it was.
     ensures taken { reads (map string_bytes words.now) ≡ true → LeavesSource result (S.left source.old) (S.left source.new) }
@@ -108,15 +105,15 @@ impl From<AllocError> for Stop {
 /// Reads the source to its end, and answers what was read.
 fn serve<S: Source>(alloc: Global, reading: Reading, source: &mut S) -> Result<Reply, Stop>
     ensures served { IfOk result (λ reply. AnswersSource reading (S.left source.old) reply.text.items reply.status) }
-    ensures answered { IfOk result (λ reply. IsAnswered reply.status) }
-    ensures taken { OnOk result (Takes (S.left source.old) (S.left source.new)) }
+    ensures replied { IfOk result (λ reply. IsReply reply.status) }
+    ensures taken { OnOk result (TakesInput (S.left source.old) (S.left source.new)) }
     ensures stopped { OnErr result (LosesAtMost (input_limit + 1) (S.left source.old) (S.left source.new)) }
     ensures faultless { OnOk result (S.faults source.new ≡ S.faults source.old) }
     ensures fault { IfErr result (λ stop. S.faults source.new ≡ stop_faults stop (S.faults source.old)) }
     ensures last { result ≡ Err Stop.ReadFault → S.failed source.new ≡ true }
 {
     match read_all(alloc, source, INPUT_LIMIT) {
-        Ok(bytes) => Ok(text_reply(alloc, reading, bytes.as_slice())?),
+        Ok(bytes) => Ok(input_reply(alloc, reading, bytes.as_slice())?),
         Err(ReadEnd::TooLong) => Ok(refuse(
             alloc,
             &Refusal::TooLong {
@@ -128,26 +125,13 @@ fn serve<S: Source>(alloc: Global, reading: Reading, source: &mut S) -> Result<R
     }
 }
 
-/// What a command that reads answers to a text within the limit of bytes.
-fn text_reply(alloc: Global, reading: Reading, bytes: &[u8]) -> Result<Reply, NoMemory>
-    requires { length bytes.now < text_limit }
-    ensures served { IfOk result (λ reply. AnswersText reading bytes.now reply.text.items reply.status) }
-    ensures answered { IfOk result (λ reply. IsAnswered reply.status) }
-{
-    match reading {
-        Reading::Study(study) => study_reply(alloc, study, bytes),
-        Reading::Check => check_reply(alloc, bytes),
-        Reading::Graph(task) => graph_reply(alloc, task, bytes),
-    }
-}
-
 /// Writes a whole text, and ends with the status, or with the fault of the sink in its place.
 fn send<K: Sink>(sink: &mut K, text: &[u8], status: Status) -> Status
-    requires { IsAnswered status }
-    ensures sent { IsAnswered result → (result ≡ status) × Grows text.now (K.written sink.old) (K.written sink.new) }
+    requires { IsReply status }
+    ensures sent { IsReply result → (result ≡ status) × Grows text.now (K.written sink.old) (K.written sink.new) }
     ensures fault { result ≡ Status.WriteFault → (K.failed sink.new ≡ true) × GrowsByPrefix text.now (K.written sink.old) (K.written sink.new) }
     ensures faults { K.faults sink.new ≡ sink_faults result (K.faults sink.old) }
-    ensures ends { IsAnswered result ⊎ (result ≡ Status.WriteFault) }
+    ensures ends { IsReply result ⊎ (result ≡ Status.WriteFault) }
 {
     match put(sink, text) {
         Ok(()) => status,

@@ -2,7 +2,7 @@
 ghost use Rattle.std.specs.Prelude.{◌<◌, length, IfOk};
 ghost use Rattle.sg_limits.specs.Limits.{text_limit};
 ghost use Rattle.sg_planar.specs.Fit.{IsFit};
-ghost use Rattle.sg_reply.specs.Exit.{IsAnswered};
+ghost use Rattle.sg_reply.specs.Exit.{IsReply};
 ghost use Rattle.sg_cli.specs.Served.{AnswersFit, AnswersStudy};
 
 use super::bonds::bonds_reply;
@@ -23,7 +23,7 @@ use std::alloc::Global;
 pub fn study_reply(alloc: Global, study: Study, bytes: &[u8]) -> Result<Reply, NoMemory>
     requires { length bytes.now < text_limit }
     ensures served { IfOk result (λ reply. AnswersStudy study bytes.now reply.text.items reply.status) }
-    ensures answered { IfOk result (λ reply. IsAnswered reply.status) }
+    ensures replied { IfOk result (λ reply. IsReply reply.status) }
 {
     match read_planar(alloc, bytes) {
         Ok(planar) => fit_reply(alloc, study, &planar),
@@ -35,7 +35,7 @@ pub fn study_reply(alloc: Global, study: Study, bytes: &[u8]) -> Result<Reply, N
 fn fit_reply(alloc: Global, study: Study, planar: &Planar) -> Result<Reply, NoMemory>
     requires { IsFit planar.now.instance }
     ensures served { IfOk result (λ reply. AnswersFit study planar.now.instance reply.text.items reply.status) }
-    ensures answered { IfOk result (λ reply. IsAnswered reply.status) }
+    ensures replied { IfOk result (λ reply. IsReply reply.status) }
 {
     match study {
         Study::Energy => energy_reply(alloc, planar),

@@ -2,7 +2,7 @@
 ghost use Rattle.std.specs.Prelude.{IfOk};
 ghost use Rattle.sg_graph_text.specs.Network.{IsNetwork};
 ghost use Rattle.sg_cli.specs.Graphs.{PrintsJoin};
-ghost use Rattle.sg_reply.specs.Exit.{IsAnswered};
+ghost use Rattle.sg_reply.specs.Exit.{IsReply};
 
 use sg_graph_text::Network;
 use sg_ground::cut_loops;
@@ -16,7 +16,7 @@ pub fn tjoin_reply(alloc: Global, network: &Network) -> Result<Reply, NoMemory>
     requires { IsNetwork network.now.web network.now.terminals }
     ensures served { IfOk result (λ reply.
         PrintsJoin network.now.web network.now.terminals reply.text.items reply.status) }
-    ensures answered { IfOk result (λ reply. IsAnswered reply.status) }
+    ensures replied { IfOk result (λ reply. IsReply reply.status) }
 {
     let Join {
         edges,

@@ -5,6 +5,7 @@ use Rattle.std.specs.Option.{option_or}
 use Rattle.std.specs.Result.{IfOk}
 use Rattle.std.proofs.lemmas.Bool.{eq-eqb, false≢true, ltb-true}
 use Rattle.std.proofs.lemmas.List.Elements.{All-from_get_or, All-get_or}
+use Rattle.std.proofs.lemmas.Option.{none-some}
 use Rattle.sg_model.specs.declared.bond.Bond.{Bond}
 use Rattle.sg_model.specs.declared.refusal.Fault.{Fault}
 use Rattle.sg_model.specs.declared.refusal.Fault.TheVariants.{Refused, NoMemory}
@@ -16,6 +17,7 @@ use Rattle.sg_draft.specs.declared.read.Read.TheVariants.{Known}
 use Rattle.sg_draft.specs.Reads.{counted, unless, value_or, wrong_entry}
 use Rattle.sg_draft.specs.Bonds.{IsAmong, is_among, is_self_bond, listed_bond, self_fault}
 use Rattle.sg_draft.specs.Draft.{GeneralDraft, IsFirstFault, OfGeneral, draft_fault, general_draft_fault}
+use Rattle.sg_draft.specs.Tests.{refuse_if}
 use Rattle.sg_draft.proofs.Finds.{find_range-all, none-mapped}
 
 -- what is told of a member that is read
@@ -45,6 +47,16 @@ fails-first test rest x bad = rw bad refl
 -- behind a test that passes the last one counts
 pub last-test : (test last : Option Refusal) → test ≡ None → option_or test (option_or last None) ≡ last
 last-test test last pass = rw pass (one-test last)
+
+-- of two tests that pass together each passes
+pub first-none : (test rest : Option Refusal) → option_or test rest ≡ None → (test ≡ None) × (rest ≡ None)
+first-none None rest h = (refl, h)
+first-none (Some x) rest h = absurd (none-some x (sym h))
+
+-- a test that passes is one whose condition is false
+pub passed-if : (b : Bool) (x : Refusal) → refuse_if b x ≡ None → b ≡ false
+passed-if true x h = absurd (none-some x (sym h))
+passed-if false x h = refl
 
 -- the tests of a general instance: those of its numbers and lists, and then that of each bond
 module _ (most : Limits) (d : GeneralDraft) where

@@ -1,3 +1,4 @@
 pub mod Finds
 pub mod Drafts
 pub mod Stages
+pub mod OneDraft

@@ -17,6 +17,7 @@
 mod building;
 mod checking;
 mod entries;
+mod law;
 mod limits;
 mod member;
 mod numbers;
@@ -25,6 +26,7 @@ mod read;
 pub use building::{build_general, build_lattice};
 pub use checking::{check_general, check_lattice};
 pub use entries::{check_entry, check_list, is_among, is_coupling};
+pub use law::drafts_have_one_answer;
 pub use limits::Limits;
 pub use member::{Member, bad_entry, bad_member};
 pub use numbers::{

@@ -1,2 +1,3 @@
 mod WidthByWidth
 mod Samples
+pub mod OneReply

@@ -61,12 +61,13 @@ pub record PrintsEnsemble (size : Size) (count : ℕ) (stream : ℕ → List ℤ
   pub printed : text ≡ ensemble_text walls (total walls) (total_of_squares walls)
   pub done : status ≡ Done
 
--- an ensemble is refused as its first sample where that is not fit
+-- an ensemble is refused as its first sample where that is not fit, and else its walls are found
 pub data AnswersEnsemble (size : Size) (count : ℕ) (stream : ℕ → List ℤ) (text : List ℕ)
     (status : Status) : Type 0 where
   EnsembleUnfit : (refusal : Refusal) → IsUnfit (drawn_lattice Cylinder size stream) refusal
       → IsRefused refusal text status → AnswersEnsemble size count stream text status
-  EnsembleFound : PrintsEnsemble size count stream text status → AnswersEnsemble size count stream text status
+  EnsembleFound : IsFit (drawn_lattice Cylinder size stream) → PrintsEnsemble size count stream text status
+      → AnswersEnsemble size count stream text status
 
 -- the sums over the ensembles of 3 columns and more, up to those of the size
 pub record PrintsWidths (size : Size) (count : ℕ) (stream : ℕ → List ℤ) (text : List ℕ)
@@ -79,6 +80,11 @@ pub record PrintsWidths (size : Size) (count : ℕ) (stream : ℕ → List ℤ) 
 -- so many rows of the size, with other columns
 abbrev pub with_cols : Size → ℕ → Size
 with_cols size cols = record { rows = size.rows; cols = cols }
+
+-- the first sample of each width is fit, from 3 columns to those of the size
+abbrev pub AreFitWidths : Size → (ℕ → List ℤ) → Type 0
+AreFitWidths size stream =
+    (c : ℕ) → 3 ≤ c → c ≤ size.cols → IsFit (drawn_lattice Cylinder (with_cols size c) stream)
 
 -- the first sample is fit for each width from 3 columns to fewer than these, and refused for these
 pub record IsUnfitWidth (size : Size) (stream : ℕ → List ℤ) (refusal : Refusal) : Type 0 where
@@ -93,11 +99,13 @@ abbrev pub IsWidthFault : Size → (ℕ → List ℤ) → Fault → Type 0
 IsWidthFault size stream (fault.Refused refusal) = IsUnfitWidth size stream refusal
 IsWidthFault size stream fault.NoMemory = ⊤
 
--- a study over widths is refused as the first sample of the least width where that is not fit
+-- a study over widths is refused as the first sample of the least width where that is not fit, and where all these
+-- samples are fit the sums are found
 pub data AnswersWidths (size : Size) (count : ℕ) (stream : ℕ → List ℤ) (text : List ℕ) (status : Status) : Type 0 where
   WidthUnfit : (refusal : Refusal) → IsUnfitWidth size stream refusal → IsRefused refusal text status
       → AnswersWidths size count stream text status
-  WidthsFound : PrintsWidths size count stream text status → AnswersWidths size count stream text status
+  WidthsFound : AreFitWidths size stream → PrintsWidths size count stream text status
+      → AnswersWidths size count stream text status
 
 -- what a command answers that draws, where its law has these draws after each seed
 abbrev pub AnswersDraws : Drawing → (ℕ → ℕ → List ℤ) → List ℕ → Status → Type 0

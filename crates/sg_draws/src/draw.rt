@@ -3,7 +3,7 @@
 ghost use Rattle.std.specs.Prelude.{map, IfOk};
 ghost use Rattle.sg_laws.specs.Named.{first_named};
 ghost use Rattle.sg_words.specs.Command.{IsAllowedDrawing};
-ghost use Rattle.sg_reply.specs.Exit.{IsAnswered};
+ghost use Rattle.sg_reply.specs.Exit.{IsReply};
 ghost use Rattle.sg_draws.specs.Drawn.{AnswersDraws, AnswersLaw};
 
 use super::ensemble::ensemble_reply;
@@ -26,7 +26,7 @@ pub fn draw_reply(
     requires { IsAllowedDrawing drawing }
     ensures served { let known = map (λ law. record { title = title law; stream = seeded law }) laws.items in
         IfOk result (λ reply. AnswersLaw drawing (first_named name.now known) reply.text.items reply.status) }
-    ensures answered { IfOk result (λ reply. IsAnswered reply.status) }
+    ensures replied { IfOk result (λ reply. IsReply reply.status) }
 {
     match named(laws, name) {
         Some(law) => {
@@ -45,7 +45,7 @@ fn law_reply(
 ) -> Result<Reply, NoMemory>
     requires { IsAllowedDrawing drawing }
     ensures served { IfOk result (λ reply. AnswersDraws drawing (seeded law.old) reply.text.items reply.status) }
-    ensures answered { IfOk result (λ reply. IsAnswered reply.status) }
+    ensures replied { IfOk result (λ reply. IsReply reply.status) }
 {
     match drawing {
         Drawing::Gen { seed, kind, size } => gen_reply(alloc, law, seed, kind, size),

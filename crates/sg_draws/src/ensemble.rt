@@ -4,7 +4,7 @@ ghost use Rattle.sg_lattice.specs.declared.kind.Kind.TheVariants.{Cylinder};
 ghost use Rattle.sg_ensemble.specs.Samples.{IsCylinder};
 ghost use Rattle.sg_words.specs.Command.{IsAllowedSize};
 ghost use Rattle.sg_limits.specs.Limits.{sample_limit};
-ghost use Rattle.sg_reply.specs.Exit.{IsAnswered};
+ghost use Rattle.sg_reply.specs.Exit.{IsReply};
 ghost use Rattle.sg_draws.specs.Drawn.{AnswersEnsemble, PrintsEnsemble};
 
 use super::drawn::drawn_planar;
@@ -31,7 +31,7 @@ pub fn ensemble_reply(
     requires few { count ≤ sample_limit }
     ensures served { IfOk result (λ reply.
         AnswersEnsemble size count (seeded law.old seed) reply.text.items reply.status) }
-    ensures answered { IfOk result (λ reply. IsAnswered reply.status) }
+    ensures replied { IfOk result (λ reply. IsReply reply.status) }
 {
     match drawn_planar(alloc, law, seed, Kind::Cylinder, size) {
         Ok(first) => walls_reply(alloc, law, seed, first, size, count),
@@ -54,7 +54,7 @@ fn walls_reply(
     requires few { count ≤ sample_limit }
     ensures served { IfOk result (λ reply.
         PrintsEnsemble size count (seeded law.old seed) reply.text.items reply.status) }
-    ensures answered { IfOk result (λ reply. IsAnswered reply.status) }
+    ensures replied { IfOk result (λ reply. IsReply reply.status) }
 {
     start(law, seed);
     let found = ensemble_on(alloc, law, drawing, size.rows, size.cols, count)?;

@@ -1,7 +1,7 @@
 // What `gen` answers.
 ghost use Rattle.std.specs.Prelude.{IfOk};
 ghost use Rattle.sg_words.specs.Command.{IsAllowedSize};
-ghost use Rattle.sg_reply.specs.Exit.{IsAnswered};
+ghost use Rattle.sg_reply.specs.Exit.{IsReply};
 ghost use Rattle.sg_draws.specs.Drawn.{PrintsLattice, drawn_couplings};
 
 use super::drawn::couplings;
@@ -23,7 +23,7 @@ pub fn gen_reply(
     requires { IsAllowedSize kind size }
     ensures served { IfOk result (λ reply.
         PrintsLattice kind size (drawn_couplings kind size (seeded law.old seed)) reply.text.items reply.status) }
-    ensures answered { IfOk result (λ reply. IsAnswered reply.status) }
+    ensures replied { IfOk result (λ reply. IsReply reply.status) }
 {
     let j = couplings(alloc, law, seed, kind, size)?;
     let text = instance_text(alloc, kind, size.rows, size.cols, &j)?;

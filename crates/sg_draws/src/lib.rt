@@ -5,6 +5,9 @@
 //! least energy, or the domain walls of many cylinders from its draws. A name that no law has is refused,
 //! and so is a first sample that is not fit.
 //!
+//! [`drawings_have_one_reply`] is a law: the draws settle the whole reply, also which of a refusal and an
+//! answer it is.
+//!
 //! For the next engineer: what is answered stands in `specs/Drawn.antt`, a case for each command, and each
 //! command has a file of its own. The law is started anew by its seed wherever draws are made, so that the
 //! first sample, which is tested, is the drawing of all others.
@@ -14,8 +17,10 @@ mod draw;
 mod drawn;
 mod ensemble;
 mod generate;
+mod law;
 mod sample;
 mod widths;
 
 pub use draw::draw_reply;
+pub use law::drawings_have_one_reply;
 pub use sg_reply::NoMemory;

@@ -3,7 +3,7 @@ ghost use Rattle.std.specs.Prelude.{IfOk};
 ghost use Rattle.sg_lattice.specs.declared.kind.Kind.TheVariants.{Square};
 ghost use Rattle.sg_planar.specs.Fit.{IsFit};
 ghost use Rattle.sg_words.specs.Command.{IsAllowedSize};
-ghost use Rattle.sg_reply.specs.Exit.{IsAnswered};
+ghost use Rattle.sg_reply.specs.Exit.{IsReply};
 ghost use Rattle.sg_draws.specs.Drawn.{AnswersSample, PrintsSample, drawn_lattice};
 
 use super::drawn::drawn_planar;
@@ -27,7 +27,7 @@ pub fn sample_reply(
     requires { IsAllowedSize Square size }
     ensures served { IfOk result (λ reply.
         AnswersSample (drawn_lattice Square size (seeded law.old seed)) reply.text.items reply.status) }
-    ensures answered { IfOk result (λ reply. IsAnswered reply.status) }
+    ensures replied { IfOk result (λ reply. IsReply reply.status) }
 {
     match drawn_planar(alloc, law, seed, Kind::Square, size) {
         Ok(planar) => summary_reply(alloc, &planar),
@@ -39,7 +39,7 @@ pub fn sample_reply(
 fn summary_reply(alloc: Global, planar: &Planar) -> Result<Reply, NoMemory>
     requires { IsFit planar.now.instance }
     ensures served { IfOk result (λ reply. PrintsSample planar.now.instance reply.text.items reply.status) }
-    ensures answered { IfOk result (λ reply. IsAnswered reply.status) }
+    ensures replied { IfOk result (λ reply. IsReply reply.status) }
 {
     let instance = planar.instance();
     let energy = least_energy(alloc, planar)?;

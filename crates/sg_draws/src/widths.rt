@@ -6,8 +6,8 @@ ghost use Rattle.sg_ensemble.specs.Widths.{AreWidths, IsWidth};
 ghost use Rattle.sg_report.specs.Ensembles.{widths_text as widths_bytes};
 ghost use Rattle.sg_words.specs.Command.{IsAllowedSize};
 ghost use Rattle.sg_limits.specs.Limits.{width_limit, sample_limit};
-ghost use Rattle.sg_reply.specs.Exit.{IsAnswered};
-ghost use Rattle.sg_draws.specs.Drawn.{AnswersWidths, IsWidthFault, drawn_lattice};
+ghost use Rattle.sg_reply.specs.Exit.{IsReply};
+ghost use Rattle.sg_draws.specs.Drawn.{AnswersWidths, AreFitWidths, IsWidthFault, drawn_lattice};
 ghost use Rattle.sg_reply.specs.declared.status.Status.TheVariants.{Done as IsDone};
 ghost use Rattle.sg_model.specs.Faults.{OrNoMemory};
 
@@ -36,7 +36,7 @@ pub fn widths_reply(
     requires few { count ≤ sample_limit }
     ensures served { IfOk result (λ reply.
         AnswersWidths size count (seeded law.old seed) reply.text.items reply.status) }
-    ensures answered { IfOk result (λ reply. IsAnswered reply.status) }
+    ensures replied { IfOk result (λ reply. IsReply reply.status) }
 {
     match sums(alloc, law, seed, size, count) {
         Ok(found) => sums_reply(alloc, found.as_slice()),
@@ -56,6 +56,7 @@ fn sums(
     requires narrow { size.cols ≤ width_limit }
     requires some { 1 ≤ count }
     requires few { count ≤ sample_limit }
+    ensures fit { OnOk result (AreFitWidths size (seeded law.old seed)) }
     ensures widths { IfOk result (AreWidths size.rows count (seeded law.old seed) (size.cols - 2)) }
     ensures unfit { IfErr result (IsWidthFault size (seeded law.old seed)) }
 {
@@ -100,7 +101,7 @@ fn sums_reply(alloc: Global, widths: &[Width]) -> Result<Reply, NoMemory>
     ensures printed { IfOk result (λ reply. reply.text.items
         ≡ widths_bytes (map (λ w. w.cols) widths.now) (map (λ w. w.sum) widths.now) (map (λ w. w.squares) widths.now)) }
     ensures done { IfOk result (λ reply. reply.status ≡ IsDone) }
-    ensures answered { IfOk result (λ reply. IsAnswered reply.status) }
+    ensures replied { IfOk result (λ reply. IsReply reply.status) }
 {
     let text = text_of(alloc, widths)?;
     Ok(done(text))

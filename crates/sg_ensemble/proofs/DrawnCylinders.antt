@@ -11,7 +11,6 @@ use Rattle.sg_model.specs.declared.bond.Bond.{Bond}
 use Rattle.sg_model.specs.declared.refusal.Fault.{Fault}
 use Rattle.sg_model.specs.declared.refusal.Fault.TheVariants.{Refused}
 use Rattle.sg_model.specs.declared.refusal.Refusal.{Refusal}
-use Rattle.sg_model.specs.declared.refusal.Refusal.TheVariants.{SumTooLarge, NotPlanar}
 use Rattle.sg_model.specs.Ising.{Ising, bond_at, bond_count}
 use Rattle.sg_model.specs.Energy.{weight}
 use Rattle.sg_model.specs.Changes.{HasSameEnds, with_seam_flipped}
@@ -23,7 +22,8 @@ use Rattle.sg_laws.specs.Stream.{IsDraw}
 use Rattle.sg_lattice.specs.declared.kind.Kind.TheVariants.{Cylinder}
 use Rattle.sg_lattice.specs.Tables.{IsSize, bond_total, coupled_bond, bond_ends, ends_of, lattice}
 use Rattle.sg_lattice.proofs.LatticeBonds.{bond_count_is, bond_is, length-ends_of}
-use Rattle.sg_faces.proofs.SameFaces.{is_euler_same, one_euler}
+use Rattle.sg_faces.proofs.SameFaces.{is_euler_same}
+use Rattle.sg_planar.proofs.OneFitness.{fit_not_unfit}
 use Rattle.sg_planar.proofs.OtherCouplings.{weight_flipped}
 use Rattle.sg_wall.specs.Wall.{IsWall}
 use Rattle.sg_planar.specs.Fit.{IsFit, IsUnfit}
@@ -107,13 +107,7 @@ module _ (rows cols : ℕ) (size : IsStudied rows cols) (j : List ℤ) (count : 
         (pos 2) h.genus_zero;
   }
 
--- an instance that is fit is not unfit
-fit_not_unfit : (inst : Ising) → IsFit inst → (refusal : Refusal) → IsUnfit inst refusal → ⊥
-fit_not_unfit inst h (SumTooLarge sum) u = omega (arith, h.small, u.0)
-fit_not_unfit inst h (NotPlanar e) u = u.2 (one_euler inst e (pos 2) u.1 h.genus_zero)
-fit_not_unfit inst h _ u = u
-
--- so it is not refused
+-- an instance that is fit is not refused
 pub fit_not_refused : (inst : Ising) → IsFit inst → (fault : Fault) (refusal : Refusal) → fault ≡ Refused refusal → OrNoMemory (IsUnfit inst) fault → ⊥
 fit_not_refused inst h fault refusal e unfit = fit_not_unfit inst h refusal (subst (OrNoMemory (IsUnfit inst)) e unfit)
 

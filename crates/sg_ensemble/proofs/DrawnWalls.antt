@@ -8,7 +8,7 @@ use Rattle.sg_laws.proofs.Streams.{all_found, all_made, made_on, made_same, none
 use Rattle.sg_lattice.specs.declared.kind.Kind.TheVariants.{Cylinder}
 use Rattle.sg_lattice.specs.Tables.{lattice}
 use Rattle.sg_laws.specs.Stream.{Draws}
-use Rattle.sg_ensemble.specs.Samples.{AreWalls, DrawsSamples, HasWall, draw_count}
+use Rattle.sg_ensemble.specs.Samples.{AreWalls, DrawsSamples, IsFitWithWall, draw_count}
 
 -- a slice of the front part is that of the whole
 front_slice : (xs ys : List ℤ) (a m : ℕ) → a + m ≤ length xs → take m (drop a (xs ++ ys)) ≡ take m (drop a xs)
@@ -47,7 +47,7 @@ pub record IsDrawn (rows cols count : ℕ) (old new : ℕ → List ℤ) (walls :
 pub one_drawn : (rows cols count : ℕ) (old mid new : ℕ → List ℤ) (walls : List ℤ) (wall : ℤ) → IsDrawn rows cols count old mid walls
     → length (mid (draw_count rows cols)) ≡ draw_count rows cols
     → ((c : ℕ) → mid (draw_count rows cols + c) ≡ mid (draw_count rows cols) ++ new c)
-    → HasWall (lattice Cylinder rows cols (mid (draw_count rows cols))) wall → IsDrawn rows cols (count + 1) old new (walls ++ wall ∷ [])
+    → IsFitWithWall (lattice Cylinder rows cols (mid (draw_count rows cols))) wall → IsDrawn rows cols (count + 1) old new (walls ++ wall ∷ [])
 one_drawn rows cols count old mid new walls wall h long rest here = record {
   draws = h.draws ++ mid (draw_count rows cols);
   drawn = longer (draw_count rows cols) (length (h.draws ++ mid (draw_count rows cols))) (length h.draws) (length (mid (draw_count rows cols)))
@@ -57,7 +57,7 @@ one_drawn rows cols count old mid new walls wall h long rest here = record {
       ∙ sym (append_assoc h.draws (mid (draw_count rows cols)) (new c));
   are = record {
     counted = length_push walls wall ∙ ap (λ n. n + 1) h.are.counted;
-    each = each_more (λ xs d. HasWall (lattice Cylinder rows cols xs) d) (draw_count rows cols) count h.draws
+    each = each_more (λ xs d. IsFitWithWall (lattice Cylinder rows cols xs) d) (draw_count rows cols) count h.draws
         (mid (draw_count rows cols)) walls wall h.drawn long
         h.are.counted h.are.each here;
   };

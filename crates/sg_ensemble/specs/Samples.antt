@@ -44,7 +44,7 @@ pub record DrawsSamples (rows cols most : ℕ) (old new : ℕ → List ℤ) : Ty
   pub drawn : Draws (samples * draw_count rows cols) old new
 
 -- the instance is fit for a planar solver, and this is the energy of the domain wall at its seam
-pub record HasWall (inst : Ising) (difference : ℤ) : Type 0 where
+pub record IsFitWithWall (inst : Ising) (difference : ℤ) : Type 0 where
   pub fit : IsFit inst
   pub periodic : ℤ
   pub antiperiodic : ℤ
@@ -53,11 +53,12 @@ pub record HasWall (inst : Ising) (difference : ℤ) : Type 0 where
 -- the wall energies of the first `count` samples of a stream, in their order
 pub record AreWalls (rows cols count : ℕ) (draws walls : List ℤ) : Type 0 where
   pub counted : length walls ≡ count
-  pub each : (i : ℕ) → i < count → HasWall (sample_at rows cols draws i) (slice_index_or walls i (pos 0))
+  pub each : (i : ℕ) → i < count → IsFitWithWall (sample_at rows cols draws i) (slice_index_or walls i (pos 0))
 
--- the sum of numbers, and the sum of their squares
+-- the sum of numbers
 abbrev pub total : List ℤ → ℤ
 total numbers = fold (λ t x. t +ℤ x) (pos 0) numbers
 
+-- the sum of the squares of numbers
 abbrev pub total_of_squares : List ℤ → ℤ
 total_of_squares numbers = fold (λ t x. t +ℤ (x *ℤ x)) (pos 0) numbers

@@ -5,7 +5,7 @@ ghost use Rattle.sg_model.specs.Energy.{weight};
 ghost use Rattle.sg_laws.specs.Stream.{Draws, IsDraw};
 ghost use Rattle.sg_lattice.specs.declared.kind.Kind.TheVariants.{Cylinder};
 ghost use Rattle.sg_lattice.specs.Tables.{lattice};
-ghost use Rattle.sg_ensemble.specs.Samples.{DrawsSamples, HasWall, IsCylinder, IsSpherical, IsStudied, draw_count};
+ghost use Rattle.sg_ensemble.specs.Samples.{DrawsSamples, IsFitWithWall, IsCylinder, IsSpherical, IsStudied, draw_count};
 
 use super::NoMemory;
 use sg_lattice::{Kind, bond_count, build};
@@ -87,7 +87,7 @@ pub fn know_counts(law: &Box<dyn Disorder>)
 /// The energy of the domain wall of an instance of a small sum.
 pub fn seam_wall(alloc: Global, planar: &Planar) -> Result<i64, NoMemory>
     requires { weight planar.now.instance ≤ 2 ^ 32 }
-    ensures wall { IfOk result (λ d. HasWall planar.now.instance d) }
+    ensures wall { IfOk result (λ d. IsFitWithWall planar.now.instance d) }
     ensures size { IfOk result (λ d. unsigned_abs d ≤ 2 ^ 33) }
 {
     let _instance = planar.instance();

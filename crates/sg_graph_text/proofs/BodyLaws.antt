@@ -12,9 +12,9 @@ use Rattle.sg_graph.specs.declared.web.Edge.{Edge}
 use Rattle.sg_graph.specs.Web.{IsEdge}
 use Rattle.sg_reader.specs.Kept.{Kept}
 use Rattle.sg_draft.specs.Tests.{Refuses}
-use Rattle.sg_reader.specs.Body.{once_fault, says_end, sizes_from}
-use Rattle.sg_reader.specs.Tests.{shape_fault}
-use Rattle.sg_reader.proofs.BodyLaws.{given-first, given-other, once_fault-passes, other-word, said-more, said-other}
+use Rattle.sg_reader.specs.Body.{sole_list_fault, says_end, sizes_from}
+use Rattle.sg_reader.specs.Tests.{field_count_fault}
+use Rattle.sg_reader.proofs.BodyLaws.{given-first, given-other, sole_list_fault-passes, other-word, said-more, said-other}
 use Rattle.sg_reader.specs.Ended.{HoldsSome, RefusesNext, TakesNext}
 use Rattle.sg_graph_text.specs.declared.body.GraphBody.{GraphBody}
 use Rattle.sg_graph_text.specs.Graph.{IsGraphText, body_fault, body_graph, edge_fault, edge_of, edges_in, entries_given, entries_in, graph_end_fault, says_edge, says_term, terminals_fault, terminals_of, HoldsGraph}
@@ -29,7 +29,7 @@ body_fault-edge terms n body r h = rw h refl
 
 -- where terminals may stand a `term` is tested as one behind the others
 pub body_fault-term : (terms : Bool) (n : ℕ) (body : List Kept) (r : Kept) → terms ≡ true → says_term r ≡ true
-    → body_fault terms n body r ≡ once_fault (is_some (entries_given body)) r
+    → body_fault terms n body r ≡ sole_list_fault (is_some (entries_given body)) r
 unfolding body_fault
 body_fault-term terms n body r allowed h = rw (other-word r (codes "term") (codes "edge") h refl, allowed, h) refl
 
@@ -131,14 +131,14 @@ pub edge-refused : (old : GraphBody) (r : Kept) (m : ℕ) (x : Refusal) → m �
 edge-refused old r m x many is bad = record { refused = λ start body h. edge-tested old r m many is start body h ∙ bad }
 
 term-tested : (old : GraphBody) (r : Kept) (seen : Bool) → is_some old.entries ≡ seen → old.terms ≡ true → says_term r ≡ true
-    → (start : GraphBody) (body : List Kept) → HoldsGraph start body old → body_fault start.terms start.nodes body r ≡ once_fault seen r
+    → (start : GraphBody) (body : List Kept) → HoldsGraph start body old → body_fault start.terms start.nodes body r ≡ sole_list_fault seen r
 term-tested old r seen was allowed is start body h =
     body_fault-term start.terms start.nodes body r (sym h.terms ∙ allowed) is
-    ∙ ap (λ (b : Bool). once_fault b r) (sym (ap is_some h.entries) ∙ was)
+    ∙ ap (λ (b : Bool). sole_list_fault b r) (sym (ap is_some h.entries) ∙ was)
 
 -- a `term` is taken
 pub term-taken : (old new : GraphBody) (r : Kept) (seen : Bool) (list : List ℕ) → is_some old.entries ≡ seen → old.terms ≡ true
-    → says_term r ≡ true → once_fault seen r ≡ None → list ≡ sizes_from r 1 → new.nodes ≡ old.nodes → new.terms ≡ old.terms
+    → says_term r ≡ true → sole_list_fault seen r ≡ None → list ≡ sizes_from r 1 → new.nodes ≡ old.nodes → new.terms ≡ old.terms
     → new.edges ≡ old.edges → new.entries ≡ Some list → TakesNext (λ s. body_fault s.terms s.nodes) HoldsGraph old r new
 term-taken old new r seen list was allowed is good value same_nodes same_terms same_edges given = record {
   passes = λ start body h. term-tested old r seen was allowed is start body h ∙ good;
@@ -147,7 +147,7 @@ term-taken old new r seen list was allowed is good value same_nodes same_terms s
       let few = h.few in
       let some = h.some in
       let most = h.few_nodes in
-      let now = entries_given-first body r (ap is_some (sym h.entries) ∙ was ∙ once_fault-passes seen r good) is in
+      let now = entries_given-first body r (ap is_some (sym h.entries) ∙ was ∙ sole_list_fault-passes seen r good) is in
       record {
         nodes = same_nodes ∙ h.nodes;
         terms = same_terms ∙ h.terms;
@@ -162,7 +162,7 @@ term-taken old new r seen list was allowed is good value same_nodes same_terms s
 
 -- a `term` is refused
 pub term-refused : (old : GraphBody) (r : Kept) (seen : Bool) (e : Fault) → is_some old.entries ≡ seen → old.terms ≡ true → says_term r ≡ true
-    → OrNoMemory (Refuses (once_fault seen r)) e → RefusesNext (λ s. body_fault s.terms s.nodes) HoldsGraph old r e
+    → OrNoMemory (Refuses (sole_list_fault seen r)) e → RefusesNext (λ s. body_fault s.terms s.nodes) HoldsGraph old r e
 term-refused old r seen e was allowed is bad = record { refused = λ start body h. rw (term-tested old r seen was allowed is start body h) bad }
 
 -- any other record is refused
@@ -180,18 +180,18 @@ end-tested now r end start body h =
     ∙ ap (λ (n : ℕ). graph_end_fault n (unwrap_or now.entries []) r) (sym h.nodes)
 
 -- a bare `end` behind good terminals passes
-pub end-passes : (now : GraphBody) (r : Kept) → says_end r ≡ true → shape_fault 1 r ≡ None
+pub end-passes : (now : GraphBody) (r : Kept) → says_end r ≡ true → field_count_fault 1 r ≡ None
     → terminals_fault now.nodes (unwrap_or now.entries []) ≡ None
     → (start : GraphBody) (body : List Kept) → HoldsGraph start body now → body_fault start.terms start.nodes body r ≡ None
 end-passes now r end bare good start body h = end-tested now r end start body h ∙ rw (bare, good) refl
 
 -- an `end` with another field is refused for that
-pub end-bare : (now : GraphBody) (r : Kept) (x : Refusal) → says_end r ≡ true → shape_fault 1 r ≡ Some x
+pub end-bare : (now : GraphBody) (r : Kept) (x : Refusal) → says_end r ≡ true → field_count_fault 1 r ≡ Some x
     → RefusesNext (λ s. body_fault s.terms s.nodes) HoldsGraph now r (Refused x)
 end-bare now r x end bad = record { refused = λ start body h. end-tested now r end start body h ∙ rw bad refl }
 
 -- a bare `end` is refused for its terminals
-pub end-terminals : (now : GraphBody) (r : Kept) (e : Fault) → says_end r ≡ true → shape_fault 1 r ≡ None
+pub end-terminals : (now : GraphBody) (r : Kept) (e : Fault) → says_end r ≡ true → field_count_fault 1 r ≡ None
     → OrNoMemory (Refuses (terminals_fault now.nodes (unwrap_or now.entries []))) e → RefusesNext (λ s. body_fault s.terms s.nodes) HoldsGraph now r e
 end-terminals now r (Refused x) end bare bad = record { refused = λ start body h. end-tested now r end start body h ∙ rw (bare, bad) refl }
 end-terminals now r NoMemory end bare bad = record { refused = λ start body h. tt }

@@ -8,12 +8,12 @@ use Rattle.sg_draft.specs.Numbers.{bond_count_fault, many_spins_fault}
 use Rattle.sg_draft.proofs.Drafts.{one-test}
 use Rattle.sg_reader.specs.Kept.{Kept, begins, field}
 use Rattle.sg_reader.specs.Body.{link_fault}
-use Rattle.sg_reader.specs.Tests.{at_least, is_number_in, shape_fault, size_in}
+use Rattle.sg_reader.specs.Tests.{at_least, is_number_in, field_count_fault, size_in}
 use Rattle.sg_reader.proofs.TestLaws.{bad_field-first, bad_field-one, is-not}
 use Rattle.sg_graph_text.specs.Graph.{edge_fault, size_fault}
 
 -- the tests of the first record
-pub size_fault-shape : (r : Kept) (x : Refusal) → begins (codes "graph") r ≡ true → shape_fault 2 r ≡ Some x → size_fault r ≡ Some x
+pub size_fault-shape : (r : Kept) (x : Refusal) → begins (codes "graph") r ≡ true → field_count_fault 2 r ≡ Some x → size_fault r ≡ Some x
 size_fault-shape r x word bad = rw (word, bad) refl
 
 -- then the number is to be one of its range

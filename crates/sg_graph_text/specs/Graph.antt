@@ -14,8 +14,8 @@ use Rattle.sg_reader.specs.Kept.{Kept, begins}
 use Rattle.sg_draft.specs.Limits.{program_limits}
 use Rattle.sg_draft.specs.Numbers.{bond_count_fault, many_spins_fault}
 use Rattle.sg_draft.specs.Tests.{first_of, refuse_if}
-use Rattle.sg_reader.specs.Tests.{at_least, bad_number, number_in, shape_fault, size_in, word_fault}
-use Rattle.sg_reader.specs.Body.{link_fault, once_fault, says_end, sizes_from}
+use Rattle.sg_reader.specs.Tests.{at_least, bad_number, number_in, field_count_fault, size_in, word_fault}
+use Rattle.sg_reader.specs.Body.{link_fault, sole_list_fault, says_end, sizes_from}
 use Rattle.sg_reader.specs.Ended.{RefusesRecords, StatesToEnd, record_at}
 use Rattle.sg_graph_text.specs.declared.body.GraphBody.{GraphBody}
 use Rattle.sg_graph_text.specs.declared.graph.GraphText.{GraphText}
@@ -46,7 +46,7 @@ entries_in body = unwrap_or (entries_given body) []
 abbrev pub size_fault : Kept → Option Refusal
 size_fault r = first_of (
     word_fault (codes "graph") r
-    ∷ shape_fault 2 r
+    ∷ field_count_fault 2 r
     ∷ bad_number r 1 (λ i. at_least 1)
     ∷ many_spins_fault program_limits (size_in r 1)
     ∷ [])
@@ -77,13 +77,13 @@ terminals_fault n entries = first_of (entry_fault n entries ∷ odd_fault (lengt
 
 -- the record that ends the graph
 abbrev pub graph_end_fault : ℕ → List ℕ → Kept → Option Refusal
-graph_end_fault n entries r = first_of (shape_fault 1 r ∷ terminals_fault n entries ∷ [])
+graph_end_fault n entries r = first_of (field_count_fault 1 r ∷ terminals_fault n entries ∷ [])
 
 -- the tests of a record behind the first, in a graph of n nodes; only where `terms` is set may terminals be given
 unfoldable pub body_fault : Bool → ℕ → List Kept → Kept → Option Refusal
 body_fault terms n body r =
     if says_edge r then edge_fault n (length (edges_in body)) r
-    else (if terms && says_term r then once_fault (is_some (entries_given body)) r
+    else (if terms && says_term r then sole_list_fault (is_some (entries_given body)) r
     else (if says_end r then graph_end_fault n (entries_in body) r
     else Some (UnknownKind r.at)))
 

@@ -14,12 +14,14 @@
 
 mod body;
 mod graph;
+mod law;
 mod network;
 mod read;
 mod size;
 mod terminals;
 
 pub use graph::GraphText;
+pub use law::networks_have_one_answer;
 pub use network::{Network, read_network};
 pub use read::read_graph;
 use std::alloc::AllocError;

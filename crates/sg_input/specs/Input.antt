@@ -17,7 +17,8 @@ pub data GivesInstance (bytes : List ℕ) (inst : Ising) : Type 0 where
   ByJson : is_object_text bytes ≡ true → ReadsJson bytes inst → GivesInstance bytes inst
   ByRecords : is_object_text bytes ≡ false → ReadsInstance (kept_of bytes) inst [] → GivesInstance bytes inst
 
--- the text gives an instance that a planar solver can take
+-- the text gives an instance that a planar solver can take. That it is an instance within the limits of the program is a
+-- law (the clause `instance` of `inputs_have_one_answer`), since each text that gives one passes the tests of them
 pub record GivesFit (bytes : List ℕ) (inst : Ising) : Type 0 where
   pub gives : GivesInstance bytes inst
   pub fit : IsFit inst
@@ -30,7 +31,8 @@ pub data RefusesText (bytes : List ℕ) (refusal : Refusal) : Type 0 where
       → RefusesText bytes refusal
   AtFitness : (inst : Ising) → GivesInstance bytes inst → IsUnfit inst refusal → RefusesText bytes refusal
 
--- the records of the text give the instance, those behind it what a proof states, and none is left
+-- the records of the text give the instance, those behind it what a proof states, and none is left. The instance need
+-- not be fit, and is one within the limits of the program (the clause `judged` of `inputs_have_one_answer`)
 pub record GivesProof (bytes : List ℕ) (inst : Ising) (stated : ResultText) : Type 0 where
   pub behind : List Kept
   pub reads : ReadsInstance (kept_of bytes) inst behind

@@ -11,9 +11,11 @@
 #![tactic(auto)]
 
 mod fit;
+mod law;
 mod proof;
 
 pub use fit::read_planar;
+pub use law::inputs_have_one_answer;
 pub use proof::{StatedProof, read_proof};
 use std::alloc::AllocError;
 

@@ -2,7 +2,7 @@
 use Rattle.std.proofs.Common.{◌≡◌, ℕ, ◌+◌, ◌-◌, ◌<◌, ◌≤◌, List, ◌++◌, length, take, drop, Option, None, Some, refl, sym, ap, subst, ◌∙◌, arith, append_assoc, length-append, length-drop}
 use Rattle.std.proofs.Math.Seq.{drop-append-add, take-append-add, take-length}
 use Rattle.std.proofs.lemmas.List.{take-append-drop, length-take-le}
-use Rattle.sg_io.specs.Devices.{Loses, Grows, Told}
+use Rattle.sg_io.specs.Devices.{Loses, Grows, AgreesWith}
 
 -- these bytes, and no others, are gone from the front of those still to come, where they are told
 abbrev pub Takes : List ℕ → Option (List ℕ) → Option (List ℕ) → Type 0
@@ -20,7 +20,7 @@ Loses-more bytes n (Some left) mid new taken lost =
 
 -- one byte past the limit was read, so there are too many: the bytes that were read, or those that are told
 pub too-long : (read : List ℕ) (limit : ℕ) (old new : Option (List ℕ)) → limit < length read → Loses (limit + 1) old new →
-    (bytes : List ℕ) × Told old bytes × (limit < length bytes)
+    (bytes : List ℕ) × AgreesWith old bytes × (limit < length bytes)
 too-long read limit None new long lost = (read, tt, long)
 too-long read limit (Some left) new long lost = (left, refl, omega (arith, lost.0))
 

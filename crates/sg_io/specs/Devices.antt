@@ -22,10 +22,10 @@ abbrev pub Loses : ℕ → Option (List ℕ) → Option (List ℕ) → Type 0
 Loses n None new = new ≡ None
 Loses n (Some left) new = (n ≤ length left) × (new ≡ Some (drop n left))
 
--- these are the bytes that the device has, where it tells them
-abbrev pub Told : Option (List ℕ) → List ℕ → Type 0
-Told None bytes = ⊤
-Told (Some known) bytes = bytes ≡ known
+-- the bytes agree with what a device tells of its own: they are those that it tells, and any where it tells none
+abbrev pub AgreesWith : Option (List ℕ) → List ℕ → Type 0
+AgreesWith None bytes = ⊤
+AgreesWith (Some known) bytes = bytes ≡ known
 
 -- the first n bytes of the buffer are the first n of those still to come, where they are told
 abbrev pub Delivers : ℕ → List ℕ → Option (List ℕ) → Type 0

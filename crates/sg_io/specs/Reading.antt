@@ -1,6 +1,6 @@
 -- What reading a source to its end does.
 use Rattle.std.specs.Prelude.{◌≡◌, ℕ, ◌+◌, ◌<◌, ◌≤◌, List, [], length, Option, None, Some, ⊤}
-use Rattle.sg_io.specs.Devices.{Loses, Told, next_count}
+use Rattle.sg_io.specs.Devices.{Loses, AgreesWith, next_count}
 use Rattle.sg_io.specs.declared.reading.ReadEnd.{ReadEnd}
 use Rattle.sg_io.specs.declared.reading.ReadEnd.TheVariants as ends
 
@@ -21,7 +21,7 @@ Stops ends.NoMemory limit old new = LosesAtMost limit old new
 
 -- there are more bytes than the limit
 abbrev pub IsTooLong : ReadEnd → ℕ → Option (List ℕ) → Type 0
-IsTooLong ends.TooLong limit old = (bytes : List ℕ) × Told old bytes × (limit < length bytes)
+IsTooLong ends.TooLong limit old = (bytes : List ℕ) × AgreesWith old bytes × (limit < length bytes)
 IsTooLong ends.ReadFault limit old = ⊤
 IsTooLong ends.NoMemory limit old = ⊤
 

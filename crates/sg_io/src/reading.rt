@@ -1,7 +1,7 @@
 // Reading a source to its end.
 ghost use Rattle.std.specs.Prelude.{◌≡◌, ◌+◌, ◌<◌, ◌≤◌, [], length, true, IfErr, IfOk, OnOk};
 ghost use Rattle.sg_limits.specs.Limits.{text_limit};
-ghost use Rattle.sg_io.specs.Devices.{Told};
+ghost use Rattle.sg_io.specs.Devices.{AgreesWith};
 ghost use Rattle.sg_io.specs.Reading.{Empties, end_faults, IsTooLong, Stops};
 
 use super::{Source, Took};

@@ -1,2 +1,4 @@
 pub mod Lists
 pub mod Said
+pub mod OneObject
+pub mod GivenObject

@@ -14,10 +14,10 @@ use Rattle.sg_draft.specs.Bonds.{IsAmong, IsCoupling, is_among, is_coupling}
 use Rattle.sg_draft.proofs.Drafts.{among-of}
 use Rattle.sg_json.specs.declared.entry.Entry.{Entry}
 use Rattle.sg_json.specs.declared.entry.Entry.TheVariants as entry
-use Rattle.sg_json.specs.Members.{fits, index_of, indices_of, is_triple, item_at, items_in, listed, misfit, value_bond, value_number, whole}
+use Rattle.sg_json.specs.Members.{is_entry, index_of, indices_of, is_triple, item_at, items_in, item_list, first_wrong, value_bond, value_number, whole_number}
 
 -- the items of an array are those that the code has
-pub listed_view : (vs : List Value) → listed (items_view vs) ≡ map view vs
+pub listed_view : (vs : List Value) → item_list (items_view vs) ≡ map view vs
 listed_view [] = refl
 listed_view (v ∷ vs) = ap (λ (ds : List Data). view v ∷ ds) (listed_view vs)
 
@@ -36,9 +36,9 @@ prefix-map p f [] = refl
 prefix-map p f (x ∷ xs) = ap (λ (n : ℕ). cond (p (f x)) (1 + n) 0) (prefix-map p f xs)
 
 -- the misfit as the code finds it
-pub misfit_view : (what : Entry) (vs : List Value) → misfit what (map view vs) ≡ position (λ v. not (fits what (view v))) vs
+pub misfit_view : (what : Entry) (vs : List Value) → first_wrong what (map view vs) ≡ position (λ v. not (is_entry what (view v))) vs
 misfit_view what vs =
-    let first = prefix-map (λ d. not (not (fits what d))) view vs in
+    let first = prefix-map (λ d. not (not (is_entry what d))) view vs in
     λ i. cond (nat_lt (first i) (length-map vs view i)) (Some (first i)) None
 
 -- what is found nowhere fails everywhere
@@ -50,18 +50,18 @@ nowhere p xs i d none inside = by (nat_lt (position_or_len p xs) (length xs)) re
     by false e h = let past = ltb-false (position_or_len p xs) (length xs) e in fails_before_first p xs i d (omega (arith, past, inside))
 
 -- where there is no misfit each item is what its list wants
-fit-all : (P : Data → Type 0) (what : Entry) (ds : List Data) → ((d : Data) → fits what d ≡ true → P d) → misfit what ds ≡ None → All P ds
+fit-all : (P : Data → Type 0) (what : Entry) (ds : List Data) → ((d : Data) → is_entry what d ≡ true → P d) → first_wrong what ds ≡ None → All P ds
 fit-all P what ds each none = All-from_get_or P ds null (λ i inside.
-    each (item_at ds i) (not-false _ (nowhere (λ d. not (fits what d)) ds i null none inside)))
+    each (item_at ds i) (not-false _ (nowhere (λ d. not (is_entry what d)) ds i null none inside)))
 
 -- the numbers of a list of couplings are couplings
-pub couplings-fit : (ds : List Data) → misfit entry.Coupling ds ≡ None → All IsCoupling (map value_number ds)
+pub couplings-fit : (ds : List Data) → first_wrong entry.Coupling ds ≡ None → All IsCoupling (map value_number ds)
 couplings-fit ds none = All-map IsCoupling value_number ds
     (fit-all (λ d. IsCoupling (value_number d)) entry.Coupling ds
-    (λ d pass. ltb-true _ _ (and_parts (is_some (whole d)) (is_coupling (value_number d)) pass).1) none)
+    (λ d pass. ltb-true _ _ (and_parts (is_some (whole_number d)) (is_coupling (value_number d)) pass).1) none)
 
 -- the bonds of a list of bonds are among the spins
-pub bonds-fit : (n : ℕ) (ds : List Data) → misfit (entry.Bond n) ds ≡ None → All (IsAmong n) (map value_bond ds)
+pub bonds-fit : (n : ℕ) (ds : List Data) → first_wrong (entry.Bond n) ds ≡ None → All (IsAmong n) (map value_bond ds)
 bonds-fit n ds none = All-map (IsAmong n) value_bond ds
     (fit-all (λ d. IsAmong n (value_bond d)) (entry.Bond n) ds
     (λ d pass. among-of n (value_bond d) (and_parts (is_triple (items_in d)) (is_among n (value_bond d)) pass).1) none)

@@ -22,7 +22,7 @@ use Rattle.sg_draft.specs.Reads.{counted, unless, value_or, wrong_entry}
 use Rattle.sg_draft.proofs.Drafts.{counted-unless, wrong-unless}
 use Rattle.sg_json.specs.declared.entry.Entry.{Entry}
 use Rattle.sg_json.specs.declared.entry.Entry.TheVariants as entry
-use Rattle.sg_json.specs.Members.{draft_of, form_in, general_draft, indices_of, is_known, items_at, lattice_draft, member_list, member_spins, misfit, names_in, size_at, value_bond, value_number, wrong_list, wrong_rotation, wrong_seam}
+use Rattle.sg_json.specs.Members.{draft_of, form_in, general_draft, indices_of, is_known, items_at, lattice_draft, member_list, member_spins, first_wrong, names_in, size_at, value_bond, value_number, wrong_list, wrong_rotation, wrong_seam}
 use Rattle.sg_json.specs.ReadJson.{OfData, OfDraft, RefusesData, RefusesJson, SaysData}
 
 -- how many entries a list of a member has, where none is wrong
@@ -87,12 +87,12 @@ pub rotation-counts : (n : ℕ) (o : Option (List Data)) → wrong_rotation n o 
 rotation-counts n None h = absurd (none-some 0 (sym h))
 rotation-counts n (Some ds) h = counted_by (length ds == n) refl h
   where
-    counted_by : (b : Bool) → (length ds == n) ≡ b → cond b (misfit entry.Darts ds) (Some 0) ≡ None → length ds ≡ n
+    counted_by : (b : Bool) → (length ds == n) ≡ b → cond b (first_wrong entry.Darts ds) (Some 0) ≡ None → length ds ≡ n
     counted_by true e h = eqb-true (length ds) n e
     counted_by false e h = absurd (none-some 0 (sym h))
 
 -- a list that is right has no misfit
-pub right-list : (what : Entry) (o : Option (List Data)) → wrong_list what o ≡ None → misfit what (unwrap_or o []) ≡ None
+pub right-list : (what : Entry) (o : Option (List Data)) → wrong_list what o ≡ None → first_wrong what (unwrap_or o []) ≡ None
 right-list what None h = absurd (none-some 0 (sym h))
 right-list what (Some ds) h = h
 

@@ -1,7 +1,7 @@
 ghost use Rattle.std.specs.Prelude.{◌≡◌, codes, map, option_map};
 ghost use Rattle.serde_json.specs.Find.{get};
 ghost use Rattle.serde_json.specs.View.{view};
-ghost use Rattle.sg_json.specs.Members.{are_indices as are_indices_in_data, fits, index as index_in_data, is_triple as is_triple_of_data, list_in, misfit, wrong_list as wrong_list_in_data, wrong_rotation as wrong_rotation_in_data, wrong_seam as wrong_seam_in_data};
+ghost use Rattle.sg_json.specs.Members.{are_indices as are_indices_in_data, first_wrong, index_number as index_in_data, is_entry, is_triple as is_triple_of_data, list_in, wrong_list as wrong_list_in_data, wrong_rotation as wrong_rotation_in_data, wrong_seam as wrong_seam_in_data};
 
 use super::build::bond;
 use super::value::{index, items, list_items, number_or_zero};
@@ -44,7 +44,7 @@ fn is_index_list(value: &Value) -> bool
 impl Entry {
     // Whether a value may stand in the list.
     fn fits(self, value: &Value) -> bool
-        ensures { result ≡ fits self (view value.now) }
+        ensures { result ≡ is_entry self (view value.now) }
     {
         match self {
             Entry::Coupling => value.as_i64().is_some() && is_coupling(number_or_zero(value)),
@@ -57,7 +57,7 @@ impl Entry {
 
 // The first item that may not stand in the list.
 fn first_misfit(items: &[Value], what: Entry) -> Option<usize>
-    ensures { result ≡ misfit what (map view items.now) }
+    ensures { result ≡ first_wrong what (map view items.now) }
 {
     items.iter().position(|item| !what.fits(item))
 }

@@ -14,11 +14,13 @@
 mod build;
 mod entry;
 mod form;
+mod law;
 mod members;
 mod read;
 mod text;
 mod value;
 
+pub use law::objects_have_one_answer;
 pub use read::read_json;
 use std::alloc::AllocError;
 pub use text::is_json;

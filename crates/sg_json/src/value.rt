@@ -1,6 +1,6 @@
 ghost use Rattle.std.specs.Prelude.{◌≡◌, ◌<◌, ◌^◌, map, option_map, IfSome};
 ghost use Rattle.serde_json.specs.View.{view};
-ghost use Rattle.sg_json.specs.Members.{index as index_in_data, index_of, items_at as items_in_member, items_in, list_in, member_list, natural as natural_in_data, size_at, value_number};
+ghost use Rattle.sg_json.specs.Members.{index_number as index_in_data, index_of, items_at as items_in_member, items_in, list_in, member_list, natural_number as natural_in_data, size_at, value_number};
 
 use serde_json::Value;
 

@@ -7,7 +7,7 @@ use Rattle.std.proofs.lemmas.Bool.{eq-eqb, ne_eqb, cases_eq, cases_lt}
 use Rattle.sg_model.specs.Rotation.{following}
 use Rattle.sg_sums.specs.Sets.{DifferByCount}
 
-one_place : (x : ℕ) (xs : List ℕ) (i : ℕ) → i < length xs → get_or xs i 0 ≡ x → 1 ≤ count_by (λ y. eqb y x) xs
+pub one_place : (x : ℕ) (xs : List ℕ) (i : ℕ) → i < length xs → get_or xs i 0 ≡ x → 1 ≤ count_by (λ y. eqb y x) xs
 one_place x xs i l e =
     let h : cond (eqb (get_or xs i 0) x) 1 0 ≤ count_by (λ y. eqb y x) xs = get_or-le-sum_by (λ y. cond (eqb y x) 1 0) xs i 0 l in
     let w : cond {A = ℕ} (eqb (get_or xs i 0) x) 1 0 ≡ 1 = ap (λ b. cond b 1 0) (eq-eqb (get_or xs i 0) x e) in

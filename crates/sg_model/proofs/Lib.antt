@@ -16,3 +16,5 @@ pub mod EnergyBounds
 pub mod CoupledEnergy
 pub mod LeastSpins
 pub mod SamePaths
+pub mod OneFault
+pub mod OneEnergy

@@ -13,3 +13,4 @@ pub mod Spins
 pub mod Energy
 pub mod Broken
 pub mod Codes
+pub mod OneAnswer

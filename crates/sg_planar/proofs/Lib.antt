@@ -20,3 +20,4 @@ pub mod PartsPlanar
 pub mod DealtNumbers
 pub mod PartPlaces
 pub mod PartsMade
+pub mod OneFitness

@@ -3,7 +3,7 @@ use Rattle.std.proofs.Common.{◌≡◌, inl, inr, ℕ, ◌+◌, ◌*◌, ◌<�
 use Rattle.std.specs.Prelude.{FitsSigned, unsigned_abs}
 use Rattle.std.proofs.lemmas.Int.{ints, to_z-of_z}
 use Rattle.std.proofs.lemmas.Bool.{cases_lt}
-use Rattle.std.proofs.lemmas.List.{get_or-set_same, get_or_append_left, get_or_push}
+use Rattle.std.proofs.lemmas.List.{get_or-set_same, get_or_append_left, get_or_default, get_or_push, same_lists}
 use Rattle.sg_model.specs.declared.bond.Bond.{Bond}
 use Rattle.sg_model.specs.Ising.{Ising, bond_at, bond_count}
 use Rattle.sg_model.specs.WellFormed.{IsInstance}
@@ -15,8 +15,9 @@ use Rattle.sg_model.proofs.CoupledEnergy.{energy_coupled}
 use Rattle.sg_bonds.specs.Cost.{IsCost, IsLeastWith}
 use Rattle.sg_bonds.proofs.CostNumbers.{kept_small, kept_unit}
 use Rattle.sg_bonds.proofs.ForcedMinimum.{unit_product}
+use Rattle.sg_bonds.proofs.OneCost.{with-one}
 use Rattle.sg_model.proofs.EnergyBounds.{energy_size}
-use Rattle.sg_ranges.specs.Turn.{IsDouble, IsTurn, IsTurningPoint}
+use Rattle.sg_ranges.specs.Turn.{AreTurns, IsDouble, IsTurn, IsTurningPoint}
 
 abbrev no_bond : Bond
 no_bond = record { u = 0; v = 0; j = pos 0 }
@@ -95,15 +96,6 @@ module _ (inst : Ising) (good : IsInstance inst) (k : ℕ) (inside : k < bond_co
       kept : (e f x y g : ℤ) → e ≤ℤ g → g ≡ (f +ℤ x) -ℤ y → ((e -ℤ x) +ℤ y) ≤ℤ f
       kept e f x y g l h = omega (arith, ints)
 
-  -- there is one least energy with each product
-  one_least : (p e f : ℤ) → IsLeastWith inst k p e → IsLeastWith inst k p f → e ≡ f
-  one_least p e f g h =
-      level e f (energy inst g.reached.0) (energy inst h.reached.0) g.reached.3 h.reached.3 (h.least g.reached.0 g.reached.1 g.reached.2)
-      (g.least h.reached.0 h.reached.1 h.reached.2)
-    where
-      level : (a b x y : ℤ) → x ≡ a → y ≡ b → b ≤ℤ x → a ≤ℤ y → a ≡ b
-      level a b x y i j l m = omega (arith, ints)
-
   -- where twice t is twice the coupling and what the least energies lie apart, they meet at t
   turn_between : (t e f : ℤ) → IsLeastWith inst k (pos 1) e → IsLeastWith inst k (negsuc 0) f → t +ℤ t ≡ (coupling +ℤ coupling) +ℤ (e -ℤ f) → IsTurn inst k t
   turn_between t e f like unlike twice = record {
@@ -119,8 +111,8 @@ module _ (inst : Ising) (good : IsInstance inst) (k : ℕ) (inside : k < bond_co
   pub one_turn : (t u : ℤ) → IsTurn inst k t → IsTurn inst k u → t ≡ u
   one_turn t u g h =
       same t u coupling g.level h.level
-      (one_least (pos 1) _ _ (least_back t (pos 1) g.level g.like) (least_back u (pos 1) h.level h.like))
-      (one_least (negsuc 0) _ _ (least_back t (negsuc 0) g.level g.unlike) (least_back u (negsuc 0) h.level h.unlike))
+      (with-one inst k (pos 1) _ _ (least_back t (pos 1) g.level g.like) (least_back u (pos 1) h.level h.like))
+      (with-one inst k (negsuc 0) _ _ (least_back t (negsuc 0) g.level g.unlike) (least_back u (negsuc 0) h.level h.unlike))
     where
       same : (t u j a b : ℤ) → (a -ℤ (j *ℤ pos 1)) +ℤ (t *ℤ pos 1) ≡ (b -ℤ (j *ℤ pos 1)) +ℤ (u *ℤ pos 1) →
           (a -ℤ (j *ℤ negsuc 0)) +ℤ (t *ℤ negsuc 0) ≡ (b -ℤ (j *ℤ negsuc 0)) +ℤ (u *ℤ negsuc 0) → t ≡ u
@@ -304,3 +296,13 @@ turn_found r j p h c most few up small half size fits value twice =
 -- an even number of 64 bits
 pub double_kept : (c : ℤ) (most : ℕ) → 2 * most < 2 ^ 63 → IsDouble most c → to_z w64 (of_z w64 c) ≡ c
 double_kept c most few d = kept_small c (2 * d.0) (omega (arith, ap unsigned_abs d.2)) (omega (arith, d.1))
+
+-- an instance has one list of turning couplings
+pub turns-one : (inst : Ising) (xs ys : List ℤ) → IsInstance inst → AreTurns inst xs → AreTurns inst ys → xs ≡ ys
+turns-one inst xs ys good p q =
+    same_lists xs ys (p.count ∙ sym q.count)
+    (λ k d l.
+    let inside : k < bond_count inst = omega (arith, l, p.count) in
+    get_or_default xs k d (pos 0) l
+    ∙ one_turn inst good k inside (get_or xs k (pos 0)) (get_or ys k (pos 0)) (p.each k inside) (q.each k inside)
+    ∙ sym (get_or_default ys k d (pos 0) (omega (arith, l, p.count, q.count))))

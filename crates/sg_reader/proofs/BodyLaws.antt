@@ -13,7 +13,7 @@ use Rattle.std.proofs.lemmas.Option.{none-some}
 use Rattle.std.proofs.lemmas.Slice.Eq.{bytes_eq-Decides}
 use Rattle.sg_reader.specs.Kept.{Kept, begins, field}
 use Rattle.sg_reader.specs.Tests.{number_of, number_in}
-use Rattle.sg_reader.specs.Body.{couplings_in, says_seam, numbers_from, once_fault, seam_in, sizes_from}
+use Rattle.sg_reader.specs.Body.{couplings_in, says_seam, numbers_from, sole_list_fault, seam_in, sizes_from}
 use Rattle.sg_reader.proofs.NumberLaws.{size-of_number}
 
 -- a record that begins with a word
@@ -117,9 +117,9 @@ couplings_in-seam body r seam =
     ∙ append-nil (flat_map f (filter test body))
 
 -- a list that may be given once and passes is the first
-pub once_fault-passes : (seen : Bool) (r : Kept) → once_fault seen r ≡ None → seen ≡ false
-once_fault-passes true r h = absurd (none-some _ (sym h))
-once_fault-passes false r h = refl
+pub sole_list_fault-passes : (seen : Bool) (r : Kept) → sole_list_fault seen r ≡ None → seen ≡ false
+sole_list_fault-passes true r h = absurd (none-some _ (sym h))
+sole_list_fault-passes false r h = refl
 
 -- each number that is read has a size that fits
 pub number_in-small : (r : Kept) (i : ℕ) → unsigned_abs (number_in r i) < 2 ^ 63

@@ -23,10 +23,10 @@ use Rattle.sg_reader.specs.declared.general.GeneralBody.{GeneralBody}
 use Rattle.sg_limits.specs.Limits.{bond_limit}
 use Rattle.sg_reader.specs.Kept.{Kept}
 use Rattle.sg_draft.specs.Tests.{Refuses}
-use Rattle.sg_reader.specs.Tests.{any_index, any_number, bad_field, bad_number, led_range, shape_fault, size_in, spin_below}
-use Rattle.sg_reader.specs.Body.{bond_fault, bond_of, ends_fault, link_fault, bonds_in, darts_in, general_fault, has_rot, instance_of, says_bond, says_end, says_rot, says_rot_of, says_seam, rot_fault, once_fault, seam_in, sizes_from}
+use Rattle.sg_reader.specs.Tests.{any_index, any_number, bad_field, bad_number, first_then_index, field_count_fault, size_in, spin_below}
+use Rattle.sg_reader.specs.Body.{bond_fault, bond_of, ends_fault, link_fault, bonds_in, darts_in, general_fault, has_rot, instance_of, says_bond, says_end, says_rot, says_rot_of, says_seam, rot_fault, sole_list_fault, seam_in, sizes_from}
 use Rattle.sg_draft.proofs.Drafts.{one-test}
-use Rattle.sg_reader.proofs.BodyLaws.{given-first, given-other, given-seen, once_fault-passes, other-word, said-more, said-other, seam_in-first, seam_in-other, seam_in-seen}
+use Rattle.sg_reader.proofs.BodyLaws.{given-first, given-other, given-seen, sole_list_fault-passes, other-word, said-more, said-other, seam_in-first, seam_in-other, seam_in-seen}
 use Rattle.sg_model.specs.Faults.{OrNoMemory}
 
 -- the tests of a bond
@@ -40,25 +40,25 @@ pub bond_fault-ends : (n m : ℕ) (r : Kept) (test : Option Refusal) → link_fa
 bond_fault-ends n m r test good ends = rw good (ap (λ (o : Option Refusal). option_or o None) ends ∙ one-test test)
 
 -- the tests of a rotation
-pub rot_fault-number : (n : ℕ) (seen : Bool) (r : Kept) (k : ℕ) → (length r.fields ≡ 1 → ⊥) → bad_field r 1 (led_range (spin_below n)) ≡ Some k
+pub rot_fault-number : (n : ℕ) (seen : Bool) (r : Kept) (k : ℕ) → (length r.fields ≡ 1 → ⊥) → bad_field r 1 (first_then_index (spin_below n)) ≡ Some k
     → rot_fault n seen r ≡ Some (BadNumber r.at k)
 rot_fault-number n seen r k count bad = rw (ne_eqb (length r.fields) 1 count, bad) refl
 
 -- a second `rot` of a spin is refused
 pub rot_fault-seen : (n : ℕ) (seen : Bool) (r : Kept) → (length r.fields ≡ 1 → ⊥)
-    → bad_field r 1 (led_range (spin_below n)) ≡ None → seen ≡ true
+    → bad_field r 1 (first_then_index (spin_below n)) ≡ None → seen ≡ true
     → rot_fault n seen r ≡ Some (BadShape r.at)
 rot_fault-seen n seen r count good twice = rw (ne_eqb (length r.fields) 1 count, good, twice) refl
 
 -- a first `rot` with good numbers passes
 pub rot_fault-none : (n : ℕ) (seen : Bool) (r : Kept) → (length r.fields ≡ 1 → ⊥)
-    → bad_field r 1 (led_range (spin_below n)) ≡ None → seen ≡ false
+    → bad_field r 1 (first_then_index (spin_below n)) ≡ None → seen ≡ false
     → rot_fault n seen r ≡ None
 rot_fault-none n seen r count good first = rw (ne_eqb (length r.fields) 1 count, good, first) refl
 
 -- a fault of the darts is the record's
 pub rot_fault-darts : (n : ℕ) (seen : Bool) (r : Kept) → (length r.fields ≡ 1 → ⊥) →
-    bad_field r 1 (led_range (spin_below n)) ≡ bad_field r 2 (λ i. any_index) → (e : Fault)
+    bad_field r 1 (first_then_index (spin_below n)) ≡ bad_field r 2 (λ i. any_index) → (e : Fault)
     → OrNoMemory (Refuses (bad_number r 2 (λ i. any_index))) e → OrNoMemory (Refuses (rot_fault n seen r)) e
 rot_fault-darts n seen r count rest (Refused x) h = rw (ne_eqb (length r.fields) 1 count, rest, h) refl
 rot_fault-darts n seen r count rest NoMemory h = tt
@@ -74,12 +74,12 @@ unfolding general_fault
 general_fault-rot n body r h = rw (other-word r (codes "rot") (codes "bond") h refl, h) refl
 
 -- a `seam` is tested as one behind the others
-pub general_fault-seam : (n : ℕ) (body : List Kept) (r : Kept) → says_seam r ≡ true → general_fault n body r ≡ once_fault (list_any says_seam body) r
+pub general_fault-seam : (n : ℕ) (body : List Kept) (r : Kept) → says_seam r ≡ true → general_fault n body r ≡ sole_list_fault (list_any says_seam body) r
 unfolding general_fault
 general_fault-seam n body r h = rw (other-word r (codes "seam") (codes "bond") h refl, other-word r (codes "seam") (codes "rot") h refl, h) refl
 
 -- an `end` is tested as a bare one
-pub general_fault-end : (n : ℕ) (body : List Kept) (r : Kept) → says_end r ≡ true → general_fault n body r ≡ shape_fault 1 r
+pub general_fault-end : (n : ℕ) (body : List Kept) (r : Kept) → says_end r ≡ true → general_fault n body r ≡ field_count_fault 1 r
 unfolding general_fault
 general_fault-end n body r h =
     rw (
@@ -239,12 +239,12 @@ seen-seam : (start : GeneralBody) (body : List Kept) (state : GeneralBody) → H
 seen-seam start body state h = ap is_some h.seam ∙ seam_in-seen body
 
 seam-tested : (old : GeneralBody) (r : Kept) (seen : Bool) → is_some old.seam ≡ seen → says_seam r ≡ true → (start : GeneralBody) (body : List Kept)
-    → HoldsGeneral start body old → general_fault start.n body r ≡ once_fault seen r
+    → HoldsGeneral start body old → general_fault start.n body r ≡ sole_list_fault seen r
 seam-tested old r seen was is start body h =
-    general_fault-seam start.n body r is ∙ ap (λ (b : Bool). once_fault b r) (sym (seen-seam start body old h) ∙ was)
+    general_fault-seam start.n body r is ∙ ap (λ (b : Bool). sole_list_fault b r) (sym (seen-seam start body old h) ∙ was)
 
 -- a `seam` is taken
-pub seam-taken : (old new : GeneralBody) (r : Kept) (seen : Bool) → is_some old.seam ≡ seen → says_seam r ≡ true → once_fault seen r ≡ None
+pub seam-taken : (old new : GeneralBody) (r : Kept) (seen : Bool) → is_some old.seam ≡ seen → says_seam r ≡ true → sole_list_fault seen r ≡ None
     → new.n ≡ old.n → new.bonds ≡ old.bonds → new.rotation ≡ old.rotation → new.seen.items ≡ old.seen.items
     → new.seam ≡ Some (sizes_from r 1)
     → TakesNext (λ s. general_fault s.n) HoldsGeneral old r new
@@ -253,12 +253,12 @@ seam-taken old new r seen was is good same kept lists marks cut = record {
   goes_on = λ start body h. behind-other old new start body r (other-word r (codes "seam") (codes "bond") is refl) same kept h
       (lists ∙ h.darts ∙ darts-kept body r old.n (other-word r (codes "seam") (codes "rot") is refl))
       (marks ∙ h.marks ∙ marks-kept body r old.n (other-word r (codes "seam") (codes "rot") is refl))
-      (cut ∙ sym (seam_in-first body r (ap is_some (sym h.seam) ∙ was ∙ once_fault-passes seen r good) is));
+      (cut ∙ sym (seam_in-first body r (ap is_some (sym h.seam) ∙ was ∙ sole_list_fault-passes seen r good) is));
 }
 
 -- a `seam` is refused
 pub seam-refused : (old : GeneralBody) (r : Kept) (seen : Bool) (e : Fault) → is_some old.seam ≡ seen → says_seam r ≡ true
-    → OrNoMemory (Refuses (once_fault seen r)) e → RefusesNext (λ s. general_fault s.n) HoldsGeneral old r e
+    → OrNoMemory (Refuses (sole_list_fault seen r)) e → RefusesNext (λ s. general_fault s.n) HoldsGeneral old r e
 seam-refused old r seen e was is bad = record { refused = λ start body h. rw (seam-tested old r seen was is start body h) bad }
 
 -- the entry of a spin among the marks
@@ -370,14 +370,14 @@ no_marks-more marks i h = ap (λ (l : List Bool). l ++ false ∷ []) h ∙ sym (
 module _ (n : ℕ) (start : GeneralBody) (all : List Kept) (now : GeneralBody) (last : Kept) (rest : List Kept)
     (h : HoldsToEnd (λ s. general_fault s.n) HoldsGeneral start all now last rest) (was : start.n ≡ n) where
   -- a bare `end` makes it the instance that is stated
-  pub general-states : (inst : Ising) → shape_fault 1 last ≡ None → inst ≡ instance_of (header.General start.n) h.body
+  pub general-states : (inst : Ising) → field_count_fault 1 last ≡ None → inst ≡ instance_of (header.General start.n) h.body
       → StatesInstance (header.General n) all inst rest
   general-states inst end value =
       body-states (header.General n) (general_fault start.n) all h.body last rest inst (ap general_fault was) h.ended
       (general_fault-end start.n h.body last h.ended.ends ∙ end) (value ∙ ap (λ (k : ℕ). instance_of (header.General k) h.body) was)
 
   -- another `end` refuses the body
-  pub general-ends : (x : Refusal) → shape_fault 1 last ≡ Some x → Fails (RefusesBody (header.General n) all) all rest (Refused x)
+  pub general-ends : (x : Refusal) → field_count_fault 1 last ≡ Some x → Fails (RefusesBody (header.General n) all) all rest (Refused x)
   general-ends x end =
       body-fault (header.General n) (general_fault start.n) all rest (Refused x) (ap general_fault was)
       (end-fault (λ s. general_fault s.n) HoldsGeneral start all now last rest h (Refused x) (general_fault-end start.n h.body last h.ended.ends ∙ end))

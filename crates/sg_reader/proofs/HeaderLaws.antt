@@ -8,12 +8,12 @@ use Rattle.sg_draft.specs.Numbers.{many_spins_fault}
 use Rattle.sg_draft.proofs.Drafts.{one-test}
 use Rattle.sg_reader.specs.declared.header.Form.{Form}
 use Rattle.sg_reader.specs.Kept.{Kept, field}
-use Rattle.sg_reader.specs.Tests.{bad_field, shape_fault}
+use Rattle.sg_reader.specs.Tests.{bad_field, field_count_fault}
 use Rattle.sg_reader.specs.Header.{field_count, form_fault, form_of, header_fault, header_of, header_range, header_with, spins_in}
 use Rattle.sg_reader.proofs.TestLaws.{is-not}
 
 -- a first record with another number of fields is refused for that
-pub form_fault-shape : (form : Form) (r : Kept) (x : Refusal) → shape_fault (field_count form) r ≡ Some x → form_fault (Some form) r ≡ Some x
+pub form_fault-shape : (form : Form) (r : Kept) (x : Refusal) → field_count_fault (field_count form) r ≡ Some x → form_fault (Some form) r ≡ Some x
 form_fault-shape form r x bad = rw bad refl
 
 -- then for the first field that is no number of its range

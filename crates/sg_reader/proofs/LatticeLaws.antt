@@ -9,10 +9,10 @@ use Rattle.sg_reader.specs.declared.lattice.LatticeBody.{LatticeBody}
 use Rattle.sg_reader.specs.Kept.{Kept}
 use Rattle.sg_draft.specs.Draft.{reseamed}
 use Rattle.sg_reader.specs.Tests.{any_number, bad_field, bad_number}
-use Rattle.sg_reader.specs.Body.{couplings_in, instance_of, says_end, says_seam, lattice_end_fault, lattice_fault, numbers_from, once_fault, seam_in, sizes_from}
+use Rattle.sg_reader.specs.Body.{couplings_in, instance_of, says_end, says_seam, lattice_end_fault, lattice_fault, numbers_from, sole_list_fault, seam_in, sizes_from}
 use Rattle.sg_reader.specs.Ended.{HoldsToEnd, RefusesNext, TakesNext, Fails}
 use Rattle.sg_reader.specs.ReadInstance.{HoldsLattice, RefusesBody, StatesInstance}
-use Rattle.sg_reader.proofs.BodyLaws.{couplings_in-small, couplings_in-more, couplings_in-seam, once_fault-passes, other-word, seam_in-first, seam_in-other, seam_in-seen}
+use Rattle.sg_reader.proofs.BodyLaws.{couplings_in-small, couplings_in-more, couplings_in-seam, sole_list_fault-passes, other-word, seam_in-first, seam_in-other, seam_in-seen}
 use Rattle.sg_draft.specs.Tests.{Refuses}
 use Rattle.sg_model.specs.Faults.{OrNoMemory}
 use Rattle.sg_model.specs.declared.refusal.Fault.{Fault}
@@ -24,7 +24,7 @@ use Rattle.sg_model.specs.declared.refusal.Refusal.TheVariants.{BadNumber}
 
 -- which test a record of a lattice meets
 pub lattice_fault-seam : (wanted : ℕ) (body : List Kept) (r : Kept) → says_seam r ≡ true →
-    lattice_fault wanted body r ≡ once_fault (list_any says_seam body) r
+    lattice_fault wanted body r ≡ sole_list_fault (list_any says_seam body) r
 unfolding lattice_fault
 lattice_fault-seam wanted body r h = rw h refl
 
@@ -57,26 +57,26 @@ unfolding couplings_in seam_in
 holds-none state none cut = record { wanted = refl; couplings = none; seam = cut }
 
 -- a `seam` is taken
-pub seam-taken : (old new : LatticeBody) (r : Kept) (seen : Bool) → is_some old.seam ≡ seen → says_seam r ≡ true → once_fault seen r ≡ None
+pub seam-taken : (old new : LatticeBody) (r : Kept) (seen : Bool) → is_some old.seam ≡ seen → says_seam r ≡ true → sole_list_fault seen r ≡ None
     → new.wanted ≡ old.wanted → new.couplings ≡ old.couplings → new.seam ≡ Some (sizes_from r 1)
     → TakesNext (λ s. lattice_fault s.wanted) HoldsLattice old r new
 seam-taken old new r seen was seam good same kept bonds = record {
   passes = λ start body h. lattice_fault-seam start.wanted body r seam
-      ∙ ap (λ (b : Bool). once_fault b r) (sym (seen-seam start body old h) ∙ was) ∙ good;
+      ∙ ap (λ (b : Bool). sole_list_fault b r) (sym (seen-seam start body old h) ∙ was) ∙ good;
   goes_on = λ start body h. record {
     wanted = same ∙ h.wanted;
     couplings = kept ∙ h.couplings ∙ sym (couplings_in-seam body r seam);
-    seam = bonds ∙ sym (seam_in-first body r (ap is_some (sym h.seam) ∙ was ∙ once_fault-passes seen r good) seam);
+    seam = bonds ∙ sym (seam_in-first body r (ap is_some (sym h.seam) ∙ was ∙ sole_list_fault-passes seen r good) seam);
   };
 }
 
 -- a `seam` is refused
 pub seam-refused : (old : LatticeBody) (r : Kept) (seen : Bool) (e : Fault) → is_some old.seam ≡ seen → says_seam r ≡ true
-    → OrNoMemory (Refuses (once_fault seen r)) e → RefusesNext (λ s. lattice_fault s.wanted) HoldsLattice old r e
+    → OrNoMemory (Refuses (sole_list_fault seen r)) e → RefusesNext (λ s. lattice_fault s.wanted) HoldsLattice old r e
 seam-refused old r seen e was seam bad = record {
   refused = λ start body h.
-      let same : lattice_fault start.wanted body r ≡ once_fault seen r =
-      lattice_fault-seam start.wanted body r seam ∙ ap (λ (b : Bool). once_fault b r) (sym (seen-seam start body old h) ∙ was) in
+      let same : lattice_fault start.wanted body r ≡ sole_list_fault seen r =
+      lattice_fault-seam start.wanted body r seam ∙ ap (λ (b : Bool). sole_list_fault b r) (sym (seen-seam start body old h) ∙ was) in
       rw same bad;
 }
 

@@ -14,3 +14,6 @@ pub mod RestLaws
 pub mod EndedLaws
 mod WorkedRecords
 pub mod SizeLaws
+pub mod OneEnd
+pub mod OneInstance
+pub mod GivenInstance

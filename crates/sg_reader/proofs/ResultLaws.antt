@@ -13,7 +13,7 @@ use Rattle.sg_model.specs.declared.refusal.Refusal.{Refusal}
 use Rattle.sg_model.specs.declared.refusal.Refusal.TheVariants.{BadNumber, UnknownKind}
 use Rattle.sg_check.specs.declared.packing.Loop.{Loop}
 use Rattle.sg_reader.specs.Kept.{Kept, begins, field}
-use Rattle.sg_reader.specs.Tests.{number_of, any_index, any_number, bad_field, bad_number, is_number_in, led_range, number_in, shape_fault, word_fault}
+use Rattle.sg_reader.specs.Tests.{number_of, any_index, any_number, bad_field, bad_number, is_number_in, first_then_index, number_in, field_count_fault, word_fault}
 use Rattle.sg_draft.specs.Tests.{first_of, refuse_if, Refuses}
 use Rattle.sg_reader.specs.Body.{says_end, numbers_from}
 use Rattle.sg_limits.specs.Limits.{text_limit}
@@ -34,7 +34,7 @@ pub energy_fault-number : (r : Kept) → begins (codes "energy") r ≡ true → 
 energy_fault-number r word count bad = rw (word, is-not (length r.fields) 2 count, bad_field-first r (λ i. any_number) (omega arith) bad) refl
 
 -- an `energy` with another number of fields is refused for that
-pub energy_fault-shape : (r : Kept) (x : Refusal) → begins (codes "energy") r ≡ true → shape_fault 2 r ≡ Some x → energy_fault r ≡ Some x
+pub energy_fault-shape : (r : Kept) (x : Refusal) → begins (codes "energy") r ≡ true → field_count_fault 2 r ≡ Some x → energy_fault r ≡ Some x
 energy_fault-shape r x word bad = rw (word, bad) refl
 
 -- an `energy` with one number passes
@@ -80,18 +80,18 @@ loop-long r word other =
 
 -- a bad number refuses the `loop`
 pub loop_fault-number : (r : Kept) (k : ℕ) → begins (codes "loop") r ≡ true → (length r.fields ≡ 1 → ⊥)
-    → bad_field r 1 (led_range any_number) ≡ Some k
+    → bad_field r 1 (first_then_index any_number) ≡ Some k
     → loop_fault r ≡ Some (BadNumber r.at k)
 loop_fault-number r k word count bad = rw (word, ne_eqb (length r.fields) 1 count, bad) refl
 
 -- a `loop` with good numbers passes
-pub loop_fault-none : (r : Kept) → begins (codes "loop") r ≡ true → (length r.fields ≡ 1 → ⊥) → bad_field r 1 (led_range any_number) ≡ None
+pub loop_fault-none : (r : Kept) → begins (codes "loop") r ≡ true → (length r.fields ≡ 1 → ⊥) → bad_field r 1 (first_then_index any_number) ≡ None
     → loop_fault r ≡ None
 loop_fault-none r word count good = rw (word, ne_eqb (length r.fields) 1 count, good) refl
 
 -- a fault of the bonds is the `loop`'s
 pub loop_fault-bonds : (r : Kept) → begins (codes "loop") r ≡ true → (length r.fields ≡ 1 → ⊥) →
-    bad_field r 1 (led_range any_number) ≡ bad_field r 2 (λ i. any_index) → (e : Fault)
+    bad_field r 1 (first_then_index any_number) ≡ bad_field r 2 (λ i. any_index) → (e : Fault)
     → OrNoMemory (Refuses (bad_number r 2 (λ i. any_index))) e → OrNoMemory (Refuses (loop_fault r)) e
 loop_fault-bonds r word count rest (Refused x) h = rw (word, ne_eqb (length r.fields) 1 count, rest, h) refl
 loop_fault-bonds r word count rest NoMemory h = tt
@@ -106,13 +106,13 @@ word-passes w v r tests other h = other-word r w v (by (begins w r) h) other
     by false e = absurd (none-some (UnknownKind r.at) (sym e))
 
 energy-no_end : (r : Kept) → energy_fault r ≡ None → says_end r ≡ false
-energy-no_end r h = word-passes (codes "energy") (codes "end") r (shape_fault 2 r ∷ bad_number r 1 (λ i. any_number) ∷ []) refl h
+energy-no_end r h = word-passes (codes "energy") (codes "end") r (field_count_fault 2 r ∷ bad_number r 1 (λ i. any_number) ∷ []) refl h
 
 spins-no_end : (r : Kept) → spins_fault r ≡ None → says_end r ≡ false
 spins-no_end r h = word-passes (codes "spins") (codes "end") r (option_map (λ i. BadNumber r.at i) (bad_spin r) ∷ []) refl h
 
 -- an `end` behind the spins is to be a bare one
-pub loops_fault-end : (body : List Kept) (r : Kept) → says_end r ≡ true → loops_fault body r ≡ shape_fault 1 r
+pub loops_fault-end : (body : List Kept) (r : Kept) → says_end r ≡ true → loops_fault body r ≡ field_count_fault 1 r
 loops_fault-end body r h = rw h refl
 
 loops_fault-loop : (body : List Kept) (r : Kept) → says_end r ≡ false → loops_fault body r ≡ loop_fault r

@@ -11,7 +11,7 @@ use Rattle.sg_model.specs.declared.refusal.Refusal.TheVariants.{BadNumber}
 use Rattle.sg_reader.specs.Body.{link_fault, link_range}
 use Rattle.sg_reader.specs.declared.range.Range.{Range}
 use Rattle.sg_reader.specs.Kept.{Kept, field}
-use Rattle.sg_reader.specs.Tests.{any_index, bad_field, bad_number, is_number_in, led_range, shape_fault}
+use Rattle.sg_reader.specs.Tests.{any_index, bad_field, bad_number, is_number_in, first_then_index, field_count_fault}
 
 -- all fields from `from` on are numbers of their ranges
 pub bad_field-none : (r : Kept) (from : ℕ) (range : ℕ → Range) →
@@ -96,9 +96,9 @@ pub is-not : (a b : ℕ) → a ≡ b → not (a == b) ≡ false
 is-not a b h = not_from_true _ (eq-eqb a b h)
 
 -- behind a first number of its range the numbers of such a record are those of items
-pub led_range-rest : (range : Range) (r : Kept) → 2 ≤ length r.fields → is_number_in range (field r 1) ≡ true
-    → bad_field r 1 (led_range range) ≡ bad_field r 2 (λ i. any_index)
-led_range-rest range r long good = bad_field-rest r (led_range range) (λ i. any_index) long good
+pub first_then_index-rest : (range : Range) (r : Kept) → 2 ≤ length r.fields → is_number_in range (field r 1) ≡ true
+    → bad_field r 1 (first_then_index range) ≡ bad_field r 2 (λ i. any_index)
+first_then_index-rest range r long good = bad_field-rest r (first_then_index range) (λ i. any_index) long good
     (λ i low. let other : (i == 1) ≡ false = ne_eqb i 1 (λ e. absurd (omega (arith, e, low))) in rw other refl)
 
 -- a bad number refuses a record that joins two spins
@@ -114,6 +114,6 @@ unfolding link_fault
 link_fault-none range n r count good = rw (is-not (length r.fields) 4 count, good) refl
 
 -- another number of fields is refused first
-pub link_fault-shape : (range : Range) (n : ℕ) (r : Kept) (x : Refusal) → shape_fault 4 r ≡ Some x → link_fault range n r ≡ Some x
+pub link_fault-shape : (range : Range) (n : ℕ) (r : Kept) (x : Refusal) → field_count_fault 4 r ≡ Some x → link_fault range n r ≡ Some x
 unfolding link_fault
-link_fault-shape range n r x bad = fails-first (shape_fault 4 r) (option_or (bad_number r 1 (link_range range n)) None) x bad
+link_fault-shape range n r x bad = fails-first (field_count_fault 4 r) (option_or (bad_number r 1 (link_range range n)) None) x bad

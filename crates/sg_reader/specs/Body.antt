@@ -15,18 +15,21 @@ use Rattle.sg_draft.specs.Draft.{reseamed}
 use Rattle.sg_draft.specs.Limits.{program_limits}
 use Rattle.sg_draft.specs.Numbers.{bond_count_fault, coupling_count_fault}
 use Rattle.sg_draft.specs.Tests.{first_of, refuse_if}
-use Rattle.sg_reader.specs.Tests.{any_index, any_number, bad_number, led_range, number_in, shape_fault, size_in, spin_below}
+use Rattle.sg_reader.specs.Tests.{any_index, any_number, bad_number, first_then_index, number_in, field_count_fault, size_in, spin_below}
 
--- what a record begins with
+-- the record begins with `end`
 abbrev pub says_end : Kept → Bool
 says_end r = begins (codes "end") r
 
+-- the record begins with `seam`
 abbrev pub says_seam : Kept → Bool
 says_seam r = begins (codes "seam") r
 
+-- the record begins with `bond`
 abbrev pub says_bond : Kept → Bool
 says_bond r = begins (codes "bond") r
 
+-- the record begins with `rot`
 abbrev pub says_rot : Kept → Bool
 says_rot r = begins (codes "rot") r
 
@@ -34,6 +37,7 @@ says_rot r = begins (codes "rot") r
 abbrev pub numbers_from : Kept → ℕ → List ℤ
 numbers_from r from = map (λ i. number_in r i) (range_with_len from (length r.fields - from))
 
+-- the sizes of the numbers in the fields from field `from` on
 abbrev pub sizes_from : Kept → ℕ → List ℕ
 sizes_from r from = map (λ i. size_in r i) (range_with_len from (length r.fields - from))
 
@@ -45,44 +49,48 @@ seam_in body = option_map (λ r. sizes_from r 1) (find says_seam body)
 unfoldable pub couplings_in : List Kept → List ℤ
 couplings_in body = flat_map (λ r. numbers_from r 0) (filter (λ r. not (says_seam r)) body)
 
--- the bonds `bond,U,V,J`
+-- the bond of a record `bond,U,V,J`
 abbrev pub bond_of : Kept → Bond
 bond_of r = record { u = size_in r 1; v = size_in r 2; j = number_in r 3 }
 
+-- the bonds of the records `bond,U,V,J`, in their order
 unfoldable pub bonds_in : List Kept → List Bond
 bonds_in body = map bond_of (filter says_bond body)
 
--- the darts of spin i, by its record `rot,I,D,D,D`; the empty list where it has none
+-- the record `rot,I,D,D,D` is of spin i
 abbrev pub says_rot_of : ℕ → Kept → Bool
 says_rot_of i r = says_rot r && (size_in r 1 == i)
 
+-- a record `rot,I,D,D,D` is of spin i
 unfoldable pub has_rot : List Kept → ℕ → Bool
 has_rot body i = list_any (says_rot_of i) body
 
+-- the darts of spin i by its record `rot,I,D,D,D`, and none where it has no such record
 unfoldable pub darts_in : List Kept → ℕ → List ℕ
 darts_in body i = unwrap_or (option_map (λ r. sizes_from r 2) (find (says_rot_of i) body)) []
 
--- a list that may be given once, where one may stand before: it is the second, or a field is no number of an item
-abbrev pub once_fault : Bool → Kept → Option Refusal
-once_fault seen r = first_of (refuse_if seen (BadShape r.at) ∷ bad_number r 1 (λ i. any_index) ∷ [])
+-- the tests of a list of indices that may be given once: it was not seen before, and each field is an index
+abbrev pub sole_list_fault : Bool → Kept → Option Refusal
+sole_list_fault seen r = first_of (refuse_if seen (BadShape r.at) ∷ bad_number r 1 (λ i. any_index) ∷ [])
 
 -- the record that ends a lattice of `wanted` bonds with the couplings that were found
 abbrev pub lattice_end_fault : ℕ → ℕ → Kept → Option Refusal
-lattice_end_fault wanted found r = first_of (shape_fault 1 r ∷ coupling_count_fault found wanted ∷ [])
+lattice_end_fault wanted found r = first_of (field_count_fault 1 r ∷ coupling_count_fault found wanted ∷ [])
 
 -- the tests of a record of a lattice
 unfoldable pub lattice_fault : ℕ → List Kept → Kept → Option Refusal
 lattice_fault wanted body r =
-    if says_seam r then once_fault (list_any says_seam body) r
+    if says_seam r then sole_list_fault (list_any says_seam body) r
     else (if says_end r then lattice_end_fault wanted (length (couplings_in body)) r
     else bad_number r 0 (λ i. any_number))
 
--- the range of field i of a record that joins two of n spins, with a number of the range behind them; and its tests
+-- the range of field i of a record that joins two of n spins, with a number of this range behind them
 abbrev pub link_range : Range → ℕ → ℕ → Range
 link_range range n i = if i == 3 then range else spin_below n
 
+-- the tests of such a record: it has four fields, and each number is of the range of its place
 unfoldable pub link_fault : Range → ℕ → Kept → Option Refusal
-link_fault range n r = first_of (shape_fault 4 r ∷ bad_number r 1 (link_range range n) ∷ [])
+link_fault range n r = first_of (field_count_fault 4 r ∷ bad_number r 1 (link_range range n) ∷ [])
 
 -- bond m between spins u and v: it is one too many, or it joins a spin to itself
 abbrev pub ends_fault : ℕ → ℕ → ℕ → Option Refusal
@@ -96,7 +104,7 @@ bond_fault n m r = first_of (link_fault any_number n r ∷ ends_fault (size_in r
 abbrev pub rot_fault : ℕ → Bool → Kept → Option Refusal
 rot_fault n seen r = first_of (
     refuse_if (length r.fields == 1) (BadShape r.at)
-    ∷ bad_number r 1 (led_range (spin_below n))
+    ∷ bad_number r 1 (first_then_index (spin_below n))
     ∷ refuse_if seen (BadShape r.at)
     ∷ [])
 
@@ -105,8 +113,8 @@ unfoldable pub general_fault : ℕ → List Kept → Kept → Option Refusal
 general_fault n body r =
     if says_bond r then bond_fault n (length (bonds_in body)) r
     else (if says_rot r then rot_fault n (has_rot body (size_in r 1)) r
-    else (if says_seam r then once_fault (list_any says_seam body) r
-    else (if says_end r then shape_fault 1 r
+    else (if says_seam r then sole_list_fault (list_any says_seam body) r
+    else (if says_end r then field_count_fault 1 r
     else Some (UnknownKind r.at))))
 
 -- the first test that a record fails

@@ -55,6 +55,10 @@ abbrev pub Fails : (Refusal → List Kept → Type 0) → List Kept → List Kep
 Fails refuses records rest (Refused refusal) = refuses refusal rest
 Fails refuses records rest NoMemory = IsRest records rest
 
+-- a value, or a refusal, with the records that are left
+abbrev pub Leaving : {X : Type 0} → (X → List Kept → Type 0) → X × List Kept → Type 0
+Leaving reads p = reads p.0 p.1
+
 -- a record stands where none may
 pub record IsTrailing (records : List Kept) (refusal : Refusal) (rest : List Kept) : Type 0 where
   pub first : Kept

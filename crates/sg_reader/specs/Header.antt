@@ -16,7 +16,7 @@ use Rattle.sg_reader.specs.Kept.{Kept, field}
 use Rattle.sg_draft.specs.Limits.{program_limits}
 use Rattle.sg_draft.specs.Numbers.{many_spins_fault}
 use Rattle.sg_draft.specs.Tests.{first_of}
-use Rattle.sg_reader.specs.Tests.{at_least, bad_number, shape_fault, size_in}
+use Rattle.sg_reader.specs.Tests.{at_least, bad_number, field_count_fault, size_in}
 
 -- the form of an instance that a word names
 unfoldable pub form_of : List ℕ → Option Form
@@ -47,7 +47,7 @@ spins_in form.General r = size_in r 1
 abbrev pub form_fault : Option Form → Kept → Option Refusal
 form_fault None r = Some (UnknownKind r.at)
 form_fault (Some form) r = first_of (
-    shape_fault (field_count form) r
+    field_count_fault (field_count form) r
     ∷ bad_number r 1 (header_range form)
     ∷ many_spins_fault program_limits (spins_in form r)
     ∷ [])

@@ -1,12 +1,13 @@
 -- Which instance records give, or why they are refused: the first test that one fails, in the order of the records.
 use Rattle.std.specs.Prelude.{◌≡◌, ◌≤◌, List, [], ◌∷◌, All, length, map, Some, None}
 use Rattle.std.specs.List.{range_with_len}
-use Rattle.sg_limits.specs.Limits.{bond_limit}
+use Rattle.sg_limits.specs.Limits.{bond_limit, spin_limit}
 use Rattle.sg_model.specs.declared.refusal.Refusal.{Refusal}
 use Rattle.sg_model.specs.declared.refusal.Refusal.TheVariants.{Unended}
-use Rattle.sg_model.specs.Ising.{IsBond, Ising}
+use Rattle.sg_model.specs.Ising.{IsBond, Ising, bond_count}
 use Rattle.sg_model.specs.Rotation.{IsRotation}
 use Rattle.sg_model.specs.Seam.{IsSeam}
+use Rattle.sg_model.specs.WellFormed.{IsInstance}
 use Rattle.sg_model.specs.Faults.{IsRefusalOf}
 use Rattle.sg_reader.specs.declared.general.GeneralBody.{GeneralBody}
 use Rattle.sg_reader.specs.declared.header.Header.{Header}
@@ -20,13 +21,14 @@ use Rattle.sg_reader.specs.Ended.{RefusesRecords, StatesToEnd}
 abbrev pub StatesInstance : Header → List Kept → Ising → List Kept → Type 0
 StatesInstance header records inst rest = StatesToEnd (record_fault header) (instance_of header) records inst rest
 
--- and it passes the tests of an instance
+-- the records behind the first state the instance up to their `end`, and its rotation and its seam are right
 pub record ReadsBody (header : Header) (records : List Kept) (inst : Ising) (rest : List Kept) : Type 0 where
   pub states : StatesInstance header records inst rest
   pub rotation : IsRotation inst
   pub seam : IsSeam inst
 
--- the records give the instance, and `rest` is left behind its `end`
+-- the records give the instance, and `rest` is left behind its `end`. What they give is an instance within the limits
+-- (`IsGiven`), as the law `records_have_one_answer` says
 pub record ReadsInstance (records : List Kept) (inst : Ising) (rest : List Kept) : Type 0 where
   pub first : Kept
   pub more : List Kept
@@ -35,6 +37,12 @@ pub record ReadsInstance (records : List Kept) (inst : Ising) (rest : List Kept)
   pub passes : header_fault first ≡ None
   pub says : header_of first ≡ Some header
   pub reads : ReadsBody header more inst rest
+
+-- an instance within the limits of the program
+pub record IsGiven (inst : Ising) : Type 0 where
+  pub instance : IsInstance inst
+  pub few_spins : inst.n ≤ spin_limit
+  pub few_bonds : bond_count inst ≤ bond_limit
 
 -- the records behind the first are refused, at one of them, or at the `end` by the tests of an instance
 pub data RefusesBody (header : Header) (records : List Kept) (refusal : Refusal) (rest : List Kept) : Type 0 where

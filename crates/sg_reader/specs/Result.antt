@@ -9,7 +9,7 @@ use Rattle.sg_check.specs.declared.packing.ResultText.{ResultText}
 use Rattle.sg_reader.specs.declared.result.LoopsBody.{LoopsBody}
 use Rattle.sg_reader.specs.Kept.{Kept, field}
 use Rattle.sg_draft.specs.Tests.{first_of, refuse_if}
-use Rattle.sg_reader.specs.Tests.{any_number, bad_number, led_range, number_in, number_of, shape_fault, word_fault}
+use Rattle.sg_reader.specs.Tests.{any_number, bad_number, first_then_index, number_in, number_of, field_count_fault, word_fault}
 use Rattle.sg_reader.specs.Body.{says_end, numbers_from, sizes_from}
 use Rattle.sg_reader.specs.Ended.{RefusesRecords, StatesToEnd, record_at}
 
@@ -25,7 +25,7 @@ bad_spin r = find (λ i. not (is_spin_value (number_of (field r i)))) (range_wit
 -- the energy, `energy,E`
 abbrev pub energy_fault : Kept → Option Refusal
 energy_fault r =
-    first_of (word_fault (codes "energy") r ∷ shape_fault 2 r ∷ bad_number r 1 (λ i. any_number) ∷ [])
+    first_of (word_fault (codes "energy") r ∷ field_count_fault 2 r ∷ bad_number r 1 (λ i. any_number) ∷ [])
 
 -- the spins, `spins,S,S,..`, perhaps none
 abbrev pub spins_fault : Kept → Option Refusal
@@ -36,12 +36,12 @@ abbrev pub loop_fault : Kept → Option Refusal
 loop_fault r = first_of (
     word_fault (codes "loop") r
     ∷ refuse_if (length r.fields == 1) (BadShape r.at)
-    ∷ bad_number r 1 (led_range any_number)
+    ∷ bad_number r 1 (first_then_index any_number)
     ∷ [])
 
 -- the tests of a record behind the energy and the spins: a loop, or the `end`
 abbrev pub loops_fault : List Kept → Kept → Option Refusal
-loops_fault loops r = if says_end r then shape_fault 1 r else loop_fault r
+loops_fault loops r = if says_end r then field_count_fault 1 r else loop_fault r
 
 -- the tests of a record of a result: the energy comes first, then the spins, then loops up to the `end`
 unfoldable pub result_fault : List Kept → Kept → Option Refusal

@@ -22,35 +22,40 @@ unfoldable pub number_of : List ℕ → Option ℤ
 number_of field =
     if is_numeral field && nat_lt (size_of field) (2 ^ 63) then Some (signed_digits_value 10 field) else None
 
--- the ranges of the places: couplings, rows and columns and spins in all, spins by number, darts and bonds by number
+-- each number that a field can spell, as a coupling may be
 abbrev pub any_number : Range
 any_number = record { low = neg_ℤ (pos (2 ^ 63 - 1)); high = pos (2 ^ 63 - 1) }
 
+-- the numbers from `least` on
 abbrev pub at_least : ℕ → Range
 at_least least = record { low = pos least; high = pos (2 ^ 63 - 1) }
 
+-- the numbers of n spins
 abbrev pub spin_below : ℕ → Range
 spin_below n = record { low = pos 0; high = pos (n - 1) }
 
+-- the numbers from 0 to 4294967295, which number darts and bonds
 abbrev pub any_index : Range
 any_index = record { low = pos 0; high = pos (2 ^ 32 - 1) }
 
--- the range of field i of a record whose first number is of the range, and whose others number items
-abbrev pub led_range : Range → ℕ → Range
-led_range range i = if i == 1 then range else any_index
+-- the range of field i of a record whose first number is of this range, and whose further numbers are indices
+abbrev pub first_then_index : Range → ℕ → Range
+first_then_index range i = if i == 1 then range else any_index
 
--- whether a field is a number of the range
+-- whether there is a number, and it is of the range
 abbrev pub is_in : Range → Option ℤ → Bool
 is_in range None = false
 is_in range (Some number) = int_le range.low number && int_le number range.high
 
+-- whether a field is a number of the range
 abbrev pub is_number_in : Range → List ℕ → Bool
 is_number_in range text = is_in range (number_of text)
 
--- the number in a field, and its size
+-- the number in field i, and 0 where it is none
 abbrev pub number_in : Kept → ℕ → ℤ
 number_in r i = unwrap_or (number_of (field r i)) (pos 0)
 
+-- the size of the number in field i
 abbrev pub size_in : Kept → ℕ → ℕ
 size_in r i = unsigned_abs (number_in r i)
 
@@ -59,13 +64,14 @@ unfoldable pub bad_field : Kept → ℕ → (ℕ → Range) → Option ℕ
 bad_field r from range =
     find (λ i. not (is_number_in (range i) (field r i))) (range_with_len from (length r.fields - from))
 
--- the test of the numbers of a record
+-- the test of the numbers of a record from field `from` on: it is refused at the first that is bad
 abbrev pub bad_number : Kept → ℕ → (ℕ → Range) → Option Refusal
 bad_number r from range = option_map (λ i. BadNumber r.at i) (bad_field r from range)
 
--- the tests of the word of a record, and of how many fields it has
+-- the test of the word that a record begins with
 abbrev pub word_fault : List ℕ → Kept → Option Refusal
 word_fault word r = refuse_if (not (begins word r)) (UnknownKind r.at)
 
-abbrev pub shape_fault : ℕ → Kept → Option Refusal
-shape_fault fields r = refuse_if (not (length r.fields == fields)) (BadShape r.at)
+-- the test of how many fields a record has
+abbrev pub field_count_fault : ℕ → Kept → Option Refusal
+field_count_fault fields r = refuse_if (not (length r.fields == fields)) (BadShape r.at)

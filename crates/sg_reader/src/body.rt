@@ -1,5 +1,5 @@
 ghost use Rattle.std.specs.Prelude.{◌≡◌, ◌<◌, ◌≤◌, ◌++◌, true, length, None, Some, IfOk, IfErr, OnOk};
-ghost use Rattle.sg_reader.specs.Body.{link_fault, numbers_from, once_fault, sizes_from};
+ghost use Rattle.sg_reader.specs.Body.{link_fault, numbers_from, sole_list_fault, sizes_from};
 ghost use Rattle.sg_draft.specs.Tests.{Refuses};
 ghost use Rattle.sg_reader.specs.Tests.{any_index, any_number, bad_field, bad_number, is_number_in, number_in, size_in};
 ghost use Rattle.sg_reader.specs.Kept.{field};
@@ -50,9 +50,9 @@ pub(crate) fn indices(alloc: Global, row: &Row, from: usize) -> Result<BondList,
 /// In this order: `BadShape` where one was seen before, and `BadNumber`.
 pub fn list_once(alloc: Global, row: &Row, seen: bool) -> Result<BondList, Fault>
     requires { 1 ≤ length row.now.fields }
-    ensures passes { IfOk result (λ l. once_fault seen row.now ≡ None) }
+    ensures passes { IfOk result (λ l. sole_list_fault seen row.now ≡ None) }
     ensures value { IfOk result (λ l. l ≡ sizes_from row.now 1) }
-    ensures fault { IfErr result (OrNoMemory (Refuses (once_fault seen row.now))) }
+    ensures fault { IfErr result (OrNoMemory (Refuses (sole_list_fault seen row.now))) }
 {
     if seen {
         return Err(Fault::Refused(Refusal::BadShape { at: row.at() }));

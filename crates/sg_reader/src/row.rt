@@ -5,7 +5,7 @@ ghost use Rattle.sg_model.specs.declared.refusal.Refusal.TheVariants.{BadNumber 
 ghost use Rattle.sg_reader.specs.Field.{fields_in};
 ghost use Rattle.sg_reader.specs.Kept.{begins as begins_with, field as field_of, is_kept as is_kept_row, is_comment as is_comment_field};
 ghost use Rattle.sg_model.specs.Spins.{IsUpOrDown};
-ghost use Rattle.sg_reader.specs.Tests.{is_number_in, number_in, number_of, shape_fault, size_in, word_fault};
+ghost use Rattle.sg_reader.specs.Tests.{is_number_in, number_in, number_of, field_count_fault, size_in, word_fault};
 ghost use Rattle.sg_reader.specs.Result.{is_spin_value};
 
 use super::cursor::Cursor;
@@ -130,9 +130,9 @@ impl Row {
     /// # Errors
     /// `BadShape` for another number of them.
     pub fn check_shape(&self, fields: usize) -> Result<(), Refusal>
-        ensures passes { OnOk result (shape_fault fields self.now ≡ None) }
+        ensures passes { OnOk result (field_count_fault fields self.now ≡ None) }
         ensures count { OnOk result (length self.now.fields ≡ fields) }
-        ensures refused { IfErr result (λ e. shape_fault fields self.now ≡ Some e) }
+        ensures refused { IfErr result (λ e. field_count_fault fields self.now ≡ Some e) }
     {
         if self.count != fields {
             return Err(Refusal::BadShape { at: self.at });

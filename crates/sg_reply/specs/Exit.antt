@@ -1,4 +1,4 @@
--- The ways to end: the exit status of each, and which of them answer.
+-- The ways to end: the exit status of each, and which of them come with a reply.
 use Rattle.std.specs.Prelude.{ℕ, ⊤}
 use Rattle.sg_reply.specs.declared.status.Status.{Status}
 use Rattle.sg_reply.specs.declared.status.Status.TheVariants.{Done, Refused, Usage, No, ReadFault, WriteFault, NoMemory}
@@ -13,12 +13,12 @@ exit_code ReadFault = 4
 exit_code WriteFault = 5
 exit_code NoMemory = 6
 
--- a status that answers the words: all but the faults of devices and want of memory
-abbrev pub IsAnswered : Status → Type 0
-IsAnswered Done = ⊤
-IsAnswered Refused = ⊤
-IsAnswered Usage = ⊤
-IsAnswered No = ⊤
-IsAnswered ReadFault = ⊥
-IsAnswered WriteFault = ⊥
-IsAnswered NoMemory = ⊥
+-- a status that comes with a reply, which may be a refusal: each but the faults of devices and out of memory
+abbrev pub IsReply : Status → Type 0
+IsReply Done = ⊤
+IsReply Refused = ⊤
+IsReply Usage = ⊤
+IsReply No = ⊤
+IsReply ReadFault = ⊥
+IsReply WriteFault = ⊥
+IsReply NoMemory = ⊥

@@ -1,6 +1,6 @@
 // A reply, and the ways in which one is made everywhere: a refusal, and a text that answers.
 ghost use Rattle.std.specs.Prelude.{◌≡◌, IfOk};
-ghost use Rattle.sg_reply.specs.Exit.{IsAnswered};
+ghost use Rattle.sg_reply.specs.Exit.{IsReply};
 ghost use Rattle.sg_reply.specs.Refused.{IsRefused, NamesFault};
 
 use super::status::Status;
@@ -21,7 +21,7 @@ pub struct Reply {
 /// The line of a refusal, and its status.
 pub fn refuse(alloc: Global, refusal: &Refusal) -> Result<Reply, NoMemory>
     ensures refused { IfOk result (λ reply. IsRefused refusal.now reply.text.items reply.status) }
-    ensures answered { IfOk result (λ reply. IsAnswered reply.status) }
+    ensures replied { IfOk result (λ reply. IsReply reply.status) }
 {
     let text = refusal_text(alloc, refusal)?;
     Ok(Reply {
@@ -33,7 +33,7 @@ pub fn refuse(alloc: Global, refusal: &Refusal) -> Result<Reply, NoMemory>
 /// The line of a fault that refuses the input, and its status. Want of memory is handed on.
 pub fn refuse_fault(alloc: Global, fault: &Fault) -> Result<Reply, NoMemory>
     ensures named { IfOk result (λ reply. NamesFault fault.now reply.text.items reply.status) }
-    ensures answered { IfOk result (λ reply. IsAnswered reply.status) }
+    ensures replied { IfOk result (λ reply. IsReply reply.status) }
 {
     match fault {
         Fault::Refused(refusal) => refuse(alloc, refusal),

@@ -2,24 +2,21 @@
 // that another implementation of their generator gives.
 ghost use Rattle.std.specs.Prelude.{codes, pos, replicate};
 
-use super::runs::{answer, answer_with, expect_row, no_laws};
-use sg_cli::Status;
-use sg_laws::{Alternate, Disorder, One, PlusMinus, Table, Uniform};
+use super::runs::{answer, answer_with, expect_row, no_laws, words};
+use sg_cli::{Status, answer_with_all_laws};
+use sg_laws::{Disorder, PlusMinus, Table};
 use std::alloc::Global;
 use std::process::Abort;
 use std::test::Fail;
 
-// The status of a run with the laws of the program, and the text that it wrote.
+// The status and the text of the reply with the laws of the program.
 pub fn drawn(alloc: Global, line: &str) -> Result<(Status, Vec<u8>), Fail> {
-    let mut laws = no_laws(alloc);
-    laws.push(Box::new(alloc, One::new())?)?;
-    laws.push(Box::new(alloc, Alternate::new())?)?;
-    laws.push(Box::new(alloc, PlusMinus::new())?)?;
-    laws.push(Box::new(alloc, Uniform::new())?)?;
-    answer_with(alloc, line, b"not read", laws)
+    let words = words(alloc, line)?;
+    let reply = answer_with_all_laws(alloc, words.as_slice(), b"not read")?;
+    Ok((reply.status, reply.text))
 }
 
-// Runs a row with the laws of the program, and compares what came of it.
+// Answers a row with the laws of the program, and compares what came of it.
 fn expect_drawn<R: Abort>(
     rt: &R,
     alloc: Global,

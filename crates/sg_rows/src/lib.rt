@@ -1,4 +1,4 @@
-//! Tests that cross crates: whole runs of the top call over the devices in memory.
+//! Tests that cross crates: replies of the top call, and whole runs over the devices in memory.
 //!
 //! Each row is a list of words, an input, and the status and the text that belong to them. Their
 //! values come from outside the program: worked by hand, from the literature or by other programs.

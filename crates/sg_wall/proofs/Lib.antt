@@ -1,2 +1,3 @@
 pub mod EmptySeams
 pub mod WallNumbers
+pub mod OneWall

@@ -6,10 +6,10 @@ use Rattle.sg_cli.proofs.AnswerLemmas.{drawn-in_part, drawn-whole, served-in_par
 use Rattle.sg_cli.proofs.serve.run.Goals as goal
 
 pub returns-in-None-clause-answer : goal.returns-in-None-clause-answer
-returns-in-None-clause-answer g c = λ answered.
+returns-in-None-clause-answer g c = λ replied.
     let words = map string_bytes c.args.words.now in
     let left = g.S.Source.left c.args.source.now in
-    let sent = c.send.ensures.sent answered in
+    let sent = c.send.ensures.sent replied in
     rw sent.0 (served-whole words _ left (g.K.Sink.written c.args.sink.now) (g.K.Sink.written c.send.new.sink) usage_text Usage
     (usage-served words _ left (sym c.parse_command.ensures.value ∙ c.in-None.is)) sent.1)
 
@@ -23,9 +23,9 @@ returns-in-None-clause-write_fault g c = λ stopped.
     )
 
 pub returns-in-Ok-draw_reply-clause-answer : goal.returns-in-Ok-draw_reply-clause-answer
-returns-in-Ok-draw_reply-clause-answer g c = λ answered.
+returns-in-Ok-draw_reply-clause-answer g c = λ replied.
     let reply = c.in-Ok-draw_reply.reply in
-    let sent = c.send-in-Ok-draw_reply.ensures.sent answered in
+    let sent = c.send-in-Ok-draw_reply.ensures.sent replied in
     rw sent.0 (drawn-whole (map string_bytes c.args.words.now) _ c.in-Some-Draw.drawing c.law_word.result.now
     (g.S.Source.left c.args.source.now) (g.K.Sink.written c.args.sink.now) (g.K.Sink.written c.send-in-Ok-draw_reply.new.sink)
     reply.text.items c.as_slice-in-Ok-draw_reply.result.now reply.status
@@ -41,5 +41,5 @@ returns-in-Ok-draw_reply-clause-write_fault g c = λ stopped.
           reply.text.items c.as_slice-in-Ok-draw_reply.result.now reply.status
           (sym c.parse_command.ensures.value ∙ c.in-Some-Draw.is ∙ ap Some c.in-Some-Draw.field-0-is) c.law_word.ensures
           c.as_slice-in-Ok-draw_reply.ensures.value
-          c.in-Ok-draw_reply.ensures.served c.in-Ok-draw_reply.ensures.answered (c.send-in-Ok-draw_reply.ensures.fault stopped).1,
+          c.in-Ok-draw_reply.ensures.served c.in-Ok-draw_reply.ensures.replied (c.send-in-Ok-draw_reply.ensures.fault stopped).1,
     )

@@ -1,11 +1,11 @@
-use Rattle.sg_cli.proofs.InputLemmas.{answers-long, answers-short}
+use Rattle.sg_cli.proofs.InputLemmas.{answers-long, answers-told}
 use Rattle.sg_cli.proofs.serve.serve.Goals as goal
 
-pub returns-in_ok-text_reply-in-Ok-clause-served : goal.returns-in_ok-text_reply-in-Ok-clause-served
-returns-in_ok-text_reply-in-Ok-clause-served g c =
-    let reply = c.in_ok-text_reply-in-Ok.field-0 in
-    answers-short c.args.reading (g.S.Source.left c.args.source.now) (g.S.Source.left c.read_all.new.source) c.in-Ok.bytes.items reply.text.items reply.status
-    c.in-Ok.ensures.whole c.in-Ok.ensures.within (rw c.as_slice.ensures.value at c.in_ok-text_reply-in-Ok.ensures.served)
+pub returns-in_ok-input_reply-in-Ok-clause-served : goal.returns-in_ok-input_reply-in-Ok-clause-served
+returns-in_ok-input_reply-in-Ok-clause-served g c =
+    let reply = c.in_ok-input_reply-in-Ok.field-0 in
+    answers-told c.args.reading (g.S.Source.left c.args.source.now) (g.S.Source.left c.read_all.new.source) c.in-Ok.bytes.items reply.text.items reply.status
+    c.in-Ok.ensures.whole (rw c.as_slice.ensures.value at c.in_ok-input_reply-in-Ok.ensures.served)
 
 pub returns-in_ok-refuse-in-Err-TooLong-clause-served : goal.returns-in_ok-refuse-in-Err-TooLong-clause-served
 returns-in_ok-refuse-in-Err-TooLong-clause-served g c =

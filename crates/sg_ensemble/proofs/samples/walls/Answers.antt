@@ -4,7 +4,7 @@ use Rattle.std.proofs.lemmas.Int.{fits_signed_from_abs, to_z-of_z}
 use Rattle.std.proofs.lemmas.List.Elements.{All-push}
 use Rattle.sg_model.specs.Ising.{Ising}
 use Rattle.sg_laws.specs.Stream.{Draws}
-use Rattle.sg_ensemble.specs.Samples.{AreWalls, HasWall, draw_count}
+use Rattle.sg_ensemble.specs.Samples.{AreWalls, IsFitWithWall, draw_count}
 use Rattle.sg_ensemble.proofs.DrawnWalls.{IsDrawn, all_behind, all_walls, counts_behind, just_behind, one_drawn, some_behind}
 use Rattle.sg_ensemble.proofs.samples.walls.Goals as goal
 
@@ -21,7 +21,7 @@ loop-preserved g c =
       subst (IsDrawn c.args.rows c.args.cols (c.loop.counter + 1) old new) (sym pushed)
           (one_drawn c.args.rows c.args.cols c.loop.counter old mid new c.loop.walls c.in_ok-wall.wall c.loop.invariant.0
           (c.loop.invariant.1 (draw_count c.args.rows c.args.cols)) e.rest.goes_on
-          (subst (λ (i : Ising). HasWall i c.in_ok-wall.wall) e.sample here.wall)),
+          (subst (λ (i : Ising). IsFitWithWall i c.in_ok-wall.wall) e.sample here.wall)),
       counts_behind mid new (draw_count c.args.rows c.args.cols) c.loop.invariant.1 e.rest.goes_on,
       rw pushed (All-push (λ d. unsigned_abs d ≤ 2 ^ 33) c.loop.walls c.in_ok-wall.wall c.loop.invariant.2 here.size),
       e.title ∙ c.loop.invariant.3,

@@ -3,7 +3,7 @@ use Rattle.std.proofs.lemmas.Result.{err_from_is_err_and}
 use Rattle.sg_model.specs.declared.refusal.Refusal.TheVariants.{BadShape}
 use Rattle.sg_reader.specs.Body.{sizes_from}
 use Rattle.sg_reader.specs.Tests.{spin_below}
-use Rattle.sg_reader.proofs.TestLaws.{led_range-rest}
+use Rattle.sg_reader.proofs.TestLaws.{first_then_index-rest}
 use Rattle.sg_reader.proofs.GeneralLaws.{among-lists, among-marks, rot-numbers, rot-refused, rot-taken, rot_fault-darts, rot_fault-none, rot_fault-seen}
 use Rattle.sg_reader.proofs.general.GeneralBody.take_rot.Goals as goal
 
@@ -21,7 +21,7 @@ returns-in_err-darts-clause-fault c =
     let r = c.args.row.now in
     let n = c.args.self.now.n in
     let long = c.in_ok-spin.ensures.count in
-    let rest = led_range-rest (spin_below n) r long c.in_ok-spin.ensures.good in
+    let rest = first_then_index-rest (spin_below n) r long c.in_ok-spin.ensures.good in
     let bad = c.in_err-darts.ensures.fault in
     rw (p.1, p.2) (rot-numbers c.args.self.now r c.in_err-darts.field-0.0 c.requires.word
     (λ seen. rot_fault-darts n seen r (λ e. absurd (omega (arith, e, long))) rest c.in_err-darts.field-0.0 bad))
@@ -33,7 +33,7 @@ returns-then-index-clause-fault c =
     let long = c.in_ok-spin.ensures.count in
     let value = c.in_ok-spin.ensures.value in
     let below = c.in_ok-spin.ensures.below in
-    let good = led_range-rest (spin_below n) r long c.in_ok-spin.ensures.good ∙ c.in_ok-darts.ensures.passes in
+    let good = first_then_index-rest (spin_below n) r long c.in_ok-spin.ensures.good ∙ c.in_ok-darts.ensures.passes in
     rot-refused c.args.self.now r c.index.result.now _
     (ap (λ (k : ℕ). get_or c.args.self.now.seen.items k c.index.result.now) (sym value) ∙ sym c.index.ensures ∙ c.if-index.true)
     (omega (arith, value, below)) c.requires.word
@@ -46,7 +46,7 @@ returns-clause-taken c =
     let long = c.in_ok-spin.ensures.count in
     let value = c.in_ok-spin.ensures.value in
     let below = c.in_ok-spin.ensures.below in
-    let good = led_range-rest (spin_below n) r long c.in_ok-spin.ensures.good ∙ c.in_ok-darts.ensures.passes in
+    let good = first_then_index-rest (spin_below n) r long c.in_ok-spin.ensures.good ∙ c.in_ok-darts.ensures.passes in
     rot-taken c.args.self.now _ r c.index.result.now
     (ap (λ (k : ℕ). get_or c.args.self.now.seen.items k c.index.result.now) (sym value) ∙ sym c.index.ensures ∙ c.if-index.false)
     (omega (arith, value, below)) c.requires.word (rot_fault-none n false r (λ e. absurd (omega (arith, e, long))) good refl) refl refl refl
