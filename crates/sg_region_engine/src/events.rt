@@ -26,6 +26,9 @@ impl<'a> Engine<'a> {
             return Ok(());
         };
         let Some(held) = self.cover.held(arc.to) else {
+            if self.is_open_hub(arc.to) {
+                return self.augment_at_hub(own);
+            }
             self.take(here.top, arc.to, own.terminal);
             return self.wake(arc.to);
         };
@@ -129,12 +132,16 @@ impl<'a> Engine<'a> {
         }
     }
 
-    // Each terminal takes its node and becomes the root of a tree.
+    // Each terminal takes its node and becomes the root of a tree, but for those at open hubs.
     fn plant(&mut self) -> Result<(), NoMemory> {
         for node in self.terminals {
-            let name = self.forest.plant(self.clock.now())?;
-            self.cover.open(name)?;
-            self.take(name, *node, name);
+            if self.is_open_hub(*node) {
+                self.plant_at_hub(*node)?;
+            } else {
+                let name = self.forest.plant(self.clock.now())?;
+                self.cover.open(name)?;
+                self.take(name, *node, name);
+            }
         }
         Ok(())
     }
@@ -150,6 +157,7 @@ impl<'a> Engine<'a> {
     /// Runs until each terminal has a mate. False if that did not come about within the work allowed.
     /// Arcs are twice as long as their edges weigh. The only error is want of memory.
     pub fn run(&mut self) -> Result<bool, NoMemory> {
+        self.is_open = !self.is_first && self.hubs.len() > 0;
         self.plant()?;
         self.wake_terminals()?;
         self.run_by_method(1)

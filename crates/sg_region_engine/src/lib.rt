@@ -16,13 +16,14 @@
 //! `sg_repairs`, which takes finished regions apart and lets what is left grow on.
 //!
 //! `wake` enters events, `steps` has the steps of the method, `rests` those of the first half of a run,
-//! `bare` what happens at bare nodes, `events` what comes of each event, and `finish` reads the nest and
-//! the pairs off.
+//! `open_hubs` those at nodes of high degree until no tree is left, `bare` what happens at bare nodes,
+//! `events` what comes of each event, and `finish` reads the nest and the pairs off.
 #![tactic(auto)]
 
 mod bare;
 mod events;
 mod finish;
+mod open_hubs;
 mod rests;
 mod steps;
 mod wake;
@@ -77,9 +78,12 @@ pub struct Engine<'a> {
     pub work: Work,
     /// Whether a tree ends with its first odd cycle.
     pub is_first: bool,
-    /// How many cycles are at rest.
+    /// Whether hubs are open: no region covers one, and a tree that comes to one ends there.
+    pub is_open: bool,
+    /// How many cycles of the first half are at rest.
     pub rests: u32,
-    /// How many trees there are, with the cycles at rest.
+    /// How many trees there are, with what is at rest. Where hubs are open, what is paired with one is not among
+    /// them.
     pub unpaired: u32,
     /// A cycle: a list that is used again.
     pub cycle: Vec<Link>,
@@ -116,6 +120,7 @@ impl<'a> Engine<'a> {
             clock,
             work,
             is_first: matches!(method, Method::InHalves),
+            is_open: false,
             rests: 0,
             unpaired: count,
             cycle: Vec::new(alloc),

@@ -53,6 +53,7 @@ impl Parts {
             clock: self.clock,
             work: Work::new(0, 0),
             is_first: false,
+            is_open: false,
             rests: 0,
             unpaired: 0,
             cycle: self.cycle,
