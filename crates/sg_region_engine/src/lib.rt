@@ -45,6 +45,8 @@ pub enum Method {
     AtOnce,
     /// They rest until no tree is left.
     InHalves,
+    /// The same, and no hub is ever open: a reserve that shares with the others as little as it can.
+    InClosedHalves,
 }
 
 // What an outer region sees over an arc: when it gets to the end or meets the region there, and
@@ -108,8 +110,9 @@ impl<'a> Engine<'a> {
         let clock = Clock::new(alloc, arcs.darts(), hubs.len())?;
         let work = match method {
             Method::AtOnce => Work::brief(places),
-            Method::InHalves => Work::new(count, places),
+            Method::InHalves | Method::InClosedHalves => Work::new(count, places),
         };
+        let is_open = hubs.len() > 0 && !matches!(method, Method::InClosedHalves);
         Ok(Engine {
             alloc,
             arcs,
@@ -119,10 +122,10 @@ impl<'a> Engine<'a> {
             hubs,
             clock,
             work,
-            is_first: matches!(method, Method::InHalves),
-            is_open: false,
+            is_first: !matches!(method, Method::AtOnce),
+            is_open,
             rests: 0,
-            unpaired: count,
+            unpaired: 0,
             cycle: Vec::new(alloc),
             inner: Vec::new(alloc),
         })

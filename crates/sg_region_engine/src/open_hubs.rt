@@ -55,7 +55,6 @@ impl<'a> Engine<'a> {
     pub(super) fn plant_at_hub(&mut self, node: u32) -> Result<(), NoMemory> {
         let name = self.forest.reserve()?;
         self.cover.open(name)?;
-        self.unpaired = self.unpaired.saturating_sub(1);
         if let Some(arc) = self.arcs.arcs_of(node).first() {
             let own = End {
                 terminal: name,

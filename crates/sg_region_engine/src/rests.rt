@@ -20,34 +20,21 @@ impl<'a> Engine<'a> {
     /// Runs until each terminal has a mate. False if that did not come about within the work allowed. All
     /// arcs are so many times two as long as their edges weigh.
     pub fn run_by_method(&mut self, unit: i64) -> Result<bool, NoMemory> {
-        if self.is_first {
-            self.run_halves(unit)
-        } else if self.is_open {
-            self.run_open(unit)
-        } else {
-            self.go_on()
+        let mut is_done = self.go_on()?;
+        if is_done && self.is_first {
+            self.is_first = false;
+            self.rests = 0;
+            is_done = self.go_on_from_rests(unit)?;
         }
+        if is_done && self.is_open {
+            self.close_hubs()?;
+            is_done = self.go_on_from_rests(unit)?;
+        }
+        Ok(is_done)
     }
 
-    // The same with open hubs: when no tree is left, they are closed, and what is left over at one becomes a
-    // root.
-    fn run_open(&mut self, unit: i64) -> Result<bool, NoMemory> {
-        if !self.go_on()? {
-            return Ok(false);
-        }
-        self.close_hubs()?;
-        self.end_rests(unit)?;
-        self.go_on()
-    }
-
-    // The same in two halves.
-    fn run_halves(&mut self, unit: i64) -> Result<bool, NoMemory> {
-        let is_done = self.go_on()?;
-        self.is_first = false;
-        if !is_done {
-            return Ok(false);
-        }
-        self.rests = 0;
+    // All that rests becomes a root, and trees grow until none is left.
+    fn go_on_from_rests(&mut self, unit: i64) -> Result<bool, NoMemory> {
         self.end_rests(unit)?;
         self.go_on()
     }

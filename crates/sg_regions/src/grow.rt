@@ -18,13 +18,13 @@ pub fn grow(
 }
 
 // The regions that have grown once more, from terminals and over arcs in another order: at once in
-// halves, so that not only ties are taken otherwise.
+// halves and with closed hubs, so that not only ties are taken otherwise.
 pub fn grow_again(
     alloc: Global,
     arcs: &Adjacency,
     terminals: &[u32],
 ) -> Result<Option<(Nest, Vec<Pair>)>, NoMemory> {
-    grow_by(alloc, arcs, terminals, Method::InHalves)
+    grow_by(alloc, arcs, terminals, Method::InClosedHalves)
 }
 
 // The same by one method.
