@@ -29,6 +29,7 @@ mod steps;
 mod wake;
 
 pub use finish::Exit;
+use open_hubs::has_hub;
 use sg_forest::{Forest, Link, Reach, Role, Work};
 use sg_growth::{Adjacency, Arc, Clock, Cover, Held, Hubs, NEVER, reverse};
 use sg_slots::number;
@@ -112,7 +113,7 @@ impl<'a> Engine<'a> {
             Method::AtOnce => Work::brief(places),
             Method::InHalves | Method::InClosedHalves => Work::new(count, places),
         };
-        let is_open = hubs.len() > 0 && !matches!(method, Method::InClosedHalves);
+        let is_open = has_hub(arcs) && !matches!(method, Method::InClosedHalves);
         Ok(Engine {
             alloc,
             arcs,

@@ -14,11 +14,14 @@
 use super::Engine;
 use crate::NoMemory;
 use sg_forest::{Contact, End, Link, Role};
-use sg_growth::reverse;
+use sg_growth::{Adjacency, reverse};
 use sg_slots::{Slot, entry, number, set_entry};
 use std::mem::swap;
 
-// The regions that are paired with each hub, its guests: for each hub the guest that was added last, and for each
+// A node with more arcs is a hub here. A heap of its own pays only where there are many more (`Hubs`).
+const MOST_ARCS: usize = 16;
+
+// The regions that are paired with each hub, its guests: for each node the guest that was added last, and for each
 // region the guest that was added before it.
 #[derive(Drop)]
 struct Guests {
@@ -28,15 +31,15 @@ struct Guests {
 
 impl Guests {
     // Adds a region to the guests of a hub.
-    fn add(&mut self, name: u32, hub: u32) {
-        let next = self.last(hub);
+    fn add(&mut self, name: u32, node: u32) {
+        let next = self.last(node);
         set_entry(&mut self.nexts, name, next);
-        set_entry(&mut self.lasts, hub, Slot::of(name));
+        set_entry(&mut self.lasts, node, Slot::of(name));
     }
 
     // The guest of a hub that was added last.
-    fn last(&self, hub: u32) -> Slot {
-        entry(&self.lasts, hub).unwrap_or(Slot::none())
+    fn last(&self, node: u32) -> Slot {
+        entry(&self.lasts, node).unwrap_or(Slot::none())
     }
 
     // The guest that was added before this one.
@@ -45,10 +48,25 @@ impl Guests {
     }
 }
 
+// Whether a node is a hub.
+fn is_hub(arcs: &Adjacency, node: u32) -> bool {
+    arcs.arcs_of(node).len() > MOST_ARCS
+}
+
+// Whether any node is a hub.
+pub fn has_hub(arcs: &Adjacency) -> bool {
+    for node in 0..number(arcs.nodes()) {
+        if is_hub(arcs, node) {
+            return true;
+        }
+    }
+    false
+}
+
 impl<'a> Engine<'a> {
     // Whether a node is a hub that no region may cover yet.
     pub(super) fn is_open_hub(&self, node: u32) -> bool {
-        self.is_open && self.hubs.number_of(node).is_some()
+        self.is_open && is_hub(self.arcs, node)
     }
 
     // The region of a terminal at an open hub is paired with the hub, over any of its arcs.
@@ -88,9 +106,11 @@ impl<'a> Engine<'a> {
         self.is_open = false;
         let guests = self.guests()?;
         let mut ends = Vec::new(self.alloc);
-        for hub in 0..number(self.hubs.len()) {
-            self.list_ends(&guests, hub, &mut ends)?;
-            self.close_hub(&ends)?;
+        for node in 0..number(self.arcs.nodes()) {
+            if !guests.last(node).is_none() {
+                self.list_ends(&guests, node, &mut ends)?;
+                self.close_hub(&ends)?;
+            }
         }
         Ok(())
     }
@@ -98,12 +118,12 @@ impl<'a> Engine<'a> {
     // The guests of all hubs.
     fn guests(&self) -> Result<Guests, NoMemory> {
         let mut guests = Guests {
-            lasts: vec![in self.alloc; Slot::none(); self.hubs.len()]?,
+            lasts: vec![in self.alloc; Slot::none(); self.arcs.nodes()]?,
             nexts: vec![in self.alloc; Slot::none(); self.forest.len()]?,
         };
         for name in 0..number(self.forest.len()) {
-            if let Some(hub) = self.host(name) {
-                guests.add(name, hub);
+            if let Some(node) = self.host(name) {
+                guests.add(name, node);
             }
         }
         Ok(guests)
@@ -118,13 +138,13 @@ impl<'a> Engine<'a> {
         if !pair.is_with_node() {
             return None;
         }
-        self.hubs.number_of(self.arcs.arc(pair.own.dart).to)
+        Some(self.arcs.arc(pair.own.dart).to)
     }
 
     // Lists where the guests of a hub touch it, in place of what the list had.
-    fn list_ends(&self, guests: &Guests, hub: u32, ends: &mut Vec<End>) -> Result<(), NoMemory> {
+    fn list_ends(&self, guests: &Guests, node: u32, ends: &mut Vec<End>) -> Result<(), NoMemory> {
         ends.clear();
-        let mut next = guests.last(hub);
+        let mut next = guests.last(node);
         for _ in 0..self.forest.len() {
             let Some(name) = next.number() else {
                 break;
