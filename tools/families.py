@@ -256,6 +256,13 @@ def signs(kind, rows, cols, seed, most=1):
     return lattice(kind, rows, cols, coupling, coupling, coupling)
 
 
+def tailed(kind, rows, cols, seed):
+    """Couplings of drawn sign and of size 2^u, u drawn from 0 to 20: of very different sizes."""
+    below = generator(seed)
+    coupling = lambda r, c: ((2**20 + below(2**20) << below(20)) >> 20) * (1 if below(2) else -1)
+    return lattice(kind, rows, cols, coupling, coupling, coupling)
+
+
 def on_circle(n, chords, rim, inside):
     """Spins in a ring with bonds across it that do not cross: so one face has all spins. The couplings
     are negative, so that each triangle is frustrated."""
@@ -573,6 +580,12 @@ def planar_families():
         "polygon in drawn triangles, rim 1": lambda n: polygon_drawn(n, 33, always(1), always(5)),
         "polygon in drawn triangles, drawn": lambda n: polygon_drawn(n, 34, lambda i: 1 + drawn(i)(), lambda k: 1 + drawn(-k)()),
     }
+    for kind, rows in (("square", 2), ("square", 4), ("square", 32), ("triangular", 2), ("cylinder", 4)):
+        families[f"{kind}, {rows} rows, drawn"] = lambda n, kind=kind, rows=rows: signs(kind, rows, n // rows, 38, 2**20)
+    for kind in ("square", "triangular", "cylinder"):
+        families[f"{kind}, of many sizes"] = lambda n, kind=kind: tailed(kind, math.isqrt(n), math.isqrt(n), 39)
+    families["triangular, 2 rows, of many sizes"] = lambda n: tailed("triangular", 2, n // 2, 40)
+    families["polygon in triangles at a spin, drawn"] = lambda n: polygon_fan(n, lambda i: 1 + drawn(i)(), lambda k: 1 + drawn(-k)())
     for rows in range(2, 9):
         families[f"Villain's strip of {rows} rows"] = lambda n, rows=rows: villain(rows, n // rows)
         families[f"triangular strip of {rows} rows"] = lambda n, rows=rows: antiferromagnet(rows, n // rows)

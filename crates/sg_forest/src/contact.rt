@@ -15,7 +15,26 @@ pub struct Contact {
     pub other: End,
 }
 
+// The terminal of no region.
+const NOBODY: u32 = u32::MAX;
+
 impl Contact {
+    /// Where a region touches a node that no region covers: the node has no terminal.
+    pub fn with_node(own: End, back: u32) -> Contact {
+        Contact {
+            own,
+            other: End {
+                terminal: NOBODY,
+                dart: back,
+            },
+        }
+    }
+
+    /// Whether what is touched is a node that no region covers.
+    pub fn is_with_node(&self) -> bool {
+        self.other.terminal == NOBODY
+    }
+
     /// The same, as the other region sees it.
     pub fn reversed(&self) -> Contact {
         Contact {

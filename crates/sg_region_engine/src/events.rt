@@ -26,6 +26,9 @@ impl<'a> Engine<'a> {
             return Ok(());
         };
         let Some(held) = self.cover.held(arc.to) else {
+            if self.is_open_hub(arc.to) {
+                return self.augment_at_hub(own);
+            }
             self.take(here.top, arc.to, own.terminal);
             return self.wake(arc.to);
         };
@@ -129,13 +132,15 @@ impl<'a> Engine<'a> {
         }
     }
 
-    // Each terminal takes its node and becomes the root of a tree.
-    fn plant(&mut self) -> Result<(), NoMemory> {
-        for node in self.terminals {
-            let name = self.forest.plant(self.clock.now())?;
-            self.cover.open(name)?;
-            self.take(name, *node, name);
+    /// The next terminal takes its node and becomes the root of a tree, unless that is an open hub.
+    pub fn plant(&mut self, node: u32) -> Result<(), NoMemory> {
+        if self.is_open_hub(node) {
+            return self.plant_at_hub(node);
         }
+        let name = self.forest.plant(self.clock.now())?;
+        self.cover.open(name)?;
+        self.take(name, node, name);
+        self.unpaired = self.unpaired.saturating_add(1);
         Ok(())
     }
 
@@ -150,7 +155,9 @@ impl<'a> Engine<'a> {
     /// Runs until each terminal has a mate. False if that did not come about within the work allowed.
     /// Arcs are twice as long as their edges weigh. The only error is want of memory.
     pub fn run(&mut self) -> Result<bool, NoMemory> {
-        self.plant()?;
+        for node in self.terminals {
+            self.plant(*node)?;
+        }
         self.wake_terminals()?;
         self.run_by_method(1)
     }

@@ -16,18 +16,20 @@
 //! `sg_repairs`, which takes finished regions apart and lets what is left grow on.
 //!
 //! `wake` enters events, `steps` has the steps of the method, `rests` those of the first half of a run,
-//! `bare` what happens at bare nodes, `events` what comes of each event, and `finish` reads the nest and
-//! the pairs off.
+//! `open_hubs` those at nodes of high degree until no tree is left, `bare` what happens at bare nodes,
+//! `events` what comes of each event, and `finish` reads the nest and the pairs off.
 #![tactic(auto)]
 
 mod bare;
 mod events;
 mod finish;
+mod open_hubs;
 mod rests;
 mod steps;
 mod wake;
 
 pub use finish::Exit;
+use open_hubs::has_hub;
 use sg_forest::{Forest, Link, Reach, Role, Work};
 use sg_growth::{Adjacency, Arc, Clock, Cover, Held, Hubs, NEVER, reverse};
 use sg_slots::number;
@@ -44,6 +46,8 @@ pub enum Method {
     AtOnce,
     /// They rest until no tree is left.
     InHalves,
+    /// The same, and no hub is ever open: a reserve that shares with the others as little as it can.
+    InClosedHalves,
 }
 
 // What an outer region sees over an arc: when it gets to the end or meets the region there, and
@@ -77,9 +81,12 @@ pub struct Engine<'a> {
     pub work: Work,
     /// Whether a tree ends with its first odd cycle.
     pub is_first: bool,
-    /// How many cycles are at rest.
+    /// Whether hubs are open: no region covers one, and a tree that comes to one ends there.
+    pub is_open: bool,
+    /// How many cycles of the first half are at rest.
     pub rests: u32,
-    /// How many trees there are, with the cycles at rest.
+    /// How many trees there are, with what is at rest. Where hubs are open, what is paired with one is not among
+    /// them.
     pub unpaired: u32,
     /// A cycle: a list that is used again.
     pub cycle: Vec<Link>,
@@ -104,8 +111,9 @@ impl<'a> Engine<'a> {
         let clock = Clock::new(alloc, arcs.darts(), hubs.len())?;
         let work = match method {
             Method::AtOnce => Work::brief(places),
-            Method::InHalves => Work::new(count, places),
+            Method::InHalves | Method::InClosedHalves => Work::new(count, places),
         };
+        let is_open = has_hub(arcs) && !matches!(method, Method::InClosedHalves);
         Ok(Engine {
             alloc,
             arcs,
@@ -115,9 +123,10 @@ impl<'a> Engine<'a> {
             hubs,
             clock,
             work,
-            is_first: matches!(method, Method::InHalves),
+            is_first: !matches!(method, Method::AtOnce),
+            is_open,
             rests: 0,
-            unpaired: count,
+            unpaired: 0,
             cycle: Vec::new(alloc),
             inner: Vec::new(alloc),
         })

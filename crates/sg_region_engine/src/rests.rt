@@ -20,21 +20,21 @@ impl<'a> Engine<'a> {
     /// Runs until each terminal has a mate. False if that did not come about within the work allowed. All
     /// arcs are so many times two as long as their edges weigh.
     pub fn run_by_method(&mut self, unit: i64) -> Result<bool, NoMemory> {
-        if self.is_first {
-            self.run_halves(unit)
-        } else {
-            self.go_on()
+        let mut is_done = self.go_on()?;
+        if is_done && self.is_first {
+            self.is_first = false;
+            self.rests = 0;
+            is_done = self.go_on_from_rests(unit)?;
         }
+        if is_done && self.is_open {
+            self.close_hubs()?;
+            is_done = self.go_on_from_rests(unit)?;
+        }
+        Ok(is_done)
     }
 
-    // The same in two halves.
-    fn run_halves(&mut self, unit: i64) -> Result<bool, NoMemory> {
-        let is_done = self.go_on()?;
-        self.is_first = false;
-        if !is_done {
-            return Ok(false);
-        }
-        self.rests = 0;
+    // All that rests becomes a root, and trees grow until none is left.
+    fn go_on_from_rests(&mut self, unit: i64) -> Result<bool, NoMemory> {
         self.end_rests(unit)?;
         self.go_on()
     }
@@ -51,13 +51,17 @@ impl<'a> Engine<'a> {
         Ok(())
     }
 
-    // A tree comes to a cycle at rest: the pairs on the way to the root change sides, and the regions of
-    // the cycle are paired.
+    // A tree comes to what is at rest: the pairs on the way to the root change sides, and what rests is paired:
+    // in the first half, where it is a cycle of radius 0, it is taken apart.
     pub(super) fn augment_rest(&mut self, contact: Contact) -> Result<(), NoMemory> {
         let tree = self.forest.tree(self.forest.top(contact.own.terminal));
         self.forest.flip_pairs(contact, &mut self.work);
-        self.pair_rest(contact.reversed())?;
-        self.rests = self.rests.saturating_sub(1);
+        if self.is_first {
+            self.pair_rest(contact.reversed())?;
+            self.rests = self.rests.saturating_sub(1);
+        } else {
+            self.forest.set_pair(contact.reversed());
+        }
         self.unpaired = self.unpaired.saturating_sub(2);
         self.let_go(tree)
     }
@@ -85,14 +89,15 @@ impl<'a> Engine<'a> {
         Ok(())
     }
 
-    // Whether a name is that of a cycle at rest.
+    // Whether a name is that of a region at rest: of a cycle that was closed in the first half, or of what was left
+    // over at a hub.
     fn is_at_rest(&self, name: u32) -> bool {
         self.cover.is_open(name)
             && self.forest.role(name) == Role::Free
             && self.forest.pair(name).is_none()
     }
 
-    // All cycles that rest become roots, now or a unit later.
+    // All regions at rest become roots, now or a unit later.
     fn end_rests(&mut self, unit: i64) -> Result<(), NoMemory> {
         let mut roots = Vec::new(self.alloc);
         for name in 0..number(self.forest.len()) {
@@ -113,21 +118,29 @@ impl<'a> Engine<'a> {
         Ok(())
     }
 
-    // Whether the radii of a cycle are an odd number of units just where the time is.
+    // Whether the radii over a terminal of a region are an odd number of units just where the time is.
     fn is_in_step(&self, name: u32, unit: i64) -> bool {
         let now = self.clock.now();
-        let part = self.forest.cycles().first(name);
-        let ahead = self.forest.radius(part, now).wrapping_sub(now);
-        ahead & unit == 0
+        let reach = self.forest.reach(self.terminal_in(name), now);
+        reach.by.wrapping_sub(now) & unit == 0
     }
 
-    // A cycle at rest becomes the root of a tree.
+    // A terminal in a region.
+    fn terminal_in(&self, name: u32) -> u32 {
+        if self.seed(name).is_some() {
+            return name;
+        }
+        let cycles = self.forest.cycles();
+        cycles.link(cycles.first(name)).contact.own.terminal
+    }
+
+    // A region at rest becomes the root of a tree.
     fn make_root(&mut self, name: u32) {
-        let terminal = self.forest.cycles().first(name);
+        let terminal = self.terminal_in(name);
         self.forest.make_root(name, terminal, self.clock.now());
     }
 
-    // The event of a cycle that is to become a root, if it still rests.
+    // The event of a region that is to become a root, if it still rests.
     pub(super) fn root_event(&mut self, name: u32) -> Result<(), NoMemory> {
         if !self.is_at_rest(name) {
             return Ok(());

@@ -12,6 +12,7 @@ impl<'a> Engine<'a> {
         let other = self.forest.top(contact.other.terminal);
         if self.forest.role(other) == Role::Free {
             match self.forest.pair(other) {
+                Some(pair) if pair.is_with_node() => self.augment_by_hub(contact),
                 Some(_) => self.grow(contact),
                 None => self.augment_rest(contact),
             }
@@ -152,7 +153,7 @@ impl<'a> Engine<'a> {
     }
 
     // The rows of a cycle's regions become one.
-    fn append_rows(&mut self, cycle: &[Link], blossom: u32) {
+    pub(super) fn append_rows(&mut self, cycle: &[Link], blossom: u32) {
         for link in cycle {
             self.cover.append(blossom, link.child);
         }

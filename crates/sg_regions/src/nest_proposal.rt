@@ -1,6 +1,6 @@
 // Proposals without cuts: a join, and the finished regions as they are.
 use super::NoMemory;
-use super::grow::{grow, grow_again};
+use super::grow::{grow_again, grow_without_cuts};
 use super::proposal::{arcs_of, reversed, reversed_arcs};
 use sg_graph::{EdgeList, Terminals, Web};
 use sg_growth::{Adjacency, Nest, Pair};
@@ -32,7 +32,7 @@ pub fn propose_nest(
         return Ok(Some(bare(alloc, web.nodes())?));
     }
     let arcs = arcs_of(alloc, web, 2)?;
-    let grown = grow(alloc, &arcs, terminals.as_slice())?;
+    let grown = grow_without_cuts(alloc, &arcs, terminals.as_slice())?;
     nest_proposal(alloc, &arcs, grown, web.edges().len())
 }
 

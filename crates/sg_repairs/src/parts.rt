@@ -53,6 +53,7 @@ impl Parts {
             clock: self.clock,
             work: Work::new(0, 0),
             is_first: false,
+            is_open: false,
             rests: 0,
             unpaired: 0,
             cycle: self.cycle,
@@ -96,17 +97,12 @@ pub fn allow_work(engine: &mut Engine) {
     engine.work = Work::new(engine.unpaired, places);
 }
 
-// Each terminal that is marked takes its node and becomes the root of a tree. The names of the others
-// are kept.
+// Plants each terminal that is marked. The names of the others are kept.
 fn plant(engine: &mut Engine, is_planted: &[bool]) -> Result<(), NoMemory> {
     let terminals = engine.terminals;
-    engine.unpaired = 0;
     for (node, is_planted) in terminals.iter().zip(is_planted) {
         if *is_planted {
-            let name = engine.forest.plant(engine.clock.now())?;
-            engine.cover.open(name)?;
-            engine.take(name, *node, name);
-            engine.unpaired = engine.unpaired.saturating_add(1);
+            engine.plant(*node)?;
         } else {
             let name = engine.forest.reserve()?;
             engine.cover.open(name)?;
