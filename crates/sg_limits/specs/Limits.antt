@@ -29,6 +29,10 @@ forced_limit = 2 ^ 45 + 1
 abbrev pub cost_limit : ℕ
 cost_limit = 2 ^ 47
 
+-- the most bytes of the tables that a matching rests on, in a call that takes large instances
+abbrev pub table_limit : ℕ
+table_limit = 2 ^ 32
+
 -- the most bytes of an input
 abbrev pub input_limit : ℕ
 input_limit = 536870912

@@ -5,7 +5,7 @@
 #![tactic(auto)]
 
 ghost use Rattle.std.specs.Prelude.{◌≡◌, pos};
-ghost use Rattle.sg_limits.specs.Limits.{spin_limit, bond_limit, large_spin_limit, large_bond_limit, sum_limit, forced_limit, cost_limit, input_limit, text_limit, sample_limit, width_limit, json_limit};
+ghost use Rattle.sg_limits.specs.Limits.{spin_limit, bond_limit, large_spin_limit, large_bond_limit, sum_limit, forced_limit, cost_limit, table_limit, input_limit, text_limit, sample_limit, width_limit, json_limit};
 
 /// The most spins of an instance: a lattice of 45 by 45 fits.
 pub const SPIN_LIMIT: u32 = 2048;
@@ -28,6 +28,10 @@ pub const FORCED_LIMIT: i128 = (1 << 45) + 1;
 
 /// The largest cost of two leaves of the matching: twice a distance, with room to spare.
 pub const COST_LIMIT: i64 = 1 << 47;
+
+/// The most bytes of the tables that a matching rests on in a call that takes large instances, 4 GiB: three
+/// times what they take at most within the limits of the program.
+pub const TABLE_LIMIT: u64 = 1 << 32;
 
 /// The most bytes of an input, 512 MiB.
 pub const INPUT_LIMIT: usize = 536_870_912;
@@ -54,6 +58,7 @@ pub fn limits_are_as_stated()
     ensures sum { SUM_LIMIT ≡ pos sum_limit }
     ensures forced { FORCED_LIMIT ≡ pos forced_limit }
     ensures cost { COST_LIMIT ≡ pos cost_limit }
+    ensures tables { TABLE_LIMIT ≡ table_limit }
     ensures input { INPUT_LIMIT ≡ input_limit }
     ensures text { TEXT_LIMIT ≡ text_limit }
     ensures samples { SAMPLE_LIMIT ≡ sample_limit }

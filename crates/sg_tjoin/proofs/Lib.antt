@@ -4,3 +4,4 @@ pub mod CostRows
 pub mod PairEnds
 pub mod Turning
 pub mod CutLeast
+pub mod TableBounds

@@ -16,9 +16,12 @@
 //! where a second proposal is asked for. `matched` is the way by a matching: `tables` searches from
 //! each terminal over one incidence, `matching` lets the engine match them, `walks` marks what the
 //! mates' walks cross, and `sg_moat` draws the cuts. That a join is least follows from the cuts alone:
-//! no join is taken apart into walks.
+//! no join is taken apart into walks. The tables grow as the product of terminals and nodes, so callers
+//! with large graphs use the functions of `allowance`, which refuse tables that take more than is allowed;
+//! the others leave that to the allocator.
 #![tactic(auto)]
 
+mod allowance;
 mod judged;
 mod law;
 mod matched;
@@ -36,6 +39,10 @@ ghost use Rattle.sg_graph.specs.Web.{total_weight, weight_of};
 ghost use Rattle.sg_nest.specs.Nest.{NestProves};
 ghost use Rattle.sg_limits.specs.Limits.{forced_limit};
 
+pub use allowance::{
+    Unproved, least_join_within, least_weight_within, matched_join_within, table_bytes,
+    tables_are_bounded,
+};
 use judged::judged_join;
 pub use law::cuts_bound_joins;
 pub use matched::matched_join;

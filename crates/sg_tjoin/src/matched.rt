@@ -12,27 +12,15 @@ use super::weight::weight;
 use super::{Join, NoMemory};
 use sg_graph::{Terminals, Web};
 use sg_moat::levels;
-use std::alloc::{AllocError, Global};
-
-// The most bytes that the tables may take, 4 GiB: some five times what an instance of the program wants.
-const MOST_BYTES: u64 = 1 << 32;
-
-// Whether the tables for so many terminals among so many nodes take no more.
-fn tables_fit(terminals: usize, nodes: u32) -> bool {
-    let count = terminals as u64;
-    let each = u64::from(nodes)
-        .saturating_mul(12)
-        .saturating_add(count.saturating_mul(8));
-    count.saturating_mul(each) <= MOST_BYTES
-}
+use std::alloc::Global;
 
 /// A join of the terminals than which none weighs less, by a least matching of them at twice their
 /// distances and without a proposal, with the odd cuts that prove it.
 ///
 /// Cost: for `k` terminals in a web of `n` nodes and `m` edges, `k` searches in `k (n + m) log m`,
 /// the matching in at most `2 k^2` steps of `k^2`, and the cuts as `sg_moat::levels` says. Memory:
-/// `12 k n + 8 k^2` bytes, and what the cuts take; where these are more than 4 GiB the answer is want of
-/// memory, and none is asked for.
+/// `12 k n + 8 k^2` bytes for the tables (`table_bytes`), and what the cuts take.
+/// [`matched_join_within`](super::matched_join_within) does the same within an allowance.
 pub fn matched_join(alloc: Global, web: &Web, terminals: &Terminals) -> Result<Join, NoMemory>
     requires connected { IsConnectedWeb web.now }
     requires terminals { AreTerminals web.now terminals.now }
@@ -44,9 +32,6 @@ pub fn matched_join(alloc: Global, web: &Web, terminals: &Terminals) -> Result<J
     ensures bare { IfOk result (λ j. terminals.now ≡ [] → (j.edges ≡ []) × (j.cuts ≡ [])) }
     ensures tight { IfOk result (λ j. sum_by odd_cut_weight j.cuts ≡ 2 * weight_of web.now j.edges) }
 {
-    if !tables_fit(terminals.len(), web.nodes()) {
-        return Err(AllocError);
-    }
     let _edges = web.edges();
     let nodes = terminals.as_slice();
     let tables = terminal_tables(alloc, web, nodes)?;

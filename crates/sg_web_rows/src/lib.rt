@@ -5,6 +5,8 @@
 #![tactic(auto)]
 
 #[cfg(test)]
+mod allowances;
+#[cfg(test)]
 mod distances;
 #[cfg(test)]
 mod graphs;
