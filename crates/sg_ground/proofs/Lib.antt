@@ -14,3 +14,4 @@ pub mod Gluing
 pub mod LeastPlaced
 pub mod WalkedSpins
 pub mod NestProofs
+pub mod Allowed

@@ -207,7 +207,7 @@ parted_at parts i p l same =
 -- part i of the whole in a loop over the parts
 module _ (inst : Ising) (good : IsInstance inst) (parts : List Part) (are : AreParts inst parts) (i : ℕ) (p : Part)
     (l : i < length parts) (same : p ≡ get_or parts i p) where
-  found_part : (least : ℕ) × IsPart inst least p
+  pub found_part : (least : ℕ) × IsPart inst least p
   found_part = subst (λ (q : Part). (least : ℕ) × IsPart inst least q) (sym same) (all_parts inst are.leasts parts are.each i p l)
 
   -- a part is connected

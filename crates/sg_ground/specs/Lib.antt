@@ -3,3 +3,4 @@ pub mod Loops
 pub mod Solution
 pub mod Placed
 pub mod Nested
+pub mod Allowance

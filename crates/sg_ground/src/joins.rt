@@ -1,5 +1,5 @@
 // Least joins of the frustrated faces of one component, with their weight, and the energy by it.
-ghost use Rattle.std.specs.Prelude.{◌≡◌, ◌≤◌, ◌+ℤ◌, ◌-ℤ◌, ◌%◌, length, pos, unsigned_abs, IfOk, IfSome};
+ghost use Rattle.std.specs.Prelude.{◌≡◌, ◌≤◌, ◌+ℤ◌, ◌-ℤ◌, ◌%◌, length, pos, unsigned_abs, IfErr, IfOk, IfSome};
 ghost use Rattle.sg_limits.specs.Limits.{forced_limit};
 ghost use Rattle.sg_model.specs.Connected.{IsConnected};
 ghost use Rattle.sg_model.specs.Energy.{weight};
@@ -9,6 +9,8 @@ ghost use Rattle.sg_graph.specs.Walk.{IsConnectedWeb};
 ghost use Rattle.sg_graph.specs.Web.{total_weight};
 ghost use Rattle.sg_dual.specs.Dual.{dual_web, frustrated_faces};
 ghost use Rattle.sg_nest.specs.Nest.{NestProves};
+ghost use Rattle.sg_tjoin.specs.Allowance.{IfTooLarge};
+ghost use Rattle.sg_ground.specs.Allowance.{FacesExceed};
 ghost use Rattle.sg_ground.specs.TightJoin.{IsWeighedJoin};
 
 use super::NoMemory;
@@ -16,7 +18,7 @@ use sg_dual::dual;
 use sg_graph::{Terminals, Web};
 use sg_model::Instance;
 use sg_planar::Planar;
-use sg_tjoin::{LeastJoin, least_weight};
+use sg_tjoin::{LeastJoin, Unproved, least_weight_within};
 use std::alloc::Global;
 
 /// The dual of a connected instance, and its frustrated faces, of which a least join can be asked.
@@ -35,15 +37,20 @@ pub fn dual_of(alloc: Global, planar: &Planar) -> Result<(Web, Terminals), NoMem
 
 /// A least join of the frustrated faces of a connected instance, its weight, and a nest that proves it,
 /// where one was found.
-pub fn weighed_join(alloc: Global, planar: &Planar) -> Result<LeastJoin, NoMemory>
+pub fn weighed_join(
+    alloc: Global,
+    planar: &Planar,
+    most_bytes: u64,
+) -> Result<LeastJoin, Unproved>
     requires connected { IsConnected planar.now.instance }
     ensures join { IfOk result (λ j. IsWeighedJoin planar.now j.edges j.weight) }
     ensures proves { IfOk result (λ j. IfSome j.nest (NestProves
         (dual_web planar.now.instance planar.now.faces) (frustrated_faces planar.now.instance planar.now.faces) j.edges)) }
+    ensures too_large { IfErr result (IfTooLarge (FacesExceed most_bytes planar.now)) }
     ensures planar { IsPlanar planar.now }
 {
     let (web, frustrated) = dual_of(alloc, planar)?;
-    least_weight(alloc, &web, &frustrated)
+    least_weight_within(alloc, &web, &frustrated, most_bytes)
 }
 
 /// The energy where the broken bonds weigh so much: twice that, less the weight of all bonds.

@@ -15,6 +15,12 @@
 //! dual are the better proof, since their size is that of the instance: `nested_state` hands them out,
 //! and `proves_by_nest` judges such a proof, whoever found it.
 //!
+//! Where no proposal is accepted, a matching answers, whose tables grow as the product of frustrated faces
+//! and faces. `solve`, `ground_state` and `least_energy` leave them to the allocator. `nested_state` and the
+//! functions whose names end in `_within` have an allowance in bytes, and answer `TablesTooLarge` only where
+//! the tables of a component take more (`TablesExceed`), which within the limits of the program never take
+//! 4 GiB (`tables_fit`).
+//!
 //! For the next engineer: `solve`, `ground_state` and `least_energy` are the calls that matter, and
 //! what is built on them rests on their contracts and on nothing of their bodies. A part goes one way
 //! (`part`, `joins`): to its dual, to a least join of the frustrated faces, which has its own proposals
@@ -27,6 +33,7 @@
 //! (`Placing`), of loops (`Gluing`), and of states than which no other has less energy (`LeastPlaced`).
 #![tactic(auto)]
 
+mod allowance;
 mod answer;
 mod joins;
 mod law;
@@ -39,13 +46,14 @@ mod solving;
 mod state;
 mod whole;
 
+pub use allowance::tables_fit;
 pub use answer::{Answer, NestedState};
 pub use law::{least_joins_break, odd_cuts_are_loops};
-pub use least::least_energy;
+pub use least::{least_energy, least_energy_within};
 pub use loops::cut_loops;
 pub use nested::{nested_state, proves_by_nest};
-pub use solving::solve;
-pub use state::{State, ground_state};
+pub use solving::{solve, solve_within};
+pub use state::{State, ground_state, ground_state_within};
 use std::alloc::AllocError;
 
 /// The allocator had no memory left.

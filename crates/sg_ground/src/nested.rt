@@ -1,5 +1,5 @@
 // Ground states with the nests of regions that prove them, and the judge of such proofs.
-ghost use Rattle.std.specs.Prelude.{◌≡◌, ◌↔◌, ◌<◌, ◌≤◌, ◌^◌, ℕ, map, length, All, IfOk, IfSome, IsTrue};
+ghost use Rattle.std.specs.Prelude.{◌≡◌, ◌↔◌, ◌<◌, ◌≤◌, ◌^◌, ℕ, map, length, All, IfErr, IfOk, IfSome, IsTrue};
 ghost use Rattle.sg_model.specs.Connected.{IsConnected, LeastsUp};
 ghost use Rattle.sg_model.specs.Broken.{is_broken};
 ghost use Rattle.sg_model.specs.Energy.{energy, IsGroundState};
@@ -9,11 +9,13 @@ ghost use Rattle.sg_planar.specs.Fit.{IsPlanar};
 ghost use Rattle.sg_graph.specs.Join.{AreTerminals, IsLeastJoin};
 ghost use Rattle.sg_dual.specs.Dual.{dual_web, frustrated_faces};
 ghost use Rattle.sg_nest.specs.Nest.{NestProves};
+ghost use Rattle.sg_tjoin.specs.Allowance.{IfTooLarge};
+ghost use Rattle.sg_ground.specs.Allowance.{TablesExceed};
 ghost use Rattle.sg_ground.specs.Nested.{IsNestedState, FitsWeb, ProvesByNest, broken_bonds as bonds_broken};
 
 use super::NoMemory;
 use super::answer::NestedState;
-use super::state::{State, ground_state};
+use super::state::{State, ground_state_within};
 use super::whole::whole_state;
 use sg_dual::dual;
 use sg_graph::{Terminals, Web};
@@ -22,6 +24,7 @@ use sg_nest::{Nest, proves};
 use sg_planar::Planar;
 use sg_regions::{NestProposal, propose_nest, propose_nest_again};
 use sg_sums::places;
+use sg_tjoin::Unproved;
 use std::alloc::Global;
 
 // The most spins and bonds together of an instance whose faces are sure to be few enough for a web.
@@ -33,41 +36,53 @@ const MOST_TOGETHER: usize = 1 << 24;
 /// [`proves_by_nest`] judges such a proof. Nodes are the faces by their labels, and a radius is in
 /// quarters of the unit of the couplings. That there is a nest no clause says: there is none where no
 /// proposal is accepted, nor for several components of more than 2^24 spins and bonds together, and the
-/// ground state is found without it. The only error is want of memory.
+/// ground state is found without it, if the tables of the matching fallback take no more than `most_bytes`
+/// for each component.
 ///
 /// Cost: that of [`ground_state`]; of an instance that is not connected also that of
 /// `sg_regions::propose_nest` on the frustrated faces of all components, of the judge, and where it says
 /// no as much once more.
-pub fn nested_state(alloc: Global, planar: &Planar) -> Result<NestedState, NoMemory>
+pub fn nested_state(
+    alloc: Global,
+    planar: &Planar,
+    most_bytes: u64,
+) -> Result<NestedState, Unproved>
     ensures ground_state { IfOk result (λ a. IsGroundState planar.now.instance a.spins) }
     ensures first_up { IfOk result (λ a. LeastsUp planar.now.instance a.spins) }
     ensures energy { IfOk result (λ a. a.energy ≡ energy planar.now.instance a.spins) }
     ensures proves { IfOk result (λ a. IfSome a.nest (ProvesByNest planar.now a.spins a.energy)) }
+    ensures too_large { IfErr result (IfTooLarge (TablesExceed most_bytes planar.now.instance)) }
     ensures planar { IsPlanar planar.now }
 {
-    nested(alloc, planar)
+    nested(alloc, planar, most_bytes)
 }
 
 // The same, as one record.
-fn nested(alloc: Global, planar: &Planar) -> Result<NestedState, NoMemory>
+fn nested(alloc: Global, planar: &Planar, most_bytes: u64) -> Result<NestedState, Unproved>
     ensures state { IfOk result (λ a. IsNestedState planar.now a.spins a.energy a.nest) }
+    ensures too_large { IfErr result (IfTooLarge (TablesExceed most_bytes planar.now.instance)) }
     ensures planar { IsPlanar planar.now }
 {
     if planar.is_connected() {
-        whole_state(alloc, planar)
+        whole_state(alloc, planar, most_bytes)
     } else {
-        nested_apart(alloc, planar)
+        nested_apart(alloc, planar, most_bytes)
     }
 }
 
 // The state of an instance of several components, with a nest over the faces of all of them, where that
 // proves it.
-fn nested_apart(alloc: Global, planar: &Planar) -> Result<NestedState, NoMemory>
+fn nested_apart(
+    alloc: Global,
+    planar: &Planar,
+    most_bytes: u64,
+) -> Result<NestedState, Unproved>
     ensures state { IfOk result (λ a. IsNestedState planar.now a.spins a.energy a.nest) }
+    ensures too_large { IfErr result (IfTooLarge (TablesExceed most_bytes planar.now.instance)) }
     ensures planar { IsPlanar planar.now }
 {
     let is_small = fits_web(planar);
-    let state = ground_state(alloc, planar)?;
+    let state = ground_state_within(alloc, planar, most_bytes)?;
     let nest = nest_over_all(alloc, planar, &state, is_small)?;
     Ok(NestedState {
         spins: state.spins,

@@ -1,9 +1,11 @@
-ghost use Rattle.std.specs.Prelude.{◌≡◌, ◌≤◌, unsigned_abs, IfOk};
+ghost use Rattle.std.specs.Prelude.{◌≡◌, ◌≤◌, unsigned_abs, IfErr, IfOk};
 ghost use Rattle.sg_limits.specs.Limits.{forced_limit};
 ghost use Rattle.sg_model.specs.Connected.{IsConnected, LeastsUp};
 ghost use Rattle.sg_model.specs.Energy.{energy, weight, IsGroundState};
 ghost use Rattle.sg_planar.specs.Fit.{IsPlanar};
 ghost use Rattle.sg_planar.specs.Parts.{AreParts};
+ghost use Rattle.sg_tjoin.specs.Allowance.{IfTooLarge};
+ghost use Rattle.sg_ground.specs.Allowance.{FacesExceed, TablesExceed};
 ghost use Rattle.sg_ground.specs.Solution.{IsState};
 
 use super::NoMemory;
@@ -11,7 +13,8 @@ use super::placed::{place_values, spins_of};
 use super::whole::whole_state;
 use sg_model::{Instance, Spins};
 use sg_planar::{Division, Part, Planar, divide};
-use std::alloc::Global;
+use sg_tjoin::Unproved;
+use std::alloc::{AllocError, Global};
 
 /// A ground state with the least spin of each component up, and its energy.
 #[derive(Drop)]
@@ -24,7 +27,8 @@ pub struct State {
 /// that grow on the dual prove the join themselves.
 ///
 /// The instance need not be connected: each component is solved by itself, and its least spin is up.
-/// Which of several ground states is answered is not said. The only error is want of memory.
+/// Which of several ground states is answered is not said. The only error is that of an allocator that
+/// has no memory left.
 ///
 /// Cost: that of `sg_tjoin::least_weight` on the frustrated faces of each component, and linear in the
 /// instance for all components together. An instance that is connected is solved as it is, without a
@@ -35,28 +39,50 @@ pub fn ground_state(alloc: Global, planar: &Planar) -> Result<State, NoMemory>
     ensures energy { IfOk result (λ s. s.energy ≡ energy planar.now.instance s.spins) }
     ensures size { IfOk result (λ s. unsigned_abs s.energy ≤ weight planar.now.instance) }
 {
-    state_of_all(alloc, planar)
+    match ground_state_within(alloc, planar, u64::MAX) {
+        Ok(state) => Ok(state),
+        Err(Unproved::NoMemory) => Err(AllocError),
+        Err(Unproved::TablesTooLarge) => unreachable!(),
+    }
+}
+
+/// The state of [`ground_state`], where the tables of the matching fallback may take `most_bytes` for each
+/// component.
+pub fn ground_state_within(
+    alloc: Global,
+    planar: &Planar,
+    most_bytes: u64,
+) -> Result<State, Unproved>
+    ensures ground_state { IfOk result (λ s. IsGroundState planar.now.instance s.spins) }
+    ensures first_up { IfOk result (λ s. LeastsUp planar.now.instance s.spins) }
+    ensures energy { IfOk result (λ s. s.energy ≡ energy planar.now.instance s.spins) }
+    ensures size { IfOk result (λ s. unsigned_abs s.energy ≤ weight planar.now.instance) }
+    ensures too_large { IfErr result (IfTooLarge (TablesExceed most_bytes planar.now.instance)) }
+{
+    state_of_all(alloc, planar, most_bytes)
 }
 
 // The state of the instance as it is where it is connected, and else those of its components.
-fn state_of_all(alloc: Global, planar: &Planar) -> Result<State, NoMemory>
+fn state_of_all(alloc: Global, planar: &Planar, most_bytes: u64) -> Result<State, Unproved>
     ensures state { IfOk result (λ s. IsState planar.now.instance s.spins s.energy) }
+    ensures too_large { IfErr result (IfTooLarge (TablesExceed most_bytes planar.now.instance)) }
     ensures planar { IsPlanar planar.now }
 {
     let inst = planar.instance();
     match divide(alloc, planar)? {
-        Division::Whole => state_of_part(alloc, planar),
-        Division::Several(list) => join_states(alloc, inst, list.as_slice()),
+        Division::Whole => state_of_part(alloc, planar, most_bytes),
+        Division::Several(list) => join_states(alloc, inst, list.as_slice(), most_bytes),
     }
 }
 
 // The state of a connected instance, without the nest.
-fn state_of_part(alloc: Global, planar: &Planar) -> Result<State, NoMemory>
+fn state_of_part(alloc: Global, planar: &Planar, most_bytes: u64) -> Result<State, Unproved>
     requires connected { IsConnected planar.now.instance }
     ensures state { IfOk result (λ s. IsState planar.now.instance s.spins s.energy) }
+    ensures too_large { IfErr result (IfTooLarge (FacesExceed most_bytes planar.now)) }
     ensures planar { IsPlanar planar.now }
 {
-    let state = whole_state(alloc, planar)?;
+    let state = whole_state(alloc, planar, most_bytes)?;
     Ok(State {
         spins: state.spins,
         energy: state.energy,
@@ -64,15 +90,21 @@ fn state_of_part(alloc: Global, planar: &Planar) -> Result<State, NoMemory>
 }
 
 // The states of these parts, put together: values take the numbers of the whole, and energies add.
-fn join_states(alloc: Global, inst: &Instance, parts: &[Part]) -> Result<State, NoMemory>
+fn join_states(
+    alloc: Global,
+    inst: &Instance,
+    parts: &[Part],
+    most_bytes: u64,
+) -> Result<State, Unproved>
     requires parts { AreParts inst.now parts.now }
     requires light { weight inst.now ≤ forced_limit }
-    ensures { IfOk result (λ s. IsState inst.now s.spins s.energy) }
+    ensures state { IfOk result (λ s. IsState inst.now s.spins s.energy) }
+    ensures too_large { IfErr result (IfTooLarge (TablesExceed most_bytes inst.now)) }
 {
     let mut values = vec![in alloc; 1i8; inst.n() as usize]?;
     let mut energy = 0i64;
     for part in parts {
-        let found = state_of_part(alloc, &part.planar)?;
+        let found = state_of_part(alloc, &part.planar, most_bytes)?;
         place_values(&mut values, part.spins.as_slice(), found.spins.as_slice());
         energy += found.energy;
     }

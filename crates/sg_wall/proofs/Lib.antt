@@ -1,3 +1,4 @@
 pub mod EmptySeams
 pub mod WallNumbers
 pub mod OneWall
+pub mod WallTables

@@ -6,13 +6,13 @@
 //! its size grows with the lattice tells whether there is order at low temperature.
 //!
 //! For the next engineer: `specs/Wall.antt` says what the three numbers are. `wall` uses the contract
-//! of `least_energy` and nothing of its body.
+//! of `least_energy_within` and nothing of its body.
 #![tactic(auto)]
 
 mod walls;
 
 use std::alloc::AllocError;
-pub use walls::{WallAnswer, wall};
+pub use walls::{WallAnswer, wall, wall_within};
 
 /// The allocator had no memory left.
 pub type NoMemory = AllocError;

@@ -1,8 +1,10 @@
 use Rattle.std.proofs.Common.{◌≡◌, ◌≤◌, ◌+ℤ◌, ◌-ℤ◌, pos, rules, to_z-of_z, w64, sym, subst}
 use Rattle.std.specs.Prelude.{unsigned_abs}
+use Rattle.std.proofs.lemmas.Result.{err_from_is_err_and}
 use Rattle.sg_limits.specs.Limits.{forced_limit}
 use Rattle.sg_model.specs.Connected.{IsConnected}
 use Rattle.sg_model.specs.Energy.{weight}
+use Rattle.sg_ground.proofs.Allowed.{whole_exceeds}
 use Rattle.sg_ground.proofs.WeighedJoins.{join_light, least_by_weight}
 use Rattle.sg_ground.proofs.least.energy_of_all.Goals as goal
 
@@ -22,3 +24,10 @@ returns-in_ok-join-in-Whole-clause-least c =
     rw (to_z-of_z {w = w64} {z = c.broken_energy.result} (search rules))
     (least_by_weight c.args.planar.now c.instance-inst.ensures.planar connected join.edges join.weight c.in_ok-join-in-Whole.ensures.join
     c.broken_energy.result value)
+
+pub returns-in_err-join-in-Whole-clause-too_large : goal.returns-in_err-join-in-Whole-clause-too_large
+returns-in_err-join-in-Whole-clause-too_large c =
+    let p = err_from_is_err_and c.from_residual-in_err-join-in-Whole.result c.from_residual-in_err-join-in-Whole.ensures.1 in
+    rw (p.1, p.2) (
+    whole_exceeds c.args.planar.now c.instance-inst.ensures.planar (search rules) c.args.most_bytes c.in_err-join-in-Whole.field-0.0
+    c.in_err-join-in-Whole.ensures.too_large)

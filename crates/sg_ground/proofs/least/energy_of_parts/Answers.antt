@@ -1,10 +1,12 @@
 use Rattle.std.proofs.Common.{◌≡◌, ◌≤◌, ◌+ℤ◌, ◌-ℤ◌, ◌+◌, ℕ, ℤ, List, length, pos, refl, take, sym, subst, ap, ◌∙◌, to_z, of_z, to_z-of_z, w64, rules}
 use Rattle.std.specs.Prelude.{FitsSigned}
 use Rattle.std.proofs.lemmas.List.{take_all}
+use Rattle.std.proofs.lemmas.Result.{err_from_is_err_and}
 use Rattle.sg_model.specs.Ising.{Ising}
 use Rattle.sg_model.specs.Connected.{IsConnected}
 use Rattle.sg_model.specs.Energy.{IsLeastEnergy, weight}
 use Rattle.sg_planar.specs.declared.components.Part.{Part}
+use Rattle.sg_ground.proofs.Allowed.{part_exceeds}
 use Rattle.sg_ground.proofs.Glued.{IsWeightPlaced}
 use Rattle.sg_ground.proofs.LeastPlaced.{all_weights, no_weight, part_weight_fits, part_weight_placed, weight_light}
 use Rattle.sg_ground.proofs.Placing.{part_connected}
@@ -65,9 +67,16 @@ broken_energy-requires-clause-light c =
     weight_light c.args.inst.now c.requires.instance c.args.parts.now c.requires.parts (to_z w64 c.loop-part.broken-bits) c.requires.light
     (all_placed c.args.inst.now c.args.parts.now c.loop-part.part-index (to_z w64 c.loop-part.broken-bits) (search rules) c.loop-part.invariant)
 
-pub returns : goal.returns
-returns c =
+pub returns-clause-least : goal.returns-clause-least
+returns-clause-least c =
     rw (to_z-of_z {w = w64} {z = c.broken_energy.result} (search rules))
     (all_weights c.args.inst.now c.requires.instance c.args.parts.now c.requires.parts (to_z w64 c.loop-part.broken-bits) c.broken_energy.result
     (all_placed c.args.inst.now c.args.parts.now c.loop-part.part-index (to_z w64 c.loop-part.broken-bits) (search rules) c.loop-part.invariant)
     c.broken_energy.ensures)
+
+pub returns-in_err-join-clause-too_large : goal.returns-in_err-join-clause-too_large
+returns-in_err-join-clause-too_large c =
+    let p = err_from_is_err_and c.from_residual.result c.from_residual.ensures.1 in
+    rw (p.1, p.2) (
+    part_exceeds c.args.inst.now c.requires.instance c.args.parts.now c.requires.parts c.loop-part.part-index c.part-item.result c.loop-part-test.true c.part-item.is
+    c.args.most_bytes c.in_err-join.field-0.0 c.in_err-join.ensures.too_large)

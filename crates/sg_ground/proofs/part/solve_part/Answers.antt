@@ -18,8 +18,8 @@ overflow_cast-energy c =
     energy_fits c.args.planar.now c.instance.result.now c.in_ok-spins.spins c.energy-energy.result
     c.instance.ensures.planar c.instance.ensures.value c.in_ok-spins.ensures.assignment c.energy-energy.ensures
 
-pub returns : goal.returns
-returns c =
+pub returns-clause-solution : goal.returns-clause-solution
+returns-clause-solution c =
     let join = c.in_ok-join.join in
     let spins : List ℤ = c.in_ok-spins.spins in
     let found = c.in_ok-spins.ensures in

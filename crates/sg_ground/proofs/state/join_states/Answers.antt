@@ -3,8 +3,10 @@ use Rattle.std.specs.Prelude.{FitsSigned}
 use Rattle.std.specs.List.Sorted.{IsStrictlyIncreasing}
 use Rattle.std.proofs.lemmas.Int.{to_z-of_z}
 use Rattle.std.proofs.lemmas.List.{take_all, with_items_is}
+use Rattle.std.proofs.lemmas.Result.{err_from_is_err_and}
 use Rattle.sg_model.specs.Ising.{Ising}
 use Rattle.sg_planar.specs.declared.components.Part.{Part}
+use Rattle.sg_ground.proofs.Allowed.{part_exceeds}
 use Rattle.sg_ground.specs.Placed.{WritesAt}
 use Rattle.sg_ground.specs.Solution.{IsState}
 use Rattle.sg_ground.proofs.Glued.{IsStatePlaced}
@@ -72,8 +74,8 @@ loop-part-preserved c =
     ap (λ x. to_z w64 (of_z w64 x)) same_sum ∙ to_z-of_z w64 (to_z w64 c.loop-part.energy-bits +ℤ found.energy) fits in
     rw (with_items_is c.loop-part.values new (c.place_values.auto.values ∙ c.deref_mut.ensures.len), same_energy) placed
 
-pub returns : goal.returns
-returns c =
+pub returns-clause-state : goal.returns-clause-state
+returns-clause-state c =
     let inst : Ising = c.args.inst.now in
     let parts : List Part = c.args.parts.now in
     let all : take c.loop-part.part-index parts ≡ parts = take_all c.loop-part.part-index parts (search rules) in
@@ -81,3 +83,10 @@ returns c =
     all_states inst c.n.ensures.instance parts c.requires.parts c.loop-part.values.items (to_z w64 c.loop-part.energy-bits)
     (subst (λ ps. IsStatePlaced inst ps c.loop-part.values.items (to_z w64 c.loop-part.energy-bits)) all c.loop-part.invariant) in
     rw (c.in_ok-spins_of.ensures ∙ c.deref.ensures.value) state
+
+pub returns-in_err-found-clause-too_large : goal.returns-in_err-found-clause-too_large
+returns-in_err-found-clause-too_large c =
+    let p = err_from_is_err_and c.from_residual-in_err-found.result c.from_residual-in_err-found.ensures.1 in
+    rw (p.1, p.2) (
+    part_exceeds c.args.inst.now c.n.ensures.instance c.args.parts.now c.requires.parts c.loop-part.part-index c.part-item.result c.loop-part-test.true c.part-item.is
+    c.args.most_bytes c.in_err-found.field-0.0 c.in_err-found.ensures.too_large)
