@@ -66,6 +66,10 @@ static const size_t begun[] = {0, 4};
 static const uint32_t through[] = {0, 1, 2, 3};
 static const uint32_t alone[] = {ISING2D_NONE, ISING2D_NONE}, taken[] = {0, 1};
 static const uint64_t grown[] = {4, 4}, at[] = {0, 0};
+/* Too few spins, one of them none; and a graph without a frustrated face, which a nest without a region proves. */
+static const int8_t none_between[] = {1, 0, 1}, up[] = {1, 1, 1, 1};
+static const int64_t even_couplings[] = {3, 4, 2, 5};
+static const uint32_t untaken[] = {ISING2D_NONE, ISING2D_NONE};
 static const char input[] = "square,2,2\n3,4\n2,-5\nend\nenergy,-9\nspins,1,1,-1,-1\nloop,4,0,1,2,3\nend\n";
 
 #define GRAPH_OF(n) n, ends, 8, couplings, 4, dart_starts, 5, darts, 8, seam, 1
@@ -109,6 +113,19 @@ static uint8_t check(const struct given *given, struct places *p) { return ising
 
 static uint8_t nest_check(const struct given *given, struct places *p) {
     return ising2d_c_nest_check(GRAPH, NEST, TOLD(p));
+}
+
+static uint8_t check_none_between(const struct given *given, struct places *p) {
+    return ising2d_c_check(GRAPH, given->energy, none_between, 3, heavy, 1, begun, 2, through, 4, TOLD(p));
+}
+
+static uint8_t nest_check_none_between(const struct given *given, struct places *p) {
+    return ising2d_c_nest_check(GRAPH, given->energy, none_between, 3, alone, 2, grown, 2, taken, 2, at, 2, TOLD(p));
+}
+
+static uint8_t nest_check_untaken(const struct given *given, struct places *p) {
+    return ising2d_c_nest_check(given->n, ends, 8, even_couplings, 4, dart_starts, 5, darts, 8, seam, 1, -14, up, 4,
+                                alone, 0, grown, 0, untaken, 2, at, 2, TOLD(p));
 }
 
 /* What a call must leave: places that were as `blank` says, but for these. */
@@ -274,6 +291,7 @@ static struct places with(void (*written)(struct places *)) {
 static void unsaid(struct places *p) { (void)p; }
 static void yes(struct places *p) { text(p, "yes\n"); }
 static void no(struct places *p) { text(p, "no,2,-10\n"); }
+static void no_spin(struct places *p) { text(p, "refused,19,10,1\n"); }
 
 static void try_numbers(void) {
     const char *few_couplings = "refused,6,3,4\n", *no_spins = "refused,19,5,0\n";
@@ -288,12 +306,15 @@ static void try_numbers(void) {
         {"ising2d_c_check", check, right, few, with(yes), no_spins, NONE},
         {"ising2d_c_nest_check", nest_check, right, few, with(unsaid), no_spins, NONE},
     };
-    const struct places failing = with(no), silent = with(unsaid);
+    const struct places failing = with(no), silent = with(unsaid), bad_value = with(no_spin);
     for (size_t k = 0; k < sizeof rows / sizeof *rows; k++) {
         try_row(&rows[k]);
     }
     ends_with("ising2d_c_check", check, &raised, ISING2D_NO, &failing, NONE);
     ends_with("ising2d_c_nest_check", nest_check, &raised, ISING2D_NO, &silent, NONE);
+    ends_with("ising2d_c_check", check_none_between, &right, ISING2D_REFUSED, &bad_value, NONE);
+    ends_with("ising2d_c_nest_check", nest_check_none_between, &right, ISING2D_REFUSED, &bad_value, NONE);
+    ends_with("ising2d_c_nest_check", nest_check_untaken, &right, ISING2D_DONE, &silent, NONE);
 }
 
 /* Words, each ended by a byte 0; the last of them by the end of the string. */

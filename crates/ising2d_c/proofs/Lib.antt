@@ -5,5 +5,4 @@ mod FirstLemmas
 mod StartLemmas
 mod GraphLemmas
 mod StatedLemmas
-mod NestLemmas
 mod TableLemmas

@@ -1,5 +1,5 @@
 -- What a study of an instance answers to a caller.
-use Rattle.std.specs.Prelude.{◌≡◌, ◌≢◌, ◌↔◌, ℕ, ℤ, [], Option, List}
+use Rattle.std.specs.Prelude.{◌≡◌, ◌≢◌, ◌↔◌, ℕ, ℤ, [], Option, None, List}
 use Rattle.sg_model.specs.Ising.{Ising}
 use Rattle.sg_model.specs.Energy.{IsGroundState}
 use Rattle.sg_check.specs.declared.packing.Loop.{Loop}
@@ -16,6 +16,7 @@ use Rattle.sg_report.specs.Text.{verdict_text}
 use Rattle.sg_reply.specs.Exit.{exit_code}
 use Rattle.sg_cli.specs.Served.{status_by}
 use Rattle.ising2d_c.specs.Crossing.{Fills}
+use Rattle.ising2d_c.specs.Proofs.{NestLists, nest_fault, nest_said}
 
 -- a ground state with its energy, and the loops that prove it, have crossed so
 pub record IsGround (inst : Ising) (energy : ℤ) (Crosses : List ℤ → List Loop → Type 0) : Type 0 where
@@ -45,13 +46,13 @@ pub record IsNested (inst : Ising) (energy : ℤ) (Crosses : List ℤ → Option
   pub state : IsNestedState (record { instance = inst; faces = faces }) spins energy nest
   pub crossed : Crosses spins nest
 
--- whether the spins with this energy and a nest that is stated so are a proof; if so, the spins are a ground state
-pub record IsNestVerdict (Says : Nest → Type 0) (s : List ℤ) (e : ℤ) (code : ℕ) (inst : Ising) : Type 0 where
+-- the numbers pass their tests; and whether the spins with this energy and the nest that the lists say are a proof: if
+-- so, the spins are a ground state
+pub record IsNestVerdict (s : List ℤ) (lists : NestLists) (e : ℤ) (code : ℕ) (inst : Ising) : Type 0 where
+  pub passes : nest_fault s lists ≡ None
   pub faces : Labelling
   pub labels : IsFaceLabels inst faces
-  pub nest : Nest
-  pub says : Says nest
-  pub proves : (code ≡ 0) ↔ ProvesByNest (record { instance = inst; faces = faces }) s e nest
+  pub proves : (code ≡ 0) ↔ ProvesByNest (record { instance = inst; faces = faces }) s e (nest_said lists)
   pub least : code ≡ 0 → IsGroundState inst s
 
 -- the verdict on what numbers state as a proof of the instance; if it is yes, the stated spins are a ground state

@@ -1,6 +1,7 @@
 -- Proofs as they cross, by loops as three lists or by a nest as four: what is answered, what a caller states, and what
 -- is wrong with others.
-use Rattle.std.specs.Prelude.{◌≡◌, ℕ, ℤ, not, nat_lt, ◌==◌, List, [], ◌∷◌, length, map, position, Option, Some, None, unwrap_or}
+use Rattle.std.specs.Prelude.{◌≡◌, ℕ, ℤ, not, nat_lt, ◌==◌, ◌&&◌, if◌then◌else◌, List, [], ◌∷◌, length, map, position, Option, Some, None, unwrap_or}
+use Rattle.std.specs.List.{range_with_len}
 use Rattle.sg_limits.specs.Limits.{input_limit}
 use Rattle.sg_model.specs.declared.refusal.Refusal.{Refusal}
 use Rattle.sg_model.specs.declared.refusal.Refusal.TheVariants.{TooLong}
@@ -16,7 +17,7 @@ use Rattle.sg_draft.specs.Tests.{first_of, refuse_if}
 use Rattle.sg_draft.specs.declared.member.Member.TheVariants as member
 use Rattle.ising2d_c.specs.declared.nests.GivenNest.{GivenNest}
 use Rattle.ising2d_c.specs.declared.stated.GivenLoops.{GivenLoops}
-use Rattle.ising2d_c.specs.Crossing.{IsJoined, Shows, wrong_start}
+use Rattle.ising2d_c.specs.Crossing.{IsJoined, Shows, entry, wrong_start}
 
 -- three lists: the weights of loops, the place of the first bond of each with the number of all behind, and all bonds
 pub record LoopLists : Type 0 where
@@ -67,8 +68,9 @@ given_loops_fault loops = first_of (
 abbrev pub stated_fault : List ℤ → LoopLists → Option Refusal
 stated_fault spins loops = first_of (values_fault spins ∷ given_loops_fault loops ∷ [])
 
--- the numbers state this
+-- the numbers pass their tests, and state this
 pub record States (energy : ℤ) (spins : List ℤ) (loops : LoopLists) (stated : ResultText) : Type 0 where
+  pub passes : stated_fault spins loops ≡ None
   pub energy_is : stated.energy ≡ energy
   pub spins_are : stated.spins ≡ spins
   pub rows : AreRows loops stated.loops
@@ -129,6 +131,34 @@ lists_fault lists = first_of (
     refuse_if (not (length lists.radii == length lists.parents)) (bad_member member.Radii)
     ∷ refuse_if (not (length lists.at_radii == length lists.regions)) (bad_member member.FaceRadii)
     ∷ [])
+
+-- the region with a parent and a radius
+abbrev pub region_numbered : ℕ → ℕ → Region
+region_numbered parent radius = record {
+  parent = if parent == 4294967295 then None else Some parent;
+  radius = radius;
+}
+
+-- the place in a region at a radius, and none where the number is for none and the radius is 0
+abbrev pub place_numbered : ℕ → ℕ → Option Place
+place_numbered region at =
+    if region == 4294967295 && at == 0 then None else Some (record { region = region; at = at })
+
+-- the regions and the places that two lists say
+abbrev pub regions_said : List ℕ → List ℕ → List Region
+regions_said parents radii =
+    map (λ r. region_numbered (entry parents r) (entry radii r)) (range_with_len 0 (length parents))
+
+abbrev pub places_said : List ℕ → List ℕ → List (Option Place)
+places_said regions at_radii =
+    map (λ x. place_numbered (entry regions x) (entry at_radii x)) (range_with_len 0 (length regions))
+
+-- the nest that four lists say
+abbrev pub nest_said : NestLists → Nest
+nest_said lists = record {
+  regions = regions_said lists.parents lists.radii;
+  places = places_said lists.regions lists.at_radii;
+}
 
 -- the tests of what is stated as a proof by a nest, of the spins and of the four lists
 abbrev pub nest_fault : List ℤ → NestLists → Option Refusal

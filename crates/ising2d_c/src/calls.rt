@@ -3,7 +3,7 @@
 ghost use Rattle.std.specs.Prelude.{◌≡◌, ◌≢◌, ◌⊎◌};
 ghost use Rattle.sg_bonds.specs.Cluster.{AreClusters};
 ghost use Rattle.sg_bonds.specs.Cost.{AreCosts};
-ghost use Rattle.ising2d_c.specs.Proofs.{AreNestRows, HandsLoops, HandsNest, loop_lists, nest_fault, nest_lists, stated_fault, States};
+ghost use Rattle.ising2d_c.specs.Proofs.{HandsLoops, HandsNest, loop_lists, nest_fault, nest_lists, stated_fault, States};
 ghost use Rattle.ising2d_c.specs.Crossing.{Shows, TellsRefusal};
 ghost use Rattle.ising2d_c.specs.Graphs.{Finds, IsFitFault, IsFitGraph, IsFitProofFault, IsGraph, IsProofFault, IsWallFault, numbers};
 ghost use Rattle.ising2d_c.specs.Grounds.{IsExact, IsGround, IsNested, IsNestVerdict, IsWallAtSeam, Judges};
@@ -301,7 +301,7 @@ pub extern "C" fn ising2d_c_nest_check(
     line_written: &mut usize,
 ) -> u8
     ensures found { (result ≡ 0) ⊎ (result ≡ 3) → Finds (IsFitGraph large_limits (numbers n ends.now couplings.now dart_starts.now darts.now seam.now))
-        (IsNestVerdict (AreNestRows (nest_lists parents.now radii.now regions.now at_radii.now)) spins.now energy result) }
+        (IsNestVerdict spins.now (nest_lists parents.now radii.now regions.now at_radii.now) energy result) }
     ensures refused { result ≡ 1 → TellsRefusal (IsFitProofFault large_limits (numbers n ends.now couplings.now dart_starts.now darts.now seam.now) (nest_fault spins.now (nest_lists parents.now radii.now regions.now at_radii.now))) line.old line.new line_written.new }
     ensures codes { (result ≡ 0) ⊎ ((result ≡ 1) ⊎ ((result ≡ 3) ⊎ (result ≡ 6))) }
     ensures kept_line { result ≢ 1 → (line.new ≡ line.old) × (line_written.new ≡ line_written.old) }

@@ -11,7 +11,7 @@ ghost use Rattle.sg_ground.specs.Nested.{FitsWeb};
 ghost use Rattle.sg_cli.specs.Served.{status_by};
 ghost use Rattle.ising2d_c.specs.Graphs.{Finds, IsFitGraph, IsFitProofFault, IsGraph, IsProofFault, numbers_of};
 ghost use Rattle.ising2d_c.specs.Grounds.{IsJudged, IsNestVerdict};
-ghost use Rattle.ising2d_c.specs.Proofs.{AreNestRows, loops_of, nest_fault, nest_given, stated_fault, States};
+ghost use Rattle.ising2d_c.specs.Proofs.{loops_of, nest_fault, nest_given, nest_said, stated_fault, States};
 ghost use Rattle.sg_draft.specs.Limits.{large_limits};
 ghost use Rattle.sg_draft.specs.Tests.{Refuses};
 
@@ -88,7 +88,7 @@ pub fn judge_nest(
     nest: &GivenNest,
 ) -> Result<u8, Fault>
     ensures gives { IfOk result (λ code. Finds (IsFitGraph large_limits (numbers_of given.now))
-        (IsNestVerdict (AreNestRows (nest_given nest.now)) spins.now energy code)) }
+        (IsNestVerdict spins.now (nest_given nest.now) energy code)) }
     ensures codes { IfOk result (λ code. (code ≡ 0) ⊎ (code ≡ 3)) }
     ensures refuses { IfErr result (IsFitProofFault large_limits (numbers_of given.now) (nest_fault spins.now (nest_given nest.now))) }
 {
@@ -105,7 +105,7 @@ fn nest_verdict(
     nest: &GivenNest,
 ) -> Result<u8, Fault>
     requires { FitsWeb planar.now.instance }
-    ensures gives { IfOk result (λ code. IsNestVerdict (AreNestRows (nest_given nest.now)) spins.now energy code planar.now.instance) }
+    ensures gives { IfOk result (λ code. IsNestVerdict spins.now (nest_given nest.now) energy code planar.now.instance) }
     ensures codes { IfOk result (λ code. (code ≡ 0) ⊎ (code ≡ 3)) }
     ensures refuses { IfErr result (OrNoMemory (Refuses (nest_fault spins.now (nest_given nest.now)))) }
 {
@@ -120,7 +120,7 @@ fn nest_verdict(
 // The spins and the nest that numbers state.
 fn nest_stated(alloc: Global, spins: &[i8], nest: &GivenNest) -> Result<(Spins, Nest), Fault>
     ensures spins { IfOk result (λ stated. stated.0 ≡ spins.now) }
-    ensures nest { IfOk result (λ stated. AreNestRows (nest_given nest.now) stated.1) }
+    ensures nest { IfOk result (λ stated. stated.1 ≡ nest_said (nest_given nest.now)) }
     ensures passes { IfOk result (λ _. nest_fault spins.now (nest_given nest.now) ≡ None) }
     ensures refuses { IfErr result (OrNoMemory (Refuses (nest_fault spins.now (nest_given nest.now)))) }
 {

@@ -1,6 +1,6 @@
 // Nests of regions as four lists of numbers.
 ghost use Rattle.std.specs.Prelude.{◌≡◌, length, map, None, IfOk, IfErr, OnOk};
-ghost use Rattle.ising2d_c.specs.Proofs.{AreNestRows, AreRowsOf, lists_fault, nest_given, nest_lists, parent_number, place_radius, place_region};
+ghost use Rattle.ising2d_c.specs.Proofs.{AreRowsOf, lists_fault, nest_given, nest_lists, nest_said, parent_number, place_numbered, place_radius, place_region, places_said, region_numbered, regions_said};
 
 use sg_draft::{Member, bad_member};
 use sg_model::Refusal;
@@ -71,7 +71,7 @@ fn nest_rows(
 pub fn nest_by(alloc: Global, given: &GivenNest) -> Result<Nest, AllocError>
     requires radii { length given.now.radii.now ≡ length given.now.parents.now }
     requires at_radii { length given.now.at_radii.now ≡ length given.now.regions.now }
-    ensures { IfOk result (AreNestRows (nest_given given.now)) }
+    ensures { IfOk result (λ nest. nest ≡ nest_said (nest_given given.now)) }
 {
     Ok(Nest {
         regions: regions_by(alloc, given.parents, given.radii)?,
@@ -82,8 +82,7 @@ pub fn nest_by(alloc: Global, given: &GivenNest) -> Result<Nest, AllocError>
 // The regions with these parents and radii.
 fn regions_by(alloc: Global, parents: &[u32], radii: &[u64]) -> Result<Regions, AllocError>
     requires { length radii.now ≡ length parents.now }
-    ensures parents { IfOk result (λ list. parents.now ≡ map parent_number list) }
-    ensures radii { IfOk result (λ list. radii.now ≡ map (λ region. region.radius) list) }
+    ensures { IfOk result (λ list. list ≡ regions_said parents.now radii.now) }
 {
     let mut list = Regions::new(alloc);
     for r in 0..parents.len() {
@@ -94,8 +93,7 @@ fn regions_by(alloc: Global, parents: &[u32], radii: &[u64]) -> Result<Regions, 
 
 // The region with this parent and this radius.
 fn region_by(parent: u32, radius: u64) -> Region
-    ensures parent { parent_number result ≡ parent }
-    ensures radius { result.radius ≡ radius }
+    ensures { result ≡ region_numbered parent radius }
 {
     let parent = if parent == NONE { None } else { Some(parent) };
     Region { parent, radius }
@@ -104,8 +102,7 @@ fn region_by(parent: u32, radius: u64) -> Region
 // The places in these regions at these radii.
 fn places_by(alloc: Global, regions: &[u32], at_radii: &[u64]) -> Result<Places, AllocError>
     requires { length at_radii.now ≡ length regions.now }
-    ensures regions { IfOk result (λ list. regions.now ≡ map place_region list) }
-    ensures at_radii { IfOk result (λ list. at_radii.now ≡ map place_radius list) }
+    ensures { IfOk result (λ list. list ≡ places_said regions.now at_radii.now) }
 {
     let mut list = Places::new(alloc);
     for x in 0..regions.len() {
@@ -116,8 +113,7 @@ fn places_by(alloc: Global, regions: &[u32], at_radii: &[u64]) -> Result<Places,
 
 // The place in this region at this radius; none where the number stands for none, and the radius is 0.
 fn place_by(region: u32, at: u64) -> Option<Place>
-    ensures region { place_region result ≡ region }
-    ensures radius { place_radius result ≡ at }
+    ensures { result ≡ place_numbered region at }
 {
     if region == NONE && at == 0 {
         None

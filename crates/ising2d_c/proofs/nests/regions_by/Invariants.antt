@@ -1,10 +1,10 @@
-use Rattle.std.proofs.Common.{◌≡◌, map, take}
-use Rattle.ising2d_c.specs.Proofs.{parent_number}
+use Rattle.std.proofs.Common.{◌≡◌, map}
+use Rattle.std.specs.List.{range_with_len}
+use Rattle.ising2d_c.specs.Crossing.{entry}
+use Rattle.ising2d_c.specs.Proofs.{region_numbered}
 use Rattle.ising2d_c.proofs.nests.regions_by.Given as goal
 
--- both columns so far
+-- those so far
 abbrev pub invariant-loop-r : goal.invariant-loop-r
-invariant-loop-r l = record {
-  parents : map parent_number l.list ≡ take l.r l.parents;
-  radii : map (λ region. region.radius) l.list ≡ take l.r l.radii;
-}
+invariant-loop-r l =
+    l.list ≡ map (λ i. region_numbered (entry l.parents i) (entry l.radii i)) (range_with_len 0 l.r)
