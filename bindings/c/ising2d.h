@@ -15,9 +15,12 @@
  *
  * Status. 0: answered. 1: refused; the line that says why stands in `line`, as the program prints it:
  * "refused,", the number of the refusal and the numbers that it keeps, and a line feed; its length is
- * *line_written, and 128 bytes are room enough for every line. 3: a proof that is judged fails. 6: the
- * memory is wanting. After 1 and 6 no result is written, and after 0 and 6 no line, but that a check of
- * loops writes one after 0 and 3.
+ * *line_written, and 128 bytes are room enough for every line. 3: a proof that is judged fails. 5: no
+ * proof was found within the memory that is allowed; it comes from ising2d_c_ground, ising2d_c_nest and
+ * ising2d_c_wall alone, only on graphs of more than 2048 spins or 6144 bonds, and was never seen. There the
+ * solver matches frustrated faces, and its tables take 12 k f + 8 k^2 bytes for k frustrated faces among f
+ * faces of a component: more than 4 GiB. 6: the allocator had no memory left. After 1, 5 and 6 no result is
+ * written, and after 0, 5 and 6 no line, but that a check of loops writes one after 0 and 3.
  * docs/FORMATS.md says what each refusal means; an array of numbers is refused as the JSON member of
  * its name. The tests of a lattice, in the order in which they are made:
  *
@@ -72,11 +75,13 @@ extern "C" {
 #define ISING2D_HEXAGONAL 2
 #define ISING2D_CYLINDER 3
 
-/* The status of a call. USAGE and NO_WORDS come from ising2d_c_run alone, NO from it and from a check. */
+/* The status of a call. USAGE and NO_WORDS come from ising2d_c_run alone, NO from it and from a check,
+ * NO_PROOF from ising2d_c_ground, ising2d_c_nest and ising2d_c_wall. */
 #define ISING2D_DONE 0
 #define ISING2D_REFUSED 1
 #define ISING2D_USAGE 2
 #define ISING2D_NO 3
+#define ISING2D_NO_PROOF 5
 #define ISING2D_NO_MEMORY 6
 #define ISING2D_NO_WORDS 7
 
@@ -118,7 +123,7 @@ struct ising2d_tables {
  * written  the number of bytes written: the lesser of the room and the length of the text.
  * whole    the number of bytes of the whole text. Where it is above `written`, come again with room.
  *
- * Returns the exit status of the program, 6 where the memory is wanting, and 7 where the last word is
+ * Returns the exit status of the program, 6 where no memory was left, and 7 where the last word is
  * not ended. After 6 and 7 nothing is written, and both numbers are 0.
  */
 uint8_t ising2d_c_run(const uint8_t *words, size_t words_len, const uint8_t *input, size_t input_len,

@@ -49,7 +49,7 @@ from ._loops import Loop, Loops
 from ._nests import Nest
 from ._pictures import svg
 from ._reading import read
-from ._refusals import Refusal
+from ._refusals import NoProofFound, Refusal
 from ._runs import run
 from ._version import VERSION as __version__
 
@@ -69,6 +69,7 @@ __all__ = [
     "Loops",
     "Nest",
     "Network",
+    "NoProofFound",
     "OddCut",
     "Refusal",
     "Report",

@@ -8,9 +8,9 @@ from ._arrays import crossed, fixed, in_64_bits, room, settled, space, whole_num
 from ._library import GroundNumbers, NestNumbers, TableNumbers, WallNumbers, library
 from ._loops import Loops, rows_of
 from ._nests import Nest, nest_of
-from ._refusals import numbers_of, refusal_of
+from ._refusals import NoProofFound, numbers_of, refusal_of
 
-DONE, REFUSED, NO, NO_MEMORY = 0, 1, 3, 6
+DONE, REFUSED, NO, NO_PROOF, NO_MEMORY = 0, 1, 3, 5, 6
 MOST_SPINS, MOST_BONDS = 2**20, 3 * 2**20
 # What the program takes, and the calls for costs and clusters.
 PROGRAM_SPINS = 2048
@@ -83,6 +83,8 @@ class _Line:
         """Raises what the status says; ``large`` is whether the call takes large instances."""
         if status == REFUSED:
             raise refusal_of(self.text(), given, large)
+        if status == NO_PROOF:
+            raise NoProofFound
         if status != DONE:
             raise MemoryError("the library has no memory left")
 

@@ -11,7 +11,7 @@ from ._explained import explained
 from ._progress import Progress
 from ._reading import read
 from ._records import as_text
-from ._refusals import Refusal, numbers_of, refusal_of, verdict_sentence
+from ._refusals import NoProofFound, Refusal, numbers_of, refusal_of, verdict_sentence
 from ._runs import run
 from ._streams import COMMANDS, answer_lines
 from ._version import VERSION
@@ -324,6 +324,9 @@ def main(words: Optional[Sequence[str]] = None) -> int:
         return 5
     except MemoryError:
         _say("no memory left")
+        return 6
+    except NoProofFound as fault:
+        _say(str(fault))
         return 6
     except (OSError, ValueError) as fault:
         _say(str(fault))

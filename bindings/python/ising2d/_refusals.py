@@ -90,6 +90,14 @@ def verdict_sentence(number: int, kept: Sequence[int], of: str = "loops") -> str
     return text.over(kept)[0] if text else "the proof fails"
 
 
+class NoProofFound(RuntimeError):
+    """No proof was found within the memory that is allowed, 4 GiB for the tables of a matching. It comes
+    only of graphs above the limits of the program, and was never seen."""
+
+    def __init__(self) -> None:
+        super().__init__("no proof was found within the memory that is allowed")
+
+
 class Refusal(ValueError):
     """Numbers or a text that are refused.
 

@@ -6,3 +6,4 @@ mod StartLemmas
 mod GraphLemmas
 mod StatedLemmas
 mod TableLemmas
+mod StudyLemmas

@@ -6,7 +6,7 @@ use Rattle.sg_model.specs.Ising.{Ising}
 use Rattle.sg_model.specs.Faults.{OrNoMemory}
 use Rattle.sg_model.specs.declared.bond.Bond.{Bond}
 use Rattle.sg_model.specs.declared.refusal.Fault.{Fault}
-use Rattle.sg_model.specs.declared.refusal.Fault.TheVariants.{Refused}
+use Rattle.sg_model.specs.declared.refusal.Fault.TheVariants.{Refused, NoMemory}
 use Rattle.sg_model.specs.declared.refusal.Refusal.{Refusal}
 use Rattle.sg_model.specs.declared.refusal.Refusal.TheVariants.{NoSeam}
 use Rattle.sg_planar.specs.Fit.{IsFit, IsUnfit}
@@ -16,6 +16,10 @@ use Rattle.sg_draft.specs.Bonds.{is_among}
 use Rattle.sg_draft.specs.Draft.{Draft, IsDrafted, IsDraftRefusal, OfGeneral}
 use Rattle.sg_draft.specs.Reads.{unless}
 use Rattle.sg_draft.specs.Tests.{Refuses}
+use Rattle.sg_tjoin.specs.declared.allowance.Unproved.{Unproved}
+use Rattle.sg_tjoin.specs.declared.allowance.Unproved.TheVariants as unproved
+use Rattle.ising2d_c.specs.declared.unanswered.Unanswered.{Unanswered}
+use Rattle.ising2d_c.specs.declared.unanswered.Unanswered.TheVariants.{Fault as ByFault, TablesTooLarge}
 use Rattle.ising2d_c.specs.declared.graphs.Given.{Given}
 use Rattle.ising2d_c.specs.Crossing.{entries_of, entry, wrong_start}
 
@@ -97,6 +101,16 @@ IsProofFault most g test fault =
 abbrev pub IsFitProofFault : Limits → Numbers → Option Refusal → Fault → Type 0
 IsFitProofFault most g test fault =
     IsFitFault most g fault ⊎ ((inst : Ising) × IsFitGraph most g inst × OrNoMemory (Refuses test) fault)
+
+-- a solver's error as that of a study
+abbrev pub unanswered_by : Unproved → Unanswered
+unanswered_by unproved.NoMemory = ByFault NoMemory
+unanswered_by unproved.TablesTooLarge = TablesTooLarge
+
+-- why a study has no answer: a fault that is owed, or tables that exceed what is allowed
+abbrev pub IsUnanswered : (Fault → Type 0) → Type 0 → Unanswered → Type 0
+IsUnanswered Owed Exceed (ByFault fault) = Owed fault
+IsUnanswered Owed Exceed TablesTooLarge = Exceed
 
 -- an instance that the numbers give, of which this was found
 pub record Finds (Given Study : Ising → Type 0) : Type 0 where

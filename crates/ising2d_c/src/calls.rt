@@ -1,6 +1,7 @@
 // The calls on a general graph by numbers. Beside another status than 0 no result is written, and beside
 // another than 1 no line; but the line of a verdict on loops is written beside 0 and 3.
-ghost use Rattle.std.specs.Prelude.{◌≡◌, ◌≢◌, ◌⊎◌};
+ghost use Rattle.std.specs.Prelude.{◌≡◌, ◌≢◌, ◌⊎◌, ◌<◌, length};
+ghost use Rattle.sg_limits.specs.Limits.{bond_limit, spin_limit, table_limit};
 ghost use Rattle.sg_bonds.specs.Cluster.{AreClusters};
 ghost use Rattle.sg_bonds.specs.Cost.{AreCosts};
 ghost use Rattle.ising2d_c.specs.Proofs.{HandsLoops, HandsNest, loop_lists, nest_fault, nest_lists, stated_fault, States};
@@ -8,13 +9,16 @@ ghost use Rattle.ising2d_c.specs.Crossing.{Shows, TellsRefusal};
 ghost use Rattle.ising2d_c.specs.Graphs.{Finds, IsFitFault, IsFitGraph, IsFitProofFault, IsGraph, IsProofFault, IsWallFault, numbers};
 ghost use Rattle.ising2d_c.specs.Grounds.{IsExact, IsGround, IsNested, IsNestVerdict, IsWallAtSeam, Judges};
 ghost use Rattle.sg_draft.specs.Limits.{large_limits, program_limits};
+ghost use Rattle.sg_ground.specs.Allowance.{TablesExceed};
+ghost use Rattle.sg_wall.specs.Wall.{WallTablesExceed};
 
-use super::crossing::{fill, refuse};
+use super::crossing::{NO_PROOF, fill, refuse};
 use super::graphs::Given;
 use super::judging::{code_by, judge, judge_nest};
 use super::nests::GivenNest;
 use super::stated::GivenLoops;
 use super::studies::{clusters_of, costs_of, ground_of, nest_of, wall_of};
+use super::unanswered::Unanswered;
 use sg_cli::Status;
 use std::alloc::Global;
 
@@ -80,7 +84,9 @@ pub extern "C" fn ising2d_c_ground(
     ensures found { result ≡ 0 → Finds (IsFitGraph large_limits (numbers n ends.now couplings.now dart_starts.now darts.now seam.now)) (λ inst. IsGround inst answer.new.energy (λ s loops. Shows s spins.old spins.new
         × HandsLoops loops (loop_lists weights.old starts.old bonds.old) (loop_lists weights.new starts.new bonds.new) answer.new.loop_count answer.new.bond_count)) }
     ensures refused { result ≡ 1 → TellsRefusal (IsFitFault large_limits (numbers n ends.now couplings.now dart_starts.now darts.now seam.now)) line.old line.new line_written.new }
-    ensures codes { (result ≡ 0) ⊎ ((result ≡ 1) ⊎ (result ≡ 6)) }
+    ensures too_large { result ≡ 5 → Finds (IsFitGraph large_limits (numbers n ends.now couplings.now dart_starts.now darts.now seam.now)) (TablesExceed table_limit) }
+    ensures large { result ≡ 5 → (spin_limit < n) ⊎ (bond_limit < length couplings.now) }
+    ensures codes { (result ≡ 0) ⊎ ((result ≡ 1) ⊎ ((result ≡ 5) ⊎ (result ≡ 6))) }
     ensures kept { result ≢ 0 → (answer.new ≡ answer.old) × (spins.new ≡ spins.old) × (weights.new ≡ weights.old) × (starts.new ≡ starts.old) × (bonds.new ≡ bonds.old) }
     ensures kept_line { result ≢ 1 → (line.new ≡ line.old) × (line_written.new ≡ line_written.old) }
 {
@@ -98,7 +104,8 @@ pub extern "C" fn ising2d_c_ground(
             fill(rows.bonds.as_slice(), bonds);
             Status::Done.exit_code()
         }
-        Err(fault) => refuse(alloc, &fault, line, line_written),
+        Err(Unanswered::Fault(fault)) => refuse(alloc, &fault, line, line_written),
+        Err(Unanswered::TablesTooLarge) => NO_PROOF,
     }
 }
 
@@ -124,7 +131,9 @@ pub extern "C" fn ising2d_c_nest(
     ensures found { result ≡ 0 → Finds (IsFitGraph large_limits (numbers n ends.now couplings.now dart_starts.now darts.now seam.now)) (λ inst. IsNested inst answer.new.energy (λ s nest. Shows s spins.old spins.new
         × HandsNest nest (nest_lists parents.old radii.old regions.old at_radii.old) (nest_lists parents.new radii.new regions.new at_radii.new) answer.new.region_count answer.new.face_count)) }
     ensures refused { result ≡ 1 → TellsRefusal (IsFitFault large_limits (numbers n ends.now couplings.now dart_starts.now darts.now seam.now)) line.old line.new line_written.new }
-    ensures codes { (result ≡ 0) ⊎ ((result ≡ 1) ⊎ (result ≡ 6)) }
+    ensures too_large { result ≡ 5 → Finds (IsFitGraph large_limits (numbers n ends.now couplings.now dart_starts.now darts.now seam.now)) (TablesExceed table_limit) }
+    ensures large { result ≡ 5 → (spin_limit < n) ⊎ (bond_limit < length couplings.now) }
+    ensures codes { (result ≡ 0) ⊎ ((result ≡ 1) ⊎ ((result ≡ 5) ⊎ (result ≡ 6))) }
     ensures kept { result ≢ 0 → (answer.new ≡ answer.old) × (spins.new ≡ spins.old) × (parents.new ≡ parents.old) × (radii.new ≡ radii.old)
         × (regions.new ≡ regions.old) × (at_radii.new ≡ at_radii.old) }
     ensures kept_line { result ≢ 1 → (line.new ≡ line.old) × (line_written.new ≡ line_written.old) }
@@ -144,7 +153,8 @@ pub extern "C" fn ising2d_c_nest(
             fill(rows.at_radii.as_slice(), at_radii);
             Status::Done.exit_code()
         }
-        Err(fault) => refuse(alloc, &fault, line, line_written),
+        Err(Unanswered::Fault(fault)) => refuse(alloc, &fault, line, line_written),
+        Err(Unanswered::TablesTooLarge) => NO_PROOF,
     }
 }
 
@@ -164,7 +174,9 @@ pub extern "C" fn ising2d_c_wall(
 ) -> u8
     ensures found { result ≡ 0 → Finds (IsFitGraph large_limits (numbers n ends.now couplings.now dart_starts.now darts.now seam.now)) (λ inst. IsWallAtSeam inst answer.new.periodic answer.new.antiperiodic answer.new.difference) }
     ensures refused { result ≡ 1 → TellsRefusal (IsWallFault large_limits (numbers n ends.now couplings.now dart_starts.now darts.now seam.now)) line.old line.new line_written.new }
-    ensures codes { (result ≡ 0) ⊎ ((result ≡ 1) ⊎ (result ≡ 6)) }
+    ensures too_large { result ≡ 5 → Finds (IsFitGraph large_limits (numbers n ends.now couplings.now dart_starts.now darts.now seam.now)) (WallTablesExceed table_limit) }
+    ensures large { result ≡ 5 → (spin_limit < n) ⊎ (bond_limit < length couplings.now) }
+    ensures codes { (result ≡ 0) ⊎ ((result ≡ 1) ⊎ ((result ≡ 5) ⊎ (result ≡ 6))) }
     ensures kept { result ≢ 0 → answer.new ≡ answer.old }
     ensures kept_line { result ≢ 1 → (line.new ≡ line.old) × (line_written.new ≡ line_written.old) }
 {
@@ -178,7 +190,8 @@ pub extern "C" fn ising2d_c_wall(
             };
             Status::Done.exit_code()
         }
-        Err(fault) => refuse(alloc, &fault, line, line_written),
+        Err(Unanswered::Fault(fault)) => refuse(alloc, &fault, line, line_written),
+        Err(Unanswered::TablesTooLarge) => NO_PROOF,
     }
 }
 

@@ -7,6 +7,9 @@ use sg_model::Fault;
 use sg_report::refusal_text;
 use std::alloc::Global;
 
+/// The status of a call for which no proof was found within the memory that is allowed.
+pub const NO_PROOF: u8 = 5;
+
 /// Copies the front of a list into a place, as much of it as fits, and answers how much that is.
 pub fn fill<T: Copy>(list: &[T], place: &mut [T]) -> usize
     ensures { Fills list.now place.old place.new result }

@@ -6,8 +6,9 @@
 //! (`ising2d_c_ground`), or with a nest of regions (`ising2d_c_nest`), the energies of the wall at the
 //! seam, the cost of each bond, and the rigid clusters. With `check` and `nest_check` they judge a
 //! proof, whoever found it. `ising2d_c_lattice` writes the tables by which a lattice is such a graph.
-//! A call that finds one least energy or two, or none, takes larger instances than the program. A call
-//! asks nothing of its numbers, and names the first fault of those that describe nothing by the line
+//! A call that finds one least energy or two, or none, takes larger instances than the program; there it
+//! ends without an answer (`NO_PROOF`) where no proposal is accepted and the tables of the matching
+//! fallback take more than 4 GiB. A call asks nothing of its numbers, and names the first fault of those that describe nothing by the line
 //! that the program prints. It trusts that pointers and lengths are what they say.
 //!
 //! For the next engineer: each export states what `sg_cli::run`, `sg_ground::solve`, `Checker::check`
@@ -34,4 +35,5 @@ mod starts;
 mod stated;
 mod studies;
 mod tables;
+mod unanswered;
 mod words;
