@@ -13,3 +13,4 @@ pub mod JoinedCosts
 pub mod EdgeJoins
 pub mod JoinStates
 pub mod JoinsFound
+pub mod WeakenedEnergy
