@@ -14,3 +14,4 @@ pub mod JoinedCosts
 pub mod EdgeJoins
 pub mod JoinStates
 pub mod JoinsFound
+pub mod WeakenedEnergy

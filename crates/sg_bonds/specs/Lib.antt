@@ -4,4 +4,5 @@ pub mod Naming
 pub mod Known
 pub mod Told
 pub mod Loads
+pub mod Weakened
 pub mod JoinsWith

@@ -33,7 +33,7 @@ mod waiting;
 pub use breaking::rigid;
 pub use components::costs;
 pub use forcing::LeastState;
-pub use law::{forced_minimum, least_joins_with, rigid_clusters_agree};
+pub use law::{forced_minimum, least_joins_with, rigid_clusters_agree, weakened_bounds};
 pub use naming::{clusters, clusters_by};
 use sg_list::Numbers;
 pub use states::BondStates;
