@@ -4,7 +4,7 @@ tool, a folder or a crate of the repository is left out."""
 import os
 import re
 
-from parts import EXAMPLES, TOP, VERSION
+from parts import TOP, VERSION, example_files
 
 # The pages for users, in the order in which to read them, with what each is for.
 GUIDES = {
@@ -16,10 +16,12 @@ GUIDES = {
 }
 LINK = re.compile(r"(!?)\[([^\]]*)\]\(([^)\s]+)\)")
 SENTENCE = re.compile(r"(?<=[.:])\s(?=[A-Z`(])")
+# The pages that are not packed.
+OTHERS = sorted({page.stem for page in [TOP / "CONTRIBUTING.md", *TOP.glob("docs/*.md")] if page.name not in GUIDES})
 # What a page of the repository may name that is not packed.
 FOREIGN = re.compile(
-    r"\b(?:tools|bindings|crates|built|docs)/|\./gate\b|\bsg_\w+|\bsources have changed|"
-    r"\b(?:ARCHITECTURE|BINDINGS|CONTRIBUTING|COSTS|DECISIONS|DEFINITIONS|PROMISES|PROVING|REFEREE)\b|\brt \w+`"
+    r"\b(?:tools|bindings|crates|built|docs)/|\./gate\b|\bsg_\w+|\bsources have changed|\brt \w+`|"
+    rf"\b(?:{'|'.join(OTHERS)})\b"
 )
 # What has another name where it is installed: in prose, and in code.
 NAMES = (
@@ -75,15 +77,38 @@ def without_foreign(line):
     return " ".join(kept) if kept else None
 
 
-def packed_page(page, packed):
-    """A page of the repository as it is packed. `packed` has the new place of each file by its old one."""
-    lines = []
-    for line in (TOP / page).read_text(encoding="utf-8").splitlines():
+def blocks(text):
+    """The blocks of a page, in their order: lines of code that stand together, and each other line by itself."""
+    code = []
+    for line in text.splitlines():
         if line.startswith("    "):
-            lines.append(named(line, CODE_NAMES))
-        elif not line.startswith("<!--"):
-            made = without_foreign(linked(page, packed, named(line, NAMES)))
+            code.append(line)
+            continue
+        if code:
+            yield code
+        code = []
+        yield [line]
+    if code:
+        yield code
+
+
+def packed_page(page, packed):
+    """A page of the repository as it is packed. `packed` has the new place of each file by its old one. A block
+    of code that names what is not packed is left out, with the sentence that leads to it."""
+    lines = []
+    for block in blocks((TOP / page).read_text(encoding="utf-8")):
+        if not block[0].startswith("    "):
+            made = None if block[0].startswith("<!--") else without_foreign(linked(page, packed, named(block[0], NAMES)))
             lines += [] if made is None else [made]
+            continue
+        code = [named(line, CODE_NAMES) for line in block]
+        if not any(FOREIGN.search(line) for line in code):
+            lines += code
+            continue
+        while lines and not lines[-1]:
+            lines.pop()
+        if lines and lines[-1].endswith(":"):
+            lines[-1] = lines[-1].rpartition(". ")[0] + "." * (". " in lines[-1])
     return re.sub(r"\n{3,}", "\n\n", "\n".join(lines)).strip() + "\n"
 
 
@@ -93,15 +118,17 @@ def pages():
     found["CHANGELOG.md"] = "CHANGELOG.md"
     for file in sorted((TOP / "docs" / "tour").glob("*.svg")):
         found[str(file.relative_to(TOP))] = f"tour/{file.name}"
-    for file in EXAMPLES():
+    for file in example_files():
         found[str(file.relative_to(TOP))] = str(file.relative_to(TOP))
     return found
 
 
-def front_page(glibc):
+def front_page(glibc, wheel):
     """The page that stands at the front of what is installed."""
     rows = ["| page | on |", "|---|---|"]
     rows += [f"| [{name}]({name}) | {what} |" for name, what in GUIDES.items() if (TOP / "docs" / name).exists()]
     rows.append("| [examples](examples/README.md) | inputs with their answers |")
     text = (TOP / "packaging" / "README.md").read_text(encoding="utf-8")
+    python = f"| `wheel` | the Python package: `pip install wheel/{wheel.name}` |\n" if wheel else ""
+    text = text.replace("@WHEEL@\n", python)
     return text.replace("@VERSION@", VERSION).replace("@GLIBC@", glibc).replace("@PAGES@", "\n".join(rows))

@@ -17,7 +17,7 @@ class Entry(NamedTuple):
     link: Optional[str] = None
 
 
-def EXAMPLES():
+def example_files():
     """The examples, but for the tool that compares them."""
     return [file for file in sorted((TOP / "examples").rglob("*"))
             if file.is_file() and file.name != "compare" and "__pycache__" not in file.parts]
@@ -51,7 +51,8 @@ def program_part(program):
     yield "lib/ising2d/ising2d", Entry(program, 0o755)
     yield "lib/ising2d/VERSION", Entry(f"{VERSION}\n".encode())
     yield "lib/ising2d/explain", Entry((TOP / "tools" / "explain").read_bytes(), 0o755)
-    for name in ("_refusals.py", "texts.csv"):
+    # The module that tools/explain runs, with its data.
+    for name in (re.search(r'"(_\w+\.py)"', (TOP / "tools" / "explain").read_text(encoding="utf-8"))[1], "texts.csv"):
         yield f"lib/ising2d/{name}", Entry((package / name).read_bytes())
     completions = TOP / "packaging"
     yield "share/bash-completion/completions/ising2d", Entry((completions / "ising2d.bash").read_bytes())
@@ -71,7 +72,7 @@ def library_part(shared, archive, prefix, libdir):
     yield "include/ising2d.h", Entry((TOP / "bindings" / "c" / "ising2d.h").read_bytes())
 
 
-def docs_part(shared):
+def docs_part(shared, wheel):
     """The pages, the man pages and the examples."""
     import manual
     import pages
@@ -79,16 +80,19 @@ def docs_part(shared):
     yield "share/man/man1/ising2d.1", Entry(manual.ising2d().encode())
     yield "share/man/man3/libising2d.3", Entry(manual.libising2d().encode())
     packed = pages.pages()
-    yield "share/doc/ising2d/README.md", Entry(pages.front_page(oldest_glibc(shared) or "2.14").encode())
+    yield "share/doc/ising2d/README.md", Entry(pages.front_page(oldest_glibc(shared) or "2.14", wheel).encode())
     for old, new in packed.items():
         file = TOP / old
         data = pages.packed_page(old, packed).encode() if file.suffix == ".md" else file.read_bytes()
         yield f"share/doc/ising2d/{new}", Entry(data, 0o755 if file.stat().st_mode & 0o100 else 0o644)
 
 
-def files(program, shared, archive, prefix="/usr/local", libdir="lib"):
-    """All of it, from the bytes of the program, of the shared library and of the archive."""
+def files(program, shared, archive, prefix="/usr/local", libdir="lib", wheel=None):
+    """All of it, from the bytes of the program, of the shared library and of the archive, and the place of a
+    wheel."""
     found = dict(program_part(program))
     found.update(library_part(shared, archive, prefix, libdir))
-    found.update(docs_part(shared))
+    if wheel:
+        found[f"wheel/{wheel.name}"] = Entry(wheel.read_bytes())
+    found.update(docs_part(shared, wheel))
     return found
