@@ -69,6 +69,9 @@
 extern "C" {
 #endif
 
+/* The version that this header belongs to. */
+#define ISING2D_VERSION "0.3.0"
+
 /* The kinds of lattice. The cylinder's last column is joined to its first. */
 #define ISING2D_SQUARE 0
 #define ISING2D_TRIANGULAR 1

@@ -6,14 +6,13 @@ import base64
 import hashlib
 import platform
 import re
-import runpy
 import zipfile
 from pathlib import Path
 
 HERE = Path(__file__).resolve().parent
 LIBRARY = HERE.parents[1] / "built" / "libising2d.so"
 NAME = "ising2d"
-VERSION = runpy.run_path(str(HERE / NAME / "_version.py"))["VERSION"]
+VERSION = (HERE.parents[1] / "VERSION").read_text(encoding="utf-8").strip()
 
 METADATA = f"""Metadata-Version: 2.1
 Name: {NAME}
@@ -55,6 +54,8 @@ def _files():
     own = sorted([*package.glob("*.py"), *package.glob("*.csv")])
     files = {f"{NAME}/{path.name}": path.read_bytes() for path in own}
     files[f"{NAME}/py.typed"] = b""
+    # A number that is written out costs no look into the metadata at each import.
+    files[f"{NAME}/_version.py"] = f'"""The version of the package."""\n\nVERSION = "{VERSION}"\n'.encode()
     files[f"{NAME}/{LIBRARY.name}"] = LIBRARY.read_bytes()
     return files
 

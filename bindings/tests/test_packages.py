@@ -23,6 +23,7 @@ class Packages(unittest.TestCase):
         cls.addClassCleanup(shutil.rmtree, cls.room, ignore_errors=True)
         cls.source = cls.room / "clone" / "bindings" / "python"
         shutil.copytree(SOURCE, cls.source, ignore=shutil.ignore_patterns("__pycache__"))
+        shutil.copy(SOURCE.parents[1] / "VERSION", cls.source.parents[1])
         made = subprocess.run(
             [sys.executable, "-m", "venv", str(cls.room / "venv")], capture_output=True, text=True
         )
