@@ -119,6 +119,13 @@ class Texts(unittest.TestCase):
                 for part in parts:
                     self.assertIn(part, text)
 
+    def test_each_status_has_an_exception(self):
+        # Status 5 was never seen of an instance, so the line judges the number alone.
+        for status, kind in ((5, ising2d.NoProofFound), (6, MemoryError)):
+            with self.assertRaises(kind) as raised:
+                ising2d._ffi._Line().judge(status, None)
+            self.assertIn("memory", str(raised.exception))
+
     def test_every_number_has_a_sentence(self):
         for number in (*range(1, 14), *range(15, 24)):
             refusal = Refusal(number, (1, 2))

@@ -37,7 +37,6 @@ class Exit(IntEnum):
     INPUT_FAILED = 4
     OUTPUT_FAILED = 5
     NO_MEMORY = 6
-    NO_PROOF = 8
     INTERRUPTED = 130
     TERMINATED = 143
 
@@ -493,8 +492,7 @@ def _drop_output() -> None:
 
 
 def main(words: Optional[Sequence[str]] = None) -> int:
-    """Answers the words, and returns the exit status: that of the program, 8 if no proof was found, and
-    130 for Ctrl-C."""
+    """Answers the words, and returns the exit status: that of the program, and 130 for Ctrl-C."""
     options = _parsed(words)
     try:
         signal.signal(signal.SIGTERM, _terminated)
@@ -514,7 +512,7 @@ def main(words: Optional[Sequence[str]] = None) -> int:
         return Exit.NO_MEMORY
     except NoProofFound as fault:
         _say(str(fault))
-        return Exit.NO_PROOF
+        return Exit.NO_MEMORY
     except (OSError, ValueError) as fault:
         _say(str(fault))
         return Exit.INPUT_FAILED

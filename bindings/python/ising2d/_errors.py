@@ -282,8 +282,9 @@ class BadTerminals(Refusal):
 
 
 class NoProofFound(RuntimeError):
-    """The solver found no proof of a least energy within the memory that it may take. The instance is
-    fit; no answer is given, since none would be proved. No instance on record has met this.
+    """``ground`` or ``wall`` of a graph above the limits of the program: the solver found no proof within
+    the memory that is allowed, 4 GiB for the tables of a matching. The instance is fit; no answer is
+    given, since none would be proved. It was never seen.
 
     >>> import ising2d
     >>> issubclass(ising2d.NoProofFound, ising2d.Refusal)

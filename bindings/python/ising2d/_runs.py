@@ -8,7 +8,7 @@ from typing import Any, Dict, List, Protocol, Sequence, Tuple, Union
 from ._answers import Run
 from ._arrays import shortened
 from ._errors import refusal_of
-from ._ffi import DONE, NO_MEMORY, NO_PROOF, raise_status, run_of
+from ._ffi import DONE, NO_MEMORY, raise_status, run_of
 from ._loops import Loop
 from ._threads import interruptible
 
@@ -56,7 +56,7 @@ def _whole(words: bytes, given: bytes) -> Tuple[int, bytes]:
     status, text, length = interruptible(True, run_of, words, given, 65536)
     if length > len(text):
         status, text, length = interruptible(True, run_of, words, given, length)
-    if status in (NO_MEMORY, NO_PROOF):
+    if status == NO_MEMORY:
         raise_status(status)
     return status, text
 
