@@ -75,6 +75,7 @@ from ._reading import read
 from ._real import RealCosts, RealGround, RealTurn, RealWall, Scale
 from ._runs import run
 from ._sampler import IsingSampler, SampleSet
+from ._sequences import Lists, Pairs
 from ._threads import in_order
 from ._verdicts import Verdict
 from ._version import VERSION as __version__
@@ -94,6 +95,7 @@ __all__ = [
     "Join",
     "Lattice",
     "LibraryMissing",
+    "Lists",
     "Loop",
     "Loops",
     "Nest",
@@ -102,6 +104,7 @@ __all__ = [
     "NoSeam",
     "NotPlanar",
     "OddCut",
+    "Pairs",
     "RealCosts",
     "RealGround",
     "RealTurn",

@@ -31,7 +31,7 @@ class Drawing:
 
     def __init__(self, model: Model, places: Optional[Places] = None) -> None:
         self.model, self.couplings = model, model.couplings.tolist()
-        self.ends = model.ends()
+        self.ends = list(model.ends())
         self.places = places_of(model, places)
         # How far the second first column of a cylinder is from the first; 0 of all else.
         self.period = model.period() if places is None else 0
@@ -206,7 +206,7 @@ def _laid_out(model: Model) -> List[Point]:
         networkx = importlib.import_module("networkx")
     except ImportError:
         raise ValueError("where are the spins? give places=.., or install networkx") from None
-    ends = model.ends()
+    ends = list(model.ends())
     around: Dict[int, List[int]] = {}
     for spin, own in enumerate(model.darts()):
         others = [ends[dart // 2][1 - dart % 2] for dart in own]

@@ -112,7 +112,7 @@ class Graph(Instance):
     @property
     def rotation(self) -> Optional[List[List[int]]]:
         """The darts of each spin in cyclic order, or None if no drawing was handed in."""
-        return self.darts() if self.is_drawn else None
+        return list(self.darts()) if self.is_drawn else None
 
     @property
     def seam(self) -> Tuple[int, ...]:
@@ -156,7 +156,7 @@ class Graph(Instance):
             "kind": "general",
             "n": self.n,
             "bonds": [list(bond) for bond in self.bonds],
-            "rotation": self.darts(),
+            "rotation": list(self.darts()),
             "seam": self.seam_bonds(),
         }
 
@@ -168,7 +168,7 @@ class Graph(Instance):
             bonds = self.bonds
             return str(bonds[kept[-1]]) if kept[-1] < len(bonds) else None
         if number == RefusalCode.BAD_ROTATION:
-            lists = self.darts()
+            lists = list(self.darts())
             return str(lists[kept[0]]) if kept[0] < len(lists) else None
         return None
 

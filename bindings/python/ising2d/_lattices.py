@@ -5,12 +5,13 @@ from __future__ import annotations
 import threading
 from collections import OrderedDict
 from itertools import product
-from typing import TYPE_CHECKING, Any, Dict, Hashable, List, Literal, Optional, Sequence, Tuple, Union
+from typing import TYPE_CHECKING, Any, Dict, Hashable, Iterable, List, Literal, Optional, Sequence, Tuple, Union
 
 from . import _ffi
-from ._arrays import in_32_bits, is_numpy, numpy, read_only, shortened, whole, whole_numbers, zeros
+from ._arrays import in_32_bits, is_numpy, listed_of, numpy, read_only, shortened, whole, whole_numbers, zeros
 from ._errors import Member, Refusal, RefusalCode, words_of
 from ._instances import Instance
+from ._model import Value
 from ._real import Scale, rounded
 from ._types import Point, Whole
 
@@ -174,6 +175,13 @@ class Lattice(Instance):
     def edge_labels(self) -> Sequence[Hashable]:
         nodes = self.node_labels()
         return [(nodes[u], nodes[v]) for u, v in self.ends()]
+
+    def by_node(self, values: Iterable[Value]) -> Dict[Hashable, Value]:
+        self._fit()
+        listed = listed_of(values.tolist() if hasattr(values, "tolist") else values, "values")
+        if len(listed) != self.n:
+            raise ValueError(f"there are {len(listed)} values, and {self.n} spins")
+        return dict(zip(product(range(self.rows), range(self.cols)), listed))
 
     def places(self) -> Optional[List[Point]]:
         """Rows grow to the south and columns to the east; a triangular lattice leans, so that all its

@@ -10,11 +10,12 @@ from typing import TYPE_CHECKING, Any, Dict, Hashable, Iterable, List, Optional,
 from . import _ffi
 from ._arrays import is_numpy, numpy, whole_numbers
 from ._real import Scale
+from ._sequences import Lists, Pairs
 from ._threads import ONE_STATE, interruptible
 from ._verdicts import Verdict
 
 if TYPE_CHECKING:
-    from ._types import Int64Array, Integers, Point, UInt32Array, Whole
+    from ._types import Int64Array, Integers, Point, Whole
 
 
 Value = TypeVar("Value")
@@ -67,24 +68,16 @@ class Model:
 
     # Spins and bonds.
 
-    def ends(self) -> List[Tuple[int, int]]:
-        """The two spins of each bond."""
-        own = self._tables().ends.tolist()
-        return list(zip(own[::2], own[1::2]))
+    def ends(self) -> Pairs:
+        """The two spins of each bond: a sequence of pairs, or by ``numpy.asarray`` an array of shape
+        ``(bonds, 2)``."""
+        return Pairs(self._tables().ends)
 
-    def ends_array(self) -> UInt32Array:
-        """The two spins of each bond as an array of shape ``(bonds, 2)``. It needs numpy, and is made
-        without a copy."""
-        if numpy is None:
-            raise ImportError("numpy is needed for an array of two axes; ends() is a list")
-        found: UInt32Array = self._tables().ends.reshape(-1, 2)
-        return found
-
-    def darts(self) -> List[List[int]]:
-        """The darts of each spin in cyclic order: bond k has the darts 2k and 2k + 1."""
+    def darts(self) -> Lists:
+        """The darts of each spin in cyclic order, a sequence of lists: bond k has the darts 2k and
+        2k + 1."""
         tables = self._tables()
-        starts, darts = tables.starts.tolist(), tables.darts.tolist()
-        return [darts[first:last] for first, last in zip(starts, starts[1:])]
+        return Lists(tables.starts, tables.darts)
 
     def seam_bonds(self) -> List[int]:
         """The bonds whose signs are changed for the wall."""
