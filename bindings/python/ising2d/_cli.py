@@ -15,11 +15,10 @@ from ._bundle import write_bundle
 from ._draws import checked
 from ._errors import NoProofFound, Refusal, RefusalCode, numbers_of, refusal_of, verdict_sentence
 from ._explained import explained
-from ._ffi import PROGRAM_SPINS
 from ._instances import Instance
 from ._progress import Progress
 from ._reading import read, read_proof
-from ._records import as_text
+from ._records import as_text, proof_in
 from ._runs import run
 from ._streams import COMMANDS, answer_lines
 from ._version import VERSION
@@ -287,12 +286,11 @@ def _given(command: str, names: Sequence[str]) -> Iterator[_Given]:
 
 def _lacks_result(given: bytes) -> bool:
     """Whether the records end where a result is awaited."""
-    found = run(["check"], given)
-    return found.status == Exit.REFUSED and numbers_of(found.text)[0] in (
-        RefusalCode.UNENDED,
-        RefusalCode.TOO_MANY_SPINS,
-        RefusalCode.TOO_MANY_BONDS,
-    )
+    try:
+        proof_in(as_text(given))
+    except Refusal as refusal:
+        return refusal.number == RefusalCode.UNENDED
+    return False
 
 
 def _study_files(command: str, names: Sequence[str], quiet: bool) -> int:

@@ -14,8 +14,9 @@ from fractions import Fraction
 from functools import cmp_to_key
 from typing import TYPE_CHECKING, Any, Dict, List, NamedTuple, Sequence, Tuple
 
-from ._arrays import is_bool, is_numpy, listed_of, refuse_unordered, shortened
+from ._arrays import is_numpy, listed_of, refuse_unordered, shortened
 from ._errors import NotPlanar, RefusalCode
+from ._real import real_number
 
 if TYPE_CHECKING:
     from ._types import Points
@@ -47,22 +48,8 @@ def _rows(points: Any) -> List[Any]:
 def _pair(point: Any, place: int) -> Tuple[Any, Any]:
     if isinstance(point, (str, bytes)) or not hasattr(point, "__len__") or len(point) != 2:
         raise TypeError(f"points: two coordinates are wanted, and not {shortened(point)}")
-    x, y = (_coordinate(value, place) for value in point)
+    x, y = (real_number(value, f"point {place}") for value in point)
     return x, y
-
-
-def _coordinate(value: Any, place: int) -> Any:
-    if not is_bool(value) and isinstance(value, (int, Fraction)):
-        return value
-    if is_bool(value) or isinstance(value, (str, bytes, complex)):
-        raise TypeError(f"point {place}: a number is wanted, and not {shortened(value)}")
-    try:
-        found = float(value)
-    except (TypeError, ValueError):
-        raise TypeError(f"point {place}: a number is wanted, and not {shortened(value)}") from None
-    if not math.isfinite(found):
-        raise ValueError(f"point {place}: {found} is no coordinate (allowed: finite numbers)")
-    return found
 
 
 class _Segment(NamedTuple):

@@ -10,8 +10,9 @@ from __future__ import annotations
 
 import math
 from dataclasses import dataclass
+from decimal import Decimal
 from fractions import Fraction
-from typing import TYPE_CHECKING, Any, List, NamedTuple, Optional, Sequence, Tuple
+from typing import TYPE_CHECKING, Any, List, NamedTuple, Optional, Sequence, Tuple, Union
 
 from ._arrays import as_array, is_bool, is_numpy, listed_of, numpy, read_only, refuse_unordered, shortened
 
@@ -150,29 +151,32 @@ def rounded(values: Reals, scale: Optional[Real] = None) -> Rounded:
         found = _of_numpy(values, chosen)
         if found is not None:
             return found
-    return _of_list([_real(value) for value in listed_of(values, "couplings")], chosen)
+    return _of_list([real_number(value, "couplings") for value in listed_of(values, "couplings")], chosen)
 
 
 def _scale_of(scale: Real) -> Fraction:
-    found = Fraction(_real(scale, "scale"))
+    found = Fraction(real_number(scale, "scale"))
     if found <= 0:
         raise ValueError(f"scale is {shortened(scale)} (allowed: above 0)")
     return found
 
 
-def _real(value: Any, what: str = "couplings") -> Any:
-    """A float or a rational number; others are refused."""
+def real_number(value: Any, what: str) -> Union[int, float, Fraction]:
+    """A real number as it is, without rounding: an int, a float or a fraction. Others are refused."""
     if is_bool(value) or isinstance(value, (str, bytes, complex)):
         raise TypeError(f"{what}: a real number is wanted, and not {shortened(value)}")
     if isinstance(value, (int, Fraction)):
         return value
+    if hasattr(value, "__index__") and not hasattr(value, "__len__"):
+        return int(value.__index__())
     try:
         found = float(value)
     except (TypeError, ValueError):
         raise TypeError(f"{what}: a real number is wanted, and not {shortened(value)}") from None
     if not math.isfinite(found):
         raise ValueError(f"{what}: {found} is no real number (allowed: finite numbers)")
-    return found
+    # A decimal number is exact as a fraction, and perhaps not as a float.
+    return Fraction(value) if isinstance(value, Decimal) else found
 
 
 def _of_numpy(values: Any, scale: Optional[Fraction]) -> Optional[Rounded]:
