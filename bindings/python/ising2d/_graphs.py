@@ -2,7 +2,7 @@
 
 from __future__ import annotations
 
-from typing import TYPE_CHECKING, Any, Dict, Hashable, Iterable, List, Optional, Sequence, Tuple
+from typing import TYPE_CHECKING, Any, Dict, Hashable, Iterable, List, NamedTuple, Optional, Sequence, Tuple
 
 from . import _convert, _ffi
 from ._arrays import (
@@ -23,6 +23,18 @@ from ._types import NetworkxGraph, Point, QuadraticModel, SparseMatrix, Whole
 
 if TYPE_CHECKING:
     from ._types import Integers, Pairs, Points, Real, RealTriples, Reals, Triples
+
+
+class _Drawn(NamedTuple):
+    """A graph without its couplings, as it is handed in."""
+
+    n: Any
+    ends: Any
+    rotation: Any = None
+    seam: Any = ()
+    labels: Any = None
+    edges: Any = None
+    positions: Any = None
 
 
 class Graph(Instance):
@@ -60,40 +72,28 @@ class Graph(Instance):
         positions: Optional[Iterable[Sequence[float]]] = None,
     ) -> None:
         ends, couplings = _columns(bonds)
-        own = whole_numbers(couplings, "int64", "couplings of the bonds")
-        self._made(n, ends, own, None, rotation, seam, labels, edges, positions)
+        own = Rounded(whole_numbers(couplings, "int64", "couplings of the bonds"))
+        self._made(_Drawn(n, ends, rotation, seam, labels, edges, positions), own)
 
-    def _made(
-        self,
-        n: Any,
-        ends: Any,
-        couplings: Any,
-        scale: Optional[Scale],
-        rotation: Any,
-        seam: Any,
-        labels: Any,
-        edges: Any,
-        positions: Any,
-    ) -> None:
-        count = in_32_bits(n, "n")
-        own_ends = whole_numbers(ends, "uint32", "ends of the bonds")
-        starts, darts = _darts(rotation, count, own_ends)
-        tables = _ffi.Tables(
-            count,
-            read_only(own_ends),
-            read_only(whole_numbers(starts, "uint64", "starts of the rotation")),
-            read_only(whole_numbers(darts, "uint32", "darts of the rotation")),
-            read_only(whole_numbers(seam, "uint32", "bonds of the seam")),
-        )
+    def _made(self, drawn: _Drawn, own: Rounded) -> None:
+        n, bonds = in_32_bits(drawn.n, "n"), len(own.couplings)
+        ends = whole_numbers(drawn.ends, "uint32", "ends of the bonds")
+        starts, darts = _darts(drawn.rotation, n, ends)
         self._set(
-            n=count,
-            couplings=read_only(couplings),
-            scale=scale,
-            is_drawn=rotation is not None,
-            labels=_fitting(labels, count, "labels", "spins"),
-            edges=_fitting(edges, len(couplings), "names", "bonds"),
-            positions=_positions(positions, count),
-            _own=tables,
+            n=n,
+            couplings=read_only(own.couplings),
+            scale=own.scale,
+            is_drawn=drawn.rotation is not None,
+            labels=_fitting(drawn.labels, n, "labels", "spins"),
+            edges=_fitting(drawn.edges, bonds, "names", "bonds"),
+            positions=_positions(drawn.positions, n),
+            _own=_ffi.Tables(
+                n,
+                read_only(ends),
+                read_only(whole_numbers(starts, "uint64", "starts of the rotation")),
+                read_only(whole_numbers(darts, "uint32", "darts of the rotation")),
+                read_only(whole_numbers(drawn.seam, "uint32", "bonds of the seam")),
+            ),
         )
 
     def _with(self, couplings: Any, scale: Optional[Scale]) -> Graph:
@@ -209,22 +209,12 @@ class Graph(Instance):
         -0.625
         """
         ends, couplings = _columns(bonds, real=True)
-        return cls._of(n, ends, rounded(couplings, scale), rotation, seam, labels)
+        return cls._of(_Drawn(n, ends, rotation, seam, labels), rounded(couplings, scale))
 
     @classmethod
-    def _of(
-        cls,
-        n: Any,
-        ends: Any,
-        couplings: Rounded,
-        rotation: Any,
-        seam: Any = (),
-        labels: Any = None,
-        edges: Any = None,
-        positions: Any = None,
-    ) -> Graph:
+    def _of(cls, drawn: _Drawn, couplings: Rounded) -> Graph:
         own = cls.__new__(cls)
-        own._made(n, ends, couplings.couplings, couplings.scale, rotation, seam, labels, edges, positions)
+        own._made(drawn, couplings)
         return own
 
     @classmethod
@@ -264,7 +254,7 @@ class Graph(Instance):
         ends = [spin for pair in pairs for spin in pair]
         # The second coordinate grows to the north; places of pictures grow to the south.
         positions = [(float(x), -float(y)) for x, y in _floats_of(points)]
-        return cls._of(len(places), ends, own, drawn, seam, labels, None, positions)
+        return cls._of(_Drawn(len(places), ends, drawn, seam, labels, None, positions), own)
 
     @classmethod
     def from_networkx(
@@ -329,9 +319,8 @@ class Graph(Instance):
         values = [value for _, _, value in parts.bonds]
         own = rounded(values) if real else Rounded(whole_numbers(values, "int64", "couplings"))
         ends = [spin for u, v, _ in parts.bonds for spin in (u, v)]
-        return cls._of(
-            len(parts.labels), ends, own, rotation, seam, parts.labels, parts.edges, positions
-        )
+        drawn = _Drawn(len(parts.labels), ends, rotation, seam, parts.labels, parts.edges, positions)
+        return cls._of(drawn, own)
 
 
 def _columns(bonds: Any, real: bool = False) -> Tuple[Any, Any]:
@@ -389,9 +378,7 @@ def _floats_of(points: Any) -> List[Any]:
     return listed_of(points.tolist() if is_numpy(points) else points, "points")
 
 
-def _fitting(
-    names: Any, count: int, what: str, of: str
-) -> Optional[Tuple[Hashable, ...]]:
+def _fitting(names: Any, count: int, what: str, of: str) -> Optional[Tuple[Hashable, ...]]:
     """Names, if there are as many as are wanted."""
     if names is None:
         return None
