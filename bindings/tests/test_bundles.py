@@ -212,7 +212,7 @@ class Samplers(unittest.TestCase):
         except ImportError:
             self.skipTest("networkx is not there")
         found = ising2d.IsingSampler().sample_ising({"a": 0}, {("a", "b"): 0.75, ("b", "c"): -0.5, ("a", "c"): 1})
-        self.assertEqual(found.first.energy, -1.25)
+        self.assertEqual(found.first.energy, -2.25)
         self.assertEqual(found.first.sample["b"], found.first.sample["c"])
         self.assertEqual(found.info["error"], 0.0)
         self.assertTrue(found.info["proof"].check())

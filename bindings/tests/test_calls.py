@@ -234,7 +234,7 @@ class WrongArguments(unittest.TestCase):
 
     def test_the_limit_of_a_call_comes_in_front_of_the_couplings(self):
         for call, number, kept in (
-            (ising2d.bonds, 7, (3000,)),
+            (ising2d.costs, 7, (3000,)),
             (ising2d.clusters, 7, (3000,)),
             (ising2d.ground, 6, (1, 5890)),
             (ising2d.wall, 6, (1, 5890)),

@@ -139,7 +139,7 @@ class Commands(unittest.TestCase):
             found = program("check", str(given), str(answer))
             self.assertEqual((found.returncode, found.stdout.splitlines()[-1]), (0, b"yes"))
             found = program("wall", str(given))
-            self.assertIn(f"difference,{lattice.wall().difference}\n".encode(), found.stdout)
+            self.assertIn(f"wall,{lattice.wall().difference}\n".encode(), found.stdout)
             found = program("energy", str(given))
             self.assertEqual(found.stdout.count(b"\n"), 3)
             # What only the program answers keeps its limit.

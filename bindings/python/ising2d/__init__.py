@@ -5,7 +5,7 @@
     >>> gaussian = [source.gauss(0, 1) for _ in range(2 * 8 * 7)]
     >>> found = ising2d.Lattice.from_real("square", 8, 8, gaussian).ground()
     >>> round(found.real.energy, 4), found.real.error < 1e-9, bool(found.check())
-    (-69.7317, True, True)
+    (-71.2045, True, True)
 
 A lattice is a kind ("square", "triangular", "hexagonal" or "cylinder"), its rows and columns, and
 its couplings, one for each bond: first all bonds to the east, row by row, then those to the south, then

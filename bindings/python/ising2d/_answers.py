@@ -508,7 +508,7 @@ class Ensemble(Answer):
     >>> found.sum, found.squares, round(found.mean, 3), round(found.error, 3)
     (-78, 3108, -0.078, 0.056)
     >>> round(found.mean_size, 3), round(found.size_error, 3)
-    (1.366, 0.035)
+    (1.226, 0.04)
     """
 
     walls: Int64Array

@@ -350,7 +350,7 @@ def _large_ground(instance: Instance) -> Iterator[str]:
 def _large_wall(instance: Instance) -> Iterator[str]:
     found = instance.wall()
     yield f"periodic,{found.periodic}\nantiperiodic,{found.antiperiodic}\n"
-    yield f"difference,{found.difference}\nend\n"
+    yield f"wall,{found.difference}\nend\n"
 
 
 _LARGE: Dict[str, Callable[[Instance], Iterator[str]]] = {

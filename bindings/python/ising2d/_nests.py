@@ -23,7 +23,7 @@ class Nest:
 
     >>> import ising2d
     >>> found = ising2d.ground("square", 2, 2, [3, 4, 2, -5], nest=True)
-    >>> int(sum(found.nest.radii)), found.broken().tolist()
+    >>> int(sum(found.nest.radii)), found.broken()
     (8, [2])
     >>> parents, radii, regions, at_radii = found.nest
     """

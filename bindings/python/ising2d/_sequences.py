@@ -8,7 +8,7 @@ from typing import TYPE_CHECKING, Any, Iterator, List, Optional, Sequence, Tuple
 from ._arrays import numpy
 
 if TYPE_CHECKING:
-    from ._types import UInt32Array
+    from ._types import UInt32Array, UInt64Array
 
 
 class Pairs(Sequence[Tuple[int, int]]):
@@ -21,7 +21,7 @@ class Pairs(Sequence[Tuple[int, int]]):
     ((1, 3), 4, Pairs([(0, 1), (2, 3), (0, 2), (1, 3)]))
     """
 
-    def __init__(self, flat: Any) -> None:
+    def __init__(self, flat: UInt32Array) -> None:
         self._flat = flat
 
     def __len__(self) -> int:
@@ -69,10 +69,7 @@ class Lists(Sequence[List[int]]):
     Lists([[0], [2, 1], [3]])
     """
 
-    starts: Any
-    values: Any
-
-    def __init__(self, starts: Any, values: Any) -> None:
+    def __init__(self, starts: UInt64Array, values: UInt32Array) -> None:
         self.starts, self.values = starts, values
 
     def __len__(self) -> int:

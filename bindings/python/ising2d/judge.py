@@ -147,4 +147,4 @@ def main(path: str) -> int:
     return 1 if bad else 0
 
 if __name__ == "__main__":
-    sys.exit(main(sys.argv[1] if len(sys.argv) > 1 else sys.path[0] + "/set.jsonl"))
+    sys.exit(main(sys.argv[1] if len(sys.argv) > 1 else (__file__.rpartition("/")[0] or ".") + "/set.jsonl"))
