@@ -13,6 +13,7 @@ from pathlib import Path
 HERE = Path(__file__).resolve().parent
 LIBRARY = HERE.parents[1] / "built" / "libising2d.so"
 NAME = "ising2d"
+SUFFIXES = (".py", ".csv", ".html", ".css", ".js")
 VERSION = runpy.run_path(str(HERE / NAME / "_version.py"))["VERSION"]
 
 METADATA = f"""Metadata-Version: 2.1
@@ -52,8 +53,8 @@ get_requires_for_build_editable = get_requires_for_build_wheel
 def _files():
     """The files of the package, by their places in the wheel."""
     package = HERE / NAME
-    own = sorted([*package.glob("*.py"), *package.glob("*.csv")])
-    files = {f"{NAME}/{path.name}": path.read_bytes() for path in own}
+    own = sorted(path for path in package.rglob("*") if path.suffix in SUFFIXES)
+    files = {f"{NAME}/{path.relative_to(package).as_posix()}": path.read_bytes() for path in own}
     files[f"{NAME}/py.typed"] = b""
     files[f"{NAME}/{LIBRARY.name}"] = LIBRARY.read_bytes()
     return files

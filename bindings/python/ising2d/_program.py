@@ -149,7 +149,16 @@ def _parser() -> argparse.ArgumentParser:
     )
     picture.add_argument("--show", choices=("ground", "clusters", "wall"), default="ground")
     _files(picture)
+    _page(commands)
     return parser
+
+
+def _page(commands: Any) -> None:
+    study = _Study("a page in the browser that shows an instance and its proof", "python3 -m ising2d {0}")
+    own = _command(commands, "explore", study, _INSTANCE_FORM)
+    own.add_argument("file", nargs="?", metavar="FILE", help="an instance, or a link that the page gave")
+    own.add_argument("--port", type=_port, default=8254, metavar="N", help="the port (8254); 0: any free one")
+    own.add_argument("--no-browser", action="store_true", help="only print the address")
 
 
 def _command(commands: Any, name: str, study: _Study, form: str = "") -> argparse.ArgumentParser:
@@ -172,6 +181,12 @@ def _files(own: argparse.ArgumentParser) -> None:
 def _count(text: str) -> int:
     if not text.isdecimal() or int(text) < 1:
         raise argparse.ArgumentTypeError(f"{text!r} is no number of processes (allowed: 1 or more)")
+    return int(text)
+
+
+def _port(text: str) -> int:
+    if not (text.isascii() and text.isdecimal()) or int(text) > 65535:
+        raise argparse.ArgumentTypeError(f"{text!r} is no port (allowed: 0 to 65535)")
     return int(text)
 
 
@@ -291,6 +306,10 @@ def _picture(show: str, name: str) -> int:
 def _answered(options: argparse.Namespace) -> int:
     if options.command in _DRAWN:
         return _draw(options.command, [getattr(options, word) for word in _DRAWN[options.command][0]])
+    if options.command == "explore":
+        from ._explore import explore
+
+        return explore(options.file, options.port, not options.no_browser)
     names: List[str] = options.files or ["-"]
     if options.command == "lines":
         return _lines(options, names)
