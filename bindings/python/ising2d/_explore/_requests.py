@@ -1,0 +1,202 @@
+"""What the page asks, and how it is answered: an object of JSON in, an object of JSON out. Each request
+carries its whole instance, so nothing is kept from one to the next."""
+
+import json
+import time
+from typing import Any, Callable, Dict, Optional, Sequence
+
+from .. import Graph, Instance, Lattice, Verdict, read
+from ._droplets import forced
+from ._exports import FORMS, NEST, exported
+from ._laws import LAWS, drawn
+from ._shapes import shape_of
+
+Object = Dict[str, Any]
+
+KINDS = ("square", "triangular", "hexagonal", "cylinder")
+MOST_SIDE, MOST_SPINS, MOST_BONDS = 100, 100 * 100, 3 * 100 * 100
+_MOST_SEED = 2**64 - 1
+
+
+class Members:
+    """The members of a request. What is missing, strange or of the wrong kind is a ``ValueError``."""
+
+    def __init__(self, given: Object, allowed: Sequence[str]) -> None:
+        strange = sorted(set(given) - set(allowed))
+        if strange:
+            raise ValueError(f"a member does not belong here: {strange[0]!r}")
+        self.given = given
+
+    def of(self, name: str, kind: type, default: Any = None) -> Any:
+        """The member with this name."""
+        value = self.given.get(name, default)
+        if not isinstance(value, kind) or (kind is int and isinstance(value, bool)):
+            raise ValueError(f"{name}: {_KIND_NAMES[kind]} is wanted")
+        return value
+
+    def whole(self, name: str, low: int, high: int, default: Optional[int] = None) -> int:
+        """A whole number from ``low`` to ``high``; a number that JavaScript cannot hold comes as a text."""
+        value = self.given.get(name, default)
+        if isinstance(value, str) and value.isascii() and value.isdecimal() and len(value) <= 20:
+            value = int(value)
+        if not isinstance(value, int) or isinstance(value, bool) or not low <= value <= high:
+            raise ValueError(f"{name}: a whole number from {low} to {high} is wanted")
+        return value
+
+    def one_of(self, name: str, allowed: Sequence[str]) -> str:
+        value = self.given.get(name)
+        if not isinstance(value, str) or value not in allowed:
+            raise ValueError(f"{name}: one of {', '.join(allowed)} is wanted")
+        return value
+
+    def instance(self) -> Instance:
+        """The lattice or graph of the request."""
+        own = self.of("instance", dict)
+        if own.get("kind") == "general":
+            inner = Members(own, ("kind", "n", "bonds", "rotation", "seam"))
+            graph = Graph(
+                inner.whole("n", 1, MOST_SPINS),
+                inner.of("bonds", list),
+                inner.of("rotation", list),
+                inner.of("seam", list, []),
+            )
+            return within_limits(graph)
+        inner = Members(own, ("kind", "rows", "cols", "couplings"))
+        kind: Any = inner.one_of("kind", KINDS)
+        rows, cols = (inner.whole(name, 1, MOST_SPINS) for name in ("rows", "cols"))
+        return within_limits(Lattice(kind, rows, cols, inner.of("couplings", list)))
+
+
+_KIND_NAMES = {dict: "an object", list: "a list", str: "a text", bool: "true or false", int: "a whole number"}
+
+
+def within_limits(given: Instance) -> Instance:
+    """The instance, where the page can show it."""
+    if given.n > MOST_SPINS:
+        raise ValueError(f"the instance has {given.n} spins (the page shows at most {MOST_SPINS})")
+    if len(given.couplings) > MOST_BONDS:
+        raise ValueError(f"the instance has {len(given.couplings)} bonds (at most {MOST_BONDS})")
+    return given
+
+
+def _shown(given: Instance, unit: int) -> Object:
+    return {"instance": given.as_json(), "shape": shape_of(given), "unit": unit}
+
+
+def draw(given: Object) -> Object:
+    """A drawn lattice, with where its parts lie."""
+    own = Members(given, ("kind", "rows", "cols", "law", "seed", "share"))
+    kind: Any = own.one_of("kind", KINDS)
+    law = own.one_of("law", tuple(LAWS))
+    least = {"hexagonal": 2, "cylinder": 3}.get(kind, 1)
+    rows, cols = own.whole("rows", 1, MOST_SIDE), own.whole("cols", least, MOST_SIDE)
+    seed, share = own.whole("seed", 0, _MOST_SEED), own.whole("share", 0, 1000, 500)
+    count = len(Lattice(kind, rows, cols, []).ends())
+    return _shown(Lattice(kind, rows, cols, drawn(law, seed, count, share)), LAWS[law].unit)
+
+
+def opened(given: Object) -> Object:
+    """The instance of a text of records or of JSON, with where its parts lie."""
+    text = Members(given, ("text",)).of("text", str)
+    return _shown(within_limits(read(text)), 1)
+
+
+def solve(given: Object) -> Object:
+    """A ground state, with the proofs that are asked for, and the checker's verdicts on it: by its nest,
+    and by its loops where these are asked for."""
+    own = Members(given, ("instance", "loops", "nest"))
+    instance = own.instance()
+    with_loops, with_nest = own.of("loops", bool, False), own.of("nest", bool, False)
+    begun = time.perf_counter()
+    found = instance.ground(loops=False, nest=True)
+    taken = time.perf_counter() - begun
+    answer: Object = {
+        "energy": found.energy,
+        "spins": found.spins.tolist(),
+        "verdicts": [_verdict(found.check())],
+        "seconds": round(taken, 6),
+    }
+    if with_nest and found.nest is not None:
+        answer["nest"] = _lists(found.nest, NEST)
+    if with_loops:
+        loops = instance.ground(loops=True, nest=False).loops
+        answer["loops"] = _lists(loops, ("weights", "starts", "bonds"))
+        answer["verdicts"].append(_verdict(instance.check(found.energy, found.spins, loops)))
+    return answer
+
+
+def _lists(proof: Any, names: Sequence[str]) -> Object:
+    return {name: getattr(proof, name).tolist() for name in names}
+
+
+def _verdict(own: Verdict) -> Object:
+    return {"of": own.of, "holds": bool(own), "sentence": own.sentence}
+
+
+def force(given: Object) -> Object:
+    """What it costs to turn a bond of a ground state, and the droplet that turns with it."""
+    own = Members(given, ("instance", "bond", "spins"))
+    instance, spins = own.instance(), own.of("spins", list)
+    bond = own.whole("bond", 0, len(instance.couplings) - 1)
+    if len(spins) != instance.n or any(value not in (1, -1) for value in spins):
+        raise ValueError(f"spins: {instance.n} values, each 1 or -1, are wanted")
+    found = forced(instance, bond, spins)
+    return {
+        "cost": found.cost,
+        "turned": found.turned,
+        "border": found.border,
+        "verdict": _verdict(found.verdict),
+    }
+
+
+def costs(given: Object) -> Object:
+    """The cost of each bond."""
+    return {"costs": Members(given, ("instance",)).instance().costs().tolist()}
+
+
+def clusters(given: Object) -> Object:
+    """For each spin the least spin of its rigid cluster."""
+    return {"clusters": Members(given, ("instance",)).instance().clusters().names.tolist()}
+
+
+def wall(given: Object) -> Object:
+    """The energies of the wall at the seam, and its bonds."""
+    found = Members(given, ("instance",)).instance().wall(states=True)
+    return {
+        "periodic": found.periodic,
+        "antiperiodic": found.antiperiodic,
+        "difference": found.difference,
+        "bonds": list(found.bonds),
+        "verdicts": [_verdict(state.check()) for state in (found.ground, found.turned)],
+    }
+
+
+def export(given: Object) -> Object:
+    """A file to take away: its name and its text."""
+    own = Members(given, ("instance", "form"))
+    form = own.one_of("form", FORMS)
+    name, text = exported(own.instance(), form)
+    return {"name": name, "text": text}
+
+
+REQUESTS: Dict[str, Callable[[Object], Object]] = {
+    "draw": draw,
+    "open": opened,
+    "solve": solve,
+    "force": force,
+    "costs": costs,
+    "clusters": clusters,
+    "wall": wall,
+    "export": export,
+}
+
+
+def object_of(body: bytes) -> Object:
+    """The object of a request's body. What is no object of JSON is a ``ValueError``."""
+    try:
+        found = json.loads(body.decode("utf-8"))
+    except (ValueError, RecursionError) as fault:
+        raise ValueError(f"the body is no JSON: {fault}") from None
+    if not isinstance(found, dict):
+        raise ValueError("the body is no object of JSON")
+    return found
