@@ -13,10 +13,13 @@
 //! anew. The only error is want of memory.
 #![tactic(auto)]
 
+mod blossoms;
 mod contact;
 mod cycles;
 mod families;
 mod forest;
+mod growth;
+mod limit;
 mod radii;
 mod trees;
 mod work;
@@ -24,9 +27,11 @@ mod work;
 pub use contact::{Contact, End};
 pub use cycles::{Cycles, Link};
 pub use forest::{Forest, Step};
+pub use growth::Growth;
+pub use limit::{Limit, Unlimited};
 pub use radii::{Reach, Role};
 use std::alloc::AllocError;
-pub use work::Work;
+pub use work::{Allowance, Work};
 
 /// The allocator had no memory left.
 pub type NoMemory = AllocError;

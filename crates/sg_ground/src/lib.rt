@@ -51,7 +51,7 @@ pub use answer::{Answer, NestedState};
 pub use law::{least_joins_break, odd_cuts_are_loops};
 pub use least::{least_energy, least_energy_within};
 pub use loops::cut_loops;
-pub use nested::{nested_state, proves_by_nest};
+pub use nested::{nest_by, nested_state, proves_by_nest};
 pub use solving::{solve, solve_within};
 pub use state::{State, ground_state, ground_state_within};
 use std::alloc::AllocError;

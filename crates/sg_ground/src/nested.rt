@@ -22,7 +22,7 @@ use sg_graph::{Terminals, Web};
 use sg_model::{Bond, BondList, Instance, Spins};
 use sg_nest::{Nest, proves};
 use sg_planar::Planar;
-use sg_regions::{NestProposal, propose_nest, propose_nest_again};
+use sg_regions::{NestProposal, Proposer, Regions};
 use sg_sums::places;
 use sg_tjoin::Unproved;
 use std::alloc::Global;
@@ -105,13 +105,27 @@ fn nest_over_all(
     if !is_small {
         return Ok(None);
     }
+    nest_by(alloc, planar, state, &Regions)
+}
+
+/// A nest over the faces of all components that proves the state, where one is proposed: at first, or else
+/// once more.
+pub fn nest_by<R: Proposer<NestProposal>>(
+    alloc: Global,
+    planar: &Planar,
+    state: &State,
+    proposer: &R,
+) -> Result<Option<Nest>, NoMemory>
+    requires { FitsWeb planar.now.instance }
+    ensures { IfOk result (λ found. IfSome found (ProvesByNest planar.now state.now.spins state.now.energy)) }
+{
     let (web, frustrated) = whole_dual(alloc, planar)?;
-    let first = propose_nest(alloc, &web, &frustrated)?;
-    if let Some(nest) = accepted(alloc, planar, state, first)? {
+    let first = proposer.propose(alloc, &web, &frustrated)?;
+    if let Some(nest) = accepted(alloc, planar, state, first.found)? {
         return Ok(Some(nest));
     }
-    let second = propose_nest_again(alloc, &web, &frustrated)?;
-    accepted(alloc, planar, state, second)
+    let second = proposer.propose_again(alloc, &web, &frustrated)?;
+    accepted(alloc, planar, state, second.found)
 }
 
 // The nest of a proposal, where it proves the state.

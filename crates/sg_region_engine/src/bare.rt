@@ -7,10 +7,10 @@
 // at a hub one look.
 use super::Engine;
 use crate::NoMemory;
-use sg_forest::{Contact, End, Reach};
+use sg_forest::{Contact, End, Limit, Reach};
 use sg_growth::{Arc, Soon, reverse};
 
-impl<'a> Engine<'a> {
+impl<'a, L: Limit> Engine<'a, L> {
     // An outer region comes to a bare node of a free one. If another touches that node, the two meet;
     // and at a hub it may have to wait for another. Whether that is all there is to the event.
     pub(super) fn meet_at_bare(

@@ -1,10 +1,10 @@
 // What comes of each event, and the run of all of them.
 use super::Engine;
 use crate::NoMemory;
-use sg_forest::{Contact, End, Reach, Role};
+use sg_forest::{Contact, End, Limit, Reach, Role};
 use sg_growth::{Arc, Held, Soon, Subject, reverse};
 
-impl<'a> Engine<'a> {
+impl<'a, L: Limit> Engine<'a, L> {
     // The event of an arc: the region at its start takes the node at its end, or meets a region. If
     // no outer region is there any more, the one at the other end takes over.
     fn arc_event(&mut self, dart: u32) -> Result<(), NoMemory> {
@@ -171,7 +171,9 @@ impl<'a> Engine<'a> {
             let Some(event) = self.clock.pop()? else {
                 break;
             };
-            self.work.add(1);
+            if !self.work.take_event() {
+                break;
+            }
             if self.clock.begin(&event) {
                 self.happen(event.subject)?;
             }

@@ -1,7 +1,7 @@
 // Reading the finished regions off: the nest, and the mates of all terminals.
 use super::Engine;
 use crate::NoMemory;
-use sg_forest::End;
+use sg_forest::{End, Limit};
 use sg_growth::{Nest, Pair};
 use sg_slots::{Slot, number};
 
@@ -12,7 +12,7 @@ pub struct Exit {
     pub terminal: u32,
 }
 
-impl<'a> Engine<'a> {
+impl<'a, L: Limit> Engine<'a, L> {
     /// The finished regions. The only error is want of memory.
     pub fn nest(&self) -> Result<Nest, NoMemory> {
         let mut nest = Nest::new(self.alloc, self.arcs.nodes(), self.forest.len())?;

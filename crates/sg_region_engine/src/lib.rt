@@ -20,6 +20,9 @@
 //! `events` what comes of each event, and `finish` reads the nest and the pairs off.
 #![tactic(auto)]
 
+ghost use Rattle.std.specs.Prelude.{◌≤◌};
+ghost use Rattle.sg_forest.specs.Counts.{event_limit, growth_limit};
+
 mod bare;
 mod events;
 mod finish;
@@ -30,9 +33,8 @@ mod wake;
 
 pub use finish::Exit;
 use open_hubs::has_hub;
-use sg_forest::{Forest, Link, Reach, Role, Work};
+use sg_forest::{Allowance, Forest, Growth, Limit, Link, Reach, Role, Work};
 use sg_growth::{Adjacency, Arc, Clock, Cover, Held, Hubs, NEVER, reverse};
-use sg_slots::number;
 use std::alloc::{AllocError, Global};
 
 /// The allocator had no memory left.
@@ -50,6 +52,19 @@ pub enum Method {
     InClosedHalves,
 }
 
+impl Method {
+    /// What a run by this method may do, from so many terminals, over so many nodes and darts together.
+    pub fn allowance(self, terminals: usize, places: u64) -> Allowance
+        ensures blossoms { result.blossoms ≤ growth_limit terminals }
+        ensures work { result.work ≤ event_limit terminals places }
+    {
+        match self {
+            Method::AtOnce => Allowance::brief(terminals, places),
+            Method::InHalves | Method::InClosedHalves => Allowance::long(terminals, places),
+        }
+    }
+}
+
 // What an outer region sees over an arc: when it gets to the end or meets the region there, and
 // whether it lies there itself.
 #[derive(Clone, Copy)]
@@ -62,7 +77,7 @@ struct Sight {
 ///
 /// A region has a name: below the number of terminals that of its terminal, all others are blossoms.
 #[derive(Drop)]
-pub struct Engine<'a> {
+pub struct Engine<'a, L: Limit> {
     /// The allocator of all lists.
     pub alloc: Global,
     /// The arcs between the nodes, each edge with two darts.
@@ -72,13 +87,13 @@ pub struct Engine<'a> {
     /// Which region took each node, and at which radius.
     pub cover: Cover,
     /// The regions, what they are parts of, their radii, and the trees.
-    pub forest: Forest,
+    pub forest: Forest<L>,
     /// The arcs at nodes of high degree, by their times.
     pub hubs: Hubs,
     /// The time, and the events that wait.
     pub clock: Clock,
     /// What was done, against what is allowed.
-    pub work: Work,
+    pub work: Work<L>,
     /// Whether a tree ends with its first odd cycle.
     pub is_first: bool,
     /// Whether hubs are open: no region covers one, and a tree that comes to one ends there.
@@ -94,8 +109,9 @@ pub struct Engine<'a> {
     pub inner: Vec<u32>,
 }
 
-impl<'a> Engine<'a> {
-    /// A region for each terminal, none grown yet. The only error is want of memory.
+impl<'a, L: Limit> Engine<'a, L> {
+    /// A region for each terminal, none grown yet, and what may be done to them. The only error is want of
+    /// memory.
     ///
     /// Cost: linear in the nodes and arcs.
     pub fn new(
@@ -103,26 +119,24 @@ impl<'a> Engine<'a> {
         arcs: &'a Adjacency,
         terminals: &'a [u32],
         method: Method,
-    ) -> Result<Engine<'a>, NoMemory> {
-        let count = number(terminals.len());
+        allowed: Allowance,
+    ) -> Result<Engine<'a, L>, NoMemory>
+        requires blossoms { allowed.blossoms ≤ L.blossoms }
+        requires events { allowed.work ≤ L.events }
+    {
         let room = terminals.len().saturating_add(terminals.len() / 2);
-        let places = (arcs.nodes() as u64).saturating_add(arcs.darts() as u64);
         let hubs = Hubs::new(alloc, arcs)?;
         let clock = Clock::new(alloc, arcs.darts(), hubs.len())?;
-        let work = match method {
-            Method::AtOnce => Work::brief(places),
-            Method::InHalves | Method::InClosedHalves => Work::new(count, places),
-        };
         let is_open = has_hub(arcs) && !matches!(method, Method::InClosedHalves);
         Ok(Engine {
             alloc,
             arcs,
             terminals,
             cover: Cover::new(alloc, arcs.nodes(), room)?,
-            forest: Forest::new(alloc, terminals.len(), room)?,
+            forest: Forest::new(alloc, terminals.len(), room, allowed.blossoms)?,
             hubs,
             clock,
-            work,
+            work: Work::new(allowed.work),
             is_first: !matches!(method, Method::AtOnce),
             is_open,
             rests: 0,
@@ -130,6 +144,17 @@ impl<'a> Engine<'a> {
             cycle: Vec::new(alloc),
             inner: Vec::new(alloc),
         })
+    }
+
+    /// The steps that were taken since the engine was made.
+    pub fn growth(&self) -> Growth
+        ensures blossoms { result.blossoms ≤ L.blossoms }
+        ensures events { result.events ≤ L.events }
+    {
+        Growth {
+            blossoms: self.forest.steps(),
+            events: self.work.events(),
+        }
     }
 
     // The top over a covered node, and how far it reaches beyond: the radii from the region that took

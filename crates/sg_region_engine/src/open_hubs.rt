@@ -13,7 +13,7 @@
 // that is paired with none: the root of a tree in what follows. There is at most one such root for each hub.
 use super::Engine;
 use crate::NoMemory;
-use sg_forest::{Contact, End, Link, Role};
+use sg_forest::{Contact, End, Limit, Link, Role};
 use sg_growth::{Adjacency, reverse};
 use sg_slots::{Slot, entry, number, set_entry};
 use std::mem::swap;
@@ -63,7 +63,7 @@ pub fn has_hub(arcs: &Adjacency) -> bool {
     false
 }
 
-impl<'a> Engine<'a> {
+impl<'a, L: Limit> Engine<'a, L> {
     // Whether a node is a hub that no region may cover yet.
     pub(super) fn is_open_hub(&self, node: u32) -> bool {
         self.is_open && is_hub(self.arcs, node)

@@ -12,11 +12,11 @@
 // the other kind becomes a root one later; and where arcs are four times as long, two later.
 use super::Engine;
 use crate::NoMemory;
-use sg_forest::{Contact, Role};
+use sg_forest::{Contact, Limit, Role};
 use sg_slots::number;
 use std::mem::swap;
 
-impl<'a> Engine<'a> {
+impl<'a, L: Limit> Engine<'a, L> {
     /// Runs until each terminal has a mate. False if that did not come about within the work allowed. All
     /// arcs are so many times two as long as their edges weigh.
     pub fn run_by_method(&mut self, unit: i64) -> Result<bool, NoMemory> {

@@ -2,10 +2,10 @@
 // inner blossom expands again.
 use super::Engine;
 use crate::NoMemory;
-use sg_forest::{Contact, End, Link, Role};
+use sg_forest::{Contact, End, Limit, Link, Role};
 use std::mem::swap;
 
-impl<'a> Engine<'a> {
+impl<'a, L: Limit> Engine<'a, L> {
     // An outer region meets another, outer or free, over a contact.
     pub(super) fn meet(&mut self, contact: Contact) -> Result<(), NoMemory> {
         let own = self.forest.top(contact.own.terminal);

@@ -1,7 +1,7 @@
 // Entering the events of arcs: to wake a node is to look at each of its arcs.
 use super::Engine;
 use crate::NoMemory;
-use sg_forest::{Reach, Role};
+use sg_forest::{Limit, Reach, Role};
 use sg_growth::{Arc, NEVER, Soon, reverse};
 use sg_slots::Slot;
 
@@ -22,7 +22,7 @@ impl Coming {
     }
 }
 
-impl<'a> Engine<'a> {
+impl<'a, L: Limit> Engine<'a, L> {
     // Enters the event of an arc that leaves a node over which an outer region reaches so far.
     pub(super) fn expect(&mut self, node: u32, here: Reach, arc: &Arc) -> Result<(), NoMemory> {
         let time = self.sight(here, arc).time;

@@ -1,9 +1,13 @@
 // Proposals without cuts: a join, and the finished regions as they are.
-use super::NoMemory;
-use super::grow::{grow_again, grow_without_cuts};
-use super::proposal::{arcs_of, reversed, reversed_arcs};
+ghost use Rattle.std.specs.Prelude.{length, IfOk};
+ghost use Rattle.sg_forest.specs.Counts.{KeepsTo};
+ghost use Rattle.sg_regions.specs.Places.{place_count};
+
+use super::grow::{Finished, grow_again, grow_without_cuts};
+use super::proposal::{arcs_of, places, reversed, reversed_arcs};
+use super::{Grown, NoMemory};
 use sg_graph::{EdgeList, Terminals, Web};
-use sg_growth::{Adjacency, Nest, Pair};
+use sg_growth::{Adjacency, Nest};
 use sg_nest::{Place, Places, Region, Regions};
 use sg_region_ways::join_of;
 use sg_slots::{entry, number, set_entry};
@@ -18,8 +22,8 @@ pub struct NestProposal {
 
 /// Proposes a least join of the terminals with a nest of regions that proves it, or nothing.
 ///
-/// Nothing is promised of the proposal: a caller has it judged by `sg_nest::proves`. The only error is
-/// want of memory. Without terminals there are no edges and no regions.
+/// Nothing is promised of the proposal but the number of steps: a caller has it judged by
+/// `sg_nest::proves`. The only error is want of memory. Without terminals there are no edges and no regions.
 ///
 /// Cost: that of growing the regions, and then time linear in the web and in the regions. Memory is
 /// linear in the web.
@@ -27,28 +31,38 @@ pub fn propose_nest(
     alloc: Global,
     web: &Web,
     terminals: &Terminals,
-) -> Result<Option<NestProposal>, NoMemory> {
+) -> Result<Grown<Option<NestProposal>>, NoMemory>
+    ensures { IfOk result (λ g. KeepsTo 3 (length terminals.now) (place_count web.now) g.growth) }
+{
     if terminals.is_empty() {
-        return Ok(Some(bare(alloc, web.nodes())?));
+        return Ok(Grown::ungrown(Some(bare(alloc, web.nodes())?)));
     }
     let arcs = arcs_of(alloc, web, 2)?;
-    let grown = grow_without_cuts(alloc, &arcs, terminals.as_slice())?;
-    nest_proposal(alloc, &arcs, grown, web.edges().len())
+    let grown = grow_without_cuts(alloc, &arcs, terminals.as_slice(), places(web))?;
+    Ok(Grown {
+        found: nest_proposal(alloc, &arcs, grown.found, web.edges().len())?,
+        growth: grown.growth,
+    })
 }
 
 /// Proposes once more, for a caller to whom the first proposal was of no use: what comes at one time is
 /// taken in the opposite order, and the regions grow in two halves at once.
 ///
-/// Nothing is promised of it either. Cost: at most what [`propose_nest`] takes.
+/// Nothing more is promised of it either. Cost: at most what [`propose_nest`] takes.
 pub fn propose_nest_again(
     alloc: Global,
     web: &Web,
     terminals: &Terminals,
-) -> Result<Option<NestProposal>, NoMemory> {
+) -> Result<Grown<Option<NestProposal>>, NoMemory>
+    ensures { IfOk result (λ g. KeepsTo 1 (length terminals.now) (place_count web.now) g.growth) }
+{
     let arcs = reversed_arcs(alloc, web)?;
     let seeds = reversed(alloc, terminals.as_slice())?;
-    let grown = grow_again(alloc, &arcs, &seeds)?;
-    nest_proposal(alloc, &arcs, grown, web.edges().len())
+    let grown = grow_again(alloc, &arcs, &seeds, places(web))?;
+    Ok(Grown {
+        found: nest_proposal(alloc, &arcs, grown.found, web.edges().len())?,
+        growth: grown.growth,
+    })
 }
 
 // No edges, and no regions over so many nodes.
@@ -67,10 +81,10 @@ fn bare(alloc: Global, nodes: u32) -> Result<NestProposal, NoMemory> {
 fn nest_proposal(
     alloc: Global,
     arcs: &Adjacency,
-    grown: Option<(Nest, Vec<Pair>)>,
+    finished: Option<Finished>,
     edges: usize,
 ) -> Result<Option<NestProposal>, NoMemory> {
-    let Some((nest, pairs)) = grown else {
+    let Some(Finished { nest, pairs }) = finished else {
         return Ok(None);
     };
     let Some(edges) = join_of(alloc, arcs, &nest, pairs.as_slice(), edges)? else {

@@ -19,7 +19,11 @@ mod parts;
 mod repairs;
 
 pub use repairs::{Repairs, Turn};
+use sg_forest::Unlimited;
 use std::alloc::AllocError;
+
+// Of repairs no bound on the steps is asked.
+type Engine<'a> = sg_region_engine::Engine<'a, Unlimited>;
 
 /// The allocator had no memory left.
 pub type NoMemory = AllocError;

@@ -1,11 +1,10 @@
 // The ways between the mates of finished regions, before any repair.
-use super::NoMemory;
 use super::changes::Changes;
 use super::order::length_of;
 use super::repairs::Query;
+use super::{Engine, NoMemory};
 use sg_graph::EdgeList;
 use sg_growth::Pair;
-use sg_region_engine::Engine;
 use sg_region_ways::EdgeMarks;
 use sg_slots::{Slot, count_at, entry, number, set_entry, sum_up};
 use std::alloc::Global;

@@ -1,15 +1,14 @@
 // What of an engine outlives its arcs, and the finished regions to which it is put back.
-use super::NoMemory;
-use sg_forest::{Forest, Link, Work};
+use super::{Engine, NoMemory};
+use sg_forest::{Allowance, Forest, Link, Unlimited, Work};
 use sg_growth::{Adjacency, Clock, Cover, Hubs};
-use sg_region_engine::Engine;
 use std::alloc::Global;
 
 // An engine without its arcs and terminals.
 #[derive(Drop)]
 pub struct Parts {
     cover: Cover,
-    forest: Forest,
+    forest: Forest<Unlimited>,
     hubs: Hubs,
     clock: Clock,
     cycle: Vec<Link>,
@@ -20,7 +19,7 @@ pub struct Parts {
 #[derive(Drop)]
 pub struct Base {
     pub cover: Cover,
-    pub forest: Forest,
+    pub forest: Forest<Unlimited>,
 }
 
 impl Parts {
@@ -51,7 +50,7 @@ impl Parts {
             forest: self.forest,
             hubs: self.hubs,
             clock: self.clock,
-            work: Work::new(0, 0),
+            work: Work::new(0),
             is_first: false,
             is_open: false,
             rests: 0,
@@ -67,7 +66,7 @@ impl Base {
     pub fn of(engine: &Engine) -> Result<Base, NoMemory> {
         let mut base = Base {
             cover: Cover::new(engine.alloc, 0, 0)?,
-            forest: Forest::new(engine.alloc, 0, 0)?,
+            forest: Forest::new(engine.alloc, 0, 0, 0)?,
         };
         base.cover.restore(&engine.cover)?;
         base.forest.restore(&engine.forest)?;
@@ -93,8 +92,13 @@ impl Base {
 
 // The work that is allowed from now on, for the terminals that are not paired.
 pub fn allow_work(engine: &mut Engine) {
-    let places = (engine.arcs.nodes() as u64).saturating_add(engine.arcs.darts() as u64);
-    engine.work = Work::new(engine.unpaired, places);
+    let allowed = Allowance::long(engine.unpaired as usize, places_of(engine.arcs));
+    engine.work = Work::new(allowed.work);
+}
+
+// The nodes and darts together.
+pub fn places_of(arcs: &Adjacency) -> u64 {
+    (arcs.nodes() as u64).saturating_add(arcs.darts() as u64)
 }
 
 // Plants each terminal that is marked. The names of the others are kept.

@@ -1,13 +1,13 @@
-use super::NoMemory;
 use super::apart::{Ending, repair};
 use super::changes::Changes;
 use super::old_ways::OldWays;
 use super::order::changed_pairs;
-use super::parts::{Base, Parts, run_from};
+use super::parts::{Base, Parts, places_of, run_from};
+use super::{Engine, NoMemory};
 use sg_graph::{EdgeList, Terminals, Web};
 use sg_growth::{Adjacency, first_dart, second_dart};
 use sg_nest::Nest;
-use sg_region_engine::{Engine, Method};
+use sg_region_engine::Method;
 use sg_regions::arcs_of;
 use sg_slots::{Slot, entry, number, set_entry};
 use std::alloc::Global;
@@ -157,7 +157,8 @@ impl Repairs {
 
     // The same by regions that grow from nothing.
     fn regrown(&mut self, query: Query) -> Result<Option<Turn>, NoMemory> {
-        let mut engine = Engine::new(self.alloc, &self.arcs, &self.terminals, Method::InHalves)?;
+        let method = Method::InHalves;
+        let mut engine = engine_by(self.alloc, &self.arcs, &self.terminals, method)?;
         grown_anew(&mut engine, &self.finished, &mut self.changes, query)
     }
 
@@ -240,7 +241,7 @@ fn grow_by(
     edges: usize,
     method: Method,
 ) -> Result<Option<Grown>, NoMemory> {
-    let mut engine = Engine::new(alloc, arcs, terminals, method)?;
+    let mut engine = engine_by(alloc, arcs, terminals, method)?;
     let found = found_by(alloc, &mut engine, edges);
     let parts = Parts::of(engine);
     match found {
@@ -252,6 +253,17 @@ fn grow_by(
         Ok(None) => Ok(None),
         Err(none_left) => Err(none_left),
     }
+}
+
+// An engine for one run.
+fn engine_by<'a>(
+    alloc: Global,
+    arcs: &'a Adjacency,
+    terminals: &'a [u32],
+    method: Method,
+) -> Result<Engine<'a>, NoMemory> {
+    let allowed = method.allowance(terminals.len(), places_of(arcs));
+    Engine::new(alloc, arcs, terminals, method, allowed)
 }
 
 // What is kept of regions beside the engine that grew them.

@@ -14,6 +14,7 @@ use super::matched::matched_join;
 use super::nested::nested_join;
 use super::{Join, LeastJoin};
 use sg_graph::{Terminals, Web};
+use sg_regions::Regions;
 use std::alloc::{AllocError, Global};
 
 /// Why a call with an allowance has no least join.
@@ -101,7 +102,7 @@ pub fn least_join_within(
     ensures tight { IfOk result (λ j. sum_by odd_cut_weight j.cuts ≡ 2 * weight_of web.now j.edges) }
     ensures too_large { IfErr result (IfTooLarge (most_bytes < bytes_of (length terminals.now) web.now.nodes)) }
 {
-    if let Some(join) = judged_join(alloc, web, terminals)? {
+    if let Some(join) = judged_join(alloc, web, terminals, &Regions)?.found {
         return Ok(join);
     }
     matched_join_within(alloc, web, terminals, most_bytes)
@@ -124,7 +125,7 @@ pub fn least_weight_within(
     ensures proves { IfOk result (λ j. IfSome j.nest (NestProves web.now terminals.now j.edges)) }
     ensures too_large { IfErr result (IfTooLarge (most_bytes < bytes_of (length terminals.now) web.now.nodes)) }
 {
-    if let Some(join) = nested_join(alloc, web, terminals)? {
+    if let Some(join) = nested_join(alloc, web, terminals, &Regions)?.found {
         return Ok(join);
     }
     let join = matched_join_within(alloc, web, terminals, most_bytes)?;

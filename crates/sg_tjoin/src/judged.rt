@@ -2,39 +2,49 @@ ghost use Rattle.std.specs.Prelude.{◌≡◌, ◌<◌, ◌*◌, [], length, pos
 ghost use Rattle.sg_graph.specs.Join.{AreTerminals, IsLeastJoin};
 ghost use Rattle.sg_graph.specs.OddCut.{CutsPack, odd_cut_weight};
 ghost use Rattle.sg_graph.specs.Web.{weight_of};
+ghost use Rattle.sg_forest.specs.Counts.{KeepsTo};
+ghost use Rattle.sg_regions.specs.Places.{place_count};
 
 use super::weight::weight;
 use super::{Join, NoMemory};
 use sg_graph::{Terminals, Web};
 use sg_join_check::{Proposal, proves_least};
-use sg_regions::{propose, propose_again};
+use sg_regions::{Grown, Proposer};
 use std::alloc::Global;
 
-// What `sg_regions` proposes, where there are terminals and the judge says yes to it: at first, or else once
-// more. Nothing where it says yes to neither.
-pub fn judged_join(
+/// What is proposed, where there are terminals and the judge says yes to it: at first, or else once more;
+/// nothing where it says yes to neither. With the steps of all runs.
+pub fn judged_join<R: Proposer<Proposal>>(
     alloc: Global,
     web: &Web,
     terminals: &Terminals,
-) -> Result<Option<Join>, NoMemory>
+    proposer: &R,
+) -> Result<Grown<Option<Join>>, NoMemory>
     requires { AreTerminals web.now terminals.now }
-    ensures least { IfOk result (λ found. IfSome found (λ j. IsLeastJoin web.now terminals.now j.edges)) }
-    ensures weight { IfOk result (λ found. IfSome found (λ j. j.weight ≡ pos (weight_of web.now j.edges))) }
-    ensures packs { IfOk result (λ found. IfSome found (λ j. CutsPack web.now terminals.now j.cuts)) }
-    ensures bare { IfOk result (λ found. IfSome found
+    ensures least { IfOk result (λ g. IfSome g.found (λ j. IsLeastJoin web.now terminals.now j.edges)) }
+    ensures weight { IfOk result (λ g. IfSome g.found (λ j. j.weight ≡ pos (weight_of web.now j.edges))) }
+    ensures packs { IfOk result (λ g. IfSome g.found (λ j. CutsPack web.now terminals.now j.cuts)) }
+    ensures bare { IfOk result (λ g. IfSome g.found
         (λ j. terminals.now ≡ [] → (j.edges ≡ []) × (j.cuts ≡ []))) }
-    ensures tight { IfOk result (λ found. IfSome found
+    ensures tight { IfOk result (λ g. IfSome g.found
         (λ j. sum_by odd_cut_weight j.cuts ≡ 2 * weight_of web.now j.edges)) }
+    ensures steps { IfOk result (λ g. KeepsTo 4 (length terminals.now) (place_count web.now) g.growth) }
 {
     if terminals.is_empty() {
-        return Ok(None);
+        return Ok(Grown::ungrown(None));
     }
-    let first = propose(alloc, web, terminals)?;
-    if let Some(join) = accepted(alloc, web, terminals, first)? {
-        return Ok(Some(join));
+    let first = proposer.propose(alloc, web, terminals)?;
+    if let Some(join) = accepted(alloc, web, terminals, first.found)? {
+        return Ok(Grown {
+            found: Some(join),
+            growth: first.growth,
+        });
     }
-    let second = propose_again(alloc, web, terminals)?;
-    accepted(alloc, web, terminals, second)
+    let second = proposer.propose_again(alloc, web, terminals)?;
+    Ok(Grown {
+        found: accepted(alloc, web, terminals, second.found)?,
+        growth: first.growth.and(second.growth),
+    })
 }
 
 // The join of a proposal, where the judge says yes to it.

@@ -43,12 +43,13 @@ pub use allowance::{
     Unproved, least_join_within, least_weight_within, matched_join_within, table_bytes,
     tables_are_bounded,
 };
-use judged::judged_join;
+pub use judged::judged_join;
 pub use law::cuts_bound_joins;
 pub use matched::matched_join;
-use nested::nested_join;
+pub use nested::nested_join;
 use sg_graph::{Cuts, EdgeList, Terminals, Web};
 use sg_nest::Nest;
+use sg_regions::Regions;
 use std::alloc::{AllocError, Global};
 
 /// The allocator had no memory left.
@@ -84,7 +85,7 @@ pub fn least_join(alloc: Global, web: &Web, terminals: &Terminals) -> Result<Joi
     ensures bare { IfOk result (λ j. terminals.now ≡ [] → (j.edges ≡ []) × (j.cuts ≡ [])) }
     ensures tight { IfOk result (λ j. sum_by odd_cut_weight j.cuts ≡ 2 * weight_of web.now j.edges) }
 {
-    if let Some(join) = judged_join(alloc, web, terminals)? {
+    if let Some(join) = judged_join(alloc, web, terminals, &Regions)?.found {
         return Ok(join);
     }
     matched_join(alloc, web, terminals)
@@ -113,7 +114,7 @@ pub fn least_weight(alloc: Global, web: &Web, terminals: &Terminals) -> Result<L
     ensures weight { IfOk result (λ j. j.weight ≡ pos (weight_of web.now j.edges)) }
     ensures proves { IfOk result (λ j. IfSome j.nest (NestProves web.now terminals.now j.edges)) }
 {
-    if let Some(join) = nested_join(alloc, web, terminals)? {
+    if let Some(join) = nested_join(alloc, web, terminals, &Regions)?.found {
         return Ok(join);
     }
     let join = matched_join(alloc, web, terminals)?;

@@ -1,0 +1,32 @@
+-- How many blossoms growing regions make and take apart, and how many events they take.
+use Rattle.std.specs.Prelude.{◌≡◌, ℕ, ◌+◌, ◌*◌, ◌/◌, ◌≤◌, nat_lt, Bool, List, count_by}
+use Rattle.sg_forest.specs.declared.blossoms.Whole.{Whole}
+use Rattle.sg_forest.specs.declared.growth.Growth.{Growth}
+
+-- how many blossoms were made, and how many of them were taken apart again
+pub record Counts : Type 0 where
+  pub made : ℕ
+  pub expanded : ℕ
+
+-- whether a region has parts
+abbrev pub is_blossom : Whole → Bool
+is_blossom w = nat_lt 0 w.size
+
+-- the blossoms there are and those that were taken apart are all that were made, within the limits
+pub record IsCounted (wholes : List Whole) (made expanded most limit : ℕ) : Type 0 where
+  pub each : count_by is_blossom wholes + expanded ≡ made
+  pub within : made + expanded ≤ most
+  pub allowed : most ≤ limit
+
+-- how many blossoms a run from so many terminals may make and take apart
+abbrev pub growth_limit : ℕ → ℕ
+growth_limit terminals = 2 * terminals * terminals
+
+-- how many events it may take over so many nodes and edge ends together
+abbrev pub event_limit : ℕ → ℕ → ℕ
+event_limit terminals places = 65536 + 12 * (terminals + 11) * places + terminals * terminals * terminals / 48
+
+-- what so many runs from so many terminals may take together
+pub record KeepsTo (runs terminals places : ℕ) (g : Growth) : Type 0 where
+  pub blossoms : g.blossoms ≤ runs * growth_limit terminals
+  pub events : g.events ≤ runs * event_limit terminals places

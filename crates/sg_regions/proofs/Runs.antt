@@ -1,0 +1,29 @@
+-- The steps of runs one after another.
+use Rattle.std.proofs.Common.{ℕ, ◌+◌, ◌*◌, ◌-◌, ◌≡◌, ◌≤◌, ◌^◌, arith, min}
+use Rattle.std.proofs.lemmas.Nat.{mul-le}
+use Rattle.std.proofs.Math.Nat.{add-mul, min-le_left}
+use Rattle.sg_forest.specs.Counts.{KeepsTo, event_limit, growth_limit}
+use Rattle.sg_forest.specs.declared.growth.Growth.{Growth}
+
+-- what keeps to a multiple keeps to a greater one
+more : (m n x a : ℕ) → m ≤ n → a ≤ m * x → a ≤ n * x
+more m n x a less keeps = omega (arith, keeps, mul-le m x n x less (omega arith))
+
+-- a sum that stops at a largest number keeps to the sum of two multiples
+sum : (m n x a b c most : ℕ) → a ≤ m * x → b ≤ n * x → c ≡ min (a + b) most → c ≤ (m + n) * x
+sum m n x a b c most first second e = omega (arith, first, second, e, min-le_left (a + b) most, add-mul m n x)
+
+-- fewer runs keep to what more of them may take
+pub keeps_to_more : (m n terminals places : ℕ) (g : Growth) → m ≤ n → KeepsTo m terminals places g → KeepsTo n terminals places g
+keeps_to_more m n terminals places g less keeps = record {
+  blossoms = more m n (growth_limit terminals) g.blossoms less keeps.blossoms;
+  events = more m n (event_limit terminals places) g.events less keeps.events }
+
+-- runs, and runs after them
+pub keeps_to_and : (m n terminals places : ℕ) (first second both : Growth) →
+    KeepsTo m terminals places first → KeepsTo n terminals places second →
+    both.blossoms ≡ min (first.blossoms + second.blossoms) (2 ^ 64 - 1) →
+    both.events ≡ min (first.events + second.events) (2 ^ 64 - 1) → KeepsTo (m + n) terminals places both
+keeps_to_and m n terminals places first second both one other blossoms events = record {
+  blossoms = sum m n (growth_limit terminals) first.blossoms second.blossoms both.blossoms _ one.blossoms other.blossoms blossoms;
+  events = sum m n (event_limit terminals places) first.events second.events both.events _ one.events other.events events }
