@@ -1,10 +1,12 @@
 // The energies that are answered, beside the least over all assignments.
 
+ghost use Rattle.std.specs.Prelude.{◌<◌};
+
 use super::proposals::assert_good;
 use rand_core::utils::NextWord;
 use rand_pcg::Pcg32;
 use sg_dual::dual;
-use sg_ground::solve;
+use sg_ground::{nested_state, solve};
 use sg_model::{Instance, least_plain};
 use sg_planar::{Part, Planar, parts};
 use sg_reader::{Rows, read_instance};
@@ -150,8 +152,23 @@ fn large_lattices(rt: HostRuntime) -> Result<(), Fail> {
     Ok(())
 }
 
+// Cylinders whose two outer faces are hubs, with couplings of one size and -1 alone: then both are frustrated.
+#[test]
+fn long_cylinders(rt: HostRuntime) -> Result<(), Fail> {
+    let mut draws = Pcg32::new(8, 54);
+    for kind in [0, 3] {
+        let text = drawn(rt.alloc(), "cylinder,3,141", 705, kind, &mut draws)?;
+        assert!(rt; assert_solved(&rt, rt.alloc(), text.as_str())? < 0);
+    }
+    Ok(())
+}
+
 // Four triangles with drawn couplings, whose spins stand by turns.
-fn drawn_triangles(alloc: Global, kind: u32, draws: &mut Pcg32) -> Result<String, AllocError> {
+pub(crate) fn drawn_triangles(
+    alloc: Global,
+    kind: u32,
+    draws: &mut Pcg32,
+) -> Result<String, AllocError> {
     let mut text = String::from_str(alloc, "general,12\n")?;
     for ring in 0..4u32 {
         let spins = [ring, ring + 4, ring + 8, ring];
@@ -182,5 +199,87 @@ fn drawn_components(rt: HostRuntime) -> Result<(), Fail> {
         let text = drawn_triangles(rt.alloc(), trial % 5, &mut draws)?;
         assert_least(&rt, rt.alloc(), text.as_str())?;
     }
+    Ok(())
+}
+
+// Adds the bonds of one of two squares of 12 by 12 spins, those across before those down, with drawn couplings.
+fn push_square(
+    alloc: Global,
+    text: &mut String,
+    square: u32,
+    draws: &mut Pcg32,
+) -> Result<(), AllocError>
+    requires { square < 2 }
+{
+    for (step, width, height) in [(1, 11, 12), (12, 12, 11)] {
+        for row in 0..height {
+            for col in 0..width {
+                let spin = 144 * square + 12 * row + col;
+                let j = coupling(0, draws.next_word());
+                text.push_str(format!(in alloc; "bond,{spin},{},{j}\n", spin + step)?.as_str())?;
+            }
+        }
+    }
+    Ok(())
+}
+
+// Adds the rotation of a spin of such a square: right, down, left and up, where there is a bond.
+fn push_rotation(
+    alloc: Global,
+    text: &mut String,
+    square: u32,
+    row: u32,
+    col: u32,
+) -> Result<(), AllocError>
+    requires square { square < 2 }
+    requires row { row < 12 }
+    requires col { col < 12 }
+{
+    let spin = 144 * square + 12 * row + col;
+    let right = 264 * square + 11 * row + col;
+    let down = 264 * square + 132 + 12 * row + col;
+    text.push_str(format!(in alloc; "rot,{spin}")?.as_str())?;
+    for (is_there, dart) in [
+        (col < 11, 2 * right),
+        (row < 11, 2 * down),
+        (col > 0, (2 * right).saturating_sub(1)),
+        (row > 0, (2 * down).saturating_sub(23)),
+    ] {
+        if is_there {
+            text.push_str(format!(in alloc; ",{dart}")?.as_str())?;
+        }
+    }
+    text.push('\n')
+}
+
+// Two squares of 12 by 12 spins that nothing joins.
+fn drawn_squares(alloc: Global, draws: &mut Pcg32) -> Result<String, AllocError> {
+    let mut text = String::from_str(alloc, "general,288\n")?;
+    for square in 0..2 {
+        push_square(alloc, &mut text, square, draws)?;
+    }
+    for square in 0..2 {
+        for row in 0..12 {
+            for col in 0..12 {
+                push_rotation(alloc, &mut text, square, row, col)?;
+            }
+        }
+    }
+    text.push_str("end\n")?;
+    Ok(text)
+}
+
+// One nest over the faces of two large components proves their ground state.
+#[test]
+fn large_components(rt: HostRuntime) -> Result<(), Fail> {
+    let mut draws = Pcg32::new(44, 54);
+    let text = drawn_squares(rt.alloc(), &mut draws)?;
+    let inst = instance(&rt, rt.alloc(), text.as_str())?;
+    let Ok(planar) = Planar::new(rt.alloc(), inst) else {
+        return Err(Fail::new("the instance is planar"));
+    };
+    let state = nested_state(rt.alloc(), &planar)?;
+    assert_eq!(rt; state.energy, solve(rt.alloc(), &planar)?.energy);
+    assert!(rt; state.nest.is_some());
     Ok(())
 }

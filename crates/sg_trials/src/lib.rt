@@ -12,6 +12,8 @@ mod least;
 #[cfg(test)]
 mod proposals;
 #[cfg(test)]
+mod second;
+#[cfg(test)]
 mod states;
 #[cfg(test)]
 mod webs;

@@ -51,8 +51,8 @@ pub(crate) fn assert_good(
 ) -> Result<(), Fail>
     requires { AreTerminals web.now terminals.now }
 {
-    let first = propose(alloc, web, terminals)?;
-    let second = propose_again(alloc, web, terminals)?;
+    let first = propose(alloc, web, terminals)?.found;
+    let second = propose_again(alloc, web, terminals)?.found;
     assert!(rt;
         has_good_cuts(alloc, web, terminals, first)?,
         "the first: {text}"
@@ -61,8 +61,8 @@ pub(crate) fn assert_good(
         has_good_cuts(alloc, web, terminals, second)?,
         "the second: {text}"
     );
-    let first = propose_nest(alloc, web, terminals)?;
-    let second = propose_nest_again(alloc, web, terminals)?;
+    let first = propose_nest(alloc, web, terminals)?.found;
+    let second = propose_nest_again(alloc, web, terminals)?.found;
     assert!(rt;
         has_good_nest(alloc, web, terminals, first)?,
         "the first nest: {text}"

@@ -7,6 +7,7 @@ use super::proposals::assert_good;
 use rand_core::utils::NextWord;
 use rand_pcg::Pcg32;
 use sg_graph_text::{Network, read_network};
+use sg_regions::propose;
 use sg_tjoin::{least_join, matched_join};
 use std::alloc::{AllocError, Global};
 use std::process::Abort;
@@ -112,6 +113,67 @@ fn drawn_webs(rt: HostRuntime) -> Result<(), Fail> {
     Ok(())
 }
 
+// A node of more than 128 arcs is a hub. Heaps of hubs are in use where regions cover one and give it up again.
+#[test]
+fn hubs(rt: HostRuntime) -> Result<(), Fail> {
+    let mut draws = Pcg32::new(51, 54);
+    for nodes in [180, 181] {
+        for has_rim in [false, true] {
+            let text = drawn_star(rt.alloc(), nodes, has_rim, 3, &mut draws)?;
+            assert_proposed(&rt, rt.alloc(), text.as_str())?;
+        }
+    }
+    for hubs in [1, 2, 3, 5] {
+        for kind in [1, 3] {
+            let text = drawn_hubs(rt.alloc(), hubs, kind, &mut draws)?;
+            assert_proposed(&rt, rt.alloc(), text.as_str())?;
+        }
+    }
+    Ok(())
+}
+
+// Regions that touch one bare node, of no more than 16 arcs, meet there two by two. Were it a wall, all would be proposed
+// too, but each would take the free pair there over, and blossoms would be nested round the node.
+#[test]
+fn bare_nodes(rt: HostRuntime) -> Result<(), Fail> {
+    let mut draws = Pcg32::new(53, 54);
+    for nodes in [13, 14, 15, 16, 17] {
+        let text = drawn_star(rt.alloc(), nodes, false, 1, &mut draws)?;
+        let Ok(network) = read_network(rt.alloc(), text.as_bytes(), true) else {
+            return Err(Fail::new("the graph is connected"));
+        };
+        let growth = propose(rt.alloc(), &network.web, &network.terminals)?.growth;
+        assert!(rt; growth.blossoms <= 2);
+        assert!(rt; growth.events <= 3 * u64::from(nodes));
+    }
+    Ok(())
+}
+
+// So many hubs with an edge to each of 140 nodes, which are a path: of one hub a fan.
+fn drawn_hubs(
+    alloc: Global,
+    hubs: u32,
+    kind: u32,
+    draws: &mut Pcg32,
+) -> Result<String, AllocError> {
+    let nodes = hubs.saturating_add(140);
+    let mut text = format!(in alloc; "graph,{nodes}\n")?;
+    for node in hubs..nodes {
+        for hub in 0..hubs {
+            push_edge(alloc, &mut text, (hub, node), kind, draws)?;
+        }
+        push_edge(
+            alloc,
+            &mut text,
+            (node.saturating_sub(1), node),
+            kind,
+            draws,
+        )?;
+    }
+    push_terminals(alloc, &mut text, nodes, draws)?;
+    Ok(text)
+}
+
 // A node with an edge to each other one, and where it has a rim an edge from each of these to the next.
 fn drawn_star(
     alloc: Global,
@@ -142,7 +204,7 @@ fn stars(rt: HostRuntime) -> Result<(), Fail> {
 }
 
 // A grid of so many rows and columns.
-fn drawn_grid(
+pub(crate) fn drawn_grid(
     alloc: Global,
     rows: u32,
     cols: u32,

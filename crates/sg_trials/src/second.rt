@@ -1,0 +1,116 @@
+// Second proposals: they are asked for where the first one is of no use, and nothing else is.
+
+ghost use Rattle.std.specs.Prelude.{length, IfOk};
+ghost use Rattle.sg_forest.specs.Counts.{KeepsTo};
+ghost use Rattle.sg_graph_text.specs.Network.{IsNetwork};
+ghost use Rattle.sg_ground.specs.Nested.{FitsWeb};
+ghost use Rattle.sg_regions.specs.Places.{place_count};
+
+use super::least::{drawn_triangles, instance};
+use super::webs::drawn_grid;
+use rand_pcg::Pcg32;
+use sg_graph::{Terminals, Web};
+use sg_graph_text::{Network, read_network};
+use sg_ground::{ground_state, nest_by};
+use sg_join_check::Proposal;
+use sg_planar::Planar;
+use sg_regions::{Grown, NestProposal, Proposer, Regions};
+use sg_tjoin::{judged_join, nested_join};
+use std::alloc::{AllocError, Global};
+use std::process::Abort;
+use std::test::Fail;
+
+// Growing regions whose first proposal is kept back, and where they are mute the second one too.
+struct Silent {
+    is_mute: bool,
+}
+
+impl Proposer<Proposal> for Silent {
+    fn propose(
+        &self,
+        _alloc: Global,
+        _web: &Web,
+        _terminals: &Terminals,
+    ) -> Result<Grown<Option<Proposal>>, AllocError> {
+        Ok(Grown::ungrown(None))
+    }
+
+    fn propose_again(
+        &self,
+        alloc: Global,
+        web: &Web,
+        terminals: &Terminals,
+    ) -> Result<Grown<Option<Proposal>>, AllocError> {
+        if self.is_mute {
+            return Ok(Grown::ungrown(None));
+        }
+        Regions.propose_again(alloc, web, terminals)
+    }
+}
+
+impl Proposer<NestProposal> for Silent {
+    fn propose(
+        &self,
+        _alloc: Global,
+        _web: &Web,
+        _terminals: &Terminals,
+    ) -> Result<Grown<Option<NestProposal>>, AllocError> {
+        Ok(Grown::ungrown(None))
+    }
+
+    fn propose_again(
+        &self,
+        alloc: Global,
+        web: &Web,
+        terminals: &Terminals,
+    ) -> Result<Grown<Option<NestProposal>>, AllocError> {
+        if self.is_mute {
+            return Ok(Grown::ungrown(None));
+        }
+        Regions.propose_again(alloc, web, terminals)
+    }
+}
+
+const SECOND: Silent = Silent { is_mute: false };
+
+const MUTE: Silent = Silent { is_mute: true };
+
+// The second proposal is taken, with cuts and with a nest; and where there is none, there is no join.
+fn assert_second(rt: &impl Abort, alloc: Global, network: &Network) -> Result<(), Fail>
+    requires { IsNetwork network.now.web network.now.terminals }
+{
+    let (web, terminals) = (&network.web, &network.terminals);
+    let cuts = judged_join(alloc, web, terminals, &SECOND)?.found;
+    let nest = nested_join(alloc, web, terminals, &SECOND)?.found;
+    assert!(rt; cuts.is_some() && nest.is_some());
+    let no_cuts = judged_join(alloc, web, terminals, &MUTE)?.found;
+    let no_nest = nested_join(alloc, web, terminals, &MUTE)?.found;
+    assert!(rt; no_cuts.is_none() && no_nest.is_none());
+    Ok(())
+}
+
+#[test]
+fn second_proposals(rt: HostRuntime) -> Result<(), Fail> {
+    let mut draws = Pcg32::new(49, 54);
+    let text = drawn_grid(rt.alloc(), 6, 6, 3, &mut draws)?;
+    let Ok(network) = read_network(rt.alloc(), text.as_bytes(), true) else {
+        return Err(Fail::new("the graph is connected"));
+    };
+    assert_second(&rt, rt.alloc(), &network)
+}
+
+// The same of a nest over all components.
+#[test]
+fn second_nests(rt: HostRuntime) -> Result<(), Fail> {
+    let mut draws = Pcg32::new(50, 54);
+    let text = drawn_triangles(rt.alloc(), 0, &mut draws)?;
+    let inst = instance(&rt, rt.alloc(), text.as_str())?;
+    let Ok(planar) = Planar::new(rt.alloc(), inst) else {
+        return Err(Fail::new("the instance is planar"));
+    };
+    let state = ground_state(rt.alloc(), &planar)?;
+    assert!(rt; planar.instance().n() as usize + planar.instance().bonds().len() <= 1 << 24);
+    assert!(rt; nest_by(rt.alloc(), &planar, &state, &SECOND)?.is_some());
+    assert!(rt; nest_by(rt.alloc(), &planar, &state, &MUTE)?.is_none());
+    Ok(())
+}
