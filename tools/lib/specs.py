@@ -8,7 +8,7 @@ for clauses (`ghost Value`) counts as a clause. The definitions of the toolchain
 import pathlib
 import re
 
-TOP = pathlib.Path(__file__).resolve().parent.parent
+TOP = pathlib.Path(__file__).resolve().parents[2]
 STARTS = re.compile(r"^(?:pub )?(?:abbrev|unfoldable|record|data)\b(?: pub)? *([^\s:(]+)")
 WORD = re.compile(r"[^\s(){}\[\],;.·→×∷≡↔]+")
 IMPORT = re.compile(r"^ *(?:ghost )?use Rattle\.(\w+)\.specs\.([\w.]+)\.\{([^}]*)\};?$", re.M)
