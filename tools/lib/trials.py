@@ -95,7 +95,7 @@ def drawn_web(draw, most):
 
 def main():
     ask = argparse.ArgumentParser()
-    ask.add_argument("program", nargs="?", default=str(here.parent / "built" / "ising2d"))
+    ask.add_argument("program", nargs="?", default=str(here.parents[1] / "built" / "ising2d"))
     ask.add_argument("--joins", action="store_true")
     ask.add_argument("--count", type=int, default=100000)
     ask.add_argument("--seed", type=int, default=1)

@@ -22,8 +22,8 @@ import threading
 
 from processes import crate_of, fields_of, is_below, running
 
-TOP = pathlib.Path(__file__).resolve().parent.parent
-SECONDS = TOP / "tools" / "seconds"
+TOP = pathlib.Path(__file__).resolve().parents[2]
+SECONDS = TOP / "tools" / "lib" / "seconds"
 PAGE = TOP / "CONTRIBUTING.md"
 TABLE = re.compile(r"(<!-- times -->\n).*?(<!-- end of times -->\n)", re.S)
 KINDS = ("proof", "tests", "wrong bodies")

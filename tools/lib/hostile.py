@@ -301,7 +301,7 @@ def peaks():
 
 
 ask = argparse.ArgumentParser()
-ask.add_argument("program", nargs="?", default=str(here.parent / "built" / "ising2d"))
+ask.add_argument("program", nargs="?", default=str(here.parents[1] / "built" / "ising2d"))
 ask.add_argument("--groups", default="memory,space,devices,cut,changed,forged,drawn,peaks")
 ask.add_argument("--count", type=int, default=1000)
 ask.add_argument("--megabytes", type=int, default=400)

@@ -30,9 +30,7 @@ import functools
 import os
 import pathlib
 import random
-import re
 import resource
-import shutil
 import signal
 import subprocess
 import sys
@@ -42,6 +40,7 @@ import time
 here = pathlib.Path(__file__).resolve().parent
 sys.path.insert(0, str(here))
 import families
+import hits
 
 # What the names of the matching's functions hold, whichever of them the compiler has left.
 MATCHING = ("sg_tjoin::matched", "sg_tjoin::matching", "sg_match::")
@@ -78,32 +77,14 @@ def best_of(program, command, path, runs, within):
 
 @functools.cache
 def matching_names(program):
-    """The functions of the matching that the program names, where gdb can be asked for them."""
-    if shutil.which("gdb") is None or shutil.which("nm") is None:
-        return []
-    listed = subprocess.run(["nm", program], stdout=subprocess.PIPE, stderr=subprocess.DEVNULL)
-    named = [line.split(maxsplit=2) for line in listed.stdout.decode().splitlines()]
-    names = [line[2] for line in named if len(line) == 3 and line[1] in "tT"]
-    return [name for name in names if name.startswith(MATCHING)]
+    """The functions of the matching that the program names."""
+    return hits.functions(program, MATCHING)
 
 
 def enters_matching(program, command, path, within):
     """Whether a run enters the matching, as gdb sees it; None where it does not."""
-    names = matching_names(program)
-    if not names:
-        return None
-    words = ["gdb", "-nx", "-batch", "-ex", "set style enabled off"]
-    for name in names:
-        words += ["-ex", f"break *(&'{name}')"]
-    words += ["-ex", f"run {command} < '{path}' > /dev/null", program]
-    try:
-        seen = subprocess.run(words, stdin=subprocess.DEVNULL, stdout=subprocess.PIPE, stderr=subprocess.DEVNULL,
-                              timeout=10 * within).stdout.decode(errors="replace")
-    except subprocess.TimeoutExpired:
-        return None
-    if re.search(r"^Breakpoint \d+, ", seen, re.M):
-        return True
-    return False if "exited normally" in seen else None
+    entered = hits.counted(matching_names(program), [program, command], path, 10 * within, is_exact=True)
+    return None if entered is None else any(entered)
 
 
 def nodes_and_terminals(command, path):
@@ -347,7 +328,7 @@ def search(said):
 
 def main():
     ask = argparse.ArgumentParser()
-    ask.add_argument("--program", default=str(here.parent / "built" / "ising2d"))
+    ask.add_argument("--program", default=str(here.parents[1] / "built" / "ising2d"))
     ask.add_argument("--only", default="")
     ask.add_argument("--commands", default="ground,tjoin,postman")
     ask.add_argument("--size", type=int, default=families.SPINS)

@@ -9,7 +9,7 @@ which of them a definition cites `Specs.foreign` says.
 import pathlib
 import re
 
-TOP = pathlib.Path(__file__).resolve().parent.parent
+TOP = pathlib.Path(__file__).resolve().parents[2]
 STARTS = re.compile(r"^(?:pub )?(?:abbrev|unfoldable|record|data)\b(?: pub)? *([^\s:(]+)")
 WORD = re.compile(r"[^\s(){}\[\],;.·→×∷≡↔]+")
 IMPORT = re.compile(r"^ *(?:ghost )?use Rattle\.(\w+)\.specs\.([\w.]+)\.\{([^}]*)\};?$", re.M)

@@ -25,7 +25,7 @@ import tempfile
 import time
 
 here = pathlib.Path(__file__).resolve().parent
-top = here.parent
+top = here.parents[1]
 LIBRARY = top / "built" / "libising2d.so"
 
 # The parts in the order in which they come, each with the beginnings of its functions' names. Of two that

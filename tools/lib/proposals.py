@@ -21,13 +21,14 @@ import argparse
 import array
 import pathlib
 import random
-import re
 import shutil
 import subprocess
 import sys
 import tempfile
 
-root = pathlib.Path(__file__).resolve().parent.parent
+import hits
+
+root = pathlib.Path(__file__).resolve().parents[2]
 LIBRARY = root / "built" / "libising2d.so"
 SHAPES, LATTICES, WEBS = 10, "for trial in 0..20 {\n            let text = drawn(", "for trial in 0..150u32 {"
 # What the names of the functions begin with that are counted.
@@ -88,41 +89,19 @@ def solve(count, side):
 
 def names():
     """The functions that are counted, by the names that the library has for them."""
-    listed = subprocess.run(["nm", LIBRARY], check=True, stdout=subprocess.PIPE).stdout.decode()
-    found = [line.split(maxsplit=2)[-1] for line in listed.splitlines()]
-    found = {start: [name for name in found if name.startswith(start)] for start in (JUDGE, MATCHING)}
-    for start, several in found.items():
+    found = [hits.functions(LIBRARY, start) for start in (JUDGE, MATCHING)]
+    for start, several in zip((JUDGE, MATCHING), found):
         if len(several) != 1:
             sys.exit(f"the library names {len(several)} functions {start}")
-    return {start: several[0] for start, several in found.items()}
-
-
-# What gdb does.
-COUNTER = """
-import gdb
-for line in ("set pagination off", "set confirm off", "set breakpoint pending on"):
-    gdb.execute(line)
-points = [gdb.Breakpoint(function=name) for name in {names!r}.values()]
-for point in points:
-    point.ignore_count = 2**31 - 1
-gdb.execute("run")
-print("COUNTED", *(point.hit_count for point in points))
-print("ENDED", gdb.parse_and_eval("$_exitcode"))
-"""
+    return [several[0] for several in found]
 
 
 def counted(count, side):
     """How often the judge was asked, and how often terminals were matched."""
-    with tempfile.NamedTemporaryFile("w", suffix=".py") as script:
-        script.write(COUNTER.format(names=names()))
-        script.flush()
-        words = ["gdb", "-nx", "-batch", "-x", script.name, "--args",
-                 sys.executable, __file__, "solve", str(count), str(side)]
-        told = subprocess.run(words, stdin=subprocess.DEVNULL, stdout=subprocess.PIPE).stdout.decode(errors="replace")
-    found = re.search(r"^COUNTED (\d+) (\d+)$", told, re.M)
-    if found is None or not re.search(r"^ENDED 0$", told, re.M):
-        sys.exit(f"the run did not end: {told[-2000:]}")
-    return tuple(map(int, found.groups()))
+    entered = hits.counted(names(), [sys.executable, __file__, "solve", count, side])
+    if entered is None:
+        sys.exit("the run did not end, or there is no gdb")
+    return entered
 
 
 def large(said):
