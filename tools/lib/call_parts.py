@@ -3,7 +3,7 @@
 drawn lattices: shares of the time, and seconds. It needs built/libising2d.so (bindings/build) and perf or
 valgrind, and no numpy. Outside the gate.
 
-  tools/parts [--by perf|instructions] [--spins 1000,10000,100000] [--kinds square] [--laws pm,uniform]
+  tools/measure parts [--by perf|instructions] [--spins 1000,10000,100000] [--kinds square] [--laws pm,uniform]
 
 By `perf` the process is looked at a thousand times a second, and a part has the looks that found it at
 work; without a share stands what the C library does for it: to fill, to copy and to give memory. By

@@ -2,10 +2,10 @@
 """Prints the definitions that a claim rests on, each behind those that it cites, with its file: what a
 referee has to read to know what the contract of a function says.
 
-  tools/claims [FUNCTION | CRATE::FUNCTION | CRATE::TYPE::FUNCTION | CRATE::DEFINITION ..]
-  tools/claims --test     the part of the gate: that the generated parts of docs/REFEREE.md and the numbers
+  tools/docs claims [FUNCTION | CRATE::FUNCTION | CRATE::TYPE::FUNCTION | CRATE::DEFINITION ..]
+  tools/docs claims --test     the part of the gate: that the generated parts of docs/REFEREE.md and the numbers
                           of README.md are right, and that no public clause reaches a private definition
-  tools/claims --write    writes these parts and numbers
+  tools/docs claims --write    writes these parts and numbers
 
 Without names these are the claims of the README: a ground state, a yes of the checker, the reply to words and
 an input, the same with the four laws, and a run over devices. A definition counts where a clause of the function
@@ -205,7 +205,7 @@ def test(known):
     for key in sorted(known.definitions.keys() - public - private):
         faults.append(f"{'.'.join(key)} is cited by no public clause, and not in the table of private definitions")
     if page(known) != REFEREE.read_text(encoding="utf-8"):
-        faults.append("docs/REFEREE.md is not what tools/claims --write makes of it")
+        faults.append("docs/REFEREE.md is not what tools/docs claims --write makes of it")
     if readme(known) != README.read_text(encoding="utf-8"):
         faults.append(f"the README does not say that the claims rest on {counts(known)} definitions")
     for fault in faults:

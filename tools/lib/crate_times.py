@@ -2,13 +2,13 @@
 """Measures what the crates cost in processor time: their proofs, their tests with the proofs of these, and
 their wrong bodies.
 
-  tools/times [--write]           runs the gate, and prints a row a crate, in minutes
-  tools/times --build [--write]   builds the program as ./ising2d does, and prints the seconds of each proof
+  tools/measure crates [--write]           runs the gate, and prints a row a crate, in minutes
+  tools/measure crates --build [--write]   builds the program as ./ising2d does, and prints the seconds of each proof
 
 Twice a second it looks at what runs below the command, and gives the processor time of each process to the
 crate that its words name. What rt has kept of earlier runs on this machine is not done again, so the times
 are whole where nothing of these files has been proved yet. With --write the rows go into CONTRIBUTING, or
-the seconds into tools/seconds, by which tools/build tells the time that is left. Beside other work the times
+the seconds into tools/lib/seconds, by which tools/build tells the time that is left. Beside other work the times
 are longer, by a quarter and more. The exit status is that of the command.
 """
 import collections

@@ -5,8 +5,8 @@ docs/PROMISES.md; that the tables of crates have each crate once, and that the c
 names are there; and that no link of a page is dead.
 Part of the gate; it needs Python alone.
 
-  tools/definitions
-  tools/definitions --write    writes the lists of parts
+  tools/docs definitions
+  tools/docs definitions --write    writes the lists of parts
 
 The heading of a section names its crates, as (`crates/sg_model/specs`), or one file, as
 (`crates/sg_walk/specs/Walk`). In a table the first column has the names and the last one the files:
@@ -14,7 +14,7 @@ The heading of a section names its crates, as (`crates/sg_model/specs`), or one 
 crate, and `sg_slack`'s `Members` is a file of another crate. A first column with no backticks is a notion,
 of which only the file is looked for. In a paragraph each word in backticks that begins with a capital is a
 name, which stands in the file behind it, as in `FitsFaces inst faces bonds` (`BrokenLists`), or else in one of
-the section. A name may have arguments. Which definitions are public tools/specs.py says. Those of a crate
+the section. A name may have arguments. Which definitions are public tools/lib/specs.py says. Those of a crate
 that no table and no paragraph names stand in the list of parts behind the mark `parts: CRATE`, with the words
 that stand above them in their files.
 
@@ -33,6 +33,7 @@ DECLARED = re.compile(r"^\s*(?:pub )?(?:fn|ghost|trait|struct|enum) ([A-Za-z_]\w
 WORDS = re.compile(r"`([^`]+)`")
 BEHIND = re.compile(r"`([A-Z]\w*)[^`]*` \(`([A-Z]\w*)`\)")
 LINK = re.compile(r"\[[^\]]*\]\(([^)\s]+)\)")
+TOOL = re.compile(r"`((?:tools|bindings)/[\w./-]*\w)")
 PARTS = re.compile(r"^<!-- parts: (.*) -->\n(?:- .*\n)*", re.M)
 PRIVATE = "## Private definitions"
 # The most lines of a front page.
@@ -163,7 +164,7 @@ def part(crate, module, own):
 def complete():
     """Each public definition has been named, or stands in a list of parts."""
     page, left = with_parts()
-    judge("", page == PAGE.read_text(), "the lists of parts are not what tools/definitions --write makes of them")
+    judge("", page == PAGE.read_text(), "the lists of parts are not what tools/docs definitions --write makes of them")
     for key in sorted(left):
         judge("", False, f"{'.'.join(key)} is public, and has no line")
 
@@ -231,10 +232,13 @@ def marks(path):
     return set(heads) | set(re.findall(r'<a id="([^"]+)">', text))
 
 
+def all_pages():
+    return [*sorted(top.glob("*.md")), *sorted(top.glob("docs/*.md")), *sorted(top.glob("tools/*.md")), *sorted(top.glob("examples/**/*.md"))]
+
+
 def links():
-    """No page of the repository has a dead link."""
-    pages = [*sorted(top.glob("*.md")), *sorted(top.glob("docs/*.md")), *sorted(top.glob("examples/**/*.md"))]
-    for page in pages:
+    """No page of the repository has a dead link, and none names a tool that is not there."""
+    for page in all_pages():
         for line, text in enumerate(page.read_text().splitlines(), 1):
             for target in LINK.findall(text):
                 name, _, mark = target.partition("#")
@@ -243,6 +247,8 @@ def links():
                 file = page.parent / name if name else page
                 good = file.exists() and (not mark or mark in marks(file))
                 judge(line, good, f"the link {target} leads nowhere", page.relative_to(top))
+            for name in TOOL.findall(text):
+                judge(line, (top / name).exists(), f"there is no {name}", page.relative_to(top))
 
 
 definitions()

@@ -2,7 +2,7 @@
 """What can happen to the built program, by accident or on purpose: memory that is refused, devices
 that fail, inputs cut short or changed, forged proofs, inputs of the densest kinds. Outside the gate.
 
-  tools/hostile [PROGRAM] [--groups memory,space,devices,cut,changed,forged,drawn,peaks] [--count 1000]
+  tools/attack [PROGRAM] [--groups memory,space,devices,cut,changed,forged,drawn,peaks] [--count 1000]
 
 PROGRAM is built/ising2d where none is named. A line for each case; the exit status is 0 where each
 came out as it must. The groups `memory` and `space` need a C compiler.

@@ -2,8 +2,8 @@
 """On how many drawn lattices and webs the judges say yes to what is proposed, at first and once more.
 Outside the gate.
 
-  tools/proposals [--count 20000] [--webs 100000]
-  tools/proposals --large [--sides 1000x100,100x316]
+  tools/measure proposals [--count 20000] [--webs 100000]
+  tools/measure proposals --large [--sides 1000x100,100x316]
 
 Without `--large` the tests `drawn_lattices` and `drawn_webs` of crates/sg_trials are run in a copy of the
 repository with more trials; it needs `rt`. They ask for both proposals, with cuts and with nests, and stop

@@ -1,4 +1,4 @@
-"""Reads the definitions of all crates, and which of them clauses cite: for tools/claims, tools/definitions and tools/texts.
+"""Reads the definitions of all crates, and which of them clauses cite: for tools/docs claims, tools/docs definitions and tools/docs texts.
 
 A definition is public where a clause of a public function cites it, or a definition that is public does;
 the others are private: only private contracts cite them. A public function is one that a crate exports: by

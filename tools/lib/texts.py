@@ -5,8 +5,8 @@ library and the judge of joins have the same numbers and names, and keep as many
 allowed has the limits of the definitions; that tools/explain says each; and that the script ising2d, about a
 run that ends badly, leads to what is there. Part of the gate; it needs bash and Python.
 
-  tools/texts
-  tools/texts --write     writes the first columns of the tables of docs/FORMATS.md
+  tools/docs texts
+  tools/docs texts --write     writes the first columns of the tables of docs/FORMATS.md
 
 In front of a table stands the mark `texts: OF ..`, with what its rows are of, as in the data. The columns in
 front come from the data, and the further ones are the page's own.
@@ -145,7 +145,7 @@ def page(known):
 
 def on_the_page(known):
     text = PAGE.read_text(encoding="utf-8")
-    judge(text == page(known), "it is not what tools/texts --write makes of it", "docs/FORMATS.md")
+    judge(text == page(known), "it is not what tools/docs texts --write makes of it", "docs/FORMATS.md")
     marks = [of for match in BLOCK.finditer(text) for of in match[1].split()]
     judge(sorted(marks) == sorted(known), "not each kind of row stands in one table", "docs/FORMATS.md")
     for match in BLOCK.finditer(text):

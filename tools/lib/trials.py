@@ -4,7 +4,7 @@ least over all assignments where there are few spins, and its proof judged by `c
 arithmetic in another language; or as many weighted graphs, whose joins are put beside the least over
 all joins, and whose cuts are judged by plain arithmetic. Outside the gate.
 
-  tools/trials [PROGRAM] [--joins | --costs] [--count 100000] [--seed 1] [--few 12] [--most 40]
+  tools/attack trials [PROGRAM] [--joins | --costs] [--count 100000] [--seed 1] [--few 12] [--most 40]
 
 PROGRAM is built/ising2d where none is named. One in four instances has up to MOST spins or nodes, and
 the others have up to FEW, so that all their assignments or joins can be tried. With --costs each

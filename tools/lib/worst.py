@@ -1,12 +1,12 @@
 #!/usr/bin/env python3
-"""The families of tools/families.py, run by the built program: processor time, peak memory, and
+"""The families of tools/lib/families.py, run by the built program: processor time, peak memory, and
 whether the proposal was accepted, so that a cliff is seen when it comes. Outside the gate.
 
-  tools/worst [--program built/ising2d] [--only WORD] [--commands ground,tjoin,postman]
+  tools/measure worst [--program built/ising2d] [--only WORD] [--commands ground,tjoin,postman]
               [--size 2048] [--runs 3] [--within SECONDS]
-  tools/worst --library [--size 20000] [--only WORD] [--runs 3] [--within SECONDS]
-  tools/worst --search MINUTES [--commands ground,tjoin] [--seed 1] [--nodes 384] [--size 2048]
-  tools/worst --write FOLDER [--size 2048]
+  tools/measure worst --library [--size 20000] [--only WORD] [--runs 3] [--within SECONDS]
+  tools/measure worst --search MINUTES [--commands ground,tjoin] [--seed 1] [--nodes 384] [--size 2048]
+  tools/measure worst --write FOLDER [--size 2048]
 
 A line for each family and command, the slowest last. Times are the least of some runs, the start of
 the program with them. A peak is at least that of this process, some 20 MB. The exit status is 0 where
@@ -23,7 +23,7 @@ Instances whose couplings sum to more than 2^44 at that size are refused, and le
 
 A search makes patterns, runs them at so many nodes, and climbs towards more time for each node and
 each end of an edge; what it climbs to is run at the full size. Each line that it prints is a family
-where it is put into tools/families.py as it stands.
+where it is put into tools/lib/families.py as it stands.
 """
 import argparse
 import functools
