@@ -16,7 +16,7 @@ import unittest
 
 import ising2d
 from ising2d import Graph, Lattice, Loop, Network, Refusal
-from test_calls import CASES, SQUARE, drawn, text_of
+from test_calls import CASES, SQUARE, drawn, pairs, text_of
 from test_graphs import drawn as drawn_graph
 
 RING = ("cylinder", 1, 3, [5, 7, 2])
@@ -24,7 +24,7 @@ RING = ("cylinder", 1, 3, [5, 7, 2])
 
 def least_energy(instance):
     """The least energy over all assignments."""
-    n, ends, couplings = instance.n, instance.ends(), instance.couplings.tolist()
+    n, ends, couplings = instance.n, pairs(instance), instance.couplings.tolist()
     energies = (
         -sum(j * spins[u] * spins[v] for (u, v), j in zip(ends, couplings))
         for spins in itertools.product((1, -1), repeat=n)
@@ -42,7 +42,7 @@ class Walls(unittest.TestCase):
         self.assertEqual((found.ground.energy, found.turned.energy), (numbers.periodic, numbers.antiperiodic))
         self.assertTrue(found.ground.check())
         self.assertTrue(found.turned.check())
-        spins, ends = found.ground.spins.tolist(), instance.ends()
+        spins, ends = found.ground.spins.tolist(), pairs(instance)
         couplings = instance.couplings.tolist()
         price = sum(couplings[k] * spins[ends[k][0]] * spins[ends[k][1]] for k in found.bonds)
         self.assertEqual(2 * price, found.difference)
@@ -107,15 +107,16 @@ class Studies(unittest.TestCase):
             lattice = Lattice(*drawn(source))
             members = lattice.as_json()
             self.assertEqual(ising2d.read(json.dumps(members)), lattice)
-            self.assertEqual(ising2d.read(text_of(*lattice._numbers())), lattice)
+            self.assertEqual(ising2d.read(text_of(lattice.kind, lattice.rows, lattice.cols, lattice.couplings.tolist())), lattice)
             # With a seam of its own it is a graph, drawn as the lattice is.
             graph = ising2d.read(json.dumps({**members, "seam": lattice.seam_bonds()}))
             self.assertEqual(graph.ground().energy, lattice.ground().energy)
             if lattice.seam_bonds():
                 self.assertEqual(graph.wall(), lattice.wall())
 
-    def test_bonds_and_costs_are_one_call(self):
-        self.assertIs(ising2d.bonds, ising2d.costs)
+    def test_the_old_name_of_costs_warns(self):
+        with self.assertWarns(DeprecationWarning):
+            self.assertIs(ising2d.bonds, ising2d.costs)
 
     def test_drawn(self):
         lattice = ising2d.draw("uniform", 42, "square", 2, 2)

@@ -9,7 +9,8 @@ from pathlib import Path
 
 import ising2d
 from ising2d import Loop, Refusal
-from ising2d._lattices import KINDS, ends
+
+KINDS = ("square", "triangular", "hexagonal", "cylinder")
 
 EXAMPLES = Path(__file__).resolve().parents[2] / "examples"
 CASES = int(os.environ.get("CASES", "2000"))
@@ -27,6 +28,39 @@ def bond_count(kind, rows, cols):
             count += south and (kind != "hexagonal" or (row + col) % 2 == 0)
             count += kind == "triangular" and south and col + 1 < cols
     return count
+
+
+# The steps to the neighbours of a spin, in the order of its darts: in rows and in columns.
+STEPS = ((0, 1), (-1, 0), (-1, -1), (0, -1), (1, 0), (1, 1))
+
+
+def ends(kind, rows, cols):
+    """The two spins of each bond of a lattice, in the order of the bonds."""
+    found = []
+    for r in range(rows):
+        found += [(r * cols + c, r * cols + (c + 1) % cols) for c in range(cols - (kind != "cylinder"))]
+    for r in range(rows - 1):
+        south = [(r * cols + c, (r + 1) * cols + c) for c in range(cols)]
+        found += [bond for c, bond in enumerate(south) if kind != "hexagonal" or (r + c) % 2 == 0]
+    if kind == "triangular":
+        for r in range(rows - 1):
+            found += [(r * cols + c, (r + 1) * cols + c + 1) for c in range(cols - 1)]
+    return found
+
+
+def rotation(bonds, rows, cols):
+    """The darts of each spin of a lattice in their order."""
+    darts = {}
+    for k, (u, v) in enumerate(bonds):
+        (r, c), (row, col) = divmod(u, cols), divmod(v, cols)
+        place = STEPS.index((row - r, 1 if row == r else col - c))
+        darts[r, c, place], darts[row, col, (place + 3) % 6] = 2 * k, 2 * k + 1
+    return [[darts[r, c, i] for i in range(6) if (r, c, i) in darts] for r in range(rows) for c in range(cols)]
+
+
+def pairs(given):
+    """The two spins of each bond of an instance, as pairs of Python."""
+    return [tuple(map(int, pair)) for pair in given.ends()]
 
 
 def text_of(kind, rows, cols, couplings):
@@ -133,7 +167,7 @@ class WorkedExamples(unittest.TestCase):
     def test_a_ring(self):
         ring = ("cylinder", 1, 3, [5, 7, 2])
         self.assertEqual(ising2d.wall(*ring), ising2d.Wall(-14, -10, 4))
-        self.assertEqual(list(ising2d.bonds(*ring)), [14, 18, 14])
+        self.assertEqual(list(ising2d.costs(*ring)), [14, 18, 14])
         self.assertEqual(list(ising2d.clusters(*ring)), [0, 0, 0])
 
 
@@ -152,7 +186,7 @@ class RandomInstances(unittest.TestCase):
         self.assertTrue(ising2d.check(*instance, found.energy, found.spins, found.loops))
         self.assertEqual(ising2d.ground(*instance, loops=False).energy, found.energy)
         costs = [int(row[2]) for row in rows_of("bonds", instance)[:-1]]
-        self.assertEqual(list(ising2d.bonds(*instance)), costs)
+        self.assertEqual(list(ising2d.costs(*instance)), costs)
         names = [int(row[2]) for row in rows_of("clusters", instance)[:-1]]
         self.assertEqual(list(ising2d.clusters(*instance)), names)
         if instance[0] == "cylinder":
@@ -172,7 +206,7 @@ class RandomInstances(unittest.TestCase):
 
 
 class WrongArguments(unittest.TestCase):
-    CALLS = (ising2d.ground, ising2d.wall, ising2d.bonds, ising2d.clusters)
+    CALLS = (ising2d.ground, ising2d.wall, ising2d.costs, ising2d.clusters)
 
     def refused(self, number, kept, *instance):
         for call in self.CALLS:
@@ -187,7 +221,7 @@ class WrongArguments(unittest.TestCase):
         self.refused(19, (4, 0), "square", 2, 0, [])
         self.refused(19, (4, 0), "hexagonal", 2, 1, [1])
         self.refused(19, (4, 0), "cylinder", 2, 2, [1])
-        for call in (ising2d.bonds, ising2d.clusters):
+        for call in (ising2d.costs, ising2d.clusters):
             with self.assertRaises(Refusal) as caught:
                 call("square", 45, 46, [1] * 4049)
             self.assertEqual((caught.exception.number, caught.exception.kept), (7, (2070,)))
@@ -200,7 +234,7 @@ class WrongArguments(unittest.TestCase):
 
     def test_the_limit_of_a_call_comes_in_front_of_the_couplings(self):
         for call, number, kept in (
-            (ising2d.bonds, 7, (3000,)),
+            (ising2d.costs, 7, (3000,)),
             (ising2d.clusters, 7, (3000,)),
             (ising2d.ground, 6, (1, 5890)),
             (ising2d.wall, 6, (1, 5890)),
@@ -209,17 +243,17 @@ class WrongArguments(unittest.TestCase):
                 call("square", 50, 60, [1])
             self.assertEqual((caught.exception.number, caught.exception.kept), (number, kept))
 
-    def test_couplings_that_were_changed_are_refused_as_those_of_a_lattice(self):
+    def test_a_lattice_is_not_changed(self):
         lattice = ising2d.Lattice(*SQUARE)
-        self.assertEqual(lattice.ground().energy, -10)
-        lattice.couplings = array("q", [3, 4, 2, -(2**63)])
-        with self.assertRaises(Refusal) as caught:
-            lattice.ground()
-        self.assertEqual((caught.exception.number, caught.exception.kept), (19, (6, 3)))
-        lattice.couplings = array("q", [3, 4, 2])
-        with self.assertRaises(Refusal) as caught:
-            lattice.ground()
-        self.assertEqual((caught.exception.number, caught.exception.kept), (6, (3, 4)))
+        for name in ("couplings", "rows", "kind", "n", "another"):
+            with self.assertRaises(AttributeError):
+                setattr(lattice, name, 3)
+        other = lattice.with_couplings([3, 4, 2, 5])
+        self.assertEqual((other.ground().energy, lattice.ground().energy), (-14, -10))
+        for couplings, number, kept in (([3, 4, 2, -(2**63)], 19, (6, 3)), ([3, 4, 2], 6, (3, 4))):
+            with self.assertRaises(Refusal) as caught:
+                lattice.with_couplings(couplings).ground()
+            self.assertEqual((caught.exception.number, caught.exception.kept), (number, kept))
 
     def test_the_tables_of_each_kind(self):
         """The library's tables are those that the package lists, and give the lattice as a graph."""
@@ -234,9 +268,14 @@ class WrongArguments(unittest.TestCase):
             found = lattice._numbers_within(rows * cols)
             starts, darts = list(found.starts), list(found.darts)
             with self.subTest(kind=kind, rows=rows, cols=cols):
-                self.assertEqual(list(zip(found.ends[::2], found.ends[1::2])), lattice.ends())
+                listed = ends(kind, rows, cols)
+                self.assertEqual(pairs(lattice), listed)
+                self.assertEqual(list(zip(found.ends[::2], found.ends[1::2])), listed)
                 self.assertEqual([darts[a:b] for a, b in zip(starts, starts[1:])], lattice.darts())
+                self.assertEqual(lattice.darts(), rotation(listed, rows, cols))
                 self.assertEqual(list(found.seam), lattice.seam_bonds())
+                seam = [r * cols + cols - 1 for r in range(rows)] if kind == "cylinder" else []
+                self.assertEqual(lattice.seam_bonds(), seam)
             if rows * cols > 1:
                 with self.assertRaises(Refusal) as caught:
                     lattice._numbers_within(rows * cols - 1)

@@ -6,6 +6,7 @@ import importlib.util
 import pkgutil
 import subprocess
 import sys
+import time
 import unittest
 import xml.etree.ElementTree as tree
 from pathlib import Path
@@ -15,7 +16,7 @@ from ising2d import Graph, Lattice
 
 PACKAGE = Path(ising2d.__file__).resolve().parent
 DOCS = PACKAGE.parents[2] / "docs"
-PAGES = (PACKAGE.parent / "README.md", DOCS / "BINDINGS.md", DOCS / "TOUR.md")
+PAGES = (PACKAGE.parent / "README.md", DOCS / "BINDINGS.md", DOCS / "REFERENCE.md", DOCS / "TOUR.md")
 
 
 class Examples(unittest.TestCase):
@@ -43,13 +44,32 @@ class Examples(unittest.TestCase):
     def test_every_call_has_one(self):
         for name in ising2d.__all__:
             own = getattr(ising2d, name)
-            if name not in ("Instance", "__version__", "Run", "OddCut", "Step", "Width"):
+            if name not in ("Instance", "__version__", "Run", "OddCut", "Step", "Width", "RealTurn"):
                 self.assertIn(">>>", own.__doc__ or "", name)
 
 
-@unittest.skipIf(importlib.util.find_spec("mypy") is None, "mypy is not there")
+class Scripts(unittest.TestCase):
+    FOLDER = DOCS.parent / "examples" / "python"
+
+    def test_each_runs(self):
+        for name, words, part in (
+            ("annealer.py", (), "minima"),
+            ("walls.py", ("60", "4"), "wall energy"),
+            ("drawings.py", ("300",), "energy -288, proved: True"),
+        ):
+            place = self.FOLDER / name
+            if place.exists():
+                with self.subTest(script=name):
+                    ran = subprocess.run([sys.executable, str(place), *words], capture_output=True, text=True)
+                    self.assertEqual((ran.returncode, ran.stderr), (0, ""))
+                    self.assertIn(part, ran.stdout)
+
+
+@unittest.skipUnless(importlib.util.find_spec("mypy") and importlib.util.find_spec("numpy"), "mypy or numpy is not there")
 class Types(unittest.TestCase):
     def test_a_checker_passes_them(self):
+        sources = "".join(path.read_text(encoding="utf-8") for path in PACKAGE.glob("*.py"))
+        self.assertNotIn("type: ignore", sources)
         found = subprocess.run(
             [sys.executable, "-m", "mypy", "--strict", "--cache-dir=/dev/null", "ising2d"],
             cwd=PACKAGE.parent,
@@ -78,6 +98,12 @@ class Pictures(unittest.TestCase):
                         self.assertIn("path", self.shapes(answer.svg()))
                         self.assertLess(len(answer.svg()), 400000)
 
+    def test_a_large_one(self):
+        begun = time.process_time()
+        found = ising2d.draw("pm", 3, "cylinder", 120, 120).ground()
+        self.assertIn("path", self.shapes(found.svg()))
+        self.assertLess(time.process_time() - begun, 20)
+
     def test_frustrated_faces(self):
         text = ising2d.ground("square", 2, 2, [3, 4, 2, -5]).svg()
         self.assertIn("frustrated face", text)
@@ -85,7 +111,7 @@ class Pictures(unittest.TestCase):
 
     def test_the_outer_face_is_never_shaded(self):
         # Both the face and the outer one are frustrated.
-        from ising2d._faces import Drawing
+        from ising2d._drawings import Drawing
 
         for instance in (
             Lattice("square", 2, 2, [3, 4, 2, -5]),
@@ -100,7 +126,7 @@ class Pictures(unittest.TestCase):
             self.assertEqual([len(face.bonds) for face in faces], sizes)
 
     def test_the_first_column_of_a_cylinder_is_drawn_twice(self):
-        from ising2d._faces import Drawing
+        from ising2d._drawings import Drawing
 
         drawing = Drawing(Lattice("cylinder", 2, 3, [1] * 9))
         self.assertEqual([bond for bond in range(9) if len(drawing.shifts(bond)) == 2], [6])

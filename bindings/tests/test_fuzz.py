@@ -17,7 +17,7 @@ except ImportError:
     numpy = None
 
 CALLS = int(os.environ.get("CALLS", "400"))
-STATED = (TypeError, ValueError, OverflowError, MemoryError)
+STATED = (TypeError, ValueError, OverflowError, MemoryError, ising2d.NoProofFound)
 
 
 class Odd:
@@ -121,8 +121,6 @@ VALUES = [
     Graph(2, [(0, 1, 7)], [[0], [1]]),
     Graph(3, [(0, 1, 7)], [[0], [9]]),
     Graph(2**31, [], []),
-    Graph(-1, [], []),
-    Graph("a", "b", "c"),
     Exception,
     Ellipsis,
 ]
@@ -178,6 +176,18 @@ CALLED += [
     (ising2d.sample, ("pm", 1, 2, 2)),
     (ising2d.ensemble, ("pm", 1, 2, 3, 2)),
     (ising2d.widths, ("pm", 1, 2, 3, 2)),
+    (ising2d.draw, ("diluted", 1, "square", 2, 2, 0.5)),
+    (ising2d.ensemble, ("gaussian", 1, 2, 3, 2)),
+    (lambda *given: Lattice.from_real(*given).ground().real, ("square", 2, 2, [0.5, 1.5, -1, 2.25], 4)),
+    (lambda *given: Lattice.from_real(*given).real_costs(), ("cylinder", 1, 3, [0.1, 0.2, -0.3])),
+    (lambda *given: Graph.from_real(*given).ground(), (2, [(0, 1, 0.5)], [[0], [1]], (), 2)),
+    (
+        lambda *given: Graph.from_points(*given).ground(),
+        ([(0, 0), (1, 0), (0, 1)], [(0, 1), (1, 2), (2, 0)], [1, -1, 2], (), False, None, "abc"),
+    ),
+    (lambda *given: ising2d.IsingSampler().sample_ising(*given), ({"a": 0}, {("a", "b"): 1})),
+    (lambda couplings: Lattice(*LATTICE).with_couplings(couplings).ground(), ([1, 2, 3, 4],)),
+    (lambda *given: Lattice(*LATTICE).with_real(*given).ground(), ([1, 2.5, 3, 4], 2)),
     (ising2d.run, (["energy"], "square,1,1\nend\n")),
     (ising2d.read, ("square,1,1\nend\n",)),
     (ising2d.svg, (ising2d.ground(*LATTICE), None, 3, 20.0, True)),

@@ -172,16 +172,26 @@ class RandomGraphs(unittest.TestCase):
         self.assertGreater(refused, CASES // 2)
 
     def test_numbers_that_do_not_cross(self):
-        for graph in (
-            Graph(-1, [], []),
-            Graph(2**32, [], []),
-            Graph(1, [(0, -1, 1)], [[0]]),
-            Graph(2, [(0, 1, 2**63)], [[0], [1]]),
-            Graph(1, [], [[-1]]),
-            Graph(1, [], [[]], [2**32]),
+        for given in (
+            (-1, [], []),
+            (2**32, [], []),
+            (1, [(0, -1, 1)], [[0]]),
+            (2, [(0, 1, 2**63)], [[0], [1]]),
+            (1, [], [[-1]]),
+            (1, [], [[]], [2**32]),
         ):
-            with self.subTest(graph=graph), self.assertRaises(OverflowError):
-                graph.ground()
+            with self.subTest(given=given), self.assertRaises(OverflowError):
+                Graph(*given)
+
+    def test_a_graph_is_not_changed(self):
+        bonds = [[0, 1, 7]]
+        graph = Graph(2, bonds, [[0], [1]])
+        bonds[0][2] = 9
+        self.assertEqual((graph.bonds, graph.rotation, graph.seam), ([(0, 1, 7)], [[0], [1]], ()))
+        with self.assertRaises(AttributeError):
+            graph.n = 3
+        with self.assertRaises(ValueError):
+            Graph(3, [(0, 1, 7)], labels=("x",))
 
 
 if __name__ == "__main__":

@@ -7,7 +7,7 @@ import unittest
 
 import ising2d
 from ising2d import Refusal
-from test_calls import bond_count, drawn
+from test_calls import bond_count, drawn, pairs
 
 CASES = int(os.environ.get("CASES", "2000")) // 4
 NONE = ising2d.Nest.NONE
@@ -23,7 +23,7 @@ def faces_of(given):
             behind[dart] = own[(i + 1) % len(own)]
         count += not own
     found = 0
-    for first in range(2 * len(given.ends())):
+    for first in range(2 * len(given.couplings)):
         dart = first
         if dart in face_of:
             continue
@@ -36,7 +36,7 @@ def faces_of(given):
 
 def broken_weights(given, spins):
     """The size of the coupling of each broken bond; one of no coupling is broken between unlike spins."""
-    bonds = enumerate(zip(given.ends(), given.couplings.tolist()))
+    bonds = enumerate(zip(pairs(given), given.couplings.tolist()))
     return {k: abs(j) for k, ((u, v), j) in bonds if (j < 0) == (spins[u] == spins[v])}
 
 

@@ -1,5 +1,7 @@
-"""Installing: wheels, an editable install, and one that comes before the library is made. No network."""
+"""Installing by setuptools: wheels, an editable install, and one that comes before the library is made. No
+network. It is left out where the Python that runs it has no setuptools, wheel or venv."""
 
+import importlib.util
 import os
 import re
 import shutil
@@ -13,19 +15,21 @@ from pathlib import Path
 import ising2d
 
 SOURCE = Path(__file__).resolve().parents[1] / "python"
-LIBRARY = Path(ising2d._library.library._name)
+LIBRARY = Path(ising2d._ffi.library()._name)
+IS_READY = all(importlib.util.find_spec(name) for name in ("setuptools", "wheel", "venv"))
 
 
+@unittest.skipUnless(IS_READY, "setuptools or wheel is not there")
 class Packages(unittest.TestCase):
     @classmethod
     def setUpClass(cls):
         cls.room = Path(tempfile.mkdtemp())
         cls.addClassCleanup(shutil.rmtree, cls.room, ignore_errors=True)
         cls.source = cls.room / "clone" / "bindings" / "python"
-        shutil.copytree(SOURCE, cls.source, ignore=shutil.ignore_patterns("__pycache__"))
-        made = subprocess.run(
-            [sys.executable, "-m", "venv", str(cls.room / "venv")], capture_output=True, text=True
-        )
+        shutil.copytree(SOURCE, cls.source, ignore=shutil.ignore_patterns("__pycache__", "build", "*.egg-info"))
+        shutil.copy(SOURCE.parents[1] / "VERSION", cls.source.parents[1])
+        words = [sys.executable, "-m", "venv", "--system-site-packages", str(cls.room / "venv")]
+        made = subprocess.run(words, capture_output=True, text=True)
         cls.python = cls.room / "venv" / "bin" / "python"
         if made.returncode != 0:
             raise unittest.SkipTest("there is no venv")
@@ -43,10 +47,13 @@ class Packages(unittest.TestCase):
             [str(self.python), *words], capture_output=True, text=True, cwd=self.room, env=bare
         )
 
-    def install(self, *words):
+    def pip(self, *words):
         return self.run_there(
-            "-m", "pip", "install", "--no-index", "--disable-pip-version-check", "--force-reinstall", *words
+            "-m", "pip", *words[:1], "--no-build-isolation", "--no-deps", "--no-index", "--disable-pip-version-check", *words[1:]
         )
+
+    def install(self, *words):
+        return self.pip("install", "--force-reinstall", *words)
 
     def works(self):
         found = self.run_there(
@@ -62,15 +69,9 @@ class Packages(unittest.TestCase):
 
     def test_before_the_library_is_made(self):
         (self.source.parents[1] / "built" / "libising2d.so").unlink()
-        for words in ((str(self.source),), ("-e", str(self.source))):
-            found = self.install(*words)
-            self.assertNotEqual(found.returncode, 0)
-            self.assertIn("Make it with bindings/build, and install again", found.stdout + found.stderr)
-
-    def test_from_the_folder(self):
         found = self.install(str(self.source))
-        self.assertEqual(found.returncode, 0, found.stderr)
-        self.assertIn("site-packages", self.works())
+        self.assertNotEqual(found.returncode, 0)
+        self.assertIn("Make it with bindings/build, and install again", found.stdout + found.stderr)
 
     def test_editable(self):
         found = self.install("-e", str(self.source))
@@ -85,21 +86,26 @@ class Packages(unittest.TestCase):
         versions = {(int(a), int(b)) for a, b in re.findall(r"Name: GLIBC_(\d+)\.(\d+)", told)}
         return versions, set(re.findall(r"\(NEEDED\).*\[(.*)\]", told))
 
-    def test_the_tag(self):
-        found = self.run_there(str(self.source / "make_wheel.py"), str(self.room))
-        name = found.stdout.strip()
-        self.assertRegex(name, r"^ising2d-[0-9.]+-py3-none-manylinux_2_[0-9]+_\w+\.whl$")
-        with zipfile.ZipFile(self.room / name) as archive:
-            self.assertLessEqual({"ising2d/libising2d.so", "ising2d/texts.csv"}, set(archive.namelist()))
-            self.assertIsNone(archive.testzip())
+    def test_a_wheel_with_its_tag(self):
+        made = self.pip("wheel", "--wheel-dir", str(self.room / "made"), str(self.source))
+        self.assertEqual(made.returncode, 0, made.stderr)
+        (wheel,) = (self.room / "made").glob("*.whl")
+        self.assertRegex(wheel.name, r"^ising2d-[0-9.]+-py3-none-manylinux_2_[0-9]+_\w+\.whl$")
+        with zipfile.ZipFile(wheel) as archive:
+            names = set(archive.namelist())
+            self.assertLessEqual(
+                {f"ising2d/{name}" for name in ("libising2d.so", "texts.csv", "judge.py", "py.typed")}, names
+            )
+            metadata = archive.read(next(name for name in names if name.endswith("METADATA"))).decode()
+        for part in ("Summary: Exact", "Classifier: Typing", "Requires-Python: >=3.9", "# ising2d"):
+            self.assertIn(part, metadata)
         versions, needed = self.asked_of_the_system()
         if versions:
             major, minor = max(max(versions), (2, 5))
-            self.assertIn(f"manylinux_{major}_{minor}_", name)
+            self.assertIn(f"manylinux_{major}_{minor}_", wheel.name)
             self.assertLessEqual(needed, {"libc.so.6", "libm.so.6", "libgcc_s.so.1", "ld-linux-x86-64.so.2"})
-        first = (self.room / name).read_bytes()
-        self.run_there(str(self.source / "make_wheel.py"), str(self.room))
-        self.assertEqual((self.room / name).read_bytes(), first)
+        self.assertEqual(self.install(str(wheel)).returncode, 0)
+        self.assertIn("site-packages", self.works())
 
 
 if __name__ == "__main__":

@@ -111,6 +111,70 @@ class Commands(unittest.TestCase):
         self.assertEqual((found.returncode, found.stdout), (4, b""))
         self.assertIn(b"/nowhere", found.stderr)
 
+    def test_a_result_in_a_file_of_its_own(self):
+        with tempfile.TemporaryDirectory() as folder:
+            given, answer, whole = (Path(folder) / name for name in ("given", "answer", "whole"))
+            given.write_text(SQUARE)
+            answer.write_text(ising2d.run(["ground"], SQUARE).text)
+            whole.write_text(given.read_text() + answer.read_text())
+            found = program("check", str(given), str(answer))
+            self.assertEqual((found.returncode, found.stderr), (0, b""))
+            self.assertTrue(found.stdout.endswith(b"yes\n"))
+            found = program("check", str(whole), str(given), str(answer))
+            self.assertEqual((found.returncode, found.stdout.count(b"yes\n")), (0, 2))
+            answer.write_text(answer.read_text().replace("-10", "-9"))
+            self.assertEqual(program("check", str(given), str(answer)).returncode, 3)
+            self.assertEqual(program("check", str(given), "/nowhere").returncode, 4)
+
+    def test_files_of_every_size(self):
+        lattice = ising2d.draw("pm", 1, "cylinder", 50, 50)
+        text = f"cylinder,50,50\n{','.join(map(str, lattice.couplings.tolist()))}\nend\n"
+        with tempfile.TemporaryDirectory() as folder:
+            given, answer = Path(folder) / "given", Path(folder) / "answer"
+            given.write_text(text)
+            found = program("ground", str(given))
+            self.assertEqual(found.returncode, 0)
+            self.assertTrue(found.stdout.startswith(f"energy,{lattice.ground().energy}\n".encode()))
+            answer.write_bytes(found.stdout)
+            found = program("check", str(given), str(answer))
+            self.assertEqual((found.returncode, found.stdout.splitlines()[-1]), (0, b"yes"))
+            found = program("wall", str(given))
+            self.assertIn(f"wall,{lattice.wall().difference}\n".encode(), found.stdout)
+            found = program("energy", str(given))
+            self.assertEqual(found.stdout.count(b"\n"), 3)
+            # What only the program answers keeps its limit.
+            self.assertEqual(program("bonds", str(given)).stdout, b"refused,7,2500\n")
+            given.write_text(text.replace("end", "x"))
+            found = program("ground", str(given))
+            self.assertEqual((found.returncode, found.stdout), (1, b"refused,3,2,0\n"))
+            self.assertIn(b"line 3, field 1: 'x' cannot stand there", found.stderr)
+
+    def test_streams_that_fail(self):
+        """The same statuses as the program: 5 for standard output, 4 for standard input."""
+        line = json.dumps(ising2d.draw("pm", 1, "square", 2, 2).as_json())
+        for words, given in ((("ground",), SQUARE), (("lines", "energy"), line), (("svg",), SQUARE)):
+            for end, status in ((">/dev/full", 5), (">&-", 5), ("<&- >/dev/null", 4)):
+                with self.subTest(words=words, end=end):
+                    command = " ".join([sys.executable, "-m", "ising2d", *words, end])
+                    found = subprocess.run(["sh", "-c", command], input=given.encode(), capture_output=True)
+                    self.assertEqual(found.returncode, status, found.stderr)
+                    self.assertNotIn(b"Traceback", found.stderr)
+                    self.assertEqual(found.stdout, b"")
+
+    def test_sigterm(self):
+        lines = "\n".join([json.dumps(ising2d.draw("uniform", 1, "square", 40, 40).as_json())] * 400)
+        for jobs in ("1", "2"):
+            words = [sys.executable, "-m", "ising2d", "lines", "bonds", "--jobs", jobs]
+            with tempfile.NamedTemporaryFile("w") as file:
+                file.write(lines)
+                file.flush()
+                with subprocess.Popen([*words, file.name], stdout=subprocess.PIPE, stderr=subprocess.PIPE) as child:
+                    self.assertTrue(child.stdout.readline())
+                    child.send_signal(signal.SIGTERM)
+                    rest, told = child.communicate(timeout=20)
+                    self.assertEqual((child.returncode, told), (143, b""))
+                    self.assertTrue(not rest or rest.endswith(b"\n"))
+
     def test_pictures(self):
         for show, text in (("ground", SQUARE), ("clusters", SQUARE), ("wall", "cylinder,1,3\n5,7,2\nend\n")):
             self.assertTrue(program("svg", "--show", show, input=text).stdout.startswith(b"<svg"))

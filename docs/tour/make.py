@@ -36,7 +36,7 @@ def walls_of(task):
     """The sizes of the wall energies of one lot, with a seed of its own."""
     size, lot = task
     found = ising2d.ensemble("uniform", 1000 * size + lot, size, size, COUNT)
-    return size, numpy.abs(numpy.asarray(found.walls)).mean() / 2**20
+    return size, found.mean_size / 2**20
 
 
 def stiffness():

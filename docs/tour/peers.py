@@ -27,7 +27,7 @@ def by_networkx(lattice):
     """A least perfect matching of the frustrated faces. The outer face is one of them, where they are
     odd in number. The cost of a pair is the least weight of bonds that are crossed on the way."""
     import networkx
-    from ising2d._faces import Drawing
+    from ising2d._drawings import Drawing
 
     drawing = Drawing(lattice)
     dual = networkx.Graph()

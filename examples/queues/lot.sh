@@ -5,22 +5,38 @@
 #
 #   lot.sh LOT [FOLDER]
 #
-# Set PROGRAM for another program than built/ising2d of this clone, or ising2d where that is missing.
+# Set PROGRAM for another program than built/ising2d of this clone, or ising2d where that is missing. The
+# exit status is 2 if LOT is no number, and 127 if there is no program.
 set -eu
 
+case ${1:-} in
+'' | *[!0-9]*)
+    echo "lot.sh: the number of a lot is wanted, and not '${1:-}'" >&2
+    exit 2
+    ;;
+esac
 here=$(cd "$(dirname "$0")" && pwd)
 top=$here/../..
 program=${PROGRAM:-$top/built/ising2d}
-if [ ! -x "$program" ]; then program=$top/ising2d; fi
+if [ -z "${PROGRAM:-}" ] && [ ! -x "$program" ]; then program=$top/ising2d; fi
+if ! command -v "$program" >/dev/null 2>&1; then
+    echo "lot.sh: there is no program $program" >&2
+    exit 127
+fi
 lot=$1
 folder=${2:-.}
 whole=$folder/lot-$lot.txt
 
-if [ -e "$whole" ]; then exit 0; fi
+if [ -s "$whole" ]; then exit 0; fi
 part=$(mktemp "$folder/part-$lot-XXXXXX")
 trap 'rm -f "$part"' EXIT
 trap 'exit 143' TERM INT HUP
-for seed in $(seq $((100 * lot + 1)) $((100 * lot + 100))); do
+seed=$((100 * lot))
+last=$((seed + 100))
+while [ "$seed" -lt "$last" ]; do
+    seed=$((seed + 1))
     "$program" sample pm "$seed" 24 24
 done >"$part"
+# mktemp lets nobody else read it; a lot has the mode that the umask leaves.
+chmod "$(printf '%o' $((0666 & ~$(umask))))" "$part"
 mv "$part" "$whole"

@@ -8,5 +8,5 @@ set -eu
 
 here=$(cd "$(dirname "$0")" && pwd)
 folder=${1:-.}
-seq 0 9 | parallel --halt soon,fail=1 "$here/lot.sh" {} "$folder"
+printf '%s\n' 0 1 2 3 4 5 6 7 8 9 | parallel --halt soon,fail=1 "$here/lot.sh" {} "$folder"
 exec "$here/sums.sh" "$folder"

@@ -6,7 +6,10 @@
 set -eu
 
 folder=${1:-.}
-missing=$(for lot in $(seq 0 9); do if [ ! -e "$folder/lot-$lot.txt" ]; then printf ' %s' "$lot"; fi; done)
+missing=
+for lot in 0 1 2 3 4 5 6 7 8 9; do
+    if [ ! -s "$folder/lot-$lot.txt" ]; then missing="$missing $lot"; fi
+done
 if [ -n "$missing" ]; then
     echo "lots are missing:$missing" >&2
     exit 1

@@ -1,24 +1,34 @@
-"""Exact ground states of planar two-dimensional Ising spin glasses.
+"""Exact ground states of planar two-dimensional Ising spin glasses, each with a proof.
 
-    >>> import ising2d
-    >>> found = ising2d.ground("square", 2, 2, [3, 4, 2, -5])
-    >>> found.energy, list(found.spins)
-    (-10, [1, 1, -1, -1])
+    >>> import random, ising2d
+    >>> source = random.Random(1)
+    >>> gaussian = [source.gauss(0, 1) for _ in range(2 * 8 * 7)]
+    >>> found = ising2d.Lattice.from_real("square", 8, 8, gaussian).ground()
+    >>> round(found.real.energy, 4), found.real.error < 1e-9, bool(found.check())
+    (-71.2045, True, True)
 
 A lattice is a kind ("square", "triangular", "hexagonal" or "cylinder"), its rows and columns, and
-its couplings, one whole number for each bond: first all bonds to the east, row by row, then those to
-the south, then the diagonals. Spin (r, c) has the number ``r * cols + c``. The energy is minus the
-sum of coupling times both spins, in the unit of the couplings. There are at most 2**20 spins, for
-costs, clusters, ranges, cuts and reports at most 2048, and the sizes of the couplings sum to at most
-2**44. ``Graph`` is any other planar graph.
+its couplings, one for each bond: first all bonds to the east, row by row, then those to the south, then
+the diagonals. Spin (r, c) has the number ``r * cols + c``. ``Graph`` is any other planar graph, by points
+with straight bonds, from networkx, or by a drawing. The energy is minus the sum of coupling times both
+spins. Couplings are whole numbers, whose sizes sum to at most 2**44; ``from_real`` takes real ones, and
+its answers have rigorous bounds. There are at most 2**20 spins; costs, clusters, ranges, cuts and
+reports take at most 2048.
 
-Where numpy is there, arrays are given as numpy arrays, which are not to be changed, and else as arrays
-of the module ``array``; any sequence of whole numbers is taken. Wrong numbers raise a ``Refusal`` (a
-``ValueError``), a ``TypeError`` or an ``OverflowError``, and their texts say what is allowed.
+Arrays are numpy's if numpy is installed, and read-only; else they are arrays of the module ``array``.
+Whole numbers of any sequence are taken. Wrong input raises a ``Refusal`` (a ``ValueError`` with
+subclasses such as ``NotPlanar`` and ``TooLarge``), a ``TypeError``, a ``ValueError`` or an
+``OverflowError``, and the text says what is allowed.
 
-A call of the library lets other threads go on meanwhile. Ctrl-C ends the waiting for a long call at
-once; the call itself then goes on in the background, and does not hold up the end of the process.
+The library is loaded at the first call. A call of it lets other threads go on meanwhile. Ctrl-C ends the
+waiting for a long call at once; the call itself goes on in the background, and does not hold up the end
+of the process.
 """
+
+from __future__ import annotations
+
+import warnings
+from typing import TYPE_CHECKING
 
 from ._answers import (
     Clusters,
@@ -34,28 +44,46 @@ from ._answers import (
     Step,
     Tour,
     Turn,
-    Verdict,
     Wall,
     Width,
+    svg,
 )
-from ._batches import ground_many, in_order
+from ._batches import ground_many
+from ._bundle import bundle
 from ._calls import check, clusters, costs, ground, maxcut, ranges, report, wall
 from ._draws import draw, ensemble, sample, widths
+from ._errors import (
+    BadInstance,
+    BadTerminals,
+    BadText,
+    LibraryMissing,
+    NoProofFound,
+    NoSeam,
+    NotPlanar,
+    Refusal,
+    RefusalCode,
+    TooLarge,
+    UnknownLaw,
+)
 from ._graphs import Graph
 from ._instances import Instance
-from ._joins import Network, postman, tjoin
 from ._lattices import Lattice
 from ._loops import Loop, Loops
 from ._nests import Nest
-from ._pictures import svg
+from ._networks import Network, postman, tjoin
 from ._reading import read
-from ._refusals import Refusal
+from ._real import RealCosts, RealGround, RealTurn, RealWall, Scale
 from ._runs import run
+from ._sampler import IsingSampler, SampleSet
+from ._sequences import Lists, Pairs
+from ._threads import in_order
+from ._verdicts import Verdict
 from ._version import VERSION as __version__
 
-bonds = costs
-
 __all__ = [
+    "BadInstance",
+    "BadTerminals",
+    "BadText",
     "Clusters",
     "Cut",
     "DomainWall",
@@ -63,25 +91,41 @@ __all__ = [
     "Graph",
     "Ground",
     "Instance",
+    "IsingSampler",
     "Join",
     "Lattice",
+    "LibraryMissing",
+    "Lists",
     "Loop",
     "Loops",
     "Nest",
     "Network",
+    "NoProofFound",
+    "NoSeam",
+    "NotPlanar",
     "OddCut",
+    "Pairs",
+    "RealCosts",
+    "RealGround",
+    "RealTurn",
+    "RealWall",
     "Refusal",
+    "RefusalCode",
     "Report",
     "Run",
     "Sample",
+    "SampleSet",
+    "Scale",
     "Step",
+    "TooLarge",
     "Tour",
     "Turn",
+    "UnknownLaw",
     "Verdict",
     "Wall",
     "Width",
     "__version__",
-    "bonds",
+    "bundle",
     "check",
     "clusters",
     "costs",
@@ -102,3 +146,13 @@ __all__ = [
     "wall",
     "widths",
 ]
+
+
+if not TYPE_CHECKING:
+
+    def __getattr__(name):
+        """The old name of ``costs``, with a warning."""
+        if name == "bonds":
+            warnings.warn("ising2d.bonds is now ising2d.costs", DeprecationWarning, stacklevel=2)
+            return costs
+        raise AttributeError(f"module {__name__!r} has no attribute {name!r}")

@@ -1,69 +1,39 @@
-"""Answers, each with names for its numbers. They are equal where all their numbers are."""
+"""Answers, each with names for its numbers. They are equal if all their numbers are, and know the model that
+they are of."""
 
-from collections.abc import Sequence
-from dataclasses import dataclass, field, fields
-from typing import TYPE_CHECKING, Any, Dict, Hashable, Iterator, List, NamedTuple, Optional, Tuple, TypeVar
+from __future__ import annotations
 
+from collections import Counter
+from dataclasses import dataclass, field
+from typing import (
+    TYPE_CHECKING,
+    Any,
+    Dict,
+    Hashable,
+    Iterable,
+    Iterator,
+    List,
+    NamedTuple,
+    Optional,
+    Protocol,
+    Sequence,
+    Tuple,
+    TypeVar,
+    Union,
+    overload,
+)
+
+from ._arrays import is_numpy, numpy
+from ._judging import Judge
 from ._loops import Loop
+from ._model import Model
 from ._nests import Nest
-from ._refusals import verdict_sentence
+from ._real import RealGround, RealWall
+from ._svg import LARGEST_SHOWN, picture_of_clusters, picture_of_ground, picture_of_wall
+from ._verdicts import Answer, Verdict
 
 if TYPE_CHECKING:
-    from ._instances import Instance
-    from ._joins import Network
-
-
-def _plain(value: Any) -> Any:
-    """The value with each array as a tuple, so that it can be compared and hashed."""
-    if isinstance(value, (str, bytes, int, float, type(None))):
-        return value
-    if isinstance(value, dict):
-        return frozenset(value.items())
-    if hasattr(value, "tolist"):
-        return tuple(value.tolist())
-    if isinstance(value, Sequence):
-        return tuple(_plain(entry) for entry in value)
-    return value
-
-
-def _members(answer: Any) -> List[Tuple[str, Any]]:
-    """The names and values of an answer's numbers."""
-    return [(entry.name, getattr(answer, entry.name)) for entry in fields(answer) if entry.compare]
-
-
-class Answer:
-    """What is common to all answers."""
-
-    def _numbers(self) -> Tuple[Any, ...]:
-        return tuple(_plain(value) for _, value in _members(self))
-
-    def __eq__(self, other: object) -> bool:
-        if type(self) is not type(other):
-            return NotImplemented
-        return isinstance(other, Answer) and self._numbers() == other._numbers()
-
-    def __hash__(self) -> int:
-        return hash(self._numbers())
-
-    def as_dict(self) -> Dict[str, Any]:
-        """The numbers by their names, as JSON can have them."""
-        return {name: _json(value) for name, value in _members(self)}
-
-
-def _json(value: Any) -> Any:
-    """The value in lists and dictionaries."""
-    if isinstance(value, Answer):
-        return value.as_dict()
-    if isinstance(value, tuple) and hasattr(value, "_asdict"):
-        return {name: _json(entry) for name, entry in value._asdict().items()}
-    if hasattr(value, "tolist"):
-        return value.tolist()
-    if isinstance(value, dict):
-        return {str(name): _json(entry) for name, entry in value.items()}
-    if isinstance(value, Sequence) and not isinstance(value, str):
-        return [_json(entry) for entry in value]
-    return value
-
+    from ._types import Int8Array, Int64Array, Places, UInt32Array
 
 Source = TypeVar("Source")
 
@@ -75,59 +45,46 @@ def _known(source: Optional[Source], what: str) -> Source:
     return source
 
 
-@dataclass(frozen=True, eq=False)
-class Verdict(Answer):
-    """The verdict on a proof: ``number`` is 0 where it holds, else the number of the first test that
-    fails, ``kept`` are the numbers that show it, and ``sentence`` says it. A verdict is true where the
-    proof holds. ``of`` is the kind of proof: the loops or the nest of a ground state, or the cuts of a
-    join or of a walk.
-
-    >>> import ising2d
-    >>> print(ising2d.check("square", 1, 2, [7], 7, [1, 1], []))
-    no: the spins have the energy -7, and not the stated one
-    """
-
-    number: int
-    kept: Tuple[int, ...] = ()
-    of: str = "loops"
-
-    def __bool__(self) -> bool:
-        return self.number == 0
-
-    @property
-    def sentence(self) -> str:
-        """The verdict in words."""
-        return verdict_sentence(self.number, self.kept, self.of)
-
-    def __str__(self) -> str:
-        return ("yes: " if self else "no: ") + self.sentence
+def _is_shown(model: Optional[Model]) -> bool:
+    """Whether a notebook draws an answer by itself: a small one whose spins have places."""
+    return model is not None and model.n <= LARGEST_SHOWN and model.has_places()
 
 
-@dataclass(frozen=True, eq=False)
+@dataclass(frozen=True, eq=False, repr=False)
 class Ground(Answer):
     """A ground state: its energy, in the unit of the couplings; an array of shape ``(spins,)`` with 1
     or -1 for each spin; and the loops that prove it, a sequence of ``Loop``, or the ``nest`` that does, a
-    ``Nest``. ``instance`` is the lattice or graph that was asked for.
+    ``Nest``. ``instance`` is the lattice or graph that was asked for; with real couplings ``real`` is the
+    energy in their unit.
 
     >>> import ising2d
     >>> found = ising2d.ground("square", 2, 2, [3, 4, 2, -5])
-    >>> found.energy, list(found.spins), found.broken()
+    >>> found.energy, found.spins.tolist(), found.broken()
     (-10, [1, 1, -1, -1], [2])
     >>> bool(found.check())
     True
+    >>> found
+    <ground state of a square lattice of 2 by 2: energy -10, proved by 2 loops>
     """
 
     energy: int
-    spins: Any
-    loops: "Sequence[Loop]"
-    instance: Optional["Instance"] = field(default=None, compare=False, repr=False)
-    nest: Optional[Nest] = field(default=None, compare=False, repr=False)
+    spins: Int8Array
+    loops: Sequence[Loop]
+    instance: Optional[Model] = field(default=None, compare=False)
+    nest: Optional[Nest] = field(default=None, compare=False)
 
-    def _known(self) -> "Instance":
+    def _known(self) -> Model:
         return _known(self.instance, "instance")
 
+    @property
+    def real(self) -> RealGround:
+        """The energy in the unit of the real couplings, and how far it can be from their least energy."""
+        scale = _known(self._known().scale, "real couplings")
+        energy = scale.value(self.energy)
+        return RealGround(energy.value, energy.error, scale.value(0, 2).error)
+
     def check(self) -> Verdict:
-        """The verdict on this proof, by the checker, which trusts no solver: on the nest where there is
+        """The verdict on this proof, by the checker, which trusts no solver: on the nest if there is
         one, and else on the loops."""
         return self._known().check(self.energy, self.spins, self.loops, self.nest)
 
@@ -139,20 +96,41 @@ class Ground(Answer):
         """The spin of each node by its label; on a lattice by row and column."""
         return self._known().by_node(self.spins)
 
-    def svg(self, **wishes: Any) -> str:
-        """A picture of the ground state, as SVG: see ``ising2d.svg`` for what may be wished."""
-        from ._pictures import svg
-
-        return svg(self, **wishes)
+    def svg(
+        self,
+        places: Optional[Places] = None,
+        loops: int = 3,
+        cell: Optional[float] = None,
+        legend: bool = True,
+    ) -> str:
+        """A picture of the ground state, as SVG: ``ising2d.svg`` says what the arguments are."""
+        return picture_of_ground(self._known(), self.spins, self.loops, places, loops, cell, legend)
 
     def _repr_svg_(self) -> Optional[str]:
-        return self.svg() if self.instance is not None and self.instance.has_places() else None
+        return self.svg() if _is_shown(self.instance) else None
+
+    def __repr__(self) -> str:
+        of = f"{len(self.spins)} spins" if self.instance is None else self.instance.title()
+        return f"<ground state of {of}: energy {self._energy_text()}, {self._proof_text()}>"
+
+    def _energy_text(self) -> str:
+        if self.instance is None or self.instance.scale is None:
+            return str(self.energy)
+        real = self.real
+        return f"{real.energy} up to {real.error:.3g} ({self.energy} as a whole number)"
+
+    def _proof_text(self) -> str:
+        if self.nest is not None:
+            return f"proved by a nest of {len(self.nest.radii)} regions"
+        if len(self.loops) or self.instance is None or not self.broken():
+            return f"proved by {len(self.loops)} loops"
+        return "without a proof"
 
 
-@dataclass(frozen=True, eq=False)
+@dataclass(frozen=True, eq=False, repr=False)
 class Wall(Answer):
     """The least energy, the least energy with the signs of the seam changed, and the second minus the
-    first, in the unit of the couplings.
+    first, in the unit of the couplings; with real couplings ``real`` has them in their unit.
 
     >>> import ising2d
     >>> ising2d.wall("cylinder", 1, 3, [5, 7, 2])
@@ -162,16 +140,30 @@ class Wall(Answer):
     periodic: int
     antiperiodic: int
     difference: int
+    instance: Optional[Model] = field(default=None, compare=False)
+
+    @property
+    def real(self) -> RealWall:
+        """The energies in the unit of the real couplings, and how far they can be wrong."""
+        return _real_wall(self, self.instance)
 
 
-@dataclass(frozen=True, eq=False)
+def _real_wall(wall: Union[Wall, DomainWall], model: Optional[Model]) -> RealWall:
+    scale = _known(_known(model, "instance").scale, "real couplings")
+    first, second = scale.value(wall.periodic), scale.value(wall.antiperiodic)
+    between = scale.value(wall.difference, 2)
+    error = max(first.error, second.error)
+    return RealWall(first.value, second.value, between.value, error, between.error)
+
+
+@dataclass(frozen=True, eq=False, repr=False)
 class DomainWall(Answer):
     """A wall with its states: ``ground`` is a ground state, ``turned`` one with the signs of the seam
-    changed, each with the loops that prove it, and ``bonds`` are the bonds between the two: those that
+    changed, each with its proof, and ``bonds`` are the numbers of the bonds between the two: those that
     one of them satisfies and the other, with its signs, breaks. Coupling times both spins of
     ``ground``, summed over these bonds, is half the difference.
 
-    Where there are several ground states any two of them may be given, and then the bonds have perhaps
+    If there are several ground states any two of them may be given, and then the bonds perhaps include
     loops that cost nothing beside the wall itself.
 
     >>> import ising2d
@@ -194,18 +186,28 @@ class DomainWall(Answer):
         """The number of bonds of the wall."""
         return len(self.bonds)
 
-    def svg(self, **wishes: Any) -> str:
-        """A picture of the ground state with the wall, as SVG."""
-        from ._pictures import svg
+    @property
+    def real(self) -> RealWall:
+        """The energies in the unit of the real couplings, and how far they can be wrong."""
+        return _real_wall(self, self.ground.instance)
 
-        return svg(self, **wishes)
+    def svg(
+        self, places: Optional[Places] = None, cell: Optional[float] = None, legend: bool = True
+    ) -> str:
+        """A picture of the ground state with the wall, as SVG."""
+        model = self.ground._known()
+        return picture_of_wall(model, self.ground.spins, self.bonds, self.difference, places, cell, legend)
 
     def _repr_svg_(self) -> Optional[str]:
-        return self.svg() if self.ground._known().has_places() else None
+        return self.svg() if _is_shown(self.ground.instance) else None
+
+    def __repr__(self) -> str:
+        energies = f"{self.periodic}, {self.antiperiodic}, difference {self.difference}"
+        return f"<domain wall of {self.length} bonds: energies {energies}>"
 
 
-@dataclass(frozen=True, eq=False)
-class Clusters(Answer, Sequence):  # type: ignore[type-arg]
+@dataclass(frozen=True, eq=False, repr=False)
+class Clusters(Answer, Sequence[int]):
     """The rigid clusters: for each spin the least spin of its cluster, a sequence, and in ``names`` an
     array of shape ``(spins,)``.
 
@@ -215,41 +217,66 @@ class Clusters(Answer, Sequence):  # type: ignore[type-arg]
     ([0, 0, 2], {0: 2, 2: 1}, [0, 1])
     """
 
-    names: Any
-    instance: Optional["Instance"] = field(default=None, compare=False, repr=False)
+    names: UInt32Array
+    instance: Optional[Model] = field(default=None, compare=False)
 
     def __len__(self) -> int:
         return len(self.names)
 
-    def __getitem__(self, place: Any) -> Any:
-        return self.names[place]
+    @overload
+    def __getitem__(self, place: int) -> int: ...
+
+    @overload
+    def __getitem__(self, place: slice) -> List[int]: ...
+
+    def __getitem__(self, place: Union[int, slice]) -> Union[int, List[int]]:
+        own: Union[int, List[int]] = self.names[place].tolist() if is_numpy(self.names) else _at(self.names, place)
+        return own
 
     def __iter__(self) -> Iterator[int]:
         return iter(self.names.tolist())
 
-    def __array__(self, *wishes: Any, **named: Any) -> Any:
-        return self.names.__array__(*wishes, **named)
+    def __array__(self, dtype: Any = None, copy: Optional[bool] = None) -> UInt32Array:
+        found: UInt32Array = numpy.array(self.names, dtype=dtype)
+        return found
 
     @property
     def sizes(self) -> Dict[int, int]:
         """The number of spins of each cluster by its least spin, the largest first."""
-        counts: Dict[int, int] = {}
-        for name in self.names.tolist():
-            counts[name] = counts.get(name, 0) + 1
-        return dict(sorted(counts.items(), key=lambda entry: (-entry[1], entry[0])))
+        if is_numpy(self.names):
+            names, counts = numpy.unique(self.names, return_counts=True)
+            order = numpy.lexsort((names, -counts))
+            return dict(zip(names[order].tolist(), counts[order].tolist()))
+        return dict(sorted(Counter(self.names.tolist()).items(), key=lambda entry: (-entry[1], entry[0])))
 
     def members(self, name: int) -> List[int]:
         """The spins of the cluster with this least spin."""
+        if is_numpy(self.names):
+            found: List[int] = numpy.flatnonzero(self.names == name).tolist()
+            return found
         return [spin for spin, own in enumerate(self.names.tolist()) if own == name]
 
-    def svg(self, **wishes: Any) -> str:
+    def svg(
+        self, places: Optional[Places] = None, cell: Optional[float] = None, legend: bool = True
+    ) -> str:
         """A picture of the clusters, as SVG."""
-        from ._pictures import svg
-
-        return svg(self, **wishes)
+        model = _known(self.instance, "instance")
+        return picture_of_clusters(model, self.names.tolist(), self.sizes, places, cell, legend)
 
     def _repr_svg_(self) -> Optional[str]:
-        return self.svg() if self.instance is not None and self.instance.has_places() else None
+        return self.svg() if _is_shown(self.instance) else None
+
+    def __repr__(self) -> str:
+        if len(self) <= 12:
+            return f"Clusters({list(self)})"
+        largest = list(self.sizes.values())
+        return f"<{len(largest)} rigid clusters of {len(self)} spins, the largest of {largest[0]}>"
+
+
+def _at(values: Any, place: Union[int, slice]) -> Union[int, List[int]]:
+    """An entry, or a slice as a list, of an array without numpy."""
+    found: Union[int, List[int]] = values[place] if isinstance(place, int) else values[place].tolist()
+    return found
 
 
 class Turn(NamedTuple):
@@ -265,7 +292,7 @@ class Turn(NamedTuple):
     side: str
 
 
-@dataclass(frozen=True, eq=False)
+@dataclass(frozen=True, eq=False, repr=False)
 class Cut(Answer):
     """The largest cut: its weight; an array of shape ``(spins,)`` with 1 or -1 for each spin, where the
     bonds between unlike spins are cut; and the loops that prove it, by a ground state of the instance
@@ -273,56 +300,111 @@ class Cut(Answer):
 
     >>> import ising2d
     >>> found = ising2d.maxcut("square", 2, 2, [3, 4, 2, -5])
-    >>> found.weight, list(found.spins), found.bonds()
+    >>> found.weight, found.spins.tolist(), found.bonds()
     (7, [1, -1, 1, -1], [0, 1])
     """
 
     weight: int
-    spins: Any
-    loops: "Sequence[Loop]"
-    instance: Optional["Instance"] = field(default=None, compare=False, repr=False)
-
-    def _known(self) -> "Instance":
-        return _known(self.instance, "instance")
+    spins: Int8Array
+    loops: Sequence[Loop]
+    instance: Optional[Model] = field(default=None, compare=False)
+    negated: Optional[Model] = field(default=None, compare=False)
 
     def bonds(self) -> List[int]:
-        """The bonds that are cut."""
-        spins = self.spins.tolist()
-        return [k for k, (u, v) in enumerate(self._known().ends()) if spins[u] != spins[v]]
+        """The numbers of the bonds that are cut."""
+        return _known(self.instance, "instance")._unlike(self.spins)
+
+    def by_node(self) -> Dict[Hashable, int]:
+        """The side of each node by its label."""
+        return _known(self.instance, "instance").by_node(self.spins)
+
+    def edge_labels(self) -> List[Hashable]:
+        """The labels of the bonds that are cut."""
+        return _known(self.instance, "instance").named(self.bonds())
 
     def check(self) -> Verdict:
         """The verdict on this proof: that the spins are a ground state with every sign changed."""
-        given = self._known()
-        total = sum(given.couplings.tolist())
-        return given.negated().check(total - 2 * self.weight, self.spins, self.loops)
+        total = sum(_known(self.instance, "instance").couplings.tolist())
+        return _known(self.negated, "instance").check(total - 2 * self.weight, self.spins, self.loops)
+
+    def __repr__(self) -> str:
+        return f"<cut of {len(self.spins)} spins: weight {self.weight}, proved by {len(self.loops)} loops>"
 
 
-@dataclass(frozen=True, eq=False)
+@dataclass(frozen=True, eq=False, repr=False)
 class Report(Answer):
     """All numbers of an instance: the number of bonds, the least energy with its spins and loops, the
-    sum of the sizes of all couplings, the cost of each bond, the clusters, and the wall, or None where
+    sum of the sizes of all couplings, the cost of each bond, the clusters, and the wall, or None if
     the seam is empty. The weights of the loops sum to ``energy + sum``.
 
     >>> import ising2d
     >>> found = ising2d.report("cylinder", 1, 3, [5, 7, 2])
-    >>> found.energy, found.sum, list(found.costs), found.wall.difference
+    >>> found.energy, found.sum, found.costs.tolist(), found.wall.difference
     (-14, 14, [14, 18, 14], 4)
     """
 
     bonds: int
     energy: int
     sum: int
-    spins: Any
-    loops: "Sequence[Loop]"
-    costs: Any
+    spins: Int8Array
+    loops: Sequence[Loop]
+    costs: Int64Array
     clusters: Clusters
     wall: Optional[Wall]
-    instance: Optional["Instance"] = field(default=None, compare=False, repr=False)
+    instance: Optional[Model] = field(default=None, compare=False)
 
     @property
     def ground(self) -> Ground:
         """The ground state, with what can be asked of it."""
         return Ground(self.energy, self.spins, self.loops, self.instance)
+
+    def __repr__(self) -> str:
+        rigid = sum(cost > 0 for cost in self.costs.tolist())
+        wall = "" if self.wall is None else f", wall {self.wall.difference}"
+        return (
+            f"<report on {len(self.spins)} spins: energy {self.energy}, {rigid} rigid bonds, "
+            f"{len(self.clusters.sizes)} clusters{wall}, proved by {len(self.loops)} loops>"
+        )
+
+
+def svg(
+    answer: Union[Ground, DomainWall, Clusters],
+    places: Optional[Places] = None,
+    loops: int = 3,
+    cell: Optional[float] = None,
+    legend: bool = True,
+) -> str:
+    """A picture of a ground state, of a domain wall with its states, or of clusters, as SVG.
+
+    Lattices are drawn at their places, and the first column of a cylinder a second time behind its
+    last. Other graphs are drawn at ``places`` (a pair for each spin, or a dictionary by label), or
+    where ``networkx.planar_layout`` puts them. Frustrated faces are shaded, negative bonds dashed,
+    broken bonds crossed, and of the proof the heaviest ``loops`` are drawn. ``cell`` is the length of a
+    bond in pixels, from 1 to 1000.
+
+    >>> import ising2d
+    >>> ising2d.svg(ising2d.ground("square", 2, 2, [3, 4, 2, -5]))[:4]
+    '<svg'
+    """
+    if isinstance(answer, Ground) and answer.instance is not None:
+        return answer.svg(places, loops, cell, legend)
+    if isinstance(answer, DomainWall) and answer.ground.instance is not None:
+        return answer.svg(places, cell, legend)
+    if isinstance(answer, Clusters) and answer.instance is not None:
+        return answer.svg(places, cell, legend)
+    raise TypeError("svg: a ground state, a domain wall with states or clusters are wanted")
+
+
+class WeightedGraph(Protocol):
+    """The weighted graph that an answer of joins and walks is of: a ``Network``."""
+
+    def node_labels(self) -> Sequence[Hashable]: ...
+
+    def named(self, edges: Iterable[int]) -> List[Hashable]: ...
+
+    def odd_nodes(self) -> List[int]: ...
+
+    def judge(self, terminals: Sequence[int]) -> Judge: ...
 
 
 class OddCut(NamedTuple):
@@ -332,9 +414,9 @@ class OddCut(NamedTuple):
     edges: Tuple[int, ...]
 
 
-@dataclass(frozen=True, eq=False)
+@dataclass(frozen=True, eq=False, repr=False)
 class Join(Answer):
-    """A least join of the terminals: its weight, its edges by their numbers, and the cuts that prove
+    """A minimum T-join of the terminals: its weight, its edges by their numbers, and the cuts that prove
     it. The weights of the cuts sum to twice the weight of the join. ``network`` is the graph, and
     ``terminals`` are the numbers of its nodes that were asked for.
 
@@ -347,8 +429,8 @@ class Join(Answer):
     weight: int
     edges: Tuple[int, ...]
     cuts: Tuple[OddCut, ...]
-    network: Optional["Network"] = field(default=None, compare=False, repr=False)
-    terminals: Tuple[int, ...] = field(default=(), compare=False, repr=False)
+    network: Optional[WeightedGraph] = field(default=None, compare=False)
+    terminals: Tuple[int, ...] = field(default=(), compare=False)
 
     def edge_labels(self) -> List[Hashable]:
         """The labels of the edges of the join."""
@@ -367,7 +449,7 @@ class Step(NamedTuple):
     node: int
 
 
-@dataclass(frozen=True, eq=False)
+@dataclass(frozen=True, eq=False, repr=False)
 class Tour(Answer):
     """A shortest closed walk over every edge: its weight, its steps, by the numbers of edges and nodes,
     and the cuts that prove it. ``start`` is the number of the node where it begins and ends.
@@ -382,7 +464,7 @@ class Tour(Answer):
     steps: Tuple[Step, ...]
     cuts: Tuple[OddCut, ...]
     start: int = 0
-    network: Optional["Network"] = field(default=None, compare=False, repr=False)
+    network: Optional[WeightedGraph] = field(default=None, compare=False)
 
     def node_labels(self) -> List[Hashable]:
         """The labels of the nodes in the order of the walk, the start at first and at last."""
@@ -400,7 +482,7 @@ class Tour(Answer):
         return Verdict(*judge.on_walk(self.weight, self.start, self.steps, self.cuts), of="walk")
 
 
-@dataclass(frozen=True, eq=False)
+@dataclass(frozen=True, eq=False, repr=False)
 class Sample(Answer):
     """The numbers of a drawn square lattice: spins, bonds, the sum of the sizes of its couplings, its
     least energy, and the weight of the bonds that are broken at it.
@@ -417,18 +499,7 @@ class Sample(Answer):
     broken: int
 
 
-def _mean(count: int, total: int) -> float:
-    return total / count
-
-
-def _error(count: int, total: int, squares: int) -> float:
-    """The error bar of a mean of so many numbers."""
-    if count < 2:
-        return float("nan")
-    return float(((squares / count - (total / count) ** 2) / (count - 1)) ** 0.5)
-
-
-@dataclass(frozen=True, eq=False)
+@dataclass(frozen=True, eq=False, repr=False)
 class Ensemble(Answer):
     """What a domain wall costs on each of the drawn cylinders, their sum and the sum of their squares.
 
@@ -436,21 +507,45 @@ class Ensemble(Answer):
     >>> found = ising2d.ensemble("pm", 1, 8, 8, 1000)
     >>> found.sum, found.squares, round(found.mean, 3), round(found.error, 3)
     (-78, 3108, -0.078, 0.056)
+    >>> round(found.mean_size, 3), round(found.size_error, 3)
+    (1.226, 0.04)
     """
 
-    walls: Any
+    walls: Int64Array
     sum: int
     squares: int
 
     @property
     def mean(self) -> float:
-        """The mean wall energy."""
-        return _mean(len(self.walls), self.sum)
+        """The mean wall energy, with its sign."""
+        return self.sum / len(self.walls)
 
     @property
     def error(self) -> float:
-        """The error bar of the mean; no number for a single sample."""
+        """The error bar of the mean; not a number for a single sample."""
         return _error(len(self.walls), self.sum, self.squares)
+
+    @property
+    def mean_size(self) -> float:
+        """The mean size of a wall energy, without its sign: what scales as length to the stiffness
+        exponent."""
+        return self._sizes() / len(self.walls)
+
+    @property
+    def size_error(self) -> float:
+        """The error bar of the mean size; not a number for a single sample."""
+        return _error(len(self.walls), self._sizes(), self.squares)
+
+    def _sizes(self) -> int:
+        return sum(map(abs, self.walls.tolist()))
+
+
+def _error(count: int, total: int, squares: int) -> float:
+    """The error bar of the mean of so many numbers."""
+    if count < 2:
+        return float("nan")
+    variance = max(0.0, squares / count - (total / count) ** 2)
+    return float((variance / (count - 1)) ** 0.5)
 
 
 class Width(NamedTuple):
@@ -461,7 +556,7 @@ class Width(NamedTuple):
     squares: int
 
 
-@dataclass(frozen=True, eq=False)
+@dataclass(frozen=True, eq=False, repr=False)
 class Run(Answer):
     """The exit status of a run, and its text."""
 

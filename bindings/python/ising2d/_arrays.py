@@ -1,19 +1,22 @@
-"""Arrays that cross to the library: numpy's where numpy is there, else those of the module array."""
+"""Arrays of whole numbers: of numpy if it is installed, else of the module ``array``.
+
+What a caller hands in is converted here, once, or refused: a float, a bool, a set, a text, an array of
+another shape, a number that does not fit. Arrays that answers carry are read-only if they are numpy's.
+"""
+
+from __future__ import annotations
 
 import ctypes
 import importlib
 import sys
 from array import array
 from collections.abc import Mapping, Set
-from typing import Any, List, SupportsIndex, Tuple
-
-# A whole number by its own account: one of Python, or of numpy.
-Whole = SupportsIndex
+from typing import Any, List, Sequence, Tuple
 
 numpy: Any
 try:
     numpy = importlib.import_module("numpy")
-except ImportError:  # numpy is not needed
+except ImportError:  # numpy is optional
     numpy = None
 
 # For each kind of number its letter in the module array, and its range.
@@ -26,7 +29,7 @@ _RANGES = {
 }
 
 
-def room(kind: str, count: int) -> Any:
+def zeros(kind: str, count: int) -> Any:
     """An array of so many zeros."""
     if numpy is not None:
         return numpy.zeros(count, dtype=kind)
@@ -34,53 +37,78 @@ def room(kind: str, count: int) -> Any:
     return array(letter, bytes(count * array(letter).itemsize))
 
 
-def space(kind: str, count: int) -> Any:
-    """Room for so many numbers that no caller sees as an array: memory that is touched only where it
-    is written."""
+def buffer(kind: str, count: int) -> Any:
+    """Uninitialized room for so many numbers, which no caller sees. Pages that are not written take no
+    memory."""
     if numpy is not None:
         return numpy.empty(count, dtype=kind)
     letter = _LETTERS[kind]
     return memoryview(bytearray(count * array(letter).itemsize)).cast(letter)
 
 
-def settled(kind: str, values: Any, count: int) -> Any:
-    """The first ``count`` values as an array of their own, which nobody changes where numpy is there."""
+def first_of(kind: str, values: Any, count: int) -> Any:
+    """A copy of the first ``count`` values, read-only if numpy is there."""
     if numpy is not None:
-        return fixed(values[:count].copy())
+        return read_only(values[:count].copy())
     return array(_LETTERS[kind], values[:count].tobytes())
 
 
-def fixed(values: Any) -> Any:
-    """The array itself. One of numpy takes no new values from now on, so that its hash stays right."""
-    if numpy is not None and isinstance(values, numpy.ndarray):
+def read_only(values: Any) -> Any:
+    """The array itself. One of numpy is made read-only, so that hashes of answers stay right."""
+    if is_numpy(values):
         values.flags.writeable = False
     return values
 
 
+def is_numpy(values: object) -> bool:
+    """Whether this is an array of numpy."""
+    return numpy is not None and isinstance(values, numpy.ndarray)
+
+
 def as_array(values: List[int], kind: str) -> Any:
-    """Numbers that a text gave, as an array."""
+    """Numbers that are known to fit, as an array."""
     if numpy is not None:
-        return fixed(numpy.array(values, dtype=kind))
+        return read_only(numpy.array(values, dtype=kind))
     return array(_LETTERS[kind], values)
 
 
 def whole_numbers(values: Any, kind: str, what: str) -> Any:
-    """A copy of the values as an array of this kind. What is no list of whole numbers is a
-    ``TypeError``, and a number that does not fit an ``OverflowError``."""
+    """A copy of the values as an array of this kind, of one axis. Raises ``TypeError`` for what is no list
+    of whole numbers, and ``OverflowError`` for a number that does not fit."""
     refuse_unordered(values, what)
-    if numpy is not None and isinstance(values, numpy.ndarray):
+    if is_numpy(values):
         return _of_numpy(values, kind, what)
     listed = values if isinstance(values, (list, tuple, array)) else listed_of(values, what)
+    found = _of_list(listed, kind, what)
+    # The array of the module is a buffer: numpy's takes its numbers in one copy.
+    return found if numpy is None else numpy.array(found, dtype=kind)
+
+
+def _of_list(listed: Sequence[Any], kind: str, what: str) -> Any:
     low, high = _RANGES[kind]
+    if not isinstance(listed, array) and has_bools(listed):
+        place = next(i for i, value in enumerate(listed) if is_bool(value))
+        whole(listed[place], what)
     try:
         return array(_LETTERS[kind], listed)
     except (OverflowError, TypeError):
         return array(_LETTERS[kind], [_in_range(value, low, high, what) for value in listed])
 
 
+def has_bools(listed: Sequence[Any]) -> bool:
+    """Whether there is a bool among the values."""
+    kinds = set(map(type, listed))
+    return bool in kinds or (numpy is not None and numpy.bool_ in kinds)
+
+
+def is_bool(value: object) -> bool:
+    """Whether this is a bool, of Python or of numpy."""
+    return isinstance(value, bool) or (numpy is not None and isinstance(value, numpy.bool_))
+
+
 def numbers(values: Any, kind: str, what: str) -> Any:
-    """The values themselves where they are an array of this kind that can cross, else a copy."""
-    if isinstance(values, array) and values.typecode == _LETTERS[kind]:
+    """The values themselves if they are an array of this kind that the library can read, else a copy."""
+    if numpy is None and isinstance(values, array) and values.typecode == _LETTERS[kind]:
         return values
     if numpy is not None and type(values) is numpy.ndarray and values.dtype == kind:
         if values.ndim == 1 and values.flags.c_contiguous:
@@ -89,7 +117,7 @@ def numbers(values: Any, kind: str, what: str) -> Any:
 
 
 def refuse_unordered(values: Any, what: str) -> None:
-    """Raises a ``TypeError`` for what has no order, is a text, or hides some of its values."""
+    """Raises ``TypeError`` for what has no order, is a text, or hides some of its values."""
     if isinstance(values, (str, bytes, bytearray)):
         raise TypeError(f"{what}: a list of whole numbers is wanted, and not the text {values!r}")
     if isinstance(values, (Set, Mapping)):
@@ -113,24 +141,33 @@ def listed_of(values: Any, what: str) -> List[Any]:
         raise TypeError(f"{what}: a list is wanted, and not {_article(name)} {name}") from None
 
 
+def refuse_shape(values: Any, what: str) -> None:
+    """Raises ``TypeError`` for an array of numpy of another number of axes than one."""
+    if values.ndim != 1:
+        raise TypeError(f"{what}: an array of one axis is wanted, and not one of shape {values.shape}")
+
+
 def _of_numpy(values: Any, kind: str, what: str) -> Any:
-    """An array of numpy as one of this kind, in one dimension."""
+    """An array of numpy of one axis as one of this kind."""
     low, high = _RANGES[kind]
-    flat = values.reshape(-1)
-    if flat.dtype.kind == "O":
-        numbers = [_in_range(value, low, high, what) for value in flat.tolist()]
-        return numpy.array(numbers, dtype=kind)
-    if flat.dtype.kind not in "iub":
-        raise of_another_kind(flat.dtype, what)
-    if flat.size and (int(flat.min()) < low or int(flat.max()) > high):
-        place = next(i for i, value in enumerate(flat.tolist()) if not low <= value <= high)
-        _in_range(int(flat[place]), low, high, what)
-    return numpy.array(flat, dtype=kind)
+    if values.dtype.kind == "O":
+        refuse_shape(values, what)
+        listed = [_in_range(value, low, high, what) for value in values.tolist()]
+        return numpy.array(listed, dtype=kind)
+    if values.dtype.kind not in "iu":
+        raise of_another_kind(values.dtype, what)
+    refuse_shape(values, what)
+    if values.size and (int(values.min()) < low or int(values.max()) > high):
+        place = next(i for i, value in enumerate(values.tolist()) if not low <= value <= high)
+        _in_range(int(values[place]), low, high, what)
+    return numpy.array(values, dtype=kind)
 
 
 def whole(value: Any, what: str) -> int:
-    """A value that is a whole number by its own account, as those of numpy are."""
+    """A value that is a whole number by its own account, as those of numpy are. A bool is none."""
     try:
+        if is_bool(value):
+            raise TypeError
         return int(value.__index__())
     except (AttributeError, TypeError):
         name, hint = type(value).__name__, _advice(what) if isinstance(value, float) else ""
@@ -140,15 +177,17 @@ def whole(value: Any, what: str) -> int:
 
 
 def of_another_kind(kind: Any, what: str) -> TypeError:
-    """What an array of numpy that has no whole numbers raises."""
+    """What an array of numpy without whole numbers raises."""
     hint = _advice(what) if kind.kind == "f" else ""
     return TypeError(f"{what}: whole numbers are wanted, and not an array of {kind}{hint}")
 
 
 def _advice(what: str) -> str:
     """What to do with real numbers, where they are likely to be meant."""
-    is_real = any(word in what for word in ("coupling", "bonds", "weights"))
-    return "; scale real numbers and round them, as round(2**20 * x)" if is_real else ""
+    if "weights" in what:
+        return "; scale real numbers and round them, as round(2**20 * x)"
+    is_real = any(word in what for word in ("coupling", "bonds"))
+    return "; Lattice.from_real and Graph.from_real take real numbers" if is_real else ""
 
 
 def shortened(value: Any) -> str:
@@ -165,12 +204,12 @@ def _in_range(value: Any, low: int, high: int, what: str) -> int:
 
 
 def in_32_bits(value: Any, what: str) -> int:
-    """The value, where it is a whole number from 0 to 2**32 - 1."""
+    """The value, if it is a whole number from 0 to 2**32 - 1."""
     return _in_range(value, 0, 2**32 - 1, what)
 
 
 def in_64_bits(value: Any, what: str) -> int:
-    """The value, where it is a whole number from -2**63 to 2**63 - 1."""
+    """The value, if it is a whole number from -2**63 to 2**63 - 1."""
     return _in_range(value, -(2**63), 2**63 - 1, what)
 
 
@@ -178,22 +217,16 @@ def _article(name: str) -> str:
     return "an" if name[:1].lower() in tuple("aeiou") else "a"
 
 
-def crossed(values: Any) -> Tuple[ctypes.c_void_p, int]:
-    """The place of an array's first entry, never null, and the number of its entries."""
+def pointer_to(values: Any) -> Tuple[int, int]:
+    """The address of an array's first entry, never null, and the number of its entries."""
     count = len(values)
-    if numpy is not None and isinstance(values, numpy.ndarray):
-        return ctypes.c_void_p(values.ctypes.data), count
+    if is_numpy(values):
+        return values.ctypes.data or _NOWHERE, count
     if isinstance(values, memoryview):
-        return ctypes.c_void_p(_place_of(values, count)), count
-    place = values.buffer_info()[0]
-    # An empty array may have no memory: any place serves for no entries.
-    return ctypes.c_void_p(place or ctypes.addressof(_NOTHING)), count
-
-
-def _place_of(values: memoryview, count: int) -> int:
-    if not count:
-        return ctypes.addressof(_NOTHING)
-    return ctypes.addressof(ctypes.c_char.from_buffer(values))
+        return ctypes.addressof(ctypes.c_char.from_buffer(values)) if count else _NOWHERE, count
+    # An empty array may have no memory: any address serves for no entries.
+    return values.buffer_info()[0] or _NOWHERE, count
 
 
 _NOTHING = ctypes.c_uint64(0)
+_NOWHERE = ctypes.addressof(_NOTHING)

@@ -1,17 +1,25 @@
 """The calls on lattices, by kind, rows, columns and couplings."""
 
-from typing import Any, List, Literal, Optional, Union, overload
+from __future__ import annotations
 
-from ._answers import Clusters, Cut, DomainWall, Ground, Report, Turn, Verdict, Wall
-from ._arrays import Whole
+from typing import TYPE_CHECKING, Iterable, List, Literal, Optional, Union, cast, overload
+
+from ._answers import Clusters, Cut, DomainWall, Ground, Report, Turn, Wall
+from ._convert import of_networkx
+from ._graphs import Graph
 from ._lattices import Kind, Lattice
+from ._types import NetworkxGraph, Whole
+from ._verdicts import Verdict
+
+if TYPE_CHECKING:
+    from ._types import Couplings, Int64Array, Integers
 
 
 def ground(
     kind: Kind,
     rows: Whole,
     cols: Whole,
-    couplings: Any,
+    couplings: Couplings,
     loops: Optional[bool] = None,
     nest: Optional[bool] = None,
 ) -> Ground:
@@ -19,7 +27,8 @@ def ground(
     that, up to 2**20 spins, a nest of regions, whose size is that of the lattice. ``loops=True`` and
     ``nest=True`` ask for either.
 
-    ``couplings`` has one whole number for each bond, of shape ``(bonds,)``, in any unit. The spins are
+    ``couplings`` has one whole number for each bond, of shape ``(bonds,)``, in any unit; ``Lattice`` says
+    which other shape is taken, and ``Lattice.from_real`` takes real numbers. The spins are
     an array of shape ``(rows * cols,)`` with entries 1 or -1, the least of each component 1. The
     weights of the loops sum to the energy plus the sizes of all couplings, and no bond carries more
     than twice the size of its coupling. With ``loops=False`` alone no proof is given.
@@ -34,22 +43,19 @@ def ground(
 
 
 @overload
-def wall(kind: Kind, rows: Whole, cols: Whole, couplings: Any, states: Literal[False] = False) -> Wall:
-    ...
+def wall(kind: Kind, rows: Whole, cols: Whole, couplings: Couplings, states: Literal[False] = False) -> Wall: ...
 
 
 @overload
-def wall(kind: Kind, rows: Whole, cols: Whole, couplings: Any, states: Literal[True]) -> DomainWall:
-    ...
+def wall(kind: Kind, rows: Whole, cols: Whole, couplings: Couplings, states: Literal[True]) -> DomainWall: ...
 
 
 @overload
-def wall(kind: Kind, rows: Whole, cols: Whole, couplings: Any, states: bool) -> Union[Wall, DomainWall]:
-    ...
+def wall(kind: Kind, rows: Whole, cols: Whole, couplings: Couplings, states: bool) -> Union[Wall, DomainWall]: ...
 
 
 def wall(
-    kind: Kind, rows: Whole, cols: Whole, couplings: Any, states: bool = False
+    kind: Kind, rows: Whole, cols: Whole, couplings: Couplings, states: bool = False
 ) -> Union[Wall, DomainWall]:
     """The energy of the domain wall along a cylinder: what its least energy gains where the signs of the
     couplings from the last column to the first are changed. With ``states=True`` also both ground
@@ -61,17 +67,18 @@ def wall(
     return Lattice(kind, rows, cols, couplings).wall(states)
 
 
-def costs(kind: Kind, rows: Whole, cols: Whole, couplings: Any) -> Any:
+def costs(kind: Kind, rows: Whole, cols: Whole, couplings: Couplings) -> Int64Array:
     """What it costs to turn each bond, in the unit of the couplings: an array of shape ``(bonds,)`` with
-    entries of 64 bits. A bond is rigid where it costs more than 0. ``bonds`` is another name of it.
+    entries of 64 bits. A bond is rigid if it costs more than 0. For real couplings see
+    ``Lattice.from_real`` and ``real_costs``.
 
-    >>> list(costs("cylinder", 1, 3, [5, 7, 2]))
+    >>> costs("cylinder", 1, 3, [5, 7, 2]).tolist()
     [14, 18, 14]
     """
     return Lattice(kind, rows, cols, couplings).costs()
 
 
-def clusters(kind: Kind, rows: Whole, cols: Whole, couplings: Any) -> Clusters:
+def clusters(kind: Kind, rows: Whole, cols: Whole, couplings: Couplings) -> Clusters:
     """The rigid clusters: for each spin the least spin of its cluster, and the sizes of the clusters.
 
     >>> clusters("square", 1, 3, [5, 0]).sizes
@@ -80,7 +87,7 @@ def clusters(kind: Kind, rows: Whole, cols: Whole, couplings: Any) -> Clusters:
     return Lattice(kind, rows, cols, couplings).clusters()
 
 
-def ranges(kind: Kind, rows: Whole, cols: Whole, couplings: Any) -> List[Turn]:
+def ranges(kind: Kind, rows: Whole, cols: Whole, couplings: Couplings) -> List[Turn]:
     """For each bond the coupling at which the ground states turn, and the side of it on which its own
     coupling lies.
 
@@ -90,16 +97,40 @@ def ranges(kind: Kind, rows: Whole, cols: Whole, couplings: Any) -> List[Turn]:
     return Lattice(kind, rows, cols, couplings).ranges()
 
 
-def maxcut(kind: Kind, rows: Whole, cols: Whole, couplings: Any) -> Cut:
-    """The largest cut of a lattice with its couplings as weights, and the loops that prove it.
+@overload
+def maxcut(kind: Kind, rows: Whole, cols: Whole, couplings: Couplings) -> Cut: ...
+
+
+@overload
+def maxcut(kind: NetworkxGraph, *, attr: Optional[str] = ..., scale: Whole = ...) -> Cut: ...
+
+
+def maxcut(
+    kind: Union[Kind, NetworkxGraph],
+    rows: Optional[Whole] = None,
+    cols: Optional[Whole] = None,
+    couplings: Optional[Couplings] = None,
+    *,
+    attr: Optional[str] = "weight",
+    scale: Whole = 1,
+) -> Cut:
+    """The largest cut, and the loops that prove it: of a lattice with its couplings as weights, or of a
+    planar graph of networkx, ``maxcut(G)``, with the attribute ``attr`` of its edges as weights, or 1
+    for each edge with ``attr=None``. Weights may be below 0. ``by_node`` of the answer has the side of
+    each node, and ``edge_labels`` the edges that are cut.
 
     >>> maxcut("square", 1, 2, [5]).weight
     5
     """
-    return Lattice(kind, rows, cols, couplings).maxcut()
+    if rows is not None and cols is not None and couplings is not None:
+        return Lattice(cast(Kind, kind), rows, cols, couplings).maxcut()
+    if hasattr(kind, "is_multigraph"):
+        parts = of_networkx(cast(NetworkxGraph, kind), attr, scale)
+        return Graph._drawn(parts, [], None, False).maxcut()
+    raise TypeError("maxcut: a kind with rows, cols and couplings is wanted, or a graph of networkx")
 
 
-def report(kind: Kind, rows: Whole, cols: Whole, couplings: Any) -> Report:
+def report(kind: Kind, rows: Whole, cols: Whole, couplings: Couplings) -> Report:
     """All numbers of a lattice at once; takes little longer than the costs alone.
 
     >>> report("square", 1, 2, [5]).energy
@@ -112,11 +143,11 @@ def check(
     kind: Kind,
     rows: Whole,
     cols: Whole,
-    couplings: Any,
+    couplings: Couplings,
     energy: Whole,
-    spins: Any,
-    loops: Any = (),
-    nest: Any = None,
+    spins: Integers,
+    loops: Iterable[object] = (),
+    nest: Optional[Iterable[object]] = None,
 ) -> Verdict:
     """The verdict on a proof: whether the spins have this energy, and the loops, or the nest, show that
     no assignment has less. It trusts no solver.

@@ -1,21 +1,40 @@
-"""Instances and answers that are drawn from a law of disorder and a seed."""
+"""Instances and answers that are drawn from a law of disorder and a seed.
 
-from typing import Any, List, Optional, Sequence
+The program draws what is within its limits. Beyond these, and of the laws that it does not have, the same
+stream of words is drawn here (``_laws``), so the couplings of a seed do not depend on who draws them.
+"""
+
+from __future__ import annotations
+
+from fractions import Fraction
+from typing import Any, Iterator, List, Optional, Sequence, Union, cast
 
 from ._answers import Ensemble, Sample, Width
-from ._arrays import Whole, as_array, shortened, whole
-from ._lattices import KINDS, Lattice
+from ._arrays import as_array, shortened, whole
+from ._errors import Refusal, RefusalCode
+from ._ffi import MOST_SPINS, PROGRAM_SPINS
+from ._lattices import KINDS, Kind, Lattice, bond_count
+from ._laws import LAWS as OWN_LAWS
+from ._laws import SHARED, Source, share_of
 from ._runs import answered, numbers, one_of, records_in
+from ._threads import in_order
+from ._types import Whole
 
-LAWS = ("one", "alternate", "pm", "uniform")
+PROGRAM_LAWS = ("one", "alternate", "pm", "uniform")
+LAWS = (*PROGRAM_LAWS, *[law for law in OWN_LAWS if law not in PROGRAM_LAWS], *SHARED)
+Share = Union[float, Fraction, None]
+
+# The most samples that the program draws in one run.
+_PROGRAM_COUNT = 1000
+_LEAST_COLS = {"hexagonal": 2, "cylinder": 3}
 
 # For each number of the words its least and its greatest value.
 _RANGES = {
     "seed": (0, 2**64 - 1),
-    "rows": (1, 2048),
-    "cols": (1, 2048),
+    "rows": (1, PROGRAM_SPINS),
+    "cols": (1, PROGRAM_SPINS),
     "max_cols": (3, 64),
-    "count": (1, 1000),
+    "count": (1, _PROGRAM_COUNT),
 }
 
 
@@ -28,81 +47,137 @@ WORDS = {
 }
 
 
-def _word(value: Any, what: str, least: int) -> str:
-    """A number as a word. What the program would answer with its usage is a ``ValueError``."""
-    number, (low, high) = whole(value, what), _RANGES[what]
-    low = max(low, least)
-    if not low <= number <= high:
-        raise ValueError(f"{what} is {number} (allowed: {low} to {high})")
-    return str(number)
+def _number(value: Any, what: str, low: int, high: int) -> int:
+    found = whole(value, what)
+    if not low <= found <= high:
+        raise ValueError(f"{what} is {found} (allowed: {low} to {high})")
+    return found
 
 
 def checked(command: str, given: Sequence[Any]) -> List[str]:
-    """The command and its words. Raises ``ValueError`` or ``TypeError`` for the first that the program
-    would answer with its usage."""
+    """A command of the program and its words. Raises ``ValueError`` or ``TypeError`` for the first that the
+    program would answer with its usage."""
     named = dict(zip(WORDS[command], given))
-    kind = named.get("kind", "cylinder" if command == "ensemble" else "square")
-    if kind not in KINDS:
-        raise ValueError(f"kind is {shortened(kind)} (allowed: {', '.join(KINDS)})")
-    least = {"hexagonal": 2, "cylinder": 3}.get(kind, 1)
-    words = [command, _law(named.pop("law"))]
+    kind = _kind(named.get("kind", "cylinder" if command == "ensemble" else "square"))
+    words = [command, _law_name(named.pop("law"))]
     for name, value in named.items():
-        words.append(kind if name == "kind" else _word(value, name, least if name == "cols" else 0))
+        low, high = _RANGES.get(name, (0, 0))
+        least = max(low, _LEAST_COLS.get(kind, 1)) if name == "cols" else low
+        words.append(kind if name == "kind" else str(_number(value, name, least, high)))
     rows, cols = whole(named["rows"], "rows"), whole(named.get("cols", named.get("max_cols")), "cols")
-    if rows * cols > 2048:
-        raise ValueError(f"{rows} rows of {cols} columns have {rows * cols} spins (allowed: at most 2048)")
+    _within(rows, cols, PROGRAM_SPINS)
     return words
 
 
-def _drawn(command: str, *given: Any) -> str:
-    """The text that the program answers."""
-    words = checked(command, given)
-    return answered(words, given=words[1])
+def _within(rows: int, cols: int, most: int) -> None:
+    if rows * cols > most:
+        raise ValueError(f"{rows} rows of {cols} columns have {rows * cols} spins (allowed: at most {most})")
 
 
-class _Law(str):
-    """The name of a law, which a refusal shows."""
+def _kind(kind: Any) -> str:
+    if not isinstance(kind, str) or kind not in KINDS:
+        raise ValueError(f"kind is {shortened(kind)} (allowed: {', '.join(KINDS)})")
+    return kind
 
-    def _shown(self, number: int, kept: Any) -> Optional[str]:
-        return shortened(str(self)) if number == 17 else None
 
-
-def _law(law: Any) -> _Law:
+def _law_name(law: Any) -> str:
     if not isinstance(law, str):
         raise TypeError(f"law: one of {', '.join(LAWS)} is wanted, and not {shortened(law)}")
-    return _Law(law)
+    return law
 
 
-def draw(law: str, seed: Whole, kind: str, rows: Whole, cols: Whole) -> Lattice:
-    """A lattice whose couplings are the first draws of the law after the seed, bond by bond, the same on
-    every machine. ``law`` is "one", "alternate", "pm" or "uniform".
+class _Draw:
+    """A law with its seed and a lattice, all of them tested."""
+
+    def __init__(self, law: Any, seed: Any, kind: Any, rows: Any, cols: Any, p: Any) -> None:
+        self.law, self.kind = _law_name(law), _kind(kind)
+        if law not in LAWS:
+            code = RefusalCode.UNKNOWN_LAW
+            sentence = f"no law of disorder has this name: {shortened(law)}"
+            raise Refusal(code, (), shortened(law), words=(sentence, ", ".join(LAWS)))
+        self.share = share_of(p, self.law)
+        self.seed = _number(seed, "seed", 0, 2**64 - 1)
+        self.rows = _number(rows, "rows", 1, MOST_SPINS)
+        self.cols = _number(cols, "cols", _LEAST_COLS.get(self.kind, 1), MOST_SPINS)
+        _within(self.rows, self.cols, MOST_SPINS)
+
+    def by_program(self) -> bool:
+        """Whether the program draws it."""
+        return self.law in PROGRAM_LAWS and self.rows * self.cols <= PROGRAM_SPINS
+
+    def lattices(self) -> Iterator[Lattice]:
+        """Lattices that are drawn one after another."""
+        source = Source(self.law, self.seed, self.share)
+        while True:
+            yield self.lattice(source.couplings(bond_count(self.kind, self.rows, self.cols)))
+
+    def lattice(self, couplings: Any) -> Lattice:
+        return Lattice(cast(Kind, self.kind), self.rows, self.cols, couplings)
+
+    def words(self) -> List[str]:
+        return [self.law, str(self.seed)]
+
+    def sizes(self) -> List[str]:
+        return [str(self.rows), str(self.cols)]
+
+
+def drawn_lattices(law: Any, seed: Any, kind: Any, rows: Any, cols: Any, p: Share = None) -> Iterator[Lattice]:
+    """Lattices of a law that are drawn one after another, without an end."""
+    return _Draw(law, seed, kind, rows, cols, p).lattices()
+
+
+def draw(law: str, seed: Whole, kind: Kind, rows: Whole, cols: Whole, p: Share = None) -> Lattice:
+    """A lattice of up to 2**20 spins whose couplings are the first draws of the law after the seed, bond
+    by bond, the same on every machine.
+
+    ``law`` is "one" (1), "alternate", "pm" (1 or -1), "uniform" (from -2**20 to 2**20 - 1), "gaussian"
+    (of mean 0 and variance 1, times 2**20, rounded), "negative" (-1 with probability ``p``, else 1) or
+    "diluted" (0 with probability ``p``, else 1 or -1).
 
     >>> draw("pm", 42, "square", 2, 2).couplings.tolist()
     [-1, -1, 1, -1]
+    >>> draw("gaussian", 42, "square", 2, 2).couplings.tolist()
+    [348835, 633119, 702652, 704368]
     """
-    lines = _drawn("gen", law, seed, kind, rows, cols).splitlines()
-    return Lattice(kind, rows, cols, numbers(lines[1].split(",")) if len(lines) > 2 else [])
+    own = _Draw(law, seed, kind, rows, cols, p)
+    if not own.by_program():
+        return next(own.lattices())
+    lines = answered(["gen", *own.words(), own.kind, *own.sizes()]).splitlines()
+    return own.lattice(numbers(lines[1].split(",")) if len(lines) > 2 else [])
 
 
-def sample(law: str, seed: Whole, rows: Whole, cols: Whole) -> Sample:
-    """The numbers of a drawn square lattice: its least energy, and what its broken bonds weigh.
+def sample(law: str, seed: Whole, rows: Whole, cols: Whole, p: Share = None) -> Sample:
+    """The numbers of a drawn square lattice: its least energy, and the weight of its broken bonds. The
+    laws are those of ``draw``.
 
     >>> sample("pm", 7, 24, 24).energy
     -792
     """
-    text = _drawn("sample", law, seed, rows, cols)
-    return Sample(*(int(fields[0]) for _, fields in records_in(text)))
+    own = _Draw(law, seed, "square", rows, cols, p)
+    if own.by_program():
+        text = answered(["sample", *own.words(), *own.sizes()])
+        return Sample(*(int(fields[0]) for _, fields in records_in(text)))
+    lattice = next(own.lattices())
+    energy, sizes = lattice.ground(loops=False).energy, sum(map(abs, lattice.couplings.tolist()))
+    return Sample(lattice.n, len(lattice.couplings), sizes, energy, (energy + sizes) // 2)
 
 
-def ensemble(law: str, seed: Whole, rows: Whole, cols: Whole, count: Whole) -> Ensemble:
-    """What a domain wall costs on each of ``count`` cylinders, which are drawn one after another.
+def ensemble(law: str, seed: Whole, rows: Whole, cols: Whole, count: Whole, p: Share = None) -> Ensemble:
+    """What a domain wall costs on each of ``count`` cylinders, which are drawn one after another. The laws
+    are those of ``draw``. Cylinders that the program does not draw are solved side by side in threads.
 
     >>> ensemble("one", 0, 1, 3, 2).walls.tolist()
     [2, 2]
     """
-    text = _drawn("ensemble", law, seed, rows, cols, count)
-    walls = [int(fields[1]) for first, fields in records_in(text) if first == "wall"]
-    return Ensemble(as_array(walls, "int64"), one_of(text, "sum")[0], one_of(text, "squares")[0])
+    own = _Draw(law, seed, "cylinder", rows, cols, p)
+    samples = _number(count, "count", 1, 10**9)
+    if own.by_program() and samples <= _PROGRAM_COUNT:
+        text = answered(["ensemble", *own.words(), *own.sizes(), str(samples)])
+        walls = [int(fields[1]) for first, fields in records_in(text) if first == "wall"]
+        return Ensemble(as_array(walls, "int64"), one_of(text, "sum")[0], one_of(text, "squares")[0])
+    lattices = (lattice for lattice, _ in zip(own.lattices(), range(samples)))
+    walls = list(in_order(lambda lattice: lattice.wall().difference, lattices))
+    return Ensemble(as_array(walls, "int64"), sum(walls), sum(wall * wall for wall in walls))
 
 
 def widths(law: str, seed: Whole, rows: Whole, max_cols: Whole, count: Whole) -> List[Width]:
@@ -111,5 +186,13 @@ def widths(law: str, seed: Whole, rows: Whole, max_cols: Whole, count: Whole) ->
     >>> widths("one", 0, 1, 3, 2)
     [Width(cols=3, sum=4, squares=8)]
     """
-    text = _drawn("widths", law, seed, rows, max_cols, count)
+    words = checked("widths", (law, seed, rows, max_cols, count))
+    text = answered(words, given=_Named(words[1]))
     return [Width(*numbers(fields)) for _, fields in records_in(text)]
+
+
+class _Named(str):
+    """The name of a law, which a refusal shows."""
+
+    def _shown(self, number: int, kept: Any) -> Optional[str]:
+        return shortened(str(self)) if number == RefusalCode.UNKNOWN_LAW else None

@@ -1,11 +1,13 @@
 """Refusals of texts, with the line, the value, and what is allowed."""
 
+from __future__ import annotations
+
 import json
 from typing import Any, Dict, List, Optional, Tuple
 
+from ._errors import Member, Refusal, RefusalCode, member_name, words_of
 from ._lattices import KINDS
-from ._records import Record, is_json, object_of, records_of
-from ._refusals import Refusal, member_name, words_of
+from ._records import MEMBERS, Record, is_json, object_of, records_of
 
 _NUMBER = "a whole number from -(2**63 - 1) to 2**63 - 1"
 _LONG = "a whole number from 0 to 4294967295"
@@ -58,6 +60,14 @@ def _words(command: str, first: bool, general: bool, behind: bool) -> str:
     return "bond, rot, seam, end" if general else "couplings, seam, end"
 
 
+_OF_RECORDS = (
+    RefusalCode.BAD_NUMBER,
+    RefusalCode.UNKNOWN_KIND,
+    RefusalCode.BAD_SHAPE,
+    RefusalCode.TRAILING,
+)
+
+
 class _Place:
     """The record of a refusal, and what stands before it."""
 
@@ -88,11 +98,11 @@ def explained(refusal: Refusal, text: str, command: str) -> Refusal:
     is_graph = command in ("tjoin", "postman")
     if is_json(text) and command != "check" and not is_graph:
         return _about_json(refusal, text)
-    if refusal.number in (3, 4, 5, 12) and refusal.kept:
+    if refusal.number in _OF_RECORDS and refusal.kept:
         place = _Place(text, refusal.kept[0])
         if place.record is not None:
             return _about_record(refusal, place, place.record, command)
-    words = words_of("graph", refusal.number, refusal.kept) if is_graph else None
+    words = words_of("graph", refusal.number, refusal.kept) if is_graph else refusal.words
     return Refusal(refusal.number, refusal.kept, refusal.value, _line_of(refusal, text), words)
 
 
@@ -100,17 +110,17 @@ def _about_record(refusal: Refusal, place: _Place, record: Record, command: str)
     """The refusal with its record."""
     number, kept = refusal.number, refusal.kept
     told: Tuple[object, ...]
-    if number == 3:
+    if number == RefusalCode.BAD_NUMBER:
         field = kept[1]
         value = repr(record.fields[field]) if field < len(record.fields) else "a missing field"
         told, allowed = (field + 1, value), place.allowed(field)
-    elif number == 4:
+    elif number == RefusalCode.UNKNOWN_KIND:
         value = repr(place.word())
         told, allowed = (value,), place.words(command)
     else:
         value = repr(",".join(record.fields))
         form = _FORMS.get(place.word(), "another number of fields")
-        told, allowed = (value,), form if number == 5 else ""
+        told, allowed = (value,), form if number == RefusalCode.BAD_SHAPE else ""
     return Refusal(number, kept, value, record.line, words_of("line", number, told, allowed))
 
 
@@ -118,21 +128,17 @@ def _about_json(refusal: Refusal, text: str) -> Refusal:
     try:
         members = object_of(text)
     except Refusal as fault:
-        return fault if refusal.number == 18 else refusal
+        return fault if refusal.number == RefusalCode.BAD_JSON else refusal
     return Refusal(refusal.number, refusal.kept, member_shown(members, refusal))
-
-
-MEMBERS = {"general": {"kind", "n", "bonds", "rotation", "seam"}}
-MEMBERS.update({kind: {"kind", "rows", "cols", "couplings", "seam"} for kind in KINDS})
 
 
 def member_shown(members: Dict[str, Any], refusal: Refusal) -> Optional[str]:
     """The wrong member of an object of JSON, or its wrong entry."""
-    if refusal.number != 19:
+    if refusal.number != RefusalCode.BAD_MEMBER:
         return None
     place, entry = refusal.kept
-    if place == 2:
-        allowed = MEMBERS.get(str(members.get("kind")), set())
+    if place == Member.OTHER:
+        allowed = MEMBERS.get(str(members.get("kind")), ())
         return next((repr(name) for name in members if name not in allowed), None)
     name = member_name(place)
     if name not in members:
@@ -143,14 +149,23 @@ def member_shown(members: Dict[str, Any], refusal: Refusal) -> Optional[str]:
     return f"{json.dumps(value):.60}"
 
 
+_RECORD_OF: Dict[int, str] = {
+    RefusalCode.SELF_BOND: "bond",
+    RefusalCode.BAD_ROTATION: "rot",
+    RefusalCode.BAD_SEAM: "seam",
+    RefusalCode.ODD_TERMINALS: "term",
+    RefusalCode.BAD_TERMINAL: "term",
+}
+
+
 def _line_of(refusal: Refusal, text: str) -> Optional[int]:
     """The line of the record that a refusal means by a number of another kind."""
-    sought = {9: "bond", 10: "rot", 11: "seam", 21: "term", 22: "term"}.get(refusal.number)
+    sought = _RECORD_OF.get(refusal.number)
     if sought is None:
         return None
     own = [record for record in records_of(text) if record.fields and record.fields[0] == sought]
-    if refusal.number == 9:
+    if refusal.number == RefusalCode.SELF_BOND:
         own = own[refusal.kept[0] : refusal.kept[0] + 1]
-    if refusal.number == 10:
+    if refusal.number == RefusalCode.BAD_ROTATION:
         own = [record for record in own if record.fields[1:2] == [str(refusal.kept[0])]]
     return own[0].line if own else None

@@ -1,4 +1,6 @@
-"""A judge of least joins and of their cuts, in plain Python: it trusts no solver."""
+"""A judge of minimum T-joins and of their cuts, in plain Python: it trusts no solver."""
+
+from __future__ import annotations
 
 from collections import Counter
 from typing import Dict, List, Sequence, Set, Tuple

@@ -1,10 +1,15 @@
 """Frustrated loops as three arrays, unpacked where they are looked at."""
 
-from collections.abc import Sequence
-from operator import index
-from typing import Any, Iterable, Iterator, List, NamedTuple, Tuple, Union, overload
+from __future__ import annotations
 
-from ._arrays import listed_of, numbers, refuse_unordered, shortened
+from collections.abc import Sequence as AbstractSequence
+from operator import index
+from typing import TYPE_CHECKING, Any, Iterable, Iterator, List, NamedTuple, Sequence, Tuple, Union, overload
+
+from ._arrays import as_array, listed_of, numbers, refuse_unordered, shortened
+
+if TYPE_CHECKING:
+    from ._types import Int64Array, Integers, UInt32Array, UInt64Array
 
 
 class Loop(NamedTuple):
@@ -18,7 +23,7 @@ class Loop(NamedTuple):
     bonds: Tuple[int, ...]
 
 
-class Loops(Sequence):  # type: ignore[type-arg]
+class Loops(Sequence[Loop]):
     """Loops in their order, as the library gives them: a sequence of ``Loop``.
 
     ``weights`` has one number of 64 bits for each loop, ``starts`` one for each loop and one more, and
@@ -31,10 +36,19 @@ class Loops(Sequence):  # type: ignore[type-arg]
     (4, (0, 1, 2, 3))
     """
 
-    def __init__(self, weights: Any, starts: Any, bonds: Any) -> None:
+    weights: Int64Array
+    starts: UInt64Array
+    bonds: UInt32Array
+
+    def __init__(self, weights: Integers, starts: Integers, bonds: Integers) -> None:
         self.weights = numbers(weights, "int64", "weights of the loops")
         self.starts = numbers(starts, "uint64", "starts of the loops")
         self.bonds = numbers(bonds, "uint32", "bonds of the loops")
+
+    @classmethod
+    def none(cls) -> Loops:
+        """No loops."""
+        return cls(as_array([], "int64"), as_array([0], "uint64"), as_array([], "uint32"))
 
     def __len__(self) -> int:
         return len(self.weights)
@@ -51,12 +65,10 @@ class Loops(Sequence):  # type: ignore[type-arg]
         return Loop(int(self.weights[i]), tuple(own.tolist()))
 
     @overload
-    def __getitem__(self, place: int) -> Loop:
-        ...
+    def __getitem__(self, place: int) -> Loop: ...
 
     @overload
-    def __getitem__(self, place: slice) -> List[Loop]:
-        ...
+    def __getitem__(self, place: slice) -> List[Loop]: ...
 
     def __getitem__(self, place: Union[int, slice]) -> Union[Loop, List[Loop]]:
         if isinstance(place, slice):
@@ -73,7 +85,7 @@ class Loops(Sequence):  # type: ignore[type-arg]
             yield Loop(weight, tuple(bonds[places[i] : places[i + 1]]))
 
     def __eq__(self, other: object) -> bool:
-        if not isinstance(other, Sequence) or isinstance(other, str):
+        if not isinstance(other, AbstractSequence) or isinstance(other, str):
             return NotImplemented
         return list(self) == list(other)
 
@@ -81,6 +93,8 @@ class Loops(Sequence):  # type: ignore[type-arg]
         return hash(tuple(self))
 
     def __repr__(self) -> str:
+        if len(self) > 4:
+            return f"<{len(self)} loops with {len(self.bonds)} bonds together>"
         return f"Loops({list(self)!r})"
 
 

@@ -1,40 +1,42 @@
 """Nests of regions: proofs of linear size that no assignment has less energy."""
 
-from typing import Any, NamedTuple, Optional, Sequence
+from __future__ import annotations
+
+from dataclasses import dataclass
+from typing import TYPE_CHECKING, Any, ClassVar, Iterator
 
 from ._arrays import numbers
 
-NONE = 2**32 - 1
+if TYPE_CHECKING:
+    from ._types import UInt32Array, UInt64Array
 
 
-class Nest(NamedTuple):
+@dataclass(frozen=True, eq=False, repr=False)
+class Nest:
     """A nest of regions over the faces, as four arrays.
 
-    ``parents`` and ``radii`` have for each region the later one that it is a part of, ``Nest.NONE`` where
+    ``parents`` and ``radii`` have for each region the later one that it is a part of, ``Nest.NONE`` if
     there is none, and its radius, in quarters of the unit of the couplings. ``regions`` and ``at_radii``
     have for each face the region that took it, or ``Nest.NONE``, and the radius at which that did. All
-    radii together are four times what the broken bonds weigh. The header of the library says how the
+    radii together are four times the weight of the broken bonds. The header of the library says how the
     faces are numbered, and docs/BINDINGS.md why a nest proves a ground state.
 
     >>> import ising2d
     >>> found = ising2d.ground("square", 2, 2, [3, 4, 2, -5], nest=True)
     >>> int(sum(found.nest.radii)), found.broken()
     (8, [2])
+    >>> parents, radii, regions, at_radii = found.nest
     """
 
-    parents: Any
-    radii: Any
-    regions: Any
-    at_radii: Any
+    parents: UInt32Array
+    radii: UInt64Array
+    regions: UInt32Array
+    at_radii: UInt64Array
 
-    NONE = NONE  # type: ignore[misc]
+    NONE: ClassVar[int] = 2**32 - 1
 
-    def _shown(self, number: int, kept: Sequence[int]) -> Optional[str]:
-        """The value that a refusal is about."""
-        if number != 19 or kept[0] not in (12, 13):
-            return None
-        one, other = (self.parents, self.radii) if kept[0] == 12 else (self.regions, self.at_radii)
-        return f"{len(other)} radii beside {len(one)}"
+    def __iter__(self) -> Iterator[Any]:
+        return iter((self.parents, self.radii, self.regions, self.at_radii))
 
     def __eq__(self, other: object) -> bool:
         if not isinstance(other, Nest):
@@ -44,9 +46,12 @@ class Nest(NamedTuple):
     def __hash__(self) -> int:
         return hash(tuple(tuple(own.tolist()) for own in self))
 
+    def __repr__(self) -> str:
+        return f"<nest of {len(self.radii)} regions over {len(self.regions)} faces>"
+
 
 def nest_of(given: Any) -> Nest:
-    """What is stated as a nest, as it crosses."""
+    """What is stated as a nest, as the library takes it."""
     try:
         parents, radii, regions, at_radii = given
     except (TypeError, ValueError):

@@ -1,5 +1,7 @@
 """A bar that shows how far a stream is, where standard error is a terminal."""
 
+from __future__ import annotations
+
 import sys
 import time
 from typing import Optional

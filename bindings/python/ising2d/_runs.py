@@ -1,16 +1,16 @@
 """Whole runs of the program: words and an input in, a status and a text out; and what a text says."""
 
-import ctypes
+from __future__ import annotations
+
 import json
-from typing import Any, Dict, List, Sequence, Tuple, Union
+from typing import Any, Dict, List, Protocol, Sequence, Tuple, Union
 
 from ._answers import Run
 from ._arrays import shortened
-from ._crossing import NO_MEMORY
-from ._library import library
+from ._errors import refusal_of
+from ._ffi import DONE, NO_MEMORY, raise_status, run_of
 from ._loops import Loop
-from ._refusals import refusal_of
-from ._waiting import patiently
+from ._threads import interruptible
 
 Words = Sequence[str]
 
@@ -53,29 +53,12 @@ def _bytes(given: Union[str, bytes]) -> bytes:
 
 def _whole(words: bytes, given: bytes) -> Tuple[int, bytes]:
     """The status and the text. Which runs are short is not known, so each is waited for."""
-    status, text, length = patiently(True, _run, words, given, 65536)
+    status, text, length = interruptible(True, run_of, words, given, 65536)
     if length > len(text):
-        status, text, length = patiently(True, _run, words, given, length)
+        status, text, length = interruptible(True, run_of, words, given, length)
     if status == NO_MEMORY:
-        raise MemoryError("the library has no memory left")
+        raise_status(status)
     return status, text
-
-
-def _run(words: bytes, given: bytes, capacity: int) -> Tuple[int, bytes, int]:
-    """The status, the text as far as there is room, and the number of bytes of the whole text."""
-    out = ctypes.create_string_buffer(capacity)
-    written, length = ctypes.c_size_t(), ctypes.c_size_t()
-    status = library.ising2d_c_run(
-        words,
-        len(words),
-        given,
-        len(given),
-        ctypes.addressof(out),
-        capacity,
-        ctypes.byref(written),
-        ctypes.byref(length),
-    )
-    return status, out.raw[: written.value], length.value
 
 
 def answered(words: Words, input: Union[str, bytes] = b"", given: Any = None) -> str:
@@ -83,12 +66,16 @@ def answered(words: Words, input: Union[str, bytes] = b"", given: Any = None) ->
     found = run(words, input)
     if found.status == 1:
         raise refusal_of(found.text, given)
-    if found.status != 0:
+    if found.status != DONE:
         raise ValueError(f"{' '.join(words)}: {found.text.strip()}")
     return found.text
 
 
-def json_of(given: Any) -> str:
+class _AsJson(Protocol):
+    def as_json(self) -> Dict[str, object]: ...
+
+
+def json_of(given: _AsJson) -> str:
     """An instance as one JSON object."""
     return json.dumps(given.as_json())
 

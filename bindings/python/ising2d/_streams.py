@@ -1,17 +1,19 @@
 """Many instances in one stream: a line of JSON in, a line of JSON out, by several processes."""
 
+from __future__ import annotations
+
 import collections
 import json
 import multiprocessing
 import signal
 from typing import Any, Callable, Deque, Dict, Iterable, Iterator, List, NamedTuple, Tuple
 
+from ._errors import NoProofFound, Refusal
 from ._instances import Instance
-from ._joins import Network
 from ._loops import Loop
+from ._networks import Network
 from ._reading import instance_of
 from ._records import object_of
-from ._refusals import Refusal
 
 
 class Line(NamedTuple):
@@ -140,15 +142,16 @@ def answer_line(task: Tuple[str, int, str]) -> Line:
     except Refusal as refusal:
         answer.update(line=number, refused=refusal.number, name=refusal.name, sentence=refusal.sentence)
         status = 1
-    except (TypeError, ValueError, OverflowError, KeyError) as fault:
+    except (TypeError, ValueError, OverflowError, KeyError, NoProofFound) as fault:
         answer.update(line=number, refused=None, name=type(fault).__name__, sentence=str(fault))
         status = 1
     return Line(json.dumps(answer, separators=(",", ":")), status, len(text.encode()))
 
 
-def _deaf() -> None:
-    """Ctrl-C is for the process that hands out the lines."""
+def _begin_worker() -> None:
+    """Ctrl-C is for the process that hands out the lines; SIGTERM ends a worker without a word."""
     signal.signal(signal.SIGINT, signal.SIG_IGN)
+    signal.signal(signal.SIGTERM, signal.SIG_DFL)
 
 
 def answer_lines(command: str, lines: Iterable[str], jobs: int) -> Iterator[Line]:
@@ -158,7 +161,7 @@ def answer_lines(command: str, lines: Iterable[str], jobs: int) -> Iterator[Line
         yield from map(answer_line, tasks)
         return
     # A process of its own for each worker, since a process with threads is not to be forked.
-    with multiprocessing.get_context("spawn").Pool(jobs, _deaf) as pool:
+    with multiprocessing.get_context("spawn").Pool(jobs, _begin_worker) as pool:
         waiting: Deque[Any] = collections.deque()
         for task in tasks:
             waiting.append(pool.apply_async(answer_line, (task,)))

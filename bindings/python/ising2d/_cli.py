@@ -1,22 +1,47 @@
 """The command line: `python -m ising2d`, installed as `ising2d-py`."""
 
+from __future__ import annotations
+
 import argparse
 import os
+import signal
 import sys
-from typing import Any, Callable, Dict, List, NamedTuple, Optional, Sequence
+from enum import IntEnum
+from pathlib import Path
+from typing import Any, BinaryIO, Callable, Dict, Iterator, List, NamedTuple, Optional, Sequence
 
 from ._answers import Run
+from ._bundle import write_bundle
 from ._draws import checked
+from ._errors import NoProofFound, Refusal, RefusalCode, numbers_of, refusal_of, verdict_sentence
 from ._explained import explained
+from ._instances import Instance
 from ._progress import Progress
-from ._reading import read
-from ._records import as_text
-from ._refusals import Refusal, numbers_of, refusal_of, verdict_sentence
+from ._reading import read, read_proof
+from ._records import as_text, proof_in
 from ._runs import run
 from ._streams import COMMANDS, answer_lines
 from ._version import VERSION
 
 _NAME = "ising2d"
+
+
+class Exit(IntEnum):
+    """How a run ends, as the program does (docs/FORMATS.md)."""
+
+    ANSWERED = 0
+    REFUSED = 1
+    USAGE = 2
+    PROOF_FAILS = 3
+    INPUT_FAILED = 4
+    OUTPUT_FAILED = 5
+    NO_MEMORY = 6
+    INTERRUPTED = 130
+    TERMINATED = 143
+
+
+class OutputFailed(OSError):
+    """Standard output is closed, full, or gone."""
 
 
 class _Study(NamedTuple):
@@ -40,7 +65,7 @@ _STUDIES = {
     "maxcut": _Study("the largest cut with the couplings as weights, and loops that prove it", _INSTANCE),
     "check": _Study(
         "whether a result behind its instance is proved",
-        "cat instance.txt answer.txt | python3 -m ising2d {0}",
+        "python3 -m ising2d {0} instance.txt answer.txt",
     ),
     "tjoin": _Study(
         "a least join of the terminals, and cuts that prove it",
@@ -71,7 +96,7 @@ input:
   end
 """
 _PROOF_FORM = """\
-input: an instance as records, and behind it an answer of ground
+input: an instance as records, and behind it, or in the next file, an answer of ground
 """
 _FORMS = {"tjoin": _GRAPH_FORM, "postman": _GRAPH_FORM, "check": _PROOF_FORM}
 
@@ -110,6 +135,11 @@ _WORDS = {
     "COUNT": "1 to 1000",
 }
 
+_BUNDLE_WORDS = {
+    "LAW": "one, alternate, pm, uniform, gaussian, negative or diluted",
+    "ROWS": "1 or more, ROWS times COLS at most 1048576",
+}
+
 _LINES = (
     'printf \'{"id":1,"kind":"square","rows":1,"cols":2,"couplings":[5]}\\n\' | '
     "python3 -m ising2d lines energy"
@@ -117,7 +147,11 @@ _LINES = (
 
 
 def _say(text: str) -> None:
-    print(f"{_NAME}: {text}", file=sys.stderr)
+    """Says something on standard error, if there is one that takes it."""
+    try:
+        print(f"{_NAME}: {text}", file=sys.stderr)
+    except (OSError, ValueError, AttributeError):
+        pass
 
 
 def _parser() -> argparse.ArgumentParser:
@@ -149,16 +183,34 @@ def _parser() -> argparse.ArgumentParser:
     )
     picture.add_argument("--show", choices=("ground", "clusters", "wall"), default="ground")
     _files(picture)
-    _page(commands)
+    _bundle_words(commands)
+    _page_words(commands)
     return parser
 
 
-def _page(commands: Any) -> None:
+def _page_words(commands: Any) -> None:
     study = _Study("a page in the browser that shows an instance and its proof", "python3 -m ising2d {0}")
     own = _command(commands, "explore", study, _INSTANCE_FORM)
     own.add_argument("file", nargs="?", metavar="FILE", help="an instance, or a link that the page gave")
     own.add_argument("--port", type=_port, default=8254, metavar="N", help="the port (8254); 0: any free one")
     own.add_argument("--no-browser", action="store_true", help="only print the address")
+
+
+def _bundle_words(commands: Any) -> None:
+    own = _command(
+        commands,
+        "bundle",
+        _Study(
+            "a folder of drawn instances with their proved minima and proofs, and a judge of them in Python",
+            "python3 -m ising2d bundle folder pm 7 square 4 4 --count 3 && python3 folder/judge.py",
+        ),
+    )
+    own.add_argument("folder", metavar="FOLDER", help="is made where it is missing")
+    for word in ("LAW", "SEED", "KIND", "ROWS", "COLS"):
+        own.add_argument(word, help=_BUNDLE_WORDS.get(word, _WORDS[word]))
+    own.add_argument("--count", type=_count, default=10, metavar="N", help="so many instances (10)")
+    own.add_argument("--p", type=float, default=None, metavar="P", help="the probability of a law that has one")
+    own.add_argument("--nest", action="store_true", help="nests as proofs, also of small instances")
 
 
 def _command(commands: Any, name: str, study: _Study, form: str = "") -> argparse.ArgumentParser:
@@ -190,9 +242,16 @@ def _port(text: str) -> int:
     return int(text)
 
 
+def _standard_input() -> BinaryIO:
+    """Standard input. One that is closed is a failed one."""
+    if sys.stdin is None:
+        raise OSError("standard input is closed")
+    return sys.stdin.buffer
+
+
 def _input(name: str) -> bytes:
     if name == "-":
-        return sys.stdin.buffer.read()
+        return _standard_input().read()
     with open(name, "rb") as file:
         return file.read()
 
@@ -207,38 +266,121 @@ def _refused(name: str, refusal: Refusal) -> None:
 
 
 def _write(text: str) -> None:
-    sys.stdout.write(text)
-    sys.stdout.flush()
+    """Writes to standard output. Raises ``OutputFailed``."""
+    if sys.stdout is None:
+        raise OutputFailed("standard output is closed")
+    try:
+        sys.stdout.write(text)
+        sys.stdout.flush()
+    except (OSError, ValueError) as fault:
+        raise OutputFailed(str(fault)) from fault
+
+
+class _Given(NamedTuple):
+    """An input: its name, and its bytes or why there are none."""
+
+    name: str
+    bytes: bytes
+    fault: Optional[OSError] = None
+
+
+def _given(command: str, names: Sequence[str]) -> Iterator[_Given]:
+    """The input of each file. To ``check`` an instance without its result is one with the next file."""
+    waiting = list(names)
+    while waiting:
+        name = waiting.pop(0)
+        try:
+            found = _input(name)
+            if command == "check" and waiting and _lacks_result(found):
+                found += b"\n" + _input(waiting[0])
+                name = f"{name} and {waiting.pop(0)}"
+            yield _Given(name, found)
+        except OSError as fault:
+            yield _Given(name, b"", fault)
+
+
+def _lacks_result(given: bytes) -> bool:
+    """Whether the records end where a result is awaited."""
+    try:
+        proof_in(as_text(given))
+    except Refusal as refusal:
+        return refusal.number == RefusalCode.UNENDED
+    return False
 
 
 def _study_files(command: str, names: Sequence[str], quiet: bool) -> int:
     """Answers each file as the program does, and says on standard error why one is refused."""
     status, several = 0, len(names) > 1
     progress = Progress(len(names), several and not quiet)
-    for name in names:
-        try:
-            given = _input(name)
-        except OSError as fault:
-            _say(str(fault))
-            status = max(status, 4)
+    for given in _given(command, names):
+        if given.fault is not None:
+            _say(str(given.fault))
+            status = max(status, Exit.INPUT_FAILED)
             continue
-        found = run([command], given)
+        found = _study(command, given.bytes)
         progress.step(1)
         if several:
             progress.end()
-            _write(f"# {name}\n")
+            _write(f"# {given.name}\n")
         _write(found.text)
-        _explain(command, name, given, found)
+        _explain(command, given.name, given.bytes, found)
         status = max(status, found.status)
     progress.end()
     return status
 
 
+def _study(command: str, given: bytes) -> Run:
+    """The answer of the program; of what is larger than it takes, that of the library in the same form."""
+    found = run([command], given)
+    is_large = found.status == Exit.REFUSED and numbers_of(found.text)[0] in (
+        RefusalCode.TOO_MANY_SPINS,
+        RefusalCode.TOO_MANY_BONDS,
+    )
+    if not is_large or command not in (*_LARGE, "check"):
+        return found
+    try:
+        if command == "check":
+            verdict = read_proof(given)
+            numbers = ",".join(map(str, ("no", verdict.number, *verdict.kept)))
+            return Run(Exit.ANSWERED, "yes\n") if verdict else Run(Exit.PROOF_FAILS, numbers + "\n")
+        return Run(Exit.ANSWERED, "".join(_LARGE[command](read(given))))
+    except Refusal as refusal:
+        numbers = ",".join(map(str, ("refused", refusal.number, *refusal.kept)))
+        return Run(Exit.REFUSED, numbers + "\n")
+
+
+def _large_energy(instance: Instance) -> Iterator[str]:
+    found = instance.ground(loops=False)
+    yield f"energy,{found.energy}\nspins,{','.join(map(str, found.spins.tolist()))}\nend\n"
+
+
+def _large_ground(instance: Instance) -> Iterator[str]:
+    found = instance.ground(loops=True)
+    yield f"energy,{found.energy}\nspins,{','.join(map(str, found.spins.tolist()))}\n"
+    for loop in found.loops:
+        yield f"loop,{loop.weight},{','.join(map(str, loop.bonds))}\n"
+    yield "end\n"
+
+
+def _large_wall(instance: Instance) -> Iterator[str]:
+    found = instance.wall()
+    yield f"periodic,{found.periodic}\nantiperiodic,{found.antiperiodic}\n"
+    yield f"wall,{found.difference}\nend\n"
+
+
+_LARGE: Dict[str, Callable[[Instance], Iterator[str]]] = {
+    "energy": _large_energy,
+    "ground": _large_ground,
+    "wall": _large_wall,
+}
+
+
 def _explain(command: str, name: str, given: bytes, found: Run) -> None:
     """Says on standard error why a file is refused, or its proof fails."""
-    if found.status == 1:
-        _refused(name, explained(refusal_of(found.text), as_text(given), command))
-    if found.status == 3:
+    if found.status == Exit.REFUSED:
+        large = command in (*_LARGE, "check")
+        _refused(name, explained(refusal_of(found.text, None, large), as_text(given), command))
+    if found.status == Exit.PROOF_FAILS:
         number, *kept = numbers_of(found.text)
         _say(f"{_shown(name)}: {verdict_sentence(number, kept)}")
 
@@ -246,9 +388,9 @@ def _explain(command: str, name: str, given: bytes, found: Run) -> None:
 def _draw(command: str, words: Sequence[str]) -> int:
     found = run([command, *words])
     _write(found.text)
-    if found.status == 1:
+    if found.status == Exit.REFUSED:
         _say(f"law {words[0]!r}: {refusal_of(found.text).sentence}")
-    if found.status == 2:
+    if found.status == Exit.USAGE:
         _say(_fault_of(command, words))
     return found.status
 
@@ -265,7 +407,7 @@ def _fault_of(command: str, words: Sequence[str]) -> str:
 def _lines(options: argparse.Namespace, names: Sequence[str]) -> int:
     status = 0
     for name in names:
-        file = sys.stdin.buffer if name == "-" else open(name, "rb")
+        file = _standard_input() if name == "-" else open(name, "rb")
         with file:
             progress = Progress(_size(file), not options.quiet)
             texts = (line.decode("utf-8", "replace") for line in file)
@@ -286,30 +428,53 @@ def _size(file: Any) -> Optional[int]:
 
 
 def _picture(show: str, name: str) -> int:
-    from ._pictures import svg
-
     try:
         instance = read(_input(name))
-        shown: Dict[str, Callable[[], Any]] = {
-            "ground": instance.ground,
-            "clusters": instance.clusters,
-            "wall": lambda: instance.wall(states=True),
+        shown: Dict[str, Callable[[], str]] = {
+            "ground": lambda: instance.ground().svg(),
+            "clusters": lambda: instance.clusters().svg(),
+            "wall": lambda: instance.wall(states=True).svg(),
         }
-        text = svg(shown[show]())
+        text = shown[show]()
     except Refusal as refusal:
         _refused(name, refusal)
-        return 1
+        return Exit.REFUSED
     _write(text + "\n")
     return 0
 
 
+def _bundle(options: argparse.Namespace) -> int:
+    """Writes a bundle, and says what it has."""
+    given = [options.LAW, *map(_number_of, (options.SEED, options.KIND, options.ROWS, options.COLS))]
+    try:
+        count = write_bundle(Path(options.folder), given, options.count, options.p, options.nest)
+    except Refusal as refusal:
+        _say(refusal.sentence)
+        return Exit.REFUSED
+    except (TypeError, ValueError) as fault:
+        _say(str(fault))
+        return Exit.USAGE
+    except OSError as fault:
+        raise OutputFailed(str(fault)) from fault
+    _write(f"{count} instances are in {options.folder}, and judge.py judges them\n")
+    return Exit.ANSWERED
+
+
+def _number_of(word: str) -> Any:
+    return int(word) if word.isascii() and word.isdigit() else word
+
+
 def _answered(options: argparse.Namespace) -> int:
-    if options.command in _DRAWN:
-        return _draw(options.command, [getattr(options, word) for word in _DRAWN[options.command][0]])
+    """The exit status of a command. Sub-commands of the package alone stand here, before those of the
+    program."""
+    if options.command == "bundle":
+        return _bundle(options)
     if options.command == "explore":
         from ._explore import explore
 
         return explore(options.file, options.port, not options.no_browser)
+    if options.command in _DRAWN:
+        return _draw(options.command, [getattr(options, word) for word in _DRAWN[options.command][0]])
     names: List[str] = options.files or ["-"]
     if options.command == "lines":
         return _lines(options, names)
@@ -330,20 +495,41 @@ def _parsed(words: Optional[Sequence[str]]) -> argparse.Namespace:
     return options
 
 
+def _terminated(number: int, frame: object) -> None:
+    """SIGTERM ends the process with its status, and nothing is written half."""
+    raise SystemExit(Exit.TERMINATED)
+
+
+def _drop_output() -> None:
+    """Nothing more is to be written, also not when the interpreter ends."""
+    try:
+        os.dup2(os.open(os.devnull, os.O_WRONLY), sys.stdout.fileno())
+    except (OSError, ValueError, AttributeError):
+        pass
+
+
 def main(words: Optional[Sequence[str]] = None) -> int:
-    """Answers the words, and returns the exit status: as of the program, and 130 for Ctrl-C."""
+    """Answers the words, and returns the exit status: that of the program, and 130 for Ctrl-C."""
     options = _parsed(words)
     try:
-        return _answered(options)
+        signal.signal(signal.SIGTERM, _terminated)
+    except ValueError:  # not in the main thread
+        pass
+    try:
+        return int(_answered(options))
     except KeyboardInterrupt:
-        return 130
-    except BrokenPipeError:
-        # Whoever read the answers has had enough. Nothing more is to be written at the end.
-        os.dup2(os.open(os.devnull, os.O_WRONLY), sys.stdout.fileno())
-        return 5
+        return Exit.INTERRUPTED
+    except OutputFailed as fault:
+        if not isinstance(fault.__cause__, BrokenPipeError):
+            _say(str(fault))
+        _drop_output()
+        return Exit.OUTPUT_FAILED
     except MemoryError:
         _say("no memory left")
-        return 6
+        return Exit.NO_MEMORY
+    except NoProofFound as fault:
+        _say(str(fault))
+        return Exit.NO_MEMORY
     except (OSError, ValueError) as fault:
         _say(str(fault))
-        return 4
+        return Exit.INPUT_FAILED

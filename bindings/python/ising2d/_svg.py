@@ -1,14 +1,24 @@
-"""Pictures of answers, as SVG, without any other package.
+"""Pictures as SVG, without any other package: of a model with spins, loops, a wall, or clusters.
 
 What is told apart by a colour is told apart by a form as well, and the colours are those of Okabe and
 Ito, which colour-blind people can tell apart.
 """
 
-from typing import Any, Callable, Dict, Iterable, List, NamedTuple, Optional, Tuple
+from __future__ import annotations
 
-from ._answers import Clusters, DomainWall, Ground
+from functools import lru_cache
+from typing import TYPE_CHECKING, Any, Callable, Dict, Iterable, List, NamedTuple, Optional, Sequence, Tuple
+
 from ._arrays import shortened
-from ._faces import Drawing, Point
+from ._drawings import Drawing, Point
+from ._loops import Loop
+from ._model import Model
+
+if TYPE_CHECKING:
+    from ._types import Places
+
+# A notebook draws answers of so many spins by itself.
+LARGEST_SHOWN = 2500
 
 _BLUE, _GREEN, _PURPLE, _SKY = "#0072B2", "#009E73", "#CC79A7", "#56B4E9"
 _ORANGE, _RED, _YELLOW, _GREY, _BLACK = "#E69F00", "#D55E00", "#F0E442", "#999999", "#222222"
@@ -30,42 +40,59 @@ class Look(NamedTuple):
     line: float
 
 
-def svg(
-    answer: Any,
-    places: Optional[Any] = None,
-    loops: int = 3,
-    cell: Optional[float] = None,
-    legend: bool = True,
+def picture_of_ground(
+    model: Model,
+    spins: Any,
+    loops: Sequence[Loop],
+    places: Optional[Places],
+    most_loops: int,
+    cell: Optional[float],
+    legend: bool,
 ) -> str:
-    """A picture of a ground state, of a domain wall with its states, or of clusters, as SVG.
-
-    Lattices are drawn at their places, and the first column of a cylinder a second time behind its
-    last. Other graphs are drawn at ``places`` (a pair for each spin, or a dictionary by label), or
-    where ``networkx.planar_layout`` puts them. Frustrated faces are shaded, negative bonds dashed,
-    broken bonds crossed, and of the proof the heaviest ``loops`` are drawn. ``cell`` is the length of a
-    bond in pixels.
-
-    >>> import ising2d
-    >>> ising2d.svg(ising2d.ground("square", 2, 2, [3, 4, 2, -5]))[:4]
-    '<svg'
-    """
-    size = None if cell is None else _size(cell)
-    shown = answer.ground if isinstance(answer, DomainWall) else answer
-    if not isinstance(shown, (Ground, Clusters)) or shown.instance is None:
-        raise TypeError("svg: a ground state, a domain wall with states or clusters are wanted")
-    canvas = _Canvas(Drawing(shown.instance, places), size)
-    canvas.faces()
-    if isinstance(shown, Clusters):
-        canvas.bonds([])
-        canvas.clusters(shown)
-    else:
-        is_wall = isinstance(answer, DomainWall)
-        canvas.loops(shown, 0 if is_wall else loops)
-        canvas.bonds(shown.broken())
-        if is_wall:
-            canvas.wall(answer)
-        canvas.spins(shown.spins.tolist())
+    """A ground state with the heaviest loops of its proof."""
+    canvas = _canvas(model, places, cell)
+    canvas.loops(loops, most_loops)
+    canvas.bonds(model.broken_by(spins))
+    canvas.spins(spins.tolist())
     return canvas.text(legend)
+
+
+def picture_of_wall(
+    model: Model,
+    spins: Any,
+    wall: Sequence[int],
+    difference: int,
+    places: Optional[Places],
+    cell: Optional[float],
+    legend: bool,
+) -> str:
+    """A ground state with a domain wall."""
+    canvas = _canvas(model, places, cell)
+    canvas.bonds(model.broken_by(spins))
+    canvas.wall(wall, difference)
+    canvas.spins(spins.tolist())
+    return canvas.text(legend)
+
+
+def picture_of_clusters(
+    model: Model,
+    names: List[int],
+    sizes: Dict[int, int],
+    places: Optional[Places],
+    cell: Optional[float],
+    legend: bool,
+) -> str:
+    """The rigid clusters, the largest by colour and form."""
+    canvas = _canvas(model, places, cell)
+    canvas.bonds([])
+    canvas.clusters(names, sizes)
+    return canvas.text(legend)
+
+
+def _canvas(model: Model, places: Optional[Places], cell: Optional[float]) -> _Canvas:
+    canvas = _Canvas(Drawing(model, places), None if cell is None else _size(cell))
+    canvas.faces()
+    return canvas
 
 
 def _size(cell: Any) -> float:
@@ -79,6 +106,7 @@ def _size(cell: Any) -> float:
     return size
 
 
+@lru_cache(maxsize=2**16)
 def _number(value: float) -> str:
     return f"{value:.1f}".rstrip("0").rstrip(".")
 
@@ -142,7 +170,7 @@ class _Canvas:
             self.explain("frustrated face", d="M1 -5h14v10h-14z", fill=_PALE)
 
     def bonds(self, broken: List[int]) -> None:
-        line, couplings = self.look.line, self.drawing.instance.couplings.tolist()
+        line, couplings = self.look.line, self.drawing.couplings
         look: Attributes = {"fill": "none", "stroke": _GREY, "stroke_width": _number(line)}
         dashed: Attributes = {
             **look,
@@ -173,8 +201,8 @@ class _Canvas:
             for sign in (1, -1)
         )
 
-    def loops(self, ground: Ground, count: int) -> None:
-        heaviest = sorted(ground.loops, key=lambda loop: (-loop.weight, loop.bonds))[:count]
+    def loops(self, loops: Sequence[Loop], count: int) -> None:
+        heaviest = sorted(loops, key=lambda loop: (-loop.weight, loop.bonds))[:count]
         for place, loop in enumerate(heaviest):
             look: Attributes = {
                 "fill": "none",
@@ -194,12 +222,15 @@ class _Canvas:
     def _points(self, spins: Iterable[int]) -> List[Point]:
         """The places of spins; of the first column of a cylinder also the second ones."""
         wanted, places = set(spins), self.drawing.places
+        if not self.drawing.period:
+            return [places[spin] for spin in sorted(wanted)]
         again = [
             (places[u][0] + step[0], places[u][1])
             for (u, v), step in zip(self.drawing.ends, self.drawing.steps)
             if v in wanted and places[v][0] != places[u][0] + step[0]
         ]
-        return [places[spin] for spin in sorted(wanted)] + [point for point in again if point not in places]
+        known = set(places)
+        return [places[spin] for spin in sorted(wanted)] + [point for point in again if point not in known]
 
     def spins(self, values: List[int]) -> None:
         up = [spin for spin, value in enumerate(values) if value > 0]
@@ -214,9 +245,9 @@ class _Canvas:
             ring = "M4 0a4 4 0 1 0 8 0a4 4 0 1 0 -8 0z"
             self.explain("spin -1", d=ring, stroke=_BLACK, fill="#FFFFFF", stroke_width=1.5)
 
-    def wall(self, found: DomainWall) -> None:
+    def wall(self, wall: Sequence[int], difference: int) -> None:
         sides = self.drawing.sides()
-        pieces = [self._crossing(bond, [face.middle() for face in sides[bond]]) for bond in found.bonds]
+        pieces = [self._crossing(bond, [face.middle() for face in sides[bond]]) for bond in wall]
         width = max(2.5, 0.11 * self.look.cell)
         look: Attributes = {
             "fill": "none",
@@ -226,7 +257,7 @@ class _Canvas:
             "stroke_linejoin": "round",
         }
         self.path(pieces, **look)
-        text = f"the wall: {found.length} bonds, it costs {found.difference}"
+        text = f"the wall: {len(wall)} bonds, it costs {difference}"
         self.explain(text, **{**look, "stroke_width": 4})
 
     def _crossing(self, bond: int, middles: List[Point]) -> str:
@@ -250,9 +281,8 @@ class _Canvas:
         last = middles[1] if len(middles) > 1 else (2 * x - first[0], 2 * y - first[1])
         return self.polyline([first, place, last])
 
-    def clusters(self, found: Clusters) -> None:
-        names = list(found)
-        large = [name for name, size in found.sizes.items() if size > 1][: len(_CLUSTER_COLOURS)]
+    def clusters(self, names: List[int], sizes: Dict[int, int]) -> None:
+        large = [name for name, size in sizes.items() if size > 1][: len(_CLUSTER_COLOURS)]
         rest = [spin for spin, name in enumerate(names) if name not in large]
         for place, name in enumerate(large):
             self._cluster(place, name, names)

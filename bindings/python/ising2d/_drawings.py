@@ -1,10 +1,16 @@
 """Drawings: where each bond lies, and the faces that they enclose."""
 
-import importlib
-from typing import Any, Dict, List, NamedTuple, Optional, Tuple
+from __future__ import annotations
 
-from ._instances import Instance
-from ._lattices import Lattice
+import importlib
+import math
+from collections.abc import Mapping
+from typing import TYPE_CHECKING, Any, Dict, List, NamedTuple, Optional, Tuple
+
+from ._model import Model
+
+if TYPE_CHECKING:
+    from ._types import Places
 
 Point = Tuple[float, float]
 
@@ -23,18 +29,15 @@ class Face(NamedTuple):
 class Drawing:
     """An instance with the places of its spins."""
 
-    def __init__(self, instance: Instance, places: Optional[Any] = None) -> None:
-        self.instance = instance
-        self.ends = instance.ends()
-        self.places = places_of(instance, places)
+    def __init__(self, model: Model, places: Optional[Places] = None) -> None:
+        self.model, self.couplings = model, model.couplings.tolist()
+        self.ends = list(model.ends())
+        self.places = places_of(model, places)
         # How far the second first column of a cylinder is from the first; 0 of all else.
-        self.period = self._columns() if places is None else 0
+        self.period = model.period() if places is None else 0
+        self.last_column = max(x for x, _ in self.places) if self.period else 0.0
         self.steps = [self._step(k) for k in range(len(self.ends))]
         self.faces = self._enclosed()
-
-    def _columns(self) -> int:
-        own = self.instance
-        return own.cols if isinstance(own, Lattice) and own.kind == "cylinder" else 0
 
     def _step(self, bond: int) -> Point:
         """The way along a bond from its first end. Over the seam of a cylinder it goes on to the east,
@@ -61,20 +64,24 @@ class Drawing:
         return middle if middle > 0 else 1.0
 
     def smallest_gap(self) -> float:
-        """The least distance of two spins that do not lie at one place; where there are none, a bond's."""
-        least, points = self.typical_length(), sorted(self.places)
-        for i, (x, y) in enumerate(points):
-            for right, low in points[i + 1 :]:
-                if right - x >= least:
-                    break
-                gap = ((right - x) ** 2 + (low - y) ** 2) ** 0.5
-                least = gap if 0 < gap < least else least
+        """The least distance of two spins that do not lie at one place; if there are none, a bond's."""
+        least = size = self.typical_length()
+        cells: Dict[Tuple[int, int], List[Point]] = {}
+        for point in set(self.places):
+            # Of all points before, those within a cell's size lie in the nine cells about this one.
+            own = math.floor(point[0] / size), math.floor(point[1] / size)
+            gaps = [math.dist(point, other) for other in _around(cells, own)]
+            least = min(least, *gaps) if gaps else least
+            cells.setdefault(own, []).append(point)
+            if least < size / 2:
+                size = least
+                cells = _regridded(cells, size)
         return least
 
     def _orbits(self) -> List[List[int]]:
         """The darts round each face: over the bond, and on to the next dart of the spin there."""
         after: Dict[int, int] = {}
-        for own in self.instance.darts():
+        for own in self.model.darts():
             for place, dart in enumerate(own):
                 after[dart ^ 1] = own[(place + 1) % len(own)]
         orbits, seen = [], set()
@@ -129,7 +136,8 @@ class Drawing:
 
     def _leaves_last_column(self, dart: int) -> bool:
         spin = self.ends[dart // 2][dart % 2]
-        return self.places[spin][0] == max(x for x, _ in self.places)
+        is_last: bool = self.places[spin][0] == self.last_column
+        return is_last
 
     def sides(self) -> List[List[Face]]:
         """For each bond the enclosed faces beside it, perhaps one of them twice."""
@@ -141,8 +149,8 @@ class Drawing:
 
     def is_frustrated(self, face: Face) -> bool:
         """Whether an odd number of the couplings round the face is negative."""
-        couplings = self.instance.couplings
-        return sum(int(couplings[bond]) < 0 for bond in face.bonds) % 2 == 1
+        negative: int = sum(self.couplings[bond] < 0 for bond in face.bonds)
+        return negative % 2 == 1
 
 
 def _area(corners: List[Point]) -> float:
@@ -151,36 +159,56 @@ def _area(corners: List[Point]) -> float:
     return sum(x * b - a * y for (x, y), (a, b) in zip(corners, turned)) / 2
 
 
-def places_of(instance: Instance, places: Optional[Any]) -> List[Point]:
-    """Where each spin is drawn: as handed in, by spin or by label; as the instance knows; or as
-    networkx finds it from the rotation."""
-    if isinstance(places, dict):
-        places = [_place(places, label) for label in instance.node_labels()]
-    if places is None:
-        places = instance.places()
-    if places is None:
-        places = _laid_out(instance)
-    found = [(float(x), float(y)) for x, y in places]
-    if len(found) != len(instance.node_labels()):
-        raise ValueError(f"there are {len(found)} places, and {len(instance.node_labels())} spins")
+def _around(cells: Dict[Tuple[int, int], List[Point]], own: Tuple[int, int]) -> List[Point]:
+    """The points in a cell and in the eight about it."""
+    x, y = own
+    return [
+        point for i in (x - 1, x, x + 1) for j in (y - 1, y, y + 1) for point in cells.get((i, j), ())
+    ]
+
+
+def _regridded(
+    cells: Dict[Tuple[int, int], List[Point]], size: float
+) -> Dict[Tuple[int, int], List[Point]]:
+    """The same points in cells of another size."""
+    found: Dict[Tuple[int, int], List[Point]] = {}
+    for points in cells.values():
+        for x, y in points:
+            found.setdefault((math.floor(x / size), math.floor(y / size)), []).append((x, y))
     return found
 
 
-def _place(places: Dict[Any, Any], label: Any) -> Any:
+def places_of(model: Model, places: Optional[Places]) -> List[Point]:
+    """Where each spin is drawn: as handed in, by spin or by label; as the model knows; or as networkx
+    finds it from the rotation."""
+    given: Any = places
+    if isinstance(given, Mapping):
+        given = [_place(given, label) for label in model.node_labels()]
+    if given is None:
+        given = model.places()
+    if given is None:
+        given = _laid_out(model)
+    found = [(float(x), float(y)) for x, y in given]
+    if len(found) != model.n:
+        raise ValueError(f"there are {len(found)} places, and {model.n} spins")
+    return found
+
+
+def _place(places: Mapping[Any, Any], label: Any) -> Any:
     if label not in places:
         raise ValueError(f"places: there is none for {label!r}")
     return places[label]
 
 
-def _laid_out(instance: Instance) -> List[Point]:
-    """The places of ``networkx.planar_layout``, for the drawing that the instance has."""
+def _laid_out(model: Model) -> List[Point]:
+    """The places of ``networkx.planar_layout``, for the drawing that the model has."""
     try:
         networkx = importlib.import_module("networkx")
     except ImportError:
         raise ValueError("where are the spins? give places=.., or install networkx") from None
-    ends = instance.ends()
+    ends = list(model.ends())
     around: Dict[int, List[int]] = {}
-    for spin, own in enumerate(instance.darts()):
+    for spin, own in enumerate(model.darts()):
         others = [ends[dart // 2][1 - dart % 2] for dart in own]
         around[spin] = list(dict.fromkeys(others))
     embedding = networkx.PlanarEmbedding()

@@ -7,11 +7,63 @@ these, and what is allowed. It is of a ``refusal``, of a ``member`` that refusal
 texts whose line is known; in these and in members what is empty is as of the refusal.
 """
 
+from __future__ import annotations
+
 import csv
+from enum import IntEnum
 from pathlib import Path
 from typing import Any, Dict, NamedTuple, Optional, Sequence, Tuple, Type
 
 Words = Tuple[str, str]
+
+
+class RefusalCode(IntEnum):
+    """The numbers of all refusals, by their names in docs/FORMATS.md.
+
+    >>> RefusalCode.NOT_PLANAR == 15
+    True
+    """
+
+    TOO_LONG = 1
+    UNENDED = 2
+    BAD_NUMBER = 3
+    UNKNOWN_KIND = 4
+    BAD_SHAPE = 5
+    COUPLING_COUNT = 6
+    TOO_MANY_SPINS = 7
+    TOO_MANY_BONDS = 8
+    SELF_BOND = 9
+    BAD_ROTATION = 10
+    BAD_SEAM = 11
+    TRAILING = 12
+    SUM_TOO_LARGE = 13
+    NOT_PLANAR = 15
+    NO_SEAM = 16
+    UNKNOWN_LAW = 17
+    BAD_JSON = 18
+    BAD_MEMBER = 19
+    JSON_TOO_LONG = 20
+    ODD_TERMINALS = 21
+    BAD_TERMINAL = 22
+    NOT_JOINED = 23
+
+
+class Member(IntEnum):
+    """The members that ``RefusalCode.BAD_MEMBER`` names, by the first number that it keeps."""
+
+    KIND = 1
+    OTHER = 2
+    ROWS = 3
+    COLS = 4
+    N = 5
+    COUPLINGS = 6
+    BONDS = 7
+    ROTATION = 8
+    SEAM = 9
+    SPINS = 10
+    STARTS = 11
+    RADII = 12
+    AT_RADII = 13
 
 
 class _Text(NamedTuple):
@@ -64,7 +116,7 @@ _VERDICTS = {
 
 def _reason_of(number: int, kept: Sequence[int]) -> _Text:
     reason = _REASONS.get(number, _NONE)
-    if number == 19 and kept and kept[0] in _TEXTS["member"]:
+    if number == RefusalCode.BAD_MEMBER and kept and kept[0] in _TEXTS["member"]:
         return _TEXTS["member"][kept[0]].of(reason)
     return reason
 
@@ -91,12 +143,13 @@ def verdict_sentence(number: int, kept: Sequence[int], of: str = "loops") -> str
 
 
 class Refusal(ValueError):
-    """Numbers or a text that are refused.
+    """An instance, a proof or a text that is refused, and why.
 
-    ``number`` is the number of the refusal, ``name`` its name, ``kept`` the numbers that show it,
-    ``value`` the wrong value where the call knows it, ``allowed`` what may stand there, ``line`` the
-    line of a text, counted from 1, where it has one, and ``sentence`` says it all. docs/FORMATS.md has
-    all refusals.
+    ``number`` is the number of the refusal, ``code`` the same as a ``RefusalCode``, ``name`` its name,
+    ``kept`` the numbers that show it, ``value`` the wrong value if it is known, ``allowed`` what is
+    allowed there, ``line`` the line of a text, counted from 1, and ``sentence`` the reason in words.
+    docs/FORMATS.md lists all refusals. Each is raised as one of the subclasses ``BadInstance``,
+    ``BadText``, ``TooLarge``, ``NotPlanar``, ``NoSeam``, ``UnknownLaw`` and ``BadTerminals``.
 
         >>> import ising2d
         >>> try:
@@ -105,6 +158,10 @@ class Refusal(ValueError):
         ...     print(refusal.number, refusal.name, refusal.value)
         19 BadMember 'kagome'
     """
+
+    def __new__(cls, number: int = 0, *arguments: Any, **named: Any) -> Refusal:
+        own = _CLASSES.get(number, cls) if cls is Refusal else cls
+        return ValueError.__new__(own)
 
     def __init__(
         self,
@@ -123,6 +180,11 @@ class Refusal(ValueError):
         self.sentence = self._told(sentence)
         super().__init__(f"{self.name} ({number}): {self.sentence}")
 
+    @property
+    def code(self) -> RefusalCode:
+        """The number of the refusal by its name."""
+        return RefusalCode(self.number)
+
     def _told(self, text: str) -> str:
         if self.value is not None and not self.words:
             text += f": {self.value}"
@@ -130,8 +192,128 @@ class Refusal(ValueError):
             text = f"line {self.line}" + (", " if text.startswith("field ") else ": ") + text
         return f"{text} (allowed: {self.allowed})" if self.allowed else text
 
-    def __reduce__(self) -> Tuple[Type["Refusal"], Tuple[Any, ...]]:
+    def __reduce__(self) -> Tuple[Type[Refusal], Tuple[Any, ...]]:
         return Refusal, (self.number, self.kept, self.value, self.line, self.words)
+
+
+class BadInstance(Refusal):
+    """Numbers that give no lattice, graph or proof.
+
+    >>> import ising2d
+    >>> try:
+    ...     ising2d.ground("square", 2, 2, [3, 4, 2])
+    ... except ising2d.BadInstance as refusal:
+    ...     print(refusal.sentence)
+    there are 3 couplings (allowed: one for each bond of the lattice, 4)
+    """
+
+
+class BadText(Refusal):
+    """A text that gives no instance: a wrong record, or no JSON.
+
+    >>> import ising2d
+    >>> try:
+    ...     ising2d.read("square,2")
+    ... except ising2d.BadText as refusal:
+    ...     print(refusal.line, refusal.name)
+    1 BadShape
+    """
+
+
+class TooLarge(Refusal):
+    """An instance or a text above a limit: of spins, bonds, bytes, or the sum of the couplings' sizes.
+
+    >>> import ising2d
+    >>> try:
+    ...     ising2d.ground("square", 1, 2, [2**45])
+    ... except ising2d.TooLarge as refusal:
+    ...     print(refusal.name)
+    SumTooLarge
+    """
+
+
+class NotPlanar(Refusal):
+    """A graph that is not planar, or a drawing with crossings.
+
+    >>> import ising2d
+    >>> points, bonds = [(0, 0), (1, 1), (0, 1), (1, 0)], [(0, 1), (2, 3)]
+    >>> try:
+    ...     ising2d.Graph.from_points(points, bonds, [1, 1])
+    ... except ising2d.NotPlanar as refusal:
+    ...     print(refusal.sentence)
+    bonds 0 and 1 cross (allowed: a drawing without crossings)
+    """
+
+
+class NoSeam(Refusal):
+    """A wall is asked for, and the seam is empty.
+
+    >>> import ising2d
+    >>> try:
+    ...     ising2d.wall("square", 1, 2, [1])
+    ... except ising2d.NoSeam as refusal:
+    ...     print(refusal.number)
+    16
+    """
+
+
+class UnknownLaw(Refusal):
+    """No law of disorder has this name.
+
+    >>> import ising2d
+    >>> try:
+    ...     ising2d.draw("normal", 1, "square", 2, 2)
+    ... except ising2d.UnknownLaw as refusal:
+    ...     print(refusal.value)
+    'normal'
+    """
+
+
+class BadTerminals(Refusal):
+    """Terminals or a graph that have no join: an odd number, a node twice, or two components.
+
+    >>> import ising2d
+    >>> try:
+    ...     ising2d.tjoin(2, [(0, 1, 5)], [0])
+    ... except ising2d.BadTerminals as refusal:
+    ...     print(refusal.name)
+    OddTerminals
+    """
+
+
+class NoProofFound(RuntimeError):
+    """``ground`` or ``wall`` of a graph above the limits of the program: the solver found no proof within
+    the memory that is allowed, 4 GiB for the tables of a matching. The instance is fit; no answer is
+    given, since none would be proved. It was never seen.
+
+    >>> import ising2d
+    >>> issubclass(ising2d.NoProofFound, ising2d.Refusal)
+    False
+    """
+
+
+class LibraryMissing(ImportError):
+    """The shared library is not there, or is another one. It is loaded at the first call.
+
+    >>> import ising2d
+    >>> issubclass(ising2d.LibraryMissing, ImportError)
+    True
+    """
+
+
+_CODES = RefusalCode
+_CLASSES: Dict[int, Type[Refusal]] = {
+    **dict.fromkeys((_CODES.TOO_LONG, _CODES.TOO_MANY_SPINS, _CODES.TOO_MANY_BONDS), TooLarge),
+    **dict.fromkeys((_CODES.SUM_TOO_LARGE, _CODES.JSON_TOO_LONG), TooLarge),
+    **dict.fromkeys((_CODES.UNENDED, _CODES.BAD_NUMBER, _CODES.UNKNOWN_KIND), BadText),
+    **dict.fromkeys((_CODES.BAD_SHAPE, _CODES.TRAILING, _CODES.BAD_JSON), BadText),
+    **dict.fromkeys((_CODES.COUPLING_COUNT, _CODES.SELF_BOND, _CODES.BAD_ROTATION), BadInstance),
+    **dict.fromkeys((_CODES.BAD_SEAM, _CODES.BAD_MEMBER), BadInstance),
+    **dict.fromkeys((_CODES.ODD_TERMINALS, _CODES.BAD_TERMINAL, _CODES.NOT_JOINED), BadTerminals),
+    _CODES.NOT_PLANAR: NotPlanar,
+    _CODES.NO_SEAM: NoSeam,
+    _CODES.UNKNOWN_LAW: UnknownLaw,
+}
 
 
 def numbers_of(line: str) -> Tuple[int, ...]:

@@ -1,0 +1,151 @@
+"""Threads: calls that hear Ctrl-C, and many calls side by side."""
+
+from __future__ import annotations
+
+import os
+import queue
+import threading
+from typing import Any, Callable, Dict, Generic, Iterable, Iterator, List, Optional, Tuple, TypeVar
+
+from ._arrays import whole
+from ._types import Whole
+
+Item = TypeVar("Item")
+Result = TypeVar("Result")
+
+# Up to so many spins a call for one ground state, and for one of each bond, takes no time in which anybody
+# would press Ctrl-C.
+ONE_STATE, MANY_STATES = 2048, 48
+
+_MOST_THREADS = 1024
+
+
+def interruptible(long: bool, call: Callable[..., Result], *arguments: Any) -> Result:
+    """What the call returns, or raises; ``long`` is whether it may take long.
+
+    Python tells a signal to the main thread alone, and only when no call of the library holds it. So
+    a call that may take long is made in a thread of its own, while the main thread waits. An interrupt
+    ends the waiting at once; the call goes on to its end, with nobody to take its result, and does not
+    hold up the end of the process.
+    """
+    if not long or threading.current_thread() is not threading.main_thread():
+        return call(*arguments)
+    task = _Task(call, arguments)
+    threading.Thread(target=task.work, daemon=True).start()
+    task.done.wait()
+    return task.result()
+
+
+class _Task(Generic[Result]):
+    """A call, and what it returned or raised."""
+
+    def __init__(self, call: Callable[..., Result], arguments: Tuple[Any, ...]) -> None:
+        self.call, self.arguments = call, arguments
+        self.done = threading.Event()
+        self.returned: List[Result] = []
+        self.raised: List[BaseException] = []
+
+    def work(self) -> None:
+        try:
+            self.returned.append(self.call(*self.arguments))
+        except BaseException as fault:  # whatever it is, it is raised again where it is waited for
+            self.raised.append(fault)
+        finally:
+            self.done.set()
+
+    def result(self) -> Result:
+        if self.raised:
+            raise self.raised[0]
+        return self.returned[0]
+
+
+def in_order(
+    call: Callable[[Item], Result], items: Iterable[Item], threads: Optional[Whole] = None
+) -> Iterator[Result]:
+    """What the call returns for each item, in the order of the items, by as many threads as there are
+    processors or as are asked for. The first that raises ends it, with what it raised. Items are taken
+    as they are needed, so there may be no end of them.
+
+    >>> list(in_order(abs, [-1, 2, -3], threads=2))
+    [1, 2, 3]
+    """
+    count = _thread_count(threads)
+    crew: _Crew[Item, Result] = _Crew(call, items, count)
+    try:
+        yield from crew.results()
+    finally:
+        crew.stop()
+
+
+def _thread_count(threads: Optional[Whole]) -> int:
+    if threads is None:
+        # Fewer than the machine has, if a queue gave this process a part of them.
+        return len(os.sched_getaffinity(0)) if hasattr(os, "sched_getaffinity") else os.cpu_count() or 1
+    number = whole(threads, "threads")
+    if not 1 <= number <= _MOST_THREADS:
+        raise ValueError(f"threads is {number} (allowed: 1 to {_MOST_THREADS})")
+    return number
+
+
+class _Crew(Generic[Item, Result]):
+    """Threads that take items from one source."""
+
+    def __init__(self, call: Callable[[Item], Result], items: Iterable[Item], count: int) -> None:
+        self.call, self.source = call, enumerate(items)
+        self.taking = threading.Lock()
+        self.ahead = threading.Semaphore(4 * count)
+        self.stopped = False
+        self.finished: queue.SimpleQueue[Tuple[int, bool, Any]] = queue.SimpleQueue()
+        self.working = count
+        for _ in range(count):
+            threading.Thread(target=self._work, daemon=True).start()
+
+    def _work(self) -> None:
+        """Takes items until there are none; at last it says so, by a place below 0."""
+        try:
+            while self._one():
+                pass
+        except BaseException as fault:  # the source itself failed
+            self.finished.put((-1, False, fault))
+        else:
+            self.finished.put((-1, True, None))
+
+    def _one(self) -> bool:
+        self.ahead.acquire()
+        with self.taking:
+            taken = None if self.stopped else next(self.source, None)
+        if taken is None:
+            self.ahead.release()
+            return False
+        place, item = taken
+        try:
+            self.finished.put((place, True, self.call(item)))
+        except BaseException as fault:  # it is raised again where its result is asked for
+            self.finished.put((place, False, fault))
+        return True
+
+    def results(self) -> Iterator[Result]:
+        early: Dict[int, Tuple[bool, Any]] = {}
+        awaited = 0
+        while self.working or early:
+            if awaited in early:
+                good, value = early.pop(awaited)
+                if not good:
+                    raise value
+                awaited += 1
+                self.ahead.release()
+                yield value
+                continue
+            place, good, value = self.finished.get()
+            if place >= 0:
+                early[place] = good, value
+            elif good:
+                self.working -= 1
+            else:
+                raise value
+
+    def stop(self) -> None:
+        """No item is taken from now on. Calls that are under way go on to their ends."""
+        self.stopped = True
+        for _ in range(self.working):
+            self.ahead.release()
