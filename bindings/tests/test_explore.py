@@ -15,7 +15,7 @@ import time
 import unittest
 
 import ising2d
-from ising2d._explore import _laws, _requests
+from ising2d._explore import _requests
 from ising2d._explore._server import MOST_BYTES, Fault, Server, Solvers, Start
 from ising2d._explore._shapes import faces_of
 
@@ -220,23 +220,12 @@ class Limits(unittest.TestCase):
 
 class Answers(unittest.TestCase):
     def test_laws_are_those_of_the_package(self):
-        for law in ("pm", "uniform", "one", "alternate"):
+        for law in _requests.UNITS:
+            p = 0.25 if law in ("negative", "diluted") else None
             for kind in KINDS:
-                found = shown(kind, 4, 5, law, str(2**64 - 3))["instance"]
-                self.assertEqual(
-                    found["couplings"], ising2d.draw(law, 2**64 - 3, kind, 4, 5).couplings.tolist(), law
-                )
-
-    def test_laws_of_its_own(self):
-        drawn = _laws.drawn("gaussian", 1, 20000)
-        mean = sum(drawn) / len(drawn) / 2**20
-        variance = sum(value**2 for value in drawn) / len(drawn) / 2**40
-        self.assertLess(abs(mean), 0.03)
-        self.assertLess(abs(variance - 1), 0.05)
-        for share in (0, 130, 1000):
-            for law, value in (("negative", -1), ("diluted", 0)):
-                found = _laws.drawn(law, 1, 20000, share)
-                self.assertLess(abs(found.count(value) / 20000 - share / 1000), 0.012)
+                found = shown(kind, 4, 5, law, str(2**64 - 3), share=250)["instance"]
+                lattice = ising2d.draw(law, 2**64 - 3, kind, 4, 5, p)
+                self.assertEqual(found["couplings"], list(lattice.couplings), law)
 
     def test_a_ground_state_with_both_proofs(self):
         for kind in KINDS:

@@ -184,8 +184,16 @@ def _parser() -> argparse.ArgumentParser:
     picture.add_argument("--show", choices=("ground", "clusters", "wall"), default="ground")
     _files(picture)
     _bundle_words(commands)
-    _page(commands)
+    _page_words(commands)
     return parser
+
+
+def _page_words(commands: Any) -> None:
+    study = _Study("a page in the browser that shows an instance and its proof", "python3 -m ising2d {0}")
+    own = _command(commands, "explore", study, _INSTANCE_FORM)
+    own.add_argument("file", nargs="?", metavar="FILE", help="an instance, or a link that the page gave")
+    own.add_argument("--port", type=_port, default=8254, metavar="N", help="the port (8254); 0: any free one")
+    own.add_argument("--no-browser", action="store_true", help="only print the address")
 
 
 def _bundle_words(commands: Any) -> None:
@@ -203,14 +211,6 @@ def _bundle_words(commands: Any) -> None:
     own.add_argument("--count", type=_count, default=10, metavar="N", help="so many instances (10)")
     own.add_argument("--p", type=float, default=None, metavar="P", help="the probability of a law that has one")
     own.add_argument("--nest", action="store_true", help="nests as proofs, also of small instances")
-
-
-def _page(commands: Any) -> None:
-    study = _Study("a page in the browser that shows an instance and its proof", "python3 -m ising2d {0}")
-    own = _command(commands, "explore", study, _INSTANCE_FORM)
-    own.add_argument("file", nargs="?", metavar="FILE", help="an instance, or a link that the page gave")
-    own.add_argument("--port", type=_port, default=8254, metavar="N", help="the port (8254); 0: any free one")
-    own.add_argument("--no-browser", action="store_true", help="only print the address")
 
 
 def _command(commands: Any, name: str, study: _Study, form: str = "") -> argparse.ArgumentParser:
@@ -236,17 +236,17 @@ def _count(text: str) -> int:
     return int(text)
 
 
+def _port(text: str) -> int:
+    if not (text.isascii() and text.isdecimal()) or int(text) > 65535:
+        raise argparse.ArgumentTypeError(f"{text!r} is no port (allowed: 0 to 65535)")
+    return int(text)
+
+
 def _standard_input() -> BinaryIO:
     """Standard input. One that is closed is a failed one."""
     if sys.stdin is None:
         raise OSError("standard input is closed")
     return sys.stdin.buffer
-
-
-def _port(text: str) -> int:
-    if not (text.isascii() and text.isdecimal()) or int(text) > 65535:
-        raise argparse.ArgumentTypeError(f"{text!r} is no port (allowed: 0 to 65535)")
-    return int(text)
 
 
 def _input(name: str) -> bytes:
@@ -469,12 +469,12 @@ def _answered(options: argparse.Namespace) -> int:
     program."""
     if options.command == "bundle":
         return _bundle(options)
-    if options.command in _DRAWN:
-        return _draw(options.command, [getattr(options, word) for word in _DRAWN[options.command][0]])
     if options.command == "explore":
         from ._explore import explore
 
         return explore(options.file, options.port, not options.no_browser)
+    if options.command in _DRAWN:
+        return _draw(options.command, [getattr(options, word) for word in _DRAWN[options.command][0]])
     names: List[str] = options.files or ["-"]
     if options.command == "lines":
         return _lines(options, names)

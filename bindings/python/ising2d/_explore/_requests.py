@@ -3,12 +3,13 @@ carries its whole instance, so nothing is kept from one to the next."""
 
 import json
 import time
+from fractions import Fraction
 from typing import Any, Callable, Dict, Optional, Sequence
 
 from .. import Graph, Instance, Lattice, Verdict, read
+from .. import draw as drawn
 from ._droplets import forced
 from ._exports import FORMS, NEST, exported
-from ._laws import LAWS, drawn
 from ._shapes import shape_of
 
 Object = Dict[str, Any]
@@ -16,6 +17,9 @@ Object = Dict[str, Any]
 KINDS = ("square", "triangular", "hexagonal", "cylinder")
 MOST_SIDE, MOST_SPINS, MOST_BONDS = 100, 100 * 100, 3 * 100 * 100
 _MOST_SEED = 2**64 - 1
+# What one is, of each law, in units of the couplings; and the laws that have a share of bonds.
+UNITS = {"pm": 1, "negative": 1, "diluted": 1, "gaussian": 2**20, "uniform": 2**20, "one": 1, "alternate": 1}
+_SHARED = ("negative", "diluted")
 
 
 class Members:
@@ -87,12 +91,12 @@ def draw(given: Object) -> Object:
     """A drawn lattice, with where its parts lie."""
     own = Members(given, ("kind", "rows", "cols", "law", "seed", "share"))
     kind: Any = own.one_of("kind", KINDS)
-    law = own.one_of("law", tuple(LAWS))
+    law = own.one_of("law", tuple(UNITS))
     least = {"hexagonal": 2, "cylinder": 3}.get(kind, 1)
     rows, cols = own.whole("rows", 1, MOST_SIDE), own.whole("cols", least, MOST_SIDE)
     seed, share = own.whole("seed", 0, _MOST_SEED), own.whole("share", 0, 1000, 500)
-    count = len(Lattice(kind, rows, cols, []).ends())
-    return _shown(Lattice(kind, rows, cols, drawn(law, seed, count, share)), LAWS[law].unit)
+    probability = Fraction(share, 1000) if law in _SHARED else None
+    return _shown(drawn(law, seed, kind, rows, cols, probability), UNITS[law])
 
 
 def opened(given: Object) -> Object:
