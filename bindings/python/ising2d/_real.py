@@ -109,7 +109,7 @@ class RealCosts:
 
     >>> import ising2d
     >>> found = ising2d.Lattice.from_real("square", 1, 3, [0.5, 0.0]).real_costs()
-    >>> found.values.tolist(), found.rigid.tolist()
+    >>> list(map(float, found.values)), list(map(bool, found.rigid))
     ([1.0, 0.0], [True, False])
     """
 
