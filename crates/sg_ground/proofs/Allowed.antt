@@ -42,8 +42,7 @@ part_exceeds inst good parts are i p l same most =
 part_small : (inst own : Ising) → IsWholeOrPart inst own → (own.n ≤ inst.n) × (bond_count own ≤ bond_count inst)
 part_small inst own (inl same) = (omega (arith, ap (λ (i : Ising). i.n) same), omega (arith, ap bond_count same))
 part_small inst own (inr (least, part, is, same)) =
-    let share = share_of_part inst least part is in
-    (
+    let share = share_of_part inst least part is in (
       omega (arith, ap (λ (i : Ising). i.n) same, share.spin_count, rising_few inst.n part.spins share.spins_below share.spins_rise),
       omega (arith, ap bond_count same, share.bond_counts, rising_few (bond_count inst) part.bonds share.bonds_below share.bonds_rise),
     )
@@ -67,5 +66,8 @@ program_fits inst few_spins few_bonds exceeds =
 -- and ever less than 2^64 bytes
 pub all_fit : (inst : Ising) → TablesExceed (2 ^ 64 - 1) inst → ⊥
 all_fit inst exceeds =
-    omega (arith, exceed_bounded (2 ^ 64 - 1) (2 ^ 24) exceeds.own exceeds.planar exceeds.exceed
-    (faces_fit exceeds.own exceeds.planar exceeds.connected))
+    omega (
+      arith,
+      exceed_bounded (2 ^ 64 - 1) (2 ^ 24) exceeds.own exceeds.planar exceeds.exceed
+          (faces_fit exceeds.own exceeds.planar exceeds.connected),
+    )

@@ -37,11 +37,7 @@ pub fn dual_of(alloc: Global, planar: &Planar) -> Result<(Web, Terminals), NoMem
 
 /// A least join of the frustrated faces of a connected instance, its weight, and a nest that proves it,
 /// where one was found.
-pub fn weighed_join(
-    alloc: Global,
-    planar: &Planar,
-    most_bytes: u64,
-) -> Result<LeastJoin, Unproved>
+pub fn weighed_join(alloc: Global, planar: &Planar, most_bytes: u64) -> Result<LeastJoin, Unproved>
     requires connected { IsConnected planar.now.instance }
     ensures join { IfOk result (λ j. IsWeighedJoin planar.now j.edges j.weight) }
     ensures proves { IfOk result (λ j. IfSome j.nest (NestProves

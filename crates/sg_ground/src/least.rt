@@ -32,11 +32,7 @@ pub fn least_energy(alloc: Global, planar: &Planar) -> Result<i64, NoMemory>
 
 /// The energy of [`least_energy`], where the tables of the matching fallback may take `most_bytes` for
 /// each component.
-pub fn least_energy_within(
-    alloc: Global,
-    planar: &Planar,
-    most_bytes: u64,
-) -> Result<i64, Unproved>
+pub fn least_energy_within(alloc: Global, planar: &Planar, most_bytes: u64) -> Result<i64, Unproved>
     ensures least { IfOk result (IsLeastEnergy planar.now.instance) }
     ensures size { IfOk result (λ e. unsigned_abs e ≤ weight planar.now.instance) }
     ensures too_large { IfErr result (IfTooLarge (TablesExceed most_bytes planar.now.instance)) }

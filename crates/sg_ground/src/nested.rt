@@ -72,11 +72,7 @@ fn nested(alloc: Global, planar: &Planar, most_bytes: u64) -> Result<NestedState
 
 // The state of an instance of several components, with a nest over the faces of all of them, where that
 // proves it.
-fn nested_apart(
-    alloc: Global,
-    planar: &Planar,
-    most_bytes: u64,
-) -> Result<NestedState, Unproved>
+fn nested_apart(alloc: Global, planar: &Planar, most_bytes: u64) -> Result<NestedState, Unproved>
     ensures state { IfOk result (λ a. IsNestedState planar.now a.spins a.energy a.nest) }
     ensures too_large { IfErr result (IfTooLarge (TablesExceed most_bytes planar.now.instance)) }
     ensures planar { IsPlanar planar.now }

@@ -8,20 +8,16 @@ ghost use Rattle.sg_ground.specs.Allowance.{FacesExceed};
 ghost use Rattle.sg_ground.specs.Solution.{IsSolution};
 ghost use Rattle.sg_ground.specs.TightJoin.{IsTightJoin};
 
+use super::Answer;
 use super::joins::dual_of;
 use super::loops::cut_loops;
-use super::Answer;
 use sg_planar::{Planar, spin_walk};
 use sg_tjoin::{Join, Unproved, least_join_within};
 use std::alloc::Global;
 
 // A ground state of a connected instance: the broken bonds are a least join of the frustrated faces,
 // and the odd cuts that prove the join are the loops.
-pub fn solve_part(
-    alloc: Global,
-    planar: &Planar,
-    most_bytes: u64,
-) -> Result<Answer, Unproved>
+pub fn solve_part(alloc: Global, planar: &Planar, most_bytes: u64) -> Result<Answer, Unproved>
     requires connected { IsConnected planar.now.instance }
     ensures solution { IfOk result (λ a. IsSolution planar.now.instance a.spins a.energy a.loops) }
     ensures too_large { IfErr result (IfTooLarge (FacesExceed most_bytes planar.now)) }

@@ -47,11 +47,7 @@ pub fn solve(alloc: Global, planar: &Planar) -> Result<Answer, NoMemory>
 
 /// The answer of [`solve`], where the tables of the matching fallback may take `most_bytes` for each
 /// component.
-pub fn solve_within(
-    alloc: Global,
-    planar: &Planar,
-    most_bytes: u64,
-) -> Result<Answer, Unproved>
+pub fn solve_within(alloc: Global, planar: &Planar, most_bytes: u64) -> Result<Answer, Unproved>
     ensures proves { IfOk result
         (λ a. Proves planar.now.instance a.spins a.energy a.loops) }
     ensures short { IfOk result (λ a. IsShort planar.now.instance a.loops) }

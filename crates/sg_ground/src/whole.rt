@@ -14,11 +14,7 @@ use std::alloc::Global;
 
 /// The ground state that breaks just a least join of the frustrated faces, with the nest that proves the
 /// join, where one was found.
-pub fn whole_state(
-    alloc: Global,
-    planar: &Planar,
-    most_bytes: u64,
-) -> Result<NestedState, Unproved>
+pub fn whole_state(alloc: Global, planar: &Planar, most_bytes: u64) -> Result<NestedState, Unproved>
     requires connected { IsConnected planar.now.instance }
     ensures state { IfOk result (λ a. IsNestedState planar.now a.spins a.energy a.nest) }
     ensures too_large { IfErr result (IfTooLarge (FacesExceed most_bytes planar.now)) }

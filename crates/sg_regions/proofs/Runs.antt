@@ -17,7 +17,8 @@ sum m n x a b c most first second e = omega (arith, first, second, e, min-le_lef
 pub keeps_to_more : (m n terminals places : ℕ) (g : Growth) → m ≤ n → KeepsTo m terminals places g → KeepsTo n terminals places g
 keeps_to_more m n terminals places g less keeps = record {
   blossoms = more m n (growth_limit terminals) g.blossoms less keeps.blossoms;
-  events = more m n (event_limit terminals places) g.events less keeps.events }
+  events = more m n (event_limit terminals places) g.events less keeps.events;
+}
 
 -- runs, and runs after them
 pub keeps_to_and : (m n terminals places : ℕ) (first second both : Growth) →
@@ -26,4 +27,5 @@ pub keeps_to_and : (m n terminals places : ℕ) (first second both : Growth) →
     both.events ≡ min (first.events + second.events) (2 ^ 64 - 1) → KeepsTo (m + n) terminals places both
 keeps_to_and m n terminals places first second both one other blossoms events = record {
   blossoms = sum m n (growth_limit terminals) first.blossoms second.blossoms both.blossoms _ one.blossoms other.blossoms blossoms;
-  events = sum m n (event_limit terminals places) first.events second.events both.events _ one.events other.events events }
+  events = sum m n (event_limit terminals places) first.events second.events both.events _ one.events other.events events;
+}

@@ -35,11 +35,7 @@ pub fn wall(alloc: Global, planar: &Planar) -> Result<WallAnswer, NoMemory>
 
 /// The energies of [`wall`], where the tables of the matching fallback may take `most_bytes` for each
 /// component.
-pub fn wall_within(
-    alloc: Global,
-    planar: &Planar,
-    most_bytes: u64,
-) -> Result<WallAnswer, Unproved>
+pub fn wall_within(alloc: Global, planar: &Planar, most_bytes: u64) -> Result<WallAnswer, Unproved>
     ensures wall { IfOk result
         (λ w. IsWall planar.now.instance w.periodic w.antiperiodic w.difference) }
     ensures no_seam { IfOk result (λ w. planar.now.instance.seam ≡ [] → w.difference ≡ pos 0) }

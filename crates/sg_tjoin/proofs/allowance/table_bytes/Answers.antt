@@ -9,8 +9,14 @@ overflow_mul-result-2 c =
 
 pub overflow_add-result : goal.overflow_add-result
 overflow_add-result c =
-    omega (arith, few_terminals c.args.web.now c.args.terminals.now c.requires, c.edges-edges.ensures.web.few_nodes, c.len-count.ensures,
-    c.from-nodes.ensures, c.nodes.ensures.value)
+    omega (
+      arith,
+      few_terminals c.args.web.now c.args.terminals.now c.requires,
+      c.edges-edges.ensures.web.few_nodes,
+      c.len-count.ensures,
+      c.from-nodes.ensures,
+      c.nodes.ensures.value,
+    )
 
 pub overflow_mul-result-3 : goal.overflow_mul-result-3
 overflow_mul-result-3 c =
