@@ -6,9 +6,12 @@
 //!   parts at once.
 //! - [`Contact`] is where two regions touch, and [`Step`] a step up a tree.
 //! - [`Reach`] is how far a region reaches, and [`Role`] whether it grows, gives way or rests.
-//! - [`Work`] counts what is done, against what is allowed.
+//! - [`Work`] counts what is done, against what is allowed, and [`Growth`] has the counts that are handed out: of
+//!   blossoms that were made and taken apart, and of events.
+//! - [`Limit`] is a limit on both that the type of a forest names. The list of blossoms keeps their count under an
+//!   invariant, so whatever is done to a forest keeps to its limit, and callers get the bound from the type.
 //!
-//! For the next engineer: nothing is promised of any value here, since whoever uses them has what comes
+//! For the next engineer: nothing else is promised of any value here, since whoever uses them has what comes
 //! of it judged. Each function has only to be safe and to return. Lists are cleared and used again, not made
 //! anew. The only error is want of memory.
 #![tactic(auto)]
