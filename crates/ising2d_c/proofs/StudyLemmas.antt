@@ -1,5 +1,5 @@
 -- Why a study has no answer: a solver's error, and which graphs may have tables that exceed what is allowed.
-use Rattle.std.proofs.Common.{absurd, inl, inr, ◌≡◌, ◌⊎◌, ℕ, ◌<◌, ◌≤◌, None, Some, Option, List, length, ap, arith, ◌∙◌}
+use Rattle.std.proofs.Common.{inl, inr, ◌≡◌, ◌⊎◌, ℕ, ◌<◌, ◌≤◌, None, Some, Option, List, [], length, ap, arith, ◌∙◌}
 use Rattle.std.proofs.lemmas.Bool.{cases_lt}
 use Rattle.std.proofs.lemmas.List.FromFn.{length-map-range_with_len}
 use Rattle.sg_limits.specs.Limits.{bond_limit, spin_limit, table_limit}

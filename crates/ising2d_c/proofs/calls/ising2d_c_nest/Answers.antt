@@ -38,6 +38,6 @@ returns-in-Ok-clause-found c = λ done.
       };
     })
 
-pub returns-in-Err-in-TablesTooLarge-clause-large : goal.returns-in-Err-in-TablesTooLarge-clause-large
-returns-in-Err-in-TablesTooLarge-clause-large c = λ done.
+pub returns-in-Err-TablesTooLarge-clause-large : goal.returns-in-Err-TablesTooLarge-clause-large
+returns-in-Err-TablesTooLarge-clause-large c = λ done.
     large_only large_limits (numbers c.args.n c.args.ends.now c.args.couplings.now c.args.dart_starts.now c.args.darts.now c.args.seam.now) (search rules)

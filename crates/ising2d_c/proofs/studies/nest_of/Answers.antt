@@ -1,4 +1,4 @@
-use Rattle.std.proofs.Common.{inl, tt, sym, refl}
+use Rattle.std.proofs.Common.{inl, sym, refl}
 use Rattle.std.proofs.lemmas.Result.{err_from_is_err_and}
 use Rattle.sg_limits.specs.Limits.{table_limit}
 use Rattle.sg_draft.specs.Limits.{large_limits}
@@ -29,7 +29,7 @@ returns-clause-gives c =
 
 pub returns-in_err-state-clause-refuses : goal.returns-in_err-state-clause-refuses
 returns-in_err-state-clause-refuses c =
-    let p = err_from_is_err_and c.from_residual.result c.from_residual.ensures.1 in
+    let p = err_from_is_err_and c.from_residual-in_err-state.result c.from_residual-in_err-state.ensures.1 in
     rw (p.1, p.2) (
     by_solver large_limits (numbers_of c.args.given.now) c.in_ok-planar.planar.instance (rw c.large.ensures.value at c.in_ok-planar.ensures.gives)
     (IsFitFault large_limits (numbers_of c.args.given.now)) (inl tt) (TablesExceed table_limit) c.in_err-state.field-0.0 c.in_err-state.ensures.too_large)

@@ -1,4 +1,4 @@
-use Rattle.std.proofs.Common.{inl, tt}
+use Rattle.std.proofs.Common.{inl}
 use Rattle.std.proofs.lemmas.Result.{err_from_is_err_and}
 use Rattle.sg_limits.specs.Limits.{table_limit}
 use Rattle.sg_draft.specs.Limits.{large_limits}
@@ -9,7 +9,7 @@ use Rattle.ising2d_c.proofs.studies.wall_of.Goals as goal
 
 pub returns-in_err-wall_within-clause-refuses : goal.returns-in_err-wall_within-clause-refuses
 returns-in_err-wall_within-clause-refuses c =
-    let p = err_from_is_err_and c.from_residual.result c.from_residual.ensures.1 in
+    let p = err_from_is_err_and c.from_residual-in_err-wall_within.result c.from_residual-in_err-wall_within.ensures.1 in
     rw (p.1, p.2) (
     by_solver large_limits (numbers_of c.args.given.now) c.in_ok-planar.planar.instance (rw c.large.ensures.value at c.in_ok-planar.ensures.gives)
     (IsWallFault large_limits (numbers_of c.args.given.now)) (inl (inl tt)) (WallTablesExceed table_limit) c.in_err-wall_within.field-0.0
