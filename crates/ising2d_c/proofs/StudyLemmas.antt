@@ -1,14 +1,12 @@
 -- Why a study has no answer: a solver's error, and which graphs may have tables that exceed what is allowed.
-use Rattle.std.proofs.Common.{inl, inr, ◌≡◌, ◌⊎◌, ℕ, ◌<◌, ◌≤◌, None, Some, Option, List, [], length, ap, arith, ◌∙◌}
+use Rattle.std.proofs.Common.{inl, inr, ◌≡◌, ◌⊎◌, ℕ, ◌<◌, ◌≤◌, None, Some, Option, [], length, ap, arith}
 use Rattle.std.proofs.lemmas.Bool.{cases_lt}
 use Rattle.std.proofs.lemmas.List.FromFn.{length-map-range_with_len}
 use Rattle.sg_limits.specs.Limits.{bond_limit, spin_limit, table_limit}
 use Rattle.sg_model.specs.Changes.{flipped_at, with_seam_flipped}
 use Rattle.sg_model.specs.Ising.{Ising, bond_count}
-use Rattle.sg_model.specs.declared.bond.Bond.{Bond}
 use Rattle.sg_model.specs.declared.refusal.Fault.{Fault}
 use Rattle.sg_model.specs.declared.refusal.Fault.TheVariants.{NoMemory}
-use Rattle.sg_draft.specs.Draft.{drafted}
 use Rattle.sg_draft.specs.Reads.{unless, value_or}
 use Rattle.sg_draft.specs.declared.limits.Limits.{Limits}
 use Rattle.sg_tjoin.specs.Allowance.{IfTooLarge}
@@ -17,7 +15,7 @@ use Rattle.sg_tjoin.specs.declared.allowance.Unproved.TheVariants as unproved
 use Rattle.sg_ground.specs.Allowance.{TablesExceed}
 use Rattle.sg_ground.proofs.Allowed.{program_fits}
 use Rattle.sg_wall.specs.Wall.{WallTablesExceed}
-use Rattle.ising2d_c.specs.Graphs.{bond_by, bonds_by, Finds, graph_draft, IsFitGraph, IsUnanswered, Numbers, unanswered_by, wrong_bond}
+use Rattle.ising2d_c.specs.Graphs.{bond_by, bonds_by, Finds, IsFitGraph, IsUnanswered, Numbers, unanswered_by, wrong_bond}
 
 module _ (most : Limits) (g : Numbers) where
   -- a solver's error, where a fault may be that no memory was left
