@@ -269,7 +269,15 @@ fn drawn_squares(alloc: Global, draws: &mut Pcg32) -> Result<String, AllocError>
     Ok(text)
 }
 
-// One nest over the faces of two large components proves their ground state.
+// Whether a nest over the faces of all components proves the ground state.
+fn has_whole_nest(alloc: Global, planar: &Planar) -> Result<bool, AllocError> {
+    let energy = solve(alloc, planar)?.energy;
+    match nested_state(alloc, planar, u64::MAX) {
+        Ok(state) => Ok(state.energy == energy && state.nest.is_some()),
+        Err(_) => Ok(false),
+    }
+}
+
 #[test]
 fn large_components(rt: HostRuntime) -> Result<(), Fail> {
     let mut draws = Pcg32::new(44, 54);
@@ -278,8 +286,6 @@ fn large_components(rt: HostRuntime) -> Result<(), Fail> {
     let Ok(planar) = Planar::new(rt.alloc(), inst) else {
         return Err(Fail::new("the instance is planar"));
     };
-    let state = nested_state(rt.alloc(), &planar)?;
-    assert_eq!(rt; state.energy, solve(rt.alloc(), &planar)?.energy);
-    assert!(rt; state.nest.is_some());
+    assert!(rt; has_whole_nest(rt.alloc(), &planar)?);
     Ok(())
 }

@@ -7,11 +7,11 @@ ghost use Rattle.sg_ground.specs.Nested.{FitsWeb};
 ghost use Rattle.sg_regions.specs.Places.{place_count};
 
 use super::least::{drawn_triangles, instance};
-use super::webs::drawn_grid;
+use super::webs::{drawn_grid, network_of};
 use rand_pcg::Pcg32;
 use sg_graph::{Terminals, Web};
-use sg_graph_text::{Network, read_network};
-use sg_ground::{ground_state, nest_by};
+use sg_graph_text::Network;
+use sg_ground::{State, ground_state, nest_by};
 use sg_join_check::Proposal;
 use sg_planar::Planar;
 use sg_regions::{Grown, NestProposal, Proposer, Regions};
@@ -93,24 +93,40 @@ fn assert_second(rt: &impl Abort, alloc: Global, network: &Network) -> Result<()
 fn second_proposals(rt: HostRuntime) -> Result<(), Fail> {
     let mut draws = Pcg32::new(49, 54);
     let text = drawn_grid(rt.alloc(), 6, 6, 3, &mut draws)?;
-    let Ok(network) = read_network(rt.alloc(), text.as_bytes(), true) else {
-        return Err(Fail::new("the graph is connected"));
-    };
+    let network = network_of(&rt, rt.alloc(), text.as_str())?;
     assert_second(&rt, rt.alloc(), &network)
 }
 
-// The same of a nest over all components.
+// Whether a nest over all components is proposed that proves the state.
+fn has_nest(
+    alloc: Global,
+    planar: &Planar,
+    state: &State,
+    proposer: &Silent,
+) -> Result<bool, AllocError>
+    requires { FitsWeb planar.now.instance }
+{
+    Ok(nest_by(alloc, planar, state, proposer)?.is_some())
+}
+
+// The second nest over all components is taken; and where there is none, there is no nest.
+fn assert_second_nest(rt: &impl Abort, alloc: Global, planar: &Planar) -> Result<(), Fail> {
+    let state = ground_state(alloc, planar)?;
+    let inst = planar.instance();
+    assert!(rt; inst.n() as usize + inst.bonds().len() <= 1 << 24);
+    let with_second = has_nest(alloc, planar, &state, &SECOND)?;
+    let without = has_nest(alloc, planar, &state, &MUTE)?;
+    assert!(rt; with_second && !without);
+    Ok(())
+}
+
 #[test]
 fn second_nests(rt: HostRuntime) -> Result<(), Fail> {
     let mut draws = Pcg32::new(50, 54);
     let text = drawn_triangles(rt.alloc(), 0, &mut draws)?;
     let inst = instance(&rt, rt.alloc(), text.as_str())?;
-    let Ok(planar) = Planar::new(rt.alloc(), inst) else {
-        return Err(Fail::new("the instance is planar"));
-    };
-    let state = ground_state(rt.alloc(), &planar)?;
-    assert!(rt; planar.instance().n() as usize + planar.instance().bonds().len() <= 1 << 24);
-    assert!(rt; nest_by(rt.alloc(), &planar, &state, &SECOND)?.is_some());
-    assert!(rt; nest_by(rt.alloc(), &planar, &state, &MUTE)?.is_none());
-    Ok(())
+    match Planar::new(rt.alloc(), inst) {
+        Ok(planar) => assert_second_nest(&rt, rt.alloc(), &planar),
+        Err(_) => Err(Fail::new("the instance is planar")),
+    }
 }

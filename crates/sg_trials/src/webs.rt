@@ -1,6 +1,6 @@
 // Least joins on drawn webs: what is proposed, beside the matching.
 
-ghost use Rattle.std.specs.Prelude.{◌≤◌};
+ghost use Rattle.std.specs.Prelude.{◌≤◌, IfOk};
 ghost use Rattle.sg_graph_text.specs.Network.{IsNetwork};
 
 use super::proposals::assert_good;
@@ -25,12 +25,20 @@ fn assert_network(rt: &impl Abort, alloc: Global, network: &Network, text: &str)
     Ok(())
 }
 
+// The graph of a text.
+pub(crate) fn network_of(rt: &impl Abort, alloc: Global, text: &str) -> Result<Network, Fail>
+    ensures { IfOk result (λ n. IsNetwork n.web n.terminals) }
+{
+    assert!(rt; text.len() < 200_000);
+    match read_network(alloc, text.as_bytes(), true) {
+        Ok(network) => Ok(network),
+        Err(_) => Err(Fail::new("the graph is connected")),
+    }
+}
+
 // The same for the graph of a text.
 fn assert_proposed(rt: &impl Abort, alloc: Global, text: &str) -> Result<(), Fail> {
-    assert!(rt; text.len() < 200_000);
-    let Ok(network) = read_network(alloc, text.as_bytes(), true) else {
-        return Err(Fail::new("the graph is connected"));
-    };
+    let network = network_of(rt, alloc, text)?;
     assert_network(rt, alloc, &network, text)
 }
 
@@ -132,6 +140,19 @@ fn hubs(rt: HostRuntime) -> Result<(), Fail> {
     Ok(())
 }
 
+// On so many nodes, few blossoms are made, and few events taken.
+fn assert_few_steps(
+    rt: &impl Abort,
+    alloc: Global,
+    network: &Network,
+    nodes: u32,
+) -> Result<(), Fail> {
+    let growth = propose(alloc, &network.web, &network.terminals)?.growth;
+    assert!(rt; growth.blossoms <= 2);
+    assert!(rt; growth.events <= 3 * u64::from(nodes));
+    Ok(())
+}
+
 // Regions that touch one bare node, of no more than 16 arcs, meet there two by two. Were it a wall, all would be proposed
 // too, but each would take the free pair there over, and blossoms would be nested round the node.
 #[test]
@@ -139,12 +160,8 @@ fn bare_nodes(rt: HostRuntime) -> Result<(), Fail> {
     let mut draws = Pcg32::new(53, 54);
     for nodes in [13, 14, 15, 16, 17] {
         let text = drawn_star(rt.alloc(), nodes, false, 1, &mut draws)?;
-        let Ok(network) = read_network(rt.alloc(), text.as_bytes(), true) else {
-            return Err(Fail::new("the graph is connected"));
-        };
-        let growth = propose(rt.alloc(), &network.web, &network.terminals)?.growth;
-        assert!(rt; growth.blossoms <= 2);
-        assert!(rt; growth.events <= 3 * u64::from(nodes));
+        let network = network_of(&rt, rt.alloc(), text.as_str())?;
+        assert_few_steps(&rt, rt.alloc(), &network, nodes)?;
     }
     Ok(())
 }
