@@ -2,6 +2,7 @@
 and how it starts and ends. test_explore_page.py tries the page itself in a browser."""
 
 import base64
+import functools
 import hashlib
 import http.client
 import json
@@ -353,11 +354,14 @@ class Starts(unittest.TestCase):
     """The command itself, in a process of its own."""
 
     def started(self, *words):
+        # A shell has what it starts in the background ignore interrupts, which all below would inherit.
+        heeds = functools.partial(signal.signal, signal.SIGINT, signal.SIG_DFL)
         own = subprocess.Popen(
             [sys.executable, "-m", "ising2d", "explore", "--no-browser", *words],
             stdout=subprocess.PIPE,
             stderr=subprocess.PIPE,
             text=True,
+            preexec_fn=heeds,
         )
         self.addCleanup(own.kill)
         self.addCleanup(own.stdout.close)
