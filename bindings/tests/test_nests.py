@@ -183,6 +183,14 @@ class LargeInstances(unittest.TestCase):
             given.costs()
         self.assertEqual((caught.exception.number, caught.exception.kept), (7, (10000,)))
 
+    def test_a_nest_over_many_bonds(self):
+        """A nest is there, and not loops in its place, where the dual has more than 30,000 edges."""
+        source = random.Random(9)
+        given = ising2d.Lattice("square", 150, 150, [source.choice((-1, 1)) for _ in range(bond_count("square", 150, 150))])
+        found = given.ground()
+        self.assertIsNotNone(found.nest)
+        self.assertTrue(given.check(found.energy, found.spins, nest=found.nest))
+
     def test_loops_of_three_thousand_spins(self):
         source = random.Random(8)
         given = ising2d.Lattice("triangular", 50, 60, [source.choice((-1, 1)) for _ in range(bond_count("triangular", 50, 60))])
