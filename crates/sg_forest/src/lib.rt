@@ -1,19 +1,20 @@
-//! The forest of growing regions: which is a part of which, how far each reaches at a time, and the
-//! alternating trees that they form. It knows of no node and of no edge but by their numbers.
+//! The forest of growing regions: which region is part of which, how far each reaches at a time, and the
+//! alternating trees that they form. It knows nodes and edges only by number.
 //!
-//! - [`Forest`] has the regions. Odd cycles ([`Cycles`]), trees and radii stand in lists of their own behind
-//!   it, and the parts of one blossom are numbered from one base, so that a region that moves moves all its
-//!   parts at once.
+//! - [`Forest`] has the regions. Odd cycles ([`Cycles`]), trees and radii are lists of their own behind
+//!   it, and the parts of one blossom are numbered from one base, so that a region that moves moves all
+//!   its parts at once.
 //! - [`Contact`] is where two regions touch, and [`Step`] a step up a tree.
-//! - [`Reach`] is how far a region reaches, and [`Role`] whether it grows, gives way or rests.
-//! - [`Work`] counts what is done, against what is allowed, and [`Growth`] has the counts that are handed out: of
-//!   blossoms that were made and taken apart, and of events.
-//! - [`Limit`] is a limit on both that the type of a forest names. The list of blossoms keeps their count under an
-//!   invariant, so whatever is done to a forest keeps to its limit, and callers get the bound from the type.
+//! - [`Reach`] is how far a region reaches, and [`Role`] whether it grows, shrinks or rests.
+//! - [`Work`] counts the work done against what is allowed, and [`Growth`] has the counts that are
+//!   returned: of blossoms made and taken apart, and of events.
+//! - [`Limit`] is a limit on both, named by the type of a forest. The list of blossoms keeps their count
+//!   under an invariant, so every operation on a forest keeps to its limit, and callers get the bound
+//!   from the type.
 //!
-//! For the next engineer: nothing else is promised of any value here, since whoever uses them has what comes
-//! of it judged. Each function has only to be safe and to return. Lists are cleared and used again, not made
-//! anew. The only error is want of memory.
+//! For the next engineer: nothing else is promised of any value here, since callers have the result
+//! judged. Each function must only be safe and terminate. Lists are cleared and reused, not made anew.
+//! The only error is running out of memory.
 #![tactic(auto)]
 
 mod blossoms;

@@ -10,7 +10,7 @@ use sg_slots::{copy_list, entry, put_entry, set_entry};
 use std::alloc::Global;
 
 /// The part that a region plays: an outer one grows, an inner one gives way, and a free one, which
-/// stands in no tree, stays as it is. A part of a blossom plays none, and stays as it is too.
+/// is in no tree, stays as it is. A part of a blossom plays none, and stays as it is too.
 #[derive(Clone, Copy, PartialEq, Eq)]
 pub enum Role {
     Outer,

@@ -32,6 +32,18 @@ impl Allowance {
         }
     }
 
+    /// The work allowed to trees that grow in batches, before all grow at once: three times what was measured on the
+    /// duals of drawn lattices.
+    pub fn sliced(terminals: usize, places: u64) -> Allowance
+        ensures blossoms { result.blossoms ≤ growth_limit terminals }
+        ensures work { result.work ≤ event_limit terminals places }
+    {
+        Allowance {
+            blossoms: most_blossoms(terminals),
+            work: places.saturating_mul(24).saturating_add(65536),
+        }
+    }
+
     /// What is allowed before another method is tried: of work, some times what is wanted on the duals of drawn
     /// lattices.
     pub fn brief(terminals: usize, places: u64) -> Allowance

@@ -23,7 +23,7 @@ pub struct Clock {
     regions: Vec<i64>,
 }
 
-// The time that stands there; none is before the first of all.
+// The time that is there; none is before the first of all.
 fn time_at(times: &[i64], place: u32) -> i64 {
     match times.get(place as usize) {
         Some(time) => *time,
@@ -55,10 +55,26 @@ impl Clock {
     /// Time 0 again, at which nothing waits.
     pub fn restart(&mut self) {
         self.now = 0;
-        self.agenda.clear();
+        self.agenda.restart(0);
         self.arcs.fill(NEVER);
         self.hubs.fill(NEVER);
         self.regions.fill(NEVER);
+    }
+
+    /// Sets the time, and forgets all events that wait. Cost: linear in these events.
+    pub fn set(&mut self, now: i64) {
+        for bucket in self.agenda.buckets() {
+            for event in bucket {
+                match event.subject {
+                    Subject::Arc(dart) => set_entry(&mut self.arcs, dart, NEVER),
+                    Subject::Hub(hub) => set_entry(&mut self.hubs, hub, NEVER),
+                    Subject::Region(name) => set_entry(&mut self.regions, name, NEVER),
+                    Subject::Root(_) => {}
+                }
+            }
+        }
+        self.now = now;
+        self.agenda.restart(now);
     }
 
     /// The time.
@@ -120,9 +136,9 @@ impl Clock {
         })
     }
 
-    /// The next event, which is no longer waiting.
-    pub fn pop(&mut self) -> Result<Option<Event>, NoMemory> {
-        self.agenda.pop()
+    /// Takes the next event out, unless it comes after a time.
+    pub fn pop(&mut self, until: i64) -> Result<Option<Event>, NoMemory> {
+        self.agenda.pop(until)
     }
 
     /// Goes on to an event, unless another was entered in its place.

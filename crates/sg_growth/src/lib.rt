@@ -1,17 +1,17 @@
-//! What growing regions keep of the web, and what is left of them in the end: the lists that
-//! `sg_region_engine` works on beside the forest of the regions (`sg_forest`), each by its own rules and
-//! none with a part of the method.
+//! What growing regions keep about the graph, and what is left of them in the end: the lists that
+//! `sg_region_engine` works on beside the forest of the regions (`sg_forest`). Each has its own rules,
+//! and none has a part of the method.
 //!
 //! - [`Adjacency`] has the arcs between nodes, each edge with two darts.
 //! - [`Cover`] tells which region has taken a node, and at which radius.
-//! - [`Clock`] has the time, and what comes next of all that waits: at most one event for each dart, each
-//!   region and each hub. [`Hubs`] orders the arcs at nodes of high degree, so that only the soonest waits.
-//! - [`Nest`] has the finished regions: who took each node and when, and how they lie in one another.
+//! - [`Clock`] has the time and the queue of events: at most one event for each dart, each region and
+//!   each hub. [`Hubs`] orders the arcs at nodes of high degree, so that only the soonest waits.
+//! - [`Nest`] has the finished regions: which region took each node and when, and how they are nested.
 //!
-//! For the next engineer: nothing is promised of any value here, since whoever uses them has what comes
-//! of it judged. Each function has only to be safe and to return: what is read beyond the end of a list is
-//! nothing, what is written there is dropped (`sg_slots`), and sums wrap. Lists are cleared and used again,
-//! not made anew. The only error is want of memory.
+//! For the next engineer: nothing is promised of any value here, since callers have the result judged.
+//! Each function must only be safe and terminate: a read beyond the end of a list gives nothing, a write
+//! there is dropped (`sg_slots`), and sums wrap. Lists are cleared and reused, not made anew. The only
+//! error is running out of memory.
 #![tactic(auto)]
 
 mod adjacency;

@@ -26,7 +26,7 @@ struct Taken {
 }
 
 // A region: what it is a part of, its terminal's node, the node that it took last, where its parts
-// stand in the list of all parts, the largest of them, and its radius.
+// are in the list of all parts, the largest of them, and its radius.
 #[derive(Clone, Copy)]
 struct Finished {
     parent: Slot,

@@ -2,7 +2,7 @@
 use super::Engine;
 use crate::NoMemory;
 use sg_forest::{Contact, End, Limit, Reach, Role};
-use sg_growth::{Arc, Held, Soon, Subject, reverse};
+use sg_growth::{Arc, Held, NEVER, Soon, Subject, reverse};
 
 impl<'a, L: Limit> Engine<'a, L> {
     // The event of an arc: the region at its start takes the node at its end, or meets a region. If
@@ -153,8 +153,11 @@ impl<'a, L: Limit> Engine<'a, L> {
     }
 
     /// Runs until each terminal has a mate. False if that did not come about within the work allowed.
-    /// Arcs are twice as long as their edges weigh. The only error is want of memory.
+    /// Arcs are twice as long as their edges weigh. The only error is running out of memory.
     pub fn run(&mut self) -> Result<bool, NoMemory> {
+        if self.is_sliced {
+            return Ok(self.run_slices()? && self.run_by_method(1)?);
+        }
         for node in self.terminals {
             self.plant(*node)?;
         }
@@ -164,11 +167,16 @@ impl<'a, L: Limit> Engine<'a, L> {
 
     /// Goes on until no tree is left. False if that did not come about within the work allowed.
     pub fn go_on(&mut self) -> Result<bool, NoMemory> {
+        self.go_on_until(NEVER)
+    }
+
+    // Goes on until no tree is left, or to the end of a time. Whether no tree is left.
+    pub(super) fn go_on_until(&mut self, end: i64) -> Result<bool, NoMemory> {
         for _ in 0..self.work.left() {
             if self.unpaired <= self.rests || self.work.left() == 0 {
                 break;
             }
-            let Some(event) = self.clock.pop()? else {
+            let Some(event) = self.clock.pop(end)? else {
                 break;
             };
             if !self.work.take_event() {

@@ -13,7 +13,7 @@ pub struct Exit {
 }
 
 impl<'a, L: Limit> Engine<'a, L> {
-    /// The finished regions. The only error is want of memory.
+    /// The finished regions. The only error is running out of memory.
     pub fn nest(&self) -> Result<Nest, NoMemory> {
         let mut nest = Nest::new(self.alloc, self.arcs.nodes(), self.forest.len())?;
         for name in 0..number(self.forest.len()) {

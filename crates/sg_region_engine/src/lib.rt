@@ -1,23 +1,24 @@
 //! Regions that grow from terminals over a graph until each terminal has a mate: the method.
 //!
 //! The method is Edmonds' (1965) with all alternating trees at once, on the graph itself. Each
-//! *terminal* is the seed of a *region*, a moat in the words of Jünger and Pulleyblank (1993); an arc
-//! between two nodes is as long as its edge weighs twice, and all regions grow at one speed. Where
-//! regions meet, alternating trees arise: *outer* regions grow on, *inner* ones give way, and an odd
-//! cycle of regions grows on as one, a *blossom*. Where two trees meet, both roots are paired. It needs no
-//! distance between terminals.
+//! *terminal* is the seed of a *region*, a moat in the words of Jünger and Pulleyblank (1993). An arc
+//! between two nodes is twice as long as the weight of its edge, and all regions grow at one speed. When
+//! regions meet, alternating trees arise: *outer* regions grow on, *inner* ones shrink, and an odd cycle
+//! of regions grows on as one, a *blossom*. When two trees meet, both roots are paired. The method needs
+//! no distances between terminals.
 //!
-//! For the next engineer: nothing is promised of what it finds, since whoever uses that has it judged.
-//! Each function has only to be safe and to return. The parts of the state have rules of their own: the
-//! forest of the regions (`sg_forest`), and the cover of the nodes, the clock and the hubs' heaps
-//! (`sg_growth`). The one rule between them: where an outer region nears something over an arc, an event
-//! waits at this arc or at its way back, for no later than it comes; of a hub the event is that of its
-//! soonest arc, and of the arcs from one region to a hub the soonest stands for all. The fields are open to
-//! `sg_repairs`, which takes finished regions apart and lets what is left grow on.
+//! For the next engineer: nothing is promised of what it finds, since callers have it judged. Each
+//! function must only be safe and terminate. The parts of the state have rules of their own: the forest
+//! of the regions (`sg_forest`), and the cover of the nodes, the clock and the hubs' heaps
+//! (`sg_growth`). The one rule between them: if an outer region approaches something over an arc, an
+//! event waits at this arc or at its reverse, no later than the contact. The event of a hub is that of
+//! its soonest arc, and the soonest of the arcs from one region to a hub stands for all. The fields are
+//! open to `sg_repairs`, which takes finished regions apart and lets what is left grow on.
 //!
 //! `wake` enters events, `steps` has the steps of the method, `rests` those of the first half of a run,
-//! `open_hubs` those at nodes of high degree until no tree is left, `bare` what happens at bare nodes,
-//! `events` what comes of each event, and `finish` reads the nest and the pairs off.
+//! `open_hubs` those at nodes of high degree until no tree is left, `slices` the choice of the trees that grow
+//! at one time, `bare` the steps at nodes without a region, `events` the effect of each event, and `finish`
+//! reads off the nest and the pairs.
 #![tactic(auto)]
 
 ghost use Rattle.std.specs.Prelude.{◌≤◌};
@@ -28,6 +29,7 @@ mod events;
 mod finish;
 mod open_hubs;
 mod rests;
+mod slices;
 mod steps;
 mod wake;
 
@@ -35,14 +37,18 @@ pub use finish::Exit;
 use open_hubs::has_hub;
 use sg_forest::{Allowance, Forest, Growth, Limit, Link, Reach, Role, Work};
 use sg_growth::{Adjacency, Arc, Clock, Cover, Held, Hubs, NEVER, reverse};
+pub use slices::Batches;
 use std::alloc::{AllocError, Global};
 
 /// The allocator had no memory left.
 pub type NoMemory = AllocError;
 
-/// What becomes of odd cycles.
+/// What becomes of odd cycles, and which trees grow at one time.
 #[derive(Clone, Copy)]
 pub enum Method {
+    /// Cycles grow on as blossoms at once, and trees grow batch by batch, in slices of time, for the caches' sake.
+    /// This is for large graphs in which neighbours have near numbers.
+    InSlices,
     /// They grow on as blossoms at once. On the duals of drawn lattices that is as fast as the other, and
     /// its blossoms are smaller; but only a few steps are allowed for each node.
     AtOnce,
@@ -59,6 +65,7 @@ impl Method {
         ensures work { result.work ≤ event_limit terminals places }
     {
         match self {
+            Method::InSlices => Allowance::sliced(terminals, places),
             Method::AtOnce => Allowance::brief(terminals, places),
             Method::InHalves | Method::InClosedHalves => Allowance::long(terminals, places),
         }
@@ -98,7 +105,11 @@ pub struct Engine<'a, L: Limit> {
     pub is_first: bool,
     /// Whether hubs are open: no region covers one, and a tree that comes to one ends there.
     pub is_open: bool,
-    /// How many cycles of the first half are at rest.
+    /// Whether trees grow in slices of time.
+    pub is_sliced: bool,
+    /// The trees that wait for their batch.
+    pub batches: Batches,
+    /// How many cycles of the first half, or trees that wait for their batch, are at rest.
     pub rests: u32,
     /// How many trees there are, with what is at rest. Where hubs are open, what is paired with one is not among
     /// them.
@@ -110,8 +121,8 @@ pub struct Engine<'a, L: Limit> {
 }
 
 impl<'a, L: Limit> Engine<'a, L> {
-    /// A region for each terminal, none grown yet, and what may be done to them. The only error is want of
-    /// memory.
+    /// A region for each terminal, none grown yet, and what may be done to them. The only error is running
+    /// out of memory.
     ///
     /// Cost: linear in the nodes and arcs.
     pub fn new(
@@ -137,8 +148,10 @@ impl<'a, L: Limit> Engine<'a, L> {
             hubs,
             clock,
             work: Work::new(allowed.work),
-            is_first: !matches!(method, Method::AtOnce),
+            is_first: matches!(method, Method::InHalves | Method::InClosedHalves),
             is_open,
+            is_sliced: matches!(method, Method::InSlices),
+            batches: Batches::new(alloc),
             rests: 0,
             unpaired: 0,
             cycle: Vec::new(alloc),

@@ -5,8 +5,8 @@
 // terminal of a hub waits, paired with its own node. So no blossom holds a hub, none is nested there, and the
 // arcs of a hub are never all looked at.
 //
-// This is exact. The cut of a set of nodes is also that of its complement, so a side without the hub can always
-// be taken, and the parity of a join at one node follows from the parities at all others.
+// This is exact. The cut of a set of nodes is also that of its complement, so a side without the hub can
+// always be taken, and the parity of a T-join at one node follows from the parities at all others.
 //
 // When no tree is left, the hubs are closed: the regions that are paired with one hub all touch its node, and are
 // paired with one another, two by two. If their number is odd, they become one blossom, an odd cycle of radius 0
@@ -89,6 +89,7 @@ impl<'a, L: Limit> Engine<'a, L> {
         let contact = Contact::with_node(own, reverse(own.dart));
         self.forest.flip_pairs(contact, &mut self.work);
         self.unpaired = self.unpaired.saturating_sub(1);
+        self.batches.end(tree);
         self.let_go(tree)
     }
 
@@ -98,6 +99,7 @@ impl<'a, L: Limit> Engine<'a, L> {
         self.forest.flip_pairs(contact, &mut self.work);
         self.forest.set_pair(contact.reversed());
         self.unpaired = self.unpaired.saturating_sub(1);
+        self.batches.end(tree);
         self.let_go(tree)
     }
 

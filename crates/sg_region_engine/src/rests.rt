@@ -55,13 +55,17 @@ impl<'a, L: Limit> Engine<'a, L> {
     // in the first half, where it is a cycle of radius 0, it is taken apart.
     pub(super) fn augment_rest(&mut self, contact: Contact) -> Result<(), NoMemory> {
         let tree = self.forest.tree(self.forest.top(contact.own.terminal));
+        let rest = self.forest.top(contact.other.terminal);
+        self.batches.end(tree);
+        self.batches.end(self.forest.tree(rest));
         self.forest.flip_pairs(contact, &mut self.work);
         if self.is_first {
             self.pair_rest(contact.reversed())?;
-            self.rests = self.rests.saturating_sub(1);
         } else {
+            self.forest.quit_tree(rest);
             self.forest.set_pair(contact.reversed());
         }
+        self.rests = self.rests.saturating_sub(1);
         self.unpaired = self.unpaired.saturating_sub(2);
         self.let_go(tree)
     }

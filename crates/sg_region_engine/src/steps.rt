@@ -47,6 +47,8 @@ impl<'a, L: Limit> Engine<'a, L> {
         let other = self.forest.tree(self.forest.top(contact.other.terminal));
         self.forest.flip_pairs(contact, &mut self.work);
         self.forest.flip_pairs(contact.reversed(), &mut self.work);
+        self.batches.end(own);
+        self.batches.end(other);
         self.let_go(own)?;
         self.let_go(other)?;
         self.unpaired = self.unpaired.saturating_sub(2);
@@ -70,7 +72,7 @@ impl<'a, L: Limit> Engine<'a, L> {
     }
 
     // Makes the members of a tree free, and lists those that were inner.
-    fn free_members(&mut self, tree: u32, inner: &mut Vec<u32>) -> Result<(), NoMemory> {
+    pub(super) fn free_members(&mut self, tree: u32, inner: &mut Vec<u32>) -> Result<(), NoMemory> {
         let mut member = self.forest.dissolve(tree);
         for _ in 0..self.forest.len() {
             let Some(name) = member else {
@@ -205,7 +207,7 @@ impl<'a, L: Limit> Engine<'a, L> {
     }
 
     // The regions of the first `length` links, and the one behind them, stay in the tree, inner and
-    // outer by turns; the others are paired.
+    // outer in turn; the others are paired.
     fn regroup(&mut self, way: &[Link], length: usize, tree: Option<u32>) -> Result<(), NoMemory> {
         for (step, link) in way.iter().enumerate() {
             if step > length {

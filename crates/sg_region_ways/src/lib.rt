@@ -1,12 +1,12 @@
-//! What finished regions tell: the shortest ways between mates, which give the edges of a join, and cuts
-//! round the regions.
+//! What finished regions tell: the shortest walks between mates, which give the edges of a T-join, and
+//! cuts round the regions.
 //!
-//! `ways` searches the ways, `rows` puts the nodes of each region side by side, and `chains` makes the
+//! `ways` searches the walks, `rows` puts the nodes of each region side by side, and `chains` makes the
 //! cuts, in chains that grow by nodes; `edge_marks` keeps a set of edges as bits.
 //!
-//! For the next engineer: nothing is promised of a join or of a cut, since whoever uses them has them
-//! judged. Each function has only to be safe and to return: what is read beyond the end of a list is
-//! nothing, each loop has a bound known at its entry, and sums wrap.
+//! For the next engineer: nothing is promised of a T-join or of a cut, since callers have them judged.
+//! Each function must only be safe and terminate: a read beyond the end of a list gives nothing, each
+//! loop has a bound known at its entry, and sums wrap.
 #![tactic(auto)]
 
 mod chains;

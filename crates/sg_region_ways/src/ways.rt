@@ -1,4 +1,4 @@
-// The join: a shortest way between each two mates, by what the finished regions know.
+// The T-join: a shortest way between each two mates, by what the finished regions know.
 use super::NoMemory;
 use super::edge_marks::EdgeMarks;
 use sg_graph::EdgeList;
@@ -242,7 +242,7 @@ impl Ways {
     }
 
     /// Turns the marks of the edges of a shortest way between two mates, and says whether there is one.
-    /// The only error is want of memory.
+    /// The only error is running out of memory.
     ///
     /// Cost: linear in the arcs of the nodes that are on shortest ways.
     pub fn turn_way(
@@ -281,7 +281,7 @@ fn add_heights(nest: &Nest, regions: &[i64], ways: &mut Ways) -> Result<(), NoMe
 
 /// The edges that lie on an odd number of the ways between mates, rising, or nothing where a way is not
 /// found. A way is searched from both mates, through such nodes only whose height tells that they are
-/// on a shortest one. The only error is want of memory.
+/// on a shortest one. The only error is running out of memory.
 pub fn join_of(
     alloc: Global,
     adjacency: &Adjacency,

@@ -17,8 +17,8 @@ pub struct Changes {
     marks: EdgeMarks,
     order: Order,
     ways: Ways,
-    // The number of this repair; and for each terminal that of the last repair which turned the way that
-    // it had, and of the last that turned a new one.
+    // The number of this repair; for each terminal, the last repair that reversed its old way, and the
+    // last that reversed a new one.
     repair: u32,
     turned: Vec<u32>,
     walked: Vec<u32>,
@@ -146,8 +146,8 @@ impl Changes {
         self.turn_over(engine, old, query.edge)
     }
 
-    // The edges by which the join differs, the one that is taken out among them; nothing where a way is
-    // not found.
+    // The edges by which the T-join differs, the one that is taken out among them; nothing where a way
+    // is not found.
     fn walk(
         &mut self,
         engine: &Engine,
@@ -167,8 +167,8 @@ impl Changes {
     }
 
     // What has changed in finished regions where an edge is taken out, by the pairs that may be new.
-    // Nothing where a way is not found, or the radii do not sum to the length of the join: so edges of
-    // length 0 can make it that lay on the only tight way between two regions but in neither.
+    // Nothing where a way is not found, or the radii do not sum to the length of the T-join: so edges
+    // of length 0 can make it that lay on the only tight way between two regions but in neither.
     pub fn turn(
         &mut self,
         engine: &Engine,

@@ -1,14 +1,14 @@
 //! Finished regions that are repaired for one edge after another.
 //!
-//! `Repairs` grows regions once (`sg_region_engine`), and keeps them with the least join that they prove.
-//! For an edge that is gone it takes the regions over the edge's two ends apart, lets what is left over
-//! grow until each terminal has a mate again, and reads off what has changed.
+//! `Repairs` grows regions once (`sg_region_engine`), and keeps them with the minimum T-join that they
+//! prove. When an edge is removed, it takes the regions over the edge's two ends apart, lets what is
+//! left over grow until each terminal has a mate again, and reads off what has changed.
 //!
-//! For the next engineer: nothing is promised of a repair. Whoever asks for one has it judged by
-//! `sg_nest::proves`, and asks a solver that is proved where there is none or where the verdict is no. So
-//! each function here has only to be safe and to return. `parts` keeps what of an engine outlives its
-//! arcs, `apart` takes finished regions apart, `order` puts them into an order and reads them off,
-//! `old_ways` has the ways between mates before any repair, and `changes` what a repair changes of them.
+//! For the next engineer: nothing is promised of a repair. Callers have it judged by `sg_nest::proves`,
+//! and call a proved solver if there is no repair or the verdict is no. So each function here must only
+//! be safe and terminate. `parts` keeps the parts of an engine that outlive its arcs, `apart` takes
+//! finished regions apart, `order` puts them into an order and reads them off, `old_ways` has the walks
+//! between mates before any repair, and `changes` what a repair changes of them.
 #![tactic(auto)]
 
 mod apart;

@@ -25,7 +25,7 @@ const EMPTY: Stretch = Stretch {
 #[derive(Drop)]
 pub struct OldWays {
     mates: Vec<Slot>,
-    // Where the edges of the way of each terminal stand in the list of all.
+    // Where the edges of the way of each terminal are in the list of all.
     stretches: Vec<Stretch>,
     edges: Vec<u32>,
     // The terminals whose ways go over edge `k` stand from place `starts[k]` to `starts[k + 1]`.
@@ -180,12 +180,12 @@ impl OldWays {
         &self.join
     }
 
-    // Whether an edge is in the join.
+    // Whether an edge is in the T-join.
     pub fn has(&self, edge: u32) -> bool {
         entry(&self.is_in_join, edge).unwrap_or(false)
     }
 
-    // The length of the join where a walk changes it, without the edge that is taken out.
+    // The length of the T-join where a walk changes it, without the edge that is taken out.
     pub fn turned_length(&self, engine: &Engine, walk: &[u32], query: Query) -> i64 {
         let mut sum = self.length;
         for edge in walk {

@@ -2,6 +2,7 @@
 use super::{Engine, NoMemory};
 use sg_forest::{Allowance, Forest, Link, Unlimited, Work};
 use sg_growth::{Adjacency, Clock, Cover, Hubs};
+use sg_region_engine::Batches;
 use std::alloc::Global;
 
 // An engine without its arcs and terminals.
@@ -53,6 +54,8 @@ impl Parts {
             work: Work::new(0),
             is_first: false,
             is_open: false,
+            is_sliced: false,
+            batches: Batches::new(alloc),
             rests: 0,
             unpaired: 0,
             cycle: self.cycle,

@@ -12,7 +12,7 @@ use sg_regions::arcs_of;
 use sg_slots::{Slot, entry, number, set_entry};
 use std::alloc::Global;
 
-// How many terminals an edge may add to those of the web.
+// How many terminals an edge may add to those of the graph.
 const SPARE: usize = 2;
 
 // The ends of no edge.
@@ -29,21 +29,21 @@ const NO_END: [Ending; 2] = [
     },
 ];
 
-/// What changes where an edge is not to be had.
+/// What changes if an edge is removed.
 ///
-/// `walk` has the edges by which a least join then differs, rising; `nest` proves that join, with
-/// radii where arcs are four times as long as edges weigh.
+/// `walk` has the edges by which a minimum T-join then differs, rising; `nest` proves that join,
+/// with radii where arcs are four times as long as edges weigh.
 #[derive(Drop)]
 pub struct Turn {
     pub walk: EdgeList,
     pub nest: Nest,
 }
 
-/// The finished regions of a web and its terminals, with the least join that they prove, to be repaired
-/// for one edge after another.
+/// The finished regions of a graph and its terminals, with the minimum T-join that they prove, to be
+/// repaired for one edge after another.
 ///
 /// Nothing is promised of what it gives: a caller has it judged by `sg_nest::proves`. Memory is linear
-/// in the web and in the ways between mates.
+/// in the graph and in the ways between mates.
 pub struct Repairs {
     alloc: Global,
     arcs: Adjacency,
@@ -66,8 +66,8 @@ struct Finished {
     nest: Nest,
 }
 
-// A drop of its own, which who keeps repairs calls: else each way out of a function that has some lets go of
-// all these lists one by one, and proving that takes long.
+// An explicit `Drop`: otherwise every early return of an owner drops each field, and the prover pays for
+// each.
 impl Drop for Repairs {
     fn drop(self) {
         let Repairs {
@@ -92,8 +92,8 @@ pub struct Query {
 }
 
 impl Repairs {
-    /// Grows regions from the terminals until each has a mate, or gives nothing where that does not
-    /// come about. The only error is want of memory.
+    /// Grows regions from the terminals until each has a mate, or gives nothing if that fails. The
+    /// only error is running out of memory.
     pub fn new(
         alloc: Global,
         web: &Web,
@@ -116,7 +116,7 @@ impl Repairs {
         }))
     }
 
-    /// The join that the finished regions prove: its edges, rising.
+    /// The T-join that the finished regions prove: its edges, rising.
     pub fn join(&self) -> &EdgeList {
         self.finished.ways.join()
     }
@@ -126,13 +126,13 @@ impl Repairs {
         &self.finished.nest
     }
 
-    /// What changes where an edge is gone from the web and, if it is not in the join, each of its two
-    /// ends is a terminal just where it was none: the walk has the edge itself, and all edges that are
-    /// in one of the two joins and not in the other. Nothing where no repair was found, and for an edge
-    /// of one node. The only error is want of memory.
+    /// What changes if an edge is removed from the graph and, if it is not in the T-join, the terminals
+    /// are toggled at its two ends: the walk has the edge itself, and all edges that are in exactly one
+    /// of the two T-joins. Nothing where no repair was found, and for an edge of one node. The only
+    /// error is running out of memory.
     ///
-    /// Any call gives the same for the same edge. Cost: time linear in the web, and that of growing the
-    /// two to six regions that are left over where those at the edge are taken apart.
+    /// Any call gives the same for the same edge. Cost: time linear in the graph, and that of growing
+    /// the two to six regions that are left over where those at the edge are taken apart.
     pub fn turn(&mut self, edge: u32) -> Result<Option<Turn>, NoMemory> {
         let one = self.arcs.start(first_dart(edge));
         let other = self.arcs.start(second_dart(edge));
@@ -176,8 +176,8 @@ impl Repairs {
         }
     }
 
-    // The end of an edge. If the edge is not in the join, the terminal there is gone, or a spare one is
-    // new.
+    // The end of an edge. If the edge is not in the T-join, the terminal there is gone, or a spare one
+    // is new.
     fn ending(&mut self, node: u32, is_in_join: bool, spare: u32) -> Ending {
         let gone = terminal_at(&self.at, node);
         if is_in_join {

@@ -1,0 +1,181 @@
+// Trees that grow batch by batch, in slices of time.
+//
+// If all trees of a large graph grow at once, the next event may be anywhere, and its data are in no cache. So
+// there the trees grow in batches, in the order of their terminals' numbers. A batch grows until its trees reach
+// a given age, while all other trees rest: a tree at rest is dissolved except for its root, and a tree that
+// reaches that root is paired with it. Then the next batch grows to the same age. After a slice all trees have the
+// same age, so the result is close to that of trees that all grow at once. Each slice is half as long again as
+// the one before, since fewer and fewer trees are left. The last batch grows to the end.
+//
+// This is exact: before and after each batch the state is one of the method, in which some trees do not grow.
+use super::Engine;
+use crate::NoMemory;
+use sg_forest::Limit;
+use sg_growth::{Adjacency, NEVER, first_dart};
+use sg_slots::{entry, number, set_entry};
+use std::alloc::Global;
+use std::mem::swap;
+
+// How many trees grow at one time.
+const BATCH: usize = 1024;
+
+// More slices are never needed, since each age is half as much again as the one before.
+const SLICES: usize = 128;
+
+/// The trees that wait for their batch, by the names of their terminals, and for each tree whether it has a mate.
+#[derive(Drop)]
+pub struct Batches {
+    waiting: Vec<u32>,
+    has_mate: Vec<bool>,
+}
+
+impl Batches {
+    /// No trees.
+    pub fn new(alloc: Global) -> Batches {
+        Batches {
+            waiting: Vec::new(alloc),
+            has_mate: Vec::new(alloc),
+        }
+    }
+
+    // Adds a tree without a mate.
+    fn add(&mut self, name: u32) -> Result<(), NoMemory> {
+        self.waiting.push(name)?;
+        if name as usize >= self.has_mate.len() {
+            self.has_mate.resize(name as usize + 1, true)?;
+        }
+        set_entry(&mut self.has_mate, name, false);
+        Ok(())
+    }
+
+    // A tree has a mate.
+    pub(super) fn end(&mut self, tree: Option<u32>) {
+        if let Some(tree) = tree {
+            set_entry(&mut self.has_mate, tree, true);
+        }
+    }
+
+    // Whether a tree has no mate yet.
+    fn is_left(&self, tree: u32) -> bool {
+        entry(&self.has_mate, tree) == Some(false)
+    }
+}
+
+// How old the trees are at the end of the first slice: half of how long edges are on average.
+fn first_age(arcs: &Adjacency) -> i64 {
+    let mut sum = 0i64;
+    let edges = number(arcs.darts() / 2);
+    for edge in 0..edges {
+        sum = sum.wrapping_add(arcs.arc(first_dart(edge)).length);
+    }
+    let mean = if edges > 0 { sum / i64::from(edges) } else { 0 };
+    (mean / 2).max(1)
+}
+
+// How old they are at the end of the next slice.
+fn next_age(age: i64) -> i64 {
+    age.saturating_add((age / 2).max(1))
+}
+
+impl<'a, L: Limit> Engine<'a, L> {
+    // Grows all trees batch by batch. False if some tree is left when the work allowed is done.
+    pub(super) fn run_slices(&mut self) -> Result<bool, NoMemory> {
+        self.plant_all()?;
+        let mut from = 0i64;
+        let mut until = first_age(self.arcs);
+        for _ in 0..SLICES {
+            if self.batches.waiting.len() <= BATCH || self.work.left() == 0 {
+                break;
+            }
+            self.run_slice(from, until)?;
+            from = until;
+            until = next_age(until);
+        }
+        let names = self.take_waiting();
+        self.run_batch(&names, from, NEVER)
+    }
+
+    // Each terminal takes its node and is a tree that waits, unless the node is an open hub.
+    fn plant_all(&mut self) -> Result<(), NoMemory> {
+        for node in self.terminals {
+            if self.is_open_hub(*node) {
+                self.plant_at_hub(*node)?;
+            } else {
+                self.plant_to_wait(*node)?;
+            }
+        }
+        Ok(())
+    }
+
+    // The next terminal takes its node, and is a tree that waits.
+    fn plant_to_wait(&mut self, node: u32) -> Result<(), NoMemory> {
+        let name = self.forest.reserve()?;
+        self.cover.open(name)?;
+        self.take(name, node, name);
+        self.unpaired = self.unpaired.saturating_add(1);
+        self.wait(name)
+    }
+
+    // A tree whose regions are all free waits, its root at rest.
+    fn wait(&mut self, tree: u32) -> Result<(), NoMemory> {
+        self.forest.stand(self.forest.top(tree), tree);
+        self.rests = self.rests.saturating_add(1);
+        self.batches.add(tree)
+    }
+
+    // The trees that wait, which are on no list any more.
+    fn take_waiting(&mut self) -> Vec<u32> {
+        let mut names = Vec::new(self.alloc);
+        swap(&mut names, &mut self.batches.waiting);
+        names
+    }
+
+    // Grows the trees that wait from one age to another, batch by batch.
+    fn run_slice(&mut self, from: i64, until: i64) -> Result<(), NoMemory> {
+        let names = self.take_waiting();
+        for batch in names.chunks(BATCH) {
+            self.run_batch(batch, from, until)?;
+            self.halt_batch(batch, until)?;
+        }
+        Ok(())
+    }
+
+    // Grows those of these trees that are left from one age to another. Whether none of them is left then.
+    fn run_batch(&mut self, names: &[u32], from: i64, until: i64) -> Result<bool, NoMemory> {
+        self.clock.set(from);
+        for name in names {
+            if self.batches.is_left(*name) {
+                self.rests = self.rests.saturating_sub(1);
+                self.forest.make_root(self.forest.top(*name), *name, from);
+            }
+        }
+        for name in names {
+            if self.batches.is_left(*name) {
+                let root = self.forest.top(*name);
+                self.wake_region(root, root)?;
+            }
+        }
+        self.go_on_until(until)
+    }
+
+    // Stops those of these trees that are left; they wait.
+    fn halt_batch(&mut self, names: &[u32], now: i64) -> Result<(), NoMemory> {
+        self.clock.set(now);
+        for name in names {
+            if self.batches.is_left(*name) {
+                self.halt(*name)?;
+            }
+        }
+        Ok(())
+    }
+
+    // Stops a tree: its regions are free, and its root is at rest.
+    fn halt(&mut self, tree: u32) -> Result<(), NoMemory> {
+        let mut inner = Vec::new(self.alloc);
+        swap(&mut inner, &mut self.inner);
+        inner.clear();
+        self.free_members(tree, &mut inner)?;
+        swap(&mut inner, &mut self.inner);
+        self.wait(tree)
+    }
+}
