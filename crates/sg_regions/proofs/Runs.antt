@@ -4,6 +4,7 @@ use Rattle.std.proofs.lemmas.Nat.{mul-le}
 use Rattle.std.proofs.Math.Nat.{add-mul, min-le_left}
 use Rattle.sg_forest.specs.Counts.{KeepsTo, event_limit, growth_limit}
 use Rattle.sg_forest.specs.declared.growth.Growth.{Growth}
+use Rattle.sg_regions.specs.Steps.{Accounts, RegionSteps, TakesRuns}
 
 -- what keeps to a multiple keeps to a greater one
 more : (m n x a : ℕ) → m ≤ n → a ≤ m * x → a ≤ n * x
@@ -28,4 +29,32 @@ pub keeps_to_and : (m n terminals places : ℕ) (first second both : Growth) →
 keeps_to_and m n terminals places first second both one other blossoms events = record {
   blossoms = sum m n (growth_limit terminals) first.blossoms second.blossoms both.blossoms _ one.blossoms other.blossoms blossoms;
   events = sum m n (event_limit terminals places) first.events second.events both.events _ one.events other.events events;
+}
+
+-- runs, and runs after them
+pub takes_both : (m n terminals places : ℕ) (old mid new : RegionSteps) →
+    TakesRuns m terminals places old mid → TakesRuns n terminals places mid new → TakesRuns (m + n) terminals places old new
+takes_both m n terminals places old mid new first second = record {
+  blossoms_rise = omega (arith, first.blossoms_rise, second.blossoms_rise);
+  blossoms = omega (arith, first.blossoms, second.blossoms, add-mul m n (growth_limit terminals));
+  events_rise = omega (arith, first.events_rise, second.events_rise);
+  events = omega (arith, first.events, second.events, add-mul m n (event_limit terminals places));
+}
+
+-- fewer runs take no more than more of them may
+pub takes_more : (m n terminals places : ℕ) (old new : RegionSteps) → m ≤ n → TakesRuns m terminals places old new →
+    TakesRuns n terminals places old new
+takes_more m n terminals places old new less takes = record {
+  blossoms_rise = takes.blossoms_rise;
+  blossoms = omega (arith, takes.blossoms, mul-le m (growth_limit terminals) n (growth_limit terminals) less (omega arith));
+  events_rise = takes.events_rise;
+  events = omega (arith, takes.events, mul-le m (event_limit terminals places) n (event_limit terminals places) less (omega arith));
+}
+
+-- what was counted later was counted
+pub accounts_later : (m terminals places regions : ℕ) (old mid new : RegionSteps) →
+    TakesRuns m terminals places old mid → Accounts terminals regions mid new → Accounts terminals regions old new
+accounts_later m terminals places regions old mid new first counted = record {
+  blossoms = omega (arith, first.blossoms_rise, counted.blossoms);
+  events = λ some. omega (arith, first.events_rise, counted.events some);
 }

@@ -1,4 +1,4 @@
--- What the size of a web is to regions that grow on it.
+-- What the size of a weighted graph means to regions that grow on it.
 use Rattle.std.specs.Prelude.{ℕ, ◌+◌, ◌*◌}
 use Rattle.sg_graph.specs.Web.{Graph, edge_count}
 

@@ -1,11 +1,12 @@
-// Proposals without cuts: a join, and the finished regions as they are.
-ghost use Rattle.std.specs.Prelude.{length, IfOk};
+// Proposals without cuts: a T-join, and the finished regions as they are.
+ghost use Rattle.std.specs.Prelude.{◌≡◌, length, IfOk, IfSome};
 ghost use Rattle.sg_forest.specs.Counts.{KeepsTo};
 ghost use Rattle.sg_regions.specs.Places.{place_count};
+ghost use Rattle.sg_regions.specs.Steps.{GrowthAccounts};
 
 use super::grow::{Finished, grow_again, grow_without_cuts};
-use super::proposal::{arcs_of, places, reversed, reversed_arcs};
-use super::{Grown, NoMemory};
+use super::proposal::{accounts, arcs_of, places, reversed, reversed_arcs};
+use super::{Grown, Growth, NoMemory};
 use sg_graph::{EdgeList, Terminals, Web};
 use sg_growth::{Adjacency, Nest};
 use sg_nest::{Place, Places, Region, Regions};
@@ -13,40 +14,43 @@ use sg_region_ways::join_of;
 use sg_slots::{entry, number, set_entry};
 use std::alloc::Global;
 
-/// Edges that may be a least join, and a nest of regions that may prove it.
+/// Edges that may be a minimum T-join, and a nest of regions that may prove it.
 #[derive(Drop)]
 pub struct NestProposal {
     pub edges: EdgeList,
     pub nest: sg_nest::Nest,
 }
 
-/// Proposes a least join of the terminals with a nest of regions that proves it, or nothing.
+/// Proposes a minimum T-join of the terminals with a nest of regions that proves it, or nothing.
 ///
-/// Nothing is promised of the proposal but the number of steps: a caller has it judged by
-/// `sg_nest::proves`. The only error is want of memory. Without terminals there are no edges and no regions.
+/// Nothing is promised of the proposal but the number of steps: a caller has it judged by `sg_nest::proves`.
+/// The only error is running out of memory. Without terminals there are no edges and no regions.
 ///
-/// Cost: that of growing the regions, and then time linear in the web and in the regions. Memory is
-/// linear in the web.
+/// Cost: that of growing the regions, and then time linear in the graph and in the regions. Memory
+/// is linear in the graph.
 pub fn propose_nest(
     alloc: Global,
     web: &Web,
     terminals: &Terminals,
 ) -> Result<Grown<Option<NestProposal>>, NoMemory>
-    ensures { IfOk result (λ g. KeepsTo 3 (length terminals.now) (place_count web.now) g.growth) }
+    ensures within { IfOk result (λ g. KeepsTo 3 (length terminals.now) (place_count web.now) g.growth) }
+    ensures counted { IfOk result (λ g. IfSome g.found
+        (λ p. GrowthAccounts (length terminals.now) (length p.nest.regions) g.growth)) }
 {
     if terminals.is_empty() {
         return Ok(Grown::ungrown(Some(bare(alloc, web.nodes())?)));
     }
     let arcs = arcs_of(alloc, web, 2)?;
     let grown = grow_without_cuts(alloc, &arcs, terminals.as_slice(), places(web))?;
+    let found = nest_proposal(alloc, &arcs, grown.found, web.edges().len())?;
     Ok(Grown {
-        found: nest_proposal(alloc, &arcs, grown.found, web.edges().len())?,
+        found: counted(found, grown.growth, terminals.len()),
         growth: grown.growth,
     })
 }
 
-/// Proposes once more, for a caller to whom the first proposal was of no use: what comes at one time is
-/// taken in the opposite order, and the regions grow in two halves at once.
+/// Proposes again, for a caller whose first proposal was rejected: events of one time are taken in the
+/// reverse order, and the regions grow in two halves from the start.
 ///
 /// Nothing more is promised of it either. Cost: at most what [`propose_nest`] takes.
 pub fn propose_nest_again(
@@ -54,19 +58,24 @@ pub fn propose_nest_again(
     web: &Web,
     terminals: &Terminals,
 ) -> Result<Grown<Option<NestProposal>>, NoMemory>
-    ensures { IfOk result (λ g. KeepsTo 1 (length terminals.now) (place_count web.now) g.growth) }
+    ensures within { IfOk result (λ g. KeepsTo 1 (length terminals.now) (place_count web.now) g.growth) }
+    ensures counted { IfOk result (λ g. IfSome g.found
+        (λ p. GrowthAccounts (length terminals.now) (length p.nest.regions) g.growth)) }
 {
     let arcs = reversed_arcs(alloc, web)?;
     let seeds = reversed(alloc, terminals.as_slice())?;
     let grown = grow_again(alloc, &arcs, &seeds, places(web))?;
+    let found = nest_proposal(alloc, &arcs, grown.found, web.edges().len())?;
     Ok(Grown {
-        found: nest_proposal(alloc, &arcs, grown.found, web.edges().len())?,
+        found: counted(found, grown.growth, terminals.len()),
         growth: grown.growth,
     })
 }
 
 // No edges, and no regions over so many nodes.
-fn bare(alloc: Global, nodes: u32) -> Result<NestProposal, NoMemory> {
+fn bare(alloc: Global, nodes: u32) -> Result<NestProposal, NoMemory>
+    ensures { IfOk result (λ p. length p.nest.regions ≡ 0) }
+{
     let places = vec![in alloc; None; nodes as usize]?;
     Ok(NestProposal {
         edges: EdgeList::new(alloc),
@@ -75,6 +84,17 @@ fn bare(alloc: Global, nodes: u32) -> Result<NestProposal, NoMemory> {
             places: Places::from_vec(places),
         },
     })
+}
+
+// A proposal from so many terminals whose regions were counted. They always were.
+fn counted(found: Option<NestProposal>, growth: Growth, terminals: usize) -> Option<NestProposal>
+    ensures { IfSome result (λ p. GrowthAccounts terminals (length p.nest.regions) growth) }
+{
+    let proposal = found?;
+    if !accounts(growth, terminals, proposal.nest.regions.len()) {
+        return None;
+    }
+    Some(proposal)
 }
 
 // What finished regions over so many edges propose.

@@ -1,39 +1,47 @@
-ghost use Rattle.std.specs.Prelude.{◌≡◌, length, IfOk};
+ghost use Rattle.std.specs.Prelude.{◌≡◌, ◌+◌, ◌<◌, ◌≤◌, length, IfOk, IfSome, IsTrue};
 ghost use Rattle.sg_forest.specs.Counts.{KeepsTo};
 ghost use Rattle.sg_regions.specs.Places.{place_count};
+ghost use Rattle.sg_regions.specs.Steps.{GrowthAccounts};
 
 use super::grow::{Finished, grow, grow_again};
-use super::{Grown, NoMemory};
+use super::{Grown, Growth, NoMemory};
 use sg_graph::{Terminals, Web};
 use sg_growth::Adjacency;
 use sg_join_check::Proposal;
 use sg_region_ways::{chains_of, join_of};
 use std::alloc::Global;
 
-/// Proposes a least join of the terminals with odd cuts that prove it, or nothing.
+/// Proposes a minimum T-join of the terminals with odd cuts that prove it, or nothing.
 ///
 /// Nothing is promised of the proposal but the number of steps: a caller has it judged by
-/// `sg_join_check::proves_least`. The only error is want of memory.
+/// `sg_join_check::proves_least`. The only error is running out of memory.
 ///
-/// Cost: that of growing the regions, and then time linear in the web, in the cuts, and in the degrees
-/// of the nodes that change sides from cut to cut. Memory is linear in the web and in the cuts.
+/// Cost: that of growing the regions, and then time linear in the graph, in the cuts, and in the
+/// degrees of the nodes that change sides from cut to cut. Memory is linear in the graph and in the
+/// cuts.
 pub fn propose(
     alloc: Global,
     web: &Web,
     terminals: &Terminals,
 ) -> Result<Grown<Option<Proposal>>, NoMemory>
-    ensures { IfOk result (λ g. KeepsTo 2 (length terminals.now) (place_count web.now) g.growth) }
+    ensures within { IfOk result (λ g. KeepsTo 2 (length terminals.now) (place_count web.now) g.growth) }
+    ensures counted { IfOk result (λ g. IfSome g.found (λ _. GrowthAccounts (length terminals.now) 0 g.growth)) }
 {
     let arcs = arcs_of(alloc, web, 2)?;
     let grown = grow(alloc, &arcs, terminals.as_slice(), places(web))?;
+    let found = proposal(alloc, &arcs, grown.found, web.edges().len())?;
     Ok(Grown {
-        found: proposal(alloc, &arcs, grown.found, web.edges().len())?,
+        found: if accounts(grown.growth, terminals.len(), 0) {
+            found
+        } else {
+            None
+        },
         growth: grown.growth,
     })
 }
 
-/// Proposes once more, for a caller to whom the first proposal was of no use: what comes at one time is
-/// taken in the opposite order, and the regions grow in two halves at once.
+/// Proposes again, for a caller whose first proposal was rejected: events of one time are taken in the
+/// reverse order, and the regions grow in two halves from the start.
 ///
 /// Nothing more is promised of it either. Cost: at most what [`propose`] takes.
 pub fn propose_again(
@@ -41,13 +49,19 @@ pub fn propose_again(
     web: &Web,
     terminals: &Terminals,
 ) -> Result<Grown<Option<Proposal>>, NoMemory>
-    ensures { IfOk result (λ g. KeepsTo 1 (length terminals.now) (place_count web.now) g.growth) }
+    ensures within { IfOk result (λ g. KeepsTo 1 (length terminals.now) (place_count web.now) g.growth) }
+    ensures counted { IfOk result (λ g. IfSome g.found (λ _. GrowthAccounts (length terminals.now) 0 g.growth)) }
 {
     let arcs = reversed_arcs(alloc, web)?;
     let seeds = reversed(alloc, terminals.as_slice())?;
     let grown = grow_again(alloc, &arcs, &seeds, places(web))?;
+    let found = proposal(alloc, &arcs, grown.found, web.edges().len())?;
     Ok(Grown {
-        found: proposal(alloc, &arcs, grown.found, web.edges().len())?,
+        found: if accounts(grown.growth, terminals.len(), 0) {
+            found
+        } else {
+            None
+        },
         growth: grown.growth,
     })
 }
@@ -57,6 +71,14 @@ pub fn places(web: &Web) -> u64
     ensures { result ≡ place_count web.now }
 {
     u64::from(web.nodes()) + 2 * (web.edges().len() as u64)
+}
+
+// Whether the least that so many regions from so many terminals take was counted. It always was.
+pub fn accounts(growth: Growth, terminals: usize, regions: usize) -> bool
+    ensures { IsTrue result → GrowthAccounts terminals regions growth }
+{
+    regions as u64 <= (terminals as u64).saturating_add(growth.blossoms)
+        && (terminals == 0 || growth.events > 0)
 }
 
 // What finished regions over so many edges propose.
@@ -98,7 +120,7 @@ pub fn reversed_arcs(alloc: Global, web: &Web) -> Result<Adjacency, NoMemory> {
 }
 
 /// The arcs between the nodes, each so many times as long as its edge weighs. An edge to itself has
-/// none. The only error is want of memory.
+/// none. The only error is running out of memory.
 pub fn arcs_of(alloc: Global, web: &Web, times: i64) -> Result<Adjacency, NoMemory> {
     let edges = web.edges().as_slice();
     let mut sides = Vec::with_capacity(alloc, edges.len().saturating_mul(2))?;
