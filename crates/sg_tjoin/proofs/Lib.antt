@@ -5,3 +5,4 @@ pub mod PairEnds
 pub mod Turning
 pub mod CutLeast
 pub mod TableBounds
+pub mod Counting

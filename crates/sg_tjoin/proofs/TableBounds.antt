@@ -1,8 +1,8 @@
 -- What the tables of the matching fallback take at most.
-use Rattle.std.proofs.Common.{ℕ, ◌≡◌, ◌+◌, ◌*◌, ◌≤◌, List, length, arith}
+use Rattle.std.proofs.Common.{ℕ, ◌≡◌, ◌+◌, ◌*◌, ◌-◌, ◌<◌, ◌≤◌, ◌^◌, List, length, arith}
 use Rattle.std.proofs.lemmas.Nat.{mul-le}
 use Rattle.sg_graph.specs.Join.{AreTerminals}
-use Rattle.sg_graph.specs.Web.{Graph}
+use Rattle.sg_graph.specs.Web.{Graph, IsWeb}
 use Rattle.sg_graph.proofs.OnceLists.{rising_few}
 use Rattle.sg_tjoin.specs.Allowance.{IfTooLarge, table_bytes}
 use Rattle.sg_tjoin.specs.declared.allowance.Unproved.{Unproved}
@@ -31,3 +31,7 @@ module _ (g : Graph) (terminals : List ℕ) (are : AreTerminals g terminals) whe
   -- so the tables are bounded by the nodes
   pub tables_bounded : (most : ℕ) → g.nodes ≤ most → table_bytes (length terminals) g.nodes ≤ 20 * (most * most)
   tables_bounded most within = bytes_bounded (length terminals) g.nodes most few_terminals within
+
+  -- and never take 2^64 bytes
+  pub tables_fit : IsWeb g → 2 ^ 64 - 1 < table_bytes (length terminals) g.nodes → ⊥
+  tables_fit web exceed = omega (arith, exceed, tables_bounded (2 ^ 24) web.few_nodes)

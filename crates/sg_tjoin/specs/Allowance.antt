@@ -1,4 +1,4 @@
--- What the tables of the matching fallback take, and an answer that is refused where that is more than is allowed.
+-- What the tables of the matching fallback take, and an answer that is refused if that is more than is allowed.
 use Rattle.std.specs.Prelude.{ℕ, ◌+◌, ◌*◌}
 use Rattle.sg_tjoin.specs.declared.allowance.Unproved.{Unproved}
 use Rattle.sg_tjoin.specs.declared.allowance.Unproved.TheVariants.{NoMemory, TablesTooLarge}

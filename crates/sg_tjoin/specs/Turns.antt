@@ -1,4 +1,4 @@
--- Marks on the edges that walks cross, turned at each crossing.
+-- Marks on the edges that walks cross, toggled at each crossing.
 use Rattle.std.specs.Prelude.{◌≡◌, ℕ, ◌<◌, ◌==◌, ◌&&◌, Bool, cond, nat_lt, List, [], length, slice_index, All}
 use Rattle.sg_sums.specs.Ends.{is_end}
 use Rattle.sg_sums.specs.Parity.{parity_by, parity_below, xor}
@@ -9,7 +9,7 @@ use Rattle.sg_graph.specs.Walk.{IsWebWalk}
 use Rattle.sg_graph.specs.Web.{Graph, edge_at, edge_count, weight_of}
 use Rattle.sg_tjoin.specs.Doubled.{apart}
 
--- the marks of the edges of some walk of this weight are turned
+-- the marks of the edges of some walk of this weight are toggled
 pub record TurnsWalk (g : Graph) (from to weight : ℕ) (old new : List Bool) : Type 0 where
   pub count : length new ≡ length old
   pub walk : List ℕ
@@ -31,7 +31,7 @@ ends_pair terminals mates x i = leads_pair mates i && xor (slice_index terminals
 abbrev pub is_odd_end : Graph → ℕ → ℕ → Bool
 is_odd_end g x e = is_end (edge_at g e).a (edge_at g e).b x
 
--- the marks of all edges of walks between the first few mates were turned
+-- the marks of all edges of walks between the first few mates were toggled
 pub record AreTurned (g : Graph) (terminals : List ℕ) (tables : List Routes) (mates : List ℕ) (upto : ℕ)
     (marks : List Bool) : Type 0 where
   pub count : length marks ≡ edge_count g

@@ -1,31 +1,34 @@
-//! Least joins on any weighted graph, with the packing of odd cuts that proves them (Edmonds and
+//! Minimum T-joins on any weighted graph, with the packing of odd cuts that proves them (Edmonds and
 //! Johnson 1973).
 //!
-//! For a physicist: in the dual web of a planar spin glass the terminals are the frustrated faces, an
+//! For a physicist: in the dual graph of a planar spin glass the terminals are the frustrated faces, an
 //! edge weighs the `|J|` of the bond that it crosses, and the bonds that a ground state breaks are a
-//! least join. [`least_join`] finds one on every connected web, planar or not. Regions that grow on
-//! the web propose one with its odd cuts, and a judge that is proved says whether the cuts prove it.
-//! Where there is no proposal or the verdict is no, they grow once more in another order; and where
-//! that is of no use either, [`matched_join`] answers: the terminals are matched at costs of twice
-//! their distances, and an edge belongs to the join where it stands in an odd number of the mates'
-//! shortest walks. The duals of the matching become odd cuts that weigh twice as much as the join, and
-//! by [`cuts_bound_joins`] no join weighs less.
+//! minimum T-join. [`least_join`] finds one on every connected weighted graph, planar or not. Regions
+//! that grow on the graph propose one with its odd cuts, and a proved judge says whether the cuts prove
+//! it. If there is no proposal or the verdict is no, they grow again in the reverse order. If that is
+//! rejected too, [`matched_join`] answers: the terminals are matched at costs of twice their distances,
+//! and an edge belongs to the T-join if it is in an odd number of the mates' shortest walks. The duals
+//! of the matching become odd cuts that weigh twice as much as the T-join, and by [`cuts_bound_joins`]
+//! no T-join weighs less.
 //!
-//! For the next engineer: nothing here looks into the proposer, the judges or the engine. `judged` hands
-//! on what `sg_join_check` says yes to, and `nested` what `sg_nest` does; these two are the only places
-//! where a second proposal is asked for. `matched` is the way by a matching: `tables` searches from
-//! each terminal over one incidence, `matching` lets the engine match them, `walks` marks what the
-//! mates' walks cross, and `sg_moat` draws the cuts. That a join is least follows from the cuts alone:
-//! no join is taken apart into walks. The tables grow as the product of terminals and nodes, so callers
-//! with large graphs use the functions of `allowance`, which refuse tables that take more than is allowed;
-//! the others leave that to the allocator.
+//! For the next engineer: nothing here looks into the proposer, the judges or the engine. `judged` hands on
+//! what `sg_join_check` says yes to, and `nested` what `sg_nest` does; these two are the only places where a
+//! second proposal is asked for. `matched` is the way by a matching: `tables` searches from each terminal
+//! over one incidence, `matching` lets the engine match them, `walks` marks what the mates' walks cross, and
+//! `sg_moat` draws the cuts. That a T-join is least follows from the cuts alone: no T-join is taken apart
+//! into walks. The tables grow as the product of terminals and nodes, so callers with large graphs use the
+//! functions of `allowance`, which refuse tables that take more than is allowed; the others leave that to the
+//! allocator. All are calls of `counted`, whose functions take a count of steps ([`Taken`]) and add to it
+//! what the growing regions and the matching have counted themselves: at most `step_limit`.
 #![tactic(auto)]
 
 mod allowance;
+mod counted;
 mod judged;
 mod law;
 mod matched;
 mod matching;
+mod matchings;
 mod nested;
 mod tables;
 mod walks;
@@ -43,19 +46,20 @@ pub use allowance::{
     Unproved, least_join_within, least_weight_within, matched_join_within, table_bytes,
     tables_are_bounded,
 };
+pub use counted::{Taken, least_join_counted, least_weight_counted};
 pub use judged::judged_join;
 pub use law::cuts_bound_joins;
-pub use matched::matched_join;
+pub use matched::{MatchedJoin, matched_join, matched_join_counted};
+pub use matchings::Matchings;
 pub use nested::nested_join;
 use sg_graph::{Cuts, EdgeList, Terminals, Web};
 use sg_nest::Nest;
-use sg_regions::Regions;
 use std::alloc::{AllocError, Global};
 
 /// The allocator had no memory left.
 pub type NoMemory = AllocError;
 
-/// A join, its weight, and weighted odd cuts whose weights sum to twice that.
+/// A T-join, its weight, and weighted odd cuts whose weights sum to twice that.
 #[derive(Drop)]
 pub struct Join {
     pub edges: EdgeList,
@@ -63,17 +67,15 @@ pub struct Join {
     pub cuts: Cuts,
 }
 
-/// A join of the terminals than which none weighs less, with the odd cuts that prove it.
+/// A minimum T-join of the terminals, with the odd cuts that prove it.
 ///
 /// The edges rise, and a node meets an odd number of their ends exactly where it is a terminal. Each
 /// cut holds all edges that leave some set with an odd number of terminals, and no edge is loaded
 /// with more than twice its weight. Without terminals there is no edge, and no cut.
 ///
-/// Cost: that of `sg_regions::propose` and of the judge, linear in the web and the cuts; where these
-/// have no answer as much once more, and where they have none again that of `matched_join` too. The
-/// matching inside takes at most `2 k^2` steps for `k` terminals: that is the promise of
-/// `sg_match::Engine::run`, which counts them in the family that it hands back, and not of this call. A
-/// join that comes from elsewhere takes no such steps.
+/// Cost: that of `sg_regions::propose` and of the judge, linear in the graph and the cuts; as much
+/// again for the retry if these have no answer, and that of `matched_join` if the retry has none. It
+/// is [`least_join_counted`] with any tables allowed, which hands out the count of the steps.
 pub fn least_join(alloc: Global, web: &Web, terminals: &Terminals) -> Result<Join, NoMemory>
     requires connected { IsConnectedWeb web.now }
     requires terminals { AreTerminals web.now terminals.now }
@@ -85,13 +87,15 @@ pub fn least_join(alloc: Global, web: &Web, terminals: &Terminals) -> Result<Joi
     ensures bare { IfOk result (λ j. terminals.now ≡ [] → (j.edges ≡ []) × (j.cuts ≡ [])) }
     ensures tight { IfOk result (λ j. sum_by odd_cut_weight j.cuts ≡ 2 * weight_of web.now j.edges) }
 {
-    if let Some(join) = judged_join(alloc, web, terminals, &Regions)?.found {
-        return Ok(join);
+    let _edges = web.edges();
+    match least_join_within(alloc, web, terminals, u64::MAX) {
+        Ok(join) => Ok(join),
+        Err(Unproved::NoMemory) => Err(AllocError),
+        Err(Unproved::TablesTooLarge) => unreachable!(),
     }
-    matched_join(alloc, web, terminals)
 }
 
-/// A join and its weight, with a nest of regions that proves it, where one was found.
+/// A T-join and its weight, with a nest of regions that proves it, where one was found.
 #[derive(Drop)]
 pub struct LeastJoin {
     pub edges: EdgeList,
@@ -99,12 +103,13 @@ pub struct LeastJoin {
     pub nest: Option<Nest>,
 }
 
-/// A join of the terminals than which none weighs less, and its weight, for callers that print no
-/// cuts: none are made, since the regions that grow on the web prove it themselves, as a nest. That
-/// there is a nest no clause says.
+/// A minimum T-join of the terminals, and its weight, for callers that print no cuts: none are
+/// made, since the regions that grow on the graph prove it themselves, as a nest. That there is a
+/// nest no clause says.
 ///
-/// Cost: that of `sg_regions::propose_nest` and of `sg_nest::proves`, where these have no answer as much
-/// once more, and where they have none again that of [`matched_join`].
+/// Cost: that of `sg_regions::propose_nest` and of `sg_nest::proves`, as much again for the retry if these
+/// have no answer, and that of [`matched_join`] if the retry has none. [`least_weight_counted`] counts the
+/// steps.
 pub fn least_weight(alloc: Global, web: &Web, terminals: &Terminals) -> Result<LeastJoin, NoMemory>
     requires connected { IsConnectedWeb web.now }
     requires terminals { AreTerminals web.now terminals.now }
@@ -114,13 +119,10 @@ pub fn least_weight(alloc: Global, web: &Web, terminals: &Terminals) -> Result<L
     ensures weight { IfOk result (λ j. j.weight ≡ pos (weight_of web.now j.edges)) }
     ensures proves { IfOk result (λ j. IfSome j.nest (NestProves web.now terminals.now j.edges)) }
 {
-    if let Some(join) = nested_join(alloc, web, terminals, &Regions)?.found {
-        return Ok(join);
+    let _edges = web.edges();
+    match least_weight_within(alloc, web, terminals, u64::MAX) {
+        Ok(join) => Ok(join),
+        Err(Unproved::NoMemory) => Err(AllocError),
+        Err(Unproved::TablesTooLarge) => unreachable!(),
     }
-    let join = matched_join(alloc, web, terminals)?;
-    Ok(LeastJoin {
-        edges: join.edges,
-        weight: join.weight,
-        nest: None,
-    })
 }

@@ -1,4 +1,4 @@
-ghost use Rattle.std.specs.Prelude.{◌≡◌, ◌<◌, length, All, IfOk};
+ghost use Rattle.std.specs.Prelude.{◌≡◌, ◌<◌, ◌*◌, ◌≤◌, length, All, IfOk};
 ghost use Rattle.sg_arena.specs.Family.{leaf_count};
 ghost use Rattle.sg_pairing.specs.Matching.{IsMatching, IsPairing, NoSlackIsNegative, pairing_cost, sum_of_duals};
 ghost use Rattle.sg_pairing.specs.Metric.{IsMetric, cost};
@@ -21,6 +21,7 @@ pub fn matching(alloc: Global, terminals: &[u32], tables: &[Table]) -> Result<Ma
     ensures near { IfOk result (λ m. NoSlackIsNegative m.family (terminal_cost terminals.now tables.now)) }
     ensures pairing { IfOk result (λ m. IsPairing (length terminals.now) m.mates) }
     ensures duals { IfOk result (λ m. pairing_cost (terminal_cost terminals.now tables.now) m.mates ≡ sum_of_duals m.family) }
+    ensures bounded { IfOk result (λ m. m.family.steps ≤ 2 * length terminals.now * length terminals.now) }
 {
     let costs = doubled_distances(alloc, terminals, tables)?;
     run::<Brand>(alloc, costs, Blank::new(1))
@@ -36,6 +37,7 @@ fn run<L: Ledger>(alloc: Global, costs: Costs, blank: Blank) -> Result<Matched, 
     ensures slack { IfOk result (λ m. NoSlackIsNegative m.family (cost costs)) }
     ensures matching { IfOk result (λ m. IsMatching m.family (cost costs) m.mates) }
     ensures duals { IfOk result (λ m. pairing_cost (cost costs) m.mates ≡ sum_of_duals m.family) }
+    ensures bounded { IfOk result (λ m. m.family.steps ≤ 2 * costs.size * costs.size) }
 {
     let mut steps = Steps::<L>::new(blank);
     let engine = Engine::open(alloc, costs)?;

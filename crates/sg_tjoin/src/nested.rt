@@ -1,47 +1,45 @@
-ghost use Rattle.std.specs.Prelude.{◌≡◌, length, pos, IfOk, IfSome};
+ghost use Rattle.std.specs.Prelude.{◌≡◌, length, pos, IfOk, IfSome, MatchOption};
 ghost use Rattle.sg_graph.specs.Join.{AreTerminals, IsLeastJoin};
 ghost use Rattle.sg_graph.specs.Web.{weight_of};
 ghost use Rattle.sg_nest.specs.Nest.{NestProves};
-ghost use Rattle.sg_forest.specs.Counts.{KeepsTo};
 ghost use Rattle.sg_regions.specs.Places.{place_count};
+ghost use Rattle.sg_regions.specs.Steps.{Accounts, RegionSteps, TakesRuns};
 
 use super::weight::weight;
 use super::{LeastJoin, NoMemory};
 use sg_graph::{Terminals, Web};
 use sg_nest::proves;
-use sg_regions::{Grown, NestProposal, Proposer};
+use sg_regions::{NestProposal, Proposer};
 use std::alloc::Global;
 
-/// What is proposed, where its nest proves it: at first, or else once more; nothing where neither does. With
-/// the steps of all runs.
+/// What is proposed, where its nest proves it: at first, or else in a retry; nothing where neither does. The
+/// proposer counts the steps of both, and among them each blossom of the nest.
+#[tactic(auto, using(sg_regions::proofs::Runs::takes_both, sg_regions::proofs::Runs::accounts_later))]
 pub fn nested_join<R: Proposer<NestProposal>>(
     alloc: Global,
     web: &Web,
     terminals: &Terminals,
-    proposer: &R,
-) -> Result<Grown<Option<LeastJoin>>, NoMemory>
+    proposer: &mut R,
+) -> Result<Option<LeastJoin>, NoMemory>
     requires { AreTerminals web.now terminals.now }
-    ensures least { IfOk result (λ g. IfSome g.found (λ j. IsLeastJoin web.now terminals.now j.edges)) }
-    ensures weight { IfOk result (λ g. IfSome g.found (λ j. j.weight ≡ pos (weight_of web.now j.edges))) }
-    ensures proves { IfOk result (λ g. IfSome g.found
+    ensures least { IfOk result (λ found. IfSome found (λ j. IsLeastJoin web.now terminals.now j.edges)) }
+    ensures weight { IfOk result (λ found. IfSome found (λ j. j.weight ≡ pos (weight_of web.now j.edges))) }
+    ensures proves { IfOk result (λ found. IfSome found
         (λ j. IfSome j.nest (NestProves web.now terminals.now j.edges))) }
-    ensures steps { IfOk result (λ g. KeepsTo 4 (length terminals.now) (place_count web.now) g.growth) }
+    ensures steps { IfOk result
+        (λ _. TakesRuns 4 (length terminals.now) (place_count web.now) (R.steps proposer.old) (R.steps proposer.new)) }
+    ensures counted { IfOk result (λ found. IfSome found (λ j. MatchOption j.nest ⊥
+        (λ n. Accounts (length terminals.now) (length n.regions) (R.steps proposer.old) (R.steps proposer.new)))) }
 {
     let first = proposer.propose(alloc, web, terminals)?;
-    if let Some(join) = accepted(alloc, web, terminals, first.found)? {
-        return Ok(Grown {
-            found: Some(join),
-            growth: first.growth,
-        });
+    if let Some(join) = accepted(alloc, web, terminals, first)? {
+        return Ok(Some(join));
     }
     let second = proposer.propose_again(alloc, web, terminals)?;
-    Ok(Grown {
-        found: accepted(alloc, web, terminals, second.found)?,
-        growth: first.growth.and(second.growth),
-    })
+    accepted(alloc, web, terminals, second)
 }
 
-// The join of a proposal, where its nest proves it.
+// The T-join of a proposal, where its nest proves it.
 fn accepted(
     alloc: Global,
     web: &Web,
@@ -53,6 +51,10 @@ fn accepted(
     ensures weight { IfOk result (λ found. IfSome found (λ j. j.weight ≡ pos (weight_of web.now j.edges))) }
     ensures proves { IfOk result (λ found. IfSome found
         (λ j. IfSome j.nest (NestProves web.now terminals.now j.edges))) }
+    ensures counted { (old new : RegionSteps) →
+        IfSome proposal (λ p. Accounts (length terminals.now) (length p.nest.regions) old new) →
+        IfOk result (λ found. IfSome found (λ j. MatchOption j.nest ⊥
+        (λ n. Accounts (length terminals.now) (length n.regions) old new))) }
 {
     let Some(proposal) = proposal else {
         return Ok(None);

@@ -13,7 +13,7 @@ use sg_graph::{EdgeList, Table, Web};
 use sg_sums::{flip, places};
 use std::alloc::Global;
 
-/// The edges that stand in an odd number of the mates' shortest walks: a join of the terminals.
+/// The edges that are in an odd number of the mates' shortest walks: a T-join of the terminals.
 pub fn odd_edges(
     alloc: Global,
     web: &Web,

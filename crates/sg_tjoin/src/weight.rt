@@ -4,7 +4,7 @@ ghost use Rattle.sg_graph.specs.Web.{edge_count, weight_of};
 
 use sg_graph::{EdgeList, Web};
 
-/// What a join weighs.
+/// What a T-join weighs.
 pub fn weight(web: &Web, edges: &EdgeList) -> i64
     requires rising { IsStrictlyIncreasing edges.now }
     requires below { All (λ e. e < edge_count web.now) edges.now }

@@ -1,4 +1,4 @@
-use Rattle.std.proofs.Common.{◌≡◌, ◌∙◌, sym}
+use Rattle.std.proofs.Common.{◌≡◌, ◌*◌, ◌≤◌, ◌∙◌, IfOk, subst, sym}
 use Rattle.sg_arena.specs.Family.{leaf_count}
 use Rattle.sg_pairing.specs.Matching.{IsMatching, IsPairing, NoSlackIsNegative, pairing_cost, sum_of_duals}
 use Rattle.sg_pairing.specs.Metric.{cost}
@@ -32,3 +32,7 @@ returns-clause-duals c =
     (λ m. pairing_cost (terminal_cost c.args.terminals.now c.args.tables.now) m.mates ≡ sum_of_duals m.family)
     (λ m pairing duals. sym (same_cost c.args.terminals.now c.args.tables.now c.in_ok-costs.costs c.requires c.in_ok-costs.ensures m.mates pairing) ∙ duals)
     (returns-clause-pairing c) c.run.ensures.duals
+
+pub returns-clause-bounded : goal.returns-clause-bounded
+returns-clause-bounded c =
+    subst (λ k. IfOk c.run.result (λ (m : Matched). m.family.steps ≤ 2 * k * k)) c.in_ok-costs.ensures.size c.run.ensures.bounded
