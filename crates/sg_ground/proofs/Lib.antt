@@ -14,4 +14,5 @@ pub mod Gluing
 pub mod LeastPlaced
 pub mod WalkedSpins
 pub mod NestProofs
+pub mod CountedSteps
 pub mod Allowed

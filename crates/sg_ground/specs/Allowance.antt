@@ -12,9 +12,10 @@ use Rattle.sg_tjoin.specs.Allowance.{table_bytes}
 abbrev pub FacesExceed : ℕ → Embedding → Type 0
 FacesExceed most p = most < table_bytes (length (frustrated_faces p.instance p.faces)) p.faces.count
 
--- an instance that is solved by itself: the whole as it stands, or a component of it
+-- an instance that is solved by itself: the whole, or a component of it
 abbrev pub IsWholeOrPart : Ising → Ising → Type 0
-IsWholeOrPart inst own = (own ≡ inst) ⊎ ((least : ℕ) × (part : Part) × IsPart inst least part × (own ≡ part.planar.instance))
+IsWholeOrPart inst own =
+    (own ≡ inst) ⊎ ((least : ℕ) × (part : Part) × IsPart inst least part × (own ≡ part.planar.instance))
 
 -- of the instance, if it is connected, or else of one of its components the tables take more bytes than that
 pub record TablesExceed (most : ℕ) (inst : Ising) : Type 0 where

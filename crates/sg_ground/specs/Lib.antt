@@ -4,3 +4,4 @@ pub mod Solution
 pub mod Placed
 pub mod Nested
 pub mod Allowance
+pub mod Counted

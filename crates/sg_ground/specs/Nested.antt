@@ -11,8 +11,8 @@ use Rattle.sg_nest.specs.Nest.{NestProves}
 use Rattle.sg_nest.specs.declared.nest.Nest.{Nest}
 use Rattle.sg_ground.specs.Solution.{IsState}
 
--- spins and bonds together are no more than a web has nodes at most, so that all faces are nodes, of however many
--- components
+-- spins and bonds together are at most as many as a weighted graph may have nodes, so that all faces are nodes, of
+-- however many components
 abbrev pub FitsWeb : Ising → Type 0
 FitsWeb inst = inst.n + bond_count inst ≤ 2 ^ 24
 
@@ -20,8 +20,8 @@ FitsWeb inst = inst.n + bond_count inst ≤ 2 ^ 24
 abbrev pub broken_bonds : Ising → List ℤ → List ℕ
 broken_bonds inst s = chosen_below (λ k. is_broken s (bond_at inst k)) (bond_count inst)
 
--- the spins have the energy; and a nest over the faces proves of the bonds that they break that no join of the
--- frustrated faces weighs less
+-- the spins have the energy, and a nest over the faces proves that no T-join of the frustrated faces weighs less than
+-- the bonds that they break
 pub record ProvesByNest (p : Embedding) (s : List ℤ) (e : ℤ) (nest : Nest) : Type 0 where
   pub assignment : IsAssignment p.instance s
   pub stated : energy p.instance s ≡ e

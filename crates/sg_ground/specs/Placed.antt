@@ -4,7 +4,7 @@ use Rattle.sg_sums.specs.Sets.{holds}
 use Rattle.sg_model.specs.Spins.{spin}
 use Rattle.sg_check.specs.declared.packing.Loop.{Loop}
 
--- the number in the whole of what stands at this place of the part
+-- the number in the whole of what is at this place of the part
 abbrev pub numbered : List ℕ → ℕ → ℕ
 numbered xs i = slice_index xs i
 
@@ -16,7 +16,7 @@ loop_in_whole bonds l = record { y = l.y; bonds = map (numbered bonds) l.bonds }
 abbrev pub HasValues : List ℕ → List ℤ → List ℤ → Type 0
 HasValues spins s t = (i : ℕ) → i < length spins → spin s (numbered spins i) ≡ spin t i
 
--- the values t stand at these spins, and elsewhere nothing is new
+-- the values t are at these spins, and nothing else is new
 pub record WritesAt (spins : List ℕ) (t old new : List ℤ) : Type 0 where
   pub count : length new ≡ length old
   pub values : HasValues spins new t

@@ -1,4 +1,4 @@
--- A least join of the frustrated faces, with the odd cuts that prove it, and with its weight.
+-- A minimum T-join of the frustrated faces, with the odd cuts that prove it, and with its weight.
 use Rattle.std.specs.Prelude.{◌≡◌, ℕ, ◌*◌, ℤ, pos, List, sum_by}
 use Rattle.sg_graph.specs.declared.cut.Cut.{Cut}
 use Rattle.sg_graph.specs.Web.{weight_of}
@@ -7,13 +7,13 @@ use Rattle.sg_graph.specs.OddCut.{CutsPack, odd_cut_weight}
 use Rattle.sg_planar.specs.Fit.{Embedding}
 use Rattle.sg_dual.specs.Dual.{dual_web, frustrated_faces}
 
--- a least join of the frustrated faces in the dual, and a packing of odd cuts that weighs twice as much
+-- a minimum T-join of the frustrated faces in the dual, and a packing of odd cuts that weighs twice as much
 pub record IsTightJoin (p : Embedding) (edges : List ℕ) (cuts : List Cut) : Type 0 where
   pub least : IsLeastJoin (dual_web p.instance p.faces) (frustrated_faces p.instance p.faces) edges
   pub packs : CutsPack (dual_web p.instance p.faces) (frustrated_faces p.instance p.faces) cuts
   pub tight : sum_by odd_cut_weight cuts ≡ 2 * weight_of (dual_web p.instance p.faces) edges
 
--- a least join of the frustrated faces in the dual, and its weight
+-- a minimum T-join of the frustrated faces in the dual, and its weight
 pub record IsWeighedJoin (p : Embedding) (edges : List ℕ) (w : ℤ) : Type 0 where
   pub least : IsLeastJoin (dual_web p.instance p.faces) (frustrated_faces p.instance p.faces) edges
   pub weight : w ≡ pos (weight_of (dual_web p.instance p.faces) edges)

@@ -26,9 +26,9 @@ pub fn odd_cuts_are_loops()
 {}
 
 /// Broken bonds and joins (Bieche, Maynard, Rammal and Uhry 1980), for all instances with traced
-/// faces: each assignment breaks the bonds of a join of the frustrated faces; so one that breaks a
-/// least join is a ground state. On the plane some assignment does, where the instance is connected,
-/// so twice the weight of a least join, less that of all bonds, is the least energy.
+/// faces: each assignment breaks the bonds of a T-join of the frustrated faces; so one that breaks a
+/// minimum T-join is a ground state. On the plane some assignment does, where the instance is
+/// connected, so twice the weight of a minimum T-join, less that of all bonds, is the least energy.
 ///
 /// It computes nothing: a caller cites this call for joins from elsewhere.
 pub fn least_joins_break()

@@ -1,20 +1,22 @@
-ghost use Rattle.std.specs.Prelude.{◌≤◌, unsigned_abs, IfErr, IfOk};
+ghost use Rattle.std.specs.Prelude.{◌+◌, ◌≤◌, unsigned_abs, IfErr, IfOk};
 ghost use Rattle.sg_limits.specs.Limits.{forced_limit};
 ghost use Rattle.sg_model.specs.WellFormed.{IsInstance};
 ghost use Rattle.sg_model.specs.Energy.{weight, IsLeastEnergy};
 ghost use Rattle.sg_planar.specs.Fit.{IsPlanar};
 ghost use Rattle.sg_planar.specs.Parts.{AreParts};
 ghost use Rattle.sg_tjoin.specs.Allowance.{IfTooLarge};
+ghost use Rattle.sg_tjoin.specs.Counted.{steps_of};
 ghost use Rattle.sg_ground.specs.Allowance.{TablesExceed};
+ghost use Rattle.sg_ground.specs.Counted.{AddsSteps, all_steps};
 
 use super::NoMemory;
 use super::joins::{broken_energy, weighed_join};
 use sg_model::Instance;
 use sg_planar::{Division, Part, Planar, divide};
-use sg_tjoin::Unproved;
+use sg_tjoin::{Taken, Unproved};
 use std::alloc::{AllocError, Global};
 
-/// The least energy, for callers that want no spins: twice the weight of a least join of the
+/// The least energy, for callers that need no spins: twice the weight of a minimum T-join of the
 /// frustrated faces, less the weight of all bonds; and of several components their sum. The only error
 /// is that of an allocator that has no memory left.
 ///
@@ -37,41 +39,67 @@ pub fn least_energy_within(alloc: Global, planar: &Planar, most_bytes: u64) -> R
     ensures size { IfOk result (λ e. unsigned_abs e ≤ weight planar.now.instance) }
     ensures too_large { IfErr result (IfTooLarge (TablesExceed most_bytes planar.now.instance)) }
 {
-    energy_of_all(alloc, planar, most_bytes)
+    let mut steps = Taken::new();
+    least_energy_counted(alloc, planar, most_bytes, &mut steps)
+}
+
+/// The energy of [`least_energy_within`], and the count of the steps that it took, with the bound of
+/// [`solve_counted`](super::solve_counted).
+pub fn least_energy_counted(
+    alloc: Global,
+    planar: &Planar,
+    most_bytes: u64,
+    steps: &mut Taken,
+) -> Result<i64, Unproved>
+    ensures least { IfOk result (IsLeastEnergy planar.now.instance) }
+    ensures size { IfOk result (λ e. unsigned_abs e ≤ weight planar.now.instance) }
+    ensures too_large { IfErr result (IfTooLarge (TablesExceed most_bytes planar.now.instance)) }
+    ensures steps { IfOk result (λ _. AddsSteps 0 planar.now (steps_of steps.old) (steps_of steps.new)) }
+{
+    energy_of_all(alloc, planar, most_bytes, steps)
 }
 
 // The least energy of the instance as it is where it is connected, and else that of its components.
-fn energy_of_all(alloc: Global, planar: &Planar, most_bytes: u64) -> Result<i64, Unproved>
+#[tactic(auto, using(crate::proofs::CountedSteps::adds_whole, crate::proofs::CountedSteps::any_parts))]
+fn energy_of_all(
+    alloc: Global,
+    planar: &Planar,
+    most_bytes: u64,
+    steps: &mut Taken,
+) -> Result<i64, Unproved>
     ensures least { IfOk result (IsLeastEnergy planar.now.instance) }
     ensures too_large { IfErr result (IfTooLarge (TablesExceed most_bytes planar.now.instance)) }
+    ensures steps { IfOk result (λ _. AddsSteps 0 planar.now (steps_of steps.old) (steps_of steps.new)) }
     ensures planar { IsPlanar planar.now }
 {
     let inst = planar.instance();
     match divide(alloc, planar)? {
         Division::Whole => {
-            let join = weighed_join(alloc, planar, most_bytes)?;
+            let join = weighed_join(alloc, planar, most_bytes, steps)?;
             Ok(broken_energy(inst, join.weight))
         }
-        Division::Several(list) => energy_of_parts(alloc, inst, list.as_slice(), most_bytes),
+        Division::Several(list) => energy_of_parts(alloc, inst, list.as_slice(), most_bytes, steps),
     }
 }
 
-// The least energy of an instance of these parts, whose least joins are broken together.
+// The least energy of an instance of these parts, whose minimum T-joins are broken together.
 fn energy_of_parts(
     alloc: Global,
     inst: &Instance,
     parts: &[Part],
     most_bytes: u64,
+    steps: &mut Taken,
 ) -> Result<i64, Unproved>
     requires instance { IsInstance inst.now }
     requires parts { AreParts inst.now parts.now }
     requires light { weight inst.now ≤ forced_limit }
     ensures least { IfOk result (IsLeastEnergy inst.now) }
     ensures too_large { IfErr result (IfTooLarge (TablesExceed most_bytes inst.now)) }
+    ensures steps { IfOk result (λ _. steps_of steps.new ≤ steps_of steps.old + all_steps parts.now) }
 {
     let mut broken = 0i64;
     for part in parts {
-        let join = weighed_join(alloc, &part.planar, most_bytes)?;
+        let join = weighed_join(alloc, &part.planar, most_bytes, steps)?;
         broken += join.weight;
     }
     Ok(broken_energy(inst, broken))

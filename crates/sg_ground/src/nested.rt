@@ -9,13 +9,16 @@ ghost use Rattle.sg_planar.specs.Fit.{IsPlanar};
 ghost use Rattle.sg_graph.specs.Join.{AreTerminals, IsLeastJoin};
 ghost use Rattle.sg_dual.specs.Dual.{dual_web, frustrated_faces};
 ghost use Rattle.sg_nest.specs.Nest.{NestProves};
+ghost use Rattle.sg_regions.specs.Steps.{TakesRuns};
 ghost use Rattle.sg_tjoin.specs.Allowance.{IfTooLarge};
+ghost use Rattle.sg_tjoin.specs.Counted.{steps_of};
 ghost use Rattle.sg_ground.specs.Allowance.{TablesExceed};
+ghost use Rattle.sg_ground.specs.Counted.{AddsSteps, dual_places, frustrated_count, nest_steps};
 ghost use Rattle.sg_ground.specs.Nested.{IsNestedState, FitsWeb, ProvesByNest, broken_bonds as bonds_broken};
 
 use super::NoMemory;
 use super::answer::NestedState;
-use super::state::{State, ground_state_within};
+use super::state::{State, ground_state_counted};
 use super::whole::whole_state;
 use sg_dual::dual;
 use sg_graph::{Terminals, Web};
@@ -24,10 +27,11 @@ use sg_nest::{Nest, proves};
 use sg_planar::Planar;
 use sg_regions::{NestProposal, Proposer, Regions};
 use sg_sums::places;
-use sg_tjoin::Unproved;
+use sg_tjoin::{Taken, Unproved};
 use std::alloc::Global;
 
-// The most spins and bonds together of an instance whose faces are sure to be few enough for a web.
+// The most spins and bonds together of an instance whose faces are sure to be few enough for a
+// `Web`.
 const MOST_TOGETHER: usize = 1 << 24;
 
 /// A ground state with the least spin of each component up, its energy, and a proof of linear size: a
@@ -40,8 +44,8 @@ const MOST_TOGETHER: usize = 1 << 24;
 /// for each component.
 ///
 /// Cost: that of [`ground_state`]; of an instance that is not connected also that of
-/// `sg_regions::propose_nest` on the frustrated faces of all components, of the judge, and where it says
-/// no as much once more.
+/// `sg_regions::propose_nest` on the frustrated faces of all components, of the judge, and as much again
+/// for the retry if it says no.
 pub fn nested_state(
     alloc: Global,
     planar: &Planar,
@@ -54,32 +58,69 @@ pub fn nested_state(
     ensures too_large { IfErr result (IfTooLarge (TablesExceed most_bytes planar.now.instance)) }
     ensures planar { IsPlanar planar.now }
 {
-    nested(alloc, planar, most_bytes)
+    let mut steps = Taken::new();
+    nested_state_counted(alloc, planar, most_bytes, &mut steps)
+}
+
+/// The state of [`nested_state`], and the count of the steps that it took: at most those of
+/// [`solve_counted`](super::solve_counted), and those of growing regions on the dual of all components.
+pub fn nested_state_counted(
+    alloc: Global,
+    planar: &Planar,
+    most_bytes: u64,
+    steps: &mut Taken,
+) -> Result<NestedState, Unproved>
+    ensures ground_state { IfOk result (λ a. IsGroundState planar.now.instance a.spins) }
+    ensures first_up { IfOk result (λ a. LeastsUp planar.now.instance a.spins) }
+    ensures energy { IfOk result (λ a. a.energy ≡ energy planar.now.instance a.spins) }
+    ensures proves { IfOk result (λ a. IfSome a.nest (ProvesByNest planar.now a.spins a.energy)) }
+    ensures too_large { IfErr result (IfTooLarge (TablesExceed most_bytes planar.now.instance)) }
+    ensures steps { IfOk result
+        (λ _. AddsSteps (nest_steps planar.now) planar.now (steps_of steps.old) (steps_of steps.new)) }
+    ensures planar { IsPlanar planar.now }
+{
+    nested(alloc, planar, most_bytes, steps)
 }
 
 // The same, as one record.
-fn nested(alloc: Global, planar: &Planar, most_bytes: u64) -> Result<NestedState, Unproved>
+#[tactic(auto, using(crate::proofs::CountedSteps::any_whole))]
+fn nested(
+    alloc: Global,
+    planar: &Planar,
+    most_bytes: u64,
+    steps: &mut Taken,
+) -> Result<NestedState, Unproved>
     ensures state { IfOk result (λ a. IsNestedState planar.now a.spins a.energy a.nest) }
     ensures too_large { IfErr result (IfTooLarge (TablesExceed most_bytes planar.now.instance)) }
+    ensures steps { IfOk result
+        (λ _. AddsSteps (nest_steps planar.now) planar.now (steps_of steps.old) (steps_of steps.new)) }
     ensures planar { IsPlanar planar.now }
 {
     if planar.is_connected() {
-        whole_state(alloc, planar, most_bytes)
+        whole_state(alloc, planar, most_bytes, steps)
     } else {
-        nested_apart(alloc, planar, most_bytes)
+        nested_apart(alloc, planar, most_bytes, steps)
     }
 }
 
 // The state of an instance of several components, with a nest over the faces of all of them, where that
 // proves it.
-fn nested_apart(alloc: Global, planar: &Planar, most_bytes: u64) -> Result<NestedState, Unproved>
+#[tactic(auto, using(crate::proofs::CountedSteps::adds_nest))]
+fn nested_apart(
+    alloc: Global,
+    planar: &Planar,
+    most_bytes: u64,
+    steps: &mut Taken,
+) -> Result<NestedState, Unproved>
     ensures state { IfOk result (λ a. IsNestedState planar.now a.spins a.energy a.nest) }
     ensures too_large { IfErr result (IfTooLarge (TablesExceed most_bytes planar.now.instance)) }
+    ensures steps { IfOk result
+        (λ _. AddsSteps (nest_steps planar.now) planar.now (steps_of steps.old) (steps_of steps.new)) }
     ensures planar { IsPlanar planar.now }
 {
     let is_small = fits_web(planar);
-    let state = ground_state_within(alloc, planar, most_bytes)?;
-    let nest = nest_over_all(alloc, planar, &state, is_small)?;
+    let state = ground_state_counted(alloc, planar, most_bytes, steps)?;
+    let nest = nest_over_all(alloc, planar, &state, is_small, &mut steps.regions)?;
     Ok(NestedState {
         spins: state.spins,
         energy: state.energy,
@@ -87,41 +128,47 @@ fn nested_apart(alloc: Global, planar: &Planar, most_bytes: u64) -> Result<Neste
     })
 }
 
-// A nest over the faces of all components that proves the state, where these fit a web and one is
-// proposed: at first, or else once more.
+// A nest over the faces of all components that proves the state, if these fit a `Web` and the
+// proposal or the retry has one.
 fn nest_over_all(
     alloc: Global,
     planar: &Planar,
     state: &State,
     is_small: bool,
+    regions: &mut Regions,
 ) -> Result<Option<Nest>, NoMemory>
     requires { IsTrue is_small → FitsWeb planar.now.instance }
-    ensures { IfOk result (λ found. IfSome found (ProvesByNest planar.now state.now.spins state.now.energy)) }
+    ensures proves { IfOk result (λ found. IfSome found (ProvesByNest planar.now state.now.spins state.now.energy)) }
+    ensures steps { IfOk result
+        (λ _. TakesRuns 4 (frustrated_count planar.now) (dual_places planar.now) regions.old regions.new) }
 {
     if !is_small {
         return Ok(None);
     }
-    nest_by(alloc, planar, state, &Regions)
+    nest_by(alloc, planar, state, regions)
 }
 
-/// A nest over the faces of all components that proves the state, where one is proposed: at first, or else
-/// once more.
+/// A nest over the faces of all components that proves the state, if the proposal or the retry has one.
+/// The proposer counts the steps of both.
+#[tactic(auto, using(crate::proofs::CountedSteps::first_runs, crate::proofs::CountedSteps::both_runs))]
 pub fn nest_by<R: Proposer<NestProposal>>(
     alloc: Global,
     planar: &Planar,
     state: &State,
-    proposer: &R,
+    proposer: &mut R,
 ) -> Result<Option<Nest>, NoMemory>
     requires { FitsWeb planar.now.instance }
-    ensures { IfOk result (λ found. IfSome found (ProvesByNest planar.now state.now.spins state.now.energy)) }
+    ensures proves { IfOk result (λ found. IfSome found (ProvesByNest planar.now state.now.spins state.now.energy)) }
+    ensures steps { IfOk result (λ _. TakesRuns 4 (frustrated_count planar.now) (dual_places planar.now)
+        (R.steps proposer.old) (R.steps proposer.new)) }
 {
     let (web, frustrated) = whole_dual(alloc, planar)?;
     let first = proposer.propose(alloc, &web, &frustrated)?;
-    if let Some(nest) = accepted(alloc, planar, state, first.found)? {
+    if let Some(nest) = accepted(alloc, planar, state, first)? {
         return Ok(Some(nest));
     }
     let second = proposer.propose_again(alloc, &web, &frustrated)?;
-    accepted(alloc, planar, state, second.found)
+    accepted(alloc, planar, state, second)
 }
 
 // The nest of a proposal, where it proves the state.
@@ -143,7 +190,7 @@ fn accepted(
     Ok(Some(proposal.nest))
 }
 
-// Whether spins and bonds together are few enough for all faces to be nodes of a web.
+// Whether spins and bonds together are few enough for all faces to be nodes of a graph.
 fn fits_web(planar: &Planar) -> bool
     ensures small { IsTrue result → FitsWeb planar.now.instance }
     ensures planar { IsPlanar planar.now }
@@ -156,7 +203,7 @@ fn fits_web(planar: &Planar) -> bool
 /// The instance need not be connected.
 ///
 /// It takes time linear in spins, bonds and regions, but for what `sg_nest::proves` says. The only error
-/// is want of memory.
+/// is running out of memory.
 pub fn proves_by_nest(
     alloc: Global,
     planar: &Planar,
@@ -194,7 +241,7 @@ fn has_energy(planar: &Planar, stated: i64, spins: &Spins) -> bool
     planar.instance().energy(spins) == i128::from(stated)
 }
 
-// Whether the nest proves the bonds that the spins break a least join.
+// Whether the nest proves the bonds that the spins break a minimum T-join.
 fn proves_broken(
     alloc: Global,
     planar: &Planar,

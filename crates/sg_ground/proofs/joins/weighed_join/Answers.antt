@@ -20,22 +20,22 @@ returns-clause-join c =
     let p : Embedding = c.args.planar.now in
     let web : Graph = c.in_ok-web.web in
     let terminals : List ℕ = c.in_ok-web.frustrated in
-    both c.least_weight_within.result
+    both c.least_weight_counted.result
     (λ (j : LeastJoin). IsLeastJoin web terminals j.edges)
     (λ (j : LeastJoin). j.weight ≡ pos (weight_of web j.edges))
     (λ (j : LeastJoin). IsWeighedJoin p j.edges j.weight)
     (λ (j : LeastJoin). dual_join p web terminals j.edges j.weight c.in_ok-web.ensures.web c.in_ok-web.ensures.frustrated)
-    c.least_weight_within.ensures.least c.least_weight_within.ensures.weight
+    c.least_weight_counted.ensures.least c.least_weight_counted.ensures.weight
 
 pub returns-clause-proves : goal.returns-clause-proves
 returns-clause-proves c =
     let p : Embedding = c.args.planar.now in
     let web : Graph = c.in_ok-web.web in
     let terminals : List ℕ = c.in_ok-web.frustrated in
-    IfOk-weaker c.least_weight_within.result
+    IfOk-weaker c.least_weight_counted.result
     (λ (j : LeastJoin). IfSome j.nest (NestProves web terminals j.edges))
     (λ (j : LeastJoin). IfSome j.nest (NestProves (dual_web p.instance p.faces) (frustrated_faces p.instance p.faces) j.edges))
     (λ (j : LeastJoin) proves.
     subst (λ (ts : List ℕ). IfSome j.nest (NestProves (dual_web p.instance p.faces) ts j.edges)) c.in_ok-web.ensures.frustrated
     (subst (λ (g : Graph). IfSome j.nest (NestProves g terminals j.edges)) c.in_ok-web.ensures.web proves))
-    c.least_weight_within.ensures.proves
+    c.least_weight_counted.ensures.proves

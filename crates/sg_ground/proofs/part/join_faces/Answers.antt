@@ -18,11 +18,11 @@ returns-clause-join c =
     let p : Embedding = c.args.planar.now in
     let web : Graph = c.in_ok-web.web in
     let terminals : List ℕ = c.in_ok-web.frustrated in
-    all_three c.least_join_within.result
+    all_three c.least_join_counted.result
     (λ (j : Join). IsLeastJoin web terminals j.edges)
     (λ (j : Join). CutsPack web terminals j.cuts)
     (λ (j : Join). sum_by odd_cut_weight j.cuts ≡ 2 * weight_of web j.edges)
     (λ (j : Join). IsTightJoin p j.edges j.cuts)
     (λ (j : Join). tight_join p c.dual_of.ensures.planar c.requires.connected web terminals j.edges j.cuts c.in_ok-web.ensures.web
     c.in_ok-web.ensures.frustrated)
-    c.least_join_within.ensures.least c.least_join_within.ensures.packs c.least_join_within.ensures.tight
+    c.least_join_counted.ensures.least c.least_join_counted.ensures.packs c.least_join_counted.ensures.tight

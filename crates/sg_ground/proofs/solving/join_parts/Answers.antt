@@ -9,6 +9,7 @@ use Rattle.sg_check.specs.declared.packing.Loop.{Loop}
 use Rattle.sg_planar.specs.declared.components.Part.{Part}
 use Rattle.sg_ground.specs.Placed.{WritesAt, loop_in_whole}
 use Rattle.sg_ground.proofs.Allowed.{part_exceeds}
+use Rattle.sg_ground.proofs.CountedSteps.{steps_all, steps_more}
 use Rattle.sg_ground.proofs.Glued.{IsGlued}
 use Rattle.sg_ground.specs.Solution.{IsSolution}
 use Rattle.sg_ground.proofs.Gluing.{all_glued, part_glued, part_loops_below}
@@ -32,7 +33,7 @@ pub place_values-requires-clause-below : goal.place_values-requires-clause-below
 place_values-requires-clause-below c =
     subst (λ xs. All (λ x. x < length c.deref_mut.result.now) xs) (sym c.as_slice.ensures)
     (places_below c.args.inst.now c.n.ensures.instance c.args.parts.now c.requires.parts c.loop-part.part-index c.part-item.result c.loop-part-test.true
-    c.part-item.is c.deref_mut.result.now (ap length c.deref_mut.ensures.value ∙ c.loop-part.invariant.placed.assignment.count))
+    c.part-item.is c.deref_mut.result.now (ap length c.deref_mut.ensures.value ∙ c.loop-part.invariant.0.placed.assignment.count))
 
 pub place_values-requires-clause-count : goal.place_values-requires-clause-count
 place_values-requires-clause-count c =
@@ -48,7 +49,7 @@ overflow_add-energy c =
     let found = c.in_ok-found.found in
     let fits : FitsSigned w64 (to_z w64 c.loop-part.energy-bits +ℤ found.energy) =
     part_energy_fits inst c.n.ensures.instance c.args.parts.now c.requires.parts c.loop-part.part-index p c.loop-part-test.true c.part-item.is
-    (to_z w64 c.loop-part.energy-bits) found.energy c.requires.light c.loop-part.invariant.placed.size
+    (to_z w64 c.loop-part.energy-bits) found.energy c.requires.light c.loop-part.invariant.0.placed.size
     (size_from_solution p.planar.instance (part_is_share inst c.n.ensures.instance c.args.parts.now c.requires.parts c.loop-part.part-index p
     c.loop-part-test.true c.part-item.is).good found.spins found.energy found.loops c.in_ok-found.ensures.solution) in
     subst (FitsSigned w64) (sym (ap (λ y. to_z w64 c.loop-part.energy-bits +ℤ y) (to_z-of_z w64 found.energy (search rules)))) fits
@@ -75,7 +76,7 @@ loop-part-preserved c =
     let new : List ℤ = c.place_values.new.values in
     let fits : FitsSigned w64 (to_z w64 c.loop-part.energy-bits +ℤ found.energy) =
     part_energy_fits inst c.n.ensures.instance c.args.parts.now c.requires.parts c.loop-part.part-index p c.loop-part-test.true c.part-item.is
-    (to_z w64 c.loop-part.energy-bits) found.energy c.requires.light c.loop-part.invariant.placed.size
+    (to_z w64 c.loop-part.energy-bits) found.energy c.requires.light c.loop-part.invariant.0.placed.size
     (size_from_solution p.planar.instance (part_is_share inst c.n.ensures.instance c.args.parts.now c.requires.parts c.loop-part.part-index p
     c.loop-part-test.true c.part-item.is).good found.spins found.energy found.loops c.in_ok-found.ensures.solution) in
     let writes : WritesAt p.spins found.spins c.loop-part.values.items new =
@@ -85,7 +86,7 @@ loop-part-preserved c =
     let glued : IsGlued inst (take (c.loop-part.part-index + 1) c.args.parts.now) new (to_z w64 c.loop-part.energy-bits +ℤ found.energy)
     (c.loop-part.loops ++ map (loop_in_whole p.bonds) found.loops) =
     part_glued inst c.n.ensures.instance c.args.parts.now c.requires.parts c.loop-part.part-index p c.loop-part-test.true c.part-item.is
-    c.loop-part.values.items found.spins new (to_z w64 c.loop-part.energy-bits) found.energy c.loop-part.loops found.loops c.loop-part.invariant
+    c.loop-part.values.items found.spins new (to_z w64 c.loop-part.energy-bits) found.energy c.loop-part.loops found.loops c.loop-part.invariant.0
     c.in_ok-found.ensures.solution writes in
     let same_sum : to_z w64 c.loop-part.energy-bits +ℤ to_z w64 (of_z w64 found.energy) ≡ to_z w64 c.loop-part.energy-bits +ℤ found.energy =
     ap (λ y. to_z w64 c.loop-part.energy-bits +ℤ y) (to_z-of_z w64 found.energy (search rules)) in
@@ -94,8 +95,11 @@ loop-part-preserved c =
     ap (λ x. to_z w64 (of_z w64 x)) same_sum ∙ to_z-of_z w64 (to_z w64 c.loop-part.energy-bits +ℤ found.energy) fits in
     let same_loops : c.place_loops.new.loops ≡ c.loop-part.loops ++ map (loop_in_whole p.bonds) found.loops =
     c.in_ok-place_loops.ensures
-    ∙ ap₂ (λ bonds loops. c.loop-part.loops ++ map (loop_in_whole bonds) loops) c.as_slice-in-loop-part-3.ensures c.as_slice-in-loop-part-2.ensures in
-    rw (with_items_is c.loop-part.values new (c.place_values.auto.values ∙ c.deref_mut.ensures.len), same_energy, same_loops) glued
+    ∙ ap₂ (λ bonds loops. c.loop-part.loops ++ map (loop_in_whole bonds) loops) c.as_slice-in-loop-part-3.ensures c.as_slice-in-loop-part-2.ensures in (
+      rw (with_items_is c.loop-part.values new (c.place_values.auto.values ∙ c.deref_mut.ensures.len), same_energy, same_loops) glued,
+      steps_more c.args.parts.now c.loop-part.part-index c.part-item.result c.loop-part-test.true c.part-item.is _ _ _ c.loop-part.invariant.1
+          c.in_ok-found.ensures.steps,
+    )
 
 pub returns-clause-solution : goal.returns-clause-solution
 returns-clause-solution c =
@@ -104,12 +108,16 @@ returns-clause-solution c =
     let all : take c.loop-part.part-index parts ≡ parts = take_all c.loop-part.part-index parts (search rules) in
     let solution : IsSolution inst c.loop-part.values.items (to_z w64 c.loop-part.energy-bits) c.loop-part.loops =
     all_glued inst c.n.ensures.instance parts c.requires.parts c.loop-part.values.items (to_z w64 c.loop-part.energy-bits) c.loop-part.loops
-    (subst (λ ps. IsGlued inst ps c.loop-part.values.items (to_z w64 c.loop-part.energy-bits) c.loop-part.loops) all c.loop-part.invariant) in
+    (subst (λ ps. IsGlued inst ps c.loop-part.values.items (to_z w64 c.loop-part.energy-bits) c.loop-part.loops) all c.loop-part.invariant.0) in
     rw (c.in_ok-spins_of.ensures ∙ c.deref.ensures.value) solution
 
 pub returns-in_err-found-clause-too_large : goal.returns-in_err-found-clause-too_large
 returns-in_err-found-clause-too_large c =
     let p = err_from_is_err_and c.from_residual-in_err-found.result c.from_residual-in_err-found.ensures.1 in
     rw (p.1, p.2) (
-    part_exceeds c.args.inst.now c.n.ensures.instance c.args.parts.now c.requires.parts c.loop-part.part-index c.part-item.result c.loop-part-test.true c.part-item.is
+    part_exceeds c.args.inst.now c.n.ensures.instance c.args.parts.now c.requires.parts c.loop-part.part-index c.part-item.result
+    c.loop-part-test.true c.part-item.is
     c.args.most_bytes c.in_err-found.field-0.0 c.in_err-found.ensures.too_large)
+
+pub returns-clause-steps : goal.returns-clause-steps
+returns-clause-steps c = steps_all c.args.parts.now c.loop-part.part-index (search rules) _ _ c.loop-part.invariant.1

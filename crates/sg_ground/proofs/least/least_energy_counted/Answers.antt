@@ -4,7 +4,7 @@ use Rattle.std.proofs.lemmas.Result.{IfOk-weaker}
 use Rattle.sg_model.specs.Ising.{Ising}
 use Rattle.sg_model.specs.Energy.{IsLeastEnergy, weight}
 use Rattle.sg_ground.proofs.LeastPlaced.{least_size}
-use Rattle.sg_ground.proofs.least.least_energy_within.Goals as goal
+use Rattle.sg_ground.proofs.least.least_energy_counted.Goals as goal
 
 pub returns-clause-size : goal.returns-clause-size
 returns-clause-size c =

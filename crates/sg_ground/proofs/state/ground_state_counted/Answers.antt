@@ -6,7 +6,7 @@ use Rattle.sg_model.specs.Energy.{weight}
 use Rattle.sg_ground.specs.declared.state.State.{State}
 use Rattle.sg_ground.specs.Solution.{IsState}
 use Rattle.sg_ground.proofs.LeastPlaced.{state_size}
-use Rattle.sg_ground.proofs.state.ground_state_within.Goals as goal
+use Rattle.sg_ground.proofs.state.ground_state_counted.Goals as goal
 
 pub returns-clause-size : goal.returns-clause-size
 returns-clause-size c =

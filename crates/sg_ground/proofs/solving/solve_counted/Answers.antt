@@ -6,7 +6,7 @@ use Rattle.sg_model.specs.Energy.{IsGroundState, weight}
 use Rattle.sg_ground.specs.declared.answer.Answer.{Answer}
 use Rattle.sg_ground.specs.Solution.{IsSolution}
 use Rattle.sg_ground.proofs.Solutions.{ground_state_from_solution, size_from_solution}
-use Rattle.sg_ground.proofs.solving.solve_within.Goals as goal
+use Rattle.sg_ground.proofs.solving.solve_counted.Goals as goal
 
 -- the answer is a solution of the instance
 abbrev Solves : Ising → Answer → Type 0
