@@ -8,10 +8,10 @@ pub mod PathBounds
 pub mod SomeCost
 pub mod RigidBounds
 pub mod ToldBonds
-pub mod BondLoads
 pub mod PartCosts
 pub mod JoinedCosts
 pub mod EdgeJoins
 pub mod JoinStates
 pub mod JoinsFound
 pub mod WeakenedEnergy
+pub mod Weakening

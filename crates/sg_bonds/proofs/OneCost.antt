@@ -30,7 +30,8 @@ costs-one inst xs ys p q =
     ∙ sym (get_or_default ys k d (pos 0) (omega (arith, l, p.count, q.count))))
 
 -- a walk over bonds of one set is one over those of another that has them too
-walk-kept : (inst : Ising) (set other : ℕ → Bool) → ((b : ℕ) → b < bond_count inst → set b ≡ true → other b ≡ true) → (path : List ℕ) (a b : ℕ)
+walk-kept : (inst : Ising) (set other : ℕ → Bool) →
+    ((b : ℕ) → b < bond_count inst → set b ≡ true → other b ≡ true) → (path : List ℕ) (a b : ℕ)
     → IsWalk inst set a path b → IsWalk inst other a path b
 walk-kept inst set other more [] a b w = w
 walk-kept inst set other more (c ∷ cs) a b w = (
@@ -41,8 +42,10 @@ walk-kept inst set other more (c ∷ cs) a b w = (
 -- a spin has one cluster
 pub cluster-one : (inst : Ising) (i k l : ℕ) → IsCluster inst i k → IsCluster inst i l → k ≡ l
 cluster-one inst i k l p q =
-    let forth : Reached inst q.set i k = (p.reached.0, walk-kept inst p.set q.set (λ b low h. (q.rigid b low).1 ((p.rigid b low).0 h)) p.reached.0 i k p.reached.1) in
-    let back : Reached inst p.set i l = (q.reached.0, walk-kept inst q.set p.set (λ b low h. (p.rigid b low).1 ((q.rigid b low).0 h)) q.reached.0 i l q.reached.1) in
+    let forth : Reached inst q.set i k =
+    (p.reached.0, walk-kept inst p.set q.set (λ b low h. (q.rigid b low).1 ((p.rigid b low).0 h)) p.reached.0 i k p.reached.1) in
+    let back : Reached inst p.set i l =
+    (q.reached.0, walk-kept inst q.set p.set (λ b low h. (p.rigid b low).1 ((q.rigid b low).0 h)) q.reached.0 i l q.reached.1) in
     omega (arith, p.least l back, q.least k forth)
 
 pub clusters-one : (inst : Ising) (xs ys : List ℕ) → AreClusters inst xs → AreClusters inst ys → xs ≡ ys

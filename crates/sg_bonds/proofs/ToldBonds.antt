@@ -1,30 +1,17 @@
--- What is told of the bonds stays true: one more bond is told, or another ground state frees those that it turns.
+-- What is told of the bonds stays true: one more bond is told, bonds that were weakened are rigid, or another ground state frees
+-- those that it turns.
 use Rattle.std.proofs.Common.{◌≡◌, ◌≢◌, ◌⊎◌, ◌↔◌, inl, inr, ℕ, ◌+◌, ◌<◌, ◌≤◌, Bool, true, false, ℤ, pos, ◌<ℤ◌, ◌≤ℤ◌, List}
-use Rattle.std.proofs.Common.{[], ◌∷◌, ◌++◌, sym, ◌∙◌, subst, arith, length, set}
-use Rattle.std.specs.Prelude.{unsigned_abs}
+use Rattle.std.proofs.Common.{[], ◌∷◌, ◌++◌, sym, ◌∙◌, subst, arith, length, set, replicate}
 use Rattle.std.proofs.lemmas.Bool.{cases_eq, cases_lt}
 use Rattle.std.proofs.lemmas.Int.{ints}
-use Rattle.std.proofs.lemmas.List.{get_or-set_same, get_or-set_other, get_or_append_left, get_or_push, length-set}
-use Rattle.sg_limits.specs.Limits.{sum_limit}
-use Rattle.sg_model.specs.Ising.{Ising, bond_at, bond_count}
-use Rattle.sg_model.specs.WellFormed.{IsInstance}
-use Rattle.sg_model.specs.Energy.{weight}
-use Rattle.sg_check.specs.declared.packing.Loop.{Loop}
-use Rattle.sg_check.specs.Packing.{Proves, load}
+use Rattle.std.proofs.lemmas.List.{get_or-replicate, get_or-set_same, get_or-set_other, get_or_append_left, get_or_push, length-replicate, length-set}
+use Rattle.sg_model.specs.Ising.{Ising, bond_count}
 use Rattle.sg_walk.specs.Walk.{has}
 use Rattle.sg_bonds.specs.Cost.{IsCost, IsRigid}
 use Rattle.sg_bonds.specs.declared.telling.Told.{Told}
 use Rattle.sg_bonds.specs.declared.telling.Told.TheVariants.{Free, Rigid, Unknown}
-use Rattle.sg_bonds.specs.Told.{AreTold, IsTold, is_rigid, told_at}
-use Rattle.sg_bonds.specs.Loads.{IsLoad, LeavesRoom}
+use Rattle.sg_bonds.specs.Told.{AreTold, IsTold, told_at}
 use Rattle.sg_bonds.proofs.ClusterNames.{cost_once}
-use Rattle.sg_bonds.proofs.RigidBounds.{rigid_room}
-
--- a bond that is told to be rigid is
-pub told_is_rigid : (inst : Ising) (k : ℕ) (told : Told) → IsTold inst k told → is_rigid told ≡ true → IsRigid inst k
-told_is_rigid inst k Rigid h e = h
-told_is_rigid inst k Free h e = cc
-told_is_rigid inst k Unknown h e = cc
 
 -- a bond that does not cost more than 0 is not rigid
 pub not_rigid : (inst : Ising) (k : ℕ) (c : ℤ) → IsCost inst k c → c ≤ℤ pos 0 → IsRigid inst k → ⊥
@@ -53,28 +40,18 @@ module _ (inst : Ising) (told : List Told) (are : AreTold inst told) where
   freed_true k now turns inside free (inl same) = subst (IsTold inst k) (sym same) (are.each k inside)
   freed_true k now turns inside free (inr (yes_turned, is)) = subst (IsTold inst k) (sym is) (free yes_turned)
 
--- what the load of a bond tells
-pub told_by_load : (inst : Ising) → IsInstance inst → weight inst ≤ sum_limit
-    → (s : List ℤ) (e : ℤ) (loops : List Loop) → Proves inst s e loops
-    → (k : ℕ) → k < bond_count inst → (number : ℕ) → IsLoad (load loops k) number → (now : Told)
-    → (now ≡ Rigid → LeavesRoom number (unsigned_abs (bond_at inst k).j)) → (now ≡ Rigid) ⊎ (now ≡ Unknown) → IsTold inst k now
-told_by_load inst good small s e loops proof k inside number is now room (inr none) = subst (IsTold inst k) (sym none) tt
-told_by_load inst good small s e loops proof k inside number is now room (inl rigid) =
-    let (below, more) = room rigid in
-    let least : load loops k ≤ number = is below in
-    subst (IsTold inst k) (sym rigid)
-    (rigid_room inst good s e loops proof k inside (omega (arith, least, more)) small)
+  -- what is told of a bond that was weakened by an amount
+  pub stiffened_true : (k : ℕ) (now : Told) (amount : ℕ) → k < bond_count inst → (1 ≤ amount → IsRigid inst k)
+      → (now ≡ told_at told k) ⊎ ((1 ≤ amount) × (now ≡ Rigid)) → IsTold inst k now
+  stiffened_true k now amount inside rigid (inl same) = subst (IsTold inst k) (sym same) (are.each k inside)
+  stiffened_true k now amount inside rigid (inr (some, is)) = subst (IsTold inst k) (sym is) (rigid some)
 
--- one more bond is told, behind the others
-pub told_push : (inst : Ising) (told : List Told) (now : Told) (stop : ℕ) → length told ≡ stop
-    → ((k : ℕ) → k < stop → IsTold inst k (told_at told k))
-    → IsTold inst stop now → (k : ℕ) → k < stop + 1 → IsTold inst k (told_at (told ++ now ∷ []) k)
-told_push inst told now stop long before here k l = elim (cases_lt k stop) [
-  | inl b ↦ subst (IsTold inst k) (sym (get_or_append_left told (now ∷ []) Unknown k (omega (arith, long)))) (before k b)
-  | inr past ↦
-      let same : k ≡ stop = omega arith in
-      subst (IsTold inst k) (sym (get_or_push told now Unknown k (long ∙ sym same))) (subst (λ i. IsTold inst i now) (sym same) here)
-]
+-- of no bond anything is told
+pub none_told : (inst : Ising) → AreTold inst (replicate (bond_count inst) Unknown)
+none_told inst = record {
+  count = length-replicate (bond_count inst) Unknown;
+  each = λ k l. subst (IsTold inst k) (sym (get_or-replicate (bond_count inst) k Unknown Unknown l)) tt;
+}
 
 -- one more mark of a rigid bond
 pub marks_push : (inst : Ising) (set : List Bool) (now : Bool) (stop : ℕ) → length set ≡ stop → ((k : ℕ) → k < stop → (has set k ≡ true) ↔ IsRigid inst k)

@@ -110,7 +110,7 @@ weakened_term x a p q (inr e) (inl f) = rw (e, f) (omega (arith, ints))
 weakened_term x a p q (inr e) (inr f) = rw (e, f) (omega (arith, ints))
 
 -- and how large its coupling is
-weakened_size : (m a : ℕ) (j p : ℤ) → IsUpOrDown p → unsigned_abs ((pos m *ℤ j) -ℤ (pos a *ℤ p)) ≤ m * unsigned_abs j + a
+pub weakened_size : (m a : ℕ) (j p : ℤ) → IsUpOrDown p → unsigned_abs ((pos m *ℤ j) -ℤ (pos a *ℤ p)) ≤ m * unsigned_abs j + a
 weakened_size m a j p up = apart (pos m *ℤ j) up (unsigned_abs-mul (pos m) j)
   where
     apart : (x : ℤ) → IsUpOrDown p → unsigned_abs x ≡ m * unsigned_abs j → unsigned_abs (x -ℤ (pos a *ℤ p)) ≤ m * unsigned_abs j + a
@@ -190,7 +190,7 @@ module _ (inst : Ising) (good : IsInstance inst) (scale : ℕ) (s : List ℤ) (f
         added w v x y z b a d c e f g = omega (arith, ints)
 
     -- the energy where the couplings are weakened
-    weakened_energy : energy weaker t +ℤ pos (2 * turned_amount inst s t amount) ≡ (pos scale *ℤ energy inst t) +ℤ pos (sum_below amount (bond_count inst))
+    pub weakened_energy : energy weaker t +ℤ pos (2 * turned_amount inst s t amount) ≡ (pos scale *ℤ energy inst t) +ℤ pos (sum_below amount (bond_count inst))
     weakened_energy =
         moved (energy weaker t) (total (aligned_at weaker t) (bond_count inst)) (pos scale *ℤ total (aligned_at inst t) (bond_count inst))
         (pos scale *ℤ energy inst t) (turned_amount inst s t amount) (sum_below amount (bond_count inst))
@@ -201,7 +201,7 @@ module _ (inst : Ising) (good : IsInstance inst) (scale : ℕ) (s : List ℤ) (f
         moved : (e w x f : ℤ) (b a : ℕ) → e ≡ neg_ℤ w → w ≡ x +ℤ (pos (2 * b) -ℤ pos a) → f ≡ neg_ℤ x → e +ℤ pos (2 * b) ≡ f +ℤ pos a
         moved e w x f b a p q r = omega (arith, ints)
 
-  none_turned : turned_amount inst s s amount ≡ 0
+  pub none_turned : turned_amount inst s s amount ≡ 0
   none_turned = sum_below-zero (λ k. cond (turns s s (bond_at inst k)) (amount k) 0) (bond_count inst)
       (λ k l. ap (λ b. cond b (amount k) 0) (not_turned (product s (bond_at inst k)) (unit_product inst good k l s first)))
     where

@@ -10,7 +10,7 @@ pub record IsLeastWith (inst : Ising) (k : ℕ) (p e : ℤ) : Type 0 where
   pub reached : (s : List ℤ) × IsAssignment inst s × (product s (bond_at inst k) ≡ p) × (energy inst s ≡ e)
   pub least : (s : List ℤ) → IsAssignment inst s → product s (bond_at inst k) ≡ p → e ≤ℤ energy inst s
 
--- the cost of bond k: how far the least energies with like and with unlike spins lie apart
+-- the cost of bond k: the difference of the least energies with equal and with opposite spins
 pub record IsCost (inst : Ising) (k : ℕ) (c : ℤ) : Type 0 where
   pub like : ℤ
   pub unlike : ℤ

@@ -1,4 +1,4 @@
--- What is known of the costs while they are found: bounds by assignments that turn a bond, and by paths of bonds.
+-- What is known of the costs while they are found: bounds by assignments that flip a bond, and by paths of bonds.
 use Rattle.std.specs.Prelude.{◌≡◌, ℕ, ◌<◌, ℤ, pos, neg_ℤ, ◌+ℤ◌, ◌≤ℤ◌, ◌⊎◌, ⊤, Bool, false, int_le, List, length, slice_index_or}
 use Rattle.sg_model.specs.Ising.{Ising, bond_at, bond_count}
 use Rattle.sg_model.specs.Connected.{Reached}
@@ -35,10 +35,11 @@ is_at_least bound (Exact cost) = int_le bound cost
 is_at_least bound (AtMost cost) = false
 is_at_least bound Nothing = false
 
+-- whether what is known of bond k says that it costs at least the bound
 abbrev pub costs_at_least : List Known → ℤ → ℕ → Bool
 costs_at_least known bound k = is_at_least bound (known_at known k)
 
--- no assignment that turns bond k lies less far above a ground state: no cost is below 0, and bonds that cost as much
+-- no assignment that flips bond k is less far above a ground state: no cost is below 0, and bonds that cost as much
 -- lead from one end to the other
 abbrev pub IsMet : Ising → List Known → ℕ → ℤ → Type 0
 IsMet inst known k cost =

@@ -3,6 +3,6 @@ pub mod Cluster
 pub mod Naming
 pub mod Known
 pub mod Told
-pub mod Loads
 pub mod Weakened
+pub mod Study
 pub mod JoinsWith

@@ -1,5 +1,5 @@
 -- What is told of the bonds while the rigid ones are looked for.
-use Rattle.std.specs.Prelude.{◌≡◌, ℕ, ◌<◌, pos, ⊤, Bool, true, false, List, length, slice_index_or}
+use Rattle.std.specs.Prelude.{◌≡◌, ℕ, ◌<◌, pos, ⊤, List, length, slice_index_or}
 use Rattle.sg_model.specs.Ising.{Ising, bond_count}
 use Rattle.sg_bonds.specs.Cost.{IsCost, IsRigid}
 use Rattle.sg_bonds.specs.declared.telling.Told.{Told}
@@ -19,12 +19,3 @@ told_at told k = slice_index_or told k Unknown
 pub record AreTold (inst : Ising) (told : List Told) : Type 0 where
   pub count : length told ≡ bond_count inst
   pub each : (k : ℕ) → k < bond_count inst → IsTold inst k (told_at told k)
-
--- whether the bond is told to be rigid
-abbrev pub is_rigid : Told → Bool
-is_rigid Rigid = true
-is_rigid Free = false
-is_rigid Unknown = false
-
-abbrev pub told_rigid : List Told → ℕ → Bool
-told_rigid told k = is_rigid (told_at told k)

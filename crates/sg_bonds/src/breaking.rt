@@ -69,7 +69,7 @@ fn gather(
     Ok(known)
 }
 
-// Finds the cost of a bond: by its bounds where they meet, and else by a state that turns it.
+// Finds the cost of a bond: by its bounds if they meet, else by a state that flips it.
 fn settle(
     alloc: Global,
     planar: &Planar,
@@ -100,7 +100,7 @@ fn settle(
     Ok(())
 }
 
-/// A state of least energy among those that turn the bond, and so the cost of the bond.
+/// A state of least energy among those that flip the bond, and so the cost of the bond.
 pub(crate) fn turn(
     alloc: Global,
     planar: &Planar,
@@ -127,7 +127,7 @@ pub(crate) fn turn(
     })
 }
 
-// The cost of a bond where it is known, and else by a state that turns it.
+// The cost of a bond if it is known, else by a state that flips it.
 fn cost(
     alloc: Global,
     planar: &Planar,

@@ -13,17 +13,17 @@ use sg_model::Instance;
 use sg_planar::{Part, Planar, parts};
 use std::alloc::Global;
 
-/// The cost of each bond. The only error is want of memory.
+/// The cost of each bond. The only error is running out of memory.
 ///
 /// A bond costs in its component what it costs in the whole, so each component is taken by itself. Its
-/// regions grow once, and prove a ground state. That has one of the two products at a bond, and the
-/// state of least energy with the other tells the cost: it is found by a repair of the regions, and where
-/// none is proved by a new ground state of a copy, in which a coupling larger than the sum of all sizes
-/// forces the bond.
-/// Few bonds have to be asked for. Each such state turns many bonds, and its energy bounds their costs
-/// from above. And where other bonds, each of which costs at least so much, lead from one end of a
-/// bond to the other, the bond costs at least so much too: who turns it turns one of them. So the
-/// bond with the largest bound is asked first, and where the two bounds meet, nothing is solved.
+/// regions grow once, and prove a ground state. That has one of the two products at a bond, and the state
+/// of least energy with the other tells the cost: it is found by a repair of the regions, and where none
+/// is proved by a new ground state of a copy, in which a coupling larger than the sum of all sizes forces
+/// the bond. Few bonds have to be asked for. Each such state flips many bonds, and its energy bounds
+/// their costs from above. And where other bonds, each of which costs at least so much, lead from one end
+/// of a bond to the other, the bond costs at least so much too: an assignment that flips it flips one of
+/// them. So the bond with the largest bound is asked first, and where the two bounds meet, nothing is
+/// solved.
 ///
 /// Cost: in practice one growth of each component's regions and a repair for about each spin, at most one
 /// for each bond; beside them a walk over the bonds of its component for each bond.

@@ -1,4 +1,4 @@
-// Least joins among those that have an edge, or that do not: proposed by repairs, and judged.
+// Minimum T-joins among those that have an edge, or that do not: proposed by repairs, and judged.
 ghost use Rattle.std.specs.Prelude.{◌≡◌, ◌<◌, ◌≤◌, ◌^◌, ◌&&◌, ℕ, false, length, All, IfOk, IfSome, IsTrue};
 ghost use Rattle.std.specs.List.Sorted.{IsStrictlyIncreasing};
 ghost use Rattle.sg_limits.specs.Limits.{forced_limit};
@@ -16,7 +16,7 @@ use sg_repairs::Repairs;
 use sg_sums::{all_below, flip, places};
 use std::alloc::Global;
 
-/// A web and its terminals, with a judge of joins.
+/// A weighted graph and its terminals, with a judge of T-joins.
 #[derive(Drop)]
 pub(crate) struct JudgedWeb {
     pub web: Web,
@@ -24,8 +24,8 @@ pub(crate) struct JudgedWeb {
     pub judge: Judge,
 }
 
-/// The least join that the finished regions prove; nothing where they prove none. The web is left as it
-/// was.
+/// The minimum T-join that the finished regions prove; nothing if they prove none. The graph is
+/// unchanged afterwards.
 pub(crate) fn join_of(
     alloc: Global,
     judged: &mut JudgedWeb,
@@ -40,12 +40,12 @@ pub(crate) fn join_of(
     whole_join(alloc, judged, repairs.nest(), &marks)
 }
 
-/// A least join among those that have the edge, or that do not, as is said; nothing where what is
-/// proposed does not prove one. The web is left as it was.
+/// A minimum T-join among those that contain the edge (`has`) or avoid it; nothing if the proposal
+/// proves none. The graph is unchanged afterwards.
 ///
-/// The finished regions prove a least join. If it has the edge as is said, it is the answer. Else the
-/// regions are repaired for a web without the edge, and what they prove there is the answer, with the
-/// edge or as it is. An edge of one node leaves them as they are.
+/// The finished regions prove a minimum T-join. If it contains or avoids the edge as required, it is
+/// the answer. Else the regions are repaired for the graph without the edge, and the T-join that they
+/// prove there is the answer, with the edge added if it was required. A loop edge needs no repair.
 pub(crate) fn join_with(
     alloc: Global,
     judged: &mut JudgedWeb,
@@ -72,7 +72,7 @@ pub(crate) fn join_with(
     turned_join(alloc, judged, &turn.nest, &mut marks, edge, has)
 }
 
-// A mark for each edge, set for those of the join that the finished regions prove.
+// A mark for each edge, set for those of the T-join that the finished regions prove.
 fn join_marks(alloc: Global, web: &Web, repairs: &Repairs) -> Result<Vec<bool>, NoMemory>
     ensures count { IfOk result (λ marks. length marks.items ≡ edge_count web.now) }
     ensures few { edge_count web.now ≤ 2 ^ 24 }
@@ -91,7 +91,7 @@ fn turn_marks(marks: &mut [bool], list: &[u32])
     }
 }
 
-// The marked edges, if the nest proves that they are a least join.
+// The marked edges, if the nest proves that they are a minimum T-join.
 fn whole_join(
     alloc: Global,
     judged: &mut JudgedWeb,
@@ -146,7 +146,7 @@ fn turned_join(
     Ok(Some(places(alloc, marks)?))
 }
 
-// The terminals, turned at the ends of the edge if it is to be had.
+// The terminals, toggled at both ends of the edge if the T-join must contain it.
 fn terminals_turned(
     alloc: Global,
     web: &Web,
@@ -163,8 +163,8 @@ fn terminals_turned(
     places(alloc, &marks)
 }
 
-// Marks the terminals, from marks of which none is set, and turns those at the ends of the edge if it is
-// to be had.
+// Marks the terminals, with no mark set before, and toggles the marks at the ends of the edge if the
+// T-join must contain it.
 fn turn_terminals(web: &Web, terminals: &[u32], edge: u32, has: bool, marks: &mut [bool])
     requires edge { edge < edge_count web.now }
     requires terminals { AreTerminals web.now terminals.now }
@@ -180,8 +180,9 @@ fn turn_terminals(web: &Web, terminals: &[u32], edge: u32, has: bool, marks: &mu
     }
 }
 
-// Whether the edges are proved to be a least join of the terminals in the web where the edge weighs as
-// much as all of them: so much that no height climbs past it. The web is left as it was.
+// Whether the edges are proved to be a minimum T-join of the terminals in the graph where the edge
+// weighs as much as all edges together, so that no height climbs past it. The graph is unchanged
+// afterwards.
 fn proves_beside(
     web: &mut Web,
     judge: &mut Judge,

@@ -20,7 +20,7 @@ pub(crate) struct Turned {
 pub(crate) enum Known {
     /// This is the cost.
     Exact(i64),
-    /// Some assignment turns the bond at this cost.
+    /// Some assignment flips the bond at this cost.
     AtMost(i64),
     /// Nothing yet.
     Nothing,
@@ -48,7 +48,7 @@ fn noted(known: Known, is_turned: bool, cost: i64) -> Known
     }
 }
 
-/// Notes, at each bond that the assignment turns, how far it lies above the ground state.
+/// Notes, at each bond that the assignment flips, how far it lies above the ground state.
 pub(crate) fn note(inst: &Instance, least: &Spins, turned: &Turned, known: &mut [Known])
     requires count { length least.now ≡ inst.now.n }
     requires assignment { IsAssignment inst.now turned.now.spins }

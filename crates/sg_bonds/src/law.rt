@@ -36,11 +36,11 @@ pub fn rigid_clusters_agree()
         (spin s i *ℤ spin s j) ≡ (spin t i *ℤ spin t j) }
 {}
 
-/// The law of weakened ground states, on every instance, planar or not: let `s` be a ground state where
-/// all couplings are times some scale, and each bond is weakened by some amount in the direction that
-/// `s` satisfies. Then each assignment lies, times the scale, at least twice the sum of the amounts of
-/// the bonds that it turns above `s`. So `s` is a ground state of the instance as it was, each bond costs, times
-/// the scale, at least twice its amount, and each bond that is weakened is rigid.
+/// The law of weakened ground states, on every instance, planar or not: let `s` be a ground state where all
+/// couplings are times some scale, and each bond is weakened by some amount in the direction that `s`
+/// satisfies. Then each assignment lies, times the scale, at least twice the sum of the amounts of the bonds
+/// that it flips above `s`. So `s` is a ground state of the instance as it was, each bond costs, times the
+/// scale, at least twice its amount, and each bond that is weakened is rigid.
 ///
 /// It computes nothing.
 pub fn weakened_bounds()
@@ -57,13 +57,13 @@ pub fn weakened_bounds()
         weight inst ≤ sum_limit → IsRigid inst k }
 {}
 
-/// The law on which repairs rest, on every web: let a join that has not edge `k` be least where that
-/// edge weighs whatever it may, and the edge's two ends are terminals just where they are none, if the
-/// edge is to be had. Then with the edge, or as it is, it weighs least among the joins that have the
-/// edge, or that do not.
+/// The law on which repairs rest, on every weighted graph. To require edge `k`, toggle the terminals
+/// at its two ends. Let a T-join without edge `k` be minimum for these terminals, whatever edge `k`
+/// weighs. Then, with the edge added if it was required, it weighs least among the T-joins that
+/// contain (or avoid) the edge.
 ///
-/// A join with the edge is, without it, a join of the terminals that are turned at its ends, and of
-/// the same weight in both webs but for the edge. It computes nothing.
+/// Remove the edge from a T-join that contains it: what is left is a T-join of the terminals
+/// toggled at its two ends, and weighs the same in both graphs. It computes nothing.
 pub fn least_joins_with()
     ensures { (g : Graph) (terminals edges : List ℕ) (k : ℕ) (has : Bool) → k < edge_count g →
         holds edges k ≡ false → IsLeastBeside g (turned_at g terminals k has) k edges →

@@ -1,4 +1,4 @@
-ghost use Rattle.std.specs.Prelude.{◌≡◌, ◌≤◌, length, IfOk};
+ghost use Rattle.std.specs.Prelude.{◌≡◌, ◌≤◌, length, IfErr, IfOk};
 ghost use Rattle.sg_limits.specs.Limits.{sum_limit};
 ghost use Rattle.sg_model.specs.Ising.{bond_count};
 ghost use Rattle.sg_model.specs.Energy.{weight};
@@ -6,36 +6,50 @@ ghost use Rattle.sg_bonds.specs.Cost.{AreCosts};
 ghost use Rattle.sg_bonds.specs.Cluster.{AreClusters, HasRigid};
 ghost use Rattle.sg_walk.specs.Walk.{has};
 ghost use Rattle.sg_bonds.specs.Naming.{ShowsRigid};
+ghost use Rattle.sg_bonds.specs.Weakened.{WeakenedTablesExceed};
+ghost use Rattle.sg_tjoin.specs.Allowance.{IfTooLarge};
 
 use super::NoMemory;
 use super::breaking::rigid;
-use super::components::costs;
 use super::telling::rigid_marks;
 use sg_model::{ClusterList, Instance};
 use sg_planar::Planar;
+use sg_tjoin::Unproved;
 use sg_walk::names;
-use std::alloc::Global;
+use std::alloc::{AllocError, Global};
 
-/// For each spin the least spin of its cluster, those that it reaches over rigid bonds, itself
-/// among them. Which bonds of a connected instance are rigid is found without their costs. The only
-/// error is want of memory.
+/// For each spin the least spin of its cluster, those that it reaches over rigid bonds, itself among them. Which
+/// bonds are rigid is found without their costs. The only error is that of an allocator that has no memory left.
 ///
-/// Cost: one ground state, and at most a repair for each bond, in practice far fewer; beside them a
-/// walk over the bonds for each bond. Of several components that of `costs`.
+/// Cost: some ten ground states in practice, and for each component a walk over its bonds.
 pub fn clusters(alloc: Global, planar: &Planar) -> Result<ClusterList, NoMemory>
     requires sum { weight planar.now.instance ≤ sum_limit }
     ensures { IfOk result (AreClusters planar.now.instance) }
 {
-    if !planar.is_connected() {
-        let costs = costs(alloc, planar)?;
-        return clusters_by(alloc, planar.instance(), costs.as_slice());
+    match clusters_within(alloc, planar, u64::MAX) {
+        Ok(found) => Ok(found),
+        Err(Unproved::NoMemory) => Err(AllocError),
+        Err(Unproved::TablesTooLarge) => unreachable!(),
     }
-    let set = rigid_marks(alloc, planar)?;
-    name_clusters(alloc, planar.instance(), &set)
+}
+
+/// The clusters of [`clusters`], where the tables of the matching fallback may take `most_bytes` for each
+/// component and each ground state.
+pub fn clusters_within(
+    alloc: Global,
+    planar: &Planar,
+    most_bytes: u64,
+) -> Result<ClusterList, Unproved>
+    requires sum { weight planar.now.instance ≤ sum_limit }
+    ensures clusters { IfOk result (AreClusters planar.now.instance) }
+    ensures too_large { IfErr result (IfTooLarge (WeakenedTablesExceed most_bytes planar.now.instance)) }
+{
+    let set = rigid_marks(alloc, planar, most_bytes)?;
+    Ok(name_clusters(alloc, planar.instance(), &set)?)
 }
 
 /// The same, where the cost of each bond is known already: in time linear in the spins and bonds. The
-/// only error is want of memory.
+/// only error is running out of memory.
 pub fn clusters_by(alloc: Global, inst: &Instance, costs: &[i64]) -> Result<ClusterList, NoMemory>
     requires costs { AreCosts inst.now costs.now }
     ensures { IfOk result (AreClusters inst.now) }

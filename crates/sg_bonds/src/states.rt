@@ -34,9 +34,9 @@ struct Finder {
 /// States of an instance that are least among those with some product at some bond, found without a
 /// new ground state.
 ///
-/// The broken bonds of such a state are a least join of the frustrated faces among those that have the
-/// bond, or that do not. Regions have once grown on the dual; for each bond they are repaired, and what
-/// they then propose is judged. An instance of several components has no regions.
+/// The broken bonds of such a state are a minimum T-join of the frustrated faces among those that have
+/// the bond, or that do not. Regions have once grown on the dual; for each bond they are repaired, and
+/// what they then propose is judged. An instance of several components has no regions.
 #[derive(Drop)]
 pub struct BondStates<'a> {
     planar: &'a Planar,
@@ -56,7 +56,7 @@ impl<'a> Model for BondStates<'a> {
 }
 
 impl<'a> BondStates<'a> {
-    /// Grows the regions of the instance. The only error is want of memory.
+    /// Grows the regions of the instance. The only error is running out of memory.
     pub fn new(alloc: Global, planar: &'a Planar) -> Result<Self, NoMemory>
         ensures { IfOk result (λ states. states ≡ planar.now) }
     {
@@ -65,8 +65,8 @@ impl<'a> BondStates<'a> {
     }
 
     /// An assignment of the least energy among those with this product at the bond, or nothing where
-    /// the regions do not prove one: a caller then has another way. The only error is want of memory,
-    /// and what was asked before changes no answer.
+    /// the regions do not prove one: a caller then has another way. The only error is running out of
+    /// memory, and what was asked before changes no answer.
     ///
     /// Cost: that of a repair, and time linear in the instance.
     pub fn least_with(
@@ -94,7 +94,8 @@ impl<'a> BondStates<'a> {
         Ok(Some(state_of(alloc, self.planar, bond, has, &edges)?))
     }
 
-    /// A ground state, or nothing where the regions prove none. The only error is want of memory.
+    /// A ground state, or nothing where the regions prove none. The only error is running out of
+    /// memory.
     pub(crate) fn ground_state(&mut self, alloc: Global) -> Result<Option<State>, NoMemory>
         ensures same { self.new ≡ self.old }
         ensures ground_state { IfOk result (λ found. IfSome found
@@ -108,7 +109,7 @@ impl<'a> BondStates<'a> {
         Ok(Some(state_breaking(alloc, self.planar, &edges)?))
     }
 
-    // A least join of the frustrated faces.
+    // A minimum T-join of the frustrated faces.
     fn join(&mut self, alloc: Global) -> Result<Option<EdgeList>, NoMemory>
         ensures same { self.new ≡ self.old }
         ensures connected { IfOk result (λ found. IfSome found (λ _. IsConnected self.old.instance)) }
@@ -121,7 +122,7 @@ impl<'a> BondStates<'a> {
         join_of(alloc, &mut finder.judged, &finder.repairs)
     }
 
-    // A least join of the frustrated faces among those that have the bond, or that do not.
+    // A minimum T-join of the frustrated faces among those that have the bond, or that do not.
     fn join_with(
         &mut self,
         alloc: Global,
@@ -173,7 +174,8 @@ fn breaks(bond: &Bond, product: i64) -> bool
     }
 }
 
-// The state that breaks the edges of a least join among those that have the bond, or that do not.
+// The state that breaks the edges of a minimum T-join among those that have the bond, or that do
+// not.
 fn state_of(
     alloc: Global,
     planar: &Planar,
@@ -199,7 +201,7 @@ fn state_of(
     })
 }
 
-// The state that breaks the edges of a join.
+// The state that breaks the edges of a T-join.
 fn state_breaking(alloc: Global, planar: &Planar, edges: &EdgeList) -> Result<State, NoMemory>
     requires connected { IsConnected planar.now.instance }
     requires join { IsJoin (dual_web planar.now.instance planar.now.faces)

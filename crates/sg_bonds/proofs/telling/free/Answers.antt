@@ -15,5 +15,5 @@ loop-k-preserved c =
     let said = rw (get_or_default c.loop-k.told c.loop-k.k Rigid Unknown here) at c.freed.ensures in
     told_more c.args.inst.now c.loop-k.told c.loop-k.invariant c.loop-k.k low c.freed.result
     (freed_true c.args.inst.now c.loop-k.told c.loop-k.invariant c.loop-k.k c.freed.result c.is_turned-turns.result low
-    (λ yes_turned. free_turned c.args.inst.now c.bonds.ensures.instance c.args.least.now c.requires.ground_state c.loop-k.k low c.args.turned.now.spins
+    (λ yes_turned. free_turned c.args.inst.now c.bonds.ensures.instance c.args.least.now c.requires.ground_state c.loop-k.k low c.args.turned.now
     c.requires.assignment c.requires.level (turned yes_turned)) said)

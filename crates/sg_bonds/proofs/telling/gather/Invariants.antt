@@ -1,13 +1,10 @@
 use Rattle.std.proofs.Common.{◌≡◌, ◌↔◌, ◌<◌, ℕ, true, length}
 use Rattle.sg_walk.specs.Walk.{has}
 use Rattle.sg_bonds.specs.Cost.{IsRigid}
-use Rattle.sg_bonds.specs.Told.{AreTold}
-use Rattle.sg_bonds.proofs.telling.gather_rigid.Given as goal
+use Rattle.sg_bonds.proofs.telling.gather.Given as goal
 
 abbrev pub invariant-loop-bond : goal.invariant-loop-bond
 invariant-loop-bond l = record {
-  states : l.states ≡ l.planar;
-  told : AreTold l.planar.instance l.told;
   count : length l.set.items ≡ l.bond;
-  each : (k : ℕ) → k < l.bond → (has l.set.items k ≡ true) ↔ IsRigid l.planar.instance k;
+  each : (k : ℕ) → k < l.bond → (has l.set.items k ≡ true) ↔ IsRigid l.study.planar.now.instance k;
 }

@@ -1,0 +1,201 @@
+-- Weakened instances as a solver takes them, and what their ground states tell.
+use Rattle.std.proofs.Common.{◌≡◌, ◌≢◌, ◌⊎◌, ◌↔◌, inl, inr, ℕ, ◌+◌, ◌-◌, ◌*◌, ◌^◌, ◌<◌, ◌≤◌, Bool, true, false, cond, eqb, ℤ, pos, neg_ℤ, ◌+ℤ◌, ◌*ℤ◌, ◌-ℤ◌}
+use Rattle.std.proofs.Common.{◌≤ℤ◌, ◌<ℤ◌, List, length, get_or, map, set, replicate, refl, sym, ◌∙◌, ap, subst, arith}
+use Rattle.std.specs.Ordering.{int_eq}
+use Rattle.std.specs.Prelude.{unsigned_abs}
+use Rattle.std.specs.List.{range_with_len}
+use Rattle.std.proofs.Math.ListN.{get_or-map}
+use Rattle.std.proofs.Math.Nat.{mul-le-mul_left}
+use Rattle.std.proofs.lemmas.Bool.{cases_Bool, cases_eq, eq-eqb, ne_eqb}
+use Rattle.std.proofs.lemmas.Bool.Decides.{Decides-int_eq}
+use Rattle.std.proofs.lemmas.Int.{by_lt_z, ints}
+use Rattle.std.proofs.lemmas.List.{get_or-replicate, get_or-set_other, get_or-set_same, length-map, length-replicate}
+use Rattle.std.proofs.lemmas.List.FromFn.{length-map-range_with_len}
+use Rattle.std.proofs.lemmas.List.Sums.{get_or-le-sum_by}
+use Rattle.sg_limits.specs.Limits.{forced_limit, sum_limit}
+use Rattle.sg_sums.specs.Sums.{sum_below}
+use Rattle.sg_sums.proofs.ListLaws.{map-agree}
+use Rattle.sg_sums.proofs.SumLaws.{at-le-sum_below, sum_below-same, sum_below_pick}
+use Rattle.sg_model.specs.declared.bond.Bond.{Bond}
+use Rattle.sg_model.specs.Ising.{Ising, bond_at, bond_count}
+use Rattle.sg_model.specs.WellFormed.{IsInstance}
+use Rattle.sg_model.specs.Spins.{IsAssignment}
+use Rattle.sg_model.specs.Energy.{IsGroundState, energy, product, weight}
+use Rattle.sg_model.specs.Changes.{coupled_at, negated, opposite, recoupled, with_couplings}
+use Rattle.sg_ground.specs.Allowance.{TablesExceed}
+use Rattle.sg_ground.proofs.Allowed.{all_fit}
+use Rattle.sg_tjoin.specs.Allowance.{IfTooLarge}
+use Rattle.sg_tjoin.specs.declared.allowance.Unproved.{Unproved}
+use Rattle.sg_tjoin.proofs.TableBounds.{IfTooLarge-weaker}
+use Rattle.sg_bonds.specs.Cost.{IsCost, IsRigid}
+use Rattle.sg_bonds.specs.Weakened.{FitsWeakened, WeakenedTablesExceed, amount_at, turned_amount, turns, weakened, weakened_coupling, weakened_couplings}
+use Rattle.sg_bonds.proofs.ForcedMinimum.{unit_product}
+use Rattle.sg_bonds.proofs.RigidBounds.{free_turned}
+use Rattle.sg_bonds.proofs.ToldBonds.{not_rigid}
+use Rattle.sg_bonds.proofs.WeakenedEnergy.{none_turned, weakened_energy, weakened_rigid, weakened_size, weakened_weight}
+
+abbrev no_bond : Bond
+no_bond = record { u = 0; v = 0; j = pos 0 }
+
+-- new couplings take no notice of the old
+pub couplings_of_negated : (inst : Ising) (couplings : List ℤ) → with_couplings (negated inst) couplings ≡ with_couplings inst couplings
+couplings_of_negated inst couplings =
+    ap (λ (bonds : List Bond). record { n = inst.n; bonds = bonds; rotation = inst.rotation; seam = inst.seam })
+    (ap (λ n. map (coupled_at (map opposite inst.bonds) couplings) (range_with_len 0 n)) (length-map inst.bonds opposite)
+    ∙ map-agree (coupled_at (map opposite inst.bonds) couplings) (coupled_at inst.bonds couplings) (range_with_len 0 (bond_count inst)) at)
+  where
+    at : (k : ℕ) → coupled_at (map opposite inst.bonds) couplings k ≡ coupled_at inst.bonds couplings k
+    at k = ap (λ (b : Bond). recoupled b (get_or couplings k (pos 0))) (get_or-map opposite inst.bonds k no_bond)
+
+module _ (inst : Ising) (scale : ℕ) (amount : ℕ → ℕ) (fits : FitsWeakened inst scale amount) where
+  -- each coupling fits
+  pub coupling_fits : (k : ℕ) → k < bond_count inst → scale * unsigned_abs (bond_at inst k).j + amount k < 2 ^ 63
+  coupling_fits k l =
+      let own : unsigned_abs (bond_at inst k).j ≤ weight inst = get_or-le-sum_by (λ (b : Bond). unsigned_abs b.j) inst.bonds k no_bond l in
+      let scaled : scale * unsigned_abs (bond_at inst k).j ≤ scale * weight inst = mul-le-mul_left scale own in
+      omega (arith, scaled, at-le-sum_below amount k (bond_count inst) l, fits)
+
+  pub coupling_size : (good : IsInstance inst) (s : List ℤ) → IsAssignment inst s → (k : ℕ) → k < bond_count inst
+      → unsigned_abs (weakened_coupling scale s (bond_at inst k) (amount k)) < 2 ^ 63
+  coupling_size good s h k l =
+      omega (
+        arith,
+        coupling_fits k l,
+        weakened_size scale (amount k) (bond_at inst k).j (product s (bond_at inst k)) (unit_product inst good k l s h),
+      )
+
+  -- and so do all together
+  pub weaker_fits : (good : IsInstance inst) (s : List ℤ) → IsAssignment inst s → weight (weakened inst scale s amount) ≤ forced_limit
+  weaker_fits good s h = omega (arith, fits, weakened_weight inst good scale s h amount)
+
+module _ (inst : Ising) (scale : ℕ) (s : List ℤ) (first : IsAssignment inst s) (amount : ℕ → ℕ) (t : List ℤ)
+    (ground : IsGroundState (weakened inst scale s amount) t) where
+  -- with the least energy the old state is a ground state too
+  pub least_there : energy (weakened inst scale s amount) s ≡ energy (weakened inst scale s amount) t → IsGroundState (weakened inst scale s amount) s
+  least_there same = record {
+    assignment = record { count = first.count; values = first.values };
+    least = λ u h. subst (λ e. e ≤ℤ energy (weakened inst scale s amount) u) (sym same) (ground.least u h);
+  }
+
+  -- and else it has more
+  pub other_less : (energy (weakened inst scale s amount) s ≡ energy (weakened inst scale s amount) t → ⊥)
+      → energy (weakened inst scale s amount) t <ℤ energy (weakened inst scale s amount) s
+  other_less differ =
+      below (energy (weakened inst scale s amount) s) (energy (weakened inst scale s amount) t) differ
+      (ground.least s (record { count = first.count; values = first.values }))
+    where
+      below : (x y : ℤ) → (x ≡ y → ⊥) → y ≤ℤ x → y <ℤ x
+      below x y ne l = by_lt_z y x (λ less. less) (λ most. absurd (ne (both x y most l)))
+        where
+          both : (x y : ℤ) → x ≤ℤ y → y ≤ℤ x → x ≡ y
+          both x y a b = omega (arith, ints)
+
+-- one bond alone is weakened by 1
+module _ (inst : Ising) (k : ℕ) (inside : k < bond_count inst) where
+  abbrev alone : List ℕ
+  alone = set (replicate (bond_count inst) 0) k 1
+
+  alone_at : (i : ℕ) → i < bond_count inst → amount_at alone i ≡ cond (eqb k i) 1 0
+  alone_at i l = by_case (cases_eq k i)
+    where
+      by_case : (k ≡ i) ⊎ (k ≢ i) → amount_at alone i ≡ cond (eqb k i) 1 0
+      by_case (inl e) =
+          ap (amount_at alone) (sym e)
+          ∙ get_or-set_same (replicate (bond_count inst) 0) k 1 0 (omega (arith, inside, length-replicate {A = ℕ} (bond_count inst) 0))
+          ∙ sym (ap (λ b. cond {A = ℕ} b 1 0) (eq-eqb k i e))
+      by_case (inr ne) =
+          get_or-set_other (replicate (bond_count inst) 0) k i 1 0 (λ e. ne (sym e))
+          ∙ get_or-replicate (bond_count inst) i 0 0 l
+          ∙ sym (ap (λ b. cond {A = ℕ} b 1 0) (ne_eqb k i ne))
+
+  pub alone_sum : sum_below (amount_at alone) (bond_count inst) ≡ 1
+  alone_sum =
+      sum_below-same (amount_at alone) (λ i. cond (eqb k i) 1 0) (bond_count inst) alone_at
+      ∙ sum_below_pick 1 k (bond_count inst) inside
+
+  pub alone_fits : weight inst ≤ sum_limit → FitsWeakened inst 2 (amount_at alone)
+  alone_fits small = omega (arith, alone_sum, small)
+
+  module _ (good : IsInstance inst) (s : List ℤ) (ground : IsGroundState inst s) (small : weight inst ≤ sum_limit) where
+    -- if it still is a ground state, the bond is rigid
+    pub alone_rigid : IsGroundState (weakened inst 2 s (amount_at alone)) s → IsRigid inst k
+    alone_rigid still =
+        weakened_rigid inst good 2 (amount_at alone) s still k inside
+        (omega (
+          arith,
+          get_or-set_same {A = ℕ} (replicate {A = ℕ} (bond_count inst) 0) k 1 0
+              (omega (arith, inside, length-replicate {A = ℕ} (bond_count inst) 0)),
+        )) small
+
+    -- and if another state has less energy, the bond is free
+    pub alone_free : (t : List ℤ) → IsGroundState (weakened inst 2 s (amount_at alone)) t
+        → energy (weakened inst 2 s (amount_at alone)) t <ℤ energy (weakened inst 2 s (amount_at alone)) s → IsRigid inst k → ⊥
+    alone_free t other less rigid = by_turn (cases_Bool (turns s t (bond_at inst k)))
+      where
+        second : IsAssignment inst t
+        second = record { count = other.assignment.count; values = other.assignment.values }
+
+        never : (b : Bool) → cond {A = ℕ} b 0 0 ≡ 0
+        never true = refl
+        never false = refl
+
+        by_case : (i : ℕ) → (k ≡ i) ⊎ (k ≢ i)
+            → cond {A = ℕ} (turns s t (bond_at inst i)) (cond {A = ℕ} (eqb k i) 1 0) 0 ≡
+            cond {A = ℕ} (eqb k i) (cond {A = ℕ} (turns s t (bond_at inst k)) 1 0) 0
+        by_case i (inl e) = rw (eq-eqb k i e) (ap (λ j. cond {A = ℕ} (turns s t (bond_at inst j)) 1 0) (sym e))
+        by_case i (inr ne) = rw (ne_eqb k i ne) (never (turns s t (bond_at inst i)))
+
+        turned : turned_amount inst s t (amount_at alone) ≡ cond {A = ℕ} (turns s t (bond_at inst k)) 1 0
+        turned =
+            sum_below-same (λ i. cond {A = ℕ} (turns s t (bond_at inst i)) (amount_at alone i) 0)
+            (λ i. cond {A = ℕ} (eqb k i) (cond {A = ℕ} (turns s t (bond_at inst k)) 1 0) 0) (bond_count inst)
+            (λ i l. ap (λ a. cond {A = ℕ} (turns s t (bond_at inst i)) a 0) (alone_at i l) ∙ by_case i (cases_eq k i))
+            ∙ sum_below_pick (cond {A = ℕ} (turns s t (bond_at inst k)) 1 0) k (bond_count inst) inside
+
+        old : energy (weakened inst 2 s (amount_at alone)) s +ℤ pos (2 * turned_amount inst s s (amount_at alone)) ≡ (pos 2 *ℤ energy inst s) +ℤ
+            pos (sum_below (amount_at alone) (bond_count inst))
+        old = weakened_energy inst good 2 s ground.assignment (amount_at alone) s ground.assignment
+
+        new : energy (weakened inst 2 s (amount_at alone)) t +ℤ pos (2 * turned_amount inst s t (amount_at alone)) ≡ (pos 2 *ℤ energy inst t) +ℤ
+            pos (sum_below (amount_at alone) (bond_count inst))
+        new = weakened_energy inst good 2 s ground.assignment (amount_at alone) t second
+
+        same : (e f x y : ℤ) (b c a : ℕ) → e +ℤ pos (2 * b) ≡ (pos 2 *ℤ x) +ℤ pos a → f +ℤ pos (2 * c) ≡ (pos 2 *ℤ y) +ℤ pos a → b ≡ 0
+            → c ≤ 1 → f <ℤ e → x ≤ℤ y → y ≡ x
+        same e f x y b c a p q z o l m = omega (arith, ints)
+
+        none : (e f x y : ℤ) (b c a : ℕ) → e +ℤ pos (2 * b) ≡ (pos 2 *ℤ x) +ℤ pos a → f +ℤ pos (2 * c) ≡ (pos 2 *ℤ y) +ℤ pos a → b ≡ 0
+            → c ≡ 0 → f <ℤ e → x ≤ℤ y → ⊥
+        none e f x y b c a p q z o l m = omega (arith, ints)
+
+        zero_cost : pos 0 ≤ℤ pos 0
+        zero_cost = omega (arith, ints)
+
+        by_turn : (turns s t (bond_at inst k) ≡ true) ⊎ (turns s t (bond_at inst k) ≡ false) → ⊥
+        by_turn (inl turn) =
+            not_rigid inst k (pos 0)
+            (free_turned inst good s ground k inside t second
+            (same (energy (weakened inst 2 s (amount_at alone)) s) (energy (weakened inst 2 s (amount_at alone)) t) (energy inst s) (energy inst t)
+            (turned_amount inst s s (amount_at alone)) (turned_amount inst s t (amount_at alone)) (sum_below (amount_at alone) (bond_count inst))
+            old new (none_turned inst good 2 s ground.assignment (amount_at alone))
+            (omega (arith, turned ∙ ap (λ b. cond {A = ℕ} b 1 0) turn)) less (ground.least t second))
+            ((Decides-int_eq (product t (bond_at inst k)) (neg_ℤ (product s (bond_at inst k)))).0 turn))
+            zero_cost rigid
+        by_turn (inr not) =
+            none (energy (weakened inst 2 s (amount_at alone)) s) (energy (weakened inst 2 s (amount_at alone)) t) (energy inst s) (energy inst t)
+            (turned_amount inst s s (amount_at alone)) (turned_amount inst s t (amount_at alone)) (sum_below (amount_at alone) (bond_count inst))
+            old new (none_turned inst good 2 s ground.assignment (amount_at alone))
+            (turned ∙ ap (λ b. cond {A = ℕ} b 1 0) not) less (ground.least t second)
+
+-- tables that are too large, of the instance as it was and of a weakened one
+pub own_exceeds : (inst : Ising) (most : ℕ) (e : Unproved) → IfTooLarge (TablesExceed most inst) e → IfTooLarge (WeakenedTablesExceed most inst) e
+own_exceeds inst most = IfTooLarge-weaker inl
+
+pub weaker_exceeds : (inst other : Ising) (scale : ℕ) (s : List ℤ) (amount : ℕ → ℕ) → other ≡ weakened inst scale s amount → (most : ℕ) (e : Unproved)
+    → IfTooLarge (TablesExceed most other) e → IfTooLarge (WeakenedTablesExceed most inst) e
+weaker_exceeds inst other scale s amount same most = IfTooLarge-weaker (λ h. inr (scale, s, amount, subst (TablesExceed most) same h))
+
+-- all of them fit 2^64 bytes
+pub weakened_fit : (inst : Ising) → WeakenedTablesExceed (2 ^ 64 - 1) inst → ⊥
+weakened_fit inst (inl h) = all_fit inst h
+weakened_fit inst (inr (scale, s, amount, h)) = all_fit (weakened inst scale s amount) h
