@@ -1,0 +1,90 @@
+-- From the tests of the numbers of a weighted graph to the graph, and faults by the step that finds them.
+use Rattle.std.proofs.Common.{◌≡◌, ◌⊎◌, inl, inr, ℕ, ◌+◌, ◌<◌, ◌≤◌, ◌%◌, ◌≤ℤ◌, ℤ, pos, negsuc, zero, suc, Bool, true, false, Option, None, Some, arith, List, [], ◌∷◌, All, ap, length, map, get_or, sym, ◌∙◌, refl, subst}
+use Rattle.std.specs.Prelude.{int_le}
+use Rattle.std.specs.Option.{option_or}
+use Rattle.std.specs.List.{range_with_len}
+use Rattle.std.proofs.lemmas.Bool.{false≢true, ltb-true, cases_eq}
+use Rattle.std.proofs.lemmas.Int.{ints}
+use Rattle.std.proofs.lemmas.List.Elements.{All-from_get_or}
+use Rattle.std.proofs.lemmas.List.FromFn.{get_or-map-range_with_len, length-map-range_with_len}
+use Rattle.sg_limits.specs.Limits.{sum_limit}
+use Rattle.sg_model.specs.Faults.{OrNoMemory}
+use Rattle.sg_model.specs.declared.refusal.Fault.{Fault}
+use Rattle.sg_model.specs.declared.refusal.Fault.TheVariants.{Refused, NoMemory}
+use Rattle.sg_model.specs.declared.refusal.Refusal.{Refusal}
+use Rattle.sg_graph.specs.Web.{Graph, IsEdge, total_weight}
+use Rattle.sg_graph.specs.declared.web.Edge.{Edge}
+use Rattle.sg_graph_text.specs.Network.{IsTooHeavy, IsUnjoined}
+use Rattle.sg_draft.specs.Tests.{Refuses, first_of}
+use Rattle.sg_draft.proofs.Drafts.{both, fails-first, last-test}
+use Rattle.ising2d_c.specs.Networks.{edge_by, edges_by, ByReach, ByWeight, AtTest, AtWhole, GivesWeb, IsWebFault, IsWholeFault, joins_nodes, network_fault, web_by, web_fault, WebNumbers}
+
+not_negative : (w : ℤ) → int_le (pos 0) w ≡ true → pos 0 ≤ℤ w
+not_negative (pos n) pass = omega (arith, ints)
+not_negative (negsuc n) pass = absurd (false≢true pass)
+
+-- an edge that passes its test joins two of the nodes
+edge-of : (n : ℕ) (edge : Edge) → joins_nodes n edge ≡ true → IsEdge n edge
+edge-of n edge pass =
+    let first = both _ _ pass in
+    let second = both _ _ first.1 in
+    record { first_end = ltb-true edge.a n first.0; second_end = ltb-true edge.b n second.0; not_negative = not_negative edge.w second.1 }
+
+-- edges that pass are edges of the graph
+pub edges-joined : (n : ℕ) (ends : List ℕ) (weights : List ℤ) → ((k : ℕ) → k < length weights → joins_nodes n (edge_by ends weights k) ≡ true)
+    → All (IsEdge n) (edges_by ends weights)
+edges-joined n ends weights pass =
+    let none : Edge = record { a = 0; b = 0; w = pos 0 } in
+    let count = length-map-range_with_len (edge_by ends weights) 0 (length weights) in
+    All-from_get_or (IsEdge n) (edges_by ends weights) none (λ k inside.
+    let here : k < length weights = omega (arith, inside, count) in
+    let same = get_or-map-range_with_len (edge_by ends weights) 0 (length weights) k k none here (omega arith) in
+    subst (IsEdge n) (sym same) (edge-of n (edge_by ends weights k) (pass k here)))
+
+module _ (g : WebNumbers) (test : Option Refusal) where
+  -- a test of the numbers that fails
+  pub numbers-fail : (x : Refusal) → web_fault g ≡ Some x → IsWebFault g test (Refused x)
+  numbers-fail x bad = AtTest (fails-first (web_fault g) (first_of (test ∷ [])) x bad)
+
+  -- a test of the terminals, behind numbers that pass
+  behind : web_fault g ≡ None → network_fault g test ≡ test
+  behind pass = last-test (web_fault g) test pass
+
+  pub terminals-fail : (e : Fault) → web_fault g ≡ None → OrNoMemory (Refuses test) e → IsWebFault g test e
+  terminals-fail (Refused x) pass bad = AtTest (behind pass ∙ bad)
+  terminals-fail NoMemory pass bad = tt
+
+  pub all-pass : web_fault g ≡ None → test ≡ None → network_fault g test ≡ None
+  all-pass pass good = behind pass ∙ good
+
+  -- a graph that is wrong as a whole
+  pub whole-fails : (e : Fault) → web_fault g ≡ None → test ≡ None → OrNoMemory (IsWholeFault (web_by g)) e → IsWebFault g test e
+  whole-fails (Refused x) pass good bad = AtWhole (all-pass pass good) bad
+  whole-fails NoMemory pass good bad = tt
+
+-- the weight and the reach of a graph, in this order
+pub weight-fails : (g : Graph) (x : Refusal) → IsTooHeavy g x → OrNoMemory (IsWholeFault g) (Refused x)
+weight-fails g x bad = ByWeight bad
+
+pub reach-fails : (g h : Graph) (e : Fault) → h ≡ g → total_weight h ≤ sum_limit → OrNoMemory (IsUnjoined h) e → OrNoMemory (IsWholeFault g) e
+reach-fails g h (Refused x) same light bad =
+    ByReach (subst (λ (i : Graph). total_weight i ≤ sum_limit) same light) (subst (λ (i : Graph). IsUnjoined i x) same bad)
+reach-fails g h NoMemory same light bad = tt
+
+-- tests over a range: the first that fails, or none
+module _ (test : ℕ → Option Refusal) where
+  pub range-fails : (a n k : ℕ) (x : Refusal) → a ≤ k → k < a + n → ((i : ℕ) → a ≤ i → i < k → test i ≡ None) → test k ≡ Some x
+      → first_of (map test (range_with_len a n)) ≡ Some x
+  range-fails a zero k x low high earlier bad = absurd (omega (arith, low, high))
+  range-fails a (suc n) k x low high earlier bad = elim (cases_eq a k) [
+    | inl same ↦ rw (ap test same ∙ bad) refl
+    | inr other ↦
+        let less : a < k = omega (arith, low, other) in
+        rw (earlier a (omega arith) less)
+        (range-fails (a + 1) n k x (omega (arith, less)) (omega (arith, high)) (λ i l u. earlier i (omega (arith, l)) u) bad)
+  ]
+
+  pub range-passes : (a n : ℕ) → ((i : ℕ) → a ≤ i → i < a + n → test i ≡ None) → first_of (map test (range_with_len a n)) ≡ None
+  range-passes a zero all = refl
+  range-passes a (suc n) all =
+      rw (all a (omega arith) (omega arith)) (range-passes (a + 1) n (λ i l u. all i (omega (arith, l)) (omega (arith, u))))
