@@ -8,7 +8,7 @@ use Rattle.sg_draft.specs.declared.limits.Limits.{Limits}
 use Rattle.sg_draft.specs.declared.read.Read.TheVariants.{Known}
 use Rattle.sg_draft.specs.Bonds.{IsAmong, is_among, self_fault}
 use Rattle.sg_draft.specs.Draft.{GeneralDraft, draft_fault, drafted, general_draft_fault}
-use Rattle.sg_draft.specs.Reads.{counted, unless, value_or, wrong_entry}
+use Rattle.sg_draft.specs.Reads.{read_length, unless, value_or, wrong_entry}
 use Rattle.sg_draft.proofs.Drafts.{among-of, counted-unless, general-none, general-some, wrong-unless}
 use Rattle.ising2d_c.specs.Crossing.{wrong_start}
 use Rattle.ising2d_c.specs.Graphs.{bond_by, bonds_by, graph_draft, lists_by, Numbers, wrong_bond}
@@ -38,7 +38,7 @@ module _ (most : Limits) (g : Numbers) where
     seam = Known (Some g.seam);
   }
 
-  same : general_draft_fault most parts.spins (counted parts.bonds) (wrong_entry parts.rotation) (wrong_entry parts.seam) ≡ front_tests
+  same : general_draft_fault most parts.spins (read_length parts.bonds) (wrong_entry parts.rotation) (wrong_entry parts.seam) ≡ front_tests
   same = rw (
     counted-unless (wrong_bond g.n g.ends g.couplings) (bonds_by g.ends g.couplings),
     length-map-range_with_len (bond_by g.ends g.couplings) 0 (length g.couplings),

@@ -7,3 +7,5 @@ mod GraphLemmas
 mod StatedLemmas
 mod TableLemmas
 mod StudyLemmas
+mod NetworkLemmas
+mod JoinLemmas

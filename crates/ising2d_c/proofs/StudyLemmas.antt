@@ -5,6 +5,7 @@ use Rattle.std.proofs.lemmas.List.FromFn.{length-map-range_with_len}
 use Rattle.sg_limits.specs.Limits.{bond_limit, spin_limit, table_limit}
 use Rattle.sg_model.specs.Changes.{flipped_at, with_seam_flipped}
 use Rattle.sg_model.specs.Ising.{Ising, bond_count}
+use Rattle.sg_model.proofs.Recoupled.{all_long}
 use Rattle.sg_model.specs.declared.refusal.Fault.{Fault}
 use Rattle.sg_model.specs.declared.refusal.Fault.TheVariants.{NoMemory}
 use Rattle.sg_draft.specs.Reads.{unless, value_or}
@@ -15,6 +16,7 @@ use Rattle.sg_tjoin.specs.declared.allowance.Unproved.TheVariants as unproved
 use Rattle.sg_ground.specs.Allowance.{TablesExceed}
 use Rattle.sg_ground.proofs.Allowed.{program_fits}
 use Rattle.sg_wall.specs.Wall.{WallTablesExceed}
+use Rattle.sg_bonds.specs.Weakened.{WeakenedTablesExceed, weakened, weakened_couplings}
 use Rattle.ising2d_c.specs.Graphs.{bond_by, bonds_by, Finds, IsFitGraph, IsUnanswered, Numbers, unanswered_by, wrong_bond}
 
 module _ (most : Limits) (g : Numbers) where
@@ -45,6 +47,12 @@ module _ (most : Limits) (g : Numbers) where
         program_fits (with_seam_flipped inst) (omega (arith, same_spins))
         (omega (arith, few_bonds, length-map-range_with_len (flipped_at inst) 0 (bond_count inst))) exceed
 
+    clusters_within : g.n ≤ spin_limit → length g.couplings ≤ bond_limit → WeakenedTablesExceed table_limit inst → ⊥
+    clusters_within spins bonds (inl exceed) = within spins bonds exceed
+    clusters_within spins bonds (inr (scale, s, amount, exceed)) =
+        program_fits (weakened inst scale s amount) (omega (arith, same_spins))
+        (omega (arith, few_bonds, all_long inst (weakened_couplings inst scale s amount (bond_count inst)))) exceed
+
   -- so the graph is larger
   either : (g.n ≤ spin_limit → length g.couplings ≤ bond_limit → ⊥) → (spin_limit < g.n) ⊎ (bond_limit < length g.couplings)
   either never = elim (cases_lt spin_limit g.n) [
@@ -60,3 +68,6 @@ module _ (most : Limits) (g : Numbers) where
 
   pub large_walls_only : Finds (IsFitGraph most g) (WallTablesExceed table_limit) → (spin_limit < g.n) ⊎ (bond_limit < length g.couplings)
   large_walls_only found = either (λ spins bonds. wall_within found.instance found.given spins bonds found.study)
+
+  pub large_clusters_only : Finds (IsFitGraph most g) (WeakenedTablesExceed table_limit) → (spin_limit < g.n) ⊎ (bond_limit < length g.couplings)
+  large_clusters_only found = either (λ spins bonds. clusters_within found.instance found.given spins bonds found.study)

@@ -8,12 +8,12 @@ use Rattle.sg_model.specs.declared.refusal.Fault.{Fault}
 use Rattle.sg_model.specs.declared.refusal.Fault.TheVariants.{Refused, NoMemory}
 use Rattle.sg_report.specs.Text.{refusal_text}
 
--- the front of a list stands in the place that the caller gave, as much of it as fits; what lies behind is as before
+-- the front of a list is in the place that the caller gave, as much of it as fits; what lies beyond is as before
 pub record Fills {A : Type 0} (list before after : List A) (written : ℕ) : Type 0 where
   pub count : written ≡ min (length list) (length before)
   pub copied : after ≡ take written list ++ drop written before
 
--- the same, where the count is not told
+-- the same, if the count is not told
 abbrev pub Shows : {A : Type 0} → List A → List A → List A → Type 0
 Shows list before after = Fills list before after (min (length list) (length before))
 
@@ -32,7 +32,7 @@ pub record TellsRefusal (Owed : Fault → Type 0) (before after : List ℕ) (wri
 abbrev pub entries_before : {A : Type 0} → (A → List ℕ) → List A → ℕ → ℕ
 entries_before entries items count = length (flat_map entries (take count items))
 
--- items as two lists: the place of the first entry of each, with the number of all behind; and all entries in turn
+-- items as two lists: the place of the first entry of each, with the number of all after; and all entries in turn
 pub record IsJoined {A : Type 0} (entries : A → List ℕ) (items : List A) (starts joined : List ℕ) : Type 0 where
   pub begun : starts ≡ map (entries_before entries items) (range_with_len 0 (length items + 1))
   pub bound : joined ≡ flat_map entries items
@@ -53,12 +53,12 @@ pub record DividesEntries (starts : List ℕ) (items entries : ℕ) : Type 0 whe
   pub rises : (k : ℕ) → k < items → entry starts k ≤ entry starts (k + 1)
   pub last : entry starts items ≡ entries
 
--- the first start that is less than the one in front of it
+-- the first start that is less than the one before it
 abbrev pub first_fall : List ℕ → Option ℕ
 first_fall starts = find (λ k. nat_lt (entry starts k) (entry starts (k - 1))) (range_with_len 1 (length starts - 1))
 
--- the start that is wrong: the first, where there is another number of them than one more than the items, or where it
--- is not 0; one that is less than the one in front of it; or the last, where it is not the number of the entries
+-- the start that is wrong: the first, if there is another number of them than one more than the items, or if it is not
+-- 0; one that is less than the one in front of it; or the last, if it is not the number of the entries
 abbrev pub wrong_start : List ℕ → ℕ → ℕ → Option ℕ
 wrong_start starts items entries =
     if length starts == items + 1 && entry starts 0 == 0

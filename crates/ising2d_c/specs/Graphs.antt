@@ -33,22 +33,25 @@ pub record Numbers : Type 0 where
   pub darts : List ℕ
   pub seam : List ℕ
 
+-- the numbers of a graph as a caller hands them in, by their lists
 abbrev pub numbers : ℕ → List ℕ → List ℤ → List ℕ → List ℕ → List ℕ → Numbers
 numbers n ends couplings starts darts seam =
     record { n = n; ends = ends; couplings = couplings; starts = starts; darts = darts; seam = seam }
 
+-- the numbers of a graph that was handed in
 abbrev pub numbers_of : Given → Numbers
 numbers_of g = numbers g.n g.ends.now g.couplings.now g.starts.now g.darts.now g.seam.now
 
--- bond k joins the ends at the places 2k and 2k + 1
+-- bond k has the ends at the places 2k and 2k + 1
 abbrev pub bond_by : List ℕ → List ℤ → ℕ → Bond
 bond_by ends couplings k =
     record { u = entry ends (2 * k); v = entry ends (2 * k + 1); j = slice_index_or couplings k (pos 0) }
 
+-- the bonds that these ends and couplings give, in the order of the couplings
 abbrev pub bonds_by : List ℕ → List ℤ → List Bond
 bonds_by ends couplings = map (bond_by ends couplings) (range_with_len 0 (length couplings))
 
--- the first bond that joins no two of n spins or has no coupling, and 0 where there are not two ends for each bond
+-- the first bond that does not connect two of n spins or has no coupling; 0 if there are not two ends for each bond
 abbrev pub wrong_bond : ℕ → List ℕ → List ℤ → Option ℕ
 wrong_bond n ends couplings =
     if length ends == 2 * length couplings
@@ -97,7 +100,7 @@ abbrev pub IsProofFault : Limits → Numbers → Option Refusal → Fault → Ty
 IsProofFault most g test fault =
     IsGraphFault most g fault ⊎ ((inst : Ising) × IsGraph most g inst × OrNoMemory (Refuses test) fault)
 
--- the same where the graph has to be fit
+-- the same if the graph has to be fit
 abbrev pub IsFitProofFault : Limits → Numbers → Option Refusal → Fault → Type 0
 IsFitProofFault most g test fault =
     IsFitFault most g fault ⊎ ((inst : Ising) × IsFitGraph most g inst × OrNoMemory (Refuses test) fault)

@@ -63,6 +63,7 @@ pub record TableLists : Type 0 where
   pub darts : List ℕ
   pub seam : List ℕ
 
+-- the tables of a lattice by their four lists
 abbrev pub table_lists : List ℕ → List ℕ → List ℕ → List ℕ → TableLists
 table_lists ends starts darts seam = record { ends = ends; starts = starts; darts = darts; seam = seam }
 

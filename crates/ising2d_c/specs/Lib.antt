@@ -4,3 +4,6 @@ pub mod Graphs
 pub mod Lattices
 pub mod Proofs
 pub mod Grounds
+pub mod Draws
+pub mod Networks
+pub mod Joins

@@ -19,15 +19,17 @@ use Rattle.ising2d_c.specs.declared.nests.GivenNest.{GivenNest}
 use Rattle.ising2d_c.specs.declared.stated.GivenLoops.{GivenLoops}
 use Rattle.ising2d_c.specs.Crossing.{IsJoined, Shows, entry, wrong_start}
 
--- three lists: the weights of loops, the place of the first bond of each with the number of all behind, and all bonds
+-- three lists: the weights of loops, the place of the first bond of each with the number of all after, and all bonds
 pub record LoopLists : Type 0 where
   pub weights : List ℤ
   pub starts : List ℕ
   pub bonds : List ℕ
 
+-- loops by their three lists
 abbrev pub loop_lists : List ℤ → List ℕ → List ℕ → LoopLists
 loop_lists weights starts bonds = record { weights = weights; starts = starts; bonds = bonds }
 
+-- the lists of the loops that were handed in
 abbrev pub loops_of : GivenLoops → LoopLists
 loops_of given = loop_lists given.weights.now given.starts.now given.bonds.now
 
@@ -75,15 +77,16 @@ pub record States (energy : ℤ) (spins : List ℤ) (loops : LoopLists) (stated 
   pub spins_are : stated.spins ≡ spins
   pub rows : AreRows loops stated.loops
 
--- the number of the parent of a region, and the largest number of 32 bits where it has none
+-- the number of the parent of a region, and the largest number of 32 bits if it has none
 abbrev pub parent_number : Region → ℕ
 parent_number region = unwrap_or region.parent 4294967295
 
--- the region that took a face, and its radius then, 0 where none did
+-- the region that took a face, and its radius then, 0 if none did
 abbrev pub place_region : Option Place → ℕ
 place_region None = 4294967295
 place_region (Some p) = p.region
 
+-- the radius at which a face was taken, and 0 if no region took it
 abbrev pub place_radius : Option Place → ℕ
 place_radius None = 0
 place_radius (Some p) = p.at
@@ -95,10 +98,12 @@ pub record NestLists : Type 0 where
   pub regions : List ℕ
   pub at_radii : List ℕ
 
+-- a nest by its four lists
 abbrev pub nest_lists : List ℕ → List ℕ → List ℕ → List ℕ → NestLists
 nest_lists parents radii regions at_radii =
     record { parents = parents; radii = radii; regions = regions; at_radii = at_radii }
 
+-- the lists of the nest that was handed in
 abbrev pub nest_given : GivenNest → NestLists
 nest_given given = nest_lists given.parents.now given.radii.now given.regions.now given.at_radii.now
 
@@ -109,7 +114,7 @@ pub record AreNestRows (lists : NestLists) (nest : Nest) : Type 0 where
   pub regions : lists.regions ≡ map place_region nest.places
   pub at_radii : lists.at_radii ≡ map place_radius nest.places
 
--- the same of a nest that there may be, and four empty lists where there is none
+-- the same of a nest that there may be, and four empty lists if there is none
 abbrev pub AreRowsOf : NestLists → Option Nest → Type 0
 AreRowsOf lists None = lists ≡ nest_lists [] [] [] []
 AreRowsOf lists (Some nest) = AreNestRows lists nest
@@ -139,7 +144,7 @@ region_numbered parent radius = record {
   radius = radius;
 }
 
--- the place in a region at a radius, and none where the number is for none and the radius is 0
+-- the place in a region at a radius, and none if the number is for none and the radius is 0
 abbrev pub place_numbered : ℕ → ℕ → Option Place
 place_numbered region at =
     if region == 4294967295 && at == 0 then None else Some (record { region = region; at = at })
@@ -149,6 +154,7 @@ abbrev pub regions_said : List ℕ → List ℕ → List Region
 regions_said parents radii =
     map (λ r. region_numbered (entry parents r) (entry radii r)) (range_with_len 0 (length parents))
 
+-- for each face the region that took it and its radius, if these lists say so
 abbrev pub places_said : List ℕ → List ℕ → List (Option Place)
 places_said regions at_radii =
     map (λ x. place_numbered (entry regions x) (entry at_radii x)) (range_with_len 0 (length regions))

@@ -22,7 +22,7 @@ pub record AreWords (bytes : List ℕ) (words : List (List ℕ)) : Type 0 where
   pub clean : All HasNoZero pieces
   pub texts : words ≡ map utf8_lossy pieces
 
--- behind the last byte 0 something stands
+-- something follows the last byte 0
 pub record IsUnended (bytes : List ℕ) : Type 0 where
   pub pieces : List (List ℕ)
   pub rest : List ℕ
@@ -50,5 +50,5 @@ pub data Ends (words input before after : List ℕ) (written whole code : ℕ) :
   -- the last word is not ended
   WordsUnended : IsUnended words → IsSilent before after written whole → code ≡ 7
       → Ends words input before after written whole code
-  -- the memory is wanting
+  -- an allocation fails
   OutOfMemory : IsSilent before after written whole → code ≡ 6 → Ends words input before after written whole code

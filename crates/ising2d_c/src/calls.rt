@@ -4,6 +4,7 @@ ghost use Rattle.std.specs.Prelude.{◌≡◌, ◌≢◌, ◌⊎◌, ◌<◌, le
 ghost use Rattle.sg_limits.specs.Limits.{bond_limit, spin_limit, table_limit};
 ghost use Rattle.sg_bonds.specs.Cluster.{AreClusters};
 ghost use Rattle.sg_bonds.specs.Cost.{AreCosts};
+ghost use Rattle.sg_bonds.specs.Weakened.{WeakenedTablesExceed};
 ghost use Rattle.ising2d_c.specs.Proofs.{HandsLoops, HandsNest, loop_lists, nest_fault, nest_lists, stated_fault, States};
 ghost use Rattle.ising2d_c.specs.Crossing.{Shows, TellsRefusal};
 ghost use Rattle.ising2d_c.specs.Graphs.{Finds, IsFitFault, IsFitGraph, IsFitProofFault, IsGraph, IsProofFault, IsWallFault, numbers};
@@ -239,9 +240,11 @@ pub extern "C" fn ising2d_c_clusters(
     line: &mut [u8],
     line_written: &mut usize,
 ) -> u8
-    ensures found { result ≡ 0 → Finds (IsFitGraph program_limits (numbers n ends.now couplings.now dart_starts.now darts.now seam.now)) (λ inst. IsExact (AreClusters inst) (λ c. Shows c names.old names.new)) }
-    ensures refused { result ≡ 1 → TellsRefusal (IsFitFault program_limits (numbers n ends.now couplings.now dart_starts.now darts.now seam.now)) line.old line.new line_written.new }
-    ensures codes { (result ≡ 0) ⊎ ((result ≡ 1) ⊎ (result ≡ 6)) }
+    ensures found { result ≡ 0 → Finds (IsFitGraph large_limits (numbers n ends.now couplings.now dart_starts.now darts.now seam.now)) (λ inst. IsExact (AreClusters inst) (λ c. Shows c names.old names.new)) }
+    ensures refused { result ≡ 1 → TellsRefusal (IsFitFault large_limits (numbers n ends.now couplings.now dart_starts.now darts.now seam.now)) line.old line.new line_written.new }
+    ensures too_large { result ≡ 5 → Finds (IsFitGraph large_limits (numbers n ends.now couplings.now dart_starts.now darts.now seam.now)) (WeakenedTablesExceed table_limit) }
+    ensures large { result ≡ 5 → (spin_limit < n) ⊎ (bond_limit < length couplings.now) }
+    ensures codes { (result ≡ 0) ⊎ ((result ≡ 1) ⊎ ((result ≡ 5) ⊎ (result ≡ 6))) }
     ensures kept { result ≢ 0 → names.new ≡ names.old }
     ensures kept_line { result ≢ 1 → (line.new ≡ line.old) × (line_written.new ≡ line_written.old) }
 {
@@ -251,7 +254,8 @@ pub extern "C" fn ising2d_c_clusters(
             fill(found.as_slice(), names);
             Status::Done.exit_code()
         }
-        Err(fault) => refuse(alloc, &fault, line, line_written),
+        Err(Unanswered::Fault(fault)) => refuse(alloc, &fault, line, line_written),
+        Err(Unanswered::TablesTooLarge) => NO_PROOF,
     }
 }
 

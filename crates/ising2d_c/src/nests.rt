@@ -7,7 +7,7 @@ use sg_model::Refusal;
 use sg_nest::{Nest, Place, Places, Region, Regions};
 use std::alloc::{AllocError, Global};
 
-// What stands for no region.
+// The number that means no region.
 const NONE: u32 = u32::MAX;
 
 /// For each region its parent and its radius, for each face its region and the radius at which that

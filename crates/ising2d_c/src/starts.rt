@@ -4,7 +4,7 @@ ghost use Rattle.ising2d_c.specs.Crossing.{DividesEntries, entries_of, entry, fi
 
 /// The start that is wrong, where so many entries are to be divided among so many items.
 pub fn wrong_start(starts: &[usize], items: usize, entries: usize) -> Option<usize>
-    requires { items < 2 ^ 32 }
+    requires { items + 1 < 2 ^ 64 }
     ensures value { result ≡ wrong_start_of starts.now items entries }
     ensures division { result ≡ None → DividesEntries starts.now items entries }
 {

@@ -2,6 +2,7 @@
 ghost use Rattle.std.specs.Prelude.{◌≡◌, IfOk, IfErr};
 ghost use Rattle.sg_bonds.specs.Cluster.{AreClusters};
 ghost use Rattle.sg_bonds.specs.Cost.{AreCosts};
+ghost use Rattle.sg_bonds.specs.Weakened.{WeakenedTablesExceed};
 ghost use Rattle.ising2d_c.specs.Proofs.{AreRows, AreRowsOf, loop_lists, nest_lists};
 ghost use Rattle.ising2d_c.specs.Graphs.{Finds, IsFitFault, IsFitGraph, IsUnanswered, IsWallFault, numbers_of};
 ghost use Rattle.ising2d_c.specs.Grounds.{IsExact, IsGround, IsNested, IsWallAtSeam};
@@ -14,7 +15,7 @@ use super::graphs::{Given, fit_graph};
 use super::nests::{NestRows, rows_of_nest};
 use super::rows::{Rows, rows_of};
 use super::unanswered::Unanswered;
-use sg_bonds::{CostList, clusters, costs};
+use sg_bonds::{CostList, clusters_within, costs};
 use sg_draft::Limits;
 use sg_ground::{Answer, NestedState, nested_state, solve_within};
 use sg_limits::TABLE_LIMIT;
@@ -72,10 +73,11 @@ pub fn costs_of(alloc: Global, given: &Given) -> Result<CostList, Fault>
 }
 
 /// The cluster of each spin of the graph of these numbers.
-pub fn clusters_of(alloc: Global, given: &Given) -> Result<ClusterList, Fault>
-    ensures gives { IfOk result (λ found. Finds (IsFitGraph program_limits (numbers_of given.now)) (λ inst. IsExact (AreClusters inst) (λ c. found ≡ c))) }
-    ensures refuses { IfErr result (IsFitFault program_limits (numbers_of given.now)) }
+pub fn clusters_of(alloc: Global, given: &Given) -> Result<ClusterList, Unanswered>
+    ensures gives { IfOk result (λ found. Finds (IsFitGraph large_limits (numbers_of given.now)) (λ inst. IsExact (AreClusters inst) (λ c. found ≡ c))) }
+    ensures refuses { IfErr result (IsUnanswered (IsFitFault large_limits (numbers_of given.now))
+        (Finds (IsFitGraph large_limits (numbers_of given.now)) (WeakenedTablesExceed table_limit))) }
 {
-    let planar = fit_graph(alloc, Limits::of_program(), given)?;
-    Ok(clusters(alloc, &planar)?)
+    let planar = fit_graph(alloc, Limits::large(), given)?;
+    Ok(clusters_within(alloc, &planar, TABLE_LIMIT)?)
 }

@@ -117,8 +117,8 @@ fn ends_of(alloc: Global, bonds: &Bonds) -> Result<Vec<u32>, AllocError>
     Ok(ends)
 }
 
-// The starts of the darts of each spin, and the darts.
-fn joined(alloc: Global, rotation: &Rotation) -> Result<(Vec<usize>, Vec<u32>), AllocError>
+/// The starts of the darts of each spin, and the darts; and so of other lists of numbers.
+pub fn joined(alloc: Global, rotation: &Rotation) -> Result<(Vec<usize>, Vec<u32>), AllocError>
     ensures { IfOk result (λ made. IsJoined (λ list. list) rotation.now made.0.items made.1.items) }
 {
     let mut starts = Vec::new(alloc);

@@ -4,7 +4,7 @@ ghost use Rattle.ising2d_c.specs.Running.{AreWords, HasNoZero, IsUnended};
 
 use std::alloc::{AllocError, Global};
 
-/// The words, each of which is ended by a byte 0; none where something stands behind the last one.
+/// The words, each of which is ended by a byte 0; none if something follows the last one.
 pub fn words_in(alloc: Global, bytes: &[u8]) -> Result<Option<Vec<String>>, AllocError>
     ensures ended { IfOk result (λ found. IfSome found (λ words. AreWords bytes.now (map string_bytes words.items))) }
     ensures unended { result ≡ Ok None → IsUnended bytes.now }
@@ -18,7 +18,7 @@ pub fn words_in(alloc: Global, bytes: &[u8]) -> Result<Option<Vec<String>>, Allo
     Ok(rest.is_empty().then_some(words))
 }
 
-// What stands in front of the first byte 0, and behind it.
+// What precedes the first byte 0, and what follows it.
 fn cut(bytes: &[u8]) -> Option<(&[u8], &[u8])>
     ensures parts { IfSome result (λ r. bytes.now ≡ r.0.now ++ 0 ∷ r.1.now) }
     ensures word { IfSome result (λ r. HasNoZero r.0.now) }
