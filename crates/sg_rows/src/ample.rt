@@ -1,5 +1,5 @@
-// Want of memory is the one answer that needs no cause. Here memory is ample, and each study of each
-// form of instance is answered, and so is each law's lattice of each kind.
+// No clause says when an allocation fails. Here memory is ample: each study of each form of instance
+// must be answered, and so must each law's lattice of each kind.
 use super::laws::drawn;
 use super::runs::answer;
 use sg_cli::Status;

@@ -145,7 +145,8 @@ fn loops_of_all_components_prove_together(rt: HostRuntime) -> Result<(), Fail> {
     Ok(())
 }
 
-// So many pairs of spins with a bond each, of coupling 1 and -1 by turns; the first bond is the seam.
+// So many pairs of spins with a bond each, with couplings 1 and -1 in turn; the first bond is the
+// seam.
 fn pairs(alloc: Global, count: u32) -> Result<String, AllocError> {
     let mut text = String::from_str(alloc, "general,")?;
     text.push_str(format!(in alloc; "{}\n", 2 * u64::from(count))?.as_str())?;

@@ -1,5 +1,5 @@
 // Joins and closed walks in weighted graphs. The weights were worked by hand: the cuts of a proof weigh
-// twice as much as the join, or as what the walk goes along a second time.
+// twice as much as the T-join, or as what the walk goes along a second time.
 use super::runs::{answer, expect_row};
 use sg_cli::Status;
 use std::alloc::Global;

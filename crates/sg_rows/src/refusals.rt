@@ -44,7 +44,7 @@ fn lattices_that_are_refused(rt: HostRuntime) -> Result<(), Fail> {
     Ok(())
 }
 
-// A text without a coupling is refused with the number of bonds that it wants.
+// A text without a coupling is refused with the number of bonds that it needs.
 #[test]
 fn each_size_has_its_bonds(rt: HostRuntime) -> Result<(), Fail> {
     let rows = [

@@ -1,4 +1,4 @@
-// The dual web of small drawings, and their frustrated faces.
+// The dual graphs of small drawings, and their frustrated faces.
 use super::texts::instance;
 use sg_dual::dual;
 use sg_faces::trace;
@@ -8,7 +8,7 @@ use std::alloc::{AllocError, Global};
 use std::test::Fail;
 
 // The number of nodes, then the ends and the weight of each edge, then the terminals; nothing where
-// the web is not connected, or the instance is too heavy.
+// the graph is not connected, or the instance is too heavy.
 fn written(alloc: Global, inst: &Instance) -> Result<Vec<i64>, AllocError> {
     let faces = trace(alloc, inst)?;
     let mut numbers = Vec::new(alloc);

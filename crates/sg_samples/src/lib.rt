@@ -1,8 +1,8 @@
-//! Tests of the parts below the solver, by their public calls: lists, laws and devices; and over instances
-//! that are read from texts the tables of the lattices, the faces, the dual web, the components, other
-//! couplings, the walk that breaks given bonds, and the plain reference solver.
+//! Tests of the parts below the solver, through their public functions: lists, laws and devices; and, on
+//! instances read from texts, the tables of the lattices, the faces, the dual graph, the components,
+//! other couplings, the walk that breaks given bonds, and the plain reference solver.
 //!
-//! Their values come from outside the program: drawn and counted by hand.
+//! Expected values come from outside the program: drawn and counted by hand.
 #![tactic(auto)]
 
 #[cfg(test)]

@@ -163,7 +163,7 @@ fn long_cylinders(rt: HostRuntime) -> Result<(), Fail> {
     Ok(())
 }
 
-// Four triangles with drawn couplings, whose spins stand by turns.
+// Four triangles with drawn couplings, whose spins alternate.
 pub(crate) fn drawn_triangles(
     alloc: Global,
     kind: u32,

@@ -1,10 +1,10 @@
-//! Trials of the solver beside the plain minimum, on small instances that are read from texts; and of
-//! what is proposed for least joins, on the duals of these instances and on other webs, which has to be
-//! there and to be good.
+//! Trials of the solver against the plain minimum, on small instances that are read from texts; and of
+//! proposals for minimum T-joins, on the duals of these instances and on other graphs: each must exist
+//! and be good.
 //!
-//! The contract of `sg_ground::solve` says that no assignment has less energy; here both are run. That
-//! a proposal is there, at first and once more, that the judges say yes to it, and that a repair proves
-//! the state that it is asked for, no contract says.
+//! The contract of `sg_ground::solve` says that no assignment has less energy; here both are run. No
+//! clause says that there is a proposal and a retry, that the judges accept them, or that a repair
+//! proves the state for which it was made; these trials test it.
 #![tactic(auto)]
 
 #[cfg(test)]

@@ -1,4 +1,4 @@
-// What is proposed for least joins, and whether the judges accept it.
+// What is proposed for minimum T-joins, and whether the judges accept it.
 
 ghost use Rattle.sg_graph.specs.Join.{AreTerminals};
 
@@ -40,8 +40,8 @@ fn has_good_nest(
     }
 }
 
-// What is proposed has to be there and good, at first and once more, else `least_join` would match the
-// terminals each time and nobody notice.
+// Both the first proposal and the retry must exist and be good; else `least_join` would fall back on
+// the matching each time, and nobody would notice.
 pub(crate) fn assert_good(
     rt: &impl Abort,
     alloc: Global,

@@ -1,10 +1,7 @@
-// Second proposals: they are asked for where the first one is of no use, and nothing else is.
+// The retry: it is made if and only if the first proposal is rejected.
 
-ghost use Rattle.std.specs.Prelude.{length, IfOk};
-ghost use Rattle.sg_forest.specs.Counts.{KeepsTo};
 ghost use Rattle.sg_graph_text.specs.Network.{IsNetwork};
 ghost use Rattle.sg_ground.specs.Nested.{FitsWeb};
-ghost use Rattle.sg_regions.specs.Places.{place_count};
 
 use super::least::{drawn_triangles, instance};
 use super::webs::{drawn_grid, network_of};
@@ -14,77 +11,90 @@ use sg_graph_text::Network;
 use sg_ground::{State, ground_state, nest_by};
 use sg_join_check::Proposal;
 use sg_planar::Planar;
-use sg_regions::{Grown, NestProposal, Proposer, Regions};
+use sg_regions::{NestProposal, Proposer, Regions};
 use sg_tjoin::{judged_join, nested_join};
 use std::alloc::{AllocError, Global};
 use std::process::Abort;
 use std::test::Fail;
 
 // Growing regions whose first proposal is kept back, and where they are mute the second one too.
+#[derive(Drop)]
 struct Silent {
     is_mute: bool,
+    regions: Regions,
+}
+
+// Before the first proposal.
+fn withheld(is_mute: bool) -> Silent {
+    Silent {
+        is_mute,
+        regions: Regions::new(),
+    }
 }
 
 impl Proposer<Proposal> for Silent {
+    ghost steps = { λ s. s.regions };
+
     fn propose(
-        &self,
+        &mut self,
         _alloc: Global,
         _web: &Web,
         _terminals: &Terminals,
-    ) -> Result<Grown<Option<Proposal>>, AllocError> {
-        Ok(Grown::ungrown(None))
+    ) -> Result<Option<Proposal>, AllocError> {
+        Ok(None)
     }
 
     fn propose_again(
-        &self,
+        &mut self,
         alloc: Global,
         web: &Web,
         terminals: &Terminals,
-    ) -> Result<Grown<Option<Proposal>>, AllocError> {
+    ) -> Result<Option<Proposal>, AllocError> {
         if self.is_mute {
-            return Ok(Grown::ungrown(None));
+            return Ok(None);
         }
-        Regions.propose_again(alloc, web, terminals)
+        self.regions.propose_again(alloc, web, terminals)
     }
 }
 
 impl Proposer<NestProposal> for Silent {
+    ghost steps = { λ s. s.regions };
+
     fn propose(
-        &self,
+        &mut self,
         _alloc: Global,
         _web: &Web,
         _terminals: &Terminals,
-    ) -> Result<Grown<Option<NestProposal>>, AllocError> {
-        Ok(Grown::ungrown(None))
+    ) -> Result<Option<NestProposal>, AllocError> {
+        Ok(None)
     }
 
     fn propose_again(
-        &self,
+        &mut self,
         alloc: Global,
         web: &Web,
         terminals: &Terminals,
-    ) -> Result<Grown<Option<NestProposal>>, AllocError> {
+    ) -> Result<Option<NestProposal>, AllocError> {
         if self.is_mute {
-            return Ok(Grown::ungrown(None));
+            return Ok(None);
         }
-        Regions.propose_again(alloc, web, terminals)
+        self.regions.propose_again(alloc, web, terminals)
     }
 }
 
-const SECOND: Silent = Silent { is_mute: false };
-
-const MUTE: Silent = Silent { is_mute: true };
-
-// The second proposal is taken, with cuts and with a nest; and where there is none, there is no join.
+// The second proposal is taken, with cuts and with a nest; and where there is none, there is no
+// T-join.
 fn assert_second(rt: &impl Abort, alloc: Global, network: &Network) -> Result<(), Fail>
     requires { IsNetwork network.now.web network.now.terminals }
 {
     let (web, terminals) = (&network.web, &network.terminals);
-    let cuts = judged_join(alloc, web, terminals, &SECOND)?.found;
-    let nest = nested_join(alloc, web, terminals, &SECOND)?.found;
+    let mut second = withheld(false);
+    let cuts = judged_join(alloc, web, terminals, &mut second)?;
+    let nest = nested_join(alloc, web, terminals, &mut second)?;
     assert!(rt; cuts.is_some() && nest.is_some());
-    let no_cuts = judged_join(alloc, web, terminals, &MUTE)?.found;
-    let no_nest = nested_join(alloc, web, terminals, &MUTE)?.found;
+    let mut mute = withheld(true);
+    let no_cuts = judged_join(alloc, web, terminals, &mut mute)?;
+    let no_nest = nested_join(alloc, web, terminals, &mut mute)?;
     assert!(rt; no_cuts.is_none() && no_nest.is_none());
     Ok(())
 }
@@ -102,11 +112,11 @@ fn has_nest(
     alloc: Global,
     planar: &Planar,
     state: &State,
-    proposer: &Silent,
+    mut proposer: Silent,
 ) -> Result<bool, AllocError>
     requires { FitsWeb planar.now.instance }
 {
-    Ok(nest_by(alloc, planar, state, proposer)?.is_some())
+    Ok(nest_by(alloc, planar, state, &mut proposer)?.is_some())
 }
 
 // The second nest over all components is taken; and where there is none, there is no nest.
@@ -114,8 +124,8 @@ fn assert_second_nest(rt: &impl Abort, alloc: Global, planar: &Planar) -> Result
     let state = ground_state(alloc, planar)?;
     let inst = planar.instance();
     assert!(rt; inst.n() as usize + inst.bonds().len() <= 1 << 24);
-    let with_second = has_nest(alloc, planar, &state, &SECOND)?;
-    let without = has_nest(alloc, planar, &state, &MUTE)?;
+    let with_second = has_nest(alloc, planar, &state, withheld(false))?;
+    let without = has_nest(alloc, planar, &state, withheld(true))?;
     assert!(rt; with_second && !without);
     Ok(())
 }

@@ -1,4 +1,4 @@
-// Least joins on drawn webs: what is proposed, beside the matching.
+// Minimum T-joins on drawn graphs: what is proposed, beside the matching.
 
 ghost use Rattle.std.specs.Prelude.{◌≤◌, IfOk};
 ghost use Rattle.sg_graph_text.specs.Network.{IsNetwork};
@@ -13,7 +13,7 @@ use std::alloc::{AllocError, Global};
 use std::process::Abort;
 use std::test::Fail;
 
-// What is proposed has to be good, and the join to weigh what that of the matching weighs.
+// What is proposed has to be good, and the T-join to weigh what that of the matching weighs.
 fn assert_network(rt: &impl Abort, alloc: Global, network: &Network, text: &str) -> Result<(), Fail>
     requires { IsNetwork network.now.web network.now.terminals }
 {
@@ -242,7 +242,7 @@ pub(crate) fn drawn_grid(
     Ok(text)
 }
 
-// The matching is never asked where the proposal is good, and so runs on large webs here alone.
+// The matching is never asked where the proposal is good, and so runs on large graphs here alone.
 #[test]
 fn large_webs(rt: HostRuntime) -> Result<(), Fail> {
     let mut draws = Pcg32::new(46, 54);

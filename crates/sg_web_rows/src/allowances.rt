@@ -1,4 +1,4 @@
-// Least joins within an allowance of bytes for the tables of the matching.
+// Minimum T-joins within an allowance of bytes for the tables of the matching.
 use super::webs::web;
 use sg_graph::{Terminals, connected};
 use sg_sums::{all_below, is_rising};
@@ -7,7 +7,7 @@ use std::alloc::Global;
 use std::process::Abort;
 use std::test::Fail;
 
-// The least join of all four nodes of a line, by the matching alone or not.
+// The minimum T-join of all four nodes of a line, by the matching alone or not.
 fn joined(
     rt: &impl Abort,
     alloc: Global,

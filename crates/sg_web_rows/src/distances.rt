@@ -34,7 +34,8 @@ fn a_node_apart_is_not_reached(rt: HostRuntime) -> Result<(), Fail> {
 
 const NODES: usize = 5;
 
-// All distances of the web on five nodes by Floyd and Warshall, `u64::MAX` where there is no walk.
+// All distances of the graph on five nodes by Floyd and Warshall, `u64::MAX` where there is no
+// walk.
 fn all_distances(list: &[(u32, u32, i64)]) -> [u64; 25] {
     let mut far = [u64::MAX; 25];
     for i in 0..NODES {

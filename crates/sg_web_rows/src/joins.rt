@@ -1,4 +1,4 @@
-// Least joins beside what was worked by hand, and beside the least of all joins.
+// Minimum T-joins beside what was worked by hand, and beside the least of all joins.
 use super::webs::{cut_sum, web};
 use sg_graph::{Terminals, connected};
 use sg_sums::{all_below, is_rising};
@@ -7,7 +7,7 @@ use std::alloc::Global;
 use std::process::Abort;
 use std::test::Fail;
 
-// The least join of these terminals in the web of these edges, by the matching alone or not.
+// The minimum T-join of these terminals in the graph of these edges, by the matching alone or not.
 fn joined(
     rt: &impl Abort,
     alloc: Global,
@@ -29,7 +29,7 @@ fn joined(
     }
 }
 
-// The least join of these terminals in the web of these edges, without its cuts.
+// The minimum T-join of these terminals in the graph of these edges, without its cuts.
 fn weighed(
     rt: &impl Abort,
     alloc: Global,
@@ -118,8 +118,8 @@ fn least_plain(list: &[(u32, u32, i64)], ends: &[u32]) -> u64 {
 
 #[test]
 fn no_edge_set_weighs_less(rt: HostRuntime) -> Result<(), Fail> {
-    // Two nodes at distance 0, parallel edges, edges from a node to itself, a tree, a ring, and webs
-    // whose nodes all are terminals, of at most ten edges.
+    // Two nodes at distance 0, parallel edges, edges from a node to itself, a tree, a ring, and
+    // graphs whose nodes all are terminals, of at most ten edges.
     let rows: [(u32, &[(u32, u32, i64)], &[u32]); 7] = [
         (3, &[(0, 1, 0), (1, 2, 0), (2, 2, 0), (0, 2, 0)], &[0, 2]),
         (

@@ -40,7 +40,7 @@ fn growths_of(alloc: Global, rows: &[GrowthRow]) -> Result<(Growths, NodeList), 
     Ok((growths, NodeList::from_vec(nodes)))
 }
 
-// What the judge says of a proposal in this web, for these terminals.
+// What the judge says of a proposal in this graph, for these terminals.
 fn judged(
     rt: &impl Abort,
     alloc: Global,
@@ -139,8 +139,8 @@ fn a_join_with_cuts_that_prove_it_is_judged_yes(rt: HostRuntime) -> Result<(), F
     Ok(())
 }
 
-// A web of five nodes, of which no edge ends at the last: the path 0, 1, 2 of weights 3 and 4, two long
-// ways round it, an edge to itself as heavy as the path, and a heavy edge to node 3.
+// A graph of five nodes, of which no edge ends at the last: the path 0, 1, 2 of weights 3 and 4, two
+// long ways round it, an edge to itself as heavy as the path, and a heavy edge to node 3.
 const SMALL: [EdgeRow; 6] = [
     (0, 1, 3),
     (1, 2, 4),

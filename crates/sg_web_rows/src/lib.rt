@@ -1,7 +1,8 @@
-//! Tests of webs and of what is found in them, by their public calls: tables of distances, shortest walks,
-//! least joins, the cuts of moats, the judges of joins by cuts and by nests, and closed walks over every edge.
+//! Tests of weighted graphs and of what is found in them, through their public functions: tables of
+//! distances, shortest walks, minimum T-joins, the cuts of moats, the judges of T-joins by cuts and by
+//! nests, and closed walks over every edge.
 //!
-//! Their values come from outside the program: worked by hand, or by trying all walks or all joins.
+//! Expected values come from outside the program: worked by hand, or by trying all walks or all T-joins.
 #![tactic(auto)]
 
 #[cfg(test)]

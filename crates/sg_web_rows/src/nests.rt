@@ -42,7 +42,7 @@ fn heart(region: u32) -> Option<Place> {
     Some(Place { region, at: 0 })
 }
 
-// Whether the regions prove a join of nodes 0 to 3.
+// Whether the regions prove a T-join of nodes 0 to 3.
 fn judged(
     rt: &impl Abort,
     alloc: Global,

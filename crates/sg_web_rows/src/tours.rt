@@ -5,7 +5,7 @@ use std::alloc::Global;
 use std::process::Abort;
 use std::test::Fail;
 
-// The tour of the web of these edges.
+// The tour of the graph of these edges.
 fn toured(
     rt: &impl Abort,
     alloc: Global,
@@ -20,7 +20,7 @@ fn toured(
 #[test]
 fn a_tour_weighs_the_edges_and_what_is_walked_twice(rt: HostRuntime) -> Result<(), Fail> {
     // The seven bridges of Königsberg; one edge; no edge; an edge from a node to itself; parallel
-    // edges, two and three; a triangle with a tail; a web without weight.
+    // edges, two and three; a triangle with a tail; a graph of weight 0.
     let rows: [(u32, &[(u32, u32, i64)], i64, usize); 8] = [
         (
             4,

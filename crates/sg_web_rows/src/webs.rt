@@ -1,4 +1,4 @@
-// Webs of a few edges, and their cuts.
+// Weighted graphs of a few edges, and their cuts.
 ghost use Rattle.std.specs.Prelude.{◌≡◌, ◌≤◌, IfOk};
 ghost use Rattle.sg_graph.specs.Web.{IsEdge, total_weight, weight_at};
 
@@ -18,7 +18,7 @@ fn edge(rt: &impl Abort, nodes: u32, a: u32, b: u32, w: i64) -> Edge
     Edge { a, b, w }
 }
 
-/// The web of these edges.
+/// The weighted graph of these edges.
 pub fn web(
     rt: &impl Abort,
     alloc: Global,
