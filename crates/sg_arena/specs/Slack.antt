@@ -8,7 +8,7 @@ abbrev pub exactly_one : Bool → Bool → Bool
 exactly_one true other = not other
 exactly_one false other = other
 
--- what a node adds: its dual where its set has exactly one of the two leaves
+-- what a node adds: its dual if its set has exactly one of the two leaves
 abbrev pub cut_share : ℕ → ℕ → Option Node → ℕ
 cut_share u v slot = option_map_or
     (λ n. if exactly_one (has_leaf n.leaves u) (has_leaf n.leaves v) then n.dual else 0) slot 0

@@ -243,8 +243,8 @@ impl Arena {
         unreachable!()
     }
 
-    /// The child of the first link of a blossom's cycle: where a caller begins who reads the children of
-    /// a family from outside, one by one by [`Arena::after`]. The engine comes to a child by a leaf.
+    /// The child of the first link of a blossom's cycle: where a caller begins that reads the children
+    /// of a family from outside, one by one by [`Arena::after`]. The engine comes to a child by a leaf.
     ///
     /// Cost: constant.
     pub fn first_child(&self, node: usize) -> usize

@@ -7,7 +7,7 @@ use Rattle.sg_model.specs.Spins.{IsAssignment}
 use Rattle.sg_check.specs.declared.packing.Loop.{Loop}
 use Rattle.sg_check.specs.Loop.{IsFrustratedLoop}
 
--- the weight of a loop, a natural number where it is at least 1
+-- the weight of a loop, a natural number if it is at least 1
 abbrev pub loop_weight : Loop → ℕ
 loop_weight l = unsigned_abs l.y
 

@@ -44,7 +44,7 @@ pub record PassesLoops (inst : Ising) (loops : List Loop) : Type 0 where
 abbrev pub PassesLoads : Ising → List Loop → Type 0
 PassesLoads inst loops = (k : ℕ) → k < bond_count inst → IsWithin inst loops k
 
--- the first test that fails, with the numbers that show it, and Yes where none does
+-- the first failed check, with the numbers that show it, and Yes if there is none
 abbrev pub IsVerdict : Ising → ResultText → Verdict → Type 0
 IsVerdict inst text Yes = Proves inst text.spins text.energy text.loops
 IsVerdict inst text (SpinCount found) = (found ≡ length text.spins) × (found ≢ inst.n)

@@ -48,8 +48,8 @@ impl<'a> Checker<'a> {
     /// Judges a proof: Yes, or the first test that fails.
     ///
     /// Each test is made over all loops or bonds before the next, and the least that fails is named.
-    /// Earlier calls change no verdict. It takes no memory, and time linear in the spins, the bonds
-    /// and the bonds of all loops. Sums are exact. After Yes no assignment has less energy.
+    /// Earlier calls change no verdict. It does not allocate, and takes time linear in the spins, the
+    /// bonds and the bonds of all loops. Sums are exact. After Yes no assignment has less energy.
     pub fn check(&mut self, text: &ResultText) -> Verdict
         requires few_spins { length text.now.spins < 2 ^ 32 }
         requires few_loops { length text.now.loops < 2 ^ 32 }

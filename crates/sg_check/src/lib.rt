@@ -1,5 +1,5 @@
 //! The checker of ground states: it judges spins, an energy and weighted frustrated loops, and needs
-//! no trust in whoever found them.
+//! no trust in the solver.
 //!
 //! A frustrated loop (Toulouse 1977) is a set of bonds that meets each spin an even number of times
 //! and has an odd number of negative bonds, so every assignment breaks at least one of its bonds.
@@ -11,8 +11,8 @@
 //! not; on planar graphs a proof always exists (Edmonds and Johnson 1973).
 //!
 //! For the next engineer: `specs/Loop.antt`, `specs/Packing.antt` and `specs/Verdict.antt` say what is
-//! judged. `Checker::check` answers the verdict of that definition, and what a yes means stands in
-//! its contract too; `packing_proves` is the law alone, for a caller that builds a proof and runs no
+//! judged. `Checker::check` answers the verdict of that definition, and what a yes means is in its
+//! contract too; `packing_proves` is the law alone, for a caller that builds a proof and runs no
 //! check. The law's proof is `proofs/WeakDuality.antt`, on the lemmas of the crate `sg_sums`.
 #![tactic(auto)]
 

@@ -8,7 +8,7 @@ pub struct Loop {
     pub bonds: BondList,
 }
 
-/// Weighted loops, in the order of the proof. A loop may stand more than once.
+/// Weighted loops, in the order of the proof. A loop may appear more than once.
 pub type Loops = Records<Loop>;
 
 /// What a proof states: an energy, spins that are to have it, and loops that are to show that no

@@ -1,5 +1,5 @@
-// The tests of a loop at the spins that it meets, in time linear in the loop: marks are turned at
-// the ends of its bonds, the least marked end is found, and the marks are turned back.
+// The tests of a loop at the spins that it meets, in time linear in the loop: the marks at the ends
+// of its bonds are toggled, the least marked end is found, and the marks are toggled back.
 
 ghost use Rattle.std.specs.Prelude.{◌≡◌, ℕ, true, false, ◌<◌, ◌≤◌, ◌⊎◌, length, replicate, All, IfNone, IfSome, IsSomeAnd};
 ghost use Rattle.std.specs.List.{list_any};

@@ -68,12 +68,14 @@ fit-text Report inst t u s v good numbers p q = absurd numbers
 fit-text Maxcut inst t u s v good numbers p q = absurd numbers
 
 -- a stated proof has one verdict
-verdict-printed : (inst : Ising) (stated : ResultText) (t u : List ℕ) (s v : Status) → PrintsVerdict inst stated t s → PrintsVerdict inst stated u v → t ≡ u
+verdict-printed : (inst : Ising) (stated : ResultText) (t u : List ℕ) (s v : Status) → PrintsVerdict inst stated t s →
+    PrintsVerdict inst stated u v → t ≡ u
 verdict-printed inst stated t u s v p q =
     p.printed ∙ ap verdict_text (one_verdict inst stated p.judged q.judged p.found q.found) ∙ sym q.printed
 
 -- a text
-text-printed : (reading : Reading) (bytes t u : List ℕ) (s v : Status) → HasOneText reading → AnswersText reading bytes t s → AnswersText reading bytes u v
+text-printed : (reading : Reading) (bytes t u : List ℕ) (s v : Status) → HasOneText reading →
+    AnswersText reading bytes t s → AnswersText reading bytes u v
     → t ≡ u
 text-printed (reading.Study study) bytes t u s v one (FaultNamed refusal bad line) q =
     line-text refusal t u s v line ((study-settled study bytes u v q).refused refusal bad)

@@ -43,19 +43,22 @@ module _ {E : Type 0} (words : List (List ℕ)) (laws : List Law) (bytes : List 
   reply-settled (Err e) served = tt
 
   -- of a study
-  pub reply-fit : (r : Result Reply E) → Serves r → IfOk r (λ reply. (study : Study) (inst : Ising) → command_of words ≡ Some (Read (reading.Study study))
+  pub reply-fit : (r : Result Reply E) → Serves r → IfOk r (λ reply. (study : Study) (inst : Ising) →
+      command_of words ≡ Some (Read (reading.Study study))
       → length bytes ≤ input_limit → GivesFit bytes inst → AnswersFit study inst reply.text.items reply.status)
   reply-fit (Ok reply) served = λ study inst named short given.
       ((reply-settled (Ok reply) served (reading.Study study) named).short short).fit inst given
   reply-fit (Err e) served = tt
 
-  pub reply-done : (r : Result Reply E) → Serves r → IfOk r (λ reply. (study : Study) (inst : Ising) → command_of words ≡ Some (Read (reading.Study study))
+  pub reply-done : (r : Result Reply E) → Serves r → IfOk r (λ reply. (study : Study) (inst : Ising) →
+      command_of words ≡ Some (Read (reading.Study study))
       → length bytes ≤ input_limit → GivesFit bytes inst → CanBeStudied study inst → reply.status ≡ Done)
   reply-done (Ok reply) served = λ study inst named short given can.
       fit-done study inst reply.text.items reply.status (reply-fit (Ok reply) served study inst named short given) can
   reply-done (Err e) served = tt
 
-  pub reply-refused : (r : Result Reply E) → Serves r → IfOk r (λ reply. (study : Study) (refusal : Refusal) → command_of words ≡ Some (Read (reading.Study study))
+  pub reply-refused : (r : Result Reply E) → Serves r → IfOk r (λ reply. (study : Study) (refusal : Refusal) →
+      command_of words ≡ Some (Read (reading.Study study))
       → length bytes ≤ input_limit → RefusesText bytes refusal → IsRefused refusal reply.text.items reply.status)
   reply-refused (Ok reply) served = λ study refusal named short bad.
       ((reply-settled (Ok reply) served (reading.Study study) named).short short).refused refusal bad

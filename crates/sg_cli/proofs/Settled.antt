@@ -70,7 +70,8 @@ graph-settled task bytes text status (GraphSolved g terminals given answers) = r
 }
 
 -- any command that reads
-pub text-settled : (reading : Reading) (bytes text : List ℕ) (status : Status) → AnswersText reading bytes text status → SettlesText reading bytes text status
+pub text-settled : (reading : Reading) (bytes text : List ℕ) (status : Status) → AnswersText reading bytes text status →
+    SettlesText reading bytes text status
 text-settled (reading.Study study) bytes text status answers = study-settled study bytes text status answers
 text-settled reading.Check bytes text status answers = check-settled bytes text status answers
 text-settled (reading.Graph task) bytes text status answers = graph-settled task bytes text status answers

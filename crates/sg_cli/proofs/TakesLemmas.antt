@@ -1,7 +1,7 @@
 -- What a read leaves of its source, from what `read_all` says.
 use Rattle.std.proofs.Common.{◌≡◌, ℕ, ◌+◌, ◌≤◌, List, length, drop, Option, None, Some, ◌∙◌, ap, arith}
 use Rattle.sg_limits.specs.Limits.{input_limit}
-use Rattle.sg_io.specs.Devices.{Loses}
+use Rattle.sg_io.specs.Devices.{DropsFront}
 use Rattle.sg_io.specs.Reading.{Empties}
 use Rattle.sg_cli.specs.Promises.{TakesInput}
 
@@ -19,7 +19,7 @@ takes-whole items (Some left) new spent short = record {
 }
 
 -- a source with more gave one byte past the limit
-pub takes-too_long : (old new : Option (List ℕ)) → Loses (input_limit + 1) old new → TakesInput old new
+pub takes-too_long : (old new : Option (List ℕ)) → DropsFront (input_limit + 1) old new → TakesInput old new
 takes-too_long None new lost = record {
   untold = λ _. lost;
   whole = λ bytes told. absurd (cc);

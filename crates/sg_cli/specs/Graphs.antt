@@ -1,5 +1,5 @@
--- What is answered of a connected weighted graph: a least join of its terminals, or a shortest closed walk over every
--- edge.
+-- What is answered of a connected weighted graph: a minimum T-join of its terminals, or a shortest closed walk over
+-- every edge.
 use Rattle.std.specs.Prelude.{◌≡◌, ℕ, ◌*◌, ℤ, pos, Bool, true, false, List, map, sum_by}
 use Rattle.sg_check.specs.declared.packing.Loop.{Loop}
 use Rattle.sg_graph.specs.declared.cut.Cut.{Cut}
@@ -19,11 +19,11 @@ abbrev pub takes_terms : GraphTask → Bool
 takes_terms TJoin = true
 takes_terms Postman = false
 
--- a cut as the texts take it: its edges stand where a loop has its bonds
+-- a cut as the texts take it: with its edges as the bonds of a loop
 abbrev pub cut_as_loop : Cut → Loop
 cut_as_loop c = record { y = c.y; bonds = c.edges }
 
--- a join of the terminals than which none weighs less, its weight, and a packing of odd cuts that proves it
+-- a minimum T-join of the terminals, its weight, and a packing of odd cuts that proves it
 pub record PrintsJoin (g : Graph) (terminals text : List ℕ) (status : Status) : Type 0 where
   pub edges : List ℕ
   pub cuts : List Cut

@@ -1,7 +1,7 @@
 -- The laws that the program draws from.
 use Rattle.std.specs.Prelude.{◌≡◌, ℕ, ℤ, pos, Option, List, [], ◌∷◌, codes, replicate}
 use Rattle.sg_laws.specs.Named.{Law}
-use Rattle.sg_laws.specs.Stream.{alternating, drawn, generator_of, level_of, sign_of}
+use Rattle.sg_laws.specs.Stream.{alternating, drawn, seeded_generator, level_of, sign_of}
 use Rattle.sg_reply.specs.Exit.{IsReply}
 use Rattle.sg_cli.specs.Promises.{AnswersInPart, AnswersWhole}
 use Rattle.sg_reply.specs.declared.status.Status.{Status}
@@ -21,8 +21,8 @@ pub record AreLaws (laws : List Law) : Type 0 where
   pub all : laws ≡ one ∷ alternate ∷ plus_minus ∷ uniform ∷ []
   pub is_one : IsLaw (codes "one") (λ seed count. replicate count (pos 1)) one
   pub is_alternate : IsLaw (codes "alternate") alternating alternate
-  pub is_plus_minus : IsLaw (codes "pm") (λ seed count. drawn sign_of count (generator_of seed)) plus_minus
-  pub is_uniform : IsLaw (codes "uniform") (λ seed count. drawn level_of count (generator_of seed)) uniform
+  pub is_plus_minus : IsLaw (codes "pm") (λ seed count. drawn sign_of count (seeded_generator seed)) plus_minus
+  pub is_uniform : IsLaw (codes "uniform") (λ seed count. drawn level_of count (seeded_generator seed)) uniform
 
 -- what the sink has got of a run among these laws: the whole answer, or a part of one after a write fault
 pub record Sends (words : List (List ℕ)) (laws : List Law) (status : Status)

@@ -2,7 +2,7 @@
 use Rattle.std.specs.Prelude.{◌≡◌, ℕ, ◌+◌, ◌<◌, ◌≤◌, Bool, Option, None, Some, List, [], length, drop}
 use Rattle.sg_limits.specs.Limits.{input_limit}
 use Rattle.sg_io.specs.Devices.{Grows, AgreesWith, next_count}
-use Rattle.sg_io.specs.Reading.{LosesAtMost}
+use Rattle.sg_io.specs.Reading.{DropsAtMost}
 use Rattle.sg_io.specs.Writing.{GrowsByPrefix}
 use Rattle.sg_laws.specs.Named.{Law}
 use Rattle.sg_words.specs.Command.{command_of}
@@ -48,30 +48,30 @@ pub record AnswersInPart (words : List (List ℕ)) (laws : List Law) (left befor
   pub served : IsServed words laws left text status
   pub written : GrowsByPrefix text before after
 
--- the count of faults of the source behind a run: one more after a read fault
+-- the count of faults of the source after a run: one more after a read fault
 abbrev pub source_faults : Status → ℕ → ℕ
 source_faults ReadFault faults = next_count faults
 source_faults _ faults = faults
 
--- the count of faults of the sink behind a run: one more after a write fault
+-- the count of faults of the sink after a run: one more after a write fault
 abbrev pub sink_faults : Status → ℕ → ℕ
 sink_faults WriteFault faults = next_count faults
 sink_faults _ faults = faults
 
--- the count of faults of the source where there is no reply: one more after a read fault
+-- the count of faults of the source if there is no reply: one more after a read fault
 abbrev pub stop_faults : Stop → ℕ → ℕ
 stop_faults stop.ReadFault faults = next_count faults
 stop_faults stop.NoMemory faults = faults
 
--- a reading command has taken its whole input, or one byte more than the limit where it is longer
+-- a reading command has taken its whole input, or one byte more than the limit if it is longer
 pub record TakesInput (old new : Option (List ℕ)) : Type 0 where
   pub untold : old ≡ None → new ≡ None
   pub whole : (bytes : List ℕ) → old ≡ Some bytes → length bytes ≤ input_limit → new ≡ Some []
   pub too_long : (bytes : List ℕ) → old ≡ Some bytes → input_limit < length bytes
       → new ≡ Some (drop (input_limit + 1) bytes)
 
--- what a reading command has taken, by how the run ended: where it was stopped, no more than that, from the front
-abbrev pub LeavesSource : Status → Option (List ℕ) → Option (List ℕ) → Type 0
-LeavesSource ReadFault old new = LosesAtMost (input_limit + 1) old new
-LeavesSource NoMemory old new = LosesAtMost (input_limit + 1) old new
-LeavesSource _ old new = TakesInput old new
+-- what a reading command has taken, by how the run ended: if it was stopped, no more than that, from the front
+abbrev pub SourceAfter : Status → Option (List ℕ) → Option (List ℕ) → Type 0
+SourceAfter ReadFault old new = DropsAtMost (input_limit + 1) old new
+SourceAfter NoMemory old new = DropsAtMost (input_limit + 1) old new
+SourceAfter _ old new = TakesInput old new

@@ -42,7 +42,7 @@ use Rattle.sg_reply.specs.Refused.{IsRefused}
 use Rattle.sg_reply.specs.declared.status.Status.{Status}
 use Rattle.sg_reply.specs.declared.status.Status.TheVariants.{Done, Usage, No}
 
--- the line where the words have no shape
+-- the line if the words have no shape
 abbrev pub usage_text : List ℕ
 usage_text = codes "usage\n"
 
@@ -90,18 +90,18 @@ pub record PrintsClusters (inst : Ising) (text : List ℕ) (status : Status) : T
   pub printed : text ≡ clusters_text names
   pub done : status ≡ Done
 
--- a wall where the seam is empty is refused
+-- a wall if the seam is empty is refused
 pub record AnswersWall (inst : Ising) (text : List ℕ) (status : Status) : Type 0 where
   pub without_seam : inst.seam ≡ [] → IsRefused NoSeam text status
   pub with_seam : inst.seam ≢ [] → PrintsWall inst text status
 
--- the energies of the domain wall, in the order of `wall_text`, where there is a seam; none where it is empty
+-- the energies of the domain wall, in the order of `wall_text`, if there is a seam; none if it is empty
 pub record IsSeamWall (inst : Ising) (energies : Option (List ℤ)) : Type 0 where
   pub without_seam : inst.seam ≡ [] → energies ≡ None
   pub with_seam : inst.seam ≢ [] → (periodic : ℤ) × (antiperiodic : ℤ) × (difference : ℤ)
       × IsWall inst periodic antiperiodic difference × (energies ≡ Some (periodic ∷ antiperiodic ∷ difference ∷ []))
 
--- what `ground`, `bonds`, `clusters` and, where there is a seam, `wall` find, with the number of bonds and their
+-- what `ground`, `bonds`, `clusters` and, if there is a seam, `wall` find, with the number of bonds and their
 -- weight
 pub record PrintsReport (inst : Ising) (text : List ℕ) (status : Status) : Type 0 where
   pub energy : ℤ
@@ -128,7 +128,7 @@ pub record PrintsTurns (inst : Ising) (text : List ℕ) (status : Status) : Type
   pub done : status ≡ Done
 
 -- a largest cut with the least spin of each component up, and a short packing of frustrated loops that proves it as it
--- proves a ground state where every sign is changed
+-- proves a ground state if every sign is changed
 pub record PrintsCut (inst : Ising) (text : List ℕ) (status : Status) : Type 0 where
   pub weight : ℤ
   pub spins : List ℤ
@@ -145,7 +145,7 @@ abbrev pub status_by : Verdict → Status
 status_by verdict.Yes = Done
 status_by _ = No
 
--- the verdict on a proof: yes where it holds, else the first of its tests that fails
+-- the verdict on a proof: yes if it holds, else the first failed check
 pub record PrintsVerdict (inst : Ising) (stated : ResultText) (text : List ℕ) (status : Status) : Type 0 where
   pub judged : Verdict
   pub found : IsVerdict inst stated judged

@@ -28,15 +28,18 @@ pub record SettlesStudy (study : Study) (bytes text : List ℕ) (status : Status
 
 -- `check`: the verdict on the one proof that the input gives, or the line of its one refusal
 pub record SettlesCheck (bytes text : List ℕ) (status : Status) : Type 0 where
-  pub judged : (inst : Ising) (stated : ResultText) → GivesProof bytes inst stated → PrintsVerdict inst stated text status
+  pub judged : (inst : Ising) (stated : ResultText) → GivesProof bytes inst stated →
+      PrintsVerdict inst stated text status
   pub refused : (refusal : Refusal) → RefusesProof bytes refusal → IsRefused refusal text status
 
 -- a task on the one graph that the input gives, or the line of its one refusal
 pub record SettlesGraph (task : GraphTask) (bytes text : List ℕ) (status : Status) : Type 0 where
   pub solved : (g : Graph) (terminals : List ℕ) → GivesNetwork (takes_terms task) bytes g terminals
       → AnswersTask task g terminals text status
-  pub refused : (refusal : Refusal) → RefusesNetwork (takes_terms task) bytes refusal → IsRefused refusal text status
+  pub refused : (refusal : Refusal) → RefusesNetwork (takes_terms task) bytes refusal →
+      IsRefused refusal text status
 
+-- the text and the status are those of an input of this kind
 abbrev pub SettlesText : Reading → List ℕ → List ℕ → Status → Type 0
 SettlesText (reading.Study study) bytes text status = SettlesStudy study bytes text status
 SettlesText reading.Check bytes text status = SettlesCheck bytes text status
@@ -47,13 +50,13 @@ pub record SettlesInput (reading : Reading) (bytes text : List ℕ) (status : St
   pub too_long : input_limit < length bytes → IsRefused (TooLong input_limit) text status
   pub short : length bytes ≤ input_limit → SettlesText reading bytes text status
 
--- a fit instance that the study is of: each, but for a wall where the seam is empty
+-- a fit instance that the study is of: each, but for a wall if the seam is empty
 abbrev pub CanBeStudied : Study → Ising → Type 0
 CanBeStudied Wall inst = inst.seam ≢ []
 CanBeStudied _ inst = ⊤
 
--- two replies of one kind: with one status, and where they refuse with one text. What else may differ: which ground
--- state, packing, join, cut or walk is printed
+-- two replies of one kind: with one status, and if they refuse with one text. What else may differ: which ground
+-- state, packing, T-join, cut or walk is printed
 pub record IsSameKind (first second : Status) (text line : List ℕ) : Type 0 where
   pub ended : first ≡ second
   pub refused : first ≡ Refused → text ≡ line
@@ -67,7 +70,7 @@ FindsNumbers Ranges = ⊤
 FindsNumbers _ = ⊥
 
 -- a command that reads and whose text leaves nothing free: a study that finds numbers alone, and `check`. The others
--- print one of several ground states, packings, joins or walks
+-- print one of several ground states, packings, T-joins or walks
 abbrev pub HasOneText : Reading → Type 0
 HasOneText (reading.Study study) = FindsNumbers study
 HasOneText reading.Check = ⊤

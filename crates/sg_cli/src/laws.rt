@@ -4,7 +4,7 @@ ghost use Rattle.sg_io.specs.Devices.{FaultShown};
 ghost use Rattle.sg_words.specs.Command.{command_of};
 ghost use Rattle.sg_cli.specs.Laws.{Sends, WithAllLaws};
 ghost use Rattle.sg_reply.specs.Exit.{IsReply};
-ghost use Rattle.sg_cli.specs.Promises.{LeavesSource, reads, sink_faults, source_faults};
+ghost use Rattle.sg_cli.specs.Promises.{SourceAfter, reads, sink_faults, source_faults};
 
 use super::serve::run;
 use sg_io::{Sink, Source};
@@ -16,7 +16,7 @@ use std::alloc::{AllocError, Global};
 /// `uniform`.
 ///
 /// # Errors
-/// Want of memory before the run: nothing is read, and nothing written.
+/// Out of memory before the run: nothing has been read or written.
 pub fn run_with_all_laws<S: Source, K: Sink>(
     alloc: Global,
     words: &[String],
@@ -37,8 +37,8 @@ pub fn run_with_all_laws<S: Source, K: Sink>(
     ensures source_faults { IfOk result (λ status. S.faults source.new ≡ source_faults status (S.faults source.old)) }
     ensures sink_faults { IfOk result (λ status. K.faults sink.new ≡ sink_faults status (K.faults sink.old)) }
 
-    // In the run words of no shape take no memory, and nothing is written where it is wanting; before
-    // the run nothing is read either.
+    // Words of no known shape are refused without allocating. If an allocation fails in the run,
+    // nothing is written; if one fails before it, nothing is read either.
     ensures memory { IfOk result (λ status. status ≡ Status.NoMemory → IsSome (command_of (map string_bytes words.now)) × (sink.new ≡ sink.old)) }
     ensures untouched { IfErr result (λ _. (source.new ≡ source.old) × (sink.new ≡ sink.old)) }
 
@@ -47,7 +47,7 @@ pub fn run_with_all_laws<S: Source, K: Sink>(
         ¬ FaultShown (K.faults sink.old) (K.faults sink.new) → status ≢ Status.NoMemory → IsReply status) }
 
     // What is left of the source; a command that does not read leaves it as it was.
-    ensures taken { IfOk result (λ status. reads (map string_bytes words.now) ≡ true → LeavesSource status (S.left source.old) (S.left source.new)) }
+    ensures taken { IfOk result (λ status. reads (map string_bytes words.now) ≡ true → SourceAfter status (S.left source.old) (S.left source.new)) }
     ensures unread { IfOk result (λ _. reads (map string_bytes words.now) ≡ false → source.new ≡ source.old) }
 {
     let mut laws: Vec<Box<dyn Disorder>> = Vec::new(alloc);

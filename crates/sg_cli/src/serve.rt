@@ -1,11 +1,11 @@
 ghost use Rattle.std.specs.Prelude.{◌≡◌, ◌≢◌, ◌⊎◌, ◌↔◌, ◌+◌, true, false, IsSome, IfOk, IfErr, OnOk, OnErr, map, string_bytes};
 ghost use Rattle.sg_limits.specs.Limits.{input_limit};
 ghost use Rattle.sg_io.specs.Devices.{FaultShown, Grows};
-ghost use Rattle.sg_io.specs.Reading.{LosesAtMost};
+ghost use Rattle.sg_io.specs.Reading.{DropsAtMost};
 ghost use Rattle.sg_io.specs.Writing.{GrowsByPrefix};
 ghost use Rattle.sg_words.specs.Command.{command_of};
 ghost use Rattle.sg_reply.specs.Exit.{IsReply};
-ghost use Rattle.sg_cli.specs.Promises.{AnswersInPart, AnswersSource, AnswersWhole, LeavesSource, reads, sink_faults, source_faults, stop_faults, TakesInput};
+ghost use Rattle.sg_cli.specs.Promises.{AnswersInPart, AnswersSource, AnswersWhole, SourceAfter, reads, sink_faults, source_faults, stop_faults, TakesInput};
 
 use super::answering::input_reply;
 use sg_draws::draw_reply;
@@ -17,8 +17,8 @@ use sg_reply::{NoMemory, Reply, Status, refuse};
 use sg_words::{Command, Reading, law_word, parse_command};
 use std::alloc::{AllocError, Global};
 
-/// Answers the words after the program's name: reads the source to its end where the command wants
-/// it, or draws from the first of the laws that has the name in the words, and writes one whole text.
+/// Answers the words after the program's name: reads the source to its end if the command needs it,
+/// or draws from the first of the laws that has the name in the words, and writes one whole text.
 ///
 /// The words are tested first, then the input is read, then it is judged, then the answer is found
 /// and its whole text is built, and only then is anything written. Memory in use: the input and the
@@ -48,7 +48,8 @@ pub fn run<S: Source, K: Sink>(
     ensures source_faults { S.faults source.new ≡ source_faults result (S.faults source.old) }
     ensures sink_faults { K.faults sink.new ≡ sink_faults result (K.faults sink.old) }
 
-    // Words of no shape take no memory, and nothing is written where it is wanting.
+    // Words of no known shape are refused without allocating. If an allocation fails, nothing is
+    // written.
     ensures memory { result ≡ Status.NoMemory → IsSome (command_of (map string_bytes words.now)) × (sink.new ≡ sink.old) }
 
     // Without a fault of a device and with memory enough, there is an answer.
@@ -56,7 +57,7 @@ pub fn run<S: Source, K: Sink>(
         ¬ FaultShown (K.faults sink.old) (K.faults sink.new) → result ≢ Status.NoMemory → IsReply result }
 
     // What is left of the source; a command that does not read leaves it as it was.
-    ensures taken { reads (map string_bytes words.now) ≡ true → LeavesSource result (S.left source.old) (S.left source.new) }
+    ensures taken { reads (map string_bytes words.now) ≡ true → SourceAfter result (S.left source.old) (S.left source.new) }
     ensures unread { reads (map string_bytes words.now) ≡ false → source.new ≡ source.old }
 {
     match parse_command(words) {
@@ -107,7 +108,7 @@ fn serve<S: Source>(alloc: Global, reading: Reading, source: &mut S) -> Result<R
     ensures served { IfOk result (λ reply. AnswersSource reading (S.left source.old) reply.text.items reply.status) }
     ensures replied { IfOk result (λ reply. IsReply reply.status) }
     ensures taken { OnOk result (TakesInput (S.left source.old) (S.left source.new)) }
-    ensures stopped { OnErr result (LosesAtMost (input_limit + 1) (S.left source.old) (S.left source.new)) }
+    ensures stopped { OnErr result (DropsAtMost (input_limit + 1) (S.left source.old) (S.left source.new)) }
     ensures faultless { OnOk result (S.faults source.new ≡ S.faults source.old) }
     ensures fault { IfErr result (λ stop. S.faults source.new ≡ stop_faults stop (S.faults source.old)) }
     ensures last { result ≡ Err Stop.ReadFault → S.failed source.new ≡ true }

@@ -11,7 +11,7 @@ use sg_report::tjoin_text;
 use sg_tjoin::{Join, least_join};
 use std::alloc::Global;
 
-/// A least join of the terminals, and the odd cuts that prove it.
+/// A minimum T-join of the terminals, and the odd cuts that prove it.
 pub fn tjoin_reply(alloc: Global, network: &Network) -> Result<Reply, NoMemory>
     requires { IsNetwork network.now.web network.now.terminals }
     ensures served { IfOk result (λ reply.

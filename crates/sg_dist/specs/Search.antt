@@ -26,10 +26,11 @@ candidates xs = map (λ x. x.0) xs
 abbrev pub reached_count : Routes → ℕ
 reached_count t = count_by (λ r. is_some r) t.to
 
--- the edge's weight where both of its ends are found
+-- the edge's weight if both of its ends are found
 abbrev pub inner_at : Routes → Edge → ℕ
 inner_at t edge = cond (is_reached t edge.a && is_reached t edge.b) (weight_at edge) 0
 
+-- the weight of all edges with both ends reached
 abbrev pub inner_weight : Graph → Routes → ℕ
 inner_weight g t = sum_by (inner_at t) g.edges
 

@@ -26,7 +26,7 @@ pub fn distances(alloc: Global, web: &Web, source: u32) -> Result<Table, NoMemor
     distances_over(alloc, web, &incidence, source)
 }
 
-/// The same over the incidence lists of the web, so that searches from many sources share them.
+/// The same over the incidence lists of the graph, so that searches from many sources share them.
 ///
 /// Each edge out of the nodes found gives a candidate. The least candidate is taken from the heap
 /// again and again; one whose node was found meanwhile is dropped.

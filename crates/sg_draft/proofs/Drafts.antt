@@ -14,14 +14,14 @@ use Rattle.sg_model.specs.Faults.{IsRefusalOf, OrNoMemory}
 use Rattle.sg_model.specs.Ising.{Ising, IsBond}
 use Rattle.sg_draft.specs.declared.limits.Limits.{Limits}
 use Rattle.sg_draft.specs.declared.read.Read.TheVariants.{Known}
-use Rattle.sg_draft.specs.Reads.{counted, unless, value_or, wrong_entry}
+use Rattle.sg_draft.specs.Reads.{read_length, unless, value_or, wrong_entry}
 use Rattle.sg_draft.specs.Bonds.{IsAmong, is_among, is_self_bond, listed_bond, self_fault}
 use Rattle.sg_draft.specs.Draft.{GeneralDraft, IsFirstFault, OfGeneral, draft_fault, general_draft_fault}
 use Rattle.sg_draft.specs.Tests.{refuse_if}
 use Rattle.sg_draft.proofs.Finds.{find_range-all, none-mapped}
 
 -- what is told of a member that is read
-pub counted-unless : {X : Type 0} (wrong : Option ℕ) (xs : List X) → counted (unless wrong xs) ≡ unless wrong (length xs)
+pub counted-unless : {X : Type 0} (wrong : Option ℕ) (xs : List X) → read_length (unless wrong xs) ≡ unless wrong (length xs)
 counted-unless None xs = refl
 counted-unless (Some entry) xs = refl
 
@@ -61,7 +61,7 @@ passed-if false x h = refl
 -- the tests of a general instance: those of its numbers and lists, and then that of each bond
 module _ (most : Limits) (d : GeneralDraft) where
   abbrev numbers_test : Option Refusal
-  numbers_test = general_draft_fault most d.spins (counted d.bonds) (wrong_entry d.rotation) (wrong_entry d.seam)
+  numbers_test = general_draft_fault most d.spins (read_length d.bonds) (wrong_entry d.rotation) (wrong_entry d.seam)
 
   -- a fault of the numbers and lists is the draft's
   pub general-some : (x : Refusal) → numbers_test ≡ Some x → draft_fault most (OfGeneral d) ≡ Some x

@@ -12,12 +12,12 @@ use Rattle.sg_draft.specs.declared.limits.Limits.{Limits}
 use Rattle.sg_draft.specs.declared.member.Member.TheVariants as member
 use Rattle.sg_draft.specs.declared.read.Read.{Read}
 use Rattle.sg_draft.specs.Tests.{first_of}
-use Rattle.sg_draft.specs.Reads.{counted, member_fault, value_or, wrong_entry}
+use Rattle.sg_draft.specs.Reads.{read_length, member_fault, value_or, wrong_entry}
 use Rattle.sg_draft.specs.Bonds.{self_fault}
 use Rattle.sg_draft.specs.Numbers.{bond_count_fault, coupling_count_fault, lattice_size_fault, spin_count_fault}
 
--- a lattice: its numbers of rows and columns where they are given, its couplings in the order of its bonds, and
--- another seam where one is given
+-- a lattice: its numbers of rows and columns if they are given, its couplings in the order of its bonds, and
+-- another seam if one is given
 pub record LatticeDraft : Type 0 where
   pub kind : Kind
   pub rows : Option ℕ
@@ -25,14 +25,15 @@ pub record LatticeDraft : Type 0 where
   pub couplings : Read (List ℤ)
   pub seam : Read (Option (List ℕ))
 
--- a general instance: its number of spins where it is given, its bonds among these spins, the darts of each spin, and
--- its seam where one is given
+-- a general instance: its number of spins if it is given, its bonds among these spins, the darts of each spin, and
+-- its seam if one is given
 pub record GeneralDraft : Type 0 where
   pub spins : Option ℕ
   pub bonds : Read (List Bond)
   pub rotation : Read (List (List ℕ))
   pub seam : Read (Option (List ℕ))
 
+-- what an input says of its instance before it is tested: a lattice, or a general one
 pub data Draft : Type 0 where
   OfLattice : LatticeDraft → Draft
   OfGeneral : GeneralDraft → Draft
@@ -47,8 +48,7 @@ lattice_draft_fault most kind rows cols couplings wrong_seam = first_of (
     ∷ coupling_count_fault (value_or 0 couplings) (bond_total kind (unwrap_or rows 0) (unwrap_or cols 0))
     ∷ [])
 
--- the tests of a general instance in front of those of each bond: its number of spins, its lists, and how many bonds
--- it has
+-- the tests of a general instance before those of each bond: its number of spins, its lists, and how many bonds it has
 abbrev pub general_draft_fault : Limits → Option ℕ → Read ℕ → Option ℕ → Option ℕ → Option Refusal
 general_draft_fault most spins bonds wrong_rotation wrong_seam = first_of (
     spin_count_fault most spins
@@ -61,9 +61,9 @@ general_draft_fault most spins bonds wrong_rotation wrong_seam = first_of (
 -- the first fault of a draft within the limits
 abbrev pub draft_fault : Limits → Draft → Option Refusal
 draft_fault most (OfLattice d) =
-    lattice_draft_fault most d.kind d.rows d.cols (counted d.couplings) (wrong_entry d.seam)
+    lattice_draft_fault most d.kind d.rows d.cols (read_length d.couplings) (wrong_entry d.seam)
 draft_fault most (OfGeneral d) = first_of (
-    general_draft_fault most d.spins (counted d.bonds) (wrong_entry d.rotation) (wrong_entry d.seam)
+    general_draft_fault most d.spins (read_length d.bonds) (wrong_entry d.rotation) (wrong_entry d.seam)
     ∷ self_fault (value_or [] d.bonds)
     ∷ [])
 
@@ -89,7 +89,7 @@ pub record IsDrafted (most : Limits) (draft : Draft) (inst : Ising) : Type 0 whe
   pub value : inst ≡ drafted draft
   pub instance : IsInstance inst
 
--- the refusal of a test that fails, or where it passes that of the instance, whose rotation or seam is none
+-- the refusal of a failed check, or, if it passes, that of the instance, whose rotation or seam is wrong
 abbrev pub IsFirstFault : Option Refusal → Ising → Refusal → Type 0
 IsFirstFault test inst refusal = (test ≡ Some refusal) ⊎ ((test ≡ None) × IsRefusalOf inst refusal)
 

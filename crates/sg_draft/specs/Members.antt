@@ -1,4 +1,4 @@
--- The members of an input, and the refusal that names one: the numbers stand here alone, as its line prints them.
+-- The members of an input, and the refusal that names one: the numbers are only here, as its line prints them.
 use Rattle.std.specs.Prelude.{ℕ, ◌-◌, ◌^◌, min}
 use Rattle.sg_model.specs.declared.refusal.Refusal.{Refusal}
 use Rattle.sg_model.specs.declared.refusal.Refusal.TheVariants.{BadMember}
@@ -25,5 +25,6 @@ place_of member.FaceRadii = 13
 abbrev pub bad_entry : Member → ℕ → Refusal
 bad_entry what entry = BadMember (place_of what) (min entry (2 ^ 32 - 1))
 
+-- the refusal of a member that is missing or has the wrong form
 abbrev pub bad_member : Member → Refusal
 bad_member what = BadMember (place_of what) 0

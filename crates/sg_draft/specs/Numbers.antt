@@ -15,6 +15,7 @@ abbrev pub is_number_from : ℕ → Option ℕ → Bool
 is_number_from least None = false
 is_number_from least (Some n) = nat_le least n
 
+-- the test of a number: it exists and is at least so large
 abbrev pub number_fault : Member → ℕ → Option ℕ → Option Refusal
 number_fault what least size = refuse_if (not (is_number_from least size)) (bad_member what)
 

@@ -11,7 +11,7 @@ abbrev pub unless : {X : Type 0} → Option ℕ → X → Read X
 unless None x = Known x
 unless (Some entry) x = WrongAt entry
 
--- the value, and another where the member is wrong
+-- the value, and another if the member is wrong
 abbrev pub value_or : {X : Type 0} → X → Read X → X
 value_or other (Known x) = x
 value_or other (WrongAt entry) = other
@@ -22,9 +22,9 @@ wrong_entry (Known x) = None
 wrong_entry (WrongAt entry) = Some entry
 
 -- how many entries a list has
-abbrev pub counted : {X : Type 0} → Read (List X) → Read ℕ
-counted (Known xs) = Known (length xs)
-counted (WrongAt entry) = WrongAt entry
+abbrev pub read_length : {X : Type 0} → Read (List X) → Read ℕ
+read_length (Known xs) = Known (length xs)
+read_length (WrongAt entry) = WrongAt entry
 
 -- the test of a member: no entry is wrong
 abbrev pub member_fault : Member → Option ℕ → Option Refusal

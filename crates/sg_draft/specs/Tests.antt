@@ -1,4 +1,4 @@
--- Tests of an input: each gives its refusal where it fails, and of several the first that fails counts.
+-- Tests of an input: each gives its refusal if it fails, and of several the first that fails counts.
 use Rattle.std.specs.Prelude.{◌≡◌, Bool, if◌then◌else◌, List, [], ◌∷◌, Option, Some, None}
 use Rattle.std.specs.Option.{option_or}
 use Rattle.sg_model.specs.declared.refusal.Refusal.{Refusal}
@@ -7,7 +7,7 @@ use Rattle.sg_model.specs.declared.refusal.Refusal.{Refusal}
 abbrev pub refuse_if : Bool → Refusal → Option Refusal
 refuse_if fails refusal = if fails then Some refusal else None
 
--- the first of the tests that fails
+-- the first failed check
 abbrev pub first_of : List (Option Refusal) → Option Refusal
 first_of [] = None
 first_of (test ∷ tests) = option_or test (first_of tests)

@@ -14,7 +14,7 @@ use std::alloc::Global;
 /// linear in the spins and the seam.
 ///
 /// # Errors
-/// `BadSeam` with the first entry of the seam that is not a bond or stands earlier too.
+/// `BadSeam` with the first entry of the seam that is not a bond or is listed earlier.
 pub fn build_lattice(
     alloc: Global,
     kind: Kind,

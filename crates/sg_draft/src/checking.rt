@@ -17,7 +17,7 @@ use sg_model::Refusal;
 
 /// The size of a lattice that passes its tests: its rows and columns, where they are given; how many
 /// couplings there are, or the one that is wrong; and the entry of the seam that is wrong, if one is. It
-/// takes no memory.
+/// does not allocate.
 ///
 /// # Errors
 /// The first that fails: `BadMember` for the rows and for the columns, `TooManySpins`, `BadMember` for the
@@ -51,7 +51,7 @@ pub fn check_lattice(
 
 /// The number of spins of a general instance that passes the tests in front of those of each bond: its
 /// number of spins, where it is given; how many bonds there are, or the one that is wrong; and the entries
-/// of the rotation and of the seam that are wrong. It takes no memory.
+/// of the rotation and of the seam that are wrong. It does not allocate.
 ///
 /// # Errors
 /// The first that fails: `BadMember` for the number of spins, `TooManySpins`, `BadMember` for the bonds, for

@@ -1,17 +1,17 @@
-//! What an input says of an instance before it is judged: its members, their tests, and the instance that
-//! they give.
+//! What an input says of an instance before it is judged: its members, the checks on them, and the
+//! instance that they give.
 //!
-//! An instance comes as records, as JSON or as numbers of a caller. Each of these reads its members in its
-//! own way: a value, or the entry at which the member is wrong. What is wrong with them is tested, in one
-//! order, and named here, and here the instance is made.
+//! An instance comes as records, as JSON or as numbers of a caller. Each of these reads its members in
+//! its own way: a value, or the entry at which the member is malformed. The checks on them are made
+//! here, in one order and with one name each, and so is the instance.
 //!
-//! A caller reads the members, asks `check_lattice` or `check_general` for the first test that fails, which
-//! takes no memory, then makes the lists and hands them to `build_lattice` or `build_general`. The tests
-//! have names of their own too, for a caller that makes them in another order.
+//! A caller reads the members and asks `check_lattice` or `check_general` for the first failed check,
+//! which does not allocate; then it makes the lists and passes them to `build_lattice` or
+//! `build_general`. The checks are public too, for callers that make them in another order.
 //!
-//! For the next engineer: `specs/Draft.antt` has the table of tests and the instance; `specs/Members.antt`
-//! has the members with the numbers that the line of a refusal prints for them, which stand nowhere else;
-//! `specs/Tests.antt` says how tests follow each other.
+//! For the next engineer: `specs/Draft.antt` has the table of checks and the instance;
+//! `specs/Members.antt` has the members with the numbers that a refusal prints for them, which are
+//! defined only there; `specs/Tests.antt` says how checks follow each other.
 #![tactic(auto)]
 
 mod building;

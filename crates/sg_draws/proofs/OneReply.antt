@@ -14,7 +14,7 @@ use Rattle.sg_planar.specs.Fit.{IsUnfit}
 use Rattle.sg_planar.proofs.OneFitness.{fit_not_unfit, unfit-one}
 use Rattle.sg_wall.proofs.OneWall.{wall-one}
 use Rattle.sg_ensemble.specs.declared.by_width.Width.{Width}
-use Rattle.sg_ensemble.specs.Samples.{AreWalls, IsFitWithWall, draw_count, sample_at, total, total_of_squares}
+use Rattle.sg_ensemble.specs.Samples.{AreWalls, IsFitWithWall, draw_count, sample_at, int_sum, square_sum}
 use Rattle.sg_ensemble.specs.Widths.{AreWidths, IsWidth}
 use Rattle.sg_words.specs.declared.command.Drawing.{Drawing}
 use Rattle.sg_words.specs.declared.command.Drawing.TheVariants.{Gen, Sample, Ensemble, Widths}
@@ -67,7 +67,7 @@ module _ (size : Size) (count : ℕ) (stream : ℕ → List ℤ) where
       walls-one size.rows size.cols count (stream (count * draw_count size.rows size.cols)) p.walls q.walls p.exact q.exact in
       record {
         ended = p.done ∙ sym q.done;
-        printed = p.printed ∙ ap (λ (w : List ℤ). ensemble_text w (total w) (total_of_squares w)) same ∙ sym q.printed;
+        printed = p.printed ∙ ap (λ (w : List ℤ). ensemble_text w (int_sum w) (square_sum w)) same ∙ sym q.printed;
       }
 
   ensemble-one : (t u : List ℕ) (s v : Status) → AnswersEnsemble size count stream t s → AnswersEnsemble size count stream u v → IsSameReply s v t u
@@ -83,10 +83,11 @@ width-same w v a b c =
     ap₂ (λ (x : ℕ) (y : ℤ). record { cols = x; sum = y; squares = w.squares }) a b
     ∙ ap (λ (z : ℤ). record { cols = v.cols; sum = v.sum; squares = z }) c
 
-width-one : (rows cols count : ℕ) (stream : ℕ → List ℤ) (w v : Width) → IsWidth rows cols count stream w → IsWidth rows cols count stream v → w ≡ v
+width-one : (rows cols count : ℕ) (stream : ℕ → List ℤ) (w v : Width) → IsWidth rows cols count stream w →
+    IsWidth rows cols count stream v → w ≡ v
 width-one rows cols count stream w v p q =
     let same : p.walls ≡ q.walls = walls-one rows cols count (stream (count * draw_count rows cols)) p.walls q.walls p.are q.are in
-    width-same w v (p.columns ∙ sym q.columns) (p.summed ∙ ap total same ∙ sym q.summed) (p.squared ∙ ap total_of_squares same ∙ sym q.squared)
+    width-same w v (p.columns ∙ sym q.columns) (p.summed ∙ ap int_sum same ∙ sym q.summed) (p.squared ∙ ap square_sum same ∙ sym q.squared)
 
 abbrev no_width : Width
 no_width = record { cols = 0; sum = pos 0; squares = pos 0 }

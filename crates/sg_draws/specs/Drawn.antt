@@ -12,7 +12,7 @@ use Rattle.sg_lattice.specs.Tables.{bond_total, lattice}
 use Rattle.sg_laws.specs.Named.{Law}
 use Rattle.sg_planar.specs.Fit.{IsFit, IsUnfit}
 use Rattle.sg_ensemble.specs.declared.by_width.Width.{Width}
-use Rattle.sg_ensemble.specs.Samples.{AreWalls, draw_count, total, total_of_squares}
+use Rattle.sg_ensemble.specs.Samples.{AreWalls, draw_count, int_sum, square_sum}
 use Rattle.sg_ensemble.specs.Widths.{AreWidths}
 use Rattle.sg_report.specs.Ensembles.{ensemble_text, widths_text}
 use Rattle.sg_report.specs.Samples.{instance_text, sample_text}
@@ -39,7 +39,7 @@ pub record PrintsSample (inst : Ising) (text : List ℕ) (status : Status) : Typ
   pub printed : text ≡ sample_text inst.n (bond_count inst) (pos (weight inst)) energy broken
   pub done : status ≡ Done
 
--- a sample is refused as any instance where it is not fit
+-- a sample is refused as any instance if it is not fit
 pub data AnswersSample (inst : Ising) (text : List ℕ) (status : Status) : Type 0 where
   SampleUnfit : (refusal : Refusal) → IsUnfit inst refusal → IsRefused refusal text status
       → AnswersSample inst text status
@@ -58,10 +58,10 @@ pub record PrintsEnsemble (size : Size) (count : ℕ) (stream : ℕ → List ℤ
     (status : Status) : Type 0 where
   pub walls : List ℤ
   pub exact : AreWalls size.rows size.cols count (stream (count * draw_count size.rows size.cols)) walls
-  pub printed : text ≡ ensemble_text walls (total walls) (total_of_squares walls)
+  pub printed : text ≡ ensemble_text walls (int_sum walls) (square_sum walls)
   pub done : status ≡ Done
 
--- an ensemble is refused as its first sample where that is not fit, and else its walls are found
+-- an ensemble is refused as its first sample if that is not fit, and else its walls are found
 pub data AnswersEnsemble (size : Size) (count : ℕ) (stream : ℕ → List ℤ) (text : List ℕ)
     (status : Status) : Type 0 where
   EnsembleUnfit : (refusal : Refusal) → IsUnfit (drawn_lattice Cylinder size stream) refusal
@@ -94,12 +94,12 @@ pub record IsUnfitWidth (size : Size) (stream : ℕ → List ℤ) (refusal : Ref
   pub narrower : (c : ℕ) → 3 ≤ c → c < cols → IsFit (drawn_lattice Cylinder (with_cols size c) stream)
   pub unfit : IsUnfit (drawn_lattice Cylinder (with_cols size cols) stream) refusal
 
--- the refusal of the least such width, or want of memory, which may come at any time
+-- the refusal of the least such width, or out of memory, which may come at any time
 abbrev pub IsWidthFault : Size → (ℕ → List ℤ) → Fault → Type 0
 IsWidthFault size stream (fault.Refused refusal) = IsUnfitWidth size stream refusal
 IsWidthFault size stream fault.NoMemory = ⊤
 
--- a study over widths is refused as the first sample of the least width where that is not fit, and where all these
+-- a study over widths is refused as the first sample of the least width if that is not fit, and where all these
 -- samples are fit the sums are found
 pub data AnswersWidths (size : Size) (count : ℕ) (stream : ℕ → List ℤ) (text : List ℕ) (status : Status) : Type 0 where
   WidthUnfit : (refusal : Refusal) → IsUnfitWidth size stream refusal → IsRefused refusal text status
@@ -107,7 +107,7 @@ pub data AnswersWidths (size : Size) (count : ℕ) (stream : ℕ → List ℤ) (
   WidthsFound : AreFitWidths size stream → PrintsWidths size count stream text status
       → AnswersWidths size count stream text status
 
--- what a command answers that draws, where its law has these draws after each seed
+-- what a command answers that draws, if its law has these draws after each seed
 abbrev pub AnswersDraws : Drawing → (ℕ → ℕ → List ℤ) → List ℕ → Status → Type 0
 AnswersDraws (Gen seed kind size) stream text status =
     PrintsLattice kind size (drawn_couplings kind size (stream seed)) text status

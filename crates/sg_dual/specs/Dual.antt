@@ -13,7 +13,7 @@ use Rattle.sg_sums.specs.Sets.{chosen_below}
 abbrev pub face_of : Labelling → ℕ → ℕ
 face_of faces d = slice_index faces.labels d
 
--- the edge of bond k: it joins the faces on the two sides of the bond, and weighs the size of its coupling
+-- the edge of bond k: it connects the faces on the two sides of the bond, and weighs the size of its coupling
 abbrev pub dual_edge : Ising → Labelling → ℕ → Edge
 dual_edge inst faces k = record {
   a = face_of faces (2 * k);

@@ -11,7 +11,7 @@ use Rattle.sg_model.specs.Changes.{coupled_at, coupled_bonds, recoupled, with_bo
 use Rattle.sg_laws.specs.Stream.{IsDraw}
 use Rattle.sg_lattice.specs.declared.kind.Kind.{Kind}
 use Rattle.sg_lattice.specs.declared.kind.Kind.TheVariants.{Cylinder}
-use Rattle.sg_lattice.specs.Tables.{coupled, coupled_bond, bond_ends, ends_of, lattice}
+use Rattle.sg_lattice.specs.Tables.{bonds_between, coupled_bond, bond_ends, ends_of, lattice}
 use Rattle.sg_lattice.proofs.LatticeBonds.{bond_count_is}
 use Rattle.sg_ensemble.specs.Samples.{IsCylinder, IsStudied, draw_count}
 use Rattle.sg_ensemble.proofs.DrawnCylinders.{drawn_weight, studied_size}
@@ -24,22 +24,22 @@ module _ (kind : Kind) (rows cols : ℕ) (old new : List ℤ) where
   abbrev bond_of : List ℤ → ℕ → Bond
   bond_of couplings k = coupled_bond (bond_ends (ends_of kind rows cols) k) (get_or couplings k (pos 0))
 
-  count_is : length (coupled (ends_of kind rows cols) old) ≡ length (ends_of kind rows cols)
+  count_is : length (bonds_between (ends_of kind rows cols) old) ≡ length (ends_of kind rows cols)
   count_is = length-map-range_with_len (bond_of old) 0 (length (ends_of kind rows cols))
 
-  each : (k : ℕ) → coupled_at (coupled (ends_of kind rows cols) old) new k ≡ bond_of new k
+  each : (k : ℕ) → coupled_at (bonds_between (ends_of kind rows cols) old) new k ≡ bond_of new k
   each k = elim (cases_lt k (length (ends_of kind rows cols))) [
     | inl inside ↦
         ap (λ (b : Bond). recoupled b (get_or new k (pos 0)))
         (get_or-map-range_with_len (bond_of old) 0 (length (ends_of kind rows cols)) k k no_bond inside (omega arith))
     | inr past ↦
-        ap (λ (b : Bond). recoupled b (get_or new k (pos 0))) (get_or_past (coupled (ends_of kind rows cols) old) k no_bond (omega (arith, count_is)))
+        ap (λ (b : Bond). recoupled b (get_or new k (pos 0))) (get_or_past (bonds_between (ends_of kind rows cols) old) k no_bond (omega (arith, count_is)))
         ∙ sym (ap (λ e. coupled_bond e (get_or new k (pos 0))) (get_or_past (ends_of kind rows cols) k (record { u = 0; v = 0 }) past))
   ]
 
-  coupled_again : coupled_bonds (coupled (ends_of kind rows cols) old) new ≡ coupled (ends_of kind rows cols) new
+  coupled_again : coupled_bonds (bonds_between (ends_of kind rows cols) old) new ≡ bonds_between (ends_of kind rows cols) new
   coupled_again =
-      ap (λ n. map (coupled_at (coupled (ends_of kind rows cols) old) new) (range_with_len 0 n)) count_is
+      ap (λ n. map (coupled_at (bonds_between (ends_of kind rows cols) old) new) (range_with_len 0 n)) count_is
       ∙ ap (λ (f : ℕ → Bond). map f (range_with_len 0 (length (ends_of kind rows cols)))) (λ i k. each k i)
 
 -- a lattice with other couplings put in is the lattice with these

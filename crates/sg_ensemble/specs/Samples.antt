@@ -37,7 +37,7 @@ abbrev pub sample_at : ℕ → ℕ → List ℤ → ℕ → Ising
 sample_at rows cols draws i =
     lattice Cylinder rows cols (take (draw_count rows cols) (drop (i * draw_count rows cols) draws))
 
--- the draws of some whole samples were made of a stream, of at most so many, and it goes on behind them
+-- the draws of some whole samples were made of a stream, of at most so many, and it continues after them
 pub record DrawsSamples (rows cols most : ℕ) (old new : ℕ → List ℤ) : Type 0 where
   pub samples : ℕ
   pub few : samples ≤ most
@@ -56,9 +56,9 @@ pub record AreWalls (rows cols count : ℕ) (draws walls : List ℤ) : Type 0 wh
   pub each : (i : ℕ) → i < count → IsFitWithWall (sample_at rows cols draws i) (slice_index_or walls i (pos 0))
 
 -- the sum of numbers
-abbrev pub total : List ℤ → ℤ
-total numbers = fold (λ t x. t +ℤ x) (pos 0) numbers
+abbrev pub int_sum : List ℤ → ℤ
+int_sum numbers = fold (λ t x. t +ℤ x) (pos 0) numbers
 
 -- the sum of the squares of numbers
-abbrev pub total_of_squares : List ℤ → ℤ
-total_of_squares numbers = fold (λ t x. t +ℤ (x *ℤ x)) (pos 0) numbers
+abbrev pub square_sum : List ℤ → ℤ
+square_sum numbers = fold (λ t x. t +ℤ (x *ℤ x)) (pos 0) numbers

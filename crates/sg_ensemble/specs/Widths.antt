@@ -1,7 +1,7 @@
 -- Wall energies over the width of a cylinder.
 use Rattle.std.specs.Prelude.{◌≡◌, ℕ, ◌+◌, ◌*◌, ◌<◌, ◌≤◌, ℤ, pos, List, length, slice_index_or}
 use Rattle.sg_ensemble.specs.declared.by_width.Width.{Width}
-use Rattle.sg_ensemble.specs.Samples.{AreWalls, DrawsSamples, draw_count, total, total_of_squares}
+use Rattle.sg_ensemble.specs.Samples.{AreWalls, DrawsSamples, draw_count, int_sum, square_sum}
 
 -- a width with the sum and the sum of squares of the wall energies of so many samples, which have the first draws of a
 -- stream
@@ -9,8 +9,8 @@ pub record IsWidth (rows cols count : ℕ) (stream : ℕ → List ℤ) (width : 
   pub walls : List ℤ
   pub are : AreWalls rows cols count (stream (count * draw_count rows cols)) walls
   pub columns : width.cols ≡ cols
-  pub summed : width.sum ≡ total walls
-  pub squared : width.squares ≡ total_of_squares walls
+  pub summed : width.sum ≡ int_sum walls
+  pub squared : width.squares ≡ square_sum walls
 
 -- the stream was begun at some width, from 3 to the last, and the draws of some of its samples were made
 pub record StopsAtWidth (rows last count : ℕ) (stream new : ℕ → List ℤ) : Type 0 where

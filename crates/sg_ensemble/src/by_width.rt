@@ -23,8 +23,8 @@ pub struct Width {
 pub type WidthList = Numbers<Width>;
 
 /// The ensembles of the cylinders of 3 to `max_cols` columns, from 3 to 64, each of so many samples,
-/// from 1 to 1000. The law is seeded anew for each width. The only error is want of memory; the law has
-/// then been seeded for some width, and has made the draws of some of its samples.
+/// from 1 to 1000. The law is seeded anew for each width. The only error is running out of memory; the
+/// law has then been seeded for some width, and has made the draws of some of its samples.
 ///
 /// Cost: that of `ensemble` for each width; memory for one sample at a time.
 pub fn widths(
@@ -81,8 +81,8 @@ fn one_width(
 }
 
 /// One width of `widths`, from 1 to 1000 samples, on a drawing that the caller has and gives up: a
-/// cylinder of this size, with any couplings. The law is seeded anew. The only error is want of memory;
-/// the law has then made the draws of some samples.
+/// cylinder of this size, with any couplings. The law is seeded anew. The only error is running out of
+/// memory; the law has then made the draws of some samples.
 pub fn width_on(
     alloc: Global,
     law: &mut Box<dyn Disorder>,

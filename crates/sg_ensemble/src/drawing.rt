@@ -54,7 +54,8 @@ fn draw_total(rows: u32, cols: u32) -> usize
 }
 
 /// The cylinder with the next draws of the law as its couplings, on the same drawing, which is moved. The
-/// law goes on behind these draws. After want of memory it has made none of them, and the drawing is gone.
+/// law continues after these draws. If an allocation fails, it has made none of them, and the drawing is
+/// gone.
 pub fn next_sample(
     alloc: Global,
     law: &mut Box<dyn Disorder>,

@@ -1,18 +1,18 @@
-//! Ensembles of domain walls: the wall energies of cylinders whose couplings are drawn.
+//! Ensembles of domain walls: the wall energies of cylinders with drawn couplings.
 //!
-//! Whether there is order at low temperature shows in how the energy of a domain wall grows with the
-//! lattice (Bray and Moore 1984), and that is a matter of averages over many samples. A law of
-//! disorder gives the couplings of one cylinder after another; each wall energy is exact, and so are
-//! their sum and the sum of their squares, from which come the mean and its error.
+//! Whether there is order at low temperature shows in how the energy of a domain wall scales with the
+//! size of the lattice (Bray and Moore 1984), averaged over many samples. A law of disorder gives the
+//! couplings of one cylinder after another. Each wall energy is exact, and so are their sum and the sum
+//! of their squares, which give the mean and its error.
 //!
-//! All samples of a size are one drawing under many couplings: it is traced once, and each sample puts
+//! All samples of a size are one drawing with many couplings: it is traced once, and each sample puts
 //! its couplings in. `ensemble_on` and `width_on` take a drawing that the caller has.
 //!
 //! For the next engineer: `specs/Samples.antt` says which draws belong to which sample, and
-//! `specs/Widths.antt` what is kept of each width. `ensemble` rests on the contracts of `sg_laws`,
-//! `sg_lattice`, `Planar` and `wall`. That each drawn cylinder is fit for the solver is proved: its sum is
-//! small (`proofs/DrawnCylinders.antt`), and on one drawing it is the lattice with these couplings
-//! (`proofs/OneDrawing.antt`).
+//! `specs/Widths.antt` what is recorded for each width. `ensemble` rests on the contracts of `sg_laws`,
+//! `sg_lattice`, `Planar` and `wall`. It is proved that each drawn cylinder is fit for the solver: its
+//! sum is small (`proofs/DrawnCylinders.antt`), and on one drawing it is the lattice with these
+//! couplings (`proofs/OneDrawing.antt`).
 #![tactic(auto)]
 
 mod by_width;

@@ -1,7 +1,7 @@
 ghost use Rattle.std.specs.Prelude.{◌≡◌, ◌≤◌, ◌*◌, ◌^◌, ℕ, All, IfOk, OnOk, unsigned_abs};
 ghost use Rattle.sg_laws.specs.Stream.{Draws};
 ghost use Rattle.sg_limits.specs.Limits.{sample_limit};
-ghost use Rattle.sg_ensemble.specs.Samples.{AreWalls, DrawsSamples, IsCylinder, IsSpherical, IsStudied, draw_count, total, total_of_squares};
+ghost use Rattle.sg_ensemble.specs.Samples.{AreWalls, DrawsSamples, IsCylinder, IsSpherical, IsStudied, draw_count, int_sum, square_sum};
 
 use super::drawing::{drawing_of, know_counts, next_sample, seam_wall};
 use super::sums::{sum, sum_of_squares};
@@ -20,11 +20,11 @@ pub struct EnsembleAnswer {
 }
 
 /// The energies of the domain walls of so many cylinders, from 1 to 1000, each of which has the next
-/// draws of the law as its couplings, in the order of its bonds. The only error is want of memory; the
-/// law has then made some of the draws.
+/// draws of the law as its couplings, in the order of its bonds. The only error is running out of
+/// memory; the law has then made some of the draws.
 ///
-/// The cylinder must be drawn on a sphere, which `Planar::test` tells of one with any couplings; a caller
-/// who has such a `Planar` calls `ensemble_on`. Cost: one drawing, and two ground states for each sample;
+/// The cylinder must be drawn on a sphere, which `Planar::test` tells of one with any couplings; callers
+/// that have such a `Planar` use `ensemble_on`. Cost: one drawing, and two ground states for each sample;
 /// memory for one sample at a time.
 pub fn ensemble(
     alloc: Global,
@@ -38,8 +38,8 @@ pub fn ensemble(
     requires some { 1 ≤ count }
     requires few { count ≤ sample_limit }
     ensures walls { IfOk result (λ a. AreWalls rows cols count (next law.old (count * draw_count rows cols)) a.walls) }
-    ensures sum { IfOk result (λ a. a.sum ≡ total a.walls) }
-    ensures squares { IfOk result (λ a. a.squares ≡ total_of_squares a.walls) }
+    ensures sum { IfOk result (λ a. a.sum ≡ int_sum a.walls) }
+    ensures squares { IfOk result (λ a. a.squares ≡ square_sum a.walls) }
     ensures rest { OnOk result (Draws (count * draw_count rows cols) (next law.old) (next law.new)) }
     ensures made { DrawsSamples rows cols count (next law.old) (next law.new) }
     ensures title { title law.new ≡ title law.old }
@@ -65,8 +65,8 @@ pub fn ensemble_on(
     requires some { 1 ≤ count }
     requires few { count ≤ sample_limit }
     ensures walls { IfOk result (λ a. AreWalls rows cols count (next law.old (count * draw_count rows cols)) a.walls) }
-    ensures sum { IfOk result (λ a. a.sum ≡ total a.walls) }
-    ensures squares { IfOk result (λ a. a.squares ≡ total_of_squares a.walls) }
+    ensures sum { IfOk result (λ a. a.sum ≡ int_sum a.walls) }
+    ensures squares { IfOk result (λ a. a.squares ≡ square_sum a.walls) }
     ensures rest { OnOk result (Draws (count * draw_count rows cols) (next law.old) (next law.new)) }
     ensures made { DrawsSamples rows cols count (next law.old) (next law.new) }
     ensures title { title law.new ≡ title law.old }

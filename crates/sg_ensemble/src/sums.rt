@@ -1,13 +1,13 @@
 // The sum of wall energies, and the sum of their squares.
 ghost use Rattle.std.specs.Prelude.{◌≡◌, ◌≤◌, ◌*◌, ◌^◌, ◌*ℤ◌, length, All, unsigned_abs};
 ghost use Rattle.sg_limits.specs.Limits.{sample_limit};
-ghost use Rattle.sg_ensemble.specs.Samples.{total, total_of_squares};
+ghost use Rattle.sg_ensemble.specs.Samples.{int_sum, square_sum};
 
 /// The sum of at most 1000 wall energies.
 pub fn sum(walls: &[i64]) -> i64
     requires few { length walls.now ≤ sample_limit }
     requires small { All (λ d. unsigned_abs d ≤ 2 ^ 33) walls.now }
-    ensures { result ≡ total walls.now }
+    ensures { result ≡ int_sum walls.now }
 {
     let mut sum = 0;
     for wall in walls {
@@ -20,7 +20,7 @@ pub fn sum(walls: &[i64]) -> i64
 pub fn sum_of_squares(walls: &[i64]) -> i128
     requires few { length walls.now ≤ sample_limit }
     requires small { All (λ d. unsigned_abs d ≤ 2 ^ 33) walls.now }
-    ensures { result ≡ total_of_squares walls.now }
+    ensures { result ≡ square_sum walls.now }
 {
     let mut sum: i128 = 0;
     for wall in walls {

@@ -6,7 +6,7 @@ use Rattle.std.proofs.lemmas.Bool.{cases_eq, eq-eqb, ne_eqb, le-leb, leb-true}
 use Rattle.std.proofs.lemmas.List.FromFn.{length-range_with_len, get_or-range_with_len}
 use Rattle.std.proofs.lemmas.List.Recursion.{and_at}
 use Rattle.std.proofs.lemmas.List.Sums.{list_all-from_AllPass}
-use Rattle.sg_faces.specs.Orbits.{after_steps, SameOrbit, is_least_in, IsOneToOne}
+use Rattle.sg_faces.specs.Orbits.{after_steps, SameOrbit, is_least_of_orbit, IsOneToOne}
 
 -- two of the first n values of g are equal
 pub record Repeats (g : ℕ → ℕ) (n : ℕ) : Type 0 where
@@ -137,10 +137,10 @@ module _ (f : ℕ → ℕ) (k : ℕ) (move : IsOneToOne f k) where
   orbit_symmetric d e l (j, h) = let b : SameOrbit f (after_steps f j d) d = way_back j d l in (b.0, ap (after_steps f b.0) (sym h) ∙ b.1)
 
   -- the bounded test of the least number means any number of steps
-  pub least_means : (d : ℕ) → d < k → (is_least_in f k d ≡ true) ↔ ((e : ℕ) → SameOrbit f d e → d ≤ e)
+  pub least_means : (d : ℕ) → d < k → (is_least_of_orbit f k d ≡ true) ↔ ((e : ℕ) → SameOrbit f d e → d ≤ e)
   least_means d l = (there, back)
     where
-      there : is_least_in f k d ≡ true → (e : ℕ) → SameOrbit f d e → d ≤ e
+      there : is_least_of_orbit f k d ≡ true → (e : ℕ) → SameOrbit f d e → d ≤ e
       there h e (j, s) =
           let w : (i : ℕ) × (i < k) × (after_steps f i d ≡ after_steps f j d) = short_way j d l in
           let place : get_or (range_with_len 0 k) w.0 0 ≡ w.0 = get_or-range_with_len 0 k w.0 0 w.1 ∙ omega arith in
@@ -149,7 +149,7 @@ module _ (f : ℕ → ℕ) (k : ℕ) (move : IsOneToOne f k) where
           (omega (arith, w.1, length-range_with_len 0 k)) h in
           omega (arith, leb-true d (after_steps f (get_or (range_with_len 0 k) w.0 0) d) passes, ap (λ j. after_steps f j d) place, w.2, s)
 
-      back : ((e : ℕ) → SameOrbit f d e → d ≤ e) → is_least_in f k d ≡ true
+      back : ((e : ℕ) → SameOrbit f d e → d ≤ e) → is_least_of_orbit f k d ≡ true
       back h = list_all-from_AllPass (λ j. leb d (after_steps f j d)) (range_with_len 0 k)
           (λ i x b. le-leb d (after_steps f (get_or (range_with_len 0 k) i x) d)
           (h (after_steps f (get_or (range_with_len 0 k) i x) d) (get_or (range_with_len 0 k) i x, refl)))

@@ -9,7 +9,7 @@ use Rattle.sg_model.specs.Changes.{HasSameEnds, with_bonds}
 use Rattle.sg_model.proofs.LeastSpins.{one_list}
 use Rattle.sg_model.proofs.SameEnds.{tail_same}
 use Rattle.sg_model.proofs.SamePaths.{leasts_same}
-use Rattle.sg_faces.specs.Orbits.{is_least_in, orbits_before}
+use Rattle.sg_faces.specs.Orbits.{is_least_of_orbit, orbits_before}
 use Rattle.sg_faces.specs.Faces.{phi, is_least, faces_before, face_count, Labelling, SameFace, IsFaceLabels}
 use Rattle.sg_faces.specs.Euler.{euler, IsEuler}
 use Rattle.sg_faces.proofs.BareSpins.{bare_same}
@@ -36,7 +36,7 @@ module _ (inst : Ising) (bonds : List Bond) (same : HasSameEnds inst bonds) wher
   module _ (good : IsInstance inst) where
     least_same : (d : ℕ) → d < dart_count inst → is_least (with_bonds inst bonds) d ≡ is_least inst d
     least_same d l =
-        ap (λ k. is_least_in (phi (with_bonds inst bonds)) k d) darts_same
+        ap (λ k. is_least_of_orbit (phi (with_bonds inst bonds)) k d) darts_same
         ∙ is_least_same (phi (with_bonds inst bonds)) (phi inst) (dart_count inst) (phi_one_to_one inst good) (λ d _. phi_same d) d l
 
     before_same : (n : ℕ) → n ≤ dart_count inst → faces_before (with_bonds inst bonds) n ≡ faces_before inst n

@@ -7,7 +7,7 @@ use Rattle.sg_sums.proofs.SumLaws.{sum_by-same}
 use Rattle.sg_model.specs.Ising.{Ising}
 use Rattle.sg_model.specs.Rotation.{dart_count}
 use Rattle.sg_model.specs.WellFormed.{IsInstance}
-use Rattle.sg_faces.specs.Orbits.{after_steps, SameOrbit, is_least_in, orbits_before, IsOneToOne}
+use Rattle.sg_faces.specs.Orbits.{after_steps, SameOrbit, is_least_of_orbit, orbits_before, IsOneToOne}
 use Rattle.sg_faces.specs.Faces.{bare_count, phi, is_least, faces_before, Labelling, SameFace, IsFaceLabels}
 use Rattle.sg_faces.specs.Tables.{table_value, IsMove, is_least_of, least_before, IsOrbitLabels, IsPhiTable}
 use Rattle.sg_faces.proofs.PhiPermutes.{phi_one_to_one}
@@ -35,19 +35,19 @@ module _ (f g : ℕ → ℕ) (k : ℕ) (one : IsOneToOne g k) (same : (d : ℕ) 
   after_steps_same (suc j) d l = ap f (after_steps_same j d l) ∙ same (after_steps g j d) (steps_in j d l)
 
   -- and has the same least numbers of orbits
-  pub is_least_same : (d : ℕ) → d < k → is_least_in f k d ≡ is_least_in g k d
+  pub is_least_same : (d : ℕ) → d < k → is_least_of_orbit f k d ≡ is_least_of_orbit g k d
   is_least_same d l = list_all_same (λ j. leb d (after_steps f j d)) (λ j. leb d (after_steps g j d)) (λ j. ap (leb d) (after_steps_same j d l))
       (range_with_len 0 k)
 
   -- and as many of them below each bound
   pub orbits_before_same : (n : ℕ) → n ≤ k → orbits_before f k n ≡ orbits_before g k n
-  orbits_before_same n l = sum_by-same (λ d. cond (is_least_in f k d) 1 0) (λ d. cond (is_least_in g k d) 1 0) (range_with_len 0 n) each
+  orbits_before_same n l = sum_by-same (λ d. cond (is_least_of_orbit f k d) 1 0) (λ d. cond (is_least_of_orbit g k d) 1 0) (range_with_len 0 n) each
     where
-      at_number : (d : ℕ) → d < n → cond {A = ℕ} (is_least_in f k d) 1 0 ≡ cond (is_least_in g k d) 1 0
+      at_number : (d : ℕ) → d < n → cond {A = ℕ} (is_least_of_orbit f k d) 1 0 ≡ cond (is_least_of_orbit g k d) 1 0
       at_number d b = ap (λ b. cond {A = ℕ} b 1 0) (is_least_same d (omega arith))
 
-      each : (i x : ℕ) → i < length (range_with_len 0 n) → cond {A = ℕ} (is_least_in f k (get_or (range_with_len 0 n) i x)) 1 0 ≡ cond
-          (is_least_in g k (get_or (range_with_len 0 n) i x)) 1 0
+      each : (i x : ℕ) → i < length (range_with_len 0 n) → cond {A = ℕ} (is_least_of_orbit f k (get_or (range_with_len 0 n) i x)) 1 0 ≡ cond
+          (is_least_of_orbit g k (get_or (range_with_len 0 n) i x)) 1 0
       each i x b = at_number (get_or (range_with_len 0 n) i x) (omega (
         arith,
         length-range_with_len 0 n,
@@ -78,7 +78,7 @@ module _ (inst : Ising) (good : IsInstance inst) (table : List ℕ) (is : IsPhiT
 
   least_same : (d : ℕ) → d < dart_count inst → is_least_of table d ≡ is_least inst d
   least_same d l = is_least_same (table_value table) (phi inst) (length table) one at_dart d (omega (arith, is.lengths))
-      ∙ ap (λ k. is_least_in (phi inst) k d) is.lengths
+      ∙ ap (λ k. is_least_of_orbit (phi inst) k d) is.lengths
 
   counted : (n : ℕ) → n ≤ dart_count inst → least_before table n ≡ faces_before inst n
   counted n l = orbits_before_same (table_value table) (phi inst) (length table) one at_dart n (omega (arith, is.lengths))

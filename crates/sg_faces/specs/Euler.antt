@@ -1,4 +1,4 @@
--- Euler's number of a rotation system: 2 where each component is drawn on a sphere, and less for others.
+-- Euler's number of a rotation system: 2 if each component is drawn on a sphere, and less for others.
 use Rattle.std.specs.Prelude.{◌≡◌, ℕ, ◌+◌, ◌-◌, ◌*◌, ℤ, pos, ◌-ℤ◌, List, length}
 use Rattle.sg_model.specs.Ising.{Ising, bond_count}
 use Rattle.sg_model.specs.Connected.{AreLeasts}

@@ -3,9 +3,9 @@ use Rattle.std.specs.Prelude.{◌≡◌, ℕ, ◌+◌, ◌<◌, ◌==◌, ◌||�
 use Rattle.std.specs.List.{list_all, range_with_len}
 use Rattle.sg_model.specs.Ising.{Ising}
 use Rattle.sg_model.specs.Rotation.{dart_count, next, rev}
-use Rattle.sg_faces.specs.Orbits.{after_steps, SameOrbit, is_least_in, orbits_before}
+use Rattle.sg_faces.specs.Orbits.{after_steps, SameOrbit, is_least_of_orbit, orbits_before}
 
--- the dart behind d along the face on its side: over the bond, and on to the next dart round the spin there
+-- the dart after d along the face on its side: over the bond, and on to the next dart round the spin there
 abbrev pub phi : Ising → ℕ → ℕ
 phi inst d = next inst (rev d)
 
@@ -19,7 +19,7 @@ SameFace inst d e = SameOrbit (phi inst) d e
 
 -- whether no dart of the face of d is less than d; a face has no more darts than there are
 abbrev pub is_least : Ising → ℕ → Bool
-is_least inst d = is_least_in (phi inst) (dart_count inst) d
+is_least inst d = is_least_of_orbit (phi inst) (dart_count inst) d
 
 -- how many darts before d are the least of their faces
 abbrev pub faces_before : Ising → ℕ → ℕ

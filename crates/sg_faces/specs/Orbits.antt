@@ -12,12 +12,12 @@ abbrev pub SameOrbit : (ℕ → ℕ) → ℕ → ℕ → Type 0
 SameOrbit f d e = (j : ℕ) × (after_steps f j d ≡ e)
 
 -- whether no number that fewer than k steps lead to is less than d
-abbrev pub is_least_in : (ℕ → ℕ) → ℕ → ℕ → Bool
-is_least_in f k d = list_all (λ j. nat_le d (after_steps f j d)) (range_with_len 0 k)
+abbrev pub is_least_of_orbit : (ℕ → ℕ) → ℕ → ℕ → Bool
+is_least_of_orbit f k d = list_all (λ j. nat_le d (after_steps f j d)) (range_with_len 0 k)
 
 -- how many numbers before d are the least of their orbits
 abbrev pub orbits_before : (ℕ → ℕ) → ℕ → ℕ → ℕ
-orbits_before f k d = count_by (is_least_in f k) (range_with_len 0 d)
+orbits_before f k d = count_by (is_least_of_orbit f k) (range_with_len 0 d)
 
 -- different numbers below k go to different numbers below k
 pub record IsOneToOne (f : ℕ → ℕ) (k : ℕ) : Type 0 where

@@ -2,7 +2,7 @@
 use Rattle.std.specs.Prelude.{◌≡◌, ◌≢◌, true, ◌↔◌, ℕ, ◌<◌, ◌≤◌, Bool, List, length, slice_index}
 use Rattle.sg_model.specs.Ising.{Ising}
 use Rattle.sg_model.specs.Rotation.{dart_count, tail, rev}
-use Rattle.sg_faces.specs.Orbits.{after_steps, SameOrbit, is_least_in, orbits_before, IsOneToOne}
+use Rattle.sg_faces.specs.Orbits.{after_steps, SameOrbit, is_least_of_orbit, orbits_before, IsOneToOne}
 use Rattle.sg_faces.specs.Faces.{phi}
 
 -- the value at place d
@@ -19,13 +19,13 @@ moves table j d = after_steps (table_value table) j d
 
 -- whether no place of the orbit of d is less than d
 abbrev pub is_least_of : List ℕ → ℕ → Bool
-is_least_of table d = is_least_in (table_value table) (length table) d
+is_least_of table d = is_least_of_orbit (table_value table) (length table) d
 
 -- how many places before d are the least of their orbits
 abbrev pub least_before : List ℕ → ℕ → ℕ
 least_before table d = orbits_before (table_value table) (length table) d
 
--- what stands at a place without a label
+-- what is at a place without a label
 abbrev pub unlabelled : ℕ
 unlabelled = 4294967295
 
@@ -33,7 +33,7 @@ unlabelled = 4294967295
 abbrev pub HasLabel : List ℕ → ℕ → Type 0
 HasLabel labels d = slice_index labels d ≢ unlabelled
 
--- the least place of the orbit with label f, which stands before `limit`: there are ways to each place
+-- the least place of the orbit with label f, which is before `limit`: there are ways to each place
 -- of the orbit and back
 pub record Root (table labels : List ℕ) (limit f : ℕ) : Type 0 where
   pub first : ℕ

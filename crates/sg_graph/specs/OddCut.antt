@@ -1,4 +1,4 @@
--- Odd cuts, and weights of them that pack: the dual of least joins.
+-- Odd cuts, and weights of them that pack: the dual of minimum T-joins.
 use Rattle.std.specs.Prelude.{◌≡◌, ℕ, ◌+◌, ◌*◌, ◌%◌, ◌<◌, ◌≤◌, ◌≤ℤ◌, pos, Bool, List, length, All, count_by, unsigned_abs}
 use Rattle.sg_sums.specs.Parity.{xor}
 use Rattle.sg_sums.specs.Sets.{holds, chosen_below}
@@ -16,7 +16,7 @@ pub record IsOddCut (g : Graph) (terminals edges : List ℕ) : Type 0 where
   pub odd : count_by inside terminals % 2 ≡ 1
   pub is : edges ≡ chosen_below (crosses g inside) (edge_count g)
 
--- the weight of a cut, a natural number where it is at least 1
+-- the weight of a cut, a natural number if it is at least 1
 abbrev pub odd_cut_weight : Cut → ℕ
 odd_cut_weight c = unsigned_abs c.y
 

@@ -2,10 +2,12 @@
 use Rattle.std.specs.Prelude.{ℕ, ◌==◌, ℤ, cond, Option, None, Some, List, [], ◌∷◌}
 use Rattle.sg_graph.specs.Table.{Route}
 
--- where an edge would stand, that the node is not reached: the largest number of 32 bits, which is no edge of a web
+-- what is in the place of an edge if the node is not reached: the largest number of 32 bits, which is no edge of a
+-- graph
 abbrev pub unreached : ℕ
 unreached = 4294967295
 
+-- the route with this distance and last edge, and none if the edge says that no route is known
 abbrev pub route_of : ℤ → ℕ → Option Route
 route_of distance edge = cond (edge == unreached) None (Some (record { distance = distance; edge = edge }))
 

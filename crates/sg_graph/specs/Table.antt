@@ -14,13 +14,15 @@ pub record Routes : Type 0 where
   pub source : ℕ
   pub to : List (Option Route)
 
+-- the route to node x, if one is known
 abbrev pub route_at : Routes → ℕ → Option Route
 route_at t x = slice_index_or t.to x None
 
+-- whether a route to node x is known
 abbrev pub is_reached : Routes → ℕ → Bool
 is_reached t x = is_some (route_at t x)
 
--- the distance of the node, 0 where it is not reached
+-- the distance of the node, 0 if it is not reached
 abbrev pub distance_at : Routes → ℕ → ℤ
 distance_at t x = option_map_or (λ r. r.distance) (route_at t x) (pos 0)
 

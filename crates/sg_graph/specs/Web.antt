@@ -7,6 +7,7 @@ pub record Graph : Type 0 where
   pub nodes : ℕ
   pub edges : List Edge
 
+-- the number of edges
 abbrev pub edge_count : Graph → ℕ
 edge_count g = length g.edges
 
@@ -22,7 +23,7 @@ weight_at edge = unsigned_abs edge.w
 abbrev pub edge_weight : Graph → ℕ → ℕ
 edge_weight g e = weight_at (edge_at g e)
 
--- the weight of a list of edges, counted as often as they stand in it
+-- the weight of a list of edges, each counted as often as it is listed
 abbrev pub weight_of : Graph → List ℕ → ℕ
 weight_of g es = sum_by (edge_weight g) es
 
@@ -52,7 +53,7 @@ pub record IsEdge (n : ℕ) (edge : Edge) : Type 0 where
   pub second_end : edge.b < n
   pub not_negative : pos 0 ≤ℤ edge.w
 
--- what every web keeps: a node or more, neither nodes nor edges beyond 2^24, and not too much weight in all
+-- what every weighted graph keeps: a node or more, neither nodes nor edges beyond 2^24, and not too much weight in all
 pub record IsWeb (g : Graph) : Type 0 where
   pub has_node : 1 ≤ g.nodes
   pub few_nodes : g.nodes ≤ 2 ^ 24

@@ -1,15 +1,15 @@
-//! Weighted graphs: webs, walks, distances, joins and odd cuts.
+//! Weighted graphs (`Web`): walks, distances, T-joins and odd cuts.
 //!
 //! The dual of a planar spin glass is such a graph: a node for each face, an edge of weight `|J|` for
-//! each bond. A ground state breaks the bonds of a least join of the frustrated faces, a set of
-//! edges that meets a node an odd number of times exactly where it is frustrated, and weighted odd
-//! cuts prove that no join weighs less. This crate knows of graphs alone.
+//! each bond. A ground state breaks the bonds of a minimum T-join of the frustrated faces, a set of
+//! edges that meets a node an odd number of times exactly if it is frustrated, and weighted odd cuts
+//! prove that no T-join weighs less. This crate knows only graphs, no spins.
 //!
-//! For the next engineer: `specs/` has the definitions that the crates above cite, one concept a
-//! file (`Web`, `Walk`, `Join`, `OddCut`, `Incidence`, `Table`), and `proofs/Walks.antt`,
-//! `proofs/Joins.antt`, `proofs/Tables.antt` their laws: walks appended and turned round, what
-//! distances say over an edge, that each join weighs at least half of what the cuts of a packing
-//! weigh. `first_unreached` and `Incidence` are the calls with an algorithm in them.
+//! For the next engineer: `specs/` has the definitions that the crates above cite, one concept a file
+//! (`Web`, `Walk`, `Join`, `OddCut`, `Incidence`, `Table`). `proofs/Walks.antt`, `proofs/Joins.antt` and
+//! `proofs/Tables.antt` have their laws: walks appended and reversed, what distances say over an edge,
+//! and that each T-join weighs at least half as much as the cuts of a packing. `first_unreached` and
+//! `Incidence` are the functions with an algorithm in them.
 #![tactic(auto)]
 
 mod cut;

@@ -5,7 +5,7 @@ use super::NoMemory;
 use std::alloc::Global;
 use std::marker::Model;
 
-// What stands for the edge of a node that is not reached.
+// The number that means no edge, for a node that is not reached.
 const UNREACHED: u32 = u32::MAX;
 
 /// For one source, which nodes are reached from it, at which distance, and over which edge each was
@@ -49,7 +49,7 @@ impl Table {
     }
 
     /// Notes that the node is reached at this distance over this edge, in place of what was noted of
-    /// it before. No web has an edge of a number beyond the limit. It takes no memory.
+    /// it before. No `Web` has an edge with a number beyond the limit. It does not allocate.
     pub fn set(&mut self, node: u32, distance: i64, edge: u32)
         requires node_in { node < length self.old.to }
         requires not_source { node ≢ self.old.source }

@@ -50,7 +50,7 @@ impl Model for Web {
 }
 
 impl Web {
-    /// The web of `nodes` nodes with these edges. It takes no memory.
+    /// The graph of `nodes` nodes with these edges. It does not allocate.
     pub fn new(nodes: u32, edges: Edges) -> Self
         requires { IsWeb (record { nodes = nodes; edges = edges }) }
         ensures { result ≡ record { nodes = nodes; edges = edges } }
@@ -98,8 +98,8 @@ impl Web {
         sum
     }
 
-    /// Gives edge `e` another weight, not below 0, and hands back the one that it had. All weights
-    /// together have to stay within 2^60. It takes no memory.
+    /// Gives edge `e` another weight, not below 0, and returns the old one. All weights together
+    /// have to stay within 2^60. It does not allocate.
     pub fn set_weight(&mut self, e: u32, weight: i64) -> i64
         requires edge { e < edge_count self.old }
         requires not_negative { pos 0 ≤ℤ weight }
@@ -112,8 +112,8 @@ impl Web {
         w
     }
 
-    /// The number of edge ends at the node, an edge to itself twice, in time linear in the edges. It
-    /// takes no memory. It is for a caller who asks of one node; who asks of all goes by incidence lists.
+    /// The number of edge ends at the node, an edge to itself twice, in time linear in the edges. It does
+    /// not allocate. For one node only: callers that need all degrees use incidence lists.
     pub fn degree(&self, node: u32) -> u32
         requires { node < self.now.nodes }
         ensures { result ≡ degree_of self.now node }

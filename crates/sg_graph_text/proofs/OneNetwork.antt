@@ -46,7 +46,8 @@ module _ (terms : Bool) (bytes : List ℕ) where
     named = λ r s bad other. named r s bad other;
   }
     where
-      graph-same : (p : Graph × List ℕ) (text : GraphText) → GivesNetwork terms bytes p.0 p.1 → ReadsGraph terms (kept_of bytes) text [] → graph_in text ≡ p.0
+      graph-same : (p : Graph × List ℕ) (text : GraphText) → GivesNetwork terms bytes p.0 p.1 →
+          ReadsGraph terms (kept_of bytes) text [] → graph_in text ≡ p.0
       graph-same p text given reads = ap graph_in (texts-one.one text (with_terminals p.0 p.1) reads given.gives)
 
       apart : (p : Graph × List ℕ) (r : Refusal) → GivesNetwork terms bytes p.0 p.1 → RefusesNetwork terms bytes r → ⊥

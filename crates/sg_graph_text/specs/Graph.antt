@@ -1,5 +1,5 @@
--- The records of a weighted graph: which word stands in which place, the tests of each record, and the graph that they
--- give; the first test that a record fails, in the order of the records, refuses them.
+-- The records of a weighted graph: which word is in which place, the tests of each record, and the graph that they
+-- give; the first failed check of a record, in the order of the records, refuses them.
 use Rattle.std.specs.Prelude.{◌≡◌, ℕ, ◌+◌, ◌%◌, ◌≤◌, ◌==◌, ◌&&◌, Bool, nat_lt, if◌then◌else◌, List, [], ◌∷◌, length, map, filter, find, drop, codes, All, slice_index, Option, Some, option_map, is_some, unwrap_or}
 use Rattle.std.specs.List.{range_with_len}
 use Rattle.sg_sums.specs.Sets.{chosen_below, holds}
@@ -24,6 +24,7 @@ use Rattle.sg_graph_text.specs.declared.graph.GraphText.{GraphText}
 abbrev pub says_edge : Kept → Bool
 says_edge r = begins (codes "edge") r
 
+-- whether a record is a list of terminals
 abbrev pub says_term : Kept → Bool
 says_term r = begins (codes "term") r
 
@@ -31,14 +32,15 @@ says_term r = begins (codes "term") r
 abbrev pub edge_of : Kept → Edge
 edge_of r = record { a = size_in r 1; b = size_in r 2; w = number_in r 3 }
 
+-- the edges of the records, in their order
 unfoldable pub edges_in : List Kept → List Edge
 edges_in body = map edge_of (filter says_edge body)
 
--- the entries of the record `term,T,..`, in the order in which they stand there
+-- the entries of the record `term,T,..`, in their order
 unfoldable pub entries_given : List Kept → Option (List ℕ)
 entries_given body = option_map (λ r. sizes_from r 1) (find says_term body)
 
--- none where there is no such record
+-- none if there is no such record
 abbrev pub entries_in : List Kept → List ℕ
 entries_in body = unwrap_or (entries_given body) []
 
@@ -51,7 +53,7 @@ size_fault r = first_of (
     ∷ many_spins_fault program_limits (size_in r 1)
     ∷ [])
 
--- an edge of a graph of n nodes, behind m edges: its ends are nodes, its weight is not negative, and there is room
+-- an edge of a graph of n nodes, after m edges: its ends are nodes, its weight is not negative, and there is room
 abbrev pub edge_fault : ℕ → ℕ → Kept → Option Refusal
 edge_fault n m r = first_of (link_fault (at_least 0) n r ∷ bond_count_fault program_limits (m + 1) ∷ [])
 
@@ -59,11 +61,12 @@ edge_fault n m r = first_of (link_fault (at_least 0) n r ∷ bond_count_fault pr
 abbrev pub is_node : ℕ → ℕ → Bool
 is_node n t = nat_lt t n
 
--- the first entry that is no node, or stands earlier too
+-- the first entry that is not a node, or repeats an earlier one
 unfoldable pub bad_terminal : ℕ → List ℕ → Option ℕ
 bad_terminal n entries =
     option_map (slice_index entries) (find (is_misplaced (is_node n) entries) (range_with_len 0 (length entries)))
 
+-- the test of the entries of a list of terminals: the first that is not a node, or repeats an earlier one
 abbrev pub entry_fault : ℕ → List ℕ → Option Refusal
 entry_fault n entries = option_map (λ t. BadTerminal t) (bad_terminal n entries)
 
@@ -79,7 +82,7 @@ terminals_fault n entries = first_of (entry_fault n entries ∷ odd_fault (lengt
 abbrev pub graph_end_fault : ℕ → List ℕ → Kept → Option Refusal
 graph_end_fault n entries r = first_of (field_count_fault 1 r ∷ terminals_fault n entries ∷ [])
 
--- the tests of a record behind the first, in a graph of n nodes; only where `terms` is set may terminals be given
+-- the tests of a record after the first, in a graph of n nodes; only where `terms` is set may terminals be given
 unfoldable pub body_fault : Bool → ℕ → List Kept → Kept → Option Refusal
 body_fault terms n body r =
     if says_edge r then edge_fault n (length (edges_in body)) r
@@ -96,11 +99,11 @@ graph_fault terms (first ∷ body) r = body_fault terms (size_in first 1) body r
 abbrev pub terminals_of : ℕ → List ℕ → List ℕ
 terminals_of n entries = chosen_below (holds entries) n
 
--- the graph of n nodes that the records behind the first give
+-- the graph of n nodes that the records after the first give
 unfoldable pub body_graph : ℕ → List Kept → GraphText
 body_graph n body = record { nodes = n; edges = edges_in body; terminals = terminals_of n (entries_in body) }
 
--- the graph that the records in front of the `end` give
+-- the graph that the records before the `end` give
 unfoldable pub graph_of : List Kept → GraphText
 graph_of records = body_graph (size_in (record_at records 0) 1) (drop 1 records)
 
@@ -114,7 +117,7 @@ pub record IsGraphText (g : GraphText) : Type 0 where
   pub terminals : AreTerminals (record { nodes = g.nodes; edges = g.edges }) g.terminals
   pub even : length g.terminals % 2 ≡ 0
 
--- the records give the graph, and `rest` is left behind its `end`. Terminals may be given where `terms` is set
+-- the records give the graph, and `rest` is left after its `end`. Terminals may be given where `terms` is set
 abbrev pub ReadsGraph : Bool → List Kept → GraphText → List Kept → Type 0
 ReadsGraph terms records g rest = StatesToEnd (graph_fault terms) graph_of records g rest
 

@@ -15,6 +15,7 @@ use Rattle.sg_graph_text.specs.Graph.{ReadsGraph, RefusesGraph}
 abbrev pub graph_in : GraphText → Graph
 graph_in text = record { nodes = text.nodes; edges = text.edges }
 
+-- a graph and its terminals as the text gives them
 abbrev pub with_terminals : Graph → List ℕ → GraphText
 with_terminals g terminals = record { nodes = g.nodes; edges = g.edges; terminals = terminals }
 

@@ -27,7 +27,7 @@ pub(crate) struct GraphBody {
     entries: Option<Terminals>,
 }
 
-// The edge of a record `edge,A,B,W`, where `m` edges stand before it.
+// The edge of a record `edge,A,B,W`, where `m` edges precede it.
 fn read_edge(row: &Row, n: u32, m: usize) -> Result<Edge, Refusal>
     requires some { 1 ≤ n }
     requires few { m ≤ bond_limit }
@@ -123,7 +123,7 @@ impl Gather for GraphBody {
 }
 
 /// Reads the records of a graph of `n` nodes behind the first, up to its `end`, and gives the graph.
-/// `terms` says whether a record of terminals may stand.
+/// `terms` says whether a record of terminals may appear.
 ///
 /// # Errors
 /// The first test that a record fails, `UnknownKind` for a record of no kind, `BadTerminal` and

@@ -1,15 +1,15 @@
-//! Reads weighted graphs from texts: a number of nodes, the edges with their weights, and for joins
+//! Reads weighted graphs from texts: a number of nodes, the edges with their weights, and for T-joins
 //! the terminals.
 //!
-//! `read_graph` gives the graph at the front of a text, or the one refusal that names its first
-//! fault; `read_network` goes on to the end of the text, and gives the graph where it is connected. A
-//! graph knows nothing of spins: it is what `tjoin` and `postman` are asked of.
+//! `read_graph` gives the graph at the front of a text, or the one refusal that names its first fault;
+//! `read_network` reads to the end of the text, and gives the graph if it is connected. A graph has no
+//! spins: it is the input of `tjoin` and `postman`.
 //!
-//! For the next engineer: `specs/Graph.antt` is the table of tests, over the records of `sg_reader`,
-//! and says what a text gives and why it is refused, by the rules for records up to an `end` by which
-//! results are read too; `specs/Network.antt` has the tests of the whole. In the code `network.rt` and
-//! `read.rt` are the way through, `size.rt` reads the first record, `body.rt` those behind it, and
-//! `terminals.rt` tests the entries of the terminals and lists them rising.
+//! For the next engineer: `specs/Graph.antt` is the table of checks, over the records of `sg_reader`. It
+//! says what a text gives and why it is refused, by the rules for records up to an `end` by which
+//! results are read too; `specs/Network.antt` has the checks on the whole. In the code `network.rt` and
+//! `read.rt` are the way through, `size.rt` reads the first record, `body.rt` those that follow it, and
+//! `terminals.rt` tests the entries of the terminals and lists them in rising order.
 #![tactic(auto)]
 
 mod body;

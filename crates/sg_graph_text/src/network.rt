@@ -51,7 +51,7 @@ fn read_alone(alloc: Global, bytes: &[u8], terms: bool) -> Result<GraphText, Fau
     alone(alloc, given, &mut rows)
 }
 
-// The web of a graph, where its weights together are within the limit.
+// The `Web` of a graph, if its total weight is within the limit.
 fn web_of(text: GraphText) -> Result<Network, Refusal>
     requires { IsGraphText text }
     ensures web { IfOk result (λ n. n.web ≡ graph_in text) }
@@ -69,7 +69,7 @@ fn web_of(text: GraphText) -> Result<Network, Refusal>
     })
 }
 
-// Whether each node of a web is reached.
+// Whether each node is reached.
 fn check_joined(alloc: Global, web: &Web) -> Result<(), Fault>
     ensures connected { OnOk result (IsConnectedWeb web.now) }
     ensures refused { IfErr result (OrNoMemory (IsUnjoined web.now)) }

@@ -44,8 +44,8 @@ fn next_size(rows: &mut Rows<'_>, row: &mut Row, terms: bool) -> Result<u32, Fau
 /// first record `UnknownKind`, `BadShape`, `BadNumber`, `TooManySpins` above 2048 nodes; of an edge
 /// `BadShape`, `BadNumber`, `TooManyBonds` above 6144 edges; of the terminals `BadShape` where they
 /// are given a second time, `BadNumber`; of another record `UnknownKind`; of the `end` `BadShape`,
-/// then `BadTerminal` with the first terminal that is no node or stands earlier too, then
-/// `OddTerminals`. What stands behind that record is left. `Unended` where the records run out.
+/// then `BadTerminal` with the first terminal that is no node or is listed earlier, then
+/// `OddTerminals`. What follows that record is left. `Unended` where the records run out.
 /// `NoMemory` may come at any time, and some records are left then, perhaps none.
 ///
 /// The time is linear in the bytes and the nodes, and the memory is that of the graph and of the

@@ -17,8 +17,8 @@ use std::alloc::Global;
 /// where it begins as one, and else a list of records.
 ///
 /// # Errors
-/// The first fault of the text, as `read_json` or `read_instance` names it; `Trailing` where a record stands
-/// behind the `end`; then the first test of fitness that the instance fails. `NoMemory` may come at any time.
+/// The first fault of the text, as `read_json` or `read_instance` names it; `Trailing` if a record follows
+/// the `end`; then the first test of fitness that the instance fails. `NoMemory` may come at any time.
 ///
 /// The time is linear in the bytes but for what `serde_json` takes, and the memory that of the instance with
 /// its faces, and of the value of a JSON text.

@@ -1,13 +1,13 @@
-//! What an input gives: an instance that is fit for a planar solver, or an instance with a stated proof; or
-//! the first fault of the input.
+//! What an input gives: an instance that is fit for the planar solver, or an instance with a stated
+//! proof; or the first fault of the input.
 //!
-//! `read_planar` takes an instance in either form, as records or as one JSON object, and tests the whole of
-//! it; `read_proof` takes records alone, and tests nothing of the instance as a whole, since a proof is
-//! judged on every graph. Nothing may stand behind what they read.
+//! `read_planar` takes an instance in either form, as records or as one JSON object, and tests the whole
+//! of it. `read_proof` takes records only, and makes no test of the instance as a whole, since a proof
+//! is judged on every graph. Nothing may follow what they read.
 //!
-//! For the next engineer: `specs/Input.antt` says what a text gives, and its first fault, over what
-//! `sg_reader`, `sg_json` and `sg_planar` say of their parts. In the code `fit.rt` reads for the studies, and
-//! `proof.rt` for the checker.
+//! For the next engineer: `specs/Input.antt` says what a text gives, and its first fault, in terms of
+//! what `sg_reader`, `sg_json` and `sg_planar` say of their parts. In the code `fit.rt` reads for the
+//! studies, and `proof.rt` for the checker.
 #![tactic(auto)]
 
 mod fit;

@@ -21,7 +21,7 @@ pub struct StatedProof {
 ///
 /// # Errors
 /// The first fault of the records, as `read_instance` or `read_result` names it; `Trailing` where a record
-/// stands behind the second `end`. `NoMemory` may come at any time.
+/// follows the second `end`. `NoMemory` may come at any time.
 ///
 /// The time is linear in the bytes, and the memory that of what is read and of the longest record.
 pub fn read_proof(alloc: Global, bytes: &[u8]) -> Result<StatedProof, Fault>

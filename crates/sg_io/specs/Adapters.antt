@@ -24,7 +24,7 @@ abbrev pub gave_by : {E : Type 0} → Result ℕ E → Gave
 gave_by (Ok n) = if n == 0 then gave.Failed else gave.Took n
 gave_by (Err e) = gave.Failed
 
--- the count of faults behind a call
+-- the count of faults after a call
 abbrev pub faults_after : ℕ → Bool → ℕ
 faults_after faults failed = if failed then next_count faults else faults
 

@@ -17,22 +17,22 @@ next_count n = min (n + 1) last_count
 abbrev pub FaultShown : ℕ → ℕ → Type 0
 FaultShown old new = new ≡ next_count old
 
--- the bytes still to come, where they are told, have lost the first n
-abbrev pub Loses : ℕ → Option (List ℕ) → Option (List ℕ) → Type 0
-Loses n None new = new ≡ None
-Loses n (Some left) new = (n ≤ length left) × (new ≡ Some (drop n left))
+-- the bytes still to come, if they are told, have lost the first n
+abbrev pub DropsFront : ℕ → Option (List ℕ) → Option (List ℕ) → Type 0
+DropsFront n None new = new ≡ None
+DropsFront n (Some left) new = (n ≤ length left) × (new ≡ Some (drop n left))
 
 -- the bytes agree with what a device tells of its own: they are those that it tells, and any where it tells none
 abbrev pub AgreesWith : Option (List ℕ) → List ℕ → Type 0
 AgreesWith None bytes = ⊤
 AgreesWith (Some known) bytes = bytes ≡ known
 
--- the first n bytes of the buffer are the first n of those still to come, where they are told
+-- the first n bytes of the buffer are the first n of those still to come, if they are told
 abbrev pub Delivers : ℕ → List ℕ → Option (List ℕ) → Type 0
 Delivers n into None = ⊤
 Delivers n into (Some left) = take n into ≡ take n left
 
--- no byte is still to come, where that is told
+-- no byte is still to come, if that is told
 abbrev pub IsSpent : Option (List ℕ) → Type 0
 IsSpent None = ⊤
 IsSpent (Some left) = left ≡ []
@@ -49,7 +49,7 @@ ReadsWithin took.Failed into = ⊤
 
 -- what a read did: it moved bytes from the source into the buffer, found none to come, or failed and left them all
 abbrev pub Reads : Took → List ℕ → Option (List ℕ) → Option (List ℕ) → Type 0
-Reads (took.Got n) into old new = Delivers n into old × Loses n old new
+Reads (took.Got n) into old new = Delivers n into old × DropsFront n old new
 Reads took.End into old new = IsSpent old × (new ≡ old)
 Reads took.Failed into old new = new ≡ old
 
@@ -59,13 +59,13 @@ read_failed (took.Got n) = false
 read_failed took.End = false
 read_failed took.Failed = true
 
--- the count of faults behind a read: one more where it failed, and never past the last value
+-- the count of faults after a read: one more if it failed, and never past the last value
 abbrev pub read_faults : Took → ℕ → ℕ
 read_faults (took.Got n) faults = faults
 read_faults took.End faults = faults
 read_faults took.Failed faults = next_count faults
 
--- the bytes written, where they are told, have grown by these
+-- the bytes written, if they are told, have grown by these
 abbrev pub Grows : List ℕ → Option (List ℕ) → Option (List ℕ) → Type 0
 Grows bytes None new = new ≡ None
 Grows bytes (Some written) new = new ≡ Some (written ++ bytes)
@@ -85,7 +85,7 @@ abbrev pub write_failed : Gave → Bool
 write_failed (gave.Took n) = false
 write_failed gave.Failed = true
 
--- the count of faults behind a write: one more where it failed, and never past the last value
+-- the count of faults after a write: one more if it failed, and never past the last value
 abbrev pub write_faults : Gave → ℕ → ℕ
 write_faults (gave.Took n) faults = faults
 write_faults gave.Failed faults = next_count faults

@@ -7,7 +7,7 @@ use Rattle.sg_io.specs.declared.devices.Took.TheVariants as took
 use Rattle.sg_io.specs.declared.devices.Gave.{Gave}
 use Rattle.sg_io.specs.declared.devices.Gave.TheVariants as gave
 
--- the number of this call stands in the list
+-- the number of this call is in the list
 abbrev pub is_listed : List ℕ → ℕ → Bool
 is_listed calls call = list_any (λ n. n == call) calls
 
@@ -24,14 +24,14 @@ pub record SourceState : Type 0 where
   pub faults : ℕ
   pub failed : Bool
 
--- a read into `room` bytes fails exactly where it is listed, else ends exactly where no byte is left, else gives what
+-- a read into `room` bytes fails exactly if it is listed, else ends exactly if no byte is left, else gives what
 -- piece, buffer and rest allow
 abbrev pub read_answer : SourceState → ℕ → Took
 read_answer s room =
     if is_listed s.fails s.calls then took.Failed else
     (if length s.left == 0 then took.End else took.Got (min (min s.piece room) (length s.left)))
 
--- the source behind a read with this answer
+-- the source after a read with this answer
 abbrev pub source_after : Took → SourceState → SourceState
 source_after (took.Got n) s = record s { left = drop n s.left; calls = next_count s.calls; failed = false }
 source_after took.End s = record s { calls = next_count s.calls; failed = false }
@@ -51,13 +51,13 @@ pub record SinkState : Type 0 where
   pub faults : ℕ
   pub failed : Bool
 
--- a write of so many bytes fails exactly where it is listed or no room is left, else takes what piece, room and offer
+-- a write of so many bytes fails exactly if it is listed or no room is left, else takes what piece, room and offer
 -- allow
 abbrev pub write_answer : SinkState → ℕ → Gave
 write_answer s offered =
     if is_listed s.fails s.calls || (s.room == 0) then gave.Failed else gave.Took (min (min s.piece s.room) offered)
 
--- the sink behind a write of these bytes with this answer
+-- the sink after a write of these bytes with this answer
 abbrev pub sink_after : Gave → List ℕ → SinkState → SinkState
 sink_after (gave.Took n) bytes s = record s {
   written = s.written ++ take n bytes;

@@ -2,6 +2,6 @@
 use Rattle.std.specs.Prelude.{ℕ, ◌≤◌, List, length, take, Option}
 use Rattle.sg_io.specs.Devices.{Grows}
 
--- the bytes written, where they are told, have grown by a prefix of these
+-- the bytes written, if they are told, have grown by a prefix of these
 abbrev pub GrowsByPrefix : List ℕ → Option (List ℕ) → Option (List ℕ) → Type 0
 GrowsByPrefix bytes old new = (n : ℕ) × (n ≤ length bytes) × Grows (take n bytes) old new

@@ -44,7 +44,7 @@ impl Model for MemSink {
 
 impl MemSink {
     /// The sink with room for `room` bytes, which are reserved now. It takes at most `piece` bytes in
-    /// one write. Exactly the calls whose numbers stand in `fails`, and those without room, fail.
+    /// one write. Exactly the calls whose numbers are in `fails`, and those without room, fail.
     pub fn new(alloc: Global, room: usize, piece: usize, fails: CallList) -> Result<Self, NoMemory>
         requires { 1 ≤ piece }
         ensures { IfOk result (λ sink. sink ≡ record { written = []; room = room; piece = piece; fails = fails; calls = 0; faults = 0; failed = false }) }
@@ -75,7 +75,8 @@ impl Sink for MemSink {
 
     ghost failed = { λ s. s.failed };
 
-    /// Takes the least of the piece, the room that is left and the bytes offered. It takes no memory.
+    /// Takes the least of the piece, the room that is left and the bytes offered. It does not
+    /// allocate.
     fn write(&mut self, bytes: &[u8]) -> Gave
         requires { 0 < length bytes.now }
         ensures count { WritesWithin result bytes.now }

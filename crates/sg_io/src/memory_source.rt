@@ -6,7 +6,8 @@ ghost use Rattle.sg_io.specs.Memory.{source_after, read_answer};
 use super::{CallList, Source, Took};
 use std::marker::Model;
 
-/// A source in memory: it gives bytes that are handed in, in pieces, and fails at chosen calls.
+/// A source in memory: it gives the bytes that it was made with, in pieces, and fails at chosen
+/// calls.
 ///
 /// Its calls are numbered from 0. Clauses see it as the bytes still to come, the piece, the numbers
 /// of the calls that fail, the numbers of calls and of failed calls so far, and whether the last call
@@ -41,7 +42,7 @@ impl Model for MemSource {
 
 impl MemSource {
     /// The source that gives these bytes, at most `piece` in one read. Exactly the calls whose
-    /// numbers stand in `fails` fail. It takes no memory.
+    /// numbers are in `fails` fail. It does not allocate.
     pub fn new(bytes: Vec<u8>, piece: usize, fails: CallList) -> Self
         requires { 1 ≤ piece }
         ensures { result ≡ record { left = bytes.items; piece = piece; fails = fails; calls = 0; faults = 0; failed = false } }
@@ -65,7 +66,7 @@ impl Source for MemSource {
 
     ghost failed = { λ s. s.failed };
 
-    /// Gives the least of the piece, the buffer and the bytes that are left. It takes no memory.
+    /// Gives the least of the piece, the buffer and the bytes that are left. It does not allocate.
     fn read(&mut self, into: &mut [u8]) -> Took
         requires { 0 < length into.old }
         ensures count { ReadsWithin result into.new }

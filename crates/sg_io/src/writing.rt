@@ -9,10 +9,10 @@ use super::{Gave, Sink};
 #[derive(Clone, Copy, Debug, PartialEq, Eq)]
 pub struct WriteFault;
 
-/// Writes all of the bytes, in order. It takes no memory.
+/// Writes all of the bytes, in order. It does not allocate.
 ///
-/// Each write offers all the bytes that are left, and goes on behind those that were taken. A write
-/// that fails is the last one. After `WriteFault` the sink has a prefix of the bytes.
+/// Each write offers all the bytes that are left, and continues after those that were taken. A
+/// write that fails is the last one. After `WriteFault` the sink has a prefix of the bytes.
 pub fn put<K: Sink>(sink: &mut K, bytes: &[u8]) -> Result<(), WriteFault>
     ensures whole { OnOk result (Grows bytes.now (K.written sink.old) (K.written sink.new)) }
     ensures prefix { OnErr result (GrowsByPrefix bytes.now (K.written sink.old) (K.written sink.new)) }

@@ -13,7 +13,7 @@ use Rattle.sg_draft.specs.declared.read.Read.TheVariants.{Known, WrongAt}
 use Rattle.sg_draft.specs.Draft.{Draft, IsDrafted, OfGeneral, OfLattice, general_draft_fault}
 use Rattle.sg_draft.specs.Limits.{program_limits}
 use Rattle.sg_draft.specs.Numbers.{bond_count_fault, is_number_from, lattice_size_fault, many_spins_fault, number_fault, spin_count_fault}
-use Rattle.sg_draft.specs.Reads.{counted, member_fault, value_or, wrong_entry}
+use Rattle.sg_draft.specs.Reads.{read_length, member_fault, value_or, wrong_entry}
 use Rattle.sg_reader.specs.ReadInstance.{IsGiven}
 use Rattle.sg_draft.proofs.Drafts.{first-none, passed-if}
 use Rattle.sg_reader.proofs.SizeLaws.{lattice-bonds, lattice-spins}
@@ -28,7 +28,7 @@ from-passed least size h = by size (not-false (is_number_from least size) h)
     by (Some n) e = leb-true least n e
 
 -- a list is counted
-counted-length : {X : Type 0} (r : Read (List X)) → value_or 0 (counted r) ≡ length (value_or [] r)
+counted-length : {X : Type 0} (r : Read (List X)) → value_or 0 (read_length r) ≡ length (value_or [] r)
 counted-length (Known xs) = refl
 counted-length (WrongAt entry) = refl
 
@@ -52,16 +52,17 @@ drafted-given (OfLattice d) inst given =
       few_bonds = omega (arith, lattice-bonds d.kind R C (value_or [] d.couplings) (value_or None d.seam) inst is given.value, many);
     }
 drafted-given (OfGeneral d) inst given =
-    let numbers = (first-none (general_draft_fault program_limits d.spins (counted d.bonds) (wrong_entry d.rotation) (wrong_entry d.seam)) _ given.passes).0 in
+    let numbers =
+    (first-none (general_draft_fault program_limits d.spins (read_length d.bonds) (wrong_entry d.rotation) (wrong_entry d.seam)) _ given.passes).0 in
     let spins = first-none (spin_count_fault program_limits d.spins) _ numbers in
     let number = first-none (number_fault member.SpinCount 1 d.spins) _ spins.0 in
     let most = first-none (many_spins_fault program_limits (unwrap_or d.spins 0)) _ number.1 in
     let few : unwrap_or d.spins 0 ≤ spin_limit = ltb-false spin_limit (unwrap_or d.spins 0) (passed-if _ _ most.0) in
-    let behind = first-none (member_fault member.Bonds (wrong_entry (counted d.bonds))) _ spins.1 in
+    let behind = first-none (member_fault member.Bonds (wrong_entry (read_length d.bonds))) _ spins.1 in
     let rotation = first-none (member_fault member.Rotation (wrong_entry d.rotation)) _ behind.1 in
     let seam = first-none (member_fault member.Seam (wrong_entry d.seam)) _ rotation.1 in
-    let bonds = (first-none (bond_count_fault program_limits (value_or 0 (counted d.bonds))) _ seam.1).0 in
-    let light = ltb-false bond_limit (value_or 0 (counted d.bonds)) (passed-if _ _ bonds) in
+    let bonds = (first-none (bond_count_fault program_limits (value_or 0 (read_length d.bonds))) _ seam.1).0 in
+    let light = ltb-false bond_limit (value_or 0 (read_length d.bonds)) (passed-if _ _ bonds) in
     record {
       instance = given.instance;
       few_spins = subst (λ (i : Ising). i.n ≤ spin_limit) (sym given.value) few;

@@ -14,7 +14,7 @@ use Rattle.sg_draft.specs.Bonds.{IsAmong, IsCoupling, is_among, is_coupling}
 use Rattle.sg_draft.proofs.Drafts.{among-of}
 use Rattle.sg_json.specs.declared.entry.Entry.{Entry}
 use Rattle.sg_json.specs.declared.entry.Entry.TheVariants as entry
-use Rattle.sg_json.specs.Members.{is_entry, index_of, indices_of, is_triple, item_at, items_in, item_list, first_wrong, value_bond, value_number, whole_number}
+use Rattle.sg_json.specs.Members.{is_entry, value_index, value_indices, is_triple, item_at, items_in, item_list, first_wrong, value_bond, value_number, whole_number}
 
 -- the items of an array are those that the code has
 pub listed_view : (vs : List Value) → item_list (items_view vs) ≡ map view vs
@@ -27,8 +27,8 @@ mapped f g [] = refl
 mapped {X} {Y} {Z} f g (x ∷ xs) = ap (λ (l : List Z). f (g x) ∷ l) (mapped f g xs)
 
 -- the indices of a list, read one by one
-pub index-map : (vs : List Value) (d : Data) → map view vs ≡ items_in d → map (λ v. index_of (view v)) vs ≡ indices_of d
-index-map vs d h = sym (mapped index_of view vs) ∙ ap (map index_of) h
+pub index-map : (vs : List Value) (d : Data) → map view vs ≡ items_in d → map (λ v. value_index (view v)) vs ≡ value_indices d
+index-map vs d h = sym (mapped value_index view vs) ∙ ap (map value_index) h
 
 -- the first place of a list that is read from another
 prefix-map : {X Y : Type 0} (p : Y → Bool) (f : X → Y) (xs : List X) → prefix_len p (map f xs) ≡ prefix_len (λ x. p (f x)) xs
@@ -50,7 +50,8 @@ nowhere p xs i d none inside = by (nat_lt (position_or_len p xs) (length xs)) re
     by false e h = let past = ltb-false (position_or_len p xs) (length xs) e in fails_before_first p xs i d (omega (arith, past, inside))
 
 -- where there is no misfit each item is what its list wants
-fit-all : (P : Data → Type 0) (what : Entry) (ds : List Data) → ((d : Data) → is_entry what d ≡ true → P d) → first_wrong what ds ≡ None → All P ds
+fit-all : (P : Data → Type 0) (what : Entry) (ds : List Data) → ((d : Data) → is_entry what d ≡ true → P d) →
+    first_wrong what ds ≡ None → All P ds
 fit-all P what ds each none = All-from_get_or P ds null (λ i inside.
     each (item_at ds i) (not-false _ (nowhere (λ d. not (is_entry what d)) ds i null none inside)))
 

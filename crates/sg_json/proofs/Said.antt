@@ -18,15 +18,15 @@ use Rattle.sg_reader.specs.declared.header.Form.{Form}
 use Rattle.sg_draft.specs.declared.limits.Limits.{Limits}
 use Rattle.sg_draft.specs.Draft.{IsDraftRefusal, OfGeneral, OfLattice, draft_fault, drafted, general_draft_fault, lattice_draft_fault, reseamed}
 use Rattle.sg_draft.specs.Limits.{program_limits}
-use Rattle.sg_draft.specs.Reads.{counted, unless, value_or, wrong_entry}
+use Rattle.sg_draft.specs.Reads.{read_length, unless, value_or, wrong_entry}
 use Rattle.sg_draft.proofs.Drafts.{counted-unless, wrong-unless}
 use Rattle.sg_json.specs.declared.entry.Entry.{Entry}
 use Rattle.sg_json.specs.declared.entry.Entry.TheVariants as entry
-use Rattle.sg_json.specs.Members.{draft_of, form_in, general_draft, indices_of, is_known, items_at, lattice_draft, member_list, member_spins, first_wrong, names_in, size_at, value_bond, value_number, wrong_list, wrong_rotation, wrong_seam}
+use Rattle.sg_json.specs.Members.{draft_of, form_in, general_draft, value_indices, is_known, items_at, lattice_draft, member_list, member_spins, first_wrong, names_in, size_at, value_bond, value_number, wrong_list, wrong_rotation, wrong_seam}
 use Rattle.sg_json.specs.ReadJson.{OfData, OfDraft, RefusesData, RefusesJson, SaysData}
 
 -- how many entries a list of a member has, where none is wrong
-told : {X : Type 0} (f : Data → X) (wrong : Option ℕ) (ds : List Data) → counted (unless wrong (map f ds)) ≡ unless wrong (length ds)
+told : {X : Type 0} (f : Data → X) (wrong : Option ℕ) (ds : List Data) → read_length (unless wrong (map f ds)) ≡ unless wrong (length ds)
 told f wrong ds = counted-unless wrong (map f ds) ∙ ap (λ (n : ℕ). unless wrong n) (length-map ds f)
 
 -- the tests of a lattice, of what the code counts
@@ -35,7 +35,7 @@ pub lattice-tests : (most : Limits) (kind : Kind) (d : Data) → draft_fault mos
     (unless (wrong_list entry.Coupling (member_list (codes "couplings") d)) (length (items_at (codes "couplings") d))) (wrong_seam (get (codes "seam") d))
 lattice-tests most kind d = λ i. lattice_draft_fault most kind (size_at (codes "rows") d) (size_at (codes "cols") d)
     (told value_number (wrong_list entry.Coupling (member_list (codes "couplings") d)) (items_at (codes "couplings") d) i)
-    (wrong-unless (wrong_seam (get (codes "seam") d)) (option_map indices_of (get (codes "seam") d)) i)
+    (wrong-unless (wrong_seam (get (codes "seam") d)) (option_map value_indices (get (codes "seam") d)) i)
 
 -- the value of a member of which no entry is wrong
 sound : {X : Type 0} (wrong : Option ℕ) (other x : X) → wrong ≡ None → value_or other (unless wrong x) ≡ x
@@ -45,25 +45,25 @@ sound wrong other x none = rw none refl
 pub lattice-said : (kind : Kind) (d : Data) (rows cols : ℕ) (js : List ℤ) (seam : Option (List ℕ)) → size_at (codes "rows") d ≡ Some rows
     → size_at (codes "cols") d ≡ Some cols → wrong_list entry.Coupling (member_list (codes "couplings") d) ≡ None
     → js ≡ map value_number (items_at (codes "couplings") d) → wrong_seam (get (codes "seam") d) ≡ None
-    → seam ≡ option_map indices_of (get (codes "seam") d)
+    → seam ≡ option_map value_indices (get (codes "seam") d)
     → reseamed seam (lattice kind rows cols js) ≡ drafted (OfLattice (lattice_draft kind d))
 lattice-said kind d rows cols js seam r c fit j apart s =
     let list : js ≡ _ = j ∙ sym (sound (wrong_list entry.Coupling (member_list (codes "couplings") d)) []
     (map value_number (items_at (codes "couplings") d)) fit) in
-    let cut : seam ≡ _ = s ∙ sym (sound (wrong_seam (get (codes "seam") d)) None (option_map indices_of (get (codes "seam") d)) apart) in
+    let cut : seam ≡ _ = s ∙ sym (sound (wrong_seam (get (codes "seam") d)) None (option_map value_indices (get (codes "seam") d)) apart) in
     λ i. reseamed (cut i) (lattice kind (unwrap_or (sym r i) 0) (unwrap_or (sym c i) 0) (list i))
 
 -- the tests of a general instance, of what the code counts
 pub general-tests : (most : Limits) (d : Data)
-    → general_draft_fault most (size_at (codes "n") d) (counted (general_draft d).bonds) (wrong_entry (general_draft d).rotation)
+    → general_draft_fault most (size_at (codes "n") d) (read_length (general_draft d).bonds) (wrong_entry (general_draft d).rotation)
     (wrong_entry (general_draft d).seam)
     ≡ general_draft_fault most (size_at (codes "n") d)
     (unless (wrong_list (entry.Bond (member_spins d)) (member_list (codes "bonds") d)) (length (items_at (codes "bonds") d)))
     (wrong_rotation (member_spins d) (member_list (codes "rotation") d)) (wrong_seam (get (codes "seam") d))
 general-tests most d = λ i. general_draft_fault most (size_at (codes "n") d)
     (told value_bond (wrong_list (entry.Bond (member_spins d)) (member_list (codes "bonds") d)) (items_at (codes "bonds") d) i)
-    (wrong-unless (wrong_rotation (member_spins d) (member_list (codes "rotation") d)) (map indices_of (items_at (codes "rotation") d)) i)
-    (wrong-unless (wrong_seam (get (codes "seam") d)) (option_map indices_of (get (codes "seam") d)) i)
+    (wrong-unless (wrong_rotation (member_spins d) (member_list (codes "rotation") d)) (map value_indices (items_at (codes "rotation") d)) i)
+    (wrong-unless (wrong_seam (get (codes "seam") d)) (option_map value_indices (get (codes "seam") d)) i)
 
 -- the bonds, the rotation and the seam that the members say
 pub bonds-said : (d : Data) → wrong_list (entry.Bond (member_spins d)) (member_list (codes "bonds") d) ≡ None
@@ -73,13 +73,13 @@ bonds-said d fit = sound _ [] (map value_bond (items_at (codes "bonds") d)) fit
 -- the general instance that the members say
 pub general-said : (d : Data) (n : ℕ) (bonds : List Bond) (rotation : List (List ℕ)) (seam : Option (List ℕ)) → size_at (codes "n") d ≡ Some n
     → bonds ≡ value_or [] (general_draft d).bonds → wrong_rotation (member_spins d) (member_list (codes "rotation") d) ≡ None
-    → rotation ≡ map indices_of (items_at (codes "rotation") d) → wrong_seam (get (codes "seam") d) ≡ None
-    → seam ≡ option_map indices_of (get (codes "seam") d)
+    → rotation ≡ map value_indices (items_at (codes "rotation") d) → wrong_seam (get (codes "seam") d) ≡ None
+    → seam ≡ option_map value_indices (get (codes "seam") d)
     → record { n = n; bonds = bonds; rotation = rotation; seam = unwrap_or seam [] } ≡ drafted (OfGeneral (general_draft d))
 general-said d n bonds rotation seam spins b turned r apart s =
     let lists : rotation ≡ _ = r ∙ sym (sound (wrong_rotation (member_spins d) (member_list (codes "rotation") d)) []
-    (map indices_of (items_at (codes "rotation") d)) turned) in
-    let cut : seam ≡ _ = s ∙ sym (sound (wrong_seam (get (codes "seam") d)) None (option_map indices_of (get (codes "seam") d)) apart) in
+    (map value_indices (items_at (codes "rotation") d)) turned) in
+    let cut : seam ≡ _ = s ∙ sym (sound (wrong_seam (get (codes "seam") d)) None (option_map value_indices (get (codes "seam") d)) apart) in
     λ i. record { n = unwrap_or (sym spins i) 0; bonds = b i; rotation = lists i; seam = unwrap_or (cut i) [] }
 
 -- there is a list for each spin

@@ -1,4 +1,4 @@
--- The members of an instance in JSON: which may stand, and what their data says, as a draft.
+-- The members of an instance in JSON: which are allowed, and what their data says, as a draft.
 use Rattle.std.specs.Prelude.{ℕ, ◌^◌, ◌==◌, ℤ, pos, int_le, nat_lt, unsigned_abs, Bool, false, not, ◌&&◌, ◌||◌, if◌then◌else◌, List, [], ◌∷◌, length, map, slice_index_or, position, codes, Option, Some, None, option_map, option_and_then, is_some, unwrap_or}
 use Rattle.std.specs.List.{list_all}
 use Rattle.std.specs.Str.{bytes_eq}
@@ -26,7 +26,7 @@ abbrev pub member_names : Members → List (List ℕ)
 member_names no_members = []
 member_names (member name d ms) = name ∷ member_names ms
 
--- the names of the members of a value, and none where it is no object
+-- the names of the members of a value, and none if it is no object
 abbrev pub names_in : Data → List (List ℕ)
 names_in d = unwrap_or (option_map member_names (as_object d)) []
 
@@ -42,19 +42,19 @@ natural_number d = option_and_then (λ z. if int_le (pos 0) z then Some (unsigne
 abbrev pub index_number : Data → Option ℕ
 index_number d = option_and_then (λ n. if nat_lt n (2 ^ 32) then Some n else None) (natural_number d)
 
--- the whole number of a value, and 0 where it is none
+-- the whole number of a value, and 0 if it is none
 abbrev pub value_number : Data → ℤ
 value_number d = unwrap_or (whole_number d) (pos 0)
 
--- the index of a value, and 0 where it is none
-abbrev pub index_of : Data → ℕ
-index_of d = unwrap_or (index_number d) 0
+-- the index of a value, and 0 if it is none
+abbrev pub value_index : Data → ℕ
+value_index d = unwrap_or (index_number d) 0
 
 -- a value as a list
 abbrev pub list_in : Data → Option (List Data)
 list_in d = option_map item_list (as_array d)
 
--- the items of a value, and none where it is no list
+-- the items of a value, and none if it is no list
 abbrev pub items_in : Data → List Data
 items_in d = unwrap_or (list_in d) []
 
@@ -64,21 +64,21 @@ item_at ds i = slice_index_or ds i null
 
 -- the bond of three numbers: its two ends and its coupling
 abbrev pub triple : List Data → Bond
-triple ds = record { u = index_of (item_at ds 0); v = index_of (item_at ds 1); j = value_number (item_at ds 2) }
+triple ds = record { u = value_index (item_at ds 0); v = value_index (item_at ds 1); j = value_number (item_at ds 2) }
 
 -- a value as a bond
 abbrev pub value_bond : Data → Bond
 value_bond d = triple (items_in d)
 
 -- a value as a list of indices
-abbrev pub indices_of : Data → List ℕ
-indices_of d = map index_of (items_in d)
+abbrev pub value_indices : Data → List ℕ
+value_indices d = map value_index (items_in d)
 
 -- the member of a name as a list
 abbrev pub member_list : List ℕ → Data → Option (List Data)
 member_list name d = option_and_then list_in (get name d)
 
--- the items of the member of a name, and none where it is no list
+-- the items of the member of a name, and none if it is no list
 abbrev pub items_at : List ℕ → Data → List Data
 items_at name d = unwrap_or (member_list name d) []
 
@@ -124,12 +124,12 @@ is_entry entry.Index d = is_some (index_number d)
 abbrev pub first_wrong : Entry → List Data → Option ℕ
 first_wrong what ds = position (λ d. not (is_entry what d)) ds
 
--- the entry at which a list is wrong, and 0 where there is no list
+-- the entry at which a list is wrong, and 0 if there is no list
 abbrev pub wrong_list : Entry → Option (List Data) → Option ℕ
 wrong_list what None = Some 0
 wrong_list what (Some ds) = first_wrong what ds
 
--- the entry at which a rotation of n spins is wrong, and 0 where it has not n lists
+-- the entry at which a rotation of n spins is wrong, and 0 if it has not n lists
 abbrev pub wrong_rotation : ℕ → Option (List Data) → Option ℕ
 wrong_rotation n None = Some 0
 wrong_rotation n (Some ds) = if length ds == n then first_wrong entry.Darts ds else Some 0
@@ -145,9 +145,9 @@ read_list wrong entry_of name d = unless (wrong (member_list name d)) (map entry
 
 -- the seam, if there is one, unless an entry is wrong
 abbrev pub read_seam : Option Data → Read (Option (List ℕ))
-read_seam seam = unless (wrong_seam seam) (option_map indices_of seam)
+read_seam seam = unless (wrong_seam seam) (option_map value_indices seam)
 
--- the number of spins, and 0 where it is missing
+-- the number of spins, and 0 if it is missing
 abbrev pub member_spins : Data → ℕ
 member_spins d = unwrap_or (size_at (codes "n") d) 0
 
@@ -166,7 +166,7 @@ abbrev pub general_draft : Data → GeneralDraft
 general_draft d = record {
   spins = size_at (codes "n") d;
   bonds = read_list (wrong_list (entry.Bond (member_spins d))) value_bond (codes "bonds") d;
-  rotation = read_list (wrong_rotation (member_spins d)) indices_of (codes "rotation") d;
+  rotation = read_list (wrong_rotation (member_spins d)) value_indices (codes "rotation") d;
   seam = read_seam (get (codes "seam") d);
 }
 

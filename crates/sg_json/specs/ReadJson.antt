@@ -15,7 +15,7 @@ use Rattle.sg_reader.specs.Field.{without_marks}
 use Rattle.sg_json.specs.Members.{draft_of, form_in, is_known, names_in}
 use Rattle.sg_limits.specs.Limits.{json_limit}
 
--- the bytes behind the byte-order marks are UTF-8, and `serde_json`'s own definition reads the data from them
+-- the bytes after the byte-order marks are UTF-8, and `serde_json`'s own definition reads the data from them
 pub record SaysData (bytes : List ℕ) (d : Data) : Type 0 where
   pub utf8 : IsUtf8 (without_marks bytes)
   pub reads : read (without_marks bytes) ≡ Some d

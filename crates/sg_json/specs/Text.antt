@@ -11,6 +11,6 @@ abbrev pub opens : List ℕ → Bool
 opens [] = false
 opens (byte ∷ rest) = byte == 123
 
--- the first byte that is no white space, behind all byte-order marks, is `{`
+-- the first byte that is no white space, after all byte-order marks, is `{`
 abbrev pub is_object_text : List ℕ → Bool
 is_object_text bytes = opens (after_front is_white (without_marks bytes))

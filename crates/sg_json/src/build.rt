@@ -1,7 +1,7 @@
 ghost use Rattle.std.specs.Prelude.{◌≡◌, codes, map, option_map, IfOk};
 ghost use Rattle.serde_json.specs.Find.{get};
 ghost use Rattle.serde_json.specs.View.{view};
-ghost use Rattle.sg_json.specs.Members.{index_of, indices_of, item_at, value_bond, value_number};
+ghost use Rattle.sg_json.specs.Members.{value_index, value_indices, item_at, value_bond, value_number};
 
 use super::NoMemory;
 use super::value::{index_or_zero, items, number_or_zero};
@@ -19,15 +19,15 @@ pub(crate) fn couplings(alloc: Global, items: &[Value]) -> Result<Couplings, NoM
 
 // The indices of a list: the bonds of a seam, or the darts of a spin.
 fn indices(alloc: Global, value: &Value) -> Result<BondList, NoMemory>
-    ensures { IfOk result (λ l. l ≡ indices_of (view value.now)) }
+    ensures { IfOk result (λ l. l ≡ value_indices (view value.now)) }
 {
     let list = items(value).iter().map(index_or_zero).collect(alloc)?;
     Ok(BondList::from_vec(list))
 }
 
-/// The bonds of the seam, if it stands.
+/// The bonds of the seam, if it is given.
 pub(crate) fn seam(alloc: Global, value: &Value) -> Result<Option<BondList>, NoMemory>
-    ensures { IfOk result (λ o. o ≡ option_map indices_of (get (codes "seam") (view value.now))) }
+    ensures { IfOk result (λ o. o ≡ option_map value_indices (get (codes "seam") (view value.now))) }
 {
     match value.get("seam") {
         Some(list) => Ok(Some(indices(alloc, list)?)),
@@ -37,7 +37,7 @@ pub(crate) fn seam(alloc: Global, value: &Value) -> Result<Option<BondList>, NoM
 
 // The index at a place of a list, and 0 past its end.
 fn index_at(numbers: &[Value], i: usize) -> u32
-    ensures { result ≡ index_of (item_at (map view numbers.now) i) }
+    ensures { result ≡ value_index (item_at (map view numbers.now) i) }
 {
     numbers.get(i).map_or(0, index_or_zero)
 }
@@ -74,7 +74,7 @@ pub(crate) fn bonds(alloc: Global, items: &[Value]) -> Result<Bonds, NoMemory>
 
 /// The darts of each spin.
 pub(crate) fn rotation(alloc: Global, lists: &[Value]) -> Result<Rotation, NoMemory>
-    ensures { IfOk result (λ l. l ≡ map (λ v. indices_of (view v)) lists.now) }
+    ensures { IfOk result (λ l. l ≡ map (λ v. value_indices (view v)) lists.now) }
 {
     let mut rotation = Rotation::new(alloc);
     for list in lists {

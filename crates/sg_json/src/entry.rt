@@ -42,7 +42,7 @@ fn is_index_list(value: &Value) -> bool
 }
 
 impl Entry {
-    // Whether a value may stand in the list.
+    // Whether a value may appear in the list.
     fn fits(self, value: &Value) -> bool
         ensures { result ≡ is_entry self (view value.now) }
     {
@@ -55,7 +55,7 @@ impl Entry {
     }
 }
 
-// The first item that may not stand in the list.
+// The first item that may not appear in the list.
 fn first_misfit(items: &[Value], what: Entry) -> Option<usize>
     ensures { result ≡ first_wrong what (map view items.now) }
 {
@@ -80,7 +80,7 @@ pub(crate) fn wrong_rotation(list: Option<&[Value]>, n: u64) -> Option<usize>
     }
 }
 
-/// The entry at which the seam is wrong, if it stands and one is.
+/// The entry at which the seam is wrong, if it is given and an entry is wrong.
 pub(crate) fn wrong_seam(value: &Value) -> Option<usize>
     ensures { result ≡ wrong_seam_in_data (get (codes "seam") (view value.now)) }
 {

@@ -49,7 +49,7 @@ fn read_value(alloc: Global, value: &Value) -> Result<Instance, Fault>
 
 /// Reads the instance that an input stands for as one JSON object.
 ///
-/// Byte-order marks at the front are passed over. Of a member that stands twice the last counts. A
+/// Byte-order marks at the front are passed over. If a member is repeated, the last one counts. A
 /// whole number is one that `serde_json` reads as such, from -9223372036854775807 to
 /// 9223372036854775807; `1.0`, `1e2` and `-0` are none.
 ///
@@ -57,7 +57,7 @@ fn read_value(alloc: Global, value: &Value) -> Result<Instance, Fault>
 /// - A lattice has `rows`, `cols` and the list `couplings`, in the order of its bonds.
 /// - A general instance has `n`, the list `bonds` of lists of two spins and a coupling, and the list
 ///   `rotation` with the list of the darts of each spin, in cyclic order.
-/// - `seam` may give the bonds of the seam. No other member may stand.
+/// - `seam` may give the bonds of the seam. No other member may appear.
 ///
 /// # Errors
 /// The refusal of the first test that fails, in this order: `JsonTooLong` above 67108864 bytes;

@@ -30,7 +30,7 @@ fn opens(text: &[u8]) -> bool
 }
 
 /// Whether an input is JSON: its first byte that is no white space, behind all byte-order marks, is
-/// `{`. In time linear in what stands in front of it, and without memory.
+/// `{`. In time linear in what precedes it, and without allocating.
 pub fn is_json(bytes: &[u8]) -> bool
     ensures { result ≡ is_object_text bytes.now }
 {

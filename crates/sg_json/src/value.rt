@@ -1,6 +1,6 @@
 ghost use Rattle.std.specs.Prelude.{◌≡◌, ◌<◌, ◌^◌, map, option_map, IfSome};
 ghost use Rattle.serde_json.specs.View.{view};
-ghost use Rattle.sg_json.specs.Members.{index_number as index_in_data, index_of, items_at as items_in_member, items_in, list_in, member_list, natural_number as natural_in_data, size_at, value_number};
+ghost use Rattle.sg_json.specs.Members.{index_number as index_in_data, value_index, items_at as items_in_member, items_in, list_in, member_list, natural_number as natural_in_data, size_at, value_number};
 
 use serde_json::Value;
 
@@ -30,7 +30,7 @@ pub(crate) fn number_or_zero(value: &Value) -> i64
 
 /// The index of a value, and 0 where it has none.
 pub(crate) fn index_or_zero(value: &Value) -> u32
-    ensures { result ≡ index_of (view value.now) }
+    ensures { result ≡ value_index (view value.now) }
 {
     index(value).unwrap_or(0)
 }

@@ -1,7 +1,7 @@
 -- How many bonds of a step stand before spin (r, c), row by row.
 use Rattle.std.proofs.Common.{◌≡◌, ◌⊎◌, inl, inr, ℕ, suc, ◌+◌, ◌*◌, ◌/◌, ◌%◌, ◌<◌, ◌≤◌, min, Bool, true, false, cond, ◌&&◌, eqb, ltb, refl, ◌∙◌, ap, arith}
 use Rattle.std.proofs.lemmas.Bool.{cases_lt, cases_eq, lt-ltb, le-ltb, eq-eqb, ne_eqb}
-use Rattle.sg_lattice.specs.Tables.{south_before}
+use Rattle.sg_lattice.specs.Tables.{vertical_bonds_before}
 use Rattle.sg_lattice.proofs.Ranks.{CountsRows}
 
 -- a row of W bonds, between W + 1 columns
@@ -93,10 +93,10 @@ half_row r c = cond (eqb (r % 2) 1) (c / 2) ((c + 1) / 2)
 
 -- the vertical bonds of a hexagonal lattice, row by row
 pub half_counts : (R C : ℕ) → CountsRows (λ r c. ltb (r + 1) R && eqb ((r + c) % 2) 0) R C
-    (λ r c. south_before C r + cond (ltb (r + 1) R) (half_row r c) 0)
-half_counts R C = rows_but_last R C (λ r c. eqb ((r + c) % 2) 0) (south_before C) half_row none first (λ r c b. more r c) next
+    (λ r c. vertical_bonds_before C r + cond (ltb (r + 1) R) (half_row r c) 0)
+half_counts R C = rows_but_last R C (λ r c. eqb ((r + c) % 2) 0) (vertical_bonds_before C) half_row none first (λ r c b. more r c) next
   where
-    none : south_before C 0 ≡ 0
+    none : vertical_bonds_before C 0 ≡ 0
     none = omega arith
 
     odd_row : (r x y : ℕ) → r % 2 ≡ 1 → cond {A = ℕ} (eqb (r % 2) 1) x y ≡ x
@@ -127,10 +127,10 @@ half_counts R C = rows_but_last R C (λ r c. eqb ((r + c) % 2) 0) (south_before 
         by_case (inr o) (inl e) = omega (arith, even_row r (suc c / 2) ((suc c + 1) / 2) o, even_row r (c / 2) ((c + 1) / 2) o, yes' e)
         by_case (inr o) (inr e) = omega (arith, even_row r (suc c / 2) ((suc c + 1) / 2) o, even_row r (c / 2) ((c + 1) / 2) o, no' e)
 
-    next : (r : ℕ) → south_before C (suc r) ≡ south_before C r + half_row r C
+    next : (r : ℕ) → vertical_bonds_before C (suc r) ≡ vertical_bonds_before C r + half_row r C
     next r = by_case (cases_eq (r % 2) 1)
       where
-        by_case : (r % 2 ≡ 1) ⊎ (r % 2 ≡ 1 → ⊥) → south_before C (suc r) ≡ south_before C r + half_row r C
+        by_case : (r % 2 ≡ 1) ⊎ (r % 2 ≡ 1 → ⊥) → vertical_bonds_before C (suc r) ≡ vertical_bonds_before C r + half_row r C
         by_case (inl o) =
             let half : suc r / 2 ≡ r / 2 + 1 = omega arith in
             let product : suc r / 2 * C ≡ r / 2 * C + C = ap (λ n. n * C) half ∙ omega arith in

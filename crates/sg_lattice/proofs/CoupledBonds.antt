@@ -5,7 +5,7 @@ use Rattle.std.proofs.lemmas.List.{get_or_append_left, get_or_push, length_push}
 use Rattle.std.proofs.lemmas.List.FromFn.{fill_by_all, get_or-map-range_with_len, length-map-range_with_len}
 use Rattle.sg_model.specs.declared.bond.Bond.{Bond}
 use Rattle.sg_lattice.specs.declared.kind.Ends.{Ends}
-use Rattle.sg_lattice.specs.Tables.{coupled, coupled_bond, bond_ends}
+use Rattle.sg_lattice.specs.Tables.{bonds_between, coupled_bond, bond_ends}
 
 abbrev no_bond : Bond
 no_bond = record { u = 0; v = 0; j = pos 0 }
@@ -14,27 +14,28 @@ module _ (js : List ℤ) where
   abbrev bond_of : List Ends → ℕ → Bond
   bond_of ends k = coupled_bond (bond_ends ends k) (get_or js k (pos 0))
 
-  pub length-coupled : (ends : List Ends) → length (coupled ends js) ≡ length ends
+  pub length-coupled : (ends : List Ends) → length (bonds_between ends js) ≡ length ends
   length-coupled ends = length-map-range_with_len (bond_of ends) 0 (length ends)
 
   -- the bond between the next ends, with the next coupling
-  pub coupled_more : (ends : List Ends) (e : Ends) → coupled ends js ++ coupled_bond e (get_or js (length ends) (pos 0)) ∷ [] ≡ coupled (ends ++ e ∷ [])
+  pub coupled_more : (ends : List Ends) (e : Ends) →
+      bonds_between ends js ++ coupled_bond e (get_or js (length ends) (pos 0)) ∷ [] ≡ bonds_between (ends ++ e ∷ [])
       js
   coupled_more ends e =
-      fill_by_all (bond_of (ends ++ e ∷ [])) (coupled ends js ++ last ∷ []) (length (ends ++ e ∷ [])) no_bond
-      (length_push (coupled ends js) last ∙ ap (λ n. n + 1) (length-coupled ends) ∙ sym (length_push ends e)) each
+      fill_by_all (bond_of (ends ++ e ∷ [])) (bonds_between ends js ++ last ∷ []) (length (ends ++ e ∷ [])) no_bond
+      (length_push (bonds_between ends js) last ∙ ap (λ n. n + 1) (length-coupled ends) ∙ sym (length_push ends e)) each
     where
       last : Bond
       last = coupled_bond e (get_or js (length ends) (pos 0))
 
-      each : (k : ℕ) → k < length (ends ++ e ∷ []) → get_or (coupled ends js ++ last ∷ []) k no_bond ≡ bond_of (ends ++ e ∷ []) k
+      each : (k : ℕ) → k < length (ends ++ e ∷ []) → get_or (bonds_between ends js ++ last ∷ []) k no_bond ≡ bond_of (ends ++ e ∷ []) k
       each k l = elim (cases_lt k (length ends)) [
         | inl before ↦
-            get_or_append_left (coupled ends js) (last ∷ []) no_bond k (omega (arith, before, length-coupled ends))
+            get_or_append_left (bonds_between ends js) (last ∷ []) no_bond k (omega (arith, before, length-coupled ends))
             ∙ get_or-map-range_with_len (bond_of ends) 0 (length ends) k k no_bond before (omega arith)
             ∙ ap (λ x. coupled_bond x (get_or js k (pos 0))) (sym (get_or_append_left ends (e ∷ []) (record { u = 0; v = 0 }) k before))
         | inr behind ↦
             let at : length ends ≡ k = omega (arith, behind, l, length_push ends e) in
-            get_or_push (coupled ends js) last no_bond k (length-coupled ends ∙ at)
+            get_or_push (bonds_between ends js) last no_bond k (length-coupled ends ∙ at)
             ∙ ap₂ (λ x n. coupled_bond x (get_or js n (pos 0))) (sym (get_or_push ends e (record { u = 0; v = 0 }) k at)) at
       ]

@@ -5,7 +5,7 @@ use Rattle.sg_lattice.specs.declared.kind.Kind.{Kind}
 use Rattle.sg_lattice.specs.declared.kind.Kind.TheVariants.{Square, Triangular, Hexagonal, Cylinder}
 use Rattle.sg_lattice.specs.declared.kind.Step.{Step}
 use Rattle.sg_lattice.specs.declared.kind.Step.TheVariants.{East, South, SouthEast}
-use Rattle.sg_lattice.specs.Tables.{IsSize, bond_number, bond_total, has_bond, neighbour, south_before}
+use Rattle.sg_lattice.specs.Tables.{IsSize, bond_number, bond_total, has_bond, neighbour, vertical_bonds_before}
 use Rattle.sg_lattice.proofs.Ranks.{CountsRows}
 use Rattle.sg_lattice.proofs.Grids.{IsGridStep}
 use Rattle.sg_lattice.proofs.Steps.{column_before, diagonal_step, east_step, round_step, south_step}
@@ -43,7 +43,7 @@ source_col kind SouthEast C r c = c - 1
 abbrev pub step_total : Kind → Step → ℕ → ℕ → ℕ
 step_total Cylinder East R C = R * C
 step_total kind East R C = R * (C - 1)
-step_total Hexagonal South R C = south_before C (R - 1)
+step_total Hexagonal South R C = vertical_bonds_before C (R - 1)
 step_total kind South R C = (R - 1) * C
 step_total Triangular SouthEast R C = (R - 1) * (C - 1)
 step_total kind SouthEast R C = 0
@@ -57,7 +57,7 @@ step_base kind SouthEast R C = step_total kind East R C + step_total kind South 
 abbrev pub before : Kind → Step → ℕ → ℕ → ℕ → ℕ → ℕ
 before Cylinder East R C r c = r * C + c
 before kind East R C r c = r * (C - 1) + min c (C - 1)
-before Hexagonal South R C r c = south_before C r + cond (ltb (r + 1) R) (half_row r c) 0
+before Hexagonal South R C r c = vertical_bonds_before C r + cond (ltb (r + 1) R) (half_row r c) 0
 before kind South R C r c = r * C + cond (ltb (r + 1) R) c 0
 before Triangular SouthEast R C r c = r * (C - 1) + cond (ltb (r + 1) R) (min c (C - 1)) 0
 before kind SouthEast R C r c = 0

@@ -12,7 +12,7 @@ use Rattle.sg_lattice.specs.declared.kind.Kind.{Kind}
 use Rattle.sg_lattice.specs.declared.kind.Step.{Step}
 use Rattle.sg_lattice.specs.declared.kind.Step.TheVariants.{East, South, SouthEast}
 use Rattle.sg_lattice.specs.declared.kind.Ends.{Ends}
-use Rattle.sg_lattice.specs.Tables.{IsSize, bond_number, bond_total, coupled_bond, bond_ends, ends_from, ends_of, has_bond, lattice, neighbour, starts}
+use Rattle.sg_lattice.specs.Tables.{IsSize, bond_number, bond_total, coupled_bond, bond_ends, ends_from, ends_of, has_bond, lattice, neighbour, bond_origins}
 use Rattle.sg_lattice.proofs.Ranks.{rank_all}
 use Rattle.sg_lattice.proofs.Grids.{IsLaid, laid}
 use Rattle.sg_lattice.proofs.KindSteps.{all_total, before, counts, end_col, end_row, grid_step, neighbour_is, number_is, some_cols, step_base, step_total, total_is}
@@ -31,25 +31,26 @@ later_part front rest n k e = ap (λ m. bond_ends (front ++ rest) (m + k)) (sym 
 
 module _ (kind : Kind) (R C : ℕ) (size : IsSize kind R C) where
   -- how many bonds a step has
-  pub length-starts : (step : Step) → length (starts kind step R C) ≡ step_total kind step R C
+  pub length-starts : (step : Step) → length (bond_origins kind step R C) ≡ step_total kind step R C
   length-starts step = rank_all (has_bond kind step R C) R C (before kind step R C) (counts kind step R C size) size.rows ∙ total_is kind step R C size
 
-  part_length : (step : Step) → length (map (ends_from kind step R C) (starts kind step R C)) ≡ step_total kind step R C
-  part_length step = length-map (starts kind step R C) (ends_from kind step R C) ∙ length-starts step
+  part_length : (step : Step) → length (map (ends_from kind step R C) (bond_origins kind step R C)) ≡ step_total kind step R C
+  part_length step = length-map (bond_origins kind step R C) (ends_from kind step R C) ∙ length-starts step
 
   -- there are as many ends as bonds
   pub length-ends_of : length (ends_of kind R C) ≡ bond_total kind R C
   length-ends_of =
-      let outer : length (ends_of kind R C) ≡ length (map (ends_from kind East R C) (starts kind East R C)) + length
-      (map (ends_from kind South R C) (starts kind South R C) ++ map (ends_from kind SouthEast R C) (starts kind SouthEast R C)) =
-      length-append (map (ends_from kind East R C) (starts kind East R C))
-      (map (ends_from kind South R C) (starts kind South R C) ++ map (ends_from kind SouthEast R C) (starts kind SouthEast R C)) in
-      let inner : length (map (ends_from kind South R C) (starts kind South R C) ++ map (ends_from kind SouthEast R C) (starts kind SouthEast R C)) ≡
-      length (map (ends_from kind South R C) (starts kind South R C)) + length (map (ends_from kind SouthEast R C) (starts kind SouthEast R C)) =
-      length-append (map (ends_from kind South R C) (starts kind South R C)) (map (ends_from kind SouthEast R C) (starts kind SouthEast R C)) in
-      joined (length (ends_of kind R C)) (length (map (ends_from kind East R C) (starts kind East R C)))
-      (length (map (ends_from kind South R C) (starts kind South R C) ++ map (ends_from kind SouthEast R C) (starts kind SouthEast R C)))
-      (length (map (ends_from kind South R C) (starts kind South R C))) (length (map (ends_from kind SouthEast R C) (starts kind SouthEast R C)))
+      let outer : length (ends_of kind R C) ≡ length (map (ends_from kind East R C) (bond_origins kind East R C)) + length
+      (map (ends_from kind South R C) (bond_origins kind South R C) ++ map (ends_from kind SouthEast R C) (bond_origins kind SouthEast R C)) =
+      length-append (map (ends_from kind East R C) (bond_origins kind East R C))
+      (map (ends_from kind South R C) (bond_origins kind South R C) ++ map (ends_from kind SouthEast R C) (bond_origins kind SouthEast R C)) in
+      let inner :
+      length (map (ends_from kind South R C) (bond_origins kind South R C) ++ map (ends_from kind SouthEast R C) (bond_origins kind SouthEast R C)) ≡
+      length (map (ends_from kind South R C) (bond_origins kind South R C)) + length (map (ends_from kind SouthEast R C) (bond_origins kind SouthEast R C)) =
+      length-append (map (ends_from kind South R C) (bond_origins kind South R C)) (map (ends_from kind SouthEast R C) (bond_origins kind SouthEast R C)) in
+      joined (length (ends_of kind R C)) (length (map (ends_from kind East R C) (bond_origins kind East R C)))
+      (length (map (ends_from kind South R C) (bond_origins kind South R C) ++ map (ends_from kind SouthEast R C) (bond_origins kind SouthEast R C)))
+      (length (map (ends_from kind South R C) (bond_origins kind South R C))) (length (map (ends_from kind SouthEast R C) (bond_origins kind SouthEast R C)))
       (step_total kind East R C) (step_total kind South R C) (step_total kind SouthEast R C) outer inner (part_length East) (part_length South)
       (part_length SouthEast)
       ∙ all_total kind R C
@@ -57,29 +58,29 @@ module _ (kind : Kind) (R C : ℕ) (size : IsSize kind R C) where
       joined : (n a bc b c x y z : ℕ) → n ≡ a + bc → bc ≡ b + c → a ≡ x → b ≡ y → c ≡ z → n ≡ x + y + z
       joined n a bc b c x y z p q e f g = omega arith
 
-  listed : (step : Step) (k : ℕ) → k < length (starts kind step R C) →
-      bond_ends (ends_of kind R C) (step_base kind step R C + k) ≡ ends_from kind step R C (get_or (starts kind step R C) k 0)
+  listed : (step : Step) (k : ℕ) → k < length (bond_origins kind step R C) →
+      bond_ends (ends_of kind R C) (step_base kind step R C + k) ≡ ends_from kind step R C (get_or (bond_origins kind step R C) k 0)
   listed East k l =
       let e : 0 + k ≡ k = omega arith in
       ap (bond_ends (ends_of kind R C)) e
-      ∙ first_part (ends_from kind East R C) (starts kind East R C)
-      (map (ends_from kind South R C) (starts kind South R C) ++ map (ends_from kind SouthEast R C) (starts kind SouthEast R C)) k l
+      ∙ first_part (ends_from kind East R C) (bond_origins kind East R C)
+      (map (ends_from kind South R C) (bond_origins kind South R C) ++ map (ends_from kind SouthEast R C) (bond_origins kind SouthEast R C)) k l
   listed South k l =
-      later_part (map (ends_from kind East R C) (starts kind East R C))
-      (map (ends_from kind South R C) (starts kind South R C) ++ map (ends_from kind SouthEast R C) (starts kind SouthEast R C))
+      later_part (map (ends_from kind East R C) (bond_origins kind East R C))
+      (map (ends_from kind South R C) (bond_origins kind South R C) ++ map (ends_from kind SouthEast R C) (bond_origins kind SouthEast R C))
       (step_total kind East R C) k (part_length East)
-      ∙ first_part (ends_from kind South R C) (starts kind South R C) (map (ends_from kind SouthEast R C) (starts kind SouthEast R C)) k l
+      ∙ first_part (ends_from kind South R C) (bond_origins kind South R C) (map (ends_from kind SouthEast R C) (bond_origins kind SouthEast R C)) k l
   listed SouthEast k l =
       let e : step_total kind East R C + step_total kind South R C + k ≡ step_total kind East R C + (step_total kind South R C + k) = omega arith in
       ap (bond_ends (ends_of kind R C)) e
-      ∙ later_part (map (ends_from kind East R C) (starts kind East R C))
-      (map (ends_from kind South R C) (starts kind South R C) ++ map (ends_from kind SouthEast R C) (starts kind SouthEast R C))
+      ∙ later_part (map (ends_from kind East R C) (bond_origins kind East R C))
+      (map (ends_from kind South R C) (bond_origins kind South R C) ++ map (ends_from kind SouthEast R C) (bond_origins kind SouthEast R C))
       (step_total kind East R C) (step_total kind South R C + k) (part_length East)
-      ∙ later_part (map (ends_from kind South R C) (starts kind South R C)) (map (ends_from kind SouthEast R C) (starts kind SouthEast R C))
+      ∙ later_part (map (ends_from kind South R C) (bond_origins kind South R C)) (map (ends_from kind SouthEast R C) (bond_origins kind SouthEast R C))
       (step_total kind South R C) k (part_length South)
-      ∙ get_or-map (ends_from kind SouthEast R C) (starts kind SouthEast R C) k 0 no_ends l
+      ∙ get_or-map (ends_from kind SouthEast R C) (bond_origins kind SouthEast R C) k 0 no_ends l
 
-  room : (step : Step) → step_base kind step R C + length (starts kind step R C) ≤ length (ends_of kind R C)
+  room : (step : Step) → step_base kind step R C + length (bond_origins kind step R C) ≤ length (ends_of kind R C)
   room East = omega (arith, length-starts East, length-ends_of, all_total kind R C)
   room South = omega (arith, length-starts South, length-ends_of, all_total kind R C)
   room SouthEast = omega (arith, length-starts SouthEast, length-ends_of, all_total kind R C)

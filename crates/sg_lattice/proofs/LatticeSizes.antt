@@ -14,7 +14,7 @@ use Rattle.sg_model.specs.Seam.{IsSeam}
 use Rattle.sg_model.specs.WellFormed.{IsInstance}
 use Rattle.sg_lattice.specs.declared.kind.Kind.{Kind}
 use Rattle.sg_lattice.specs.declared.kind.Kind.TheVariants.{Square, Triangular, Hexagonal, Cylinder}
-use Rattle.sg_lattice.specs.Tables.{IsSize, bond_total, lattice, south_before}
+use Rattle.sg_lattice.specs.Tables.{IsSize, bond_total, lattice, vertical_bonds_before}
 use Rattle.sg_lattice.proofs.KindSteps.{some_cols}
 use Rattle.sg_lattice.proofs.LatticeBonds.{bond_count_is, lattice_joined}
 use Rattle.sg_lattice.proofs.LatticeRotation.{lattice_rotation}
@@ -97,7 +97,7 @@ few_rows kind R C size = omega (arith, size.few, mul-le R 1 R C (omega arith) (s
 pub few_cols : (kind : Kind) (R C : ℕ) → IsSize kind R C → C ≤ 2 ^ 20
 few_cols kind R C size = omega (arith, size.few, mul-le 1 C R C size.rows (omega arith))
 
-half_rows_few : (R C : ℕ) → 1 ≤ R → south_before C (R - 1) ≤ R * C + C
+half_rows_few : (R C : ℕ) → 1 ≤ R → vertical_bonds_before C (R - 1) ≤ R * C + C
 half_rows_few R C some = omega (arith, mul-le ((R - 1) / 2) C R C (omega arith) (omega arith), most (eqb ((R - 1) % 2) 1))
   where
     most : (t : Bool) → cond t ((C + 1) / 2) 0 ≤ C

@@ -40,15 +40,15 @@ neighbour kind SouthEast R C r c = (r + 1) * C + (c + 1)
 
 -- how many bonds of a hexagonal lattice run to the south from the rows before r: C from each two rows,
 -- and from an even row each second spin
-abbrev pub south_before : ℕ → ℕ → ℕ
-south_before C r = r / 2 * C + (if r % 2 == 1 then (C + 1) / 2 else 0)
+abbrev pub vertical_bonds_before : ℕ → ℕ → ℕ
+vertical_bonds_before C r = r / 2 * C + (if r % 2 == 1 then (C + 1) / 2 else 0)
 
 -- the number of the bond
 abbrev pub bond_number : Kind → Step → ℕ → ℕ → ℕ → ℕ → ℕ
 bond_number Cylinder East R C r c = r * C + c
 bond_number kind East R C r c = r * (C - 1) + c
 bond_number Cylinder South R C r c = R * C + (r * C + c)
-bond_number Hexagonal South R C r c = R * (C - 1) + (south_before C r + c / 2)
+bond_number Hexagonal South R C r c = R * (C - 1) + (vertical_bonds_before C r + c / 2)
 bond_number kind South R C r c = R * (C - 1) + (r * C + c)
 bond_number kind SouthEast R C r c = R * (C - 1) + ((R - 1) * C + (r * (C - 1) + c))
 
@@ -56,12 +56,12 @@ bond_number kind SouthEast R C r c = R * (C - 1) + ((R - 1) * C + (r * (C - 1) +
 abbrev pub bond_total : Kind → ℕ → ℕ → ℕ
 bond_total Square R C = R * (C - 1) + (R - 1) * C
 bond_total Triangular R C = R * (C - 1) + ((R - 1) * C + (R - 1) * (C - 1))
-bond_total Hexagonal R C = R * (C - 1) + south_before C (R - 1)
+bond_total Hexagonal R C = R * (C - 1) + vertical_bonds_before C (R - 1)
 bond_total Cylinder R C = R * C + (R - 1) * C
 
 -- the spins from which such a bond runs, row by row and from west to east
-abbrev pub starts : Kind → Step → ℕ → ℕ → List ℕ
-starts kind step R C = filter (λ i. has_bond kind step R C (i / C) (i % C)) (range_with_len 0 (R * C))
+abbrev pub bond_origins : Kind → Step → ℕ → ℕ → List ℕ
+bond_origins kind step R C = filter (λ i. has_bond kind step R C (i / C) (i % C)) (range_with_len 0 (R * C))
 
 -- the two ends of the bond that runs from spin i
 abbrev pub ends_from : Kind → Step → ℕ → ℕ → ℕ → Ends
@@ -70,49 +70,56 @@ ends_from kind step R C i = record { u = i; v = neighbour kind step R C (i / C) 
 -- the ends of all bonds, in the order of the bonds
 abbrev pub ends_of : Kind → ℕ → ℕ → List Ends
 ends_of kind R C =
-    map (ends_from kind East R C) (starts kind East R C)
-    ++ (map (ends_from kind South R C) (starts kind South R C)
-    ++ map (ends_from kind SouthEast R C) (starts kind SouthEast R C))
+    map (ends_from kind East R C) (bond_origins kind East R C)
+    ++ (map (ends_from kind South R C) (bond_origins kind South R C)
+    ++ map (ends_from kind SouthEast R C) (bond_origins kind SouthEast R C))
 
 -- the ends of bond k
 abbrev pub bond_ends : List Ends → ℕ → Ends
 bond_ends ends k = slice_index_or ends k (record { u = 0; v = 0 })
 
+-- the bond between these ends with this coupling
 abbrev pub coupled_bond : Ends → ℤ → Bond
 coupled_bond ends coupling = record { u = ends.u; v = ends.v; j = coupling }
 
 -- the bonds between given ends with given couplings
-abbrev pub coupled : List Ends → List ℤ → List Bond
-coupled ends couplings =
+abbrev pub bonds_between : List Ends → List ℤ → List Bond
+bonds_between ends couplings =
     map (λ k. coupled_bond (bond_ends ends k) (slice_index_or couplings k (pos 0))) (range_with_len 0 (length ends))
 
 -- the dart that leaves spin (r, c) by its own bond
-abbrev pub forth : Kind → Step → ℕ → ℕ → ℕ → ℕ → List ℕ
-forth kind step R C r c = if has_bond kind step R C r c then (2 * bond_number kind step R C r c) ∷ [] else []
+abbrev pub own_dart : Kind → Step → ℕ → ℕ → ℕ → ℕ → List ℕ
+own_dart kind step R C r c = if has_bond kind step R C r c then (2 * bond_number kind step R C r c) ∷ [] else []
 
 -- the dart that runs back to spin (r, c) by its bond
-abbrev pub back : Kind → Step → ℕ → ℕ → ℕ → ℕ → List ℕ
-back kind step R C r c = if has_bond kind step R C r c then (2 * bond_number kind step R C r c + 1) ∷ [] else []
+abbrev pub reverse_dart : Kind → Step → ℕ → ℕ → ℕ → ℕ → List ℕ
+reverse_dart kind step R C r c = if has_bond kind step R C r c then (2 * bond_number kind step R C r c + 1) ∷ [] else []
 
--- the dart towards each of six directions, where it exists
+-- the dart to the east, if there is a bond
 abbrev pub east : Kind → ℕ → ℕ → ℕ → ℕ → List ℕ
-east kind R C r c = forth kind East R C r c
+east kind R C r c = own_dart kind East R C r c
 
+-- the dart to the north, if there is a bond
 abbrev pub north : Kind → ℕ → ℕ → ℕ → ℕ → List ℕ
-north kind R C r c = if nat_le 1 r then back kind South R C (r - 1) c else []
+north kind R C r c = if nat_le 1 r then reverse_dart kind South R C (r - 1) c else []
 
+-- the dart to the north-west, if there is a bond
 abbrev pub north_west : Kind → ℕ → ℕ → ℕ → ℕ → List ℕ
-north_west kind R C r c = if nat_le 1 r && nat_le 1 c then back kind SouthEast R C (r - 1) (c - 1) else []
+north_west kind R C r c = if nat_le 1 r && nat_le 1 c then reverse_dart kind SouthEast R C (r - 1) (c - 1) else []
 
+-- the dart to the west, if there is a bond; on a cylinder the first column leads back to the last
 abbrev pub west : Kind → ℕ → ℕ → ℕ → ℕ → List ℕ
-west Cylinder R C r c = if nat_le 1 c then back Cylinder East R C r (c - 1) else back Cylinder East R C r (C - 1)
-west kind R C r c = if nat_le 1 c then back kind East R C r (c - 1) else []
+west Cylinder R C r c =
+    if nat_le 1 c then reverse_dart Cylinder East R C r (c - 1) else reverse_dart Cylinder East R C r (C - 1)
+west kind R C r c = if nat_le 1 c then reverse_dart kind East R C r (c - 1) else []
 
+-- the dart to the south, if there is a bond
 abbrev pub south : Kind → ℕ → ℕ → ℕ → ℕ → List ℕ
-south kind R C r c = forth kind South R C r c
+south kind R C r c = own_dart kind South R C r c
 
+-- the dart to the south-east, if there is a bond
 abbrev pub south_east : Kind → ℕ → ℕ → ℕ → ℕ → List ℕ
-south_east kind R C r c = forth kind SouthEast R C r c
+south_east kind R C r c = own_dart kind SouthEast R C r c
 
 -- the darts of spin (r, c), in their cyclic order
 abbrev pub darts : Kind → ℕ → ℕ → ℕ → ℕ → List ℕ
@@ -129,7 +136,7 @@ seam_of kind R C = []
 abbrev pub lattice : Kind → ℕ → ℕ → List ℤ → Ising
 lattice kind R C couplings = record {
   n = R * C;
-  bonds = coupled (ends_of kind R C) couplings;
+  bonds = bonds_between (ends_of kind R C) couplings;
   rotation = map (λ i. darts kind R C (i / C) (i % C)) (range_with_len 0 (R * C));
   seam = seam_of kind R C;
 }

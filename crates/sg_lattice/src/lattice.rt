@@ -2,7 +2,7 @@ ghost use Rattle.std.specs.Prelude.{◌≡◌, ◌<◌, ◌≤◌, ◌+◌, ◌-
 ghost use Rattle.std.specs.List.{range_with_len};
 ghost use Rattle.sg_list.specs.Pieces.{with_more};
 ghost use Rattle.sg_lattice.specs.declared.kind.Ends.{Ends};
-ghost use Rattle.sg_lattice.specs.Tables.{IsSize, bond_total, coupled, coupled_bond, darts, ends_from, ends_of, forth, has_bond, back, lattice, north, north_west, seam_of, starts, west};
+ghost use Rattle.sg_lattice.specs.Tables.{IsSize, bond_total, bonds_between, coupled_bond, darts, ends_from, ends_of, own_dart, has_bond, reverse_dart, lattice, north, north_west, seam_of, bond_origins, west};
 
 use super::NoMemory;
 use super::kind::{Ends, Kind, Step};
@@ -10,7 +10,7 @@ use super::shape::Shape;
 use sg_model::{Bond, BondList, Bonds, Couplings, Instance, Rotation};
 use std::alloc::Global;
 
-/// The number of bonds of a lattice. It takes no memory.
+/// The number of bonds of a lattice. It does not allocate.
 pub fn bond_count(kind: Kind, rows: u32, cols: u32) -> u32
     requires { IsSize kind rows cols }
     ensures { result ≡ bond_total kind rows cols }
@@ -22,7 +22,7 @@ pub fn bond_count(kind: Kind, rows: u32, cols: u32) -> u32
 /// spins. Its seam is that of the cylinder, and empty otherwise.
 ///
 /// # Errors
-/// Only want of memory; the couplings are then dropped.
+/// Only running out of memory; the couplings are then dropped.
 pub fn build(
     alloc: Global,
     kind: Kind,
@@ -74,7 +74,7 @@ impl Shape {
 
     // The bonds of the table, with these couplings.
     fn bonds(self, alloc: Global, j: &Couplings) -> Result<Bonds, NoMemory>
-        ensures { IfOk result (λ bonds. bonds ≡ coupled (ends_of self.kind self.rows self.cols) j.now) }
+        ensures { IfOk result (λ bonds. bonds ≡ bonds_between (ends_of self.kind self.rows self.cols) j.now) }
     {
         let mut bonds = Bonds::new(alloc);
         bonds.reserve(j.len())?;
@@ -86,8 +86,8 @@ impl Shape {
 
     // Adds the bonds of one step, behind those between some ends.
     fn push_bonds(self, step: Step, j: &Couplings, bonds: &mut Bonds) -> Result<(), NoMemory>
-        ensures { OnOk result ((ends : List Ends) → bonds.old ≡ coupled ends j.now → bonds.new ≡ coupled (ends
-            ++ map (ends_from self.kind step self.rows self.cols) (starts self.kind step self.rows self.cols)) j.now) }
+        ensures { OnOk result ((ends : List Ends) → bonds.old ≡ bonds_between ends j.now → bonds.new ≡ bonds_between (ends
+            ++ map (ends_from self.kind step self.rows self.cols) (bond_origins self.kind step self.rows self.cols)) j.now) }
     {
         for i in 0..self.spins() {
             self.push_bond(step, i, j, bonds)?;
@@ -98,7 +98,7 @@ impl Shape {
     // Adds the bond of this step that runs from spin `i`, if there is one.
     fn push_bond(self, step: Step, i: u32, j: &Couplings, bonds: &mut Bonds) -> Result<(), NoMemory>
         requires { i < self.rows * self.cols }
-        ensures { OnOk result ((ends : List Ends) → bonds.old ≡ coupled ends j.now → bonds.new ≡ coupled (ends
+        ensures { OnOk result ((ends : List Ends) → bonds.old ≡ bonds_between ends j.now → bonds.new ≡ bonds_between (ends
             ++ (if has_bond self.kind step self.rows self.cols (i / self.cols) (i % self.cols)
             then ends_from self.kind step self.rows self.cols i ∷ [] else [])) j.now) }
     {
@@ -151,7 +151,7 @@ impl Shape {
         requires some { 0 < length rotation.old }
         requires row { r < self.rows }
         requires col { c < self.cols }
-        ensures { OnOk result (rotation.new ≡ with_more rotation.old (forth self.kind step self.rows self.cols r c)) }
+        ensures { OnOk result (rotation.new ≡ with_more rotation.old (own_dart self.kind step self.rows self.cols r c)) }
     {
         if self.has_bond(step, r, c) {
             rotation.push_item(2 * self.bond_number(step, r, c))?;
@@ -164,7 +164,7 @@ impl Shape {
         requires some { 0 < length rotation.old }
         requires row { r < self.rows }
         requires col { c < self.cols }
-        ensures { OnOk result (rotation.new ≡ with_more rotation.old (back self.kind step self.rows self.cols r c)) }
+        ensures { OnOk result (rotation.new ≡ with_more rotation.old (reverse_dart self.kind step self.rows self.cols r c)) }
     {
         if self.has_bond(step, r, c) {
             rotation.push_item(2 * self.bond_number(step, r, c) + 1)?;

@@ -1,5 +1,5 @@
 ghost use Rattle.std.specs.Prelude.{◌≡◌, ◌<◌, ◌≤◌, ◌+◌, ◌*◌, ◌^◌};
-ghost use Rattle.sg_lattice.specs.Tables.{IsSize, has_bond, neighbour, bond_number, bond_total, south_before};
+ghost use Rattle.sg_lattice.specs.Tables.{IsSize, has_bond, neighbour, bond_number, bond_total, vertical_bonds_before};
 
 use super::kind::{Kind, Step};
 
@@ -81,9 +81,9 @@ impl Shape {
     }
 
     // How many bonds of a hexagonal lattice run to the south from the rows before `r`.
-    fn south_before(self, r: u32) -> u32
+    fn vertical_bonds_before(self, r: u32) -> u32
         requires row { r ≤ self.rows }
-        ensures value { result ≡ south_before self.cols r }
+        ensures value { result ≡ vertical_bonds_before self.cols r }
         ensures few { result ≤ 2 ^ 21 }
     {
         let pairs = self.area(r / 2, self.cols);
@@ -110,7 +110,7 @@ impl Shape {
             Step::South => match self.kind {
                 Kind::Cylinder => self.spins() + (self.area(r, self.cols) + c),
                 Kind::Hexagonal => {
-                    self.area(self.rows, self.cols - 1) + (self.south_before(r) + c / 2)
+                    self.area(self.rows, self.cols - 1) + (self.vertical_bonds_before(r) + c / 2)
                 }
                 Kind::Square | Kind::Triangular => {
                     self.area(self.rows, self.cols - 1) + (self.area(r, self.cols) + c)
@@ -131,7 +131,7 @@ impl Shape {
         match self.kind {
             Kind::Square => east + south,
             Kind::Triangular => east + (south + self.area(self.rows - 1, self.cols - 1)),
-            Kind::Hexagonal => east + self.south_before(self.rows - 1),
+            Kind::Hexagonal => east + self.vertical_bonds_before(self.rows - 1),
             Kind::Cylinder => self.spins() + south,
         }
     }

@@ -10,7 +10,7 @@ pub record IsDraw (z : ℤ) : Type 0 where
   pub low : negsuc 1048575 ≤ℤ z
   pub high : z ≤ℤ pos 1048576
 
--- so many draws were made of a stream, the first ones, and it goes on behind them
+-- so many draws were made of a stream, the first ones, and it continues after them
 pub record Draws (made : ℕ) (old new : ℕ → List ℤ) : Type 0 where
   pub counted : length (old made) ≡ made
   pub goes_on : (c : ℕ) → old (made + c) ≡ old made ++ new c
@@ -19,13 +19,13 @@ pub record Draws (made : ℕ) (old new : ℕ → List ℤ) : Type 0 where
 abbrev pub sign_of : ℕ → ℤ
 sign_of word = if word % 2 == 0 then pos 1 else negsuc 0
 
--- signs by turns, from that of s on
+-- alternating signs, from that of s on
 abbrev pub alternating : ℕ → ℕ → List ℤ
 alternating s count = map sign_of (range_with_len s count)
 
 -- the generator of a seed, on stream 54
-abbrev pub generator_of : ℕ → Lcg
-generator_of seed = started 64 multiplier_64 seed (increment_of 64 54)
+abbrev pub seeded_generator : ℕ → Lcg
+seeded_generator seed = started 64 multiplier_64 seed (increment_of 64 54)
 
 -- the lower 21 bits of a word, less 2^20
 abbrev pub level_of : ℕ → ℤ

@@ -3,7 +3,7 @@ ghost use Rattle.std.specs.Str.{bytes_eq};
 
 use super::Disorder;
 
-/// The first law with this name; the others are dropped. It takes no memory.
+/// The first law with this name; the others are dropped. It does not allocate.
 pub fn named(laws: Vec<Box<dyn Disorder>>, name: &str) -> Option<Box<dyn Disorder>>
     ensures { result ≡ find (λ law. bytes_eq (title law) name.now) laws.items }
 {

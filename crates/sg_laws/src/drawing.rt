@@ -13,8 +13,8 @@ pub fn start(law: &mut Box<dyn Disorder>, seed: u64)
     law.seed(seed);
 }
 
-/// The next draws of a law, which goes on behind them. After want of memory it has made none, since the
-/// memory for all of them is taken first.
+/// The next draws of a law, which continues after them. If an allocation fails, it has made none,
+/// since the memory for all of them is taken first.
 pub fn draws(alloc: Global, law: &mut Box<dyn Disorder>, count: usize) -> Result<Vec<i64>, NoMemory>
     ensures drawn { IfOk result (λ xs. xs.items ≡ next law.old count) }
     ensures count { IfOk result (λ xs. length xs.items ≡ count) }

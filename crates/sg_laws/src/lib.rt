@@ -1,15 +1,15 @@
 //! Laws of disorder: the streams that couplings are drawn from.
 //!
-//! A spin glass is studied over many samples of its couplings. A law gives them: after a seed, the
-//! same stream of whole numbers on every machine. Four stand here: all couplings 1, signs by turns,
-//! signs at random (the Edwards-Anderson model with couplings of one size), and sizes spread evenly;
-//! and [`Table`], for draws that a caller has from elsewhere.
+//! A spin glass is studied over many samples of its couplings. A law gives them: after a seed, the same
+//! stream of whole numbers on every machine. There are four: all couplings 1, alternating signs, random
+//! signs (the Edwards-Anderson model with couplings of one size), and sizes spread evenly; and
+//! [`Table`], for draws that a caller has from elsewhere.
 //!
 //! For the next engineer: [`Disorder`] is the contract that matters. A law has a name, and two ghost
-//! meanings, `next` and `seeded`: the draws that come now, and those that come after a seed. Whoever
-//! draws rests on these alone, so a caller's own law goes through the same door. A law is handed
-//! round in a box; at a call through a box its clauses have no names, so [`start`] and [`draws`] say
-//! them again. A clause speaks of boxes by the records of `specs/Named.antt`.
+//! meanings, `next` and `seeded`: the draws that come now, and those that come after a seed. Callers
+//! that draw rest on these alone, so a caller's own law can be used in the same way. A law is passed in
+//! a box; in a call through a box its clauses have no names, so [`start`] and [`draws`] restate them. A
+//! clause describes boxes by the records of `specs/Named.antt`.
 #![tactic(auto)]
 
 mod choice;

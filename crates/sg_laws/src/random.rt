@@ -1,7 +1,7 @@
 // The laws over the words of a generator: the 32-bit words of `Lcg64Xsh32`, a permuted congruential
 // generator (O'Neill 2014), on stream 54.
 ghost use Rattle.std.specs.Prelude.{◌≡◌, ℕ, codes};
-ghost use Rattle.sg_laws.specs.Stream.{drawn, generator_of, level_of, sign_of};
+ghost use Rattle.sg_laws.specs.Stream.{drawn, seeded_generator, level_of, sign_of};
 
 use super::Disorder;
 use rand_core::utils::NextWord;
@@ -17,11 +17,11 @@ pub struct PlusMinus {
 }
 
 impl PlusMinus {
-    /// The law, as after the seed 0. It takes no memory.
+    /// The law, as after the seed 0. It does not allocate.
     pub fn new() -> PlusMinus
         ensures title { ⟦<PlusMinus as Disorder>⟧.title result ≡ codes "pm" }
-        ensures stream { (c : ℕ) → ⟦<PlusMinus as Disorder>⟧.next result c ≡ drawn sign_of c (generator_of 0) }
-        ensures seeded { (s c : ℕ) → ⟦<PlusMinus as Disorder>⟧.seeded result s c ≡ drawn sign_of c (generator_of s) }
+        ensures stream { (c : ℕ) → ⟦<PlusMinus as Disorder>⟧.next result c ≡ drawn sign_of c (seeded_generator 0) }
+        ensures seeded { (s c : ℕ) → ⟦<PlusMinus as Disorder>⟧.seeded result s c ≡ drawn sign_of c (seeded_generator s) }
     {
         PlusMinus {
             generator: Pcg32::new(0, STREAM),
@@ -34,7 +34,7 @@ impl Disorder for PlusMinus {
 
     ghost next = { λ a c. drawn sign_of c a.generator };
 
-    ghost seeded = { λ _ s c. drawn sign_of c (generator_of s) };
+    ghost seeded = { λ _ s c. drawn sign_of c (seeded_generator s) };
 
     #[tactic(auto, using(crate::proofs::Drawn::drawn_length))]
     fn name(&self) -> &str {
@@ -65,11 +65,11 @@ pub struct Uniform {
 }
 
 impl Uniform {
-    /// The law, as after the seed 0. It takes no memory.
+    /// The law, as after the seed 0. It does not allocate.
     pub fn new() -> Uniform
         ensures title { ⟦<Uniform as Disorder>⟧.title result ≡ codes "uniform" }
-        ensures stream { (c : ℕ) → ⟦<Uniform as Disorder>⟧.next result c ≡ drawn level_of c (generator_of 0) }
-        ensures seeded { (s c : ℕ) → ⟦<Uniform as Disorder>⟧.seeded result s c ≡ drawn level_of c (generator_of s) }
+        ensures stream { (c : ℕ) → ⟦<Uniform as Disorder>⟧.next result c ≡ drawn level_of c (seeded_generator 0) }
+        ensures seeded { (s c : ℕ) → ⟦<Uniform as Disorder>⟧.seeded result s c ≡ drawn level_of c (seeded_generator s) }
     {
         Uniform {
             generator: Pcg32::new(0, STREAM),
@@ -82,7 +82,7 @@ impl Disorder for Uniform {
 
     ghost next = { λ a c. drawn level_of c a.generator };
 
-    ghost seeded = { λ _ s c. drawn level_of c (generator_of s) };
+    ghost seeded = { λ _ s c. drawn level_of c (seeded_generator s) };
 
     #[tactic(auto, using(crate::proofs::Drawn::drawn_length))]
     fn name(&self) -> &str {

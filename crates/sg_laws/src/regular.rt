@@ -9,7 +9,7 @@ use super::Disorder;
 pub struct One {}
 
 impl One {
-    /// The law. It takes no memory.
+    /// The law. It does not allocate.
     pub fn new() -> One
         ensures title { ⟦<One as Disorder>⟧.title result ≡ codes "one" }
         ensures stream { (c : ℕ) → ⟦<One as Disorder>⟧.next result c ≡ replicate c (pos 1) }
@@ -46,7 +46,7 @@ pub struct Alternate {
 }
 
 impl Alternate {
-    /// The law, as after the seed 0. It takes no memory.
+    /// The law, as after the seed 0. It does not allocate.
     pub fn new() -> Alternate
         ensures title { ⟦<Alternate as Disorder>⟧.title result ≡ codes "alternate" }
         ensures stream { (c : ℕ) → ⟦<Alternate as Disorder>⟧.next result c ≡ alternating 0 c }

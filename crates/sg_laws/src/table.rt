@@ -26,7 +26,7 @@ impl Model for Table {
 }
 
 impl Table {
-    /// The law of this name with these draws, as after the seed 0. It takes no memory.
+    /// The law of this name with these draws, as after the seed 0. It does not allocate.
     pub fn new(name: String, draws: Vec<i64>) -> Table
         requires some { 0 < length draws.items }
         requires range { All IsDraw draws.items }

@@ -1,4 +1,4 @@
--- Lists of lists that lie one behind another in one flat list: the pieces that begin at given starts.
+-- Lists of lists that lie one after another in one flat list: the pieces that begin at given starts.
 use Rattle.std.specs.Prelude.{ℕ, ◌+◌, ◌-◌, ◌≤◌, List, [], ◌++◌, length, take, drop, map, slice_index_or, slice_set}
 use Rattle.std.specs.List.{range_with_len}
 

@@ -6,7 +6,7 @@ use std::alloc::{AllocError, Global};
 use std::marker::Model;
 
 /// A list of lists of items that are copied, as the darts of each spin. The lists lie one behind
-/// another in one flat list, and take no memory each.
+/// another in one flat list, with no allocation of its own.
 #[derive(Drop)]
 pub struct Lists<T: Copy> {
     items: Vec<T>,
@@ -25,7 +25,7 @@ impl<T: Copy> Model for Lists<T> {
 }
 
 impl<T: Copy> Lists<T> {
-    /// No lists. It takes no memory until the first is added.
+    /// No lists. It does not allocate until the first is added.
     pub fn new(alloc: Global) -> Self
         ensures { result ≡ [] }
     {
@@ -45,7 +45,7 @@ impl<T: Copy> Lists<T> {
         Ok(())
     }
 
-    /// Adds an empty list at the end. After want of memory the lists are as they were.
+    /// Adds an empty list at the end. If the allocation fails, the lists are unchanged.
     pub fn open(&mut self) -> Result<(), NoMemory>
         ensures ok { OnOk result (self.new ≡ self.old ++ [] ∷ []) }
         ensures err { OnErr result (self.new ≡ self.old) }
@@ -54,7 +54,7 @@ impl<T: Copy> Lists<T> {
         Ok(())
     }
 
-    /// Adds one item at the end of the last list. After want of memory the lists are as they were.
+    /// Adds one item at the end of the last list. If the allocation fails, the lists are unchanged.
     pub fn push_item(&mut self, item: T) -> Result<(), NoMemory>
         requires { 0 < length self.old }
         ensures ok { OnOk result (self.new ≡ with_more self.old (item ∷ [])) }
@@ -64,7 +64,7 @@ impl<T: Copy> Lists<T> {
         Ok(())
     }
 
-    /// Adds a list with these items at the end. After want of memory the lists are as they were.
+    /// Adds a list with these items at the end. If the allocation fails, the lists are unchanged.
     pub fn push(&mut self, list: &[T]) -> Result<(), NoMemory>
         ensures ok { OnOk result (self.new ≡ self.old ++ list.now ∷ []) }
         ensures err { OnErr result (self.new ≡ self.old) }

@@ -19,7 +19,7 @@ impl<T: Copy> Model for Numbers<T> {
 }
 
 impl<T: Copy> Numbers<T> {
-    /// The empty list. It takes no memory until the first `push`.
+    /// The empty list. It does not allocate until the first `push`.
     pub fn new(alloc: Global) -> Self
         ensures { result ≡ [] }
     {
@@ -28,7 +28,7 @@ impl<T: Copy> Numbers<T> {
         }
     }
 
-    /// The list of these items. It takes no memory.
+    /// The list of these items. It does not allocate.
     pub fn from_vec(items: Vec<T>) -> Self
         ensures { result ≡ items.items }
     {
@@ -44,7 +44,7 @@ impl<T: Copy> Numbers<T> {
         Ok(())
     }
 
-    /// Adds one item at the end. After want of memory the list is as it was.
+    /// Adds one item at the end. If the allocation fails, the list is unchanged.
     pub fn push(&mut self, item: T) -> Result<(), NoMemory>
         ensures ok { OnOk result (self.new ≡ self.old ++ item ∷ []) }
         ensures err { OnErr result (self.new ≡ self.old) }
@@ -75,7 +75,7 @@ impl<T: Copy> Numbers<T> {
         self.items[i]
     }
 
-    /// The whole list, in order. It takes no memory.
+    /// The whole list, in order. It does not allocate.
     pub fn as_slice(&self) -> &[T]
         ensures { result.now ≡ self.now }
     {

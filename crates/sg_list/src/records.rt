@@ -19,7 +19,7 @@ impl<T: Drop> Model for Records<T> {
 }
 
 impl<T: Drop> Records<T> {
-    /// The empty list. It takes no memory until the first `push`.
+    /// The empty list. It does not allocate until the first `push`.
     pub fn new(alloc: Global) -> Self
         ensures { result ≡ [] }
     {
@@ -37,7 +37,7 @@ impl<T: Drop> Records<T> {
         Ok(())
     }
 
-    /// Adds one item at the end. After want of memory the list is as it was.
+    /// Adds one item at the end. If the allocation fails, the list is unchanged.
     pub fn push(&mut self, item: T) -> Result<(), NoMemory>
         ensures ok { OnOk result (self.new ≡ self.old ++ item ∷ []) }
         ensures err { OnErr result (self.new ≡ self.old) }
@@ -76,7 +76,7 @@ impl<T: Drop> Records<T> {
         self.items[i] = item;
     }
 
-    /// The items in order, to be taken out one by one. It takes no memory.
+    /// The items in order, to be taken out one by one. It does not allocate.
     pub fn into_vec(self) -> Vec<T>
         ensures { result.items ≡ self }
     {
@@ -88,7 +88,7 @@ impl<T: Drop> Records<T> {
         *self.items.allocator()
     }
 
-    /// The whole list, in order. It takes no memory.
+    /// The whole list, in order. It does not allocate.
     pub fn as_slice(&self) -> &[T]
         ensures { result.now ≡ self.now }
     {

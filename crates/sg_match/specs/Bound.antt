@@ -13,7 +13,7 @@ pub record IsCalm (s : State) : Type 0 where
   pub both : (root u v : ℕ) → s.root ≡ Some root → IsTightOuterOuter s root u v → ⊥
 
 -- the steps taken and those left are at most 2 k^2 together, for k leaves; a raise by which something has
--- become due may stand above that, until it is followed
+-- become due may be above that, until it is followed
 pub record IsBounded (s : State) : Type 0 where
   pub due : s.family.steps + steps_left s ≤ 2 * s.table.size * s.table.size + 1
   pub calm : IsCalm s → s.family.steps + steps_left s ≤ 2 * s.table.size * s.table.size

@@ -21,7 +21,7 @@ pub record IsEngine (s : State) : Type 0 where
   pub feasible : IsFeasible s.family (cost s.table)
   pub paired : IsPaired s.family (IsTight s.family (cost s.table)) s.pairs
   pub exposed : IsExposed s.family s.pairs s.root s.exposed
-  -- the tree from the root; no tree edge where there is no root
+  -- the tree from the root; no tree edge if there is no root
   pub tree : MatchOption s.root (s.edges ≡ []) (λ r. IsTree s.family (cost s.table) s.pairs r s.edges)
   -- the steps that are left, with one for each unpaired top to begin with, which no event raises
   pub left : steps_left s + length s.exposed ≤ 2 * s.table.size * s.table.size

@@ -32,7 +32,7 @@ pub record IsExpandingTree (g : Family) (cost : ℕ → ℕ → ℕ) (now : List
 abbrev pub with_inner : ℕ → TreeEdge → TreeEdge
 with_inner node l = record { inner = node; outer = l.outer; up = l.up; pair = l.pair }
 
--- the ring's first node stands in the blossom's place, and the way to it from the entry is wanting
+-- the ring's first node is in the blossom's place, and the path to it from the entry is missing
 pub record CanExpandTree (g : Family) (cost : ℕ → ℕ → ℕ) (now : List (Option Edge)) (root : ℕ)
     (edges : List TreeEdge) (ring : List Link) (at entry : ℕ) : Type 0 where
   pub can : CanShrink g ring

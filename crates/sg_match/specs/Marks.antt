@@ -6,7 +6,7 @@ use Rattle.sg_slack.specs.declared.Mark.TheVariants.{Free, Inner, Outer}
 use Rattle.sg_match.specs.Tree.{IsOuterLeaf, IsInnerLeaf, IsFreeLeaf}
 use Rattle.sg_match.specs.declared.TreeEdge.{TreeEdge}
 
--- the mark of each leaf says where its top stands
+-- the mark of each leaf gives the place of its top
 pub record AreRightMarks (f : Family) (root : ℕ) (edges : List TreeEdge) (marks : List Mark) : Type 0 where
   pub count : length marks ≡ leaf_count f
   pub outer : (leaf : ℕ) → leaf < leaf_count f → slice_index_or marks leaf Free ≡ Outer →

@@ -10,7 +10,7 @@ use Rattle.sg_match.specs.declared.Edge.{Edge}
 abbrev pub rotated : ℕ → List Link → List Link
 rotated i links = drop i links ++ take i links
 
--- the same ring from its first node on in the other direction, with each link turned round
+-- the same ring from its first node on in the other direction, with each link reversed
 pub record IsBackwards (ring turned : List Link) : Type 0 where
   pub count : length turned ≡ length ring
   pub node : (i : ℕ) → i < length ring →

@@ -11,7 +11,7 @@ abbrev pub IsStage : State → Stage → Type 0
 IsStage s Matched = AllPaired s.family s.pairs
 IsStage s (InnerZero node) = IsLeastInnerZero s.family s.edges node
 
--- how many steps an answer leaves open: one, where a blossom is to be expanded
+-- how many steps an answer leaves open: one, if a blossom is to be expanded
 abbrev pub owed : Stage → ℕ
 owed Matched = 0
 owed (InnerZero node) = 1

@@ -73,7 +73,7 @@ pub record IsOut (root : ℕ) (edges : List TreeEdge) (t : ℕ) : Type 0 where
   pub outer : (i : ℕ) → i < length (outers root edges) → slice_index (outers root edges) i ≢ t
   pub inner : (i : ℕ) → i < length (inners edges) → slice_index (inners edges) i ≢ t
 
--- the mark of a top says where it stands
+-- the mark of a top gives its place
 abbrev pub StandsAt : ℕ → List TreeEdge → ℕ → Mark → Type 0
 StandsAt root edges top Outer = Stands (outers root edges) top
 StandsAt root edges top Inner = Stands (inners edges) top

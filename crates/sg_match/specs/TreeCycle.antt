@@ -14,7 +14,7 @@ IsSpot root edges place head n = (n ≡ head) ⊎
     (((j : ℕ) × (place < j) × (j < length (outers root edges)) × (slice_index (outers root edges) j ≡ n)) ⊎
     ((j : ℕ) × (place ≤ j) × (j < length (inners edges)) × (slice_index (inners edges) j ≡ n)))
 
--- a path between two outer tops over tree edges that stand at a place or behind it
+-- a path between two outer tops over tree edges that are at a place or after it
 pub record IsTreeCycle (f : Family) (root : ℕ) (edges : List TreeEdge) (cycle : List Link)
     (place head tail : ℕ) : Type 0 where
   pub path : IsPath f cycle head tail

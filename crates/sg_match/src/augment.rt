@@ -43,7 +43,7 @@ pub fn augment_path(
     pair_tops(pairs, root, there, edge);
 }
 
-// Where a name stands in a list, or the list's length.
+// Where a name is in a list, or the list's length.
 pub fn find_name(names: &[usize], name: usize) -> usize
     ensures within { result ≤ length names.now }
     ensures found { result < length names.now → slice_index names.now result ≡ name }

@@ -28,7 +28,7 @@ pub struct Change {
 }
 
 // By how much the tree's duals may rise before the next slack is 0, and whose slack that is. It marks
-// each leaf by where its top stands. The clauses alone speak of the arena: the tables say what is in it.
+// each leaf by the place of its top. The clauses alone speak of the arena: the tables say what is in it.
 pub fn nearest(
     arena: &Arena,
     near: &mut Near,
@@ -160,7 +160,8 @@ impl Engine {
     ghost use Rattle.sg_match.specs.Events.{IsNext};
     ghost use Rattle.sg_match.specs.Steps.{steps_left};
 
-    // Raises the duals of the tree as far as no slack turns negative, and says what is tight then.
+    // Raises the duals of the tree as far as no slack becomes negative, and says what is tight
+    // then.
     pub(crate) fn change_duals<L: Ledger>(&mut self, root: usize, steps: &mut Steps<L>) -> Event
         requires root { self.old.root ≡ Some root }
         ensures keeps { KeepsTree self.old self.new }

@@ -12,7 +12,7 @@ impl Engine {
     ghost use Rattle.sg_match.specs.Steps.{steps_left};
 
     // Takes an inner blossom of dual 0 apart. The children on the even side of its cycle stay in
-    // the tree, by turns inner and outer; the others are paired and leave it.
+    // the tree, alternately inner and outer; the others are paired and leave it.
     pub(crate) fn expand<L: Ledger>(&mut self, node: usize, steps: &mut Steps<L>)
         requires inner_zero { IsInnerZero self.old.family self.old.edges node }
         ensures table { self.new.table ≡ self.old.table }

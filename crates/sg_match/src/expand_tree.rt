@@ -12,7 +12,7 @@ use super::{Edge, TreeEdge};
 use sg_arena::Link;
 use std::mem::swap;
 
-// Where the tree edge of an inner top stands.
+// The place of the tree edge of an inner top.
 pub fn place_of_inner(edges: &[TreeEdge], node: usize) -> usize
     requires { Contains (inners edges.now) node }
     ensures within { result < length edges.now }
@@ -89,9 +89,9 @@ pub fn insert_before(edges: &mut Vec<TreeEdge>, place: usize, one: Link, two: Li
     );
 }
 
-// Puts the nodes from the entry of a ring on, by turns inner and outer, into the tree before the tree
-// edge of their blossom, and the ring's first node in place of the blossom. Where the entry is the
-// first node, no tree edge is new.
+// Puts the nodes from the entry of a ring on, alternately inner and outer, into the tree before the
+// tree edge of their blossom, and the ring's first node in place of the blossom. Where the entry is
+// the first node, no tree edge is new.
 pub fn expand_edge(edges: &mut Vec<TreeEdge>, at: usize, ring: &[Link], entry: usize)
     requires within { at < length edges.old.items }
     requires entry { entry < length ring.now }

@@ -145,7 +145,7 @@ fn unmark(named: &mut [Mark])
     }
 }
 
-// Where each top stands, by its name.
+// The place of each top, by its name.
 pub fn mark_tops(root: usize, edges: &[TreeEdge], named: &mut [Mark])
     requires root { root < length named.old }
     requires inner { (i : ℕ) → i < length edges.now → (tree_edge_at edges.now i).inner < length named.old }

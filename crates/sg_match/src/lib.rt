@@ -96,7 +96,7 @@ enum Event {
     OuterOuter { u: u32, v: u32 },
 }
 
-/// What a run hands back.
+/// What a run returns.
 #[derive(Drop)]
 pub struct Matched {
     /// The mate of each leaf.
@@ -107,11 +107,11 @@ pub struct Matched {
 
 /// An engine at work on a table of costs: the sets with their duals, the pairs of tops, and a tree.
 ///
-/// What it keeps between two steps is in the words of the method: no slack is negative; links of
-/// blossoms, pairs and the tree's edges have slack 0; a pair joins two different tops and is the pair
-/// of both; the tree grows from an unpaired top, with inner and outer tops by turns; the leaves of one
-/// top have totals of one parity; and the steps that were taken and those that are left are at most twice
-/// the square of the number of leaves together, where nothing is due. It takes all memory when it is opened.
+/// What it keeps between two steps is in the words of the method: no slack is negative; links of blossoms,
+/// pairs and the tree's edges have slack 0; a pair joins two different tops and is the pair of both; the
+/// tree grows from an unpaired top, with inner and outer tops alternating; the leaves of one top have totals
+/// of one parity; and the steps that were taken and those that are left are at most twice the square of the
+/// number of leaves together, where nothing is due. It takes all memory when it is opened.
 #[derive(Drop)]
 pub struct Engine {
     // The costs, and the outer leaves that the rounds so far have seen.
@@ -121,7 +121,7 @@ pub struct Engine {
     pairs: Vec<Option<Edge>>,
     // The unpaired tops but for the root.
     exposed: Vec<usize>,
-    // The unpaired top from which the tree grows; none where no tree stands.
+    // The unpaired top from which the tree grows; none if there is no tree.
     root: Option<usize>,
     // Whether no tree was begun and no step was taken.
     fresh: bool,

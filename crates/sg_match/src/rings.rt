@@ -25,7 +25,7 @@ pub fn list_ring(arena: &Arena, child: usize, ring: &mut Vec<Link>)
     }
 }
 
-// Where a node stands in a ring.
+// The place of a node in a ring.
 pub fn place_of(ring: &[Link], node: usize) -> usize
     requires { Contains (nodes_of ring.now) node }
     ensures within { result < length ring.now }

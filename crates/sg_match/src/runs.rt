@@ -177,13 +177,14 @@ impl Engine {
         &self.arena
     }
 
-    /// A perfect matching of least cost, with the sets and duals that prove it. It takes no memory.
+    /// A perfect matching of least cost, with the sets and duals that prove it. It does not
+    /// allocate.
     ///
     /// Each leaf has a mate. No slack is negative, mates have slack 0, and each set is left by
     /// exactly one pair of mates; so the mates cost as much as all duals together, and no pairing
     /// costs less ([`sg_pairing::matching_is_least`]). The method is that of Edmonds (1965).
     ///
-    /// For `k` leaves the family has taken at most `2 k^2` steps when it is handed back, with those before
+    /// For `k` leaves the family has taken at most `2 k^2` steps when it is returned, with those before
     /// this call, where a step is one `shrink`, `expand` or `raise`. The family counts them itself, so they
     /// cannot be counted elsewhere, and the caller's count grows by just those of this call. The bound is a
     /// promise of this call: what comes from elsewhere takes no such steps.

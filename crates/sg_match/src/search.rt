@@ -13,7 +13,7 @@ impl Engine {
     ghost use Rattle.sg_match.specs.Steps.{steps_left};
 
     /// Goes on until every top is paired, or an inner blossom of the tree has dual 0. Where such a
-    /// blossom stands already, the least one is named and nothing changes. It takes no memory.
+    /// blossom is there already, the least one is named and nothing changes. It does not allocate.
     ///
     /// Cost: each round takes time proportional to the number of leaves, and again to it for each leaf
     /// that has become outer, and for each outer leaf whose nearest one of another top has come into its
@@ -54,7 +54,7 @@ impl Engine {
         Stage::Matched
     }
 
-    // The root of the tree. Where no tree stands, one is begun at an unpaired top; none where every
+    // The root of the tree. If there is no tree, one is begun at an unpaired top; none where every
     // top is paired.
     fn begin_search(&mut self) -> Option<usize>
         ensures family { self.new.family ≡ self.old.family }

@@ -16,6 +16,6 @@ pub record AreFull (g : Graph) (tables : List Routes) : Type 0 where
 abbrev pub depth_by : List Routes → List Member → ℕ → ℕ → ℕ
 depth_by tables members y x = fold (λ d m. min d (2 * distance_from tables m.leaf x - m.inner)) y members
 
--- the dual less the depth: 0 where the moat does not reach
+-- the dual less the depth: 0 if the moat does not reach
 abbrev pub height_by : List Routes → List Member → ℕ → ℕ → ℕ
 height_by tables members y x = y - depth_by tables members y x

@@ -4,6 +4,7 @@ use Rattle.sg_arena.specs.Family.{Family, holds, leaves_of}
 use Rattle.sg_moat.specs.declared.members.Member.{Member}
 use Rattle.sg_moat.specs.Sets.{inner_of}
 
+-- a leaf as a member of a set, with the duals of the sets within it that hold the leaf
 abbrev pub member_of : Family → ℕ → ℕ → Member
 member_of f s leaf = record { leaf = leaf; inner = inner_of f s leaf }
 

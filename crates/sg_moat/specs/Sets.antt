@@ -20,10 +20,11 @@ share_below f s leaf x = cond (strictly_within f s x && holds f x leaf) (dual_of
 abbrev pub inner_of : Family → ℕ → ℕ → ℕ
 inner_of f s leaf = sum_below (share_below f s leaf) (length f.nodes)
 
--- how many nodes stand under a name: 1 or 0
+-- how many nodes have a name: 1 or 0
 abbrev pub node_count : Option Node → ℕ
 node_count (Some n) = 1
 node_count None = 0
 
+-- 1 if a node with this name is alive, and 0 else
 abbrev pub alive_at : Family → ℕ → ℕ
 alive_at f name = node_count (node_at f name)

@@ -69,7 +69,7 @@ pub record Searching (g : Graph) (heights near : List ℕ) (heap : List Arrival)
 abbrev pub room_above : List ℕ → ℕ
 room_above heights = sum_by (λ h. 2 ^ 64 - h) heights
 
--- one arrival at a node: where it is higher than what is noted, it is noted and waits
+-- one arrival at a node: if it is higher than what is noted, it is noted and waits
 pub record Raises (node height : ℕ) (old new before after : List ℕ) (heap next : List Arrival) : Type 0 where
   pub noted : new ≡ slice_set old node (max (noted_at old node) height)
   pub listed : after ≡ before ++ cond ((noted_at old node == 0) && nat_lt 0 height) (node ∷ []) []

@@ -44,7 +44,7 @@ impl Members {
         Ok(members)
     }
 
-    /// The members of the set with this name. It takes no memory.
+    /// The members of the set with this name. It does not allocate.
     pub fn of(&self, name: usize) -> &[Member]
         requires { name < length self.now }
         ensures { result.now ≡ list_under self.now name }

@@ -28,8 +28,8 @@ use std::alloc::Global;
 ///
 /// Cost: for each set of positive dual its terminals, the nodes at a depth below the dual, the edges at
 /// them, and what is written, all but for a logarithm. Besides that, once each node, edge and name, and
-/// each terminal once for each set that holds it. Memory: the incidence of the web, 12 bytes a node, 16
-/// bytes for each terminal in each set that holds it, for one set at a time 16 bytes for each of its
+/// each terminal once for each set that holds it. Memory: the incidence of the graph, 12 bytes a node,
+/// 16 bytes for each terminal in each set that holds it, for one set at a time 16 bytes for each of its
 /// terminals and for each end of an edge at a node near it, and the cuts.
 pub fn levels(
     alloc: Global,

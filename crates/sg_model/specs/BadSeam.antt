@@ -7,6 +7,6 @@ use Rattle.sg_model.specs.Misplaced.{IsFirstMisplaced}
 abbrev pub is_bond : Ising → ℕ → Bool
 is_bond inst k = nat_lt k (bond_count inst)
 
--- the first entry of the seam that is not a bond, or stands earlier too
+-- the first entry of the seam that is not a bond, or repeats an earlier one
 abbrev pub IsBadSeam : Ising → ℕ → Type 0
 IsBadSeam inst bond = IsFirstMisplaced (is_bond inst) inst.seam bond

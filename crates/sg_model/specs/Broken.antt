@@ -8,6 +8,6 @@ use Rattle.sg_model.specs.Energy.{product}
 abbrev pub is_negative : Bond → Bool
 is_negative b = int_lt b.j (pos 0)
 
--- a negative bond between like spins, or another between unlike spins
+-- a negative bond between equal spins, or another between opposite spins
 abbrev pub is_broken : List ℤ → Bond → Bool
 is_broken s b = cond (is_negative b) (int_eq (product s b) (pos 1)) (int_eq (product s b) (negsuc 0))

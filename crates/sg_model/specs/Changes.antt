@@ -37,7 +37,7 @@ negated inst = with_bonds inst (map opposite inst.bonds)
 abbrev pub with_coupling : Ising → ℕ → ℤ → Ising
 with_coupling inst k z = with_bonds inst (slice_set inst.bonds k (recoupled (bond_at inst k) z))
 
--- bond k of the list, with the coupling that stands at its place
+-- bond k of the list, with the coupling at its place
 abbrev pub coupled_at : List Bond → List ℤ → ℕ → Bond
 coupled_at bonds couplings k =
     recoupled (slice_index_or bonds k (record { u = 0; v = 0; j = pos 0 })) (slice_index_or couplings k (pos 0))

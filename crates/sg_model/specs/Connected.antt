@@ -9,7 +9,7 @@ use Rattle.sg_model.specs.Spins.{spin}
 abbrev pub HasEnds : Ising → ℕ → ℕ → ℕ → Type 0
 HasEnds inst k a b = ((bond_at inst k).u ≡ a) × ((bond_at inst k).v ≡ b)
 
--- a bond of the set joins the spins a and b
+-- a bond of the set connects the spins a and b
 pub record JoinedBy (inst : Ising) (bonds : ℕ → Bool) (a b : ℕ) : Type 0 where
   pub bond : ℕ
   pub below : bond < bond_count inst

@@ -4,7 +4,7 @@ use Rattle.sg_model.specs.declared.bond.Bond.{Bond}
 use Rattle.sg_model.specs.Ising.{Ising}
 use Rattle.sg_model.specs.Spins.{IsAssignment, spin}
 
--- the product of the spins that a bond joins
+-- the product of the two spins of a bond
 abbrev pub product : List ℤ → Bond → ℤ
 product s b = spin s b.u *ℤ spin s b.v
 

@@ -14,7 +14,7 @@ IsRefusalOf inst (BadRotation spin dart) = IsBadRotation inst spin dart
 IsRefusalOf inst (BadSeam bond) = IsRotation inst × IsBadSeam inst bond
 IsRefusalOf inst _ = ⊥
 
--- a refusal that is so, or want of memory, which may come at any time
+-- a refusal that is so, or out of memory, which may come at any time
 abbrev pub OrNoMemory : (Refusal → Type 0) → Fault → Type 0
 OrNoMemory Refuses (Refused refusal) = Refuses refusal
 OrNoMemory Refuses NoMemory = Unit {0}

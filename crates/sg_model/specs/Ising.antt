@@ -18,7 +18,7 @@ bond_count inst = length inst.bonds
 abbrev pub bond_at : Ising → ℕ → Bond
 bond_at inst k = slice_index_or inst.bonds k (record { u = 0; v = 0; j = pos 0 })
 
--- a bond of n spins: it joins two different ones, with a coupling whose size fits
+-- a bond of n spins: it connects two different ones, with a coupling whose size fits
 pub record IsBond (n : ℕ) (b : Bond) : Type 0 where
   pub first_end : b.u < n
   pub second_end : b.v < n

@@ -18,7 +18,7 @@ pub record MarksSpins (inst : Ising) (marked : List Bool) (stop : ℕ) : Type 0 
 abbrev pub AllMarked : Ising → List Bool → ℕ → Type 0
 AllMarked inst marked stop = (i d : ℕ) → i < stop → is_dart_of inst i d ≡ true → is_marked marked d ≡ true
 
--- the dart is the least unmarked one of its spin, which stands before `stop`
+-- the dart is the least unmarked one of its spin, which is before `stop`
 pub record IsLeastUnmarked (inst : Ising) (marked : List Bool) (stop spin dart : ℕ) : Type 0 where
   pub before : spin < stop
   pub is_dart : is_dart_of inst spin dart ≡ true

@@ -2,7 +2,7 @@
 use Rattle.std.specs.Prelude.{◌≡◌, ℕ, ◌<◌, ◌||◌, Bool, true, false, not, List, length, take, slice_index}
 use Rattle.sg_sums.specs.Sets.{holds}
 
--- whether the entry at place j is none of the allowed numbers, or stands earlier too
+-- whether the entry at place j is not an allowed number, or repeats an earlier one
 abbrev pub is_misplaced : (ℕ → Bool) → List ℕ → ℕ → Bool
 is_misplaced allowed xs j = not (allowed (slice_index xs j)) || holds (take j xs) (slice_index xs j)
 

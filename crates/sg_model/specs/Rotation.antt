@@ -34,10 +34,10 @@ pub record IsRotation (inst : Ising) : Type 0 where
   pub each_once : (i d : ℕ) → i < inst.n →
       count_by (λ x. x == d) (darts_of inst i) ≡ cond (is_dart_of inst i d) 1 0
 
--- the entry behind d; behind the last comes the first
+-- the entry after d; after the last comes the first
 unfoldable pub following : List ℕ → ℕ → ℕ
 following xs d = slice_index xs ((position_or_len (λ x. x == d) xs + 1) % length xs)
 
--- the dart behind d in the list of the spin that it leaves
+-- the dart after d in the list of the spin that it leaves
 unfoldable pub next : Ising → ℕ → ℕ
 next inst d = following (darts_of inst (tail inst d)) d

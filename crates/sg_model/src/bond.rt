@@ -1,7 +1,7 @@
 use sg_list::Records;
 
 /// A bond: two different spins, by number, and the coupling between them. A positive coupling
-/// favours like spins.
+/// favours equal spins.
 #[derive(Clone, Copy, Debug)]
 pub struct Bond {
     pub u: u32,

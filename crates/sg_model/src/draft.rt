@@ -134,7 +134,8 @@ impl Draft {
         self.least_unmarked(marked, first)
     }
 
-    /// The first fault of the rotation, in time linear in the darts. Only memory may be wanting.
+    /// The first fault of the rotation, in time linear in the darts. The only error is running out
+    /// of memory.
     pub(crate) fn wrong_dart(&self, alloc: Global) -> Result<Option<WrongDart>, NoMemory>
         ensures { IfOk result (λ found. MatchOption found (IsRotation self.now)
             (λ wrong. IsBadRotation self.now wrong.spin wrong.dart)) }
@@ -164,7 +165,8 @@ impl Draft {
         None
     }
 
-    /// The first fault of the seam, in time linear in the bonds. Only memory may be wanting.
+    /// The first fault of the seam, in time linear in the bonds. The only error is running out of
+    /// memory.
     pub(crate) fn wrong_bond(&self, alloc: Global) -> Result<Option<u32>, NoMemory>
         ensures { IfOk result (λ found. MatchOption found (IsSeam self.now) (IsBadSeam self.now)) }
     {

@@ -42,7 +42,7 @@ impl Instance {
     /// # Errors
     /// `BadRotation` where a list is not the darts of its spin, each once, with the least such spin
     /// and the dart that shows it; then `BadSeam` with the first entry of the seam that is not a bond
-    /// or stands earlier too. The parts are then dropped.
+    /// or is listed earlier. The parts are then dropped.
     pub fn new(
         alloc: Global,
         n: u32,
@@ -136,8 +136,8 @@ impl Instance {
         &self.seam
     }
 
-    /// The energy of an assignment, `- sum of J s(u) s(v)`, in time linear in the bonds. It takes
-    /// no memory.
+    /// The energy of an assignment, `- sum of J s(u) s(v)`, in time linear in the bonds. It does
+    /// not allocate.
     pub fn energy(&self, s: &Spins) -> i128
         requires { length s.now ≡ self.now.n }
         ensures { result ≡ energy self.now s.now }
@@ -145,7 +145,7 @@ impl Instance {
         -alignment(self.bonds.as_slice(), s)
     }
 
-    /// The sum of the couplings' sizes, in time linear in the bonds. It takes no memory.
+    /// The sum of the couplings' sizes, in time linear in the bonds. It does not allocate.
     pub fn weight(&self) -> i128
         ensures { result ≡ pos (weight_of self.now) }
     {
@@ -166,7 +166,7 @@ impl Instance {
     }
 
     /// The same instance with these couplings, in the order of the bonds, in time linear in the bonds.
-    /// It takes no memory: the rotation is moved, and not copied.
+    /// It does not allocate: the rotation is moved, and not copied.
     pub fn with_couplings(self, couplings: &Couplings) -> Instance
         requires count { length couplings.now ≡ bond_count self }
         requires sizes { All (λ j. unsigned_abs j < 2 ^ 63) couplings.now }
@@ -216,7 +216,7 @@ impl Instance {
     /// The same instance with another seam, in time linear in the bonds and darts.
     ///
     /// # Errors
-    /// `BadSeam` with the first entry that is not a bond or stands earlier too.
+    /// `BadSeam` with the first entry that is not a bond or is listed earlier.
     pub fn with_seam(self, seam: BondList) -> Result<Instance, Fault>
         ensures ok { IfOk result (λ copy. copy ≡ with_seam self seam) }
         ensures well_formed { IfOk result IsInstance }

@@ -14,7 +14,7 @@ pub enum Refusal {
     /// Number 3: this field is not a number, or is out of the range of its place.
     #[error("BadNumber")]
     BadNumber { at: u32, field: u32 },
-    /// Number 4: the first field of this record is not a word that may stand there.
+    /// Number 4: the first field of this record is not a word that may appear there.
     #[error("UnknownKind")]
     UnknownKind { at: u32 },
     /// Number 5: this record has a wrong number of fields or comes a second time.
@@ -26,20 +26,20 @@ pub enum Refusal {
     /// Number 7: the number of spins is above the limit.
     #[error("TooManySpins")]
     TooManySpins { n: i128 },
-    /// Number 8: one more bond stands than the limit; `m` is the limit plus 1.
+    /// Number 8: there is one more bond than the limit; `m` is the limit plus 1.
     #[error("TooManyBonds")]
     TooManyBonds { m: u32 },
     /// Number 9: both ends of this bond are the same spin.
     #[error("SelfBond")]
     SelfBond { bond: u32 },
     /// Number 10: the list of this spin, the least such, is not its darts, each once. The dart is
-    /// the first entry that is none of them or stands earlier too; else the least that is missing.
+    /// the first entry that is none of them or is listed earlier; else the least that is missing.
     #[error("BadRotation")]
     BadRotation { spin: u32, dart: u32 },
-    /// Number 11: this entry of the seam, the first such, is not a bond or stands earlier too.
+    /// Number 11: this entry of the seam, the first such, is not a bond or is listed earlier.
     #[error("BadSeam")]
     BadSeam { bond: u32 },
-    /// Number 12: this record, the first such, stands after the last awaited `end`.
+    /// Number 12: this record, the first such, follows the last `end`.
     #[error("Trailing")]
     Trailing { at: u32 },
     /// Number 13: the sum of the couplings' sizes is above the limit.
@@ -68,7 +68,7 @@ pub enum Refusal {
     /// Number 21: the number of terminals is odd.
     #[error("OddTerminals")]
     OddTerminals { count: u32 },
-    /// Number 22: this terminal, the first such, is not a node or stands earlier too.
+    /// Number 22: this terminal, the first such, is not a node or is listed earlier.
     #[error("BadTerminal")]
     BadTerminal { node: u32 },
     /// Number 23: this node, the least such, is not reached from node 0.

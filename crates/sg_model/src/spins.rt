@@ -25,7 +25,7 @@ impl Model for Spins {
 }
 
 impl Spins {
-    /// No spins yet. It takes no memory until the first `push`.
+    /// No spins yet. It does not allocate until the first `push`.
     pub fn new(alloc: Global) -> Self
         ensures { result ≡ [] }
     {
@@ -34,7 +34,7 @@ impl Spins {
         }
     }
 
-    /// Adds the value of the next spin. After want of memory the list is as it was.
+    /// Adds the value of the next spin. If the allocation fails, the list is unchanged.
     pub fn push(&mut self, value: i8) -> Result<(), NoMemory>
         requires { IsUpOrDown value }
         ensures ok { OnOk result (self.new ≡ self.old ++ value ∷ []) }
@@ -67,7 +67,7 @@ impl Spins {
         self.values[i]
     }
 
-    /// The values of all spins, in order. It takes no memory.
+    /// The values of all spins, in order. It does not allocate.
     pub fn as_slice(&self) -> &[i8]
         ensures value { result.now ≡ self.now }
         ensures up_or_down { All IsUpOrDown self.now }

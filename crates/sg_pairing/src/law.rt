@@ -7,7 +7,7 @@ ghost use Rattle.sg_pairing.specs.Matching.{IsPairing, IsMatching, NoSlackIsNega
 /// pair leaves each set. A matching along pairs of slack 0 that leaves each set just once costs
 /// exactly this sum, so none costs less.
 ///
-/// It computes nothing: a caller cites this call for what `Engine::run` hands back.
+/// It computes nothing: a caller cites this call for what `Engine::run` returns.
 pub fn matching_is_least()
     ensures cost { (f : Family) (cost : ℕ → ℕ → ℕ) (mates : List ℕ) →
         IsMatching f cost mates → pairing_cost cost mates ≡ sum_of_duals f }

@@ -10,7 +10,7 @@ use sg_slack::Costs;
 /// [`COST_LIMIT`], the same both ways, 0 from a leaf to itself, and no way over a third leaf is cheaper than
 /// the direct one.
 ///
-/// It takes no memory. Cost: proportional to the third power of the number of leaves.
+/// It does not allocate. Cost: proportional to the third power of the number of leaves.
 pub fn is_metric(costs: &Costs) -> bool
     ensures { IsTrue result ↔ IsMetric costs.now }
 {

@@ -9,7 +9,7 @@ use Rattle.sg_faces.specs.Faces.{Labelling, IsFaceLabels}
 use Rattle.sg_faces.specs.Euler.{IsEuler}
 use Rattle.sg_limits.specs.Limits.{sum_limit, forced_limit}
 
--- the two facts that every planar solver asks for
+-- the two facts that every planar solver requires
 pub record IsFit (inst : Ising) : Type 0 where
   pub small : weight inst ≤ sum_limit
   pub genus_zero : IsEuler inst (pos 2)

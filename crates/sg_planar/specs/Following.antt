@@ -1,4 +1,4 @@
--- Spins that follow the bonds: which bonds are to join unlike spins, and how a walk gives the spins their values.
+-- Spins that follow the bonds: which bonds are to join opposite spins, and how a walk gives the spins their values.
 use Rattle.std.specs.Prelude.{◌≡◌, ℕ, ◌<◌, ℤ, pos, negsuc, Bool, false, cond, List, length, slice_index, All}
 use Rattle.sg_sums.specs.Parity.{xor}
 use Rattle.sg_sums.specs.Sets.{holds, is_marked, Stands}
@@ -8,7 +8,7 @@ use Rattle.sg_model.specs.Broken.{is_negative}
 use Rattle.sg_model.specs.Connected.{all_bonds}
 use Rattle.sg_walk.specs.Walk.{IsFoundFrom}
 
--- a bond joins unlike spins where it is negative or broken, and not both
+-- a bond joins opposite spins if it is negative or broken, and not both
 abbrev pub is_unlike : Ising → List ℕ → ℕ → Bool
 is_unlike inst broken k = xor (is_negative (bond_at inst k)) (holds broken k)
 
@@ -22,7 +22,7 @@ pub record FollowsBonds (inst : Ising) (unlike down : ℕ → Bool) : Type 0 whe
 abbrev pub value_of : Bool → ℤ
 value_of down = cond down (negsuc 0) (pos 1)
 
--- all spins in the order of a walk: spin 0 first, and each other one behind a neighbour
+-- all spins in the order of a walk: spin 0 first, and each other one after a neighbour
 pub record IsWalkOrder (inst : Ising) (order : List ℕ) : Type 0 where
   pub root_first : (0 < length order) × (slice_index order 0 ≡ 0)
   pub below : (k : ℕ) → k < length order → slice_index order k < inst.n
@@ -42,7 +42,7 @@ pub record SetsHeads (inst : Ising) (t : ℕ → Bool) (darts : List ℕ) (old n
   pub kept : (x : ℕ) → IsRight t old x → IsRight t now x
   pub heads : HeadsRight inst t now darts
 
--- the heads of some darts of a spin are set as the bonds ask for it, whatever assignment follows them
+-- the heads of some darts of a spin are set as the bonds require, whatever assignment follows them
 pub record HeadsSet (inst : Ising) (unlike : ℕ → Bool) (spin : ℕ) (darts : List ℕ)
     (old now : List Bool) : Type 0 where
   pub lengths : length now ≡ length old

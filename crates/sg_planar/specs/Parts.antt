@@ -45,11 +45,11 @@ pub record IsPart (inst : Ising) (least : ℕ) (part : Part) : Type 0 where
   pub connected : IsConnected part.planar.instance
   pub planar : IsPlanar part.planar
 
--- 1 where the list holds the number, and else 0
+-- 1 if the list holds the number, and else 0
 abbrev pub times_in : List ℕ → ℕ → ℕ
 times_in xs x = if holds xs x then 1 else 0
 
--- a part for each component, in the order of the least spins; each spin and each bond stands in exactly one part
+-- a part for each component, in the order of the least spins; each spin and each bond is in exactly one part
 pub record AreParts (inst : Ising) (parts : List Part) : Type 0 where
   pub leasts : List ℕ
   pub components : AreLeasts inst leasts
@@ -57,7 +57,7 @@ pub record AreParts (inst : Ising) (parts : List Part) : Type 0 where
   pub spins_once : (x : ℕ) → x < inst.n → sum_by (λ p. times_in p.spins x) parts ≡ 1
   pub bonds_once : (k : ℕ) → k < bond_count inst → sum_by (λ p. times_in p.bonds k) parts ≡ 1
 
--- one component, which is the whole as it stands, or a part for each
+-- one component, which is the whole itself, or a part for each
 abbrev pub IsDivision : Ising → Division → Type 0
 IsDivision inst Whole = IsConnected inst
 IsDivision inst (Several parts) = AreParts inst parts

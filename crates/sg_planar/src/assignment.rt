@@ -21,7 +21,7 @@ use std::alloc::Global;
 /// Each face has as many darts of bonds of the list as darts of negative bonds, up to an even number,
 /// where a bond with the face on both of its sides counts twice. In the plane such lists are the
 /// broken bonds of the assignments (Bieche, Maynard, Rammal and Uhry 1980): a walk over the bonds
-/// from spin 0 goes on to an unlike spin where the bond is negative or broken, and not both.
+/// from spin 0 continues to an opposite spin if the bond is negative or broken, and not both.
 pub fn spin_walk(alloc: Global, planar: &Planar, broken: &BondList) -> Result<Spins, NoMemory>
     requires connected { IsConnected planar.now.instance }
     requires rising { IsStrictlyIncreasing broken.now }
@@ -49,7 +49,7 @@ fn negative_bonds(alloc: Global, bonds: &[Bond]) -> Result<Vec<bool>, NoMemory>
     Ok(marks)
 }
 
-/// For each bond whether it is to join unlike spins.
+/// For each bond whether it is to join opposite spins.
 pub(crate) fn unlike_bonds(
     alloc: Global,
     inst: &Instance,

@@ -42,15 +42,15 @@ struct Split {
 /// How an instance falls into its components.
 #[derive(Drop)]
 pub enum Division {
-    /// It is one component, which is the instance as it stands.
+    /// It is one component, which is the instance itself.
     Whole,
     /// It is several, each an instance of its own.
     Several(PartList),
 }
 
 /// The components of an instance. Of one that is connected nothing is copied, and the answer takes the
-/// same time for each; of another the parts are made, as `parts` makes them. The only error is want of
-/// memory.
+/// same time for each; of another the parts are made, as `parts` makes them. The only error is running
+/// out of memory.
 pub fn divide(alloc: Global, planar: &Planar) -> Result<Division, NoMemory>
     ensures division { IfOk result (IsDivision planar.now.instance) }
     ensures whole { IfOk result (λ d. IsConnected planar.now.instance → d ≡ Whole) }
@@ -66,7 +66,8 @@ pub fn divide(alloc: Global, planar: &Planar) -> Result<Division, NoMemory>
 /// Spins and bonds are dealt out by the least spin of their component, which the instance knows, so
 /// that all parts together take time and memory linear in the spins and bonds. Each part is connected
 /// and drawn on a sphere as the whole is: its spins and faces are at most two more than its bonds, by
-/// Euler's formula, and summed over the parts they are just that. The only error is want of memory.
+/// Euler's formula, and summed over the parts they are just that. The only error is running out of
+/// memory.
 pub fn parts(alloc: Global, planar: &Planar) -> Result<PartList, NoMemory>
     ensures { IfOk result (AreParts planar.now.instance) }
 {

@@ -14,7 +14,7 @@ use std::alloc::Global;
 
 /// Whether the list can be that of the broken bonds of an assignment, as `spin_walk` asks for it: on
 /// each face as many darts of its bonds as darts of negative bonds, up to an even number. The time is
-/// linear in the bonds. It is for a caller whose list comes from outside: a join is known to fit.
+/// linear in the bonds. It is for a caller whose list comes from outside: a T-join is known to fit.
 pub fn fits_faces(alloc: Global, planar: &Planar, broken: &BondList) -> Result<bool, NoMemory>
     requires rising { IsStrictlyIncreasing broken.now }
     requires below { All (λ k. k < bond_count planar.now.instance) broken.now }

@@ -1,19 +1,19 @@
-//! The test whether an instance can be solved by the planar method, and the type that keeps it.
+//! The test whether an instance can be solved by the planar method, and the type that keeps its result.
 //!
-//! A planar spin glass is solved by way of the dual graph of its faces (Bieche, Maynard, Rammal and
-//! Uhry 1980, Barahona 1982). That needs a drawing of each component on a sphere: Euler's number,
-//! spins minus bonds plus faces, and less two for each component but one, is 2. The sum of the
-//! couplings' sizes is bounded too, so that all later numbers fit their types.
+//! A planar spin glass is solved by way of the dual graph of its faces (Bieche, Maynard, Rammal and Uhry
+//! 1980, Barahona 1982). That needs a drawing of each component on a sphere: Euler's number, spins minus
+//! bonds plus faces, and less two for each component but one, is 2. The sum of the couplings' sizes is
+//! bounded too, so that all later numbers fit their types.
 //!
-//! Faces and components do not depend on the couplings. They are found once, by `Planar::new`, and stay
-//! where the couplings change (`with_couplings`).
+//! Faces and components do not depend on the couplings. They are found once, by `Planar::new`, and kept
+//! when the couplings change (`with_couplings`).
 //!
-//! In such an instance that is connected, a list of bonds is that of the broken bonds of an assignment
-//! exactly where it fits the faces, and `spin_walk` finds the assignment. `parts` takes an instance
-//! apart into its components, and `divide` one that has several.
+//! In such an instance that is connected, a list of bonds is the list of broken bonds of an assignment
+//! exactly if it fits the faces, and `spin_walk` finds the assignment. `parts` takes an instance apart
+//! into its components, and `divide` one that has several.
 //!
-//! For the next engineer: `Planar::new`, `spin_walk`, `parts` and `divide` are the contracts that matter.
-//! `specs/Fit.antt` says what is fit, which fact fails first, and what a `Planar` keeps;
+//! For the next engineer: `Planar::new`, `spin_walk`, `parts` and `divide` are the contracts that
+//! matter. `specs/Fit.antt` says what is fit, which check fails first, and what a `Planar` keeps;
 //! `specs/BrokenLists.antt` which lists fit the faces; `specs/Parts.antt` what the parts are.
 //! `proofs/PlanarDuality.antt` has the mathematics over any embedding, `proofs/EulerBounds.antt` the
 //! bounds on faces that the crates above cite, and `proofs/PartsPlanar.antt` why each part is planar.

@@ -37,7 +37,7 @@ impl Model for Planar {
         × AreComponents p.instance p.components.names p.components.leasts };
 }
 
-/// Why an instance is not fit, and the instance as it was handed in.
+/// Why an instance is not fit, and the instance as it was given.
 #[derive(Drop)]
 pub struct NotFit {
     pub fault: Fault,
@@ -49,7 +49,7 @@ impl Planar {
     ///
     /// # Errors
     /// `SumTooLarge` where the sum of the couplings' sizes is above `SUM_LIMIT`; then `NotPlanar` with
-    /// Euler's number where it is not 2. The instance is handed back with every fault.
+    /// Euler's number where it is not 2. The instance is returned with every fault.
     pub fn new(alloc: Global, instance: Instance) -> Result<Planar, NotFit>
         ensures instance { IfOk result (λ p. p.instance ≡ instance) }
         ensures fit { IfOk result (λ _. IsFit instance) }
@@ -70,7 +70,7 @@ impl Planar {
         }
     }
 
-    /// Tests an instance as `new` does, for a caller that does not want it back.
+    /// Tests an instance as `new` does, for a caller that does not need it back.
     pub fn test(alloc: Global, instance: Instance) -> Result<Planar, Fault>
         ensures instance { IfOk result (λ p. p.instance ≡ instance) }
         ensures fit { IfOk result (λ _. IsFit instance) }
@@ -128,7 +128,7 @@ impl Planar {
     }
 
     /// The same drawing with these couplings, in the order of the bonds, in time linear in the bonds.
-    /// It takes no memory: the rotation, the faces and the components are moved, and not copied.
+    /// It does not allocate: the rotation, the faces and the components are moved, and not copied.
     pub fn with_couplings(self, couplings: &Couplings) -> Planar
         requires count { length couplings.now ≡ bond_count self.instance }
         requires sum { weight (with_couplings self.instance couplings.now) ≤ forced_limit }

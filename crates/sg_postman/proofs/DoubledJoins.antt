@@ -13,7 +13,7 @@ use Rattle.sg_graph.specs.OddCut.{CutsPack, odd_cut_weight}
 use Rattle.sg_graph.specs.Web.{Graph, degree_of, edge_count, edge_weight, ends_at, ends_on, total_weight, weight_at, weight_of}
 use Rattle.sg_graph.proofs.WalkEnds.{walk_below}
 use Rattle.sg_postman.specs.declared.steps.Step.{Step}
-use Rattle.sg_postman.specs.Tour.{IsLeastTour, IsTour, edges_of, end_of, odd_nodes, times}
+use Rattle.sg_postman.specs.Tour.{IsLeastTour, IsTour, edges_of, end_of, odd_nodes, uses_of}
 use Rattle.sg_postman.specs.Tracing.{IsEulerTour, left_of, open_ends}
 use Rattle.sg_postman.proofs.ClosedWalks.{closed_walk_weighs, stands, sum_by_stands}
 use Rattle.sg_postman.proofs.Trails.{times_stands, trail_walk}
@@ -53,7 +53,7 @@ module _ (g : Graph) (join left : List ℕ) (is : IsJoin g (odd_nodes g) join)
     euler_tour = record {
       steps = euler.trail;
       closed = euler.closed;
-      each = λ e l. once_or_twice (times e ss) (holds join e) (euler.each e l ∙ copies e l);
+      each = λ e l. once_or_twice (uses_of e ss) (holds join e) (euler.each e l ∙ copies e l);
     }
 
     euler_weighs : weight_of g (edges_of ss) ≡ total_weight g + weight_of g join

@@ -10,7 +10,7 @@ use Rattle.sg_graph.specs.Incidence.{EndsAt}
 use Rattle.sg_graph.specs.declared.web.Edge.{Edge}
 use Rattle.sg_graph.proofs.Walks.{leads_other, turned, leads_low}
 use Rattle.sg_postman.specs.declared.steps.Step.{Step}
-use Rattle.sg_postman.specs.Tour.{AreSteps, end_of, times}
+use Rattle.sg_postman.specs.Tour.{AreSteps, end_of, uses_of}
 use Rattle.sg_postman.specs.Tracing.{AreUsedUp, IsEulerTour, IsUsedUp, IsTracing, at_node, left_of, one_less, onward, open_ends}
 use Rattle.sg_postman.proofs.Trails.{end-append, times-append, trail-append, trail-last}
 
@@ -84,9 +84,9 @@ times_zero n = grind arith
 zero_times : (n : ℕ) → 0 * n ≡ 0
 zero_times n = grind arith
 
-later : (s : Step) (ss : List Step) (e : ℕ) → eqb s.edge e ≡ false → 0 < times e (s ∷ ss) → 0 < times e ss
+later : (s : Step) (ss : List Step) (e : ℕ) → eqb s.edge e ≡ false → 0 < uses_of e (s ∷ ss) → 0 < uses_of e ss
 later s ss e none some =
-    let cons : times e (s ∷ ss) ≡ cond {A = ℕ} (eqb s.edge e) 1 0 + times e ss = sum_by-cons (λ (r : Step). cond (r.edge == e) 1 0) s ss in
+    let cons : uses_of e (s ∷ ss) ≡ cond {A = ℕ} (eqb s.edge e) 1 0 + uses_of e ss = sum_by-cons (λ (r : Step). cond (r.edge == e) 1 0) s ss in
     let zero : cond {A = ℕ} (eqb s.edge e) 1 0 ≡ 0 = ap (λ b. cond {A = ℕ} b 1 0) none in
     omega (arith, cons, zero, some)
 
@@ -205,7 +205,7 @@ module _ (g : Graph) (web : IsWeb g) (copies : ℕ → ℕ) where
 
   -- what an edge of the trail leads to is spent
   onto_spent : (left : List ℕ) (e a b x : ℕ) (ss : List Step) → Leads g e a b → AreSteps g x ss → AreUsedUp g left x ss
-      → IsUsedUp g left (end_of x ss) → 0 < times e ss → IsUsedUp g left b
+      → IsUsedUp g left (end_of x ss) → 0 < uses_of e ss → IsUsedUp g left b
   onto_spent left e a b x [] l t h last some = absurd (omega (arith, some))
   onto_spent left e a b x (s ∷ ss) l t h last some = elim (cases_eq s.edge e) [
     | inl here ↦ elim (same_ends g e a b x s.to l (subst (λ k. Leads g k x s.to) here t.0)) [
@@ -233,7 +233,7 @@ module _ (g : Graph) (web : IsWeb g) (copies : ℕ → ℕ) where
       reach x [] y here w = subst (IsUsedUp g left) w here
       reach x (e ∷ es) y here w =
           let out = here e (w.1.below, elim w.1.ways [ inl p ↦ inl p.0 | inr p ↦ inr p.1 ]) in
-          let stands : 0 < times e back = omega (arith, tracing.copies_are e w.1.below, out, some e w.1.below) in
+          let stands : 0 < uses_of e back = omega (arith, tracing.copies_are e w.1.below, out, some e w.1.below) in
           reach w.0 es y (onto_spent left e x w.0 0 back w.1 tracing.back_trail tracing.spent (rw closed spent) stands) w.2
 
       all_spent : (x : ℕ) → x < g.nodes → IsUsedUp g left x

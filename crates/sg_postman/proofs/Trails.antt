@@ -4,7 +4,7 @@ use Rattle.std.proofs.lemmas.List.Sums.{sum_by-append, sum_by-cons}
 use Rattle.sg_graph.specs.Web.{Graph}
 use Rattle.sg_graph.specs.Walk.{IsWebWalk, Leads}
 use Rattle.sg_postman.specs.declared.steps.Step.{Step}
-use Rattle.sg_postman.specs.Tour.{AreSteps, edges_of, end_of, times}
+use Rattle.sg_postman.specs.Tour.{AreSteps, edges_of, end_of, uses_of}
 
 -- steps end where the last of them leads to
 pub end-append : (x : ℕ) (ss : List Step) (s : Step) → end_of x (ss ++ s ∷ []) ≡ s.to
@@ -31,7 +31,7 @@ module _ (g : Graph) where
   trail-last x (r ∷ ss) s t = let b : AreSteps g r.to ss × Leads g s.edge (end_of r.to ss) s.to = trail-last r.to ss s t.1 in ((t.0, b.0), b.1)
 
 -- an edge stands once more where the step is over it
-pub times-append : (e : ℕ) (ss : List Step) (s : Step) → times e (ss ++ s ∷ []) ≡ times e ss + times e (s ∷ [])
+pub times-append : (e : ℕ) (ss : List Step) (s : Step) → uses_of e (ss ++ s ∷ []) ≡ uses_of e ss + uses_of e (s ∷ [])
 times-append e ss s = sum_by-append (λ (r : Step). cond (r.edge == e) 1 0) ss (s ∷ [])
 
 -- the edges of a trail are a walk
@@ -40,7 +40,7 @@ trail_walk g x [] t = refl
 trail_walk g x (s ∷ ss) t = (s.to, t.0, trail_walk g s.to ss t.1)
 
 -- an edge stands as often in the steps as among their edges
-pub times_stands : (e : ℕ) (ss : List Step) → count_by (λ k. eqb k e) (edges_of ss) ≡ times e ss
+pub times_stands : (e : ℕ) (ss : List Step) → count_by (λ k. eqb k e) (edges_of ss) ≡ uses_of e ss
 times_stands e [] = refl
 times_stands e (s ∷ ss) =
     sum_by-cons (λ k. cond {A = ℕ} (eqb k e) 1 0) s.edge (edges_of ss) ∙ ap (λ n. cond {A = ℕ} (eqb s.edge e) 1 0 + n) (times_stands e ss)

@@ -13,7 +13,7 @@ abbrev pub end_of : ℕ → List Step → ℕ
 end_of x [] = x
 end_of x (s ∷ ss) = end_of s.to ss
 
--- each step leads over its edge from where one stands
+-- each step leads over its edge from where the walk is
 abbrev pub AreSteps : Graph → ℕ → List Step → Type 0
 AreSteps g x [] = Unit {0}
 AreSteps g x (s ∷ ss) = Leads g s.edge x s.to × AreSteps g s.to ss
@@ -22,15 +22,15 @@ AreSteps g x (s ∷ ss) = Leads g s.edge x s.to × AreSteps g s.to ss
 abbrev pub edges_of : List Step → List ℕ
 edges_of ss = map (λ s. s.edge) ss
 
--- how often edge e stands in the steps
-abbrev pub times : ℕ → List Step → ℕ
-times e ss = count_by (λ s. s.edge == e) ss
+-- how often the steps use edge e
+abbrev pub uses_of : ℕ → List Step → ℕ
+uses_of e ss = count_by (λ s. s.edge == e) ss
 
--- steps from node 0 back to it, in which each edge stands once or twice
+-- steps from node 0 back to it that use each edge once or twice
 pub record IsTour (g : Graph) (ss : List Step) : Type 0 where
   pub steps : AreSteps g 0 ss
   pub closed : end_of 0 ss ≡ 0
-  pub each : (e : ℕ) → e < edge_count g → (times e ss ≡ 1) ⊎ (times e ss ≡ 2)
+  pub each : (e : ℕ) → e < edge_count g → (uses_of e ss ≡ 1) ⊎ (uses_of e ss ≡ 2)
 
 -- a walk that ends where it began, and holds every edge
 pub record IsClosedWalk (g : Graph) (es : List ℕ) : Type 0 where

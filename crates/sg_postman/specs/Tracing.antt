@@ -6,13 +6,13 @@ use Rattle.sg_graph.specs.Incidence.{EndsAt, list_at}
 use Rattle.sg_graph.specs.Walk.{other_end}
 use Rattle.sg_graph.specs.Web.{Graph, edge_at, edge_count, ends_at}
 use Rattle.sg_postman.specs.declared.steps.Step.{Step}
-use Rattle.sg_postman.specs.Tour.{AreSteps, end_of, times}
+use Rattle.sg_postman.specs.Tour.{AreSteps, end_of, uses_of}
 
 -- steps from node 0 back to it that use each copy of each edge once
 pub record IsEulerTour (g : Graph) (copies : ℕ → ℕ) (ss : List Step) : Type 0 where
   pub trail : AreSteps g 0 ss
   pub closed : end_of 0 ss ≡ 0
-  pub each : (e : ℕ) → e < edge_count g → times e ss ≡ copies e
+  pub each : (e : ℕ) → e < edge_count g → uses_of e ss ≡ copies e
 
 -- the copies of edge e that are left
 abbrev pub left_of : List ℕ → ℕ → ℕ
@@ -41,12 +41,12 @@ open_ends g left x = sum_below (λ e. left_of left e * ends_at g x e) (edge_coun
 abbrev pub at_node : ℕ → ℕ → ℕ
 at_node y x = cond (y == x) 1 0
 
--- `out` leads from node 0 to where it stands, and `back`, which is done, from node 0 over spent nodes
+-- `out` leads from node 0 to its end, and `back`, which is done, from node 0 over spent nodes
 pub record IsTracing (g : Graph) (copies : ℕ → ℕ) (left : List ℕ) (out back : List Step) : Type 0 where
   pub count : length left ≡ edge_count g
   pub out_trail : AreSteps g 0 out
   pub back_trail : AreSteps g 0 back
-  pub copies_are : (e : ℕ) → e < edge_count g → left_of left e + times e out + times e back ≡ copies e
+  pub copies_are : (e : ℕ) → e < edge_count g → left_of left e + uses_of e out + uses_of e back ≡ copies e
   pub even : (x : ℕ) → x < g.nodes → (open_ends g left x + at_node (end_of 0 out) x + at_node (end_of 0 back) x) % 2 ≡ 0
   pub spent : AreUsedUp g left 0 back
 
@@ -54,7 +54,7 @@ pub record IsTracing (g : Graph) (copies : ℕ → ℕ) (left : List ℕ) (out b
 abbrev pub one_less : List ℕ → ℕ → List ℕ
 one_less left e = slice_set left e (left_of left e - 1)
 
--- the step along an edge from where one stands
+-- the step along an edge from the present node
 abbrev pub onward : Graph → List Step → ℕ → Step
 onward g out e = record { edge = e; to = other_end (end_of 0 out) (edge_at g e) }
 

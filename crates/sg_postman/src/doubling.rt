@@ -7,7 +7,8 @@ use super::NoMemory;
 use sg_graph::Edge;
 use std::alloc::Global;
 
-/// How often each of `count` edges is to be used: twice if it is in the join, and once if it is not.
+/// How often each of `count` edges is to be used: twice if it is in the T-join, and once if it is
+/// not.
 pub fn copies(alloc: Global, count: usize, join: &[u32]) -> Result<Vec<u32>, NoMemory>
     requires { All (λ e. e < count) join.now }
     ensures count { IfOk result (λ copies. length copies.items ≡ count) }

@@ -10,14 +10,14 @@ use super::{NoMemory, Step};
 use sg_graph::{Incidence, Web};
 use std::alloc::Global;
 
-/// A closed trail from node 0 that uses each copy of each edge once, for a connected web whose copies
+/// A closed trail from node 0 that uses each copy of each edge once, for a connected graph whose copies
 /// have even degrees, in time linear in nodes, edges and copies: of each node's edges, those before the
 /// first that may have a copy left are never looked at again. `left` has the number of copies of each
 /// edge, and counts them down.
 ///
-/// The trail `out` goes on over copies that are left. Where its node has none, its last step moves to
-/// the trail `back`, turned round. Degrees are even, so `back` stands just there, and it is a trail
-/// from node 0 all the time: nothing is spliced, nor turned round in the end.
+/// The trail `out` continues over copies that are left. If its node has none, its last step moves to
+/// the trail `back`, reversed. Degrees are even, so `back` starts just there and is a trail from node
+/// 0 at all times: nothing is spliced, and nothing is reversed in the end.
 pub fn trace(alloc: Global, web: &Web, left: &mut [u32]) -> Result<Vec<Step>, NoMemory>
     requires connected { IsConnectedWeb web.now }
     requires count { length left.old ≡ edge_count web.now }
@@ -78,7 +78,7 @@ fn standing(steps: &[Step]) -> u32
     }
 }
 
-// An edge at the node of which a copy is left. The search goes on where the last one stopped.
+// An edge at the node of which a copy is left. The search continues where the last one stopped.
 fn open_edge(incidence: &Incidence, left: &[u32], tried: &mut Vec<usize>, node: u32) -> Option<u32>
     requires node { node < length incidence.now }
     requires edges { All (λ e. e < length left.now) (list_at incidence.now node) }

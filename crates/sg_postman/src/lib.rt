@@ -1,18 +1,18 @@
-//! The postman's tour: a closed walk over every edge of a connected web than which none weighs less
-//! (Guan 1960), with the odd cuts that prove it (Edmonds and Johnson 1973).
+//! The postman's tour: a closed walk of least weight over every edge of a connected weighted graph (Guan
+//! 1960), with the odd cuts that prove it (Edmonds and Johnson 1973).
 //!
-//! For whoever routes or inspects a network: a street to be swept, a pipe to be looked at, a track to
-//! be tested is an edge, and it weighs what it costs to go along it once, in whole units of your
-//! choice. [`tour`] gives the order in which to go, from node 0 back to it. It goes along each edge
-//! once or twice: those that it takes twice are a least set of edges which makes all degrees even.
-//! The cuts show to anyone who distrusts the search that no round could cost less: each is all edges
-//! out of some part of the network with an odd number of odd nodes, where a round goes twice.
+//! For routing and inspection of networks: a street to be swept, a pipe to be inspected or a track to be
+//! tested is an edge, and it weighs what it costs to go along it once, in whole units of your choice.
+//! [`tour`] gives the order in which to go, from node 0 back to it. It goes along each edge once or
+//! twice: those that it takes twice are a minimum set of edges that makes all degrees even. The cuts
+//! show without trust in the search that no round could cost less: each consists of all edges out of
+//! some part of the network with an odd number of odd nodes, where a round goes twice.
 //!
-//! For the next engineer: `degrees` finds the nodes of odd degree, `sg_tjoin` a least join of them,
-//! `doubling` says how often each edge is to be used, and `hierholzer` goes along all these copies
-//! (Hierholzer 1873), in time linear in them. That no closed walk weighs less takes no walk apart: in
-//! [`closed_walks_weigh`] the edges that stand in it an even number of times are a join of the nodes
-//! of odd degree, and stand at least twice.
+//! For the next engineer: `degrees` finds the nodes of odd degree, `sg_tjoin` a minimum T-join of them,
+//! `doubling` says how often each edge is used, and `hierholzer` goes along all these copies (Hierholzer
+//! 1873), in time linear in them. The proof that no closed walk weighs less ([`closed_walks_weigh`])
+//! decomposes no walk: the edges that a closed walk uses an even number of times are a T-join of the
+//! nodes of odd degree, and it uses each of them at least twice.
 #![tactic(auto)]
 
 mod degrees;
@@ -42,8 +42,8 @@ pub type NoMemory = AllocError;
 /// A closed walk from node 0 over every edge than which none weighs less, its weight, and the odd cuts
 /// that prove it.
 ///
-/// Each edge stands in it once or twice. The cuts are a packing for the nodes of odd degree, and weigh
-/// twice as much as the edges that stand twice. A web without edges has a tour without steps.
+/// It uses each edge once or twice. The cuts are a packing for the nodes of odd degree, and weigh
+/// twice as much as the edges that it uses twice. A graph without edges has a tour without steps.
 ///
 /// Cost: that of `sg_tjoin::least_join` for the nodes of odd degree, and time and memory linear in
 /// nodes and edges beside it.

@@ -1,4 +1,4 @@
--- Turning couplings: where a coupling is moved, how far it may move before the ground states turn the bond.
+-- Turning couplings: how far a coupling may move before the ground states change.
 use Rattle.std.specs.Prelude.{◌≡◌, ℕ, ◌*◌, ◌<◌, ◌≤◌, ℤ, pos, negsuc, ◌<ℤ◌, List, length, slice_index_or}
 use Rattle.sg_model.specs.Ising.{Ising, bond_at, bond_count}
 use Rattle.sg_model.specs.Spins.{IsUpOrDown}
@@ -6,8 +6,8 @@ use Rattle.sg_model.specs.Energy.{IsGroundState, product}
 use Rattle.sg_model.specs.Changes.{with_coupling}
 use Rattle.sg_bonds.specs.Cost.{IsLeastWith}
 
--- with the coupling t at bond k, and nothing else changed, the least energies with like and with unlike spins there are
--- the same
+-- with the coupling t at bond k, and nothing else changed, the least energies with equal and with opposite spins there
+-- are the same
 pub record IsTurn (inst : Ising) (k : ℕ) (t : ℤ) : Type 0 where
   pub level : ℤ
   pub like : IsLeastWith (with_coupling inst k t) k (pos 1) level
@@ -18,8 +18,8 @@ pub record AreTurns (inst : Ising) (turns : List ℤ) : Type 0 where
   pub count : length turns ≡ bond_count inst
   pub each : (k : ℕ) → k < bond_count inst → IsTurn inst k (slice_index_or turns k (pos 0))
 
--- the coupling t parts the ground states by their product at bond k: with any coupling above it each of them has like
--- spins there, with any below it unlike ones, and with t itself there is one of each
+-- the coupling t parts the ground states by their product at bond k: with any coupling above it each of them has equal
+-- spins there, with any below it opposite ones, and with t itself there is one of each
 pub record IsTurningPoint (inst : Ising) (k : ℕ) (t : ℤ) : Type 0 where
   pub above : (z : ℤ) → t <ℤ z → (s : List ℤ) → IsGroundState (with_coupling inst k z) s
       → product s (bond_at inst k) ≡ pos 1

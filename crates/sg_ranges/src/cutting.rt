@@ -24,7 +24,7 @@ pub struct CutAnswer {
 }
 
 /// A largest cut, where the coupling of a bond, of either sign, is its weight: the bonds between the
-/// spins that are up and those that are down. The only error is want of memory.
+/// spins that are up and those that are down. The only error is running out of memory.
 ///
 /// It is a ground state of the instance with every sign changed, whose energy is the sum of all
 /// couplings less twice the weight of the cut. The loops prove it as the loops of `solve` do, in that

@@ -14,11 +14,11 @@ use sg_planar::Planar;
 use std::alloc::Global;
 
 /// The turning coupling of each bond, in the order of the bonds: with this coupling in place of its
-/// own the least energies with like and with unlike spins at the bond are the same. With any coupling
-/// above it every ground state has like spins there, with any below it unlike ones. The only error is
-/// want of memory.
+/// own the least energies with equal and with opposite spins at the bond are the same. With any
+/// coupling above it every ground state has equal spins there, with any below it unlike ones. The
+/// only error is running out of memory.
 ///
-/// A bond whose product in a ground state is `p` and that costs `c` to turn has the turning coupling
+/// A bond whose product in a ground state is `p` and that costs `c` to flip has the turning coupling
 /// `J - p c / 2`. It is a whole number, since all energies of one instance have one parity.
 ///
 /// Cost: that of `costs`, and one ground state more.

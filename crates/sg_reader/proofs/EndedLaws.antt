@@ -79,13 +79,13 @@ refuses-cons fault records more q x rest split other good (AtRecord body r divid
 refuses-cons fault records more q x rest split other good (WithoutEnd is_body unended none) =
     WithoutEnd (subst (λ (l : List Kept). IsBody fault l) (sym split) (IsBody-cons fault q more other good is_body)) unended none
 
--- a record fails a test, or memory is wanting for it
+-- a record fails a test, or an allocation for it fails
 pub record-fault : (fault : TestTable) (all body : List Kept) (r : Kept) (rest : List Kept) (e : Fault) → all ≡ body ++ r ∷ rest → IsBody fault body
     → OrNoMemory (Refuses (fault body r)) e → Fails (RefusesRecords fault all) all rest e
 record-fault fault all body r rest (Refused x) split is_body bad = AtRecord body r split is_body bad
 record-fault fault all body r rest NoMemory split is_body bad = rest-behind all body r rest split
 
--- a first record fails its test, or memory is wanting for it
+-- a first record fails its test, or an allocation for it fails
 pub first-fault : (fault : TestTable) (all : List Kept) (r : Kept) (rest : List Kept) (e : Fault) → all ≡ r ∷ rest
     → OrNoMemory (Refuses (fault [] r)) e → Fails (RefusesRecords fault all) all rest e
 first-fault fault all r rest e split bad = record-fault fault all [] r rest e split (IsBody-none fault) bad
@@ -142,7 +142,7 @@ module _ {S : Type 0} (tests : S → TestTable) (holds : S → List Kept → S �
       let same : all ≡ sf.body = sf.split ∙ ap (λ (l : List Kept). sf.body ++ l) none ∙ append-nil sf.body in
       WithoutEnd (subst (λ (l : List Kept). IsBody (tests start) l) (sym same) sf.is_body) refl nothing
 
--- at the `end` a test fails, or memory is wanting for it
+-- at the `end` a test fails, or an allocation for it fails
 pub end-fault : {S : Type 0} (tests : S → TestTable) (holds : S → List Kept → S → Type 0) (start : S)
     (all : List Kept) (now : S) (last : Kept) (rest : List Kept)
     (h : HoldsToEnd tests holds start all now last rest) (e : Fault)

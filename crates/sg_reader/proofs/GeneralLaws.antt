@@ -40,7 +40,8 @@ pub bond_fault-ends : (n m : ℕ) (r : Kept) (test : Option Refusal) → link_fa
 bond_fault-ends n m r test good ends = rw good (ap (λ (o : Option Refusal). option_or o None) ends ∙ one-test test)
 
 -- the tests of a rotation
-pub rot_fault-number : (n : ℕ) (seen : Bool) (r : Kept) (k : ℕ) → (length r.fields ≡ 1 → ⊥) → bad_field r 1 (first_then_index (spin_below n)) ≡ Some k
+pub rot_fault-number : (n : ℕ) (seen : Bool) (r : Kept) (k : ℕ) → (length r.fields ≡ 1 → ⊥) →
+    bad_field r 1 (first_then_index (spin_below n)) ≡ Some k
     → rot_fault n seen r ≡ Some (BadNumber r.at k)
 rot_fault-number n seen r k count bad = rw (ne_eqb (length r.fields) 1 count, bad) refl
 
@@ -69,12 +70,14 @@ unfolding general_fault
 general_fault-bond n body r h = rw h refl
 
 -- a `rot` is tested as one of its spin
-pub general_fault-rot : (n : ℕ) (body : List Kept) (r : Kept) → says_rot r ≡ true → general_fault n body r ≡ rot_fault n (has_rot body (size_in r 1)) r
+pub general_fault-rot : (n : ℕ) (body : List Kept) (r : Kept) → says_rot r ≡ true →
+    general_fault n body r ≡ rot_fault n (has_rot body (size_in r 1)) r
 unfolding general_fault
 general_fault-rot n body r h = rw (other-word r (codes "rot") (codes "bond") h refl, h) refl
 
 -- a `seam` is tested as one behind the others
-pub general_fault-seam : (n : ℕ) (body : List Kept) (r : Kept) → says_seam r ≡ true → general_fault n body r ≡ sole_list_fault (list_any says_seam body) r
+pub general_fault-seam : (n : ℕ) (body : List Kept) (r : Kept) → says_seam r ≡ true →
+    general_fault n body r ≡ sole_list_fault (list_any says_seam body) r
 unfolding general_fault
 general_fault-seam n body r h = rw (other-word r (codes "seam") (codes "bond") h refl, other-word r (codes "seam") (codes "rot") h refl, h) refl
 
@@ -90,7 +93,8 @@ general_fault-end n body r h =
     ) refl
 
 -- any other record is of no known kind
-pub general_fault-other : (n : ℕ) (body : List Kept) (r : Kept) → says_bond r ≡ false → says_rot r ≡ false → says_seam r ≡ false → says_end r ≡ false
+pub general_fault-other : (n : ℕ) (body : List Kept) (r : Kept) → says_bond r ≡ false → says_rot r ≡ false →
+    says_seam r ≡ false → says_end r ≡ false
     → general_fault n body r ≡ Some (UnknownKind r.at)
 unfolding general_fault
 general_fault-other n body r a b c d = rw (a, b, c, d) refl
@@ -106,7 +110,8 @@ unfolding bonds_in
 bonds_in-other body r h = said-other says_bond bond_of body r h
 
 -- whether a spin has its darts, and which, with one more record
-has_rot-more : (body : List Kept) (r : Kept) (i : ℕ) (b : Bool) → says_rot_of i r ≡ b → has_rot (body ++ r ∷ []) i ≡ (has_rot body i || (b || false))
+has_rot-more : (body : List Kept) (r : Kept) (i : ℕ) (b : Bool) → says_rot_of i r ≡ b →
+    has_rot (body ++ r ∷ []) i ≡ (has_rot body i || (b || false))
 unfolding has_rot
 has_rot-more body r i b h = list_any-append (says_rot_of i) body (r ∷ []) ∙ ap (λ (c : Bool). list_any (says_rot_of i) body || (c || false)) h
 

@@ -48,7 +48,8 @@ number-at : (r : Kept) (from : ℕ) (range : ℕ → Range) (i : ℕ) → bad_nu
 unfolding bad_field
 number-at r from range i h low high =
     not-false (is_number_in (range i) (field r i))
-    (find_range-all (λ j. not (is_number_in (range j) (field r j))) from (length r.fields - from) i (none-mapped (λ j. BadNumber r.at j) (bad_field r from range) h)
+    (find_range-all (λ j. not (is_number_in (range j) (field r j))) from (length r.fields - from) i
+    (none-mapped (λ j. BadNumber r.at j) (bad_field r from range) h)
     low (omega (arith, high, low)))
 
 low-of : (least : ℕ) (o : Option ℤ) → is_in (at_least least) o ≡ true → least ≤ unsigned_abs (unwrap_or o (pos 0))

@@ -83,7 +83,8 @@ stops-once fault records (r ∷ a) (s ∷ b) p q after behind x y =
     record { body = ap₂ (λ (t : Kept) (l : List Kept). t ∷ l) (sym same) later.body; at = later.at; rest = later.rest }
 
 -- records none of which is a stop are read without one
-pub stops-never : (fault : TestTable) (records body : List Kept) (r : Kept) (rest : List Kept) → IsBody fault records → Stops fault records body r rest → ⊥
+pub stops-never : (fault : TestTable) (records body : List Kept) (r : Kept) (rest : List Kept) → IsBody fault records →
+    Stops fault records body r rest → ⊥
 stops-never fault records [] r rest good x = first-no_stop fault r r rest refl x.stop (subst (λ (l : List Kept). IsBody fault l) x.split good)
 stops-never fault records (q ∷ body) r rest good x =
     stops-never (λ front. fault (q ∷ front)) (body ++ r ∷ rest) body r rest
@@ -95,7 +96,8 @@ states-stop : {X : Type 0} (fault : TestTable) (stated : List Kept → X) (recor
     → (s : StatesToEnd fault stated records x rest) → Stops fault records s.body s.last rest
 states-stop fault stated records x rest s = record { split = s.ended.split; is_body = s.ended.is_body; stop = inl s.ended.ends }
 
-refused-stop : (fault : TestTable) (records body : List Kept) (q : Kept) (r : Refusal) (rest : List Kept) → records ≡ body ++ q ∷ rest → IsBody fault body
+refused-stop : (fault : TestTable) (records body : List Kept) (q : Kept) (r : Refusal) (rest : List Kept) →
+    records ≡ body ++ q ∷ rest → IsBody fault body
     → fault body q ≡ Some r → Stops fault records body q rest
 refused-stop fault records body q r rest split is_body bad = record { split = split; is_body = is_body; stop = inr (r, bad) }
 
@@ -108,7 +110,8 @@ records-one_answer {X} fault stated records = record {
   named = λ r s bad other. named r s bad other;
 }
   where
-    apart : (x : X) (rest : List Kept) (r : Refusal) (more : List Kept) → StatesToEnd fault stated records x rest → RefusesRecords fault records r more → ⊥
+    apart : (x : X) (rest : List Kept) (r : Refusal) (more : List Kept) → StatesToEnd fault stated records x rest →
+        RefusesRecords fault records r more → ⊥
     apart x rest r more given (AtRecord body q split is_body bad) =
         let same = stops-once fault records given.body body given.last q rest more (states-stop fault stated records x rest given)
         (refused-stop fault records body q r more split is_body bad) in

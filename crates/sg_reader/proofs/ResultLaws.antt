@@ -85,7 +85,8 @@ pub loop_fault-number : (r : Kept) (k : ℕ) → begins (codes "loop") r ≡ tru
 loop_fault-number r k word count bad = rw (word, ne_eqb (length r.fields) 1 count, bad) refl
 
 -- a `loop` with good numbers passes
-pub loop_fault-none : (r : Kept) → begins (codes "loop") r ≡ true → (length r.fields ≡ 1 → ⊥) → bad_field r 1 (first_then_index any_number) ≡ None
+pub loop_fault-none : (r : Kept) → begins (codes "loop") r ≡ true → (length r.fields ≡ 1 → ⊥) →
+    bad_field r 1 (first_then_index any_number) ≡ None
     → loop_fault r ≡ None
 loop_fault-none r word count good = rw (word, ne_eqb (length r.fields) 1 count, good) refl
 

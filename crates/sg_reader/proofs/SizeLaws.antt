@@ -5,7 +5,7 @@ use Rattle.sg_limits.specs.Limits.{bond_limit}
 use Rattle.sg_model.specs.Ising.{Ising, bond_count}
 use Rattle.sg_lattice.specs.declared.kind.Kind.{Kind}
 use Rattle.sg_lattice.specs.declared.kind.Kind.TheVariants.{Square, Triangular, Hexagonal, Cylinder}
-use Rattle.sg_lattice.specs.Tables.{IsSize, bond_total, lattice, south_before}
+use Rattle.sg_lattice.specs.Tables.{IsSize, bond_total, lattice, vertical_bonds_before}
 use Rattle.sg_lattice.proofs.LatticeBonds.{bond_count_is}
 use Rattle.sg_reader.specs.declared.general.GeneralBody.{GeneralBody}
 use Rattle.sg_reader.specs.declared.header.Header.TheVariants as header
@@ -18,7 +18,7 @@ use Rattle.sg_reader.specs.ReadInstance.{HoldsGeneral}
 row-more : (k C : ℕ) → (k + 1) * C ≡ k * C + C
 row-more k C = grind arith
 
-half_rows : (R C : ℕ) → 1 ≤ R → south_before C (R - 1) ≤ R * C
+half_rows : (R C : ℕ) → 1 ≤ R → vertical_bonds_before C (R - 1) ≤ R * C
 half_rows R C some =
     let rows = mul-le ((R - 1) / 2) C (R - 1) C (omega arith) (omega arith) in
     let before : R ≡ R - 1 + 1 = omega arith in

@@ -65,7 +65,7 @@ says_rot_of i r = says_rot r && (size_in r 1 == i)
 unfoldable pub has_rot : List Kept → ℕ → Bool
 has_rot body i = list_any (says_rot_of i) body
 
--- the darts of spin i by its record `rot,I,D,D,D`, and none where it has no such record
+-- the darts of spin i by its record `rot,I,D,D,D`, and none if it has no such record
 unfoldable pub darts_in : List Kept → ℕ → List ℕ
 darts_in body i = unwrap_or (option_map (λ r. sizes_from r 2) (find (says_rot_of i) body)) []
 
@@ -84,7 +84,7 @@ lattice_fault wanted body r =
     else (if says_end r then lattice_end_fault wanted (length (couplings_in body)) r
     else bad_number r 0 (λ i. any_number))
 
--- the range of field i of a record that joins two of n spins, with a number of this range behind them
+-- the range of field i of a record that connects two of n spins, followed by a number of this range
 abbrev pub link_range : Range → ℕ → ℕ → Range
 link_range range n i = if i == 3 then range else spin_below n
 
@@ -92,11 +92,11 @@ link_range range n i = if i == 3 then range else spin_below n
 unfoldable pub link_fault : Range → ℕ → Kept → Option Refusal
 link_fault range n r = first_of (field_count_fault 4 r ∷ bad_number r 1 (link_range range n) ∷ [])
 
--- bond m between spins u and v: it is one too many, or it joins a spin to itself
+-- bond m between spins u and v: it is one too many, or it connects a spin to itself
 abbrev pub ends_fault : ℕ → ℕ → ℕ → Option Refusal
 ends_fault u v m = first_of (bond_count_fault program_limits (m + 1) ∷ refuse_if (u == v) (SelfBond m) ∷ [])
 
--- a bond of an instance of n spins, behind m bonds
+-- a bond of an instance of n spins, after m bonds
 abbrev pub bond_fault : ℕ → ℕ → Kept → Option Refusal
 bond_fault n m r = first_of (link_fault any_number n r ∷ ends_fault (size_in r 1) (size_in r 2) m ∷ [])
 
@@ -117,7 +117,7 @@ general_fault n body r =
     else (if says_end r then field_count_fault 1 r
     else Some (UnknownKind r.at))))
 
--- the first test that a record fails
+-- the first failed check of a record
 abbrev pub record_fault : Header → List Kept → Kept → Option Refusal
 record_fault (header.Lattice kind rows cols) body r = lattice_fault (bond_total kind rows cols) body r
 record_fault (header.General n) body r = general_fault n body r

@@ -17,7 +17,7 @@ abbrev pub records_left : Reader (Bor (List ℕ)) → List (List (List ℕ))
 records_left reader =
     records_from default_config (length (bytes_left reader) + 1) (reader_state reader) (bytes_left reader)
 
--- the reader stands between two records, and reads on with the defaults but without a header row and at any length
+-- the reader is between two records, and reads on with the defaults but without a header row and at any length
 pub record IsBetweenRecords (reader : Reader (Bor (List ℕ))) : Type 0 where
   pub known : IsSome (source_of (λ (s : Bor (List ℕ)). Some s.now) reader)
   pub between : ends_at_end (reader_state reader) ≡ false
@@ -30,5 +30,6 @@ pub record IsBetweenRecords (reader : Reader (Bor (List ℕ))) : Type 0 where
 abbrev pub cursor_left : Inside → List (List (List ℕ))
 cursor_left cursor = if cursor.is_done then [] else records_left cursor.reader
 
+-- unless it is done, the cursor is between two records
 abbrev pub IsSoundCursor : Inside → Type 0
 IsSoundCursor cursor = cursor.is_done ≡ false → IsBetweenRecords cursor.reader

@@ -1,5 +1,5 @@
--- Records up to an `end`: each is tested from the records before it, and those behind the `end` are left; what a reader
--- leaves, also where it fails, and when it leaves nothing.
+-- Records up to an `end`: each is tested from the records before it, and those after the `end` are left; what a reader
+-- leaves, also if it fails, and when it leaves nothing.
 use Rattle.std.specs.Prelude.{◌≡◌, ℕ, ◌<◌, false, true, List, [], ◌∷◌, ◌++◌, length, take, All, slice_index_or, Option, Some, None}
 use Rattle.sg_model.specs.declared.refusal.Fault.{Fault}
 use Rattle.sg_model.specs.declared.refusal.Fault.TheVariants.{Refused, NoMemory}
@@ -10,7 +10,7 @@ use Rattle.sg_draft.specs.Tests.{Refuses}
 use Rattle.sg_reader.specs.Kept.{Kept}
 use Rattle.sg_reader.specs.Body.{says_end}
 
--- a table of the tests of each record behind others
+-- a table of the tests of each record after others
 abbrev pub TestTable : Type 0
 TestTable = List Kept → Kept → Option Refusal
 
@@ -18,12 +18,12 @@ TestTable = List Kept → Kept → Option Refusal
 abbrev pub record_at : List Kept → ℕ → Kept
 record_at records k = slice_index_or records k (record { at = 0; fields = [] })
 
--- the records in front of an `end`: none of them is one, and none fails a test
+-- the records before an `end`: none of them is one, and none fails a test
 pub record IsBody (fault : TestTable) (body : List Kept) : Type 0 where
   pub goes_on : All (λ r. says_end r ≡ false) body
   pub passes : (k : ℕ) → k < length body → fault (take k body) (record_at body k) ≡ None
 
--- `last` is the first `end`: the body stands in front of it, and `rest` behind it
+-- `last` is the first `end`: the body comes before it, and `rest` after it
 pub record IsEnded (fault : TestTable) (records body : List Kept) (last : Kept) (rest : List Kept) : Type 0 where
   pub split : records ≡ body ++ last ∷ rest
   pub is_body : IsBody fault body
@@ -38,7 +38,7 @@ pub record StatesToEnd {X : Type 0} (fault : TestTable) (stated : List Kept → 
   pub passes : fault body last ≡ None
   pub value : x ≡ stated body
 
--- the records are refused: at one that fails a test, and `rest` is left behind it, or because they run out
+-- the records are refused: at one that fails a test, and `rest` is left after it, or because they run out
 pub data RefusesRecords (fault : TestTable) (records : List Kept) (refusal : Refusal) (rest : List Kept) : Type 0 where
   AtRecord : (body : List Kept) (r : Kept) → records ≡ body ++ r ∷ rest → IsBody fault body
       → fault body r ≡ Some refusal → RefusesRecords fault records refusal rest
@@ -50,7 +50,7 @@ pub record IsRest (records rest : List Kept) : Type 0 where
   pub read : List Kept
   pub split : records ≡ read ++ rest
 
--- a reading failed: by a refusal, which says too what is left, or by want of memory, and then some rest is
+-- a reading failed: by a refusal, which says too what is left, or out of memory, and then some rest is
 abbrev pub Fails : (Refusal → List Kept → Type 0) → List Kept → List Kept → Fault → Type 0
 Fails refuses records rest (Refused refusal) = refuses refusal rest
 Fails refuses records rest NoMemory = IsRest records rest
@@ -59,7 +59,7 @@ Fails refuses records rest NoMemory = IsRest records rest
 abbrev pub Leaving : {X : Type 0} → (X → List Kept → Type 0) → X × List Kept → Type 0
 Leaving reads p = reads p.0 p.1
 
--- a record stands where none may
+-- a record is left over where none may be
 pub record IsTrailing (records : List Kept) (refusal : Refusal) (rest : List Kept) : Type 0 where
   pub first : Kept
   pub split : records ≡ first ∷ rest
@@ -79,13 +79,13 @@ pub record HoldsSome {S : Type 0} (holds : S → List Kept → S → Type 0) (no
   pub body : List Kept
   pub held : holds start body now
 
--- behind records that gave `old` the next one passes its test, and with it they give `new`
+-- after records that gave `old` the next one passes its test, and with it they give `new`
 pub record TakesNext {S : Type 0} (tests : S → TestTable) (holds : S → List Kept → S → Type 0)
     (old : S) (r : Kept) (new : S) : Type 0 where
   pub passes : (start : S) (body : List Kept) → holds start body old → tests start body r ≡ None
   pub goes_on : (start : S) (body : List Kept) → holds start body old → holds start (body ++ r ∷ []) new
 
--- behind records that gave `old` the next one is refused
+-- after records that gave `old` the next one is refused
 pub record RefusesNext {S : Type 0} (tests : S → TestTable) (holds : S → List Kept → S → Type 0)
     (old : S) (r : Kept) (fault : Fault) : Type 0 where
   pub refused : (start : S) (body : List Kept) → holds start body old

@@ -12,6 +12,7 @@ is_blank byte = (byte == 32) || (byte == 9)
 abbrev pub after_front : {X : Type 0} → (X → Bool) → List X → List X
 after_front test xs = drop (prefix_len test xs) xs
 
+-- a list without the items at its end that pass a test
 abbrev pub before_end : {X : Type 0} → (X → Bool) → List X → List X
 before_end test xs = take (length xs - suffix_len test xs) xs
 
@@ -19,6 +20,7 @@ before_end test xs = take (length xs - suffix_len test xs) xs
 unfoldable pub trimmed : List ℕ → List ℕ
 trimmed field = before_end is_blank (after_front is_blank field)
 
+-- whether a field has no bytes
 abbrev pub is_empty : List ℕ → Bool
 is_empty field = length field == 0
 
@@ -26,7 +28,7 @@ is_empty field = length field == 0
 unfoldable pub fields_in : List (List ℕ) → List (List ℕ)
 fields_in raw = before_end is_empty (map trimmed raw)
 
--- the text without the byte-order marks EF BB BF at its front, however often they stand there
+-- the text without the byte-order marks EF BB BF at its front, however many there are
 unfoldable pub without_marks : List ℕ → List ℕ
 without_marks [] = []
 without_marks (a ∷ []) = a ∷ []

@@ -33,7 +33,7 @@ abbrev pub field_count : Form → ℕ
 field_count (form.Lattice kind) = 3
 field_count form.General = 2
 
--- the range of field i: rows are 1 or more, columns as many as the kind asks for, spins 1 or more
+-- the range of field i: rows are 1 or more, columns as many as the kind needs, spins 1 or more
 abbrev pub header_range : Form → ℕ → Range
 header_range (form.Lattice kind) i = at_least (if i == 2 then least_cols kind else 1)
 header_range form.General i = at_least 1
@@ -52,6 +52,7 @@ form_fault (Some form) r = first_of (
     ∷ many_spins_fault program_limits (spins_in form r)
     ∷ [])
 
+-- the test of the first record of an instance, by its first word
 unfoldable pub header_fault : Kept → Option Refusal
 header_fault r = form_fault (form_of (field r 0)) r
 
@@ -60,6 +61,7 @@ abbrev pub header_with : Kept → Form → Header
 header_with r (form.Lattice kind) = header.Lattice kind (size_in r 1) (size_in r 2)
 header_with r form.General = header.General (size_in r 1)
 
+-- what the first record of an instance says, if its first word is known
 unfoldable pub header_of : Kept → Option Header
 header_of r = option_map (header_with r) (form_of (field r 0))
 

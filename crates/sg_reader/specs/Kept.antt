@@ -23,12 +23,12 @@ abbrev pub is_comment : List ℕ → Bool
 is_comment [] = false
 is_comment (byte ∷ rest) = byte == 35
 
--- a record is skipped where it has no field left, or where its first field begins with `#`
+-- a record is skipped if it has no field left, or if its first field begins with `#`
 abbrev pub is_kept : Kept → Bool
 is_kept r = not (length r.fields == 0) && not (is_comment (field r 0))
 
--- the records that `csv` gives, without a header row and of any lengths: fields between commas, in double quotes where
--- wanted, and no record for an empty line. The bytes have no byte-order mark at the front
+-- the records that `csv` gives, without a header row and of any lengths: fields between commas, in double quotes if
+-- needed, and no record for an empty line. The bytes have no byte-order mark at the front
 abbrev pub records_of : List ℕ → List (List (List ℕ))
 records_of bytes = records default_config bytes
 

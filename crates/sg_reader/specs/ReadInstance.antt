@@ -17,17 +17,17 @@ use Rattle.sg_reader.specs.Header.{header_fault, header_of}
 use Rattle.sg_reader.specs.Body.{bonds_in, couplings_in, darts_in, has_rot, instance_of, record_fault, seam_in}
 use Rattle.sg_reader.specs.Ended.{RefusesRecords, StatesToEnd}
 
--- the records behind the first state the instance up to their `end`
+-- the records after the first state the instance up to their `end`
 abbrev pub StatesInstance : Header → List Kept → Ising → List Kept → Type 0
 StatesInstance header records inst rest = StatesToEnd (record_fault header) (instance_of header) records inst rest
 
--- the records behind the first state the instance up to their `end`, and its rotation and its seam are right
+-- the records after the first state the instance up to their `end`, and its rotation and its seam are right
 pub record ReadsBody (header : Header) (records : List Kept) (inst : Ising) (rest : List Kept) : Type 0 where
   pub states : StatesInstance header records inst rest
   pub rotation : IsRotation inst
   pub seam : IsSeam inst
 
--- the records give the instance, and `rest` is left behind its `end`. What they give is an instance within the limits
+-- the records give the instance, and `rest` is left after its `end`. What they give is an instance within the limits
 -- (`IsGiven`), as the law `records_have_one_answer` says
 pub record ReadsInstance (records : List Kept) (inst : Ising) (rest : List Kept) : Type 0 where
   pub first : Kept
@@ -44,13 +44,13 @@ pub record IsGiven (inst : Ising) : Type 0 where
   pub few_spins : inst.n ≤ spin_limit
   pub few_bonds : bond_count inst ≤ bond_limit
 
--- the records behind the first are refused, at one of them, or at the `end` by the tests of an instance
+-- the records after the first are refused, at one of them, or at the `end` by the tests of an instance
 pub data RefusesBody (header : Header) (records : List Kept) (refusal : Refusal) (rest : List Kept) : Type 0 where
   AtOne : RefusesRecords (record_fault header) records refusal rest → RefusesBody header records refusal rest
   AtWhole : (inst : Ising) → StatesInstance header records inst rest → IsRefusalOf inst refusal
       → RefusesBody header records refusal rest
 
--- the records are refused, and `rest` is left: there is none, the first fails a test, or those behind it are refused
+-- the records are refused, and `rest` is left: there is none, the first fails a test, or those after it are refused
 pub data RefusesInstance (records : List Kept) (refusal : Refusal) (rest : List Kept) : Type 0 where
   WithoutFirst : records ≡ [] → refusal ≡ Unended → rest ≡ [] → RefusesInstance records refusal rest
   AtFirst : (first : Kept) → records ≡ first ∷ rest → header_fault first ≡ Some refusal

@@ -1,5 +1,5 @@
--- The records of a result, which states an energy, spins and loops: which word stands in which place, the tests of each
--- record, and what they state; the first test that a record fails, in the order of the records, refuses them.
+-- The records of a result, which states an energy, spins and loops: which word is in which place, the tests of each
+-- record, and what they state; the first failed check of a record, in the order of the records, refuses them.
 use Rattle.std.specs.Prelude.{◌≡◌, ℕ, ◌-◌, ◌≤◌, ◌==◌, Bool, false, not, ℤ, unsigned_abs, if◌then◌else◌, List, [], ◌∷◌, length, map, drop, find, codes, Option, Some, None, option_map}
 use Rattle.std.specs.List.{range_with_len, sum_by}
 use Rattle.sg_model.specs.declared.refusal.Refusal.{Refusal}
@@ -18,7 +18,7 @@ abbrev pub is_spin_value : Option ℤ → Bool
 is_spin_value None = false
 is_spin_value (Some number) = unsigned_abs number == 1
 
--- the first field behind the word that is no value of a spin
+-- the first field after the word that is no value of a spin
 unfoldable pub bad_spin : Kept → Option ℕ
 bad_spin r = find (λ i. not (is_spin_value (number_of (field r i)))) (range_with_len 1 (length r.fields - 1))
 
@@ -39,7 +39,7 @@ loop_fault r = first_of (
     ∷ bad_number r 1 (first_then_index any_number)
     ∷ [])
 
--- the tests of a record behind the energy and the spins: a loop, or the `end`
+-- the tests of a record after the energy and the spins: a loop, or the `end`
 abbrev pub loops_fault : List Kept → Kept → Option Refusal
 loops_fault loops r = if says_end r then field_count_fault 1 r else loop_fault r
 
@@ -53,10 +53,11 @@ result_fault (energy ∷ spins ∷ loops) r = loops_fault loops r
 abbrev pub stated_loop : Kept → Loop
 stated_loop r = record { y = number_in r 1; bonds = sizes_from r 2 }
 
+-- the loops that the records of a proof state, in their order
 abbrev pub stated_loops : List Kept → List Loop
 stated_loops body = map stated_loop body
 
--- what the records in front of the `end` state
+-- what the records before the `end` state
 unfoldable pub result_of : List Kept → ResultText
 result_of body = record {
   energy = number_in (record_at body 0) 1;
@@ -64,7 +65,7 @@ result_of body = record {
   loops = stated_loops (drop 2 body);
 }
 
--- the records give the result, and `rest` is left behind its `end`
+-- the records give the result, and `rest` is left after its `end`
 abbrev pub ReadsResult : List Kept → ResultText → List Kept → Type 0
 ReadsResult records text rest = StatesToEnd result_fault result_of records text rest
 

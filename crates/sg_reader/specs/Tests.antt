@@ -1,4 +1,4 @@
--- Whole numbers in the fields of a text, and the tests of those of a record: each gives its refusal where it fails.
+-- Whole numbers in the fields of a text, and the tests of those of a record: each gives its refusal if it fails.
 use Rattle.std.specs.Prelude.{ℕ, ◌-◌, ◌^◌, ◌==◌, ◌&&◌, nat_lt, if◌then◌else◌, Bool, false, not, ℤ, pos, neg_ℤ, int_le, unsigned_abs, List, length, find, Option, Some, None, option_map, unwrap_or}
 use Rattle.std.specs.List.{range_with_len}
 use Rattle.std.specs.Str.{all_ascii_digits}
@@ -17,7 +17,7 @@ is_numeral field = nat_lt 0 (length (without_leading_sign field)) && all_ascii_d
 abbrev pub size_of : List ℕ → ℕ
 size_of field = digits_value 10 (without_leading_sign field)
 
--- the number that a field spells, from -9223372036854775807 to 9223372036854775807; None where it spells none of these
+-- the number that a field spells, from -9223372036854775807 to 9223372036854775807; None if it spells none of these
 unfoldable pub number_of : List ℕ → Option ℤ
 number_of field =
     if is_numeral field && nat_lt (size_of field) (2 ^ 63) then Some (signed_digits_value 10 field) else None
@@ -51,7 +51,7 @@ is_in range (Some number) = int_le range.low number && int_le number range.high
 abbrev pub is_number_in : Range → List ℕ → Bool
 is_number_in range text = is_in range (number_of text)
 
--- the number in field i, and 0 where it is none
+-- the number in field i, and 0 if it is none
 abbrev pub number_in : Kept → ℕ → ℤ
 number_in r i = unwrap_or (number_of (field r i)) (pos 0)
 

@@ -44,7 +44,7 @@ pub(crate) fn indices(alloc: Global, row: &Row, from: usize) -> Result<BondList,
     Ok(list)
 }
 
-/// The numbers behind the word of a record that may stand once.
+/// The numbers behind the word of a record that may appear once.
 ///
 /// # Errors
 /// In this order: `BadShape` where one was seen before, and `BadNumber`.

@@ -42,8 +42,8 @@ impl<'a> Cursor<'a> {
         }
     }
 
-    /// Reads the next record into `row`, or answers false where there is none. After want of memory
-    /// none is left.
+    /// Reads the next record into `row`, or answers false where there is none. If an allocation
+    /// fails, none is left.
     pub fn next(&mut self, row: &mut ByteRecord) -> Result<bool, NoMemory>
         ensures found { IfOk result (λ found. MatchBool found
             (self.old ≡ fields_of row.new ∷ self.new)

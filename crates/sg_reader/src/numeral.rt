@@ -5,8 +5,8 @@ ghost use Rattle.sg_reader.specs.Tests.{number_of};
 use std::str;
 
 /// The whole number that a field spells: one decimal digit or more after a `+`, a `-` or no sign,
-/// from -9223372036854775807 to 9223372036854775807. Leading zeros may stand, blanks may not. In
-/// time linear in the field, and without memory.
+/// from -9223372036854775807 to 9223372036854775807. Leading zeros may appear, blanks may not. In
+/// time linear in the field, and without allocating.
 pub fn number(field: &[u8]) -> Option<i64>
     ensures { result ≡ number_of field.now }
 {

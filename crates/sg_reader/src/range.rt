@@ -1,7 +1,7 @@
 ghost use Rattle.std.specs.Prelude.{◌≡◌, ◌<◌, ◌≤◌, ◌^◌, Some};
 ghost use Rattle.sg_reader.specs.Tests.{any_index, any_number, at_least, is_in, spin_below};
 
-/// The numbers that may stand in a place: from `low` to `high`, both among them.
+/// The numbers that may appear in a place: from `low` to `high`, both among them.
 #[derive(Clone, Copy)]
 pub struct Range {
     pub low: i64,

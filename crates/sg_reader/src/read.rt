@@ -28,13 +28,12 @@ use std::alloc::Global;
 ///
 /// # Errors
 /// The refusal of the first record that fails a test, and of its tests the first that fails: of the
-/// first record `UnknownKind`, `BadShape`, `BadNumber`, `TooManySpins`; of a seam `BadShape` where it
-/// is the second, `BadNumber`; of couplings `BadNumber`; of a bond `BadShape`, `BadNumber`,
-/// `TooManyBonds`, `SelfBond`; of a rotation `BadShape`, `BadNumber`, `BadShape` where its spin has
-/// one; of another record of a general instance `UnknownKind`; of the `end` `BadShape`,
-/// `CouplingCount` for a lattice, `BadRotation`, `BadSeam`. What stands behind that record is left.
-/// `Unended` where the records run out. `NoMemory` may come at any time, and some records are left then,
-/// perhaps none.
+/// first record `UnknownKind`, `BadShape`, `BadNumber`, `TooManySpins`; of a seam `BadShape` where it is
+/// the second, `BadNumber`; of couplings `BadNumber`; of a bond `BadShape`, `BadNumber`, `TooManyBonds`,
+/// `SelfBond`; of a rotation `BadShape`, `BadNumber`, `BadShape` where its spin has one; of another
+/// record of a general instance `UnknownKind`; of the `end` `BadShape`, `CouplingCount` for a lattice,
+/// `BadRotation`, `BadSeam`. What follows that record is left. `Unended` where the records run out.
+/// `NoMemory` may come at any time, and some records are left then, perhaps none.
 ///
 /// The time is linear in the bytes, and the memory is that of the instance and of the longest record.
 pub fn read_instance(alloc: Global, rows: &mut Rows<'_>) -> Result<Instance, Fault>

@@ -82,7 +82,7 @@ fn next_energy(rows: &mut Rows<'_>, row: &mut Row) -> Result<i64, Fault>
     Ok(energy)
 }
 
-// The spins, in the next record, which stands behind an energy.
+// The spins, in the next record, which follows an energy.
 fn next_spins(alloc: Global, rows: &mut Rows<'_>, row: &mut Row) -> Result<Spins, Fault>
     ensures split { IfOk result (λ s. rows.old ≡ row.new ∷ rows.new) }
     ensures passes { IfOk result (λ s. spins_fault row.new ≡ None) }
@@ -139,8 +139,8 @@ fn read_loops(alloc: Global, rows: &mut Rows<'_>, row: &mut Row) -> Result<Loops
 ///
 /// # Errors
 /// The refusal of the first record that fails a test, and of its tests the first that fails:
-/// `UnknownKind` for another word than may stand in its place; `BadShape` for an energy without its
-/// one number, a loop without a weight, an `end` with a number; `BadNumber`. What stands behind that
+/// `UnknownKind` for another word than may appear in its place; `BadShape` for an energy without
+/// its one number, a loop without a weight, an `end` with a number; `BadNumber`. What follows that
 /// record is left. `Unended` where the records run out. `NoMemory` may come at any time, and some
 /// records are left then, perhaps none.
 ///

@@ -14,7 +14,7 @@ use std::marker::Model;
 #[derive(Drop)]
 pub struct Rows<'a> {
     cursor: Cursor<'a>,
-    // How many stand in front of those that are left, also of those that are skipped.
+    // How many precede those that are left, also of those that are skipped.
     taken: u32,
 }
 
@@ -44,7 +44,7 @@ impl<'a> Rows<'a> {
     }
 
     /// Reads the next record that is not skipped into `row`, or answers false where there is none.
-    /// After want of memory none is left.
+    /// If an allocation fails, none is left.
     pub fn next(&mut self, row: &mut Row) -> Result<bool, NoMemory>
         ensures found { IfOk result (λ found. MatchBool found
             (self.old ≡ row.new ∷ self.new)

@@ -12,7 +12,7 @@ pub record IsRefused (refusal : Refusal) (text : List ℕ) (status : Status) : T
   pub ended : status ≡ Refused
   pub printed : text ≡ refusal_text refusal
 
--- the line of a fault that refuses the input; want of memory has none
+-- the line of a fault that refuses the input; out of memory has none
 abbrev pub NamesFault : Fault → List ℕ → Status → Type 0
 NamesFault (fault.Refused refusal) text status = IsRefused refusal text status
 NamesFault fault.NoMemory text status = ⊥

@@ -30,7 +30,7 @@ pub fn refuse(alloc: Global, refusal: &Refusal) -> Result<Reply, NoMemory>
     })
 }
 
-/// The line of a fault that refuses the input, and its status. Want of memory is handed on.
+/// The line of a fault that refuses the input, and its status. Running out of memory is passed on.
 pub fn refuse_fault(alloc: Global, fault: &Fault) -> Result<Reply, NoMemory>
     ensures named { IfOk result (λ reply. NamesFault fault.now reply.text.items reply.status) }
     ensures replied { IfOk result (λ reply. IsReply reply.status) }

@@ -7,8 +7,8 @@ use Rattle.serde_json.specs.View.{items_of}
 use Rattle.serde_json.specs.Written.{compact_text, items_text, number_text, has_float, items_have_float}
 use Rattle.serde_json.proofs.OnLiterals.{serde_json_on_literals}
 use Rattle.sg_check.specs.declared.packing.Loop.{Loop}
-use Rattle.sg_report.specs.Text.{int_at}
-use Rattle.sg_report.specs.Report.{further, list_text, loop_text, report_object, wall_member}
+use Rattle.sg_report.specs.Text.{listed_int}
+use Rattle.sg_report.specs.Report.{comma_items, list_text, loop_text, report_object, wall_object}
 use Rattle.sg_report.specs.ReportValue.{list_value, loop_value, name_value, report_value, wall_value, whole_value}
 
 number_is : (z : ℤ) → number_text (of_integer z) ≡ signed_decimal z
@@ -17,14 +17,14 @@ number_is (negsuc n) = refl
 
 -- lists, by their items
 module _ {X : Type 0} (value : X → Data) (text : X → List ℕ) (is : (x : X) → compact_text (value x) ≡ text x) where
-  further_is : (xs : List X) → items_text true (items_of (map value xs)) ≡ further text xs ++ codes "]"
+  further_is : (xs : List X) → items_text true (items_of (map value xs)) ≡ comma_items text xs ++ codes "]"
   further_is [] = refl
-  further_is (x ∷ xs) = ap (λ (s : List ℕ). 44 ∷ s) (rw (is x, further_is xs) (sym (append_assoc (text x) (further text xs) (codes "]"))))
+  further_is (x ∷ xs) = ap (λ (s : List ℕ). 44 ∷ s) (rw (is x, further_is xs) (sym (append_assoc (text x) (comma_items text xs) (codes "]"))))
 
   -- the compact text of a list is the texts of its entries between commas and brackets
   pub list_is : (xs : List X) → compact_text (list_value value xs) ≡ list_text text xs
   list_is [] = refl
-  list_is (x ∷ xs) = ap (λ (s : List ℕ). 91 ∷ s) (rw (is x, further_is xs) (sym (append_assoc (text x) (further text xs) (codes "]"))))
+  list_is (x ∷ xs) = ap (λ (s : List ℕ). 91 ∷ s) (rw (is x, further_is xs) (sym (append_assoc (text x) (comma_items text xs) (codes "]"))))
 
 module _ {X : Type 0} (value : X → Data) (plain : (x : X) → has_float (value x) ≡ false) where
   -- a list of values without floats has none
@@ -44,10 +44,10 @@ loop_is l =
     let bonds = list_is name_value decimal name_is l.bonds in
     rw (number_is l.y) (simp append_assoc (rw (← bonds) refl))
 
-wall_is : (w : Option (List ℤ)) → compact_text (wall_value w) ≡ wall_member w
+wall_is : (w : Option (List ℤ)) → compact_text (wall_value w) ≡ wall_object w
 unfolding serde_json_on_literals
 wall_is None = refl
-wall_is (Some w) = rw (number_is (int_at w 0), number_is (int_at w 1), number_is (int_at w 2)) (simp append_assoc refl)
+wall_is (Some w) = rw (number_is (listed_int w 0), number_is (listed_int w 1), number_is (listed_int w 2)) (simp append_assoc refl)
 
 -- the compact text of a report's value is the text of the report
 pub report_is : (bonds : ℕ) (total energy : ℤ) (spins : List ℤ) (loops : List Loop) (costs : List ℤ) (clusters : List ℕ) (wall : Option (List ℤ))
@@ -72,7 +72,7 @@ plain_loop l = rw (plain_list name_value plain_name l.bonds, plain_whole l.y) re
 
 plain_wall : (w : Option (List ℤ)) → has_float (wall_value w) ≡ false
 plain_wall None = refl
-plain_wall (Some w) = rw (plain_whole (int_at w 0), plain_whole (int_at w 1), plain_whole (int_at w 2)) refl
+plain_wall (Some w) = rw (plain_whole (listed_int w 0), plain_whole (listed_int w 1), plain_whole (listed_int w 2)) refl
 
 -- the value of a report has no float
 pub plain_report : (bonds : ℕ) (total energy : ℤ) (spins : List ℤ) (loops : List Loop) (costs : List ℤ) (clusters : List ℕ) (wall : Option (List ℤ))

@@ -2,7 +2,7 @@
 use Rattle.std.specs.Prelude.{ℕ, ℤ, pos, List, [], ◌∷◌, ◌++◌, codes}
 use Rattle.std.specs.List.{flat_map, enumerate_from}
 use Rattle.sg_report.specs.Line.{line}
-use Rattle.sg_report.specs.Text.{int_at}
+use Rattle.sg_report.specs.Text.{listed_int}
 
 -- a sample with its wall energy
 abbrev pub sample_line : ℕ → ℤ → List ℕ
@@ -21,4 +21,5 @@ width_line cols total squares = line (codes "width") (pos cols ∷ total ∷ squ
 -- all widths
 abbrev pub widths_text : List ℕ → List ℤ → List ℤ → List ℕ
 widths_text cols totals squares =
-    flat_map (λ p. width_line p.1 (int_at totals p.0) (int_at squares p.0)) (enumerate_from 0 cols) ++ codes "end\n"
+    flat_map (λ p. width_line p.1 (listed_int totals p.0) (listed_int squares p.0)) (enumerate_from 0 cols)
+    ++ codes "end\n"

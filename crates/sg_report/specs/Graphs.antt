@@ -1,5 +1,5 @@
--- The texts of what is found in a weighted graph: a join of terminals, and a closed walk over every edge, each with the
--- cuts that prove it.
+-- The texts of what is found in a weighted graph: a T-join of terminals, and a closed walk over every edge, each with
+-- the cuts that prove it.
 use Rattle.std.specs.Prelude.{ℕ, ℤ, pos, List, [], ◌∷◌, ◌++◌, map, codes}
 use Rattle.std.specs.List.{flat_map}
 use Rattle.sg_check.specs.declared.packing.Loop.{Loop}
@@ -9,7 +9,7 @@ use Rattle.sg_report.specs.Line.{line}
 abbrev pub cut_line : Loop → List ℕ
 cut_line cut = line (codes "cut") (cut.y ∷ map pos cut.bonds)
 
--- the weight of a join, its edges, and cuts
+-- the weight of a T-join, its edges, and cuts
 abbrev pub tjoin_text : ℤ → List ℕ → List Loop → List ℕ
 tjoin_text weight edges cuts =
     line (codes "weight") (weight ∷ []) ++ line (codes "edges") (map pos edges)

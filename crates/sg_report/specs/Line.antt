@@ -1,4 +1,4 @@
--- Lines: a word, numbers behind it, each after a comma, and one line feed.
+-- Lines: a word, numbers after it, each after a comma, and one line feed.
 use Rattle.std.specs.Prelude.{ℕ, ℤ, List, [], ◌∷◌, ◌++◌}
 use Rattle.std.specs.Fmt.{signed_decimal}
 use Rattle.std.specs.List.{flat_map}

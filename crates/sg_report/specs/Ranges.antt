@@ -3,7 +3,7 @@ use Rattle.std.specs.Prelude.{ℕ, ℤ, pos, int_lt, List, [], ◌∷◌, ◌++�
 use Rattle.std.specs.List.{flat_map, enumerate_from}
 use Rattle.sg_check.specs.declared.packing.Loop.{Loop}
 use Rattle.sg_report.specs.Line.{entries, line}
-use Rattle.sg_report.specs.Text.{int_at, loop_line}
+use Rattle.sg_report.specs.Text.{listed_int, loop_line}
 
 -- where a coupling lies: above its turning coupling, below it or at it
 abbrev pub place_end : ℤ → ℤ → List ℕ
@@ -19,7 +19,7 @@ turn_line bond coupling turn = entries (codes "turn") (pos bond ∷ turn ∷ [])
 -- the turning couplings of all bonds
 abbrev pub ranges_text : List ℤ → List ℤ → List ℕ
 ranges_text couplings turns =
-    flat_map (λ p. turn_line p.0 (int_at couplings p.0) p.1) (enumerate_from 0 turns) ++ codes "end\n"
+    flat_map (λ p. turn_line p.0 (listed_int couplings p.0) p.1) (enumerate_from 0 turns) ++ codes "end\n"
 
 -- the weight of a cut, its two sides as spins, and the loops that prove it
 abbrev pub maxcut_text : ℤ → List ℤ → List Loop → List ℕ

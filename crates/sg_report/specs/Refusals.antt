@@ -3,6 +3,7 @@ use Rattle.std.specs.Prelude.{ℤ, pos, List, [], ◌∷◌}
 use Rattle.sg_model.specs.declared.refusal.Refusal.{Refusal}
 use Rattle.sg_model.specs.declared.refusal.Refusal.TheVariants.{TooLong, Unended, BadNumber, UnknownKind, BadShape, CouplingCount, TooManySpins, TooManyBonds, SelfBond, BadRotation, BadSeam, Trailing, SumTooLarge, NotPlanar, NoSeam, UnknownLaw, BadJson, BadMember, JsonTooLong, OddTerminals, BadTerminal, NotJoined}
 
+-- the numbers of a refusal as its line prints them: its own, and what it keeps
 abbrev pub refusal_numbers : Refusal → List ℤ
 refusal_numbers (TooLong limit) = pos 1 ∷ pos limit ∷ []
 refusal_numbers Unended = pos 2 ∷ []

@@ -12,7 +12,7 @@ kind_word Triangular = codes "triangular"
 kind_word Hexagonal = codes "hexagonal"
 kind_word Cylinder = codes "cylinder"
 
--- one line with all couplings; none where there is no bond
+-- one line with all couplings; none if there is no bond
 abbrev pub couplings_line : List ℤ → List ℕ
 couplings_line [] = []
 couplings_line (first ∷ others) = line (signed_decimal first) others

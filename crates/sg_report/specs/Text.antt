@@ -25,8 +25,8 @@ abbrev pub ground_text : ℤ → List ℤ → List Loop → List ℕ
 ground_text energy spins loops = state_lines energy spins ++ flat_map loop_line loops ++ codes "end\n"
 
 -- number i of a list
-abbrev pub int_at : List ℤ → ℕ → ℤ
-int_at numbers i = slice_index_or numbers i (pos 0)
+abbrev pub listed_int : List ℤ → ℕ → ℤ
+listed_int numbers i = slice_index_or numbers i (pos 0)
 
 -- the least energy, the least one with the signs of the seam changed, and the second minus the first
 abbrev pub wall_text : ℤ → ℤ → ℤ → List ℕ
@@ -34,7 +34,7 @@ wall_text periodic antiperiodic wall =
     line (codes "periodic") (periodic ∷ []) ++ line (codes "antiperiodic") (antiperiodic ∷ [])
     ++ line (codes "wall") (wall ∷ []) ++ codes "end\n"
 
--- a bond with its cost: rigid where it costs something to turn its product round
+-- a bond with its cost: rigid if flipping it has a positive cost
 abbrev pub cost_line : ℕ → ℤ → List ℕ
 cost_line bond cost = entries (codes "cost") (pos bond ∷ cost ∷ [])
     ++ (if int_lt (pos 0) cost then codes ",rigid\n" else codes ",loose\n")

@@ -8,6 +8,7 @@ abbrev pub verdict_word : Verdict → List ℕ
 verdict_word Yes = codes "yes"
 verdict_word _ = codes "no"
 
+-- the numbers of a verdict as its line prints them
 abbrev pub verdict_numbers : Verdict → List ℤ
 verdict_numbers Yes = []
 verdict_numbers (SpinCount found) = pos 1 ∷ pos found ∷ []

@@ -10,7 +10,7 @@ use super::line::{push_entries, push_line};
 use sg_check::{Loop, Loops};
 use std::alloc::Global;
 
-/// The text of a join: its weight, its edges, and the cuts in their order. A cut is handed in as a
+/// The text of a T-join: its weight, its edges, and the cuts in their order. A cut is passed as a
 /// loop with its weight, and with edges in place of bonds.
 pub fn tjoin_text(
     alloc: Global,
@@ -30,7 +30,7 @@ pub fn tjoin_text(
 }
 
 /// The text of a closed walk: its weight, its steps, each the number of an edge and the node that it
-/// leads to, and the cuts in their order, handed in as for a join.
+/// leads to, and the cuts in their order, passed as for a T-join.
 pub fn postman_text(
     alloc: Global,
     weight: i64,
@@ -48,7 +48,7 @@ pub fn postman_text(
     Ok(text)
 }
 
-// Adds the line of the edges of a join.
+// Adds the line of the edges of a T-join.
 fn push_edges(text: &mut Vec<u8>, edges: &[u32]) -> Result<(), NoMemory>
     ensures { OnOk result (text.new.items ≡ text.old.items ++ line (codes "edges") (map pos edges.now)) }
 {

@@ -1,13 +1,12 @@
 //! The texts of answers: exact bytes, line by line.
 //!
-//! A line is a word, the numbers behind it, each after a comma, and one line feed. Numbers are
+//! A line is a word, the numbers that follow it, each after a comma, and one line feed. Numbers are
 //! decimal, with `-` before a negative one and no leading zeros. A report is one line of JSON.
 //!
-//! For the next engineer: each public function makes just the bytes of the definition of its name in
+//! For the next engineer: each public function makes exactly the bytes of the definition of its name in
 //! `specs/Text.antt`, or in the file of its own kind: `Samples`, `Ensembles`, `Ranges`, `Graphs`,
-//! `Report`; the numbers of refusals and verdicts stand in `specs/Refusals.antt` and
-//! `specs/Verdicts.antt`. The functions take the memory of their text, and a report that of its value
-//! too.
+//! `Report`; the numbers of refusals and verdicts are in `specs/Refusals.antt` and
+//! `specs/Verdicts.antt`. The functions allocate their text, and a report its value too.
 #![tactic(auto)]
 
 mod answers;

@@ -1,6 +1,6 @@
 // Walls, costs of bonds, clusters.
 ghost use Rattle.std.specs.Prelude.{◌≡◌, ◌++◌, IfOk, OnOk};
-ghost use Rattle.sg_report.specs.Text.{bonds_text as bonds_bytes, cluster_line, clusters_text as clusters_bytes, cost_line, int_at, wall_text as wall_bytes};
+ghost use Rattle.sg_report.specs.Text.{bonds_text as bonds_bytes, cluster_line, clusters_text as clusters_bytes, cost_line, listed_int, wall_text as wall_bytes};
 
 use super::NoMemory;
 use super::line::{push_entries, push_line};
@@ -9,7 +9,7 @@ use std::alloc::Global;
 /// The text of a wall: the least energy, the least one with the signs of the seam changed, and the
 /// second minus the first, in this order.
 pub fn wall_text(alloc: Global, wall: [i64; 3]) -> Result<Vec<u8>, NoMemory>
-    ensures { IfOk result (λ text. text.items ≡ wall_bytes (int_at wall 0) (int_at wall 1) (int_at wall 2)) }
+    ensures { IfOk result (λ text. text.items ≡ wall_bytes (listed_int wall 0) (listed_int wall 1) (listed_int wall 2)) }
 {
     three_lines(alloc, wall[0], wall[1], wall[2])
 }

@@ -46,7 +46,7 @@ pub record IsNear (t : Table) (rise : ℤ) (members : List Kept) (places : List 
   pub placed : (i : ℕ) → i < length members → slice_index_or places (kept_at members i).leaf 0 ≡ i
   pub each : (v : ℕ) → v < t.size → 0 < length members → IsNearestOf t members v (nearest_at nearest v)
 
--- the new member, where it is the first or has the less key, else the one before
+-- the new member, if it is the first or has the less key, else the one before
 abbrev pub IsTakenAt : Table → Kept → Bool → ℕ → Nearest → Nearest → Type 0
 IsTakenAt t m first v old new =
     ((new ≡ record { leaf = m.leaf; key = key_of t m v }) × ((first ≡ true) ⊎ (key_of t m v ≤ℤ old.key))) ⊎

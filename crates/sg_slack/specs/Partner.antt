@@ -25,7 +25,7 @@ top_of members tops place = slice_index tops (kept_at members place).leaf
 abbrev pub away_of : Table → ℕ → Kept → ℤ
 away_of t u m = cost_of t u m.leaf -ℤ m.base
 
--- one of the first n members, with its cost to a leaf, than which none of another group is nearer
+-- one of the first n members, with its cost to a leaf, to which no other group has a nearer one
 pub record IsPartnerAt (t : Table) (members : List Kept) (n : ℕ) (group : ℕ → ℕ) (place : ℕ) (p : Partner)
     : Type 0 where
   pub at : ℕ

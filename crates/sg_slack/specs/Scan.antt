@@ -57,7 +57,7 @@ pub record IsBound (t : Table) (totals : List ℤ) (Among Is : ℕ → ℕ → T
   pub slack : p.slack ≡ slack_of t totals p.u p.v
   pub least : (u v : ℕ) → Is u v → p.slack ≤ℤ slack_of t totals u v
 
--- such a pair, and nothing only where there are no others
+-- such a pair, and nothing only if there are no others
 abbrev pub Bounds : Table → List ℤ → (Among Is : ℕ → ℕ → Type 0) → Option Pair → Type 0
 Bounds t totals Among Is None = (u v : ℕ) → ¬ Is u v
 Bounds t totals Among Is (Some p) = IsBound t totals Among Is p
@@ -72,7 +72,7 @@ abbrev pub IsNoMore : Option Pair → ℤ → Type 0
 IsNoMore None slack = ⊥
 IsNoMore (Some p) slack = p.slack ≤ℤ slack
 
--- the pair of less slack, where there are two
+-- the pair of less slack, if there are two
 abbrev pub IsLesser : Option Pair → Option Pair → Option Pair → Type 0
 IsLesser None more result = result ≡ more
 IsLesser (Some p) None result = result ≡ Some p

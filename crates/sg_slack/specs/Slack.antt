@@ -45,7 +45,7 @@ pub record IsLeast (t : Table) (totals : List ℤ) (Is : ℕ → ℕ → Type 0)
   pub slack : p.slack ≡ slack_of t totals p.u p.v
   pub least : (u v : ℕ) → Is u v → p.slack ≤ℤ slack_of t totals u v
 
--- a pair of least slack among these, and nothing exactly where there is none
+-- a pair of least slack among these, and nothing exactly if there is none
 abbrev pub Least : Table → List ℤ → (ℕ → ℕ → Type 0) → Option Pair → Type 0
 Least t totals Is None = (u v : ℕ) → ¬ Is u v
 Least t totals Is (Some p) = IsLeast t totals Is p

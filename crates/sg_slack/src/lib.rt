@@ -11,11 +11,11 @@
 //! keep nothing: they are for a caller without a `Near`, and what tests compare its answers with.
 //!
 //! For the next engineer: the clause that matters is `Least` of `specs/Slack.antt`: a pair of least
-//! slack among those meant, and none exactly where there is none. Which of several such pairs is
-//! given is free. A table is seen by its entries, `cost_of` of `specs/Table.antt`. Both scans take
-//! no memory. A `Near` is seen as its costs and the list of its members with
-//! their totals (`Known` of `specs/Members.antt`); what it keeps is `IsNear` of `specs/Kept.antt`, and
-//! from call to call of `least_between` `KeepsPartners` of `specs/Partner.antt`.
+//! slack among those meant, and none exactly where there is none. Which of several such pairs is given
+//! is free. A table is seen by its entries, `cost_of` of `specs/Table.antt`. Neither scan allocates. A
+//! `Near` is seen as its costs and the list of its members with their totals (`Known` of
+//! `specs/Members.antt`); what it keeps is `IsNear` of `specs/Kept.antt`, and from call to call of
+//! `least_between` `KeepsPartners` of `specs/Partner.antt`.
 #![tactic(auto)]
 
 ghost use Rattle.std.specs.Prelude.{◌≡◌, ◌≢◌, ◌↔◌, ◌<◌, ◌-ℤ◌, FitsSigned, IsTrue, Some, false, length};
@@ -34,7 +34,7 @@ use std::marker::Model;
 /// Memory ran out.
 pub type NoMemory = AllocError;
 
-/// Where a leaf stands: the mark of the top that holds it.
+/// The place of a leaf: the mark of the top that holds it.
 #[derive(Clone, Copy, Debug, PartialEq, Eq)]
 pub enum Mark {
     /// Outside the tree.

@@ -27,7 +27,7 @@ pub struct Near {
     costs: Costs,
     rise: i128,
     members: Vec<Kept>,
-    // Where a leaf stands among the members, if it is one.
+    // The place of a leaf among the members, if it is one.
     places: Vec<usize>,
     // For each leaf; where there is a member.
     nearest: Vec<Nearest>,

@@ -1,10 +1,10 @@
-//! Numbers that may be missing, in four bytes each, and lists that are read and written at places that may
-//! lie beyond their end.
+//! Numbers that may be missing, in four bytes each, and lists that may be read and written beyond their
+//! end.
 //!
-//! The lists of growing regions are full of both: a region without a parent, a node that nobody has taken.
-//! Nothing is promised of any value here, since whoever uses them has what comes of it judged: what is read
-//! beyond the end of a list is nothing, what is written there is dropped, and sums wrap. Each function has
-//! only to be safe and to return. The only error is want of memory.
+//! The lists of growing regions are full of both: a region without a parent, a node without a region.
+//! Nothing is promised of any value here, since callers have the result judged: a read beyond the end of
+//! a list gives nothing, a write there is dropped, and sums wrap. Each function must only be safe and
+//! terminate. The only error is running out of memory.
 //!
 //! For the next engineer: `lists.rt` has all of it.
 #![tactic(auto)]

@@ -1,7 +1,7 @@
 -- Whole numbers as natural ones.
 use Rattle.std.specs.Prelude.{ℕ, ℤ, pos, negsuc, ◌+◌, ◌-◌}
 
--- the natural number that a whole number is, 0 where it is negative
+-- the natural number that a whole number is, 0 if it is negative
 abbrev pub nat_of : ℤ → ℕ
 nat_of (pos n) = n
 nat_of (negsuc n) = 0

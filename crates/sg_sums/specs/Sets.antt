@@ -23,14 +23,14 @@ abbrev pub RisesOver : ℕ → List ℕ → Type 0
 RisesOver a [] = Unit {0}
 RisesOver a (x ∷ xs) = (a < x) × RisesOver x xs
 
--- the number stands in the list: `holds`, with its place
+-- the number is in the list: `holds`, with its place
 abbrev pub Stands : List ℕ → ℕ → Type 0
 Stands xs x = (k : ℕ) × (k < length xs) × (slice_index xs k ≡ x)
 
--- no number stands twice: entries at two places differ
+-- no number is in the list twice: entries at two places differ
 abbrev pub Differ : List ℕ → Type 0
 Differ xs = (i j : ℕ) → i < length xs → j < length xs → slice_index xs i ≡ slice_index xs j → i ≡ j
 
--- no number stands twice: each is counted at most once
+-- no number is in the list twice: each is counted at most once
 abbrev pub DifferByCount : List ℕ → Type 0
 DifferByCount xs = (x : ℕ) → count_by (λ y. y == x) xs ≤ 1

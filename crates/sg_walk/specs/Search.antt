@@ -10,12 +10,12 @@ use Rattle.sg_walk.specs.Walk.{IsFoundFrom}
 abbrev pub unmarked_count : List Bool → ℕ
 unmarked_count marks = count_by not marks
 
--- where the dart is of the set, it leads to a marked spin
+-- if the dart is of the set, it leads to a marked spin
 abbrev pub IsSeen : Ising → (ℕ → Bool) → List Bool → ℕ → Type 0
 IsSeen inst set marks d = set (d / 2) ≡ true → IsMarked marks (head_of inst d)
 
 -- what a visit of some darts of one spin changes: the spins that those of the set lead to are marked,
--- and those that were not are noted behind the others
+-- and those that were not are noted after the others
 pub record Visits (inst : Ising) (set : ℕ → Bool) (spin : ℕ) (darts : List ℕ)
     (old now : List Bool) (before after : List ℕ) : Type 0 where
   pub lengths : length now ≡ length old

@@ -8,16 +8,16 @@ use Rattle.sg_model.specs.Connected.{JoinedBy, Reached}
 abbrev pub has : List Bool → ℕ → Bool
 has set b = is_marked set b
 
--- a bond of the set joins a marked spin only with marked ones
+-- a bond of the set connects a marked spin only with marked ones
 abbrev pub IsClosed : Ising → (ℕ → Bool) → List Bool → Type 0
 IsClosed inst set marks = (a b : ℕ) → JoinedBy inst set a b → IsMarked marks a → IsMarked marks b
 
--- a bond of the set joins the spin at place k with one that stands before it
+-- a bond of the set connects the spin at place k with an earlier one
 abbrev pub IsFoundFrom : Ising → (ℕ → Bool) → List ℕ → ℕ → Type 0
 IsFoundFrom inst set order k = (j : ℕ) × (j < k) × JoinedBy inst set (slice_index order j) (slice_index order k)
 
 -- the list has, each once, the spins that the root reaches, none of which was marked before: the root first, and each
--- other one behind a spin that it is joined with
+-- other one after a neighbour of it;
 -- they and the old ones are marked, and no others
 pub record IsWalked (inst : Ising) (set : ℕ → Bool) (root : ℕ) (old now : List Bool)
     (order : List ℕ) : Type 0 where

@@ -11,7 +11,7 @@ use sg_model::Instance;
 /// Marks the spins that `root` reaches over the bonds of the set, and lists them in the order in
 /// which a breadth-first search finds them. The set holds `true` at each of its bonds. Spins may be
 /// marked before, but no bond of the set joins a marked spin with one that is not. The time is
-/// linear in the listed spins and their bonds. After want of memory nothing is said of the marks.
+/// linear in the listed spins and their bonds. If an allocation fails, the marks are unspecified.
 pub fn walk(
     inst: &Instance,
     set: &[bool],

@@ -23,7 +23,7 @@ pub(super) fn own_names(alloc: Global, inst: &Instance, names: &[u32]) -> Result
 }
 
 /// For each spin the least spin that it reaches over the bonds of the set, which holds `true` at each
-/// of its bonds: in time linear in the spins and bonds. The only error is want of memory.
+/// of its bonds: in time linear in the spins and bonds. The only error is running out of memory.
 pub fn names(alloc: Global, inst: &Instance, set: &[bool]) -> Result<Vec<u32>, NoMemory>
     requires { length set.now ≡ bond_count inst.now }
     ensures { IfOk result (λ names. AllNamed inst.now (has set.now) names.items) }

@@ -19,7 +19,7 @@ pub struct Components {
 
 impl Components {
     /// Finds the components of an instance, in time linear in the spins and bonds. The only error is
-    /// want of memory.
+    /// running out of memory.
     pub fn find(alloc: Global, inst: &Instance) -> Result<Components, NoMemory>
         ensures { IfOk result (λ found. AreComponents inst.now found.names found.leasts) }
     {

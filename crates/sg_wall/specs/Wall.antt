@@ -1,4 +1,4 @@
--- Domain walls: what the least energy gains where the signs of the seam are changed.
+-- Domain walls: how the least energy changes if the signs of the seam change.
 use Rattle.std.specs.Prelude.{◌≡◌, ◌⊎◌, ℕ, ℤ, ◌-ℤ◌}
 use Rattle.sg_model.specs.Ising.{Ising}
 use Rattle.sg_model.specs.Energy.{IsLeastEnergy}

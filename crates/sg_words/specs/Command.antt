@@ -85,7 +85,7 @@ six_words word seed fourth fifth sixth =
     else (if bytes_eq word (codes "widths") then widths_of seed fourth fifth sixth
     else None))
 
--- the command of the words, each given by its bytes; none where the words have no shape. The second word of a command
+-- the command of the words, each given by its bytes; none if the words have no shape. The second word of a command
 -- that draws is the name of its law, and may be any
 abbrev pub command_of : List (List ℕ) → Option Command
 command_of (word ∷ []) = command_named word
@@ -94,18 +94,18 @@ command_of (word ∷ law ∷ seed ∷ rows ∷ cols ∷ []) =
 command_of (word ∷ law ∷ seed ∷ fourth ∷ fifth ∷ sixth ∷ []) = six_words word seed fourth fifth sixth
 command_of _ = None
 
--- the name of a law, where the words have one
+-- the name of a law, if the words have one
 abbrev pub law_word : List (List ℕ) → List ℕ
 law_word (word ∷ law ∷ others) = law
 law_word _ = []
 
--- the sizes that words may ask for
+-- the sizes that words may name
 pub record IsAllowedSize (kind : Kind) (size : Size) : Type 0 where
   pub rows : 1 ≤ size.rows
   pub cols : least_cols kind ≤ size.cols
   pub few : size.rows * size.cols ≤ spin_limit
 
--- what words may ask for
+-- what words may name
 abbrev pub IsAllowedDrawing : Drawing → Type 0
 IsAllowedDrawing (Gen seed kind size) = IsAllowedSize kind size
 IsAllowedDrawing (Sample seed size) = IsAllowedSize Square size
@@ -113,6 +113,7 @@ IsAllowedDrawing (Ensemble seed size count) = IsAllowedSize Cylinder size × (1 
 IsAllowedDrawing (Widths seed size count) =
     IsAllowedSize Cylinder size × (size.cols ≤ width_limit) × (1 ≤ count) × (count ≤ sample_limit)
 
+-- the numbers of a command are within its limits
 abbrev pub IsAllowed : Command → Type 0
 IsAllowed (Read reading) = ⊤
 IsAllowed (Draw drawing) = IsAllowedDrawing drawing

@@ -8,7 +8,7 @@ use Rattle.std.specs.Str.Parse.{digits_value}
 abbrev pub is_digits : List ℕ → Bool
 is_digits word = nat_lt 0 (length word) && list_all is_ascii_digit word
 
--- the number that a word spells, where it is one from `least` to `most`; leading zeros count for nothing
+-- the number that a word spells, if it is one from `least` to `most`; leading zeros count for nothing
 abbrev pub word_number : ℕ → ℕ → List ℕ → Option ℕ
 word_number least most word =
     if is_digits word && (nat_le least (digits_value 10 word) && nat_le (digits_value 10 word) most)

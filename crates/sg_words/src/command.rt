@@ -51,7 +51,7 @@ pub enum Study {
 /// What is asked of a connected weighted graph.
 #[derive(Clone, Copy)]
 pub enum GraphTask {
-    /// A least join of its terminals, with the odd cuts that prove it.
+    /// A minimum T-join of its terminals, with the odd cuts that prove it.
     TJoin,
     /// A shortest closed walk over every edge, with the odd cuts that prove it.
     Postman,
@@ -77,7 +77,7 @@ pub struct Size {
     pub cols: u32,
 }
 
-/// The command that the words after the program's name ask for. It takes no memory.
+/// The command that the words after the program's name ask for. It does not allocate.
 pub fn parse_command(words: &[String]) -> Option<Command>
     ensures value { result ≡ command_of (map string_bytes words.now) }
     ensures allowed { IfSome result IsAllowed }

@@ -5,8 +5,8 @@ ghost use Rattle.std.specs.Char.{is_ascii_digit};
 ghost use Rattle.sg_words.specs.Numeral.{word_number as number_from_to};
 
 /// The number that a word spells, where it is from `least` to `most`: one decimal digit or more, and
-/// nothing else. Leading zeros may stand, a sign may not. In time linear in the word, and without
-/// memory.
+/// nothing else. Leading zeros may appear, a sign may not. In time linear in the word, and without
+/// allocating.
 pub fn number_in(word: &str, least: u64, most: u64) -> Option<u64>
     ensures value { result ≡ number_from_to least most word.now }
     ensures least { IfSome result (λ n. least ≤ n) }

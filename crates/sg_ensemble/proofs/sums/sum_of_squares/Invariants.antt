@@ -1,10 +1,10 @@
 use Rattle.std.proofs.Common.{◌≡◌, ◌≤◌, ◌*◌, ◌^◌, take}
 use Rattle.std.specs.Prelude.{unsigned_abs}
-use Rattle.sg_ensemble.specs.Samples.{total_of_squares}
+use Rattle.sg_ensemble.specs.Samples.{square_sum}
 use Rattle.sg_ensemble.proofs.sums.sum_of_squares.Given as goal
 
 abbrev pub invariant-loop-wall : goal.invariant-loop-wall
 invariant-loop-wall l = record {
-  so_far : l.sum ≡ total_of_squares (take l.wall-index l.walls);
+  so_far : l.sum ≡ square_sum (take l.wall-index l.walls);
   size : unsigned_abs l.sum ≤ l.wall-index * 2 ^ 66;
 }

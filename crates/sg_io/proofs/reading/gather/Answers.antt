@@ -1,7 +1,7 @@
 use Rattle.std.proofs.Common.{◌≡◌, ◌+◌, ◌<◌, ◌++◌, ℕ, length, take, subst, arith, length-append}
 use Rattle.std.proofs.lemmas.List.{length-take}
 use Rattle.std.proofs.lemmas.Result.{err_from_is_err_and}
-use Rattle.sg_io.specs.Devices.{Loses}
+use Rattle.sg_io.specs.Devices.{DropsFront}
 use Rattle.sg_io.proofs.DeviceLemmas.{Loses-more, too-long}
 use Rattle.sg_io.proofs.reading.gather.Goals as goal
 
@@ -11,7 +11,7 @@ returns-then-len-count-clause-stopped g c =
     let bytes = c.loop-count.bytes.items in
     let full : length bytes + c.in-Got.count ≡ c.args.limit + 1 =
     omega (arith, c.in-Got.ensures.count.1, c.read.auto.into, length-take c.min-room.result c.loop-count.piece) in
-    subst (λ (n : ℕ). Loses n (left c.args.source.now) (left c.read.new.self)) full
+    subst (λ (n : ℕ). DropsFront n (left c.args.source.now) (left c.read.new.self)) full
     (Loses-more bytes c.in-Got.count (left c.args.source.now) (left c.loop-count.source) (left c.read.new.self)
     c.loop-count.invariant.taken c.in-Got.ensures.bytes.1)
 

@@ -11,7 +11,8 @@ use Rattle.sg_json.specs.Members.{is_known, member_names}
 use Rattle.sg_json.proofs.form.has_known_names.Goals as goal
 
 -- a test of all names is one of all keys
-all_keys : (t : List ℕ → Bool) (es : List (String Global × Value)) → list_all t (member_names (members_view es)) ≡ list_all (λ k. t (string_bytes k)) (keys_of es)
+all_keys : (t : List ℕ → Bool) (es : List (String Global × Value)) →
+    list_all t (member_names (members_view es)) ≡ list_all (λ k. t (string_bytes k)) (keys_of es)
 all_keys t [] = refl
 all_keys t (e ∷ es) = ap (λ (b : Bool). t (string_bytes e.0) && b) (all_keys t es)
 

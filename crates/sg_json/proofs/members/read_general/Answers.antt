@@ -9,10 +9,10 @@ use Rattle.sg_draft.specs.Bonds.{self_fault}
 use Rattle.sg_draft.specs.Draft.{OfGeneral, draft_fault, drafted, general_draft_fault}
 use Rattle.sg_draft.specs.Limits.{program_limits}
 use Rattle.sg_draft.specs.declared.read.Read.TheVariants.{Known}
-use Rattle.sg_draft.specs.Reads.{counted, unless, value_or, wrong_entry}
+use Rattle.sg_draft.specs.Reads.{read_length, unless, value_or, wrong_entry}
 use Rattle.sg_draft.proofs.Drafts.{both-ok, general-none, general-some, same-fault, unless-known}
 use Rattle.sg_json.specs.declared.entry.Entry.TheVariants as entry
-use Rattle.sg_json.specs.Members.{general_draft, indices_of, items_at, member_list, member_spins, size_at, value_bond, wrong_list, wrong_rotation}
+use Rattle.sg_json.specs.Members.{general_draft, value_indices, items_at, member_list, member_spins, size_at, value_bond, wrong_list, wrong_rotation}
 use Rattle.sg_json.proofs.Lists.{bonds-fit, mapped}
 use Rattle.sg_json.proofs.Said.{bonds-said, general-said, general-tests, right-list, rotation-counts}
 use Rattle.sg_json.proofs.members.read_general.Goals as goal
@@ -33,7 +33,7 @@ turned_is c = c.wrong_rotation.ensures ∙ (λ i. wrong_rotation (spins_is c i) 
 
 -- what is tested
 same_test : (c : After-check_general)
-    → general_draft_fault program_limits (size_at (codes "n") (view c.args.value.now)) (counted (general_draft (view c.args.value.now)).bonds)
+    → general_draft_fault program_limits (size_at (codes "n") (view c.args.value.now)) (read_length (general_draft (view c.args.value.now)).bonds)
     (wrong_entry (general_draft (view c.args.value.now)).rotation) (wrong_entry (general_draft (view c.args.value.now)).seam)
     ≡ general_draft_fault c.of_program.result c.size_member-spins.result c.unless.result c.wrong_rotation.result c.wrong_seam.result
 same_test c =
@@ -63,9 +63,9 @@ bonds_are c = c.in_ok-joined.ensures ∙ sym (mapped value_bond view c.items_at-
     ∙ ap (λ (l : List Data). map value_bond l) c.items_at-items.ensures
 
 -- and the lists of darts
-darts_are : (c : In_ok-cut) → c.in_ok-darts.darts ≡ map indices_of (items_at (codes "rotation") (view c.args.value.now))
-darts_are c = c.in_ok-darts.ensures ∙ sym (mapped indices_of view c.items_at.result.now)
-    ∙ ap (λ (l : List Data). map indices_of l) c.items_at.ensures
+darts_are : (c : In_ok-cut) → c.in_ok-darts.darts ≡ map value_indices (items_at (codes "rotation") (view c.args.value.now))
+darts_are c = c.in_ok-darts.ensures ∙ sym (mapped value_indices view c.items_at.result.now)
+    ∙ ap (λ (l : List Data). map value_indices l) c.items_at.ensures
 
 -- the number of spins
 spins_are : (c : In_ok-n) → size_at (codes "n") (view c.args.value.now) ≡ Some c.in_ok-n.n
@@ -86,7 +86,7 @@ build_general-requires-clause-lists c =
     let at = goal.at.build_general-requires-clause-lists c in
     let n : member_spins d ≡ c.in_ok-n.n = ap (λ (o : Option ℕ). unwrap_or o 0) (spins_are at.In_ok-n) in
     let turned = sym (turned_is at.After-check_general) ∙ c.in_ok-n.ensures.rotation_is in
-    ap length (darts_are c) ∙ length-map (items_at (codes "rotation") d) indices_of
+    ap length (darts_are c) ∙ length-map (items_at (codes "rotation") d) value_indices
     ∙ rotation-counts (member_spins d) (member_list (codes "rotation") d) turned ∙ n
 
 -- the instance is that of the draft

@@ -1,6 +1,6 @@
 use Rattle.std.specs.Prelude.{codes, pos}
 use Rattle.std.proofs.Common.{◌≡◌, ℕ, ◌++◌, ◌∙◌, ap, get_or, arith, rules}
-use Rattle.sg_report.specs.Text.{int_at}
+use Rattle.sg_report.specs.Text.{listed_int}
 use Rattle.sg_report.specs.Ensembles.{width_line}
 use Rattle.sg_report.proofs.NumberedLines.{lines-all, lines-more}
 use Rattle.sg_report.proofs.ensembles.widths_text.Goals as goal
@@ -9,9 +9,10 @@ pub loop-place-preserved : goal.loop-place-preserved
 loop-place-preserved c =
     let cols = get_or c.args.cols.now c.loop-place.place 0 in
     let pushed : c.push_width.new.text.items ≡ c.loop-place.text.items ++
-    width_line cols (int_at c.args.sums.now c.loop-place.place) (int_at c.args.squares.now c.loop-place.place) = search rules in
+    width_line cols (listed_int c.args.sums.now c.loop-place.place) (listed_int c.args.squares.now c.loop-place.place) = search rules in
     pushed
-    ∙ lines-more (λ (i x : ℕ). width_line x (int_at c.args.sums.now i) (int_at c.args.squares.now i)) c.args.cols.now c.loop-place.text.items
+    ∙ lines-more (λ (i x : ℕ). width_line x (listed_int c.args.sums.now i) (listed_int c.args.squares.now i))
+    c.args.cols.now c.loop-place.text.items
     c.loop-place.place 0
     (omega arith) c.loop-place.invariant
 
@@ -19,5 +20,6 @@ pub returns : goal.returns
 returns c =
     c.in_ok-extend_from_slice.ensures.items
     ∙ ap (λ text. text ++ codes "end\n")
-    (lines-all (λ (i x : ℕ). width_line x (int_at c.args.sums.now i) (int_at c.args.squares.now i)) c.args.cols.now c.loop-place.text.items c.loop-place.place
+    (lines-all (λ (i x : ℕ). width_line x (listed_int c.args.sums.now i) (listed_int c.args.squares.now i))
+    c.args.cols.now c.loop-place.text.items c.loop-place.place
     (omega arith) c.loop-place.invariant)

@@ -3,7 +3,7 @@ use Rattle.std.specs.Int.{w64}
 use Rattle.std.proofs.lemmas.Int.{to_z-of_z}
 use Rattle.sg_model.specs.declared.bond.Bond.{Bond}
 use Rattle.sg_lattice.specs.declared.kind.Ends.{Ends}
-use Rattle.sg_lattice.specs.Tables.{coupled, coupled_bond, ends_from, has_bond}
+use Rattle.sg_lattice.specs.Tables.{bonds_between, coupled_bond, ends_from, has_bond}
 use Rattle.sg_lattice.proofs.CoupledBonds.{coupled_more, length-coupled}
 use Rattle.sg_lattice.proofs.shape.Shape.push_bond.Goals as goal
 
@@ -13,7 +13,7 @@ returns-then-not-has_bond c =
     let i = c.args.i in
     let js = c.args.j.now in
     let no : has_bond s.kind c.args.step s.rows s.cols (i / s.cols) (i % s.cols) ≡ false = search rules in
-    rw no (λ (ends : List Ends) (is : c.args.bonds.now ≡ coupled ends js). is ∙ ap (λ (all : List Ends). coupled all js) (sym (append-nil ends)))
+    rw no (λ (ends : List Ends) (is : c.args.bonds.now ≡ bonds_between ends js). is ∙ ap (λ (all : List Ends). bonds_between all js) (sym (append-nil ends)))
 
 pub returns : goal.returns
 returns c =
@@ -32,4 +32,4 @@ returns c =
     c.in_ok-push.ensures.ok
     ∙ ap₂ (λ (done : List Bond) (b : Bond). done ++ b ∷ []) is bond
     ∙ coupled_more js ends ends_i
-    ∙ ap (λ b. coupled (ends ++ cond b (ends_i ∷ []) []) js) (sym has)
+    ∙ ap (λ b. bonds_between (ends ++ cond b (ends_i ∷ []) []) js) (sym has)
