@@ -19,7 +19,7 @@ except ImportError:
 
 
 class Model:
-    """What a binary quadratic model of dimod has, as far as it is looked at."""
+    """The part of dimod's binary quadratic model that is used."""
 
     def __init__(self, linear, quadratic, vartype="SPIN", offset=0.0):
         self.linear, self.quadratic, self.vartype, self.offset = linear, quadratic, vartype, offset
@@ -76,7 +76,7 @@ class Networkx(unittest.TestCase):
         graph = networkx.cycle_graph(4)
         networkx.set_edge_attributes(graph, 0.5, "weight")
         self.assertEqual(Graph.from_networkx(graph, attr="weight", scale=2).ground().energy, -4)
-        with self.assertRaisesRegex(ValueError, "0.5 is no whole number.*scale"):
+        with self.assertRaisesRegex(ValueError, "0.5 is not a whole number.*scale"):
             Graph.from_networkx(graph, attr="weight")
         with self.assertRaisesRegex(ValueError, "no attribute 'J'"):
             Graph.from_networkx(graph)
@@ -134,7 +134,7 @@ class Roads(unittest.TestCase):
             self.assertTrue(networkx.is_eulerian(networkx.MultiGraph(found.edge_labels())))
 
     def matched(self, graph):
-        """The weight of the edges that a shortest walk goes along again: shortest paths between the
+        """The weight of the edges that a shortest walk repeats: shortest paths between the
         nodes of odd degree, by pairs."""
         lengths = dict(networkx.all_pairs_dijkstra_path_length(graph))
         odd = [node for node, degree in graph.degree if degree % 2]
