@@ -18,10 +18,14 @@ class Progress:
         self.begun = self.shown = time.monotonic()
         self.wanted = wanted and sys.stderr is not None and sys.stderr.isatty()
 
-    def step(self, size: int) -> None:
-        """One more is done, of this size."""
-        self.count += 1
+    def add(self, size: int, count: int = 1) -> None:
+        """So many more are done, of this size together, and nothing is shown."""
+        self.count += count
         self.done += size
+
+    def step(self, size: int, count: int = 1) -> None:
+        """So many more are done, of this size together."""
+        self.add(size, count)
         now = time.monotonic()
         if self.wanted and now - self.shown >= _SECONDS:
             self.shown = now
@@ -34,8 +38,13 @@ class Progress:
             part = min(self.done / self.whole, 1.0)
             full = int(part * _WIDTH)
             text = f"[{'#' * full}{'.' * (_WIDTH - full)}] {100 * part:3.0f} %, {text}"
-        sys.stderr.write(f"\r{text}\x1b[K")
-        sys.stderr.flush()
+        self.say(text)
+
+    def say(self, text: str) -> None:
+        """Shows a text in place of the bar."""
+        if self.wanted:
+            sys.stderr.write(f"\r{text}\x1b[K")
+            sys.stderr.flush()
 
     def end(self) -> None:
         """Takes the bar away."""

@@ -30,20 +30,20 @@ def interruptible(long: bool, call: Callable[..., Result], *arguments: Any) -> R
     """
     if not long or threading.current_thread() is not threading.main_thread():
         return call(*arguments)
-    task = _Task(call, arguments)
-    threading.Thread(target=task.work, daemon=True).start()
+    task = Task(call, arguments)
     task.done.wait()
     return task.result()
 
 
-class _Task(Generic[Result]):
-    """A call, and what it returned or raised."""
+class Task(Generic[Result]):
+    """A call in a thread of its own, and what it returned or raised."""
 
     def __init__(self, call: Callable[..., Result], arguments: Tuple[Any, ...]) -> None:
         self.call, self.arguments = call, arguments
         self.done = threading.Event()
         self.returned: List[Result] = []
         self.raised: List[BaseException] = []
+        threading.Thread(target=self.work, daemon=True).start()
 
     def work(self) -> None:
         try:
@@ -69,7 +69,7 @@ def in_order(
     >>> list(in_order(abs, [-1, 2, -3], threads=2))
     [1, 2, 3]
     """
-    count = _thread_count(threads)
+    count = thread_count(threads)
     crew: _Crew[Item, Result] = _Crew(call, items, count)
     try:
         yield from crew.results()
@@ -77,7 +77,8 @@ def in_order(
         crew.stop()
 
 
-def _thread_count(threads: Optional[Whole]) -> int:
+def thread_count(threads: Optional[Whole]) -> int:
+    """As many as are asked for, or as many as there are processors."""
     if threads is None:
         # Fewer than the machine has, if a queue gave this process a part of them.
         return len(os.sched_getaffinity(0)) if hasattr(os, "sched_getaffinity") else os.cpu_count() or 1
