@@ -1,4 +1,4 @@
-"""Chromium by its own protocol over two pipes, with the standard library alone."""
+"""Chromium by its own protocol over two pipes, with only the standard library."""
 
 import base64
 import fcntl
@@ -120,14 +120,14 @@ class Browser:
         self.ask("Page.navigate", url=address)
 
     def value(self, script):
-        """What a script gives, which may be a promise."""
+        """The value of a script; a promise is awaited."""
         found = self.ask("Runtime.evaluate", expression=script, returnByValue=True, awaitPromise=True)
         if "exceptionDetails" in found:
             raise RuntimeError(found["exceptionDetails"]["exception"].get("description", "the script fails"))
         return found["result"].get("value")
 
     def until(self, script):
-        """Waits until a script gives what is true."""
+        """Waits until the value of a script is true."""
         end = time.monotonic() + _SECONDS
         while time.monotonic() < end:
             value = self.value(script)
@@ -153,11 +153,11 @@ class Browser:
             self.ask("Input.dispatchMouseEvent", type=kind, **own)
 
     def picture(self):
-        """The page as it is seen, as PNG."""
+        """A screenshot of the page, as PNG."""
         return base64.b64decode(self.ask("Page.captureScreenshot", format="png")["data"])
 
     def downloaded(self, name):
-        """The bytes of a file that the page has saved, when it is there."""
+        """The bytes of a file that the page has saved, once it exists."""
         end, path = time.monotonic() + _SECONDS, os.path.join(self.downloads, name)
         while not os.path.exists(path) and time.monotonic() < end:
             time.sleep(0.02)
@@ -172,12 +172,12 @@ class Browser:
         return [event["request"]["url"] for event in self.told("Network.requestWillBeSent")]
 
     def troubles(self):
-        """What the browser has told of faults, as of scripts that its policy forbids."""
+        """The faults that the browser has reported, such as scripts that its policy forbids."""
         self.ask("Page.getFrameTree")
         entries = [entry["entry"] for entry in self.told("Log.entryAdded")]
         thrown = [entry["exceptionDetails"] for entry in self.told("Runtime.exceptionThrown")]
         return [entry["text"] for entry in entries if entry["level"] == "error"] + thrown
 
     def told(self, method):
-        """What the events of this name said."""
+        """The contents of the events of this name."""
         return [event["params"] for event in self.events if event.get("method") == method]

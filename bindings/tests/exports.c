@@ -27,7 +27,7 @@ void *__wrap_malloc(size_t size) { return is_granted() ? __real_malloc(size) : N
 void *__wrap_realloc(void *block, size_t size) { return is_granted() ? __real_realloc(block, size) : NULL; }
 
 /* Room for what is written of four spins and four bonds. */
-enum { SPINS = 4, BONDS = 4, LOOPS = 10, LOOP_BONDS = 40, REGIONS = 4, FACES = 2, SEAM = 2, LINE = 124 };
+enum { SPINS = 4, BONDS = 4, LOOPS = 10, LOOP_BONDS = 40, REGIONS = 4, FACES = 2, SEAM = 2, LINE = 124, NODES = 3 };
 
 /* All places of a caller, for every export, with no byte between them. */
 struct places {
@@ -35,11 +35,12 @@ struct places {
     struct ising2d_nest nest;
     struct ising2d_wall wall;
     struct ising2d_tables tables;
-    int64_t weights[LOOPS], costs[BONDS];
-    uint64_t radii[REGIONS], at_radii[FACES];
-    size_t starts[LOOPS + 1], dart_starts[SPINS + 1], written, whole;
+    struct ising2d_join join;
+    int64_t weights[LOOPS], costs[BONDS], draws[BONDS];
+    uint64_t radii[REGIONS], at_radii[FACES], node_radii[NODES];
+    size_t starts[LOOPS + 1], dart_starts[SPINS + 1], edge_count, written, whole;
     uint32_t ends[2 * BONDS], darts[2 * BONDS], seam[SEAM];
-    uint32_t names[SPINS], bonds[LOOP_BONDS], parents[REGIONS], regions[FACES];
+    uint32_t names[SPINS], bonds[LOOP_BONDS], parents[REGIONS], regions[FACES], node_regions[NODES];
     int8_t spins[SPINS];
     uint8_t line[LINE];
 };
@@ -70,6 +71,13 @@ static const uint64_t grown[] = {4, 4}, at[] = {0, 0};
 static const int8_t none_between[] = {1, 0, 1}, up[] = {1, 1, 1, 1};
 static const int64_t even_couplings[] = {3, 4, 2, 5};
 static const uint32_t untaken[] = {ISING2D_NONE, ISING2D_NONE};
+/* A triangle with two terminals: its longest edge, as one list and as the first of two; a nest that proves it; and the
+   two other edges. */
+static const uint32_t web_ends[] = {0, 1, 1, 2, 0, 2}, web_terminals[] = {2, 0, 1, 0}, longest[] = {2}, others[] = {0, 1};
+static const int64_t web_weights[] = {2, 3, 4};
+static const size_t web_starts[] = {0, 2, 4};
+static const uint32_t web_taken[] = {0, ISING2D_NONE, 1};
+static const uint64_t web_grown[] = {8, 8}, web_at[] = {0, 0, 0};
 static const char input[] = "square,2,2\n3,4\n2,-5\nend\nenergy,-9\nspins,1,1,-1,-1\nloop,4,0,1,2,3\nend\n";
 
 #define GRAPH_OF(n) n, ends, 8, couplings, 4, dart_starts, 5, darts, 8, seam, 1
@@ -80,6 +88,10 @@ static const char input[] = "square,2,2\n3,4\n2,-5\nend\nenergy,-9\nspins,1,1,-1
 #define NEST given->energy, spins, 4, alone, 2, grown, 2, taken, 2, at, 2
 #define TABLES_OF(p) p->ends, 2 * BONDS, p->dart_starts, SPINS + 1, p->darts, 2 * BONDS, p->seam, SEAM
 #define TOLD(p) p->line, LINE, &p->written
+
+#define NETWORK (given->n == 0 ? 0 : NODES), web_ends, 6, web_weights, 3
+#define WEB_NEST_OF(p) p->parents, REGIONS, p->radii, REGIONS, p->node_regions, NODES, p->node_radii, NODES
+#define WEB_NEST alone, 2, web_grown, 2, web_taken, 3, web_at, 3
 
 static uint8_t run(const struct given *given, struct places *p) {
     return ising2d_c_run((const uint8_t *)given->words, given->words_len, (const uint8_t *)input, strlen(input),
@@ -105,6 +117,16 @@ static uint8_t bonds(const struct given *given, struct places *p) {
     return ising2d_c_bonds(GRAPH, p->costs, BONDS, TOLD(p));
 }
 
+/* The draws of a law, or of none where no spins are given. */
+static uint8_t draws(const struct given *given, struct places *p) {
+    return ising2d_c_draws(given->n == 0 ? 4 : ISING2D_PM, 42, BONDS, p->draws, BONDS, TOLD(p));
+}
+
+static uint8_t too_many_draws(const struct given *given, struct places *p) {
+    (void)given;
+    return ising2d_c_draws(ISING2D_ONE, 0, 3145729, p->draws, BONDS, TOLD(p));
+}
+
 static uint8_t clusters(const struct given *given, struct places *p) {
     return ising2d_c_clusters(GRAPH, p->names, SPINS, TOLD(p));
 }
@@ -126,6 +148,32 @@ static uint8_t nest_check_none_between(const struct given *given, struct places 
 static uint8_t nest_check_untaken(const struct given *given, struct places *p) {
     return ising2d_c_nest_check(given->n, ends, 8, even_couplings, 4, dart_starts, 5, darts, 8, seam, 1, -14, up, 4,
                                 alone, 0, grown, 0, untaken, 2, at, 2, TOLD(p));
+}
+
+static uint8_t join(const struct given *given, struct places *p) {
+    return ising2d_c_join(NETWORK, web_terminals, 2, &p->join, p->bonds, LOOP_BONDS, WEB_NEST_OF(p), TOLD(p));
+}
+
+static uint8_t odd_join(const struct given *given, struct places *p) {
+    return ising2d_c_join(NETWORK, web_terminals, 3, &p->join, p->bonds, LOOP_BONDS, WEB_NEST_OF(p), TOLD(p));
+}
+
+static uint8_t join_check(const struct given *given, struct places *p) {
+    return ising2d_c_join_check(NETWORK, web_terminals, 2, longest, 1, WEB_NEST, TOLD(p));
+}
+
+static uint8_t join_check_others(const struct given *given, struct places *p) {
+    return ising2d_c_join_check(NETWORK, web_terminals, 2, others, 2, WEB_NEST, TOLD(p));
+}
+
+static uint8_t joins(const struct given *given, struct places *p) {
+    return ising2d_c_joins(NETWORK, web_starts, 3, web_terminals, 4, p->weights, LOOPS, p->starts, LOOPS + 1, p->bonds,
+                           LOOP_BONDS, &p->edge_count, TOLD(p));
+}
+
+static uint8_t joins_wrong_start(const struct given *given, struct places *p) {
+    return ising2d_c_joins(NETWORK, web_starts, 3, web_terminals, 3, p->weights, LOOPS, p->starts, LOOPS + 1, p->bonds,
+                           LOOP_BONDS, &p->edge_count, TOLD(p));
 }
 
 /* What a call must leave: places that were as `blank` says, but for these. */
@@ -171,6 +219,28 @@ static void turned(struct places *p) {
     memcpy(p->costs, costs, sizeof costs);
 }
 
+static void signs(struct places *p) {
+    const int64_t list[] = {-1, -1, 1, -1};
+    memcpy(p->draws, list, sizeof list);
+}
+
+static void least_join(struct places *p) {
+    p->join.weight = 4;
+    p->join.edge_count = 1;
+    p->join.node_count = NODES;
+    p->bonds[0] = 2;
+}
+
+static void least_joins(struct places *p) {
+    const int64_t weights[] = {4, 2};
+    const size_t starts[] = {0, 1, 2};
+    const uint32_t edges[] = {2, 0};
+    memcpy(p->weights, weights, sizeof weights);
+    memcpy(p->starts, starts, sizeof starts);
+    memcpy(p->bonds, edges, sizeof edges);
+    p->edge_count = 2;
+}
+
 static void joined(struct places *p) { memset(p->names, 0, sizeof p->names); }
 
 static const struct places *blank(void) {
@@ -213,8 +283,25 @@ static void take_nest(struct places *wanted, const struct places *found) {
     wanted->nest.face_count = faces;
 }
 
+/* And a nest over nodes. */
+static void take_web_nest(struct places *wanted, const struct places *found) {
+    struct places judged = *blank();
+    size_t count = found->join.region_count;
+    if (count > REGIONS ||
+        ising2d_c_join_check(NODES, web_ends, 6, web_weights, 3, web_terminals, 2, found->bonds, 1, found->parents, count,
+                             found->radii, count, found->node_regions, NODES, found->node_radii, NODES, judged.line, LINE,
+                             &judged.written) != ISING2D_DONE) {
+        return;
+    }
+    memcpy(wanted->parents, found->parents, count * sizeof *found->parents);
+    memcpy(wanted->radii, found->radii, count * sizeof *found->radii);
+    memcpy(wanted->node_regions, found->node_regions, sizeof found->node_regions);
+    memcpy(wanted->node_radii, found->node_radii, sizeof found->node_radii);
+    wanted->join.region_count = count;
+}
+
 /* What of an answer may differ. */
-enum proof { NONE, LOOP_PROOF, NEST_PROOF };
+enum proof { NONE, LOOP_PROOF, NEST_PROOF, WEB_NEST_PROOF };
 
 static int passed = 0, failed = 0;
 
@@ -239,6 +326,9 @@ static void ends_with(const char *name, call *called, const struct given *given,
     }
     if (proof == NEST_PROOF) {
         take_nest(&all, &found);
+    }
+    if (proof == WEB_NEST_PROOF) {
+        take_web_nest(&all, &found);
     }
     judge(ended == status && memcmp(&found, &all, sizeof all) == 0, name, status);
 }
@@ -292,9 +382,12 @@ static void unsaid(struct places *p) { (void)p; }
 static void yes(struct places *p) { text(p, "yes\n"); }
 static void no(struct places *p) { text(p, "no,2,-10\n"); }
 static void no_spin(struct places *p) { text(p, "refused,19,10,1\n"); }
+static void many(struct places *p) { text(p, "refused,8,3145729\n"); }
+static void odd_terminals(struct places *p) { text(p, "refused,21,3\n"); }
+static void wrong_start(struct places *p) { text(p, "refused,19,19,2\n"); }
 
 static void try_numbers(void) {
-    const char *few_couplings = "refused,6,3,4\n", *no_spins = "refused,19,5,0\n";
+    const char *few_couplings = "refused,6,3,4\n", *no_spins = "refused,19,5,0\n", *no_nodes = "refused,19,17,0\n";
     const struct row rows[] = {
         {"ising2d_c_lattice", lattice, right, few, with(square), few_couplings, NONE},
         {"ising2d_c_lattice", lattice, ring, few, with(tube), few_couplings, NONE},
@@ -302,11 +395,16 @@ static void try_numbers(void) {
         {"ising2d_c_nest", nest, right, few, with(least_of_nest), no_spins, NEST_PROOF},
         {"ising2d_c_wall", wall, right, few, with(walls), no_spins, NONE},
         {"ising2d_c_bonds", bonds, right, few, with(turned), no_spins, NONE},
+        {"ising2d_c_draws", draws, right, few, with(signs), "refused,17\n", NONE},
         {"ising2d_c_clusters", clusters, right, few, with(joined), no_spins, NONE},
         {"ising2d_c_check", check, right, few, with(yes), no_spins, NONE},
         {"ising2d_c_nest_check", nest_check, right, few, with(unsaid), no_spins, NONE},
+        {"ising2d_c_join", join, right, few, with(least_join), no_nodes, WEB_NEST_PROOF},
+        {"ising2d_c_join_check", join_check, right, few, with(unsaid), no_nodes, NONE},
+        {"ising2d_c_joins", joins, right, few, with(least_joins), no_nodes, NONE},
     };
-    const struct places failing = with(no), silent = with(unsaid), bad_value = with(no_spin);
+    const struct places failing = with(no), silent = with(unsaid), bad_value = with(no_spin), odd = with(odd_terminals),
+                        bad_start = with(wrong_start), beyond = with(many);
     for (size_t k = 0; k < sizeof rows / sizeof *rows; k++) {
         try_row(&rows[k]);
     }
@@ -315,6 +413,10 @@ static void try_numbers(void) {
     ends_with("ising2d_c_check", check_none_between, &right, ISING2D_REFUSED, &bad_value, NONE);
     ends_with("ising2d_c_nest_check", nest_check_none_between, &right, ISING2D_REFUSED, &bad_value, NONE);
     ends_with("ising2d_c_nest_check", nest_check_untaken, &right, ISING2D_DONE, &silent, NONE);
+    ends_with("ising2d_c_draws", too_many_draws, &right, ISING2D_REFUSED, &beyond, NONE);
+    ends_with("ising2d_c_join", odd_join, &right, ISING2D_REFUSED, &odd, NONE);
+    ends_with("ising2d_c_join_check", join_check_others, &right, ISING2D_NO, &silent, NONE);
+    ends_with("ising2d_c_joins", joins_wrong_start, &right, ISING2D_REFUSED, &bad_start, NONE);
 }
 
 /* Words, each ended by a byte 0; the last of them by the end of the string. */

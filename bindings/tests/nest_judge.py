@@ -59,7 +59,7 @@ def energy_and_broken(table, couplings, spins):
 
 
 def failures(table, couplings, energy, spins, nest):
-    """The names of the tests that fail; none where it is a proof."""
+    """The names of the failed checks; none if it is a proof."""
     own, broken = energy_and_broken(table, couplings, spins)
     parents, radii, regions, taken = (part.astype(numpy.int64) for part in nest)
     odd = parity_at(table, couplings < 0)

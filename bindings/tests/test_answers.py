@@ -164,17 +164,17 @@ class Joins(unittest.TestCase):
             self.forged(found)
 
     def forged(self, found):
-        """Changed proofs, each with the number of the test that fails."""
+        """Changed proofs, each with the number of the failed check."""
         first, behind = found.cuts[0], found.cuts[1:]
         for number, changes in (
             (1, {"edges": (*found.edges, found.edges[0])}),
             (1, {"edges": (*found.edges, 99)}),
             (3, {"weight": found.weight - 1}),
-            (4, {"cuts": (ising2d.OddCut(0, first.edges), *behind)}),
-            (4, {"cuts": (ising2d.OddCut(first.weight, (99,)), *behind)}),
-            (5, {"cuts": (ising2d.OddCut(first.weight, ()), *behind)}),
-            (6, {"cuts": (ising2d.OddCut(2**50, first.edges), *behind)}),
-            (7, {"cuts": behind}),
+            (4, {"stated_cuts": (ising2d.OddCut(0, first.edges), *behind)}),
+            (4, {"stated_cuts": (ising2d.OddCut(first.weight, (99,)), *behind)}),
+            (5, {"stated_cuts": (ising2d.OddCut(first.weight, ()), *behind)}),
+            (6, {"stated_cuts": (ising2d.OddCut(2**50, first.edges), *behind)}),
+            (7, {"stated_cuts": behind}),
         ):
             verdict = dataclasses.replace(found, **changes).check()
             self.assertEqual(verdict.number, number, changes)
@@ -291,7 +291,7 @@ class InPython(unittest.TestCase):
 
     def test_a_verdict_has_a_sentence(self):
         verdict = ising2d.check(*SQUARE, -9, [1, 1, -1, -1], [])
-        self.assertEqual(verdict.sentence, "the spins have the energy -10, and not the stated one")
+        self.assertEqual(verdict.sentence, "the spins have the energy -10, not the stated one")
         self.assertFalse(verdict)
         self.assertIn("no assignment has less", ising2d.ground(*SQUARE).check().sentence)
 

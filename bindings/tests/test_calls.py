@@ -70,7 +70,7 @@ def text_of(kind, rows, cols, couplings):
 
 
 def rows_of(command, instance):
-    """The rows that the program's text form answers."""
+    """The rows that the program prints for the text form."""
     found = ising2d.run([command], text_of(*instance))
     assert found.status == 0, found
     return [line.split(",") for line in found.text.splitlines()]
@@ -86,7 +86,7 @@ def drawn(source):
 
 
 def verdict_by_text(instance, stated):
-    """The verdict that the program's text form gives, or the refusal's number and kept numbers."""
+    """The program's verdict on the text form, or the refusal's number and kept numbers."""
     energy, spins, loops = stated
     records = [f"energy,{energy}", ",".join(["spins", *map(str, spins)])]
     records += [",".join(map(str, ("loop", loop.weight, *loop.bonds))) for loop in loops]
@@ -97,7 +97,7 @@ def verdict_by_text(instance, stated):
 
 
 def forged(source, found):
-    """A proof that is perhaps changed in one place."""
+    """A proof, perhaps changed in one place."""
     energy, spins, loops = found.energy, list(found.spins), list(found.loops)
     change = source.randrange(9)
     if change == 0:
@@ -221,10 +221,9 @@ class WrongArguments(unittest.TestCase):
         self.refused(19, (4, 0), "square", 2, 0, [])
         self.refused(19, (4, 0), "hexagonal", 2, 1, [1])
         self.refused(19, (4, 0), "cylinder", 2, 2, [1])
-        for call in (ising2d.costs, ising2d.clusters):
-            with self.assertRaises(Refusal) as caught:
-                call("square", 45, 46, [1] * 4049)
-            self.assertEqual((caught.exception.number, caught.exception.kept), (7, (2070,)))
+        with self.assertRaises(Refusal) as caught:
+            ising2d.costs("square", 128, 129, [1] * 32767)
+        self.assertEqual((caught.exception.number, caught.exception.kept), (7, (16512,)))
         self.refused(7, (1049600,), "square", 1025, 1024, [])
         self.refused(7, ((2**32 - 1) ** 2,), "square", 2**32 - 1, 2**32 - 1, [])
         self.refused(6, (3, 4), "square", 2, 2, [3, 4, 2])
@@ -232,10 +231,10 @@ class WrongArguments(unittest.TestCase):
         self.refused(19, (6, 3), "square", 2, 2, [3, 4, 2, -(2**63)])
         self.refused(13, (2**63 + 2,), "square", 2, 2, [2**63 - 1, 1, 1, 1])
 
-    def test_the_limit_of_a_call_comes_in_front_of_the_couplings(self):
+    def test_within_the_limits_the_couplings_are_counted(self):
         for call, number, kept in (
-            (ising2d.costs, 7, (3000,)),
-            (ising2d.clusters, 7, (3000,)),
+            (ising2d.costs, 6, (1, 5890)),
+            (ising2d.clusters, 6, (1, 5890)),
             (ising2d.ground, 6, (1, 5890)),
             (ising2d.wall, 6, (1, 5890)),
         ):

@@ -55,6 +55,8 @@ class Scripts(unittest.TestCase):
         for name, words, part in (
             ("annealer.py", (), "minima"),
             ("walls.py", ("60", "4"), "wall energy"),
+            ("stiffness.py", ("--sizes", "6,8,10", "--samples", "20"), "slope of the logarithms"),
+            ("clusters.py", ("--length", "20", "--samples", "3"), "share of the largest cluster"),
             ("drawings.py", ("300",), "energy -287, proved: True"),
         ):
             place = self.FOLDER / name

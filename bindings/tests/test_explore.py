@@ -57,7 +57,7 @@ class Served(unittest.TestCase):
             line.close()
 
     def asked(self, name, given, **headers):
-        """The status and the object that a request is answered with."""
+        """The status and the object of the answer to a request."""
         body = given if isinstance(given, (bytes, str)) else json.dumps(given)
         own = {"Content_Type": "application/json", **headers}
         status, _, text = self.sent("POST", f"/{self.server.token}/api/{name}", body, **own)
@@ -351,7 +351,7 @@ def reached(part, ends):
 
 
 class Starts(unittest.TestCase):
-    """The command itself, in a process of its own."""
+    """The command itself, in its own process."""
 
     def started(self, *words):
         # A shell has what it starts in the background ignore interrupts, which all below would inherit.

@@ -64,7 +64,7 @@ class Pages(unittest.TestCase):
         self.ready()
 
     def middle(self, lattice, bond):
-        """Where the middle of a bond is seen."""
+        """The midpoint of a bond on the screen."""
         u, v = lattice.ends()[bond]
         places = lattice.places()
         script = "(() => { const own = document.getElementById('picture');"
@@ -275,7 +275,7 @@ class Pages(unittest.TestCase):
         self.page.events.clear()
 
     def test_a_large_lattice_is_drawn(self):
-        """The time is printed, and not tested: other work may go on beside."""
+        """The time is printed, not tested, since the machine may be busy."""
         self.open("kind=square&rows=100&cols=100&law=pm&seed=1")
         self.focus()
         self.pressed("ArrowRight")

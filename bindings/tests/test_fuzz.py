@@ -17,18 +17,18 @@ except ImportError:
     numpy = None
 
 CALLS = int(os.environ.get("CALLS", "400"))
-STATED = (TypeError, ValueError, OverflowError, MemoryError, ising2d.NoProofFound)
+STATED = (TypeError, ValueError, OverflowError, MemoryError, ising2d.NoProofFound, ising2d.Stopped)
 
 
 class Odd:
-    """A value that is nothing in particular."""
+    """An opaque value."""
 
     def __index__(self):
         return 3
 
 
 class Liar:
-    """Looks like a list, and is none."""
+    """Looks like a list but is none."""
 
     mask = True
 
@@ -199,6 +199,12 @@ CALLED += [
     (lambda *arrays: list(Loops(*arrays)), (array("q", [1]), array("Q", [0, 1]), array("I", [2]))),
     (lambda spins: Lattice(*LATTICE).energy_of(spins), ([1, 1, 1, 1],)),
     (lambda values: Lattice(*LATTICE).by_node(values), ([1, 1, 1, 1],)),
+    (lambda *given: Lattice(*LATTICE).costs(*given), ([0, 2], None, False, 2)),
+    (lambda *given: Lattice(*LATTICE).costs([1], *given), (([-1, 0, 2, -1], [-1, 9, 9, -1]), False, 1)),
+    (lambda *given: Lattice(*LATTICE).ranges(*given), ([0, 2], False, 2)),
+    (lambda *given: Lattice(*LATTICE).droplet(*given), (1, None)),
+    (ising2d.ensemble, ("gaussian", 1, 2, 3, 2, None, ising2d.Ensemble.of([5]), False, 1)),
+    (ising2d.Ensemble.of, ([5, 3],)),
 ]
 if numpy is not None:
     try:

@@ -39,7 +39,7 @@ def as_json(graph):
 
 
 def rows_of(command, graph):
-    """The rows that the program's text form answers."""
+    """The rows that the program prints for the text form."""
     found = ising2d.run([command], records(graph))
     assert found.status == 0, found
     return [line.split(",") for line in found.text.splitlines()]
@@ -80,7 +80,7 @@ def drawn(source):
 
 
 def spoiled(source, graph):
-    """The graph with one wrong number, perhaps."""
+    """The graph, perhaps with one wrong number."""
     n, bonds = graph.n, [list(bond) for bond in graph.bonds]
     rotation, seam = [list(darts) for darts in graph.rotation], list(graph.seam)
     change = source.randrange(9)

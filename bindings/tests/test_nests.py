@@ -92,7 +92,7 @@ def judged(given, energy, spins, nest):
 
 
 def forged(source, found):
-    """A proof that is perhaps changed in one place."""
+    """A proof, perhaps changed in one place."""
     spins, rows = found.spins.tolist(), [own.tolist() for own in found.nest]
     change, row = source.randrange(6), source.choice(rows)
     if change == 0:
@@ -180,16 +180,26 @@ class LargeInstances(unittest.TestCase):
             self.assertFalse(given.check(found.energy - 2, found.spins, nest=found.nest))
         self.assertEqual(given.wall().periodic, found.energy)
         with self.assertRaises(Refusal) as caught:
-            given.costs()
-        self.assertEqual((caught.exception.number, caught.exception.kept), (7, (10000,)))
+            ising2d.draw("pm", 7, "square", 130, 130).costs()
+        self.assertEqual((caught.exception.number, caught.exception.kept), (7, (16900,)))
 
     def test_a_nest_over_many_bonds(self):
-        """A nest is there, and not loops in its place, where the dual has more than 30,000 edges."""
+        """There is a nest, and not loops, if the dual has more than 30,000 edges."""
         source = random.Random(9)
         given = ising2d.Lattice("square", 150, 150, [source.choice((-1, 1)) for _ in range(bond_count("square", 150, 150))])
         found = given.ground()
         self.assertIsNotNone(found.nest)
         self.assertTrue(given.check(found.energy, found.spins, nest=found.nest))
+
+    def test_trees_in_slices(self):
+        """Drawn couplings and more than 16384 frustrated faces: trees grow in batches, and the nest proves it."""
+        source = random.Random(10)
+        for kind, side in (("square", 200), ("triangular", 150)):
+            count = bond_count(kind, side, side)
+            given = ising2d.Lattice(kind, side, side, [source.randrange(-(2**20), 2**20) for _ in range(count)])
+            found = given.ground()
+            self.assertIsNotNone(found.nest)
+            self.assertTrue(given.check(found.energy, found.spins, nest=found.nest))
 
     def test_loops_of_three_thousand_spins(self):
         source = random.Random(8)

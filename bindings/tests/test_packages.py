@@ -79,7 +79,7 @@ class Packages(unittest.TestCase):
         self.assertEqual(Path(self.works()).parents[1], self.source.resolve())
 
     def asked_of_the_system(self):
-        """The versions of glibc that the library asks for, and the libraries, as readelf tells."""
+        """The glibc versions and the libraries that the library needs, by readelf."""
         if shutil.which("readelf") is None:
             return set(), set()
         told = subprocess.run(["readelf", "-dV", str(LIBRARY)], capture_output=True, text=True).stdout

@@ -35,7 +35,7 @@ def is_on(p, q, x):
 
 
 def meet(points, one, other):
-    """Whether two bonds have a point in common that is no common end."""
+    """Whether two bonds share a point that is not a common end."""
     (p, q), (r, s) = ([points[spin] for spin in bond] for bond in (one, other))
     if set(one) == set(other):
         return False
@@ -50,7 +50,7 @@ def meet(points, one, other):
 
 
 def is_drawing(points, bonds):
-    """Whether nothing meets elsewhere than at the ends of bonds."""
+    """Whether bonds meet only at their ends."""
     lies_on = any(is_on(*(points[spin] for spin in bond), points[x]) for bond in bonds for x in range(len(points)) if x not in bond)
     pairs = itertools.combinations(bonds, 2)
     return len(set(points)) == len(points) and not lies_on and not any(meet(points, *pair) for pair in pairs)

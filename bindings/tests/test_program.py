@@ -93,8 +93,8 @@ class Commands(unittest.TestCase):
         self.assertEqual((found.returncode, found.stdout), (2, b"usage\n"))
         self.assertEqual(found.stderr, b"ising2d: count is 1001 (allowed: 1 to 1000)\n")
         for words, text in (
-            ("gen pm x square 2 2", "seed: a whole number is wanted, and not the str 'x'"),
-            ("gen pm +1 square 2 2", "seed: a whole number is wanted, and not the str '+1'"),
+            ("gen pm x square 2 2", "seed: expected a whole number, not the str 'x'"),
+            ("gen pm +1 square 2 2", "seed: expected a whole number, not the str '+1'"),
             ("gen pm 1 kagome 2 2", "kind is 'kagome' (allowed: square, triangular"),
             ("gen pm 1 cylinder 2 2", "cols is 2 (allowed: 3 to 2048)"),
             ("sample pm 1 46 46", "2116 spins (allowed: at most 2048)"),
@@ -142,12 +142,14 @@ class Commands(unittest.TestCase):
             self.assertIn(f"wall,{lattice.wall().difference}\n".encode(), found.stdout)
             found = program("energy", str(given))
             self.assertEqual(found.stdout.count(b"\n"), 3)
+            found = program("clusters", str(given)).stdout.decode().splitlines()
+            self.assertEqual(found[:-1], [f"cluster,{spin},{name}" for spin, name in enumerate(lattice.clusters())])
             # What only the program answers keeps its limit.
-            self.assertEqual(program("bonds", str(given)).stdout, b"refused,7,2500\n")
+            self.assertEqual(program("ranges", str(given)).stdout, b"refused,7,2500\n")
             given.write_text(text.replace("end", "x"))
             found = program("ground", str(given))
             self.assertEqual((found.returncode, found.stdout), (1, b"refused,3,2,0\n"))
-            self.assertIn(b"line 3, field 1: 'x' cannot stand there", found.stderr)
+            self.assertIn(b"line 3, field 1: 'x' is not allowed there", found.stderr)
 
     def test_streams_that_fail(self):
         """The same statuses as the program: 5 for standard output, 4 for standard input."""
@@ -218,7 +220,7 @@ class Terminals(unittest.TestCase):
             self.assertTrue(any(self.interrupted(words) < 1.0 for _ in range(TRIES)))
 
     def interrupted(self, words):
-        """The seconds from an interrupt behind the first line to the end of the process."""
+        """The seconds from an interrupt after the first line to the end of the process."""
         # A shell has what it starts in the background ignore interrupts, which all below would inherit.
         heeds = functools.partial(signal.signal, signal.SIGINT, signal.SIG_DFL)
         with subprocess.Popen(words, stdout=subprocess.PIPE, preexec_fn=heeds) as child:
@@ -241,27 +243,27 @@ class Refusals(unittest.TestCase):
         (
             "energy",
             "\n\nsquare,2,2\n\n3,4\n2,x\nend\n",
-            "line 6, field 2: 'x' cannot stand there (allowed: a coupling: a whole number",
+            "line 6, field 2: 'x' is not allowed there (allowed: a coupling: a whole number",
         ),
-        ("energy", "square,2.5,2\n", "line 1, field 2: '2.5' cannot stand there (allowed: rows: 1 or more"),
-        ("energy", "cylinder,3,2\n", "line 1, field 3: '2' cannot stand there (allowed: columns: 3 or more"),
-        ("energy", "torus,2,2\n", "line 1: 'torus' cannot stand there (allowed: square, triangular"),
-        ("energy", "Square,2,2\n", "line 1: 'Square' cannot stand there"),
-        ("energy", "square;2;2\n", "line 1: 'square;2;2' cannot stand there"),
+        ("energy", "square,2.5,2\n", "line 1, field 2: '2.5' is not allowed there (allowed: rows: 1 or more"),
+        ("energy", "cylinder,3,2\n", "line 1, field 3: '2' is not allowed there (allowed: columns: 3 or more"),
+        ("energy", "torus,2,2\n", "line 1: 'torus' is not allowed there (allowed: square, triangular"),
+        ("energy", "Square,2,2\n", "line 1: 'Square' is not allowed there"),
+        ("energy", "square;2;2\n", "line 1: 'square;2;2' is not allowed there"),
         (
             "energy",
             "square,2\n",
-            "line 1: 'square,2' has a wrong number of fields, or comes a second time (allowed: square,ROWS,COLS",
+            "line 1: 'square,2' has a wrong number of fields, or is repeated (allowed: square,ROWS,COLS",
         ),
         (
             "energy",
             "general,2\nbond,0,5,1\nend\n",
-            "line 2, field 3: '5' cannot stand there (allowed: a spin from 0",
+            "line 2, field 3: '5' is not allowed there (allowed: a spin from 0",
         ),
         (
             "energy",
             "general,2\nedge,0,1,1\nend\n",
-            "line 2: 'edge' cannot stand there (allowed: bond, rot, seam, end",
+            "line 2: 'edge' is not allowed there (allowed: bond, rot, seam, end",
         ),
         ("energy", "general,2\nbond,1,1,1\nend\n", "line 2: both ends of bond 0 are the same spin"),
         (
@@ -269,39 +271,39 @@ class Refusals(unittest.TestCase):
             "general,2\nbond,0,1,1\nrot,0,0\nrot,1,0\nend\n",
             "line 4: the list of spin 1 is wrong at dart 0",
         ),
-        ("energy", SQUARE + "7\n", "line 5: '7' stands behind the end"),
+        ("energy", SQUARE + "7\n", "line 5: '7' follows the end"),
         (
             "energy",
             "square,2,2\n3\nend\n",
             "standard input: there are 1 couplings (allowed: one for each bond of the lattice, 4)",
         ),
-        ("energy", "square,2,2\n3\n", "the records end before the awaited end"),
+        ("energy", "square,2,2\n3\n", "the records do not end with the record end"),
         ("energy", '{"kind":"kagome"}', 'there is no such kind: "kagome"'),
         ("energy", '{"kind":"square","rows":2,"cols":2,"couplings":[3,4,"x",1]}', 'coupling 2 is wrong: "x"'),
         ("energy", '{"kind":"square","rows":2}', "there is no member cols"),
         ("energy", '{"kind":"square","rows":2,"cols":1,"couplings":[1],"field":3}', "'field'"),
-        ("energy", '{"kind":', "no JSON"),
+        ("energy", '{"kind":', "not valid JSON"),
         (
             "check",
             SQUARE + "energy,-10\nspins,1,1,0,1\nend\n",
-            "line 6, field 4: '0' cannot stand there (allowed: 1 or -1",
+            "line 6, field 4: '0' is not allowed there (allowed: 1 or -1",
         ),
-        ("check", SQUARE + "spins,1\n", "line 5: 'spins' cannot stand there (allowed: energy"),
+        ("check", SQUARE + "spins,1\n", "line 5: 'spins' is not allowed there (allowed: energy"),
         (
             "check",
             SQUARE + "energy,-9\nspins,1,1,-1,-1\nend\n",
-            "the spins have the energy -10, and not the stated one",
+            "the spins have the energy -10, not the stated one",
         ),
         (
             "tjoin",
             "graph,2\nedge,0,1,-5\nend\n",
-            "line 2, field 4: '-5' cannot stand there (allowed: a weight from 0",
+            "line 2, field 4: '-5' is not allowed there (allowed: a weight from 0",
         ),
         ("tjoin", "graph,2\nedge,0,1,5\nterm,0\nend\n", "line 3: there are 1 terminals"),
         ("tjoin", "graph,3000\nend\n", "there are 3000 nodes (allowed: at most 2048)"),
         ("tjoin", "graph,2\nedge,0,1,5\nterm,0,7\nend\n", "line 3: terminal 7 is no node"),
         ("tjoin", "graph,3\nedge,0,1,5\nend\n", "no edges lead from node 0 to node 2 (allowed: one component)"),
-        ("postman", "graph,2\nterm,0\nend\n", "line 2: 'term' cannot stand there (allowed: edge, end"),
+        ("postman", "graph,2\nterm,0\nend\n", "line 2: 'term' is not allowed there (allowed: edge, end"),
         ("energy", b"\xff\xfes\x00q\x00", "line 1: "),
     )
 

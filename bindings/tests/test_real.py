@@ -127,8 +127,8 @@ class Rounded(unittest.TestCase):
 
     def test_what_is_refused(self):
         for values, scale, part in (
-            ([math.nan, 1, 1, 1], None, "nan is no real number"),
-            ([1, math.inf, 1, 1], None, "inf is no real number"),
+            ([math.nan, 1, 1, 1], None, "nan is not a real number"),
+            ([1, math.inf, 1, 1], None, "inf is not a real number"),
             ([1.0, 2, 3, 4], 2.0**60, "too large"),
             ([1e-9, 0, 0, 0], 1, "too small"),
             ([1.0, 2, 3, 4], 0, "above 0"),

@@ -21,7 +21,7 @@ SQUARE = ("square", 2, 2, [3, 4, 2, -5])
 
 
 def told(call, *arguments, **named):
-    """The class of what a call raises, and its text."""
+    """The class and the text of the exception that a call raises."""
     try:
         call(*arguments, **named)
     except Exception as fault:
@@ -35,7 +35,7 @@ class Texts(unittest.TestCase):
         (ising2d.ground, ("square", 0, 2, []), Refusal, ("rows", ": 0", "1 or more")),
         (ising2d.ground, ("cylinder", 2, 2, [1]), Refusal, ("columns", ": 2", "cylinder 3")),
         (ising2d.ground, ("square", 1025, 1024, []), Refusal, ("1049600 spins", "at most 1048576")),
-        (ising2d.costs, ("square", 45, 46, []), Refusal, ("2070 spins", "at most 2048")),
+        (ising2d.costs, ("square", 128, 129, []), Refusal, ("16512 spins", "at most 16384")),
         (ising2d.ground, ("square", 2, 2, [1]), Refusal, ("1 couplings", "lattice, 4")),
         (
             ising2d.ground,
@@ -52,7 +52,7 @@ class Texts(unittest.TestCase):
         (ising2d.ground, ("square", 2, 2, {3, 4, 2}), TypeError, ("couplings", "set has no order")),
         (ising2d.ground, ("square", 2, 2, {0: 1}), TypeError, ("couplings", "dict has no order")),
         (ising2d.ground, ("square", 2, 2, "3425"), TypeError, ("couplings", "text '3425'")),
-        (ising2d.ground, ("square", 2, 2, 7), TypeError, ("couplings", "a list is wanted", "an int")),
+        (ising2d.ground, ("square", 2, 2, 7), TypeError, ("couplings", "expected a list", "an int")),
         (ising2d.ground, ("square", 2, 2, [3, 4, 2, 0.5]), TypeError, ("couplings", "float 0.5", "from_real")),
         (ising2d.ground, ("square", 2, 2, [3, 4, 2, 2**63]), OverflowError, ("couplings", str(2**63))),
         (ising2d.check, (*SQUARE, -10.0, [1] * 4, []), TypeError, ("energy", "float -10.0")),
@@ -79,8 +79,8 @@ class Texts(unittest.TestCase):
         (ising2d.tjoin, (2, [(0, 1, 5)], None), TypeError, ("terminals", "NoneType")),
         (ising2d.tjoin, (0, [], []), Refusal, ("n is 0", "1 or more")),
         (ising2d.tjoin, (2, [(0, 1, -5)], []), Refusal, ("(0, 1, -5)", "weights of 0 or more")),
-        (lambda: Graph(2, [(0, 1, 1)], [[0], [1]], [7]).wall(), (), Refusal, ("7 in the seam", "bonds, each once")),
-        (ising2d.tjoin, (3000, [], []), Refusal, ("3000 nodes", "at most 2048")),
+        (lambda: Graph(2, [(0, 1, 1)], [[0], [1]], [7]).wall(), (), Refusal, ("bond 7 of the seam", "bonds, each once")),
+        (ising2d.tjoin, (2**20 + 1, [], []), Refusal, ("1048577 nodes", "at most 1048576")),
         (ising2d.tjoin, (2, [(0, 1, 2**45)], []), Refusal, ("the weights", str(2**45), "2**44")),
         (
             lambda: Graph(4, [(u, v, 1) for u in range(4) for v in range(u)]).ground(),
@@ -89,12 +89,12 @@ class Texts(unittest.TestCase):
             ("no drawing in the plane", "Euler number is 0", "Graph.from_bonds"),
         ),
         (ising2d.read, ("square,2,2\n\n3,x\n",), Refusal, ("line 3, field 2", "'x'", "-(2**63 - 1)")),
-        (ising2d.read, ("square,2,2\n3,4\n2,-5\n",), Refusal, ("Unended (2)", "before the awaited end")),
+        (ising2d.read, ("square,2,2\n3,4\n2,-5\n",), Refusal, ("Unended (2)", "with the record end")),
         (ising2d.read, ("square,1,1\nend\n7\n",), Refusal, ("Trailing (12): line 3", "'7'", "nothing")),
         (ising2d.read, ("square,1,1\nend\n\nenergy,0\nspins,1\nend\n",), Refusal, ("Trailing", "line 4")),
         (ising2d.read, ("torus,1\nend\n",), Refusal, ("line 1", "'torus'", "square, triangular")),
         (ising2d.read, ('{"kind":"square","rows":2}',), Refusal, ("no member cols",)),
-        (ising2d.read, ('{"kind":',), Refusal, ("BadJson", "no JSON", "one object")),
+        (ising2d.read, ('{"kind":',), Refusal, ("BadJson", "not valid JSON", "one object")),
         (ising2d.tjoin, (2, [(0, 9, 5)], []), Refusal, ("edge 0", "(0, 9, 5)", "from 0 to 1")),
         (ising2d.postman, (2, []), Refusal, ("node 1", "one component")),
         (ising2d.draw, ("normal", 1, "square", 2, 2), Refusal, ("law", "one, alternate, pm, uniform, gaussian")),
@@ -123,7 +123,7 @@ class Texts(unittest.TestCase):
         # Status 5 was never seen of an instance, so the line judges the number alone.
         for status, kind in ((5, ising2d.NoProofFound), (6, MemoryError)):
             with self.assertRaises(kind) as raised:
-                ising2d._ffi._Line().judge(status, None)
+                ising2d._ffi.Line().judge(status, None)
             self.assertIn("memory", str(raised.exception))
 
     def test_every_number_has_a_sentence(self):
@@ -169,7 +169,7 @@ class Numpy(unittest.TestCase):
             self.assertIn(part, text)
         raised, text = told(Graph, 2, numpy.array([[0, 1, 7.0]]), [[0], [1]])
         self.assertIs(raised, TypeError)
-        self.assertIn("bonds: whole numbers are wanted, and not an array of float64; Lattice.from_real", text)
+        self.assertIn("bonds: expected whole numbers, not an array of float64; Lattice.from_real", text)
         raised, text = told(ising2d.check, *SQUARE, -10, numpy.array([1, 1, 300, 1]), [])
         self.assertIs(raised, OverflowError)
         self.assertIn("300", text)
@@ -181,7 +181,7 @@ class Numpy(unittest.TestCase):
 
 class TheLibrary(unittest.TestCase):
     def load(self, value, folder=None):
-        """Imports the package with this place of the library."""
+        """Imports the package with the library at this path."""
         code = "import ising2d; print(ising2d.ground('square', 2, 2, [3, 4, 2, -5]).energy)"
         return subprocess.run(
             [sys.executable, "-c", code],
@@ -199,7 +199,7 @@ class TheLibrary(unittest.TestCase):
         self.assertEqual((found.stdout, found.stderr), ("-10\n", ""))
 
     def told_of(self, *words):
-        """What a tool of binutils prints of the library."""
+        """The output of a binutils tool for the library."""
         if shutil.which(words[0]) is None:
             self.skipTest(f"there is no {words[0]}")
         place = ising2d._ffi.library()._name
@@ -220,11 +220,11 @@ class TheLibrary(unittest.TestCase):
 
     def test_a_place_with_nothing_or_something_else(self):
         self.assertIn(
-            "LibraryMissing: ISING2D_LIBRARY names /nowhere/x.so, and there is no such file",
+            "LibraryMissing: ISING2D_LIBRARY names /nowhere/x.so, which does not exist",
             self.load("/nowhere/x.so").stderr,
         )
         with tempfile.NamedTemporaryFile(suffix=".so") as file:
-            self.assertIn("is no library of ising2d", self.load(file.name).stderr)
+            self.assertIn("is not a library of ising2d", self.load(file.name).stderr)
 
 
 if __name__ == "__main__":

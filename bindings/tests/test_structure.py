@@ -147,7 +147,7 @@ class Shapes(unittest.TestCase):
 
 
 class Large(unittest.TestCase):
-    """What is said of a large answer is short, and found by numpy if it is there as without it."""
+    """Texts about large answers are short, and the same with and without numpy."""
 
     def test_long_answers_have_short_texts(self):
         found = ising2d.draw("uniform", 1, "cylinder", 60, 60).wall(states=True)

@@ -12,17 +12,16 @@ its couplings, one for each bond: first all bonds to the east, row by row, then 
 the diagonals. Spin (r, c) has the number ``r * cols + c``. ``Graph`` is any other planar graph, by points
 with straight bonds, from networkx, or by a drawing. The energy is minus the sum of coupling times both
 spins. Couplings are whole numbers, whose sizes sum to at most 2**44; ``from_real`` takes real ones, and
-its answers have rigorous bounds. There are at most 2**20 spins; costs, clusters, ranges, cuts and
-reports take at most 2048.
+its answers have rigorous bounds. There are at most 2**20 spins; costs of all bonds, ranges of all bonds
+and reports take at most 2**14.
 
 Arrays are numpy's if numpy is installed, and read-only; else they are arrays of the module ``array``.
-Whole numbers of any sequence are taken. Wrong input raises a ``Refusal`` (a ``ValueError`` with
+Any sequence of whole numbers is accepted. Wrong input raises a ``Refusal`` (a ``ValueError`` with
 subclasses such as ``NotPlanar`` and ``TooLarge``), a ``TypeError``, a ``ValueError`` or an
 ``OverflowError``, and the text says what is allowed.
 
-The library is loaded at the first call. A call of it lets other threads go on meanwhile. Ctrl-C ends the
-waiting for a long call at once; the call itself goes on in the background, and does not hold up the end
-of the process.
+The library is loaded at the first call. Other threads run during a call of it. Ctrl-C ends the wait for a
+long call at once; the call continues in the background and does not delay the end of the process.
 """
 
 from __future__ import annotations
@@ -51,7 +50,10 @@ from ._answers import (
 from ._batches import ground_many
 from ._bundle import bundle
 from ._calls import check, clusters, costs, ground, maxcut, ranges, report, wall
+from ._costs import CostBounds
+from ._decoding import Joins
 from ._draws import draw, ensemble, sample, widths
+from ._droplets import Droplet
 from ._errors import (
     BadInstance,
     BadTerminals,
@@ -76,7 +78,9 @@ from ._real import RealCosts, RealGround, RealTurn, RealWall, Scale
 from ._runs import run
 from ._sampler import IsingSampler, SampleSet
 from ._sequences import Lists, Pairs
+from ._stopping import Stopped
 from ._threads import in_order
+from ._torus import Boundary, ExtendedGround, Torus
 from ._verdicts import Verdict
 from ._version import VERSION as __version__
 
@@ -84,15 +88,20 @@ __all__ = [
     "BadInstance",
     "BadTerminals",
     "BadText",
+    "Boundary",
     "Clusters",
+    "CostBounds",
     "Cut",
     "DomainWall",
+    "Droplet",
     "Ensemble",
+    "ExtendedGround",
     "Graph",
     "Ground",
     "Instance",
     "IsingSampler",
     "Join",
+    "Joins",
     "Lattice",
     "LibraryMissing",
     "Lists",
@@ -117,7 +126,9 @@ __all__ = [
     "SampleSet",
     "Scale",
     "Step",
+    "Stopped",
     "TooLarge",
+    "Torus",
     "Tour",
     "Turn",
     "UnknownLaw",

@@ -5,6 +5,7 @@ from __future__ import annotations
 
 from collections import Counter
 from dataclasses import dataclass, field
+from functools import cached_property
 from typing import (
     TYPE_CHECKING,
     Any,
@@ -13,6 +14,7 @@ from typing import (
     Iterable,
     Iterator,
     List,
+    Mapping,
     NamedTuple,
     Optional,
     Protocol,
@@ -23,12 +25,13 @@ from typing import (
     overload,
 )
 
-from ._arrays import is_numpy, numpy
+from ._arrays import as_array, is_numpy, numpy, read_only
 from ._judging import Judge
+from ._labels import ByLabel, Listed
 from ._loops import Loop
 from ._model import Model
 from ._nests import Nest
-from ._real import RealGround, RealWall
+from ._real import Bounded, RealGround, RealWall, Scale
 from ._svg import LARGEST_SHOWN, picture_of_clusters, picture_of_ground, picture_of_wall
 from ._verdicts import Answer, Verdict
 
@@ -45,6 +48,13 @@ def _known(source: Optional[Source], what: str) -> Source:
     return source
 
 
+def _proof_text(loops: Sequence[Loop], nest: Optional[Nest]) -> str:
+    """What proves an answer."""
+    if nest is not None:
+        return f"proved by a nest of {len(nest.radii)} regions"
+    return f"proved by {len(loops)} loops"
+
+
 def _is_shown(model: Optional[Model]) -> bool:
     """Whether a notebook draws an answer by itself: a small one whose spins have places."""
     return model is not None and model.n <= LARGEST_SHOWN and model.has_places()
@@ -54,7 +64,7 @@ def _is_shown(model: Optional[Model]) -> bool:
 class Ground(Answer):
     """A ground state: its energy, in the unit of the couplings; an array of shape ``(spins,)`` with 1
     or -1 for each spin; and the loops that prove it, a sequence of ``Loop``, or the ``nest`` that does, a
-    ``Nest``. ``instance`` is the lattice or graph that was asked for; with real couplings ``real`` is the
+    ``Nest``. ``instance`` is the instance that was solved; with real couplings ``real`` is the
     energy in their unit.
 
     >>> import ising2d
@@ -92,8 +102,9 @@ class Ground(Answer):
         """The bonds that are not satisfied: coupling times both spins is below 0."""
         return self._known().broken_by(self.spins)
 
-    def by_node(self) -> Dict[Hashable, int]:
-        """The spin of each node by its label; on a lattice by row and column."""
+    def by_node(self) -> Mapping[Hashable, int]:
+        """The spin of each node by its label; on a lattice by row and column. It is equal to a dictionary,
+        and is computed on access; ``dict`` of it is a dictionary."""
         return self._known().by_node(self.spins)
 
     def svg(
@@ -120,11 +131,8 @@ class Ground(Answer):
         return f"{real.energy} up to {real.error:.3g} ({self.energy} as a whole number)"
 
     def _proof_text(self) -> str:
-        if self.nest is not None:
-            return f"proved by a nest of {len(self.nest.radii)} regions"
-        if len(self.loops) or self.instance is None or not self.broken():
-            return f"proved by {len(self.loops)} loops"
-        return "without a proof"
+        has_none = self.nest is None and not len(self.loops) and self.instance is not None
+        return "without a proof" if has_none and self.broken() else _proof_text(self.loops, self.nest)
 
 
 @dataclass(frozen=True, eq=False, repr=False)
@@ -206,6 +214,18 @@ class DomainWall(Answer):
         return f"<domain wall of {self.length} bonds: energies {energies}>"
 
 
+class Sizes(ByLabel[int, int]):
+    """The number of spins of each cluster, the largest first, by the least spin of the cluster: a mapping
+    over two arrays, ``names`` and ``counts``."""
+
+    def __init__(self, names: UInt32Array, counts: Int64Array) -> None:
+        super().__init__(Listed(names), counts)
+        self.names, self.counts = names, counts
+
+    def __reduce__(self) -> Tuple[Any, ...]:
+        return Sizes, (self.names, self.counts)
+
+
 @dataclass(frozen=True, eq=False, repr=False)
 class Clusters(Answer, Sequence[int]):
     """The rigid clusters: for each spin the least spin of its cluster, a sequence, and in ``names`` an
@@ -215,6 +235,8 @@ class Clusters(Answer, Sequence[int]):
     >>> found = ising2d.clusters("square", 1, 3, [5, 0])
     >>> list(found), found.sizes, found.members(0)
     ([0, 0, 2], {0: 2, 2: 1}, [0, 1])
+    >>> found.sizes.names.tolist(), found.sizes.counts.tolist()
+    ([0, 2], [2, 1])
     """
 
     names: UInt32Array
@@ -241,13 +263,16 @@ class Clusters(Answer, Sequence[int]):
         return found
 
     @property
-    def sizes(self) -> Dict[int, int]:
-        """The number of spins of each cluster by its least spin, the largest first."""
+    def sizes(self) -> Sizes:
+        """The number of spins of each cluster by its least spin, the largest first: a mapping, with
+        ``sizes.names`` and ``sizes.counts`` as arrays."""
         if is_numpy(self.names):
-            names, counts = numpy.unique(self.names, return_counts=True)
-            order = numpy.lexsort((names, -counts))
-            return dict(zip(names[order].tolist(), counts[order].tolist()))
-        return dict(sorted(Counter(self.names.tolist()).items(), key=lambda entry: (-entry[1], entry[0])))
+            counts = numpy.bincount(self.names)
+            names = numpy.flatnonzero(counts).astype("uint32")
+            order = numpy.argsort(-counts[names], kind="stable")
+            return Sizes(read_only(names[order]), read_only(counts[names][order]))
+        own = sorted(Counter(self.names.tolist()).items(), key=lambda entry: (-entry[1], entry[0]))
+        return Sizes(as_array([name for name, _ in own], "uint32"), as_array([count for _, count in own], "int64"))
 
     def members(self, name: int) -> List[int]:
         """The spins of the cluster with this least spin."""
@@ -269,8 +294,8 @@ class Clusters(Answer, Sequence[int]):
     def __repr__(self) -> str:
         if len(self) <= 12:
             return f"Clusters({list(self)})"
-        largest = list(self.sizes.values())
-        return f"<{len(largest)} rigid clusters of {len(self)} spins, the largest of {largest[0]}>"
+        counts = self.sizes.counts
+        return f"<{len(counts)} rigid clusters of {len(self)} spins, the largest of {counts[0]}>"
 
 
 def _at(values: Any, place: Union[int, slice]) -> Union[int, List[int]]:
@@ -280,8 +305,8 @@ def _at(values: Any, place: Union[int, slice]) -> Union[int, List[int]]:
 
 
 class Turn(NamedTuple):
-    """The coupling of a bond at which the ground states turn, and on which side of it the coupling
-    lies: ``above`` (its spins are alike in all ground states), ``below`` (unlike), or ``at``.
+    """The coupling of a bond at which the ground states change, and on which side of it the coupling
+    lies: ``above`` (its spins are equal in all ground states), ``below`` (opposite), or ``at``.
 
     >>> import ising2d
     >>> ising2d.ranges("cylinder", 1, 3, [5, 7, 2])[2]
@@ -292,11 +317,18 @@ class Turn(NamedTuple):
     side: str
 
 
+def turn_of(coupling: int, cost: int, is_unlike: bool) -> Turn:
+    """The turn of a bond by its cost, which is twice how far its coupling lies from it."""
+    if cost == 0:
+        return Turn(coupling, "at")
+    return Turn(coupling + cost // 2, "below") if is_unlike else Turn(coupling - cost // 2, "above")
+
+
 @dataclass(frozen=True, eq=False, repr=False)
 class Cut(Answer):
     """The largest cut: its weight; an array of shape ``(spins,)`` with 1 or -1 for each spin, where the
-    bonds between unlike spins are cut; and the loops that prove it, by a ground state of the instance
-    with every sign changed.
+    bonds between opposite spins are cut; and the loops, or the ``nest``, that prove it, by a ground state
+    of the instance with every sign changed.
 
     >>> import ising2d
     >>> found = ising2d.maxcut("square", 2, 2, [3, 4, 2, -5])
@@ -309,12 +341,13 @@ class Cut(Answer):
     loops: Sequence[Loop]
     instance: Optional[Model] = field(default=None, compare=False)
     negated: Optional[Model] = field(default=None, compare=False)
+    nest: Optional[Nest] = field(default=None, compare=False)
 
     def bonds(self) -> List[int]:
         """The numbers of the bonds that are cut."""
         return _known(self.instance, "instance")._unlike(self.spins)
 
-    def by_node(self) -> Dict[Hashable, int]:
+    def by_node(self) -> Mapping[Hashable, int]:
         """The side of each node by its label."""
         return _known(self.instance, "instance").by_node(self.spins)
 
@@ -325,10 +358,12 @@ class Cut(Answer):
     def check(self) -> Verdict:
         """The verdict on this proof: that the spins are a ground state with every sign changed."""
         total = sum(_known(self.instance, "instance").couplings.tolist())
-        return _known(self.negated, "instance").check(total - 2 * self.weight, self.spins, self.loops)
+        own = total - 2 * self.weight, self.spins, self.loops, self.nest
+        return _known(self.negated, "instance").check(*own)
 
     def __repr__(self) -> str:
-        return f"<cut of {len(self.spins)} spins: weight {self.weight}, proved by {len(self.loops)} loops>"
+        proof = _proof_text(self.loops, self.nest)
+        return f"<cut of {len(self.spins)} spins: weight {self.weight}, {proof}>"
 
 
 @dataclass(frozen=True, eq=False, repr=False)
@@ -352,18 +387,19 @@ class Report(Answer):
     clusters: Clusters
     wall: Optional[Wall]
     instance: Optional[Model] = field(default=None, compare=False)
+    nest: Optional[Nest] = field(default=None, compare=False)
 
     @property
     def ground(self) -> Ground:
         """The ground state, with what can be asked of it."""
-        return Ground(self.energy, self.spins, self.loops, self.instance)
+        return Ground(self.energy, self.spins, self.loops, self.instance, self.nest)
 
     def __repr__(self) -> str:
         rigid = sum(cost > 0 for cost in self.costs.tolist())
         wall = "" if self.wall is None else f", wall {self.wall.difference}"
         return (
             f"<report on {len(self.spins)} spins: energy {self.energy}, {rigid} rigid bonds, "
-            f"{len(self.clusters.sizes)} clusters{wall}, proved by {len(self.loops)} loops>"
+            f"{len(self.clusters.sizes)} clusters{wall}, {_proof_text(self.loops, self.nest)}>"
         )
 
 
@@ -392,11 +428,11 @@ def svg(
         return answer.svg(places, cell, legend)
     if isinstance(answer, Clusters) and answer.instance is not None:
         return answer.svg(places, cell, legend)
-    raise TypeError("svg: a ground state, a domain wall with states or clusters are wanted")
+    raise TypeError("svg: expected a ground state, a domain wall with states or clusters")
 
 
 class WeightedGraph(Protocol):
-    """The weighted graph that an answer of joins and walks is of: a ``Network``."""
+    """The weighted graph that an answer about T-joins and walks is for: a ``Network``."""
 
     def node_labels(self) -> Sequence[Hashable]: ...
 
@@ -405,6 +441,15 @@ class WeightedGraph(Protocol):
     def odd_nodes(self) -> List[int]: ...
 
     def judge(self, terminals: Sequence[int]) -> Judge: ...
+
+    @property
+    def scale(self) -> Optional[Scale]: ...
+
+    def has_cuts(self) -> bool: ...
+
+    def cuts_of(self, terminals: Sequence[int]) -> Tuple[OddCut, ...]: ...
+
+    def check_join(self, found: Join) -> Tuple[int, Tuple[int, ...]]: ...
 
 
 class OddCut(NamedTuple):
@@ -416,30 +461,55 @@ class OddCut(NamedTuple):
 
 @dataclass(frozen=True, eq=False, repr=False)
 class Join(Answer):
-    """A minimum T-join of the terminals: its weight, its edges by their numbers, and the cuts that prove
-    it. The weights of the cuts sum to twice the weight of the join. ``network`` is the graph, and
-    ``terminals`` are the numbers of its nodes that were asked for.
+    """A minimum T-join of the terminals: its weight, its edges by their numbers, and the ``nest`` of regions
+    that proves it. ``network`` is the graph, and ``terminals`` are the numbers of its nodes that were
+    asked for. ``cuts`` prove it too: the weights of odd cuts sum to twice the weight of the T-join.
 
     >>> import ising2d
     >>> found = ising2d.tjoin(3, [(0, 1, 2), (1, 2, 3), (0, 2, 4)], [0, 2])
     >>> found.edges, found.check().sentence
-    ((2,), 'the proof holds: no join of these terminals weighs less')
+    ((2,), 'the proof holds: no T-join of these terminals weighs less')
+    >>> sum(cut.weight for cut in found.cuts)
+    8
     """
 
     weight: int
     edges: Tuple[int, ...]
-    cuts: Tuple[OddCut, ...]
     network: Optional[WeightedGraph] = field(default=None, compare=False)
     terminals: Tuple[int, ...] = field(default=(), compare=False)
+    nest: Optional[Nest] = field(default=None, compare=False)
+    stated_cuts: Optional[Tuple[OddCut, ...]] = field(default=None, compare=False)
 
     def edge_labels(self) -> List[Hashable]:
-        """The labels of the edges of the join."""
+        """The labels of the edges of the T-join."""
         return _known(self.network, "network").named(self.edges)
 
+    @cached_property
+    def cuts(self) -> Tuple[OddCut, ...]:
+        """Odd cuts that prove it: the stated ones, else cuts that the program finds, which takes at most 2048
+        nodes and 6144 edges."""
+        if self.stated_cuts is not None:
+            return self.stated_cuts
+        return _known(self.network, "network").cuts_of(self.terminals)
+
+    @property
+    def real(self) -> Bounded:
+        """The weight in the unit of the real weights, and by how much it can be wrong."""
+        scale = _known(self.network, "network").scale
+        return _known(scale, "scale of real weights").value(self.weight)
+
     def check(self) -> Verdict:
-        """The verdict on this proof, by a judge in plain Python, which trusts no solver."""
-        judge = _known(self.network, "network").judge(self.terminals)
-        return Verdict(*judge.on_join(self.weight, self.edges, self.cuts), of="join")
+        """The verdict on this proof: on the stated cuts, in plain Python, which trusts no solver; else on the
+        nest, by the library's checker of nests; without a nest on the cuts."""
+        return Verdict(*_known(self.network, "network").check_join(self), of="join")
+
+    def as_dict(self) -> Dict[str, object]:
+        """The numbers by their names, as JSON can have them; with the cuts if the program takes the graph."""
+        network = self.network
+        own = super().as_dict()
+        if network is not None and network.has_cuts():
+            own["cuts"] = [{"weight": cut.weight, "edges": list(cut.edges)} for cut in self.cuts]
+        return own
 
 
 class Step(NamedTuple):
@@ -501,7 +571,7 @@ class Sample(Answer):
 
 @dataclass(frozen=True, eq=False, repr=False)
 class Ensemble(Answer):
-    """What a domain wall costs on each of the drawn cylinders, their sum and the sum of their squares.
+    """The wall energy of each of the drawn cylinders, their sum and the sum of their squares.
 
     >>> import ising2d
     >>> found = ising2d.ensemble("pm", 1, 8, 8, 1000)
@@ -514,6 +584,12 @@ class Ensemble(Answer):
     walls: Int64Array
     sum: int
     squares: int
+
+    @classmethod
+    def of(cls, walls: Iterable[int]) -> Ensemble:
+        """The ensemble of these walls, as of some that were kept in a file."""
+        own = [int(wall) for wall in walls]
+        return cls(as_array(own, "int64"), sum(own), sum(wall * wall for wall in own))
 
     @property
     def mean(self) -> float:

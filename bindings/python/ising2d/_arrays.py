@@ -28,6 +28,9 @@ _RANGES = {
     "uint64": (0, 2**64 - 1),
 }
 
+# Buffers of so many bytes have pages of their own.
+_LARGE = 2**20
+
 
 def zeros(kind: str, count: int) -> Any:
     """An array of so many zeros."""
@@ -47,9 +50,13 @@ def buffer(kind: str, count: int) -> Any:
 
 
 def first_of(kind: str, values: Any, count: int) -> Any:
-    """A copy of the first ``count`` values, read-only if numpy is there."""
+    """The first ``count`` values of a buffer that nobody else has, read-only if numpy is there. Few are
+    copied; of many the buffer gives back what is behind them, so that they are never there twice."""
     if numpy is not None:
-        return read_only(values[:count].copy())
+        if count * values.itemsize < _LARGE:
+            return read_only(values[:count].copy())
+        values.resize(count, refcheck=False)
+        return read_only(values)
     return array(_LETTERS[kind], values[:count].tobytes())
 
 
@@ -119,12 +126,12 @@ def numbers(values: Any, kind: str, what: str) -> Any:
 def refuse_unordered(values: Any, what: str) -> None:
     """Raises ``TypeError`` for what has no order, is a text, or hides some of its values."""
     if isinstance(values, (str, bytes, bytearray)):
-        raise TypeError(f"{what}: a list of whole numbers is wanted, and not the text {values!r}")
+        raise TypeError(f"{what}: expected a list of whole numbers, not the text {values!r}")
     if isinstance(values, (Set, Mapping)):
         name = type(values).__name__
-        raise TypeError(f"{what}: a list of whole numbers is wanted, and a {name} has no order")
+        raise TypeError(f"{what}: expected a list of whole numbers; a {name} has no order")
     if hasattr(values, "mask") and _is_masked(values):
-        raise TypeError(f"{what}: a list of whole numbers is wanted, and a masked array hides some")
+        raise TypeError(f"{what}: expected a list of whole numbers; a masked array hides some")
 
 
 def _is_masked(values: Any) -> bool:
@@ -138,13 +145,13 @@ def listed_of(values: Any, what: str) -> List[Any]:
         return list(values)
     except TypeError:
         name = type(values).__name__
-        raise TypeError(f"{what}: a list is wanted, and not {_article(name)} {name}") from None
+        raise TypeError(f"{what}: expected a list, not {_article(name)} {name}") from None
 
 
 def refuse_shape(values: Any, what: str) -> None:
     """Raises ``TypeError`` for an array of numpy of another number of axes than one."""
     if values.ndim != 1:
-        raise TypeError(f"{what}: an array of one axis is wanted, and not one of shape {values.shape}")
+        raise TypeError(f"{what}: expected an array of one axis, not one of shape {values.shape}")
 
 
 def _of_numpy(values: Any, kind: str, what: str) -> Any:
@@ -172,14 +179,14 @@ def whole(value: Any, what: str) -> int:
     except (AttributeError, TypeError):
         name, hint = type(value).__name__, _advice(what) if isinstance(value, float) else ""
         raise TypeError(
-            f"{what}: a whole number is wanted, and not the {name} {shortened(value)}{hint}"
+            f"{what}: expected a whole number, not the {name} {shortened(value)}{hint}"
         ) from None
 
 
 def of_another_kind(kind: Any, what: str) -> TypeError:
     """What an array of numpy without whole numbers raises."""
     hint = _advice(what) if kind.kind == "f" else ""
-    return TypeError(f"{what}: whole numbers are wanted, and not an array of {kind}{hint}")
+    return TypeError(f"{what}: expected whole numbers, not an array of {kind}{hint}")
 
 
 def _advice(what: str) -> str:

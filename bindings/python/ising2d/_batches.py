@@ -34,5 +34,5 @@ def _instance(given: Union[Instance, Sequence[Any]]) -> Instance:
     if isinstance(given, (tuple, list)) and len(given) == 4:
         return Lattice(*given)
     raise TypeError(
-        f"instances: a Lattice, a Graph or the arguments of ground are wanted, and not {given!r:.60}"
+        f"instances: expected a Lattice, a Graph or the arguments of ground, not {given!r:.60}"
     )

@@ -1,4 +1,4 @@
-"""The calls on lattices, by kind, rows, columns and couplings."""
+"""The functions on lattices, by kind, rows, columns and couplings."""
 
 from __future__ import annotations
 
@@ -33,8 +33,8 @@ def ground(
     weights of the loops sum to the energy plus the sizes of all couplings, and no bond carries more
     than twice the size of its coupling. With ``loops=False`` alone no proof is given.
 
-    Raises ``Refusal`` where the numbers give no lattice, ``TypeError`` where they are no whole numbers,
-    ``OverflowError`` where one does not fit its place, and ``MemoryError``; so do all calls.
+    Raises ``Refusal`` if the numbers give no lattice, ``TypeError`` if they are not whole numbers,
+    ``OverflowError`` if one does not fit, and ``MemoryError``, as all functions do.
 
     >>> ground("square", 2, 2, [3, 4, 2, -5]).energy
     -10
@@ -57,7 +57,7 @@ def wall(kind: Kind, rows: Whole, cols: Whole, couplings: Couplings, states: boo
 def wall(
     kind: Kind, rows: Whole, cols: Whole, couplings: Couplings, states: bool = False
 ) -> Union[Wall, DomainWall]:
-    """The energy of the domain wall along a cylinder: what its least energy gains where the signs of the
+    """The energy of the domain wall along a cylinder: how the least energy changes if the signs of the
     couplings from the last column to the first are changed. With ``states=True`` also both ground
     states with their proofs, and the bonds between them. The other kinds are refused with the number 16.
 
@@ -67,15 +67,17 @@ def wall(
     return Lattice(kind, rows, cols, couplings).wall(states)
 
 
-def costs(kind: Kind, rows: Whole, cols: Whole, couplings: Couplings) -> Int64Array:
-    """What it costs to turn each bond, in the unit of the couplings: an array of shape ``(bonds,)`` with
-    entries of 64 bits. A bond is rigid if it costs more than 0. For real couplings see
-    ``Lattice.from_real`` and ``real_costs``.
+def costs(
+    kind: Kind, rows: Whole, cols: Whole, couplings: Couplings, bonds: Optional[Integers] = None
+) -> Int64Array:
+    """The cost of flipping each bond, or each of the ``bonds``, in the unit of the couplings: an array of
+    shape ``(bonds,)`` with entries of 64 bits. A bond is rigid if it costs more than 0. ``Lattice.costs``
+    can be stopped and continued; for real couplings see ``Lattice.from_real`` and ``real_costs``.
 
     >>> costs("cylinder", 1, 3, [5, 7, 2]).tolist()
     [14, 18, 14]
     """
-    return Lattice(kind, rows, cols, couplings).costs()
+    return Lattice(kind, rows, cols, couplings).costs(bonds)
 
 
 def clusters(kind: Kind, rows: Whole, cols: Whole, couplings: Couplings) -> Clusters:
@@ -88,7 +90,7 @@ def clusters(kind: Kind, rows: Whole, cols: Whole, couplings: Couplings) -> Clus
 
 
 def ranges(kind: Kind, rows: Whole, cols: Whole, couplings: Couplings) -> List[Turn]:
-    """For each bond the coupling at which the ground states turn, and the side of it on which its own
+    """For each bond the coupling at which the ground states change, and the side of it on which its own
     coupling lies.
 
     >>> ranges("cylinder", 1, 3, [5, 7, 2])[0].coupling
@@ -127,7 +129,7 @@ def maxcut(
     if hasattr(kind, "is_multigraph"):
         parts = of_networkx(cast(NetworkxGraph, kind), attr, scale)
         return Graph._drawn(parts, [], None, False).maxcut()
-    raise TypeError("maxcut: a kind with rows, cols and couplings is wanted, or a graph of networkx")
+    raise TypeError("maxcut: expected a kind with rows, cols and couplings, or a graph of networkx")
 
 
 def report(kind: Kind, rows: Whole, cols: Whole, couplings: Couplings) -> Report:
@@ -153,7 +155,7 @@ def check(
     no assignment has less. It trusts no solver.
 
     ``couplings`` as for ``ground``, the energy in their unit, ``spins`` of shape ``(rows * cols,)``
-    with entries 1 or -1, and any loops: those of ``ground`` cross as they are, and else each is a
+    with entries 1 or -1, and any loops: those of ``ground``, or any of which each is a
     ``Loop`` or a pair of a weight and bonds.
 
     >>> check("square", 2, 2, [3, 4, 2, -5], -10, [1, 1, -1, -1], [(4, (0, 1, 2, 3))]).sentence

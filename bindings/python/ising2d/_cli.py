@@ -58,17 +58,17 @@ _STUDIES = {
     "energy": _Study("the least energy, and spins that have it", _INSTANCE),
     "ground": _Study("the least energy, spins that have it, and the loops that prove it", _INSTANCE),
     "wall": _Study("what a domain wall at the seam costs", _RING),
-    "bonds": _Study("what it costs to turn each bond", _INSTANCE),
+    "bonds": _Study("the cost of flipping each bond", _INSTANCE),
     "clusters": _Study("the rigid cluster of each spin", _INSTANCE),
     "report": _Study("energy, loops, costs, clusters and wall at once, as one line of JSON", _RING),
-    "ranges": _Study("the coupling of each bond at which the ground states turn", _RING),
+    "ranges": _Study("the coupling of each bond at which the ground states change", _RING),
     "maxcut": _Study("the largest cut with the couplings as weights, and loops that prove it", _INSTANCE),
     "check": _Study(
-        "whether a result behind its instance is proved",
+        "whether the result after an instance is proved",
         "python3 -m ising2d {0} instance.txt answer.txt",
     ),
     "tjoin": _Study(
-        "a least join of the terminals, and cuts that prove it",
+        "a minimum T-join of the terminals, and cuts that prove it",
         "printf 'graph,2\\nedge,0,1,5\\nterm,0,1\\nend\\n' | python3 -m ising2d {0}",
     ),
     "postman": _Study(
@@ -112,7 +112,7 @@ _DRAWN = {
     "ensemble": (
         ("LAW", "SEED", "ROWS", "COLS", "COUNT"),
         _Study(
-            "what a domain wall costs on each of many drawn cylinders",
+            "the wall energy of each of many drawn cylinders",
             "python3 -m ising2d ensemble pm 1 8 8 10",
         ),
     ),
@@ -159,7 +159,7 @@ def _parser() -> argparse.ArgumentParser:
         prog=f"python3 -m {_NAME}",
         formatter_class=argparse.RawDescriptionHelpFormatter,
         description="Exact ground states of planar two-dimensional Ising spin glasses, with proofs.",
-        epilog=f"example:\n  {_RING.replace('{0}', 'ground')}\n\nCOMMAND --help says more of a command, with an example.",
+        epilog=f"example:\n  {_RING.replace('{0}', 'ground')}\n\nCOMMAND --help describes a command, with an example.",
     )
     parser.add_argument("--version", action="version", version=f"{_NAME} {VERSION}")
     commands = parser.add_subparsers(dest="command", metavar="COMMAND", required=True)
@@ -205,7 +205,7 @@ def _bundle_words(commands: Any) -> None:
             "python3 -m ising2d bundle folder pm 7 square 4 4 --count 3 && python3 folder/judge.py",
         ),
     )
-    own.add_argument("folder", metavar="FOLDER", help="is made where it is missing")
+    own.add_argument("folder", metavar="FOLDER", help="created if it is missing")
     for word in ("LAW", "SEED", "KIND", "ROWS", "COLS"):
         own.add_argument(word, help=_BUNDLE_WORDS.get(word, _WORDS[word]))
     own.add_argument("--count", type=_count, default=10, metavar="N", help="so many instances (10)")
@@ -226,19 +226,19 @@ def _command(commands: Any, name: str, study: _Study, form: str = "") -> argpars
 
 
 def _files(own: argparse.ArgumentParser) -> None:
-    own.add_argument("files", nargs="*", metavar="FILE", help="standard input where none is named, or for -")
+    own.add_argument("files", nargs="*", metavar="FILE", help="standard input if no file is named, or for -")
     own.add_argument("--quiet", action="store_true", help="no bar that shows how far it is")
 
 
 def _count(text: str) -> int:
     if not text.isdecimal() or int(text) < 1:
-        raise argparse.ArgumentTypeError(f"{text!r} is no number of processes (allowed: 1 or more)")
+        raise argparse.ArgumentTypeError(f"{text!r} is not a number of processes (allowed: 1 or more)")
     return int(text)
 
 
 def _port(text: str) -> int:
     if not (text.isascii() and text.isdecimal()) or int(text) > 65535:
-        raise argparse.ArgumentTypeError(f"{text!r} is no port (allowed: 0 to 65535)")
+        raise argparse.ArgumentTypeError(f"{text!r} is not a port (allowed: 0 to 65535)")
     return int(text)
 
 
@@ -368,10 +368,24 @@ def _large_wall(instance: Instance) -> Iterator[str]:
     yield f"wall,{found.difference}\nend\n"
 
 
+def _large_bonds(instance: Instance) -> Iterator[str]:
+    for k, cost in enumerate(instance.costs().tolist()):
+        yield f"cost,{k},{cost},{'rigid' if cost else 'loose'}\n"
+    yield "end\n"
+
+
+def _large_clusters(instance: Instance) -> Iterator[str]:
+    for spin, name in enumerate(instance.clusters()):
+        yield f"cluster,{spin},{name}\n"
+    yield "end\n"
+
+
 _LARGE: Dict[str, Callable[[Instance], Iterator[str]]] = {
     "energy": _large_energy,
     "ground": _large_ground,
     "wall": _large_wall,
+    "bonds": _large_bonds,
+    "clusters": _large_clusters,
 }
 
 
@@ -401,7 +415,7 @@ def _fault_of(command: str, words: Sequence[str]) -> str:
         checked(command, [int(word) if word.isascii() and word.isdigit() else word for word in words])
     except (TypeError, ValueError) as fault:
         return str(fault)
-    return "no such words"
+    return "unknown command"
 
 
 def _lines(options: argparse.Namespace, names: Sequence[str]) -> int:
@@ -465,7 +479,7 @@ def _number_of(word: str) -> Any:
 
 
 def _answered(options: argparse.Namespace) -> int:
-    """The exit status of a command. Sub-commands of the package alone stand here, before those of the
+    """The exit status of a command. Sub-commands of the package alone are here, before those of the
     program."""
     if options.command == "bundle":
         return _bundle(options)
@@ -484,7 +498,7 @@ def _answered(options: argparse.Namespace) -> int:
 
 
 def _parsed(words: Optional[Sequence[str]]) -> argparse.Namespace:
-    """The words, where files may stand behind options, which argparse alone does not take."""
+    """The words, where files may follow options, which argparse alone does not take."""
     parser = _parser()
     options, rest = parser.parse_known_args(words)
     strange = [word for word in rest if word.startswith("-") and word != "-"]

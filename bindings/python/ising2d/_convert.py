@@ -23,17 +23,17 @@ class Parts(NamedTuple):
 def scaled(value: Any, scale: Optional[Whole], what: str) -> Any:
     """The value times the scale, as a whole number; without a scale the value itself."""
     if isinstance(value, (str, bytes)) or not hasattr(value, "__mul__"):
-        raise TypeError(f"{what}: a number is wanted, and not {shortened(value)}")
+        raise TypeError(f"{what}: expected a number, not {shortened(value)}")
     if scale is None:
         return value
     product = value * whole(scale, "scale")
     try:
         number = int(product)
     except (TypeError, ValueError, OverflowError):
-        raise TypeError(f"{what}: a whole number is wanted, and not {shortened(product)}") from None
+        raise TypeError(f"{what}: expected a whole number, not {shortened(product)}") from None
     if number != product:
         raise ValueError(
-            f"{what}: {shortened(product)} is no whole number; real=True rounds real couplings with bounds, "
+            f"{what}: {shortened(product)} is not a whole number; real=True rounds real couplings with bounds, "
             "or multiply all by one number (scale=..) that makes them whole"
         )
     return number
@@ -74,7 +74,7 @@ def _networkx() -> Any:
 def of_networkx(graph: NetworkxGraph, attr: Optional[str], scale: Optional[Whole]) -> Parts:
     """A graph of networkx; without an attribute the number of each edge is 1."""
     if not hasattr(graph, "is_multigraph") or not hasattr(graph, "edges"):
-        raise TypeError(f"a graph of networkx is wanted, and not {shortened(graph)}")
+        raise TypeError(f"expected a graph of networkx, not {shortened(graph)}")
     if graph.is_directed():
         raise ValueError("the graph is directed, and bonds have no direction: see its to_undirected()")
     labels = list(graph.nodes)
@@ -102,7 +102,7 @@ def places_in(graph: NetworkxGraph) -> Optional[List[Tuple[float, float]]]:
 
 
 def seam_of(seam: Iterable[Hashable], edges: Sequence[Any]) -> List[int]:
-    """The numbers of the edges of a seam, whose nodes may stand in any order."""
+    """The numbers of the edges of a seam, whose nodes may be in any order."""
     place: Dict[Any, int] = {}
     for k, edge in enumerate(edges):
         place[edge] = place[(edge[1], edge[0], *edge[2:])] = k
@@ -122,7 +122,7 @@ def of_triples(bonds: Iterable[Sequence[Any]], scale: Optional[Whole], what: str
     edges: List[Hashable] = []
     for k, bond in enumerate(listed_of(bonds, what + "s")):
         if not isinstance(bond, (tuple, list)) or len(bond) != 3:
-            raise TypeError(f"{what}s: two nodes and a number are wanted, and not {shortened(bond)}")
+            raise TypeError(f"{what}s: expected two nodes and a number, not {shortened(bond)}")
         u, v = (number.setdefault(node, len(number)) for node in bond[:2])
         found.append((u, v, scaled(bond[2], scale, f"{what} {k}")))
         edges.append((bond[0], bond[1], k))
@@ -132,7 +132,7 @@ def of_triples(bonds: Iterable[Sequence[Any]], scale: Optional[Whole], what: str
 def of_bqm(bqm: QuadraticModel, scale: Optional[Whole]) -> Parts:
     """See ``Graph.from_bqm``: the couplings are the biases with their signs changed."""
     if not hasattr(bqm, "linear") or not hasattr(bqm, "quadratic"):
-        raise TypeError(f"a model with linear and quadratic is wanted, and not {shortened(bqm)}")
+        raise TypeError(f"expected a model with linear and quadratic, not {shortened(bqm)}")
     vartype = getattr(bqm, "vartype", None)
     if getattr(vartype, "name", vartype) not in (None, "SPIN"):
         raise ValueError("the model is not of spins 1 and -1: see its change_vartype('SPIN')")
@@ -160,7 +160,7 @@ def refuse_fields(linear: Any) -> None:
 def of_scipy(matrix: SparseMatrix, scale: Optional[Whole]) -> Parts:
     """See ``Graph.from_scipy``."""
     if not hasattr(matrix, "tocoo"):
-        raise TypeError(f"a sparse matrix of scipy is wanted, and not {shortened(matrix)}")
+        raise TypeError(f"expected a sparse matrix of scipy, not {shortened(matrix)}")
     given = matrix.tocoo()
     if given.shape[0] != given.shape[1]:
         raise ValueError(f"the matrix has the shape {given.shape}, and is not square")

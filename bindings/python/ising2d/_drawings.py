@@ -41,7 +41,7 @@ class Drawing:
 
     def _step(self, bond: int) -> Point:
         """The way along a bond from its first end. Over the seam of a cylinder it goes on to the east,
-        to where its first column stands a second time."""
+        to where its first column is drawn again."""
         (x, y), (right, low) = (self.places[spin] for spin in self.ends[bond])
         if self.period and right < x:
             return 1.0, 0.0

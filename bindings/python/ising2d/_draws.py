@@ -7,16 +7,18 @@ stream of words is drawn here (``_laws``), so the couplings of a seed do not dep
 from __future__ import annotations
 
 from fractions import Fraction
+from itertools import islice
 from typing import Any, Iterator, List, Optional, Sequence, Union, cast
 
 from ._answers import Ensemble, Sample, Width
-from ._arrays import as_array, shortened, whole
+from ._arrays import as_array, shortened, whole, whole_numbers
 from ._errors import Refusal, RefusalCode
-from ._ffi import MOST_SPINS, PROGRAM_SPINS
+from ._ffi import DRAWN_LAWS, MOST_SPINS, PROGRAM_SPINS, draws_of, has_function
 from ._lattices import KINDS, Kind, Lattice, bond_count
 from ._laws import LAWS as OWN_LAWS
 from ._laws import SHARED, Source, share_of
 from ._runs import answered, numbers, one_of, records_in
+from ._stopping import Telling, Watch, refuse_progress
 from ._threads import in_order
 from ._types import Whole
 
@@ -82,7 +84,7 @@ def _kind(kind: Any) -> str:
 
 def _law_name(law: Any) -> str:
     if not isinstance(law, str):
-        raise TypeError(f"law: one of {', '.join(LAWS)} is wanted, and not {shortened(law)}")
+        raise TypeError(f"law: expected one of {', '.join(LAWS)}, not {shortened(law)}")
     return law
 
 
@@ -105,11 +107,21 @@ class _Draw:
         """Whether the program draws it."""
         return self.law in PROGRAM_LAWS and self.rows * self.cols <= PROGRAM_SPINS
 
-    def lattices(self) -> Iterator[Lattice]:
-        """Lattices that are drawn one after another."""
+    def bonds(self) -> int:
+        return bond_count(self.kind, self.rows, self.cols)
+
+    def first(self) -> Lattice:
+        """The first lattice: the library draws it, or of other laws the same stream is drawn here."""
+        if self.law in DRAWN_LAWS and has_function("ising2d_c_draws"):
+            return self.lattice(draws_of(self.law, self.seed, self.bonds()))
+        return next(self.lattices())
+
+    def lattices(self, after: int = 0) -> Iterator[Lattice]:
+        """Lattices that are drawn one after another, without so many at first."""
         source = Source(self.law, self.seed, self.share)
+        source.skip(after * self.bonds())
         while True:
-            yield self.lattice(source.couplings(bond_count(self.kind, self.rows, self.cols)))
+            yield self.lattice(source.couplings(self.bonds()))
 
     def lattice(self, couplings: Any) -> Lattice:
         return Lattice(cast(Kind, self.kind), self.rows, self.cols, couplings)
@@ -139,11 +151,7 @@ def draw(law: str, seed: Whole, kind: Kind, rows: Whole, cols: Whole, p: Share =
     >>> draw("gaussian", 42, "square", 2, 2).couplings.tolist()
     [348835, 633119, 702652, 704368]
     """
-    own = _Draw(law, seed, kind, rows, cols, p)
-    if not own.by_program():
-        return next(own.lattices())
-    lines = answered(["gen", *own.words(), own.kind, *own.sizes()]).splitlines()
-    return own.lattice(numbers(lines[1].split(",")) if len(lines) > 2 else [])
+    return _Draw(law, seed, kind, rows, cols, p).first()
 
 
 def sample(law: str, seed: Whole, rows: Whole, cols: Whole, p: Share = None) -> Sample:
@@ -157,27 +165,53 @@ def sample(law: str, seed: Whole, rows: Whole, cols: Whole, p: Share = None) -> 
     if own.by_program():
         text = answered(["sample", *own.words(), *own.sizes()])
         return Sample(*(int(fields[0]) for _, fields in records_in(text)))
-    lattice = next(own.lattices())
+    lattice = own.first()
     energy, sizes = lattice.ground(loops=False).energy, sum(map(abs, lattice.couplings.tolist()))
     return Sample(lattice.n, len(lattice.couplings), sizes, energy, (energy + sizes) // 2)
 
 
-def ensemble(law: str, seed: Whole, rows: Whole, cols: Whole, count: Whole, p: Share = None) -> Ensemble:
-    """What a domain wall costs on each of ``count`` cylinders, which are drawn one after another. The laws
-    are those of ``draw``. Cylinders that the program does not draw are solved side by side in threads.
+def ensemble(
+    law: str,
+    seed: Whole,
+    rows: Whole,
+    cols: Whole,
+    count: Whole,
+    p: Share = None,
+    after: Optional[Ensemble] = None,
+    progress: Telling = None,
+    threads: Optional[Whole] = None,
+) -> Ensemble:
+    """The wall energies of ``count`` cylinders of up to 2**20 spins, which are drawn one after another. The
+    laws are those of ``draw``. Cylinders that the program does not draw are solved side by side in
+    ``threads``, by default as many as there are processors.
+
+    ``after`` is an ensemble of the same law, seed and sizes, whose walls are the first ones: only the
+    others are solved. ``progress`` is as for ``Lattice.costs``. If Ctrl-C or ``progress`` stops it,
+    ``Stopped`` is raised; its ``found`` is the ensemble so far, to continue with ``after``.
 
     >>> ensemble("one", 0, 1, 3, 2).walls.tolist()
     [2, 2]
+    >>> ensemble("pm", 1, 4, 4, 9, after=ensemble("pm", 1, 4, 4, 5)) == ensemble("pm", 1, 4, 4, 9)
+    True
     """
     own = _Draw(law, seed, "cylinder", rows, cols, p)
     samples = _number(count, "count", 1, 10**9)
-    if own.by_program() and samples <= _PROGRAM_COUNT:
+    refuse_progress(progress)
+    if after is not None and not isinstance(after, Ensemble):
+        raise TypeError(f"after: expected an Ensemble, not {shortened(after)}")
+    is_new = after is None or not len(after.walls)
+    if is_new and own.by_program() and samples <= _PROGRAM_COUNT and not callable(progress) and threads is None:
         text = answered(["ensemble", *own.words(), *own.sizes(), str(samples)])
         walls = [int(fields[1]) for first, fields in records_in(text) if first == "wall"]
         return Ensemble(as_array(walls, "int64"), one_of(text, "sum")[0], one_of(text, "squares")[0])
-    lattices = (lattice for lattice, _ in zip(own.lattices(), range(samples)))
-    walls = list(in_order(lambda lattice: lattice.wall().difference, lattices))
-    return Ensemble(as_array(walls, "int64"), sum(walls), sum(wall * wall for wall in walls))
+    walls = [] if after is None else whole_numbers(after.walls, "int64", "walls").tolist()[:samples]
+    with Watch(progress, samples, lambda: Ensemble.of(walls)) as watch:
+        watch.done = len(walls)
+        lattices = islice(own.lattices(len(walls)), samples - len(walls))
+        for difference in in_order(lambda lattice: lattice.wall().difference, lattices, threads):
+            walls.append(difference)
+            watch.step(1)
+    return Ensemble.of(walls)
 
 
 def widths(law: str, seed: Whole, rows: Whole, max_cols: Whole, count: Whole) -> List[Width]:

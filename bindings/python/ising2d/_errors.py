@@ -1,4 +1,4 @@
-"""Refusals: why numbers or a text give no answer; and verdicts. Their sentences stand once, in texts.csv.
+"""Refusals: why numbers or a text give no answer; and verdicts. Their sentences are in texts.csv.
 
 A row of it has what it is of, its number, a name, the names of the numbers that are kept, a sentence over
 these, and what is allowed. It is of a ``refusal``, of a ``member`` that refusal 19 names, or of a verdict on
@@ -64,6 +64,9 @@ class Member(IntEnum):
     STARTS = 11
     RADII = 12
     AT_RADII = 13
+    NODES = 17
+    EDGES = 18
+    TERMINAL_STARTS = 19
 
 
 class _Text(NamedTuple):
@@ -109,7 +112,7 @@ _NONE = _Text("Refused", (), "the input is refused")
 _VERDICTS = {
     "loops": _TEXTS["loops"],
     "nest": _TEXTS["nest"],
-    "join": {**_TEXTS["join"], **_TEXTS["cuts"]},
+    "join": {**_TEXTS["join"], **_TEXTS["cuts"], **_TEXTS["regions"]},
     "walk": {**_TEXTS["walk"], **_TEXTS["cuts"]},
 }
 
@@ -140,14 +143,6 @@ def verdict_sentence(number: int, kept: Sequence[int], of: str = "loops") -> str
     """A verdict in words, on a proof of this kind."""
     text = _VERDICTS[of].get(number)
     return text.over(kept)[0] if text else "the proof fails"
-
-
-class NoProofFound(RuntimeError):
-    """No proof was found within the memory that is allowed, 4 GiB for the tables of a matching. It comes
-    only of graphs above the limits of the program, and was never seen."""
-
-    def __init__(self) -> None:
-        super().__init__("no proof was found within the memory that is allowed")
 
 
 class Refusal(ValueError):
@@ -254,7 +249,7 @@ class NotPlanar(Refusal):
 
 
 class NoSeam(Refusal):
-    """A wall is asked for, and the seam is empty.
+    """A wall needs a seam, and the seam is empty.
 
     >>> import ising2d
     >>> try:
@@ -278,7 +273,7 @@ class UnknownLaw(Refusal):
 
 
 class BadTerminals(Refusal):
-    """Terminals or a graph that have no join: an odd number, a node twice, or two components.
+    """Terminals or a graph that have no T-join: an odd number, a node twice, or two components.
 
     >>> import ising2d
     >>> try:
@@ -291,8 +286,8 @@ class BadTerminals(Refusal):
 
 class NoProofFound(RuntimeError):
     """``ground`` or ``wall`` of a graph above the limits of the program: the solver found no proof within
-    the memory that is allowed, 4 GiB for the tables of a matching. The instance is fit; no answer is
-    given, since none would be proved. It was never seen.
+    the allowed memory, 4 GiB for the tables of a matching. The instance is fit, but without a proof there
+    is no answer. This was never seen.
 
     >>> import ising2d
     >>> issubclass(ising2d.NoProofFound, ising2d.Refusal)
@@ -301,7 +296,7 @@ class NoProofFound(RuntimeError):
 
 
 class LibraryMissing(ImportError):
-    """The shared library is not there, or is another one. It is loaded at the first call.
+    """The shared library is missing, or is another one. It is loaded at the first call.
 
     >>> import ising2d
     >>> issubclass(ising2d.LibraryMissing, ImportError)

@@ -49,7 +49,7 @@ _RANGES: Dict[str, List[str]] = {
 
 
 def _words(command: str, first: bool, general: bool, behind: bool) -> str:
-    """The first fields that may stand at a place."""
+    """The first fields that are allowed at a place."""
     if command in ("tjoin", "postman"):
         inner = "edge, term, end" if command == "tjoin" else "edge, end"
         return "graph" if first else inner
@@ -69,7 +69,7 @@ _OF_RECORDS = (
 
 
 class _Place:
-    """The record of a refusal, and what stands before it."""
+    """The record of a refusal, and what precedes it."""
 
     def __init__(self, text: str, number: int) -> None:
         self.records = [record for record in records_of(text) if record.number <= number]
@@ -119,7 +119,7 @@ def _about_record(refusal: Refusal, place: _Place, record: Record, command: str)
         told, allowed = (value,), place.words(command)
     else:
         value = repr(",".join(record.fields))
-        form = _FORMS.get(place.word(), "another number of fields")
+        form = _FORMS.get(place.word(), "a wrong number of fields")
         told, allowed = (value,), form if number == RefusalCode.BAD_SHAPE else ""
     return Refusal(number, kept, value, record.line, words_of("line", number, told, allowed))
 

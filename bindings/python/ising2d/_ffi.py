@@ -47,6 +47,17 @@ class WallNumbers(ctypes.Structure):
     _fields_ = [(name, ctypes.c_int64) for name in ("periodic", "antiperiodic", "difference")]
 
 
+class JoinNumbers(ctypes.Structure):
+    """struct ising2d_join of the header."""
+
+    _fields_ = [
+        ("weight", ctypes.c_int64),
+        ("edge_count", _SIZE),
+        ("region_count", _SIZE),
+        ("node_count", _SIZE),
+    ]
+
+
 class TableNumbers(ctypes.Structure):
     """struct ising2d_tables of the header."""
 
@@ -58,6 +69,8 @@ class TableNumbers(ctypes.Structure):
 # radii of a nest, and the regions of the faces with their radii.
 _LATTICE: List[Any] = [ctypes.c_uint8, ctypes.c_uint32, ctypes.c_uint32, _ARRAY, _SIZE, ctypes.c_uint32]
 _GRAPH: List[Any] = [ctypes.c_uint32] + [_ARRAY, _SIZE] * 5
+# A weighted graph: the number of nodes, the ends and the weights of its edges; and a list of terminals.
+_NETWORK: List[Any] = [ctypes.c_uint32] + [_ARRAY, _SIZE] * 3
 
 FUNCTIONS: Dict[str, List[Any]] = {
     "ising2d_c_run": [_ARRAY, _SIZE, _ARRAY, _SIZE, _ARRAY, _SIZE, _COUNT, _COUNT],
@@ -67,9 +80,30 @@ FUNCTIONS: Dict[str, List[Any]] = {
     "ising2d_c_wall": _GRAPH + [ctypes.POINTER(WallNumbers)] + _LINE,
     "ising2d_c_bonds": _GRAPH + [_ARRAY, _SIZE] + _LINE,
     "ising2d_c_clusters": _GRAPH + [_ARRAY, _SIZE] + _LINE,
+    "ising2d_c_draws": [ctypes.c_uint8, ctypes.c_uint64, _SIZE, _ARRAY, _SIZE] + _LINE,
     "ising2d_c_check": _GRAPH + [ctypes.c_int64] + [_ARRAY, _SIZE] * 4 + _LINE,
     "ising2d_c_nest_check": _GRAPH + [ctypes.c_int64] + [_ARRAY, _SIZE] * 5 + _LINE,
+    "ising2d_c_join": _NETWORK + [ctypes.POINTER(JoinNumbers)] + [_ARRAY, _SIZE] * 5 + _LINE,
+    "ising2d_c_join_check": _NETWORK + [_ARRAY, _SIZE] * 5 + _LINE,
+    "ising2d_c_joins": _NETWORK + [_ARRAY, _SIZE] * 4 + [_COUNT] + _LINE,
 }
+
+
+# Functions that a library of the same soname may lack: what needs them says so.
+_LATER = {"ising2d_c_draws"}
+
+
+def _function(name: str) -> Any:
+    """A function of the library. Raises ``LibraryMissing`` if it is an older one without it."""
+    own = library()
+    if not has_function(name):
+        raise LibraryMissing(f"{own._name} has no {name}: it is older than the package; make it with bindings/build")
+    return getattr(own, name)
+
+
+def has_function(name: str) -> bool:
+    """Whether the library has this function."""
+    return hasattr(library(), name)
 
 
 def _places() -> Iterator[Path]:
@@ -94,9 +128,9 @@ def library() -> ctypes.CDLL:
         if place.exists():
             return _opened(place)
     if os.environ.get("ISING2D_LIBRARY"):
-        raise LibraryMissing(f"ISING2D_LIBRARY names {tried[0]}, and there is no such file")
+        raise LibraryMissing(f"ISING2D_LIBRARY names {tried[0]}, which does not exist")
     raise LibraryMissing(
-        f"{NAME} is not there: make it with bindings/build, or name it in ISING2D_LIBRARY "
+        f"{NAME} is missing: make it with bindings/build, or name it in ISING2D_LIBRARY "
         "if it is in no folder above this package"
     )
 
@@ -105,11 +139,13 @@ def _opened(place: Path) -> ctypes.CDLL:
     try:
         found = ctypes.CDLL(str(place))
         for name, types in FUNCTIONS.items():
+            if name in _LATER and not hasattr(found, name):
+                continue
             function = getattr(found, name)
             function.argtypes = types
             function.restype = ctypes.c_uint8
     except (OSError, AttributeError) as fault:
-        raise LibraryMissing(f"{place} is no library of ising2d: {fault}") from None
+        raise LibraryMissing(f"{place} is not a library of ising2d: {fault}") from None
     return found
 
 
@@ -151,7 +187,7 @@ class Given(Protocol):
         """The value that a refusal is about."""
 
 
-class _Line:
+class Line:
     """Room for the line of a refusal, or of a verdict."""
 
     def __init__(self) -> None:
@@ -174,7 +210,7 @@ class _Line:
 def raise_status(status: int) -> None:
     """Raises what a status says that is neither an answer nor a refusal."""
     if status == NO_PROOF:
-        raise NoProofFound("no proof was found within the memory that the library may take")
+        raise NoProofFound("no proof was found within the allowed memory")
     if status != DONE:
         raise MemoryError("the library is out of memory")
 
@@ -183,7 +219,7 @@ def _call(name: str, given: Given, *arguments: Any, most: int = MOST_SPINS) -> i
     """A call on a graph, or on a lattice of at most so many spins."""
     numbers = given._numbers_within(most)
     own = (part for values in numbers[1:] for part in pointer_to(values))
-    return int(getattr(library(), "ising2d_c_" + name)(numbers.n, *own, *arguments))
+    return int(_function("ising2d_c_" + name)(numbers.n, *own, *arguments))
 
 
 class Sizes(NamedTuple):
@@ -196,7 +232,7 @@ class Sizes(NamedTuple):
 
 def lattice_tables(sizes: Sizes, couplings: Any, most: int, given: object) -> Tables:
     """The tables of a lattice of at most so many spins. Raises its refusal."""
-    line, counts = _Line(), TableNumbers()
+    line, counts = Line(), TableNumbers()
     # A lattice has as many bonds as couplings, or is refused.
     bonds, spins = min(len(couplings), MOST_BONDS), min(sizes.rows * sizes.cols, MOST_SPINS)
     ends, darts = buffer("uint32", 2 * bonds), buffer("uint32", 2 * bonds)
@@ -241,7 +277,7 @@ def ground_of(given: Given, loops: Optional[bool], nest: Optional[bool]) -> Foun
 
 def _nested(given: Given, with_nest: bool) -> Tuple[int, Any, Optional[Nest]]:
     """A ground state, with its nest if that is asked for and found."""
-    line, answer = _Line(), NestNumbers()
+    line, answer = Line(), NestNumbers()
     # By Euler's formula there are at most as many faces as spins and bonds, and a region of parts has at
     # least three. Room that is not written costs nothing.
     faces = min(len(given.couplings), MOST_BONDS) + given._spin_room() if with_nest else 0
@@ -285,7 +321,7 @@ def _with_loops(given: Given) -> Tuple[int, Any, Loops]:
 
 def _ground(given: Given, rooms: Tuple[int, int]) -> Tuple[Tuple[int, Any, Loops], Tuple[int, int]]:
     """A ground state, with its loops if there is room for them, and the room that they need."""
-    line, answer = _Line(), GroundNumbers()
+    line, answer = Line(), GroundNumbers()
     spins, weights = zeros("int8", given._spin_room()), buffer("int64", rooms[0])
     starts = buffer("uint64", rooms[0] + 1)
     bonds = buffer("uint32", rooms[1])
@@ -313,14 +349,14 @@ def _ground(given: Given, rooms: Tuple[int, int]) -> Tuple[Tuple[int, Any, Loops
 
 def wall_of(given: Given) -> Tuple[int, int, int]:
     """The energies of the wall at the seam."""
-    line, answer = _Line(), WallNumbers()
+    line, answer = Line(), WallNumbers()
     line.judge(_call("wall", given, ctypes.byref(answer), *line.arguments()), given)
     return answer.periodic, answer.antiperiodic, answer.difference
 
 
 def costs_of(given: Given) -> Any:
     """The cost of each bond."""
-    line, costs = _Line(), zeros("int64", min(len(given.couplings), MOST_BONDS))
+    line, costs = Line(), zeros("int64", min(len(given.couplings), MOST_BONDS))
     status = _call("bonds", given, *pointer_to(costs), *line.arguments(), most=PROGRAM_SPINS)
     line.judge(status, given, large=False)
     return read_only(costs)
@@ -328,10 +364,22 @@ def costs_of(given: Given) -> Any:
 
 def clusters_of(given: Given) -> Any:
     """The cluster of each spin."""
-    line, names = _Line(), zeros("uint32", given._spin_room())
-    status = _call("clusters", given, *pointer_to(names), *line.arguments(), most=PROGRAM_SPINS)
-    line.judge(status, given, large=False)
+    line, names = Line(), zeros("uint32", given._spin_room())
+    line.judge(_call("clusters", given, *pointer_to(names), *line.arguments()), given)
     return read_only(names)
+
+
+# The laws of which the library draws, by their numbers.
+DRAWN_LAWS = ("one", "alternate", "pm", "uniform")
+
+
+def draws_of(law: str, seed: int, count: int) -> Any:
+    """The first draws of a law after a seed."""
+    line, found = Line(), zeros("int64", count)
+    own = pointer_to(found)
+    status = _function("ising2d_c_draws")(DRAWN_LAWS.index(law), seed, count, *own, *line.arguments())
+    line.judge(status, None)
+    return read_only(found)
 
 
 class Proof(NamedTuple):
@@ -365,7 +413,7 @@ def _is_about(line: str, *members: int) -> bool:
 
 def check_of(given: Given, stated: Proof) -> Finding:
     """The number of the verdict on a proof, and the numbers that it keeps."""
-    line, rows = _Line(), stated.loops
+    line, rows = Line(), stated.loops
     status = _call(
         "check",
         given,
@@ -410,7 +458,7 @@ def nest_proof_of(energy: Any, spins: Any, nest: Any) -> NestProof:
 
 def nest_check_of(given: Given, stated: NestProof) -> Finding:
     """The number of the verdict on a proof by a nest: 0 or 1."""
-    line = _Line()
+    line = Line()
     status = _call(
         "nest_check",
         given,

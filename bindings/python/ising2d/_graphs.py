@@ -17,6 +17,7 @@ from ._arrays import (
 )
 from ._errors import Member, RefusalCode, Words
 from ._instances import Instance
+from ._labels import Ends
 from ._points import exact_places, rotation_of
 from ._real import Rounded, Scale, rounded
 from ._types import NetworkxGraph, Point, QuadraticModel, SparseMatrix, Whole
@@ -43,7 +44,7 @@ class Graph(Instance):
     ``bonds`` are triples (u, v, coupling), or an array of whole numbers of shape ``(bonds, 3)``, with
     spins from 0 to ``n - 1`` and couplings in any unit. Bond k has the dart 2k, which leaves u, and the
     dart 2k + 1, which leaves v. ``rotation`` has a list of darts for each spin; without one the darts of
-    each spin stand in rising order, which is a drawing of a tree or a ring, and enough for ``check``.
+    each spin are in rising order, which is a drawing of a tree or a ring, and enough for ``check``.
     ``seam`` are the bonds whose signs are changed for the wall. ``labels`` are names of the spins,
     ``edges`` names of the bonds, and ``positions`` places of the spins in the plane; no answer needs
     them. The numbers are copied, and a graph is not changed afterwards.
@@ -185,8 +186,7 @@ class Graph(Instance):
     def edge_labels(self) -> Sequence[Hashable]:
         if self.edges is not None:
             return self.edges
-        names = self.node_labels()
-        return [(names[u], names[v], k) for k, (u, v) in enumerate(self.ends())]
+        return Ends(self.node_labels(), self._tables().ends, is_numbered=True)
 
     def places(self) -> Optional[List[Point]]:
         return None if self.positions is None else list(self.positions)
@@ -330,14 +330,14 @@ def _columns(bonds: Any, real: bool = False) -> Tuple[Any, Any]:
         if bonds.dtype.kind not in ("iuOf" if real else "iuO"):
             raise of_another_kind(bonds.dtype, "bonds")
         if bonds.size and (bonds.ndim != 2 or bonds.shape[1] != 3):
-            raise TypeError(f"bonds: an array of shape (bonds, 3) is wanted, and not {bonds.shape}")
+            raise TypeError(f"bonds: expected an array of shape (bonds, 3), not {bonds.shape}")
         rows = bonds.reshape(-1, 3)
         return (_whole_floats(rows[:, :2]) if real else rows[:, :2]).ravel(), rows[:, 2]
     ends: List[Any] = []
     couplings: List[Any] = []
     for bond in listed_of(bonds, "bonds"):
         if not hasattr(bond, "__len__") or isinstance(bond, (str, bytes, dict, set)) or len(bond) != 3:
-            raise TypeError(f"bonds: two spins and a coupling are wanted, and not {shortened(bond)}")
+            raise TypeError(f"bonds: expected two spins and a coupling, not {shortened(bond)}")
         u, v, coupling = bond
         ends += (u, v)
         couplings.append(coupling)
@@ -361,12 +361,12 @@ def _pairs_of(bonds: Any, count: int) -> List[Tuple[int, int]]:
         if bonds.dtype.kind not in "iu":
             raise of_another_kind(bonds.dtype, "bonds")
         if bonds.size and (bonds.ndim != 2 or bonds.shape[1] != 2):
-            raise TypeError(f"bonds: an array of shape (bonds, 2) is wanted, and not {bonds.shape}")
+            raise TypeError(f"bonds: expected an array of shape (bonds, 2), not {bonds.shape}")
         bonds = bonds.reshape(-1, 2).tolist()
     found = []
     for k, bond in enumerate(listed_of(bonds, "bonds")):
         if not hasattr(bond, "__len__") or isinstance(bond, (str, bytes, dict, set)) or len(bond) != 2:
-            raise TypeError(f"bonds: two spins are wanted, and not {shortened(bond)}")
+            raise TypeError(f"bonds: expected two spins, not {shortened(bond)}")
         u, v = (in_32_bits(spin, "bonds") for spin in bond)
         if max(u, v) >= count or u == v:
             raise ValueError(f"bond {k} is {(u, v)} (allowed: two points from 0 to {count - 1})")
@@ -385,7 +385,21 @@ def _fitting(names: Any, count: int, what: str, of: str) -> Optional[Tuple[Hasha
     listed = tuple(listed_of(names, what))
     if len(listed) != count:
         raise ValueError(f"there are {len(listed)} {what}, and {count} {of}")
+    _refuse_twice(listed, what, of)
     return listed
+
+
+def _refuse_twice(names: Tuple[Any, ...], what: str, of: str) -> None:
+    """Raises ``ValueError`` for a name that two have, since values by names would lose one of them."""
+    seen = set()
+    for name in names:
+        try:
+            is_known = name in seen
+        except TypeError:
+            raise TypeError(f"{what}: {shortened(name)} can be no name, since it cannot be hashed") from None
+        if is_known:
+            raise ValueError(f"{what}: two {of} have the name {shortened(name)}")
+        seen.add(name)
 
 
 def _positions(positions: Any, count: int) -> Optional[Tuple[Point, ...]]:
@@ -395,7 +409,7 @@ def _positions(positions: Any, count: int) -> Optional[Tuple[Point, ...]]:
     try:
         found = tuple((float(x), float(y)) for x, y in positions)
     except (TypeError, ValueError):
-        raise TypeError("positions: two numbers for each spin are wanted") from None
+        raise TypeError("positions: expected two numbers for each spin") from None
     if len(found) != count:
         raise ValueError(f"there are {len(found)} positions, and {count} spins")
     return found

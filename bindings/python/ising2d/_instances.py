@@ -5,16 +5,20 @@ from __future__ import annotations
 from typing import TYPE_CHECKING, Any, Callable, List, Literal, Optional, TypeVar, Union, overload
 
 from . import _ffi
-from ._answers import Clusters, Cut, DomainWall, Ground, Report, Turn, Wall
-from ._arrays import as_array, whole_numbers
+from ._answers import Clusters, Cut, DomainWall, Ground, Report, Turn, Wall, turn_of
+from ._arrays import as_array, is_numpy, shortened, whole, whole_numbers
+from ._costs import CostBounds, asked_bonds, bounds_of, costs_of, refuse_all_of, unknown_bounds
+from ._droplets import Droplet, forcing
 from ._loops import Loop
 from ._model import Model
 from ._real import RealCosts, RealTurn, Scale, real_costs, rounded
 from ._runs import answered, json_of, loops_in, members_of, one_of, records_in
-from ._threads import MANY_STATES, ONE_STATE, interruptible
+from ._stopping import Telling, awaited, refuse_progress
+from ._threads import MANY_STATES, ONE_STATE, interruptible, thread_count
+from ._types import Whole
 
 if TYPE_CHECKING:
-    from ._types import Couplings, Int64Array, Real, Reals
+    from ._types import Couplings, Int64Array, Integers, Real, Reals
 
 Own = TypeVar("Own", bound="Instance")
 Result = TypeVar("Result")
@@ -80,36 +84,115 @@ class Instance(Model):
     def _with_states(self, energies: Wall) -> DomainWall:
         first, second = self.ground(), self.turned_at_seam().ground()
         if (first.energy, second.energy) != (energies.periodic, energies.antiperiodic):
-            raise RuntimeError("the ground states have not the energies of the wall")
+            raise RuntimeError("the ground states do not have the energies of the wall")
         between = tuple(self._between(first.spins, second.spins))
         return DomainWall(
             energies.periodic, energies.antiperiodic, energies.difference, first, second, between
         )
 
-    def costs(self) -> Int64Array:
-        """What it costs to turn each bond, in the unit of the couplings: an array of shape
-        ``(bonds,)``. A bond is rigid if it costs more than 0."""
-        found: Int64Array = self._many(_ffi.costs_of)
-        return found
+    def costs(
+        self,
+        bonds: Optional[Integers] = None,
+        bounds: Optional[CostBounds] = None,
+        progress: Telling = None,
+        threads: Optional[Whole] = None,
+    ) -> Int64Array:
+        """The cost of flipping each bond, in the unit of the couplings: an array of shape ``(bonds,)``. A
+        bond is rigid if it costs more than 0.
 
-    def clusters(self) -> Clusters:
-        """The rigid clusters: for each spin the least spin of its cluster, and the sizes."""
-        return Clusters(self._many(_ffi.clusters_of), self)
+        With ``bonds``, a list of bond numbers, the costs of these bonds in their order, for up to 2**20
+        spins; a bond takes about as long as a ground state. Costs of all bonds are found for up to 2**14
+        spins. ``bounds`` are known bounds to start from, those of a search that
+        was stopped; wrong bounds give wrong costs. ``progress`` is called with the number of finished bonds
+        and the number of all bonds of the search, and stops the search if it returns False; by default a
+        bar is shown if standard error is a terminal, and False shows none. If Ctrl-C or ``progress`` stops
+        the search, ``Stopped`` is raised; its ``found`` are the bounds so far. ``threads`` is the number
+        of threads, by default that of the processors."""
+        refuse_progress(progress)
+        workers = thread_count(threads)
+        if bonds is None and bounds is None and self.n <= _ffi.PROGRAM_SPINS and not callable(progress):
+            found: Int64Array = self._many(_ffi.costs_of)
+            return found
+        self._tables()
+        count = len(self.couplings)
+        if bonds is None:
+            refuse_all_of(self.n)
+        asked = as_array(list(range(count)), "uint32") if bonds is None else asked_bonds(bonds, count)
+        known = unknown_bounds(count) if bounds is None else bounds_of(bounds, count)
+        own: Int64Array = costs_of(self, asked, known, progress, workers)
+        return own
 
-    def ranges(self) -> List[Turn]:
-        """For each bond the coupling at which the ground states turn, and the side on which its own
-        coupling lies."""
-        text = answered(["ranges"], json_of(self), self)
-        return [Turn(int(fields[1]), fields[2]) for _, fields in records_in(text)]
+    def clusters(self, progress: Telling = None) -> Clusters:
+        """The rigid clusters of up to 2**20 spins: for each spin the least spin of its cluster, and the
+        sizes. ``progress`` is called now and then, with 0 and 1, and stops the waiting if it returns False."""
+        return Clusters(self._awaited(progress, "clusters", _ffi.clusters_of), self)
+
+    def _awaited(self, progress: Telling, what: str, call: Callable[..., Result]) -> Result:
+        """One long call."""
+        if self._spin_room() <= MANY_STATES and not callable(progress):
+            refuse_progress(progress)
+            return call(self)
+        return awaited(progress, f"{what} of {self.n} spins", call, self)
+
+    def droplet(self, bond: Whole, ground: Optional[Ground] = None) -> Droplet:
+        """The cheapest excitation that flips a bond: its cost, the spins that flip, and the bonds of their
+        border, with the proof: the ground state of the instance in which the bond is forced to flip.
+        ``ground`` is a ground state of this instance, if one is known."""
+        number = whole(bond, "bond")
+        if not 0 <= number < len(self.couplings):
+            raise ValueError(f"bond: there is no bond {number} (allowed: 0 to {len(self.couplings) - 1})")
+        if ground is not None and not isinstance(ground, Ground):
+            raise TypeError(f"ground: expected a Ground, not {shortened(ground)}")
+        base = self.ground() if ground is None else ground
+        if base.instance is not self and base.instance != self:
+            raise ValueError("ground: it is a ground state of another instance")
+        strong = forcing(self, number, base.spins)
+        return Droplet.between(number, base, self._with_one(number, strong).ground())
+
+    def _with_one(self: Own, bond: int, coupling: int) -> Own:
+        """The instance with another coupling of one bond."""
+        changed = self.couplings.copy() if is_numpy(self.couplings) else self.couplings[:]
+        changed[bond] = coupling
+        own: Own = self._with(changed, self.scale)
+        return own
+
+    def ranges(
+        self, bonds: Optional[Integers] = None, progress: Telling = None, threads: Optional[Whole] = None
+    ) -> List[Turn]:
+        """For each bond the coupling at which the ground states change, and the side on which its own
+        coupling lies. ``bonds`` and the other arguments are those of ``costs``."""
+        if bonds is None and self.n <= _ffi.PROGRAM_SPINS:
+            text = answered(["ranges"], json_of(self), self)
+            return [Turn(int(fields[1]), fields[2]) for _, fields in records_in(text)]
+        costs = self.costs(bonds, None, progress, threads).tolist()
+        chosen = range(len(self.couplings)) if bonds is None else asked_bonds(bonds, len(self.couplings)).tolist()
+        unlike = set(self._unlike(self.ground(loops=False).spins))
+        couplings = self.couplings.tolist()
+        return [turn_of(couplings[k], cost, k in unlike) for k, cost in zip(chosen, costs)]
 
     def maxcut(self) -> Cut:
-        """The largest cut, with the couplings as weights, and the loops that prove it."""
+        """The largest cut, with the couplings as weights, and its proof: loops within the limits of the
+        program, a nest beyond them."""
+        if self.n > _ffi.PROGRAM_SPINS:
+            return self._large_cut()
         text = answered(["maxcut"], json_of(self), self)
         spins = as_array(one_of(text, "spins"), "int8")
         return Cut(one_of(text, "cut")[0], spins, loops_in(text), self, self.negated())
 
-    def report(self) -> Report:
-        """All numbers at once."""
+    def _large_cut(self) -> Cut:
+        """What is cut by a ground state of the instance with every sign changed."""
+        negated = self.negated()
+        found = negated.ground()
+        weight, left = divmod(sum(self.couplings.tolist()) - found.energy, 2)
+        if left:
+            raise RuntimeError("the ground state has an odd energy beside the sum of the couplings")
+        return Cut(weight, found.spins, found.loops, self, negated, found.nest)
+
+    def report(self, progress: Telling = None, threads: Optional[Whole] = None) -> Report:
+        """All numbers at once, for up to 2**14 spins, with loops within the limits of the program and a nest
+        beyond them. ``progress`` and ``threads`` are as for ``costs``."""
+        if self.n > _ffi.PROGRAM_SPINS:
+            return self._large_report(progress, threads)
         found = members_of(answered(["report"], json_of(self), self))
         return Report(
             found["bonds"],
@@ -123,6 +206,15 @@ class Instance(Model):
             self,
         )
 
+    def _large_report(self, progress: Telling, threads: Optional[Whole]) -> Report:
+        refuse_all_of(self.n)
+        state, clusters = self.ground(), self.clusters()
+        wall = self.wall() if self.seam_bonds() else None
+        costs = self.costs(None, None, progress, threads)
+        size = sum(map(abs, self.couplings.tolist()))
+        own = len(self.couplings), state.energy, size, state.spins, state.loops, costs, clusters, wall, self
+        return Report(*own, state.nest)
+
     # Real couplings.
 
     def _scale(self) -> Scale:
@@ -130,14 +222,20 @@ class Instance(Model):
             raise ValueError("the couplings are whole numbers: see costs, or from_real for real ones")
         return self.scale
 
-    def real_costs(self) -> RealCosts:
+    def real_costs(
+        self,
+        bonds: Optional[Integers] = None,
+        bounds: Optional[CostBounds] = None,
+        progress: Telling = None,
+        threads: Optional[Whole] = None,
+    ) -> RealCosts:
         """The costs in the unit of the real couplings that this was made of, each with its error, and
-        which bonds are rigid for these for certain."""
+        which bonds are rigid for these for certain. The arguments are those of ``costs``."""
         scale = self._scale()
-        return real_costs(scale, self.costs())
+        return real_costs(scale, self.costs(bonds, bounds, progress, threads))
 
     def real_ranges(self) -> List[RealTurn]:
-        """For each bond the coupling at which the ground states turn, in the unit of the real couplings
+        """For each bond the coupling at which the ground states change, in the unit of the real couplings
         that this was made of, with its error, and the side on which its own real coupling lies."""
         scale, found = self._scale(), []
         for turn, own in zip(self.ranges(), self.couplings.tolist()):

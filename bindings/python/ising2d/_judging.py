@@ -23,7 +23,12 @@ class Judge:
             self.around[b].append(k)
 
     def on_join(self, weight: int, chosen: Sequence[int], cuts: Cuts) -> Finding:
-        """The verdict on a join, and on the cuts that are to prove it."""
+        """The verdict on a T-join, and on the cuts that are to prove it."""
+        number, kept = self.on_edges(weight, chosen)
+        return (number, kept) if number else self._on_cuts(cuts, 2 * weight)
+
+    def on_edges(self, weight: int, chosen: Sequence[int]) -> Finding:
+        """The verdict on the edges alone: whether they are a T-join of this weight."""
         for k, count in Counter(chosen).items():
             if not 0 <= k < len(self.edges) or count > 1:
                 return 1, (k,)
@@ -31,9 +36,7 @@ class Judge:
         if wrong:
             return 2, (min(wrong),)
         own = sum(self.edges[k][2] for k in chosen)
-        if own != weight:
-            return 3, (own,)
-        return self._on_cuts(cuts, 2 * weight)
+        return (0, ()) if own == weight else (3, (own,))
 
     def on_walk(self, weight: int, start: int, steps: Sequence[Tuple[int, int]], cuts: Cuts) -> Finding:
         """The verdict on a closed walk, and on the cuts that are to prove it."""

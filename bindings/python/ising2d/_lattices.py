@@ -4,14 +4,13 @@ from __future__ import annotations
 
 import threading
 from collections import OrderedDict
-from itertools import product
-from typing import TYPE_CHECKING, Any, Dict, Hashable, Iterable, List, Literal, Optional, Sequence, Tuple, Union
+from typing import TYPE_CHECKING, Any, Dict, Hashable, List, Literal, Optional, Sequence, Tuple, Union
 
 from . import _ffi
-from ._arrays import in_32_bits, is_numpy, listed_of, numpy, read_only, shortened, whole, whole_numbers, zeros
+from ._arrays import in_32_bits, is_numpy, numpy, read_only, shortened, whole, whole_numbers, zeros
 from ._errors import Member, Refusal, RefusalCode, words_of
 from ._instances import Instance
-from ._model import Value
+from ._labels import Ends, Grid
 from ._real import Scale, rounded
 from ._types import Point, Whole
 
@@ -170,18 +169,10 @@ class Lattice(Instance):
 
     def node_labels(self) -> Sequence[Hashable]:
         self._fit()
-        return list(product(range(self.rows), range(self.cols)))
+        return Grid(self.rows, self.cols)
 
     def edge_labels(self) -> Sequence[Hashable]:
-        nodes = self.node_labels()
-        return [(nodes[u], nodes[v]) for u, v in self.ends()]
-
-    def by_node(self, values: Iterable[Value]) -> Dict[Hashable, Value]:
-        self._fit()
-        listed = listed_of(values.tolist() if hasattr(values, "tolist") else values, "values")
-        if len(listed) != self.n:
-            raise ValueError(f"there are {len(listed)} values, and {self.n} spins")
-        return dict(zip(product(range(self.rows), range(self.cols)), listed))
+        return Ends(self.node_labels(), self._tables().ends)
 
     def places(self) -> Optional[List[Point]]:
         """Rows grow to the south and columns to the east; a triangular lattice leans, so that all its
@@ -205,7 +196,7 @@ def _kind_of(kind: Kind) -> str:
     try:
         number = whole(kind, "kind")
     except TypeError:
-        raise TypeError(f"kind: one of {', '.join(KINDS)} is wanted, and not {shortened(kind)}") from None
+        raise TypeError(f"kind: expected one of {', '.join(KINDS)}, not {shortened(kind)}") from None
     return KINDS[number] if 0 <= number < len(KINDS) else str(number)
 
 
@@ -222,7 +213,7 @@ def _flat(couplings: Any, kind: str, rows: Any, cols: Any) -> Any:
     east, south = couplings
     for name, part, shape in (("east", east, wanted[0]), ("south", south, wanted[1])):
         if part.shape != shape:
-            raise TypeError(f"couplings: {name} of shape {shape} is wanted, and not {part.shape}")
+            raise TypeError(f"couplings: expected {name} of shape {shape}, not {part.shape}")
     return numpy.concatenate((east.ravel(), south.ravel()))
 
 

@@ -37,6 +37,15 @@ class Stream:
         back = (numpy.uint64(32) - turn) & numpy.uint64(31)
         return (value >> turn | value << back) & numpy.uint64(2**32 - 1)
 
+    def skip(self, count: int) -> None:
+        """Goes over so many words, in as many steps as the number has bits."""
+        factor, shift = _MULTIPLIER, _INCREMENT
+        while count:
+            if count & 1:
+                self.state = (self.state * factor + shift) & _MASK
+            factor, shift = factor * factor & _MASK, shift * (factor + 1) & _MASK
+            count >>= 1
+
     def _word(self) -> int:
         state = self.state
         self.state = (state * _MULTIPLIER + _INCREMENT) & _MASK
@@ -217,6 +226,12 @@ class Source:
         self.stream = Stream(seed)
         self.own = LAWS.get(law) if share is None else SHARED[law](share)
 
+    def skip(self, count: int) -> None:
+        """Goes over so many couplings."""
+        self.drawn += count
+        if self.own is not None:
+            self.stream.skip(count * self.own.words)
+
     def couplings(self, count: int) -> Any:
         """The next couplings, as an array."""
         if self.own is None:
@@ -239,7 +254,7 @@ def share_of(p: Union[float, int, Fraction, None], law: str) -> Optional[Fractio
     if p is None:
         raise ValueError(f"the law {law} needs p, a probability from 0 to 1")
     if is_bool(p) or not isinstance(p, (int, float, Fraction)):
-        raise TypeError(f"p: a probability is wanted, and not {shortened(p)}")
+        raise TypeError(f"p: expected a probability, not {shortened(p)}")
     if not 0 <= p <= 1:
         raise ValueError(f"p is {shortened(p)} (allowed: 0 to 1)")
     return Fraction(p)

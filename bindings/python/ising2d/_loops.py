@@ -1,4 +1,4 @@
-"""Frustrated loops as three arrays, unpacked where they are looked at."""
+"""Frustrated loops as three arrays, unpacked on access."""
 
 from __future__ import annotations
 
@@ -121,6 +121,6 @@ def _parts(loop: Any) -> Tuple[Any, List[Any]]:
     elif hasattr(loop, "weight") and hasattr(loop, "bonds"):
         weight, own = loop.weight, loop.bonds
     else:
-        raise TypeError(f"loops: a pair of a weight and bonds is wanted, and not {shortened(loop)}")
+        raise TypeError(f"loops: expected a pair of a weight and bonds, not {shortened(loop)}")
     refuse_unordered(own, "bonds of a loop")
     return weight, listed_of(own, "bonds of a loop")

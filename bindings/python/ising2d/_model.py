@@ -5,10 +5,22 @@ A lattice and a graph are models. The answers know the model that they are of.
 
 from __future__ import annotations
 
-from typing import TYPE_CHECKING, Any, Dict, Hashable, Iterable, List, Optional, Sequence, Tuple, TypeVar
+from typing import (
+    TYPE_CHECKING,
+    Any,
+    Dict,
+    Hashable,
+    Iterable,
+    List,
+    Mapping,
+    Optional,
+    Sequence,
+    TypeVar,
+)
 
 from . import _ffi
 from ._arrays import is_numpy, numpy, whole_numbers
+from ._labels import ByLabel
 from ._real import Scale
 from ._sequences import Lists, Pairs
 from ._threads import ONE_STATE, interruptible
@@ -31,10 +43,10 @@ class Model:
     scale: Optional[Scale]
 
     def __setattr__(self, name: str, value: object) -> None:
-        raise AttributeError(f"a {type(self).__name__} is not changed: with_couplings makes another one")
+        raise AttributeError(f"a {type(self).__name__} is immutable: with_couplings makes another one")
 
     def __delattr__(self, name: str) -> None:
-        raise AttributeError(f"a {type(self).__name__} is not changed")
+        raise AttributeError(f"a {type(self).__name__} is immutable")
 
     def _set(self, **members: object) -> None:
         """Sets members, once, when the model is made."""
@@ -108,18 +120,21 @@ class Model:
         """What it is, in a few words."""
         return f"{self.n} spins and {len(self.couplings)} bonds"
 
-    def by_node(self, values: Iterable[Value]) -> Dict[Hashable, Value]:
-        """Values, one for each spin, by the labels of the spins."""
+    def by_node(self, values: Iterable[Value]) -> Mapping[Hashable, Value]:
+        """Values, one for each spin, by the labels of the spins: a mapping that is equal to a dictionary
+        and is computed on access. ``dict`` of it is a dictionary."""
         return _paired(self.node_labels(), values, "spins")
 
-    def by_edge(self, values: Iterable[Value]) -> Dict[Hashable, Value]:
-        """Values, one for each bond, by the labels of the bonds."""
+    def by_edge(self, values: Iterable[Value]) -> Mapping[Hashable, Value]:
+        """Values, one for each bond, by the labels of the bonds: a mapping, as ``by_node``."""
         return _paired(self.edge_labels(), values, "bonds")
 
     def named(self, bonds: Iterable[int]) -> List[Hashable]:
         """The labels of bonds by their numbers, as of those that are broken, or of a wall."""
-        labels = self.edge_labels()
-        return [labels[k] for k in bonds]
+        labels, listed = self.edge_labels(), list(bonds)
+        # For many bonds it is faster to make all labels at once.
+        known = list(labels) if 8 * len(listed) > len(labels) else labels
+        return [known[k] for k in listed]
 
     # Energies.
 
@@ -176,7 +191,7 @@ class Model:
         ]
 
     def _unlike(self, spins: Any) -> List[int]:
-        """The bonds between unlike spins."""
+        """The bonds between opposite spins."""
         if is_numpy(spins):
             found: List[int] = numpy.flatnonzero(self._products(spins) < 0).tolist()
             return found
@@ -215,8 +230,8 @@ class Model:
         return Verdict(*interruptible(long, _ffi.check_of, self, stated))
 
 
-def _paired(labels: Sequence[Hashable], values: Any, what: str) -> Dict[Hashable, Any]:
-    listed = values.tolist() if hasattr(values, "tolist") else list(values)
-    if len(listed) != len(labels):
-        raise ValueError(f"there are {len(listed)} values, and {len(labels)} {what}")
-    return dict(zip(labels, listed))
+def _paired(labels: Sequence[Hashable], values: Any, what: str) -> ByLabel[Hashable, Any]:
+    found: ByLabel[Hashable, Any] = ByLabel(labels, values)
+    if len(found) != len(labels):
+        raise ValueError(f"there are {len(found)} values, and {len(labels)} {what}")
+    return found

@@ -19,7 +19,7 @@ class Nest:
     there is none, and its radius, in quarters of the unit of the couplings. ``regions`` and ``at_radii``
     have for each face the region that took it, or ``Nest.NONE``, and the radius at which that did. All
     radii together are four times the weight of the broken bonds. The header of the library says how the
-    faces are numbered, and docs/BINDINGS.md why a nest proves a ground state.
+    faces are numbered, and docs/ALGORITHM.md why a nest proves a ground state.
 
     >>> import ising2d
     >>> found = ising2d.ground("square", 2, 2, [3, 4, 2, -5], nest=True)
@@ -55,7 +55,7 @@ def nest_of(given: Any) -> Nest:
     try:
         parents, radii, regions, at_radii = given
     except (TypeError, ValueError):
-        raise TypeError(f"nest: a Nest or four lists are wanted, and not {given!r:.60}") from None
+        raise TypeError(f"nest: expected a Nest or four lists, not {given!r:.60}") from None
     return Nest(
         numbers(parents, "uint32", "parents of the nest"),
         numbers(radii, "uint64", "radii of the nest"),

@@ -40,14 +40,14 @@ def exact_places(points: Points) -> List[Place]:
 def _rows(points: Any) -> List[Any]:
     if is_numpy(points):
         if points.ndim != 2 or points.shape[1] != 2:
-            raise TypeError(f"points: an array of shape (spins, 2) is wanted, and not {points.shape}")
+            raise TypeError(f"points: expected an array of shape (spins, 2), not {points.shape}")
         return listed_of(points.tolist(), "points")
     return listed_of(points, "points")
 
 
 def _pair(point: Any, place: int) -> Tuple[Any, Any]:
     if isinstance(point, (str, bytes)) or not hasattr(point, "__len__") or len(point) != 2:
-        raise TypeError(f"points: two coordinates are wanted, and not {shortened(point)}")
+        raise TypeError(f"points: expected two coordinates, not {shortened(point)}")
     x, y = (real_number(value, f"point {place}") for value in point)
     return x, y
 

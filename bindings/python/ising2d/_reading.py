@@ -42,7 +42,7 @@ def read(given: Union[str, bytes]) -> Instance:
 
 
 def read_proof(given: Union[str, bytes]) -> Verdict:
-    """The verdict on the result that stands behind the instance of a text of records, as of ``check``."""
+    """The verdict on the result that follows the instance of a text of records, as of ``check``."""
     text = as_text(given)
     try:
         found, result = proof_in(text)

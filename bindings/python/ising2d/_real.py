@@ -119,7 +119,7 @@ class RealCosts:
 
 
 class RealTurn(NamedTuple):
-    """The coupling of a bond at which the ground states turn, in the unit of the real couplings, right up
+    """The coupling of a bond at which the ground states change, in the unit of the real couplings, right up
     to ``error``; and on which side of it the bond's own real coupling lies: ``above``, ``below``, or
     ``unknown`` where the rounding does not tell."""
 
@@ -164,7 +164,7 @@ def _scale_of(scale: Real) -> Fraction:
 def real_number(value: Any, what: str) -> Union[int, float, Fraction]:
     """A real number as it is, without rounding: an int, a float or a fraction. Others are refused."""
     if is_bool(value) or isinstance(value, (str, bytes, complex)):
-        raise TypeError(f"{what}: a real number is wanted, and not {shortened(value)}")
+        raise TypeError(f"{what}: expected a real number, not {shortened(value)}")
     if isinstance(value, (int, Fraction)):
         return value
     if hasattr(value, "__index__") and not hasattr(value, "__len__"):
@@ -172,9 +172,9 @@ def real_number(value: Any, what: str) -> Union[int, float, Fraction]:
     try:
         found = float(value)
     except (TypeError, ValueError):
-        raise TypeError(f"{what}: a real number is wanted, and not {shortened(value)}") from None
+        raise TypeError(f"{what}: expected a real number, not {shortened(value)}") from None
     if not math.isfinite(found):
-        raise ValueError(f"{what}: {found} is no real number (allowed: finite numbers)")
+        raise ValueError(f"{what}: {found} is not a real number (allowed: finite numbers)")
     # A decimal number is exact as a fraction, and perhaps not as a float.
     return Fraction(value) if isinstance(value, Decimal) else found
 
@@ -182,17 +182,17 @@ def real_number(value: Any, what: str) -> Union[int, float, Fraction]:
 def _of_numpy(values: Any, scale: Optional[Fraction]) -> Optional[Rounded]:
     """An array of floats, by a power of two; none where the exact way is needed."""
     if values.ndim != 1:
-        raise TypeError(f"couplings: an array of one axis is wanted, and not one of shape {values.shape}")
+        raise TypeError(f"couplings: expected an array of one axis, not one of shape {values.shape}")
     if values.dtype.kind not in "fiu":
         if values.dtype.kind == "O":
             return None
-        raise TypeError(f"couplings: real numbers are wanted, and not an array of {values.dtype}")
+        raise TypeError(f"couplings: expected real numbers, not an array of {values.dtype}")
     if values.dtype.kind != "f" or values.dtype.itemsize > 8:
         return None
     own = values.astype("float64")
     if not numpy.isfinite(own).all():
         wrong = own[~numpy.isfinite(own)][0]
-        raise ValueError(f"couplings: {wrong} is no real number (allowed: finite numbers)")
+        raise ValueError(f"couplings: {wrong} is not a real number (allowed: finite numbers)")
     power = _power_of(scale) if scale is not None else _largest_power(math.fsum(numpy.abs(own).tolist()))
     if power is None or not _LEAST_POWER <= power <= _LARGEST_POWER or not _are_plain(own):
         return None

@@ -72,7 +72,7 @@ def as_text(given: Union[str, bytes]) -> str:
         return given
     if isinstance(given, (bytes, bytearray, memoryview)):
         return bytes(given).decode("utf-8", "replace")
-    raise TypeError(f"a text or bytes are wanted, and not {shortened(given)}")
+    raise TypeError(f"expected a text or bytes, not {shortened(given)}")
 
 
 def object_of(text: str) -> Dict[str, Any]:
@@ -84,7 +84,7 @@ def object_of(text: str) -> Dict[str, Any]:
     except RecursionError:
         raise Refusal(RefusalCode.BAD_JSON, (), "nested too deep") from None
     if not isinstance(found, dict):
-        raise Refusal(RefusalCode.BAD_JSON, (), "an object is wanted")
+        raise Refusal(RefusalCode.BAD_JSON, (), "expected an object")
     return found
 
 
@@ -94,7 +94,7 @@ def _json_number(digits: str) -> Union[int, float]:
 
 
 def _no_constant(name: str) -> None:
-    raise ValueError(f"{name} is no JSON")
+    raise ValueError(f"{name} is not valid JSON")
 
 
 class LatticeText(NamedTuple):
@@ -356,7 +356,7 @@ def _list(members: Dict[str, Any], name: str, member: Member) -> List[Any]:
 
 
 def _first_bad(values: List[Any], least: int, most: int) -> int:
-    """The first value that is no whole number within these limits; -1 if there is none."""
+    """The first value that is not a whole number within these limits; -1 if there is none."""
     if set(map(type, values)) <= {int} and (not values or (min(values) >= least and max(values) <= most)):
         return -1
     return next(i for i, value in enumerate(values) if not _is_whole(value, least, most))

@@ -32,11 +32,11 @@ def run(words: Words, input: Union[str, bytes] = b"") -> Run:
 def _joined(words: Words) -> bytes:
     """The words as they cross."""
     if isinstance(words, (str, bytes)):
-        raise TypeError(f"words: a list of texts is wanted, and not the one text {words!r}")
+        raise TypeError(f"words: expected a list of texts, not the one text {words!r}")
     crossing = b""
     for word in words:
         if not isinstance(word, str):
-            raise TypeError(f"words: a text is wanted, and not {shortened(word)}")
+            raise TypeError(f"words: expected a text, not {shortened(word)}")
         if "\0" in word:
             raise ValueError(f"words: {word!r} has a NUL in it")
         crossing += word.encode("utf-8", "surrogateescape") + b"\0"
@@ -48,7 +48,7 @@ def _bytes(given: Union[str, bytes]) -> bytes:
         return given.encode("utf-8", "surrogateescape")
     if isinstance(given, (bytes, bytearray, memoryview)):
         return bytes(given)
-    raise TypeError(f"input: a text or bytes are wanted, and not {shortened(given)}")
+    raise TypeError(f"input: expected a text or bytes, not {shortened(given)}")
 
 
 def _whole(words: bytes, given: bytes) -> Tuple[int, bytes]:

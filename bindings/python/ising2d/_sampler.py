@@ -91,7 +91,8 @@ class IsingSampler:
         installed, and else our own."""
         graph = Graph.from_bqm(bqm, real=True)
         found = graph.ground()
-        spins = found.by_node()
+        # A dictionary, as samplers hand out theirs.
+        spins = dict(found.by_node().items())
         energy = float(getattr(bqm, "offset", 0.0)) + sum(
             float(bias) * spins[u] * spins[v] for (u, v), bias in bqm.quadratic.items()
         )
@@ -103,14 +104,14 @@ class IsingSampler:
     ) -> Samples:
         """The ground state of the biases ``J`` by pairs of variables; the fields ``h`` must be 0."""
         if h is not None and not isinstance(h, Mapping):
-            raise TypeError(f"h: a dictionary of fields is wanted, and not {shortened(h)}")
+            raise TypeError(f"h: expected a dictionary of fields, not {shortened(h)}")
         if not isinstance(J, Mapping):
-            raise TypeError(f"J: a dictionary of biases is wanted, and not {shortened(J)}")
+            raise TypeError(f"J: expected a dictionary of biases, not {shortened(J)}")
         refuse_fields(h or {})
         return self.sample(_Model(dict(h or {}), dict(J)))
 
 
-def _set_of(spins: Dict[Hashable, int], energy: float, info: Dict[str, object]) -> Samples:
+def _set_of(spins: Mapping[Hashable, int], energy: float, info: Dict[str, object]) -> Samples:
     try:
         dimod = importlib.import_module("dimod")
     except ImportError:

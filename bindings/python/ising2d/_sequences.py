@@ -1,4 +1,4 @@
-"""Pairs and lists of whole numbers that are kept in arrays, and unpacked where they are looked at."""
+"""Pairs and lists of whole numbers that are kept in arrays, and unpacked on access."""
 
 from __future__ import annotations
 

@@ -97,7 +97,7 @@ def _checked(members: Dict[str, Any]) -> Dict[str, Any]:
 
 
 def _joined(command: str, members: Dict[str, Any]) -> Dict[str, Any]:
-    """A join or a walk. Without ``n`` the nodes of the edges may have any names."""
+    """A T-join or a walk. Without ``n`` the nodes of the edges may have any names."""
     edges = _taken(members, "edges")
     network = Network(members.pop("n"), edges) if "n" in members else Network.from_edges(edges)
     terminals = members.pop("terminals", ()) if command == "tjoin" else ()

@@ -7,7 +7,7 @@ Ito, which colour-blind people can tell apart.
 from __future__ import annotations
 
 from functools import lru_cache
-from typing import TYPE_CHECKING, Any, Callable, Dict, Iterable, List, NamedTuple, Optional, Sequence, Tuple
+from typing import TYPE_CHECKING, Any, Callable, Dict, Iterable, List, Mapping, NamedTuple, Optional, Sequence, Tuple
 
 from ._arrays import shortened
 from ._drawings import Drawing, Point
@@ -77,7 +77,7 @@ def picture_of_wall(
 def picture_of_clusters(
     model: Model,
     names: List[int],
-    sizes: Dict[int, int],
+    sizes: Mapping[int, int],
     places: Optional[Places],
     cell: Optional[float],
     legend: bool,
@@ -100,7 +100,7 @@ def _size(cell: Any) -> float:
     try:
         size = float(cell)
     except (TypeError, ValueError):
-        raise TypeError(f"cell: a number is wanted, and not {shortened(cell)}") from None
+        raise TypeError(f"cell: expected a number, not {shortened(cell)}") from None
     if not 1 <= size <= 1000:
         raise ValueError(f"cell is {shortened(cell)} (allowed: 1 to 1000)")
     return size
@@ -281,7 +281,7 @@ class _Canvas:
         last = middles[1] if len(middles) > 1 else (2 * x - first[0], 2 * y - first[1])
         return self.polyline([first, place, last])
 
-    def clusters(self, names: List[int], sizes: Dict[int, int]) -> None:
+    def clusters(self, names: List[int], sizes: Mapping[int, int]) -> None:
         large = [name for name, size in sizes.items() if size > 1][: len(_CLUSTER_COLOURS)]
         rest = [spin for spin, name in enumerate(names) if name not in large]
         for place, name in enumerate(large):

@@ -43,6 +43,10 @@ if TYPE_CHECKING:
     Integers = Union[Iterable[Whole], AnyIntegers]
     Couplings = Union[Integers, Tuple[AnyIntegers, AnyIntegers]]
     Triples = Union[Iterable[Sequence[Whole]], AnyIntegers]
+    TorusCouplings = Tuple[
+        Union[Sequence[Sequence[Whole]], AnyIntegers], Union[Sequence[Sequence[Whole]], AnyIntegers]
+    ]
+    TerminalLists = Union[Iterable[Union[Iterable[Hashable], Integers]], BoolArray]
     Pairs = Union[Iterable[Sequence[Whole]], AnyIntegers]
     Real = Union[float, int, Fraction]
     Reals = Union[Iterable[Real], NDArray[numpy.floating[Any]], AnyIntegers]

@@ -82,7 +82,7 @@ class Verdict(Answer):
 
     >>> import ising2d
     >>> print(ising2d.check("square", 1, 2, [7], 7, [1, 1], []))
-    no: the spins have the energy -7, and not the stated one
+    no: the spins have the energy -7, not the stated one
     """
 
     number: int

@@ -26,12 +26,12 @@ def need(holds: object, reason: str) -> None:
         raise ValueError(reason)
 
 def whole(value: Any, least: int = -(2**70), most: int = 2**70) -> int:
-    need(type(value) is int and least <= value <= most, f"{value!r:.40} is no whole number in its range")
+    need(type(value) is int and least <= value <= most, f"{value!r:.40} is not a whole number in range")
     return int(value)
 
 def lattice(kind: str, rows: int, cols: int) -> Tuple[Any, Any]:
     """The ends of the bonds of a lattice, and the darts of each spin in cyclic order."""
-    need(kind in ("square", "triangular", "hexagonal", "cylinder"), "the kind is none")
+    need(kind in ("square", "triangular", "hexagonal", "cylinder"), "there is no such kind")
     ends: List[Tuple[int, int]] = []
     around = [[-1] * 6 for _ in range(rows * cols)]
     # Steps down and right, and their places in the order east, north, north-west, west, south, south-east.
@@ -53,11 +53,11 @@ def instance(line: Any) -> Tuple[Any, Any, Any]:
         for dart in range(2 * len(ends)):
             own[ends[dart // 2][dart % 2]].append(dart)
         listed = [sorted(whole(dart) for dart in darts) for darts in rotation]
-        need(len(rotation) == n and listed == own, "the rotation has not the darts of each spin, each once")
+        need(len(rotation) == n and listed == own, "the rotation does not list the darts of each spin, each once")
         return ends, [whole(j) for _, _, j in bonds], rotation
     rows, cols = whole(line["rows"], 1), whole(line["cols"], 3 if line["kind"] == "cylinder" else 1)
     ends, rotation = lattice(line["kind"], rows, cols)
-    need(len(line["couplings"]) == len(ends), "the number of couplings is another")
+    need(len(line["couplings"]) == len(ends), "the number of couplings differs")
     return ends, [whole(j) for j in line["couplings"]], rotation
 
 def judge_loops(ends: Any, couplings: Any, energy: int, loops: Any) -> None:
@@ -123,7 +123,7 @@ def judge(line: Any) -> None:
     """Raises ValueError, with the reason, if a line is not proved."""
     ends, couplings, rotation = instance(line)
     spins, energy = [whole(spin, -1, 1) for spin in line["spins"]], whole(line["energy"])
-    need(len(spins) == len(rotation) and all(spins), "there is not one spin of 1 or -1 for each")
+    need(len(spins) == len(rotation) and all(spins), "there is not one value of 1 or -1 for each spin")
     own = -sum(j * spins[u] * spins[v] for (u, v), j in zip(ends, couplings))
     need(energy == own, f"the spins have the energy {own}")
     if "nest" in line:

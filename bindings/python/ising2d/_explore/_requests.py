@@ -6,9 +6,9 @@ import time
 from fractions import Fraction
 from typing import Any, Callable, Dict, Optional, Sequence
 
-from .. import Graph, Instance, Lattice, Verdict, read
+from .. import Graph, Ground, Instance, Lattice, Verdict, read
 from .. import draw as drawn
-from ._droplets import forced
+from .._arrays import whole_numbers
 from ._exports import FORMS, NEST, exported
 from ._shapes import shape_of
 
@@ -35,7 +35,7 @@ class Members:
         """The member with this name."""
         value = self.given.get(name, default)
         if not isinstance(value, kind) or (kind is int and isinstance(value, bool)):
-            raise ValueError(f"{name}: {_KIND_NAMES[kind]} is wanted")
+            raise ValueError(f"{name}: expected {_KIND_NAMES[kind]}")
         return value
 
     def whole(self, name: str, low: int, high: int, default: Optional[int] = None) -> int:
@@ -44,13 +44,13 @@ class Members:
         if isinstance(value, str) and value.isascii() and value.isdecimal() and len(value) <= 20:
             value = int(value)
         if not isinstance(value, int) or isinstance(value, bool) or not low <= value <= high:
-            raise ValueError(f"{name}: a whole number from {low} to {high} is wanted")
+            raise ValueError(f"{name}: expected a whole number from {low} to {high}")
         return value
 
     def one_of(self, name: str, allowed: Sequence[str]) -> str:
         value = self.given.get(name)
         if not isinstance(value, str) or value not in allowed:
-            raise ValueError(f"{name}: one of {', '.join(allowed)} is wanted")
+            raise ValueError(f"{name}: expected one of {', '.join(allowed)}")
         return value
 
     def instance(self) -> Instance:
@@ -143,13 +143,14 @@ def force(given: Object) -> Object:
     instance, spins = own.instance(), own.of("spins", list)
     bond = own.whole("bond", 0, len(instance.couplings) - 1)
     if len(spins) != instance.n or any(value not in (1, -1) for value in spins):
-        raise ValueError(f"spins: {instance.n} values, each 1 or -1, are wanted")
-    found = forced(instance, bond, spins)
+        raise ValueError(f"spins: expected {instance.n} values, each 1 or -1")
+    state = Ground(instance.energy_of(spins), whole_numbers(spins, "int8", "spins"), (), instance)
+    found = instance.droplet(bond, state)
     return {
         "cost": found.cost,
-        "turned": found.turned,
-        "border": found.border,
-        "verdict": _verdict(found.verdict),
+        "turned": found.spins.tolist(),
+        "border": list(found.border),
+        "verdict": _verdict(found.forced.check()),
     }
 
 
@@ -196,11 +197,11 @@ REQUESTS: Dict[str, Callable[[Object], Object]] = {
 
 
 def object_of(body: bytes) -> Object:
-    """The object of a request's body. What is no object of JSON is a ``ValueError``."""
+    """The object of a request's body. What is not a JSON object is a ``ValueError``."""
     try:
         found = json.loads(body.decode("utf-8"))
     except (ValueError, RecursionError) as fault:
-        raise ValueError(f"the body is no JSON: {fault}") from None
+        raise ValueError(f"the body is not valid JSON: {fault}") from None
     if not isinstance(found, dict):
-        raise ValueError("the body is no object of JSON")
+        raise ValueError("the body is not a JSON object")
     return found

@@ -48,7 +48,7 @@ class Solvers:
         """What the call returns, or raises. Raises a ``Fault`` where it takes too long."""
         end = time.monotonic() + self.seconds
         if not self.places.acquire(timeout=self.seconds):
-            raise Fault(503, f"all {self.count} solver threads are busy with requests that were given up")
+            raise Fault(503, f"all {self.count} solver threads are busy with abandoned requests")
         done: "Future[Object]" = Future()
         try:
             threading.Thread(target=self._work, args=(done, call, given), daemon=True).start()
@@ -169,7 +169,7 @@ class _Handler(BaseHTTPRequestHandler):
             raise Fault(403, _STRANGER)
 
     def _path(self) -> str:
-        """What stands behind the token."""
+        """What follows the token."""
         return self.path[len(self.server.token) + 2 :]
 
     def _body(self) -> bytes:
@@ -266,7 +266,7 @@ def explore(name: Optional[str] = None, port: int = PORT, browser: bool = True) 
         return 4
     address = server.address + fragment
     print(address, flush=True)
-    _say("the page is served at this address, on this machine alone; Ctrl-C ends it")
+    _say("the page is served at this address, only on this machine; Ctrl-C ends it")
     if browser:
         threading.Thread(target=webbrowser.open, args=(address,), daemon=True).start()
     try:

@@ -24,7 +24,7 @@ async function copyLink() {
   const text = `${location.origin}${location.pathname}#${fragment}`;
   try {
     await navigator.clipboard.writeText(text);
-    say("The link is copied. After the server has ended, open it by: ising2d-py explore LINK");
+    say("The link is copied. After the server has stopped, open it by: ising2d-py explore LINK");
   } catch {
     say("The link is the address of this page.");
   }

@@ -37,7 +37,7 @@ class Scene {
     if (shown.marked) this.marks();
     if (shown.entry) this.entry();
     if (shown.wall) this.crossing(shown.wall, BLUE, "the wall");
-    if (shown.droplet && shown.droplet.border) this.crossing(shown.droplet.border, BLUE, "edge of the droplet");
+    if (shown.droplet && shown.droplet.border) this.crossing(shown.droplet.border, BLUE, "boundary of the droplet");
     if (shown.clusters) this.clusters();
     else if (shown.shows.spins && shown.spins) this.spins();
     if (shown.selected >= 0) this.selected();

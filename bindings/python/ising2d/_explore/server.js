@@ -12,7 +12,7 @@ async function ask(name, given) {
   try {
     reply = await fetch(`api/${name}`, { method: "POST", headers: { "Content-Type": "application/json" }, body });
   } catch {
-    throw new Error("the server does not answer: has it been ended?");
+    throw new Error("the server does not answer: is it still running?");
   }
   const found = await reply.json();
   if (!reply.ok) throw new Error(found.error);

@@ -11,7 +11,7 @@ function shown() {
   if (view === "wall" && app.wall) found.wall = app.wall.bonds;
   if (app.proof && app.proof.kind === view) Object.assign(found, shownProof());
   if (droplet) {
-    found.droplet = { turned: droplet.turned, border: droplet.border, title: "the droplet: spins that turn" };
+    found.droplet = { turned: droplet.turned, border: droplet.border, title: "the droplet: spins that flip" };
   } else if (view === "ground" && app.turned && app.turned.size) {
     found.droplet = { turned: app.turned, title: "differs from the state before" };
   }
@@ -113,21 +113,21 @@ function bondText() {
   const j = couplings[selected], spins = answer.spins;
   const product = spins[world.ends[2 * selected]] * spins[world.ends[2 * selected + 1]];
   const state = j === 0 ? "free" : j * product < 0 ? "broken" : "satisfied";
-  const alike = product > 0 ? "alike" : "unlike";
+  const alike = product > 0 ? "equal" : "opposite";
   let text = `Bond ${selected}, ${world.bondName(selected)}: coupling ${own(j)}, spins ${alike}, ${state}.`;
   if (app.edits.has(selected)) text += ` Drawn as ${own(world.base[selected])}.`;
-  if (app.costs) text += ` To turn it costs ${own(app.costs.values[selected])}.`;
+  if (app.costs) text += ` Flipping it costs ${own(app.costs.values[selected])}.`;
   if (world.seam.has(selected)) text += " It is in the seam.";
   if (droplet && droplet.bond === selected) text += ` ${dropletText(product)}`;
   return text;
 }
 
 function dropletText(product) {
-  const { cost, turned, border, verdict } = app.droplet, forced = product > 0 ? "unlike" : "alike";
+  const { cost, turned, border, verdict } = app.droplet, forced = product > 0 ? "opposite" : "equal";
   return [
-    `Forced to be ${forced} it costs ${own(cost)}: a droplet of ${grouped(turned.size)} spins turns,`,
-    `and its edge crosses ${border.length} bonds.`,
-    verdict.holds ? "Checked: no state with this bond turned costs less." : "The proof of this state fails.",
+    `Forced to be ${forced}, it costs ${own(cost)}: a droplet of ${grouped(turned.size)} spins flips,`,
+    `and its boundary crosses ${border.length} bonds.`,
+    verdict.holds ? "Checked: no state with this bond flipped costs less." : "The proof of this state fails.",
   ].join(" ");
 }
 
@@ -144,7 +144,7 @@ function showHistory() {
 
 // For each view the title, the text and the entries of what stands beside it.
 const PANELS = {
-  ground: () => ["What is seen", TEXTS.ground, []],
+  ground: () => ["What you see", TEXTS.ground, []],
   loops: () => {
     const entries = app.proof.entries.map(({ weight, note }, i) => [`${i + 1}. weight ${own(weight)}`, note]);
     return ["Loops, heaviest first", TEXTS.loops, entries];
@@ -158,21 +158,21 @@ const PANELS = {
     const { values, sorted } = app.costs, loose = sorted.filter((k) => values[k] === 0).length;
     const text = `${grouped(loose)} of ${grouped(values.length)} bonds cost nothing: they are satisfied in one
       ground state and broken in another. The cheapest others:`;
-    return ["Costs of turning a bond", text, sorted.slice(loose).map((k) => [app.world.bondName(k), own(values[k])])];
+    return ["Costs of flipping a bond", text, sorted.slice(loose).map((k) => [app.world.bondName(k), own(values[k])])];
   },
   clusters: () => {
     if (!app.clusters) return ["Rigid clusters", isSmall() ? TEXTS.wait : TEXTS.large, []];
     const { sorted, large } = app.clusters, others = sorted.filter(([, size]) => size > 1);
-    const text = `Spins that are tied to each other in all ground states: ${grouped(sorted.length)} clusters, of
+    const text = `Spins with fixed relative signs in all ground states: ${grouped(sorted.length)} clusters, of
       which ${grouped(sorted.length - others.length)} are single spins. The ${large.length} largest have a colour
-      and a form.`;
+      and a shape.`;
     const entries = others.map(([name, size]) => [`spin ${app.world.spinName(name)}`, `${grouped(size)} spins`]);
     return ["Rigid clusters", text, entries];
   },
   wall: () => {
     if (!app.wall) return ["Domain wall", app.world.seam.size ? TEXTS.wait : TEXTS.seam, []];
     const { periodic, antiperiodic, difference, bonds, verdicts } = app.wall;
-    const text = `With the signs of the seam changed the least energy is ${own(antiperiodic)} in place of
+    const text = `With the signs of the seam changed the least energy is ${own(antiperiodic)} instead of
       ${own(periodic)}: the wall costs ${own(difference)}, and crosses ${bonds.length} bonds.
       ${verdicts.every((each) => each.holds) ? "Both states are checked." : "A proof fails."}`;
     return ["Domain wall", text, bonds.map((k) => [app.world.bondName(k), own(app.couplings[k])])];
@@ -180,15 +180,15 @@ const PANELS = {
 };
 
 const TEXTS = {
-  ground: `A bond below 0 wants unlike spins. A face with an odd number of them is frustrated: in every assignment
-    it has a broken bond. Turn a sign, or force a bond, and see what follows.`,
+  ground: `A negative bond favours opposite spins. A face with an odd number of them is frustrated: every assignment
+    breaks one of its bonds. Flip a sign, or force a bond, and see what follows.`,
   loops: `A loop has an odd number of negative bonds: every assignment breaks one of its bonds. No bond carries more
-    than twice its size. So twice the broken bonds weigh at least what all loops do.`,
+    than twice its size. So twice the weight of the broken bonds is at least that of all loops.`,
   nest: `A region holds an odd number of frustrated faces: broken bonds of every assignment lead out of it. Over a
-    bond all regions climb at most its size. So the broken bonds weigh at least what all radii do.`,
-  wait: "Being worked out.",
+    bond all regions together climb at most its size. So the broken bonds weigh at least as much as all radii.`,
+  wait: "Computing.",
   seam: "Only a cylinder, or a graph with a seam, has a wall.",
-  large: `Answered up to ${COSTS_UP_TO} spins. Force a bond to learn what this one costs.`,
+  large: `Available up to ${COSTS_UP_TO} spins. Force a bond to see its cost.`,
 };
 
 function showPanel() {
