@@ -12,11 +12,9 @@ part that called it; memory that is waited for does not count there. A part is a
 (PARTS): what the compiler has put into its caller counts for that.
 """
 import argparse
-import array
 import collections
 import math
 import pathlib
-import random
 import re
 import shutil
 import subprocess
@@ -24,9 +22,8 @@ import sys
 import tempfile
 import time
 
-here = pathlib.Path(__file__).resolve().parent
-top = here.parents[1]
-LIBRARY = top / "built" / "libising2d.so"
+import stopwatch
+from stopwatch import LIBRARY
 
 # The parts in the order in which they come, each with the beginnings of its functions' names. Of two that
 # fit the longer decides.
@@ -42,7 +39,7 @@ PARTS = {
     "spins and energy": ("sg_ground", "sg_planar::spins"),
 }
 OTHER, OUTSIDE = "lists and the rest", "memory (C library)"
-# How long the calls of a small lattice are repeated by perf, in seconds of processor time.
+# How long the calls of a small lattice are repeated by perf, in seconds of CPU time.
 LONG_ENOUGH = 2.0
 
 
@@ -52,24 +49,9 @@ def part_of(name):
     return max(fits)[1] if fits else None
 
 
-def lattice_bonds(kind, side):
-    """How many bonds a lattice of so many rows and columns has."""
-    grid = 2 * side * (side - 1)
-    return {"square": grid, "triangular": grid + (side - 1) ** 2, "cylinder": grid + side}[kind]
-
-
-def write_couplings(path, law, count):
-    draw = random.Random(1)
-    values = [draw.choice((-1, 1)) if law == "pm" else draw.randint(-(2**20), 2**20) for _ in range(count)]
-    path.write_bytes(array.array("q", values).tobytes())
-
-
-def inner(kind, side, path, least):
-    """Solves the lattice until so many seconds are gone, and prints what a call takes."""
-    sys.path.insert(0, str(top / "bindings" / "python"))
-    import ising2d
-    couplings = array.array("q", pathlib.Path(path).read_bytes())
-    lattice = ising2d.Lattice(kind, int(side), int(side), couplings)
+def inner(kind, law, side, least):
+    """Solves a lattice until so many seconds are gone, and prints what a call takes."""
+    lattice = stopwatch.package().draw(law, 1, kind, int(side), int(side))
     begun, calls = time.process_time(), 0
     while calls == 0 or time.process_time() - begun < float(least):
         lattice.ground(nest=True)
@@ -77,8 +59,8 @@ def inner(kind, side, path, least):
     print((time.process_time() - begun) / calls)
 
 
-def words_of(kind, side, path, least):
-    return [sys.executable, __file__, "inner", kind, str(side), str(path), str(least)]
+def words_of(kind, law, side, least):
+    return [sys.executable, __file__, "inner", kind, law, str(side), str(least)]
 
 
 def seconds_of(words):
@@ -171,8 +153,7 @@ def main():
             for law in said.laws.split(","):
                 for spins in map(int, said.spins.split(",")):
                     side = math.isqrt(spins)
-                    write_couplings(room / "couplings", law, lattice_bonds(kind, side))
-                    counts, seconds = looked(room, words_of(kind, side, room / "couplings", LONG_ENOUGH))
+                    counts, seconds = looked(room, words_of(kind, law, side, LONG_ENOUGH))
                     columns.append((f"{kind} {law}", side * side, counts, seconds))
     print(f"{'':26}" + "".join(f"{name:>18}" for name, _, _, _ in columns))
     print(f"{'spins':26}" + "".join(f"{spins:18}" for _, spins, _, _ in columns))

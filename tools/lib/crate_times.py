@@ -1,15 +1,14 @@
 #!/usr/bin/env python3
-"""Measures what the crates cost in processor time: their proofs, their tests with the proofs of these, and
-their wrong bodies.
+"""Measures the CPU time of the crates: their proofs, their tests with the proofs of these, and their mutants.
 
   tools/measure crates [--write]           runs the gate, and prints a row a crate, in minutes
   tools/measure crates --build [--write]   builds the program as ./ising2d does, and prints the seconds of each proof
 
-Twice a second it looks at what runs below the command, and gives the processor time of each process to the
-crate that its words name. What rt has kept of earlier runs on this machine is not done again, so the times
-are whole where nothing of these files has been proved yet. With --write the rows go into CONTRIBUTING, or
-the seconds into tools/lib/seconds, by which tools/build tells the time that is left. Beside other work the times
-are longer, by a quarter and more. The exit status is that of the command.
+Twice a second it looks at the processes below the command, and adds the CPU time of each to the crate that its
+words name. What rt has kept of earlier runs on this machine is not done again, so the times are complete only if
+nothing of these files has been proved before. With --write the rows go into docs/COSTS.md, or the seconds into
+tools/lib/seconds, from which tools/build predicts the time left. Other load makes the times longer, by a quarter
+and more. The exit status is that of the command.
 """
 import collections
 import os
@@ -24,9 +23,9 @@ from processes import crate_of, fields_of, is_below, running
 
 TOP = pathlib.Path(__file__).resolve().parents[2]
 SECONDS = TOP / "tools" / "lib" / "seconds"
-PAGE = TOP / "CONTRIBUTING.md"
+PAGE = TOP / "docs" / "COSTS.md"
 TABLE = re.compile(r"(<!-- times -->\n).*?(<!-- end of times -->\n)", re.S)
-KINDS = ("proof", "tests", "wrong bodies")
+KINDS = ("proof", "tests", "mutants")
 # How often it looks, in seconds.
 EVERY = 0.5
 TICKS = os.sysconf("SC_CLK_TCK")
@@ -39,14 +38,14 @@ def listed():
 
 
 def kind_of(process, words):
-    """What a check is for: rt tries a wrong body in a folder of its own."""
+    """What a check is for: rt tries a mutant in a folder of its own."""
     if os.readlink(process / "cwd").startswith(os.path.join(tempfile.gettempdir(), "rt-edit-")):
         return KINDS[2]
     return KINDS[1] if "--test" in words else KINDS[0]
 
 
 class Meter(threading.Thread):
-    """Adds up what the processes below a root take, while it runs."""
+    """Adds up the CPU time of the processes below a root, while it runs."""
 
     def __init__(self, root):
         super().__init__(daemon=True)
@@ -63,11 +62,11 @@ class Meter(threading.Thread):
 
     def look(self, process):
         crate, words = crate_of(process)
-        # What reads all sources before the first proof is of no crate.
+        # The process that reads all sources before the first proof belongs to no crate.
         if crate is None or "--only" in words or not is_below(int(process.name), self.root):
             return
         fields = fields_of(process.name)
-        # The number of a process is used again, but not with the same time of its start.
+        # Process numbers are reused, but not with the same start time.
         name = process.name, fields[19]
         if name not in self.spent:
             self.spent[name] = [crate, kind_of(process, words), 0.0]
@@ -96,7 +95,7 @@ def write_rows(rows):
 
 
 def write_seconds(sums):
-    """Puts the seconds of the proofs into the file, beside those of other crates that stand there."""
+    """Puts the seconds of the proofs into the file, and keeps those of other crates."""
     lines = SECONDS.read_text(encoding="utf-8").splitlines()
     head = [it for it in lines if it.startswith("#")]
     table = dict(it.split() for it in lines if it and not it.startswith("#"))
@@ -116,7 +115,7 @@ def main(words):
         try:
             command.wait()
         except KeyboardInterrupt:
-            # The command has heard it too; what it took so far is printed.
+            # The command has been interrupted too; what it took so far is printed.
             command.wait()
         meter.over.set()
     sums = meter.sums()

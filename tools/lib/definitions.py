@@ -1,261 +1,197 @@
 #!/usr/bin/env python3
-"""Tests the pages: that docs/DEFINITIONS.md names every public definition, and each in the file where it
-stands; that no two definitions have one name; that the README is a front page, with the commands of
-docs/PROMISES.md; that the tables of crates have each crate once, and that the clauses that docs/PROMISES.md
-names are there; and that no link of a page is dead.
-Part of the gate; it needs Python alone.
+"""Writes and tests the parts of the pages that list what the sources have: the definitions (docs/DEFINITIONS.md), the
+crates (docs/ARCHITECTURE.md), the limits (docs/FORMATS.md) and the clauses of a run (docs/PROMISES.md). Part of the
+gate; it needs Python alone.
 
   tools/docs definitions
-  tools/docs definitions --write    writes the lists of parts
+  tools/docs definitions --write
 
-The heading of a section names its crates, as (`crates/sg_model/specs`), or one file, as
-(`crates/sg_walk/specs/Walk`). In a table the first column has the names and the last one the files:
-`Bond` is specs/Bond.antt of a crate of the section, `specs/Stream` and `src/devices.rt` are files of the
-crate, and `sg_slack`'s `Members` is a file of another crate. A first column with no backticks is a notion,
-of which only the file is looked for. In a paragraph each word in backticks that begins with a capital is a
-name, which stands in the file behind it, as in `FitsFaces inst faces bonds` (`BrokenLists`), or else in one of
-the section. A name may have arguments. Which definitions are public tools/lib/specs.py says. Those of a crate
-that no table and no paragraph names stand in the list of parts behind the mark `parts: CRATE`, with the words
-that stand above them in their files.
+The index of definitions has, for each public one, the first sentence of the comment above it, and the private ones by
+file; tools/lib/specs.py says which are public. What a crate is for comes from crates.txt, and the limits from
+crates/sg_limits/specs/Limits.antt.
 
-A line for each fault, and last `N passed, N failed`; the exit status is 0 where none failed.
+A line for each fault, and last `N passed, M failed`; the exit status is 0 if none failed.
 """
 import re
-import runpy
 import sys
 
 sys.dont_write_bytecode = True
+import generated
 import specs
 
-top = specs.TOP
-DEFINED = re.compile(r"^(?:pub )?(?:abbrev|unfoldable|record|data)(?: pub)? ([A-Za-z_]\w*)", re.M)
-DECLARED = re.compile(r"^\s*(?:pub )?(?:fn|ghost|trait|struct|enum) ([A-Za-z_]\w*)", re.M)
+TOP = specs.TOP
+PAGES = {"DEFINITIONS.md": ("index", "private"), "ARCHITECTURE.md": ("crates",), "FORMATS.md": ("limits",)}
+# The limits that are of no interest to users: they bound numbers inside a computation.
+INNER = ("forced_limit", "cost_limit", "text_limit")
+# What happens beyond a limit, if the program has it.
+BEYOND = {
+    "spin_limit": "refused, 7",
+    "bond_limit": "refused, 8",
+    "sum_limit": "refused, 13",
+    "input_limit": "refused, 1",
+    "json_limit": "refused, 20",
+    "sample_limit": "`usage`",
+    "width_limit": "`usage`",
+    "large_spin_limit": "refused, 7",
+    "large_bond_limit": "refused, 8",
+}
+SENTENCE = re.compile(r"(?<=[a-z)`\]])\. (?=[A-Z`])")
 WORDS = re.compile(r"`([^`]+)`")
-BEHIND = re.compile(r"`([A-Z]\w*)[^`]*` \(`([A-Z]\w*)`\)")
-LINK = re.compile(r"\[[^\]]*\]\(([^)\s]+)\)")
-TOOL = re.compile(r"`((?:tools|bindings)/[\w./-]*\w)")
-PARTS = re.compile(r"^<!-- parts: (.*) -->\n(?:- .*\n)*", re.M)
-PRIVATE = "## Private definitions"
-# The most lines of a front page.
-LINES = 90
-PAGE = top / "docs" / "DEFINITIONS.md"
 
 passed = failed = 0
-# The definitions that the page names: the file and the name of each.
-named = set()
 
 
-def judge(line, good, what, page="docs/DEFINITIONS.md"):
+def judge(good, what, page):
     global passed, failed
-    passed += good
+    passed += bool(good)
     failed += not good
     if not good:
-        print(f"{page}:{line}: {what}", flush=True)
+        print(f"{page}: {what}", flush=True)
 
 
-def names_in(path):
-    """The names that a file defines."""
-    text = path.read_text()
-    return set((DECLARED if path.suffix == ".rt" else DEFINED).findall(text))
+def crates():
+    """The groups of crates.txt, each with its crates and what they are for."""
+    groups, last = [], None
+    for line in (TOP / "crates.txt").read_text(encoding="utf-8").splitlines():
+        head, crate = re.match(r"# ([a-z ]+)$", line), re.match(r"(\w+)[^:#]*:[^#]*(?:# (.*))?$", line)
+        if head:
+            groups.append((head[1], []))
+        if crate:
+            groups[-1][1].append((crate[1], crate[2] or ""))
+    return groups
 
 
-def files_named(word, crates):
-    """The files that a word of the last column can mean."""
-    if word.startswith("src/"):
-        places = [crate / word for crate in crates]
-    else:
-        places = [crate / "specs" / (word.removeprefix("specs/") + ".antt") for crate in crates]
-    return [place for place in places if place.is_file()]
+def crate_rows(group):
+    """The table of a group of crates."""
+    rows = dict(crates())[group]
+    return ["| crate | what it is for |", "|---|---|", *(f"| `{name}` | {what} |" for name, what in rows)]
 
 
-def files_of(cell, crates, last, line):
-    """The files of the last column of a row; `last` are those of the row before it."""
-    if cell == "the same":
-        return last
-    of_other = re.match(r"`(\w+)`'s ", cell)
-    if of_other:
-        crates, cell = [top / "crates" / of_other[1]], cell[of_other.end():]
-    found = []
-    for word in WORDS.findall(cell):
-        some = files_named(word, crates)
-        judge(line, some != [], f"there is no file {word}")
-        found += some
-    judge(line, found != [], "the row names no file")
-    return found
+def value_of(text):
+    """A limit as its definition has it, and as one number if that is another text."""
+    power = text.replace("^", "**")
+    number = str(eval(power, {"__builtins__": {}}))
+    return text if text == number else f"{text} = {number}"
 
 
-def found_in(name, files):
-    """Whether one of the files defines the name, which the page has named then."""
-    own = [file for file in files if name in names_in(file)]
-    named.update((file, name) for file in own)
-    return own != []
+def limits(known):
+    """The limits: what each bounds, its number, and its definition."""
+    for it in known.definitions.values():
+        if it.crate == "sg_limits" and it.name not in INNER:
+            yield it, value_of(it.text.rpartition("= ")[2].strip())
 
 
-def row(cells, crates, last, line):
-    """One row of a table. Gives the files that it names."""
-    files = files_of(cells[-1], crates, last, line)
-    for word in WORDS.findall(cells[0].split(" of `")[0]):
-        name = word.split()[0]
-        judge(line, found_in(name, files), f"{name} is not defined in {cells[-1]}")
-    return files
+def limit_rows(known):
+    rows = ["| limit | at most | beyond it | definition |", "|---|---|---|---|"]
+    for it, number in limits(known):
+        rows.append(f"| {it.comment} | {number} | {BEYOND.get(it.name, 'no proof')} | `{it.name}` |")
+    return rows
 
 
-def paragraph(text, files, crates, line):
-    """A paragraph, over the files of its section."""
-    behind = dict(BEHIND.findall(text))
-    for name in dict.fromkeys(re.findall(r"`([A-Z]\w*)(?: [^`]*)?`", text)):
-        if name in behind.values():
-            judge(line, files_named(name, crates) != [], f"there is no file {name}")
-            continue
-        where = files_named(behind[name], crates) if name in behind else files
-        judge(line, found_in(name, where), f"{name} is not defined in {behind.get(name, 'the files of its section')}")
+def sentence_of(it):
+    """The first sentence of the comment above a definition."""
+    return SENTENCE.split(it.comment)[0]
 
 
-def heading(text, line):
-    """The crates of a section, and the files in which its paragraphs look for names."""
-    crates, files = [], []
-    for word in WORDS.findall(text):
-        parts = word.split("/")
-        crate = top / "crates" / parts[1]
-        judge(line, parts[0] == "crates" and crate.is_dir(), f"there is no crate {word}")
-        own = crate / "specs" / (parts[3] + ".antt") if len(parts) > 3 else None
-        judge(line, own is None or own.is_file(), f"there is no file {word}")
-        crates.append(crate)
-        files += sorted((crate / "specs").glob("**/*.antt"))
-    return crates, files
+def by_file(known, keys):
+    """Definitions by crate, in the order of crates.txt, and in each by file."""
+    for _, group in crates():
+        for crate, _ in group:
+            own = [known.definitions[key] for key in keys if key[0] == crate]
+            files = sorted({it.file for it in own})
+            if files:
+                yield crate, [(file, sorted((it for it in own if it.file == file), key=lambda it: it.line)) for file in files]
 
 
-def definitions():
-    """The names of docs/DEFINITIONS.md, up to its table of private definitions."""
-    crates, files, last = [], [], []
-    page = PARTS.sub(lambda match: "\n" * match[0].count("\n"), PAGE.read_text()).partition(PRIVATE)[0]
-    for line, text in enumerate(page.splitlines(), 1):
-        if text.startswith("## "):
-            crates, files = heading(text, line)
-        elif text.startswith("| ") and not text.startswith("| definition"):
-            last = row([cell.strip() for cell in text.strip("| ").split(" | ")], crates, last, line)
-        elif text and not text.startswith(("|", "#", " ")):
-            paragraph(text, files, crates, line)
+def index(known):
+    """The public definitions: a heading for each crate, a line for each file, an item for each definition."""
+    lines = []
+    for crate, files in by_file(known, known.public()):
+        lines += ["", f"### {crate}"]
+        for file, own in files:
+            lines += ["", f"[{own[0].module}](../{file.relative_to(TOP)})", ""]
+            lines += [f"- `{it.name}`: {sentence_of(it)}" for it in own]
+    return [*lines[1:], ""]
 
 
-def with_parts():
-    """The page with its lists of parts, and the public definitions that it does not name even so."""
-    known = specs.Specs()
-    left = {key for key in known.public() if (known.definitions[key].file, key[2]) not in named}
-
-    def made(match):
-        lines = [f"<!-- parts: {match[1]} -->"]
-        for crate in match[1].split():
-            own = [known.definitions[key] for key in left if key[0] == crate]
-            lines += [part(crate, module, own) for module in sorted({it.module for it in own})]
-            left.difference_update(it.key() for it in own)
-        return "\n".join(lines) + "\n"
-
-    return PARTS.sub(made, PAGE.read_text()), left
+def private(known):
+    """The private definitions: a row for each crate and file."""
+    rows = ["| crate | file | its private definitions |", "|---|---|---|"]
+    for crate, files in by_file(known, known.definitions.keys() - known.public()):
+        for file, own in files:
+            rows.append(f"| {crate} | [{own[0].module}](../{file.relative_to(TOP)}) | {', '.join(f'`{it.name}`' for it in own)} |")
+    return rows
 
 
-def part(crate, module, own):
-    """The line of a file in a list of parts."""
-    here = sorted((it for it in own if it.module == module), key=lambda it: it.line)
-    texts = [f"`{it.name}`" + (f" ({it.comment})" if it.comment else "") for it in here]
-    return f"- {crate} [{module}](../{here[0].file.relative_to(top)}): {', '.join(texts)}"
+def makers(known):
+    return {
+        "index": lambda _: index(known),
+        "private": lambda _: private(known),
+        "crates": crate_rows,
+        "limits": lambda _: limit_rows(known),
+    }
 
 
-def complete():
-    """Each public definition has been named, or stands in a list of parts."""
-    page, left = with_parts()
-    judge("", page == PAGE.read_text(), "the lists of parts are not what tools/docs definitions --write makes of them")
-    for key in sorted(left):
-        judge("", False, f"{'.'.join(key)} is public, and has no line")
+def page(name, known):
+    """A page with its parts anew, as it is and as it should be."""
+    own = {kind: maker for kind, maker in makers(known).items() if kind in PAGES[name]}
+    text = (TOP / "docs" / name).read_text(encoding="utf-8")
+    return text, generated.filled(text, own)
 
 
-def own_names():
+def parts(known):
+    """Each page has the parts that the sources make, and each group of crates has its table."""
+    for name in PAGES:
+        old, new = page(name, known)
+        judge(old == new, "it is not what tools/docs definitions --write makes of it", f"docs/{name}")
+        for kind in PAGES[name]:
+            judge(f"<!-- {kind}" in old, f"no part has the mark {kind}", f"docs/{name}")
+    text = (TOP / "docs" / "ARCHITECTURE.md").read_text(encoding="utf-8")
+    for group, rows in crates():
+        judge(f"<!-- crates: {group} -->" in text, f"the crates of {group} have no table", "docs/ARCHITECTURE.md")
+        for crate, what in rows:
+            judge(what, f"it does not say what {crate} is for", "crates.txt")
+
+
+def own_names(known):
     """No two definitions have one name, but for `holds` (docs/DECISIONS.md)."""
-    names = [key[2] for key in specs.Specs().definitions]
+    names = [key[2] for key in known.definitions]
     twice = sorted(name for name in set(names) - {"holds"} if names.count(name) > 1)
-    judge("", twice == [], f"several definitions are called {', '.join(twice)}", "crates/*/specs")
+    judge(twice == [], f"several definitions are called {', '.join(twice)}", "crates/*/specs")
 
 
-def crates_listed():
-    """Each crate of crates.txt has one row in the tables of crates."""
-    crates = re.findall(r"^(\w+)[^:#]*:", (top / "crates.txt").read_text(), re.M)
-    for page in ("docs/ARCHITECTURE.md", "docs/PROMISES.md"):
-        rows = re.findall(r"^\| ((?:`\w+`(?:, )?)+) \|", (top / page).read_text(), re.M)
-        shown = WORDS.findall(" ".join(rows))
-        for crate in crates:
-            judge("", shown.count(crate) == 1, f"{crate} has {shown.count(crate)} rows", page)
-
-
-def front():
-    """The README is a front page, and its table of commands has those of docs/PROMISES.md, each with a
-    definition of what is answered that is there."""
-    lines = (top / "README.md").read_text().splitlines()
-    judge(len(lines), len(lines) <= LINES, f"a front page has at most {LINES} lines", "README.md")
-    rows = re.findall(r"^\| `(\w+)[^`]*` \| .* \| `(\w+)` \|$", "\n".join(lines), re.M)
-    promised = re.findall(r"^\| `([a-z]+)` \| [^|]* \|$", (top / "docs" / "PROMISES.md").read_text(), re.M)
-    judge("", [row[0] for row in rows] == promised, "the commands are not those of docs/PROMISES.md", "README.md")
-    specs_of = [
-        names_in(file)
-        for crate in ("sg_cli", "sg_draws")
-        for file in sorted((top / "crates" / crate / "specs").glob("*.antt"))
-    ]
-    for command, name in rows:
-        judge("", name in set().union(*specs_of), f"{command} has no definition {name}", "README.md")
+def sentences(known):
+    """Each public definition has a sentence of its own."""
+    for key in sorted(known.public()):
+        it = known.definitions[key]
+        judge(it.comment, f"{it.name} has no sentence above it", it.place())
 
 
 def clauses():
-    """Each clause, function and type that docs/PROMISES.md names of a crate is there."""
-    page = "docs/PROMISES.md"
-    for line, text in enumerate((top / page).read_text().splitlines(), 1):
-        match = re.match(r"\| `(\w+)` \| .* \| (.*) \|$", text)
-        source = top / "crates" / match[1] / "src" if match else top
-        if source == top or not source.is_dir():
-            continue
-        code = "\n".join(file.read_text() for file in sorted(source.glob("**/*.rt")))
-        known = set(re.findall(r"(?:ensures|fn|struct|enum|trait|type) (\w+)", code))
-        for word in WORDS.findall(match[2]):
-            judge(line, word.split("::")[-1] in known, f"{match[1]} has no {word}", page)
+    """Each clause, function and type that a table of docs/PROMISES.md names of a crate is there. The head of the
+    column names the crate or the function, as `answer`."""
+    text = (TOP / "docs" / "PROMISES.md").read_text(encoding="utf-8")
+    code = "\n".join(file.read_text(encoding="utf-8") for file in sorted(TOP.glob("crates/sg_*/src/**/*.rt")))
+    known = set(re.findall(r"(?:ensures|fn|struct|enum|trait|type) (\w+)", code))
+    for table in re.findall(r"^\| promise \| clause.*\n(?:\|.*\n)*", text, re.M):
+        for row in table.splitlines()[2:]:
+            for word in WORDS.findall(row.split(" | ")[1]):
+                judge(word in known, f"there is no clause or function {word}", "docs/PROMISES.md")
 
 
-def pictures():
-    """The picture of a nest is the one that its script makes, and the nest on it proves its join."""
-    made = runpy.run_path(str(top / "docs" / "pictures" / "nest.py"))
-    made["assert_proof"]()
-    page = "docs/pictures/nest.svg"
-    judge("", "\n".join(made["drawing"]()) + "\n" == (top / page).read_text(), "it is not what nest.py draws", page)
+def main(words):
+    known = specs.Specs()
+    if words == ["--write"]:
+        for name in PAGES:
+            (TOP / "docs" / name).write_text(page(name, known)[1], encoding="utf-8")
+        return 0
+    parts(known)
+    own_names(known)
+    sentences(known)
+    clauses()
+    print(f"{passed} passed, {failed} failed")
+    return 1 if failed else 0
 
 
-def marks(path):
-    """What a link may name behind `#` on a page: its headings and its anchors."""
-    text = path.read_text()
-    heads = [re.sub(r"[^\w\- ]", "", head.lower()).replace(" ", "-") for head in re.findall(r"^#+ (.*)$", text, re.M)]
-    return set(heads) | set(re.findall(r'<a id="([^"]+)">', text))
-
-
-def all_pages():
-    return [*sorted(top.glob("*.md")), *sorted(top.glob("docs/*.md")), *sorted(top.glob("tools/*.md")), *sorted(top.glob("examples/**/*.md"))]
-
-
-def links():
-    """No page of the repository has a dead link, and none names a tool that is not there."""
-    for page in all_pages():
-        for line, text in enumerate(page.read_text().splitlines(), 1):
-            for target in LINK.findall(text):
-                name, _, mark = target.partition("#")
-                if "://" in name:
-                    continue
-                file = page.parent / name if name else page
-                good = file.exists() and (not mark or mark in marks(file))
-                judge(line, good, f"the link {target} leads nowhere", page.relative_to(top))
-            for name in TOOL.findall(text):
-                judge(line, (top / name).exists(), f"there is no {name}", page.relative_to(top))
-
-
-definitions()
-if sys.argv[1:] == ["--write"]:
-    PAGE.write_text(with_parts()[0])
-    sys.exit(0)
-for test in (complete, own_names, front, crates_listed, clauses, pictures, links):
-    test()
-print(f"{passed} passed, {failed} failed")
-sys.exit(0 if failed == 0 else 1)
+if __name__ == "__main__":
+    sys.exit(main(sys.argv[1:]))

@@ -32,6 +32,12 @@ def drawn(seed, most=2**20):
     return lambda *_: below(most)
 
 
+def powers(seed):
+    """Powers of 2 up to 2^19, drawn whatever they are asked for."""
+    below = generator(seed)
+    return lambda *_: 2**below(20)
+
+
 def always(w):
     return lambda *_: w
 
@@ -305,6 +311,71 @@ def polygon_drawn(n, seed, rim, inside):
         x = u + 1 + below(v - u - 1)
         open_sides += [(u, x), (x, v)]
     return on_circle(n, chords, rim, inside)
+
+
+def drawn_from(n, faces, size, seed):
+    """A graph on a sphere from its faces, each the cycle of its spins in one sense of rotation, so that each bond
+    has one face on either side. Couplings are of drawn sign."""
+    after, number, ends = {}, {}, []
+    for face in faces:
+        for before, here, there in zip(face[-1:] + face[:-1], face, face[1:] + face[:1]):
+            after[here, there] = before
+            if (there, here) not in number:
+                number[here, there] = len(ends)
+                ends.append((here, there))
+    sign = generator(seed)
+    bonds = [(u, v, size(k) * (1 if sign(2) else -1)) for k, (u, v) in enumerate(ends)]
+    lists, first = [[] for _ in range(n)], {u: v for v, u in reversed(list(after))}
+    for x, start in first.items():
+        there = start
+        while not lists[x] or there != start:
+            lists[x].append(2 * number[x, there] if (x, there) in number else 2 * number[there, x] + 1)
+            there = after[x, there]
+    lines = [f"general,{n}"] + [f"bond,{u},{v},{j}" for u, v, j in bonds]
+    lines += [",".join(["rot", str(x)] + list(map(str, darts))) for x, darts in enumerate(lists)]
+    return Planar(model.Instance("\n".join(lines + ["end"]) + "\n", n, bonds))
+
+
+def stacked(n, seed):
+    """The triangles of a graph of n spins, each of which comes into a drawn triangle: some have very many bonds."""
+    below, faces = generator(seed), [[0, 1, 2], [0, 2, 1]]
+    for x in range(3, n):
+        place = below(len(faces))
+        a, b, c = faces[place]
+        faces[place] = [a, b, x]
+        faces += [[b, c, x], [c, a, x]]
+    return faces
+
+
+def crossed_squares(side, seed):
+    """The triangles of a square lattice with one of the diagonals of each square, and the face outside."""
+    below, spin, faces = generator(seed), lambda r, c: r * side + c, []
+    for r in range(side - 1):
+        for c in range(side - 1):
+            a, b, d, e = spin(r, c), spin(r, c + 1), spin(r + 1, c + 1), spin(r + 1, c)
+            faces += [[a, b, d], [a, d, e]] if below(2) else [[a, b, e], [b, d, e]]
+    last = side - 1
+    rim = [spin(0, c) for c in range(last)] + [spin(r, last) for r in range(last)]
+    rim += [spin(last, last - c) for c in range(last)] + [spin(last - r, 0) for r in range(last)]
+    return faces + [rim[::-1]]
+
+
+def dual_faces(faces):
+    """The faces of the dual of a graph of triangles: its spins are the triangles."""
+    left, sides = {}, {}
+    for k, face in enumerate(faces):
+        for here, there in zip(face, face[1:] + face[:1]):
+            left[here, there] = k
+            sides.setdefault(here, there)
+    found = []
+    for x, start in sides.items():
+        cycle, there = [], start
+        while not cycle or there != start:
+            face = faces[left[x, there]]
+            cycle.append(left[x, there])
+            there = face[face.index(x) - 1]
+        found.append(cycle)
+    return found
 
 
 # Patterns of graphs: rows of copies of a small piece, with hubs.
@@ -586,6 +657,15 @@ def planar_families():
         families[f"{kind}, of many sizes"] = lambda n, kind=kind: tailed(kind, math.isqrt(n), math.isqrt(n), 39)
     families["triangular, 2 rows, of many sizes"] = lambda n: tailed("triangular", 2, n // 2, 40)
     families["polygon in triangles at a spin, drawn"] = lambda n: polygon_fan(n, lambda i: 1 + drawn(i)(), lambda k: 1 + drawn(-k)())
+    for name, sizes in (("signs drawn", lambda: always(1)), ("drawn", lambda: drawn(41)), ("of many sizes", lambda: powers(41))):
+        families[f"stacked triangles, {name}"] = lambda n, sizes=sizes: drawn_from(n, stacked(n, 42), sizes(), 43)
+        families[f"dual of stacked triangles, {name}"] = lambda n, sizes=sizes: drawn_from(
+            2 * (n // 2), dual_faces(stacked(n // 2 + 2, 44)), sizes(), 45)
+        families[f"squares with drawn diagonals, {name}"] = lambda n, sizes=sizes: drawn_from(
+            math.isqrt(n)**2, crossed_squares(math.isqrt(n), 46), sizes(), 47)
+    families["wheel of spins, drawn"] = lambda n: drawn_from(
+        n, [[0, x, x % (n - 1) + 1] for x in range(1, n)] + [list(range(n - 1, 0, -1))], drawn(48), 49)
+    families["cylinder of 2 rows, drawn"] = lambda n: signs("cylinder", 2, n // 2, 50, 2**20)
     for rows in range(2, 9):
         families[f"Villain's strip of {rows} rows"] = lambda n, rows=rows: villain(rows, n // rows)
         families[f"triangular strip of {rows} rows"] = lambda n, rows=rows: antiferromagnet(rows, n // rows)

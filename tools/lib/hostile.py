@@ -4,22 +4,23 @@ that fail, inputs cut short or changed, forged proofs, inputs of the densest kin
 
   tools/attack [PROGRAM] [--groups memory,space,devices,cut,changed,forged,drawn,peaks] [--count 1000]
 
-PROGRAM is built/ising2d where none is named. A line for each case; the exit status is 0 where each
+PROGRAM is built/ising2d by default. A line for each case; the exit status is 0 where each
 came out as it must. The groups `memory` and `space` need a C compiler.
 """
 import argparse
 import os
 import pathlib
 import pty
-import resource
 import subprocess
 import sys
 import tempfile
 
-here = pathlib.Path(__file__).resolve().parent
-sys.path.insert(0, str(here))
 import model
 import rules
+import stopwatch
+import trials
+
+here = pathlib.Path(__file__).resolve().parent
 
 SQUARE = "square,2,2\n3,4\n2,-5\nend\n"
 RING = "cylinder,1,3\n5,7,2\nend\n"
@@ -36,27 +37,10 @@ def say(group, case, good, what):
     print(f"{group:8} {'right' if good else 'WRONG':6} {case}: {what}", flush=True)
 
 
-def run(words, text="", env=None, limit=None):
-    """The status, standard output, standard error and peak memory in kilobytes of one run."""
-    with tempfile.TemporaryFile() as source:
-        source.write(text.encode())
-        return run_on(source, words, env, limit)
-
-
-def run_on(source, words, env=None, limit=None):
-    """The same, on a file. The peak is at least that of this process, so files are written in pieces."""
-    def set_limit():
-        if limit is not None:
-            resource.setrlimit(resource.RLIMIT_AS, (limit * 1024, limit * 1024))
-    with tempfile.TemporaryFile() as out, tempfile.TemporaryFile() as err:
-        source.seek(0)
-        child = subprocess.Popen([program] + words, stdin=source, stdout=out, stderr=err,
-                                 env={**os.environ, **(env or {})}, preexec_fn=set_limit)
-        _, status, used = os.wait4(child.pid, 0)
-        child.returncode = os.waitstatus_to_exitcode(status)
-        out.seek(0)
-        err.seek(0)
-        return child.returncode, out.read().decode(), err.read().decode(), used.ru_maxrss
+def run(words, text="", env=None, space=None):
+    """The status, standard output and standard error of one run."""
+    ran = stopwatch.run([program, *words], text, env, space)
+    return ran.status, ran.out, ran.err
 
 
 RUNS = [
@@ -93,7 +77,7 @@ def memory():
         requests = int(run(words, text, {"LD_PRELOAD": library, "COUNT_ALLOC": "1"})[2])
         wanting = answered = wrong = 0
         for number in range(1, requests + 1):
-            status, out, err, _ = run(words, text, {"LD_PRELOAD": library, "FAIL_ALLOC": str(number)})
+            status, out, err = run(words, text, {"LD_PRELOAD": library, "FAIL_ALLOC": str(number)})
             if (status, out, err) == (NO_MEMORY, "", ""):
                 wanting += 1
             elif (status, out) == wanted and err == "":
@@ -113,7 +97,7 @@ def space():
         counts = {"answered": 0, "wanting": 0, "not started": 0, "wrong": 0}
         limit = 40_000
         while limit > 1_000:
-            status, out, err, _ = run(words, text, limit=limit)
+            status, out, err = run(words, text, space=1024 * limit)
             if (status, out, err) == (NO_MEMORY, "", ""):
                 counts["wanting"] += 1
             elif (status, out) == wanted:
@@ -168,7 +152,7 @@ def agrees(command, text):
     wanted, read = rules.answer(command, text)
     with tempfile.TemporaryFile() as source:
         source.write(text)
-        status, out, err, _ = run_on(source, [command])
+        status, out, err = run([command], source)
     lines = out.splitlines()
     if err or not lines or lines[0] != wanted or status != (3 if wanted[:3] == "no," else wanted[:7] == "refused"):
         return False
@@ -238,7 +222,7 @@ def forged():
         printed = run(["ground"], instance.text)[1]
         bonds, stated = with_one_change(draw, instance, model.result(printed))
         other = with_couplings(instance, bonds)
-        status, out, _, _ = run(["check"], other.text + stated.text())
+        status, out, _ = run(["check"], other.text + stated.text())
         is_proof = model.proves(other, stated)
         if (status, out) == (0, "yes\n") and is_proof:
             accepted += 1
@@ -257,12 +241,7 @@ def drawn():
     for number in range(said.count):
         instance = model.drawn(draw, 45 if number % 50 == 0 else 8)
         largest = max(largest, instance.n)
-        status, out, err, _ = run(["ground"], instance.text)
-        stated = model.result(out)
-        good = status == 0 and err == "" and model.proves(instance, stated) and stated.spins[0] == 1
-        good = good and 2 * len(stated.loops) <= 5 * len(instance.bonds)
-        good = good and run(["check"], instance.text + out)[1] == "yes\n"
-        wrong += not good
+        wrong += trials.fault(program, instance, few=0) is not None
     say("drawn", f"{said.count} instances, the largest of {largest} spins", wrong == 0, f"{wrong} wrong")
 
 
@@ -295,13 +274,13 @@ def peaks():
                 source.write((piece * times).encode())
             source.write(tail.encode())
             length = source.tell()
-            status, out, err, peak = run_on(source, words)
-        say("peaks", name, err == "" and status == wanted,
-            f"{length >> 20} MiB, status {status} {out[:40]!r}, peak {peak >> 10} MiB, {peak * 1024 / length:.1f} times the input")
+            ran = stopwatch.run([program, *words], source)
+        say("peaks", name, ran.err == "" and ran.status == wanted,
+            f"{length >> 20} MiB, status {ran.status} {ran.out[:40]!r}, peak {ran.peak >> 20} MiB, {ran.peak / length:.1f} times the input")
 
 
 ask = argparse.ArgumentParser()
-ask.add_argument("program", nargs="?", default=str(here.parents[1] / "built" / "ising2d"))
+ask.add_argument("program", nargs="?", default=str(stopwatch.PROGRAM))
 ask.add_argument("--groups", default="memory,space,devices,cut,changed,forged,drawn,peaks")
 ask.add_argument("--count", type=int, default=1000)
 ask.add_argument("--megabytes", type=int, default=400)

@@ -28,6 +28,12 @@ def lattice_ends(kind, rows, cols):
     return across + down + (slant if kind == "triangular" else [])
 
 
+def bond_count(kind, rows, cols):
+    """How many bonds a lattice has, of a kind but the hexagonal one."""
+    grid = rows * (cols if kind == "cylinder" else cols - 1) + (rows - 1) * cols
+    return grid + (rows - 1) * (cols - 1) * (kind == "triangular")
+
+
 def lattice(kind, rows, cols, couplings):
     ends = lattice_ends(kind, rows, cols)
     values = [couplings(k) for k in range(len(ends))]

@@ -1,21 +1,21 @@
 #!/usr/bin/env python3
-"""On how many drawn lattices and webs the judges say yes to what is proposed, at first and once more.
+"""On how many drawn lattices and graphs the judges accept the proposal, and on how many the retry.
 Outside the gate.
 
   tools/measure proposals [--count 20000] [--webs 100000]
   tools/measure proposals --large [--sides 1000x100,100x316]
 
-Without `--large` the tests `drawn_lattices` and `drawn_webs` of crates/sg_trials are run in a copy of the
-repository with more trials; it needs `rt`. They ask for both proposals, with cuts and with nests, and stop
-at the first that a judge says no to, and name it; each web is also put beside the matching, and each small
-lattice beside all assignments. Many of them have ties: couplings 1 and -1, zeros, equal weights.
+Without `--large` it runs the tests `drawn_lattices` and `drawn_webs` of crates/sg_trials in a copy of the
+repository with more trials; it needs `rt`. They make the proposal and the retry, with cuts and with nests, and
+stop at the first that a judge rejects; each graph is also compared with the matching, and each small lattice
+with all assignments. Many of them have ties: couplings 1 and -1, zeros, equal weights.
 
-With `--large` so many lattices of so many rows and columns are solved by built/libising2d.so
-(bindings/build), squares, triangular lattices and cylinders by turns, of four laws, and gdb counts how
-often the judge of nests is asked, twice where the first proposal was refused, and how often terminals are
-matched, which they are where both were. It needs gdb, and no numpy.
+With `--large` built/libising2d.so (bindings/build) solves the given numbers of lattices of the given sides,
+alternating squares, triangular lattices and cylinders of four laws. gdb counts how often the judge of nests is
+called, twice if the first proposal was rejected, and how often terminals are matched, which happens if both
+were. It needs gdb, and no numpy.
 
-The exit status is 0 where each proposal was accepted.
+The exit status is 0 if each proposal was accepted.
 """
 import argparse
 import array
@@ -27,20 +27,15 @@ import sys
 import tempfile
 
 import hits
-
-root = pathlib.Path(__file__).resolve().parents[2]
-LIBRARY = root / "built" / "libising2d.so"
+import model
+import stopwatch
+from stopwatch import LIBRARY, TOP
 SHAPES, LATTICES, WEBS = 10, "for trial in 0..20 {\n            let text = drawn(", "for trial in 0..150u32 {"
 # What the names of the functions begin with that are counted.
 JUDGE, MATCHING = "sg_nest::judge::Judge::proves", "sg_tjoin::matched::matched_join"
 
 KINDS = ("square", "triangular", "cylinder")
-LAWS = {
-    "pm": lambda draw: draw.choice((-1, 1)),
-    "zeros": lambda draw: draw.choice((-1, 0, 1)),
-    "few": lambda draw: draw.randint(-4, 4),
-    "uniform": lambda draw: draw.randint(-(2**20), 2**20),
-}
+LAWS = ("one size", "with zeros", "with ties", "drawn")
 
 
 def with_trials(path, loop, few, many):
@@ -58,8 +53,8 @@ def small(said):
         copy = pathlib.Path(room) / "repo"
         copy.mkdir()
         for name in ("crates.txt", "HANDLES"):
-            shutil.copy(root / name, copy)
-        shutil.copytree(root / "crates", copy / "crates", ignore=shutil.ignore_patterns("out"))
+            shutil.copy(TOP / name, copy)
+        shutil.copytree(TOP / "crates", copy / "crates", ignore=shutil.ignore_patterns("out"))
         crate = copy / "crates" / "sg_trials"
         with_trials(crate / "src" / "least.rt", LATTICES, "0..20", f"0..{trials}")
         with_trials(crate / "src" / "webs.rt", WEBS, "0..150u32", f"0..{said.webs}u32")
@@ -70,19 +65,13 @@ def small(said):
     return 0 if accepted else 1
 
 
-def bonds_of(kind, side):
-    """How many bonds a lattice of so many rows and columns has."""
-    return 2 * side * (side - 1) + {"square": 0, "triangular": (side - 1) ** 2, "cylinder": side}[kind]
-
-
 def solve(count, side):
     """Solves so many lattices; this is the process that gdb looks at."""
-    sys.path.insert(0, str(root / "bindings" / "python"))
-    import ising2d
+    ising2d = stopwatch.package()
     for trial in range(count):
-        kind, draw = KINDS[trial % len(KINDS)], random.Random(trial)
-        law = LAWS[list(LAWS)[trial // len(KINDS) % len(LAWS)]]
-        couplings = array.array("q", (law(draw) for _ in range(bonds_of(kind, side))))
+        kind, law = KINDS[trial % len(KINDS)], LAWS[trial // len(KINDS) % len(LAWS)]
+        coupling = model.LAWS[law](random.Random(trial))
+        couplings = array.array("q", map(coupling, range(model.bond_count(kind, side, side))))
         assert ising2d.Lattice(kind, side, side, couplings).ground(nest=True).nest is not None
     return 0
 

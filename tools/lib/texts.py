@@ -11,7 +11,7 @@ run that ends badly, leads to what is there. Part of the gate; it needs bash and
 In front of a table stands the mark `texts: OF ..`, with what its rows are of, as in the data. The columns in
 front come from the data, and the further ones are the page's own.
 
-A line for each fault, and last `N passed, M failed`; the exit status is 0 where none failed.
+A line for each fault, and last `N passed, M failed`; the exit status is 0 if none failed.
 """
 import ast
 import csv
@@ -177,6 +177,11 @@ class Definitions:
             found[int(number or 0)] = word, count
         return found
 
+    def places(self):
+        """The arguments of the library, each with its place."""
+        texts = self.texts.items()
+        return [found[0] for name, text in texts if (found := re.findall(r"^(\w+)_place = (\d+)$", text, re.M))]
+
     def number(self, name):
         """The value of a numeral."""
         found = self.find(r"^NAME = ([\d ^*+]+)$", name)
@@ -190,7 +195,9 @@ def by_the_definitions(known, defined):
     judge(numbers(known, "loops") == defined.cases("verdict_numbers"), "the verdicts are not those of verdict_numbers")
     members = {int(place): name for name, place in defined.find(r"^NAME (?:\w+\.)?(\w+) = (\d+)$", "place_of")}
     named = {place: MEMBERS.get(name, name.lower()) for place, name in members.items()}
-    judge({place: own.name for place, own in known["member"].items()} == named, "the members are not those of place_of")
+    # Arguments that the library alone has: each place is a definition of its own.
+    named |= {int(place): name for name, place in defined.places()}
+    judge({place: own.name for place, own in known["member"].items()} == named, "the members are not those of place_of and of NAME_place")
 
 
 def by_the_limits(known, defined):
@@ -230,7 +237,7 @@ def judged(name):
 
 def by_the_judge(known):
     """Every verdict on a join and on a walk is one that the judge gives."""
-    for of, name in (("join", "on_join"), ("walk", "on_walk"), ("cuts", "_on_cuts")):
+    for of, name in (("join", "on_edges"), ("walk", "on_walk"), ("cuts", "_on_cuts")):
         wanted = {number: own for number, own in numbers(known, of).items() if number or of == "cuts"}
         found = {number: own for number, own in judged(name).items() if number}
         judge(wanted == found, f"the verdicts of {of} are not those of {name}", "bindings/python/ising2d/_judging.py")

@@ -6,20 +6,17 @@ all joins, and whose cuts are judged by plain arithmetic. Outside the gate.
 
   tools/attack trials [PROGRAM] [--joins | --costs] [--count 100000] [--seed 1] [--few 12] [--most 40]
 
-PROGRAM is built/ising2d where none is named. One in four instances has up to MOST spins or nodes, and
+PROGRAM is built/ising2d by default. One in four instances has up to MOST spins or nodes, and
 the others have up to FEW, so that all their assignments or joins can be tried. With --costs each
 instance has up to FEW spins, and what `bonds` and `clusters` answer is put beside all its assignments.
 A line for each wrong answer and for each kind at the end; the exit status is 0 where nothing was wrong.
 """
 import argparse
 import collections
-import pathlib
-import subprocess
 import sys
 
-here = pathlib.Path(__file__).resolve().parent
-sys.path.insert(0, str(here))
 import model
+import stopwatch
 
 
 def lattice(draw, kind, most, couplings):
@@ -42,21 +39,23 @@ def drawn(draw, most):
 
 
 def run(program, word, text):
-    ran = subprocess.run([program, word], input=text.encode(), stdout=subprocess.PIPE, close_fds=False)
-    return ran.returncode, ran.stdout.decode()
+    ran = stopwatch.run([program, word], text)
+    return ran.status, ran.out
 
 
 def fault(program, instance, few):
-    """What is wrong with the answer, or None."""
-    status, text = run(program, "ground", instance.text)
-    if status != 0:
-        return f"status {status}: {text.strip()}"
-    stated = model.result(text)
+    """What is wrong with the answer of `ground`, or None."""
+    ran = stopwatch.run([program, "ground"], instance.text)
+    if ran.status != 0 or ran.err:
+        return f"status {ran.status}: {ran.out.strip()}{ran.err}"
+    stated = model.result(ran.out)
     if not model.proves(instance, stated):
         return "the loops do not prove the energy"
+    if stated.spins[0] != 1 or 2 * len(stated.loops) > 5 * len(instance.bonds):
+        return "the first spin is not 1, or there are too many loops"
     if instance.n <= few and stated.energy != model.least_energy(instance):
         return f"energy {stated.energy} is not the least, {model.least_energy(instance)}"
-    status, verdict = run(program, "check", instance.text + text)
+    status, verdict = run(program, "check", instance.text + ran.out)
     if (status, verdict) != (0, "yes\n"):
         return f"check says {verdict.strip()} with status {status}"
     return None
@@ -95,7 +94,7 @@ def drawn_web(draw, most):
 
 def main():
     ask = argparse.ArgumentParser()
-    ask.add_argument("program", nargs="?", default=str(here.parents[1] / "built" / "ising2d"))
+    ask.add_argument("program", nargs="?", default=str(stopwatch.PROGRAM))
     ask.add_argument("--joins", action="store_true")
     ask.add_argument("--count", type=int, default=100000)
     ask.add_argument("--seed", type=int, default=1)
@@ -124,4 +123,5 @@ def main():
     return 1 if wrong else 0
 
 
-sys.exit(main())
+if __name__ == "__main__":
+    sys.exit(main())

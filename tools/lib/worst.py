@@ -1,78 +1,51 @@
 #!/usr/bin/env python3
-"""The families of tools/lib/families.py, run by the built program: processor time, peak memory, and
-whether the proposal was accepted, so that a cliff is seen when it comes. Outside the gate.
+"""Runs the built program on the families of tools/lib/families.py: CPU time, peak memory, and whether the
+proposal was accepted. Outside the gate.
 
   tools/measure worst [--program built/ising2d] [--only WORD] [--commands ground,tjoin,postman]
               [--size 2048] [--runs 3] [--within SECONDS]
   tools/measure worst --library [--size 20000] [--only WORD] [--runs 3] [--within SECONDS]
   tools/measure worst --search MINUTES [--commands ground,tjoin] [--seed 1] [--nodes 384] [--size 2048]
+  tools/measure worst --search MINUTES --library [--seed 1] [--nodes 4000] [--size 20000]
   tools/measure worst --write FOLDER [--size 2048]
 
-A line for each family and command, the slowest last. Times are the least of some runs, the start of
-the program with them. A peak is at least that of this process, some 20 MB. The exit status is 0 where
-each run ended with an answer, within so many processor seconds (60 where none are said).
+It prints a line for each family and command, the slowest last. Times are the least of some runs and include
+the start of the program. A peak is at least that of this process, some 20 MB. The exit status is 0 if each run
+ended with an answer within the CPU seconds given (60 by default).
 
-Whether a proposal was accepted is seen from outside: by gdb, where it is at hand and the program
-names its functions, since a run that enters the matching was not accepted; else by the peak, since
-the matching has tables of 12 k n + 8 k^2 bytes for k terminals among n nodes, and a run with less
-memory cannot have made them. `?` stands where neither tells.
+Whether a proposal was accepted is observed from outside: by gdb, if it is installed and the program names its
+functions, since a run that enters the matching was not accepted; else by the peak, since the matching has
+tables of 12 k n + 8 k^2 bytes for k terminals among n nodes. `?` means that neither tells.
 
-With `--library` the families of instances are solved by built/libising2d.so (bindings/build), which
-takes up to 2^20 spins: one ground state with its nest, in the processor time of the call alone.
-Instances whose couplings sum to more than 2^44 at that size are refused, and left out.
+With `--library` built/libising2d.so (bindings/build) solves the families of instances, of up to 2^20 spins: one
+ground state with its nest; the time is the CPU time of the call. Instances whose couplings sum to more than 2^44
+at that size are left out.
 
-A search makes patterns, runs them at so many nodes, and climbs towards more time for each node and
-each end of an edge; what it climbs to is run at the full size. Each line that it prints is a family
-where it is put into tools/lib/families.py as it stands.
+A search makes patterns, runs them at the given number of nodes, and climbs towards more time for each node and
+edge end; its results are run at the full size. Each line that it prints is a family that can be put into
+tools/lib/families.py as it is. With `--library` it searches strips alone, by calls of the library.
 """
 import argparse
 import functools
-import os
 import pathlib
 import random
-import resource
-import signal
 import subprocess
 import sys
 import tempfile
 import time
 
-here = pathlib.Path(__file__).resolve().parent
-sys.path.insert(0, str(here))
 import families
 import hits
+import stopwatch
 
 # What the names of the matching's functions hold, whichever of them the compiler has left.
 MATCHING = ("sg_tjoin::matched", "sg_tjoin::matching", "sg_match::")
 
 
-class Run:
-    """How a run ended: its status, none where it took too long, its processor seconds and its peak
-    memory in bytes."""
-
-    def __init__(self, status, used):
-        self.status, self.seconds, self.peak = status, used.ru_utime + used.ru_stime, used.ru_maxrss * 1024
-
-
-def run(program, command, path, within):
-    """One run on a file. Its output is dropped, and beyond so many processor seconds it is ended."""
-    with open(path) as source:
-        child = subprocess.Popen([program, command], stdin=source, stdout=subprocess.DEVNULL,
-                                 stderr=subprocess.DEVNULL, close_fds=False)
-    resource.prlimit(child.pid, resource.RLIMIT_CPU, (within, within + 1))
-    _, status, used = os.wait4(child.pid, 0)
-    child.returncode = os.waitstatus_to_exitcode(status)
-    return Run(None if child.returncode in (-signal.SIGXCPU, -signal.SIGKILL) else child.returncode, used)
-
-
 def best_of(program, command, path, runs, within):
-    """A run with the least time of some. One that takes two seconds is not made again."""
-    least = run(program, command, path, within)
-    for _ in range(runs - 1):
-        if least.status == 0 and least.seconds < 2:
-            again = run(program, command, path, within)
-            least.seconds = min(least.seconds, again.seconds)
-    return least
+    """A run on a file with the least time of some, within so many CPU seconds each."""
+    with open(path) as source:
+        return stopwatch.quickest(runs, lambda: stopwatch.run([program, command], source, within=within))
 
 
 @functools.cache
@@ -153,32 +126,27 @@ def table(said):
 
 # The library.
 
-# Reads an instance, solves it so often, and prints the least processor seconds of a call.
-CALLER = """
-import sys, time
-sys.path.insert(0, sys.argv[1])
-import ising2d
-try:
-    instance = ising2d.read(open(sys.argv[2]).read())
-except ising2d.Refusal:
-    sys.exit(7)
-least = float("inf")
-for _ in range(int(sys.argv[3])):
-    start = time.process_time()
-    instance.ground(nest=True)
-    least = min(least, time.process_time() - start)
-    if least > 2:
-        break
-print(least)
-"""
+def caller(path, runs):
+    """Reads an instance, solves it so often, and prints the least CPU seconds of a call."""
+    ising2d = stopwatch.package()
+    least = float("inf")
+    try:
+        instance = ising2d.read(pathlib.Path(path).read_text())
+        for _ in range(int(runs)):
+            least = min(least, stopwatch.timed(lambda: instance.ground(nest=True))[1])
+            if least > 2:
+                break
+    except ising2d.Refusal:
+        return 7
+    print(least)
+    return 0
 
 
 def library_seconds(path, said):
-    """The processor seconds of a call of the library; a word in their place where there are none."""
-    words = [sys.executable, "-c", CALLER, here.parent / "bindings" / "python", path, str(said.runs)]
+    """The CPU seconds of a call of the library; a word in their place where there are none."""
+    words = [sys.executable, __file__, "caller", path, str(said.runs)]
     try:
-        told = subprocess.run(words, stdout=subprocess.PIPE, timeout=20 * said.within,
-                              env=dict(os.environ, ISING2D_LIBRARY=str(here.parent / "built" / "libising2d.so")))
+        told = subprocess.run(words, stdout=subprocess.PIPE, timeout=20 * said.within)
     except subprocess.TimeoutExpired:
         return "too long"
     if told.returncode:
@@ -279,11 +247,23 @@ class Strips:
         return made.text(self.command), made.instance.n + 2 * len(made.instance.bonds)
 
 
+class Call:
+    """How a call of the library ended, as a run: one that was refused took no time."""
+    peak = 0
+
+    def __init__(self, told):
+        self.seconds = told if isinstance(told, float) else 0.0
+        self.status = 0 if isinstance(told, float) or told == "refused" else None if told == "too long" else 1
+
+
 def timed(said, space, found, size, path, runs):
     """The run of a pattern at a size, and its microseconds for each node and each end of an edge."""
     text, ends = space.made(found, size)
     path.write_text(text)
-    least = best_of(said.program, space.command, path, runs, said.within)
+    if said.library:
+        least = Call(library_seconds(path, said))
+    else:
+        least = best_of(said.program, space.command, path, runs, said.within)
     return least, 1e6 * least.seconds / ends
 
 
@@ -307,7 +287,8 @@ def climb(said, space, path, until):
 
 def search(said):
     draw = random.Random(said.seed)
-    spaces = [space(draw) for space in (Graphs, Strips) if space.command in said.commands.split(",")]
+    commands = "ground" if said.library else said.commands
+    spaces = [space(draw) for space in (Graphs, Strips) if space.command in commands.split(",")]
     worst, wrong, until = {space.command: 0.0 for space in spaces}, 0, time.monotonic() + 60 * said.search
     with tempfile.TemporaryDirectory(prefix="worst-") as folder:
         path = pathlib.Path(folder) / "pattern"
@@ -321,14 +302,16 @@ def search(said):
             if least.status != 0 or least.seconds > 0.7 * worst[space.command]:
                 worst[space.command] = max(worst[space.command], least.seconds)
                 ends = "" if least.status == 0 else f", status {least.status}"
-                told = accepted(said.program, space.command, path, least.peak, said.within)
+                told = "?" if said.library else accepted(said.program, space.command, path, least.peak, said.within)
                 print(f'{space.command} {1000 * least.seconds:.1f} ms, {each:.2f} us each, accepted {told}{ends}: "{found.line()}",', flush=True)
     return 1 if wrong else 0
 
 
 def main():
+    if sys.argv[1:2] == ["caller"]:
+        return caller(*sys.argv[2:])
     ask = argparse.ArgumentParser()
-    ask.add_argument("--program", default=str(here.parents[1] / "built" / "ising2d"))
+    ask.add_argument("--program", default=str(stopwatch.PROGRAM))
     ask.add_argument("--only", default="")
     ask.add_argument("--commands", default="ground,tjoin,postman")
     ask.add_argument("--size", type=int, default=families.SPINS)
@@ -343,9 +326,9 @@ def main():
     if said.write is not None:
         write(said.write, said.size, said.commands.split(","), said.only)
         return 0
-    if said.library:
-        return library(said)
-    return search(said) if said.search else table(said)
+    if said.search:
+        return search(said)
+    return library(said) if said.library else table(said)
 
 
 sys.exit(main())
