@@ -12,12 +12,12 @@ COLUMNS = 80
 # What each status of the header means.
 STATUSES = {
     "DONE": "Answered.",
-    "REFUSED": "The numbers are refused; the line that says why is written, as in REFUSALS of ising2d(1).",
+    "REFUSED": "The numbers are refused; the line that says why is written (REFUSALS of ising2d(1)).",
     "USAGE": "From ising2d_c_run: the words name no command.",
-    "NO": "A proof that is judged fails.",
-    "NO_PROOF": "No proof was found within the memory that is allowed.",
+    "NO": "The judged proof fails.",
+    "NO_PROOF": "No proof was found within the allowed memory.",
     "NO_MEMORY": "Out of memory; no result is written.",
-    "NO_WORDS": "From ising2d_c_run: the last word is not ended by a byte 0.",
+    "NO_WORDS": "From ising2d_c_run: the last word does not end with a byte 0.",
 }
 MARK = re.compile(r'^\.\\" (texts: \w+|members|functions|statuses|example)$', re.M)
 

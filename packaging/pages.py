@@ -11,8 +11,9 @@ GUIDES = {
     "FORMATS.md": "inputs, answers, refusals, verdicts and exit statuses",
     "ENCODING.md": "your problem as an instance",
     "STUDIES.md": "studies by scripts, over many samples",
-    "METHOD.md": "the method and its papers",
+    "ALGORITHM.md": "the algorithm and its papers",
     "TOUR.md": "a tour with pictures",
+    "GLOSSARY.md": "the terms of these pages",
 }
 LINK = re.compile(r"(!?)\[([^\]]*)\]\(([^)\s]+)\)")
 SENTENCE = re.compile(r"(?<=[.:])\s(?=[A-Z`(])")
@@ -116,8 +117,9 @@ def pages():
     """The packed pages and pictures: the new place of each by its old one."""
     found = {f"docs/{name}": name for name in GUIDES if (TOP / "docs" / name).exists()}
     found["CHANGELOG.md"] = "CHANGELOG.md"
-    for file in sorted((TOP / "docs" / "tour").glob("*.svg")):
-        found[str(file.relative_to(TOP))] = f"tour/{file.name}"
+    for folder in ("tour", "pictures"):
+        for file in sorted((TOP / "docs" / folder).glob("*.svg")):
+            found[str(file.relative_to(TOP))] = f"{folder}/{file.name}"
     for file in example_files():
         found[str(file.relative_to(TOP))] = str(file.relative_to(TOP))
     return found
