@@ -11,7 +11,7 @@ set -eu
 
 case ${1:-} in
 '' | *[!0-9]*)
-    echo "lot.sh: the number of a lot is wanted, and not '${1:-}'" >&2
+    echo "lot.sh: expected the number of a lot, not '${1:-}'" >&2
     exit 2
     ;;
 esac
