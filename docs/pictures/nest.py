@@ -1,5 +1,5 @@
 #!/usr/bin/env python3
-"""Draws docs/pictures/nest.svg, the nest of docs/ARCHITECTURE.md: its regions from above, and the heights of
+"""Draws docs/pictures/nest.svg, the nest of docs/ALGORITHM.md: its regions from above, and the heights of
 all regions over two edges and a way of two. Every number on it is worked out here from the nest, by the
 definitions of crates/sg_nest/specs/Nest.antt, and that the nest proves the join is asserted before anything
 is drawn. It needs Python alone, and gives the same file on every machine.

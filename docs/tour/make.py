@@ -1,17 +1,19 @@
 #!/usr/bin/env python3
 """Makes docs/TOUR.md with its pictures: every number and picture of the page comes from here.
 
-    PYTHONPATH=bindings/python python3 docs/tour/make.py [--walls] [--times]
+    PYTHONPATH=bindings/python python3 docs/tour/make.py [--walls] [--times] [--codes]
 
-It needs the library (bindings/build), numpy and matplotlib. The wall energies are drawn and the times
-measured again where that is asked for, which takes some minutes, and else read from docs/tour/walls.json
-and docs/tour/times.json; the times need networkx and scipy too.
+It needs the library (bindings/build), numpy and matplotlib. The wall energies are drawn, the times measured
+and the codes decoded again on request, which takes some minutes; otherwise they are read from
+docs/tour/walls.json, times.json and codes.json. The times need networkx and scipy too. docs/tour/large-walls.json
+is what the run writes that the page names.
 """
 
 import concurrent.futures
 import json
 import multiprocessing
 import sys
+import time
 from pathlib import Path
 
 import matplotlib
@@ -25,11 +27,15 @@ import ising2d
 import peers
 
 HERE = Path(__file__).resolve().parent
+sys.path.append(str(HERE.parent.parent / "examples" / "python"))
+import toric_code
 SIZES = (4, 6, 8, 12, 16, 24, 32, 44)
 LOTS, COUNT = 8, 1000
 LEAST_FITTED = 8
 HEIGHTS = (0.4, 0.5, 0.6, 0.7)
 LITERATURE = -0.28
+SHOTS = 20000
+THRESHOLD = 0.1031
 
 
 def walls_of(task):
@@ -113,6 +119,29 @@ def stiffness_picture(rows, slope, error, intercept):
     saved(figure, "stiffness.svg")
 
 
+def codes():
+    """For each size of the toric code and each error rate how often decoding fails, and the error bar; and the CPU
+    time of a T-join in microseconds."""
+    draws, begun = numpy.random.default_rng(103), time.process_time()
+    rows = [
+        (d, rate, *map(float, toric_code.failure_rate(d, rate, SHOTS, draws)))
+        for d in toric_code.SIZES
+        for rate in toric_code.RATES
+    ]
+    return {"rows": rows, "micros": 1e6 * (time.process_time() - begun) / (SHOTS * len(rows))}
+
+
+def codes_picture(rows):
+    figure, axes = plot.subplots(figsize=(5, 3.4))
+    for d, colour in zip(toric_code.SIZES, ("#56B4E9", "#0072B2", "#009E73", "#D55E00")):
+        own = [(rate, mean, bar) for size, rate, mean, bar in rows if size == d]
+        x, y, bars = zip(*own)
+        axes.errorbar(x, y, bars, fmt="o-", color=colour, ms=3, capsize=2, label=f"d = {d}")
+    axes.axvline(THRESHOLD, linestyle="--", color="#222222", label=f"{THRESHOLD}, of the literature")
+    style(axes, "probability of an error", "logical error rate")
+    saved(figure, "codes.svg")
+
+
 def times_picture(times):
     figure, axes = plot.subplots(figsize=(5, 3.4))
     looks = (("ising2d", "o-", "#0072B2"), ("networkx", "s--", "#D55E00"), ("scipy", "^:", "#009E73"))
@@ -159,11 +188,38 @@ def shown(seconds):
 
 
 def table(times):
-    rows = ["| length | " + " | ".join(peers.NAMES.values()) + " |", "|---|" + "---|" * len(peers.NAMES)]
+    rows = ["| L | " + " | ".join(peers.NAMES.values()) + " |", "|---|" + "---|" * len(peers.NAMES)]
     for row in times:
         cells = (shown(row[name]) if row.get(name) is not None else "" for name in peers.NAMES)
         rows.append(f"| {row['size']} | " + " | ".join(cells) + " |")
     return "\n".join(rows)
+
+
+def code_table(rows):
+    """The failure rates, a row for each error rate and a column for each size."""
+    found = {(d, rate): f"{mean:.3f} ± {bar:.3f}" for d, rate, mean, bar in rows}
+    lines = ["| p | " + " | ".join(f"d = {d}" for d in toric_code.SIZES) + " |", "|---|" + "---|" * len(toric_code.SIZES)]
+    for rate in toric_code.RATES:
+        cells = " | ".join(found[d, rate] for d in toric_code.SIZES)
+        lines.append(f"| {rate} | {cells} |")
+    return "\n".join(lines)
+
+
+def large_walls():
+    """For each long lattice its length, the mean size of a wall energy and its error bar; and the samples and
+    the seconds."""
+    rows, more = [], []
+    for name, own in json.loads((HERE / "large-walls.json").read_text()).items():
+        law, size = name.split()
+        assert law == "uniform", law
+        found = ising2d.Ensemble.of(own["walls"])
+        rows.append((int(size), found.mean_size / 2**20, found.size_error / 2**20))
+        more.append((len(own["walls"]), own["seconds"]))
+    return rows, more
+
+
+def shown_minutes(seconds):
+    return f"{seconds / 60:.0f} minutes" if seconds >= 150 else f"{seconds:.0f} s"
 
 
 def kept(name, wanted, make):
@@ -177,13 +233,24 @@ def kept(name, wanted, make):
 def main():
     times = kept("times", "--times" in sys.argv, peers.measured)
     rows = kept("walls", "--walls" in sys.argv, stiffness)
+    decoded = kept("codes", "--codes" in sys.argv, codes)
     said = pictures()
     slope, error, intercept = fitted([row for row in rows if row[0] >= LEAST_FITTED])
     stiffness_picture(rows, slope, error, intercept)
     times_picture(times)
+    codes_picture(decoded["rows"])
     points = "\n".join(f"| {size} | {mean:.4f} ± {bar:.4f} |" for size, mean, bar in rows)
     said.update(points=points, slope=f"{slope:.3f}", error=f"{error:.3f}", least=LEAST_FITTED)
     said.update(samples=LOTS * COUNT, lots=LOTS, count=COUNT, times=table(times))
+    said.update(shots=SHOTS, micros=f"{decoded['micros']:.0f}", codes=code_table(decoded["rows"]))
+    large, more = large_walls()
+    slope, error, _ = fitted([row for row in [*rows, *large] if row[0] >= LEAST_FITTED])
+    said.update(large_slope=f"{slope:.3f}", large_error=f"{error:.3f}", large_most=large[-1][0])
+    said.update(large_sizes=",".join(str(row[0]) for row in large), large_counts=",".join(str(count) for count, _ in more))
+    said["large_points"] = "\n".join(
+        f"| {size} | {count} | {mean:.4f} ± {bar:.4f} | {shown_minutes(seconds)} |"
+        for (size, mean, bar), (count, seconds) in zip(large, more)
+    )
     text = (HERE / "TOUR.in.md").read_text()
     for name, value in said.items():
         text = text.replace("{" + name + "}", str(value))

@@ -1,4 +1,4 @@
-"""Other exact ways to a ground state of a square lattice, in Python, and the processor time that they take."""
+"""Other exact ways to a ground state of a square lattice, in Python, and the CPU time that they take."""
 
 import resource
 import statistics
@@ -82,7 +82,7 @@ WAYS = {"ising2d": by_ising2d, "networkx": by_networkx, "scipy": by_scipy}
 
 
 def measured():
-    """The processor seconds of each way at each length: the middle of some lattices, whose energies must agree."""
+    """The CPU seconds of each way at each length: the middle of some lattices, whose energies must agree."""
     rows = []
     for size in SIZES:
         lattices = [ising2d.draw("uniform", seed, "square", size, size) for seed in range(RUNS)]
