@@ -28,19 +28,19 @@
  *   19,1,0  there is no such kind
  *   19,3,0  there are no rows
  *   19,4,0  too few columns
- *   7,n     more than 1048576 spins, or more than `most_spins`
+ *   7,n     more than 4194304 spins, or more than `most_spins`
  *   6,found,wanted  the number of couplings differs
  *   19,6,k  coupling k is -2^63
  *
  * on a graph; one made of the tables of a lattice passes all but the limits of costs:
  *
  *   19,5,0  there are no spins
- *   7,n     more than 1048576 spins; for costs more than 2048
+ *   7,n     more than 4194304 spins; for costs more than 2048
  *   19,7,0  there are not two ends for each coupling
  *   19,7,k  an end of bond k is no spin, or its coupling is -2^63
  *   19,8,k  start k of the darts is wrong: the first is not 0, one is less than the one before it, or the
  *           last is not the number of darts; 19,8,0 if there are not n + 1
- *   8,3145729  more than 3145728 bonds; for costs 8,6145, more than 6144
+ *   8,12582913  more than 12582912 bonds; for costs 8,6145, more than 6144
  *   9,k     both ends of bond k are the same spin
  *   10,spin,dart  the darts of a spin are not those that leave it, each once
  *   11,bond  an entry of the seam does not exist, or is listed twice
@@ -54,7 +54,7 @@
  * of draws:
  *
  *   17      no law has the number
- *   8,3145729  more than 3145728 draws
+ *   8,12582913  more than 12582912 draws
  *
  * and for a check, of the proof:
  *
@@ -68,10 +68,10 @@
  * The checks on a weighted graph with terminals, in their order:
  *
  *   19,17,0  there are no nodes
- *   7,n     more than 1048576 nodes
+ *   7,n     more than 4194304 nodes
  *   19,18,0  there are not two ends for each weight
  *   19,18,k  an end of edge k is no node, or its weight is negative
- *   8,3145729  more than 3145728 edges
+ *   8,12582913  more than 12582912 edges
  *   19,19,k  start k of many lists is wrong, as above; 19,19,0 also if there is no start
  *   22,node  an entry of the terminals is no node, or is in the list twice
  *   21,count  a list has an odd number of terminals; of many lists, one after another is checked
@@ -117,7 +117,7 @@ extern "C" {
 #define ISING2D_UNIFORM 3
 
 /* The most spins or nodes of a graph, and of one whose costs are asked for. */
-#define ISING2D_MOST_SPINS 1048576
+#define ISING2D_MOST_SPINS 4194304
 #define ISING2D_MOST_SPINS_OF_COSTS 2048
 
 /* No region, for example as the parent of an outermost region. */
@@ -191,7 +191,7 @@ uint8_t ising2d_c_lattice(uint8_t kind, uint32_t rows, uint32_t cols, const int6
                           uint32_t *seam, size_t seam_room, ISING2D_LINE);
 
 /*
- * Writes the first `count` draws of a law after a seed, at most 3145728: the couplings of a lattice of so many
+ * Writes the first `count` draws of a law after a seed, at most 12582912: the couplings of a lattice of so many
  * bonds, in their order, as the program draws them with that seed. `law` is the number of the law.
  */
 uint8_t ising2d_c_draws(uint8_t law, uint64_t seed, size_t count, int64_t *couplings,
@@ -201,9 +201,9 @@ uint8_t ising2d_c_draws(uint8_t law, uint64_t seed, size_t count, int64_t *coupl
  * A graph, drawn on a sphere (for a check of loops, on any surface). The energy of an assignment is minus
  * the sum of coupling times both spins.
  *
- * n            the number of spins, 1 to 1048576 (for costs 2048), numbered from 0.
+ * n            the number of spins, 1 to 4194304 (for costs 2048), numbered from 0.
  * ends         two spins for each bond: bond k joins ends[2k] and ends[2k + 1]. At most
- *              3145728 bonds (for costs 6144).
+ *              12582912 bonds (for costs 6144).
  * couplings    one for each bond, in any unit.
  * dart_starts, darts  the drawing. Bond k has the dart 2k, which leaves its first end, and the dart
  *              2k + 1, which leaves its second. The darts that leave spin i, in cyclic order, are
@@ -287,8 +287,8 @@ uint8_t ising2d_c_nest_check(ISING2D_GRAPH, int64_t energy, const int8_t *spins,
  * A connected weighted graph, planar or not. A T-join of some nodes, the terminals, is a set of edges that meets a
  * node an odd number of times exactly if it is a terminal. A minimum T-join has the least weight.
  *
- * nodes        the number of nodes, 1 to 1048576, numbered from 0.
- * ends         two nodes for each edge: edge k connects ends[2k] and ends[2k + 1]. At most 3145728 edges, which may
+ * nodes        the number of nodes, 1 to 4194304, numbered from 0.
+ * ends         two nodes for each edge: edge k connects ends[2k] and ends[2k + 1]. At most 12582912 edges, which may
  *              be parallel or connect a node to itself.
  * weights      one for each edge, 0 or more, in any unit.
  *

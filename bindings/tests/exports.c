@@ -124,7 +124,7 @@ static uint8_t draws(const struct given *given, struct places *p) {
 
 static uint8_t too_many_draws(const struct given *given, struct places *p) {
     (void)given;
-    return ising2d_c_draws(ISING2D_ONE, 0, 3145729, p->draws, BONDS, TOLD(p));
+    return ising2d_c_draws(ISING2D_ONE, 0, 12582913, p->draws, BONDS, TOLD(p));
 }
 
 static uint8_t clusters(const struct given *given, struct places *p) {
@@ -382,7 +382,7 @@ static void unsaid(struct places *p) { (void)p; }
 static void yes(struct places *p) { text(p, "yes\n"); }
 static void no(struct places *p) { text(p, "no,2,-10\n"); }
 static void no_spin(struct places *p) { text(p, "refused,19,10,1\n"); }
-static void many(struct places *p) { text(p, "refused,8,3145729\n"); }
+static void many(struct places *p) { text(p, "refused,8,12582913\n"); }
 static void odd_terminals(struct places *p) { text(p, "refused,21,3\n"); }
 static void wrong_start(struct places *p) { text(p, "refused,19,19,2\n"); }
 

@@ -224,7 +224,7 @@ class WrongArguments(unittest.TestCase):
         with self.assertRaises(Refusal) as caught:
             ising2d.costs("square", 128, 129, [1] * 32767)
         self.assertEqual((caught.exception.number, caught.exception.kept), (7, (16512,)))
-        self.refused(7, (1049600,), "square", 1025, 1024, [])
+        self.refused(7, (4196352,), "square", 2049, 2048, [])
         self.refused(7, ((2**32 - 1) ** 2,), "square", 2**32 - 1, 2**32 - 1, [])
         self.refused(6, (3, 4), "square", 2, 2, [3, 4, 2])
         self.refused(6, (5, 4), "square", 2, 2, [3, 4, 2, -5, 1])

@@ -86,7 +86,7 @@ def spoiled(source, graph):
     change = source.randrange(9)
     spin = source.randrange(len(rotation))
     if change == 0:
-        n = source.choice((0, n - 1, n + 1, 2**20 + 1))
+        n = source.choice((0, n - 1, n + 1, 2**22 + 1))
     elif change == 1 and bonds:
         bonds[source.randrange(len(bonds))][source.randrange(2)] = source.choice((0, n, n - 1, 2**32 - 1))
     elif change == 2 and bonds:

@@ -34,7 +34,7 @@ class Texts(unittest.TestCase):
         (ising2d.ground, ("kagome", 2, 2, []), Refusal, ("'kagome'", "square, triangular")),
         (ising2d.ground, ("square", 0, 2, []), Refusal, ("rows", ": 0", "1 or more")),
         (ising2d.ground, ("cylinder", 2, 2, [1]), Refusal, ("columns", ": 2", "cylinder 3")),
-        (ising2d.ground, ("square", 1025, 1024, []), Refusal, ("1049600 spins", "at most 1048576")),
+        (ising2d.ground, ("square", 2049, 2048, []), Refusal, ("4196352 spins", "at most 4194304")),
         (ising2d.costs, ("square", 128, 129, []), Refusal, ("16512 spins", "at most 16384")),
         (ising2d.ground, ("square", 2, 2, [1]), Refusal, ("1 couplings", "lattice, 4")),
         (
@@ -80,7 +80,7 @@ class Texts(unittest.TestCase):
         (ising2d.tjoin, (0, [], []), Refusal, ("n is 0", "1 or more")),
         (ising2d.tjoin, (2, [(0, 1, -5)], []), Refusal, ("(0, 1, -5)", "weights of 0 or more")),
         (lambda: Graph(2, [(0, 1, 1)], [[0], [1]], [7]).wall(), (), Refusal, ("bond 7 of the seam", "bonds, each once")),
-        (ising2d.tjoin, (2**20 + 1, [], []), Refusal, ("1048577 nodes", "at most 1048576")),
+        (ising2d.tjoin, (2**22 + 1, [], []), Refusal, ("4194305 nodes", "at most 4194304")),
         (ising2d.tjoin, (2, [(0, 1, 2**45)], []), Refusal, ("the weights", str(2**45), "2**44")),
         (
             lambda: Graph(4, [(u, v, 1) for u in range(4) for v in range(u)]).ground(),
@@ -105,7 +105,7 @@ class Texts(unittest.TestCase):
         (ising2d.draw, ("diluted", 1, "square", 2, 2, 1.5), ValueError, ("p is 1.5", "0 to 1")),
         (ising2d.draw, ("pm", 1, "square", 2, 2, 0.5), ValueError, ("has none", "negative, diluted")),
         (ising2d.ensemble, ("pm", 1, 8, 2, 10), ValueError, ("cols is 2", "3 to")),
-        (ising2d.sample, ("pm", 1, 1025, 1024), ValueError, ("1049600 spins", "1048576")),
+        (ising2d.sample, ("pm", 1, 2049, 2048), ValueError, ("4196352 spins", "4194304")),
         (ising2d.run, ("ground",), TypeError, ("words", "'ground'")),
         (ising2d.run, (["ground"], 5), TypeError, ("input", "5")),
         (ising2d.run, (["a\0"],), ValueError, ("NUL",)),

@@ -291,7 +291,7 @@ static void try_graphs(void) {
     WITH((void)0, ISING2D_DONE, "answered");
     WITH(other.seam_len = 0, ISING2D_REFUSED, "refused,16\n");
     WITH(other.n = 0, ISING2D_REFUSED, "refused,19,5,0\n");
-    WITH(other.n = 1048577, ISING2D_REFUSED, "refused,7,1048577\n");
+    WITH(other.n = 4194305, ISING2D_REFUSED, "refused,7,4194305\n");
     WITH(other.n = UINT32_MAX, ISING2D_REFUSED, "refused,7,4294967295\n");
     WITH(other.ends_len = 7, ISING2D_REFUSED, "refused,19,7,0\n");
     WITH(other.ends_len = 0, ISING2D_REFUSED, "refused,19,7,0\n");
@@ -329,7 +329,7 @@ int main(void) {
     try_refusal(0, 0, 2, couplings, 4, 128, "refused,19,3,0\n");
     try_refusal(0, 2, 0, couplings, 4, 128, "refused,19,4,0\n");
     try_refusal(3, 2, 2, couplings, 4, 3, "refused,19,4,0\n");
-    try_refusal(0, 1024, 1025, couplings, 4, 128, "refused,7,1049600\n");
+    try_refusal(0, 2048, 2049, couplings, 4, 128, "refused,7,4196352\n");
     try_refusal(0, UINT32_MAX, UINT32_MAX, couplings, 4, 128, "refused,7,18446744065119617025\n");
     try_refusal(0, 2, 2, couplings, 3, 128, "refused,6,3,4\n");
     try_refusal(0, 2, 2, couplings, 0, 0, "refused,6,0,4\n");

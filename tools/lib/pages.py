@@ -34,7 +34,7 @@ SENTENCE = re.compile(r"(?<=[.:;])\s+")
 # The pages for readers of the code, whose names are looked for in crates/.
 CODE_PAGES = ("ALGORITHM.md", "ARCHITECTURE.md", "DEFINITIONS.md", "GLOSSARY.md", "PROMISES.md", "REFEREE.md")
 COMMANDS = "energy ground wall bonds clusters report ranges maxcut check tjoin postman gen sample ensemble widths".split()
-LIMIT = r"(?:2048|6144|2\^44|17592186044416|2\^29|536870912|2\^26|67108864|2\^20|1048576|3145728)"
+LIMIT = r"(?:2048|6144|2\^44|17592186044416|2\^29|536870912|2\^26|67108864|2\^22|4194304|12582912)"
 
 # Numbers of a page that stand in the sources: the page with a phrase of it, and the file with the text behind it.
 LIMITS = "crates/sg_limits/specs/Limits.antt"
@@ -43,7 +43,7 @@ NUMBERS = (
     ("README.md", "6144 bonds", LIMITS, "bond_limit = 6144"),
     ("README.md", "sum to 2^44", LIMITS, "sum_limit = 2 ^ 44"),
     ("README.md", "at most five for every two bonds", "crates/sg_check/specs/Packing.antt", "2 * length loops ≤ 5 * bond_count inst"),
-    ("docs/BINDINGS.md", "up to 2^20 spins", LIMITS, "large_spin_limit = 2 ^ 20"),
+    ("docs/BINDINGS.md", "up to 2^22 spins", LIMITS, "large_spin_limit = 2 ^ 22"),
     ("docs/COSTS.md", "12 k n + 8 k^2 bytes", "crates/sg_tjoin/specs/Allowance.antt", "terminals * (12 * nodes + 8 * terminals)"),
     ("docs/ALGORITHM.md", "12 k n + 8 k^2 bytes", "crates/sg_tjoin/specs/Allowance.antt", "terminals * (12 * nodes + 8 * terminals)"),
     ("docs/ALGORITHM.md", "allowance of 4 GiB", LIMITS, "table_limit = 2 ^ 32"),

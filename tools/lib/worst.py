@@ -17,7 +17,7 @@ Whether a proposal was accepted is observed from outside: by gdb, if it is insta
 functions, since a run that enters the matching was not accepted; else by the peak, since the matching has
 tables of 12 k n + 8 k^2 bytes for k terminals among n nodes. `?` means that neither tells.
 
-With `--library` built/libising2d.so (bindings/build) solves the families of instances, of up to 2^20 spins: one
+With `--library` built/libising2d.so (bindings/build) solves the families of instances, of up to 2^22 spins: one
 ground state with its nest; the time is the CPU time of the call. Instances whose couplings sum to more than 2^44
 at that size are left out.
 

@@ -12,7 +12,7 @@ its couplings, one for each bond: first all bonds to the east, row by row, then 
 the diagonals. Spin (r, c) has the number ``r * cols + c``. ``Graph`` is any other planar graph, by points
 with straight bonds, from networkx, or by a drawing. The energy is minus the sum of coupling times both
 spins. Couplings are whole numbers, whose sizes sum to at most 2**44; ``from_real`` takes real ones, and
-its answers have rigorous bounds. There are at most 2**20 spins; costs of all bonds, ranges of all bonds
+its answers have rigorous bounds. There are at most 2**22 spins; costs of all bonds, ranges of all bonds
 and reports take at most 2**14.
 
 Arrays are numpy's if numpy is installed, and read-only; else they are arrays of the module ``array``.

@@ -24,7 +24,7 @@ def ground(
     nest: Optional[bool] = None,
 ) -> Ground:
     """A ground state of a lattice, and what proves it: up to 2048 spins frustrated loops, and beyond
-    that, up to 2**20 spins, a nest of regions, whose size is that of the lattice. ``loops=True`` and
+    that, up to 2**22 spins, a nest of regions, whose size is that of the lattice. ``loops=True`` and
     ``nest=True`` ask for either.
 
     ``couplings`` has one whole number for each bond, of shape ``(bonds,)``, in any unit; ``Lattice`` says

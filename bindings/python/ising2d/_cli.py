@@ -137,7 +137,7 @@ _WORDS = {
 
 _BUNDLE_WORDS = {
     "LAW": "one, alternate, pm, uniform, gaussian, negative or diluted",
-    "ROWS": "1 or more, ROWS times COLS at most 1048576",
+    "ROWS": "1 or more, ROWS times COLS at most 4194304",
 }
 
 _LINES = (

@@ -139,7 +139,7 @@ def drawn_lattices(law: Any, seed: Any, kind: Any, rows: Any, cols: Any, p: Shar
 
 
 def draw(law: str, seed: Whole, kind: Kind, rows: Whole, cols: Whole, p: Share = None) -> Lattice:
-    """A lattice of up to 2**20 spins whose couplings are the first draws of the law after the seed, bond
+    """A lattice of up to 2**22 spins whose couplings are the first draws of the law after the seed, bond
     by bond, the same on every machine.
 
     ``law`` is "one" (1), "alternate", "pm" (1 or -1), "uniform" (from -2**20 to 2**20 - 1), "gaussian"
@@ -181,7 +181,7 @@ def ensemble(
     progress: Telling = None,
     threads: Optional[Whole] = None,
 ) -> Ensemble:
-    """The wall energies of ``count`` cylinders of up to 2**20 spins, which are drawn one after another. The
+    """The wall energies of ``count`` cylinders of up to 2**22 spins, which are drawn one after another. The
     laws are those of ``draw``. Cylinders that the program does not draw are solved side by side in
     ``threads``, by default as many as there are processors.
 

@@ -19,7 +19,7 @@ from ._nests import Nest, nest_of
 
 NAME = "libising2d.so"
 DONE, REFUSED, NO, NO_PROOF, NO_MEMORY = 0, 1, 3, 5, 6
-MOST_SPINS, MOST_BONDS = 2**20, 3 * 2**20
+MOST_SPINS, MOST_BONDS = 2**22, 3 * 2**22
 # The limit of the program, and of the calls for costs and clusters.
 PROGRAM_SPINS = 2048
 

@@ -100,7 +100,7 @@ class Instance(Model):
         """The cost of flipping each bond, in the unit of the couplings: an array of shape ``(bonds,)``. A
         bond is rigid if it costs more than 0.
 
-        With ``bonds``, a list of bond numbers, the costs of these bonds in their order, for up to 2**20
+        With ``bonds``, a list of bond numbers, the costs of these bonds in their order, for up to 2**22
         spins; a bond takes about as long as a ground state. Costs of all bonds are found for up to 2**14
         spins. ``bounds`` are known bounds to start from, those of a search that
         was stopped; wrong bounds give wrong costs. ``progress`` is called with the number of finished bonds
@@ -123,7 +123,7 @@ class Instance(Model):
         return own
 
     def clusters(self, progress: Telling = None) -> Clusters:
-        """The rigid clusters of up to 2**20 spins: for each spin the least spin of its cluster, and the
+        """The rigid clusters of up to 2**22 spins: for each spin the least spin of its cluster, and the
         sizes. ``progress`` is called now and then, with 0 and 1, and stops the waiting if it returns False."""
         return Clusters(self._awaited(progress, "clusters", _ffi.clusters_of), self)
 

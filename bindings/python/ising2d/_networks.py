@@ -56,7 +56,7 @@ _LARGE: Dict[int, str] = {
 class Network:
     """A weighted graph: ``n`` nodes from 0, and ``edges``, triples (a, b, weight) with weights of 0 or
     more, as a list or as an array of shape (edges, 3). It must be connected, and need not be planar;
-    edges may be parallel, and may join a node to itself. At most 2**20 nodes and 3 * 2**20 edges; the
+    edges may be parallel, and may join a node to itself. At most 2**22 nodes and 3 * 2**22 edges; the
     weights sum to at most 2**44.
 
     ``labels`` are names of the nodes and ``names`` names of the edges; without them nodes are named by

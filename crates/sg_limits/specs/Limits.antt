@@ -11,11 +11,11 @@ bond_limit = 6144
 
 -- the most spins of a large instance, which the calls of a library take and the program does not
 abbrev pub large_spin_limit : ℕ
-large_spin_limit = 2 ^ 20
+large_spin_limit = 2 ^ 22
 
 -- the most bonds of a large instance
 abbrev pub large_bond_limit : ℕ
-large_bond_limit = 3 * 2 ^ 20
+large_bond_limit = 3 * 2 ^ 22
 
 -- the largest sum of the couplings' sizes of an instance that is solved
 abbrev pub sum_limit : ℕ

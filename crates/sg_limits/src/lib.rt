@@ -14,11 +14,11 @@ pub const SPIN_LIMIT: u32 = 2048;
 pub const BOND_LIMIT: u32 = 6144;
 
 /// The most spins of a large instance, which the calls of a library take and the program does not: a
-/// lattice of 1024 by 1024.
-pub const LARGE_SPIN_LIMIT: u32 = 1 << 20;
+/// lattice of 2048 by 2048.
+pub const LARGE_SPIN_LIMIT: u32 = 1 << 22;
 
-/// The most bonds of a large instance, three for each spin.
-pub const LARGE_BOND_LIMIT: u32 = 3 << 20;
+/// The most bonds of a large instance, three for each spin: with the spins 2^24, as many as a dual graph takes.
+pub const LARGE_BOND_LIMIT: u32 = 3 << 22;
 
 /// The largest sum of the couplings' sizes of an instance that is solved, also of a large one.
 pub const SUM_LIMIT: i128 = 1 << 44;
