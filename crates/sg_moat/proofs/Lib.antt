@@ -5,10 +5,4 @@ pub mod EdgeReach
 pub mod Packing
 pub mod Climb
 pub mod SetDepths
-pub mod SurveySteps
-pub mod SurveyCode
-pub mod SurveyEnd
-pub mod LevelsList
-pub mod Slopes
-pub mod Bins
 pub mod Cutting

@@ -1,21 +1,24 @@
--- The depths of nodes at a set, by the list of its members.
-use Rattle.std.specs.Prelude.{ℕ, ◌-◌, ◌*◌, ◌<◌, List, length, fold, min}
-use Rattle.sg_graph.specs.Web.{Graph}
-use Rattle.sg_graph.specs.Walk.{IsDistance}
-use Rattle.sg_graph.specs.Table.{Routes}
-use Rattle.sg_moat.specs.declared.members.Member.{Member}
-use Rattle.sg_moat.specs.Input.{distance_from, table_at}
+-- The depths of all nodes at one set, read from the tables of its terminals.
+use Rattle.std.specs.Prelude.{◌≡◌, ℕ, ◌-◌, ◌*◌, ◌<◌, ◌≤◌, min, pos, true, List, length, slice_index_or}
+use Rattle.sg_graph.specs.Table.{Routes, distance_at, is_reached, length_to}
 
--- a table for each of some sources, with the distance of every node of the graph
-pub record AreFull (g : Graph) (tables : List Routes) : Type 0 where
-  pub sources : (i : ℕ) → i < length tables → (table_at tables i).source < g.nodes
-  pub distances : (i x : ℕ) → i < length tables → x < g.nodes →
-      IsDistance g (table_at tables i).source x (distance_from tables i x)
+-- the depth listed of node x, 0 past the last
+abbrev pub depth_at : List ℕ → ℕ → ℕ
+depth_at depths x = slice_index_or depths x 0
 
--- the least of y and of the doubled distances to the members, each less its duals inside
-abbrev pub depth_by : List Routes → List Member → ℕ → ℕ → ℕ
-depth_by tables members y x = fold (λ d m. min d (2 * distance_from tables m.leaf x - m.inner)) y members
+-- the list has the depth of each node below n
+pub record AreDepths (n : ℕ) (depth : ℕ → ℕ) (depths : List ℕ) : Type 0 where
+  pub count : length depths ≡ n
+  pub each : (x : ℕ) → x < n → depth_at depths x ≡ depth x
 
--- the dual less the depth: 0 if the moat does not reach
-abbrev pub height_by : List Routes → List Member → ℕ → ℕ → ℕ
-height_by tables members y x = y - depth_by tables members y x
+-- the table has the nodes below n, and the distance of each of them
+pub record ReachesAll (n : ℕ) (t : Routes) : Type 0 where
+  pub count : length t.to ≡ n
+  pub reached : (x : ℕ) → x < n → is_reached t x ≡ true
+  pub whole : (x : ℕ) → x < n → distance_at t x ≡ pos (length_to t x)
+
+-- the nodes below a number are no deeper than twice their distance less what lies inside, and the others as before
+pub record Lowers (t : Routes) (inner upto : ℕ) (old new : List ℕ) : Type 0 where
+  pub count : length new ≡ length old
+  pub lowered : (x : ℕ) → x < upto → depth_at new x ≡ min (depth_at old x) (2 * length_to t x - inner)
+  pub same : (x : ℕ) → upto ≤ x → depth_at new x ≡ depth_at old x

@@ -1,6 +1,6 @@
 -- The cuts at the levels of one set, by the depths of the nodes.
 use Rattle.std.specs.Prelude.{◌≡◌, ℕ, ◌+◌, ◌<◌, ◌≤◌, ◌≤ℤ◌, ◌&&◌, ◌++◌, pos, Bool, List, length, All, sum_by}
-use Rattle.std.specs.Prelude.{nat_lt, cond}
+use Rattle.std.specs.Prelude.{nat_lt, cond, Contains, ◌⊎◌}
 use Rattle.sg_sums.specs.Sums.{sum_below}
 use Rattle.sg_sums.specs.Sets.{chosen_below}
 use Rattle.sg_graph.specs.declared.cut.Cut.{Cut}
@@ -39,6 +39,13 @@ pub record Slices (g : Graph) (depth : ℕ → ℕ) (y : ℕ) (cuts : List Cut) 
   pub total : sum_by odd_cut_weight cuts ≡ y
   pub loads : (e : ℕ) → e < edge_count g → cut_load cuts e ≡ change_over g depth e
   pub few : length cuts ≤ inside_count g depth y + 1
+
+-- no depth lies between the last level and the next, which is one of the depths or y
+pub record IsNextLevel (depths : List ℕ) (last y next : ℕ) : Type 0 where
+  pub above : last < next
+  pub up_to : next ≤ y
+  pub is : (next ≡ y) ⊎ Contains depths next
+  pub between : All (λ d. (d ≤ last) ⊎ (next ≤ d)) depths
 
 -- the cuts of one set are added
 pub record Sliced (g : Graph) (depth : ℕ → ℕ) (y : ℕ) (old new : List Cut) : Type 0 where

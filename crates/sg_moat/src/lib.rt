@@ -8,20 +8,19 @@
 //! steps: over an edge of weight w all depths together change by at most 2w, so the cuts pack, and they
 //! weigh the sum of all duals (Edmonds and Johnson 1973; the moats of Jünger and Pulleyblank 1993).
 //!
-//! For the next engineer: `members` gathers the leaves of each set, `survey` finds the nodes of one moat
-//! and their heights, the dual less the depth, by one search from all its terminals, and `slices` makes
-//! its cuts. `specs/` has the premises (`Input`), the duals inside a set (`Sets`), the depths and the
-//! cuts of all sets (`Gathers`), and those of one set (`Slices`); `Members`, `Depths`, `Survey` and
-//! `Levels` are the private parts. `proofs/Packing` has the theorem, over `UnitSteps` (at most one depth
-//! changes over one unit step) and `EdgeReach` (what sets reach along an edge); `SetCount` bounds the
-//! number of sets, and `SurveyEnd` shows that the search leaves the dual less the depth everywhere.
+//! For the next engineer: `duals` finds the dual of a set and, on the way up from a leaf, the duals
+//! inside it; `depths` reads the depths of all nodes at a set from the tables of distances, and `slices`
+//! makes its cuts, level by level. `specs/` has the premises (`Input`), the duals inside a set (`Sets`),
+//! the depths and the cuts of all sets (`Gathers`), and those of one set (`Slices`); `Depths` is private.
+//! `proofs/Packing` has the theorem, over `UnitSteps` (at most one depth changes over one unit step) and
+//! `EdgeReach` (what sets reach along an edge); `SetCount` bounds the number of sets, `Climb` has the way
+//! up from a leaf, and `Cutting` the cuts of one set.
 #![tactic(auto)]
 
-mod arrival;
-mod members;
+mod depths;
+mod duals;
 mod moats;
 mod slices;
-mod survey;
 
 pub use moats::levels;
 pub use sg_graph::{Cut, Cuts};

@@ -1,32 +1,38 @@
-use Rattle.std.proofs.Common.{arith}
-use Rattle.sg_moat.proofs.Packing.{IsMoatInput-from, duals_total, packs}
-use Rattle.sg_moat.proofs.SetDepths.{rising_short, tables_full}
+use Rattle.std.proofs.Common.{length, subst, arith}
+use Rattle.sg_graph.proofs.OnceLists.{rising_few}
+use Rattle.sg_moat.specs.Gathers.{Gathers}
+use Rattle.sg_moat.proofs.Packing.{IsMoatInput, IsMoatInput-from, duals_total, packs}
+use Rattle.sg_moat.proofs.SetDepths.{tables_full}
 use Rattle.sg_moat.proofs.moats.levels.Goals as goal
 
-pub overflow_cast-len : goal.overflow_cast-len
-overflow_cast-len c =
+pub add_set-requires-clause-tables : goal.add_set-requires-clause-tables
+add_set-requires-clause-tables c =
+    tables_full c.args.web.now c.args.terminals.now c.args.tables.now c.requires.connected c.requires.terminals c.requires.tables
+
+pub add_set-requires-clause-few : goal.add_set-requires-clause-few
+add_set-requires-clause-few c =
     omega (
       arith,
-      rising_short c.args.terminals.now c.args.web.now.nodes c.requires.terminals.rising c.requires.terminals.below,
+      c.requires.tables.count,
+      rising_few c.args.web.now.nodes c.args.terminals.now c.requires.terminals.below c.requires.terminals.rising,
       c.nodes-nodes.ensures.web.few_nodes,
-      c.len.ensures,
     )
 
-pub gather-requires-clause-tables : goal.gather-requires-clause-tables
-gather-requires-clause-tables c =
-    tables_full c.args.web.now c.args.terminals.now c.args.tables.now c.requires.connected c.requires.terminals c.requires.tables
+input : (c : goal.After-loop-name) → IsMoatInput c.args.family.now c.args.web.now c.args.terminals.now c.args.tables.now
+input c =
+    IsMoatInput-from c.args.family.now c.args.web.now c.args.terminals.now c.args.tables.now c.nodes-nodes.ensures.web c.requires.connected
+    c.requires.terminals c.requires.leaves c.requires.tables c.requires.slack
+
+all_sets : (c : goal.After-loop-name) → Gathers c.args.family.now c.args.web.now c.args.tables.now (length c.args.family.now.nodes) c.loop-name.cuts
+all_sets c =
+    subst (λ n. Gathers c.args.family.now c.args.web.now c.args.tables.now n c.loop-name.cuts)
+    (omega (arith, c.loop-name-test.false, c.loop-name.auto.name-end, c.room-name-end.ensures.value)) c.loop-name.invariant
 
 pub returns-clause-packs : goal.returns-clause-packs
 returns-clause-packs c =
-    let input =
-    IsMoatInput-from c.args.family.now c.args.web.now c.args.terminals.now c.args.tables.now c.nodes-nodes.ensures.web c.requires.connected
-    c.requires.terminals c.requires.leaves c.requires.tables c.requires.slack in
-    packs c.args.family.now c.room-room.ensures.family c.args.web.now c.args.terminals.now c.args.tables.now input c.in_ok-cuts.cuts c.in_ok-cuts.ensures
+    packs c.args.family.now c.room-name-end.ensures.family c.args.web.now c.args.terminals.now c.args.tables.now (input c) c.loop-name.cuts (all_sets c)
 
 pub returns-clause-total : goal.returns-clause-total
 returns-clause-total c =
-    let input =
-    IsMoatInput-from c.args.family.now c.args.web.now c.args.terminals.now c.args.tables.now c.nodes-nodes.ensures.web c.requires.connected
-    c.requires.terminals c.requires.leaves c.requires.tables c.requires.slack in
-    duals_total c.args.family.now c.room-room.ensures.family c.args.web.now c.args.terminals.now c.args.tables.now input c.in_ok-cuts.cuts
-    c.in_ok-cuts.ensures
+    duals_total c.args.family.now c.room-name-end.ensures.family c.args.web.now c.args.terminals.now c.args.tables.now (input c) c.loop-name.cuts
+    (all_sets c)
