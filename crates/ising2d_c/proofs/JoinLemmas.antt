@@ -1,6 +1,5 @@
 -- Minimum T-joins of many lists of terminals, and why a call on a weighted graph has no answer.
-use Rattle.std.proofs.Common.{◌≡◌, ℕ, ◌+◌, ◌*◌, ◌<◌, ◌≤◌, ◌%◌, ℤ, pos, inl, inr, arith, List, [], ◌∷◌, ◌++◌, ap, length, map, take, get_or, sym, ◌∙◌, refl, subst, None}
-use Rattle.std.specs.List.{range_with_len}
+use Rattle.std.proofs.Common.{◌≡◌, ℕ, ◌+◌, ◌<◌, ℤ, pos, inl, inr, arith, List, [], ◌∷◌, ◌++◌, ap, length, sym, ◌∙◌, subst, None}
 use Rattle.std.proofs.lemmas.Bool.{cases_lt, cases_eq}
 use Rattle.std.proofs.lemmas.List.{get_or_append_left, get_or_push, map_push}
 use Rattle.std.proofs.lemmas.List.FromFn.{get_or-map-range_with_len, length-map-range_with_len}
@@ -10,7 +9,7 @@ use Rattle.sg_model.specs.Faults.{OrNoMemory}
 use Rattle.sg_model.specs.declared.refusal.Fault.TheVariants.{NoMemory, Refused}
 use Rattle.sg_draft.specs.Tests.{Refuses}
 use Rattle.sg_graph.specs.Incidence.{list_at}
-use Rattle.sg_graph.specs.Join.{AreTerminals, IsLeastJoin}
+use Rattle.sg_graph.specs.Join.{IsLeastJoin}
 use Rattle.sg_graph.specs.Web.{Graph, weight_of}
 use Rattle.sg_graph_text.specs.Graph.{terminals_of}
 use Rattle.sg_graph_text.proofs.TerminalLaws.{are_terminals}

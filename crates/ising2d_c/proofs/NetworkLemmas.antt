@@ -1,7 +1,6 @@
 -- From the tests of the numbers of a weighted graph to the graph, and faults by the step that finds them.
-use Rattle.std.proofs.Common.{◌≡◌, ◌⊎◌, inl, inr, ℕ, ◌+◌, ◌<◌, ◌≤◌, ◌%◌, ◌≤ℤ◌, ℤ, pos, negsuc, zero, suc, Bool, true, false, Option, None, Some, arith, List, [], ◌∷◌, All, ap, length, map, get_or, sym, ◌∙◌, refl, subst}
+use Rattle.std.proofs.Common.{◌≡◌, inl, inr, ℕ, ◌+◌, ◌<◌, ◌≤◌, ◌≤ℤ◌, ℤ, pos, negsuc, zero, suc, true, Option, None, Some, arith, List, [], ◌∷◌, All, ap, length, map, sym, ◌∙◌, refl, subst}
 use Rattle.std.specs.Prelude.{int_le}
-use Rattle.std.specs.Option.{option_or}
 use Rattle.std.specs.List.{range_with_len}
 use Rattle.std.proofs.lemmas.Bool.{false≢true, ltb-true, cases_eq}
 use Rattle.std.proofs.lemmas.Int.{ints}
@@ -17,7 +16,7 @@ use Rattle.sg_graph.specs.declared.web.Edge.{Edge}
 use Rattle.sg_graph_text.specs.Network.{IsTooHeavy, IsUnjoined}
 use Rattle.sg_draft.specs.Tests.{Refuses, first_of}
 use Rattle.sg_draft.proofs.Drafts.{both, fails-first, last-test}
-use Rattle.ising2d_c.specs.Networks.{edge_by, edges_by, ByReach, ByWeight, AtTest, AtWhole, GivesWeb, IsWebFault, IsWholeFault, joins_nodes, network_fault, web_by, web_fault, WebNumbers}
+use Rattle.ising2d_c.specs.Networks.{edge_by, edges_by, ByReach, ByWeight, AtTest, AtWhole, IsWebFault, IsWholeFault, joins_nodes, network_fault, web_by, web_fault, WebNumbers}
 
 not_negative : (w : ℤ) → int_le (pos 0) w ≡ true → pos 0 ≤ℤ w
 not_negative (pos n) pass = omega (arith, ints)

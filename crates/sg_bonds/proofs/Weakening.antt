@@ -1,7 +1,6 @@
 -- Weakened instances as a solver takes them, and what their ground states tell.
-use Rattle.std.proofs.Common.{◌≡◌, ◌≢◌, ◌⊎◌, ◌↔◌, inl, inr, ℕ, ◌+◌, ◌-◌, ◌*◌, ◌^◌, ◌<◌, ◌≤◌, Bool, true, false, cond, eqb, ℤ, pos, neg_ℤ, ◌+ℤ◌, ◌*ℤ◌, ◌-ℤ◌}
-use Rattle.std.proofs.Common.{◌≤ℤ◌, ◌<ℤ◌, List, length, get_or, map, set, replicate, refl, sym, ◌∙◌, ap, subst, arith}
-use Rattle.std.specs.Ordering.{int_eq}
+use Rattle.std.proofs.Common.{◌≡◌, ◌≢◌, ◌⊎◌, inl, inr, ℕ, ◌+◌, ◌-◌, ◌*◌, ◌^◌, ◌<◌, ◌≤◌, Bool, true, false, cond, eqb, ℤ, pos, neg_ℤ, ◌+ℤ◌, ◌*ℤ◌}
+use Rattle.std.proofs.Common.{◌≤ℤ◌, ◌<ℤ◌, List, get_or, map, set, replicate, refl, sym, ◌∙◌, ap, subst, arith}
 use Rattle.std.specs.Prelude.{unsigned_abs}
 use Rattle.std.specs.List.{range_with_len}
 use Rattle.std.proofs.Math.ListN.{get_or-map}
@@ -10,7 +9,6 @@ use Rattle.std.proofs.lemmas.Bool.{cases_Bool, cases_eq, eq-eqb, ne_eqb}
 use Rattle.std.proofs.lemmas.Bool.Decides.{Decides-int_eq}
 use Rattle.std.proofs.lemmas.Int.{by_lt_z, ints}
 use Rattle.std.proofs.lemmas.List.{get_or-replicate, get_or-set_other, get_or-set_same, length-map, length-replicate}
-use Rattle.std.proofs.lemmas.List.FromFn.{length-map-range_with_len}
 use Rattle.std.proofs.lemmas.List.Sums.{get_or-le-sum_by}
 use Rattle.sg_limits.specs.Limits.{forced_limit, sum_limit}
 use Rattle.sg_sums.specs.Sums.{sum_below}
@@ -27,8 +25,8 @@ use Rattle.sg_ground.proofs.Allowed.{all_fit}
 use Rattle.sg_tjoin.specs.Allowance.{IfTooLarge}
 use Rattle.sg_tjoin.specs.declared.allowance.Unproved.{Unproved}
 use Rattle.sg_tjoin.proofs.TableBounds.{IfTooLarge-weaker}
-use Rattle.sg_bonds.specs.Cost.{IsCost, IsRigid}
-use Rattle.sg_bonds.specs.Weakened.{FitsWeakened, WeakenedTablesExceed, amount_at, turned_amount, turns, weakened, weakened_coupling, weakened_couplings}
+use Rattle.sg_bonds.specs.Cost.{IsRigid}
+use Rattle.sg_bonds.specs.Weakened.{FitsWeakened, WeakenedTablesExceed, amount_at, turned_amount, turns, weakened, weakened_coupling}
 use Rattle.sg_bonds.proofs.ForcedMinimum.{unit_product}
 use Rattle.sg_bonds.proofs.RigidBounds.{free_turned}
 use Rattle.sg_bonds.proofs.ToldBonds.{not_rigid}
