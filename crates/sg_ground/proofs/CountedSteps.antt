@@ -60,8 +60,8 @@ adds_nest p old mid new (inr (parts, are, within)) takes same = inr (parts, are,
 
 -- the same of what there is, if there is anything
 pub any_dual : {J E : Type 0} (r : Result J E) (p : Embedding) (web : Graph) (terminals : List ℕ) (old new : ℕ) →
-    web ≡ dual_web p.instance p.faces → terminals ≡ frustrated_faces p.instance p.faces → IfOk r (λ _. new ≤ old + step_limit (length terminals) (place_count web)) →
-    IfOk r (λ _. new ≤ old + join_steps p)
+    web ≡ dual_web p.instance p.faces → terminals ≡ frustrated_faces p.instance p.faces →
+    IfOk r (λ _. new ≤ old + step_limit (length terminals) (place_count web)) → IfOk r (λ _. new ≤ old + join_steps p)
 any_dual (Ok j) p web terminals old new dual frustrated within = steps_dual p web terminals old new dual frustrated within
 any_dual (Err e) p web terminals old new dual frustrated within = tt
 
