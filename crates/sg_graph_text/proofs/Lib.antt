@@ -1,4 +1,3 @@
-pub mod TestLaws
 pub mod BodyLaws
 pub mod TerminalLaws
 pub mod ReadLaws

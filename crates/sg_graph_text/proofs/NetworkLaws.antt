@@ -3,13 +3,12 @@ use Rattle.std.proofs.Common.{◌≡◌, ℕ, ◌≤◌, Bool, List, [], subst}
 use Rattle.sg_limits.specs.Limits.{sum_limit}
 use Rattle.sg_model.specs.declared.refusal.Fault.{Fault}
 use Rattle.sg_model.specs.declared.refusal.Fault.TheVariants.{Refused, NoMemory}
-use Rattle.sg_model.specs.declared.refusal.Refusal.{Refusal}
 use Rattle.sg_graph.specs.Web.{Graph, total_weight}
 use Rattle.sg_reader.specs.Kept.{kept_of}
 use Rattle.sg_reader.specs.Ended.{RefusesAlone}
 use Rattle.sg_graph_text.specs.declared.graph.GraphText.{GraphText}
 use Rattle.sg_graph_text.specs.Graph.{ReadsGraph, RefusesGraph}
-use Rattle.sg_graph_text.specs.Network.{AtReach, AtRecords, AtWeight, IsTooHeavy, IsUnjoined, graph_in, RefusesNetwork}
+use Rattle.sg_graph_text.specs.Network.{AtReach, AtRecords, IsUnjoined, graph_in, RefusesNetwork}
 use Rattle.sg_model.specs.Faults.{OrNoMemory}
 
 -- what refuses the records refuses the network
@@ -18,12 +17,6 @@ pub alone-fault : (terms : Bool) (bytes : List ℕ) (e : Fault)
     → OrNoMemory (RefusesNetwork terms bytes) e
 alone-fault terms bytes (Refused x) bad = AtRecords bad
 alone-fault terms bytes NoMemory bad = tt
-
--- too heavy a graph refuses the network
-pub weight-fault : (terms : Bool) (bytes : List ℕ) (text : GraphText) (x : Refusal) → ReadsGraph terms (kept_of bytes) text []
-    → IsTooHeavy (graph_in text) x
-    → OrNoMemory (RefusesNetwork terms bytes) (Refused x)
-weight-fault terms bytes text x gives bad = AtWeight text gives bad
 
 -- a graph that is not connected refuses the network
 pub reach-fault : (terms : Bool) (bytes : List ℕ) (text : GraphText) (g : Graph) (e : Fault) → ReadsGraph terms (kept_of bytes) text []

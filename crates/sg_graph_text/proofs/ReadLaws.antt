@@ -1,10 +1,8 @@
 -- A graph by its first record and those behind it.
 use Rattle.std.proofs.Common.{◌≡◌, ℕ, Bool, false, List, [], ◌∷◌, None, refl, sym, ap, ap₂, subst, ◌∙◌, codes}
 use Rattle.sg_model.specs.declared.refusal.Fault.{Fault}
-use Rattle.sg_draft.specs.Limits.{program_limits}
-use Rattle.sg_draft.specs.Numbers.{many_spins_fault}
 use Rattle.sg_reader.specs.Kept.{Kept}
-use Rattle.sg_reader.specs.Tests.{at_least, bad_number, field_count_fault, size_in}
+use Rattle.sg_reader.specs.Tests.{field_count_fault, size_in}
 use Rattle.sg_reader.specs.Body.{says_end}
 use Rattle.sg_reader.specs.Ended.{IsEnded, RefusesRecords, StatesToEnd, TestTable, Fails, HoldsToEnd, RefusesNext}
 use Rattle.sg_draft.specs.Tests.{Refuses}
@@ -17,9 +15,7 @@ use Rattle.sg_graph_text.specs.declared.graph.GraphText.{GraphText}
 use Rattle.sg_model.specs.Faults.{OrNoMemory}
 
 size-no_end : (r : Kept) → size_fault r ≡ None → says_end r ≡ false
-size-no_end r h =
-    word-passes (codes "graph") (codes "end") r
-    (field_count_fault 2 r ∷ bad_number r 1 (λ i. at_least 1) ∷ many_spins_fault program_limits (size_in r 1) ∷ []) refl h
+size-no_end r h = word-passes (codes "graph") (codes "end") r _ refl h
 
 -- what refuses the first record refuses the graph
 pub size-fault : (terms : Bool) (all : List Kept) (r : Kept) (rest : List Kept) (e : Fault) → all ≡ r ∷ rest → OrNoMemory (Refuses (size_fault r)) e

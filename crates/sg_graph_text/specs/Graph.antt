@@ -14,7 +14,7 @@ use Rattle.sg_reader.specs.Kept.{Kept, begins}
 use Rattle.sg_draft.specs.Limits.{program_limits}
 use Rattle.sg_draft.specs.Numbers.{bond_count_fault, many_spins_fault}
 use Rattle.sg_draft.specs.Tests.{first_of, refuse_if}
-use Rattle.sg_reader.specs.Tests.{at_least, bad_number, number_in, field_count_fault, size_in, word_fault}
+use Rattle.sg_reader.specs.Tests.{at_least, field_count_fault, field_fault, number_in, size_in, word_fault}
 use Rattle.sg_reader.specs.Body.{link_fault, sole_list_fault, says_end, sizes_from}
 use Rattle.sg_reader.specs.Ended.{RefusesRecords, StatesToEnd, record_at}
 use Rattle.sg_graph_text.specs.declared.body.GraphBody.{GraphBody}
@@ -49,7 +49,7 @@ abbrev pub size_fault : Kept → Option Refusal
 size_fault r = first_of (
     word_fault (codes "graph") r
     ∷ field_count_fault 2 r
-    ∷ bad_number r 1 (λ i. at_least 1)
+    ∷ field_fault (at_least 1) 1 r
     ∷ many_spins_fault program_limits (size_in r 1)
     ∷ [])
 

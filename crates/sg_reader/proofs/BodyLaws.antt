@@ -1,7 +1,7 @@
 -- The records of an instance, one more at a time.
-use Rattle.std.proofs.Common.{◌≡◌, ℕ, ℤ, pos, zero, suc, ◌+◌, ◌-◌, ◌<◌, ◌≤◌, ◌^◌, Bool, true, false, List, [], ◌∷◌, ◌++◌, length, map, get_or, Option, Some, None, refl, sym, ap, ◌∙◌, arith, codes}
-use Rattle.std.specs.Prelude.{All, ◌||◌, cond, filter, find, is_some, not, option_map, unsigned_abs, unwrap_or}
-use Rattle.std.specs.List.{flat_map, list_any, range_with_len}
+use Rattle.std.proofs.Common.{◌≡◌, ℕ, ℤ, pos, zero, suc, ◌+◌, ◌-◌, ◌<◌, ◌≤◌, ◌^◌, Bool, true, false, List, [], ◌∷◌, ◌++◌, length, map, get_or, Option, Some, None, refl, sym, ap, ◌∙◌, arith}
+use Rattle.std.specs.Prelude.{All, cond, filter, find, is_some, not, option_map, unsigned_abs, unwrap_or}
+use Rattle.std.specs.List.{flat_map, range_with_len}
 use Rattle.std.specs.Option.{option_or}
 use Rattle.std.specs.Str.{bytes_eq}
 use Rattle.std.proofs.lemmas.Bool.{false≢true}
@@ -32,22 +32,8 @@ word-inside w some r h = go r.fields h
     go [] e = absurd (false≢true (sym some ∙ e))
     go (f ∷ fs) e = omega arith
 
--- a `seam` has a field
-pub seam_inside : (r : Kept) → says_seam r ≡ true → 1 ≤ length r.fields
-seam_inside r h = word-inside (codes "seam") refl r h
-
 -- what the first record that passes a test gives, if there is one
 module _ {X : Type 0} (p : Kept → Bool) (f : Kept → X) where
-  -- there is one where some record passes
-  pub given-seen : (body : List Kept) → is_some (option_map f (find p body)) ≡ list_any p body
-  given-seen [] = refl
-  given-seen (r ∷ rest) = by (p r) (given-seen rest)
-    where
-      by : (b : Bool) → is_some (option_map f (find p rest)) ≡ list_any p rest
-          → is_some (option_map f (cond b (Some r) (find p rest))) ≡ (b || list_any p rest)
-      by true e = refl
-      by false e = e
-
   -- a record that passes behind a body where none does
   pub given-first : (body : List Kept) (r : Kept) → is_some (option_map f (find p body)) ≡ false → p r ≡ true
       → option_map f (find p (body ++ r ∷ [])) ≡ Some (f r)
@@ -90,11 +76,6 @@ seam_in-first body r none is = given-first says_seam (λ q. sizes_from q 1) body
 pub seam_in-other : (body : List Kept) (r : Kept) → says_seam r ≡ false → seam_in (body ++ r ∷ []) ≡ seam_in body
 unfolding seam_in
 seam_in-other body r other = given-other says_seam (λ q. sizes_from q 1) body r other
-
--- whether a seam was seen
-pub seam_in-seen : (body : List Kept) → is_some (seam_in body) ≡ list_any says_seam body
-unfolding seam_in
-seam_in-seen body = given-seen says_seam (λ q. sizes_from q 1) body
 
 -- the couplings of one more record
 pub couplings_in-more : (body : List Kept) (r : Kept) → says_seam r ≡ false → couplings_in (body ++ r ∷ []) ≡ couplings_in body ++ numbers_from r 0

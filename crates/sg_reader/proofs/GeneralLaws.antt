@@ -1,18 +1,17 @@
 -- The records of a general instance behind the first, up to its `end`.
 use Rattle.std.proofs.Common.{◌≡◌, ℕ, ◌+◌, ◌<◌, ◌≤◌, Bool, true, false, List, [], ◌∷◌, ◌++◌, length, map, get_or, set, Option, Some, None, refl, sym, ap, ◌∙◌, arith, inl, inr, codes}
-use Rattle.std.specs.Prelude.{◌||◌, is_some, unwrap_or}
-use Rattle.std.specs.List.{list_any, range_with_len}
+use Rattle.std.specs.Prelude.{is_some, unwrap_or}
+use Rattle.std.specs.List.{range_with_len}
 use Rattle.std.specs.Option.{option_or}
 use Rattle.std.proofs.lemmas.Bool.{cases_eq, eq-eqb, ne_eqb}
 use Rattle.std.proofs.lemmas.List.{length-append, length-set, same_lists, get_or-set_same, get_or-set_other}
 use Rattle.std.proofs.lemmas.List.Elements.{All-append, All-cons, All-nil, All-same}
-use Rattle.std.proofs.lemmas.List.Folds.{list_any-append}
 use Rattle.std.proofs.lemmas.List.FromFn.{get_or-map-range_with_len, length-map-range_with_len, map-range_with_len_more}
 use Rattle.sg_model.specs.declared.bond.Bond.{Bond}
 use Rattle.sg_model.specs.declared.refusal.Fault.{Fault}
-use Rattle.sg_model.specs.declared.refusal.Fault.TheVariants.{Refused, NoMemory}
+use Rattle.sg_model.specs.declared.refusal.Fault.TheVariants.{Refused}
 use Rattle.sg_model.specs.declared.refusal.Refusal.{Refusal}
-use Rattle.sg_model.specs.declared.refusal.Refusal.TheVariants.{BadNumber, BadShape, UnknownKind}
+use Rattle.sg_model.specs.declared.refusal.Refusal.TheVariants.{BadShape, UnknownKind}
 use Rattle.sg_model.specs.Ising.{IsBond, Ising}
 use Rattle.sg_reader.specs.ReadInstance.{RefusesBody, StatesInstance, HoldsGeneral}
 use Rattle.sg_reader.specs.Ended.{Fails, HoldsSome, HoldsToEnd, RefusesNext, TakesNext}
@@ -22,47 +21,16 @@ use Rattle.sg_reader.specs.declared.header.Header.TheVariants as header
 use Rattle.sg_reader.specs.declared.general.GeneralBody.{GeneralBody}
 use Rattle.sg_limits.specs.Limits.{bond_limit}
 use Rattle.sg_reader.specs.Kept.{Kept}
-use Rattle.sg_draft.specs.Tests.{Refuses}
-use Rattle.sg_reader.specs.Tests.{any_index, any_number, bad_field, bad_number, first_then_index, field_count_fault, size_in, spin_below}
-use Rattle.sg_reader.specs.Body.{bond_fault, bond_of, ends_fault, link_fault, bonds_in, darts_in, general_fault, has_rot, instance_of, says_bond, says_end, says_rot, says_rot_of, says_seam, rot_fault, sole_list_fault, seam_in, sizes_from}
-use Rattle.sg_draft.proofs.Drafts.{one-test}
-use Rattle.sg_reader.proofs.BodyLaws.{given-first, given-other, given-seen, sole_list_fault-passes, other-word, said-more, said-other, seam_in-first, seam_in-other, seam_in-seen}
+use Rattle.sg_draft.specs.Tests.{Refuses, refuse_if}
+use Rattle.sg_reader.specs.Tests.{any_index, field_count_fault, fields_fault, field_fault, size_in, spin_below}
+use Rattle.sg_reader.specs.Body.{bond_fault, bond_of, bonds_in, darts_in, general_fault, has_rot, instance_of, says_bond, says_end, says_rot, says_rot_of, says_seam, rot_fault, rot_in, sole_list_fault, seam_in, sizes_from}
+use Rattle.sg_reader.proofs.BodyLaws.{given-first, given-other, sole_list_fault-passes, other-word, said-more, said-other, seam_in-first, seam_in-other}
 use Rattle.sg_model.specs.Faults.{OrNoMemory}
 
--- the tests of a bond
-pub bond_fault-link : (n m : ℕ) (r : Kept) (x : Refusal) → link_fault any_number n r ≡ Some x → bond_fault n m r ≡ Some x
-bond_fault-link n m r x bad = rw bad refl
-
--- a bond with good numbers is tested by its ends
-pub bond_fault-ends : (n m : ℕ) (r : Kept) (test : Option Refusal) → link_fault any_number n r ≡ None
-    → ends_fault (size_in r 1) (size_in r 2) m ≡ test
-    → bond_fault n m r ≡ test
-bond_fault-ends n m r test good ends = rw good (ap (λ (o : Option Refusal). option_or o None) ends ∙ one-test test)
-
--- the tests of a rotation
-pub rot_fault-number : (n : ℕ) (seen : Bool) (r : Kept) (k : ℕ) → (length r.fields ≡ 1 → ⊥) →
-    bad_field r 1 (first_then_index (spin_below n)) ≡ Some k
-    → rot_fault n seen r ≡ Some (BadNumber r.at k)
-rot_fault-number n seen r k count bad = rw (ne_eqb (length r.fields) 1 count, bad) refl
-
--- a second `rot` of a spin is refused
-pub rot_fault-seen : (n : ℕ) (seen : Bool) (r : Kept) → (length r.fields ≡ 1 → ⊥)
-    → bad_field r 1 (first_then_index (spin_below n)) ≡ None → seen ≡ true
-    → rot_fault n seen r ≡ Some (BadShape r.at)
-rot_fault-seen n seen r count good twice = rw (ne_eqb (length r.fields) 1 count, good, twice) refl
-
--- a first `rot` with good numbers passes
-pub rot_fault-none : (n : ℕ) (seen : Bool) (r : Kept) → (length r.fields ≡ 1 → ⊥)
-    → bad_field r 1 (first_then_index (spin_below n)) ≡ None → seen ≡ false
-    → rot_fault n seen r ≡ None
-rot_fault-none n seen r count good first = rw (ne_eqb (length r.fields) 1 count, good, first) refl
-
--- a fault of the darts is the record's
-pub rot_fault-darts : (n : ℕ) (seen : Bool) (r : Kept) → (length r.fields ≡ 1 → ⊥) →
-    bad_field r 1 (first_then_index (spin_below n)) ≡ bad_field r 2 (λ i. any_index) → (e : Fault)
-    → OrNoMemory (Refuses (bad_number r 2 (λ i. any_index))) e → OrNoMemory (Refuses (rot_fault n seen r)) e
-rot_fault-darts n seen r count rest (Refused x) h = rw (ne_eqb (length r.fields) 1 count, rest, h) refl
-rot_fault-darts n seen r count rest NoMemory h = tt
+-- behind a good spin the darts are tested, and then whether its spin has some
+pub rot_fault-left : (n : ℕ) (seen : Bool) (r : Kept) → 2 ≤ length r.fields → field_fault (spin_below n) 1 r ≡ None
+    → rot_fault n seen r ≡ option_or (fields_fault (field_fault any_index) 2 r) (option_or (refuse_if seen (BadShape r.at)) None)
+rot_fault-left n seen r long good = rw (ne_eqb (length r.fields) 1 (λ e. absurd (omega (arith, e, long))), good) refl
 
 -- a `bond` is tested as one behind the bonds before it
 pub general_fault-bond : (n : ℕ) (body : List Kept) (r : Kept) → says_bond r ≡ true → general_fault n body r ≡ bond_fault n (length (bonds_in body)) r
@@ -77,7 +45,7 @@ general_fault-rot n body r h = rw (other-word r (codes "rot") (codes "bond") h r
 
 -- a `seam` is tested as one behind the others
 pub general_fault-seam : (n : ℕ) (body : List Kept) (r : Kept) → says_seam r ≡ true →
-    general_fault n body r ≡ sole_list_fault (list_any says_seam body) r
+    general_fault n body r ≡ sole_list_fault (is_some (seam_in body)) r
 unfolding general_fault
 general_fault-seam n body r h = rw (other-word r (codes "seam") (codes "bond") h refl, other-word r (codes "seam") (codes "rot") h refl, h) refl
 
@@ -109,40 +77,18 @@ pub bonds_in-other : (body : List Kept) (r : Kept) → says_bond r ≡ false →
 unfolding bonds_in
 bonds_in-other body r h = said-other says_bond bond_of body r h
 
--- whether a spin has its darts, and which, with one more record
-has_rot-more : (body : List Kept) (r : Kept) (i : ℕ) (b : Bool) → says_rot_of i r ≡ b →
-    has_rot (body ++ r ∷ []) i ≡ (has_rot body i || (b || false))
-unfolding has_rot
-has_rot-more body r i b h = list_any-append (says_rot_of i) body (r ∷ []) ∙ ap (λ (c : Bool). list_any (says_rot_of i) body || (c || false)) h
-
-or-none : (b : Bool) → (b || (false || false)) ≡ b
-or-none true = refl
-or-none false = refl
-
-or-some : (b : Bool) → (b || (true || false)) ≡ true
-or-some true = refl
-or-some false = refl
-
--- a record that is no `rot` of the spin gives it none
-pub has_rot-other : (body : List Kept) (r : Kept) (i : ℕ) → says_rot_of i r ≡ false → has_rot (body ++ r ∷ []) i ≡ has_rot body i
-has_rot-other body r i h = has_rot-more body r i false h ∙ or-none (has_rot body i)
-
--- behind its `rot` the spin has one
-pub has_rot-own : (body : List Kept) (r : Kept) (i : ℕ) → says_rot_of i r ≡ true → has_rot (body ++ r ∷ []) i ≡ true
-has_rot-own body r i h = has_rot-more body r i true h ∙ or-some (has_rot body i)
+abbrev or_none : Option (List ℕ) → List ℕ
+or_none o = unwrap_or o []
 
 -- a record that is no `rot` of the spin leaves its darts
-pub darts_in-other : (body : List Kept) (r : Kept) (i : ℕ) → says_rot_of i r ≡ false → darts_in (body ++ r ∷ []) i ≡ darts_in body i
-unfolding darts_in
-darts_in-other body r i h = ap (λ (o : Option (List ℕ)). unwrap_or o []) (given-other (says_rot_of i) (λ q. sizes_from q 2) body r h)
+rot_in-other : (body : List Kept) (r : Kept) (i : ℕ) → says_rot_of i r ≡ false → rot_in (body ++ r ∷ []) i ≡ rot_in body i
+unfolding rot_in
+rot_in-other body r i h = given-other (says_rot_of i) (λ q. sizes_from q 2) body r h
 
 -- behind its first `rot` the spin has these darts
-pub darts_in-own : (body : List Kept) (r : Kept) (i : ℕ) → says_rot_of i r ≡ true → has_rot body i ≡ false →
-    darts_in (body ++ r ∷ []) i ≡ sizes_from r 2
-unfolding darts_in has_rot
-darts_in-own body r i h first =
-    let f : Kept → List ℕ = λ q. sizes_from q 2 in
-    ap (λ (o : Option (List ℕ)). unwrap_or o []) (given-first (says_rot_of i) f body r (given-seen (says_rot_of i) f body ∙ first) h)
+rot_in-own : (body : List Kept) (r : Kept) (i : ℕ) → says_rot_of i r ≡ true → has_rot body i ≡ false → rot_in (body ++ r ∷ []) i ≡ Some (sizes_from r 2)
+unfolding rot_in
+rot_in-own body r i h first = given-first (says_rot_of i) (λ q. sizes_from q 2) body r first h
 
 -- a table over the spins with one entry changed
 table-set : {X : Type 0} (f g : ℕ → X) (n s : ℕ) (v : X) → s < n → g s ≡ v → ((i : ℕ) → (i ≡ s → ⊥) → g i ≡ f i)
@@ -176,11 +122,11 @@ other-rot_of r i h other = rw (h, ne_eqb (size_in r 1) i (λ e. other (sym e))) 
 -- what is kept behind a record that gives no darts
 darts-kept : (body : List Kept) (r : Kept) (n : ℕ) → says_rot r ≡ false
     → map (darts_in body) (range_with_len 0 n) ≡ map (darts_in (body ++ r ∷ [])) (range_with_len 0 n)
-darts-kept body r n h = table-same (darts_in body) (darts_in (body ++ r ∷ [])) n (λ i. darts_in-other body r i (no-rot_of r i h))
+darts-kept body r n h = table-same (darts_in body) (darts_in (body ++ r ∷ [])) n (λ i. ap or_none (rot_in-other body r i (no-rot_of r i h)))
 
 marks-kept : (body : List Kept) (r : Kept) (n : ℕ) → says_rot r ≡ false
     → map (has_rot body) (range_with_len 0 n) ≡ map (has_rot (body ++ r ∷ [])) (range_with_len 0 n)
-marks-kept body r n h = table-same (has_rot body) (has_rot (body ++ r ∷ [])) n (λ i. has_rot-other body r i (no-rot_of r i h))
+marks-kept body r n h = table-same (has_rot body) (has_rot (body ++ r ∷ [])) n (λ i. ap is_some (rot_in-other body r i (no-rot_of r i h)))
 
 bond-tested : (old : GeneralBody) (r : Kept) (m : ℕ) → m ≡ length old.bonds → says_bond r ≡ true → (start : GeneralBody) (body : List Kept)
     → HoldsGeneral start body old → general_fault start.n body r ≡ bond_fault old.n m r
@@ -239,14 +185,10 @@ behind-other old new start body r other same kept h darts marks cut =
       seam = cut;
     }
 
--- whether a `seam` stood before is kept
-seen-seam : (start : GeneralBody) (body : List Kept) (state : GeneralBody) → HoldsGeneral start body state → is_some state.seam ≡ list_any says_seam body
-seen-seam start body state h = ap is_some h.seam ∙ seam_in-seen body
-
 seam-tested : (old : GeneralBody) (r : Kept) (seen : Bool) → is_some old.seam ≡ seen → says_seam r ≡ true → (start : GeneralBody) (body : List Kept)
     → HoldsGeneral start body old → general_fault start.n body r ≡ sole_list_fault seen r
 seam-tested old r seen was is start body h =
-    general_fault-seam start.n body r is ∙ ap (λ (b : Bool). sole_list_fault b r) (sym (seen-seam start body old h) ∙ was)
+    general_fault-seam start.n body r is ∙ ap (λ (b : Bool). sole_list_fault b r) (sym (ap is_some h.seam) ∙ was)
 
 -- a `seam` is taken
 pub seam-taken : (old new : GeneralBody) (r : Kept) (seen : Bool) → is_some old.seam ≡ seen → says_seam r ≡ true → sole_list_fault seen r ≡ None
@@ -288,14 +230,14 @@ rot-taken old new r d was inside is good same kept cut lists marks = record {
   passes = λ start body h. rot-tested old r false d was inside is start body h ∙ good;
   goes_on = λ start body h.
       let s = size_in r 1 in
-      let first = sym (mark-of start body old s d h inside) ∙ was in
+      let now = rot_in-own body r s (own-rot_of r is) (sym (mark-of start body old s d h inside) ∙ was) in
       behind-other old new start body r (other-word r (codes "rot") (codes "bond") is refl) same kept h
       (lists ∙ ap (λ (l : List (List ℕ)). set l s (sizes_from r 2)) h.darts
-      ∙ table-set (darts_in body) (darts_in (body ++ r ∷ [])) old.n s (sizes_from r 2) inside (darts_in-own body r s (own-rot_of r is) first)
-      (λ i other. darts_in-other body r i (other-rot_of r i is other)))
+      ∙ table-set (darts_in body) (darts_in (body ++ r ∷ [])) old.n s (sizes_from r 2) inside (ap or_none now)
+      (λ i other. ap or_none (rot_in-other body r i (other-rot_of r i is other))))
       (marks ∙ ap (λ (l : List Bool). set l s true) h.marks
-      ∙ table-set (has_rot body) (has_rot (body ++ r ∷ [])) old.n s true inside (has_rot-own body r s (own-rot_of r is))
-      (λ i other. has_rot-other body r i (other-rot_of r i is other)))
+      ∙ table-set (has_rot body) (has_rot (body ++ r ∷ [])) old.n s true inside (ap is_some now)
+      (λ i other. ap is_some (rot_in-other body r i (other-rot_of r i is other))))
       (cut ∙ h.seam ∙ sym (seam_in-other body r (other-word r (codes "rot") (codes "seam") is refl)));
 }
 
@@ -338,7 +280,7 @@ pub instance-general : (start : GeneralBody) (body : List Kept) (state : General
     → record { n = state.n; bonds = state.bonds; rotation = state.rotation; seam = seam } ≡ instance_of (header.General start.n) body
 unfolding instance_of
 instance-general start body state seam h cut =
-    let same : seam ≡ unwrap_or (seam_in body) [] = cut ∙ ap (λ (o : Option (List ℕ)). unwrap_or o []) h.seam in
+    let same : seam ≡ unwrap_or (seam_in body) [] = cut ∙ ap or_none h.seam in
     rw (← h.spins) (λ i. record { n = state.n; bonds = h.bonds i; rotation = h.darts i; seam = same i })
 
 -- nothing was read yet
@@ -362,13 +304,13 @@ holds-none state some none cut darts marks =
 -- one more spin without darts
 pub no_darts-more : (lists : List (List ℕ)) (i : ℕ) → lists ≡ map (darts_in []) (range_with_len 0 i)
     → lists ++ [] ∷ [] ≡ map (darts_in []) (range_with_len 0 (i + 1))
-unfolding darts_in
+unfolding rot_in
 no_darts-more lists i h = ap (λ (l : List (List ℕ)). l ++ [] ∷ []) h ∙ sym (map-range_with_len_more (darts_in []) 0 i i (omega arith))
 
 -- before the first record no spin has a `rot`, one spin more
 pub no_marks-more : (marks : List Bool) (i : ℕ) → marks ≡ map (has_rot []) (range_with_len 0 i)
     → marks ++ false ∷ [] ≡ map (has_rot []) (range_with_len 0 (i + 1))
-unfolding has_rot
+unfolding rot_in
 no_marks-more marks i h = ap (λ (l : List Bool). l ++ false ∷ []) h ∙ sym (map-range_with_len_more (has_rot []) 0 i i (omega arith))
 
 -- a general instance whose records were taken up to the `end`

@@ -1,56 +1,41 @@
 -- What records give is an instance within the limits.
-use Rattle.std.proofs.Common.{◌≡◌, ◌≢◌, ℕ, zero, suc, ◌+◌, ◌-◌, ◌*◌, ◌^◌, ◌<◌, ◌≤◌, Bool, true, false, not, ◌&&◌, eqb, ℤ, pos, negsuc, List, [], ◌∷◌, ◌++◌, length, take, Option, Some, None, refl, sym, ap, subst, ◌∙◌, arith, All, inl, inr, codes}
-use Rattle.std.specs.Prelude.{int_le, option_map, unsigned_abs, unwrap_or}
-use Rattle.std.specs.Option.{option_or}
+use Rattle.std.proofs.Common.{◌≡◌, ℕ, zero, suc, ◌+◌, ◌-◌, ◌*◌, ◌^◌, ◌<◌, ◌≤◌, Bool, true, false, eqb, ℤ, pos, negsuc, List, [], ◌∷◌, ◌++◌, length, take, Option, Some, None, refl, sym, subst, ◌∙◌, arith, All}
+use Rattle.std.specs.Prelude.{int_le, unsigned_abs, unwrap_or}
 use Rattle.std.proofs.lemmas.Int.{ints}
 use Rattle.std.proofs.lemmas.Bool.{and_parts, eqb-false, eqb-true, ltb-false, not-false, true≢false}
 use Rattle.std.proofs.lemmas.List.{length-append, take_all, take_more}
 use Rattle.std.proofs.lemmas.List.Elements.{All-append, All-cons, All-nil}
 use Rattle.std.proofs.lemmas.Option.{none-some, same_Some}
 use Rattle.sg_limits.specs.Limits.{bond_limit, spin_limit}
-use Rattle.sg_model.specs.declared.refusal.Refusal.{Refusal}
-use Rattle.sg_model.specs.declared.refusal.Refusal.TheVariants.{BadNumber, SelfBond}
 use Rattle.sg_model.specs.Ising.{IsBond, Ising, bond_count}
 use Rattle.sg_model.specs.Rotation.{IsRotation}
-use Rattle.sg_model.specs.WellFormed.{IsDraft, IsInstance}
-use Rattle.sg_lattice.specs.declared.kind.Kind.{Kind}
-use Rattle.sg_lattice.specs.Tables.{IsSize, bond_total, lattice}
+use Rattle.sg_model.specs.WellFormed.{IsDraft}
+use Rattle.sg_lattice.specs.Tables.{bond_total, lattice, least_cols}
 use Rattle.sg_lattice.proofs.LatticeSizes.{lattice_instance}
 use Rattle.sg_draft.specs.Draft.{reseamed}
 use Rattle.sg_draft.specs.Limits.{program_limits}
 use Rattle.sg_draft.specs.Numbers.{bond_count_fault, coupling_count_fault}
-use Rattle.sg_draft.specs.Tests.{first_of, refuse_if}
 use Rattle.sg_draft.proofs.Drafts.{first-none, passed-if}
-use Rattle.sg_draft.proofs.Finds.{find_range-all, none-mapped}
 use Rattle.sg_reader.specs.declared.header.Form.{Form}
 use Rattle.sg_reader.specs.declared.header.Form.TheVariants as form
 use Rattle.sg_reader.specs.declared.header.Header.{Header}
 use Rattle.sg_reader.specs.declared.header.Header.TheVariants as header
 use Rattle.sg_reader.specs.declared.range.Range.{Range}
 use Rattle.sg_reader.specs.Kept.{Kept, field}
-use Rattle.sg_reader.specs.Tests.{any_number, at_least, bad_field, bad_number, is_in, is_number_in, number_of, field_count_fault, size_in, spin_below}
-use Rattle.sg_reader.specs.Header.{IsHeader, form_fault, form_of, header_fault, header_of, header_range, header_with}
-use Rattle.sg_reader.specs.Body.{bond_fault, bond_of, bonds_in, couplings_in, ends_fault, general_fault, instance_of, lattice_end_fault, lattice_fault, link_fault, link_range, says_bond, seam_in}
+use Rattle.sg_reader.specs.Tests.{any_number, at_least, field_count_fault, is_in, field_number, field_fault, size_in, spin_below}
+use Rattle.sg_reader.specs.Header.{IsHeader, form_fault, form_header, form_of, header_fault, header_of}
+use Rattle.sg_reader.specs.Body.{bond_fault, bond_of, bonds_in, couplings_in, ends_fault, general_fault, instance_of, lattice_end_fault, link_fault, says_bond, seam_in}
 use Rattle.sg_reader.specs.Ended.{IsBody, record_at}
 use Rattle.sg_reader.specs.ReadInstance.{IsGiven, ReadsBody, ReadsInstance}
 use Rattle.sg_reader.proofs.BodyLaws.{couplings_in-small, number_in-small}
 use Rattle.sg_reader.proofs.GeneralLaws.{bonds_in-more, bonds_in-other, general_fault-bond}
-use Rattle.sg_reader.proofs.LatticeLaws.{instance_of-lattice, lattice_fault-end}
+use Rattle.sg_reader.proofs.LatticeLaws.{lattice_fault-end}
 use Rattle.sg_reader.proofs.SizeLaws.{lattice-bonds, lattice-spins}
 
--- a record of the right shape has so many fields
-shape-count : (fields : ℕ) (r : Kept) → field_count_fault fields r ≡ None → length r.fields ≡ fields
-shape-count fields r h = eqb-true (length r.fields) fields (not-false (eqb (length r.fields) fields) (passed-if _ _ h))
-
--- a number that passes is of the range of its place
-number-at : (r : Kept) (from : ℕ) (range : ℕ → Range) (i : ℕ) → bad_number r from range ≡ None → from ≤ i → i < length r.fields
-    → is_number_in (range i) (field r i) ≡ true
-unfolding bad_field
-number-at r from range i h low high =
-    not-false (is_number_in (range i) (field r i))
-    (find_range-all (λ j. not (is_number_in (range j) (field r j))) from (length r.fields - from) i
-    (none-mapped (λ j. BadNumber r.at j) (bad_field r from range) h)
-    low (omega (arith, high, low)))
+-- a number that passes is of its range
+in-range : (range : Range) (i : ℕ) (r : Kept) → field_fault range i r ≡ None → is_in range (field_number r i) ≡ true
+unfolding field_fault
+in-range range i r h = not-false (is_in range (field_number r i)) (passed-if _ _ h)
 
 low-of : (least : ℕ) (o : Option ℤ) → is_in (at_least least) o ≡ true → least ≤ unsigned_abs (unwrap_or o (pos 0))
 low-of least None h = absurd (true≢false (sym h))
@@ -64,29 +49,28 @@ below-of n (Some (negsuc a)) some h = absurd (true≢false (sym (and_parts (int_
 
 -- a first record that passes is a header
 pub header-good : (r : Kept) (head : Header) → header_fault r ≡ None → header_of r ≡ Some head → IsHeader head
-unfolding header_fault header_of
+unfolding header_fault header_of form_fault form_header
 header-good r head passes says = by (form_of (field r 0)) passes says
   where
-    by : (f : Option Form) → form_fault f r ≡ None → option_map (header_with r) f ≡ Some head → IsHeader head
+    by : (f : Option Form) → form_fault f r ≡ None → form_header f r ≡ Some head → IsHeader head
     by None p s = absurd (none-some head s)
     by (Some (form.Lattice kind)) p s =
-        let first = first-none (field_count_fault 3 r) _ p in
-        let count : length r.fields ≡ 3 = shape-count 3 r first.0 in
-        let numbers = first-none (bad_number r 1 (header_range (form.Lattice kind))) _ first.1 in
-        let spins = first-none _ _ numbers.1 in
-        let many = ltb-false spin_limit (size_in r 1 * size_in r 2) (passed-if _ _ spins.0) in
-        let rows = low-of 1 (number_of (field r 1)) (number-at r 1 (header_range (form.Lattice kind)) 1 numbers.0 (omega arith) (omega (arith, count))) in
-        let cols = low-of _ (number_of (field r 2)) (number-at r 1 (header_range (form.Lattice kind)) 2 numbers.0 (omega arith) (omega (arith, count))) in
-        subst IsHeader (same_Some (header.Lattice kind (size_in r 1) (size_in r 2)) head s)
-        (record { rows = rows; cols = cols; few = omega (arith, many) }, many)
+        let numbers = (first-none (field_count_fault 3 r) _ p).1 in
+        let rows = first-none (field_fault (at_least 1) 1 r) _ numbers in
+        let cols = first-none (field_fault (at_least (least_cols kind)) 2 r) _ rows.1 in
+        let many = ltb-false spin_limit (size_in r 1 * size_in r 2) (passed-if _ _ (first-none _ _ cols.1).0) in
+        subst IsHeader (same_Some (header.Lattice kind (size_in r 1) (size_in r 2)) head s) (
+          record {
+            rows = low-of 1 (field_number r 1) (in-range _ 1 r rows.0);
+            cols = low-of _ (field_number r 2) (in-range _ 2 r cols.0);
+            few = omega (arith, many);
+          },
+          many,
+        )
     by (Some form.General) p s =
-        let first = first-none (field_count_fault 2 r) _ p in
-        let count : length r.fields ≡ 2 = shape-count 2 r first.0 in
-        let numbers = first-none (bad_number r 1 (header_range form.General)) _ first.1 in
-        let spins = first-none _ _ numbers.1 in
-        let many = ltb-false spin_limit (size_in r 1) (passed-if _ _ spins.0) in
-        let some = low-of 1 (number_of (field r 1)) (number-at r 1 (header_range form.General) 1 numbers.0 (omega arith) (omega (arith, count))) in
-        subst IsHeader (same_Some (header.General (size_in r 1)) head s) (some, many)
+        let spins = first-none (field_fault (at_least 1) 1 r) _ (first-none (field_count_fault 2 r) _ p).1 in
+        let many = ltb-false spin_limit (size_in r 1) (passed-if _ _ (first-none _ _ spins.1).0) in
+        subst IsHeader (same_Some (header.General (size_in r 1)) head s) (low-of 1 (field_number r 1) (in-range _ 1 r spins.0), many)
 
 -- the bonds of records that pass are bonds, and not too many
 module _ (n : ℕ) (some : 1 ≤ n) where
@@ -101,15 +85,14 @@ module _ (n : ℕ) (some : 1 ≤ n) where
   unfolding link_fault
   bond-sound m r h =
       let parts = first-none (link_fault any_number n r) _ h in
-      let link = first-none (field_count_fault 4 r) _ parts.0 in
-      let count : length r.fields ≡ 4 = shape-count 4 r link.0 in
-      let numbers = (first-none (bad_number r 1 (link_range any_number n)) _ link.1).0 in
+      let first = first-none (field_fault (spin_below n) 1 r) _ (first-none (field_count_fault 4 r) _ parts.0).1 in
+      let second = first-none (field_fault (spin_below n) 2 r) _ first.1 in
       let ends = first-none (bond_count_fault program_limits (m + 1)) _ (first-none (ends_fault (size_in r 1) (size_in r 2) m) _ parts.1).0 in
       let room = ltb-false bond_limit (m + 1) (passed-if _ _ ends.0) in
       let apart = eqb-false (size_in r 1) (size_in r 2) (passed-if _ _ (first-none _ _ ends.1).0) in (
         record {
-          first_end = below-of n (number_of (field r 1)) some (number-at r 1 (link_range any_number n) 1 numbers (omega arith) (omega (arith, count)));
-          second_end = below-of n (number_of (field r 2)) some (number-at r 1 (link_range any_number n) 2 numbers (omega arith) (omega (arith, count)));
+          first_end = below-of n (field_number r 1) some (in-range _ 1 r first.0);
+          second_end = below-of n (field_number r 2) some (in-range _ 2 r second.0);
           ends_differ = apart;
           size = number_in-small r 3;
         },

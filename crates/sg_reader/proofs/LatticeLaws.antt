@@ -1,18 +1,17 @@
 -- The records of a lattice behind the first, up to its `end`.
 use Rattle.std.proofs.Common.{◌≡◌, ℕ, ℤ, ◌<◌, ◌^◌, Bool, true, false, List, [], ◌++◌, length, Option, Some, None, refl, sym, ap, ◌∙◌, codes}
-use Rattle.std.specs.Prelude.{All, is_some, option_map, unsigned_abs}
-use Rattle.std.specs.List.{list_any}
+use Rattle.std.specs.Prelude.{All, is_some, unsigned_abs}
 use Rattle.sg_lattice.specs.declared.kind.Kind.{Kind}
 use Rattle.sg_lattice.specs.Tables.{bond_total, lattice}
 use Rattle.sg_reader.specs.declared.header.Header.TheVariants as header
 use Rattle.sg_reader.specs.declared.lattice.LatticeBody.{LatticeBody}
 use Rattle.sg_reader.specs.Kept.{Kept}
 use Rattle.sg_draft.specs.Draft.{reseamed}
-use Rattle.sg_reader.specs.Tests.{any_number, bad_field, bad_number}
+use Rattle.sg_reader.specs.Tests.{any_number, fields_fault, field_fault}
 use Rattle.sg_reader.specs.Body.{couplings_in, instance_of, says_end, says_seam, lattice_end_fault, lattice_fault, numbers_from, sole_list_fault, seam_in, sizes_from}
 use Rattle.sg_reader.specs.Ended.{HoldsToEnd, RefusesNext, TakesNext, Fails}
 use Rattle.sg_reader.specs.ReadInstance.{HoldsLattice, RefusesBody, StatesInstance}
-use Rattle.sg_reader.proofs.BodyLaws.{couplings_in-small, couplings_in-more, couplings_in-seam, sole_list_fault-passes, other-word, seam_in-first, seam_in-other, seam_in-seen}
+use Rattle.sg_reader.proofs.BodyLaws.{couplings_in-small, couplings_in-more, couplings_in-seam, sole_list_fault-passes, other-word, seam_in-first, seam_in-other}
 use Rattle.sg_draft.specs.Tests.{Refuses}
 use Rattle.sg_model.specs.Faults.{OrNoMemory}
 use Rattle.sg_model.specs.declared.refusal.Fault.{Fault}
@@ -20,17 +19,16 @@ use Rattle.sg_model.specs.declared.refusal.Fault.TheVariants.{Refused}
 use Rattle.sg_model.specs.declared.refusal.Refusal.{Refusal}
 use Rattle.sg_reader.proofs.EndedLaws.{end-fault}
 use Rattle.sg_reader.proofs.ReadLaws.{body-fault, body-states}
-use Rattle.sg_model.specs.declared.refusal.Refusal.TheVariants.{BadNumber}
 
 -- which test a record of a lattice meets
 pub lattice_fault-seam : (wanted : ℕ) (body : List Kept) (r : Kept) → says_seam r ≡ true →
-    lattice_fault wanted body r ≡ sole_list_fault (list_any says_seam body) r
+    lattice_fault wanted body r ≡ sole_list_fault (is_some (seam_in body)) r
 unfolding lattice_fault
 lattice_fault-seam wanted body r h = rw h refl
 
 -- a record that is neither `seam` nor `end` is tested as couplings
 pub lattice_fault-couplings : (wanted : ℕ) (body : List Kept) (r : Kept) → says_seam r ≡ false → says_end r ≡ false
-    → lattice_fault wanted body r ≡ bad_number r 0 (λ i. any_number)
+    → lattice_fault wanted body r ≡ fields_fault (field_fault any_number) 0 r
 unfolding lattice_fault
 lattice_fault-couplings wanted body r h e = rw (h, e) refl
 
@@ -46,11 +44,6 @@ pub instance_of-lattice : (kind : Kind) (rows cols : ℕ) (body : List Kept)
 unfolding instance_of
 instance_of-lattice kind rows cols body = refl
 
--- whether a seam was seen
-pub seen-seam : (start : LatticeBody) (body : List Kept) (state : LatticeBody) → HoldsLattice start body state
-    → is_some state.seam ≡ list_any says_seam body
-seen-seam start body state h = ap is_some h.seam ∙ seam_in-seen body
-
 -- nothing was read yet
 pub holds-none : (state : LatticeBody) → state.couplings ≡ [] → state.seam ≡ None → HoldsLattice state [] state
 unfolding couplings_in seam_in
@@ -62,7 +55,7 @@ pub seam-taken : (old new : LatticeBody) (r : Kept) (seen : Bool) → is_some ol
     → TakesNext (λ s. lattice_fault s.wanted) HoldsLattice old r new
 seam-taken old new r seen was seam good same kept bonds = record {
   passes = λ start body h. lattice_fault-seam start.wanted body r seam
-      ∙ ap (λ (b : Bool). sole_list_fault b r) (sym (seen-seam start body old h) ∙ was) ∙ good;
+      ∙ ap (λ (b : Bool). sole_list_fault b r) (sym (ap is_some h.seam) ∙ was) ∙ good;
   goes_on = λ start body h. record {
     wanted = same ∙ h.wanted;
     couplings = kept ∙ h.couplings ∙ sym (couplings_in-seam body r seam);
@@ -76,17 +69,16 @@ pub seam-refused : (old : LatticeBody) (r : Kept) (seen : Bool) (e : Fault) → 
 seam-refused old r seen e was seam bad = record {
   refused = λ start body h.
       let same : lattice_fault start.wanted body r ≡ sole_list_fault seen r =
-      lattice_fault-seam start.wanted body r seam ∙ ap (λ (b : Bool). sole_list_fault b r) (sym (seen-seam start body old h) ∙ was) in
+      lattice_fault-seam start.wanted body r seam ∙ ap (λ (b : Bool). sole_list_fault b r) (sym (ap is_some h.seam) ∙ was) in
       rw same bad;
 }
 
 -- couplings are taken
-pub couplings-taken : (old new : LatticeBody) (r : Kept) → says_seam r ≡ false → says_end r ≡ false → bad_field r 0 (λ i. any_number) ≡ None
+pub couplings-taken : (old new : LatticeBody) (r : Kept) → says_seam r ≡ false → says_end r ≡ false → fields_fault (field_fault any_number) 0 r ≡ None
     → new.wanted ≡ old.wanted → new.couplings ≡ old.couplings ++ numbers_from r 0 → new.seam ≡ old.seam
     → TakesNext (λ s. lattice_fault s.wanted) HoldsLattice old r new
 couplings-taken old new r other goes_on good same added kept = record {
-  passes = λ start body h.
-      lattice_fault-couplings start.wanted body r other goes_on ∙ ap (λ (o : Option ℕ). option_map (λ i. BadNumber r.at i) o) good;
+  passes = λ start body h. lattice_fault-couplings start.wanted body r other goes_on ∙ good;
   goes_on = λ start body h. record {
     wanted = same ∙ h.wanted;
     couplings = added ∙ ap (λ (l : List ℤ). l ++ numbers_from r 0) h.couplings ∙ sym (couplings_in-more body r other);
@@ -96,7 +88,7 @@ couplings-taken old new r other goes_on good same added kept = record {
 
 -- couplings are refused
 pub couplings-refused : (old : LatticeBody) (r : Kept) (e : Fault) → says_seam r ≡ false → says_end r ≡ false
-    → OrNoMemory (Refuses (bad_number r 0 (λ i. any_number))) e → RefusesNext (λ s. lattice_fault s.wanted) HoldsLattice old r e
+    → OrNoMemory (Refuses (fields_fault (field_fault any_number) 0 r)) e → RefusesNext (λ s. lattice_fault s.wanted) HoldsLattice old r e
 couplings-refused old r e other goes_on bad = record { refused = λ start body h. rw (lattice_fault-couplings start.wanted body r other goes_on) bad }
 
 module _ (start : LatticeBody) (all : List Kept) (now : LatticeBody) (last : Kept) (rest : List Kept)

@@ -8,7 +8,6 @@ pub mod LatticeLaws
 pub mod GeneralLaws
 pub mod ResultLaws
 pub mod ReadLaws
-pub mod HeaderLaws
 pub mod RecordCounts
 pub mod RestLaws
 pub mod EndedLaws

@@ -1,5 +1,5 @@
 -- Records are read up to one end at most, or are refused at one record at most, and never both; over any table of tests.
-use Rattle.std.proofs.Common.{◌≡◌, ◌⊎◌, inl, inr, zero, suc, ◌<◌, true, false, List, [], ◌∷◌, ◌++◌, length, drop, get_or, Some, None, refl, sym, ap, ap₂, subst, ◌∙◌, arith}
+use Rattle.std.proofs.Common.{◌≡◌, ◌⊎◌, inl, inr, suc, true, false, List, [], ◌∷◌, ◌++◌, drop, get_or, Some, None, refl, sym, ap, ap₂, subst, ◌∙◌, arith}
 use Rattle.std.proofs.lemmas.Bool.{true≢false}
 use Rattle.std.proofs.lemmas.List.Elements.{All-head, All-tail}
 use Rattle.std.proofs.lemmas.Option.{none-some, same_Some}
@@ -8,7 +8,7 @@ use Rattle.sg_model.specs.declared.refusal.Refusal.TheVariants.{Trailing}
 use Rattle.sg_model.specs.OneAnswer.{HasOneAnswer}
 use Rattle.sg_reader.specs.Kept.{Kept}
 use Rattle.sg_reader.specs.Body.{says_end}
-use Rattle.sg_reader.specs.Ended.{AtRecord, AtTrailing, IsBody, IsTrailing, Leaving, RefusesAlone, RefusesRecords, StatesToEnd, TestTable, WhileRead, WithoutEnd}
+use Rattle.sg_reader.specs.Ended.{AtRecord, AtTrailing, IsBody, Leaving, RefusesAlone, RefusesRecords, StatesToEnd, TestTable, WhileRead, WithoutEnd}
 
 -- pairs with the same parts
 pub pair-same : {X Y : Type 0} (p q : X × Y) → p.0 ≡ q.0 → p.1 ≡ q.1 → p ≡ q

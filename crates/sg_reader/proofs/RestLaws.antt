@@ -1,13 +1,19 @@
 -- What a reader leaves, and a reading that leaves nothing.
 use Rattle.std.proofs.Common.{◌≡◌, List, [], ◌∷◌, ◌++◌, refl, sym, ap, subst, ◌∙◌, append_assoc, append-nil, Ok, Err}
 use Rattle.std.specs.Prelude.{IfOk, IfErr, OnOk, MatchResult}
+use Rattle.std.specs.Result.{IsErrAnd}
 use Rattle.std.specs.declared.result.Result.{Result}
+use Rattle.std.proofs.lemmas.Result.{err_from_is_err_and}
 use Rattle.sg_model.specs.declared.refusal.Fault.{Fault}
 use Rattle.sg_model.specs.declared.refusal.Fault.TheVariants.{Refused, NoMemory}
 use Rattle.sg_model.specs.declared.refusal.Refusal.{Refusal}
 use Rattle.sg_model.specs.Faults.{OrNoMemory}
 use Rattle.sg_reader.specs.Kept.{Kept}
 use Rattle.sg_reader.specs.Ended.{AtTrailing, Fails, IsRest, IsTrailing, RefusesAlone, WhileRead}
+
+-- what holds of an error holds of the exit of a `?` that gives it
+pub failed : {T E : Type 0} {x : E} (r : Result T E) (P : E → Type 0) → IsErrAnd r (λ y. y ≡ x) → P x → IfErr r P
+failed r P is h = let p = err_from_is_err_and r is in rw (p.1, p.2) h
 
 -- nothing was read
 pub rest-all : (records : List Kept) → IsRest records records

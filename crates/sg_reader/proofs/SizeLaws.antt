@@ -1,18 +1,12 @@
 -- How many spins and bonds an instance has that is read.
-use Rattle.std.proofs.Common.{◌≡◌, ℕ, ◌+◌, ◌-◌, ◌*◌, ◌/◌, ◌%◌, ◌≤◌, Bool, true, false, cond, eqb, List, length, Option, None, Some, refl, ap, ◌∙◌, arith, ℤ}
+use Rattle.std.proofs.Common.{◌≡◌, ℕ, ◌+◌, ◌-◌, ◌*◌, ◌/◌, ◌%◌, ◌≤◌, Bool, true, false, cond, eqb, List, Option, None, Some, refl, ap, ◌∙◌, arith, ℤ}
 use Rattle.std.proofs.lemmas.Nat.{mul-le}
-use Rattle.sg_limits.specs.Limits.{bond_limit}
 use Rattle.sg_model.specs.Ising.{Ising, bond_count}
 use Rattle.sg_lattice.specs.declared.kind.Kind.{Kind}
 use Rattle.sg_lattice.specs.declared.kind.Kind.TheVariants.{Square, Triangular, Hexagonal, Cylinder}
 use Rattle.sg_lattice.specs.Tables.{IsSize, bond_total, lattice, vertical_bonds_before}
 use Rattle.sg_lattice.proofs.LatticeBonds.{bond_count_is}
-use Rattle.sg_reader.specs.declared.general.GeneralBody.{GeneralBody}
-use Rattle.sg_reader.specs.declared.header.Header.TheVariants as header
-use Rattle.sg_reader.specs.Kept.{Kept}
 use Rattle.sg_draft.specs.Draft.{reseamed}
-use Rattle.sg_reader.specs.Body.{bonds_in, instance_of}
-use Rattle.sg_reader.specs.ReadInstance.{HoldsGeneral}
 
 -- a lattice has three bonds for each spin at most
 row-more : (k C : ℕ) → (k + 1) * C ≡ k * C + C
@@ -64,18 +58,3 @@ pub lattice-bonds : (kind : Kind) (R C : ℕ) (js : List ℤ) (seam : Option (Li
 lattice-bonds kind R C js seam inst size is =
     let count = ap bond_count is ∙ reseamed-bonds seam (lattice kind R C js) ∙ bond_count_is kind R C size js in
     omega (arith, count, bonds-of_lattice kind R C size)
-
--- a general instance has the spins that its first record says, and no more bonds than were taken
-pub general-spins : (n : ℕ) (body : List Kept) (inst : Ising) → inst ≡ instance_of (header.General n) body → inst.n ≡ n
-unfolding instance_of
-general-spins n body inst is = ap (λ (i : Ising). i.n) is
-
--- an instance that is read has no more bonds than the limit
-pub general-bonds : (n : ℕ) (start : GeneralBody) (body : List Kept) (state : GeneralBody) (inst : Ising) → HoldsGeneral start body state
-    → inst ≡ instance_of (header.General n) body → bond_count inst ≤ bond_limit
-unfolding instance_of
-general-bonds n start body state inst h is =
-    let count : bond_count inst ≡ length (bonds_in body) = ap bond_count is in
-    let held = ap length h.bonds in
-    let few = h.few in
-    omega (arith, count, held, few)

@@ -1,7 +1,7 @@
 -- The records of an instance after the first, up to its `end`: each is tested from the records between the first and
 -- itself, its `body`.
-use Rattle.std.specs.Prelude.{ℕ, ◌+◌, ◌-◌, ◌==◌, ◌&&◌, Bool, not, if◌then◌else◌, ℤ, List, [], ◌∷◌, length, map, filter, find, codes, Option, Some, option_map, unwrap_or}
-use Rattle.std.specs.List.{flat_map, list_any, range_with_len}
+use Rattle.std.specs.Prelude.{ℕ, ◌+◌, ◌-◌, ◌==◌, ◌&&◌, Bool, not, if◌then◌else◌, ℤ, List, [], ◌∷◌, length, map, filter, find, codes, Option, Some, is_some, option_map, unwrap_or}
+use Rattle.std.specs.List.{flat_map, range_with_len}
 use Rattle.sg_model.specs.declared.bond.Bond.{Bond}
 use Rattle.sg_model.specs.declared.refusal.Refusal.{Refusal}
 use Rattle.sg_model.specs.declared.refusal.Refusal.TheVariants.{BadShape, SelfBond, UnknownKind}
@@ -15,7 +15,7 @@ use Rattle.sg_draft.specs.Draft.{reseamed}
 use Rattle.sg_draft.specs.Limits.{program_limits}
 use Rattle.sg_draft.specs.Numbers.{bond_count_fault, coupling_count_fault}
 use Rattle.sg_draft.specs.Tests.{first_of, refuse_if}
-use Rattle.sg_reader.specs.Tests.{any_index, any_number, bad_number, first_then_index, number_in, field_count_fault, size_in, spin_below}
+use Rattle.sg_reader.specs.Tests.{any_index, any_number, field_count_fault, fields_fault, field_fault, number_in, size_in, spin_below}
 
 -- the record begins with `end`
 abbrev pub says_end : Kept → Bool
@@ -61,17 +61,21 @@ bonds_in body = map bond_of (filter says_bond body)
 abbrev pub says_rot_of : ℕ → Kept → Bool
 says_rot_of i r = says_rot r && (size_in r 1 == i)
 
+-- the darts in the first record `rot,I,D,D,D` of spin i, if there is one
+unfoldable pub rot_in : List Kept → ℕ → Option (List ℕ)
+rot_in body i = option_map (λ r. sizes_from r 2) (find (says_rot_of i) body)
+
 -- a record `rot,I,D,D,D` is of spin i
-unfoldable pub has_rot : List Kept → ℕ → Bool
-has_rot body i = list_any (says_rot_of i) body
+abbrev pub has_rot : List Kept → ℕ → Bool
+has_rot body i = is_some (rot_in body i)
 
 -- the darts of spin i by its record `rot,I,D,D,D`, and none if it has no such record
-unfoldable pub darts_in : List Kept → ℕ → List ℕ
-darts_in body i = unwrap_or (option_map (λ r. sizes_from r 2) (find (says_rot_of i) body)) []
+abbrev pub darts_in : List Kept → ℕ → List ℕ
+darts_in body i = unwrap_or (rot_in body i) []
 
 -- the tests of a list of indices that may be given once: it was not seen before, and each field is an index
 abbrev pub sole_list_fault : Bool → Kept → Option Refusal
-sole_list_fault seen r = first_of (refuse_if seen (BadShape r.at) ∷ bad_number r 1 (λ i. any_index) ∷ [])
+sole_list_fault seen r = first_of (refuse_if seen (BadShape r.at) ∷ fields_fault (field_fault any_index) 1 r ∷ [])
 
 -- the record that ends a lattice of `wanted` bonds with the couplings that were found
 abbrev pub lattice_end_fault : ℕ → ℕ → Kept → Option Refusal
@@ -80,17 +84,18 @@ lattice_end_fault wanted found r = first_of (field_count_fault 1 r ∷ coupling_
 -- the tests of a record of a lattice
 unfoldable pub lattice_fault : ℕ → List Kept → Kept → Option Refusal
 lattice_fault wanted body r =
-    if says_seam r then sole_list_fault (list_any says_seam body) r
+    if says_seam r then sole_list_fault (is_some (seam_in body)) r
     else (if says_end r then lattice_end_fault wanted (length (couplings_in body)) r
-    else bad_number r 0 (λ i. any_number))
+    else fields_fault (field_fault any_number) 0 r)
 
--- the range of field i of a record that connects two of n spins, followed by a number of this range
-abbrev pub link_range : Range → ℕ → ℕ → Range
-link_range range n i = if i == 3 then range else spin_below n
-
--- the tests of such a record: it has four fields, and each number is of the range of its place
+-- the tests of a record `WORD,U,V,Z` that connects two of n spins, followed by a number of the range
 unfoldable pub link_fault : Range → ℕ → Kept → Option Refusal
-link_fault range n r = first_of (field_count_fault 4 r ∷ bad_number r 1 (link_range range n) ∷ [])
+link_fault range n r = first_of (
+    field_count_fault 4 r
+    ∷ field_fault (spin_below n) 1 r
+    ∷ field_fault (spin_below n) 2 r
+    ∷ field_fault range 3 r
+    ∷ [])
 
 -- bond m between spins u and v: it is one too many, or it connects a spin to itself
 abbrev pub ends_fault : ℕ → ℕ → ℕ → Option Refusal
@@ -104,7 +109,8 @@ bond_fault n m r = first_of (link_fault any_number n r ∷ ends_fault (size_in r
 abbrev pub rot_fault : ℕ → Bool → Kept → Option Refusal
 rot_fault n seen r = first_of (
     refuse_if (length r.fields == 1) (BadShape r.at)
-    ∷ bad_number r 1 (first_then_index (spin_below n))
+    ∷ field_fault (spin_below n) 1 r
+    ∷ fields_fault (field_fault any_index) 2 r
     ∷ refuse_if seen (BadShape r.at)
     ∷ [])
 
@@ -113,7 +119,7 @@ unfoldable pub general_fault : ℕ → List Kept → Kept → Option Refusal
 general_fault n body r =
     if says_bond r then bond_fault n (length (bonds_in body)) r
     else (if says_rot r then rot_fault n (has_rot body (size_in r 1)) r
-    else (if says_seam r then sole_list_fault (list_any says_seam body) r
+    else (if says_seam r then sole_list_fault (is_some (seam_in body)) r
     else (if says_end r then field_count_fault 1 r
     else Some (UnknownKind r.at))))
 

@@ -1,15 +1,15 @@
 -- The records of a result, which states an energy, spins and loops: which word is in which place, the tests of each
 -- record, and what they state; the first failed check of a record, in the order of the records, refuses them.
-use Rattle.std.specs.Prelude.{◌≡◌, ℕ, ◌-◌, ◌≤◌, ◌==◌, Bool, false, not, ℤ, unsigned_abs, if◌then◌else◌, List, [], ◌∷◌, length, map, drop, find, codes, Option, Some, None, option_map}
-use Rattle.std.specs.List.{range_with_len, sum_by}
+use Rattle.std.specs.Prelude.{◌≡◌, ℕ, ◌≤◌, ◌==◌, Bool, false, not, ℤ, unsigned_abs, if◌then◌else◌, List, [], ◌∷◌, length, map, drop, codes, Option, Some, None}
+use Rattle.std.specs.List.{sum_by}
 use Rattle.sg_model.specs.declared.refusal.Refusal.{Refusal}
 use Rattle.sg_model.specs.declared.refusal.Refusal.TheVariants.{BadNumber, BadShape}
 use Rattle.sg_check.specs.declared.packing.Loop.{Loop}
 use Rattle.sg_check.specs.declared.packing.ResultText.{ResultText}
 use Rattle.sg_reader.specs.declared.result.LoopsBody.{LoopsBody}
-use Rattle.sg_reader.specs.Kept.{Kept, field}
+use Rattle.sg_reader.specs.Kept.{Kept}
 use Rattle.sg_draft.specs.Tests.{first_of, refuse_if}
-use Rattle.sg_reader.specs.Tests.{any_number, bad_number, first_then_index, number_in, number_of, field_count_fault, word_fault}
+use Rattle.sg_reader.specs.Tests.{any_index, any_number, field_count_fault, fields_fault, field_number, field_fault, number_in, word_fault}
 use Rattle.sg_reader.specs.Body.{says_end, numbers_from, sizes_from}
 use Rattle.sg_reader.specs.Ended.{RefusesRecords, StatesToEnd, record_at}
 
@@ -18,25 +18,26 @@ abbrev pub is_spin_value : Option ℤ → Bool
 is_spin_value None = false
 is_spin_value (Some number) = unsigned_abs number == 1
 
--- the first field after the word that is no value of a spin
-unfoldable pub bad_spin : Kept → Option ℕ
-bad_spin r = find (λ i. not (is_spin_value (number_of (field r i)))) (range_with_len 1 (length r.fields - 1))
+-- the test of the value in field i
+unfoldable pub spin_fault : ℕ → Kept → Option Refusal
+spin_fault i r = refuse_if (not (is_spin_value (field_number r i))) (BadNumber r.at i)
 
 -- the energy, `energy,E`
 abbrev pub energy_fault : Kept → Option Refusal
 energy_fault r =
-    first_of (word_fault (codes "energy") r ∷ field_count_fault 2 r ∷ bad_number r 1 (λ i. any_number) ∷ [])
+    first_of (word_fault (codes "energy") r ∷ field_count_fault 2 r ∷ field_fault any_number 1 r ∷ [])
 
 -- the spins, `spins,S,S,..`, perhaps none
 abbrev pub spins_fault : Kept → Option Refusal
-spins_fault r = first_of (word_fault (codes "spins") r ∷ option_map (λ i. BadNumber r.at i) (bad_spin r) ∷ [])
+spins_fault r = first_of (word_fault (codes "spins") r ∷ fields_fault spin_fault 1 r ∷ [])
 
 -- a loop `loop,Y,B,B,..`: any weight, and then bonds, perhaps none
 abbrev pub loop_fault : Kept → Option Refusal
 loop_fault r = first_of (
     word_fault (codes "loop") r
     ∷ refuse_if (length r.fields == 1) (BadShape r.at)
-    ∷ bad_number r 1 (first_then_index any_number)
+    ∷ field_fault any_number 1 r
+    ∷ fields_fault (field_fault any_index) 2 r
     ∷ [])
 
 -- the tests of a record after the energy and the spins: a loop, or the `end`

@@ -1,11 +1,11 @@
 -- Whole numbers in the fields of a text, and the tests of those of a record: each gives its refusal if it fails.
-use Rattle.std.specs.Prelude.{ℕ, ◌-◌, ◌^◌, ◌==◌, ◌&&◌, nat_lt, if◌then◌else◌, Bool, false, not, ℤ, pos, neg_ℤ, int_le, unsigned_abs, List, length, find, Option, Some, None, option_map, unwrap_or}
+use Rattle.std.specs.Prelude.{ℕ, ◌-◌, ◌^◌, ◌==◌, ◌&&◌, nat_lt, if◌then◌else◌, Bool, false, not, ℤ, pos, neg_ℤ, int_le, unsigned_abs, List, length, map, Option, Some, None, unwrap_or}
 use Rattle.std.specs.List.{range_with_len}
 use Rattle.std.specs.Str.{all_ascii_digits}
 use Rattle.std.specs.Str.Parse.{digits_value, signed_digits_value, without_leading_sign}
 use Rattle.sg_model.specs.declared.refusal.Refusal.{Refusal}
 use Rattle.sg_model.specs.declared.refusal.Refusal.TheVariants.{BadNumber, BadShape, UnknownKind}
-use Rattle.sg_draft.specs.Tests.{refuse_if}
+use Rattle.sg_draft.specs.Tests.{first_of, refuse_if}
 use Rattle.sg_reader.specs.declared.range.Range.{Range}
 use Rattle.sg_reader.specs.Kept.{Kept, begins, field}
 
@@ -38,35 +38,30 @@ spin_below n = record { low = pos 0; high = pos (n - 1) }
 abbrev pub any_index : Range
 any_index = record { low = pos 0; high = pos (2 ^ 32 - 1) }
 
--- the range of field i of a record whose first number is of this range, and whose further numbers are indices
-abbrev pub first_then_index : Range → ℕ → Range
-first_then_index range i = if i == 1 then range else any_index
-
 -- whether there is a number, and it is of the range
 abbrev pub is_in : Range → Option ℤ → Bool
 is_in range None = false
 is_in range (Some number) = int_le range.low number && int_le number range.high
 
--- whether a field is a number of the range
-abbrev pub is_number_in : Range → List ℕ → Bool
-is_number_in range text = is_in range (number_of text)
+-- the number that field i spells, if it spells one
+abbrev pub field_number : Kept → ℕ → Option ℤ
+field_number r i = number_of (field r i)
 
 -- the number in field i, and 0 if it is none
 abbrev pub number_in : Kept → ℕ → ℤ
-number_in r i = unwrap_or (number_of (field r i)) (pos 0)
+number_in r i = unwrap_or (field_number r i) (pos 0)
 
 -- the size of the number in field i
 abbrev pub size_in : Kept → ℕ → ℕ
 size_in r i = unsigned_abs (number_in r i)
 
--- the first field from field `from` on that is no number of the range of its place
-unfoldable pub bad_field : Kept → ℕ → (ℕ → Range) → Option ℕ
-bad_field r from range =
-    find (λ i. not (is_number_in (range i) (field r i))) (range_with_len from (length r.fields - from))
+-- the test of the number in field i: it is of the range
+unfoldable pub field_fault : Range → ℕ → Kept → Option Refusal
+field_fault range i r = refuse_if (not (is_in range (field_number r i))) (BadNumber r.at i)
 
--- the test of the numbers of a record from field `from` on: it is refused at the first that is bad
-abbrev pub bad_number : Kept → ℕ → (ℕ → Range) → Option Refusal
-bad_number r from range = option_map (λ i. BadNumber r.at i) (bad_field r from range)
+-- one test for each field from field `from` on: the first that fails counts
+unfoldable pub fields_fault : (ℕ → Kept → Option Refusal) → ℕ → Kept → Option Refusal
+fields_fault test from r = first_of (map (λ i. test i r) (range_with_len from (length r.fields - from)))
 
 -- the test of the word that a record begins with
 abbrev pub word_fault : List ℕ → Kept → Option Refusal

@@ -1,8 +1,7 @@
-ghost use Rattle.std.specs.Prelude.{◌≡◌, ◌<◌, ◌≤◌, ◌++◌, true, length, None, Some, IfOk, IfErr, OnOk};
+ghost use Rattle.std.specs.Prelude.{◌≡◌, ◌<◌, ◌≤◌, ◌≤ℤ◌, ◌++◌, length, None, Some, IfOk, IfErr, OnOk};
 ghost use Rattle.sg_reader.specs.Body.{link_fault, numbers_from, sole_list_fault, sizes_from};
 ghost use Rattle.sg_draft.specs.Tests.{Refuses};
-ghost use Rattle.sg_reader.specs.Tests.{any_index, any_number, bad_field, bad_number, is_number_in, number_in, size_in};
-ghost use Rattle.sg_reader.specs.Kept.{field};
+ghost use Rattle.sg_reader.specs.Tests.{any_index, any_number, fields_fault, field_fault, number_in, size_in};
 ghost use Rattle.sg_model.specs.Faults.{OrNoMemory};
 
 use super::range::Range;
@@ -18,9 +17,9 @@ pub(crate) const SEAM: &[u8] = b"seam";
 
 /// Adds the couplings of a record, which are all its fields.
 pub(crate) fn push_couplings(couplings: &mut Couplings, row: &Row) -> Result<(), Fault>
-    ensures passes { OnOk result (bad_field row.now 0 (λ i. any_number) ≡ None) }
+    ensures passes { OnOk result (fields_fault (field_fault any_number) 0 row.now ≡ None) }
     ensures added { OnOk result (couplings.new ≡ couplings.old ++ numbers_from row.now 0) }
-    ensures fault { IfErr result (OrNoMemory (Refuses (bad_number row.now 0 (λ i. any_number)))) }
+    ensures fault { IfErr result (OrNoMemory (Refuses (fields_fault (field_fault any_number) 0 row.now))) }
 {
     for i in 0..row.len() {
         let coupling = row.number(i, Range::any_number())?;
@@ -32,9 +31,9 @@ pub(crate) fn push_couplings(couplings: &mut Couplings, row: &Row) -> Result<(),
 /// The numbers of bonds or darts in the fields of a record from field `from` on.
 pub(crate) fn indices(alloc: Global, row: &Row, from: usize) -> Result<BondList, Fault>
     requires { from ≤ length row.now.fields }
-    ensures passes { IfOk result (λ l. bad_field row.now from (λ i. any_index) ≡ None) }
+    ensures passes { IfOk result (λ l. fields_fault (field_fault any_index) from row.now ≡ None) }
     ensures value { IfOk result (λ l. l ≡ sizes_from row.now from) }
-    ensures fault { IfErr result (OrNoMemory (Refuses (bad_number row.now from (λ i. any_index)))) }
+    ensures fault { IfErr result (OrNoMemory (Refuses (fields_fault (field_fault any_index) from row.now))) }
 {
     let mut list = BondList::new(alloc);
     for i in from..row.len() {
@@ -72,12 +71,14 @@ pub struct Link {
 ///
 /// # Errors
 /// In this order: `BadShape` for another number of fields, and `BadNumber`.
+#[tactic(auto, unfolding(crate::specs::Body::link_fault))]
 pub fn read_link(row: &Row, n: u32, range: Range) -> Result<Link, Refusal>
     requires { 1 ≤ n }
     ensures passes { IfOk result (λ l. link_fault range n row.now ≡ None) }
     ensures u { IfOk result (λ l. (l.u ≡ size_in row.now 1) × (l.u < n)) }
     ensures v { IfOk result (λ l. (l.v ≡ size_in row.now 2) × (l.v < n)) }
-    ensures value { IfOk result (λ l. (l.value ≡ number_in row.now 3) × (is_number_in range (field row.now 3) ≡ true)) }
+    ensures value { IfOk result (λ l. l.value ≡ number_in row.now 3) }
+    ensures bounds { IfOk result (λ l. (range.low ≤ℤ l.value) × (l.value ≤ℤ range.high)) }
     ensures refused { IfErr result (λ e. link_fault range n row.now ≡ Some e) }
 {
     row.check_shape(4)?;

@@ -1,10 +1,10 @@
 ghost use Rattle.std.specs.Prelude.{Bool, ◌≡◌, ◌≢◌, ◌<◌, ◌≤◌, [], ◌^◌, List, true, None, Some, length, IfOk, IfErr, OnOk};
 ghost use Rattle.sg_limits.specs.Limits.{bond_limit};
-ghost use Rattle.sg_model.specs.Ising.{IsBond, bond_count};
+ghost use Rattle.sg_model.specs.Ising.{IsBond};
 ghost use Rattle.sg_model.specs.WellFormed.{IsInstance};
 ghost use Rattle.sg_reader.specs.declared.header.Header.TheVariants as header;
-ghost use Rattle.sg_reader.specs.Kept.{Kept, field};
-ghost use Rattle.sg_reader.specs.Tests.{is_number_in, size_in, spin_below};
+ghost use Rattle.sg_reader.specs.Kept.{Kept};
+ghost use Rattle.sg_reader.specs.Tests.{field_fault, size_in, spin_below};
 ghost use Rattle.sg_reader.specs.Body.{bond_fault, bond_of, ends_fault, general_fault, instance_of, says_bond, says_rot, says_seam, rot_fault};
 ghost use Rattle.sg_reader.specs.ReadInstance.{HoldsGeneral, ReadsBody, RefusesBody};
 ghost use Rattle.sg_reader.specs.Ended.{Fails, HoldsSome, RefusesNext, TakesNext};
@@ -73,7 +73,7 @@ fn rot_spin(row: &Row, n: u32) -> Result<u32, Refusal>
     ensures count { IfOk result (λ i. 2 ≤ length row.now.fields) }
     ensures value { IfOk result (λ i. i ≡ size_in row.now 1) }
     ensures below { IfOk result (λ i. i < n) }
-    ensures good { IfOk result (λ i. is_number_in (spin_below n) (field row.now 1) ≡ true) }
+    ensures passes { IfOk result (λ i. field_fault (spin_below n) 1 row.now ≡ None) }
     ensures refused { IfErr result (λ e. (seen : Bool) → rot_fault n seen row.now ≡ Some e) }
 {
     if row.len() == 1 {
@@ -203,8 +203,6 @@ pub(crate) fn read_general(
     requires small { n ≤ 2 ^ 24 }
     ensures read { IfOk result (λ inst. ReadsBody (header.General n) records.old inst records.new) }
     ensures instance { IfOk result IsInstance }
-    ensures spins { IfOk result (λ inst. inst.n ≡ n) }
-    ensures bonds { IfOk result (λ inst. bond_count inst ≤ bond_limit) }
     ensures fault { IfErr result (Fails (RefusesBody (header.General n) records.old) records.old records.new) }
 {
     let mut body = GeneralBody::new(alloc, n)?;

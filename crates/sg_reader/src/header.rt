@@ -1,6 +1,6 @@
 ghost use Rattle.std.specs.Prelude.{◌≡◌, ◌≤◌, ◌*◌, None, Some, IfOk, IfErr};
 ghost use Rattle.sg_reader.specs.declared.header.Form.TheVariants as form;
-ghost use Rattle.sg_reader.specs.Header.{form_fault, form_of, header_fault, header_of, header_with, IsHeader};
+ghost use Rattle.sg_reader.specs.Header.{form_fault, form_header, form_of, header_fault, header_of, IsHeader};
 
 use super::range::Range;
 use super::row::Row;
@@ -55,9 +55,10 @@ pub fn form_named(word: &[u8]) -> Option<Form>
 }
 
 // `square,R,C` and its like.
+#[tactic(auto, unfolding(crate::specs::Header::form_fault, crate::specs::Header::form_header))]
 fn lattice_header(row: &Row, kind: Kind) -> Result<Header, Refusal>
     ensures passes { IfOk result (λ h. form_fault (Some (form.Lattice kind)) row.now ≡ None) }
-    ensures value { IfOk result (λ h. h ≡ header_with row.now (form.Lattice kind)) }
+    ensures value { IfOk result (λ h. form_header (Some (form.Lattice kind)) row.now ≡ Some h) }
     ensures sound { IfOk result IsHeader }
     ensures refused { IfErr result (λ e. form_fault (Some (form.Lattice kind)) row.now ≡ Some e) }
 {
@@ -73,9 +74,10 @@ fn lattice_header(row: &Row, kind: Kind) -> Result<Header, Refusal>
 }
 
 // `general,N`.
+#[tactic(auto, unfolding(crate::specs::Header::form_fault, crate::specs::Header::form_header))]
 fn general_header(row: &Row) -> Result<Header, Refusal>
     ensures passes { IfOk result (λ h. form_fault (Some form.General) row.now ≡ None) }
-    ensures value { IfOk result (λ h. h ≡ header_with row.now form.General) }
+    ensures value { IfOk result (λ h. form_header (Some form.General) row.now ≡ Some h) }
     ensures sound { IfOk result IsHeader }
     ensures refused { IfErr result (λ e. form_fault (Some form.General) row.now ≡ Some e) }
 {
@@ -90,6 +92,7 @@ fn general_header(row: &Row) -> Result<Header, Refusal>
 /// # Errors
 /// In this order: `UnknownKind` for another first word, `BadShape` for another number of fields,
 /// `BadNumber`, and `TooManySpins` above the limit.
+#[tactic(auto, unfolding(crate::specs::Header::form_fault, crate::specs::Header::header_fault, crate::specs::Header::header_of))]
 pub(crate) fn read_header(row: &Row) -> Result<Header, Refusal>
     ensures passes { IfOk result (λ h. header_fault row.now ≡ None) }
     ensures value { IfOk result (λ h. header_of row.now ≡ Some h) }

@@ -1,9 +1,8 @@
-ghost use Rattle.std.specs.Prelude.{◌≡◌, ◌≤◌, ◌*◌, [], IfOk, IfErr};
-ghost use Rattle.sg_model.specs.Ising.{bond_count};
+ghost use Rattle.std.specs.Prelude.{◌≡◌, [], None, Some, IfOk, IfErr, OnOk};
 ghost use Rattle.sg_model.specs.WellFormed.{IsInstance};
 ghost use Rattle.sg_lattice.specs.Tables.{IsSize};
 ghost use Rattle.sg_reader.specs.declared.header.Header.TheVariants as header;
-ghost use Rattle.sg_reader.specs.Body.{lattice_fault};
+ghost use Rattle.sg_reader.specs.Body.{lattice_end_fault, lattice_fault};
 ghost use Rattle.sg_reader.specs.ReadInstance.{HoldsLattice, ReadsBody, RefusesBody};
 ghost use Rattle.sg_reader.specs.Ended.{Fails};
 
@@ -14,7 +13,7 @@ use super::row::Row;
 use super::rows::Rows;
 use sg_draft::{Size, build_lattice, check_coupling_count};
 use sg_lattice::{Kind, bond_count};
-use sg_model::{BondList, Couplings, Fault, Instance};
+use sg_model::{BondList, Couplings, Fault, Instance, Refusal};
 use std::alloc::Global;
 
 /// What the records of a lattice have given so far; so many couplings are wanted.
@@ -57,6 +56,17 @@ impl Gather for LatticeBody {
     }
 }
 
+// The tests of the record that ends a lattice of `wanted` bonds with the couplings that were found.
+fn check_end(row: &Row, found: usize, wanted: u32) -> Result<(), Refusal>
+    ensures count { OnOk result (found ≡ wanted) }
+    ensures passes { OnOk result (lattice_end_fault wanted found row.now ≡ None) }
+    ensures refused { IfErr result (λ e. lattice_end_fault wanted found row.now ≡ Some e) }
+{
+    row.check_shape(1)?;
+    check_coupling_count(found, wanted)?;
+    Ok(())
+}
+
 /// Reads the records of a lattice behind the first, up to its `end`, and gives the instance.
 ///
 /// # Errors
@@ -73,15 +83,12 @@ pub(crate) fn read_lattice(
     requires { IsSize kind rows cols }
     ensures read { IfOk result (λ inst. ReadsBody (header.Lattice kind rows cols) records.old inst records.new) }
     ensures instance { IfOk result IsInstance }
-    ensures spins { IfOk result (λ inst. inst.n ≡ rows * cols) }
-    ensures bonds { IfOk result (λ inst. bond_count inst ≤ 3 * (rows * cols)) }
     ensures fault { IfErr result (Fails (RefusesBody (header.Lattice kind rows cols) records.old) records.old records.new) }
 {
     let bonds = bond_count(kind, rows, cols);
     let mut body = LatticeBody::new(alloc, bonds)?;
     read_to_end(alloc, records, row, &mut body)?;
-    row.check_shape(1)?;
-    check_coupling_count(body.couplings.len(), bonds)?;
+    check_end(row, body.couplings.len(), bonds)?;
     let inst = build_lattice(alloc, kind, Size { rows, cols }, body.couplings, body.seam)?;
     Ok(inst)
 }

@@ -1,12 +1,11 @@
 ghost use Rattle.std.specs.Prelude.{◌≡◌, ◌<◌, ◌+◌, ◌^◌, [], ◌∷◌, ◌≤◌, None, Some, true, false, length, pos, IfOk, IfErr, OnErr, OnOk, MatchBool, ◌≤ℤ◌, ℕ, List};
 ghost use Rattle.std.specs.Str.{bytes_eq};
 ghost use Rattle.std.specs.List.{sum_by};
-ghost use Rattle.sg_model.specs.declared.refusal.Refusal.TheVariants.{BadNumber as IsBadNumber};
 ghost use Rattle.sg_reader.specs.Field.{fields_in};
 ghost use Rattle.sg_reader.specs.Kept.{begins as begins_with, field as field_of, is_kept as is_kept_row, is_comment as is_comment_field};
 ghost use Rattle.sg_model.specs.Spins.{IsUpOrDown};
-ghost use Rattle.sg_reader.specs.Tests.{is_number_in, number_in, number_of, field_count_fault, size_in, word_fault};
-ghost use Rattle.sg_reader.specs.Result.{is_spin_value};
+ghost use Rattle.sg_reader.specs.Tests.{field_count_fault, field_fault, number_in, size_in, word_fault};
+ghost use Rattle.sg_reader.specs.Result.{spin_fault};
 
 use super::cursor::Cursor;
 use super::field::{field_at, field_count};
@@ -148,11 +147,13 @@ impl Row {
     }
 
     /// The number in field `i`, if it is in the range of its place.
+    #[tactic(auto, unfolding(crate::specs::Tests::field_fault))]
     pub fn number(&self, i: usize, range: Range) -> Result<i64, Refusal>
         requires { i < length self.now.fields }
-        ensures ok { IfOk result (λ z. (z ≡ number_in self.now i) × (is_number_in range (field_of self.now i) ≡ true)) }
-        ensures refused { IfErr result (λ e. (e ≡ IsBadNumber self.now.at i)
-            × (is_number_in range (field_of self.now i) ≡ false)) }
+        ensures passes { IfOk result (λ z. field_fault range i self.now ≡ None) }
+        ensures value { IfOk result (λ z. z ≡ number_in self.now i) }
+        ensures bounds { IfOk result (λ z. (range.low ≤ℤ z) × (z ≤ℤ range.high)) }
+        ensures refused { IfErr result (λ e. field_fault range i self.now ≡ Some e) }
     {
         match number(self.field(i)) {
             Some(value) if range.holds(value) => Ok(value),
@@ -164,13 +165,13 @@ impl Row {
     }
 
     /// The value of a spin in field `i`, 1 or -1.
+    #[tactic(auto, unfolding(crate::specs::Result::spin_fault))]
     pub(crate) fn spin(&self, i: usize) -> Result<i8, Refusal>
         requires { i < length self.now.fields }
-        ensures ok { IfOk result (λ z. (z ≡ number_in self.now i)
-            × (is_spin_value (number_of (field_of self.now i)) ≡ true)) }
+        ensures passes { IfOk result (λ z. spin_fault i self.now ≡ None) }
+        ensures value { IfOk result (λ z. z ≡ number_in self.now i) }
         ensures up_or_down { IfOk result IsUpOrDown }
-        ensures refused { IfErr result (λ e. (e ≡ IsBadNumber self.now.at i)
-            × (is_spin_value (number_of (field_of self.now i)) ≡ false)) }
+        ensures refused { IfErr result (λ e. spin_fault i self.now ≡ Some e) }
     {
         match number(self.field(i)) {
             Some(1) => Ok(1),
@@ -186,11 +187,11 @@ impl Row {
     pub fn size(&self, i: usize, range: Range) -> Result<u64, Refusal>
         requires inside { i < length self.now.fields }
         requires natural { pos 0 ≤ℤ range.low }
-        ensures ok { IfOk result (λ n. (n ≡ size_in self.now i) × (is_number_in range (field_of self.now i) ≡ true)) }
+        ensures passes { IfOk result (λ n. field_fault range i self.now ≡ None) }
+        ensures value { IfOk result (λ n. n ≡ size_in self.now i) }
         ensures fits { IfOk result (λ n. n < 2 ^ 63) }
         ensures bounds { IfOk result (λ n. (range.low ≤ℤ pos n) × (pos n ≤ℤ range.high)) }
-        ensures refused { IfErr result (λ e. (e ≡ IsBadNumber self.now.at i)
-            × (is_number_in range (field_of self.now i) ≡ false)) }
+        ensures refused { IfErr result (λ e. field_fault range i self.now ≡ Some e) }
     {
         let value = self.number(i, range)?;
         Ok(value as u64)

@@ -1,12 +1,12 @@
-use Rattle.std.proofs.lemmas.Result.{err_from_is_err_and}
 use Rattle.sg_graph_text.proofs.ReadLaws.{body-fails, body-states, end-fails}
+use Rattle.sg_reader.proofs.RestLaws.{failed}
 use Rattle.sg_graph_text.proofs.body.read_body.Goals as goal
 
 pub returns-in_err-read_to_end-clause-fault : goal.returns-in_err-read_to_end-clause-fault
 returns-in_err-read_to_end-clause-fault c =
-    let p = err_from_is_err_and c.from_residual.result c.from_residual.ensures.1 in
     let bad = c.in_err-read_to_end.ensures.fault in
-    rw (p.1, p.2) (body-fails c.args.terms c.args.n c.new-body.result c.args.records.now c.read_to_end.new.rows c.in_err-read_to_end.field-0.0
+    failed c.from_residual.result _ c.from_residual.ensures.1
+    (body-fails c.args.terms c.args.n c.new-body.result c.args.records.now c.read_to_end.new.rows c.in_err-read_to_end.field-0.0
     c.new-body.ensures.terms c.new-body.ensures.nodes bad)
 
 pub graph-requires-clause-end : goal.graph-requires-clause-end
@@ -19,9 +19,9 @@ graph-requires-clause-held c =
 
 pub returns-in_err-graph-clause-fault : goal.returns-in_err-graph-clause-fault
 returns-in_err-graph-clause-fault c =
-    let p = err_from_is_err_and c.from_residual-in_err-graph.result c.from_residual-in_err-graph.ensures.1 in
     let bad = c.in_err-graph.ensures.fault in
-    rw (p.1, p.2) (end-fails c.args.terms c.args.n c.new-body.result c.args.records.now c.read_to_end.new.body c.read_to_end.new.row
+    failed c.from_residual-in_err-graph.result _ c.from_residual-in_err-graph.ensures.1
+    (end-fails c.args.terms c.args.n c.new-body.result c.args.records.now c.read_to_end.new.body c.read_to_end.new.row
     c.read_to_end.new.rows c.in_ok-read_to_end.ensures.ended c.in_err-graph.field-0.0 c.new-body.ensures.terms c.new-body.ensures.nodes bad)
 
 pub returns-clause-read : goal.returns-clause-read

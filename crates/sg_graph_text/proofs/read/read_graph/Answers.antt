@@ -1,14 +1,14 @@
 use Rattle.std.proofs.Common.{ℕ, subst}
-use Rattle.std.proofs.lemmas.Result.{IfErr-weaker, IfOk-weaker, err_from_is_err_and}
+use Rattle.std.proofs.lemmas.Result.{IfErr-weaker, IfOk-weaker}
 use Rattle.sg_reader.specs.Ended.{StatesToEnd, RefusesRecords, Fails}
 use Rattle.sg_graph_text.specs.Graph.{body_fault, body_graph}
 use Rattle.sg_graph_text.proofs.ReadLaws.{behind-fault, behind-graph}
+use Rattle.sg_reader.proofs.RestLaws.{failed}
 use Rattle.sg_graph_text.proofs.read.read_graph.Goals as goal
 
 pub returns-in_err-nodes-clause-fault : goal.returns-in_err-nodes-clause-fault
 returns-in_err-nodes-clause-fault c =
-    let p = err_from_is_err_and c.from_residual.result c.from_residual.ensures.1 in
-    rw (p.1, p.2) c.in_err-nodes.ensures.fault
+    failed c.from_residual.result _ c.from_residual.ensures.1 c.in_err-nodes.ensures.fault
 
 pub returns-clause-read : goal.returns-clause-read
 returns-clause-read c =

@@ -1,8 +1,7 @@
 use Rattle.std.proofs.Common.{◌≡◌, true, false, sym, ◌∙◌}
-use Rattle.std.proofs.lemmas.Result.{err_from_is_err_and}
 use Rattle.sg_reader.specs.Body.{says_end}
 use Rattle.sg_reader.proofs.EndedLaws.{taken-end, taken-fault, taken-more, taken-none, taken-without}
-use Rattle.sg_reader.proofs.RestLaws.{rest-none}
+use Rattle.sg_reader.proofs.RestLaws.{failed, rest-none}
 use Rattle.sg_reader.proofs.ended.read_to_end.Goals as goal
 
 pub loop-row-init : goal.loop-row-init
@@ -10,8 +9,7 @@ loop-row-init g c = taken-none g.B.Gather.tests g.B.Gather.holds c.args.body.now
 
 pub returns-in_err-next-clause-fault : goal.returns-in_err-next-clause-fault
 returns-in_err-next-clause-fault g c =
-    let p = err_from_is_err_and c.from_residual.result c.from_residual.ensures.1 in
-    rw (p.1, p.2) (rest-none c.args.rows.now c.next.new.self c.in_err-next.ensures.failed)
+    failed c.from_residual.result _ c.from_residual.ensures.1 (rest-none c.args.rows.now c.next.new.self c.in_err-next.ensures.failed)
 
 pub returns-then-begins-clause-ended : goal.returns-then-begins-clause-ended
 returns-then-begins-clause-ended g c =
@@ -23,9 +21,9 @@ returns-then-begins-clause-ended g c =
 
 pub returns-in_err-take-clause-fault : goal.returns-in_err-take-clause-fault
 returns-in_err-take-clause-fault g c =
-    let p = err_from_is_err_and c.from_residual-in_err-take.result c.from_residual-in_err-take.ensures.1 in
     let next = rw c.if-branch.true at c.in_ok-next.ensures.found in
-    rw (p.1, p.2) (taken-fault g.B.Gather.tests g.B.Gather.holds c.args.body.now c.args.rows.now c.loop-row.rows c.loop-row.body c.loop-row.invariant
+    failed c.from_residual-in_err-take.result _ c.from_residual-in_err-take.ensures.1
+    (taken-fault g.B.Gather.tests g.B.Gather.holds c.args.body.now c.args.rows.now c.loop-row.rows c.loop-row.body c.loop-row.invariant
     c.next.new.row
     c.next.new.self c.in_err-take.field-0.0 next c.in_err-take.ensures.fault)
 

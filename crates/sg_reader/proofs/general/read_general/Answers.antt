@@ -1,29 +1,26 @@
-use Rattle.std.proofs.Common.{ap, ◌∙◌, arith, refl}
-use Rattle.std.proofs.lemmas.Result.{err_from_is_err_and}
+use Rattle.std.proofs.Common.{ap, arith, refl}
 use Rattle.sg_reader.specs.declared.header.Header.TheVariants as header
 use Rattle.sg_reader.specs.Body.{general_fault, instance_of}
 use Rattle.sg_reader.proofs.GeneralLaws.{general-ends, general-states}
 use Rattle.sg_reader.proofs.ReadLaws.{body-fault, whole-fault}
-use Rattle.sg_reader.proofs.RestLaws.{rest-all}
-use Rattle.sg_reader.proofs.SizeLaws.{general-bonds, general-spins}
+use Rattle.sg_reader.proofs.RestLaws.{failed, rest-all}
 use Rattle.sg_reader.proofs.general.read_general.Goals as goal
 
 pub returns-in_err-body-clause-fault : goal.returns-in_err-body-clause-fault
 returns-in_err-body-clause-fault c =
-    let p = err_from_is_err_and c.from_residual.result c.from_residual.ensures.1 in
-    rw (p.1, p.2) (rest-all c.args.records.now)
+    failed c.from_residual.result _ c.from_residual.ensures.1 (rest-all c.args.records.now)
 
 pub returns-in_err-read_to_end-clause-fault : goal.returns-in_err-read_to_end-clause-fault
 returns-in_err-read_to_end-clause-fault c =
-    let p = err_from_is_err_and c.from_residual-in_err-read_to_end.result c.from_residual-in_err-read_to_end.ensures.1 in
     let bad = c.in_err-read_to_end.ensures.fault in
-    rw (p.1, p.2) (body-fault (header.General c.args.n) (general_fault c.in_ok-body.body.n) c.args.records.now c.read_to_end.new.rows
+    failed c.from_residual-in_err-read_to_end.result _ c.from_residual-in_err-read_to_end.ensures.1
+    (body-fault (header.General c.args.n) (general_fault c.in_ok-body.body.n) c.args.records.now c.read_to_end.new.rows
     c.in_err-read_to_end.field-0.0 (ap general_fault c.in_ok-body.ensures.value) bad)
 
 pub returns-in_err-check_shape-clause-fault : goal.returns-in_err-check_shape-clause-fault
 returns-in_err-check_shape-clause-fault c =
-    let p = err_from_is_err_and c.from_residual-in_err-check_shape.result c.from_residual-in_err-check_shape.ensures.1 in
-    rw (p.1, p.2) (general-ends c.args.n c.in_ok-body.body c.args.records.now c.read_to_end.new.body c.read_to_end.new.row c.read_to_end.new.rows
+    failed c.from_residual-in_err-check_shape.result _ c.from_residual-in_err-check_shape.ensures.1
+    (general-ends c.args.n c.in_ok-body.body c.args.records.now c.read_to_end.new.body c.read_to_end.new.row c.read_to_end.new.rows
     c.in_ok-read_to_end.ensures.ended
     c.in_ok-body.ensures.value c.in_err-check_shape.field-0.0 c.in_err-check_shape.ensures.refused)
 
@@ -41,9 +38,9 @@ instance-requires-clause-held c =
 
 pub returns-in_err-inst-clause-fault : goal.returns-in_err-inst-clause-fault
 returns-in_err-inst-clause-fault c =
-    let p = err_from_is_err_and c.from_residual-in_err-inst.result c.from_residual-in_err-inst.ensures.1 in
     let h = c.in_ok-read_to_end.ensures.ended in
-    rw (p.1, p.2) (whole-fault (header.General c.args.n) c.args.records.now (instance_of (header.General c.in_ok-body.body.n) h.body)
+    failed c.from_residual-in_err-inst.result _ c.from_residual-in_err-inst.ensures.1
+    (whole-fault (header.General c.args.n) c.args.records.now (instance_of (header.General c.in_ok-body.body.n) h.body)
     c.read_to_end.new.rows c.in_err-inst.field-0.0
     (general-states c.args.n c.in_ok-body.body c.args.records.now c.read_to_end.new.body c.read_to_end.new.row c.read_to_end.new.rows
     c.in_ok-read_to_end.ensures.ended
@@ -59,14 +56,3 @@ returns-clause-read c =
       rotation = c.in_ok-inst.ensures.instance.rotation;
       seam = c.in_ok-inst.ensures.instance.seam;
     }
-
-pub returns-clause-spins : goal.returns-clause-spins
-returns-clause-spins c =
-    let h = c.in_ok-read_to_end.ensures.ended in
-    let was = c.in_ok-body.ensures.value in
-    general-spins _ h.body c.in_ok-inst.inst (c.in_ok-inst.ensures.ok c.in_ok-body.body h.body h.held) ∙ was
-
-pub returns-clause-bonds : goal.returns-clause-bonds
-returns-clause-bonds c =
-    let h = c.in_ok-read_to_end.ensures.ended in
-    general-bonds _ c.in_ok-body.body h.body c.read_to_end.new.body c.in_ok-inst.inst h.held (c.in_ok-inst.ensures.ok c.in_ok-body.body h.body h.held)

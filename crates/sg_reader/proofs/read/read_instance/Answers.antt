@@ -1,16 +1,16 @@
-use Rattle.std.proofs.Common.{Some, ◌∙◌, ap, arith, refl, subst}
-use Rattle.std.proofs.lemmas.Result.{IfErr-weaker, IfOk-weaker, err_from_is_err_and}
+use Rattle.std.proofs.Common.{Some, ◌∙◌, ap, refl, subst}
+use Rattle.std.proofs.lemmas.Result.{IfErr-weaker, IfOk-weaker}
 use Rattle.sg_reader.specs.declared.header.Header.TheVariants as header
 use Rattle.sg_reader.specs.Header.{IsHeader}
 use Rattle.sg_reader.specs.ReadInstance.{AtFirst, WithoutFirst}
+use Rattle.sg_reader.proofs.GivenInstance.{body-given}
 use Rattle.sg_reader.proofs.ReadLaws.{behind-fault}
-use Rattle.sg_reader.proofs.RestLaws.{rest-none}
+use Rattle.sg_reader.proofs.RestLaws.{failed, rest-none}
 use Rattle.sg_reader.proofs.read.read_instance.Goals as goal
 
 pub returns-in_err-next-clause-fault : goal.returns-in_err-next-clause-fault
 returns-in_err-next-clause-fault c =
-    let p = err_from_is_err_and c.from_residual.result c.from_residual.ensures.1 in
-    rw (p.1, p.2) (rest-none c.args.rows.now c.next.new.self c.in_err-next.ensures.failed)
+    failed c.from_residual.result _ c.from_residual.ensures.1 (rest-none c.args.rows.now c.next.new.self c.in_err-next.ensures.failed)
 
 pub returns-then-not-branch-clause-fault : goal.returns-then-not-branch-clause-fault
 returns-then-not-branch-clause-fault c =
@@ -19,9 +19,8 @@ returns-then-not-branch-clause-fault c =
 
 pub returns-in_err-kind-clause-fault : goal.returns-in_err-kind-clause-fault
 returns-in_err-kind-clause-fault c =
-    let p = err_from_is_err_and c.from_residual-in_err-kind.result c.from_residual-in_err-kind.ensures.1 in
     let next = rw c.if-not-branch.false at c.in_ok-next.ensures.found in
-    rw (p.1, p.2) (AtFirst c.next.new.row next c.in_err-kind.ensures.refused)
+    failed c.from_residual-in_err-kind.result _ c.from_residual-in_err-kind.ensures.1 (AtFirst c.next.new.row next c.in_err-kind.ensures.refused)
 
 pub returns-in-Lattice-clause-fault : goal.returns-in-Lattice-clause-fault
 returns-in-Lattice-clause-fault c =
@@ -41,18 +40,28 @@ returns-clause-fault c =
 
 pub returns-in-Lattice-clause-few_spins : goal.returns-in-Lattice-clause-few_spins
 returns-in-Lattice-clause-few_spins c =
-    let sound : IsHeader (header.Lattice c.in-Lattice.kind c.in-Lattice.high c.in-Lattice.wide) = subst IsHeader c.in-Lattice.is c.in_ok-kind.ensures.sound in
-    let few = sound.1 in
-    IfOk-weaker c.read_lattice.result _ _ (λ inst spins. omega (arith, spins, few)) c.read_lattice.ensures.spins
+    let sound : IsHeader (header.Lattice c.in-Lattice.kind c.in-Lattice.high c.in-Lattice.wide) =
+    subst IsHeader c.in-Lattice.is c.in_ok-kind.ensures.sound in
+    IfOk-weaker c.read_lattice.result _ _
+    (λ inst reads. (body-given (header.Lattice c.in-Lattice.kind c.in-Lattice.high c.in-Lattice.wide) _ inst _ sound reads).few_spins)
+    c.read_lattice.ensures.read
 
 pub returns-in-Lattice-clause-few_bonds : goal.returns-in-Lattice-clause-few_bonds
 returns-in-Lattice-clause-few_bonds c =
-    let sound : IsHeader (header.Lattice c.in-Lattice.kind c.in-Lattice.high c.in-Lattice.wide) = subst IsHeader c.in-Lattice.is c.in_ok-kind.ensures.sound in
-    let few = sound.1 in
-    IfOk-weaker c.read_lattice.result _ _ (λ inst bonds. omega (arith, bonds, few)) c.read_lattice.ensures.bonds
+    let sound : IsHeader (header.Lattice c.in-Lattice.kind c.in-Lattice.high c.in-Lattice.wide) =
+    subst IsHeader c.in-Lattice.is c.in_ok-kind.ensures.sound in
+    IfOk-weaker c.read_lattice.result _ _
+    (λ inst reads. (body-given (header.Lattice c.in-Lattice.kind c.in-Lattice.high c.in-Lattice.wide) _ inst _ sound reads).few_bonds)
+    c.read_lattice.ensures.read
 
 pub returns-clause-few_spins : goal.returns-clause-few_spins
 returns-clause-few_spins c =
     let sound : IsHeader (header.General c.in-General.n) = subst IsHeader c.in-General.is c.in_ok-kind.ensures.sound in
-    let few = sound.1 in
-    IfOk-weaker c.read_general.result _ _ (λ inst spins. omega (arith, spins, few)) c.read_general.ensures.spins
+    IfOk-weaker c.read_general.result _ _ (λ inst reads. (body-given (header.General c.in-General.n) _ inst _ sound reads).few_spins)
+    c.read_general.ensures.read
+
+pub returns-clause-few_bonds : goal.returns-clause-few_bonds
+returns-clause-few_bonds c =
+    let sound : IsHeader (header.General c.in-General.n) = subst IsHeader c.in-General.is c.in_ok-kind.ensures.sound in
+    IfOk-weaker c.read_general.result _ _ (λ inst reads. (body-given (header.General c.in-General.n) _ inst _ sound reads).few_bonds)
+    c.read_general.ensures.read

@@ -1,15 +1,14 @@
 use Rattle.std.proofs.Common.{◌∷◌}
-use Rattle.std.proofs.lemmas.Result.{IfErr-weaker, err_from_is_err_and}
+use Rattle.std.proofs.lemmas.Result.{IfErr-weaker}
 use Rattle.sg_reader.specs.Result.{result_fault}
 use Rattle.sg_reader.proofs.EndedLaws.{without-first}
-use Rattle.sg_reader.proofs.RestLaws.{rest-none}
+use Rattle.sg_reader.proofs.RestLaws.{failed, rest-none}
 use Rattle.sg_reader.proofs.ResultLaws.{spins-fault}
 use Rattle.sg_reader.proofs.result.next_spins.Goals as goal
 
 pub returns-in_err-next-clause-fault : goal.returns-in_err-next-clause-fault
 returns-in_err-next-clause-fault c =
-    let p = err_from_is_err_and c.from_residual.result c.from_residual.ensures.1 in
-    rw (p.1, p.2) (λ q. rest-none c.args.rows.now c.next.new.self c.in_err-next.ensures.failed)
+    failed c.from_residual.result _ c.from_residual.ensures.1 (λ q. rest-none c.args.rows.now c.next.new.self c.in_err-next.ensures.failed)
 
 pub returns-then-not-branch-clause-fault : goal.returns-then-not-branch-clause-fault
 returns-then-not-branch-clause-fault c =

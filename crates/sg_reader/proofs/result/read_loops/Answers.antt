@@ -1,22 +1,21 @@
 use Rattle.std.proofs.Common.{◌∙◌}
-use Rattle.std.proofs.lemmas.Result.{err_from_is_err_and}
 use Rattle.sg_model.specs.declared.refusal.Fault.TheVariants.{Refused}
 use Rattle.sg_reader.specs.Result.{HoldsLoops, loops_fault}
 use Rattle.sg_reader.proofs.EndedLaws.{end-fault}
 use Rattle.sg_reader.proofs.ResultLaws.{loops-few, loops_fault-end}
+use Rattle.sg_reader.proofs.RestLaws.{failed}
 use Rattle.sg_reader.proofs.result.read_loops.Goals as goal
 
 pub returns-in_err-read_to_end-clause-fault : goal.returns-in_err-read_to_end-clause-fault
 returns-in_err-read_to_end-clause-fault c =
-    let p = err_from_is_err_and c.from_residual.result c.from_residual.ensures.1 in
-    rw (p.1, p.2) c.in_err-read_to_end.ensures.fault
+    failed c.from_residual.result _ c.from_residual.ensures.1 c.in_err-read_to_end.ensures.fault
 
 pub returns-in_err-check_shape-clause-fault : goal.returns-in_err-check_shape-clause-fault
 returns-in_err-check_shape-clause-fault c =
-    let p = err_from_is_err_and c.from_residual-in_err-check_shape.result c.from_residual-in_err-check_shape.ensures.1 in
     let h = c.in_ok-read_to_end.ensures.ended in
     let last = c.read_to_end.new.row in
-    rw (p.1, p.2) (end-fault (λ s. loops_fault) HoldsLoops _ c.args.rows.now c.read_to_end.new.body last c.read_to_end.new.rows h
+    failed c.from_residual-in_err-check_shape.result _ c.from_residual-in_err-check_shape.ensures.1
+    (end-fault (λ s. loops_fault) HoldsLoops _ c.args.rows.now c.read_to_end.new.body last c.read_to_end.new.rows h
     (Refused c.in_err-check_shape.field-0.0) (loops_fault-end h.body last h.ended.ends ∙ c.in_err-check_shape.ensures.refused))
 
 pub returns-clause-read : goal.returns-clause-read

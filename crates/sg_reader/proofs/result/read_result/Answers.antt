@@ -1,25 +1,24 @@
 use Rattle.std.proofs.Common.{◌∙◌, rules, FitsSigned, w64}
 use Rattle.std.proofs.lemmas.Int.{to_z-of_z}
-use Rattle.std.proofs.lemmas.Result.{err_from_is_err_and}
 use Rattle.sg_reader.proofs.ResultLaws.{behind-energy, behind-spins, stated}
+use Rattle.sg_reader.proofs.RestLaws.{failed}
 use Rattle.sg_reader.proofs.result.read_result.Goals as goal
 
 pub returns-in_err-energy-clause-fault : goal.returns-in_err-energy-clause-fault
 returns-in_err-energy-clause-fault c =
-    let p = err_from_is_err_and c.from_residual.result c.from_residual.ensures.1 in
-    rw (p.1, p.2) c.in_err-energy.ensures.fault
+    failed c.from_residual.result _ c.from_residual.ensures.1 c.in_err-energy.ensures.fault
 
 pub returns-in_err-spins-clause-fault : goal.returns-in_err-spins-clause-fault
 returns-in_err-spins-clause-fault c =
-    let p = err_from_is_err_and c.from_residual-in_err-spins.result c.from_residual-in_err-spins.ensures.1 in
-    rw (p.1, p.2) (behind-energy c.args.rows.now c.next_energy.new.rows c.next_energy.new.row c.next_spins.new.rows c.in_err-spins.field-0.0
+    failed c.from_residual-in_err-spins.result _ c.from_residual-in_err-spins.ensures.1
+    (behind-energy c.args.rows.now c.next_energy.new.rows c.next_energy.new.row c.next_spins.new.rows c.in_err-spins.field-0.0
     c.in_ok-energy.ensures.split c.in_ok-energy.ensures.passes (c.in_err-spins.ensures.fault c.next_energy.new.row))
 
 pub returns-in_err-loops-clause-fault : goal.returns-in_err-loops-clause-fault
 returns-in_err-loops-clause-fault c =
-    let p = err_from_is_err_and c.from_residual-in_err-loops.result c.from_residual-in_err-loops.ensures.1 in
     let bad = c.in_err-loops.ensures.fault in
-    rw (p.1, p.2) (behind-energy c.args.rows.now c.next_energy.new.rows c.next_energy.new.row c.read_loops.new.rows c.in_err-loops.field-0.0
+    failed c.from_residual-in_err-loops.result _ c.from_residual-in_err-loops.ensures.1
+    (behind-energy c.args.rows.now c.next_energy.new.rows c.next_energy.new.row c.read_loops.new.rows c.in_err-loops.field-0.0
     c.in_ok-energy.ensures.split c.in_ok-energy.ensures.passes
     (behind-spins c.next_energy.new.row c.next_energy.new.rows c.next_spins.new.rows c.next_spins.new.row c.read_loops.new.rows c.in_err-loops.field-0.0
     c.in_ok-spins.ensures.split c.in_ok-spins.ensures.passes bad))

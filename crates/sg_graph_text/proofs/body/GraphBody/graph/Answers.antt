@@ -1,20 +1,20 @@
 use Rattle.std.proofs.Common.{◌∙◌, ap, sym}
 use Rattle.std.specs.Prelude.{unwrap_or}
-use Rattle.std.proofs.lemmas.Result.{err_from_is_err_and}
 use Rattle.sg_graph_text.specs.Graph.{terminals_fault, terminals_of}
 use Rattle.sg_graph_text.proofs.BodyLaws.{end-bare, end-passes, end-terminals, graph-held, sound-held}
+use Rattle.sg_reader.proofs.RestLaws.{failed}
 use Rattle.sg_graph_text.proofs.body.GraphBody.graph.Goals as goal
 
 pub returns-in_err-check_shape-clause-fault : goal.returns-in_err-check_shape-clause-fault
 returns-in_err-check_shape-clause-fault c =
-    let p = err_from_is_err_and c.from_residual.result c.from_residual.ensures.1 in
-    rw (p.1, p.2) (end-bare c.args.self c.args.row.now c.in_err-check_shape.field-0.0 c.requires.end c.in_err-check_shape.ensures.refused)
+    failed c.from_residual.result _ c.from_residual.ensures.1
+    (end-bare c.args.self c.args.row.now c.in_err-check_shape.field-0.0 c.requires.end c.in_err-check_shape.ensures.refused)
 
 pub returns-in_err-terminals-clause-fault : goal.returns-in_err-terminals-clause-fault
 returns-in_err-terminals-clause-fault c =
-    let p = err_from_is_err_and c.from_residual-in_err-terminals.result c.from_residual-in_err-terminals.ensures.1 in
     let bad = rw (c.as_slice.ensures, c.unwrap_or-entries.ensures, c.new.ensures) at c.in_err-terminals.ensures.fault in
-    rw (p.1, p.2) (end-terminals c.args.self c.args.row.now c.in_err-terminals.field-0.0 c.requires.end c.in_ok-check_shape.ensures.passes bad)
+    failed c.from_residual-in_err-terminals.result _ c.from_residual-in_err-terminals.ensures.1
+    (end-terminals c.args.self c.args.row.now c.in_err-terminals.field-0.0 c.requires.end c.in_ok-check_shape.ensures.passes bad)
 
 pub returns-clause-passes : goal.returns-clause-passes
 returns-clause-passes c =

@@ -1,8 +1,8 @@
 use Rattle.std.proofs.Common.{◌∷◌, ◌++◌, [], ◌∙◌, ap, refl, subst}
-use Rattle.std.proofs.lemmas.Result.{err_from_is_err_and}
 use Rattle.sg_graph.specs.declared.web.Edge.{Edge}
 use Rattle.sg_graph.specs.Web.{IsEdge}
 use Rattle.sg_graph_text.proofs.BodyLaws.{edge-refused, edge-taken}
+use Rattle.sg_reader.proofs.RestLaws.{failed}
 use Rattle.sg_graph_text.proofs.body.GraphBody.take_edge.Goals as goal
 
 pub read_edge-requires-clause-some : goal.read_edge-requires-clause-some
@@ -13,8 +13,8 @@ read_edge-requires-clause-few c = rw c.len.ensures c.requires.held.held.few
 
 pub returns-in_err-edge-clause-fault : goal.returns-in_err-edge-clause-fault
 returns-in_err-edge-clause-fault c =
-    let p = err_from_is_err_and c.from_residual.result c.from_residual.ensures.1 in
-    rw (p.1, p.2) (edge-refused c.args.self.now c.args.row.now c.len.result c.in_err-edge.field-0.0 c.len.ensures c.requires.word c.in_err-edge.ensures.refused)
+    failed c.from_residual.result _ c.from_residual.ensures.1
+    (edge-refused c.args.self.now c.args.row.now c.len.result c.in_err-edge.field-0.0 c.len.ensures c.requires.word c.in_err-edge.ensures.refused)
 
 pub returns-clause-taken : goal.returns-clause-taken
 returns-clause-taken c =

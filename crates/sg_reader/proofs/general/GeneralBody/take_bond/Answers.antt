@@ -1,8 +1,8 @@
 use Rattle.std.proofs.Common.{◌∷◌, ◌++◌, [], ◌∙◌, ap, subst, refl}
-use Rattle.std.proofs.lemmas.Result.{err_from_is_err_and}
 use Rattle.sg_model.specs.declared.bond.Bond.{Bond}
 use Rattle.sg_model.specs.Ising.{IsBond}
 use Rattle.sg_reader.proofs.GeneralLaws.{bond-refused, bond-taken}
+use Rattle.sg_reader.proofs.RestLaws.{failed}
 use Rattle.sg_reader.proofs.general.GeneralBody.take_bond.Goals as goal
 
 pub read_bond-requires-clause-some : goal.read_bond-requires-clause-some
@@ -13,8 +13,8 @@ read_bond-requires-clause-few c = rw c.len.ensures c.requires.held.held.few
 
 pub returns-in_err-bond-clause-fault : goal.returns-in_err-bond-clause-fault
 returns-in_err-bond-clause-fault c =
-    let p = err_from_is_err_and c.from_residual.result c.from_residual.ensures.1 in
-    rw (p.1, p.2) (bond-refused c.args.self.now c.args.row.now c.len.result c.in_err-bond.field-0.0 c.len.ensures c.requires.word c.in_err-bond.ensures.refused)
+    failed c.from_residual.result _ c.from_residual.ensures.1
+    (bond-refused c.args.self.now c.args.row.now c.len.result c.in_err-bond.field-0.0 c.len.ensures c.requires.word c.in_err-bond.ensures.refused)
 
 pub returns-clause-taken : goal.returns-clause-taken
 returns-clause-taken c =

@@ -1,10 +1,9 @@
 use Rattle.std.proofs.Common.{ℕ, false, true, Some, set, get_or, sym, ◌∙◌, ap, arith, refl}
-use Rattle.std.proofs.lemmas.Result.{err_from_is_err_and}
 use Rattle.sg_model.specs.declared.refusal.Refusal.TheVariants.{BadShape}
 use Rattle.sg_reader.specs.Body.{sizes_from}
-use Rattle.sg_reader.specs.Tests.{spin_below}
-use Rattle.sg_reader.proofs.TestLaws.{first_then_index-rest}
-use Rattle.sg_reader.proofs.GeneralLaws.{among-lists, among-marks, rot-numbers, rot-refused, rot-taken, rot_fault-darts, rot_fault-none, rot_fault-seen}
+use Rattle.sg_reader.proofs.TestLaws.{or-first}
+use Rattle.sg_reader.proofs.GeneralLaws.{among-lists, among-marks, rot-numbers, rot-refused, rot-taken, rot_fault-left}
+use Rattle.sg_reader.proofs.RestLaws.{failed}
 use Rattle.sg_reader.proofs.general.GeneralBody.take_rot.Goals as goal
 
 pub rot_spin-requires-clause-some : goal.rot_spin-requires-clause-some
@@ -12,44 +11,38 @@ rot_spin-requires-clause-some c = c.requires.held.held.some
 
 pub returns-in_err-spin-clause-fault : goal.returns-in_err-spin-clause-fault
 returns-in_err-spin-clause-fault c =
-    let p = err_from_is_err_and c.from_residual.result c.from_residual.ensures.1 in
-    rw (p.1, p.2) (rot-numbers c.args.self.now c.args.row.now _ c.requires.word c.in_err-spin.ensures.refused)
+    failed c.from_residual.result _ c.from_residual.ensures.1
+    (rot-numbers c.args.self.now c.args.row.now _ c.requires.word c.in_err-spin.ensures.refused)
 
 pub returns-in_err-darts-clause-fault : goal.returns-in_err-darts-clause-fault
 returns-in_err-darts-clause-fault c =
-    let p = err_from_is_err_and c.from_residual-in_err-darts.result c.from_residual-in_err-darts.ensures.1 in
     let r = c.args.row.now in
     let n = c.args.self.now.n in
-    let long = c.in_ok-spin.ensures.count in
-    let rest = first_then_index-rest (spin_below n) r long c.in_ok-spin.ensures.good in
-    let bad = c.in_err-darts.ensures.fault in
-    rw (p.1, p.2) (rot-numbers c.args.self.now r c.in_err-darts.field-0.0 c.requires.word
-    (λ seen. rot_fault-darts n seen r (λ e. absurd (omega (arith, e, long))) rest c.in_err-darts.field-0.0 bad))
+    failed c.from_residual-in_err-darts.result _ c.from_residual-in_err-darts.ensures.1 (rot-numbers c.args.self.now r _ c.requires.word
+    (λ seen. rw (rot_fault-left n seen r c.in_ok-spin.ensures.count c.in_ok-spin.ensures.passes) (or-first _ _ _ c.in_err-darts.ensures.fault)))
 
 pub returns-then-index-clause-fault : goal.returns-then-index-clause-fault
 returns-then-index-clause-fault c =
     let r = c.args.row.now in
     let n = c.args.self.now.n in
-    let long = c.in_ok-spin.ensures.count in
     let value = c.in_ok-spin.ensures.value in
     let below = c.in_ok-spin.ensures.below in
-    let good = first_then_index-rest (spin_below n) r long c.in_ok-spin.ensures.good ∙ c.in_ok-darts.ensures.passes in
     rot-refused c.args.self.now r c.index.result.now _
     (ap (λ (k : ℕ). get_or c.args.self.now.seen.items k c.index.result.now) (sym value) ∙ sym c.index.ensures ∙ c.if-index.true)
     (omega (arith, value, below)) c.requires.word
-    (rot_fault-seen n true r (λ e. absurd (omega (arith, e, long))) good refl ∙ ap (λ (k : ℕ). Some (BadShape k)) (sym c.at.ensures.value))
+    (rot_fault-left n true r c.in_ok-spin.ensures.count c.in_ok-spin.ensures.passes
+    ∙ rw c.in_ok-darts.ensures.passes (ap (λ (k : ℕ). Some (BadShape k)) (sym c.at.ensures.value)))
 
 pub returns-clause-taken : goal.returns-clause-taken
 returns-clause-taken c =
     let r = c.args.row.now in
     let n = c.args.self.now.n in
-    let long = c.in_ok-spin.ensures.count in
     let value = c.in_ok-spin.ensures.value in
     let below = c.in_ok-spin.ensures.below in
-    let good = first_then_index-rest (spin_below n) r long c.in_ok-spin.ensures.good ∙ c.in_ok-darts.ensures.passes in
     rot-taken c.args.self.now _ r c.index.result.now
     (ap (λ (k : ℕ). get_or c.args.self.now.seen.items k c.index.result.now) (sym value) ∙ sym c.index.ensures ∙ c.if-index.false)
-    (omega (arith, value, below)) c.requires.word (rot_fault-none n false r (λ e. absurd (omega (arith, e, long))) good refl) refl refl refl
+    (omega (arith, value, below)) c.requires.word
+    (rot_fault-left n false r c.in_ok-spin.ensures.count c.in_ok-spin.ensures.passes ∙ rw c.in_ok-darts.ensures.passes refl) refl refl refl
     (c.set.ensures ∙ ap (set c.args.self.now.rotation c.in_ok-spin.spin) c.in_ok-darts.ensures.value
     ∙ ap (λ (k : ℕ). set c.args.self.now.rotation k (sizes_from r 2)) value)
     (ap (λ (k : ℕ). set c.args.self.now.seen.items k true) value)

@@ -1,15 +1,15 @@
 use Rattle.std.proofs.Common.{◌≡◌, true, false, Some, sym, ◌∙◌, ap, refl}
-use Rattle.std.proofs.lemmas.Result.{err_from_is_err_and}
 use Rattle.sg_reader.specs.Body.{says_seam}
 use Rattle.sg_reader.proofs.LatticeLaws.{couplings-refused, couplings-taken, seam-refused, seam-taken}
+use Rattle.sg_reader.proofs.RestLaws.{failed}
 use Rattle.sg_reader.proofs.lattice.LatticeBodyGather.take.Goals as goal
 
 pub returns-in_err-bonds-clause-fault : goal.returns-in_err-bonds-clause-fault
 returns-in_err-bonds-clause-fault c =
-    let p = err_from_is_err_and c.from_residual.result c.from_residual.ensures.1 in
     let is : says_seam c.args.row.now ≡ true = sym c.begins.ensures ∙ c.if-begins.true in
     let bad = c.in_err-bonds.ensures.fault in
-    rw (p.1, p.2) (seam-refused c.args.self.now c.args.row.now c.is_some.result c.in_err-bonds.field-0.0 (sym c.is_some.ensures) is bad)
+    failed c.from_residual.result _ c.from_residual.ensures.1
+    (seam-refused c.args.self.now c.args.row.now c.is_some.result c.in_err-bonds.field-0.0 (sym c.is_some.ensures) is bad)
 
 pub returns-then-begins-clause-taken : goal.returns-then-begins-clause-taken
 returns-then-begins-clause-taken c =
@@ -19,10 +19,10 @@ returns-then-begins-clause-taken c =
 
 pub returns-in_err-push_couplings-clause-fault : goal.returns-in_err-push_couplings-clause-fault
 returns-in_err-push_couplings-clause-fault c =
-    let p = err_from_is_err_and c.from_residual-in_err-push_couplings.result c.from_residual-in_err-push_couplings.ensures.1 in
     let other : says_seam c.args.row.now ≡ false = sym c.begins.ensures ∙ c.if-begins.false in
     let bad = c.in_err-push_couplings.ensures.fault in
-    rw (p.1, p.2) (couplings-refused c.args.self.now c.args.row.now c.in_err-push_couplings.field-0.0 other c.requires.other bad)
+    failed c.from_residual-in_err-push_couplings.result _ c.from_residual-in_err-push_couplings.ensures.1
+    (couplings-refused c.args.self.now c.args.row.now c.in_err-push_couplings.field-0.0 other c.requires.other bad)
 
 pub returns-clause-taken : goal.returns-clause-taken
 returns-clause-taken c =
