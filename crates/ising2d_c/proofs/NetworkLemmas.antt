@@ -1,22 +1,17 @@
 -- From the tests of the numbers of a weighted graph to the graph, and faults by the step that finds them.
-use Rattle.std.proofs.Common.{◌≡◌, inl, inr, ℕ, ◌+◌, ◌<◌, ◌≤◌, ◌≤ℤ◌, ℤ, pos, negsuc, zero, suc, true, Option, None, Some, arith, List, [], ◌∷◌, All, ap, length, map, sym, ◌∙◌, refl, subst}
+use Rattle.std.proofs.Common.{◌≡◌, inl, inr, ℕ, ◌+◌, ◌<◌, ◌≤◌, ◌≤ℤ◌, ℤ, pos, negsuc, zero, suc, true, Option, None, Some, arith, List, All, ap, length, map, sym, ◌∙◌, refl, subst}
 use Rattle.std.specs.Prelude.{int_le}
 use Rattle.std.specs.List.{range_with_len}
 use Rattle.std.proofs.lemmas.Bool.{false≢true, ltb-true, cases_eq}
 use Rattle.std.proofs.lemmas.Int.{ints}
 use Rattle.std.proofs.lemmas.List.Elements.{All-from_get_or}
 use Rattle.std.proofs.lemmas.List.FromFn.{get_or-map-range_with_len, length-map-range_with_len}
-use Rattle.sg_limits.specs.Limits.{sum_limit}
-use Rattle.sg_model.specs.Faults.{OrNoMemory}
-use Rattle.sg_model.specs.declared.refusal.Fault.{Fault}
-use Rattle.sg_model.specs.declared.refusal.Fault.TheVariants.{Refused, NoMemory}
 use Rattle.sg_model.specs.declared.refusal.Refusal.{Refusal}
-use Rattle.sg_graph.specs.Web.{Graph, IsEdge, total_weight}
+use Rattle.sg_graph.specs.Web.{IsEdge}
 use Rattle.sg_graph.specs.declared.web.Edge.{Edge}
-use Rattle.sg_graph_text.specs.Network.{IsTooHeavy, IsUnjoined}
-use Rattle.sg_draft.specs.Tests.{Refuses, first_of}
-use Rattle.sg_draft.proofs.Drafts.{both, fails-first, last-test}
-use Rattle.ising2d_c.specs.Networks.{edge_by, edges_by, ByReach, ByWeight, AtTest, AtWhole, IsWebFault, IsWholeFault, joins_nodes, network_fault, web_by, web_fault, WebNumbers}
+use Rattle.sg_draft.specs.Tests.{first_of}
+use Rattle.sg_draft.proofs.Drafts.{both, last-test}
+use Rattle.ising2d_c.specs.Networks.{edge_by, edges_by, joins_nodes, network_fault, web_fault, WebNumbers}
 
 not_negative : (w : ℤ) → int_le (pos 0) w ≡ true → pos 0 ≤ℤ w
 not_negative (pos n) pass = omega (arith, ints)
@@ -41,34 +36,12 @@ edges-joined n ends weights pass =
     subst (IsEdge n) (sym same) (edge-of n (edge_by ends weights k) (pass k here)))
 
 module _ (g : WebNumbers) (test : Option Refusal) where
-  -- a test of the numbers that fails
-  pub numbers-fail : (x : Refusal) → web_fault g ≡ Some x → IsWebFault g test (Refused x)
-  numbers-fail x bad = AtTest (fails-first (web_fault g) (first_of (test ∷ [])) x bad)
-
   -- a test of the terminals, behind numbers that pass
   behind : web_fault g ≡ None → network_fault g test ≡ test
   behind pass = last-test (web_fault g) test pass
 
-  pub terminals-fail : (e : Fault) → web_fault g ≡ None → OrNoMemory (Refuses test) e → IsWebFault g test e
-  terminals-fail (Refused x) pass bad = AtTest (behind pass ∙ bad)
-  terminals-fail NoMemory pass bad = tt
-
   pub all-pass : web_fault g ≡ None → test ≡ None → network_fault g test ≡ None
   all-pass pass good = behind pass ∙ good
-
-  -- a graph that is wrong as a whole
-  pub whole-fails : (e : Fault) → web_fault g ≡ None → test ≡ None → OrNoMemory (IsWholeFault (web_by g)) e → IsWebFault g test e
-  whole-fails (Refused x) pass good bad = AtWhole (all-pass pass good) bad
-  whole-fails NoMemory pass good bad = tt
-
--- the weight and the reach of a graph, in this order
-pub weight-fails : (g : Graph) (x : Refusal) → IsTooHeavy g x → OrNoMemory (IsWholeFault g) (Refused x)
-weight-fails g x bad = ByWeight bad
-
-pub reach-fails : (g h : Graph) (e : Fault) → h ≡ g → total_weight h ≤ sum_limit → OrNoMemory (IsUnjoined h) e → OrNoMemory (IsWholeFault g) e
-reach-fails g h (Refused x) same light bad =
-    ByReach (subst (λ (i : Graph). total_weight i ≤ sum_limit) same light) (subst (λ (i : Graph). IsUnjoined i x) same bad)
-reach-fails g h NoMemory same light bad = tt
 
 -- tests over a range: the first that fails, or none
 module _ (test : ℕ → Option Refusal) where
