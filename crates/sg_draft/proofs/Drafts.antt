@@ -40,10 +40,6 @@ pub one-test : (test : Option Refusal) → option_or test None ≡ test
 one-test None = refl
 one-test (Some refusal) = refl
 
--- a test that fails counts before those behind it
-pub fails-first : (test rest : Option Refusal) (x : Refusal) → test ≡ Some x → option_or test rest ≡ Some x
-fails-first test rest x bad = rw bad refl
-
 -- behind a test that passes the last one counts
 pub last-test : (test last : Option Refusal) → test ≡ None → option_or test (option_or last None) ≡ last
 last-test test last pass = rw pass (one-test last)

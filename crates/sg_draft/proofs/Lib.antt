@@ -1,4 +1,3 @@
 pub mod Finds
 pub mod Drafts
-pub mod Stages
 pub mod OneDraft
