@@ -5,12 +5,11 @@ use Rattle.sg_io.specs.Writing.{GrowsByPrefix}
 use Rattle.sg_laws.specs.Named.{Law, first_named}
 use Rattle.sg_words.specs.Command.{command_of, law_word}
 use Rattle.sg_reply.specs.Exit.{IsReply}
-use Rattle.sg_cli.specs.Promises.{AnswersInPart, AnswersSource, AnswersWhole, IsServed}
+use Rattle.sg_cli.specs.Promises.{AnswersInPart, AnswersWhole, IsServed}
 use Rattle.sg_draws.specs.Drawn.{AnswersLaw}
 use Rattle.sg_cli.specs.Served.{usage_text}
-use Rattle.sg_words.specs.declared.command.Command.TheVariants.{Read, Draw}
+use Rattle.sg_words.specs.declared.command.Command.TheVariants.{Draw}
 use Rattle.sg_words.specs.declared.command.Drawing.{Drawing}
-use Rattle.sg_words.specs.declared.command.Reading.{Reading}
 use Rattle.sg_reply.specs.declared.status.Status.{Status}
 use Rattle.sg_reply.specs.declared.status.Status.TheVariants.{Usage}
 
@@ -30,15 +29,6 @@ usage-served words laws left none = record {
   bytes = told_or_none left;
   told = told_or_none-told left;
   served = rw none (refl, refl);
-}
-
--- words that name a command that reads
-pub reply-served : (words : List (List ℕ)) (laws : List Law) (reading : Reading) (left : Option (List ℕ)) (text : List ℕ) (status : Status) →
-    command_of words ≡ Some (Read reading) → AnswersSource reading left text status → IsServed words laws left text status
-reply-served words laws reading left text status named answers = record {
-  bytes = answers.bytes;
-  told = answers.told;
-  served = rw named answers.answers;
 }
 
 -- words that name a command that draws

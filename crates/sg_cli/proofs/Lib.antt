@@ -1,4 +1,3 @@
-mod TakesLemmas
 mod AnswerLemmas
 mod InputLemmas
 mod LawLemmas
