@@ -42,6 +42,5 @@ mod stated;
 mod studies;
 mod tables;
 mod terminal_lists;
-mod terminals;
 mod unanswered;
 mod words;

@@ -1,18 +1,16 @@
 // Weighted graphs and terminals by numbers. No number is trusted: each is tested, and the first fault is named.
-ghost use Rattle.std.specs.Prelude.{◌≡◌, ◌*◌, ◌<◌, ◌≤◌, length, pos, sum_by, All, None, Some, IfErr, IfOk, OnOk};
+ghost use Rattle.std.specs.Prelude.{◌≡◌, ◌*◌, ◌<◌, ◌≤◌, length, All, None, Some, IfErr, IfOk, OnOk};
 ghost use Rattle.sg_limits.specs.Limits.{large_bond_limit, large_spin_limit, sum_limit};
 ghost use Rattle.sg_model.specs.Faults.{OrNoMemory};
 ghost use Rattle.sg_graph.specs.Walk.{IsConnectedWeb};
-ghost use Rattle.sg_graph.specs.Web.{IsEdge, total_weight, weight_at};
+ghost use Rattle.sg_graph.specs.Web.{IsEdge, total_weight};
 ghost use Rattle.sg_graph_text.specs.Graph.{terminals_fault, terminals_of};
-ghost use Rattle.sg_graph_text.specs.Network.{IsNetwork, IsTooHeavy, IsUnjoined};
+ghost use Rattle.sg_graph_text.specs.Network.{IsNetwork};
 ghost use Rattle.ising2d_c.specs.Networks.{edge_by as edge_numbered, edges_by, GivesWeb, IsWebFault, IsWholeFault, joins_nodes as joins_two, place_fault, web_by, web_fault, web_numbers_of, wrong_at as wrong_at_place, wrong_edge as wrong_edge_of};
 
-use super::terminals::list_terminals;
 use sg_draft::{Limits, check_bond_count, check_spins};
-use sg_graph::{Edge, Edges, Web, first_unreached};
-use sg_graph_text::Network;
-use sg_limits::SUM_LIMIT;
+use sg_graph::{Edge, Edges, Web};
+use sg_graph_text::{Network, check_joined, list_terminals, web_within};
 use sg_model::{Fault, Refusal};
 use std::alloc::{AllocError, Global};
 
@@ -92,46 +90,6 @@ pub fn joined_web(alloc: Global, given: &GivenWeb) -> Result<Web, Fault>
     let web = web_within(given.nodes, edges)?;
     check_joined(alloc, &web)?;
     Ok(web)
-}
-
-// The graph of these edges, where its weight is within the limit.
-fn web_within(nodes: u32, edges: Edges) -> Result<Web, Refusal>
-    requires some { 1 ≤ nodes }
-    requires few_nodes { nodes ≤ large_spin_limit }
-    requires few_edges { length edges ≤ large_bond_limit }
-    requires joined { All (IsEdge nodes) edges }
-    ensures web { IfOk result (λ web. web ≡ record { nodes = nodes; edges = edges }) }
-    ensures light { IfOk result (λ web. total_weight web ≤ sum_limit) }
-    ensures refused { IfErr result (IsTooHeavy (record { nodes = nodes; edges = edges })) }
-{
-    let sum = sum_of(edges.as_slice());
-    if sum > SUM_LIMIT {
-        return Err(Refusal::SumTooLarge { sum });
-    }
-    Ok(Web::new(nodes, edges))
-}
-
-// The weights of all edges together.
-fn sum_of(edges: &[Edge]) -> i128
-    requires few { length edges.now ≤ large_bond_limit }
-    ensures { result ≡ pos (sum_by weight_at edges.now) }
-{
-    let mut total: i128 = 0;
-    for edge in edges {
-        total += i128::from(edge.w.unsigned_abs());
-    }
-    total
-}
-
-// Whether each node of a graph is reached.
-fn check_joined(alloc: Global, web: &Web) -> Result<(), Fault>
-    ensures connected { OnOk result (IsConnectedWeb web.now) }
-    ensures refused { IfErr result (OrNoMemory (IsUnjoined web.now)) }
-{
-    match first_unreached(alloc, web)? {
-        Some(node) => Err(Fault::Refused(Refusal::NotJoined { node })),
-        None => Ok(()),
-    }
 }
 
 /// The test of what has this number in the line of its refusal, and of which an entry may be wrong.

@@ -12,8 +12,8 @@ ghost use Rattle.ising2d_c.specs.Networks.{GivesWeb, IsWebFault, list_count, lis
 
 use super::networks::{GivenWeb, check_place, check_web, joined_web};
 use super::starts::{entries_at, wrong_start};
-use super::terminals::list_terminals;
 use sg_graph::Web;
+use sg_graph_text::list_terminals;
 use sg_list::Lists;
 use sg_model::Fault;
 use std::alloc::Global;

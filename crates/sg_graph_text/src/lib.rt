@@ -3,7 +3,8 @@
 //!
 //! `read_graph` gives the graph at the front of a text, or the one refusal that names its first fault;
 //! `read_network` reads to the end of the text, and gives the graph if it is connected. A graph has no
-//! spins: it is the input of `tjoin` and `postman`.
+//! spins: it is the input of `tjoin` and `postman`. `web_within`, `check_joined` and `list_terminals`
+//! are its tests behind the records, also for callers that have numbers and no text.
 //!
 //! For the next engineer: `specs/Graph.antt` is the table of checks, over the records of `sg_reader`. It
 //! says what a text gives and why it is refused, by the rules for records up to an `end` by which
@@ -22,9 +23,10 @@ mod terminals;
 
 pub use graph::GraphText;
 pub use law::networks_have_one_answer;
-pub use network::{Network, read_network};
+pub use network::{Network, check_joined, read_network, web_within};
 pub use read::read_graph;
 use std::alloc::AllocError;
+pub use terminals::list_terminals;
 
 /// The allocator had no memory left.
 pub type NoMemory = AllocError;

@@ -1,8 +1,8 @@
-ghost use Rattle.std.specs.Prelude.{◌≡◌, ◌<◌, ◌≤◌, [], length, pos, IfOk, IfErr, OnOk};
+ghost use Rattle.std.specs.Prelude.{◌≡◌, ◌<◌, ◌≤◌, [], All, length, pos, IfOk, IfErr, OnOk};
 ghost use Rattle.std.specs.List.{sum_by};
-ghost use Rattle.sg_limits.specs.Limits.{bond_limit, sum_limit, text_limit};
+ghost use Rattle.sg_limits.specs.Limits.{large_bond_limit, large_spin_limit, sum_limit, text_limit};
 ghost use Rattle.sg_graph.specs.Walk.{IsConnectedWeb};
-ghost use Rattle.sg_graph.specs.Web.{total_weight, weight_at};
+ghost use Rattle.sg_graph.specs.Web.{IsEdge, total_weight, weight_at};
 ghost use Rattle.sg_graph_text.specs.Graph.{IsGraphText, ReadsGraph, RefusesGraph};
 ghost use Rattle.sg_graph_text.specs.Network.{GivesNetwork, IsNetwork, IsTooHeavy, graph_in, IsUnjoined, RefusesNetwork};
 ghost use Rattle.sg_reader.specs.Kept.{kept_of};
@@ -11,7 +11,7 @@ ghost use Rattle.sg_model.specs.Faults.{OrNoMemory};
 
 use super::graph::GraphText;
 use super::read::read_graph;
-use sg_graph::{Edge, Terminals, Web, first_unreached};
+use sg_graph::{Edge, Edges, Terminals, Web, first_unreached};
 use sg_limits::SUM_LIMIT;
 use sg_model::{Fault, Refusal};
 use sg_reader::{Rows, alone};
@@ -28,7 +28,7 @@ pub struct Network {
 
 // The weights of all edges together.
 fn sum_of(edges: &[Edge]) -> i128
-    requires few { length edges.now ≤ bond_limit }
+    requires few { length edges.now ≤ large_bond_limit }
     ensures { result ≡ pos (sum_by weight_at edges.now) }
 {
     let mut total: i128 = 0;
@@ -51,7 +51,27 @@ fn read_alone(alloc: Global, bytes: &[u8], terms: bool) -> Result<GraphText, Fau
     alone(alloc, given, &mut rows)
 }
 
-// The `Web` of a graph, if its total weight is within the limit.
+/// The graph of these edges, if its total weight is within the limit.
+///
+/// # Errors
+/// `SumTooLarge`.
+pub fn web_within(nodes: u32, edges: Edges) -> Result<Web, Refusal>
+    requires some { 1 ≤ nodes }
+    requires few_nodes { nodes ≤ large_spin_limit }
+    requires few_edges { length edges ≤ large_bond_limit }
+    requires joined { All (IsEdge nodes) edges }
+    ensures web { IfOk result (λ web. web ≡ record { nodes = nodes; edges = edges }) }
+    ensures light { IfOk result (λ web. total_weight web ≤ sum_limit) }
+    ensures refused { IfErr result (IsTooHeavy (record { nodes = nodes; edges = edges })) }
+{
+    let sum = sum_of(edges.as_slice());
+    if sum > SUM_LIMIT {
+        return Err(Refusal::SumTooLarge { sum });
+    }
+    Ok(Web::new(nodes, edges))
+}
+
+// A graph and its terminals, if its total weight is within the limit.
 fn web_of(text: GraphText) -> Result<Network, Refusal>
     requires { IsGraphText text }
     ensures web { IfOk result (λ n. n.web ≡ graph_in text) }
@@ -59,18 +79,20 @@ fn web_of(text: GraphText) -> Result<Network, Refusal>
     ensures light { IfOk result (λ n. total_weight n.web ≤ sum_limit) }
     ensures refused { IfErr result (IsTooHeavy (graph_in text)) }
 {
-    let sum = sum_of(text.edges.as_slice());
-    if sum > SUM_LIMIT {
-        return Err(Refusal::SumTooLarge { sum });
-    }
-    Ok(Network {
-        web: Web::new(text.nodes, text.edges),
-        terminals: text.terminals,
-    })
+    let GraphText {
+        nodes,
+        edges,
+        terminals,
+    } = text;
+    let web = web_within(nodes, edges)?;
+    Ok(Network { web, terminals })
 }
 
-// Whether each node is reached.
-fn check_joined(alloc: Global, web: &Web) -> Result<(), Fault>
+/// Whether each node of a graph is reached from node 0.
+///
+/// # Errors
+/// `NotJoined` with the least node that is not. `NoMemory`.
+pub fn check_joined(alloc: Global, web: &Web) -> Result<(), Fault>
     ensures connected { OnOk result (IsConnectedWeb web.now) }
     ensures refused { IfErr result (OrNoMemory (IsUnjoined web.now)) }
 {
