@@ -8,7 +8,7 @@
 // A node is deep in a region if all its neighbours were seen to lie in it. It is deep as long as the
 // region is there and none of the neighbours is left; such a node need not be woken.
 use super::NoMemory;
-use sg_slots::{Slot, copy_list, entry, put_entry, set_entry};
+use sg_slots::{Slot, copy_list, entry, number, put_entry, set_entry};
 use std::alloc::Global;
 
 /// Of a node that is covered: the region that took it, the terminal from which it was reached, and the
@@ -346,6 +346,15 @@ impl Cover {
             last = self.before(node);
             set_entry(&mut self.taken, node, bare());
         }
+    }
+
+    /// No node is covered, and there is no region. Cost: linear in the regions and in the nodes that they have.
+    pub fn clear(&mut self) {
+        for name in 0..number(self.rows.len()) {
+            self.uncover(name);
+        }
+        self.rows.clear();
+        self.births = 0;
     }
 
     /// Makes all as it is in another cover.
