@@ -17,8 +17,8 @@
 //!
 //! `wake` enters events, `steps` has the steps of the method, `rests` those of the first half of a run,
 //! `open_hubs` those at nodes of high degree until no tree is left, `slices` the choice of the trees that grow
-//! at one time, `bare` the steps at nodes without a region, `events` the effect of each event, and `finish`
-//! reads off the nest and the pairs.
+//! at one time, `bare` the steps at nodes without a region, `events` the effect of each event, `finish`
+//! reads off the nest and the pairs, and `lists` hands the lists of one engine on to the next.
 #![tactic(auto)]
 
 ghost use Rattle.std.specs.Prelude.{◌≤◌};
@@ -27,6 +27,7 @@ ghost use Rattle.sg_forest.specs.Counts.{event_limit, growth_limit};
 mod bare;
 mod events;
 mod finish;
+mod lists;
 mod open_hubs;
 mod rests;
 mod slices;
@@ -34,7 +35,7 @@ mod steps;
 mod wake;
 
 pub use finish::Exit;
-use open_hubs::has_hub;
+pub use lists::Lists;
 use sg_forest::{Allowance, Forest, Growth, Limit, Link, Reach, Role, Work};
 use sg_growth::{Adjacency, Arc, Clock, Cover, Held, Hubs, NEVER, reverse};
 pub use slices::Batches;
@@ -120,6 +121,11 @@ pub struct Engine<'a, L: Limit> {
     pub inner: Vec<u32>,
 }
 
+// How many regions there is room for at first.
+fn room_for(terminals: &[u32]) -> usize {
+    terminals.len().saturating_add(terminals.len() / 2)
+}
+
 impl<'a, L: Limit> Engine<'a, L> {
     /// A region for each terminal, none grown yet, and what may be done to them. The only error is running
     /// out of memory.
@@ -135,18 +141,32 @@ impl<'a, L: Limit> Engine<'a, L> {
         requires blossoms { allowed.blossoms ≤ L.blossoms }
         requires events { allowed.work ≤ L.events }
     {
-        let room = terminals.len().saturating_add(terminals.len() / 2);
-        let hubs = Hubs::new(alloc, arcs)?;
-        let clock = Clock::new(alloc, arcs.darts(), hubs.len())?;
-        let is_open = has_hub(arcs) && !matches!(method, Method::InClosedHalves);
+        let lists = Lists::new(alloc, arcs, room_for(terminals))?;
+        Engine::over(alloc, lists, arcs, terminals, method, allowed)
+    }
+
+    /// The same over lists for these arcs. Cost: linear in the terminals.
+    pub fn over(
+        alloc: Global,
+        lists: Lists,
+        arcs: &'a Adjacency,
+        terminals: &'a [u32],
+        method: Method,
+        allowed: Allowance,
+    ) -> Result<Engine<'a, L>, NoMemory>
+        requires blossoms { allowed.blossoms ≤ L.blossoms }
+        requires events { allowed.work ≤ L.events }
+    {
+        let room = room_for(terminals);
+        let is_open = lists.has_hub && !matches!(method, Method::InClosedHalves);
         Ok(Engine {
             alloc,
             arcs,
             terminals,
-            cover: Cover::new(alloc, arcs.nodes(), room)?,
+            cover: lists.cover,
             forest: Forest::new(alloc, terminals.len(), room, allowed.blossoms)?,
-            hubs,
-            clock,
+            hubs: lists.hubs,
+            clock: lists.clock,
             work: Work::new(allowed.work),
             is_first: matches!(method, Method::InHalves | Method::InClosedHalves),
             is_open,
@@ -154,8 +174,8 @@ impl<'a, L: Limit> Engine<'a, L> {
             batches: Batches::new(alloc),
             rests: 0,
             unpaired: 0,
-            cycle: Vec::new(alloc),
-            inner: Vec::new(alloc),
+            cycle: lists.cycle,
+            inner: lists.inner,
         })
     }
 
