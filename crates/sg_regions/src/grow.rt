@@ -2,10 +2,11 @@
 ghost use Rattle.std.specs.Prelude.{◌≤◌, length, IfOk};
 ghost use Rattle.sg_forest.specs.Counts.{KeepsTo, event_limit, growth_limit};
 
+use super::layout::Layout;
 use super::{Grown, NoMemory};
 use sg_forest::{Allowance, Limit};
 use sg_growth::{Adjacency, Clock, Nest, Pair, first_dart};
-use sg_region_engine::{Engine, Method};
+use sg_region_engine::{Engine, Lists, Method};
 use sg_slots::number;
 use std::alloc::Global;
 use std::marker::Brand;
@@ -17,12 +18,6 @@ const MOST_AT_ONCE: usize = 16384;
 const NEAR: u32 = 64;
 
 const FAR: u32 = 16;
-
-// Lengths are uneven where the longest is more than so many times the mean.
-const EVEN: i64 = 8;
-
-// Lengths are fine from this mean on.
-const FINE: i64 = 1024;
 
 /// The finished regions, and the pairs of mates.
 #[derive(Drop)]
@@ -36,19 +31,19 @@ pub struct Finished {
 #[tactic(auto, using(crate::proofs::Runs::keeps_to_and))]
 pub fn grow(
     alloc: Global,
-    arcs: &Adjacency,
+    layout: &mut Layout,
     terminals: &[u32],
     places: u64,
 ) -> Result<Grown<Option<Finished>>, NoMemory>
     ensures { IfOk result (λ g. KeepsTo 2 (length terminals.now) places g.growth) }
 {
     let brief = Allowance::brief(terminals.len(), places);
-    let first = grow_by(alloc, arcs, terminals, places, Method::AtOnce, brief)?;
+    let first = grow_by(alloc, layout, terminals, places, Method::AtOnce, brief)?;
     if first.found.is_some() {
         return Ok(first);
     }
     let long = Allowance::long(terminals.len(), places);
-    let second = grow_by(alloc, arcs, terminals, places, Method::InHalves, long)?;
+    let second = grow_by(alloc, layout, terminals, places, Method::InHalves, long)?;
     Ok(Grown {
         found: second.found,
         growth: first.growth.and(second.growth),
@@ -63,17 +58,17 @@ pub fn grow(
 #[tactic(auto, using(crate::proofs::Runs::keeps_to_more, crate::proofs::Runs::keeps_to_and))]
 pub fn grow_without_cuts(
     alloc: Global,
-    arcs: &Adjacency,
+    layout: &mut Layout,
     terminals: &[u32],
     places: u64,
 ) -> Result<Grown<Option<Finished>>, NoMemory>
     ensures { IfOk result (λ g. KeepsTo 3 (length terminals.now) places g.growth) }
 {
-    let first = grow_first(alloc, arcs, terminals, places)?;
+    let first = grow_first(alloc, layout, terminals, places)?;
     if first.found.is_some() {
         return Ok(first);
     }
-    let others = grow(alloc, arcs, terminals, places)?;
+    let others = grow(alloc, layout, terminals, places)?;
     Ok(Grown {
         found: others.found,
         growth: first.growth.and(others.growth),
@@ -84,33 +79,40 @@ pub fn grow_without_cuts(
 // start and with closed hubs, so that the retry differs in more than its ties.
 pub fn grow_again(
     alloc: Global,
-    arcs: &Adjacency,
+    layout: &mut Layout,
     terminals: &[u32],
     places: u64,
 ) -> Result<Grown<Option<Finished>>, NoMemory>
     ensures { IfOk result (λ g. KeepsTo 1 (length terminals.now) places g.growth) }
 {
     let long = Allowance::long(terminals.len(), places);
-    grow_by(alloc, arcs, terminals, places, Method::InClosedHalves, long)
+    grow_by(
+        alloc,
+        layout,
+        terminals,
+        places,
+        Method::InClosedHalves,
+        long,
+    )
 }
 
 // A run by a method that suits the graph better than all trees at once, if there is one.
 fn grow_first(
     alloc: Global,
-    arcs: &Adjacency,
+    layout: &mut Layout,
     terminals: &[u32],
     places: u64,
 ) -> Result<Grown<Option<Finished>>, NoMemory>
     ensures { IfOk result (λ g. KeepsTo 1 (length terminals.now) places g.growth) }
 {
-    let lengths = Lengths::of(arcs);
+    let lengths = layout.lengths;
     if lengths.are_uneven() {
         let brief = Allowance::brief(terminals.len(), places);
-        return grow_by(alloc, arcs, terminals, places, Method::InHalves, brief);
+        return grow_by(alloc, layout, terminals, places, Method::InHalves, brief);
     }
-    if terminals.len() > MOST_AT_ONCE && lengths.are_fine() && are_near(arcs) {
+    if terminals.len() > MOST_AT_ONCE && lengths.are_fine() && are_near(&layout.arcs) {
         let sliced = Allowance::sliced(terminals.len(), places);
-        return grow_by(alloc, arcs, terminals, places, Method::InSlices, sliced);
+        return grow_by(alloc, layout, terminals, places, Method::InSlices, sliced);
     }
     Ok(Grown::ungrown(None))
 }
@@ -129,44 +131,10 @@ fn are_near(arcs: &Adjacency) -> bool {
     far <= edges / FAR
 }
 
-// How long edges are: on average, and at most.
-#[derive(Clone, Copy)]
-struct Lengths {
-    mean: i64,
-    longest: i64,
-}
-
-impl Lengths {
-    // The lengths of all edges.
-    fn of(arcs: &Adjacency) -> Lengths {
-        let mut sum = 0i64;
-        let mut longest = 0i64;
-        let edges = number(arcs.darts() / 2);
-        for edge in 0..edges {
-            let length = arcs.arc(first_dart(edge)).length;
-            sum = sum.wrapping_add(length);
-            longest = longest.max(length);
-        }
-        let mean = if edges > 0 { sum / i64::from(edges) } else { 0 };
-        Lengths { mean, longest }
-    }
-
-    // Whether edges are of very different lengths.
-    fn are_uneven(self) -> bool {
-        self.longest / EVEN > self.mean
-    }
-
-    // Whether few events come at one time. Events at one time come in the order in which they were entered, so
-    // many of them cause few cache misses anyway.
-    fn are_fine(self) -> bool {
-        self.mean >= FINE
-    }
-}
-
 // The same in one run, by a method and with what is allowed.
 fn grow_by(
     alloc: Global,
-    arcs: &Adjacency,
+    layout: &mut Layout,
     terminals: &[u32],
     places: u64,
     method: Method,
@@ -176,13 +144,13 @@ fn grow_by(
     requires events { allowed.work ≤ event_limit (length terminals.now) places }
     ensures { IfOk result (λ g. KeepsTo 1 (length terminals.now) places g.growth) }
 {
-    run::<Brand>(alloc, arcs, terminals, method, allowed)
+    run::<Brand>(alloc, layout, terminals, method, allowed)
 }
 
 // The same within the limits that a type names.
 fn run<L: Limit>(
     alloc: Global,
-    arcs: &Adjacency,
+    layout: &mut Layout,
     terminals: &[u32],
     method: Method,
     allowed: Allowance,
@@ -192,21 +160,71 @@ fn run<L: Limit>(
     ensures blossoms { IfOk result (λ g. g.growth.blossoms ≤ L.blossoms) }
     ensures events { IfOk result (λ g. g.growth.events ≤ L.events) }
 {
-    let mut engine = Engine::<L>::new(alloc, arcs, terminals, method, allowed)?;
-    let found = run_to_end(&mut engine)?;
-    Ok(Grown {
-        found,
-        growth: engine.growth(),
+    let lists = layout.take_lists(alloc, terminals.len())?;
+    let keeps = layout.keeps();
+    let ran = run_over::<L>(
+        alloc,
+        &layout.arcs,
+        lists,
+        keeps,
+        terminals,
+        method,
+        allowed,
+    )?;
+    layout.keep(ran.lists);
+    Ok(ran.grown)
+}
+
+// What has grown in a run, and its lists, if they are kept.
+#[derive(Drop)]
+struct Ran {
+    grown: Grown<Option<Finished>>,
+    lists: Option<Lists>,
+}
+
+// The same over these lists.
+fn run_over<L: Limit>(
+    alloc: Global,
+    arcs: &Adjacency,
+    lists: Lists,
+    keeps: bool,
+    terminals: &[u32],
+    method: Method,
+    allowed: Allowance,
+) -> Result<Ran, NoMemory>
+    requires blossoms { allowed.blossoms ≤ L.blossoms }
+    requires events { allowed.work ≤ L.events }
+    ensures blossoms { IfOk result (λ r. r.grown.growth.blossoms ≤ L.blossoms) }
+    ensures events { IfOk result (λ r. r.grown.growth.events ≤ L.events) }
+{
+    let has_hub = lists.has_hub();
+    let mut engine = Engine::<L>::over(alloc, lists, arcs, terminals, method, allowed)?;
+    let found = run_to_end(&mut engine, keeps)?;
+    let growth = engine.growth();
+    let lists = lists_of(engine, has_hub, keeps && found.is_some());
+    Ok(Ran {
+        grown: Grown { found, growth },
+        lists,
     })
 }
 
+// The lists of an engine, if they are kept.
+fn lists_of<'a, L: Limit>(engine: Engine<'a, L>, has_hub: bool, keeps: bool) -> Option<Lists> {
+    if !keeps {
+        return None;
+    }
+    Some(Lists::of(engine, has_hub))
+}
+
 // What has grown at the end of a run, if it comes to its end. Waiting events are dropped before the nest is
-// made: all regions are free then, so the time no longer matters.
-fn run_to_end<L: Limit>(engine: &mut Engine<L>) -> Result<Option<Finished>, NoMemory> {
+// made, unless lists are kept: all regions are free then, so the time no longer matters.
+fn run_to_end<L: Limit>(engine: &mut Engine<L>, keeps: bool) -> Result<Option<Finished>, NoMemory> {
     if !engine.run()? {
         return Ok(None);
     }
-    engine.clock = Clock::new(engine.alloc, 0, 0)?;
+    if !keeps {
+        engine.clock = Clock::new(engine.alloc, 0, 0)?;
+    }
     Ok(Some(Finished {
         nest: engine.nest()?,
         pairs: engine.pairs()?,

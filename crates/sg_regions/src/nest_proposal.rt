@@ -5,6 +5,7 @@ ghost use Rattle.sg_regions.specs.Places.{place_count};
 ghost use Rattle.sg_regions.specs.Steps.{GrowthAccounts};
 
 use super::grow::{Finished, grow_again, grow_without_cuts};
+use super::layout::Layout;
 use super::proposal::{accounts, arcs_of, places, reversed, reversed_arcs};
 use super::{Grown, Growth, NoMemory};
 use sg_graph::{EdgeList, Terminals, Web};
@@ -40,9 +41,23 @@ pub fn propose_nest(
     if terminals.is_empty() {
         return Ok(Grown::ungrown(Some(bare(alloc, web.nodes())?)));
     }
-    let arcs = arcs_of(alloc, web, 2)?;
-    let grown = grow_without_cuts(alloc, &arcs, terminals.as_slice(), places(web))?;
-    let found = nest_proposal(alloc, &arcs, grown.found, web.edges().len())?;
+    let mut layout = Layout::once(arcs_of(alloc, web, 2)?);
+    propose_over(alloc, web, terminals, &mut layout)
+}
+
+// The same of some terminals over the layout of the graph.
+pub fn propose_over(
+    alloc: Global,
+    web: &Web,
+    terminals: &Terminals,
+    layout: &mut Layout,
+) -> Result<Grown<Option<NestProposal>>, NoMemory>
+    ensures within { IfOk result (λ g. KeepsTo 3 (length terminals.now) (place_count web.now) g.growth) }
+    ensures counted { IfOk result (λ g. IfSome g.found
+        (λ p. GrowthAccounts (length terminals.now) (length p.nest.regions) g.growth)) }
+{
+    let grown = grow_without_cuts(alloc, layout, terminals.as_slice(), places(web))?;
+    let found = nest_proposal(alloc, &layout.arcs, grown.found, web.edges().len())?;
     Ok(Grown {
         found: counted(found, grown.growth, terminals.len()),
         growth: grown.growth,
@@ -62,10 +77,10 @@ pub fn propose_nest_again(
     ensures counted { IfOk result (λ g. IfSome g.found
         (λ p. GrowthAccounts (length terminals.now) (length p.nest.regions) g.growth)) }
 {
-    let arcs = reversed_arcs(alloc, web)?;
+    let mut layout = Layout::once(reversed_arcs(alloc, web)?);
     let seeds = reversed(alloc, terminals.as_slice())?;
-    let grown = grow_again(alloc, &arcs, &seeds, places(web))?;
-    let found = nest_proposal(alloc, &arcs, grown.found, web.edges().len())?;
+    let grown = grow_again(alloc, &mut layout, &seeds, places(web))?;
+    let found = nest_proposal(alloc, &layout.arcs, grown.found, web.edges().len())?;
     Ok(Grown {
         found: counted(found, grown.growth, terminals.len()),
         growth: grown.growth,

@@ -4,6 +4,7 @@ ghost use Rattle.sg_regions.specs.Places.{place_count};
 ghost use Rattle.sg_regions.specs.Steps.{GrowthAccounts};
 
 use super::grow::{Finished, grow, grow_again};
+use super::layout::Layout;
 use super::{Grown, Growth, NoMemory};
 use sg_graph::{Terminals, Web};
 use sg_growth::Adjacency;
@@ -27,9 +28,9 @@ pub fn propose(
     ensures within { IfOk result (λ g. KeepsTo 2 (length terminals.now) (place_count web.now) g.growth) }
     ensures counted { IfOk result (λ g. IfSome g.found (λ _. GrowthAccounts (length terminals.now) 0 g.growth)) }
 {
-    let arcs = arcs_of(alloc, web, 2)?;
-    let grown = grow(alloc, &arcs, terminals.as_slice(), places(web))?;
-    let found = proposal(alloc, &arcs, grown.found, web.edges().len())?;
+    let mut layout = Layout::once(arcs_of(alloc, web, 2)?);
+    let grown = grow(alloc, &mut layout, terminals.as_slice(), places(web))?;
+    let found = proposal(alloc, &layout.arcs, grown.found, web.edges().len())?;
     Ok(Grown {
         found: if accounts(grown.growth, terminals.len(), 0) {
             found
@@ -52,10 +53,10 @@ pub fn propose_again(
     ensures within { IfOk result (λ g. KeepsTo 1 (length terminals.now) (place_count web.now) g.growth) }
     ensures counted { IfOk result (λ g. IfSome g.found (λ _. GrowthAccounts (length terminals.now) 0 g.growth)) }
 {
-    let arcs = reversed_arcs(alloc, web)?;
+    let mut layout = Layout::once(reversed_arcs(alloc, web)?);
     let seeds = reversed(alloc, terminals.as_slice())?;
-    let grown = grow_again(alloc, &arcs, &seeds, places(web))?;
-    let found = proposal(alloc, &arcs, grown.found, web.edges().len())?;
+    let grown = grow_again(alloc, &mut layout, &seeds, places(web))?;
+    let found = proposal(alloc, &layout.arcs, grown.found, web.edges().len())?;
     Ok(Grown {
         found: if accounts(grown.growth, terminals.len(), 0) {
             found

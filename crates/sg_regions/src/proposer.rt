@@ -3,6 +3,8 @@ ghost use Rattle.std.specs.Prelude.{◌≡◌, ◌+◌, ℕ, length, IfOk, IfSom
 ghost use Rattle.sg_regions.specs.Places.{place_count};
 ghost use Rattle.sg_regions.specs.Steps.{Accounts, RegionSteps, TakesRuns, no_steps};
 
+use super::layout::Layout;
+use super::nest_proposal::propose_over;
 use super::{
     Growth, NestProposal, NoMemory, propose, propose_again, propose_nest, propose_nest_again,
 };
@@ -181,6 +183,57 @@ impl Proposer<NestProposal> for Regions {
     ) -> Result<Option<NestProposal>, NoMemory> {
         let grown = propose_nest_again(alloc, web, terminals)?;
         self.count(grown.growth);
+        Ok(grown.found)
+    }
+}
+
+/// Growing regions for one list of terminals after another on one graph: what depends on the graph alone is made
+/// for the first proposal and kept. On another graph its proposals would be rejected.
+#[derive(Drop)]
+pub struct KeptRegions {
+    counted: Regions,
+    layout: Option<Layout>,
+}
+
+impl KeptRegions {
+    /// Before the first proposal.
+    pub fn new() -> KeptRegions
+        ensures { result.counted ≡ no_steps }
+    {
+        KeptRegions {
+            counted: Regions::new(),
+            layout: None,
+        }
+    }
+}
+
+impl Proposer<NestProposal> for KeptRegions {
+    ghost steps = { λ r. r.counted };
+
+    fn propose(
+        &mut self,
+        alloc: Global,
+        web: &Web,
+        terminals: &Terminals,
+    ) -> Result<Option<NestProposal>, NoMemory> {
+        let mut layout = match self.layout.take() {
+            Some(layout) => layout,
+            None => Layout::kept(alloc, web)?,
+        };
+        let grown = propose_over(alloc, web, terminals, &mut layout)?;
+        self.layout = Some(layout);
+        self.counted.count(grown.growth);
+        Ok(grown.found)
+    }
+
+    fn propose_again(
+        &mut self,
+        alloc: Global,
+        web: &Web,
+        terminals: &Terminals,
+    ) -> Result<Option<NestProposal>, NoMemory> {
+        let grown = propose_nest_again(alloc, web, terminals)?;
+        self.counted.count(grown.growth);
         Ok(grown.found)
     }
 }
