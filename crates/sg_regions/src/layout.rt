@@ -11,7 +11,7 @@ use std::alloc::Global;
 const EVEN: i64 = 8;
 
 // Lengths are fine from this mean on.
-const FINE: i64 = 1024;
+const FINE: i64 = 8;
 
 // The arcs of a graph, how long they are, and the lists of the last run, if they are kept for the next one.
 #[derive(Drop)]
