@@ -5,6 +5,7 @@ pub mod OneCost
 pub mod ClusterNames
 pub mod Agreement
 pub mod PathBounds
+pub mod NarrowedBounds
 pub mod SomeCost
 pub mod RigidBounds
 pub mod ToldBonds

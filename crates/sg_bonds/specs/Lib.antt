@@ -1,7 +1,7 @@
 pub mod Cost
 pub mod Cluster
 pub mod Naming
-pub mod Known
+pub mod Bounds
 pub mod Told
 pub mod Weakened
 pub mod Study

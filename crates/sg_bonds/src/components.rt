@@ -1,29 +1,26 @@
 // The costs of an instance, from those of its components.
-ghost use Rattle.std.specs.Prelude.{◌≡◌, ◌<◌, ◌≤◌, length, All, IfOk};
+ghost use Rattle.std.specs.Prelude.{◌≡◌, ◌<◌, ◌≤◌, ◌^◌, ℕ, length, map, slice_index_or, All, IfOk};
 ghost use Rattle.std.specs.List.Sorted.{IsStrictlyIncreasing};
 ghost use Rattle.sg_limits.specs.Limits.{sum_limit};
 ghost use Rattle.sg_model.specs.Energy.{weight};
+ghost use Rattle.sg_model.specs.Ising.{bond_count};
 ghost use Rattle.sg_planar.specs.Parts.{AreParts};
 ghost use Rattle.sg_ground.specs.Placed.{WritesAt};
+ghost use Rattle.sg_bonds.specs.Bounds.{AreBounds};
 ghost use Rattle.sg_bonds.specs.Cost.{AreCosts};
 
-use super::breaking::part_costs;
+use super::bounds::Bound;
+use super::narrowing::costs_of;
 use super::{CostList, NoMemory};
 use sg_model::Instance;
 use sg_planar::{Part, Planar, parts};
-use std::alloc::Global;
+use sg_tjoin::Unproved;
+use std::alloc::{AllocError, Global};
 
 /// The cost of each bond. The only error is running out of memory.
 ///
-/// A bond costs in its component what it costs in the whole, so each component is taken by itself. Its
-/// regions grow once, and prove a ground state. That has one of the two products at a bond, and the state
-/// of least energy with the other tells the cost: it is found by a repair of the regions, and where none
-/// is proved by a new ground state of a copy, in which a coupling larger than the sum of all sizes forces
-/// the bond. Few bonds have to be asked for. Each such state flips many bonds, and its energy bounds
-/// their costs from above. And where other bonds, each of which costs at least so much, lead from one end
-/// of a bond to the other, the bond costs at least so much too: an assignment that flips it flips one of
-/// them. So the bond with the largest bound is asked first, and where the two bounds meet, nothing is
-/// solved.
+/// A bond costs in its component what it costs in the whole, so each component is taken by itself, and its
+/// costs are found as in [`costs_of`].
 ///
 /// Cost: in practice one growth of each component's regions and a repair for about each spin, at most one
 /// for each bond; beside them a walk over the bonds of its component for each bond.
@@ -47,6 +44,56 @@ fn join_costs(alloc: Global, inst: &Instance, parts: &[Part]) -> Result<CostList
         place_costs(&mut costs, part.bonds.as_slice(), found.as_slice());
     }
     Ok(CostList::from_vec(costs))
+}
+
+// The costs in one component.
+fn part_costs(alloc: Global, planar: &Planar) -> Result<CostList, NoMemory>
+    requires sum { weight planar.now.instance ≤ sum_limit }
+    ensures { IfOk result (AreCosts planar.now.instance) }
+{
+    let asked = numbers_below(alloc, planar.instance().bonds().len())?;
+    let mut bounds = vec![in alloc; Bound { low: -1, high: -1 }; asked.len()]?;
+    all_costs(alloc, planar, &asked, &mut bounds)
+}
+
+// The costs of all bonds, by bounds of them that are narrowed.
+fn all_costs(
+    alloc: Global,
+    planar: &Planar,
+    asked: &[u32],
+    bounds: &mut [Bound],
+) -> Result<CostList, NoMemory>
+    requires sum { weight planar.now.instance ≤ sum_limit }
+    requires count { length asked.now ≡ bond_count planar.now.instance }
+    requires each { (k : ℕ) → k < bond_count planar.now.instance → slice_index_or asked.now k 0 ≡ k }
+    requires bounds { AreBounds planar.now.instance bounds.old }
+    ensures { IfOk result (AreCosts planar.now.instance) }
+{
+    match costs_of(alloc, planar, asked, bounds, u64::MAX) {
+        Ok(()) => Ok(CostList::from_vec(lower_bounds(alloc, bounds)?)),
+        Err(Unproved::NoMemory) => Err(AllocError),
+        Err(Unproved::TablesTooLarge) => unreachable!(),
+    }
+}
+
+// The numbers below this one.
+fn numbers_below(alloc: Global, count: usize) -> Result<Vec<u32>, NoMemory>
+    requires { count ≤ 2 ^ 32 }
+    ensures count { IfOk result (λ list. length list.items ≡ count) }
+    ensures each { IfOk result (λ list. (k : ℕ) → k < count → slice_index_or list.items k 0 ≡ k) }
+{
+    let mut list = Vec::with_capacity(alloc, count)?;
+    for k in 0..count {
+        list.push(k as u32)?;
+    }
+    Ok(list)
+}
+
+// The lower bounds.
+fn lower_bounds(alloc: Global, bounds: &[Bound]) -> Result<Vec<i64>, NoMemory>
+    ensures { IfOk result (λ list. list.items ≡ map (λ bound. bound.low) bounds.now) }
+{
+    bounds.iter().map(|bound| bound.low).collect(alloc)
 }
 
 // Writes the costs of a part to the places of its bonds.

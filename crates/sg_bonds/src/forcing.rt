@@ -1,16 +1,21 @@
 // The least energy with a product at a bond, by a coupling that forces it.
-ghost use Rattle.std.specs.Prelude.{◌≡◌, ◌+◌, ◌<◌, ◌≤◌, ◌^◌, ◌*ℤ◌, neg_ℤ, pos, length, IfOk, unsigned_abs};
+ghost use Rattle.std.specs.Prelude.{◌≡◌, ◌+◌, ◌<◌, ◌≤◌, ◌^◌, ◌*ℤ◌, neg_ℤ, pos, length, IfErr, IfOk, unsigned_abs};
 ghost use Rattle.sg_limits.specs.Limits.{sum_limit};
 ghost use Rattle.sg_model.specs.Ising.{IsBond, bond_at, bond_count};
 ghost use Rattle.sg_model.specs.Spins.{IsAssignment, IsUpOrDown};
 ghost use Rattle.sg_model.specs.Energy.{IsGroundState, energy, product, weight};
+ghost use Rattle.sg_tjoin.specs.Allowance.{IfTooLarge};
+ghost use Rattle.sg_ground.specs.Allowance.{TablesExceed};
+ghost use Rattle.sg_bonds.specs.Bounds.{ForcedTablesExceed};
 ghost use Rattle.sg_bonds.specs.Cost.{IsLeastWith};
+ghost use Rattle.sg_bonds.specs.Study.{IsStudy};
 
-use super::NoMemory;
 use super::states::BondStates;
-use sg_ground::{State, ground_state};
+use super::weaken::Study;
+use sg_ground::{State, ground_state_within};
 use sg_model::{Bond, Spins};
 use sg_planar::Planar;
+use sg_tjoin::Unproved;
 use std::alloc::Global;
 
 /// Spins and their energy, the least with some product at some bond.
@@ -37,46 +42,43 @@ pub(crate) fn other_product(spins: &Spins, bond: &Bond) -> i64
 /// prove, and else a ground state of a copy that forces it.
 pub(crate) fn state_with(
     alloc: Global,
-    planar: &Planar,
+    study: &Study,
     states: &mut BondStates,
     bond: u32,
     wanted: i64,
-) -> Result<LeastState, NoMemory>
-    requires sum { weight planar.now.instance ≤ sum_limit }
-    requires states { states.old ≡ planar.now }
-    requires bond_in { bond < bond_count planar.now.instance }
+) -> Result<LeastState, Unproved>
+    requires study { IsStudy study.now }
+    requires states { states.old ≡ study.now.planar.now }
+    requires bond_in { bond < bond_count study.now.planar.now.instance }
     requires up_or_down { IsUpOrDown wanted }
-    ensures states { states.new ≡ planar.now }
-    ensures least { IfOk result (λ t. IsLeastWith planar.now.instance bond wanted t.energy) }
-    ensures assignment { IfOk result (λ t. IsAssignment planar.now.instance t.spins) }
-    ensures product { IfOk result (λ t. product t.spins (bond_at planar.now.instance bond) ≡ wanted) }
-    ensures energy { IfOk result (λ t. t.energy ≡ energy planar.now.instance t.spins) }
+    ensures states { states.new ≡ study.now.planar.now }
+    ensures least { IfOk result (λ t. IsLeastWith study.now.planar.now.instance bond wanted t.energy) }
+    ensures assignment { IfOk result (λ t. IsAssignment study.now.planar.now.instance t.spins) }
+    ensures product { IfOk result (λ t. product t.spins (bond_at study.now.planar.now.instance bond) ≡ wanted) }
+    ensures energy { IfOk result (λ t. t.energy ≡ energy study.now.planar.now.instance t.spins) }
+    ensures too_large { IfErr result (IfTooLarge (ForcedTablesExceed study.now.most_bytes study.now.planar.now.instance)) }
 {
     match states.least_with(alloc, bond, wanted)? {
         Some(state) => Ok(state),
-        None => least_with(alloc, planar, bond, wanted),
+        None => least_with(alloc, study, bond, wanted),
     }
 }
 
 // An assignment of the least energy among those with this product at the bond, by a new ground state.
-fn least_with(
-    alloc: Global,
-    planar: &Planar,
-    bond: u32,
-    wanted: i64,
-) -> Result<LeastState, NoMemory>
-    requires sum { weight planar.now.instance ≤ sum_limit }
-    requires bond_in { bond < bond_count planar.now.instance }
+fn least_with(alloc: Global, study: &Study, bond: u32, wanted: i64) -> Result<LeastState, Unproved>
+    requires study { IsStudy study.now }
+    requires bond_in { bond < bond_count study.now.planar.now.instance }
     requires up_or_down { IsUpOrDown wanted }
-    ensures least { IfOk result (λ t. IsLeastWith planar.now.instance bond wanted t.energy) }
-    ensures assignment { IfOk result (λ t. IsAssignment planar.now.instance t.spins) }
-    ensures product { IfOk result (λ t. product t.spins (bond_at planar.now.instance bond) ≡ wanted) }
-    ensures energy { IfOk result (λ t. t.energy ≡ energy planar.now.instance t.spins) }
+    ensures least { IfOk result (λ t. IsLeastWith study.now.planar.now.instance bond wanted t.energy) }
+    ensures assignment { IfOk result (λ t. IsAssignment study.now.planar.now.instance t.spins) }
+    ensures product { IfOk result (λ t. product t.spins (bond_at study.now.planar.now.instance bond) ≡ wanted) }
+    ensures energy { IfOk result (λ t. t.energy ≡ energy study.now.planar.now.instance t.spins) }
+    ensures too_large { IfErr result (IfTooLarge (ForcedTablesExceed study.now.most_bytes study.now.planar.now.instance)) }
 {
-    let force = force(planar);
-    let forced = planar.with_coupling(bond, signed(wanted, force))?;
-    let least = ground_state(alloc, &forced)?;
-    let coupling = planar.instance().bonds().at(bond as usize).j;
+    let force = force(study.planar);
+    let forced = study.planar.with_coupling(bond, signed(wanted, force))?;
+    let least = ground_state_within(alloc, &forced, study.most_bytes)?;
+    let coupling = study.planar.instance().bonds().at(bond as usize).j;
     let energy = least.energy + force - signed(wanted, coupling);
     Ok(LeastState {
         energy,
@@ -89,15 +91,17 @@ pub(crate) fn least_state(
     alloc: Global,
     planar: &Planar,
     states: &mut BondStates,
-) -> Result<State, NoMemory>
+    most_bytes: u64,
+) -> Result<State, Unproved>
     requires states { states.old ≡ planar.now }
     ensures states { states.new ≡ planar.now }
     ensures ground_state { IfOk result (λ s. IsGroundState planar.now.instance s.spins) }
     ensures energy { IfOk result (λ s. s.energy ≡ energy planar.now.instance s.spins) }
+    ensures too_large { IfErr result (IfTooLarge (TablesExceed most_bytes planar.now.instance)) }
 {
     match states.ground_state(alloc)? {
         Some(state) => Ok(state),
-        None => ground_state(alloc, planar),
+        None => ground_state_within(alloc, planar, most_bytes),
     }
 }
 

@@ -6,11 +6,14 @@
 //! state (Barahona, Maynard, Rammal and Uhry 1982). Spins connected by rigid bonds form clusters, which
 //! every ground state of the lattice has in common.
 //!
-//! For the next engineer: `specs/Cost.antt` and `specs/Cluster.antt` say what is computed. `costs` takes
-//! each component by itself (`components`); `proofs/PartCosts.antt` says why a bond costs in the whole
-//! what it costs there. A ground state and the states that flip a bond come from `BondStates`
-//! (`states`): regions grow once on the dual and are repaired for each bond, and their proposals are
-//! judged (`joins`), by the contract of `sg_nest::Judge` and the law `least_joins_with`
+//! For the next engineer: `specs/Cost.antt` and `specs/Cluster.antt` say what is computed, and
+//! `specs/Bounds.antt` what a search passes on. `costs_of` narrows bounds of the costs of all bonds until those
+//! of the asked bonds meet (`narrowing`): upper bounds come from states (`bounds`), lower ones from paths
+//! (`paths`, `proofs/PathBounds.antt`), and no clause says that the bounds passed hold, only what follows if
+//! they do. `costs` takes each component by itself (`components`); `proofs/PartCosts.antt` says why a bond
+//! costs in the whole what it costs there. A ground state and the states that flip a bond come from
+//! `BondStates` (`states`): regions grow once on the dual and are repaired for each bond, and their proposals
+//! are judged (`joins`), by the contract of `sg_nest::Judge` and the law `least_joins_with`
 //! (`proofs/EdgeJoins.antt`). If that proves nothing, `forcing` solves a copy that forces the bond, by
 //! the law `forced_minimum`. `waiting` picks the next bond by a heap. `clusters` needs only to know
 //! whether a cost is positive (`telling`): all undecided bonds are weakened a little (`weaken`). If the
@@ -18,24 +21,27 @@
 //! (`proofs/WeakenedEnergy.antt`); else a new one flips some of them at no cost.
 #![tactic(auto)]
 
+mod bounds;
 mod breaking;
 mod components;
 mod forcing;
 mod joins;
-mod known;
 mod law;
 mod naming;
+mod narrowing;
 mod paths;
 mod states;
 mod telling;
 mod waiting;
 mod weaken;
 
+pub use bounds::Bound;
 pub use breaking::rigid;
 pub use components::costs;
 pub use forcing::LeastState;
 pub use law::{forced_minimum, least_joins_with, rigid_clusters_agree, weakened_bounds};
 pub use naming::{clusters, clusters_by, clusters_within};
+pub use narrowing::costs_of;
 use sg_list::Numbers;
 pub use states::BondStates;
 use std::alloc::AllocError;

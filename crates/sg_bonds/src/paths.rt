@@ -1,54 +1,57 @@
 // Bounds from below: a bond costs at least as much as the cheapest bond on a path that joins its ends.
-ghost use Rattle.std.specs.Prelude.{◌≡◌, ◌<◌, ℕ, true, false, length, replicate, IfOk, IfSome};
+ghost use Rattle.std.specs.Prelude.{◌≡◌, ◌<◌, ℕ, true, false, int_le, length, replicate, IfOk};
 ghost use Rattle.sg_model.specs.Ising.{bond_at, bond_count};
 ghost use Rattle.sg_model.specs.Connected.{Reached};
 ghost use Rattle.sg_walk.specs.Walk.{has};
-ghost use Rattle.sg_bonds.specs.declared.known.Known.TheVariants.{AtMost};
-ghost use Rattle.sg_bonds.specs.Known.{IsMet, costs_at_least, known_at};
+ghost use Rattle.sg_bonds.specs.Bounds.{IsMet, costs_at_least};
 
 use super::NoMemory;
-use super::known::Known;
+use super::bounds::Bound;
 use sg_model::Instance;
 use sg_walk::walk;
 use std::alloc::Global;
 
-/// The upper bound of the bond, if it is a lower bound too: no cost is below 0, and none is below
-/// the costs of bonds on a path that joins the ends.
-pub(crate) fn met(
+/// Whether the upper bound of the bond is a lower bound too: no cost is below 0, and none is below the costs
+/// of bonds on a path that joins the ends.
+pub(crate) fn is_met(
     alloc: Global,
     inst: &Instance,
-    known: &[Known],
+    bounds: &[Bound],
     bond: u32,
-) -> Result<Option<i64>, NoMemory>
-    requires count { length known.now ≡ bond_count inst.now }
+) -> Result<bool, NoMemory>
+    requires count { length bounds.now ≡ bond_count inst.now }
     requires bond_in { bond < bond_count inst.now }
-    ensures bound { IfOk result (λ o. IfSome o (λ cost. known_at known.now bond ≡ AtMost cost)) }
-    ensures met { IfOk result (λ o. IfSome o (λ cost. IsMet inst.now known.now bond cost)) }
+    ensures { IfOk result (λ met. met ≡ true → IsMet inst.now bounds.now bond) }
 {
-    let Known::AtMost(bound) = known[bond as usize] else {
-        return Ok(None);
-    };
-    if bound <= 0 {
-        return Ok(Some(bound));
+    let Bound { low, high } = bounds[bond as usize];
+    if high < 0 {
+        return Ok(false);
     }
-    let set = at_least(alloc, known, bound)?;
-    if joins(alloc, inst, &set, bond)? {
-        Ok(Some(bound))
-    } else {
-        Ok(None)
+    if high == 0 || high <= low {
+        return Ok(true);
     }
+    let set = at_least(alloc, bounds, high)?;
+    let is_joined = joins(alloc, inst, &set, bond)?;
+    Ok(is_joined)
 }
 
-// For each bond whether its cost is known and at least this.
-fn at_least(alloc: Global, known: &[Known], bound: i64) -> Result<Vec<bool>, NoMemory>
-    ensures count { IfOk result (λ set. length set.items ≡ length known.now) }
-    ensures each { IfOk result (λ set. (k : ℕ) → k < length known.now → has set.items k ≡ costs_at_least known.now bound k) }
+// For each bond whether it is known to cost at least so much.
+fn at_least(alloc: Global, bounds: &[Bound], least: i64) -> Result<Vec<bool>, NoMemory>
+    ensures count { IfOk result (λ set. length set.items ≡ length bounds.now) }
+    ensures each { IfOk result (λ set. (k : ℕ) → k < length bounds.now → has set.items k ≡ costs_at_least bounds.now least k) }
 {
-    let mut set = Vec::with_capacity(alloc, known.len())?;
-    for entry in known {
-        set.push(matches!(entry, Known::Exact(cost) if *cost >= bound))?;
+    let mut set = Vec::with_capacity(alloc, bounds.len())?;
+    for bound in bounds {
+        set.push(is_at_least(*bound, least))?;
     }
     Ok(set)
+}
+
+// Whether the lower bound is at least so much.
+fn is_at_least(bound: Bound, least: i64) -> bool
+    ensures { result ≡ int_le least bound.low }
+{
+    least <= bound.low
 }
 
 /// Whether bonds of the set lead from one end of the bond to the other.

@@ -15,7 +15,7 @@ ghost use Rattle.sg_bonds.specs.Told.{AreTold};
 ghost use Rattle.sg_bonds.specs.Weakened.{FitsWeakened, WeakenedTablesExceed, amount_at, weakened};
 
 use super::NoMemory;
-use super::known::is_turned;
+use super::bounds::is_turned;
 use super::weaken::{Study, Weakened, ask, decide, fits, scale_for};
 use sg_ground::{State, nested_state};
 use sg_model::{Instance, Spins};

@@ -2,7 +2,7 @@
 ghost use Rattle.std.specs.Prelude.{◌<◌, length, IfOk, IfSome};
 
 use super::NoMemory;
-use super::known::Known;
+use super::bounds::Bound;
 use std::alloc::Global;
 use std::cmp::Reverse;
 use std::collections::BinaryHeap;
@@ -12,7 +12,7 @@ use std::collections::BinaryHeap;
 #[derive(Clone, Copy, PartialEq, Eq, PartialOrd, Ord)]
 struct Bounded {
     bound: i64,
-    bond: Reverse<usize>,
+    bond: Reverse<u32>,
 }
 
 /// The bonds whose costs are not known. Nothing is promised of their order.
@@ -22,32 +22,32 @@ pub(crate) struct Waiting {
 }
 
 impl Waiting {
-    /// So many bonds, none with a bound.
-    pub(crate) fn new(alloc: Global, bonds: usize) -> Result<Waiting, NoMemory> {
-        let mut heap = BinaryHeap::with_capacity(alloc, bonds)?;
-        for bond in 0..bonds {
+    /// These bonds, none with a bound.
+    pub(crate) fn new(alloc: Global, bonds: &[u32]) -> Result<Waiting, NoMemory> {
+        let mut heap = BinaryHeap::with_capacity(alloc, bonds.len())?;
+        for bond in bonds {
             heap.push(Bounded {
                 bound: i64::MAX,
-                bond: Reverse(bond),
+                bond: Reverse(*bond),
             })?;
         }
         Ok(Waiting { heap })
     }
 
-    /// The bond whose cost may be the largest, of those whose cost is not known: the first without a
-    /// bound, and else the first of the largest bound. It waits no more then.
+    /// The bond whose cost may be the largest, of those whose cost is not known: the first without an upper
+    /// bound, and else the first of the largest one. It waits no more then.
     ///
     /// Bounds only fall. One that fell since its bond was put here goes back to where it belongs, so
     /// each call takes a logarithm, and so does each bound that falls.
-    pub(crate) fn next(&mut self, known: &[Known]) -> Result<Option<usize>, NoMemory>
-        ensures { IfOk result (λ found. IfSome found (λ bond. bond < length known.now)) }
+    pub(crate) fn next(&mut self, bounds: &[Bound]) -> Result<Option<u32>, NoMemory>
+        ensures { IfOk result (λ found. IfSome found (λ bond. bond < length bounds.now)) }
     {
         for _ in 0..=self.heap.len() {
             let Some(first) = self.heap.pop() else {
                 break;
             };
             let Reverse(bond) = first.bond;
-            let Some(bound) = bound_of(known, bond) else {
+            let Some(bound) = open_bound(bounds, bond) else {
                 continue;
             };
             if bound >= first.bound {
@@ -59,13 +59,13 @@ impl Waiting {
     }
 }
 
-// The bound of a cost that is not known.
-fn bound_of(known: &[Known], bond: usize) -> Option<i64>
-    ensures { IfSome result (λ _. bond < length known.now) }
+// The upper bound of a cost that is not known.
+fn open_bound(bounds: &[Bound], bond: u32) -> Option<i64>
+    ensures { IfSome result (λ _. bond < length bounds.now) }
 {
-    match known.get(bond)? {
-        Known::Exact(_) => None,
-        Known::AtMost(bound) => Some(*bound),
-        Known::Nothing => Some(i64::MAX),
+    let Bound { low, high } = *bounds.get(bond as usize)?;
+    if high < 0 {
+        return Some(i64::MAX);
     }
+    if low < high { Some(high) } else { None }
 }

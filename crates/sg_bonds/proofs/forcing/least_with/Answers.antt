@@ -8,15 +8,15 @@ use Rattle.sg_bonds.proofs.forcing.least_with.Goals as goal
 
 pub signed-requires-2-clause-size : goal.signed-requires-2-clause-size
 signed-requires-2-clause-size c =
-    let good : IsInstance c.args.planar.now.instance = subst IsInstance c.instance.ensures.value c.bonds.ensures.instance in
-    let read : bond_at c.args.planar.now.instance c.args.bond ≡ c.at.result.now = read_bond c.args.planar.now.instance c.instance.result.now
+    let good : IsInstance c.args.study.now.planar.now.instance = subst IsInstance c.instance.ensures.value c.bonds.ensures.instance in
+    let read : bond_at c.args.study.now.planar.now.instance c.args.bond ≡ c.at.result.now = read_bond c.args.study.now.planar.now.instance c.instance.result.now
     c.bonds.result.now c.args.bond c.at.result.now c.at.ensures c.bonds.ensures.value c.instance.ensures.value in
-    coupling_fits c.args.planar.now.instance good c.args.bond c.requires.bond_in c.requires.sum c.at.result.now.j (ap (λ (b : Bond). b.j) read)
+    coupling_fits c.args.study.now.planar.now.instance good c.args.bond c.requires.bond_in c.requires.study.sum c.at.result.now.j (ap (λ (b : Bond). b.j) read)
 
-good : (c : goal.After-drop-forced-inside-8) → IsInstance c.args.planar.now.instance
+good : (c : goal.After-drop-forced-inside-8) → IsInstance c.args.study.now.planar.now.instance
 good c = subst IsInstance c.instance.ensures.value c.bonds.ensures.instance
 
-solved : (c : goal.After-drop-forced-inside-8) → IsForcedSolve c.args.planar.now.instance c.args.bond c.args.wanted c.force-force.result c.signed.result
+solved : (c : goal.After-drop-forced-inside-8) → IsForcedSolve c.args.study.now.planar.now.instance c.args.bond c.args.wanted c.force-force.result c.signed.result
     c.in_ok-least.least.energy c.signed-2.result c.at.result.now.j c.in_ok-forced.forced.instance c.in_ok-least.least.spins
 solved c = record {
   force = c.force-force.ensures;
@@ -26,17 +26,17 @@ solved c = record {
   value = c.in_ok-least.ensures.energy;
   size = c.in_ok-least.ensures.size;
   coupling = ap (λ (b : Bond). b.j)
-      (read_bond c.args.planar.now.instance c.instance.result.now c.bonds.result.now c.args.bond c.at.result.now
+      (read_bond c.args.study.now.planar.now.instance c.instance.result.now c.bonds.result.now c.args.bond c.at.result.now
       c.at.ensures c.bonds.ensures.value c.instance.ensures.value);
   own = c.signed-2.ensures;
 }
 
 pub overflow_sub-energy : goal.overflow_sub-energy
 overflow_sub-energy c =
-    let read = read_bond c.args.planar.now.instance c.instance.result.now c.bonds.result.now c.args.bond c.at.result.now
+    let read = read_bond c.args.study.now.planar.now.instance c.instance.result.now c.bonds.result.now c.args.bond c.at.result.now
     c.at.ensures c.bonds.ensures.value c.instance.ensures.value in
-    gap_fits c.args.planar.now.instance (subst IsInstance c.instance.ensures.value c.bonds.ensures.instance) c.args.bond
-    c.requires.bond_in c.requires.sum c.args.wanted c.requires.up_or_down
+    gap_fits c.args.study.now.planar.now.instance (subst IsInstance c.instance.ensures.value c.bonds.ensures.instance) c.args.bond
+    c.requires.bond_in c.requires.study.sum c.args.wanted c.requires.up_or_down
     c.force-force.result c.signed.result c.in_ok-least.least.energy c.signed-2.result c.at.result.now.j
     c.in_ok-forced.forced.instance c.in_ok-least.least.spins
     (record {
@@ -52,18 +52,18 @@ overflow_sub-energy c =
 
 pub returns-clause-least : goal.returns-clause-least
 returns-clause-least c =
-    least_found c.args.planar.now.instance (good c) c.args.bond c.requires.bond_in c.requires.sum c.args.wanted c.requires.up_or_down
+    least_found c.args.study.now.planar.now.instance (good c) c.args.bond c.requires.bond_in c.requires.study.sum c.args.wanted c.requires.up_or_down
     c.force-force.result c.signed.result c.in_ok-least.least.energy c.signed-2.result c.at.result.now.j
     c.in_ok-forced.forced.instance c.in_ok-least.least.spins (solved c)
 
 pub returns-clause-product : goal.returns-clause-product
 returns-clause-product c =
-    product_found c.args.planar.now.instance (good c) c.args.bond c.requires.bond_in c.requires.sum c.args.wanted c.requires.up_or_down
+    product_found c.args.study.now.planar.now.instance (good c) c.args.bond c.requires.bond_in c.requires.study.sum c.args.wanted c.requires.up_or_down
     c.force-force.result c.signed.result c.in_ok-least.least.energy c.signed-2.result c.at.result.now.j
     c.in_ok-forced.forced.instance c.in_ok-least.least.spins (solved c)
 
 pub returns-clause-energy : goal.returns-clause-energy
 returns-clause-energy c =
-    energy_found c.args.planar.now.instance (good c) c.args.bond c.requires.bond_in c.requires.sum c.args.wanted c.requires.up_or_down
+    energy_found c.args.study.now.planar.now.instance (good c) c.args.bond c.requires.bond_in c.requires.study.sum c.args.wanted c.requires.up_or_down
     c.force-force.result c.signed.result c.in_ok-least.least.energy c.signed-2.result c.at.result.now.j
     c.in_ok-forced.forced.instance c.in_ok-least.least.spins (solved c)

@@ -1,10 +1,10 @@
 use Rattle.std.proofs.Common.{◌≡◌, ◌<◌, ℕ, length}
 use Rattle.sg_walk.specs.Walk.{has}
-use Rattle.sg_bonds.specs.Known.{costs_at_least}
+use Rattle.sg_bonds.specs.Bounds.{costs_at_least}
 use Rattle.sg_bonds.proofs.paths.at_least.Given as goal
 
-abbrev pub invariant-loop-entry : goal.invariant-loop-entry
-invariant-loop-entry l = record {
-  count : length l.set.items ≡ l.entry-index;
-  each : (k : ℕ) → k < l.entry-index → has l.set.items k ≡ costs_at_least l.known l.bound k;
+abbrev pub invariant-loop-bound : goal.invariant-loop-bound
+invariant-loop-bound l = record {
+  count : length l.set.items ≡ l.bound-index;
+  each : (k : ℕ) → k < l.bound-index → has l.set.items k ≡ costs_at_least l.bounds l.least k;
 }
