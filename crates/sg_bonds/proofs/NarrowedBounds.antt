@@ -11,7 +11,7 @@ use Rattle.sg_model.specs.Changes.{with_coupling}
 use Rattle.sg_ground.proofs.Allowed.{all_fit}
 use Rattle.sg_bonds.specs.Cost.{AreCosts, IsCost}
 use Rattle.sg_bonds.specs.declared.bounds.Bound.{Bound}
-use Rattle.sg_bonds.specs.Bounds.{ForcedTablesExceed, AreBounds, AreKnown, IsBound, IsKnown, IsTighter, Narrows, bound_at, lowered, no_bound, unbounded}
+use Rattle.sg_bonds.specs.Bounds.{ForcedTablesExceed, AreBounds, AreKnown, BoundsCost, IsKnown, IsTighter, Narrows, bound_at, lowered, no_bound, unbounded}
 use Rattle.sg_bonds.proofs.ForcedMinimum.{unit_product}
 use Rattle.sg_bonds.proofs.OneCost.{cost-one}
 use Rattle.sg_bonds.proofs.PathBounds.{cost_not_negative, not_none, turned_costs}
@@ -55,7 +55,7 @@ module _ (inst : Ising) where
     same_there : AreBounds inst first → bound_at (set bounds k now) k ≡ now
     same_there are = get_or-set_same bounds k now unbounded (omega (arith, inside, (narrowed.bounds are).count))
 
-    pub narrows_set : (AreBounds inst first → IsBound inst k now) → (AreBounds inst first → IsTighter (bound_at bounds k) now)
+    pub narrows_set : (AreBounds inst first → BoundsCost inst k now) → (AreBounds inst first → IsTighter (bound_at bounds k) now)
         → Narrows inst first (set bounds k now)
     narrows_set bound tight = record {
       count = length-set bounds k now ∙ narrowed.count;
@@ -64,10 +64,10 @@ module _ (inst : Ising) where
           tight_through (bound_at first i) (bound_at bounds i) (bound_at (set bounds k now) i) (narrowed.tighter are i l) (tight_of are i (cases_eq i k));
     }
       where
-        bound_of : AreBounds inst first → (i : ℕ) → (i ≡ k) ⊎ (i ≢ k) → i < bond_count inst → IsBound inst i (bound_at (set bounds k now) i)
+        bound_of : AreBounds inst first → (i : ℕ) → (i ≡ k) ⊎ (i ≢ k) → i < bond_count inst → BoundsCost inst i (bound_at (set bounds k now) i)
         bound_of are i (inl e) l =
-            subst (λ j. IsBound inst j (bound_at (set bounds k now) j)) (sym e) (subst (IsBound inst k) (sym (same_there are)) (bound are))
-        bound_of are i (inr ne) l = subst (IsBound inst i) (sym (get_or-set_other bounds k i now unbounded ne)) ((narrowed.bounds are).each i l)
+            subst (λ j. BoundsCost inst j (bound_at (set bounds k now) j)) (sym e) (subst (BoundsCost inst k) (sym (same_there are)) (bound are))
+        bound_of are i (inr ne) l = subst (BoundsCost inst i) (sym (get_or-set_other bounds k i now unbounded ne)) ((narrowed.bounds are).each i l)
 
         tight_of : AreBounds inst first → (i : ℕ) → (i ≡ k) ⊎ (i ≢ k) → IsTighter (bound_at bounds i) (bound_at (set bounds k now) i)
         tight_of are i (inl e) =
@@ -79,7 +79,7 @@ module _ (inst : Ising) where
     -- the cost itself is as tight as can be
     module _ (c : ℤ) (cost : AreBounds inst first → IsCost inst k c) (is : now ≡ just c) where
       pub narrows_cost : Narrows inst first (set bounds k now)
-      narrows_cost = narrows_set (λ are. subst (IsBound inst k) (sym is) (record {
+      narrows_cost = narrows_set (λ are. subst (BoundsCost inst k) (sym is) (record {
         low = λ d other. subst (λ x. c ≤ℤ x) (cost-one inst k c d (cost are) other) (own c);
         high = λ some d other. subst (λ x. x ≤ℤ c) (cost-one inst k c d (cost are) other) (own c);
       })) (λ are. subst (IsTighter (bound_at bounds k)) (sym is) (record {
@@ -91,7 +91,7 @@ module _ (inst : Ising) where
       known_set are = subst (IsKnown inst k) (sym (same_there are ∙ is)) (record { low = cost are; high = cost are })
 
   -- what is known stays known
-  pub known_kept : (k : ℕ) (b now : Bound) → IsKnown inst k b → IsTighter b now → IsBound inst k now → IsKnown inst k now
+  pub known_kept : (k : ℕ) (b now : Bound) → IsKnown inst k b → IsTighter b now → BoundsCost inst k now → IsKnown inst k now
   known_kept k b now known tight bound =
       let (some, less) = tight.high (not_none b.high (cost_not_negative inst k b.high known.high)) in
       record {
@@ -140,10 +140,10 @@ module _ (inst : Ising) where
     pub narrows_noted : Narrows inst first (set bounds k now)
     narrows_noted = narrows_set first bounds narrowed k now inside (λ are. bound are noted) (λ are. tight noted)
       where
-        bound : AreBounds inst first → (now ≡ bound_at bounds k) ⊎ ((turns ≡ true) × (((bound_at bounds k).high ≡ no_bound) ⊎ (cost <ℤ (bound_at bounds k).high))
-            × (now ≡ lowered (bound_at bounds k) cost)) → IsBound inst k now
-        bound are (inl same) = subst (IsBound inst k) (sym same) ((narrowed.bounds are).each k inside)
-        bound are (inr (yes_turned, less, is)) = subst (IsBound inst k) (sym is) (record {
+        bound : AreBounds inst first → (now ≡ bound_at bounds k) ⊎ ((turns ≡ true)
+            × (((bound_at bounds k).high ≡ no_bound) ⊎ (cost <ℤ (bound_at bounds k).high)) × (now ≡ lowered (bound_at bounds k) cost)) → BoundsCost inst k now
+        bound are (inl same) = subst (BoundsCost inst k) (sym same) ((narrowed.bounds are).each k inside)
+        bound are (inr (yes_turned, less, is)) = subst (BoundsCost inst k) (sym is) (record {
           low = ((narrowed.bounds are).each k inside).low;
           high = λ some c own_cost. no_more yes_turned c own_cost;
         })
@@ -169,7 +169,7 @@ module _ (inst : Ising) where
   pub none_known : (count : ℕ) → count ≡ bond_count inst → AreBounds inst (replicate count unbounded)
   none_known count same = record {
     count = length-replicate count unbounded ∙ same;
-    each = λ k l. subst (IsBound inst k) (sym (get_or-replicate count k unbounded unbounded (omega (arith, l, same)))) (record {
+    each = λ k l. subst (BoundsCost inst k) (sym (get_or-replicate count k unbounded unbounded (omega (arith, l, same)))) (record {
       low = λ c cost. below c (cost_not_negative inst k c cost);
       high = λ some c cost. absurd (some refl);
     });

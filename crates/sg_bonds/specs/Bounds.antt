@@ -20,14 +20,14 @@ abbrev pub bound_at : List Bound → ℕ → Bound
 bound_at bounds k = slice_index_or bounds k unbounded
 
 -- the cost of bond k is no less than the lower bound, and no more than the upper one unless that is -1
-pub record IsBound (inst : Ising) (k : ℕ) (b : Bound) : Type 0 where
+pub record BoundsCost (inst : Ising) (k : ℕ) (b : Bound) : Type 0 where
   pub low : (c : ℤ) → IsCost inst k c → b.low ≤ℤ c
   pub high : b.high ≢ no_bound → (c : ℤ) → IsCost inst k c → c ≤ℤ b.high
 
 -- bounds of the cost of each bond
 pub record AreBounds (inst : Ising) (bounds : List Bound) : Type 0 where
   pub count : length bounds ≡ bond_count inst
-  pub each : (k : ℕ) → k < bond_count inst → IsBound inst k (bound_at bounds k)
+  pub each : (k : ℕ) → k < bond_count inst → BoundsCost inst k (bound_at bounds k)
 
 -- both bounds are the cost of bond k
 pub record IsKnown (inst : Ising) (k : ℕ) (b : Bound) : Type 0 where
