@@ -75,12 +75,13 @@ def join_of(numbers: Numbers, terminals: Any, with_nest: bool, asked: Asked) -> 
 
 def join_check_of(numbers: Numbers, terminals: Any, edges: Any, nest: Nest, asked: Asked) -> Finding:
     """The number of the verdict on a T-join and its nest: 0 or 1."""
-    line = _ffi.Line()
+    # The arrays that lists are copied to live as long as the call.
+    line, stated = _ffi.Line(), nest_of(nest)
     status = _ffi.library().ising2d_c_join_check(
         *numbers.arguments(),
         *pointer_to(terminals),
         *pointer_to(edges),
-        *(part for own in nest_of(nest) for part in pointer_to(own)),
+        *(part for own in stated for part in pointer_to(own)),
         *line.arguments(),
     )
     if status == _ffi.NO:
