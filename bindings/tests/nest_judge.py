@@ -1,5 +1,5 @@
-"""A judge of nests in plain arithmetic of numpy, for lattices of any size. It shares nothing with the
-library or its module but the numbering of spins, bonds and faces."""
+"""A judge of nests in plain arithmetic of numpy, for ground states of lattices and for T-joins of weighted graphs,
+of any size. It shares nothing with the library or its module but the numbering of spins, bonds, faces and edges."""
 
 import numpy
 
@@ -59,35 +59,83 @@ def energy_and_broken(table, couplings, spins):
 
 
 def failures(table, couplings, energy, spins, nest):
-    """The names of the failed checks; none if it is a proof."""
+    """The names of the failed checks of a ground state and its nest; none if it is a proof."""
     own, broken = energy_and_broken(table, couplings, spins)
-    parents, radii, regions, taken = (part.astype(numpy.int64) for part in nest)
-    odd = parity_at(table, couplings < 0)
+    odd = parity_at(table.sides, couplings < 0, table.faces)
     tests = {
         "values": len(spins) == table.ends.max() + 1 and bool((abs(spins) == 1).all()),
         "energy": own == energy,
-        "join": bool((parity_at(table, broken) == odd).all()),
-        "shape": is_nest(parents, radii, regions, taken, table.faces),
+    }
+    return failed(tests) or nest_failures(table.sides, abs(couplings), odd, broken, nest)
+
+
+def join_failures(n, edges, terminals, weight, chosen, nest):
+    """The names of the failed checks of a T-join of a graph and its nest; none if it is a proof. The graph has n
+    nodes and `edges` as an array of shape (edges, 3), two nodes and a weight; the T-join is `chosen`, by number."""
+    edges = numpy.asarray(edges, dtype=numpy.int64).reshape(-1, 3)
+    terminals, chosen = (numpy.asarray(part, dtype=numpy.int64) for part in (terminals, chosen))
+    tests = {
+        "terminals": is_set(terminals, n),
+        "edges": is_set(chosen, len(edges)) and bool((chosen[1:] > chosen[:-1]).all()),
     }
     if not all(tests.values()):
-        return [name for name, passes in tests.items() if not passes]
-    tests["sum"] = int(radii.sum()) == 4 * int(abs(couplings[broken]).sum())
-    tests["hearts"] = not taken[odd & (regions < NONE)].any()
-    tests["parity"] = bool(odd_regions(parents, regions, odd)[radii > 0].all())
-    tests["slopes"] = bool((climbs(table, parents, radii, regions, taken) <= 4 * abs(couplings)).all())
+        return failed(tests)
+    tests = {"weight": int(edges[chosen, 2].sum()) == weight}
+    own = marked(chosen, len(edges))
+    return failed(tests) or nest_failures(edges[:, :2].T, edges[:, 2], marked(terminals, n), own, nest)
+
+
+def nest_failures(sides, weights, odd, chosen, nest):
+    """The names of the failed checks of a T-join and its nest: `sides` of shape (2, edges) has the nodes of each
+    edge, `odd` and `chosen` mark the terminals and the edges of the T-join."""
+    parents, radii, regions, taken = (
+        numpy.asarray(part, dtype=kind) for part, kind in zip(nest, ("int64", "uint64", "int64", "uint64"))
+    )
+    tests = {
+        "join": bool((parity_at(sides, chosen, len(odd)) == odd).all()),
+        "shape": is_nest(parents, radii, regions, taken, len(odd)),
+        "sum": sum(radii.tolist()) == 4 * int(weights[chosen].sum()),
+    }
+    if not all(tests.values()):
+        return failed(tests)
+    # No radius is above the sum, so all are small.
+    radii, taken = radii.astype(numpy.int64), taken.astype(numpy.int64)
+    return failed(
+        {
+            "hearts": not taken[odd].any(),
+            "parity": bool(odd_regions(parents, regions, odd)[radii > 0].all()),
+            "slopes": bool((climbs(sides, parents, radii, regions, taken) <= 4 * weights).all()),
+        }
+    )
+
+
+def failed(tests):
+    """The names of the tests that fail."""
     return [name for name, passes in tests.items() if not passes]
 
 
-def parity_at(table, chosen):
-    """For each face whether an odd number of the sides of chosen bonds lie on it."""
-    return numpy.bincount(table.sides[:, chosen].ravel(), minlength=table.faces) % 2 == 1
+def is_set(numbers, count):
+    """Whether the numbers are below the count, each there once."""
+    return len(numpy.unique(numbers)) == len(numbers) and bool(((0 <= numbers) & (numbers < count)).all())
 
 
-def is_nest(parents, radii, regions, taken, faces):
+def marked(numbers, count):
+    """For each number below the count whether it is one of these."""
+    found = numpy.zeros(count, dtype=bool)
+    found[numbers] = True
+    return found
+
+
+def parity_at(sides, chosen, count):
+    """For each node whether an odd number of ends of chosen edges lie at it."""
+    return numpy.bincount(sides[:, chosen].ravel(), minlength=count) % 2 == 1
+
+
+def is_nest(parents, radii, regions, taken, nodes):
     count = len(radii)
     inside = regions < count
     return (
-        len(regions) == len(taken) == faces
+        len(regions) == len(taken) == nodes
         and len(parents) == count
         and bool(((parents == NONE) | ((parents > numpy.arange(count)) & (parents < count))).all())
         and bool((inside | ((regions == NONE) & (taken == 0))).all())
@@ -96,7 +144,7 @@ def is_nest(parents, radii, regions, taken, faces):
 
 
 def odd_regions(parents, regions, odd):
-    """For each region whether it holds an odd number of the frustrated faces."""
+    """For each region whether it holds an odd number of the terminals."""
     own = numpy.bincount(regions[odd & (regions < NONE)], minlength=len(parents)) % 2
     marks, above = own.tolist(), parents.tolist()
     for region, parent in enumerate(above):
@@ -114,13 +162,13 @@ def radii_over(parents, radii):
     return over
 
 
-def climbs(table, parents, radii, regions, taken):
-    """For each bond by how much all heights together change over it."""
+def climbs(sides, parents, radii, regions, taken):
+    """For each edge by how much all heights together change over it."""
     none = len(radii)
     above = numpy.append(numpy.where(parents == NONE, none, parents), none)
     over, own = radii_over(parents, radii), numpy.where(regions == NONE, none, regions)
     heights = over[own] - taken
-    one, other = table.sides
+    one, other = sides
     found = heights[one] + heights[other]
     # Up both chains, from the earlier region on, to the first that both have.
     p, q = own[one], own[other]

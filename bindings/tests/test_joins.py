@@ -10,6 +10,7 @@ from test_calls import CASES
 
 try:
     import numpy
+    import nest_judge
 except ImportError:
     numpy = None
 try:
@@ -72,8 +73,8 @@ def nest_failure(n, edges, terminals, weight, nest):
     odd = [False] * count
     for node, region in enumerate(regions):
         if region == NONE:
-            if node in terminals:
-                return "a terminal outside"
+            if taken[node]:
+                return "places"
             continue
         if region >= count or taken[node] > radii[region] or (node in terminals and taken[node]):
             return "places"
@@ -91,6 +92,55 @@ def nest_failure(n, edges, terminals, weight, nest):
     return None if sum(radii) == 4 * weight else "sum"
 
 
+def replaced(found, **changes):
+    """A T-join with some parts of another."""
+    own = {name: getattr(found, name) for name in ("weight", "edges", "network", "terminals", "nest")}
+    return ising2d.Join(**{**own, **changes})
+
+
+def by_arrays(found):
+    """The failed checks of a T-join and its nest, by the judge of arrays."""
+    network = found.network
+    ends = numpy.array([edge[:2] for edge in network.edges], dtype=numpy.int64).reshape(-1, 2)
+    edges = numpy.column_stack([ends, network.weights])
+    return nest_judge.join_failures(network.n, edges, found.terminals, found.weight, found.edges, found.nest)
+
+
+def raised(source, found):
+    """A radius is raised."""
+    radii = list(map(int, found.nest.radii))
+    radii[source.randrange(len(radii))] += source.choice((1, 4, 2**63))
+    return replaced(found, nest=ising2d.Nest(found.nest.parents, radii, found.nest.regions, found.nest.at_radii))
+
+
+def moved_region(source, found):
+    """A terminal is moved to another region or out of all, or a region to another parent."""
+    parents, regions = (list(map(int, part)) for part in (found.nest.parents, found.nest.regions))
+    if source.random() < 0.5:
+        region = source.randrange(len(parents))
+        parents[region] = source.choice((NONE, *range(min(region + 1, len(parents) - 1), len(parents))))
+    else:
+        regions[source.choice(found.terminals)] = source.choice((NONE, source.randrange(len(parents))))
+    return replaced(found, nest=ising2d.Nest(parents, found.nest.radii, regions, found.nest.at_radii))
+
+
+def without_an_edge(source, found):
+    """An edge of the T-join is dropped."""
+    place = source.randrange(len(found.edges))
+    edges = found.edges[:place] + found.edges[place + 1 :]
+    return replaced(found, edges=edges, weight=sum(int(found.network.weights[k]) for k in edges))
+
+
+def moved_terminal(source, found):
+    """A terminal is moved to another node."""
+    terminals = list(found.terminals)
+    terminals[source.randrange(len(terminals))] = source.choice(sorted({*range(found.network.n)} - {*terminals}))
+    return replaced(found, terminals=tuple(terminals))
+
+
+CHANGES = raised, moved_region, without_an_edge, moved_terminal
+
+
 class Numbers(unittest.TestCase):
     def judged(self, n, edges, terminals, found):
         self.assertEqual(odd_ends(edges, found.edges), set(terminals))
@@ -98,6 +148,7 @@ class Numbers(unittest.TestCase):
         self.assertEqual(sum(edges[k][2] for k in found.edges), found.weight)
         self.assertIsNotNone(found.nest)
         self.assertIsNone(nest_failure(n, edges, set(terminals), found.weight, found.nest))
+        self.assertEqual(by_arrays(found) if numpy else [], [])
         self.assertEqual(found.check().number, 0)
 
     def test_random_graphs_beside_all_joins(self):
@@ -139,14 +190,30 @@ class Numbers(unittest.TestCase):
             place = max(range(len(radii)), key=radii.__getitem__)
             radii[place] += source.choice((-1, 1))
             nest = ising2d.Nest(found.nest.parents, radii, found.nest.regions, found.nest.at_radii)
-            self.assertEqual(self.replaced(found, nest=nest).check().number, 8)
-            self.assertEqual(self.replaced(found, weight=found.weight + 1).check().number, 3)
-            self.assertIn(self.replaced(found, edges=found.edges[1:]).check().number, (2, 3))
-            self.assertEqual(self.replaced(found, edges=(*found.edges, 99)).check().number, 1)
+            self.assertEqual(replaced(found, nest=nest).check().number, 8)
+            self.assertEqual(replaced(found, weight=found.weight + 1).check().number, 3)
+            self.assertIn(replaced(found, edges=found.edges[1:]).check().number, (2, 3))
+            self.assertEqual(replaced(found, edges=(*found.edges, 99)).check().number, 1)
 
-    def replaced(self, found, **changes):
-        own = {name: getattr(found, name) for name in ("weight", "edges", "network", "terminals", "nest")}
-        return ising2d.Join(**{**own, **changes})
+    def test_forged_proofs_are_judged_by_the_definition(self):
+        source, verdicts = random.Random(58), {change: [0, 0] for change in CHANGES}
+        for case in range(CASES):
+            n, edges = drawn(source, largest=source.choice((1, 5)))
+            found = Network(n, edges).tjoin(even_list(source, n))
+            change = CHANGES[case % len(CHANGES)]
+            if not found.edges or change is moved_terminal and len(found.terminals) == n:
+                continue
+            forged = change(source, found)
+            holds = odd_ends(edges, forged.edges) == set(forged.terminals) and (
+                nest_failure(n, edges, set(forged.terminals), forged.weight, forged.nest) is None
+            )
+            verdicts[change][holds] += 1
+            with self.subTest(n=n, edges=edges, forged=forged, nest=tuple(forged.nest)):
+                self.assertEqual(bool(forged.check()), holds)
+                self.assertEqual(not by_arrays(forged) if numpy else holds, holds)
+        for change, (wrong, _) in verdicts.items():
+            self.assertGreater(wrong, 0, change.__name__)
+        self.assertEqual(verdicts[raised][True], 0)
 
     @unittest.skipIf(numpy is None, "numpy is not there")
     def test_large_grid(self):
@@ -165,10 +232,32 @@ class Numbers(unittest.TestCase):
         found = network.tjoin(terminals)
         self.assertIn("network of 90000 nodes", repr(network))
         self.assertTrue(found.check())
-        self.assertEqual(int(sum(found.nest.radii)), 4 * found.weight)
+        self.assertEqual(by_arrays(found), [])
         self.assertEqual(odd_ends(edges.tolist(), found.edges), set(terminals.tolist()))
         with self.assertRaises(ising2d.TooLarge):
             found.cuts
+
+    @unittest.skipIf(numpy is None, "numpy is not there")
+    def test_large_random_graphs_and_their_forged_proofs(self):
+        source, draws = random.Random(59), numpy.random.default_rng(59)
+        for n, largest in ((2000, 1), (2000, 9), (20000, 2**20)):
+            ring = numpy.column_stack([numpy.arange(n), numpy.roll(numpy.arange(n), 1)])
+            ends = numpy.concatenate([ring, draws.integers(0, n, (2 * n, 2))])
+            network = Network(n, numpy.column_stack([ends, draws.integers(1, largest + 1, len(ends))]))
+            found = network.tjoin(draws.choice(n, n // 4 * 2, replace=False))
+            self.assertEqual(by_arrays(found), [])
+            self.assertTrue(found.check())
+            for change in CHANGES:
+                forged = change(source, found)
+                with self.subTest(n=n, largest=largest, change=change.__name__):
+                    self.assertEqual(bool(by_arrays(forged)), not forged.check())
+                    if change is not moved_region:
+                        self.assertFalse(forged.check())
+            # The nest of other terminals, beside a T-join that is minimum.
+            other = network.tjoin(moved_terminal(source, found).terminals)
+            mixed = replaced(other, nest=found.nest)
+            self.assertTrue(by_arrays(mixed))
+            self.assertFalse(mixed.check())
 
     @unittest.skipIf(sparse is None, "scipy is not there")
     def test_of_scipy(self):

@@ -9,6 +9,12 @@ import ising2d
 from ising2d import Refusal
 from test_calls import bond_count, drawn, pairs
 
+try:
+    import numpy
+    import nest_judge
+except ImportError:
+    numpy = None
+
 CASES = int(os.environ.get("CASES", "2000")) // 4
 NONE = ising2d.Nest.NONE
 
@@ -109,6 +115,12 @@ def forged(source, found):
     return found.energy, spins, rows
 
 
+def by_arrays(given, energy, spins, nest):
+    """The failed checks of a proof, by the judge of arrays."""
+    table = nest_judge.Table(given.kind, given.rows, given.cols)
+    return nest_judge.failures(table, numpy.array(given.couplings), energy, numpy.array(spins), nest)
+
+
 class Proofs(unittest.TestCase):
     def test_random_instances(self):
         source = random.Random(1)
@@ -120,6 +132,8 @@ class Proofs(unittest.TestCase):
                 self.assertEqual(len(found.loops), 0)
                 self.assertTrue(found.check())
                 self.assertTrue(judged(given, found.energy, found.spins.tolist(), found.nest))
+                if numpy and len(given.couplings):
+                    self.assertEqual(by_arrays(given, found.energy, found.spins, found.nest), [])
 
     def test_forged_proofs(self):
         source = random.Random(2)
@@ -130,6 +144,8 @@ class Proofs(unittest.TestCase):
                 verdict = given.check(energy, spins, nest=nest)
                 stated = ising2d._nests.nest_of(nest)
                 self.assertEqual(bool(verdict), judged(given, energy, spins, stated))
+                if numpy and len(given.couplings):
+                    self.assertEqual(not by_arrays(given, energy, spins, stated), bool(verdict))
 
     def test_several_components(self):
         found = PAIRS.ground(nest=True)
@@ -169,6 +185,13 @@ class Proofs(unittest.TestCase):
 
 
 class LargeInstances(unittest.TestCase):
+    def judge(self, given, found):
+        """The nest is judged by the library, and by arrays if numpy is there."""
+        self.assertIsNotNone(found.nest)
+        self.assertTrue(found.check())
+        if numpy:
+            self.assertEqual(by_arrays(given, found.energy, found.spins, found.nest), [])
+
     def test_ten_thousand_spins(self):
         source = random.Random(7)
         for kind, sizes in (("square", (-1, 1)), ("cylinder", range(-1000, 1001))):
@@ -176,7 +199,7 @@ class LargeInstances(unittest.TestCase):
             given = ising2d.Lattice(kind, 100, 100, couplings)
             found = given.ground()
             self.assertEqual(given.energy_of(found.spins), found.energy)
-            self.assertTrue(found.check())
+            self.judge(given, found)
             self.assertFalse(given.check(found.energy - 2, found.spins, nest=found.nest))
         self.assertEqual(given.wall().periodic, found.energy)
         with self.assertRaises(Refusal) as caught:
@@ -187,9 +210,7 @@ class LargeInstances(unittest.TestCase):
         """There is a nest, and not loops, if the dual has more than 30,000 edges."""
         source = random.Random(9)
         given = ising2d.Lattice("square", 150, 150, [source.choice((-1, 1)) for _ in range(bond_count("square", 150, 150))])
-        found = given.ground()
-        self.assertIsNotNone(found.nest)
-        self.assertTrue(given.check(found.energy, found.spins, nest=found.nest))
+        self.judge(given, given.ground())
 
     def test_trees_in_slices(self):
         """Drawn couplings and more than 16384 frustrated faces: trees grow in batches, and the nest proves it."""
@@ -197,9 +218,7 @@ class LargeInstances(unittest.TestCase):
         for kind, side in (("square", 200), ("triangular", 150)):
             count = bond_count(kind, side, side)
             given = ising2d.Lattice(kind, side, side, [source.randrange(-(2**20), 2**20) for _ in range(count)])
-            found = given.ground()
-            self.assertIsNotNone(found.nest)
-            self.assertTrue(given.check(found.energy, found.spins, nest=found.nest))
+            self.judge(given, given.ground())
 
     def test_loops_of_three_thousand_spins(self):
         source = random.Random(8)
