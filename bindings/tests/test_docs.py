@@ -66,6 +66,16 @@ class Scripts(unittest.TestCase):
                     self.assertEqual((ran.returncode, ran.stderr), (0, ""))
                     self.assertIn(part, ran.stdout)
 
+    def test_the_decoder_runs_with_numpy(self):
+        place = self.FOLDER / "toric_code.py"
+        if place.exists():
+            ran = subprocess.run([sys.executable, str(place), "20"], capture_output=True, text=True)
+            if importlib.util.find_spec("numpy"):
+                self.assertEqual((ran.returncode, ran.stderr), (0, ""))
+                self.assertIn("640 T-joins, each proved", ran.stdout)
+            else:
+                self.assertEqual((ran.returncode, ran.stderr), (1, "this example needs numpy\n"))
+
 
 @unittest.skipUnless(importlib.util.find_spec("mypy") and importlib.util.find_spec("numpy"), "mypy or numpy is not there")
 class Types(unittest.TestCase):
