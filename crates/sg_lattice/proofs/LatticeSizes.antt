@@ -90,11 +90,11 @@ pub some_spins : (kind : Kind) (R C : ℕ) → IsSize kind R C → 1 ≤ R * C
 some_spins kind R C size = omega (arith, mul-le 1 1 R C size.rows (some_cols kind R C size))
 
 -- neither side is longer than the whole
-pub few_rows : (kind : Kind) (R C : ℕ) → IsSize kind R C → R ≤ 2 ^ 20
+pub few_rows : (kind : Kind) (R C : ℕ) → IsSize kind R C → R ≤ 2 ^ 22
 few_rows kind R C size = omega (arith, size.few, mul-le R 1 R C (omega arith) (some_cols kind R C size))
 
--- there are at most 2^20 columns
-pub few_cols : (kind : Kind) (R C : ℕ) → IsSize kind R C → C ≤ 2 ^ 20
+-- there are at most 2^22 columns
+pub few_cols : (kind : Kind) (R C : ℕ) → IsSize kind R C → C ≤ 2 ^ 22
 few_cols kind R C size = omega (arith, size.few, mul-le 1 C R C size.rows (omega arith))
 
 half_rows_few : (R C : ℕ) → 1 ≤ R → vertical_bonds_before C (R - 1) ≤ R * C + C
@@ -104,8 +104,8 @@ half_rows_few R C some = omega (arith, mul-le ((R - 1) / 2) C R C (omega arith) 
     most true = omega arith
     most false = omega arith
 
--- there are at most 2^22 bonds
-pub few_bonds : (kind : Kind) (R C : ℕ) → IsSize kind R C → bond_total kind R C ≤ 2 ^ 22
+-- there are at most 2^24 bonds
+pub few_bonds : (kind : Kind) (R C : ℕ) → IsSize kind R C → bond_total kind R C ≤ 2 ^ 24
 few_bonds Square R C size = omega (arith, size.few, mul-le R (C - 1) R C (omega arith) (omega arith), mul-le (R - 1) C R C (omega arith) (omega arith))
 few_bonds Triangular R C size =
     omega (

@@ -20,7 +20,7 @@ least_cols kind = 1
 pub record IsSize (kind : Kind) (R C : ℕ) : Type 0 where
   pub rows : 1 ≤ R
   pub cols : least_cols kind ≤ C
-  pub few : R * C ≤ 2 ^ 20
+  pub few : R * C ≤ 2 ^ 22
 
 -- whether a bond runs from spin (r, c) to its neighbour in the east, south or south-east
 abbrev pub has_bond : Kind → Step → ℕ → ℕ → ℕ → ℕ → Bool

@@ -10,8 +10,8 @@ pub(crate) struct Shape {
     pub(crate) rows: u32,
     pub(crate) cols: u32,
     ghost size: { IsSize kind rows cols },
-    ghost few_rows: { rows ≤ 2 ^ 20 },
-    ghost few_cols: { cols ≤ 2 ^ 20 },
+    ghost few_rows: { rows ≤ 2 ^ 22 },
+    ghost few_cols: { cols ≤ 2 ^ 22 },
 }
 
 impl Shape {
@@ -29,14 +29,14 @@ impl Shape {
         requires rows { rows ≤ self.rows }
         requires cols { cols ≤ self.cols }
         ensures value { result ≡ rows * cols }
-        ensures few { result ≤ 2 ^ 20 }
+        ensures few { result ≤ 2 ^ 22 }
     {
         rows * cols
     }
 
     pub(crate) fn spins(self) -> u32
         ensures value { result ≡ self.rows * self.cols }
-        ensures few { result ≤ 2 ^ 20 }
+        ensures few { result ≤ 2 ^ 22 }
         ensures some { 1 ≤ result }
     {
         self.area(self.rows, self.cols)
@@ -84,7 +84,7 @@ impl Shape {
     fn vertical_bonds_before(self, r: u32) -> u32
         requires row { r ≤ self.rows }
         ensures value { result ≡ vertical_bonds_before self.cols r }
-        ensures few { result ≤ 2 ^ 21 }
+        ensures few { result ≤ 2 ^ 23 }
     {
         let pairs = self.area(r / 2, self.cols);
         if r % 2 == 1 {
