@@ -19,11 +19,13 @@
 //! into walks. The tables grow as the product of terminals and nodes, so callers with large graphs use the
 //! functions of `allowance`, which refuse tables that take more than is allowed; the others leave that to the
 //! allocator. All are calls of `counted`, whose functions take a count of steps ([`Taken`]) and add to it
-//! what the growing regions and the matching have counted themselves: at most `step_limit`.
+//! what the growing regions and the matching have counted themselves: at most `step_limit`. A [`Joiner`] keeps
+//! what depends on the graph alone, for many lists of terminals.
 #![tactic(auto)]
 
 mod allowance;
 mod counted;
+mod joiner;
 mod judged;
 mod law;
 mod matched;
@@ -47,6 +49,7 @@ pub use allowance::{
     tables_are_bounded,
 };
 pub use counted::{Taken, least_join_counted, least_weight_counted};
+pub use joiner::Joiner;
 pub use judged::judged_join;
 pub use law::cuts_bound_joins;
 pub use matched::{MatchedJoin, matched_join, matched_join_counted};
