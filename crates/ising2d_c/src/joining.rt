@@ -26,7 +26,7 @@ use sg_limits::TABLE_LIMIT;
 use sg_list::{Lists, Numbers};
 use sg_model::Fault;
 use sg_nest::proves;
-use sg_tjoin::{LeastJoin, Unproved, least_weight_within};
+use sg_tjoin::{Joiner, LeastJoin, Unproved, least_weight_within};
 use std::alloc::{AllocError, Global};
 
 /// A minimum T-join of the terminals in the graph of these numbers, and the nest that proves it as rows, where one
@@ -93,11 +93,12 @@ fn least_joins(alloc: Global, web: &Web, lists: &Lists<u32>) -> Result<LeastJoin
     ensures weights { IfOk result (λ found. found.weights ≡ join_weights web.now found.joins) }
     ensures too_large { IfErr result (IfTooLarge (SomeTablesExceed table_limit lists.now web.now.nodes)) }
 {
+    let mut joiner = Joiner::new(web);
     let mut joins = Lists::new(alloc);
     let mut weights = Numbers::new(alloc);
     for i in 0..lists.len() {
         let terminals = terminals_at(alloc, lists, i)?;
-        let join = least_weight_within(alloc, web, &terminals, TABLE_LIMIT)?;
+        let join = joiner.least_weight_within(alloc, &terminals, TABLE_LIMIT)?;
         joins.push(join.edges.as_slice())?;
         weights.push(join.weight)?;
     }
