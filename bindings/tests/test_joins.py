@@ -300,13 +300,19 @@ class Many(unittest.TestCase):
             self.assertEqual([sum(edges[k][2] for k in own) for own in found], found.weights.tolist())
 
     def test_order_does_not_matter(self):
+        # The library keeps lists from one T-join to the next: each answer has to be that of the list alone.
         source = random.Random(55)
-        n, edges = drawn(source, most=40, more=60)
-        network = Network(n, edges)
-        lists = [even_list(source, n) for _ in range(40)]
-        twice = network.tjoin_many(lists + lists).weights.tolist()
-        self.assertEqual(twice[:40], twice[40:])
-        self.assertEqual(network.tjoin_many(lists[::-1]).weights.tolist(), twice[:40][::-1])
+        graphs = [drawn(source, most=40, more=60, largest=largest) for largest in (1, 9, 1000)]
+        spokes = [(0, i, source.randint(1, 9)) for i in range(1, 200)]
+        graphs.append((200, spokes + [(i, i - 1, source.randint(1, 9)) for i in range(2, 200)]))
+        for n, edges in graphs:
+            network = Network(n, edges)
+            lists = [even_list(source, n) for _ in range(40)]
+            alone = [tuple(map(int, network.tjoin(own).edges)) for own in lists]
+            found = network.tjoin_many(lists + lists[::-1], threads=1)
+            self.assertEqual(list(found), alone + alone[::-1])
+            weights = [sum(edges[k][2] for k in own) for own in alone]
+            self.assertEqual(found.weights.tolist(), weights + weights[::-1])
 
     @unittest.skipIf(numpy is None, "numpy is not there")
     def test_matrices(self):
