@@ -5,8 +5,8 @@
 
 It needs the library (bindings/build), numpy and matplotlib. The wall energies are drawn, the times measured
 and the codes decoded again on request, which takes some minutes; otherwise they are read from
-docs/tour/walls.json, times.json and codes.json. The times need networkx and scipy too. docs/tour/large-walls.json
-is what the run writes that the page names.
+docs/tour/walls.json, times.json and codes.json. The times need networkx and scipy too. large-walls.json,
+large-clusters.json and the clusters of shorter lattices are what the runs write that the page names.
 """
 
 import concurrent.futures
@@ -28,7 +28,9 @@ import peers
 
 HERE = Path(__file__).resolve().parent
 sys.path.append(str(HERE.parent.parent / "examples" / "python"))
+import clusters
 import toric_code
+
 SIZES = (4, 6, 8, 12, 16, 24, 32, 44)
 LOTS, COUNT = 8, 1000
 LEAST_FITTED = 8
@@ -36,6 +38,8 @@ HEIGHTS = (0.4, 0.5, 0.6, 0.7)
 LITERATURE = -0.28
 SHOTS = 20000
 THRESHOLD = 0.1031
+# The powers of two between which the sizes of clusters are fitted.
+FITTED_POWERS = 4, 10
 
 
 def walls_of(task):
@@ -165,9 +169,9 @@ def pictures():
     cylinder = ising2d.draw("uniform", 9, "cylinder", 12, 16)
     wall = cylinder.wall(states=True)
     (HERE / "wall.svg").write_text(wall.svg(cell=30) + "\n")
-    clusters = ising2d.draw("pm", 2, "square", 20, 20).clusters()
-    (HERE / "clusters.svg").write_text(clusters.svg(cell=26) + "\n")
-    sizes = list(clusters.sizes.values())
+    rigid = ising2d.draw("pm", 2, "square", 20, 20).clusters()
+    (HERE / "clusters.svg").write_text(rigid.svg(cell=26) + "\n")
+    sizes = list(rigid.sizes.values())
     return {
         "energy": found.energy,
         "broken": len(found.broken()),
@@ -196,10 +200,10 @@ def table(times):
 
 
 def code_table(rows):
-    """The failure rates, a row for each error rate and a column for each size."""
+    """The failure rates, a row for every other error rate and a column for each size."""
     found = {(d, rate): f"{mean:.3f} ± {bar:.3f}" for d, rate, mean, bar in rows}
     lines = ["| p | " + " | ".join(f"d = {d}" for d in toric_code.SIZES) + " |", "|---|" + "---|" * len(toric_code.SIZES)]
-    for rate in toric_code.RATES:
+    for rate in toric_code.RATES[::2]:
         cells = " | ".join(found[d, rate] for d in toric_code.SIZES)
         lines.append(f"| {rate} | {cells} |")
     return "\n".join(lines)
@@ -216,6 +220,54 @@ def large_walls():
         rows.append((int(size), found.mean_size / 2**20, found.size_error / 2**20))
         more.append((len(own["walls"]), own["seconds"]))
     return rows, more
+
+
+def cluster_sizes(spins, found):
+    """For each range of sizes, from a power of two to the next, its middle, how many rigid clusters there are of each
+    size in it for each spin, and the error bar."""
+    return [
+        ((4**k * (2 - 0.5**k)) ** 0.5, *(value / (spins * 2**k) for value in own))
+        for k, own in enumerate(clusters.by_size(found))
+    ]
+
+
+def clusters_picture(rows, slope, error, intercept):
+    figure, axes = plot.subplots(figsize=(5, 3.4))
+    x, y, bars = (numpy.array(own) for own in zip(*(row for row in rows if row[1])))
+    axes.errorbar(x, y, bars, fmt="o", color="#222222", ms=4, capsize=3, label="rigid clusters")
+    axes.plot(x, numpy.exp(intercept) * x**slope, color="#0072B2", label=f"fit: slope {slope:.3f} ± {error:.3f}")
+    axes.set_xscale("log")
+    axes.set_yscale("log")
+    style(axes, "size s", "clusters of size s for each spin")
+    saved(figure, "cluster-sizes.svg")
+
+
+def kept_clusters(name):
+    """The length, the samples and the seconds that a file has, and the share of the largest cluster."""
+    known = json.loads((HERE / name).read_text())
+    assert known["law"] == "pm"
+    length, found = known["length"], known["found"]
+    share, bar = clusters.mean_of([own["largest"] / length**2 for own in found])
+    return length, found, known["seconds"], f"{share:.3f} ± {bar:.3f}"
+
+
+def large_clusters():
+    """What the page says of the sizes of rigid clusters, whose picture is made."""
+    length, found, seconds, share = kept_clusters("large-clusters.json")
+    rows = cluster_sizes(length**2, found)
+    least, most = FITTED_POWERS
+    fit = fitted(rows[least:most])
+    clusters_picture(rows, *fit)
+    return {
+        "cluster_length": length,
+        "cluster_samples": len(found),
+        "cluster_time": shown_minutes(seconds),
+        "cluster_least": 2**least,
+        "cluster_most": 2**most - 1,
+        "cluster_tau": f"{-fit[0]:.2f} ± {fit[1]:.2f}",
+        "cluster_share": share,
+        **{f"cluster_share_{size}": kept_clusters(f"clusters-{size}.json")[3] for size in (50, 100)},
+    }
 
 
 def shown_minutes(seconds):
@@ -247,6 +299,7 @@ def main():
     slope, error, _ = fitted([row for row in [*rows, *large] if row[0] >= LEAST_FITTED])
     said.update(large_slope=f"{slope:.3f}", large_error=f"{error:.3f}", large_most=large[-1][0])
     said.update(large_sizes=",".join(str(row[0]) for row in large), large_counts=",".join(str(count) for count, _ in more))
+    said.update(large_clusters())
     said["large_points"] = "\n".join(
         f"| {size} | {count} | {mean:.4f} ± {bar:.4f} | {shown_minutes(seconds)} |"
         for (size, mean, bar), (count, seconds) in zip(large, more)

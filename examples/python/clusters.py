@@ -32,6 +32,12 @@ def mean_of(values):
     return statistics.fmean(values), statistics.stdev(values) / len(values) ** 0.5
 
 
+def by_size(found):
+    """For each power of two the mean number of clusters from this size to the next power, with its error bar."""
+    for k in range(max(len(own["counts"]) for own in found)):
+        yield mean_of([own["counts"][k] if k < len(own["counts"]) else 0 for own in found])
+
+
 def main():
     ask = argparse.ArgumentParser(description=__doc__.splitlines()[0])
     ask.add_argument("--law", default="pm", choices=("pm", "gaussian", "uniform"))
@@ -40,12 +46,12 @@ def main():
     ask.add_argument("--save", type=pathlib.Path)
     said = ask.parse_args()
     known = json.loads(said.save.read_text()) if said.save and said.save.exists() else {"found": [], "seconds": 0.0, "law": said.law, "length": said.length}
-    begun, before = time.monotonic(), known["seconds"]
+    begun, before = time.process_time(), known["seconds"]
     seeds = range(len(known["found"]) + 1, said.samples + 1)
     try:
         for found in ising2d.in_order(lambda seed: counted(said.law, said.length, seed), seeds):
             known["found"].append(found)
-            known["seconds"] = round(before + time.monotonic() - begun, 1)
+            known["seconds"] = round(before + time.process_time() - begun, 1)
             if said.save:
                 said.save.write_text(json.dumps(known))
     except KeyboardInterrupt:
@@ -57,11 +63,10 @@ def show(known, spins):
     found = known["found"]
     if len(found) < 2:
         return print("at least two samples are needed")
-    print(f"{len(found)} samples of {spins} spins, {known['seconds']} s")
+    print(f"{len(found)} samples of {spins} spins, {known['seconds']} s of CPU time")
     print("size              clusters for each million spins")
-    for k in range(max(len(own["counts"]) for own in found)):
-        counts = [own["counts"][k] if k < len(own["counts"]) else 0 for own in found]
-        mean, error = (1e6 * value / spins for value in mean_of(counts))
+    for k, own in enumerate(by_size(found)):
+        mean, error = (1e6 * value / spins for value in own)
         print(f"{2**k:6} to {2 ** (k + 1) - 1:6}  {mean:10.1f} +- {error:.1f}")
     mean, error = mean_of([own["largest"] / spins for own in found])
     print(f"share of the largest cluster: {mean:.3f} +- {error:.3f}")
