@@ -16,9 +16,9 @@
  * Status. 0: answered. 1: refused; `line` has the reason, as the program prints it: "refused,", the
  * number of the refusal and the numbers that show it, and a line feed. Its length is *line_written, and
  * 128 bytes are enough for every line. 3: a judged proof fails. 5: no proof was found within the
- * allowed memory; it comes from ising2d_c_ground, ising2d_c_nest, ising2d_c_wall, ising2d_c_clusters,
- * ising2d_c_join and ising2d_c_joins alone, only on graphs of more than 2048 spins (or nodes) or 6144
- * bonds, and was never seen. There the solver matches frustrated faces (or terminals), and its tables
+ * allowed memory; it comes from ising2d_c_ground, ising2d_c_nest, ising2d_c_wall, ising2d_c_bond_costs,
+ * ising2d_c_clusters, ising2d_c_join and ising2d_c_joins alone, only on graphs of more than 2048 spins (or
+ * nodes) or 6144 bonds, and was never seen. There the solver matches frustrated faces (or terminals), and its tables
  * take 12 k f + 8 k^2 bytes for k of them among the f faces of a component (or among f nodes): more
  * than 4 GiB. 6: out of memory. After 1, 5 and 6 no result is
  * written, and after 0, 5 and 6 no line, except that a check of loops writes one after 0 and 3.
@@ -32,15 +32,15 @@
  *   6,found,wanted  the number of couplings differs
  *   19,6,k  coupling k is -2^63
  *
- * on a graph; one made of the tables of a lattice passes all but the limits of costs:
+ * on a graph; one made of the tables of a lattice passes all but the limits of ising2d_c_bonds:
  *
  *   19,5,0  there are no spins
- *   7,n     more than 4194304 spins; for costs more than 2048
+ *   7,n     more than 4194304 spins; for ising2d_c_bonds more than 2048
  *   19,7,0  there are not two ends for each coupling
  *   19,7,k  an end of bond k is no spin, or its coupling is -2^63
  *   19,8,k  start k of the darts is wrong: the first is not 0, one is less than the one before it, or the
  *           last is not the number of darts; 19,8,0 if there are not n + 1
- *   8,12582913  more than 12582912 bonds; for costs 8,6145, more than 6144
+ *   8,12582913  more than 12582912 bonds; for ising2d_c_bonds 8,6145, more than 6144
  *   9,k     both ends of bond k are the same spin
  *   10,spin,dart  the darts of a spin are not those that leave it, each once
  *   11,bond  an entry of the seam does not exist, or is listed twice
@@ -50,6 +50,14 @@
  *   13,sum  the couplings' sizes sum to more than 2^44
  *   15,euler  the graph is not drawn on a sphere
  *   16      a wall needs a seam, and the seam is empty
+ *
+ * of bounds of costs, after all of these:
+ *
+ *   19,14,k  entry k of the asked bonds is no bond
+ *   19,15,0  there is not one lower bound for each bond
+ *   19,15,k  lower bound k is below -1
+ *   19,16,0  there is not one upper bound for each bond
+ *   19,16,k  upper bound k is not -1, and below the lower one
  *
  * of draws:
  *
@@ -99,8 +107,8 @@ extern "C" {
 #define ISING2D_CYLINDER 3
 
 /* The status of a call. USAGE and NO_WORDS come from ising2d_c_run alone, NO from it and from a check,
- * NO_PROOF from ising2d_c_ground, ising2d_c_nest, ising2d_c_wall, ising2d_c_clusters, ising2d_c_join
- * and ising2d_c_joins. */
+ * NO_PROOF from ising2d_c_ground, ising2d_c_nest, ising2d_c_wall, ising2d_c_bond_costs, ising2d_c_clusters,
+ * ising2d_c_join and ising2d_c_joins. */
 #define ISING2D_DONE 0
 #define ISING2D_REFUSED 1
 #define ISING2D_USAGE 2
@@ -116,7 +124,7 @@ extern "C" {
 #define ISING2D_PM 2
 #define ISING2D_UNIFORM 3
 
-/* The most spins or nodes of a graph, and of one whose costs are asked for. */
+/* The most spins or nodes of a graph, and of one for ising2d_c_bonds. */
 #define ISING2D_MOST_SPINS 4194304
 #define ISING2D_MOST_SPINS_OF_COSTS 2048
 
@@ -201,9 +209,9 @@ uint8_t ising2d_c_draws(uint8_t law, uint64_t seed, size_t count, int64_t *coupl
  * A graph, drawn on a sphere (for a check of loops, on any surface). The energy of an assignment is minus
  * the sum of coupling times both spins.
  *
- * n            the number of spins, 1 to 4194304 (for costs 2048), numbered from 0.
+ * n            the number of spins, 1 to 4194304 (for ising2d_c_bonds 2048), numbered from 0.
  * ends         two spins for each bond: bond k joins ends[2k] and ends[2k + 1]. At most
- *              12582912 bonds (for costs 6144).
+ *              12582912 bonds (for ising2d_c_bonds 6144).
  * couplings    one for each bond, in any unit.
  * dart_starts, darts  the drawing. Bond k has the dart 2k, which leaves its first end, and the dart
  *              2k + 1, which leaves its second. The darts that leave spin i, in cyclic order, are
@@ -258,6 +266,20 @@ uint8_t ising2d_c_wall(ISING2D_GRAPH, struct ising2d_wall *answer, ISING2D_LINE)
  * is positive.
  */
 uint8_t ising2d_c_bonds(ISING2D_GRAPH, int64_t *costs, size_t costs_room, ISING2D_LINE);
+
+/*
+ * Finds the costs of chosen bonds, by bounds that the caller keeps from call to call, so that a search can be
+ * stopped, continued, and divided among threads.
+ *
+ * asked        numbers of bonds. Afterwards both bounds of each of them are its cost.
+ * low, high    a lower and an upper bound of each bond's cost, -1 if none is known. Read and written: if those
+ *              that are passed hold, so do those that are written, and none is looser. Of two searches, keep
+ *              the larger lower and the smaller upper bounds.
+ *
+ * A call finds a ground state first, so it should ask for several bonds.
+ */
+uint8_t ising2d_c_bond_costs(ISING2D_GRAPH, const uint32_t *asked, size_t asked_len, int64_t *low,
+                             size_t low_len, int64_t *high, size_t high_len, ISING2D_LINE);
 
 /* Finds for each spin the least spin of its rigid cluster: n names. */
 uint8_t ising2d_c_clusters(ISING2D_GRAPH, uint32_t *names, size_t names_room, ISING2D_LINE);

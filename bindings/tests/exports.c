@@ -36,7 +36,7 @@ struct places {
     struct ising2d_wall wall;
     struct ising2d_tables tables;
     struct ising2d_join join;
-    int64_t weights[LOOPS], costs[BONDS], draws[BONDS];
+    int64_t weights[LOOPS], costs[BONDS], low[BONDS], high[BONDS], draws[BONDS];
     uint64_t radii[REGIONS], at_radii[FACES], node_radii[NODES];
     size_t starts[LOOPS + 1], dart_starts[SPINS + 1], edge_count, written, whole;
     uint32_t ends[2 * BONDS], darts[2 * BONDS], seam[SEAM];
@@ -76,6 +76,9 @@ static const uint32_t untaken[] = {ISING2D_NONE, ISING2D_NONE};
 static const uint32_t web_ends[] = {0, 1, 1, 2, 0, 2}, web_terminals[] = {2, 0, 1, 0}, longest[] = {2}, others[] = {0, 1};
 static const int64_t web_weights[] = {2, 3, 4};
 static const size_t web_starts[] = {0, 2, 4};
+/* Bonds whose costs are asked for, and bounds of them of which the last is wrong. */
+static const uint32_t asked[] = {3, 0, 2, 1}, no_bond[] = {3, 4, 2, 1};
+static const int64_t unbounded[] = {-1, -1, -1, -1}, crossed[] = {-1, -1, -1, 7}, six[] = {-1, -1, -1, 6};
 static const uint32_t web_taken[] = {0, ISING2D_NONE, 1};
 static const uint64_t web_grown[] = {8, 8}, web_at[] = {0, 0, 0};
 static const char input[] = "square,2,2\n3,4\n2,-5\nend\nenergy,-9\nspins,1,1,-1,-1\nloop,4,0,1,2,3\nend\n";
@@ -115,6 +118,36 @@ static uint8_t wall(const struct given *given, struct places *p) { return ising2
 
 static uint8_t bonds(const struct given *given, struct places *p) {
     return ising2d_c_bonds(GRAPH, p->costs, BONDS, TOLD(p));
+}
+
+/* Bounds that are narrowed; where they were, once something is written. */
+static uint8_t narrowed(const struct given *given, struct places *p, const uint32_t *chosen, const int64_t *below,
+                        size_t count, const int64_t *above) {
+    int64_t low[BONDS], high[BONDS];
+    memcpy(low, below, sizeof low);
+    memcpy(high, above, sizeof high);
+    uint8_t ended = ising2d_c_bond_costs(GRAPH, chosen, 4, low, count, high, BONDS, TOLD(p));
+    if (memcmp(low, below, sizeof low) != 0 || memcmp(high, above, sizeof high) != 0) {
+        memcpy(p->low, low, sizeof low);
+        memcpy(p->high, high, sizeof high);
+    }
+    return ended;
+}
+
+static uint8_t bond_costs(const struct given *given, struct places *p) {
+    return narrowed(given, p, asked, unbounded, BONDS, unbounded);
+}
+
+static uint8_t costs_of_no_bond(const struct given *given, struct places *p) {
+    return narrowed(given, p, no_bond, unbounded, BONDS, unbounded);
+}
+
+static uint8_t too_few_bounds(const struct given *given, struct places *p) {
+    return narrowed(given, p, asked, unbounded, BONDS - 1, unbounded);
+}
+
+static uint8_t crossed_bounds(const struct given *given, struct places *p) {
+    return narrowed(given, p, asked, crossed, BONDS, six);
 }
 
 /* The draws of a law, or of none where no spins are given. */
@@ -217,6 +250,12 @@ static void tube(struct places *p) {
 static void turned(struct places *p) {
     const int64_t costs[] = {2, 4, 2, 6};
     memcpy(p->costs, costs, sizeof costs);
+}
+
+static void known(struct places *p) {
+    const int64_t costs[] = {2, 4, 2, 6};
+    memcpy(p->low, costs, sizeof costs);
+    memcpy(p->high, costs, sizeof costs);
 }
 
 static void signs(struct places *p) {
@@ -382,6 +421,9 @@ static void unsaid(struct places *p) { (void)p; }
 static void yes(struct places *p) { text(p, "yes\n"); }
 static void no(struct places *p) { text(p, "no,2,-10\n"); }
 static void no_spin(struct places *p) { text(p, "refused,19,10,1\n"); }
+static void unasked(struct places *p) { text(p, "refused,19,14,1\n"); }
+static void few_low(struct places *p) { text(p, "refused,19,15,0\n"); }
+static void low_high(struct places *p) { text(p, "refused,19,16,3\n"); }
 static void many(struct places *p) { text(p, "refused,8,12582913\n"); }
 static void odd_terminals(struct places *p) { text(p, "refused,21,3\n"); }
 static void wrong_start(struct places *p) { text(p, "refused,19,19,2\n"); }
@@ -395,6 +437,7 @@ static void try_numbers(void) {
         {"ising2d_c_nest", nest, right, few, with(least_of_nest), no_spins, NEST_PROOF},
         {"ising2d_c_wall", wall, right, few, with(walls), no_spins, NONE},
         {"ising2d_c_bonds", bonds, right, few, with(turned), no_spins, NONE},
+        {"ising2d_c_bond_costs", bond_costs, right, few, with(known), no_spins, NONE},
         {"ising2d_c_draws", draws, right, few, with(signs), "refused,17\n", NONE},
         {"ising2d_c_clusters", clusters, right, few, with(joined), no_spins, NONE},
         {"ising2d_c_check", check, right, few, with(yes), no_spins, NONE},
@@ -404,7 +447,8 @@ static void try_numbers(void) {
         {"ising2d_c_joins", joins, right, few, with(least_joins), no_nodes, NONE},
     };
     const struct places failing = with(no), silent = with(unsaid), bad_value = with(no_spin), odd = with(odd_terminals),
-                        bad_start = with(wrong_start), beyond = with(many);
+                        bad_start = with(wrong_start), beyond = with(many), bad_bond = with(unasked), few_bounds = with(few_low),
+                        bad_bound = with(low_high);
     for (size_t k = 0; k < sizeof rows / sizeof *rows; k++) {
         try_row(&rows[k]);
     }
@@ -414,6 +458,9 @@ static void try_numbers(void) {
     ends_with("ising2d_c_nest_check", nest_check_none_between, &right, ISING2D_REFUSED, &bad_value, NONE);
     ends_with("ising2d_c_nest_check", nest_check_untaken, &right, ISING2D_DONE, &silent, NONE);
     ends_with("ising2d_c_draws", too_many_draws, &right, ISING2D_REFUSED, &beyond, NONE);
+    ends_with("ising2d_c_bond_costs", costs_of_no_bond, &right, ISING2D_REFUSED, &bad_bond, NONE);
+    ends_with("ising2d_c_bond_costs", too_few_bounds, &right, ISING2D_REFUSED, &few_bounds, NONE);
+    ends_with("ising2d_c_bond_costs", crossed_bounds, &right, ISING2D_REFUSED, &bad_bound, NONE);
     ends_with("ising2d_c_join", odd_join, &right, ISING2D_REFUSED, &odd, NONE);
     ends_with("ising2d_c_join_check", join_check_others, &right, ISING2D_NO, &silent, NONE);
     ends_with("ising2d_c_joins", joins_wrong_start, &right, ISING2D_REFUSED, &bad_start, NONE);

@@ -64,6 +64,9 @@ class Member(IntEnum):
     STARTS = 11
     RADII = 12
     AT_RADII = 13
+    ASKED = 14
+    LOW = 15
+    HIGH = 16
     NODES = 17
     EDGES = 18
     TERMINAL_STARTS = 19

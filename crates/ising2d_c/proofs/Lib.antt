@@ -7,5 +7,6 @@ mod GraphLemmas
 mod StatedLemmas
 mod TableLemmas
 mod StudyLemmas
+mod BoundLemmas
 mod NetworkLemmas
 mod JoinLemmas

@@ -1,10 +1,11 @@
 -- Why a study has no answer: a solver's error, and which graphs may have tables that exceed what is allowed.
 use Rattle.std.proofs.Common.{inl, inr, ◌≡◌, ◌⊎◌, ℕ, ◌<◌, ◌≤◌, None, Some, Option, [], length, ap, arith}
 use Rattle.std.proofs.lemmas.Bool.{cases_lt}
+use Rattle.std.proofs.lemmas.List.{length-set}
 use Rattle.std.proofs.lemmas.List.FromFn.{length-map-range_with_len}
 use Rattle.sg_limits.specs.Limits.{bond_limit, spin_limit, table_limit}
-use Rattle.sg_model.specs.Changes.{flipped_at, with_seam_flipped}
-use Rattle.sg_model.specs.Ising.{Ising, bond_count}
+use Rattle.sg_model.specs.Changes.{flipped_at, recoupled, with_coupling, with_seam_flipped}
+use Rattle.sg_model.specs.Ising.{Ising, bond_at, bond_count}
 use Rattle.sg_model.proofs.Recoupled.{all_long}
 use Rattle.sg_model.specs.declared.refusal.Fault.{Fault}
 use Rattle.sg_model.specs.declared.refusal.Fault.TheVariants.{NoMemory}
@@ -16,6 +17,7 @@ use Rattle.sg_tjoin.specs.declared.allowance.Unproved.TheVariants as unproved
 use Rattle.sg_ground.specs.Allowance.{TablesExceed}
 use Rattle.sg_ground.proofs.Allowed.{program_fits}
 use Rattle.sg_wall.specs.Wall.{WallTablesExceed}
+use Rattle.sg_bonds.specs.Bounds.{ForcedTablesExceed}
 use Rattle.sg_bonds.specs.Weakened.{WeakenedTablesExceed, weakened, weakened_couplings}
 use Rattle.ising2d_c.specs.Graphs.{bond_by, bonds_by, Finds, IsFitGraph, IsUnanswered, Numbers, unanswered_by, wrong_bond}
 
@@ -53,6 +55,12 @@ module _ (most : Limits) (g : Numbers) where
         program_fits (weakened inst scale s amount) (omega (arith, same_spins))
         (omega (arith, few_bonds, all_long inst (weakened_couplings inst scale s amount (bond_count inst)))) exceed
 
+    costs_within : g.n ≤ spin_limit → length g.couplings ≤ bond_limit → ForcedTablesExceed table_limit inst → ⊥
+    costs_within spins bonds (inl exceed) = within spins bonds exceed
+    costs_within spins bonds (inr (k, j, exceed)) =
+        program_fits (with_coupling inst k j) (omega (arith, same_spins))
+        (omega (arith, few_bonds, length-set inst.bonds k (recoupled (bond_at inst k) j))) exceed
+
   -- so the graph is larger
   either : (g.n ≤ spin_limit → length g.couplings ≤ bond_limit → ⊥) → (spin_limit < g.n) ⊎ (bond_limit < length g.couplings)
   either never = elim (cases_lt spin_limit g.n) [
@@ -71,3 +79,6 @@ module _ (most : Limits) (g : Numbers) where
 
   pub large_clusters_only : Finds (IsFitGraph most g) (WeakenedTablesExceed table_limit) → (spin_limit < g.n) ⊎ (bond_limit < length g.couplings)
   large_clusters_only found = either (λ spins bonds. clusters_within found.instance found.given spins bonds found.study)
+
+  pub large_costs_only : Finds (IsFitGraph most g) (ForcedTablesExceed table_limit) → (spin_limit < g.n) ⊎ (bond_limit < length g.couplings)
+  large_costs_only found = either (λ spins bonds. costs_within found.instance found.given spins bonds found.study)

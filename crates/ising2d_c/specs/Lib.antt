@@ -5,5 +5,6 @@ pub mod Lattices
 pub mod Proofs
 pub mod Grounds
 pub mod Draws
+pub mod BondCosts
 pub mod Networks
 pub mod Joins
