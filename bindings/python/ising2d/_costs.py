@@ -4,23 +4,22 @@ stores nothing between its calls, so the bounds are the whole state of a search.
 from __future__ import annotations
 
 import time
-from functools import cached_property
 from typing import TYPE_CHECKING, Any, Dict, Iterator, List, NamedTuple, Optional, Set, Tuple
 
-from ._arrays import is_numpy, numpy, numbers, read_only, shortened, whole_numbers, zeros
-from ._droplets import forcing
+from ._arrays import as_array, is_numpy, numpy, numbers, read_only, shortened, whole_numbers, zeros
 from ._errors import RefusalCode, TooLarge
+from ._ffi import narrow_bounds
 from ._stopping import Telling, Watch
 from ._threads import in_order
 
 if TYPE_CHECKING:
-    from ._answers import Ground
     from ._types import BoolArray, Int64Array, Integers
 
 # Costs of all bonds are found of so many spins; of chosen ones, of as many as a ground state.
 MOST_SPINS_OF_ALL = 2**14
-# A piece has so many bonds at first; then as many as take so many seconds, the ground state with them.
-_FIRST, _SECONDS, _MOST = 8, 0.5, 4096
+# A piece has so many bonds at first; then as many as take so many seconds, the ground state with them, or so many
+# times as long as the ground state.
+_FIRST, _SECONDS, _MOST, _BEGINNINGS = 8, 0.5, 4096, 4
 
 
 class CostBounds(NamedTuple):
@@ -154,7 +153,7 @@ class Search:
         self.given, self.bounds = given, Bounds(known)
         self.asked = numpy.unique(asked).astype("int64") if is_numpy(asked) else sorted(set(asked.tolist()))
         self.taken: Set[int] = set()
-        self.size, self.threads = _FIRST, threads
+        self.size, self.seconds, self.threads = _FIRST, _SECONDS, threads
 
     def run(self, progress: Telling) -> CostBounds:
         """All bounds when those of the chosen bonds meet. Raises ``Stopped`` with those so far."""
@@ -167,20 +166,6 @@ class Search:
                 watch.step(now - done)
                 done = now
         return self.bounds.kept()
-
-    @cached_property
-    def _ground(self) -> Ground:
-        """The ground state with which the forced ones are compared."""
-        found: Ground = self.given.ground(loops=False, nest=False)
-        return found
-
-    def _cost(self, bond: int) -> int:
-        """The cost of a bond: how much more energy the states have that flip it. They are the ground states of
-        the instance in which the bond is forced to flip (``forcing``)."""
-        strong = forcing(self.given, bond, self._ground.spins)
-        forced = self.given._with_one(bond, strong).ground(loops=False, nest=False)
-        cost: int = self.given.energy_of(forced.spins) - self._ground.energy
-        return cost
 
     def _pieces(self) -> Iterator[Tuple[List[int], Any, Any]]:
         """Pieces of the bonds that are open, with copies of all bounds, which the threads take one by one."""
@@ -198,15 +183,21 @@ class Search:
     def _narrowed(self, piece: Tuple[List[int], Any, Any]) -> Tuple[Any, Any]:
         """The bounds that one call writes; it sets how many bonds the next pieces have."""
         bonds, low, high = piece
-        begun = time.monotonic()
-        for bond in bonds:
-            low[bond] = high[bond] = self._cost(bond)
-        taken = time.monotonic() - begun
-        if taken < _SECONDS / 2:
+        taken = self._timed(bonds, low, high)
+        if taken > 2 * self.seconds and self.seconds == _SECONDS:
+            # Each call begins with a ground state, which should be a small part of it.
+            self.seconds = max(_SECONDS, _BEGINNINGS * self._timed([], low, high))
+        if taken < self.seconds / 2:
             self.size = min(2 * self.size, _MOST)
-        elif taken > 2 * _SECONDS:
+        elif taken > 2 * self.seconds:
             self.size = max(self.size // 2, 1)
         return low, high
+
+    def _timed(self, bonds: List[int], low: Any, high: Any) -> float:
+        """Narrows the bounds, and tells how many seconds that took."""
+        begun = time.monotonic()
+        narrow_bounds(self.given, as_array(bonds, "uint32"), low, high)
+        return time.monotonic() - begun
 
 
 def costs_of(given: Any, asked: Any, known: CostBounds, progress: Telling, threads: int) -> Any:

@@ -79,6 +79,7 @@ FUNCTIONS: Dict[str, List[Any]] = {
     "ising2d_c_nest": _GRAPH + [ctypes.POINTER(NestNumbers)] + [_ARRAY, _SIZE] * 5 + _LINE,
     "ising2d_c_wall": _GRAPH + [ctypes.POINTER(WallNumbers)] + _LINE,
     "ising2d_c_bonds": _GRAPH + [_ARRAY, _SIZE] + _LINE,
+    "ising2d_c_bond_costs": _GRAPH + [_ARRAY, _SIZE] * 3 + _LINE,
     "ising2d_c_clusters": _GRAPH + [_ARRAY, _SIZE] + _LINE,
     "ising2d_c_draws": [ctypes.c_uint8, ctypes.c_uint64, _SIZE, _ARRAY, _SIZE] + _LINE,
     "ising2d_c_check": _GRAPH + [ctypes.c_int64] + [_ARRAY, _SIZE] * 4 + _LINE,
@@ -90,7 +91,7 @@ FUNCTIONS: Dict[str, List[Any]] = {
 
 
 # Functions that a library of the same soname may lack: what needs them says so.
-_LATER = {"ising2d_c_draws"}
+_LATER = {"ising2d_c_draws", "ising2d_c_bond_costs"}
 
 
 def _function(name: str) -> Any:
@@ -360,6 +361,12 @@ def costs_of(given: Given) -> Any:
     status = _call("bonds", given, *pointer_to(costs), *line.arguments(), most=PROGRAM_SPINS)
     line.judge(status, given, large=False)
     return read_only(costs)
+
+
+def narrow_bounds(given: Given, asked: Any, low: Any, high: Any) -> None:
+    """Narrows the bounds of the costs of all bonds, two arrays, until those of the asked bonds meet."""
+    line, own = Line(), (part for values in (asked, low, high) for part in pointer_to(values))
+    line.judge(_call("bond_costs", given, *own, *line.arguments()), given)
 
 
 def clusters_of(given: Given) -> Any:

@@ -101,13 +101,12 @@ class Instance(Model):
         bond is rigid if it costs more than 0.
 
         With ``bonds``, a list of bond numbers, the costs of these bonds in their order, for up to 2**22
-        spins; a bond takes about as long as a ground state. Costs of all bonds are found for up to 2**14
-        spins. ``bounds`` are known bounds to start from, those of a search that
-        was stopped; wrong bounds give wrong costs. ``progress`` is called with the number of finished bonds
-        and the number of all bonds of the search, and stops the search if it returns False; by default a
-        bar is shown if standard error is a terminal, and False shows none. If Ctrl-C or ``progress`` stops
-        the search, ``Stopped`` is raised; its ``found`` are the bounds so far. ``threads`` is the number
-        of threads, by default that of the processors."""
+        spins. Costs of all bonds are found for up to 2**14 spins. ``bounds`` are known bounds to start from,
+        those of a search that was stopped; wrong bounds give wrong costs. ``progress`` is called with the
+        number of finished bonds and the number of all bonds of the search, and stops the search if it
+        returns False; by default a bar is shown if standard error is a terminal, and False shows none. If
+        Ctrl-C or ``progress`` stops the search, ``Stopped`` is raised; its ``found`` are the bounds so far.
+        ``threads`` is the number of threads, by default that of the processors."""
         refuse_progress(progress)
         workers = thread_count(threads)
         if bonds is None and bounds is None and self.n <= _ffi.PROGRAM_SPINS and not callable(progress):
