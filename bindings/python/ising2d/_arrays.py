@@ -91,6 +91,13 @@ def whole_numbers(values: Any, kind: str, what: str) -> Any:
     return found if numpy is None else numpy.array(found, dtype=kind)
 
 
+def whole_list(values: Any, kind: str, what: str) -> List[int]:
+    """The same numbers as a list. One that is a list already passes through no array of numpy."""
+    made = _of_list(values, kind, what) if type(values) is list else whole_numbers(values, kind, what)
+    found: List[int] = made.tolist()
+    return found
+
+
 def _of_list(listed: Sequence[Any], kind: str, what: str) -> Any:
     low, high = _RANGES[kind]
     if not isinstance(listed, array) and has_bools(listed):

@@ -29,6 +29,7 @@ from ._arrays import (
     refuse_unordered,
     shortened,
     whole,
+    whole_list,
     whole_numbers,
 )
 from ._decoding import Joins, in_batches, shots_of
@@ -244,8 +245,7 @@ class Network:
     def _numbers_of(self, terminals: Any) -> List[int]:
         """The numbers of terminals that are given by their labels."""
         if self.labels is None:
-            found: List[int] = whole_numbers(terminals, "uint32", "terminals").tolist()
-            return found
+            return whole_list(terminals, "uint32", "terminals")
         refuse_unordered(terminals, "terminals")
         return [self._number_of(label, "terminals") for label in listed_of(terminals, "terminals")]
 
