@@ -19,6 +19,27 @@ pub struct Contact {
 const NOBODY: u32 = u32::MAX;
 
 impl Contact {
+    /// No contact: on its own side is no terminal.
+    pub fn none() -> Contact {
+        let end = End {
+            terminal: NOBODY,
+            dart: 0,
+        };
+        Contact {
+            own: end,
+            other: end,
+        }
+    }
+
+    /// The contact, if it is one.
+    pub fn there(self) -> Option<Contact> {
+        if self.own.terminal == NOBODY {
+            None
+        } else {
+            Some(self)
+        }
+    }
+
     /// Where a region touches a node that no region covers: the node has no terminal.
     pub fn with_node(own: End, back: u32) -> Contact {
         Contact {

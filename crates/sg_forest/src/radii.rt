@@ -1,7 +1,7 @@
 // How far each region has grown, with all over it, and the part that it plays.
 //
-// The radii over a region, up to its top but without its own and the top's, are the base of its family
-// and what the region differs from it. Where a blossom is made or taken apart, the regions in all of
+// The radii over a part, up to its top, its own with them and without the top's, are the base of its family
+// and what the part differs from it. Where a blossom is made or taken apart, the regions in all of
 // its parts but the largest are moved to another family: while blossoms are only made, each is moved
 // at most as often as its top doubles. All else takes the same time for any blossoms.
 use super::NoMemory;
@@ -27,38 +27,40 @@ pub struct Reach {
     pub by: i64,
 }
 
-// A role, since when, and the radius then; the family of the region, and how much the radii over it
-// differ from the base of the family.
+// The part that a region plays, its family, and a value. Of a top that is its radius: of one that grows or gives way
+// what the radius would be at time 0, had it always done so. Of a part it is by how much the radii over the region,
+// its own with them, differ from the base of the family. A scan of an arc reads one such record, so it has what is
+// read there and no more.
 #[derive(Clone, Copy)]
 struct Growth {
     role: Role,
     family: u32,
-    off: i64,
-    radius: i64,
-    since: i64,
+    value: i64,
 }
 
 impl Growth {
-    // The radius at a time.
-    #[inline(always)]
-    fn at(&self, now: i64) -> i64 {
-        let gone = now.wrapping_sub(self.since);
-        match self.role {
-            Role::Outer => self.radius.wrapping_add(gone),
-            Role::Free | Role::Part => self.radius,
-            Role::Inner => self.radius.wrapping_sub(gone),
+    // A top of a radius at a time.
+    fn top(role: Role, family: u32, radius: i64, now: i64) -> Growth {
+        let value = match role {
+            Role::Outer => radius.wrapping_sub(now),
+            Role::Free | Role::Part => radius,
+            Role::Inner => radius.wrapping_add(now),
+        };
+        Growth {
+            role,
+            family,
+            value,
         }
     }
-}
 
-// An outer top of radius 0.
-fn new_growth(family: u32, off: i64, now: i64) -> Growth {
-    Growth {
-        role: Role::Outer,
-        family,
-        off,
-        radius: 0,
-        since: now,
+    // The radius of a top at a time.
+    #[inline(always)]
+    fn at(&self, now: i64) -> i64 {
+        match self.role {
+            Role::Outer => self.value.wrapping_add(now),
+            Role::Free | Role::Part => self.value,
+            Role::Inner => self.value.wrapping_sub(now),
+        }
     }
 }
 
@@ -66,6 +68,8 @@ fn new_growth(family: u32, off: i64, now: i64) -> Growth {
 #[derive(Drop)]
 pub struct Radii {
     growths: Vec<Growth>,
+    // For each region its radius when it last became a part.
+    parts: Vec<i64>,
     families: Families,
 }
 
@@ -74,6 +78,7 @@ impl Radii {
     pub fn new(alloc: Global, room: usize) -> Result<Radii, NoMemory> {
         Ok(Radii {
             growths: Vec::with_capacity(alloc, room)?,
+            parts: Vec::with_capacity(alloc, room)?,
             families: Families::new(alloc, room)?,
         })
     }
@@ -82,7 +87,7 @@ impl Radii {
     fn growth(&self, name: u32) -> Growth {
         match self.growths.get(name as usize) {
             Some(growth) => *growth,
-            None => new_growth(u32::MAX, 0, 0),
+            None => Growth::top(Role::Outer, u32::MAX, 0, 0),
         }
     }
 
@@ -93,7 +98,12 @@ impl Radii {
 
     /// The radius of a region at a time.
     pub fn radius(&self, name: u32, now: i64) -> i64 {
-        self.growth(name).at(now)
+        let here = self.growth(name);
+        if here.role == Role::Part {
+            entry(&self.parts, name).unwrap_or(0)
+        } else {
+            here.at(now)
+        }
     }
 
     /// The top over a region, and how far the two reach at a time with all between. A region that is a
@@ -110,7 +120,7 @@ impl Radii {
         }
         let family = self.families.family(here.family);
         let top = self.growth(family.top);
-        let between = family.base.wrapping_add(here.off);
+        let between = family.base.wrapping_add(here.value);
         Reach {
             top: family.top,
             role: top.role,
@@ -128,47 +138,67 @@ impl Radii {
         }
     }
 
-    /// Gives a region another role.
+    /// Gives a top another role.
     pub fn set_role(&mut self, name: u32, role: Role, now: i64) {
+        let family = self.growth(name).family;
+        self.set_top(name, role, family, now);
+    }
+
+    // A region is a top of a role and of a family.
+    fn set_top(&mut self, name: u32, role: Role, family: u32, now: i64) {
+        let growth = Growth::top(role, family, self.radius(name, now), now);
+        set_entry(&mut self.growths, name, growth);
+    }
+
+    // A top becomes a part, as yet with nothing over it.
+    fn set_part(&mut self, name: u32, now: i64) {
         let growth = self.growth(name);
-        let changed = Growth {
-            role,
-            radius: growth.at(now),
-            since: now,
-            ..growth
+        set_entry(&mut self.parts, name, growth.at(now));
+        let base = self.families.family(growth.family).base;
+        let part = Growth {
+            role: Role::Part,
+            family: growth.family,
+            value: 0i64.wrapping_sub(base),
         };
-        set_entry(&mut self.growths, name, changed);
+        set_entry(&mut self.growths, name, part);
+    }
+
+    // A new outer top of radius 0.
+    fn put_top(&mut self, name: u32, family: u32, now: i64) -> Result<(), NoMemory> {
+        put_entry(&mut self.parts, name, 0)?;
+        put_entry(
+            &mut self.growths,
+            name,
+            Growth::top(Role::Outer, family, 0, now),
+        )
     }
 
     /// A new outer top without parts, of a family of its own.
     pub fn plant(&mut self, name: u32, now: i64) -> Result<(), NoMemory> {
         let family = self.families.found(name)?;
-        put_entry(&mut self.growths, name, new_growth(family, 0, now))
+        self.put_top(name, family, now)
     }
 
     /// Makes all as it is in others.
     pub fn restore(&mut self, base: &Radii) -> Result<(), NoMemory> {
         copy_list(&mut self.growths, &base.growths)?;
+        copy_list(&mut self.parts, &base.parts)?;
         self.families.restore(&base.families)
     }
 
     /// A new outer blossom over a top, its largest part, of whose family it is.
     pub fn crown(&mut self, blossom: u32, largest: u32, now: i64) -> Result<(), NoMemory> {
         let below = self.growth(largest);
+        self.set_part(largest, now);
         self.families.rise(below.family, blossom, below.at(now));
-        let off = 0i64.wrapping_sub(self.families.family(below.family).base);
-        put_entry(
-            &mut self.growths,
-            blossom,
-            new_growth(below.family, off, now),
-        )
+        self.put_top(blossom, below.family, now)
     }
 
     /// The opposite: the largest part is a top again, and the blossom is gone.
     pub fn uncrown(&mut self, blossom: u32, largest: u32, now: i64) {
-        let below = self.growth(largest);
-        let less = 0i64.wrapping_sub(below.at(now));
-        self.families.rise(below.family, largest, less);
+        let family = self.growth(largest).family;
+        let less = 0i64.wrapping_sub(self.radius(largest, now));
+        self.families.rise(family, largest, less);
         self.set_role(largest, Role::Free, now);
         self.set_role(blossom, Role::Free, now);
     }
@@ -180,7 +210,7 @@ impl Radii {
         };
         let own = self.growth(*top);
         self.families.free(own.family)?;
-        self.set_role(*top, Role::Part, now);
+        self.set_part(*top, now);
         let family = self.growth(blossom).family;
         self.move_all(regions, family, own.at(now));
         Ok(())
@@ -193,21 +223,20 @@ impl Radii {
         };
         let radius = self.radius(*top, now);
         let family = self.families.found(*top)?;
-        self.set_role(*top, Role::Free, now);
         self.move_all(regions, family, 0i64.wrapping_sub(radius));
+        self.set_top(*top, Role::Free, family, now);
         Ok(())
     }
 
-    // Moves regions into a family, with so much more over them.
+    // Moves parts into a family, with so much more over them.
     fn move_all(&mut self, regions: &[u32], family: u32, more: i64) {
         let base = self.families.family(family).base.wrapping_sub(more);
         for name in regions {
             if let Some(growth) = entry(&self.growths, *name) {
                 let over = self.families.family(growth.family).base;
-                let off = growth.off.wrapping_add(over).wrapping_sub(base);
                 let moved = Growth {
                     family,
-                    off,
+                    value: growth.value.wrapping_add(over).wrapping_sub(base),
                     ..growth
                 };
                 set_entry(&mut self.growths, *name, moved);

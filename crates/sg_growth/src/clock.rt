@@ -1,9 +1,8 @@
-// The time, and when the next event of each arc, each hub and each inner region comes.
+// The time, and when the next event of each edge, each hub and each inner region comes.
 //
-// Of each arc, hub and inner region one event counts, its soonest; what was entered for it before is
-// passed over when it comes. An event takes the same time for any number of arcs, but for the agenda.
+// Of each edge, hub and inner region one event counts, its soonest; what was entered for it before is
+// passed over when it comes. An event takes the same time for any number of edges, but for the agenda.
 use super::NoMemory;
-use super::adjacency::reverse;
 use super::agenda::{Agenda, Event, Subject};
 use sg_slots::set_entry;
 use std::alloc::Global;
@@ -11,14 +10,19 @@ use std::alloc::Global;
 /// A time that never comes.
 pub const NEVER: i64 = i64::MAX;
 
+// The last time that comes.
+const LAST: i64 = NEVER - 1;
+
 /// The time, with what waits.
 #[derive(Drop)]
 pub struct Clock {
     now: i64,
+    // What comes after this time is not entered.
+    horizon: i64,
     agenda: Agenda,
-    // For each dart the time of the event that waits for its arc, and for each hub and region that of its
-    // own; the list of regions goes as far as was needed.
-    arcs: Vec<i64>,
+    // For each edge the time of the event that waits for one of its arcs, and for each hub and region that of
+    // its own; the list of regions goes as far as was needed.
+    edges: Vec<i64>,
     hubs: Vec<i64>,
     regions: Vec<i64>,
 }
@@ -42,11 +46,12 @@ fn is_due(times: &mut [i64], place: u32, time: i64) -> bool {
 
 impl Clock {
     /// Time 0, at which nothing waits.
-    pub fn new(alloc: Global, darts: usize, hubs: usize) -> Result<Clock, NoMemory> {
+    pub fn new(alloc: Global, edges: usize, hubs: usize) -> Result<Clock, NoMemory> {
         Ok(Clock {
             now: 0,
+            horizon: LAST,
             agenda: Agenda::new(alloc)?,
-            arcs: vec![in alloc; NEVER; darts]?,
+            edges: vec![in alloc; NEVER; edges]?,
             hubs: vec![in alloc; NEVER; hubs]?,
             regions: Vec::new(alloc),
         })
@@ -55,26 +60,39 @@ impl Clock {
     /// Time 0 again, at which nothing waits.
     pub fn restart(&mut self) {
         self.now = 0;
+        self.horizon = LAST;
         self.agenda.restart(0);
-        self.arcs.fill(NEVER);
+        self.edges.fill(NEVER);
         self.hubs.fill(NEVER);
         self.regions.fill(NEVER);
     }
 
-    /// Sets the time, and forgets all events that wait. Cost: linear in these events.
-    pub fn set(&mut self, now: i64) {
-        for bucket in self.agenda.buckets() {
-            for event in bucket {
-                match event.subject {
-                    Subject::Arc(dart) => set_entry(&mut self.arcs, dart, NEVER),
-                    Subject::Hub(hub) => set_entry(&mut self.hubs, hub, NEVER),
-                    Subject::Region(name) => set_entry(&mut self.regions, name, NEVER),
-                    Subject::Root(_) => {}
-                }
-            }
+    /// Sets the time, and forgets all events that wait. What comes after the horizon is not entered from now on. Cost:
+    /// linear in the events that wait.
+    pub fn set(&mut self, now: i64, horizon: i64) {
+        for list in 0..self.agenda.lists() {
+            self.forget(list);
         }
         self.now = now;
+        self.horizon = horizon.min(LAST);
         self.agenda.restart(now);
+    }
+
+    // Nothing waits that is in a list of the agenda.
+    fn forget(&mut self, list: usize) {
+        for event in self.agenda.list(list) {
+            match event.subject {
+                Subject::Arc(dart) => set_entry(&mut self.edges, dart / 2, NEVER),
+                Subject::Hub(hub) => set_entry(&mut self.hubs, hub, NEVER),
+                Subject::Region(name) => set_entry(&mut self.regions, name, NEVER),
+                Subject::Root(_) => {}
+            }
+        }
+    }
+
+    /// Sets the time of a clock at which nothing waits yet.
+    pub fn begin_at(&mut self, now: i64) {
+        self.now = now;
     }
 
     /// The time.
@@ -82,15 +100,15 @@ impl Clock {
         self.now
     }
 
-    /// When the event of an arc comes that waits.
+    /// When the event of an arc or of its way back comes that waits.
     pub fn due(&self, dart: u32) -> i64 {
-        time_at(&self.arcs, dart)
+        time_at(&self.edges, dart / 2)
     }
 
-    /// Enters the event of an arc, if it comes before what waits at the arc and at its way back.
+    /// Enters the event of an arc, if it comes before what waits at the arc or at its way back.
     pub fn expect_arc(&mut self, dart: u32, time: i64) -> Result<(), NoMemory> {
-        if time < time_at(&self.arcs, dart) && time < time_at(&self.arcs, reverse(dart)) {
-            set_entry(&mut self.arcs, dart, time);
+        if time <= self.horizon && time < time_at(&self.edges, dart / 2) {
+            set_entry(&mut self.edges, dart / 2, time);
             return self.agenda.push(Event {
                 time,
                 subject: Subject::Arc(dart),
@@ -101,7 +119,7 @@ impl Clock {
 
     /// Enters the event of a hub, if it comes before what waits there.
     pub fn expect_hub(&mut self, hub: u32, time: i64) -> Result<(), NoMemory> {
-        if time < time_at(&self.hubs, hub) {
+        if time <= self.horizon && time < time_at(&self.hubs, hub) {
             set_entry(&mut self.hubs, hub, time);
             return self.agenda.push(Event {
                 time,
@@ -113,11 +131,14 @@ impl Clock {
 
     /// Enters the event of an inner region, which comes so much later, if it comes before what waits there.
     pub fn expect_region(&mut self, name: u32, left: i64) -> Result<(), NoMemory> {
+        let time = self.now.wrapping_add(left);
+        if time > self.horizon {
+            return Ok(());
+        }
         let place = name as usize;
         if place >= self.regions.len() {
             self.regions.resize(place + 1, NEVER)?;
         }
-        let time = self.now.wrapping_add(left);
         if time < time_at(&self.regions, name) {
             set_entry(&mut self.regions, name, time);
             return self.agenda.push(Event {
@@ -144,7 +165,7 @@ impl Clock {
     /// Goes on to an event, unless another was entered in its place.
     pub fn begin(&mut self, event: &Event) -> bool {
         let counts = match event.subject {
-            Subject::Arc(dart) => is_due(&mut self.arcs, dart, event.time),
+            Subject::Arc(dart) => is_due(&mut self.edges, dart / 2, event.time),
             Subject::Hub(hub) => is_due(&mut self.hubs, hub, event.time),
             Subject::Region(name) => is_due(&mut self.regions, name, event.time),
             Subject::Root(_) => true,

@@ -11,6 +11,9 @@ use super::NoMemory;
 use sg_slots::{Slot, copy_list, entry, number, put_entry, set_entry};
 use std::alloc::Global;
 
+// With at least one region for so many nodes, all nodes are cleared at once.
+const MANY: usize = 8;
+
 /// Of a node that is covered: the region that took it, the terminal from which it was reached, and the
 /// radius of the region then.
 #[derive(Clone, Copy)]
@@ -20,13 +23,12 @@ pub struct Held {
     pub radius: i64,
 }
 
-// The region that took a node, if there is one; its terminal and radius; and the node that the region
-// took before.
+// The region that took a node, if there is one; its terminal and radius. A scan of an arc reads one such record,
+// so it has what is read there and no more.
 #[derive(Clone, Copy)]
 struct Taken {
     region: Slot,
     terminal: u32,
-    before: Slot,
     radius: i64,
 }
 
@@ -80,7 +82,6 @@ fn bare() -> Taken {
     Taken {
         region: Slot::none(),
         terminal: 0,
-        before: Slot::none(),
         radius: 0,
     }
 }
@@ -103,6 +104,7 @@ impl Cover {
     }
 
     /// What the node's region knows of it, if one holds it.
+    #[inline(always)]
     pub fn held(&self, node: u32) -> Option<Held> {
         let taken = self.taken.get(node as usize)?;
         let region = taken.region.number()?;
@@ -113,10 +115,22 @@ impl Cover {
         })
     }
 
-    /// The node that the same region took before this one.
+    /// The node that the same region took before this one: the one before it in the row, unless that belongs to a
+    /// part, or to the region whose row comes before.
     pub fn before(&self, node: u32) -> Slot {
+        let Some(place) = self.places.get(node as usize) else {
+            return Slot::none();
+        };
+        match place.previous.number() {
+            Some(previous) if self.region(previous) == self.region(node) => place.previous,
+            _ => Slot::none(),
+        }
+    }
+
+    // The region that took a node.
+    fn region(&self, node: u32) -> Slot {
         match self.taken.get(node as usize) {
-            Some(taken) => taken.before,
+            Some(taken) => taken.region,
             None => Slot::none(),
         }
     }
@@ -180,7 +194,6 @@ impl Cover {
         let taken = Taken {
             region: Slot::of(held.region),
             terminal: held.terminal,
-            before: row.last,
             radius: held.radius,
         };
         set_entry(&mut self.taken, node, taken);
@@ -350,8 +363,12 @@ impl Cover {
 
     /// No node is covered, and there is no region. Cost: linear in the regions and in the nodes that they have.
     pub fn clear(&mut self) {
-        for name in 0..number(self.rows.len()) {
-            self.uncover(name);
+        if self.rows.len() < self.taken.len() / MANY {
+            for name in 0..number(self.rows.len()) {
+                self.uncover(name);
+            }
+        } else {
+            self.taken.fill(bare());
         }
         self.rows.clear();
         self.births = 0;

@@ -4,7 +4,7 @@
 //!
 //! - [`Adjacency`] has the arcs between nodes, each edge with two darts.
 //! - [`Cover`] tells which region has taken a node, and at which radius.
-//! - [`Clock`] has the time and the queue of events: at most one event for each dart, each region and
+//! - [`Clock`] has the time and the queue of events: at most one event for each edge, each region and
 //!   each hub. [`Hubs`] orders the arcs at nodes of high degree, so that only the soonest waits.
 //! - [`Nest`] has the finished regions: which region took each node and when, and how they are nested.
 //!
@@ -21,12 +21,12 @@ mod cover;
 mod hubs;
 mod nest;
 
-pub use adjacency::{Adjacency, Arc, first_dart, reverse, second_dart};
+pub use adjacency::{Adjacency, Arc, Edge, Exit, first_dart, reverse, second_dart};
 pub use agenda::{Event, Subject};
 pub use clock::{Clock, NEVER};
 pub use cover::{Cover, Held, Shallow};
 pub use hubs::{Hubs, Soon};
-pub use nest::{Nest, Pair};
+pub use nest::{Nest, Pair, Taken};
 use std::alloc::AllocError;
 
 /// The allocator had no memory left.

@@ -7,6 +7,7 @@
 use super::NoMemory;
 use sg_slots::{Slot, entry, number, set_entry};
 use std::alloc::Global;
+use std::mem::swap;
 
 /// Two terminals that are mates, by the names of their regions (`Nest::seed` has their nodes), and the
 /// least region that has both; none where they lie in two tops.
@@ -17,12 +18,12 @@ pub struct Pair {
     pub base: Option<u32>,
 }
 
-// A node: the lowest region that has it, the node that this region took before, and its radius then.
+/// A node: the lowest region that has it, the node that this region took before, and its radius then.
 #[derive(Clone, Copy)]
-struct Taken {
-    region: Slot,
-    before: Slot,
-    radius: i64,
+pub struct Taken {
+    pub region: Slot,
+    pub before: Slot,
+    pub radius: i64,
 }
 
 // A region: what it is a part of, its terminal's node, the node that it took last, where its parts
@@ -54,9 +55,9 @@ impl Nest {
         number(self.taken.len())
     }
 
-    /// The lowest region that has the node.
-    pub fn region_of(&self, node: u32) -> Option<u32> {
-        entry(&self.taken, node)?.region.number()
+    /// How each node was taken.
+    pub fn taken(&self) -> &[Taken] {
+        &self.taken
     }
 
     /// The radius of that region when it took the node.
@@ -105,7 +106,7 @@ impl Nest {
         parts_of(&self.regions, &self.parts, region)
     }
 
-    /// The part with the most nodes, a node for each region in it counted beside.
+    /// The part with the most nodes, a node for each region in it counted beside; none before `weigh`.
     pub fn heaviest(&self, region: u32) -> Option<u32> {
         entry(&self.regions, region)?.heaviest.number()
     }
@@ -175,16 +176,25 @@ impl Nest {
         Ok(())
     }
 
-    /// Puts the regions into their order and finds the largest part of each, once all are added.
+    /// Puts the regions into their order, once all are added: what lies in one top is near.
     pub fn close(&mut self, alloc: Global) -> Result<(), NoMemory> {
-        for place in 0..self.regions.len() {
-            let Some(name) = self.order.as_slice().get(place).copied() else {
+        let mut open = Vec::new(alloc);
+        swap(&mut open, &mut self.order);
+        self.order.reserve(open.len())?;
+        for _ in 0..self.regions.len() {
+            let Some(name) = open.pop() else {
                 break;
             };
+            self.order.push(name)?;
             let parts = parts_of(&self.regions, &self.parts, name);
-            self.order.extend_from_slice(parts)?;
+            open.extend_from_slice(parts)?;
         }
         self.order.reverse();
+        Ok(())
+    }
+
+    /// Finds the largest part of each region, once they are in their order.
+    pub fn weigh(&mut self, alloc: Global) -> Result<(), NoMemory> {
         let mut sizes = vec![in alloc; 1u32; self.regions.len()]?;
         count_nodes(&self.taken, &mut sizes);
         self.weigh_parts(&mut sizes);
