@@ -47,7 +47,8 @@ impl<'a, L: Limit> Engine<'a, L> {
         let arcs = self.arcs;
         let tree = self.forest.tree(top);
         let mut found = None;
-        for arc in arcs.arcs_of(node) {
+        for exit in arcs.exits_of(node) {
+            let arc = arcs.arc_by(exit);
             self.work.add(1);
             let Some(there) = self.touch_over(arc.to, arc.length) else {
                 continue;

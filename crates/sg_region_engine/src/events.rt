@@ -3,6 +3,7 @@ use super::Engine;
 use crate::NoMemory;
 use sg_forest::{Contact, End, Limit, Reach, Role};
 use sg_growth::{Arc, Held, NEVER, Soon, Subject, reverse};
+use sg_slots::number;
 
 impl<'a, L: Limit> Engine<'a, L> {
     // The event of an arc: the region at its start takes the node at its end, or meets a region. If
@@ -83,7 +84,7 @@ impl<'a, L: Limit> Engine<'a, L> {
         if time <= self.clock.now() {
             return self.arrive(node, here, &arc);
         }
-        if time < self.clock.due(reverse(dart)) {
+        if time < self.clock.due(dart) {
             return self.hubs.push(hub, Soon { time, dart });
         }
         Ok(())
@@ -115,8 +116,8 @@ impl<'a, L: Limit> Engine<'a, L> {
     fn leave(&mut self, name: u32, last: u32) -> Result<(), NoMemory> {
         let arcs = self.arcs;
         self.cover.leave(name, last);
-        for arc in arcs.arcs_of(last) {
-            self.cover.unset_deep(arc.to);
+        for exit in arcs.exits_of(last) {
+            self.cover.unset_deep(exit.to);
         }
         self.expect_floor(name)?;
         self.wake_around(last)
@@ -146,8 +147,10 @@ impl<'a, L: Limit> Engine<'a, L> {
 
     // Enters the first events.
     fn wake_terminals(&mut self) -> Result<(), NoMemory> {
-        for node in self.terminals {
-            self.wake(*node)?;
+        for (name, node) in self.terminals.iter().enumerate() {
+            if self.forest.role(number(name)) == Role::Outer {
+                self.wake(*node)?;
+            }
         }
         Ok(())
     }
@@ -161,6 +164,7 @@ impl<'a, L: Limit> Engine<'a, L> {
         for node in self.terminals {
             self.plant(*node)?;
         }
+        self.pair_first();
         self.wake_terminals()?;
         self.run_by_method(1)
     }

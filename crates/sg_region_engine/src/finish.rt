@@ -2,7 +2,7 @@
 use super::Engine;
 use crate::NoMemory;
 use sg_forest::{End, Limit};
-use sg_growth::{Nest, Pair};
+use sg_growth::{Clock, Nest, Pair};
 use sg_slots::{Slot, number};
 
 /// A region, and its terminal that is paired with one outside.
@@ -13,6 +13,13 @@ pub struct Exit {
 }
 
 impl<'a, L: Limit> Engine<'a, L> {
+    /// Gives back the memory that is not needed once all regions are free and their pairs are known: only the nest
+    /// is read off then.
+    pub fn end(&mut self) -> Result<(), NoMemory> {
+        self.clock = Clock::new(self.alloc, 0, 0)?;
+        self.forest.end(self.alloc)
+    }
+
     /// The finished regions. The only error is running out of memory.
     pub fn nest(&self) -> Result<Nest, NoMemory> {
         let mut nest = Nest::new(self.alloc, self.arcs.nodes(), self.forest.len())?;

@@ -17,8 +17,9 @@
 //!
 //! `wake` enters events, `steps` has the steps of the method, `rests` those of the first half of a run,
 //! `open_hubs` those at nodes of high degree until no tree is left, `slices` the choice of the trees that grow
-//! at one time, `bare` the steps at nodes without a region, `events` the effect of each event, `finish`
-//! reads off the nest and the pairs, and `lists` hands the lists of one engine on to the next.
+//! at one time, `start` the pairs that need no event, `bare` the steps at nodes without a region, `events` the
+//! effect of each event, `finish` reads off the nest and the pairs, and `lists` hands the lists of one engine on
+//! to the next.
 #![tactic(auto)]
 
 ghost use Rattle.std.specs.Prelude.{◌≤◌};
@@ -31,6 +32,7 @@ mod lists;
 mod open_hubs;
 mod rests;
 mod slices;
+mod start;
 mod steps;
 mod wake;
 
@@ -106,6 +108,8 @@ pub struct Engine<'a, L: Limit> {
     pub is_first: bool,
     /// Whether hubs are open: no region covers one, and a tree that comes to one ends there.
     pub is_open: bool,
+    /// How far terminals grow before events are entered: at most half of the shortest arc. 0 at first.
+    pub head_start: i64,
     /// Whether trees grow in slices of time.
     pub is_sliced: bool,
     /// The trees that wait for their batch.
@@ -170,6 +174,7 @@ impl<'a, L: Limit> Engine<'a, L> {
             work: Work::new(allowed.work),
             is_first: matches!(method, Method::InHalves | Method::InClosedHalves),
             is_open,
+            head_start: 0,
             is_sliced: matches!(method, Method::InSlices),
             batches: Batches::new(alloc),
             rests: 0,
@@ -208,6 +213,7 @@ impl<'a, L: Limit> Engine<'a, L> {
     }
 
     // The reach of the region over a node, if it is outer.
+    #[inline(always)]
     fn outer_reach(&self, node: u32) -> Option<Reach> {
         let here = self.reach_at(node)?;
         if here.role == Role::Outer {

@@ -6,7 +6,7 @@ use super::Engine;
 use super::open_hubs::has_hub;
 use crate::NoMemory;
 use sg_forest::{Limit, Link};
-use sg_growth::{Adjacency, Clock, Cover, Hubs};
+use sg_growth::{Adjacency, Clock, Cover, Hubs, NEVER};
 use std::alloc::Global;
 
 /// The lists of an engine about the nodes and arcs of a graph, before a run.
@@ -26,7 +26,7 @@ impl Lists {
     /// arcs.
     pub fn new(alloc: Global, arcs: &Adjacency, room: usize) -> Result<Lists, NoMemory> {
         let hubs = Hubs::new(alloc, arcs)?;
-        let clock = Clock::new(alloc, arcs.darts(), hubs.len())?;
+        let clock = Clock::new(alloc, arcs.edges(), hubs.len())?;
         Ok(Lists {
             cover: Cover::new(alloc, arcs.nodes(), room)?,
             hubs,
@@ -54,7 +54,7 @@ impl Lists {
         };
         lists.cover.clear();
         lists.hubs.forget();
-        lists.clock.set(0);
+        lists.clock.set(0, NEVER);
         lists
     }
 }

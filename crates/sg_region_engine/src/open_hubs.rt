@@ -50,7 +50,7 @@ impl Guests {
 
 // Whether a node is a hub.
 fn is_hub(arcs: &Adjacency, node: u32) -> bool {
-    arcs.arcs_of(node).len() > MOST_ARCS
+    arcs.exits_of(node).len() > MOST_ARCS
 }
 
 // Whether any node is a hub.
@@ -73,12 +73,12 @@ impl<'a, L: Limit> Engine<'a, L> {
     pub(super) fn plant_at_hub(&mut self, node: u32) -> Result<(), NoMemory> {
         let name = self.forest.reserve()?;
         self.cover.open(name)?;
-        if let Some(arc) = self.arcs.arcs_of(node).first() {
+        if let Some(exit) = self.arcs.exits_of(node).first() {
             let own = End {
                 terminal: name,
-                dart: reverse(arc.dart),
+                dart: reverse(exit.dart),
             };
-            self.forest.set_pair(Contact::with_node(own, arc.dart));
+            self.forest.set_pair(Contact::with_node(own, exit.dart));
         }
         Ok(())
     }

@@ -5,7 +5,8 @@
 // a given age, while all other trees rest: a tree at rest is dissolved except for its root, and a tree that
 // reaches that root is paired with it. Then the next batch grows to the same age. After a slice all trees have the
 // same age, so the result is close to that of trees that all grow at once. Each slice is half as long again as
-// the one before, since fewer and fewer trees are left. The last batch grows to the end.
+// the one before, since fewer and fewer trees are left. The last batch grows to the end. If the terminals are sparse,
+// the last trees are large and far apart; few of them grow at one time, in shorter slices, so that they fit the cache.
 //
 // This is exact: before and after each batch the state is one of the method, in which some trees do not grow.
 use super::Engine;
@@ -16,10 +17,23 @@ use sg_slots::{entry, number, set_entry};
 use std::alloc::Global;
 use std::mem::swap;
 
-// How many trees grow at one time.
-const BATCH: usize = 1024;
+// About how many nodes there are for all trees that grow at one time: so many that their data fit a cache.
+const NODES: usize = 2048;
 
-// More slices are never needed, since each age is half as much again as the one before.
+// Fewer trees never grow at one time: each batch meets the terminals of those that have not grown yet.
+const LEAST_BATCH: usize = 128;
+
+const MOST_BATCH: usize = 1024;
+
+// Terminals are sparse if there are so many nodes for each.
+const SPARSE: usize = 4;
+
+// As many trees grow at one time if they are sparse and fewer than `LATE` are left.
+const FEW: usize = 16;
+
+const LATE: usize = 12_000;
+
+// More slices are not needed, since each age is at least a sixth more than the one before.
 const SLICES: usize = 128;
 
 /// The trees that wait for their batch, by the names of their terminals, and for each tree whether it has a mate.
@@ -61,6 +75,21 @@ impl Batches {
     }
 }
 
+// How many trees grow at one time, of so many terminals among the nodes.
+fn batch_of(terminals: usize, nodes: usize) -> usize {
+    let share = terminals.saturating_mul(NODES) / nodes.max(1);
+    share.max(LEAST_BATCH).min(MOST_BATCH)
+}
+
+// How many of the trees that are left grow at one time, if so many did so at first.
+fn count_at(first: usize, left: usize, is_sparse: bool) -> usize {
+    if is_sparse && left < LATE {
+        FEW.min(first)
+    } else {
+        first
+    }
+}
+
 // How old the trees are at the end of the first slice: half of how long edges are on average.
 fn first_age(arcs: &Adjacency) -> i64 {
     let mut sum = 0i64;
@@ -72,9 +101,10 @@ fn first_age(arcs: &Adjacency) -> i64 {
     (mean / 2).max(1)
 }
 
-// How old they are at the end of the next slice.
-fn next_age(age: i64) -> i64 {
-    age.saturating_add((age / 2).max(1))
+// How old they are at the end of the next slice, where so many grow at one time: with few, slices are shorter.
+fn next_age(age: i64, count: usize) -> i64 {
+    let part = if count > FEW { 2i64 } else { 6 };
+    age.saturating_add((age / part).max(1))
 }
 
 impl<'a, L: Limit> Engine<'a, L> {
@@ -83,13 +113,17 @@ impl<'a, L: Limit> Engine<'a, L> {
         self.plant_all()?;
         let mut from = 0i64;
         let mut until = first_age(self.arcs);
+        let (terminals, nodes) = (self.terminals.len(), self.arcs.nodes());
+        let first = batch_of(terminals, nodes);
+        let is_sparse = terminals.saturating_mul(SPARSE) <= nodes;
         for _ in 0..SLICES {
-            if self.batches.waiting.len() <= BATCH || self.work.left() == 0 {
+            let count = count_at(first, self.batches.waiting.len(), is_sparse);
+            if self.batches.waiting.len() <= count || self.work.left() == 0 {
                 break;
             }
-            self.run_slice(from, until)?;
+            self.run_slice(from, until, count)?;
             from = until;
-            until = next_age(until);
+            until = next_age(until, count);
         }
         let names = self.take_waiting();
         self.run_batch(&names, from, NEVER)
@@ -130,10 +164,10 @@ impl<'a, L: Limit> Engine<'a, L> {
         names
     }
 
-    // Grows the trees that wait from one age to another, batch by batch.
-    fn run_slice(&mut self, from: i64, until: i64) -> Result<(), NoMemory> {
+    // Grows the trees that wait from one age to another, so many at one time.
+    fn run_slice(&mut self, from: i64, until: i64, count: usize) -> Result<(), NoMemory> {
         let names = self.take_waiting();
-        for batch in names.chunks(BATCH) {
+        for batch in names.chunks(count.max(1)) {
             self.run_batch(batch, from, until)?;
             self.halt_batch(batch, until)?;
         }
@@ -142,7 +176,7 @@ impl<'a, L: Limit> Engine<'a, L> {
 
     // Grows those of these trees that are left from one age to another. Whether none of them is left then.
     fn run_batch(&mut self, names: &[u32], from: i64, until: i64) -> Result<bool, NoMemory> {
-        self.clock.set(from);
+        self.clock.set(from, until);
         for name in names {
             if self.batches.is_left(*name) {
                 self.rests = self.rests.saturating_sub(1);
@@ -160,7 +194,7 @@ impl<'a, L: Limit> Engine<'a, L> {
 
     // Stops those of these trees that are left; they wait.
     fn halt_batch(&mut self, names: &[u32], now: i64) -> Result<(), NoMemory> {
-        self.clock.set(now);
+        self.clock.set(now, now);
         for name in names {
             if self.batches.is_left(*name) {
                 self.halt(*name)?;

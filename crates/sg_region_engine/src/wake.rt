@@ -35,7 +35,7 @@ impl<'a, L: Limit> Engine<'a, L> {
         match self.hubs.number_of(node) {
             None => self.clock.expect_arc(dart, time),
             Some(hub) => {
-                if time == NEVER || time >= self.clock.due(reverse(dart)) {
+                if time == NEVER || time >= self.clock.due(dart) {
                     return Ok(());
                 }
                 self.hubs.push(hub, Soon { time, dart })?;
@@ -63,7 +63,7 @@ impl<'a, L: Limit> Engine<'a, L> {
     // Enters the events of the arcs that leave a node, over which an outer region reaches so far, but
     // only notes those of arcs to hubs. Tells whether all lead to nodes of this region.
     fn wake_by(&mut self, node: u32, here: Reach) -> Result<bool, NoMemory> {
-        self.work.add(self.arcs.arcs_of(node).len());
+        self.work.add(self.arcs.exits_of(node).len());
         match self.hubs.number_of(node) {
             None => self.wake_arcs(node, here),
             Some(hub) => {
@@ -78,8 +78,9 @@ impl<'a, L: Limit> Engine<'a, L> {
     fn wake_arcs(&mut self, node: u32, here: Reach) -> Result<bool, NoMemory> {
         let arcs = self.arcs;
         let mut is_own = true;
-        for arc in arcs.arcs_of(node) {
-            let sight = self.sight(here, arc);
+        for exit in arcs.exits_of(node) {
+            let arc = arcs.arc_by(exit);
+            let sight = self.sight(here, &arc);
             is_own = is_own && sight.is_own;
             match self.hubs.number_of(arc.to) {
                 None => self.clock.expect_arc(arc.dart, sight.time)?,
@@ -98,6 +99,7 @@ impl<'a, L: Limit> Engine<'a, L> {
     }
 
     // Enters the events of the arcs that are noted.
+    #[inline(always)]
     fn enter_noted(&mut self) -> Result<(), NoMemory> {
         for _ in 0..self.hubs.len() {
             let Some(soon) = self.hubs.take_noted() else {
@@ -113,10 +115,11 @@ impl<'a, L: Limit> Engine<'a, L> {
         let arcs = self.arcs;
         let mut is_own = true;
         self.hubs.clear(hub);
-        for arc in arcs.arcs_of(node) {
-            let sight = self.sight(here, arc);
+        for exit in arcs.exits_of(node) {
+            let arc = arcs.arc_by(exit);
+            let sight = self.sight(here, &arc);
             is_own = is_own && sight.is_own;
-            if sight.time < self.clock.due(reverse(arc.dart)) {
+            if sight.time < self.clock.due(arc.dart) {
                 let soon = Soon {
                     time: sight.time,
                     dart: arc.dart,
@@ -139,14 +142,14 @@ impl<'a, L: Limit> Engine<'a, L> {
     // Enters the events of the arcs that lead to a node.
     pub(super) fn wake_around(&mut self, node: u32) -> Result<(), NoMemory> {
         let arcs = self.arcs;
-        self.work.add(arcs.arcs_of(node).len());
+        self.work.add(arcs.exits_of(node).len());
         if let Some(hub) = self.hubs.number_of(node) {
             self.hubs.clear(hub);
             return self.wake_around_hub(node);
         }
         let reach = self.reach_at(node);
-        for arc in arcs.arcs_of(node) {
-            if let Some(next) = self.coming(arc, reach) {
+        for exit in arcs.exits_of(node) {
+            if let Some(next) = self.coming(&arcs.arc_by(exit), reach) {
                 self.expect_at(next.node, next.dart, next.time)?;
             }
         }
@@ -159,8 +162,8 @@ impl<'a, L: Limit> Engine<'a, L> {
         let arcs = self.arcs;
         let reach = self.reach_at(node);
         let mut soonest: Option<Coming> = None;
-        for arc in arcs.arcs_of(node) {
-            let Some(next) = self.coming(arc, reach) else {
+        for exit in arcs.exits_of(node) {
+            let Some(next) = self.coming(&arcs.arc_by(exit), reach) else {
                 continue;
             };
             soonest = match soonest {

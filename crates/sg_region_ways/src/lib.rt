@@ -17,7 +17,7 @@ mod ways;
 pub use chains::{Chains, chains_of};
 pub use edge_marks::EdgeMarks;
 use std::alloc::AllocError;
-pub use ways::{Mates, Ways, join_of};
+pub use ways::{Joining, Mates, Ways, join_of};
 
 /// The allocator had no memory left.
 pub type NoMemory = AllocError;

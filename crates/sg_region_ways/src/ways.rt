@@ -11,7 +11,7 @@ use std::mem::swap;
 const HUB: usize = 128;
 
 fn is_hub(adjacency: &Adjacency, node: u32) -> bool {
-    adjacency.arcs_of(node).len() > HUB
+    adjacency.exits_of(node).len() > HUB
 }
 
 // The radii of a region and of all that it is a part of.
@@ -22,18 +22,15 @@ fn height_over(regions: &[i64], region: Option<u32>) -> i64 {
     }
 }
 
-// The radii of each region and of all that it is a part of.
-fn heights_of_regions(alloc: Global, nest: &Nest) -> Result<Vec<i64>, NoMemory> {
-    let mut heights = vec![in alloc; 0i64; nest.regions() as usize]?;
+// Lists the radii of each region and of all that it is a part of, in place of what the list had.
+fn list_heights(nest: &Nest, heights: &mut Vec<i64>) -> Result<(), NoMemory> {
+    heights.clear();
+    heights.resize(nest.regions() as usize, 0)?;
     for region in nest.order().iter().rev() {
-        let over = height_over(&heights, nest.parent(*region));
-        set_entry(
-            &mut heights,
-            *region,
-            over.wrapping_add(nest.radius(*region)),
-        );
+        let over = height_over(heights, nest.parent(*region));
+        set_entry(heights, *region, over.wrapping_add(nest.radius(*region)));
     }
-    Ok(heights)
+    Ok(())
 }
 
 /// Two nodes that are mates, and what both have in common: the radii of all regions over both.
@@ -199,7 +196,8 @@ impl Ways {
         length: i64,
     ) -> Result<Option<Meeting>, NoMemory> {
         let gone = self.near.height.wrapping_sub(self.height(node));
-        for arc in adjacency.arcs_of(node) {
+        for exit in adjacency.exits_of(node) {
+            let arc = adjacency.arc_by(exit);
             let there = gone.wrapping_add(arc.length);
             let height = self.height(arc.to);
             if self.far.has(arc.to) {
@@ -256,6 +254,10 @@ impl Ways {
         let length = first
             .wrapping_sub(mates.floor)
             .wrapping_add(second.wrapping_sub(mates.floor));
+        if let Some(edge) = edge_between(adjacency, mates, length) {
+            join.turn(edge);
+            return Ok(true);
+        }
         self.near
             .begin(mates.one, first, is_hub(adjacency, mates.one))?;
         self.far
@@ -270,18 +272,31 @@ impl Ways {
     }
 }
 
+// An edge between two mates, if one is as long as the shortest way between them. A hub is not searched for it.
+fn edge_between(adjacency: &Adjacency, mates: Mates, length: i64) -> Option<u32> {
+    if is_hub(adjacency, mates.one) {
+        return None;
+    }
+    for exit in adjacency.exits_of(mates.one) {
+        if exit.to == mates.other && adjacency.arc_by(exit).length == length {
+            return Some(exit.dart / 2);
+        }
+    }
+    None
+}
+
 // Gives each node of a nest its height.
 fn add_heights(nest: &Nest, regions: &[i64], ways: &mut Ways) -> Result<(), NoMemory> {
-    for node in 0..nest.nodes() {
-        let over = height_over(regions, nest.region_of(node));
-        ways.add_height(over.wrapping_sub(nest.taken_at(node)))?;
+    ways.clear_heights();
+    for taken in nest.taken() {
+        let over = height_over(regions, taken.region.number());
+        ways.add_height(over.wrapping_sub(taken.radius))?;
     }
     Ok(())
 }
 
 /// The edges that lie on an odd number of the ways between mates, rising, or nothing where a way is not
-/// found. A way is searched from both mates, through such nodes only whose height tells that they are
-/// on a shortest one. The only error is running out of memory.
+/// found. The only error is running out of memory.
 pub fn join_of(
     alloc: Global,
     adjacency: &Adjacency,
@@ -289,17 +304,48 @@ pub fn join_of(
     pairs: &[Pair],
     edges: usize,
 ) -> Result<Option<EdgeList>, NoMemory> {
-    let mut join = EdgeMarks::new(alloc, edges)?;
-    let regions = heights_of_regions(alloc, nest)?;
-    let mut ways = Ways::new(alloc, adjacency.nodes())?;
-    add_heights(nest, &regions, &mut ways)?;
-    for pair in pairs {
-        let Some(mates) = mates_of(nest, &regions, *pair) else {
-            return Ok(None);
-        };
-        if !ways.turn_way(adjacency, mates, &mut join)? {
-            return Ok(None);
-        }
+    Joining::new(alloc, adjacency.nodes(), edges)?.join_of(alloc, adjacency, nest, pairs)
+}
+
+/// What finds the edges between the mates of one nest after another on a graph: lists that are used again.
+#[derive(Drop)]
+pub struct Joining {
+    marks: EdgeMarks,
+    // The radii of each region and of all that it is a part of.
+    heights: Vec<i64>,
+    ways: Ways,
+}
+
+impl Joining {
+    /// For a graph of so many nodes and edges.
+    pub fn new(alloc: Global, nodes: usize, edges: usize) -> Result<Joining, NoMemory> {
+        Ok(Joining {
+            marks: EdgeMarks::new(alloc, edges)?,
+            heights: Vec::new(alloc),
+            ways: Ways::new(alloc, nodes)?,
+        })
     }
-    Ok(Some(join.listed(alloc)?))
+
+    /// The edges of [`join_of`], on this graph. A way is searched from both mates, through such nodes only whose
+    /// height tells that they are on a shortest one.
+    pub fn join_of(
+        &mut self,
+        alloc: Global,
+        adjacency: &Adjacency,
+        nest: &Nest,
+        pairs: &[Pair],
+    ) -> Result<Option<EdgeList>, NoMemory> {
+        self.marks.clear();
+        list_heights(nest, &mut self.heights)?;
+        add_heights(nest, &self.heights, &mut self.ways)?;
+        for pair in pairs {
+            let Some(mates) = mates_of(nest, &self.heights, *pair) else {
+                return Ok(None);
+            };
+            if !self.ways.turn_way(adjacency, mates, &mut self.marks)? {
+                return Ok(None);
+            }
+        }
+        Ok(Some(self.marks.listed(alloc)?))
+    }
 }
