@@ -5,7 +5,7 @@ ghost use Rattle.sg_forest.specs.Counts.{KeepsTo, event_limit, growth_limit};
 use super::layout::Layout;
 use super::{Grown, NoMemory};
 use sg_forest::{Allowance, Limit};
-use sg_growth::{Adjacency, Clock, Nest, Pair, first_dart};
+use sg_growth::{Adjacency, Nest, Pair, first_dart};
 use sg_region_engine::{Engine, Lists, Method};
 use sg_slots::number;
 use std::alloc::Global;
@@ -161,16 +161,7 @@ fn run<L: Limit>(
     ensures events { IfOk result (λ g. g.growth.events ≤ L.events) }
 {
     let lists = layout.take_lists(alloc, terminals.len())?;
-    let keeps = layout.keeps();
-    let ran = run_over::<L>(
-        alloc,
-        &layout.arcs,
-        lists,
-        keeps,
-        terminals,
-        method,
-        allowed,
-    )?;
+    let ran = run_over::<L>(alloc, layout, lists, terminals, method, allowed)?;
     layout.keep(ran.lists);
     Ok(ran.grown)
 }
@@ -185,9 +176,8 @@ struct Ran {
 // The same over these lists.
 fn run_over<L: Limit>(
     alloc: Global,
-    arcs: &Adjacency,
+    layout: &Layout,
     lists: Lists,
-    keeps: bool,
     terminals: &[u32],
     method: Method,
     allowed: Allowance,
@@ -198,7 +188,10 @@ fn run_over<L: Limit>(
     ensures events { IfOk result (λ r. r.grown.growth.events ≤ L.events) }
 {
     let has_hub = lists.has_hub();
+    let keeps = layout.keeps();
+    let arcs = &layout.arcs;
     let mut engine = Engine::<L>::over(alloc, lists, arcs, terminals, method, allowed)?;
+    engine.head_start = layout.head_start(method);
     let found = run_to_end(&mut engine, keeps)?;
     let growth = engine.growth();
     let lists = lists_of(engine, has_hub, keeps && found.is_some());
@@ -216,17 +209,16 @@ fn lists_of<'a, L: Limit>(engine: Engine<'a, L>, has_hub: bool, keeps: bool) -> 
     Some(Lists::of(engine, has_hub))
 }
 
-// What has grown at the end of a run, if it comes to its end. Waiting events are dropped before the nest is
-// made, unless lists are kept: all regions are free then, so the time no longer matters.
+// What has grown at the end of a run, if it comes to its end. Waiting events and trees are dropped before the nest
+// is made, unless lists are kept: all regions are free then, so the time no longer matters.
 fn run_to_end<L: Limit>(engine: &mut Engine<L>, keeps: bool) -> Result<Option<Finished>, NoMemory> {
     if !engine.run()? {
         return Ok(None);
     }
+    let pairs = engine.pairs()?;
     if !keeps {
-        engine.clock = Clock::new(engine.alloc, 0, 0)?;
+        engine.end()?;
     }
-    Ok(Some(Finished {
-        nest: engine.nest()?,
-        pairs: engine.pairs()?,
-    }))
+    let nest = engine.nest()?;
+    Ok(Some(Finished { nest, pairs }))
 }

@@ -1,9 +1,10 @@
 // What growing regions need of a graph alone.
 use super::NoMemory;
 use super::proposal::arcs_of;
-use sg_graph::Web;
-use sg_growth::{Adjacency, first_dart};
-use sg_region_engine::Lists;
+use sg_graph::{EdgeList, Web};
+use sg_growth::{Adjacency, Nest, Pair, first_dart};
+use sg_region_engine::{Lists, Method};
+use sg_region_ways::Joining;
 use sg_slots::number;
 use std::alloc::Global;
 
@@ -13,13 +14,28 @@ const EVEN: i64 = 8;
 // Lengths are fine from this mean on.
 const FINE: i64 = 8;
 
-// The arcs of a graph, how long they are, and the lists of the last run, if they are kept for the next one.
-#[derive(Drop)]
+// Many arcs are the shortest where at least this part of all are.
+const MANY: u32 = 8;
+
+// The arcs of a graph, how long they are, and the lists of the last proposal, if they are kept for the next one.
 pub struct Layout {
     pub arcs: Adjacency,
     pub lengths: Lengths,
     keeps: bool,
     lists: Option<Lists>,
+    joining: Option<Joining>,
+}
+
+impl Drop for Layout {
+    fn drop(self) {
+        let Layout {
+            arcs: _arcs,
+            lengths: _,
+            keeps: _,
+            lists: _lists,
+            joining: _joining,
+        } = self;
+    }
 }
 
 impl Layout {
@@ -30,6 +46,7 @@ impl Layout {
             arcs,
             keeps: false,
             lists: None,
+            joining: None,
         }
     }
 
@@ -38,6 +55,14 @@ impl Layout {
         let mut layout = Layout::once(arcs_of(alloc, web, 2)?);
         layout.keeps = true;
         Ok(layout)
+    }
+
+    // How far all terminals may grow at once. The method that is the reserve shares with the others as little as it can.
+    pub fn head_start(&self, method: Method) -> i64 {
+        match method {
+            Method::InClosedHalves => 0,
+            Method::InSlices | Method::AtOnce | Method::InHalves => self.lengths.head_start(),
+        }
     }
 
     // Whether lists are kept.
@@ -57,13 +82,34 @@ impl Layout {
     pub fn keep(&mut self, lists: Option<Lists>) {
         self.lists = lists;
     }
+
+    // The edges between the mates of finished regions, if all ways are found.
+    pub fn join_of(
+        &mut self,
+        alloc: Global,
+        nest: &Nest,
+        pairs: &[Pair],
+    ) -> Result<Option<EdgeList>, NoMemory> {
+        let mut joining = match self.joining.take() {
+            Some(joining) => joining,
+            None => Joining::new(alloc, self.arcs.nodes(), self.arcs.darts() / 2)?,
+        };
+        let edges = joining.join_of(alloc, &self.arcs, nest, pairs)?;
+        if self.keeps {
+            self.joining = Some(joining);
+        }
+        Ok(edges)
+    }
 }
 
-// How long edges are: on average, and at most.
+// How long edges are: on average, at most and at least, and how many are the shortest.
 #[derive(Clone, Copy)]
 pub struct Lengths {
+    edges: u32,
     mean: i64,
     longest: i64,
+    shortest: i64,
+    shortest_count: u32,
 }
 
 impl Lengths {
@@ -71,14 +117,35 @@ impl Lengths {
     fn of(arcs: &Adjacency) -> Lengths {
         let mut sum = 0i64;
         let mut longest = 0i64;
+        let mut shortest = i64::MAX;
+        let mut shortest_count = 0u32;
         let edges = number(arcs.darts() / 2);
         for edge in 0..edges {
             let length = arcs.arc(first_dart(edge)).length;
             sum = sum.wrapping_add(length);
             longest = longest.max(length);
+            if length < shortest {
+                shortest = length;
+                shortest_count = 0;
+            }
+            shortest_count = shortest_count.wrapping_add(u32::from(length == shortest));
         }
         let mean = if edges > 0 { sum / i64::from(edges) } else { 0 };
-        Lengths { mean, longest }
+        Lengths {
+            edges,
+            mean,
+            longest,
+            shortest,
+            shortest_count,
+        }
+    }
+
+    // How far all terminals may grow at once, where many of them meet then: half of the shortest edge.
+    pub fn head_start(self) -> i64 {
+        if self.shortest_count < self.edges / MANY {
+            return 0;
+        }
+        self.shortest / 2
     }
 
     // Whether edges are of very different lengths.

@@ -9,9 +9,8 @@ use super::layout::Layout;
 use super::proposal::{accounts, arcs_of, places, reversed, reversed_arcs};
 use super::{Grown, Growth, NoMemory};
 use sg_graph::{EdgeList, Terminals, Web};
-use sg_growth::{Adjacency, Nest};
+use sg_growth::{Nest, Taken};
 use sg_nest::{Place, Places, Region, Regions};
-use sg_region_ways::join_of;
 use sg_slots::{entry, number, set_entry};
 use std::alloc::Global;
 
@@ -57,7 +56,7 @@ pub fn propose_over(
         (λ p. GrowthAccounts (length terminals.now) (length p.nest.regions) g.growth)) }
 {
     let grown = grow_without_cuts(alloc, layout, terminals.as_slice(), places(web))?;
-    let found = nest_proposal(alloc, &layout.arcs, grown.found, web.edges().len())?;
+    let found = nest_proposal(alloc, layout, grown.found)?;
     Ok(Grown {
         found: counted(found, grown.growth, terminals.len()),
         growth: grown.growth,
@@ -80,7 +79,7 @@ pub fn propose_nest_again(
     let mut layout = Layout::once(reversed_arcs(alloc, web)?);
     let seeds = reversed(alloc, terminals.as_slice())?;
     let grown = grow_again(alloc, &mut layout, &seeds, places(web))?;
-    let found = nest_proposal(alloc, &layout.arcs, grown.found, web.edges().len())?;
+    let found = nest_proposal(alloc, &mut layout, grown.found)?;
     Ok(Grown {
         found: counted(found, grown.growth, terminals.len()),
         growth: grown.growth,
@@ -112,17 +111,16 @@ fn counted(found: Option<NestProposal>, growth: Growth, terminals: usize) -> Opt
     Some(proposal)
 }
 
-// What finished regions over so many edges propose.
+// What finished regions propose.
 fn nest_proposal(
     alloc: Global,
-    arcs: &Adjacency,
+    layout: &mut Layout,
     finished: Option<Finished>,
-    edges: usize,
 ) -> Result<Option<NestProposal>, NoMemory> {
     let Some(Finished { nest, pairs }) = finished else {
         return Ok(None);
     };
-    let Some(edges) = join_of(alloc, arcs, &nest, pairs.as_slice(), edges)? else {
+    let Some(edges) = layout.join_of(alloc, &nest, pairs.as_slice())? else {
         return Ok(None);
     };
     let nest = handed(alloc, &nest)?;
@@ -172,15 +170,15 @@ fn regions_of(alloc: Global, nest: &Nest, names: &[u32]) -> Result<Regions, NoMe
 // Which region took each node, and at which radius.
 fn places_of(alloc: Global, nest: &Nest, names: &[u32]) -> Result<Places, NoMemory> {
     let mut places = Vec::with_capacity(alloc, nest.nodes() as usize)?;
-    for node in 0..nest.nodes() {
-        places.push(place_of(nest, names, node))?;
+    for taken in nest.taken() {
+        places.push(place_of(names, taken))?;
     }
     Ok(Places::from_vec(places))
 }
 
 // Which region took a node, and at which radius.
-fn place_of(nest: &Nest, names: &[u32], node: u32) -> Option<Place> {
-    let region = name_in(names, nest.region_of(node))?;
-    let at = doubled(nest.taken_at(node));
+fn place_of(names: &[u32], taken: &Taken) -> Option<Place> {
+    let region = name_in(names, taken.region.number())?;
+    let at = doubled(taken.radius);
     Some(Place { region, at })
 }

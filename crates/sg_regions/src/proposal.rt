@@ -7,7 +7,7 @@ use super::grow::{Finished, grow, grow_again};
 use super::layout::Layout;
 use super::{Grown, Growth, NoMemory};
 use sg_graph::{Terminals, Web};
-use sg_growth::Adjacency;
+use sg_growth::{Adjacency, Edge};
 use sg_join_check::Proposal;
 use sg_region_ways::{chains_of, join_of};
 use std::alloc::Global;
@@ -89,12 +89,13 @@ fn proposal(
     finished: Option<Finished>,
     count: usize,
 ) -> Result<Option<Proposal>, NoMemory> {
-    let Some(Finished { nest, pairs }) = finished else {
+    let Some(Finished { mut nest, pairs }) = finished else {
         return Ok(None);
     };
     let Some(edges) = join_of(alloc, arcs, &nest, pairs.as_slice(), count)? else {
         return Ok(None);
     };
+    nest.weigh(alloc)?;
     let chains = chains_of(alloc, arcs, &nest, count)?;
     Ok(Some(Proposal {
         edges,
@@ -124,12 +125,13 @@ pub fn reversed_arcs(alloc: Global, web: &Web) -> Result<Adjacency, NoMemory> {
 /// none. The only error is running out of memory.
 pub fn arcs_of(alloc: Global, web: &Web, times: i64) -> Result<Adjacency, NoMemory> {
     let edges = web.edges().as_slice();
-    let mut sides = Vec::with_capacity(alloc, edges.len().saturating_mul(2))?;
-    let mut lengths = Vec::with_capacity(alloc, edges.len())?;
+    let mut list = Vec::with_capacity(alloc, edges.len())?;
     for edge in edges {
-        sides.push(edge.a)?;
-        sides.push(edge.b)?;
-        lengths.push(edge.w.wrapping_mul(times))?;
+        list.push(Edge {
+            first: edge.a,
+            second: edge.b,
+            length: edge.w.wrapping_mul(times),
+        })?;
     }
-    Adjacency::new(alloc, web.nodes(), sides, lengths)
+    Adjacency::new(alloc, web.nodes(), list)
 }

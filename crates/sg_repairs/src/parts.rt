@@ -54,6 +54,7 @@ impl Parts {
             work: Work::new(0),
             is_first: false,
             is_open: false,
+            head_start: 0,
             is_sliced: false,
             batches: Batches::new(alloc),
             rests: 0,
