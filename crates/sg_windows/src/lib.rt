@@ -1,17 +1,22 @@
 //! Ground states near a ground state, proposed by regions that grow in windows.
 //!
-//! Bonds are weakened a little in the direction that a ground state satisfies, and a new ground state is found:
-//! the bonds that it turns at no cost are free. If some are found, the same is done for the spins around them
-//! alone, with all others held. Bonds that the nest of the first ground state shows to be rigid, and those whose
-//! ends such bonds join, are left out.
+//! Bonds that the nest of the first ground state shows to be rigid, and those whose ends such bonds join, are left
+//! out: other ground states flip the blocks of spins that they join as a whole. Blocks are flipped at random where
+//! that costs nothing, rather so that bonds turn of which nothing is known yet. Where this finds no more, all such
+//! bonds are weakened a little in the direction that the state satisfies, and a new ground state is found; and then
+//! the same for the spins around the bonds that turned alone, with all others held.
 //!
 //! For the next engineer: no clause speaks of a proposal. Callers compare its energy with the least. Each function
 //! only has to be safe and to return: entries beyond the end of a list are ignored, each loop has a bound known at
-//! its entry, and sums wrap. `sheet` has the instance as plain lists, `room` the bonds that are left
-//! out, `window` the ground state of a window, `spots` which windows are asked, and `explorer` all together.
+//! its entry, and sums wrap. `sheet` has the instance as plain lists, `room` the bonds that are left out, `chains`
+//! joins edges in series, `reduced` has the dual of what is left, `blocks` the flips at random, `window` the ground
+//! state of a window, `spots` which windows are asked, and `explorer` all together.
 #![tactic(auto)]
 
+mod blocks;
+mod chains;
 mod explorer;
+mod reduced;
 mod room;
 mod sheet;
 mod spots;

@@ -87,14 +87,15 @@ fn place_at(places: &[Option<Place>], node: u32) -> Option<Place> {
     entry(places, node)?
 }
 
-/// For each bond whether its ends are joined by bonds that nothing breaks and at which the nest leaves room.
-pub fn rigid_by_room(
+/// For each spin the least spin of those that it is joined to by bonds that nothing breaks and at which the nest leaves
+/// room.
+pub fn names_by_room(
     alloc: Global,
     inst: &Instance,
     sheet: &Sheet,
     broken: &[bool],
     nest: &Nest,
-) -> Result<Vec<bool>, NoMemory> {
+) -> Result<Vec<u32>, NoMemory> {
     let regions = nest.regions.as_slice();
     let places = nest.places.as_slice();
     let heights = heights_of(alloc, regions)?;
@@ -109,24 +110,18 @@ pub fn rigid_by_room(
         let is_broken = entry(broken, bond).unwrap_or(true);
         set.push(!is_broken && load < size.wrapping_mul(4))?;
     }
-    joined(alloc, inst, sheet, &set)
+    if set.len() != inst.bonds().len() {
+        return Ok(Vec::new(alloc));
+    }
+    names(alloc, inst, &set)
 }
 
-// For each bond whether the bonds of a set join its ends.
-fn joined(
-    alloc: Global,
-    inst: &Instance,
-    sheet: &Sheet,
-    set: &[bool],
-) -> Result<Vec<bool>, NoMemory> {
-    let mut joined = Vec::new(alloc);
-    if set.len() != inst.bonds().len() {
-        return Ok(joined);
-    }
-    let names = names(alloc, inst, set)?;
+/// For each bond whether its ends have the same name.
+pub fn joined(alloc: Global, sheet: &Sheet, names: &[u32]) -> Result<Vec<bool>, NoMemory> {
+    let mut joined = Vec::with_capacity(alloc, sheet.bonds())?;
     for bond in 0..number(sheet.bonds()) {
-        let one = entry(&names, sheet.end(first_dart(bond)));
-        let other = entry(&names, sheet.end(second_dart(bond)));
+        let one = entry(names, sheet.end(first_dart(bond)));
+        let other = entry(names, sheet.end(second_dart(bond)));
         joined.push(one == other)?;
     }
     Ok(joined)

@@ -1,55 +1,50 @@
 // The ground state of a window in which the open bonds are weakened.
 use super::NoMemory;
-use super::sheet::{Sheet, first_dart, second_dart};
+use super::chains::Chains;
+use super::reduced::{Reduced, Turning};
+use super::sheet::{first_dart, second_dart};
 use sg_forest::{Allowance, Unlimited};
 use sg_graph::EdgeList;
-use sg_growth::Adjacency;
+use sg_growth::{Adjacency, Edge};
 use sg_region_engine::{Engine, Method};
 use sg_region_ways::join_of;
 use sg_slots::{Slot, entry, number, set_entry};
 use std::alloc::Global;
 
-/// A state, by the bonds that it breaks; and the bonds of which nothing is known.
+// Numbers for the nodes of a window.
 #[derive(Drop)]
-pub struct Marks {
-    pub broken: Vec<bool>,
-    pub open: Vec<bool>,
-}
-
-// Numbers for the faces of a window.
-#[derive(Drop)]
-pub struct FaceNames {
+pub struct NodeNames {
     names: Vec<Slot>,
-    faces: Vec<u32>,
+    nodes: Vec<u32>,
 }
 
-impl FaceNames {
-    /// No face has a number.
-    pub fn new(alloc: Global, faces: usize) -> Result<FaceNames, NoMemory> {
-        Ok(FaceNames {
-            names: vec![in alloc; Slot::none(); faces]?,
-            faces: Vec::new(alloc),
+impl NodeNames {
+    /// No node has a number.
+    pub fn new(alloc: Global, nodes: usize) -> Result<NodeNames, NoMemory> {
+        Ok(NodeNames {
+            names: vec![in alloc; Slot::none(); nodes]?,
+            nodes: Vec::new(alloc),
         })
     }
 
-    // The number of a face, a new one if it has none.
-    fn of(&mut self, face: u32) -> Result<u32, NoMemory> {
-        let known = entry(&self.names, face).unwrap_or(Slot::none());
+    // The number of a node, a new one if it has none.
+    fn of(&mut self, node: u32) -> Result<u32, NoMemory> {
+        let known = entry(&self.names, node).unwrap_or(Slot::none());
         if let Some(name) = known.number() {
             return Ok(name);
         }
-        let name = number(self.faces.len());
-        set_entry(&mut self.names, face, Slot::of(name));
-        self.faces.push(face)?;
+        let name = number(self.nodes.len());
+        set_entry(&mut self.names, node, Slot::of(name));
+        self.nodes.push(node)?;
         Ok(name)
     }
 
     // Takes all numbers back.
     fn clear(&mut self) {
-        for face in &self.faces {
-            set_entry(&mut self.names, *face, Slot::none());
+        for node in &self.nodes {
+            set_entry(&mut self.names, *node, Slot::none());
         }
-        self.faces.clear();
+        self.nodes.clear();
     }
 }
 
@@ -60,47 +55,153 @@ struct Weight {
     has: bool,
 }
 
-// An edge that is weakened below 0 counts as one that the state has, and weighs the amount below 0.
-fn weakened(size: i64, is_broken: bool, is_open: bool) -> Weight {
-    let amount = i64::from(is_open);
-    if is_broken {
-        return Weight {
-            weight: size.wrapping_add(amount),
-            has: true,
-        };
-    }
-    let left = size.wrapping_sub(amount);
+// An edge that costs less than nothing counts as one that the state has, and weighs as much as it gives.
+fn weakened(turning: Turning, scale: i64) -> Weight {
+    let amount = i64::from(turning.open);
+    let cost = turning.cost.wrapping_mul(scale).wrapping_sub(amount);
     Weight {
-        weight: left.wrapping_abs(),
-        has: left < 0,
+        weight: cost.wrapping_abs(),
+        has: cost < 0,
     }
 }
 
-// The dual of a window.
+/// A part of the dual.
 #[derive(Drop)]
-struct LocalWeb {
-    nodes: u32,
-    sides: Vec<u32>,
-    lengths: Vec<i64>,
-    // For each edge whether the state has it, and the nodes that it meets oddly.
-    has: Vec<bool>,
-    terminals: Vec<u32>,
+pub struct Window {
+    // Chains of the whole, and what is in series among them.
+    list: Vec<u32>,
+    chains: Chains,
 }
 
-// The size of a coupling, times the scale.
-fn size_of(sheet: &Sheet, scale: i64, bond: u32) -> i64 {
-    sheet.coupling(bond).wrapping_abs().wrapping_mul(scale)
-}
+impl Window {
+    /// The window of these chains of the whole.
+    pub fn new(
+        alloc: Global,
+        whole: &Reduced,
+        names: &mut NodeNames,
+        list: &[u32],
+    ) -> Result<Window, NoMemory> {
+        let mut sides = Vec::with_capacity(alloc, list.len().saturating_mul(2))?;
+        for chain in list {
+            sides.push(names.of(whole.side(first_dart(*chain)))?)?;
+            sides.push(names.of(whole.side(second_dart(*chain)))?)?;
+        }
+        let nodes = names.nodes.len();
+        names.clear();
+        Ok(Window {
+            list: Vec::from_slice(alloc, list)?,
+            chains: Chains::new(alloc, nodes, &sides)?,
+        })
+    }
 
-// The nodes that are marked.
-fn marked(alloc: Global, marks: &[bool]) -> Result<Vec<u32>, NoMemory> {
-    let mut list = Vec::new(alloc);
-    for (node, mark) in marks.iter().enumerate() {
-        if *mark {
-            list.push(number(node))?;
+    // What it costs to turn an edge of the window.
+    fn turning(&self, whole: &Reduced, edge: u32) -> Turning {
+        let mut all = Turning::none();
+        for place in self.chains.at(edge) {
+            let chain = entry(&self.list, *place).unwrap_or(0);
+            all = all.and(whole.turning(chain));
+        }
+        all
+    }
+
+    /// The chains that turn if the open bonds are weakened: none if that costs something, or if no open bond turns.
+    pub fn turned(&self, alloc: Global, whole: &Reduced, scale: i64) -> Result<Vec<u32>, NoMemory> {
+        let mut turnings = Vec::with_capacity(alloc, self.chains.len())?;
+        for edge in 0..number(self.chains.len()) {
+            turnings.push(self.turning(whole, edge))?;
+        }
+        let Some(turns) = self.turns(alloc, &turnings, scale)? else {
+            return Ok(Vec::new(alloc));
+        };
+        if !is_free(&turnings, &turns) {
+            return Ok(Vec::new(alloc));
+        }
+        self.chosen(alloc, &turns)
+    }
+
+    // For each edge whether it turns.
+    fn turns(
+        &self,
+        alloc: Global,
+        turnings: &[Turning],
+        scale: i64,
+    ) -> Result<Option<Vec<bool>>, NoMemory> {
+        let mut edges = Vec::with_capacity(alloc, turnings.len())?;
+        let mut turns = Vec::with_capacity(alloc, turnings.len())?;
+        for (place, turning) in turnings.iter().enumerate() {
+            let edge = weakened(*turning, scale);
+            edges.push(self.edge(number(place), edge.weight))?;
+            turns.push(edge.has)?;
+        }
+        let terminals = odd_nodes(
+            alloc,
+            self.chains.nodes as usize,
+            &self.chains.sides,
+            &turns,
+        )?;
+        let Some(join) = self.grown(alloc, edges, &terminals)? else {
+            return Ok(None);
+        };
+        for edge in join.as_slice() {
+            turn(&mut turns, *edge);
+        }
+        Ok(Some(turns))
+    }
+
+    // An edge of this weight, twice as long.
+    fn edge(&self, place: u32, weight: i64) -> Edge {
+        let sides = &self.chains.sides;
+        Edge {
+            first: entry(sides, first_dart(place)).unwrap_or(0),
+            second: entry(sides, second_dart(place)).unwrap_or(0),
+            length: weight.wrapping_mul(2),
         }
     }
-    Ok(list)
+
+    // A minimum T-join that is proposed over these edges.
+    fn grown(
+        &self,
+        alloc: Global,
+        edges: Vec<Edge>,
+        terminals: &[u32],
+    ) -> Result<Option<EdgeList>, NoMemory> {
+        let nodes = self.chains.nodes;
+        let arcs = Adjacency::new(alloc, nodes, edges)?;
+        let places = u64::from(nodes).saturating_add(arcs.darts() as u64);
+        let allowed = Allowance::brief(terminals.len(), places);
+        let mut engine = Engine::<Unlimited>::new(
+            alloc,
+            &arcs,
+            terminals,
+            Method::AtOnce,
+            allowed,
+        )?;
+        if !engine.run()? {
+            return Ok(None);
+        }
+        let nest = engine.nest()?;
+        let pairs = engine.pairs()?;
+        join_of(alloc, &arcs, &nest, &pairs, arcs.edges())
+    }
+
+    // The chains of the whole in the edges that are marked.
+    fn chosen(&self, alloc: Global, marks: &[bool]) -> Result<Vec<u32>, NoMemory> {
+        let mut list = Vec::new(alloc);
+        for (edge, mark) in marks.iter().enumerate() {
+            if *mark {
+                self.add_chains(number(edge), &mut list)?;
+            }
+        }
+        Ok(list)
+    }
+
+    // Adds the chains of the whole in an edge.
+    fn add_chains(&self, edge: u32, list: &mut Vec<u32>) -> Result<(), NoMemory> {
+        for place in self.chains.at(edge) {
+            list.push(entry(&self.list, *place).unwrap_or(0))?;
+        }
+        Ok(())
+    }
 }
 
 // Toggles a mark.
@@ -127,120 +228,24 @@ fn odd_nodes(
     marked(alloc, &marks)
 }
 
-// The dual of the bonds of a window.
-fn local_web(
-    alloc: Global,
-    sheet: &Sheet,
-    scale: i64,
-    marks: &Marks,
-    names: &mut FaceNames,
-    bonds: &[u32],
-) -> Result<LocalWeb, NoMemory> {
-    let mut sides = Vec::new(alloc);
-    let mut lengths = Vec::new(alloc);
-    let mut has = Vec::new(alloc);
-    for bond in bonds {
-        sides.push(names.of(sheet.side(first_dart(*bond)))?)?;
-        sides.push(names.of(sheet.side(second_dart(*bond)))?)?;
-        let is_broken = entry(&marks.broken, *bond).unwrap_or(false);
-        let is_open = entry(&marks.open, *bond).unwrap_or(false);
-        let edge = weakened(size_of(sheet, scale, *bond), is_broken, is_open);
-        lengths.push(edge.weight.wrapping_mul(2))?;
-        has.push(edge.has)?;
-    }
-    let nodes = names.faces.len();
-    names.clear();
-    let terminals = odd_nodes(alloc, nodes, &sides, &has)?;
-    Ok(LocalWeb {
-        nodes: number(nodes),
-        sides,
-        lengths,
-        has,
-        terminals,
-    })
-}
-
-// A minimum T-join that is proposed in a window.
-fn propose(alloc: Global, web: LocalWeb) -> Result<Option<(EdgeList, Vec<bool>)>, NoMemory> {
-    let LocalWeb {
-        nodes,
-        sides,
-        lengths,
-        has,
-        terminals,
-    } = web;
-    let edges = lengths.len();
-    let arcs = Adjacency::new(alloc, nodes, sides, lengths)?;
-    let places = u64::from(nodes).saturating_add(arcs.darts() as u64);
-    let allowed = Allowance::brief(terminals.len(), places);
-    let Some(join) = grown(alloc, &arcs, &terminals, allowed, edges)? else {
-        return Ok(None);
-    };
-    Ok(Some((join, has)))
-}
-
-// The T-join of regions that have grown.
-fn grown(
-    alloc: Global,
-    arcs: &Adjacency,
-    terminals: &[u32],
-    allowed: Allowance,
-    edges: usize,
-) -> Result<Option<EdgeList>, NoMemory> {
-    let mut engine = Engine::<Unlimited>::new(alloc, arcs, terminals, Method::AtOnce, allowed)?;
-    if !engine.run()? {
-        return Ok(None);
-    }
-    let nest = engine.nest()?;
-    let pairs = engine.pairs()?;
-    join_of(alloc, arcs, &nest, &pairs, edges)
-}
-
-/// The bonds of a window that turn if the open ones are weakened: none if that costs something, or if no open
-/// bond turns.
-pub fn turned_in(
-    alloc: Global,
-    sheet: &Sheet,
-    scale: i64,
-    marks: &Marks,
-    names: &mut FaceNames,
-    bonds: &[u32],
-) -> Result<Vec<u32>, NoMemory> {
-    let web = local_web(alloc, sheet, scale, marks, names, bonds)?;
-    let Some((join, mut turns)) = propose(alloc, web)? else {
-        return Ok(Vec::new(alloc));
-    };
-    for edge in join.as_slice() {
-        turn(&mut turns, *edge);
-    }
-    let turned = chosen(alloc, bonds, &turns)?;
-    if is_free(sheet, marks, &turned) {
-        Ok(turned)
-    } else {
-        Ok(Vec::new(alloc))
-    }
-}
-
-// The bonds that are marked by their places.
-fn chosen(alloc: Global, bonds: &[u32], marks: &[bool]) -> Result<Vec<u32>, NoMemory> {
+// The nodes that are marked.
+fn marked(alloc: Global, marks: &[bool]) -> Result<Vec<u32>, NoMemory> {
     let mut list = Vec::new(alloc);
-    for (place, bond) in bonds.iter().enumerate() {
-        if entry(marks, number(place)).unwrap_or(false) {
-            list.push(*bond)?;
+    for (node, mark) in marks.iter().enumerate() {
+        if *mark {
+            list.push(number(node))?;
         }
     }
     Ok(list)
 }
 
-// Whether it costs nothing to turn these bonds, of which one is open.
-fn is_free(sheet: &Sheet, marks: &Marks, turned: &[u32]) -> bool {
-    let mut cost = 0i64;
-    let mut has_open = false;
-    for bond in turned {
-        let size = sheet.coupling(*bond).wrapping_abs();
-        let is_broken = entry(&marks.broken, *bond).unwrap_or(false);
-        cost = cost.wrapping_add(if is_broken { size.wrapping_neg() } else { size });
-        has_open = has_open || entry(&marks.open, *bond).unwrap_or(false);
+// Whether it costs nothing to turn the edges that are marked, and a bond of them is open.
+fn is_free(turnings: &[Turning], marks: &[bool]) -> bool {
+    let mut all = Turning::none();
+    for (edge, turning) in turnings.iter().enumerate() {
+        if entry(marks, number(edge)).unwrap_or(false) {
+            all = all.and(*turning);
+        }
     }
-    cost == 0 && has_open
+    all.cost == 0 && all.open > 0
 }

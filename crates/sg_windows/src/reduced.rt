@@ -1,0 +1,257 @@
+// The dual without the bonds that are left out, and a ground state on it.
+use super::NoMemory;
+use super::chains::Chains;
+use super::sheet::{Sheet, first_dart, second_dart};
+use sg_slots::{Slot, entry, number, set_entry};
+use std::alloc::Global;
+
+/// What it costs to turn bonds in units of the couplings, and of how many of them nothing is known.
+#[derive(Clone, Copy)]
+pub struct Turning {
+    pub cost: i64,
+    pub open: u32,
+}
+
+impl Turning {
+    /// No bonds.
+    pub fn none() -> Turning {
+        Turning { cost: 0, open: 0 }
+    }
+
+    /// The bonds of both.
+    pub fn and(self, other: Turning) -> Turning {
+        Turning {
+            cost: self.cost.wrapping_add(other.cost),
+            open: self.open.saturating_add(other.open),
+        }
+    }
+}
+
+/// The dual in which each chain of bonds is one edge: another ground state turns all bonds of a chain, or none.
+#[derive(Drop)]
+pub struct Reduced {
+    // The chains of the bonds that are not left out, by their places in a list; and for each bond its chain.
+    chains: Chains,
+    bonds: Vec<u32>,
+    chain_of: Vec<Slot>,
+    // For each chain what it costs to turn it from how it was at first, of how many bonds nothing is known, and
+    // whether it is turned, for the first time since the proposal was begun.
+    costs: Vec<i64>,
+    open: Vec<u32>,
+    is_turned: Vec<bool>,
+    is_new: Vec<bool>,
+    // Sets of chains that were found and not taken, and the place behind each.
+    kept: Vec<u32>,
+    kept_ends: Vec<u32>,
+}
+
+impl Reduced {
+    /// The dual at a ground state that breaks these bonds, with some left out.
+    pub fn new(
+        alloc: Global,
+        sheet: &Sheet,
+        broken: &[bool],
+        is_out: &[bool],
+    ) -> Result<Reduced, NoMemory> {
+        let bonds = bonds_left(alloc, is_out)?;
+        let sides = sides_of(alloc, sheet, &bonds)?;
+        let chains = Chains::new(alloc, sheet.faces(), &sides)?;
+        let mut reduced = Reduced {
+            chain_of: vec![in alloc; Slot::none(); sheet.bonds()]?,
+            costs: Vec::with_capacity(alloc, chains.len())?,
+            open: Vec::with_capacity(alloc, chains.len())?,
+            is_turned: vec![in alloc; false; chains.len()]?,
+            is_new: vec![in alloc; false; chains.len()]?,
+            kept: Vec::new(alloc),
+            kept_ends: Vec::new(alloc),
+            chains,
+            bonds,
+        };
+        for chain in 0..number(reduced.chains.len()) {
+            reduced.add_chain(sheet, broken, chain)?;
+        }
+        Ok(reduced)
+    }
+
+    // Adds what it costs to turn a chain.
+    fn add_chain(&mut self, sheet: &Sheet, broken: &[bool], chain: u32) -> Result<(), NoMemory> {
+        let mut first = Turning::none();
+        for place in self.chains.at(chain) {
+            let bond = entry(&self.bonds, *place).unwrap_or(0);
+            set_entry(&mut self.chain_of, bond, Slot::of(chain));
+            let is_broken = entry(broken, bond).unwrap_or(false);
+            first = first.and(turning_of(sheet.coupling(bond), is_broken));
+        }
+        self.costs.push(first.cost)?;
+        self.open.push(first.open)?;
+        Ok(())
+    }
+
+    /// The number of chains.
+    pub fn len(&self) -> usize {
+        self.costs.len()
+    }
+
+    /// The number of nodes at ends of chains.
+    pub fn nodes(&self) -> usize {
+        self.chains.nodes as usize
+    }
+
+    /// The node on the side of a dart of a chain.
+    pub fn side(&self, dart: u32) -> u32 {
+        entry(&self.chains.sides, dart).unwrap_or(0)
+    }
+
+    /// The chain of a bond, if it is in one.
+    pub fn chain_of(&self, bond: u32) -> Option<u32> {
+        entry(&self.chain_of, bond)?.number()
+    }
+
+    /// A bond of a chain.
+    pub fn bond_of(&self, chain: u32) -> u32 {
+        match self.chains.at(chain).first() {
+            Some(place) => entry(&self.bonds, *place).unwrap_or(0),
+            None => 0,
+        }
+    }
+
+    /// What it costs to turn a chain from how it was at first.
+    pub fn first_cost(&self, chain: u32) -> i64 {
+        entry(&self.costs, chain).unwrap_or(0)
+    }
+
+    // Of how many bonds of a chain nothing is known.
+    fn open(&self, chain: u32) -> u32 {
+        entry(&self.open, chain).unwrap_or(0)
+    }
+
+    /// Whether nothing is known of some bond of a chain.
+    pub fn is_open(&self, chain: u32) -> bool {
+        self.open(chain) > 0
+    }
+
+    /// Whether a chain is turned from how it was at first.
+    pub fn is_turned(&self, chain: u32) -> bool {
+        entry(&self.is_turned, chain).unwrap_or(false)
+    }
+
+    /// What it costs to turn a chain.
+    pub fn turning(&self, chain: u32) -> Turning {
+        let cost = self.first_cost(chain);
+        Turning {
+            cost: if self.is_turned(chain) {
+                cost.wrapping_neg()
+            } else {
+                cost
+            },
+            open: self.open(chain),
+        }
+    }
+
+    /// Begins a proposal with what was kept of the last one, where that still costs nothing, and says whether there
+    /// was any.
+    pub fn begin(&mut self, alloc: Global) -> Result<bool, NoMemory> {
+        self.is_new = vec![in alloc; false; self.costs.len()]?;
+        let kept = Vec::from_slice(alloc, &self.kept)?;
+        let ends = Vec::from_slice(alloc, &self.kept_ends)?;
+        self.kept.clear();
+        self.kept_ends.clear();
+        let mut first = 0u32;
+        let mut found = false;
+        for end in &ends {
+            if self.take_free(piece(&kept, first, *end))? {
+                found = true;
+            }
+            first = *end;
+        }
+        Ok(found)
+    }
+
+    // Turns chains if that costs nothing and tells something.
+    fn take_free(&mut self, turned: &[u32]) -> Result<bool, NoMemory> {
+        let mut all = Turning::none();
+        for chain in turned {
+            all = all.and(self.turning(*chain));
+        }
+        if all.cost != 0 || all.open == 0 {
+            return Ok(false);
+        }
+        self.take(turned)
+    }
+
+    /// Turns chains, or keeps them for the next proposal where one of them has turned for the first time since this
+    /// one was begun.
+    pub fn take(&mut self, turned: &[u32]) -> Result<bool, NoMemory> {
+        if self.has_new(turned) {
+            self.kept.extend_from_slice(turned)?;
+            self.kept_ends.push(number(self.kept.len()))?;
+            return Ok(false);
+        }
+        for chain in turned {
+            let is_turned = !self.is_turned(*chain);
+            self.set_turned(*chain, is_turned);
+        }
+        Ok(true)
+    }
+
+    // Whether one of these chains has turned for the first time since the proposal was begun.
+    fn has_new(&self, chains: &[u32]) -> bool {
+        for chain in chains {
+            if entry(&self.is_new, *chain).unwrap_or(true) {
+                return true;
+            }
+        }
+        false
+    }
+
+    /// Turns a chain or not, and says whether that tells something of it.
+    pub fn set_turned(&mut self, chain: u32, is_turned: bool) -> bool {
+        set_entry(&mut self.is_turned, chain, is_turned);
+        if !is_turned || !self.is_open(chain) {
+            return false;
+        }
+        set_entry(&mut self.open, chain, 0);
+        set_entry(&mut self.is_new, chain, true);
+        true
+    }
+}
+
+// The items from a place to another.
+fn piece(list: &[u32], first: u32, behind: u32) -> &[u32] {
+    let first = first as usize;
+    let behind = behind as usize;
+    if first > behind || behind > list.len() {
+        return &[];
+    }
+    &list[first..behind]
+}
+
+// What it costs to turn a bond of which nothing is known.
+fn turning_of(coupling: i64, is_broken: bool) -> Turning {
+    let size = coupling.wrapping_abs();
+    Turning {
+        cost: if is_broken { size.wrapping_neg() } else { size },
+        open: 1,
+    }
+}
+
+// The bonds that are not left out.
+fn bonds_left(alloc: Global, is_out: &[bool]) -> Result<Vec<u32>, NoMemory> {
+    let mut bonds = Vec::new(alloc);
+    for (bond, is_out) in is_out.iter().enumerate() {
+        if !*is_out {
+            bonds.push(number(bond))?;
+        }
+    }
+    Ok(bonds)
+}
+
+// The faces on both sides of each of these bonds.
+fn sides_of(alloc: Global, sheet: &Sheet, bonds: &[u32]) -> Result<Vec<u32>, NoMemory> {
+    let mut sides = Vec::with_capacity(alloc, bonds.len().saturating_mul(2))?;
+    for bond in bonds {
+        sides.push(sheet.side(first_dart(*bond)))?;
+        sides.push(sheet.side(second_dart(*bond)))?;
+    }
+    Ok(sides)
+}
