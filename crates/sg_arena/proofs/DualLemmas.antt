@@ -1,16 +1,14 @@
 -- The duals between two leaves and their totals.
-use Rattle.std.proofs.Common.{Bool, List, None, Option, Some, [], ap, arith, cond, eq-eqb, eqb, false, get_or, inl, inr, length, refl, subst, sum_by, sym}
-use Rattle.std.proofs.Common.{true, ℕ, ◌*◌, ◌+◌, ◌<◌, ◌||◌, ◌∙◌, ◌∷◌, ◌≡◌, ◌≢◌, ◌≤◌}
-use Rattle.std.proofs.lemmas.Bool.{cases_eq, cases_lt, eqb-true, false_from_ne_true, ne_eqb}
-use Rattle.std.proofs.lemmas.List.{get_or_past}
-use Rattle.std.proofs.lemmas.List.FromFn.{fill_by_all}
+use Rattle.std.proofs.Common.{Bool, List, None, Option, Some, [], ap, arith, cond, false, get_or, length, refl, sum_by}
+use Rattle.std.proofs.Common.{true, ℕ, ◌*◌, ◌+◌, ◌<◌, ◌∙◌, ◌∷◌, ◌≡◌, ◌≢◌, ◌≤◌}
 use Rattle.std.proofs.lemmas.List.Sums.{sum_by-cons}
 use Rattle.std.specs.List.{range_with_len}
 use Rattle.std.specs.Option.{option_map_or}
-use Rattle.sg_arena.specs.Family.{Covers, Family, Holds, IsFamily, IsTop, Node, dual_of, has_leaf, holds, leaf_count, node_at, share, total_of}
+use Rattle.sg_arena.specs.Family.{Covers, Family, Holds, IsFamily, IsTop, Node, dual_of, has_leaf, leaf_count, node_at, share, total_of}
 use Rattle.sg_arena.specs.Slack.{cut_share, duals_between, exactly_one}
-use Rattle.sg_arena.proofs.FamilyLemmas.{not_dead, top-covers, total-names}
-use Rattle.sg_sums.proofs.ListLaws.{sum_by-agree, sum_by-map_of, sum_by-point, sum_by-zero}
+use Rattle.sg_arena.proofs.FamilyLemmas.{leaf-held, sum-names, top-covers}
+use Rattle.sg_arena.proofs.InnerDuals.{inner_top, no_inner}
+use Rattle.sg_sums.proofs.ListLaws.{sum_by-agree, sum_by-zero}
 
 -- the duals between two leaves are the same both ways
 pub duals_between-back : (f : Family) (u v : ℕ) → duals_between f u v ≡ duals_between f v u
@@ -59,8 +57,7 @@ total-between f u v = go f.nodes
 -- no set holds leaves of two different tops
 pub both-none : (f : Family) → IsFamily f → (s t u v : ℕ) → IsTop f s → IsTop f t → s ≢ t → Holds f s u → Holds f t v → sum_by (both_share u v) f.nodes ≡ 0
 both-none f fam s t u v top_s top_t differ in_s in_t =
-    ap (sum_by (both_share u v)) (fill_by_all (node_at f) f.nodes (length f.nodes) None refl (λ k low. refl))
-    ∙ sum_by-map_of (both_share u v) (node_at f) (range_with_len 0 (length f.nodes))
+    sum-names f (both_share u v)
     ∙ sum_by-zero (λ n. both_share u v (node_at f n)) (range_with_len 0 (length f.nodes)) zero_at
   where
     each : (o : Option Node) → (has_leaf (option_map_or (λ x. x.leaves) o []) u ≡ true → has_leaf (option_map_or (λ x. x.leaves) o []) v ≡ true → ⊥) →
@@ -92,50 +89,7 @@ between-tops f fam s t u v top_s top_t differ in_s in_t =
 pub total-leaf_top : (f : Family) → IsFamily f → (l : ℕ) → l < leaf_count f → IsTop f (get_or f.leaf_nodes l 0) →
     total_of f l ≡ dual_of f (get_or f.leaf_nodes l 0)
 total-leaf_top f fam l low top =
-    let t = get_or f.leaf_nodes l 0 in
-    total-names f l
-    ∙ sum_by-agree (λ n. share l (node_at f n)) (λ n. cond (eqb t n) (dual_of f n) 0) (range_with_len 0 (length f.nodes)) each
-    ∙ sum_by-point (dual_of f) t 0 (length f.nodes) (omega arith) (low_top (length f.nodes) refl)
-  where
-    holds_own_leaf : Holds f (get_or f.leaf_nodes l 0) l
-    holds_own_leaf = ap (λ o. has_leaf (option_map_or (λ x. x.leaves) o []) l) (fam.leaf_set l low) ∙ rw (eq-eqb l l refl) refl
-
-    low_top : (k : ℕ) → k ≡ length f.nodes → get_or f.leaf_nodes l 0 < 0 + k
-    low_top k same =
-        elim (cases_lt (get_or f.leaf_nodes l 0) (length f.nodes)) [
-          | inl low ↦ omega (arith, low, same)
-          | inr high ↦ absurd (not_dead f (get_or f.leaf_nodes l 0) top.alive (get_or_past f.nodes (get_or f.leaf_nodes l 0) None high))
-        ]
-
-    share_as : (o : Option Node) (t : Bool) → has_leaf (option_map_or (λ (x : Node). x.leaves) o []) l ≡ t →
-        share l o ≡ cond t (option_map_or (λ (x : Node). x.dual) o 0) 0
-    share_as None true e = refl
-    share_as None false e = refl
-    share_as (Some x) t e = rw e refl
-
-    each : (n : ℕ) → share l (node_at f n) ≡ cond (eqb (get_or f.leaf_nodes l 0) n) (dual_of f n) 0
-    each n =
-        elim (cases_eq (get_or f.leaf_nodes l 0) n) [
-          | inl same ↦
-              share_as (node_at f n) true (ap (λ m. holds f m l) (sym same) ∙ holds_own_leaf)
-              ∙ sym (ap (λ t. cond t (dual_of f n) 0) (eq-eqb (get_or f.leaf_nodes l 0) n same))
-          | inr differs ↦
-              share_as (node_at f n) false (false_from_ne_true (holds f n l) (λ held. differs (only_own n held)))
-              ∙ sym (ap (λ t. cond t (dual_of f n) 0) (ne_eqb (get_or f.leaf_nodes l 0) n differs))
-        ]
-      where
-        only_own : (n : ℕ) → Holds f n l → get_or f.leaf_nodes l 0 ≡ n
-        only_own n held =
-            fam.apart (get_or f.leaf_nodes l 0) n top.alive (top-covers f fam (get_or f.leaf_nodes l 0) n l top holds_own_leaf held)
-            (λ leaf h. subst (λ x. Holds f n x) (single leaf h) held)
-          where
-            single : (leaf : ℕ) → Holds f (get_or f.leaf_nodes l 0) leaf → l ≡ leaf
-            single leaf h = eqb-true l leaf
-                (or_false (eqb l leaf) (sym (ap (λ o. has_leaf (option_map_or (λ x. x.leaves) o []) leaf) (fam.leaf_set l low)) ∙ h))
-              where
-                or_false : (b : Bool) → (b || false) ≡ true → b ≡ true
-                or_false true e = refl
-                or_false false e = e
+    omega (arith, inner_top f fam (get_or f.leaf_nodes l 0) l top (leaf-held f fam l low), no_inner f fam l low)
 
 -- an inner leaf between two outer tops has a dual of at least delta, if the outer ones keep that distance
 pub inner-leaf_enough : (f : Family) → IsFamily f → (cost : ℕ → ℕ → ℕ) (l y z s r delta : ℕ) → l < leaf_count f → IsTop f (get_or f.leaf_nodes l 0) →

@@ -1,11 +1,12 @@
 -- The family of leaves alone, as `open` makes it.
-use Rattle.std.proofs.Common.{Bool, IsSome, List, Some, [], ap, arith, eq-eqb, eqb, false, get_or, inl, inr, length, refl, subst, suc, sym, true, zero, ℕ}
-use Rattle.std.proofs.Common.{◌%◌, ◌<◌, ◌||◌, ◌∙◌, ◌∷◌, ◌≡◌}
+use Rattle.std.proofs.Common.{IsSome, List, Some, [], ap, arith, eq-eqb, eqb, get_or, inl, inr, length, refl, subst, suc, sym, true, zero, ℕ}
+use Rattle.std.proofs.Common.{◌%◌, ◌<◌, ◌∙◌, ◌∷◌, ◌≡◌}
 use Rattle.std.proofs.lemmas.Bool.{eqb-true}
 use Rattle.std.specs.List.{range_with_len}
 use Rattle.std.specs.Option.{option_map_or}
 use Rattle.sg_arena.specs.Changes.{OnlyLeaves}
 use Rattle.sg_arena.specs.Family.{Family, Holds, IsFamily, IsTop, cycle_of, has_leaf, holds, leaf_count, leaves_of, node_at, share}
+use Rattle.sg_arena.proofs.Chains.{or_false}
 use Rattle.sg_arena.proofs.FamilyLemmas.{alive_from_holds, total-names}
 use Rattle.sg_sums.proofs.ListLaws.{cases_option, cond-same, filter-never, filter-single, sum_by-zero}
 
@@ -20,10 +21,6 @@ module _ (f : Family) (only : OnlyLeaves f) where
       let e : has_leaf (at.0 ∷ []) leaf ≡ true = sym (ap (λ xs. has_leaf xs leaf) (sym (ap (leaves_of f) at.2) ∙ leaf_of at.0 at.1)) ∙ held in
       let same : at.0 ≡ leaf = eqb-true at.0 leaf (sym (or_false (eqb at.0 leaf)) ∙ e) in
       (subst (λ k. k < leaf_count f) same at.1, sym at.2 ∙ ap (λ k. get_or f.leaf_nodes k 0) same)
-    where
-      or_false : (b : Bool) → (b || false) ≡ b
-      or_false true = refl
-      or_false false = refl
 
   -- a leaf's node holds it
   pub holds_own : (l : ℕ) → l < leaf_count f → Holds f (get_or f.leaf_nodes l 0) l
@@ -81,10 +78,6 @@ module _ (f : Family) (only : OnlyLeaves f) where
         bounded = λ leaf. omega (arith, total-names f leaf, sum_by-zero (λ n. share leaf (node_at f n)) (range_with_len 0 (length f.nodes)) (no_share leaf));
       }
     where
-      or_false : (b : Bool) → (b || false) ≡ b
-      or_false true = refl
-      or_false false = refl
-
       get_or_far : (xs : List ℕ) (i : ℕ) → i < length xs → (d : ℕ) → get_or xs i 0 ≡ get_or xs i d
       get_or_far [] i low d = absurd (omega arith)
       get_or_far (x ∷ xs) zero low d = refl

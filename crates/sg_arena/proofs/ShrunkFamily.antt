@@ -1,5 +1,5 @@
 -- The family with a new blossom, as `shrink` leaves it: what it keeps and what it gains.
-use Rattle.std.proofs.Common.{IsSome, List, None, Some, [], ap, arith, filter, get_or, inl, inr, length, refl, subst, sym, true, ℕ, ◌%◌, ◌<◌, ◌∙◌, ◌∷◌, ◌≡◌}
+use Rattle.std.proofs.Common.{IsSome, List, None, Option, Some, [], ap, arith, filter, get_or, inl, inr, length, refl, subst, sum_by, sym, true, ℕ, ◌%◌, ◌<◌, ◌∙◌, ◌∷◌, ◌≡◌}
 use Rattle.std.proofs.Common.{◌≢◌}
 use Rattle.std.proofs.lemmas.Bool.{cases_eq, cases_lt, false_from_ne_true}
 use Rattle.std.proofs.lemmas.List.{get_or-set_other, get_or-set_same}
@@ -11,8 +11,7 @@ use Rattle.std.specs.Option.{option_map_or}
 use Rattle.sg_arena.specs.declared.Link.{Link}
 use Rattle.sg_arena.specs.Changes.{CanShrink, blossom_of, with_slot}
 use Rattle.sg_arena.specs.Family.{Covers, Family, Holds, IsAlive, IsBlossom, IsCycle, IsFamily, IsTop, after_index, any_holds, blank_link, cycle_of, has_leaf}
-use Rattle.sg_arena.specs.Family.{holds, leaf_count, leaves_of, link_at, node_at, share, total_of}
-use Rattle.sg_arena.specs.Forest.{links}
+use Rattle.sg_arena.specs.Family.{Node, holds, leaf_count, leaves_of, link_at, node_at, share, total_of}
 use Rattle.sg_arena.specs.Slack.{cut_share, duals_between, exactly_one}
 use Rattle.sg_arena.proofs.FamilyLemmas.{alive_from_holds, leaf_bound, not_dead, some_leaf, top-apart, top-covers, union-odd}
 use Rattle.sg_sums.proofs.ListLaws.{cond-same, list_any-agree_at, place_of_any}
@@ -28,6 +27,19 @@ module _ (f : Family) (b : ℕ) (cycle : List Link) (fam : IsFamily f) (can : Ca
 
   at_other : (n : ℕ) → n ≢ b → node_at after n ≡ node_at f n
   at_other n differs = get_or-set_other f.nodes b n (Some (blossom_of f cycle)) None differs
+
+  -- what adds nothing at the new name has the same sum
+  sum_same : (h : Option Node → ℕ) → h None ≡ 0 → h (Some (blossom_of f cycle)) ≡ 0 → sum_by h after.nodes ≡ sum_by h f.nodes
+  sum_same h none new = omega (arith, sum_by-set h f.nodes b (Some (blossom_of f cycle)) None room, ap h dead, none, new)
+
+  -- the new blossom adds nothing to a total
+  pub total-shrink : (u : ℕ) → total_of after u ≡ total_of f u
+  total-shrink u = sum_same (share u) refl (cond-same (has_leaf (blossom_of f cycle).leaves u) 0)
+
+  -- nor between two leaves
+  pub duals_between-shrink : (u v : ℕ) → duals_between after u v ≡ duals_between f u v
+  duals_between-shrink u v =
+      sum_same (cut_share u v) refl (cond-same (exactly_one (has_leaf (blossom_of f cycle).leaves u) (has_leaf (blossom_of f cycle).leaves v)) 0)
 
   -- every other node holds what it held
   pub holds_other : (n leaf : ℕ) → n ≢ b → holds after n leaf ≡ holds f n leaf
@@ -50,12 +62,12 @@ module _ (f : Family) (b : ℕ) (cycle : List Link) (fam : IsFamily f) (can : Ca
       ∙ elim (cases_lt leaf (leaf_count f)) [
         | inl low ↦ has_leaf-filter (any_holds f cycle) 0 (leaf_count f) leaf (omega arith) (omega arith)
         | inr high ↦
-            has_leaf-filter_out (any_holds f cycle) 0 (leaf_count f) leaf (inr (omega arith))
-            ∙ sym (false_from_ne_true (any_holds f cycle leaf)
+            has_leaf-filter_out (any_holds f cycle) 0 (leaf_count f) leaf (inr (omega arith)) ∙ sym (false_from_ne_true (any_holds f cycle leaf)
             (λ some. let at = child_holding leaf some in let low = leaf_bound f fam (link_at cycle at.0).node leaf at.2 in absurd (omega arith)))
       ]
 
-  apart_children : (i j leaf : ℕ) → i < length cycle → j < length cycle → Holds f (link_at cycle i).node leaf → Holds f (link_at cycle j).node leaf → i ≡ j
+  apart_children : (i j leaf : ℕ) → i < length cycle → j < length cycle → Holds f (link_at cycle i).node leaf →
+      Holds f (link_at cycle j).node leaf → i ≡ j
   apart_children i j leaf a b in_i in_j =
       can.closed.differ i j a b (top-apart f fam (link_at cycle i).node (link_at cycle j).node leaf (can.tops i a) (can.tops j b) in_i in_j)
 
@@ -130,19 +142,8 @@ module _ (f : Family) (b : ℕ) (cycle : List Link) (fam : IsFamily f) (can : Ca
   leaf_not_new : (leaf : ℕ) → leaf < leaf_count f → get_or f.leaf_nodes leaf 0 ≢ b
   leaf_not_new leaf low = not_new (get_or f.leaf_nodes leaf 0) (subst (λ o. IsSome o) (sym (fam.leaf_set leaf low)) refl)
 
-  new_disjoint : (i j leaf : ℕ) → i < length cycle → j < length cycle → Holds after (link_at cycle i).node leaf → Holds after (link_at cycle j).node leaf →
-      i ≡ j
-  new_disjoint i j leaf a c p q =
-      apart_children i j leaf a c
-      (sym (holds_other (link_at cycle i).node leaf (not_new (link_at cycle i).node (child_alive i a))) ∙ p)
-      (sym (holds_other (link_at cycle j).node leaf (not_new (link_at cycle j).node (child_alive j c))) ∙ q)
-
-  old_disjoint : (n i j leaf : ℕ) → i < length (cycle_of f n) → j < length (cycle_of f n) → Holds after (link_at (cycle_of f n) i).node leaf →
-      Holds after (link_at (cycle_of f n) j).node leaf → i ≡ j
-  old_disjoint n i j leaf a c p q =
-      fam.disjoint n i j leaf a c
-      (sym (holds_other (link_at (cycle_of f n) i).node leaf (not_new (link_at (cycle_of f n) i).node (old_cycle_alive n i a))) ∙ p)
-      (sym (holds_other (link_at (cycle_of f n) j).node leaf (not_new (link_at (cycle_of f n) j).node (old_cycle_alive n j c))) ∙ q)
+  was_held : (n leaf : ℕ) → IsAlive f n → Holds after n leaf → Holds f n leaf
+  was_held n leaf alive h = sym (holds_other n leaf (not_new n alive)) ∙ h
 
   -- it is a family
   pub IsFamily-shrink : IsFamily after
@@ -196,7 +197,8 @@ module _ (f : Family) (b : ℕ) (cycle : List Link) (fam : IsFamily f) (can : Ca
               (λ blossom. plain (subst (λ xs. 0 < length xs) (sym (cycle_other n differs)) blossom))
         ];
         cycles = λ n blossom. elim (cases_eq n b) [
-          | inl same ↦ subst (λ m. IsCycle after (cycle_of after m)) (sym same) (subst (λ xs. IsCycle after xs) (sym cycle_new) (cycle_kept cycle can.closed))
+          | inl same ↦ subst (λ m. IsCycle after (cycle_of after m)) (sym same)
+              (subst (λ xs. IsCycle after xs) (sym cycle_new) (cycle_kept cycle can.closed))
           | inr differs ↦ subst (λ xs. IsCycle after xs) (sym (cycle_other n differs))
               (cycle_kept (cycle_of f n) (fam.cycles n (blossom_other n differs blossom)))
         ];
@@ -209,12 +211,18 @@ module _ (f : Family) (b : ℕ) (cycle : List Link) (fam : IsFamily f) (can : Ca
         disjoint = λ n i j leaf a c p q. elim (cases_eq n b) [
           | inl same ↦
               let e : cycle_of after n ≡ cycle = ap (cycle_of after) same ∙ cycle_new in
-              new_disjoint i j leaf (subst (λ xs. i < length xs) e a) (subst (λ xs. j < length xs) e c)
-              (subst (λ xs. Holds after (link_at xs i).node leaf) e p) (subst (λ xs. Holds after (link_at xs j).node leaf) e q)
+              let a' = subst (λ xs. i < length xs) e a in
+              let c' = subst (λ xs. j < length xs) e c in
+              apart_children i j leaf a' c'
+              (was_held (link_at cycle i).node leaf (child_alive i a') (subst (λ xs. Holds after (link_at xs i).node leaf) e p))
+              (was_held (link_at cycle j).node leaf (child_alive j c') (subst (λ xs. Holds after (link_at xs j).node leaf) e q))
           | inr differs ↦
               let e = cycle_other n differs in
-              old_disjoint n i j leaf (subst (λ xs. i < length xs) e a) (subst (λ xs. j < length xs) e c)
-              (subst (λ xs. Holds after (link_at xs i).node leaf) e p) (subst (λ xs. Holds after (link_at xs j).node leaf) e q)
+              let a' = subst (λ xs. i < length xs) e a in
+              let c' = subst (λ xs. j < length xs) e c in
+              fam.disjoint n i j leaf a' c'
+              (was_held (link_at (cycle_of f n) i).node leaf (old_cycle_alive n i a') (subst (λ xs. Holds after (link_at xs i).node leaf) e p))
+              (was_held (link_at (cycle_of f n) j).node leaf (old_cycle_alive n j c') (subst (λ xs. Holds after (link_at xs j).node leaf) e q))
         ];
         between = λ n i o within over under. elim (cases_eq n b) [
           | inl same ↦
@@ -239,19 +247,10 @@ module _ (f : Family) (b : ℕ) (cycle : List Link) (fam : IsFamily f) (can : Ca
                     ]
               ]
         ];
-        bounded = λ leaf. omega (
-          arith,
-          fam.bounded leaf,
-          sum_by-set (share leaf) f.nodes b (Some (blossom_of f cycle)) None room,
-          ap (share leaf) dead,
-          zero_share leaf,
-        );
+        bounded = λ leaf. omega (arith, fam.bounded leaf, total-shrink leaf);
       }
-    where
-      zero_share : (leaf : ℕ) → share leaf (Some (blossom_of f cycle)) ≡ 0
-      zero_share leaf = cond-same (has_leaf (blossom_of f cycle).leaves leaf) 0
 
--- tops, totals and duals between two leaves after a shrink
+-- tops after a shrink
 module _ (f : Family) (b : ℕ) (cycle : List Link) (fam : IsFamily f) (can : CanShrink f cycle) (dead : node_at f b ≡ None) (room : b < length f.nodes) where
   abbrev g : Family
   g = with_slot f b (Some (blossom_of f cycle))
@@ -262,8 +261,7 @@ module _ (f : Family) (b : ℕ) (cycle : List Link) (fam : IsFamily f) (can : Ca
 
   -- and the other way round
   pub new_holds : (i l : ℕ) → i < length cycle → Holds f (link_at cycle i).node l → Holds g b l
-  new_holds i l within held =
-      holds_new f b cycle fam can dead room l ∙ list_any_at (λ (link : Link). holds f link.node l) cycle i blank_link within held
+  new_holds i l within held = holds_new f b cycle fam can dead room l ∙ list_any_at (λ (link : Link). holds f link.node l) cycle i blank_link within held
 
   -- a top that isn't in the cycle stays one
   pub IsTop-shrink_other : (t : ℕ) → IsTop f t → ((i : ℕ) → i < length cycle → (link_at cycle i).node ≢ t) → IsTop g t
@@ -298,24 +296,4 @@ module _ (f : Family) (b : ℕ) (cycle : List Link) (fam : IsFamily f) (can : Ca
         },
         λ i within same. away (sym (top.outermost b
             (λ l h. new_holds i l within (subst (λ n. Holds f n l) (sym same) (sym (holds_other f b cycle fam can dead room t l away) ∙ h))))),
-      )
-
-  -- the new blossom adds nothing to a total
-  pub total-shrink : (u : ℕ) → total_of g u ≡ total_of f u
-  total-shrink u =
-      omega (
-        arith,
-        sum_by-set (share u) f.nodes b (Some (blossom_of f cycle)) None room,
-        ap (share u) dead,
-        cond-same (has_leaf (blossom_of f cycle).leaves u) 0,
-      )
-
-  -- nor between two leaves
-  pub duals_between-shrink : (u v : ℕ) → duals_between g u v ≡ duals_between f u v
-  duals_between-shrink u v =
-      omega (
-        arith,
-        sum_by-set (cut_share u v) f.nodes b (Some (blossom_of f cycle)) None room,
-        ap (cut_share u v) dead,
-        cond-same (exactly_one (has_leaf (blossom_of f cycle).leaves u) (has_leaf (blossom_of f cycle).leaves v)) 0,
       )

@@ -2,25 +2,23 @@
 
 ghost use Rattle.std.specs.Prelude.{◌≡◌, ℕ, ◌+◌, ◌-◌, ◌<◌, ◌≤◌, ◌^◌, length, Some, slice_index};
 ghost use Rattle.slab.specs.Slab.{ContainsKey, get};
-ghost use Rattle.sg_arena.specs.Family.{link_at};
-ghost use Rattle.sg_arena.specs.Forest.{links};
-ghost use Rattle.sg_arena.specs.CellWrites.{Seats, Frees, Rewrites, raised_cell, fallen};
+ghost use Rattle.sg_arena.specs.Family.{after_index, cycle_of};
+ghost use Rattle.sg_arena.specs.CellWrites.{Rewrites, Distinct, child_at, seated, freed, raised_cell, fallen};
 
 use crate::Link;
+use crate::history::History;
 use slab::Slab;
 
-/// What a cell stands for.
+/// What a node is.
 #[derive(Clone, Copy)]
 pub(crate) enum Kind {
-    /// Nothing: the cell waits for a blossom.
-    Spare,
     /// A leaf.
     Leaf,
     /// A blossom of so many children; the first stands at place 0 of its cycle.
     Blossom { first: usize, count: usize },
 }
 
-/// A cell of the slab. Its key is the node's name.
+/// The cell of a node. Its key is the node's name.
 #[derive(Clone, Copy)]
 pub(crate) struct Cell {
     pub(crate) kind: Kind,
@@ -32,29 +30,25 @@ pub(crate) struct Cell {
     pub(crate) from: u32,
     pub(crate) to: u32,
     pub(crate) dual: u64,
-    /// A leaf below this node. The node may give that leaf's spare cell to a blossom.
-    pub(crate) spare: u32,
 }
 
 impl Cell {
-    /// A cell that no node has.
-    pub(crate) const SPARE: Cell = Cell {
-        kind: Kind::Spare,
+    /// A leaf that is a top, with dual 0.
+    pub(crate) const LEAF: Cell = Cell {
+        kind: Kind::Leaf,
         parent: None,
         next: 0,
         from: 0,
         to: 0,
         dual: 0,
-        spare: 0,
     };
 }
 
 /// Makes the nodes of a cycle the children of a blossom.
 pub(crate) fn seat_children(cells: &mut Slab<Cell>, cycle: &[Link], blossom: usize)
-    requires present { (i : ℕ) → i < length cycle.now → ContainsKey cells.old (link_at cycle.now i).node }
-    requires differ { (i j : ℕ) → i < length cycle.now → j < length cycle.now →
-        (link_at cycle.now i).node ≡ (link_at cycle.now j).node → i ≡ j }
-    ensures { Seats cells.old cells.new cycle.now blossom (length cycle.now) }
+    requires present { (i : ℕ) → i < length cycle.now → ContainsKey cells.old (child_at cycle.now i) }
+    requires differ { Distinct (child_at cycle.now) (length cycle.now) }
+    ensures { Rewrites (seated cycle.now blossom) (child_at cycle.now) cells.old cells.new (length cycle.now) }
 {
     let count = cycle.len();
     for i in 0..count {
@@ -71,14 +65,23 @@ pub(crate) fn seat_children(cells: &mut Slab<Cell>, cycle: &[Link], blossom: usi
     }
 }
 
-/// Takes the parent from so many siblings, from the first one on.
-pub(crate) fn free_children(cells: &mut Slab<Cell>, first: usize, count: usize)
-    requires present { (i : ℕ) → i < count → ContainsKey cells.old (link_at (links cells.old count first) i).node }
-    requires differ { (i j : ℕ) → i < count → j < count →
-        (link_at (links cells.old count first) i).node ≡ (link_at (links cells.old count first) j).node →
-        i ≡ j }
-    ensures { Frees cells.old cells.new (links cells.old count first) count }
+/// Takes the parent from the children of a blossom, as many as it has, from the first one on.
+pub(crate) fn free_children(
+    cells: &mut Slab<Cell>,
+    history: &History,
+    blossom: usize,
+    first: usize,
+    count: usize,
+)
+    requires first { child_at (cycle_of history.now blossom) 0 ≡ first }
+    requires next { (i : ℕ) (c : Cell) → i < count → get cells.old (child_at (cycle_of history.now blossom) i) ≡ Some c →
+        c.next ≡ child_at (cycle_of history.now blossom) (after_index count i) }
+    requires present { (i : ℕ) → i < count → ContainsKey cells.old (child_at (cycle_of history.now blossom) i) }
+    requires differ { Distinct (child_at (cycle_of history.now blossom)) count }
+    ensures { Rewrites freed (child_at (cycle_of history.now blossom)) cells.old cells.new count }
 {
+    let _ = history;
+    let _ = blossom;
     let mut child = first;
     for _i in 0..count {
         let cell = cells[child];
@@ -93,11 +96,10 @@ pub(crate) fn free_children(cells: &mut Slab<Cell>, first: usize, count: usize)
 /// Adds `delta` to the dual of each of these nodes.
 pub(crate) fn raise_duals(cells: &mut Slab<Cell>, nodes: &[usize], delta: u64)
     requires present { (i : ℕ) → i < length nodes.now → ContainsKey cells.old (slice_index nodes.now i) }
-    requires differ { (i j : ℕ) → i < length nodes.now → j < length nodes.now →
-        slice_index nodes.now i ≡ slice_index nodes.now j → i ≡ j }
+    requires differ { Distinct (slice_index nodes.now) (length nodes.now) }
     requires fits { (i : ℕ) (c : Cell) → i < length nodes.now →
         get cells.old (slice_index nodes.now i) ≡ Some c → c.dual + delta < 2 ^ 64 }
-    ensures { Rewrites (raised_cell delta) cells.old cells.new nodes.now (length nodes.now) }
+    ensures { Rewrites (raised_cell delta) (slice_index nodes.now) cells.old cells.new (length nodes.now) }
 {
     for &node in nodes {
         let cell = cells[node];
@@ -111,11 +113,10 @@ pub(crate) fn raise_duals(cells: &mut Slab<Cell>, nodes: &[usize], delta: u64)
 /// Takes `delta` from the dual of each of these nodes.
 pub(crate) fn lower_duals(cells: &mut Slab<Cell>, nodes: &[usize], delta: u64)
     requires present { (i : ℕ) → i < length nodes.now → ContainsKey cells.old (slice_index nodes.now i) }
-    requires differ { (i j : ℕ) → i < length nodes.now → j < length nodes.now →
-        slice_index nodes.now i ≡ slice_index nodes.now j → i ≡ j }
+    requires differ { Distinct (slice_index nodes.now) (length nodes.now) }
     requires enough { (i : ℕ) (c : Cell) → i < length nodes.now →
         get cells.old (slice_index nodes.now i) ≡ Some c → delta ≤ c.dual }
-    ensures { Rewrites (fallen delta) cells.old cells.new nodes.now (length nodes.now) }
+    ensures { Rewrites (fallen delta) (slice_index nodes.now) cells.old cells.new (length nodes.now) }
 {
     for &node in nodes {
         let cell = cells[node];

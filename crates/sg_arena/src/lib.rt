@@ -12,8 +12,8 @@
 //! For the next engineer: contracts see an [`Arena`] as a `Family` (`specs/Family.antt`), a list
 //! with a node or nothing under each name. `specs/Changes.antt` says what the calls that change it
 //! make of a family, each in one equation, so that all that they do not name stays;
-//! `specs/Slack.antt` has the duals between two leaves. How the cells of the slab stand for a family
-//! is private: `specs/Forest.antt`, and what an arena keeps between calls, `specs/Sound.antt`. The
+//! `specs/Slack.antt` has the duals between two leaves. An arena carries its family as a value
+//! without bytes (`history.rt`), and each cell says of its node what the family does: `specs/Sound.antt`. The
 //! lemmas that a caller needs stand in `proofs/`: `FamilyLemmas` on any family, `LeavesFamily`,
 //! `ShrunkFamily`, `ExpandedFamily` and `RaisedFamily` on the family after each call, `DualLemmas`.
 //!
@@ -32,9 +32,12 @@ ghost use Rattle.std.specs.Prelude.{◌≡◌, ℕ, ◌+◌, pos, ◌≤ℤ◌};
 ghost use Rattle.sg_sums.specs.Naturals.{nat_of};
 
 mod cells;
+mod ghost_list;
+mod history;
 
 use cells::{Cell, Kind, free_children, lower_duals, raise_duals, seat_children};
-use sg_steps::{Steps, Tally};
+use history::History;
+use sg_steps::Steps;
 use slab::Slab;
 use std::alloc::{AllocError, Global};
 use std::marker::Model;
@@ -62,22 +65,18 @@ pub struct Link {
 ///
 /// An arena counts its own steps, beside the count that a caller hands in: [`Arena::open`] sets them
 /// to 0, [`Arena::shrink`], [`Arena::expand`] and [`Arena::raise`] add one each, and nothing else changes
-/// them. The count takes no bytes.
+/// them. The count takes no bytes, and neither does the history of the family.
 ///
 /// One slab keeps all nodes. A child knows its blossom, the sibling that follows and the link to
-/// it; a blossom knows its first child and how many there are. All cells are made by
-/// [`Arena::open`]: one for each leaf, and as many spare ones. Each node owns the spare cell of one
-/// of its leaves, so a new blossom takes the spare cell of its first child and owns that of its
-/// second.
+/// it; a blossom knows its first child and how many there are. [`Arena::open`] reserves two cells for
+/// each leaf, and a family has fewer nodes than that.
 #[derive(Drop)]
 pub struct Arena {
     cells: Slab<Cell>,
-    // How many steps were taken.
-    steps: Tally,
     // The name of each leaf's node.
     leaves: Vec<usize>,
-    // The key of each leaf's spare cell.
-    spares: Vec<usize>,
+    // The family that the cells stand for.
+    history: History,
 }
 
 impl Model for Arena {
@@ -85,12 +84,11 @@ impl Model for Arena {
 
     ghost Value = { Family };
 
-    ghost use Rattle.sg_arena.specs.Forest.{family_of};
     ghost use Rattle.sg_arena.specs.Sound.{IsSound};
 
-    ghost view = { λ a. family_of a.cells a.leaves.items a.steps };
+    ghost view = { λ a. a.history };
 
-    ghost invariant = { λ a. IsSound a.cells a.leaves.items a.spares.items a.steps };
+    ghost invariant = { λ a. IsSound a.cells a.leaves.items a.history };
 }
 
 impl Arena {
@@ -114,25 +112,16 @@ impl Arena {
         let count = k as usize;
         let mut cells = Slab::with_capacity(alloc, 2 * count)?;
         let mut leaves = Vec::with_capacity(alloc, count)?;
-        let mut spares = Vec::with_capacity(alloc, count)?;
-        for leaf in 0..k {
-            leaves.push_reserved(cells.insert_reserved(Cell {
-                kind: Kind::Leaf,
-                spare: leaf,
-                ..Cell::SPARE
-            }));
+        let mut history = History::open(cells.capacity());
+        for _leaf in 0..k {
+            let name = cells.insert_reserved(Cell::LEAF);
+            history.leaf(name);
+            leaves.push_reserved(name);
         }
-        for _spare in 0..k {
-            spares.push_reserved(cells.insert_reserved(Cell::SPARE));
-        }
-        let room = cells.capacity();
-        prove!(2 * count <= room);
-        let steps = Tally::new();
         Ok(Arena {
             cells,
-            steps,
             leaves,
-            spares,
+            history,
         })
     }
 
@@ -297,19 +286,16 @@ impl Arena {
         ensures taken { self.new.steps ≡ self.old.steps + 1 }
         ensures counted { steps.new ≡ steps.old + 1 }
     {
-        tick(&mut self.steps, steps);
-        let first = cycle[0].node;
-        let name = self.spares[self.cells[first].spare as usize];
-        let spare = self.cells[cycle[1].node].spare;
-        seat_children(&mut self.cells, cycle, name);
-        self.cells[name] = Cell {
+        steps.tick();
+        let name = self.cells.insert_reserved(Cell {
             kind: Kind::Blossom {
-                first,
+                first: cycle[0].node,
                 count: cycle.len(),
             },
-            spare,
-            ..Cell::SPARE
-        };
+            ..Cell::LEAF
+        });
+        seat_children(&mut self.cells, cycle, name);
+        self.history.shrink(name, cycle);
         name
     }
 
@@ -327,12 +313,13 @@ impl Arena {
         ensures taken { self.new.steps ≡ self.old.steps + 1 }
         ensures counted { steps.new ≡ steps.old + 1 }
     {
-        tick(&mut self.steps, steps);
+        steps.tick();
         let Kind::Blossom { first, count } = self.cells[node].kind else {
             unreachable!()
         };
-        free_children(&mut self.cells, first, count);
-        self.cells[node] = Cell::SPARE;
+        free_children(&mut self.cells, &self.history, node, first, count);
+        self.cells.remove(node);
+        self.history.expand(node);
     }
 
     /// Raises the duals of the outer tops by `delta`, and lowers those of the inner ones by it.
@@ -353,20 +340,12 @@ impl Arena {
         ensures taken { self.new.steps ≡ self.old.steps + 1 }
         ensures counted { steps.new ≡ steps.old + 1 }
     {
-        tick(&mut self.steps, steps);
+        steps.tick();
         let amount = amount_of(delta);
         raise_duals(&mut self.cells, outer, amount);
         lower_duals(&mut self.cells, inner, amount);
+        self.history.raise(outer, inner, amount);
     }
-}
-
-// Counts a step of the arena, and of its caller.
-fn tick<L: Ledger>(own: &mut Tally, steps: &mut Steps<L>)
-    ensures own { own.new ≡ own.old + 1 }
-    ensures counted { steps.new ≡ steps.old + 1 }
-{
-    own.tick();
-    steps.tick();
 }
 
 // A positive number without its sign.

@@ -1,9 +1,7 @@
-use Rattle.std.proofs.Common.{refl}
-use Rattle.sg_arena.specs.CellWrites.{fallen}
+use Rattle.std.proofs.Common.{length, refl}
 use Rattle.sg_arena.proofs.CellLemmas.{Rewrites-more}
 use Rattle.sg_arena.proofs.cells.lower_duals.Goals as goal
 
 pub loop-node-preserved : goal.loop-node-preserved
 loop-node-preserved c =
-    Rewrites-more (fallen c.args.delta) c.args.cells.now c.loop-node.cells c.args.nodes.now c.loop-node.node-index c.loop-node-test.true c.requires.differ
-    c.loop-node.invariant c.index-cell.result.now (fallen c.args.delta c.index-cell.result.now) c.index-cell.ensures refl
+    Rewrites-more c.loop-node.invariant (length c.args.nodes.now) c.loop-node-test.true c.requires.differ c.index-cell.result.now _ c.index-cell.ensures refl
