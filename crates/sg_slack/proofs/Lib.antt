@@ -1,6 +1,5 @@
 pub mod DistinctLemmas
 pub mod LineLemmas
 pub mod NearLemmas
-pub mod PartnerLemmas
 pub mod ScanLemmas
 pub mod TableLemmas

@@ -4,17 +4,17 @@ use Rattle.std.proofs.Common.{◌+ℤ◌, ◌-ℤ◌, ◌≤ℤ◌, Option, Some
 use Rattle.std.proofs.Common.{◌⊎◌, inl, inr, refl, sym, ap, ◌∙◌, subst, arith, w64, of_z, to_z, length-append}
 use Rattle.std.proofs.lemmas.Int.{ints, to_z-of_z}
 use Rattle.std.specs.Int.{w128}
-use Rattle.std.proofs.lemmas.List.{get_or-map, get_or-set_other, get_or-set_same, length-map, length-set, map-append}
+use Rattle.std.proofs.lemmas.List.{get_or-map, get_or-set_other, get_or-set_same, get_or_append_left, length-map, length-set, map-append}
+use Rattle.std.proofs.Math.Seq.{get_or-append_seam}
 use Rattle.sg_slack.proofs.DistinctLemmas.{at_end, short}
-use Rattle.sg_slack.proofs.ScanLemmas.{Least-nearer, Least-same, below_next}
-use Rattle.sg_slack.specs.Kept.{IsKeyOf, IsNear, IsNearestOf, IsTakenAt, key_of, kept_at, members_of, nearest_at}
-use Rattle.sg_slack.specs.Members.{Agree, IsMember, Member, TotalsFit, grown, member_at}
-use Rattle.sg_slack.specs.Partner.{AreRisen}
-use Rattle.sg_slack.specs.Scan.{IsLesser, IsNearestFree}
+use Rattle.sg_slack.proofs.ScanLemmas.{below_next}
+use Rattle.sg_slack.specs.Kept.{IsKeyOf, IsNear, IsNearestOf, IsRise, IsRiseTo, IsTakenAt, key_of, kept_at, members_of, nearest_at}
+use Rattle.sg_slack.specs.Members.{Agree, AreMarked, HaveGrown, IsMember, Member, TotalsFit, grown, member_at}
+use Rattle.sg_slack.specs.Scan.{IsNearestFree}
 use Rattle.sg_slack.specs.Slack.{IsOuterFree, Least, mark_at, slack_of, total_at}
 use Rattle.sg_slack.specs.Table.{Table, cost_of}
 use Rattle.sg_slack.specs.declared.Mark.{Mark}
-use Rattle.sg_slack.specs.declared.Mark.TheVariants.{Free, Outer}
+use Rattle.sg_slack.specs.declared.Mark.TheVariants.{Outer}
 use Rattle.sg_slack.specs.declared.Pair.{Pair}
 use Rattle.sg_slack.specs.declared.member.Kept.{Kept}
 use Rattle.sg_slack.specs.declared.near.Nearest.{Nearest}
@@ -26,6 +26,11 @@ wrapped_difference a b fits_a fits_b fits =
     ap (λ x. to_z w128 (of_z w128 (x -ℤ to_z w128 (of_z w128 b)))) (to_z-of_z w128 a fits_a)
     ∙ ap (λ x. to_z w128 (of_z w128 (a -ℤ x))) (to_z-of_z w128 b fits_b)
     ∙ to_z-of_z w128 (a -ℤ b) fits
+
+-- what is known of the rise, over what is the same
+pub IsRise-same : (xs ys : List Kept) (a b : ℤ) (totals : List ℤ) (marks : List Mark) (rise : Option ℤ) → xs ≡ ys → a ≡ b →
+    IsRise xs a totals marks rise → IsRise ys b totals marks rise
+IsRise-same xs ys a b totals marks rise e f is = subst (λ z. IsRise ys z totals marks rise) f (subst (λ ms. IsRise ms a totals marks rise) e is)
 
 -- a member that is kept, as contracts see it
 abbrev member_of : ℤ → Kept → Member
@@ -75,33 +80,49 @@ total-agree rise ms totals agree i low =
     let is = member-is rise ms i low in
     ap (λ (m : Member). total_at totals m.leaf) (sym is) ∙ agree i (omega (arith, low, members-count rise ms)) ∙ ap (λ (m : Member). m.total) is
 
--- totals that agree with the members are those kept, with the rise added
-pub AreRisen-agree : (rise : ℤ) (ms : List Kept) (totals : List ℤ) → Agree (members_of rise ms) totals → AreRisen ms totals
-AreRisen-agree rise ms totals agree = record { rise = rise; total = total-agree rise ms totals agree }
+module _ (rise : ℤ) (ms : List Kept) where
+  within : (i : ℕ) → i < length (members_of rise ms) → i < length ms
+  within i low = omega (arith, low, members-count rise ms)
 
-module _ (t : Table) (rise : ℤ) (ms : List Kept) (places : List ℕ) (nearest : List Nearest) (near : IsNear t rise ms places nearest) where
-  abbrev leaves : List ℕ
-  leaves = map (λ (m : Kept). m.leaf) ms
+  -- members that have these totals by what is kept
+  pub Agree-kept : (totals : List ℤ) → ((i : ℕ) → i < length ms → total_at totals (kept_at ms i).leaf ≡ (kept_at ms i).base +ℤ rise) →
+      Agree (members_of rise ms) totals
+  Agree-kept totals each i low =
+      let is = member-is rise ms i (within i low) in
+      ap (λ (m : Member). total_at totals m.leaf) is ∙ each i (within i low) ∙ ap (λ (m : Member). m.total) (sym is)
 
-  -- there are at most as many members as leaves
-  pub members-few : length ms ≤ t.size
-  members-few =
-      omega (arith, short leaves t.size differ below, count)
-    where
-      count : length leaves ≡ length ms
-      count = length-map ms (λ (m : Kept). m.leaf)
+  -- members that are marked as outer by what is kept
+  pub AreMarked-kept : (marks : List Mark) → ((i : ℕ) → i < length ms → ((kept_at ms i).leaf < length marks) × (mark_at marks (kept_at ms i).leaf ≡ Outer)) →
+      AreMarked (members_of rise ms) marks
+  AreMarked-kept marks each i low =
+      subst (λ (m : Member). (m.leaf < length marks) × (mark_at marks m.leaf ≡ Outer)) (sym (member-is rise ms i (within i low))) (each i (within i low))
 
-      leaf_is : (i : ℕ) → i < length leaves → get_or leaves i 0 ≡ (kept_at ms i).leaf
-      leaf_is i low = get_or-map (λ (m : Kept). m.leaf) ms i no_kept 0 (omega (arith, low, count))
+  -- totals that have grown have risen
+  pub IsRiseTo-grown : (totals : List ℤ) (marks : List Mark) (delta : ℤ) → 0 < length ms → HaveGrown (members_of rise ms) totals marks delta →
+      IsRiseTo ms rise totals marks (rise +ℤ delta)
+  IsRiseTo-grown totals marks delta some all = record {
+    some = some;
+    more = omega (arith, ints, all.whole);
+    each = λ i low. (
+      subst (λ (m : Member). mark_at marks m.leaf ≡ Outer) (member-is rise ms i low) (all.outer i (omega (arith, low, members-count rise ms))).1,
+      total-agree (rise +ℤ delta) ms totals (subst (λ xs. Agree xs totals) (sym (members-grown rise delta ms)) all.agree) i low,
+    );
+  }
 
-      differ : (i j : ℕ) → i < length leaves → j < length leaves → get_or leaves i 0 ≡ get_or leaves j 0 → i ≡ j
-      differ i j low_i low_j same =
-          sym (near.placed i (omega (arith, low_i, count))) ∙ ap (λ n. get_or places n 0) (sym (leaf_is i low_i) ∙ same ∙ leaf_is j low_j)
-          ∙ near.placed j (omega (arith, low_j, count))
+-- what becomes of members that follow their totals
+pub record Follows (old : List Member) (totals : List ℤ) (marks : List Mark) (new : List Member) : Type 0 where
+  pub outer : AreMarked new marks
+  pub agree : Agree new totals
+  pub kept : (delta : ℤ) → HaveGrown old totals marks delta → new ≡ grown delta old
+  pub cleared : ((delta : ℤ) → ¬ HaveGrown old totals marks delta) → new ≡ []
 
-      below : (i : ℕ) → i < length leaves → get_or leaves i 0 < t.size
-      below i low = omega (arith, leaf_is i low, near.low i (omega (arith, low, count)))
+-- where no totals have risen alike, and yet all have grown, there are none
+pub none-grown : (rise : ℤ) (ms : List Kept) (totals : List ℤ) (marks : List Mark) → ((to : ℤ) → ¬ IsRiseTo ms rise totals marks to) → (delta : ℤ) →
+    HaveGrown (members_of rise ms) totals marks delta → [] ≡ grown delta (members_of rise ms)
+none-grown rise [] totals marks none delta all = refl
+none-grown rise (m ∷ ms) totals marks none delta all = absurd (none (rise +ℤ delta) (IsRiseTo-grown rise (m ∷ ms) totals marks delta (omega arith) all))
 
+module _ {t : Table} {rise : ℤ} {ms : List Kept} {places : List ℕ} {nearest : List Nearest} (near : IsNear t rise ms places nearest) where
   -- the key of a leaf's nearest member is its cost less what the member has of its total
   pub key-kept : (totals : List ℤ) → Agree (members_of rise ms) totals → 0 < length ms → (v : ℕ) → v < t.size → IsKeyOf t totals rise v (nearest_at nearest v)
   key-kept totals agree some v low =
@@ -163,24 +184,57 @@ module _ (t : Table) (rise : ℤ) (ms : List Kept) (places : List ℕ) (nearest 
               omega (arith, ints, least.least (nearest_at nearest v).leaf v here, nearest-least u v (nearest_at nearest v).leaf some here pair);
         }
 
-  -- a shift
-  pub IsNear-shifted : (delta : ℤ) → 0 < length ms → pos 0 ≤ℤ delta → TotalsFit delta (members_of rise ms) → IsNear t (rise +ℤ delta) ms places nearest
-  IsNear-shifted delta some whole fits =
+  -- a change of the rise
+  IsNear-moved : (to : ℤ) → 0 < length ms → rise ≤ℤ to → ((i : ℕ) → i < length ms → FitsSigned w64 ((kept_at ms i).base +ℤ to)) →
+      IsNear t to ms places nearest
+  IsNear-moved to some more fits =
       record {
         places_count = near.places_count;
         nearest_count = near.nearest_count;
         rise_whole = omega (arith, ints, near.rise_whole);
         rise_none = λ none. absurd (omega (arith, none, some));
         first = near.first;
-        fits = λ i low.
-            let fit = fits i (omega (arith, low, members-count rise ms)) in
-            let is = ap (λ (m : Member). m.total +ℤ delta) (member-is rise ms i low) in
-            let same : (kept_at ms i).base +ℤ (rise +ℤ delta) ≡ ((kept_at ms i).base +ℤ rise) +ℤ delta = omega (arith, ints) in
-            subst (λ z. FitsSigned w64 z) (is ∙ sym same) fit;
+        fits = fits;
         low = near.low;
         placed = near.placed;
         each = near.each;
       }
+
+  -- a shift
+  pub IsNear-shifted : (delta : ℤ) → 0 < length ms → pos 0 ≤ℤ delta → TotalsFit delta (members_of rise ms) → IsNear t (rise +ℤ delta) ms places nearest
+  IsNear-shifted delta some whole fits = IsNear-moved (rise +ℤ delta) some (omega (arith, ints)) (λ i low.
+      let is = ap (λ (m : Member). m.total +ℤ delta) (member-is rise ms i low) in
+      let same : (kept_at ms i).base +ℤ (rise +ℤ delta) ≡ ((kept_at ms i).base +ℤ rise) +ℤ delta = omega (arith, ints) in
+      subst (λ z. FitsSigned w64 z) (is ∙ sym same) (fits i (omega (arith, low, members-count rise ms))))
+
+  -- totals that have risen alike
+  module _ (totals : List ℤ) (marks : List Mark) (count : length marks ≡ t.size) (to : ℤ) (all : IsRiseTo ms rise totals marks to) where
+    pub IsNear-risen : ((i : ℕ) → i < length ms → FitsSigned w64 (total_at totals (kept_at ms i).leaf)) → IsNear t to ms places nearest
+    IsNear-risen fits = IsNear-moved to all.some all.more (λ i low. subst (λ z. FitsSigned w64 z) (all.each i low).1 (fits i low))
+
+    agree : Agree (members_of to ms) totals
+    agree = Agree-kept to ms totals (λ i low. (all.each i low).1)
+
+    marked : (r : ℤ) → AreMarked (members_of r ms) marks
+    marked r = AreMarked-kept r ms marks (λ i low. (omega (arith, near.low i low, count), (all.each i low).0))
+
+    -- they have grown by this and by nothing else
+    pub Follows-risen : Follows (members_of rise ms) totals marks (members_of to ms)
+    Follows-risen = record {
+      outer = marked to;
+      agree = agree;
+      kept = λ delta grown_by.
+          let other = IsRiseTo-grown rise ms totals marks delta all.some grown_by in
+          let same : to ≡ rise +ℤ delta = omega (arith, ints, (all.each 0 all.some).1, (other.each 0 all.some).1) in
+          ap (λ z. members_of z ms) same ∙ members-grown rise delta ms;
+      cleared = λ never.
+          let same : to ≡ rise +ℤ (to -ℤ rise) = omega (arith, ints) in
+          absurd (never (to -ℤ rise) (record {
+            whole = omega (arith, ints, all.more);
+            outer = marked rise;
+            agree = subst (λ xs. Agree xs totals) (ap (λ z. members_of z ms) same ∙ members-grown rise (to -ℤ rise) ms) agree;
+          }));
+    }
 
   -- a new member
   module _ (leaf : ℕ) (total : ℤ) (low : leaf < t.size) (fresh : IsMember (members_of rise ms) leaf → ⊥) (fits : FitsSigned w64 total) where
@@ -193,8 +247,22 @@ module _ (t : Table) (rise : ℤ) (ms : List Kept) (places : List ℕ) (nearest 
     more-count : length more ≡ length ms + 1
     more-count = length-append ms (new_kept ∷ [])
 
-    other_leaf : (i : ℕ) → i < length ms → (kept_at ms i).leaf ≡ leaf → ⊥
-    other_leaf i within is = fresh (IsMember-kept rise ms i leaf within is)
+    -- what holds of each member before and of the new one holds of each
+    each-more : (P : ℕ → Kept → Type 0) → ((i : ℕ) → i < length ms → P i (kept_at ms i)) → P (length ms) new_kept → (i : ℕ) → i < length more →
+        P i (kept_at more i)
+    each-more P old new i within = elim (at_end ms new_kept no_kept i within) [
+      | inl a ↦ subst (P i) (sym a.1) (old i a.0)
+      | inr a ↦ subst (P i) (sym a.1) (subst (λ k. P k new_kept) (sym a.0) new)
+    ]
+
+    low-more : (i : ℕ) → i < length more → (kept_at more i).leaf < t.size
+    low-more = each-more (λ i m. m.leaf < t.size) near.low low
+
+    placed-more : (i : ℕ) → i < length more → get_or (set places leaf (length ms)) (kept_at more i).leaf 0 ≡ i
+    placed-more = each-more (λ i m. get_or (set places leaf (length ms)) m.leaf 0 ≡ i)
+        (λ i within. get_or-set_other places leaf (kept_at ms i).leaf (length ms) 0 (λ same. fresh (IsMember-kept rise ms i leaf within same))
+        ∙ near.placed i within)
+        (get_or-set_same places leaf (length ms) 0 (omega (arith, low, near.places_count)))
 
     -- what is kept more is a member more
     pub members-more : members_of rise more ≡ members_of rise ms ++ record { leaf = leaf; total = total } ∷ []
@@ -205,94 +273,52 @@ module _ (t : Table) (rise : ℤ) (ms : List Kept) (places : List ℕ) (nearest 
     -- there is room for it
     pub room-more : length ms < t.size
     room-more =
-        let all = short (map (λ (m : Kept). m.leaf) more) t.size differ below in
+        let all = short (map (λ (m : Kept). m.leaf) more) t.size
+        (λ i j low_i low_j same. sym (placed-more i (inside i low_i)) ∙ ap (λ n. get_or (set places leaf (length ms)) n 0)
+        (sym (leaf-is i low_i) ∙ same ∙ leaf-is j low_j) ∙ placed-more j (inside j low_j))
+        (λ i within. omega (arith, leaf-is i within, low-more i (inside i within))) in
         omega (arith, all, length-map more (λ (m : Kept). m.leaf), more-count)
       where
+        inside : (i : ℕ) → i < length (map (λ (m : Kept). m.leaf) more) → i < length more
+        inside i within = omega (arith, within, length-map more (λ (m : Kept). m.leaf))
+
         leaf-is : (i : ℕ) → i < length (map (λ (m : Kept). m.leaf) more) → get_or (map (λ (m : Kept). m.leaf) more) i 0 ≡ (kept_at more i).leaf
-        leaf-is i within = get_or-map (λ (m : Kept). m.leaf) more i no_kept 0 (omega (arith, within, length-map more (λ (m : Kept). m.leaf)))
-
-        within-more : (i : ℕ) → i < length (map (λ (m : Kept). m.leaf) more) → i < length more
-        within-more i within = omega (arith, within, length-map more (λ (m : Kept). m.leaf))
-
-        same_place : (i j : ℕ) → i < length more → j < length more → (kept_at more i).leaf ≡ (kept_at more j).leaf → i ≡ j
-        same_place i j low_i low_j same =
-            elim (at_end ms new_kept no_kept i low_i) [
-              | inl a ↦ elim (at_end ms new_kept no_kept j low_j) [
-                | inl b ↦
-                    sym (near.placed i a.0) ∙ ap (λ n. get_or places n 0) (ap (λ (m : Kept). m.leaf) (sym a.1) ∙ same ∙ ap
-                    (λ (m : Kept). m.leaf) b.1) ∙ near.placed j b.0
-                | inr b ↦ absurd (other_leaf i a.0 (ap (λ (m : Kept). m.leaf) (sym a.1) ∙ same ∙ ap (λ (m : Kept). m.leaf) b.1))
-              ]
-              | inr a ↦ elim (at_end ms new_kept no_kept j low_j) [
-                | inl b ↦ absurd (other_leaf j b.0 (ap (λ (m : Kept). m.leaf) (sym b.1) ∙ sym same ∙ ap (λ (m : Kept). m.leaf) a.1))
-                | inr b ↦ a.0 ∙ sym b.0
-              ]
-            ]
-
-        differ : (i j : ℕ) → i < length (map (λ (m : Kept). m.leaf) more) → j < length (map (λ (m : Kept). m.leaf) more) →
-            get_or (map (λ (m : Kept). m.leaf) more) i 0 ≡ get_or (map (λ (m : Kept). m.leaf) more) j 0 → i ≡ j
-        differ i j low_i low_j same = same_place i j (within-more i low_i) (within-more j low_j) (sym (leaf-is i low_i) ∙ same ∙ leaf-is j low_j)
-
-        below : (i : ℕ) → i < length (map (λ (m : Kept). m.leaf) more) → get_or (map (λ (m : Kept). m.leaf) more) i 0 < t.size
-        below i within =
-            elim (at_end ms new_kept no_kept i (within-more i within)) [
-              | inl a ↦ omega (arith, leaf-is i within, ap (λ (m : Kept). m.leaf) a.1, near.low i a.0)
-              | inr a ↦ omega (arith, leaf-is i within, ap (λ (m : Kept). m.leaf) a.1, low)
-            ]
+        leaf-is i within = get_or-map (λ (m : Kept). m.leaf) more i no_kept 0 (inside i within)
 
     module _ (first : Bool) (is_first : first ≡ true → length ms ≡ 0) (is_later : first ≡ false →
         0 < length ms) (new : List Nearest) (count : length new ≡ t.size)
         (taken : (v : ℕ) → v < t.size → IsTakenAt t new_kept first v (nearest_at nearest v) (nearest_at new v)) where
-      key-end : (v i : ℕ) → kept_at more i ≡ new_kept → key_of t (kept_at more i) v ≡ key_of t new_kept v
-      key-end v i is = ap (λ m. key_of t m v) is
-
       taken-new : (v : ℕ) (n : Nearest) → v < t.size → n ≡ record { leaf = leaf; key = key_of t new_kept v } →
           (first ≡ true) ⊎ (key_of t new_kept v ≤ℤ (nearest_at nearest v).key) → IsNearestOf t more v n
       taken-new v n low_v is less =
-          let last = at_last in
           record {
             at = length ms;
             low = omega (arith, more-count);
             leaf = ap (λ (m : Kept). m.leaf) last ∙ ap (λ (x : Nearest). x.leaf) (sym is);
-            key = ap (λ (x : Nearest). x.key) is ∙ sym (key-end v (length ms) last);
-            least = λ i within. elim (at_end ms new_kept no_kept i within) [
-              | inl a ↦ elim less [
-                | inl one ↦ absurd (omega (arith, a.0, is_first one))
-                | inr nearer ↦
-                    let each = near.each v low_v (omega (arith, a.0)) in
-                    omega (arith, ints, ap (λ (x : Nearest). x.key) is, nearer, each.least i a.0, ap (λ m. key_of t m v) a.1)
-              ]
-              | inr a ↦ omega (arith, ints, ap (λ (x : Nearest). x.key) is, ap (λ m. key_of t m v) a.1)
-            ];
+            key = ap (λ (x : Nearest). x.key) is ∙ ap (λ m. key_of t m v) (sym last);
+            least = each-more (λ i m. n.key ≤ℤ key_of t m v) (λ i within. elim less [
+              | inl one ↦ absurd (omega (arith, within, is_first one))
+              | inr nearer ↦
+                  omega (arith, ints, ap (λ (x : Nearest). x.key) is, nearer, (near.each v low_v (omega (arith, within))).least i within)
+            ]) (omega (arith, ints, ap (λ (x : Nearest). x.key) is));
           }
         where
-          at_last : kept_at more (length ms) ≡ new_kept
-          at_last = elim (at_end ms new_kept no_kept (length ms) (omega (arith, more-count))) [
-            | inl a ↦ absurd (omega (arith, a.0))
-            | inr a ↦ a.1
-          ]
+          last : kept_at more (length ms) ≡ new_kept
+          last = get_or-append_seam ms new_kept [] no_kept
 
       kept-old : (v : ℕ) (n : Nearest) → v < t.size → n ≡ nearest_at nearest v → first ≡ false → (nearest_at nearest v).key ≤ℤ key_of t new_kept v →
           IsNearestOf t more v n
       kept-old v n low_v is later less =
           let each = near.each v low_v (is_later later) in
-          let here = within-old each.at each.low in
+          let here = get_or_append_left ms (new_kept ∷ []) no_kept each.at each.low in
           record {
             at = each.at;
             low = omega (arith, each.low, more-count);
             leaf = ap (λ (m : Kept). m.leaf) here ∙ each.leaf ∙ ap (λ (x : Nearest). x.leaf) (sym is);
             key = ap (λ (x : Nearest). x.key) is ∙ each.key ∙ ap (λ m. key_of t m v) (sym here);
-            least = λ i within. elim (at_end ms new_kept no_kept i within) [
-              | inl a ↦ omega (arith, ints, ap (λ (x : Nearest). x.key) is, each.least i a.0, ap (λ m. key_of t m v) a.1)
-              | inr a ↦ omega (arith, ints, ap (λ (x : Nearest). x.key) is, less, ap (λ m. key_of t m v) a.1)
-            ];
+            least = each-more (λ i m. n.key ≤ℤ key_of t m v) (λ i within. omega (arith, ints, ap (λ (x : Nearest). x.key) is, each.least i within))
+                (omega (arith, ints, ap (λ (x : Nearest). x.key) is, less));
           }
-        where
-          within-old : (i : ℕ) → i < length ms → kept_at more i ≡ kept_at ms i
-          within-old i within = elim (at_end ms new_kept no_kept i (omega (arith, within, more-count))) [
-            | inl a ↦ a.1
-            | inr a ↦ absurd (omega (arith, a.0, within))
-          ]
 
       -- after one member more each leaf's nearest is taken anew where that is nearer
       pub IsNear-added : IsNear t rise more (set places leaf (length ms)) new
@@ -302,32 +328,14 @@ module _ (t : Table) (rise : ℤ) (ms : List Kept) (places : List ℕ) (nearest 
             nearest_count = count;
             rise_whole = near.rise_whole;
             rise_none = λ none. absurd (omega (arith, none, more-count));
-            first = λ some. elim (at_end ms new_kept no_kept 0 some) [
-              | inl a ↦ subst (λ (m : Kept). FitsSigned w64 m.base) (sym a.1) (near.first a.0)
-              | inr a ↦
-                  let same : (kept_at more 0).base ≡ total = omega (arith, ints, ap (λ (m : Kept). m.base) a.1, near.rise_none (sym a.0)) in
-                  subst (λ z. FitsSigned w64 z) (sym same) fits
-            ];
-            fits = λ i within. elim (at_end ms new_kept no_kept i within) [
-              | inl a ↦ subst (λ (m : Kept). FitsSigned w64 (m.base +ℤ rise)) (sym a.1) (near.fits i a.0)
-              | inr a ↦
-                  let same : (kept_at more i).base +ℤ rise ≡ total = omega (arith, ints, ap (λ (m : Kept). m.base) a.1) in
-                  subst (λ z. FitsSigned w64 z) (sym same) fits
-            ];
-            low = λ i within. elim (at_end ms new_kept no_kept i within) [
-              | inl a ↦ omega (arith, ap (λ (m : Kept). m.leaf) a.1, near.low i a.0)
-              | inr a ↦ omega (arith, ap (λ (m : Kept). m.leaf) a.1, low)
-            ];
-            placed = λ i within. elim (at_end ms new_kept no_kept i within) [
-              | inl a ↦
-                  ap (λ (m : Kept). get_or (set places leaf (length ms)) m.leaf 0) a.1
-                  ∙ get_or-set_other places leaf (kept_at ms i).leaf (length ms) 0 (λ same. other_leaf i a.0 same)
-                  ∙ near.placed i a.0
-              | inr a ↦
-                  ap (λ (m : Kept). get_or (set places leaf (length ms)) m.leaf 0) a.1
-                  ∙ get_or-set_same places leaf (length ms) 0 (omega (arith, low, near.places_count))
-                  ∙ sym a.0
-            ];
+            first = λ some. each-more (λ i m. i ≡ 0 → FitsSigned w64 m.base)
+                (λ i within zero. subst (λ k. FitsSigned w64 (kept_at ms k).base) (sym zero) (near.first (omega (arith, within))))
+                (λ none. let same : total -ℤ rise ≡ total = omega (arith, ints, near.rise_none none) in subst (λ z. FitsSigned w64 z) (sym same) fits)
+                0 some refl;
+            fits = each-more (λ i m. FitsSigned w64 (m.base +ℤ rise)) near.fits
+                (let same : (total -ℤ rise) +ℤ rise ≡ total = omega (arith, ints) in subst (λ z. FitsSigned w64 z) (sym same) fits);
+            low = low-more;
+            placed = placed-more;
             each = λ v low_v some. elim (taken v low_v) [
               | inl a ↦ taken-new v (nearest_at new v) low_v a.0 a.1
               | inr a ↦ kept-old v (nearest_at new v) low_v a.0 a.1 a.2
@@ -338,43 +346,6 @@ module _ (t : Table) (rise : ℤ) (ms : List Kept) (places : List ℕ) (nearest 
 module _ (t : Table) (totals : List ℤ) (nearest : List Nearest) (marks : List Mark) where
   abbrev Until : ℕ → ℕ → ℕ → Type 0
   Until place u v = (v < place) × IsNearestFree t nearest marks u v
-
-  abbrev At : ℕ → ℕ → ℕ → Type 0
-  At place u v = (v ≡ place) × IsNearestFree t nearest marks u v
-
-  wider : (place u v : ℕ) → Until place u v → Until (place + 1) u v
-  wider place u v is = (omega (arith, is.0), is.1)
-
-  reached : (place u v : ℕ) → At place u v → Until (place + 1) u v
-  reached place u v is = (omega (arith, is.0), is.1)
-
-  split : (place u v : ℕ) → Until (place + 1) u v → Until place u v ⊎ At place u v
-  split place u v is = elim (below_next v place is.0) [
-    | inl less ↦ inl (less, is.1)
-    | inr same ↦ inr (same, is.1)
-  ]
-
-  -- the least up to a free leaf, from the one before and the pair there
-  pub Least-free : (best result : Option Pair) (v : ℕ) → v < t.size → mark_at marks v ≡ Free →
-      IsLesser best (Some (record { u = (nearest_at nearest v).leaf; v = v; slack = slack_of t totals (nearest_at nearest v).leaf v })) result →
-      Least t totals (Until v) best → Least t totals (Until (v + 1)) result
-  Least-free best result v low free nearer least =
-      let is : IsNearestFree t nearest marks (nearest_at nearest v).leaf v = record { v_leaf = low; nearest_is = refl; free = free } in
-      Least-nearer t totals (Until v) (At v) (Until (v + 1)) (wider v) (reached v) (split v) best
-      (Some (record { u = (nearest_at nearest v).leaf; v = v; slack = slack_of t totals (nearest_at nearest v).leaf v })) result nearer least
-      (record {
-        one = (refl, is);
-        slack = refl;
-        least = λ a b here.
-            let same_leaf : a ≡ (nearest_at nearest v).leaf = here.1.nearest_is ∙ ap (λ w. (nearest_at nearest w).leaf) here.0 in
-            rw (same_leaf, here.0) (omega (arith, ints));
-      })
-
-  -- a leaf that is not free is passed over
-  pub Least-passed : (best : Option Pair) (v : ℕ) → (mark_at marks v ≡ Free → ⊥) → Least t totals (Until v) best → Least t totals (Until (v + 1)) best
-  Least-passed best v passed least =
-      Least-same t totals (Until v) (At v) (Until (v + 1)) (wider v) (reached v) (split v) best
-      (λ a b here. passed (subst (λ w. mark_at marks w ≡ Free) here.0 here.1.free)) least
 
   -- after the last leaf it is the least of all
   pub Least-all : (best : Option Pair) → Least t totals (Until t.size) best → Least t totals (IsNearestFree t nearest marks) best
@@ -403,10 +374,3 @@ module _ (t : Table) (m : Kept) (first : Bool) (initial now : List Nearest) (v :
   pub rest-next : (w : ℕ) → v + 1 ≤ w → nearest_at (set now v n) w ≡ nearest_at initial w
   rest-next w most =
       get_or-set_other now v w n (record { leaf = 0; key = pos 0 }) (λ same. absurd (omega (arith, same, most))) ∙ rest w (omega (arith, most))
-
--- what is least of some pairs is so of the same pairs in other words
-pub Least-renamed : (t : Table) (totals : List ℤ) (One Other : ℕ → ℕ → Type 0) → ((u v : ℕ) → One u v → Other u v) → ((u v : ℕ) → Other u v → One u v) →
-    (best : Option Pair) → Least t totals One best → Least t totals Other best
-Least-renamed t totals One Other forth back None none = λ u v is. none u v (back u v is)
-Least-renamed t totals One Other forth back (Some p) least =
-    record { one = forth p.u p.v least.one; slack = least.slack; least = λ u v is. least.least u v (back u v is) }

@@ -2,10 +2,8 @@
 use Rattle.std.specs.Prelude.{◌≤◌, vec_capacity}
 use Rattle.sg_slack.specs.declared.near.Near.TheInside.{Inside}
 use Rattle.sg_slack.specs.Kept.{IsNear}
-use Rattle.sg_slack.specs.Partner.{KeepsPartners}
 
--- the members, the nearest of them, those nearest to each other, and room for all leaves as members
+-- the members, the nearest of them, and room for all leaves as members
 pub record HoldsInside (e : Inside) : Type 0 where
   pub near : IsNear e.costs e.rise e.members.items e.places.items e.nearest.items
   pub room : e.costs.size ≤ vec_capacity e.members
-  pub partners : KeepsPartners e.costs e.members.items e.partners

@@ -1,12 +1,14 @@
 -- What a `Near` keeps of its members: the total of each less what all have risen by, and for each leaf the
 -- nearest of them.
 use Rattle.std.specs.Prelude.{◌≡◌, ℕ, ◌<◌, List, length, map, slice_index_or, ℤ, pos, ◌+ℤ◌, ◌-ℤ◌, ◌≤ℤ◌, FitsSigned}
-use Rattle.std.specs.Prelude.{Bool, true, false, ◌⊎◌}
+use Rattle.std.specs.Prelude.{Bool, true, false, ◌⊎◌, Option, Some, None}
 use Rattle.std.specs.Int.{w64}
+use Rattle.sg_slack.specs.declared.Mark.{Mark}
+use Rattle.sg_slack.specs.declared.Mark.TheVariants.{Outer}
 use Rattle.sg_slack.specs.declared.member.Kept.{Kept}
 use Rattle.sg_slack.specs.declared.near.Nearest.{Nearest}
 use Rattle.sg_slack.specs.Members.{Member}
-use Rattle.sg_slack.specs.Slack.{total_at}
+use Rattle.sg_slack.specs.Slack.{mark_at, total_at}
 use Rattle.sg_slack.specs.Table.{Table, cost_of}
 
 -- the member at a place
@@ -45,6 +47,23 @@ pub record IsNear (t : Table) (rise : ℤ) (members : List Kept) (places : List 
   pub low : (i : ℕ) → i < length members → (kept_at members i).leaf < t.size
   pub placed : (i : ℕ) → i < length members → slice_index_or places (kept_at members i).leaf 0 ≡ i
   pub each : (v : ℕ) → v < t.size → 0 < length members → IsNearestOf t members v (nearest_at nearest v)
+
+-- an outer member whose total has risen by this number
+abbrev pub HasRisen : List ℤ → List Mark → ℤ → Kept → Type 0
+HasRisen totals marks rise m = (mark_at marks m.leaf ≡ Outer) × (total_at totals m.leaf ≡ m.base +ℤ rise)
+
+-- all have, since the first member came, and by no less than at the last change
+pub record IsRiseTo (members : List Kept) (last : ℤ) (totals : List ℤ) (marks : List Mark) (rise : ℤ)
+    : Type 0 where
+  pub some : 0 < length members
+  pub more : last ≤ℤ rise
+  pub each : (i : ℕ) → i < length members → HasRisen totals marks rise (kept_at members i)
+
+-- the rise, if there is one, and each member's total fits an i64
+abbrev pub IsRise : List Kept → ℤ → List ℤ → List Mark → Option ℤ → Type 0
+IsRise members last totals marks None = (rise : ℤ) → ¬ IsRiseTo members last totals marks rise
+IsRise members last totals marks (Some rise) = IsRiseTo members last totals marks rise ×
+    ((i : ℕ) → i < length members → FitsSigned w64 (total_at totals (kept_at members i).leaf))
 
 -- the new member, if it is the first or has the less key, else the one before
 abbrev pub IsTakenAt : Table → Kept → Bool → ℕ → Nearest → Nearest → Type 0

@@ -4,6 +4,5 @@ pub mod Scan
 pub mod Small
 pub mod Members
 pub mod Kept
-pub mod Partner
 pub mod Fields
 pub mod Line

@@ -23,4 +23,5 @@ pub record SetsPair (old new : Table) (u v : ℕ) (cost : ℤ) : Type 0 where
   pub size : new.size ≡ old.size
   pub forth : cost_of new u v ≡ cost
   pub back : cost_of new v u ≡ cost
-  pub others : (a b : ℕ) → a < old.size → b < old.size → ¬ IsPairOf a b u v → cost_of new a b ≡ cost_of old a b
+  pub others : (a b : ℕ) → a < old.size → b < old.size → ¬ IsPairOf a b u v →
+      cost_of new a b ≡ cost_of old a b

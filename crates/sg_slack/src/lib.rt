@@ -6,16 +6,15 @@
 //! of the sets that hold it. The *slack* of two leaves that no set holds together is their cost
 //! less their two totals. Edmonds' method grows a tree from an unpaired leaf; it next needs the pair
 //! of least slack between the tree's outer leaves and the leaves outside, and that between two outer
-//! leaves of different sets. A [`Near`] gives both from the nearest leaves that it keeps, and the
-//! engine takes them from there. [`least_outer_free`] and [`least_outer_outer`] go over all pairs and
-//! keep nothing: they are for a caller without a `Near`, and what tests compare its answers with.
+//! leaves of different sets. A [`Near`] gives the first from the nearest leaves that it keeps, and
+//! [`least_outer_outer`] finds the second by a scan over all pairs. So does [`least_outer_free`] for the
+//! first: tests compare the answers of a `Near` with it.
 //!
 //! For the next engineer: the clause that matters is `Least` of `specs/Slack.antt`: a pair of least
 //! slack among those meant, and none exactly where there is none. Which of several such pairs is given
 //! is free. A table is seen by its entries, `cost_of` of `specs/Table.antt`. Neither scan allocates. A
 //! `Near` is seen as its costs and the list of its members with their totals (`Known` of
-//! `specs/Members.antt`); what it keeps is `IsNear` of `specs/Kept.antt`, and from call to call of
-//! `least_between` `KeepsPartners` of `specs/Partner.antt`.
+//! `specs/Members.antt`); what it keeps is `IsNear` of `specs/Kept.antt`.
 #![tactic(auto)]
 
 ghost use Rattle.std.specs.Prelude.{◌≡◌, ◌≢◌, ◌↔◌, ◌<◌, ◌-ℤ◌, FitsSigned, IsTrue, Some, false, length};
@@ -25,7 +24,6 @@ ghost use Rattle.sg_slack.specs.Scan.{IsLesser, IsOuterFreeOf, IsOuterOuterOf};
 
 mod member;
 mod near;
-mod partners;
 
 pub use near::Near;
 use std::alloc::{AllocError, Global};
@@ -112,16 +110,6 @@ impl Costs {
         self.entries[u as usize * self.size as usize + v as usize]
     }
 
-    // The cost of two leaves from the row of the second: where one leaf stands beside many, its row is
-    // read through, and not one entry of each row.
-    fn cost_by_row(&self, u: u32, row: u32) -> i64
-        requires u { u < self.now.size }
-        requires row { row < self.now.size }
-        ensures { result ≡ cost_of self.now u row }
-    {
-        self.entries[row as usize * self.size as usize + u as usize]
-    }
-
     /// Sets the cost of two leaves, in both orders. All other entries stay.
     ///
     /// Cost: constant.
@@ -205,9 +193,9 @@ fn nearest_outer(costs: &Costs, total: &[i64], top: &[usize], mark: &[Mark], u: 
 {
     let mut best = None;
     for v in 0..costs.size() {
-        let pair = pair_of(costs, total, u, v);
-        let counts = is_other_outer(mark[v as usize], top[u as usize], top[v as usize]);
-        best = nearer_if(best, pair, counts);
+        if is_other_outer(mark[v as usize], top[u as usize], top[v as usize]) {
+            best = nearer_if(best, pair_of(costs, total, u, v), true);
+        }
     }
     best
 }

@@ -1,11 +1,10 @@
 ghost use Rattle.std.specs.Prelude.{◌≡◌, ◌≢◌, ◌↔◌, IsTrue, ℕ, ◌<◌, ◌≤ℤ◌, ◌+ℤ◌, ◌-ℤ◌, ◌⊎◌, ◌^◌, FitsSigned, length, pos, negsuc, true, false};
 ghost use Rattle.std.specs.Int.{w64};
-ghost use Rattle.sg_slack.specs.Kept.{nearest_at, IsKeyOf, IsTakenAt};
+ghost use Rattle.sg_slack.specs.Kept.{kept_at, nearest_at, HasRisen, IsKeyOf, IsRise, IsTakenAt};
 ghost use Rattle.sg_slack.specs.Scan.{IsNearestFree};
-ghost use Rattle.sg_slack.specs.Slack.{slack_of, Least, SumsFit};
+ghost use Rattle.sg_slack.specs.Slack.{slack_of, total_at, Least, SumsFit};
 
 use super::member::Kept;
-use super::partners::Partners;
 use super::{Costs, Mark, NoMemory, Pair, difference, is_free, nearer_if};
 use std::alloc::Global;
 use std::marker::Model;
@@ -31,7 +30,6 @@ pub struct Near {
     places: Vec<usize>,
     // For each leaf; where there is a member.
     nearest: Vec<Nearest>,
-    partners: Partners,
 }
 
 impl Model for Near {
@@ -47,10 +45,10 @@ impl Model for Near {
 }
 
 impl Near {
-    ghost use Rattle.std.specs.Prelude.{◌≡◌, ◌↔◌, ℕ, ◌<◌, ◌≤ℤ◌, ◌++◌, ◌∷◌, [], IfOk, IsTrue, length, pos};
+    ghost use Rattle.std.specs.Prelude.{◌≡◌, ◌↔◌, ℕ, ℤ, ◌<◌, ◌≤ℤ◌, ◌++◌, ◌∷◌, [], IfOk, IsTrue, length, pos};
     ghost use Rattle.sg_slack.specs.declared.Mark.TheVariants.{Outer};
-    ghost use Rattle.sg_slack.specs.Members.{grown, Agree, IsMember, TotalsFit};
-    ghost use Rattle.sg_slack.specs.Slack.{mark_at, IsOuterFree, IsOuterOuter, Least, SumsFit};
+    ghost use Rattle.sg_slack.specs.Members.{grown, Agree, AreMarked, HaveGrown, IsMember, TotalsFit};
+    ghost use Rattle.sg_slack.specs.Slack.{mark_at, IsOuterFree, Least, SumsFit};
 
     /// These costs and no members.
     ///
@@ -63,14 +61,12 @@ impl Near {
         let members = Vec::with_capacity(alloc, count)?;
         let places = vec![in alloc; 0usize; count]?;
         let nearest = vec![in alloc; Nearest { leaf: 0, key: 0 }; count]?;
-        let partners = Partners::open(alloc, count)?;
         Ok(Near {
             costs,
             rise: 0,
             members,
             places,
             nearest,
-            partners,
         })
     }
 
@@ -103,7 +99,6 @@ impl Near {
     {
         self.members.clear();
         self.rise = 0;
-        self.partners.forget();
     }
 
     /// Adds a leaf with its total. All else stays.
@@ -137,6 +132,25 @@ impl Near {
         self.rise = risen(self.rise, delta, self.members.is_empty());
     }
 
+    /// Raises the members' totals to those given, if each member is outer and all totals have grown by
+    /// the same; else leaves no members. So all members are kept, or none. The costs stay.
+    ///
+    /// Cost: proportional to the number of members.
+    pub fn follow(&mut self, total: &[i64], mark: &[Mark])
+        requires totals { length total.now ≡ self.old.table.size }
+        requires marks { length mark.now ≡ self.old.table.size }
+        ensures table { self.new.table ≡ self.old.table }
+        ensures outer { AreMarked self.new.members mark.now }
+        ensures agree { Agree self.new.members total.now }
+        ensures kept { (delta : ℤ) → HaveGrown self.old.members total.now mark.now delta → self.new.members ≡ grown delta self.old.members }
+        ensures cleared { ((delta : ℤ) → ¬ HaveGrown self.old.members total.now mark.now delta) → self.new.members ≡ [] }
+    {
+        match rise_to(&self.members, self.rise, total, mark) {
+            Some(rise) => self.rise = rise,
+            None => self.clear(),
+        }
+    }
+
     /// A pair of least slack of an outer leaf `u` and a free leaf `v`, none where there is no such
     /// pair: the answer of [`least_outer_free`](crate::least_outer_free) where the members are the
     /// outer leaves. The three slices have an entry for each leaf; `top` isn't read.
@@ -156,32 +170,6 @@ impl Near {
         }
         nearest_kept(&self.costs, self.rise, &self.nearest, total, mark)
     }
-
-    /// A pair of least slack of two outer leaves of different tops, none where there is no such pair:
-    /// the answer of [`least_outer_outer`](crate::least_outer_outer) where the members are the outer
-    /// leaves. The three slices have an entry for each leaf. Costs and members stay.
-    ///
-    /// For each member one is kept from call to call to which none of another top is nearer. That
-    /// stays so while members that shared a top go on to share one, as they do while a tree grows;
-    /// where the two have come into one top, the member is looked at anew only when their pair would
-    /// be the least.
-    ///
-    /// Cost: proportional to the number of members, and again to it for each member that is new, and
-    /// for each whose kept one has come into its own top, if their slack is less than that of all kept
-    /// pairs of different tops; to the square of the number of members where a top was taken apart.
-    pub fn least_between(&mut self, total: &[i64], top: &[usize], mark: &[Mark]) -> Option<Pair>
-        requires totals { length total.now ≡ self.old.table.size }
-        requires tops { length top.now ≡ self.old.table.size }
-        requires marks { length mark.now ≡ self.old.table.size }
-        requires fits { SumsFit self.old.table total.now }
-        requires members { (u : ℕ) → u < self.old.table.size → (mark_at mark.now u ≡ Outer) ↔ IsMember self.old.members u }
-        requires agree { Agree self.old.members total.now }
-        ensures table { self.new.table ≡ self.old.table }
-        ensures kept { self.new.members ≡ self.old.members }
-        ensures least { Least self.old.table total.now (IsOuterOuter self.old.table top.now mark.now) result }
-    {
-        self.partners.least(&self.costs, &self.members, total, top)
-    }
 }
 
 // What the totals have risen by after a shift; nothing where there is no member.
@@ -192,6 +180,58 @@ fn risen(rise: i128, delta: i64, none: bool) -> i128
     ensures some { none ≡ false → result ≡ rise +ℤ delta }
 {
     if none { 0 } else { rise + i128::from(delta) }
+}
+
+// What all totals have risen by since the first member came, and had by the last change; none where they
+// have not risen alike, or where a member is not outer.
+fn rise_to(members: &[Kept], last: i128, total: &[i64], mark: &[Mark]) -> Option<i128>
+    requires last { pos 0 ≤ℤ last }
+    requires low { (i : ℕ) → i < length members.now → (kept_at members.now i).leaf < length total.now }
+    requires marks { length mark.now ≡ length total.now }
+    requires first { 0 < length members.now → FitsSigned w64 (kept_at members.now 0).base }
+    ensures { IsRise members.now last total.now mark.now result }
+{
+    if members.is_empty() {
+        return None;
+    }
+    let rise = rise_of(members[0], total);
+    if rise < last {
+        return None;
+    }
+    for member in members {
+        if !has_risen(*member, rise, total, mark) {
+            return None;
+        }
+    }
+    Some(rise)
+}
+
+// What the total of a member has risen by since the first member came.
+fn rise_of(member: Kept, total: &[i64]) -> i128
+    requires low { member.leaf < length total.now }
+    requires base { FitsSigned w64 member.base }
+    ensures rise { result ≡ total_at total.now member.leaf -ℤ member.base }
+    ensures high { result ≤ℤ pos (2 ^ 66) }
+{
+    i128::from(total[member.leaf as usize]) - member.base
+}
+
+// Whether a member is outer and its total has risen by so much.
+fn has_risen(member: Kept, rise: i128, total: &[i64], mark: &[Mark]) -> bool
+    requires low { member.leaf < length total.now }
+    requires marks { length mark.now ≡ length total.now }
+    requires whole { pos 0 ≤ℤ rise }
+    requires high { rise ≤ℤ pos (2 ^ 66) }
+    ensures fits { FitsSigned w64 (total_at total.now member.leaf) }
+    ensures risen { IsTrue result → HasRisen total.now mark.now rise member }
+    ensures each { HasRisen total.now mark.now rise member → IsTrue result }
+{
+    let leaf = member.leaf as usize;
+    let now = i128::from(total[leaf]);
+    match mark[leaf] {
+        Mark::Outer => now - rise == member.base,
+        _ => false,
+    }
 }
 
 // Takes a new member as the nearest of each leaf to which none is nearer.

@@ -1,32 +1,13 @@
-use Rattle.std.proofs.Common.{◌<◌, ◌+◌, Some, arith, inl, inr, refl, subst, sym, ◌∙◌}
-use Rattle.std.proofs.lemmas.Bool.{cases_Bool, false≢true}
-use Rattle.sg_slack.specs.Slack.{Least}
+use Rattle.std.proofs.Common.{Some, refl, subst, arith}
 use Rattle.sg_slack.specs.Scan.{IsLesser, IsOuterFreeOf}
-use Rattle.sg_slack.proofs.ScanLemmas.{Row-none, Row-pair}
+use Rattle.sg_slack.proofs.ScanLemmas.{Least-if}
 use Rattle.sg_slack.proofs.nearest_free.Goals as goal
 
 pub loop-v-preserved : goal.loop-v-preserved
 loop-v-preserved c =
-    let costs = c.args.costs.now in
-    let total = c.args.total.now in
-    let Is = IsOuterFreeOf costs c.args.mark.now c.args.u in
-    let v = c.loop-v.v in
-    elim (cases_Bool c.is_free.result) [
-      | inl counted ↦
-          let here : Is c.args.u v = (
-            refl,
-            record {
-              u_leaf = c.requires.leaf;
-              v_leaf = omega arith;
-              outer = c.requires.outer;
-              free =
-                  c.is_free.ensures.0 counted;
-            },
-          ) in
-          Row-pair costs total Is c.args.u (λ a b is. is.0) c.loop-v.best c.nearer_if-best.result v here
-          (subst (λ p. IsLesser c.loop-v.best (Some p) c.nearer_if-best.result) c.pair_of-pair.ensures (c.nearer_if-best.ensures.yes counted))
-          c.loop-v.invariant
-      | inr passed ↦
-          subst (λ r. Least costs total (λ a b. (b < v + 1) × Is a b) r) (sym (c.nearer_if-best.ensures.no passed))
-          (Row-none costs total Is c.args.u (λ a b is. is.0) c.loop-v.best v (λ is. false≢true (sym passed ∙ c.is_free.ensures.1 is.1.free)) c.loop-v.invariant)
-    ]
+    Least-if c.args.costs.now c.args.total.now (IsOuterFreeOf c.args.costs.now c.args.mark.now c.args.u) (λ a b. b) c.loop-v.v c.args.u c.loop-v.v
+    c.is_free.result c.loop-v.best c.nearer_if-best.result
+    (λ is. (refl, (refl, record { u_leaf = c.requires.leaf; v_leaf = omega arith; outer = c.requires.outer; free = c.is_free.ensures.0 is })))
+    (λ a b at. (at.1.0, at.0, c.is_free.ensures.1 (rw (at.0) at at.1.1.free)))
+    (λ is. subst (λ p. IsLesser c.loop-v.best (Some p) c.nearer_if-best.result) c.pair_of-pair.ensures (c.nearer_if-best.ensures.yes is))
+    c.nearer_if-best.ensures.no c.loop-v.invariant

@@ -1,9 +1,10 @@
-use Rattle.std.proofs.Common.{◌<◌, ◌+◌, Some, arith, inl, inr, refl, subst, sym, ◌∙◌}
-use Rattle.std.proofs.lemmas.Bool.{cases_Bool, false≢true}
-use Rattle.sg_slack.specs.Slack.{Least}
+use Rattle.std.proofs.Common.{◌<◌, ◌+◌, Some, true, refl, subst, arith, sym, ◌∙◌}
+use Rattle.std.proofs.lemmas.Bool.{false≢true}
 use Rattle.sg_slack.specs.Scan.{IsLesser, IsOuterOuterOf}
-use Rattle.sg_slack.proofs.ScanLemmas.{Row-none, Row-pair}
+use Rattle.sg_slack.specs.Slack.{Least}
+use Rattle.sg_slack.proofs.ScanLemmas.{Least-if, Least-none}
 use Rattle.sg_slack.proofs.nearest_outer.Goals as goal
+use Rattle.sg_slack.proofs.nearest_outer.Goals.{then-is_other_outer, else-is_other_outer}
 
 pub loop-v-preserved : goal.loop-v-preserved
 loop-v-preserved c =
@@ -11,18 +12,18 @@ loop-v-preserved c =
     let total = c.args.total.now in
     let Is = IsOuterOuterOf costs c.args.top.now c.args.mark.now c.args.u in
     let v = c.loop-v.v in
-    elim (cases_Bool c.is_other_outer-counts.result) [
-      | inl counted ↦
-          let is = c.is_other_outer-counts.ensures.0 counted in
-          let here : Is c.args.u v = (
-            refl,
-            record { u_leaf = c.requires.leaf; v_leaf = omega arith; u_outer = c.requires.outer; v_outer = is.0; apart = is.1 },
-          ) in
-          Row-pair costs total Is c.args.u (λ a b is. is.0) c.loop-v.best c.nearer_if-best.result v here
-          (subst (λ p. IsLesser c.loop-v.best (Some p) c.nearer_if-best.result) c.pair_of-pair.ensures (c.nearer_if-best.ensures.yes counted))
-          c.loop-v.invariant
-      | inr passed ↦
-          subst (λ r. Least costs total (λ a b. (b < v + 1) × Is a b) r) (sym (c.nearer_if-best.ensures.no passed))
-          (Row-none costs total Is c.args.u (λ a b is. is.0) c.loop-v.best v (λ is. false≢true (sym passed
-          ∙ c.is_other_outer-counts.ensures.1 (is.1.v_outer, is.1.apart))) c.loop-v.invariant)
+    elim c.if-is_other_outer.branch [
+      | then-is_other_outer w ↦
+          let at = c.is_other_outer.ensures.0 w.if-is_other_outer.true in
+          subst (Least costs total (λ a b. (b < v + 1) × Is a b)) (sym w.best-is)
+          (Least-if costs total Is (λ a b. b) v c.args.u v true c.loop-v.best w.nearer_if-best.result
+          (λ is. (refl, (refl, record { u_leaf = c.requires.leaf; v_leaf = omega arith; u_outer = c.requires.outer; v_outer = at.0; apart = at.1 })))
+          (λ a b here. (here.1.0, here.0, refl))
+          (λ is. subst (λ p. IsLesser c.loop-v.best (Some p) w.nearer_if-best.result) w.pair_of.ensures (w.nearer_if-best.ensures.yes refl))
+          (λ none. absurd (false≢true (sym none))) c.loop-v.invariant)
+      | else-is_other_outer w ↦
+          subst (Least costs total (λ a b. (b < v + 1) × Is a b)) (sym w.best-is)
+          (Least-none costs total Is (λ a b. b) v c.loop-v.best
+          (λ a b here. false≢true (sym w.if-is_other_outer.false
+          ∙ c.is_other_outer.ensures.1 (rw (here.0) at here.1.1.v_outer, rw (here.0) at (rw (here.1.0) at here.1.1.apart)))) c.loop-v.invariant)
     ]

@@ -5,7 +5,6 @@ use Rattle.std.specs.Vec.{with_items}
 use Rattle.std.proofs.lemmas.Int.{to_z-of_z}
 use Rattle.std.proofs.lemmas.List.{with_items_is}
 use Rattle.sg_slack.proofs.NearLemmas.{IsNear-added, members-more, room-more, wrapped_difference}
-use Rattle.sg_slack.proofs.PartnerLemmas.{KeepsPartners-more}
 use Rattle.sg_slack.specs.Kept.{IsTakenAt, members_of, nearest_at}
 use Rattle.sg_slack.specs.Members.{IsMember, Known}
 use Rattle.sg_slack.specs.declared.member.Kept.{Kept}
@@ -23,7 +22,7 @@ pub push_reserved-requires : goal.push_reserved-requires
 push_reserved-requires c =
     let e = c.self.inside in
     let at = (goal.at.push_reserved-requires c).After-self in
-    let room = room-more e.costs e.rise e.members.items e.places.items e.nearest.items c.self.invariant.near c.args.leaf c.args.total (low at) (fresh
+    let room = room-more c.self.invariant.near c.args.leaf c.args.total (low at) (fresh
     at) (search rules) in
     omega (arith, room, c.self.invariant.room, e.members.ok)
 
@@ -69,12 +68,11 @@ invariant_of-self c =
     let none : c.is_empty-first.result ≡ true → length ms ≡ 0 = λ is. search rules in
     let some : c.is_empty-first.result ≡ false → 0 < length ms = λ is. search rules in
     let count : length c.take_nearer.new.nearest ≡ e.costs.size = c.take_nearer.ensures.count in
-    let near = IsNear-added e.costs e.rise ms e.places.items e.nearest.items c.self.invariant.near c.args.leaf c.args.total (low at) (fresh at) (search rules)
+    let near = IsNear-added c.self.invariant.near c.args.leaf c.args.total (low at) (fresh at) (search rules)
     c.is_empty-first.result none some c.take_nearer.new.nearest count (taken c) in
     record {
       near = rw (items_are c, nearest_are c, len_is) near;
       room = search rules;
-      partners = rw (items_are c) (KeepsPartners-more e.costs ms (kept c) e.partners c.self.invariant.partners);
     }
 
 pub returns-clause-members : goal.returns-clause-members
@@ -84,5 +82,5 @@ returns-clause-members c =
     subst (λ (s : Known). members_of e.rise c.push_reserved.new.self.items ≡ s.members ++ record { leaf = c.args.leaf; total = c.args.total } ∷ [])
     c.self.view_is
     (ap (members_of e.rise) (items_are c)
-    ∙ members-more e.costs e.rise e.members.items e.places.items e.nearest.items c.self.invariant.near c.args.leaf c.args.total (low at) (fresh at)
+    ∙ members-more c.self.invariant.near c.args.leaf c.args.total (low at) (fresh at)
     (search rules))

@@ -23,7 +23,7 @@ returns-then-place-len c =
     IsTrue (nat_eq c.index.result.now.leaf leaf))) c.self.view_is (
       (λ hit. IsMember-kept e.rise ms place leaf low (ap (λ (m : Kept). m.leaf) (sym here) ∙ eqb-true c.index.result.now.leaf leaf hit)),
       (λ is.
-          let at = placed-member e.costs e.rise ms e.places.items e.nearest.items c.self.invariant.near leaf is in
+          let at = placed-member c.self.invariant.near leaf is in
           eq-eqb c.index.result.now.leaf leaf (ap (λ (m : Kept). m.leaf) here ∙ ap (λ i. (kept_at ms i).leaf) place_is ∙ at.1)),
     )
 
@@ -39,6 +39,6 @@ returns-else-place-len c =
     IsTrue (nat_lt place c.len.result))) c.self.view_is (
       (λ hit. absurd (false≢true (sym (le-ltb place c.len.result c.if-place-len.false) ∙ hit))),
       (λ is.
-          let at = placed-member e.costs e.rise e.members.items e.places.items e.nearest.items c.self.invariant.near leaf is in
+          let at = placed-member c.self.invariant.near leaf is in
           absurd (omega (arith, at.0, place_is, c.if-place-len.false, c.len.ensures, e.members.ok))),
     )

@@ -23,7 +23,7 @@ returns c =
     let scanned = subst (λ (xs : List Nearest). Least e.costs totals (IsNearestFree e.costs xs marks) c.nearest_kept.result) c.deref.ensures.value
     c.nearest_kept.ensures in
     subst (λ (s : Known). Least s.table totals (IsOuterFree s.table marks) c.nearest_kept.result) c.self.view_is
-    (Least-kept e.costs e.rise ms e.places.items e.nearest.items c.self.invariant.near totals marks members agree c.nearest_kept.result some scanned)
+    (Least-kept c.self.invariant.near totals marks members agree c.nearest_kept.result some scanned)
 
 pub nearest_kept-requires-clause-keys : goal.nearest_kept-requires-clause-keys
 nearest_kept-requires-clause-keys c =
@@ -33,4 +33,4 @@ nearest_kept-requires-clause-keys c =
     let agree = subst (λ (s : Known). Agree s.members totals) (sym c.self.view_is) c.requires.agree in
     let rise_is : to_z w128 (of_z w128 e.rise) ≡ e.rise = to_z-of_z w128 e.rise (search rules) in
     λ v low. rw (rise_is, c.deref.ensures.value)
-    (key-kept e.costs e.rise e.members.items e.places.items e.nearest.items c.self.invariant.near totals agree some v low)
+    (key-kept c.self.invariant.near totals agree some v low)

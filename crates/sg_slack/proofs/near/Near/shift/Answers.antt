@@ -33,18 +33,15 @@ invariant_of-self c =
           let same : e.rise ≡ risen c = c.self.invariant.near.rise_none no_members ∙ sym (none_is c none) in
           record {
             near = subst (λ z. IsNear e.costs z ms e.places.items e.nearest.items) same c.self.invariant.near;
-            room =
-                c.self.invariant.room;
-            partners = c.self.invariant.partners;
+            room = c.self.invariant.room;
           }
       | inr later ↦
           let some : 0 < length ms = search rules in
           let fits = subst (λ (s : Known). TotalsFit c.args.delta s.members) (sym c.self.view_is) c.requires.fits in
           record {
             near = subst (λ z. IsNear e.costs z ms e.places.items e.nearest.items) (sym (some_is c later))
-                (IsNear-shifted e.costs e.rise ms e.places.items e.nearest.items c.self.invariant.near c.args.delta some c.requires.whole fits);
+                (IsNear-shifted c.self.invariant.near c.args.delta some c.requires.whole fits);
             room = c.self.invariant.room;
-            partners = c.self.invariant.partners;
           }
     ]
 
