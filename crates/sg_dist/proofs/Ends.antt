@@ -74,9 +74,8 @@ module _ (g : Graph) (source : ℕ) (low : source < g.nodes) where
       light = λ x h. omega (arith, no_length x h);
       parents = λ x e h. (let p = parent_reached first_table x e h in absurd (p.0 (only x p.1)));
       back = λ x h. ([], only x h, one);
-      candidates = All-nil (IsCandidate g first_table);
-      order = λ x h. All-nil (λ c. length_to first_table x ≤ c.distance);
     };
+    waiting = record { candidates = All-nil (IsCandidate g first_table); order = λ x h. All-nil (λ c. length_to first_table x ≤ c.distance) };
     here = home;
     latest = λ x h. omega (arith, no_length x h);
     frontier = λ v e h but. (let c = but (only v h) in absurd (omega (arith, c.1)));
@@ -110,13 +109,8 @@ module _ (g : Graph) (source : ℕ) (low : source < g.nodes) (t : Routes) (is : 
     (none : items ≡ []) where
   -- the same, in the terms of the code
   pub Spreads-start : Spreads g t (candidates items) source []
-  Spreads-start =
-      subst (λ u. Spreads g u (candidates items) source []) (sym is)
-      (subst (λ xs. Spreads g (first_table g source low) (candidates xs) source []) (sym none) (Spreads-first g source low))
+  Spreads-start = rw (is, none) (Spreads-first g source low)
 
   -- the source has the distance 0
   pub start_distance : 0 ≡ length_to t source
-  start_distance = sym (ap (λ (u : Routes). length_to u source) is ∙ first_distance)
-    where
-      first_distance : length_to (first_table g source low) source ≡ 0
-      first_distance = let s = Spreads-first g source low in s.finds.home_distance
+  start_distance = let s = Spreads-first g source low in sym (ap (λ (u : Routes). length_to u source) is ∙ s.finds.home_distance)

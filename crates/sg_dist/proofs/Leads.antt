@@ -11,9 +11,10 @@ use Rattle.sg_graph.proofs.Walks.{distance-edge, walk-append, walk-one}
 use Rattle.sg_dist.specs.declared.candidate.Candidate.{Candidate}
 use Rattle.sg_dist.specs.Search.{IsCandidate, Searches, candidate_over}
 
-module _ (g : Graph) (t : Routes) (heap : List Candidate) (s : Searches g t heap) where
+module _ {g : Graph} {t : Routes} {heap : List Candidate} (s : Searches g t heap) where
   -- a walk from a node found to one that is not weighs at least as much as some candidate
-  walk_bound : (d : ℕ) → All (λ c. d ≤ c.distance) heap → (es : List ℕ) (v u : ℕ) → is_reached t v ≡ true → is_reached t u ≡ false → IsWebWalk g v es u
+  walk_bound : (d : ℕ) → All (λ c. d ≤ c.distance) heap → (es : List ℕ) (v u : ℕ) → is_reached t v ≡ true → is_reached t u ≡ false →
+      IsWebWalk g v es u
       → d ≤ length_to t v + weight_of g es
   walk_bound d least [] v u found new w = absurd (false≢true (sym new ∙ ap (is_reached t) (sym w) ∙ found))
   walk_bound d least (e ∷ es) v u found new w = elim (cases_Bool (is_reached t w.0)) [
@@ -33,8 +34,7 @@ module _ (g : Graph) (t : Routes) (heap : List Candidate) (s : Searches g t heap
       let way = (s.finds.right is.from is.reached).reached in (
         way.0 ++ c.edge ∷ [],
         walk-append g way.0 (c.edge ∷ []) t.source is.from c.node way.1 (walk-one g c.edge is.from c.node is.leads),
-        omega
-            (arith, way.2, is.distance, sum_by-append (edge_weight g) way.0 (c.edge ∷ []), sum_by-cons (edge_weight g) c.edge []),
+        omega (arith, way.2, is.distance, sum_by-append (edge_weight g) way.0 (c.edge ∷ []), sum_by-cons (edge_weight g) c.edge []),
       )
 
   -- a node that is not found, of the least candidate, has that candidate's distance
@@ -46,7 +46,8 @@ module _ (g : Graph) (t : Routes) (heap : List Candidate) (s : Searches g t heap
   }
 
 -- where no candidate is left, no walk leads out of the nodes found
-pub closed : (g : Graph) (t : Routes) → Searches g t [] → (es : List ℕ) (v u : ℕ) → is_reached t v ≡ true → IsWebWalk g v es u → is_reached t u ≡ true
+pub closed : (g : Graph) (t : Routes) → Searches g t [] → (es : List ℕ) (v u : ℕ) → is_reached t v ≡ true → IsWebWalk g v es u →
+    is_reached t u ≡ true
 closed g t s [] v u found w = ap (is_reached t) (sym w) ∙ found
 closed g t s (e ∷ es) v u found w = elim (cases_Bool (is_reached t w.0)) [
   | inl on ↦ closed g t s es w.0 u on w.2

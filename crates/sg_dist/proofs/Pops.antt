@@ -43,13 +43,17 @@ work_falls n r r' m h p h' more most pop push =
     split : (j z : ℕ) → z ≡ (j + 1) * (m + 1) → j * (m + 1) + h' < z + h
     split j z e = omega arith
 
-module _ (g : Graph) (t : Routes) (old new : List (Reverse Candidate)) (x : Reverse Candidate) (web : IsWeb g) (s : Searches g t (candidates old))
+-- as a signed number the distance is the same
+cast_same : (n : ℕ) → n ≤ 2 ^ 60 → to_z w64 n ≡ pos n
+cast_same n small = to_z_pos w64 n (omega arith)
+
+module _ {g : Graph} {t : Routes} {old new : List (Reverse Candidate)} {x : Reverse Candidate} (web : IsWeb g) (s : Searches g t (candidates old))
     (perm : IsPermutation old (x ∷ new)) where
   perm' : IsPermutation (candidates old) (x.0 ∷ candidates new)
   perm' = IsPermutation-map (λ (y : Reverse Candidate). y.0) old (x ∷ new) perm
 
   is : IsCandidate g t x.0
-  is = taken g t (candidates old) (candidates new) x.0 s perm' (IsCandidate g t) s.finds.candidates
+  is = taken s perm' (IsCandidate g t) s.waiting.candidates
 
   -- the popped candidate leads to a node
   pub popped_low : x.0.node < g.nodes
@@ -61,38 +65,36 @@ module _ (g : Graph) (t : Routes) (old new : List (Reverse Candidate)) (x : Reve
 
   -- the node was found meanwhile
   pub Searches-dropped : is_reached t x.0.node ≡ true → Searches g t (candidates new)
-  Searches-dropped known = Searches-skip g t (candidates old) (candidates new) x.0 s perm' known
+  Searches-dropped known = Searches-skip s perm' known
 
   -- the node is found now
   module _ (fresh : is_reached t x.0.node ≡ false) where
     -- the distance of a popped candidate whose node is new is at most 2^60
     pub popped_small : x.0.distance ≤ 2 ^ 60
-    popped_small = omega (arith, candidate_small g t (candidates old) x.0 s.finds is fresh, web.light)
+    popped_small = omega (arith, candidate_small g t x.0 s.finds is fresh, web.light)
 
     -- such a node is not the source
     pub popped_not_source : x.0.node ≢ t.source
     popped_not_source e = absurd (let h : false ≡ true = sym fresh ∙ ap (is_reached t) e ∙ s.finds.home in cc)
 
-    module _ (top : IsUpperBound nearest_last x new) (next : Routes) (d : ℤ) (set : next ≡ with_route t x.0.node d x.0.edge) (cast : d ≡ pos x.0.distance) where
+    module _ (top : IsUpperBound nearest_last x new) {next : Routes} (set : next ≡ with_route t x.0.node (to_z w64 x.0.distance) x.0.edge) where
       set' : next ≡ with_route t x.0.node (pos x.0.distance) x.0.edge
-      set' = set ∙ ap (λ (z : ℤ). with_route t x.0.node z x.0.edge) cast
+      set' = set ∙ ap (λ (z : ℤ). with_route t x.0.node z x.0.edge) (cast_same x.0.distance popped_small)
 
       least : All (λ b. x.0.distance ≤ b.distance) (candidates new)
       least = nearest x new top
 
       -- the node of the least candidate is found, and none of its edges is spread yet
       pub Spreads-popped : Spreads g next (candidates new) x.0.node []
-      Spreads-popped = subst (λ u. Spreads g u (candidates new) x.0.node []) (sym set')
-          (Spreads-found g t (candidates old) (candidates new) x.0 s perm' web least fresh)
+      Spreads-popped = rw set' (Spreads-found s perm' web least fresh)
 
       -- its distance in the table is that of the candidate
       pub popped_distance : x.0.distance ≡ length_to next x.0.node
-      popped_distance = sym (ap (λ (u : Routes). length_to u x.0.node) set'
-          ∙ new_length g t (candidates old) (candidates new) x.0 s perm' web least fresh x.0.node refl)
+      popped_distance = sym (ap (λ (u : Routes). length_to u x.0.node) set' ∙ new_length s perm' web least fresh x.0.node refl)
 
       -- one node more is found
       pub popped_count : reached_count next ≡ reached_count t + 1
-      popped_count = ap reached_count set' ∙ one_more g t (candidates old) (candidates new) x.0 s perm' web least fresh
+      popped_count = ap reached_count set' ∙ one_more s perm' web least fresh
 
       -- the source stays
       pub popped_source : next.source ≡ t.source
@@ -101,7 +103,3 @@ module _ (g : Graph) (t : Routes) (old new : List (Reverse Candidate)) (x : Reve
       -- no more nodes are found than there are
       pub popped_most : reached_count next ≤ g.nodes
       popped_most = omega (arith, count_by-le-length (λ (r : Option Route). is_some r) next.to, (let f = Spreads-popped in f.finds.count))
-
--- as a signed number the distance is the same
-pub cast_same : (n : ℕ) → n ≤ 2 ^ 60 → to_z w64 n ≡ pos n
-cast_same n small = to_z_pos w64 n (omega arith)

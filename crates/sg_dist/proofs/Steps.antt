@@ -2,11 +2,12 @@
 -- spread one by one.
 use Rattle.std.proofs.Common.{inl, inr, ◌≡◌, ◌≢◌, ◌⊎◌, ℕ, zero, suc, ◌+◌, ◌<◌, ◌≤◌, pos, Bool, true, false, ◌&&◌, cond, Option, None, Some, is_some, List, [], ◌∷◌, ◌++◌, All, Contains, refl, sym, ◌∙◌, ap, subst, arith, length, get_or}
 use Rattle.std.specs.List.Sorted.{IsPermutation}
-use Rattle.std.proofs.lemmas.Bool.{cases_eq, false≢true}
+use Rattle.std.proofs.lemmas.Bool.{cases_Bool, cases_eq, false≢true}
 use Rattle.std.proofs.lemmas.List.{length-set}
 use Rattle.std.proofs.lemmas.List.Elements.{All-cons, All-head, All-tail, All-weaker, Contains-get_or, Contains-push_cases}
 use Rattle.std.proofs.lemmas.List.Sorted.{All-permutation, Contains-permutation}
 use Rattle.std.proofs.lemmas.List.Sums.{sum_by-set}
+use Rattle.sg_sums.proofs.ParityLaws.{and-false}
 use Rattle.sg_sums.proofs.SumLaws.{sum_by-gain}
 use Rattle.sg_graph.specs.declared.web.Edge.{Edge}
 use Rattle.sg_graph.specs.Web.{Graph, IsWeb, edge_at, edge_weight, total_weight, weight_at}
@@ -21,32 +22,21 @@ use Rattle.sg_dist.proofs.Leads.{least_candidate}
 -- an edge that leads out of the nodes found is not between them
 module _ (g : Graph) (t : Routes) where
   not_inner : (e v u : ℕ) → Leads g e v u → is_reached t u ≡ false → inner_at t (edge_at g e) ≡ 0
-  not_inner e v u l new = by_ways (edge_at g e) l.ways
-    where
-      none_left : (p q : Bool) (w : ℕ) → p ≡ false → cond (p && q) w 0 ≡ 0
-      none_left true q w h = absurd (false≢true (sym h))
-      none_left false q w h = refl
-
-      none_right : (p q : Bool) (w : ℕ) → q ≡ false → cond (p && q) w 0 ≡ 0
-      none_right true true w h = absurd (false≢true (sym h))
-      none_right true false w h = refl
-      none_right false q w h = refl
-
-      by_ways : (edge : Edge) → ((edge.a ≡ v) × (edge.b ≡ u)) ⊎ ((edge.a ≡ u) × (edge.b ≡ v)) → inner_at t edge ≡ 0
-      by_ways edge (inl w) = none_right (is_reached t edge.a) (is_reached t edge.b) (weight_at edge) (ap (is_reached t) w.1 ∙ new)
-      by_ways edge (inr w) = none_left (is_reached t edge.a) (is_reached t edge.b) (weight_at edge) (ap (is_reached t) w.0 ∙ new)
+  not_inner e v u l new = elim l.ways [
+    | inl w ↦ rw (ap (is_reached t) w.1 ∙ new, and-false (is_reached t (edge_at g e).a)) refl
+    | inr w ↦ rw (ap (is_reached t) w.0 ∙ new) refl
+  ]
 
   inner-le : (edge : Edge) → inner_at t edge ≤ weight_at edge
-  inner-le edge = by_both (is_reached t edge.a && is_reached t edge.b) (weight_at edge)
-    where
-      by_both : (b : Bool) (w : ℕ) → cond b w 0 ≤ w
-      by_both true w = omega arith
-      by_both false w = omega arith
+  inner-le edge = elim (cases_Bool (is_reached t edge.a && is_reached t edge.b)) [
+    | inl both ↦ rw both (omega arith)
+    | inr none ↦ rw none (omega arith)
+  ]
 
   -- a step out of the nodes found weighs no more than all edges
-  pub outward : (heap : List Candidate) (e v u : ℕ) → FindsNearest g t heap → is_reached t v ≡ true → Leads g e v u → is_reached t u ≡ false
+  pub outward : (e v u : ℕ) → FindsNearest g t → is_reached t v ≡ true → Leads g e v u → is_reached t u ≡ false
       → length_to t v + edge_weight g e ≤ total_weight g
-  outward heap e v u f found l new =
+  outward e v u f found l new =
       let none : inner_at t (get_or g.edges e (record { a = 0; b = 0; w = pos 0 })) ≡ 0 = not_inner e v u l new in
       let gain : inner_weight g t + edge_weight g e ≤ total_weight g =
       sum_by-gain (inner_at t) weight_at (edge_weight g e) g.edges e (record { a = 0; b = 0; w = pos 0 }) l.below
@@ -54,16 +44,15 @@ module _ (g : Graph) (t : Routes) where
       omega (arith, f.light v found)
 
   -- the distance of a candidate whose node is new is at most the weight of all edges
-  pub candidate_small : (heap : List Candidate) (c : Candidate) → FindsNearest g t heap → IsCandidate g t c → is_reached t c.node ≡ false
-      → c.distance ≤ total_weight g
-  candidate_small heap c f is new = omega (arith, is.distance, outward heap c.edge is.from c.node f is.reached is.leads new)
+  pub candidate_small : (c : Candidate) → FindsNearest g t → IsCandidate g t c → is_reached t c.node ≡ false → c.distance ≤ total_weight g
+  candidate_small c f is new = omega (arith, is.distance, outward c.edge is.from c.node f is.reached is.leads new)
 
 in_rest : (c x : Candidate) (rest : List Candidate) → Contains (c ∷ rest) x → (x ≡ c) ⊎ Contains rest x
 in_rest c x rest (zero, l, e) = inl (sym e)
 in_rest c x rest (suc k, l, e) = inr (k, omega arith, e)
 
 -- the candidate c is taken from the heap
-module _ (g : Graph) (t : Routes) (heap rest : List Candidate) (c : Candidate) (s : Searches g t heap) (perm : IsPermutation heap (c ∷ rest)) where
+module _ {g : Graph} {t : Routes} {heap rest : List Candidate} {c : Candidate} (s : Searches g t heap) (perm : IsPermutation heap (c ∷ rest)) where
   left : (x : Candidate) → x.node ≢ c.node → Contains heap x → Contains rest x
   left x ne h = elim (in_rest c x rest (Contains-permutation heap (c ∷ rest) x perm h)) [
     | inl e ↦ absurd (ne (ap (λ (z : Candidate). z.node) e))
@@ -80,17 +69,10 @@ module _ (g : Graph) (t : Routes) (heap rest : List Candidate) (c : Candidate) (
   -- its node is found already
   pub Searches-skip : is_reached t c.node ≡ true → Searches g t rest
   Searches-skip found = record {
-    finds = record {
-      count = s.finds.count;
-      home = s.finds.home;
-      home_distance = s.finds.home_distance;
-      signed = s.finds.signed;
-      right = s.finds.right;
-      light = s.finds.light;
-      parents = s.finds.parents;
-      back = s.finds.back;
-      candidates = rest_all (IsCandidate g t) s.finds.candidates;
-      order = λ x h. rest_all (λ b. length_to t x ≤ b.distance) (s.finds.order x h);
+    finds = s.finds;
+    waiting = record {
+      candidates = rest_all (IsCandidate g t) s.waiting.candidates;
+      order = λ x h. rest_all (λ b. length_to t x ≤ b.distance) (s.waiting.order x h);
     };
     frontier = λ v e h u l new. left (candidate_over g t v e u) (λ q. false≢true (sym new ∙ ap (is_reached t) q ∙ found)) (s.frontier v e h u l new);
   }
@@ -101,7 +83,7 @@ module _ (g : Graph) (t : Routes) (heap rest : List Candidate) (c : Candidate) (
     found = with_route t c.node (pos c.distance) c.edge
 
     c_is : IsCandidate g t c
-    c_is = taken (IsCandidate g t) s.finds.candidates
+    c_is = taken (IsCandidate g t) s.waiting.candidates
 
     -- the candidate's node is one of the table
     pub low : c.node < length t.to
@@ -145,27 +127,18 @@ module _ (g : Graph) (t : Routes) (heap rest : List Candidate) (c : Candidate) (
     heavier : inner_weight g t + edge_weight g c.edge ≤ inner_weight g found
     heavier =
         let none : inner_at t (get_or g.edges c.edge (record { a = 0; b = 0; w = pos 0 })) ≡ 0 = not_inner g t c.edge c_is.from c.node c_is.leads new in
-        let all : inner_at found (get_or g.edges c.edge (record { a = 0; b = 0; w = pos 0 })) ≡ edge_weight g c.edge = by_ways
-        (edge_at g c.edge) c_is.leads.ways in
+        let all : inner_at found (get_or g.edges c.edge (record { a = 0; b = 0; w = pos 0 })) ≡ edge_weight g c.edge = elim c_is.leads.ways [
+          | inl w ↦ rw (ap (is_reached found) w.0 ∙ kept c_is.from c_is.reached, ap (is_reached found) w.1 ∙ here) refl
+          | inr w ↦ rw (ap (is_reached found) w.0 ∙ here, ap (is_reached found) w.1 ∙ kept c_is.from c_is.reached) refl
+        ] in
         sum_by-gain (inner_at t) (inner_at found) (edge_weight g c.edge) g.edges c.edge (record { a = 0; b = 0; w = pos 0 }) c_is.leads.below
         (λ k d q. grows (get_or g.edges k d)) (omega arith)
       where
-        both : (p q : Bool) (w : ℕ) → p ≡ true → q ≡ true → cond (p && q) w 0 ≡ w
-        both true true w h k = refl
-        both true false w h k = absurd (false≢true k)
-        both false q w h k = absurd (false≢true h)
-
         here : is_reached found c.node ≡ true
         here = reached_here t c.node (pos c.distance) c.edge low
 
-        by_ways : (edge : Edge) → ((edge.a ≡ c_is.from) × (edge.b ≡ c.node)) ⊎ ((edge.a ≡ c.node) × (edge.b ≡ c_is.from)) → inner_at found edge ≡ weight_at edge
-        by_ways edge (inl w) = both (is_reached found edge.a) (is_reached found edge.b) (weight_at edge)
-            (ap (is_reached found) w.0 ∙ kept c_is.from c_is.reached) (ap (is_reached found) w.1 ∙ here)
-        by_ways edge (inr w) = both (is_reached found edge.a) (is_reached found edge.b) (weight_at edge) (ap (is_reached found) w.0 ∙ here)
-            (ap (is_reached found) w.1 ∙ kept c_is.from c_is.reached)
-
         wider : (p q p' q' : Bool) (w : ℕ) → (p ≡ true → p' ≡ true) → (q ≡ true → q' ≡ true) → cond (p && q) w 0 ≤ cond (p' && q') w 0
-        wider true true p' q' w h k = omega (arith, both p' q' w (h refl) (k refl))
+        wider true true p' q' w h k = rw (h refl, k refl) (omega arith)
         wider true false p' q' w h k = omega arith
         wider false q p' q' w h k = omega arith
 
@@ -192,7 +165,7 @@ module _ (g : Graph) (t : Routes) (heap rest : List Candidate) (c : Candidate) (
             ∙ sym (other_only g e x near.from (turned g e near.from x near.leads))) ∙ near.reached
 
     -- what was found stays right
-    Finds-found : FindsNearest g found rest
+    Finds-found : FindsNearest g found
     Finds-found = record {
       count = length-set t.to c.node (Some (record { distance = pos c.distance; edge = c.edge })) ∙ s.finds.count;
       home = kept t.source s.finds.home;
@@ -204,7 +177,7 @@ module _ (g : Graph) (t : Routes) (heap rest : List Candidate) (c : Candidate) (
       ];
       right = λ x h. elim (cases_eq x c.node) [
         | inl e ↦ subst (λ z. IsDistance g t.source z (length_to found x)) (sym e)
-            (subst (IsDistance g t.source c.node) (sym (new_length x e)) (least_candidate g t heap s c c_is least_all new))
+            (subst (IsDistance g t.source c.node) (sym (new_length x e)) (least_candidate s c c_is least_all new))
         | inr ne ↦ subst (IsDistance g t.source x) (sym (same_length x (was_found x h ne))) (s.finds.right x (was_found x h ne))
       ];
       light = λ x h. elim (cases_eq x c.node) [
@@ -217,13 +190,9 @@ module _ (g : Graph) (t : Routes) (heap rest : List Candidate) (c : Candidate) (
       ];
       back = λ x h. elim (cases_eq x c.node) [
         | inl same ↦ back_new x same
-        | inr ne ↦ (let way = s.finds.back x (was_found x h ne) in (way.0, way_kept way.0 x t.source (was_found x h ne) way.1, omega (arith, way.2, one_more)))
-      ];
-      candidates = All-weaker (IsCandidate g t) (IsCandidate g found) still rest (rest_all (IsCandidate g t) s.finds.candidates);
-      order = λ x h. elim (cases_eq x c.node) [
-        | inl e ↦ subst (λ n. All (λ b. n ≤ b.distance) rest) (sym (new_length x e)) least
-        | inr ne ↦ subst (λ n. All (λ b. n ≤ b.distance) rest) (sym (same_length x (was_found x h ne)))
-            (rest_all (λ b. length_to t x ≤ b.distance) (s.finds.order x (was_found x h ne)))
+        | inr ne ↦
+            let way = s.finds.back x (was_found x h ne) in
+            (way.0, way_kept way.0 x t.source (was_found x h ne) way.1, omega (arith, way.2, one_more))
       ];
     }
       where
@@ -253,29 +222,28 @@ module _ (g : Graph) (t : Routes) (heap rest : List Candidate) (c : Candidate) (
               (
                 c_is.from,
                 ap (parent_at found) same ∙ own_parent,
-                subst (λ z. Leads g c.edge c_is.from z)
-                    (sym same) c_is.leads,
+                subst (λ z. Leads g c.edge c_is.from z) (sym same) c_is.leads,
                 way_kept way.0 c_is.from t.source c_is.reached way.1,
               ),
               omega (arith, way.2, one_more),
             )
 
-        still : (b : Candidate) → IsCandidate g t b → IsCandidate g found b
-        still b is = record {
-          from = is.from;
-          reached = kept is.from is.reached;
-          leads = is.leads;
-          distance = omega (arith, is.distance, same_length is.from is.reached);
-        }
-
     -- a new node with its least candidate is found, and none of its edges is spread yet
     pub Spreads-found : Spreads g found rest c.node []
     Spreads-found = record {
       finds = Finds-found;
+      waiting = record {
+        candidates = All-weaker (IsCandidate g t) (IsCandidate g found) still rest (rest_all (IsCandidate g t) s.waiting.candidates);
+        order = λ x h. elim (cases_eq x c.node) [
+          | inl e ↦ subst (λ n. All (λ b. n ≤ b.distance) rest) (sym (new_length x e)) least
+          | inr ne ↦ subst (λ n. All (λ b. n ≤ b.distance) rest) (sym (same_length x (was_found x h ne)))
+              (rest_all (λ b. length_to t x ≤ b.distance) (s.waiting.order x (was_found x h ne)))
+        ];
+      };
       here = reached_here t c.node (pos c.distance) c.edge low;
       latest = λ x h. elim (cases_eq x c.node) [
         | inl e ↦ omega (arith, ap (length_to found) e)
-        | inr ne ↦ (let before : length_to t x ≤ c.distance = taken (λ b. length_to t x ≤ b.distance) (s.finds.order x (was_found x h ne)) in omega
+        | inr ne ↦ (let before : length_to t x ≤ c.distance = taken (λ b. length_to t x ≤ b.distance) (s.waiting.order x (was_found x h ne)) in omega
             (arith, same_length x (was_found x h ne), new_length c.node refl))
       ];
       frontier = λ v e h but u l fresh. elim (cases_eq v c.node) [
@@ -284,6 +252,14 @@ module _ (g : Graph) (t : Routes) (heap rest : List Candidate) (c : Candidate) (
       ];
     }
       where
+        still : (b : Candidate) → IsCandidate g t b → IsCandidate g found b
+        still b is = record {
+          from = is.from;
+          reached = kept is.from is.reached;
+          leads = is.leads;
+          distance = omega (arith, is.distance, same_length is.from is.reached);
+        }
+
         not_new : (u : ℕ) → is_reached found u ≡ false → u ≢ c.node
         not_new u fresh e = false≢true (sym fresh ∙ ap (is_reached found) e ∙ reached_here t c.node (pos c.distance) c.edge low)
 
@@ -299,7 +275,7 @@ module _ (g : Graph) (t : Routes) (heap rest : List Candidate) (c : Candidate) (
             at_distance u e d = record { distance = d; node = u; edge = e }
 
 -- one edge of the latest node more
-module _ (g : Graph) (t : Routes) (heap : List Candidate) (node e u : ℕ) (done : List ℕ) (s : Spreads g t heap node done) (l : Leads g e node u) where
+module _ {g : Graph} {t : Routes} {heap : List Candidate} {node e u : ℕ} {done : List ℕ} (s : Spreads g t heap node done) (l : Leads g e node u) where
   only : (z : ℕ) → Leads g e node z → z ≡ u
   only z lz = other_only g e node z lz ∙ sym (other_only g e node u l)
 
@@ -307,6 +283,7 @@ module _ (g : Graph) (t : Routes) (heap : List Candidate) (node e u : ℕ) (done
   pub Spreads-known : is_reached t u ≡ true → Spreads g t heap node (done ++ e ∷ [])
   Spreads-known found = record {
     finds = s.finds;
+    waiting = s.waiting;
     here = s.here;
     latest = s.latest;
     frontier = λ v k h but z lz fresh. elim (cases_eq v node) [
@@ -322,17 +299,10 @@ module _ (g : Graph) (t : Routes) (heap : List Candidate) (node e u : ℕ) (done
   -- it gives a candidate
   pub Spreads-more : (new : List Candidate) → IsPermutation (candidate_over g t node e u ∷ heap) new → Spreads g t new node (done ++ e ∷ [])
   Spreads-more new perm = record {
-    finds = record {
-      count = s.finds.count;
-      home = s.finds.home;
-      home_distance = s.finds.home_distance;
-      signed = s.finds.signed;
-      right = s.finds.right;
-      light = s.finds.light;
-      parents = s.finds.parents;
-      back = s.finds.back;
-      candidates = added (IsCandidate g t) (record { from = node; reached = s.here; leads = l; distance = refl }) s.finds.candidates;
-      order = λ x h. added (λ b. length_to t x ≤ b.distance) (omega (arith, s.latest x h)) (s.finds.order x h);
+    finds = s.finds;
+    waiting = record {
+      candidates = added (IsCandidate g t) (record { from = node; reached = s.here; leads = l; distance = refl }) s.waiting.candidates;
+      order = λ x h. added (λ b. length_to t x ≤ b.distance) (omega (arith, s.latest x h)) (s.waiting.order x h);
     };
     here = s.here;
     latest = s.latest;
@@ -345,9 +315,6 @@ module _ (g : Graph) (t : Routes) (heap : List Candidate) (node e u : ℕ) (done
     ];
   }
     where
-      fresh_one : Candidate
-      fresh_one = candidate_over g t node e u
-
       added : (P : Candidate → Type 0) → P (candidate_over g t node e u) → All P heap → All P new
       added P p h = All-permutation P (candidate_over g t node e u ∷ heap) new perm (All-cons P (candidate_over g t node e u) heap p h)
 
@@ -364,9 +331,10 @@ module _ (g : Graph) (t : Routes) (heap : List Candidate) (node e u : ℕ) (done
           subst (λ n. Contains new (candidate_over g t n k z)) (sym same) by_edge
 
 -- all edges of the latest node are spread
-pub Searches-spread : (g : Graph) (t : Routes) (heap : List Candidate) (node : ℕ) (done : List ℕ) → Spreads g t heap node done
-    → ((e u : ℕ) → Leads g e node u → Contains done e) → Searches g t heap
-Searches-spread g t heap node done s all = record {
-  finds = s.finds;
-  frontier = λ v e h u l fresh. s.frontier v e h (λ same. all e u (subst (λ z. Leads g e z u) same l)) u l fresh;
-}
+module _ {g : Graph} {t : Routes} {heap : List Candidate} {node : ℕ} {done : List ℕ} (s : Spreads g t heap node done) where
+  pub Searches-spread : ((e u : ℕ) → Leads g e node u → Contains done e) → Searches g t heap
+  Searches-spread all = record {
+    finds = s.finds;
+    waiting = s.waiting;
+    frontier = λ v e h u l fresh. s.frontier v e h (λ same. all e u (subst (λ z. Leads g e z u) same l)) u l fresh;
+  }

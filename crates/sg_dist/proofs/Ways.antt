@@ -23,7 +23,8 @@ module _ (g : Graph) (t : Routes) where
   step_to e x z l = other_only g e x z (turned g e z x l)
 
   -- a way back gets longer by the parent edge at its end
-  pub way-append : (es : List ℕ) (x y z e : ℕ) → IsWayBack g t x es y → parent_at t y ≡ Some e → Leads g e z y → IsWayBack g t x (es ++ e ∷ []) z
+  pub way-append : (es : List ℕ) (x y z e : ℕ) → IsWayBack g t x es y → parent_at t y ≡ Some e → Leads g e z y →
+      IsWayBack g t x (es ++ e ∷ []) z
   way-append [] x y z e w p l = (z, ap (parent_at t) w ∙ p, subst (λ n. Leads g e z n) (sym w) l, refl)
   way-append (f ∷ es) x y z e w p l = (w.0, w.1, w.2, way-append es w.0 y z e w.3 p l)
 

@@ -34,8 +34,8 @@ inner_at t edge = cond (is_reached t edge.a && is_reached t edge.b) (weight_at e
 abbrev pub inner_weight : Graph → Routes → ℕ
 inner_weight g t = sum_by (inner_at t) g.edges
 
--- what was found is right, and no candidate is nearer
-pub record FindsNearest (g : Graph) (t : Routes) (heap : List Candidate) : Type 0 where
+-- what was found is right
+pub record FindsNearest (g : Graph) (t : Routes) : Type 0 where
   pub count : length t.to ≡ g.nodes
   pub home : is_reached t t.source ≡ true
   pub home_distance : length_to t t.source ≡ 0
@@ -45,6 +45,9 @@ pub record FindsNearest (g : Graph) (t : Routes) (heap : List Candidate) : Type 
   pub parents : (x e : ℕ) → parent_at t x ≡ Some e → IsNearer g t x e
   pub back : (x : ℕ) → is_reached t x ≡ true →
       (es : List ℕ) × IsWayBack g t x es t.source × (length es < reached_count t)
+
+-- the heap has candidates alone, and none is nearer than what was found
+pub record Waits (g : Graph) (t : Routes) (heap : List Candidate) : Type 0 where
   pub candidates : All (IsCandidate g t) heap
   pub order : (x : ℕ) → is_reached t x ≡ true → All (λ c. length_to t x ≤ c.distance) heap
 
@@ -54,12 +57,14 @@ IsSpread g t heap v e = (u : ℕ) → Leads g e v u → is_reached t u ≡ false
 
 -- between two steps: all edges from the nodes found are spread
 pub record Searches (g : Graph) (t : Routes) (heap : List Candidate) : Type 0 where
-  pub finds : FindsNearest g t heap
+  pub finds : FindsNearest g t
+  pub waiting : Waits g t heap
   pub frontier : (v e : ℕ) → is_reached t v ≡ true → IsSpread g t heap v e
 
 -- while the latest node is spread: of its edges only those of `done` are
 pub record Spreads (g : Graph) (t : Routes) (heap : List Candidate) (node : ℕ) (done : List ℕ) : Type 0 where
-  pub finds : FindsNearest g t heap
+  pub finds : FindsNearest g t
+  pub waiting : Waits g t heap
   pub here : is_reached t node ≡ true
   pub latest : (x : ℕ) → is_reached t x ≡ true → length_to t x ≤ length_to t node
   pub frontier : (v e : ℕ) → is_reached t v ≡ true → (v ≡ node → Contains done e) → IsSpread g t heap v e

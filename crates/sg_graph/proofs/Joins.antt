@@ -51,14 +51,14 @@ module _ (g : Graph) where
         (edge.first_end, edge.second_end)
 
     -- a join has an edge in each odd cut
-    pub join_meets : (es cut : List ℕ) → IsJoin g terminals es → IsOddCut g terminals cut → (k : ℕ) × (k < length es) × (holds cut (get_or es k 0) ≡ true)
+    pub join_meets : (es cut : List ℕ) → IsJoin g terminals es → IsOddCut g terminals cut →
+        (k : ℕ) × (k < length es) × (holds cut (get_or es k 0) ≡ true)
     join_meets es cut join c =
         let crossing : parity_by (λ e. true && xor (c.inside (a_end e)) (c.inside (b_end e))) es ≡ true =
         handshake a_end b_end (λ e. true) c.inside g.nodes es (ends_of es join.below)
         ∙ parity_below-same (λ x. c.inside x && degree_parity a_end b_end (λ e. true) es x) (λ x. c.inside x && holds terminals x) g.nodes
         (λ x l. ap (λ v. c.inside x && v) (sym (ends_parity x es) ∙ odd_from_cond (sum_by (ends_at g x) es) (holds terminals x) (join.odd_at x l)))
-        ∙ members_parity c.inside terminals g.nodes are.below are.rising
-        ∙ sym (odd-count_by c.inside terminals)
+        ∙ members_parity c.inside terminals g.nodes are.below are.rising ∙ sym (odd-count_by c.inside terminals)
         ∙ odd_from_mod (count_by c.inside terminals) c.odd in
         let found = some_from_odd (λ e. true && xor (c.inside (a_end e)) (c.inside (b_end e))) es crossing in
         let here : crosses g c.inside (get_or es found.0 0) ≡ true = found.2 0 in (
@@ -95,7 +95,8 @@ module _ (g : Graph) where
             )
 
     -- the weights of a packing are at most twice the weight of any join
-    pub cuts_bound_join : (es : List ℕ) (cuts : List Cut) → IsJoin g terminals es → CutsPack g terminals cuts → sum_by odd_cut_weight cuts ≤ 2 * weight_of g es
+    pub cuts_bound_join : (es : List ℕ) (cuts : List Cut) → IsJoin g terminals es → CutsPack g terminals cuts →
+        sum_by odd_cut_weight cuts ≤ 2 * weight_of g es
     cuts_bound_join es cuts join p =
         let carried : sum_by (λ e. cut_load cuts e) es ≤ sum_by (λ e. 2 * edge_weight g e) es =
         sum_by-le-all (λ e. cut_load cuts e) (λ e. 2 * edge_weight g e) es (λ k d l. p.within (get_or es k d) (join.below k d l)) in

@@ -23,8 +23,7 @@ pub odd_in-parity : (p : ℕ → Bool) (n : ℕ) (xs : List ℕ) → All (λ x. 
 odd_in-parity p n [] low = parity_below-none (λ e. false && p e) n (λ k l. refl)
 odd_in-parity p n (x ∷ xs) low =
     parity_below-same (λ e. xor (eqb x e) (is_odd_in xs e) && p e) (λ e. xor (p e && eqb x e) (is_odd_in xs e && p e)) n
-    (λ e l. spread (eqb x e) (is_odd_in xs e) (p e))
-    ∙ parity_below-xor (λ e. p e && eqb x e) (λ e. is_odd_in xs e && p e) n
+    (λ e l. spread (eqb x e) (is_odd_in xs e) (p e)) ∙ parity_below-xor (λ e. p e && eqb x e) (λ e. is_odd_in xs e && p e) n
     ∙ ap₂ xor (parity_below_pick p x n (All-head (λ x. x < n) x xs low)) (odd_in-parity p n xs (All-tail (λ x. x < n) x xs low))
 
 gain : (a b : Bool) (u v : ℕ) → (a ≡ true → u ≡ v) → cond (xor a b) v 0 ≤ cond a u 0 + cond b v 0
@@ -37,7 +36,8 @@ pub odd_in-weight : (w : ℕ → ℕ) (n : ℕ) (xs : List ℕ) → All (λ x. x
 odd_in-weight w n [] low = let none : sum_below (λ e. cond false (w e) 0) n ≡ 0 = sum_below-zero (λ e. cond false (w e) 0) n (λ k l. refl) in omega arith
 odd_in-weight w n (x ∷ xs) low =
     let rest : sum_below (λ e. cond (is_odd_in xs e) (w e) 0) n ≤ sum_by w xs = odd_in-weight w n xs (All-tail (λ x. x < n) x xs low) in
-    let each : sum_below (λ e. cond (xor (eqb x e) (is_odd_in xs e)) (w e) 0) n ≤ sum_below (λ e. cond (eqb x e) (w x) 0 + cond (is_odd_in xs e) (w e) 0) n =
+    let each : sum_below (λ e. cond (xor (eqb x e) (is_odd_in xs e)) (w e) 0) n ≤
+    sum_below (λ e. cond (eqb x e) (w x) 0 + cond (is_odd_in xs e) (w e) 0) n =
     sum_below-le (λ e. cond (xor (eqb x e) (is_odd_in xs e)) (w e) 0) (λ e. cond (eqb x e) (w x) 0 + cond (is_odd_in xs e) (w e) 0) n
     (λ e l. gain (eqb x e) (is_odd_in xs e) (w x) (w e) (λ h. ap w (eqb-true x e h))) in
     omega (
@@ -51,10 +51,8 @@ odd_in-weight w n (x ∷ xs) low =
 pub chosen_below-parity : (m p : ℕ → Bool) (n : ℕ) → parity_by p (chosen_below m n) ≡ parity_below (λ e. m e && p e) n
 chosen_below-parity m p zero = refl
 chosen_below-parity m p (suc n) =
-    ap (λ k. parity_by p (chosen_below m k)) (sym (add-one n))
-    ∙ ap (parity_by p) (chosen_below_more m n)
-    ∙ parity_by-append p (chosen_below m n) (cond (m n) (n ∷ []) [])
-    ∙ ap₂ xor (chosen_below-parity m p n) (last (m n))
+    ap (λ k. parity_by p (chosen_below m k)) (sym (add-one n)) ∙ ap (parity_by p) (chosen_below_more m n)
+    ∙ parity_by-append p (chosen_below m n) (cond (m n) (n ∷ []) []) ∙ ap₂ xor (chosen_below-parity m p n) (last (m n))
     ∙ xor_comm (parity_below (λ e. m e && p e) n) (m n && p n)
   where
     last : (b : Bool) → parity_by p (cond b (n ∷ []) []) ≡ (b && p n)
@@ -65,10 +63,8 @@ chosen_below-parity m p (suc n) =
 pub chosen_below-weight : (m : ℕ → Bool) (w : ℕ → ℕ) (n : ℕ) → sum_by w (chosen_below m n) ≡ sum_below (λ e. cond (m e) (w e) 0) n
 chosen_below-weight m w zero = refl
 chosen_below-weight m w (suc n) =
-    ap (λ k. sum_by w (chosen_below m k)) (sym (add-one n))
-    ∙ ap (sum_by w) (chosen_below_more m n)
-    ∙ sum_by-append w (chosen_below m n) (cond (m n) (n ∷ []) [])
-    ∙ ap₂ (λ a b. a + b) (chosen_below-weight m w n) (last (m n))
+    ap (λ k. sum_by w (chosen_below m k)) (sym (add-one n)) ∙ ap (sum_by w) (chosen_below_more m n)
+    ∙ sum_by-append w (chosen_below m n) (cond (m n) (n ∷ []) []) ∙ ap₂ (λ a b. a + b) (chosen_below-weight m w n) (last (m n))
   where
     last : (b : Bool) → sum_by w (cond b (n ∷ []) []) ≡ cond b (w n) 0
     last true = omega (arith, sum_by-cons w n [])

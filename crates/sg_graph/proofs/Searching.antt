@@ -1,4 +1,5 @@
 -- A search from node 0, edge by edge and node by node.
+use Rattle.std.proofs.lemmas.Grind.{common_steps}
 use Rattle.std.proofs.Common.{inl, inr, ⊎_elim, ◌≡◌, ◌≢◌, ℕ, ◌+◌, ◌<◌, ◌≤◌, Bool, true, false, cond, List, [], ◌∷◌, ◌++◌, set, take, All, Contains, sym, ◌∙◌, ap, subst, arith, length, get_or, pos}
 use Rattle.std.proofs.lemmas.Bool.{cases_eq, cases_lt, false≢true, true≢false}
 use Rattle.std.proofs.lemmas.List.{length-set, length_push, get_or-set_same, get_or-set_other, get_or_append_left, get_or_past, get_or_default}
@@ -45,19 +46,13 @@ module _ (g : Graph) (node : ℕ) (list : List ℕ) (i : ℕ) (old marks : List 
     at_far = get_or-set_same marks far true false far_in
 
     still : (x : ℕ) → is_marked marks x ≡ true → is_marked after x ≡ true
-    still x h = elim (cases_eq x far) [
-      | inl e ↦ ap (is_marked after) e ∙ at_far
-      | inr ne ↦ get_or-set_other marks far x true false ne ∙ h
-    ]
+    still x h = grind (arith, common_steps, cases_eq, at_far, get_or-set_other)
 
     before_that : (x : ℕ) → x ≢ far → is_marked after x ≡ true → is_marked marks x ≡ true
     before_that x ne h = sym (get_or-set_other marks far x true false ne) ∙ h
 
     one_less : unmarked after + 1 ≡ unmarked marks
-    one_less =
-        let s : unmarked after + cond (is_marked marks far) 0 1 ≡ unmarked marks + 0 = sum_by-set (λ b. cond b 0 1) marks far true false far_in in
-        let one : cond {A = ℕ} (is_marked marks far) 0 1 ≡ 1 = ap (λ b. cond b 0 1) fresh in
-        omega arith
+    one_less = grind (arith, common_steps, sum_by-set)
 
     -- an edge to a node that is not marked marks and notes it
     pub Visits-new : VisitsEdges g node (take (i + 1) list) old after before (found ++ far ∷ [])
@@ -124,8 +119,7 @@ Explores-more g old new before after next node lists incident low is s v = recor
     longer x c = (
       c.0,
       omega (arith, c.1, v.longer),
-      get_or_default after c.0 x 0 (omega (arith, c.1, v.longer)) ∙ v.stays c.0 c.1
-          ∙ sym (get_or_default before c.0 x 0 c.1) ∙ c.2,
+      get_or_default after c.0 x 0 (omega (arith, c.1, v.longer)) ∙ v.stays c.0 c.1 ∙ sym (get_or_default before c.0 x 0 c.1) ∙ c.2,
     )
 
     spread_here : (e y : ℕ) → Leads g e node y → is_marked new y ≡ true
@@ -137,7 +131,8 @@ Explores-more g old new before after next node lists incident low is s v = recor
         ap (is_marked new) (other_only g e node y leads) ∙ at_e
 
 -- all that were found are spread
-pub MarksReached-all : (g : Graph) (marks : List Bool) (found : List ℕ) (next : ℕ) → Explores g marks found next → length found ≤ next → MarksReached g marks
+pub MarksReached-all : (g : Graph) (marks : List Bool) (found : List ℕ) (next : ℕ) → Explores g marks found next → length found ≤ next →
+    MarksReached g marks
 MarksReached-all g marks found next s done = record {
   count = s.count;
   right = λ x l. (λ h. s.sound x h, λ way. along way.0 0 x s.first way.1);
@@ -160,20 +155,14 @@ module _ (g : Graph) (node : ℕ) (list : List ℕ) (i other : ℕ) (edges : Lis
   -- one edge more, to a node that is marked: nothing changes
   pub Visits-more_same : (new : List Bool) (after : List ℕ) → is_marked marks other ≡ true → new ≡ marks → after ≡ found
       → VisitsEdges g node (take (i + 1) list) old new before after
-  Visits-more_same new after h m f =
-      subst (λ ms. VisitsEdges g node (take (i + 1) list) old ms before after) (sym m)
-      (subst (λ fs. VisitsEdges g node (take (i + 1) list) old marks before fs) (sym f)
-      (Visits-same g node list i old marks before found low v (ap (is_marked marks) (sym is_far) ∙ h)))
+  Visits-more_same new after h m f = rw (m, f) (Visits-same g node list i old marks before found low v (ap (is_marked marks) (sym is_far) ∙ h))
 
   -- one edge more, to a node that is not marked: it is marked and noted
   pub Visits-more_new : (new : List Bool) (after : List ℕ) → EndsAt g node (get_or list i 0) → other < length marks → is_marked marks other ≡ false
       → new ≡ set marks other true → after ≡ found ++ other ∷ [] → VisitsEdges g node (take (i + 1) list) old new before after
   Visits-more_new new after ends in' h m f =
-      let made = Visits-new g node list i old marks before found low v ends (subst (λ n. n < length marks) is_far in')
-      (ap (is_marked marks) (sym is_far) ∙ h) in
-      subst (λ ms. VisitsEdges g node (take (i + 1) list) old ms before after) (sym (m ∙ ap (λ n. set marks n true) is_far))
-      (subst (λ fs. VisitsEdges g node (take (i + 1) list) old (set marks (far g node list i old marks before found low v) true) before fs)
-      (sym (f ∙ ap (λ n. found ++ n ∷ []) is_far)) made)
+      rw (m ∙ ap (λ n. set marks n true) is_far, f ∙ ap (λ n. found ++ n ∷ []) is_far)
+      (Visits-new g node list i old marks before found low v ends (subst (λ n. n < length marks) is_far in') (ap (is_marked marks) (sym is_far) ∙ h))
 
 -- where all are marked the graph is connected
 pub all_marked : (g : Graph) (marks : List Bool) → MarksReached g marks → ((y : ℕ) → y < g.nodes → is_marked marks y ≡ true) → IsConnectedWeb g

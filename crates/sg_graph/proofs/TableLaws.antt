@@ -22,7 +22,8 @@ module _ (g : Graph) (t : Routes) (is : IsTableOf g t) where
   distance_signed x l h = by_route (route_at t x) (is.distances x l) h
     where
       by_route : (r : Option Route) → MatchOption r (IsReached g t.source x → ⊥) (λ q. (d : ℕ) × (q.distance ≡ pos d) × IsDistance g t.source x d)
-          → is_some r ≡ true → option_map_or (λ (q : Route). q.distance) r (pos 0) ≡ pos (unsigned_abs (option_map_or (λ (q : Route). q.distance) r (pos 0)))
+          → is_some r ≡ true →
+          option_map_or (λ (q : Route). q.distance) r (pos 0) ≡ pos (unsigned_abs (option_map_or (λ (q : Route). q.distance) r (pos 0)))
       by_route None m e = absurd (false≢true e)
       by_route (Some q) m e = m.1 ∙ sym (ap (λ (z : ℤ). pos (unsigned_abs z)) m.1)
 

@@ -1,4 +1,5 @@
 -- The laws of tables: what a new table says, and a table in which one node was set.
+use Rattle.std.proofs.lemmas.Grind.{common_steps}
 use Rattle.std.proofs.Common.{[], ◌∷◌, ap₂, ◌≡◌, ◌≢◌, ◌^◌, ℕ, zero, suc, ◌<◌, ◌≤◌, ℤ, pos, Bool, true, false, cond, not, eqb, eq-eqb, get_or, inl, inr, is_some, unsigned_abs, Option, None, Some, List, set, replicate, refl, sym, ◌∙◌, ap, subst, arith, length}
 use Rattle.std.specs.Option.{option_map_or}
 use Rattle.std.proofs.lemmas.Bool.{cases_eq, cases_lt, false≢true, ne_eqb, true≢false}
@@ -46,24 +47,11 @@ first_routes n source = set (replicate n None) source (Some at_home)
 
 -- a table of which the source alone is reached is a table
 pub IsTable-first : (n source : ℕ) → source < n → n ≤ 2 ^ 24 → IsTable (record { source = source; to = first_routes n source })
-IsTable-first n source low few =
-    let count : length (replicate {A = Option Route} n None) ≡ n = length-replicate n None in
-    let same : length (first_routes n source) ≡ n = length-set (replicate n None) source (Some at_home) ∙ count in
-    record {
-      few = omega arith;
-      source_in = omega arith;
-      home = get_or-set_same (replicate n None) source (Some at_home) None (omega arith);
-    }
+IsTable-first n source low few = grind (arith, common_steps, length-replicate, length-set, get_or-set_same)
 
 -- a table stays one when a node other than the source gets a route
 pub IsTable-with_route : (t : Routes) (x : ℕ) (d : ℤ) (e : ℕ) → x ≢ t.source → IsTable t → IsTable (with_route t x d e)
-IsTable-with_route t x d e ne is =
-    let same : length (set t.to x (Some (record { distance = d; edge = e }))) ≡ length t.to = length-set t.to x (Some (record { distance = d; edge = e })) in
-    record {
-      few = omega (arith, is.few);
-      source_in = omega (arith, is.source_in);
-      home = get_or-set_other t.to x t.source (Some (record { distance = d; edge = e })) None (λ h. ne (sym h)) ∙ is.home;
-    }
+IsTable-with_route t x d e ne is = grind (arith, common_steps, length-set, get_or-set_other)
 
 -- both lists set at a place make the table with that route
 pub with_route_is : (t : Routes) (source : ℕ) (ds : List ℤ) (es : List ℕ) (x e : ℕ) (d d' : ℤ) → length ds ≡ length es → e < 2 ^ 24
@@ -71,8 +59,7 @@ pub with_route_is : (t : Routes) (source : ℕ) (ds : List ℤ) (es : List ℕ) 
     → record { source = source; to = routes_of (set ds x d') (set es x e) } ≡ with_route t x d e
 with_route_is t source ds es x e d d' count low is same =
     ap (λ (rs : List (Option Route)). made source rs) (routes_of-set ds es x d' e count ∙ ap (set (routes_of ds es) x) (route_of-edge d' e low))
-    ∙ ap (λ (z : ℤ). with_route (made source (routes_of ds es)) x z e) same
-    ∙ ap (λ (u : Routes). with_route u x d e) is
+    ∙ ap (λ (z : ℤ). with_route (made source (routes_of ds es)) x z e) same ∙ ap (λ (u : Routes). with_route u x d e) is
   where
     made : ℕ → List (Option Route) → Routes
     made s rs = record { source = s; to = rs }
@@ -126,13 +113,7 @@ module _ (t : Routes) (source : ℕ) (ds : List ℤ) (es : List ℕ) (same : len
 
     -- the parent of a reached node other than the source is its entry
     pub read_parent : source ≢ x → get_or es x 0 ≢ unreached → Some (get_or es x 0) ≡ parent_at t x
-    read_parent not_source ne = sym (
-        ap (λ (b : Bool). cond b None (route_edge (route_at t x)))
-        (ne_eqb t.source x (λ (h : t.source ≡ x). not_source (ap (λ (u : Routes). u.source) is ∙ h)))
-        ∙ ap (λ (r : Option Route). route_edge r) read_route
-        ∙ ap (λ (b : Bool). route_edge (cond b None (Some (record { distance = get_or ds x (pos 0); edge = get_or es x 0 }))))
-        (ne_eqb (get_or es x 0) unreached ne)
-        )
+    read_parent not_source ne = grind (arith, common_steps, ne_eqb, read_route)
 
     -- the source has no parent
     pub no_parent_source : source ≡ x → None ≡ parent_at t x
@@ -143,8 +124,7 @@ module _ (t : Routes) (source : ℕ) (ds : List ℤ) (es : List ℕ) (same : len
     no_parent_unreached h = sym (
         ap (λ (r : Option Route). cond (eqb t.source x) None (route_edge r))
         (read_route ∙ ap (λ (b : Bool). cond b None (Some (record { distance = get_or ds x (pos 0); edge = get_or es x 0 })))
-        (eq-eqb (get_or es x 0) unreached h))
-        ∙ by_test (eqb t.source x)
+        (eq-eqb (get_or es x 0) unreached h)) ∙ by_test (eqb t.source x)
         )
       where
         by_test : (b : Bool) → cond b None (route_edge None) ≡ None
@@ -174,10 +154,7 @@ module _ (t : Routes) (x : ℕ) (d : ℤ) (e : ℕ) (low : x < length t.to) wher
 
   -- what was reached stays reached
   pub reached_kept : (y : ℕ) → is_reached t y ≡ true → is_reached (with_route t x d e) y ≡ true
-  reached_kept y h = elim (cases_eq y x) [
-    | inl same ↦ ap (is_reached (with_route t x d e)) same ∙ reached_here
-    | inr ne ↦ reached_there y ne ∙ h
-  ]
+  reached_kept y h = grind (arith, common_steps, cases_eq, reached_here, reached_there)
 
   -- the node that was set has its new distance
   pub distance_here : distance_at (with_route t x d e) x ≡ d
@@ -220,7 +197,4 @@ parent_reached t x e h = (not_source (eqb t.source x) refl h, reached (eqb t.sou
 
 -- a node that is reached is one of the table
 pub reached_low : (t : Routes) (x : ℕ) → is_reached t x ≡ true → x < length t.to
-reached_low t x h = elim (cases_lt x (length t.to)) [
-  | inl l ↦ l
-  | inr l ↦ absurd (false≢true (sym (ap (λ (r : Option Route). is_some r) (get_or_past t.to x None l)) ∙ h))
-]
+reached_low t x h = grind (arith, common_steps, cases_lt, false≢true, get_or_past)

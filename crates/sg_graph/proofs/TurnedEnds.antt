@@ -8,7 +8,8 @@ use Rattle.sg_graph.specs.declared.web.Edge.{Edge}
 use Rattle.sg_graph.specs.Web.{Graph, edge_at}
 
 -- one edge more of the list, whose ends are turned
-pub ends_more : (g : Graph) (list : List ℕ) (j : ℕ) (edge : Edge) (old now new : Bool) (x : ℕ) → j < length list → edge ≡ edge_at g (get_or list j 0) →
+pub ends_more : (g : Graph) (list : List ℕ) (j : ℕ) (edge : Edge) (old now new : Bool) (x : ℕ) → j < length list →
+    edge ≡ edge_at g (get_or list j 0) →
     now ≡ xor old (parity_by (λ e. is_end (edge_at g e).a (edge_at g e).b x) (take j list)) →
     new ≡ xor now (xor (eqb edge.a x) (xor (eqb edge.b x) false)) →
     new ≡ xor old (parity_by (λ e. is_end (edge_at g e).a (edge_at g e).b x) (take (j + 1) list))

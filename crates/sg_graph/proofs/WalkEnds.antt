@@ -1,4 +1,5 @@
 -- A walk meets each node an even number of times but for its two ends.
+use Rattle.std.proofs.lemmas.Grind.{common_steps}
 use Rattle.std.proofs.Common.{inl, inr, ap₂, ◌≡◌, ℕ, ◌<◌, Bool, eqb, List, [], ◌∷◌, sym, ◌∙◌, ap, arith, All}
 use Rattle.std.proofs.lemmas.List.Elements.{All-cons, All-nil}
 use Rattle.sg_sums.specs.Ends.{is_end}
@@ -12,13 +13,11 @@ join_ends s z t = grind arith
 
 module _ (g : Graph) where
   end_of : (e s z x : ℕ) → Leads g e s z → is_end (edge_at g e).a (edge_at g e).b x ≡ xor (eqb s x) (eqb z x)
-  end_of e s z x l = elim l.ways [
-    | inl w ↦ ap₂ (λ p q. xor (eqb p x) (eqb q x)) w.0 w.1
-    | inr w ↦ ap₂ (λ p q. xor (eqb p x) (eqb q x)) w.0 w.1 ∙ xor_comm (eqb z x) (eqb s x)
-  ]
+  end_of e s z x l = grind (arith, common_steps, xor_comm)
 
   -- a walk ends oddly at its two ends alone, and nowhere where they are one
-  pub walk_parity : (es : List ℕ) (s t x : ℕ) → IsWebWalk g s es t → parity_by (λ e. is_end (edge_at g e).a (edge_at g e).b x) es ≡ xor (eqb s x) (eqb t x)
+  pub walk_parity : (es : List ℕ) (s t x : ℕ) → IsWebWalk g s es t →
+      parity_by (λ e. is_end (edge_at g e).a (edge_at g e).b x) es ≡ xor (eqb s x) (eqb t x)
   walk_parity [] s t x w = sym (ap (λ n. xor (eqb s x) (eqb n x)) (sym w) ∙ xor_self (eqb s x))
   walk_parity (e ∷ es) s t x w = ap₂ xor (end_of e s w.0 x w.1) (walk_parity es w.0 t x w.2) ∙ join_ends (eqb s x) (eqb w.0 x) (eqb t x)
 

@@ -32,8 +32,7 @@ module _ (g : Graph) where
       let r : (fs : List ℕ) × IsWebWalk g y fs w.0 × (weight_of g fs ≡ weight_of g es) = walk-back es w.0 y w.2 in (
         r.0 ++ e ∷ [],
         walk-append r.0 (e ∷ []) y w.0 x r.1 (walk-one e w.0 x (turned e x w.0 w.1)),
-        omega
-            (arith, r.2, sum_by-append (edge_weight g) r.0 (e ∷ []), sum_by-cons (edge_weight g) e es),
+        omega (arith, r.2, sum_by-append (edge_weight g) r.0 (e ∷ []), sum_by-cons (edge_weight g) e es),
       )
 
   -- a node is at distance 0 from itself
@@ -47,8 +46,7 @@ module _ (g : Graph) where
       omega (
         arith,
         h.least (a.reached.0 ++ r.0) (walk-append a.reached.0 r.0 t x u a.reached.1 r.1),
-        sum_by-append
-            (edge_weight g) a.reached.0 r.0,
+        sum_by-append (edge_weight g) a.reached.0 r.0,
         a.reached.2,
         b.reached.2,
         r.2,
@@ -60,13 +58,13 @@ module _ (g : Graph) where
       omega (
         arith,
         b.least (a.reached.0 ++ e ∷ []) (walk-append a.reached.0 (e ∷ []) t x y a.reached.1 (walk-one e x y l)),
-        sum_by-append
-            (edge_weight g) a.reached.0 (e ∷ []),
+        sum_by-append (edge_weight g) a.reached.0 (e ∷ []),
         a.reached.2,
       )
 
   -- a way over an edge is no shorter than the distance
-  pub distance-over : (t u x y e d p q : ℕ) → Leads g e x y → IsDistance g t u d → IsDistance g t x p → IsDistance g u y q → d ≤ p + edge_weight g e + q
+  pub distance-over : (t u x y e d p q : ℕ) → Leads g e x y → IsDistance g t u d → IsDistance g t x p → IsDistance g u y q →
+      d ≤ p + edge_weight g e + q
   distance-over t u x y e d p q l h a b =
       let r = walk-back b.reached.0 u y b.reached.1 in
       omega (
@@ -92,7 +90,8 @@ module _ (g : Graph) where
   pub other_only : (e x y : ℕ) → Leads g e x y → y ≡ other_end x (edge_at g e)
   other_only e x y l = only (edge_at g e) (eqb (edge_at g e).a x) refl l.ways
     where
-      only : (edge : Edge) (b : Bool) → eqb edge.a x ≡ b → ((edge.a ≡ x) × (edge.b ≡ y)) ⊎ ((edge.a ≡ y) × (edge.b ≡ x)) → y ≡ cond b edge.b edge.a
+      only : (edge : Edge) (b : Bool) → eqb edge.a x ≡ b → ((edge.a ≡ x) × (edge.b ≡ y)) ⊎ ((edge.a ≡ y) × (edge.b ≡ x)) →
+          y ≡ cond b edge.b edge.a
       only edge true is (inl w) = sym w.1
       only edge true is (inr w) = sym w.0 ∙ eqb-true edge.a x is ∙ sym w.1
       only edge false is (inl w) = absurd (true≢false (sym (eq-eqb edge.a x w.0) ∙ is))

@@ -1,4 +1,4 @@
-use Rattle.std.proofs.Common.{◌≡◌, [], arith, subst, sym, ap, ℕ, to_z, w64, ◌∙◌}
+use Rattle.std.proofs.Common.{◌≡◌, [], arith, subst, sym, ap, ℕ, ◌∙◌}
 use Rattle.std.specs.BinaryHeap.{heap_items, heap_len}
 use Rattle.std.proofs.lemmas.Int.{ints}
 use Rattle.std.proofs.lemmas.List.{nil_from_length}
@@ -7,7 +7,7 @@ use Rattle.sg_graph.specs.Web.{edge_count}
 use Rattle.sg_graph.specs.Table.{Routes}
 use Rattle.sg_dist.specs.Search.{Searches, candidates, reached_count}
 use Rattle.sg_dist.proofs.Ends.{IsTableOf-end, Spreads-start, first_table, start_distance}
-use Rattle.sg_dist.proofs.Pops.{Searches-dropped, Spreads-popped, cast_same, popped_count, popped_distance, popped_edge, popped_low, popped_most, popped_not_source, popped_small, popped_source, work_falls}
+use Rattle.sg_dist.proofs.Pops.{Searches-dropped, Spreads-popped, popped_count, popped_distance, popped_edge, popped_low, popped_most, popped_not_source, popped_small, popped_source, work_falls}
 use Rattle.sg_dist.proofs.search.distances_over.Goals as goal
 
 pub spread-requires-clause-latest : goal.spread-requires-clause-latest
@@ -30,67 +30,45 @@ loop-candidate-init c = record {
 }
 
 pub reached-requires : goal.reached-requires
-reached-requires c = omega (
-  arith,
-  popped_low c.args.web.now c.loop-candidate.table (heap_items c.loop-candidate.heap) (heap_items c.pop.new.self)
-      c.in-Some.field-0 c.nodes.ensures.web c.loop-candidate.invariant.searching c.in-Some.ensures.permutation,
-  c.loop-candidate.invariant.searching.finds.count,
-)
+reached-requires c =
+    let s = c.loop-candidate.invariant.searching in
+    omega (arith, popped_low c.nodes.ensures.web s c.in-Some.ensures.permutation, s.finds.count)
 
 pub overflow_cast-distance : goal.overflow_cast-distance
 overflow_cast-distance c = omega (
   arith,
   ints,
-  popped_small c.args.web.now c.loop-candidate.table (heap_items c.loop-candidate.heap)
-      (heap_items c.pop.new.self) c.in-Some.field-0 c.nodes.ensures.web c.loop-candidate.invariant.searching c.in-Some.ensures.permutation
-      (sym c.reached.ensures.value ∙ c.if-not-reached.true),
+  popped_small c.nodes.ensures.web c.loop-candidate.invariant.searching c.in-Some.ensures.permutation (sym c.reached.ensures.value ∙ c.if-not-reached.true),
 )
 
 pub set-requires : goal.set-requires
 set-requires c = record {
   node_in = omega (
     arith,
-    popped_low c.args.web.now c.loop-candidate.table (heap_items c.loop-candidate.heap) (heap_items c.pop.new.self)
-        c.in-Some.field-0 c.nodes.ensures.web c.loop-candidate.invariant.searching c.in-Some.ensures.permutation,
+    popped_low c.nodes.ensures.web c.loop-candidate.invariant.searching c.in-Some.ensures.permutation,
     c.loop-candidate.invariant.searching.finds.count,
   );
-  not_source = popped_not_source c.args.web.now c.loop-candidate.table (heap_items c.loop-candidate.heap) (heap_items c.pop.new.self)
-      c.in-Some.field-0 c.nodes.ensures.web c.loop-candidate.invariant.searching c.in-Some.ensures.permutation
+  not_source = popped_not_source c.nodes.ensures.web c.loop-candidate.invariant.searching c.in-Some.ensures.permutation
       (sym c.reached.ensures.value ∙ c.if-not-reached.true);
-  edge = popped_edge c.args.web.now c.loop-candidate.table (heap_items c.loop-candidate.heap) (heap_items c.pop.new.self) c.in-Some.field-0
-      c.nodes.ensures.web c.loop-candidate.invariant.searching c.in-Some.ensures.permutation;
+  edge = popped_edge c.nodes.ensures.web c.loop-candidate.invariant.searching c.in-Some.ensures.permutation;
 }
 
 pub spread-requires-then-not-reached-clause-distance : goal.spread-requires-then-not-reached-clause-distance
-spread-requires-then-not-reached-clause-distance c = popped_distance c.args.web.now c.loop-candidate.table (heap_items c.loop-candidate.heap)
-    (heap_items c.pop.new.self) c.in-Some.field-0 c.nodes.ensures.web c.loop-candidate.invariant.searching c.in-Some.ensures.permutation
-    (sym c.reached.ensures.value ∙ c.if-not-reached.true) (c.in-Some.ensures.below_top c.loop-candidate.invariant.order) c.set.new.self
-    (to_z w64 c.in-Some.field-0.0.distance) c.set.ensures (cast_same c.in-Some.field-0.0.distance
-    (popped_small c.args.web.now c.loop-candidate.table (heap_items c.loop-candidate.heap) (heap_items c.pop.new.self) c.in-Some.field-0
-    c.nodes.ensures.web c.loop-candidate.invariant.searching c.in-Some.ensures.permutation (sym c.reached.ensures.value ∙ c.if-not-reached.true)))
+spread-requires-then-not-reached-clause-distance c =
+    popped_distance c.nodes.ensures.web c.loop-candidate.invariant.searching c.in-Some.ensures.permutation
+    (sym c.reached.ensures.value ∙ c.if-not-reached.true) (c.in-Some.ensures.below_top c.loop-candidate.invariant.order) c.set.ensures
 
 pub spread-requires-then-not-reached-clause-latest : goal.spread-requires-then-not-reached-clause-latest
-spread-requires-then-not-reached-clause-latest c = Spreads-popped c.args.web.now c.loop-candidate.table (heap_items c.loop-candidate.heap)
-    (heap_items c.pop.new.self) c.in-Some.field-0 c.nodes.ensures.web c.loop-candidate.invariant.searching c.in-Some.ensures.permutation
-    (sym c.reached.ensures.value ∙ c.if-not-reached.true) (c.in-Some.ensures.below_top c.loop-candidate.invariant.order) c.set.new.self
-    (to_z w64 c.in-Some.field-0.0.distance) c.set.ensures (cast_same c.in-Some.field-0.0.distance
-    (popped_small c.args.web.now c.loop-candidate.table (heap_items c.loop-candidate.heap) (heap_items c.pop.new.self) c.in-Some.field-0
-    c.nodes.ensures.web c.loop-candidate.invariant.searching c.in-Some.ensures.permutation (sym c.reached.ensures.value ∙ c.if-not-reached.true)))
+spread-requires-then-not-reached-clause-latest c =
+    Spreads-popped c.nodes.ensures.web c.loop-candidate.invariant.searching c.in-Some.ensures.permutation
+    (sym c.reached.ensures.value ∙ c.if-not-reached.true) (c.in-Some.ensures.below_top c.loop-candidate.invariant.order) c.set.ensures
 
 pub loop-candidate-smaller-in-Continue-branch-3 : goal.loop-candidate-smaller-in-Continue-branch-3
 loop-candidate-smaller-in-Continue-branch-3 c =
-    let count = popped_count c.args.web.now c.loop-candidate.table (heap_items c.loop-candidate.heap) (heap_items c.pop.new.self) c.in-Some.field-0
-    c.nodes.ensures.web c.loop-candidate.invariant.searching c.in-Some.ensures.permutation (sym c.reached.ensures.value ∙ c.if-not-reached.true)
-    (c.in-Some.ensures.below_top c.loop-candidate.invariant.order) c.set.new.self (to_z w64 c.in-Some.field-0.0.distance) c.set.ensures
-    (cast_same c.in-Some.field-0.0.distance (popped_small c.args.web.now c.loop-candidate.table (heap_items c.loop-candidate.heap)
-    (heap_items c.pop.new.self) c.in-Some.field-0 c.nodes.ensures.web c.loop-candidate.invariant.searching c.in-Some.ensures.permutation
-    (sym c.reached.ensures.value ∙ c.if-not-reached.true))) in
-    let most = popped_most c.args.web.now c.loop-candidate.table (heap_items c.loop-candidate.heap) (heap_items c.pop.new.self) c.in-Some.field-0
-    c.nodes.ensures.web c.loop-candidate.invariant.searching c.in-Some.ensures.permutation (sym c.reached.ensures.value ∙ c.if-not-reached.true)
-    (c.in-Some.ensures.below_top c.loop-candidate.invariant.order) c.set.new.self (to_z w64 c.in-Some.field-0.0.distance) c.set.ensures
-    (cast_same c.in-Some.field-0.0.distance (popped_small c.args.web.now c.loop-candidate.table (heap_items c.loop-candidate.heap)
-    (heap_items c.pop.new.self) c.in-Some.field-0 c.nodes.ensures.web c.loop-candidate.invariant.searching c.in-Some.ensures.permutation
-    (sym c.reached.ensures.value ∙ c.if-not-reached.true))) in
+    let count = popped_count c.nodes.ensures.web c.loop-candidate.invariant.searching c.in-Some.ensures.permutation
+    (sym c.reached.ensures.value ∙ c.if-not-reached.true) (c.in-Some.ensures.below_top c.loop-candidate.invariant.order) c.set.ensures in
+    let most = popped_most c.nodes.ensures.web c.loop-candidate.invariant.searching c.in-Some.ensures.permutation
+    (sym c.reached.ensures.value ∙ c.if-not-reached.true) (c.in-Some.ensures.below_top c.loop-candidate.invariant.order) c.set.ensures in
     work_falls c.args.web.now.nodes (reached_count c.loop-candidate.table) (reached_count c.set.new.self) (edge_count c.args.web.now)
     (heap_len c.loop-candidate.heap) (heap_len c.pop.new.self) (heap_len c.spread-then-not-reached.new.heap) count most c.in-Some.ensures.len
     c.in_ok-spread-2.ensures.few
@@ -99,18 +77,15 @@ pub loop-candidate-preserved-in-Continue-branch-3 : goal.loop-candidate-preserve
 loop-candidate-preserved-in-Continue-branch-3 c = record {
   searching = c.in_ok-spread-2.ensures.spread;
   order = c.in_ok-spread-2.ensures.order (c.in-Some.ensures.heap_order c.loop-candidate.invariant.order).0;
-  source = popped_source c.args.web.now c.loop-candidate.table (heap_items c.loop-candidate.heap) (heap_items c.pop.new.self) c.in-Some.field-0
-      c.nodes.ensures.web c.loop-candidate.invariant.searching c.in-Some.ensures.permutation (sym c.reached.ensures.value ∙ c.if-not-reached.true)
-      (c.in-Some.ensures.below_top c.loop-candidate.invariant.order) c.set.new.self (to_z w64 c.in-Some.field-0.0.distance) c.set.ensures
-      (cast_same c.in-Some.field-0.0.distance (popped_small c.args.web.now c.loop-candidate.table (heap_items c.loop-candidate.heap)
-      (heap_items c.pop.new.self) c.in-Some.field-0 c.nodes.ensures.web c.loop-candidate.invariant.searching c.in-Some.ensures.permutation
-      (sym c.reached.ensures.value ∙ c.if-not-reached.true))) ∙ c.loop-candidate.invariant.source;
+  source = popped_source c.nodes.ensures.web c.loop-candidate.invariant.searching c.in-Some.ensures.permutation
+      (sym c.reached.ensures.value ∙ c.if-not-reached.true) (c.in-Some.ensures.below_top c.loop-candidate.invariant.order) c.set.ensures
+      ∙ c.loop-candidate.invariant.source;
 }
 
 pub loop-candidate-preserved : goal.loop-candidate-preserved
 loop-candidate-preserved c = record {
-  searching = Searches-dropped c.args.web.now c.loop-candidate.table (heap_items c.loop-candidate.heap) (heap_items c.pop.new.self) c.in-Some.field-0
-      c.nodes.ensures.web c.loop-candidate.invariant.searching c.in-Some.ensures.permutation (sym c.reached.ensures.value ∙ c.if-not-reached.false);
+  searching = Searches-dropped c.nodes.ensures.web c.loop-candidate.invariant.searching c.in-Some.ensures.permutation
+      (sym c.reached.ensures.value ∙ c.if-not-reached.false);
   order = (c.in-Some.ensures.heap_order c.loop-candidate.invariant.order).0;
   source = c.loop-candidate.invariant.source;
 }

@@ -1,14 +1,13 @@
 use Rattle.std.proofs.Common.{FitsSigned, arith, ap, false, get_or, length, pos, rules, sym, take, to_z-of_z, true, unsigned_abs, w64, ◌+◌, ◌<◌, ◌≡◌, ◌≤◌, ◌∙◌, ◌^◌, subst}
 use Rattle.std.proofs.lemmas.List.{take_all}
 use Rattle.std.specs.BinaryHeap.{KeepsHeap, heap_items, heap_len}
-use Rattle.sg_graph.specs.Incidence.{EndsAt}
 use Rattle.sg_graph.specs.Table.{length_to}
-use Rattle.sg_graph.proofs.Incidences.{incident_ends, incident_few, incident_leads}
+use Rattle.sg_graph.proofs.Incidences.{incident_few, incident_leads}
 use Rattle.sg_graph.proofs.Tables.{reached_low}
 use Rattle.sg_graph.specs.Web.{edge_weight, total_weight}
 use Rattle.sg_dist.specs.Order.{nearest_last}
 use Rattle.sg_dist.specs.Search.{Spreads, candidates}
-use Rattle.sg_dist.proofs.Pushes.{Spreads-next_known, Spreads-next_new, sum_small, weight_is}
+use Rattle.sg_dist.proofs.Pushes.{Spreads-next_known, Spreads-next_new, ends_of, sum_small, weight_is}
 use Rattle.sg_dist.proofs.Steps.{Searches-spread}
 use Rattle.sg_dist.proofs.search.spread.Goals as goal
 use Rattle.sg_dist.proofs.search.spread.Goals.{then-not-reached+in_ok-push, else-not-reached}
@@ -17,10 +16,7 @@ pub loop-k-preserved : goal.loop-k-preserved
 loop-k-preserved c =
     let low : c.loop-k.k-index < length c.at-edges_here.result.now = omega arith in
     let same : c.as_slice-edges.result.now ≡ c.args.web.now.edges = c.as_slice-edges.ensures ∙ c.edges.ensures.value in
-    let node_in = reached_low c.args.table.now c.args.node c.requires.latest.here in
-    let ends : EndsAt c.args.web.now c.args.node (get_or c.at-edges_here.result.now c.loop-k.k-index 0) =
-    incident_ends c.args.web.now c.args.incidence.now c.requires.incident c.args.node (omega (arith, node_in, c.requires.latest.finds.count))
-    c.at-edges_here.result.now c.at-edges_here.ensures c.loop-k.k-index 0 low in
+    let ends = ends_of c.requires.incident c.requires.latest c.at-edges_here.result.now c.at-edges_here.ensures c.loop-k.k-index 0 low in
     elim c.if-not-reached.branch [
       | then-not-reached+in_ok-push w ↦ (
           let fits : FitsSigned w64 (get_or c.as_slice-edges.result.now (get_or c.at-edges_here.result.now c.loop-k.k-index 0)
@@ -53,10 +49,7 @@ pub overflow_add-distance : goal.overflow_add-distance
 overflow_add-distance c =
     let low : c.loop-k.k-index < length c.at-edges_here.result.now = omega arith in
     let same : c.as_slice-edges.result.now ≡ c.args.web.now.edges = c.as_slice-edges.ensures ∙ c.edges.ensures.value in
-    let node_in = reached_low c.args.table.now c.args.node c.requires.latest.here in
-    let ends : EndsAt c.args.web.now c.args.node (get_or c.at-edges_here.result.now c.loop-k.k-index 0) =
-    incident_ends c.args.web.now c.args.incidence.now c.requires.incident c.args.node (omega (arith, node_in, c.requires.latest.finds.count))
-    c.at-edges_here.result.now c.at-edges_here.ensures c.loop-k.k-index 0 low in
+    let ends = ends_of c.requires.incident c.requires.latest c.at-edges_here.result.now c.at-edges_here.ensures c.loop-k.k-index 0 low in
     let fits : FitsSigned w64 (get_or c.as_slice-edges.result.now (get_or c.at-edges_here.result.now c.loop-k.k-index 0)
     (record { a = 0; b = 0; w = pos 0 })).w = search rules in
     let h : c.reached.result ≡ false = c.if-not-reached.true in
@@ -83,10 +76,7 @@ at-edges_here-requires c = omega (
 pub bounds-edges-k : goal.bounds-edges-k
 bounds-edges-k c =
     let low : c.loop-k.k-index < length c.at-edges_here.result.now = omega arith in
-    let node_in = reached_low c.args.table.now c.args.node c.requires.latest.here in
-    let ends : EndsAt c.args.web.now c.args.node (get_or c.at-edges_here.result.now c.loop-k.k-index 0) =
-    incident_ends c.args.web.now c.args.incidence.now c.requires.incident c.args.node (omega (arith, node_in, c.requires.latest.finds.count))
-    c.at-edges_here.result.now c.at-edges_here.ensures c.loop-k.k-index 0 low in
+    let ends = ends_of c.requires.incident c.requires.latest c.at-edges_here.result.now c.at-edges_here.ensures c.loop-k.k-index 0 low in
     omega (arith, ends.0, ap length c.as_slice-edges.ensures, ap length c.edges.ensures.value)
 
 pub returns : goal.returns
@@ -95,7 +85,7 @@ returns c =
     let all : take c.loop-k.k-index c.at-edges_here.result.now ≡ c.at-edges_here.result.now = take_all c.loop-k.k-index c.at-edges_here.result.now
     (omega arith) in
     record {
-      spread = Searches-spread c.args.web.now c.args.table.now (candidates (heap_items c.loop-k.heap)) c.args.node c.at-edges_here.result.now
+      spread = Searches-spread
           (subst (Spreads c.args.web.now c.args.table.now (candidates (heap_items c.loop-k.heap)) c.args.node) all c.loop-k.invariant.searching)
           (λ e u l. incident_leads c.args.web.now c.args.incidence.now c.requires.incident c.args.node
           (omega (arith, node_in, c.requires.latest.finds.count)) c.at-edges_here.result.now c.at-edges_here.ensures e u l);

@@ -23,5 +23,6 @@ returns c =
       walk = IfOk-weaker c.turned_round.result Is Walks (λ edges is. subst Walks (sym (is ∙ ap reverse c.deref.ensures.value)) walk) c.turned_round.ensures;
       shortest = IfOk-weaker c.turned_round.result Is Weighs (λ edges is. subst Weighs (sym (is ∙ ap reverse c.deref.ensures.value)) weight)
           c.turned_round.ensures;
-      none_twice = IfOk-weaker c.turned_round.result Is Once (λ edges is. subst Once (sym (is ∙ ap reverse c.deref.ensures.value)) once) c.turned_round.ensures;
+      none_twice =
+          IfOk-weaker c.turned_round.result Is Once (λ edges is. subst Once (sym (is ∙ ap reverse c.deref.ensures.value)) once) c.turned_round.ensures;
     }
