@@ -1,26 +1,15 @@
 -- The children of a blossom after its ring was paired.
-use Rattle.std.proofs.Common.{List, Option, Some, ap, arith, inl, inr, length, refl, subst, suc, sym, zero, ℕ, ◌*◌, ◌+◌, ◌<◌, ◌∙◌, ◌≡◌, ◌≢◌, ◌⊎◌}
+use Rattle.std.proofs.Common.{List, Option, Some, ap, arith, inl, inr, length, subst, sym, ℕ, ◌<◌, ◌∙◌, ◌≡◌, ◌≢◌, ◌⊎◌}
 use Rattle.sg_arena.proofs.FamilyLemmas.{name_bound}
-use Rattle.sg_arena.specs.Family.{Family, Holds, IsCycle, IsFamily, after_index, cycle_of, link_at}
+use Rattle.sg_arena.specs.Family.{Family, Holds, IsCycle, IsFamily, cycle_of, link_at}
 use Rattle.sg_arena.specs.declared.Link.{Link}
 use Rattle.sg_match.proofs.AboveLemmas.{child_alive, not_own_child}
-use Rattle.sg_match.proofs.RotateLemmas.{IsCycle-rotated, cases_after, cases_wrapped, length-rotated, link_at-rotated, to_ring, unwrapped, wrapped}
-use Rattle.sg_match.proofs.RotateLemmas.{wrapped-differ, wrapped-within}
+use Rattle.sg_match.proofs.RingPairLemmas.{ring_mate}
+use Rattle.sg_match.proofs.RotateLemmas.{IsCycle-rotated, cases_wrapped, length-rotated, link_at-rotated, to_ring, unwrapped, wrapped}
 use Rattle.sg_match.specs.Pairs.{edge_of_link, flipped, pair_of}
 use Rattle.sg_match.specs.Rings.{IsRingPaired, rotated}
 use Rattle.sg_match.specs.MatePairs.{HasMateInCycle, IsPairedInside}
 use Rattle.sg_match.specs.declared.Edge.{Edge}
-
--- a place is the first one, or the first or second of a two behind it
-cases_two : (r : ℕ) → (r ≡ 0) ⊎ (((j : ℕ) × (r ≡ 2 * j + 1)) ⊎ ((j : ℕ) × (r ≡ 2 * j + 2)))
-cases_two zero = inl refl
-cases_two (suc r) = elim (cases_two r) [
-  | inl none ↦ inr (inl (0, omega (arith, none)))
-  | inr rest ↦ elim rest [
-    | inl odd ↦ inr (inr (odd.0, omega (arith, odd.1)))
-    | inr even ↦ inr (inl (even.0 + 1, omega (arith, even.1)))
-  ]
-]
 
 module _ (f : Family) (fam : IsFamily f) (b start : ℕ) (low_start : start < length (cycle_of f b)) (old new : List (Option Edge)) (pair : Edge)
     (is_pair : pair_of old b ≡ Some pair) (held : Holds f (link_at (rotated start (cycle_of f b)) 0).node pair.from)
@@ -58,102 +47,36 @@ module _ (f : Family) (fam : IsFamily f) (b start : ℕ) (low_start : start < le
   first_side : (i : ℕ) → link_at ring 0 ≡ link_at cycle i → IsSide i
   first_side i read = inl (ap (λ (l : Link). pair_of new l.node) (sym read) ∙ ring_pairs.first, subst (λ (l : Link). Holds f l.node pair.from) read held)
 
-  module _ (j : ℕ) (low : 2 * j + 2 < length cycle) where
-    abbrev a : ℕ
-    a = wrapped (length cycle) start (2 * j + 1)
-
-    abbrev z : ℕ
-    z = wrapped (length cycle) start (2 * j + 2)
-
-    low_ring : 2 * j + 2 < length ring
-    low_ring = omega (arith, low, count)
-
-    read_a : link_at ring (2 * j + 1) ≡ link_at cycle a
-    read_a = link_at-rotated start cycle (2 * j + 1) low_start (omega (arith, low))
-
-    read_z : link_at ring (2 * j + 2) ≡ link_at cycle z
-    read_z = link_at-rotated start cycle (2 * j + 2) low_start low
-
-    low_a : a < length cycle
-    low_a = wrapped-within (length cycle) start (2 * j + 1) low_start (omega (arith, low))
-
-    low_z : z < length cycle
-    low_z = wrapped-within (length cycle) start (2 * j + 2) low_start low
-
-    apart : a ≢ z
-    apart same =
-        let e : 2 * j + 1 ≡ 2 * j + 2 = wrapped-differ (length cycle) start (2 * j + 1) (2 * j + 2) low_start (omega (arith, low)) low same in
-        omega (arith, e)
-
-    abbrev edge : Edge
-    edge = edge_of_link (link_at ring (2 * j + 1))
-
-    is_a : pair_of new (link_at cycle a).node ≡ Some edge
-    is_a = ap (λ (l : Link). pair_of new l.node) (sym read_a) ∙ ring_pairs.odd j low_ring
-
-    is_z : pair_of new (link_at cycle z).node ≡ Some (flipped edge)
-    is_z = ap (λ (l : Link). pair_of new l.node) (sym read_z) ∙ ring_pairs.even j low_ring
-
-    from_a : Holds f (link_at cycle a).node edge.from
-    from_a = subst (λ (l : Link). Holds f l.node edge.from) read_a (round.from (2 * j + 1) (omega (arith, low_ring)))
-
-    to_z : Holds f (link_at cycle z).node edge.to
-    to_z = subst (λ (l : Link). Holds f l.node edge.to) read_z
-        (subst (λ k. Holds f (link_at ring k).node edge.to) next (round.to (2 * j + 1) (omega (arith, low_ring))))
-      where
-        next : after_index (length ring) (2 * j + 1) ≡ 2 * j + 2
-        next = elim (cases_after (length ring) (2 * j + 1)) [
-          | inl end ↦ absurd (omega (arith, end.0, low_ring))
-          | inr at ↦ omega (arith, at.1)
-        ]
-
-    odd_side : IsSide a
-    odd_side = inr (
-      record {
-        pair = edge;
-        is = is_a;
-        other = z;
-        low = low_z;
-        differs = apart;
-        back = is_z;
-        to = to_z;
-        along = a;
-        low_along = low_a;
-        link = inl (ap (λ (l : Link). edge_of_link l) read_a);
-      },
-      from_a,
-    )
-
-    even_side : IsSide z
-    even_side = inr (
-      record {
-        pair = flipped edge;
-        is = is_z;
-        other = a;
-        low = low_a;
-        differs = λ same. apart (sym same);
-        back = is_a;
-        to = from_a;
-        along = a;
-        low_along = low_a;
-        link = inr (ap (λ (l : Link). flipped (edge_of_link l)) read_a);
-      },
-      to_z,
-    )
-
   side : (i : ℕ) → i < length cycle → IsSide i
   side i low =
       let at = unwrapped (length cycle) start i low_start low in
+      let at_low : at.0 < length ring = omega (arith, at.1, count) in
       let read : link_at ring at.0 ≡ link_at cycle i = link_at-rotated start cycle at.0 low_start at.1 ∙ ap (λ k. link_at cycle k) at.2 in
-      elim (cases_two at.0) [
+      elim (ring_mate f old new ring pair round ring_pairs at.0 at_low) [
         | inl none ↦ first_side i (ap (λ k. link_at ring k) (sym none) ∙ read)
-        | inr rest ↦ elim rest [
-          | inl odd ↦
-              let more : 2 * odd.0 + 2 < length cycle = omega (arith, odd.1, at.1, closed.odd) in
-              subst (λ k. IsSide k) (ap (λ r. wrapped (length cycle) start r) (sym odd.1) ∙ at.2) (odd_side odd.0 more)
-          | inr even ↦
-              subst (λ k. IsSide k) (ap (λ r. wrapped (length cycle) start r) (sym even.1) ∙ at.2) (even_side even.0 (omega (arith, even.1, at.1)))
-        ]
+        | inr mate ↦
+            let j = mate.0 in
+            let other = to_ring start cycle j.other low_start j.low in
+            let along = to_ring start cycle j.along low_start j.low_along in
+            inr (
+              record {
+                pair = j.pair;
+                is = ap (λ (l : Link). pair_of new l.node) (sym read) ∙ j.is;
+                other = other.0;
+                low = other.1;
+                differs = λ same. j.differs (round.differ at.0 j.other at_low j.low
+                    (ap (λ (l : Link). l.node) (read ∙ ap (λ k. link_at cycle k) same ∙ other.2)));
+                back = ap (λ (l : Link). pair_of new l.node) other.2 ∙ j.back;
+                to = subst (λ (l : Link). Holds f l.node j.pair.to) (sym other.2) j.to;
+                along = along.0;
+                low_along = along.1;
+                link = elim j.link [
+                  | inl same ↦ inl (same ∙ ap (λ (l : Link). edge_of_link l) (sym along.2))
+                  | inr same ↦ inr (same ∙ ap (λ (l : Link). flipped (edge_of_link l)) (sym along.2))
+                ];
+              },
+              subst (λ (l : Link). Holds f l.node j.pair.from) read mate.1,
+            )
       ]
 
   -- the children of the blossom are paired inside it, but for the one that has its pair

@@ -13,20 +13,13 @@ use Rattle.sg_match.proofs.EngineLemmas.{exposed_of, no_edges, symmetric, tree_o
 use Rattle.sg_match.proofs.NodeLemmas.{length-nodes, node_at_place}
 use Rattle.sg_match.proofs.RingLemmas.{IsFacing-from, IsRing, IsRing-rotated}
 use Rattle.sg_match.proofs.RotateLemmas.{Differ-cycle, cases_wrapped, link_at-rotated, wrapped}
-use Rattle.sg_match.proofs.ExpandStep.{CanExpandTree-expand, IsFeasible-expand, IsExposed-expanded, IsPaired-expand}
-use Rattle.sg_match.proofs.ExpandStep.{node_bound, outer_more, ring_room, steps-expand}
-use Rattle.sg_match.proofs.MembersStep.{AreOuter-kept}
-use Rattle.sg_match.specs.Members.{AreOuter}
-use Rattle.sg_slack.specs.Members.{Member}
-use Rattle.sg_arena.proofs.ExpandedFamily.{total-expand}
-use Rattle.sg_arena.proofs.FamilyLemmas.{name_bound}
-use Rattle.std.proofs.lemmas.Option.{same_Some}
+use Rattle.sg_match.proofs.ExpandStep.{IsFeasible-expand, IsExposed-expanded, IsPaired-expand, expanded_tree}
+use Rattle.sg_match.proofs.ExpandStep.{node_bound, ring_room, steps-expand}
 use Rattle.sg_match.proofs.TreeLemmas.{inner_at, inner_top, length-inners}
 use Rattle.sg_match.specs.InnerZeros.{IsInnerZero}
 use Rattle.sg_match.specs.Engine.{IsEngine}
-use Rattle.sg_match.specs.ExpandedTree.{CanExpandTree}
+use Rattle.sg_match.specs.ExpandedTree.{expanded_edges}
 use Rattle.sg_match.specs.Rings.{IsTurnedRing, IsOdd, IsRingPaired, rotated}
-use Rattle.sg_match.specs.InsertedEdges.{OuterStays}
 use Rattle.sg_match.specs.Exposed.{IsExposed}
 use Rattle.sg_pairing.specs.Metric.{cost}
 use Rattle.sg_sums.specs.Sets.{Differ}
@@ -115,33 +108,25 @@ module _ (s : State) (b : ℕ) (engine : IsEngine s) (inner_zero : IsInnerZero s
     module _ (at entry : ℕ) (low : at < length s.edges) (here : (tree_edge_at s.edges at).inner ≡ b)
         (base : Holds f (link_at ring 0).node (tree_edge_at s.edges at).pair.from) (within : entry < length ring)
         (at_entry : Holds f (link_at ring entry).node (tree_edge_at s.edges at).up.from) (facing : (entry ≡ 0) ⊎ IsOdd entry)
-        (now : List (Option Edge)) (ring_pairs : IsRingPaired s.pairs now ring (tree_edge_at s.edges at).pair) (count : length now ≡ length s.pairs)
-        (grown : List TreeEdge) (expanded_tree : (g : Family) (cost : ℕ → ℕ → ℕ) (pairs : List (Option Edge)) (root : ℕ) →
-        CanExpandTree g cost pairs root s.edges ring at entry → IsTree g cost pairs root grown) (stays : OuterStays s.edges grown) where
+        (now : List (Option Edge)) (ring_pairs : IsRingPaired s.pairs now ring (tree_edge_at s.edges at).pair) (count : length now ≡ length s.pairs) where
       abbrev g : Family
       g = with_slot f b None
+
+      abbrev grown : List TreeEdge
+      grown = expanded_edges s.edges at ring entry
 
       abbrev after : State
       after = record { family = g; table = s.table; pairs = now; exposed = s.exposed; root = s.root; edges = grown }
 
       tree : IsTree g price now rooted.root grown
-      tree = expanded_tree g price now rooted.root
-          (CanExpandTree-expand f price s.pairs now rooted.root s.edges b at ring engine.feasible rooted.tree low here inner_zero.blossom
-          inner_zero.inner_zero is ring_pairs entry base within at_entry facing)
+      tree = (expanded_tree f price s.pairs now rooted.root s.edges b at ring engine.feasible rooted.tree low here inner_zero.blossom
+          inner_zero.inner_zero is ring_pairs entry base within at_entry facing).tree
 
       less-expand : steps_left after + 2 ≤ steps_left s
       less-expand =
           subst (λ o. tree_left g s.exposed o grown + 2 * blossoms_of g + 2 ≤ tree_left f s.exposed o s.edges + 2 * blossoms_of f) (sym rooted.is)
           (steps-expand f price s.pairs now rooted.root s.edges b at ring engine.feasible rooted.tree low here inner_zero.blossom inner_zero.inner_zero is
-          ring_pairs s.exposed grown stays)
-
-      known-expand : (members : List Member) (r : ℕ) → s.root ≡ Some r → AreOuter f r s.edges members → AreOuter g r grown members
-      known-expand members r is_root =
-          subst (λ x. AreOuter f x s.edges members → AreOuter g x grown members) (same_Some rooted.root r (sym rooted.is ∙ is_root))
-          (λ known.
-          AreOuter-kept f g rooted.root rooted.root s.edges grown members known
-          (outer_more f price s.pairs now rooted.root s.edges b at ring engine.feasible rooted.tree low here inner_zero.blossom inner_zero.inner_zero is
-          ring_pairs grown stays) (total-expand f b inner_zero.inner_zero (name_bound f b blossom_top.alive)))
+          ring_pairs entry base within at_entry facing s.exposed)
 
       IsEngine-expand : IsEngine after
       IsEngine-expand =
@@ -236,35 +221,22 @@ module _ {s : State} {b at : ℕ} {tree_edge : TreeEdge} {ring : List Link} {ent
   ring_named lent pairs same own = subst (λ ps. (i : ℕ) → i < length lent → (link_at lent i).node < length ps) (sym own)
       (subst (λ xs. (i : ℕ) → i < length xs → (link_at xs i).node < length s.pairs) (sym same) (names_low s b is.found.engine is.found.inner_zero ring is.is))
 
+  abbrev Sound : Family → List (Option Edge) → List TreeEdge → Type 0
+  Sound g pairs edges = IsEngine (record { family = g; table = s.table; pairs = pairs; exposed = s.exposed; root = s.root; edges = edges }) ×
+      (steps_left (record { family = g; table = s.table; pairs = pairs; exposed = s.exposed; root = s.root; edges = edges }) + 2 ≤ steps_left s)
+
   -- after the ring was paired and grown into the tree
   pub IsEngine-after : (lent again : List Link) (old now stored : List (Option Edge)) (grown : List TreeEdge) (g : Family) → lent ≡ ring → again ≡ ring →
-      old ≡ s.pairs → stored ≡ now → g ≡ with_slot s.family b None → IsRingPaired old now lent tree_edge.pair → length now ≡ length old
-      → ((h : Family) (price : ℕ → ℕ → ℕ) (pairs : List (Option Edge)) (root : ℕ) → CanExpandTree h price pairs root s.edges again at entry →
-      IsTree h price pairs root grown) → OuterStays s.edges grown
-      → IsEngine (record { family = g; table = s.table; pairs = stored; exposed = s.exposed; root = s.root; edges = grown }) ×
-      (steps_left (record { family = g; table = s.table; pairs = stored; exposed = s.exposed; root = s.root; edges = grown }) + 2 ≤ steps_left s) ×
-      ((members : List Member) (r : ℕ) → s.root ≡ Some r → AreOuter s.family r s.edges members → AreOuter g r grown members)
-  IsEngine-after lent again old now stored grown g same same_again own put made ring_pairs count expanded_tree stays =
+      old ≡ s.pairs → stored ≡ now → g ≡ with_slot s.family b None → IsRingPaired old now lent tree_edge.pair → length now ≡ length old →
+      grown ≡ expanded_edges s.edges at again entry → Sound g stored grown
+  IsEngine-after lent again old now stored grown g same same_again own put made ring_pairs count grown_is =
       let ring_pairs_s : IsRingPaired s.pairs now ring (tree_edge_at s.edges at).pair =
       subst (λ (l : TreeEdge). IsRingPaired s.pairs now ring l.pair) is.found.read
       (subst (λ xs. IsRingPaired s.pairs now xs tree_edge.pair) same (subst (λ ps. IsRingPaired ps now lent tree_edge.pair) own ring_pairs)) in
       let count_s : length now ≡ length s.pairs = count ∙ ap (λ ps. length ps) own in
-      let expanded_s = subst (λ xs. (h : Family) (price : ℕ → ℕ → ℕ) (pairs : List (Option Edge)) (root : ℕ) →
-      CanExpandTree h price pairs root s.edges xs at entry → IsTree h price pairs root grown) same_again expanded_tree in
       let engine = IsEngine-expand s b is.found.engine is.found.inner_zero ring is.is at entry is.found.low is.found.here is.base is.within is.at_entry
-      is.facing now ring_pairs_s count_s grown expanded_s stays in
+      is.facing now ring_pairs_s count_s in
       let less = less-expand s b is.found.engine is.found.inner_zero ring is.is at entry is.found.low is.found.here is.base is.within is.at_entry is.facing
-      now ring_pairs_s count_s grown expanded_s stays in
-      let known = known-expand s b is.found.engine is.found.inner_zero ring is.is at entry is.found.low is.found.here is.base is.within is.at_entry is.facing
-      now ring_pairs_s count_s grown expanded_s stays in
-      let both = subst (λ h. IsEngine (record { family = h; table = s.table; pairs = stored; exposed = s.exposed; root = s.root; edges = grown }) ×
-      (steps_left (record { family = h; table = s.table; pairs = stored; exposed = s.exposed; root = s.root; edges = grown }) + 2 ≤ steps_left s))
-      (sym made)
-      (subst (λ ps. IsEngine (record { family = with_slot s.family b None; table = s.table; pairs = ps; exposed = s.exposed; root = s.root; edges = grown })
-      × (steps_left (record { family = with_slot s.family b None; table = s.table; pairs = ps; exposed = s.exposed; root = s.root; edges = grown }) + 2
-      ≤ steps_left s)) (sym put)
-      (engine, less)) in (
-        both.0,
-        both.1,
-        subst (λ h. (members : List Member) (r : ℕ) → s.root ≡ Some r → AreOuter s.family r s.edges members → AreOuter h r grown members) (sym made) known,
-      )
+      now ring_pairs_s count_s in
+      subst (λ h. Sound h stored grown) (sym made) (subst (λ ps. Sound (with_slot s.family b None) ps grown) (sym put)
+      (subst (λ ls. Sound (with_slot s.family b None) now ls) (sym (grown_is ∙ ap (λ xs. expanded_edges s.edges at xs entry) same_again)) (engine, less)))

@@ -2,14 +2,15 @@
 use Rattle.std.proofs.Common.{◌≡◌, ◌≢◌, ◌⊎◌, ℕ, zero, suc, ◌+◌, ◌*◌, ◌<◌, List, [], length, Option, Some, None, refl, sym, ap, ◌∙◌, subst, inl, inr, arith}
 use Rattle.std.proofs.lemmas.Option.{same_Some}
 use Rattle.std.specs.Option.{option_map_or}
-use Rattle.std.proofs.lemmas.Bool.{cases_eq, ne_eqb}
+use Rattle.std.proofs.lemmas.Bool.{cases_eq}
 use Rattle.std.proofs.lemmas.List.{get_or-set_same, get_or-set_other}
 use Rattle.sg_arena.proofs.ExpandedFamily.{IsFamily-expand, IsTop-expand_child, IsTop-expand_old, IsTop-expand_other, duals_between-expand, expand-apart}
 use Rattle.sg_arena.proofs.ExpandedFamily.{holds_rest, total-expand}
 use Rattle.sg_arena.proofs.FamilyLemmas.{child-covered, top-no_child}
 use Rattle.sg_arena.specs.Changes.{CanShrink, with_slot}
-use Rattle.sg_arena.specs.Family.{Family, Holds, IsBlossom, IsFamily, IsTop, Node, after_index, cycle_of, dual_of, link_at, node_at, total_of}
+use Rattle.sg_arena.specs.Family.{Family, Holds, IsBlossom, IsFamily, IsTop, Node, cycle_of, dual_of, link_at, node_at, total_of}
 use Rattle.sg_arena.specs.declared.Link.{Link}
+use Rattle.sg_match.proofs.RingPairLemmas.{ring_mate}
 use Rattle.sg_match.specs.Feasible.{IsFeasible}
 use Rattle.sg_pairing.specs.Tight.{IsTight}
 use Rattle.sg_match.specs.Pairs.{IsPaired, flipped, pair_of}
@@ -50,9 +51,6 @@ module _ (f : Family) (b : ℕ) (fam : IsFamily f) (top : IsTop f b) (blossom : 
     old_out : (t : ℕ) → IsTop f t → (i : ℕ) → i < length ring → (link_at ring i).node ≢ t
     old_out t is i low same = let kid = from_kid i low in top-no_child f fam t b kid.0 is kid.1 (kid.2 ∙ same)
 
-    after_is : (i : ℕ) → i + 1 < length ring → after_index (length ring) i ≡ i + 1
-    after_is i low = rw (ne_eqb (i + 1) (length ring) (omega (arith, low))) refl
-
     -- the mate outside
     m : (s : ℕ) × IsTop f s × (s ≢ b) × Holds f s pair.to × (pair_of pairs s ≡ Some (flipped pair))
     m = paired.other b pair top is_pair
@@ -62,73 +60,32 @@ module _ (f : Family) (b : ℕ) (fam : IsFamily f) (top : IsTop f b) (blossom : 
 
     in_ring : (i : ℕ) → i < length ring → (p : Edge) → pair_of now (link_at ring i).node ≡ Some p → Pairing (link_at ring i).node p
     unfolding Pairing
-    in_ring zero low p is =
-        let e : pair ≡ p = same_Some _ _ (sym ring_pairs.first ∙ is) in
-        subst (λ x. Holds g (link_at ring 0).node x.from × good x.from x.to ×
-        ((s : ℕ) × IsTop g s × (s ≢ (link_at ring 0).node) × Holds g s x.to × (pair_of now s ≡ Some (flipped x)))) e (
-          base,
-          paired.tight b pair top is_pair,
-          (
-            m.0,
-            old_top m.0 m.1 m.2,
-            (λ same. old_out m.0 m.1 0 low (sym same)),
-            holds_rest f b fam top blossom room m.0 pair.to m.2 ∙ m.3,
-            ring_pairs.others m.0 (old_out m.0 m.1) ∙ m.4,
-          ),
-        )
-    in_ring (suc i) low p is = elim (halves i) [
-      | inl at ↦
-          let here : suc i ≡ 2 * at.0 + 1 = omega (arith, at.1) in
-          let more : 2 * at.0 + 2 < length ring = omega (arith, low, here, can.closed.odd) in
-          let a = link_at ring (2 * at.0 + 1) in
-          let c = link_at ring (2 * at.0 + 2) in
-          let e : record { from = a.from; to = a.to } ≡ p =
-          same_Some _ _ (sym (ring_pairs.odd at.0 more) ∙ ap (λ k. pair_of now (link_at ring k).node) (sym here) ∙ is) in
-          let low_a : 2 * at.0 + 1 < length ring = omega (arith, more) in
-          let to : Holds g c.node a.to = subst (λ k. Holds g (link_at ring k).node a.to) (after_is (2 * at.0 + 1) (omega (arith, more)) ∙ plus (2 * at.0))
-          (can.closed.to (2 * at.0 + 1) low_a) in
-          subst (λ k. Holds g (link_at ring k).node p.from × good p.from p.to ×
-          ((s : ℕ) × IsTop g s × (s ≢ (link_at ring k).node) × Holds g s p.to × (pair_of now s ≡ Some (flipped p)))) (sym here)
-          (subst (λ (x : Edge). Holds g a.node x.from × good x.from x.to ×
-          ((s : ℕ) × IsTop g s × (s ≢ a.node) × Holds g s x.to × (pair_of now s ≡ Some (flipped x)))) e (
-            can.closed.from (2 * at.0 + 1) low_a,
-            (fine (2 * at.0 + 1) low_a).0,
+    in_ring i low p is = elim (ring_mate g pairs now ring pair can.closed ring_pairs i low) [
+      | inl none ↦
+          let e : pair ≡ p = same_Some _ _ (sym ring_pairs.first ∙ ap (λ k. pair_of now (link_at ring k).node) (sym none) ∙ is) in
+          subst (λ k. Pairing (link_at ring k).node p) (sym none) (subst (λ x. Pairing (link_at ring 0).node x) e (
+            base,
+            paired.tight b pair top is_pair,
             (
-              c.node,
-              can.tops (2 * at.0 + 2) more,
-              (λ same. absurd (omega (arith, can.closed.differ (2 * at.0 + 2) (2 * at.0 + 1) more low_a same))),
-              to,
-              ring_pairs.even at.0 more,
+              m.0,
+              old_top m.0 m.1 m.2,
+              (λ same. old_out m.0 m.1 0 (omega (arith, can.closed.long)) (sym same)),
+              holds_rest f b fam top blossom room m.0 pair.to m.2 ∙ m.3,
+              ring_pairs.others m.0 (old_out m.0 m.1) ∙ m.4,
             ),
           ))
-      | inr at ↦
-          let here : suc i ≡ 2 * at.0 + 2 = omega (arith, at.1) in
-          let more : 2 * at.0 + 2 < length ring = omega (arith, low, here) in
-          let a = link_at ring (2 * at.0 + 1) in
-          let c = link_at ring (2 * at.0 + 2) in
-          let e : record { from = a.to; to = a.from } ≡ p =
-          same_Some _ _ (sym (ring_pairs.even at.0 more) ∙ ap (λ k. pair_of now (link_at ring k).node) (sym here) ∙ is) in
-          let low_a : 2 * at.0 + 1 < length ring = omega (arith, more) in
-          let to : Holds g c.node a.to = subst (λ k. Holds g (link_at ring k).node a.to) (after_is (2 * at.0 + 1) (omega (arith, more)) ∙ plus (2 * at.0))
-          (can.closed.to (2 * at.0 + 1) low_a) in
-          subst (λ k. Holds g (link_at ring k).node p.from × good p.from p.to ×
-          ((s : ℕ) × IsTop g s × (s ≢ (link_at ring k).node) × Holds g s p.to × (pair_of now s ≡ Some (flipped p)))) (sym here)
-          (subst (λ (x : Edge). Holds g c.node x.from × good x.from x.to ×
-          ((s : ℕ) × IsTop g s × (s ≢ c.node) × Holds g s x.to × (pair_of now s ≡ Some (flipped x)))) e (
-            to,
-            (fine (2 * at.0 + 1) low_a).1,
-            (
-              a.node,
-              can.tops (2 * at.0 + 1) low_a,
-              (λ same. absurd (omega (arith, can.closed.differ (2 * at.0 + 1) (2 * at.0 + 2) low_a more same))),
-              can.closed.from (2 * at.0 + 1) low_a,
-              ring_pairs.odd at.0 more,
-            ),
-          ))
+      | inr mate ↦
+          let j = mate.0 in
+          let fit = fine j.along j.low_along in
+          subst (λ x. Pairing (link_at ring i).node x) (same_Some _ _ (sym j.is ∙ is)) (
+            mate.1,
+            elim j.link [
+              | inl same ↦ subst (λ (x : Edge). good x.from x.to) (sym same) fit.0
+              | inr same ↦ subst (λ (x : Edge). good x.from x.to) (sym same) fit.1
+            ],
+            ((link_at ring j.other).node, can.tops j.other j.low, (λ same. j.differs (can.closed.differ i j.other low j.low (sym same))), j.to, j.back),
+          )
     ]
-      where
-        plus : (n : ℕ) → n + 1 + 1 ≡ n + 2
-        plus n = omega arith
 
     outside : (t : ℕ) (p : Edge) → IsTop f t → t ≢ b → pair_of now t ≡ Some p → Pairing t p
     unfolding Pairing

@@ -116,7 +116,7 @@ module _ (f : Family) (table : Table) (pairs : List (Option Edge)) (exposed : Li
                 feasible = engine.feasible;
                 paired = engine.paired;
                 exposed = engine.exposed;
-                tree = IsTree-grown f (cost table) pairs root edges tree tree_edge out mate is_top top_outer
+                tree = IsTree-grown root edges tree_edge f (cost table) pairs tree out mate is_top top_outer
                     (mate_differs f (IsTight f (cost table)) pairs fam engine.paired top outer pair is_top top_outer has_pair pair_to)
                     has_pair (engine.paired.own top pair is_top has_pair) pair_to held tight_edge.outer
                     (tight-back f (cost table) u v (symmetric (with_tree (Some root) edges) engine u v tight_edge.low_u tight_edge.low_v)

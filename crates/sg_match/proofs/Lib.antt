@@ -10,8 +10,8 @@ pub mod ShrinkTreeStep
 pub mod ExpandSetsStep
 pub mod NearestStep
 pub mod StepsStep
-pub mod ExpandTreeStep
 pub mod GrowStep
+pub mod RegrowStep
 pub mod ShrinkTreeLemmas
 pub mod ParityLemmas
 pub mod NameLemmas
@@ -24,11 +24,9 @@ pub mod InnerLemmas
 pub mod ScanStep
 pub mod TopLemmas
 pub mod DualChangeStep
-pub mod StartStep
 pub mod StageLemmas
 pub mod RingLemmas
 pub mod ExpandStep
-pub mod ExpandTreeLemmas
 pub mod ExpandLemmas
 pub mod RotateLemmas
 pub mod RingPairLemmas
@@ -38,5 +36,3 @@ pub mod ChildrenLemmas
 pub mod MatesStep
 pub mod ListedLemmas
 pub mod MembersStep
-pub mod MarkLemmas
-pub mod TableStep

@@ -1,12 +1,14 @@
 -- Pairing the nodes of a ring two by two.
-use Rattle.std.proofs.Common.{List, Option, Some, ap, arith, inl, inr, length, set, sym, ℕ, ◌*◌, ◌+◌, ◌<◌, ◌∙◌, ◌≡◌, ◌≢◌, ◌≤◌, None}
+use Rattle.std.proofs.Common.{List, None, Option, Some, ap, arith, inl, inr, length, refl, set, subst, suc, sym, zero, ℕ, ◌*◌, ◌+◌, ◌<◌, ◌∙◌, ◌≡◌, ◌≢◌, ◌≤◌, ◌⊎◌}
 use Rattle.std.proofs.Math.ListN.{length-set}
 use Rattle.std.proofs.lemmas.Bool.{cases_eq}
 use Rattle.std.proofs.lemmas.List.{get_or-set_other, get_or-set_same}
-use Rattle.sg_arena.specs.Family.{link_at}
+use Rattle.sg_arena.specs.Family.{Family, Holds, IsCycle, link_at}
 use Rattle.sg_arena.specs.declared.Link.{Link}
 use Rattle.sg_match.proofs.NodeLemmas.{length-nodes, node_at_place}
 use Rattle.sg_match.proofs.PairLemmas.{twice_first, twice_other, twice_second}
+use Rattle.sg_match.proofs.RotateLemmas.{cases_after}
+use Rattle.sg_match.specs.MatePairs.{HasMateInCycle}
 use Rattle.sg_match.specs.Pairs.{edge_of_link, flipped, pair_of}
 use Rattle.sg_sums.specs.Sets.{Differ}
 use Rattle.sg_match.specs.Path.{nodes_of}
@@ -95,3 +97,73 @@ module _ (old : List (Option Edge)) (ring : List Link) (pair : Edge) (some : 0 <
     even = λ j low. was.even j (omega (arith, low)) low;
     others = was.others;
   }
+
+-- a place is the first one, or the first or second of a two behind it
+cases_two : (r : ℕ) → (r ≡ 0) ⊎ (((j : ℕ) × (r ≡ 2 * j + 1)) ⊎ ((j : ℕ) × (r ≡ 2 * j + 2)))
+cases_two zero = inl refl
+cases_two (suc r) = elim (cases_two r) [
+  | inl none ↦ inr (inl (0, omega (arith, none)))
+  | inr rest ↦ elim rest [
+    | inl odd ↦ inr (inr (odd.0, omega (arith, odd.1)))
+    | inr even ↦ inr (inl (even.0 + 1, omega (arith, even.1)))
+  ]
+]
+
+module _ (f : Family) (old new : List (Option Edge)) (ring : List Link) (pair : Edge) (round : IsCycle f ring)
+    (ring_pairs : IsRingPaired old new ring pair) where
+  abbrev IsSide : ℕ → Type 0
+  IsSide i = (i ≡ 0) ⊎ ((j : HasMateInCycle f new ring i) × Holds f (link_at ring i).node j.pair.from)
+
+  module _ (j : ℕ) (low : 2 * j + 2 < length ring) where
+    low_one : 2 * j + 1 < length ring
+    low_one = omega (arith, low)
+
+    follows : Holds f (link_at ring (2 * j + 2)).node (link_at ring (2 * j + 1)).to
+    follows = elim (cases_after (length ring) (2 * j + 1)) [
+      | inl end ↦ absurd (omega (arith, end.0, low))
+      | inr at ↦ subst (λ k. Holds f (link_at ring k).node (link_at ring (2 * j + 1)).to) (omega (arith, at.1)) (round.to (2 * j + 1) low_one)
+    ]
+
+    odd_side : IsSide (2 * j + 1)
+    odd_side = inr (
+      record {
+        pair = edge_of_link (link_at ring (2 * j + 1));
+        is = ring_pairs.odd j low;
+        other = 2 * j + 2;
+        low = low;
+        differs = λ same. absurd (omega (arith, same));
+        back = ring_pairs.even j low;
+        to = follows;
+        along = 2 * j + 1;
+        low_along = low_one;
+        link = inl refl;
+      },
+      round.from (2 * j + 1) low_one,
+    )
+
+    even_side : IsSide (2 * j + 2)
+    even_side = inr (
+      record {
+        pair = flipped (edge_of_link (link_at ring (2 * j + 1)));
+        is = ring_pairs.even j low;
+        other = 2 * j + 1;
+        low = low_one;
+        differs = λ same. absurd (omega (arith, same));
+        back = ring_pairs.odd j low;
+        to = round.from (2 * j + 1) low_one;
+        along = 2 * j + 1;
+        low_along = low_one;
+        link = inr refl;
+      },
+      follows,
+    )
+
+  -- each node but the first is paired with another of the ring, along a link
+  pub ring_mate : (i : ℕ) → i < length ring → IsSide i
+  ring_mate i low = elim (cases_two i) [
+    | inl none ↦ inl none
+    | inr rest ↦ elim rest [
+      | inl odd ↦ subst (λ k. IsSide k) (sym odd.1) (odd_side odd.0 (omega (arith, odd.1, low, round.odd)))
+      | inr even ↦ subst (λ k. IsSide k) (sym even.1) (even_side even.0 (omega (arith, even.1, low)))
+    ]
+  ]

@@ -3,7 +3,7 @@ use Rattle.std.proofs.Common.{◌≡◌, ℕ, ◌*◌, ◌/◌, ◌<◌, ◌≤�
 use Rattle.std.proofs.Common.{◌∙◌, subst, arith}
 use Rattle.std.specs.Int.Signed.{lt_z, quot_z}
 use Rattle.std.proofs.lemmas.Int.{ints, to_z-of_z}
-use Rattle.sg_match.specs.Scans.{IsScanned}
+use Rattle.sg_match.specs.Scans.{CanScan, IsScanned}
 use Rattle.sg_match.specs.declared.Event.TheVariants.{OuterFree, OuterOuter}
 use Rattle.sg_slack.specs.Slack.{IsLeast, IsOuterFree, IsOuterOuter, Least, slack_of}
 use Rattle.sg_slack.specs.Table.{Table}
@@ -48,6 +48,16 @@ module _ (t : Table) (tops : List ℕ) (totals : List ℤ) (marks : List Mark) w
           IsOuterOuter t tops marks u v → pos (2 * amount) ≤ℤ slack_of t totals u v
       go None none less u v pair = absurd (none u v pair)
       go (Some q) found less u v pair = omega (arith, ints, less q refl, found.least u v pair)
+
+  -- the slack of an outer and a free leaf is 0
+  pub IsScanned-none : (free : Pair) → CanScan t tops totals marks → IsLeast t totals (IsOuterFree t marks) free → free.slack ≡ pos 0 →
+      IsScanned t tops totals marks 0 (OuterFree free.u free.v)
+  IsScanned-none free can least is =
+      record {
+        free = λ u v pair. omega (arith, ints, least.least u v pair, is);
+        between = λ u v pair. let n = can.both u v pair in omega (arith, ints, n.1);
+        one = (least.one, sym least.slack ∙ is);
+      }
 
   -- the amount is half the slack of two outer leaves
   pub IsScanned-both : (free both : Pair) (amount : ℕ) → IsLeast t totals (IsOuterFree t marks) free → IsLeast t totals (IsOuterOuter t tops marks) both →

@@ -1,5 +1,5 @@
 -- A tree of one unpaired top.
-use Rattle.std.proofs.Common.{◌≡◌, ℕ, zero, suc, ◌+◌, ◌*◌, ◌-◌, ◌<◌, ◌≤◌, ◌%◌, true, false, not, List, [], ◌∷◌, ◌++◌, length, get_or, count_by, Option, Some}
+use Rattle.std.proofs.Common.{◌≡◌, ℕ, zero, suc, ◌+◌, ◌*◌, ◌-◌, ◌<◌, ◌≤◌, ◌%◌, true, false, not, List, [], ◌∷◌, ◌++◌, length, get_or, count_by, Some}
 use Rattle.std.proofs.Common.{None, refl, sym, ap, ◌∙◌, subst, inl, inr, arith}
 use Rattle.std.proofs.lemmas.Option.{none-some, same_Some}
 use Rattle.std.specs.List.{range_with_len}
@@ -12,16 +12,16 @@ use Rattle.std.proofs.Math.Seq.{get_or-append_seam}
 use Rattle.sg_arena.proofs.FamilyLemmas.{leaf_bound, some_leaf}
 use Rattle.sg_arena.specs.Family.{Family, IsTop, leaf_count}
 use Rattle.sg_match.proofs.BoundStep.{IsBounded-made, bound-bare}
+use Rattle.sg_match.proofs.EngineLemmas.{no_edges}
+use Rattle.sg_match.proofs.GrowStep.{IsTree-root}
 use Rattle.sg_match.proofs.StepsStep.{count_by-one_fewer}
 use Rattle.sg_match.specs.Engine.{IsEngine}
-use Rattle.sg_match.specs.Exposed.{IsExposed}
+use Rattle.sg_match.specs.Exposed.{IsExposed, root_count}
 use Rattle.sg_pairing.specs.Metric.{cost}
 use Rattle.sg_match.specs.Pairs.{pair_of}
-use Rattle.sg_match.specs.Steps.{rest_of, steps_left}
+use Rattle.sg_match.specs.State.{State}
+use Rattle.sg_match.specs.Steps.{blossoms_of, rest_of, steps_left, tree_left}
 use Rattle.sg_match.specs.Tree.{IsTree, any_top, outers}
-use Rattle.sg_match.specs.declared.Edge.{Edge}
-use Rattle.sg_match.specs.declared.TreeEdge.{TreeEdge}
-use Rattle.sg_slack.specs.Table.{Table}
 
 -- (2 k - 1) (n + 1) covers (2 k - 1) (n - 1), four for each of k - 1 leaves, and one
 fall : (k n rest : ℕ) → (n + 1) % 2 ≡ 0 → rest + 1 ≤ k → (2 * k - 1) * (n - 1) + 4 * rest + 1 ≤ (2 * k - 1) * (n + 1)
@@ -33,54 +33,34 @@ fall k (suc n) rest even few =
     spread : (a n : ℕ) → a * (suc n + 1) ≡ a * n + 2 * a
     spread a n = grind arith
 
--- an unpaired top alone is a tree
-pub IsTree-root : (f : Family) (cost : ℕ → ℕ → ℕ) (pairs : List (Option Edge)) (root : ℕ) → IsTop f root → pair_of pairs root ≡ None →
-    IsTree f cost pairs root []
-IsTree-root f cost pairs root root_top root_free =
-    record {
-      shape = record {
-        tops = record {
-          outer_tops = λ i low. only (λ n. IsTop f n) root_top i low;
-          inner_tops = λ i low. absurd (omega (arith, low));
-          outer_differ = λ i j low_i low_j same. omega (arith, low_i, low_j);
-          inner_differ = λ i j low_i low_j same. absurd (omega (arith, low_i));
-          apart = λ i j low_i low_j same. absurd (omega (arith, low_j));
-        };
-        edge = λ i low. absurd (omega (arith, low));
-        up_from = λ i low. absurd (omega (arith, low));
-      };
-      exposed_root = root_free;
-      pair = λ i low. absurd (omega (arith, low));
-      up_tight = λ i low. absurd (omega (arith, low));
-    }
-  where
-    only : (P : ℕ → Type 0) → P root → (i : ℕ) → i < length (root ∷ []) → P (get_or (root ∷ []) i 0)
-    only P p zero low = p
-    only P p (suc i) low = absurd (omega (arith, low))
+module _ (s : State) (engine : IsEngine s) (rootless : s.root ≡ None) where
+  abbrev f : Family
+  f = s.family
 
-module _ (f : Family) (t : Table) (pairs : List (Option Edge)) (names : List ℕ) (edges : List TreeEdge)
-    (engine : IsEngine (record { family = f; table = t; pairs = pairs; exposed = names; root = None; edges = edges })) where
-  module _ (rest : List ℕ) (root : ℕ) (is : names ≡ rest ++ root ∷ []) where
-    count : length names ≡ length rest + 1
+  module _ (rest : List ℕ) (root : ℕ) (is : s.exposed ≡ rest ++ root ∷ []) where
+    count : length s.exposed ≡ length rest + 1
     count = ap (λ xs. length xs) is ∙ length-append rest (root ∷ [])
 
-    root_at : get_or names (length rest) 0 ≡ root
+    root_at : get_or s.exposed (length rest) 0 ≡ root
     root_at = ap (λ xs. get_or xs (length rest) 0) is ∙ get_or-append_seam rest root [] 0
 
-    rest_at : (i : ℕ) → i < length rest → get_or names i 0 ≡ get_or rest i 0
+    rest_at : (i : ℕ) → i < length rest → get_or s.exposed i 0 ≡ get_or rest i 0
     rest_at i low = ap (λ xs. get_or xs i 0) is ∙ get_or_append_left rest (root ∷ []) 0 i low
 
     root_top : IsTop f root
     root_top = subst (λ n. IsTop f n) root_at (engine.exposed.tops (length rest) (omega (arith, count)))
 
-    root_free : pair_of pairs root ≡ None
-    root_free = subst (λ n. pair_of pairs n ≡ None) root_at (engine.exposed.unpaired (length rest) (omega (arith, count)))
+    root_free : pair_of s.pairs root ≡ None
+    root_free = subst (λ n. pair_of s.pairs n ≡ None) root_at (engine.exposed.unpaired (length rest) (omega (arith, count)))
 
-    exposed : IsExposed f pairs (Some root) rest
+    even : (length rest + 1) % 2 ≡ 0
+    even = subst (λ n. n % 2 ≡ 0) (omega (arith, count)) (subst (λ o. (length s.exposed + root_count o) % 2 ≡ 0) rootless engine.exposed.even)
+
+    exposed : IsExposed f s.pairs (Some root) rest
     exposed =
         record {
           tops = λ i low. subst (λ n. IsTop f n) (rest_at i low) (engine.exposed.tops i (omega (arith, count, low)));
-          unpaired = λ i low. subst (λ n. pair_of pairs n ≡ None) (rest_at i low) (engine.exposed.unpaired i (omega (arith, count, low)));
+          unpaired = λ i low. subst (λ n. pair_of s.pairs n ≡ None) (rest_at i low) (engine.exposed.unpaired i (omega (arith, count, low)));
           differ = λ i j low_i low_j same. engine.exposed.differ i j (omega (arith, count, low_i)) (omega (arith, count, low_j))
               (rest_at i low_i ∙ same ∙ sym (rest_at j low_j));
           rootless = λ i low e.
@@ -88,22 +68,19 @@ module _ (f : Family) (t : Table) (pairs : List (Option Edge)) (names : List ℕ
               (rest_at i low ∙ sym (same_Some root (get_or rest i 0) e) ∙ sym root_at) in
               absurd (omega (arith, same, low));
           every = λ n top free. elim (engine.exposed.every n top free) [
-            | inl e ↦ absurd (none-some n e)
+            | inl e ↦ absurd (none-some n (sym rootless ∙ e))
             | inr at ↦ elim (cases_lt at.0 (length rest)) [
               | inl low ↦ inr (at.0, low, sym (rest_at at.0 low) ∙ at.2)
               | inr past ↦
                   let here : at.0 ≡ length rest = omega (arith, past, at.1, count) in
-                  inl (ap Some (sym root_at ∙ ap (λ i. get_or names i 0) (sym here) ∙ at.2))
+                  inl (ap Some (sym root_at ∙ ap (λ i. get_or s.exposed i 0) (sym here) ∙ at.2))
             ]
           ];
-          even = subst (λ n. n % 2 ≡ 0) (omega (arith, count)) engine.exposed.even;
+          even = even;
         }
 
-    bare : edges ≡ []
-    bare = engine.tree
-
-    tree : IsTree f (cost t) pairs root []
-    tree = IsTree-root f (cost t) pairs root root_top root_free
+    bare : s.edges ≡ []
+    bare = no_edges s engine rootless
 
     few : rest_of f root [] + 1 ≤ leaf_count f
     few =
@@ -118,20 +95,22 @@ module _ (f : Family) (t : Table) (pairs : List (Option Edge)) (names : List ℕ
         (ap (λ l. not (any_top f (outers root []) l)) (get_or-range_with_len 0 (leaf_count f) leaf.0 0 low ∙ zero-add leaf.0) ∙ out) refl in
         omega (arith, fewer, long, count_by-le-length (λ (l : ℕ). true) all)
 
-    left : steps_left (record { family = f; table = t; pairs = pairs; exposed = rest; root = Some root; edges = edges }) ≤ steps_left
-        (record { family = f; table = t; pairs = pairs; exposed = names; root = None; edges = edges })
+    abbrev after : State
+    after = record { family = f; table = s.table; pairs = s.pairs; exposed = rest; root = Some root; edges = s.edges }
+
+    left : steps_left after ≤ steps_left s
     left =
         let here = subst (λ ls. rest_of f root ls + 1 ≤ leaf_count f) (sym bare) few in
-        let even : (length rest + 1) % 2 ≡ 0 = subst (λ n. n % 2 ≡ 0) (omega (arith, count)) engine.exposed.even in
-        let fallen = fall (leaf_count f) (length rest) (rest_of f root edges) even here in
-        let whole : (2 * leaf_count f - 1) * length names ≡ (2 * leaf_count f - 1) * (length rest + 1) =
+        let fallen = fall (leaf_count f) (length rest) (rest_of f root s.edges) even here in
+        let whole : (2 * leaf_count f - 1) * length s.exposed ≡ (2 * leaf_count f - 1) * (length rest + 1) =
         ap (λ n. (2 * leaf_count f - 1) * n) count in
-        omega (arith, fallen, whole)
+        let was : steps_left s ≡ tree_left f s.exposed None s.edges + 2 * blossoms_of f =
+        ap (λ o. tree_left f s.exposed o s.edges + 2 * blossoms_of f) rootless in
+        omega (arith, fallen, whole, was)
 
     -- the tree is begun, and no step is taken
-    pub begun : IsEngine (record { family = f; table = t; pairs = pairs; exposed = rest; root = Some root; edges = edges }) ×
-        (steps_left (record { family = f; table = t; pairs = pairs; exposed = rest; root = Some root; edges = edges }) ≤ steps_left
-        (record { family = f; table = t; pairs = pairs; exposed = names; root = None; edges = edges }))
+    pub begun : IsEngine (record { family = s.family; table = s.table; pairs = s.pairs; exposed = rest; root = Some root; edges = s.edges }) ×
+        (steps_left (record { family = s.family; table = s.table; pairs = s.pairs; exposed = rest; root = Some root; edges = s.edges }) ≤ steps_left s)
     begun = (
       record {
         costs = engine.costs;
@@ -140,10 +119,9 @@ module _ (f : Family) (t : Table) (pairs : List (Option Edge)) (names : List ℕ
         feasible = engine.feasible;
         paired = engine.paired;
         exposed = exposed;
-        tree = subst (λ ls. IsTree f (cost t) pairs root ls) (sym bare) tree;
+        tree = subst (λ ls. IsTree f (cost s.table) s.pairs root ls) (sym bare) (IsTree-root f (cost s.table) s.pairs root root_top root_free);
         left = omega (arith, left, engine.left, count);
-        bounded = IsBounded-made (record { family = f; table = t; pairs = pairs; exposed = rest; root = Some root; edges = edges })
-            (omega (arith, left, bound-bare (record { family = f; table = t; pairs = pairs; exposed = names; root = None; edges = edges }) engine refl));
+        bounded = IsBounded-made after (omega (arith, left, bound-bare s engine rootless));
       },
       left,
     )

@@ -8,27 +8,25 @@ use Rattle.std.proofs.lemmas.List.{get_or-set_other, get_or-set_same, get_or_def
 use Rattle.std.proofs.Math.ListN.{length-set}
 use Rattle.sg_arena.proofs.FamilyLemmas.{leaf_bound, length-with_slot, name_bound, some_leaf, top-apart}
 use Rattle.sg_sums.proofs.ListLaws.{place_of_any}
-use Rattle.sg_arena.proofs.ShrunkFamily.{IsTop-shrink, IsTop-shrink_old, IsTop-shrink_other, in_new, new_holds, total-shrink}
+use Rattle.sg_arena.proofs.ShrunkFamily.{IsTop-shrink_old, IsTop-shrink_other}
 use Rattle.sg_arena.specs.Changes.{CanShrink, blossom_of, with_slot}
 use Rattle.sg_arena.specs.Family.{Family, Holds, IsFamily, IsTop, holds, link_at, node_at}
 use Rattle.sg_arena.specs.declared.Link.{Link}
 use Rattle.sg_match.proofs.BoundStep.{IsBounded-made}
 use Rattle.sg_match.proofs.EngineLemmas.{even, symmetric, tree_of}
-use Rattle.sg_match.proofs.MembersStep.{AreOuter-kept}
-use Rattle.sg_match.proofs.NodeLemmas.{node_in, place_in}
-use Rattle.sg_match.proofs.ShrinkTreeStep.{IsTree-shrunk, closed, inner_taken, moved, open_base}
+use Rattle.sg_match.proofs.NodeLemmas.{node_in}
+use Rattle.sg_match.proofs.RegrowStep.{IsRegrown}
+use Rattle.sg_match.proofs.ShrinkTreeStep.{closed, inner_taken, open_base, shrunk_tree}
 use Rattle.sg_match.proofs.ShrinkSetsStep.{CanShrink-tree_cycle, IsFeasible-shrunk, IsPaired-shrunk, path_head, top-not_dead}
 use Rattle.sg_match.proofs.StepsStep.{blossoms-shrunk, rest-one_fewer}
-use Rattle.sg_match.proofs.TreeLemmas.{pair_tight, inner_at, inner_top, length-inners, length-outers, outer_at, outer_cases, outer_pair, outer_top}
+use Rattle.sg_match.proofs.TreeLemmas.{pair_tight, inner_at, inner_top, length-inners, length-outers, outer_at, outer_cases, outer_pair}
 use Rattle.sg_match.specs.Engine.{IsEngine}
-use Rattle.sg_match.specs.Members.{AreOuter}
-use Rattle.sg_slack.specs.Members.{Member}
 use Rattle.sg_match.specs.Exposed.{IsExposed, root_count}
 use Rattle.sg_pairing.specs.Metric.{cost}
 use Rattle.sg_match.specs.Pairs.{pair_of}
 use Rattle.sg_match.specs.Path.{AreTight, nodes_of}
 use Rattle.sg_match.specs.TreeCycle.{HasTight, IsTreeCycle}
-use Rattle.sg_match.specs.ShrunkTree.{CanShrinkTree, IsShrunkTree}
+use Rattle.sg_match.specs.ShrunkTree.{shrunk_edges}
 use Rattle.sg_match.specs.State.{State}
 use Rattle.sg_match.specs.Steps.{blossoms_of, rest_of, steps_left, tree_left}
 use Rattle.sg_match.specs.Tree.{IsTree, any_top, tree_edge_at, outers}
@@ -130,54 +128,14 @@ module _ (s : State) (root : ℕ) (engine : IsEngine s) (rooted : s.root ≡ Som
                   (subst (λ n. Contains (nodes_of cycle) n) (sym at ∙ outer_at root s.edges m low_m) (node_in cycle 1 two)),
             )
 
-    -- an outer top of the cycle whose inner top is not in it is the base
-    outer_is_base : (i : ℕ) → i < length s.edges → (Contains (nodes_of cycle) (tree_edge_at s.edges i).inner → ⊥) →
-        Contains (nodes_of cycle) (tree_edge_at s.edges i).outer → (tree_edge_at s.edges i).outer ≡ base
-    outer_is_base i low away is = elim (tree_cycle.spot (tree_edge_at s.edges i).outer is) [
-      | inl head ↦ head
-      | inr rest ↦ elim rest [
-        | inl out ↦
-            let place_is : out.0 ≡ suc i = tree.shape.tops.outer_differ out.0 (suc i) out.2 within (out.3 ∙ sym (outer_at root s.edges i low)) in
-            absurd (away ((tree_cycle.whole i (omega (arith, place_is, out.1)) low).1 is))
-        | inr inn ↦ absurd (tree.shape.tops.apart (suc i) inn.0 within inn.2 (outer_at root s.edges i low ∙ sym inn.3))
-      ]
-    ]
-      where
-        within : suc i < length (outers root s.edges)
-        within = omega (arith, low, length-outers root s.edges)
-
     module _ (b : ℕ) (dead : node_at f b ≡ None) (room : b < length f.nodes) where
       abbrev g : Family
       g = with_slot f b (Some (blossom_of f cycle))
 
-      -- a top that shares a leaf with the new blossom is in the cycle
-      in_cycle : (t l : ℕ) → IsTop f t → Holds f t l → Holds g b l → Contains (nodes_of cycle) t
-      in_cycle t l top held is =
-          let at = in_new f b cycle fam can dead room l is in
-          subst (λ n. Contains (nodes_of cycle) n) (top-apart f fam (link_at cycle at.0).node t l (can.tops at.0 at.1) top at.2 held)
-          (node_in cycle at.0 at.1)
+      module _ (tight : AreTight f price cycle) (top_root : ℕ) (root_base : root ≡ base → top_root ≡ b) (root_other : root ≢ base → top_root ≡ root) where
+        abbrev new : List TreeEdge
+        new = shrunk_edges g b s.edges
 
-      in_blossom : (n l : ℕ) → Contains (nodes_of cycle) n → Holds f n l → Holds g b l
-      in_blossom n l is held =
-          let at = place_in cycle n is in
-          new_holds f b cycle fam can dead room at.0 l at.1 (subst (λ m. Holds f m l) (sym at.2) held)
-
-      -- the tree edges of the cycle may go
-      pub CanShrinkTree-shrunk : CanShrinkTree g (nodes_of cycle) base b s.edges
-      CanShrinkTree-shrunk = record {
-        top = IsTop-shrink f b cycle fam can dead room;
-        hit = λ i low is. in_cycle (tree_edge_at s.edges i).inner (tree_edge_at s.edges i).up.from (inner_top f root s.edges tree.shape i low)
-            (tree.shape.up_from i low) is;
-        miss = λ i low no is. no (in_blossom (tree_edge_at s.edges i).inner (tree_edge_at s.edges i).up.from is (tree.shape.up_from i low));
-        outer_hit = λ i low away is. outer_is_base i low away
-            (in_cycle (tree_edge_at s.edges i).outer (tree_edge_at s.edges i).pair.to (outer_top f root s.edges tree.shape i low)
-            ((tree.shape.edge i low).pair_to) is);
-        outer_miss = λ i low same. in_blossom (tree_edge_at s.edges i).outer (tree_edge_at s.edges i).pair.to
-            (subst (λ n. Contains (nodes_of cycle) n) (sym same) base_in) ((tree.shape.edge i low).pair_to);
-      }
-
-      module _ (tight : AreTight f price cycle) (top_root : ℕ) (root_base : root ≡ base → top_root ≡ b) (root_other : root ≢ base → top_root ≡ root)
-          (new : List TreeEdge) (reg : IsShrunkTree b base (nodes_of cycle) s.edges new) where
         abbrev now : List (Option Edge)
         now = set s.pairs b (pair_of s.pairs base)
 
@@ -232,20 +190,17 @@ module _ (s : State) (root : ℕ) (engine : IsEngine s) (rooted : s.root ≡ Som
         abbrev after : State
         after = record { family = g; table = s.table; pairs = now; exposed = s.exposed; root = Some top_root; edges = new }
 
+        -- the tree edges that are left make a tree
+        tree_left_over : IsRegrown f g price now root top_root s.edges (λ t. (t ≡ b) × (tree_cycle.head_at.0 ≤ length s.edges)) (λ t. ⊥) new (length s.edges)
+        tree_left_over = shrunk_tree f price b cycle engine.feasible dead room tight (even s engine) s.pairs engine.paired root s.edges tree place base
+            tree_cycle names top_root root_base root_other
+
         -- an outer leaf stays one
         kept : (l : ℕ) → any_top f (outers root s.edges) l ≡ true → any_top g (outers top_root new) l ≡ true
         kept l is =
             let at = place_of_any (λ t. holds f t l) (outers root s.edges) 0 is in
-            let here = moved f price b cycle engine.feasible dead room tight
-            (even s engine) s.pairs engine.paired root s.edges tree place base tree_cycle names top_root root_base root_other new reg at.0 l at.1
-            at.2 in
+            let here = tree_left_over.hit at.0 l (omega (arith, at.1, length-outers root s.edges)) at.2 in
             list_any_at (λ t. holds g t l) (outers top_root new) here.0 0 here.1 here.2
-
-        -- members stay outer leaves with their totals
-        pub known-shrunk : (h : Family) → h ≡ g → (members : List Member) → AreOuter f root s.edges members → AreOuter h top_root new members
-        known-shrunk h made members known =
-            subst (λ x. AreOuter x top_root new members) (sym made)
-            (AreOuter-kept f g root top_root s.edges new members known kept (total-shrink f b cycle fam can dead room))
 
         -- a leaf of an inner top of the cycle is an outer leaf now
         rest_falls : rest_of g top_root new + 1 ≤ rest_of f root s.edges
@@ -261,9 +216,8 @@ module _ (s : State) (root : ℕ) (engine : IsEngine s) (rooted : s.root ≡ Som
 
             gained : any_top g (outers top_root new) leaf.0 ≡ true
             gained =
-                let here = inner_taken f price b cycle engine.feasible dead room tight
-                (even s engine) s.pairs engine.paired root s.edges tree place base tree_cycle names top_root root_base root_other new reg edge_in.0
-                leaf.0 edge_in.1 edge_in.2 edge_in.3 leaf.1 in
+                let here = inner_taken f price b cycle engine.feasible dead room tight (even s engine) s.pairs engine.paired root s.edges tree place base
+                tree_cycle names top_root root_base root_other edge_in.0 leaf.0 edge_in.3 leaf.1 in
                 list_any_at (λ t. holds g t leaf.0) (outers top_root new) here.0 0 here.1 here.2
 
             before : any_top f (outers root s.edges) leaf.0 ≡ false
@@ -292,22 +246,31 @@ module _ (s : State) (root : ℕ) (engine : IsEngine s) (rooted : s.root ≡ Som
               (closed f price b cycle engine.feasible dead room tight (even s engine) s.pairs engine.paired root s.edges tree place base tree_cycle)
               (open_base f price b cycle engine.feasible dead room tight (even s engine) s.pairs engine.paired root s.edges tree place base tree_cycle);
           exposed = IsExposed-shrunk;
-          tree = IsTree-shrunk f price b cycle engine.feasible dead room tight
-              (even s engine) s.pairs engine.paired root s.edges tree place base tree_cycle names top_root root_base root_other new reg;
+          tree = tree_left_over.tree;
           left = omega (arith, fewer_left, engine.left);
           bounded = IsBounded-made after (omega (arith, fewer_left, engine.bounded.due));
         }
 
-        -- the same, where the family and the pair are only known to be these
-        pub shrunk : (h : Family) → h ≡ g → (p : Option Edge) → p ≡ get_or s.pairs base p →
-            IsEngine (record { family = h; table = s.table; pairs = set s.pairs b p; exposed = s.exposed; root = Some top_root; edges = new }) ×
-            (steps_left (record { family = h; table = s.table; pairs = set s.pairs b p; exposed = s.exposed; root = Some top_root; edges = new }) + 2 ≤
-            steps_left s)
-        shrunk h made p read =
-            subst (λ x. IsEngine (record { family = x; table = s.table; pairs = set s.pairs b p; exposed = s.exposed; root = Some top_root; edges = new }) ×
-            (steps_left (record { family = x; table = s.table; pairs = set s.pairs b p; exposed = s.exposed; root = Some top_root; edges = new }) + 2 ≤
-            steps_left s)) (sym made)
-            (subst (λ x. IsEngine (record { family = g; table = s.table; pairs = set s.pairs b x; exposed = s.exposed; root = Some top_root; edges = new })
-            × (steps_left (record { family = g; table = s.table; pairs = set s.pairs b x; exposed = s.exposed; root = Some top_root; edges = new }) + 2
-            ≤ steps_left s)) (sym (read ∙ get_or_default s.pairs base p None base_low))
-            (IsEngine-shrunk, fewer_left))
+        abbrev Sound : Family → Option Edge → List TreeEdge → Type 0
+        Sound h p edges = IsEngine (record {
+          family = h;
+          table = s.table;
+          pairs = set s.pairs b p;
+          exposed = s.exposed;
+          root = Some top_root;
+          edges = edges;
+        }) × (steps_left (record {
+          family = h;
+          table = s.table;
+          pairs = set s.pairs b p;
+          exposed = s.exposed;
+          root = Some top_root;
+          edges = edges;
+        }) + 2 ≤ steps_left s)
+
+        -- the same, where the family, the pair and the tree edges are only known to be these
+        pub shrunk : (h : Family) → h ≡ g → (p : Option Edge) → p ≡ get_or s.pairs base p → (edges : List TreeEdge) → edges ≡ shrunk_edges h b s.edges →
+            Sound h p edges
+        shrunk h made p read edges left = subst (λ x. Sound x p edges) (sym made)
+            (subst (λ q. Sound g q edges) (sym (read ∙ get_or_default s.pairs base p None base_low))
+            (subst (λ ls. Sound g (pair_of s.pairs base) ls) (sym (left ∙ ap (λ x. shrunk_edges x b s.edges) made)) (IsEngine-shrunk, fewer_left)))

@@ -12,7 +12,6 @@ pub mod TreeCycle
 pub mod ShrunkTree
 pub mod Augmented
 pub mod Marks
-pub mod TableChanges
 pub mod InnerZeros
 pub mod DualChange
 pub mod Events
@@ -21,7 +20,6 @@ pub mod Stages
 pub mod Nearest
 pub mod Scans
 pub mod Rings
-pub mod InsertedEdges
 pub mod ExpandedTree
 pub mod Members
 pub mod Rooms

@@ -6,17 +6,16 @@ ghost use Rattle.sg_pairing.specs.Metric.{IsMetric, cost};
 ghost use Rattle.sg_match.specs.Nearest.{HasNearest, IsNearest};
 ghost use Rattle.sg_match.specs.Scans.{CanScan, IsScanned};
 ghost use Rattle.sg_match.specs.Tree.{inners, outers};
-ghost use Rattle.sg_match.specs.Marks.{IsListed, AreRightMarks};
-ghost use Rattle.sg_match.specs.Members.{AreMarked, AreOuter, JoinsMembers};
-ghost use Rattle.sg_slack.specs.Members.{Agree, IsMember};
-ghost use Rattle.sg_slack.specs.Slack.{mark_at, IsOuterFree, IsOuterOuter, Least, SumsFit};
+ghost use Rattle.sg_match.specs.Members.{JoinsMembers};
+ghost use Rattle.sg_slack.specs.Members.{Agree, AreMarked, IsMember};
+ghost use Rattle.sg_slack.specs.Slack.{mark_at, IsOuterFree, Least, SumsFit};
 ghost use Rattle.sg_slack.specs.declared.Mark.TheVariants.{Outer};
 
 use super::inner::{least_dual, least_inner_zero};
-use super::leaves::{list_tree, mark_leaves, mark_tops, move_totals};
+use super::leaves::{list_leaves, list_tree, mark_leaves};
 use super::{Engine, Event, TreeEdge};
 use sg_arena::Arena;
-use sg_slack::{Costs, Mark, Near, Pair};
+use sg_slack::{Costs, Mark, Near, Pair, least_outer_outer};
 use sg_steps::Steps;
 use std::sync::ledger::Ledger;
 
@@ -27,37 +26,33 @@ pub struct Change {
     pub event: Event,
 }
 
-// By how much the tree's duals may rise before the next slack is 0, and whose slack that is. It marks
-// each leaf by the place of its top. The clauses alone speak of the arena: the tables say what is in it.
+// By how much the tree's duals may rise before the next slack is 0, and whose slack that is. The tables
+// are room to list the leaves in.
 pub fn nearest(
     arena: &Arena,
     near: &mut Near,
     root: usize,
     edges: &[TreeEdge],
-    named: &mut [Mark],
-    tops: &[usize],
-    totals: &[i64],
+    tops: &mut [usize],
+    totals: &mut [i64],
     marks: &mut [Mark],
 ) -> Change
     requires metric { IsMetric near.old.table }
     requires leaves { leaf_count arena.now ≡ near.old.table.size }
     requires stands { HasNearest arena.now (cost near.old.table) root edges.now }
-    requires members { AreOuter arena.now root edges.now near.old.members }
-    requires named { length named.old ≡ length arena.now.nodes }
-    requires listed { IsListed arena.now tops.now totals.now }
+    requires tops { length tops.old ≡ leaf_count arena.now }
+    requires totals { length totals.old ≡ leaf_count arena.now }
     requires marks { length marks.old ≡ leaf_count arena.now }
     ensures whole { result.amount ≡ pos (nat_of result.amount) }
     ensures nearest { IsNearest arena.now (cost near.old.table) root edges.now (nat_of result.amount) result.event }
     ensures table { near.new.table ≡ near.old.table }
-    ensures members { AreOuter arena.now root edges.now near.new.members }
-    ensures marked { AreRightMarks arena.now root edges.now marks.new }
 {
-    mark_tops(root, edges, named);
-    mark_leaves(named, tops, marks);
+    list_leaves(arena, tops, totals);
+    mark_leaves(root, edges, tops, marks);
+    near.follow(totals, marks);
     add_outer(near, totals, marks);
     let free = near.least(totals, tops, marks);
-    let both = near.least_between(totals, tops, marks);
-    scan(near.costs(), free, both, totals, tops, marks)
+    scan(near.costs(), free, totals, tops, marks)
 }
 
 // Adds the outer leaves that are no members yet.
@@ -88,17 +83,10 @@ fn join(near: &mut Near, leaf: u32, total: i64, mark: Mark)
     }
 }
 
-// The nearer of the free pair and the pair of two outer leaves, which closes its gap from both sides.
-fn scan(
-    costs: &Costs,
-    free: Option<Pair>,
-    both: Option<Pair>,
-    totals: &[i64],
-    tops: &[usize],
-    marks: &[Mark],
-) -> Change
+// The nearer of the free pair and the pair of two outer leaves, which closes its gap from both sides. No
+// pair is nearer than one of slack 0.
+fn scan(costs: &Costs, free: Option<Pair>, totals: &[i64], tops: &[usize], marks: &[Mark]) -> Change
     requires free { Least costs.now totals.now (IsOuterFree costs.now marks.now) free }
-    requires both { Least costs.now totals.now (IsOuterOuter costs.now tops.now marks.now) both }
     requires totals { length totals.now ≡ costs.now.size }
     requires tops { length tops.now ≡ costs.now.size }
     requires marks { length marks.now ≡ costs.now.size }
@@ -115,6 +103,10 @@ fn scan(
             v: free.v,
         },
     };
+    if free.slack == 0 {
+        return away;
+    }
+    let both = least_outer_outer(costs, totals, tops, marks);
     match both {
         Some(both) if both.slack / 2 < away.amount => Change {
             amount: both.slack / 2,
@@ -176,9 +168,8 @@ impl Engine {
             &mut self.near,
             root,
             &self.edges,
-            &mut self.named,
-            &self.tops,
-            &self.totals,
+            &mut self.tops,
+            &mut self.totals,
             &mut self.marks,
         );
         let delta = least_dual(&self.arena, &self.edges, near.amount);
@@ -191,8 +182,6 @@ impl Engine {
             delta,
             steps,
         );
-        move_totals(&mut self.totals, &self.marks, delta);
-        self.near.shift(delta);
         match least_inner_zero(&self.arena, &self.edges) {
             Some(node) => Event::InnerZero { node },
             None => near.event,

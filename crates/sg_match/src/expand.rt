@@ -1,6 +1,5 @@
 use super::Engine;
 use super::expand_tree::{expand_edge, place_of_inner, turn_to_odd};
-use super::leaves::part_tops;
 use super::rings::{list_ring, pair_ring, place_of};
 use sg_steps::Steps;
 use std::sync::ledger::Ledger;
@@ -29,7 +28,6 @@ impl Engine {
         let place = place_of(&self.cycle, end);
         let entry = turn_to_odd(&mut self.cycle, &mut self.ring, place);
         self.arena.expand(node, steps);
-        part_tops(&self.arena, node, &mut self.tops);
         pair_ring(&mut self.pairs, &self.cycle, tree_edge.pair);
         expand_edge(&mut self.edges, at, &self.cycle, entry);
     }

@@ -1,11 +1,8 @@
-ghost use Rattle.std.specs.Prelude.{◌≡◌, ℕ, ◌+◌, ◌-◌, ◌<◌, ◌≤◌, ◌⊎◌, List, Option, length, vec_capacity, Contains};
-ghost use Rattle.std.specs.List.{insert};
-ghost use Rattle.sg_arena.specs.Family.{Family};
-ghost use Rattle.sg_match.specs.ExpandedTree.{CanExpandTree};
+ghost use Rattle.std.specs.Prelude.{◌≡◌, ℕ, ◌<◌, ◌≤◌, ◌+◌, ◌⊎◌, ◌++◌, drop, length, vec_capacity, Contains};
+ghost use Rattle.sg_arena.specs.Family.{link_at};
+ghost use Rattle.sg_match.specs.ExpandedTree.{expanded_edges, ring_edges, ring_start};
 ghost use Rattle.sg_match.specs.Rings.{IsTurnedRing, IsOdd};
-ghost use Rattle.sg_match.specs.InsertedEdges.{IsInserted, OuterStays, hung_edge, new_edge};
-ghost use Rattle.sg_match.specs.Tree.{IsTree, inners, tree_edge_at};
-ghost use Rattle.sg_match.specs.declared.Edge.{Edge};
+ghost use Rattle.sg_match.specs.Tree.{inners, tree_edge_at};
 
 use super::rings::turn_back;
 use super::{Edge, TreeEdge};
@@ -44,72 +41,50 @@ pub fn turn_to_odd(ring: &mut Vec<Link>, spare: &mut Vec<Link>, entry: usize) ->
     ring.len() - entry
 }
 
-// Puts a tree edge at a place of the tree.
-pub fn insert_edge(edges: &mut Vec<TreeEdge>, at: usize, tree_edge: TreeEdge)
-    requires within { at ≤ length edges.old.items }
-    requires room { length edges.old.items < vec_capacity edges.old }
-    ensures items { edges.new.items ≡ insert edges.old.items at tree_edge }
+// Adds the tree edges over the nodes of a ring from its entry on, two by two, each as an inner and an outer
+// top, and at last that of the ring's first node. The tree edge is that of the ring's blossom.
+fn push_ring(edges: &mut Vec<TreeEdge>, tree_edge: TreeEdge, ring: &[Link], entry: usize)
+    requires entry { entry < length ring.now }
+    requires room { length edges.old.items + length ring.now < vec_capacity edges.old }
+    ensures edges { edges.new.items ≡ edges.old.items ++ ring_edges tree_edge (link_at ring.now 0).node tree_edge.up (drop (ring_start entry (length ring.now)) ring.now) }
     ensures capacity { vec_capacity edges.new ≡ vec_capacity edges.old }
 {
-    edges.push_reserved(tree_edge);
-    let tail = &mut edges[at..];
-    tail.rotate_right(1);
-}
-
-// Puts two nodes of a ring into the tree before a tree edge, as the inner and the outer top of a new
-// one, and lets the old one lead up to that.
-pub fn insert_before(edges: &mut Vec<TreeEdge>, place: usize, one: Link, two: Link)
-    requires within { place < length edges.old.items }
-    requires room { length edges.old.items < vec_capacity edges.old }
-    ensures insert_before { IsInserted edges.old.items edges.new.items place (new_edge (tree_edge_at edges.old.items place) one two) (hung_edge (tree_edge_at edges.old.items place) two) }
-    ensures capacity { vec_capacity edges.new ≡ vec_capacity edges.old }
-{
-    let tree_edge = edges[place];
-    let edge = Edge {
-        from: two.to,
-        to: two.from,
-    };
-    edges[place] = TreeEdge {
-        up: edge,
+    let mut up = tree_edge.up;
+    let mut i = if entry == 0 { ring.len() } else { entry };
+    while i + 1 < ring.len() {
+        let Link { node, from, to } = ring[i];
+        let next = ring[i + 1];
+        edges.push_reserved(TreeEdge {
+            inner: node,
+            outer: next.node,
+            up,
+            pair: Edge { from, to },
+        });
+        up = Edge {
+            from: next.to,
+            to: next.from,
+        };
+        i += 2;
+    }
+    edges.push_reserved(TreeEdge {
+        inner: ring[0].node,
+        up,
         ..tree_edge
-    };
-    let pair = Edge {
-        from: one.from,
-        to: one.to,
-    };
-    insert_edge(
-        edges,
-        place,
-        TreeEdge {
-            inner: one.node,
-            outer: two.node,
-            up: tree_edge.up,
-            pair,
-        },
-    );
+    });
 }
 
-// Puts the nodes from the entry of a ring on, alternately inner and outer, into the tree before the
-// tree edge of their blossom, and the ring's first node in place of the blossom. Where the entry is
-// the first node, no tree edge is new.
+// Puts the tree edges of a ring from its entry on in place of the tree edge of its blossom. Where the entry
+// is the first node, no tree edge is new.
 pub fn expand_edge(edges: &mut Vec<TreeEdge>, at: usize, ring: &[Link], entry: usize)
     requires within { at < length edges.old.items }
     requires entry { entry < length ring.now }
     requires room { length edges.old.items + length ring.now ≤ vec_capacity edges.old }
-    ensures tree { (f : Family) (cost : ℕ → ℕ → ℕ) (now : List (Option Edge)) (root : ℕ) → CanExpandTree f cost now root edges.old.items ring.now at entry → IsTree f cost now root edges.new.items }
-    ensures outer { OuterStays edges.old.items edges.new.items }
+    ensures edges { edges.new.items ≡ expanded_edges edges.old.items at ring.now entry }
     ensures capacity { vec_capacity edges.new ≡ vec_capacity edges.old }
 {
-    let tree_edge = edges[at];
-    edges[at] = TreeEdge {
-        inner: ring[0].node,
-        ..tree_edge
-    };
-    let mut place = at;
-    let mut i = if entry == 0 { ring.len() } else { entry };
-    while i + 1 < ring.len() {
-        insert_before(edges, place, ring[i], ring[i + 1]);
-        place += 1;
-        i += 2;
-    }
+    let tree_edge = edges.remove(at);
+    let behind = edges.len() - at;
+    edges.rotate_left(at);
+    push_ring(edges, tree_edge, ring, entry);
+    edges.rotate_left(behind);
 }

@@ -14,8 +14,8 @@
 //! two steps is `IsEngine` of `specs/Engine.antt`, one record for each part: `Feasible`, `Pairs`,
 //! `Exposed`, `Tree`. Each step has the file of its name: `search` goes round by round from an exposed
 //! top, `dual_change` raises the duals, then `grow`, `augment`, `shrink` and `expand`, and `mates` pairs
-//! inside the blossoms at the end. `leaves` has the tables of the leaves' tops and totals, in which each
-//! step changes what it changes of the sets. `shrink_cycle` finds the odd cycle of a shrink; `shrink_tree` and
+//! inside the blossoms at the end. `leaves` lists the leaves' tops, totals and marks anew in each round, so
+//! that no step has tables to keep. `shrink_cycle` finds the odd cycle of a shrink; `shrink_tree` and
 //! `expand_tree` are what a shrink and an expansion do to the tree. In `proofs/` a file `..Step` carries
 //! the parts of the invariant over one step, and a file `..Lemmas` has what several need.
 //!
@@ -45,7 +45,6 @@ mod search;
 mod shrink;
 mod shrink_cycle;
 mod shrink_tree;
-mod start;
 
 use sg_arena::{Arena, Link};
 use sg_list::Numbers;
@@ -123,16 +122,12 @@ pub struct Engine {
     exposed: Vec<usize>,
     // The unpaired top from which the tree grows; none if there is no tree.
     root: Option<usize>,
-    // Whether no tree was begun and no step was taken.
-    fresh: bool,
     // The edges of the tree in the order in which they grew: each ends in the root or in the outer top of
     // an earlier one.
     edges: Vec<TreeEdge>,
-    // The top and the total of each leaf.
+    // Room for what a step works on.
     tops: Vec<usize>,
     totals: Vec<i64>,
-    // Room for what a step works on.
-    named: Vec<Mark>,
     marks: Vec<Mark>,
     outer: Vec<usize>,
     inner: Vec<usize>,
@@ -146,11 +141,9 @@ impl Model for Engine {
 
     ghost Value = { State };
 
-    ghost use Rattle.sg_match.specs.Engine.{IsEngine};
-
     ghost view = { λ e. record { family = e.arena; table = e.near.table; pairs = e.pairs.items; exposed = e.exposed.items; root = e.root; edges = e.edges.items } };
 
-    ghost use Rattle.sg_match.specs.Rooms.{KeepsTables};
+    ghost use Rattle.sg_match.specs.Rooms.{KeepsFields};
 
-    ghost invariant = { λ e. IsEngine (record { family = e.arena; table = e.near.table; pairs = e.pairs.items; exposed = e.exposed.items; root = e.root; edges = e.edges.items }) × KeepsTables e };
+    ghost invariant = { λ e. KeepsFields e };
 }

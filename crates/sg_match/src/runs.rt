@@ -1,8 +1,6 @@
 ghost use Rattle.std.specs.Prelude.{◌≡◌, ◌≤◌, ◌+◌, ◌*◌, ◌^◌, [], IfOk, None, length, replicate, vec_capacity};
 ghost use Rattle.sg_arena.specs.Family.{leaf_count};
-ghost use Rattle.sg_match.specs.Marks.{IsListed};
 
-use super::leaves::list_leaves;
 use super::mates::derive_mates;
 use super::{Edge, Engine, Matched, Mates, NoMemory, Stage, TreeEdge};
 use sg_arena::{Arena, Link};
@@ -65,54 +63,30 @@ fn empty_lists(alloc: Global, room: usize) -> Result<Lists, NoMemory>
     })
 }
 
-// The top and the total of each leaf.
-#[derive(Drop)]
-struct Listed {
-    tops: Vec<usize>,
-    totals: Vec<i64>,
-}
-
-// The top and the total of each of so many leaves.
-fn listed_leaves(alloc: Global, arena: &Arena, k: u32) -> Result<Listed, NoMemory>
-    requires leaves { k ≡ leaf_count arena.now }
-    requires small { k ≤ 2 ^ 24 }
-    ensures { IfOk result (λ listed. IsListed arena.now listed.tops.items listed.totals.items) }
-{
-    let count = k as usize;
-    let mut tops = vec![in alloc; 0usize; count]?;
-    let mut totals = vec![in alloc; 0i64; count]?;
-    list_leaves(arena, &mut tops, &mut totals);
-    Ok(Listed { tops, totals })
-}
-
-// Tables by name and by leaf.
+// Tables by leaf.
 #[derive(Drop)]
 struct Tables {
-    named: Vec<Mark>,
     tops: Vec<usize>,
     totals: Vec<i64>,
     marks: Vec<Mark>,
     mates: Vec<u32>,
 }
 
-// The tables over so many leaves and names: the tops and totals as they are, no mark, and no mate.
-fn tables_of(alloc: Global, arena: &Arena, k: u32, room: usize) -> Result<Tables, NoMemory>
-    requires leaves { k ≡ leaf_count arena.now }
-    requires small { k ≤ 2 ^ 24 }
-    ensures named { IfOk result (λ tables. length tables.named.items ≡ room) }
-    ensures marks { IfOk result (λ tables. length tables.marks.items ≡ leaf_count arena.now) }
-    ensures mates { IfOk result (λ tables. length tables.mates.items ≡ leaf_count arena.now) }
-    ensures listed { IfOk result (λ tables. IsListed arena.now tables.tops.items tables.totals.items) }
+// The tables over so many leaves.
+fn tables_of(alloc: Global, k: u32) -> Result<Tables, NoMemory>
+    ensures tops { IfOk result (λ tables. length tables.tops.items ≡ k) }
+    ensures totals { IfOk result (λ tables. length tables.totals.items ≡ k) }
+    ensures marks { IfOk result (λ tables. length tables.marks.items ≡ k) }
+    ensures mates { IfOk result (λ tables. length tables.mates.items ≡ k) }
 {
-    let listed = listed_leaves(alloc, arena, k)?;
     let count = k as usize;
-    let named = vec![in alloc; Mark::Free; room]?;
+    let tops = vec![in alloc; 0usize; count]?;
+    let totals = vec![in alloc; 0i64; count]?;
     let marks = vec![in alloc; Mark::Free; count]?;
     let mates = vec![in alloc; 0u32; count]?;
     Ok(Tables {
-        named,
-        tops: listed.tops,
-        totals: listed.totals,
+        tops,
+        totals,
         marks,
         mates,
     })
@@ -146,16 +120,14 @@ impl Engine {
         let pairs = no_pairs(alloc, room)?;
         let exposed = leaf_names(alloc, &arena, k, room)?;
         let lists = empty_lists(alloc, room)?;
-        let tables = tables_of(alloc, &arena, k, room)?;
+        let tables = tables_of(alloc, k)?;
         Ok(Engine {
             near,
             arena,
             pairs,
             exposed,
             root: None,
-            fresh: true,
             edges: lists.edges,
-            named: tables.named,
             tops: tables.tops,
             totals: tables.totals,
             marks: tables.marks,
@@ -189,8 +161,7 @@ impl Engine {
     /// cannot be counted elsewhere, and the caller's count grows by just those of this call. The bound is a
     /// promise of this call: what comes from elsewhere takes no such steps.
     ///
-    /// Cost: a step takes time proportional to the number of leaves, and again to it for each leaf whose
-    /// nearest one has to be found anew: at most to the square of their number.
+    /// Cost: a step takes time proportional to the square of the number of leaves.
     pub fn run<L: Ledger>(mut self, steps: &mut Steps<L>) -> Matched
         ensures counted { steps.new ≤ steps.old + 2 * self.table.size * self.table.size }
         ensures alike { steps.new + self.family.steps ≡ steps.old + result.family.steps }
@@ -202,7 +173,7 @@ impl Engine {
         ensures duals { pairing_cost (cost self.table) result.mates ≡ sum_of_duals result.family }
         ensures least { (other : List ℕ) → IsPairing self.table.size other → pairing_cost (cost self.table) result.mates ≤ pairing_cost (cost self.table) other }
     {
-        self.start(steps);
+        let _family = self.family();
         while let Stage::InnerZero { node } = self.advance(steps) {
             self.expand(node, steps);
         }

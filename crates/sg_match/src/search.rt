@@ -15,9 +15,8 @@ impl Engine {
     /// Goes on until every top is paired, or an inner blossom of the tree has dual 0. Where such a
     /// blossom is there already, the least one is named and nothing changes. It does not allocate.
     ///
-    /// Cost: each round takes time proportional to the number of leaves, and again to it for each leaf
-    /// that has become outer, and for each outer leaf whose nearest one of another top has come into its
-    /// own top.
+    /// Cost: each round takes time proportional to the product of the number of leaves and that of outer
+    /// leaves.
     pub fn advance<L: Ledger>(&mut self, steps: &mut Steps<L>) -> Stage
         ensures table { self.new.table ≡ self.old.table }
         ensures engine { IsEngine self.new }
@@ -82,8 +81,6 @@ impl Engine {
     {
         match self.exposed.pop() {
             Some(root) => {
-                self.near.clear();
-                self.fresh = false;
                 self.root = Some(root);
                 Some(root)
             }

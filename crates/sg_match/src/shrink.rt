@@ -1,7 +1,6 @@
 ghost use Rattle.std.specs.Prelude.{◌≡◌, ◌≢◌};
 
 use super::Engine;
-use super::leaves::lift_tops;
 use super::shrink_cycle::find_cycle;
 use super::shrink_tree::shrink_edges;
 use sg_steps::Steps;
@@ -33,7 +32,6 @@ impl Engine {
     {
         let base = find_cycle(&self.arena, root, &self.edges, &mut self.cycle, u, v);
         let blossom = self.arena.shrink(&self.cycle, steps);
-        lift_tops(&self.arena, &mut self.tops);
         self.pairs[blossom] = self.pairs[base];
         self.root = Some(renamed(root, base, blossom));
         shrink_edges(&self.arena, &mut self.edges, blossom);

@@ -4,7 +4,7 @@ ghost use Rattle.sg_slack.specs.Slack.{mark_at, total_at};
 ghost use Rattle.sg_slack.specs.declared.Mark.TheVariants.{Outer};
 
 use super::slacks::are_small;
-use sg_slack::{Costs, Mark, Near, NoMemory, Pair, least_outer_free, least_outer_outer};
+use sg_slack::{Costs, Mark, Near, NoMemory, Pair, least_outer_free};
 use std::alloc::Global;
 use std::process::Abort;
 use std::test::Fail;
@@ -55,25 +55,23 @@ fn fill(place: usize, totals: &mut [i64], marks: &mut [Mark])
     }
 }
 
-// What is kept gives the slacks that the scans of all pairs find.
+// What is kept gives the slack that the scan of all pairs finds.
 fn agrees<R: Abort>(
     rt: &R,
-    near: &mut Near,
+    near: &Near,
     place: usize,
     totals: &mut [i64],
     tops: &[usize],
     marks: &mut [Mark],
 ) -> Option<Pair>
-    requires line { IsLine near.old.members place }
-    requires within { place ≤ near.old.table.size }
+    requires line { IsLine near.now.members place }
+    requires within { place ≤ near.now.table.size }
     requires place { place ≤ 8 }
-    requires totals { length totals.old ≡ near.old.table.size }
-    requires tops { length tops.now ≡ near.old.table.size }
-    requires marks { length marks.old ≡ near.old.table.size }
-    ensures table { near.new.table ≡ near.old.table }
-    ensures line { IsLine near.new.members place }
-    ensures totals { length totals.new ≡ near.old.table.size }
-    ensures marks { length marks.new ≡ near.old.table.size }
+    requires totals { length totals.old ≡ near.now.table.size }
+    requires tops { length tops.now ≡ near.now.table.size }
+    requires marks { length marks.old ≡ near.now.table.size }
+    ensures totals { length totals.new ≡ near.now.table.size }
+    ensures marks { length marks.new ≡ near.now.table.size }
 {
     fill(place, totals, marks);
     assert!(rt; are_small(near.costs(), totals));
@@ -82,12 +80,6 @@ fn agrees<R: Abort>(
     assert_eq!(rt;
         free.map(|pair| pair.slack),
         free_scanned.map(|pair| pair.slack)
-    );
-    let between = near.least_between(totals, tops, marks);
-    let between_scanned = least_outer_outer(near.costs(), totals, tops, marks);
-    assert_eq!(rt;
-        between.map(|pair| pair.slack),
-        between_scanned.map(|pair| pair.slack)
     );
     free
 }
@@ -100,7 +92,7 @@ fn meets_the_other<R: Abort>(rt: &R, alloc: Global) -> Result<(), NoMemory> {
     lengthen(&mut near, 0);
     let mut totals = [0; 2];
     let mut marks = [Mark::Free; 2];
-    let found = agrees(rt, &mut near, 1, &mut totals, &[7, 8], &mut marks);
+    let found = agrees(rt, &near, 1, &mut totals, &[7, 8], &mut marks);
     let pair = Pair {
         u: 0,
         v: 1,
@@ -144,74 +136,26 @@ fn costs_of(alloc: Global, t: u32) -> Result<Costs, NoMemory>
     Ok(costs)
 }
 
-// The tops of the leaves where a member has come into the first top as soon as so many came behind it.
-fn fill_tops(place: usize, gap: usize, tops: &mut [usize])
-    requires place { place ≤ 8 }
-    requires gap { gap ≤ 8 }
-    requires count { length tops.old ≤ 8 }
-    ensures count { length tops.new ≡ length tops.old }
-{
-    for v in 0..tops.len() {
-        tops[v] = if v + gap < place { 0 } else { v + 1 };
-    }
-}
-
-// The leaves join one after the other, and their tops come together.
-fn grows<R: Abort>(rt: &R, alloc: Global, t: u32, gap: usize) -> Result<(), NoMemory>
-    requires { gap ≤ 8 }
-{
+// The leaves join one after the other. Each is its own top.
+fn grows<R: Abort>(rt: &R, alloc: Global, t: u32) -> Result<(), NoMemory> {
     let costs = costs_of(alloc, t)?;
     let mut near = Near::open(alloc, costs)?;
     let mut totals = [0; 8];
     let mut marks = [Mark::Free; 8];
-    let mut tops = [0; 8];
+    let tops = [0, 1, 2, 3, 4, 5, 6, 7];
     for leaf in 0..7u32 {
         lengthen(&mut near, leaf);
-        fill_tops(leaf as usize, gap, &mut tops);
-        agrees(
-            rt,
-            &mut near,
-            leaf as usize + 1,
-            &mut totals,
-            &tops,
-            &mut marks,
-        );
+        agrees(rt, &near, leaf as usize + 1, &mut totals, &tops, &mut marks);
     }
     near.clear();
-    agrees(rt, &mut near, 0, &mut totals, &tops, &mut marks);
+    agrees(rt, &near, 0, &mut totals, &tops, &mut marks);
     Ok(())
 }
 
 #[test]
 fn forty_sets_are_kept_as_they_are_scanned(rt: HostRuntime) -> Result<(), Fail> {
     for t in 0..40 {
-        grows(&rt, rt.alloc(), t, 8)?;
-        grows(&rt, rt.alloc(), t, 2)?;
-    }
-    Ok(())
-}
-
-// Tops that come together, and apart again.
-fn parts<R: Abort>(rt: &R, alloc: Global, t: u32) -> Result<(), NoMemory> {
-    let costs = costs_of(alloc, t)?;
-    let mut near = Near::open(alloc, costs)?;
-    let mut totals = [0; 8];
-    let mut marks = [Mark::Free; 8];
-    for leaf in 0..7u32 {
-        lengthen(&mut near, leaf);
-    }
-    let apart = [0, 1, 2, 3, 4, 5, 6, 7];
-    let together = [8, 8, 8, 3, 4, 5, 5, 7];
-    agrees(rt, &mut near, 7, &mut totals, &apart, &mut marks);
-    agrees(rt, &mut near, 7, &mut totals, &together, &mut marks);
-    agrees(rt, &mut near, 7, &mut totals, &apart, &mut marks);
-    Ok(())
-}
-
-#[test]
-fn tops_that_come_apart_are_scanned_anew(rt: HostRuntime) -> Result<(), Fail> {
-    for t in 0..40 {
-        parts(&rt, rt.alloc(), t)?;
+        grows(&rt, rt.alloc(), t)?;
     }
     Ok(())
 }

@@ -3,8 +3,8 @@
 use Rattle.std.proofs.Common.{inl, inr, ◌≡◌, ◌⊎◌, ℕ, ◌+◌, ◌-◌, ◌*◌, ◌<◌, ◌≤◌, suc, min, fold, true, eqb, List, [], ◌∷◌, length, refl, ap, ap₂, arith}
 use Rattle.std.proofs.lemmas.Bool.{cases_lt, eqb-true, false≢true, or_cases, or_right}
 use Rattle.sg_arena.specs.Family.{Family, Holds, dual_of, has_leaf, leaves_of}
-use Rattle.sg_moat.specs.Sets.{inner_of}
-use Rattle.sg_moat.proofs.SetDuals.{has_head}
+use Rattle.sg_arena.specs.Sets.{inner_of}
+use Rattle.sg_arena.proofs.InnerDuals.{has_head}
 use Rattle.sg_moat.proofs.UnitSteps.{Apart, Inner, Near, Stands}
 use Rattle.sg_moat.proofs.UnitSteps.Stands.{disjoint, outer, inner}
 
@@ -32,7 +32,8 @@ least_reached g [] h = absurd (omega arith)
 least_reached g (x ∷ []) h = (x, has_head x [], refl)
 least_reached g (x ∷ y ∷ ys) h = pick (cases_lt (g x) (least_by g (y ∷ ys))) (least_reached g (y ∷ ys) (omega arith))
   where
-    pick : (g x < least_by g (y ∷ ys)) ⊎ (least_by g (y ∷ ys) ≤ g x) → ((z : ℕ) × (has_leaf (y ∷ ys) z ≡ true) × (g z ≡ least_by g (y ∷ ys))) →
+    pick : (g x < least_by g (y ∷ ys)) ⊎ (least_by g (y ∷ ys) ≤ g x) →
+        ((z : ℕ) × (has_leaf (y ∷ ys) z ≡ true) × (g z ≡ least_by g (y ∷ ys))) →
         (z : ℕ) × (has_leaf (x ∷ y ∷ ys) z ≡ true) × (g z ≡ min (g x) (least_by g (y ∷ ys)))
     pick (inl l) r = (x, has_head x (y ∷ ys), omega arith)
     pick (inr l) r = (r.0, or_right (eqb x r.0) (has_leaf (y ∷ ys) r.0) r.1, omega (arith, r.2))
@@ -41,7 +42,8 @@ least_reached g (x ∷ y ∷ ys) h = pick (cases_lt (g x) (least_by g (y ∷ ys)
 pub least_same : (g h : ℕ → ℕ) (xs : List ℕ) → ((x : ℕ) → has_leaf xs x ≡ true → g x ≡ h x) → least_by g xs ≡ least_by h xs
 least_same g h [] e = refl
 least_same g h (x ∷ []) e = e x (has_head x [])
-least_same g h (x ∷ y ∷ ys) e = ap₂ min (e x (has_head x (y ∷ ys))) (least_same g h (y ∷ ys) (λ z k. e z (or_right (eqb x z) (has_leaf (y ∷ ys) z) k)))
+least_same g h (x ∷ y ∷ ys) e =
+    ap₂ min (e x (has_head x (y ∷ ys))) (least_same g h (y ∷ ys) (λ z k. e z (or_right (eqb x z) (has_leaf (y ∷ ys) z) k)))
 
 -- the least of a value and of a list, one after another
 pub fold_least : (g : ℕ → ℕ) (xs : List ℕ) (y : ℕ) → 0 < length xs → fold (λ d x. min d (g x)) y xs ≡ min y (least_by g xs)
@@ -96,7 +98,8 @@ module _ (dist far : ℕ → ℕ → ℕ) (a b w : ℕ) where
     )
 
     -- a set s' within s
-    inside : (s s' : ℕ) → 0 < length (leaves_of f s') → ((t : ℕ) → Holds f s' t → Holds f s t × (inner_of f s' t + dual_of f s' ≤ inner_of f s t)) →
+    inside : (s s' : ℕ) → 0 < length (leaves_of f s') →
+        ((t : ℕ) → Holds f s' t → Holds f s t × (inner_of f s' t + dual_of f s' ≤ inner_of f s t)) →
         (k : ℕ) → Inner (dual_of f s') (reach s' k) (reach s k)
     inside s s' some h k full =
         let at = least_reached (λ t. twice_to t k - inner_of f s' t) (leaves_of f s') some in
@@ -119,21 +122,25 @@ module _ (dist far : ℕ → ℕ → ℕ) (a b w : ℕ) where
         apart_from (reach s k) (reach s' k) (twice_to t k) (twice_to u k) (inner_of f s t) (inner_of f s' u) (dual_of f s) (dual_of f s') (far t u) at.2 at'.2
         (twice_apart t u k (spans t u at.1 at'.1) l) (h t u at.1 at'.1)
       where
-        apart_from : (g g' d d' r r' y y' far : ℕ) → d - r ≡ g → d' - r' ≡ g' → 2 * far ≤ d + d' → (r + y) + (r' + y') ≤ 2 * far → y + y' ≤ g + g'
+        apart_from : (g g' d d' r r' y y' far : ℕ) → d - r ≡ g → d' - r' ≡ g' → 2 * far ≤ d + d' → (r + y) + (r' + y') ≤ 2 * far →
+            y + y' ≤ g + g'
         apart_from g g' d d' r r' y y' far e e' l h = omega arith
 
     -- sets far enough apart reach no common point
-    pub stands_apart : (s s' : ℕ) → 0 < length (leaves_of f s) → 0 < length (leaves_of f s') → ((t u : ℕ) → Holds f s t → Holds f s' u → Spans t u) →
+    pub stands_apart : (s s' : ℕ) → 0 < length (leaves_of f s) → 0 < length (leaves_of f s') →
+        ((t u : ℕ) → Holds f s t → Holds f s' u → Spans t u) →
         ((t u : ℕ) → Holds f s t → Holds f s' u → (inner_of f s t + dual_of f s) + (inner_of f s' u + dual_of f s') ≤ 2 * far t u) →
         Stands (dual_of f) reach (2 * w) s s'
     stands_apart s s' some some' spans h = disjoint (beside s s' some some' spans h)
 
     -- a set that holds the other reaches no point that the other's moat is at
-    pub stands_outer : (s s' : ℕ) → 0 < length (leaves_of f s') → ((t : ℕ) → Holds f s' t → Holds f s t × (inner_of f s' t + dual_of f s' ≤ inner_of f s t)) →
+    pub stands_outer : (s s' : ℕ) → 0 < length (leaves_of f s') →
+        ((t : ℕ) → Holds f s' t → Holds f s t × (inner_of f s' t + dual_of f s' ≤ inner_of f s t)) →
         Stands (dual_of f) reach (2 * w) s s'
     stands_outer s s' some h = outer (λ k l. inside s s' some h k)
 
     -- the same, where the other set holds it
-    pub stands_inner : (s s' : ℕ) → 0 < length (leaves_of f s) → ((t : ℕ) → Holds f s t → Holds f s' t × (inner_of f s t + dual_of f s ≤ inner_of f s' t)) →
+    pub stands_inner : (s s' : ℕ) → 0 < length (leaves_of f s) →
+        ((t : ℕ) → Holds f s t → Holds f s' t × (inner_of f s t + dual_of f s ≤ inner_of f s' t)) →
         Stands (dual_of f) reach (2 * w) s s'
     stands_inner s s' some h = inner (λ k l. inside s' s some h k)

@@ -1,4 +1,3 @@
-pub mod SetCount
 pub mod UnitSteps
 pub mod SetDuals
 pub mod EdgeReach

@@ -22,11 +22,11 @@ use Rattle.sg_sums.proofs.ListLaws.{place_of_any}
 use Rattle.sg_arena.proofs.FamilyLemmas.{leaf_bound, size-is, size-positive}
 use Rattle.sg_moat.specs.Input.{AreTerminalTables, distance_from, table_at, terminal_cost}
 use Rattle.sg_pairing.specs.Matching.{NoSlackIsNegative, dual_in, sum_of_duals}
-use Rattle.sg_moat.specs.Sets.{alive_at, inner_of}
+use Rattle.sg_arena.specs.Sets.{alive_at, inner_of}
 use Rattle.sg_moat.specs.Slices.{change_over, inside_count, is_below_level, is_inside}
 use Rattle.sg_sums.specs.Naturals.{gap}
 use Rattle.sg_moat.specs.Gathers.{Gathers, IsMoatCut, reach_from, set_depth}
-use Rattle.sg_moat.proofs.SetCount.{sets_few}
+use Rattle.sg_arena.proofs.SetCount.{sets_few}
 use Rattle.sg_moat.proofs.SetDuals.{apart_duals, nested_duals, outside_duals}
 use Rattle.sg_moat.proofs.UnitSteps.{Apart, Inner, Stands, depth, depths_change}
 use Rattle.sg_moat.proofs.UnitSteps.Stands.{disjoint, outer, inner}
@@ -124,14 +124,12 @@ module _ (f : Family) (fam : IsFamily f) (g : Graph) (terminals : List ℕ) (tab
           (λ t u ht hu. omega (
             arith,
             apart_duals f s s' t u ht hu (not_both u hu none) (out t ht none),
-            input.slack t u (leaf_low s t ht)
-                (leaf_low s' u hu),
+            input.slack t u (leaf_low s t ht) (leaf_low s' u hu),
           ))
     ]
       where
         out : (t : ℕ) → Holds f s t → list_any (holds f s') (leaves_of f s) ≡ false → holds f s' t ≡ false
-        out t h none = false_from_ne_true (holds f s' t) (λ (k : holds f s' t ≡ true).
-            (let at = place_of_any (λ x. x == t) (leaves_of f s) 0 h in
+        out t h none = false_from_ne_true (holds f s' t) (λ (k : holds f s' t ≡ true). (let at = place_of_any (λ x. x == t) (leaves_of f s) 0 h in
             let e : get_or (leaves_of f s) at.0 0 ≡ t = eqb-true (get_or (leaves_of f s) at.0 0) t at.2 in
             true≢false (sym (list_any_at (holds f s') (leaves_of f s) at.0 0 at.1 (subst (λ z. holds f s' z ≡ true) (sym e) k)) ∙ none)))
 
@@ -140,15 +138,13 @@ module _ (f : Family) (fam : IsFamily f) (g : Graph) (terminals : List ℕ) (tab
 
     depth_first : (s : ℕ) → 0 < dual_of f s → set_depth f tables s a ≡ depth (dual_of f) (reach dist far a b w f) (2 * w) s 0
     depth_first s some =
-        fold_least (reach_from f tables s a) (leaves_of f s) (dual_of f s) (some_leaves s some)
-        ∙ ap (min (dual_of f s))
+        fold_least (reach_from f tables s a) (leaves_of f s) (dual_of f s) (some_leaves s some) ∙ ap (min (dual_of f s))
         (least_same (reach_from f tables s a) (λ t. twice_to dist far a b w t 0 - inner_of f s t) (leaves_of f s)
         (λ t h. ap (λ v. v - inner_of f s t) (sym (twice_at_a dist far a b w t (near_a t (leaf_low s t h))))))
 
     depth_last : (s : ℕ) → 0 < dual_of f s → set_depth f tables s b ≡ depth (dual_of f) (reach dist far a b w f) (2 * w) s (2 * w)
     depth_last s some =
-        fold_least (reach_from f tables s b) (leaves_of f s) (dual_of f s) (some_leaves s some)
-        ∙ ap (min (dual_of f s))
+        fold_least (reach_from f tables s b) (leaves_of f s) (dual_of f s) (some_leaves s some) ∙ ap (min (dual_of f s))
         (least_same (reach_from f tables s b) (λ t. twice_to dist far a b w t (2 * w) - inner_of f s t) (leaves_of f s)
         (λ t h. ap (λ v. v - inner_of f s t) (sym (twice_at_b dist far a b w t (near_b t (leaf_low s t h))))))
 
@@ -177,7 +173,8 @@ module _ (f : Family) (fam : IsFamily f) (g : Graph) (terminals : List ℕ) (tab
   end_low : (e : ℕ) → e < edge_count g → (a_end e < g.nodes) × (b_end e < g.nodes)
   end_low e l = let edge = input.joined e (record { a = 0; b = 0; w = pos 0 }) l in (edge.first_end, edge.second_end)
 
-  spans_of : (e : ℕ) → e < edge_count g → (t u : ℕ) → t < leaf_count f → u < leaf_count f → Spans dist far (a_end e) (b_end e) (edge_weight g e) t u
+  spans_of : (e : ℕ) → e < edge_count g → (t u : ℕ) → t < leaf_count f → u < leaf_count f →
+      Spans dist far (a_end e) (b_end e) (edge_weight g e) t u
   spans_of e l t u lt lu =
       let a : ℕ = a_end e in
       let b : ℕ = b_end e in
@@ -236,7 +233,8 @@ module _ (f : Family) (fam : IsFamily f) (g : Graph) (terminals : List ℕ) (tab
       by_stand s s' (outer h) = inr (inl (h 0 (omega arith)))
       by_stand s s' (inner h) = inr (inr (h 0 (omega arith)))
 
-      refuted : (y y' p p' : ℕ) → Apart y y' p p' ⊎ (Inner y' p' p ⊎ Inner y p p') → (d d' : ℕ) → d ≡ min y p → d' ≡ min y' p' → (0 < d) × (d < y) →
+      refuted : (y y' p p' : ℕ) → Apart y y' p p' ⊎ (Inner y' p' p ⊎ Inner y p p') → (d d' : ℕ) → d ≡ min y p → d' ≡ min y' p' →
+          (0 < d) × (d < y) →
           (0 < d') × (d' < y') → ⊥
       refuted y y' p p' (inl h) d d' e e' k k' = omega (arith, k.0, k.1, k'.0, k'.1)
       refuted y y' p p' (inr (inl h)) d d' e e' k k' = let z : p ≡ 0 = h (omega (arith, k'.1)) in omega (arith, k.0)
@@ -266,7 +264,8 @@ module _ (f : Family) (fam : IsFamily f) (g : Graph) (terminals : List ℕ) (tab
       ]
 
   -- a cut at a level holds exactly the terminals of its set
-  inside_is : (s level i : ℕ) → 0 < level → level ≤ dual_of f s → i < leaf_count f → is_below_level (set_depth f tables s) level (term i) ≡ holds f s i
+  inside_is : (s level i : ℕ) → 0 < level → level ≤ dual_of f s → i < leaf_count f →
+      is_below_level (set_depth f tables s) level (term i) ≡ holds f s i
   inside_is s level i some top l = by_side (holds f s i) refl
     where
       some_dual : 0 < dual_of f s
@@ -298,8 +297,7 @@ module _ (f : Family) (fam : IsFamily f) (g : Graph) (terminals : List ℕ) (tab
           ∙ ap (sum_below (λ i. cond (is_below_level (set_depth f tables h.name) h.slice.level (term i)) 1 0)) (sym input.leaves)
           ∙ sum_below-same (λ i. cond (is_below_level (set_depth f tables h.name) h.slice.level (term i)) 1 0) (λ i. cond (holds f h.name i) 1 0) (leaf_count f)
           (λ i l. ap (λ b. cond b 1 0) (inside_is h.name h.slice.level i h.slice.above h.slice.up_to l))
-          ∙ sym (sum_by-range (λ i. cond (holds f h.name i) 1 0) (leaf_count f))
-          ∙ sym (size-is f fam h.name)
+          ∙ sym (sum_by-range (λ i. cond (holds f h.name i) 1 0) (leaf_count f)) ∙ sym (size-is f fam h.name)
 
   -- the cuts of all sets weigh as much as all duals
   pub duals_total : (cuts : List Cut) → Gathers f g tables (length f.nodes) cuts → sum_by odd_cut_weight cuts ≡ sum_of_duals f

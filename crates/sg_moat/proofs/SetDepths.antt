@@ -22,10 +22,10 @@ use Rattle.sg_arena.proofs.FamilyLemmas.{leaf_bound, share-total, some_leaf}
 use Rattle.sg_moat.specs.Depths.{AreDepths, Lowers, ReachesAll, depth_at}
 use Rattle.sg_moat.specs.Gathers.{Adds, IsMoatCut, reach_from, set_depth}
 use Rattle.sg_moat.specs.Input.{AreTerminalTables, blank_table, table_at}
-use Rattle.sg_moat.specs.Sets.{inner_of}
+use Rattle.sg_arena.specs.Sets.{inner_of}
 use Rattle.sg_moat.specs.Slices.{IsSlice, Sliced, Slices, inside_count, is_below_level, is_inside}
 use Rattle.sg_moat.proofs.Packing.{depth_full, dual_alive}
-use Rattle.sg_moat.proofs.SetCount.{alive_one}
+use Rattle.sg_arena.proofs.SetCount.{alive_one}
 
 -- in a connected graph the tables of terminals have a distance for every node
 pub tables_full : (g : Graph) (terminals : List ℕ) (tables : List Routes) → IsConnectedWeb g → AreTerminals g terminals →
@@ -38,7 +38,8 @@ tables_full g terminals tables connected chosen are = All-from_get_or (ReachesAl
         let t : Routes = table_at tables i in
         let is : IsTableOf g t = are.each i blank_table l in
         let source : t.source < g.nodes = subst (λ z. z < g.nodes) (sym (are.sources i low)) (chosen.below i 0 low) in
-        let reached : (x : ℕ) → x < g.nodes → is_reached t x ≡ true = λ x m. reached_if g t is x m (connected_reached g connected t.source x source m) in
+        let reached : (x : ℕ) → x < g.nodes → is_reached t x ≡ true =
+        λ x m. reached_if g t is x m (connected_reached g connected t.source x source m) in
         record { count = is.nodes; reached = reached; whole = λ x m. distance_signed g t is x m (reached x m) }
 
 module _ (f : Family) (tables : List Routes) (s n : ℕ) where
@@ -51,9 +52,7 @@ module _ (f : Family) (tables : List Routes) (s n : ℕ) where
       AreDepths n (depth_by k) old → AreDepths n (depth_by (k + 1)) new
   depths-lower k inner old new held is low h = record {
     count = low.count ∙ h.count;
-    each = λ x l.
-        low.lowered x l
-        ∙ ap₂ (λ d r. min d (2 * length_to (table_at tables k) x - r)) (h.each x l) is
+    each = λ x l. low.lowered x l ∙ ap₂ (λ d r. min d (2 * length_to (table_at tables k) x - r)) (h.each x l) is
         ∙ sym (ap (fold (λ d leaf. min d (reach_from f tables s x leaf)) (dual_of f s)) (chosen_below_yes (holds f s) k held)
         ∙ fold-append (λ d leaf. min d (reach_from f tables s x leaf)) (dual_of f s) (chosen_below (holds f s) k) (k ∷ []));
   }
@@ -134,7 +133,8 @@ module _ (f : Family) (g : Graph) (tables : List Routes) (name : ℕ) where
   }
 
   -- a set with a dual above 0 adds the cuts of its levels
-  pub Adds-slices : IsFamily f → IsWeb g → (depths : List ℕ) → AreDepths g.nodes (set_depth f tables name) depths → (y : ℕ) → y ≡ dual_of f name →
+  pub Adds-slices : IsFamily f → IsWeb g → (depths : List ℕ) → AreDepths g.nodes (set_depth f tables name) depths → (y : ℕ) →
+      y ≡ dual_of f name →
       0 < y → (old new : List Cut) → Sliced g (depth_at depths) y old new → Adds f g tables name old new
   Adds-slices fam web depths are y is some old new sliced =
       let s : Sliced g (depth_at depths) (dual_of f name) old new = subst (λ d. Sliced g (depth_at depths) d old new) is sliced in
@@ -142,9 +142,7 @@ module _ (f : Family) (g : Graph) (tables : List Routes) (name : ℕ) where
       Slices-same g web.joined (depth_at depths) (set_depth f tables name) are.each (dual_of f name) s.more s.slices in
       let positive : 0 < dual_of f name = omega arith in
       subst (λ xs. Adds f g tables name old xs) (sym s.is) (record {
-        are = λ h.
-            All-append (IsMoatCut f g tables) old s.more h
-            (All-weaker (IsSlice g (set_depth f tables name) (dual_of f name)) (IsMoatCut f g tables)
+        are = λ h. All-append (IsMoatCut f g tables) old s.more h (All-weaker (IsSlice g (set_depth f tables name) (dual_of f name)) (IsMoatCut f g tables)
             (λ c i. record { name = name; positive = positive; slice = i }) s.more cuts.are);
         total = omega (arith, sum_by-append odd_cut_weight old s.more, cuts.total);
         loads = λ e l. omega (arith, sum_by-append (λ c. cond (has_edge c.edges e) (odd_cut_weight c) 0) old s.more, cuts.loads e l);

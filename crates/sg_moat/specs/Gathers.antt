@@ -7,7 +7,7 @@ use Rattle.sg_graph.specs.Web.{Graph, edge_count}
 use Rattle.sg_graph.specs.OddCut.{cut_load, odd_cut_weight}
 use Rattle.sg_graph.specs.Table.{Routes}
 use Rattle.sg_moat.specs.Input.{distance_from}
-use Rattle.sg_moat.specs.Sets.{alive_at, inner_of}
+use Rattle.sg_arena.specs.Sets.{alive_at, inner_of}
 use Rattle.sg_moat.specs.Slices.{IsSlice, change_over, inside_count}
 
 -- twice the distance to a terminal of the set, less what the duals of the smaller sets reach
@@ -28,7 +28,8 @@ pub record IsMoatCut (f : Family) (g : Graph) (tables : List Routes) (c : Cut) :
 pub record Adds (f : Family) (g : Graph) (tables : List Routes) (name : ℕ) (old new : List Cut) : Type 0 where
   pub are : All (IsMoatCut f g tables) old → All (IsMoatCut f g tables) new
   pub total : sum_by odd_cut_weight new ≡ sum_by odd_cut_weight old + dual_of f name
-  pub loads : (e : ℕ) → e < edge_count g → cut_load new e ≡ cut_load old e + change_over g (set_depth f tables name) e
+  pub loads : (e : ℕ) → e < edge_count g →
+      cut_load new e ≡ cut_load old e + change_over g (set_depth f tables name) e
   pub few : length new ≤ length old + (alive_at f name + inside_count g (set_depth f tables name) (dual_of f name))
 
 -- the cuts of the sets with names below a number

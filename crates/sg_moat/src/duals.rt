@@ -1,6 +1,6 @@
 ghost use Rattle.std.specs.Prelude.{◌≡◌, ◌<◌, false, MatchOption};
 ghost use Rattle.sg_arena.specs.Family.{Holds, IsAlive, dual_of, holds, leaf_count};
-ghost use Rattle.sg_moat.specs.Sets.{inner_of};
+ghost use Rattle.sg_arena.specs.Sets.{inner_of};
 
 use sg_arena::Arena;
 

@@ -13,8 +13,8 @@
 //! makes its cuts, level by level. `specs/` has the premises (`Input`), the duals inside a set (`Sets`),
 //! the depths and the cuts of all sets (`Gathers`), and those of one set (`Slices`); `Depths` is private.
 //! `proofs/Packing` has the theorem, over `UnitSteps` (at most one depth changes over one unit step) and
-//! `EdgeReach` (what sets reach along an edge); `SetCount` bounds the number of sets, `Climb` has the way
-//! up from a leaf, and `Cutting` the cuts of one set.
+//! `EdgeReach` (what sets reach along an edge); `Climb` has the way up from a leaf, and `Cutting` the cuts
+//! of one set.
 #![tactic(auto)]
 
 mod depths;

@@ -17,7 +17,7 @@ inner_zero g c =
 
 pub returns-in-Some-clause-matched : goal.returns-in-Some-clause-matched
 returns-in-Some-clause-matched g c =
-    matched c.args.self.now (InnerZero c.in-Some.node) (subst (λ s. IsEngine s) c.self.view_is c.self.invariant.0) (inner_zero g c)
+    matched c.args.self.now (InnerZero c.in-Some.node) (subst (λ s. IsEngine s) c.self.view_is c.self.invariant.engine) (inner_zero g c)
 
 pub returns-in-Some-clause-already : goal.returns-in-Some-clause-already
 returns-in-Some-clause-already g c node least =
@@ -34,8 +34,8 @@ returns-in-None-clause-already g c node least =
 
 pub returns-in-Some-clause-bound : goal.returns-in-Some-clause-bound
 returns-in-Some-clause-bound g c =
-    subst (λ (s : State). steps_left s ≤ 2 * s.table.size * s.table.size) c.self.view_is (omega (arith, c.self.invariant.0.left))
+    subst (λ (s : State). steps_left s ≤ 2 * s.table.size * s.table.size) c.self.view_is (omega (arith, c.self.invariant.engine.left))
 
 pub returns-in-None-clause-bound : goal.returns-in-None-clause-bound
 returns-in-None-clause-bound g c =
-    subst (λ (s : State). steps_left s ≤ 2 * s.table.size * s.table.size) c.self.view_is (omega (arith, c.self.invariant.0.left))
+    subst (λ (s : State). steps_left s ≤ 2 * s.table.size * s.table.size) c.self.view_is (omega (arith, c.self.invariant.engine.left))

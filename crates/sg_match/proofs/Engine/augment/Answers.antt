@@ -1,7 +1,6 @@
 -- `augment`: the pairs are flipped, and no tree stands.
-use Rattle.std.proofs.Common.{refl, rules, ◌<◌, List, None, length, sym, subst, ℕ, ◌∙◌}
+use Rattle.std.proofs.Common.{rules, ◌<◌, List, None, length, sym, subst, ℕ, ◌∙◌}
 use Rattle.std.proofs.lemmas.List.{with_items_is}
-use Rattle.std.proofs.lemmas.Option.{none-some}
 use Rattle.std.specs.Vec.{with_items}
 use Rattle.sg_match.proofs.Engine.augment.Goals as goal
 use Rattle.sg_match.proofs.GrowOrAugmentStep.{IsAfter, IsEngine-augmented, edge_tops, root_top, with_tree}
@@ -10,18 +9,18 @@ use Rattle.sg_match.specs.Tree.{tree_edge_at}
 use Rattle.sg_match.specs.declared.TreeEdge.{TreeEdge}
 
 pub augment_path-requires-clause-root : goal.augment_path-requires-clause-root
-augment_path-requires-clause-root c = root_top _ _ _ _ _ _ c.self.invariant.0 _ c.self.view_is _ _ _ _ c.requires.tight_edge
+augment_path-requires-clause-root c = root_top _ _ _ _ _ _ c.self.invariant.engine _ c.self.view_is _ _ _ _ c.requires.tight_edge
 
 pub augment_path-requires-clause-edges : goal.augment_path-requires-clause-edges
 augment_path-requires-clause-edges c =
     subst (λ (ls : List TreeEdge). (i : ℕ) → i < length ls → HasTwoTops c.self.inside.arena (tree_edge_at ls i)) (sym c.deref.ensures.value)
-    (edge_tops _ _ _ _ _ _ c.self.invariant.0 _ c.self.view_is _ _ _ _ c.requires.tight_edge)
+    (edge_tops _ _ _ _ _ _ c.self.invariant.engine _ c.self.view_is _ _ _ _ c.requires.tight_edge)
 
 after : (c : goal.After-clear) →
     IsAfter (with_tree c.self.inside.arena c.self.inside.near.table (with_items c.self.inside.pairs c.augment_path.new.pairs).items c.take_name.new.names.items
     None c.clear.new.self.items) c.args.self.now
 after c =
-    IsEngine-augmented _ _ _ _ _ _ c.self.invariant.0 _ c.self.view_is _ _ _ _ c.requires.tight_edge c.requires.unpaired _ _ _ _ _ _
+    IsEngine-augmented _ _ _ _ _ _ c.self.invariant.engine _ c.self.view_is _ _ _ _ c.requires.tight_edge c.requires.unpaired _ _ _ _ _ _
     c.deref_mut.ensures.value
     c.deref.ensures.value
     (with_items_is c.self.inside.pairs c.augment_path.new.pairs (c.augment_path.auto.pairs ∙ c.deref_mut.ensures.len))
@@ -30,25 +29,7 @@ after c =
     c.take_name.ensures.taken
 
 pub invariant_of-self : goal.invariant_of-self
-invariant_of-self c = (
-  (after c).0,
-  record {
-    room = record {
-      edges = search rules;
-      exposed = search rules;
-      outer = search rules;
-      inner = search rules;
-      cycle = search rules;
-      ring = search rules;
-    };
-    named = search rules;
-    marks = search rules;
-    mates = search rules;
-    listed = c.self.invariant.1.listed;
-    fresh = λ is. (refl, (c.self.invariant.1.fresh is).1);
-    known = λ r some. absurd (none-some r some);
-  },
-)
+invariant_of-self c = let engine = (after c).0 in search rules
 
 pub returns-clause-engine : goal.returns-clause-engine
 returns-clause-engine c = (after c).0

@@ -1,21 +1,18 @@
 -- `expand`: a ring is listed, expanded, paired and grown into the tree.
-use Rattle.std.proofs.Common.{None, Some, List, ℕ, ◌≡◌, ◌+◌, ◌*◌, ◌≤◌, length, Contains, sym, ap, ◌∙◌, subst, arith}
+use Rattle.std.proofs.Common.{None, ◌≡◌, ◌+◌, ◌*◌, ◌≤◌, length, Contains, sym, ap, ◌∙◌, subst, arith, rules}
 use Rattle.std.proofs.lemmas.List.{with_items_is}
 use Rattle.std.specs.Vec.{with_items}
-use Rattle.sg_arena.proofs.FamilyLemmas.{length-with_slot, name_bound}
+use Rattle.sg_arena.proofs.FamilyLemmas.{length-with_slot}
 use Rattle.sg_arena.specs.Family.{Family}
 use Rattle.sg_match.proofs.Engine.expand.Given.{Over}
 use Rattle.sg_match.proofs.Engine.expand.Goals as goal
-use Rattle.sg_match.proofs.Engine.expand.Goals.{After-expand, After-turn_to_odd-entry, After-index-tree_edge, After-list_ring, After-expand_edge}
-use Rattle.sg_match.proofs.EngineLemmas.{no_edges, state_of}
-use Rattle.sg_match.proofs.TableStep.{IsParting, parting-listed, parting-others}
+use Rattle.sg_match.proofs.Engine.expand.Goals.{After-turn_to_odd-entry, After-index-tree_edge, After-list_ring, After-expand_edge}
+use Rattle.sg_match.proofs.EngineLemmas.{state_of}
 use Rattle.sg_match.proofs.RingLemmas.{IsRing}
 use Rattle.sg_match.proofs.ExpandLemmas.{IsCut, IsEngine-after, IsFound, blossom_top, pair_held, cut, edge_held, found, is_inner, edges_fit, ring_differs}
 use Rattle.sg_match.proofs.ExpandLemmas.{ring_fits, ring_has, ring_is, ring_named}
 use Rattle.sg_match.specs.InnerZeros.{IsInnerZero}
 use Rattle.sg_match.specs.Engine.{IsEngine}
-use Rattle.sg_match.specs.Members.{AreOuter}
-use Rattle.sg_slack.specs.Members.{Member}
 use Rattle.sg_pairing.specs.Metric.{cost}
 use Rattle.sg_match.specs.Path.{nodes_of}
 use Rattle.sg_match.specs.State.{State}
@@ -25,7 +22,7 @@ use Rattle.sg_match.specs.Tree.{inners}
 -- the tree edge of the blossom
 edge_found : (g : Over) (c : After-index-tree_edge g) → IsFound (state_of c.self.inside) c.args.node c.place_of_inner-at.result c.index-tree_edge.result.now
 edge_found g c = found (state_of c.self.inside) c.args.self.now c.args.node c.place_of_inner-at.result c.deref.result.now c.index-tree_edge.result.now
-    c.self.view_is c.self.invariant.0 c.requires.inner_zero c.deref.ensures.value c.place_of_inner-at.ensures.within c.place_of_inner-at.ensures.here
+    c.self.view_is c.self.invariant.engine c.requires.inner_zero c.deref.ensures.value c.place_of_inner-at.ensures.within c.place_of_inner-at.ensures.here
     c.index-tree_edge.ensures
 
 -- the blossom's ring, with its entry
@@ -52,21 +49,19 @@ last g c = record {
 
 expanding : (g : Over) (c : After-expand_edge g) →
     IsCut (state_of c.self.inside) c.args.node c.place_of_inner-at.result c.index-tree_edge.result.now c.turn_to_odd-entry.new.ring.items
-    c.turn_to_odd-entry.result → IsEngine (last g c) × (steps_left (last g c) + 2 ≤ steps_left (state_of c.self.inside)) ×
-    ((members : List Member) (r : ℕ) → c.self.inside.root ≡ Some r → AreOuter c.self.inside.arena r c.self.inside.edges.items members →
-    AreOuter c.expand.new.self r c.expand_edge.new.edges.items members)
+    c.turn_to_odd-entry.result → IsEngine (last g c) × (steps_left (last g c) + 2 ≤ steps_left (state_of c.self.inside))
 expanding g c expand =
-    let stored = with_items_is c.self.inside.pairs c.pair_ring.new.pairs (c.pair_ring.ensures.length ∙ c.deref_mut-2.ensures.len) in
-    IsEngine-after expand c.deref-3.result.now c.deref-4.result.now c.deref_mut-2.result.now c.pair_ring.new.pairs
+    let stored = with_items_is c.self.inside.pairs c.pair_ring.new.pairs (c.pair_ring.ensures.length ∙ c.deref_mut.ensures.len) in
+    IsEngine-after expand c.deref-3.result.now c.deref-4.result.now c.deref_mut.result.now c.pair_ring.new.pairs
     (with_items c.self.inside.pairs c.pair_ring.new.pairs).items c.expand_edge.new.edges.items c.expand.new.self c.deref-3.ensures.value
-    c.deref-4.ensures.value c.deref_mut-2.ensures.value stored c.expand.ensures.gone c.pair_ring.ensures.ring_pairs c.pair_ring.ensures.length
-    c.expand_edge.ensures.tree c.expand_edge.ensures.outer
+    c.deref-4.ensures.value c.deref_mut.ensures.value stored c.expand.ensures.gone c.pair_ring.ensures.ring_pairs c.pair_ring.ensures.length
+    c.expand_edge.ensures.edges
 
 pub place_of_inner-at-requires : goal.place_of_inner-at-requires
 place_of_inner-at-requires g c =
     let s = state_of c.self.inside in
     let inner_zero = subst (λ (t : State). IsInnerZero t.family t.edges c.args.node) (sym c.self.view_is) c.requires.inner_zero in
-    subst (λ xs. Contains (inners xs) c.args.node) (sym c.deref.ensures.value) (is_inner s c.args.node c.self.invariant.0 inner_zero)
+    subst (λ xs. Contains (inners xs) c.args.node) (sym c.deref.ensures.value) (is_inner s c.args.node c.self.invariant.engine inner_zero)
 
 pub child-base-requires-clause-holds : goal.child-base-requires-clause-holds
 child-base-requires-clause-holds g c = pair_held (edge_found g (goal.at.child-base-requires-clause-holds g c).After-index-tree_edge)
@@ -98,7 +93,7 @@ turn_to_odd-entry-requires-clause-room g c =
     omega (
       arith,
       edges_fit (state_of c.self.inside) c.args.node is.engine is.inner_zero c.list_ring.new.ring.items (listed g here.After-list_ring is),
-      c.self.invariant.1.room.ring,
+      c.self.invariant.ring,
     )
 
 pub expand-requires-clause-top : goal.expand-requires-clause-top
@@ -109,8 +104,8 @@ expand-requires-clause-top g c =
 pub pair_ring-requires-clause-names : goal.pair_ring-requires-clause-names
 pair_ring-requires-clause-names g c =
     let here = goal.at.pair_ring-requires-clause-names g c in
-    ring_named (ring_cut g here.After-turn_to_odd-entry (edge_found g here.After-index-tree_edge)) c.deref-3.result.now c.deref_mut-2.result.now
-    c.deref-3.ensures.value c.deref_mut-2.ensures.value
+    ring_named (ring_cut g here.After-turn_to_odd-entry (edge_found g here.After-index-tree_edge)) c.deref-3.result.now c.deref_mut.result.now
+    c.deref-3.ensures.value c.deref_mut.ensures.value
 
 pub pair_ring-requires-clause-differ : goal.pair_ring-requires-clause-differ
 pair_ring-requires-clause-differ g c =
@@ -124,62 +119,21 @@ expand_edge-requires-clause-room g c =
       arith,
       ring_fits (ring_cut g here.After-turn_to_odd-entry (edge_found g here.After-index-tree_edge)),
       ap (λ xs. length xs) c.deref-4.ensures.value,
-      c.self.invariant.1.room.edges,
+      c.self.invariant.edges,
     )
-
--- the tables where the blossom's leaves are listed anew
-parting : (g : Over) (c : After-expand g) → IsFound (state_of c.self.inside) c.args.node c.place_of_inner-at.result c.index-tree_edge.result.now →
-    IsParting c.self.inside.arena c.args.node c.expand.new.self c.self.inside.tops.items c.self.inside.totals.items
-parting g c is =
-    let top = blossom_top (state_of c.self.inside) c.args.node is.engine is.inner_zero in
-    record {
-      fam = is.engine.feasible.family;
-      top = top;
-      blossom = is.inner_zero.blossom;
-      flat = is.inner_zero.inner_zero;
-      room = name_bound c.self.inside.arena c.args.node top.alive;
-      made = c.expand.ensures.gone;
-      listed = c.self.invariant.1.listed;
-    }
-
-pub part_tops-requires-clause-others : goal.part_tops-requires-clause-others
-part_tops-requires-clause-others g c =
-    let here = goal.at.part_tops-requires-clause-others g c in
-    parting-others (parting g here.After-expand (edge_found g here.After-index-tree_edge)) c.deref_mut.result.now c.deref_mut.ensures.value
 
 pub invariant_of-self : goal.invariant_of-self
 invariant_of-self g c =
     let here = goal.at.invariant_of-self g c in
     let after = expanding g here.After-expand_edge (ring_cut g here.After-turn_to_odd-entry (edge_found g here.After-index-tree_edge)) in
     let e = c.self.inside in
-    let kept = c.self.invariant.1 in
+    let kept = c.self.invariant in
     let size : length c.expand.new.self.nodes ≡ length e.arena.nodes = ap (λ (f : Family). length f.nodes) c.expand.ensures.gone ∙
     length-with_slot e.arena c.args.node None in
-    let leaves : length e.arena.leaf_nodes ≡ length c.expand.new.self.leaf_nodes = ap (λ (f : Family). length f.leaf_nodes) (sym c.expand.ensures.gone) in
-    let rooms = c.turn_to_odd-entry.ensures.room (2 * length e.arena.nodes + 1)
-    (omega (arith, kept.room.cycle, c.list_ring.ensures.capacity)) kept.room.ring in (
-      after.0,
-      record {
-        room = record {
-          edges = omega (arith, size, kept.room.edges, c.expand_edge.ensures.capacity);
-          exposed = omega (arith, size, kept.room.exposed);
-          outer = omega (arith, size, kept.room.outer);
-          inner = omega (arith, size, kept.room.inner);
-          cycle = omega (arith, size, rooms.0);
-          ring = omega (arith, size, rooms.1);
-        };
-        named = kept.named ∙ sym size;
-        marks = kept.marks ∙ leaves;
-        mates = kept.mates ∙ leaves;
-        listed = parting-listed (parting g here.After-expand (edge_found g here.After-index-tree_edge)) c.deref_mut.result.now c.deref_mut.ensures.value
-            c.part_tops.new.tops (with_items e.tops c.part_tops.new.tops).items c.part_tops.ensures.count c.part_tops.ensures.listed
-            (with_items_is e.tops c.part_tops.new.tops (c.part_tops.auto.tops ∙ c.deref_mut.ensures.len));
-        fresh = λ is.
-            let at = edge_found g here.After-index-tree_edge in
-            absurd (omega (arith, at.inner_zero.within, ap (λ xs. length xs) (no_edges (state_of e) at.engine (kept.fresh is).0)));
-        known = λ r some. after.2 e.near.members r some (kept.known r some);
-      },
-    )
+    let leaves : length c.expand.new.self.leaf_nodes ≡ length e.arena.leaf_nodes = ap (λ (f : Family). length f.leaf_nodes) c.expand.ensures.gone in
+    let rooms = c.turn_to_odd-entry.ensures.room (2 * length e.arena.nodes + 1) (omega (arith, kept.cycle, c.list_ring.ensures.capacity)) kept.ring in
+    let engine = after.0 in
+    search rules
 
 pub returns-clause-engine : goal.returns-clause-engine
 returns-clause-engine g c =

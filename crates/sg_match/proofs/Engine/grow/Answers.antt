@@ -2,17 +2,15 @@
 use Rattle.std.proofs.Common.{rules, List, sym, subst}
 use Rattle.sg_match.proofs.Engine.grow.Goals as goal
 use Rattle.sg_match.proofs.GrowOrAugmentStep.{IsAfter, pair_leaf, grown, edge_fits, with_tree}
-use Rattle.sg_match.proofs.MembersStep.{AreOuter-grown}
-use Rattle.sg_match.specs.Members.{AreOuter}
 use Rattle.sg_match.specs.declared.TreeEdge.{TreeEdge}
 
 pub top-outer-requires : goal.top-outer-requires
-top-outer-requires c = pair_leaf _ _ _ _ _ _ c.self.invariant.0 _ c.self.view_is _ _ _ _ c.requires.tight_edge _ c.requires.pair
+top-outer-requires c = pair_leaf _ _ _ _ _ _ c.self.invariant.engine _ c.self.view_is _ _ _ _ c.requires.tight_edge _ c.requires.pair
 
 pub push_reserved-requires : goal.push_reserved-requires
 push_reserved-requires c =
-    let low = edge_fits _ _ _ _ _ _ c.self.invariant.0 _ c.self.view_is _ _ _ _ c.requires.tight_edge in
-    let room = c.self.invariant.1.room.edges in
+    let low = edge_fits _ _ _ _ _ _ c.self.invariant.engine _ c.self.view_is _ _ _ _ c.requires.tight_edge in
+    let room = c.self.invariant.edges in
     search rules
 
 after : (c : goal.After-push_reserved) →
@@ -22,33 +20,11 @@ after c =
     subst (λ (xs : List TreeEdge). IsAfter
     (with_tree c.self.inside.arena c.self.inside.near.table c.self.inside.pairs.items c.self.inside.exposed.items c.self.inside.root xs) c.args.self.now)
     (sym c.push_reserved.ensures.items)
-    (grown _ _ _ _ _ _ c.self.invariant.0 _ c.self.view_is _ _ _ _ c.requires.tight_edge _ c.requires.pair c.top-outer.result c.top-outer.ensures.top
+    (grown _ _ _ _ _ _ c.self.invariant.engine _ c.self.view_is _ _ _ _ c.requires.tight_edge _ c.requires.pair c.top-outer.result c.top-outer.ensures.top
     c.top-outer.ensures.holds)
 
 pub invariant_of-self : goal.invariant_of-self
-invariant_of-self c = (
-  (after c).0,
-  record {
-    room = record {
-      edges = search rules;
-      exposed = search rules;
-      outer = search rules;
-      inner = search rules;
-      cycle = search rules;
-      ring = search rules;
-    };
-    named = search rules;
-    marks = search rules;
-    mates = search rules;
-    listed = c.self.invariant.1.listed;
-    fresh = c.self.invariant.1.fresh;
-    known = λ r some.
-        subst (λ (xs : List TreeEdge). AreOuter c.self.inside.arena r xs c.self.inside.near.members) (sym c.push_reserved.ensures.items)
-        (AreOuter-grown c.self.inside.arena r c.self.inside.edges.items
-        (record { inner = c.args.top; outer = c.top-outer.result; up = record { from = c.args.v; to = c.args.u }; pair = c.args.pair })
-        c.self.inside.near.members (c.self.invariant.1.known r some));
-  },
-)
+invariant_of-self c = let engine = (after c).0 in search rules
 
 pub returns-clause-engine : goal.returns-clause-engine
 returns-clause-engine c = (after c).0

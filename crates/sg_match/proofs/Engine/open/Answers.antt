@@ -9,7 +9,6 @@ use Rattle.sg_match.specs.Pairs.{pair_of}
 use Rattle.sg_match.specs.Steps.{steps_left}
 use Rattle.sg_pairing.specs.Metric.{IsMetric}
 use Rattle.sg_slack.specs.Table.{Table}
-use Rattle.std.proofs.lemmas.Option.{none-some}
 
 always : (k n : ℕ) → get_or (replicate {A = Option Edge} k None) n None ≡ None
 always zero n = refl
@@ -31,30 +30,25 @@ metric_of c = subst (λ t. IsMetric t) (sym c.in_ok-near.ensures.table) c.requir
 pub invariant_of-result : goal.invariant_of-result
 invariant_of-result c =
     let here = (goal.at.invariant_of-result c).After-tables_of in
-    let arena = c.in_ok-arena.arena in (
-      IsEngine-opened arena c.in_ok-arena.ensures.alone c.in_ok-arena.ensures.fresh c.in_ok-near.near.table (metric_of here) (size_of here)
+    let arena = c.in_ok-arena.arena in
+    record {
+      engine = IsEngine-opened arena c.in_ok-arena.ensures.alone c.in_ok-arena.ensures.fresh c.in_ok-near.near.table (metric_of here) (size_of here)
           c.in_ok-pairs.pairs.items
-          (room_of here) (free_of here) c.in_ok-exposed.exposed.items c.in_ok-lists.lists.edges.items c.in_ok-exposed.ensures.items c.in_ok-lists.ensures.empty,
-      record {
-        room = record {
-          edges = omega (arith, c.in_ok-lists.ensures.edges, c.room-room.ensures.value);
-          exposed = omega (arith, c.in_ok-exposed.ensures.room, c.room-room.ensures.value);
-          outer = omega (arith, c.in_ok-lists.ensures.outer, c.room-room.ensures.value);
-          inner = omega (arith, c.in_ok-lists.ensures.inner, c.room-room.ensures.value);
-          cycle = omega (arith, c.in_ok-lists.ensures.cycle, c.room-room.ensures.value);
-          ring = omega (arith, c.in_ok-lists.ensures.ring, c.room-room.ensures.value);
-        };
-        named = omega (arith, c.in_ok-tables.ensures.named, c.room-room.ensures.value);
-        marks = omega (arith, c.in_ok-tables.ensures.marks, c.in_ok-arena.ensures.leaves);
-        mates = omega (arith, c.in_ok-tables.ensures.mates, c.in_ok-arena.ensures.leaves);
-        listed = c.in_ok-tables.ensures.listed;
-        fresh = λ is. (refl, c.in_ok-arena.ensures.fresh);
-        known = λ r some. absurd (none-some r some);
-      },
-    )
+          (room_of here) (free_of here) c.in_ok-exposed.exposed.items c.in_ok-lists.lists.edges.items c.in_ok-exposed.ensures.items c.in_ok-lists.ensures.empty;
+      edges = omega (arith, c.in_ok-lists.ensures.edges, c.room-room.ensures.value);
+      exposed = omega (arith, c.in_ok-exposed.ensures.room, c.room-room.ensures.value);
+      outer = omega (arith, c.in_ok-lists.ensures.outer, c.room-room.ensures.value);
+      inner = omega (arith, c.in_ok-lists.ensures.inner, c.room-room.ensures.value);
+      cycle = omega (arith, c.in_ok-lists.ensures.cycle, c.room-room.ensures.value);
+      ring = omega (arith, c.in_ok-lists.ensures.ring, c.room-room.ensures.value);
+      tops = omega (arith, c.in_ok-tables.ensures.tops, c.in_ok-arena.ensures.leaves);
+      totals = omega (arith, c.in_ok-tables.ensures.totals, c.in_ok-arena.ensures.leaves);
+      marks = omega (arith, c.in_ok-tables.ensures.marks, c.in_ok-arena.ensures.leaves);
+      mates = omega (arith, c.in_ok-tables.ensures.mates, c.in_ok-arena.ensures.leaves);
+    }
 
 pub returns-clause-engine : goal.returns-clause-engine
-returns-clause-engine c = (invariant_of-result c).0
+returns-clause-engine c = (invariant_of-result c).engine
 
 pub returns-clause-left : goal.returns-clause-left
 returns-clause-left c =

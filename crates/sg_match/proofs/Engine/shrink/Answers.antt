@@ -1,26 +1,19 @@
 -- `shrink`: a cycle is shrunk, and its tree edges go.
-use Rattle.std.proofs.Common.{◌≡◌, ◌+◌, ◌<◌, ◌≤◌, ℕ, Some, length, set, sym, ap, ◌∙◌, subst, arith}
-use Rattle.std.proofs.lemmas.List.{with_items_is}
-use Rattle.std.specs.Vec.{with_items}
+use Rattle.std.proofs.Common.{◌≡◌, ◌+◌, ◌<◌, ◌≤◌, ℕ, Some, length, set, sym, ap, ◌∙◌, subst, arith, rules}
 use Rattle.sg_arena.proofs.FamilyLemmas.{length-with_slot, name_bound}
 use Rattle.sg_arena.specs.Changes.{CanShrink, blossom_of, with_slot}
 use Rattle.sg_arena.specs.Family.{Family, leaf_count}
-use Rattle.sg_match.proofs.ShrinkStep.{CanShrinkTree-shrunk, all_tight, base_low, can, known-shrunk, shrunk}
+use Rattle.sg_match.proofs.ShrinkStep.{all_tight, base_low, can, shrunk}
 use Rattle.sg_match.proofs.EngineLemmas.{state_of, tree_of}
-use Rattle.sg_match.proofs.TableStep.{IsLifting, lifting-alive, lifting-listed}
 use Rattle.sg_match.proofs.TreeLemmas.{pair_leaf, up_leaf, edge_room}
 use Rattle.sg_match.proofs.Engine.shrink.Given.{Over}
 use Rattle.sg_match.proofs.Engine.shrink.Goals as goal
-use Rattle.sg_match.proofs.Engine.shrink.Goals.{After-find_cycle-base, After-self, After-shrink-blossom}
+use Rattle.sg_match.proofs.Engine.shrink.Goals.{After-find_cycle-base, After-self}
 use Rattle.sg_match.specs.Engine.{IsEngine}
-use Rattle.sg_match.specs.Members.{AreOuter}
-use Rattle.std.proofs.lemmas.Option.{none-some, same_Some}
 use Rattle.sg_match.specs.Events.{IsTightOuterOuter}
 use Rattle.sg_pairing.specs.Metric.{cost}
-use Rattle.sg_match.specs.Path.{AreTight, nodes_of}
+use Rattle.sg_match.specs.Path.{AreTight}
 use Rattle.sg_match.specs.TreeCycle.{HasTight, IsTreeCycle}
-use Rattle.sg_match.specs.ShrunkTree.{CanShrinkTree}
-use Rattle.sg_match.specs.Rooms.{KeepsTables}
 use Rattle.sg_match.specs.State.{State}
 use Rattle.sg_match.specs.Steps.{steps_left}
 use Rattle.sg_match.specs.Tree.{IsShape, IsTree, tree_edge_at}
@@ -30,7 +23,7 @@ rooted g c = ap (λ (s : State). s.root) c.self.view_is ∙ c.requires.root
 
 tree : (g : Over) (c : After-self g) → IsTree c.self.inside.arena (cost c.self.inside.near.table) c.self.inside.pairs.items c.args.root
     c.self.inside.edges.items
-tree g c = tree_of (state_of c.self.inside) c.self.invariant.0 c.args.root (rooted g c)
+tree g c = tree_of (state_of c.self.inside) c.self.invariant.engine c.args.root (rooted g c)
 
 -- the cycle over the list of tree edges itself
 cycle_found : (g : Over) (c : After-find_cycle-base g) →
@@ -55,14 +48,14 @@ pub find_cycle-base-requires-clause-room : goal.find_cycle-base-requires-clause-
 find_cycle-base-requires-clause-room g c =
     let few = edge_room c.self.inside.arena c.args.root c.self.inside.edges.items
     (tree g (goal.at.find_cycle-base-requires-clause-room g c).After-self).shape in
-    omega (arith, c.self.invariant.1.room.cycle, ap (λ xs. length xs) c.deref.ensures.value, few)
+    omega (arith, c.self.invariant.cycle, ap (λ xs. length xs) c.deref.ensures.value, few)
 
 pub shrink-blossom-requires : goal.shrink-blossom-requires
 shrink-blossom-requires g c =
     let here = goal.at.shrink-blossom-requires g c in
     let at = cycle_found g here.After-find_cycle-base in
     subst (λ xs. CanShrink c.self.inside.arena xs) (sym c.deref-2.ensures.value)
-    (can (state_of c.self.inside) c.args.root c.self.invariant.0 (rooted g here.After-self) c.find_cycle-base.new.cycle.items at.0 c.find_cycle-base.result
+    (can (state_of c.self.inside) c.args.root c.self.invariant.engine (rooted g here.After-self) c.find_cycle-base.new.cycle.items at.0 c.find_cycle-base.result
     at.1)
 
 pub index-requires : goal.index-requires
@@ -72,7 +65,7 @@ index-requires g c =
     omega (
       arith,
       c.self.inside.pairs.ok,
-      base_low (state_of c.self.inside) c.args.root c.self.invariant.0
+      base_low (state_of c.self.inside) c.args.root c.self.invariant.engine
           (rooted g here.After-self) c.find_cycle-base.new.cycle.items at.0 c.find_cycle-base.result at.1,
     )
 
@@ -80,44 +73,13 @@ pub shrink_edges-requires-clause-from : goal.shrink_edges-requires-clause-from
 shrink_edges-requires-clause-from g c i low =
     subst (λ (f : Family). (tree_edge_at c.self.inside.edges.items i).up.from < leaf_count f) (sym c.shrink-blossom.ensures.made)
     (up_leaf c.self.inside.arena c.args.root c.self.inside.edges.items
-    (tree g (goal.at.shrink_edges-requires-clause-from g c).After-self).shape c.self.invariant.0.feasible.family i low)
+    (tree g (goal.at.shrink_edges-requires-clause-from g c).After-self).shape c.self.invariant.engine.feasible.family i low)
 
 pub shrink_edges-requires-clause-to : goal.shrink_edges-requires-clause-to
 shrink_edges-requires-clause-to g c i low =
     subst (λ (f : Family). (tree_edge_at c.self.inside.edges.items i).pair.to < leaf_count f) (sym c.shrink-blossom.ensures.made)
     (pair_leaf c.self.inside.arena c.args.root c.self.inside.edges.items
-    (tree g (goal.at.shrink_edges-requires-clause-to g c).After-self).shape c.self.invariant.0.feasible.family i low)
-
--- the tables where the tops are lifted
-lifting : (g : Over) (c : After-shrink-blossom g) → c.self.inside.root ≡ Some c.args.root →
-    (place : ℕ) × IsTreeCycle c.self.inside.arena c.args.root c.self.inside.edges.items c.find_cycle-base.new.cycle.items place c.find_cycle-base.result
-    c.find_cycle-base.result → IsLifting c.self.inside.arena c.shrink-blossom.result c.find_cycle-base.new.cycle.items c.shrink-blossom.new.self
-    c.self.inside.tops.items c.self.inside.totals.items
-lifting g c rooted at =
-    let f = c.self.inside.arena in
-    let b = c.shrink-blossom.result in
-    let cycle = c.find_cycle-base.new.cycle.items in
-    let made : c.shrink-blossom.new.self ≡ with_slot f b (Some (blossom_of f cycle)) =
-    subst (λ xs. c.shrink-blossom.new.self ≡ with_slot f b (Some (blossom_of f xs))) c.deref-2.ensures.value c.shrink-blossom.ensures.made in
-    record {
-      fam = c.self.invariant.0.feasible.family;
-      can = can (state_of c.self.inside) c.args.root c.self.invariant.0 rooted cycle at.0 c.find_cycle-base.result at.1;
-      dead = c.shrink-blossom.ensures.unused;
-      room = omega (
-        arith,
-        name_bound c.shrink-blossom.new.self b c.shrink-blossom.ensures.top.alive,
-        ap (λ (f : Family). length f.nodes) made,
-        length-with_slot f b (Some (blossom_of f cycle)),
-      );
-      made = made;
-      listed = c.self.invariant.1.listed;
-    }
-
-pub lift_tops-requires : goal.lift_tops-requires
-lift_tops-requires g c =
-    let here = goal.at.lift_tops-requires g c in
-    lifting-alive (lifting g here.After-shrink-blossom (rooted g here.After-self) (cycle_found g here.After-find_cycle-base)) c.deref_mut.result.now
-    c.deref_mut.ensures.value
+    (tree g (goal.at.shrink_edges-requires-clause-to g c).After-self).shape c.self.invariant.engine.feasible.family i low)
 
 -- what the state is at the end
 abbrev last : (g : Over) (c : goal.After-shrink_edges g) → State
@@ -134,11 +96,10 @@ last g c = record {
 
 shrinking : (g : Over) (c : goal.After-shrink_edges g) → (state_of c.self.inside).root ≡ Some c.args.root →
     (place : ℕ) × IsTreeCycle c.self.inside.arena c.args.root c.self.inside.edges.items c.find_cycle-base.new.cycle.items place c.find_cycle-base.result
-    c.find_cycle-base.result → IsEngine (last g c) × (steps_left (last g c) + 2 ≤ steps_left (state_of c.self.inside)) ×
-    AreOuter c.shrink-blossom.new.self c.renamed.result c.shrink_edges.new.edges.items c.self.inside.near.members
+    c.find_cycle-base.result → IsEngine (last g c) × (steps_left (last g c) + 2 ≤ steps_left (state_of c.self.inside))
 shrinking g c rooted at =
     let s = state_of c.self.inside in
-    let engine : IsEngine s = c.self.invariant.0 in
+    let engine : IsEngine s = c.self.invariant.engine in
     let cycle = c.find_cycle-base.new.cycle.items in
     let base = c.find_cycle-base.result in
     let b = c.shrink-blossom.result in
@@ -157,53 +118,22 @@ shrinking g c rooted at =
     let tight : AreTight s.family (cost s.table) cycle = c.find_cycle-base.ensures.tight (cost s.table)
     (subst (λ xs. HasTight s.family (cost s.table) xs) (sym c.deref.ensures.value) has)
     (has.symmetric c.args.u c.args.v tight_edge.low_u tight_edge.low_v) (omega (arith, tight_edge.slack)) in
-    let shrink_edges = c.shrink_edges.ensures.shrink_edges (nodes_of cycle) base
-    (subst (λ f. CanShrinkTree f (nodes_of cycle) base b s.edges) (sym made)
-    (CanShrinkTree-shrunk s c.args.root engine rooted cycle at.0 base at.1 b c.shrink-blossom.ensures.unused room)) in
-    let both = shrunk s c.args.root engine rooted cycle at.0 base at.1 b c.shrink-blossom.ensures.unused room tight c.renamed.result c.renamed.ensures.hit
-    c.renamed.ensures.miss c.shrink_edges.new.edges.items shrink_edges c.shrink-blossom.new.self made c.index.result.now c.index.ensures in (
-      both.0,
-      both.1,
-      known-shrunk s c.args.root engine rooted cycle at.0 base at.1 b c.shrink-blossom.ensures.unused room tight c.renamed.result c.renamed.ensures.hit
-          c.renamed.ensures.miss c.shrink_edges.new.edges.items shrink_edges c.shrink-blossom.new.self made c.self.inside.near.members
-          (c.self.invariant.1.known c.args.root rooted),
-    )
+    shrunk s c.args.root engine rooted cycle at.0 base at.1 b c.shrink-blossom.ensures.unused room tight c.renamed.result c.renamed.ensures.hit
+    c.renamed.ensures.miss c.shrink-blossom.new.self made c.index.result.now c.index.ensures c.shrink_edges.new.edges.items c.shrink_edges.ensures.edges
 
-ending : (g : Over) (c : goal.After-shrink_edges g) → IsEngine (last g c) × (steps_left (last g c) + 2 ≤ steps_left (state_of c.self.inside)) ×
-    AreOuter c.shrink-blossom.new.self c.renamed.result c.shrink_edges.new.edges.items c.self.inside.near.members
+ending : (g : Over) (c : goal.After-shrink_edges g) → IsEngine (last g c) × (steps_left (last g c) + 2 ≤ steps_left (state_of c.self.inside))
 ending g c = let here = goal.at.returns-clause-engine g c in shrinking g c (rooted g here.After-self) (cycle_found g here.After-find_cycle-base)
 
 pub invariant_of-self : goal.invariant_of-self
 invariant_of-self g c =
-    let here = goal.at.invariant_of-self g c in
-    let kept : KeepsTables c.self.inside = c.self.invariant.1 in
+    let kept = c.self.invariant in
     let nodes : length c.shrink-blossom.new.self.nodes ≡ length c.self.inside.arena.nodes =
     ap (λ (f : Family). length f.nodes) c.shrink-blossom.ensures.made ∙ length-with_slot c.self.inside.arena c.shrink-blossom.result
     (Some (blossom_of c.self.inside.arena c.deref-2.result.now)) in
     let leaves : length c.shrink-blossom.new.self.leaf_nodes ≡ length c.self.inside.arena.leaf_nodes =
-    ap (λ (f : Family). length f.leaf_nodes) c.shrink-blossom.ensures.made in (
-      (ending g c).0,
-      record {
-        room = record {
-          edges = omega (arith, nodes, kept.room.edges, c.shrink_edges.ensures.capacity);
-          exposed = omega (arith, nodes, kept.room.exposed);
-          outer = omega (arith, nodes, kept.room.outer);
-          inner = omega (arith, nodes, kept.room.inner);
-          cycle = omega (arith, nodes, kept.room.cycle, c.find_cycle-base.ensures.capacity);
-          ring = omega (arith, nodes, kept.room.ring);
-        };
-        named = omega (arith, nodes, kept.named);
-        marks = omega (arith, leaves, kept.marks);
-        mates = omega (arith, leaves, kept.mates);
-        listed = lifting-listed (lifting g here.After-shrink-blossom (rooted g here.After-self) (cycle_found g here.After-find_cycle-base))
-            c.deref_mut.result.now c.deref_mut.ensures.value c.lift_tops.new.tops (with_items c.self.inside.tops c.lift_tops.new.tops).items
-            c.lift_tops.ensures.count c.lift_tops.ensures.lifted
-            (with_items_is c.self.inside.tops c.lift_tops.new.tops (c.lift_tops.auto.tops ∙ c.deref_mut.ensures.len));
-        fresh = λ is. absurd (none-some c.args.root (sym (kept.fresh is).0 ∙ rooted g here.After-self));
-        known = λ r some. subst (λ x. AreOuter c.shrink-blossom.new.self x c.shrink_edges.new.edges.items c.self.inside.near.members)
-            (same_Some c.renamed.result r some) (ending g c).2;
-      },
-    )
+    ap (λ (f : Family). length f.leaf_nodes) c.shrink-blossom.ensures.made in
+    let engine = (ending g c).0 in
+    search rules
 
 pub returns-clause-engine : goal.returns-clause-engine
 returns-clause-engine g c = (ending g c).0

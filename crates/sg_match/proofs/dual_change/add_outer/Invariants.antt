@@ -1,7 +1,6 @@
 -- `add_outer`: the outer leaves so far are members.
 use Rattle.std.proofs.Common.{◌≡◌, ℕ, ◌<◌}
-use Rattle.sg_match.specs.Members.{AreMarked}
-use Rattle.sg_slack.specs.Members.{Agree, IsMember}
+use Rattle.sg_slack.specs.Members.{Agree, AreMarked, IsMember}
 use Rattle.sg_slack.specs.Slack.{mark_at}
 use Rattle.sg_slack.specs.declared.Mark.TheVariants.{Outer}
 use Rattle.sg_match.proofs.dual_change.add_outer.Given as goal

@@ -4,7 +4,7 @@ use Rattle.std.proofs.lemmas.Option.{none-some, same_Some}
 use Rattle.std.proofs.lemmas.Int.{ints}
 use Rattle.std.specs.Int.Signed.{quot_z}
 use Rattle.sg_sums.specs.Naturals.{nat_of}
-use Rattle.sg_match.proofs.ScanStep.{IsScanned-both, IsScanned-free, half_is, less_is, not_less_is, whole_is}
+use Rattle.sg_match.proofs.ScanStep.{IsScanned-both, IsScanned-free, IsScanned-none, half_is, less_is, not_less_is, whole_is}
 use Rattle.sg_match.proofs.dual_change.scan.Goals as goal
 use Rattle.sg_match.proofs.dual_change.scan.Goals.{In-Some, In-Some-both}
 use Rattle.sg_match.specs.Scans.{IsScanned}
@@ -46,7 +46,8 @@ record IsBothAt (c : In-Some-both) : Type 0 where
 
 both_is : (c : In-Some-both) → IsLeast c.args.costs.now c.args.totals.now (IsOuterOuter c.args.costs.now c.args.tops.now c.args.marks.now) c.in-Some-both.both
 both_is c =
-    subst (λ o. Least c.args.costs.now c.args.totals.now (IsOuterOuter c.args.costs.now c.args.tops.now c.args.marks.now) o) c.in-Some-both.is c.requires.both
+    subst (λ o. Least c.args.costs.now c.args.totals.now
+    (IsOuterOuter c.args.costs.now c.args.tops.now c.args.marks.now) o) c.in-Some-both.is c.least_outer_outer-both.ensures
 
 both_at : (c : In-Some-both) → IsBothAt c
 both_at c =
@@ -98,9 +99,9 @@ returns-in_default-both-clause-scanned c =
     let more = not_less_is (to_z w64 (of_z w64 (quot_z (to_z w64 (of_z w64 q.slack)) (pos 2))))
     (to_z w64 (of_z w64 (to_z w64 (of_z w64 free.slack)))) at.amount here.amount at.half here.again c.if-both-away.false in
     subst (λ z. IsScanned c.args.costs.now c.args.tops.now c.args.totals.now c.args.marks.now (nat_of z) (OuterFree free.u free.v)) (sym here.same)
-    (IsScanned-free c.args.costs.now c.args.tops.now c.args.totals.now c.args.marks.now free c.args.both here.amount (free_is
+    (IsScanned-free c.args.costs.now c.args.tops.now c.args.totals.now c.args.marks.now free c.least_outer_outer-both.result here.amount (free_is
     (goal.at.returns-in_default-both-clause-scanned c).In-Some)
-    here.slack c.requires.both
+    here.slack c.least_outer_outer-both.ensures
     (λ p is_p. let same = same_Some q p (sym c.in-Some-both.is ∙ is_p) in omega (arith, ints, more, ap (λ x. x.slack) same, at.slack)))
 
 pub returns-in_default-both-2-clause-whole :
@@ -115,7 +116,16 @@ returns-in_default-both-2-clause-scanned c =
     let free = c.in-Some.free in
     let here = free_at (goal.at.returns-in_default-both-2-clause-scanned c).In-Some in
     subst (λ z. IsScanned c.args.costs.now c.args.tops.now c.args.totals.now c.args.marks.now (nat_of z) (OuterFree free.u free.v)) (sym here.same)
-    (IsScanned-free c.args.costs.now c.args.tops.now c.args.totals.now c.args.marks.now free c.args.both here.amount (free_is
+    (IsScanned-free c.args.costs.now c.args.tops.now c.args.totals.now c.args.marks.now free c.least_outer_outer-both.result here.amount (free_is
     (goal.at.returns-in_default-both-2-clause-scanned c).In-Some)
-    here.slack c.requires.both
+    here.slack c.least_outer_outer-both.ensures
     (λ p is_p. absurd (none-some p (sym c.in_default-both.is ∙ is_p))))
+
+pub returns-then-free-eq0-clause-scanned : goal.returns-then-free-eq0-clause-scanned
+returns-then-free-eq0-clause-scanned c =
+    let free = c.in-Some.free in
+    let here = free_at (goal.at.returns-then-free-eq0-clause-scanned c).In-Some in
+    let none : pos here.amount ≡ pos 0 = sym here.same ∙ ap (to_z w64) c.if-free-eq0.true in
+    subst (λ z. IsScanned c.args.costs.now c.args.tops.now c.args.totals.now c.args.marks.now (nat_of z) (OuterFree free.u free.v)) (sym (here.same ∙ none))
+    (IsScanned-none c.args.costs.now c.args.tops.now c.args.totals.now c.args.marks.now free c.requires.can (free_is
+    (goal.at.returns-then-free-eq0-clause-scanned c).In-Some) (here.slack ∙ none))

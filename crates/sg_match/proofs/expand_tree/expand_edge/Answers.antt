@@ -1,56 +1,36 @@
--- `expand_edge`: two nodes of the ring at a time, until the entry is the first node.
-use Rattle.std.proofs.Common.{rules, ◌+◌, ◌≡◌, ◌≢◌, ◌⊎◌, length, set, sym, ap, ◌∙◌, subst, inl, inr, arith}
-use Rattle.std.proofs.Math.ListN.{length-set}
-use Rattle.std.proofs.lemmas.List.{get_or_default}
+-- `expand_edge`: the tree edges of a ring take the place of one.
+use Rattle.std.proofs.Common.{◌≡◌, ℕ, suc, ◌+◌, ◌<◌, List, ◌++◌, drop, length, take, ap, ◌∙◌, arith, append_assoc, length-drop}
+use Rattle.std.proofs.lemmas.List.{drop-append-le, drop_all, get_or_default, length-take-le, take-append-le, take_all}
+use Rattle.std.specs.List.{remove}
 use Rattle.sg_arena.specs.Family.{link_at}
 use Rattle.sg_match.proofs.expand_tree.expand_edge.Goals as goal
-use Rattle.sg_match.proofs.expand_tree.expand_edge.Goals.{then-entry-eq0, else-entry-eq0}
-use Rattle.sg_match.proofs.ExpandTreeLemmas.{IsExpandingEdge-done, IsExpandingEdge-insert_before, IsExpandingEdge-init, OuterStays-insert_before}
-use Rattle.sg_match.proofs.ExpandTreeLemmas.{OuterStays-init}
-use Rattle.sg_match.specs.InsertedEdges.{OuterStays}
-use Rattle.sg_match.specs.ExpandedTree.{with_inner}
-use Rattle.sg_match.specs.Tree.{blank_tree_edge, tree_edge_at}
+use Rattle.sg_match.specs.ExpandedTree.{ring_edges, ring_start}
+use Rattle.sg_match.specs.Tree.{blank_tree_edge}
 use Rattle.sg_match.specs.declared.TreeEdge.{TreeEdge}
 
-pub loop-i-init : goal.loop-i-init
-loop-i-init c =
+rotated : (n : ℕ) (xs ys : List TreeEdge) → length xs ≡ n → drop n (xs ++ ys) ++ take n (xs ++ ys) ≡ ys ++ xs
+rotated n xs ys count =
+    ap (λ zs. zs ++ take n (xs ++ ys)) (drop-append-le n xs ys (omega (arith, count)) ∙ ap (λ zs. zs ++ ys) (drop_all n xs (omega (arith, count))))
+    ∙ ap (λ zs. ys ++ zs) (take-append-le n xs ys (omega (arith, count)) ∙ take_all n xs (omega (arith, count)))
+
+-- taken out, rotated to the end, lengthened and rotated back
+turned : (old ring removed front longer new : List TreeEdge) (at n : ℕ) → removed ≡ remove old at → front ≡ drop at removed ++ take at removed →
+    longer ≡ front ++ ring → new ≡ drop n longer ++ take n longer → at < length old → n + suc at ≡ length old →
+    new ≡ take at old ++ (ring ++ drop (suc at) old)
+turned old ring removed front longer new at n taken first more last low count =
+    let a = take at old in
+    let z = drop (suc at) old in
+    let swapped : longer ≡ z ++ (a ++ ring) = more ∙ ap (λ xs. xs ++ ring) (first ∙ ap (λ xs. drop at xs ++ take at xs) taken ∙
+    rotated at a z (length-take-le at old (omega (arith, low)))) ∙ append_assoc z a ring in
+    last ∙ ap (λ xs. drop n xs ++ take n xs) swapped ∙ rotated n z (a ++ ring) (omega (arith, length-drop (suc at) old, count)) ∙ append_assoc a ring z
+
+pub returns-clause-edges : goal.returns-clause-edges
+returns-clause-edges c =
     let old = c.args.edges.now.items in
-    let base = (link_at c.args.ring.now 0).node in
-    let made = set old c.args.at (with_inner base c.index-tree_edge.result.now) in
-    let is : made ≡ set old c.args.at (with_inner base (tree_edge_at old c.args.at)) =
-    ap (λ (l : TreeEdge). set old c.args.at (with_inner base l))
-    (c.index-tree_edge.ensures ∙ get_or_default old c.args.at c.index-tree_edge.result.now blank_tree_edge c.requires.within) in
-    let count : length made ≡ length old = length-set old c.args.at (with_inner base c.index-tree_edge.result.now) in
-    let starts : ((c.args.entry ≡ 0) × (c.if-entry-eq0.i ≡ length c.args.ring.now)) ⊎ ((c.args.entry ≢ 0) × (c.if-entry-eq0.i ≡ c.args.entry)) =
-    elim c.if-entry-eq0.branch [
-      | then-entry-eq0 w ↦ inl (omega arith, omega arith)
-      | else-entry-eq0 w ↦ inr (omega arith, omega arith)
-    ] in
-    record {
-      within = omega (arith, count, c.requires.within);
-      low = elim starts [ inl none ↦ omega (arith, none.1) | inr some ↦ omega (arith, some.1, c.requires.entry) ];
-      count = omega (arith, count);
-      room = search rules;
-      outer = subst (λ xs. OuterStays old xs) (sym is) (OuterStays-init old c.args.at base c.requires.within);
-      tree = λ f cost now root can. IsExpandingEdge-init f cost now root old c.args.ring.now c.args.at c.args.entry can made c.if-entry-eq0.i is starts;
-    }
-
-pub loop-i-preserved : goal.loop-i-preserved
-loop-i-preserved c =
-    let insert_before = c.insert_before.ensures.insert_before in
-    let was = c.loop-i.invariant in
-    record {
-      within = omega (arith, was.within, insert_before.count);
-      low = omega (arith, c.loop-i-test.true);
-      count = omega (arith, was.count, insert_before.count);
-      room = c.insert_before.ensures.capacity ∙ was.room;
-      outer = OuterStays-insert_before c.args.edges.now.items c.loop-i.edges.items c.insert_before.new.edges.items c.loop-i.place
-          (link_at c.args.ring.now c.loop-i.i) (link_at c.args.ring.now (c.loop-i.i + 1)) was.within was.outer insert_before;
-      tree = λ f cost now root can. IsExpandingEdge-insert_before f cost now root c.args.edges.now.items c.args.ring.now c.args.at c.args.entry can
-          c.loop-i.edges.items c.insert_before.new.edges.items c.loop-i.place c.loop-i.i c.loop-i-test.true (was.tree f cost now root can) insert_before;
-    }
-
-pub returns-clause-tree : goal.returns-clause-tree
-returns-clause-tree c f cost now root can =
-    IsExpandingEdge-done f cost now root c.args.edges.now.items c.args.ring.now c.args.at c.args.entry can c.loop-i.edges.items c.loop-i.place c.loop-i.i
-    c.loop-i.invariant.low c.loop-i-test.false (c.loop-i.invariant.tree f cost now root can)
+    let ring = c.args.ring.now in
+    let links = drop (ring_start c.args.entry (length ring)) ring in
+    let read = c.remove-tree_edge.ensures.value ∙ get_or_default old c.args.at c.remove-tree_edge.result blank_tree_edge c.requires.within in
+    turned old _ c.remove-tree_edge.new.self.items c.rotate_left.new.self.items c.push_ring.new.edges.items c.rotate_left-2.new.self.items c.args.at _
+    c.remove-tree_edge.ensures.items c.rotate_left.ensures.items
+    (c.push_ring.ensures.edges ∙ ap (λ (l : TreeEdge). c.rotate_left.new.self.items ++ ring_edges l (link_at ring 0).node l.up links) read)
+    c.rotate_left-2.ensures.items c.requires.within (omega (arith, c.remove-tree_edge.ensures.len))

@@ -14,10 +14,3 @@ pub least-free-requires-clause-agree : goal.least-free-requires-clause-agree
 least-free-requires-clause-agree g c =
     line-agree c.args.near.now.members c.args.place c.requires.line c.fill.new.totals
     (omega (arith, c.fill.ensures.totals_count, c.requires.totals, c.requires.within)) c.fill.ensures.totals
-
-pub least_between-between-requires-clause-members : goal.least_between-between-requires-clause-members
-least_between-between-requires-clause-members g c = λ u low.
-    let marked = c.fill.ensures.marks u (omega (arith, low, c.fill.ensures.marks_count, c.requires.marks)) in (
-      (λ outer. line-member c.args.near.now.members c.args.place c.requires.line u (marked.0 outer)),
-      (λ is. marked.1 (line-below c.args.near.now.members c.args.place c.requires.line u is)),
-    )

@@ -1,6 +1,6 @@
 use Rattle.std.proofs.Common.{◌+◌, ap, sym, subst, ◌∙◌, arith}
 use Rattle.sg_arena.specs.Family.{Holds}
-use Rattle.sg_moat.specs.Sets.{inner_of}
+use Rattle.sg_arena.specs.Sets.{inner_of}
 use Rattle.sg_moat.proofs.Climb.{Climbing, Climbing-bound, Climbing-start, Climbing-step, Climbing-top, room_falls}
 use Rattle.sg_moat.proofs.duals.inner_duals.Goals as goal
 
