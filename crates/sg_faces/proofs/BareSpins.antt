@@ -1,11 +1,15 @@
 -- Spins without a bond: a spin has no darts exactly where no bond ends at it, and in a connected instance with a bond there is none.
-use Rattle.std.proofs.Common.{inl, inr, ◌≡◌, ◌≢◌, ◌⊎◌, ℕ, zero, suc, ◌+◌, ◌*◌, ◌<◌, ◌≤◌, Bool, true, false, not, ◌||◌, cond, eqb, pos, List, [], ◌∷◌, length, get_or, count_by, refl, sym, ◌∙◌, ap, ap₂, eq-eqb, arith}
+use Rattle.std.proofs.Common.{inl, inr, ◌≡◌, ◌≢◌, ◌⊎◌, ℕ, ◌+◌, ◌*◌, ◌<◌, ◌≤◌, Bool, true, false, not, ◌||◌, cond, eqb, pos, List, [], ◌∷◌, length, get_or, count_by, refl, sym, ◌∙◌, ap, ap₂, eq-eqb, arith}
 use Rattle.std.specs.List.{range_with_len}
 use Rattle.std.proofs.lemmas.Bool.{cases_eq, cases_lt, ne_eqb, or_left, or_right}
 use Rattle.std.proofs.lemmas.List.Folds.{list_all_at}
 use Rattle.std.proofs.lemmas.List.Sums.{list_all-from_AllPass, count_by-le-length}
 use Rattle.std.proofs.lemmas.List.Elements.{All-from_get_or}
 use Rattle.std.proofs.lemmas.List.FromFn.{length-range_with_len}
+use Rattle.sg_sums.proofs.DealtSums.{sum_by_range}
+use Rattle.sg_sums.proofs.ListLaws.{sum_by-zero}
+use Rattle.sg_sums.proofs.SumLaws.{sum_below-same}
+use Rattle.sg_sums.proofs.Tallies.{sum_below_ones}
 use Rattle.sg_model.specs.declared.bond.Bond.{Bond}
 use Rattle.sg_model.specs.Ising.{Ising, IsBond, bond_at, bond_count}
 use Rattle.sg_model.specs.Rotation.{dart_count, darts_of, tail}
@@ -18,31 +22,19 @@ use Rattle.sg_model.proofs.Paths.{reached_across}
 use Rattle.sg_model.proofs.Rotations.{in_list, place_at}
 use Rattle.sg_model.proofs.SameEnds.{recoupled_instance}
 use Rattle.sg_faces.specs.Faces.{bare_count, face_count, faces_before, is_bare}
-use Rattle.sg_faces.proofs.OrbitWalks.{count_range_more}
 
 -- tests that agree below n pass the same number below n
-pub counted_same : (p q : ℕ → Bool) (n : ℕ) → ((k : ℕ) → k < n → p k ≡ q k) →
-    count_by p (range_with_len 0 n) ≡ count_by q (range_with_len 0 n)
-counted_same p q zero h = refl
-counted_same p q (suc n) h =
-    let next : suc n ≡ n + 1 = omega arith in
-    ap (λ m. count_by p (range_with_len 0 m)) next ∙ count_range_more p n
-    ∙ ap₂ {A = ℕ} (λ c b. c + cond b 1 0) (counted_same p q n (λ k l. h k (omega arith))) (h n (omega arith))
-    ∙ sym (ap (λ m. count_by q (range_with_len 0 m)) next ∙ count_range_more q n)
+counted_same : (p q : ℕ → Bool) (n : ℕ) → ((k : ℕ) → k < n → p k ≡ q k) → count_by p (range_with_len 0 n) ≡ count_by q (range_with_len 0 n)
+counted_same p q n h =
+    sum_by_range (λ k. cond (p k) 1 0) n
+    ∙ sum_below-same (λ k. cond (p k) 1 0) (λ k. cond (q k) 1 0) n (λ k l. ap (λ b. cond {A = ℕ} b 1 0) (h k l))
+    ∙ sym (sum_by_range (λ k. cond (q k) 1 0) n)
 
 counted_none : (n : ℕ) → count_by (λ _. false) (range_with_len 0 n) ≡ 0
-counted_none zero = refl
-counted_none (suc n) =
-    let next : suc n ≡ n + 1 = omega arith in
-    let more : count_by (λ _. false) (range_with_len 0 (n + 1)) ≡ count_by (λ _. false) (range_with_len 0 n) + 0 = count_range_more (λ _. false) n in
-    ap (λ m. count_by (λ _. false) (range_with_len 0 m)) next ∙ omega (arith, more, counted_none n)
+counted_none n = sum_by-zero (λ k. cond false 1 0) (range_with_len 0 n) (λ k. refl)
 
 counted_all : (n : ℕ) → count_by (λ _. true) (range_with_len 0 n) ≡ n
-counted_all zero = refl
-counted_all (suc n) =
-    let next : suc n ≡ n + 1 = omega arith in
-    let more : count_by (λ _. true) (range_with_len 0 (n + 1)) ≡ count_by (λ _. true) (range_with_len 0 n) + 1 = count_range_more (λ _. true) n in
-    ap (λ m. count_by (λ _. true) (range_with_len 0 m)) next ∙ omega (arith, more, counted_all n)
+counted_all n = sum_by_range (λ k. 1) n ∙ sum_below_ones n
 
 module _ (inst : Ising) where
   -- whether bond b ends elsewhere
@@ -50,7 +42,7 @@ module _ (inst : Ising) where
   misses i b = not (eqb b.u i || eqb b.v i)
 
   -- a bond ends at the spin
-  not_bare : (i k : ℕ) → k < bond_count inst → (((bond_at inst k).u ≡ i) ⊎ ((bond_at inst k).v ≡ i)) → is_bare inst i ≡ false
+  pub not_bare : (i k : ℕ) → k < bond_count inst → (((bond_at inst k).u ≡ i) ⊎ ((bond_at inst k).v ≡ i)) → is_bare inst i ≡ false
   not_bare i k l e = list_all_at (misses i) inst.bonds k (record { u = 0; v = 0; j = pos 0 }) l (ap not (meets e))
     where
       meets : (((bond_at inst k).u ≡ i) ⊎ ((bond_at inst k).v ≡ i)) → (eqb (bond_at inst k).u i || eqb (bond_at inst k).v i) ≡ true
@@ -58,7 +50,7 @@ module _ (inst : Ising) where
       meets (inr v) = or_right (eqb (bond_at inst k).u i) (eqb (bond_at inst k).v i) (eq-eqb (bond_at inst k).v i v)
 
   -- no bond ends at the spin
-  all_miss : (i : ℕ) → ((k : ℕ) → k < bond_count inst → ((bond_at inst k).u ≢ i) × ((bond_at inst k).v ≢ i)) → is_bare inst i ≡ true
+  pub all_miss : (i : ℕ) → ((k : ℕ) → k < bond_count inst → ((bond_at inst k).u ≢ i) × ((bond_at inst k).v ≢ i)) → is_bare inst i ≡ true
   all_miss i h =
       list_all-from_AllPass (misses i) inst.bonds
       (All-from_get_or (λ b. misses i b ≡ true) inst.bonds (record { u = 0; v = 0; j = pos 0 })

@@ -1,5 +1,5 @@
 -- A permutation as a table of its values: its orbits, and labels of them.
-use Rattle.std.specs.Prelude.{◌≡◌, ◌≢◌, true, ◌↔◌, ℕ, ◌<◌, ◌≤◌, Bool, List, length, slice_index}
+use Rattle.std.specs.Prelude.{◌≡◌, ◌≢◌, true, ◌↔◌, ℕ, ◌<◌, Bool, List, length, slice_index}
 use Rattle.sg_model.specs.Ising.{Ising}
 use Rattle.sg_model.specs.Rotation.{dart_count, tail, rev}
 use Rattle.sg_faces.specs.Orbits.{after_steps, SameOrbit, is_least_of_orbit, orbits_before, IsOneToOne}
@@ -33,26 +33,22 @@ unlabelled = 4294967295
 abbrev pub HasLabel : List ℕ → ℕ → Type 0
 HasLabel labels d = slice_index labels d ≢ unlabelled
 
--- the least place of the orbit with label f, which is before `limit`: there are ways to each place
--- of the orbit and back
-pub record Root (table labels : List ℕ) (limit f : ℕ) : Type 0 where
+-- the least place of the orbit of d, which is before `limit`, and its rank f among such places
+pub record Root (table : List ℕ) (limit d f : ℕ) : Type 0 where
   pub first : ℕ
   pub first_below : first < length table
   pub early : first < limit
-  pub first_label : slice_index labels first ≡ f
+  pub least : is_least_of table first ≡ true
+  pub same : SameOrbit (table_value table) first d
   pub rank : f ≡ least_before table first
-  pub to : (d : ℕ) → d < length table → slice_index labels d ≡ f → (j : ℕ) × (moves table j first ≡ d)
-  pub back : (d : ℕ) → d < length table → slice_index labels d ≡ f →
-      (j : ℕ) × (j < length table) × (moves table j d ≡ first)
-  pub least : (d : ℕ) → d < length table → slice_index labels d ≡ f → first ≤ d
 
--- whole orbits have labels, those below `count`, and begin before `limit`
-pub record LabelsOrbits (table labels : List ℕ) (count limit : ℕ) : Type 0 where
+-- whole orbits have labels, each the rank of its least place: those of the places before `limit`
+pub record LabelsOrbits (table labels : List ℕ) (limit : ℕ) : Type 0 where
   pub lengths : length labels ≡ length table
-  pub below : (d : ℕ) → d < length table → HasLabel labels d → slice_index labels d < count
   pub onward : (d : ℕ) → d < length table → HasLabel labels d →
       slice_index labels (slice_index table d) ≡ slice_index labels d
-  pub roots : (f : ℕ) → f < count → Root table labels limit f
+  pub root : (d : ℕ) → d < length table → HasLabel labels d → Root table limit d (slice_index labels d)
+  pub earlier : (d : ℕ) → d < limit → HasLabel labels d
 
 -- the labels of all orbits, in the order of the orbits' least places
 pub record IsOrbitLabels (table labels : List ℕ) (count : ℕ) : Type 0 where

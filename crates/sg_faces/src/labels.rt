@@ -1,5 +1,5 @@
 ghost use Rattle.std.specs.Prelude.{◌≡◌, ℕ, ◌<◌, ◌+◌, ◌^◌, ◌≤◌, length, slice_index, IfOk};
-ghost use Rattle.sg_faces.specs.Tables.{HasLabel, IsMove, IsOrbitLabels, LabelsOrbits, least_before, unlabelled};
+ghost use Rattle.sg_faces.specs.Tables.{IsMove, IsOrbitLabels, LabelsOrbits, least_before, unlabelled};
 
 use super::{Faces, NoMemory};
 use std::alloc::Global;
@@ -9,16 +9,12 @@ const UNLABELLED: u32 = u32::MAX;
 // Walks along the orbit of `start` and gives it a label.
 fn label_orbit(table: &[u32], labels: &mut [u32], start: usize, label: u32)
     requires is_move { IsMove table.now }
-    requires labelled { LabelsOrbits table.now labels.old label start }
+    requires labelled { LabelsOrbits table.now labels.old start }
     requires start_in { start < length table.now }
     requires unlabelled_start { slice_index labels.old start ≡ unlabelled }
-    requires earlier { (d : ℕ) → d < start → HasLabel labels.old d }
     requires room { label < unlabelled }
     requires rank { label ≡ least_before table.now start }
-    ensures labelled { LabelsOrbits table.now labels.new (label + 1) (start + 1) }
-    ensures kept { (d : ℕ) → HasLabel labels.old d →
-        slice_index labels.new d ≡ slice_index labels.old d }
-    ensures marked { slice_index labels.new start ≡ label }
+    ensures { LabelsOrbits table.now labels.new (start + 1) }
 {
     let mut at = start;
     while labels[at] == UNLABELLED {

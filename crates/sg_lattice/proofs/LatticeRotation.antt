@@ -1,19 +1,17 @@
 -- The darts of the tables are a rotation: each dart stands once, in the list of the spin that it leaves.
-use Rattle.std.proofs.Common.{◌≡◌, ◌⊎◌, inl, inr, ℕ, ℤ, ◌+◌, ◌-◌, ◌*◌, ◌/◌, ◌%◌, ◌<◌, ◌≤◌, Bool, true, false, cond, ◌&&◌, eqb, leb, ltb, List, [], ◌∷◌, ◌++◌, count_by, refl, sym, ◌∙◌, ap, arith}
-use Rattle.std.proofs.lemmas.Bool.{cases_lt, lt-ltb, le-ltb}
-use Rattle.std.proofs.lemmas.Nat.{mod_below, div-add-mod'}
+use Rattle.std.proofs.Common.{◌≡◌, ℕ, ℤ, ◌+◌, ◌-◌, ◌*◌, ◌/◌, ◌%◌, ◌<◌, ◌≤◌, Bool, true, false, cond, ◌&&◌, eqb, leb, ltb, List, [], ◌∷◌, ◌++◌, count_by, refl, sym, ◌∙◌, ap, arith}
+use Rattle.std.proofs.lemmas.Bool.{le-leb}
+use Rattle.std.proofs.lemmas.Nat.{div_below, mod_below, div-add-mod'}
 use Rattle.std.proofs.lemmas.List.Sums.{sum_by-append, sum_by-cons}
 use Rattle.std.proofs.lemmas.List.FromFn.{get_or-map-range_with_len, length-map-range_with_len}
-use Rattle.sg_model.specs.Ising.{bond_count}
 use Rattle.sg_model.specs.Rotation.{IsRotation, darts_of, is_dart_of, tail}
 use Rattle.sg_lattice.specs.declared.kind.Kind.{Kind}
 use Rattle.sg_lattice.specs.declared.kind.Kind.TheVariants.{Cylinder}
 use Rattle.sg_lattice.specs.declared.kind.Step.{Step}
 use Rattle.sg_lattice.specs.declared.kind.Step.TheVariants.{East, South, SouthEast}
 use Rattle.sg_lattice.specs.Tables.{IsSize, bond_number, darts, east, has_bond, lattice, north, north_west, south, south_east, west}
-use Rattle.sg_lattice.proofs.Grids.{row_below}
-use Rattle.sg_lattice.proofs.Laid.{in_block, in_block-yes, in_block-before, in_block-behind, step_count}
-use Rattle.sg_lattice.proofs.KindSteps.{all_total, comes, end_col, end_row, grid_step, some_cols, source_col, source_row, step_base, step_total}
+use Rattle.sg_lattice.proofs.Laid.{blocks_joined, in_block, step_count}
+use Rattle.sg_lattice.proofs.KindSteps.{all_total, comes, grid_step, some_cols, source_col, source_row, step_end}
 use Rattle.sg_lattice.proofs.LatticeBonds.{bond_count_is, step_laid}
 
 -- how often d stands in a list
@@ -45,45 +43,16 @@ count_west kind R C r c d = count_back (leb 1 c) (ltb (c - 1 + 1) C) (2 * (r * (
 count_six : (d : ℕ) (a b e f g h : List ℕ) →
     times d (a ++ (b ++ (e ++ (f ++ (g ++ h))))) ≡ times d a + (times d b + (times d e + (times d f + (times d g + times d h))))
 count_six d a b e f g h =
-    sum_by-append (λ x. cond (eqb x d) 1 0) a (b ++ (e ++ (f ++ (g ++ h))))
-    ∙ ap (λ n. times d a + n) (sum_by-append (λ x. cond (eqb x d) 1 0) b (e ++ (f ++ (g ++ h)))
-    ∙ ap (λ n. times d b + n) (sum_by-append (λ x. cond (eqb x d) 1 0) e (f ++ (g ++ h))
-    ∙ ap (λ n. times d e + n) (sum_by-append (λ x. cond (eqb x d) 1 0) f (g ++ h)
-    ∙ ap (λ n. times d f + n) (sum_by-append (λ x. cond (eqb x d) 1 0) g h))))
+    simp (sum_by-append (λ x. cond {A = ℕ} (eqb x d) 1 0))
 
--- three blocks of darts make up all of them
-three_blocks : (d a b c m : ℕ) (t : Bool) → a + b + c ≡ m
-    → cond {A = ℕ} (in_block 0 a d && t) 1 0 + (cond {A = ℕ} (in_block a b d && t) 1 0 + cond {A = ℕ} (in_block (a + b) c d && t) 1 0) ≡ cond
-    {A = ℕ}
-    (ltb d (2 * m) && t) 1 0
-three_blocks d a b c m t sum = by_case (cases_lt d (2 * a)) (cases_lt d (2 * (a + b))) (cases_lt d (2 * m))
-  where
-    joined : (x y z w : Bool) → in_block 0 a d ≡ x → in_block a b d ≡ y → in_block (a + b) c d ≡ z → ltb d (2 * m) ≡ w
-        → cond {A = ℕ} (x && t) 1 0 + (cond {A = ℕ} (y && t) 1 0 + cond {A = ℕ} (z && t) 1 0) ≡ cond {A = ℕ} (w && t) 1 0
-        → cond {A = ℕ} (in_block 0 a d && t) 1 0 + (cond {A = ℕ} (in_block a b d && t) 1 0 + cond {A = ℕ} (in_block (a + b) c d && t) 1 0) ≡
-        cond {A = ℕ} (ltb d (2 * m) && t) 1 0
-    joined x y z w p q r s h =
-        let p' = ap (λ v. cond {A = ℕ} (v && t) 1 0) p in
-        let q' = ap (λ v. cond {A = ℕ} (v && t) 1 0) q in
-        let r' = ap (λ v. cond {A = ℕ} (v && t) 1 0) r in
-        let s' = ap (λ v. cond {A = ℕ} (v && t) 1 0) s in
-        omega arith
-
-    by_case : (d < 2 * a) ⊎ (2 * a ≤ d) → (d < 2 * (a + b)) ⊎ (2 * (a + b) ≤ d) → (d < 2 * m) ⊎ (2 * m ≤ d)
-        → cond {A = ℕ} (in_block 0 a d && t) 1 0 + (cond {A = ℕ} (in_block a b d && t) 1 0 + cond {A = ℕ} (in_block (a + b) c d && t) 1 0) ≡
-        cond {A = ℕ} (ltb d (2 * m) && t) 1 0
-    by_case (inl p) q r =
-        joined true false false true (in_block-yes 0 a d (omega arith) (omega arith)) (in_block-before a b d p)
-        (in_block-before (a + b) c d (omega arith)) (lt-ltb d (2 * m) (omega arith)) (omega arith)
-    by_case (inr p) (inl q) r =
-        joined false true false true (in_block-behind 0 a d (omega arith)) (in_block-yes a b d p q) (in_block-before (a + b) c d q)
-        (lt-ltb d (2 * m) (omega arith)) (omega arith)
-    by_case (inr p) (inr q) (inl r) =
-        joined false false true true (in_block-behind 0 a d (omega arith)) (in_block-behind a b d q) (in_block-yes (a + b) c d q (omega arith))
-        (lt-ltb d (2 * m) r) (omega arith)
-    by_case (inr p) (inr q) (inr r) =
-        joined false false false false (in_block-behind 0 a d (omega arith)) (in_block-behind a b d q) (in_block-behind (a + b) c d (omega arith))
-        (le-ltb d (2 * m) r) (omega arith)
+-- the blocks of the three steps make up all darts
+all_blocks : (d a b m : ℕ) (t : Bool) → a ≤ b → b ≤ m
+    → cond {A = ℕ} (in_block 0 a d && t) 1 0 + (cond {A = ℕ} (in_block a b d && t) 1 0 + cond {A = ℕ} (in_block b m d && t) 1 0)
+    ≡ cond {A = ℕ} (ltb d (2 * m) && t) 1 0
+all_blocks d a b m t p q =
+    ap (λ n. cond {A = ℕ} (in_block 0 a d && t) 1 0 + n) (blocks_joined a b m d t p q)
+    ∙ blocks_joined 0 a m d t (omega arith) (omega arith)
+    ∙ ap (λ u. cond {A = ℕ} ((u && ltb d (2 * m)) && t) 1 0) (le-leb (2 * 0) d (omega arith))
 
 module _ (kind : Kind) (R C : ℕ) (size : IsSize kind R C) (js : List ℤ) where
   -- the darts of the table at spin (r, c) are those that leave it
@@ -96,27 +65,20 @@ module _ (kind : Kind) (R C : ℕ) (size : IsSize kind R C) (js : List ℤ) wher
       let north_west' =
       count_back (leb 1 r && leb 1 c) (has_bond kind SouthEast R C (r - 1) (c - 1)) (2 * bond_number kind SouthEast R C (r - 1) (c - 1) + 1) d in
       let west' = count_west kind R C r c d in
-      let across = count_step East r c d a b in
-      let down = count_step South r c d a b in
-      let diagonal = count_step SouthEast r c d a b in
+      let across = step_count (grid_step kind East R C size) (step_laid kind R C size js East) r c d a b in
+      let down = step_count (grid_step kind South R C size) (step_laid kind R C size js South) r c d a b in
+      let diagonal = step_count (grid_step kind SouthEast R C size) (step_laid kind R C size js SouthEast) r c d a b in
       let blocks =
-      three_blocks d (step_total kind East R C) (step_total kind South R C) (step_total kind SouthEast R C) (bond_count (lattice kind R C js))
-      (eqb (tail (lattice kind R C js) d) (r * C + c)) (all_total kind R C ∙ sym (bond_count_is kind R C size js)) in
+      all_blocks d (step_end kind East R C) (step_end kind South R C) (step_end kind SouthEast R C) (eqb (tail (lattice kind R C js) d) (r * C + c))
+      (omega arith) (omega arith)
+      ∙ ap (λ m. cond {A = ℕ} (ltb d (2 * m) && eqb (tail (lattice kind R C js) d) (r * C + c)) 1 0)
+      (all_total kind R C ∙ sym (bond_count_is kind R C size js)) in
       count_six d (east kind R C r c) (north kind R C r c) (north_west kind R C r c) (west kind R C r c) (south kind R C r c) (south_east kind R C r c)
-      ∙ sums _ _ _ _ _ _ _ _ _ _ _ _ _ _ _ _ east' north' north_west' west' south' south_east' across down diagonal blocks
+      ∙ sums east' north' north_west' west' south' south_east' across down diagonal blocks
     where
-      count_step : (step : Step) (r c d : ℕ) → r < R → c < C
-          → cond {A = ℕ} (has_bond kind step R C r c && eqb (2 * bond_number kind step R C r c) d) 1 0
-          + cond {A = ℕ} (comes kind step R C r c && eqb (2 * bond_number kind step R C (source_row step r c) (source_col kind step C r c) + 1) d) 1 0
-          ≡ cond {A = ℕ} (in_block (step_base kind step R C) (step_total kind step R C) d && eqb (tail (lattice kind R C js) d) (r * C + c)) 1 0
-      count_step step r c d a b =
-          step_count (lattice kind R C js) R C (step_base kind step R C) (step_total kind step R C) (has_bond kind step R C)
-          (bond_number kind step R C) (end_row step) (end_col kind step C) (comes kind step R C) (source_row step) (source_col kind step C)
-          (grid_step kind step R C size) (step_laid kind R C size js step) r c d a b
-
-      sums : (e n nw w s se e' n' nw' w' s' se' x y z all : ℕ) → e ≡ e' → n ≡ n' → nw ≡ nw' → w ≡ w' → s ≡ s' → se ≡ se' →
+      sums : {e n nw w s se e' n' nw' w' s' se' x y z all : ℕ} → e ≡ e' → n ≡ n' → nw ≡ nw' → w ≡ w' → s ≡ s' → se ≡ se' →
           e' + w' ≡ x → s' + n' ≡ y → se' + nw' ≡ z → x + (y + z) ≡ all → e + (n + (nw + (w + (s + se)))) ≡ all
-      sums e n nw w s se e' n' nw' w' s' se' x y z all p1 p2 p3 p4 p5 p6 q1 q2 q3 total = omega arith
+      sums p1 p2 p3 p4 p5 p6 q1 q2 q3 total = omega arith
 
   -- the darts of the tables are a rotation
   pub lattice_rotation : IsRotation (lattice kind R C js)
@@ -130,5 +92,5 @@ module _ (kind : Kind) (R C : ℕ) (size : IsSize kind R C) (js : List ℤ) wher
           let at : darts_of (lattice kind R C js) i ≡ darts kind R C (i / C) (i % C) =
           get_or-map-range_with_len (λ i. darts kind R C (i / C) (i % C)) 0 (R * C) i i [] l (omega arith) in
           ap (times d) at
-          ∙ darts_once (i / C) (i % C) d (row_below R C i (some_cols kind R C size) l) (mod_below i C (some_cols kind R C size))
+          ∙ darts_once (i / C) (i % C) d (div_below i C R (some_cols kind R C size) l) (mod_below i C (some_cols kind R C size))
           ∙ ap (λ k. cond {A = ℕ} (is_dart_of (lattice kind R C js) k d) 1 0) (div-add-mod' i C)

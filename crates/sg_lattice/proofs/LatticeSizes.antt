@@ -1,12 +1,11 @@
 -- The seam of a lattice, and how large its numbers get.
-use Rattle.std.proofs.Common.{◌≡◌, ◌≢◌, ◌⊎◌, inl, inr, ℕ, ℤ, zero, suc, ◌+◌, ◌-◌, ◌*◌, ◌/◌, ◌%◌, ◌<◌, ◌≤◌, ◌^◌, Bool, true, false, cond, eqb, List, [], length, get_or, map, count_by, refl, sym, ◌∙◌, ap, ap₂, arith, All}
+use Rattle.std.proofs.Common.{◌≡◌, ℕ, ℤ, ◌+◌, ◌-◌, ◌*◌, ◌/◌, ◌%◌, ◌<◌, ◌≤◌, ◌^◌, Bool, true, false, cond, eqb, List, length, get_or, map, sym, ◌∙◌, ap₂, arith, All}
 use Rattle.std.specs.Prelude.{unsigned_abs}
 use Rattle.std.specs.List.{range_with_len}
-use Rattle.std.proofs.lemmas.Bool.{cases_eq, eq-eqb, ne_eqb}
 use Rattle.std.proofs.lemmas.Nat.{mul-add-lt, mul-le, same_from_place}
-use Rattle.std.proofs.lemmas.List.Elements.{All-from_get_or}
-use Rattle.std.proofs.lemmas.List.Sums.{sum_by_push}
-use Rattle.std.proofs.lemmas.List.FromFn.{get_or-map-range_with_len, length-map-range_with_len, map-range_with_len_more}
+use Rattle.std.proofs.lemmas.List.Elements.{All-from_get_or, All-nil}
+use Rattle.std.proofs.lemmas.List.FromFn.{get_or-map-range_with_len, length-map-range_with_len}
+use Rattle.sg_sums.proofs.Tallies.{times_once}
 use Rattle.sg_model.specs.declared.bond.Bond.{Bond}
 use Rattle.sg_model.specs.Ising.{Ising, bond_count}
 use Rattle.sg_model.specs.Rotation.{IsRotation}
@@ -22,66 +21,31 @@ use Rattle.sg_lattice.proofs.LatticeRotation.{lattice_rotation}
 abbrev pub whole : ℕ → List Bond → List (List ℕ) → List ℕ → Ising
 whole n bonds rotation seam = record { n = n; bonds = bonds; rotation = rotation; seam = seam }
 
-module _ (f : ℕ → ℕ) where
-  absent : (n x : ℕ) → ((i : ℕ) → i < n → f i ≢ x) → count_by (λ y. eqb y x) (map f (range_with_len 0 n)) ≡ 0
-  absent zero x apart = refl
-  absent (suc n) x apart =
-      let e : n + 1 ≡ suc n = omega arith in
-      let more : count_by (λ y. eqb y x) (map f (range_with_len 0 (suc n))) ≡ count_by (λ y. eqb y x) (map f (range_with_len 0 n)) + cond (eqb (f n) x)
-      1 0 =
-      ap (λ k. count_by (λ y. eqb y x) (map f (range_with_len 0 k))) (sym e)
-      ∙ ap (count_by (λ y. eqb y x)) (map-range_with_len_more f 0 n n (omega arith))
-      ∙ sum_by_push (λ y. cond (eqb y x) 1 0) (map f (range_with_len 0 n)) (f n) in
-      let here : cond {A = ℕ} (eqb (f n) x) 1 0 ≡ 0 = ap (λ t. cond {A = ℕ} t 1 0) (ne_eqb (f n) x (apart n (omega arith))) in
-      omega (arith, absent n x (λ i l. apart i (omega arith)))
+-- on a cylinder the bonds that run from the last column to the first
+abbrev round : ℕ → ℕ → List ℕ
+round R C = map (λ r. r * C + (C - 1)) (range_with_len 0 R)
 
-  -- different numbers of different places
-  distinct_from_fn : ((i k : ℕ) → i < k → f i ≢ f k) → (n x : ℕ) → count_by (λ y. eqb y x) (map f (range_with_len 0 n)) ≤ 1
-  distinct_from_fn apart zero x = omega arith
-  distinct_from_fn apart (suc n) x = by_case (cases_eq (f n) x) (distinct_from_fn apart n x)
-    where
-      e : n + 1 ≡ suc n
-      e = omega arith
+module _ (R C : ℕ) (some : 1 ≤ C) where
+  round_at : (j : ℕ) → j < length (round R C) → (j < R) × (get_or (round R C) j 0 ≡ j * C + (C - 1))
+  round_at j b =
+      let l : j < R = omega (arith, length-map-range_with_len (λ r. r * C + (C - 1)) 0 R) in
+      (l, get_or-map-range_with_len (λ r. r * C + (C - 1)) 0 R j j 0 l (omega arith))
 
-      more : count_by (λ y. eqb y x) (map f (range_with_len 0 (suc n))) ≡ count_by (λ y. eqb y x) (map f (range_with_len 0 n)) + cond (eqb (f n) x) 1 0
-      more =
-          ap (λ k. count_by (λ y. eqb y x) (map f (range_with_len 0 k))) (sym e)
-          ∙ ap (count_by (λ y. eqb y x)) (map-range_with_len_more f 0 n n (omega arith))
-          ∙ sum_by_push (λ y. cond (eqb y x) 1 0) (map f (range_with_len 0 n)) (f n)
-
-      by_case : (f n ≡ x) ⊎ (f n ≡ x → ⊥) → count_by (λ y. eqb y x) (map f (range_with_len 0 n)) ≤ 1 →
-          count_by (λ y. eqb y x) (map f (range_with_len 0 (suc n))) ≤ 1
-      by_case (inl same) most =
-          let none : count_by (λ y. eqb y x) (map f (range_with_len 0 n)) ≡ 0 = absent n x (λ i l p. apart i n l (p ∙ sym same)) in
-          let one : cond {A = ℕ} (eqb (f n) x) 1 0 ≡ 1 = ap (λ t. cond {A = ℕ} t 1 0) (eq-eqb (f n) x same) in
-          omega (arith, more)
-      by_case (inr other) most =
-          let here : cond {A = ℕ} (eqb (f n) x) 1 0 ≡ 0 = ap (λ t. cond {A = ℕ} t 1 0) (ne_eqb (f n) x other) in
-          omega (arith, more)
-
-round_seam : (R C : ℕ) → 1 ≤ C → (m : ℕ) → R * C ≤ m
-    → All (λ k. k < m) (map (λ r. r * C + (C - 1)) (range_with_len 0 R)) ×
-    ((x : ℕ) → count_by (λ y. eqb y x) (map (λ r. r * C + (C - 1)) (range_with_len 0 R)) ≤ 1)
-round_seam R C some m few = (
-  All-from_get_or (λ k. k < m) (map (λ r. r * C + (C - 1)) (range_with_len 0 R)) 0 below,
-  distinct_from_fn (λ r. r * C + (C - 1)) apart R,
-)
-  where
-    below : (j : ℕ) → j < length (map (λ r. r * C + (C - 1)) (range_with_len 0 R)) → get_or (map (λ r. r * C + (C - 1)) (range_with_len 0 R)) j 0 < m
-    below j b =
-        let l : j < R = omega (arith, length-map-range_with_len (λ r. r * C + (C - 1)) 0 R) in
-        omega (arith, get_or-map-range_with_len (λ r. r * C + (C - 1)) 0 R j j 0 l (omega arith), mul-add-lt j C (C - 1) R l (omega arith))
-
-    apart : (i k : ℕ) → i < k → i * C + (C - 1) ≢ k * C + (C - 1)
-    apart i k l e = let same : (i ≡ k) × (C - 1 ≡ C - 1) = same_from_place i (C - 1) k (C - 1) C (omega arith) (omega arith) e in omega (arith, same.0)
+  round_apart : (i k : ℕ) → i < length (round R C) → k < length (round R C) → get_or (round R C) i 0 ≡ get_or (round R C) k 0 → i ≡ k
+  round_apart i k a b e =
+      (same_from_place i (C - 1) k (C - 1) C (omega arith) (omega arith) (sym (round_at i a).1 ∙ e ∙ (round_at k b).1)).0
 
 -- the seam is one
 pub lattice_seam : (kind : Kind) (R C : ℕ) → IsSize kind R C → (js : List ℤ) → IsSeam (lattice kind R C js)
 lattice_seam Cylinder R C size js =
-    let parts = round_seam R C (some_cols Cylinder R C size) (bond_count (lattice Cylinder R C js)) (omega (arith, bond_count_is Cylinder R C size js)) in
-    record { below = parts.0; distinct = parts.1 }
+    let some = some_cols Cylinder R C size in
+    record {
+      below = All-from_get_or (λ k. k < bond_count (lattice Cylinder R C js)) (round R C) 0 (λ j b.
+          let at = round_at R C some j b in omega (arith, at.1, bond_count_is Cylinder R C size js, mul-add-lt j C (C - 1) R at.0 (omega arith)));
+      distinct = λ x. times_once (λ k. k) x (round R C) 0 (round_apart R C some);
+    }
 lattice_seam kind R C size js = record {
-  below = All-from_get_or (λ k. k < bond_count (lattice kind R C js)) [] 0 (λ j b. absurd (omega arith));
+  below = All-nil (λ k. k < bond_count (lattice kind R C js));
   distinct = λ x. omega arith;
 }
 
@@ -108,14 +72,9 @@ half_rows_few R C some = omega (arith, mul-le ((R - 1) / 2) C R C (omega arith) 
 pub few_bonds : (kind : Kind) (R C : ℕ) → IsSize kind R C → bond_total kind R C ≤ 2 ^ 24
 few_bonds Square R C size = omega (arith, size.few, mul-le R (C - 1) R C (omega arith) (omega arith), mul-le (R - 1) C R C (omega arith) (omega arith))
 few_bonds Triangular R C size =
-    omega (
-      arith,
-      size.few,
-      mul-le R (C - 1) R C (omega arith) (omega arith),
-      mul-le (R - 1) C R C (omega arith) (omega arith),
-      mul-le (R - 1)
-          (C - 1) R C (omega arith) (omega arith),
-    )
+    let one = mul-le R (C - 1) R C (omega arith) (omega arith) in
+    let two = mul-le (R - 1) C R C (omega arith) (omega arith) in
+    omega (arith, size.few, one, two, mul-le (R - 1) (C - 1) R C (omega arith) (omega arith))
 few_bonds Hexagonal R C size =
     omega (arith, size.few, few_cols Hexagonal R C size, mul-le R (C - 1) R C (omega arith) (omega arith), half_rows_few R C size.rows)
 few_bonds Cylinder R C size = omega (arith, size.few, mul-le (R - 1) C R C (omega arith) (omega arith))

@@ -1,10 +1,8 @@
 pub mod Ranks
 pub mod CoupledBonds
-pub mod Grids
-pub mod Laid
 pub mod Steps
-pub mod Counts
 pub mod KindSteps
 pub mod LatticeBonds
+pub mod Laid
 pub mod LatticeRotation
 pub mod LatticeSizes

@@ -1,33 +1,31 @@
 -- Graphs drawn on a surface: a cut of the nodes and a cut of the faces meet in an even number of edges (Heffter 1891).
-use Rattle.std.proofs.Common.{inl, inr, ap₂, ◌≡◌, ◌⊎◌, ℕ, zero, suc, ◌+◌, ◌*◌, ◌<◌, Bool, true, false, not, ◌&&◌, ◌||◌, eqb, List, refl, sym, ◌∙◌, ap, arith, All}
-use Rattle.std.specs.List.{range_with_len}
-use Rattle.std.proofs.lemmas.Bool.{eq-eqb, eqb-true, or_left, or_right, or_cases, and_parts, and_from, cases_Bool, true≢false, false_from_ne_true, cases_eq}
-use Rattle.sg_sums.specs.Parity.{xor, parity_below}
-use Rattle.sg_sums.specs.Ends.{EndsBelow}
+use Rattle.std.proofs.Common.{inl, inr, ap₂, ◌≡◌, ◌⊎◌, ℕ, ◌+◌, ◌*◌, ◌<◌, Bool, true, false, not, ◌&&◌, eqb, List, refl, sym, ◌∙◌, ap, arith, All, get_or, length}
+use Rattle.std.proofs.lemmas.Bool.{eq-eqb, eqb-true, and_parts, and_from, cases_Bool, true≢false, false_from_ne_true}
+use Rattle.std.proofs.lemmas.List.Folds.{list_any_at}
+use Rattle.std.proofs.lemmas.List.FromFn.{get_or-range_with_len, length-range_with_len}
+use Rattle.std.specs.List.{range_with_len, list_any}
+use Rattle.sg_model.proofs.DartPairs.{dart_cases}
+use Rattle.sg_planar.proofs.SpanningTrees.{Reaches}
+use Rattle.sg_sums.proofs.ListLaws.{place_of_any}
 use Rattle.sg_sums.proofs.ParityLaws.{xor_self, parity_below-same, parity_below-xor}
 use Rattle.sg_sums.proofs.Recounting.{All_range}
-use Rattle.sg_model.proofs.DartPairs.{dart_cases}
-use Rattle.sg_planar.proofs.GrowingSets.{Reaches}
+use Rattle.sg_sums.specs.Ends.{EndsBelow}
+use Rattle.sg_sums.specs.Parity.{xor, parity_below}
 
--- ---- some number below n
+-- some number below n passes
+abbrev any_below : (ℕ → Bool) → ℕ → Bool
+any_below p n = list_any p (range_with_len 0 n)
 
-abbrev pub any_below : (ℕ → Bool) → ℕ → Bool
-any_below p zero = false
-any_below p (suc n) = p n || any_below p n
+at_number : (n k : ℕ) → k < n → get_or (range_with_len 0 n) k 0 ≡ k
+at_number n k l = get_or-range_with_len 0 n k 0 l ∙ omega arith
 
 any_below_at : (p : ℕ → Bool) (k n : ℕ) → k < n → p k ≡ true → any_below p n ≡ true
-any_below_at p k zero l h = absurd (omega arith)
-any_below_at p k (suc n) l h = elim (cases_eq k n) [
-  | inl e ↦ or_left (p n) (any_below p n) (ap p (sym e) ∙ h)
-  | inr ne ↦ or_right (p n) (any_below p n) (any_below_at p k n (omega arith) h)
-]
+any_below_at p k n l h = list_any_at p (range_with_len 0 n) k 0 (omega (arith, l, length-range_with_len 0 n)) (ap p (at_number n k l) ∙ h)
 
 any_below_has : (p : ℕ → Bool) (n : ℕ) → any_below p n ≡ true → (k : ℕ) × (k < n) × (p k ≡ true)
-any_below_has p zero h = absurd (true≢false (sym h))
-any_below_has p (suc n) h = elim (or_cases (p n) (any_below p n) h) [
-  | inl here ↦ (n, omega arith, here)
-  | inr there ↦ let r : (k : ℕ) × (k < n) × (p k ≡ true) = any_below_has p n there in (r.0, omega (arith, r.1), r.2)
-]
+any_below_has p n h =
+    let r : (i : ℕ) × (i < length (range_with_len 0 n)) × (p (get_or (range_with_len 0 n) i 0) ≡ true) = place_of_any p (range_with_len 0 n) 0 h in
+    let l : r.0 < n = omega (arith, r.1, length-range_with_len 0 n) in (r.0, l, ap p (sym (at_number n r.0 l)) ∙ r.2)
 
 -- the root alone
 abbrev pub root : ℕ → Bool

@@ -1,11 +1,12 @@
--- Planar duality over the definitions: a list of bonds that fits the faces is the list of broken bonds of an assignment.
-use Rattle.std.proofs.Common.{inl, inr, ap₂, ◌≡◌, ℕ, ◌+◌, ◌*◌, ◌/◌, ◌%◌, ◌<◌, ℤ, pos, Bool, true, false, cond, ◌&&◌, eqb, List, refl, sym, ◌∙◌, ap, arith, get_or}
+-- Planar duality over the definitions: a list of bonds that fits the faces is the list of broken bonds of an assignment; and it
+-- fits where on each face an even number of sides belong to bonds that are to join unlike spins.
+use Rattle.std.proofs.Common.{inl, inr, ap₂, ◌≡◌, ℕ, ◌+◌, ◌*◌, ◌/◌, ◌%◌, ◌<◌, ℤ, pos, Bool, true, false, cond, ◌&&◌, eqb, List, refl, sym, ◌∙◌, ap, arith, get_or, length, ◌↔◌}
 use Rattle.std.specs.List.{range_with_len}
 use Rattle.std.proofs.lemmas.Bool.{cases_eq}
 use Rattle.sg_sums.specs.Parity.{xor, odd, parity_below}
-use Rattle.sg_sums.specs.Sets.{holds}
+use Rattle.sg_sums.specs.Sets.{holds, is_marked}
 use Rattle.sg_sums.specs.Ends.{is_end}
-use Rattle.sg_sums.proofs.ParityLaws.{and-xor, parity_below-same, parity_below-xor, odd_is, odd-count_by}
+use Rattle.sg_sums.proofs.ParityLaws.{and-xor, parity_below-same, parity_below-xor, odd_is, odd-count_by, xor_cancel}
 use Rattle.sg_sums.proofs.Ranges.{parity_by_range}
 use Rattle.sg_sums.proofs.Recounting.{parity_below_by_pairs}
 use Rattle.sg_model.specs.Ising.{Ising, IsBond, bond_at, bond_count}
@@ -27,6 +28,7 @@ use Rattle.sg_planar.proofs.PlanarDuality.{planar_duality, CutBy}
 use Rattle.sg_planar.proofs.FaceNumbers.{AreFaceNumbers, labels_number}
 use Rattle.sg_planar.proofs.RotationSums.{numbered_embedding, spins_connected}
 use Rattle.sg_planar.proofs.EulerBounds.{connected_sum}
+use Rattle.sg_planar.specs.Sides.{is_marked_side}
 
 -- the face on the side of dart d
 abbrev pub face_at : Labelling → ℕ → ℕ
@@ -69,6 +71,50 @@ xor-and x y e = grind arith
 undone : (x y : Bool) → xor x (xor x y) ≡ y
 undone x y = grind arith
 
+module _ (inst : Ising) (faces : Labelling) (list : List ℕ) where
+  abbrev negative : ℕ → Bool
+  negative k = is_negative (bond_at inst k)
+
+  -- one end and not both of the dual edge of bond k is face f
+  abbrev meets : ℕ → ℕ → Bool
+  meets f k = is_end (face_at faces (2 * k)) (face_at faces (2 * k + 1)) f
+
+  -- the bonds that are to join unlike spins, by the negative bonds and those of the list
+  unlike_parity : (f : ℕ) → parity_below (λ k. is_unlike inst list k && meets f k) (bond_count inst) ≡
+      xor (odd (sides_on inst faces f negative)) (odd (sides_on inst faces f (holds list)))
+  unlike_parity f =
+      parity_below-same (λ k. is_unlike inst list k && meets f k) (λ k. xor (negative k && meets f k) (holds list k && meets f k)) (bond_count inst)
+      (λ k l. xor-and (negative k) (holds list k) (meets f k))
+      ∙ parity_below-xor (λ k. negative k && meets f k) (λ k. holds list k && meets f k) (bond_count inst)
+      ∙ ap₂ xor (sym (sides_parity inst faces f negative)) (sym (sides_parity inst faces f (holds list)))
+
+  -- the test that no face has an odd number of sides that are to join unlike spins
+  module _ (marks : List Bool) (marked : (k : ℕ) → k < bond_count inst → is_marked marks k ≡ is_unlike inst list k) where
+    face_parity : (f : ℕ) → parity_below (is_marked_side faces marks f) (dart_count inst) ≡
+        xor (odd (sides_on inst faces f negative)) (odd (sides_on inst faces f (holds list)))
+    face_parity f =
+        sym (parity_by_range (is_marked_side faces marks f) (dart_count inst))
+        ∙ sym (odd-count_by (is_marked_side faces marks f) (range_with_len 0 (dart_count inst)))
+        ∙ sides_parity inst faces f (is_marked marks)
+        ∙ parity_below-same (λ k. is_marked marks k && meets f k) (λ k. is_unlike inst list k && meets f k) (bond_count inst)
+        (λ k l. ap (λ b. b && meets f k) (marked k l))
+        ∙ unlike_parity f
+
+    pub fits_tested : (odds lent : List Bool) (result : Bool) → lent ≡ odds → length lent ≡ faces.count →
+        ((f : ℕ) → f < faces.count → is_marked odds f ≡ parity_below (is_marked_side faces marks f) (dart_count inst)) →
+        ((result ≡ true) ↔ ((i : ℕ) → i < length lent → is_marked lent i ≡ false)) → (result ≡ true) ↔ FitsFaces inst faces list
+    fits_tested odds lent result same room counted test = (
+      λ yes' f l. back (sides_on inst faces f negative) (sides_on inst faces f (holds list)) (sym (at f l) ∙ test.0 yes' f (omega arith)),
+      λ fits. test.1 (λ i l. at i (omega arith)
+          ∙ same_parity (sides_on inst faces i negative) (sides_on inst faces i (holds list)) (sym (fits i (omega arith)))),
+    )
+      where
+        at : (f : ℕ) → f < faces.count → is_marked lent f ≡ xor (odd (sides_on inst faces f negative)) (odd (sides_on inst faces f (holds list)))
+        at f l = ap (λ ms. is_marked ms f) same ∙ counted f l ∙ face_parity f
+
+        back : (a b : ℕ) → xor (odd a) (odd b) ≡ false → b % 2 ≡ a % 2
+        back a b e = odd_is b ∙ ap (λ x. cond {A = ℕ} x 1 0) (sym (xor_cancel (odd a) (odd b) e)) ∙ sym (odd_is a)
+
 module _ (inst : Ising) (good : IsInstance inst) where
   -- an assignment that is down where the ends ask for it breaks the bonds of the list and no others
   pub breaks_from_follows : (list : List ℕ) (down : ℕ → Bool) → FollowsBonds inst (is_unlike inst list) down →
@@ -82,24 +128,11 @@ module _ (inst : Ising) (good : IsInstance inst) where
 
   module _ (faces : Labelling) (labels : IsFaceLabels inst faces) (connected : IsConnected inst) (genus_zero : IsEuler inst (pos 2))
       (list : List ℕ) (fits : FitsFaces inst faces list) where
-    abbrev near : ℕ → ℕ
-    near k = face_at faces (2 * k)
-
-    abbrev far : ℕ → ℕ
-    far k = face_at faces (2 * k + 1)
-
-    abbrev negative : ℕ → Bool
-    negative k = is_negative (bond_at inst k)
-
     -- the bonds that are to join unlike spins are even on each face
-    even_on_faces : (f : ℕ) → f < faces.count → parity_below (λ k. is_unlike inst list k && is_end (near k) (far k) f) (bond_count inst) ≡ false
+    even_on_faces : (f : ℕ) → f < faces.count → parity_below (λ k. is_unlike inst list k && meets inst faces list f k) (bond_count inst) ≡ false
     even_on_faces f b =
-        parity_below-same (λ k. is_unlike inst list k && is_end (near k) (far k) f)
-        (λ k. xor (negative k && is_end (near k) (far k) f) (holds list k && is_end (near k) (far k) f)) (bond_count inst)
-        (λ k l. xor-and (negative k) (holds list k) (is_end (near k) (far k) f))
-        ∙ parity_below-xor (λ k. negative k && is_end (near k) (far k) f) (λ k. holds list k && is_end (near k) (far k) f) (bond_count inst)
-        ∙ ap₂ xor (sym (sides_parity inst faces f negative)) (sym (sides_parity inst faces f (holds list)))
-        ∙ same_parity (sides_on inst faces f negative) (sides_on inst faces f (holds list)) (sym (fits f b))
+        unlike_parity inst faces list f
+        ∙ same_parity (sides_on inst faces f (negative inst faces list)) (sides_on inst faces f (holds list)) (sym (fits f b))
 
     -- so some assignment breaks exactly the bonds of the list
     pub fitting_follows : (down : ℕ → Bool) × FollowsBonds inst (is_unlike inst list) down

@@ -1,29 +1,28 @@
 -- A walk over the bonds gives each spin the value that every assignment which follows the bonds has there.
-use Rattle.std.proofs.Common.{inl, inr, ap₂, subst, ◌≡◌, ◌⊎◌, ℕ, ◌+◌, ◌*◌, ◌/◌, ◌<◌, ◌≤◌, pos, Bool, true, false, not, List, map, set, take, refl, sym, ◌∙◌, ap, arith, All, length, get_or, eqb}
-use Rattle.std.specs.List.Sorted.{IsStrictlyIncreasing}
+use Rattle.std.proofs.Common.{inl, inr, ap₂, subst, ◌≡◌, ℕ, ◌+◌, ◌/◌, ◌<◌, ◌≤◌, pos, Bool, true, false, not, List, map, set, take, refl, sym, ◌∙◌, ap, arith, All, length, get_or, eqb, ◌%◌}
 use Rattle.std.proofs.Math.Bool.{beq}
 use Rattle.std.proofs.lemmas.Bool.{cases_eq}
 use Rattle.std.proofs.lemmas.List.{length-set, length-map, get_or-map, get_or-set_same, get_or-set_other}
 use Rattle.std.proofs.lemmas.List.Elements.{All-more, All-weaker, All-from_get_or}
-use Rattle.sg_sums.specs.Parity.{xor, parity_by}
-use Rattle.sg_sums.specs.Sets.{is_marked, Stands}
-use Rattle.sg_sums.proofs.RisingLists.{parity_of_rising}
+use Rattle.std.specs.List.Sorted.{IsStrictlyIncreasing}
+use Rattle.sg_model.proofs.BrokenParity.{is_down}
+use Rattle.sg_model.proofs.Darts.{tail_even, tail_odd, head_even, head_odd}
+use Rattle.sg_model.proofs.Paths.{dart_of_step}
+use Rattle.sg_model.proofs.Rotations.{place_at}
+use Rattle.sg_model.specs.Broken.{is_negative}
+use Rattle.sg_model.specs.Connected.{IsConnected, all_bonds}
 use Rattle.sg_model.specs.Ising.{Ising, bond_at, bond_count}
 use Rattle.sg_model.specs.Rotation.{dart_count, darts_of, head_of, tail}
-use Rattle.sg_model.specs.WellFormed.{IsInstance}
-use Rattle.sg_model.specs.Connected.{IsConnected, all_bonds}
 use Rattle.sg_model.specs.Spins.{IsAssignment, IsUpOrDown, spin}
-use Rattle.sg_model.specs.Broken.{is_negative}
-use Rattle.sg_model.proofs.Darts.{tail_first, tail_second, rev_first, rev_second}
-use Rattle.sg_model.proofs.DartPairs.{dart_cases}
-use Rattle.sg_model.proofs.Rotations.{place_at}
-use Rattle.sg_model.proofs.Paths.{dart_of_step}
-use Rattle.sg_model.proofs.BrokenParity.{is_down}
-use Rattle.sg_walk.specs.Walk.{IsFoundFrom}
-use Rattle.sg_planar.specs.BrokenLists.{BreaksExactly, FitsFaces}
-use Rattle.sg_planar.specs.Following.{is_unlike, FollowsBonds, value_of, IsWalkOrder, IsRight, HeadsRight, SetsHeads, HeadsSet, SetTo, TellsDown}
-use Rattle.sg_planar.specs.Fit.{Embedding, IsPlanar}
+use Rattle.sg_model.specs.WellFormed.{IsInstance}
 use Rattle.sg_planar.proofs.FittingBonds.{breaks_from_follows, fitting_follows}
+use Rattle.sg_planar.specs.BrokenLists.{BreaksExactly, FitsFaces}
+use Rattle.sg_planar.specs.Fit.{Embedding, IsPlanar}
+use Rattle.sg_planar.specs.Following.{is_unlike, FollowsBonds, value_of, IsWalkOrder, IsRight, HeadsRight, SetsHeads, HeadsSet, SetTo, TellsDown}
+use Rattle.sg_sums.proofs.RisingLists.{parity_of_rising}
+use Rattle.sg_sums.specs.Parity.{xor, parity_by}
+use Rattle.sg_sums.specs.Sets.{is_marked, Stands}
+use Rattle.sg_walk.specs.Walk.{IsFoundFrom}
 
 -- the marks of the negative bonds, turned at the bonds of the list
 pub unlike_marked : (inst : Ising) (list : List ℕ) → All (λ k. k < bond_count inst) list → IsStrictlyIncreasing list →
@@ -45,27 +44,20 @@ ne_is_xor false false = refl
 -- over a dart the value changes as its bond asks for it
 pub follows_dart : (inst : Ising) (unlike t : ℕ → Bool) → FollowsBonds inst unlike t → (d : ℕ) → d < dart_count inst →
     t (head_of inst d) ≡ xor (t (tail inst d)) (unlike (d / 2))
-follows_dart inst unlike t h d l = by_dart (dart_cases d)
+follows_dart inst unlike t h d l = elim (cases_eq (d % 2) 0) [
+  | inl even ↦
+      ap t (head_even inst d even) ∙ forth (t (bond_at inst (d / 2)).u) (t (bond_at inst (d / 2)).v) (unlike (d / 2)) (h.across (d / 2) (omega arith))
+      ∙ ap (λ x. xor (t x) (unlike (d / 2))) (sym (tail_even inst d even))
+  | inr odd ↦
+      ap t (head_odd inst d odd) ∙ back (t (bond_at inst (d / 2)).u) (t (bond_at inst (d / 2)).v) (unlike (d / 2)) (h.across (d / 2) (omega arith))
+      ∙ ap (λ x. xor (t x) (unlike (d / 2))) (sym (tail_odd inst d odd))
+]
   where
     forth : (a b c : Bool) → c ≡ xor a b → b ≡ xor a c
     forth a b c e = grind arith
 
     back : (a b c : Bool) → c ≡ xor a b → a ≡ xor b c
     back a b c e = grind arith
-
-    by_dart : ((k : ℕ) × ((d ≡ 2 * k) ⊎ (d ≡ 2 * k + 1))) → t (head_of inst d) ≡ xor (t (tail inst d)) (unlike (d / 2))
-    by_dart (k, inl e) =
-        let half : d / 2 ≡ k = omega arith in
-        let there : head_of inst d ≡ (bond_at inst k).v = ap (head_of inst) e ∙ ap (tail inst) (rev_first k) ∙ tail_second inst k in
-        let here : tail inst d ≡ (bond_at inst k).u = ap (tail inst) e ∙ tail_first inst k in
-        ap t there ∙ forth (t (bond_at inst k).u) (t (bond_at inst k).v) (unlike k) (h.across k (omega arith))
-        ∙ ap₂ xor (ap t (sym here)) (ap unlike (sym half))
-    by_dart (k, inr e) =
-        let half : d / 2 ≡ k = omega arith in
-        let there : head_of inst d ≡ (bond_at inst k).u = ap (head_of inst) e ∙ ap (tail inst) (rev_second k) ∙ tail_first inst k in
-        let here : tail inst d ≡ (bond_at inst k).v = ap (tail inst) e ∙ tail_second inst k in
-        ap t there ∙ back (t (bond_at inst k).u) (t (bond_at inst k).v) (unlike k) (h.across k (omega arith))
-        ∙ ap₂ xor (ap t (sym here)) (ap unlike (sym half))
 
 module _ (inst : Ising) (unlike : ℕ → Bool) where
   -- one dart more

@@ -1,5 +1,4 @@
 pub mod OtherCouplings
-pub mod GrowingSets
 pub mod SpanningTrees
 pub mod Embeddings
 pub mod PlanarDuality
@@ -8,16 +7,9 @@ pub mod RotationSums
 pub mod EulerBounds
 pub mod FittingBonds
 pub mod FollowedBonds
-pub mod WalkOrders
-pub mod FaceParities
 pub mod Places
-pub mod PartDarts
-pub mod Followed
-pub mod PartFaces
-pub mod PartWalks
-pub mod PartsByName
-pub mod PartsPlanar
+pub mod RestrictedParts
+pub mod NamedParts
 pub mod DealtNumbers
 pub mod PartPlaces
-pub mod PartsMade
 pub mod OneFitness

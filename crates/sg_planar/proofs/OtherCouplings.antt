@@ -1,28 +1,28 @@
 -- Other couplings on the same bonds leave an instance planar, while their sum stays bounded.
 use Rattle.std.proofs.Common.{◌≡◌, ℕ, ℤ, ◌+◌, ◌^◌, ◌<◌, ◌≤◌, Bool, true, false, cond, pos, List, map, length, refl, sym, ◌∙◌, ap, subst, arith, get_or, set, sum_by, All}
-use Rattle.std.specs.Prelude.{unsigned_abs}
-use Rattle.std.specs.List.{range_with_len}
 use Rattle.std.proofs.lemmas.Int.{ints}
 use Rattle.std.proofs.lemmas.List.{get_or-set_same, length-set}
 use Rattle.std.proofs.lemmas.List.Elements.{All-from_get_or}
 use Rattle.std.proofs.lemmas.List.FromFn.{get_or-map-range_with_len, length-map-range_with_len}
 use Rattle.std.proofs.lemmas.List.Sums.{get_or-le-sum_by, sum_by-set}
-use Rattle.sg_sums.specs.Sums.{sum_below}
-use Rattle.sg_sums.proofs.ListLaws.{sum_by-agree, sum_by-map_of}
-use Rattle.sg_sums.proofs.SumLaws.{sum_by_is_sum_below, sum_below-same}
-use Rattle.sg_model.specs.declared.bond.Bond.{Bond}
-use Rattle.sg_model.specs.Ising.{Ising, bond_at, bond_count}
-use Rattle.sg_model.specs.Energy.{weight}
-use Rattle.sg_sums.specs.Sets.{holds}
-use Rattle.sg_model.specs.Changes.{HasSameDrawing, HasSameEnds, coupled_at, coupled_bonds, flipped_at, negated, opposite, recoupled, with_bonds, with_coupling, with_couplings, with_seam_flipped}
-use Rattle.sg_model.proofs.SameEnds.{recoupled_instance}
-use Rattle.sg_model.proofs.Recoupled.{coupled_at_place, couplings_ends, flipped_ends, negated_ends, coupling_ends}
-use Rattle.sg_model.specs.WellFormed.{IsInstance}
-use Rattle.sg_walk.specs.Naming.{AreComponents}
-use Rattle.sg_walk.proofs.ComponentLaws.{components_same}
+use Rattle.std.specs.List.{range_with_len}
+use Rattle.std.specs.Prelude.{unsigned_abs}
 use Rattle.sg_faces.proofs.SameFaces.{is_euler_same, faces_same}
 use Rattle.sg_limits.specs.Limits.{forced_limit}
-use Rattle.sg_planar.specs.Fit.{Embedding, IsPlanar}
+use Rattle.sg_model.proofs.Recoupled.{coupled_at_place, couplings_ends, flipped_ends, negated_ends, coupling_ends}
+use Rattle.sg_model.proofs.SameEnds.{recoupled_instance}
+use Rattle.sg_model.specs.Changes.{HasSameDrawing, HasSameEnds, coupled_at, coupled_bonds, flipped_at, negated, opposite, recoupled, with_bonds, with_coupling, with_couplings, with_seam_flipped}
+use Rattle.sg_model.specs.Energy.{weight}
+use Rattle.sg_model.specs.Ising.{Ising, bond_at, bond_count}
+use Rattle.sg_model.specs.WellFormed.{IsInstance}
+use Rattle.sg_model.specs.declared.bond.Bond.{Bond}
+use Rattle.sg_planar.specs.Fit.{Embedding, IsPlanar, IsRedrawn}
+use Rattle.sg_sums.proofs.ListLaws.{sum_by-agree, sum_by-map_of}
+use Rattle.sg_sums.proofs.SumLaws.{sum_by_is_sum_below, sum_below-same}
+use Rattle.sg_sums.specs.Sets.{holds}
+use Rattle.sg_sums.specs.Sums.{sum_below}
+use Rattle.sg_walk.proofs.ComponentLaws.{components_same}
+use Rattle.sg_walk.specs.Naming.{AreComponents}
 
 abbrev no_bond : Bond
 no_bond = record { u = 0; v = 0; j = pos 0 }
@@ -80,21 +80,30 @@ coupling_size inst bond z l =
     (omega (arith, length-set inst.bonds bond (recoupled (bond_at inst bond) z))) in
     omega (arith, ap size here, at_most)
 
--- an instance that differs in couplings alone has the same drawing
-pub flipped_drawing : (inst : Ising) → IsInstance inst → HasSameDrawing inst (with_seam_flipped inst)
-flipped_drawing inst good = record { ends = flipped_ends inst good.draft.joined; kept = refl }
+-- the copies of a planar instance with other signs, and with another coupling at one bond
+module _ {p : Embedding} (h : IsPlanar p) {lent copy : Ising} (same : lent ≡ p.instance) where
+  pub flipped_redrawn : copy ≡ with_seam_flipped lent → IsRedrawn p.instance copy
+  flipped_redrawn is = rw (is, same) (record {
+    drawing = record { ends = flipped_ends p.instance h.instance.draft.joined; kept = refl };
+    sum = omega (arith, weight_flipped p.instance, h.sum);
+  })
 
--- and the drawing
-pub negated_drawing : (inst : Ising) → IsInstance inst → HasSameDrawing inst (negated inst)
-negated_drawing inst good = record { ends = negated_ends inst good.draft.joined; kept = refl }
+  pub negated_redrawn : copy ≡ negated lent → IsRedrawn p.instance copy
+  negated_redrawn is = rw (is, same) (record {
+    drawing = record { ends = negated_ends p.instance h.instance.draft.joined; kept = refl };
+    sum = omega (arith, weight_negated p.instance, h.sum);
+  })
 
--- another coupling at one bond leaves the drawing
-pub coupled_drawing : (inst : Ising) (bond : ℕ) (z : ℤ) → IsInstance inst → bond < bond_count inst
-    → weight (with_coupling inst bond z) ≤ forced_limit → HasSameDrawing inst (with_coupling inst bond z)
-coupled_drawing inst bond z good l small = record {
-  ends = coupling_ends inst bond z l good.draft.joined (omega (arith, coupling_size inst bond z l, small));
-  kept = refl;
-}
+  pub coupled_redrawn : {y : ℤ} (bond : ℕ) (z : ℤ) → bond < bond_count p.instance → weight (with_coupling p.instance bond z) ≤ forced_limit →
+      y ≡ z →
+      copy ≡ with_coupling lent bond y → IsRedrawn p.instance copy
+  coupled_redrawn bond z l small value is = rw (is, same, value) (record {
+    drawing = record {
+      ends = coupling_ends p.instance bond z l h.instance.draft.joined (omega (arith, coupling_size p.instance bond z l, small));
+      kept = refl;
+    };
+    sum = small;
+  })
 
 -- couplings whose sum is bounded fit their type
 pub couplings_small : (inst : Ising) (couplings : List ℤ) → length couplings ≡ bond_count inst → weight (with_couplings inst couplings) ≤ forced_limit

@@ -13,8 +13,8 @@ use Rattle.sg_walk.specs.Naming.{AllNamed}
 use Rattle.sg_planar.specs.Parts.{bond_in, dart_in, restricted}
 use Rattle.sg_planar.specs.Splitting.{ArePlaces, IsClosedPart, IsDealt, IsNaming, IsSplit, placed_bond, placed_darts}
 use Rattle.sg_planar.proofs.Places.{holds_entry}
-use Rattle.sg_planar.proofs.PartDarts.{listed_bond}
-use Rattle.sg_planar.proofs.PartsByName.{name_below}
+use Rattle.sg_planar.proofs.RestrictedParts.{listed_bond}
+use Rattle.sg_planar.proofs.NamedParts.{name_below}
 use Rattle.sg_planar.proofs.DealtNumbers.{dealt_same}
 
 -- names over all bonds, as a function

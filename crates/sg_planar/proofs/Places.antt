@@ -1,32 +1,26 @@
 -- Places in a rising list of numbers: each number that it holds has one, and each place one number.
-use Rattle.std.proofs.Common.{inl, inr, ◌≡◌, ◌∙◌, sym, ap, refl, ℕ, zero, suc, ◌+◌, ◌<◌, ◌≤◌, true, eqb, List, length, get_or, subst, arith}
-use Rattle.std.specs.List.Sorted.{IsStrictlyIncreasing}
-use Rattle.std.proofs.lemmas.Bool.{cases_eq, eq-eqb, ne_eqb}
-use Rattle.std.proofs.lemmas.List.Sums.{position_or_len_is}
+use Rattle.std.proofs.Common.{◌≡◌, ◌∙◌, sym, ap, refl, ℕ, ◌<◌, ◌≤◌, true, eqb, List, length, get_or, arith, cond, Bool}
+use Rattle.std.proofs.lemmas.Bool.{eq-eqb, ne_eqb}
+use Rattle.std.proofs.lemmas.List.Elements.{All-from_get_or}
 use Rattle.std.proofs.lemmas.List.Folds.{list_any_at}
-use Rattle.sg_sums.specs.Sets.{holds}
+use Rattle.std.proofs.lemmas.List.Sums.{position_or_len_is}
+use Rattle.std.specs.List.Sorted.{IsStrictlyIncreasing}
 use Rattle.sg_model.proofs.EachOnce.{place_held}
 use Rattle.sg_planar.specs.Parts.{place_in}
+use Rattle.sg_sums.proofs.MemberSums.{members_sum}
+use Rattle.sg_sums.proofs.OneMore.{rising_order}
+use Rattle.sg_sums.proofs.RisingLists.{All-holds, chosen_below_low, holds-chosen_below}
+use Rattle.sg_sums.proofs.SumLaws.{sum_by_is_sum_below, sum_below-le}
+use Rattle.sg_sums.proofs.Tallies.{sum_below_ones, cond_small}
+use Rattle.sg_sums.specs.Sets.{holds, chosen_below}
 
 module _ (xs : List ℕ) (up : IsStrictlyIncreasing xs) where
-  -- later entries are above earlier ones
-  pub rises_past : (i j : ℕ) → i < j → j < length xs → get_or xs i 0 < get_or xs j 0
-  rises_past i zero l b = absurd (omega arith)
-  rises_past i (suc j) l b =
-      let step : get_or xs j 0 < get_or xs (j + 1) 0 = up j (omega arith) in
-      let e : j + 1 ≡ suc j = omega arith in
-      let last : get_or xs j 0 < get_or xs (suc j) 0 = subst (λ k. get_or xs j 0 < get_or xs k 0) e step in
-      elim (cases_eq i j) [
-        | inl same ↦ subst (λ k. get_or xs k 0 < get_or xs (suc j) 0) (sym same) last
-        | inr ne ↦ (let before : get_or xs i 0 < get_or xs j 0 = rises_past i j (omega arith) (omega arith) in omega (arith, before, last))
-      ]
-
   -- the entry at a place has that place
   pub place_of_entry : (i : ℕ) → i < length xs → place_in xs (get_or xs i 0) ≡ i
   place_of_entry i l =
       position_or_len_is (λ y. eqb y (get_or xs i 0)) xs i 0 (omega arith)
       (λ k b. ne_eqb (get_or xs k 0) (get_or xs i 0)
-      (λ (e : get_or xs k 0 ≡ get_or xs i 0). (let less : get_or xs k 0 < get_or xs i 0 = rises_past k i b l in omega arith)))
+      (λ (e : get_or xs k 0 ≡ get_or xs i 0). (let less : get_or xs k 0 < get_or xs i 0 = rising_order xs up k i b l in omega arith)))
       (λ _. eq-eqb (get_or xs i 0) (get_or xs i 0) refl)
 
   -- a number that the list holds stands at its place
@@ -54,18 +48,17 @@ holds_entry xs i l = list_any_at (λ y. eqb y (get_or xs i 0)) xs i 0 l (eq-eqb 
 
 -- a rising list of numbers below n has no more than n
 pub rising_few : (xs : List ℕ) (n : ℕ) → IsStrictlyIncreasing xs → ((x : ℕ) → holds xs x ≡ true → x < n) → length xs ≤ n
-rising_few xs n up low = last (length xs) (omega arith)
-  where
-    at_least : (i : ℕ) → i < length xs → i ≤ get_or xs i 0
-    at_least zero l = omega arith
-    at_least (suc i) l =
-        let below : i ≤ get_or xs i 0 = at_least i (omega arith) in
-        let less : get_or xs i 0 < get_or xs (suc i) 0 = rises_past xs up i (suc i) (omega arith) l in
-        omega arith
+rising_few xs n up low =
+    omega (
+      arith,
+      members_sum (λ x. 1) xs n (All-from_get_or (λ x. x < n) xs 0 (λ i l. low (get_or xs i 0) (holds_entry xs i l))) up,
+      sum_by_is_sum_below (λ x. 1) xs 0,
+      sum_below_ones (length xs),
+      sum_below_ones n,
+      sum_below-le (λ x. cond {A = ℕ} (holds xs x) 1 0) (λ x. 1) n (λ x l. cond_small (holds xs x)),
+    )
 
-    last : (k : ℕ) → k ≤ length xs → k ≤ n
-    last zero l = omega arith
-    last (suc k) l =
-        let below : k ≤ get_or xs k 0 = at_least k (omega arith) in
-        let less : get_or xs k 0 < n = low (get_or xs k 0) (holds_entry xs k (omega arith)) in
-        omega arith
+-- a chosen number is below the bound, and passes
+pub chosen_holds : (p : ℕ → Bool) (n x : ℕ) → holds (chosen_below p n) x ≡ true → (x < n) × (p x ≡ true)
+chosen_holds p n x h =
+    let l : x < n = All-holds (λ x. x < n) (chosen_below p n) x (chosen_below_low p n) h in (l, sym (holds-chosen_below p n x l) ∙ h)

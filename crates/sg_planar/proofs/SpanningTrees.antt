@@ -1,12 +1,78 @@
--- A spanning tree, and values of the nodes that agree with what is wanted on each edge of the tree.
-use Rattle.std.proofs.Common.{inl, inr, ap₂, ◌≡◌, ℕ, zero, suc, ◌<◌, Bool, true, false, cond, eqb, List, [], ◌∷◌, ◌++◌, refl, sym, ◌∙◌, ap, arith, All, length}
+-- A spanning tree: a set of nodes that grows along edges, with values of the nodes that agree with what is wanted on each
+-- edge of the tree. A set of edges of the tree that is even at each node but the root is empty.
+use Rattle.std.proofs.Common.{inl, inr, ap₂, ◌≡◌, ◌⊎◌, ℕ, zero, suc, ◌<◌, ◌≤◌, Bool, true, false, cond, ◌&&◌, ◌||◌, eqb, List, [], ◌∷◌, ◌++◌, refl, sym, ◌∙◌, ap, arith, All, length}
 use Rattle.std.specs.List.Sorted.{IsPermutation}
-use Rattle.std.proofs.lemmas.List.Elements.{All-head, All-tail, All-cons, All-nil}
-use Rattle.std.proofs.lemmas.List.Sorted.{IsPermutation-refl, IsPermutation-trans, IsPermutation-cons}
-use Rattle.std.proofs.lemmas.Bool.{eq-eqb, or_left, or_right, or_cases, eqb-true, true≢false, ne_eqb}
-use Rattle.sg_sums.specs.Parity.{xor}
-use Rattle.sg_sums.specs.Ends.{EndsBelow}
-use Rattle.sg_planar.proofs.GrowingSets.{count_outside, none_outside, all_inside, joined, Leaving, find_leaving, Reaches, other_edges, fewer_outside, outer_below, inner_below, Reaches-joined, crosses_xor, crosses_back}
+use Rattle.std.proofs.lemmas.List.Elements.{All-append, All-head, All-tail, All-cons, All-nil, All-weaker}
+use Rattle.std.proofs.lemmas.List.Sorted.{IsPermutation-refl, IsPermutation-sym, IsPermutation-trans, IsPermutation-cons, IsPermutation-middle, All-permutation}
+use Rattle.std.proofs.lemmas.Bool.{eq-eqb, ne_eqb, cases_eq, cases_Bool, true≢false, or_left, or_right, or_parts}
+use Rattle.sg_sums.specs.Parity.{xor, parity_by}
+use Rattle.sg_sums.specs.Sums.{sum_below}
+use Rattle.sg_sums.specs.Ends.{is_end, degree_parity, EndsBelow}
+use Rattle.sg_sums.proofs.ParityLaws.{xor_comm, xor_cancel, xor-false, and-true, and-false, parity_by-none, parity_by-append}
+use Rattle.sg_sums.proofs.SumLaws.{sum_below-zero, sum_below-same, at-le-sum_below}
+use Rattle.sg_sums.proofs.Recounting.{parity_by-permutation}
+
+-- how many of the numbers below n are outside A
+abbrev pub count_outside : (ℕ → Bool) → ℕ → ℕ
+count_outside A n = sum_below (λ x. cond (A x) 0 1) n
+
+-- A with one more node
+abbrev pub joined : (ℕ → Bool) → ℕ → ℕ → Bool
+joined A x y = A y || eqb x y
+
+-- where none is outside, each is inside
+none_outside : (A : ℕ → Bool) (n : ℕ) → count_outside A n ≡ 0 → (x : ℕ) → x < n → A x ≡ true
+none_outside A n h x l = by_case (A x) (at-le-sum_below (λ y. cond (A y) 0 1) x n l)
+  where
+    by_case : (b : Bool) → cond b 0 1 ≤ count_outside A n → b ≡ true
+    by_case true e = refl
+    by_case false e = absurd (omega arith)
+
+-- one more node inside is one less outside
+pub count_outside-joined : (A : ℕ → Bool) (x n : ℕ) → x < n → A x ≡ false → suc (count_outside (joined A x) n) ≡ count_outside A n
+count_outside-joined A x zero l e = absurd (omega arith)
+count_outside-joined A x (suc n) l e = elim (cases_eq x n) [
+  | inl d ↦
+      let now : cond {A = ℕ} (joined A x n) 0 1 ≡ 0 = ap (λ b. cond b 0 1) (or_right (A n) (eqb x n) (eq-eqb x n d)) in
+      let was : cond {A = ℕ} (A n) 0 1 ≡ 1 = ap (λ b. cond b 0 1) (ap A (sym d) ∙ e) in
+      let rest : sum_below (λ y. cond (joined A x y) 0 1) n ≡ sum_below (λ y. cond (A y) 0 1) n =
+      sum_below-same (λ y. cond (joined A x y) 0 1) (λ y. cond (A y) 0 1) n
+      (λ y m. ap (λ b. cond b 0 1) (kept (A y) (eqb x y) (ne_eqb x y (λ (f : x ≡ y). omega arith)))) in
+      omega arith
+  | inr d ↦
+      let same : cond {A = ℕ} (joined A x n) 0 1 ≡ cond (A n) 0 1 = ap (λ b. cond b 0 1) (kept (A n) (eqb x n) (ne_eqb x n d)) in
+      let rest : suc (count_outside (joined A x) n) ≡ count_outside A n = count_outside-joined A x n (omega arith) e in
+      omega arith
+]
+  where
+    kept : (a b : Bool) → b ≡ false → (a || b) ≡ a
+    kept true b e = refl
+    kept false b e = e
+
+-- an edge from p to q with one end inside A and one outside
+record Crosses (A : ℕ → Bool) (p q : ℕ) : Type 0 where
+  inner : ℕ
+  outer : ℕ
+  inside : A inner ≡ true
+  outside : A outer ≡ false
+  ends : (v : ℕ → Bool) → xor (v p) (v q) ≡ xor (v inner) (v outer)
+  below : (n : ℕ) → p < n → q < n → (inner < n) × (outer < n)
+
+-- both ends are on one side, or the edge crosses
+crosses_from : (A : ℕ → Bool) (p q : ℕ) → (A p ≡ A q) ⊎ Crosses A p q
+crosses_from A p q = by_sides (cases_Bool (A p)) (cases_Bool (A q))
+  where
+    by_sides : (A p ≡ true) ⊎ (A p ≡ false) → (A q ≡ true) ⊎ (A q ≡ false) → (A p ≡ A q) ⊎ Crosses A p q
+    by_sides (inl x) (inl y) = inl (x ∙ sym y)
+    by_sides (inr x) (inr y) = inl (x ∙ sym y)
+    by_sides (inl x) (inr y) =
+        inr (record { inner = p; outer = q; inside = x; outside = y; ends = λ v. refl; below = λ n l m. (l, m) })
+    by_sides (inr x) (inl y) =
+        inr (record { inner = q; outer = p; inside = y; outside = x; ends = λ v. xor_comm (v p) (v q); below = λ n l m. (m, l) })
+
+-- nodes on two sides are two
+apart : (A : ℕ → Bool) (x y : ℕ) → A x ≡ true → A y ≡ false → eqb x y ≡ false
+apart A x y p q = ne_eqb x y (λ (e : x ≡ y). true≢false (sym p ∙ ap A e ∙ q))
 
 apart_back : (A : ℕ → Bool) (x y : ℕ) → A x ≡ false → A y ≡ true → eqb x y ≡ false
 apart_back A x y p q = ne_eqb x y (λ (e : x ≡ y). true≢false (sym q ∙ ap A (sym e) ∙ p))
@@ -14,83 +80,189 @@ apart_back A x y p q = ne_eqb x y (λ (e : x ≡ y). true≢false (sym q ∙ ap 
 xor_twice : (x y : Bool) → xor x (xor x y) ≡ y
 xor_twice x y = grind arith
 
-module _ {X : Type 0} (a b : X → ℕ) (n : ℕ) (c : X → Bool) where
-  -- what a walk from A finds: values that go on from t, and the edges by which it came to new nodes
-  pub record Span (r : ℕ) (A t : ℕ → Bool) (E : List X) : Type 0 where
-    pub values : ℕ → Bool
-    pub agree : (x : ℕ) → x < n → A x ≡ true → values x ≡ t x
-    pub tree : List X
-    pub rest : List X
-    pub is : IsPermutation E (tree ++ rest)
-    pub size : length tree ≡ r
-    pub fits : All (λ e. c e ≡ xor (values (a e)) (values (b e))) tree
-    pub reaches : Reaches a b n A tree
+module _ {X : Type 0} (a b : X → ℕ) where
+  -- an edge of the list that leaves A, and the other edges
+  record Leaving (A : ℕ → Bool) (E : List X) : Type 0 where
+    edge : X
+    others : List X
+    is : IsPermutation E (edge ∷ others)
+    crosses : Crosses A (a edge) (b edge)
 
-  -- edges that lead from A to every node have a tree among them, with an edge for each node outside A
-  pub span : (r : ℕ) (A t : ℕ → Bool) (E : List X) → count_outside A n ≡ r → EndsBelow a b n E → Reaches a b n A E → Span r A t E
-  span zero A t E size ends reach = record {
-    values = t;
-    agree = λ x l i. refl;
-    tree = [];
-    rest = E;
-    is = IsPermutation-refl E;
-    size = refl;
-    fits = All-nil (λ e. c e ≡ xor (t (a e)) (t (b e)));
-    reaches = λ B holds same x l. holds x l (none_outside A n size x l);
-  }
-  span (suc r) A t E size ends reach = elim (find_leaving a b A E) [
-    | inl none ↦ absurd (let full : count_outside A n ≡ 0 = all_inside A n (reach A (λ x l i. i) none) in omega arith)
-    | inr f ↦ one_more r A t E f ends
-        (span r (joined A f.crosses.outer) (λ y. cond (eqb f.crosses.outer y) (xor (t f.crosses.inner) (c f.edge)) (t y)) f.others
-        (fewer_outside a b n A E f ends r size) (other_edges a b n A E f ends (λ e. (a e < n) × (b e < n)) ends) (Reaches-joined a b n A E f ends reach))
+  -- no edge leaves A, or one does
+  find_leaving : (A : ℕ → Bool) (E : List X) → All (λ e. A (a e) ≡ A (b e)) E ⊎ Leaving A E
+  find_leaving A [] = inl (All-nil (λ e. A (a e) ≡ A (b e)))
+  find_leaving A (e ∷ E) = elim (crosses_from A (a e) (b e)) [
+    | inr c ↦ inr (record { edge = e; others = E; is = IsPermutation-refl (e ∷ E); crosses = c })
+    | inl same ↦ elim (find_leaving A E) [
+      | inl none ↦ inl (All-cons (λ e. A (a e) ≡ A (b e)) e E same none)
+      | inr f ↦ inr (record {
+        edge = f.edge;
+        others = e ∷ f.others;
+        is = IsPermutation-trans (e ∷ E) (e ∷ f.edge ∷ f.others) (f.edge ∷ e ∷ f.others)
+            (IsPermutation-cons e E (f.edge ∷ f.others) f.is) (IsPermutation-middle (e ∷ []) f.edge f.others);
+        crosses = f.crosses;
+      })
+    ]
   ]
-    where
-      -- one edge that leaves A, in front of what goes on from its outer end
-      one_more : (r : ℕ) (A t : ℕ → Bool) (E : List X) (f : Leaving a b A E) (ends : EndsBelow a b n E) →
-          Span r (joined A f.crosses.outer) (λ y. cond (eqb f.crosses.outer y) (xor (t f.crosses.inner) (c f.edge)) (t y)) f.others → Span (suc r) A t E
-      one_more r A t E f ends s = record {
-        values = s.values;
-        agree = agree';
-        tree = f.edge ∷ s.tree;
-        rest = s.rest;
-        is = IsPermutation-trans E (f.edge ∷ f.others) (f.edge ∷ (s.tree ++ s.rest)) f.is (IsPermutation-cons f.edge f.others (s.tree ++ s.rest) s.is);
-        size = ap suc s.size;
-        fits = All-cons (λ e. c e ≡ xor (s.values (a e)) (s.values (b e))) f.edge s.tree fits' s.fits;
-        reaches = reaches';
+
+  module _ (n : ℕ) where
+    -- from A the edges lead to every node: a set that holds A and that no edge leaves holds all
+    abbrev pub Reaches : (ℕ → Bool) → List X → Type 0
+    Reaches A E = (B : ℕ → Bool) → ((x : ℕ) → x < n → A x ≡ true → B x ≡ true) → All (λ e. B (a e) ≡ B (b e)) E → (x : ℕ) →
+        x < n → B x ≡ true
+
+    -- an even number of the edges that pass d end at each node outside A
+    abbrev pub EvenOutside : (ℕ → Bool) → (X → Bool) → List X → Type 0
+    EvenOutside A d E = (x : ℕ) → x < n → A x ≡ false → degree_parity a b d E x ≡ false
+
+    module _ (c : X → Bool) where
+      -- what a walk from A finds: values that go on from t, the edges by which it came to new nodes, and the others
+      pub record Span (r : ℕ) (A t : ℕ → Bool) (E : List X) : Type 0 where
+        pub values : ℕ → Bool
+        pub agree : (x : ℕ) → x < n → A x ≡ true → values x ≡ t x
+        pub tree : List X
+        pub rest : List X
+        pub is : IsPermutation E (tree ++ rest)
+        pub size : length tree ≡ r
+        pub fits : All (λ e. c e ≡ xor (values (a e)) (values (b e))) tree
+        -- a set of edges of the tree that is even at each new node is empty
+        pub bare : (d : X → Bool) → EvenOutside A d tree → All (λ e. d e ≡ false) tree
+
+      module _ (r : ℕ) (A t : ℕ → Bool) (E : List X) (f : Leaving A E) (ends : EndsBelow a b n E) where
+        abbrev inn : ℕ
+        inn = f.crosses.inner
+
+        abbrev out : ℕ
+        out = f.crosses.outer
+
+        -- what holds of the edges holds of the one and of the others
+        parted : (P : X → Type 0) → All P E → P f.edge × All P f.others
+        parted P h =
+            let all : All P (f.edge ∷ f.others) = All-permutation P E (f.edge ∷ f.others) f.is h in
+            (All-head P f.edge f.others all, All-tail P f.edge f.others all)
+
+        nodes : (inn < n) × (out < n)
+        nodes =
+            let low : (a f.edge < n) × (b f.edge < n) = (parted (λ e. (a e < n) × (b e < n)) ends).0 in
+            f.crosses.below n low.0 low.1
+
+        -- with the outer end inside, the other edges still lead to every node
+        still_reaches : Reaches A E → Reaches (joined A out) f.others
+        still_reaches reach B holds same =
+            reach B (λ x l i. holds x l (or_left (A x) (eqb out x) i))
+            (All-permutation P (f.edge ∷ f.others) E (IsPermutation-sym E (f.edge ∷ f.others) f.is) (All-cons P f.edge f.others at_edge same))
+          where
+            P : X → Type 0
+            P e = B (a e) ≡ B (b e)
+
+            at_inner : B inn ≡ true
+            at_inner = holds inn nodes.0 (or_left (A inn) (eqb out inn) f.crosses.inside)
+
+            at_outer : B out ≡ true
+            at_outer = holds out nodes.1 (or_right (A out) (eqb out out) (eq-eqb out out refl))
+
+            at_edge : B (a f.edge) ≡ B (b f.edge)
+            at_edge = xor_cancel (B (a f.edge)) (B (b f.edge)) (f.crosses.ends B ∙ ap₂ xor at_inner at_outer)
+
+        -- the values that the outer end takes from the inner one
+        abbrev next : ℕ → Bool
+        next y = cond (eqb out y) (xor (t inn) (c f.edge)) (t y)
+
+        -- one edge that leaves A, in front of what goes on from its outer end
+        one_more : Span r (joined A out) next f.others → Span (suc r) A t E
+        one_more s = record {
+          values = s.values;
+          agree = agree';
+          tree = f.edge ∷ s.tree;
+          rest = s.rest;
+          is = IsPermutation-trans E (f.edge ∷ f.others) (f.edge ∷ (s.tree ++ s.rest)) f.is (IsPermutation-cons f.edge f.others (s.tree ++ s.rest) s.is);
+          size = ap suc s.size;
+          fits = All-cons (λ e. c e ≡ xor (s.values (a e)) (s.values (b e))) f.edge s.tree fits' s.fits;
+          bare = λ d even. All-cons (λ e. d e ≡ false) f.edge s.tree (edge_out d even) (tree_out d even);
+        }
+          where
+            agree' : (x : ℕ) → x < n → A x ≡ true → s.values x ≡ t x
+            agree' x l i =
+                s.agree x l (or_left (A x) (eqb out x) i)
+                ∙ ap (λ v. cond v (xor (t inn) (c f.edge)) (t x)) (apart_back A out x f.crosses.outside i)
+
+            at_outer : s.values out ≡ xor (t inn) (c f.edge)
+            at_outer =
+                s.agree out nodes.1 (or_right (A out) (eqb out out) (eq-eqb out out refl))
+                ∙ ap (λ v. cond v (xor (t inn) (c f.edge)) (t out)) (eq-eqb out out refl)
+
+            fits' : c f.edge ≡ xor (s.values (a f.edge)) (s.values (b f.edge))
+            fits' = sym (f.crosses.ends s.values ∙ ap₂ xor (agree' inn nodes.0 f.crosses.inside) at_outer ∙ xor_twice (t inn) (c f.edge))
+
+            -- at a node outside A other than the outer end the edge does not count
+            tree_out : (d : X → Bool) → EvenOutside A d (f.edge ∷ s.tree) → All (λ e. d e ≡ false) s.tree
+            tree_out d even = s.bare d (λ x l o.
+                (let parts : (A x ≡ false) × (eqb out x ≡ false) = or_parts (A x) (eqb out x) o in
+                let none : is_end (a f.edge) (b f.edge) x ≡ false =
+                f.crosses.ends (λ y. eqb y x) ∙ ap₂ xor (apart A inn x f.crosses.inside parts.0) parts.1 in
+                sym (ap (λ v. xor v (degree_parity a b d s.tree x)) (ap (λ v. d f.edge && v) none ∙ and-false (d f.edge))) ∙ even x l parts.0))
+
+            -- and at the outer end it alone counts
+            edge_out : (d : X → Bool) → EvenOutside A d (f.edge ∷ s.tree) → d f.edge ≡ false
+            edge_out d even =
+                let one : is_end (a f.edge) (b f.edge) out ≡ true =
+                f.crosses.ends (λ y. eqb y out) ∙ ap₂ xor (apart A inn out f.crosses.inside f.crosses.outside) (eq-eqb out out refl) in
+                let rest : degree_parity a b d s.tree out ≡ false =
+                parity_by-none (λ e. d e && is_end (a e) (b e) out) s.tree
+                (All-weaker (λ e. d e ≡ false) (λ e. (d e && is_end (a e) (b e) out) ≡ false)
+                (λ e h. ap (λ v. v && is_end (a e) (b e) out) h) s.tree (tree_out d even)) in
+                sym (xor-false (d f.edge)) ∙ sym (ap₂ xor (ap (λ v. d f.edge && v) one ∙ and-true (d f.edge)) rest)
+                ∙ even out nodes.1 f.crosses.outside
+
+      -- edges that lead from A to every node have a tree among them, with an edge for each node outside A
+      pub span : (r : ℕ) (A t : ℕ → Bool) (E : List X) → count_outside A n ≡ r → EndsBelow a b n E → Reaches A E → Span r A t E
+      span zero A t E size ends reach = record {
+        values = t;
+        agree = λ x l i. refl;
+        tree = [];
+        rest = E;
+        is = IsPermutation-refl E;
+        size = refl;
+        fits = All-nil (λ e. c e ≡ xor (t (a e)) (t (b e)));
+        bare = λ d even. All-nil (λ e. d e ≡ false);
       }
-        where
-          inn : ℕ
-          inn = f.crosses.inner
+      span (suc r) A t E size ends reach = elim (find_leaving A E) [
+        | inl none ↦ absurd (
+            let full : count_outside A n ≡ 0 = sum_below-zero (λ x. cond (A x) 0 1) n (λ x l. ap (λ b. cond b 0 1) (reach A (λ x l i. i) none x l)) in
+            omega arith)
+        | inr f ↦ one_more r A t E f ends
+            (span r (joined A (out r A t E f ends)) (next r A t E f ends) f.others
+            (omega (arith, size, count_outside-joined A (out r A t E f ends) n (nodes r A t E f ends).1 f.crosses.outside))
+            (parted r A t E f ends (λ e. (a e < n) × (b e < n)) ends).1 (still_reaches r A t E f ends reach))
+      ]
 
-          out : ℕ
-          out = f.crosses.outer
+      -- the edges of a tree and the others are all edges
+      module _ {r : ℕ} {A t : ℕ → Bool} {E : List X} (s : Span r A t E) where
+        -- what holds of both holds of all
+        pub of_both : (P : X → Type 0) → All P s.tree → All P s.rest → All P E
+        of_both P h k = All-permutation P (s.tree ++ s.rest) E (IsPermutation-sym E (s.tree ++ s.rest) s.is) (All-append P s.tree s.rest h k)
 
-          agree' : (x : ℕ) → x < n → A x ≡ true → s.values x ≡ t x
-          agree' x l i =
-              s.agree x l (or_left (A x) (eqb out x) i)
-              ∙ ap (λ v. cond v (xor (t inn) (c f.edge)) (t x)) (apart_back A out x f.crosses.outside i)
+        -- what holds of all holds of the others
+        pub of_rest : (P : X → Type 0) → All P E → All P s.rest
+        of_rest P h = behind s.tree (All-permutation P E (s.tree ++ s.rest) s.is h)
+          where
+            behind : (xs : List X) → All P (xs ++ s.rest) → All P s.rest
+            behind [] k = k
+            behind (x ∷ xs) k = behind xs (All-tail P x (xs ++ s.rest) k)
 
-          at_inner : s.values inn ≡ t inn
-          at_inner = agree' inn (inner_below a b n A E f ends) f.crosses.inside
+        -- where no edge of one kind passes d, those of the other are as many as all, up to an even number
+        module _ (d g : X → Bool) where
+          abbrev both : X → Bool
+          both e = d e && g e
 
-          at_outer : s.values out ≡ xor (t inn) (c f.edge)
-          at_outer =
-              s.agree out (outer_below a b n A E f ends) (or_right (A out) (eqb out out) (eq-eqb out out refl))
-              ∙ ap (λ v. cond v (xor (t inn) (c f.edge)) (t out)) (eq-eqb out out refl)
+          none_passes : (F : List X) → All (λ e. d e ≡ false) F → parity_by both F ≡ false
+          none_passes F none = parity_by-none both F (All-weaker (λ e. d e ≡ false) (λ e. both e ≡ false) (λ e h. ap (λ v. v && g e) h) F none)
 
-          fits' : c f.edge ≡ xor (s.values (a f.edge)) (s.values (b f.edge))
-          fits' = sym (crosses_xor A s.values (a f.edge) (b f.edge) f.crosses ∙ ap₂ xor at_inner at_outer ∙ xor_twice (t inn) (c f.edge))
+          parts : parity_by both E ≡ xor (parity_by both s.tree) (parity_by both s.rest)
+          parts = parity_by-permutation both E (s.tree ++ s.rest) s.is ∙ parity_by-append both s.tree s.rest
 
-          reaches' : Reaches a b n A (f.edge ∷ s.tree)
-          reaches' B holds same = s.reaches B both (All-tail (λ e. B (a e) ≡ B (b e)) f.edge s.tree same)
-            where
-              out_holds : B out ≡ true
-              out_holds =
-                  sym (crosses_back A B (a f.edge) (b f.edge) f.crosses (All-head (λ e. B (a e) ≡ B (b e)) f.edge s.tree same))
-                  ∙ holds inn (inner_below a b n A E f ends) f.crosses.inside
+          pub in_tree : All (λ e. d e ≡ false) s.rest → parity_by both s.tree ≡ parity_by both E
+          in_tree none = sym (xor-false (parity_by both s.tree)) ∙ ap (xor (parity_by both s.tree)) (sym (none_passes s.rest none)) ∙ sym parts
 
-              both : (x : ℕ) → x < n → joined A out x ≡ true → B x ≡ true
-              both x l j = elim (or_cases (A x) (eqb out x) j) [
-                | inl i ↦ holds x l i
-                | inr e ↦ ap B (sym (eqb-true out x e)) ∙ out_holds
-              ]
+          pub in_rest : All (λ e. d e ≡ false) s.tree → parity_by both s.rest ≡ parity_by both E
+          in_rest none = ap (λ w. xor w (parity_by both s.rest)) (sym (none_passes s.tree none)) ∙ sym parts

@@ -5,6 +5,7 @@ use Rattle.sg_model.specs.declared.refusal.Refusal.TheVariants.{SumTooLarge, Not
 use Rattle.sg_model.specs.Ising.{Ising}
 use Rattle.sg_model.specs.WellFormed.{IsInstance}
 use Rattle.sg_model.specs.Energy.{weight}
+use Rattle.sg_model.specs.Changes.{HasSameDrawing}
 use Rattle.sg_faces.specs.Faces.{Labelling, IsFaceLabels}
 use Rattle.sg_faces.specs.Euler.{IsEuler}
 use Rattle.sg_limits.specs.Limits.{sum_limit, forced_limit}
@@ -31,3 +32,8 @@ pub record IsPlanar (p : Embedding) : Type 0 where
   pub faces : IsFaceLabels p.instance p.faces
   pub genus_zero : IsEuler p.instance (pos 2)
   pub sum : weight p.instance ≤ forced_limit
+
+-- an instance that differs in couplings alone, whose sizes sum to no more than the limit
+pub record IsRedrawn (inst other : Ising) : Type 0 where
+  pub drawing : HasSameDrawing inst other
+  pub sum : weight other ≤ forced_limit

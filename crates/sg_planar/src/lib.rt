@@ -16,7 +16,7 @@
 //! matter. `specs/Fit.antt` says what is fit, which check fails first, and what a `Planar` keeps;
 //! `specs/BrokenLists.antt` which lists fit the faces; `specs/Parts.antt` what the parts are.
 //! `proofs/PlanarDuality.antt` has the mathematics over any embedding, `proofs/EulerBounds.antt` the
-//! bounds on faces that the crates above cite, and `proofs/PartsPlanar.antt` why each part is planar.
+//! bounds on faces that the crates above cite, and `proofs/NamedParts.antt` why each part is planar.
 #![tactic(auto)]
 
 mod assignment;

@@ -2,10 +2,10 @@ ghost use Rattle.std.specs.Prelude.{◌≡◌, ◌↔◌, ◌<◌, ◌≤◌, Is
 ghost use Rattle.sg_limits.specs.Limits.{forced_limit};
 ghost use Rattle.sg_model.specs.Ising.{bond_count};
 ghost use Rattle.sg_model.specs.Energy.{weight};
-ghost use Rattle.sg_model.specs.Changes.{HasSameDrawing, negated, with_coupling, with_couplings, with_seam_flipped};
+ghost use Rattle.sg_model.specs.Changes.{negated, with_coupling, with_couplings, with_seam_flipped};
 ghost use Rattle.sg_model.specs.Connected.{IsConnected};
 ghost use Rattle.sg_walk.specs.Naming.{AreComponents};
-ghost use Rattle.sg_planar.specs.Fit.{IsFit, IsPlanar, IsUnfit};
+ghost use Rattle.sg_planar.specs.Fit.{IsFit, IsPlanar, IsRedrawn, IsUnfit};
 ghost use Rattle.sg_model.specs.Faults.{OrNoMemory};
 
 use super::NoMemory;
@@ -156,7 +156,7 @@ impl Planar {
             copy ≡ record { instance = with_seam_flipped self.now.instance; faces = self.now.faces }) }
         ensures planar { IfOk result IsPlanar }
     {
-        let instance = self.instance.flip_seam()?;
+        let instance = self.instance().flip_seam()?;
         self.drawn_with(instance)
     }
 
@@ -166,7 +166,7 @@ impl Planar {
             copy ≡ record { instance = negated self.now.instance; faces = self.now.faces }) }
         ensures planar { IfOk result IsPlanar }
     {
-        let instance = self.instance.negated()?;
+        let instance = self.instance().negated()?;
         self.drawn_with(instance)
     }
 
@@ -182,14 +182,13 @@ impl Planar {
             }) }
         ensures planar { IfOk result IsPlanar }
     {
-        let instance = self.instance.with_coupling(bond, j)?;
+        let instance = self.instance().with_coupling(bond, j)?;
         self.drawn_with(instance)
     }
 
     // A copy of the drawing, with an instance that differs from this one in couplings alone.
     fn drawn_with(&self, instance: Instance) -> Result<Planar, NoMemory>
-        requires drawing { HasSameDrawing self.now.instance instance }
-        requires sum { weight instance ≤ forced_limit }
+        requires { IsRedrawn self.now.instance instance }
         ensures copy { IfOk result (λ copy. copy ≡ record { instance = instance; faces = self.now.faces }) }
         ensures planar { IfOk result IsPlanar }
     {

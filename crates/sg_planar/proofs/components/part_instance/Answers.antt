@@ -6,7 +6,7 @@ use Rattle.sg_model.specs.WellFormed.{IsInstance}
 use Rattle.sg_planar.specs.Parts.{restricted}
 use Rattle.sg_planar.specs.Splitting.{placed_bond, placed_darts}
 use Rattle.sg_planar.proofs.Places.{holds_entry}
-use Rattle.sg_planar.proofs.PartDarts.{part_instance}
+use Rattle.sg_planar.proofs.RestrictedParts.{part_instance}
 use Rattle.sg_planar.proofs.PartPlaces.{part_assembled}
 use Rattle.sg_planar.proofs.components.part_instance.Goals as goal
 use Rattle.sg_planar.proofs.components.part_instance.Goals.{After-new}

@@ -3,7 +3,7 @@ use Rattle.std.specs.List.{AllZip}
 use Rattle.std.proofs.lemmas.Bool.{ne_eqb}
 use Rattle.sg_planar.specs.Parts.{IsPart}
 use Rattle.sg_planar.specs.Splitting.{own_names}
-use Rattle.sg_planar.proofs.PartsMade.{parts_made, zip_more, zip_same}
+use Rattle.sg_planar.proofs.NamedParts.{parts_made, zip_more, zip_same}
 use Rattle.sg_planar.proofs.components.parts_of.Goals as goal
 use Rattle.sg_planar.proofs.components.parts_of.Goals.{then-names-spin+in_ok-part_from+in_ok-push, else-names-spin}
 

@@ -1,6 +1,6 @@
 use Rattle.std.proofs.Common.{◌≡◌, ◌∙◌, ap, sym, length}
 use Rattle.sg_model.specs.Ising.{bond_count}
-use Rattle.sg_planar.proofs.FaceParities.{fits_tested}
+use Rattle.sg_planar.proofs.FittingBonds.{fits_tested}
 use Rattle.sg_planar.proofs.fitting.fits_faces.Goals as goal
 
 pub returns : goal.returns

@@ -13,7 +13,8 @@ returns-then-not-has_bond c =
     let i = c.args.i in
     let js = c.args.j.now in
     let no : has_bond s.kind c.args.step s.rows s.cols (i / s.cols) (i % s.cols) ≡ false = search rules in
-    rw no (λ (ends : List Ends) (is : c.args.bonds.now ≡ bonds_between ends js). is ∙ ap (λ (all : List Ends). bonds_between all js) (sym (append-nil ends)))
+    rw no (λ (ends : List Ends) (is : c.args.bonds.now ≡ bonds_between ends js).
+    is ∙ ap (λ (all : List Ends). bonds_between all js) (sym (append-nil ends)))
 
 pub returns : goal.returns
 returns c =
