@@ -1,5 +1,5 @@
 -- What some parts give, put together in the whole.
-use Rattle.std.specs.Prelude.{◌≡◌, ℕ, ◌*◌, ◌≤◌, ℤ, pos, ◌+ℤ◌, ◌-ℤ◌, ◌≤ℤ◌, List, cond, length, sum_by, All, unsigned_abs}
+use Rattle.std.specs.Prelude.{◌≡◌, ℕ, ◌*◌, ◌≤◌, ℤ, pos, ◌-ℤ◌, ◌≤ℤ◌, List, cond, length, sum_by, All, unsigned_abs}
 use Rattle.sg_sums.specs.Sets.{holds}
 use Rattle.sg_model.specs.Ising.{Ising, bond_at}
 use Rattle.sg_model.specs.Connected.{LeastsUp}
@@ -36,15 +36,6 @@ pub record IsLeastPlaced (inst : Ising) (parts : List Part) (s : List ℤ) (e : 
 pub record IsStatePlaced (inst : Ising) (parts : List Part) (s : List ℤ) (e : ℤ) : Type 0 where
   pub least : IsLeastPlaced inst parts s e
   pub leasts_up : LeastsUp inst s
-
--- the energy of some such spins
-pub record IsEnergyPlaced (inst : Ising) (parts : List Part) (e : ℤ) : Type 0 where
-  pub spins : List ℤ
-  pub least : IsLeastPlaced inst parts spins e
-
--- what the broken bonds of some such spins weigh
-abbrev pub IsWeightPlaced : Ising → List Part → ℤ → Type 0
-IsWeightPlaced inst parts w = IsEnergyPlaced inst parts ((w +ℤ w) -ℤ pos (over_bonds (size_at inst) parts))
 
 -- spins and loops of the whole, as far as these parts give them
 pub record IsGlued (inst : Ising) (parts : List Part) (s : List ℤ) (e : ℤ) (loops : List Loop) : Type 0 where

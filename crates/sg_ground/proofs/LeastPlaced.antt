@@ -1,35 +1,25 @@
 -- The states of least energy of the parts, one behind another, make one of the whole: what the bonds of a part cost, no spins of the whole
 -- make less.
-use Rattle.std.proofs.Common.{◌≡◌, ℕ, ◌+◌, ◌^◌, ◌<◌, ◌≤◌, ℤ, pos, ◌+ℤ◌, ◌-ℤ◌, List, [], ◌∷◌, ◌++◌, sym, ◌∙◌, ap}
-use Rattle.std.proofs.Common.{subst, arith, sum_by, length, get_or, replicate, take, drop, w64}
-use Rattle.std.specs.Prelude.{FitsSigned, ◌≤ℤ◌, unsigned_abs}
-use Rattle.std.proofs.lemmas.Int.{fits_signed_from_abs, ints}
+use Rattle.std.proofs.Common.{◌≡◌, ℕ, ◌+◌, ◌<◌, ◌≤◌, ℤ, pos, ◌+ℤ◌, ◌-ℤ◌, List, [], ◌∷◌, ◌++◌, sym, ◌∙◌, ap}
+use Rattle.std.proofs.Common.{subst, arith, sum_by, length, get_or, take, drop}
+use Rattle.std.specs.Prelude.{◌≤ℤ◌, unsigned_abs}
+use Rattle.std.proofs.lemmas.Int.{ints}
 use Rattle.std.proofs.lemmas.List.Sums.{sum_by_push}
-use Rattle.sg_limits.specs.Limits.{forced_limit}
 use Rattle.sg_model.specs.Ising.{Ising}
 use Rattle.sg_model.specs.WellFormed.{IsInstance}
 use Rattle.sg_model.specs.Spins.{IsAssignment}
 use Rattle.sg_model.specs.Energy.{IsGroundState, IsLeastEnergy, energy, weight}
 use Rattle.sg_model.proofs.BrokenEnergy.{broken_cost, energy_from_costs}
-use Rattle.sg_model.proofs.EnergyBounds.{energy_size, least_of_ground_state}
+use Rattle.sg_model.proofs.EnergyBounds.{energy_size}
 use Rattle.sg_planar.specs.declared.components.Part.{Part}
 use Rattle.sg_planar.specs.Parts.{AreParts}
 use Rattle.sg_ground.specs.Placed.{WritesAt}
 use Rattle.sg_ground.specs.Solution.{IsState}
 use Rattle.sg_ground.proofs.Shares.{IsShare}
-use Rattle.sg_ground.proofs.Glued.{IsEnergyPlaced, IsLeastPlaced, IsStatePlaced, IsWeightPlaced, cost_at, over_bonds, size_at}
-use Rattle.sg_ground.proofs.PlacedValues.{all_written}
-use Rattle.sg_ground.proofs.Placing.{all_up, costs_more, energy_here, energy_over, more_placed, parted_at, part_is_share}
-use Rattle.sg_ground.proofs.Placing.{part_size, placed_leasts, places_below, places_count, share, sizes_all, sizes_here, sizes_more_here, with_this}
+use Rattle.sg_ground.proofs.Glued.{IsLeastPlaced, IsStatePlaced, cost_at}
+use Rattle.sg_ground.proofs.Placing.{costs_more, energy_here, energy_over, more_placed, parted_at}
+use Rattle.sg_ground.proofs.Placing.{placed_leasts, share, sizes_here, with_this}
 use Rattle.sg_ground.proofs.Shares.{costs_over, in_place, share_assignment, values_in}
-
--- before the first part
-none_least : (inst : Ising) → IsLeastPlaced inst [] (replicate inst.n (pos 1)) (pos 0)
-none_least inst = record { placed = all_up inst; least = λ t assigned. omega arith }
-
--- before the first part the weight is 0
-pub no_weight : (inst : Ising) → IsWeightPlaced inst [] (pos 0)
-no_weight inst = record { spins = replicate inst.n (pos 1); least = none_least inst }
 
 -- no least energy is larger in size than the weight of all bonds
 pub least_size : (inst : Ising) (e : ℤ) → IsInstance inst → IsLeastEnergy inst e → unsigned_abs e ≤ weight inst
@@ -99,15 +89,6 @@ module _ (inst : Ising) (good : IsInstance inst) where
     leasts_up = found.leasts_up;
   }
 
-  -- the least energy, by what the broken bonds weigh
-  pub all_weights : (parts : List Part) → AreParts inst parts → (w e : ℤ) → IsWeightPlaced inst parts w → e ≡ (w +ℤ w) -ℤ pos (weight inst) →
-      IsLeastEnergy inst e
-  all_weights parts are w e found value =
-      let same : (w +ℤ w) -ℤ pos (over_bonds (size_at inst) parts) ≡ e = ap (λ a. (w +ℤ w) -ℤ pos a) (sizes_all inst good parts are) ∙ sym value in
-      subst (IsLeastEnergy inst) same
-      (least_of_ground_state inst found.spins ((w +ℤ w) -ℤ pos (over_bonds (size_at inst) parts)) (placed_ground parts are found.spins _ found.least)
-      (sym (placed_energy parts are found.spins _ found.least)))
-
 -- part i of the whole in a loop over the parts
 module _ (inst : Ising) (good : IsInstance inst) (parts : List Part) (are : AreParts inst parts) (i : ℕ) (p : Part)
     (l : i < length parts) (same : p ≡ get_or parts i p) where
@@ -129,43 +110,3 @@ module _ (inst : Ising) (good : IsInstance inst) (parts : List Part) (are : AreP
         placed_leasts inst good parts (take i parts) (drop (i + 1) parts) p are (parted_at parts i p l same) s t u e f was.least.placed
         found.ground_state.assignment found.stated writes was.leasts_up found.leasts_up;
   }
-
-  -- its least energy beside those before: some spins have it
-  part_energy_placed : (e f : ℤ) → IsEnergyPlaced inst (take i parts) e → IsLeastEnergy p.planar.instance f →
-      IsEnergyPlaced inst (take (i + 1) parts) (e +ℤ f)
-  part_energy_placed e f was found =
-      let (t, assigned, stated) = found.reached in
-      let (u, writes) = all_written p.spins t was.spins (part_is_share inst good parts are i p l same).spins_rise
-      (places_below inst good parts are i p l same was.spins was.least.placed.assignment.count)
-      (places_count inst good parts are i p l same t assigned) in
-      record { spins = u; least = least_more was.spins t u e f was.least assigned stated found.least writes }
-
-  -- what its broken bonds weigh beside those before
-  pub part_weight_placed : (w v : ℤ) → IsWeightPlaced inst (take i parts) w →
-      IsLeastEnergy p.planar.instance ((v +ℤ v) -ℤ pos (weight p.planar.instance)) → IsWeightPlaced inst (take (i + 1) parts) (w +ℤ v)
-  part_weight_placed w v was found =
-      subst (IsEnergyPlaced inst (take (i + 1) parts))
-      (added w v _ _ _ (sizes_more_here inst good parts are i p l same))
-      (part_energy_placed _ _ was found)
-    where
-      added : (w v : ℤ) (a b c : ℕ) → c ≡ a + b → ((w +ℤ w) -ℤ pos a) +ℤ ((v +ℤ v) -ℤ pos b) ≡ ((w +ℤ v) +ℤ (w +ℤ v)) -ℤ pos c
-      added w v a b c h = omega (arith, ints)
-
-  -- and added it fits
-  pub part_weight_fits : (w v : ℤ) → weight inst ≤ forced_limit → IsWeightPlaced inst (take i parts) w → unsigned_abs v ≤ forced_limit →
-      FitsSigned w64 (w +ℤ v)
-  part_weight_fits w v light was most =
-      fits_signed_from_abs w64 (w +ℤ v)
-      (bounded w v _ _ was.least.placed.size (part_size inst good parts are i) light most)
-    where
-      bounded : (w v : ℤ) (a b : ℕ) → unsigned_abs ((w +ℤ w) -ℤ pos a) ≤ a → a ≤ b → b ≤ forced_limit → unsigned_abs v ≤ forced_limit →
-          unsigned_abs (w +ℤ v) < 2 ^ 63
-      bounded w v a b h k m n = omega (arith, ints)
-
--- what the broken bonds weigh is no more than what all weigh
-pub weight_light : (inst : Ising) (good : IsInstance inst) (parts : List Part) → AreParts inst parts → (w : ℤ) → weight inst ≤ forced_limit →
-    IsWeightPlaced inst parts w → unsigned_abs w ≤ forced_limit
-weight_light inst good parts are w light was = bounded w _ _ was.least.placed.size (sizes_all inst good parts are) light
-  where
-    bounded : (w : ℤ) (a b : ℕ) → unsigned_abs ((w +ℤ w) -ℤ pos a) ≤ a → a ≡ b → b ≤ forced_limit → unsigned_abs w ≤ forced_limit
-    bounded w a b h k m = omega (arith, ints)

@@ -10,7 +10,7 @@ use Rattle.sg_dual.specs.Dual.{dual_web, frustrated_faces}
 use Rattle.sg_nest.specs.Nest.{NestProves}
 use Rattle.sg_nest.specs.declared.nest.Nest.{Nest}
 use Rattle.sg_ground.specs.Solution.{IsState}
-use Rattle.sg_ground.specs.Nested.{IsNestedState, ProvesByNest, broken_bonds}
+use Rattle.sg_ground.specs.Nested.{IsNestedState, broken_bonds}
 use Rattle.sg_ground.proofs.BrokenJoins.{BreaksExactly-broken, IsJoin-broken, ground_by_join}
 use Rattle.sg_ground.proofs.JoinFits.{broken_weight_is}
 

@@ -1,6 +1,5 @@
 -- The steps that a ground state takes.
 use Rattle.std.specs.Prelude.{ℕ, ◌+◌, ◌≤◌, ◌⊎◌, List, length, sum_by}
-use Rattle.sg_graph.specs.Web.{Graph}
 use Rattle.sg_model.specs.Connected.{IsConnected}
 use Rattle.sg_planar.specs.Fit.{Embedding}
 use Rattle.sg_planar.specs.Parts.{AreParts}

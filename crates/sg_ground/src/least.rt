@@ -1,18 +1,15 @@
 ghost use Rattle.std.specs.Prelude.{◌+◌, ◌≤◌, unsigned_abs, IfErr, IfOk};
-ghost use Rattle.sg_limits.specs.Limits.{forced_limit};
-ghost use Rattle.sg_model.specs.WellFormed.{IsInstance};
 ghost use Rattle.sg_model.specs.Energy.{weight, IsLeastEnergy};
 ghost use Rattle.sg_planar.specs.Fit.{IsPlanar};
-ghost use Rattle.sg_planar.specs.Parts.{AreParts};
 ghost use Rattle.sg_tjoin.specs.Allowance.{IfTooLarge};
 ghost use Rattle.sg_tjoin.specs.Counted.{steps_of};
 ghost use Rattle.sg_ground.specs.Allowance.{TablesExceed};
-ghost use Rattle.sg_ground.specs.Counted.{AddsSteps, all_steps};
+ghost use Rattle.sg_ground.specs.Counted.{AddsSteps};
 
 use super::NoMemory;
 use super::joins::{broken_energy, weighed_join};
-use sg_model::Instance;
-use sg_planar::{Division, Part, Planar, divide};
+use super::state::join_states;
+use sg_planar::{Division, Planar, divide};
 use sg_tjoin::{Taken, Unproved};
 use std::alloc::{AllocError, Global};
 
@@ -20,7 +17,7 @@ use std::alloc::{AllocError, Global};
 /// frustrated faces, less the weight of all bonds; and of several components their sum. The only error
 /// is that of an allocator that has no memory left.
 ///
-/// Cost: that of `ground_state`, without its walk over the bonds.
+/// Cost: that of `ground_state`; of a connected instance without its walk over the bonds.
 pub fn least_energy(alloc: Global, planar: &Planar) -> Result<i64, NoMemory>
     ensures least { IfOk result (IsLeastEnergy planar.now.instance) }
     ensures size { IfOk result (λ e. unsigned_abs e ≤ weight planar.now.instance) }
@@ -78,29 +75,9 @@ fn energy_of_all(
             let join = weighed_join(alloc, planar, most_bytes, steps)?;
             Ok(broken_energy(inst, join.weight))
         }
-        Division::Several(list) => energy_of_parts(alloc, inst, list.as_slice(), most_bytes, steps),
+        Division::Several(list) => {
+            let state = join_states(alloc, inst, list.as_slice(), most_bytes, steps)?;
+            Ok(state.energy)
+        }
     }
-}
-
-// The least energy of an instance of these parts, whose minimum T-joins are broken together.
-fn energy_of_parts(
-    alloc: Global,
-    inst: &Instance,
-    parts: &[Part],
-    most_bytes: u64,
-    steps: &mut Taken,
-) -> Result<i64, Unproved>
-    requires instance { IsInstance inst.now }
-    requires parts { AreParts inst.now parts.now }
-    requires light { weight inst.now ≤ forced_limit }
-    ensures least { IfOk result (IsLeastEnergy inst.now) }
-    ensures too_large { IfErr result (IfTooLarge (TablesExceed most_bytes inst.now)) }
-    ensures steps { IfOk result (λ _. steps_of steps.new ≤ steps_of steps.old + all_steps parts.now) }
-{
-    let mut broken = 0i64;
-    for part in parts {
-        let join = weighed_join(alloc, &part.planar, most_bytes, steps)?;
-        broken += join.weight;
-    }
-    Ok(broken_energy(inst, broken))
 }

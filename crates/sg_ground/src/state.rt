@@ -123,8 +123,8 @@ fn state_of_part(
     })
 }
 
-// The states of these parts, put together: values take the numbers of the whole, and energies add.
-fn join_states(
+/// The states of these parts, put together: values take the numbers of the whole, and energies add.
+pub(crate) fn join_states(
     alloc: Global,
     inst: &Instance,
     parts: &[Part],

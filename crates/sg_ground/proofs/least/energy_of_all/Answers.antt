@@ -3,7 +3,8 @@ use Rattle.std.specs.Prelude.{unsigned_abs}
 use Rattle.std.proofs.lemmas.Result.{err_from_is_err_and}
 use Rattle.sg_limits.specs.Limits.{forced_limit}
 use Rattle.sg_model.specs.Connected.{IsConnected}
-use Rattle.sg_model.specs.Energy.{weight}
+use Rattle.sg_model.specs.Energy.{IsGroundState, energy, weight}
+use Rattle.sg_model.proofs.EnergyBounds.{least_of_ground_state}
 use Rattle.sg_ground.proofs.Allowed.{whole_exceeds}
 use Rattle.sg_ground.proofs.WeighedJoins.{join_light, least_by_weight}
 use Rattle.sg_ground.proofs.least.energy_of_all.Goals as goal
@@ -31,3 +32,11 @@ returns-in_err-join-in-Whole-clause-too_large c =
     rw (p.1, p.2) (
     whole_exceeds c.args.planar.now c.instance-inst.ensures.planar (search rules) c.args.most_bytes c.in_err-join-in-Whole.field-0.0
     c.in_err-join-in-Whole.ensures.too_large)
+
+pub returns-in_ok-state-in-Several-clause-least : goal.returns-in_ok-state-in-Several-clause-least
+returns-in_ok-state-in-Several-clause-least c =
+    let state = c.in_ok-state-in-Several.state in
+    rw (to_z-of_z {w = w64} {z = state.energy} (search rules)) (
+    least_of_ground_state c.args.planar.now.instance state.spins state.energy
+    (subst (λ inst. IsGroundState inst state.spins) c.instance-inst.ensures.value c.in_ok-state-in-Several.ensures.state.ground_state)
+    (sym (subst (λ inst. energy inst state.spins ≡ state.energy) c.instance-inst.ensures.value c.in_ok-state-in-Several.ensures.state.stated)))

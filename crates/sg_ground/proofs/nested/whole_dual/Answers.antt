@@ -1,4 +1,4 @@
-use Rattle.std.proofs.Common.{◌≡◌, ◌≤◌, ◌^◌, sym, subst, arith}
+use Rattle.std.proofs.Common.{◌≤◌, ◌^◌, sym, subst, arith}
 use Rattle.sg_faces.specs.Faces.{Labelling}
 use Rattle.sg_planar.specs.Fit.{Embedding}
 use Rattle.sg_planar.proofs.EulerBounds.{faces_within}

@@ -30,5 +30,7 @@ returns-clause-proves c = subst (λ (g : Graph). IfOk c.least_weight_by.result (
     c.self.view_is c.least_weight_by.ensures.proves
 
 pub returns-clause-too_large : goal.returns-clause-too_large
-returns-clause-too_large c = subst (λ (g : Graph). IfErr c.least_weight_by.result (IfTooLarge (c.args.most_bytes < table_bytes (length c.args.terminals.now) g.nodes)))
-    c.self.view_is c.least_weight_by.ensures.too_large
+returns-clause-too_large c =
+    let k = length c.args.terminals.now in
+    subst (λ (g : Graph). IfErr c.least_weight_by.result (IfTooLarge (c.args.most_bytes < table_bytes k g.nodes))) c.self.view_is
+    c.least_weight_by.ensures.too_large
