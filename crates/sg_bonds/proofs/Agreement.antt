@@ -28,7 +28,7 @@ through x y z (inr a) (inr b) (inl c) = rw (a, b, c) refl
 through x y z (inr a) (inr b) (inr c) = rw (a, b, c) refl
 
 -- each spin of an assignment is up or down; past the last one it is read as up
-units : (inst : Ising) (g : List ℤ) → IsAssignment inst g → (i : ℕ) → IsUpOrDown (spin g i)
+pub units : (inst : Ising) (g : List ℤ) → IsAssignment inst g → (i : ℕ) → IsUpOrDown (spin g i)
 units inst g h i = elim (cases_lt i (length g)) [
   | inl l ↦ h.values i (pos 1) l
   | inr past ↦ inl (get_or_past g i (pos 1) past)

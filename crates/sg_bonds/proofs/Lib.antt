@@ -14,5 +14,8 @@ pub mod JoinedCosts
 pub mod EdgeJoins
 pub mod JoinStates
 pub mod JoinsFound
+pub mod TurnedBonds
 pub mod WeakenedEnergy
 pub mod Weakening
+pub mod PartFlips
+pub mod EvenCosts

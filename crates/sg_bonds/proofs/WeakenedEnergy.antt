@@ -29,7 +29,7 @@ abbrev no_bond : Bond
 no_bond = record { u = 0; v = 0; j = pos 0 }
 
 -- the sum of f over the numbers below n
-abbrev total : (ℕ → ℤ) → ℕ → ℤ
+abbrev pub total : (ℕ → ℤ) → ℕ → ℤ
 total f zero = pos 0
 total f (suc n) = total f n +ℤ f n
 
@@ -38,7 +38,7 @@ total-same f g zero h = refl
 total-same f g (suc n) h = ap₂ (λ x y. x +ℤ y) (total-same f g n (λ k l. h k (omega arith))) (h n (omega arith))
 
 -- the energy as a sum over the numbers of the bonds
-abbrev aligned_at : Ising → List ℤ → ℕ → ℤ
+abbrev pub aligned_at : Ising → List ℤ → ℕ → ℤ
 aligned_at inst s k = (bond_at inst k).j *ℤ product s (bond_at inst k)
 
 fold_is_total : (inst : Ising) (s : List ℤ) (n : ℕ) → n ≤ bond_count inst
@@ -51,7 +51,7 @@ fold_is_total inst s (suc n) l =
     ∙ fold_push (λ total b. total +ℤ (b.j *ℤ product s b)) (pos 0) (take n inst.bonds) (bond_at inst n)
     ∙ ap (λ x. x +ℤ aligned_at inst s n) (fold_is_total inst s n (omega (arith, l))))
 
-energy_is_total : (inst : Ising) (s : List ℤ) → energy inst s ≡ neg_ℤ (total (aligned_at inst s) (bond_count inst))
+pub energy_is_total : (inst : Ising) (s : List ℤ) → energy inst s ≡ neg_ℤ (total (aligned_at inst s) (bond_count inst))
 energy_is_total inst s =
     ap (λ (bonds : List Bond). neg_ℤ (fold (λ total b. total +ℤ (b.j *ℤ product s b)) (pos 0) bonds))
     (sym (take_all (bond_count inst) inst.bonds (omega arith)))

@@ -3,6 +3,8 @@ pub mod Cluster
 pub mod Naming
 pub mod Bounds
 pub mod Told
+pub mod Turned
 pub mod Weakened
+pub mod Flipped
 pub mod Study
 pub mod JoinsWith

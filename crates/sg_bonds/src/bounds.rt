@@ -1,17 +1,17 @@
 // What is known of the costs while they are found.
-ghost use Rattle.std.specs.Prelude.{◌≡◌, ◌⊎◌, ◌+ℤ◌, ◌<ℤ◌, neg_ℤ, true, length};
+ghost use Rattle.std.specs.Prelude.{◌≡◌, ◌⊎◌, ◌<ℤ◌, neg_ℤ, true, length};
 ghost use Rattle.sg_model.specs.Ising.{IsBond, bond_count};
-ghost use Rattle.sg_model.specs.Spins.{IsAssignment};
-ghost use Rattle.sg_model.specs.Energy.{IsGroundState, energy, product};
+ghost use Rattle.sg_model.specs.Energy.{IsGroundState, product};
 ghost use Rattle.sg_bonds.specs.Bounds.{Narrows, lowered, no_bound};
+ghost use Rattle.sg_bonds.specs.Turned.{IsTurned};
 
 use sg_model::{Bond, Instance, Spins};
 
-/// An assignment that lies so far above a ground state.
+/// An assignment that lies so far above a ground state, by the bonds at which they have different products.
 #[derive(Drop)]
 pub(crate) struct Turned {
     pub cost: i64,
-    pub spins: Spins,
+    pub marks: Vec<bool>,
 }
 
 /// A lower and an upper bound of the cost of a bond. The number -1 says nothing.
@@ -32,8 +32,8 @@ pub(crate) fn is_turned(least: &Spins, turned: &Spins, bond: &Bond) -> bool
     like != turned_like
 }
 
-// The bounds of a bond once there is an assignment that lies so far above the ground state.
-fn noted(bound: Bound, is_turned: bool, cost: i64) -> Bound
+/// The bounds of a bond once there is an assignment that lies so far above the ground state.
+pub(crate) fn noted(bound: Bound, is_turned: bool, cost: i64) -> Bound
     ensures { (result ≡ bound) ⊎ ((is_turned ≡ true)
         × ((bound.high ≡ no_bound) ⊎ (cost <ℤ bound.high)) × (result ≡ lowered bound cost)) }
 {
@@ -49,13 +49,13 @@ fn noted(bound: Bound, is_turned: bool, cost: i64) -> Bound
 /// Lowers the upper bound of each bond that the assignment flips to how far it lies above the ground state.
 pub(crate) fn note(inst: &Instance, least: &Spins, turned: &Turned, bounds: &mut [Bound])
     requires ground_state { IsGroundState inst.now least.now }
-    requires assignment { IsAssignment inst.now turned.now.spins }
-    requires above { energy inst.now turned.now.spins ≡ energy inst.now least.now +ℤ turned.now.cost }
+    requires turned { IsTurned inst.now least.now turned.now }
     requires count { length bounds.old ≡ bond_count inst.now }
     ensures { Narrows inst.now bounds.old bounds.new }
 {
-    for (k, bond) in inst.bonds().as_slice().iter().enumerate() {
-        let turns = is_turned(least, &turned.spins, bond);
-        bounds[k] = noted(bounds[k], turns, turned.cost);
+    let marks = turned.marks.as_slice();
+    let count = inst.bonds().len();
+    for k in 0..count {
+        bounds[k] = noted(bounds[k], marks[k], turned.cost);
     }
 }

@@ -76,8 +76,8 @@ fn all_costs(
     }
 }
 
-// The numbers below this one.
-fn numbers_below(alloc: Global, count: usize) -> Result<Vec<u32>, NoMemory>
+/// The numbers below this one.
+pub(crate) fn numbers_below(alloc: Global, count: usize) -> Result<Vec<u32>, NoMemory>
     requires { count ≤ 2 ^ 32 }
     ensures count { IfOk result (λ list. length list.items ≡ count) }
     ensures each { IfOk result (λ list. (k : ℕ) → k < count → slice_index_or list.items k 0 ≡ k) }

@@ -20,7 +20,7 @@ use std::alloc::Global;
 
 /// Spins and their energy, the least with some product at some bond.
 #[derive(Drop)]
-pub struct LeastState {
+pub(crate) struct LeastState {
     pub energy: i64,
     pub spins: Spins,
 }
@@ -38,34 +38,14 @@ pub(crate) fn other_product(spins: &Spins, bond: &Bond) -> i64
     }
 }
 
-/// An assignment of the least energy among those with this product at the bond: that which repairs
-/// prove, and else a ground state of a copy that forces it.
-pub(crate) fn state_with(
+/// An assignment of the least energy among those with this product at the bond, by a new ground state of a copy that
+/// forces it.
+pub(crate) fn least_with(
     alloc: Global,
     study: &Study,
-    states: &mut BondStates,
     bond: u32,
     wanted: i64,
 ) -> Result<LeastState, Unproved>
-    requires study { IsStudy study.now }
-    requires states { states.old ≡ study.now.planar.now }
-    requires bond_in { bond < bond_count study.now.planar.now.instance }
-    requires up_or_down { IsUpOrDown wanted }
-    ensures states { states.new ≡ study.now.planar.now }
-    ensures least { IfOk result (λ t. IsLeastWith study.now.planar.now.instance bond wanted t.energy) }
-    ensures assignment { IfOk result (λ t. IsAssignment study.now.planar.now.instance t.spins) }
-    ensures product { IfOk result (λ t. product t.spins (bond_at study.now.planar.now.instance bond) ≡ wanted) }
-    ensures energy { IfOk result (λ t. t.energy ≡ energy study.now.planar.now.instance t.spins) }
-    ensures too_large { IfErr result (IfTooLarge (ForcedTablesExceed study.now.most_bytes study.now.planar.now.instance)) }
-{
-    match states.least_with(alloc, bond, wanted)? {
-        Some(state) => Ok(state),
-        None => least_with(alloc, study, bond, wanted),
-    }
-}
-
-// An assignment of the least energy among those with this product at the bond, by a new ground state.
-fn least_with(alloc: Global, study: &Study, bond: u32, wanted: i64) -> Result<LeastState, Unproved>
     requires study { IsStudy study.now }
     requires bond_in { bond < bond_count study.now.planar.now.instance }
     requires up_or_down { IsUpOrDown wanted }

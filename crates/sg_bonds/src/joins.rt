@@ -1,12 +1,12 @@
 // Minimum T-joins among those that have an edge, or that do not: proposed by repairs, and judged.
-ghost use Rattle.std.specs.Prelude.{◌≡◌, ◌<◌, ◌≤◌, ◌^◌, ◌&&◌, ℕ, false, length, All, IfOk, IfSome, IsTrue};
+ghost use Rattle.std.specs.Prelude.{◌≡◌, ◌<◌, ◌≤◌, ◌^◌, ◌&&◌, ℕ, false, length, pos, All, IfOk, IfSome, IsTrue};
 ghost use Rattle.std.specs.List.Sorted.{IsStrictlyIncreasing};
 ghost use Rattle.sg_limits.specs.Limits.{forced_limit};
 ghost use Rattle.sg_sums.specs.Ends.{is_end};
 ghost use Rattle.sg_sums.specs.Parity.{xor};
 ghost use Rattle.sg_sums.specs.Sets.{holds, is_marked};
 ghost use Rattle.sg_graph.specs.Join.{AreTerminals, IsLeastJoin};
-ghost use Rattle.sg_graph.specs.Web.{edge_at, edge_count, total_weight};
+ghost use Rattle.sg_graph.specs.Web.{edge_at, edge_count, total_weight, weight_of};
 ghost use Rattle.sg_bonds.specs.JoinsWith.{IsLeastBeside, IsLeastJoinWith, turned_at};
 
 use super::NoMemory;
@@ -70,6 +70,15 @@ pub(crate) fn join_with(
     };
     turn_marks(&mut marks, turn.walk.as_slice());
     turned_join(alloc, judged, &turn.nest, &mut marks, edge, has)
+}
+
+/// What a T-join weighs.
+pub(crate) fn weight(web: &Web, edges: &EdgeList) -> i64
+    requires rising { IsStrictlyIncreasing edges.now }
+    requires below { All (λ e. e < edge_count web.now) edges.now }
+    ensures { result ≡ pos (weight_of web.now edges.now) }
+{
+    web.weight(edges.as_slice()) as i64
 }
 
 // A mark for each edge, set for those of the T-join that the finished regions prove.

@@ -18,12 +18,18 @@
 //! the law `forced_minimum`. `waiting` picks the next bond by a heap. `clusters` needs only to know
 //! whether a cost is positive (`telling`): all undecided bonds are weakened a little (`weaken`). If the
 //! old ground state still is one, they are all rigid, by the law `weakened_bounds`
-//! (`proofs/WeakenedEnergy.antt`); else a new one flips some of them at no cost.
+//! (`proofs/WeakenedEnergy.antt`); else a new one flips some of them at no cost. `bond_bounds` bounds all costs
+//! at once (`enclosing`): from above by flips of parts of the spins (`flipping`), from below by the same law with
+//! larger amounts (`deciding`), of which `amounts` proposes some. Costs are even (`proofs/EvenCosts.antt`).
 #![tactic(auto)]
 
+mod amounts;
 mod bounds;
 mod breaking;
 mod components;
+mod deciding;
+mod enclosing;
+mod flipping;
 mod forcing;
 mod joins;
 mod law;
@@ -38,12 +44,12 @@ mod weaken;
 pub use bounds::Bound;
 pub use breaking::rigid;
 pub use components::costs;
-pub use forcing::LeastState;
+pub use enclosing::bond_bounds;
 pub use law::{forced_minimum, least_joins_with, rigid_clusters_agree, weakened_bounds};
 pub use naming::{clusters, clusters_by, clusters_within};
 pub use narrowing::costs_of;
 use sg_list::Numbers;
-pub use states::BondStates;
+pub use states::{BondStates, LeastBroken};
 use std::alloc::AllocError;
 
 /// The allocator had no memory left.

@@ -1,23 +1,25 @@
 // Least states with a product at a bond, by regions that are repaired for one bond after another.
-ghost use Rattle.std.specs.Prelude.{◌≡◌, ◌<◌, ℤ, IfOk, IfSome};
+ghost use Rattle.std.specs.Prelude.{◌≡◌, ◌<◌, ◌≤◌, ◌+ℤ◌, ◌-ℤ◌, ℤ, pos, unsigned_abs, IfOk, IfSome};
+ghost use Rattle.sg_limits.specs.Limits.{forced_limit};
 ghost use Rattle.sg_model.specs.Ising.{bond_at, bond_count};
 ghost use Rattle.sg_model.specs.Connected.{IsConnected};
 ghost use Rattle.sg_model.specs.Spins.{IsAssignment, IsUpOrDown};
-ghost use Rattle.sg_model.specs.Energy.{IsGroundState, energy, product};
+ghost use Rattle.sg_model.specs.Energy.{IsGroundState, energy, weight};
 ghost use Rattle.sg_planar.specs.BrokenLists.{BreaksExactly};
 ghost use Rattle.sg_planar.specs.Fit.{IsPlanar};
-ghost use Rattle.sg_graph.specs.Join.{IsJoin, IsLeastJoin};
+ghost use Rattle.sg_graph.specs.Join.{AreTerminals, IsJoin, IsLeastJoin};
+ghost use Rattle.sg_graph.specs.Web.{edge_count, total_weight, weight_of};
 ghost use Rattle.sg_dual.specs.Dual.{dual_web, frustrated_faces};
 ghost use Rattle.sg_bonds.specs.Cost.{IsLeastWith};
 ghost use Rattle.sg_bonds.specs.JoinsWith.{IsDualOf, IsLeastJoinWith, breaks_with};
+ghost use Rattle.sg_bonds.specs.Turned.{HasBroken};
 
 use super::NoMemory;
-use super::forcing::LeastState;
-use super::joins::{JudgedWeb, join_of, join_with};
+use super::joins::{JudgedWeb, join_of, join_with, weight};
 use sg_dual::dual;
 use sg_graph::EdgeList;
 use sg_ground::State;
-use sg_model::Bond;
+use sg_model::{Bond, BondList, Instance};
 use sg_nest::Judge;
 use sg_planar::{Planar, spin_walk};
 use sg_repairs::Repairs;
@@ -29,6 +31,20 @@ use std::marker::Model;
 struct Finder {
     judged: JudgedWeb,
     repairs: Repairs,
+}
+
+// A T-join and its weight.
+#[derive(Drop)]
+struct WeighedEdges {
+    edges: EdgeList,
+    weight: i64,
+}
+
+/// The bonds that some assignment breaks, and its energy.
+#[derive(Drop)]
+pub struct LeastBroken {
+    pub energy: i64,
+    pub bonds: BondList,
 }
 
 /// States of an instance that are least among those with some product at some bond, found without a
@@ -64,34 +80,30 @@ impl<'a> BondStates<'a> {
         Ok(BondStates { planar, finder })
     }
 
-    /// An assignment of the least energy among those with this product at the bond, or nothing where
+    /// What an assignment of the least energy among those with this product at the bond breaks, or nothing where
     /// the regions do not prove one: a caller then has another way. The only error is running out of
     /// memory, and what was asked before changes no answer.
     ///
-    /// Cost: that of a repair, and time linear in the instance.
+    /// Cost: that of a repair and of the judge.
     pub fn least_with(
         &mut self,
         alloc: Global,
         bond: u32,
         wanted: i64,
-    ) -> Result<Option<LeastState>, NoMemory>
+    ) -> Result<Option<LeastBroken>, NoMemory>
         requires bond_in { bond < bond_count self.old.instance }
         requires up_or_down { IsUpOrDown wanted }
         ensures same { self.new ≡ self.old }
         ensures least { IfOk result (λ found. IfSome found
             (λ t. IsLeastWith self.old.instance bond wanted t.energy)) }
-        ensures assignment { IfOk result (λ found. IfSome found
-            (λ t. IsAssignment self.old.instance t.spins)) }
-        ensures product { IfOk result (λ found. IfSome found
-            (λ t. product t.spins (bond_at self.old.instance bond) ≡ wanted)) }
-        ensures energy { IfOk result (λ found. IfSome found
-            (λ t. t.energy ≡ energy self.old.instance t.spins)) }
+        ensures breaks { IfOk result (λ found. IfSome found
+            (λ t. HasBroken self.old.instance t.energy t.bonds)) }
     {
         let has = breaks(self.planar.instance().bonds().at(bond as usize), wanted);
-        let Some(edges) = self.join_with(alloc, bond, has)? else {
+        let Some(join) = self.join_with(alloc, bond, has)? else {
             return Ok(None);
         };
-        Ok(Some(state_of(alloc, self.planar, bond, has, &edges)?))
+        Ok(Some(broken_by(self.planar, bond, has, join)))
     }
 
     /// A ground state, or nothing where the regions prove none. The only error is running out of
@@ -128,18 +140,43 @@ impl<'a> BondStates<'a> {
         alloc: Global,
         bond: u32,
         has: bool,
-    ) -> Result<Option<EdgeList>, NoMemory>
+    ) -> Result<Option<WeighedEdges>, NoMemory>
         requires bond_in { bond < bond_count self.old.instance }
         ensures same { self.new ≡ self.old }
         ensures connected { IfOk result (λ found. IfSome found (λ _. IsConnected self.old.instance)) }
-        ensures join { IfOk result (λ found. IfSome found (IsLeastJoinWith
-            (dual_web self.old.instance self.old.faces) (frustrated_faces self.old.instance self.old.faces) bond has)) }
+        ensures join { IfOk result (λ found. IfSome found (λ j. IsLeastJoinWith
+            (dual_web self.old.instance self.old.faces) (frustrated_faces self.old.instance self.old.faces) bond has j.edges)) }
+        ensures weight { IfOk result (λ found. IfSome found (λ j.
+            j.weight ≡ pos (weight_of (dual_web self.old.instance self.old.faces) j.edges))) }
     {
         let Some(finder) = &mut self.finder else {
             return Ok(None);
         };
-        join_with(alloc, &mut finder.judged, &mut finder.repairs, bond, has)
+        weighed_join_with(alloc, finder, bond, has)
     }
+}
+
+// A minimum T-join among those that have the edge, or that do not.
+fn weighed_join_with(
+    alloc: Global,
+    finder: &mut Finder,
+    edge: u32,
+    has: bool,
+) -> Result<Option<WeighedEdges>, NoMemory>
+    requires edge { edge < edge_count finder.old.judged.web }
+    requires terminals { AreTerminals finder.old.judged.web finder.old.judged.terminals }
+    requires light { total_weight finder.old.judged.web ≤ forced_limit }
+    ensures web { finder.new.judged.web ≡ finder.old.judged.web }
+    ensures terminals { finder.new.judged.terminals ≡ finder.old.judged.terminals }
+    ensures join { IfOk result (λ found. IfSome found (λ j.
+        IsLeastJoinWith finder.old.judged.web finder.old.judged.terminals edge has j.edges)) }
+    ensures weight { IfOk result (λ found. IfSome found (λ j. j.weight ≡ pos (weight_of finder.old.judged.web j.edges))) }
+{
+    let Some(edges) = join_with(alloc, &mut finder.judged, &mut finder.repairs, edge, has)? else {
+        return Ok(None);
+    };
+    let weight = weight(&finder.judged.web, &edges);
+    Ok(Some(WeighedEdges { edges, weight }))
 }
 
 // The dual of a connected instance and what its regions propose, if they propose anything.
@@ -163,8 +200,8 @@ fn make_finder(alloc: Global, planar: &Planar) -> Result<Option<Finder>, NoMemor
     Ok(Some(Finder { judged, repairs }))
 }
 
-// Whether spins with this product break the bond.
-fn breaks(bond: &Bond, product: i64) -> bool
+/// Whether spins with this product break the bond.
+pub(crate) fn breaks(bond: &Bond, product: i64) -> bool
     ensures { result ≡ breaks_with bond.now product }
 {
     if bond.j < 0 {
@@ -174,31 +211,32 @@ fn breaks(bond: &Bond, product: i64) -> bool
     }
 }
 
-// The state that breaks the edges of a minimum T-join among those that have the bond, or that do
-// not.
-fn state_of(
-    alloc: Global,
-    planar: &Planar,
-    bond: u32,
-    has: bool,
-    edges: &EdgeList,
-) -> Result<LeastState, NoMemory>
+// What breaks just a minimum T-join among those that have the bond, or that do not.
+fn broken_by(planar: &Planar, bond: u32, has: bool, join: WeighedEdges) -> LeastBroken
     requires connected { IsConnected planar.now.instance }
     requires bond_in { bond < bond_count planar.now.instance }
     requires join { IsLeastJoinWith (dual_web planar.now.instance planar.now.faces)
-        (frustrated_faces planar.now.instance planar.now.faces) bond has edges.now }
-    ensures least { IfOk result (λ t. (p : ℤ) → IsUpOrDown p → breaks_with (bond_at planar.now.instance bond) p ≡ has →
-        IsLeastWith planar.now.instance bond p t.energy) }
-    ensures product { IfOk result (λ t. (p : ℤ) → IsUpOrDown p → breaks_with (bond_at planar.now.instance bond) p ≡ has →
-        product t.spins (bond_at planar.now.instance bond) ≡ p) }
-    ensures assignment { IfOk result (λ t. IsAssignment planar.now.instance t.spins) }
-    ensures energy { IfOk result (λ t. t.energy ≡ energy planar.now.instance t.spins) }
+        (frustrated_faces planar.now.instance planar.now.faces) bond has join.edges }
+    requires weight { join.weight ≡ pos (weight_of (dual_web planar.now.instance planar.now.faces) join.edges) }
+    ensures least { (p : ℤ) → IsUpOrDown p → breaks_with (bond_at planar.now.instance bond) p ≡ has →
+        IsLeastWith planar.now.instance bond p result.energy }
+    ensures breaks { HasBroken planar.now.instance result.energy result.bonds }
 {
-    let state = state_breaking(alloc, planar, edges)?;
-    Ok(LeastState {
-        energy: state.energy,
-        spins: state.spins,
-    })
+    let energy = broken_energy(planar.instance(), join.weight);
+    LeastBroken {
+        energy,
+        bonds: join.edges,
+    }
+}
+
+// The energy where the broken bonds weigh so much: twice that, less the weight of all bonds.
+fn broken_energy(inst: &Instance, broken: i64) -> i64
+    requires sum { weight inst.now ≤ forced_limit }
+    requires light { unsigned_abs broken ≤ forced_limit }
+    ensures { result ≡ (broken +ℤ broken) -ℤ pos (weight inst.now) }
+{
+    let all = inst.weight() as i64;
+    broken + broken - all
 }
 
 // The state that breaks the edges of a T-join.

@@ -61,8 +61,8 @@ fn lesser(a: u64, b: u64) -> u64
     if a < b { a } else { b }
 }
 
-// The product of the two spins of a bond.
-fn product_at(spins: &Spins, bond: &Bond) -> i64
+/// The product of the two spins of a bond.
+pub(crate) fn product_at(spins: &Spins, bond: &Bond) -> i64
     requires { IsBond (length spins.now) bond.now }
     ensures up_or_down { IsUpOrDown result }
     ensures value { product spins.now bond.now ≡ result }

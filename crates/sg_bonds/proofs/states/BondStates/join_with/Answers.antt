@@ -1,15 +1,18 @@
-use Rattle.std.proofs.Common.{Option, ap, subst, arith}
-use Rattle.std.specs.Prelude.{IfSome}
+use Rattle.std.proofs.Common.{◌≡◌, ◌∙◌, Option, pos, ap, subst, arith}
+use Rattle.std.specs.Prelude.{IfOk, IfSome}
 use Rattle.sg_model.specs.Ising.{bond_count}
 use Rattle.sg_model.specs.Connected.{IsConnected}
+use Rattle.sg_graph.specs.Web.{Graph, weight_of}
+use Rattle.sg_dual.specs.Dual.{dual_web}
 use Rattle.sg_planar.specs.Fit.{Embedding}
 use Rattle.sg_bonds.specs.declared.states.Finder.{Finder}
+use Rattle.sg_bonds.specs.declared.states.WeighedEdges.{WeighedEdges}
 use Rattle.sg_bonds.specs.JoinsWith.{IsDualOf}
 use Rattle.sg_bonds.proofs.JoinStates.{always_found, dual_edges, dual_light, dual_terminals}
 use Rattle.sg_bonds.proofs.states.BondStates.join_with.Goals as goal
 
-pub join_with-requires-clause-edge : goal.join_with-requires-clause-edge
-join_with-requires-clause-edge c =
+pub weighed_join_with-requires-clause-edge : goal.weighed_join_with-requires-clause-edge
+weighed_join_with-requires-clause-edge c =
     let f = c.in-Some.finder in
     let dual : IsDualOf c.self.inside.planar.now f.judged.web f.judged.terminals =
     subst (λ (o : Option Finder). IfSome o (λ f. IsDualOf c.self.inside.planar.now f.judged.web f.judged.terminals)) c.in-Some.is c.self.invariant in
@@ -20,14 +23,14 @@ join_with-requires-clause-edge c =
       dual_edges c.self.inside.planar.now f.judged.web f.judged.terminals dual,
     )
 
-pub join_with-requires-clause-terminals : goal.join_with-requires-clause-terminals
-join_with-requires-clause-terminals c =
+pub weighed_join_with-requires-clause-terminals : goal.weighed_join_with-requires-clause-terminals
+weighed_join_with-requires-clause-terminals c =
     let f = c.in-Some.finder in
     dual_terminals c.self.inside.planar.now f.judged.web f.judged.terminals
     (subst (λ (o : Option Finder). IfSome o (λ f. IsDualOf c.self.inside.planar.now f.judged.web f.judged.terminals)) c.in-Some.is c.self.invariant)
 
-pub join_with-requires-clause-light : goal.join_with-requires-clause-light
-join_with-requires-clause-light c =
+pub weighed_join_with-requires-clause-light : goal.weighed_join_with-requires-clause-light
+weighed_join_with-requires-clause-light c =
     let f = c.in-Some.finder in
     dual_light c.self.inside.planar.now f.judged.web f.judged.terminals
     (subst (λ (o : Option Finder). IfSome o (λ f. IsDualOf c.self.inside.planar.now f.judged.web f.judged.terminals)) c.in-Some.is c.self.invariant)
@@ -37,5 +40,15 @@ returns-clause-connected c =
     let f = c.in-Some.finder in
     let dual : IsDualOf c.self.inside.planar.now f.judged.web f.judged.terminals =
     subst (λ (o : Option Finder). IfSome o (λ f. IsDualOf c.self.inside.planar.now f.judged.web f.judged.terminals)) c.in-Some.is c.self.invariant in
-    always_found c.join_with.result (IsConnected c.args.self.now.instance)
+    always_found c.weighed_join_with.result (IsConnected c.args.self.now.instance)
     (subst (λ (p : Embedding). IsConnected p.instance) c.self.view_is dual.connected)
+
+pub returns-clause-weight : goal.returns-clause-weight
+returns-clause-weight c =
+    let f = c.in-Some.finder in
+    let dual : IsDualOf c.self.inside.planar.now f.judged.web f.judged.terminals =
+    subst (λ (o : Option Finder). IfSome o (λ f. IsDualOf c.self.inside.planar.now f.judged.web f.judged.terminals)) c.in-Some.is c.self.invariant in
+    let same : f.judged.web ≡ dual_web c.args.self.now.instance c.args.self.now.faces =
+    dual.web ∙ ap (λ (p : Embedding). dual_web p.instance p.faces) c.self.view_is in
+    subst (λ (g : Graph). IfOk c.weighed_join_with.result (λ (o : Option WeighedEdges). IfSome o (λ (j : WeighedEdges). j.weight ≡ pos (weight_of g j.edges))))
+    same c.weighed_join_with.ensures.weight

@@ -1,0 +1,268 @@
+-- Assignments of which a part is flipped: their products, and their energies by sums over the bonds.
+use Rattle.std.proofs.Common.{◌≡◌, ◌≢◌, ◌⊎◌, inl, inr, ℕ, zero, suc, ◌+◌, ◌*◌, ◌<◌, ◌≤◌, Bool, true, false, not, cond, eqb, ℤ, pos, neg_ℤ, ◌+ℤ◌, ◌-ℤ◌, ◌*ℤ◌, List, [], length, get_or, set, refl, sym, ◌∙◌, ap, ap₂, subst, arith, All}
+use Rattle.std.specs.Prelude.{unsigned_abs}
+use Rattle.std.proofs.lemmas.Bool.{cases_eq, cases_lt, eq-eqb, ne_eqb}
+use Rattle.std.proofs.lemmas.Int.{ints}
+use Rattle.std.proofs.lemmas.List.{get_or-set_other, get_or-set_same, get_or_default}
+use Rattle.std.proofs.lemmas.List.Elements.{All-from_get_or}
+use Rattle.std.proofs.lemmas.List.FromFn.{get_or-map-range_with_len, length-map-range_with_len}
+use Rattle.sg_sums.specs.Parity.{xor}
+use Rattle.sg_sums.specs.Sums.{sum_below}
+use Rattle.sg_sums.proofs.SumLaws.{sum_by_is_sum_below}
+use Rattle.sg_model.specs.declared.bond.Bond.{Bond}
+use Rattle.sg_model.specs.Ising.{Ising, IsBond, bond_at, bond_count}
+use Rattle.sg_model.specs.WellFormed.{IsInstance}
+use Rattle.sg_model.specs.Spins.{IsUpOrDown, IsAssignment, spin}
+use Rattle.sg_model.specs.Energy.{energy, product, weight}
+use Rattle.sg_walk.specs.Naming.{AllNamed}
+use Rattle.sg_bonds.specs.Flipped.{with_part_flipped}
+use Rattle.sg_bonds.proofs.Agreement.{units}
+use Rattle.sg_bonds.proofs.ForcedMinimum.{unit_product}
+use Rattle.sg_bonds.proofs.WeakenedEnergy.{aligned_at, energy_is_total, total}
+
+abbrev no_bond : Bond
+no_bond = record { u = 0; v = 0; j = pos 0 }
+
+sum_grows : (f : ℕ → ℕ) (n m : ℕ) → n ≤ m → sum_below f n ≤ sum_below f m
+sum_grows f n zero l = omega (arith, ap (sum_below f) (none n l))
+  where
+    none : (n : ℕ) → n ≤ 0 → n ≡ 0
+    none n l = omega (arith, l)
+sum_grows f n (suc m) l = elim (cases_lt m n) [
+  | inl all ↦ (let same : n ≡ suc m = omega (arith, all, l) in omega (arith, ap (sum_below f) same))
+  | inr less ↦ (let before : sum_below f n ≤ sum_below f m = sum_grows f n m less in omega (arith, before))
+]
+
+unit_flipped : (x : ℤ) → IsUpOrDown x → IsUpOrDown (neg_ℤ x)
+unit_flipped x (inl e) = inr (ap neg_ℤ e)
+unit_flipped x (inr e) = inl (ap neg_ℤ e)
+
+unit_part : (b : Bool) (x : ℤ) → IsUpOrDown x → IsUpOrDown (cond b (neg_ℤ x) x)
+unit_part true x up = unit_flipped x up
+unit_part false x up = up
+
+-- the product changes its sign where one of the two is flipped
+part_product : (p q : Bool) (x y : ℤ) → IsUpOrDown x → IsUpOrDown y
+    → (cond p (neg_ℤ x) x *ℤ cond q (neg_ℤ y) y) ≡ cond (xor p q) (neg_ℤ (x *ℤ y)) (x *ℤ y)
+part_product true true x y (inl e) (inl f) = rw (e, f) refl
+part_product true true x y (inl e) (inr f) = rw (e, f) refl
+part_product true true x y (inr e) (inl f) = rw (e, f) refl
+part_product true true x y (inr e) (inr f) = rw (e, f) refl
+part_product true false x y (inl e) (inl f) = rw (e, f) refl
+part_product true false x y (inl e) (inr f) = rw (e, f) refl
+part_product true false x y (inr e) (inl f) = rw (e, f) refl
+part_product true false x y (inr e) (inr f) = rw (e, f) refl
+part_product false true x y (inl e) (inl f) = rw (e, f) refl
+part_product false true x y (inl e) (inr f) = rw (e, f) refl
+part_product false true x y (inr e) (inl f) = rw (e, f) refl
+part_product false true x y (inr e) (inr f) = rw (e, f) refl
+part_product false false x y up down = refl
+
+-- a coupling times a product, and times the opposite one
+flipped_term : (b : Bool) (j p : ℤ) → IsUpOrDown p → j *ℤ cond b (neg_ℤ p) p ≡ (j *ℤ p) -ℤ cond b (pos 2 *ℤ (j *ℤ p)) (pos 0)
+flipped_term true j p (inl e) = rw e (omega (arith, ints))
+flipped_term true j p (inr e) = rw e (omega (arith, ints))
+flipped_term false j p up = none (j *ℤ p)
+  where
+    none : (x : ℤ) → x ≡ x -ℤ pos 0
+    none x = omega (arith, ints)
+
+module _ (inst : Ising) (s : List ℤ) (parts : List ℕ) where
+  -- whether bond k connects the part with another
+  abbrev pub leaves_part : ℕ → ℕ → Bool
+  leaves_part part k = xor (eqb (get_or parts (bond_at inst k).u 0) part) (eqb (get_or parts (bond_at inst k).v 0) part)
+
+  -- what is gained at bond k by flipping the part
+  abbrev pub gain_at : ℕ → ℕ → ℤ
+  gain_at part k = cond (leaves_part part k) (pos 2 *ℤ aligned_at inst s k) (pos 0)
+
+module _ (inst : Ising) (good : IsInstance inst) (s : List ℤ) (first : IsAssignment inst s) (parts : List ℕ) (part : ℕ) where
+  abbrev other : List ℤ
+  other = with_part_flipped s parts part
+
+  spin_of : (i : ℕ) → i < inst.n → spin other i ≡ cond (eqb (get_or parts i 0) part) (neg_ℤ (spin s i)) (spin s i)
+  spin_of i l =
+      get_or-map-range_with_len (λ i. cond (eqb (get_or parts i 0) part) (neg_ℤ (spin s i)) (spin s i)) 0 (length s) i i (pos 1)
+      (omega (arith, l, first.count)) (omega arith)
+
+  long : length other ≡ inst.n
+  long = length-map-range_with_len (λ i. cond (eqb (get_or parts i 0) part) (neg_ℤ (spin s i)) (spin s i)) 0 (length s) ∙ first.count
+
+  pub flipped_assignment : IsAssignment inst other
+  flipped_assignment = record {
+    count = long;
+    values = All-from_get_or IsUpOrDown other (pos 1) (λ i l.
+        subst IsUpOrDown (sym (spin_of i (omega (arith, l, long)))) (unit_part (eqb (get_or parts i 0) part) (spin s i) (units inst s first i)));
+  }
+
+  module _ (k : ℕ) (inside : k < bond_count inst) where
+    joined : IsBond inst.n (bond_at inst k)
+    joined = good.draft.joined k _ inside
+
+    product_is : product other (bond_at inst k) ≡ cond (leaves_part inst s parts part k) (neg_ℤ (product s (bond_at inst k))) (product s (bond_at inst k))
+    product_is =
+        ap₂ (λ x y. x *ℤ y) (spin_of (bond_at inst k).u joined.first_end) (spin_of (bond_at inst k).v joined.second_end)
+        ∙ part_product (eqb (get_or parts (bond_at inst k).u 0) part) (eqb (get_or parts (bond_at inst k).v 0) part)
+        (spin s (bond_at inst k).u) (spin s (bond_at inst k).v) (units inst s first (bond_at inst k).u) (units inst s first (bond_at inst k).v)
+
+    -- a bond that leaves the part is flipped
+    pub part_turned : leaves_part inst s parts part k ≡ true → product other (bond_at inst k) ≡ neg_ℤ (product s (bond_at inst k))
+    part_turned out = product_is ∙ ap (λ b. cond b (neg_ℤ (product s (bond_at inst k))) (product s (bond_at inst k))) out
+
+    term_is : aligned_at inst other k ≡ aligned_at inst s k -ℤ gain_at inst s parts part k
+    term_is =
+        ap (λ x. (bond_at inst k).j *ℤ x) product_is
+        ∙ flipped_term (leaves_part inst s parts part k) (bond_at inst k).j (product s (bond_at inst k)) (unit_product inst good k inside s first)
+
+  total_is : (n : ℕ) → n ≤ bond_count inst → total (aligned_at inst other) n ≡ total (aligned_at inst s) n -ℤ total (gain_at inst s parts part) n
+  total_is zero l = refl
+  total_is (suc n) l =
+      more (total (aligned_at inst other) n) (aligned_at inst other n) (total (aligned_at inst s) n) (aligned_at inst s n)
+      (total (gain_at inst s parts part) n) (gain_at inst s parts part n) (total_is n (omega (arith, l))) (term_is n (omega (arith, l)))
+    where
+      more : (w v x y a b : ℤ) → w ≡ x -ℤ a → v ≡ y -ℤ b → w +ℤ v ≡ (x +ℤ y) -ℤ (a +ℤ b)
+      more w v x y a b p q = omega (arith, ints)
+
+  -- the energy of the assignment
+  pub flipped_energy : energy inst other ≡ energy inst s +ℤ total (gain_at inst s parts part) (bond_count inst)
+  flipped_energy =
+      apart (energy inst other) (energy inst s) (total (aligned_at inst other) (bond_count inst)) (total (aligned_at inst s) (bond_count inst))
+      (total (gain_at inst s parts part) (bond_count inst)) (energy_is_total inst other) (energy_is_total inst s)
+      (total_is (bond_count inst) (omega arith))
+    where
+      apart : (e f x y g : ℤ) → e ≡ neg_ℤ x → f ≡ neg_ℤ y → x ≡ y -ℤ g → e ≡ f +ℤ g
+      apart e f x y g a b c = omega (arith, ints)
+
+  -- the size of what is gained at the first bonds
+  pub gain_size : (n : ℕ) → n ≤ bond_count inst → unsigned_abs (total (gain_at inst s parts part) n) ≤ 2 * sum_below (λ k. unsigned_abs (bond_at inst k).j) n
+  gain_size zero l = omega arith
+  gain_size (suc n) l =
+      both (total (gain_at inst s parts part) n) (gain_at inst s parts part n) (sum_below (λ k. unsigned_abs (bond_at inst k).j) n)
+      (unsigned_abs (bond_at inst n).j) (gain_size n (omega (arith, l)))
+      (term_size (leaves_part inst s parts part n) (bond_at inst n).j (product s (bond_at inst n)) (unit_product inst good n (omega (arith, l)) s first))
+    where
+      both : (x y : ℤ) (a b : ℕ) → unsigned_abs x ≤ 2 * a → unsigned_abs y ≤ 2 * b → unsigned_abs (x +ℤ y) ≤ 2 * (a + b)
+      both x y a b p q = omega (arith, ints)
+
+      term_size : (b : Bool) (j p : ℤ) → IsUpOrDown p → unsigned_abs (cond b (pos 2 *ℤ (j *ℤ p)) (pos 0)) ≤ 2 * unsigned_abs j
+      term_size true j p (inl e) = rw e (omega (arith, ints))
+      term_size true j p (inr e) = rw e (omega (arith, ints))
+      term_size false j p up = omega arith
+
+  -- it is at most twice the sum of all sizes
+  pub part_size : (n : ℕ) → n ≤ bond_count inst → unsigned_abs (total (gain_at inst s parts part) n) ≤ 2 * weight inst
+  part_size n l =
+      omega (
+        arith,
+        gain_size n l,
+        sum_grows (λ k. unsigned_abs (bond_at inst k).j) n (bond_count inst) l,
+        sum_by_is_sum_below (λ (b : Bond). unsigned_abs b.j) inst.bonds no_bond,
+      )
+
+-- what is gained at one bond is no more than twice its size
+pub one_size : (b : Bool) (j p : ℤ) → IsUpOrDown p → unsigned_abs (cond b (pos 0) (pos 2 *ℤ (j *ℤ p))) ≤ 2 * unsigned_abs j
+one_size true j p up = omega arith
+one_size false j p (inl e) = rw e (omega (arith, ints))
+one_size false j p (inr e) = rw e (omega (arith, ints))
+
+-- a bond whose ends are in two parts leaves both
+pub leaves_both : (inst : Ising) (s : List ℤ) (parts : List ℕ) (k p q : ℕ) → p ≡ get_or parts (bond_at inst k).u 0 → q ≡ get_or parts (bond_at inst k).v 0 → p ≢ q
+    → (leaves_part inst s parts p k ≡ true) × (leaves_part inst s parts q k ≡ true)
+leaves_both inst s parts k p q is_p is_q apart = (
+  ap₂ (λ a b. xor (eqb a p) (eqb b p)) (sym is_p) (sym is_q) ∙ ap₂ xor (eq-eqb p p refl) (ne_eqb q p (λ e. apart (sym e))),
+  ap₂ (λ a b. xor (eqb a q) (eqb b q)) (sym is_p) (sym is_q) ∙ ap₂ xor (ne_eqb p q apart) (eq-eqb q q refl),
+)
+
+-- what is not equal by the test
+pub apart_of : (p q : ℕ) → not (eqb p q) ≡ true → p ≢ q
+apart_of p q h e = (let yes : eqb p q ≡ true = eq-eqb p q e in cc)
+
+-- one of a list's numbers grows
+pub added_at : (xs : List ℤ) (i c : ℕ) (x : ℤ) → i < length xs → get_or (set xs i (get_or xs i (pos 0) +ℤ x)) c (pos 0) ≡ get_or xs c (pos 0) +ℤ cond (eqb i c) x (pos 0)
+added_at xs i c x l = by_case (cases_eq i c)
+  where
+    none : (y : ℤ) → y ≡ y +ℤ pos 0
+    none y = omega (arith, ints)
+
+    by_case : (i ≡ c) ⊎ (i ≢ c) → get_or (set xs i (get_or xs i (pos 0) +ℤ x)) c (pos 0) ≡ get_or xs c (pos 0) +ℤ cond (eqb i c) x (pos 0)
+    by_case (inl e) =
+        subst (λ j. get_or (set xs i (get_or xs i (pos 0) +ℤ x)) j (pos 0) ≡ get_or xs j (pos 0) +ℤ cond (eqb i j) x (pos 0)) e
+        (get_or-set_same xs i (get_or xs i (pos 0) +ℤ x) (pos 0) l ∙ sym (ap (λ b. get_or xs i (pos 0) +ℤ cond b x (pos 0)) (eq-eqb i i refl)))
+    by_case (inr ne) =
+        get_or-set_other xs i c (get_or xs i (pos 0) +ℤ x) (pos 0) (λ e. ne (sym e))
+        ∙ none (get_or xs c (pos 0))
+        ∙ sym (ap (λ b. get_or xs c (pos 0) +ℤ cond b x (pos 0)) (ne_eqb i c ne))
+
+pub added_size : (xs : List ℤ) (i c : ℕ) (x : ℤ) → i < length xs
+    → unsigned_abs (get_or (set xs i (get_or xs i (pos 0) +ℤ x)) c (pos 0)) ≤ unsigned_abs (get_or xs c (pos 0)) + unsigned_abs x
+added_size xs i c x l =
+    subst (λ (z : ℤ). unsigned_abs z ≤ unsigned_abs (get_or xs c (pos 0)) + unsigned_abs x) (sym (added_at xs i c x l))
+    (by_test (eqb i c) (get_or xs c (pos 0)))
+  where
+    by_test : (b : Bool) (y : ℤ) → unsigned_abs (y +ℤ cond b x (pos 0)) ≤ unsigned_abs y + unsigned_abs x
+    by_test true y = omega (arith, ints)
+    by_test false y = omega (arith, ints)
+
+-- the parts at the ends of a bond are below the number of spins
+pub part_below : (inst : Ising) → IsInstance inst → (parts : List ℕ) → length parts ≡ inst.n → All (λ part. part < inst.n) parts → (k : ℕ) → k < bond_count inst
+    → (p : ℕ) → (p ≡ get_or parts (bond_at inst k).u 0) ⊎ (p ≡ get_or parts (bond_at inst k).v 0) → p < inst.n
+part_below inst good parts long within k inside p (inl e) =
+    let joined : IsBond inst.n (bond_at inst k) = good.draft.joined k _ inside in
+    subst (λ i. i < inst.n) (sym e) (within (bond_at inst k).u 0 (omega (arith, joined.first_end, long)))
+part_below inst good parts long within k inside p (inr e) =
+    let joined : IsBond inst.n (bond_at inst k) = good.draft.joined k _ inside in
+    subst (λ i. i < inst.n) (sym e) (within (bond_at inst k).v 0 (omega (arith, joined.second_end, long)))
+
+-- what both ends of a bond add to a part
+both_ends : (p q c : ℕ) (y : ℤ)
+    → (cond (eqb p c) (cond (eqb p q) (pos 0) y) (pos 0) +ℤ cond (eqb q c) (cond (eqb p q) (pos 0) y) (pos 0)) ≡ cond (xor (eqb p c) (eqb q c)) y (pos 0)
+both_ends p q c y = by_case (cases_eq p c) (cases_eq q c) (cases_eq p q)
+  where
+    one : (x : ℤ) → x +ℤ pos 0 ≡ x
+    one x = omega (arith, ints)
+
+    other : (x : ℤ) → pos 0 +ℤ x ≡ x
+    other x = omega (arith, ints)
+
+    by_case : (p ≡ c) ⊎ (p ≢ c) → (q ≡ c) ⊎ (q ≢ c) → (p ≡ q) ⊎ (p ≢ q)
+        → (cond (eqb p c) (cond (eqb p q) (pos 0) y) (pos 0) +ℤ cond (eqb q c) (cond (eqb p q) (pos 0) y) (pos 0)) ≡ cond (xor (eqb p c) (eqb q c)) y (pos 0)
+    by_case (inl e) (inl f) (inl g) = rw (eq-eqb p c e, eq-eqb q c f, eq-eqb p q g) refl
+    by_case (inl e) (inl f) (inr g) = absurd (g (e ∙ sym f))
+    by_case (inl e) (inr f) (inl g) = absurd (f (sym g ∙ e))
+    by_case (inl e) (inr f) (inr g) = rw (eq-eqb p c e, ne_eqb q c f, ne_eqb p q g) (one y)
+    by_case (inr e) (inl f) (inl g) = absurd (e (g ∙ f))
+    by_case (inr e) (inl f) (inr g) = rw (ne_eqb p c e, eq-eqb q c f, ne_eqb p q g) (other y)
+    by_case (inr e) (inr f) g = rw (ne_eqb p c e, ne_eqb q c f) refl
+
+-- after one bond more
+module _ (inst : Ising) (s : List ℤ) (parts : List ℕ) (gains : List ℤ) (k : ℕ)
+    (before : (part : ℕ) → part < inst.n → get_or gains part (pos 0) ≡ total (gain_at inst s parts part) k)
+    (p q : ℕ) (x : ℤ) (is_p : p ≡ get_or parts (bond_at inst k).u 0) (is_q : q ≡ get_or parts (bond_at inst k).v 0)
+    (is_x : x ≡ cond (eqb p q) (pos 0) (pos 2 *ℤ aligned_at inst s k)) where
+  abbrev once : List ℤ
+  once = set gains p (get_or gains p (pos 0) +ℤ x)
+
+  pub gains_more : (part : ℕ) → part < inst.n → p < length gains → q < length once
+      → get_or (set once q (get_or once q (pos 0) +ℤ x)) part (pos 0) ≡ total (gain_at inst s parts part) (k + 1)
+  gains_more part l in_p in_q =
+      let ends : cond (xor (eqb p part) (eqb q part)) (pos 2 *ℤ aligned_at inst s k) (pos 0) ≡ gain_at inst s parts part k =
+      ap₂ (λ a b. cond (xor (eqb a part) (eqb b part)) (pos 2 *ℤ aligned_at inst s k) (pos 0)) is_p is_q in
+      added_at once q part x in_q
+      ∙ ap (λ y. y +ℤ cond (eqb q part) x (pos 0)) (added_at gains p part x in_p)
+      ∙ assoc (get_or gains part (pos 0)) (cond (eqb p part) x (pos 0)) (cond (eqb q part) x (pos 0))
+      ∙ ap (λ y. get_or gains part (pos 0) +ℤ (cond (eqb p part) y (pos 0) +ℤ cond (eqb q part) y (pos 0))) is_x
+      ∙ ap₂ (λ a b. a +ℤ b) (before part l) (both_ends p q part (pos 2 *ℤ aligned_at inst s k) ∙ ends)
+      ∙ ap (total (gain_at inst s parts part)) next
+    where
+      next : suc k ≡ k + 1
+      next = omega arith
+
+      assoc : (a b c : ℤ) → (a +ℤ b) +ℤ c ≡ a +ℤ (b +ℤ c)
+      assoc a b c = omega (arith, ints)
+
+-- names are below the number of spins
+pub names_below : (inst : Ising) (set : ℕ → Bool) (names : List ℕ) → AllNamed inst set names → All (λ part. part < inst.n) names
+names_below inst set names named i d l =
+    let inside : i < inst.n = omega (arith, l, named.count) in
+    let least : get_or names i 0 ≤ i = (named.each i inside).least i ([], refl) in
+    omega (arith, get_or_default names i d 0 l, least, inside)

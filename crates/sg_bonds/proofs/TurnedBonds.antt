@@ -1,0 +1,148 @@
+-- Joins that assignments break, and the bonds that two assignments break differently.
+use Rattle.std.proofs.Common.{inl, inr, ◌≡◌, ◌≤◌, ℕ, ◌*◌, ◌<◌, ℤ, pos, neg_ℤ, negsuc, ◌+ℤ◌, ◌-ℤ◌, Bool, true, false, cond, eqb, List, length, map, refl, sym, ◌∙◌, ap, ap₂, subst, arith}
+use Rattle.std.specs.Prelude.{unsigned_abs}
+use Rattle.std.specs.Ordering.{int_eq}
+use Rattle.std.specs.List.{range_with_len}
+use Rattle.std.proofs.lemmas.Bool.{false≢true, true≢false}
+use Rattle.std.proofs.lemmas.Int.{ints}
+use Rattle.std.proofs.lemmas.List.{get_or-map, length-map}
+use Rattle.std.proofs.lemmas.List.FromFn.{get_or-range_with_len, length-range_with_len}
+use Rattle.sg_limits.specs.Limits.{forced_limit}
+use Rattle.sg_sums.specs.Parity.{parity_by, xor}
+use Rattle.sg_sums.specs.Sets.{chosen_below, is_marked}
+use Rattle.sg_sums.proofs.RisingLists.{parity_of_rising}
+use Rattle.sg_model.specs.declared.bond.Bond.{Bond}
+use Rattle.sg_model.specs.Ising.{Ising, bond_at, bond_count}
+use Rattle.sg_model.specs.WellFormed.{IsInstance}
+use Rattle.sg_model.specs.Connected.{IsConnected}
+use Rattle.sg_model.specs.Spins.{IsAssignment, IsUpOrDown}
+use Rattle.sg_model.specs.Energy.{energy, product, weight}
+use Rattle.sg_model.specs.Broken.{is_broken, is_negative}
+use Rattle.sg_graph.specs.Web.{weight_of}
+use Rattle.sg_graph.specs.Join.{IsJoin}
+use Rattle.sg_graph.proofs.OnceLists.{rising_light}
+use Rattle.sg_dual.specs.Dual.{dual_web, frustrated_faces}
+use Rattle.sg_dual.proofs.DualWebs.{dual_weight}
+use Rattle.sg_planar.specs.BrokenLists.{BreaksExactly}
+use Rattle.sg_planar.specs.Fit.{Embedding, IsPlanar}
+use Rattle.sg_planar.specs.Following.{FollowsBonds, is_unlike, value_of}
+use Rattle.sg_planar.proofs.FollowedBonds.{values_assigned, values_break}
+use Rattle.sg_planar.proofs.FittingBonds.{fitting_follows}
+use Rattle.sg_ground.proofs.BrokenJoins.{energy_of_join}
+use Rattle.sg_ground.proofs.JoinFits.{join_below, join_fits}
+use Rattle.sg_bonds.specs.Cost.{IsLeastWith}
+use Rattle.sg_bonds.specs.JoinsWith.{IsLeastJoinWith, breaks_with}
+use Rattle.sg_bonds.specs.Turned.{HasBroken}
+use Rattle.sg_bonds.proofs.ForcedMinimum.{unit_product}
+use Rattle.sg_bonds.proofs.JoinStates.{state_least}
+use Rattle.sg_bonds.proofs.JoinsFound.{places_hold, places_low, places_rise}
+
+module _ (p : Embedding) (planar : IsPlanar p) (edges : List ℕ) (join : IsJoin (dual_web p.instance p.faces) (frustrated_faces p.instance p.faces) edges)
+    (w : ℤ) (value : w ≡ pos (weight_of (dual_web p.instance p.faces) edges)) where
+  -- a join weighs no more than all bonds
+  pub join_light : unsigned_abs w ≤ forced_limit
+  join_light =
+      let size : unsigned_abs w ≡ weight_of (dual_web p.instance p.faces) edges = ap unsigned_abs value in
+      omega (
+        arith,
+        size,
+        rising_light (dual_web p.instance p.faces) edges join.below join.rising,
+        dual_weight p.instance p.faces,
+        planar.sum,
+      )
+
+  module _ (connected : IsConnected p.instance) (e : ℤ) (is : e ≡ (w +ℤ w) -ℤ pos (weight p.instance)) where
+    abbrev joined_down : (ℕ → Bool) → List Bool
+    joined_down t = map t (range_with_len 0 p.instance.n)
+
+    marked : (t : ℕ → Bool) (x : ℕ) → x < p.instance.n → is_marked (joined_down t) x ≡ t x
+    marked t x l =
+        get_or-map t (range_with_len 0 p.instance.n) x 0 false (omega (arith, length-range_with_len 0 p.instance.n))
+        ∙ ap t (get_or-range_with_len 0 p.instance.n x 0 l ∙ omega arith)
+
+    twice : (e w : ℤ) (k v : ℕ) → e ≡ (w +ℤ w) -ℤ pos v → w ≡ pos k → pos (2 * k) -ℤ pos v ≡ e
+    twice e w k v h l = omega (arith, ints)
+
+    -- on the plane some assignment breaks just the join
+    pub join_broken : HasBroken p.instance e edges
+    join_broken =
+        let found : (down : ℕ → Bool) × FollowsBonds p.instance (is_unlike p.instance edges) down =
+        fitting_follows p.instance planar.instance p.faces planar.faces connected planar.genus_zero edges (join_fits p.instance p.faces edges join) in
+        let down : List Bool = joined_down found.0 in
+        let lengths : length down ≡ p.instance.n = length-map (range_with_len 0 p.instance.n) found.0 ∙ length-range_with_len 0 p.instance.n in
+        let s : List ℤ = map value_of down in
+        let assigned : IsAssignment p.instance s = values_assigned p.instance down lengths in
+        let breaks : BreaksExactly p.instance s edges =
+        (values_break p.instance down lengths edges planar.instance found.0 found.1 (λ x l. marked found.0 x l)).1 in
+        record {
+          state = s;
+          assignment = assigned;
+          value =
+              energy_of_join p.instance p.faces planar.instance planar.faces s edges assigned breaks join
+              ∙ twice e w (weight_of (dual_web p.instance p.faces) edges) (weight p.instance) is value;
+          breaks = breaks;
+          rising = join.rising;
+          below = join_below p.instance p.faces edges join;
+        }
+
+    -- and is least with its product at a bond if the join is least among those that have it, or do not
+    pub broken_least : (k : ℕ) → k < bond_count p.instance → (has : Bool)
+        → IsLeastJoinWith (dual_web p.instance p.faces) (frustrated_faces p.instance p.faces) k has edges → (x : ℤ) → IsUpOrDown x
+        → breaks_with (bond_at p.instance k) x ≡ has → IsLeastWith p.instance k x e
+    broken_least k inside has joined x up side =
+        subst (IsLeastWith p.instance k x) join_broken.value
+        (state_least p planar k inside has edges joined join_broken.state join_broken.assignment join_broken.breaks x up side)
+
+-- a bond that one of two assignments breaks has another product in the other
+module _ (b : Bond) (s t : List ℤ) where
+  apart : (n : Bool) (x y : ℤ) → IsUpOrDown x → IsUpOrDown y
+      → xor (cond n (int_eq x (pos 1)) (int_eq x (negsuc 0))) (cond n (int_eq y (pos 1)) (int_eq y (negsuc 0))) ≡ true → y ≡ neg_ℤ x
+  apart n x y (inl p) (inr q) h = q ∙ sym (ap neg_ℤ p)
+  apart n x y (inr p) (inl q) h = q ∙ sym (ap neg_ℤ p)
+  apart true x y (inl p) (inl q) h =
+      absurd (false≢true (sym (ap₂ (λ u v. xor (int_eq u (pos 1)) (int_eq v (pos 1))) p q) ∙ h))
+  apart false x y (inl p) (inl q) h =
+      absurd (false≢true (sym (ap₂ (λ u v. xor (int_eq u (negsuc 0)) (int_eq v (negsuc 0))) p q) ∙ h))
+  apart true x y (inr p) (inr q) h =
+      absurd (false≢true (sym (ap₂ (λ u v. xor (int_eq u (pos 1)) (int_eq v (pos 1))) p q) ∙ h))
+  apart false x y (inr p) (inr q) h =
+      absurd (false≢true (sym (ap₂ (λ u v. xor (int_eq u (negsuc 0)) (int_eq v (negsuc 0))) p q) ∙ h))
+
+  pub broken_apart : IsUpOrDown (product s b) → IsUpOrDown (product t b) → xor (is_broken s b) (is_broken t b) ≡ true
+      → product t b ≡ neg_ℤ (product s b)
+  broken_apart up other h = apart (is_negative b) (product s b) (product t b) up other h
+
+module _ (inst : Ising) (good : IsInstance inst) (s : List ℤ) (assigned : IsAssignment inst s) (e : ℤ) (bonds : List ℕ) (has : HasBroken inst e bonds)
+    (first marks : List Bool) (first_is : first ≡ map (is_broken s) inst.bonds)
+    (turned : (k : ℕ) → k < length first → is_marked marks k ≡ xor (is_marked first k) (parity_by (λ i. eqb i k) bonds)) where
+  first_long : length first ≡ bond_count inst
+  first_long = ap length first_is ∙ length-map inst.bonds (is_broken s)
+
+  -- what is marked where one of two states breaks a bond has other products there
+  pub marks_turn : (k : ℕ) → k < bond_count inst → is_marked marks k ≡ true → product has.state (bond_at inst k) ≡ neg_ℤ (product s (bond_at inst k))
+  marks_turn k l marked =
+      let own : is_marked first k ≡ is_broken s (bond_at inst k) =
+      ap (λ (m : List Bool). is_marked m k) first_is ∙ get_or-map (is_broken s) inst.bonds k (record { u = 0; v = 0; j = pos 0 }) false l in
+      let other : parity_by (λ i. eqb i k) bonds ≡ is_broken has.state (bond_at inst k) =
+      parity_of_rising bonds (bond_count inst) k has.below has.rising l ∙ sym (has.breaks k l) in
+      broken_apart (bond_at inst k) s has.state (unit_product inst good k l s assigned) (unit_product inst good k l has.state has.assignment)
+      (sym (turned k (omega (arith, first_long, l)) ∙ ap₂ xor own other) ∙ marked)
+
+-- the places of the marks of the bonds that spins break
+module _ (inst : Ising) (s : List ℤ) (assigned : IsAssignment inst s) (e : ℤ) (value : e ≡ energy inst s) (marks : List Bool)
+    (marks_are : marks ≡ map (is_broken s) inst.bonds) (list : List ℕ) (list_is : list ≡ chosen_below (is_marked marks) (length marks)) where
+  marks_long : length marks ≡ bond_count inst
+  marks_long = ap length marks_are ∙ length-map inst.bonds (is_broken s)
+
+  pub marks_broken : HasBroken inst e list
+  marks_broken = record {
+    state = s;
+    assignment = assigned;
+    value = sym value;
+    breaks = λ k l. sym (
+        places_hold marks (bond_count inst) marks_long list list_is k l
+        ∙ ap (λ (m : List Bool). is_marked m k) marks_are
+        ∙ get_or-map (is_broken s) inst.bonds k (record { u = 0; v = 0; j = pos 0 }) false l);
+    rising = places_rise marks (bond_count inst) marks_long list list_is;
+    below = places_low marks (bond_count inst) marks_long list list_is;
+  }
