@@ -8,11 +8,15 @@
 #![tactic(auto)]
 
 #[cfg(test)]
+mod bounds;
+#[cfg(test)]
 mod least;
 #[cfg(test)]
 mod proposals;
 #[cfg(test)]
 mod second;
+#[cfg(test)]
+mod slices;
 #[cfg(test)]
 mod states;
 #[cfg(test)]

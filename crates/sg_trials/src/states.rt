@@ -7,7 +7,7 @@ ghost use Rattle.sg_model.specs.Spins.{IsUpOrDown};
 
 use super::least::{SHAPES, WORKED, drawn, instance};
 use rand_pcg::Pcg32;
-use sg_bonds::{BondStates, LeastState};
+use sg_bonds::{BondStates, LeastBroken};
 use sg_planar::{Part, Planar, parts};
 use std::alloc::{AllocError, Global};
 use std::process::Abort;
@@ -20,7 +20,7 @@ fn ask(
     states: &mut BondStates,
     bond: u32,
     wanted: i64,
-    found: &mut Vec<LeastState>,
+    found: &mut Vec<LeastBroken>,
 ) -> Result<bool, AllocError>
     requires states { states.old ≡ planar.now }
     requires bond_in { bond < bond_count planar.now.instance }
@@ -42,7 +42,7 @@ fn ask_all(
     alloc: Global,
     planar: &Planar,
     states: &mut BondStates,
-    found: &mut Vec<LeastState>,
+    found: &mut Vec<LeastBroken>,
     step: usize,
 ) -> Result<bool, AllocError>
     requires { states.old ≡ planar.now }
@@ -62,9 +62,9 @@ fn ask_all(
 }
 
 // Whether two lists of states are the same.
-fn are_alike(first: &[LeastState], second: &[LeastState]) -> bool {
+fn are_alike(first: &[LeastBroken], second: &[LeastBroken]) -> bool {
     for (one, other) in first.iter().zip(second) {
-        if one.energy != other.energy || one.spins.as_slice() != other.spins.as_slice() {
+        if one.energy != other.energy || one.bonds.as_slice() != other.bonds.as_slice() {
             return false;
         }
     }
