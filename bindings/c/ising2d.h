@@ -17,10 +17,10 @@
  * number of the refusal and the numbers that show it, and a line feed. Its length is *line_written, and
  * 128 bytes are enough for every line. 3: a judged proof fails. 5: no proof was found within the
  * allowed memory; it comes from ising2d_c_ground, ising2d_c_nest, ising2d_c_wall, ising2d_c_bond_costs,
- * ising2d_c_clusters, ising2d_c_join and ising2d_c_joins alone, only on graphs of more than 2048 spins (or
- * nodes) or 6144 bonds, and was never seen. There the solver matches frustrated faces (or terminals), and its tables
- * take 12 k f + 8 k^2 bytes for k of them among the f faces of a component (or among f nodes): more
- * than 4 GiB. 6: out of memory. After 1, 5 and 6 no result is
+ * ising2d_c_cost_bounds, ising2d_c_clusters, ising2d_c_join and ising2d_c_joins alone, only on graphs of
+ * more than 2048 spins (or nodes) or 6144 bonds, and was never seen. There the solver matches frustrated
+ * faces (or terminals), and its tables take 12 k f + 8 k^2 bytes for k of them among the f faces of a
+ * component (or among f nodes): more than 4 GiB. 6: out of memory. After 1, 5 and 6 no result is
  * written, and after 0, 5 and 6 no line, except that a check of loops writes one after 0 and 3.
  * docs/FORMATS.md explains each refusal; an array of numbers is refused as the JSON member of
  * its name. The checks on a lattice, in their order:
@@ -98,7 +98,7 @@ extern "C" {
 #endif
 
 /* The version of this header. */
-#define ISING2D_VERSION "0.4.0"
+#define ISING2D_VERSION "0.5.0"
 
 /* The kinds of lattice. The cylinder's last column is joined to its first. */
 #define ISING2D_SQUARE 0
@@ -107,8 +107,8 @@ extern "C" {
 #define ISING2D_CYLINDER 3
 
 /* The status of a call. USAGE and NO_WORDS come from ising2d_c_run alone, NO from it and from a check,
- * NO_PROOF from ising2d_c_ground, ising2d_c_nest, ising2d_c_wall, ising2d_c_bond_costs, ising2d_c_clusters,
- * ising2d_c_join and ising2d_c_joins. */
+ * NO_PROOF from ising2d_c_ground, ising2d_c_nest, ising2d_c_wall, ising2d_c_bond_costs,
+ * ising2d_c_cost_bounds, ising2d_c_clusters, ising2d_c_join and ising2d_c_joins. */
 #define ISING2D_DONE 0
 #define ISING2D_REFUSED 1
 #define ISING2D_USAGE 2
@@ -280,6 +280,20 @@ uint8_t ising2d_c_bonds(ISING2D_GRAPH, int64_t *costs, size_t costs_room, ISING2
  */
 uint8_t ising2d_c_bond_costs(ISING2D_GRAPH, const uint32_t *asked, size_t asked_len, int64_t *low,
                              size_t low_len, int64_t *high, size_t high_len, ISING2D_LINE);
+
+/*
+ * Narrows bounds of the costs of all bonds at once, by ground states of graphs with weakened couplings.
+ *
+ * rounds       the number of these ground states. It is not promised that more of them give tighter bounds.
+ * low, high    as for ising2d_c_bond_costs. If those that are passed hold, each bond has an upper bound
+ *              afterwards, and the lower bound is at least 2 if the bond is rigid; else both are 0. How tight
+ *              they are otherwise is not promised.
+ *
+ * A call takes as long as ising2d_c_clusters, unless the bounds that are passed tell which bonds are rigid, and
+ * one ground state for each round.
+ */
+uint8_t ising2d_c_cost_bounds(ISING2D_GRAPH, uint32_t rounds, int64_t *low, size_t low_len, int64_t *high,
+                              size_t high_len, ISING2D_LINE);
 
 /* Finds for each spin the least spin of its rigid cluster: n names. */
 uint8_t ising2d_c_clusters(ISING2D_GRAPH, uint32_t *names, size_t names_room, ISING2D_LINE);

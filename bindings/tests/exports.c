@@ -134,6 +134,27 @@ static uint8_t narrowed(const struct given *given, struct places *p, const uint3
     return ended;
 }
 
+/* The same by ground states of weakened couplings. */
+static uint8_t enclosed(const struct given *given, struct places *p, size_t count, const int64_t *above) {
+    int64_t low[BONDS], high[BONDS];
+    memcpy(low, unbounded, sizeof low);
+    memcpy(high, above, sizeof high);
+    uint8_t ended = ising2d_c_cost_bounds(GRAPH, 0, low, count, high, BONDS, TOLD(p));
+    if (memcmp(low, unbounded, sizeof low) != 0 || memcmp(high, above, sizeof high) != 0) {
+        memcpy(p->low, low, sizeof low);
+        memcpy(p->high, high, sizeof high);
+    }
+    return ended;
+}
+
+static uint8_t cost_bounds(const struct given *given, struct places *p) {
+    return enclosed(given, p, BONDS, unbounded);
+}
+
+static uint8_t too_few_enclosed(const struct given *given, struct places *p) {
+    return enclosed(given, p, BONDS - 1, unbounded);
+}
+
 static uint8_t bond_costs(const struct given *given, struct places *p) {
     return narrowed(given, p, asked, unbounded, BONDS, unbounded);
 }
@@ -256,6 +277,13 @@ static void known(struct places *p) {
     const int64_t costs[] = {2, 4, 2, 6};
     memcpy(p->low, costs, sizeof costs);
     memcpy(p->high, costs, sizeof costs);
+}
+
+/* By flips of single spins: the ground state breaks the bond of the coupling 2. */
+static void near(struct places *p) {
+    const int64_t least[] = {2, 2, 2, 2}, most[] = {2, 4, 2, 16};
+    memcpy(p->low, least, sizeof least);
+    memcpy(p->high, most, sizeof most);
 }
 
 static void signs(struct places *p) {
@@ -438,6 +466,7 @@ static void try_numbers(void) {
         {"ising2d_c_wall", wall, right, few, with(walls), no_spins, NONE},
         {"ising2d_c_bonds", bonds, right, few, with(turned), no_spins, NONE},
         {"ising2d_c_bond_costs", bond_costs, right, few, with(known), no_spins, NONE},
+        {"ising2d_c_cost_bounds", cost_bounds, right, few, with(near), no_spins, NONE},
         {"ising2d_c_draws", draws, right, few, with(signs), "refused,17\n", NONE},
         {"ising2d_c_clusters", clusters, right, few, with(joined), no_spins, NONE},
         {"ising2d_c_check", check, right, few, with(yes), no_spins, NONE},
@@ -460,6 +489,7 @@ static void try_numbers(void) {
     ends_with("ising2d_c_draws", too_many_draws, &right, ISING2D_REFUSED, &beyond, NONE);
     ends_with("ising2d_c_bond_costs", costs_of_no_bond, &right, ISING2D_REFUSED, &bad_bond, NONE);
     ends_with("ising2d_c_bond_costs", too_few_bounds, &right, ISING2D_REFUSED, &few_bounds, NONE);
+    ends_with("ising2d_c_cost_bounds", too_few_enclosed, &right, ISING2D_REFUSED, &few_bounds, NONE);
     ends_with("ising2d_c_bond_costs", crossed_bounds, &right, ISING2D_REFUSED, &bad_bound, NONE);
     ends_with("ising2d_c_join", odd_join, &right, ISING2D_REFUSED, &odd, NONE);
     ends_with("ising2d_c_join_check", join_check_others, &right, ISING2D_NO, &silent, NONE);

@@ -179,6 +179,77 @@ class Searches(unittest.TestCase):
                 study(Lattice("square", 1, 2, [2**45]))
 
 
+class Enclosures(unittest.TestCase):
+    """Bounds of all costs at once."""
+
+    def enclose(self, bounds, costs):
+        """The bounds enclose the costs, and tell which bonds are rigid."""
+        self.assertIsInstance(bounds, CostBounds)
+        for low, high, cost in zip(bounds.low.tolist(), bounds.high.tolist(), costs):
+            self.assertTrue(0 <= low <= cost <= high, (low, cost, high))
+            self.assertEqual(low >= 2, cost > 0)
+            if cost == 0:
+                self.assertEqual((low, high), (0, 0))
+
+    def test_beside_the_costs(self):
+        source = random.Random(51)
+        for case in range(300):
+            instance = Lattice(*drawn(source)) if case % 3 else drawn_graph(source)
+            costs = instance.costs().tolist()
+            bounds = instance.cost_bounds(source.randrange(25), progress=False)
+            self.enclose(bounds, costs)
+            again = instance.cost_bounds(source.randrange(25), bounds, False)
+            self.enclose(again, costs)
+            for low, high, before, above in zip(again.low.tolist(), again.high.tolist(), bounds.low.tolist(), bounds.high.tolist()):
+                self.assertTrue(before <= low and high <= above)
+            self.assertEqual(instance.costs(bounds=again, threads=1).tolist(), costs)
+
+    def test_ties_zeros_and_several_components(self):
+        source = random.Random(52)
+        for law, p in (("pm", None), ("diluted", 0.4), ("one", None)):
+            lattice = ising2d.draw(law, 7, "triangular", 8, 9, p)
+            self.enclose(lattice.cost_bounds(30), lattice.costs().tolist())
+        for _ in range(30):
+            rings = [(k, (k + 1) % 4 if k < 4 else 4 + (k - 3) % 4, source.randint(-2, 2)) for k in range(8)]
+            graph = Graph(10, rings)
+            self.enclose(graph.cost_bounds(8), costs_by_assignments(graph))
+        self.enclose(Graph(3, []).cost_bounds(), [])
+
+    def test_more_rounds_are_tighter(self):
+        lattice = ising2d.draw("uniform", 8, "square", 14, 14)
+        costs, widths, bounds = lattice.costs().tolist(), [], None
+        for rounds in (0, 24, 48):
+            bounds = lattice.cost_bounds(rounds, bounds)
+            self.enclose(bounds, costs)
+            widths.append(sum(bounds.high.tolist()) - sum(bounds.low.tolist()))
+        self.assertEqual(widths, sorted(widths, reverse=True))
+        self.assertGreater(sum(bounds.low.tolist()), sum(costs) // 10)
+
+    def test_of_a_large_lattice(self):
+        lattice = ising2d.draw("pm", 9, "square", 60, 60)
+        bounds, asked = lattice.cost_bounds(4), random.Random(53).sample(range(7080), 40)
+        costs = lattice.costs(asked).tolist()
+        chosen = [as_list[k] for as_list in (bounds.low.tolist(), bounds.high.tolist()) for k in asked]
+        for low, high, cost in zip(chosen[:40], chosen[40:], costs):
+            self.assertTrue(low <= cost <= high and (low >= 2) == (cost > 0))
+        self.assertEqual(lattice.costs(asked, bounds).tolist(), costs)
+
+    def test_wrong_arguments(self):
+        lattice = ising2d.draw("pm", 5, "square", 4, 4)
+        for rounds, fault in ((-1, ValueError), (2**32, ValueError), (0.5, TypeError), (True, TypeError)):
+            with self.assertRaises(fault):
+                lattice.cost_bounds(rounds)
+        for bounds in (3, ([0], [0]), ([5] * 24, [4] * 24)):
+            with self.assertRaises((TypeError, ValueError)):
+                lattice.cost_bounds(1, bounds)
+        with self.assertRaises(ising2d.BadInstance):
+            Lattice("square", 2, 2, [1]).cost_bounds()
+        with self.assertRaises(ising2d.TooLarge):
+            Lattice("square", 1, 2, [2**45]).cost_bounds()
+        with self.assertRaises(Stopped):
+            lattice.cost_bounds(progress=lambda done, whole: False)
+
+
 class Larger(unittest.TestCase):
     """Above the limits of the program."""
 

@@ -1,6 +1,6 @@
 -- Costs of chosen bonds by bounds that a caller keeps, as two lists: what is wrong with the numbers, and what a search
 -- makes of the bounds.
-use Rattle.std.specs.Prelude.{◌≡◌, ◌⊎◌, ℕ, ℤ, pos, ◌==◌, ◌||◌, not, nat_lt, int_le, if◌then◌else◌, Bool, Option, Some, None, find, position, List, [], ◌∷◌, length, map, slice_index_or}
+use Rattle.std.specs.Prelude.{◌≡◌, ◌⊎◌, ℕ, ℤ, pos, ◌==◌, ◌||◌, not, nat_lt, int_le, if◌then◌else◌, Bool, Option, Some, None, find, position, List, [], ◌∷◌, All, length, map, slice_index_or}
 use Rattle.std.specs.List.{range_with_len}
 use Rattle.std.specs.Ordering.{int_eq}
 use Rattle.sg_model.specs.Ising.{Ising, bond_count}
@@ -9,7 +9,7 @@ use Rattle.sg_model.specs.declared.refusal.Fault.{Fault}
 use Rattle.sg_model.specs.declared.refusal.Refusal.{Refusal}
 use Rattle.sg_draft.specs.declared.limits.Limits.{Limits}
 use Rattle.sg_draft.specs.Tests.{Refuses, first_of}
-use Rattle.sg_bonds.specs.Bounds.{AreBounds, AreKnown, Narrows, no_bound}
+use Rattle.sg_bonds.specs.Bounds.{AreBounds, AreKnown, Decides, Narrows, no_bound}
 use Rattle.sg_bonds.specs.declared.bounds.Bound.{Bound}
 use Rattle.ising2d_c.specs.Graphs.{IsFitFault, IsFitGraph, Numbers}
 use Rattle.ising2d_c.specs.Networks.{place_fault}
@@ -89,3 +89,12 @@ pub record FindsCosts (asked : List ℕ) (before after : BoundLists) (inst : Isi
   pub count_high : length after.high ≡ bond_count inst
   pub narrows : Narrows inst (bounds_by before) (bounds_by after)
   pub known : AreBounds inst (bounds_by before) → AreKnown inst (bounds_by after) asked
+
+-- the numbers pass their tests; if the bounds before hold, so do those after, none is looser, each bond has an upper
+-- one, and they tell which bonds are rigid
+pub record DecidesBonds (before after : BoundLists) (inst : Ising) : Type 0 where
+  pub passes : bounds_fault (bond_count inst) [] before ≡ None
+  pub count_low : length after.low ≡ bond_count inst
+  pub count_high : length after.high ≡ bond_count inst
+  pub narrows : Narrows inst (bounds_by before) (bounds_by after)
+  pub decided : AreBounds inst (bounds_by before) → All Decides (bounds_by after)

@@ -125,8 +125,8 @@ fn narrowed(
     Ok(rows)
 }
 
-// The bounds as rows.
-fn rows_of_bounds(alloc: Global, bounds: &[Bound]) -> Result<BoundRows, AllocError>
+/// The bounds as rows.
+pub(super) fn rows_of_bounds(alloc: Global, bounds: &[Bound]) -> Result<BoundRows, AllocError>
     ensures low { IfOk result (λ rows. rows.low.items ≡ map (λ bound. bound.low) bounds.now) }
     ensures high { IfOk result (λ rows. rows.high.items ≡ map (λ bound. bound.high) bounds.now) }
 {
@@ -149,8 +149,8 @@ fn upper_bounds(alloc: Global, bounds: &[Bound]) -> Result<Vec<i64>, AllocError>
     bounds.iter().map(|bound| bound.high).collect(alloc)
 }
 
-// The bounds of so many bonds, if the numbers pass their tests.
-fn bounds_of(
+/// The bounds of so many bonds, if the numbers pass their tests.
+pub(super) fn bounds_of(
     alloc: Global,
     count: usize,
     asked: &[u32],

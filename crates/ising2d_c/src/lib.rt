@@ -8,7 +8,8 @@
 //! source. `ising2d_c_lattice` writes the tables by which a lattice is such a graph. `ising2d_c_join`,
 //! `join_check` and `joins` take a weighted graph with terminals, and find minimum T-joins with the nests that
 //! prove them, judge one, or find those of many lists of terminals. `ising2d_c_bond_costs` finds the costs of
-//! chosen bonds, by bounds of all costs that the caller keeps from call to call. Functions that
+//! chosen bonds, by bounds of all costs that the caller keeps from call to call, and `ising2d_c_cost_bounds`
+//! bounds those of all bonds at once. Functions that
 //! compute at most two least energies take larger instances than the program. There they end without an
 //! answer (`NO_PROOF`) if no proposal is accepted and the tables of the matching fallback need more than
 //! 4 GiB. Any numbers may be passed: if they describe no instance, the function names the first fault by
@@ -22,13 +23,14 @@
 //! is answered, and `specs/Running.antt` how a run ends. `calls.rt` and `tables.rt` have the exports;
 //! the answers are computed in `studies.rt` and `judging.rt`, which see no caller's memory. For weighted
 //! graphs these are `specs/Networks.antt`, `specs/Joins.antt`, `joins.rt` and `joining.rt`, and for bounds of
-//! costs `specs/BondCosts.antt` and `bond_costs.rt`. A list that
+//! costs `specs/BondCosts.antt`, `bond_costs.rt` and `cost_bounds.rt`. A list that
 //! does not fit is cut off, so no clause requires room. The header for C and the Python module are in
 //! `bindings/`, and tested there.
 #![tactic(auto)]
 
 mod bond_costs;
 mod calls;
+mod cost_bounds;
 mod crossing;
 mod draws;
 mod graphs;
