@@ -8,7 +8,7 @@ from typing import TYPE_CHECKING, Any, Dict, Iterator, List, NamedTuple, Optiona
 
 from ._arrays import as_array, is_numpy, numpy, numbers, read_only, shortened, whole_numbers, zeros
 from ._errors import RefusalCode, TooLarge
-from ._ffi import narrow_bounds
+from ._ffi import enclose_costs, narrow_bounds
 from ._stopping import Telling, Watch
 from ._threads import in_order
 
@@ -198,6 +198,13 @@ class Search:
         begun = time.monotonic()
         narrow_bounds(self.given, as_array(bonds, "uint32"), low, high)
         return time.monotonic() - begun
+
+
+def enclosed(given: Any, rounds: int, known: CostBounds) -> CostBounds:
+    """Bounds of the costs of all bonds, narrowed by so many ground states."""
+    found = Bounds(known)
+    enclose_costs(given, rounds, found.low, found.high)
+    return found.kept()
 
 
 def costs_of(given: Any, asked: Any, known: CostBounds, progress: Telling, threads: int) -> Any:

@@ -2,10 +2,12 @@
 
 from __future__ import annotations
 
+import contextlib
 from dataclasses import dataclass
+from itertools import accumulate, chain
 from typing import TYPE_CHECKING, Any, Callable, Iterator, List, Optional, Sequence, Tuple, Union, overload
 
-from ._arrays import as_array, is_numpy, listed_of, numpy, read_only, refuse_unordered
+from ._arrays import as_array, is_numpy, listed_of, numpy, read_only, refuse_unordered, whole_list, whole_numbers
 from ._joins import Many, Shots
 from ._threads import in_order
 from ._types import Whole
@@ -124,21 +126,40 @@ def _marks(edges: Sequence[int], count: int) -> List[int]:
 
 
 def shots_of(
-    given: Any, n: int, numbers_of: Callable[[Any], List[int]], boundary: Optional[int]
+    given: Any, n: int, numbers_of: Optional[Callable[[Any], List[int]]], boundary: Optional[int]
 ) -> Shots:
     """The lists of terminals as the library takes them, each with the boundary toggled if their number is
-    odd."""
+    odd. Nodes are given by their numbers where nothing else tells these."""
     if is_numpy(given) and given.dtype.kind == "b":
         return _of_matrix(given, n, boundary)
     refuse_unordered(given, "terminals")
-    starts, terminals = [0], []
-    for own in listed_of(given, "terminals"):
-        found = numbers_of(own)
-        if boundary is not None and len(found) % 2:
-            found = [node for node in found if node != boundary] if boundary in found else [*found, boundary]
-        terminals += found
-        starts.append(len(terminals))
-    return Shots(as_array(starts, "uint64"), as_array(terminals, "uint32"))
+    lists = listed_of(given, "terminals")
+    if numbers_of is None:
+        with contextlib.suppress(TypeError, OverflowError):
+            return _of_lists(lists, boundary)
+        # A list that is wrong is named below, and one that is no plain list is read there.
+    tell = numbers_of or (lambda own: whole_list(own, "uint32", "terminals"))
+    return _of_lists([tell(own) for own in lists], boundary)
+
+
+def _of_lists(lists: List[List[int]], boundary: Optional[int]) -> Shots:
+    """The same of plain lists of numbers. All of them are read at once."""
+    if not set(map(type, lists)) <= {list}:
+        raise TypeError("terminals: expected lists")
+    if boundary is not None:
+        if not set(map(type, chain.from_iterable(lists))) <= {int}:
+            raise TypeError("terminals: expected lists of numbers")
+        lists = [completed(own, boundary) for own in lists]
+    starts = [0, *accumulate(map(len, lists))]
+    terminals = whole_numbers(list(chain.from_iterable(lists)), "uint32", "terminals")
+    return Shots(as_array(starts, "uint64"), read_only(terminals))
+
+
+def completed(terminals: List[int], boundary: int) -> List[int]:
+    """The terminals, with the boundary toggled if their number is odd."""
+    if len(terminals) % 2 == 0:
+        return terminals
+    return [node for node in terminals if node != boundary] if boundary in terminals else [*terminals, boundary]
 
 
 def _of_matrix(given: Any, n: int, boundary: Optional[int]) -> Shots:

@@ -80,6 +80,7 @@ FUNCTIONS: Dict[str, List[Any]] = {
     "ising2d_c_wall": _GRAPH + [ctypes.POINTER(WallNumbers)] + _LINE,
     "ising2d_c_bonds": _GRAPH + [_ARRAY, _SIZE] + _LINE,
     "ising2d_c_bond_costs": _GRAPH + [_ARRAY, _SIZE] * 3 + _LINE,
+    "ising2d_c_cost_bounds": _GRAPH + [ctypes.c_uint32] + [_ARRAY, _SIZE] * 2 + _LINE,
     "ising2d_c_clusters": _GRAPH + [_ARRAY, _SIZE] + _LINE,
     "ising2d_c_draws": [ctypes.c_uint8, ctypes.c_uint64, _SIZE, _ARRAY, _SIZE] + _LINE,
     "ising2d_c_check": _GRAPH + [ctypes.c_int64] + [_ARRAY, _SIZE] * 4 + _LINE,
@@ -91,7 +92,7 @@ FUNCTIONS: Dict[str, List[Any]] = {
 
 
 # Functions that a library of the same soname may lack: what needs them says so.
-_LATER = {"ising2d_c_draws", "ising2d_c_bond_costs"}
+_LATER = {"ising2d_c_draws", "ising2d_c_bond_costs", "ising2d_c_cost_bounds"}
 
 
 def _function(name: str) -> Any:
@@ -367,6 +368,12 @@ def narrow_bounds(given: Given, asked: Any, low: Any, high: Any) -> None:
     """Narrows the bounds of the costs of all bonds, two arrays, until those of the asked bonds meet."""
     line, own = Line(), (part for values in (asked, low, high) for part in pointer_to(values))
     line.judge(_call("bond_costs", given, *own, *line.arguments()), given)
+
+
+def enclose_costs(given: Given, rounds: int, low: Any, high: Any) -> None:
+    """Narrows the bounds of the costs of all bonds, two arrays, by so many ground states."""
+    line, own = Line(), (part for values in (low, high) for part in pointer_to(values))
+    line.judge(_call("cost_bounds", given, rounds, *own, *line.arguments()), given)
 
 
 def clusters_of(given: Given) -> Any:

@@ -7,7 +7,7 @@ from typing import TYPE_CHECKING, Any, Callable, List, Literal, Optional, TypeVa
 from . import _ffi
 from ._answers import Clusters, Cut, DomainWall, Ground, Report, Turn, Wall, turn_of
 from ._arrays import as_array, is_numpy, shortened, whole, whole_numbers
-from ._costs import CostBounds, asked_bonds, bounds_of, costs_of, refuse_all_of, unknown_bounds
+from ._costs import CostBounds, asked_bonds, bounds_of, costs_of, enclosed, refuse_all_of, unknown_bounds
 from ._droplets import Droplet, forcing
 from ._loops import Loop
 from ._model import Model
@@ -120,6 +120,28 @@ class Instance(Model):
         known = unknown_bounds(count) if bounds is None else bounds_of(bounds, count)
         own: Int64Array = costs_of(self, asked, known, progress, workers)
         return own
+
+    def cost_bounds(
+        self, rounds: Whole = 24, bounds: Optional[CostBounds] = None, progress: Telling = None
+    ) -> CostBounds:
+        """Bounds of the costs of all bonds of up to 2**22 spins, in the unit of the couplings: ``low`` and
+        ``high``, two arrays of shape ``(bonds,)``, equal where the cost is known. The lower bound of a rigid
+        bond is 2 or more; both bounds of any other are 0. How near they are otherwise is not promised,
+        whatever the number of ``rounds`` is.
+
+        ``rounds``, from 0 to 2**32 - 1, is the number of ground states of weakened couplings, beside the
+        ground states that ``clusters`` takes. Each bond is weakened by an amount d in the direction that a
+        ground state satisfies: if that still is a ground state, each bond costs at least 2 d, and else the
+        spins that flip bound costs from above. ``bounds`` are known bounds to start from, and none returned
+        is looser; wrong bounds give wrong ones. ``costs(bounds=..)`` starts from these. ``progress`` is that
+        of ``clusters``. Raises ``ValueError`` for other ``rounds`` or malformed ``bounds``."""
+        count = whole(rounds, "rounds")
+        if not 0 <= count < 2**32:
+            raise ValueError(f"rounds: expected 0 to {2**32 - 1}, not {count}")
+        self._tables()
+        bonds = len(self.couplings)
+        known = unknown_bounds(bonds) if bounds is None else bounds_of(bounds, bonds)
+        return self._awaited(progress, "bounds of costs", lambda given: enclosed(given, count, known))
 
     def clusters(self, progress: Telling = None) -> Clusters:
         """The rigid clusters of up to 2**22 spins: for each spin the least spin of its cluster, and the

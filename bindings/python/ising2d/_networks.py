@@ -32,7 +32,7 @@ from ._arrays import (
     whole_list,
     whole_numbers,
 )
-from ._decoding import Joins, in_batches, shots_of
+from ._decoding import Joins, completed, in_batches, shots_of
 from ._errors import Member, RefusalCode, Words, words_of
 from ._judging import Edge, Judge, odd_nodes
 from ._real import Scale, real_number, rounded
@@ -185,7 +185,7 @@ class Network:
         ([1, 0, 2], (0,))
         """
         extra = None if boundary is None else self._number_of(boundary, "boundary")
-        shots = shots_of(terminals, self.n, self._numbers_of, extra)
+        shots = shots_of(terminals, self.n, None if self.labels is None else self._numbers_of, extra)
 
         def solved(part: _joins.Shots) -> _joins.Many:
             return _joins.joins_of(self.numbers(), part, _AskedMany(self, part))
@@ -196,8 +196,7 @@ class Network:
         """The terminals, with the boundary toggled if their number is odd."""
         if boundary is None or len(terminals) % 2 == 0:
             return terminals
-        node = self._number_of(boundary, "boundary")
-        return [other for other in terminals if other != node] if node in terminals else [*terminals, node]
+        return completed(terminals, self._number_of(boundary, "boundary"))
 
     def has_cuts(self) -> bool:
         """Whether the program takes the graph, which finds cuts."""
