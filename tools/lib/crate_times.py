@@ -6,14 +6,13 @@
 
 Twice a second it looks at the processes below the command, and adds the CPU time of each to the crate that its
 words name. What rt has kept of earlier runs on this machine is not done again, so the times are complete only if
-nothing of these files has been proved before. With --write the rows go into docs/COSTS.md, or the seconds into
+nothing of these files has been proved before. With --write the rows go into docs/times.csv, or the seconds into
 tools/lib/seconds, from which tools/build predicts the time left. Other load makes the times longer, by a quarter
 and more. The exit status is that of the command.
 """
 import collections
 import os
 import pathlib
-import re
 import subprocess
 import sys
 import tempfile
@@ -23,8 +22,7 @@ from processes import crate_of, fields_of, is_below, running
 
 TOP = pathlib.Path(__file__).resolve().parents[2]
 SECONDS = TOP / "tools" / "lib" / "seconds"
-PAGE = TOP / "docs" / "COSTS.md"
-TABLE = re.compile(r"(<!-- times -->\n).*?(<!-- end of times -->\n)", re.S)
+MINUTES = TOP / "docs" / "times.csv"
 KINDS = ("proof", "tests", "mutants")
 # How often it looks, in seconds.
 EVERY = 0.5
@@ -82,16 +80,11 @@ class Meter(threading.Thread):
 
 def rows_of(sums):
     """The rows of the table, in minutes, and those of all crates."""
-    rows = [f"| crate | {' | '.join(KINDS)} |", "|---|---|---|---|"]
+    rows = [",".join(["crate", *KINDS])]
     for crate in listed():
-        rows.append(f"| `{crate}` | {' | '.join(f'{sums[crate, kind] / 60:.1f}' for kind in KINDS)} |")
+        rows.append(",".join([crate, *(f"{sums[crate, kind] / 60:.1f}" for kind in KINDS)]))
     whole = [sum(sums[crate, kind] for crate in listed()) / 60 for kind in KINDS]
-    return [*rows, f"| all | {' | '.join(f'{it:.0f}' for it in whole)} |"]
-
-
-def write_rows(rows):
-    page = PAGE.read_text(encoding="utf-8")
-    PAGE.write_text(TABLE.sub(lambda it: it[1] + "\n".join(rows) + "\n" + it[2], page), encoding="utf-8")
+    return [*rows, ",".join(["all", *(f"{it:.0f}" for it in whole)])]
 
 
 def write_seconds(sums):
@@ -124,7 +117,7 @@ def main(words):
     else:
         print("\n".join(rows_of(sums)))
     if "--write" in words:
-        write_seconds(sums) if is_build else write_rows(rows_of(sums))
+        write_seconds(sums) if is_build else MINUTES.write_text("\n".join(rows_of(sums)) + "\n", encoding="utf-8")
     return command.returncode
 
 

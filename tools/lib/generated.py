@@ -7,7 +7,7 @@ import re
 
 # Parts that are tables, and parts that end at a mark.
 TABLES = ("tables", "files", "libraries", "counts", "crates", "limits")
-LISTS = ("contract", "code", "only", "index", "private", "times")
+LISTS = ("contract", "code", "only", "index", "private")
 BLOCK = re.compile(
     rf"^<!-- ({'|'.join(TABLES)})(?:: (.*))? -->\n(?:\|.*\n)*|"
     rf"^<!-- ({'|'.join(LISTS)})(?:: (.*))? -->\n(?:.*\n)*?<!-- end of \3 -->\n",

@@ -1,8 +1,12 @@
 #!/usr/bin/env python3
 """Large lattices: what a ground state with its nest takes in CPU time and in memory, and each proof
-judged by plain arithmetic in numpy. It needs numpy.
+judged by plain arithmetic in numpy. It needs numpy and Linux.
 
   tools/measure large [SIDE ..]    a table of square and triangular lattices of these sides
+
+MB is what a call of `ground` adds to the peak of the process, with the tables of the lattice that it makes (its
+bonds and darts) and its answer. `own` is what the library adds beside the arrays that it is passed, those tables and
+the couplings, and those that the caller gets back, the spins and the nest.
 """
 import sys
 
@@ -18,16 +22,19 @@ ROWS = (("square", "pm"), ("square", "uniform"), ("triangular", "pm"), ("triangu
 
 def one(kind, law, side):
     """One lattice, of which a line is printed."""
-    before = stopwatch.peak()
     given = ising2d.draw(law, 1, kind, side, side)
+    before = stopwatch.begin_peak()
+    _, making = stopwatch.timed(given.ends)
+    most, passed = stopwatch.status_bytes("VmHWM"), stopwatch.begin_peak()
     found, solving = stopwatch.timed(lambda: given.ground(nest=True))
-    most = stopwatch.peak()
+    most, own = max(most, stopwatch.status_bytes("VmHWM")), stopwatch.status_bytes("VmHWM") - passed
+    own -= sum(array.nbytes for array in (found.spins, *found.nest))
     verdict, judging = stopwatch.timed(found.check)
     table = nest_judge.Table(kind, side, side)
     wrong = nest_judge.failures(table, given.couplings, found.energy, found.spins, found.nest)
     print(
-        f"{kind:10} {law:8} {side * side:8} {1000 * solving:9.1f} {1000 * judging:8.1f} "
-        f"{(most - before) / 1e6:7.0f} {len(found.nest.radii):8}  "
+        f"{kind:10} {law:8} {side * side:8} {1000 * (making + solving):9.1f} {1000 * judging:8.1f} "
+        f"{(most - before) / 1e6:7.0f} {own / 1e6:7.0f} {len(found.nest.radii):8}  "
         f"{'yes' if verdict else 'NO'}  {'yes' if not wrong else 'NO: ' + ', '.join(wrong)}",
         flush=True,
     )
@@ -38,7 +45,7 @@ def main():
     if sys.argv[1:2] == ["one"]:
         kind, law, side = sys.argv[2:]
         return 0 if one(kind, law, int(side)) else 1
-    print("kind       law         spins  solve ms  judge ms    MB  regions  library's judge, numpy's", flush=True)
+    print("kind       law         spins  solve ms  judge ms    MB     own  regions  library's judge, numpy's", flush=True)
     bad = 0
     for side in map(int, sys.argv[1:] or SIDES):
         for kind, law in ROWS:

@@ -1,5 +1,6 @@
 """What runs of the program and calls of the library take: one stop-watch for all parts of tools/measure and
 tools/attack."""
+import ctypes
 import os
 import pathlib
 import resource
@@ -96,6 +97,20 @@ def medians(calls, least=3, long_enough=3.0):
 def peak():
     """The most memory that this process has had, in bytes."""
     return 1024 * resource.getrusage(resource.RUSAGE_SELF).ru_maxrss
+
+
+def status_bytes(name):
+    """A number of bytes that Linux has of this process: VmHWM, its peak, or VmRSS, what it has now."""
+    lines = pathlib.Path("/proc/self/status").read_text().splitlines()
+    return next(1024 * int(line.split()[1]) for line in lines if line.startswith(name))
+
+
+def begin_peak():
+    """Sets the peak of this process (VmHWM) to what it has now, without what the C library keeps for later, and gives
+    that, in bytes."""
+    ctypes.CDLL(None).malloc_trim(0)
+    pathlib.Path("/proc/self/clear_refs").write_text("5")
+    return status_bytes("VmRSS")
 
 
 def asked(file, *words):
