@@ -144,6 +144,13 @@ impl Radii {
         self.set_top(name, role, family, now);
     }
 
+    /// A top has another radius, at a time.
+    pub fn set_radius(&mut self, name: u32, radius: i64, now: i64) {
+        let here = self.growth(name);
+        let growth = Growth::top(here.role, here.family, radius, now);
+        set_entry(&mut self.growths, name, growth);
+    }
+
     // A region is a top of a role and of a family.
     fn set_top(&mut self, name: u32, role: Role, family: u32, now: i64) {
         let growth = Growth::top(role, family, self.radius(name, now), now);

@@ -164,7 +164,7 @@ impl<'a, L: Limit> Engine<'a, L> {
         for node in self.terminals {
             self.plant(*node)?;
         }
-        self.pair_first();
+        self.start_ahead();
         self.wake_terminals()?;
         self.run_by_method(1)
     }

@@ -41,6 +41,7 @@ pub use lists::Lists;
 use sg_forest::{Allowance, Forest, Growth, Limit, Link, Reach, Role, Work};
 use sg_growth::{Adjacency, Arc, Clock, Cover, Held, Hubs, NEVER, reverse};
 pub use slices::Batches;
+pub use start::HeadStart;
 use std::alloc::{AllocError, Global};
 
 /// The allocator had no memory left.
@@ -108,8 +109,8 @@ pub struct Engine<'a, L: Limit> {
     pub is_first: bool,
     /// Whether hubs are open: no region covers one, and a tree that comes to one ends there.
     pub is_open: bool,
-    /// How far terminals grow before events are entered: at most half of the shortest arc. 0 at first.
-    pub head_start: i64,
+    /// How terminals grow before events are entered. Not at all at first.
+    pub head_start: HeadStart,
     /// Whether trees grow in slices of time.
     pub is_sliced: bool,
     /// The trees that wait for their batch.
@@ -174,7 +175,7 @@ impl<'a, L: Limit> Engine<'a, L> {
             work: Work::new(allowed.work),
             is_first: matches!(method, Method::InHalves | Method::InClosedHalves),
             is_open,
-            head_start: 0,
+            head_start: HeadStart::None,
             is_sliced: matches!(method, Method::InSlices),
             batches: Batches::new(alloc),
             rests: 0,

@@ -70,7 +70,7 @@ impl Batches {
     }
 
     // Whether a tree has no mate yet.
-    fn is_left(&self, tree: u32) -> bool {
+    pub(super) fn is_left(&self, tree: u32) -> bool {
         entry(&self.has_mate, tree) == Some(false)
     }
 }
@@ -111,6 +111,7 @@ impl<'a, L: Limit> Engine<'a, L> {
     // Grows all trees batch by batch. False if some tree is left when the work allowed is done.
     pub(super) fn run_slices(&mut self) -> Result<bool, NoMemory> {
         self.plant_all()?;
+        self.start_ahead();
         let mut from = 0i64;
         let mut until = first_age(self.arcs);
         let (terminals, nodes) = (self.terminals.len(), self.arcs.nodes());

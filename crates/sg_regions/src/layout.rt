@@ -3,7 +3,7 @@ use super::NoMemory;
 use super::proposal::arcs_of;
 use sg_graph::{EdgeList, Web};
 use sg_growth::{Adjacency, Nest, Pair, first_dart};
-use sg_region_engine::{Lists, Method};
+use sg_region_engine::{HeadStart, Lists, Method};
 use sg_region_ways::Joining;
 use sg_slots::number;
 use std::alloc::Global;
@@ -57,11 +57,12 @@ impl Layout {
         Ok(layout)
     }
 
-    // How far all terminals may grow at once. The method that is the reserve shares with the others as little as it can.
-    pub fn head_start(&self, method: Method) -> i64 {
+    // How terminals grow at first. The method that is the reserve shares with the others as little as it can.
+    pub fn head_start(&self, method: Method) -> HeadStart {
         match method {
-            Method::InClosedHalves => 0,
-            Method::InSlices | Method::AtOnce | Method::InHalves => self.lengths.head_start(),
+            Method::InClosedHalves => HeadStart::None,
+            Method::InSlices => HeadStart::Each,
+            Method::AtOnce | Method::InHalves => self.lengths.head_start(),
         }
     }
 
@@ -140,12 +141,12 @@ impl Lengths {
         }
     }
 
-    // How far all terminals may grow at once, where many of them meet then: half of the shortest edge.
-    pub fn head_start(self) -> i64 {
+    // How terminals grow at first: to half of the shortest edge, where many of them meet then.
+    pub fn head_start(self) -> HeadStart {
         if self.shortest_count < self.edges / MANY {
-            return 0;
+            return HeadStart::Each;
         }
-        self.shortest / 2
+        HeadStart::Alike(self.shortest / 2)
     }
 
     // Whether edges are of very different lengths.

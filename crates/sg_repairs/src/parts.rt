@@ -2,7 +2,7 @@
 use super::{Engine, NoMemory};
 use sg_forest::{Allowance, Forest, Link, Unlimited, Work};
 use sg_growth::{Adjacency, Clock, Cover, Hubs};
-use sg_region_engine::Batches;
+use sg_region_engine::{Batches, HeadStart};
 use std::alloc::Global;
 
 // An engine without its arcs and terminals.
@@ -54,7 +54,7 @@ impl Parts {
             work: Work::new(0),
             is_first: false,
             is_open: false,
-            head_start: 0,
+            head_start: HeadStart::None,
             is_sliced: false,
             batches: Batches::new(alloc),
             rests: 0,
