@@ -1,7 +1,9 @@
 -- What a study of an instance answers to a caller.
 use Rattle.std.specs.Prelude.{◌≡◌, ◌≢◌, ◌↔◌, ℕ, ℤ, [], Option, None, List}
 use Rattle.sg_model.specs.Ising.{Ising}
+use Rattle.sg_model.specs.Connected.{LeastsUp}
 use Rattle.sg_model.specs.Energy.{IsGroundState}
+use Rattle.sg_check.specs.Packing.{IsShort, Proves}
 use Rattle.sg_check.specs.declared.packing.Loop.{Loop}
 use Rattle.sg_check.specs.declared.packing.ResultText.{ResultText}
 use Rattle.sg_check.specs.declared.verdict.Verdict.{Verdict}
@@ -10,7 +12,6 @@ use Rattle.sg_check.specs.Verdict.{IsVerdict}
 use Rattle.sg_faces.specs.Faces.{IsFaceLabels, Labelling}
 use Rattle.sg_nest.specs.declared.nest.Nest.{Nest}
 use Rattle.sg_ground.specs.Nested.{IsNestedState, ProvesByNest}
-use Rattle.sg_ground.specs.Solution.{IsSolution}
 use Rattle.sg_wall.specs.Wall.{IsWall}
 use Rattle.sg_report.specs.Text.{verdict_text}
 use Rattle.sg_reply.specs.Exit.{exit_code}
@@ -18,12 +19,14 @@ use Rattle.sg_cli.specs.Served.{status_by}
 use Rattle.ising2d_c.specs.Crossing.{Fills}
 use Rattle.ising2d_c.specs.Proofs.{NestLists, nest_fault, nest_said}
 
--- a ground state with its energy, and the loops that prove it, have crossed so
+-- a ground state with its energy, the least spin of each component up, and few loops that prove it, have crossed so
 pub record IsGround (inst : Ising) (energy : ℤ) (Crosses : List ℤ → List Loop → Type 0) : Type 0 where
   pub spins : List ℤ
   pub loops : List Loop
   pub least : IsGroundState inst spins
-  pub solution : IsSolution inst spins energy loops
+  pub proves : Proves inst spins energy loops
+  pub short : IsShort inst loops
+  pub leasts_up : LeastsUp inst spins
   pub crossed : Crosses spins loops
 
 -- the energies of the wall at the seam

@@ -1,7 +1,6 @@
 -- Tables that take more than is allowed: of the whole, of a part, and how much none take.
 use Rattle.std.proofs.Common.{inl, inr, refl, ◌≡◌, ℕ, ◌+◌, ◌*◌, ◌-◌, ◌<◌, ◌≤◌, ◌^◌, List, length, get_or, ap, arith}
 use Rattle.sg_limits.specs.Limits.{bond_limit, spin_limit, table_limit}
-use Rattle.sg_model.specs.Connected.{IsConnected}
 use Rattle.sg_model.specs.Ising.{Ising, bond_count}
 use Rattle.sg_model.specs.WellFormed.{IsInstance}
 use Rattle.sg_planar.specs.Fit.{Embedding, IsPlanar}
@@ -16,20 +15,14 @@ use Rattle.sg_tjoin.specs.declared.allowance.Unproved.{Unproved}
 use Rattle.sg_tjoin.proofs.TableBounds.{IfTooLarge-weaker, tables_bounded}
 use Rattle.sg_ground.specs.Allowance.{FacesExceed, IsWholeOrPart, TablesExceed}
 use Rattle.sg_ground.proofs.PartLists.{share_of_part}
-use Rattle.sg_ground.proofs.Placing.{found_part}
+use Rattle.sg_ground.proofs.Gluing.{part_here}
 use Rattle.sg_ground.proofs.Solutions.{faces_fit}
-
--- of an instance that is connected
-pub whole_exceeds : (p : Embedding) → IsPlanar p → IsConnected p.instance → (most : ℕ) (e : Unproved) → IfTooLarge (FacesExceed most p) e
-    → IfTooLarge (TablesExceed most p.instance) e
-whole_exceeds p planar connected most =
-    IfTooLarge-weaker (λ h. record { own = p; planar = planar; connected = connected; of = inl refl; exceed = h })
 
 -- of part i of the whole, in a loop over the parts
 pub part_exceeds : (inst : Ising) (good : IsInstance inst) (parts : List Part) (are : AreParts inst parts) (i : ℕ) (p : Part) → i < length parts
     → p ≡ get_or parts i p → (most : ℕ) (e : Unproved) → IfTooLarge (FacesExceed most p.planar) e → IfTooLarge (TablesExceed most inst) e
 part_exceeds inst good parts are i p l same most =
-    let found = found_part inst good parts are i p l same in
+    let found = part_here inst good parts are i p l same in
     IfTooLarge-weaker (λ h. record {
       own = p.planar;
       planar = found.1.planar;

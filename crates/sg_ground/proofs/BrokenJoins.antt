@@ -1,5 +1,5 @@
 -- The broken bonds of an assignment are a join of the frustrated faces in the dual.
-use Rattle.std.proofs.Common.{ap₂, ◌≡◌, ℕ, ℤ, pos, ◌-ℤ◌, ◌≤ℤ◌, ◌*◌, ◌+◌, ◌<◌, ◌≤◌, Bool, false, cond, ◌&&◌, eqb, List, length}
+use Rattle.std.proofs.Common.{ap₂, ◌≡◌, ℕ, ℤ, pos, ◌-ℤ◌, ◌≤ℤ◌, ◌*◌, ◌<◌, ◌≤◌, Bool, false, cond, ◌&&◌, eqb, List, length}
 use Rattle.std.proofs.Common.{map, sym, ◌∙◌, ap, subst, arith, get_or, sum_by, All}
 use Rattle.std.specs.List.{range_with_len}
 use Rattle.std.proofs.lemmas.Int.{ints}
@@ -11,15 +11,13 @@ use Rattle.sg_sums.specs.Ends.{is_end}
 use Rattle.sg_sums.proofs.ParityLaws.{odd_is, odd_test, parity_below-same, parity_below-xor, parity_by-same, xor-false}
 use Rattle.sg_sums.proofs.RisingLists.{chosen_below_low, chosen_below_rises, holds-chosen_below}
 use Rattle.sg_model.specs.Ising.{Ising, bond_at, bond_count}
-use Rattle.sg_model.specs.Rotation.{dart_count, next, tail}
 use Rattle.sg_model.specs.WellFormed.{IsInstance}
 use Rattle.sg_model.specs.Energy.{IsGroundState, IsLeastEnergy, energy, weight}
 use Rattle.sg_model.specs.Spins.{IsAssignment, spin}
 use Rattle.sg_model.specs.Broken.{is_broken}
-use Rattle.sg_model.proofs.Darts.{tail_first, tail_second}
 use Rattle.sg_model.proofs.BrokenEnergy.{energy_from_broken, unit_ends}
 use Rattle.sg_model.proofs.BrokenParity.{is_down, is_broken_xor}
-use Rattle.sg_faces.specs.Faces.{Labelling, IsFaceLabels, faces_before}
+use Rattle.sg_faces.specs.Faces.{Labelling, IsFaceLabels}
 use Rattle.sg_graph.specs.declared.web.Edge.{Edge}
 use Rattle.sg_graph.specs.Web.{edge_at, ends_at, weight_of}
 use Rattle.sg_graph.specs.Join.{IsJoin, IsLeastJoin}
@@ -32,11 +30,8 @@ use Rattle.sg_planar.specs.BrokenLists.{BreaksExactly}
 use Rattle.sg_planar.specs.Fit.{Embedding, IsPlanar}
 use Rattle.sg_planar.specs.Following.{FollowsBonds, is_unlike, value_of}
 use Rattle.sg_planar.proofs.FollowedBonds.{values_assigned, values_break}
-use Rattle.sg_planar.proofs.Embeddings.{cuts_meet_evenly}
-use Rattle.sg_planar.proofs.FaceNumbers.{labels_number}
-use Rattle.sg_planar.proofs.FittingBonds.{face_at, fitting_follows, sides_parity, xor-and}
-use Rattle.sg_planar.proofs.RotationSums.{numbered_embedding}
-use Rattle.sg_ground.proofs.FrustratedCuts.{far_face, near_face}
+use Rattle.sg_planar.proofs.FittingBonds.{fitting_follows, sides_parity, xor-and}
+use Rattle.sg_ground.proofs.FrustratedCuts.{far_face, meet_evenly, near_face}
 use Rattle.sg_ground.proofs.JoinFits.{broken_weight_is, join_fits}
 
 module _ (inst : Ising) (faces : Labelling) (good : IsInstance inst) (labels : IsFaceLabels inst faces) where
@@ -59,12 +54,7 @@ module _ (inst : Ising) (faces : Labelling) (good : IsInstance inst) (labels : I
 
     -- round a face the spins turn an even number of times
     turns_evenly : (f : ℕ) → parity_below (λ k. unlike k && meets f k) (bond_count inst) ≡ false
-    turns_evenly f =
-        let count : ℕ = faces_before inst (dart_count inst) in
-        parity_below-same (λ k. unlike k && meets f k) (λ k. xor (down (tail inst (2 * k))) (down (tail inst (2 * k + 1))) && meets f k) (bond_count inst)
-        (λ k _. ap₂ (λ u v. xor (down u) (down v) && meets f k) (sym (tail_first inst k)) (sym (tail_second inst k)))
-        ∙ cuts_meet_evenly inst.n (bond_count inst) count (tail inst) (next inst) (face_at faces)
-        (numbered_embedding inst good (face_at faces) count (labels_number inst good faces labels)) down (λ x. eqb x f)
+    turns_evenly f = meet_evenly inst faces good labels down (λ x. eqb x f)
 
     -- so as many of its bonds are broken as are negative, up to an even number
     broken_on : (f : ℕ) → parity_below (λ k. broken k && meets f k) (bond_count inst) ≡ odd (negative_sides inst faces f)

@@ -32,25 +32,6 @@ pub steps_all : (parts : List Part) (i : ℕ) → length parts ≤ i → (old ne
     new ≤ old + all_steps parts
 steps_all parts i all old new within = omega (arith, within, ap all_steps (take_all i parts all))
 
--- the steps of the whole by its dual and the frustrated faces
-pub steps_dual : (p : Embedding) (web : Graph) (terminals : List ℕ) (old new : ℕ) → web ≡ dual_web p.instance p.faces →
-    terminals ≡ frustrated_faces p.instance p.faces → new ≤ old + step_limit (length terminals) (place_count web) → new ≤ old + join_steps p
-steps_dual p web terminals old new dual frustrated within =
-    omega (
-      arith,
-      within,
-      ap (λ ts. step_limit (length ts) (place_count web)) frustrated,
-      ap (λ g. step_limit (frustrated_count p) (place_count g)) dual,
-    )
-
--- of an instance that is connected, and of one with parts
-pub adds_whole : (more : ℕ) (p : Embedding) (old new : ℕ) → IsConnected p.instance → new ≤ old + join_steps p → AddsSteps more p old new
-adds_whole more p old new connected within = inl (connected, omega (arith, within))
-
-pub adds_parts : (p : Embedding) (parts : List Part) (old new : ℕ) → AreParts p.instance parts → new ≤ old + all_steps parts →
-    AddsSteps 0 p old new
-adds_parts p parts old new are within = inr (parts, are, omega (arith, within))
-
 -- and with a nest over all components
 pub adds_nest : (p : Embedding) (old mid new : Taken) → AddsSteps 0 p (steps_of old) (steps_of mid) →
     TakesRuns 4 (frustrated_count p) (dual_places p) mid.regions new.regions → new.matching.steps ≡ mid.matching.steps →
@@ -58,21 +39,28 @@ pub adds_nest : (p : Embedding) (old mid new : Taken) → AddsSteps 0 p (steps_o
 adds_nest p old mid new (inl (connected, within)) takes same = inl (connected, omega (arith, within, takes.blossoms, takes.events, same))
 adds_nest p old mid new (inr (parts, are, within)) takes same = inr (parts, are, omega (arith, within, takes.blossoms, takes.events, same))
 
--- the same of what there is, if there is anything
+-- by its dual and the frustrated faces, if there is an answer
 pub any_dual : {J E : Type 0} (r : Result J E) (p : Embedding) (web : Graph) (terminals : List ℕ) (old new : ℕ) →
     web ≡ dual_web p.instance p.faces → terminals ≡ frustrated_faces p.instance p.faces →
     IfOk r (λ _. new ≤ old + step_limit (length terminals) (place_count web)) → IfOk r (λ _. new ≤ old + join_steps p)
-any_dual (Ok j) p web terminals old new dual frustrated within = steps_dual p web terminals old new dual frustrated within
+any_dual (Ok j) p web terminals old new dual frustrated within =
+    omega (
+      arith,
+      within,
+      ap (λ ts. step_limit (length ts) (place_count web)) frustrated,
+      ap (λ g. step_limit (frustrated_count p) (place_count g)) dual,
+    )
 any_dual (Err e) p web terminals old new dual frustrated within = tt
 
+-- of an instance that is connected, and of one with parts
 pub any_whole : {J E : Type 0} (r : Result J E) (more : ℕ) (p : Embedding) (old new : ℕ) → IsConnected p.instance →
     IfOk r (λ _. new ≤ old + join_steps p) → IfOk r (λ _. AddsSteps more p old new)
-any_whole (Ok j) more p old new connected within = adds_whole more p old new connected within
+any_whole (Ok j) more p old new connected within = inl (connected, omega (arith, within))
 any_whole (Err e) more p old new connected within = tt
 
 pub any_parts : {J E : Type 0} (r : Result J E) (p : Embedding) (parts : List Part) (old new : ℕ) → AreParts p.instance parts →
     IfOk r (λ _. new ≤ old + all_steps parts) → IfOk r (λ _. AddsSteps 0 p old new)
-any_parts (Ok j) p parts old new are within = adds_parts p parts old new are within
+any_parts (Ok j) p parts old new are within = inr (parts, are, omega (arith, within))
 any_parts (Err e) p parts old new are within = tt
 
 -- runs of growing regions on the dual of all components, by the dual and the frustrated faces

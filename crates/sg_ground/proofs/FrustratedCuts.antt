@@ -73,7 +73,7 @@ module _ (inst : Ising) (faces : Labelling) where
   unlike_darts t k = xor (t (tail inst (2 * k))) (t (tail inst (2 * k + 1)))
 
   -- every cut of the spins meets every cut of the faces in an even number of bonds
-  meet_evenly : IsInstance inst → IsFaceLabels inst faces → (t inside : ℕ → Bool) →
+  pub meet_evenly : IsInstance inst → IsFaceLabels inst faces → (t inside : ℕ → Bool) →
       parity_below (λ k. unlike t k && parts inside k) (bond_count inst) ≡ false
   meet_evenly good labels t inside =
       let count : ℕ = faces_before inst (dart_count inst) in

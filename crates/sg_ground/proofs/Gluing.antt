@@ -1,127 +1,260 @@
--- The solutions of the parts, one behind another, make one of the whole: their loops prove it together.
-use Rattle.std.proofs.Common.{◌≡◌, ℕ, ◌+◌, ◌*◌, ◌<◌, ℤ, pos, ◌+ℤ◌, ◌-ℤ◌, cond, List}
-use Rattle.std.proofs.Common.{[], ◌∷◌, ◌++◌, map, refl, sym, ◌∙◌, subst, arith, sum_by, length, get_or, take, drop, All}
-use Rattle.std.specs.Prelude.{◌≤ℤ◌}
-use Rattle.std.proofs.lemmas.Int.{ints}
+-- The answers of the parts, one after another, make one of the whole: spins and energies, and the loops that prove them.
+use Rattle.std.proofs.Common.{inl, inr, ◌≡◌, ◌⊎◌, ℕ, ◌+◌, ◌*◌, ◌<◌, ◌≤◌, ℤ, pos, ◌+ℤ◌, ◌-ℤ◌, Bool, true, false, cond, List}
+use Rattle.std.proofs.Common.{[], ◌∷◌, ◌++◌, map, refl, sym, ◌∙◌, ap, ap₂, subst, arith, sum_by, length, get_or, take, All, w64}
+use Rattle.std.specs.Prelude.{FitsSigned, unsigned_abs, ◌≤ℤ◌}
+use Rattle.std.proofs.lemmas.Bool.{cases_Bool, cases_eq}
+use Rattle.std.proofs.lemmas.Int.{fits_signed_from_abs, ints}
 use Rattle.std.proofs.lemmas.List.{length-append, length-map}
-use Rattle.std.proofs.lemmas.List.Elements.{All-append, All-map, All-weaker}
-use Rattle.std.proofs.lemmas.List.Sums.{sum_by-append, sum_by-cons, sum_by_push}
+use Rattle.std.proofs.lemmas.List.Elements.{All-append, All-from_get_or, All-map, All-take, All-weaker}
+use Rattle.std.proofs.lemmas.List.Sums.{get_or-le-sum_by, sum_by-append, sum_by-cons, sum_by-take-le, sum_by_more}
+use Rattle.sg_limits.specs.Limits.{forced_limit}
 use Rattle.sg_sums.specs.Sets.{holds}
+use Rattle.sg_sums.proofs.ListLaws.{cases_in}
+use Rattle.sg_sums.proofs.OneMore.{rising_order}
+use Rattle.sg_sums.proofs.SumLaws.{sum_by-same, sum_by_is_sum_below}
 use Rattle.sg_sums.proofs.Tallies.{sum_below_ones}
-use Rattle.sg_model.specs.Ising.{Ising, bond_count}
+use Rattle.sg_model.specs.declared.bond.Bond.{Bond}
+use Rattle.sg_model.specs.Ising.{Ising, IsBond, bond_at, bond_count}
 use Rattle.sg_model.specs.WellFormed.{IsInstance}
-use Rattle.sg_model.specs.Energy.{weight}
+use Rattle.sg_model.specs.Connected.{LeastsUp}
+use Rattle.sg_model.specs.Spins.{IsAssignment, IsUpOrDown, spin}
+use Rattle.sg_model.specs.Energy.{energy, weight}
+use Rattle.sg_model.proofs.BrokenEnergy.{broken_cost, energy_from_costs, unit_at}
 use Rattle.sg_check.specs.declared.packing.Loop.{Loop}
 use Rattle.sg_check.specs.Loop.{IsFrustratedLoop}
-use Rattle.sg_check.specs.Packing.{loop_weight, packed_weight}
+use Rattle.sg_check.specs.Packing.{loop_weight}
 use Rattle.sg_planar.specs.declared.components.Part.{Part}
-use Rattle.sg_planar.specs.Parts.{AreParts}
-use Rattle.sg_ground.specs.Placed.{WritesAt, loop_in_whole, numbered}
+use Rattle.sg_planar.specs.Parts.{AreParts, IsPart}
+use Rattle.sg_ground.specs.Placed.{HasValues, WritesAt, loop_in_whole, numbered}
 use Rattle.sg_ground.specs.Solution.{IsSolution}
-use Rattle.sg_ground.proofs.Shares.{IsShare}
 use Rattle.sg_ground.proofs.Glued.{IsGlued, cost_at, over_bonds, size_at}
-use Rattle.sg_ground.proofs.PartLists.{dealt_to_parts, once_each}
-use Rattle.sg_ground.proofs.Placing.{costs_more, energy_here, energy_over, more_placed, parted_at, part_is_share}
-use Rattle.sg_ground.proofs.Placing.{placed_leasts, share, sizes_all, sizes_here, with_this}
-use Rattle.sg_ground.proofs.Shares.{load_over, loop_over, total_over}
+use Rattle.sg_ground.proofs.PartLists.{all_parts, dealt_to_parts, first_inside, holds_at, once_each, second_inside, share_of_part, together}
+use Rattle.sg_ground.proofs.Shares.{IsShare, costs_over, in_place, load_over, loop_over, share_assignment, total_over, values_in, weights_over}
 
-module _ (inst : Ising) (good : IsInstance inst) where
-  module _ (parts done rest : List Part) (p : Part) (are : AreParts inst parts) (parted : parts ≡ done ++ p ∷ rest)
-      (s t u : List ℤ) (e f : ℤ) (loops more : List Loop)
-      (glued : IsGlued inst done s e loops) (solution : IsSolution p.planar.instance t f more) (writes : WritesAt p.spins t s u) where
-    here : IsShare inst p.spins p.bonds p.planar.instance
-    here = share inst good parts done rest p are parted
+module _ (inst : Ising) (good : IsInstance inst) (parts : List Part) (are : AreParts inst parts) where
+  ends : (k : ℕ) → k < bond_count inst → IsBond inst.n (bond_at inst k)
+  ends k l = good.draft.joined k (record { u = 0; v = 0; j = pos 0 }) l
 
-    costs : over_bonds (cost_at inst u) (done ++ p ∷ []) ≡ over_bonds (cost_at inst s) done + sum_by (cost_at inst u) p.bonds
-    costs = costs_more inst good parts done rest p are parted s t u e f glued.placed solution.proves.assignment solution.proves.stated writes
+  each : All (λ p. (least : ℕ) × IsPart inst least p) parts
+  each = all_parts inst are.leasts parts are.each
 
-    total_here : packed_weight (map (loop_in_whole p.bonds) more) ≡ sum_by (cost_at inst u) p.bonds
-    total_here = total_over p.bonds more ∙ whole (packed_weight more) f (sum_by (cost_at inst u) p.bonds) (sum_by (size_at inst) p.bonds)
-        (weight p.planar.instance)
-        solution.proves.tight
-        (energy_here inst good parts done rest p are parted s t u e f glued.placed solution.proves.assignment solution.proves.stated writes)
-        (sizes_here inst good parts done rest p are parted)
-      where
-        whole : (t : ℕ) (f : ℤ) (c a w : ℕ) → pos t ≡ f +ℤ pos w → f ≡ pos c -ℤ pos a → a ≡ w → t ≡ c
-        whole t f c a w h k same = omega (arith, ints)
+  -- the sizes of all couplings sum to the weight
+  sizes_all : over_bonds (size_at inst) parts ≡ weight inst
+  sizes_all = dealt_to_parts inst parts are (size_at inst)
+      ∙ sym (sum_by_is_sum_below (λ (b : Bond). unsigned_abs b.j) inst.bonds (record { u = 0; v = 0; j = pos 0 }))
 
-    -- one part more
-    pub more_glued : IsGlued inst (done ++ p ∷ []) u (e +ℤ f) (loops ++ map (loop_in_whole p.bonds) more)
-    more_glued = record {
-      placed = more_placed inst good parts done rest p are parted s t u e f glued.placed solution.proves.assignment solution.proves.stated writes;
-      leasts_up =
-          placed_leasts inst good parts done rest p are parted s t u e f glued.placed solution.proves.assignment solution.proves.stated writes
-          glued.leasts_up solution.leasts_up;
-      positive = All-append (λ (l : Loop). pos 1 ≤ℤ l.y) loops (map (loop_in_whole p.bonds) more) glued.positive
-          (All-map (λ (l : Loop). pos 1 ≤ℤ l.y) (loop_in_whole p.bonds) more solution.proves.packs.positive);
-      frustrated = All-append (λ (l : Loop). IsFrustratedLoop inst l.bonds) loops (map (loop_in_whole p.bonds) more) glued.frustrated
-          (All-map (λ (l : Loop). IsFrustratedLoop inst l.bonds) (loop_in_whole p.bonds) more
-          (All-weaker (λ (l : Loop). IsFrustratedLoop p.planar.instance l.bonds) (λ (l : Loop). IsFrustratedLoop inst (map (numbered p.bonds) l.bonds))
-          (λ l h. loop_over inst p.spins p.bonds p.planar.instance here l.bonds h) more solution.proves.packs.frustrated));
-      within = λ k.
-          omega (
-            arith,
-            sum_by-append (λ (l : Loop). cond (holds l.bonds k) (loop_weight l) 0) loops (map (loop_in_whole p.bonds) more),
-            sum_by_push (λ (q : Part). cond (holds q.bonds k) (2 * size_at inst k) 0) done p,
-            glued.within k,
-            load_over inst p.spins p.bonds p.planar.instance here more solution.proves.packs.frustrated solution.proves.packs.within k,
-          );
-      tight = omega (arith, sum_by-append loop_weight loops (map (loop_in_whole p.bonds) more), glued.tight, total_here, costs);
-      short =
-          omega (
-            arith,
-            length-append loops (map (loop_in_whole p.bonds) more),
-            length-map more (loop_in_whole p.bonds),
-            glued.short,
-            solution.short,
-            here.bond_counts,
-            sum_by_push (λ (q : Part). sum_by (λ _. 1) q.bonds) done p,
-            ones p.bonds,
-          );
-    }
-      where
-        ones : (xs : List ℕ) → sum_by (λ _. 1) xs ≡ length xs
-        ones [] = refl
-        ones (x ∷ xs) = omega (arith, ones xs, sum_by-cons (λ _. 1) x xs)
+  -- the energy of the whole, by the costs and sizes of its parts
+  energy_over : (s : List ℤ) → IsAssignment inst s → energy inst s ≡ pos (over_bonds (cost_at inst s) parts) -ℤ pos (over_bonds (size_at inst) parts)
+  energy_over s assigned =
+      energy_from_costs inst s good assigned
+      ∙ ap₂ (λ c w. pos c -ℤ pos w) (sum_by_is_sum_below (broken_cost s) inst.bonds (record { u = 0; v = 0; j = pos 0 })
+      ∙ sym (dealt_to_parts inst parts are (cost_at inst s))) (sym sizes_all)
 
-  -- all parts together: a solution of the whole
-  pub all_glued : (parts : List Part) → AreParts inst parts → (s : List ℤ) (e : ℤ) (loops : List Loop) → IsGlued inst parts s e loops →
-      IsSolution inst s e loops
-  all_glued parts are s e loops glued = record {
-    proves = record {
-      assignment = glued.placed.assignment;
-      stated = energy_over inst good parts are s glued.placed.assignment ∙ sym glued.placed.stated;
-      packs = record {
-        positive = glued.positive;
-        frustrated = glued.frustrated;
-        within = λ k l. omega (arith, glued.within k, once_each (λ (p : Part). holds p.bonds k) (2 * size_at inst k) parts (are.bonds_once k l));
+  -- the energy of some parts fits 64 bits
+  pub glued_fits : (i : ℕ) (e : ℤ) → weight inst ≤ forced_limit → unsigned_abs e ≤ over_bonds (size_at inst) (take i parts) → FitsSigned w64 e
+  glued_fits i e light size =
+      fits_signed_from_abs w64 e (omega (arith, size, light, sum_by-take-le (λ (q : Part). sum_by (size_at inst) q.bonds) parts i, sizes_all))
+
+  -- all parts together give a solution of the whole
+  pub all_glued : (with_loops : Bool) (s : List ℤ) (e : ℤ) (loops : List Loop) → IsGlued inst with_loops parts s e loops →
+      IsSolution with_loops inst s e loops
+  all_glued with_loops s e loops glued = record {
+    state = record {
+      ground_state = record {
+        assignment = glued.assignment;
+        least = λ t other. less _ _ _ _ _ (energy_over s glued.assignment) (energy_over t other) (glued.least t other);
       };
-      tight = whole (packed_weight loops) e _ _ (weight inst) glued.tight glued.placed.stated (sizes_all inst good parts are);
+      stated = energy_over s glued.assignment ∙ sym glued.stated;
+      size = omega (arith, glued.size, sizes_all);
+      leasts_up = glued.leasts_up;
+    };
+    packs = record {
+      positive = glued.positive;
+      frustrated = glued.frustrated;
+      within = λ k l. omega (arith, glued.within k, once_each (λ (p : Part). holds p.bonds k) (2 * size_at inst k) parts (are.bonds_once k l));
     };
     short = omega (arith, glued.short, dealt_to_parts inst parts are (λ _. 1), sum_below_ones (bond_count inst));
-    leasts_up = glued.leasts_up;
+    tight = λ so. glued.tight so ∙ ap (λ w. e +ℤ pos w) sizes_all;
   }
     where
-      whole : (t : ℕ) (e : ℤ) (c a w : ℕ) → t ≡ c → e ≡ pos c -ℤ pos a → a ≡ w → pos t ≡ e +ℤ pos w
-      whole t e c a w h k same = omega (arith, ints)
+      less : (f g : ℤ) (a b w : ℕ) → f ≡ pos a -ℤ pos w → g ≡ pos b -ℤ pos w → a ≤ b → f ≤ℤ g
+      less f g a b w h k l = omega (arith, ints)
 
--- part i of the whole in the loop over the parts
-module _ (inst : Ising) (good : IsInstance inst) (parts : List Part) (are : AreParts inst parts) (i : ℕ) (p : Part)
-    (l : i < length parts) (same : p ≡ get_or parts i p) where
-  -- its loops go over its bonds
-  pub part_loops_below : (t : List ℤ) (f : ℤ) (more : List Loop) → IsSolution p.planar.instance t f more →
-      All (λ (l : Loop). All (λ k. k < length p.bonds) l.bonds) more
-  part_loops_below t f more solution =
-      All-weaker (λ (l : Loop). IsFrustratedLoop p.planar.instance l.bonds) (λ (l : Loop). All (λ k. k < length p.bonds) l.bonds)
-      (λ loop h j d m. omega (arith, h.set.below j d m, here.bond_counts)) more solution.proves.packs.frustrated
-    where
-      here : IsShare inst p.spins p.bonds p.planar.instance
-      here = part_is_share inst good parts are i p l same
+  module _ (i : ℕ) (p : Part) (l : i < length parts) (same : p ≡ get_or parts i p) where
+    -- part i is the component of some spin, and a share of the whole
+    pub part_here : (least : ℕ) × IsPart inst least p
+    part_here = subst (λ (q : Part). (least : ℕ) × IsPart inst least q) (sym same) (each i p l)
 
-  -- one part more
-  pub part_glued : (s t u : List ℤ) (e f : ℤ) (loops more : List Loop) →
-      IsGlued inst (take i parts) s e loops → IsSolution p.planar.instance t f more → WritesAt p.spins t s u →
-      IsGlued inst (take (i + 1) parts) u (e +ℤ f) (loops ++ map (loop_in_whole p.bonds) more)
-  part_glued s t u e f loops more glued solution writes =
-      subst (λ ps. IsGlued inst ps u (e +ℤ f) (loops ++ map (loop_in_whole p.bonds) more)) (sym (with_this inst good parts are i p l same))
-      (more_glued inst good parts (take i parts) (drop (i + 1) parts) p are (parted_at parts i p l same) s t u e f loops more glued solution writes)
+    pub share : IsShare inst p.spins p.bonds p.planar.instance
+    share = share_of_part inst part_here.0 p part_here.1
+
+    -- its loops go over its bonds
+    pub loops_below : (with_loops : Bool) (t : List ℤ) (f : ℤ) (more : List Loop) → IsSolution with_loops p.planar.instance t f more →
+        All (λ (l : Loop). All (λ k. k < length p.bonds) l.bonds) more
+    loops_below with_loops t f more found =
+        All-weaker (λ (l : Loop). IsFrustratedLoop p.planar.instance l.bonds) (λ (l : Loop). All (λ k. k < length p.bonds) l.bonds)
+        (λ loop h j d m. omega (arith, h.set.below j d m, share.bond_counts)) more found.packs.frustrated
+
+    -- a sum over the parts up to this one
+    with_this : (f : Part → ℕ) → sum_by f (take (i + 1) parts) ≡ sum_by f (take i parts) + f p
+    with_this f = sum_by_more f parts i p l ∙ ap (λ (q : Part). sum_by f (take i parts) + f q) (sym same)
+
+    -- no spin of a part before is one of this part
+    apart : (x : ℕ) → x < inst.n → (j : ℕ) (d : Part) → j < length (take i parts) → holds (get_or (take i parts) j d).spins x ≡ true →
+        holds p.spins x ≡ false
+    apart x low j d m held = elim (cases_Bool (holds p.spins x)) [
+      | inr out ↦ out
+      | inl both ↦
+          absurd (omega (
+            arith,
+            are.spins_once x low,
+            sum_by-take-le times parts (i + 1),
+            with_this times,
+            get_or-le-sum_by times (take i parts) j d m,
+            ap (λ b. cond {A = ℕ} b 1 0) held,
+            ap (λ b. cond {A = ℕ} b 1 0) both,
+          ))
+    ]
+      where
+        times : Part → ℕ
+        times q = cond (holds q.spins x) 1 0
+
+    -- the energy of the part, where the whole has these values of it
+    energy_here : (v q : List ℤ) → IsAssignment p.planar.instance q → HasValues p.spins v q →
+        energy p.planar.instance q ≡ pos (sum_by (cost_at inst v) p.bonds) -ℤ pos (weight p.planar.instance)
+    energy_here v q assigned values =
+        energy_from_costs p.planar.instance q share.good assigned
+        ∙ ap (λ c. pos c -ℤ pos (weight p.planar.instance)) (sym (costs_over inst p.spins p.bonds p.planar.instance share v q values))
+
+    -- with it the sizes grow by the weight of the part
+    sizes_more : over_bonds (size_at inst) (take (i + 1) parts) ≡ over_bonds (size_at inst) (take i parts) + weight p.planar.instance
+    sizes_more =
+        with_this (λ (q : Part). sum_by (size_at inst) q.bonds)
+        ∙ ap (λ w. over_bonds (size_at inst) (take i parts) + w) (weights_over inst p.spins p.bonds p.planar.instance share)
+
+    module _ (with_loops : Bool) (s t u : List ℤ) (e f : ℤ) (loops more : List Loop) (glued : IsGlued inst with_loops (take i parts) s e loops)
+        (found : IsSolution with_loops p.planar.instance t f more) (writes : WritesAt p.spins t s u) where
+      assigned : IsAssignment p.planar.instance t
+      assigned = found.state.ground_state.assignment
+
+      -- each spin has its value in the part, or the value that it had
+      value_at : (x : ℕ) → ((k : ℕ) × (k < length p.spins) × (numbered p.spins k ≡ x) × (spin u x ≡ spin t k)) ⊎ (spin u x ≡ spin s x)
+      value_at x = elim (cases_in p.spins x) [
+        | inl inside ↦ inl (inside.0, inside.1, inside.2, ap (spin u) (sym inside.2) ∙ writes.values inside.0 inside.1)
+        | inr outside ↦ inr (writes.others x outside.1)
+      ]
+
+      all_assigned : IsAssignment inst u
+      all_assigned = record {
+        count = writes.count ∙ glued.assignment.count;
+        values = All-from_get_or IsUpOrDown u (pos 1) (λ x l. (
+            elim (value_at x) [
+              | inl here ↦ subst IsUpOrDown (sym here.3) (unit_at p.planar.instance t assigned here.0 (omega (arith, here.1, share.spin_count)))
+              | inr old ↦ subst IsUpOrDown (sym old) (unit_at inst s glued.assignment x (omega (arith, l, writes.count, glued.assignment.count)))
+            ]));
+      }
+
+      -- the least spin of the part is its first
+      leasts_up : LeastsUp inst u
+      leasts_up x l least = elim (value_at x) [
+        | inr old ↦ old ∙ glued.leasts_up x l least
+        | inl here ↦
+            let some : 0 < length p.spins = omega (arith, here.1) in
+            let below : x ≤ numbered p.spins 0 =
+            least (numbered p.spins 0) (together inst part_here.0 p part_here.1 x (numbered p.spins 0)
+            (ap (holds p.spins) (sym here.2) ∙ holds_at p.spins here.0 0 here.1) (holds_at p.spins 0 0 some)) in
+            elim (cases_eq here.0 0) [
+              | inl first ↦
+                  here.3 ∙ ap (spin t) first ∙ found.state.leasts_up 0 (omega (arith, some, share.spin_count)) (λ j r. omega arith)
+              | inr later ↦ absurd (omega (arith, rising_order p.spins share.spins_rise 0 here.0 (omega (arith, later)) here.1, below, here.2))
+            ]
+      ]
+
+      -- what broken bonds cost in the parts before stays
+      costs_before : over_bonds (cost_at inst u) (take i parts) ≡ over_bonds (cost_at inst s) (take i parts)
+      costs_before =
+          sum_by-same (λ (q : Part). sum_by (cost_at inst u) q.bonds) (λ (q : Part). sum_by (cost_at inst s) q.bonds) (take i parts)
+          (λ j d m. sum_by-same (cost_at inst u) (cost_at inst s) (get_or (take i parts) j d).bonds
+          (λ k c n. same_cost j d m (get_or (get_or (take i parts) j d).bonds k c) (holds_at (get_or (take i parts) j d).bonds k c n)))
+        where
+          same_cost : (j : ℕ) (d : Part) → j < length (take i parts) → (k : ℕ) → holds (get_or (take i parts) j d).bonds k ≡ true →
+              cost_at inst u k ≡ cost_at inst s k
+          same_cost j d m k held =
+              let q : Part = get_or (take i parts) j d in
+              let is : (least : ℕ) × IsPart inst least q = All-take (λ (p : Part). (least : ℕ) × IsPart inst least p) i parts each j d m in
+              let low : k < bond_count inst = ((is.1.bonds k).0 held).0 in
+              let first : spin u (bond_at inst k).u ≡ spin s (bond_at inst k).u =
+              kept (bond_at inst k).u (ends k low).first_end j d m (first_inside inst is.0 q is.1 k held) in
+              let second : spin u (bond_at inst k).v ≡ spin s (bond_at inst k).v =
+              kept (bond_at inst k).v (ends k low).second_end j d m (second_inside inst is.0 q is.1 (λ k l. (ends k l).second_end) k held) in
+              rw (first, second) refl
+            where
+              kept : (x : ℕ) → x < inst.n → (j : ℕ) (d : Part) → j < length (take i parts) → holds (get_or (take i parts) j d).spins x ≡ true →
+                  spin u x ≡ spin s x
+              kept x low j d m held = writes.others x (apart x low j d m held)
+
+      -- with this part they grow by what they cost there
+      costs_more : over_bonds (cost_at inst u) (take (i + 1) parts) ≡ over_bonds (cost_at inst s) (take i parts) + sum_by (cost_at inst u) p.bonds
+      costs_more = with_this (λ (q : Part). sum_by (cost_at inst u) q.bonds) ∙ ap (λ c. c + sum_by (cost_at inst u) p.bonds) costs_before
+
+      -- other spins make its bonds cost no less
+      no_less : (v : List ℤ) → IsAssignment inst v → sum_by (cost_at inst u) p.bonds ≤ sum_by (cost_at inst v) p.bonds
+      no_less v other =
+          let inside : IsAssignment p.planar.instance (values_in p.spins v) = share_assignment inst p.spins p.bonds p.planar.instance share v other in
+          less _ _ _ _ _ (energy_here u t assigned writes.values) (energy_here v (values_in p.spins v) inside (in_place p.spins v))
+          (found.state.ground_state.least (values_in p.spins v) inside)
+        where
+          less : (f g : ℤ) (c d w : ℕ) → f ≡ pos c -ℤ pos w → g ≡ pos d -ℤ pos w → f ≤ℤ g → c ≤ d
+          less f g c d w h k l = omega (arith, ints)
+
+      -- one part more
+      pub part_glued : IsGlued inst with_loops (take (i + 1) parts) u (e +ℤ f) (loops ++ map (loop_in_whole p.bonds) more)
+      part_glued = record {
+        assignment = all_assigned;
+        stated = added e f _ _ _ _ _ _ glued.stated (sym found.state.stated ∙ energy_here u t assigned writes.values) costs_more sizes_more;
+        size = bounded e f _ _ _ glued.size found.state.size sizes_more;
+        least = λ v other.
+            omega (arith, costs_more, with_this (λ (q : Part). sum_by (cost_at inst v) q.bonds), glued.least v other, no_less v other);
+        leasts_up = leasts_up;
+        positive = All-append (λ (l : Loop). pos 1 ≤ℤ l.y) loops (map (loop_in_whole p.bonds) more) glued.positive
+            (All-map (λ (l : Loop). pos 1 ≤ℤ l.y) (loop_in_whole p.bonds) more found.packs.positive);
+        frustrated = All-append (λ (l : Loop). IsFrustratedLoop inst l.bonds) loops (map (loop_in_whole p.bonds) more) glued.frustrated
+            (All-map (λ (l : Loop). IsFrustratedLoop inst l.bonds) (loop_in_whole p.bonds) more
+            (All-weaker (λ (l : Loop). IsFrustratedLoop p.planar.instance l.bonds) (λ (l : Loop). IsFrustratedLoop inst (map (numbered p.bonds) l.bonds))
+            (λ l h. loop_over inst p.spins p.bonds p.planar.instance share l.bonds h) more found.packs.frustrated));
+        within = λ k.
+            omega (
+              arith,
+              sum_by-append (λ (l : Loop). cond (holds l.bonds k) (loop_weight l) 0) loops (map (loop_in_whole p.bonds) more),
+              with_this (λ (q : Part). cond (holds q.bonds k) (2 * size_at inst k) 0),
+              glued.within k,
+              load_over inst p.spins p.bonds p.planar.instance share more found.packs.frustrated found.packs.within k,
+            );
+        short =
+            omega (
+              arith,
+              length-append loops (map (loop_in_whole p.bonds) more),
+              length-map more (loop_in_whole p.bonds),
+              glued.short,
+              found.short,
+              share.bond_counts,
+              with_this (λ (q : Part). sum_by (λ _. 1) q.bonds),
+              ones p.bonds,
+            );
+        tight = λ so. proved e f _ _ _ _ _ _ (glued.tight so) (found.tight so)
+            (sum_by-append loop_weight loops (map (loop_in_whole p.bonds) more)) (total_over p.bonds more) _ sizes_more;
+      }
+        where
+          added : (e f : ℤ) (a b c d v w : ℕ) → e ≡ pos a -ℤ pos b → f ≡ pos c -ℤ pos d → v ≡ a + c → w ≡ b + d → e +ℤ f ≡ pos v -ℤ pos w
+          added e f a b c d v w h k l m = omega (arith, ints)
+
+          bounded : (e f : ℤ) (a b w : ℕ) → unsigned_abs e ≤ a → unsigned_abs f ≤ b → w ≡ a + b → unsigned_abs (e +ℤ f) ≤ w
+          bounded e f a b w h k l = omega (arith, ints)
+
+          proved : (e f : ℤ) (a b c d v w : ℕ) → pos a ≡ e +ℤ pos b → pos c ≡ f +ℤ pos d → v ≡ a + w → w ≡ c → (s : ℕ) → s ≡ b + d →
+              pos v ≡ (e +ℤ f) +ℤ pos s
+          proved e f a b c d v w h k l m s n = omega (arith, ints)
+
+          ones : (xs : List ℕ) → sum_by (λ _. 1) xs ≡ length xs
+          ones [] = refl
+          ones (x ∷ xs) = omega (arith, ones xs, sum_by-cons (λ _. 1) x xs)

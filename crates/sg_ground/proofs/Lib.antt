@@ -9,9 +9,7 @@ pub mod Shares
 pub mod Glued
 pub mod PlacedValues
 pub mod PartLists
-pub mod Placing
 pub mod Gluing
-pub mod LeastPlaced
 pub mod WalkedSpins
 pub mod NestProofs
 pub mod CountedSteps

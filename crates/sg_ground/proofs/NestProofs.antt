@@ -1,5 +1,5 @@
 -- A nest that proves a join proves the spins that break just its edges.
-use Rattle.std.proofs.Common.{◌≡◌, ℕ, ◌*◌, ℤ, Option, Some, None, List, IfSome, ap, sym, subst, ◌∙◌}
+use Rattle.std.proofs.Common.{◌≡◌, ℕ, ◌*◌, ℤ, Option, Some, None, List, IfSome, ap, sym, ◌∙◌}
 use Rattle.sg_model.specs.Energy.{IsGroundState}
 use Rattle.sg_model.specs.Spins.{IsAssignment}
 use Rattle.sg_planar.specs.BrokenLists.{BreaksExactly}
@@ -48,8 +48,5 @@ module _ (p : Embedding) (planar : IsPlanar p) (s : List ℤ) (assigned : IsAssi
       → terminals ≡ frustrated_faces p.instance p.faces → broken ≡ broken_bonds p.instance s → IsLeastJoin web terminals broken
       → IsGroundState p.instance s
   ground_by_broken web terminals broken same_web same_terminals same least =
-      let here : IsLeastJoin (dual_web p.instance p.faces) (frustrated_faces p.instance p.faces) (broken_bonds p.instance s) =
-      subst (λ (bs : List ℕ). IsLeastJoin (dual_web p.instance p.faces) (frustrated_faces p.instance p.faces) bs) same
-      (subst (λ (ts : List ℕ). IsLeastJoin (dual_web p.instance p.faces) ts broken) same_terminals
-      (subst (λ (g : Graph). IsLeastJoin g terminals broken) same_web least)) in
-      ground_by_join p.instance p.faces planar.instance planar.faces s (broken_bonds p.instance s) assigned own_breaks here
+      ground_by_join p.instance p.faces planar.instance planar.faces s (broken_bonds p.instance s) assigned own_breaks
+      (rw (same_web, same_terminals, same) at least)

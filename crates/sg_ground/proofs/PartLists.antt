@@ -1,11 +1,12 @@
 -- The parts of an instance: each is a share of it, no two have a spin in common, and a sum over all bonds is dealt out to them.
-use Rattle.std.proofs.Common.{inl, inr, ◌≡◌, ℕ, zero, suc, ◌+◌, ◌*◌, ◌<◌, ◌≤◌, Bool, true, false, cond, eqb}
-use Rattle.std.proofs.Common.{List, [], ◌∷◌, ◌++◌, refl, sym, ◌∙◌, ap, subst, arith, sum_by, length, get_or, All, eq-eqb, pos}
+use Rattle.std.proofs.Common.{inl, ◌≡◌, ℕ, ◌+◌, ◌*◌, ◌<◌, Bool, true, false, cond, eqb}
+use Rattle.std.proofs.Common.{List, [], ◌∷◌, refl, sym, ◌∙◌, ap, arith, sum_by, length, get_or, All, eq-eqb, pos}
 use Rattle.std.specs.List.{AllZip}
-use Rattle.std.proofs.lemmas.Bool.{cases_Bool, eqb-true}
-use Rattle.std.proofs.lemmas.List.{append-nil, get_or-map, length-map}
+use Rattle.std.proofs.lemmas.Bool.{eqb-true}
+use Rattle.std.proofs.lemmas.List.{get_or-map, length-map}
+use Rattle.std.proofs.lemmas.List.Elements.{All-cons, All-nil}
 use Rattle.std.proofs.lemmas.List.Folds.{list_any_at}
-use Rattle.std.proofs.lemmas.List.Sums.{passes_at_first, sum_by-append, sum_by-cons}
+use Rattle.std.proofs.lemmas.List.Sums.{passes_at_first, sum_by-cons}
 use Rattle.sg_sums.specs.Sums.{sum_below}
 use Rattle.sg_sums.specs.Sets.{holds}
 use Rattle.sg_sums.proofs.MemberSums.{members_sum}
@@ -81,56 +82,14 @@ module _ (inst : Ising) (least : ℕ) (p : Part) (is : IsPart inst least p) wher
         record { bond = k; below = low; in_set = refl; ends = inl (refl, refl) } in
         (is.spins (bond_at inst k).v).1 (good k low, reached_more inst all_bonds least (bond_at inst k).u (bond_at inst k).v first step)
 
-module _ (inst : Ising) where
-  -- each of the parts is the component of some spin
-  pub some_part : (leasts : List ℕ) (done rest : List Part) (p : Part) → AllZip (IsPart inst) leasts (done ++ p ∷ rest) → (least : ℕ) × IsPart inst least p
-  some_part [] [] rest p h = absurd h
-  some_part [] (q ∷ done) rest p h = absurd h
-  some_part (least ∷ leasts) [] rest p h = (least, h.0)
-  some_part (least ∷ leasts) (q ∷ done) rest p h = some_part leasts done rest p h.1
-
-  -- each of the first parts is a part of the whole
-  pub parts_before : (leasts : List ℕ) (done rest : List Part) → AllZip (IsPart inst) leasts (done ++ rest) → All (λ p. (least : ℕ) × IsPart inst least p) done
-  parts_before leasts done rest h i d l = at leasts done i h l
-    where
-      at : (leasts : List ℕ) (done : List Part) (i : ℕ) → AllZip (IsPart inst) leasts (done ++ rest) → i < length done →
-          (least : ℕ) × IsPart inst least (get_or done i d)
-      at leasts [] i h l = absurd (omega arith)
-      at [] (p ∷ done) i h l = absurd h
-      at (least ∷ leasts) (p ∷ done) zero h l = (least, h.0)
-      at (least ∷ leasts) (p ∷ done) (suc i) h l = at leasts done i h.1 (omega arith)
-
-  -- and so is each of all parts
-  pub all_parts : (leasts : List ℕ) (parts : List Part) → AllZip (IsPart inst) leasts parts → All (λ p. (least : ℕ) × IsPart inst least p) parts
-  all_parts leasts parts h = parts_before leasts parts [] (subst (AllZip (IsPart inst) leasts) (sym (append-nil parts)) h)
-
--- what one of two lists counts once, the other does not count
-none_counted : (b : Part → Bool) (done : List Part) → sum_by (λ p. cond (b p) 1 0) done ≡ 0 → All (λ q. b q ≡ false) done
-none_counted b done none i d l = elim (cases_Bool (b (get_or done i d))) [
-  | inl counted ↦
-      let one : cond {A = ℕ} (b (get_or done i d)) 1 0 ≡ 1 = ap (λ c. cond {A = ℕ} c 1 0) counted in
-      let some : cond (b (get_or done i d)) 1 0 ≤ sum_by (λ p. cond (b p) 1 0) done = at_most done i l in
-      absurd (omega (arith, one, some, none))
-  | inr out ↦ out
-]
-  where
-    at_most : (done : List Part) (i : ℕ) → i < length done → cond (b (get_or done i d)) 1 0 ≤ sum_by (λ p. cond (b p) 1 0) done
-    at_most [] i l = absurd (omega arith)
-    at_most (q ∷ done) zero l = omega (arith, sum_by-cons (λ p. cond (b p) 1 0) q done)
-    at_most (q ∷ done) (suc i) l = omega (arith, at_most done i (omega arith), sum_by-cons (λ p. cond (b p) 1 0) q done)
-
--- what stands once in the parts, and in this one, is in none before
-pub not_before : (b : Part → Bool) (done rest : List Part) (p : Part) → sum_by (λ p. cond (b p) 1 0) (done ++ p ∷ rest) ≡ 1 → b p ≡ true →
-    All (λ q. b q ≡ false) done
-not_before b done rest p once here =
-    none_counted b done
-    (omega (
-      arith,
-      once,
-      sum_by-append (λ p. cond (b p) 1 0) done (p ∷ rest),
-      sum_by-cons (λ p. cond (b p) 1 0) p rest,
-      ap (λ c. cond {A = ℕ} c 1 0) here,
-    ))
+-- each of the parts is the component of some spin
+pub all_parts : (inst : Ising) (leasts : List ℕ) (parts : List Part) → AllZip (IsPart inst) leasts parts →
+    All (λ p. (least : ℕ) × IsPart inst least p) parts
+all_parts inst [] [] h = All-nil (λ p. (least : ℕ) × IsPart inst least p)
+all_parts inst [] (p ∷ parts) h = absurd h
+all_parts inst (least ∷ leasts) [] h = absurd h
+all_parts inst (least ∷ leasts) (p ∷ parts) h =
+    All-cons (λ p. (least : ℕ) × IsPart inst least p) p parts (least, h.0) (all_parts inst leasts parts h.1)
 
 -- what is counted as often as a test is passed once
 pub once_each : (b : Part → Bool) (c : ℕ) (parts : List Part) → sum_by (λ p. cond (b p) 1 0) parts ≡ 1 → sum_by (λ p. cond (b p) c 0) parts ≡ c

@@ -1,35 +1,33 @@
 -- What a least join of the frustrated faces gives: spins that break exactly its bonds are a ground state, and the odd cuts that prove the
 -- join are the loops that prove it.
-use Rattle.std.proofs.Common.{inl, inr, ◌≡◌, ℕ, ◌*◌, ◌<◌, ◌≤◌, ◌^◌, pos, ℤ, ◌+ℤ◌, ◌-ℤ◌, List, map, sym, ◌∙◌, ap, subst, arith, sum_by, All, to_z, of_z, w64}
+use Rattle.std.proofs.Common.{inl, inr, ◌≡◌, ℕ, ◌*◌, ◌<◌, ◌≤◌, ◌^◌, pos, ℤ, ◌+ℤ◌, ◌-ℤ◌, true, List, map, Result, Ok, Err, IfOk}
+use Rattle.std.proofs.Common.{sym, ◌∙◌, ap, arith, sum_by, to_z, of_z, w64}
 use Rattle.std.specs.Prelude.{FitsSigned, unsigned_abs}
 use Rattle.std.specs.Int.{w128}
 use Rattle.std.proofs.lemmas.Bool.{cases_eq}
 use Rattle.std.proofs.lemmas.Int.{fits_signed_from_abs, ints, to_z-of_z}
 use Rattle.sg_model.specs.Ising.{Ising, bond_count}
-use Rattle.sg_model.specs.WellFormed.{IsInstance}
 use Rattle.sg_model.specs.Connected.{IsConnected}
-use Rattle.sg_model.specs.Spins.{IsAssignment, spin}
-use Rattle.sg_model.specs.Energy.{IsGroundState, energy, weight}
-use Rattle.sg_model.proofs.BrokenEnergy.{broken_weight, energy_from_broken}
+use Rattle.sg_model.specs.Spins.{IsAssignment}
+use Rattle.sg_model.specs.Energy.{energy, weight}
 use Rattle.sg_model.proofs.EnergyBounds.{energy_size}
 use Rattle.sg_graph.specs.declared.cut.Cut.{Cut}
 use Rattle.sg_graph.specs.Web.{Graph, weight_of}
 use Rattle.sg_graph.specs.Join.{IsLeastJoin}
 use Rattle.sg_graph.specs.OddCut.{CutsPack, odd_cut_weight}
-use Rattle.sg_check.specs.declared.packing.Loop.{Loop}
 use Rattle.sg_check.specs.Packing.{packed_weight}
-use Rattle.sg_check.proofs.WeakDuality.{proves_ground_state}
 use Rattle.sg_planar.specs.Fit.{Embedding, IsPlanar}
-use Rattle.sg_planar.specs.BrokenLists.{BreaksExactly, FitsFaces}
+use Rattle.sg_planar.specs.BrokenLists.{BreaksExactly}
 use Rattle.sg_planar.proofs.EulerBounds.{faces_few}
 use Rattle.sg_dual.proofs.DualWebs.{one_face_alone}
 use Rattle.sg_dual.specs.Dual.{dual_web, frustrated_faces}
+use Rattle.sg_tjoin.specs.declared.Join.{Join}
 use Rattle.sg_ground.specs.Loops.{loop_of}
-use Rattle.sg_ground.specs.Solution.{IsSolution}
+use Rattle.sg_ground.specs.Solution.{IsSolution, IsState}
 use Rattle.sg_ground.specs.TightJoin.{IsTightJoin}
-use Rattle.sg_ground.proofs.FirstUp.{leasts_up}
-use Rattle.sg_ground.proofs.JoinFits.{broken_weight_is, join_below, join_fits}
+use Rattle.sg_ground.proofs.BrokenJoins.{energy_of_join}
 use Rattle.sg_ground.proofs.Packings.{loops_weight, packs_loops, short_loops}
+use Rattle.sg_ground.proofs.WeighedJoins.{dual_join}
 
 module _ (p : Embedding) (planar : IsPlanar p) (connected : IsConnected p.instance) where
   few_faces : 0 < bond_count p.instance → p.faces.count ≤ bond_count p.instance
@@ -43,51 +41,38 @@ module _ (p : Embedding) (planar : IsPlanar p) (connected : IsConnected p.instan
   ]
 
   -- a least join of the terminals in the web, where these are the dual and the frustrated faces
-  pub tight_join : (web : Graph) (terminals edges : List ℕ) (cuts : List Cut) →
-      web ≡ dual_web p.instance p.faces → terminals ≡ frustrated_faces p.instance p.faces →
-      IsLeastJoin web terminals edges → CutsPack web terminals cuts → sum_by odd_cut_weight cuts ≡ 2 * weight_of web edges → IsTightJoin p edges cuts
-  tight_join web terminals edges cuts same_web same_terminals least packs tight = record {
-    least = subst (λ ts. IsLeastJoin (dual_web p.instance p.faces) ts edges) same_terminals (subst (λ g. IsLeastJoin g terminals edges) same_web least);
-    packs = subst (λ ts. CutsPack (dual_web p.instance p.faces) ts cuts) same_terminals (subst (λ g. CutsPack g terminals cuts) same_web packs);
+  pub tight_join : (web : Graph) (terminals edges : List ℕ) (w : ℤ) (cuts : List Cut) →
+      web ≡ dual_web p.instance p.faces → terminals ≡ frustrated_faces p.instance p.faces → IsLeastJoin web terminals edges →
+      w ≡ pos (weight_of web edges) → CutsPack web terminals cuts → sum_by odd_cut_weight cuts ≡ 2 * weight_of web edges → IsTightJoin p edges w cuts
+  tight_join web terminals edges w cuts same_web same_terminals least value packs tight = record {
+    join = dual_join p planar web terminals edges w same_web same_terminals least value;
+    packs = rw (← same_web, ← same_terminals) packs;
     tight = tight ∙ ap (λ g. 2 * weight_of g edges) same_web;
   }
 
-  -- what the join is made of: its edges are bonds, and fit the faces
-  pub bonds_of_join : (edges : List ℕ) (cuts : List Cut) → IsTightJoin p edges cuts → All (λ k. k < bond_count p.instance) edges
-  bonds_of_join edges cuts tight = join_below p.instance p.faces edges tight.least.join
+  pub any_tight : {E : Type 0} (r : Result Join E) (web : Graph) (terminals : List ℕ) → web ≡ dual_web p.instance p.faces →
+      terminals ≡ frustrated_faces p.instance p.faces → IfOk r (λ (j : Join). IsLeastJoin web terminals j.edges) →
+      IfOk r (λ (j : Join). j.weight ≡ pos (weight_of web j.edges)) → IfOk r (λ (j : Join). CutsPack web terminals j.cuts) →
+      IfOk r (λ (j : Join). sum_by odd_cut_weight j.cuts ≡ 2 * weight_of web j.edges) → IfOk r (λ (j : Join). IsTightJoin p j.edges j.weight j.cuts)
+  any_tight (Ok j) web terminals dual frustrated least value packs tight =
+      tight_join web terminals j.edges j.weight j.cuts dual frustrated least value packs tight
+  any_tight (Err e) web terminals dual frustrated least value packs tight = tt
 
-  -- a least join fits the faces
-  pub fits_of_join : (edges : List ℕ) (cuts : List Cut) → IsTightJoin p edges cuts → FitsFaces p.instance p.faces edges
-  fits_of_join edges cuts tight = join_fits p.instance p.faces edges tight.least.join
-
-  -- a join whose bonds are just the broken ones, and cuts that weigh twice as much
-  pub solution_from_join : (s : List ℤ) (e : ℤ) (edges : List ℕ) (cuts : List Cut) →
-      IsAssignment p.instance s → spin s 0 ≡ pos 1 → BreaksExactly p.instance s edges →
-      energy p.instance s ≡ e → IsTightJoin p edges cuts → IsSolution p.instance s e (map loop_of cuts)
-  solution_from_join s e edges cuts assigned first_up breaks stated join = record {
-    proves = record {
-      assignment = assigned;
-      stated = stated;
-      packs = packs_loops p.instance p.faces planar.instance planar.faces cuts join.packs;
-      tight = tight_sum e (packed_weight (map loop_of cuts)) (sum_by (broken_weight s) p.instance.bonds) (weight p.instance)
-          (loops_weight cuts ∙ join.tight ∙ ap (λ w. 2 * w) (sym (broken_weight_is p.instance p.faces edges join.least.join s breaks)))
-          (sym stated ∙ energy_from_broken p.instance s planar.instance assigned);
-    };
+  -- a state that breaks just the edges of a join, with the cuts that weigh twice as much
+  pub solution_from_join : (s : List ℤ) (e w : ℤ) (edges : List ℕ) (cuts : List Cut) →
+      BreaksExactly p.instance s edges → IsState p.instance s e → IsTightJoin p edges w cuts → IsSolution true p.instance s e (map loop_of cuts)
+  solution_from_join s e w edges cuts breaks state join = record {
+    state = state;
+    packs = packs_loops p.instance p.faces planar.instance planar.faces cuts join.packs;
     short = short_loops p.instance p.faces planar.instance planar.faces cuts join.packs connected few_faces;
-    leasts_up = leasts_up p.instance connected s first_up;
+    tight = λ so. tight_sum e (packed_weight (map loop_of cuts)) (weight_of (dual_web p.instance p.faces) edges) (weight p.instance)
+        (loops_weight cuts ∙ join.tight)
+        (sym state.stated
+        ∙ energy_of_join p.instance p.faces planar.instance planar.faces s edges state.ground_state.assignment breaks join.join.least.join);
   }
     where
       tight_sum : (e : ℤ) (t b w : ℕ) → t ≡ 2 * b → e ≡ pos (2 * b) -ℤ pos w → pos t ≡ e +ℤ pos w
       tight_sum e t b w p q = omega (arith, ints)
-
-module _ (inst : Ising) (good : IsInstance inst) (s : List ℤ) (e : ℤ) (loops : List Loop) (solution : IsSolution inst s e loops) where
-  -- no spins have less energy: the law of packings
-  pub ground_state_from_solution : IsGroundState inst s
-  ground_state_from_solution = proves_ground_state inst good s e loops solution.proves
-
-  -- the energy of a solution is no larger than the weight
-  pub size_from_solution : unsigned_abs e ≤ weight inst
-  size_from_solution = omega (arith, energy_size inst s good solution.proves.assignment, ap unsigned_abs solution.proves.stated)
 
 -- the energies of a planar instance fit 64 bits
 module _

@@ -41,7 +41,7 @@ pub fn dual_of(alloc: Global, planar: &Planar) -> Result<(Web, Terminals), NoMem
 
 /// A minimum T-join of the frustrated faces of a connected instance, its weight, and a nest that proves
 /// it, where one was found. Its steps are counted.
-#[tactic(auto, using(crate::proofs::CountedSteps::any_dual))]
+#[tactic(auto, using(crate::proofs::CountedSteps::any_dual, crate::proofs::WeighedJoins::any_join))]
 pub fn weighed_join(
     alloc: Global,
     planar: &Planar,

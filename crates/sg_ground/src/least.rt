@@ -1,15 +1,16 @@
 ghost use Rattle.std.specs.Prelude.{◌+◌, ◌≤◌, unsigned_abs, IfErr, IfOk};
+ghost use Rattle.sg_model.specs.Connected.{IsConnected};
 ghost use Rattle.sg_model.specs.Energy.{weight, IsLeastEnergy};
 ghost use Rattle.sg_planar.specs.Fit.{IsPlanar};
 ghost use Rattle.sg_tjoin.specs.Allowance.{IfTooLarge};
 ghost use Rattle.sg_tjoin.specs.Counted.{steps_of};
-ghost use Rattle.sg_ground.specs.Allowance.{TablesExceed};
-ghost use Rattle.sg_ground.specs.Counted.{AddsSteps};
+ghost use Rattle.sg_ground.specs.Allowance.{FacesExceed, TablesExceed};
+ghost use Rattle.sg_ground.specs.Counted.{AddsSteps, join_steps};
 
 use super::NoMemory;
 use super::joins::{broken_energy, weighed_join};
-use super::state::join_states;
-use sg_planar::{Division, Planar, divide};
+use super::parts::solve_all;
+use sg_planar::Planar;
 use sg_tjoin::{Taken, Unproved};
 use std::alloc::{AllocError, Global};
 
@@ -42,6 +43,7 @@ pub fn least_energy_within(alloc: Global, planar: &Planar, most_bytes: u64) -> R
 
 /// The energy of [`least_energy_within`], and the count of the steps that it took, with the bound of
 /// [`solve_counted`](super::solve_counted).
+#[tactic(auto, using(crate::proofs::CountedSteps::any_whole, sg_model::proofs::EnergyBounds::least_of_ground_state))]
 pub fn least_energy_counted(
     alloc: Global,
     planar: &Planar,
@@ -53,31 +55,27 @@ pub fn least_energy_counted(
     ensures too_large { IfErr result (IfTooLarge (TablesExceed most_bytes planar.now.instance)) }
     ensures steps { IfOk result (λ _. AddsSteps 0 planar.now (steps_of steps.old) (steps_of steps.new)) }
 {
-    energy_of_all(alloc, planar, most_bytes, steps)
+    if planar.is_connected() {
+        return energy_of_whole(alloc, planar, most_bytes, steps);
+    }
+    let answer = solve_all(alloc, planar, most_bytes, false, steps)?;
+    Ok(answer.energy)
 }
 
-// The least energy of the instance as it is where it is connected, and else that of its components.
-#[tactic(auto, using(crate::proofs::CountedSteps::adds_whole, crate::proofs::CountedSteps::any_parts))]
-fn energy_of_all(
+// The least energy of a connected instance, by the weight of a minimum T-join.
+fn energy_of_whole(
     alloc: Global,
     planar: &Planar,
     most_bytes: u64,
     steps: &mut Taken,
 ) -> Result<i64, Unproved>
+    requires connected { IsConnected planar.now.instance }
     ensures least { IfOk result (IsLeastEnergy planar.now.instance) }
-    ensures too_large { IfErr result (IfTooLarge (TablesExceed most_bytes planar.now.instance)) }
-    ensures steps { IfOk result (λ _. AddsSteps 0 planar.now (steps_of steps.old) (steps_of steps.new)) }
+    ensures size { IfOk result (λ e. unsigned_abs e ≤ weight planar.now.instance) }
+    ensures too_large { IfErr result (IfTooLarge (FacesExceed most_bytes planar.now)) }
+    ensures steps { IfOk result (λ _. steps_of steps.new ≤ steps_of steps.old + join_steps planar.now) }
     ensures planar { IsPlanar planar.now }
 {
-    let inst = planar.instance();
-    match divide(alloc, planar)? {
-        Division::Whole => {
-            let join = weighed_join(alloc, planar, most_bytes, steps)?;
-            Ok(broken_energy(inst, join.weight))
-        }
-        Division::Several(list) => {
-            let state = join_states(alloc, inst, list.as_slice(), most_bytes, steps)?;
-            Ok(state.energy)
-        }
-    }
+    let join = weighed_join(alloc, planar, most_bytes, steps)?;
+    Ok(broken_energy(planar.instance(), join.weight))
 }

@@ -23,15 +23,15 @@
 //!
 //! For the next engineer: `solve`, `ground_state` and `least_energy` are the functions that matter, and
 //! their callers rest on their contracts alone, not on how they are implemented. A part is solved
-//! (`part`, `joins`) by way of its dual: a minimum T-join of the frustrated faces, which has its own
-//! proposals and judges, and back by a walk over the bonds. The proof: an odd cut is a frustrated loop
+//! (`part`, `whole`, `joins`) by way of its dual: a minimum T-join of the frustrated faces, which has its
+//! own proposals and judges, and back by a walk over the bonds; and one loop over all parts puts their
+//! answers together (`parts`), with loops or without. The proof: an odd cut is a frustrated loop
 //! (`odd_cuts_are_loops`, by `proofs/FrustratedCuts.antt`); a packing of cuts is one of loops, and they
 //! are few enough (`Packings`); a T-join fits the faces and weighs what the broken bonds weigh
-//! (`JoinFits`); all of it together is `Solutions`. Every assignment breaks a T-join (`BrokenJoins`),
-//! and so a minimum one needs no loops (`WeighedJoins`), also if a nest proves it (`NestProofs`). The
-//! proof of the whole: what a part gives (`Shares`), what the parts are together (`PartLists`), and the
-//! step from some parts to one more: for spins and energies (`Placing`), for loops (`Gluing`), and for
-//! states of least energy (`LeastPlaced`).
+//! (`JoinFits`). Every assignment breaks a T-join (`BrokenJoins`), and so a minimum one needs no loops
+//! (`WeighedJoins`), also if a nest proves it (`NestProofs`); with its cuts it gives loops (`Solutions`).
+//! The proof of the whole: what a part gives (`Shares`), what the parts are together (`PartLists`), what
+//! holds of some parts (`Glued`), and the step from some parts to one more (`Gluing`).
 #![tactic(auto)]
 
 mod allowance;
@@ -42,6 +42,7 @@ mod least;
 mod loops;
 mod nested;
 mod part;
+mod parts;
 mod placed;
 mod solving;
 mod state;

@@ -1,20 +1,15 @@
-ghost use Rattle.std.specs.Prelude.{◌≡◌, ◌+◌, ◌≤◌, unsigned_abs, IfErr, IfOk};
-ghost use Rattle.sg_limits.specs.Limits.{forced_limit};
-ghost use Rattle.sg_model.specs.Connected.{IsConnected, LeastsUp};
+ghost use Rattle.std.specs.Prelude.{◌≡◌, ◌≤◌, unsigned_abs, IfErr, IfOk};
+ghost use Rattle.sg_model.specs.Connected.{LeastsUp};
 ghost use Rattle.sg_model.specs.Energy.{energy, weight, IsGroundState};
-ghost use Rattle.sg_planar.specs.Fit.{IsPlanar};
-ghost use Rattle.sg_planar.specs.Parts.{AreParts};
 ghost use Rattle.sg_tjoin.specs.Allowance.{IfTooLarge};
 ghost use Rattle.sg_tjoin.specs.Counted.{steps_of};
-ghost use Rattle.sg_ground.specs.Allowance.{FacesExceed, TablesExceed};
-ghost use Rattle.sg_ground.specs.Counted.{AddsSteps, all_steps, join_steps};
-ghost use Rattle.sg_ground.specs.Solution.{IsState};
+ghost use Rattle.sg_ground.specs.Allowance.{TablesExceed};
+ghost use Rattle.sg_ground.specs.Counted.{AddsSteps};
 
 use super::NoMemory;
-use super::placed::{place_values, spins_of};
-use super::whole::whole_state;
-use sg_model::{Instance, Spins};
-use sg_planar::{Division, Part, Planar, divide};
+use super::parts::solve_all;
+use sg_model::Spins;
+use sg_planar::Planar;
 use sg_tjoin::{Taken, Unproved};
 use std::alloc::{AllocError, Global};
 
@@ -80,72 +75,9 @@ pub fn ground_state_counted(
     ensures too_large { IfErr result (IfTooLarge (TablesExceed most_bytes planar.now.instance)) }
     ensures steps { IfOk result (λ _. AddsSteps 0 planar.now (steps_of steps.old) (steps_of steps.new)) }
 {
-    state_of_all(alloc, planar, most_bytes, steps)
-}
-
-// The state of the instance as it is where it is connected, and else those of its components.
-#[tactic(auto, using(crate::proofs::CountedSteps::any_whole, crate::proofs::CountedSteps::any_parts))]
-fn state_of_all(
-    alloc: Global,
-    planar: &Planar,
-    most_bytes: u64,
-    steps: &mut Taken,
-) -> Result<State, Unproved>
-    ensures state { IfOk result (λ s. IsState planar.now.instance s.spins s.energy) }
-    ensures too_large { IfErr result (IfTooLarge (TablesExceed most_bytes planar.now.instance)) }
-    ensures steps { IfOk result (λ _. AddsSteps 0 planar.now (steps_of steps.old) (steps_of steps.new)) }
-    ensures planar { IsPlanar planar.now }
-{
-    let inst = planar.instance();
-    match divide(alloc, planar)? {
-        Division::Whole => state_of_part(alloc, planar, most_bytes, steps),
-        Division::Several(list) => join_states(alloc, inst, list.as_slice(), most_bytes, steps),
-    }
-}
-
-// The state of a connected instance, without the nest.
-fn state_of_part(
-    alloc: Global,
-    planar: &Planar,
-    most_bytes: u64,
-    steps: &mut Taken,
-) -> Result<State, Unproved>
-    requires connected { IsConnected planar.now.instance }
-    ensures state { IfOk result (λ s. IsState planar.now.instance s.spins s.energy) }
-    ensures too_large { IfErr result (IfTooLarge (FacesExceed most_bytes planar.now)) }
-    ensures steps { IfOk result (λ _. steps_of steps.new ≤ steps_of steps.old + join_steps planar.now) }
-    ensures planar { IsPlanar planar.now }
-{
-    let state = whole_state(alloc, planar, most_bytes, steps)?;
+    let answer = solve_all(alloc, planar, most_bytes, false, steps)?;
     Ok(State {
-        spins: state.spins,
-        energy: state.energy,
-    })
-}
-
-/// The states of these parts, put together: values take the numbers of the whole, and energies add.
-pub(crate) fn join_states(
-    alloc: Global,
-    inst: &Instance,
-    parts: &[Part],
-    most_bytes: u64,
-    steps: &mut Taken,
-) -> Result<State, Unproved>
-    requires parts { AreParts inst.now parts.now }
-    requires light { weight inst.now ≤ forced_limit }
-    ensures state { IfOk result (λ s. IsState inst.now s.spins s.energy) }
-    ensures too_large { IfErr result (IfTooLarge (TablesExceed most_bytes inst.now)) }
-    ensures steps { IfOk result (λ _. steps_of steps.new ≤ steps_of steps.old + all_steps parts.now) }
-{
-    let mut values = vec![in alloc; 1i8; inst.n() as usize]?;
-    let mut energy = 0i64;
-    for part in parts {
-        let found = state_of_part(alloc, &part.planar, most_bytes, steps)?;
-        place_values(&mut values, part.spins.as_slice(), found.spins.as_slice());
-        energy += found.energy;
-    }
-    Ok(State {
-        spins: spins_of(alloc, &values)?,
-        energy,
+        spins: answer.spins,
+        energy: answer.energy,
     })
 }

@@ -21,7 +21,9 @@ returns-in-Ok-clause-found c = λ done.
         spins = found.spins;
         loops = found.loops;
         least = found.least;
-        solution = found.solution;
+        proves = found.proves;
+        short = found.short;
+        leasts_up = found.leasts_up;
         crossed = (
           shows _ _ _ _ _ (c.as_slice.ensures.value ∙ found.crossed.0) c.fill.ensures,
           record {

@@ -18,7 +18,9 @@ returns-clause-gives c =
         spins = answer.spins;
         loops = answer.loops;
         least = known.ground_state;
-        solution = record { proves = known.proves; short = known.short; leasts_up = known.first_up };
+        proves = known.proves;
+        short = known.short;
+        leasts_up = known.first_up;
         crossed = (refl, rw c.as_slice.ensures at c.in_ok-rows.ensures);
       };
     }

@@ -1,6 +1,7 @@
 use Rattle.std.proofs.Common.{inl, sym, refl}
 use Rattle.std.proofs.lemmas.Result.{err_from_is_err_and}
 use Rattle.sg_limits.specs.Limits.{table_limit}
+use Rattle.sg_model.proofs.EnergyBounds.{energy_size}
 use Rattle.sg_draft.specs.Limits.{large_limits}
 use Rattle.sg_ground.specs.Allowance.{TablesExceed}
 use Rattle.ising2d_c.specs.Graphs.{IsFitFault, numbers_of}
@@ -11,8 +12,9 @@ pub returns-clause-gives : goal.returns-clause-gives
 returns-clause-gives c =
     let state = c.in_ok-state.state in
     let known = c.in_ok-state.ensures in
+    let inst = c.in_ok-planar.planar.instance in
     record {
-      instance = c.in_ok-planar.planar.instance;
+      instance = inst;
       given = rw c.large.ensures.value at c.in_ok-planar.ensures.gives;
       study = record {
         spins = state.spins;
@@ -20,7 +22,12 @@ returns-clause-gives c =
         faces = c.in_ok-planar.planar.faces;
         labels = c.nested_state.ensures.planar.faces;
         state = record {
-          state = record { ground_state = known.ground_state; stated = sym known.energy; leasts_up = known.first_up };
+          state = record {
+            ground_state = known.ground_state;
+            stated = sym known.energy;
+            size = rw known.energy (energy_size inst state.spins c.nested_state.ensures.planar.instance known.ground_state.assignment);
+            leasts_up = known.first_up;
+          };
           proves = known.proves;
         };
         crossed = (refl, c.in_ok-rows.ensures);

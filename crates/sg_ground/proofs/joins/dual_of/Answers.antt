@@ -1,19 +1,13 @@
-use Rattle.std.proofs.Common.{◌≡◌, ◌≤◌, ◌^◌, ℕ, List, ap, sym, subst, arith}
+use Rattle.std.proofs.Common.{ap, arith}
 use Rattle.std.proofs.lemmas.Result.{IfOk-weaker}
-use Rattle.sg_limits.specs.Limits.{forced_limit}
-use Rattle.sg_model.specs.Connected.{IsConnected}
 use Rattle.sg_model.specs.Energy.{weight}
-use Rattle.sg_faces.specs.Faces.{Labelling}
-use Rattle.sg_graph.specs.Walk.{IsConnectedWeb}
-use Rattle.sg_graph.specs.Web.{Graph, total_weight}
-use Rattle.sg_dual.specs.Dual.{dual_web}
+use Rattle.sg_graph.specs.Web.{total_weight}
 use Rattle.sg_dual.proofs.DualWebs.{dual_weight}
 use Rattle.sg_ground.proofs.Solutions.{faces_fit}
 use Rattle.sg_ground.proofs.joins.dual_of.Goals as goal
 
 pub dual-requires-clause-few : goal.dual-requires-clause-few
-dual-requires-clause-few c = subst (λ (f : Labelling). f.count ≤ 2 ^ 24) (sym c.faces.ensures.value)
-    (faces_fit c.args.planar.now c.faces.ensures.planar c.requires.connected)
+dual-requires-clause-few c = rw c.faces.ensures.value (faces_fit c.args.planar.now c.faces.ensures.planar c.requires.connected)
 
 pub returns-clause-web : goal.returns-clause-web
 returns-clause-web c = rw (c.instance.ensures.value, c.faces.ensures.value) at c.dual.ensures.web
@@ -23,15 +17,12 @@ returns-clause-frustrated c = rw (c.instance.ensures.value, c.faces.ensures.valu
 
 pub returns-clause-connected : goal.returns-clause-connected
 returns-clause-connected c =
-    IfOk-weaker c.dual.result (λ (d : Graph × List ℕ). IsConnected c.instance.result.now → IsConnectedWeb d.0) (λ (d : Graph × List ℕ). IsConnectedWeb d.0)
-    (λ (d : Graph × List ℕ) joined. joined (subst IsConnected (sym c.instance.ensures.value) c.requires.connected)) c.dual.ensures.connected
+    IfOk-weaker c.dual.result _ _ (λ d joined. joined (rw c.instance.ensures.value c.requires.connected)) c.dual.ensures.connected
 
 pub returns-clause-light : goal.returns-clause-light
 returns-clause-light c =
-    IfOk-weaker c.dual.result (λ (d : Graph × List ℕ). d.0 ≡ dual_web c.instance.result.now c.faces.result.now)
-    (λ (d : Graph × List ℕ). total_weight d.0 ≤ forced_limit)
-    (λ (d : Graph × List ℕ) same.
-    omega (
+    IfOk-weaker c.dual.result _ _
+    (λ d same. omega (
       arith,
       ap total_weight same,
       dual_weight c.instance.result.now c.faces.result.now,
