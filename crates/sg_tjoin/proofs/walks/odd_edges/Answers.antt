@@ -1,17 +1,16 @@
-use Rattle.std.proofs.Common.{[], Bool, List, ap, arith, get_or, length, rules, subst, sym, ◌+◌, ◌<◌, ◌≡◌, ◌≤◌, ◌∙◌, ℕ, ◌*◌}
+use Rattle.std.proofs.Common.{ap, arith, get_or, length, rules, subst, sym, ◌+◌, ◌<◌, ◌≡◌, ◌∙◌, ℕ}
 use Rattle.std.proofs.lemmas.List.{get_or_read, with_items_is}
 use Rattle.std.proofs.lemmas.Result.{IfOk-weaker}
 use Rattle.sg_sums.specs.Sets.{chosen_below, is_marked}
 use Rattle.sg_graph.specs.Join.{IsJoin}
 use Rattle.sg_graph.specs.Table.{length_to}
 use Rattle.sg_graph.specs.Web.{edge_count, weight_of}
-use Rattle.sg_pairing.specs.Matching.{pairing_cost}
-use Rattle.sg_moat.specs.Input.{blank_table, table_at, terminal_cost}
+use Rattle.sg_moat.specs.Input.{blank_table, table_at}
 use Rattle.sg_tjoin.specs.Doubled.{apart}
 use Rattle.sg_tjoin.specs.Turns.{AreTurned, TurnsWalk}
 use Rattle.sg_tjoin.proofs.Turning.{AreTurned-more, AreTurned-skip, chosen_bare, IsJoin-turned, turned_weight}
 use Rattle.sg_tjoin.proofs.walks.odd_edges.Goals as goal
-use Rattle.sg_tjoin.proofs.walks.odd_edges.Goals.{then-i-mate+in_ok-turn_walk, else-i-mate}
+use Rattle.sg_tjoin.proofs.walks.odd_edges.Goals.{After-places, then-i-mate+in_ok-turn_walk, else-i-mate}
 
 pub loop-i-preserved : goal.loop-i-preserved
 loop-i-preserved c =
@@ -38,44 +37,36 @@ loop-i-preserved c =
       | else-i-mate w ↦ rw w.odd-is (AreTurned-skip g terminals tables mates i c.loop-i.odd.items c.loop-i.invariant w.if-i-mate.false)
     ]
 
+-- all pairs were turned
+all_turned : (c : After-places) →
+    AreTurned c.args.web.now c.args.terminals.now c.args.tables.now c.args.mates.now (length c.args.terminals.now) c.loop-i.odd.items
+all_turned c =
+    let all : c.loop-i.i ≡ length c.args.terminals.now = omega (arith, c.requires.pairing.count) in
+    rw all at c.loop-i.invariant
+
+-- the edges that are marked
+chosen_is : (c : After-places) →
+    chosen_below (is_marked c.deref.result.now) (length c.deref.result.now) ≡ chosen_below (is_marked c.loop-i.odd.items) (edge_count c.args.web.now)
+chosen_is c =
+    ap (λ ms. chosen_below (is_marked ms) (length ms)) c.deref.ensures.value ∙ ap (chosen_below (is_marked c.loop-i.odd.items)) (all_turned c).count
+
 pub returns-clause-join : goal.returns-clause-join
 returns-clause-join c =
-    let g = c.args.web.now in
-    let marks : List Bool = c.loop-i.odd.items in
-    let all : c.loop-i.i ≡ length c.args.terminals.now = omega (arith, c.requires.pairing.count) in
-    let turned : AreTurned g c.args.terminals.now c.args.tables.now c.args.mates.now (length c.args.terminals.now) marks = subst
-    (λ n. AreTurned g c.args.terminals.now c.args.tables.now c.args.mates.now n marks) all c.loop-i.invariant in
-    let join = IsJoin-turned g c.args.terminals.now c.args.tables.now c.args.mates.now marks c.requires.terminals c.requires.pairing turned in
-    let chosen : List ℕ = chosen_below (is_marked c.deref.result.now) (length c.deref.result.now) in
-    let is : chosen ≡ chosen_below (is_marked marks) (edge_count g) = ap (λ ms. chosen_below (is_marked ms) (length ms)) c.deref.ensures.value
-    ∙ ap (chosen_below (is_marked marks)) turned.count in
-    IfOk-weaker c.places.result (λ (list : List ℕ). list ≡ chosen) (λ list. IsJoin g c.args.terminals.now list)
-    (λ list same. subst (IsJoin g c.args.terminals.now) (sym (same ∙ is)) join) c.places.ensures
+    let now = (goal.at.returns-clause-join c).After-places in
+    let join = IsJoin-turned c.args.web.now c.args.terminals.now c.args.tables.now c.args.mates.now c.loop-i.odd.items c.requires.terminals
+    c.requires.pairing (all_turned now) in
+    IfOk-weaker c.places.result _ _ (λ list same. subst (IsJoin c.args.web.now c.args.terminals.now) (sym (same ∙ chosen_is now)) join) c.places.ensures
 
 pub returns-clause-light : goal.returns-clause-light
 returns-clause-light c =
-    let g = c.args.web.now in
-    let marks : List Bool = c.loop-i.odd.items in
-    let all : c.loop-i.i ≡ length c.args.terminals.now = omega (arith, c.requires.pairing.count) in
-    let turned : AreTurned g c.args.terminals.now c.args.tables.now c.args.mates.now (length c.args.terminals.now) marks = subst
-    (λ n. AreTurned g c.args.terminals.now c.args.tables.now c.args.mates.now n marks) all c.loop-i.invariant in
-    let light = turned_weight g c.args.terminals.now c.args.tables.now c.args.mates.now marks c.requires.terminals c.requires.pairing turned in
-    let chosen : List ℕ = chosen_below (is_marked c.deref.result.now) (length c.deref.result.now) in
-    let is : chosen ≡ chosen_below (is_marked marks) (edge_count g) = ap (λ ms. chosen_below (is_marked ms) (length ms)) c.deref.ensures.value
-    ∙ ap (chosen_below (is_marked marks)) turned.count in
-    let Light : List ℕ → Type 0 = λ list. 2 * weight_of g list ≤ pairing_cost (terminal_cost c.args.terminals.now c.args.tables.now) c.args.mates.now in
-    IfOk-weaker c.places.result (λ (list : List ℕ). list ≡ chosen) Light (λ list same. subst Light (sym (same ∙ is)) light) c.places.ensures
+    let now = (goal.at.returns-clause-light c).After-places in
+    let light = turned_weight c.args.web.now c.args.terminals.now c.args.tables.now c.args.mates.now c.loop-i.odd.items c.requires.terminals
+    c.requires.pairing (all_turned now) in
+    IfOk-weaker c.places.result _ _ (λ list same. omega (arith, light, ap (weight_of c.args.web.now) (same ∙ chosen_is now))) c.places.ensures
 
 pub returns-clause-bare : goal.returns-clause-bare
 returns-clause-bare c =
-    let g = c.args.web.now in
-    let marks : List Bool = c.loop-i.odd.items in
-    let all : c.loop-i.i ≡ length c.args.terminals.now = omega (arith, c.requires.pairing.count) in
-    let turned : AreTurned g c.args.terminals.now c.args.tables.now c.args.mates.now (length c.args.terminals.now) marks = subst
-    (λ n. AreTurned g c.args.terminals.now c.args.tables.now c.args.mates.now n marks) all c.loop-i.invariant in
-    let none = chosen_bare c.args.web.now c.args.terminals.now c.args.tables.now c.args.mates.now marks c.requires.terminals c.requires.pairing turned in
-    let chosen : List ℕ = chosen_below (is_marked c.deref.result.now) (length c.deref.result.now) in
-    let is : chosen ≡ chosen_below (is_marked marks) (edge_count g) = ap (λ ms. chosen_below (is_marked ms) (length ms)) c.deref.ensures.value
-    ∙ ap (chosen_below (is_marked marks)) turned.count in
-    let Bare : List ℕ → Type 0 = λ list. length c.args.terminals.now ≡ 0 → list ≡ [] in
-    IfOk-weaker c.places.result (λ (list : List ℕ). list ≡ chosen) Bare (λ list same count. same ∙ is ∙ none count) c.places.ensures
+    let now = (goal.at.returns-clause-bare c).After-places in
+    IfOk-weaker c.places.result _ _ (λ list same none. same ∙ chosen_is now
+    ∙ chosen_bare c.args.web.now c.args.terminals.now c.args.tables.now c.args.mates.now c.loop-i.odd.items c.requires.terminals c.requires.pairing
+    (all_turned now) none) c.places.ensures
