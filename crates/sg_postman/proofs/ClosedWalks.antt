@@ -22,41 +22,44 @@ use Rattle.sg_postman.proofs.OddNodes.{degree_parity, is_end_at}
 abbrev pub stands : ℕ → List ℕ → ℕ
 stands e es = count_by (λ k. eqb k e) es
 
-stands-cons : (e k : ℕ) (es : List ℕ) → stands e (k ∷ es) ≡ cond (eqb k e) 1 0 + stands e es
-stands-cons e k es = sum_by-cons (λ j. cond {A = ℕ} (eqb j e) 1 0) k es
+stands-cons : (e k : ℕ) (es : List ℕ) → stands e (k ∷ es) ≡ stands e es + cond (eqb k e) 1 0
+stands-cons e k es = omega (arith, sum_by-cons (λ j. cond {A = ℕ} (eqb j e) 1 0) k es)
 
 -- a list that holds e has it at least once
 stands_some : (e : ℕ) (es : List ℕ) → holds es e ≡ true → 0 < stands e es
 stands_some e [] h = absurd (false≢true h)
 stands_some e (k ∷ es) h = omega (arith, stands-cons e k es, some (eqb k e) (holds es e) (stands e es) h (stands_some e es))
   where
-    some : (b c : Bool) (n : ℕ) → (b || c) ≡ true → (c ≡ true → 0 < n) → 0 < cond b 1 0 + n
+    some : (b c : Bool) (n : ℕ) → (b || c) ≡ true → (c ≡ true → 0 < n) → 0 < n + cond b 1 0
     some true c n h rest = omega arith
     some false c n h rest = let more : 0 < n = rest h in omega (arith, more)
 
 -- ---- a sum over a list, told by how often each number stands in it
 
-one_more : (t : Bool) (s w v : ℕ) → (t ≡ true → v ≡ w) → (cond t 1 0 + s) * w ≡ cond t v 0 + s * w
-one_more true s w v h = first s w ∙ ap (λ n. n + s * w) (sym (h refl))
+-- as often as before, and once more where the test is passed
+pub once_more : (t : Bool) (s w v : ℕ) → (t ≡ true → v ≡ w) → (s + cond t 1 0) * w ≡ s * w + cond t v 0
+once_more true s w v h = rw (h refl) (plain s w)
   where
-    first : (s w : ℕ) → (1 + s) * w ≡ w + s * w
-    first s w = grind arith
-one_more false s w v h = let q : 0 + s ≡ s = omega arith in let z : s * w ≡ 0 + s * w = omega arith in ap (λ n. n * w) q ∙ z
-
-none : (w : ℕ) → 0 * w ≡ 0
-none w = grind arith
+    plain : (s w : ℕ) → (s + 1) * w ≡ s * w + w
+    plain s w = grind arith
+once_more false s w v h = let none : s + 0 ≡ s = omega arith in rw none (omega arith)
 
 -- a sum over a list, by how often each edge stands in it
 pub sum_by_stands : (w : ℕ → ℕ) (m : ℕ) (es : List ℕ) → All (λ e. e < m) es → sum_by w es ≡ sum_below (λ e. stands e es * w e) m
 sum_by_stands w m [] low = sym (sum_below-zero (λ e. stands e [] * w e) m (λ e l. none (w e)))
-sum_by_stands w m (k ∷ es) low =
-    sum_by-cons w k es ∙ ap (λ n. w k + n) (sum_by_stands w m es (All-tail (λ e. e < m) k es low))
-    ∙ sym (sum_below-same (λ e. stands e (k ∷ es) * w e) (λ e. cond (eqb k e) (w k) 0 + stands e es * w e) m each
-    ∙ sum_below-add (λ e. cond (eqb k e) (w k) 0) (λ e. stands e es * w e) m
-    ∙ ap (λ n. n + sum_below (λ e. stands e es * w e) m) (sum_below_pick (w k) k m (All-head (λ e. e < m) k es low)))
   where
-    each : (e : ℕ) → e < m → stands e (k ∷ es) * w e ≡ cond (eqb k e) (w k) 0 + stands e es * w e
-    each e l = ap (λ n. n * w e) (stands-cons e k es) ∙ one_more (eqb k e) (stands e es) (w e) (w k) (λ t. ap w (eqb-true k e t))
+    none : (w : ℕ) → 0 * w ≡ 0
+    none w = grind arith
+sum_by_stands w m (k ∷ es) low =
+    omega (
+      arith,
+      sum_by-cons w k es,
+      sum_by_stands w m es (All-tail (λ e. e < m) k es low),
+      sum_below-same (λ e. stands e (k ∷ es) * w e) (λ e. stands e es * w e + cond (eqb k e) (w k) 0) m
+          (λ e l. ap (λ n. n * w e) (stands-cons e k es) ∙ once_more (eqb k e) (stands e es) (w e) (w k) (λ t. ap w (eqb-true k e t))),
+      sum_below-add (λ e. stands e es * w e) (λ e. cond (eqb k e) (w k) 0) m,
+      sum_below_pick (w k) k m (All-head (λ e. e < m) k es low),
+    )
 
 -- ---- the edges that stand an even number of times
 
@@ -119,14 +122,14 @@ module _ (g : Graph) (es : List ℕ) (closed : IsClosedWalk g es) where
   -- a closed walk over every edge weighs at least all edges and a least join
   pub closed_walk_weighs : (join : List ℕ) → IsLeastJoin g (odd_nodes g) join → total_weight g + weight_of g join ≤ weight_of g es
   closed_walk_weighs join least =
-      let once_more : ℕ → ℕ = λ e. cond (is_even_in e) (edge_weight g e) 0 in
-      let bound = sum_below-le (λ e. edge_weight g e + once_more e) (λ e. stands e es * edge_weight g e) (edge_count g) each in
+      let twice : ℕ → ℕ = λ e. cond (is_even_in e) (edge_weight g e) 0 in
+      let bound = sum_below-le (λ e. edge_weight g e + twice e) (λ e. stands e es * edge_weight g e) (edge_count g) each in
       omega (
         arith,
         least.least evens evens_join,
         chosen_below-weight is_even_in (edge_weight g) (edge_count g),
         sum_by_is_sum_below weight_at g.edges (record { a = 0; b = 0; w = pos 0 }),
-        sum_below-add (edge_weight g) once_more (edge_count g),
+        sum_below-add (edge_weight g) twice (edge_count g),
         bound,
         sum_by_stands (edge_weight g) (edge_count g) es low,
       )

@@ -1,5 +1,5 @@
 -- A web with the edges of a join of its odd nodes doubled: all its degrees are even, and its Euler tours are the least tours.
-use Rattle.std.proofs.Common.{inl, inr, ◌≡◌, ◌⊎◌, ◌∙◌, sym, ap, ℕ, ◌+◌, ◌*◌, ◌%◌, ◌<◌, ℤ, pos, cond, Bool, true, false, List, sum_by, arith}
+use Rattle.std.proofs.Common.{inl, inr, ◌≡◌, ◌⊎◌, ◌∙◌, sym, ap, ℕ, ◌+◌, ◌*◌, ◌%◌, ◌<◌, ℤ, pos, cond, Bool, true, false, List, refl, sum_by, arith}
 use Rattle.sg_sums.specs.Parity.{odd}
 use Rattle.sg_sums.specs.Sets.{holds}
 use Rattle.sg_sums.specs.Sums.{sum_below}
@@ -15,12 +15,8 @@ use Rattle.sg_graph.proofs.WalkEnds.{walk_below}
 use Rattle.sg_postman.specs.declared.steps.Step.{Step}
 use Rattle.sg_postman.specs.Tour.{IsLeastTour, IsTour, edges_of, end_of, odd_nodes, uses_of}
 use Rattle.sg_postman.specs.Tracing.{IsEulerTour, left_of, open_ends}
-use Rattle.sg_postman.proofs.ClosedWalks.{closed_walk_weighs, stands, sum_by_stands}
+use Rattle.sg_postman.proofs.ClosedWalks.{closed_walk_weighs, once_more, stands, sum_by_stands}
 use Rattle.sg_postman.proofs.Trails.{times_stands, trail_walk}
-
-once_more : (b : Bool) (n : ℕ) → (1 + cond b 1 0) * n ≡ n + cond b n 0
-once_more true n = grind arith
-once_more false n = grind arith
 
 even_sum : (p q : ℕ) (b : Bool) → p % 2 ≡ cond b 1 0 → q % 2 ≡ cond b 1 0 → (p + q) % 2 ≡ 0
 even_sum p q true h k = grind arith
@@ -36,7 +32,7 @@ module _ (g : Graph) (join left : List ℕ) (is : IsJoin g (odd_nodes g) join)
   copies_sum : (f : ℕ → ℕ) → sum_below (λ e. left_of left e * f e) (edge_count g) ≡ sum_below f (edge_count g) + sum_by f join
   copies_sum f =
       sum_below-same (λ e. left_of left e * f e) (λ e. f e + cond (holds join e) (f e) 0) (edge_count g)
-      (λ e l. ap (λ n. n * f e) (copies e l) ∙ once_more (holds join e) (f e))
+      (λ e l. ap (λ n. n * f e) (copies e l) ∙ once_more (holds join e) 1 (f e) (f e) (λ _. refl) ∙ omega arith)
       ∙ sum_below-add f (λ e. cond (holds join e) (f e) 0) (edge_count g)
       ∙ ap (λ n. sum_below f (edge_count g) + n) (members_sum f join (edge_count g) is.below is.rising)
 

@@ -1,5 +1,5 @@
 -- The two steps of a tracing, and its end.
-use Rattle.std.proofs.Common.{inl, inr, ◌≡◌, ◌≢◌, ◌⊎◌, ◌∙◌, sym, ap, ap₂, subst, refl, ℕ, ◌+◌, ◌-◌, ◌*◌, ◌%◌, ◌<◌, ◌≤◌, ◌==◌, eqb, eq-eqb, cond, Bool, true, false, List, [], ◌∷◌, ◌++◌, length, arith, length-set, pos}
+use Rattle.std.proofs.Common.{inl, inr, ◌≡◌, ◌≢◌, ◌⊎◌, ◌∙◌, sym, ap, ap₂, subst, refl, ℕ, ◌+◌, ◌-◌, ◌*◌, ◌%◌, ◌<◌, ◌≤◌, ◌==◌, eqb, eq-eqb, cond, false, List, [], ◌∷◌, ◌++◌, length, arith, length-set, pos}
 use Rattle.std.proofs.lemmas.Bool.{cases_eq, false_from_ne_true, eqb-true}
 use Rattle.std.proofs.lemmas.List.{get_or-set_same, get_or-set_other}
 use Rattle.std.proofs.lemmas.List.Sums.{sum_by-cons}
@@ -12,6 +12,7 @@ use Rattle.sg_graph.proofs.Walks.{leads_other, turned, leads_low}
 use Rattle.sg_postman.specs.declared.steps.Step.{Step}
 use Rattle.sg_postman.specs.Tour.{AreSteps, end_of, uses_of}
 use Rattle.sg_postman.specs.Tracing.{AreUsedUp, IsEulerTour, IsUsedUp, IsTracing, at_node, left_of, one_less, onward, open_ends}
+use Rattle.sg_postman.proofs.ClosedWalks.{once_more}
 use Rattle.sg_postman.proofs.Trails.{end-append, times-append, trail-append, trail-last}
 
 -- one copy less of one edge, and all others as before
@@ -67,23 +68,6 @@ no_ends g x e l = by (edge_at g e) refl
 alone : (o t j : ℕ) → o ≡ 0 → t ≡ 1 → j ≡ 0 → (o + t + j) % 2 ≡ 0 → ⊥
 alone o t j a b c h = grind arith
 
--- one copy less has one edge's ends less
-spread : (a b c d : ℕ) (t : Bool) → a ≡ b + cond t 1 0 → (t ≡ true → d ≡ c) → a * c ≡ b * c + cond t d 0
-spread a b c d true h e = let q : a * c ≡ b * c + c = over a b c h in q ∙ ap (λ m. b * c + m) (sym (e refl))
-  where
-    one : (b c : ℕ) → (b + 1) * c ≡ b * c + c
-    one b c = grind arith
-
-    over : (a b c : ℕ) → a ≡ b + 1 → a * c ≡ b * c + c
-    over a b c h = rw h (one b c)
-spread a b c d false h e = let q : a ≡ b = omega (arith, h) in let z : b * c ≡ b * c + 0 = omega arith in ap (λ m. m * c) q ∙ z
-
-times_zero : (n : ℕ) → n * 0 ≡ 0
-times_zero n = grind arith
-
-zero_times : (n : ℕ) → 0 * n ≡ 0
-zero_times n = grind arith
-
 later : (s : Step) (ss : List Step) (e : ℕ) → eqb s.edge e ≡ false → 0 < uses_of e (s ∷ ss) → 0 < uses_of e ss
 later s ss e none some =
     let cons : uses_of e (s ∷ ss) ≡ cond {A = ℕ} (eqb s.edge e) 1 0 + uses_of e ss = sum_by-cons (λ (r : Step). cond (r.edge == e) 1 0) s ss in
@@ -117,8 +101,8 @@ module _ (g : Graph) (web : IsWeb g) (copies : ℕ → ℕ) where
     where
       each : (k : ℕ) → k < edge_count g → left_of left k * ends_at g x k ≡ left_of (one_less left e) k * ends_at g x k + cond (eqb e k) (ends_at g x e) 0
       each k b =
-          spread (left_of left k) (left_of (one_less left e) k) (ends_at g x k) (ends_at g x e) (eqb e k) (taken left e k l some)
-          (λ t. ap (ends_at g x) (eqb-true e k t))
+          ap (λ n. n * ends_at g x k) (taken left e k l some)
+          ∙ once_more (eqb e k) (left_of (one_less left e) k) (ends_at g x k) (ends_at g x e) (λ t. ap (ends_at g x) (eqb-true e k t))
 
   -- a step out along an edge of which a copy is left
   pub forward : (left : List ℕ) (out back : List Step) (e : ℕ) → IsTracing g copies left out back → EndsAt g (end_of 0 out) e → 0 < left_of left e
@@ -154,10 +138,14 @@ module _ (g : Graph) (web : IsWeb g) (copies : ℕ → ℕ) where
   none_open : (left : List ℕ) (x : ℕ) → IsUsedUp g left x → open_ends g left x ≡ 0
   none_open left x spent = sum_below-zero (λ k. left_of left k * ends_at g x k) (edge_count g) each
     where
+      nothing : (m n : ℕ) → (m ≡ 0) ⊎ (n ≡ 0) → m * n ≡ 0
+      nothing m n (inl h) = grind arith
+      nothing m n (inr h) = grind arith
+
       each : (k : ℕ) → k < edge_count g → left_of left k * ends_at g x k ≡ 0
       each k b = elim (no_ends g x k b) [
-        | inl none ↦ ap (λ m. left_of left k * m) none ∙ times_zero (left_of left k)
-        | inr ends ↦ ap (λ m. m * ends_at g x k) (spent k ends) ∙ zero_times (ends_at g x k)
+        | inl none ↦ nothing (left_of left k) (ends_at g x k) (inr none)
+        | inr ends ↦ nothing (left_of left k) (ends_at g x k) (inl (spent k ends))
       ]
 
   -- one is stuck only where the done trail stands

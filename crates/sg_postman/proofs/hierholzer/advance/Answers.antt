@@ -1,4 +1,5 @@
-use Rattle.std.proofs.Common.{◌≡◌, ◌∙◌, sym, ap, subst, arith, ◌<◌, ℕ, length, true, false, Bool, refl, slice_index}
+use Rattle.std.proofs.Common.{inl, inr, ◌≡◌, ◌∙◌, ap, subst, arith, ◌<◌, ℕ, length, slice_index}
+use Rattle.std.proofs.lemmas.Bool.{cases_Bool}
 use Rattle.sg_graph.specs.Incidence.{EndsAt, list_at}
 use Rattle.sg_postman.specs.Tour.{end_of}
 use Rattle.sg_postman.specs.Tracing.{IsUsedUp, left_of, one_less}
@@ -13,10 +14,8 @@ node_is c = c.standing-node.ensures ∙ ap (end_of 0) c.as_slice.ensures.value
 -- where one stands is a node
 low : (c : After-nodes-nodes) → c.standing-node.result < c.args.web.now.nodes
 low c =
-    let stands =
-    stands_low c.args.web.now c.nodes-nodes.ensures.web c.requires.tracing.0 c.args.left.now c.args.out.now.items c.args.back.now.items
-    c.requires.tracing.1 in
-    subst (λ n. n < c.args.web.now.nodes) (sym (node_is c)) stands
+    rw (node_is c) (stands_low c.args.web.now c.nodes-nodes.ensures.web c.requires.tracing.0 c.args.left.now c.args.out.now.items
+    c.args.back.now.items c.requires.tracing.1)
 
 pub open_edge-requires-clause-node : goal.open_edge-requires-clause-node
 open_edge-requires-clause-node c = omega (arith, low (goal.at.open_edge-requires-clause-node c).After-nodes-nodes, c.requires.incident.count)
@@ -25,10 +24,6 @@ pub open_edge-requires-clause-edges : goal.open_edge-requires-clause-edges
 open_edge-requires-clause-edges c = λ k d l.
     let low' = low (goal.at.open_edge-requires-clause-edges c).After-nodes-nodes in
     omega (arith, (all_end c.args.web.now c.args.incidence.now c.requires.incident c.standing-node.result low' k d l).0, c.requires.tracing.1.count)
-
-by_more : {P : Type 0} (b : Bool) → (b ≡ true → P) → (b ≡ false → P) → P
-by_more true yes' no' = yes' refl
-by_more false yes' no' = no' refl
 
 -- an edge of the list ends where one stands
 ends : (c : After-nodes-nodes) (k e : ℕ) → k < length (list_at c.args.incidence.now c.standing-node.result)
@@ -71,12 +66,13 @@ returns-in_ok-go-in-Some-clause-tried c =
 pub returns-in_ok-more-in-None-clause-tracing : goal.returns-in_ok-more-in-None-clause-tracing
 returns-in_ok-more-in-None-clause-tracing c = λ copies tracing.
     let none' = spent (goal.at.returns-in_ok-more-in-None-clause-tracing c).After-nodes-nodes c.in-None.ensures.found in
-    by_more c.in_ok-more-in-None.more
-    (λ more.
-    let s = c.in_ok-more-in-None.ensures.more more in
-    backed c.args.web.now c.nodes-nodes.ensures.web copies c.args.left.now c.retreat.new.out.items c.args.out.now.items
-    c.args.back.now.items c.retreat.new.back.items s.0 tracing s.1 s.2 none')
-    (λ last. let e = c.in_ok-more-in-None.ensures.none last in rw (e.1, e.2) (rw e.0 at tracing))
+    elim (cases_Bool c.in_ok-more-in-None.more) [
+      | inl more ↦
+          let s = c.in_ok-more-in-None.ensures.more more in
+          backed c.args.web.now c.nodes-nodes.ensures.web copies c.args.left.now c.retreat.new.out.items c.args.out.now.items
+          c.args.back.now.items c.retreat.new.back.items s.0 tracing s.1 s.2 none'
+      | inr last ↦ (let e = c.in_ok-more-in-None.ensures.none last in rw (e.1, e.2) (rw e.0 at tracing))
+    ]
 
 pub returns-in_ok-more-in-None-clause-done : goal.returns-in_ok-more-in-None-clause-done
 returns-in_ok-more-in-None-clause-done c = λ last.

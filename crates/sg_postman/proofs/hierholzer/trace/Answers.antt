@@ -1,5 +1,5 @@
-use Rattle.std.proofs.Common.{rules, ◌≡◌, ap, subst, sym, arith, cond, ℕ}
-use Rattle.sg_postman.specs.Tracing.{AreTried, IsTracing, left_of}
+use Rattle.std.proofs.Common.{rules, ◌≡◌, ap, arith, cond, ℕ}
+use Rattle.sg_postman.specs.Tracing.{left_of}
 use Rattle.sg_postman.proofs.OpenEdges.{tried_none}
 use Rattle.sg_postman.proofs.Tracings.{finished}
 use Rattle.sg_postman.proofs.hierholzer.trace.Goals as goal
@@ -8,14 +8,13 @@ pub loop-going-init : goal.loop-going-init
 loop-going-init c = record {
   tracing = search rules;
   tried =
-      subst (λ ls. AreTried ls c.args.left.now c.in_ok-tried.tried.items) (sym c.incidence.view_is)
-      (tried_none c.in_ok-incidence.incidence c.args.left.now c.in_ok-tried.tried.items c.nodes.result
+      rw c.incidence.view_is (tried_none c.in_ok-incidence.incidence c.args.left.now c.in_ok-tried.tried.items c.nodes.result
       (c.in_ok-tried.ensures.items_if_clones_equal (λ y e. e)) (omega (arith, c.in_ok-incidence.ensures.count, c.nodes.ensures.value)));
   done = search rules;
 }
 
 pub advance-requires-clause-tried : goal.advance-requires-clause-tried
-advance-requires-clause-tried c = subst (λ ls. AreTried ls c.loop-going.left c.loop-going.tried.items) c.incidence.view_is c.loop-going.invariant.tried
+advance-requires-clause-tried c = rw c.incidence.view_is at c.loop-going.invariant.tried
 
 pub loop-going-smaller : goal.loop-going-smaller
 loop-going-smaller c =
@@ -25,7 +24,7 @@ loop-going-smaller c =
 pub loop-going-preserved : goal.loop-going-preserved
 loop-going-preserved c = record {
   tracing = c.in_ok-going.ensures.tracing (left_of c.args.left.now) c.loop-going.invariant.tracing;
-  tried = subst (λ ls. AreTried ls c.advance.new.left c.advance.new.tried.items) (sym c.incidence.view_is) c.in_ok-going.ensures.tried;
+  tried = rw c.incidence.view_is c.in_ok-going.ensures.tried;
   done = c.in_ok-going.ensures.done;
 }
 
@@ -33,4 +32,4 @@ pub returns : goal.returns
 returns c =
     let end = c.loop-going.invariant.done c.loop-going-test.false in
     finished c.args.web.now c.nodes.ensures.web (left_of c.args.left.now) c.loop-going.left c.loop-going.back.items c.requires.connected c.requires.some
-    (subst (λ o. IsTracing c.args.web.now (left_of c.args.left.now) c.loop-going.left o c.loop-going.back.items) end.0 c.loop-going.invariant.tracing) end.1
+    (rw end.0 at c.loop-going.invariant.tracing) end.1
