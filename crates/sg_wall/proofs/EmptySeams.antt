@@ -1,5 +1,5 @@
 -- With an empty seam nothing is changed, and the two least energies are one.
-use Rattle.std.proofs.Common.{◌≡◌, ℕ, ◌<◌, cond, ℤ, pos, ◌-ℤ◌, ◌≤ℤ◌, List, [], length, get_or, map, ◌∙◌, ap, subst, arith}
+use Rattle.std.proofs.Common.{◌≡◌, ℕ, ◌<◌, cond, ℤ, pos, ◌-ℤ◌, List, [], length, get_or, map, ◌∙◌, ap, arith}
 use Rattle.std.specs.List.{range_with_len}
 use Rattle.std.proofs.lemmas.Int.{ints}
 use Rattle.std.proofs.lemmas.List.{get_or_default, same_lists}
@@ -7,6 +7,7 @@ use Rattle.std.proofs.lemmas.List.FromFn.{get_or-map-range_with_len, length-map-
 use Rattle.sg_model.specs.declared.bond.Bond.{Bond}
 use Rattle.sg_model.specs.Ising.{Ising, bond_at, bond_count}
 use Rattle.sg_model.specs.Energy.{IsLeastEnergy}
+use Rattle.sg_model.proofs.OneEnergy.{least-one}
 use Rattle.sg_sums.specs.Sets.{holds}
 use Rattle.sg_model.specs.Changes.{flipped_at, opposite, with_bonds, with_seam_flipped}
 
@@ -30,19 +31,11 @@ same_instance inst none = ap (with_bonds inst) (same_lists flipped inst.bonds lo
         ∙ ap (λ (seam : List ℕ). cond (holds seam k) (opposite (bond_at inst k)) (bond_at inst k)) none
         ∙ get_or_default inst.bonds k no_bond d below
 
--- there is one least energy
-least_once : (inst : Ising) (a b : ℤ) → IsLeastEnergy inst a → IsLeastEnergy inst b → a ≡ b
-least_once inst a b p q =
-    level a b (subst (λ x. a ≤ℤ x) q.reached.2 (p.least q.reached.0 q.reached.1)) (subst (λ x. b ≤ℤ x) p.reached.2 (q.least p.reached.0 p.reached.1))
-  where
-    level : (x y : ℤ) → x ≤ℤ y → y ≤ℤ x → x ≡ y
-    level x y l g = omega (arith, ints)
-
 -- with an empty seam the difference is 0
 pub no_wall : (inst : Ising) (p a d : ℤ) → IsLeastEnergy inst p → IsLeastEnergy (with_seam_flipped inst) a → d ≡ a -ℤ p → inst.seam ≡ [] →
     d ≡ pos 0
 no_wall inst p a d least flipped gain none =
-    nothing p a d (least_once inst p a least (subst (λ i. IsLeastEnergy i a) (same_instance inst none) flipped)) gain
+    nothing p a d (least-one inst p a least (rw (same_instance inst none) at flipped)) gain
   where
     nothing : (x y z : ℤ) → x ≡ y → z ≡ y -ℤ x → z ≡ pos 0
     nothing x y z e f = omega (arith, ints)
