@@ -28,9 +28,34 @@ even_term j p q (inl e) (inr f) = (j, rw (e, f) (omega (arith, ints)))
 even_term j p q (inr e) (inl f) = (neg_ℤ j, rw (e, f) (omega (arith, ints)))
 even_term j p q (inr e) (inr f) = (pos 0, rw (e, f) (omega (arith, ints)))
 
+-- the second number is the first if that is 2 or more, and else 2
+abbrev IsTwoOrMore : ℤ → ℤ → Type 0
+IsTwoOrMore x y = ((x <ℤ pos 2) × (y ≡ pos 2)) ⊎ ((pos 2 ≤ℤ x) × (y ≡ x))
+
+two_holds : (x y c : ℤ) → IsTwoOrMore x y → x ≤ℤ c → pos 2 ≤ℤ c → y ≤ℤ c
+two_holds x y c (inl (less, is)) p q = rw is q
+two_holds x y c (inr (more, is)) p q = rw is p
+
+two_tighter : (x y : ℤ) → IsTwoOrMore x y → x ≤ℤ y
+two_tighter x y (inl (less, is)) = omega (arith, ints)
+two_tighter x y (inr (more, is)) = omega (arith, ints)
+
+-- the second upper bound is the first, or the most where that says nothing
+abbrev IsSomeUpper : ℤ → ℤ → ℤ → Type 0
+IsSomeUpper most x y = ((x ≡ no_bound) × (y ≡ most)) ⊎ ((x ≢ no_bound) × (y ≡ x))
+
+upper_holds : (most x y c : ℤ) → IsSomeUpper most x y → c ≤ℤ most → (x ≢ no_bound → c ≤ℤ x) → c ≤ℤ y
+upper_holds most x y c (inl (none, is)) p q = rw is p
+upper_holds most x y c (inr (has, is)) p q = rw is (q has)
+
+upper_tighter : (most x y : ℤ) → IsSomeUpper most x y → x ≢ no_bound → (y ≢ no_bound) × (y ≤ℤ x)
+upper_tighter most x y (inl (none, is)) some = absurd (some none)
+upper_tighter most x y (inr (has, is)) some = (λ e. some (sym is ∙ e), omega (arith, ints))
+
 module _ (inst : Ising) (good : IsInstance inst) where
   module _ (s t : List ℤ) (first : IsAssignment inst s) (second : IsAssignment inst t) where
-    even_total : (n : ℕ) → n ≤ bond_count inst → (m : ℤ) × (total (aligned_at inst s) n ≡ total (aligned_at inst t) n +ℤ (m +ℤ m))
+    even_total : (n : ℕ) → n ≤ bond_count inst
+        → (m : ℤ) × (total (aligned_at inst s) n ≡ total (aligned_at inst t) n +ℤ (m +ℤ m))
     even_total zero l = (pos 0, refl)
     even_total (suc n) l =
         let inside : n < bond_count inst = omega (arith, l) in
@@ -101,31 +126,28 @@ module _ (inst : Ising) (good : IsInstance inst) where
 
   -- the lower bound of one bond rises
   module _ (first bounds : List Bound) (narrowed : Narrows inst first bounds) (k : ℕ) (inside : k < bond_count inst) (now : Bound) (low : ℤ)
-      (least : AreBounds inst first → (c : ℤ) → IsCost inst k c → low ≤ℤ c)
-      (is : (now ≡ bound_at bounds k) ⊎ (((bound_at bounds k).low <ℤ low) × (now ≡ risen (bound_at bounds k) low))) where
+      (least : AreBounds inst first → (c : ℤ) → IsCost inst k c → low ≤ℤ c) where
     own : (x : ℤ) → x ≤ℤ x
     own x = omega (arith, ints)
 
     weaker : (x y : ℤ) → x <ℤ y → x ≤ℤ y
     weaker x y l = omega (arith, ints)
 
-    pub narrows_raised : Narrows inst first (set bounds k now)
-    narrows_raised = narrows_set inst first bounds narrowed k now inside (λ are. bound are is) (λ are. tight is)
-      where
-        bound : AreBounds inst first → (now ≡ bound_at bounds k) ⊎ (((bound_at bounds k).low <ℤ low) × (now ≡ risen (bound_at bounds k) low))
-            → BoundsCost inst k now
-        bound are (inl same) = subst (BoundsCost inst k) (sym same) ((narrowed.bounds are).each k inside)
-        bound are (inr (more, raised)) = subst (BoundsCost inst k) (sym raised) (record {
-          low = least are;
-          high = ((narrowed.bounds are).each k inside).high;
-        })
-
-        tight : (now ≡ bound_at bounds k) ⊎ (((bound_at bounds k).low <ℤ low) × (now ≡ risen (bound_at bounds k) low)) → IsTighter (bound_at bounds k) now
-        tight (inl same) = subst (IsTighter (bound_at bounds k)) (sym same) (record { low = own (bound_at bounds k).low; high = λ some. (some, own (bound_at bounds k).high) })
-        tight (inr (more, raised)) = subst (IsTighter (bound_at bounds k)) (sym raised) (record {
+    pub narrows_raised : (now ≡ bound_at bounds k) ⊎ (((bound_at bounds k).low <ℤ low) × (now ≡ risen (bound_at bounds k) low))
+        → Narrows inst first (set bounds k now)
+    narrows_raised (inl same) =
+        narrows_set inst first bounds narrowed k now inside (λ are. subst (BoundsCost inst k) (sym same) ((narrowed.bounds are).each k inside))
+        (λ are. subst (IsTighter (bound_at bounds k)) (sym same) (record {
+          low = own (bound_at bounds k).low;
+          high = λ some. (some, own (bound_at bounds k).high);
+        }))
+    narrows_raised (inr (more, raised)) =
+        narrows_set inst first bounds narrowed k now inside
+        (λ are. subst (BoundsCost inst k) (sym raised) (record { low = least are; high = ((narrowed.bounds are).each k inside).high }))
+        (λ are. subst (IsTighter (bound_at bounds k)) (sym raised) (record {
           low = weaker (bound_at bounds k).low low more;
           high = λ some. (some, own (bound_at bounds k).high);
-        })
+        }))
 
   module _ (small : weight inst ≤ sum_limit) where
     -- bounds that decide their bonds do so when they are narrowed
@@ -175,54 +197,22 @@ module _ (inst : Ising) (good : IsInstance inst) where
 
   -- the bounds of one bond that is rigid, with a lower bound of at least 2, and an upper one
   module _ (first bounds : List Bound) (narrowed : Narrows inst first bounds) (k : ℕ) (inside : k < bond_count inst) (now : Bound) (rigid : IsRigid inst k)
-      (low : (((bound_at bounds k).low <ℤ pos 2) × (now.low ≡ pos 2)) ⊎ ((pos 2 ≤ℤ (bound_at bounds k).low) × (now.low ≡ (bound_at bounds k).low)))
-      (high : (((bound_at bounds k).high ≡ no_bound) × (now.high ≡ pos (2 * weight inst)))
-      ⊎ (((bound_at bounds k).high ≢ no_bound) × (now.high ≡ (bound_at bounds k).high))) where
+      (low : IsTwoOrMore (bound_at bounds k).low now.low) (high : IsSomeUpper (pos (2 * weight inst)) (bound_at bounds k).high now.high) where
     rigid_least : (c : ℤ) → IsCost inst k c → pos 2 ≤ℤ c
     rigid_least c cost = least_rigid k c cost (subst (λ x. pos 0 <ℤ x) (cost-one inst k rigid.0 c rigid.1 cost) rigid.2)
 
-    same : (x y : ℤ) → x ≡ y → y ≤ℤ x
-    same x y e = omega (arith, ints)
-
     pub narrows_rigid : Narrows inst first (set bounds k now)
-    narrows_rigid = narrows_set inst first bounds narrowed k now inside (λ are. bound are low high) (λ are. tight are low high)
-      where
-        bound : AreBounds inst first → (((bound_at bounds k).low <ℤ pos 2) × (now.low ≡ pos 2)) ⊎ ((pos 2 ≤ℤ (bound_at bounds k).low) × (now.low ≡ (bound_at bounds k).low))
-            → (((bound_at bounds k).high ≡ no_bound) × (now.high ≡ pos (2 * weight inst)))
-            ⊎ (((bound_at bounds k).high ≢ no_bound) × (now.high ≡ (bound_at bounds k).high)) → BoundsCost inst k now
-        bound are l h = record { low = below l; high = above h }
-          where
-            old : BoundsCost inst k (bound_at bounds k)
-            old = (narrowed.bounds are).each k inside
-
-            below : (((bound_at bounds k).low <ℤ pos 2) × (now.low ≡ pos 2)) ⊎ ((pos 2 ≤ℤ (bound_at bounds k).low) × (now.low ≡ (bound_at bounds k).low))
-                → (c : ℤ) → IsCost inst k c → now.low ≤ℤ c
-            below (inl (less, is)) c cost = subst (λ x. x ≤ℤ c) (sym is) (rigid_least c cost)
-            below (inr (more, is)) c cost = subst (λ x. x ≤ℤ c) (sym is) (old.low c cost)
-
-            above : (((bound_at bounds k).high ≡ no_bound) × (now.high ≡ pos (2 * weight inst)))
-                ⊎ (((bound_at bounds k).high ≢ no_bound) × (now.high ≡ (bound_at bounds k).high)) → now.high ≢ no_bound → (c : ℤ) → IsCost inst k c → c ≤ℤ now.high
-            above (inl (none, is)) some c cost = subst (λ x. c ≤ℤ x) (sym is) (most_cost k c cost)
-            above (inr (has, is)) some c cost = subst (λ x. c ≤ℤ x) (sym is) (old.high has c cost)
-
-        tight : AreBounds inst first → (((bound_at bounds k).low <ℤ pos 2) × (now.low ≡ pos 2)) ⊎ ((pos 2 ≤ℤ (bound_at bounds k).low) × (now.low ≡ (bound_at bounds k).low))
-            → (((bound_at bounds k).high ≡ no_bound) × (now.high ≡ pos (2 * weight inst)))
-            ⊎ (((bound_at bounds k).high ≢ no_bound) × (now.high ≡ (bound_at bounds k).high)) → IsTighter (bound_at bounds k) now
-        tight are l h = record { low = below l; high = above h }
-          where
-            weaker : (x y : ℤ) → x <ℤ pos 2 → y ≡ pos 2 → x ≤ℤ y
-            weaker x y p q = omega (arith, ints)
-
-            below : (((bound_at bounds k).low <ℤ pos 2) × (now.low ≡ pos 2)) ⊎ ((pos 2 ≤ℤ (bound_at bounds k).low) × (now.low ≡ (bound_at bounds k).low))
-                → (bound_at bounds k).low ≤ℤ now.low
-            below (inl (less, is)) = weaker (bound_at bounds k).low now.low less is
-            below (inr (more, is)) = same now.low (bound_at bounds k).low is
-
-            above : (((bound_at bounds k).high ≡ no_bound) × (now.high ≡ pos (2 * weight inst)))
-                ⊎ (((bound_at bounds k).high ≢ no_bound) × (now.high ≡ (bound_at bounds k).high))
-                → (bound_at bounds k).high ≢ no_bound → (now.high ≢ no_bound) × (now.high ≤ℤ (bound_at bounds k).high)
-            above (inl (none, is)) some = absurd (some none)
-            above (inr (has, is)) some = (λ e. some (sym is ∙ e), same (bound_at bounds k).high now.high (sym is))
+    narrows_rigid =
+        narrows_set inst first bounds narrowed k now inside
+        (λ are. record {
+          low = λ c cost. two_holds (bound_at bounds k).low now.low c low (((narrowed.bounds are).each k inside).low c cost) (rigid_least c cost);
+          high = λ some c cost. upper_holds (pos (2 * weight inst)) (bound_at bounds k).high now.high c high (most_cost k c cost)
+              (λ has. ((narrowed.bounds are).each k inside).high has c cost);
+        })
+        (λ are. record {
+          low = two_tighter (bound_at bounds k).low now.low low;
+          high = upper_tighter (pos (2 * weight inst)) (bound_at bounds k).high now.high high;
+        })
 
 -- one bond more that its bounds decide
 pub decides_more : (bounds : List Bound) (k : ℕ) (now : Bound) → k < length bounds → ((i : ℕ) → i < k → Decides (bound_at bounds i)) → Decides now

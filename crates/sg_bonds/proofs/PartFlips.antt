@@ -1,11 +1,12 @@
 -- Assignments of which a part is flipped: their products, and their energies by sums over the bonds.
-use Rattle.std.proofs.Common.{◌≡◌, ◌≢◌, ◌⊎◌, inl, inr, ℕ, zero, suc, ◌+◌, ◌*◌, ◌<◌, ◌≤◌, Bool, true, false, not, cond, eqb, ℤ, pos, neg_ℤ, ◌+ℤ◌, ◌-ℤ◌, ◌*ℤ◌, List, [], length, get_or, set, refl, sym, ◌∙◌, ap, ap₂, subst, arith, All}
+use Rattle.std.proofs.Common.{◌≡◌, ◌≢◌, ◌⊎◌, inl, inr, ℕ, zero, suc, ◌+◌, ◌*◌, ◌^◌, ◌<◌, ◌≤◌, Bool, true, false, not, cond, eqb, ℤ, pos, neg_ℤ, ◌+ℤ◌, ◌-ℤ◌, ◌*ℤ◌, List, [], length, get_or, set, refl, sym, ◌∙◌, ap, ap₂, subst, arith, All}
 use Rattle.std.specs.Prelude.{unsigned_abs}
 use Rattle.std.proofs.lemmas.Bool.{cases_eq, cases_lt, eq-eqb, ne_eqb}
 use Rattle.std.proofs.lemmas.Int.{ints}
-use Rattle.std.proofs.lemmas.List.{get_or-set_other, get_or-set_same, get_or_default}
+use Rattle.std.proofs.lemmas.List.{get_or-set_other, get_or-set_same, get_or_default, length-set}
 use Rattle.std.proofs.lemmas.List.Elements.{All-from_get_or}
 use Rattle.std.proofs.lemmas.List.FromFn.{get_or-map-range_with_len, length-map-range_with_len}
+use Rattle.sg_limits.specs.Limits.{sum_limit}
 use Rattle.sg_sums.specs.Parity.{xor}
 use Rattle.sg_sums.specs.Sums.{sum_below}
 use Rattle.sg_sums.proofs.SumLaws.{sum_by_is_sum_below}
@@ -15,9 +16,9 @@ use Rattle.sg_model.specs.WellFormed.{IsInstance}
 use Rattle.sg_model.specs.Spins.{IsUpOrDown, IsAssignment, spin}
 use Rattle.sg_model.specs.Energy.{energy, product, weight}
 use Rattle.sg_walk.specs.Naming.{AllNamed}
-use Rattle.sg_bonds.specs.Flipped.{with_part_flipped}
+use Rattle.sg_bonds.specs.Flipped.{ArePartNames, with_part_flipped}
 use Rattle.sg_bonds.proofs.Agreement.{units}
-use Rattle.sg_bonds.proofs.ForcedMinimum.{unit_product}
+use Rattle.sg_bonds.proofs.ForcedMinimum.{coupling_size, unit_product}
 use Rattle.sg_bonds.proofs.WeakenedEnergy.{aligned_at, energy_is_total, total}
 
 abbrev no_bond : Bond
@@ -134,7 +135,7 @@ module _ (inst : Ising) (good : IsInstance inst) (s : List ℤ) (first : IsAssig
       apart e f x y g a b c = omega (arith, ints)
 
   -- the size of what is gained at the first bonds
-  pub gain_size : (n : ℕ) → n ≤ bond_count inst → unsigned_abs (total (gain_at inst s parts part) n) ≤ 2 * sum_below (λ k. unsigned_abs (bond_at inst k).j) n
+  gain_size : (n : ℕ) → n ≤ bond_count inst → unsigned_abs (total (gain_at inst s parts part) n) ≤ 2 * sum_below (λ k. unsigned_abs (bond_at inst k).j) n
   gain_size zero l = omega arith
   gain_size (suc n) l =
       both (total (gain_at inst s parts part) n) (gain_at inst s parts part n) (sum_below (λ k. unsigned_abs (bond_at inst k).j) n)
@@ -150,7 +151,7 @@ module _ (inst : Ising) (good : IsInstance inst) (s : List ℤ) (first : IsAssig
       term_size false j p up = omega arith
 
   -- it is at most twice the sum of all sizes
-  pub part_size : (n : ℕ) → n ≤ bond_count inst → unsigned_abs (total (gain_at inst s parts part) n) ≤ 2 * weight inst
+  part_size : (n : ℕ) → n ≤ bond_count inst → unsigned_abs (total (gain_at inst s parts part) n) ≤ 2 * weight inst
   part_size n l =
       omega (
         arith,
@@ -160,25 +161,24 @@ module _ (inst : Ising) (good : IsInstance inst) (s : List ℤ) (first : IsAssig
       )
 
 -- what is gained at one bond is no more than twice its size
-pub one_size : (b : Bool) (j p : ℤ) → IsUpOrDown p → unsigned_abs (cond b (pos 0) (pos 2 *ℤ (j *ℤ p))) ≤ 2 * unsigned_abs j
+one_size : (b : Bool) (j p : ℤ) → IsUpOrDown p → unsigned_abs (cond b (pos 0) (pos 2 *ℤ (j *ℤ p))) ≤ 2 * unsigned_abs j
 one_size true j p up = omega arith
 one_size false j p (inl e) = rw e (omega (arith, ints))
 one_size false j p (inr e) = rw e (omega (arith, ints))
 
 -- a bond whose ends are in two parts leaves both
-pub leaves_both : (inst : Ising) (s : List ℤ) (parts : List ℕ) (k p q : ℕ) → p ≡ get_or parts (bond_at inst k).u 0 → q ≡ get_or parts (bond_at inst k).v 0 → p ≢ q
-    → (leaves_part inst s parts p k ≡ true) × (leaves_part inst s parts q k ≡ true)
-leaves_both inst s parts k p q is_p is_q apart = (
-  ap₂ (λ a b. xor (eqb a p) (eqb b p)) (sym is_p) (sym is_q) ∙ ap₂ xor (eq-eqb p p refl) (ne_eqb q p (λ e. apart (sym e))),
-  ap₂ (λ a b. xor (eqb a q) (eqb b q)) (sym is_p) (sym is_q) ∙ ap₂ xor (ne_eqb p q apart) (eq-eqb q q refl),
+pub leaves_both : (p q : ℕ) → not (eqb p q) ≡ true → (xor (eqb p p) (eqb q p) ≡ true) × (xor (eqb p q) (eqb q q) ≡ true)
+leaves_both p q h = (
+  ap₂ xor (eq-eqb p p refl) (ne_eqb q p (λ e. apart (sym e))),
+  ap₂ xor (ne_eqb p q apart) (eq-eqb q q refl),
 )
-
--- what is not equal by the test
-pub apart_of : (p q : ℕ) → not (eqb p q) ≡ true → p ≢ q
-apart_of p q h e = (let yes : eqb p q ≡ true = eq-eqb p q e in cc)
+  where
+    apart : p ≢ q
+    apart e = (let yes : eqb p q ≡ true = eq-eqb p q e in cc)
 
 -- one of a list's numbers grows
-pub added_at : (xs : List ℤ) (i c : ℕ) (x : ℤ) → i < length xs → get_or (set xs i (get_or xs i (pos 0) +ℤ x)) c (pos 0) ≡ get_or xs c (pos 0) +ℤ cond (eqb i c) x (pos 0)
+added_at : (xs : List ℤ) (i c : ℕ) (x : ℤ) → i < length xs
+    → get_or (set xs i (get_or xs i (pos 0) +ℤ x)) c (pos 0) ≡ get_or xs c (pos 0) +ℤ cond (eqb i c) x (pos 0)
 added_at xs i c x l = by_case (cases_eq i c)
   where
     none : (y : ℤ) → y ≡ y +ℤ pos 0
@@ -193,7 +193,7 @@ added_at xs i c x l = by_case (cases_eq i c)
         ∙ none (get_or xs c (pos 0))
         ∙ sym (ap (λ b. get_or xs c (pos 0) +ℤ cond b x (pos 0)) (ne_eqb i c ne))
 
-pub added_size : (xs : List ℤ) (i c : ℕ) (x : ℤ) → i < length xs
+added_size : (xs : List ℤ) (i c : ℕ) (x : ℤ) → i < length xs
     → unsigned_abs (get_or (set xs i (get_or xs i (pos 0) +ℤ x)) c (pos 0)) ≤ unsigned_abs (get_or xs c (pos 0)) + unsigned_abs x
 added_size xs i c x l =
     subst (λ (z : ℤ). unsigned_abs z ≤ unsigned_abs (get_or xs c (pos 0)) + unsigned_abs x) (sym (added_at xs i c x l))
@@ -203,15 +203,16 @@ added_size xs i c x l =
     by_test true y = omega (arith, ints)
     by_test false y = omega (arith, ints)
 
--- the parts at the ends of a bond are below the number of spins
-pub part_below : (inst : Ising) → IsInstance inst → (parts : List ℕ) → length parts ≡ inst.n → All (λ part. part < inst.n) parts → (k : ℕ) → k < bond_count inst
-    → (p : ℕ) → (p ≡ get_or parts (bond_at inst k).u 0) ⊎ (p ≡ get_or parts (bond_at inst k).v 0) → p < inst.n
-part_below inst good parts long within k inside p (inl e) =
-    let joined : IsBond inst.n (bond_at inst k) = good.draft.joined k _ inside in
-    subst (λ i. i < inst.n) (sym e) (within (bond_at inst k).u 0 (omega (arith, joined.first_end, long)))
-part_below inst good parts long within k inside p (inr e) =
-    let joined : IsBond inst.n (bond_at inst k) = good.draft.joined k _ inside in
-    subst (λ i. i < inst.n) (sym e) (within (bond_at inst k).v 0 (omega (arith, joined.second_end, long)))
+-- the parts at the two ends of a bond
+module _ (inst : Ising) (good : IsInstance inst) (names : List ℕ) (named : ArePartNames inst names) (k : ℕ) (inside : k < bond_count inst) where
+  ends : IsBond inst.n (bond_at inst k)
+  ends = good.draft.joined k _ inside
+
+  pub first_part : get_or names (bond_at inst k).u 0 < inst.n
+  first_part = named.within (bond_at inst k).u 0 (omega (arith, ends.first_end, named.count))
+
+  pub second_part : get_or names (bond_at inst k).v 0 < inst.n
+  second_part = named.within (bond_at inst k).v 0 (omega (arith, ends.second_end, named.count))
 
 -- what both ends of a bond add to a part
 both_ends : (p q c : ℕ) (y : ℤ)
@@ -235,24 +236,59 @@ both_ends p q c y = by_case (cases_eq p c) (cases_eq q c) (cases_eq p q)
     by_case (inr e) (inr f) g = rw (ne_eqb p c e, ne_eqb q c f) refl
 
 -- after one bond more
-module _ (inst : Ising) (s : List ℤ) (parts : List ℕ) (gains : List ℤ) (k : ℕ)
-    (before : (part : ℕ) → part < inst.n → get_or gains part (pos 0) ≡ total (gain_at inst s parts part) k)
-    (p q : ℕ) (x : ℤ) (is_p : p ≡ get_or parts (bond_at inst k).u 0) (is_q : q ≡ get_or parts (bond_at inst k).v 0)
-    (is_x : x ≡ cond (eqb p q) (pos 0) (pos 2 *ℤ aligned_at inst s k)) where
+module _ (inst : Ising) (good : IsInstance inst) (s : List ℤ) (own : IsAssignment inst s) (names : List ℕ) (named : ArePartNames inst names)
+    (k : ℕ) (inside : k < bond_count inst) (gains : List ℤ) (long : length gains ≡ inst.n)
+    (before : (part : ℕ) → part < inst.n → get_or gains part (pos 0) ≡ total (gain_at inst s names part) k) where
+  abbrev p : ℕ
+  p = get_or names (bond_at inst k).u 0
+
+  abbrev q : ℕ
+  q = get_or names (bond_at inst k).v 0
+
+  abbrev x : ℤ
+  x = cond (eqb p q) (pos 0) (pos 2 *ℤ aligned_at inst s k)
+
   abbrev once : List ℤ
   once = set gains p (get_or gains p (pos 0) +ℤ x)
 
-  pub gains_more : (part : ℕ) → part < inst.n → p < length gains → q < length once
-      → get_or (set once q (get_or once q (pos 0) +ℤ x)) part (pos 0) ≡ total (gain_at inst s parts part) (k + 1)
-  gains_more part l in_p in_q =
-      let ends : cond (xor (eqb p part) (eqb q part)) (pos 2 *ℤ aligned_at inst s k) (pos 0) ≡ gain_at inst s parts part k =
-      ap₂ (λ a b. cond (xor (eqb a part) (eqb b part)) (pos 2 *ℤ aligned_at inst s k) (pos 0)) is_p is_q in
-      added_at once q part x in_q
-      ∙ ap (λ y. y +ℤ cond (eqb q part) x (pos 0)) (added_at gains p part x in_p)
+  in_p : p < inst.n
+  in_p = first_part inst good names named k inside
+
+  in_q : q < inst.n
+  in_q = second_part inst good names named k inside
+
+  once_long : length once ≡ inst.n
+  once_long = length-set gains p (get_or gains p (pos 0) +ℤ x) ∙ long
+
+  pub gains_long : length (set once q (get_or once q (pos 0) +ℤ x)) ≡ inst.n
+  gains_long = length-set once q (get_or once q (pos 0) +ℤ x) ∙ once_long
+
+  -- what was gained, and what is added to it
+  size_before : (part : ℕ) → part < inst.n → unsigned_abs (get_or gains part (pos 0)) ≤ 2 * weight inst
+  size_before part l =
+      subst (λ (z : ℤ). unsigned_abs z ≤ 2 * weight inst) (sym (before part l)) (part_size inst good s own names part k (omega (arith, inside)))
+
+  size_now : unsigned_abs x ≤ 2 * weight inst
+  size_now =
+      omega (
+        arith,
+        one_size (eqb p q) (bond_at inst k).j (product s (bond_at inst k)) (unit_product inst good k inside s own),
+        coupling_size inst good k inside,
+      )
+
+  pub first_fits : weight inst ≤ sum_limit → unsigned_abs (get_or gains p (pos 0)) + unsigned_abs x < 2 ^ 63
+  first_fits small = omega (arith, small, size_before p in_p, size_now)
+
+  pub second_fits : weight inst ≤ sum_limit → unsigned_abs (get_or once q (pos 0)) + unsigned_abs x < 2 ^ 63
+  second_fits small = omega (arith, small, added_size gains p q x (omega (arith, in_p, long)), size_before q in_q, size_now)
+
+  pub gains_more : (part : ℕ) → part < inst.n → get_or (set once q (get_or once q (pos 0) +ℤ x)) part (pos 0) ≡ total (gain_at inst s names part) (k + 1)
+  gains_more part l =
+      added_at once q part x (omega (arith, in_q, once_long))
+      ∙ ap (λ y. y +ℤ cond (eqb q part) x (pos 0)) (added_at gains p part x (omega (arith, in_p, long)))
       ∙ assoc (get_or gains part (pos 0)) (cond (eqb p part) x (pos 0)) (cond (eqb q part) x (pos 0))
-      ∙ ap (λ y. get_or gains part (pos 0) +ℤ (cond (eqb p part) y (pos 0) +ℤ cond (eqb q part) y (pos 0))) is_x
-      ∙ ap₂ (λ a b. a +ℤ b) (before part l) (both_ends p q part (pos 2 *ℤ aligned_at inst s k) ∙ ends)
-      ∙ ap (total (gain_at inst s parts part)) next
+      ∙ ap₂ (λ a b. a +ℤ b) (before part l) (both_ends p q part (pos 2 *ℤ aligned_at inst s k))
+      ∙ ap (total (gain_at inst s names part)) next
     where
       next : suc k ≡ k + 1
       next = omega arith
@@ -261,8 +297,11 @@ module _ (inst : Ising) (s : List ℤ) (parts : List ℕ) (gains : List ℤ) (k 
       assoc a b c = omega (arith, ints)
 
 -- names are below the number of spins
-pub names_below : (inst : Ising) (set : ℕ → Bool) (names : List ℕ) → AllNamed inst set names → All (λ part. part < inst.n) names
-names_below inst set names named i d l =
-    let inside : i < inst.n = omega (arith, l, named.count) in
-    let least : get_or names i 0 ≤ i = (named.each i inside).least i ([], refl) in
-    omega (arith, get_or_default names i d 0 l, least, inside)
+pub names_below : (inst : Ising) (set : ℕ → Bool) (names : List ℕ) → AllNamed inst set names → ArePartNames inst names
+names_below inst set names named = record { count = named.count; within = within }
+  where
+    within : All (λ part. part < inst.n) names
+    within i d l =
+        let inside : i < inst.n = omega (arith, l, named.count) in
+        let least : get_or names i 0 ≤ i = (named.each i inside).least i ([], refl) in
+        omega (arith, get_or_default names i d 0 l, least, inside)

@@ -1,9 +1,9 @@
 -- Joins that assignments break, and the bonds that two assignments break differently.
-use Rattle.std.proofs.Common.{inl, inr, ◌≡◌, ◌≤◌, ℕ, ◌*◌, ◌<◌, ℤ, pos, neg_ℤ, negsuc, ◌+ℤ◌, ◌-ℤ◌, Bool, true, false, cond, eqb, List, length, map, refl, sym, ◌∙◌, ap, ap₂, subst, arith}
+use Rattle.std.proofs.Common.{inl, inr, ◌≡◌, ◌≤◌, ℕ, ◌*◌, ◌<◌, ℤ, pos, neg_ℤ, negsuc, ◌+ℤ◌, ◌-ℤ◌, Bool, true, false, cond, eqb, List, length, map, sym, ◌∙◌, ap, ap₂, subst, arith}
 use Rattle.std.specs.Prelude.{unsigned_abs}
 use Rattle.std.specs.Ordering.{int_eq}
 use Rattle.std.specs.List.{range_with_len}
-use Rattle.std.proofs.lemmas.Bool.{false≢true, true≢false}
+use Rattle.std.proofs.lemmas.Bool.{false≢true}
 use Rattle.std.proofs.lemmas.Int.{ints}
 use Rattle.std.proofs.lemmas.List.{get_or-map, length-map}
 use Rattle.std.proofs.lemmas.List.FromFn.{get_or-range_with_len, length-range_with_len}

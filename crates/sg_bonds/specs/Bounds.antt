@@ -50,8 +50,8 @@ pub record Narrows (inst : Ising) (before after : List Bound) : Type 0 where
   pub tighter : AreBounds inst before → (k : ℕ) → k < bond_count inst →
       IsTighter (bound_at before k) (bound_at after k)
 
--- there is an upper bound, and the bounds, if they hold, tell whether the bond is rigid: the lower one is at least 2, or
--- both are 0
+-- there is an upper bound, and the bounds, if they hold, tell whether the bond is rigid: the lower one is at least 2,
+-- or both are 0
 pub record Decides (b : Bound) : Type 0 where
   pub some : b.high ≢ no_bound
   pub which : (pos 2 ≤ℤ b.low) ⊎ ((b.low ≡ pos 0) × (b.high ≡ pos 0))

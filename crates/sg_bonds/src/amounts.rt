@@ -1,10 +1,12 @@
 // Proposals of amounts by which bonds are weakened. Nothing is proved of them but how many there are, since
 // what is concluded from them is judged by a ground state.
-ghost use Rattle.std.specs.Prelude.{◌≡◌, ◌<◌, length, All};
+ghost use Rattle.std.specs.Prelude.{◌≡◌, length};
 ghost use Rattle.sg_model.specs.Ising.{bond_count};
+ghost use Rattle.sg_bonds.specs.Flipped.{ArePartNames, AreNamedParts};
 
 use super::NoMemory;
 use super::bounds::Bound;
+use super::flipping::Parts;
 use sg_model::Instance;
 use std::alloc::Global;
 
@@ -15,30 +17,33 @@ pub(crate) struct Turn {
     pub(crate) is_over: bool,
 }
 
+/// What the amounts of a part are to stay below: what is gained by flipping it, times the scale.
+#[derive(Drop)]
+pub(crate) struct PartLimits<'a> {
+    pub(crate) inst: &'a Instance,
+    pub(crate) parts: &'a Parts,
+    pub(crate) scale: u64,
+}
+
 /// New amounts when a turn is over: at the bonds of the next half a quarter of the upper bound, times the scale,
 /// but together no more than the gain of a part.
 pub(crate) fn renew(
     alloc: Global,
-    inst: &Instance,
-    parts: &[u32],
-    gains: &[i64],
-    scale: u64,
+    limits: &PartLimits,
     bounds: &[Bound],
     turn: Turn,
     amounts: &mut [u64],
 ) -> Result<Turn, NoMemory>
-    requires parts { length parts.now ≡ inst.now.n }
-    requires within { All (λ part. part < inst.now.n) parts.now }
-    requires gains { length gains.now ≡ inst.now.n }
-    requires amounts { length amounts.old ≡ bond_count inst.now }
-    requires bounds { length bounds.now ≡ bond_count inst.now }
+    requires parts { AreNamedParts limits.now.inst.now limits.now.parts.now }
+    requires amounts { length amounts.old ≡ bond_count limits.now.inst.now }
+    requires bounds { length bounds.now ≡ bond_count limits.now.inst.now }
     ensures { length amounts.new ≡ length amounts.old }
 {
     if !turn.is_over {
         return Ok(turn);
     }
-    begin(bounds, scale, turn.place, amounts);
-    shrink(alloc, inst, parts, gains, scale, amounts)?;
+    begin(bounds, limits.scale, turn.place, amounts);
+    shrink(alloc, limits, amounts)?;
     Ok(Turn {
         place: turn.place.wrapping_add(1),
         is_over: false,
@@ -82,46 +87,41 @@ pub(crate) fn halve(amounts: &mut [u64])
 /// of these: in proportion, and by half.
 pub(crate) fn shrink(
     alloc: Global,
-    inst: &Instance,
-    parts: &[u32],
-    gains: &[i64],
-    scale: u64,
+    limits: &PartLimits,
     amounts: &mut [u64],
 ) -> Result<(), NoMemory>
-    requires parts { length parts.now ≡ inst.now.n }
-    requires within { All (λ part. part < inst.now.n) parts.now }
-    requires gains { length gains.now ≡ inst.now.n }
-    requires amounts { length amounts.old ≡ bond_count inst.now }
+    requires parts { AreNamedParts limits.now.inst.now limits.now.parts.now }
+    requires amounts { length amounts.old ≡ bond_count limits.now.inst.now }
     ensures { length amounts.new ≡ length amounts.old }
 {
-    let mut taken = vec![in alloc; 0u64; gains.len()]?;
-    add_amounts(inst, parts, amounts, &mut taken);
-    for (k, bond) in inst.bonds().as_slice().iter().enumerate() {
-        let first = parts[bond.u as usize] as usize;
-        let second = parts[bond.v as usize] as usize;
+    let parts = limits.parts;
+    let mut taken = vec![in alloc; 0u64; parts.gains.len()]?;
+    add_amounts(limits.inst, &parts.names, amounts, &mut taken);
+    for (k, bond) in limits.inst.bonds().as_slice().iter().enumerate() {
+        let first = parts.names[bond.u as usize] as usize;
+        let second = parts.names[bond.v as usize] as usize;
         let part = if taken[first] < taken[second] {
             first
         } else {
             second
         };
         if first != second {
-            amounts[k] = lowered_amount(amounts[k], taken[part], gains[part], scale);
+            amounts[k] = lowered_amount(amounts[k], taken[part], parts.gains[part], limits.scale);
         }
     }
     Ok(())
 }
 
 // Adds the amounts to the parts that their bonds connect.
-fn add_amounts(inst: &Instance, parts: &[u32], amounts: &[u64], taken: &mut [u64])
-    requires parts { length parts.now ≡ inst.now.n }
-    requires within { All (λ part. part < inst.now.n) parts.now }
+fn add_amounts(inst: &Instance, names: &[u32], amounts: &[u64], taken: &mut [u64])
+    requires names { ArePartNames inst.now names.now }
     requires taken { length taken.old ≡ inst.now.n }
     requires amounts { length amounts.now ≡ bond_count inst.now }
     ensures { length taken.new ≡ length taken.old }
 {
     for (k, bond) in inst.bonds().as_slice().iter().enumerate() {
-        let first = parts[bond.u as usize] as usize;
-        let second = parts[bond.v as usize] as usize;
+        let first = names[bond.u as usize] as usize;
+        let second = names[bond.v as usize] as usize;
         if first != second {
             taken[first] = taken[first].saturating_add(amounts[k]);
             taken[second] = taken[second].saturating_add(amounts[k]);

@@ -1,19 +1,20 @@
 // Bounds of the costs of all bonds at once, by ground states of weakened instances.
-ghost use Rattle.std.specs.Prelude.{◌≡◌, ◌<◌, ◌≤◌, length, All, IfErr, OnOk};
+ghost use Rattle.std.specs.Prelude.{◌≡◌, ◌≤◌, length, All, IfErr, OnOk};
 ghost use Rattle.sg_limits.specs.Limits.{sum_limit};
 ghost use Rattle.sg_model.specs.Ising.{bond_count};
 ghost use Rattle.sg_model.specs.Spins.{IsAssignment};
 ghost use Rattle.sg_model.specs.Energy.{IsGroundState, weight};
 ghost use Rattle.sg_tjoin.specs.Allowance.{IfTooLarge};
 ghost use Rattle.sg_bonds.specs.Bounds.{AreBounds, Decides, Narrows};
+ghost use Rattle.sg_bonds.specs.Flipped.{AreNamedParts};
 ghost use Rattle.sg_bonds.specs.Study.{IsStudy};
 ghost use Rattle.sg_bonds.specs.Weakened.{FitsWeakened, WeakenedTablesExceed, amount_at, weakened};
 
 use super::NoMemory;
-use super::amounts::{Turn, halve, renew, shrink};
+use super::amounts::{PartLimits, Turn, halve, renew, shrink};
 use super::bounds::Bound;
 use super::deciding::{are_decided, even_bound, mark_bounds, raised};
-use super::flipping::{note_parts, part_gains, parts_between, single_spins};
+use super::flipping::{Parts, note_parts, parts_between, single_spins};
 use super::telling::rigid_marks;
 use super::weaken::{Study, Weakened, ask, fits, scale_for};
 use sg_ground::ground_state_within;
@@ -24,7 +25,7 @@ use std::alloc::Global;
 
 /// Narrows bounds of the costs of all bonds at once: if the bounds that are passed hold, so do these, none is
 /// looser, each bond has an upper bound, and the bounds tell which bonds are rigid. How tight they are is not
-/// promised; with more rounds they are tighter.
+/// promised, nor that more rounds make them tighter.
 ///
 /// A round weakens each rigid bond by some part of its upper bound in the direction that a ground state
 /// satisfies. If the spins still are a ground state, each bond costs at least twice its amount, by the law
@@ -92,11 +93,10 @@ fn narrow_by_rounds(
     ensures too_large { IfErr result (IfTooLarge (WeakenedTablesExceed study.now.most_bytes study.now.planar.now.instance)) }
 {
     let inst = study.planar.instance();
-    let singles = single_spins(alloc, inst)?;
-    let gains = part_gains(alloc, inst, &study.least.spins, &singles)?;
-    note_parts(inst, &study.least.spins, &singles, &gains, bounds);
+    let singles = single_spins(alloc, inst, &study.least.spins)?;
+    note_parts(inst, &study.least.spins, &singles, bounds);
     let mut amounts = vec![in alloc; 0u64; inst.bonds().len()]?;
-    weaken_all(alloc, study, rounds, &singles, &gains, &mut amounts, bounds)
+    weaken_all(alloc, study, rounds, &singles, &mut amounts, bounds)
 }
 
 // Weakens the bonds so often, by amounts that begin anew once lower bounds have risen.
@@ -104,15 +104,12 @@ fn weaken_all(
     alloc: Global,
     study: &Study,
     rounds: u32,
-    parts: &[u32],
-    gains: &[i64],
+    parts: &Parts,
     amounts: &mut [u64],
     bounds: &mut [Bound],
 ) -> Result<(), Unproved>
     requires study { IsStudy study.now }
-    requires parts { length parts.now ≡ study.now.planar.now.instance.n }
-    requires within { All (λ part. part < study.now.planar.now.instance.n) parts.now }
-    requires gains { length gains.now ≡ study.now.planar.now.instance.n }
+    requires parts { AreNamedParts study.now.planar.now.instance parts.now }
     requires amounts { length amounts.old ≡ bond_count study.now.planar.now.instance }
     requires count { length bounds.old ≡ bond_count study.now.planar.now.instance }
     ensures narrows { Narrows study.now.planar.now.instance bounds.old bounds.new }
@@ -120,12 +117,13 @@ fn weaken_all(
 {
     let inst = study.planar.instance();
     let scale = scale_for(inst);
+    let limits = PartLimits { inst, parts, scale };
     let mut turn = Turn {
         place: 0,
         is_over: true,
     };
     for _ in 0..rounds {
-        turn = renew(alloc, inst, parts, gains, scale, bounds, turn, amounts)?;
+        turn = renew(alloc, &limits, bounds, turn, amounts)?;
         turn.is_over = weaken_once(alloc, study, scale, amounts, bounds)?;
     }
     Ok(())
@@ -182,10 +180,9 @@ fn note_other(
 {
     let inst = study.planar.instance();
     let least = &study.least.spins;
-    let parts = parts_between(alloc, inst, least, other)?;
-    let gains = part_gains(alloc, inst, least, &parts)?;
-    note_parts(inst, least, &parts, &gains, bounds);
-    shrink(alloc, inst, &parts, &gains, scale, amounts)
+    let parts = &parts_between(alloc, inst, least, other)?;
+    note_parts(inst, least, parts, bounds);
+    shrink(alloc, &PartLimits { inst, parts, scale }, amounts)
 }
 
 // Raises the lower bound of each bond that was weakened.

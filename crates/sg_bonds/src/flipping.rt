@@ -1,12 +1,12 @@
 // Upper bounds of costs by flips of parts of the spins.
-ghost use Rattle.std.specs.Prelude.{◌≡◌, ◌+◌, ◌<◌, ◌≤◌, ◌^◌, ◌+ℤ◌, ◌*ℤ◌, ◌==◌, pos, if◌then◌else◌, length, replicate, set, slice_index, slice_index_or, unsigned_abs, All, IfOk};
+ghost use Rattle.std.specs.Prelude.{◌≡◌, ◌+◌, ◌<◌, ◌≤◌, ◌^◌, ◌+ℤ◌, ◌*ℤ◌, ◌==◌, pos, if◌then◌else◌, length, replicate, set, slice_index, slice_index_or, unsigned_abs, IfOk};
 ghost use Rattle.sg_limits.specs.Limits.{sum_limit};
 ghost use Rattle.sg_model.specs.Ising.{IsBond, bond_count};
 ghost use Rattle.sg_model.specs.Spins.{IsAssignment};
 ghost use Rattle.sg_model.specs.Energy.{IsGroundState, product, weight};
 ghost use Rattle.sg_walk.specs.Walk.{has};
 ghost use Rattle.sg_bonds.specs.Bounds.{Narrows};
-ghost use Rattle.sg_bonds.specs.Flipped.{AreGains};
+ghost use Rattle.sg_bonds.specs.Flipped.{AreGains, ArePartNames, AreNamedParts};
 
 use super::NoMemory;
 use super::bounds::{Bound, is_turned, noted};
@@ -15,12 +15,22 @@ use sg_model::{Bond, Instance, Spins};
 use sg_walk::names;
 use std::alloc::Global;
 
+/// Parts of the spins: for each spin the name of its part, and for each name what is gained by flipping that part.
+#[derive(Drop)]
+pub(crate) struct Parts {
+    pub(crate) names: Vec<u32>,
+    pub(crate) gains: Vec<i64>,
+}
+
 /// Each spin is a part of its own.
-pub(crate) fn single_spins(alloc: Global, inst: &Instance) -> Result<Vec<u32>, NoMemory>
-    ensures count { IfOk result (λ parts. length parts.items ≡ inst.now.n) }
-    ensures within { IfOk result (λ parts. All (λ part. part < inst.now.n) parts.items) }
+pub(crate) fn single_spins(alloc: Global, inst: &Instance, least: &Spins) -> Result<Parts, NoMemory>
+    requires sum { weight inst.now ≤ sum_limit }
+    requires assignment { IsAssignment inst.now least.now }
+    ensures parts { IfOk result (AreNamedParts inst.now) }
+    ensures gains { IfOk result (λ parts. AreGains inst.now least.now parts.names.items parts.gains.items) }
 {
-    numbers_below(alloc, inst.n() as usize)
+    let names = numbers_below(alloc, inst.n() as usize)?;
+    with_gains(alloc, inst, least, names)
 }
 
 /// The parts between which the bonds are that another assignment flips.
@@ -29,15 +39,16 @@ pub(crate) fn parts_between(
     inst: &Instance,
     least: &Spins,
     other: &Spins,
-) -> Result<Vec<u32>, NoMemory>
+) -> Result<Parts, NoMemory>
+    requires sum { weight inst.now ≤ sum_limit }
     requires first { IsAssignment inst.now least.now }
     requires second { IsAssignment inst.now other.now }
-    ensures count { IfOk result (λ parts. length parts.items ≡ inst.now.n) }
-    ensures within { IfOk result (λ parts. All (λ part. part < inst.now.n) parts.items) }
+    ensures parts { IfOk result (AreNamedParts inst.now) }
+    ensures gains { IfOk result (λ parts. AreGains inst.now least.now parts.names.items parts.gains.items) }
 {
     let kept = kept_bonds(alloc, inst, least, other)?;
-    let parts = names(alloc, inst, &kept)?;
-    Ok(parts)
+    let names = names(alloc, inst, &kept)?;
+    with_gains(alloc, inst, least, names)
 }
 
 // For each bond whether the other assignment has the same product there.
@@ -58,39 +69,37 @@ fn kept_bonds(
     Ok(kept)
 }
 
-/// For each part how far the assignment that flips it lies above the spins: twice the sum of what the bonds
-/// between it and the others are satisfied by.
-pub(crate) fn part_gains(
+// For each part how far the assignment that flips it lies above the spins: twice the sum of what the bonds
+// between it and the others are satisfied by.
+fn with_gains(
     alloc: Global,
     inst: &Instance,
     least: &Spins,
-    parts: &[u32],
-) -> Result<Vec<i64>, NoMemory>
+    names: Vec<u32>,
+) -> Result<Parts, NoMemory>
     requires sum { weight inst.now ≤ sum_limit }
     requires assignment { IsAssignment inst.now least.now }
-    requires parts { length parts.now ≡ inst.now.n }
-    requires within { All (λ part. part < inst.now.n) parts.now }
-    ensures count { IfOk result (λ gains. length gains.items ≡ inst.now.n) }
-    ensures gains { IfOk result (λ gains. AreGains inst.now least.now parts.now gains.items) }
+    requires names { ArePartNames inst.now names.items }
+    ensures parts { IfOk result (AreNamedParts inst.now) }
+    ensures gains { IfOk result (λ parts. AreGains inst.now least.now parts.names.items parts.gains.items) }
 {
     let mut gains = vec![in alloc; 0i64; inst.n() as usize]?;
-    add_gains(inst, least, parts, &mut gains);
-    Ok(gains)
+    add_gains(inst, least, &names, &mut gains);
+    Ok(Parts { names, gains })
 }
 
 // Adds what is gained at each bond to the two parts that it connects.
-fn add_gains(inst: &Instance, least: &Spins, parts: &[u32], gains: &mut [i64])
+fn add_gains(inst: &Instance, least: &Spins, names: &[u32], gains: &mut [i64])
     requires sum { weight inst.now ≤ sum_limit }
     requires assignment { IsAssignment inst.now least.now }
-    requires parts { length parts.now ≡ inst.now.n }
-    requires within { All (λ part. part < inst.now.n) parts.now }
+    requires names { ArePartNames inst.now names.now }
     requires none { gains.old ≡ replicate inst.now.n (pos 0) }
     ensures count { length gains.new ≡ inst.now.n }
-    ensures gains { AreGains inst.now least.now parts.now gains.new }
+    ensures gains { AreGains inst.now least.now names.now gains.new }
 {
     for bond in inst.bonds().as_slice() {
-        let first = parts[bond.u as usize];
-        let second = parts[bond.v as usize];
+        let first = names[bond.u as usize];
+        let second = names[bond.v as usize];
         let gain = gain_at(least, bond, first == second);
         add(gains, first as usize, gain);
         add(gains, second as usize, gain);
@@ -123,24 +132,18 @@ fn add(list: &mut [i64], place: usize, amount: i64)
 }
 
 /// Lowers the upper bound of each bond between two parts to the lesser gain of the two.
-pub(crate) fn note_parts(
-    inst: &Instance,
-    least: &Spins,
-    parts: &[u32],
-    gains: &[i64],
-    bounds: &mut [Bound],
-)
+pub(crate) fn note_parts(inst: &Instance, least: &Spins, parts: &Parts, bounds: &mut [Bound])
     requires ground_state { IsGroundState inst.now least.now }
-    requires parts { length parts.now ≡ inst.now.n }
-    requires within { All (λ part. part < inst.now.n) parts.now }
-    requires count_gains { length gains.now ≡ inst.now.n }
-    requires gains { AreGains inst.now least.now parts.now gains.now }
+    requires parts { AreNamedParts inst.now parts.now }
+    requires gains { AreGains inst.now least.now parts.now.names.items parts.now.gains.items }
     requires count { length bounds.old ≡ bond_count inst.now }
     ensures { Narrows inst.now bounds.old bounds.new }
 {
+    let names = parts.names.as_slice();
+    let gains = parts.gains.as_slice();
     for (k, bond) in inst.bonds().as_slice().iter().enumerate() {
-        let first = parts[bond.u as usize] as usize;
-        let second = parts[bond.v as usize] as usize;
+        let first = names[bond.u as usize] as usize;
+        let second = names[bond.v as usize] as usize;
         let leaves = first != second;
         bounds[k] = noted(bounds[k], leaves, gains[first]);
         bounds[k] = noted(bounds[k], leaves, gains[second]);

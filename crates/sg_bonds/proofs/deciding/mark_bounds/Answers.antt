@@ -24,7 +24,8 @@ loop-k-preserved c =
       narrows = elim (cases_Bool (get_or c.args.marks.now k false)) [
         | inl marked ↦
             narrows_rigid inst c.bonds.ensures.instance c.args.bounds.now bounds c.loop-k.invariant.narrows k low c.marked.result
-            ((c.requires.rigid k low).0 marked) (rw read at (c.marked.ensures.low marked)) (rw (read, fits, c.most_cost-most.ensures) at (c.marked.ensures.high marked))
+            ((c.requires.rigid k low).0 marked) (rw read at (c.marked.ensures.low marked))
+            (rw (read, fits, c.most_cost-most.ensures) at (c.marked.ensures.high marked))
         | inr unmarked ↦
             narrows_cost inst c.args.bounds.now bounds c.loop-k.invariant.narrows k c.marked.result low (pos 0)
             (λ are. free_cost inst c.bonds.ensures.instance c.requires.sum k low (λ rigid. (let other = (c.requires.rigid k low).1 rigid in cc)))
