@@ -1,10 +1,9 @@
 -- A JSON text gives one instance at most or has one refusal at most, and never both.
-use Rattle.std.proofs.Common.{◌≡◌, ◌<◌, ◌≤◌, true, false, List, length, Some, None, ℕ, sym, ap, subst, ◌∙◌, arith}
+use Rattle.std.proofs.Common.{◌≡◌, true, false, List, Some, ℕ, sym, ap, subst, ◌∙◌, arith}
 use Rattle.std.specs.List.{list_all}
 use Rattle.std.proofs.lemmas.Bool.{true≢false}
 use Rattle.std.proofs.lemmas.Option.{none-some, same_Some}
 use Rattle.serde_json.specs.Data.{Data}
-use Rattle.sg_limits.specs.Limits.{json_limit}
 use Rattle.sg_model.specs.declared.refusal.Refusal.{Refusal}
 use Rattle.sg_model.specs.Ising.{Ising}
 use Rattle.sg_model.specs.OneAnswer.{HasOneAnswer}

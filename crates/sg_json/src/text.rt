@@ -1,4 +1,5 @@
-ghost use Rattle.std.specs.Prelude.{◌≡◌};
+ghost use Rattle.std.specs.Prelude.{◌≡◌, ◌≤◌, length};
+ghost use Rattle.std.specs.List.{prefix_len};
 ghost use Rattle.sg_reader.specs.Field.{after_front};
 ghost use Rattle.sg_json.specs.Text.{is_object_text, is_white as is_white_byte, opens as opens_list};
 
@@ -10,14 +11,18 @@ fn is_white(byte: u8) -> bool
     byte == b' ' || byte == b'\t' || byte == b'\r' || byte == b'\n'
 }
 
+// How many bytes of white space a text begins with.
+fn white_before(text: &[u8]) -> usize
+    ensures value { result ≡ prefix_len is_white_byte text.now }
+    ensures within { result ≤ length text.now }
+{
+    text.iter().take_while(|byte| is_white(**byte)).count()
+}
+
 fn after_white(text: &[u8]) -> &[u8]
     ensures { result.now ≡ after_front is_white_byte text.now }
 {
-    let mut start = 0;
-    while start < text.len() && is_white(text[start]) {
-        start += 1;
-    }
-    &text[start..]
+    &text[white_before(text)..]
 }
 
 fn opens(text: &[u8]) -> bool

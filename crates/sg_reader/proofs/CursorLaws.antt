@@ -8,7 +8,7 @@ use Rattle.csv.specs.declared.reader.Reader.{Reader}
 use Rattle.csv.specs.declared.parser.State.{State}
 use Rattle.csv.proofs.ReadFacts.{rows-more, rows-end}
 use Rattle.sg_reader.specs.Cursor.{IsBetweenRecords, records_left}
-use Rattle.sg_reader.proofs.RecordLaws.{ends_at_end-after_record, records_from-some, records_from-none}
+use Rattle.sg_reader.proofs.RecordLaws.{is_read, records_from-some, records_from-none}
 
 known-bytes : {A : Type 0} (o : Option A) → IsSome o → (x : A) × (o ≡ Some x)
 known-bytes None h = absurd (false≢true h)
@@ -19,7 +19,7 @@ first-reached : (s t : State) (xs ys : List ℕ) (row : List (List ℕ)) → end
     → (records_from default_config (length xs + 1) s xs ≡ row ∷ records_from default_config (length ys + 1) t ys) × (ends_at_end t ≡ false)
 unfolding Reached
 first-reached s t xs ys row between (p, next, fields, end) =
-    (rw (fields, ← end.0, ← end.1) (records_from-some s xs p next between), rw (← end.0) (ends_at_end-after_record s [] [] xs p next))
+    (rw (fields, ← end.0, ← end.1) (records_from-some s xs p next between), rw (← end.0) (is_read s [] [] xs p next).between)
 
 none-reached : (s : State) (xs : List ℕ) → Reached default_config s xs [] s xs
 unfolding Reached

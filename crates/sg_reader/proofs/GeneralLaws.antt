@@ -5,6 +5,7 @@ use Rattle.std.specs.List.{range_with_len}
 use Rattle.std.specs.Option.{option_or}
 use Rattle.std.proofs.lemmas.Bool.{cases_eq, eq-eqb, ne_eqb}
 use Rattle.std.proofs.lemmas.List.{length-append, length-set, same_lists, get_or-set_same, get_or-set_other}
+use Rattle.std.proofs.lemmas.Simd.{map-map}
 use Rattle.std.proofs.lemmas.List.Elements.{All-append, All-cons, All-nil, All-same}
 use Rattle.std.proofs.lemmas.List.FromFn.{get_or-map-range_with_len, length-map-range_with_len, map-range_with_len_more}
 use Rattle.sg_model.specs.declared.bond.Bond.{Bond}
@@ -23,7 +24,7 @@ use Rattle.sg_limits.specs.Limits.{bond_limit}
 use Rattle.sg_reader.specs.Kept.{Kept}
 use Rattle.sg_draft.specs.Tests.{Refuses, refuse_if}
 use Rattle.sg_reader.specs.Tests.{any_index, field_count_fault, fields_fault, field_fault, size_in, spin_below}
-use Rattle.sg_reader.specs.Body.{bond_fault, bond_of, bonds_in, darts_in, general_fault, has_rot, instance_of, says_bond, says_end, says_rot, says_rot_of, says_seam, rot_fault, rot_in, sole_list_fault, seam_in, sizes_from}
+use Rattle.sg_reader.specs.Body.{bond_fault, bond_of, bonds_in, general_fault, given_darts, has_rot, instance_of, says_bond, says_end, says_rot, says_rot_of, says_seam, rot_fault, rot_in, sole_list_fault, seam_in, sizes_from}
 use Rattle.sg_reader.proofs.BodyLaws.{given-first, given-other, sole_list_fault-passes, other-word, said-more, said-other, seam_in-first, seam_in-other}
 use Rattle.sg_model.specs.Faults.{OrNoMemory}
 
@@ -77,9 +78,6 @@ pub bonds_in-other : (body : List Kept) (r : Kept) → says_bond r ≡ false →
 unfolding bonds_in
 bonds_in-other body r h = said-other says_bond bond_of body r h
 
-abbrev or_none : Option (List ℕ) → List ℕ
-or_none o = unwrap_or o []
-
 -- a record that is no `rot` of the spin leaves its darts
 rot_in-other : (body : List Kept) (r : Kept) (i : ℕ) → says_rot_of i r ≡ false → rot_in (body ++ r ∷ []) i ≡ rot_in body i
 unfolding rot_in
@@ -121,12 +119,8 @@ other-rot_of r i h other = rw (h, ne_eqb (size_in r 1) i (λ e. other (sym e))) 
 
 -- what is kept behind a record that gives no darts
 darts-kept : (body : List Kept) (r : Kept) (n : ℕ) → says_rot r ≡ false
-    → map (darts_in body) (range_with_len 0 n) ≡ map (darts_in (body ++ r ∷ [])) (range_with_len 0 n)
-darts-kept body r n h = table-same (darts_in body) (darts_in (body ++ r ∷ [])) n (λ i. ap or_none (rot_in-other body r i (no-rot_of r i h)))
-
-marks-kept : (body : List Kept) (r : Kept) (n : ℕ) → says_rot r ≡ false
-    → map (has_rot body) (range_with_len 0 n) ≡ map (has_rot (body ++ r ∷ [])) (range_with_len 0 n)
-marks-kept body r n h = table-same (has_rot body) (has_rot (body ++ r ∷ [])) n (λ i. ap is_some (rot_in-other body r i (no-rot_of r i h)))
+    → map (rot_in body) (range_with_len 0 n) ≡ map (rot_in (body ++ r ∷ [])) (range_with_len 0 n)
+darts-kept body r n h = table-same (rot_in body) (rot_in (body ++ r ∷ [])) n (λ i. rot_in-other body r i (no-rot_of r i h))
 
 bond-tested : (old : GeneralBody) (r : Kept) (m : ℕ) → m ≡ length old.bonds → says_bond r ≡ true → (start : GeneralBody) (body : List Kept)
     → HoldsGeneral start body old → general_fault start.n body r ≡ bond_fault old.n m r
@@ -136,10 +130,9 @@ bond-tested old r m many is start body h =
 
 -- a `bond` is taken
 pub bond-taken : (old new : GeneralBody) (r : Kept) (m : ℕ) → m ≡ length old.bonds → says_bond r ≡ true → bond_fault old.n m r ≡ None
-    → new.n ≡ old.n → new.bonds ≡ old.bonds ++ bond_of r ∷ [] → new.rotation ≡ old.rotation → new.seen.items ≡ old.seen.items
-    → new.seam ≡ old.seam
+    → new.n ≡ old.n → new.bonds ≡ old.bonds ++ bond_of r ∷ [] → new.rotation ≡ old.rotation → new.seam ≡ old.seam
     → IsBond old.n (bond_of r) → m < bond_limit → TakesNext (λ s. general_fault s.n) HoldsGeneral old r new
-bond-taken old new r m many is good same added lists marks cut sound room = record {
+bond-taken old new r m many is good same added lists cut sound room = record {
   passes = λ start body h. bond-tested old r m many is start body h ∙ good;
   goes_on = λ start body h.
       let count = length-append old.bonds (bond_of r ∷ []) in
@@ -153,7 +146,6 @@ bond-taken old new r m many is good same added lists marks cut sound room = reco
         joined = rw same (All-same (IsBond old.n) new.bonds (old.bonds ++ bond_of r ∷ []) added
             (All-append (IsBond old.n) old.bonds (bond_of r ∷ []) h.joined (All-cons (IsBond old.n) (bond_of r) [] sound (All-nil (IsBond old.n)))));
         darts = rw same (lists ∙ h.darts ∙ darts-kept body r old.n (other-word r (codes "bond") (codes "rot") is refl));
-        marks = rw same (marks ∙ h.marks ∙ marks-kept body r old.n (other-word r (codes "bond") (codes "rot") is refl));
         seam = cut ∙ h.seam ∙ sym (seam_in-other body r (other-word r (codes "bond") (codes "seam") is refl));
       };
 }
@@ -167,10 +159,9 @@ bond-refused old r m x many is bad = record { refused = λ start body h. bond-te
 -- what is kept behind a record that gives no bond
 behind-other : (old new : GeneralBody) (start : GeneralBody) (body : List Kept) (r : Kept) → says_bond r ≡ false → new.n ≡ old.n
     → new.bonds ≡ old.bonds
-    → HoldsGeneral start body old → new.rotation ≡ map (darts_in (body ++ r ∷ [])) (range_with_len 0 old.n)
-    → new.seen.items ≡ map (has_rot (body ++ r ∷ [])) (range_with_len 0 old.n) → new.seam ≡ seam_in (body ++ r ∷ [])
+    → HoldsGeneral start body old → new.rotation ≡ map (rot_in (body ++ r ∷ [])) (range_with_len 0 old.n) → new.seam ≡ seam_in (body ++ r ∷ [])
     → HoldsGeneral start (body ++ r ∷ []) new
-behind-other old new start body r other same kept h darts marks cut =
+behind-other old new start body r other same kept h darts cut =
     let count = ap length kept in
     let few = h.few in
     let some = h.some in
@@ -181,7 +172,6 @@ behind-other old new start body r other same kept h darts marks cut =
       few = omega (arith, count, few);
       joined = rw (same, kept) h.joined;
       darts = rw same darts;
-      marks = rw same marks;
       seam = cut;
     }
 
@@ -192,14 +182,12 @@ seam-tested old r seen was is start body h =
 
 -- a `seam` is taken
 pub seam-taken : (old new : GeneralBody) (r : Kept) (seen : Bool) → is_some old.seam ≡ seen → says_seam r ≡ true → sole_list_fault seen r ≡ None
-    → new.n ≡ old.n → new.bonds ≡ old.bonds → new.rotation ≡ old.rotation → new.seen.items ≡ old.seen.items
-    → new.seam ≡ Some (sizes_from r 1)
+    → new.n ≡ old.n → new.bonds ≡ old.bonds → new.rotation ≡ old.rotation → new.seam ≡ Some (sizes_from r 1)
     → TakesNext (λ s. general_fault s.n) HoldsGeneral old r new
-seam-taken old new r seen was is good same kept lists marks cut = record {
+seam-taken old new r seen was is good same kept lists cut = record {
   passes = λ start body h. seam-tested old r seen was is start body h ∙ good;
   goes_on = λ start body h. behind-other old new start body r (other-word r (codes "seam") (codes "bond") is refl) same kept h
       (lists ∙ h.darts ∙ darts-kept body r old.n (other-word r (codes "seam") (codes "rot") is refl))
-      (marks ∙ h.marks ∙ marks-kept body r old.n (other-word r (codes "seam") (codes "rot") is refl))
       (cut ∙ sym (seam_in-first body r (ap is_some (sym h.seam) ∙ was ∙ sole_list_fault-passes seen r good) is));
 }
 
@@ -208,42 +196,41 @@ pub seam-refused : (old : GeneralBody) (r : Kept) (seen : Bool) (e : Fault) → 
     → OrNoMemory (Refuses (sole_list_fault seen r)) e → RefusesNext (λ s. general_fault s.n) HoldsGeneral old r e
 seam-refused old r seen e was is bad = record { refused = λ start body h. rw (seam-tested old r seen was is start body h) bad }
 
--- the entry of a spin among the marks
-mark-of : (start : GeneralBody) (body : List Kept) (state : GeneralBody) (i : ℕ) (d : Bool) → HoldsGeneral start body state → i < state.n →
-    get_or state.seen.items i d ≡ has_rot body i
-mark-of start body state i d h inside = ap (λ (l : List Bool). get_or l i d) h.marks
-    ∙ get_or-map-range_with_len (has_rot body) 0 state.n i i d inside (omega arith)
+-- what is kept of a spin
+rot-of : (start : GeneralBody) (body : List Kept) (state : GeneralBody) (i : ℕ) (d : Option (List ℕ)) → HoldsGeneral start body state → i < state.n
+    → get_or state.rotation i d ≡ rot_in body i
+rot-of start body state i d h inside = ap (λ (l : List (Option (List ℕ))). get_or l i d) h.darts
+    ∙ get_or-map-range_with_len (rot_in body) 0 state.n i i d inside (omega arith)
 
-rot-tested : (old : GeneralBody) (r : Kept) (seen d : Bool) → get_or old.seen.items (size_in r 1) d ≡ seen → size_in r 1 < old.n → says_rot r ≡ true
+rot-tested : (old : GeneralBody) (r : Kept) (seen : Bool) (d : Option (List ℕ)) → is_some (get_or old.rotation (size_in r 1) d) ≡ seen
+    → size_in r 1 < old.n → says_rot r ≡ true
     → (start : GeneralBody) (body : List Kept) → HoldsGeneral start body old → general_fault start.n body r ≡ rot_fault old.n seen r
 rot-tested old r seen d was inside is start body h =
-    general_fault-rot start.n body r is ∙ ap (λ (b : Bool). rot_fault start.n b r) (sym (mark-of start body old (size_in r 1) d h inside) ∙ was)
+    general_fault-rot start.n body r is
+    ∙ ap (λ (b : Bool). rot_fault start.n b r) (sym (ap is_some (rot-of start body old (size_in r 1) d h inside)) ∙ was)
     ∙ ap (λ (k : ℕ). rot_fault k seen r) (sym h.spins)
 
 -- a `rot` is taken
-pub rot-taken : (old new : GeneralBody) (r : Kept) (d : Bool) → get_or old.seen.items (size_in r 1) d ≡ false → size_in r 1 < old.n
-    → says_rot r ≡ true
+pub rot-taken : (old new : GeneralBody) (r : Kept) (d : Option (List ℕ)) → is_some (get_or old.rotation (size_in r 1) d) ≡ false
+    → size_in r 1 < old.n → says_rot r ≡ true
     → rot_fault old.n false r ≡ None → new.n ≡ old.n → new.bonds ≡ old.bonds → new.seam ≡ old.seam
-    → new.rotation ≡ set old.rotation (size_in r 1) (sizes_from r 2) → new.seen.items ≡ set old.seen.items (size_in r 1) true
-    → TakesNext (λ s. general_fault s.n) HoldsGeneral old r new
-rot-taken old new r d was inside is good same kept cut lists marks = record {
+    → new.rotation ≡ set old.rotation (size_in r 1) (Some (sizes_from r 2)) → TakesNext (λ s. general_fault s.n) HoldsGeneral old r new
+rot-taken old new r d was inside is good same kept cut lists = record {
   passes = λ start body h. rot-tested old r false d was inside is start body h ∙ good;
   goes_on = λ start body h.
       let s = size_in r 1 in
-      let now = rot_in-own body r s (own-rot_of r is) (sym (mark-of start body old s d h inside) ∙ was) in
+      let now = rot_in-own body r s (own-rot_of r is) (sym (ap is_some (rot-of start body old s d h inside)) ∙ was) in
       behind-other old new start body r (other-word r (codes "rot") (codes "bond") is refl) same kept h
-      (lists ∙ ap (λ (l : List (List ℕ)). set l s (sizes_from r 2)) h.darts
-      ∙ table-set (darts_in body) (darts_in (body ++ r ∷ [])) old.n s (sizes_from r 2) inside (ap or_none now)
-      (λ i other. ap or_none (rot_in-other body r i (other-rot_of r i is other))))
-      (marks ∙ ap (λ (l : List Bool). set l s true) h.marks
-      ∙ table-set (has_rot body) (has_rot (body ++ r ∷ [])) old.n s true inside (ap is_some now)
-      (λ i other. ap is_some (rot_in-other body r i (other-rot_of r i is other))))
+      (lists ∙ ap (λ (l : List (Option (List ℕ))). set l s (Some (sizes_from r 2))) h.darts
+      ∙ table-set (rot_in body) (rot_in (body ++ r ∷ [])) old.n s (Some (sizes_from r 2)) inside now
+      (λ i other. rot_in-other body r i (other-rot_of r i is other)))
       (cut ∙ h.seam ∙ sym (seam_in-other body r (other-word r (codes "rot") (codes "seam") is refl)));
 }
 
 -- a second `rot` of a spin is refused
-pub rot-refused : (old : GeneralBody) (r : Kept) (d : Bool) (x : Refusal) → get_or old.seen.items (size_in r 1) d ≡ true → size_in r 1 < old.n
-    → says_rot r ≡ true → rot_fault old.n true r ≡ Some x → RefusesNext (λ s. general_fault s.n) HoldsGeneral old r (Refused x)
+pub rot-refused : (old : GeneralBody) (r : Kept) (d : Option (List ℕ)) (x : Refusal) → is_some (get_or old.rotation (size_in r 1) d) ≡ true
+    → size_in r 1 < old.n → says_rot r ≡ true → rot_fault old.n true r ≡ Some x
+    → RefusesNext (λ s. general_fault s.n) HoldsGeneral old r (Refused x)
 rot-refused old r d x was inside is bad = record { refused = λ start body h. rot-tested old r true d was inside is start body h ∙ bad }
 
 -- a `rot` is refused for a number, whether its spin was seen or not
@@ -261,34 +248,29 @@ pub other-refused : (old : GeneralBody) (r : Kept) → says_bond r ≡ false →
     → RefusesNext (λ s. general_fault s.n) HoldsGeneral old r (Refused (UnknownKind r.at))
 other-refused old r a b c d = record { refused = λ start body h. general_fault-other start.n body r a b c d }
 
--- how many lists and marks there are
+-- how many lists there are
 pub lists-count : (start : GeneralBody) (body : List Kept) (state : GeneralBody) → HoldsGeneral start body state → length state.rotation ≡ state.n
-lists-count start body state h = ap length h.darts ∙ length-map-range_with_len (darts_in body) 0 state.n
+lists-count start body state h = ap length h.darts ∙ length-map-range_with_len (rot_in body) 0 state.n
 
--- a spin has its place among the lists, and among the marks
+-- a spin has its place among them
 pub among-lists : (state : GeneralBody) (i : ℕ) → HoldsSome HoldsGeneral state → i < state.n → i < length state.rotation
 among-lists state i h inside = let count = lists-count h.start h.body state h.held in omega (arith, count, inside)
-
-pub among-marks : (state : GeneralBody) (i : ℕ) → HoldsSome HoldsGeneral state → i < state.n → i < length state.seen.items
-among-marks state i h inside =
-    let count = ap length h.held.marks ∙ length-map-range_with_len (has_rot h.body) 0 state.n in
-    omega (arith, count, inside)
 
 -- the instance that is kept
 pub instance-general : (start : GeneralBody) (body : List Kept) (state : GeneralBody) (seam : List ℕ) → HoldsGeneral start body state
     → seam ≡ unwrap_or state.seam []
-    → record { n = state.n; bonds = state.bonds; rotation = state.rotation; seam = seam } ≡ instance_of (header.General start.n) body
+    → record { n = state.n; bonds = state.bonds; rotation = map given_darts state.rotation; seam = seam } ≡ instance_of (header.General start.n) body
 unfolding instance_of
 instance-general start body state seam h cut =
-    let same : seam ≡ unwrap_or (seam_in body) [] = cut ∙ ap or_none h.seam in
-    rw (← h.spins) (λ i. record { n = state.n; bonds = h.bonds i; rotation = h.darts i; seam = same i })
+    let same : seam ≡ unwrap_or (seam_in body) [] = cut ∙ ap given_darts h.seam in
+    let laid = ap (map given_darts) h.darts ∙ map-map given_darts (rot_in body) (range_with_len 0 state.n) in
+    rw (← h.spins) (λ i. record { n = state.n; bonds = h.bonds i; rotation = laid i; seam = same i })
 
 -- nothing was read yet
 pub holds-none : (state : GeneralBody) → 1 ≤ state.n → state.bonds ≡ [] → state.seam ≡ None
-    → state.rotation ≡ map (darts_in []) (range_with_len 0 state.n) → state.seen.items ≡ map (has_rot []) (range_with_len 0 state.n)
-    → HoldsGeneral state [] state
+    → state.rotation ≡ map (rot_in []) (range_with_len 0 state.n) → HoldsGeneral state [] state
 unfolding bonds_in seam_in
-holds-none state some none cut darts marks =
+holds-none state some none cut darts =
     let count = ap length none in
     record {
       spins = refl;
@@ -297,21 +279,15 @@ holds-none state some none cut darts marks =
       few = omega (arith, count);
       joined = All-same (IsBond state.n) state.bonds [] none (All-nil (IsBond state.n));
       darts = darts;
-      marks = marks;
       seam = cut;
     }
 
 -- one more spin without darts
-pub no_darts-more : (lists : List (List ℕ)) (i : ℕ) → lists ≡ map (darts_in []) (range_with_len 0 i)
-    → lists ++ [] ∷ [] ≡ map (darts_in []) (range_with_len 0 (i + 1))
+pub no_darts-more : (lists : List (Option (List ℕ))) (i : ℕ) → lists ≡ map (rot_in []) (range_with_len 0 i)
+    → lists ++ None ∷ [] ≡ map (rot_in []) (range_with_len 0 (i + 1))
 unfolding rot_in
-no_darts-more lists i h = ap (λ (l : List (List ℕ)). l ++ [] ∷ []) h ∙ sym (map-range_with_len_more (darts_in []) 0 i i (omega arith))
-
--- before the first record no spin has a `rot`, one spin more
-pub no_marks-more : (marks : List Bool) (i : ℕ) → marks ≡ map (has_rot []) (range_with_len 0 i)
-    → marks ++ false ∷ [] ≡ map (has_rot []) (range_with_len 0 (i + 1))
-unfolding rot_in
-no_marks-more marks i h = ap (λ (l : List Bool). l ++ false ∷ []) h ∙ sym (map-range_with_len_more (has_rot []) 0 i i (omega arith))
+no_darts-more lists i h =
+    ap (λ (l : List (Option (List ℕ))). l ++ None ∷ []) h ∙ sym (map-range_with_len_more (rot_in []) 0 i i (omega arith))
 
 -- a general instance whose records were taken up to the `end`
 module _ (n : ℕ) (start : GeneralBody) (all : List Kept) (now : GeneralBody) (last : Kept) (rest : List Kept)

@@ -1,14 +1,14 @@
 -- Records are read up to one end at most, or are refused at one record at most, and never both; over any table of tests.
-use Rattle.std.proofs.Common.{◌≡◌, ◌⊎◌, inl, inr, suc, true, false, List, [], ◌∷◌, ◌++◌, drop, get_or, Some, None, refl, sym, ap, ap₂, subst, ◌∙◌, arith}
-use Rattle.std.proofs.lemmas.Bool.{true≢false}
-use Rattle.std.proofs.lemmas.List.Elements.{All-head, All-tail}
-use Rattle.std.proofs.lemmas.Option.{none-some, same_Some}
+use Rattle.std.proofs.Common.{◌≡◌, ◌⊎◌, inl, inr, ℕ, zero, suc, ◌+◌, ◌<◌, Bool, List, [], ◌∷◌, ◌++◌, length, take, drop, get_or, Option, Some, None, refl, sym, ap, ◌∙◌, arith, append-nil, drop-cons}
+use Rattle.std.specs.Prelude.{cond}
+use Rattle.std.proofs.Math.Seq.{drop-length, take-length}
+use Rattle.std.proofs.lemmas.List.{take_more}
 use Rattle.sg_model.specs.declared.refusal.Refusal.{Refusal}
-use Rattle.sg_model.specs.declared.refusal.Refusal.TheVariants.{Trailing}
+use Rattle.sg_model.specs.declared.refusal.Refusal.TheVariants.{Trailing, Unended}
 use Rattle.sg_model.specs.OneAnswer.{HasOneAnswer}
 use Rattle.sg_reader.specs.Kept.{Kept}
 use Rattle.sg_reader.specs.Body.{says_end}
-use Rattle.sg_reader.specs.Ended.{AtRecord, AtTrailing, IsBody, Leaving, RefusesAlone, RefusesRecords, StatesToEnd, TestTable, WhileRead, WithoutEnd}
+use Rattle.sg_reader.specs.Ended.{AtRecord, AtTrailing, IsBody, Leaving, RefusesAlone, RefusesRecords, StatesToEnd, TestTable, WhileRead, WithoutEnd, record_at}
 
 -- pairs with the same parts
 pub pair-same : {X Y : Type 0} (p q : X × Y) → p.0 ≡ q.0 → p.1 ≡ q.1 → p ≡ q
@@ -21,120 +21,57 @@ first-same x y xs ys same = ap (λ l. get_or l 0 x) same
 pub others-same : {X : Type 0} (x y : X) (xs ys : List X) → x ∷ xs ≡ y ∷ ys → xs ≡ ys
 others-same x y xs ys same = ap (drop 1) same
 
--- a record stops a reading: it is an `end`, or it fails its test
-abbrev pub IsStop : TestTable → List Kept → Kept → Type 0
-IsStop fault body r = (says_end r ≡ true) ⊎ ((x : Refusal) × (fault body r ≡ Some x))
-
--- the reading of the records stops at this one, and not before
-pub record Stops (fault : TestTable) (records body : List Kept) (r : Kept) (rest : List Kept) : Type 0 where
-  pub split : records ≡ body ++ r ∷ rest
-  pub is_body : IsBody fault body
-  pub stop : IsStop fault body r
-
--- what is known of a first record that stops nothing, and of those behind it
-pub record GoesOn (fault : TestTable) (q : Kept) (body : List Kept) : Type 0 where
-  pub other : says_end q ≡ false
-  pub passes : fault [] q ≡ None
-  pub behind : IsBody (λ front. fault (q ∷ front)) body
-
-pub first-goes_on : (fault : TestTable) (q : Kept) (body : List Kept) → IsBody fault (q ∷ body) → GoesOn fault q body
-first-goes_on fault q body h = record {
-  other = All-head (λ (r : Kept). says_end r ≡ false) q body h.goes_on;
-  passes = h.passes 0 (omega arith);
-  behind = record {
-    goes_on = All-tail (λ (r : Kept). says_end r ≡ false) q body h.goes_on;
-    passes = λ k inside. h.passes (suc k) (omega (arith, inside));
-  };
+-- where one outcome tells both what is given and what is refused there is one answer at most
+pub one-outcome : {A B : Type 0} (Gives : A → Type 0) (Refuses : B → Type 0) (outcome : A ⊎ B) → ((x : A) → Gives x → outcome ≡ inl x)
+    → ((r : B) → Refuses r → outcome ≡ inr r) → HasOneAnswer Gives Refuses
+one-outcome {A} {B} Gives Refuses outcome given refused = record {
+  apart = λ x r p q. (let e : inl x ≡ inr r = sym (given x p) ∙ refused r q in cc e);
+  one = λ x y p q. (let e : ◌≡◌ {A = A ⊎ B} (inl x) (inl y) = sym (given x p) ∙ given y q in cc e);
+  named = λ r s p q. (let e : ◌≡◌ {A = A ⊎ B} (inr r) (inr s) = sym (refused r p) ∙ refused s q in cc e);
 }
 
--- so it is no stop
-first-no_stop : (fault : TestTable) (p q : Kept) (body : List Kept) → p ≡ q → IsStop fault [] p → IsBody fault (q ∷ body) → ⊥
-first-no_stop fault p q body same (inl end) h = true≢false (sym end ∙ ap says_end same ∙ (first-goes_on fault q body h).other)
-first-no_stop fault p q body same (inr bad) h = none-some bad.0 (sym (first-goes_on fault q body h).passes ∙ ap (fault []) (sym same) ∙ bad.1)
+-- how a reading ends, behind a body: what the body states if the next record is an `end` that passes, or the first refusal
+module _ {X : Type 0} (fault : TestTable) (stated : List Kept → X) where
+  abbrev Outcome : Type 0
+  Outcome = (X × List Kept) ⊎ (Refusal × List Kept)
 
--- the same stop, one record later
-stop-behind : (fault : TestTable) (records : List Kept) (q : Kept) (body : List Kept) (r : Kept) (rest : List Kept) → Stops fault records (q ∷ body) r rest
-    → Stops (λ front. fault (q ∷ front)) (drop 1 records) body r rest
-stop-behind fault records q body r rest x = record {
-  split = ap (drop 1) x.split;
-  is_body = (first-goes_on fault q body x.is_body).behind;
-  stop = x.stop;
-}
+  abbrev tested : Option Refusal → Bool → List Kept → List Kept → Outcome → Outcome
+  tested (Some x) end body rest more = inr (x, rest)
+  tested None end body rest more = cond end (inl (stated body, rest)) more
 
--- a reading stops at one record
-pub record IsSameStop (a b : List Kept) (p q : Kept) (after behind : List Kept) : Type 0 where
-  pub body : a ≡ b
-  pub at : p ≡ q
-  pub rest : after ≡ behind
+  abbrev outcome : List Kept → List Kept → Outcome
+  outcome body [] = inr (Unended, [])
+  outcome body (r ∷ rest) = tested (fault body r) (says_end r) body rest (outcome (body ++ r ∷ []) rest)
 
-pub stops-once : (fault : TestTable) (records a b : List Kept) (p q : Kept) (after behind : List Kept) → Stops fault records a p after
-    → Stops fault records b q behind → IsSameStop a b p q after behind
-stops-once fault records [] [] p q after behind x y =
-    let same : p ∷ after ≡ q ∷ behind = sym x.split ∙ y.split in
-    record { body = refl; at = first-same p q after behind same; rest = others-same p q after behind same }
-stops-once fault records [] (s ∷ b) p q after behind x y =
-    absurd (first-no_stop fault p s b (first-same p s after (b ++ q ∷ behind) (sym x.split ∙ y.split)) x.stop y.is_body)
-stops-once fault records (r ∷ a) [] p q after behind x y =
-    absurd (first-no_stop fault q r a (first-same q r behind (a ++ p ∷ after) (sym y.split ∙ x.split)) y.stop x.is_body)
-stops-once fault records (r ∷ a) (s ∷ b) p q after behind x y =
-    let same : s ≡ r = first-same s r (b ++ q ∷ behind) (a ++ p ∷ after) (sym y.split ∙ x.split) in
-    let later = stops-once (λ front. fault (r ∷ front)) (drop 1 records) a b p q after behind (stop-behind fault records r a p after x)
-    (stop-behind fault records r b q behind (subst (λ (t : Kept). Stops fault records (t ∷ b) q behind) same y)) in
-    record { body = ap₂ (λ (t : Kept) (l : List Kept). t ∷ l) (sym same) later.body; at = later.at; rest = later.rest }
+  -- a body that passes is read on
+  walked : (body tail : List Kept) → IsBody fault body → (gap k : ℕ) → k + gap ≡ length body
+      → outcome (take k body) (drop k body ++ tail) ≡ outcome body tail
+  walked body tail h zero k e =
+      let end : k ≡ length body = omega (arith, e) in
+      rw (end, take-length body, drop-length body) refl
+  walked body tail h (suc gap) k e =
+      let none : Kept = record { at = 0; fields = [] } in
+      let inside : k < length body = omega (arith, e) in
+      let good = h.passes k inside in
+      let other = h.goes_on k none inside in
+      let one : k + 1 ≡ suc k = omega arith in
+      let more : take (suc k) body ≡ take k body ++ record_at body k ∷ [] = rw one at (take_more body k none inside) in
+      rw (drop-cons body k none inside) (rw (good, other, ← more) (walked body tail h gap (suc k) (omega (arith, e))))
 
--- records none of which is a stop are read without one
-pub stops-never : (fault : TestTable) (records body : List Kept) (r : Kept) (rest : List Kept) → IsBody fault records →
-    Stops fault records body r rest → ⊥
-stops-never fault records [] r rest good x = first-no_stop fault r r rest refl x.stop (subst (λ (l : List Kept). IsBody fault l) x.split good)
-stops-never fault records (q ∷ body) r rest good x =
-    stops-never (λ front. fault (q ∷ front)) (body ++ r ∷ rest) body r rest
-    (first-goes_on fault q (body ++ r ∷ rest) (subst (λ (l : List Kept). IsBody fault l) x.split good)).behind
-    (record { split = refl; is_body = (first-goes_on fault q body x.is_body).behind; stop = x.stop })
+  read-on : (records body tail : List Kept) → IsBody fault body → records ≡ body ++ tail → outcome [] records ≡ outcome body tail
+  read-on records body tail h split = ap (outcome []) split ∙ walked body tail h (length body) 0 (omega arith)
 
--- an `end` is a stop, and so is a record that is refused
-states-stop : {X : Type 0} (fault : TestTable) (stated : List Kept → X) (records : List Kept) (x : X) (rest : List Kept)
-    → (s : StatesToEnd fault stated records x rest) → Stops fault records s.body s.last rest
-states-stop fault stated records x rest s = record { split = s.ended.split; is_body = s.ended.is_body; stop = inl s.ended.ends }
-
-refused-stop : (fault : TestTable) (records body : List Kept) (q : Kept) (r : Refusal) (rest : List Kept) →
-    records ≡ body ++ q ∷ rest → IsBody fault body
-    → fault body q ≡ Some r → Stops fault records body q rest
-refused-stop fault records body q r rest split is_body bad = record { split = split; is_body = is_body; stop = inr (r, bad) }
-
--- records up to an `end` have one answer at most
-pub records-one_answer : {X : Type 0} (fault : TestTable) (stated : List Kept → X) (records : List Kept)
-    → HasOneAnswer (Leaving (StatesToEnd fault stated records)) (Leaving (RefusesRecords fault records))
-records-one_answer {X} fault stated records = record {
-  apart = λ p r given bad. apart p.0 p.1 r.0 r.1 given bad;
-  one = λ p q given other. one p q given other;
-  named = λ r s bad other. named r s bad other;
-}
-  where
-    apart : (x : X) (rest : List Kept) (r : Refusal) (more : List Kept) → StatesToEnd fault stated records x rest →
-        RefusesRecords fault records r more → ⊥
-    apart x rest r more given (AtRecord body q split is_body bad) =
-        let same = stops-once fault records given.body body given.last q rest more (states-stop fault stated records x rest given)
-        (refused-stop fault records body q r more split is_body bad) in
-        none-some r (sym given.passes ∙ ap₂ fault same.body same.at ∙ bad)
-    apart x rest r more given (WithoutEnd is_body unended none) =
-        stops-never fault records given.body given.last rest is_body (states-stop fault stated records x rest given)
-
-    one : (p q : X × List Kept) → StatesToEnd fault stated records p.0 p.1 → StatesToEnd fault stated records q.0 q.1 → p ≡ q
-    one p q given other =
-        let same = stops-once fault records given.body other.body given.last other.last p.1 q.1 (states-stop fault stated records p.0 p.1 given)
-        (states-stop fault stated records q.0 q.1 other) in
-        pair-same p q (given.value ∙ ap stated same.body ∙ sym other.value) same.rest
-
-    named : (r s : Refusal × List Kept) → RefusesRecords fault records r.0 r.1 → RefusesRecords fault records s.0 s.1 → r ≡ s
-    named r s (AtRecord a p split is_body bad) (AtRecord b q split2 is_body2 bad2) =
-        let same = stops-once fault records a b p q r.1 s.1 (refused-stop fault records a p r.0 r.1 split is_body bad)
-        (refused-stop fault records b q s.0 s.1 split2 is_body2 bad2) in
-        pair-same r s (same_Some r.0 s.0 (sym bad ∙ ap₂ fault same.body same.at ∙ bad2)) same.rest
-    named r s (AtRecord a p split is_body bad) (WithoutEnd good unended none) =
-        absurd (stops-never fault records a p r.1 good (refused-stop fault records a p r.0 r.1 split is_body bad))
-    named r s (WithoutEnd good unended none) (AtRecord b q split is_body bad) =
-        absurd (stops-never fault records b q s.1 good (refused-stop fault records b q s.0 s.1 split is_body bad))
-    named r s (WithoutEnd good unended none) (WithoutEnd good2 unended2 none2) = pair-same r s (unended ∙ sym unended2) (none ∙ sym none2)
+  -- records up to an `end` have one answer at most
+  pub records-one_answer : (records : List Kept) → HasOneAnswer (Leaving (StatesToEnd fault stated records)) (Leaving (RefusesRecords fault records))
+  records-one_answer records = one-outcome (Leaving (StatesToEnd fault stated records)) (Leaving (RefusesRecords fault records)) (outcome [] records)
+      (λ p given. read-on records given.body (given.last ∷ p.1) given.ended.is_body given.ended.split
+      ∙ rw (given.passes, given.ended.ends) (ap (λ (x : X). inl (x, p.1)) (sym given.value)))
+      (λ r bad. refused r bad)
+    where
+      refused : (r : Refusal × List Kept) → RefusesRecords fault records r.0 r.1 → outcome [] records ≡ inr r
+      refused r (AtRecord body q split is_body bad) = read-on records body (q ∷ r.1) is_body split ∙ rw bad refl
+      refused r (WithoutEnd is_body unended none) =
+          read-on records records [] is_body (sym (append-nil records)) ∙ ap inr (pair-same (Unended, []) r (sym unended) (sym none))
 
 -- and so have those behind which none may stand
 pub alone-one_answer : {X : Type 0} (reads : X → List Kept → Type 0) (refuses : Refusal → List Kept → Type 0)

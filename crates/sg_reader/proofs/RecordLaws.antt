@@ -1,44 +1,15 @@
 -- The records of a text, one after the other.
-use Rattle.std.proofs.Common.{◌≡◌, ℕ, zero, suc, ◌+◌, ◌<◌, ◌≤◌, Bool, true, false, List, [], ◌∷◌, length, Option, Some, None, refl, sym, ap, ◌∙◌, arith, inl, inr}
+use Rattle.std.proofs.Common.{◌≡◌, ℕ, zero, suc, ◌+◌, ◌-◌, ◌<◌, ◌≤◌, Bool, true, false, List, [], ◌∷◌, length, Option, Some, None, refl, ap, ◌∙◌, arith, inl, inr}
 use Rattle.std.specs.Prelude.{◌||◌, ◌==◌, cond}
 use Rattle.std.proofs.lemmas.Bool.{cases_Bool, false≢true}
+use Rattle.std.proofs.lemmas.List.{length-append}
 use Rattle.std.proofs.lemmas.Option.{none-some, same_Some}
 use Rattle.csv.specs.Machine.{Read, ends_at_end, field_after, fields_after, in_field, is_end, next_record, start_field, start_record, step}
 use Rattle.csv.specs.Reading.{default_config, records_from, records_next}
-use Rattle.csv.specs.declared.parser.Config.{Config}
 use Rattle.csv.specs.declared.parser.Action.{Action}
 use Rattle.csv.specs.declared.parser.Action.TheVariants as act
 use Rattle.csv.specs.declared.parser.State.{State}
 use Rattle.csv.specs.declared.parser.State.TheVariants as st
-
--- the end of a text ends its last record
-last-record : (cfg : Config) (s : State) (fields : List (List ℕ)) (field : List ℕ) (r : Read)
-    → next_record cfg s fields field [] ≡ Some r → (r.1 ≡ st.StartRecord) × (r.2 ≡ [])
-unfolding next_record
-last-record cfg s fields field r h = elim (cases_Bool (ends_at_end s)) [
-  | inl e ↦
-      let same = same_Some _ _ (rw e at h) in
-      (ap (λ (q : Read). q.1) (sym same), ap (λ (q : Read). q.2) (sym same))
-  | inr e ↦ absurd (none-some r (rw e at h))
-]
-
--- a record takes at least one byte
-pub length-after_record : (cfg : Config) (s : State) (fields : List (List ℕ)) (field : List ℕ) (c : ℕ) (rest : List ℕ) (r : Read)
-    → next_record cfg s fields field (c ∷ rest) ≡ Some r → length r.2 ≤ length rest
-unfolding next_record
-length-after_record cfg s fields field c [] r h = elim (cases_Bool (is_end (step cfg s c).1)) [
-  | inl e ↦ let same = same_Some _ _ (rw e at h) in rw (← same) (omega arith)
-  | inr e ↦
-      let last = last-record cfg (step cfg s c).0 (fields_after (step cfg s c).1 fields field) (field_after (step cfg s c).1 c field) r (rw e at h) in
-      rw last.1 (omega arith)
-]
-length-after_record cfg s fields field c (d ∷ rest) r h = elim (cases_Bool (is_end (step cfg s c).1)) [
-  | inl e ↦ let same = same_Some _ _ (rw e at h) in rw (← same) (omega arith)
-  | inr e ↦
-      let more = length-after_record cfg (step cfg s c).0 (fields_after (step cfg s c).1 fields field) (field_after (step cfg s c).1 c field) d rest r
-      (rw e at h) in
-      omega arith
-]
 
 -- a step that ends a record leads to a place between two
 abbrev EndsBetween : State × Action → Type 0
@@ -72,40 +43,72 @@ between-step st.AfterQuote c = either-step (c == 34) _ _ (λ h. absurd (false≢
 between-step st.InComment c = either-step (c == 10) _ _ (λ h. absurd (false≢true h)) (λ h. absurd (false≢true h))
 between-step st.AfterCr c = either-step (c == 10) _ _ (λ h. absurd (false≢true h)) (between-start_record c)
 
--- a record is read up to a place between two records
-pub ends_at_end-after_record : (s : State) (fields : List (List ℕ)) (field xs : List ℕ) (r : Read)
-    → next_record default_config s fields field xs ≡ Some r → ends_at_end r.1 ≡ false
+-- a step adds one field at most
+length-fields_after : (a : Action) (fields : List (List ℕ)) (field : List ℕ) → length (fields_after a fields field) ≤ length fields + 1
+length-fields_after act.EndField fields field = let n = length-append fields (field ∷ []) in omega (arith, n)
+length-fields_after act.Skip fields field = omega arith
+length-fields_after act.Copy fields field = omega arith
+length-fields_after act.EndRecord fields field = let n = length-append fields (field ∷ []) in omega (arith, n)
+
+-- how many fields a text may have from a place between two records on: one more than bytes, and none if there is no byte
+abbrev pub most_fields : List ℕ → ℕ
+most_fields [] = 0
+most_fields (c ∷ rest) = length rest + 2
+
+-- so one more than bytes at most
+pub most_fields-le : (xs : List ℕ) → most_fields xs ≤ length xs + 1
+most_fields-le [] = omega arith
+most_fields-le (c ∷ rest) = omega arith
+
+-- a record is read up to a place between two, takes a byte if there is one, and leaves room for the fields behind it
+pub record IsRead (fields : List (List ℕ)) (xs : List ℕ) (r : Read) : Type 0 where
+  pub between : ends_at_end r.1 ≡ false
+  pub less : length r.2 ≤ length xs - 1
+  pub few : length r.0 + most_fields r.2 ≤ length fields + length xs + 1
+
+pub is_read : (s : State) (fields : List (List ℕ)) (field xs : List ℕ) (r : Read) → next_record default_config s fields field xs ≡ Some r
+    → IsRead fields xs r
 unfolding next_record
-ends_at_end-after_record s fields field [] r h = rw (last-record default_config s fields field r h).0 refl
-ends_at_end-after_record s fields field (c ∷ rest) r h = elim (cases_Bool (is_end (step default_config s c).1)) [
-  | inl e ↦ let same = same_Some _ _ (rw e at h) in rw (← same) (between-step s c e)
-  | inr e ↦ ends_at_end-after_record (step default_config s c).0 (fields_after (step default_config s c).1 fields field)
-      (field_after (step default_config s c).1 c field) rest r (rw e at h)
+is_read s fields field [] r h = elim (cases_Bool (ends_at_end s)) [
+  | inl e ↦
+      let same = same_Some _ _ (rw e at h) in
+      let n = length-append fields (field ∷ []) in
+      rw (← same) (record { between = refl; less = omega arith; few = omega (arith, n) })
+  | inr e ↦ absurd (none-some r (rw e at h))
 ]
+is_read s fields field (c ∷ rest) r h =
+    let n = length-fields_after (step default_config s c).1 fields field in
+    elim (cases_Bool (is_end (step default_config s c).1)) [
+      | inl e ↦
+          let same = same_Some _ _ (rw e at h) in
+          rw (← same) (record { between = between-step s c e; less = omega arith; few = omega (arith, n, most_fields-le rest) })
+      | inr e ↦
+          let more = is_read (step default_config s c).0 (fields_after (step default_config s c).1 fields field)
+          (field_after (step default_config s c).1 c field) rest r (rw e at h) in
+          record { between = more.between; less = omega (arith, more.less); few = omega (arith, n, more.few) }
+    ]
 
 -- what is left is shorter
-pub shorter-after_record : (s : State) (xs : List ℕ) (r : Read)
-    → next_record default_config s [] [] xs ≡ Some r → ends_at_end s ≡ false → length r.2 < length xs
+shorter-after_record : (s : State) (xs : List ℕ) (r : Read) → next_record default_config s [] [] xs ≡ Some r → ends_at_end s ≡ false
+    → length r.2 < length xs
 unfolding next_record
 shorter-after_record s [] r h between = absurd (none-some r (rw between at h))
-shorter-after_record s (c ∷ rest) r h between = let most = length-after_record default_config s [] [] c rest r h in omega arith
+shorter-after_record s (c ∷ rest) r h between = let read = is_read s [] [] (c ∷ rest) r h in omega (arith, read.less)
 
 -- the bound on the number of records does not matter
-pub records_from-enough : (m n : ℕ) (s : State) (xs : List ℕ) → ends_at_end s ≡ false → length xs < m → length xs < n
+records_from-enough : (m n : ℕ) (s : State) (xs : List ℕ) → ends_at_end s ≡ false → length xs < m → length xs < n
     → records_from default_config m s xs ≡ records_from default_config n s xs
 unfolding records_from
 records_from-enough zero n s xs between a b = absurd (omega arith)
 records_from-enough (suc m) zero s xs between a b = absurd (omega arith)
-records_from-enough (suc m) (suc n) s xs between a b = by (next_record default_config s [] [] xs) refl (λ r e.
+records_from-enough (suc m) (suc n) s xs between a b = by (next_record default_config s [] [] xs) (λ r e.
     let less = shorter-after_record s xs r e between in
-    records_from-enough m n r.1 r.2 (ends_at_end-after_record s [] [] xs r e) (omega arith) (omega arith))
+    records_from-enough m n r.1 r.2 (is_read s [] [] xs r e).between (omega arith) (omega arith))
   where
-    by : (o : Option Read) → next_record default_config s [] [] xs ≡ o
-        → ((r : Read) → next_record default_config s [] [] xs ≡ Some r →
-        records_from default_config m r.1 r.2 ≡ records_from default_config n r.1 r.2)
+    by : (o : Option Read) → ((r : Read) → o ≡ Some r → records_from default_config m r.1 r.2 ≡ records_from default_config n r.1 r.2)
         → records_next (records_from default_config m) o ≡ records_next (records_from default_config n) o
-    by None e more = refl
-    by (Some r) e more = ap (λ (t : List (List (List ℕ))). r.0 ∷ t) (more r e)
+    by None more = refl
+    by (Some r) more = ap (λ (t : List (List (List ℕ))). r.0 ∷ t) (more r refl)
 
 -- the records of a text are its next one and those after it
 records_from-suc : (n : ℕ) (s : State) (xs : List ℕ) (r : Read) → next_record default_config s [] [] xs ≡ Some r
@@ -119,7 +122,7 @@ pub records_from-some : (s : State) (xs : List ℕ) (r : Read) → next_record d
 records_from-some s xs r h between =
     let less = shorter-after_record s xs r h between in
     let count : length xs + 1 ≡ suc (length xs) = omega arith in
-    let enough = records_from-enough (length xs) (length r.2 + 1) r.1 r.2 (ends_at_end-after_record s [] [] xs r h) less (omega arith) in
+    let enough = records_from-enough (length xs) (length r.2 + 1) r.1 r.2 (is_read s [] [] xs r h).between less (omega arith) in
     rw count (records_from-suc (length xs) s xs r h ∙ ap (λ (t : List (List (List ℕ))). r.0 ∷ t) enough)
 
 -- a text without a next record has none

@@ -69,9 +69,13 @@ rot_in body i = option_map (λ r. sizes_from r 2) (find (says_rot_of i) body)
 abbrev pub has_rot : List Kept → ℕ → Bool
 has_rot body i = is_some (rot_in body i)
 
+-- the darts that were given, and none if none were
+abbrev pub given_darts : Option (List ℕ) → List ℕ
+given_darts darts = unwrap_or darts []
+
 -- the darts of spin i by its record `rot,I,D,D,D`, and none if it has no such record
 abbrev pub darts_in : List Kept → ℕ → List ℕ
-darts_in body i = unwrap_or (rot_in body i) []
+darts_in body i = given_darts (rot_in body i)
 
 -- the tests of a list of indices that may be given once: it was not seen before, and each field is an index
 abbrev pub sole_list_fault : Bool → Kept → Option Refusal

@@ -14,7 +14,7 @@ use Rattle.sg_reader.specs.declared.header.Header.{Header}
 use Rattle.sg_reader.specs.declared.lattice.LatticeBody.{LatticeBody}
 use Rattle.sg_reader.specs.Kept.{Kept}
 use Rattle.sg_reader.specs.Header.{header_fault, header_of}
-use Rattle.sg_reader.specs.Body.{bonds_in, couplings_in, darts_in, has_rot, instance_of, record_fault, seam_in}
+use Rattle.sg_reader.specs.Body.{bonds_in, couplings_in, instance_of, record_fault, rot_in, seam_in}
 use Rattle.sg_reader.specs.Ended.{RefusesRecords, StatesToEnd}
 
 -- the records after the first state the instance up to their `end`
@@ -65,13 +65,12 @@ pub record HoldsLattice (start : LatticeBody) (body : List Kept) (now : LatticeB
   pub couplings : now.couplings ≡ couplings_in body
   pub seam : now.seam ≡ seam_in body
 
--- the bonds, the darts of each spin, the spins whose darts were given, and the seam of the records
+-- the bonds, the darts of each spin if they were given, and the seam of the records
 pub record HoldsGeneral (start : GeneralBody) (body : List Kept) (now : GeneralBody) : Type 0 where
   pub spins : now.n ≡ start.n
   pub some : 1 ≤ now.n
   pub bonds : now.bonds ≡ bonds_in body
   pub few : length now.bonds ≤ bond_limit
   pub joined : All (IsBond now.n) now.bonds
-  pub darts : now.rotation ≡ map (darts_in body) (range_with_len 0 now.n)
-  pub marks : now.seen.items ≡ map (has_rot body) (range_with_len 0 now.n)
+  pub darts : now.rotation ≡ map (rot_in body) (range_with_len 0 now.n)
   pub seam : now.seam ≡ seam_in body

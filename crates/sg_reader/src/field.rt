@@ -1,19 +1,21 @@
 ghost use Rattle.std.specs.Prelude.{◌≡◌, ◌≤◌, ◌<◌, [], ◌==◌, length, map, take, slice_index_or};
+ghost use Rattle.std.specs.List.{prefix_len, suffix_len};
+ghost use Rattle.csv.specs.Reading.{strip_bom};
 ghost use Rattle.csv.specs.Records.{fields_of};
 ghost use Rattle.sg_reader.specs.Field.{after_front, before_end, fields_in, is_blank as is_blank_byte, trimmed as trimmed_of, without_marks as without_marks_of};
 
 use csv::ByteRecord;
 
-/// The byte-order mark of UTF-8.
-const MARK: &[u8] = b"\xEF\xBB\xBF";
-
-/// The text behind all the byte-order marks at its front.
+/// The text behind all the byte-order marks of UTF-8 at its front.
+#[tactic(auto, unfolding(crate::specs::Field::without_marks, csv::specs::Reading::strip_bom))]
 pub fn without_marks(text: &[u8]) -> &[u8]
-    ensures { result.now ≡ without_marks_of text.now }
+    ensures value { result.now ≡ without_marks_of text.now }
+    ensures bare { strip_bom result.now ≡ result.now }
+    ensures shorter { length result.now ≤ length text.now }
 {
     let mut rest = text;
-    while rest.starts_with(MARK) {
-        rest = &rest[3..];
+    while let [0xEF, 0xBB, 0xBF, behind @ ..] = rest {
+        rest = behind;
     }
     rest
 }
@@ -24,24 +26,36 @@ fn is_blank(byte: u8) -> bool
     byte == b' ' || byte == b'\t'
 }
 
+// How many blanks a field begins with.
+fn blanks_before(field: &[u8]) -> usize
+    ensures value { result ≡ prefix_len is_blank_byte field.now }
+    ensures within { result ≤ length field.now }
+{
+    field.iter().take_while(|byte| is_blank(**byte)).count()
+}
+
+// How many blanks a field ends with.
+fn blanks_behind(field: &[u8]) -> usize
+    ensures value { result ≡ suffix_len is_blank_byte field.now }
+    ensures within { result ≤ length field.now }
+{
+    field
+        .iter()
+        .rev()
+        .take_while(|byte| is_blank(**byte))
+        .count()
+}
+
 fn after_blanks(field: &[u8]) -> &[u8]
     ensures { result.now ≡ after_front is_blank_byte field.now }
 {
-    let mut start = 0;
-    while start < field.len() && is_blank(field[start]) {
-        start += 1;
-    }
-    &field[start..]
+    &field[blanks_before(field)..]
 }
 
 fn before_blanks(field: &[u8]) -> &[u8]
     ensures { result.now ≡ before_end is_blank_byte field.now }
 {
-    let mut end = field.len();
-    while end > 0 && is_blank(field[end - 1]) {
-        end -= 1;
-    }
-    &field[..end]
+    &field[..field.len() - blanks_behind(field)]
 }
 
 /// A field without the blanks at both its ends.

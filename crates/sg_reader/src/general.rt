@@ -1,11 +1,11 @@
-ghost use Rattle.std.specs.Prelude.{Bool, ◌≡◌, ◌≢◌, ◌<◌, ◌≤◌, [], ◌^◌, List, true, None, Some, length, IfOk, IfErr, OnOk};
+ghost use Rattle.std.specs.Prelude.{Bool, ◌≡◌, ◌≢◌, ◌<◌, ◌≤◌, [], ◌^◌, List, true, None, Some, length, map, IfOk, IfErr, OnOk};
 ghost use Rattle.sg_limits.specs.Limits.{bond_limit};
 ghost use Rattle.sg_model.specs.Ising.{IsBond};
 ghost use Rattle.sg_model.specs.WellFormed.{IsInstance};
 ghost use Rattle.sg_reader.specs.declared.header.Header.TheVariants as header;
 ghost use Rattle.sg_reader.specs.Kept.{Kept};
 ghost use Rattle.sg_reader.specs.Tests.{field_fault, size_in, spin_below};
-ghost use Rattle.sg_reader.specs.Body.{bond_fault, bond_of, ends_fault, general_fault, instance_of, says_bond, says_rot, says_seam, rot_fault};
+ghost use Rattle.sg_reader.specs.Body.{bond_fault, bond_of, ends_fault, general_fault, given_darts, instance_of, says_bond, says_rot, says_seam, rot_fault};
 ghost use Rattle.sg_reader.specs.ReadInstance.{HoldsGeneral, ReadsBody, RefusesBody};
 ghost use Rattle.sg_reader.specs.Ended.{Fails, HoldsSome, RefusesNext, TakesNext};
 ghost use Rattle.sg_model.specs.Faults.{IsRefusalOf, OrNoMemory};
@@ -25,14 +25,12 @@ const BOND: &[u8] = b"bond";
 
 const ROT: &[u8] = b"rot";
 
-/// What the records of a general instance have given so far. `seen` tells of each spin whether its
-/// darts were given.
+/// What the records of a general instance have given so far, of each spin its darts.
 #[derive(Drop)]
 pub(crate) struct GeneralBody {
     n: u32,
     bonds: Bonds,
-    rotation: Records<DartList>,
-    seen: Vec<bool>,
+    rotation: Records<Option<DartList>>,
     seam: Option<BondList>,
 }
 
@@ -91,16 +89,13 @@ impl GeneralBody {
         ensures holds { IfOk result (λ s. HoldsGeneral s [] s) }
     {
         let mut rotation = Records::new(alloc);
-        let mut seen = Vec::new(alloc);
         for _spin in 0..n {
-            rotation.push(DartList::new(alloc))?;
-            seen.push(false)?;
+            rotation.push(None)?;
         }
         Ok(GeneralBody {
             n,
             bonds: Bonds::new(alloc),
             rotation,
-            seen,
             seam: None,
         })
     }
@@ -124,11 +119,10 @@ impl GeneralBody {
     {
         let spin = rot_spin(row, self.n)?;
         let darts = indices(alloc, row, 2)?;
-        if self.seen[spin as usize] {
+        if self.rotation.at(spin as usize).is_some() {
             return Err(Fault::Refused(Refusal::BadShape { at: row.at() }));
         }
-        self.rotation.set(spin as usize, darts);
-        self.seen[spin as usize] = true;
+        self.rotation.set(spin as usize, Some(darts));
         Ok(())
     }
 
@@ -176,15 +170,25 @@ impl Gather for GeneralBody {
     }
 }
 
-// The lists of darts, one behind another.
-fn laid_out(alloc: Global, lists: &[DartList]) -> Result<Rotation, NoMemory>
-    ensures { IfOk result (λ rotation. rotation ≡ lists.now) }
+// The lists of darts, one behind another, with an empty one for each spin without darts.
+fn laid_out(alloc: Global, lists: &[Option<DartList>]) -> Result<Rotation, NoMemory>
+    ensures { IfOk result (λ rotation. rotation ≡ map given_darts lists.now) }
 {
     let mut rotation = Rotation::new(alloc);
     for list in lists {
-        rotation.push(list.as_slice())?;
+        rotation.push(darts_of(list))?;
     }
     Ok(rotation)
+}
+
+// The darts of a spin, none where they were not given.
+fn darts_of(list: &Option<DartList>) -> &[u32]
+    ensures { result.now ≡ given_darts list.now }
+{
+    match list {
+        Some(darts) => darts.as_slice(),
+        None => &[],
+    }
 }
 
 /// Reads the records of a general instance of `n` spins behind the first, up to its `end`, and gives

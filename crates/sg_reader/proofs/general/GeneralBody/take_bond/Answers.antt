@@ -20,5 +20,5 @@ pub returns-clause-taken : goal.returns-clause-taken
 returns-clause-taken c =
     let value = c.in_ok-bond.ensures.value in
     bond-taken c.args.self.now _ c.args.row.now c.len.result c.len.ensures c.requires.word c.in_ok-bond.ensures.passes refl
-    (c.in_ok-push.ensures.ok ∙ ap (λ (b : Bond). c.args.self.now.bonds ++ b ∷ []) value) refl refl refl
+    (c.in_ok-push.ensures.ok ∙ ap (λ (b : Bond). c.args.self.now.bonds ++ b ∷ []) value) refl refl
     (subst (λ (b : Bond). IsBond c.args.self.now.n b) value c.in_ok-bond.ensures.sound) c.in_ok-bond.ensures.room

@@ -11,5 +11,5 @@ returns-in_err-bonds-clause-fault c =
 
 pub returns-clause-taken : goal.returns-clause-taken
 returns-clause-taken c =
-    seam-taken c.args.self.now _ c.args.row.now c.is_some.result (sym c.is_some.ensures) c.requires c.in_ok-bonds.ensures.passes refl refl refl refl
+    seam-taken c.args.self.now _ c.args.row.now c.is_some.result (sym c.is_some.ensures) c.requires c.in_ok-bonds.ensures.passes refl refl refl
     (ap Some c.in_ok-bonds.ensures.value)

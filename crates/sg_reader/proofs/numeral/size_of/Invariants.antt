@@ -1,6 +1,6 @@
 use Rattle.std.proofs.Common.{◌≡◌, take}
 use Rattle.std.specs.Str.Parse.{AllDigits, digits_value}
-use Rattle.sg_reader.proofs.numeral.short_size.Given as goal
+use Rattle.sg_reader.proofs.numeral.size_of.Given as goal
 
 -- the bytes so far are digits, and spell this size
 abbrev pub invariant-loop-digit : goal.invariant-loop-digit
