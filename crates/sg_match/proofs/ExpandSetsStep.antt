@@ -1,5 +1,5 @@
 -- What the expansion of an inner blossom of dual 0 makes of the engine's invariant.
-use Rattle.std.proofs.Common.{◌≡◌, ◌≢◌, ◌⊎◌, ℕ, zero, suc, ◌+◌, ◌*◌, ◌<◌, List, [], length, Option, Some, None, refl, sym, ap, ◌∙◌, subst, inl, inr, arith}
+use Rattle.std.proofs.Common.{◌≡◌, ◌≢◌, ◌⊎◌, ℕ, ◌<◌, List, [], length, Option, Some, None, sym, ap, ◌∙◌, subst, inl, inr, arith}
 use Rattle.std.proofs.lemmas.Option.{same_Some}
 use Rattle.std.specs.Option.{option_map_or}
 use Rattle.std.proofs.lemmas.Bool.{cases_eq}
@@ -10,20 +10,12 @@ use Rattle.sg_arena.proofs.FamilyLemmas.{child-covered, top-no_child}
 use Rattle.sg_arena.specs.Changes.{CanShrink, with_slot}
 use Rattle.sg_arena.specs.Family.{Family, Holds, IsBlossom, IsFamily, IsTop, Node, cycle_of, dual_of, link_at, node_at, total_of}
 use Rattle.sg_arena.specs.declared.Link.{Link}
-use Rattle.sg_match.proofs.RingPairLemmas.{ring_mate}
+use Rattle.sg_match.proofs.RingPairLemmas.{ring_from, ring_side}
 use Rattle.sg_match.specs.Feasible.{IsFeasible}
 use Rattle.sg_pairing.specs.Tight.{IsTight}
 use Rattle.sg_match.specs.Pairs.{IsPaired, flipped, pair_of}
 use Rattle.sg_match.specs.Rings.{IsRingPaired}
 use Rattle.sg_match.specs.declared.Edge.{Edge}
-
--- a number is even or odd
-pub halves : (n : ℕ) → ((j : ℕ) × (n ≡ 2 * j)) ⊎ ((j : ℕ) × (n ≡ 2 * j + 1))
-halves zero = inl (0, refl)
-halves (suc n) = elim (halves n) [
-  | inl at ↦ inr (at.0, omega (arith, at.1))
-  | inr at ↦ inl (at.0 + 1, omega (arith, at.1))
-]
 
 module _ (f : Family) (b : ℕ) (fam : IsFamily f) (top : IsTop f b) (blossom : IsBlossom f b) (room : b < length f.nodes) where
   abbrev g : Family
@@ -51,6 +43,9 @@ module _ (f : Family) (b : ℕ) (fam : IsFamily f) (top : IsTop f b) (blossom : 
     old_out : (t : ℕ) → IsTop f t → (i : ℕ) → i < length ring → (link_at ring i).node ≢ t
     old_out t is i low same = let kid = from_kid i low in top-no_child f fam t b kid.0 is kid.1 (kid.2 ∙ same)
 
+    first_low : 0 < length ring
+    first_low = omega (arith, can.closed.long)
+
     -- the mate outside
     m : (s : ℕ) × IsTop f s × (s ≢ b) × Holds f s pair.to × (pair_of pairs s ≡ Some (flipped pair))
     m = paired.other b pair top is_pair
@@ -60,9 +55,9 @@ module _ (f : Family) (b : ℕ) (fam : IsFamily f) (top : IsTop f b) (blossom : 
 
     in_ring : (i : ℕ) → i < length ring → (p : Edge) → pair_of now (link_at ring i).node ≡ Some p → Pairing (link_at ring i).node p
     unfolding Pairing
-    in_ring i low p is = elim (ring_mate g pairs now ring pair can.closed ring_pairs i low) [
+    in_ring i low p is = elim (cases_eq i 0) [
       | inl none ↦
-          let e : pair ≡ p = same_Some _ _ (sym ring_pairs.first ∙ ap (λ k. pair_of now (link_at ring k).node) (sym none) ∙ is) in
+          let e : pair ≡ p = same_Some _ _ (sym (ring_pairs.each 0 first_low) ∙ ap (λ k. pair_of now (link_at ring k).node) (sym none) ∙ is) in
           subst (λ k. Pairing (link_at ring k).node p) (sym none) (subst (λ x. Pairing (link_at ring 0).node x) e (
             base,
             paired.tight b pair top is_pair,
@@ -74,16 +69,22 @@ module _ (f : Family) (b : ℕ) (fam : IsFamily f) (top : IsTop f b) (blossom : 
               ring_pairs.others m.0 (old_out m.0 m.1) ∙ m.4,
             ),
           ))
-      | inr mate ↦
-          let j = mate.0 in
+      | inr some ↦
+          let j = ring_side g ring can.closed pair i low some in
           let fit = fine j.along j.low_along in
-          subst (λ x. Pairing (link_at ring i).node x) (same_Some _ _ (sym j.is ∙ is)) (
-            mate.1,
+          subst (λ x. Pairing (link_at ring i).node x) (same_Some _ _ (sym (ring_pairs.each i low) ∙ is)) (
+            ring_from g ring can.closed pair base i low,
             elim j.link [
               | inl same ↦ subst (λ (x : Edge). good x.from x.to) (sym same) fit.0
               | inr same ↦ subst (λ (x : Edge). good x.from x.to) (sym same) fit.1
             ],
-            ((link_at ring j.other).node, can.tops j.other j.low, (λ same. j.differs (can.closed.differ i j.other low j.low (sym same))), j.to, j.back),
+            (
+              (link_at ring j.other).node,
+              can.tops j.other j.low,
+              (λ same. j.differs (can.closed.differ i j.other low j.low (sym same))),
+              j.to,
+              ring_pairs.each j.other j.low ∙ ap (λ x. Some x) j.back,
+            ),
           )
     ]
 
@@ -101,7 +102,7 @@ module _ (f : Family) (b : ℕ) (fam : IsFamily f) (top : IsTop f b) (blossom : 
                   can.tops 0 (omega (arith, can.closed.long)),
                   old_out t is 0 (omega (arith, can.closed.long)),
                   subst (λ (x : Edge). Holds g (link_at ring 0).node x.from) e base,
-                  ring_pairs.first ∙ ap (λ x. Some x) e,
+                  ring_pairs.each 0 first_low ∙ ap (λ x. Some x) e,
                 )
             | inr differs ↦ (
               s.0,

@@ -12,7 +12,8 @@ use Rattle.sg_sums.proofs.ListLaws.{place_of_any}
 use Rattle.sg_arena.specs.Changes.{CanShrink, with_slot}
 use Rattle.sg_arena.specs.Family.{Family, Holds, IsBlossom, IsFamily, IsTop, after_index, blank_link, cycle_of, dual_of, holds, link_at}
 use Rattle.sg_arena.specs.declared.Link.{Link}
-use Rattle.sg_match.proofs.ExpandSetsStep.{IsFeasible-expanded, IsPaired-expanded, halves}
+use Rattle.sg_match.proofs.ExpandSetsStep.{IsFeasible-expanded, IsPaired-expanded}
+use Rattle.sg_match.proofs.RingPairLemmas.{ring_pair-odd}
 use Rattle.sg_match.proofs.GrowStep.{IsTree-grown, outer_leaf_last}
 use Rattle.sg_slack.proofs.DistinctLemmas.{short}
 use Rattle.sg_match.proofs.NameLemmas.{Differ-append, place_of_name}
@@ -127,16 +128,7 @@ module _ (f : Family) (cost : ℕ → ℕ → ℕ) (pairs now : List (Option Edg
 
   -- each node of the ring is paired
   ring_paired : (i : ℕ) → i < length ring → pair_of now (link_at ring i).node ≢ None
-  ring_paired zero low_i none = none-some _ (sym (sym ring_pairs.first ∙ none))
-  ring_paired (suc i) low_i none = elim (halves i) [
-    | inl even ↦
-        let place : suc i ≡ 2 * even.0 + 1 = omega (arith, even.1) in
-        none-some _ (sym (sym (ring_pairs.odd even.0 (omega (arith, low_i, place, is.cycle.odd))) ∙ ap (λ k. pair_of now (link_at ring k).node)
-        (sym place) ∙ none))
-    | inr odd ↦
-        let place : suc i ≡ 2 * odd.0 + 2 = omega (arith, odd.1) in
-        none-some _ (sym (sym (ring_pairs.even odd.0 (omega (arith, low_i, place))) ∙ ap (λ k. pair_of now (link_at ring k).node) (sym place) ∙ none))
-  ]
+  ring_paired i low_i none = none-some _ (sym (sym (ring_pairs.each i low_i) ∙ none))
 
   -- the unpaired tops are those that were
   pub IsExposed-expanded : (exposed : List ℕ) → IsExposed f pairs (Some root) exposed → IsExposed g now (Some root) exposed
@@ -278,7 +270,7 @@ module _ (f : Family) (cost : ℕ → ℕ → ℕ) (pairs now : List (Option Edg
         (outer_out f g cost pairs now root root edges tree tight_same (Used from (suc q)) (Used from (suc q)) done at was low
         (unused from (suc q) tree_edge.outer top_out) (unused from (suc q) tree_edge.outer top_out))
         (can.tops 0 zero_low) (still_top tree_edge.outer top_out (outer_is at low))
-        (λ same. out tree_edge.outer top_out 0 zero_low (sym same)) ring_pairs.first (rest first tree_edge.pair.from (out b top 0 zero_low) base)
+        (λ same. out tree_edge.outer top_out 0 zero_low (sym same)) (ring_pairs.each 0 zero_low) (rest first tree_edge.pair.from (out b top 0 zero_low) base)
         (rest tree_edge.outer tree_edge.pair.to (outer_is at low) ((tree.shape.edge at low).pair_to))
         (subst (λ k. Holds g (link_at ring k).node up.from) closed starts) up_to tight)
         (inr (suc at, omega arith, outer_at root edges at low)) (inl (0, omega arith, zero_low, zero_low, refl))
@@ -306,7 +298,8 @@ module _ (f : Family) (cost : ℕ → ℕ → ℕ) (pairs now : List (Option Edg
         (Used from (suc (suc d))) l at (omega arith) more more
         (IsTree-grown root done l g cost now was.tree (unused_out from d done d was low_one (inr (omega arith)))
         (unused_out from d done (suc d) was low_two (inr (omega arith))) (can.tops d low_one) (can.tops (suc d) low_two)
-        (λ same. absurd (omega (arith, is.cycle.differ (suc d) d low_two low_one same))) (paired d (omega (arith, even)) low_two)
+        (λ same. absurd (omega (arith, is.cycle.differ (suc d) d low_two low_one same)))
+        (ring_pairs.each d low_one ∙ ap (λ x. Some x) (ring_pair-odd ring tree_edge.pair d (omega (arith, even))))
         (can.closed.from d low_one) follows (subst (λ k. Holds g (link_at ring k).node up.from) (inside q low_one) starts) up_to tight)
         (inl (suc d, omega (arith, late), omega arith, low_two, refl)) (inl (d, omega (arith, late), omega arith, low_one, refl))
         (λ j l before behind held. absurd (omega (arith, before, behind))) in
@@ -322,13 +315,6 @@ module _ (f : Family) (cost : ℕ → ℕ → ℕ) (pairs now : List (Option Edg
         inside k less = elim (cases_after (length ring) k) [
           | inl at_end ↦ absurd (omega (arith, at_end.0, less))
           | inr step ↦ omega (arith, step.1)
-        ]
-
-        paired : (d : ℕ) → d % 2 ≡ 1 → suc d < length ring → pair_of now (link_at ring d).node ≡ Some (edge_of_link (link_at ring d))
-        paired d odd less = elim (halves d) [
-          | inl even ↦ absurd (omega (arith, odd, even.1))
-          | inr half ↦ subst (λ k. pair_of now (link_at ring k).node ≡ Some (edge_of_link (link_at ring k))) (sym half.1)
-              (ring_pairs.odd half.0 (omega (arith, half.1, less)))
         ]
 
     -- where the ring goes into the tree: behind an even place of it

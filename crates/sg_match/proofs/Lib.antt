@@ -31,8 +31,6 @@ pub mod ExpandLemmas
 pub mod RotateLemmas
 pub mod RingPairLemmas
 pub mod AboveLemmas
+pub mod SetPairLemmas
 pub mod MatePairLemmas
-pub mod ChildrenLemmas
-pub mod MatesStep
-pub mod ListedLemmas
 pub mod MembersStep

@@ -1,27 +1,32 @@
 -- Pairing the nodes of a ring two by two.
-use Rattle.std.proofs.Common.{List, None, Option, Some, ap, arith, inl, inr, length, refl, set, subst, suc, sym, zero, ℕ, ◌*◌, ◌+◌, ◌<◌, ◌∙◌, ◌≡◌, ◌≢◌, ◌≤◌, ◌⊎◌}
+use Rattle.std.proofs.Common.{List, None, Option, Some, ap, arith, eq-eqb, inl, inr, length, refl, set, subst, sym, ℕ, ◌%◌, ◌+◌, ◌-◌, ◌<◌, ◌∙◌, ◌≡◌, ◌≢◌, ◌≤◌, ◌⊎◌}
 use Rattle.std.proofs.Math.ListN.{length-set}
-use Rattle.std.proofs.lemmas.Bool.{cases_eq}
+use Rattle.std.proofs.lemmas.Bool.{cases_eq, ne_eqb}
 use Rattle.std.proofs.lemmas.List.{get_or-set_other, get_or-set_same}
 use Rattle.sg_arena.specs.Family.{Family, Holds, IsCycle, link_at}
 use Rattle.sg_arena.specs.declared.Link.{Link}
 use Rattle.sg_match.proofs.NodeLemmas.{length-nodes, node_at_place}
 use Rattle.sg_match.proofs.PairLemmas.{twice_first, twice_other, twice_second}
 use Rattle.sg_match.proofs.RotateLemmas.{cases_after}
-use Rattle.sg_match.specs.MatePairs.{HasMateInCycle}
 use Rattle.sg_match.specs.Pairs.{edge_of_link, flipped, pair_of}
 use Rattle.sg_sums.specs.Sets.{Differ}
 use Rattle.sg_match.specs.Path.{nodes_of}
-use Rattle.sg_match.specs.Rings.{IsRingPaired}
+use Rattle.sg_match.specs.Rings.{IsRingPaired, ring_pair}
 use Rattle.sg_match.specs.declared.Edge.{Edge}
 
--- the first node and this many twos of nodes behind it have their pairs
+module _ (ring : List Link) (pair : Edge) (i : ℕ) where
+  -- the pair at an odd place is the link there
+  pub ring_pair-odd : i % 2 ≡ 1 → ring_pair ring pair i ≡ edge_of_link (link_at ring i)
+  ring_pair-odd odd = let some : i ≢ 0 = λ none. absurd (omega (arith, odd, none)) in rw (ne_eqb i 0 some, eq-eqb (i % 2) 1 odd) refl
+
+  -- at any other but the first it is the link before, the other way round
+  pub ring_pair-even : i ≢ 0 → i % 2 ≢ 1 → ring_pair ring pair i ≡ flipped (edge_of_link (link_at ring (i - 1)))
+  ring_pair-even some even = rw (ne_eqb i 0 some, ne_eqb (i % 2) 1 even) refl
+
+-- this many nodes have their pairs
 pub record IsRingPairedTo (old new : List (Option Edge)) (ring : List Link) (pair : Edge) (count : ℕ) : Type 0 where
   pub same : length new ≡ length old
-  pub first : pair_of new (link_at ring 0).node ≡ Some pair
-  pub odd : (j : ℕ) → j < count → 2 * j + 2 < length ring → pair_of new (link_at ring (2 * j + 1)).node ≡ Some (edge_of_link (link_at ring (2 * j + 1)))
-  pub even : (j : ℕ) → j < count → 2 * j + 2 < length ring
-      → pair_of new (link_at ring (2 * j + 2)).node ≡ Some (flipped (edge_of_link (link_at ring (2 * j + 1))))
+  pub each : (i : ℕ) → i < count → i < length ring → pair_of new (link_at ring i).node ≡ Some (ring_pair ring pair i)
   pub others : (n : ℕ) → ((i : ℕ) → i < length ring → (link_at ring i).node ≢ n) → pair_of new n ≡ pair_of old n
 
 module _ (old : List (Option Edge)) (ring : List Link) (pair : Edge) (some : 0 < length ring)
@@ -32,138 +37,119 @@ module _ (old : List (Option Edge)) (ring : List Link) (pair : Edge) (some : 0 <
       (node_at_place ring i low_i ∙ same ∙ sym (node_at_place ring j low_j)))
 
   -- at the start the first node has the blossom's pair
-  pub IsRingPairedTo-init : IsRingPairedTo old (set old (link_at ring 0).node (Some pair)) ring pair 0
+  pub IsRingPairedTo-init : IsRingPairedTo old (set old (link_at ring 0).node (Some pair)) ring pair 1
   IsRingPairedTo-init = record {
     same = length-set old (link_at ring 0).node (Some pair);
-    first = get_or-set_same old (link_at ring 0).node (Some pair) None (names 0 some);
-    odd = λ j none low. absurd (omega arith);
-    even = λ j none low. absurd (omega arith);
+    each = λ i low within.
+        let first : 0 ≡ i = omega (arith, low) in
+        subst (λ k. pair_of (set old (link_at ring 0).node (Some pair)) (link_at ring k).node ≡ Some (ring_pair ring pair k)) first
+        (get_or-set_same old (link_at ring 0).node (Some pair) None (names 0 some));
     others = λ n away. get_or-set_other old (link_at ring 0).node n (Some pair) None (λ same. away 0 some (sym same));
   }
 
   -- two nodes more are paired along their link
-  pub IsRingPairedTo-more : (now : List (Option Edge)) (count : ℕ) → 2 * count + 2 < length ring → IsRingPairedTo old now ring pair count →
-      IsRingPairedTo old (set (set now (link_at ring (2 * count + 1)).node (Some (edge_of_link (link_at ring (2 * count + 1)))))
-      (link_at ring (2 * count + 2)).node (Some (flipped (edge_of_link (link_at ring (2 * count + 1)))))) ring pair (count + 1)
-  IsRingPairedTo-more now count low was = record {
+  pub IsRingPairedTo-more : (now : List (Option Edge)) (k : ℕ) → k % 2 ≡ 1 → k + 1 < length ring → IsRingPairedTo old now ring pair k →
+      IsRingPairedTo old (set (set now (link_at ring k).node (Some (edge_of_link (link_at ring k)))) (link_at ring (k + 1)).node
+      (Some (flipped (edge_of_link (link_at ring k))))) ring pair (k + 2)
+  IsRingPairedTo-more now k odd low was = record {
     same = length-set (set now s (Some edge)) t (Some (flipped edge)) ∙ length-set now s (Some edge) ∙ was.same;
-    first = kept 0 some (λ e. omega arith) (λ e. omega arith) ∙ was.first;
-    odd = λ j below within. elim (cases_eq j count) [
-      | inl here ↦ ap (λ k. pair_of new (link_at ring (2 * k + 1)).node) here ∙ twice_first now s t (Some edge) (Some (flipped edge)) low_s
-          (apart (2 * count + 1) (2 * count + 2) in_s low (λ e. omega arith)) ∙ ap (λ k. Some (edge_of_link (link_at ring (2 * k + 1)))) (sym here)
-      | inr away ↦ kept (2 * j + 1) (omega (arith, within)) (λ e. omega (arith, away, e)) (λ e. omega (arith, away, e)) ∙
-          was.odd j (omega (arith, below, away)) within
+    each = λ i below within. elim (cases_eq i k) [
+      | inl here ↦ ap (λ j. pair_of new (link_at ring j).node) here
+          ∙ twice_first now s t (Some edge) (Some (flipped edge)) (omega (arith, names k in_s, was.same)) (apart k (k + 1) in_s low (λ e. omega arith))
+          ∙ ap (λ e. Some e) (sym (ring_pair-odd ring pair k odd)) ∙ ap (λ j. Some (ring_pair ring pair j)) (sym here)
+      | inr away_s ↦ elim (cases_eq i (k + 1)) [
+        | inl next ↦
+            let back : k ≡ k + 1 - 1 = omega arith in
+            ap (λ j. pair_of new (link_at ring j).node) next
+            ∙ twice_second now s t (Some edge) (Some (flipped edge)) (omega (arith, names (k + 1) low, was.same))
+            ∙ ap (λ j. Some (flipped (edge_of_link (link_at ring j)))) back
+            ∙ ap (λ e. Some e) (sym (ring_pair-even ring pair (k + 1) (λ e. omega arith) (λ e. omega (arith, odd, e))))
+            ∙ ap (λ j. Some (ring_pair ring pair j)) (sym next)
+        | inr away_t ↦ twice_other now s t (link_at ring i).node (Some edge) (Some (flipped edge)) (apart i k within in_s away_s)
+            (apart i (k + 1) within low away_t)
+            ∙ was.each i (omega (arith, below, away_s, away_t)) within
+      ]
     ];
-    even = λ j below within. elim (cases_eq j count) [
-      | inl here ↦ ap (λ k. pair_of new (link_at ring (2 * k + 2)).node) here ∙ twice_second now s t (Some edge) (Some (flipped edge)) low_t ∙
-          ap (λ k. Some (flipped (edge_of_link (link_at ring (2 * k + 1))))) (sym here)
-      | inr away ↦ kept (2 * j + 2) within (λ e. omega (arith, away, e)) (λ e. omega (arith, away, e)) ∙ was.even j (omega (arith, below, away)) within
-    ];
-    others = λ n away. twice_other now s t n (Some edge) (Some (flipped edge)) (λ e. away (2 * count + 1) in_s (sym e))
-        (λ e. away (2 * count + 2) low (sym e)) ∙ was.others n away;
+    others = λ n away. twice_other now s t n (Some edge) (Some (flipped edge)) (λ e. away k in_s (sym e)) (λ e. away (k + 1) low (sym e)) ∙ was.others n away;
   }
     where
       s : ℕ
-      s = (link_at ring (2 * count + 1)).node
+      s = (link_at ring k).node
 
       t : ℕ
-      t = (link_at ring (2 * count + 2)).node
+      t = (link_at ring (k + 1)).node
 
       edge : Edge
-      edge = edge_of_link (link_at ring (2 * count + 1))
+      edge = edge_of_link (link_at ring k)
 
       new : List (Option Edge)
       new = set (set now s (Some edge)) t (Some (flipped edge))
 
-      in_s : 2 * count + 1 < length ring
+      in_s : k < length ring
       in_s = omega (arith, low)
 
-      low_s : s < length now
-      low_s = omega (arith, names (2 * count + 1) in_s, was.same)
-
-      low_t : t < length now
-      low_t = omega (arith, names (2 * count + 2) low, was.same)
-
-      kept : (k : ℕ) → k < length ring → k ≢ 2 * count + 1 → k ≢ 2 * count + 2 → pair_of new (link_at ring k).node ≡ pair_of now (link_at ring k).node
-      kept k in_k away_s away_t = twice_other now s t (link_at ring k).node (Some edge) (Some (flipped edge)) (apart k (2 * count + 1) in_k in_s away_s)
-          (apart k (2 * count + 2) in_k low away_t)
-
   -- at the end the ring is paired
-  pub IsRingPaired-done : (now : List (Option Edge)) (count : ℕ) → length ring ≤ 2 * count + 2 → IsRingPairedTo old now ring pair count →
-      IsRingPaired old now ring pair
-  IsRingPaired-done now count whole was = record {
-    first = was.first;
-    odd = λ j low. was.odd j (omega (arith, low)) low;
-    even = λ j low. was.even j (omega (arith, low)) low;
-    others = was.others;
-  }
+  pub IsRingPaired-done : (now : List (Option Edge)) (k : ℕ) → length ring ≤ k → IsRingPairedTo old now ring pair k → IsRingPaired old now ring pair
+  IsRingPaired-done now k whole was = record { each = λ i low. was.each i (omega (arith, low, whole)) low; others = was.others }
 
--- a place is the first one, or the first or second of a two behind it
-cases_two : (r : ℕ) → (r ≡ 0) ⊎ (((j : ℕ) × (r ≡ 2 * j + 1)) ⊎ ((j : ℕ) × (r ≡ 2 * j + 2)))
-cases_two zero = inl refl
-cases_two (suc r) = elim (cases_two r) [
-  | inl none ↦ inr (inl (0, omega (arith, none)))
-  | inr rest ↦ elim rest [
-    | inl odd ↦ inr (inr (odd.0, omega (arith, odd.1)))
-    | inr even ↦ inr (inl (even.0 + 1, omega (arith, even.1)))
+-- the node at a place of a ring is paired with another of it, along a link
+pub record IsMatePlace (f : Family) (ring : List Link) (pair : Edge) (i : ℕ) : Type 0 where
+  pub other : ℕ
+  pub low : other < length ring
+  pub differs : i ≢ other
+  pub back : ring_pair ring pair other ≡ flipped (ring_pair ring pair i)
+  pub to : Holds f (link_at ring other).node (ring_pair ring pair i).to
+  pub along : ℕ
+  pub low_along : along < length ring
+  pub link : (ring_pair ring pair i ≡ edge_of_link (link_at ring along)) ⊎ (ring_pair ring pair i ≡ flipped (edge_of_link (link_at ring along)))
+
+module _ (f : Family) (ring : List Link) (round : IsCycle f ring) (pair : Edge) where
+  follows : (i j : ℕ) → i + 1 ≡ j → j < length ring → Holds f (link_at ring j).node (link_at ring i).to
+  follows i j next low = elim (cases_after (length ring) i) [
+    | inl end ↦ absurd (omega (arith, end.0, next, low))
+    | inr at ↦ subst (λ k. Holds f (link_at ring k).node (link_at ring i).to) (at.1 ∙ next) (round.to i (omega (arith, next, low)))
   ]
-]
 
-module _ (f : Family) (old new : List (Option Edge)) (ring : List Link) (pair : Edge) (round : IsCycle f ring)
-    (ring_pairs : IsRingPaired old new ring pair) where
-  abbrev IsSide : ℕ → Type 0
-  IsSide i = (i ≡ 0) ⊎ ((j : HasMateInCycle f new ring i) × Holds f (link_at ring i).node j.pair.from)
+  -- each node but the first
+  pub ring_side : (i : ℕ) → i < length ring → i ≢ 0 → IsMatePlace f ring pair i
+  ring_side i low some = elim (cases_eq (i % 2) 1) [
+    | inl odd ↦
+        let next : i + 1 < length ring = omega (arith, low, odd, round.odd) in
+        let is = ring_pair-odd ring pair i odd in
+        let back : i + 1 - 1 ≡ i = omega arith in
+        record {
+          other = i + 1;
+          low = next;
+          differs = λ e. omega (arith, e);
+          back = ring_pair-even ring pair (i + 1) (λ e. omega arith) (λ e. omega (arith, odd, e)) ∙ ap (λ k. flipped (edge_of_link (link_at ring k))) back
+              ∙ ap (λ e. flipped e) (sym is);
+          to = subst (λ (e : Edge). Holds f (link_at ring (i + 1)).node e.to) (sym is) (follows i (i + 1) refl next);
+          along = i;
+          low_along = low;
+          link = inl is;
+        }
+    | inr even ↦
+        let is = ring_pair-even ring pair i some even in
+        let before : i - 1 < length ring = omega (arith, low) in
+        record {
+          other = i - 1;
+          low = before;
+          differs = λ e. omega (arith, e, some);
+          back = ring_pair-odd ring pair (i - 1) (omega (arith, some, even)) ∙ ap (λ e. flipped e) (sym is);
+          to = subst (λ (e : Edge). Holds f (link_at ring (i - 1)).node e.to) (sym is) (round.from (i - 1) before);
+          along = i - 1;
+          low_along = before;
+          link = inr is;
+        }
+  ]
 
-  module _ (j : ℕ) (low : 2 * j + 2 < length ring) where
-    low_one : 2 * j + 1 < length ring
-    low_one = omega (arith, low)
-
-    follows : Holds f (link_at ring (2 * j + 2)).node (link_at ring (2 * j + 1)).to
-    follows = elim (cases_after (length ring) (2 * j + 1)) [
-      | inl end ↦ absurd (omega (arith, end.0, low))
-      | inr at ↦ subst (λ k. Holds f (link_at ring k).node (link_at ring (2 * j + 1)).to) (omega (arith, at.1)) (round.to (2 * j + 1) low_one)
-    ]
-
-    odd_side : IsSide (2 * j + 1)
-    odd_side = inr (
-      record {
-        pair = edge_of_link (link_at ring (2 * j + 1));
-        is = ring_pairs.odd j low;
-        other = 2 * j + 2;
-        low = low;
-        differs = λ same. absurd (omega (arith, same));
-        back = ring_pairs.even j low;
-        to = follows;
-        along = 2 * j + 1;
-        low_along = low_one;
-        link = inl refl;
-      },
-      round.from (2 * j + 1) low_one,
-    )
-
-    even_side : IsSide (2 * j + 2)
-    even_side = inr (
-      record {
-        pair = flipped (edge_of_link (link_at ring (2 * j + 1)));
-        is = ring_pairs.even j low;
-        other = 2 * j + 1;
-        low = low_one;
-        differs = λ same. absurd (omega (arith, same));
-        back = ring_pairs.odd j low;
-        to = round.from (2 * j + 1) low_one;
-        along = 2 * j + 1;
-        low_along = low_one;
-        link = inr refl;
-      },
-      follows,
-    )
-
-  -- each node but the first is paired with another of the ring, along a link
-  pub ring_mate : (i : ℕ) → i < length ring → IsSide i
-  ring_mate i low = elim (cases_two i) [
-    | inl none ↦ inl none
-    | inr rest ↦ elim rest [
-      | inl odd ↦ subst (λ k. IsSide k) (sym odd.1) (odd_side odd.0 (omega (arith, odd.1, low, round.odd)))
-      | inr even ↦ subst (λ k. IsSide k) (sym even.1) (even_side even.0 (omega (arith, even.1, low)))
+  -- a node's pair leads from a leaf of it
+  pub ring_from : Holds f (link_at ring 0).node pair.from → (i : ℕ) → i < length ring → Holds f (link_at ring i).node (ring_pair ring pair i).from
+  ring_from base i low = elim (cases_eq i 0) [
+    | inl none ↦ subst (λ k. Holds f (link_at ring k).node (ring_pair ring pair k).from) (sym none) base
+    | inr some ↦ elim (cases_eq (i % 2) 1) [
+      | inl odd ↦ subst (λ (e : Edge). Holds f (link_at ring i).node e.from) (sym (ring_pair-odd ring pair i odd)) (round.from i low)
+      | inr even ↦ subst (λ (e : Edge). Holds f (link_at ring i).node e.from) (sym (ring_pair-even ring pair i some even))
+          (follows (i - 1) i (omega (arith, some)) low)
     ]
   ]

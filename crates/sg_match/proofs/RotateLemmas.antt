@@ -79,6 +79,16 @@ link_at-rotated i c j low_i low_j = elim (cases_wrapped (length c) i j) [
       ∙ ap (λ k. link_at c k) (back ∙ sym at.1)
 ]
 
+-- the rotated ring begins at its place
+pub first_rotated : (c : List Link) (start : ℕ) → start < length c → link_at (rotated start c) 0 ≡ link_at c start
+first_rotated c start low = link_at-rotated start c 0 low (omega (arith, low)) ∙ ap (λ k. link_at c k) back
+  where
+    back : wrapped (length c) start 0 ≡ start
+    back = elim (cases_wrapped (length c) start 0) [
+      | inl at ↦ omega (arith, at.1)
+      | inr at ↦ absurd (omega (arith, at.0, low))
+    ]
+
 -- where in the rotated ring a place of the ring went
 pub unwrapped : (n i k : ℕ) → i < n → k < n → (j : ℕ) × (j < n) × (wrapped n i j ≡ k)
 unwrapped n i k low_i low_k = elim (cases_lt k i) [

@@ -1,47 +1,30 @@
 -- Pairs of all sets, from the tops down to the leaves.
-use Rattle.std.specs.Prelude.{◌≡◌, ◌≢◌, ℕ, ◌<◌, List, length, slice_index, Option, Some, ◌⊎◌}
-use Rattle.sg_arena.specs.Family.{Family, Holds, IsBlossom, IsTop, cycle_of, link_at, IsAlive}
-use Rattle.sg_arena.specs.declared.Link.{Link}
-use Rattle.sg_sums.specs.Sets.{Differ, Stands}
-use Rattle.sg_match.specs.Pairs.{pair_of, flipped, edge_of_link}
+use Rattle.std.specs.Prelude.{◌≡◌, ℕ, zero, suc, ◌<◌, List, length, Option, Some}
+use Rattle.sg_arena.specs.Family.{Family, Holds, IsTop, cycle_of, leaf_node, link_at}
+use Rattle.sg_match.specs.Pairs.{pair_of}
+use Rattle.sg_match.specs.Rings.{ring_pair, rotated}
 use Rattle.sg_match.specs.declared.Edge.{Edge}
 
--- the list has each top once, and nothing else
-pub record ListsTops (f : Family) (names : List ℕ) : Type 0 where
-  pub tops : (k : ℕ) → k < length names → IsTop f (slice_index names k)
-  pub differ : Differ names
-  pub every : (t : ℕ) → IsTop f t → Stands names t
+-- the child n has the pair p if its blossom b has the pair q: the children are a ring from that on which holds the
+-- end of q
+pub record IsInside (f : Family) (b : ℕ) (q : Edge) (n : ℕ) (p : Edge) : Type 0 where
+  pub start : ℕ
+  pub low : start < length (cycle_of f b)
+  pub base : Holds f (link_at (cycle_of f b) start).node q.from
+  pub place : ℕ
+  pub within : place < length (rotated start (cycle_of f b))
+  pub here : (link_at (rotated start (cycle_of f b)) place).node ≡ n
+  pub is : p ≡ ring_pair (rotated start (cycle_of f b)) q place
 
--- the node has a pair, which leads from a leaf of it
-pub record HasOwn (f : Family) (pairs : List (Option Edge)) (n : ℕ) : Type 0 where
-  pub pair : Edge
-  pub is : pair_of pairs n ≡ Some pair
-  pub from : Holds f n pair.from
+-- the pair of a set so many blossoms below a top, whose pair is its own
+abbrev pub IsSetPairAt : Family → List (Option Edge) → ℕ → ℕ → Edge → Type 0
+IsSetPairAt f pairs zero n p = IsTop f n × (pair_of pairs n ≡ Some p)
+IsSetPairAt f pairs (suc depth) n p = (b : ℕ) × (q : Edge) × IsSetPairAt f pairs depth b q × IsInside f b q n p
 
--- the node at place i of a cycle is paired with another of the same cycle, along a link
-pub record HasMateInCycle (f : Family) (pairs : List (Option Edge)) (cycle : List Link) (i : ℕ) : Type 0 where
-  pub pair : Edge
-  pub is : pair_of pairs (link_at cycle i).node ≡ Some pair
-  pub other : ℕ
-  pub low : other < length cycle
-  pub differs : i ≢ other
-  pub back : pair_of pairs (link_at cycle other).node ≡ Some (flipped pair)
-  pub to : Holds f (link_at cycle other).node pair.to
-  pub along : ℕ
-  pub low_along : along < length cycle
-  pub link : (pair ≡ edge_of_link (link_at cycle along)) ⊎ (pair ≡ flipped (edge_of_link (link_at cycle along)))
+-- the pair of a set
+abbrev pub IsSetPair : Family → List (Option Edge) → ℕ → Edge → Type 0
+IsSetPair f pairs n p = (depth : ℕ) × IsSetPairAt f pairs depth n p
 
--- each child of a blossom has the blossom's pair, as at least one has, or one with a sibling
-pub record IsPairedInside (f : Family) (pairs : List (Option Edge)) (blossom : ℕ) : Type 0 where
-  pub own : (i : ℕ) → i < length (cycle_of f blossom) → HasOwn f pairs (link_at (cycle_of f blossom) i).node
-  pub child : (i : ℕ) → i < length (cycle_of f blossom) →
-      (pair_of pairs (link_at (cycle_of f blossom) i).node ≡ pair_of pairs blossom) ⊎
-      HasMateInCycle f pairs (cycle_of f blossom) i
-  pub base : IsBlossom f blossom → (i : ℕ) × (i < length (cycle_of f blossom)) ×
-      (pair_of pairs (link_at (cycle_of f blossom) i).node ≡ pair_of pairs blossom)
-
--- every set has a pair of its own, the tops those that they had
-pub record AreMatePairs (f : Family) (old new : List (Option Edge)) : Type 0 where
-  pub own : (n : ℕ) → IsAlive f n → HasOwn f new n
-  pub inside : (b : ℕ) → IsBlossom f b → IsPairedInside f new b
-  pub tops : (t : ℕ) → IsTop f t → pair_of new t ≡ pair_of old t
+-- the pair of the leaf's node leads to the mate
+abbrev pub IsMate : Family → List (Option Edge) → ℕ → ℕ → Type 0
+IsMate f pairs leaf mate = (p : Edge) × IsSetPair f pairs (leaf_node f leaf) p × (mate ≡ p.to)

@@ -1,5 +1,5 @@
 -- The children of a blossom as a ring: from one child on, either way round, and paired two by two.
-use Rattle.std.specs.Prelude.{◌≡◌, ◌≢◌, ℕ, ◌+◌, ◌*◌, ◌<◌, List, length, Option, Some, ◌%◌, ◌⊎◌, ◌-◌, if◌then◌else◌}
+use Rattle.std.specs.Prelude.{◌≡◌, ◌≢◌, ℕ, ◌<◌, List, length, Option, Some, ◌%◌, ◌⊎◌, ◌-◌, if◌then◌else◌}
 use Rattle.std.specs.Prelude.{◌++◌, drop, take, ◌==◌}
 use Rattle.sg_arena.specs.Family.{link_at}
 use Rattle.sg_arena.specs.declared.Link.{Link}
@@ -27,11 +27,12 @@ abbrev pub IsTurnedRing : List Link → ℕ → List Link → ℕ → Type 0
 IsTurnedRing ring entry turned_ring place = ((turned_ring ≡ ring) × (place ≡ entry)) ⊎
     (IsBackwards ring turned_ring × (0 < entry) × (place ≡ length ring - entry))
 
--- the first node of a ring has this pair, and the others are paired along their links, two by two
+-- the pair at a place of a ring: at the first place this one, and behind it along the links, two by two
+abbrev pub ring_pair : List Link → Edge → ℕ → Edge
+ring_pair ring pair i = if i == 0 then pair
+    else (if i % 2 == 1 then edge_of_link (link_at ring i) else flipped (edge_of_link (link_at ring (i - 1))))
+
+-- the nodes of a ring have these pairs
 pub record IsRingPaired (old new : List (Option Edge)) (ring : List Link) (pair : Edge) : Type 0 where
-  pub first : pair_of new (link_at ring 0).node ≡ Some pair
-  pub odd : (j : ℕ) → 2 * j + 2 < length ring →
-      pair_of new (link_at ring (2 * j + 1)).node ≡ Some (edge_of_link (link_at ring (2 * j + 1)))
-  pub even : (j : ℕ) → 2 * j + 2 < length ring →
-      pair_of new (link_at ring (2 * j + 2)).node ≡ Some (flipped (edge_of_link (link_at ring (2 * j + 1))))
+  pub each : (i : ℕ) → i < length ring → pair_of new (link_at ring i).node ≡ Some (ring_pair ring pair i)
   pub others : (n : ℕ) → ((i : ℕ) → i < length ring → (link_at ring i).node ≢ n) → pair_of new n ≡ pair_of old n

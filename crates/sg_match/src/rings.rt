@@ -2,7 +2,7 @@ ghost use Rattle.std.specs.Prelude.{◌≡◌, ℕ, ◌<◌, ◌≤◌, length, 
 ghost use Rattle.sg_arena.specs.Family.{IsFamily, IsChild, IsChildAt, cycle_of, link_at};
 ghost use Rattle.sg_sums.specs.Sets.{Differ};
 ghost use Rattle.sg_match.specs.Path.{nodes_of};
-ghost use Rattle.sg_match.specs.Rings.{IsBackwards, IsRingPaired, rotated};
+ghost use Rattle.sg_match.specs.Rings.{IsBackwards, IsOdd, IsRingPaired, rotated};
 
 use super::Edge;
 use super::pairs::pair_tops;
@@ -62,6 +62,7 @@ pub fn turn_back(ring: &[Link], turned: &mut Vec<Link>)
 // Gives the first node of a ring this pair, and pairs the others along their links, two by two.
 pub fn pair_ring(pairs: &mut [Option<Edge>], ring: &[Link], pair: Edge)
     requires some { 0 < length ring.now }
+    requires odd { IsOdd (length ring.now) }
     requires names { (i : ℕ) → i < length ring.now → (link_at ring.now i).node < length pairs.old }
     requires differ { Differ (nodes_of ring.now) }
     ensures ring_pairs { IsRingPaired pairs.old pairs.new ring.now pair }

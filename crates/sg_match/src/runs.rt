@@ -179,13 +179,12 @@ impl Engine {
         }
         let Engine {
             arena,
-            mut pairs,
-            mut outer,
+            pairs,
             mut ring,
             mut mates,
             ..
         } = self;
-        derive_mates(&arena, &mut pairs, &mut outer, &mut ring, &mut mates);
+        derive_mates(&arena, &pairs, &mut ring, &mut mates);
         Matched {
             mates: Mates::from_vec(mates),
             family: arena,

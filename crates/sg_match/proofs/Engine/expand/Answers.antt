@@ -1,9 +1,10 @@
 -- `expand`: a ring is listed, expanded, paired and grown into the tree.
-use Rattle.std.proofs.Common.{None, ◌≡◌, ◌+◌, ◌*◌, ◌≤◌, length, Contains, sym, ap, ◌∙◌, subst, arith, rules}
+use Rattle.std.proofs.Common.{None, ◌≡◌, ◌+◌, ◌*◌, ◌%◌, ◌≤◌, List, length, Contains, sym, ap, ◌∙◌, subst, arith, rules}
 use Rattle.std.proofs.lemmas.List.{with_items_is}
 use Rattle.std.specs.Vec.{with_items}
 use Rattle.sg_arena.proofs.FamilyLemmas.{length-with_slot}
 use Rattle.sg_arena.specs.Family.{Family}
+use Rattle.sg_arena.specs.declared.Link.{Link}
 use Rattle.sg_match.proofs.Engine.expand.Given.{Over}
 use Rattle.sg_match.proofs.Engine.expand.Goals as goal
 use Rattle.sg_match.proofs.Engine.expand.Goals.{After-turn_to_odd-entry, After-index-tree_edge, After-list_ring, After-expand_edge}
@@ -106,6 +107,12 @@ pair_ring-requires-clause-names g c =
     let here = goal.at.pair_ring-requires-clause-names g c in
     ring_named (ring_cut g here.After-turn_to_odd-entry (edge_found g here.After-index-tree_edge)) c.deref-3.result.now c.deref_mut.result.now
     c.deref-3.ensures.value c.deref_mut.ensures.value
+
+pub pair_ring-requires-clause-odd : goal.pair_ring-requires-clause-odd
+pair_ring-requires-clause-odd g c =
+    let here = goal.at.pair_ring-requires-clause-odd g c in
+    subst (λ (xs : List Link). length xs % 2 ≡ 1) (sym c.deref-3.ensures.value)
+    (ring_cut g here.After-turn_to_odd-entry (edge_found g here.After-index-tree_edge)).is.cycle.odd
 
 pub pair_ring-requires-clause-differ : goal.pair_ring-requires-clause-differ
 pair_ring-requires-clause-differ g c =

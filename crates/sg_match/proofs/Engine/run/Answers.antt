@@ -18,10 +18,10 @@ use Rattle.sg_slack.specs.Table.{Table}
 
 pub derive_mates-requires-clause-paired : goal.derive_mates-requires-clause-paired
 derive_mates-requires-clause-paired g c =
-    subst (λ (xs : List (Option Edge)). IsPaired c.self.inside.arena (λ u v. Unit {0}) xs) (sym c.deref_mut.ensures.value)
+    subst (λ (xs : List (Option Edge)). IsPaired c.self.inside.arena (λ u v. Unit {0}) xs) (sym c.deref.ensures.value)
     (record { own = c.self.invariant.engine.paired.own; other = c.self.invariant.engine.paired.other; tight = λ t p top some. tt })
 
-same_table : (g : Over) (c : goal.After-drop-self-inside-11 g) → c.self.inside.near.table ≡ c.args.self.table
+same_table : (g : Over) (c : goal.After-drop-self-inside-12 g) → c.self.inside.near.table ≡ c.args.self.table
 same_table g c = ap (λ (s : State). s.table) c.self.view_is ∙ c.advance.ensures.table ∙ c.loop-node.invariant.0
 
 pub returns-clause-slack : goal.returns-clause-slack
@@ -33,13 +33,13 @@ pub returns-clause-matching : goal.returns-clause-matching
 returns-clause-matching g c =
     let engine = c.self.invariant.engine in
     let paired = subst (λ (xs : List (Option Edge)). IsPaired c.self.inside.arena (IsTight c.self.inside.arena (cost c.self.inside.near.table)) xs)
-    (sym c.deref_mut.ensures.value) engine.paired in
+    (sym c.deref.ensures.value) engine.paired in
     let derived = c.derive_mates.ensures (cost c.self.inside.near.table) (symmetric (state_of c.self.inside) engine) engine.feasible paired in
-    let written = with_items_is c.self.inside.mates c.derive_mates.new.mates (c.derive_mates.auto.mates ∙ c.deref_mut-2.ensures.len) in
+    let written = with_items_is c.self.inside.mates c.derive_mates.new.mates (c.derive_mates.auto.mates ∙ c.deref_mut.ensures.len) in
     subst (λ (t : Table). IsMatching c.self.inside.arena (cost t) c.from_vec.result) (same_table g c)
     (subst (λ (xs : List ℕ). IsMatching c.self.inside.arena (cost c.self.inside.near.table) xs) (sym (c.from_vec.ensures ∙ written)) derived)
 
-matched : (g : Over) (c : goal.After-drop-self-inside-11 g) → IsMatching c.self.inside.arena (cost c.args.self.table) c.from_vec.result
+matched : (g : Over) (c : goal.After-drop-self-inside-12 g) → IsMatching c.self.inside.arena (cost c.args.self.table) c.from_vec.result
 matched g c = returns-clause-matching g c
 
 pub returns-clause-duals : goal.returns-clause-duals

@@ -1,14 +1,11 @@
--- `derive_mates`: the entries so far have passed their pairs on to their children.
-use Rattle.std.proofs.Common.{length, vec_capacity, ◌-◌, ◌≡◌}
-use Rattle.sg_match.proofs.MatesStep.{IsDeriving}
+-- `derive_mates`: the leaves so far have their mates.
+use Rattle.std.proofs.Common.{get_or, length, vec_capacity, ℕ, ◌<◌, ◌≡◌}
 use Rattle.sg_match.proofs.mates.derive_mates.Given as goal
+use Rattle.sg_match.specs.MatePairs.{IsMate}
 
-abbrev pub invariant-loop-next : goal.invariant-loop-next
-invariant-loop-next l = record {
-  room : vec_capacity l.nodes ≡ vec_capacity l.fn.nodes;
-  ring_room : vec_capacity l.ring ≡ vec_capacity l.fn.ring;
-  is_deriving : IsDeriving l.arena l.fn.pairs l.pairs l.nodes.items l.next;
+abbrev pub invariant-loop-leaf : goal.invariant-loop-leaf
+invariant-loop-leaf l = record {
+  count : length l.mates ≡ length l.fn.mates;
+  room : vec_capacity l.ring ≡ vec_capacity l.fn.ring;
+  written : (k : ℕ) → k < l.leaf → IsMate l.arena l.pairs k (get_or l.mates k 0);
 }
-
-abbrev pub decreases-loop-next : goal.decreases-loop-next
-decreases-loop-next l = length l.arena.nodes - l.next

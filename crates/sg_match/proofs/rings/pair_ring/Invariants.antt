@@ -1,12 +1,13 @@
 -- `pair_ring`: the nodes so far are paired.
-use Rattle.std.proofs.Common.{length, ◌-◌, ◌≡◌, ℕ, ◌≤◌, ◌+◌, ◌*◌}
+use Rattle.std.proofs.Common.{length, ◌%◌, ◌-◌, ◌≡◌, ◌≤◌}
 use Rattle.sg_match.proofs.RingPairLemmas.{IsRingPairedTo}
 use Rattle.sg_match.proofs.rings.pair_ring.Given as goal
 
 abbrev pub invariant-loop-i : goal.invariant-loop-i
 invariant-loop-i l = record {
   within : l.i ≤ length l.ring;
-  twos : (count : ℕ) × (l.i ≡ 2 * count + 1) × IsRingPairedTo l.fn.pairs l.pairs l.ring l.fn.pair count;
+  odd : l.i % 2 ≡ 1;
+  paired : IsRingPairedTo l.fn.pairs l.pairs l.ring l.fn.pair l.i;
 }
 
 abbrev pub decreases-loop-i : goal.decreases-loop-i
