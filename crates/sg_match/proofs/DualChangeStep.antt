@@ -6,7 +6,6 @@ use Rattle.std.specs.List.{list_any, range_with_len}
 use Rattle.std.specs.Option.{option_map, option_map_or}
 use Rattle.std.proofs.lemmas.Int.{ints}
 use Rattle.std.proofs.lemmas.List.{ext_get_or}
-use Rattle.sg_arena.proofs.DualLemmas.{between-tops}
 use Rattle.sg_arena.proofs.FamilyLemmas.{some_leaf}
 use Rattle.sg_sums.proofs.ListLaws.{cases_in, list_any-agree, sum_by-agree}
 use Rattle.sg_arena.proofs.RaisedFamily.{IsTop-raised_old, cycle-raised, length-raised, node_at-raised}
@@ -19,8 +18,8 @@ use Rattle.sg_sums.specs.Sums.{sum_below}
 use Rattle.sg_match.proofs.EngineLemmas.{even, exposed_of, symmetric, tree_of}
 use Rattle.sg_match.proofs.ParityLemmas.{tree_parity}
 use Rattle.sg_match.proofs.NearestStep.{CanChangeDuals-nearest}
-use Rattle.sg_match.proofs.RaiseStep.{CanRaise-tree, IsFeasible-raised, IsExposed-raised, IsPaired-raised, IsTree-raised, between_after, held, total_free}
-use Rattle.sg_match.proofs.RaiseStep.{total_outer}
+use Rattle.sg_match.proofs.RaiseStep.{CanRaise-tree, IsFeasible-raised, IsExposed-raised, IsPaired-raised, IsTree-raised, between_moved, free_moves, held}
+use Rattle.sg_match.proofs.RaiseStep.{outer_moves}
 use Rattle.sg_match.proofs.TreeLemmas.{inner_at, length-inners, outer_cases, outer_pair}
 use Rattle.sg_match.proofs.TopLemmas.{top_of}
 use Rattle.sg_match.specs.Bound.{IsBounded, IsCalm}
@@ -168,15 +167,11 @@ module _ (f : Family) (cost : ℕ → ℕ → ℕ) (r : ℕ) (edges : List TreeE
       let t = top_of f fam v at.low_v in
       let out = at.out t.0 t.1 t.2 in
       let s = get_or (outers r edges) at.outer.0 0 in
-      let top = can.tops.outer_tops at.outer.0 at.outer.1 in
-      let differ : s ≢ t.0 = out.outer at.outer.0 at.outer.1 in
       omega (
         arith,
         at.slack,
-        between-tops f fam s t.0 u v top t.1 differ at.outer.2 t.2,
-        between_after f cost r edges delta fam can s t.0 u v top t.1 differ at.outer.2 t.2,
-        total_outer f cost r edges delta fam can s u at.outer.0 at.outer.1 refl at.outer.2,
-        total_free f cost r edges delta fam can t.0 v t.1 out t.2,
+        between_moved f cost r edges delta fam can s t.0 u v (can.tops.outer_tops at.outer.0 at.outer.1) t.1 (out.outer at.outer.0 at.outer.1) at.outer.2 t.2
+            delta 0 0 0 (outer_moves f cost r edges delta fam can s (at.outer.0, at.outer.1, refl)) (free_moves f cost r edges delta fam can t.0 t.1 out),
       )
 
   tight_outer_outer : (u v : ℕ) → IsOuterOuterAt f cost r edges delta u v → IsTight g cost u v
@@ -184,15 +179,13 @@ module _ (f : Family) (cost : ℕ → ℕ → ℕ) (r : ℕ) (edges : List TreeE
       let s = get_or (outers r edges) at.outer_u.0 0 in
       let t = get_or (outers r edges) at.outer_v.0 0 in
       let top_s = can.tops.outer_tops at.outer_u.0 at.outer_u.1 in
-      let top_t = can.tops.outer_tops at.outer_v.0 at.outer_v.1 in
       let differ : s ≢ t = (λ same. at.apart s top_s at.outer_u.2 (subst (λ n. Holds f n v) (sym same) at.outer_v.2)) in
       omega (
         arith,
         at.slack,
-        between-tops f fam s t u v top_s top_t differ at.outer_u.2 at.outer_v.2,
-        between_after f cost r edges delta fam can s t u v top_s top_t differ at.outer_u.2 at.outer_v.2,
-        total_outer f cost r edges delta fam can s u at.outer_u.0 at.outer_u.1 refl at.outer_u.2,
-        total_outer f cost r edges delta fam can t v at.outer_v.0 at.outer_v.1 refl at.outer_v.2,
+        between_moved f cost r edges delta fam can s t u v top_s (can.tops.outer_tops at.outer_v.0 at.outer_v.1) differ at.outer_u.2 at.outer_v.2
+            delta 0 delta 0 (outer_moves f cost r edges delta fam can s (at.outer_u.0, at.outer_u.1, refl))
+            (outer_moves f cost r edges delta fam can t (at.outer_v.0, at.outer_v.1, refl)),
       )
 
 -- the state after the raise

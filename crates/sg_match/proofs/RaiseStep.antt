@@ -3,7 +3,7 @@ use Rattle.std.proofs.Common.{◌≡◌, ◌≢◌, ℕ, suc, ◌+◌, ◌-◌, 
 use Rattle.std.proofs.lemmas.Option.{none-some, same_Some}
 use Rattle.std.proofs.lemmas.List.{get_or_default}
 use Rattle.std.proofs.lemmas.Bool.{cases_eq, cases_lt}
-use Rattle.sg_arena.proofs.DualLemmas.{between-tops, inner-leaf_enough}
+use Rattle.sg_arena.proofs.DualLemmas.{between-tops, duals_between-back, inner-leaf_enough}
 use Rattle.sg_arena.proofs.FamilyLemmas.{after_within, child-covered, leaf_bound, top-covers}
 use Rattle.sg_sums.proofs.ListLaws.{cases_in}
 use Rattle.sg_arena.proofs.RaisedFamily.{IsFamily-raised, IsTop-raised, IsTop-raised_old, between-raised_same, cycle-raised, leaves-raised, total-raised_is}
@@ -12,6 +12,7 @@ use Rattle.sg_arena.specs.Family.{Family, Holds, IsBlossom, IsFamily, IsTop, aft
 use Rattle.sg_arena.specs.Slack.{duals_between}
 use Rattle.sg_match.proofs.AboveLemmas.{leaf-only}
 use Rattle.sg_match.proofs.TreeLemmas.{pair_tight, inner_at, length-inners, length-outers, mate_out, out_holds, outer_at, outer_cases, outer_pair}
+use Rattle.sg_sums.specs.Sets.{Stands}
 use Rattle.sg_match.specs.DualChange.{CanChangeDuals}
 use Rattle.sg_match.specs.Feasible.{IsFeasible}
 use Rattle.sg_pairing.specs.Tight.{IsTight}
@@ -38,110 +39,106 @@ module _ (f : Family) (cost : ℕ → ℕ → ℕ) (r : ℕ) (edges : List TreeE
 
   -- where a top stands
   data Stand (t : ℕ) : Type 0 where
-    in_outer : (i : ℕ) → i < length outer → get_or outer i 0 ≡ t → Stand t
-    in_inner : (i : ℕ) → i < length inner → get_or inner i 0 ≡ t → Stand t
+    in_outer : Stands outer t → Stand t
+    in_inner : Stands inner t → Stand t
     in_free : IsOut r edges t → Stand t
 
   stand : (t : ℕ) → Stand t
   stand t =
       elim (cases_in outer t) [
-        | inl at ↦ in_outer at.0 at.1 at.2
+        | inl at ↦ in_outer (at.0, at.1, at.2)
         | inr none ↦ elim (cases_in inner t) [
-          | inl at ↦ in_inner at.0 at.1 at.2
+          | inl at ↦ in_inner (at.0, at.1, at.2)
           | inr away ↦ in_free (record { outer = none.0; inner = away.0 })
         ]
       ]
 
-  -- what a total is after the raise
-  pub total_outer : (t l i : ℕ) → i < length outer → get_or outer i 0 ≡ t → Holds f t l → total_of g l ≡ total_of f l + delta
-  total_outer t l i low at in_t =
-      elim (cases_in outer t) [
-        | inl some ↦
-            let changed : raised_dual outer inner delta t (dual_of f t) ≡ dual_of f t + delta = rw some.3 refl in
-            omega (arith, total-raised_is f outer inner delta fam can t l (subst (λ n. IsTop f n) at (can.tops.outer_tops i low)) in_t, changed)
-        | inr none ↦ absurd (none.0 i low at)
-      ]
+  outer_top : (t : ℕ) → Stands outer t → IsTop f t
+  outer_top t at = subst (λ n. IsTop f n) at.2 (can.tops.outer_tops at.0 at.1)
 
-  -- totals of leaves in inner tops fall by the amount
-  pub total_inner : (t l i : ℕ) → i < length inner → get_or inner i 0 ≡ t → Holds f t l → total_of g l + delta ≡ total_of f l
-  total_inner t l i low at in_t =
-      elim (cases_in outer t) [
-        | inl clash ↦ absurd (can.tops.apart clash.0 i clash.1 low (clash.2 ∙ sym at))
-        | inr none ↦ elim (cases_in inner t) [
-          | inl some ↦
-              let changed : raised_dual outer inner delta t (dual_of f t) ≡ dual_of f t - delta = rw (none.1, some.3) refl in
-              omega (
-                arith,
-                total-raised_is f outer inner delta fam can t l (subst (λ n. IsTop f n) at (can.tops.inner_tops i low)) in_t,
-                changed,
-                can.enough i low,
-                ap (λ n. dual_of f n) at,
-              )
-          | inr away ↦ absurd (away.0 i low at)
-        ]
-      ]
+  inner_top : (t : ℕ) → Stands inner t → IsTop f t
+  inner_top t at = subst (λ n. IsTop f n) at.2 (can.tops.inner_tops at.0 at.1)
 
-  -- totals of leaves outside the tree stay
-  pub total_free : (t l : ℕ) → IsTop f t → IsOut r edges t → Holds f t l → total_of g l ≡ total_of f l
-  total_free t l top out in_t =
-      elim (cases_in outer t) [
-        | inl clash ↦ absurd (out.outer clash.0 clash.1 clash.2)
-        | inr none ↦ elim (cases_in inner t) [
-          | inl clash ↦ absurd (out.inner clash.0 clash.1 clash.2)
-          | inr away ↦
-              let changed : raised_dual outer inner delta t (dual_of f t) ≡ dual_of f t = rw (none.1, away.1) refl in
-              omega (arith, total-raised_is f outer inner delta fam can t l top in_t, changed)
-        ]
-      ]
+  -- how the totals of a top's leaves move
+  abbrev pub Moves : ℕ → ℕ → ℕ → Type 0
+  Moves t up down = (l : ℕ) → Holds f t l → total_of g l + down ≡ total_of f l + up
 
-  -- between two tops the duals that count are the totals of both leaves
-  pub between_after : (s t u v : ℕ) → IsTop f s → IsTop f t → s ≢ t → Holds f s u → Holds f t v → duals_between g u v ≡ total_of g u + total_of g v
-  between_after s t u v top_s top_t differ in_s in_t =
+  -- those of an outer top grow by the amount
+  pub outer_moves : (t : ℕ) → Stands outer t → Moves t delta 0
+  outer_moves t at l in_t = elim (cases_in outer t) [
+    | inl some ↦
+        let changed : raised_dual outer inner delta t (dual_of f t) ≡ dual_of f t + delta = rw some.3 refl in
+        omega (arith, total-raised_is f outer inner delta fam can t l (outer_top t at) in_t, changed)
+    | inr none ↦ absurd (none.0 at.0 at.1 at.2)
+  ]
+
+  -- those of an inner top fall by it
+  inner_moves : (t : ℕ) → Stands inner t → Moves t 0 delta
+  inner_moves t at l in_t = elim (cases_in outer t) [
+    | inl clash ↦ absurd (can.tops.apart clash.0 at.0 clash.1 at.1 (clash.2 ∙ sym at.2))
+    | inr none ↦ elim (cases_in inner t) [
+      | inl some ↦
+          let changed : raised_dual outer inner delta t (dual_of f t) ≡ dual_of f t - delta = rw (none.1, some.3) refl in
+          omega (
+            arith,
+            total-raised_is f outer inner delta fam can t l (inner_top t at) in_t,
+            changed,
+            can.enough at.0 at.1,
+            ap (λ n. dual_of f n) at.2,
+          )
+      | inr away ↦ absurd (away.0 at.0 at.1 at.2)
+    ]
+  ]
+
+  -- those of a top outside the tree stay
+  pub free_moves : (t : ℕ) → IsTop f t → IsOut r edges t → Moves t 0 0
+  free_moves t top out l in_t = elim (cases_in outer t) [
+    | inl clash ↦ absurd (out.outer clash.0 clash.1 clash.2)
+    | inr none ↦ elim (cases_in inner t) [
+      | inl clash ↦ absurd (out.inner clash.0 clash.1 clash.2)
+      | inr away ↦
+          let changed : raised_dual outer inner delta t (dual_of f t) ≡ dual_of f t = rw (none.1, away.1) refl in
+          omega (arith, total-raised_is f outer inner delta fam can t l top in_t, changed)
+    ]
+  ]
+
+  any_moves : (t : ℕ) → IsTop f t → Stand t → (up : ℕ) × (down : ℕ) × (up ≤ delta) × Moves t up down
+  any_moves t top (in_outer at) = (delta, 0, omega arith, outer_moves t at)
+  any_moves t top (in_inner at) = (0, delta, omega arith, inner_moves t at)
+  any_moves t top (in_free out) = (0, 0, omega arith, free_moves t top out)
+
+  module _ (s t u v : ℕ) (top_s : IsTop f s) (top_t : IsTop f t) (differ : s ≢ t) (in_s : Holds f s u) (in_t : Holds f t v) where
+    -- between two tops the duals move as the totals of both leaves
+    pub between_moved : (a b c d : ℕ) → Moves s a b → Moves t c d → duals_between g u v + b + d ≡ duals_between f u v + a + c
+    between_moved a b c d moves_s moves_t = omega (
+      arith,
+      between-tops f fam s t u v top_s top_t differ in_s in_t,
       between-tops g (IsFamily-raised f outer inner delta fam can) s t u v (IsTop-raised f outer inner delta fam can s top_s)
-      (IsTop-raised f outer inner delta fam can t top_t) differ (held s u ∙ in_s) (held t v ∙ in_t)
+          (IsTop-raised f outer inner delta fam can t top_t) differ (held s u ∙ in_s) (held t v ∙ in_t),
+      moves_s u in_s,
+      moves_t v in_t,
+    )
 
   -- an edge between an inner and an outer top stays tight, either way round
-  tight_tree : (s t u v i j : ℕ) → i < length inner → get_or inner i 0 ≡ s → j < length outer → get_or outer j 0 ≡ t → Holds f s u → Holds f t v →
-      IsTight f cost u v → IsTight g cost u v
-  tight_tree s t u v i j low_i at_i low_j at_j in_s in_t tight =
-      let top_s = subst (λ n. IsTop f n) at_i (can.tops.inner_tops i low_i) in
-      let top_t = subst (λ n. IsTop f n) at_j (can.tops.outer_tops j low_j) in
-      let differ : s ≢ t = λ same. absurd (can.tops.apart j i low_j low_i (at_j ∙ sym same ∙ sym at_i)) in
-      omega (
-        arith,
-        between_after s t u v top_s top_t differ in_s in_t,
-        between-tops f fam s t u v top_s top_t differ in_s in_t,
-        total_inner s u i low_i at_i in_s,
-        total_outer t v j low_j at_j in_t,
-        tight,
-      )
-
-  tight_tree_back : (s t u v i j : ℕ) → i < length inner → get_or inner i 0 ≡ s → j < length outer → get_or outer j 0 ≡ t → Holds f s u → Holds f t v →
-      IsTight f cost v u → IsTight g cost v u
-  tight_tree_back s t u v i j low_i at_i low_j at_j in_s in_t tight =
-      let top_s = subst (λ n. IsTop f n) at_i (can.tops.inner_tops i low_i) in
-      let top_t = subst (λ n. IsTop f n) at_j (can.tops.outer_tops j low_j) in
-      let differ : t ≢ s = λ same. absurd (can.tops.apart j i low_j low_i (at_j ∙ same ∙ sym at_i)) in
-      omega (
-        arith,
-        between_after t s v u top_t top_s differ in_t in_s,
-        between-tops f fam t s v u top_t top_s differ in_t in_s,
-        total_inner s u i low_i at_i in_s,
-        total_outer t v j low_j at_j in_t,
-        tight,
-      )
-
-  tight_free : (s t u v : ℕ) → IsTop f s → IsTop f t → s ≢ t → IsOut r edges s → IsOut r edges t → Holds f s u → Holds f t v → IsTight f cost u v →
-      IsTight g cost u v
-  tight_free s t u v top_s top_t differ out_s out_t in_s in_t tight =
-      omega (
-        arith,
-        between_after s t u v top_s top_t differ in_s in_t,
-        between-tops f fam s t u v top_s top_t differ in_s in_t,
-        total_free s u top_s out_s in_s,
-        total_free t v top_t out_t in_t,
-        tight,
-      )
+  tight_tree : (s t u v : ℕ) → Stands inner s → Stands outer t → Holds f s u → Holds f t v →
+      (IsTight f cost u v → IsTight g cost u v) × (IsTight f cost v u → IsTight g cost v u)
+  tight_tree s t u v at_s at_t in_s in_t = (
+    (λ tight. omega (
+      arith,
+      tight,
+      between_moved s t u v (inner_top s at_s) (outer_top t at_t) (λ e. differ e) in_s in_t 0 delta delta 0 (inner_moves s at_s)
+          (outer_moves t at_t),
+    )),
+    (λ tight. omega (
+      arith,
+      tight,
+      between_moved t s v u (outer_top t at_t) (inner_top s at_s) (λ e. differ (sym e)) in_t in_s delta 0 0 delta
+          (outer_moves t at_t) (inner_moves s at_s),
+    )),
+  )
+    where
+      differ : s ≢ t
+      differ same = can.tops.apart at_t.0 at_s.0 at_t.1 at_s.1 (at_t.2 ∙ sym same ∙ sym at_s.2)
 
   -- the totals in one top change alike
   shift_same : (t u v : ℕ) → IsTop f t → Holds f t u → Holds f t v → total_of f u % 2 ≡ total_of f v % 2 → total_of g u % 2 ≡ total_of g v % 2
@@ -162,56 +159,36 @@ module _ (f : Family) (cost : ℕ → ℕ → ℕ) (r : ℕ) (edges : List TreeE
         | inr differ ↦ go differ (stand s) (stand t)
       ]
     where
-      after : s ≢ t → duals_between g u v ≡ total_of g u + total_of g v
-      after differ = between_after s t u v top_s top_t differ in_s in_t
-
-      before : s ≢ t → duals_between f u v ≡ total_of f u + total_of f v
-      before differ = between-tops f fam s t u v top_s top_t differ in_s in_t
-
       go : s ≢ t → Stand s → Stand t → duals_between g u v ≤ cost u v
-      go differ (in_outer i low_i at_i) (in_outer j low_j at_j) =
-          omega (
-            arith,
-            after differ,
-            before differ,
-            total_outer s u i low_i at_i in_s,
-            total_outer t v j low_j at_j in_t,
-            change.slacks.between u v i j low_u low_v low_i low_j (λ e. differ (sym at_i ∙ ap (λ k. get_or outer k 0) e ∙ at_j))
-                (subst (λ n. Holds f n u) (sym at_i) in_s) (subst (λ n. Holds f n v) (sym at_j) in_t),
-          )
-      go differ (in_outer i low_i at_i) (in_inner j low_j at_j) =
-          omega (arith, after differ, before differ, total_outer s u i low_i at_i in_s, total_inner t v j low_j at_j in_t, slack u v low_u low_v)
-      go differ (in_outer i low_i at_i) (in_free out) =
-          let away = out_holds f fam r edges can.tops.outer_tops can.tops.inner_tops t v top_t in_t out in
-          omega (
-            arith,
-            after differ,
-            before differ,
-            total_outer s u i low_i at_i in_s,
-            total_free t v top_t out in_t,
-            change.slacks.free u v low_u low_v (i, low_i, subst (λ n. Holds f n u) (sym at_i) in_s) away,
-          )
-      go differ (in_inner i low_i at_i) (in_outer j low_j at_j) =
-          omega (arith, after differ, before differ, total_inner s u i low_i at_i in_s, total_outer t v j low_j at_j in_t, slack u v low_u low_v)
-      go differ (in_inner i low_i at_i) (in_inner j low_j at_j) =
-          omega (arith, after differ, before differ, total_inner s u i low_i at_i in_s, total_inner t v j low_j at_j in_t, slack u v low_u low_v)
-      go differ (in_inner i low_i at_i) (in_free out) =
-          omega (arith, after differ, before differ, total_inner s u i low_i at_i in_s, total_free t v top_t out in_t, slack u v low_u low_v)
-      go differ (in_free out) (in_outer j low_j at_j) =
-          let away = out_holds f fam r edges can.tops.outer_tops can.tops.inner_tops s u top_s in_s out in
-          omega (
-            arith,
-            after differ,
-            between-tops f fam t s v u top_t top_s (λ e. differ (sym e)) in_t in_s,
-            total_free s u top_s out in_s,
-            total_outer t v j low_j at_j in_t,
-            symmetric u v low_u low_v,
-            change.slacks.free v u low_v low_u (j, low_j, subst (λ n. Holds f n v) (sym at_j) in_t) away,
-          )
-      go differ (in_free out) (in_inner j low_j at_j) =
-          omega (arith, after differ, before differ, total_free s u top_s out in_s, total_inner t v j low_j at_j in_t, slack u v low_u low_v)
-      go differ (in_free out) (in_free out') =
-          omega (arith, after differ, before differ, total_free s u top_s out in_s, total_free t v top_t out' in_t, slack u v low_u low_v)
+      go differ (in_inner at) other =
+          let m = any_moves t top_t other in
+          omega (arith, slack u v low_u low_v, m.2, between_moved s t u v top_s top_t differ in_s in_t 0 delta m.0 m.1 (inner_moves s at) m.3)
+      go differ (in_outer at) (in_inner also) =
+          omega (arith, slack u v low_u low_v, between_moved s t u v top_s top_t differ in_s in_t delta 0 0 delta (outer_moves s at) (inner_moves t also))
+      go differ (in_outer at) (in_outer also) = omega (
+        arith,
+        change.slacks.between u v at.0 also.0 low_u low_v at.1 also.1 (λ e. differ (sym at.2 ∙ ap (λ k. get_or outer k 0) e ∙ also.2))
+            (subst (λ n. Holds f n u) (sym at.2) in_s) (subst (λ n. Holds f n v) (sym also.2) in_t),
+        between_moved s t u v top_s top_t differ in_s in_t delta 0 delta 0 (outer_moves s at) (outer_moves t also),
+      )
+      go differ (in_outer at) (in_free out) = omega (
+        arith,
+        change.slacks.free u v low_u low_v (at.0, at.1, subst (λ n. Holds f n u) (sym at.2) in_s)
+            (out_holds f fam r edges can.tops.outer_tops can.tops.inner_tops t v top_t in_t out),
+        between_moved s t u v top_s top_t differ in_s in_t delta 0 0 0 (outer_moves s at) (free_moves t top_t out),
+      )
+      go differ (in_free out) (in_inner at) =
+          omega (arith, slack u v low_u low_v, between_moved s t u v top_s top_t differ in_s in_t 0 0 0 delta (free_moves s top_s out) (inner_moves t at))
+      go differ (in_free out) (in_outer at) = omega (
+        arith,
+        symmetric u v low_u low_v,
+        duals_between-back f u v,
+        change.slacks.free v u low_v low_u (at.0, at.1, subst (λ n. Holds f n v) (sym at.2) in_t)
+            (out_holds f fam r edges can.tops.outer_tops can.tops.inner_tops s u top_s in_s out),
+        between_moved s t u v top_s top_t differ in_s in_t 0 0 delta 0 (free_moves s top_s out) (outer_moves t at),
+      )
+      go differ (in_free out) (in_free also) =
+          omega (arith, slack u v low_u low_v, between_moved s t u v top_s top_t differ in_s in_t 0 0 0 0 (free_moves s top_s out) (free_moves t top_t also))
 
   -- parts 1, 2 and 5 after a raise
   pub IsFeasible-raised : IsFeasible f cost → CanChangeDuals f cost r edges delta →
@@ -267,9 +244,9 @@ module _ (f : Family) (cost : ℕ → ℕ → ℕ) (r : ℕ) (edges : List TreeE
           pair = tree.pair;
           up_tight = λ i low.
               let at = (tree.shape.edge i low).up_to in
-              tight_tree (tree_edge_at edges i).inner (get_or outer at.0 0) (tree_edge_at edges i).up.from (tree_edge_at edges i).up.to i at.0
-              (omega (arith, low, length-inners edges)) (inner_at edges i low) (omega (arith, low, at.1, length-outers r edges)) refl
-              (tree.shape.up_from i low) at.2 (tree.up_tight i low);
+              (tight_tree (tree_edge_at edges i).inner (get_or outer at.0 0) (tree_edge_at edges i).up.from (tree_edge_at edges i).up.to
+              (i, omega (arith, low, length-inners edges), inner_at edges i low) (at.0, omega (arith, low, at.1, length-outers r edges), refl)
+              (tree.shape.up_from i low) at.2).0 (tree.up_tight i low);
         }
 
     -- the pairs stay tight
@@ -282,34 +259,40 @@ module _ (f : Family) (cost : ℕ → ℕ → ℕ) (r : ℕ) (edges : List TreeE
           tight = λ t p top is. go t p (IsTop-raised_old f outer inner delta fam can t top) is (stand t);
         }
       where
+        in_tree : (i : ℕ) → i < length edges → (IsTight g cost (tree_edge_at edges i).pair.from (tree_edge_at edges i).pair.to) ×
+            (IsTight f cost (tree_edge_at edges i).pair.to (tree_edge_at edges i).pair.from →
+            IsTight g cost (tree_edge_at edges i).pair.to (tree_edge_at edges i).pair.from)
+        in_tree i low =
+            let tight = tight_tree (tree_edge_at edges i).inner (tree_edge_at edges i).outer (tree_edge_at edges i).pair.from (tree_edge_at edges i).pair.to
+            (i, omega (arith, low, length-inners edges), inner_at edges i low) (suc i, omega (arith, low, length-outers r edges), outer_at r edges i low)
+            ((tree.shape.edge i low).pair_from) ((tree.shape.edge i low).pair_to) in
+            (tight.0 (pair_tight f cost pairs r edges fam paired tree i low), tight.1)
+
         go : (t : ℕ) (p : Edge) → IsTop f t → pair_of pairs t ≡ Some p → Stand t → IsTight g cost p.from p.to
-        go t p top is (in_outer i low at) =
-            elim (outer_cases r edges i low) [
-              | inl root ↦ absurd (none-some _ (sym tree.exposed_root ∙ ap (λ n. pair_of pairs n) (sym root.1 ∙ at) ∙ is))
+        go t p top is (in_outer at) =
+            elim (outer_cases r edges at.0 at.1) [
+              | inl root ↦ absurd (none-some _ (sym tree.exposed_root ∙ ap (λ n. pair_of pairs n) (sym root.1 ∙ at.2) ∙ is))
               | inr tree_edge ↦
                   let e : flipped (tree_edge_at edges tree_edge.0).pair ≡ p =
                   same_Some _ _ (sym (outer_pair f cost pairs r edges fam paired tree tree_edge.0 tree_edge.1) ∙
-                  ap (λ n. pair_of pairs n) (sym tree_edge.3 ∙ at) ∙ is) in
+                  ap (λ n. pair_of pairs n) (sym tree_edge.3 ∙ at.2) ∙ is) in
                   subst (λ x. IsTight g cost x.from x.to) e
-                  (tight_tree_back (tree_edge_at edges tree_edge.0).inner t (tree_edge_at edges tree_edge.0).pair.from
-                  (tree_edge_at edges tree_edge.0).pair.to tree_edge.0 i (omega (arith, tree_edge.1, length-inners edges))
-                  (inner_at edges tree_edge.0 tree_edge.1) low at
-                  ((tree.shape.edge tree_edge.0 tree_edge.1).pair_from)
-                  (subst (λ n. Holds f n (tree_edge_at edges tree_edge.0).pair.to) (sym tree_edge.3 ∙ at) ((tree.shape.edge tree_edge.0 tree_edge.1).pair_to))
-                  (subst (λ x. IsTight f cost x.from x.to) (sym e) (paired.tight t p top is)))
+                  ((in_tree tree_edge.0 tree_edge.1).1 (subst (λ x. IsTight f cost x.from x.to) (sym e) (paired.tight t p top is)))
             ]
-        go t p top is (in_inner i low at) =
-            let within : i < length edges = omega (arith, low, length-inners edges) in
-            let e : (tree_edge_at edges i).pair ≡ p =
-            same_Some _ _ (sym (tree.pair i within) ∙ ap (λ n. pair_of pairs n) (sym (inner_at edges i within) ∙ at) ∙ is) in
-            subst (λ x. IsTight g cost x.from x.to) e
-            (tight_tree (tree_edge_at edges i).inner (tree_edge_at edges i).outer (tree_edge_at edges i).pair.from (tree_edge_at edges i).pair.to i (suc i) low
-            (inner_at edges i within) (omega (arith, within, length-outers r edges)) (outer_at r edges i within)
-            ((tree.shape.edge i within).pair_from) ((tree.shape.edge i within).pair_to) (pair_tight f cost pairs r edges fam paired tree i within))
+        go t p top is (in_inner at) =
+            let within : at.0 < length edges = omega (arith, at.1, length-inners edges) in
+            let e : (tree_edge_at edges at.0).pair ≡ p =
+            same_Some _ _ (sym (tree.pair at.0 within) ∙ ap (λ n. pair_of pairs n) (sym (inner_at edges at.0 within) ∙ at.2) ∙ is) in
+            subst (λ x. IsTight g cost x.from x.to) e (in_tree at.0 within).0
         go t p top is (in_free out) =
             let m = paired.other t p top is in
-            tight_free t m.0 p.from p.to top m.1 (λ e. m.2 (sym e)) out (mate_out f cost pairs r edges fam paired tree t m.0 p top m.1 is m.3 out)
-            (paired.own t p top is) m.3 (paired.tight t p top is)
+            let out_m = mate_out f cost pairs r edges fam paired tree t m.0 p top m.1 is m.3 out in
+            omega (
+              arith,
+              paired.tight t p top is,
+              between_moved t m.0 p.from p.to top m.1 (λ e. m.2 (sym e)) (paired.own t p top is) m.3 0 0 0 0
+                  (free_moves t top out) (free_moves m.0 m.1 out_m),
+            )
 
   -- the unpaired tops
   pub IsExposed-raised : (pairs : List (Option Edge)) (root : Option ℕ) (exposed : List ℕ) → IsExposed f pairs root exposed → IsExposed g pairs root exposed

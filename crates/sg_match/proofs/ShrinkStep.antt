@@ -1,5 +1,5 @@
 -- The engine's invariant after a blossom is made of two outer tops and the tops between them.
-use Rattle.std.proofs.Common.{◌≡◌, ◌≢◌, ◌⊎◌, ℕ, zero, suc, ◌+◌, ◌*◌, ◌<◌, ◌≤◌, ◌%◌, true, false, List, length, get_or, set, Option, Some, None, Contains}
+use Rattle.std.proofs.Common.{◌≡◌, ◌≢◌, ◌⊎◌, ℕ, ◌+◌, ◌*◌, ◌<◌, ◌≤◌, ◌%◌, true, false, List, length, get_or, set, Option, Some, None, Contains}
 use Rattle.std.proofs.Common.{refl, sym, ap, ◌∙◌, subst, inl, inr, arith}
 use Rattle.std.proofs.lemmas.Option.{none-some, same_Some}
 use Rattle.std.proofs.lemmas.Bool.{cases_Bool, cases_eq}
@@ -19,7 +19,7 @@ use Rattle.sg_match.proofs.RegrowStep.{IsRegrown}
 use Rattle.sg_match.proofs.ShrinkTreeStep.{closed, inner_taken, open_base, shrunk_tree}
 use Rattle.sg_match.proofs.ShrinkSetsStep.{CanShrink-tree_cycle, IsFeasible-shrunk, IsPaired-shrunk, path_head, top-not_dead}
 use Rattle.sg_match.proofs.StepsStep.{blossoms-shrunk, rest-one_fewer}
-use Rattle.sg_match.proofs.TreeLemmas.{pair_tight, inner_at, inner_top, length-inners, length-outers, outer_at, outer_cases, outer_pair}
+use Rattle.sg_match.proofs.TreeLemmas.{pair_tight, inner_at, inner_top, length-inners, length-outers, outer_cases, outer_pair}
 use Rattle.sg_match.specs.Engine.{IsEngine}
 use Rattle.sg_match.specs.Exposed.{IsExposed, root_count}
 use Rattle.sg_pairing.specs.Metric.{cost}
@@ -86,47 +86,25 @@ module _ (s : State) (root : ℕ) (engine : IsEngine s) (rooted : s.root ≡ Som
     exposed_node n is none = elim (tree_cycle.spot n is) [
       | inl head ↦ exposed_outer tree_cycle.head_at.0 n (omega (arith, tree_cycle.head_at.1, tree_cycle.within, length-outers root s.edges))
           (tree_cycle.head_at.2 ∙ sym head) none
-      | inr rest ↦ elim rest [
-        | inl out ↦ exposed_outer out.0 n out.2 out.3 none
-        | inr inn ↦
-            let low : inn.0 < length s.edges = omega (arith, inn.2, length-inners s.edges) in
-            absurd (none-some _ (sym none ∙ ap (λ m. pair_of s.pairs m) (sym inn.3 ∙ inner_at s.edges inn.0 low) ∙ tree.pair inn.0 low))
+      | inr spot ↦ elim spot.is [
+        | inl inn ↦ absurd (none-some _ (sym none ∙ ap (λ m. pair_of s.pairs m) inn ∙ tree.pair spot.at spot.low))
+        | inr out ↦ absurd (none-some _
+            (sym none ∙ ap (λ m. pair_of s.pairs m) out ∙ outer_pair f price s.pairs root s.edges fam engine.paired tree spot.at spot.low))
       ]
     ]
 
     -- a tree edge whose inner top is in the cycle
     edge_in : (m : ℕ) × (place ≤ m) × (m < length s.edges) × Contains (nodes_of cycle) (tree_edge_at s.edges m).inner
-    edge_in = elim (tree_cycle.spot second (node_in cycle 1 two)) [
+    edge_in = elim (tree_cycle.spot (link_at cycle 1).node (node_in cycle 1 two)) [
       | inl head ↦ absurd (zero_one (can.closed.differ 0 1 some two (base_first ∙ sym head)))
-      | inr rest ↦ elim rest [
-        | inl out ↦ from_outer out.0 out.1 out.2 out.3
-        | inr inn ↦
-            let low : inn.0 < length s.edges = omega (arith, inn.2, length-inners s.edges) in
-            (inn.0, inn.1, low, subst (λ n. Contains (nodes_of cycle) n) (sym inn.3 ∙ inner_at s.edges inn.0 low) (node_in cycle 1 two))
-      ]
+      | inr spot ↦ (spot.at, spot.late, spot.low, spot.inner)
     ]
       where
         two : 1 < length cycle
         two = omega (arith, can.closed.long)
 
-        second : ℕ
-        second = (link_at cycle 1).node
-
         zero_one : ◌≡◌ {A = ℕ} 0 1 → ⊥
         zero_one e = omega (arith, e)
-
-        from_outer : (j : ℕ) → place < j → j < length (outers root s.edges) → get_or (outers root s.edges) j 0 ≡ (link_at cycle 1).node →
-            (m : ℕ) × (place ≤ m) × (m < length s.edges) × Contains (nodes_of cycle) (tree_edge_at s.edges m).inner
-        from_outer zero far low at = absurd (omega (arith, far))
-        from_outer (suc m) far low at =
-            let low_m : m < length s.edges = omega (arith, low, length-outers root s.edges) in
-            let late : place ≤ m = omega (arith, far) in (
-              m,
-              late,
-              low_m,
-              (tree_cycle.whole m late low_m).1
-                  (subst (λ n. Contains (nodes_of cycle) n) (sym at ∙ outer_at root s.edges m low_m) (node_in cycle 1 two)),
-            )
 
     module _ (b : ℕ) (dead : node_at f b ≡ None) (room : b < length f.nodes) where
       abbrev g : Family

@@ -2,7 +2,7 @@
 use Rattle.std.proofs.Common.{◌≡◌, ◌≢◌, ◌⊎◌, ℕ, zero, suc, ◌<◌, ◌≤◌, ◌%◌, cond, List, [], ◌∷◌, ◌++◌, length, get_or, set, take, Option, Some, None}
 use Rattle.std.proofs.Common.{Contains, refl, sym, ap, ◌∙◌, subst, inl, inr, arith}
 use Rattle.std.proofs.lemmas.Option.{none-some, same_Some}
-use Rattle.std.proofs.lemmas.Bool.{cases_Bool, cases_eq, cases_lt, false≢true}
+use Rattle.std.proofs.lemmas.Bool.{cases_Bool, cases_eq, false≢true}
 use Rattle.std.proofs.lemmas.List.{get_or-set_other, get_or-set_same, take_all}
 use Rattle.std.proofs.Math.Seq.{take-suc}
 use Rattle.sg_arena.proofs.FamilyLemmas.{some_leaf, top-apart}
@@ -38,63 +38,47 @@ module _ (f : Family) (cost : ℕ → ℕ → ℕ) (b : ℕ) (cycle : List Link)
   low_inner : (i : ℕ) → i < length edges → i < length (inners edges)
   low_inner i low = omega (arith, low, length-inners edges)
 
-  edge_low : (i : ℕ) → i < length (inners edges) → i < length edges
-  edge_low i low = omega (arith, low, length-inners edges)
-
   -- in the cycle each top but the base is paired with another of it
   pub closed : (i : ℕ) (p : Edge) → i < length cycle → (link_at cycle i).node ≢ base → pair_of pairs (link_at cycle i).node ≡ Some p →
       (j : ℕ) × (j < length cycle) × Holds f (link_at cycle j).node p.to
-  closed i p low away is =
-      elim (tree_cycle.spot (link_at cycle i).node (node_in cycle i low)) [
-        | inl clash ↦ absurd (away clash)
-        | inr rest ↦ elim rest [
-          | inl out ↦ outer_case out.0 out.1 out.2 out.3
-          | inr inn ↦
-              let m = edge_low inn.0 inn.2 in
-              let e : (tree_edge_at edges inn.0).pair ≡ p =
-              same_Some _ _ (sym (tree.pair inn.0 m) ∙ ap (λ n. pair_of pairs n) (sym (inner_at edges inn.0 m) ∙ inn.3) ∙ is) in
-              let hit = place_in cycle (tree_edge_at edges inn.0).outer
-              ((tree_cycle.whole inn.0 inn.1 m).0 (subst (λ n. Contains (nodes_of cycle) n) (sym inn.3 ∙ inner_at edges inn.0 m) (node_in cycle i low)))
-              in (
-                hit.0,
-                hit.1,
-                subst (λ x. Holds f (link_at cycle hit.0).node x.to) e
-                    (subst (λ n. Holds f n (tree_edge_at edges inn.0).pair.to) (sym hit.2) ((tree.shape.edge inn.0 m).pair_to)),
-              )
-        ]
-      ]
-    where
-      outer_case : (j : ℕ) → place < j → j < length (outers root edges) → get_or (outers root edges) j 0 ≡ (link_at cycle i).node →
-          (j : ℕ) × (j < length cycle) × Holds f (link_at cycle j).node p.to
-      outer_case zero from low_j at = absurd (omega (arith, from))
-      outer_case (suc m) from low_j at =
-          let low_m : m < length edges = omega (arith, low_j, length-outers root edges) in
-          let e : flipped (tree_edge_at edges m).pair ≡ p =
-          same_Some _ _ (sym (outer_pair f cost pairs root edges fam paired tree m low_m) ∙
-          ap (λ n. pair_of pairs n) (sym (outer_at root edges m low_m) ∙ at) ∙ is) in
-          let hit = place_in cycle (tree_edge_at edges m).inner
-          ((tree_cycle.whole m (omega (arith, from)) low_m).1
-          (subst (λ n. Contains (nodes_of cycle) n) (sym at ∙ outer_at root edges m low_m) (node_in cycle i low))) in (
+  closed i p low away is = elim (tree_cycle.spot (link_at cycle i).node (node_in cycle i low)) [
+    | inl clash ↦ absurd (away clash)
+    | inr s ↦ elim s.is [
+      | inl inn ↦
+          let e : (tree_edge_at edges s.at).pair ≡ p = same_Some _ _ (sym (tree.pair s.at s.low) ∙ ap (λ n. pair_of pairs n) (sym inn) ∙ is) in
+          let hit = place_in cycle (tree_edge_at edges s.at).outer s.outer in (
             hit.0,
             hit.1,
             subst (λ x. Holds f (link_at cycle hit.0).node x.to) e
-                (subst (λ n. Holds f n (tree_edge_at edges m).pair.from) (sym hit.2) ((tree.shape.edge m low_m).pair_from)),
+                (subst (λ n. Holds f n (tree_edge_at edges s.at).pair.to) (sym hit.2) ((tree.shape.edge s.at s.low).pair_to)),
           )
+      | inr out ↦
+          let e : flipped (tree_edge_at edges s.at).pair ≡ p =
+          same_Some _ _ (sym (outer_pair f cost pairs root edges fam paired tree s.at s.low) ∙ ap (λ n. pair_of pairs n) (sym out) ∙ is) in
+          let hit = place_in cycle (tree_edge_at edges s.at).inner s.inner in (
+            hit.0,
+            hit.1,
+            subst (λ x. Holds f (link_at cycle hit.0).node x.to) e
+                (subst (λ n. Holds f n (tree_edge_at edges s.at).pair.from) (sym hit.2) ((tree.shape.edge s.at s.low).pair_from)),
+          )
+    ]
+  ]
 
-  -- a tree edge before the place keeps its inner top out of the cycle
-  inner_out : (m : ℕ) → m < place → m < length edges → Contains (nodes_of cycle) (tree_edge_at edges m).inner → ⊥
-  inner_out m before low is =
-      elim (tree_cycle.spot (tree_edge_at edges m).inner is) [
-        | inl e ↦ tree.shape.tops.apart tree_cycle.head_at.0 m (omega (arith, tree_cycle.head_at.1, bound)) (low_inner m low)
-            (tree_cycle.head_at.2 ∙ sym e ∙ sym (inner_at edges m low))
-        | inr rest ↦ elim rest [
-          | inl out ↦ tree.shape.tops.apart out.0 m out.2 (low_inner m low) (out.3 ∙ sym (inner_at edges m low))
-          | inr inn ↦ absurd (omega (arith, before, inn.1, tree.shape.tops.inner_differ m inn.0 (low_inner m low) inn.2 (inner_at edges m low ∙ sym inn.3)))
-        ]
-      ]
-    where
-      bound : tree_cycle.head_at.0 < length (outers root edges)
-      bound = omega (arith, tree_cycle.head_at.1, tree_cycle.within, length-outers root edges)
+  -- a tree edge whose inner top is in the cycle is not before the place, and its outer top is in the cycle too
+  inner_in : (m : ℕ) → m < length edges → Contains (nodes_of cycle) (tree_edge_at edges m).inner →
+      (place ≤ m) × Contains (nodes_of cycle) (tree_edge_at edges m).outer
+  inner_in m low is = elim (tree_cycle.spot (tree_edge_at edges m).inner is) [
+    | inl e ↦ absurd (tree.shape.tops.apart tree_cycle.head_at.0 m (omega (arith, tree_cycle.head_at.1, tree_cycle.within, length-outers root edges))
+        (low_inner m low) (tree_cycle.head_at.2 ∙ sym e ∙ sym (inner_at edges m low)))
+    | inr s ↦ elim s.is [
+      | inl inn ↦
+          let same : s.at ≡ m = tree.shape.tops.inner_differ s.at m (low_inner s.at s.low) (low_inner m low)
+          (inner_at edges s.at s.low ∙ sym inn ∙ sym (inner_at edges m low)) in
+          (omega (arith, same, s.late), subst (λ k. Contains (nodes_of cycle) (tree_edge_at edges k).outer) same s.outer)
+      | inr out ↦ absurd (tree.shape.tops.apart (suc s.at) m (omega (arith, s.low, length-outers root edges)) (low_inner m low)
+          (outer_at root edges s.at s.low ∙ sym out ∙ sym (inner_at edges m low)))
+    ]
+  ]
 
   -- the base's own mate is outside
   pub open_base : (j : ℕ) (p : Edge) → j < length cycle → pair_of pairs base ≡ Some p → Holds f (link_at cycle j).node p.to → ⊥
@@ -110,18 +94,19 @@ module _ (f : Family) (cost : ℕ → ℕ → ℕ) (b : ℕ) (cycle : List Link)
           let same = top-apart f fam (link_at cycle j).node (tree_edge_at edges m).inner (tree_edge_at edges m).pair.from (can.tops j low)
           (inner_top f root edges tree.shape m low_m) (subst (λ x. Holds f (link_at cycle j).node x.to) (sym e) held)
           ((tree.shape.edge m low_m).pair_from) in
-          inner_out m (omega (arith, below)) low_m (subst (λ n. Contains (nodes_of cycle) n) same (node_in cycle j low))
+          absurd (omega (arith, below, (inner_in m low_m (subst (λ n. Contains (nodes_of cycle) n) same (node_in cycle j low))).0))
 
   -- an outer top of the cycle whose inner top is not in it is the base
   outer_is_base : (i : ℕ) → i < length edges → (Contains (nodes_of cycle) (tree_edge_at edges i).inner → ⊥) →
       Contains (nodes_of cycle) (tree_edge_at edges i).outer → (tree_edge_at edges i).outer ≡ base
   outer_is_base i low away is = elim (tree_cycle.spot (tree_edge_at edges i).outer is) [
     | inl head ↦ head
-    | inr rest ↦ elim rest [
-      | inl out ↦
-          let place_is : out.0 ≡ suc i = tree.shape.tops.outer_differ out.0 (suc i) out.2 within (out.3 ∙ sym (outer_at root edges i low)) in
-          absurd (away ((tree_cycle.whole i (omega (arith, place_is, out.1)) low).1 is))
-      | inr inn ↦ absurd (tree.shape.tops.apart (suc i) inn.0 within inn.2 (outer_at root edges i low ∙ sym inn.3))
+    | inr s ↦ elim s.is [
+      | inl inn ↦ absurd (tree.shape.tops.apart (suc i) s.at within (low_inner s.at s.low) (outer_at root edges i low ∙ inn ∙ sym (inner_at edges s.at s.low)))
+      | inr out ↦
+          let same : suc s.at ≡ suc i = tree.shape.tops.outer_differ (suc s.at) (suc i) (omega (arith, s.low, length-outers root edges)) within
+          (outer_at root edges s.at s.low ∙ sym out ∙ sym (outer_at root edges i low)) in
+          absurd (away (subst (λ k. Contains (nodes_of cycle) (tree_edge_at edges k).inner) (omega (arith, same)) s.inner))
     ]
   ]
     where
@@ -206,9 +191,13 @@ module _ (f : Family) (cost : ℕ → ℕ → ℕ) (b : ℕ) (cycle : List Link)
         root_out : root ≢ base → Contains (nodes_of cycle) root → ⊥
         root_out differs is = elim (tree_cycle.spot root is) [
           | inl head ↦ differs head
-          | inr rest ↦ elim rest [
-            | inl out ↦ absurd (omega (arith, out.1, tree.shape.tops.outer_differ out.0 0 out.2 (omega arith) out.3))
-            | inr inn ↦ tree.shape.tops.apart 0 inn.0 (omega arith) inn.2 (sym inn.3)
+          | inr s ↦ elim s.is [
+            | inl inn ↦ tree.shape.tops.apart 0 s.at (omega arith) (low_inner s.at s.low) (inn ∙ sym (inner_at edges s.at s.low))
+            | inr out ↦ absurd (omega (
+              arith,
+              tree.shape.tops.outer_differ (suc s.at) 0 (omega (arith, s.low, length-outers root edges)) (omega arith)
+                  (outer_at root edges s.at s.low ∙ sym out),
+            ))
           ]
         ]
 
@@ -261,11 +250,10 @@ module _ (f : Family) (cost : ℕ → ℕ → ℕ) (b : ℕ) (cycle : List Link)
         step = elim (cases_Bool (holds g b e.up.from)) [
           | inl gone ↦
               let inside : Contains (nodes_of cycle) e.inner = in_cycle e.inner e.up.from top_in (tree.shape.up_from k low) gone in
-              let late : place ≤ k = elim (cases_lt k place) [ inl early ↦ absurd (inner_out k early low inside) | inr late ↦ late ] in
-              let outside = (tree_cycle.whole k late low).0 inside in
+              let both = inner_in k low inside in
               as_next done (shrunk-gone g b (take k edges) e gone)
               (IsRegrown-skip f g cost pairs now root top_root edges tree tight_same (NewOut k) NoIn done k is low (NewOut (suc k)) later
-              (λ l held. blossom_leaf (omega (arith, tree_cycle.head_at.1, late)) l (in_blossom e.outer l outside held)))
+              (λ l held. blossom_leaf (omega (arith, tree_cycle.head_at.1, both.0)) l (in_blossom e.outer l both.1 held)))
           | inr stays ↦
               let away : Contains (nodes_of cycle) e.inner → ⊥ =
               (λ inside. false≢true (sym stays ∙ in_blossom e.inner e.up.from inside (tree.shape.up_from k low))) in

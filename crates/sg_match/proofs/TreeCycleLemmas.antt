@@ -1,5 +1,5 @@
 -- A path that grows over one more tree edge at either end.
-use Rattle.std.proofs.Common.{◌≡◌, ◌≢◌, ℕ, zero, suc, ◌+◌, ◌-◌, ◌<◌, ◌≤◌, ◌%◌, List, [], ◌∷◌, ◌++◌, length, get_or, Contains, refl, sym, ap, ◌∙◌, subst, inl}
+use Rattle.std.proofs.Common.{◌≡◌, ◌≢◌, ℕ, zero, suc, ◌+◌, ◌-◌, ◌<◌, ◌≤◌, ◌%◌, ◌⊎◌, List, [], ◌∷◌, ◌++◌, length, get_or, Contains, refl, sym, ap, ◌∙◌, subst, inl}
 use Rattle.std.proofs.Common.{inr, arith, length-append}
 use Rattle.std.proofs.lemmas.Bool.{cases_eq, cases_lt}
 use Rattle.std.proofs.lemmas.List.{get_or_append_left, map-append}
@@ -15,7 +15,7 @@ use Rattle.sg_pairing.specs.Tight.{IsTight}
 use Rattle.sg_match.specs.Links.{pair_link, down_link, step_link, up_link}
 use Rattle.sg_match.specs.Path.{AreTight, IsPath, nodes_of}
 use Rattle.sg_sums.specs.Sets.{Differ}
-use Rattle.sg_match.specs.TreeCycle.{HasTight, IsTreeCycle}
+use Rattle.sg_match.specs.TreeCycle.{HasTight, IsSpot, IsTreeCycle}
 use Rattle.sg_match.specs.Tree.{IsShape, inners, tree_edge_at, outers}
 use Rattle.sg_match.specs.declared.TreeEdge.{TreeEdge}
 
@@ -93,7 +93,6 @@ module _ (f : Family) (root : ℕ) (edges : List TreeEdge) (fam : IsFamily f) (s
           top-apart f fam (get_or (outers root edges) at_u.0 0) tail u
               (shape.tops.outer_tops at_u.0 at_u.1) top_tail at_u.2 in_tail,
         );
-        whole = λ j from low. absurd (omega (arith, from, low));
         some = λ same. absurd (apart same);
       }
     where
@@ -144,20 +143,43 @@ module _ (f : Family) (root : ℕ) (edges : List TreeEdge) (fam : IsFamily f) (s
     only_head : (j n : ℕ) → j ≤ i + 1 → get_or (outers root edges) j 0 ≡ n → Contains nodes n → n ≡ head
     only_head j n low at in_n = elim (is.spot n in_n) [
       | inl here ↦ here
-      | inr rest ↦ elim rest [
-        | inl out ↦ absurd (omega (arith, low, out.1, shape.tops.outer_differ j out.0 (up_place j low) out.2 (at ∙ sym out.3)))
-        | inr inn ↦ absurd (shape.tops.apart j inn.0 (up_place j low) inn.2 (at ∙ sym inn.3))
+      | inr s ↦ elim s.is [
+        | inl inn ↦ absurd (shape.tops.apart j s.at (up_place j low) (omega (arith, s.low, length-inners edges))
+            (at ∙ inn ∙ sym (inner_at edges s.at s.low)))
+        | inr out ↦ absurd (omega (
+          arith,
+          low,
+          s.late,
+          shape.tops.outer_differ j (suc s.at) (up_place j low) (omega (arith, s.low, length-outers root edges))
+              (at ∙ out ∙ sym (outer_at root edges s.at s.low)),
+        ))
       ]
     ]
 
     no_inner : (n : ℕ) → get_or (inners edges) i 0 ≡ n → Contains nodes n → ⊥
     no_inner n at in_n = elim (is.spot n in_n) [
       | inl here ↦ shape.tops.apart is.head_at.0 i (up_place is.head_at.0 is.head_at.1) low_in (is.head_at.2 ∙ sym here ∙ sym at)
-      | inr rest ↦ elim rest [
-        | inl out ↦ shape.tops.apart out.0 i out.2 low_in (out.3 ∙ sym at)
-        | inr inn ↦ absurd (omega (arith, inn.1, shape.tops.inner_differ i inn.0 low_in inn.2 (at ∙ sym inn.3)))
+      | inr s ↦ elim s.is [
+        | inl inn ↦ absurd (omega (
+          arith,
+          s.late,
+          shape.tops.inner_differ i s.at low_in (omega (arith, s.low, length-inners edges)) (at ∙ inn ∙ sym (inner_at edges s.at s.low)),
+        ))
+        | inr out ↦ shape.tops.apart (suc s.at) i (omega (arith, s.low, length-outers root edges)) low_in
+            (outer_at root edges s.at s.low ∙ sym out ∙ sym at)
       ]
     ]
+
+    -- a top of the path stays one of a longer path
+    spot_more : (more : List ℕ) (n : ℕ) → ((m : ℕ) → Contains nodes m → Contains more m) → IsSpot edges nodes (i + 1) n → IsSpot edges more i n
+    spot_more more n old s = record {
+      at = s.at;
+      late = omega (arith, s.late);
+      low = s.low;
+      inner = old (tree_edge_at edges s.at).inner s.inner;
+      outer = old (tree_edge_at edges s.at).outer s.outer;
+      is = s.is;
+    }
 
     -- the tree edge is on neither side
     pub IsTreeCycle-skip : tree_edge.outer ≢ tail → tree_edge.outer ≢ head → IsTreeCycle f root edges cycle i head tail
@@ -167,23 +189,9 @@ module _ (f : Family) (root : ℕ) (edges : List TreeEdge) (fam : IsFamily f) (s
           within = omega (arith, within);
           odd = is.odd;
           differ = is.differ;
-          spot = λ n in_n. elim (is.spot n in_n) [
-            | inl here ↦ inl here
-            | inr rest ↦ elim rest [
-              | inl out ↦ inr (inl (out.0, omega (arith, out.1), out.2, out.3))
-              | inr inn ↦ inr (inr (inn.0, omega (arith, inn.1), inn.2, inn.3))
-            ]
-          ];
+          spot = λ n in_n. elim (is.spot n in_n) [ inl here ↦ inl here | inr s ↦ inr (spot_more nodes n (λ m h. h) s) ];
           head_at = below head away_head is.head_at;
           tail_at = below tail away_tail is.tail_at;
-          whole = λ j from low. elim (cases_eq i j) [
-            | inl same ↦ subst (λ k. (Contains nodes (tree_edge_at edges k).inner → Contains nodes (tree_edge_at edges k).outer) ×
-                (Contains nodes (tree_edge_at edges k).outer → Contains nodes (tree_edge_at edges k).inner)) same (
-                  (λ in_n. absurd (no_inner tree_edge.inner (inner_at edges i within) in_n)),
-                  (λ in_n. absurd (away_head (only_head (suc i) tree_edge.outer (omega arith) (outer_at root edges i within) in_n))),
-                )
-            | inr differs ↦ is.whole j (omega (arith, from, differs)) low
-          ];
           some = is.some;
         }
       where
@@ -236,34 +244,21 @@ module _ (f : Family) (root : ℕ) (edges : List TreeEdge) (fam : IsFamily f) (s
                   | inr inn ↦ no_inner n (inner_at edges i within ∙ sym inn) old
                 ]));
             spot = λ n in_n. elim (Contains-append_cases nodes (tree_edge.outer ∷ tree_edge.inner ∷ []) n (subst (λ xs. Contains xs n) nodes_are in_n)) [
-              | inl old ↦ elim (is.spot n old) [
-                | inl here ↦ inl here
-                | inr rest ↦ elim rest [
-                  | inl out ↦ inr (inl (out.0, omega (arith, out.1), out.2, out.3))
-                  | inr inn ↦ inr (inr (inn.0, omega (arith, inn.1), inn.2, inn.3))
-                ]
-              ]
-              | inr new ↦ elim (Contains-two tree_edge.outer tree_edge.inner n new) [
-                | inl out ↦ inr (inl (suc i, omega arith, low_out, outer_at root edges i within ∙ sym out))
-                | inr inn ↦ inr (inr (i, omega arith, low_in, inner_at edges i within ∙ sym inn))
-              ]
+              | inl old ↦ elim (is.spot n old) [ inl here ↦ inl here | inr s ↦ inr (spot_more (nodes_of (cycle ++ more)) n in_old s) ]
+              | inr new ↦ inr (record {
+                at = i;
+                late = omega arith;
+                low = within;
+                inner = in_new tree_edge.inner (1, omega arith, refl);
+                outer = in_new tree_edge.outer (0, omega arith, refl);
+                is = elim (Contains-two tree_edge.outer tree_edge.inner n new) [ inl out ↦ inr out | inr inn ↦ inl inn ];
+              })
             ];
             head_at = elim (cases_eq is.head_at.0 (suc i)) [
               | inl last ↦ absurd (apart (sym is.head_at.2 ∙ ap (λ j. get_or (outers root edges) j 0) last ∙ outer_at root edges i within ∙ same))
               | inr before ↦ (is.head_at.0, omega (arith, is.head_at.1, before), is.head_at.2)
             ];
             tail_at = next_at;
-            whole = λ j from low. elim (cases_eq i j) [
-              | inl here ↦ subst (λ k. (Contains (nodes_of (cycle ++ more)) (tree_edge_at edges k).inner →
-                  Contains (nodes_of (cycle ++ more)) (tree_edge_at edges k).outer) ×
-                  (Contains (nodes_of (cycle ++ more)) (tree_edge_at edges k).outer → Contains (nodes_of (cycle ++ more)) (tree_edge_at edges k).inner)) here
-                  ((λ _. in_new tree_edge.outer (0, omega arith, refl)), (λ _. in_new tree_edge.inner (1, omega arith, refl)))
-              | inr differs ↦
-                  let old = is.whole j (omega (arith, from, differs)) low in (
-                    (λ in_n. in_old (tree_edge_at edges j).outer (old.0 (was_inner j low differs in_n))),
-                    (λ in_n. in_old (tree_edge_at edges j).inner (old.1 (was_outer j low differs in_n))),
-                  )
-            ];
             some = λ _. omega (arith, length-append cycle more);
           }
         where
@@ -272,38 +267,6 @@ module _ (f : Family) (root : ℕ) (edges : List TreeEdge) (fam : IsFamily f) (s
 
           in_old : (n : ℕ) → Contains nodes n → Contains (nodes_of (cycle ++ more)) n
           in_old n h = subst (λ xs. Contains xs n) (sym nodes_are) (Contains-append_left nodes (tree_edge.outer ∷ tree_edge.inner ∷ []) n h)
-
-          suc_same : {a b : ℕ} → suc a ≡ suc b → a ≡ b
-          suc_same {a} {b} e = omega (arith, e)
-
-          was_inner : (j : ℕ) → j < length edges → i ≢ j → Contains (nodes_of (cycle ++ more)) (tree_edge_at edges j).inner →
-              Contains nodes (tree_edge_at edges j).inner
-          was_inner j low differs in_n = elim
-              (Contains-append_cases nodes (tree_edge.outer ∷ tree_edge.inner ∷ []) (tree_edge_at edges j).inner
-              (subst (λ xs. Contains xs (tree_edge_at edges j).inner) nodes_are in_n)) [
-                | inl old ↦ old
-                | inr new ↦ elim (Contains-two tree_edge.outer tree_edge.inner (tree_edge_at edges j).inner new) [
-                  | inl out ↦ absurd (shape.tops.apart (suc i) j low_out (omega (arith, low, length-inners edges))
-                      (outer_at root edges i within ∙ sym out ∙ sym (inner_at edges j low)))
-                  | inr inn ↦ absurd (differs (shape.tops.inner_differ i j low_in (omega (arith, low, length-inners edges))
-                      (inner_at edges i within ∙ sym inn ∙ sym (inner_at edges j low))))
-                ]
-              ]
-
-          was_outer : (j : ℕ) → j < length edges → i ≢ j → Contains (nodes_of (cycle ++ more)) (tree_edge_at edges j).outer →
-              Contains nodes (tree_edge_at edges j).outer
-          was_outer j low differs in_n = elim
-              (Contains-append_cases nodes (tree_edge.outer ∷ tree_edge.inner ∷ []) (tree_edge_at edges j).outer
-              (subst (λ xs. Contains xs (tree_edge_at edges j).outer) nodes_are in_n)) [
-                | inl old ↦ old
-                | inr new ↦ elim (Contains-two tree_edge.outer tree_edge.inner (tree_edge_at edges j).outer new) [
-                  | inl out ↦ absurd (differs (suc_same
-                      (shape.tops.outer_differ (suc i) (suc j) low_out (omega (arith, low, length-outers root edges))
-                      (outer_at root edges i within ∙ sym out ∙ sym (outer_at root edges j low)))))
-                  | inr inn ↦ absurd (shape.tops.apart (suc j) i (omega (arith, low, length-outers root edges)) low_in
-                      (outer_at root edges j low ∙ inn ∙ sym (inner_at edges i within)))
-                ]
-              ]
 
     -- the tree edge begins the path at its head
     module _ (same : tree_edge.outer ≡ head) (next : ℕ) (top_next : IsTop f next) (in_next : Holds f next tree_edge.up.to) where
@@ -358,16 +321,10 @@ module _ (f : Family) (root : ℕ) (edges : List TreeEdge) (fam : IsFamily f) (s
                   | inr inn ↦ no_inner n (inner_at edges i within ∙ sym inn) old
                 ]);
             spot = λ n in_n. elim (Contains-append_cases (next ∷ tree_edge.inner ∷ []) nodes n in_n) [
-              | inl new ↦ elim (Contains-two next tree_edge.inner n new) [
-                | inl up ↦ inl up
-                | inr inn ↦ inr (inr (i, omega arith, low_in, inner_at edges i within ∙ sym inn))
-              ]
+              | inl new ↦ elim (Contains-two next tree_edge.inner n new) [ inl up ↦ inl up | inr inn ↦ inr (here n (inl inn)) ]
               | inr old ↦ elim (is.spot n old) [
-                | inl here ↦ inr (inl (suc i, omega arith, low_out, outer_at root edges i within ∙ same ∙ sym here))
-                | inr rest ↦ elim rest [
-                  | inl out ↦ inr (inl (out.0, omega (arith, out.1), out.2, out.3))
-                  | inr inn ↦ inr (inr (inn.0, omega (arith, inn.1), inn.2, inn.3))
-                ]
+                | inl head ↦ inr (here n (inr (head ∙ sym same)))
+                | inr s ↦ inr (spot_more (nodes_of longer) n (Contains-append_right (next ∷ tree_edge.inner ∷ []) nodes) s)
               ]
             ];
             head_at = up_at;
@@ -375,40 +332,16 @@ module _ (f : Family) (root : ℕ) (edges : List TreeEdge) (fam : IsFamily f) (s
               | inl last ↦ absurd (apart (sym same ∙ sym (outer_at root edges i within) ∙ ap (λ j. get_or (outers root edges) j 0) (sym last) ∙ is.tail_at.2))
               | inr before ↦ (is.tail_at.0, omega (arith, is.tail_at.1, before), is.tail_at.2)
             ];
-            whole = λ j from low. elim (cases_eq i j) [
-              | inl here ↦ subst (λ k. (Contains (nodes_of longer) (tree_edge_at edges k).inner → Contains (nodes_of longer) (tree_edge_at edges k).outer) ×
-                  (Contains (nodes_of longer) (tree_edge_at edges k).outer → Contains (nodes_of longer) (tree_edge_at edges k).inner)) here (
-                    (λ _. Contains-append_right (next ∷ tree_edge.inner ∷ []) nodes tree_edge.outer
-                        (subst (λ n. Contains nodes n) (sym same) (head_in cycle is.odd is.path))),
-                    (λ _. Contains-append_left (next ∷ tree_edge.inner ∷ []) nodes tree_edge.inner (1, omega arith, refl)),
-                  )
-              | inr differs ↦
-                  let old = is.whole j (omega (arith, from, differs)) low in (
-                    (λ in_n. Contains-append_right (next ∷ tree_edge.inner ∷ []) nodes (tree_edge_at edges j).outer (old.0 (was_inner j low differs in_n))),
-                    (λ in_n. Contains-append_right (next ∷ tree_edge.inner ∷ []) nodes (tree_edge_at edges j).inner
-                        (old.1 (was_outer j (omega (arith, from, differs)) low in_n))),
-                  )
-            ];
             some = λ _. omega arith;
           }
         where
-          was_inner : (j : ℕ) → j < length edges → i ≢ j → Contains (nodes_of longer) (tree_edge_at edges j).inner → Contains nodes (tree_edge_at edges j).inner
-          was_inner j low differs in_n = elim (Contains-append_cases (next ∷ tree_edge.inner ∷ []) nodes (tree_edge_at edges j).inner in_n) [
-            | inl new ↦ elim (Contains-two next tree_edge.inner (tree_edge_at edges j).inner new) [
-              | inl up ↦ absurd (next_inner j low (sym up))
-              | inr inn ↦ absurd (differs (shape.tops.inner_differ i j low_in (omega (arith, low, length-inners edges))
-                  (inner_at edges i within ∙ sym inn ∙ sym (inner_at edges j low))))
-            ]
-            | inr old ↦ old
-          ]
-
-          was_outer : (j : ℕ) → i + 1 ≤ j → j < length edges → Contains (nodes_of longer) (tree_edge_at edges j).outer
-              → Contains nodes (tree_edge_at edges j).outer
-          was_outer j from low in_n = elim (Contains-append_cases (next ∷ tree_edge.inner ∷ []) nodes (tree_edge_at edges j).outer in_n) [
-            | inl new ↦ elim (Contains-two next tree_edge.inner (tree_edge_at edges j).outer new) [
-              | inl up ↦ absurd (next_differs (suc j) (omega (arith, from)) (omega (arith, low, length-outers root edges)) (outer_at root edges j low ∙ up))
-              | inr inn ↦ absurd (shape.tops.apart (suc j) i (omega (arith, low, length-outers root edges)) low_in
-                  (outer_at root edges j low ∙ inn ∙ sym (inner_at edges i within)))
-            ]
-            | inr old ↦ old
-          ]
+          here : (n : ℕ) → (n ≡ tree_edge.inner) ⊎ (n ≡ tree_edge.outer) → IsSpot edges (nodes_of longer) i n
+          here n is_one = record {
+            at = i;
+            late = omega arith;
+            low = within;
+            inner = (1, omega arith, refl);
+            outer = Contains-append_right (next ∷ tree_edge.inner ∷ []) nodes tree_edge.outer
+                (subst (λ n. Contains nodes n) (sym same) (head_in cycle is.odd is.path));
+            is = is_one;
+          }

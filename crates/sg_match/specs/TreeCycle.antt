@@ -5,14 +5,17 @@ use Rattle.sg_arena.specs.declared.Link.{Link}
 use Rattle.sg_pairing.specs.Tight.{IsTight}
 use Rattle.sg_sums.specs.Sets.{Differ}
 use Rattle.sg_match.specs.Path.{IsPath, nodes_of}
-use Rattle.sg_match.specs.Tree.{tree_edge_at, outers, inners}
+use Rattle.sg_match.specs.Tree.{tree_edge_at, outers}
 use Rattle.sg_match.specs.declared.TreeEdge.{TreeEdge}
 
--- the head, or a top of the tree edges from a place on
-abbrev pub IsSpot : ℕ → List TreeEdge → ℕ → ℕ → ℕ → Type 0
-IsSpot root edges place head n = (n ≡ head) ⊎
-    (((j : ℕ) × (place < j) × (j < length (outers root edges)) × (slice_index (outers root edges) j ≡ n)) ⊎
-    ((j : ℕ) × (place ≤ j) × (j < length (inners edges)) × (slice_index (inners edges) j ≡ n)))
+-- a top of a tree edge that is at a place or after it, both of whose tops are in the list
+pub record IsSpot (edges : List TreeEdge) (nodes : List ℕ) (place n : ℕ) : Type 0 where
+  pub at : ℕ
+  pub late : place ≤ at
+  pub low : at < length edges
+  pub inner : Contains nodes (tree_edge_at edges at).inner
+  pub outer : Contains nodes (tree_edge_at edges at).outer
+  pub is : (n ≡ (tree_edge_at edges at).inner) ⊎ (n ≡ (tree_edge_at edges at).outer)
 
 -- a path between two outer tops over tree edges that are at a place or after it
 pub record IsTreeCycle (f : Family) (root : ℕ) (edges : List TreeEdge) (cycle : List Link)
@@ -21,13 +24,9 @@ pub record IsTreeCycle (f : Family) (root : ℕ) (edges : List TreeEdge) (cycle 
   pub within : place ≤ length edges
   pub odd : length cycle % 2 ≡ 1
   pub differ : Differ (nodes_of cycle)
-  pub spot : (n : ℕ) → Contains (nodes_of cycle) n → IsSpot root edges place head n
+  pub spot : (n : ℕ) → Contains (nodes_of cycle) n → (n ≡ head) ⊎ IsSpot edges (nodes_of cycle) place n
   pub head_at : (j : ℕ) × (j ≤ place) × (slice_index (outers root edges) j ≡ head)
   pub tail_at : (j : ℕ) × (j ≤ place) × (slice_index (outers root edges) j ≡ tail)
-  pub whole : (j : ℕ) → place ≤ j → j < length edges →
-      (Contains (nodes_of cycle) (tree_edge_at edges j).inner
-      → Contains (nodes_of cycle) (tree_edge_at edges j).outer) ×
-      (Contains (nodes_of cycle) (tree_edge_at edges j).outer → Contains (nodes_of cycle) (tree_edge_at edges j).inner)
   pub some : head ≡ tail → 2 ≤ length cycle
 
 -- the tree's edges and pairs are tight, and costs are symmetric
