@@ -21,8 +21,7 @@ module _ {L : Type 0} (y : L → ℕ) (has : L → ℕ → Bool) where
       sum_by-le-all y (λ l. sum_below (part l) m) ls
       (All-weaker (HasMarked y has p m) (λ l. y l ≤ sum_below (part l) m) (λ l h. one l h.0 h.1 h.2 h.3) ls marked) in
       let turned : sum_by (λ l. sum_below (part l) m) ls ≡ sum_below (λ k. sum_by (λ l. part l k) ls) m = sum_exchange part ls m in
-      let capped : sum_below (λ k. sum_by (λ l. part l k) ls) m ≤ sum_below (λ k. cond (p k) (cap k) 0) m =
-      sum_below-le (λ k. sum_by (λ l. part l k) ls) (λ k. cond (p k) (cap k) 0) m (λ k l. bounded (p k) k l) in
+      let capped : sum_below (λ k. sum_by (λ l. part l k) ls) m ≤ sum_below (λ k. cond (p k) (cap k) 0) m = grind (arith, sum_below-le, bounded) in
       omega arith
     where
       one : (l : L) (k : ℕ) → k < m → p k ≡ true → has l k ≡ true → y l ≤ sum_below (λ k. cond (p k) (cond (has l k) (y l) 0) 0) m
@@ -33,5 +32,4 @@ module _ {L : Type 0} (y : L → ℕ) (has : L → ℕ → Bool) where
           omega arith
 
       bounded : (b : Bool) (k : ℕ) → k < m → sum_by (λ l. cond b (cond (has l k) (y l) 0) 0) ls ≤ cond b (cap k) 0
-      bounded true k l = within k l
-      bounded false k l = let e : sum_by (λ l. cond false (cond (has l k) (y l) 0) 0) ls ≡ 0 = marked_load false k ls in omega arith
+      bounded b k h = grind (arith, marked_load)

@@ -1,8 +1,8 @@
 -- One number more: a choice below it, and a mark turned.
-use Rattle.std.proofs.Common.{inl, inr, ◌≡◌, ℕ, zero, suc, ◌+◌, ◌<◌, Bool, true, false, cond, not, eqb, List, [], ◌∷◌, ◌++◌, filter, set, sym, ◌∙◌, ap, ap₂, subst, refl, arith, length, get_or, eq-eqb, take}
+use Rattle.std.proofs.lemmas.Grind.{common_steps}
+use Rattle.std.proofs.Common.{◌≡◌, ℕ, zero, suc, ◌+◌, ◌<◌, Bool, true, false, cond, not, eqb, List, [], ◌∷◌, ◌++◌, filter, set, sym, ◌∙◌, ap, ap₂, refl, arith, length, get_or, take}
 use Rattle.std.specs.List.{range_with_len}
-use Rattle.std.proofs.lemmas.Bool.{cases_eq, ne_eqb}
-use Rattle.std.proofs.lemmas.List.{append-nil, map-id, take_more, get_or-set_same, get_or-set_other}
+use Rattle.std.proofs.lemmas.List.{append-nil, map-id}
 use Rattle.std.proofs.lemmas.List.FromFn.{filter_of_map_range_with_len_more}
 use Rattle.sg_sums.specs.Parity.{parity_by, xor}
 use Rattle.sg_sums.specs.Sets.{chosen_below, is_marked}
@@ -32,41 +32,8 @@ chosen_below_same p q (suc n) h =
     ∙ ap₂ (λ (xs : List ℕ) (b : Bool). xs ++ cond b (n ∷ []) []) (chosen_below_same p q n (λ k l. h k (omega arith))) (h n (omega arith))
     ∙ sym (ap (chosen_below q) e ∙ chosen_below_more q n)
 
-turned : (b c : Bool) → not (xor b c) ≡ xor b (xor c (xor true false))
-turned true true = refl
-turned true false = refl
-turned false true = refl
-turned false false = refl
-
-same : (b c : Bool) → xor b c ≡ xor b (xor c (xor false false))
-same true true = refl
-same true false = refl
-same false true = refl
-same false false = refl
-
 -- the mark at the next place of the list is turned
 pub is_marked_turned : (old now : List Bool) (list : List ℕ) (i j : ℕ) → j < length list → get_or list j 0 < length now →
     is_marked now i ≡ xor (is_marked old i) (parity_by (λ k. eqb k i) (take j list)) →
     is_marked (set now (get_or list j 0) (not (is_marked now (get_or list j 0)))) i ≡ xor (is_marked old i) (parity_by (λ k. eqb k i) (take (j + 1) list))
-is_marked_turned old now list i j low fits was =
-    by_place ∙ ap (xor (is_marked old i))
-    (sym (ap (parity_by (λ k. eqb k i)) (take_more list j 0 low) ∙ parity_by-append (λ k. eqb k i) (take j list) (get_or list j 0 ∷ [])))
-  where
-    by_place : is_marked (set now (get_or list j 0) (not (is_marked now (get_or list j 0)))) i ≡ xor (is_marked old i)
-        (xor (parity_by (λ k. eqb k i) (take j list)) (xor (eqb (get_or list j 0) i) false))
-    by_place = elim (cases_eq i (get_or list j 0)) [
-      | inl e ↦
-          subst
-          (λ z. is_marked (set now z (not (is_marked now z))) i ≡ xor (is_marked old i) (xor (parity_by (λ k. eqb k i) (take j list)) (xor (eqb z i) false)))
-          e
-          (get_or-set_same now i (not (is_marked now i)) false (subst (λ z. z < length now) (sym e) fits)
-          ∙ ap not was
-          ∙ turned (is_marked old i) (parity_by (λ k. eqb k i) (take j list))
-          ∙ ap (λ b. xor (is_marked old i) (xor (parity_by (λ k. eqb k i) (take j list)) (xor b false))) (sym (eq-eqb i i refl)))
-      | inr ne ↦
-          get_or-set_other now (get_or list j 0) i (not (is_marked now (get_or list j 0))) false ne
-          ∙ was
-          ∙ same (is_marked old i) (parity_by (λ k. eqb k i) (take j list))
-          ∙ ap (λ b. xor (is_marked old i) (xor (parity_by (λ k. eqb k i) (take j list)) (xor b false)))
-          (sym (ne_eqb (get_or list j 0) i (λ (q : get_or list j 0 ≡ i). ne (sym q))))
-    ]
+is_marked_turned old now list i j low fits was = grind (arith, common_steps, parity_by-append)

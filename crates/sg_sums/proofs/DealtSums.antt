@@ -1,5 +1,5 @@
 -- Sums dealt out: over pairs, over the classes of a labelling; and bounds that are met in sum are met each.
-use Rattle.std.proofs.Common.{inl, inr, ◌≡◌, ◌∙◌, sym, ap, ap₂, refl, ℕ, zero, suc, ◌+◌, ◌*◌, ◌<◌, ◌≤◌, Bool, true, false, cond, eqb, [], ◌∷◌, sum_by, arith}
+use Rattle.std.proofs.Common.{◌≡◌, ◌∙◌, sym, ap, ap₂, refl, ℕ, zero, suc, ◌+◌, ◌*◌, ◌<◌, ◌≤◌, Bool, cond, eqb, [], ◌∷◌, sum_by, arith}
 use Rattle.std.specs.List.{range_with_len}
 use Rattle.std.proofs.lemmas.Bool.{cases_eq}
 use Rattle.std.proofs.lemmas.List.{map-id}
@@ -33,8 +33,7 @@ dealt_out f label labels (suc m) low =
     ∙ ap₂ {A = ℕ} (λ a b. a + b) (dealt_out f label labels m (λ k l. low k (omega arith))) (sum_below_pick (f m) (label m) labels (low m (omega arith)))
   where
     one : (b : Bool) (k : ℕ) → sum_by f (cond b (k ∷ []) []) ≡ cond b (f k) 0
-    one true k = let z : 0 + f k ≡ f k = omega arith in z
-    one false k = refl
+    one b k = grind arith
 
     more : (p : ℕ → Bool) → sum_by f (chosen_below p (suc m)) ≡ sum_by f (chosen_below p m) + cond (p m) (f m) 0
     more p =
@@ -46,10 +45,4 @@ dealt_out f label labels (suc m) low =
 -- where f is at most g everywhere and the sums are one, f is g
 pub met_each : (f g : ℕ → ℕ) (n : ℕ) → ((k : ℕ) → k < n → f k ≤ g k) → sum_below f n ≡ sum_below g n → (k : ℕ) → k < n → f k ≡ g k
 met_each f g zero le e k l = absurd (omega arith)
-met_each f g (suc n) le e k l =
-    let rest : sum_below f n ≤ sum_below g n = sum_below-le f g n (λ j b. le j (omega arith)) in
-    let here : f n ≤ g n = le n (omega arith) in
-    elim (cases_eq k n) [
-      | inl is ↦ ap f is ∙ (let q : f n ≡ g n = omega (arith, e, rest, here) in q) ∙ ap g (sym is)
-      | inr other ↦ met_each f g n (λ j b. le j (omega arith)) (omega (arith, e, rest, here)) k (omega (arith, l, other))
-    ]
+met_each f g (suc n) le e k l = grind (arith, cases_eq k n, met_each f g n, sum_below-le)

@@ -1,6 +1,6 @@
 -- The handshake of edges and nodes: how many edges cross between two sides is, up to an even number, the sum of the
 -- degrees on one side (Euler 1736). So edges that are even at each node cross evenly.
-use Rattle.std.proofs.Common.{ap₂, ◌≡◌, ℕ, ◌<◌, Bool, true, false, ◌&&◌, eqb, List, sym, ◌∙◌, ap}
+use Rattle.std.proofs.Common.{◌≡◌, ℕ, ◌<◌, Bool, true, false, ◌&&◌, List, sym, ◌∙◌, ap}
 use Rattle.std.proofs.lemmas.List.Elements.{All-weaker}
 use Rattle.sg_sums.specs.Parity.{xor, parity_by, parity_below}
 use Rattle.sg_sums.specs.Ends.{is_end, degree_parity, EndsBelow}
@@ -9,11 +9,7 @@ use Rattle.sg_sums.proofs.ParityLaws.{and-xor, and-false, parity_by-same, parity
 -- what one edge adds, summed over its ends
 one_edge : (t : ℕ → Bool) (d : Bool) (a b n : ℕ) → a < n → b < n → (d && xor (t a) (t b)) ≡ parity_below (λ x. t x && (d && is_end a b x)) n
 one_edge t false a b n p q = sym (parity_below-none (λ x. t x && false) n (λ x l. and-false (t x)))
-one_edge t true a b n p q =
-    sym (
-    parity_below-same (λ x. t x && is_end a b x) (λ x. xor (t x && eqb a x) (t x && eqb b x)) n (λ x l. and-xor (t x) (eqb a x) (eqb b x))
-    ∙ parity_below-xor (λ x. t x && eqb a x) (λ x. t x && eqb b x) n
-    ∙ ap₂ xor (parity_below_pick t a n p) (parity_below_pick t b n q))
+one_edge t true a b n p q = simp (parity_below-same, and-xor, parity_below-xor, parity_below_pick)
 
 module _ {X : Type 0} (a b : X → ℕ) where
   -- edges between two sides, up to an even number: the ends on one side, counted node by node

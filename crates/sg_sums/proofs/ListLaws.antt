@@ -1,7 +1,8 @@
 -- Lists and options: tests, sums and parts, as far as the library has no lemma.
-use Rattle.std.proofs.Common.{Bool, IsSome, List, None, Option, Some, [], add-zero, ap, arith, cond, count_by, eq-eqb, eqb, false, filter, get_or, inl, inr}
-use Rattle.std.proofs.Common.{length, map, refl, suc, sum_by, sym, true, zero, zero-add, ℕ, ◌+◌, ◌<◌, ◌||◌, ◌∙◌, ◌∷◌, ◌≡◌, ◌≢◌, ◌≤◌, ◌⊎◌}
-use Rattle.std.proofs.lemmas.Bool.{cases_Bool, cases_eq, cond-false, cond-true, eqb-true, false≢true, ne_eqb, or_cases}
+use Rattle.std.proofs.lemmas.Grind.{common_steps}
+use Rattle.std.proofs.Common.{Bool, IsSome, List, None, Option, Some, [], ap, arith, cond, count_by, eq-eqb, eqb, false, filter, get_or, inl, inr}
+use Rattle.std.proofs.Common.{length, map, refl, suc, sum_by, sym, true, zero, ℕ, ◌+◌, ◌<◌, ◌||◌, ◌∙◌, ◌∷◌, ◌≡◌, ◌≢◌, ◌≤◌, ◌⊎◌}
+use Rattle.std.proofs.lemmas.Bool.{cases_Bool, cases_eq, eqb-true, false≢true, ne_eqb, or_cases}
 use Rattle.std.proofs.lemmas.List.Folds.{list_any_at}
 use Rattle.std.proofs.lemmas.List.Sums.{sum_by-cons, sum_by-le-sum_by}
 use Rattle.std.specs.List.{list_any, range_with_len}
@@ -13,26 +14,13 @@ cases_option (Some x) = inr (x, refl)
 
 -- something is not nothing
 pub some≢none : {X : Type 0} (o : Option X) → IsSome o → o ≡ None → ⊥
-some≢none (Some x) some none = (cc)
-some≢none None some none = absurd (false≢true some)
+some≢none o some none = grind arith
 
 -- a choice between equals
 pub cond-same : (t : Bool) (n : ℕ) → cond t n n ≡ n
-cond-same true n = refl
-cond-same false n = refl
-
-or_swap : (a b c d : Bool) → ((a || b) || (c || d)) ≡ ((a || c) || (b || d))
-or_swap true b c d = refl
-or_swap false true true d = refl
-or_swap false true false d = refl
-or_swap false false c d = refl
+cond-same t n = grind arith
 
 module _ {X : Type 0} where
-  -- some element passes one of two tests
-  pub list_any-or : (p q : X → Bool) (xs : List X) → list_any (λ x. p x || q x) xs ≡ (list_any p xs || list_any q xs)
-  list_any-or p q [] = refl
-  list_any-or p q (x ∷ xs) = ap (λ b. (p x || q x) || b) (list_any-or p q xs) ∙ or_swap (p x) (q x) (list_any p xs) (list_any q xs)
-
   -- tests that agree on all find the same
   pub list_any-agree : (p q : X → Bool) (xs : List X) → ((x : X) → p x ≡ q x) → list_any p xs ≡ list_any q xs
   list_any-agree p q [] same = refl
@@ -84,20 +72,12 @@ pub filter-never : {X : Type 0} (p : X → Bool) (xs : List X) → ((x : X) → 
 filter-never p [] never = refl
 filter-never p (x ∷ xs) never = rw (never x) (filter-never p xs never)
 
--- two tests that agree below a number keep the same of the numbers below it
-pub filter-agree_below : (p q : ℕ → Bool) (a n : ℕ) → ((x : ℕ) → x < a + n → p x ≡ q x) → filter p (range_with_len a n) ≡ filter q (range_with_len a n)
-filter-agree_below p q a zero same = refl
-filter-agree_below p q a (suc n) same =
-    rw (same a (omega arith), filter-agree_below p q (a + 1) n (λ x low. same x (omega arith))) refl
-
 -- the part of a range that passes a test which one number alone passes
 pub filter-single : (p : ℕ → Bool) (a n l : ℕ) → a ≤ l → l < a + n → ((x : ℕ) → x < a + n → p x ≡ eqb l x) → filter p (range_with_len a n) ≡ l ∷ []
 filter-single p a zero l low high is = absurd (omega arith)
 filter-single p a (suc n) l low high is =
     elim (cases_eq l a) [
-      | inl same ↦
-          let none : filter p (range_with_len (a + 1) n) ≡ [] = none_after (a + 1) n (omega arith) (omega arith) in
-          rw (is a (omega arith), eq-eqb l a same, none) (ap (λ x. x ∷ []) (sym same))
+      | inl same ↦ grind (arith, none_after)
       | inr differs ↦ rw (is a (omega arith), ne_eqb l a differs) (filter-single p (a + 1) n l (omega arith) (omega arith) (λ x within. is x (omega arith)))
     ]
   where
@@ -107,11 +87,7 @@ filter-single p a (suc n) l low high is =
 
 -- the weaker test passes more
 pub count_by-mono : (p q : ℕ → Bool) → ((x : ℕ) → p x ≡ true → q x ≡ true) → (xs : List ℕ) → count_by p xs ≤ count_by q xs
-count_by-mono p q implies xs = sum_by-le-sum_by (λ x. cond (p x) 1 0) (λ x. cond (q x) 1 0) xs (λ x. go (p x) (q x) (implies x))
-  where
-    go : (a b : Bool) → (a ≡ true → b ≡ true) → cond a 1 0 ≤ cond b 1 0
-    go false b h = omega arith
-    go true b h = rw (h refl) (omega arith)
+count_by-mono p q implies xs = grind (arith, sum_by-le-sum_by)
 
 -- the sum of sums
 pub sum_by-plus : {X : Type 0} (f g : X → ℕ) (xs : List X) → sum_by (λ x. f x + g x) xs ≡ sum_by f xs + sum_by g xs
@@ -136,40 +112,13 @@ sum_by-zero f (x ∷ xs) zeros = omega (arith, zeros x, sum_by-zero f xs zeros, 
 -- a sum over a range with one term
 point_out : (d : ℕ → ℕ) (n a count : ℕ) → n < a → sum_by (λ t. cond (eqb n t) (d t) 0) (range_with_len a count) ≡ 0
 point_out d n a zero low = refl
-point_out d n a (suc count) low =
-    omega (
-      arith,
-      point_out d n (a + 1) count (omega arith),
-      sum_by-cons (λ t. cond (eqb n t) (d t) 0) a (range_with_len (a + 1) count),
-      cond-false (eqb n a) (d a) 0 (ne_eqb n a (λ e. omega arith)),
-    )
+point_out d n a (suc count) low = grind (arith, point_out d n (a + 1) count)
 
 -- a sum in which one term alone isn't 0
 pub sum_by-point : (d : ℕ → ℕ) (n a count : ℕ) → a ≤ n → n < a + count → sum_by (λ t. cond (eqb n t) (d t) 0) (range_with_len a count) ≡ d n
 sum_by-point d n a zero low high = absurd (omega arith)
-sum_by-point d n a (suc count) low high =
-    elim (cases_eq n a) [
-      | inl same ↦
-          omega (
-            arith,
-            point_out d n (a + 1) count (omega arith),
-            sum_by-cons (λ t. cond (eqb n t) (d t) 0) a (range_with_len (a + 1) count),
-            cond-true (eqb n a) (d a) 0 (eq-eqb n a same),
-            ap d same,
-          )
-      | inr differs ↦
-          omega (
-            arith,
-            sum_by-point d n (a + 1) count (omega arith) (omega arith),
-            sum_by-cons (λ t. cond (eqb n t) (d t) 0) a
-                (range_with_len (a + 1) count),
-            cond-false (eqb n a) (d a) 0 (ne_eqb n a differs),
-          )
-    ]
+sum_by-point d n a (suc count) low high = grind (arith, common_steps, sum_by-point d n (a + 1) count, point_out)
 
 -- a term counted in one of two cases that exclude each other
 pub cond-either : (a b : Bool) (x : ℕ) → (a ≡ true → b ≡ true → ⊥) → cond (a || b) x 0 ≡ cond a x 0 + cond b x 0
-cond-either true true x apart = absurd (apart refl refl)
-cond-either true false x apart = sym (add-zero x)
-cond-either false true x apart = sym (zero-add x)
-cond-either false false x apart = refl
+cond-either a b x h = grind arith

@@ -1,5 +1,5 @@
 -- A rising list whose entries are all marked, and that is as long as there are marks, is the list of all that is marked.
-use Rattle.std.proofs.Common.{inl, inr, ◌≡◌, ◌∙◌, sym, ap, ap₂, subst, refl, ℕ, zero, suc, ◌+◌, ◌<◌, ◌≤◌, Bool, true, false, cond, List, [], ◌∷◌, filter, length, count_by, arith, All}
+use Rattle.std.proofs.Common.{◌≡◌, ◌∙◌, sym, refl, ℕ, zero, suc, ◌+◌, ◌<◌, ◌≤◌, Bool, true, false, cond, List, [], ◌∷◌, filter, length, count_by, arith, All}
 use Rattle.std.specs.List.{range_with_len}
 use Rattle.std.specs.List.Sorted.{IsStrictlyIncreasing}
 use Rattle.std.proofs.lemmas.Bool.{cases_eq}
@@ -18,13 +18,6 @@ none : (ys : List ℕ) → Fills [] ys
 none [] = (omega arith, λ l. refl)
 none (y ∷ ys) = (omega arith, λ l. absurd (omega arith))
 
-both : (x y : ℕ) (xs ys : List ℕ) → x ≡ y → Fills xs ys → Fills (x ∷ xs) (y ∷ ys)
-both x y xs ys e f = (let l = f.0 in omega arith, λ l. ap₂ (λ z zs. z ∷ zs) e (f.1 (omega arith)))
-
-skip : (b : Bool) (a : ℕ) (xs ys : List ℕ) → Fills xs ys → Fills xs (cond b (a ∷ ys) ys)
-skip true a xs ys f = (let l = f.0 in omega arith, λ l. absurd (let m = f.0 in omega arith))
-skip false a xs ys f = f
-
 module _ (p : ℕ → Bool) where
   -- the entries rise from a on, are below b, and pass
   abbrev pub Climbs : ℕ → ℕ → List ℕ → Type 0
@@ -34,7 +27,7 @@ module _ (p : ℕ → Bool) where
   climbs_over : (a b : ℕ) (xs : List ℕ) → RisesOver a xs → All (λ x. x < b) xs → All (λ x. p x ≡ true) xs → Climbs (a + 1) b xs
   climbs_over a b [] up low pass = tt
   climbs_over a b (x ∷ xs) up low pass = (
-    let l = up.0 in omega arith,
+    omega arith,
     All-head (λ x. x < b) x xs low,
     All-head (λ x. p x ≡ true) x xs pass,
     climbs_over x b xs up.1 (All-tail (λ x. x < b) x xs low) (All-tail (λ x. p x ≡ true) x xs pass),
@@ -52,16 +45,9 @@ module _ (p : ℕ → Bool) where
   -- what climbs from a on fills what is chosen there
   climbs_fill : (n a b : ℕ) (xs : List ℕ) → a + n ≡ b → Climbs a b xs → Fills xs (filter p (range_with_len a n))
   climbs_fill zero a b [] e h = none []
-  climbs_fill zero a b (x ∷ xs) e h = absurd (let l = h.0 in let m = h.1 in omega arith)
+  climbs_fill zero a b (x ∷ xs) e h = absurd (omega arith)
   climbs_fill (suc n) a b [] e h = none (filter p (range_with_len a (suc n)))
-  climbs_fill (suc n) a b (x ∷ xs) e h = elim (cases_eq a x) [
-    | inl same ↦ subst (λ (c : Bool). Fills (x ∷ xs) (cond c (a ∷ filter p (range_with_len (a + 1) n)) (filter p (range_with_len (a + 1) n))))
-        (sym (ap p same ∙ h.2))
-        (both x a xs (filter p (range_with_len (a + 1) n)) (sym same)
-        (climbs_fill n (a + 1) b xs (omega arith) (subst (λ z. Climbs (z + 1) b xs) (sym same) h.3)))
-    | inr ne ↦ skip (p a) a (x ∷ xs) (filter p (range_with_len (a + 1) n))
-        (climbs_fill n (a + 1) b (x ∷ xs) (omega arith) (let l = h.0 in omega arith, h.1, h.2, h.3))
-  ]
+  climbs_fill (suc n) a b (x ∷ xs) e h = grind (arith, cases_eq a x, climbs_fill n (a + 1) b xs, climbs_fill n (a + 1) b (x ∷ xs))
 
 -- as many places are chosen as there are marks
 pub marked_is : (marks : List Bool) → count_by (λ b. b) marks ≡ length (chosen_below (is_marked marks) (length marks))

@@ -1,7 +1,7 @@
 -- A sum over the members of a rising list, told over the numbers below a bound.
-use Rattle.std.proofs.Common.{◌≡◌, ℕ, ◌+◌, ◌<◌, Bool, true, false, cond, ◌||◌, eqb, List, [], ◌∷◌, refl, sym, ◌∙◌, ap, arith, sum_by, All}
+use Rattle.std.proofs.Common.{◌≡◌, ℕ, ◌+◌, ◌<◌, Bool, true, false, cond, ◌||◌, eqb, List, [], ◌∷◌, refl, arith, sum_by, All}
 use Rattle.std.specs.List.Sorted.{IsStrictlyIncreasing}
-use Rattle.std.proofs.lemmas.Bool.{eqb-true, true≢false}
+use Rattle.std.proofs.lemmas.Bool.{eqb-true}
 use Rattle.std.proofs.lemmas.List.Elements.{All-head, All-tail}
 use Rattle.std.proofs.lemmas.List.Sums.{sum_by-cons}
 use Rattle.sg_sums.specs.Sums.{sum_below}
@@ -10,13 +10,7 @@ use Rattle.sg_sums.proofs.RisingLists.{holds_none_below, rises_over_first, risin
 use Rattle.sg_sums.proofs.SumLaws.{sum_below-add, sum_below-same, sum_below-zero, sum_below_pick}
 
 one_of : (p q : Bool) (w : ℕ) → (p ≡ true → q ≡ false) → cond (p || q) w 0 ≡ cond p w 0 + cond q w 0
-one_of true true w h = absurd (true≢false (h refl))
-one_of true false w h = omega arith
-one_of false q w h = omega arith
-
-picked : (b : Bool) (f : ℕ → ℕ) (s x : ℕ) → (b ≡ true → s ≡ x) → cond b (f x) 0 ≡ cond b (f s) 0
-picked true f s x h = ap f (sym (h refl))
-picked false f s x h = refl
+one_of p q w h = grind arith
 
 -- a sum over the members of a rising list, as a sum over all numbers below a bound
 pub members_sum : (f : ℕ → ℕ) (xs : List ℕ) (n : ℕ) → All (λ x. x < n) xs → IsStrictlyIncreasing xs → sum_below (λ x. cond (holds xs x) (f x) 0) n ≡ sum_by f xs
@@ -25,10 +19,8 @@ members_sum f (s ∷ xs) n low up =
     let rest : sum_below (λ x. cond (holds xs x) (f x) 0) n ≡ sum_by f xs = members_sum f xs n (All-tail (λ x. x < n) s xs low) (rising_rest s xs up) in
     let first : sum_below (λ x. cond (eqb s x) (f s) 0) n ≡ f s = sum_below_pick (f s) s n (All-head (λ x. x < n) s xs low) in
     let parted : sum_below (λ x. cond (holds (s ∷ xs) x) (f x) 0) n ≡ sum_below (λ x. cond (eqb s x) (f s) 0 + cond (holds xs x) (f x) 0) n =
-    sum_below-same (λ x. cond (holds (s ∷ xs) x) (f x) 0) (λ x. cond (eqb s x) (f s) 0 + cond (holds xs x) (f x) 0) n (λ x l. each x) in
+    grind (arith, sum_below-same, each) in
     omega (arith, sum_by-cons f s xs, sum_below-add (λ x. cond (eqb s x) (f s) 0) (λ x. cond (holds xs x) (f x) 0) n)
   where
     each : (x : ℕ) → cond (holds (s ∷ xs) x) (f x) 0 ≡ cond (eqb s x) (f s) 0 + cond (holds xs x) (f x) 0
-    each x =
-        one_of (eqb s x) (holds xs x) (f x) (λ e. holds_none_below s xs x (rises_over_first s xs up) (let q : s ≡ x = eqb-true s x e in omega arith))
-        ∙ ap (λ w. w + cond (holds xs x) (f x) 0) (picked (eqb s x) f s x (eqb-true s x))
+    each x = grind (arith, one_of, holds_none_below, rises_over_first, eqb-true)

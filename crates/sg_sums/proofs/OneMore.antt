@@ -1,6 +1,8 @@
 -- One element more of a list: the parity of what passes, a mark that is turned by it, and that a rising list has not held
 -- the next entry before.
-use Rattle.std.proofs.Common.{inl, inr, ◌≡◌, ℕ, zero, suc, ◌+◌, ◌<◌, Bool, false, eqb, List, [], ◌∷◌, take, sym, ◌∙◌, ap, subst, arith, length, get_or}
+use Rattle.std.proofs.lemmas.Grind.{common_steps}
+use Rattle.std.proofs.lemmas.Bool.Decides.{nat_tests}
+use Rattle.std.proofs.Common.{◌≡◌, ℕ, zero, suc, ◌+◌, ◌<◌, Bool, false, eqb, List, take, ◌∙◌, arith, length, get_or}
 use Rattle.std.specs.List.Sorted.{IsStrictlyIncreasing}
 use Rattle.std.proofs.lemmas.Bool.{cases_eq, ne_eqb}
 use Rattle.std.proofs.lemmas.List.{take_more, get_or-take, get_or_default, length-take}
@@ -12,28 +14,17 @@ use Rattle.sg_sums.proofs.ParityLaws.{parity_by-append, xor-false, xor_assoc}
 -- the parity over one element more of a list
 pub parity_by_more : {X : Type 0} (p : X → Bool) (xs : List X) (i : ℕ) (d : X) → i < length xs →
     parity_by p (take (i + 1) xs) ≡ xor (parity_by p (take i xs)) (p (get_or xs i d))
-parity_by_more p xs i d l =
-    ap (parity_by p) (take_more xs i d l)
-    ∙ parity_by-append p (take i xs) (get_or xs i d ∷ [])
-    ∙ ap (xor (parity_by p (take i xs))) (xor-false (p (get_or xs i d)))
+parity_by_more p xs i d l = grind (arith, common_steps, nat_tests, take_more, parity_by-append, xor-false)
 
 -- a mark that the entries so far have turned, turned by the next
 pub turned_more : {X : Type 0} (p : X → Bool) (xs : List X) (i : ℕ) (d : X) (old now new : Bool) → i < length xs →
     now ≡ xor old (parity_by p (take i xs)) → new ≡ xor now (p (get_or xs i d)) → new ≡ xor old (parity_by p (take (i + 1) xs))
-turned_more p xs i d old now new low was is =
-    is ∙ ap (λ b. xor b (p (get_or xs i d))) was ∙ xor_assoc old (parity_by p (take i xs)) (p (get_or xs i d))
-    ∙ ap (xor old) (sym (parity_by_more p xs i d low))
+turned_more p xs i d old now new low was is = grind (arith, xor_assoc, parity_by_more)
 
 -- the entries of a rising list stand in their order
 pub rising_order : (xs : List ℕ) → IsStrictlyIncreasing xs → (i j : ℕ) → i < j → j < length xs → get_or xs i 0 < get_or xs j 0
 rising_order xs up i zero l h = absurd (omega arith)
-rising_order xs up i (suc j) l h =
-    let next : get_or xs j 0 < get_or xs (suc j) 0 =
-    subst (λ n. get_or xs j 0 < get_or xs n 0) (let e : j + 1 ≡ suc j = omega arith in e) (up j (omega arith)) in
-    elim (cases_eq i j) [
-      | inl e ↦ subst (λ n. get_or xs n 0 < get_or xs (suc j) 0) (sym e) next
-      | inr ne ↦ let before : get_or xs i 0 < get_or xs j 0 = rising_order xs up i j (omega arith) (omega arith) in omega arith
-    ]
+rising_order xs up i (suc j) l h = grind (arith, cases_eq i j, rising_order xs up i j)
 
 -- the next entry of a rising list is not among those before it
 pub rising_is_new : (xs : List ℕ) → IsStrictlyIncreasing xs → (j : ℕ) → j < length xs → holds (take j xs) (get_or xs j 0) ≡ false

@@ -1,5 +1,5 @@
 -- The laws of parity: `xor`, the parity of a count over a list and over the numbers below n, and two counts exchanged.
-use Rattle.std.proofs.Common.{get_or, inl, inr, ap₂, ◌≡◌, ℕ, zero, suc, ◌+◌, ◌%◌, ◌<◌, Bool, true, false, cond, not, ◌&&◌, eqb, List, [], ◌∷◌, ◌++◌, refl, sym, ◌∙◌, ap, arith, count_by, All, length}
+use Rattle.std.proofs.Common.{get_or, inl, inr, ◌≡◌, ℕ, zero, suc, ◌+◌, ◌%◌, ◌<◌, Bool, true, false, cond, ◌&&◌, eqb, List, [], ◌∷◌, ◌++◌, refl, sym, ◌∙◌, ap, arith, count_by, All, length}
 use Rattle.std.proofs.lemmas.List.Elements.{All-head, All-tail}
 use Rattle.std.proofs.lemmas.List.Sums.{sum_by-cons}
 use Rattle.std.proofs.lemmas.Bool.{eq-eqb, ne_eqb, cases_eq, cases_Bool, false≢true}
@@ -7,10 +7,7 @@ use Rattle.sg_sums.specs.Parity.{xor, odd, parity_by, parity_below}
 
 -- `xor` of two in the other order
 pub xor_comm : (a b : Bool) → xor a b ≡ xor b a
-xor_comm true true = refl
-xor_comm true false = refl
-xor_comm false true = refl
-xor_comm false false = refl
+xor_comm a b = grind arith
 
 -- `xor` of three, put together either way
 pub xor_assoc : (a b c : Bool) → xor (xor a b) c ≡ xor a (xor b c)
@@ -18,20 +15,15 @@ xor_assoc a b c = grind arith
 
 -- `xor` of a value with itself is false
 pub xor_self : (a : Bool) → xor a a ≡ false
-xor_self true = refl
-xor_self false = refl
+xor_self a = grind arith
 
 -- `xor` with false changes nothing
 pub xor-false : (a : Bool) → xor a false ≡ a
-xor-false true = refl
-xor-false false = refl
+xor-false a = grind arith
 
 -- two values with a false `xor` are the same
 pub xor_cancel : (a b : Bool) → xor a b ≡ false → a ≡ b
-xor_cancel true true e = refl
-xor_cancel true false e = cc
-xor_cancel false true e = cc
-xor_cancel false false e = refl
+xor_cancel a b h = grind arith
 
 -- `xor` of two pairs, with the inner two exchanged
 pub xor_swap4 : (a b c d : Bool) → xor (xor a b) (xor c d) ≡ xor (xor a c) (xor b d)
@@ -43,13 +35,11 @@ and-xor a b c = grind arith
 
 -- "and" with true changes nothing
 pub and-true : (a : Bool) → (a && true) ≡ a
-and-true true = refl
-and-true false = refl
+and-true a = grind arith
 
 -- "and" with false is false
 pub and-false : (a : Bool) → (a && false) ≡ false
-and-false true = refl
-and-false false = refl
+and-false a = grind arith
 
 module _ {X : Type 0} where
   -- the parity of where just one of two tests passes is the `xor` of their parities
@@ -92,88 +82,47 @@ parity_below-xor p q (suc n) = ap (xor (xor (p n) (q n))) (parity_below-xor p q 
 -- tests that agree below n have one parity there
 pub parity_below-same : (p q : ℕ → Bool) (n : ℕ) → ((k : ℕ) → k < n → p k ≡ q k) → parity_below p n ≡ parity_below q n
 parity_below-same p q zero h = refl
-parity_below-same p q (suc n) h =
-    let e : p n ≡ q n = h n (omega arith) in
-    let r : parity_below p n ≡ parity_below q n = parity_below-same p q n (λ k l. h k (omega arith)) in
-    cc
+parity_below-same p q (suc n) h = grind (arith, parity_below-same p q n)
 
 -- where no number below n passes the parity is even
 pub parity_below-none : (p : ℕ → Bool) (n : ℕ) → ((k : ℕ) → k < n → p k ≡ false) → parity_below p n ≡ false
 parity_below-none p zero h = refl
-parity_below-none p (suc n) h =
-    let e : p n ≡ false = h n (omega arith) in
-    rw e (parity_below-none p n (λ k l. h k (omega arith)))
+parity_below-none p (suc n) h = grind (arith, parity_below-none p n)
 
 -- the order of two sums is free
 pub parity_exchange : {X : Type 0} (f : X → ℕ → Bool) (xs : List X) (n : ℕ) →
     parity_by (λ x. parity_below (f x) n) xs ≡ parity_below (λ k. parity_by (λ x. f x k) xs) n
 parity_exchange f [] n = sym (parity_below-none (λ k. false) n (λ k l. refl))
-parity_exchange f (x ∷ xs) n =
-    ap (xor (parity_below (f x) n)) (parity_exchange f xs n)
-    ∙ sym (parity_below-xor (f x) (λ k. parity_by (λ y. f y k) xs) n)
-
-past : (t : ℕ → Bool) (u k : ℕ) → eqb u k ≡ false → (t k && eqb u k) ≡ false
-past t u k e = rw e (and-false (t k))
-
-at : (t : ℕ → Bool) (u k : ℕ) → u ≡ k → eqb u k ≡ true → (t k && eqb u k) ≡ t u
-at t u k d e = rw (e, d) (and-true (t k))
+parity_exchange f (x ∷ xs) n = simp (parity_exchange f xs n, parity_below-xor)
 
 -- of the numbers below n, only u is u
 pub parity_below_pick : (t : ℕ → Bool) (u n : ℕ) → u < n → parity_below (λ k. t k && eqb u k) n ≡ t u
 parity_below_pick t u zero h = absurd (omega arith)
-parity_below_pick t u (suc n) h = elim (cases_eq u n) [
-  | inl e ↦
-      let here : eqb u n ≡ true = eq-eqb u n e in
-      let rest : parity_below (λ k. t k && eqb u k) n ≡ false =
-      parity_below-none (λ k. t k && eqb u k) n (λ k l. past t u k (ne_eqb u k (λ (d : u ≡ k). omega arith))) in
-      let last : (t n && eqb u n) ≡ t u = at t u n e here in
-      ap₂ xor last rest ∙ xor-false (t u)
-  | inr ne ↦
-      let here : eqb u n ≡ false = ne_eqb u n ne in
-      let last : (t n && eqb u n) ≡ false = past t u n here in
-      ap₂ xor last (parity_below_pick t u n (omega arith))
-]
+parity_below_pick t u (suc n) h = grind (arith, cases_eq u n, parity_below_pick t u n, eq-eqb, parity_below-none, ne_eqb, xor-false)
 
 -- the rest by 2, from whether the number is odd
 pub odd_is : (n : ℕ) → n % 2 ≡ cond (odd n) 1 0
 odd_is zero = refl
-odd_is (suc n) = step (odd n) n (odd_is n)
-  where
-    step : (b : Bool) (n : ℕ) → n % 2 ≡ cond b 1 0 → suc n % 2 ≡ cond (not b) 1 0
-    step true n h = omega arith
-    step false n h = omega arith
+odd_is (suc n) = grind (arith, odd_is n)
 
 -- a number with the rest 0 by 2 is not odd
 pub even_from_mod : (n : ℕ) → n % 2 ≡ 0 → odd n ≡ false
-even_from_mod n h = back (odd n) (odd_is n)
-  where
-    back : (b : Bool) → n % 2 ≡ cond b 1 0 → b ≡ false
-    back true e = absurd (omega arith)
-    back false e = refl
+even_from_mod n h = grind (arith, odd_is)
 
 -- a number with the rest 1 by 2 is odd
 pub odd_from_mod : (n : ℕ) → n % 2 ≡ 1 → odd n ≡ true
-odd_from_mod n h = back (odd n) (odd_is n)
-  where
-    back : (b : Bool) → n % 2 ≡ cond b 1 0 → b ≡ true
-    back true e = refl
-    back false e = absurd (omega arith)
+odd_from_mod n h = grind (arith, odd_is)
 
 -- an odd number as a test of its remainder
 pub odd_test : (n : ℕ) → eqb (n % 2) 1 ≡ odd n
-odd_test n = by_parity (odd n) (odd_is n)
-  where
-    by_parity : (b : Bool) → n % 2 ≡ cond b 1 0 → eqb (n % 2) 1 ≡ b
-    by_parity true e = eq-eqb (n % 2) 1 e
-    by_parity false e = ne_eqb (n % 2) 1 (λ (f : n % 2 ≡ 1). omega arith)
+odd_test n = grind (arith, odd_is, eq-eqb, ne_eqb)
 
 -- a number without remainder
 pub even_mod : (n : ℕ) → odd n ≡ false → n % 2 ≡ 0
 even_mod n h = odd_is n ∙ ap (λ b. cond {A = ℕ} b 1 0) h
 
 one_more : (b : Bool) (n : ℕ) (r : Bool) → odd n ≡ r → odd (cond b 1 0 + n) ≡ xor b r
-one_more true n r e = let s : 1 + n ≡ suc n = omega arith in rw s (ap not e)
-one_more false n r e = let s : 0 + n ≡ n = omega arith in rw s e
+one_more b n r h = grind arith
 
 -- the parity of a count
 pub odd-count_by : {X : Type 0} (p : X → Bool) (xs : List X) → odd (count_by p xs) ≡ parity_by p xs

@@ -1,5 +1,5 @@
 -- Ranks: how many of the lesser numbers pass. Each rank below the count is that of a number that passes, and of no other.
-use Rattle.std.proofs.Common.{inl, inr, ◌≡◌, ◌∙◌, sym, ap, ℕ, zero, suc, ◌+◌, ◌<◌, ◌≤◌, Bool, true, false, cond, arith}
+use Rattle.std.proofs.Common.{◌≡◌, ◌∙◌, ap, ℕ, zero, suc, ◌+◌, ◌<◌, ◌≤◌, Bool, true, false, cond, arith}
 use Rattle.std.proofs.lemmas.Bool.{cases_Bool, cases_eq}
 use Rattle.sg_sums.specs.Sums.{sum_below}
 
@@ -17,10 +17,7 @@ rank_no p n h = ap (λ b. rank p n + cond {A = ℕ} b 1 0) h ∙ omega arith
 -- ranks do not fall
 pub rank_rises : (p : ℕ → Bool) (m n : ℕ) → m ≤ n → rank p m ≤ rank p n
 rank_rises p m zero l = let e : m ≡ 0 = omega arith in omega (arith, ap (rank p) e)
-rank_rises p m (suc n) l = elim (cases_eq m (suc n)) [
-  | inl e ↦ omega (arith, ap (rank p) e)
-  | inr ne ↦ (let before : rank p m ≤ rank p n = rank_rises p m n (omega arith) in omega arith)
-]
+rank_rises p m (suc n) l = grind (arith, cases_eq m (suc n), rank_rises p m n)
 
 -- the rank of a number that passes is below each later one
 pub rank_less : (p : ℕ → Bool) (m n : ℕ) → m < n → p m ≡ true → rank p m < rank p n
@@ -29,13 +26,4 @@ rank_less p m n l h = let next : rank p (suc m) ≤ rank p n = rank_rises p (suc
 -- the number that passes with a rank below the count
 pub at_rank : (p : ℕ → Bool) (c n : ℕ) → c < rank p n → (r : ℕ) × (r < n) × (p r ≡ true) × (rank p r ≡ c)
 at_rank p c zero l = absurd (omega arith)
-at_rank p c (suc n) l = elim (cases_Bool (p n)) [
-  | inl h ↦ elim (cases_eq c (rank p n)) [
-    | inl e ↦ (n, omega arith, h, sym e)
-    | inr ne ↦ later (at_rank p c n (omega (arith, rank_yes p n h)))
-  ]
-  | inr h ↦ later (at_rank p c n (omega (arith, rank_no p n h)))
-]
-  where
-    later : ((r : ℕ) × (r < n) × (p r ≡ true) × (rank p r ≡ c)) → (r : ℕ) × (r < suc n) × (p r ≡ true) × (rank p r ≡ c)
-    later (r, b, h, e) = (r, omega arith, h, e)
+at_rank p c (suc n) l = grind (arith, cases_Bool (p n), cases_eq c (rank p n), at_rank p c n, rank_yes, rank_no)

@@ -14,10 +14,7 @@ turned x y z = grind arith
 
 -- what holds of each number below n holds of each element of the range, and back
 pub All_range : (P : ℕ → Type 0) (n : ℕ) → ((k : ℕ) → k < n → P k) → All P (range_with_len 0 n)
-All_range P n h k d l =
-    let below : k < n = omega (arith, length-range_with_len 0 n) in
-    let e : get_or (range_with_len 0 n) k d ≡ k = get_or-range_with_len 0 n k d below ∙ omega arith in
-    subst P (sym e) (h k below)
+All_range P n h k d l = grind (arith, length-range_with_len, get_or-range_with_len)
 
 -- what holds of all of a range from 0 holds of each number below its length
 pub All_range_at : (P : ℕ → Type 0) (n : ℕ) → All P (range_with_len 0 n) → (k : ℕ) → k < n → P k

@@ -25,15 +25,10 @@ rises_over_first x (z ∷ zs) up = (up 0 (omega arith), rises_over_first z zs (r
 -- a list that rises over a number does not hold it, nor one below
 pub holds_none_below : (a : ℕ) (xs : List ℕ) (z : ℕ) → RisesOver a xs → z ≤ a → holds xs z ≡ false
 holds_none_below a [] z r h = refl
-holds_none_below a (x ∷ xs) z r h =
-    ap₂ (λ p q. p || q) (ne_eqb x z (λ e. (let lt = r.0 in omega arith))) (holds_none_below x xs z r.1 (let lt = r.0 in omega arith))
+holds_none_below a (x ∷ xs) z r h = grind (arith, holds_none_below x xs z r.1, ne_eqb)
 
 or-xor : (p q r : Bool) → (p ≡ true → q ≡ false) → (r && (p || q)) ≡ xor (r && p) (r && q)
-or-xor true true r h = absurd (true≢false (h refl))
-or-xor true false true h = refl
-or-xor true false false h = refl
-or-xor false q true h = refl
-or-xor false q false h = refl
+or-xor p q r h = grind (arith, true≢false)
 
 -- the members that pass, counted over the numbers and over the list
 pub members_parity : (t : ℕ → Bool) (xs : List ℕ) (n : ℕ) → All (λ x. x < n) xs → IsStrictlyIncreasing xs →
@@ -46,10 +41,7 @@ members_parity t (s ∷ xs) n low up =
     ∙ ap₂ xor (parity_below_pick t s n (All-head (λ x. x < n) s xs low)) (members_parity t xs n (All-tail (λ x. x < n) s xs low) (rising_rest s xs up))
 
 eqb-swap : (a b : ℕ) → eqb a b ≡ eqb b a
-eqb-swap a b = elim (cases_eq a b) [
-  | inl e ↦ eq-eqb a b e ∙ sym (eq-eqb b a (sym e))
-  | inr ne ↦ ne_eqb a b ne ∙ sym (ne_eqb b a (λ e. ne (sym e)))
-]
+eqb-swap a b = grind (arith, cases_eq a b, eq-eqb, ne_eqb)
 
 -- how often a rising list names a number is whether it holds it
 pub parity_of_rising : (list : List ℕ) (n i : ℕ) → All (λ k. k < n) list → IsStrictlyIncreasing list → i < n → parity_by (λ k. eqb k i) list ≡ holds list i
@@ -74,21 +66,14 @@ holds-filter_range p a (suc n) x h l = elim (cases_eq a x) [
       where
         none : (p : ℕ → Bool) (b n z : ℕ) → z < b → holds (filter p (range_with_len b n)) z ≡ false
         none p b zero z l = refl
-        none p b (suc n) z l = step (p b) (none p (b + 1) n z (omega arith)) (ne_eqb b z (λ (e : b ≡ z). omega arith))
-          where
-            step : (c : Bool) → holds (filter p (range_with_len (b + 1) n)) z ≡ false → eqb b z ≡ false →
-                holds (cond c (b ∷ filter p (range_with_len (b + 1) n)) (filter p (range_with_len (b + 1) n))) z ≡ false
-            step true q e = ap₂ (λ u v. u || v) e q
-            step false q e = q
+        none p b (suc n) z l = grind (arith, none p (b + 1) n z, ne_eqb)
 
     first : (c : Bool) → c ≡ p x → eqb a x ≡ true → holds (cond c (a ∷ filter p (range_with_len (a + 1) n)) (filter p (range_with_len (a + 1) n))) x ≡ p x
-    first true q e = ap (λ u. u || holds (filter p (range_with_len (a + 1) n)) x) e ∙ q
-    first false q e = subst (λ z. holds (filter p (range_with_len (a + 1) n)) z ≡ false) (eqb-true a x e) later ∙ q
+    first c same found = grind (arith, eqb-true, later)
 
     rest : (c : Bool) → eqb a x ≡ false → holds (filter p (range_with_len (a + 1) n)) x ≡ p x →
         holds (cond c (a ∷ filter p (range_with_len (a + 1) n)) (filter p (range_with_len (a + 1) n))) x ≡ p x
-    rest true e q = ap (λ u. u || holds (filter p (range_with_len (a + 1) n)) x) e ∙ q
-    rest false e q = q
+    rest c other found = grind arith
 
 -- the numbers below n that pass, and no others below n
 pub holds-chosen_below : (p : ℕ → Bool) (n x : ℕ) → x < n → holds (chosen_below p n) x ≡ p x
@@ -101,9 +86,7 @@ module _ (p : ℕ → Bool) (n : ℕ) where
   chosen_below_low = All-filter p (λ x. x < n) (range_with_len 0 n) range_low
     where
       range_low : All (λ x. x < n) (range_with_len 0 n)
-      range_low k d l =
-          let low : k < n = omega (arith, l, length-range_with_len 0 n) in
-          omega (arith, get_or-range_with_len 0 n k d low)
+      range_low k d l = grind (arith, length-range_with_len, get_or-range_with_len)
 
   -- the chosen numbers pass
   pub chosen_below_pass : All (λ x. p x ≡ true) (chosen_below p n)
@@ -114,9 +97,7 @@ module _ (p : ℕ → Bool) (n : ℕ) where
   chosen_below_rises = IsStrictlyIncreasing-filter p (range_with_len 0 n) range_rises
     where
       range_rises : IsStrictlyIncreasing (range_with_len 0 n)
-      range_rises k l =
-          let low : k + 1 < n = omega (arith, l, length-range_with_len 0 n) in
-          omega (arith, get_or-range_with_len 0 n k 0 (omega arith), get_or-range_with_len 0 n (k + 1) 0 low)
+      range_rises k l = grind (arith, length-range_with_len, get_or-range_with_len)
 
 -- what each entry has, a number that the list holds has
 pub All-holds : (P : ℕ → Type 0) (xs : List ℕ) (x : ℕ) → All P xs → holds xs x ≡ true → P x

@@ -1,5 +1,5 @@
 -- The laws of sums: over the numbers below n, over a list by its places, and two sums exchanged.
-use Rattle.std.proofs.Common.{subst, take, get_or, inl, inr, ◌≡◌, ℕ, zero, suc, ◌+◌, ◌<◌, ◌≤◌, cond, eqb, List, [], ◌∷◌, refl, sym, ◌∙◌, ap, arith, sum_by, All, length}
+use Rattle.std.proofs.Common.{take, get_or, ◌≡◌, ℕ, zero, suc, ◌+◌, ◌<◌, ◌≤◌, cond, eqb, List, [], ◌∷◌, refl, sym, ◌∙◌, ap, arith, sum_by, All, length}
 use Rattle.std.proofs.lemmas.List.Elements.{All-head, All-tail}
 use Rattle.std.proofs.lemmas.List.{take_all}
 use Rattle.std.proofs.lemmas.List.Sums.{sum_by-cons, sum_by_more}
@@ -29,17 +29,7 @@ sum_below-same f g (suc n) h = omega (arith, sum_below-same f g n (λ k l. h k (
 -- of the numbers below n, only u is u
 pub sum_below_pick : (c : ℕ) (u n : ℕ) → u < n → sum_below (λ k. cond (eqb u k) c 0) n ≡ c
 sum_below_pick c u zero h = absurd (omega arith)
-sum_below_pick c u (suc n) h = elim (cases_eq u n) [
-  | inl e ↦
-      let here : cond (eqb u n) c 0 ≡ c = ap (λ b. cond b c 0) (eq-eqb u n e) in
-      let rest : sum_below (λ k. cond (eqb u k) c 0) n ≡ 0 =
-      sum_below-zero (λ k. cond (eqb u k) c 0) n (λ k l. ap (λ b. cond b c 0) (ne_eqb u k (λ (d : u ≡ k). omega arith))) in
-      omega arith
-  | inr ne ↦
-      let here : cond (eqb u n) c 0 ≡ 0 = ap (λ b. cond b c 0) (ne_eqb u n ne) in
-      let rest : sum_below (λ k. cond (eqb u k) c 0) n ≡ c = sum_below_pick c u n (omega arith) in
-      omega arith
-]
+sum_below_pick c u (suc n) h = grind (arith, cases_eq u n, sum_below_pick c u n, eq-eqb, sum_below-zero, ne_eqb)
 
 module _ {X : Type 0} where
   -- a sum over a list grows with its terms
@@ -61,19 +51,12 @@ module _ {X : Type 0} where
   -- the order of two sums is free
   pub sum_exchange : (f : X → ℕ → ℕ) (xs : List X) (n : ℕ) → sum_by (λ x. sum_below (f x) n) xs ≡ sum_below (λ k. sum_by (λ x. f x k) xs) n
   sum_exchange f [] n = sym (sum_below-zero (λ k. 0) n (λ k l. refl))
-  sum_exchange f (x ∷ xs) n =
-      let r : sum_by (λ x. sum_below (f x) n) xs ≡ sum_below (λ k. sum_by (λ x. f x k) xs) n = sum_exchange f xs n in
-      let s : sum_below (λ k. sum_by (λ y. f y k) (x ∷ xs)) n ≡ sum_below (λ k. f x k + sum_by (λ y. f y k) xs) n =
-      sum_below-same (λ k. sum_by (λ y. f y k) (x ∷ xs)) (λ k. f x k + sum_by (λ y. f y k) xs) n (λ k l. sum_by-cons (λ y. f y k) x xs) in
-      omega (arith, sum_by-cons (λ x. sum_below (f x) n) x xs, sum_below-add (f x) (λ k. sum_by (λ y. f y k) xs) n)
+  sum_exchange f (x ∷ xs) n = simp (sum_exchange f xs n, sum_below-same, sum_by-cons, sum_below-add)
 
 -- a single term is at most the sum
 pub at-le-sum_below : (f : ℕ → ℕ) (k n : ℕ) → k < n → f k ≤ sum_below f n
 at-le-sum_below f k zero h = absurd (omega arith)
-at-le-sum_below f k (suc n) h = elim (cases_eq k n) [
-  | inl e ↦ let same : f k ≡ f n = ap f e in omega arith
-  | inr ne ↦ let r : f k ≤ sum_below f n = at-le-sum_below f k n (omega arith) in omega arith
-]
+at-le-sum_below f k (suc n) h = grind (arith, cases_eq k n, at-le-sum_below f k n)
 
 -- the sum over the first elements of a list, by their places
 pub sum_below-sum_by : {X : Type 0} (f : X → ℕ) (xs : List X) (d : X) (i : ℕ) → i ≤ length xs → sum_by f (take i xs) ≡ sum_below (λ k. f (get_or xs k d)) i
@@ -82,8 +65,7 @@ sum_below-sum_by f xs d (suc i) h =
     let r : sum_by f (take i xs) ≡ sum_below (λ k. f (get_or xs k d)) i = sum_below-sum_by f xs d i (omega arith) in
     let step : sum_by f (take (i + 1) xs) ≡ sum_by f (take i xs) + f (get_or xs i d) = sum_by_more f xs i d (omega arith) in
     let same : i + 1 ≡ suc i = omega arith in
-    let step' : sum_by f (take (suc i) xs) ≡ sum_by f (take i xs) + f (get_or xs i d) =
-    subst (λ j. sum_by f (take j xs) ≡ sum_by f (take i xs) + f (get_or xs i d)) same step in
+    let step' : sum_by f (take (suc i) xs) ≡ sum_by f (take i xs) + f (get_or xs i d) = grind arith in
     omega arith
 
 -- the sum over a whole list, by the places of its elements
@@ -93,11 +75,7 @@ sum_by_is_sum_below f xs d = ap (sum_by f) (sym (take_all (length xs) xs (omega 
 -- a sum that gains c at one place, and loses nowhere
 pub sum_below-gain : (f g : ℕ → ℕ) (c u n : ℕ) → u < n → ((k : ℕ) → k < n → f k ≤ g k) → f u + c ≤ g u → sum_below f n + c ≤ sum_below g n
 sum_below-gain f g c u zero l h more = absurd (omega arith)
-sum_below-gain f g c u (suc n) l h more = elim (cases_eq u n) [
-  | inl e ↦ (let here : f n + c ≤ g n = subst (λ k. f k + c ≤ g k) e more in omega (arith, sum_below-le f g n (λ k q. h k (omega arith))))
-  | inr ne ↦ (let rest : sum_below f n + c ≤ sum_below g n = sum_below-gain f g c u n (omega arith) (λ k q. h k (omega arith)) more in omega
-      (arith, h n (omega arith)))
-]
+sum_below-gain f g c u (suc n) l h more = grind (arith, cases_eq u n, sum_below-gain f g c u n, sum_below-le)
 
 -- the same over a list
 pub sum_by-gain : {X : Type 0} (f g : X → ℕ) (c : ℕ) (xs : List X) (u : ℕ) (d : X) → u < length xs → All (λ x. f x ≤ g x) xs →

@@ -1,5 +1,7 @@
 -- Tallies: how often a number stands in a list, summed over the numbers; and sums in which one term at most counts.
-use Rattle.std.proofs.Common.{◌≡◌, ℕ, zero, suc, ◌+◌, ◌*◌, ◌<◌, ◌≤◌, Bool, true, false, cond, eqb, List, [], ◌∷◌, length, get_or, sum_by, refl, sym, ap, ◌∙◌, inl, inr, arith, eq-eqb}
+use Rattle.std.proofs.lemmas.Grind.{common_steps}
+use Rattle.std.proofs.lemmas.Bool.Decides.{nat_tests}
+use Rattle.std.proofs.Common.{◌≡◌, ℕ, zero, suc, ◌+◌, ◌*◌, ◌<◌, ◌≤◌, Bool, cond, eqb, List, [], ◌∷◌, length, get_or, sum_by, refl, sym, ap, ◌∙◌, inl, inr, arith, eq-eqb}
 use Rattle.std.specs.List.{range_with_len}
 use Rattle.std.proofs.lemmas.Bool.{cases_eq, cases_lt, ne_eqb}
 use Rattle.std.proofs.lemmas.List.Sums.{sum_by-cons}
@@ -17,15 +19,8 @@ pub sum_below_unique : (g : ℕ → ℕ) (b n : ℕ) → ((k : ℕ) → k < n �
     ((i j : ℕ) → i < n → j < n → 0 < g i → 0 < g j → i ≡ j) → sum_below g n ≤ b
 sum_below_unique g b zero small one = omega arith
 sum_below_unique g b (suc n) small one = elim (cases_lt 0 (g n)) [
-  | inl here ↦
-      let rest : sum_below g n ≡ 0 = sum_below-zero g n (λ k l. elim (cases_lt 0 (g k)) [
-        | inl there ↦ absurd (let e : k ≡ n = one k n (omega arith) (omega arith) there here in omega arith)
-        | inr none ↦ omega arith
-      ]) in
-      omega (arith, small n (omega arith))
-  | inr none ↦
-      let rest : sum_below g n ≤ b = sum_below_unique g b n (λ k l. small k (omega arith)) (λ i j li lj. one i j (omega arith) (omega arith)) in
-      omega arith
+  | inl here ↦ grind (arith, sum_below-zero)
+  | inr none ↦ grind (arith, sum_below_unique g b n)
 ]
 
 -- a sum of ones
@@ -47,8 +42,7 @@ sum_by-range g n =
 
 -- a test counts at most one
 pub cond_small : (b : Bool) → cond {A = ℕ} b 1 0 ≤ 1
-cond_small true = omega arith
-cond_small false = omega arith
+cond_small b = grind arith
 
 module _ {X : Type 0} (f : X → ℕ) where
   -- how often m is the number of an entry
@@ -56,10 +50,7 @@ module _ {X : Type 0} (f : X → ℕ) where
   times m xs = sum_by (λ x. cond (eqb (f x) m) 1 0) xs
 
   once_positive : (x : X) (m : ℕ) → 0 < cond (eqb (f x) m) 1 0 → f x ≡ m
-  once_positive x m h = elim (cases_eq (f x) m) [
-    | inl e ↦ e
-    | inr ne ↦ absurd (let z : cond {A = ℕ} (eqb (f x) m) 1 0 ≡ 0 = ap (λ b. cond b 1 0) (ne_eqb (f x) m ne) in omega arith)
-  ]
+  once_positive x m h = grind (arith, cases_eq (f x) m, ne_eqb)
 
   -- all entries below r are counted at some number below r
   pub times_total : (xs : List X) (d : X) (r : ℕ) → ((i : ℕ) → i < length xs → f (get_or xs i d) < r) → sum_below (λ m. times m xs) r ≡ length xs
@@ -76,10 +67,8 @@ module _ {X : Type 0} (f : X → ℕ) where
   times_at_most [] r = let z : sum_below (λ m. times m []) r ≡ 0 = sum_below-zero (λ m. times m []) r (λ k l. refl) in omega arith
   times_at_most (x ∷ xs) r =
       let one : ℕ → ℕ = λ m. cond (eqb (f x) m) 1 0 in
-      let parts : sum_below (λ m. times m (x ∷ xs)) r ≡ sum_below (λ m. one m + times m xs) r =
-      sum_below-same (λ m. times m (x ∷ xs)) (λ m. one m + times m xs) r (λ m l. sum_by-cons (λ y. cond (eqb (f y) m) 1 0) x xs) in
-      let once : sum_below one r ≤ 1 =
-      sum_below_unique one 1 r (λ k l. cond_small (eqb (f x) k)) (λ i j li lj p q. sym (once_positive x i p) ∙ once_positive x j q) in
+      let parts : sum_below (λ m. times m (x ∷ xs)) r ≡ sum_below (λ m. one m + times m xs) r = simp (sum_below-same, sum_by-cons) in
+      let once : sum_below one r ≤ 1 = grind (arith, sum_below_unique, cond_small, once_positive) in
       omega (arith, times_at_most xs r, sum_below-add one (λ m. times m xs) r)
 
   -- an entry that is counted stands somewhere
@@ -99,15 +88,11 @@ module _ {X : Type 0} (f : X → ℕ) where
   times_once m xs d differ =
       let one : ℕ → ℕ = λ i. cond (eqb (f (get_or xs i d)) m) 1 0 in
       let e : times m xs ≡ sum_below one (length xs) = sum_by_is_sum_below (λ x. cond (eqb (f x) m) 1 0) xs d in
-      let u : sum_below one (length xs) ≤ 1 =
-      sum_below_unique one 1 (length xs) (λ i l. cond_small (eqb (f (get_or xs i d)) m))
-      (λ i j li lj p q. differ i j li lj (once_positive (get_or xs i d) m p ∙ sym (once_positive (get_or xs j d) m q))) in
+      let u : sum_below one (length xs) ≤ 1 = grind (arith, sum_below_unique, cond_small, once_positive) in
       omega arith
 
   -- an entry counts
   pub times_some : (m : ℕ) (xs : List X) (d : X) (i : ℕ) → i < length xs → f (get_or xs i d) ≡ m → 1 ≤ times m xs
   times_some m [] d i low e = absurd (omega arith)
-  times_some m (x ∷ xs) d zero low e =
-      let o : cond {A = ℕ} (eqb (f x) m) 1 0 ≡ 1 = ap (λ b. cond b 1 0) (eq-eqb (f x) m e) in
-      omega (arith, sum_by-cons (λ y. cond (eqb (f y) m) 1 0) x xs)
+  times_some m (x ∷ xs) d zero low e = grind (arith, common_steps, nat_tests, eq-eqb, sum_by-cons)
   times_some m (x ∷ xs) d (suc i) low e = omega (arith, times_some m xs d i (omega arith) e, sum_by-cons (λ y. cond (eqb (f y) m) 1 0) x xs)
