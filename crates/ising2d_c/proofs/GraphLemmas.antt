@@ -1,8 +1,8 @@
 -- From the tests of the numbers of a general graph to the draft that they are.
-use Rattle.std.proofs.Common.{◌≡◌, ℕ, ◌<◌, ℤ, [], pos, true, Option, None, Some, arith, List, All, ap, length, sym, ◌∙◌, refl, subst}
-use Rattle.std.proofs.lemmas.List.Elements.{All-from_get_or}
-use Rattle.std.proofs.lemmas.List.FromFn.{get_or-map-range_with_len, length-map-range_with_len}
-use Rattle.sg_model.specs.declared.bond.Bond.{Bond}
+use Rattle.std.proofs.Common.{◌≡◌, ℕ, ℤ, [], pos, Option, None, Some, List, All, ap, length, ◌∙◌, refl}
+use Rattle.std.proofs.lemmas.List.FromFn.{length-map-range_with_len}
+use Rattle.std.specs.Prelude.{find, not}
+use Rattle.std.specs.List.{range_with_len}
 use Rattle.sg_model.specs.declared.refusal.Refusal.{Refusal}
 use Rattle.sg_draft.specs.declared.limits.Limits.{Limits}
 use Rattle.sg_draft.specs.declared.read.Read.TheVariants.{Known}
@@ -11,18 +11,14 @@ use Rattle.sg_draft.specs.Draft.{GeneralDraft, draft_fault, drafted, general_dra
 use Rattle.sg_draft.specs.Reads.{read_length, unless, value_or, wrong_entry}
 use Rattle.sg_draft.proofs.Drafts.{among-of, counted-unless, general-none, general-some, wrong-unless}
 use Rattle.ising2d_c.specs.Crossing.{wrong_start}
+use Rattle.ising2d_c.proofs.FirstLemmas.{all-made}
 use Rattle.ising2d_c.specs.Graphs.{bond_by, bonds_by, graph_draft, lists_by, Numbers, wrong_bond}
 
--- bonds that pass are among the spins
-pub bonds-among : (n : ℕ) (ends : List ℕ) (js : List ℤ) → ((k : ℕ) → k < length js → is_among n (bond_by ends js k) ≡ true)
+-- bonds none of which is wrong are among the spins
+pub bonds-among : (n : ℕ) (ends : List ℕ) (js : List ℤ) → find (λ k. not (is_among n (bond_by ends js k))) (range_with_len 0 (length js)) ≡ None
     → All (IsAmong n) (bonds_by ends js)
-bonds-among n ends js pass =
-    let none : Bond = record { u = 0; v = 0; j = pos 0 } in
-    let count = length-map-range_with_len (bond_by ends js) 0 (length js) in
-    All-from_get_or (IsAmong n) (bonds_by ends js) none (λ k inside.
-    let here : k < length js = omega (arith, inside, count) in
-    let same = get_or-map-range_with_len (bond_by ends js) 0 (length js) k k none here (omega arith) in
-    subst (IsAmong n) (sym same) (among-of n (bond_by ends js k) (pass k here)))
+bonds-among n ends js none =
+    all-made (IsAmong n) (is_among n) (among-of n) (bond_by ends js) (length js) (record { u = 0; v = 0; j = pos 0 }) none
 
 module _ (most : Limits) (g : Numbers) where
   -- the tests in front of those of each bond, as code makes them

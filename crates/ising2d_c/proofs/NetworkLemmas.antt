@@ -1,16 +1,15 @@
 -- From the tests of the numbers of a weighted graph to the graph, and faults by the step that finds them.
-use Rattle.std.proofs.Common.{◌≡◌, inl, inr, ℕ, ◌+◌, ◌<◌, ◌≤◌, ◌≤ℤ◌, ℤ, pos, negsuc, zero, suc, true, Option, None, Some, arith, List, All, ap, length, map, sym, ◌∙◌, refl, subst}
-use Rattle.std.specs.Prelude.{int_le}
+use Rattle.std.proofs.Common.{◌≡◌, inl, inr, ℕ, ◌+◌, ◌<◌, ◌≤◌, ◌≤ℤ◌, ℤ, pos, negsuc, zero, suc, true, Option, None, Some, arith, List, All, ap, length, map, ◌∙◌, refl}
+use Rattle.std.specs.Prelude.{find, int_le, not}
 use Rattle.std.specs.List.{range_with_len}
 use Rattle.std.proofs.lemmas.Bool.{false≢true, ltb-true, cases_eq}
 use Rattle.std.proofs.lemmas.Int.{ints}
-use Rattle.std.proofs.lemmas.List.Elements.{All-from_get_or}
-use Rattle.std.proofs.lemmas.List.FromFn.{get_or-map-range_with_len, length-map-range_with_len}
 use Rattle.sg_model.specs.declared.refusal.Refusal.{Refusal}
 use Rattle.sg_graph.specs.Web.{IsEdge}
 use Rattle.sg_graph.specs.declared.web.Edge.{Edge}
 use Rattle.sg_draft.specs.Tests.{first_of}
 use Rattle.sg_draft.proofs.Drafts.{both, last-test}
+use Rattle.ising2d_c.proofs.FirstLemmas.{all-made}
 use Rattle.ising2d_c.specs.Networks.{edge_by, edges_by, joins_nodes, network_fault, web_fault, WebNumbers}
 
 not_negative : (w : ℤ) → int_le (pos 0) w ≡ true → pos 0 ≤ℤ w
@@ -24,16 +23,11 @@ edge-of n edge pass =
     let second = both _ _ first.1 in
     record { first_end = ltb-true edge.a n first.0; second_end = ltb-true edge.b n second.0; not_negative = not_negative edge.w second.1 }
 
--- edges that pass are edges of the graph
-pub edges-joined : (n : ℕ) (ends : List ℕ) (weights : List ℤ) → ((k : ℕ) → k < length weights → joins_nodes n (edge_by ends weights k) ≡ true)
-    → All (IsEdge n) (edges_by ends weights)
-edges-joined n ends weights pass =
-    let none : Edge = record { a = 0; b = 0; w = pos 0 } in
-    let count = length-map-range_with_len (edge_by ends weights) 0 (length weights) in
-    All-from_get_or (IsEdge n) (edges_by ends weights) none (λ k inside.
-    let here : k < length weights = omega (arith, inside, count) in
-    let same = get_or-map-range_with_len (edge_by ends weights) 0 (length weights) k k none here (omega arith) in
-    subst (IsEdge n) (sym same) (edge-of n (edge_by ends weights k) (pass k here)))
+-- edges none of which is wrong are edges of the graph
+pub edges-joined : (n : ℕ) (ends : List ℕ) (weights : List ℤ)
+    → find (λ k. not (joins_nodes n (edge_by ends weights k))) (range_with_len 0 (length weights)) ≡ None → All (IsEdge n) (edges_by ends weights)
+edges-joined n ends weights none =
+    all-made (IsEdge n) (joins_nodes n) (edge-of n) (edge_by ends weights) (length weights) (record { a = 0; b = 0; w = pos 0 }) none
 
 module _ (g : WebNumbers) (test : Option Refusal) where
   -- a test of the terminals, behind numbers that pass

@@ -6,6 +6,11 @@ use Rattle.std.proofs.lemmas.Grind.{flat_map-append}
 use Rattle.std.proofs.lemmas.List.FromFn.{map-range_with_len_more}
 use Rattle.ising2d_c.specs.Crossing.{entries_before}
 
+-- one item more of those that a function makes of the numbers in turn
+pub made-more : {X : Type 0} (made : ℕ → X) (old new : List X) (x : X) (k : ℕ) → old ≡ map made (range_with_len 0 k) → new ≡ old ++ x ∷ []
+    → x ≡ made k → new ≡ map made (range_with_len 0 (k + 1))
+made-more made old new x k so_far added is = rw (added, so_far, is) (sym (map-range_with_len_more made 0 k k (omega arith)))
+
 module _ {A : Type 0} (entries : A → List ℕ) where
   -- the start of one item more
   pub starts_more : (items : List A) (starts joined : List ℕ) (n : ℕ) → starts ≡ map (entries_before entries items) (range_with_len 0 n)

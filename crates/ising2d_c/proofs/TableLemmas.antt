@@ -5,9 +5,9 @@ use Rattle.std.specs.Prelude.{slice_index_or, unsigned_abs}
 use Rattle.std.proofs.Math.Seq.{take-append_seam, drop-append-add, take-length}
 use Rattle.std.proofs.lemmas.Bool.{eq-eqb, le-leb, le-ltb, lt-ltb, ne_eqb}
 use Rattle.std.proofs.lemmas.Grind.{flat_map-append}
-use Rattle.std.proofs.lemmas.List.{append-nil, ext_get_or, length-append, take_more}
+use Rattle.std.proofs.lemmas.List.{append-nil, length-append, take_more}
 use Rattle.std.proofs.lemmas.List.Elements.{All-get_or}
-use Rattle.std.proofs.lemmas.List.FromFn.{get_or-map-range_with_len, length-map-range_with_len}
+use Rattle.std.proofs.lemmas.List.FromFn.{fill_by_all, get_or-map-range_with_len, length-map-range_with_len}
 use Rattle.sg_model.specs.declared.bond.Bond.{Bond}
 use Rattle.sg_model.specs.Ising.{Ising, IsBond, bond_count}
 use Rattle.sg_model.specs.WellFormed.{IsInstance}
@@ -71,13 +71,8 @@ bond-back bonds js k coupled low =
     (first-end bonds k low) (second-end bonds k low) (sym (coupled.each k low))
 
 bonds-back : (bonds : List Bond) (js : List ℤ) → AreCouplings bonds js → bonds_by (flat_map two bonds) js ≡ bonds
-bonds-back bonds js coupled =
-    let f = bond_by (flat_map two bonds) js in
-    let long = length-map-range_with_len f 0 (length js) ∙ coupled.count in
-    ext_get_or no_bond (bonds_by (flat_map two bonds) js) bonds long (λ k inside.
-    let low : k < length bonds = omega (arith, inside, long) in
-    get_or-map-range_with_len f 0 (length js) k k no_bond (omega (arith, low, coupled.count)) (omega arith)
-    ∙ bond-back bonds js k coupled low)
+bonds-back bonds js coupled = sym (fill_by_all (bond_by (flat_map two bonds) js) bonds (length js) no_bond (sym coupled.count)
+    (λ k inside. sym (bond-back bonds js k coupled (omega (arith, inside, coupled.count)))))
 
 -- the couplings of a lattice
 pub lattice-couplings : (kind : Kind) (R C : ℕ) (js : List ℤ) → length js ≡ bond_count (lattice kind R C js)
@@ -134,15 +129,10 @@ piece (x ∷ xs) (suc k) less =
     ∙ piece xs k (omega (arith, less))
 
 lists-back : (xs : List (List ℕ)) (starts joined : List ℕ) → IsJoined own xs starts joined → lists_by (length xs) starts joined ≡ xs
-lists-back xs starts joined cut =
-    let f = entries_of starts joined in
-    let long = length-map-range_with_len f 0 (length xs) in
-    ext_get_or [] (lists_by (length xs) starts joined) xs long (λ k inside.
-    let low : k < length xs = omega (arith, inside, long) in
+lists-back xs starts joined cut = sym (fill_by_all (entries_of starts joined) xs (length xs) [] refl (λ k low.
     let here = starts-at xs starts joined k cut (omega (arith, low)) in
     let next = starts-at xs starts joined (k + 1) cut (omega (arith, low)) in
-    get_or-map-range_with_len f 0 (length xs) k k [] low (omega arith)
-    ∙ rw (here, next, cut.bound) (piece xs k low))
+    sym (rw (here, next, cut.bound) (piece xs k low))))
 
 -- an instance of its parts
 same-parts : (n : ℕ) (bonds bonds' : List Bond) (lists lists' : List (List ℕ)) (seam : List ℕ) → bonds ≡ bonds' → lists ≡ lists'

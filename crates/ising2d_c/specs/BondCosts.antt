@@ -34,6 +34,12 @@ bound_by lists k = record {
 abbrev pub bounds_by : BoundLists → List Bound
 bounds_by lists = map (bound_by lists) (range_with_len 0 (length lists.low))
 
+-- the two lists say these bounds
+pub record SaysBounds (lists : BoundLists) (bounds : List Bound) : Type 0 where
+  pub count_low : length lists.low ≡ length bounds
+  pub count_high : length lists.high ≡ length bounds
+  pub says : bounds_by lists ≡ bounds
+
 -- the place of the asked bonds in the line of a refusal
 abbrev pub asked_place : ℕ
 asked_place = 14

@@ -1,7 +1,9 @@
 -- General graphs by numbers: what they say, which numbers give one, what is wrong with others, and what a study or a
 -- checker finds of one.
-use Rattle.std.specs.Prelude.{◌≡◌, ◌⊎◌, ℕ, ℤ, pos, ◌+◌, ◌*◌, ◌==◌, not, if◌then◌else◌, Option, Some, find, List, [], length, map, slice_index_or}
+use Rattle.std.specs.Prelude.{◌≡◌, ◌⊎◌, ℕ, ℤ, pos, ◌+◌, ◌*◌, ◌<◌, ◌==◌, not, if◌then◌else◌, Option, Some, find, List, [], length, map, slice_index_or}
 use Rattle.std.specs.List.{range_with_len}
+use Rattle.sg_limits.specs.Limits.{bond_limit, spin_limit}
+use Rattle.sg_draft.specs.Limits.{large_limits}
 use Rattle.sg_model.specs.Ising.{Ising}
 use Rattle.sg_model.specs.Faults.{OrNoMemory}
 use Rattle.sg_model.specs.declared.bond.Bond.{Bond}
@@ -120,3 +122,8 @@ pub record Finds (Given Study : Ising → Type 0) : Type 0 where
   pub instance : Ising
   pub given : Given instance
   pub study : Study instance
+
+-- the tables of the fit graph exceed what is allowed, and it has more spins or more bonds than the program takes
+pub record IsTooLarge (g : Numbers) (Exceed : Ising → Type 0) : Type 0 where
+  pub exceed : Finds (IsFitGraph large_limits g) Exceed
+  pub large : (spin_limit < g.n) ⊎ (bond_limit < length g.couplings)

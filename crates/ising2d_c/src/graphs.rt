@@ -1,7 +1,8 @@
 // General graphs by numbers. No number is trusted: each is tested, and the first fault is named.
-ghost use Rattle.std.specs.Prelude.{◌≡◌, ◌*◌, ◌<◌, ◌≤◌, length, All, None, IfErr, IfOk, OnOk};
+ghost use Rattle.std.specs.Prelude.{◌≡◌, ◌*◌, ◌<◌, ◌≤◌, find, length, not, All, None, IfErr, IfOk, OnOk};
+ghost use Rattle.std.specs.List.{range_with_len};
 ghost use Rattle.sg_limits.specs.Limits.{large_bond_limit, large_spin_limit};
-ghost use Rattle.sg_draft.specs.Bonds.{IsAmong, self_fault};
+ghost use Rattle.sg_draft.specs.Bonds.{IsAmong, is_among as is_among_spins, self_fault};
 ghost use Rattle.sg_draft.specs.Draft.{draft_fault, drafted};
 ghost use Rattle.sg_ground.specs.Nested.{FitsWeb};
 ghost use Rattle.ising2d_c.specs.Graphs.{bond_by as bond_numbered, bonds_by, graph_draft, IsFitFault, IsFitGraph, IsGraph, IsGraphFault, lists_by, numbers_of, wrong_bond as wrong_bond_of};
@@ -94,12 +95,15 @@ fn wrong_bond(n: u32, ends: &[u32], couplings: &[i64]) -> Option<usize>
     if ends.len() % 2 != 0 || ends.len() / 2 != couplings.len() {
         return Some(0);
     }
-    for k in 0..couplings.len() {
-        if !is_among(u64::from(n), bond_by(ends, couplings, k)) {
-            return Some(k);
-        }
-    }
-    None
+    first_unjoined(n, ends, couplings)
+}
+
+// The first bond that does not join two of the spins with a coupling.
+fn first_unjoined(n: u32, ends: &[u32], couplings: &[i64]) -> Option<usize>
+    requires { length ends.now ≡ 2 * length couplings.now }
+    ensures { result ≡ find (λ k. not (is_among_spins n (bond_numbered ends.now couplings.now k))) (range_with_len 0 (length couplings.now)) }
+{
+    (0..couplings.len()).find(|k| !is_among(u64::from(n), bond_by(ends, couplings, *k)))
 }
 
 // The bonds.

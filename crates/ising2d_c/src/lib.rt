@@ -23,12 +23,13 @@
 //! is answered, and `specs/Running.antt` how a run ends. `calls.rt` and `tables.rt` have the exports;
 //! the answers are computed in `studies.rt` and `judging.rt`, which see no caller's memory. For weighted
 //! graphs these are `specs/Networks.antt`, `specs/Joins.antt`, `joins.rt` and `joining.rt`, and for bounds of
-//! costs `specs/BondCosts.antt`, `bond_costs.rt` and `cost_bounds.rt`. A list that
+//! costs `specs/BondCosts.antt`, `bounded.rt`, `bond_costs.rt` and `cost_bounds.rt`. A list that
 //! does not fit is cut off, so no clause requires room. The header for C and the Python module are in
 //! `bindings/`, and tested there.
 #![tactic(auto)]
 
 mod bond_costs;
+mod bounded;
 mod calls;
 mod cost_bounds;
 mod crossing;

@@ -1,5 +1,6 @@
 // Weighted graphs and terminals by numbers. No number is trusted: each is tested, and the first fault is named.
-ghost use Rattle.std.specs.Prelude.{◌≡◌, ◌*◌, ◌<◌, ◌≤◌, length, All, None, Some, IfErr, IfOk, OnOk};
+ghost use Rattle.std.specs.Prelude.{◌≡◌, ◌*◌, ◌<◌, ◌≤◌, find, length, not, All, None, Some, IfErr, IfOk, OnOk};
+ghost use Rattle.std.specs.List.{range_with_len};
 ghost use Rattle.sg_limits.specs.Limits.{large_bond_limit, large_spin_limit, sum_limit};
 ghost use Rattle.sg_model.specs.Faults.{OrNoMemory};
 ghost use Rattle.sg_graph.specs.Walk.{IsConnectedWeb};
@@ -126,12 +127,15 @@ fn wrong_edge(nodes: u32, ends: &[u32], weights: &[i64]) -> Option<usize>
     if ends.len() % 2 != 0 || ends.len() / 2 != weights.len() {
         return Some(0);
     }
-    for k in 0..weights.len() {
-        if !joins_nodes(nodes, edge_by(ends, weights, k)) {
-            return Some(k);
-        }
-    }
-    None
+    first_unjoined(nodes, ends, weights)
+}
+
+// The first edge that does not join two of the nodes or has a negative weight.
+fn first_unjoined(nodes: u32, ends: &[u32], weights: &[i64]) -> Option<usize>
+    requires { length ends.now ≡ 2 * length weights.now }
+    ensures { result ≡ find (λ k. not (joins_two nodes (edge_numbered ends.now weights.now k))) (range_with_len 0 (length weights.now)) }
+{
+    (0..weights.len()).find(|k| !joins_nodes(nodes, edge_by(ends, weights, *k)))
 }
 
 // Whether an edge joins two of the nodes, and its weight is not negative.

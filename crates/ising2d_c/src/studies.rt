@@ -4,7 +4,7 @@ ghost use Rattle.sg_bonds.specs.Cluster.{AreClusters};
 ghost use Rattle.sg_bonds.specs.Cost.{AreCosts};
 ghost use Rattle.sg_bonds.specs.Weakened.{WeakenedTablesExceed};
 ghost use Rattle.ising2d_c.specs.Proofs.{AreRows, AreRowsOf, loop_lists, nest_lists};
-ghost use Rattle.ising2d_c.specs.Graphs.{Finds, IsFitFault, IsFitGraph, IsUnanswered, IsWallFault, numbers_of};
+ghost use Rattle.ising2d_c.specs.Graphs.{Finds, IsFitFault, IsFitGraph, IsTooLarge, IsUnanswered, IsWallFault, numbers_of};
 ghost use Rattle.ising2d_c.specs.Grounds.{IsExact, IsGround, IsNested, IsWallAtSeam};
 ghost use Rattle.sg_draft.specs.Limits.{large_limits, program_limits};
 ghost use Rattle.sg_ground.specs.Allowance.{TablesExceed};
@@ -28,7 +28,7 @@ pub fn ground_of(alloc: Global, given: &Given) -> Result<(Answer, Rows), Unanswe
     ensures gives { IfOk result (λ found. Finds (IsFitGraph large_limits (numbers_of given.now)) (λ inst. IsGround inst found.0.energy (λ s loops.
         (found.0.spins ≡ s) × AreRows (loop_lists found.1.weights.items found.1.starts.items found.1.bonds.items) loops))) }
     ensures refuses { IfErr result (IsUnanswered (IsFitFault large_limits (numbers_of given.now))
-        (Finds (IsFitGraph large_limits (numbers_of given.now)) (TablesExceed table_limit))) }
+        (IsTooLarge (numbers_of given.now) (TablesExceed table_limit))) }
 {
     let planar = fit_graph(alloc, Limits::large(), given)?;
     let answer = solve_within(alloc, &planar, TABLE_LIMIT)?;
@@ -41,7 +41,7 @@ pub fn nest_of(alloc: Global, given: &Given) -> Result<(NestedState, NestRows), 
     ensures gives { IfOk result (λ found. Finds (IsFitGraph large_limits (numbers_of given.now)) (λ inst. IsNested inst found.0.energy (λ s nest.
         (found.0.spins ≡ s) × AreRowsOf (nest_lists found.1.parents.items found.1.radii.items found.1.regions.items found.1.at_radii.items) nest))) }
     ensures refuses { IfErr result (IsUnanswered (IsFitFault large_limits (numbers_of given.now))
-        (Finds (IsFitGraph large_limits (numbers_of given.now)) (TablesExceed table_limit))) }
+        (IsTooLarge (numbers_of given.now) (TablesExceed table_limit))) }
 {
     let planar = fit_graph(alloc, Limits::large(), given)?;
     let state = nested_state(alloc, &planar, TABLE_LIMIT)?;
@@ -54,7 +54,7 @@ pub fn wall_of(alloc: Global, given: &Given) -> Result<WallAnswer, Unanswered>
     ensures gives { IfOk result (λ found. Finds (IsFitGraph large_limits (numbers_of given.now))
         (λ inst. IsWallAtSeam inst found.periodic found.antiperiodic found.difference)) }
     ensures refuses { IfErr result (IsUnanswered (IsWallFault large_limits (numbers_of given.now))
-        (Finds (IsFitGraph large_limits (numbers_of given.now)) (WallTablesExceed table_limit))) }
+        (IsTooLarge (numbers_of given.now) (WallTablesExceed table_limit))) }
 {
     let planar = fit_graph(alloc, Limits::large(), given)?;
     if planar.instance().seam().is_empty() {
@@ -76,7 +76,7 @@ pub fn costs_of(alloc: Global, given: &Given) -> Result<CostList, Fault>
 pub fn clusters_of(alloc: Global, given: &Given) -> Result<ClusterList, Unanswered>
     ensures gives { IfOk result (λ found. Finds (IsFitGraph large_limits (numbers_of given.now)) (λ inst. IsExact (AreClusters inst) (λ c. found ≡ c))) }
     ensures refuses { IfErr result (IsUnanswered (IsFitFault large_limits (numbers_of given.now))
-        (Finds (IsFitGraph large_limits (numbers_of given.now)) (WeakenedTablesExceed table_limit))) }
+        (IsTooLarge (numbers_of given.now) (WeakenedTablesExceed table_limit))) }
 {
     let planar = fit_graph(alloc, Limits::large(), given)?;
     Ok(clusters_within(alloc, &planar, TABLE_LIMIT)?)

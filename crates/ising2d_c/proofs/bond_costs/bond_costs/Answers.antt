@@ -1,76 +1,43 @@
-use Rattle.std.proofs.Common.{◌≡◌, ◌∙◌, inl, None, ap, subst, sym, length, List, All, ◌<◌}
-use Rattle.std.proofs.lemmas.List.FromFn.{length-map-range_with_len}
-use Rattle.std.proofs.lemmas.Result.{err_from_is_err_and}
+use Rattle.std.proofs.Common.{◌≡◌, ◌∙◌, ap, inl, length, subst, sym, List}
+use Rattle.std.proofs.lemmas.List.{with_items_is}
 use Rattle.sg_limits.specs.Limits.{table_limit}
 use Rattle.sg_draft.specs.Limits.{large_limits}
-use Rattle.sg_draft.specs.Tests.{Refuses}
-use Rattle.sg_model.specs.Faults.{OrNoMemory}
-use Rattle.sg_model.specs.Ising.{Ising, bond_count}
-use Rattle.sg_model.specs.declared.bond.Bond.{Bond}
 use Rattle.sg_bonds.specs.Bounds.{AreBounds, AreKnown, ForcedTablesExceed, Narrows}
 use Rattle.sg_bonds.specs.declared.bounds.Bound.{Bound as Bounded}
-use Rattle.ising2d_c.specs.BondCosts.{IsBoundsFault, bound_by, bound_lists, bounds_by, bounds_fault}
+use Rattle.sg_reader.proofs.RestLaws.{failed}
+use Rattle.ising2d_c.specs.BondCosts.{IsBoundsFault, bound_lists, bounds_by}
 use Rattle.ising2d_c.specs.Graphs.{numbers_of}
-use Rattle.ising2d_c.proofs.BoundLemmas.{bounds_fail}
-use Rattle.ising2d_c.proofs.StudyLemmas.{by_solver}
+use Rattle.ising2d_c.proofs.StudyLemmas.{by_solver, forced_exceeded}
 use Rattle.ising2d_c.proofs.bond_costs.bond_costs.Goals as goal
 
-pub narrowed-requires-clause-asked : goal.narrowed-requires-clause-asked
-narrowed-requires-clause-asked c =
-    let counted = c.len.ensures ∙ ap (length {A = Bond}) (c.bonds.ensures.value ∙ ap (λ (i : Ising). i.bonds) c.instance.ensures.value) in
-    subst (λ n. All (λ k. k < n) c.args.asked.now) counted c.in_ok-bounds.ensures.asked
-
-pub narrowed-requires-clause-count : goal.narrowed-requires-clause-count
-narrowed-requires-clause-count c =
-    let counted = c.len.ensures ∙ ap (length {A = Bond}) (c.bonds.ensures.value ∙ ap (λ (i : Ising). i.bonds) c.instance.ensures.value) in
-    ap (length {A = Bounded}) (c.deref_mut.ensures.value ∙ c.in_ok-bounds.ensures.value)
-    ∙ length-map-range_with_len (bound_by (bound_lists c.args.low.now c.args.high.now)) 0 (length c.args.low.now)
-    ∙ c.in_ok-bounds.ensures.low
-    ∙ counted
-
 pub returns-clause-gives : goal.returns-clause-gives
-returns-clause-gives c =
-    let counted = c.len.ensures ∙ ap (length {A = Bond}) (c.bonds.ensures.value ∙ ap (λ (i : Ising). i.bonds) c.instance.ensures.value) in
-    let before = bound_lists c.args.low.now c.args.high.now in
-    let now = bounds_by (bound_lists c.in_ok-rows.rows.low.items c.in_ok-rows.rows.high.items) in
-    let inst : Ising = c.in_ok-planar.planar.instance in
-    let same : c.deref_mut.result.now ≡ bounds_by before = c.deref_mut.ensures.value ∙ c.in_ok-bounds.ensures.value in
+returns-clause-gives c = λ after says.
+    let inst = c.in_ok-graph.graph.planar.instance in
+    let new = c.costs_of.new.bounds in
+    let own = c.in_ok-graph.ensures in
+    let narrows = c.in_ok-costs_of.ensures.narrows in
+    let old = c.deref_mut.ensures.value ∙ own.bounds in
+    let items = with_items_is c.in_ok-graph.graph.bounds new (c.costs_of.auto.bounds ∙ c.deref_mut.ensures.len) in
+    let said : bounds_by after ≡ new = says.says ∙ items in
+    let count = ap length items ∙ narrows.count ∙ ap length c.deref_mut.ensures.value ∙ own.count in
     record {
       instance = inst;
-      given = rw c.large.ensures.value at c.in_ok-planar.ensures.gives;
+      given = own.given;
       study = record {
-        passes = subst (λ n. bounds_fault n c.args.asked.now before ≡ None) counted c.in_ok-bounds.ensures.passes;
-        count_low = c.in_ok-rows.ensures.count_low;
-        count_high = c.in_ok-rows.ensures.count_high;
-        narrows = subst (λ (bounds : List Bounded). Narrows inst bounds now) same c.in_ok-rows.ensures.narrows;
-        known = subst (λ (bounds : List Bounded). AreBounds inst bounds → AreKnown inst now c.args.asked.now) same c.in_ok-rows.ensures.known;
+        passes = own.passes;
+        count_low = says.count_low ∙ count;
+        count_high = says.count_high ∙ count;
+        narrows = subst (Narrows inst (bounds_by (bound_lists c.args.low.now c.args.high.now))) (sym said)
+            (subst (λ (bounds : List Bounded). Narrows inst bounds new) old narrows);
+        known = λ are. subst (λ (bounds : List Bounded). AreKnown inst bounds c.args.asked.now) (sym said)
+            (c.in_ok-costs_of.ensures.known (subst (AreBounds inst) (sym old) are));
       };
     }
 
-pub returns-clause-low : goal.returns-clause-low
-returns-clause-low c =
-    let counted = c.len.ensures ∙ ap (length {A = Bond}) (c.bonds.ensures.value ∙ ap (λ (i : Ising). i.bonds) c.instance.ensures.value) in
-    c.in_ok-rows.ensures.count_low ∙ sym (c.in_ok-bounds.ensures.low ∙ counted)
-
-pub returns-clause-high : goal.returns-clause-high
-returns-clause-high c =
-    let counted = c.len.ensures ∙ ap (length {A = Bond}) (c.bonds.ensures.value ∙ ap (λ (i : Ising). i.bonds) c.instance.ensures.value) in
-    c.in_ok-rows.ensures.count_high ∙ sym (c.in_ok-bounds.ensures.high ∙ counted)
-
-pub returns-in_err-bounds-clause-refuses : goal.returns-in_err-bounds-clause-refuses
-returns-in_err-bounds-clause-refuses c =
-    let p = err_from_is_err_and c.from_residual-in_err-bounds.result c.from_residual-in_err-bounds.ensures.1 in
-    let lists = bound_lists c.args.low.now c.args.high.now in
-    let counted = c.len.ensures ∙ ap (length {A = Bond}) (c.bonds.ensures.value ∙ ap (λ (i : Ising). i.bonds) c.instance.ensures.value) in
-    rw (p.1, p.2) (
-    bounds_fail large_limits (numbers_of c.args.given.now) c.args.asked.now lists c.in_ok-planar.planar.instance c.in_err-bounds.field-0.0
-    (rw c.large.ensures.value at c.in_ok-planar.ensures.gives)
-    (subst (λ n. OrNoMemory (Refuses (bounds_fault n c.args.asked.now lists)) c.in_err-bounds.field-0.0) counted c.in_err-bounds.ensures.refuses))
-
-pub returns-in_err-rows-clause-refuses : goal.returns-in_err-rows-clause-refuses
-returns-in_err-rows-clause-refuses c =
-    let p = err_from_is_err_and c.from_residual-in_err-rows.result c.from_residual-in_err-rows.ensures.1 in
-    rw (p.1, p.2) (
-    by_solver large_limits (numbers_of c.args.given.now) c.in_ok-planar.planar.instance (rw c.large.ensures.value at c.in_ok-planar.ensures.gives)
-    (IsBoundsFault large_limits (numbers_of c.args.given.now) c.args.asked.now (bound_lists c.args.low.now c.args.high.now)) (inl (inl tt))
-    (ForcedTablesExceed table_limit) c.in_err-rows.field-0.0 c.in_err-rows.ensures.too_large)
+pub returns-in_err-costs_of-clause-refuses : goal.returns-in_err-costs_of-clause-refuses
+returns-in_err-costs_of-clause-refuses c =
+    let g = numbers_of c.args.given.now in
+    failed c.from_residual-in_err-costs_of.result _ c.from_residual-in_err-costs_of.ensures.1
+    (by_solver g c.in_ok-graph.graph.planar.instance c.in_ok-graph.ensures.given
+    (IsBoundsFault large_limits g c.args.asked.now (bound_lists c.args.low.now c.args.high.now)) (inl (inl tt)) (ForcedTablesExceed table_limit) forced_exceeded
+    c.in_err-costs_of.field-0.0 c.in_err-costs_of.ensures.too_large)

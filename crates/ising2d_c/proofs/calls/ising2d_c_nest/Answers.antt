@@ -1,9 +1,6 @@
 use Rattle.std.proofs.Common.{rules, ◌≡◌, ◌∙◌, length, w64, to_z-of_z}
 use Rattle.ising2d_c.specs.Proofs.{nest_lists}
 use Rattle.ising2d_c.proofs.CrossingLemmas.{shows}
-use Rattle.sg_draft.specs.Limits.{large_limits}
-use Rattle.ising2d_c.specs.Graphs.{numbers}
-use Rattle.ising2d_c.proofs.StudyLemmas.{large_only}
 use Rattle.ising2d_c.proofs.calls.ising2d_c_nest.Goals as goal
 
 pub returns-in-Ok-clause-found : goal.returns-in-Ok-clause-found
@@ -37,7 +34,3 @@ returns-in-Ok-clause-found c = λ done.
         );
       };
     })
-
-pub returns-in-Err-TablesTooLarge-clause-large : goal.returns-in-Err-TablesTooLarge-clause-large
-returns-in-Err-TablesTooLarge-clause-large c = λ done.
-    large_only large_limits (numbers c.args.n c.args.ends.now c.args.couplings.now c.args.dart_starts.now c.args.darts.now c.args.seam.now) (search rules)

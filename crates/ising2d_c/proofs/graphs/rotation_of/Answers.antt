@@ -1,7 +1,6 @@
-use Rattle.std.proofs.Common.{◌≡◌, ◌∙◌, ◌+◌, ◌-◌, ◌++◌, ◌∷◌, [], ap, arith, List, ℕ, length, map, sym}
-use Rattle.std.specs.List.{range_with_len}
-use Rattle.std.proofs.lemmas.List.FromFn.{map-range_with_len_more}
+use Rattle.std.proofs.Common.{◌≡◌, ◌+◌, ◌-◌, arith, length}
 use Rattle.ising2d_c.specs.Crossing.{entries_of}
+use Rattle.ising2d_c.proofs.RowLemmas.{made-more}
 use Rattle.ising2d_c.proofs.StartLemmas.{below_last}
 use Rattle.ising2d_c.proofs.graphs.rotation_of.Goals as goal
 
@@ -11,12 +10,8 @@ entries_at-requires-clause-last c =
 
 pub loop-spin-preserved : goal.loop-spin-preserved
 loop-spin-preserved c =
-    let spin = c.loop-spin.spin in
-    let made = entries_of c.args.starts.now c.args.darts.now in
-    c.in_ok-push.ensures.ok
-    ∙ ap (λ (l : List (List ℕ)). l ++ c.entries_at.result.now ∷ []) c.loop-spin.invariant
-    ∙ ap (λ (l : List ℕ). map made (range_with_len 0 spin) ++ l ∷ []) c.entries_at.ensures
-    ∙ sym (map-range_with_len_more made 0 spin spin (omega arith))
+    made-more (entries_of c.args.starts.now c.args.darts.now) c.loop-spin.rotation _ c.entries_at.result.now c.loop-spin.spin c.loop-spin.invariant
+    c.in_ok-push.ensures.ok c.entries_at.ensures
 
 pub returns : goal.returns
 returns c =

@@ -1,4 +1,4 @@
-use Rattle.std.proofs.Common.{rules, ◌≡◌, ◌∙◌, length}
+use Rattle.std.proofs.Common.{rules, ◌≡◌, length}
 use Rattle.ising2d_c.specs.Joins.{join_lists}
 use Rattle.ising2d_c.proofs.CrossingLemmas.{shows}
 use Rattle.ising2d_c.proofs.JoinLemmas.{some_large_only}

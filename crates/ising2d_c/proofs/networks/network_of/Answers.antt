@@ -1,4 +1,3 @@
-use Rattle.std.proofs.Common.{rules}
 use Rattle.sg_graph_text.specs.Graph.{terminals_fault}
 use Rattle.sg_graph_text.proofs.TerminalLaws.{are_terminals}
 use Rattle.ising2d_c.specs.Networks.{edges_by, web_numbers_of}

@@ -1,10 +1,10 @@
 use Rattle.std.proofs.Common.{inl, refl}
-use Rattle.std.proofs.lemmas.Result.{err_from_is_err_and}
 use Rattle.sg_limits.specs.Limits.{table_limit}
 use Rattle.sg_draft.specs.Limits.{large_limits}
 use Rattle.sg_ground.specs.Allowance.{TablesExceed}
 use Rattle.ising2d_c.specs.Graphs.{IsFitFault, numbers_of}
-use Rattle.ising2d_c.proofs.StudyLemmas.{by_solver}
+use Rattle.sg_reader.proofs.RestLaws.{failed}
+use Rattle.ising2d_c.proofs.StudyLemmas.{by_solver, exceeded}
 use Rattle.ising2d_c.proofs.studies.ground_of.Goals as goal
 
 pub returns-clause-gives : goal.returns-clause-gives
@@ -27,7 +27,7 @@ returns-clause-gives c =
 
 pub returns-in_err-answer-clause-refuses : goal.returns-in_err-answer-clause-refuses
 returns-in_err-answer-clause-refuses c =
-    let p = err_from_is_err_and c.from_residual-in_err-answer.result c.from_residual-in_err-answer.ensures.1 in
-    rw (p.1, p.2) (
-    by_solver large_limits (numbers_of c.args.given.now) c.in_ok-planar.planar.instance (rw c.large.ensures.value at c.in_ok-planar.ensures.gives)
-    (IsFitFault large_limits (numbers_of c.args.given.now)) (inl tt) (TablesExceed table_limit) c.in_err-answer.field-0.0 c.in_err-answer.ensures.too_large)
+    let g = numbers_of c.args.given.now in
+    failed c.from_residual-in_err-answer.result _ c.from_residual-in_err-answer.ensures.1
+    (by_solver g c.in_ok-planar.planar.instance (rw c.large.ensures.value at c.in_ok-planar.ensures.gives) (IsFitFault large_limits g) (inl tt)
+    (TablesExceed table_limit) exceeded c.in_err-answer.field-0.0 c.in_err-answer.ensures.too_large)

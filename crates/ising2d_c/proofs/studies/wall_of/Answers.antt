@@ -1,16 +1,15 @@
 use Rattle.std.proofs.Common.{inl}
-use Rattle.std.proofs.lemmas.Result.{err_from_is_err_and}
 use Rattle.sg_limits.specs.Limits.{table_limit}
 use Rattle.sg_draft.specs.Limits.{large_limits}
 use Rattle.sg_wall.specs.Wall.{WallTablesExceed}
 use Rattle.ising2d_c.specs.Graphs.{IsWallFault, numbers_of}
-use Rattle.ising2d_c.proofs.StudyLemmas.{by_solver}
+use Rattle.sg_reader.proofs.RestLaws.{failed}
+use Rattle.ising2d_c.proofs.StudyLemmas.{by_solver, wall_exceeded}
 use Rattle.ising2d_c.proofs.studies.wall_of.Goals as goal
 
 pub returns-in_err-wall_within-clause-refuses : goal.returns-in_err-wall_within-clause-refuses
 returns-in_err-wall_within-clause-refuses c =
-    let p = err_from_is_err_and c.from_residual-in_err-wall_within.result c.from_residual-in_err-wall_within.ensures.1 in
-    rw (p.1, p.2) (
-    by_solver large_limits (numbers_of c.args.given.now) c.in_ok-planar.planar.instance (rw c.large.ensures.value at c.in_ok-planar.ensures.gives)
-    (IsWallFault large_limits (numbers_of c.args.given.now)) (inl (inl tt)) (WallTablesExceed table_limit) c.in_err-wall_within.field-0.0
-    c.in_err-wall_within.ensures.too_large)
+    let g = numbers_of c.args.given.now in
+    failed c.from_residual-in_err-wall_within.result _ c.from_residual-in_err-wall_within.ensures.1
+    (by_solver g c.in_ok-planar.planar.instance (rw c.large.ensures.value at c.in_ok-planar.ensures.gives) (IsWallFault large_limits g) (inl (inl tt))
+    (WallTablesExceed table_limit) wall_exceeded c.in_err-wall_within.field-0.0 c.in_err-wall_within.ensures.too_large)

@@ -1,11 +1,10 @@
-use Rattle.std.proofs.Common.{◌≡◌, ◌∙◌, ◌<◌, ◌+◌, ◌-◌, ℕ, List, [], ◌∷◌, ◌++◌, inl, inr, arith, ap, length, map, sym}
-use Rattle.std.specs.List.{range_with_len}
+use Rattle.std.proofs.Common.{◌≡◌, ◌∙◌, ◌<◌, ◌+◌, ◌-◌, ℕ, List, inl, inr, arith, ap, length}
 use Rattle.std.proofs.lemmas.Bool.{cases_eq}
-use Rattle.std.proofs.lemmas.List.FromFn.{map-range_with_len_more}
 use Rattle.std.proofs.lemmas.Result.{err_from_is_err_and}
 use Rattle.sg_graph_text.specs.Graph.{terminals_of}
 use Rattle.ising2d_c.specs.Crossing.{entries_of}
 use Rattle.ising2d_c.specs.Networks.{list_count, terminal_lists}
+use Rattle.ising2d_c.proofs.RowLemmas.{made-more}
 use Rattle.ising2d_c.proofs.StartLemmas.{below_last}
 use Rattle.ising2d_c.proofs.JoinLemmas.{list-fails, list-is, lists-count, lists-pass}
 use Rattle.ising2d_c.proofs.terminal_lists.divided.Goals as goal
@@ -29,10 +28,7 @@ loop-k-preserved c =
     let made : ℕ → List ℕ = λ i. terminals_of c.args.nodes (entries_of c.args.starts.now c.args.entries.now i) in
     let one : c.as_slice.result.now ≡ made k = c.as_slice.ensures ∙ c.in_ok-terminals.ensures.value ∙ ap (terminals_of c.args.nodes) c.entries_at.ensures in
     record {
-      lists = c.in_ok-push.ensures.ok
-          ∙ ap (λ (l : List (List ℕ)). l ++ c.as_slice.result.now ∷ []) c.loop-k.invariant.lists
-          ∙ ap (λ (l : List ℕ). map made (range_with_len 0 k) ++ l ∷ []) one
-          ∙ sym (map-range_with_len_more made 0 k k (omega arith));
+      lists = made-more made c.loop-k.lists _ c.as_slice.result.now k c.loop-k.invariant.lists c.in_ok-push.ensures.ok one;
       passes = λ i low. elim (cases_eq i k) [
         | inl same ↦ rw same (rw c.entries_at.ensures at c.in_ok-terminals.ensures.passes)
         | inr other ↦ c.loop-k.invariant.passes i (omega (arith, low, other))

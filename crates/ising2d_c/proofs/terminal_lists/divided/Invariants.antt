@@ -1,6 +1,5 @@
 use Rattle.std.proofs.Common.{◌≡◌, ◌<◌, ◌%◌, ℕ, None, length, map}
 use Rattle.std.specs.List.{range_with_len}
-use Rattle.sg_graph.specs.Incidence.{list_at}
 use Rattle.sg_graph_text.specs.Graph.{terminals_of}
 use Rattle.ising2d_c.specs.Crossing.{entries_of}
 use Rattle.ising2d_c.specs.Networks.{list_fault}
