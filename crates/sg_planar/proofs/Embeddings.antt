@@ -1,5 +1,5 @@
 -- Graphs drawn on a surface: a cut of the nodes and a cut of the faces meet in an even number of edges (Heffter 1891).
-use Rattle.std.proofs.Common.{inl, inr, ap₂, ◌≡◌, ◌⊎◌, ℕ, ◌+◌, ◌*◌, ◌<◌, Bool, true, false, not, ◌&&◌, eqb, List, refl, sym, ◌∙◌, ap, arith, All, get_or, length}
+use Rattle.std.proofs.Common.{inl, inr, ◌≡◌, ◌⊎◌, ℕ, ◌+◌, ◌*◌, ◌<◌, Bool, true, false, not, ◌&&◌, eqb, List, refl, sym, ◌∙◌, ap, arith, All, get_or, length}
 use Rattle.std.proofs.lemmas.Bool.{eq-eqb, eqb-true, and_parts, and_from, cases_Bool, true≢false, false_from_ne_true}
 use Rattle.std.proofs.lemmas.List.Folds.{list_any_at}
 use Rattle.std.proofs.lemmas.List.FromFn.{get_or-range_with_len, length-range_with_len}
@@ -93,15 +93,8 @@ module _ (n m F : ℕ) (tail next face : ℕ → ℕ) (emb : IsEmbedding n m F t
       behind : ℕ → Bool
       behind k = xor (h (next (2 * k))) (h (next (2 * k + 1)))
 
-      four : (a b x y : Bool) → (xor a b && xor x y) ≡ xor (xor (a && x) (b && y)) (xor (a && y) (b && x))
-      four a b x y = grind arith
-
       each : (k : ℕ) → k < m → (xor (t (u k)) (t (v k)) && xor (B (left k)) (B (right k))) ≡ xor (here k) (behind k)
-      each k l =
-          four (t (u k)) (t (v k)) (B (left k)) (B (right k))
-          ∙ ap (xor (xor (h (2 * k)) (h (2 * k + 1)))) (ap₂ xor
-          (ap₂ (λ x f. t x && B f) (sym (emb.next_tail (2 * k) (omega arith))) (sym (emb.face_next k l).0))
-          (ap₂ (λ x f. t x && B f) (sym (emb.next_tail (2 * k + 1) (omega arith))) (sym (emb.face_next k l).1)))
+      each k l = grind arith
 
   -- both ends of a bond are spins, and both sides are faces
   pub spin_ends : EndsBelow (first tail) (second tail) n (bonds m)

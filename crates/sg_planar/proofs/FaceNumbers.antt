@@ -1,5 +1,5 @@
 -- Numbers of the faces: the faces of an instance can be numbered from 0 in the order of their least darts.
-use Rattle.std.proofs.Common.{inl, inr, ◌≡◌, ◌⊎◌, ◌∙◌, sym, ap, refl, ℕ, zero, suc, ◌+◌, ◌<◌, ◌≤◌, Bool, true, false, cond, ◌&&◌, leb, arith, get_or}
+use Rattle.std.proofs.Common.{inl, inr, ◌≡◌, ◌⊎◌, ◌∙◌, sym, ap, refl, ℕ, zero, suc, ◌+◌, ◌<◌, ◌≤◌, Bool, true, false, cond, leb, arith, get_or}
 use Rattle.std.specs.List.{list_all, range_with_len}
 use Rattle.std.proofs.lemmas.Bool.{cases_Bool, cases_lt, le-leb, true≢false}
 use Rattle.sg_sums.proofs.DealtSums.{sum_by_range}
@@ -20,10 +20,7 @@ pub record AreFaceNumbers (inst : Ising) (face : ℕ → ℕ) (F : ℕ) : Type 0
 -- where not all of the first n steps pass, one does not
 some_fails : (p : ℕ → Bool) (a n : ℕ) → list_all p (range_with_len a n) ≡ false → (j : ℕ) × (p j ≡ false)
 some_fails p a zero h = absurd (true≢false h)
-some_fails p a (suc n) h = elim (cases_Bool (p a)) [
-  | inl passes ↦ some_fails p (a + 1) n (sym (ap (λ b. b && list_all p (range_with_len (a + 1) n)) passes) ∙ h)
-  | inr fails ↦ (a, fails)
-]
+some_fails p a (suc n) h = grind (arith, some_fails p (a + 1) n)
 
 module _ (inst : Ising) (good : IsInstance inst) where
   -- the least dart of the face of d

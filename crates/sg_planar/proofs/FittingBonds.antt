@@ -1,23 +1,22 @@
 -- Planar duality over the definitions: a list of bonds that fits the faces is the list of broken bonds of an assignment; and it
 -- fits where on each face an even number of sides belong to bonds that are to join unlike spins.
-use Rattle.std.proofs.Common.{inl, inr, ap₂, ◌≡◌, ℕ, ◌+◌, ◌*◌, ◌/◌, ◌%◌, ◌<◌, ℤ, pos, Bool, true, false, cond, ◌&&◌, eqb, List, refl, sym, ◌∙◌, ap, arith, get_or, length, ◌↔◌}
+use Rattle.std.proofs.Common.{inl, inr, ap₂, ◌≡◌, ℕ, ◌+◌, ◌*◌, ◌%◌, ◌<◌, ℤ, pos, Bool, true, false, cond, ◌&&◌, List, refl, sym, ◌∙◌, ap, arith, get_or, length, ◌↔◌}
 use Rattle.std.specs.List.{range_with_len}
 use Rattle.std.proofs.lemmas.Bool.{cases_eq}
 use Rattle.sg_sums.specs.Parity.{xor, odd, parity_below}
 use Rattle.sg_sums.specs.Sets.{holds, is_marked}
 use Rattle.sg_sums.specs.Ends.{is_end}
-use Rattle.sg_sums.proofs.ParityLaws.{and-xor, parity_below-same, parity_below-xor, odd_is, odd-count_by, xor_cancel}
+use Rattle.sg_sums.proofs.ParityLaws.{parity_below-same, parity_below-xor, odd_is, odd-count_by, xor_cancel}
 use Rattle.sg_sums.proofs.Ranges.{parity_by_range}
 use Rattle.sg_sums.proofs.Recounting.{parity_below_by_pairs}
-use Rattle.sg_model.specs.Ising.{Ising, IsBond, bond_at, bond_count}
+use Rattle.sg_model.specs.Ising.{Ising, bond_at, bond_count}
 use Rattle.sg_model.specs.Rotation.{dart_count, next, tail}
 use Rattle.sg_model.specs.WellFormed.{IsInstance}
 use Rattle.sg_model.specs.Connected.{IsConnected}
 use Rattle.sg_model.specs.Spins.{IsAssignment, spin}
 use Rattle.sg_model.specs.Broken.{is_negative}
 use Rattle.sg_model.proofs.Darts.{tail_first, tail_second}
-use Rattle.sg_model.proofs.BrokenEnergy.{unit_ends}
-use Rattle.sg_model.proofs.BrokenParity.{is_down, is_broken_xor}
+use Rattle.sg_model.proofs.BrokenParity.{is_down}
 use Rattle.sg_faces.specs.Faces.{Labelling, IsFaceLabels, face_count, faces_before}
 use Rattle.sg_faces.specs.Sides.{sides_on}
 use Rattle.sg_faces.specs.Euler.{IsEuler}
@@ -37,39 +36,15 @@ face_at faces d = get_or faces.labels d 0
 -- how many sides of bonds that pass lie on a face, up to an even number: by bonds in place of darts
 pub sides_parity : (inst : Ising) (faces : Labelling) (f : ℕ) (p : ℕ → Bool) →
     odd (sides_on inst faces f p) ≡ parity_below (λ k. p k && is_end (face_at faces (2 * k)) (face_at faces (2 * k + 1)) f) (bond_count inst)
-sides_parity inst faces f p =
-    odd-count_by side (range_with_len 0 (dart_count inst))
-    ∙ parity_by_range side (dart_count inst)
-    ∙ parity_below_by_pairs side (bond_count inst)
-    ∙ parity_below-same (λ k. xor (side (2 * k)) (side (2 * k + 1))) (λ k. p k && is_end (face_at faces (2 * k)) (face_at faces (2 * k + 1)) f)
-    (bond_count inst) each
-  where
-    side : ℕ → Bool
-    side d = p (d / 2) && eqb (face_at faces d) f
-
-    each : (k : ℕ) → k < bond_count inst → xor (side (2 * k)) (side (2 * k + 1)) ≡ (p k && is_end (face_at faces (2 * k)) (face_at faces (2 * k + 1)) f)
-    each k l =
-        let first : 2 * k / 2 ≡ k = omega arith in
-        let second : (2 * k + 1) / 2 ≡ k = omega arith in
-        ap₂ (λ x y. xor (p x && eqb (face_at faces (2 * k)) f) (p y && eqb (face_at faces (2 * k + 1)) f)) first second
-        ∙ sym (and-xor (p k) (eqb (face_at faces (2 * k)) f) (eqb (face_at faces (2 * k + 1)) f))
+sides_parity inst faces f p = grind (arith, odd-count_by, parity_by_range, parity_below_by_pairs)
 
 -- numbers with one rest by 2 are both odd or both even
 pub same_parity : (a b : ℕ) → a % 2 ≡ b % 2 → xor (odd a) (odd b) ≡ false
-same_parity a b e = by_cases (odd a) (odd b) (odd_is a) (odd_is b)
-  where
-    by_cases : (x y : Bool) → a % 2 ≡ cond x 1 0 → b % 2 ≡ cond y 1 0 → xor x y ≡ false
-    by_cases true true p q = refl
-    by_cases true false p q = absurd (omega arith)
-    by_cases false true p q = absurd (omega arith)
-    by_cases false false p q = refl
+same_parity a b e = grind (arith, odd_is)
 
 -- a condition behind an `xor` goes into both sides
 pub xor-and : (x y e : Bool) → (xor x y && e) ≡ xor (x && e) (y && e)
 xor-and x y e = grind arith
-
-undone : (x y : Bool) → xor x (xor x y) ≡ y
-undone x y = grind arith
 
 module _ (inst : Ising) (faces : Labelling) (list : List ℕ) where
   abbrev negative : ℕ → Bool
@@ -119,12 +94,7 @@ module _ (inst : Ising) (good : IsInstance inst) where
   -- an assignment that is down where the ends ask for it breaks the bonds of the list and no others
   pub breaks_from_follows : (list : List ℕ) (down : ℕ → Bool) → FollowsBonds inst (is_unlike inst list) down →
       (s : List ℤ) → IsAssignment inst s → ((x : ℕ) → x < inst.n → is_down (spin s x) ≡ down x) → BreaksExactly inst s list
-  breaks_from_follows list down follows s assigned same k l =
-      let bond : IsBond inst.n (bond_at inst k) = good.draft.joined k (record { u = 0; v = 0; j = pos 0 }) l in
-      is_broken_xor s (bond_at inst k) (unit_ends inst s good assigned k (record { u = 0; v = 0; j = pos 0 }) l)
-      ∙ ap (xor (is_negative (bond_at inst k)))
-      (ap₂ xor (same (bond_at inst k).u bond.first_end) (same (bond_at inst k).v bond.second_end) ∙ sym (follows.across k l))
-      ∙ undone (is_negative (bond_at inst k)) (holds list k)
+  breaks_from_follows list down follows s assigned same k l = grind arith
 
   module _ (faces : Labelling) (labels : IsFaceLabels inst faces) (connected : IsConnected inst) (genus_zero : IsEuler inst (pos 2))
       (list : List ℕ) (fits : FitsFaces inst faces list) where
@@ -152,10 +122,4 @@ module _ (inst : Ising) (good : IsInstance inst) where
             (spins_connected inst good connected) (omega arith) (omega arith) (λ f l. even_on_faces f (omega (arith, labels.counts)))
 
         from_cut : CutBy (bond_count inst) (tail inst) (is_unlike inst list) → (down : ℕ → Bool) × FollowsBonds inst (is_unlike inst list) down
-        from_cut c = (
-          c.values,
-          record {
-            first_up = c.at_root;
-            across = λ k l. c.cuts k l ∙ ap₂ (λ x y. xor (c.values x) (c.values y)) (tail_first inst k) (tail_second inst k);
-          },
-        )
+        from_cut c = grind (arith, tail_first, tail_second, c.values, c.at_root, c.cuts)

@@ -1,21 +1,20 @@
 -- A walk over the bonds gives each spin the value that every assignment which follows the bonds has there.
-use Rattle.std.proofs.Common.{inl, inr, ap₂, subst, ◌≡◌, ℕ, ◌+◌, ◌/◌, ◌<◌, ◌≤◌, pos, Bool, true, false, not, List, map, set, take, refl, sym, ◌∙◌, ap, arith, All, length, get_or, eqb, ◌%◌}
+use Rattle.std.proofs.Common.{inl, inr, ap₂, subst, ◌≡◌, ℕ, ◌+◌, ◌/◌, ◌<◌, ◌≤◌, pos, Bool, true, false, not, List, map, set, take, refl, sym, ◌∙◌, ap, arith, All, length, get_or, eqb}
 use Rattle.std.proofs.Math.Bool.{beq}
 use Rattle.std.proofs.lemmas.Bool.{cases_eq}
 use Rattle.std.proofs.lemmas.List.{length-set, length-map, get_or-map, get_or-set_same, get_or-set_other}
 use Rattle.std.proofs.lemmas.List.Elements.{All-more, All-weaker, All-from_get_or}
 use Rattle.std.specs.List.Sorted.{IsStrictlyIncreasing}
-use Rattle.sg_model.proofs.BrokenParity.{is_down}
 use Rattle.sg_model.proofs.Darts.{tail_even, tail_odd, head_even, head_odd}
 use Rattle.sg_model.proofs.Paths.{dart_of_step}
 use Rattle.sg_model.proofs.Rotations.{place_at}
 use Rattle.sg_model.specs.Broken.{is_negative}
 use Rattle.sg_model.specs.Connected.{IsConnected, all_bonds}
-use Rattle.sg_model.specs.Ising.{Ising, bond_at, bond_count}
+use Rattle.sg_model.specs.Ising.{Ising, bond_count}
 use Rattle.sg_model.specs.Rotation.{dart_count, darts_of, head_of, tail}
 use Rattle.sg_model.specs.Spins.{IsAssignment, IsUpOrDown, spin}
 use Rattle.sg_model.specs.WellFormed.{IsInstance}
-use Rattle.sg_planar.proofs.FittingBonds.{breaks_from_follows, fitting_follows}
+use Rattle.sg_planar.proofs.FittingBonds.{fitting_follows}
 use Rattle.sg_planar.specs.BrokenLists.{BreaksExactly, FitsFaces}
 use Rattle.sg_planar.specs.Fit.{Embedding, IsPlanar}
 use Rattle.sg_planar.specs.Following.{is_unlike, FollowsBonds, value_of, IsWalkOrder, IsRight, HeadsRight, SetsHeads, HeadsSet, SetTo, TellsDown}
@@ -44,20 +43,7 @@ ne_is_xor false false = refl
 -- over a dart the value changes as its bond asks for it
 pub follows_dart : (inst : Ising) (unlike t : ℕ → Bool) → FollowsBonds inst unlike t → (d : ℕ) → d < dart_count inst →
     t (head_of inst d) ≡ xor (t (tail inst d)) (unlike (d / 2))
-follows_dart inst unlike t h d l = elim (cases_eq (d % 2) 0) [
-  | inl even ↦
-      ap t (head_even inst d even) ∙ forth (t (bond_at inst (d / 2)).u) (t (bond_at inst (d / 2)).v) (unlike (d / 2)) (h.across (d / 2) (omega arith))
-      ∙ ap (λ x. xor (t x) (unlike (d / 2))) (sym (tail_even inst d even))
-  | inr odd ↦
-      ap t (head_odd inst d odd) ∙ back (t (bond_at inst (d / 2)).u) (t (bond_at inst (d / 2)).v) (unlike (d / 2)) (h.across (d / 2) (omega arith))
-      ∙ ap (λ x. xor (t x) (unlike (d / 2))) (sym (tail_odd inst d odd))
-]
-  where
-    forth : (a b c : Bool) → c ≡ xor a b → b ≡ xor a c
-    forth a b c e = grind arith
-
-    back : (a b c : Bool) → c ≡ xor a b → a ≡ xor b c
-    back a b c e = grind arith
+follows_dart inst unlike t h d l = grind (arith, head_even, tail_even, head_odd, tail_odd)
 
 module _ (inst : Ising) (unlike : ℕ → Bool) where
   -- one dart more
@@ -81,15 +67,10 @@ module _ (inst : Ising) (unlike : ℕ → Bool) where
       }
         where
           here : IsRight t (set now to v) to
-          here =
-              get_or-set_same now to v false inside ∙ value ∙ ap (λ b. xor b (unlike (get_or darts i 0 / 2))) (s.kept spin right ∙ ap t (sym leaves))
-              ∙ sym (follows_dart inst unlike t follows (get_or darts i 0) dart) ∙ ap t (sym leads)
+          here = grind (arith, get_or-set_same, follows_dart)
 
           still : (x : ℕ) → IsRight t now x → IsRight t (set now to v) x
-          still x r = elim (cases_eq x to) [
-            | inl e ↦ subst (IsRight t (set now to v)) (sym e) here
-            | inr ne ↦ get_or-set_other now to x v false ne ∙ r
-          ]
+          still x r = grind (arith, cases_eq x to, here, get_or-set_other, x)
 
 module _ (inst : Ising) (good : IsInstance inst) (unlike : ℕ → Bool) (order : List ℕ) (walk : IsWalkOrder inst order) where
   -- the spins up to the next are right
@@ -136,10 +117,6 @@ module _ (inst : Ising) (good : IsInstance inst) (unlike : ℕ → Bool) (order 
         subst (IsRight t down) n.2 (right_in_order next down h t follows n.0 n.1 (omega (arith, n.1))));
   }
 
-down_value : (b : Bool) → is_down (value_of b) ≡ b
-down_value true = refl
-down_value false = refl
-
 up_or_down : (b : Bool) → IsUpOrDown (value_of b)
 up_or_down true = inr refl
 up_or_down false = inl refl
@@ -157,17 +134,10 @@ module _ (inst : Ising) (down : List Bool) (lengths : length down ≡ inst.n) wh
         (λ i l. subst IsUpOrDown (sym (value_at i (omega (arith, l, length-map down value_of)))) (up_or_down (is_marked down i)));
   }
 
-  -- a spin is down where it is marked
-  pub value_down : (x : ℕ) → x < inst.n → is_down (spin (map value_of down) x) ≡ is_marked down x
-  value_down x l = ap is_down (value_at x l) ∙ down_value (is_marked down x)
-
   -- and which breaks the bonds of the list, where the marks are those of an assignment that follows
   pub values_break : (list : List ℕ) → IsInstance inst → (t : ℕ → Bool) → FollowsBonds inst (is_unlike inst list) t →
       ((x : ℕ) → x < inst.n → IsRight t down x) → (spin (map value_of down) 0 ≡ pos 1) × BreaksExactly inst (map value_of down) list
-  values_break list good t follows right = (
-    value_at 0 good.draft.has_spin ∙ ap value_of (right 0 good.draft.has_spin ∙ follows.first_up),
-    breaks_from_follows inst good list t follows (map value_of down) values_assigned (λ x l. value_down x l ∙ right x l),
-  )
+  values_break list good t follows right = grind (arith, value_at)
 
 -- so in the plane, where the instance is connected, the walked spins break exactly the bonds of a list that fits the faces
 pub walked_spins : (p : Embedding) → IsPlanar p → IsConnected p.instance → (list : List ℕ) → FitsFaces p.instance p.faces list →

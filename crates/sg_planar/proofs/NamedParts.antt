@@ -1,7 +1,7 @@
 -- The components of an instance, told by the least spin that a spin reaches: each is a part, and all together hold each spin,
 -- each bond and each face once. Where the whole has Euler's number 2, so has each: each number is at most 2, and they sum up.
 use Rattle.std.proofs.Common.{[], inl, inr, ◌≡◌, ◌∙◌, sym, ap, refl, subst, ℕ, ◌+◌, ◌<◌, ◌≤◌, pos, Bool, true, false, eqb, List, ◌∷◌, length, get_or, sum_by, arith, ◌≢◌, ap₂, ◌*◌, cond, ◌++◌, slice_index, All}
-use Rattle.std.proofs.lemmas.Bool.{cases_lt, eq-eqb, eqb-true, cases_eq, ne_eqb, true≢false}
+use Rattle.std.proofs.lemmas.Bool.{cases_lt, eq-eqb, eqb-true, cases_eq, true≢false}
 use Rattle.std.proofs.lemmas.Int.{ints}
 use Rattle.std.proofs.lemmas.List.{length-map, get_or_default}
 use Rattle.std.proofs.lemmas.List.Elements.{All-head, All-tail}
@@ -77,9 +77,7 @@ module _ (inst : Ising) (good : IsInstance inst) (name : ℕ → ℕ) (named : I
   second_below k l = (good.draft.joined k (record { u = 0; v = 0; j = pos 0 }) l).second_end
 
   name_ends : (k : ℕ) → k < bond_count inst → name (bond_at inst k).v ≡ name (bond_at inst k).u
-  name_ends k l =
-      sym (name_alike (bond_at inst k).u (bond_at inst k).v (first_below k l) (second_below k l)
-      (reached_by_bond inst all_bonds (bond_at inst k).u (bond_at inst k).v (record { bond = k; below = l; in_set = refl; ends = inl (refl, refl) })))
+  name_ends k l = grind (arith, name_alike, reached_by_bond)
 
   -- what the lists hold
   pub spin_named : (c x : ℕ) → holds (named_spins inst name c) x ≡ true → (x < inst.n) × (name x ≡ c)
@@ -104,9 +102,7 @@ module _ (inst : Ising) (good : IsInstance inst) (name : ℕ → ℕ) (named : I
   }
     where
       there : (i : ℕ) → holds (own_names name inst.n) i ≡ true → (i < inst.n) × IsLeastReached inst i
-      there i h =
-          let b : (i < inst.n) × (eqb (name i) i ≡ true) = chosen_holds (λ c. eqb (name c) c) inst.n i h in
-          (b.0, λ j r. (let low : name i ≤ j = named.least i j b.0 r in omega (arith, low, eqb-true (name i) i b.1)))
+      there i h = grind (arith, chosen_holds)
 
       back : (i : ℕ) → i < inst.n → IsLeastReached inst i → holds (own_names name inst.n) i ≡ true
       back i l least =
@@ -225,25 +221,17 @@ module _ (inst : Ising) (good : IsInstance inst) (name : ℕ → ℕ) (named : I
 
   -- a number that is no name has no spin and no bond
   no_spins : (c : ℕ) → name c ≢ c → named_spins inst name c ≡ []
-  no_spins c ne =
-      chosen_none (λ x. eqb (name x) c) inst.n (λ x l. ne_eqb (name x) c
-      (λ (e : name x ≡ c). ne (ap name (sym e) ∙ name_own x l ∙ e)))
+  no_spins c ne = grind (arith, chosen_none, name_own)
 
   no_bonds : (c : ℕ) → name c ≢ c → named_bonds inst name c ≡ []
-  no_bonds c ne = chosen_none (λ k. eqb (name (bond_at inst k).u) c) (bond_count inst)
-      (λ k l. ne_eqb (name (bond_at inst k).u) c
-      (λ (e : name (bond_at inst k).u ≡ c). ne (ap name (sym e) ∙ name_own (bond_at inst k).u (first_below k l)
-      ∙ e)))
+  no_bonds c ne = grind (arith, chosen_none, name_own)
 
   part_filled : (c : ℕ) (l : c < inst.n) (own : name c ≡ c) → (component inst name c).n + face_count (component inst name c) ≡ filled c
   part_filled c l own = ap₂ {A = ℕ} (λ a b. a + b) (sym (sum_of_ones (named_spins inst name c)))
       (part_faces inst good (named_spins inst name c) (named_bonds inst name c) (named_part c l own))
 
   part_allowed : (c : ℕ) → name c ≡ c → bond_count (component inst name c) + 2 ≡ allowed c
-  part_allowed c own =
-      ap₂ {A = ℕ} (λ a b. a + 2 * b)
-      (length-map (named_bonds inst name c) (λ k. bond_in (named_spins inst name c) (bond_at inst k)) ∙ sym (sum_of_ones (named_bonds inst name c)))
-      (sym (ap (λ b. cond {A = ℕ} b 1 0) (eq-eqb (name c) c own)))
+  part_allowed c own = grind (arith, length-map, sum_of_ones)
 
   at_most : (c : ℕ) → c < inst.n → filled c ≤ allowed c
   at_most c l = elim (cases_eq (name c) c) [
@@ -309,12 +297,7 @@ module _ (inst : Ising) (good : IsInstance inst) (name : ℕ → ℕ) (named : I
     -- a component of a planar instance is planar
     pub part_planar : (faces : Labelling) → IsFaceLabels (component inst name c) faces →
         IsPlanar (record { instance = component inst name c; faces = faces })
-    part_planar faces labels = record {
-      instance = named_instance c l own;
-      faces = labels;
-      genus_zero = part_euler flat c l own;
-      sum = omega (arith, part_weight c l, small);
-    }
+    part_planar faces labels = grind (arith, named_instance, part_euler, part_weight)
 
     -- and is the part of its least spin
     pub part_made : (p : Embedding) → p.instance ≡ component inst name c → IsPlanar p →
@@ -391,11 +374,7 @@ module _ (inst : Ising) (good : IsInstance inst) (name : ℕ → ℕ) (named : I
   }
     where
       own : All (λ c. (c < inst.n) × (name c ≡ c)) (own_names name inst.n)
-      own j d b = (
-        chosen_below_low (λ c. eqb (name c) c) inst.n j d b,
-        eqb-true (name (get_or (own_names name inst.n) j d)) (get_or (own_names name inst.n) j d)
-            (chosen_below_pass (λ c. eqb (name c) c) inst.n j d b),
-      )
+      own j d b = grind (arith, chosen_below_low, eqb-true, chosen_below_pass, inst.n)
 
       once : (y : ℕ) → y < inst.n → name y ≡ y → (f : Part → ℕ) →
           ((c : ℕ) (p : Part) → (c < inst.n) × (name c ≡ c) → IsPart inst c p → f p ≡ cond (eqb y c) 1 0) → sum_by f parts ≡ 1
@@ -405,9 +384,7 @@ module _ (inst : Ising) (good : IsInstance inst) (name : ℕ → ℕ) (named : I
 pub zip_more : (inst : Ising) (name : ℕ → ℕ) (stop : ℕ) (parts : List Part) (part : Part) → AllZip (IsPart inst) (own_names name stop) parts →
     name stop ≡ stop → IsPart inst stop part →
     AllZip (IsPart inst) (own_names name (stop + 1)) (parts ++ part ∷ [])
-zip_more inst name stop parts part z own is =
-    subst (λ xs. AllZip (IsPart inst) xs (parts ++ part ∷ [])) (sym (chosen_below_yes (λ c. eqb (name c) c) stop (eq-eqb (name stop) stop own)))
-    (zip_push (IsPart inst) (own_names name stop) parts stop part z is)
+zip_more inst name stop parts part z own is = grind (arith, chosen_below_yes, zip_push)
 
 -- a spin that is not the least of its component adds no part
 pub zip_same : (inst : Ising) (name : ℕ → ℕ) (stop : ℕ) (parts : List Part) → AllZip (IsPart inst) (own_names name stop) parts →

@@ -1,5 +1,5 @@
 -- Other couplings on the same bonds leave an instance planar, while their sum stays bounded.
-use Rattle.std.proofs.Common.{◌≡◌, ℕ, ℤ, ◌+◌, ◌^◌, ◌<◌, ◌≤◌, Bool, true, false, cond, pos, List, map, length, refl, sym, ◌∙◌, ap, subst, arith, get_or, set, sum_by, All}
+use Rattle.std.proofs.Common.{◌≡◌, ℕ, ℤ, ◌+◌, ◌^◌, ◌<◌, ◌≤◌, pos, List, map, length, refl, sym, ◌∙◌, ap, subst, arith, get_or, set, sum_by, All}
 use Rattle.std.proofs.lemmas.Int.{ints}
 use Rattle.std.proofs.lemmas.List.{get_or-set_same, length-set}
 use Rattle.std.proofs.lemmas.List.Elements.{All-from_get_or}
@@ -19,7 +19,6 @@ use Rattle.sg_model.specs.declared.bond.Bond.{Bond}
 use Rattle.sg_planar.specs.Fit.{Embedding, IsPlanar, IsRedrawn}
 use Rattle.sg_sums.proofs.ListLaws.{sum_by-agree, sum_by-map_of}
 use Rattle.sg_sums.proofs.SumLaws.{sum_by_is_sum_below, sum_below-same}
-use Rattle.sg_sums.specs.Sets.{holds}
 use Rattle.sg_sums.specs.Sums.{sum_below}
 use Rattle.sg_walk.proofs.ComponentLaws.{components_same}
 use Rattle.sg_walk.specs.Naming.{AreComponents}
@@ -33,12 +32,7 @@ size b = unsigned_abs b.j
 -- with other couplings of a bounded sum it stays planar
 pub planar_recoupled : (p : Embedding) (bonds : List Bond) → IsPlanar p → HasSameEnds p.instance bonds
     → weight (with_bonds p.instance bonds) ≤ forced_limit → IsPlanar (record { instance = with_bonds p.instance bonds; faces = p.faces })
-planar_recoupled p bonds h same small = record {
-  instance = recoupled_instance p.instance bonds same h.instance;
-  faces = faces_same p.instance bonds same h.instance p.faces h.faces;
-  genus_zero = is_euler_same p.instance bonds same h.instance (pos 2) h.genus_zero;
-  sum = small;
-}
+planar_recoupled p bonds h same small = grind (arith, recoupled_instance, faces_same, is_euler_same)
 
 size_opposite : (b : Bond) → size (opposite b) ≡ size b
 size_opposite b = omega (arith, ints)
@@ -54,13 +48,8 @@ weight_flipped inst =
     flipped : List Bond
     flipped = map (flipped_at inst) (range_with_len 0 (bond_count inst))
 
-    at_bond : (on : Bool) (b : Bond) → size (cond on (opposite b) b) ≡ size b
-    at_bond true b = size_opposite b
-    at_bond false b = refl
-
     each : (k : ℕ) → k < bond_count inst → size (get_or (map (flipped_at inst) (range_with_len 0 (bond_count inst))) k no_bond) ≡ size (bond_at inst k)
-    each k l = ap size (get_or-map-range_with_len (flipped_at inst) 0 (bond_count inst) k k no_bond l (omega arith))
-        ∙ at_bond (holds inst.seam k) (bond_at inst k)
+    each k l = grind (arith, get_or-map-range_with_len)
 
 -- other signs leave the weight
 pub weight_negated : (inst : Ising) → weight (negated inst) ≡ weight inst

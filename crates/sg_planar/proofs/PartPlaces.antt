@@ -1,5 +1,5 @@
 -- What tables of places make of the bonds and lists of a part: the part as it is defined.
-use Rattle.std.proofs.Common.{◌≡◌, ◌∙◌, ap, ap₂, refl, subst, ℕ, ◌+◌, ◌*◌, ◌/◌, ◌%◌, ◌<◌, pos, true, List, [], ◌∷◌, ◌++◌, length, get_or, map, slice_index, take, All, arith}
+use Rattle.std.proofs.Common.{◌≡◌, ◌∙◌, ap, ap₂, refl, subst, ℕ, ◌+◌, ◌*◌, ◌/◌, ◌<◌, pos, true, List, [], ◌∷◌, ◌++◌, length, get_or, map, slice_index, take, All, arith}
 use Rattle.std.proofs.lemmas.List.{get_or-map, length-map, map-append, take_more}
 use Rattle.std.proofs.lemmas.List.Elements.{All-from_get_or, All-head, All-map, All-tail}
 use Rattle.sg_sums.specs.Sets.{holds}
@@ -42,16 +42,10 @@ listed_below inst good s l =
 module _ (inst : Ising) (good : IsInstance inst) (spins bonds : List ℕ) (part : IsClosedPart inst spins bonds) (spin_places bond_places : List ℕ)
     (of_spins : ArePlaces spins spin_places inst.n) (of_bonds : ArePlaces bonds bond_places (bond_count inst)) where
   bond_alike : (k : ℕ) → holds bonds k ≡ true → placed_bond spin_places (bond_at inst k) ≡ bond_in spins (bond_at inst k)
-  bond_alike k h =
-      let l : k < bond_count inst = part.bonds_below k h in
-      ap₂ (λ u v. record { u = u; v = v; j = (bond_at inst k).j })
-      (of_spins.each (bond_at inst k).u (part.first_end k l ∙ h)) (of_spins.each (bond_at inst k).v (part.second_end k l ∙ h))
+  bond_alike k h = grind arith
 
   darts_alike : (x : ℕ) → holds spins x ≡ true → placed_darts bond_places (darts_of inst x) ≡ map (dart_in bonds) (darts_of inst x)
-  darts_alike x h =
-      map_alike (λ d. 2 * get_or bond_places (d / 2) 0 + d % 2) (dart_in bonds) (darts_of inst x)
-      (λ j e b. ap (λ p. 2 * p + get_or (darts_of inst x) j e % 2)
-      (of_bonds.each (get_or (darts_of inst x) j e / 2) (listed_bond inst good spins bonds part x h j e b)))
+  darts_alike x h = grind (arith, map_alike, listed_bond)
 
   -- by tables of places the part is the one that is defined
   pub part_assembled : (n : ℕ) (list : List Bond) (rotation : List (List ℕ)) (seam : List ℕ) → n ≡ length spins →

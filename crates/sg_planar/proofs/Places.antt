@@ -25,10 +25,7 @@ module _ (xs : List ℕ) (up : IsStrictlyIncreasing xs) where
 
   -- a number that the list holds stands at its place
   pub entry_of_place : (x : ℕ) → holds xs x ≡ true → (place_in xs x < length xs) × (get_or xs (place_in xs x) 0 ≡ x)
-  entry_of_place x h =
-      let p : (k : ℕ) × (k < length xs) × (get_or xs k 0 ≡ x) = place_held xs x h in
-      let e : place_in xs x ≡ p.0 = ap (place_in xs) (sym p.2) ∙ place_of_entry p.0 p.1 in
-      (omega (arith, p.1), ap (λ k. get_or xs k 0) e ∙ p.2)
+  entry_of_place x h = grind (arith, place_held, place_of_entry)
 
   -- a number that the list holds has a place in it
   pub place_below : (x : ℕ) → holds xs x ≡ true → place_in xs x < length xs

@@ -2,12 +2,11 @@
 -- at most 2; where it is 2, a set of bonds that is even on each face is a cut of the spins.
 use Rattle.std.proofs.Common.{ap₂, ◌≡◌, ℕ, zero, suc, ◌+◌, ◌*◌, ◌<◌, ◌≤◌, Bool, false, ◌&&◌, eqb, ◌++◌, refl, sym, ◌∙◌, ap, arith, All, length}
 use Rattle.std.proofs.lemmas.List.{length-append}
-use Rattle.std.proofs.lemmas.List.Elements.{All-weaker}
 use Rattle.std.proofs.lemmas.List.FromFn.{length-range_with_len}
 use Rattle.std.proofs.lemmas.List.Sorted.{length_permutation}
 use Rattle.sg_sums.specs.Parity.{xor, parity_below}
 use Rattle.sg_sums.specs.Ends.{is_end}
-use Rattle.sg_sums.proofs.ParityLaws.{xor_self, xor_cancel, parity_below-same, parity_below-xor}
+use Rattle.sg_sums.proofs.ParityLaws.{xor_cancel, parity_below-same, parity_below-xor}
 use Rattle.sg_sums.proofs.Ranges.{parity_by_range}
 use Rattle.sg_sums.proofs.Recounting.{All_range_at}
 use Rattle.sg_planar.proofs.SpanningTrees.{count_outside, count_outside-joined, joined, Reaches, Span, span, of_both, of_rest, in_rest, in_tree}
@@ -74,9 +73,7 @@ module _ (n m F : ℕ) (tail next face : ℕ → ℕ) (emb : IsEmbedding n m F t
         leaves k = xor (B (left k)) (B (right k))
 
         on_rest : All (λ k. leaves k ≡ false) found.rest
-        on_rest =
-            All-weaker (λ k. B (left k) ≡ B (right k)) (λ k. leaves k ≡ false)
-            (λ k e. ap (λ w. xor w (B (right k))) e ∙ xor_self (B (right k))) found.rest same
+        on_rest = grind arith
 
         -- the bonds that leave the set are even at each spin
         on_tree : All (λ k. leaves k ≡ false) found.tree
@@ -121,8 +118,7 @@ module _ (n m F : ℕ) (tail next face : ℕ → ℕ) (emb : IsEmbedding n m F t
         wrong k = xor (c k) (cut k)
 
         right_on_tree : All (λ k. wrong k ≡ false) found.tree
-        right_on_tree =
-            All-weaker (λ k. c k ≡ cut k) (λ k. wrong k ≡ false) (λ k e. ap (λ w. xor w (cut k)) e ∙ xor_self (cut k)) found.tree found.fits
+        right_on_tree = grind arith
 
         -- no bond is outside both trees
         none : (d : ℕ → Bool) → All (λ k. d k ≡ false) across.rest

@@ -1,11 +1,10 @@
 -- A part of an instance, which no bond leaves, as an instance of its own: its darts, rotation and faces are those of the whole
 -- that lie in it, and walks stay in it.
-use Rattle.std.proofs.Common.{[], inl, inr, ◌≡◌, ◌⊎◌, ◌∙◌, sym, ap, ap₂, refl, ℕ, ◌+◌, ◌*◌, ◌/◌, ◌%◌, ◌<◌, ◌≤◌, pos, Bool, true, false, cond, eqb, List, ◌∷◌, length, get_or, map, count_by, All, arith, ◌≢◌, ◌↔◌, zero, suc, not, sum_by, subst, ◌==◌, eq-eqb}
-use Rattle.std.proofs.lemmas.Bool.{cases_lt, eq-eqb, eqb-true, false_from_ne_true, cases_eq, true≢false, cases_Bool}
+use Rattle.std.proofs.Common.{[], inl, inr, ◌≡◌, ◌⊎◌, ◌∙◌, sym, ap, ap₂, refl, ℕ, ◌+◌, ◌*◌, ◌/◌, ◌%◌, ◌<◌, ◌≤◌, pos, Bool, true, false, cond, eqb, List, ◌∷◌, length, get_or, map, count_by, All, arith, ◌≢◌, ◌↔◌, zero, suc, not, sum_by, subst, ◌==◌}
+use Rattle.std.proofs.lemmas.Bool.{cases_lt, eqb-true, false_from_ne_true, cases_eq, true≢false}
 use Rattle.std.proofs.lemmas.List.{get_or-map, length-map}
 use Rattle.std.proofs.lemmas.List.Elements.{All-from_get_or, All-map, All-head, All-tail}
 use Rattle.std.proofs.lemmas.List.Sums.{sum_by-cons}
-use Rattle.std.proofs.lemmas.Nat.{mod_below}
 use Rattle.std.specs.List.{position_or_len, prefix_len}
 use Rattle.sg_faces.proofs.BareSpins.{all_miss, not_bare}
 use Rattle.sg_faces.proofs.FaceOrbits.{face_steps_below, least_of_face}
@@ -38,10 +37,7 @@ lifted_half f d = omega arith
 
 -- a dart lifted there and back
 pub lifted_back : (f g : ℕ → ℕ) (d : ℕ) → g (f (d / 2)) ≡ d / 2 → lifted g (lifted f d) ≡ d
-lifted_back f g d e =
-    let half : g (lifted f d / 2) ≡ d / 2 = ap g (lifted_half f d) ∙ e in
-    let rest : lifted f d % 2 ≡ d % 2 = omega arith in
-    omega (arith, half, rest)
+lifted_back f g d e = grind arith
 
 -- the first dart of a bond is lifted to a first one
 pub lifted_first : (f : ℕ → ℕ) (k : ℕ) → lifted f (2 * k) ≡ 2 * f k
@@ -85,10 +81,6 @@ bare_means inst i = (
   λ h. all_miss inst i (λ k l. (λ e. h (2 * k) (omega arith) (tail_first inst k ∙ e), λ e. h (2 * k + 1) (omega arith) (tail_second inst k ∙ e))),
 )
 
--- whether dart d is the least of its face, as a number
-abbrev pub least_darts : Ising → ℕ → ℕ
-least_darts inst d = cond (is_least inst d) 1 0
-
 -- how many darts of bond k are the least of their faces
 abbrev pub least_sides : Ising → ℕ → ℕ
 least_sides inst k = cond {A = ℕ} (is_least inst (2 * k)) 1 0 + cond (is_least inst (2 * k + 1)) 1 0
@@ -98,16 +90,10 @@ bare_spins inst i = cond (is_bare inst i) 1 0
 
 -- the faces of an instance, bond by bond and spin by spin
 pub faces_by_bonds : (inst : Ising) → face_count inst ≡ sum_below (least_sides inst) (bond_count inst) + sum_below (bare_spins inst) inst.n
-faces_by_bonds inst =
-    ap₂ {A = ℕ} (λ a b. a + b) (sum_by_range (least_darts inst) (dart_count inst) ∙ sum_below_by_pairs (least_darts inst) (bond_count inst))
-    (sum_by_range (bare_spins inst) inst.n)
+faces_by_bonds inst = grind (arith, sum_by_range, sum_below_by_pairs)
 
 same_test : (f : ℕ → ℕ) (x d : ℕ) → (f x ≡ f d → x ≡ d) → eqb (f x) (f d) ≡ eqb x d
-same_test f x d one = elim (cases_Bool (eqb x d)) [
-  | inl t ↦ eq-eqb (f x) (f d) (ap f (eqb-true x d t)) ∙ sym t
-  | inr n ↦ false_from_ne_true (eqb (f x) (f d)) (λ h. let e : eqb x d ≡ true = eq-eqb x d (one (eqb-true (f x) (f d) h)) in true≢false (sym e ∙ n))
-      ∙ sym n
-]
+same_test f x d one = grind arith
 
 positions : (f : ℕ → ℕ) (d : ℕ) (xs : List ℕ) → All (λ x. f x ≡ f d → x ≡ d) xs →
     position_or_len (λ y. y == f d) (map f xs) ≡ position_or_len (λ x. x == d) xs
@@ -122,11 +108,7 @@ positions f d (x ∷ xs) h =
 pub followed : (f : ℕ → ℕ) (d : ℕ) (xs : List ℕ) → 0 < length xs → All (λ x. f x ≡ f d → x ≡ d) xs →
     following (map f xs) (f d) ≡ f (following xs d)
 unfolding following
-followed f d xs some h =
-    let place : ℕ = (position_or_len (λ x. x == d) xs + 1) % length xs in
-    let same : (position_or_len (λ y. y == f d) (map f xs) + 1) % length (map f xs) ≡ place =
-    ap₂ {A = ℕ} (λ p n. (p + 1) % n) (positions f d xs h) (length-map xs f) in
-    ap (λ i. get_or (map f xs) i 0) same ∙ get_or-map f xs place 0 0 (mod_below (position_or_len (λ x. x == d) xs + 1) (length xs) some)
+followed f d xs some h = grind (arith, positions, length-map, get_or-map)
 
 module _ (inst : Ising) (good : IsInstance inst) (spins bonds : List ℕ) (part : IsClosedPart inst spins bonds) where
   -- the part as an instance
@@ -139,10 +121,7 @@ module _ (inst : Ising) (good : IsInstance inst) (spins bonds : List ℕ) (part 
 
   -- a dart leaves a spin of the part exactly where its bond is one of the part
   pub tail_in_part : (d : ℕ) → d < dart_count inst → holds spins (tail inst d) ≡ holds bonds (d / 2)
-  tail_in_part d l = elim (tail_cases inst d) [
-    | inl e ↦ ap (holds spins) e ∙ part.first_end (d / 2) (omega arith)
-    | inr e ↦ ap (holds spins) e ∙ part.second_end (d / 2) (omega arith)
-  ]
+  tail_in_part d l = grind (arith, tail_cases)
 
   -- a dart of the part belongs to one of its bonds in the whole
   pub whole_bond : (e : ℕ) → e < 2 * length bonds → holds bonds (whole_dart bonds e / 2) ≡ true
@@ -169,17 +148,7 @@ module _ (inst : Ising) (good : IsInstance inst) (spins bonds : List ℕ) (part 
 
   -- a dart of the part leaves the spin at the place of the one that it leaves in the whole
   pub part_tail : (e : ℕ) → e < 2 * length bonds → tail small e ≡ place_in spins (tail inst (whole_dart bonds e))
-  part_tail e l = elim (cases_eq (e % 2) 0) [
-    | inl even ↦
-        tail_even small e even ∙ ap (λ b. b.u) (bond_in_part (e / 2) (omega arith))
-        ∙ ap (place_in spins) (sym (tail_even inst (whole_dart bonds e) (omega arith) ∙ ap (λ k. (bond_at inst k).u) half))
-    | inr odd ↦
-        tail_odd small e odd ∙ ap (λ b. b.v) (bond_in_part (e / 2) (omega arith))
-        ∙ ap (place_in spins) (sym (tail_odd inst (whole_dart bonds e) (λ z. omega (arith, z, odd)) ∙ ap (λ k. (bond_at inst k).v) half))
-  ]
-    where
-      half : whole_dart bonds e / 2 ≡ get_or bonds (e / 2) 0
-      half = lifted_half (λ k. get_or bonds k 0) e
+  part_tail e l = grind (arith, tail_even, bond_in_part, tail_odd)
 
   -- the list of a spin is that of the whole, renumbered
   pub part_darts : (i : ℕ) → i < length spins → darts_of small i ≡ map (dart_in bonds) (darts_of inst (get_or spins i 0))
@@ -213,9 +182,7 @@ module _ (inst : Ising) (good : IsInstance inst) (spins bonds : List ℕ) (part 
           w = whole_dart bonds d
 
           one : (x : ℕ) → holds bonds (x / 2) ≡ true → cond {A = ℕ} (eqb (dart_in bonds x) d) 1 0 ≡ cond (eqb x w) 1 0
-          one x h = ap (λ b. cond {A = ℕ} b 1 0) (like_tests (eqb (dart_in bonds x) d) (eqb x w)
-              (λ t. eq-eqb x w (sym (whole_of_part x h) ∙ ap (whole_dart bonds) (eqb-true (dart_in bonds x) d t)))
-              (λ t. eq-eqb (dart_in bonds x) d (ap (dart_in bonds) (eqb-true x w t) ∙ part_of_whole d b)))
+          one x h = grind (arith, whole_of_part, part_of_whole)
 
           tests : is_dart_of inst s w ≡ is_dart_of small i d
           tests = like_tests (is_dart_of inst s w) (is_dart_of small i d)
@@ -265,24 +232,13 @@ module _ (inst : Ising) (good : IsInstance inst) (spins bonds : List ℕ) (part 
   }
     where
       is_bond : (k : ℕ) → holds bonds k ≡ true → IsBond (length spins) (bond_in spins (bond_at inst k))
-      is_bond k h =
-          let l : k < bond_count inst = part.bonds_below k h in
-          let b : IsBond inst.n (bond_at inst k) = good.draft.joined k (record { u = 0; v = 0; j = pos 0 }) l in
-          let u : holds spins (bond_at inst k).u ≡ true = part.first_end k l ∙ h in
-          let v : holds spins (bond_at inst k).v ≡ true = part.second_end k l ∙ h in
-          record {
-            first_end = place_below spins part.spins_rise (bond_at inst k).u u;
-            second_end = place_below spins part.spins_rise (bond_at inst k).v v;
-            ends_differ = λ e. b.ends_differ (places_apart spins part.spins_rise (bond_at inst k).u (bond_at inst k).v u v e);
-            size = b.size;
-          }
+      is_bond k h = grind (arith, place_below, places_apart, part.bonds_below, inst.n, good.draft.joined, part.first_end, part.second_end, part.spins_rise)
 
   -- ---- faces
 
   -- the dart of the whole leaves a spin of the part
   whole_tail : (e : ℕ) → e < 2 * length bonds → holds spins (tail inst (whole_dart bonds e)) ≡ true
-  whole_tail e l =
-      tail_in_part (whole_dart bonds e) (whole_below e l) ∙ whole_bond e l
+  whole_tail e l = grind (arith, tail_in_part, whole_below, whole_bond)
 
   -- the next dart in the part is the next one in the whole
   pub part_next : (e : ℕ) → e < 2 * length bonds → whole_dart bonds (next small e) ≡ next inst (whole_dart bonds e)
@@ -308,10 +264,7 @@ module _ (inst : Ising) (good : IsInstance inst) (spins bonds : List ℕ) (part 
       ahead = next_in_list inst good w wl
 
       list : darts_of small (tail small e) ≡ map (dart_in bonds) (darts_of inst t)
-      list =
-          ap (darts_of small) (part_tail e l)
-          ∙ part_darts (place_in spins t) (place_below spins part.spins_rise t held)
-          ∙ ap (λ s. map (dart_in bonds) (darts_of inst s)) (entry_back spins part.spins_rise t held)
+      list = grind (arith, part_tail, part_darts, place_below, held, entry_back, spins, part.spins_rise, inst)
 
       some : 0 < length (darts_of inst t)
       some = let p : (j : ℕ) × (j < length (darts_of inst t)) × (get_or (darts_of inst t) j 0 ≡ w) = place_of inst good w wl in omega (arith, p.1)
@@ -328,9 +281,7 @@ module _ (inst : Ising) (good : IsInstance inst) (spins bonds : List ℕ) (part 
       ∙ ap (next inst) (sym (lifted_rev (λ k. get_or bonds k 0) e))
 
   steps_in_part : (j e : ℕ) → e < 2 * length bonds → steps small j e < 2 * length bonds
-  steps_in_part j e l =
-      let b : steps small j e < dart_count small = face_steps_below small part_instance j e (omega (arith, l, darts_in_part)) in
-      omega (arith, b, darts_in_part)
+  steps_in_part j e l = grind (arith, face_steps_below, part_instance, darts_in_part)
 
   -- and so after any number of steps
   pub part_steps : (j e : ℕ) → e < 2 * length bonds → whole_dart bonds (steps small j e) ≡ steps inst j (whole_dart bonds e)
@@ -339,13 +290,7 @@ module _ (inst : Ising) (good : IsInstance inst) (spins bonds : List ℕ) (part 
 
   -- the darts_in_part keep their order
   whole_less : (d e : ℕ) → d < e → e < 2 * length bonds → whole_dart bonds d < whole_dart bonds e
-  whole_less d e l b = elim (cases_eq (d / 2) (e / 2)) [
-    | inl same ↦ omega (arith, l, same, ap (λ k. get_or bonds k 0) same)
-    | inr ne ↦
-        let less : get_or bonds (d / 2) 0 < get_or bonds (e / 2) 0 =
-        rising_order bonds part.bonds_rise (d / 2) (e / 2) (omega (arith, l, ne)) (omega (arith, b)) in
-        omega (arith, less)
-  ]
+  whole_less d e l b = grind (arith, rising_order)
 
   whole_keeps : (d e : ℕ) → d ≤ e → e < 2 * length bonds → whole_dart bonds d ≤ whole_dart bonds e
   whole_keeps d e l b = elim (cases_eq d e) [
@@ -444,19 +389,11 @@ module _ (inst : Ising) (good : IsInstance inst) (spins bonds : List ℕ) (part 
       ∙ ap (λ i. bond_in spins (bond_at inst i)) (entry_back bonds part.bonds_rise k h)
 
   held_bond : (a b : ℕ) (j : JoinedBy inst all_bonds a b) → holds spins a ≡ true → holds bonds j.bond ≡ true
-  held_bond a b j h = at_end j.ends
-    where
-      at_end : HasEnds inst j.bond a b ⊎ HasEnds inst j.bond b a → holds bonds j.bond ≡ true
-      at_end (inl e) = sym (part.first_end j.bond j.below) ∙ ap (holds spins) e.0 ∙ h
-      at_end (inr e) = sym (part.second_end j.bond j.below) ∙ ap (holds spins) e.1 ∙ h
+  held_bond a b j h = grind arith
 
   -- a bond from a spin of the part leads to one of the part
   pub stays_in_part : (a b : ℕ) → JoinedBy inst all_bonds a b → holds spins a ≡ true → holds spins b ≡ true
-  stays_in_part a b j h = at_end j.ends
-    where
-      at_end : HasEnds inst j.bond a b ⊎ HasEnds inst j.bond b a → holds spins b ≡ true
-      at_end (inl e) = ap (holds spins) (sym e.1) ∙ part.second_end j.bond j.below ∙ held_bond a b j h
-      at_end (inr e) = ap (holds spins) (sym e.0) ∙ part.first_end j.bond j.below ∙ held_bond a b j h
+  stays_in_part a b j h = grind arith
 
   joined_in_part : (a b : ℕ) → JoinedBy inst all_bonds a b → holds spins a ≡ true →
       JoinedBy small all_bonds (place_in spins a) (place_in spins b)

@@ -1,6 +1,6 @@
 -- Sums over the darts of a rotation: `next` only moves them, round one cycle at each spin. So an instance with numbered
 -- faces is an embedding.
-use Rattle.std.proofs.Common.{inl, inr, ap₂, ◌≡◌, ℕ, zero, suc, ◌+◌, ◌*◌, ◌%◌, ◌<◌, Bool, true, false, cond, ◌&&◌, eqb, List, [], ◌∷◌, refl, sym, ◌∙◌, ap, arith, All, length, get_or}
+use Rattle.std.proofs.Common.{ap₂, ◌≡◌, ℕ, zero, suc, ◌+◌, ◌*◌, ◌%◌, ◌<◌, Bool, true, false, cond, ◌&&◌, eqb, List, [], ◌∷◌, refl, sym, ◌∙◌, ap, arith, All, length, get_or}
 use Rattle.std.specs.List.{range_with_len}
 use Rattle.std.proofs.Math.Nat.{mod_self, mod-eq_of_lt}
 use Rattle.std.proofs.lemmas.List.Elements.{All-from_get_or}
@@ -44,11 +44,7 @@ following_sum h xs once =
 pub constant_on_cycle : (g : ℕ → Bool) (xs : List ℕ) → DifferByCount xs → All (λ d. g (following xs d) ≡ g d) xs →
     (i : ℕ) → i < length xs → g (get_or xs i 0) ≡ g (get_or xs 0 0)
 constant_on_cycle g xs once same zero l = refl
-constant_on_cycle g xs once same (suc i) l =
-    let b : i + 1 < length xs = omega arith in
-    let e : (i + 1) % length xs ≡ suc i = mod-eq_of_lt b ∙ omega arith in
-    ap (λ k. g (get_or xs k 0)) (sym e) ∙ ap g (sym (following_at xs once i (omega arith))) ∙ same i 0 (omega arith)
-    ∙ constant_on_cycle g xs once same i (omega arith)
+constant_on_cycle g xs once same (suc i) l = grind (arith, constant_on_cycle g xs once same i, mod-eq_of_lt, following_at)
 
 module _ (inst : Ising) (good : IsInstance inst) where
   -- a sum over the list of a spin is one over the darts that leave it
@@ -95,9 +91,7 @@ module _ (inst : Ising) (good : IsInstance inst) where
     where
       at_place : (i : ℕ) → i < inst.n → (j : ℕ) → j < length (darts_of inst i) →
           g (following (darts_of inst i) (get_or (darts_of inst i) j 0)) ≡ g (get_or (darts_of inst i) j 0)
-      at_place i b j q =
-          ap (λ i'. g (following (darts_of inst i') (get_or (darts_of inst i) j 0))) (sym (in_list inst good i j b q).1)
-          ∙ ap g (sym (next_is inst good (get_or (darts_of inst i) j 0))) ∙ same (get_or (darts_of inst i) j 0) (in_list inst good i j b q).0
+      at_place i b j q = grind (arith, in_list, next_is)
 
       at_first : (x : ℕ) → x < dart_count inst → g x ≡ g (get_or (darts_of inst (tail inst x)) 0 0)
       at_first x l =
@@ -134,10 +128,7 @@ module _ (inst : Ising) (good : IsInstance inst) where
           ∙ All_range_at (λ k. B (tail inst (2 * k)) ≡ B (tail inst (2 * k + 1))) (bond_count inst) same k b ∙ ap B (tail_second inst k)
 
       one : (a c : ℕ) → JoinedBy inst all_bonds a c → B a ≡ true → B c ≡ true
-      one a c j h = elim j.ends [
-        | inl w ↦ ap B (sym w.1) ∙ sym (across j.bond j.below) ∙ ap B w.0 ∙ h
-        | inr w ↦ ap B (sym w.0) ∙ across j.bond j.below ∙ ap B w.1 ∙ h
-      ]
+      one a c j h = grind (arith, across)
 
       along : (path : List ℕ) (a b : ℕ) → IsWalk inst all_bonds a path b → B a ≡ true → B b ≡ true
       along [] a b w h = ap B (sym w) ∙ h

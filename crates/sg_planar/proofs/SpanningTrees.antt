@@ -1,15 +1,15 @@
 -- A spanning tree: a set of nodes that grows along edges, with values of the nodes that agree with what is wanted on each
 -- edge of the tree. A set of edges of the tree that is even at each node but the root is empty.
-use Rattle.std.proofs.Common.{inl, inr, ap₂, ◌≡◌, ◌⊎◌, ℕ, zero, suc, ◌<◌, ◌≤◌, Bool, true, false, cond, ◌&&◌, ◌||◌, eqb, List, [], ◌∷◌, ◌++◌, refl, sym, ◌∙◌, ap, arith, All, length}
+use Rattle.std.proofs.Common.{inl, inr, ap₂, ◌≡◌, ◌⊎◌, ℕ, zero, suc, ◌<◌, Bool, true, false, cond, ◌&&◌, ◌||◌, eqb, List, [], ◌∷◌, ◌++◌, refl, sym, ◌∙◌, ap, arith, All, length}
 use Rattle.std.specs.List.Sorted.{IsPermutation}
 use Rattle.std.proofs.lemmas.List.Elements.{All-append, All-head, All-tail, All-cons, All-nil, All-weaker}
 use Rattle.std.proofs.lemmas.List.Sorted.{IsPermutation-refl, IsPermutation-sym, IsPermutation-trans, IsPermutation-cons, IsPermutation-middle, All-permutation}
-use Rattle.std.proofs.lemmas.Bool.{eq-eqb, ne_eqb, cases_eq, cases_Bool, true≢false, or_left, or_right, or_parts}
+use Rattle.std.proofs.lemmas.Bool.{eq-eqb, ne_eqb, cases_Bool, true≢false, or_left, or_right, or_parts}
 use Rattle.sg_sums.specs.Parity.{xor, parity_by}
 use Rattle.sg_sums.specs.Sums.{sum_below}
 use Rattle.sg_sums.specs.Ends.{is_end, degree_parity, EndsBelow}
-use Rattle.sg_sums.proofs.ParityLaws.{xor_comm, xor_cancel, xor-false, and-true, and-false, parity_by-none, parity_by-append}
-use Rattle.sg_sums.proofs.SumLaws.{sum_below-zero, sum_below-same, at-le-sum_below}
+use Rattle.sg_sums.proofs.ParityLaws.{xor_cancel, xor-false, and-true, and-false, parity_by-none, parity_by-append}
+use Rattle.sg_sums.proofs.SumLaws.{sum_below-zero, sum_below-same}
 use Rattle.sg_sums.proofs.Recounting.{parity_by-permutation}
 
 -- how many of the numbers below n are outside A
@@ -20,34 +20,10 @@ count_outside A n = sum_below (λ x. cond (A x) 0 1) n
 abbrev pub joined : (ℕ → Bool) → ℕ → ℕ → Bool
 joined A x y = A y || eqb x y
 
--- where none is outside, each is inside
-none_outside : (A : ℕ → Bool) (n : ℕ) → count_outside A n ≡ 0 → (x : ℕ) → x < n → A x ≡ true
-none_outside A n h x l = by_case (A x) (at-le-sum_below (λ y. cond (A y) 0 1) x n l)
-  where
-    by_case : (b : Bool) → cond b 0 1 ≤ count_outside A n → b ≡ true
-    by_case true e = refl
-    by_case false e = absurd (omega arith)
-
 -- one more node inside is one less outside
 pub count_outside-joined : (A : ℕ → Bool) (x n : ℕ) → x < n → A x ≡ false → suc (count_outside (joined A x) n) ≡ count_outside A n
 count_outside-joined A x zero l e = absurd (omega arith)
-count_outside-joined A x (suc n) l e = elim (cases_eq x n) [
-  | inl d ↦
-      let now : cond {A = ℕ} (joined A x n) 0 1 ≡ 0 = ap (λ b. cond b 0 1) (or_right (A n) (eqb x n) (eq-eqb x n d)) in
-      let was : cond {A = ℕ} (A n) 0 1 ≡ 1 = ap (λ b. cond b 0 1) (ap A (sym d) ∙ e) in
-      let rest : sum_below (λ y. cond (joined A x y) 0 1) n ≡ sum_below (λ y. cond (A y) 0 1) n =
-      sum_below-same (λ y. cond (joined A x y) 0 1) (λ y. cond (A y) 0 1) n
-      (λ y m. ap (λ b. cond b 0 1) (kept (A y) (eqb x y) (ne_eqb x y (λ (f : x ≡ y). omega arith)))) in
-      omega arith
-  | inr d ↦
-      let same : cond {A = ℕ} (joined A x n) 0 1 ≡ cond (A n) 0 1 = ap (λ b. cond b 0 1) (kept (A n) (eqb x n) (ne_eqb x n d)) in
-      let rest : suc (count_outside (joined A x) n) ≡ count_outside A n = count_outside-joined A x n (omega arith) e in
-      omega arith
-]
-  where
-    kept : (a b : Bool) → b ≡ false → (a || b) ≡ a
-    kept true b e = refl
-    kept false b e = e
+count_outside-joined A x (suc n) l e = grind (arith, count_outside-joined A x n, sum_below-same, ne_eqb)
 
 -- an edge from p to q with one end inside A and one outside
 record Crosses (A : ℕ → Bool) (p q : ℕ) : Type 0 where
@@ -60,22 +36,11 @@ record Crosses (A : ℕ → Bool) (p q : ℕ) : Type 0 where
 
 -- both ends are on one side, or the edge crosses
 crosses_from : (A : ℕ → Bool) (p q : ℕ) → (A p ≡ A q) ⊎ Crosses A p q
-crosses_from A p q = by_sides (cases_Bool (A p)) (cases_Bool (A q))
-  where
-    by_sides : (A p ≡ true) ⊎ (A p ≡ false) → (A q ≡ true) ⊎ (A q ≡ false) → (A p ≡ A q) ⊎ Crosses A p q
-    by_sides (inl x) (inl y) = inl (x ∙ sym y)
-    by_sides (inr x) (inr y) = inl (x ∙ sym y)
-    by_sides (inl x) (inr y) =
-        inr (record { inner = p; outer = q; inside = x; outside = y; ends = λ v. refl; below = λ n l m. (l, m) })
-    by_sides (inr x) (inl y) =
-        inr (record { inner = q; outer = p; inside = y; outside = x; ends = λ v. xor_comm (v p) (v q); below = λ n l m. (m, l) })
+crosses_from A p q = grind (arith, cases_Bool (A p), cases_Bool (A q))
 
 -- nodes on two sides are two
 apart : (A : ℕ → Bool) (x y : ℕ) → A x ≡ true → A y ≡ false → eqb x y ≡ false
 apart A x y p q = ne_eqb x y (λ (e : x ≡ y). true≢false (sym p ∙ ap A e ∙ q))
-
-apart_back : (A : ℕ → Bool) (x y : ℕ) → A x ≡ false → A y ≡ true → eqb x y ≡ false
-apart_back A x y p q = ne_eqb x y (λ (e : x ≡ y). true≢false (sym q ∙ ap A (sym e) ∙ p))
 
 xor_twice : (x y : Bool) → xor x (xor x y) ≡ y
 xor_twice x y = grind arith
@@ -142,9 +107,7 @@ module _ {X : Type 0} (a b : X → ℕ) where
             (All-head P f.edge f.others all, All-tail P f.edge f.others all)
 
         nodes : (inn < n) × (out < n)
-        nodes =
-            let low : (a f.edge < n) × (b f.edge < n) = (parted (λ e. (a e < n) × (b e < n)) ends).0 in
-            f.crosses.below n low.0 low.1
+        nodes = grind (arith, parted)
 
         -- with the outer end inside, the other edges still lead to every node
         still_reaches : Reaches A E → Reaches (joined A out) f.others
@@ -182,9 +145,7 @@ module _ {X : Type 0} (a b : X → ℕ) where
         }
           where
             agree' : (x : ℕ) → x < n → A x ≡ true → s.values x ≡ t x
-            agree' x l i =
-                s.agree x l (or_left (A x) (eqb out x) i)
-                ∙ ap (λ v. cond v (xor (t inn) (c f.edge)) (t x)) (apart_back A out x f.crosses.outside i)
+            agree' x l i = grind arith
 
             at_outer : s.values out ≡ xor (t inn) (c f.edge)
             at_outer =

@@ -13,4 +13,4 @@ loop-spin-preserved c =
 pub returns : goal.returns
 returns c =
     set_to_all c.args.inst.now c.n.ensures.instance (is_marked c.args.unlike.now) c.args.order.now c.requires.order c.loop-spin.spin-index
-    c.loop-spin.down.items (omega (arith, c.loop-spin-test.false)) c.loop-spin.invariant
+    c.loop-spin.down.items (omega arith) c.loop-spin.invariant

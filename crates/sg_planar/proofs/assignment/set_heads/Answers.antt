@@ -11,4 +11,4 @@ loop-dart-preserved c =
     let asked : Bool = get_or c.args.unlike.now (get_or c.darts_from-dart-items.result.now c.loop-dart.dart-index 0 / 2) false in
     heads_more c.args.inst.now (is_marked c.args.unlike.now) c.args.spin c.darts_from-dart-items.result.now c.args.down.now c.loop-dart.down
     c.loop-dart.dart-index c.head-to.result (not (beq here asked)) c.loop-dart-test.true dart.0 dart.1 c.head-to.ensures.value
-    (omega (arith, c.head-to.ensures.below, c.requires.spins, c.loop-dart.invariant.lengths)) (ne_is_xor here asked) c.loop-dart.invariant
+    (omega arith) (ne_is_xor here asked) c.loop-dart.invariant

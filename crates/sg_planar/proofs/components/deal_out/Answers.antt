@@ -1,10 +1,9 @@
+use Rattle.std.proofs.Common.{arith}
 use Rattle.sg_planar.proofs.PartPlaces.{labels_low, names_low, naming_of_all, split_made}
 use Rattle.sg_planar.proofs.components.deal_out.Goals as goal
 
 pub deal-requires-clause-below : goal.deal-requires-clause-below
-deal-requires-clause-below c =
-    rw c.n.ensures.value
-    (names_low c.args.inst.now c.bonds.ensures.instance c.args.names.now c.requires.count (naming_of_all c.args.inst.now c.args.names.now c.requires))
+deal-requires-clause-below c = grind (arith, names_low, naming_of_all)
 
 pub deal-requires-2-clause-below : goal.deal-requires-2-clause-below
 deal-requires-2-clause-below c =

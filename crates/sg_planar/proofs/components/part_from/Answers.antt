@@ -1,4 +1,4 @@
-use Rattle.std.proofs.Common.{◌≡◌, ◌∙◌, ap, sym, subst, List, ℕ}
+use Rattle.std.proofs.Common.{◌≡◌, ◌∙◌, ap, sym, subst, List, ℕ, arith}
 use Rattle.sg_model.specs.Ising.{Ising}
 use Rattle.sg_faces.specs.Faces.{IsFaceLabels}
 use Rattle.sg_planar.specs.Fit.{Embedding, IsPlanar}
@@ -16,16 +16,13 @@ dealt c =
     c.in_ok-spins.ensures.cases c.index.ensures c.in_ok-bonds.ensures.cases c.index-2.ensures
 
 pub part_instance-requires-clause-closed : goal.part_instance-requires-clause-closed
-part_instance-requires-clause-closed c =
-    rw c.instance-inst.ensures.value (dealt (goal.at.part_instance-requires-clause-closed c).After-deref-2).closed
+part_instance-requires-clause-closed c = grind (arith, dealt)
 
 pub part_instance-requires-clause-spin_places : goal.part_instance-requires-clause-spin_places
-part_instance-requires-clause-spin_places c =
-    rw (c.instance-inst.ensures.value, c.deref.ensures.value) (dealt (goal.at.part_instance-requires-clause-spin_places c).After-deref-2).spin_places
+part_instance-requires-clause-spin_places c = grind (arith, dealt)
 
 pub part_instance-requires-clause-bond_places : goal.part_instance-requires-clause-bond_places
-part_instance-requires-clause-bond_places c =
-    rw (c.instance-inst.ensures.value, c.deref-2.ensures.value) (dealt (goal.at.part_instance-requires-clause-bond_places c).After-deref-2).bond_places
+part_instance-requires-clause-bond_places c = grind (arith, dealt)
 
 -- the instance of the part, where it was made of the one that is lent
 made : {inst lent part : Ising} (spins bonds : List ℕ) → part ≡ restricted lent spins bonds → lent ≡ inst → part ≡ restricted inst spins bonds

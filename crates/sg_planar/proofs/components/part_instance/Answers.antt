@@ -27,7 +27,7 @@ pub overflow_cast-len : goal.overflow_cast-len
 overflow_cast-len c =
     let i : IsInstance (restricted c.args.inst.now c.args.spins.now c.args.bonds.now) =
     part_instance c.args.inst.now c.requires.instance c.args.spins.now c.args.bonds.now c.requires.closed in
-    omega (arith, c.len.ensures, i.draft.few_spins)
+    omega arith
 
 -- the part as it is defined
 whole : (c : After-new) →
@@ -41,9 +41,7 @@ whole c =
     c.new.ensures
 
 pub of_parts-requires : goal.of_parts-requires
-of_parts-requires c =
-    subst IsInstance (sym (whole (goal.at.of_parts-requires c).After-new))
-    (part_instance c.args.inst.now c.requires.instance c.args.spins.now c.args.bonds.now c.requires.closed)
+of_parts-requires c = grind (arith, whole, part_instance)
 
 pub returns : goal.returns
 returns c = c.of_parts.ensures ∙ whole (goal.at.returns c).After-new
