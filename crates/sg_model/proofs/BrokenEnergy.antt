@@ -1,13 +1,12 @@
 -- Energy and broken bonds: an energy is twice the weight of the broken bonds, less the weight of all.
-use Rattle.std.proofs.Common.{◌≡◌, ℕ, ◌+◌, ◌*◌, ◌<◌, inl, inr, ltb, ℤ, pos, negsuc, neg_ℤ, ◌+ℤ◌, ◌-ℤ◌, ◌*ℤ◌, Bool, true, false, cond, List, [], ◌∷◌, refl, ap, ◌∙◌, arith, sum_by, fold, All}
+use Rattle.std.proofs.Common.{◌≡◌, ℕ, ◌+◌, ◌*◌, ◌<◌, ℤ, pos, negsuc, neg_ℤ, ◌+ℤ◌, ◌-ℤ◌, ◌*ℤ◌, Bool, cond, List, [], ◌∷◌, refl, arith, sum_by, fold, All}
 use Rattle.std.specs.Prelude.{unsigned_abs, int_lt}
 use Rattle.std.specs.Ordering.{int_eq}
 use Rattle.std.proofs.lemmas.Int.{ints}
-use Rattle.std.proofs.lemmas.Bool.{le-ltb}
-use Rattle.std.proofs.lemmas.List.Elements.{All-head, All-tail, All-weaker}
+use Rattle.std.proofs.lemmas.List.Elements.{All-head, All-tail}
 use Rattle.std.proofs.lemmas.List.Sums.{sum_by-cons}
 use Rattle.sg_model.specs.declared.bond.Bond.{Bond}
-use Rattle.sg_model.specs.Ising.{Ising, IsBond}
+use Rattle.sg_model.specs.Ising.{Ising}
 use Rattle.sg_model.specs.WellFormed.{IsInstance}
 use Rattle.sg_model.specs.Spins.{IsUpOrDown, IsAssignment, spin}
 use Rattle.sg_model.specs.Energy.{product, energy, weight}
@@ -32,27 +31,16 @@ unit_at inst s h i l = h.values i (pos 1) (omega (arith, h.count))
 
 -- so are the values at the ends of each bond
 pub unit_ends : (inst : Ising) (s : List ℤ) → IsInstance inst → IsAssignment inst s → All (HasUnitEnds s) inst.bonds
-unit_ends inst s good h =
-    All-weaker (IsBond inst.n) (HasUnitEnds s) (λ b w. record { first = unit_at inst s h b.u w.first_end; second = unit_at inst s h b.v w.second_end })
-    inst.bonds good.draft.joined
+unit_ends inst s good h = grind arith
 
 -- and their product
 pub product-up_or_down : (s : List ℤ) (b : Bond) → HasUnitEnds s b → IsUpOrDown (product s b)
-product-up_or_down s b h = signs (spin s b.u) (spin s b.v) h.first h.second
-  where
-    signs : (x y : ℤ) → IsUpOrDown x → IsUpOrDown y → IsUpOrDown (x *ℤ y)
-    signs x y (inl p) (inl q) = inl (rw (p, q) refl)
-    signs x y (inl p) (inr q) = inr (rw (p, q) refl)
-    signs x y (inr p) (inl q) = inr (rw (p, q) refl)
-    signs x y (inr p) (inr q) = inl (rw (p, q) refl)
+product-up_or_down s b h = grind arith
 
 -- of one bond: the coupling times the product is its weight, less twice that if it is broken
 one_bond : (j p : ℤ) → IsUpOrDown p →
     (j *ℤ p) +ℤ pos (cond (cond (int_lt j (pos 0)) (int_eq p (pos 1)) (int_eq p (negsuc 0))) (2 * unsigned_abs j) 0) ≡ pos (unsigned_abs j)
-one_bond (pos a) p (inl e) = let nn : ltb a 0 ≡ false = le-ltb a 0 (omega arith) in rw (e, nn) (omega (arith, ints))
-one_bond (pos a) p (inr e) = let nn : ltb a 0 ≡ false = le-ltb a 0 (omega arith) in rw (e, nn) (omega (arith, ints))
-one_bond (negsuc a) p (inl e) = rw e (omega (arith, ints))
-one_bond (negsuc a) p (inr e) = rw e (omega (arith, ints))
+one_bond j p h = grind arith
 
 all_bonds : (s : List ℤ) (total : ℤ) (bonds : List Bond) → All (HasUnitEnds s) bonds →
     fold (λ total b. total +ℤ (b.j *ℤ product s b)) total bonds +ℤ pos (sum_by (broken_cost s) bonds) ≡ total +ℤ pos
@@ -85,11 +73,9 @@ costs-twice_weights s (b ∷ bonds) =
     omega (arith, costs-twice_weights s bonds, sum_by-cons (broken_cost s) b bonds, sum_by-cons (broken_weight s) b bonds)
   where
     twice : (broken : Bool) (w : ℕ) → cond broken (2 * w) 0 ≡ 2 * cond broken w 0
-    twice true w = refl
-    twice false w = refl
+    twice broken w = grind arith
 
 -- the energy is twice the weight of the broken bonds, less the weight of all
 pub energy_from_broken : (inst : Ising) (s : List ℤ) → IsInstance inst → IsAssignment inst s →
     energy inst s ≡ pos (2 * sum_by (broken_weight s) inst.bonds) -ℤ pos (weight inst)
-energy_from_broken inst s good h =
-    energy_from_costs inst s good h ∙ ap (λ k. pos k -ℤ pos (weight inst)) (costs-twice_weights s inst.bonds)
+energy_from_broken inst s good h = simp (energy_from_costs, costs-twice_weights)

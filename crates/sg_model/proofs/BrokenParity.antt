@@ -1,14 +1,13 @@
 -- A bond is broken where either it is negative or its ends differ, and not both; and bounds on the weight of all bonds.
-use Rattle.std.proofs.Common.{◌≡◌, ◌*◌, ◌≤◌, ◌^◌, inl, inr, ℤ, pos, negsuc, ◌*ℤ◌, Bool, true, false, cond, List, refl, arith, length}
+use Rattle.std.proofs.Common.{◌≡◌, ◌*◌, ◌≤◌, ◌^◌, ℤ, pos, Bool, List, arith, length}
 use Rattle.std.specs.Prelude.{int_lt, unsigned_abs}
-use Rattle.std.specs.Ordering.{int_eq}
 use Rattle.std.proofs.lemmas.List.Elements.{All-weaker}
 use Rattle.std.proofs.lemmas.List.Sums.{sum_by-le}
 use Rattle.sg_sums.specs.Parity.{xor}
 use Rattle.sg_model.specs.declared.bond.Bond.{Bond}
 use Rattle.sg_model.specs.Ising.{Ising, IsBond}
 use Rattle.sg_model.specs.WellFormed.{IsInstance}
-use Rattle.sg_model.specs.Spins.{IsUpOrDown, spin}
+use Rattle.sg_model.specs.Spins.{spin}
 use Rattle.sg_model.specs.Energy.{weight}
 use Rattle.sg_model.specs.Broken.{is_negative, is_broken}
 use Rattle.sg_model.proofs.BrokenEnergy.{HasUnitEnds}
@@ -19,18 +18,7 @@ is_down z = int_lt z (pos 0)
 
 -- a bond is broken where either it is negative or its ends differ
 pub is_broken_xor : (s : List ℤ) (b : Bond) → HasUnitEnds s b → is_broken s b ≡ xor (is_negative b) (xor (is_down (spin s b.u)) (is_down (spin s b.v)))
-is_broken_xor s b h = by_sign (is_negative b) (spin s b.u) (spin s b.v) h.first h.second
-  where
-    by_sign : (negative : Bool) (x y : ℤ) → IsUpOrDown x → IsUpOrDown y →
-        cond negative (int_eq (x *ℤ y) (pos 1)) (int_eq (x *ℤ y) (negsuc 0)) ≡ xor negative (xor (is_down x) (is_down y))
-    by_sign true x y (inl p) (inl q) = rw (p, q) refl
-    by_sign true x y (inl p) (inr q) = rw (p, q) refl
-    by_sign true x y (inr p) (inl q) = rw (p, q) refl
-    by_sign true x y (inr p) (inr q) = rw (p, q) refl
-    by_sign false x y (inl p) (inl q) = rw (p, q) refl
-    by_sign false x y (inl p) (inr q) = rw (p, q) refl
-    by_sign false x y (inr p) (inl q) = rw (p, q) refl
-    by_sign false x y (inr p) (inr q) = rw (p, q) refl
+is_broken_xor s b h = grind arith
 
 -- the weight of all bonds of an instance
 pub weight-le : (inst : Ising) → IsInstance inst → weight inst ≤ 2 ^ 24 * 2 ^ 63

@@ -1,7 +1,6 @@
 -- The spins of a code: they are up or down, each list of them has a code, and a loop writes them.
-use Rattle.std.proofs.Common.{◌≡◌, ℕ, zero, suc, ◌+◌, ◌-◌, ◌*◌, ◌/◌, ◌%◌, ◌^◌, ◌<◌, inl, inr, ℤ, pos, negsuc, Bool, true, false, cond, eqb, List, [], ◌∷◌, ◌++◌, length, take, set, refl, sym, ap, ◌∙◌, append_assoc, arith, All}
+use Rattle.std.proofs.Common.{◌≡◌, ℕ, zero, suc, ◌+◌, ◌-◌, ◌*◌, ◌/◌, ◌%◌, ◌^◌, ◌<◌, inl, inr, ℤ, pos, negsuc, Bool, cond, eqb, List, [], ◌∷◌, ◌++◌, length, take, set, refl, sym, ap, ◌∙◌, append_assoc, arith, All}
 use Rattle.std.proofs.Math.Nat.{pow-succ'}
-use Rattle.std.proofs.lemmas.Bool.{eq-eqb, ne_eqb}
 use Rattle.std.proofs.lemmas.List.{take_more_set}
 use Rattle.std.proofs.lemmas.List.Elements.{All-nil, All-cons, All-head, All-tail}
 use Rattle.sg_model.specs.Spins.{IsUpOrDown}
@@ -13,8 +12,7 @@ coded-length zero code = refl
 coded-length (suc n) code = ap suc (coded-length n (code / 2))
 
 IsUpOrDown-cond : (b : Bool) → IsUpOrDown (cond b (pos 1) (negsuc 0))
-IsUpOrDown-cond true = inl refl
-IsUpOrDown-cond false = inr refl
+IsUpOrDown-cond b = grind arith
 
 -- each of them 1 or -1
 pub coded-up_or_down : (n code : ℕ) → All IsUpOrDown (coded n code)
@@ -23,16 +21,10 @@ coded-up_or_down (suc n) code = All-cons IsUpOrDown _ _ (IsUpOrDown-cond (eqb (c
 
 -- an even code has the first spin up
 pub coded-even : (n half : ℕ) → coded (suc n) (2 * half) ≡ pos 1 ∷ coded n half
-coded-even n half =
-    let bit : eqb (2 * half % 2) 0 ≡ true = eq-eqb _ _ (omega arith) in
-    let rest : 2 * half / 2 ≡ half = omega arith in
-    rw (bit, rest) refl
+coded-even n half = grind arith
 
 coded-odd : (n half : ℕ) → coded (suc n) (2 * half + 1) ≡ negsuc 0 ∷ coded n half
-coded-odd n half =
-    let bit : eqb ((2 * half + 1) % 2) 0 ≡ false = ne_eqb _ _ (λ (e : (2 * half + 1) % 2 ≡ 0). omega arith) in
-    let rest : (2 * half + 1) / 2 ≡ half = omega arith in
-    rw (bit, rest) refl
+coded-odd n half = grind arith
 
 -- lists with the same head and the same tail are the same
 pub same_cons : (x y : ℤ) (xs ys : List ℤ) → x ≡ y → xs ≡ ys → x ∷ xs ≡ y ∷ ys

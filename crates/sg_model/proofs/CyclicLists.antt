@@ -1,17 +1,14 @@
 -- A list as a cycle: each entry leads to the one behind it, the last to the first.
-use Rattle.std.proofs.Common.{inl, inr, ◌≡◌, ◌⊎◌, ℕ, zero, suc, ◌+◌, ◌%◌, ◌<◌, ◌≤◌, cond, eqb, List, [], ◌∷◌, refl, sym, ◌∙◌, ap, arith, length, get_or, count_by}
+use Rattle.std.proofs.Common.{inl, inr, ◌≡◌, ℕ, zero, suc, ◌+◌, ◌%◌, ◌<◌, ◌≤◌, cond, eqb, List, [], ◌∷◌, refl, sym, ◌∙◌, ap, arith, length, get_or, count_by}
 use Rattle.std.specs.List.{position_or_len}
 use Rattle.std.proofs.Math.Nat.{mod_self, mod-eq_of_lt, mod-lt}
 use Rattle.std.proofs.lemmas.List.Sums.{sum_by-cons, get_or-le-sum_by, position_or_len_is}
-use Rattle.std.proofs.lemmas.Bool.{eq-eqb, ne_eqb, cases_eq, cases_lt}
+use Rattle.std.proofs.lemmas.Bool.{eq-eqb, ne_eqb, cases_eq}
 use Rattle.sg_model.specs.Rotation.{following}
 use Rattle.sg_sums.specs.Sets.{DifferByCount}
 
 pub one_place : (x : ℕ) (xs : List ℕ) (i : ℕ) → i < length xs → get_or xs i 0 ≡ x → 1 ≤ count_by (λ y. eqb y x) xs
-one_place x xs i l e =
-    let h : cond (eqb (get_or xs i 0) x) 1 0 ≤ count_by (λ y. eqb y x) xs = get_or-le-sum_by (λ y. cond (eqb y x) 1 0) xs i 0 l in
-    let w : cond {A = ℕ} (eqb (get_or xs i 0) x) 1 0 ≡ 1 = ap (λ b. cond b 1 0) (eq-eqb (get_or xs i 0) x e) in
-    omega arith
+one_place x xs i l e = grind (arith, get_or-le-sum_by)
 
 two_places : (x : ℕ) (xs : List ℕ) (k i : ℕ) → k < i → i < length xs → get_or xs k 0 ≡ x → get_or xs i 0 ≡ x →
     2 ≤ count_by (λ y. eqb y x) xs
@@ -55,16 +52,7 @@ following_last xs once i l =
     following_at xs once i (omega arith) ∙ ap (λ k. get_or xs k 0) (ap (λ n. n % length xs) l ∙ mod_self (length xs))
 
 same_turn : (j k n : ℕ) → j < n → k < n → (j + 1) % n ≡ (k + 1) % n → j ≡ k
-same_turn j k n a b e = by_ends (cases_lt (j + 1) n) (cases_lt (k + 1) n)
-  where
-    full : (x : ℕ) → x < n → n ≤ x + 1 → (x + 1) % n ≡ 0
-    full x l m = let s : x + 1 ≡ n = omega arith in ap (λ y. y % n) s ∙ mod_self n
-
-    by_ends : ((j + 1 < n) ⊎ (n ≤ j + 1)) → ((k + 1 < n) ⊎ (n ≤ k + 1)) → j ≡ k
-    by_ends (inl p) (inl q) = omega (arith, e, mod-eq_of_lt p, mod-eq_of_lt q)
-    by_ends (inl p) (inr q) = absurd (omega (arith, e, mod-eq_of_lt p, full k b q))
-    by_ends (inr p) (inl q) = absurd (omega (arith, e, full j a p, mod-eq_of_lt q))
-    by_ends (inr p) (inr q) = omega arith
+same_turn j k n a b e = grind arith
 
 -- different places are followed by different entries
 pub following_apart : (xs : List ℕ) → DifferByCount xs → (j k : ℕ) → j < length xs → k < length xs →

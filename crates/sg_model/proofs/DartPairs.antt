@@ -18,8 +18,7 @@ pub rev_rev : (d : ℕ) → rev (rev d) ≡ d
 rev_rev d = by_dart (dart_cases d)
   where
     by_dart : ((k : ℕ) × ((d ≡ 2 * k) ⊎ (d ≡ 2 * k + 1))) → rev (rev d) ≡ d
-    by_dart (k, inl e) = ap (λ x. rev (rev x)) e ∙ ap rev (rev_first k) ∙ rev_second k ∙ sym e
-    by_dart (k, inr e) = ap (λ x. rev (rev x)) e ∙ ap rev (rev_second k) ∙ rev_first k ∙ sym e
+    by_dart h = grind (arith, rev_first, rev_second)
 
 -- different darts have different reverses
 pub rev_apart : (d e : ℕ) → rev d ≡ rev e → d ≡ e
@@ -30,5 +29,4 @@ pub rev_below : (inst : Ising) (d : ℕ) → d < dart_count inst → rev d < dar
 rev_below inst d l = by_dart (dart_cases d)
   where
     by_dart : ((k : ℕ) × ((d ≡ 2 * k) ⊎ (d ≡ 2 * k + 1))) → rev d < dart_count inst
-    by_dart (k, inl e) = let r : rev d ≡ 2 * k + 1 = ap rev e ∙ rev_first k in omega arith
-    by_dart (k, inr e) = let r : rev d ≡ 2 * k = ap rev e ∙ rev_second k in omega arith
+    by_dart h = grind (arith, rev_first, rev_second)

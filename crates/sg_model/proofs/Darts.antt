@@ -1,6 +1,6 @@
 -- The spins that darts leave.
 use Rattle.std.proofs.Common.{◌≡◌, ◌≢◌, ℕ, ◌+◌, ◌*◌, ◌/◌, ◌%◌, ◌<◌, true, eqb, ltb, refl, ◌∙◌, ap, arith}
-use Rattle.std.proofs.lemmas.Bool.{eq-eqb, eqb-true, ltb-true, lt-ltb, and_parts, and_from}
+use Rattle.std.proofs.lemmas.Bool.{eq-eqb, lt-ltb, and_from}
 use Rattle.sg_model.specs.Ising.{Ising, bond_at}
 use Rattle.sg_model.specs.Rotation.{dart_count, is_dart_of, rev, tail, head_of}
 
@@ -21,16 +21,11 @@ module _ (inst : Ising) where
 
   -- dart 2k + 1 leaves the second
   pub tail_second : (k : ℕ) → tail inst (2 * k + 1) ≡ (bond_at inst k).v
-  tail_second k =
-      let half : (2 * k + 1) / 2 ≡ k = omega arith in
-      let odd : (2 * k + 1) % 2 ≢ 0 = omega arith in
-      tail_odd (2 * k + 1) odd ∙ ap (λ b. (bond_at inst b).v) half
+  tail_second k = grind (arith, tail_odd)
 
   -- a dart of spin i
   pub is_dart_of-parts : (i d : ℕ) → is_dart_of inst i d ≡ true → (d < dart_count inst) × (tail inst d ≡ i)
-  is_dart_of-parts i d h =
-      let both : (ltb d (dart_count inst) ≡ true) × (eqb (tail inst d) i ≡ true) = and_parts (ltb d (dart_count inst)) (eqb (tail inst d) i) h in
-      (ltb-true d (dart_count inst) both.0, eqb-true (tail inst d) i both.1)
+  is_dart_of-parts i d h = grind arith
 
   -- a dart that leaves a spin is one of its darts
   pub is_dart_of-from : (i d : ℕ) → d < dart_count inst → tail inst d ≡ i → is_dart_of inst i d ≡ true

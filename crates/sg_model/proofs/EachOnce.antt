@@ -1,10 +1,10 @@
 -- Lists whose entries are all in place: they hold allowed numbers alone, and each of them at most once.
-use Rattle.std.proofs.Common.{◌≡◌, ℕ, zero, suc, ◌+◌, ◌<◌, ◌≤◌, Bool, true, false, cond, not, ◌||◌, eqb, List, length, get_or, take, refl, sym, ◌∙◌, ap, subst, count_by, arith}
+use Rattle.std.proofs.Common.{◌≡◌, ℕ, zero, suc, ◌+◌, ◌<◌, ◌≤◌, Bool, true, false, cond, ◌||◌, eqb, List, length, get_or, take, refl, sym, ◌∙◌, ap, subst, count_by, arith}
 use Rattle.std.specs.Prelude.{Any}
 use Rattle.std.proofs.lemmas.List.{take_all, get_or_read}
 use Rattle.std.proofs.lemmas.List.Folds.{list_any_more, Any-from_list_any}
 use Rattle.std.proofs.lemmas.List.Sums.{sum_by_more}
-use Rattle.std.proofs.lemmas.Bool.{or_parts, not-false, eqb-true}
+use Rattle.std.proofs.lemmas.Bool.{eqb-true}
 use Rattle.sg_sums.specs.Sets.{holds}
 use Rattle.sg_model.specs.Misplaced.{IsInPlace}
 
@@ -17,10 +17,7 @@ place_held xs d h =
 module _ (allowed : ℕ → Bool) (xs : List ℕ) (good : IsInPlace allowed xs) where
   -- what the test of the entry at j says
   pub in_place-parts : (j : ℕ) → j < length xs → (allowed (get_or xs j 0) ≡ true) × (holds (take j xs) (get_or xs j 0) ≡ false)
-  in_place-parts j l =
-      let both : (not (allowed (get_or xs j 0)) ≡ false) × (holds (take j xs) (get_or xs j 0) ≡ false) =
-      or_parts (not (allowed (get_or xs j 0))) (holds (take j xs) (get_or xs j 0)) (good j l) in
-      (not-false (allowed (get_or xs j 0)) both.0, both.1)
+  in_place-parts j l = grind arith
 
   step : (h e : Bool) (n : ℕ) → n ≡ cond h 1 0 → (e ≡ true → h ≡ false) → n + cond e 1 0 ≡ cond (h || e) 1 0
   step h e n a b = grind arith
@@ -47,9 +44,7 @@ module _ (allowed : ℕ → Bool) (xs : List ℕ) (good : IsInPlace allowed xs) 
   held_allowed d h = let p : (k : ℕ) × (k < length xs) × (get_or xs k 0 ≡ d) = place_held xs d h in ap allowed (sym p.2) ∙ (in_place-parts p.0 p.1).0
 
   same : (h a : Bool) → (h ≡ true → a ≡ true) → (a ≡ true → h ≡ true) → h ≡ a
-  same true a f g = sym (f refl)
-  same false true f g = g refl
-  same false false f g = refl
+  same h a there back = grind arith
 
   -- where the list holds all allowed numbers, it holds each of them once and nothing else
   pub each_once_in_place : ((d : ℕ) → allowed d ≡ true → holds xs d ≡ true) → (d : ℕ) → count_by (λ x. eqb x d) xs ≡ cond (allowed d) 1 0

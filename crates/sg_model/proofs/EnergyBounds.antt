@@ -1,5 +1,5 @@
 -- An energy is at most the weight of all bonds in size; and the energy of a ground state is the least.
-use Rattle.std.proofs.Common.{◌≡◌, ℕ, ◌*◌, ◌≤◌, ℤ, pos, ◌-ℤ◌, ◌≤ℤ◌, Bool, true, false, cond, List, sym, subst, arith, sum_by, get_or}
+use Rattle.std.proofs.Common.{◌≡◌, ℕ, ◌*◌, ◌≤◌, ℤ, pos, ◌-ℤ◌, List, arith, sum_by}
 use Rattle.std.specs.Prelude.{unsigned_abs}
 use Rattle.std.proofs.lemmas.Int.{ints}
 use Rattle.sg_sums.proofs.SumLaws.{sum_by-le-all}
@@ -8,16 +8,10 @@ use Rattle.sg_model.specs.Ising.{Ising}
 use Rattle.sg_model.specs.WellFormed.{IsInstance}
 use Rattle.sg_model.specs.Spins.{IsAssignment}
 use Rattle.sg_model.specs.Energy.{IsGroundState, IsLeastEnergy, energy, weight}
-use Rattle.sg_model.specs.Broken.{is_broken}
 use Rattle.sg_model.proofs.BrokenEnergy.{broken_weight, energy_from_broken}
 
 broken-le : (s : List ℤ) (bonds : List Bond) → sum_by (broken_weight s) bonds ≤ sum_by (λ b. unsigned_abs b.j) bonds
-broken-le s bonds =
-    sum_by-le-all (broken_weight s) (λ b. unsigned_abs b.j) bonds (λ k d l. part (is_broken s (get_or bonds k d)) (unsigned_abs (get_or bonds k d).j))
-  where
-    part : (broken : Bool) (w : ℕ) → cond broken w 0 ≤ w
-    part true w = omega arith
-    part false w = omega arith
+broken-le s bonds = grind (arith, sum_by-le-all)
 
 -- no energy is larger in size than the weight of all bonds
 pub energy_size : (inst : Ising) (s : List ℤ) → IsInstance inst → IsAssignment inst s → unsigned_abs (energy inst s) ≤ weight inst
@@ -28,7 +22,4 @@ energy_size inst s good h = bounded (energy inst s) _ (weight inst) (energy_from
 
 -- the energy of a ground state is the least energy
 pub least_of_ground_state : (inst : Ising) (s : List ℤ) (e : ℤ) → IsGroundState inst s → e ≡ energy inst s → IsLeastEnergy inst e
-least_of_ground_state inst s e g same = record {
-  reached = (s, g.assignment, sym same);
-  least = λ t h. subst (λ x. x ≤ℤ energy inst t) (sym same) (g.least t h);
-}
+least_of_ground_state inst s e g same = grind arith

@@ -1,5 +1,5 @@
 -- The list of least spins is the only one.
-use Rattle.std.proofs.Common.{◌≡◌, ◌∙◌, sym, ap, ap₂, subst, refl, ℕ, zero, suc, ◌+◌, ◌-◌, ◌<◌, ◌≤◌, length, get_or, Bool, true, false, ◌||◌, eqb, eq-eqb, List, [], ◌∷◌, arith, inl, inr}
+use Rattle.std.proofs.Common.{◌≡◌, ◌∙◌, sym, ap, ap₂, subst, refl, ℕ, zero, suc, ◌-◌, ◌<◌, ◌≤◌, length, get_or, Bool, true, false, ◌||◌, eqb, eq-eqb, List, [], ◌∷◌, arith, inl, inr}
 use Rattle.std.proofs.lemmas.Bool.{or_right, true≢false, eqb-true, false_from_ne_true, cases_eq, cases_lt}
 use Rattle.std.proofs.Math.Bool.{or-false}
 use Rattle.std.specs.List.Sorted.{IsStrictlyIncreasing}
@@ -49,9 +49,7 @@ same_rising (x ∷ xs) (y ∷ ys) p q h =
     ]
 
 alike : (a b : Bool) → (a ≡ true → b ≡ true) → (b ≡ true → a ≡ true) → a ≡ b
-alike true b f g = sym (f refl)
-alike false true f g = g refl
-alike false false f g = refl
+alike a b there back = grind arith
 
 -- an instance has one list of least spins
 pub one_list : (inst : Ising) (first second : List ℕ) → AreLeasts inst first → AreLeasts inst second → first ≡ second
@@ -86,10 +84,7 @@ module _ (inst : Ising) (leasts : List ℕ) (are : AreLeasts inst leasts) where
   -- a rising list of numbers below n has no more than n
   above_place : (k : ℕ) → k < length leasts → k ≤ get_or leasts k 0
   above_place zero l = omega arith
-  above_place (suc k) l =
-      let next : k + 1 ≡ suc k = omega arith in
-      let up : get_or leasts k 0 < get_or leasts (k + 1) 0 = are.rising k (omega (arith, l)) in
-      omega (arith, above_place k (omega (arith, l)), up, ap (λ i. get_or leasts i 0) next)
+  above_place (suc k) l = grind (arith, above_place k)
 
   -- there are no more components than spins
   pub leasts_few : length leasts ≤ inst.n

@@ -9,5 +9,4 @@ pub least-meet : (d e x y : ℤ) → d ≤ℤ x → e ≤ℤ y → y ≡ d → x
 least-meet d e x y p q r s = omega (arith, ints)
 
 pub least-one : (inst : Ising) (d e : ℤ) → IsLeastEnergy inst d → IsLeastEnergy inst e → d ≡ e
-least-one inst d e p q =
-    least-meet d e _ _ (p.least q.reached.0 q.reached.1) (q.least p.reached.0 p.reached.1) p.reached.2 q.reached.2
+least-one inst d e p q = grind arith

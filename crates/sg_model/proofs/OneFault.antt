@@ -1,5 +1,5 @@
 -- An instance has one fault at most, and none where its rotation and its seam are right.
-use Rattle.std.proofs.Common.{◌≡◌, ◌⊎◌, inl, inr, ℕ, ◌<◌, ◌≤◌, Bool, true, false, cond, not, ◌&&◌, ◌||◌, eqb, List, length, get_or, take, refl, sym, ◌∙◌, ap, ap₂, subst, count_by, arith, All}
+use Rattle.std.proofs.Common.{◌≡◌, ◌⊎◌, inl, inr, ℕ, ◌<◌, ◌≤◌, Bool, true, cond, not, ◌&&◌, ◌||◌, eqb, List, length, get_or, take, refl, sym, ◌∙◌, ap, ap₂, subst, count_by, arith}
 use Rattle.std.proofs.lemmas.Bool.{cases_order, false_from_ne_true, lt-ltb, true≢false}
 use Rattle.std.proofs.lemmas.List.{get_or-take, length-take}
 use Rattle.sg_sums.specs.Sets.{DifferByCount, holds}
@@ -21,11 +21,7 @@ misplaced-none allowed xs x good p = true≢false (sym p.misplaced ∙ good p.pl
 
 -- one entry is the first that is misplaced
 pub misplaced-one : (allowed : ℕ → Bool) (xs : List ℕ) (x y : ℕ) → IsFirstMisplaced allowed xs x → IsFirstMisplaced allowed xs y → x ≡ y
-misplaced-one allowed xs x y p q = elim (cases_order p.place q.place) [
-  | inl same ↦ sym p.entry ∙ ap (λ j. get_or xs j 0) same ∙ q.entry
-  | inr (inl less) ↦ absurd (true≢false (sym p.misplaced ∙ q.before p.place less))
-  | inr (inr more) ↦ absurd (true≢false (sym q.misplaced ∙ p.before q.place more))
-]
+misplaced-one allowed xs x y p q = grind arith
 
 -- allowed entries, none of which stands twice, are in place
 pub once-in_place : (allowed : ℕ → Bool) (xs : List ℕ) → ((j : ℕ) → j < length xs → allowed (get_or xs j 0) ≡ true) → DifferByCount xs →
@@ -50,12 +46,10 @@ right-in_place allowed xs right =
     (λ d. few (allowed d) (count_by (λ x. eqb x d) xs) (right d))
   where
     some : (a : Bool) (n : ℕ) → n ≡ cond a 1 0 → 1 ≤ n → a ≡ true
-    some true n e l = refl
-    some false n e l = absurd (omega (arith, e, l))
+    some a n same once = grind arith
 
     few : (a : Bool) (n : ℕ) → n ≡ cond a 1 0 → n ≤ 1
-    few true n e = omega (arith, e)
-    few false n e = omega (arith, e)
+    few a n h = grind arith
 
 -- what shows that the list of a spin is wrong
 abbrev pub IsShown : Ising → ℕ → ℕ → Type 0
@@ -71,20 +65,11 @@ shown-none inst spin dart right (inr least) =
     (count_in_place (is_dart_of inst spin) (darts_of inst spin) least.in_place dart)
   where
     never : (a h : Bool) (n : ℕ) → (a && not h) ≡ true → n ≡ cond a 1 0 → n ≡ cond h 1 0 → ⊥
-    never true true n m p q = true≢false (sym m)
-    never true false n m p q = omega (arith, p, q)
-    never false h n m p q = true≢false (sym m)
+    never a h n same other once = grind arith
 
 -- one dart shows it
 pub shown-one : (inst : Ising) (spin d e : ℕ) → IsShown inst spin d → IsShown inst spin e → d ≡ e
-shown-one inst spin d e (inl p) (inl q) = misplaced-one (is_dart_of inst spin) (darts_of inst spin) d e p q
-shown-one inst spin d e (inl p) (inr q) = absurd (misplaced-none (is_dart_of inst spin) (darts_of inst spin) d q.in_place p)
-shown-one inst spin d e (inr p) (inl q) = absurd (misplaced-none (is_dart_of inst spin) (darts_of inst spin) e p.in_place q)
-shown-one inst spin d e (inr p) (inr q) = elim (cases_order d e) [
-  | inl same ↦ same
-  | inr (inl less) ↦ absurd (true≢false (sym p.missing ∙ q.least d less))
-  | inr (inr more) ↦ absurd (true≢false (sym q.missing ∙ p.least e more))
-]
+shown-one inst spin d e p q = grind arith
 
 -- a rotation is not bad
 pub rotation-good : (inst : Ising) (spin dart : ℕ) → IsRotation inst → IsBadRotation inst spin dart → ⊥
@@ -112,9 +97,7 @@ abbrev pub OfSeam : Ising → Refusal → Type 0
 OfSeam inst r = (bond : ℕ) × (r ≡ BadSeam bond) × IsRotation inst × IsBadSeam inst bond
 
 pub refusal-cases : (inst : Ising) (r : Refusal) → IsRefusalOf inst r → OfRotation inst r ⊎ OfSeam inst r
-refusal-cases inst (BadRotation spin dart) h = inl (spin, dart, refl, h)
-refusal-cases inst (BadSeam bond) h = inr (bond, refl, h.0, h.1)
-refusal-cases inst _ h = absurd h
+refusal-cases inst r h = grind arith
 
 -- an instance whose rotation and seam are right is not refused
 pub refusal-none : (inst : Ising) (r : Refusal) → IsRotation inst → IsSeam inst → IsRefusalOf inst r → ⊥

@@ -1,5 +1,5 @@
 -- All spins turned: an assignment of the same energy.
-use Rattle.std.proofs.Common.{◌≡◌, ℕ, ◌<◌, inl, inr, ℤ, pos, neg_ℤ, ◌+ℤ◌, ◌*ℤ◌, List, [], ◌∷◌, map, length, refl, ap, ◌∙◌, arith, fold, All}
+use Rattle.std.proofs.Common.{◌≡◌, ℕ, ◌<◌, ℤ, pos, neg_ℤ, ◌+ℤ◌, ◌*ℤ◌, List, [], ◌∷◌, map, length, refl, ap, ◌∙◌, arith, fold, All}
 use Rattle.std.proofs.lemmas.List.{get_or-map, length-map}
 use Rattle.std.proofs.lemmas.List.Elements.{All-head, All-tail, All-map, All-weaker}
 use Rattle.sg_model.specs.declared.bond.Bond.{Bond}
@@ -16,14 +16,7 @@ pub spin-turned : (s : List ℤ) (i : ℕ) → i < length s → spin (turned s) 
 spin-turned s i h = get_or-map neg_ℤ s i (pos 1) (pos 1) h
 
 neg-up_or_down : (x : ℤ) → IsUpOrDown x → IsUpOrDown (neg_ℤ x)
-neg-up_or_down x (inl e) = inr (ap neg_ℤ e)
-neg-up_or_down x (inr e) = inl (ap neg_ℤ e)
-
-neg-product : (x y : ℤ) → IsUpOrDown x → IsUpOrDown y → neg_ℤ x *ℤ neg_ℤ y ≡ x *ℤ y
-neg-product x y (inl p) (inl q) = rw (p, q) refl
-neg-product x y (inl p) (inr q) = rw (p, q) refl
-neg-product x y (inr p) (inl q) = rw (p, q) refl
-neg-product x y (inr p) (inr q) = rw (p, q) refl
+neg-up_or_down x h = grind arith
 
 -- an assignment turned is one
 pub turned-assignment : (inst : Ising) (s : List ℤ) → IsAssignment inst s → IsAssignment inst (turned s)
@@ -33,11 +26,7 @@ turned-assignment inst s h = record {
 }
 
 product-turned : (inst : Ising) (s : List ℤ) → IsAssignment inst s → (b : Bond) → IsBond inst.n b → product (turned s) b ≡ product s b
-product-turned inst s h b joined =
-    let first : b.u < length s = omega (arith, joined.first_end, h.count) in
-    let second : b.v < length s = omega (arith, joined.second_end, h.count) in
-    rw (spin-turned s b.u first, spin-turned s b.v second)
-    (neg-product (spin s b.u) (spin s b.v) (h.values b.u (pos 1) first) (h.values b.v (pos 1) second))
+product-turned inst s h b joined = grind (arith, spin-turned)
 
 sum-turned : (inst : Ising) (s : List ℤ) → IsAssignment inst s → (total : ℤ) (bonds : List Bond) → All (IsBond inst.n) bonds →
     fold (λ total b. total +ℤ (b.j *ℤ product (turned s) b)) total bonds ≡ fold (λ total b. total +ℤ (b.j *ℤ product s b)) total bonds

@@ -9,11 +9,7 @@ use Rattle.sg_model.proofs.DartPairs.{dart_cases}
 module _ (inst : Ising) (set : ℕ → Bool) where
   -- to be joined is mutual
   pub joined_back : (a b : ℕ) → JoinedBy inst set a b → JoinedBy inst set b a
-  joined_back a b j = record { bond = j.bond; below = j.below; in_set = j.in_set; ends = turned j.ends }
-    where
-      turned : {P Q : Type 0} → P ⊎ Q → Q ⊎ P
-      turned (inl p) = inr p
-      turned (inr q) = inl q
+  joined_back a b j = grind arith
 
   -- one walk behind another
   pub walk_append : (path more : List ℕ) (a b c : ℕ) → IsWalk inst set a path b → IsWalk inst set b more c → IsWalk inst set a (path ++ more) c
@@ -50,32 +46,7 @@ module _ (inst : Ising) (set : ℕ → Bool) where
   joined_by_dart d l inside = by_dart (dart_cases d)
     where
       by_dart : ((k : ℕ) × ((d ≡ 2 * k) ⊎ (d ≡ 2 * k + 1))) → JoinedBy inst set (tail inst d) (head_of inst d)
-      by_dart (k, inl e) =
-          let half : k ≡ d / 2 = omega arith in
-          record {
-            bond = k;
-            below = omega arith;
-            in_set = ap set half ∙ inside;
-            ends =
-                inl (
-                  sym (tail_first inst k) ∙ ap (tail inst) (sym e),
-                  sym (tail_second inst k) ∙ ap (tail inst) (sym (rev_first k))
-                      ∙ ap (head_of inst) (sym e),
-                );
-          }
-      by_dart (k, inr e) =
-          let half : k ≡ d / 2 = omega arith in
-          record {
-            bond = k;
-            below = omega arith;
-            in_set = ap set half ∙ inside;
-            ends =
-                inr (
-                  sym (tail_first inst k) ∙ ap (tail inst) (sym (rev_second k)) ∙ ap (head_of inst) (sym e),
-                  sym (tail_second inst k)
-                      ∙ ap (tail inst) (sym e),
-                );
-          }
+      by_dart h = grind (arith, tail_first, tail_second, rev_first, rev_second)
 
   -- so it joins the spin with any that the dart leads to, whatever their names
   pub joined_along : (d a b : ℕ) → d < dart_count inst → set (d / 2) ≡ true → tail inst d ≡ a → b ≡ head_of inst d → JoinedBy inst set a b

@@ -1,7 +1,5 @@
 -- The least among the even codes is the least of all, since each assignment or its opposite has spin 0 up.
 use Rattle.std.proofs.Common.{◌≡◌, ℕ, suc, ◌+◌, ◌-◌, ◌*◌, ◌^◌, ◌<◌, ◌≤◌, inl, inr, ℤ, pos, neg_ℤ, ◌≤ℤ◌, ◌<ℤ◌, List, [], ◌∷◌, length, sym, ap, ◌∙◌, subst, arith, All}
-use Rattle.std.proofs.lemmas.Int.{ints}
-use Rattle.std.proofs.lemmas.Bool.{cases_eq}
 use Rattle.std.proofs.lemmas.List.Elements.{All-tail}
 use Rattle.sg_model.specs.Ising.{Ising}
 use Rattle.sg_model.specs.WellFormed.{IsInstance}
@@ -45,23 +43,14 @@ beats-all inst e good beats t h = elim (h.values 0 (pos 1) (omega (arith, h.coun
 -- the least of the even codes is a ground state
 pub ground_state : (inst : Ising) (half : ℕ) → IsInstance inst → BeatsHalves inst (energy inst (coded inst.n (2 * half))) →
     IsGroundState inst (coded inst.n (2 * half))
-ground_state inst half good beats = record {
-  assignment = record { count = coded-length inst.n (2 * half); values = coded-up_or_down inst.n (2 * half) };
-  least = beats-all inst (energy inst (coded inst.n (2 * half))) good beats;
-}
+ground_state inst half good beats = grind (arith, coded-length, coded-up_or_down, beats-all)
 
 -- a better one takes the place of the least so far
 pub beats-found : (f : ℕ → ℤ) (least here : ℤ) (half : ℕ) → here ≡ f half → here <ℤ least →
     ((k : ℕ) → k < half → least ≤ℤ f k) → (k : ℕ) → k < half + 1 → here ≤ℤ f k
-beats-found f least here half found better before k l = elim (cases_eq k half) [
-  | inl e ↦ let same : f k ≡ f half = ap f e in omega (arith, ints)
-  | inr ne ↦ let old : least ≤ℤ f k = before k (omega arith) in omega (arith, ints)
-]
+beats-found f least here half found better before k l = grind arith
 
 -- and one that is no better does not
 pub beats-kept : (f : ℕ → ℤ) (least here : ℤ) (half : ℕ) → here ≡ f half → least ≤ℤ here →
     ((k : ℕ) → k < half → least ≤ℤ f k) → (k : ℕ) → k < half + 1 → least ≤ℤ f k
-beats-kept f least here half found worse before k l = elim (cases_eq k half) [
-  | inl e ↦ let same : f k ≡ f half = ap f e in omega (arith, ints)
-  | inr ne ↦ before k (omega arith)
-]
+beats-kept f least here half found worse before k l = grind arith

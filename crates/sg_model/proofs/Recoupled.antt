@@ -1,8 +1,8 @@
 -- Bonds with other couplings, one after another.
-use Rattle.std.proofs.Common.{◌≡◌, ◌⊎◌, inl, inr, ℕ, ℤ, ◌+◌, ◌<◌, ◌^◌, Bool, true, false, cond, eqb, pos, List, [], ◌∷◌, ◌++◌, length, get_or, take, map, refl, sym, ◌∙◌, ap, ap₂, arith, All}
+use Rattle.std.proofs.Common.{◌≡◌, inl, inr, ℕ, ℤ, ◌+◌, ◌<◌, ◌^◌, Bool, cond, eqb, pos, List, [], ◌∷◌, ◌++◌, length, get_or, take, map, refl, sym, ◌∙◌, ap, ap₂, arith, All}
 use Rattle.std.specs.Prelude.{unsigned_abs}
 use Rattle.std.specs.List.{range_with_len}
-use Rattle.std.proofs.lemmas.Bool.{cases_lt, cases_eq, eq-eqb, ne_eqb}
+use Rattle.std.proofs.lemmas.Bool.{cases_lt}
 use Rattle.std.proofs.lemmas.Int.{ints}
 use Rattle.std.proofs.lemmas.List.{get_or_past, get_or-set_same, get_or-set_other, length-map, length-set, take_more}
 use Rattle.std.proofs.Math.ListN.{get_or-map}
@@ -30,42 +30,7 @@ module _ (inst : Ising) where
 
   -- the flipped bonds have the old ends
   pub flipped_ends : All (IsBond inst.n) inst.bonds → HasSameEnds inst (map (flipped_at inst) (range_with_len 0 (bond_count inst)))
-  flipped_ends joined = record {
-    count = long;
-    first = λ k. ends (λ b. b.u) (λ b. refl) k;
-    second = λ k. ends (λ b. b.v) (λ b. refl) k;
-    sizes = All-from_get_or (λ b. unsigned_abs b.j < 2 ^ 63) (map (flipped_at inst) (range_with_len 0 (bond_count inst))) no_bond sizes_at;
-  }
-    where
-      long : length (map (flipped_at inst) (range_with_len 0 (bond_count inst))) ≡ bond_count inst
-      long = length-map-range_with_len (flipped_at inst) 0 (bond_count inst)
-
-      at : (k : ℕ) → k < bond_count inst → get_or (map (flipped_at inst) (range_with_len 0 (bond_count inst))) k no_bond ≡ flipped_at inst k
-      at k l = get_or-map-range_with_len (flipped_at inst) 0 (bond_count inst) k k no_bond l (omega arith)
-
-      kept : (f : Bond → ℕ) → ((b : Bond) → f (opposite b) ≡ f b) → (t : Bool) (b : Bond) → f (cond t (opposite b) b) ≡ f b
-      kept f e true b = e b
-      kept f e false b = refl
-
-      ends : (f : Bond → ℕ) → ((b : Bond) → f (opposite b) ≡ f b) → (k : ℕ) →
-          f (get_or (map (flipped_at inst) (range_with_len 0 (bond_count inst))) k no_bond) ≡ f (bond_at inst k)
-      ends f e k = elim (cases_lt k (bond_count inst)) [
-        | inl l ↦ ap f (at k l) ∙ kept f e (holds inst.seam k) (bond_at inst k)
-        | inr past ↦ ap f (get_or_past (map (flipped_at inst) (range_with_len 0 (bond_count inst))) k no_bond (omega (arith, long))
-            ∙ sym (get_or_past inst.bonds k no_bond past))
-      ]
-
-      sized : (t : Bool) (b : Bond) → unsigned_abs b.j < 2 ^ 63 → unsigned_abs (cond t (opposite b) b).j < 2 ^ 63
-      sized true b h = size_opposite b h
-      sized false b h = h
-
-      sizes_at : (k : ℕ) → k < length (map (flipped_at inst) (range_with_len 0 (bond_count inst))) →
-          unsigned_abs (get_or (map (flipped_at inst) (range_with_len 0 (bond_count inst))) k no_bond).j < 2 ^ 63
-      sizes_at k b =
-          let l : k < bond_count inst = omega (arith, long) in
-          let h : unsigned_abs (cond (holds inst.seam k) (opposite (bond_at inst k)) (bond_at inst k)).j < 2 ^ 63 =
-          sized (holds inst.seam k) (bond_at inst k) (joined k no_bond l).size in
-          omega (arith, ap (λ (b : Bond). unsigned_abs b.j) (at k l))
+  flipped_ends joined = grind (arith, length-map-range_with_len, get_or-map-range_with_len, get_or_past)
 
   -- every sign is changed
   pub negated_ends : All (IsBond inst.n) inst.bonds → HasSameEnds inst (map opposite inst.bonds)
@@ -85,18 +50,7 @@ module _ (inst : Ising) where
 
     at : (k : ℕ) → k < bond_count inst → get_or (with_coupling inst bond z).bonds k no_bond ≡ cond (eqb k bond) (recoupled (bond_at inst k) z)
         (bond_at inst k)
-    at k l = by_case (cases_eq k bond)
-      where
-        by_case : (k ≡ bond) ⊎ (k ≡ bond → ⊥) →
-            get_or (with_coupling inst bond z).bonds k no_bond ≡ cond (eqb k bond) (recoupled (bond_at inst k) z) (bond_at inst k)
-        by_case (inl e) =
-            ap (λ i. get_or (with_coupling inst bond z).bonds i no_bond) e
-            ∙ get_or-set_same inst.bonds bond (recoupled (bond_at inst bond) z) no_bond within
-            ∙ ap (λ i. recoupled (bond_at inst i) z) (sym e)
-            ∙ sym (ap (λ t. cond t (recoupled (bond_at inst k) z) (bond_at inst k)) (eq-eqb k bond e))
-        by_case (inr ne) =
-            get_or-set_other inst.bonds bond k (recoupled (bond_at inst bond) z) no_bond ne
-            ∙ sym (ap (λ t. cond t (recoupled (bond_at inst k) z) (bond_at inst k)) (ne_eqb k bond ne))
+    at k l = grind (arith, get_or-set_same, get_or-set_other)
 
     -- one more bond of the instance with the other coupling
     pub coupling_step : (items : List Bond) (k : ℕ) → items ≡ inst.bonds → k < bond_count inst
@@ -118,8 +72,7 @@ module _ (inst : Ising) where
     }
       where
         kept : (f : Bond → ℕ) → ((b : Bond) → f (recoupled b z) ≡ f b) → (t : Bool) (b : Bond) → f (cond t (recoupled b z) b) ≡ f b
-        kept f e true b = e b
-        kept f e false b = refl
+        kept f h t b = grind arith
 
         ends : (f : Bond → ℕ) → ((b : Bond) → f (recoupled b z) ≡ f b) → (k : ℕ) →
             f (get_or (with_coupling inst bond z).bonds k no_bond) ≡ f (bond_at inst k)
@@ -129,8 +82,7 @@ module _ (inst : Ising) where
         ]
 
         sized : (t : Bool) (b : Bond) → unsigned_abs b.j < 2 ^ 63 → unsigned_abs (cond t (recoupled b z) b).j < 2 ^ 63
-        sized true b h = size
-        sized false b h = h
+        sized t b h = grind arith
 
         sizes_at : (k : ℕ) → k < length (with_coupling inst bond z).bonds → unsigned_abs (get_or (with_coupling inst bond z).bonds k no_bond).j < 2 ^ 63
         sizes_at k b =
@@ -162,11 +114,7 @@ module _ (inst : Ising) where
       where
         ends : (f : Bond → ℕ) → ((b : Bond) (z : ℤ) → f (recoupled b z) ≡ f b) → (k : ℕ) →
             f (get_or (coupled_bonds inst.bonds couplings) k no_bond) ≡ f (bond_at inst k)
-        ends f e k = elim (cases_lt k (bond_count inst)) [
-          | inl l ↦ ap f (coupled_at_place k l) ∙ e (bond_at inst k) (get_or couplings k (pos 0))
-          | inr past ↦ ap f (get_or_past (coupled_bonds inst.bonds couplings) k no_bond (omega (arith, all_long))
-              ∙ sym (get_or_past inst.bonds k no_bond past))
-        ]
+        ends f e k = grind (arith, cases_lt k (bond_count inst), coupled_at_place, get_or_past, all_long, e, inst.bonds)
 
         sizes_at : (k : ℕ) → k < length (coupled_bonds inst.bonds couplings) →
             unsigned_abs (get_or (coupled_bonds inst.bonds couplings) k no_bond).j < 2 ^ 63

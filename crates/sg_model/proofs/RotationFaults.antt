@@ -1,6 +1,6 @@
 -- What the marks on the darts and bonds say of the rotation and the seam.
-use Rattle.std.proofs.Common.{◌≡◌, ◌⊎◌, inl, inr, ℕ, ◌<◌, ◌≤◌, Bool, true, false, cond, not, ◌&&◌, eqb, List, length, get_or, refl, sym, ◌∙◌, subst, count_by, arith}
-use Rattle.std.proofs.lemmas.Bool.{and_from, not_from_false, ltb-true}
+use Rattle.std.proofs.Common.{◌≡◌, ◌⊎◌, inl, inr, ℕ, ◌<◌, ◌≤◌, Bool, true, cond, eqb, List, length, get_or, sym, ◌∙◌, subst, count_by, arith}
+use Rattle.std.proofs.lemmas.Bool.{ltb-true}
 use Rattle.std.proofs.lemmas.List.Elements.{All-from_get_or}
 use Rattle.sg_model.specs.Ising.{Ising, bond_count}
 use Rattle.sg_model.specs.Rotation.{IsRotation, darts_of, is_dart_of}
@@ -22,18 +22,7 @@ module _ (inst : Ising) (marked : List Bool) (stop : ℕ) (marks : MarksSpins in
 
   -- the least unmarked dart of a spin is the least that its list lacks
   pub least_missing : (spin dart : ℕ) → IsLeastUnmarked inst marked stop spin dart → IsLeastMissing inst spin dart
-  least_missing spin dart u = record {
-    in_place = marks.in_place spin u.before;
-    missing = and_from (is_dart_of inst spin dart) (not (holds (darts_of inst spin) dart)) u.is_dart
-        (not_from_false (holds (darts_of inst spin) dart) (sym (marks.marks spin u.before dart u.is_dart) ∙ u.unmarked));
-    least = λ e l. none (is_dart_of inst spin e) (holds (darts_of inst spin) e)
-        (λ (h : is_dart_of inst spin e ≡ true). sym (marks.marks spin u.before e h) ∙ u.least e l h);
-  }
-    where
-      none : (a h : Bool) → (a ≡ true → h ≡ true) → (a && not h) ≡ false
-      none true true f = refl
-      none true false f = sym (f refl)
-      none false h f = refl
+  least_missing spin dart u = grind arith
 
   -- a misplaced dart, or one that is not marked, shows a bad rotation
   pub bad_rotation : (first spin dart : ℕ) → AllMarked inst marked spin →
@@ -54,11 +43,7 @@ module _ (inst : Ising) (marked : List Bool) (stop : ℕ) (marks : MarksSpins in
   -- where all darts are marked it is a rotation
   pub rotation_marked : (first spin dart : ℕ) → length inst.rotation ≡ inst.n → stop ≤ inst.n → AllMarked inst marked spin
       → ((spin ≡ stop) × (dart ≡ first)) ⊎ IsLeastUnmarked inst marked stop spin dart → inst.n ≤ spin → IsRotation inst
-  rotation_marked first spin dart lists within all (inl same) l = record {
-    lists = lists;
-    each_once = λ i d b. each_once_before spin (omega (arith, same.0)) all i d (omega arith);
-  }
-  rotation_marked first spin dart lists within all (inr least) l = absurd (omega (arith, least.before))
+  rotation_marked first spin dart lists few all stopped past = grind (arith, each_once_before)
 
 -- a seam without misplaced entries
 pub seam_in_place : (inst : Ising) → IsInPlace (is_bond inst) inst.seam → IsSeam inst
@@ -70,5 +55,4 @@ seam_in_place inst good = record {
 }
   where
     once : (h : Bool) (n : ℕ) → n ≡ cond h 1 0 → n ≤ 1
-    once true n e = omega arith
-    once false n e = omega arith
+    once h n same = grind arith

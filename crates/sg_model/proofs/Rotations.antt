@@ -1,8 +1,8 @@
 -- The darts of a rotation: each stands in the list of the spin that it leaves, and `next` is one-to-one.
-use Rattle.std.proofs.Common.{pos, inl, inr, ap₂, subst, ◌≡◌, ◌⊎◌, ℕ, ◌+◌, ◌*◌, ◌%◌, ◌<◌, ◌≤◌, Bool, true, false, cond, eqb, ltb, refl, sym, ◌∙◌, ap, arith, length, get_or, count_by}
+use Rattle.std.proofs.Common.{ap₂, subst, ◌≡◌, ◌⊎◌, ℕ, ◌+◌, ◌*◌, ◌%◌, ◌<◌, ◌≤◌, Bool, true, cond, eqb, ltb, refl, sym, ◌∙◌, ap, arith, length, get_or, count_by}
 use Rattle.std.proofs.Math.Nat.{mod-lt}
 use Rattle.std.proofs.lemmas.Bool.{eq-eqb, eqb-true, ltb-true, lt-ltb, and_parts, and_from}
-use Rattle.sg_model.specs.Ising.{Ising, IsBond, bond_at}
+use Rattle.sg_model.specs.Ising.{Ising}
 use Rattle.sg_model.specs.Rotation.{dart_count, rev, tail, head_of, is_dart_of, darts_of, following, next}
 use Rattle.sg_sums.specs.Sets.{DifferByCount}
 use Rattle.sg_model.specs.WellFormed.{IsInstance}
@@ -12,19 +12,14 @@ use Rattle.sg_model.proofs.CyclicLists.{following_at, following_apart, place_fro
 
 module _ (inst : Ising) (good : IsInstance inst) where
   one_or_none : (b : Bool) (n : ℕ) → n ≡ cond b 1 0 → n ≤ 1
-  one_or_none true n e = omega arith
-  one_or_none false n e = omega arith
+  one_or_none b n h = grind arith
 
   -- no dart stands twice in the list of its spin
   pub spin_distinct : (i : ℕ) → i < inst.n → DifferByCount (darts_of inst i)
   spin_distinct i l x = one_or_none (is_dart_of inst i x) (count_by (λ y. eqb y x) (darts_of inst i)) (good.rotation.each_once i x l)
 
   is_dart_from : (i d : ℕ) → i < inst.n → 1 ≤ count_by (λ x. eqb x d) (darts_of inst i) → is_dart_of inst i d ≡ true
-  is_dart_from i d l h = back (is_dart_of inst i d) (count_by (λ x. eqb x d) (darts_of inst i)) (good.rotation.each_once i d l) h
-    where
-      back : (b : Bool) (n : ℕ) → n ≡ cond b 1 0 → 1 ≤ n → b ≡ true
-      back true n e h = refl
-      back false n e h = absurd (omega arith)
+  is_dart_from i d l h = grind arith
 
   -- what stands in the list of spin i is a dart that leaves it
   pub in_list : (i j : ℕ) → i < inst.n → j < length (darts_of inst i) →
@@ -40,12 +35,7 @@ module _ (inst : Ising) (good : IsInstance inst) where
   tail_below d l = by_dart (dart_cases d)
     where
       by_dart : ((k : ℕ) × ((d ≡ 2 * k) ⊎ (d ≡ 2 * k + 1))) → tail inst d < inst.n
-      by_dart (k, inl e) =
-          let w : IsBond inst.n (bond_at inst k) = good.draft.joined k (record { u = 0; v = 0; j = pos 0 }) (omega arith) in
-          let t : tail inst d ≡ (bond_at inst k).u = ap (tail inst) e ∙ tail_first inst k in omega (arith, t, w.first_end)
-      by_dart (k, inr e) =
-          let w : IsBond inst.n (bond_at inst k) = good.draft.joined k (record { u = 0; v = 0; j = pos 0 }) (omega arith) in
-          let t : tail inst d ≡ (bond_at inst k).v = ap (tail inst) e ∙ tail_second inst k in omega (arith, t, w.second_end)
+      by_dart h = grind (arith, tail_first, tail_second)
 
   -- and each dart stands in the list of the spin that it leaves
   pub place_of : (d : ℕ) → d < dart_count inst → (j : ℕ) × (j < length (darts_of inst (tail inst d))) × (get_or (darts_of inst (tail inst d))

@@ -1,9 +1,8 @@
 -- Other couplings on the same bonds leave an instance well formed.
-use Rattle.std.proofs.Common.{◌≡◌, inl, inr, ℕ, ◌*◌, ◌/◌, ◌%◌, ◌<◌, cond, ◌&&◌, eqb, ltb, pos, List, length, get_or, sym, ◌∙◌, ap, ap₂, arith}
-use Rattle.std.proofs.lemmas.Bool.{cases_eq}
+use Rattle.std.proofs.Common.{◌≡◌, ℕ, ◌*◌, ◌<◌, cond, ◌&&◌, eqb, ltb, pos, List, length, get_or, sym, ◌∙◌, ap, ap₂, arith}
 use Rattle.std.proofs.lemmas.List.Elements.{All-from_get_or}
 use Rattle.sg_model.specs.declared.bond.Bond.{Bond}
-use Rattle.sg_model.specs.Ising.{Ising, IsBond, bond_at}
+use Rattle.sg_model.specs.Ising.{Ising, IsBond}
 use Rattle.sg_model.specs.Rotation.{is_dart_of, tail}
 use Rattle.sg_model.specs.WellFormed.{IsInstance}
 use Rattle.sg_model.specs.Changes.{HasSameEnds, with_bonds}
@@ -12,10 +11,7 @@ use Rattle.sg_model.proofs.Darts.{tail_even, tail_odd}
 module _ (inst : Ising) (bonds : List Bond) (same : HasSameEnds inst bonds) where
   -- other couplings leave the tails
   pub tail_same : (d : ℕ) → tail (with_bonds inst bonds) d ≡ tail inst d
-  tail_same d = elim (cases_eq (d % 2) 0) [
-    | inl even ↦ tail_even (with_bonds inst bonds) d even ∙ same.first (d / 2) ∙ sym (tail_even inst d even)
-    | inr odd ↦ tail_odd (with_bonds inst bonds) d odd ∙ same.second (d / 2) ∙ sym (tail_odd inst d odd)
-  ]
+  tail_same d = grind (arith, tail_even, tail_odd)
 
   is_dart_same : (i d : ℕ) → is_dart_of (with_bonds inst bonds) i d ≡ is_dart_of inst i d
   is_dart_same i d = ap₂ (λ m t. ltb d (2 * m) && eqb t i) same.count (tail_same d)
@@ -41,11 +37,4 @@ module _ (inst : Ising) (bonds : List Bond) (same : HasSameEnds inst bonds) wher
   }
     where
       joined_at : (k : ℕ) → k < length bonds → IsBond inst.n (get_or bonds k (record { u = 0; v = 0; j = pos 0 }))
-      joined_at k b =
-          let was : IsBond inst.n (bond_at inst k) = good.draft.joined k (record { u = 0; v = 0; j = pos 0 }) (omega (arith, same.count)) in
-          record {
-            first_end = omega (arith, was.first_end, same.first k);
-            second_end = omega (arith, was.second_end, same.second k);
-            ends_differ = λ e. was.ends_differ (sym (same.first k) ∙ e ∙ same.second k);
-            size = same.sizes k (record { u = 0; v = 0; j = pos 0 }) b;
-          }
+      joined_at k b = grind arith

@@ -1,20 +1,14 @@
 -- Other couplings on the same bonds leave the paths and the components as they are.
-use Rattle.std.proofs.Common.{⊎_elim, inl, inr, ◌≡◌, ℕ, ◌<◌, Bool, List, [], ◌∷◌, sym, ◌∙◌, arith}
+use Rattle.std.proofs.Common.{ℕ, ◌<◌, Bool, List, [], ◌∷◌, arith}
 use Rattle.sg_model.specs.declared.bond.Bond.{Bond}
-use Rattle.sg_model.specs.Ising.{Ising, bond_at}
+use Rattle.sg_model.specs.Ising.{Ising}
 use Rattle.sg_model.specs.WellFormed.{IsInstance}
 use Rattle.sg_model.specs.Connected.{AreLeasts, IsLeastReached, IsWalk, JoinedBy, Reached, all_bonds}
 use Rattle.sg_model.specs.Changes.{HasSameEnds, with_bonds}
 
 module _ (inst : Ising) (bonds : List Bond) (same : HasSameEnds inst bonds) where
   joined_same : (set : ℕ → Bool) (a b : ℕ) → JoinedBy inst set a b → JoinedBy (with_bonds inst bonds) set a b
-  joined_same set a b j = record {
-    bond = j.bond;
-    below = omega (arith, j.below, same.count);
-    in_set = j.in_set;
-    ends = ⊎_elim (λ (e : ((bond_at inst j.bond).u ≡ a) × ((bond_at inst j.bond).v ≡ b)). inl (same.first j.bond ∙ e.0, same.second j.bond ∙ e.1))
-        (λ (e : ((bond_at inst j.bond).u ≡ b) × ((bond_at inst j.bond).v ≡ a)). inr (same.first j.bond ∙ e.0, same.second j.bond ∙ e.1)) j.ends;
-  }
+  joined_same set a b j = grind arith
 
   walk_same : (set : ℕ → Bool) (path : List ℕ) (a b : ℕ) → IsWalk inst set a path b → IsWalk (with_bonds inst bonds) set a path b
   walk_same set [] a b w = w
@@ -26,12 +20,7 @@ module _ (inst : Ising) (bonds : List Bond) (same : HasSameEnds inst bonds) wher
 
 -- the old bonds have the ends of the new ones
 pub ends_back : (inst : Ising) (bonds : List Bond) → HasSameEnds inst bonds → IsInstance inst → HasSameEnds (with_bonds inst bonds) inst.bonds
-ends_back inst bonds same good = record {
-  count = sym same.count;
-  first = λ k. sym (same.first k);
-  second = λ k. sym (same.second k);
-  sizes = λ k d l. (good.draft.joined k d l).size;
-}
+ends_back inst bonds same good = grind arith
 
 -- and the least spins of the components
 pub leasts_same : (inst : Ising) (bonds : List Bond) → HasSameEnds inst bonds → IsInstance inst → (leasts : List ℕ) → AreLeasts inst leasts

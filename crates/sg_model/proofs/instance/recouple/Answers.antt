@@ -14,6 +14,6 @@ returns c =
     let couplings = c.args.couplings.now in
     let count = length-map-range_with_len (coupled_at old couplings) 0 (length old) in
     ext_get_or no_bond c.loop-k.bonds (coupled_bonds old couplings) (c.loop-k.invariant.count ∙ sym count)
-    (λ i l. let low : i < length old = omega (arith, l, c.loop-k.invariant.count) in
-    c.loop-k.invariant.done i (omega (arith, low, c.loop-k-test.false, c.requires))
+    (λ i l. let low : i < length old = omega arith in
+    c.loop-k.invariant.done i (omega arith)
     ∙ sym (get_or-map-range_with_len (coupled_at old couplings) 0 (length old) i i no_bond low (omega arith)))

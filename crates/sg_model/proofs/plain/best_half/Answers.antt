@@ -16,20 +16,20 @@ loop-half-preserved c =
     let written = c.assign-in-loop-half.ensures.value ∙ ap (λ n. coded n (2 * half)) c.loop-half.invariant.count in
     let here : to_z w128 (of_z w128 c.energy-energy.result) ≡ f half =
     to_z-of_z w128 _ (record { sfits = c.energy-energy.type_inv }) ∙ c.energy-energy.ensures ∙ ap (energy inst) written in
-    let few : 2 ^ (c.n.result - 1) ≤ 2 ^ 15 = pow_mono {i = c.n.result - 1} {j = 15} (omega (arith, c.requires.few, c.n.ensures.value)) in
+    let few : 2 ^ (c.n.result - 1) ≤ 2 ^ 15 = pow_mono {i = c.n.result - 1} {j = 15} (omega arith) in
     let count = c.assign-in-loop-half.ensures.count ∙ c.loop-half.invariant.count in
     elim c.if-energy-least.branch [
       | then-energy-least w ↦ record {
         count = count;
         found = w.least-is ∙ here ∙ ap f (sym w.best-is);
-        size = omega (arith, c.pow-half-end.ensures);
-        below = λ k l. subst (λ x. x ≤ℤ f k) (sym w.least-is) (beats-found f (to_z w128 c.loop-half.least-bits) _ half here (grind (arith, ints))
+        size = omega arith;
+        below = λ k l. subst (λ x. x ≤ℤ f k) (sym w.least-is) (beats-found f (to_z w128 c.loop-half.least-bits) _ half here (grind arith)
             c.loop-half.invariant.below k l);
       }
       | else-energy-least w ↦ record {
         count = count;
         found = w.least-is ∙ c.loop-half.invariant.found ∙ ap f (sym w.best-is);
-        size = omega (arith, c.loop-half.invariant.size);
+        size = omega arith;
         below = λ k l. subst (λ x. x ≤ℤ f k) (sym w.least-is) (beats-kept f (to_z w128 c.loop-half.least-bits) _ half here (omega (arith, ints))
             c.loop-half.invariant.below k l);
       }

@@ -12,6 +12,6 @@ with_bonds-requires c =
     let inst = c.args.self.now in
     let good = subst IsInstance c.self.view_is c.self.invariant in
     let items = c.as_slice-bond-items.ensures ∙ ap (λ i. i.bonds) c.self.view_is in
-    let done : bond_count inst ≤ c.loop-bond.bond-index = omega (arith, ap (length {A = Bond}) items, c.loop-bond-test.false) in
+    let done : bond_count inst ≤ c.loop-bond.bond-index = omega (arith, ap (length {A = Bond}) items) in
     subst (HasSameEnds inst) (sym (c.loop-bond.invariant ∙ ap (map opposite) (take_all c.loop-bond.bond-index inst.bonds done)))
     (negated_ends inst good.draft.joined)
