@@ -1,7 +1,7 @@
 -- Spins without a bond: a spin has no darts exactly where no bond ends at it, and in a connected instance with a bond there is none.
 use Rattle.std.proofs.Common.{inl, inr, ◌≡◌, ◌≢◌, ◌⊎◌, ℕ, ◌+◌, ◌*◌, ◌<◌, ◌≤◌, Bool, true, false, not, ◌||◌, cond, eqb, pos, List, [], ◌∷◌, length, get_or, count_by, refl, sym, ◌∙◌, ap, ap₂, eq-eqb, arith}
 use Rattle.std.specs.List.{range_with_len}
-use Rattle.std.proofs.lemmas.Bool.{cases_eq, cases_lt, ne_eqb, or_left, or_right}
+use Rattle.std.proofs.lemmas.Bool.{cases_eq, cases_lt, ne_eqb}
 use Rattle.std.proofs.lemmas.List.Folds.{list_all_at}
 use Rattle.std.proofs.lemmas.List.Sums.{list_all-from_AllPass, count_by-le-length}
 use Rattle.std.proofs.lemmas.List.Elements.{All-from_get_or}
@@ -25,10 +25,7 @@ use Rattle.sg_faces.specs.Faces.{bare_count, face_count, faces_before, is_bare}
 
 -- tests that agree below n pass the same number below n
 counted_same : (p q : ℕ → Bool) (n : ℕ) → ((k : ℕ) → k < n → p k ≡ q k) → count_by p (range_with_len 0 n) ≡ count_by q (range_with_len 0 n)
-counted_same p q n h =
-    sum_by_range (λ k. cond (p k) 1 0) n
-    ∙ sum_below-same (λ k. cond (p k) 1 0) (λ k. cond (q k) 1 0) n (λ k l. ap (λ b. cond {A = ℕ} b 1 0) (h k l))
-    ∙ sym (sum_by_range (λ k. cond (q k) 1 0) n)
+counted_same p q n h = grind (arith, sum_by_range, sum_below-same)
 
 counted_none : (n : ℕ) → count_by (λ _. false) (range_with_len 0 n) ≡ 0
 counted_none n = sum_by-zero (λ k. cond false 1 0) (range_with_len 0 n) (λ k. refl)
@@ -43,11 +40,7 @@ module _ (inst : Ising) where
 
   -- a bond ends at the spin
   pub not_bare : (i k : ℕ) → k < bond_count inst → (((bond_at inst k).u ≡ i) ⊎ ((bond_at inst k).v ≡ i)) → is_bare inst i ≡ false
-  not_bare i k l e = list_all_at (misses i) inst.bonds k (record { u = 0; v = 0; j = pos 0 }) l (ap not (meets e))
-    where
-      meets : (((bond_at inst k).u ≡ i) ⊎ ((bond_at inst k).v ≡ i)) → (eqb (bond_at inst k).u i || eqb (bond_at inst k).v i) ≡ true
-      meets (inl u) = or_left (eqb (bond_at inst k).u i) (eqb (bond_at inst k).v i) (eq-eqb (bond_at inst k).u i u)
-      meets (inr v) = or_right (eqb (bond_at inst k).u i) (eqb (bond_at inst k).v i) (eq-eqb (bond_at inst k).v i v)
+  not_bare i k l e = grind (arith, list_all_at)
 
   -- no bond ends at the spin
   pub all_miss : (i : ℕ) → ((k : ℕ) → k < bond_count inst → ((bond_at inst k).u ≢ i) × ((bond_at inst k).v ≢ i)) → is_bare inst i ≡ true
@@ -57,10 +50,7 @@ module _ (inst : Ising) where
       (λ k l. ap₂ (λ a b. not (a || b)) (ne_eqb (bond_at inst k).u i (h k l).0) (ne_eqb (bond_at inst k).v i (h k l).1)))
 
   joined_not_bare : (set : ℕ → Bool) (i c : ℕ) → JoinedBy inst set i c → is_bare inst i ≡ false
-  joined_not_bare set i c j = elim j.ends [
-    | inl e ↦ not_bare i j.bond j.below (inl e.0)
-    | inr e ↦ not_bare i j.bond j.below (inr e.1)
-  ]
+  joined_not_bare set i c j = grind (arith, not_bare)
 
   -- a spin that reaches another one has a bond
   reaching_not_bare : (set : ℕ → Bool) (i c : ℕ) → i ≢ c → Reached inst set i c → is_bare inst i ≡ false
@@ -73,12 +63,7 @@ module _ (inst : Ising) where
 
   -- without a bond all spins are bare, and there is no dart
   pub faces_alone : bond_count inst ≡ 0 → face_count inst ≡ inst.n
-  faces_alone none =
-      let darts : dart_count inst ≡ 0 = omega (arith, none) in
-      let no_face : faces_before inst (dart_count inst) ≡ 0 = ap (faces_before inst) darts in
-      let bare : bare_count inst ≡ inst.n = counted_same (is_bare inst) (λ _. true) inst.n
-      (λ i l. all_miss i (λ k b. absurd (omega (arith, none, b)))) ∙ counted_all inst.n in
-      omega (arith, no_face, bare)
+  faces_alone none = grind (arith, all_miss, counted_all)
 
   module _ (good : IsInstance inst) where
     -- a spin is bare where its list of darts is empty

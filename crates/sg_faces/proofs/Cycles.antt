@@ -1,8 +1,8 @@
 -- A one-to-one map of the numbers below k into themselves has only cycles: each number comes back, within k steps.
-use Rattle.std.proofs.Common.{inl, inr, ⊎_elim, ◌≡◌, ◌≢◌, ◌⊎◌, ℕ, zero, suc, ◌+◌, ◌-◌, ◌*◌, ◌/◌, ◌%◌, ◌<◌, ◌≤◌, ◌↔◌, true, cond, eqb, leb, refl, sym, ◌∙◌, ap, arith, get_or}
+use Rattle.std.proofs.Common.{inr, ◌≡◌, ◌≢◌, ◌⊎◌, ℕ, zero, suc, ◌+◌, ◌-◌, ◌*◌, ◌/◌, ◌%◌, ◌<◌, ◌≤◌, ◌↔◌, true, cond, eqb, leb, refl, sym, ◌∙◌, ap, arith, get_or}
 use Rattle.std.specs.List.{range_with_len, list_all}
 use Rattle.std.proofs.Math.Nat.{mod-lt}
-use Rattle.std.proofs.lemmas.Bool.{cases_eq, eq-eqb, ne_eqb, le-leb, leb-true}
+use Rattle.std.proofs.lemmas.Bool.{cases_eq, le-leb, leb-true}
 use Rattle.std.proofs.lemmas.List.FromFn.{length-range_with_len, get_or-range_with_len}
 use Rattle.std.proofs.lemmas.List.Recursion.{and_at}
 use Rattle.std.proofs.lemmas.List.Sums.{list_all-from_AllPass}
@@ -19,15 +19,7 @@ pub record Repeats (g : ℕ → ℕ) (n : ℕ) : Type 0 where
 -- one of the first n values of g is x, or none is
 find : (g : ℕ → ℕ) (x n : ℕ) → ((i : ℕ) × (i < n) × (g i ≡ x)) ⊎ ((i : ℕ) → i < n → g i ≢ x)
 find g x zero = inr (λ i l. absurd (omega arith))
-find g x (suc n) = elim (cases_eq (g n) x) [
-  | inl e ↦ inl (n, omega arith, e)
-  | inr ne ↦
-      ⊎_elim (λ (f : (i : ℕ) × (i < n) × (g i ≡ x)). inl (f.0, omega (arith, f.1), f.2))
-      (λ (f : (i : ℕ) → i < n → g i ≢ x). inr (λ i l. more ne f i l)) (find g x n)
-]
-  where
-    more : g n ≢ x → ((i : ℕ) → i < n → g i ≢ x) → (i : ℕ) → i < suc n → g i ≢ x
-    more ne f i l = elim (cases_eq i n) [ inl e ↦ λ (z : g i ≡ x). ne (ap g (sym e) ∙ z) | inr d ↦ f i (omega arith) ]
+find g x (suc n) = grind (arith, cases_eq (g n) x, find g x n)
 
 -- more than k numbers below k are not all different (the pigeonhole principle)
 pub pigeonhole : (k : ℕ) (g : ℕ → ℕ) → ((i : ℕ) → i < k + 1 → g i < k) → Repeats g (k + 1)
@@ -40,33 +32,7 @@ pigeonhole (suc k) g low = by_last (find g (g (suc k)) (suc k)) (pigeonhole k mo
 
     by_last : ((i : ℕ) × (i < suc k) × (g i ≡ g (suc k))) ⊎ ((i : ℕ) → i < suc k → g i ≢ g (suc k)) →
         (((i : ℕ) → i < k + 1 → moved i < k) → Repeats moved (k + 1)) → Repeats g (suc k + 1)
-    by_last (inl f) again = record { first = f.0; second = suc k; before = f.1; below = omega arith; equal = f.2 }
-    by_last (inr f) again =
-        let r : Repeats moved (k + 1) = again low' in
-        record {
-          first = r.first;
-          second = r.second;
-          before = r.before;
-          below = omega (arith, r.below);
-          equal = back r.first r.second
-              (omega (arith, r.before, r.below)) (omega (arith, r.below)) r.equal;
-        }
-      where
-        low' : (i : ℕ) → i < k + 1 → moved i < k
-        low' i l = elim (cases_eq (g i) k) [
-          | inl e ↦ (let ne : g i ≢ g (suc k) = f i (omega arith) in let b : g (suc k) < suc k = low (suc k) (omega arith) in rw (eq-eqb (g i) k e)
-              (omega arith))
-          | inr ne ↦ (let b : g i < suc k = low i (omega arith) in rw (ne_eqb (g i) k ne) (omega arith))
-        ]
-
-        back : (i j : ℕ) → i < suc k → j < suc k → moved i ≡ moved j → g i ≡ g j
-        back i j a b e = by_cases (cases_eq (g i) k) (cases_eq (g j) k)
-          where
-            by_cases : ((g i ≡ k) ⊎ (g i ≢ k)) → ((g j ≡ k) ⊎ (g j ≢ k)) → g i ≡ g j
-            by_cases (inl p) (inl q) = p ∙ sym q
-            by_cases (inl p) (inr q) = let z : g (suc k) ≡ g j = rw (eq-eqb (g i) k p, ne_eqb (g j) k q) at e in absurd (f j b (sym z))
-            by_cases (inr p) (inl q) = let z : g i ≡ g (suc k) = rw (ne_eqb (g i) k p, eq-eqb (g j) k q) at e in absurd (f i a z)
-            by_cases (inr p) (inr q) = let z : g i ≡ g j = rw (ne_eqb (g i) k p, ne_eqb (g j) k q) at e in z
+    by_last here before = grind arith
 
 -- steps behind steps
 pub steps_add : (f : ℕ → ℕ) (i j d : ℕ) → after_steps f i (after_steps f j d) ≡ after_steps f (i + j) d
@@ -102,18 +68,16 @@ module _ (f : ℕ → ℕ) (k : ℕ) (move : IsOneToOne f k) where
   -- whole rounds lead nowhere
   rounds : (p d : ℕ) → after_steps f p d ≡ d → (q : ℕ) → after_steps f (p * q) d ≡ d
   rounds p d e zero = let z : p * 0 ≡ 0 = omega arith in ap (λ n. after_steps f n d) z
-  rounds p d e (suc q) =
-      let z : p * suc q ≡ p + p * q = omega arith in
-      ap (λ n. after_steps f n d) z ∙ sym (steps_add f p (p * q) d) ∙ ap (after_steps f p) (rounds p d e q) ∙ e
+  rounds p d e (suc q) = grind (arith, rounds p d e q, steps_add)
 
   -- fewer than k steps lead to each number of an orbit
   pub short_way : (j d : ℕ) → d < k → (i : ℕ) × (i < k) × (after_steps f i d ≡ after_steps f j d)
   short_way j d l =
       let c : (p : ℕ) × (0 < p) × (p ≤ k) × (after_steps f p d ≡ d) = cycle d l in
       let low : j % c.0 < c.0 = mod-lt j c.1 in
-      let whole : j ≡ j % c.0 + c.0 * (j / c.0) = omega (arith, c.1) in (
+      let whole : j ≡ j % c.0 + c.0 * (j / c.0) = omega arith in (
         j % c.0,
-        omega (arith, low, c.2),
+        omega arith,
         sym (ap (λ n. after_steps f n d) whole ∙ sym (steps_add f (j % c.0) (c.0 * (j / c.0)) d)
             ∙ ap (after_steps f (j % c.0)) (rounds c.0 d c.3 (j / c.0))),
       )
@@ -123,8 +87,8 @@ module _ (f : ℕ → ℕ) (k : ℕ) (move : IsOneToOne f k) where
   way_back j d l =
       let w : (i : ℕ) × (i < k) × (after_steps f i d ≡ after_steps f j d) = short_way j d l in
       let c : (p : ℕ) × (0 < p) × (p ≤ k) × (after_steps f p d ≡ d) = cycle d l in
-      let s : SameOrbit f (after_steps f (j % c.0) d) d = rest c.0 (j % c.0) (omega (arith, mod-lt j c.1)) c.3 in
-      let whole : j ≡ j % c.0 + c.0 * (j / c.0) = omega (arith, c.1) in
+      let s : SameOrbit f (after_steps f (j % c.0) d) d = rest c.0 (j % c.0) (omega arith) c.3 in
+      let whole : j ≡ j % c.0 + c.0 * (j / c.0) = omega arith in
       let e : after_steps f j d ≡ after_steps f (j % c.0) d =
       ap (λ n. after_steps f n d) whole ∙ sym (steps_add f (j % c.0) (c.0 * (j / c.0)) d) ∙ ap (after_steps f (j % c.0)) (rounds c.0 d c.3 (j / c.0)) in
       (s.0, ap (after_steps f s.0) e ∙ s.1)

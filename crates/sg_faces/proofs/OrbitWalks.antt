@@ -1,7 +1,7 @@
 -- A walk along one orbit that gives labels, until it meets one; and the labels of all orbits, in the order of their least places.
 use Rattle.std.proofs.Common.{inl, inr, ◌≡◌, ◌≢◌, ℕ, zero, suc, ◌+◌, ◌<◌, ◌≤◌, sum_by, Bool, true, false, cond, eqb, List, set, refl, sym, ◌∙◌, ap, arith, length, get_or, count_by}
 use Rattle.std.specs.List.{range_with_len}
-use Rattle.std.proofs.lemmas.Bool.{eq-eqb, ne_eqb, cases_eq, cases_lt, false_from_ne_true}
+use Rattle.std.proofs.lemmas.Bool.{cases_eq, cases_lt, false_from_ne_true}
 use Rattle.std.proofs.lemmas.List.{map-id, length-set, get_or-set_same, get_or-set_other}
 use Rattle.std.proofs.lemmas.List.FromFn.{length-range_with_len, sum_by-map-range_with_len_more}
 use Rattle.std.proofs.lemmas.List.Sums.{sum_by-set, count_by-le-length}
@@ -37,13 +37,7 @@ module _ (table old labels : List ℕ) (start label at : ℕ) (move : IsMove tab
 
   -- one place more has a label
   pub one_less : left_over (set labels at label) + 1 ≡ left_over labels
-  one_less =
-      let s : left_over (set labels at label) + cond (eqb (get_or labels at 0) unlabelled) 1 0 ≡ left_over labels + cond (eqb label unlabelled) 1 0 =
-      sum_by-set (λ x. cond (eqb x unlabelled) 1 0) labels at label 0 in_labels in
-      let one : cond {A = ℕ} (eqb (get_or labels at 0) unlabelled) 1 0 ≡ 1 = ap (λ b. cond b 1 0) (eq-eqb (get_or labels at 0) unlabelled free) in
-      let none : cond {A = ℕ} (eqb label unlabelled) 1 0 ≡ 0 =
-      ap (λ b. cond b 1 0) (ne_eqb label unlabelled (λ (e : label ≡ unlabelled). omega arith)) in
-      omega arith
+  one_less = grind (arith, sum_by-set)
 
   -- the place has the label, and the walk goes on to the next
   pub walking_more : Walking table old (set labels at label) start label (get_or table at 0)
@@ -59,11 +53,7 @@ module _ (table old labels : List ℕ) (start label at : ℕ) (move : IsMove tab
     where
       fresh' : (x : ℕ) → x < length table → HasLabel (set labels at label) x → get_or old x 0 ≡ unlabelled →
           (i : ℕ) × (i < suc w.taken) × (moves table i start ≡ x)
-      fresh' x b h u = elim (cases_eq x at) [
-        | inl e ↦ (w.taken, omega arith, w.at_is ∙ sym e)
-        | inr ne ↦ let f : (i : ℕ) × (i < w.taken) × (moves table i start ≡ x) =
-            w.fresh x b (λ z. h (other x ne ∙ z)) u in (f.0, omega (arith, f.1), f.2)
-      ]
+      fresh' x b h u = grind (arith, other)
 
       given' : (i : ℕ) → i < suc w.taken → get_or (set labels at label) (moves table i start) 0 ≡ label
       given' i b = elim (cases_eq (moves table i start) at) [
@@ -172,19 +162,7 @@ module _ (table old labels : List ℕ) (start label at : ℕ) (move : IsMove tab
 
 -- a place that has a label is passed over
 pub later_limit : (table labels : List ℕ) (at : ℕ) → LabelsOrbits table labels at → HasLabel labels at → LabelsOrbits table labels (at + 1)
-later_limit table labels at h has = record {
-  lengths = h.lengths;
-  onward = h.onward;
-  root = λ d b t. (let r : Root table at d (get_or labels d 0) = h.root d b t in record {
-    first = r.first;
-    first_below = r.first_below;
-    early = omega (arith, r.early);
-    least = r.least;
-    same = r.same;
-    rank = r.rank;
-  });
-  earlier = λ d b. elim (cases_eq d at) [ inl s ↦ λ z. has (ap (λ x. get_or labels x 0) (sym s) ∙ z) | inr ne ↦ h.earlier d (omega arith) ];
-}
+later_limit table labels at h has = grind arith
 
 -- at the end all orbits have their labels
 module _ (table labels : List ℕ) (move : IsMove table) (h : LabelsOrbits table labels (length table)) where
@@ -193,23 +171,11 @@ module _ (table labels : List ℕ) (move : IsMove table) (h : LabelsOrbits table
 
   -- the count of least places is their rank
   least_less : (a b : ℕ) → is_least_of table a ≡ true → a < b → least_before table a < least_before table b
-  least_less a b t l =
-      omega (
-        arith,
-        sum_by_range (λ k. cond (is_least_of table k) 1 0) a,
-        sum_by_range (λ k. cond (is_least_of table k) 1 0) b,
-        rank_less (is_least_of table) a b l t,
-      )
+  least_less a b t l = grind (arith, sum_by_range, rank_less)
 
   -- least places of one rank are one
   one_rank : (a b : ℕ) → is_least_of table a ≡ true → is_least_of table b ≡ true → least_before table a ≡ least_before table b → a ≡ b
-  one_rank a b s t e = elim (cases_lt a b) [
-    | inl less ↦ (let rank : least_before table a < least_before table b = least_less a b s less in absurd (omega arith))
-    | inr more ↦ elim (cases_eq a b) [
-      | inl same ↦ same
-      | inr ne ↦ (let rank : least_before table b < least_before table a = least_less b a t (omega arith) in absurd (omega arith))
-    ]
-  ]
+  one_rank a b s t e = grind (arith, least_less)
 
   in_order : (d : ℕ) → d < length table → is_least_of table d ≡ true → get_or labels d 0 ≡ least_before table d
   in_order d l least =
@@ -252,8 +218,7 @@ count_range_more p n =
 
 -- there are no more labels than places seen
 pub count_small : (table : List ℕ) (count at : ℕ) → count ≡ least_before table at → count ≤ at
-count_small table count at counted =
-    omega (arith, counted, count_by-le-length (is_least_of table) (range_with_len 0 at), length-range_with_len 0 at)
+count_small table count at counted = grind (arith, count_by-le-length, length-range_with_len)
 
 module _ (table labels : List ℕ) (count at : ℕ) (move : IsMove table) (l : at < length table) (h : LabelsOrbits table labels at)
     (counted : count ≡ least_before table at) where

@@ -2,7 +2,7 @@
 use Rattle.std.proofs.Common.{inl, inr, ◌≡◌, ◌≢◌, ℕ, ◌+◌, ◌<◌, ◌≤◌, List, set, sym, ◌∙◌, ap, arith, All, length, get_or}
 use Rattle.std.proofs.lemmas.List.{get_or-set_same, get_or-set_other}
 use Rattle.std.proofs.lemmas.List.Elements.{All-from_get_or}
-use Rattle.std.proofs.lemmas.Bool.{cases_eq, cases_lt}
+use Rattle.std.proofs.lemmas.Bool.{cases_eq}
 use Rattle.sg_model.specs.Ising.{Ising}
 use Rattle.sg_model.specs.Rotation.{dart_count, darts_of, following, rev, tail}
 use Rattle.sg_sums.specs.Sets.{DifferByCount}
@@ -10,7 +10,7 @@ use Rattle.sg_model.specs.WellFormed.{IsInstance}
 use Rattle.sg_faces.specs.Faces.{phi}
 use Rattle.sg_faces.specs.Tables.{HasPhi, IsPhiTable}
 use Rattle.sg_model.proofs.DartPairs.{rev_apart, rev_below, rev_rev}
-use Rattle.sg_model.proofs.CyclicLists.{same_place, following_inner, following_last}
+use Rattle.sg_model.proofs.CyclicLists.{following_inner, following_last}
 use Rattle.sg_model.proofs.Rotations.{in_list, place_at, next_is, tail_below}
 
 -- the place of the entry that follows the one at i
@@ -21,10 +21,7 @@ pub record IsAfter (n i after : ℕ) : Type 0 where
 -- the dart behind one in a list, by places
 pub following_after : (darts : List ℕ) (i after : ℕ) → DifferByCount darts → i < length darts → IsAfter (length darts) i after →
     following darts (get_or darts i 0) ≡ get_or darts after 0
-following_after darts i after once l at = elim (cases_lt (i + 1) (length darts)) [
-  | inl b ↦ following_inner darts once i b ∙ ap (λ k. get_or darts k 0) (sym (at.inner b))
-  | inr b ↦ following_last darts once i (omega arith) ∙ ap (λ k. get_or darts k 0) (sym (at.last b))
-]
+following_after darts i after once l at = grind (arith, following_inner, following_last)
 
 -- one dart more is linked
 module _ (darts table : List ℕ) (i after : ℕ) (once : DifferByCount darts) (l : i < length darts) (room : All (λ d. rev d < length table) darts)
@@ -33,14 +30,7 @@ module _ (darts table : List ℕ) (i after : ℕ) (once : DifferByCount darts) (
   pub linked_more : ((k : ℕ) → k < i → get_or table (rev (get_or darts k 0)) 0 ≡ following darts (get_or darts k 0)) →
       (k : ℕ) → k < i + 1 → get_or (set table (rev (get_or darts i 0)) (get_or darts after 0)) (rev (get_or darts k 0)) 0 ≡ following darts
       (get_or darts k 0)
-  linked_more h k b = elim (cases_eq k i) [
-    | inl e ↦ ap (λ x. get_or (set table (rev (get_or darts i 0)) (get_or darts after 0)) (rev (get_or darts x 0)) 0) e
-        ∙ get_or-set_same table (rev (get_or darts i 0)) (get_or darts after 0) 0 (room i 0 l) ∙ sym (following_after darts i after once l at)
-        ∙ ap (λ x. following darts (get_or darts x 0)) (sym e)
-    | inr ne ↦
-        get_or-set_other table (rev (get_or darts i 0)) (rev (get_or darts k 0)) (get_or darts after 0) 0
-        (λ z. ne (same_place darts once k i (omega arith) l (rev_apart (get_or darts k 0) (get_or darts i 0) z))) ∙ h k (omega arith)
-  ]
+  linked_more h k b = grind (arith, get_or-set_same, following_after, get_or-set_other, rev_apart)
 
   -- the entries of other darts stay
   pub unlinked_kept : (x : ℕ) → All (λ d. rev d ≢ x) darts →
@@ -76,16 +66,11 @@ module _ (inst : Ising) (good : IsInstance inst) where
         where
           here : (d : ℕ) → d < dart_count inst → tail inst (rev d) ≡ i →
               ((j : ℕ) × (j < length (darts_of inst i)) × (get_or (darts_of inst i) j 0 ≡ rev d)) → get_or now d 0 ≡ phi inst d
-          here d b e (j, c, p) =
-              ap (λ x. get_or now x 0) (sym (rev_rev d) ∙ ap rev (sym p)) ∙ linked j 0 c ∙ ap (following (darts_of inst i)) p
-              ∙ ap (λ s. following (darts_of inst s) (rev d)) (sym e) ∙ sym (next_is inst good (rev d))
+          here d b e (j, c, p) = grind (arith, rev_rev, next_is)
 
           elsewhere : (d : ℕ) → tail inst (rev d) ≢ i → (j : ℕ) → j < length (darts_of inst i) → rev (get_or (darts_of inst i) j 0) ≢ d
           elsewhere d ne j c z = ne (ap (tail inst) (ap rev (sym z) ∙ rev_rev (get_or (darts_of inst i) j 0)) ∙ (in_list inst good i j l c).1)
 
   -- with the lists of all spins the table is whole
   pub has_phi_all : (limit : ℕ) (table : List ℕ) → inst.n ≤ limit → HasPhi inst table limit → IsPhiTable inst table
-  has_phi_all limit table all h = record {
-    lengths = h.lengths;
-    entries = λ d l. h.entries d l (let b : tail inst (rev d) < inst.n = tail_below inst good (rev d) (rev_below inst d l) in omega arith);
-  }
+  has_phi_all limit table all h = grind (arith, tail_below, rev_below)

@@ -9,12 +9,12 @@ use Rattle.sg_model.specs.Changes.{HasSameEnds, with_bonds}
 use Rattle.sg_model.proofs.LeastSpins.{one_list}
 use Rattle.sg_model.proofs.SameEnds.{tail_same}
 use Rattle.sg_model.proofs.SamePaths.{leasts_same}
-use Rattle.sg_faces.specs.Orbits.{is_least_of_orbit, orbits_before}
+use Rattle.sg_faces.specs.Orbits.{orbits_before}
 use Rattle.sg_faces.specs.Faces.{phi, is_least, faces_before, face_count, Labelling, SameFace, IsFaceLabels}
 use Rattle.sg_faces.specs.Euler.{euler, IsEuler}
 use Rattle.sg_faces.proofs.BareSpins.{bare_same}
 use Rattle.sg_faces.proofs.PhiPermutes.{phi_one_to_one}
-use Rattle.sg_faces.proofs.Traced.{after_steps_same, is_least_same, orbits_before_same}
+use Rattle.sg_faces.proofs.Traced.{after_steps_same, orbits_before_same}
 
 -- an instance has one Euler number
 pub one_euler : (inst : Ising) (d e : ℤ) → IsEuler inst d → IsEuler inst e → d ≡ e
@@ -35,9 +35,7 @@ module _ (inst : Ising) (bonds : List Bond) (same : HasSameEnds inst bonds) wher
 
   module _ (good : IsInstance inst) where
     least_same : (d : ℕ) → d < dart_count inst → is_least (with_bonds inst bonds) d ≡ is_least inst d
-    least_same d l =
-        ap (λ k. is_least_of_orbit (phi (with_bonds inst bonds)) k d) darts_same
-        ∙ is_least_same (phi (with_bonds inst bonds)) (phi inst) (dart_count inst) (phi_one_to_one inst good) (λ d _. phi_same d) d l
+    least_same d l = grind (arith, phi_one_to_one, phi_same)
 
     before_same : (n : ℕ) → n ≤ dart_count inst → faces_before (with_bonds inst bonds) n ≡ faces_before inst n
     before_same n l =
@@ -48,8 +46,7 @@ module _ (inst : Ising) (bonds : List Bond) (same : HasSameEnds inst bonds) wher
     orbits_same = ap (faces_before (with_bonds inst bonds)) darts_same ∙ before_same (dart_count inst) (omega arith)
 
     count_same : face_count (with_bonds inst bonds) ≡ face_count inst
-    count_same =
-        ap₂ {A = ℕ} (λ f b. f + b) orbits_same (bare_same inst bonds same good)
+    count_same = simp (orbits_same, bare_same)
 
     -- and the Euler number of a count of components
     pub euler_same : (components : ℕ) → euler (with_bonds inst bonds) components ≡ euler inst components

@@ -1,6 +1,6 @@
 -- Labels of the orbits of the table of `phi` are labels of the faces.
-use Rattle.std.proofs.Common.{ap₂, ◌≡◌, ℕ, zero, suc, ◌+◌, ◌<◌, ◌≤◌, Bool, cond, ◌&&◌, leb, List, [], ◌∷◌, refl, sym, ◌∙◌, ap, arith, length, get_or}
-use Rattle.std.specs.List.{range_with_len, list_all}
+use Rattle.std.proofs.Common.{◌≡◌, ℕ, zero, suc, ◌+◌, ◌<◌, ◌≤◌, cond, List, refl, sym, ◌∙◌, ap, arith, length, get_or}
+use Rattle.std.specs.List.{range_with_len}
 use Rattle.std.proofs.lemmas.List.Sums.{count_by-le-length}
 use Rattle.std.proofs.lemmas.List.FromFn.{length-range_with_len, get_or-range_with_len}
 use Rattle.sg_sums.proofs.SumLaws.{sum_by-same}
@@ -12,18 +12,11 @@ use Rattle.sg_faces.specs.Faces.{bare_count, phi, is_least, faces_before, Labell
 use Rattle.sg_faces.specs.Tables.{table_value, IsMove, is_least_of, least_before, IsOrbitLabels, IsPhiTable}
 use Rattle.sg_faces.proofs.PhiPermutes.{phi_one_to_one}
 
-list_all_same : (p q : ℕ → Bool) → ((x : ℕ) → p x ≡ q x) → (xs : List ℕ) → list_all p xs ≡ list_all q xs
-list_all_same p q h [] = refl
-list_all_same p q h (x ∷ xs) = ap₂ (λ a b. a && b) (h x) (list_all_same p q h xs)
-
 -- two maps that agree below k have the same orbits there
 module _ (f g : ℕ → ℕ) (k : ℕ) (one : IsOneToOne g k) (same : (d : ℕ) → d < k → f d ≡ g d) where
   -- a map that agrees with a one-to-one map below k is one
   pub one_to_one_same : IsOneToOne f k
-  one_to_one_same = record {
-    below = λ d l. (let b : g d < k = one.below d l in omega (arith, same d l));
-    apart = λ d e l m p. one.apart d e l m (sym (same d l) ∙ p ∙ same e m);
-  }
+  one_to_one_same = grind arith
 
   steps_in : (j d : ℕ) → d < k → after_steps g j d < k
   steps_in zero d l = l
@@ -36,8 +29,7 @@ module _ (f g : ℕ → ℕ) (k : ℕ) (one : IsOneToOne g k) (same : (d : ℕ) 
 
   -- and has the same least numbers of orbits
   pub is_least_same : (d : ℕ) → d < k → is_least_of_orbit f k d ≡ is_least_of_orbit g k d
-  is_least_same d l = list_all_same (λ j. leb d (after_steps f j d)) (λ j. leb d (after_steps g j d)) (λ j. ap (leb d) (after_steps_same j d l))
-      (range_with_len 0 k)
+  is_least_same d l = simp (after_steps_same)
 
   -- and as many of them below each bound
   pub orbits_before_same : (n : ℕ) → n ≤ k → orbits_before f k n ≡ orbits_before g k n
@@ -48,22 +40,15 @@ module _ (f g : ℕ → ℕ) (k : ℕ) (one : IsOneToOne g k) (same : (d : ℕ) 
 
       each : (i x : ℕ) → i < length (range_with_len 0 n) → cond {A = ℕ} (is_least_of_orbit f k (get_or (range_with_len 0 n) i x)) 1 0 ≡ cond
           (is_least_of_orbit g k (get_or (range_with_len 0 n) i x)) 1 0
-      each i x b = at_number (get_or (range_with_len 0 n) i x) (omega (
-        arith,
-        length-range_with_len 0 n,
-        get_or-range_with_len 0 n i x
-            (omega (arith, length-range_with_len 0 n)),
-      ))
+      each i x b = grind (arith, at_number, length-range_with_len, get_or-range_with_len)
 
 -- there are no more orbits than places
 pub orbits_few : (table labels : List ℕ) (count : ℕ) → IsOrbitLabels table labels count → count ≤ length table
-orbits_few table labels count h =
-    omega (arith, h.counts, count_by-le-length (is_least_of table) (range_with_len 0 (length table)), length-range_with_len 0 (length table))
+orbits_few table labels count h = grind (arith, count_by-le-length, length-range_with_len)
 
 -- a label is a face
 pub label_below : (inst : Ising) (faces : Labelling) → IsFaceLabels inst faces → (d : ℕ) → d < dart_count inst → get_or faces.labels d 0 < faces.count
-label_below inst faces labels d l = (let low : get_or faces.labels d 0 < faces_before inst (dart_count inst) = labels.below d l in omega
-    (arith, low, labels.counts))
+label_below inst faces labels d l = grind arith
 
 module _ (inst : Ising) (good : IsInstance inst) (table : List ℕ) (is : IsPhiTable inst table) where
   at_dart : (d : ℕ) → d < length table → table_value table d ≡ phi inst d
@@ -77,8 +62,7 @@ module _ (inst : Ising) (good : IsInstance inst) (table : List ℕ) (is : IsPhiT
   phi_table_moves = one_to_one_same (table_value table) (phi inst) (length table) one at_dart
 
   least_same : (d : ℕ) → d < dart_count inst → is_least_of table d ≡ is_least inst d
-  least_same d l = is_least_same (table_value table) (phi inst) (length table) one at_dart d (omega (arith, is.lengths))
-      ∙ ap (λ k. is_least_of_orbit (phi inst) k d) is.lengths
+  least_same d l = grind (arith, is_least_same, one)
 
   counted : (n : ℕ) → n ≤ dart_count inst → least_before table n ≡ faces_before inst n
   counted n l = orbits_before_same (table_value table) (phi inst) (length table) one at_dart n (omega (arith, is.lengths))

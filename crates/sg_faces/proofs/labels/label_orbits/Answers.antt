@@ -40,7 +40,7 @@ loop-start-preserved c =
 pub returns : goal.returns
 returns c =
     let table = c.args.table.now in
-    let ended : c.loop-start.start ≡ length table = omega (arith, c.loop-start.auto.start-end) in
+    let ended : c.loop-start.start ≡ length table = omega arith in
     rw (c.new.ensures.labels, c.new.ensures.count)
     (all_labelled table c.loop-start.labels.items c.requires.is_move (subst (LabelsOrbits table c.loop-start.labels.items) ended
     c.loop-start.invariant.labelled) c.loop-start.count (c.loop-start.invariant.counted ∙ ap (least_before table) ended))

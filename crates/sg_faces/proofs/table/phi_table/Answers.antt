@@ -1,5 +1,4 @@
-use Rattle.std.proofs.Common.{◌≡◌, ◌+◌, ◌<◌, ℕ, [], All, cond, eqb, length, get_or, sym, ◌∙◌, ap, ap₂, subst, arith, rules}
-use Rattle.std.specs.List.{range_with_len}
+use Rattle.std.proofs.Common.{◌≡◌, ◌+◌, ◌<◌, ℕ, All, cond, eqb, length, sym, ◌∙◌, ap, ap₂, subst, arith, rules}
 use Rattle.std.proofs.lemmas.List.{with_items_is}
 use Rattle.std.proofs.lemmas.List.FromFn.{length-range_with_len}
 use Rattle.std.proofs.lemmas.List.Sums.{count_by-le-length}
@@ -19,12 +18,10 @@ loop-spin-init c = record { entered = record { lengths = search rules; entries =
 
 -- the spin of this step, and its darts
 low : (c : After-at-darts) → c.loop-spin.spin < c.args.inst.now.n
-low c = omega (arith, c.loop-spin-test.true, c.n-spin-end.ensures.value)
+low c = omega arith
 
 darts : (c : After-at-darts) → c.at-darts.result.now ≡ darts_of c.args.inst.now c.loop-spin.spin
-darts c =
-    sym (get_or_from_slice_get c.rotation.result.now c.loop-spin.spin c.at-darts.result.now [] c.at-darts.ensures)
-    ∙ ap (λ r. get_or r c.loop-spin.spin []) c.rotation.ensures.value
+darts c = grind (arith, get_or_from_slice_get)
 
 pub link-requires-clause-distinct : goal.link-requires-clause-distinct
 link-requires-clause-distinct c =
@@ -39,14 +36,7 @@ link-requires-clause-below c =
     (ap length c.deref_mut.ensures.value ∙ c.loop-spin.invariant.entered.lengths))
 
 pub overflow_add-bare : goal.overflow_add-bare
-overflow_add-bare c =
-    omega (
-      arith,
-      c.loop-spin.invariant.counted,
-      count_by-le-length (is_bare c.args.inst.now) (range_with_len 0 c.loop-spin.spin),
-      length-range_with_len 0 c.loop-spin.spin,
-      c.is_bare-bare.ensures.few,
-    )
+overflow_add-bare c = grind (arith, count_by-le-length, length-range_with_len)
 
 pub loop-spin-preserved : goal.loop-spin-preserved
 loop-spin-preserved c =
@@ -67,4 +57,4 @@ loop-spin-preserved c =
 pub returns-clause-table : goal.returns-clause-table
 returns-clause-table c =
     has_phi_all c.args.inst.now c.n-spin-end.ensures.instance c.loop-spin.spin c.loop-spin.table.items
-    (omega (arith, c.loop-spin-test.false, c.n-spin-end.ensures.value)) c.loop-spin.invariant.entered
+    (omega arith) c.loop-spin.invariant.entered

@@ -9,12 +9,10 @@ pub returns-in_err-steps-clause-least : goal.returns-in_err-steps-clause-least
 returns-in_err-steps-clause-least c = least_of_face c.args.inst.now c.phi_table.ensures.instance
 
 pub label_orbits-requires-clause-is_move : goal.label_orbits-requires-clause-is_move
-label_orbits-requires-clause-is_move c =
-    rw c.deref.ensures.value (phi_table_moves c.args.inst.now c.phi_table.ensures.instance c.in_ok-steps.steps.table.items c.in_ok-steps.ensures.table)
+label_orbits-requires-clause-is_move c = grind (arith, phi_table_moves)
 
 pub label_orbits-requires-clause-room : goal.label_orbits-requires-clause-room
-label_orbits-requires-clause-room c =
-    omega (arith, ap length c.deref.ensures.value, c.in_ok-steps.ensures.table.lengths, c.phi_table.ensures.instance.draft.few_bonds)
+label_orbits-requires-clause-room c = grind arith
 
 pub returns-in_err-orbits-clause-least : goal.returns-in_err-orbits-clause-least
 returns-in_err-orbits-clause-least c = least_of_face c.args.inst.now c.phi_table.ensures.instance
