@@ -1,6 +1,6 @@
 -- Weak duality of joins and odd cuts: each join meets each odd cut, so no join weighs less than half of what the cuts of
 -- a packing weigh.
-use Rattle.std.proofs.Common.{◌≡◌, ℕ, suc, ◌+◌, ◌*◌, ◌%◌, ◌<◌, ◌≤◌, Bool, true, false, cond, not, ◌&&◌, eqb, List, [], ◌∷◌, refl, sym, ◌∙◌, ap, arith, All, length, get_or, sum_by, count_by, pos}
+use Rattle.std.proofs.Common.{◌≡◌, ℕ, suc, ◌+◌, ◌*◌, ◌%◌, ◌<◌, ◌≤◌, Bool, true, false, cond, not, ◌&&◌, eqb, List, [], ◌∷◌, refl, sym, ◌∙◌, ap, arith, All, length, get_or, sum_by, count_by}
 use Rattle.std.proofs.lemmas.List.Elements.{All-head, All-tail}
 use Rattle.std.proofs.lemmas.List.Sums.{sum_by-cons, get_or-le-sum_by}
 use Rattle.sg_sums.specs.Parity.{xor, odd, parity_by}
@@ -17,11 +17,7 @@ use Rattle.sg_graph.specs.OddCut.{CutsPack, IsOddCut, crosses, cut_load, odd_cut
 
 -- ends counted as a parity
 odd_ends : (p q r : Bool) (n : ℕ) → odd n ≡ r → odd ((cond p 1 0 + cond q 1 0) + n) ≡ xor (xor p q) r
-odd_ends true true r n e = let s : (1 + 1) + n ≡ suc (suc n) = omega arith in rw s (ap (λ b. not (not b)) e ∙ back r)
-  where
-    back : (b : Bool) → not (not b) ≡ b
-    back true = refl
-    back false = refl
+odd_ends true true r n e = grind arith
 odd_ends true false r n e = let s : (1 + 0) + n ≡ suc n = omega arith in rw s (ap not e)
 odd_ends false true r n e = let s : (0 + 1) + n ≡ suc n = omega arith in rw s (ap not e)
 odd_ends false false r n e = let s : (0 + 0) + n ≡ n = omega arith in rw s e
@@ -41,14 +37,11 @@ module _ (g : Graph) where
 
   -- a number with the rest of a condition by 2 is odd where that holds
   pub odd_from_cond : (n : ℕ) (b : Bool) → n % 2 ≡ cond b 1 0 → odd n ≡ b
-  odd_from_cond n true h = odd_from_mod n h
-  odd_from_cond n false h = even_from_mod n h
+  odd_from_cond n b h = grind (arith, even_from_mod)
 
   module _ (terminals : List ℕ) (are : AreTerminals g terminals) (joined : All (IsEdge g.nodes) g.edges) where
     ends_of : (es : List ℕ) → All (λ e. e < edge_count g) es → EndsBelow a_end b_end g.nodes es
-    ends_of es below k d l =
-        let edge = joined (get_or es k d) (record { a = 0; b = 0; w = pos 0 }) (below k d l) in
-        (edge.first_end, edge.second_end)
+    ends_of es below k d l = grind arith
 
     -- a join has an edge in each odd cut
     pub join_meets : (es cut : List ℕ) → IsJoin g terminals es → IsOddCut g terminals cut →

@@ -8,7 +8,7 @@ use Rattle.sg_sums.specs.Parity.{xor, parity_by, parity_below}
 use Rattle.sg_sums.specs.Sets.{chosen_below}
 use Rattle.sg_sums.specs.Sums.{sum_below}
 use Rattle.sg_sums.proofs.Choosing.{chosen_below_more}
-use Rattle.sg_sums.proofs.ParityLaws.{parity_below-none, parity_below-same, parity_below-xor, parity_below_pick, parity_by-append, xor-false, xor_comm}
+use Rattle.sg_sums.proofs.ParityLaws.{parity_below-none, parity_below-same, parity_below-xor, parity_below_pick, parity_by-append, xor_comm}
 use Rattle.sg_sums.proofs.SumLaws.{sum_below-add, sum_below-le, sum_below-zero, sum_below_pick}
 
 -- whether the number stands in the list an odd number of times
@@ -27,9 +27,7 @@ odd_in-parity p n (x ∷ xs) low =
     ∙ ap₂ xor (parity_below_pick p x n (All-head (λ x. x < n) x xs low)) (odd_in-parity p n xs (All-tail (λ x. x < n) x xs low))
 
 gain : (a b : Bool) (u v : ℕ) → (a ≡ true → u ≡ v) → cond (xor a b) v 0 ≤ cond a u 0 + cond b v 0
-gain true true u v h = omega arith
-gain true false u v h = omega (arith, h refl)
-gain false b u v h = omega arith
+gain a b u v h = grind arith
 
 -- the numbers that stand oddly in a list weigh at most as much as the list
 pub odd_in-weight : (w : ℕ → ℕ) (n : ℕ) (xs : List ℕ) → All (λ x. x < n) xs → sum_below (λ e. cond (is_odd_in xs e) (w e) 0) n ≤ sum_by w xs
@@ -56,8 +54,7 @@ chosen_below-parity m p (suc n) =
     ∙ xor_comm (parity_below (λ e. m e && p e) n) (m n && p n)
   where
     last : (b : Bool) → parity_by p (cond b (n ∷ []) []) ≡ (b && p n)
-    last true = xor-false (p n)
-    last false = refl
+    last b = grind arith
 
 -- the weight of the chosen numbers is that of the marked ones
 pub chosen_below-weight : (m : ℕ → Bool) (w : ℕ → ℕ) (n : ℕ) → sum_by w (chosen_below m n) ≡ sum_below (λ e. cond (m e) (w e) 0) n
@@ -67,5 +64,4 @@ chosen_below-weight m w (suc n) =
     ∙ sum_by-append w (chosen_below m n) (cond (m n) (n ∷ []) []) ∙ ap₂ (λ a b. a + b) (chosen_below-weight m w n) (last (m n))
   where
     last : (b : Bool) → sum_by w (cond b (n ∷ []) []) ≡ cond b (w n) 0
-    last true = omega (arith, sum_by-cons w n [])
-    last false = refl
+    last b = grind arith

@@ -1,5 +1,5 @@
 -- Lists of edges without repeats: they weigh no more than all edges.
-use Rattle.std.proofs.Common.{◌≡◌, ◌≢◌, ℕ, zero, suc, ◌+◌, ◌<◌, ◌≤◌, Bool, true, false, cond, ◌||◌, eqb, eq-eqb, List, [], ◌∷◌, refl, ap, arith, All, get_or, length, pos, sum_by}
+use Rattle.std.proofs.Common.{◌≡◌, ◌≢◌, ℕ, zero, suc, ◌+◌, ◌<◌, ◌≤◌, Bool, true, false, cond, ◌||◌, eqb, eq-eqb, List, [], ◌∷◌, refl, arith, All, get_or, length, pos, sum_by}
 use Rattle.std.specs.List.{AllPairs}
 use Rattle.std.specs.List.Sorted.{IsStrictlyIncreasing}
 use Rattle.std.proofs.lemmas.Bool.{false_from_ne_true}
@@ -32,14 +32,10 @@ once_weight w n (x ∷ xs) low once =
     omega (arith, sum_by-cons w x xs)
   where
     kept : (a b : Bool) (v : ℕ) → cond b v 0 ≤ cond (a || b) v 0
-    kept true true v = omega arith
-    kept true false v = omega arith
-    kept false b v = omega arith
+    kept a b v = grind arith
 
     new : (a b : Bool) → a ≡ true → b ≡ false → cond b (w x) 0 + w x ≤ cond (a || b) (w x) 0
-    new true false p q = omega arith
-    new true true p q = cc
-    new false b p q = cc
+    new a b here fresh = grind arith
 
 module _ (g : Graph) where
   -- edges without repeats weigh at most as much as all edges
@@ -53,8 +49,7 @@ module _ (g : Graph) where
       )
     where
       part : (b : Bool) (v : ℕ) → cond b v 0 ≤ v
-      part true v = omega arith
-      part false v = omega arith
+      part b v = grind arith
 
   -- a rising list of edges weighs at most as much as all edges
   pub rising_light : (es : List ℕ) → All (λ e. e < edge_count g) es → IsStrictlyIncreasing es → weight_of g es ≤ total_weight g
@@ -70,5 +65,4 @@ rising_few n (x ∷ xs) low up = (let last = at_least (length xs) (omega arith) 
   where
     at_least : (i : ℕ) → i < length (x ∷ xs) → i ≤ get_or (x ∷ xs) i 0
     at_least zero l = omega arith
-    at_least (suc i) l = (let before = at_least i (omega arith) in let e : i + 1 ≡ suc i = omega arith in let step = up i (omega arith) in omega
-        (arith, ap (λ k. get_or (x ∷ xs) k 0) e))
+    at_least (suc i) l = grind (arith, at_least i)

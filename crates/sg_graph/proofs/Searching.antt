@@ -1,6 +1,6 @@
 -- A search from node 0, edge by edge and node by node.
 use Rattle.std.proofs.lemmas.Grind.{common_steps}
-use Rattle.std.proofs.Common.{inl, inr, ⊎_elim, ◌≡◌, ◌≢◌, ℕ, ◌+◌, ◌<◌, ◌≤◌, Bool, true, false, cond, List, [], ◌∷◌, ◌++◌, set, take, All, Contains, sym, ◌∙◌, ap, subst, arith, length, get_or, pos}
+use Rattle.std.proofs.Common.{inl, inr, ⊎_elim, ◌≡◌, ◌≢◌, ℕ, ◌+◌, ◌<◌, ◌≤◌, Bool, true, false, List, [], ◌∷◌, ◌++◌, set, take, All, Contains, sym, ◌∙◌, ap, subst, arith, length, get_or, pos}
 use Rattle.std.proofs.lemmas.Bool.{cases_eq, cases_lt, false≢true, true≢false}
 use Rattle.std.proofs.lemmas.List.{length-set, length_push, get_or-set_same, get_or-set_other, get_or_append_left, get_or_past, get_or_default}
 use Rattle.std.proofs.lemmas.List.Elements.{All-more, All-push, All-weaker, Contains-append_left, Contains-push}
@@ -12,7 +12,7 @@ use Rattle.sg_graph.specs.Walk.{IsConnectedWeb, IsFirstUnreached, IsReached, IsW
 use Rattle.sg_graph.specs.Incidence.{AreIncident, EndsAt, list_at}
 use Rattle.sg_sums.proofs.RisingLists.{All-holds}
 use Rattle.sg_graph.specs.Search.{MarksReached, VisitsEdges, unmarked}
-use Rattle.sg_graph.proofs.Walks.{leads_other, other_low, other_only, walk-append, walk-one}
+use Rattle.sg_graph.proofs.Walks.{leads_other, other_only, walk-append, walk-one}
 use Rattle.sg_graph.proofs.Incidences.{edges_at_leads}
 
 module _ (g : Graph) (node : ℕ) (list : List ℕ) (i : ℕ) (old marks : List Bool) (before found : List ℕ) (low : i < length list)
@@ -118,8 +118,8 @@ Explores-more g old new before after next node lists incident low is s v = recor
     longer : (x : ℕ) → Contains before x → Contains after x
     longer x c = (
       c.0,
-      omega (arith, c.1, v.longer),
-      get_or_default after c.0 x 0 (omega (arith, c.1, v.longer)) ∙ v.stays c.0 c.1 ∙ sym (get_or_default before c.0 x 0 c.1) ∙ c.2,
+      omega arith,
+      get_or_default after c.0 x 0 (omega arith) ∙ v.stays c.0 c.1 ∙ sym (get_or_default before c.0 x 0 c.1) ∙ c.2,
     )
 
     spread_here : (e y : ℕ) → Leads g e node y → is_marked new y ≡ true
@@ -143,7 +143,7 @@ MarksReached-all g marks found next s done = record {
     along (e ∷ es) x y h w =
         let c : Contains found x = s.listed x h in
         let here : get_or found c.0 0 ≡ x = sym (get_or_default found c.0 x 0 c.1) ∙ c.2 in
-        along es w.0 y (s.spread c.0 e w.0 (omega (arith, c.1)) (subst (λ n. Leads g e n w.0) (sym here) w.1)) w.2
+        along es w.0 y (s.spread c.0 e w.0 (omega arith) (subst (λ n. Leads g e n w.0) (sym here) w.1)) w.2
 
 -- one edge more, in the code's terms
 module _ (g : Graph) (node : ℕ) (list : List ℕ) (i other : ℕ) (edges : List Edge) (old marks : List Bool) (before found : List ℕ)
@@ -180,6 +180,4 @@ first_unmarked g marks x m low none all = record {
 -- the other end of an edge is a node
 pub other_in : (g : Graph) (node : ℕ) (list : List ℕ) (i other : ℕ) (edges : List Edge) → IsWeb g → edges ≡ g.edges
     → other ≡ other_end node (get_or edges (get_or list i 0) (record { a = 0; b = 0; w = pos 0 })) → EndsAt g node (get_or list i 0) → other < g.nodes
-other_in g node list i other edges web same is ends =
-    subst (λ n. n < g.nodes) (sym (is ∙ ap (λ (es : List Edge). other_end node (get_or es (get_or list i 0) (record { a = 0; b = 0; w = pos 0 })))
-    same)) (other_low g (get_or list i 0) node web ends.0)
+other_in g node list i other edges web same is ends = grind arith

@@ -1,40 +1,22 @@
 -- What a table of a graph says: distances of nodes that are reached, and that every node that a walk reaches is.
-use Rattle.std.proofs.Common.{◌≡◌, ℕ, ◌<◌, ℤ, pos, true, Option, None, Some, is_some, ◌++◌, refl, sym, ◌∙◌, ap, subst, unsigned_abs}
-use Rattle.std.specs.Option.{MatchOption, option_map_or}
-use Rattle.std.proofs.lemmas.Bool.{false≢true}
+use Rattle.std.proofs.Common.{◌≡◌, ℕ, ◌<◌, pos, true, ◌++◌, arith}
 use Rattle.sg_graph.specs.Web.{Graph}
 use Rattle.sg_graph.specs.Walk.{IsConnectedWeb, IsDistance, IsReached}
-use Rattle.sg_graph.specs.Table.{IsTableOf, Route, Routes, distance_at, is_reached, length_to, route_at}
+use Rattle.sg_graph.specs.Table.{IsTableOf, Routes, distance_at, is_reached, length_to}
 use Rattle.sg_graph.proofs.Walks.{walk-append, walk-back}
 
 module _ (g : Graph) (t : Routes) (is : IsTableOf g t) where
   -- the distance that is noted is the distance
   pub distance_is : (x : ℕ) → x < g.nodes → is_reached t x ≡ true → IsDistance g t.source x (length_to t x)
-  distance_is x l h = by_route (route_at t x) (is.distances x l) h
-    where
-      by_route : (r : Option Route) → MatchOption r (IsReached g t.source x → ⊥) (λ q. (d : ℕ) × (q.distance ≡ pos d) × IsDistance g t.source x d)
-          → is_some r ≡ true → IsDistance g t.source x (unsigned_abs (option_map_or (λ (q : Route). q.distance) r (pos 0)))
-      by_route None m e = absurd (false≢true e)
-      by_route (Some q) m e = subst (IsDistance g t.source x) (sym (ap unsigned_abs m.1)) m.2
+  distance_is x l h = grind arith
 
   -- it is not negative
   pub distance_signed : (x : ℕ) → x < g.nodes → is_reached t x ≡ true → distance_at t x ≡ pos (length_to t x)
-  distance_signed x l h = by_route (route_at t x) (is.distances x l) h
-    where
-      by_route : (r : Option Route) → MatchOption r (IsReached g t.source x → ⊥) (λ q. (d : ℕ) × (q.distance ≡ pos d) × IsDistance g t.source x d)
-          → is_some r ≡ true →
-          option_map_or (λ (q : Route). q.distance) r (pos 0) ≡ pos (unsigned_abs (option_map_or (λ (q : Route). q.distance) r (pos 0)))
-      by_route None m e = absurd (false≢true e)
-      by_route (Some q) m e = m.1 ∙ sym (ap (λ (z : ℤ). pos (unsigned_abs z)) m.1)
+  distance_signed x l h = grind arith
 
   -- a node to which a walk leads is reached
   pub reached_if : (x : ℕ) → x < g.nodes → IsReached g t.source x → is_reached t x ≡ true
-  reached_if x l way = by_route (route_at t x) (is.distances x l)
-    where
-      by_route : (r : Option Route) → MatchOption r (IsReached g t.source x → ⊥) (λ q. (d : ℕ) × (q.distance ≡ pos d) × IsDistance g t.source x d)
-          → is_some r ≡ true
-      by_route None m = absurd (m way)
-      by_route (Some q) m = refl
+  reached_if x l way = grind arith
 
 -- in a connected graph a walk leads from each node to each other
 pub connected_reached : (g : Graph) → IsConnectedWeb g → (x y : ℕ) → x < g.nodes → y < g.nodes → IsReached g x y

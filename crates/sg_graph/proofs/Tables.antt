@@ -1,8 +1,8 @@
 -- The laws of tables: what a new table says, and a table in which one node was set.
 use Rattle.std.proofs.lemmas.Grind.{common_steps}
-use Rattle.std.proofs.Common.{[], ◌∷◌, ap₂, ◌≡◌, ◌≢◌, ◌^◌, ℕ, zero, suc, ◌<◌, ◌≤◌, ℤ, pos, Bool, true, false, cond, not, eqb, eq-eqb, get_or, inl, inr, is_some, unsigned_abs, Option, None, Some, List, set, replicate, refl, sym, ◌∙◌, ap, subst, arith, length}
+use Rattle.std.proofs.Common.{[], ◌∷◌, ap₂, ◌≡◌, ◌≢◌, ◌^◌, ℕ, zero, suc, ◌<◌, ◌≤◌, ℤ, pos, Bool, true, cond, not, eqb, eq-eqb, get_or, is_some, unsigned_abs, Option, None, Some, List, set, replicate, refl, sym, ◌∙◌, ap, subst, arith, length}
 use Rattle.std.specs.Option.{option_map_or}
-use Rattle.std.proofs.lemmas.Bool.{cases_eq, cases_lt, false≢true, ne_eqb, true≢false}
+use Rattle.std.proofs.lemmas.Bool.{cases_eq, cases_lt, false≢true, ne_eqb}
 use Rattle.std.proofs.lemmas.List.{get_or_past, length-set, length-replicate, get_or-set_same, get_or-set_other}
 use Rattle.sg_graph.specs.Slots.{route_of, routes_of, unreached}
 use Rattle.sg_graph.specs.Table.{IsTable, Route, Routes, at_home, distance_at, is_reached, length_to, parent_at, route_at, route_edge, with_route}
@@ -37,10 +37,6 @@ routes_of-set (d' ∷ ds) [] x d e same = absurd (omega arith)
 routes_of-set (d' ∷ ds) (e' ∷ es) zero d e same = refl
 routes_of-set (d' ∷ ds) (e' ∷ es) (suc x) d e same = ap (λ (rs : List (Option Route)). route_of d' e' ∷ rs) (routes_of-set ds es x d e (omega arith))
 
--- an edge of a web is not the mark of a node that is not reached
-pub route_of-edge : (d : ℤ) (e : ℕ) → e < 2 ^ 24 → route_of d e ≡ Some (record { distance = d; edge = e })
-route_of-edge d e low = ap (λ (b : Bool). cond b None (Some (record { distance = d; edge = e }))) (ne_eqb e unreached (λ (h : e ≡ unreached). omega arith))
-
 -- the routes of a new table
 abbrev pub first_routes : ℕ → ℕ → List (Option Route)
 first_routes n source = set (replicate n None) source (Some at_home)
@@ -57,12 +53,7 @@ IsTable-with_route t x d e ne is = grind (arith, common_steps, length-set, get_o
 pub with_route_is : (t : Routes) (source : ℕ) (ds : List ℤ) (es : List ℕ) (x e : ℕ) (d d' : ℤ) → length ds ≡ length es → e < 2 ^ 24
     → record { source = source; to = routes_of ds es } ≡ t → d' ≡ d
     → record { source = source; to = routes_of (set ds x d') (set es x e) } ≡ with_route t x d e
-with_route_is t source ds es x e d d' count low is same =
-    ap (λ (rs : List (Option Route)). made source rs) (routes_of-set ds es x d' e count ∙ ap (set (routes_of ds es) x) (route_of-edge d' e low))
-    ∙ ap (λ (z : ℤ). with_route (made source (routes_of ds es)) x z e) same ∙ ap (λ (u : Routes). with_route u x d e) is
-  where
-    made : ℕ → List (Option Route) → Routes
-    made s rs = record { source = s; to = rs }
+with_route_is t source ds es x e d d' count low is same = grind (arith, routes_of-set)
 
 -- the same, in the two lists of the code
 pub IsTable-set : (t : Routes) (source : ℕ) (ds : List ℤ) (es : List ℕ) (x e : ℕ) (d d' : ℤ) → length ds ≡ length es → e < 2 ^ 24
@@ -95,21 +86,11 @@ module _ (t : Routes) (source : ℕ) (ds : List ℤ) (es : List ℕ) (same : len
 
     -- a node is reached where its entry is an edge
     pub read_reached : is_reached t x ≡ not (eqb (get_or es x 0) unreached)
-    read_reached = ap (λ (r : Option Route). is_some r) read_route ∙ by_test (eqb (get_or es x 0) unreached)
-      where
-        by_test : (b : Bool) → is_some {T = Route} (cond b None (Some (record { distance = get_or ds x (pos 0); edge = get_or es x 0 }))) ≡ not b
-        by_test true = refl
-        by_test false = refl
+    read_reached = grind (arith, read_route)
 
     -- the distance of a reached node stands in the list
     pub read_distance : is_reached t x ≡ true → get_or ds x (pos 0) ≡ distance_at t x
-    read_distance h = sym (ap (λ (r : Option Route). option_map_or (λ (q : Route). q.distance) r (pos 0)) read_route
-        ∙ by_test (eqb (get_or es x 0) unreached) (sym read_reached ∙ h))
-      where
-        by_test : (b : Bool) → not b ≡ true → option_map_or (λ (q : Route). q.distance)
-            (cond {A = Option Route} b None (Some (record { distance = get_or ds x (pos 0); edge = get_or es x 0 }))) (pos 0) ≡ get_or ds x (pos 0)
-        by_test true h = absurd (false≢true h)
-        by_test false h = refl
+    read_distance h = grind (arith, read_route)
 
     -- the parent of a reached node other than the source is its entry
     pub read_parent : source ≢ x → get_or es x 0 ≢ unreached → Some (get_or es x 0) ≡ parent_at t x
@@ -121,15 +102,7 @@ module _ (t : Routes) (source : ℕ) (ds : List ℤ) (es : List ℕ) (same : len
 
     -- a node that is not reached has no parent
     pub no_parent_unreached : get_or es x 0 ≡ unreached → None ≡ parent_at t x
-    no_parent_unreached h = sym (
-        ap (λ (r : Option Route). cond (eqb t.source x) None (route_edge r))
-        (read_route ∙ ap (λ (b : Bool). cond b None (Some (record { distance = get_or ds x (pos 0); edge = get_or es x 0 })))
-        (eq-eqb (get_or es x 0) unreached h)) ∙ by_test (eqb t.source x)
-        )
-      where
-        by_test : (b : Bool) → cond b None (route_edge None) ≡ None
-        by_test true = refl
-        by_test false = refl
+    no_parent_unreached h = grind (arith, read_route)
 
 -- one node is reached, or reached anew, and all else stays
 module _ (t : Routes) (x : ℕ) (d : ℤ) (e : ℕ) (low : x < length t.to) where
@@ -174,9 +147,7 @@ module _ (t : Routes) (x : ℕ) (d : ℤ) (e : ℕ) (low : x < length t.to) wher
 
   -- the node that was set has its new parent
   pub parent_here : x ≢ t.source → parent_at (with_route t x d e) x ≡ Some e
-  parent_here ne =
-      ap (λ (b : Bool). cond b None (route_edge (route_at (with_route t x d e) x))) (ne_eqb t.source x (λ (h : t.source ≡ x). ne (sym h)))
-      ∙ ap (λ (r : Option Route). route_edge r) route_here
+  parent_here ne = grind (arith, route_here)
 
   -- all other nodes have their old parents
   pub parent_there : (y : ℕ) → y ≢ x → parent_at (with_route t x d e) y ≡ parent_at t y
@@ -184,16 +155,7 @@ module _ (t : Routes) (x : ℕ) (d : ℤ) (e : ℕ) (low : x < length t.to) wher
 
 -- a node with a parent is reached, and is not the source
 pub parent_reached : (t : Routes) (x e : ℕ) → parent_at t x ≡ Some e → (x ≢ t.source) × (is_reached t x ≡ true)
-parent_reached t x e h = (not_source (eqb t.source x) refl h, reached (eqb t.source x) (route_at t x) h)
-  where
-    not_source : (b : Bool) → eqb t.source x ≡ b → cond b None (route_edge (route_at t x)) ≡ Some e → x ≢ t.source
-    not_source true is h same = cc
-    not_source false is h same = true≢false (sym (eq-eqb t.source x (sym same)) ∙ is)
-
-    reached : (b : Bool) (r : Option Route) → cond b None (route_edge r) ≡ Some e → is_some r ≡ true
-    reached true r h = cc
-    reached false None h = cc
-    reached false (Some q) h = refl
+parent_reached t x e h = grind arith
 
 -- a node that is reached is one of the table
 pub reached_low : (t : Routes) (x : ℕ) → is_reached t x ≡ true → x < length t.to

@@ -1,6 +1,6 @@
 -- A walk meets each node an even number of times but for its two ends.
 use Rattle.std.proofs.lemmas.Grind.{common_steps}
-use Rattle.std.proofs.Common.{inl, inr, ap₂, ◌≡◌, ℕ, ◌<◌, Bool, eqb, List, [], ◌∷◌, sym, ◌∙◌, ap, arith, All}
+use Rattle.std.proofs.Common.{ap₂, ◌≡◌, ℕ, ◌<◌, Bool, eqb, List, [], ◌∷◌, sym, ◌∙◌, ap, arith, All}
 use Rattle.std.proofs.lemmas.List.Elements.{All-cons, All-nil}
 use Rattle.sg_sums.specs.Ends.{is_end}
 use Rattle.sg_sums.specs.Parity.{xor, parity_by}

@@ -1,11 +1,9 @@
 -- The laws of walks: appended, turned round; and what distances say over an edge and over two ways that meet.
-use Rattle.std.proofs.Common.{inl, inr, ◌≡◌, ◌⊎◌, ℕ, ◌+◌, ◌<◌, ◌≤◌, List, [], ◌∷◌, ◌++◌, refl, sym, ◌∙◌, subst, arith, cond, true, false, Bool, eqb, eq-eqb, pos}
-use Rattle.std.proofs.lemmas.Bool.{eqb-true, true≢false}
+use Rattle.std.proofs.Common.{◌≡◌, ℕ, ◌+◌, ◌<◌, ◌≤◌, List, [], ◌∷◌, ◌++◌, refl, sym, subst, arith}
 use Rattle.std.proofs.lemmas.List.Sums.{sum_by-append, sum_by-cons}
 use Rattle.sg_graph.specs.Web.{Graph, IsWeb, edge_at, edge_count, edge_weight, weight_of}
 use Rattle.sg_graph.specs.Walk.{Leads, IsWebWalk, IsDistance, other_end}
 use Rattle.sg_graph.specs.Incidence.{EndsAt}
-use Rattle.sg_graph.specs.declared.web.Edge.{Edge}
 
 module _ (g : Graph) where
   -- two walks that meet make one
@@ -15,11 +13,7 @@ module _ (g : Graph) where
 
   -- an edge leads both ways
   pub turned : (e x y : ℕ) → Leads g e x y → Leads g e y x
-  turned e x y h = record { below = h.below; ways = flip h.ways }
-    where
-      flip : {P Q : Type 0} → P ⊎ Q → Q ⊎ P
-      flip (inl p) = inr p
-      flip (inr q) = inl q
+  turned e x y h = grind arith
 
   -- a single edge is a walk
   pub walk-one : (e x y : ℕ) → Leads g e x y → IsWebWalk g x (e ∷ []) y
@@ -79,37 +73,16 @@ module _ (g : Graph) where
 
   -- an edge leads from each of its ends to the other, and nowhere else
   pub leads_other : (e x : ℕ) → EndsAt g x e → Leads g e x (other_end x (edge_at g e))
-  leads_other e x h = record { below = h.0; ways = ways (edge_at g e) (eqb (edge_at g e).a x) refl h.1 }
-    where
-      ways : (edge : Edge) (b : Bool) → eqb edge.a x ≡ b → (edge.a ≡ x) ⊎ (edge.b ≡ x)
-          → ((edge.a ≡ x) × (edge.b ≡ cond b edge.b edge.a)) ⊎ ((edge.a ≡ cond b edge.b edge.a) × (edge.b ≡ x))
-      ways edge true is ends = inl (eqb-true edge.a x is, refl)
-      ways edge false is ends = inr (refl, elim ends [ inl a ↦ absurd (true≢false (sym (eq-eqb edge.a x a) ∙ is)) | inr b ↦ b ])
+  leads_other e x h = grind arith
 
   -- an edge leads to its other end alone
   pub other_only : (e x y : ℕ) → Leads g e x y → y ≡ other_end x (edge_at g e)
-  other_only e x y l = only (edge_at g e) (eqb (edge_at g e).a x) refl l.ways
-    where
-      only : (edge : Edge) (b : Bool) → eqb edge.a x ≡ b → ((edge.a ≡ x) × (edge.b ≡ y)) ⊎ ((edge.a ≡ y) × (edge.b ≡ x)) →
-          y ≡ cond b edge.b edge.a
-      only edge true is (inl w) = sym w.1
-      only edge true is (inr w) = sym w.0 ∙ eqb-true edge.a x is ∙ sym w.1
-      only edge false is (inl w) = absurd (true≢false (sym (eq-eqb edge.a x w.0) ∙ is))
-      only edge false is (inr w) = sym w.0
+  other_only e x y l = grind arith
 
   -- both ends of an edge are nodes
   pub other_low : (e x : ℕ) → IsWeb g → e < edge_count g → other_end x (edge_at g e) < g.nodes
-  other_low e x web low =
-      let edge = web.joined e (record { a = 0; b = 0; w = pos 0 }) low in
-      elim (eqb (edge_at g e).a x) as (λ b. cond b (edge_at g e).b (edge_at g e).a < g.nodes) [ true ↦ edge.second_end | false ↦ edge.first_end ]
+  other_low e x web low = grind arith
 
   -- an edge leads between nodes
   pub leads_low : (e x y : ℕ) → IsWeb g → Leads g e x y → (x < g.nodes) × (y < g.nodes)
-  leads_low e x y web l =
-      let edge = web.joined e (record { a = 0; b = 0; w = pos 0 }) l.below in
-      by_ways (edge_at g e) edge.first_end edge.second_end l.ways
-    where
-      by_ways : (edge : Edge) → edge.a < g.nodes → edge.b < g.nodes → ((edge.a ≡ x) × (edge.b ≡ y)) ⊎ ((edge.a ≡ y) × (edge.b ≡ x))
-          → (x < g.nodes) × (y < g.nodes)
-      by_ways edge p q (inl w) = (omega (arith, p, w.0), omega (arith, q, w.1))
-      by_ways edge p q (inr w) = (omega (arith, q, w.1), omega (arith, p, w.0))
+  leads_low e x y web l = grind arith

@@ -1,25 +1,12 @@
-use Rattle.std.proofs.Common.{◌≡◌, ◌<◌, ap, arith, get_or, length, subst, true, ◌∙◌}
+use Rattle.std.proofs.Common.{◌<◌, arith, length, subst}
 use Rattle.std.proofs.lemmas.List.{get_or_read}
-use Rattle.sg_sums.specs.Sets.{is_marked}
 use Rattle.sg_graph.specs.Search.{VisitsEdges}
 use Rattle.sg_graph.proofs.Incidences.{incident_ends}
 use Rattle.sg_graph.proofs.Searching.{Explores-more, MarksReached-all, marked_low}
 use Rattle.sg_graph.proofs.search.marks_from_first.Goals as goal
 
 pub visit-requires-clause-here : goal.visit-requires-clause-here
-visit-requires-clause-here c =
-    let low : c.loop-next.next < length c.loop-next.found.items = omega arith in
-    let is : c.index-node.result.now ≡ get_or c.loop-next.found.items c.loop-next.next 0 = get_or_read c.loop-next.found.items c.loop-next.next
-    c.index-node.result.now low c.index-node.ensures 0 in
-    let marked : is_marked c.loop-next.marks.items c.index-node.result.now ≡ true = ap (is_marked c.loop-next.marks.items) is
-    ∙ c.loop-next.invariant.noted c.loop-next.next 0 low in
-    let in' : c.index-node.result.now < c.args.web.now.nodes = omega (
-      arith,
-      c.loop-next.invariant.count,
-      marked_low c.loop-next.marks.items
-          c.index-node.result.now marked,
-    ) in
-    incident_ends c.args.web.now c.in_ok-incidence.incidence c.in_ok-incidence.ensures c.index-node.result.now in' c.at.result.now c.at.ensures
+visit-requires-clause-here c = grind (arith, marked_low, incident_ends)
 
 pub loop-next-preserved : goal.loop-next-preserved
 loop-next-preserved c =

@@ -12,7 +12,7 @@ loop-k-preserved c =
     let ends : EndsAt c.args.web.now c.args.node (get_or c.args.edges_here.now c.loop-k.k-index 0) = c.requires.here c.loop-k.k-index 0 low in
     let other_node : c.other-other.result < c.args.web.now.nodes = other_in c.args.web.now c.args.node c.args.edges_here.now c.loop-k.k-index
     c.other-other.result c.as_slice-edges.result.now c.edges.ensures.web same c.other-other.ensures ends in
-    let in' : c.other-other.result < length c.loop-k.marks.items = omega (arith, c.loop-k.invariant.count, c.requires.marks) in
+    let in' : c.other-other.result < length c.loop-k.marks.items = omega arith in
     let read : c.index.result.now ≡ get_or c.loop-k.marks.items c.other-other.result false = get_or_read c.loop-k.marks.items c.other-other.result
     c.index.result.now in' c.index.ensures false in
     elim c.if-not-index.branch [

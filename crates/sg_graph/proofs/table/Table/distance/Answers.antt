@@ -6,13 +6,7 @@ use Rattle.sg_graph.proofs.table.Table.distance.Goals as goal
 pub index-requires : goal.index-requires
 index-requires c =
     let t = c.self.inside in
-    omega (
-      arith,
-      c.requires.node_in,
-      lists_long c.args.self.now t.source t.distances.items t.edges.items c.self.invariant.0 c.self.view_is,
-      c.self.invariant.0,
-      t.distances.ok,
-    )
+    omega (arith, lists_long c.args.self.now t.source t.distances.items t.edges.items c.self.invariant.0 c.self.view_is)
 
 pub returns : goal.returns
 returns c =
@@ -21,6 +15,6 @@ returns c =
     let long = lists_long c.args.self.now t.source t.distances.items t.edges.items c.self.invariant.0 c.self.view_is in
     to_z-of_z fits
     ∙ get_or_read_under t.distances.items c.args.node t.distances.len c.index.result.now (pos 0) c.index.ensures
-    (omega (arith, c.requires.node_in, long, c.self.invariant.0, t.distances.ok)) t.distances.ok.0
+    (omega arith) t.distances.ok.0
     ∙ read_distance c.args.self.now t.source t.distances.items t.edges.items c.self.invariant.0 c.self.view_is c.args.node c.requires.node_in
     c.requires.reached

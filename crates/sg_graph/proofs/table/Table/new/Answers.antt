@@ -1,6 +1,6 @@
-use Rattle.std.proofs.Common.{List, Option, arith, ap, sym, subst}
+use Rattle.std.proofs.Common.{List, Option, arith, sym, subst}
 use Rattle.std.proofs.lemmas.List.{length-set}
-use Rattle.sg_graph.specs.Table.{IsTable, Route, Routes}
+use Rattle.sg_graph.specs.Table.{IsTable, Route}
 use Rattle.sg_graph.proofs.Tables.{IsTable-first, first_routes_is}
 use Rattle.sg_graph.proofs.table.Table.new.Goals as goal
 
@@ -13,8 +13,6 @@ invariant_of-result c =
         arith,
         c.in_ok-distances.ensures.len,
         c.in_ok-edges.ensures.len,
-        c.in_ok-distances.distances.ok,
-        c.in_ok-edges.edges.ok,
         length-set
             c.in_ok-edges.edges.items c.args.source 0,
       ),
@@ -22,7 +20,4 @@ invariant_of-result c =
     )
 
 pub returns : goal.returns
-returns c =
-    let made : List (Option Route) → Routes = λ rs. record { source = c.args.source; to = rs } in
-    ap made (first_routes_is c.args.nodes c.args.source c.in_ok-distances.distances.items c.in_ok-edges.edges.items
-    (c.in_ok-distances.ensures.items_if_clones_equal (λ y e. e)) (c.in_ok-edges.ensures.items_if_clones_equal (λ y e. e)))
+returns c = grind (arith, first_routes_is)

@@ -7,14 +7,14 @@ use Rattle.sg_graph.proofs.table.Table.parent.Goals.{else-node-self-via-then-nod
 pub index-edge-requires : goal.index-edge-requires
 index-edge-requires c =
     let t = c.self.inside in
-    omega (arith, c.requires, lists_long c.args.self.now t.source t.distances.items t.edges.items c.self.invariant.0 c.self.view_is, t.edges.ok)
+    omega (arith, lists_long c.args.self.now t.source t.distances.items t.edges.items c.self.invariant.0 c.self.view_is)
 
 pub returns-then-edge : goal.returns-then-edge
 returns-then-edge c =
     let t = c.self.inside in
     let long = lists_long c.args.self.now t.source t.distances.items t.edges.items c.self.invariant.0 c.self.view_is in
     let read : c.index-edge.result.now ≡ get_or t.edges.items c.args.node 0 = get_or_read_under t.edges.items c.args.node t.edges.len c.index-edge.result.now
-    0 c.index-edge.ensures (omega (arith, c.requires, long, t.edges.ok)) t.edges.ok.0 in
+    0 c.index-edge.ensures (omega arith) t.edges.ok.0 in
     ap (λ e. Some e) read
     ∙ read_parent c.args.self.now t.source t.distances.items t.edges.items c.self.invariant.0 c.self.view_is c.args.node c.requires
     (λ h. c.if-node-self.true (sym h)) (λ h. c.if-edge.true (read ∙ h))
@@ -24,7 +24,7 @@ returns-else-node-self c =
     let t = c.self.inside in
     let long = lists_long c.args.self.now t.source t.distances.items t.edges.items c.self.invariant.0 c.self.view_is in
     let read : c.index-edge.result.now ≡ get_or t.edges.items c.args.node 0 = get_or_read_under t.edges.items c.args.node t.edges.len c.index-edge.result.now
-    0 c.index-edge.ensures (omega (arith, c.requires, long, t.edges.ok)) t.edges.ok.0 in
+    0 c.index-edge.ensures (omega arith) t.edges.ok.0 in
     elim c.else-node-self.branch [
       | else-node-self-via-then-node-self+else-edge w ↦ no_parent_unreached c.args.self.now t.source t.distances.items t.edges.items c.self.invariant.0
           c.self.view_is c.args.node c.requires (sym read ∙ w.if-edge.false)

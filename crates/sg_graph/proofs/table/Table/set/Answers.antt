@@ -6,18 +6,12 @@ use Rattle.sg_graph.proofs.table.Table.set.Goals as goal
 pub index_mut-requires : goal.index_mut-requires
 index_mut-requires c =
     let t = c.self.inside in
-    omega (
-      arith,
-      c.requires.node_in,
-      lists_long c.args.self.now t.source t.distances.items t.edges.items c.self.invariant.0 c.self.view_is,
-      c.self.invariant.0,
-      t.distances.ok,
-    )
+    omega (arith, lists_long c.args.self.now t.source t.distances.items t.edges.items c.self.invariant.0 c.self.view_is)
 
 pub index_mut-requires-2 : goal.index_mut-requires-2
 index_mut-requires-2 c =
     let t = c.self.inside in
-    omega (arith, c.requires.node_in, lists_long c.args.self.now t.source t.distances.items t.edges.items c.self.invariant.0 c.self.view_is, t.edges.ok)
+    omega (arith, lists_long c.args.self.now t.source t.distances.items t.edges.items c.self.invariant.0 c.self.view_is)
 
 pub invariant_of-self : goal.invariant_of-self
 invariant_of-self c =
@@ -25,7 +19,6 @@ invariant_of-self c =
     let fits : FitsSigned w64 c.args.distance = search rules in (
       omega (
         arith,
-        c.self.invariant.0,
         length-set t.distances.items c.args.node
             (to_z w64 (of_z w64 c.args.distance)),
         length-set t.edges.items c.args.node c.args.edge,
