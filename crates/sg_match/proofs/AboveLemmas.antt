@@ -1,13 +1,11 @@
 -- What holds of tops and passes to children holds of all sets.
-use Rattle.std.proofs.Common.{[], ap, arith, eqb, inl, inr, length, subst, suc, sym, zero, ℕ, ◌<◌, ◌∙◌, ◌≡◌, ◌≤◌}
+use Rattle.std.proofs.Common.{ap, arith, inl, inr, length, subst, suc, sym, zero, ℕ, ◌<◌, ◌∙◌, ◌≡◌, ◌≤◌}
 use Rattle.std.proofs.lemmas.Bool.{cases_lt, eqb-true}
 use Rattle.std.proofs.lemmas.List.{get_or_read}
 use Rattle.std.proofs.Math.Bool.{or-false}
-use Rattle.std.specs.Option.{option_map_or}
 use Rattle.sg_arena.proofs.FamilyLemmas.{alive_from_holds, child-covered, child-smaller, leaf_bound, size-positive, some_leaf, top-covers}
 use Rattle.sg_sums.proofs.ListLaws.{place_of_any}
-use Rattle.sg_arena.specs.Family.{Covers, Family, Holds, IsAlive, IsFamily, IsTop, blank_link, cycle_of, has_leaf, holds, leaf_count, leaf_node, leaves_of}
-use Rattle.sg_arena.specs.Family.{link_at}
+use Rattle.sg_arena.specs.Family.{Covers, Family, Holds, IsAlive, IsFamily, IsTop, blank_link, cycle_of, holds, leaf_count, leaf_node, leaves_of, link_at}
 use Rattle.sg_match.proofs.TopLemmas.{top_of}
 
 module _ (f : Family) (fam : IsFamily f) where
@@ -21,20 +19,11 @@ module _ (f : Family) (fam : IsFamily f) where
 
   -- a leaf's node holds that leaf alone
   pub leaf-only : (l u : ℕ) → l < leaf_count f → Holds f (leaf_node f l) u → l ≡ u
-  leaf-only l u low held =
-      eqb-true l u (sym (or-false (eqb l u)) ∙ sym (ap (λ o. has_leaf (option_map_or (λ x. x.leaves) o []) u) (fam.leaf_set l low)) ∙ held)
-
-  -- a leaf's own node has no children
-  pub leaf-plain : (l : ℕ) → l < leaf_count f → cycle_of f (leaf_node f l) ≡ []
-  leaf-plain l low = ap (λ o. option_map_or (λ x. x.cycle) o []) (fam.leaf_set l low)
+  leaf-only l u low held = grind (arith, eqb-true, or-false, fam.leaf_set)
 
   -- a node without children is the node of the leaf that it holds
   pub plain_is : (n l : ℕ) → length (cycle_of f n) ≤ 0 → Holds f n l → leaf_node f l ≡ n
-  plain_is n l plain held =
-      let named = fam.leaf_named n (alive_from_holds f n l held) (λ some. omega (arith, some, plain)) in
-      let key : leaf_node f named.0 ≡ n = sym (get_or_read f.leaf_nodes named.0 n named.1 (sym named.2) 0) in
-      let same : named.0 ≡ l = leaf-only named.0 l named.1 (subst (λ m. Holds f m l) (sym key) held) in
-      subst (λ k. leaf_node f k ≡ n) same key
+  plain_is n l plain held = grind (arith, alive_from_holds, get_or_read, leaf-only, fam.leaf_named, f.leaf_nodes)
 
   -- a leaf's node lies in each set that holds the leaf
   pub leaf-covered : (n l : ℕ) → l < leaf_count f → Holds f n l → Covers f n (leaf_node f l)

@@ -152,12 +152,10 @@ module _ (f : Family) (cost : ℕ → ℕ → ℕ) (old now : List (Option Edge)
 
     -- a name that was not written
     kept : (n : ℕ) → n ≢ tree_edge.inner → n ≢ tree_edge.outer → n ≢ there → pair_of paired_now n ≡ pair_of now n
-    kept n a b c = twice_other unpaired_now tree_edge.outer there n (Some edge) (Some (flipped edge)) b c ∙
-        twice_other now tree_edge.inner tree_edge.outer n None None a b
+    kept n a b c = simp (twice_other)
 
     new_exposed : pair_of paired_now tree_edge.inner ≡ None
-    new_exposed = twice_other unpaired_now tree_edge.outer there tree_edge.inner (Some edge) (Some (flipped edge)) in_out in_there ∙
-        twice_first now tree_edge.inner tree_edge.outer None None (names tree_edge.inner top_in) in_out
+    new_exposed = simp (twice_other, in_out, in_there, twice_first, top_in)
 
     -- one tree edge is turned over: the way goes on from its inner top
     pub IsAugmenting-turn : (next : ℕ) → IsTop f next → Holds f next tree_edge.up.to →
@@ -222,10 +220,7 @@ module _ (f : Family) (cost : ℕ → ℕ → ℕ) (old now : List (Option Edge)
         }
       where
         out_paired : pair_of now tree_edge.outer ≡ Some (flipped tree_edge.pair)
-        out_paired =
-            ap (λ n. pair_of now n) (sym (outer_at root edges i within)) ∙ is.same_outer (suc i) (omega arith) ∙
-            ap (λ n. pair_of old n) (outer_at root edges i within)
-            ∙ outer_pair f cost old root edges fam can.paired can.tree i within
+        out_paired = grind (arith, outer_at, outer_pair)
 
   -- at the root
   module _ (here there : ℕ) (edge : Edge) (top_there : IsTop f there) (is : IsAugmenting f cost old now root edges v 0 here there edge) where
@@ -236,10 +231,7 @@ module _ (f : Family) (cost : ℕ → ℕ → ℕ) (old now : List (Option Edge)
     root_top = can.tree.shape.tops.outer_tops 0 (omega (arith, length-outers root edges))
 
     here_root : root ≡ here
-    here_root = ap (λ j. get_or (outers root edges) j 0) (zero_is is.place is.low) ∙ is.at
-      where
-        zero_is : (n : ℕ) → n ≤ 0 → 0 ≡ n
-        zero_is n low = omega (arith, low)
+    here_root = grind (arith, is.place, is.low, is.at)
 
     apart : root ≢ there
     apart e = is.out_outer 0 (omega arith) e

@@ -18,8 +18,7 @@ use Rattle.sg_sums.specs.Sums.{sum_below}
 use Rattle.sg_match.proofs.EngineLemmas.{even, exposed_of, symmetric, tree_of}
 use Rattle.sg_match.proofs.ParityLemmas.{tree_parity}
 use Rattle.sg_match.proofs.NearestStep.{CanChangeDuals-nearest}
-use Rattle.sg_match.proofs.RaiseStep.{CanRaise-tree, IsFeasible-raised, IsExposed-raised, IsPaired-raised, IsTree-raised, between_moved, free_moves, held}
-use Rattle.sg_match.proofs.RaiseStep.{outer_moves}
+use Rattle.sg_match.proofs.RaiseStep.{CanRaise-tree, IsFeasible-raised, IsExposed-raised, IsPaired-raised, IsTree-raised, between_moved, free_moves, held, outer_moves}
 use Rattle.sg_match.proofs.TreeLemmas.{inner_at, length-inners, outer_cases, outer_pair}
 use Rattle.sg_match.proofs.TopLemmas.{top_of}
 use Rattle.sg_match.specs.Bound.{IsBounded, IsCalm}

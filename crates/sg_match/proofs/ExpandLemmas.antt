@@ -1,6 +1,5 @@
 -- What `expand` meets: an inner blossom of a sound state, its ring, and the state after it.
-use Rattle.std.proofs.Common.{◌≡◌, ◌⊎◌, ℕ, ◌+◌, ◌*◌, ◌<◌, ◌≤◌, List, [], length, get_or, Contains, MatchOption, Option, Some, None, sym, ap, ◌∙◌, subst, inl}
-use Rattle.std.proofs.Common.{inr, arith}
+use Rattle.std.proofs.Common.{◌≡◌, ◌⊎◌, ℕ, ◌+◌, ◌*◌, ◌<◌, ◌≤◌, List, [], length, get_or, Contains, MatchOption, Option, Some, None, sym, ap, ◌∙◌, subst, inl, inr, arith}
 use Rattle.std.proofs.lemmas.List.{get_or_default}
 use Rattle.std.proofs.lemmas.List.Elements.{Contains-get_or}
 use Rattle.sg_arena.specs.Changes.{with_slot}
@@ -13,8 +12,7 @@ use Rattle.sg_match.proofs.EngineLemmas.{exposed_of, no_edges, symmetric, tree_o
 use Rattle.sg_match.proofs.NodeLemmas.{length-nodes, node_at_place}
 use Rattle.sg_match.proofs.RingLemmas.{IsFacing-from, IsRing, IsRing-rotated}
 use Rattle.sg_match.proofs.RotateLemmas.{Differ-cycle, cases_wrapped, link_at-rotated, wrapped}
-use Rattle.sg_match.proofs.ExpandStep.{IsFeasible-expand, IsExposed-expanded, IsPaired-expand, expanded_tree}
-use Rattle.sg_match.proofs.ExpandStep.{node_bound, ring_room, steps-expand}
+use Rattle.sg_match.proofs.ExpandStep.{IsFeasible-expand, IsExposed-expanded, IsPaired-expand, expanded_tree, node_bound, ring_room, steps-expand}
 use Rattle.sg_match.proofs.TreeLemmas.{inner_at, inner_top, length-inners}
 use Rattle.sg_match.specs.InnerZeros.{IsInnerZero}
 use Rattle.sg_match.specs.Engine.{IsEngine}
@@ -26,7 +24,7 @@ use Rattle.sg_sums.specs.Sets.{Differ}
 use Rattle.sg_match.specs.Path.{nodes_of}
 use Rattle.sg_match.specs.State.{State}
 use Rattle.sg_match.specs.Steps.{blossoms_of, steps_left, tree_left}
-use Rattle.sg_match.specs.Tree.{IsTree, blank_tree_edge, inners, tree_edge_at}
+use Rattle.sg_match.specs.Tree.{IsTree, inners, tree_edge_at}
 use Rattle.sg_match.specs.declared.Edge.{Edge}
 use Rattle.sg_match.specs.declared.TreeEdge.{TreeEdge}
 
@@ -45,10 +43,7 @@ module _ (s : State) (b : ℕ) (engine : IsEngine s) (inner_zero : IsInnerZero s
     exposed : IsExposed f s.pairs (Some root) s.exposed
 
   rooted : IsRooted
-  rooted = elim (cases_option s.root) [
-    | inl none ↦ absurd (omega (arith, inner_zero.within, ap (λ xs. length xs) (no_edges s engine none)))
-    | inr some ↦ record { root = some.0; is = some.1; tree = tree_of s engine some.0 some.1; exposed = exposed_of s engine some.0 some.1 }
-  ]
+  rooted = grind (arith, cases_option s.root, no_edges, tree_of, exposed_of, s.root, inner_zero.within)
 
   -- the blossom is one of the inner tops
   pub is_inner : Contains (inners s.edges) b
@@ -157,15 +152,7 @@ pub record IsFound (s : State) (b at : ℕ) (tree_edge : TreeEdge) : Type 0 wher
 -- what was found of the inner blossom, as one record
 pub found : (s t : State) (b at : ℕ) (edges : List TreeEdge) (tree_edge : TreeEdge) → s ≡ t → IsEngine s → IsInnerZero t.family t.edges b →
     edges ≡ s.edges → at < length edges → (tree_edge_at edges at).inner ≡ b → tree_edge ≡ get_or s.edges at tree_edge → IsFound s b at tree_edge
-found s t b at edges tree_edge same engine inner_zero lent low here read =
-    let within : at < length s.edges = subst (λ xs. at < length xs) lent low in
-    record {
-      engine = engine;
-      inner_zero = subst (λ (x : State). IsInnerZero x.family x.edges b) (sym same) inner_zero;
-      low = within;
-      here = subst (λ xs. (tree_edge_at xs at).inner ≡ b) lent here;
-      read = read ∙ get_or_default s.edges at tree_edge blank_tree_edge within;
-    }
+found s t b at edges tree_edge same engine inner_zero lent low here read = grind (arith, get_or_default, s.edges, lent)
 
 module _ {s : State} {b at : ℕ} {tree_edge : TreeEdge} (is : IsFound s b at tree_edge) where
   -- its pair leads from a leaf of it

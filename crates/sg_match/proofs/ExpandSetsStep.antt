@@ -4,8 +4,7 @@ use Rattle.std.proofs.lemmas.Option.{same_Some}
 use Rattle.std.specs.Option.{option_map_or}
 use Rattle.std.proofs.lemmas.Bool.{cases_eq}
 use Rattle.std.proofs.lemmas.List.{get_or-set_same, get_or-set_other}
-use Rattle.sg_arena.proofs.ExpandedFamily.{IsFamily-expand, IsTop-expand_child, IsTop-expand_old, IsTop-expand_other, duals_between-expand, expand-apart}
-use Rattle.sg_arena.proofs.ExpandedFamily.{holds_rest, total-expand}
+use Rattle.sg_arena.proofs.ExpandedFamily.{IsFamily-expand, IsTop-expand_child, IsTop-expand_old, IsTop-expand_other, duals_between-expand, expand-apart, holds_rest, total-expand}
 use Rattle.sg_arena.proofs.FamilyLemmas.{child-covered, top-no_child}
 use Rattle.sg_arena.specs.Changes.{CanShrink, with_slot}
 use Rattle.sg_arena.specs.Family.{Family, Holds, IsBlossom, IsFamily, IsTop, Node, cycle_of, dual_of, link_at, node_at, total_of}

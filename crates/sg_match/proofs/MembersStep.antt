@@ -1,6 +1,5 @@
 -- A leaf that joins the members.
-use Rattle.std.proofs.Common.{length-append, ◌≡◌, ℕ, ◌+◌, ◌<◌, ◌++◌, ◌∷◌, [], List, length, ℤ, pos, inl, inr, sym, ap}
-use Rattle.std.proofs.Common.{◌∙◌, subst, arith}
+use Rattle.std.proofs.Common.{length-append, ◌≡◌, ℕ, ◌+◌, ◌<◌, ◌++◌, ◌∷◌, [], List, length, ℤ, pos, inl, inr, sym, ap, ◌∙◌, subst, arith}
 use Rattle.sg_slack.proofs.DistinctLemmas.{at_end}
 use Rattle.sg_slack.proofs.ScanLemmas.{below_next}
 use Rattle.sg_slack.specs.Members.{Agree, AreMarked, IsMember, Member, member_at}

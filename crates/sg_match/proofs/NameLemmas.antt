@@ -1,6 +1,6 @@
 -- Lists of different names.
-use Rattle.std.proofs.Common.{◌≡◌, ◌≢◌, ℕ, suc, ◌<◌, List, [], ◌∷◌, length, get_or, sym, subst, arith, zero, ◌-◌, ◌⊎◌, ◌++◌, Contains}
-use Rattle.std.proofs.Common.{refl, ◌∙◌, inl, inr, length-append}
+use Rattle.std.proofs.Common.{◌≡◌, ◌≢◌, ℕ, ◌<◌, List, [], ◌∷◌, length, get_or, sym, subst, arith, ◌-◌, ◌⊎◌, ◌++◌, Contains}
+use Rattle.std.proofs.Common.{◌∙◌, inl, inr, length-append}
 use Rattle.std.proofs.lemmas.Bool.{cases_lt}
 use Rattle.std.proofs.lemmas.List.{get_or_append_left, get_or_default}
 use Rattle.std.proofs.lemmas.List.Elements.{Contains-get_or}
@@ -38,29 +38,12 @@ Differ-append xs ys dx dy apart i j low_i low_j same =
 
 -- two different names differ
 pub Differ-two : (a b : ℕ) → a ≢ b → Differ (a ∷ b ∷ [])
-Differ-two a b apart zero zero i j same = refl
-Differ-two a b apart zero (suc zero) i j same = absurd (apart same)
-Differ-two a b apart zero (suc (suc j)) i low same = absurd (omega (arith, low))
-Differ-two a b apart (suc zero) zero i j same = absurd (apart (sym same))
-Differ-two a b apart (suc zero) (suc zero) i j same = refl
-Differ-two a b apart (suc zero) (suc (suc j)) i low same = absurd (omega (arith, low))
-Differ-two a b apart (suc (suc i)) j low k same = absurd (omega (arith, low))
+Differ-two a b h1 = grind arith
 
 -- a list of two has these two alone
 pub Contains-two : (a b n : ℕ) → Contains (a ∷ b ∷ []) n → (n ≡ a) ⊎ (n ≡ b)
-Contains-two a b n (zero, low, at) = inl (sym at)
-Contains-two a b n (suc zero, low, at) = inr (sym at)
-Contains-two a b n (suc (suc k), low, at) = absurd (omega (arith, low))
+Contains-two a b n h1 = grind arith
 
 -- one more name
 pub Differ-last : (xs : List ℕ) (y : ℕ) → Differ xs → ((i : ℕ) → i < length xs → get_or xs i 0 ≢ y) → Differ (xs ++ y ∷ [])
-Differ-last xs y differ away i j low_i low_j same = elim (at_end xs y 0 i low_i) [
-  | inl a ↦ elim (at_end xs y 0 j low_j) [
-    | inl b ↦ differ i j a.0 b.0 (sym a.1 ∙ same ∙ b.1)
-    | inr b ↦ absurd (away i a.0 (sym a.1 ∙ same ∙ b.1))
-  ]
-  | inr a ↦ elim (at_end xs y 0 j low_j) [
-    | inl b ↦ absurd (away j b.0 (sym b.1 ∙ sym same ∙ a.1))
-    | inr b ↦ a.0 ∙ sym b.0
-  ]
-]
+Differ-last xs y differ away i j low_i low_j same = grind (arith, at_end)

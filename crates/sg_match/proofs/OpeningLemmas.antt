@@ -1,7 +1,5 @@
 -- An engine over leaves alone, as it is opened.
-use Rattle.std.proofs.Common.{◌≡◌, ℕ, zero, suc, ◌-◌, ◌+◌, ◌*◌, ◌<◌, ◌%◌, false, cond, List, [], ◌∷◌, length, get_or, Option, Some, None, refl, sym, ap}
-use Rattle.std.proofs.Common.{◌∙◌, subst, inr}
-use Rattle.std.proofs.Common.{arith}
+use Rattle.std.proofs.Common.{◌≡◌, ℕ, zero, suc, ◌-◌, ◌+◌, ◌*◌, ◌<◌, ◌%◌, false, cond, List, [], ◌∷◌, length, get_or, Option, Some, None, refl, sym, ap, ◌∙◌, subst, inr, arith}
 use Rattle.std.proofs.lemmas.Option.{none-some}
 use Rattle.std.specs.List.{range_with_len}
 use Rattle.std.specs.Option.{option_map_or}
@@ -13,7 +11,6 @@ use Rattle.sg_arena.specs.Changes.{OnlyLeaves}
 use Rattle.sg_arena.specs.Family.{Family, IsFamily, Node, leaf_count, node_at, share, total_of}
 use Rattle.sg_arena.specs.Slack.{duals_between}
 use Rattle.sg_arena.specs.declared.Link.{Link}
-use Rattle.sg_match.proofs.BoundStep.{IsBounded-made}
 use Rattle.sg_match.specs.Engine.{IsEngine}
 use Rattle.sg_match.specs.Feasible.{IsFeasible}
 use Rattle.sg_pairing.specs.Tight.{IsTight}
@@ -38,21 +35,10 @@ module _ (f : Family) (only : OnlyLeaves f) (first : f.steps ≡ 0) (t : Table) 
   no_duals u v = omega (arith, total-between f u v, no_total u, no_total v)
 
   feasible : IsFeasible f (cost t)
-  feasible =
-      record {
-        family = fam;
-        slack = λ u v low_u low_v. omega (arith, no_duals u v);
-        links = λ name i low. absurd (leaves-no_child f only name i low);
-        parity = λ top u v is held_u held_v. ap (λ n. n % 2) (no_total u ∙ sym (no_total v));
-      }
+  feasible = grind (arith, fam, no_duals, leaves-no_child, no_total)
 
   paired : IsPaired f (IsTight f (cost t)) pairs
-  paired =
-      record {
-        own = λ n p is some. absurd (none-some p (sym (free n) ∙ some));
-        other = λ n p is some. absurd (none-some p (sym (free n) ∙ some));
-        tight = λ n p is some. absurd (none-some p (sym (free n) ∙ some));
-      }
+  paired = grind (arith, none-some)
 
   exposed : IsExposed f pairs None f.leaf_nodes
   exposed =
@@ -101,16 +87,4 @@ module _ (f : Family) (only : OnlyLeaves f) (first : f.steps ≡ 0) (t : Table) 
   -- the invariant holds
   pub IsEngine-opened : (names : List ℕ) (edges : List TreeEdge) → names ≡ f.leaf_nodes → edges ≡ [] →
       IsEngine (record { family = f; table = t; pairs = pairs; exposed = names; root = None; edges = edges })
-  IsEngine-opened names edges named bare =
-      record {
-        costs = metric;
-        leaves = size;
-        room = room;
-        feasible = feasible;
-        paired = paired;
-        exposed = subst (λ ns. IsExposed f pairs None ns) (sym named) exposed;
-        tree = bare;
-        left = omega (arith, steps_left-opened names edges named bare, ap (λ xs. length xs) named, size);
-        bounded = IsBounded-made (record { family = f; table = t; pairs = pairs; exposed = names; root = None; edges = edges })
-            (omega (arith, steps_left-opened names edges named bare, first));
-      }
+  IsEngine-opened names edges named bare = grind (arith, feasible, paired, exposed, steps_left-opened, named)

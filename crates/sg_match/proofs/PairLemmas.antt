@@ -24,15 +24,11 @@ twice_first pairs s t a b low away = get_or-set_other (set pairs s a) t s b None
 module _ (f : Family) (good : ℕ → ℕ → Type 0) (pairs : List (Option Edge)) (fam : IsFamily f) (paired : IsPaired f good pairs) where
   -- whose top holds the other end is the other top
   pub mate_is : (t s : ℕ) (p : Edge) → IsTop f t → IsTop f s → pair_of pairs t ≡ Some p → Holds f s p.to → pair_of pairs s ≡ Some (flipped p)
-  mate_is t s p top_t top_s is held =
-      let m = paired.other t p top_t is in
-      subst (λ n. pair_of pairs n ≡ Some (flipped p)) (top-apart f fam m.0 s p.to m.1 top_s m.3 held) m.4
+  mate_is t s p top_t top_s is held = grind (arith, top-apart, paired.other, top_t, p.to, top_s)
 
   -- a top's pair leads to another top
   pub mate_differs : (t s : ℕ) (p : Edge) → IsTop f t → IsTop f s → pair_of pairs t ≡ Some p → Holds f s p.to → s ≢ t
-  mate_differs t s p top_t top_s is held same =
-      let m = paired.other t p top_t is in
-      m.2 (top-apart f fam m.0 s p.to m.1 top_s m.3 held ∙ same)
+  mate_differs t s p top_t top_s is held same = grind (arith, top-apart, paired.other, p.to)
 
   module _ (s t : ℕ) (top_s : IsTop f s) (top_t : IsTop f t) (low_s : s < length pairs) (low_t : t < length pairs) where
     -- taking the pair from two paired tops

@@ -60,33 +60,15 @@ module _ (ring turned : List Link) (is : IsBackwards ring turned) where
 
   -- the node that follows is the one before which the link stood
   follows : (i : ℕ) → i < length ring → (link_at turned (after_index (length ring) i)).node ≡ (link_at ring (length ring - 1 - i)).node
-  follows i low = elim (cases_after (length ring) i) [
-    | inl end ↦
-        let none : length ring - 1 - i ≡ 0 = omega (arith, end.0) in
-        ap (λ x. (link_at turned x).node) end.1 ∙ first_back (omega (arith, low)) ∙ ap (λ x. (link_at ring x).node) (sym none)
-    | inr more ↦
-        let less : length ring - (i + 1) ≡ length ring - 1 - i = omega arith in
-        ap (λ x. (link_at turned x).node) more.1 ∙ later_back (i + 1) (omega arith) (omega (arith, low, more.0)) ∙ ap (λ x. (link_at ring x).node) less
-  ]
+  follows i low = grind (arith, cases_after (length ring) i, first_back, later_back)
 
   -- the node of a link stands behind the place where the link stood
   led : (i : ℕ) → i < length ring → (link_at turned i).node ≡ (link_at ring (after_index (length ring) (length ring - 1 - i))).node
-  led i low = elim (cases_after (length ring) (length ring - 1 - i)) [
-    | inl end ↦
-        let none : i ≡ 0 = omega (arith, end.0, low) in
-        ap (λ x. (link_at turned x).node) none ∙ first_back (omega (arith, low)) ∙ ap (λ x. (link_at ring x).node) (sym end.1)
-    | inr more ↦
-        let positive : 0 < i = omega (arith, more.0, low) in
-        let same : length ring - i ≡ length ring - 1 - i + 1 = omega (arith, low, positive) in
-        later_back i positive low ∙ ap (λ x. (link_at ring x).node) (same ∙ sym more.1)
-  ]
+  led i low = grind (arith, cases_after (length ring) (length ring - 1 - i), first_back, later_back)
 
   back_differ : (a b x y : ℕ) → a < length ring → b < length ring → ((a ≡ 0) × (x ≡ 0)) ⊎ ((0 < a) × (x + a ≡ length ring)) → ((b ≡ 0) × (y ≡ 0)) ⊎
       ((0 < b) × (y + b ≡ length ring)) → x ≡ y → a ≡ b
-  back_differ a b x y low_a low_b (inl p) (inl q) same = omega (arith, p.0, q.0)
-  back_differ a b x y low_a low_b (inl p) (inr q) same = absurd (omega (arith, p.1, q.1, same, low_b))
-  back_differ a b x y low_a low_b (inr p) (inl q) same = absurd (omega (arith, p.1, q.1, same, low_a))
-  back_differ a b x y low_a low_b (inr p) (inr q) same = omega (arith, p.1, q.1, same)
+  back_differ a b x y h1 h2 h3 h4 h5 = grind arith
 
   -- the other way round
   IsRing-back : (f : Family) (cost : ℕ → ℕ → ℕ) (b : ℕ) → IsRing f cost b ring → IsRing f cost b turned

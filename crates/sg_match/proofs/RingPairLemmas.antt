@@ -1,5 +1,5 @@
 -- Pairing the nodes of a ring two by two.
-use Rattle.std.proofs.Common.{List, None, Option, Some, ap, arith, eq-eqb, inl, inr, length, refl, set, subst, sym, ℕ, ◌%◌, ◌+◌, ◌-◌, ◌<◌, ◌∙◌, ◌≡◌, ◌≢◌, ◌≤◌, ◌⊎◌}
+use Rattle.std.proofs.Common.{List, Option, Some, ap, arith, eq-eqb, inl, inr, length, refl, set, subst, sym, ℕ, ◌%◌, ◌+◌, ◌-◌, ◌<◌, ◌∙◌, ◌≡◌, ◌≢◌, ◌≤◌, ◌⊎◌}
 use Rattle.std.proofs.Math.ListN.{length-set}
 use Rattle.std.proofs.lemmas.Bool.{cases_eq, ne_eqb}
 use Rattle.std.proofs.lemmas.List.{get_or-set_other, get_or-set_same}
@@ -38,14 +38,7 @@ module _ (old : List (Option Edge)) (ring : List Link) (pair : Edge) (some : 0 <
 
   -- at the start the first node has the blossom's pair
   pub IsRingPairedTo-init : IsRingPairedTo old (set old (link_at ring 0).node (Some pair)) ring pair 1
-  IsRingPairedTo-init = record {
-    same = length-set old (link_at ring 0).node (Some pair);
-    each = λ i low within.
-        let first : 0 ≡ i = omega (arith, low) in
-        subst (λ k. pair_of (set old (link_at ring 0).node (Some pair)) (link_at ring k).node ≡ Some (ring_pair ring pair k)) first
-        (get_or-set_same old (link_at ring 0).node (Some pair) None (names 0 some));
-    others = λ n away. get_or-set_other old (link_at ring 0).node n (Some pair) None (λ same. away 0 some (sym same));
-  }
+  IsRingPairedTo-init = grind (arith, length-set, get_or-set_same, get_or-set_other)
 
   -- two nodes more are paired along their link
   pub IsRingPairedTo-more : (now : List (Option Edge)) (k : ℕ) → k % 2 ≡ 1 → k + 1 < length ring → IsRingPairedTo old now ring pair k →
@@ -105,10 +98,7 @@ pub record IsMatePlace (f : Family) (ring : List Link) (pair : Edge) (i : ℕ) :
 
 module _ (f : Family) (ring : List Link) (round : IsCycle f ring) (pair : Edge) where
   follows : (i j : ℕ) → i + 1 ≡ j → j < length ring → Holds f (link_at ring j).node (link_at ring i).to
-  follows i j next low = elim (cases_after (length ring) i) [
-    | inl end ↦ absurd (omega (arith, end.0, next, low))
-    | inr at ↦ subst (λ k. Holds f (link_at ring k).node (link_at ring i).to) (at.1 ∙ next) (round.to i (omega (arith, next, low)))
-  ]
+  follows i j next low = grind (arith, cases_after (length ring) i, round.to)
 
   -- each node but the first
   pub ring_side : (i : ℕ) → i < length ring → i ≢ 0 → IsMatePlace f ring pair i
@@ -145,11 +135,4 @@ module _ (f : Family) (ring : List Link) (round : IsCycle f ring) (pair : Edge) 
 
   -- a node's pair leads from a leaf of it
   pub ring_from : Holds f (link_at ring 0).node pair.from → (i : ℕ) → i < length ring → Holds f (link_at ring i).node (ring_pair ring pair i).from
-  ring_from base i low = elim (cases_eq i 0) [
-    | inl none ↦ subst (λ k. Holds f (link_at ring k).node (ring_pair ring pair k).from) (sym none) base
-    | inr some ↦ elim (cases_eq (i % 2) 1) [
-      | inl odd ↦ subst (λ (e : Edge). Holds f (link_at ring i).node e.from) (sym (ring_pair-odd ring pair i odd)) (round.from i low)
-      | inr even ↦ subst (λ (e : Edge). Holds f (link_at ring i).node e.from) (sym (ring_pair-even ring pair i some even))
-          (follows (i - 1) i (omega (arith, some)) low)
-    ]
-  ]
+  ring_from base i low = grind (arith, cases_eq i 0, cases_eq (i % 2) 1, ring_pair-odd, ring_pair-even, follows, round.from)

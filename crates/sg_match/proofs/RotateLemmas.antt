@@ -1,5 +1,5 @@
 -- A ring read from another place on.
-use Rattle.std.proofs.Common.{List, [], ap, arith, cond, drop, eq-eqb, inl, inr, length, length-append, ltb, refl, subst, sym, take, ℕ, ◌%◌, ◌+◌, ◌++◌, ◌-◌}
+use Rattle.std.proofs.Common.{List, [], ap, arith, cond, eq-eqb, inl, inr, length, length-append, ltb, refl, subst, sym, take, ℕ, ◌%◌, ◌+◌, ◌++◌, ◌-◌}
 use Rattle.std.proofs.Common.{◌<◌, ◌∙◌, ◌∷◌, ◌≡◌, ◌≢◌, ◌≤◌, ◌⊎◌}
 use Rattle.std.proofs.lemmas.Bool.{cases_eq, cases_lt, le-ltb, lt-ltb, ne_eqb}
 use Rattle.std.proofs.lemmas.List.{get_or-append_right, get_or-drop, get_or-take, get_or_append_left, length-drop, length-take-le, take_all, take_more}
@@ -18,89 +18,38 @@ wrapped n i j = cond {A = ℕ} (ltb (i + j) n) (i + j) (i + j - n)
 
 -- a place counted round a ring is the sum, or that less the length
 pub cases_wrapped : (n i j : ℕ) → ((i + j < n) × (wrapped n i j ≡ i + j)) ⊎ ((n ≤ i + j) × (wrapped n i j ≡ i + j - n))
-cases_wrapped n i j = elim (cases_lt (i + j) n) [
-  | inl low ↦ inl (low, rw (lt-ltb (i + j) n low) refl)
-  | inr high ↦ inr (high, rw (le-ltb (i + j) n high) refl)
-]
+cases_wrapped n i j = grind (arith, cases_lt (i + j) n, lt-ltb, le-ltb)
 
 -- it is a place of the ring
 pub wrapped-within : (n i j : ℕ) → i < n → j < n → wrapped n i j < n
-wrapped-within n i j low_i low_j = elim (cases_wrapped n i j) [
-  | inl at ↦ omega (arith, at.0, at.1)
-  | inr at ↦ omega (arith, at.0, at.1)
-]
+wrapped-within n i j low_i low_j = grind (arith, cases_wrapped n i j)
 
 -- different steps lead to different places
 pub wrapped-differ : (n i j k : ℕ) → i < n → j < n → k < n → wrapped n i j ≡ wrapped n i k → j ≡ k
-wrapped-differ n i j k low_i low_j low_k same = elim (cases_wrapped n i j) [
-  | inl a ↦ elim (cases_wrapped n i k) [
-    | inl b ↦ omega (arith, a.0, a.1, b.0, b.1)
-    | inr b ↦ omega (arith, a.0, a.1, b.0, b.1)
-  ]
-  | inr a ↦ elim (cases_wrapped n i k) [
-    | inl b ↦ omega (arith, a.0, a.1, b.0, b.1)
-    | inr b ↦ omega (arith, a.0, a.1, b.0, b.1)
-  ]
-]
+wrapped-differ n i j k low_i low_j low_k same = grind (arith, cases_wrapped n i j, cases_wrapped n i k)
 
 -- the place that follows
 pub cases_after : (n i : ℕ) → ((i + 1 ≡ n) × (after_index n i ≡ 0)) ⊎ ((i + 1 ≢ n) × (after_index n i ≡ i + 1))
-cases_after n i = elim (cases_eq (i + 1) n) [
-  | inl same ↦ inl (same, rw (eq-eqb (i + 1) n same) refl)
-  | inr differs ↦ inr (differs, rw (ne_eqb (i + 1) n differs) refl)
-]
+cases_after n i = grind (arith, cases_eq (i + 1) n, eq-eqb, ne_eqb)
 
 wrapped-after : (n i j : ℕ) → i < n → j < n → after_index n (wrapped n i j) ≡ wrapped n i (after_index n j)
-wrapped-after n i j low_i low_j =
-    after_all (wrapped n i j) (after_index n (wrapped n i j)) (after_index n j) (wrapped n i (after_index n j))
-    (cases_wrapped n i j) (cases_after n (wrapped n i j)) (cases_after n j) (cases_wrapped n i (after_index n j))
-  where
-    after_all : (w after next there : ℕ) → ((i + j < n) × (w ≡ i + j)) ⊎ ((n ≤ i + j) × (w ≡ i + j - n)) → ((w + 1 ≡ n) × (after ≡ 0)) ⊎
-        ((w + 1 ≢ n) × (after ≡ w + 1)) → ((j + 1 ≡ n) × (next ≡ 0)) ⊎ ((j + 1 ≢ n) × (next ≡ j + 1)) → ((i + next < n) × (there ≡ i + next)) ⊎
-        ((n ≤ i + next) × (there ≡ i + next - n)) → after ≡ there
-    after_all w after next there at_w at_after at_next at_there = grind (arith, at_w, at_after, at_next, at_there, low_i, low_j)
+wrapped-after n i j low_i low_j = grind (arith, cases_wrapped n i j, cases_after n (wrapped n i j), cases_after n j, cases_wrapped n i (after_index n j))
 
 -- a ring read from another place is as long
 pub length-rotated : (i : ℕ) (c : List Link) → i ≤ length c → length (rotated i c) ≡ length c
-length-rotated i c low =
-    omega (arith, length-append (drop i c) (take i c), length-drop i c, length-take-le i c low)
+length-rotated i c low = grind (arith, length-append, length-drop, length-take-le)
 
 -- what stands at a place of the rotated ring
 pub link_at-rotated : (i : ℕ) (c : List Link) (j : ℕ) → i < length c → j < length c → link_at (rotated i c) j ≡ link_at c (wrapped (length c) i j)
-link_at-rotated i c j low_i low_j = elim (cases_wrapped (length c) i j) [
-  | inl at ↦
-      get_or_append_left (drop i c) (take i c) blank_link j (omega (arith, at.0, length-drop i c))
-      ∙ get_or-drop i c j blank_link
-      ∙ ap (λ k. link_at c k) (sym at.1)
-  | inr at ↦
-      let back : j - (length c - i) ≡ i + j - length c = omega (arith, at.0, low_i) in
-      get_or-append_right (drop i c) (take i c) (length c - i) j blank_link (length-drop i c) (omega (arith, at.0))
-      ∙ get_or-take i c (j - (length c - i)) blank_link (omega (arith, at.0, low_i, low_j))
-      ∙ ap (λ k. link_at c k) (back ∙ sym at.1)
-]
+link_at-rotated i c j low_i low_j = grind (arith, cases_wrapped (length c) i j, get_or_append_left, length-drop, get_or-drop, get_or-append_right, get_or-take)
 
 -- the rotated ring begins at its place
 pub first_rotated : (c : List Link) (start : ℕ) → start < length c → link_at (rotated start c) 0 ≡ link_at c start
-first_rotated c start low = link_at-rotated start c 0 low (omega (arith, low)) ∙ ap (λ k. link_at c k) back
-  where
-    back : wrapped (length c) start 0 ≡ start
-    back = elim (cases_wrapped (length c) start 0) [
-      | inl at ↦ omega (arith, at.1)
-      | inr at ↦ absurd (omega (arith, at.0, low))
-    ]
+first_rotated c start low = grind (arith, cases_wrapped (length c) start 0, link_at-rotated, low)
 
 -- where in the rotated ring a place of the ring went
 pub unwrapped : (n i k : ℕ) → i < n → k < n → (j : ℕ) × (j < n) × (wrapped n i j ≡ k)
-unwrapped n i k low_i low_k = elim (cases_lt k i) [
-  | inl less ↦ elim (cases_wrapped n i (k + n - i)) [
-    | inl at ↦ (k + n - i, omega (arith, less, low_i), omega (arith, at.0, at.1, less, low_i))
-    | inr at ↦ (k + n - i, omega (arith, less, low_i), omega (arith, at.0, at.1, less, low_i))
-  ]
-  | inr more ↦ elim (cases_wrapped n i (k - i)) [
-    | inl at ↦ (k - i, omega (arith, more, low_k), omega (arith, at.0, at.1, more))
-    | inr at ↦ (k - i, omega (arith, more, low_k), omega (arith, at.0, at.1, more, low_k))
-  ]
-]
+unwrapped n i k low_i low_k = grind (arith, cases_lt k i, cases_wrapped n i (k + n - i), cases_wrapped n i (k - i))
 
 -- each place of the ring has its place in the rotated one
 pub from_ring : (i : ℕ) (c : List Link) (k : ℕ) → i < length c → k < length c → (j : ℕ) × (j < length (rotated i c)) × (link_at (rotated i c) j ≡ link_at c k)
@@ -143,10 +92,7 @@ IsCycle-rotated f c i low is =
 
 -- the nodes of a cycle differ
 pub Differ-cycle : (f : Family) (c : List Link) → IsCycle f c → Differ (nodes_of c)
-Differ-cycle f c is i j low_i low_j same =
-    let in_i : i < length c = omega (arith, low_i, length-nodes c) in
-    let in_j : j < length c = omega (arith, low_j, length-nodes c) in
-    is.differ i j in_i in_j (sym (node_at_place c i in_i) ∙ same ∙ node_at_place c j in_j)
+Differ-cycle f c is i j low_i low_j same = grind (arith, length-nodes, node_at_place, is.differ)
 
 -- a cycle has no more links than there are names
 pub cycle_room : (f : Family) (c : List Link) → IsCycle f c → length c ≤ length f.nodes
@@ -222,15 +168,7 @@ module _ (f : Family) (fam : IsFamily f) (blossom i child : ℕ) (at : IsChildAt
     -- the way round isn't done before the child comes again
     pub turning-less : next ≢ child → length ring < length (cycle_of f blossom)
     turning-less differs =
-        elim (cases_lt (length ring) (length (cycle_of f blossom))) [
-          | inl less ↦ less
-          | inr whole ↦
-              let back : turning.place ≡ i = elim turning.turned [
-                | inl b ↦ omega (arith, b.0, b.1, whole, turning.most)
-                | inr b ↦ omega (arith, b.0, b.1, whole, turning.most)
-              ] in
-              absurd (differs (sym turning.here.here ∙ ap (λ k. (link_at (cycle_of f blossom) k).node) back ∙ at.here))
-        ]
+        grind (arith, cases_lt (length ring) (length (cycle_of f blossom)), turning.place, turning.turned, turning.most, differs, turning.here.here, at.here)
 
     -- one child more on the way round
     pub IsTurning-more : next ≢ child → (after : ℕ) (link : Link) → link ≡ link_at (cycle_of f blossom) turning.place →

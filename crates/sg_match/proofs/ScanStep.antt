@@ -1,6 +1,5 @@
 -- The amount that both scans give together.
-use Rattle.std.proofs.Common.{◌≡◌, ℕ, ◌*◌, ◌/◌, ◌<◌, ◌≤◌, true, false, List, ℤ, pos, ◌≤ℤ◌, Option, Some, None, FitsSigned, to_z, of_z, w64, refl, sym, ap}
-use Rattle.std.proofs.Common.{◌∙◌, subst, arith}
+use Rattle.std.proofs.Common.{◌≡◌, ℕ, ◌*◌, ◌/◌, ◌<◌, ◌≤◌, true, false, List, ℤ, pos, ◌≤ℤ◌, Option, Some, None, FitsSigned, to_z, of_z, w64, refl, sym, ap, ◌∙◌, subst, arith}
 use Rattle.std.specs.Int.Signed.{lt_z, quot_z}
 use Rattle.std.proofs.lemmas.Int.{ints, to_z-of_z}
 use Rattle.sg_match.specs.Scans.{CanScan, IsScanned}

@@ -1,13 +1,12 @@
 -- A tree of one unpaired top.
 use Rattle.std.proofs.Common.{◌≡◌, ℕ, zero, suc, ◌+◌, ◌*◌, ◌-◌, ◌<◌, ◌≤◌, ◌%◌, true, false, not, List, [], ◌∷◌, ◌++◌, length, get_or, count_by, Some}
-use Rattle.std.proofs.Common.{None, refl, sym, ap, ◌∙◌, subst, inl, inr, arith}
+use Rattle.std.proofs.Common.{None, refl, sym, ap, ◌∙◌, subst, inl, inr, arith, zero-add}
 use Rattle.std.proofs.lemmas.Option.{none-some, same_Some}
 use Rattle.std.specs.List.{range_with_len}
 use Rattle.std.proofs.lemmas.Bool.{cases_lt}
 use Rattle.std.proofs.lemmas.List.{get_or_append_left, length-append}
 use Rattle.std.proofs.lemmas.List.FromFn.{get_or-range_with_len, length-range_with_len}
 use Rattle.std.proofs.lemmas.List.Sums.{count_by-le-length}
-use Rattle.std.proofs.Common.{zero-add}
 use Rattle.std.proofs.Math.Seq.{get_or-append_seam}
 use Rattle.sg_arena.proofs.FamilyLemmas.{leaf_bound, some_leaf}
 use Rattle.sg_arena.specs.Family.{Family, IsTop, leaf_count}

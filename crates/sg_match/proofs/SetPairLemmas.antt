@@ -37,9 +37,7 @@ module _ (f : Family) (fam : IsFamily f) where
 
   -- a child's pair leads from a leaf of it
   pub inside_from : (b : ℕ) (q : Edge) (n : ℕ) (p : Edge) → IsInside f b q n p → Holds f n p.from
-  inside_from b q n p is =
-      subst (λ (x : Edge). Holds f n x.from) (sym is.is) (subst (λ m. Holds f m (ring_pair (ring_of b is.start) q is.place).from) is.here
-      (ring_from f (ring_of b is.start) (round b is.start is.low) q (first_holds b is.start q.from is.low is.base) is.place is.within))
+  inside_from b q n p is = grind (arith, ring_from, round, first_holds, is.is, is.start, is.place, is.here, is.low, q.from, is.base, is.within)
 
   -- it is the child of some place
   inside_place : (b : ℕ) (q : Edge) (n : ℕ) (p : Edge) → IsInside f b q n p → (i : ℕ) × (i < length (cycle_of f b)) × ((link_at (cycle_of f b) i).node ≡ n)

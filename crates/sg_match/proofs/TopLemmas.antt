@@ -1,6 +1,6 @@
 -- Each leaf lies in a top.
-use Rattle.std.proofs.Common.{ℕ, zero, suc, ◌<◌, length, sym, ap, ◌∙◌, subst, inl, inr, arith}
-use Rattle.std.proofs.lemmas.Bool.{cases_Bool, cases_eq, false≢true}
+use Rattle.std.proofs.Common.{ℕ, zero, suc, ◌<◌, length, arith}
+use Rattle.std.proofs.lemmas.Bool.{cases_Bool, false≢true}
 use Rattle.sg_arena.proofs.FamilyLemmas.{alive_from_holds, leaf-held, name_bound}
 use Rattle.sg_arena.specs.Family.{Covers, Family, Holds, IsFamily, IsTop, holds, leaf_count, leaf_node}
 
@@ -8,36 +8,7 @@ module _ (f : Family) (fam : IsFamily f) (l : ℕ) (low : l < leaf_count f) wher
   -- of the sets that hold the leaf, one with a name below n covers the others
   widest : (n : ℕ) → (t : ℕ) × Holds f t l × ((m : ℕ) → m < n → Holds f m l → Covers f t m)
   widest zero = (leaf_node f l, leaf-held f fam l low, λ m less in_m. absurd (omega (arith, less)))
-  widest (suc n) =
-      let b = widest n in
-      elim (cases_Bool (holds f n l)) [
-        | inl in_n ↦ elim (fam.nested n b.0 l in_n b.1) [
-          | inl over ↦ (
-            n,
-            in_n,
-            λ m less in_m. elim (cases_eq m n) [
-              | inl same ↦ subst (λ k. Covers f n k) (sym same) (λ x h. h)
-              | inr differ ↦ λ x h. over x (b.2 m (omega (arith, less, differ)) in_m x h)
-            ],
-          )
-          | inr under ↦ (
-            b.0,
-            b.1,
-            λ m less in_m. elim (cases_eq m n) [
-              | inl same ↦ subst (λ k. Covers f b.0 k) (sym same) under
-              | inr differ ↦ b.2 m (omega (arith, less, differ)) in_m
-            ],
-          )
-        ]
-        | inr out ↦ (
-          b.0,
-          b.1,
-          λ m less in_m. elim (cases_eq m n) [
-            | inl same ↦ absurd (false≢true (sym out ∙ ap (λ k. holds f k l) (sym same) ∙ in_m))
-            | inr differ ↦ b.2 m (omega (arith, less, differ)) in_m
-          ],
-        )
-      ]
+  widest (suc n) = grind (arith, widest n, cases_Bool (holds f n l), false≢true, fam.nested)
 
   -- each leaf lies in a top
   pub top_of : (t : ℕ) × IsTop f t × Holds f t l

@@ -1,6 +1,5 @@
 -- A path that grows over one more tree edge at either end.
-use Rattle.std.proofs.Common.{◌≡◌, ◌≢◌, ℕ, zero, suc, ◌+◌, ◌-◌, ◌<◌, ◌≤◌, ◌%◌, ◌⊎◌, List, [], ◌∷◌, ◌++◌, length, get_or, Contains, refl, sym, ap, ◌∙◌, subst, inl}
-use Rattle.std.proofs.Common.{inr, arith, length-append}
+use Rattle.std.proofs.Common.{◌≡◌, ◌≢◌, ℕ, zero, suc, ◌+◌, ◌-◌, ◌<◌, ◌≤◌, ◌%◌, ◌⊎◌, List, [], ◌∷◌, ◌++◌, length, get_or, Contains, refl, sym, ap, ◌∙◌, subst, inl, inr, arith, length-append}
 use Rattle.std.proofs.lemmas.Bool.{cases_eq, cases_lt}
 use Rattle.std.proofs.lemmas.List.{get_or_append_left, map-append}
 use Rattle.std.proofs.lemmas.List.Elements.{Contains-append_left, Contains-append_right, Contains-append_cases}
@@ -45,16 +44,10 @@ module _ (f : Family) (cost : ℕ → ℕ → ℕ) where
   module _ (root : ℕ) (edges : List TreeEdge) (fam : IsFamily f) (shape : IsShape f root edges) (tight : HasTight f cost edges) (i : ℕ)
       (within : i < length edges) where
     pair_back : IsTight f cost (tree_edge_at edges i).pair.to (tree_edge_at edges i).pair.from
-    pair_back = tight-back f cost (tree_edge_at edges i).pair.from (tree_edge_at edges i).pair.to
-        (tight.symmetric (tree_edge_at edges i).pair.from (tree_edge_at edges i).pair.to
-        (leaf_bound f fam (tree_edge_at edges i).inner (tree_edge_at edges i).pair.from ((shape.edge i within).pair_from))
-        (leaf_bound f fam (tree_edge_at edges i).outer (tree_edge_at edges i).pair.to ((shape.edge i within).pair_to))) (tight.pair i within)
+    pair_back = grind (arith, tight-back, leaf_bound, tight.symmetric, shape.edge, tight.pair)
 
     edge_back : IsTight f cost (tree_edge_at edges i).up.to (tree_edge_at edges i).up.from
-    edge_back = let up = (shape.edge i within).up_to in tight-back f cost (tree_edge_at edges i).up.from (tree_edge_at edges i).up.to
-        (tight.symmetric (tree_edge_at edges i).up.from (tree_edge_at edges i).up.to
-        (leaf_bound f fam (tree_edge_at edges i).inner (tree_edge_at edges i).up.from (shape.up_from i within))
-        (leaf_bound f fam (get_or (outers root edges) up.0 0) (tree_edge_at edges i).up.to up.2)) (tight.up i within)
+    edge_back = grind (arith, tight-back, leaf_bound, shape.edge, tight.symmetric, shape.up_from, tight.up)
 
     -- two tight links more at the tail
     pub AreTight-tail : (cycle : List Link) → AreTight f cost cycle
@@ -100,27 +93,16 @@ module _ (f : Family) (root : ℕ) (edges : List TreeEdge) (fam : IsFamily f) (s
       one i j a b = omega (arith, a, b)
 
       single : (n : ℕ) → Contains (head ∷ []) n → n ≡ head
-      single n (zero, low, at) = sym at
-      single n (suc k, low, at) = absurd (omega (arith, low))
+      single n h1 = grind arith
 
   -- while the ends differ, a tree edge is left
   tree_cycle-positive : (cycle : List Link) (i head tail : ℕ) → head ≢ tail → IsTreeCycle f root edges cycle i head tail → i ≡ (i - 1) + 1
-  tree_cycle-positive cycle i head tail apart is =
-      elim (cases_lt 0 i) [
-        | inl more ↦ omega (arith, more)
-        | inr none ↦ absurd (apart (sym is.head_at.2 ∙ ap (λ j. get_or (outers root edges) j 0)
-            (same is.head_at.0 is.tail_at.0 none is.head_at.1 is.tail_at.1) ∙ is.tail_at.2))
-      ]
-    where
-      same : (a b : ℕ) → i ≤ 0 → a ≤ i → b ≤ i → a ≡ b
-      same a b none x y = omega (arith, none, x, y)
+  tree_cycle-positive cycle i head tail apart is = grind (arith, cases_lt 0 i, apart, is.head_at, is.tail_at)
 
   -- the cycle is behind one tree edge more
   pub tree_cycle-back : (cycle : List Link) (i head tail : ℕ) → head ≢ tail → i ≤ length edges → IsTreeCycle f root edges cycle i head tail →
       (i ≡ (i - 1) + 1) × (i - 1 < length edges) × IsTreeCycle f root edges cycle (i - 1 + 1) head tail
-  tree_cycle-back cycle i head tail apart within is =
-      let back = tree_cycle-positive cycle i head tail apart is in
-      (back, omega (arith, within, back), subst (λ n. IsTreeCycle f root edges cycle n head tail) back is)
+  tree_cycle-back cycle i head tail apart within is = grind (arith, tree_cycle-positive, apart)
 
   module _ (cycle : List Link) (i head tail : ℕ) (within : i < length edges) (apart : head ≢ tail)
       (is : IsTreeCycle f root edges cycle (i + 1) head tail) where
@@ -172,14 +154,7 @@ module _ (f : Family) (root : ℕ) (edges : List TreeEdge) (fam : IsFamily f) (s
 
     -- a top of the path stays one of a longer path
     spot_more : (more : List ℕ) (n : ℕ) → ((m : ℕ) → Contains nodes m → Contains more m) → IsSpot edges nodes (i + 1) n → IsSpot edges more i n
-    spot_more more n old s = record {
-      at = s.at;
-      late = omega (arith, s.late);
-      low = s.low;
-      inner = old (tree_edge_at edges s.at).inner s.inner;
-      outer = old (tree_edge_at edges s.at).outer s.outer;
-      is = s.is;
-    }
+    spot_more more n old s = grind (arith, s.at, s.late, s.low, old, s.inner, s.outer, s.is)
 
     -- the tree edge is on neither side
     pub IsTreeCycle-skip : tree_edge.outer ≢ tail → tree_edge.outer ≢ head → IsTreeCycle f root edges cycle i head tail
@@ -282,8 +257,7 @@ module _ (f : Family) (root : ℕ) (edges : List TreeEdge) (fam : IsFamily f) (s
       )
 
       next_differs : (j : ℕ) → suc i ≤ j → j < length (outers root edges) → get_or (outers root edges) j 0 ≢ next
-      next_differs j from low e = absurd
-          (omega (arith, from, up_at.1, shape.tops.outer_differ j up_at.0 low (up_place up_at.0 (omega (arith, up_at.1))) (e ∙ sym up_at.2)))
+      next_differs j from low e = grind (arith, up_place, shape.tops.outer_differ)
 
       next_inner : (j : ℕ) → j < length edges → next ≢ (tree_edge_at edges j).inner
       next_inner j low e = shape.tops.apart up_at.0 j (up_place up_at.0 (omega (arith, up_at.1))) (omega (arith, low, length-inners edges))

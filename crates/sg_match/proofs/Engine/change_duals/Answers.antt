@@ -9,8 +9,7 @@ use Rattle.sg_arena.specs.Family.{Family, IsAlive, leaf_count}
 use Rattle.sg_match.proofs.Engine.change_duals.Given.{Over}
 use Rattle.sg_match.proofs.Engine.change_duals.Goals as goal
 use Rattle.sg_match.proofs.Engine.change_duals.Goals.{After-least_dual-delta, After-raise_tree, After-self, in-Some, in-None}
-use Rattle.sg_match.proofs.DualChangeStep.{HasNearest-engine, IsNext-changed, IsChangingDuals, IsChangingDuals-made, after, change, left-raised, changed_can}
-use Rattle.sg_match.proofs.DualChangeStep.{changed_engine}
+use Rattle.sg_match.proofs.DualChangeStep.{HasNearest-engine, IsNext-changed, IsChangingDuals, IsChangingDuals-made, after, change, left-raised, changed_can, changed_engine}
 use Rattle.sg_match.proofs.EngineLemmas.{inner_alive, state_of, tree_of}
 use Rattle.sg_match.proofs.TreeLemmas.{edge_room}
 use Rattle.sg_slack.specs.Table.{Table}

@@ -6,8 +6,7 @@ use Rattle.sg_match.proofs.shrink_cycle.find_cycle.Goals.{In-loop-head}
 use Rattle.sg_arena.proofs.FamilyLemmas.{leaf_bound}
 use Rattle.sg_arena.specs.Family.{Holds}
 use Rattle.sg_arena.specs.declared.Link.{Link}
-use Rattle.sg_match.proofs.TreeCycleLemmas.{AreTight-head, AreTight-one, AreTight-tail, IsTreeCycle-head, IsTreeCycle-init, IsTreeCycle-skip}
-use Rattle.sg_match.proofs.TreeCycleLemmas.{IsTreeCycle-tail, tree_cycle-back}
+use Rattle.sg_match.proofs.TreeCycleLemmas.{AreTight-head, AreTight-one, AreTight-tail, IsTreeCycle-head, IsTreeCycle-init, IsTreeCycle-skip, IsTreeCycle-tail, tree_cycle-back}
 use Rattle.sg_match.specs.Links.{down_link, up_link}
 use Rattle.sg_match.specs.Path.{AreTight}
 use Rattle.sg_match.specs.TreeCycle.{IsTreeCycle}
