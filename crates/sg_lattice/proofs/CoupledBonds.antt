@@ -1,5 +1,5 @@
 -- The bonds between given ends, as one more is added.
-use Rattle.std.proofs.Common.{◌≡◌, inl, inr, ℕ, ℤ, pos, ◌+◌, ◌<◌, List, [], ◌∷◌, ◌++◌, length, get_or, sym, ◌∙◌, ap, ap₂, arith}
+use Rattle.std.proofs.Common.{◌≡◌, ℕ, ℤ, pos, ◌+◌, ◌<◌, List, [], ◌∷◌, ◌++◌, length, get_or, sym, ◌∙◌, ap, arith}
 use Rattle.std.proofs.lemmas.Bool.{cases_lt}
 use Rattle.std.proofs.lemmas.List.{get_or_append_left, get_or_push, length_push}
 use Rattle.std.proofs.lemmas.List.FromFn.{fill_by_all, get_or-map-range_with_len, length-map-range_with_len}
@@ -29,13 +29,4 @@ module _ (js : List ℤ) where
       last = coupled_bond e (get_or js (length ends) (pos 0))
 
       each : (k : ℕ) → k < length (ends ++ e ∷ []) → get_or (bonds_between ends js ++ last ∷ []) k no_bond ≡ bond_of (ends ++ e ∷ []) k
-      each k l = elim (cases_lt k (length ends)) [
-        | inl before ↦
-            get_or_append_left (bonds_between ends js) (last ∷ []) no_bond k (omega (arith, before, length-coupled ends))
-            ∙ get_or-map-range_with_len (bond_of ends) 0 (length ends) k k no_bond before (omega arith)
-            ∙ ap (λ x. coupled_bond x (get_or js k (pos 0))) (sym (get_or_append_left ends (e ∷ []) (record { u = 0; v = 0 }) k before))
-        | inr behind ↦
-            let at : length ends ≡ k = omega (arith, behind, l, length_push ends e) in
-            get_or_push (bonds_between ends js) last no_bond k (length-coupled ends ∙ at)
-            ∙ ap₂ (λ x n. coupled_bond x (get_or js n (pos 0))) (sym (get_or_push ends e (record { u = 0; v = 0 }) k at)) at
-      ]
+      each k l = grind (arith, cases_lt k (length ends), get_or_append_left, last, length-coupled, get_or-map-range_with_len, length_push, get_or_push)

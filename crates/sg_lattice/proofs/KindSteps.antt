@@ -1,8 +1,8 @@
 -- The steps of each kind of lattice.
 use Rattle.std.proofs.Common.{◌≡◌, inl, inr, ℕ, suc, ◌+◌, ◌-◌, ◌*◌, ◌/◌, ◌%◌, ◌<◌, ◌≤◌, Bool, true, false, cond, ◌&&◌, eqb, leb, ltb, refl, ◌∙◌, ap, arith}
-use Rattle.std.proofs.lemmas.Bool.{and_from, and_parts, and_right, cases_eq, cond-false, cond-true, eq-eqb, eqb-true, false≢true, lt-ltb, ltb-true, ne_eqb}
+use Rattle.std.proofs.lemmas.Bool.{and_from, and_parts, cases_eq, cond-false, cond-true, eq-eqb, false≢true, lt-ltb, ltb-true, ne_eqb}
 use Rattle.sg_lattice.specs.declared.kind.Kind.{Kind}
-use Rattle.sg_lattice.specs.declared.kind.Kind.TheVariants.{Square, Triangular, Hexagonal, Cylinder}
+use Rattle.sg_lattice.specs.declared.kind.Kind.TheVariants.{Triangular, Hexagonal, Cylinder}
 use Rattle.sg_lattice.specs.declared.kind.Step.{Step}
 use Rattle.sg_lattice.specs.declared.kind.Step.TheVariants.{East, South, SouthEast}
 use Rattle.sg_lattice.specs.Tables.{IsSize, bond_number, bond_total, has_bond, neighbour, vertical_bonds_before}
@@ -70,35 +70,21 @@ step_end kind South R C = step_total kind East R C + step_total kind South R C
 step_end kind SouthEast R C = step_total kind East R C + step_total kind South R C + step_total kind SouthEast R C
 
 pub step_end_is : (kind : Kind) (step : Step) (R C : ℕ) → step_end kind step R C ≡ step_base kind step R C + step_total kind step R C
-step_end_is kind East R C = omega arith
-step_end_is kind South R C = refl
-step_end_is kind SouthEast R C = refl
+step_end_is kind step R C = grind arith
 
 -- there is a column
 pub some_cols : (kind : Kind) (R C : ℕ) → IsSize kind R C → 1 ≤ C
-some_cols Hexagonal R C size = omega (arith, size.cols)
-some_cols Cylinder R C size = omega (arith, size.cols)
-some_cols kind R C size = size.cols
+some_cols kind R C h = grind arith
 
 -- where a bond leads, by its row and its column
 pub neighbour_is : (kind : Kind) (step : Step) (R C r c : ℕ) → neighbour kind step R C r c ≡ end_row step r c * C + end_col kind step C r c
-neighbour_is Cylinder East R C r c = refl
-neighbour_is kind East R C r c = refl
-neighbour_is kind South R C r c = refl
-neighbour_is kind SouthEast R C r c = refl
+neighbour_is kind step R C r c = grind arith
 
 -- bonds from all places of some rows and columns
 rectangle : (has : ℕ → ℕ → Bool) (R C H W : ℕ) → H ≤ R → W ≤ C
     → ((r c : ℕ) → r < R → c < C → has r c ≡ true → (r < H) × (c < W))
     → ((r c : ℕ) → r < H → c < W → has r c ≡ true) → CountsRows has R C H W (λ r c. r * W + c)
-rectangle has R C H W tall wide inside full = record {
-  rows = tall;
-  cols = wide;
-  inside = inside;
-  start = omega arith;
-  more = λ r c a b. omega (arith, cond-true {A = ℕ} (has r c) 1 0 (full r c a b));
-  next = λ r a. omega arith;
-}
+rectangle has R C H W tall wide inside full = grind arith
 
 -- the vertical bonds of a hexagonal lattice, from each second place of a row
 halves : (R C : ℕ) → CountsRows (λ r c. ltb (r + 1) R && eqb ((r + c) % 2) 0) R C (R - 1) C (before Hexagonal South C)
@@ -113,12 +99,7 @@ halves R C = record {
   where
     more : (r c : ℕ) → ltb (r + 1) R ≡ true
         → before Hexagonal South C r (suc c) ≡ before Hexagonal South C r c + cond (ltb (r + 1) R && eqb ((r + c) % 2) 0) 1 0
-    more r c low =
-        let has : Bool = ltb (r + 1) R && eqb ((r + c) % 2) 0 in
-        elim (cases_eq ((r + c) % 2) 0) [
-          | inl even ↦ omega (arith, cond-true {A = ℕ} has 1 0 (and_from (ltb (r + 1) R) (eqb ((r + c) % 2) 0) low (eq-eqb ((r + c) % 2) 0 even)))
-          | inr odd ↦ omega (arith, cond-false {A = ℕ} has 1 0 (and_right (ltb (r + 1) R) (eqb ((r + c) % 2) 0) (ne_eqb ((r + c) % 2) 0 odd)))
-        ]
+    more r c low = grind arith
 
     next : (r : ℕ) → before Hexagonal South C (suc r) 0 ≡ before Hexagonal South C r C
     next r = elim (cases_eq (r % 2) 1) [
@@ -176,17 +157,8 @@ grid_step kind SouthEast R C size = diagonal_step R C (λ r c. false) (λ r c a 
 -- the number of a bond is the first of its step and those before it
 pub number_is : (kind : Kind) (step : Step) (R C r c : ℕ) → has_bond kind step R C r c ≡ true →
     bond_number kind step R C r c ≡ step_base kind step R C + before kind step C r c
-number_is Hexagonal South R C r c h = omega (arith, eqb-true ((r + c) % 2) 0 (and_parts (ltb (r + 1) R) (eqb ((r + c) % 2) 0) h).1)
-number_is Triangular SouthEast R C r c h = omega arith
-number_is kind SouthEast R C r c h = absurd (false≢true h)
-number_is Cylinder East R C r c h = omega arith
-number_is kind East R C r c h = omega arith
-number_is Cylinder South R C r c h = omega arith
-number_is kind South R C r c h = omega arith
+number_is kind step R C r c h = grind arith
 
 -- all steps together
 pub all_total : (kind : Kind) (R C : ℕ) → step_end kind SouthEast R C ≡ bond_total kind R C
-all_total Square R C = omega arith
-all_total Triangular R C = omega arith
-all_total Hexagonal R C = omega arith
-all_total Cylinder R C = omega arith
+all_total kind R C = grind arith

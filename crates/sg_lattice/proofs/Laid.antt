@@ -1,6 +1,6 @@
 -- A step gives each of its darts to the spin that the dart leaves, once.
-use Rattle.std.proofs.Common.{◌≡◌, inl, inr, ℕ, ◌+◌, ◌*◌, ◌/◌, ◌%◌, ◌<◌, ◌≤◌, Bool, true, false, not, cond, ◌&&◌, eqb, leb, ltb, refl, sym, ◌∙◌, ap, ap₂, arith}
-use Rattle.std.proofs.lemmas.Bool.{cases_lt, and_parts, and_from, eq-eqb, eqb-true, eqb-false, leb-true, ltb-true, lt-ltb, le-ltb, le-leb, lt-leb, ne_eqb, not-true, not_from_false}
+use Rattle.std.proofs.Common.{◌≡◌, ℕ, ◌+◌, ◌*◌, ◌/◌, ◌%◌, ◌<◌, ◌≤◌, Bool, true, not, cond, ◌&&◌, eqb, leb, ltb, sym, ◌∙◌, ap, ap₂, arith}
+use Rattle.std.proofs.lemmas.Bool.{and_parts, and_from, eq-eqb, eqb-true, eqb-false, lt-ltb, le-leb, ne_eqb, not-true, not_from_false}
 use Rattle.std.proofs.lemmas.Nat.{same_from_place}
 use Rattle.sg_model.specs.Ising.{Ising}
 use Rattle.sg_model.specs.Rotation.{tail}
@@ -16,17 +16,12 @@ in_block-from : (base end d : ℕ) → 2 * base ≤ d → d < 2 * end → in_blo
 in_block-from base end d lo hi = and_from (leb (2 * base) d) (ltb d (2 * end)) (le-leb (2 * base) d lo) (lt-ltb d (2 * end) hi)
 
 in_block-parts : (base end d : ℕ) → in_block base end d ≡ true → (base ≤ d / 2) × (d / 2 < end)
-in_block-parts base end d h =
-    let both = and_parts (leb (2 * base) d) (ltb d (2 * end)) h in
-    (omega (arith, leb-true (2 * base) d both.0), omega (arith, ltb-true d (2 * end) both.1))
+in_block-parts base end d h = grind arith
 
 -- two blocks side by side are one
 pub blocks_joined : (lo mid hi d : ℕ) (t : Bool) → lo ≤ mid → mid ≤ hi
     → cond {A = ℕ} (in_block lo mid d && t) 1 0 + cond {A = ℕ} (in_block mid hi d && t) 1 0 ≡ cond {A = ℕ} (in_block lo hi d && t) 1 0
-blocks_joined lo mid hi d t a b = elim (cases_lt d (2 * mid)) [
-  | inl l ↦ rw (lt-ltb d (2 * mid) l, lt-leb (2 * mid) d l, lt-ltb d (2 * hi) (omega arith)) (omega arith)
-  | inr l ↦ rw (le-ltb d (2 * mid) l, le-leb (2 * mid) d l, le-leb (2 * lo) d (omega arith)) (omega arith)
-]
+blocks_joined lo mid hi d t a b = grind arith
 
 -- darts at places, each of which leaves the spin of its place; `own` tells which they are
 record AreDarts (inst : Ising) (R C : ℕ) (has : ℕ → ℕ → Bool) (dart : ℕ → ℕ → ℕ) (own : ℕ → Bool) : Type 0 where
@@ -34,9 +29,7 @@ record AreDarts (inst : Ising) (R C : ℕ) (has : ℕ → ℕ → Bool) (dart : 
   each : (d : ℕ) → own d ≡ true → (r : ℕ) × (c : ℕ) × (r < R) × (c < C) × (has r c ≡ true) × (dart r c ≡ d)
 
 same : (a b : Bool) → (a ≡ true → b ≡ true) → (b ≡ true → a ≡ true) → a ≡ b
-same true b f g = sym (f refl)
-same false true f g = g refl
-same false false f g = refl
+same a b there back = grind arith
 
 -- dart d stands at (r, c) exactly where it is one of them and leaves that spin
 darts_count : {inst : Ising} {R C : ℕ} {has : ℕ → ℕ → Bool} {dart : ℕ → ℕ → ℕ} {own : ℕ → Bool} → AreDarts inst R C has dart own
@@ -45,11 +38,7 @@ darts_count {inst} {R} {C} {has} {dart} {own} are r c d a b =
     ap (λ t. cond {A = ℕ} t 1 0) (same (has r c && eqb (dart r c) d) (own d && eqb (tail inst d) (r * C + c)) there here)
   where
     there : (has r c && eqb (dart r c) d) ≡ true → (own d && eqb (tail inst d) (r * C + c)) ≡ true
-    there h =
-        let both = and_parts (has r c) (eqb (dart r c) d) h in
-        let is : dart r c ≡ d = eqb-true (dart r c) d both.1 in
-        let at = are.at r c a b both.0 in
-        and_from (own d) (eqb (tail inst d) (r * C + c)) (ap own (sym is) ∙ at.0) (eq-eqb (tail inst d) (r * C + c) (ap (tail inst) (sym is) ∙ at.1))
+    there h = grind arith
 
     here : (own d && eqb (tail inst d) (r * C + c)) ≡ true → (has r c && eqb (dart r c) d) ≡ true
     here h =
@@ -63,9 +52,7 @@ darts_count {inst} {R} {C} {has} {dart} {own} are r c d a b =
 
 -- the even and the odd darts of a block make it up
 halves_joined : (b e t : Bool) → cond {A = ℕ} ((b && e) && t) 1 0 + cond {A = ℕ} ((b && not e) && t) 1 0 ≡ cond {A = ℕ} (b && t) 1 0
-halves_joined true true t = omega arith
-halves_joined true false t = omega arith
-halves_joined false e t = refl
+halves_joined b e t = grind arith
 
 module _ {inst : Ising} {R C base end : ℕ} {has : ℕ → ℕ → Bool} {number er ec : ℕ → ℕ → ℕ} {comes : ℕ → ℕ → Bool}
     {sr sc : ℕ → ℕ → ℕ}
@@ -107,6 +94,4 @@ module _ {inst : Ising} {R C base end : ℕ} {has : ℕ → ℕ → Bool} {numbe
   pub step_count : (r c d : ℕ) → r < R → c < C
       → cond {A = ℕ} (has r c && eqb (2 * number r c) d) 1 0 + cond {A = ℕ} (comes r c && eqb (2 * number (sr r c) (sc r c) + 1) d) 1 0
       ≡ cond {A = ℕ} (in_block base end d && eqb (tail inst d) (r * C + c)) 1 0
-  step_count r c d a b =
-      ap₂ (λ m n. m + n) (darts_count forth r c d a b) (darts_count back r c d a b)
-      ∙ halves_joined (in_block base end d) (eqb (d % 2) 0) (eqb (tail inst d) (r * C + c))
+  step_count r c d a b = simp (darts_count, forth, back, halves_joined)

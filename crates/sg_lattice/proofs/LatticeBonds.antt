@@ -15,7 +15,7 @@ use Rattle.sg_lattice.specs.declared.kind.Step.TheVariants.{East, South, SouthEa
 use Rattle.sg_lattice.specs.declared.kind.Ends.{Ends}
 use Rattle.sg_lattice.specs.Tables.{IsSize, bond_number, bond_total, coupled_bond, bond_ends, ends_from, ends_of, has_bond, lattice, neighbour, bond_origins}
 use Rattle.sg_lattice.proofs.Ranks.{chosen_at_rank, length-chosen_below, rank_all, rank_at}
-use Rattle.sg_lattice.proofs.KindSteps.{all_total, before, counts, end_col, end_row, grid_step, height, neighbour_is, number_is, some_cols, step_base, step_end, step_end_is, step_total, width}
+use Rattle.sg_lattice.proofs.KindSteps.{all_total, counts, end_col, end_row, grid_step, neighbour_is, number_is, some_cols, step_base, step_end, step_end_is, step_total}
 
 -- the bonds of a step have the numbers from `base` up to `end`, and their ends
 pub record IsLaid (inst : Ising) (R C base end : ℕ) (has : ℕ → ℕ → Bool) (number er ec : ℕ → ℕ → ℕ) : Type 0 where
@@ -64,9 +64,7 @@ module _ (kind : Kind) (R C : ℕ) (size : IsSize kind R C) where
 
   first_part : (step : Step) (rest : List Ends) (k : ℕ) → k < length (bond_origins kind step R C)
       → bond_ends (part step ++ rest) k ≡ ends_from kind step R C (get_or (bond_origins kind step R C) k 0)
-  first_part step rest k l =
-      get_or_append_left (part step) rest no_ends k (omega (arith, length-map (bond_origins kind step R C) (ends_from kind step R C)))
-      ∙ get_or-map (ends_from kind step R C) (bond_origins kind step R C) k 0 no_ends l
+  first_part step rest k l = grind (arith, get_or_append_left, length-map, get_or-map)
 
   listed : (step : Step) (k : ℕ) → k < length (bond_origins kind step R C) →
       bond_ends (ends_of kind R C) (step_base kind step R C + k) ≡ ends_from kind step R C (get_or (bond_origins kind step R C) k 0)
@@ -81,9 +79,7 @@ module _ (kind : Kind) (R C : ℕ) (size : IsSize kind R C) where
       ∙ get_or-map (ends_from kind SouthEast R C) (bond_origins kind SouthEast R C) k 0 no_ends l
 
   room : (step : Step) → step_end kind step R C ≤ length (ends_of kind R C)
-  room East = omega (arith, length-ends_of, all_total kind R C)
-  room South = omega (arith, length-ends_of, all_total kind R C)
-  room SouthEast = omega (arith, length-ends_of, all_total kind R C)
+  room step = grind (arith, length-ends_of)
 
   -- the number of a bond is the place of its spin among those from which bonds run
   number_by_rank : (step : Step) (r c : ℕ) → r < R → c < C → has_bond kind step R C r c ≡ true →

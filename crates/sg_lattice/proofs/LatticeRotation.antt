@@ -1,16 +1,14 @@
 -- The darts of the tables are a rotation: each dart stands once, in the list of the spin that it leaves.
-use Rattle.std.proofs.Common.{◌≡◌, ℕ, ℤ, ◌+◌, ◌-◌, ◌*◌, ◌/◌, ◌%◌, ◌<◌, ◌≤◌, Bool, true, false, cond, ◌&&◌, eqb, leb, ltb, List, [], ◌∷◌, ◌++◌, count_by, refl, sym, ◌∙◌, ap, arith}
+use Rattle.std.proofs.Common.{◌≡◌, ℕ, ℤ, ◌+◌, ◌-◌, ◌*◌, ◌/◌, ◌%◌, ◌<◌, ◌≤◌, Bool, cond, ◌&&◌, eqb, leb, ltb, List, [], ◌∷◌, ◌++◌, count_by, sym, ◌∙◌, ap, arith}
 use Rattle.std.proofs.lemmas.Bool.{le-leb}
 use Rattle.std.proofs.lemmas.Nat.{div_below, mod_below, div-add-mod'}
-use Rattle.std.proofs.lemmas.List.Sums.{sum_by-append, sum_by-cons}
+use Rattle.std.proofs.lemmas.List.Sums.{sum_by-append}
 use Rattle.std.proofs.lemmas.List.FromFn.{get_or-map-range_with_len, length-map-range_with_len}
 use Rattle.sg_model.specs.Rotation.{IsRotation, darts_of, is_dart_of, tail}
 use Rattle.sg_lattice.specs.declared.kind.Kind.{Kind}
-use Rattle.sg_lattice.specs.declared.kind.Kind.TheVariants.{Cylinder}
-use Rattle.sg_lattice.specs.declared.kind.Step.{Step}
 use Rattle.sg_lattice.specs.declared.kind.Step.TheVariants.{East, South, SouthEast}
 use Rattle.sg_lattice.specs.Tables.{IsSize, bond_number, darts, east, has_bond, lattice, north, north_west, south, south_east, west}
-use Rattle.sg_lattice.proofs.Laid.{blocks_joined, in_block, step_count}
+use Rattle.sg_lattice.proofs.Laid.{in_block, step_count}
 use Rattle.sg_lattice.proofs.KindSteps.{all_total, comes, grid_step, some_cols, source_col, source_row, step_end}
 use Rattle.sg_lattice.proofs.LatticeBonds.{bond_count_is, step_laid}
 
@@ -18,41 +16,26 @@ use Rattle.sg_lattice.proofs.LatticeBonds.{bond_count_is, step_laid}
 abbrev times : ℕ → List ℕ → ℕ
 times d xs = count_by (λ x. eqb x d) xs
 
-count_one : (x d : ℕ) → times d (x ∷ []) ≡ cond (eqb x d) 1 0
-count_one x d = omega (arith, sum_by-cons (λ y. cond (eqb y d) 1 0) x [])
-
 count_if : (b : Bool) (x d : ℕ) → times d (cond b (x ∷ []) []) ≡ cond (b && eqb x d) 1 0
-count_if true x d = count_one x d
-count_if false x d = refl
+count_if b x d = grind arith
 
 count_back : (g b : Bool) (x d : ℕ) → times d (cond g (cond b (x ∷ []) []) []) ≡ cond ((g && b) && eqb x d) 1 0
-count_back true b x d = count_if b x d
-count_back false b x d = refl
-
-count_round : (t : Bool) (x y z d : ℕ) → times d (cond t ((2 * (x + y) + 1) ∷ []) ((2 * (x + z) + 1) ∷ [])) ≡ cond (eqb (2 * (x + cond t y z) + 1) d)
-    1 0
-count_round true x y z d = count_one (2 * (x + y) + 1) d
-count_round false x y z d = count_one (2 * (x + z) + 1) d
+count_back g b x d = grind arith
 
 count_west : (kind : Kind) (R C r c d : ℕ)
     → times d (west kind R C r c) ≡ cond
     (comes kind East R C r c && eqb (2 * bond_number kind East R C (source_row East r c) (source_col kind East C r c) + 1) d) 1 0
-count_west Cylinder R C r c d = count_round (leb 1 c) (r * C) (c - 1) (C - 1) d
-count_west kind R C r c d = count_back (leb 1 c) (ltb (c - 1 + 1) C) (2 * (r * (C - 1) + (c - 1)) + 1) d
+count_west kind R C r c d = grind arith
 
 count_six : (d : ℕ) (a b e f g h : List ℕ) →
     times d (a ++ (b ++ (e ++ (f ++ (g ++ h))))) ≡ times d a + (times d b + (times d e + (times d f + (times d g + times d h))))
-count_six d a b e f g h =
-    simp (sum_by-append (λ x. cond {A = ℕ} (eqb x d) 1 0))
+count_six d a b e f g h = simp (sum_by-append)
 
 -- the blocks of the three steps make up all darts
 all_blocks : (d a b m : ℕ) (t : Bool) → a ≤ b → b ≤ m
     → cond {A = ℕ} (in_block 0 a d && t) 1 0 + (cond {A = ℕ} (in_block a b d && t) 1 0 + cond {A = ℕ} (in_block b m d && t) 1 0)
     ≡ cond {A = ℕ} (ltb d (2 * m) && t) 1 0
-all_blocks d a b m t p q =
-    ap (λ n. cond {A = ℕ} (in_block 0 a d && t) 1 0 + n) (blocks_joined a b m d t p q)
-    ∙ blocks_joined 0 a m d t (omega arith) (omega arith)
-    ∙ ap (λ u. cond {A = ℕ} ((u && ltb d (2 * m)) && t) 1 0) (le-leb (2 * 0) d (omega arith))
+all_blocks d a b m t p q = grind (arith, le-leb, p)
 
 module _ (kind : Kind) (R C : ℕ) (size : IsSize kind R C) (js : List ℤ) where
   -- the darts of the table at spin (r, c) are those that leave it

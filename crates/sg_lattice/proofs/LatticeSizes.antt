@@ -1,8 +1,8 @@
 -- The seam of a lattice, and how large its numbers get.
-use Rattle.std.proofs.Common.{◌≡◌, ℕ, ℤ, ◌+◌, ◌-◌, ◌*◌, ◌/◌, ◌%◌, ◌<◌, ◌≤◌, ◌^◌, Bool, true, false, cond, eqb, List, length, get_or, map, sym, ◌∙◌, ap₂, arith, All}
+use Rattle.std.proofs.Common.{◌≡◌, ℕ, ℤ, ◌+◌, ◌-◌, ◌*◌, ◌<◌, ◌≤◌, ◌^◌, List, length, get_or, map, arith, All}
 use Rattle.std.specs.Prelude.{unsigned_abs}
 use Rattle.std.specs.List.{range_with_len}
-use Rattle.std.proofs.lemmas.Nat.{mul-add-lt, mul-le, same_from_place}
+use Rattle.std.proofs.lemmas.Nat.{mul-add-lt, mul-le}
 use Rattle.std.proofs.lemmas.List.Elements.{All-from_get_or, All-nil}
 use Rattle.std.proofs.lemmas.List.FromFn.{get_or-map-range_with_len, length-map-range_with_len}
 use Rattle.sg_sums.proofs.Tallies.{times_once}
@@ -12,8 +12,8 @@ use Rattle.sg_model.specs.Rotation.{IsRotation}
 use Rattle.sg_model.specs.Seam.{IsSeam}
 use Rattle.sg_model.specs.WellFormed.{IsInstance}
 use Rattle.sg_lattice.specs.declared.kind.Kind.{Kind}
-use Rattle.sg_lattice.specs.declared.kind.Kind.TheVariants.{Square, Triangular, Hexagonal, Cylinder}
-use Rattle.sg_lattice.specs.Tables.{IsSize, bond_total, lattice, vertical_bonds_before}
+use Rattle.sg_lattice.specs.declared.kind.Kind.TheVariants.{Cylinder}
+use Rattle.sg_lattice.specs.Tables.{IsSize, bond_total, lattice}
 use Rattle.sg_lattice.proofs.KindSteps.{some_cols}
 use Rattle.sg_lattice.proofs.LatticeBonds.{bond_count_is, lattice_joined}
 use Rattle.sg_lattice.proofs.LatticeRotation.{lattice_rotation}
@@ -27,13 +27,10 @@ round R C = map (λ r. r * C + (C - 1)) (range_with_len 0 R)
 
 module _ (R C : ℕ) (some : 1 ≤ C) where
   round_at : (j : ℕ) → j < length (round R C) → (j < R) × (get_or (round R C) j 0 ≡ j * C + (C - 1))
-  round_at j b =
-      let l : j < R = omega (arith, length-map-range_with_len (λ r. r * C + (C - 1)) 0 R) in
-      (l, get_or-map-range_with_len (λ r. r * C + (C - 1)) 0 R j j 0 l (omega arith))
+  round_at j b = grind (arith, length-map-range_with_len, get_or-map-range_with_len)
 
   round_apart : (i k : ℕ) → i < length (round R C) → k < length (round R C) → get_or (round R C) i 0 ≡ get_or (round R C) k 0 → i ≡ k
-  round_apart i k a b e =
-      (same_from_place i (C - 1) k (C - 1) C (omega arith) (omega arith) (sym (round_at i a).1 ∙ e ∙ (round_at k b).1)).0
+  round_apart i k a b e = grind (arith, round_at)
 
 -- the seam is one
 pub lattice_seam : (kind : Kind) (R C : ℕ) → IsSize kind R C → (js : List ℤ) → IsSeam (lattice kind R C js)
@@ -61,23 +58,9 @@ few_rows kind R C size = omega (arith, size.few, mul-le R 1 R C (omega arith) (s
 pub few_cols : (kind : Kind) (R C : ℕ) → IsSize kind R C → C ≤ 2 ^ 22
 few_cols kind R C size = omega (arith, size.few, mul-le 1 C R C size.rows (omega arith))
 
-half_rows_few : (R C : ℕ) → 1 ≤ R → vertical_bonds_before C (R - 1) ≤ R * C + C
-half_rows_few R C some = omega (arith, mul-le ((R - 1) / 2) C R C (omega arith) (omega arith), most (eqb ((R - 1) % 2) 1))
-  where
-    most : (t : Bool) → cond t ((C + 1) / 2) 0 ≤ C
-    most true = omega arith
-    most false = omega arith
-
 -- there are at most 2^24 bonds
 pub few_bonds : (kind : Kind) (R C : ℕ) → IsSize kind R C → bond_total kind R C ≤ 2 ^ 24
-few_bonds Square R C size = omega (arith, size.few, mul-le R (C - 1) R C (omega arith) (omega arith), mul-le (R - 1) C R C (omega arith) (omega arith))
-few_bonds Triangular R C size =
-    let one = mul-le R (C - 1) R C (omega arith) (omega arith) in
-    let two = mul-le (R - 1) C R C (omega arith) (omega arith) in
-    omega (arith, size.few, one, two, mul-le (R - 1) (C - 1) R C (omega arith) (omega arith))
-few_bonds Hexagonal R C size =
-    omega (arith, size.few, few_cols Hexagonal R C size, mul-le R (C - 1) R C (omega arith) (omega arith), half_rows_few R C size.rows)
-few_bonds Cylinder R C size = omega (arith, size.few, mul-le (R - 1) C R C (omega arith) (omega arith))
+few_bonds kind R C h = grind (arith, mul-le)
 
 -- so it is an instance
 pub lattice_instance : (kind : Kind) (R C : ℕ) → IsSize kind R C → (js : List ℤ) → length js ≡ bond_total kind R C →
@@ -101,5 +84,4 @@ lattice_instance kind R C size js count sizes = record {
 pub assembled : (kind : Kind) (R C : ℕ) (js : List ℤ) (n : ℕ) (bonds : List Bond) (rotation : List (List ℕ)) (seam : List ℕ)
     → n ≡ R * C → bonds ≡ (lattice kind R C js).bonds → rotation ≡ (lattice kind R C js).rotation → seam ≡ (lattice kind R C js).seam
     → whole n bonds rotation seam ≡ lattice kind R C js
-assembled kind R C js n bonds rotation seam p q r s = ap₂ (λ x y. whole x y rotation seam) p q
-    ∙ ap₂ (λ x y. whole (R * C) (lattice kind R C js).bonds x y) r s
+assembled kind R C js n bonds rotation seam p q r s = grind arith

@@ -1,8 +1,8 @@
 -- The numbers below n that pass a test: each stands at its rank, and on a grid ranks count row by row.
-use Rattle.std.proofs.Common.{◌≡◌, inl, inr, ℕ, zero, suc, ◌+◌, ◌-◌, ◌*◌, ◌/◌, ◌%◌, ◌<◌, ◌≤◌, Bool, true, false, cond, List, [], ◌∷◌, ◌++◌, length, get_or, map, refl, sym, ◌∙◌, ap, ap₂, arith}
+use Rattle.std.proofs.Common.{◌≡◌, inl, inr, ℕ, zero, suc, ◌+◌, ◌-◌, ◌*◌, ◌/◌, ◌%◌, ◌<◌, ◌≤◌, Bool, true, cond, List, [], ◌∷◌, ◌++◌, length, get_or, map, sym, ◌∙◌, ap, ap₂, arith}
 use Rattle.std.specs.List.{range_with_len}
-use Rattle.std.proofs.lemmas.Bool.{cases_eq, false_from_ne_true}
-use Rattle.std.proofs.lemmas.Nat.{div_below, div-add-mod', div-mul-add, mod_below, mod-mul-add, mul-add-lt, mul-le}
+use Rattle.std.proofs.lemmas.Bool.{cases_eq}
+use Rattle.std.proofs.lemmas.Nat.{div-mul-add, mod-mul-add, mul-le}
 use Rattle.std.proofs.lemmas.List.{append_assoc, get_or_append_left, get_or_push, map-append}
 use Rattle.std.proofs.lemmas.List.Sums.{length-filter}
 use Rattle.sg_sums.specs.Sets.{chosen_below}
@@ -13,14 +13,7 @@ use Rattle.sg_sums.proofs.Ranks.{rank, rank_less}
 -- one more of them, under a function and behind a front
 pub map_chosen_more : {A : Type 0} (f : ℕ → A) (p : ℕ → Bool) (front : List A) (n : ℕ) →
     (front ++ map f (chosen_below p n)) ++ cond (p n) (f n ∷ []) [] ≡ front ++ map f (chosen_below p (n + 1))
-map_chosen_more f p front n =
-    append_assoc front (map f (chosen_below p n)) (cond (p n) (f n ∷ []) [])
-    ∙ ap (λ xs. front ++ (map f (chosen_below p n) ++ xs)) (under (p n))
-    ∙ ap (λ xs. front ++ xs) (sym (map-append f (chosen_below p n) (cond (p n) (n ∷ []) [])) ∙ ap (map f) (sym (chosen_below_more p n)))
-  where
-    under : (b : Bool) → cond b (f n ∷ []) [] ≡ map f (cond b (n ∷ []) [])
-    under true = refl
-    under false = refl
+map_chosen_more f p front n = grind (arith, append_assoc, map-append, chosen_below_more)
 
 module _ (p : ℕ → Bool) where
   -- there are as many as the rank of n
@@ -51,13 +44,7 @@ module _ (p : ℕ → Bool) where
   -- behind numbers that do not pass the rank is the same
   rank_still : (m n : ℕ) → m ≤ n → ((i : ℕ) → m ≤ i → i < n → p i ≡ true → ⊥) → rank p n ≡ rank p m
   rank_still m zero l none = let e : 0 ≡ m = omega arith in ap (rank p) e
-  rank_still m (suc n) l none = elim (cases_eq m (suc n)) [
-    | inl e ↦ ap (rank p) (sym e)
-    | inr less ↦
-        ap₂ (λ k b. k + cond {A = ℕ} b 1 0) (rank_still m n (omega arith) (λ i a b. none i a (omega arith)))
-        (false_from_ne_true (p n) (none n (omega arith) (omega arith)))
-        ∙ omega arith
-  ]
+  rank_still m (suc n) l none = grind (arith, cases_eq m (suc n), rank_still m n)
 
 -- of a grid of R rows and C columns only places in the first H rows and W columns pass, and g r c of them stand before (r, c)
 pub record CountsRows (has : ℕ → ℕ → Bool) (R C H W : ℕ) (g : ℕ → ℕ → ℕ) : Type 0 where
@@ -106,6 +93,4 @@ module _ {has : ℕ → ℕ → Bool} {R C H W : ℕ} {g : ℕ → ℕ → ℕ} 
   rank_all some = rank_still passes (H * C) (R * C) (mul-le H C R C counts.rows (omega arith)) none ∙ rank_row H (omega arith)
     where
       none : (i : ℕ) → H * C ≤ i → i < R * C → passes i ≡ true → ⊥
-      none i lo hi h =
-          let row : i / C < H = (counts.inside (i / C) (i % C) (div_below i C R some hi) (mod_below i C some) h).0 in
-          omega (arith, div-add-mod' i C, mul-add-lt (i / C) C (i % C) H row (mod_below i C some))
+      none i lo hi h = grind arith

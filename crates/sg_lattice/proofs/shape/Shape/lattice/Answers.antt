@@ -1,4 +1,4 @@
-use Rattle.std.proofs.Common.{sym, ◌∙◌, subst}
+use Rattle.std.proofs.Common.{sym, subst, arith}
 use Rattle.sg_model.specs.WellFormed.{IsInstance}
 use Rattle.sg_lattice.proofs.LatticeSizes.{assembled, lattice_instance}
 use Rattle.sg_lattice.proofs.shape.Shape.lattice.Goals as goal
@@ -12,8 +12,4 @@ of_parts-requires c =
     (lattice_instance s.kind s.rows s.cols s.size j c.requires.count c.requires.sizes)
 
 pub returns : goal.returns
-returns c =
-    let s = c.args.self in
-    c.of_parts.ensures
-    ∙ assembled s.kind s.rows s.cols c.args.j.now c.spins.result c.in_ok-bonds.bonds c.in_ok-rotation.rotation c.in_ok-seam.seam
-    c.spins.ensures.value c.in_ok-bonds.ensures c.in_ok-rotation.ensures c.in_ok-seam.ensures
+returns c = grind arith

@@ -1,4 +1,4 @@
-use Rattle.std.proofs.Common.{◌≡◌, ℕ, ℤ, pos, ◌/◌, ◌%◌, true, false, List, [], ◌∷◌, ◌++◌, cond, length, get_or, sym, ◌∙◌, ap, ap₂, append-nil, rules}
+use Rattle.std.proofs.Common.{◌≡◌, ℕ, ℤ, pos, ◌/◌, ◌%◌, true, List, [], ◌∷◌, ◌++◌, cond, length, get_or, sym, ◌∙◌, ap, ap₂, append-nil, rules, arith}
 use Rattle.std.specs.Int.{w64}
 use Rattle.std.proofs.lemmas.Int.{to_z-of_z}
 use Rattle.sg_model.specs.declared.bond.Bond.{Bond}
@@ -8,13 +8,7 @@ use Rattle.sg_lattice.proofs.CoupledBonds.{coupled_more, length-coupled}
 use Rattle.sg_lattice.proofs.shape.Shape.push_bond.Goals as goal
 
 pub returns-then-not-has_bond : goal.returns-then-not-has_bond
-returns-then-not-has_bond c =
-    let s = c.args.self in
-    let i = c.args.i in
-    let js = c.args.j.now in
-    let no : has_bond s.kind c.args.step s.rows s.cols (i / s.cols) (i % s.cols) ≡ false = search rules in
-    rw no (λ (ends : List Ends) (is : c.args.bonds.now ≡ bonds_between ends js).
-    is ∙ ap (λ (all : List Ends). bonds_between all js) (sym (append-nil ends)))
+returns-then-not-has_bond c = grind (arith, append-nil)
 
 pub returns : goal.returns
 returns c =

@@ -4,4 +4,4 @@ use Rattle.sg_lattice.proofs.shape.Shape.spins.Goals as goal
 
 pub returns-clause-some : goal.returns-clause-some
 returns-clause-some c =
-    omega (arith, c.area.ensures.value, some_spins c.args.self.kind c.args.self.rows c.args.self.cols c.args.self.size)
+    omega (arith, some_spins c.args.self.kind c.args.self.rows c.args.self.cols c.args.self.size)
