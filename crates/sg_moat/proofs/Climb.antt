@@ -18,11 +18,7 @@ module _ (f : Family) where
   module _ (fam : IsFamily f) where
     -- the way begins at the leaf's own node, with no duals inside
     pub Climbing-start : (name leaf : ℕ) → leaf < leaf_count f → Climbing name leaf (get_or f.leaf_nodes leaf 0) 0
-    Climbing-start name leaf low = record {
-      held = leaf-held f fam leaf low;
-      sum = sym (no_inner f fam leaf low);
-      above = λ held. own-covered f fam leaf name low held;
-    }
+    Climbing-start name leaf low = grind (arith, leaf-held, no_inner, own-covered, low)
 
     -- from a set to the blossom that it is a child of
     module _ (leaf at p i : ℕ) (held : Holds f at leaf) (child : IsChildAt f p i at) where

@@ -1,6 +1,6 @@
 -- What the sets of a family reach along an edge, taken as twice its weight of unit steps: the doubled distance to a point on
 -- it is the less of the two ways.
-use Rattle.std.proofs.Common.{inl, inr, ◌≡◌, ◌⊎◌, ℕ, ◌+◌, ◌-◌, ◌*◌, ◌<◌, ◌≤◌, suc, min, fold, true, eqb, List, [], ◌∷◌, length, refl, ap, ap₂, arith}
+use Rattle.std.proofs.Common.{inl, inr, ◌≡◌, ℕ, ◌+◌, ◌-◌, ◌*◌, ◌<◌, ◌≤◌, suc, min, fold, true, eqb, List, [], ◌∷◌, length, refl, ap, arith}
 use Rattle.std.proofs.lemmas.Bool.{cases_lt, eqb-true, false≢true, or_cases, or_right}
 use Rattle.sg_arena.specs.Family.{Family, Holds, dual_of, has_leaf, leaves_of}
 use Rattle.sg_arena.specs.Sets.{inner_of}
@@ -30,20 +30,13 @@ least_bounds g (z ∷ y ∷ ys) x h = elim (or_cases (eqb z x) (has_leaf (y ∷ 
 pub least_reached : (g : ℕ → ℕ) (xs : List ℕ) → 0 < length xs → (x : ℕ) × (has_leaf xs x ≡ true) × (g x ≡ least_by g xs)
 least_reached g [] h = absurd (omega arith)
 least_reached g (x ∷ []) h = (x, has_head x [], refl)
-least_reached g (x ∷ y ∷ ys) h = pick (cases_lt (g x) (least_by g (y ∷ ys))) (least_reached g (y ∷ ys) (omega arith))
-  where
-    pick : (g x < least_by g (y ∷ ys)) ⊎ (least_by g (y ∷ ys) ≤ g x) →
-        ((z : ℕ) × (has_leaf (y ∷ ys) z ≡ true) × (g z ≡ least_by g (y ∷ ys))) →
-        (z : ℕ) × (has_leaf (x ∷ y ∷ ys) z ≡ true) × (g z ≡ min (g x) (least_by g (y ∷ ys)))
-    pick (inl l) r = (x, has_head x (y ∷ ys), omega arith)
-    pick (inr l) r = (r.0, or_right (eqb x r.0) (has_leaf (y ∷ ys) r.0) r.1, omega (arith, r.2))
+least_reached g (x ∷ y ∷ ys) h = grind (arith, cases_lt (g x) (least_by g (y ∷ ys)), least_reached g (y ∷ ys), has_head, or_right)
 
 -- functions that agree on a list have one least there
 pub least_same : (g h : ℕ → ℕ) (xs : List ℕ) → ((x : ℕ) → has_leaf xs x ≡ true → g x ≡ h x) → least_by g xs ≡ least_by h xs
 least_same g h [] e = refl
 least_same g h (x ∷ []) e = e x (has_head x [])
-least_same g h (x ∷ y ∷ ys) e =
-    ap₂ min (e x (has_head x (y ∷ ys))) (least_same g h (y ∷ ys) (λ z k. e z (or_right (eqb x z) (has_leaf (y ∷ ys) z) k)))
+least_same g h (x ∷ y ∷ ys) e = grind (arith, least_same g h (y ∷ ys), has_head, or_right, e)
 
 -- the least of a value and of a list, one after another
 pub fold_least : (g : ℕ → ℕ) (xs : List ℕ) (y : ℕ) → 0 < length xs → fold (λ d x. min d (g x)) y xs ≡ min y (least_by g xs)
@@ -90,12 +83,7 @@ module _ (dist far : ℕ → ℕ → ℕ) (a b w : ℕ) where
 
     -- over one unit step a set's reach changes by at most 1
     pub reach_near : (s : ℕ) → 0 < length (leaves_of f s) → (k : ℕ) → k < 2 * w → Near (reach s k) (reach s (suc k))
-    reach_near s some k l = (
-      least_near (λ t. twice_to t k - inner_of f s t) (λ t. twice_to t (suc k) - inner_of f s t) (leaves_of f s) some
-          (λ t. let h : twice_to t k ≤ twice_to t (suc k) + 1 = (twice_near t k l).1 in omega (arith, h)),
-      least_near (λ t. twice_to t (suc k) - inner_of f s t) (λ t. twice_to t k - inner_of f s t) (leaves_of f s) some
-          (λ t. let h : twice_to t (suc k) ≤ twice_to t k + 1 = (twice_near t k l).0 in omega (arith, h)),
-    )
+    reach_near s some k l = grind (arith, least_near, twice_near, some)
 
     -- a set s' within s
     inside : (s s' : ℕ) → 0 < length (leaves_of f s') →

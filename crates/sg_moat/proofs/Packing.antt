@@ -1,8 +1,7 @@
 -- The cuts of all sets of a family are a packing of odd cuts, and few.
-use Rattle.std.proofs.Common.{inl, inr, ap₂, ◌≡◌, ◌≢◌, ◌⊎◌, ◌==◌, ℕ, ◌+◌, ◌-◌, ◌*◌, ◌%◌, ◌<◌, ◌≤◌, ◌≤ℤ◌, min, fold, Bool, true, false, cond, ltb, List, []}
-use Rattle.std.proofs.Common.{◌∷◌, refl, sym, ◌∙◌, ap, subst, arith, All, length, get_or, count_by, sum_by, Option, Some, None, IsSome, pos}
+use Rattle.std.proofs.Common.{inl, inr, ap₂, ◌≡◌, ◌≢◌, ◌⊎◌, ◌==◌, ℕ, ◌+◌, ◌-◌, ◌*◌, ◌%◌, ◌<◌, ◌≤◌, ◌≤ℤ◌, min, fold, Bool, true, false, cond, List, []}
+use Rattle.std.proofs.Common.{◌∷◌, refl, sym, ◌∙◌, ap, subst, arith, All, length, get_or, count_by, sum_by, None, pos}
 use Rattle.std.specs.List.{list_any}
-use Rattle.std.specs.Option.{option_map_or}
 use Rattle.std.proofs.lemmas.Bool.{cases_eq, cases_lt, cases_Bool, eqb-true, eq-eqb, lt-ltb, le-ltb, ltb-true, and_parts, false_from_ne_true, true≢false}
 use Rattle.std.proofs.lemmas.List.Elements.{All-weaker}
 use Rattle.std.proofs.lemmas.List.Folds.{list_any_at}
@@ -17,7 +16,7 @@ use Rattle.sg_graph.specs.OddCut.{CutsPack, IsOddCut, odd_cut_weight}
 use Rattle.sg_graph.specs.Table.{IsTableOf, Routes}
 use Rattle.sg_graph.proofs.TableLaws.{connected_distance}
 use Rattle.sg_graph.proofs.Walks.{distance-edge, distance-itself, distance-joined, distance-over, turned}
-use Rattle.sg_arena.specs.Family.{Family, Node, leaf_count, leaves_of, dual_of, holds, Holds, IsAlive, IsFamily, node_at}
+use Rattle.sg_arena.specs.Family.{Family, leaf_count, leaves_of, dual_of, holds, Holds, IsAlive, IsFamily}
 use Rattle.sg_sums.proofs.ListLaws.{place_of_any}
 use Rattle.sg_arena.proofs.FamilyLemmas.{leaf_bound, size-is, size-positive}
 use Rattle.sg_moat.specs.Input.{AreTerminalTables, distance_from, table_at, terminal_cost}
@@ -69,11 +68,7 @@ depth_full f tables s x = fold_le (reach_from f tables s x) (leaves_of f s) (dua
 
 -- a set with a dual is alive
 pub dual_alive : (f : Family) (s : ℕ) → 0 < dual_of f s → IsAlive f s
-dual_alive f s h = go (node_at f s) h
-  where
-    go : (o : Option Node) → 0 < option_map_or (λ (n : Node). n.dual) o 0 → IsSome o
-    go (Some n) k = refl
-    go None k = absurd (omega arith)
+dual_alive f s h = grind arith
 
 module _ (f : Family) (fam : IsFamily f) (g : Graph) (terminals : List ℕ) (tables : List Routes) (input : IsMoatInput f g terminals tables) where
   abbrev term : ℕ → ℕ
@@ -200,9 +195,7 @@ module _ (f : Family) (fam : IsFamily f) (g : Graph) (terminals : List ℕ) (tab
       (input.distances t (a_end e) lt (end_low e l).0) (input.distances t (b_end e) lt (end_low e l).1))
 
   inside_parts : (y d : ℕ) → is_inside y d ≡ true → (0 < d) × (d < y)
-  inside_parts y d h =
-      let both : (ltb 0 d ≡ true) × (ltb d y ≡ true) = and_parts (ltb 0 d) (ltb d y) h in
-      (ltb-true 0 d both.0, ltb-true d y both.1)
+  inside_parts y d h = grind (arith, and_parts, ltb-true)
 
   -- a node lies strictly inside at most one moat
   one_moat : (x : ℕ) → x < g.nodes → (s s' : ℕ) → s ≢ s' → is_inside (dual_of f s) (set_depth f tables s x) ≡ true →

@@ -1,21 +1,19 @@
 -- The depths at a set as its leaves lower them one by one, and the cuts of one set more.
-use Rattle.std.proofs.Common.{◌≡◌, ap₂, ltb, ℕ, ◌+◌, ◌-◌, ◌*◌, ◌^◌, ◌<◌, ◌≤◌, min, fold, true, false, cond, List, [], ◌∷◌}
-use Rattle.std.proofs.Common.{length, pos, sym, ap, ◌∙◌, subst, arith, inl, inr, All}
+use Rattle.std.proofs.Common.{◌≡◌, ℕ, ◌+◌, ◌^◌, ◌<◌, ◌≤◌, min, fold, true, false, cond, List}
+use Rattle.std.proofs.Common.{length, sym, subst, arith, All}
 use Rattle.std.proofs.lemmas.Bool.{cases_lt, false≢true}
 use Rattle.std.proofs.lemmas.List.{length-append}
 use Rattle.std.proofs.lemmas.List.Elements.{All-append, All-from_get_or, All-weaker}
 use Rattle.std.proofs.lemmas.List.Sums.{fold-append, sum_by-append}
-use Rattle.sg_sums.specs.Naturals.{gap}
-use Rattle.sg_sums.specs.Parity.{xor}
 use Rattle.sg_sums.specs.Sets.{chosen_below, holds as has_edge}
 use Rattle.sg_sums.proofs.Choosing.{chosen_below_no, chosen_below_same, chosen_below_yes}
 use Rattle.sg_sums.proofs.SumLaws.{sum_below-same}
 use Rattle.sg_graph.specs.declared.cut.Cut.{Cut}
-use Rattle.sg_graph.specs.Web.{Graph, IsEdge, IsWeb, edge_at, edge_count}
+use Rattle.sg_graph.specs.Web.{Graph, IsEdge, IsWeb, edge_count}
 use Rattle.sg_graph.specs.OddCut.{crosses, odd_cut_weight}
 use Rattle.sg_graph.specs.Join.{AreTerminals}
 use Rattle.sg_graph.specs.Walk.{IsConnectedWeb}
-use Rattle.sg_graph.specs.Table.{IsTableOf, Routes, is_reached, length_to}
+use Rattle.sg_graph.specs.Table.{IsTableOf, Routes, is_reached}
 use Rattle.sg_graph.proofs.TableLaws.{connected_reached, distance_signed, reached_if}
 use Rattle.sg_arena.specs.Family.{Family, Holds, IsFamily, dual_of, holds, leaf_count}
 use Rattle.sg_arena.proofs.FamilyLemmas.{leaf_bound, share-total, some_leaf}
@@ -23,7 +21,7 @@ use Rattle.sg_moat.specs.Depths.{AreDepths, Lowers, ReachesAll, depth_at}
 use Rattle.sg_moat.specs.Gathers.{Adds, IsMoatCut, reach_from, set_depth}
 use Rattle.sg_moat.specs.Input.{AreTerminalTables, blank_table, table_at}
 use Rattle.sg_arena.specs.Sets.{inner_of}
-use Rattle.sg_moat.specs.Slices.{IsSlice, Sliced, Slices, inside_count, is_below_level, is_inside}
+use Rattle.sg_moat.specs.Slices.{IsSlice, Sliced, Slices, is_below_level}
 use Rattle.sg_moat.proofs.Packing.{depth_full, dual_alive}
 use Rattle.sg_arena.proofs.SetCount.{alive_one}
 
@@ -50,26 +48,15 @@ module _ (f : Family) (tables : List Routes) (s n : ℕ) where
   -- a leaf of the set lowers them
   pub depths-lower : (k inner : ℕ) (old new : List ℕ) → Holds f s k → inner ≡ inner_of f s k → Lowers (table_at tables k) inner n old new →
       AreDepths n (depth_by k) old → AreDepths n (depth_by (k + 1)) new
-  depths-lower k inner old new held is low h = record {
-    count = low.count ∙ h.count;
-    each = λ x l. low.lowered x l ∙ ap₂ (λ d r. min d (2 * length_to (table_at tables k) x - r)) (h.each x l) is
-        ∙ sym (ap (fold (λ d leaf. min d (reach_from f tables s x leaf)) (dual_of f s)) (chosen_below_yes (holds f s) k held)
-        ∙ fold-append (λ d leaf. min d (reach_from f tables s x leaf)) (dual_of f s) (chosen_below (holds f s) k) (k ∷ []));
-  }
+  depths-lower k inner old new held is low h = grind (arith, chosen_below_yes, fold-append, low.count, h.count, low.lowered, h.each)
 
   -- another leaf leaves them
   pub depths-skip : (k : ℕ) (depths : List ℕ) → holds f s k ≡ false → AreDepths n (depth_by k) depths → AreDepths n (depth_by (k + 1)) depths
-  depths-skip k depths out h = record {
-    count = h.count;
-    each = λ x l. h.each x l ∙ sym (ap (fold (λ d leaf. min d (reach_from f tables s x leaf)) (dual_of f s)) (chosen_below_no (holds f s) k out));
-  }
+  depths-skip k depths out h = grind (arith, chosen_below_no, h.count, h.each)
 
   -- after the last leaf they are the depths at the set
   pub depths-end : IsFamily f → (depths : List ℕ) → AreDepths n (depth_by (leaf_count f)) depths → AreDepths n (set_depth f tables s) depths
-  depths-end fam depths h = record {
-    count = h.count;
-    each = λ x l. h.each x l ∙ sym (ap (fold (λ d leaf. min d (reach_from f tables s x leaf)) (dual_of f s)) (fam.in_order s));
-  }
+  depths-end fam depths h = grind (arith, h.count, h.each, fam.in_order)
 
   -- no depth is beyond the dual
   pub depths_full : (y : ℕ) → y ≡ dual_of f s → (depths : List ℕ) → AreDepths n (set_depth f tables s) depths → All (λ d. d ≤ y) depths
@@ -78,59 +65,28 @@ module _ (f : Family) (tables : List Routes) (s n : ℕ) where
 
 -- a dual is within the bound of totals
 pub dual_small : (f : Family) → IsFamily f → (s : ℕ) → 0 < dual_of f s → dual_of f s ≤ 2 ^ 61
-dual_small f fam s some =
-    let held = some_leaf f fam s (dual_alive f s some) in
-    omega (arith, share-total f s held.0 held.1, fam.bounded held.0)
+dual_small f fam s some = grind (arith, some_leaf, dual_alive, share-total, fam, fam.bounded)
 
 -- a set that holds no leaf has no dual
 pub no_dual : (f : Family) → IsFamily f → (s : ℕ) → ((leaf : ℕ) → leaf < leaf_count f → holds f s leaf ≡ false) → dual_of f s ≡ 0
-no_dual f fam s none = elim (cases_lt 0 (dual_of f s)) [
-  | inl some ↦
-      let held = some_leaf f fam s (dual_alive f s some) in
-      absurd (false≢true (sym (none held.0 (leaf_bound f fam s held.0 held.1)) ∙ held.1))
-  | inr zero ↦ omega arith
-]
+no_dual f fam s none = grind (arith, cases_lt 0 (dual_of f s), some_leaf, dual_alive, false≢true, leaf_bound, fam, none)
 
 -- what depths that agree at the nodes give
 module _ (g : Graph) (joined : All (IsEdge g.nodes) g.edges) (d c : ℕ → ℕ) (same : (x : ℕ) → x < g.nodes → d x ≡ c x) (y : ℕ) where
   crosses_same : (level e : ℕ) → e < edge_count g → crosses g (is_below_level d level) e ≡ crosses g (is_below_level c level) e
-  crosses_same level e l =
-      let edge : IsEdge g.nodes (edge_at g e) = joined e (record { a = 0; b = 0; w = pos 0 }) l in
-      ap₂ (λ u v. xor (ltb u level) (ltb v level)) (same (edge_at g e).a edge.first_end) (same (edge_at g e).b edge.second_end)
+  crosses_same level e l = grind (arith, g.nodes)
 
   slice_same : (cut : Cut) → IsSlice g d y cut → IsSlice g c y cut
-  slice_same cut h = record {
-    positive = h.positive;
-    level = h.level;
-    above = h.above;
-    up_to = h.up_to;
-    is = h.is ∙ chosen_below_same (crosses g (is_below_level d h.level)) (crosses g (is_below_level c h.level)) (edge_count g) (crosses_same h.level);
-  }
+  slice_same cut h = grind (arith, chosen_below_same, crosses_same, h.positive, h.level, h.above, h.up_to, h.is)
 
   -- depths that agree on the nodes have the same cuts
   Slices-same : (cuts : List Cut) → Slices g d y cuts → Slices g c y cuts
-  Slices-same cuts h = record {
-    are = All-weaker (IsSlice g d y) (IsSlice g c y) slice_same cuts h.are;
-    total = h.total;
-    loads = λ e l.
-        let edge : IsEdge g.nodes (edge_at g e) = joined e (record { a = 0; b = 0; w = pos 0 }) l in
-        h.loads e l ∙ ap₂ gap (same (edge_at g e).a edge.first_end) (same (edge_at g e).b edge.second_end);
-    few =
-        let counted : inside_count g d y ≡ inside_count g c y =
-        sum_below-same (λ x. cond (is_inside y (d x)) 1 0) (λ x. cond (is_inside y (c x)) 1 0) g.nodes
-        (λ x l. ap (λ v. cond (is_inside y v) 1 0) (same x l)) in
-        omega (arith, h.few);
-  }
+  Slices-same cuts h = grind (arith, slice_same, sum_below-same, h.are, h.total, g.nodes, h.loads, h.few)
 
 module _ (f : Family) (g : Graph) (tables : List Routes) (name : ℕ) where
   -- a set of dual 0 adds no cut
   pub Adds-none : (old : List Cut) → dual_of f name ≡ 0 → Adds f g tables name old old
-  Adds-none old none = record {
-    are = λ h. h;
-    total = omega arith;
-    loads = λ e l. omega (arith, depth_full f tables name (edge_at g e).a, depth_full f tables name (edge_at g e).b);
-    few = omega arith;
-  }
+  Adds-none old none = grind (arith, depth_full)
 
   -- a set with a dual above 0 adds the cuts of its levels
   pub Adds-slices : IsFamily f → IsWeb g → (depths : List ℕ) → AreDepths g.nodes (set_depth f tables name) depths → (y : ℕ) →

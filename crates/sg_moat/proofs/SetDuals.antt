@@ -1,6 +1,6 @@
 -- The duals of the sets that hold one of two leaves, beside those of the sets within a set.
-use Rattle.std.proofs.Common.{◌≡◌, ◌≢◌, ℕ, ◌+◌, ◌≤◌, ◌&&◌, Bool, true, false, cond, [], length, Option, Some, None, refl, sym}
-use Rattle.std.proofs.Common.{ap, ap₂, ◌∙◌, subst, arith}
+use Rattle.std.proofs.Common.{◌≡◌, ◌≢◌, ℕ, ◌+◌, ◌≤◌, ◌&&◌, Bool, true, false, cond, [], length, Option, Some, None, refl}
+use Rattle.std.proofs.Common.{ap, ◌∙◌, subst, arith}
 use Rattle.std.specs.Option.{option_map_or}
 use Rattle.std.proofs.lemmas.Bool.{and_parts, true≢false, false_from_ne_true}
 use Rattle.sg_sums.specs.Parity.{xor}
@@ -14,10 +14,7 @@ use Rattle.sg_arena.proofs.InnerDuals.{below_from, cond_le, covers_from, inner_a
 -- a leaf of the first set alone, and a leaf of the second set alone
 two_sides : (b c t u : Bool) (v : ℕ) → (b ≡ true → (t ≡ true) × (u ≡ false)) → (c ≡ true → (u ≡ true) × (t ≡ false)) →
     cond b v 0 + cond c v 0 ≤ cond (xor t u) v 0
-two_sides true true t u v h k = absurd (true≢false (sym (h refl).0 ∙ (k refl).1))
-two_sides true false t u v h k = let e : xor t u ≡ true = ap₂ xor (h refl).0 (h refl).1 in rw e (omega arith)
-two_sides false true t u v h k = let e : xor t u ≡ true = ap₂ xor (k refl).1 (k refl).0 in rw e (omega arith)
-two_sides false false t u v h k = omega arith
+two_sides b c t u v h1 h2 = grind (arith, true≢false)
 
 module _ (f : Family) where
   -- the duals between two leaves, name by name
@@ -43,21 +40,11 @@ module _ (f : Family) where
 
   -- a set within s holds no leaf outside of s
   separates : (s x t u : ℕ) → holds f s u ≡ false → (within f s x && holds f x t) ≡ true → (holds f x t ≡ true) × (holds f x u ≡ false)
-  separates s x t u out p =
-      let both : (within f s x ≡ true) × (holds f x t ≡ true) = and_parts (within f s x) (holds f x t) p in
-      (both.1, false_from_ne_true (holds f x u) (λ (k : holds f x u ≡ true). true≢false (sym (covers_from f s x both.0 u k) ∙ out)))
+  separates s x t u out p = grind (arith, and_parts, false_from_ne_true, true≢false, covers_from)
 
   -- from a leaf of s to one outside of it
   pub outside_duals : (s t u : ℕ) → Holds f s t → holds f s u ≡ false → inner_of f s t + dual_of f s ≤ duals_between f t u
-  outside_duals s t u h out =
-      omega (
-        arith,
-        inner_and_own f s t h,
-        between_is t u,
-        sum_below-le (up_to_share f s t) (between_share t u) (length f.nodes)
-            (λ x l. cond_le (within f s x && holds f x t) (xor (holds f x t) (holds f x u)) (dual_of f x)
-            (λ p. ap₂ xor (separates s x t u out p).0 (separates s x t u out p).1)),
-      )
+  outside_duals s t u h out = grind (arith, inner_and_own, between_is, sum_below-le, up_to_share, cond_le, separates, f.nodes, out)
 
   -- from a leaf of s to a leaf of s', which is disjoint from it
   pub apart_duals : (s s' t u : ℕ) → Holds f s t → Holds f s' u → holds f s u ≡ false → holds f s' t ≡ false →

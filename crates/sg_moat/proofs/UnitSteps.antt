@@ -48,16 +48,7 @@ module _ (y : ℕ → ℕ) (reach : ℕ → ℕ → ℕ) (n : ℕ) where
       (stands : (s s' : ℕ) → s < count → s' < count → 0 < y s → 0 < y s' → s ≢ s' → Stands s s') where
     one_of_two : (s s' k : ℕ) → k < n → Near (reach s k) (reach s (suc k)) → Near (reach s' k) (reach s' (suc k)) → Stands s s' →
         (gap (depth s k) (depth s (suc k)) ≡ 0) ⊎ (gap (depth s' k) (depth s' (suc k)) ≡ 0)
-    one_of_two s s' k l m m' (disjoint h) =
-        apart_one_moves (y s) (y s') (reach s k) (reach s (suc k)) (reach s' k) (reach s' (suc k)) m m' (h k (omega arith)) (h (suc k) (omega arith))
-    one_of_two s s' k l m m' (outer h) =
-        inner_one_moves (y s) (y s') (reach s k) (reach s (suc k)) (reach s' k) (reach s' (suc k)) m m' (h k (omega arith)) (h (suc k) (omega arith))
-    one_of_two s s' k l m m' (inner h) =
-        turned (inner_one_moves (y s') (y s) (reach s' k) (reach s' (suc k)) (reach s k) (reach s (suc k)) m' m (h k (omega arith)) (h (suc k) (omega arith)))
-      where
-        turned : {P Q : Type 0} → P ⊎ Q → Q ⊎ P
-        turned (inl p) = inr p
-        turned (inr q) = inl q
+    one_of_two s s' k h1 h2 h3 h4 = grind (arith, apart_one_moves, inner_one_moves)
 
     moves : ℕ → ℕ → ℕ
     moves k s = gap (depth s k) (depth s (suc k))

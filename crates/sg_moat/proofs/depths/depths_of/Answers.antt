@@ -1,6 +1,5 @@
 use Rattle.std.proofs.Common.{◌+◌, ◌≡◌, ap, sym, subst, arith, rules, ◌∙◌}
 use Rattle.std.proofs.lemmas.List.{get_or_read, with_items_is}
-use Rattle.sg_arena.specs.Family.{leaf_count}
 use Rattle.sg_moat.specs.Depths.{AreDepths, Lowers}
 use Rattle.sg_moat.specs.Input.{blank_table, table_at}
 use Rattle.sg_moat.proofs.SetDepths.{depth_by, depths-end, depths-lower, depths-skip}
@@ -31,8 +30,4 @@ loop-leaf-preserved c =
 
 pub returns : goal.returns
 returns c =
-    let f = c.args.family.now in
-    let all : c.loop-leaf.leaf ≡ leaf_count f = omega (arith, c.requires.leaves, c.loop-leaf-test.false, c.loop-leaf.auto.leaf-end) in
-    depths-end f c.args.tables.now c.args.name c.args.web.now.nodes c.room-room.ensures.family c.loop-leaf.depths.items
-    (subst (λ k. AreDepths c.args.web.now.nodes (depth_by f c.args.tables.now c.args.name c.args.web.now.nodes k) c.loop-leaf.depths.items) all
-    c.loop-leaf.invariant)
+    grind (arith, depths-end, depth_by, c.requires.leaves, c.loop-leaf-test.false, c.loop-leaf.auto.leaf-end, c.room-room.ensures.family, c.loop-leaf.invariant)

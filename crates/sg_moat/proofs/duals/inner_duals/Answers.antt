@@ -1,7 +1,5 @@
-use Rattle.std.proofs.Common.{◌+◌, ap, sym, subst, ◌∙◌, arith}
-use Rattle.sg_arena.specs.Family.{Holds}
-use Rattle.sg_arena.specs.Sets.{inner_of}
-use Rattle.sg_moat.proofs.Climb.{Climbing, Climbing-bound, Climbing-start, Climbing-step, Climbing-top, room_falls}
+use Rattle.std.proofs.Common.{◌+◌, sym, subst, arith}
+use Rattle.sg_moat.proofs.Climb.{Climbing, Climbing-bound, Climbing-start, Climbing-step, room_falls}
 use Rattle.sg_moat.proofs.duals.inner_duals.Goals as goal
 
 pub loop-at-init : goal.loop-at-init
@@ -10,9 +8,7 @@ loop-at-init c =
     (Climbing-start c.args.family.now c.room-room.ensures.family c.args.name c.args.leaf c.requires)
 
 pub returns-in_default : goal.returns-in_default
-returns-in_default c =
-    Climbing-top c.args.family.now c.room-room.ensures.family c.args.name c.args.leaf c.loop-at.at c.loop-at.inner c.loop-at-test.true
-    c.in_default.ensures c.loop-at.invariant
+returns-in_default c = grind (arith, c.room-room.ensures.family, c.loop-at.inner, c.loop-at-test.true, c.in_default.ensures, c.loop-at.invariant)
 
 pub overflow_add-inner : goal.overflow_add-inner
 overflow_add-inner c =
@@ -23,9 +19,7 @@ overflow_add-inner c =
     )
 
 pub loop-at-smaller : goal.loop-at-smaller
-loop-at-smaller c =
-    room_falls c.args.family.now c.room-room.ensures.family c.args.leaf c.loop-at.at c.in-Some.parent c.in-Some.ensures.0 c.loop-at.invariant.held
-    c.in-Some.ensures.1
+loop-at-smaller c = grind (arith, room_falls, c.room-room.ensures.family, c.in-Some.ensures, c.loop-at.invariant.held)
 
 pub loop-at-preserved : goal.loop-at-preserved
 loop-at-preserved c =
@@ -37,8 +31,4 @@ loop-at-preserved c =
     inner c.loop-at-test.true c.loop-at.invariant)
 
 pub returns : goal.returns
-returns c =
-    let here = c.loop-at-test.false in (
-      subst (λ n. Holds c.args.family.now n c.args.leaf) here c.loop-at.invariant.held,
-      c.loop-at.invariant.sum ∙ ap (λ n. inner_of c.args.family.now n c.args.leaf) here,
-    )
+returns c = grind (arith, c.loop-at-test.false, c.args.leaf, c.loop-at.invariant.held, c.loop-at.invariant.sum)

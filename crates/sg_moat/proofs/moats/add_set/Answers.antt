@@ -15,12 +15,7 @@ slice-requires-clause-full c =
     c.in_ok-depths.depths.items c.in_ok-depths.ensures)
 
 pub slice-requires-clause-small : goal.slice-requires-clause-small
-slice-requires-clause-small c =
-    omega (
-      arith,
-      c.dual_under-y.ensures,
-      dual_small c.args.family.now c.room-room.ensures.family c.args.name (omega (arith, c.dual_under-y.ensures, c.if-y-eq0.false)),
-    )
+slice-requires-clause-small c = grind (arith, dual_small, c.dual_under-y.ensures, c.room-room.ensures.family, c.args.name, c.if-y-eq0.false)
 
 pub returns : goal.returns
 returns c =

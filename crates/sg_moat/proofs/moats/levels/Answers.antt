@@ -1,4 +1,4 @@
-use Rattle.std.proofs.Common.{length, subst, arith}
+use Rattle.std.proofs.Common.{length, arith}
 use Rattle.sg_graph.proofs.OnceLists.{rising_few}
 use Rattle.sg_moat.specs.Gathers.{Gathers}
 use Rattle.sg_moat.proofs.Packing.{IsMoatInput, IsMoatInput-from, duals_total, packs}
@@ -11,12 +11,7 @@ add_set-requires-clause-tables c =
 
 pub add_set-requires-clause-few : goal.add_set-requires-clause-few
 add_set-requires-clause-few c =
-    omega (
-      arith,
-      c.requires.tables.count,
-      rising_few c.args.web.now.nodes c.args.terminals.now c.requires.terminals.below c.requires.terminals.rising,
-      c.nodes-nodes.ensures.web.few_nodes,
-    )
+    grind (arith, rising_few, c.requires.tables.count, c.requires.terminals.below, c.requires.terminals.rising, c.nodes-nodes.ensures.web.few_nodes)
 
 input : (c : goal.After-loop-name) → IsMoatInput c.args.family.now c.args.web.now c.args.terminals.now c.args.tables.now
 input c =
@@ -24,15 +19,10 @@ input c =
     c.requires.terminals c.requires.leaves c.requires.tables c.requires.slack
 
 all_sets : (c : goal.After-loop-name) → Gathers c.args.family.now c.args.web.now c.args.tables.now (length c.args.family.now.nodes) c.loop-name.cuts
-all_sets c =
-    subst (λ n. Gathers c.args.family.now c.args.web.now c.args.tables.now n c.loop-name.cuts)
-    (omega (arith, c.loop-name-test.false, c.loop-name.auto.name-end, c.room-name-end.ensures.value)) c.loop-name.invariant
+all_sets c = grind (arith, c.loop-name.cuts, c.loop-name-test.false, c.loop-name.auto.name-end, c.room-name-end.ensures.value, c.loop-name.invariant)
 
 pub returns-clause-packs : goal.returns-clause-packs
-returns-clause-packs c =
-    packs c.args.family.now c.room-name-end.ensures.family c.args.web.now c.args.terminals.now c.args.tables.now (input c) c.loop-name.cuts (all_sets c)
+returns-clause-packs c = grind (arith, packs, input, all_sets, c.room-name-end.ensures.family, c.loop-name.cuts)
 
 pub returns-clause-total : goal.returns-clause-total
-returns-clause-total c =
-    duals_total c.args.family.now c.room-name-end.ensures.family c.args.web.now c.args.terminals.now c.args.tables.now (input c) c.loop-name.cuts
-    (all_sets c)
+returns-clause-total c = grind (arith, duals_total, input, all_sets, c.room-name-end.ensures.family, c.loop-name.cuts)
