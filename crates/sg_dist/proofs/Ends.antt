@@ -1,13 +1,13 @@
 -- A search begins at its source, and ends with a table of the graph.
-use Rattle.std.proofs.Common.{inl, inr, ◌≡◌, ◌≢◌, ℕ, ◌+◌, ◌<◌, ◌≤◌, pos, true, cond, Option, None, Some, is_some, List, [], replicate, refl, sym, ◌∙◌, ap, subst, arith, length, unsigned_abs, count_by}
-use Rattle.std.specs.Option.{MatchOption, option_map_or}
+use Rattle.std.proofs.Common.{◌≡◌, ◌≢◌, ℕ, ◌+◌, ◌<◌, ◌≤◌, pos, true, cond, Option, None, Some, is_some, List, [], replicate, refl, sym, ◌∙◌, ap, subst, arith, length, unsigned_abs, count_by}
+use Rattle.std.specs.Option.{option_map_or}
 use Rattle.std.specs.declared.cmp.Reverse.{Reverse}
 use Rattle.std.proofs.lemmas.Bool.{cases_eq, cases_lt, false≢true}
 use Rattle.std.proofs.lemmas.List.{get_or_past, get_or-replicate, get_or-set_other, get_or-set_same, length-replicate, length-set}
 use Rattle.std.proofs.lemmas.List.Elements.{All-nil}
 use Rattle.std.proofs.lemmas.List.Sums.{count_by-le-length, sum_by-set}
 use Rattle.sg_graph.specs.Web.{Graph}
-use Rattle.sg_graph.specs.Walk.{IsDistance, IsReached}
+use Rattle.sg_graph.specs.Walk.{IsDistance}
 use Rattle.sg_graph.specs.Table.{IsTableOf, Route, Routes, at_home, distance_at, is_reached, length_to, route_at}
 use Rattle.sg_graph.proofs.Tables.{first_routes, parent_reached}
 use Rattle.sg_dist.specs.declared.candidate.Candidate.{Candidate}
@@ -23,24 +23,16 @@ module _ (g : Graph) (source : ℕ) (low : source < g.nodes) where
   count = length-set (replicate g.nodes None) source (Some at_home) ∙ length-replicate g.nodes None
 
   route_home : route_at first_table source ≡ Some at_home
-  route_home = get_or-set_same (replicate g.nodes None) source (Some at_home) None
-      (let n : length (replicate {A = Option Route} g.nodes None) ≡ g.nodes = length-replicate g.nodes None in omega arith)
+  route_home = grind (arith, get_or-set_same, length-replicate)
 
   none : (x : ℕ) → x ≢ source → route_at first_table x ≡ None
-  none x ne = get_or-set_other (replicate g.nodes None) source x (Some at_home) None ne ∙ elim (cases_lt x g.nodes) [
-    | inl l ↦ get_or-replicate g.nodes x None None l
-    | inr l ↦ get_or_past (replicate g.nodes None) x None (let n : length
-        (replicate {A = Option Route} g.nodes None) ≡ g.nodes = length-replicate g.nodes None in omega arith)
-  ]
+  none x ne = grind (arith, cases_lt x g.nodes, get_or-set_other, get_or-replicate, get_or_past, length-replicate)
 
   home : is_reached first_table source ≡ true
   home = ap (λ (r : Option Route). is_some r) route_home
 
   only : (x : ℕ) → is_reached first_table x ≡ true → x ≡ source
-  only x h = elim (cases_eq x source) [
-    | inl e ↦ e
-    | inr ne ↦ absurd (false≢true (sym (ap (λ (r : Option Route). is_some r) (none x ne)) ∙ h))
-  ]
+  only x h = grind (arith, cases_eq x source, false≢true, is_some, none)
 
   home_distance : distance_at first_table source ≡ pos 0
   home_distance = ap (λ (r : Option Route). option_map_or (λ (q : Route). q.distance) r (pos 0)) route_home
@@ -78,7 +70,7 @@ module _ (g : Graph) (source : ℕ) (low : source < g.nodes) where
     waiting = record { candidates = All-nil (IsCandidate g first_table); order = λ x h. All-nil (λ c. length_to first_table x ≤ c.distance) };
     here = home;
     latest = λ x h. omega (arith, no_length x h);
-    frontier = λ v e h but. (let c = but (only v h) in absurd (omega (arith, c.1)));
+    frontier = λ v e h but. (let c = but (only v h) in absurd (omega arith));
   }
     where
       itself : IsDistance g source source 0
@@ -86,23 +78,20 @@ module _ (g : Graph) (source : ℕ) (low : source < g.nodes) where
 
 -- no candidate is left
 pub IsTableOf-end : (g : Graph) (t : Routes) → Searches g t [] → IsTableOf g t
-IsTableOf-end g t s = record {
-  nodes = s.finds.count;
-  distances = λ x l. by_route x (route_at t x) refl;
-  parents = λ x e l h. s.finds.parents x e h;
-  back = λ x l h. (let way = s.finds.back x h in (way.0, way.1, omega (arith, way.2, s.finds.count, most (t.to))));
-}
-  where
-    most : (rs : List (Option Route)) → count_by (λ r. is_some r) rs ≤ length rs
-    most rs = count_by-le-length (λ r. is_some r) rs
-
-    by_route : (x : ℕ) (r : Option Route) → route_at t x ≡ r → MatchOption r (IsReached g t.source x → ⊥)
-        (λ q. (d : ℕ) × (q.distance ≡ pos d) × IsDistance g t.source x d)
-    by_route x None e = λ way. false≢true (sym (ap (λ (r : Option Route). is_some r) e) ∙ closed g t s way.0 t.source x s.finds.home way.1)
-    by_route x (Some q) e =
-        let on : is_reached t x ≡ true = ap (λ (r : Option Route). is_some r) e in
-        let same : distance_at t x ≡ q.distance = ap (λ (r : Option Route). option_map_or (λ (z : Route). z.distance) r (pos 0)) e in
-        (length_to t x, sym same ∙ s.finds.signed x on, s.finds.right x on)
+IsTableOf-end g t s =
+    grind (
+      arith,
+      is_some,
+      count_by-le-length,
+      false≢true,
+      closed,
+      s.finds.count,
+      s.finds.parents,
+      s.finds.back,
+      s.finds.home,
+      s.finds.signed,
+      s.finds.right,
+    )
 
 -- the first step, in the terms of the code
 module _ (g : Graph) (source : ℕ) (low : source < g.nodes) (t : Routes) (is : t ≡ first_table g source low) (items : List (Reverse Candidate))

@@ -51,5 +51,5 @@ pub closed : (g : Graph) (t : Routes) → Searches g t [] → (es : List ℕ) (v
 closed g t s [] v u found w = ap (is_reached t) (sym w) ∙ found
 closed g t s (e ∷ es) v u found w = elim (cases_Bool (is_reached t w.0)) [
   | inl on ↦ closed g t s es w.0 u on w.2
-  | inr out ↦ (let c = s.frontier v e found w.0 w.1 out in absurd (omega (arith, c.1)))
+  | inr out ↦ (let c = s.frontier v e found w.0 w.1 out in absurd (omega arith))
 ]

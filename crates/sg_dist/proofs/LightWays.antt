@@ -14,6 +14,4 @@ module _ (g : Graph) (t : Routes) where
 
   -- a distance is at most the weight of all edges
   pub distance_light : IsTableOf g t → (x : ℕ) → is_reached t x ≡ true → length_to t x ≤ total_weight g
-  distance_light is x h =
-      let way = is.back x (omega (arith, reached_low t x h, is.nodes)) h in
-      omega (arith, way_distance g t is way.0 x h way.1, once_light g way.0 (way_below way.0 x t.source way.1) (way_once g t way.0 x way.1))
+  distance_light is x h = grind (arith, reached_low, way_distance, once_light, way_below, way_once, is.back, is.nodes, is)

@@ -1,14 +1,13 @@
 -- One candidate popped, in the terms of the code.
-use Rattle.std.proofs.Common.{◌≡◌, ◌≢◌, ℕ, ◌+◌, ◌-◌, ◌*◌, ◌<◌, ◌≤◌, ◌^◌, ◌∷◌, [], true, false, List, All, refl, sym, ◌∙◌, ap, subst, arith, pos, ℤ, Option, is_some, to_z, w64}
+use Rattle.std.proofs.Common.{◌≡◌, ◌≢◌, ℕ, ◌+◌, ◌-◌, ◌*◌, ◌<◌, ◌≤◌, ◌^◌, ◌∷◌, [], true, false, List, All, refl, sym, ◌∙◌, ap, arith, pos, ℤ, Option, is_some, to_z, w64}
 use Rattle.std.specs.declared.cmp.Ordering.{Ordering}
-use Rattle.std.specs.declared.cmp.Ordering.TheVariants.{Less, Equal, Greater}
 use Rattle.std.specs.declared.cmp.Reverse.{Reverse}
 use Rattle.std.specs.BinaryHeap.{IsUpperBound}
 use Rattle.std.specs.List.Sorted.{IsPermutation}
-use Rattle.std.specs.Ordering.{is_lt, nat_cmp, ordering_then}
+use Rattle.std.specs.Ordering.{is_lt, ordering_then}
 use Rattle.std.proofs.lemmas.Int.{to_z_pos}
 use Rattle.std.proofs.lemmas.List.Sums.{count_by-le-length}
-use Rattle.std.proofs.lemmas.List.Elements.{All-cons, All-head, All-nil}
+use Rattle.std.proofs.lemmas.List.Elements.{All-nil}
 use Rattle.std.proofs.lemmas.List.Sorted.{IsPermutation-map, le_from_greatest}
 use Rattle.sg_graph.specs.Web.{Graph, IsWeb}
 use Rattle.sg_graph.specs.Table.{Route, Routes, is_reached, length_to, with_route}
@@ -20,28 +19,16 @@ use Rattle.sg_dist.proofs.Steps.{Searches-skip, Spreads-found, candidate_small, 
 
 -- what comes first decides unless it is `Equal`
 first_not_less : (a b : Ordering) → is_lt (ordering_then a b) ≡ false → is_lt a ≡ false
-first_not_less Less b e = e
-first_not_less Equal b e = refl
-first_not_less Greater b e = e
+first_not_less a b h1 = grind arith
 
 -- the greatest element of the heap has the least distance
 nearest : (x : Reverse Candidate) (ys : List (Reverse Candidate)) → IsUpperBound nearest_last x ys → All (λ c. x.0.distance ≤ c.distance) (candidates ys)
 nearest x [] h = All-nil (λ (c : Candidate). x.0.distance ≤ c.distance)
-nearest x (y ∷ ys) h =
-    All-cons (λ (c : Candidate). x.0.distance ≤ c.distance) y.0 (candidates ys)
-    (All-head (λ d. d ≤ y.0.distance) x.0.distance [] (le_from_greatest y.0.distance (x.0.distance ∷ [])
-    (first_not_less (nat_cmp y.0.distance x.0.distance) _ h.0, tt)))
-    (nearest x ys h.1)
+nearest x (y ∷ ys) h = grind (arith, nearest x ys h.1, le_from_greatest, first_not_less)
 
 -- the measure falls: a node more is found, and its edges give at most m candidates
 pub work_falls : (n r r' m h p h' : ℕ) → r' ≡ r + 1 → r' ≤ n → p + 1 ≡ h → h' ≤ p + m → (n - r') * (m + 1) + h' < (n - r) * (m + 1) + h
-work_falls n r r' m h p h' more most pop push =
-    let k : n - r ≡ (n - r') + 1 = omega arith in
-    let e : (n - r) * (m + 1) ≡ ((n - r') + 1) * (m + 1) = ap (λ z. z * (m + 1)) k in
-    split (n - r') ((n - r) * (m + 1)) e
-  where
-    split : (j z : ℕ) → z ≡ (j + 1) * (m + 1) → j * (m + 1) + h' < z + h
-    split j z e = omega arith
+work_falls n r r' m h p h' more most pop push = grind arith
 
 -- as a signed number the distance is the same
 cast_same : (n : ℕ) → n ≤ 2 ^ 60 → to_z w64 n ≡ pos n

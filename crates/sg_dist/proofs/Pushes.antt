@@ -1,11 +1,11 @@
 -- One edge more, in the terms of the code.
-use Rattle.std.proofs.Common.{◌≡◌, ℕ, ◌+◌, ◌<◌, ◌≤◌, ◌∷◌, true, false, All, List, take, sym, ◌∙◌, ap, subst, arith, length, get_or, pos, unsigned_abs}
+use Rattle.std.proofs.Common.{◌≡◌, ℕ, ◌+◌, ◌<◌, ◌≤◌, ◌∷◌, true, false, All, List, take, sym, ap, subst, arith, length, get_or, pos, unsigned_abs}
 use Rattle.std.specs.List.Sorted.{IsPermutation}
 use Rattle.std.specs.declared.cmp.Reverse.{Reverse}
 use Rattle.std.proofs.lemmas.List.{take_more}
 use Rattle.std.proofs.lemmas.List.Sorted.{IsPermutation-map}
 use Rattle.sg_graph.specs.declared.web.Edge.{Edge}
-use Rattle.sg_graph.specs.Web.{Graph, edge_at, edge_weight, total_weight}
+use Rattle.sg_graph.specs.Web.{Graph, edge_weight, total_weight}
 use Rattle.sg_graph.specs.Walk.{Leads, other_end}
 use Rattle.sg_graph.specs.Incidence.{AreIncident, EndsAt, list_at}
 use Rattle.sg_graph.specs.Table.{Routes, is_reached, length_to}
@@ -29,10 +29,7 @@ module _ (g : Graph) (t : Routes) (node : ℕ) (list : List ℕ) (i other : ℕ)
 
   -- the edge leads to the other end
   pub leads_to : Leads g this node other
-  leads_to =
-      let far : other_end node (edge_at g this) ≡ other = sym (is ∙ ap
-      (λ (es : List Edge). other_end node (get_or es this (record { a = 0; b = 0; w = pos 0 }))) same) in
-      subst (λ z. Leads g this node z) far (leads_other g this node ends)
+  leads_to = grind (arith, leads_other)
 
   -- the weight in the code is that of the edge
   pub weight_is : unsigned_abs (get_or edges this (record { a = 0; b = 0; w = pos 0 })).w ≡ edge_weight g this

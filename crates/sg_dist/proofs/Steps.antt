@@ -1,6 +1,6 @@
 -- One step of a search: the least candidate is taken, and its node is found already, or is found now and its edges are
 -- spread one by one.
-use Rattle.std.proofs.Common.{inl, inr, ◌≡◌, ◌≢◌, ◌⊎◌, ℕ, zero, suc, ◌+◌, ◌<◌, ◌≤◌, pos, Bool, true, false, ◌&&◌, cond, Option, None, Some, is_some, List, [], ◌∷◌, ◌++◌, All, Contains, refl, sym, ◌∙◌, ap, subst, arith, length, get_or}
+use Rattle.std.proofs.Common.{inl, inr, ◌≡◌, ◌≢◌, ◌⊎◌, ℕ, suc, ◌+◌, ◌<◌, ◌≤◌, pos, Bool, true, false, ◌&&◌, cond, Some, is_some, List, [], ◌∷◌, ◌++◌, All, Contains, refl, sym, ◌∙◌, ap, subst, arith, length, get_or}
 use Rattle.std.specs.List.Sorted.{IsPermutation}
 use Rattle.std.proofs.lemmas.Bool.{cases_Bool, cases_eq, false≢true}
 use Rattle.std.proofs.lemmas.List.{length-set}
@@ -12,7 +12,7 @@ use Rattle.sg_sums.proofs.SumLaws.{sum_by-gain}
 use Rattle.sg_graph.specs.declared.web.Edge.{Edge}
 use Rattle.sg_graph.specs.Web.{Graph, IsWeb, edge_at, edge_weight, total_weight, weight_at}
 use Rattle.sg_graph.specs.Walk.{IsDistance, Leads}
-use Rattle.sg_graph.specs.Table.{IsNearer, IsWayBack, Route, Routes, distance_at, is_reached, length_to, parent_at, with_route}
+use Rattle.sg_graph.specs.Table.{IsNearer, IsWayBack, Routes, distance_at, is_reached, length_to, parent_at, with_route}
 use Rattle.sg_graph.proofs.Walks.{leads_low, other_only, turned}
 use Rattle.sg_graph.proofs.Tables.{distance_here, distance_there, length_here, length_there, parent_here, parent_reached, parent_there, reached_here, reached_kept, reached_there}
 use Rattle.sg_dist.specs.declared.candidate.Candidate.{Candidate}
@@ -22,16 +22,10 @@ use Rattle.sg_dist.proofs.Leads.{least_candidate}
 -- an edge that leads out of the nodes found is not between them
 module _ (g : Graph) (t : Routes) where
   not_inner : (e v u : ℕ) → Leads g e v u → is_reached t u ≡ false → inner_at t (edge_at g e) ≡ 0
-  not_inner e v u l new = elim l.ways [
-    | inl w ↦ rw (ap (is_reached t) w.1 ∙ new, and-false (is_reached t (edge_at g e).a)) refl
-    | inr w ↦ rw (ap (is_reached t) w.0 ∙ new) refl
-  ]
+  not_inner e v u l new = grind (arith, and-false, l.ways)
 
   inner-le : (edge : Edge) → inner_at t edge ≤ weight_at edge
-  inner-le edge = elim (cases_Bool (is_reached t edge.a && is_reached t edge.b)) [
-    | inl both ↦ rw both (omega arith)
-    | inr none ↦ rw none (omega arith)
-  ]
+  inner-le edge = grind (arith, cases_Bool (is_reached t edge.a && is_reached t edge.b), edge.a, edge.b)
 
   -- a step out of the nodes found weighs no more than all edges
   pub outward : (e v u : ℕ) → FindsNearest g t → is_reached t v ≡ true → Leads g e v u → is_reached t u ≡ false
@@ -48,8 +42,7 @@ module _ (g : Graph) (t : Routes) where
   candidate_small c f is new = omega (arith, is.distance, outward c.edge is.from c.node f is.reached is.leads new)
 
 in_rest : (c x : Candidate) (rest : List Candidate) → Contains (c ∷ rest) x → (x ≡ c) ⊎ Contains rest x
-in_rest c x rest (zero, l, e) = inl (sym e)
-in_rest c x rest (suc k, l, e) = inr (k, omega arith, e)
+in_rest c x rest h1 = grind arith
 
 -- the candidate c is taken from the heap
 module _ {g : Graph} {t : Routes} {heap rest : List Candidate} {c : Candidate} (s : Searches g t heap) (perm : IsPermutation heap (c ∷ rest)) where
@@ -117,11 +110,7 @@ module _ {g : Graph} {t : Routes} {heap rest : List Candidate} {c : Candidate} (
 
     -- one node more is found
     pub one_more : reached_count found ≡ reached_count t + 1
-    one_more =
-        let s' : reached_count found + cond (is_reached t c.node) 1 0 ≡ reached_count t + 1 = sum_by-set
-        (λ (r : Option Route). cond (is_some r) 1 0) t.to c.node (Some (record { distance = pos c.distance; edge = c.edge })) None low in
-        let none : cond {A = ℕ} (is_reached t c.node) 1 0 ≡ 0 = ap (λ b. cond b 1 0) new in
-        omega arith
+    one_more = grind (arith, sum_by-set, is_some, low)
 
     -- the edge of the candidate is between nodes found now
     heavier : inner_weight g t + edge_weight g c.edge ≤ inner_weight g found
@@ -138,21 +127,13 @@ module _ {g : Graph} {t : Routes} {heap rest : List Candidate} {c : Candidate} (
         here = reached_here t c.node (pos c.distance) c.edge low
 
         wider : (p q p' q' : Bool) (w : ℕ) → (p ≡ true → p' ≡ true) → (q ≡ true → q' ≡ true) → cond (p && q) w 0 ≤ cond (p' && q') w 0
-        wider true true p' q' w h k = rw (h refl, k refl) (omega arith)
-        wider true false p' q' w h k = omega arith
-        wider false q p' q' w h k = omega arith
+        wider p q p' q' w h1 h2 = grind arith
 
         grows : (edge : Edge) → inner_at t edge ≤ inner_at found edge
-        grows edge = wider (is_reached t edge.a) (is_reached t edge.b) (is_reached found edge.a) (is_reached found edge.b) (weight_at edge)
-            (kept edge.a) (kept edge.b)
+        grows edge = grind (arith, wider, kept)
 
     nearer : (x e : ℕ) → is_reached t x ≡ true → IsNearer g t x e → IsNearer g found x e
-    nearer x e h n = record {
-      from = n.from;
-      leads = n.leads;
-      reached = kept n.from n.reached;
-      distance = omega (arith, n.distance, same_length n.from n.reached, same_length x h);
-    }
+    nearer x e h n = grind (arith, kept, same_length, n.from, n.leads, n.reached, n.distance)
 
     way_kept : (es : List ℕ) (x y : ℕ) → is_reached t x ≡ true → IsWayBack g t x es y → IsWayBack g found x es y
     way_kept [] x y h w = w
@@ -161,8 +142,7 @@ module _ {g : Graph} {t : Routes} {heap rest : List Candidate} {c : Candidate} (
         (w.0, parent_there t c.node (pos c.distance) c.edge low x (other x h) ∙ w.1, w.2, way_kept es w.0 y (on w.0 w.2 near) w.3)
       where
         on : (z : ℕ) → Leads g e z x → IsNearer g t x e → is_reached t z ≡ true
-        on z l near = ap (is_reached t) (other_only g e x z (turned g e z x l)
-            ∙ sym (other_only g e x near.from (turned g e near.from x near.leads))) ∙ near.reached
+        on z l near = grind (arith, other_only, turned, near.from, near.leads, near.reached)
 
     -- what was found stays right
     Finds-found : FindsNearest g found
@@ -253,26 +233,13 @@ module _ {g : Graph} {t : Routes} {heap rest : List Candidate} {c : Candidate} (
     }
       where
         still : (b : Candidate) → IsCandidate g t b → IsCandidate g found b
-        still b is = record {
-          from = is.from;
-          reached = kept is.from is.reached;
-          leads = is.leads;
-          distance = omega (arith, is.distance, same_length is.from is.reached);
-        }
+        still b is = grind (arith, kept, same_length, is.from, is.reached, is.leads, is.distance)
 
         not_new : (u : ℕ) → is_reached found u ≡ false → u ≢ c.node
         not_new u fresh e = false≢true (sym fresh ∙ ap (is_reached found) e ∙ reached_here t c.node (pos c.distance) c.edge low)
 
         waits : (v e u : ℕ) → is_reached t v ≡ true → Leads g e v u → is_reached found u ≡ false → Contains rest (candidate_over g found v e u)
-        waits v e u h l fresh =
-            let old : Contains rest (candidate_over g t v e u) = left (candidate_over g t v e u) (not_new u fresh)
-            (s.frontier v e h u l (sym (reached_there t c.node (pos c.distance) c.edge low u (not_new u fresh)) ∙ fresh)) in
-            let same : candidate_over g t v e u ≡ candidate_over g found v e u = ap (at_distance u e)
-            (let q : length_to t v + edge_weight g e ≡ length_to found v + edge_weight g e = omega (arith, same_length v h) in q) in
-            subst (Contains rest) same old
-          where
-            at_distance : ℕ → ℕ → ℕ → Candidate
-            at_distance u e d = record { distance = d; node = u; edge = e }
+        waits v e u h l fresh = grind (arith, left, not_new, reached_there, low, same_length, s.frontier)
 
 -- one edge of the latest node more
 module _ {g : Graph} {t : Routes} {heap : List Candidate} {node e u : ℕ} {done : List ℕ} (s : Spreads g t heap node done) (l : Leads g e node u) where

@@ -1,12 +1,11 @@
 -- The way back from a node to the source: it is the only one, it weighs the distance, and no edge stands in it twice.
-use Rattle.std.proofs.Common.{inl, inr, ◌≡◌, ◌≢◌, ◌⊎◌, ℕ, zero, suc, ◌+◌, ◌-◌, ◌<◌, true, Some, List, [], ◌∷◌, ◌++◌, reverse, refl, sym, ◌∙◌, ap, subst, arith, length, get_or}
+use Rattle.std.proofs.Common.{inl, inr, ◌≡◌, ◌≢◌, ◌⊎◌, ℕ, zero, suc, ◌+◌, ◌<◌, true, Some, List, [], ◌∷◌, ◌++◌, reverse, refl, sym, ◌∙◌, ap, subst, arith, length, get_or}
 use Rattle.std.specs.List.{AllPairs}
 use Rattle.std.proofs.lemmas.List.{get_or-reverse, length-reverse, length_push, reverse-append}
 use Rattle.std.proofs.lemmas.List.Elements.{All-from_get_or}
 use Rattle.std.proofs.lemmas.List.Kept.{AllPairs-cons}
 use Rattle.std.proofs.lemmas.List.Sorted.{IsPermutation-reverse, sum_by-IsPermutation}
 use Rattle.std.proofs.lemmas.List.Sums.{sum_by-cons}
-use Rattle.sg_graph.specs.declared.web.Edge.{Edge}
 use Rattle.sg_graph.specs.Web.{Graph, edge_at, edge_weight, weight_of}
 use Rattle.sg_graph.specs.Walk.{IsWebWalk, Leads, other_end}
 use Rattle.sg_graph.specs.Table.{IsTableOf, IsWayBack, Routes, is_reached, length_to, parent_at}
@@ -33,11 +32,7 @@ module _ (g : Graph) (t : Routes) where
   way_unique [] [] x w v = refl
   way_unique [] (f ∷ fs) x w v = absurd (let p = parent_reached t x f v.1 in p.0 w)
   way_unique (e ∷ es) [] x w v = absurd (let p = parent_reached t x e w.1 in p.0 v)
-  way_unique (e ∷ es) (f ∷ fs) x w v =
-      let same : e ≡ f = some_same e f (sym w.1 ∙ v.1) in
-      let on : w.0 ≡ v.0 = step_to e x w.0 w.2 ∙ ap (λ k. other_end x (edge_at g k)) same ∙ sym (step_to f x v.0 v.2) in
-      let rest : length es ≡ length fs = way_unique es fs v.0 (subst (λ n. IsWayBack g t n es t.source) on w.3) v.3 in
-      omega arith
+  way_unique (e ∷ es) (f ∷ fs) x w v = grind (arith, way_unique es fs v.0, some_same, step_to)
 
   -- an edge of the way is the parent edge of a node on it
   edge_on : (es : List ℕ) (x k : ℕ) → k < length es → IsWayBack g t x es t.source
@@ -45,20 +40,11 @@ module _ (g : Graph) (t : Routes) where
       (length bs < length es)
   edge_on [] x k l w = absurd (omega arith)
   edge_on (e ∷ es) x zero l w = (x, w.0, es, w.2, w, w.3, omega arith)
-  edge_on (e ∷ es) x (suc k) l w =
-      let r = edge_on es w.0 k (omega arith) w.3 in
-      (r.0, r.1, r.2, r.3, r.4, r.5, omega (arith, r.6))
+  edge_on (e ∷ es) x (suc k) l w = grind (arith, edge_on es w.0 k)
 
   -- an end of an edge is one of its ends
   one_of : (e z x v u : ℕ) → Leads g e z x → Leads g e v u → (x ≡ u) ⊎ (x ≡ v)
-  one_of e z x v u l m = by_ways (edge_at g e) l.ways m.ways
-    where
-      by_ways : (edge : Edge) → ((edge.a ≡ z) × (edge.b ≡ x)) ⊎ ((edge.a ≡ x) × (edge.b ≡ z))
-          → ((edge.a ≡ v) × (edge.b ≡ u)) ⊎ ((edge.a ≡ u) × (edge.b ≡ v)) → (x ≡ u) ⊎ (x ≡ v)
-      by_ways edge (inl p) (inl q) = inl (sym p.1 ∙ q.1)
-      by_ways edge (inl p) (inr q) = inr (sym p.1 ∙ q.1)
-      by_ways edge (inr p) (inl q) = inr (sym p.0 ∙ q.0)
-      by_ways edge (inr p) (inr q) = inl (sym p.0 ∙ q.0)
+  one_of e z x v u l m = grind (arith, l.ways, m.ways)
 
   -- the first edge does not come again
   first_once : (e : ℕ) (es : List ℕ) (x k : ℕ) → k < length es → IsWayBack g t x (e ∷ es) t.source → e ≢ get_or es k 0
@@ -90,10 +76,7 @@ module _ (g : Graph) (t : Routes) where
 
 -- no entry twice, also from behind
 pub once_reversed : (es : List ℕ) → AllPairs (λ e f. e ≢ f) es → AllPairs (λ e f. e ≢ f) (reverse es)
-once_reversed es once i j d l m same =
-    let all : length (reverse es) ≡ length es = length-reverse es in
-    once (length es - 1 - j) (length es - 1 - i) d (omega arith) (omega arith)
-    (sym (get_or-reverse es j d (omega arith)) ∙ sym same ∙ get_or-reverse es i d (omega arith))
+once_reversed es once i j d l m same = grind (arith, length-reverse, get_or-reverse)
 
 -- a way in progress: the edges so far lead to `at`, and the rest of the way is there
 pub record Follows (g : Graph) (t : Routes) (to : ℕ) (edges : List ℕ) (at : ℕ) : Type 0 where

@@ -1,6 +1,5 @@
 use Rattle.std.proofs.Common.{◌≡◌, [], arith, subst, sym, ap, ℕ, ◌∙◌}
 use Rattle.std.specs.BinaryHeap.{heap_items, heap_len}
-use Rattle.std.proofs.lemmas.Int.{ints}
 use Rattle.std.proofs.lemmas.List.{nil_from_length}
 use Rattle.sg_graph.proofs.Tables.{first_routes}
 use Rattle.sg_graph.specs.Web.{edge_count}
@@ -17,46 +16,22 @@ spread-requires-clause-latest c =
     Spreads-start c.args.web.now c.args.source c.requires.source c.in_ok-table.table is (heap_items c.new-heap.result) c.new-heap.ensures.items
 
 pub spread-requires-clause-distance : goal.spread-requires-clause-distance
-spread-requires-clause-distance c =
-    let made : ℕ → Routes = λ n. record { source = c.args.source; to = first_routes n c.args.source } in
-    let is : c.in_ok-table.table ≡ first_table c.args.web.now c.args.source c.requires.source = c.in_ok-table.ensures ∙ ap made c.nodes.ensures.value in
-    start_distance c.args.web.now c.args.source c.requires.source c.in_ok-table.table is (heap_items c.new-heap.result) c.new-heap.ensures.items
+spread-requires-clause-distance c = grind (arith, first_routes, first_table, start_distance)
 
 pub loop-candidate-init : goal.loop-candidate-init
-loop-candidate-init c = record {
-  searching = c.in_ok-spread.ensures.spread;
-  order = c.in_ok-spread.ensures.order c.new-heap.ensures.heap_order;
-  source = ap (λ (t : Routes). t.source) c.in_ok-table.ensures;
-}
+loop-candidate-init c = grind arith
 
 pub reached-requires : goal.reached-requires
-reached-requires c =
-    let s = c.loop-candidate.invariant.searching in
-    omega (arith, popped_low c.nodes.ensures.web s c.in-Some.ensures.permutation, s.finds.count)
+reached-requires c = grind (arith, popped_low)
 
 pub overflow_cast-distance : goal.overflow_cast-distance
-overflow_cast-distance c = omega (
-  arith,
-  ints,
-  popped_small c.nodes.ensures.web c.loop-candidate.invariant.searching c.in-Some.ensures.permutation (sym c.reached.ensures.value ∙ c.if-not-reached.true),
-)
+overflow_cast-distance c = grind (arith, popped_small)
 
 pub set-requires : goal.set-requires
-set-requires c = record {
-  node_in = omega (
-    arith,
-    popped_low c.nodes.ensures.web c.loop-candidate.invariant.searching c.in-Some.ensures.permutation,
-    c.loop-candidate.invariant.searching.finds.count,
-  );
-  not_source = popped_not_source c.nodes.ensures.web c.loop-candidate.invariant.searching c.in-Some.ensures.permutation
-      (sym c.reached.ensures.value ∙ c.if-not-reached.true);
-  edge = popped_edge c.nodes.ensures.web c.loop-candidate.invariant.searching c.in-Some.ensures.permutation;
-}
+set-requires c = grind (arith, popped_low, popped_not_source, popped_edge)
 
 pub spread-requires-then-not-reached-clause-distance : goal.spread-requires-then-not-reached-clause-distance
-spread-requires-then-not-reached-clause-distance c =
-    popped_distance c.nodes.ensures.web c.loop-candidate.invariant.searching c.in-Some.ensures.permutation
-    (sym c.reached.ensures.value ∙ c.if-not-reached.true) (c.in-Some.ensures.below_top c.loop-candidate.invariant.order) c.set.ensures
+spread-requires-then-not-reached-clause-distance c = grind (arith, popped_distance)
 
 pub spread-requires-then-not-reached-clause-latest : goal.spread-requires-then-not-reached-clause-latest
 spread-requires-then-not-reached-clause-latest c =
@@ -74,13 +49,7 @@ loop-candidate-smaller-in-Continue-branch-3 c =
     c.in_ok-spread-2.ensures.few
 
 pub loop-candidate-preserved-in-Continue-branch-3 : goal.loop-candidate-preserved-in-Continue-branch-3
-loop-candidate-preserved-in-Continue-branch-3 c = record {
-  searching = c.in_ok-spread-2.ensures.spread;
-  order = c.in_ok-spread-2.ensures.order (c.in-Some.ensures.heap_order c.loop-candidate.invariant.order).0;
-  source = popped_source c.nodes.ensures.web c.loop-candidate.invariant.searching c.in-Some.ensures.permutation
-      (sym c.reached.ensures.value ∙ c.if-not-reached.true) (c.in-Some.ensures.below_top c.loop-candidate.invariant.order) c.set.ensures
-      ∙ c.loop-candidate.invariant.source;
-}
+loop-candidate-preserved-in-Continue-branch-3 c = grind (arith, popped_source)
 
 pub loop-candidate-preserved : goal.loop-candidate-preserved
 loop-candidate-preserved c = record {
@@ -93,7 +62,7 @@ loop-candidate-preserved c = record {
 pub returns : goal.returns
 returns c =
     let none : heap_items c.loop-candidate.heap ≡ [] = nil_from_length (heap_items c.loop-candidate.heap)
-    (omega (arith, c.in_default.ensures.none, c.loop-candidate.heap.data.ok)) in
+    (omega (arith, c.in_default.ensures.none)) in
     record {
       table = IsTableOf-end c.args.web.now c.loop-candidate.table (subst (λ xs. Searches c.args.web.now c.loop-candidate.table (candidates xs)) none
           c.loop-candidate.invariant.searching);

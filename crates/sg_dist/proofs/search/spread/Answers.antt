@@ -30,7 +30,7 @@ loop-k-preserved c =
                 (w.unsigned_abs.ensures.value ∙ ap unsigned_abs (to_z-of_z fits)) w.in_ok-push.ensures.permutation c.loop-k.invariant.searching);
             order = λ h. subst (λ q. KeepsHeap nearest_last (heap_items c.loop-k.heap) (heap_items q))
                 (sym w.heap-is) w.in_ok-push.ensures.heap_order (c.loop-k.invariant.order h);
-            few = omega (arith, w.in_ok-push.ensures.len, ap (λ q. heap_len q) w.heap-is, c.loop-k.invariant.few);
+            few = omega (arith, w.in_ok-push.ensures.len, ap (λ q. heap_len q) w.heap-is);
           })
       | else-not-reached w ↦ (
           let h : c.reached.result ≡ true = w.if-not-reached.false in
@@ -41,7 +41,7 @@ loop-k-preserved c =
                 c.as_slice-edges.result.now low same ends c.other-other.ensures
                 (candidates (heap_items c.loop-k.heap)) (sym c.reached.ensures.value ∙ h) c.loop-k.invariant.searching);
             order = λ h. subst (λ q. KeepsHeap nearest_last (heap_items c.loop-k.heap) (heap_items q)) (sym w.heap-is) (λ k. k) (c.loop-k.invariant.order h);
-            few = omega (arith, ap (λ q. heap_len q) w.heap-is, c.loop-k.invariant.few);
+            few = omega (arith, ap (λ q. heap_len q) w.heap-is);
           })
     ]
 
@@ -63,15 +63,10 @@ overflow_add-distance c =
     c.as_slice-edges.result.now low same ends c.other-other.ensures (candidates (heap_items c.loop-k.heap)) _ c.loop-k.invariant.searching
     (sym c.reached.ensures.value ∙ h) in
     let all : total_weight c.args.web.now ≤ 2 ^ 60 = c.edges.ensures.web.light in
-    omega (arith, weight, small, all, c.requires.distance)
+    omega (arith, weight, small, all)
 
 pub at-edges_here-requires : goal.at-edges_here-requires
-at-edges_here-requires c = omega (
-  arith,
-  reached_low c.args.table.now c.args.node c.requires.latest.here,
-  c.requires.latest.finds.count,
-  c.requires.incident.count,
-)
+at-edges_here-requires c = grind (arith, reached_low)
 
 pub bounds-edges-k : goal.bounds-edges-k
 bounds-edges-k c =
@@ -88,11 +83,10 @@ returns c =
       spread = Searches-spread
           (subst (Spreads c.args.web.now c.args.table.now (candidates (heap_items c.loop-k.heap)) c.args.node) all c.loop-k.invariant.searching)
           (λ e u l. incident_leads c.args.web.now c.args.incidence.now c.requires.incident c.args.node
-          (omega (arith, node_in, c.requires.latest.finds.count)) c.at-edges_here.result.now c.at-edges_here.ensures e u l);
+          (omega (arith, node_in)) c.at-edges_here.result.now c.at-edges_here.ensures e u l);
       order = c.loop-k.invariant.order;
       few = omega (
         arith,
-        c.loop-k.invariant.few,
         incident_few c.args.web.now c.args.incidence.now c.requires.incident c.args.node
             (omega (arith, node_in, c.requires.latest.finds.count)) c.at-edges_here.result.now c.at-edges_here.ensures,
       );

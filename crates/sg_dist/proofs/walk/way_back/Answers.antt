@@ -1,13 +1,10 @@
-use Rattle.std.proofs.Common.{◌∙◌, ap, arith, get_or, length, pos, sym}
+use Rattle.std.proofs.Common.{◌∙◌, ap, arith, get_or, pos, sym}
 use Rattle.sg_graph.specs.Walk.{other_end}
 use Rattle.sg_dist.proofs.Ways.{Follows-next, next_edge}
 use Rattle.sg_dist.proofs.walk.way_back.Goals as goal
 
 pub bounds-edges-edge : goal.bounds-edges-edge
-bounds-edges-edge c =
-    let next = next_edge c.args.web.now c.args.table.now c.requires.table c.args.to c.loop-edge.at c.in-Some.edge c.loop-edge.back.items
-    c.loop-edge.invariant (sym c.in-Some.ensures) in
-    omega (arith, next.1.below, ap length c.as_slice-edges.ensures, ap length c.edges.ensures.value)
+bounds-edges-edge c = grind (arith, next_edge)
 
 pub loop-edge-preserved : goal.loop-edge-preserved
 loop-edge-preserved c =
