@@ -1,22 +1,18 @@
 -- Up from a leaf: the sets that hold it lie one in another, each a child of the next.
-use Rattle.std.proofs.Common.{ap, arith, eqb, false, get_or, inl, inr, length, refl, subst, suc, sym, true, zero, ℕ}
-use Rattle.std.proofs.Common.{[], ◌||◌, ◌<◌, ◌∙◌, ◌≡◌, ◌≢◌, ◌≤◌, Bool}
+use Rattle.std.proofs.Common.{arith, false, get_or, inl, inr, length, subst, suc, sym, zero, ℕ}
+use Rattle.std.proofs.Common.{◌||◌, ◌<◌, ◌∙◌, ◌≡◌, ◌≢◌, ◌≤◌, Bool}
 use Rattle.std.proofs.lemmas.Bool.{cases_eq, cases_lt, eqb-true}
 use Rattle.std.proofs.lemmas.List.{get_or_read}
 use Rattle.std.proofs.lemmas.List.Sums.{count_by-le-length}
 use Rattle.std.proofs.lemmas.List.FromFn.{length-range_with_len}
-use Rattle.std.specs.List.{range_with_len}
-use Rattle.std.specs.Option.{option_map_or}
 use Rattle.sg_sums.proofs.ListLaws.{place_of_any}
 use Rattle.sg_arena.specs.declared.Link.{Link}
-use Rattle.sg_arena.specs.Family.{Covers, Family, Holds, IsAlive, IsChildAt, IsFamily, IsTop, blank_link, cycle_of, has_leaf, holds, leaf_count}
-use Rattle.sg_arena.specs.Family.{leaf_node, leaves_of, link_at}
+use Rattle.sg_arena.specs.Family.{Covers, Family, Holds, IsAlive, IsChildAt, IsFamily, IsTop, blank_link, cycle_of, holds, leaf_count, leaf_node, leaves_of, link_at}
 use Rattle.sg_arena.proofs.FamilyLemmas.{alive_from_holds, child-covered, child-smaller, size-is, size-positive, some_leaf}
 
 -- or nothing
 pub or_false : (b : Bool) → (b || false) ≡ b
-or_false true = refl
-or_false false = refl
+or_false b = grind arith
 
 -- the number of a node's leaves
 abbrev pub size_of : Family → ℕ → ℕ
@@ -33,8 +29,7 @@ module _ (f : Family) (fam : IsFamily f) where
 
   -- no set is larger than the number of leaves
   pub size-most : (n : ℕ) → size_of f n ≤ leaf_count f
-  size-most n =
-      omega (arith, size-is f fam n, count_by-le-length (holds f n) (range_with_len 0 (leaf_count f)), length-range_with_len 0 (leaf_count f))
+  size-most n = grind (arith, size-is, count_by-le-length, length-range_with_len)
 
   -- a set within another is within a child of it
   child-around : (a b leaf : ℕ) → Covers f a b → a ≢ b → Holds f b leaf → (i : ℕ) × (i < length (cycle_of f a)) × Covers f
@@ -60,8 +55,7 @@ module _ (f : Family) (fam : IsFamily f) where
       ]
     where
       only_leaf : (k : ℕ) → k < leaf_count f → (l : ℕ) → Holds f (get_or f.leaf_nodes k 0) l → l ≡ k
-      only_leaf k low l h =
-          sym (eqb-true k l (sym (or_false (eqb k l)) ∙ sym (ap (λ o. has_leaf (option_map_or (λ x. x.leaves) o []) l) (fam.leaf_set k low)) ∙ h))
+      only_leaf k low l h = grind (arith, eqb-true, or_false, fam.leaf_set)
 
   -- a node that is no child is a top
   pub top-no_parent : (n : ℕ) → IsAlive f n → ((p i : ℕ) → ¬ IsChildAt f p i n) → IsTop f n
@@ -85,7 +79,4 @@ module _ (f : Family) (fam : IsFamily f) where
 
   -- a set that holds a leaf covers the leaf's node
   pub own-covered : (leaf m : ℕ) → leaf < leaf_count f → Holds f m leaf → Covers f m (leaf_node f leaf)
-  own-covered leaf m low in_m l h =
-      let e : leaf ≡ l = eqb-true leaf l
-      (sym (or_false (eqb leaf l)) ∙ sym (ap (λ o. has_leaf (option_map_or (λ x. x.leaves) o []) l) (fam.leaf_set leaf low)) ∙ h) in
-      subst (λ x. Holds f m x) e in_m
+  own-covered leaf m low in_m l h = grind (arith, eqb-true, or_false, fam.leaf_set)

@@ -1,10 +1,10 @@
 -- The duals between two leaves and their totals.
-use Rattle.std.proofs.Common.{Bool, List, None, Option, Some, [], ap, arith, cond, false, get_or, length, refl, sum_by}
+use Rattle.std.proofs.Common.{Bool, List, None, Option, Some, [], arith, cond, get_or, length, refl, sum_by}
 use Rattle.std.proofs.Common.{true, ℕ, ◌*◌, ◌+◌, ◌<◌, ◌∙◌, ◌∷◌, ◌≡◌, ◌≢◌, ◌≤◌}
 use Rattle.std.proofs.lemmas.List.Sums.{sum_by-cons}
 use Rattle.std.specs.List.{range_with_len}
 use Rattle.std.specs.Option.{option_map_or}
-use Rattle.sg_arena.specs.Family.{Covers, Family, Holds, IsFamily, IsTop, Node, dual_of, has_leaf, leaf_count, node_at, share, total_of}
+use Rattle.sg_arena.specs.Family.{Family, Holds, IsFamily, IsTop, Node, dual_of, has_leaf, leaf_count, node_at, share, total_of}
 use Rattle.sg_arena.specs.Slack.{cut_share, duals_between, exactly_one}
 use Rattle.sg_arena.proofs.FamilyLemmas.{leaf-held, sum-names, top-covers}
 use Rattle.sg_arena.proofs.InnerDuals.{inner_top, no_inner}
@@ -12,17 +12,7 @@ use Rattle.sg_sums.proofs.ListLaws.{sum_by-agree, sum_by-zero}
 
 -- the duals between two leaves are the same both ways
 pub duals_between-back : (f : Family) (u v : ℕ) → duals_between f u v ≡ duals_between f v u
-duals_between-back f u v = sum_by-agree (cut_share u v) (cut_share v u) f.nodes each
-  where
-    turned : (a b : Bool) → exactly_one a b ≡ exactly_one b a
-    turned true true = refl
-    turned true false = refl
-    turned false true = refl
-    turned false false = refl
-
-    each : (o : Option Node) → cut_share u v o ≡ cut_share v u o
-    each None = refl
-    each (Some x) = ap (λ t. cond t x.dual 0) (turned (has_leaf x.leaves u) (has_leaf x.leaves v))
+duals_between-back f u v = grind (arith, sum_by-agree, f.nodes)
 
 -- the two totals count the duals between, and twice those of the sets that hold both
 abbrev pub both_share : ℕ → ℕ → Option Node → ℕ
@@ -33,14 +23,10 @@ pub total-between : (f : Family) (u v : ℕ) → total_of f u + total_of f v ≡
 total-between f u v = go f.nodes
   where
     cases : (a b : Bool) (d : ℕ) → cond a d 0 + cond b d 0 ≡ cond (exactly_one a b) d 0 + 2 * cond a (cond b d 0) 0
-    cases true true d = omega arith
-    cases true false d = omega arith
-    cases false true d = omega arith
-    cases false false d = omega arith
+    cases a b d = grind arith
 
     each : (o : Option Node) → share u o + share v o ≡ cut_share u v o + 2 * both_share u v o
-    each None = refl
-    each (Some x) = cases (has_leaf x.leaves u) (has_leaf x.leaves v) x.dual
+    each o = grind (arith, cases)
 
     go : (slots : List (Option Node)) → sum_by (share u) slots + sum_by (share v) slots ≡ sum_by (cut_share u v) slots + 2 * sum_by (both_share u v) slots
     go [] = refl
@@ -63,27 +49,15 @@ both-none f fam s t u v top_s top_t differ in_s in_t =
     each : (o : Option Node) → (has_leaf (option_map_or (λ x. x.leaves) o []) u ≡ true → has_leaf (option_map_or (λ x. x.leaves) o []) v ≡ true → ⊥) →
         both_share u v o ≡ 0
     each None apart = refl
-    each (Some x) apart = cases (has_leaf x.leaves u) (has_leaf x.leaves v) x.dual apart
-      where
-        cases : (a b : Bool) (d : ℕ) → (a ≡ true → b ≡ true → ⊥) → cond a (cond b d 0) 0 ≡ 0
-        cases true true d h = absurd (h refl refl)
-        cases true false d h = refl
-        cases false b d h = refl
+    each (Some x) apart = grind (arith, x.leaves, x.dual)
 
     zero_at : (n : ℕ) → both_share u v (node_at f n) ≡ 0
-    zero_at n = each (node_at f n) (λ has_u has_v. differ (top_t.outermost s (λ l h. both_in n has_u has_v l h)))
-      where
-        both_in : (n : ℕ) → Holds f n u → Holds f n v → Covers f s t
-        both_in n has_u has_v =
-            let in_top : Covers f s n = top-covers f fam s n u top_s in_s has_u in
-            let meets : Holds f s v = in_top v has_v in
-            top-covers f fam s t v top_s meets in_t
+    zero_at n = grind (arith, each, top-covers)
 
 -- so between two tops the duals are the two totals
 pub between-tops : (f : Family) → IsFamily f → (s t u v : ℕ) → IsTop f s → IsTop f t → s ≢ t → Holds f s u → Holds f t v →
     duals_between f u v ≡ total_of f u + total_of f v
-between-tops f fam s t u v top_s top_t differ in_s in_t =
-    omega (arith, total-between f u v, both-none f fam s t u v top_s top_t differ in_s in_t)
+between-tops f fam s t u v top_s top_t differ in_s in_t = grind (arith, total-between, both-none, fam, top_s, top_t, differ, in_s)
 
 -- a leaf that is its own top has its dual for its total
 pub total-leaf_top : (f : Family) → IsFamily f → (l : ℕ) → l < leaf_count f → IsTop f (get_or f.leaf_nodes l 0) →
@@ -97,15 +71,4 @@ pub inner-leaf_enough : (f : Family) → IsFamily f → (cost : ℕ → ℕ → 
     Holds f r z → duals_between f l y ≡ cost l y → duals_between f l z ≡ cost l z → cost y z ≤ cost l y + cost l z →
     duals_between f y z + 2 * delta ≤ cost y z → delta ≤ dual_of f (get_or f.leaf_nodes l 0)
 inner-leaf_enough f fam cost l y z s r delta low top top_s top_r apart_sr apart_s apart_r in_l in_s in_r tight_y tight_z triangle far =
-    let t = get_or f.leaf_nodes l 0 in
-    omega (
-      arith,
-      between-tops f fam t s l y top top_s apart_s in_l in_s,
-      between-tops f fam t r l z top top_r apart_r in_l in_r,
-      between-tops f fam s r y z top_s top_r apart_sr in_s in_r,
-      total-leaf_top f fam l low top,
-      tight_y,
-      tight_z,
-      triangle,
-      far,
-    )
+    grind (arith, between-tops, total-leaf_top, f.leaf_nodes, fam, top, top_s, apart_s, in_l, top_r, apart_r, apart_sr, in_s, low)

@@ -1,14 +1,14 @@
 -- The family without a blossom of dual 0, as `expand` leaves it: what it keeps and what it gains.
-use Rattle.std.proofs.Common.{IsSome, None, Option, Some, [], ap, arith, get_or, inl, inr, length, refl, subst, sym, ℕ, ◌<◌, ◌∙◌, ◌≡◌, ◌≢◌, ◌⊎◌}
+use Rattle.std.proofs.Common.{IsSome, None, [], ap, arith, inl, inr, length, subst, sym, ℕ, ◌<◌, ◌∙◌, ◌≡◌, ◌≢◌, ◌⊎◌}
 use Rattle.std.proofs.lemmas.Bool.{cases_Bool, cases_eq, false≢true}
 use Rattle.std.proofs.lemmas.List.{get_or-set_other, get_or-set_same}
 use Rattle.std.proofs.lemmas.List.Sums.{sum_by-set}
 use Rattle.std.specs.Option.{option_map_or}
 use Rattle.sg_arena.specs.declared.Link.{Link}
 use Rattle.sg_arena.specs.Changes.{with_slot}
-use Rattle.sg_arena.specs.Family.{Covers, Family, Holds, IsAlive, IsBlossom, IsFamily, IsTop, Node, blank_link, cycle_of}
-use Rattle.sg_arena.specs.Family.{dual_of, has_leaf, holds, link_at, node_at, share, single, total_of}
-use Rattle.sg_arena.specs.Slack.{cut_share, duals_between, exactly_one}
+use Rattle.sg_arena.specs.Family.{Covers, Family, Holds, IsAlive, IsBlossom, IsFamily, IsTop, blank_link, cycle_of}
+use Rattle.sg_arena.specs.Family.{dual_of, has_leaf, holds, link_at, node_at, total_of}
+use Rattle.sg_arena.specs.Slack.{duals_between}
 use Rattle.sg_arena.proofs.PartFamily.{IsFamily-part, IsPart, IsTop-part}
 use Rattle.sg_arena.proofs.FamilyLemmas.{alive_from_holds, child-covered, not_dead, some_leaf, top-apart, top-covers, top-no_child}
 use Rattle.sg_sums.proofs.ListLaws.{cond-same, place_of_any}
@@ -34,24 +34,7 @@ module _ (f : Family) (b : ℕ) (fam : IsFamily f) (top : IsTop f b) (blossom : 
   -- the sets that are left
   pub IsPart-expand : IsPart f without
   IsPart-expand =
-      record {
-        leaf_nodes = refl;
-        leaf_set = λ leaf low.
-            let named = fam.leaf_set leaf low in
-            let plain : get_or f.leaf_nodes leaf 0 ≢ b = (λ same.
-            let e : cycle_of f b ≡ [] = ap (cycle_of f) (sym same) ∙ ap (λ o. option_map_or (λ x. x.cycle) o []) named in omega
-            (arith, blossom, ap length e)) in
-            let e = at_rest (get_or f.leaf_nodes leaf 0) plain in
-            e ∙ named ∙ ap (λ d. Some (single leaf d)) (sym (ap (λ o. option_map_or (λ x. x.dual) o 0) e));
-        alive = λ n alive. subst (λ o. IsSome o) (at_rest n (not_gone n alive)) alive;
-        leaves = λ n alive. ap (λ o. option_map_or (λ x. x.leaves) o []) (at_rest n (not_gone n alive));
-        cycle = λ n alive. ap (λ o. option_map_or (λ x. x.cycle) o []) (at_rest n (not_gone n alive));
-        child = λ n i within.
-            let c = link_at (cycle_of f n) i in
-            alive_from_holds without c.node c.from
-            (holds_rest c.node c.from (top-no_child f fam b n i top within) ∙ (fam.cycles n (omega arith)).from i within);
-        bounded = λ leaf. omega (arith, fam.bounded leaf, sum_by-set (share leaf) f.nodes b None None room);
-      }
+      grind (arith, at_rest, not_gone, alive_from_holds, holds_rest, top-no_child, sum_by-set, fam.leaf_set, f.leaf_nodes, fam.cycles, fam.bounded, f.nodes)
 
   -- it is a family
   pub IsFamily-expand : IsFamily without
@@ -122,16 +105,8 @@ module _ (f : Family) (b : ℕ) (fam : IsFamily f) (top : IsTop f b) (blossom : 
 module _ (f : Family) (b : ℕ) (flat : dual_of f b ≡ 0) (room : b < length f.nodes) where
   -- each total stays
   pub total-expand : (u : ℕ) → total_of (with_slot f b None) u ≡ total_of f u
-  total-expand u = omega (arith, sum_by-set (share u) f.nodes b None None room, go (node_at f b) flat)
-    where
-      go : (o : Option Node) → option_map_or (λ (x : Node). x.dual) o 0 ≡ 0 → share u o ≡ 0
-      go None e = refl
-      go (Some x) e = rw e (cond-same (has_leaf x.leaves u) 0)
+  total-expand u = grind (arith, sum_by-set, cond-same, f.nodes)
 
   -- and so do the duals between two leaves
   pub duals_between-expand : (u v : ℕ) → duals_between (with_slot f b None) u v ≡ duals_between f u v
-  duals_between-expand u v = omega (arith, sum_by-set (cut_share u v) f.nodes b None None room, go (node_at f b) flat)
-    where
-      go : (o : Option Node) → option_map_or (λ (x : Node). x.dual) o 0 ≡ 0 → cut_share u v o ≡ 0
-      go None e = refl
-      go (Some x) e = rw e (cond-same (exactly_one (has_leaf x.leaves u) (has_leaf x.leaves v)) 0)
+  duals_between-expand u v = grind (arith, sum_by-set, cond-same, f.nodes)

@@ -8,22 +8,18 @@ use Rattle.std.proofs.lemmas.Bool.{cases_eq, ne_eqb, and_from, and_parts, or_rig
 use Rattle.sg_sums.specs.Sums.{sum_below}
 use Rattle.sg_sums.proofs.SumLaws.{sum_below-add, sum_below-same, sum_below-le, sum_below-zero, sum_below_pick, sum_by_is_sum_below}
 use Rattle.sg_arena.specs.Family.{Family, node_at, leaves_of, dual_of, has_leaf, holds, Holds, Covers, share, total_of, IsFamily}
-use Rattle.sg_arena.proofs.FamilyLemmas.{alive_from_holds, name_bound, share-is}
+use Rattle.sg_arena.proofs.FamilyLemmas.{child-covered, child-smaller, top-covers, alive_from_holds, name_bound, share-is}
 use Rattle.sg_arena.specs.Sets.{within, strictly_within, share_below, inner_of}
 use Rattle.sg_arena.specs.Family.{IsChildAt, IsTop, leaf_count, leaf_node}
 use Rattle.sg_arena.proofs.Chains.{own-covered}
-use Rattle.sg_arena.proofs.FamilyLemmas.{child-covered, child-smaller, top-covers}
 
 -- two conditions that imply each other are the same
 pub same_truth : (a b : Bool) → (a ≡ true → b ≡ true) → (b ≡ true → a ≡ true) → a ≡ b
-same_truth true b h k = sym (h refl)
-same_truth false true h k = k refl
-same_truth false false h k = refl
+same_truth a b h1 h2 = grind arith
 
 -- what passes the narrower test adds no more than by the wider one
 pub cond_le : (b c : Bool) (v : ℕ) → (b ≡ true → c ≡ true) → cond b v 0 ≤ cond c v 0
-cond_le true c v h = let e : c ≡ true = h refl in rw e (omega arith)
-cond_le false c v h = omega arith
+cond_le b c v h1 = grind arith
 
 -- a list has its first leaf
 pub has_head : (x : ℕ) (xs : List ℕ) → has_leaf (x ∷ xs) x ≡ true
@@ -53,15 +49,11 @@ module _ (f : Family) where
 
   -- strictly within, and holding the leaf
   pub below_parts : (s leaf x : ℕ) → (strictly_within f s x && holds f x leaf) ≡ true → Covers f s x × (x ≢ s) × Holds f x leaf
-  below_parts s leaf x h =
-      let a : (strictly_within f s x ≡ true) × (holds f x leaf ≡ true) = and_parts (strictly_within f s x) (holds f x leaf) h in
-      let b : (within f s x ≡ true) × (not (eqb x s) ≡ true) = and_parts (within f s x) (not (eqb x s)) a.0 in
-      (covers_from s x b.0, (λ (e : x ≡ s). false≢true (sym (ap not (eq-eqb x s e)) ∙ b.1)), a.1)
+  below_parts s leaf x h = grind (arith, and_parts, covers_from, false≢true, eq-eqb)
 
   -- a smaller set that holds the leaf is counted among those inside
   pub below_from : (s leaf x : ℕ) → Covers f s x → x ≢ s → Holds f x leaf → (strictly_within f s x && holds f x leaf) ≡ true
-  below_from s leaf x c ne h =
-      and_from (strictly_within f s x) (holds f x leaf) (and_from (within f s x) (not (eqb x s)) (within_from s x c) (ap not (ne_eqb x s ne))) h
+  below_from s leaf x c ne h = simp (and_from, within_from, ne_eqb)
 
   -- no set is strictly within itself
   pub below_not_itself : (s leaf : ℕ) → (strictly_within f s s && holds f s leaf) ≡ false
@@ -86,26 +78,10 @@ module _ (f : Family) where
       omega arith
     where
       plain : (a b : Bool) → b ≡ false → (a && not b) ≡ a
-      plain true false e = refl
-      plain false false e = refl
-      plain true true e = absurd (true≢false e)
-      plain false true e = absurd (true≢false e)
+      plain a b h1 = grind (arith, true≢false)
 
       each : (x : ℕ) → share_below f s leaf x + cond (eqb s x) (dual_of f s) 0 ≡ up_to_share s leaf x
-      each x = elim (cases_eq s x) [
-        | inl e ↦
-            let itself = below_not_itself s leaf in
-            let here : (within f s s && holds f s leaf) ≡ true = and_from (within f s s) (holds f s leaf) (within_from s s (λ l k. k)) h in
-            let one : eqb s s ≡ true = eq-eqb s s refl in
-            let all : share_below f s leaf s + cond (eqb s s) (dual_of f s) 0 ≡ up_to_share s leaf s = rw (itself, here, one) (omega arith) in
-            subst (λ z. share_below f s leaf z + cond (eqb s z) (dual_of f s) 0 ≡ up_to_share s leaf z) e all
-        | inr ne ↦
-            let none : cond {A = ℕ} (eqb s x) (dual_of f s) 0 ≡ 0 = ap (λ b. cond b (dual_of f s) 0) (ne_eqb s x ne) in
-            let apart : eqb x s ≡ false = ne_eqb x s (λ e. ne (sym e)) in
-            let moved : share_below f s leaf x ≡ up_to_share s leaf x = ap (λ b. cond (b && holds f x leaf) (dual_of f x) 0)
-            (plain (within f s x) (eqb x s) apart) in
-            omega arith
-      ]
+      each x = grind (arith, cases_eq s x, below_not_itself, and_from, within_from, eq-eqb, ne_eqb, plain)
 
   -- the total as a sum over names
   total_is : (leaf : ℕ) → total_of f leaf ≡ sum_below (λ x. cond (holds f x leaf) (dual_of f x) 0) (length f.nodes)
@@ -115,14 +91,7 @@ module _ (f : Family) where
 
   -- they add no more than all sets that hold the leaf
   pub inner_total : (s leaf : ℕ) → Holds f s leaf → inner_of f s leaf + dual_of f s ≤ total_of f leaf
-  inner_total s leaf h =
-      omega (
-        arith,
-        inner_and_own s leaf h,
-        sum_below-le (up_to_share s leaf) (λ x. cond (holds f x leaf) (dual_of f x) 0) (length f.nodes)
-            (λ x l. cond_le (within f s x && holds f x leaf) (holds f x leaf) (dual_of f x) (λ p. (and_parts (within f s x) (holds f x leaf) p).1)),
-        total_is leaf,
-      )
+  inner_total s leaf h = grind (arith, inner_and_own, sum_below-le, cond_le, and_parts, total_is, f.nodes)
 
   module _ (fam : IsFamily f) where
     -- at a top they are all

@@ -1,5 +1,5 @@
 -- The family of leaves alone, as `open` makes it.
-use Rattle.std.proofs.Common.{IsSome, List, Some, [], ap, arith, eq-eqb, eqb, get_or, inl, inr, length, refl, subst, suc, sym, true, zero, ℕ}
+use Rattle.std.proofs.Common.{IsSome, List, Some, [], ap, arith, eq-eqb, eqb, get_or, inl, inr, length, refl, subst, suc, sym, zero, ℕ}
 use Rattle.std.proofs.Common.{◌%◌, ◌<◌, ◌∙◌, ◌∷◌, ◌≡◌}
 use Rattle.std.proofs.lemmas.Bool.{eqb-true}
 use Rattle.std.specs.List.{range_with_len}
@@ -16,24 +16,14 @@ module _ (f : Family) (only : OnlyLeaves f) where
 
   -- a held leaf is the node's own
   pub own : (n leaf : ℕ) → Holds f n leaf → (leaf < leaf_count f) × (n ≡ get_or f.leaf_nodes leaf 0)
-  own n leaf held =
-      let at = only.named n (alive_from_holds f n leaf held) in
-      let e : has_leaf (at.0 ∷ []) leaf ≡ true = sym (ap (λ xs. has_leaf xs leaf) (sym (ap (leaves_of f) at.2) ∙ leaf_of at.0 at.1)) ∙ held in
-      let same : at.0 ≡ leaf = eqb-true at.0 leaf (sym (or_false (eqb at.0 leaf)) ∙ e) in
-      (subst (λ k. k < leaf_count f) same at.1, sym at.2 ∙ ap (λ k. get_or f.leaf_nodes k 0) same)
+  own n leaf held = grind (arith, alive_from_holds, leaf_of, eqb-true, or_false, only.named, f.leaf_nodes)
 
   -- a leaf's node holds it
   pub holds_own : (l : ℕ) → l < leaf_count f → Holds f (get_or f.leaf_nodes l 0) l
   holds_own l low = ap (λ xs. has_leaf xs l) (leaf_of l low) ∙ rw (eq-eqb l l refl) refl
 
   no_cycle : (n : ℕ) → cycle_of f n ≡ []
-  no_cycle n =
-      elim (cases_option (node_at f n)) [
-        | inl none ↦ ap (λ o. option_map_or (λ x. x.cycle) o []) none
-        | inr some ↦
-            let at = only.named n (subst (λ o. IsSome o) (sym some.1) refl) in
-            ap (cycle_of f) (sym at.2) ∙ ap (λ o. option_map_or (λ x. x.cycle) o []) (only.leaves at.0 at.1)
-      ]
+  no_cycle n = grind (arith, cases_option (node_at f n), only.named, only.leaves)
 
   -- there is no child
   pub leaves-no_child : (n i : ℕ) → i < length (cycle_of f n) → ⊥
@@ -41,13 +31,7 @@ module _ (f : Family) (only : OnlyLeaves f) where
 
   -- every dual is 0
   pub no_share : (leaf n : ℕ) → share leaf (node_at f n) ≡ 0
-  no_share leaf n =
-      elim (cases_option (node_at f n)) [
-        | inl none ↦ ap (share leaf) none
-        | inr some ↦
-            let at = only.named n (subst (λ o. IsSome o) (sym some.1) refl) in
-            ap (λ m. share leaf (node_at f m)) (sym at.2) ∙ ap (share leaf) (only.leaves at.0 at.1) ∙ cond-same (has_leaf (at.0 ∷ []) leaf) 0
-      ]
+  no_share leaf n = grind (arith, cases_option (node_at f n), cond-same, only.named, only.leaves)
 
   -- it is a family
   pub IsFamily-leaves : IsFamily f

@@ -1,6 +1,5 @@
 -- A family whose sets are some of another's, as `expand` and `raise` leave it: it is one, and its tops.
-use Rattle.std.proofs.Common.{Contains, IsSome, Some, [], ap, filter, arith, get_or, inl, inr, length, subst, sym, refl, ℕ, ◌%◌, ◌<◌, ◌^◌}
-use Rattle.std.proofs.Common.{◌∙◌, ◌≡◌, ◌≤◌}
+use Rattle.std.proofs.Common.{Contains, IsSome, Some, [], ap, filter, arith, get_or, inl, inr, length, subst, sym, refl, ℕ, ◌%◌, ◌<◌, ◌^◌, ◌∙◌, ◌≡◌, ◌≤◌}
 use Rattle.std.proofs.lemmas.List.Elements.{filter_agree}
 use Rattle.std.specs.List.{range_with_len}
 use Rattle.std.specs.Option.{option_map_or}

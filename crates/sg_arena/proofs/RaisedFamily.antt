@@ -1,6 +1,6 @@
 -- The family with other duals, as `raise` leaves it: what it keeps, and how totals change.
-use Rattle.std.proofs.Common.{Bool, IsSome, List, None, Option, Some, [], ap, arith, cond, eq-eqb, eqb, false, get_or, inl, inr, length}
-use Rattle.std.proofs.Common.{map, refl, subst, sum_by, sym, true, ℕ, ◌+◌, ◌-◌, ◌^◌, ◌∙◌, ◌≡◌, ◌≤◌, ◌⊎◌}
+use Rattle.std.proofs.Common.{Bool, List, Option, [], ap, arith, cond, eq-eqb, eqb, false, get_or, inl, inr, length}
+use Rattle.std.proofs.Common.{refl, sum_by, sym, true, ℕ, ◌+◌, ◌-◌, ◌^◌, ◌∙◌, ◌≡◌, ◌≤◌, ◌⊎◌}
 use Rattle.std.proofs.lemmas.Bool.{cases_Bool, cases_eq, cases_lt, eqb-true, false_from_ne_true, false≢true, ne_eqb}
 use Rattle.std.proofs.lemmas.List.{get_or_past}
 use Rattle.std.proofs.lemmas.List.Folds.{list_any_at}
@@ -10,7 +10,7 @@ use Rattle.std.specs.List.{list_any, range_with_len}
 use Rattle.std.specs.Option.{option_map, option_map_or}
 use Rattle.sg_arena.specs.Changes.{CanRaise, raised, raised_dual, with_dual}
 use Rattle.sg_arena.specs.Family.{Family, Holds, IsAlive, IsFamily, IsTop, Node, cycle_of, dual_of}
-use Rattle.sg_arena.specs.Family.{has_leaf, holds, leaves_of, link_at, node_at, share, single, total_of}
+use Rattle.sg_arena.specs.Family.{has_leaf, holds, leaves_of, node_at, share, total_of}
 use Rattle.sg_arena.specs.Slack.{cut_share, duals_between, exactly_one}
 use Rattle.sg_arena.proofs.PartFamily.{IsFamily-part, IsPart, IsTop-part}
 use Rattle.sg_arena.proofs.FamilyLemmas.{alive_from_holds, name_bound, share-is, some_leaf, sum-names, top-apart, total-names}
@@ -19,44 +19,21 @@ use Rattle.sg_sums.proofs.ListLaws.{cases_in, place_of_any, sum_by-agree, sum_by
 module _ (f : Family) (outer inner : List ℕ) (delta : ℕ) where
   -- the node under a name after a raise
   pub node_at-raised : (n : ℕ) → node_at (raised f outer inner delta) n ≡ option_map (with_dual (raised_dual outer inner delta n)) (node_at f n)
-  node_at-raised n =
-      elim (cases_lt n (length f.nodes)) [
-        | inl low ↦ get_or-map-range_with_len (λ m. option_map (with_dual (raised_dual outer inner delta m)) (node_at f m)) 0 (length f.nodes) n n None low
-            (omega arith)
-        | inr high ↦
-            get_or_past (map (λ m. option_map (with_dual (raised_dual outer inner delta m)) (node_at f m)) (range_with_len 0 (length f.nodes))) n None
-            (omega (arith, length-map-range_with_len (λ m. option_map (with_dual (raised_dual outer inner delta m)) (node_at f m)) 0 (length f.nodes)))
-            ∙ sym (ap (option_map (with_dual (raised_dual outer inner delta n))) (get_or_past f.nodes n None high))
-      ]
+  node_at-raised n = grind (arith, cases_lt n (length f.nodes), get_or-map-range_with_len, get_or_past, length-map-range_with_len, f.nodes)
 
   -- the new total as a sum over the same names
   raised-names : (leaf : ℕ) → total_of (raised f outer inner delta) leaf ≡ sum_by (λ n. share leaf (node_at (raised f outer inner delta) n))
       (range_with_len 0 (length f.nodes))
-  raised-names leaf =
-      total-names (raised f outer inner delta) leaf ∙
-      ap (λ k. sum_by (λ n. share leaf (node_at (raised f outer inner delta) n)) (range_with_len 0 k))
-      (length-map-range_with_len (λ m. option_map (with_dual (raised_dual outer inner delta m)) (node_at f m)) 0 (length f.nodes))
+  raised-names leaf = simp (total-names, length-map-range_with_len)
 
   module _ (fam : IsFamily f) (can : CanRaise f outer inner delta) where
     -- a node that isn't one of the raised tops keeps its dual
     raised_plain : (n : ℕ) → (IsTop f n → ⊥) → (d : ℕ) → raised_dual outer inner delta n d ≡ d
-    raised_plain n plain d =
-        elim (cases_in outer n) [
-          | inl at ↦ absurd (plain (subst (λ m. IsTop f m) at.2 (can.tops.outer_tops at.0 at.1)))
-          | inr out ↦ elim (cases_in inner n) [
-            | inl at ↦ absurd (plain (subst (λ m. IsTop f m) at.2 (can.tops.inner_tops at.0 at.1)))
-            | inr away ↦ rw (out.1, away.1) refl
-          ]
-        ]
+    raised_plain n plain d = grind (arith, cases_in outer n, cases_in inner n, plain, can.tops.outer_tops, can.tops.inner_tops)
 
     share-raised_is : (leaf n : ℕ) → share leaf (node_at (raised f outer inner delta) n) ≡ cond (holds f n leaf)
         (raised_dual outer inner delta n (dual_of f n)) 0
-    share-raised_is leaf n = ap (share leaf) (node_at-raised n) ∙ go (node_at f n)
-      where
-        go : (o : Option Node) → share leaf (option_map (with_dual (raised_dual outer inner delta n)) o) ≡ cond
-            (has_leaf (option_map_or (λ (x : Node). x.leaves) o []) leaf) (raised_dual outer inner delta n (option_map_or (λ (x : Node). x.dual) o 0)) 0
-        go None = refl
-        go (Some x) = refl
+    share-raised_is leaf n = grind (arith, node_at-raised)
 
     -- a total changes as the dual of its top does
     pub total-raised_is : (s leaf : ℕ) → IsTop f s → Holds f s leaf →
@@ -82,51 +59,11 @@ module _ (f : Family) (outer inner : List ℕ) (delta : ℕ) where
       where
         each : (n : ℕ) → share leaf (node_at (raised f outer inner delta) n) + cond (eqb s n) (dual_of f s) 0 ≡ share leaf (node_at f n) + cond (eqb s n)
             (raised_dual outer inner delta s (dual_of f s)) 0
-        each n =
-            elim (cases_eq s n) [
-              | inl same ↦
-                  let here : holds f n leaf ≡ true = ap (λ m. holds f m leaf) (sym same) ∙ held in
-                  let new_is : share leaf (node_at (raised f outer inner delta) n) ≡ raised_dual outer inner delta n
-                  (dual_of f n) = share-raised_is leaf n ∙
-                  rw here refl in
-                  let old_is : share leaf (node_at f n) ≡ dual_of f n = share-is f leaf n ∙ rw here refl in
-                  rw (eq-eqb s n same) (omega (
-                    arith,
-                    new_is,
-                    old_is,
-                    ap (λ m. dual_of f m) same,
-                    ap (λ m. raised_dual outer inner delta m (dual_of f m)) same,
-                  ))
-              | inr differs ↦
-                  let kept : share leaf (node_at (raised f outer inner delta) n) ≡ share leaf (node_at f n) =
-                  share-raised_is leaf n
-                  ∙ elim (cases_Bool (holds f n leaf)) [
-                    | inl here ↦ ap (λ d. cond (holds f n leaf) d 0)
-                        (raised_plain n (λ n_top. differs (top-apart f fam s n leaf top n_top held here)) (dual_of f n))
-                    | inr away ↦ rw away refl
-                  ] ∙ sym (share-is f leaf n) in
-                  rw (ne_eqb s n differs) (omega (arith, kept))
-            ]
+        each n = grind (arith, cases_eq s n, cases_Bool (holds f n leaf), share-raised_is, share-is, eq-eqb, raised_plain, top-apart, ne_eqb)
 
     share-raised_out : (leaf n : ℕ) → (list_any (λ m. eqb m n) outer ≡ false) ⊎ (holds f n leaf ≡ false) →
         share leaf (node_at (raised f outer inner delta) n) ≤ share leaf (node_at f n)
-    share-raised_out leaf n out = subst (λ o. share leaf o ≤ share leaf (node_at f n)) (sym (node_at-raised n)) (go (node_at f n) refl out)
-      where
-        bound : (q : Bool) (d : ℕ) → cond q (d - delta) d ≤ d
-        bound true d = omega arith
-        bound false d = omega arith
-
-        both : (t : Bool) (x y : ℕ) → x ≤ y → cond t x 0 ≤ cond t y 0
-        both true x y h = h
-        both false x y h = omega arith
-
-        go : (o : Option Node) → node_at f n ≡ o →
-            (list_any (λ m. eqb m n) outer ≡ false) ⊎ (has_leaf (option_map_or (λ x. x.leaves) o []) leaf ≡ false) →
-            share leaf (option_map (with_dual (raised_dual outer inner delta n)) o) ≤ share leaf o
-        go None e out = omega arith
-        go (Some x) e (inl plain) = both (has_leaf x.leaves leaf) (raised_dual outer inner delta n x.dual) x.dual
-            (rw plain (bound (list_any (λ m. eqb m n) inner) x.dual))
-        go (Some x) e (inr away) = rw away (omega arith)
+    share-raised_out leaf n out = grind (arith, node_at-raised)
 
     -- no total passes its bound
     pub total-raised : (leaf : ℕ) → total_of (raised f outer inner delta) leaf ≤ 2 ^ 61
@@ -163,29 +100,15 @@ module _ (f : Family) (outer inner : List ℕ) (delta : ℕ) where
 
     -- each set stays
     pub leaves-raised : (n : ℕ) → leaves_of (raised f outer inner delta) n ≡ leaves_of f n
-    leaves-raised n = ap (λ o. option_map_or (λ x. x.leaves) o []) (node_at-raised n) ∙ go (node_at f n)
-      where
-        go : (o : Option Node) → option_map_or (λ x. x.leaves) (option_map (with_dual (raised_dual outer inner delta n)) o) [] ≡
-            option_map_or (λ x. x.leaves) o []
-        go None = refl
-        go (Some x) = refl
+    leaves-raised n = grind (arith, node_at-raised)
 
     -- each cycle stays
     pub cycle-raised : (n : ℕ) → cycle_of (raised f outer inner delta) n ≡ cycle_of f n
-    cycle-raised n = ap (λ o. option_map_or (λ x. x.cycle) o []) (node_at-raised n) ∙ go (node_at f n)
-      where
-        go : (o : Option Node) → option_map_or (λ x. x.cycle) (option_map (with_dual (raised_dual outer inner delta n)) o) [] ≡
-            option_map_or (λ x. x.cycle) o []
-        go None = refl
-        go (Some x) = refl
+    cycle-raised n = grind (arith, node_at-raised)
 
     -- no node is new
     pub alive-raised : (n : ℕ) → IsAlive (raised f outer inner delta) n → IsAlive f n
-    alive-raised n alive = go (node_at f n) (subst (λ o. IsSome o) (node_at-raised n) alive)
-      where
-        go : (o : Option Node) → IsSome (option_map (with_dual (raised_dual outer inner delta n)) o) → IsSome o
-        go None some = some
-        go (Some x) some = refl
+    alive-raised n alive = grind (arith, node_at-raised)
 
     -- and none is lost
     pub alive-kept : (n leaf : ℕ) → Holds f n leaf → IsAlive (raised f outer inner delta) n
@@ -193,18 +116,7 @@ module _ (f : Family) (outer inner : List ℕ) (delta : ℕ) where
 
     -- the sets are the same
     pub IsPart-raised : IsPart f (raised f outer inner delta)
-    IsPart-raised = record {
-      leaf_nodes = refl;
-      leaf_set = λ leaf low.
-          let n = get_or f.leaf_nodes leaf 0 in
-          let e = node_at-raised n ∙ ap (option_map (with_dual (raised_dual outer inner delta n))) (fam.leaf_set leaf low) in
-          e ∙ ap (λ d. Some (single leaf d)) (sym (ap (λ o. option_map_or (λ x. x.dual) o 0) e));
-      alive = alive-raised;
-      leaves = λ n alive. leaves-raised n;
-      cycle = λ n alive. cycle-raised n;
-      child = λ n i within. alive-kept (link_at (cycle_of f n) i).node (link_at (cycle_of f n) i).from ((fam.cycles n (omega arith)).from i within);
-      bounded = total-raised;
-    }
+    IsPart-raised = grind (arith, node_at-raised, alive-raised, leaves-raised, cycle-raised, alive-kept, total-raised, f.leaf_nodes, fam.leaf_set, fam.cycles)
 
     -- a raise leaves a family
     pub IsFamily-raised : IsFamily (raised f outer inner delta)
@@ -250,24 +162,13 @@ module _ (f : Family) (outer inner : List ℕ) (delta : ℕ) (fam : IsFamily f) 
           (exactly_one (has_leaf (option_map_or (λ (x : Node). x.leaves) o []) u) (has_leaf (option_map_or (λ (x : Node). x.leaves) o []) v) ≡ true →
           (d : ℕ) →
           raised_dual outer inner delta n d ≡ d) → cut_share u v (option_map (with_dual (raised_dual outer inner delta n)) o) ≡ cut_share u v o
-      go n None plain = refl
-      go n (Some x) plain =
-          elim (cases_Bool (exactly_one (has_leaf x.leaves u) (has_leaf x.leaves v))) [
-            | inl one ↦ ap (λ d. cond (exactly_one (has_leaf x.leaves u) (has_leaf x.leaves v)) d 0) (plain one x.dual)
-            | inr none ↦ rw none refl
-          ]
+      go n o h1 = grind arith
 
       split : (a b : Bool) → exactly_one a b ≡ true → ((a ≡ true) × (b ≡ false)) ⊎ ((a ≡ false) × (b ≡ true))
-      split true false e = inl (refl, refl)
-      split true true e = absurd (cc)
-      split false b e = inr (refl, e)
+      split a b h1 = grind arith
 
       no_top : (n : ℕ) → exactly_one (holds f n u) (holds f n v) ≡ true → IsTop f n → ⊥
-      no_top n one n_top =
-          elim (split (holds f n u) (holds f n v) one) [
-            | inl first ↦ let e = top-apart f fam s n u top n_top in_u first.0 in false≢true (sym first.1 ∙ ap (λ m. holds f m v) (sym e) ∙ in_v)
-            | inr second ↦ let e = top-apart f fam s n v top n_top in_v second.1 in false≢true (sym second.0 ∙ ap (λ m. holds f m u) (sym e) ∙ in_u)
-          ]
+      no_top n one n_top = grind (arith, split, top-apart, false≢true, n_top)
 
       each : (n : ℕ) → cut_share u v (node_at (raised f outer inner delta) n) ≡ cut_share u v (node_at f n)
       each n = ap (cut_share u v) (node_at-raised f outer inner delta n) ∙ go n (node_at f n)

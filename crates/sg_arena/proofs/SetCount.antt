@@ -1,14 +1,12 @@
 -- How many sets a family has: twice their number is at most three times the number of leaves.
-use Rattle.std.proofs.Common.{◌≡◌, ℕ, ◌+◌, ◌*◌, ◌<◌, ◌≤◌, cond, ltb, length, Option, Some, None, IsSome, is_some, refl, sym}
-use Rattle.std.proofs.Common.{ap, ◌∙◌, subst, inl, inr}
-use Rattle.std.proofs.Common.{arith, Contains}
+use Rattle.std.proofs.Common.{◌≡◌, ℕ, ◌+◌, ◌*◌, ◌<◌, ◌≤◌, cond, ltb, length, is_some, sym}
+use Rattle.std.proofs.Common.{ap, ◌∙◌, subst, inl, inr, arith}
 use Rattle.std.proofs.lemmas.Bool.{cases_lt, lt-ltb, le-ltb}
 use Rattle.sg_sums.specs.Sums.{sum_below}
 use Rattle.sg_sums.proofs.SumLaws.{sum_below-add, sum_below-le, sum_below-same}
-use Rattle.sg_sums.proofs.Tallies.{below_exchange, cond_small, sum_below_times, sum_below_unique, times, times_at_most, times_once, times_place}
-use Rattle.sg_sums.proofs.Tallies.{times_some, times_total}
+use Rattle.sg_sums.proofs.Tallies.{below_exchange, cond_small, sum_below_times, sum_below_unique, times, times_at_most, times_once, times_place, times_some, times_total}
 use Rattle.sg_arena.specs.declared.Link.{Link}
-use Rattle.sg_arena.specs.Family.{Node, Family, leaf_count, node_at, IsAlive, leaves_of, cycle_of, Holds, Covers, blank_link, link_at, IsFamily}
+use Rattle.sg_arena.specs.Family.{Family, leaf_count, node_at, IsAlive, leaves_of, cycle_of, Holds, Covers, blank_link, link_at, IsFamily}
 use Rattle.sg_arena.proofs.FamilyLemmas.{alive_from_holds, child-covered, child-smaller, name_bound}
 use Rattle.sg_arena.specs.Sets.{alive_at}
 
@@ -36,15 +34,7 @@ module _ (f : Family) (fam : IsFamily f) where
   -- a node is a child of one blossom alone
   pub one_parent : (p q i j : ℕ) → i < length (cycle_of f p) → j < length (cycle_of f q) →
       (link_at (cycle_of f p) i).node ≡ (link_at (cycle_of f q) j).node → p ≡ q
-  one_parent p q i j low low' same =
-      let leaf : ℕ = (link_at (cycle_of f p) i).from in
-      let held : Holds f (link_at (cycle_of f p) i).node leaf = child_leaf p i low in
-      let in_p : Holds f p leaf = child-covered f fam p i low leaf held in
-      let in_q : Holds f q leaf = child-covered f fam q j low' leaf (subst (λ n. Holds f n leaf) same held) in
-      elim (fam.nested p q leaf in_p in_q) [
-        | inl over ↦ sym (one_side p q i j low low' same over)
-        | inr under ↦ one_side q p j i low' low (sym same) under
-      ]
+  one_parent p q i j low low' same = grind (arith, child_leaf, child-covered, one_side, low, low', same, fam.nested)
 
   -- how often m is a child of p
   abbrev child_times : ℕ → ℕ → ℕ
@@ -85,15 +75,7 @@ module _ (f : Family) (fam : IsFamily f) where
 
   thrice : (p : ℕ) → 3 * blossom_at p ≤ length (cycle_of f p)
   unfolding blossom_at
-  thrice p = elim (cases_lt 0 (length (cycle_of f p))) [
-    | inl some ↦
-        let e : cond {A = ℕ} (ltb 0 (length (cycle_of f p))) 1 0 ≡ 1 = ap (λ b. cond b 1 0) (lt-ltb 0 (length (cycle_of f p)) some) in
-        let long = (fam.cycles p some).long in
-        omega arith
-    | inr none ↦
-        let e : cond {A = ℕ} (ltb 0 (length (cycle_of f p))) 1 0 ≡ 0 = ap (λ b. cond b 1 0) (le-ltb 0 (length (cycle_of f p)) none) in
-        omega arith
-  ]
+  thrice p = grind (arith, cases_lt 0 (length (cycle_of f p)), lt-ltb, le-ltb, fam.cycles)
 
   alive_small : (name : ℕ) → alive_at f name ≤ 1
   alive_small name = cond_small (is_some (node_at f name))
@@ -101,21 +83,8 @@ module _ (f : Family) (fam : IsFamily f) where
   -- a node is a leaf's or a blossom
   alive_parts : (name : ℕ) → alive_at f name ≤ times (λ (x : ℕ). x) name f.leaf_nodes + blossom_at name
   unfolding blossom_at
-  alive_parts name = elim (cases_lt 0 (alive_at f name)) [
-    | inl some ↦ elim (cases_lt 0 (length (cycle_of f name))) [
-      | inl blossom ↦
-          let e : cond {A = ℕ} (ltb 0 (length (cycle_of f name))) 1 0 ≡ 1 = ap (λ b. cond b 1 0) (lt-ltb 0 (length (cycle_of f name)) blossom) in
-          omega (arith, alive_small name)
-      | inr plain ↦
-          let c : Contains f.leaf_nodes name = fam.leaf_named name (go (node_at f name) some) (λ blossom. omega arith) in
-          omega (arith, alive_small name, times_some (λ (x : ℕ). x) name f.leaf_nodes name c.0 c.1 c.2)
-    ]
-    | inr none ↦ omega arith
-  ]
-    where
-      go : (o : Option Node) → 0 < cond {A = ℕ} (is_some o) 1 0 → IsSome o
-      go (Some n) h = refl
-      go None h = absurd (omega arith)
+  alive_parts name =
+      grind (arith, cases_lt 0 (alive_at f name), cases_lt 0 (length (cycle_of f name)), lt-ltb, alive_small, times_some, is_some, f.leaf_nodes, fam.leaf_named)
 
   -- twice the number of sets is at most three times that of the leaves
   pub sets_few : 2 * sum_below (alive_at f) (length f.nodes) ≤ 3 * leaf_count f

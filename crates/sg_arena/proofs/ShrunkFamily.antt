@@ -1,6 +1,5 @@
 -- The family with a new blossom, as `shrink` leaves it: what it keeps and what it gains.
-use Rattle.std.proofs.Common.{IsSome, List, None, Option, Some, [], ap, arith, filter, get_or, inl, inr, length, refl, subst, sum_by, sym, true, ℕ, ◌%◌, ◌<◌, ◌∙◌, ◌∷◌, ◌≡◌}
-use Rattle.std.proofs.Common.{◌≢◌}
+use Rattle.std.proofs.Common.{IsSome, List, None, Option, Some, [], ap, arith, filter, get_or, inl, inr, length, refl, subst, sum_by, sym, true, ℕ, ◌%◌, ◌<◌, ◌∙◌, ◌∷◌, ◌≡◌, ◌≢◌}
 use Rattle.std.proofs.lemmas.Bool.{cases_eq, cases_lt, false_from_ne_true}
 use Rattle.std.proofs.lemmas.List.{get_or-set_other, get_or-set_same}
 use Rattle.std.proofs.lemmas.List.Elements.{filter_agree}
@@ -10,9 +9,9 @@ use Rattle.std.specs.List.{range_with_len}
 use Rattle.std.specs.Option.{option_map_or}
 use Rattle.sg_arena.specs.declared.Link.{Link}
 use Rattle.sg_arena.specs.Changes.{CanShrink, blossom_of, with_slot}
-use Rattle.sg_arena.specs.Family.{Covers, Family, Holds, IsAlive, IsBlossom, IsCycle, IsFamily, IsTop, after_index, any_holds, blank_link, cycle_of, has_leaf}
+use Rattle.sg_arena.specs.Family.{Covers, Family, Holds, IsAlive, IsBlossom, IsCycle, IsFamily, IsTop, any_holds, blank_link, cycle_of, has_leaf}
 use Rattle.sg_arena.specs.Family.{Node, holds, leaf_count, leaves_of, link_at, node_at, share, total_of}
-use Rattle.sg_arena.specs.Slack.{cut_share, duals_between, exactly_one}
+use Rattle.sg_arena.specs.Slack.{duals_between}
 use Rattle.sg_arena.proofs.FamilyLemmas.{alive_from_holds, leaf_bound, not_dead, some_leaf, top-apart, top-covers, union-odd}
 use Rattle.sg_sums.proofs.ListLaws.{cond-same, list_any-agree_at, place_of_any}
 use Rattle.sg_arena.proofs.SetLemmas.{has_leaf-filter, has_leaf-filter_out}
@@ -38,8 +37,7 @@ module _ (f : Family) (b : ℕ) (cycle : List Link) (fam : IsFamily f) (can : Ca
 
   -- nor between two leaves
   pub duals_between-shrink : (u v : ℕ) → duals_between after u v ≡ duals_between f u v
-  duals_between-shrink u v =
-      sum_same (cut_share u v) refl (cond-same (exactly_one (has_leaf (blossom_of f cycle).leaves u) (has_leaf (blossom_of f cycle).leaves v)) 0)
+  duals_between-shrink u v = simp (sum_same, cond-same)
 
   -- every other node holds what it held
   pub holds_other : (n leaf : ℕ) → n ≢ b → holds after n leaf ≡ holds f n leaf
@@ -57,26 +55,15 @@ module _ (f : Family) (b : ℕ) (cycle : List Link) (fam : IsFamily f) (can : Ca
 
   -- the new blossom holds what its children hold
   pub holds_new : (leaf : ℕ) → holds after b leaf ≡ any_holds f cycle leaf
-  holds_new leaf =
-      ap (λ o. has_leaf (option_map_or (λ x. x.leaves) o []) leaf) at_new
-      ∙ elim (cases_lt leaf (leaf_count f)) [
-        | inl low ↦ has_leaf-filter (any_holds f cycle) 0 (leaf_count f) leaf (omega arith) (omega arith)
-        | inr high ↦
-            has_leaf-filter_out (any_holds f cycle) 0 (leaf_count f) leaf (inr (omega arith)) ∙ sym (false_from_ne_true (any_holds f cycle leaf)
-            (λ some. let at = child_holding leaf some in let low = leaf_bound f fam (link_at cycle at.0).node leaf at.2 in absurd (omega arith)))
-      ]
+  holds_new leaf = grind (arith, cases_lt leaf (leaf_count f), at_new, has_leaf-filter, has_leaf-filter_out, false_from_ne_true, child_holding, leaf_bound)
 
   apart_children : (i j leaf : ℕ) → i < length cycle → j < length cycle → Holds f (link_at cycle i).node leaf →
       Holds f (link_at cycle j).node leaf → i ≡ j
-  apart_children i j leaf a b in_i in_j =
-      can.closed.differ i j a b (top-apart f fam (link_at cycle i).node (link_at cycle j).node leaf (can.tops i a) (can.tops j b) in_i in_j)
+  apart_children i j leaf a b in_i in_j = grind (arith, top-apart, can.closed.differ, a, b, can.tops, in_i)
 
   -- a node that meets the new blossom lies in it
   covers_met : (c leaf : ℕ) → c ≢ b → Holds after b leaf → Holds after c leaf → Covers after b c
-  covers_met c leaf differs in_b in_c l h =
-      let at = child_holding leaf (sym (holds_new leaf) ∙ in_b) in
-      let inner = top-covers f fam (link_at cycle at.0).node c leaf (can.tops at.0 at.1) at.2 (sym (holds_other c leaf differs) ∙ in_c) in
-      holds_new l ∙ list_any_at (λ link. holds f link.node l) cycle at.0 blank_link at.1 (inner l (sym (holds_other c l differs) ∙ h))
+  covers_met c leaf differs in_b in_c l h = grind (arith, child_holding, holds_new, top-covers, holds_other, list_any_at, can.tops)
 
   -- no other node covers the new blossom
   covers_no : (c : ℕ) → c ≢ b → Covers after c b → ⊥
@@ -90,14 +77,7 @@ module _ (f : Family) (b : ℕ) (cycle : List Link) (fam : IsFamily f) (can : Ca
 
   -- the new blossom is a top
   pub IsTop-shrink : IsTop after b
-  IsTop-shrink =
-      record {
-        alive = subst (λ o. IsSome o) (sym at_new) refl;
-        outermost = λ other covers. elim (cases_eq other b) [
-          | inl same ↦ same
-          | inr differs ↦ absurd (covers_no other differs covers)
-        ];
-      }
+  IsTop-shrink = grind (arith, at_new, covers_no)
 
   any_kept : (links : List Link) → ((i : ℕ) → i < length links → IsAlive f (link_at links i).node) → (leaf : ℕ) →
       any_holds after links leaf ≡ any_holds f links leaf
@@ -109,14 +89,7 @@ module _ (f : Family) (b : ℕ) (cycle : List Link) (fam : IsFamily f) (can : Ca
   kept n leaf held = holds_other n leaf (not_new n (alive_from_holds f n leaf held)) ∙ held
 
   cycle_kept : (links : List Link) → IsCycle f links → IsCycle after links
-  cycle_kept links is =
-      record {
-        long = is.long;
-        odd = is.odd;
-        differ = is.differ;
-        from = λ i within. kept (link_at links i).node (link_at links i).from (is.from i within);
-        to = λ i within. kept (link_at links (after_index (length links) i)).node (link_at links i).to (is.to i within);
-      }
+  cycle_kept links is = grind (arith, kept, is.long, is.odd, is.differ, is.from, is.to)
 
   alive_other : (n : ℕ) → n ≢ b → IsAlive after n → IsAlive f n
   alive_other n differs alive = subst (λ o. IsSome o) (at_other n differs) alive
