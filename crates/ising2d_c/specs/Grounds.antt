@@ -14,7 +14,7 @@ use Rattle.sg_nest.specs.declared.nest.Nest.{Nest}
 use Rattle.sg_ground.specs.Nested.{IsNestedState, ProvesByNest}
 use Rattle.sg_wall.specs.Wall.{IsWall}
 use Rattle.sg_report.specs.Text.{verdict_text}
-use Rattle.sg_reply.specs.Exit.{exit_code}
+use Rattle.sg_report.specs.Exit.{exit_code}
 use Rattle.sg_cli.specs.Served.{status_by}
 use Rattle.ising2d_c.specs.Crossing.{Fills}
 use Rattle.ising2d_c.specs.Proofs.{NestLists, nest_fault, nest_said}

@@ -1,8 +1,8 @@
 -- What a run answers to a caller, and its words as they cross: each ended by a byte 0.
 use Rattle.std.specs.Prelude.{◌≡◌, ◌≢◌, ℕ, List, [], ◌∷◌, ◌++◌, length, map, flat_map, All}
 use Rattle.std.specs.Str.Lossy.{utf8_lossy}
-use Rattle.sg_reply.specs.Exit.{exit_code, IsReply}
-use Rattle.sg_reply.specs.declared.status.Status.{Status}
+use Rattle.sg_report.specs.Exit.{exit_code, IsReply}
+use Rattle.sg_report.specs.declared.status.Status.{Status}
 use Rattle.sg_cli.specs.Laws.{WithAllLaws}
 use Rattle.sg_cli.specs.Served.{Served}
 use Rattle.ising2d_c.specs.Crossing.{Fills}

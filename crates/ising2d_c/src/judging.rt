@@ -6,7 +6,7 @@ ghost use Rattle.sg_model.specs.Faults.{OrNoMemory};
 ghost use Rattle.sg_check.specs.Verdict.{IsVerdict};
 ghost use Rattle.sg_check.specs.declared.verdict.Verdict.TheVariants.{Yes};
 ghost use Rattle.sg_report.specs.Text.{verdict_text as verdict_bytes};
-ghost use Rattle.sg_reply.specs.Exit.{exit_code};
+ghost use Rattle.sg_report.specs.Exit.{exit_code};
 ghost use Rattle.sg_ground.specs.Nested.{FitsWeb};
 ghost use Rattle.sg_cli.specs.Served.{status_by};
 ghost use Rattle.ising2d_c.specs.Graphs.{Finds, IsFitGraph, IsFitProofFault, IsGraph, IsProofFault, numbers_of};

@@ -4,14 +4,14 @@ use Rattle.sg_io.specs.Devices.{Grows, AgreesWith}
 use Rattle.sg_io.specs.Writing.{GrowsByPrefix}
 use Rattle.sg_laws.specs.Named.{Law, first_named}
 use Rattle.sg_words.specs.Command.{command_of, law_word}
-use Rattle.sg_reply.specs.Exit.{IsReply}
+use Rattle.sg_report.specs.Exit.{IsReply}
 use Rattle.sg_cli.specs.Promises.{AnswersInPart, AnswersWhole, IsServed}
 use Rattle.sg_draws.specs.Drawn.{AnswersLaw}
 use Rattle.sg_cli.specs.Served.{usage_text}
 use Rattle.sg_words.specs.declared.command.Command.TheVariants.{Draw}
 use Rattle.sg_words.specs.declared.command.Drawing.{Drawing}
-use Rattle.sg_reply.specs.declared.status.Status.{Status}
-use Rattle.sg_reply.specs.declared.status.Status.TheVariants.{Usage}
+use Rattle.sg_report.specs.declared.status.Status.{Status}
+use Rattle.sg_report.specs.declared.status.Status.TheVariants.{Usage}
 
 -- bytes that a source may have: those that it tells, or none
 abbrev pub told_or_none : Option (List ℕ) → List ℕ

@@ -8,8 +8,8 @@ use Rattle.sg_model.specs.declared.refusal.Refusal.TheVariants.{TooLong}
 use Rattle.sg_cli.specs.Promises.{AnswersSource}
 use Rattle.sg_cli.specs.Served.{AnswersInput}
 use Rattle.sg_words.specs.declared.command.Reading.{Reading}
-use Rattle.sg_reply.specs.Refused.{IsRefused}
-use Rattle.sg_reply.specs.declared.status.Status.{Status}
+use Rattle.sg_report.specs.Refused.{IsRefused}
+use Rattle.sg_report.specs.declared.status.Status.{Status}
 
 -- the bytes that were read are those that the source told
 pub empties-told : (items : List ℕ) (old new : Option (List ℕ)) → Empties items old new → AgreesWith old items

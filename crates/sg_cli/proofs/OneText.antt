@@ -23,9 +23,9 @@ use Rattle.sg_words.specs.declared.command.Reading.{Reading}
 use Rattle.sg_words.specs.declared.command.Reading.TheVariants as reading
 use Rattle.sg_words.specs.declared.command.Study.{Study}
 use Rattle.sg_words.specs.declared.command.Study.TheVariants.{Energy, Ground, Wall, Bonds, Clusters, Report, Ranges, Maxcut}
-use Rattle.sg_reply.specs.Refused.{IsRefused}
-use Rattle.sg_reply.specs.Same.{IsSameReply}
-use Rattle.sg_reply.specs.declared.status.Status.{Status}
+use Rattle.sg_report.specs.Refused.{IsRefused}
+use Rattle.sg_report.specs.Same.{IsSameReply}
+use Rattle.sg_report.specs.declared.status.Status.{Status}
 use Rattle.sg_draws.proofs.OneReply.{law-one}
 use Rattle.sg_cli.specs.Served.{AnswersFit, AnswersInput, AnswersText, AnswersWall, PrintsVerdict, PrintsWall, Served, ServedBy}
 use Rattle.sg_cli.specs.Served.{FaultNamed, Judged, ProofFaultNamed, Studied}

@@ -11,9 +11,9 @@ use Rattle.sg_words.specs.declared.command.Command.TheVariants.{Read}
 use Rattle.sg_words.specs.declared.command.Reading.{Reading}
 use Rattle.sg_words.specs.declared.command.Reading.TheVariants as reading
 use Rattle.sg_words.specs.declared.command.Study.{Study}
-use Rattle.sg_reply.specs.declared.reply.Reply.{Reply}
-use Rattle.sg_reply.specs.declared.status.Status.TheVariants.{Done}
-use Rattle.sg_reply.specs.Refused.{IsRefused}
+use Rattle.sg_report.specs.declared.reply.Reply.{Reply}
+use Rattle.sg_report.specs.declared.status.Status.TheVariants.{Done}
+use Rattle.sg_report.specs.Refused.{IsRefused}
 use Rattle.sg_cli.specs.Laws.{AreLaws, WithAllLaws}
 use Rattle.sg_cli.specs.Served.{AnswersFit, AnswersInput, Served, ServedBy}
 use Rattle.sg_cli.specs.Settled.{CanBeStudied, SettlesInput}

@@ -23,9 +23,9 @@ use Rattle.sg_words.specs.declared.command.Command.TheVariants.{Read}
 use Rattle.sg_words.specs.Command.{command_of, law_word}
 use Rattle.sg_laws.specs.Named.{Law}
 use Rattle.sg_io.specs.Devices.{AgreesWith}
-use Rattle.sg_reply.specs.Refused.{IsRefused}
-use Rattle.sg_reply.specs.declared.status.Status.{Status}
-use Rattle.sg_reply.specs.declared.status.Status.TheVariants.{Done, Refused}
+use Rattle.sg_report.specs.Refused.{IsRefused}
+use Rattle.sg_report.specs.declared.status.Status.{Status}
+use Rattle.sg_report.specs.declared.status.Status.TheVariants.{Done, Refused}
 use Rattle.sg_cli.specs.Graphs.{AnswersTask, takes_terms}
 use Rattle.sg_cli.specs.Served.{AnswersCheck, AnswersFit, AnswersGraph, AnswersInput, AnswersStudy, AnswersText, PrintsVerdict, ServedBy, status_by}
 use Rattle.sg_cli.specs.Served.{FaultNamed, GraphFaultNamed, GraphSolved, Judged, ProofFaultNamed, Studied}

@@ -11,8 +11,8 @@ use Rattle.sg_postman.specs.Tour.{IsLeastTour}
 use Rattle.sg_report.specs.Graphs.{postman_text, tjoin_text}
 use Rattle.sg_words.specs.declared.command.GraphTask.{GraphTask}
 use Rattle.sg_words.specs.declared.command.GraphTask.TheVariants.{TJoin, Postman}
-use Rattle.sg_reply.specs.declared.status.Status.{Status}
-use Rattle.sg_reply.specs.declared.status.Status.TheVariants.{Done}
+use Rattle.sg_report.specs.declared.status.Status.{Status}
+use Rattle.sg_report.specs.declared.status.Status.TheVariants.{Done}
 
 -- whether terminals may be given
 abbrev pub takes_terms : GraphTask → Bool

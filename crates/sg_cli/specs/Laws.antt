@@ -2,10 +2,10 @@
 use Rattle.std.specs.Prelude.{◌≡◌, ℕ, ℤ, pos, Option, List, [], ◌∷◌, codes, replicate}
 use Rattle.sg_laws.specs.Named.{Law}
 use Rattle.sg_laws.specs.Stream.{alternating, drawn, seeded_generator, level_of, sign_of}
-use Rattle.sg_reply.specs.Exit.{IsReply}
+use Rattle.sg_report.specs.Exit.{IsReply}
 use Rattle.sg_cli.specs.Promises.{AnswersInPart, AnswersWhole}
-use Rattle.sg_reply.specs.declared.status.Status.{Status}
-use Rattle.sg_reply.specs.declared.status.Status.TheVariants.{WriteFault}
+use Rattle.sg_report.specs.declared.status.Status.{Status}
+use Rattle.sg_report.specs.declared.status.Status.TheVariants.{WriteFault}
 
 -- the law of this name with these draws after each seed
 pub record IsLaw (title : List ℕ) (stream : ℕ → ℕ → List ℤ) (law : Law) : Type 0 where

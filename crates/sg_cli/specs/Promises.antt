@@ -10,9 +10,9 @@ use Rattle.sg_cli.specs.Served.{AnswersInput, Served, is_reading}
 use Rattle.sg_words.specs.declared.command.Reading.{Reading}
 use Rattle.sg_cli.specs.declared.serve.Stop.{Stop}
 use Rattle.sg_cli.specs.declared.serve.Stop.TheVariants as stop
-use Rattle.sg_reply.specs.Exit.{IsReply}
-use Rattle.sg_reply.specs.declared.status.Status.{Status}
-use Rattle.sg_reply.specs.declared.status.Status.TheVariants.{ReadFault, WriteFault, NoMemory}
+use Rattle.sg_report.specs.Exit.{IsReply}
+use Rattle.sg_report.specs.declared.status.Status.{Status}
+use Rattle.sg_report.specs.declared.status.Status.TheVariants.{ReadFault, WriteFault, NoMemory}
 
 -- the words name a command that reads its source
 abbrev pub reads : List (List ℕ) → Bool

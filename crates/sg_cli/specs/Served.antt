@@ -38,9 +38,9 @@ use Rattle.sg_words.specs.declared.command.Study.{Study}
 use Rattle.sg_words.specs.declared.command.Study.TheVariants.{Energy, Ground, Wall, Bonds, Clusters}
 use Rattle.sg_words.specs.declared.command.Study.TheVariants.{Report, Ranges, Maxcut}
 use Rattle.sg_draws.specs.Drawn.{AnswersLaw}
-use Rattle.sg_reply.specs.Refused.{IsRefused}
-use Rattle.sg_reply.specs.declared.status.Status.{Status}
-use Rattle.sg_reply.specs.declared.status.Status.TheVariants.{Done, Usage, No}
+use Rattle.sg_report.specs.Refused.{IsRefused}
+use Rattle.sg_report.specs.declared.status.Status.{Status}
+use Rattle.sg_report.specs.declared.status.Status.TheVariants.{Done, Usage, No}
 
 -- the line if the words have no shape
 abbrev pub usage_text : List ℕ

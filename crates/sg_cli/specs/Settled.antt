@@ -15,9 +15,9 @@ use Rattle.sg_words.specs.declared.command.Reading.{Reading}
 use Rattle.sg_words.specs.declared.command.Reading.TheVariants as reading
 use Rattle.sg_words.specs.declared.command.Study.{Study}
 use Rattle.sg_words.specs.declared.command.Study.TheVariants.{Bonds, Clusters, Ranges, Wall}
-use Rattle.sg_reply.specs.Refused.{IsRefused}
-use Rattle.sg_reply.specs.declared.status.Status.{Status}
-use Rattle.sg_reply.specs.declared.status.Status.TheVariants.{Refused}
+use Rattle.sg_report.specs.Refused.{IsRefused}
+use Rattle.sg_report.specs.declared.status.Status.{Status}
+use Rattle.sg_report.specs.declared.status.Status.TheVariants.{Refused}
 use Rattle.sg_cli.specs.Graphs.{AnswersTask, takes_terms}
 use Rattle.sg_cli.specs.Served.{AnswersFit, PrintsVerdict}
 

@@ -1,13 +1,12 @@
 // What `bonds` answers.
 ghost use Rattle.std.specs.Prelude.{IfOk};
 ghost use Rattle.sg_planar.specs.Fit.{IsFit};
-ghost use Rattle.sg_reply.specs.Exit.{IsReply};
+ghost use Rattle.sg_report.specs.Exit.{IsReply};
 ghost use Rattle.sg_cli.specs.Served.{PrintsCosts};
 
 use sg_bonds::costs;
 use sg_planar::Planar;
-use sg_reply::{NoMemory, Reply, done};
-use sg_report::bonds_text;
+use sg_report::{NoMemory, Reply, bonds_text, done};
 use std::alloc::Global;
 
 /// The cost of each bond.

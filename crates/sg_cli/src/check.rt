@@ -2,14 +2,13 @@
 // every graph.
 ghost use Rattle.std.specs.Prelude.{◌≡◌, ◌<◌, length, IfOk};
 ghost use Rattle.sg_limits.specs.Limits.{text_limit};
-ghost use Rattle.sg_reply.specs.Exit.{IsReply};
+ghost use Rattle.sg_report.specs.Exit.{IsReply};
 ghost use Rattle.sg_cli.specs.Served.{AnswersCheck, PrintsVerdict, status_by};
 
 use sg_check::{Checker, ResultText, Verdict};
 use sg_input::read_proof;
 use sg_model::Instance;
-use sg_reply::{NoMemory, Reply, Status, refuse_fault};
-use sg_report::verdict_text;
+use sg_report::{NoMemory, Reply, Status, refuse_fault, verdict_text};
 use std::alloc::Global;
 
 /// What `check` answers to a text within the limit of bytes.

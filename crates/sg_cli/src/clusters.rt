@@ -1,13 +1,12 @@
 // What `clusters` answers.
 ghost use Rattle.std.specs.Prelude.{IfOk};
 ghost use Rattle.sg_planar.specs.Fit.{IsFit};
-ghost use Rattle.sg_reply.specs.Exit.{IsReply};
+ghost use Rattle.sg_report.specs.Exit.{IsReply};
 ghost use Rattle.sg_cli.specs.Served.{PrintsClusters};
 
 use sg_bonds::clusters;
 use sg_planar::Planar;
-use sg_reply::{NoMemory, Reply, done};
-use sg_report::clusters_text;
+use sg_report::{NoMemory, Reply, clusters_text, done};
 use std::alloc::Global;
 
 /// The cluster of each spin.

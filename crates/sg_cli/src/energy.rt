@@ -1,12 +1,11 @@
 // What `energy` answers.
 ghost use Rattle.std.specs.Prelude.{IfOk};
-ghost use Rattle.sg_reply.specs.Exit.{IsReply};
+ghost use Rattle.sg_report.specs.Exit.{IsReply};
 ghost use Rattle.sg_cli.specs.Served.{PrintsGroundState};
 
 use sg_ground::ground_state;
 use sg_planar::Planar;
-use sg_reply::{NoMemory, Reply, done};
-use sg_report::energy_text;
+use sg_report::{NoMemory, Reply, done, energy_text};
 use std::alloc::Global;
 
 /// The least energy, and spins that have it.

@@ -4,13 +4,13 @@ ghost use Rattle.std.specs.Prelude.{◌≡◌, ◌<◌, length, IfOk};
 ghost use Rattle.sg_limits.specs.Limits.{text_limit};
 ghost use Rattle.sg_graph_text.specs.Network.{IsNetwork};
 ghost use Rattle.sg_cli.specs.Graphs.{AnswersTask, takes_terms};
-ghost use Rattle.sg_reply.specs.Exit.{IsReply};
+ghost use Rattle.sg_report.specs.Exit.{IsReply};
 ghost use Rattle.sg_cli.specs.Served.{AnswersGraph};
 
 use super::postman::postman_reply;
 use super::tjoin::tjoin_reply;
 use sg_graph_text::{Network, read_network};
-use sg_reply::{NoMemory, Reply, refuse_fault};
+use sg_report::{NoMemory, Reply, refuse_fault};
 use sg_words::GraphTask;
 use std::alloc::Global;
 

@@ -1,12 +1,11 @@
 // What `ground` answers.
 ghost use Rattle.std.specs.Prelude.{IfOk};
-ghost use Rattle.sg_reply.specs.Exit.{IsReply};
+ghost use Rattle.sg_report.specs.Exit.{IsReply};
 ghost use Rattle.sg_cli.specs.Served.{PrintsGround};
 
 use sg_ground::solve;
 use sg_planar::Planar;
-use sg_reply::{NoMemory, Reply, done};
-use sg_report::ground_text;
+use sg_report::{NoMemory, Reply, done, ground_text};
 use std::alloc::Global;
 
 /// The least energy, spins that have it, and a packing of frustrated loops that proves it.

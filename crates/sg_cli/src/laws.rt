@@ -3,13 +3,13 @@ ghost use Rattle.std.specs.Prelude.{◌≡◌, ◌≢◌, true, false, IsSome, I
 ghost use Rattle.sg_io.specs.Devices.{FaultShown};
 ghost use Rattle.sg_words.specs.Command.{command_of};
 ghost use Rattle.sg_cli.specs.Laws.{Sends, WithAllLaws};
-ghost use Rattle.sg_reply.specs.Exit.{IsReply};
+ghost use Rattle.sg_report.specs.Exit.{IsReply};
 ghost use Rattle.sg_cli.specs.Promises.{SourceAfter, reads, sink_faults, source_faults};
 
 use super::serve::run;
 use sg_io::{Sink, Source};
 use sg_laws::{Alternate, Disorder, One, PlusMinus, Uniform};
-use sg_reply::Status;
+use sg_report::Status;
 use std::alloc::{AllocError, Global};
 
 /// Answers the words as [`run`] does, with the four laws to draw from: `one`, `alternate`, `pm` and

@@ -40,5 +40,5 @@ pub use answering::{answer, answer_with_all_laws};
 pub use law::answers_are_settled;
 pub use laws::run_with_all_laws;
 pub use serve::run;
-pub use sg_reply::{Reply, Status};
+pub use sg_report::{Reply, Status};
 pub use sg_words::{Command, Drawing, GraphTask, Reading, Size, Study};

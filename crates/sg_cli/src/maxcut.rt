@@ -1,12 +1,11 @@
 // What `maxcut` answers.
 ghost use Rattle.std.specs.Prelude.{IfOk};
-ghost use Rattle.sg_reply.specs.Exit.{IsReply};
+ghost use Rattle.sg_report.specs.Exit.{IsReply};
 ghost use Rattle.sg_cli.specs.Served.{PrintsCut};
 
 use sg_planar::Planar;
 use sg_ranges::largest_cut;
-use sg_reply::{NoMemory, Reply, done};
-use sg_report::maxcut_text;
+use sg_report::{NoMemory, Reply, done, maxcut_text};
 use std::alloc::Global;
 
 /// A largest cut, and a packing of frustrated loops that proves it.

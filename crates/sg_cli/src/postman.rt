@@ -2,13 +2,12 @@
 ghost use Rattle.std.specs.Prelude.{◌≡◌, map, IfOk};
 ghost use Rattle.sg_graph_text.specs.Network.{IsNetwork};
 ghost use Rattle.sg_cli.specs.Graphs.{PrintsTour, pair_of_step};
-ghost use Rattle.sg_reply.specs.Exit.{IsReply};
+ghost use Rattle.sg_report.specs.Exit.{IsReply};
 
 use sg_graph_text::Network;
 use sg_ground::cut_loops;
 use sg_postman::{Step, TourAnswer, tour};
-use sg_reply::{NoMemory, Reply, done};
-use sg_report::postman_text;
+use sg_report::{NoMemory, Reply, done, postman_text};
 use std::alloc::Global;
 
 /// A shortest closed walk over every edge, and the odd cuts that prove it.

@@ -1,14 +1,13 @@
 // What `ranges` answers.
 ghost use Rattle.std.specs.Prelude.{◌≡◌, map, IfOk};
 ghost use Rattle.sg_planar.specs.Fit.{IsFit};
-ghost use Rattle.sg_reply.specs.Exit.{IsReply};
+ghost use Rattle.sg_report.specs.Exit.{IsReply};
 ghost use Rattle.sg_cli.specs.Served.{PrintsTurns};
 
 use sg_model::Bond;
 use sg_planar::Planar;
 use sg_ranges::turns;
-use sg_reply::{NoMemory, Reply, done};
-use sg_report::ranges_text;
+use sg_report::{NoMemory, Reply, done, ranges_text};
 use std::alloc::Global;
 
 /// The turning coupling of each bond, and where its coupling lies.

@@ -1,14 +1,13 @@
 // What `report` answers.
 ghost use Rattle.std.specs.Prelude.{IfOk};
 ghost use Rattle.sg_planar.specs.Fit.{IsFit};
-ghost use Rattle.sg_reply.specs.Exit.{IsReply};
+ghost use Rattle.sg_report.specs.Exit.{IsReply};
 ghost use Rattle.sg_cli.specs.Served.{IsSeamWall, PrintsReport};
 
 use sg_bonds::{clusters_by, costs};
 use sg_ground::solve;
 use sg_planar::Planar;
-use sg_reply::{NoMemory, Reply, bond_count, done, size_sum};
-use sg_report::report_text;
+use sg_report::{NoMemory, Reply, bond_count, done, report_text, size_sum};
 use sg_wall::wall;
 use std::alloc::Global;
 

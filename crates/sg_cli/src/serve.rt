@@ -4,7 +4,7 @@ ghost use Rattle.sg_io.specs.Devices.{FaultShown, Grows};
 ghost use Rattle.sg_io.specs.Reading.{DropsAtMost};
 ghost use Rattle.sg_io.specs.Writing.{GrowsByPrefix};
 ghost use Rattle.sg_words.specs.Command.{command_of};
-ghost use Rattle.sg_reply.specs.Exit.{IsReply};
+ghost use Rattle.sg_report.specs.Exit.{IsReply};
 ghost use Rattle.sg_cli.specs.Promises.{AnswersInPart, AnswersSource, AnswersWhole, SourceAfter, reads, sink_faults, source_faults, stop_faults, TakesInput};
 
 use super::answering::input_reply;
@@ -13,7 +13,7 @@ use sg_io::{ReadEnd, Sink, Source, WriteFault, put, read_all};
 use sg_laws::Disorder;
 use sg_limits::INPUT_LIMIT;
 use sg_model::Refusal;
-use sg_reply::{NoMemory, Reply, Status, refuse};
+use sg_report::{NoMemory, Reply, Status, refuse};
 use sg_words::{Command, Reading, law_word, parse_command};
 use std::alloc::{AllocError, Global};
 

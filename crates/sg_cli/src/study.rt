@@ -2,7 +2,7 @@
 ghost use Rattle.std.specs.Prelude.{◌<◌, length, IfOk};
 ghost use Rattle.sg_limits.specs.Limits.{text_limit};
 ghost use Rattle.sg_planar.specs.Fit.{IsFit};
-ghost use Rattle.sg_reply.specs.Exit.{IsReply};
+ghost use Rattle.sg_report.specs.Exit.{IsReply};
 ghost use Rattle.sg_cli.specs.Served.{AnswersFit, AnswersStudy};
 
 use super::bonds::bonds_reply;
@@ -15,7 +15,7 @@ use super::report::report_reply;
 use super::wall::wall_reply;
 use sg_input::read_planar;
 use sg_planar::Planar;
-use sg_reply::{NoMemory, Reply, refuse_fault};
+use sg_report::{NoMemory, Reply, refuse_fault};
 use sg_words::Study;
 use std::alloc::Global;
 

@@ -2,12 +2,11 @@
 ghost use Rattle.std.specs.Prelude.{IfOk};
 ghost use Rattle.sg_graph_text.specs.Network.{IsNetwork};
 ghost use Rattle.sg_cli.specs.Graphs.{PrintsJoin};
-ghost use Rattle.sg_reply.specs.Exit.{IsReply};
+ghost use Rattle.sg_report.specs.Exit.{IsReply};
 
 use sg_graph_text::Network;
 use sg_ground::cut_loops;
-use sg_reply::{NoMemory, Reply, done};
-use sg_report::tjoin_text;
+use sg_report::{NoMemory, Reply, done, tjoin_text};
 use sg_tjoin::{Join, least_join};
 use std::alloc::Global;
 

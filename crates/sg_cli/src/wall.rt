@@ -1,12 +1,11 @@
 // What `wall` answers.
 ghost use Rattle.std.specs.Prelude.{IfOk};
-ghost use Rattle.sg_reply.specs.Exit.{IsReply};
+ghost use Rattle.sg_report.specs.Exit.{IsReply};
 ghost use Rattle.sg_cli.specs.Served.{AnswersWall, PrintsWall};
 
 use sg_model::Refusal;
 use sg_planar::Planar;
-use sg_reply::{NoMemory, Reply, done, refuse};
-use sg_report::wall_text;
+use sg_report::{NoMemory, Reply, done, refuse, wall_text};
 use sg_wall::wall;
 use std::alloc::Global;
 

@@ -21,9 +21,9 @@ use Rattle.sg_words.specs.declared.command.Drawing.TheVariants.{Gen, Sample, Ens
 use Rattle.sg_words.specs.declared.command.Size.{Size}
 use Rattle.sg_report.specs.Ensembles.{ensemble_text, widths_text}
 use Rattle.sg_report.specs.Text.{refusal_text}
-use Rattle.sg_reply.specs.Refused.{IsRefused}
-use Rattle.sg_reply.specs.Same.{IsSameReply}
-use Rattle.sg_reply.specs.declared.status.Status.{Status}
+use Rattle.sg_report.specs.Refused.{IsRefused}
+use Rattle.sg_report.specs.Same.{IsSameReply}
+use Rattle.sg_report.specs.declared.status.Status.{Status}
 use Rattle.sg_draws.specs.Drawn.{AnswersDraws, AnswersEnsemble, AnswersLaw, AnswersSample, AnswersWidths, IsUnfitWidth, PrintsEnsemble, PrintsSample, PrintsWidths, drawn_lattice, with_cols}
 use Rattle.sg_draws.specs.Drawn.{EnsembleFound, EnsembleUnfit, SampleSolved, SampleUnfit, WidthUnfit, WidthsFound}
 

@@ -19,9 +19,9 @@ use Rattle.sg_report.specs.Samples.{instance_text, sample_text}
 use Rattle.sg_words.specs.declared.command.Drawing.{Drawing}
 use Rattle.sg_words.specs.declared.command.Drawing.TheVariants.{Gen, Sample, Ensemble, Widths}
 use Rattle.sg_words.specs.declared.command.Size.{Size}
-use Rattle.sg_reply.specs.Refused.{IsRefused}
-use Rattle.sg_reply.specs.declared.status.Status.{Status}
-use Rattle.sg_reply.specs.declared.status.Status.TheVariants.{Done}
+use Rattle.sg_report.specs.Refused.{IsRefused}
+use Rattle.sg_report.specs.declared.status.Status.{Status}
+use Rattle.sg_report.specs.declared.status.Status.TheVariants.{Done}
 
 -- a lattice with its couplings
 pub record PrintsLattice (kind : Kind) (size : Size) (couplings : List ℤ) (text : List ℕ)

@@ -3,7 +3,7 @@
 ghost use Rattle.std.specs.Prelude.{map, IfOk};
 ghost use Rattle.sg_laws.specs.Named.{first_named};
 ghost use Rattle.sg_words.specs.Command.{IsAllowedDrawing};
-ghost use Rattle.sg_reply.specs.Exit.{IsReply};
+ghost use Rattle.sg_report.specs.Exit.{IsReply};
 ghost use Rattle.sg_draws.specs.Drawn.{AnswersDraws, AnswersLaw};
 
 use super::ensemble::ensemble_reply;
@@ -12,7 +12,7 @@ use super::sample::sample_reply;
 use super::widths::widths_reply;
 use sg_laws::{Disorder, named};
 use sg_model::Refusal;
-use sg_reply::{NoMemory, Reply, refuse};
+use sg_report::{NoMemory, Reply, refuse};
 use sg_words::Drawing;
 use std::alloc::Global;
 

@@ -11,7 +11,7 @@ use sg_lattice::{Kind, bond_count, build};
 use sg_laws::{Disorder, draws, start};
 use sg_model::{Couplings, Fault, Instance};
 use sg_planar::Planar;
-use sg_reply::NoMemory;
+use sg_report::NoMemory;
 use sg_words::Size;
 use std::alloc::Global;
 

@@ -4,7 +4,7 @@ ghost use Rattle.sg_lattice.specs.declared.kind.Kind.TheVariants.{Cylinder};
 ghost use Rattle.sg_ensemble.specs.Samples.{IsCylinder};
 ghost use Rattle.sg_words.specs.Command.{IsAllowedSize};
 ghost use Rattle.sg_limits.specs.Limits.{sample_limit};
-ghost use Rattle.sg_reply.specs.Exit.{IsReply};
+ghost use Rattle.sg_report.specs.Exit.{IsReply};
 ghost use Rattle.sg_draws.specs.Drawn.{AnswersEnsemble, PrintsEnsemble};
 
 use super::drawn::drawn_planar;
@@ -12,8 +12,7 @@ use sg_ensemble::ensemble_on;
 use sg_lattice::Kind;
 use sg_laws::{Disorder, start};
 use sg_planar::Planar;
-use sg_reply::{NoMemory, Reply, done, refuse_fault};
-use sg_report::ensemble_text;
+use sg_report::{NoMemory, Reply, done, ensemble_text, refuse_fault};
 use sg_words::Size;
 use std::alloc::Global;
 

@@ -1,14 +1,13 @@
 // What `gen` answers.
 ghost use Rattle.std.specs.Prelude.{IfOk};
 ghost use Rattle.sg_words.specs.Command.{IsAllowedSize};
-ghost use Rattle.sg_reply.specs.Exit.{IsReply};
+ghost use Rattle.sg_report.specs.Exit.{IsReply};
 ghost use Rattle.sg_draws.specs.Drawn.{PrintsLattice, drawn_couplings};
 
 use super::drawn::couplings;
 use sg_lattice::Kind;
 use sg_laws::Disorder;
-use sg_reply::{NoMemory, Reply, done};
-use sg_report::instance_text;
+use sg_report::{NoMemory, Reply, done, instance_text};
 use sg_words::Size;
 use std::alloc::Global;
 

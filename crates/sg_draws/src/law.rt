@@ -1,8 +1,8 @@
 ghost use Rattle.std.specs.Prelude.{ℕ, List, Option};
 ghost use Rattle.sg_laws.specs.Named.{Law};
 ghost use Rattle.sg_words.specs.declared.command.Drawing.{Drawing};
-ghost use Rattle.sg_reply.specs.declared.status.Status.{Status};
-ghost use Rattle.sg_reply.specs.Same.{IsSameReply};
+ghost use Rattle.sg_report.specs.declared.status.Status.{Status};
+ghost use Rattle.sg_report.specs.Same.{IsSameReply};
 ghost use Rattle.sg_draws.specs.Drawn.{AnswersLaw};
 
 /// The law of drawings: what a command that draws replies, its status and its text, is settled by the

@@ -23,4 +23,4 @@ mod widths;
 
 pub use draw::draw_reply;
 pub use law::drawings_have_one_reply;
-pub use sg_reply::NoMemory;
+pub use sg_report::NoMemory;

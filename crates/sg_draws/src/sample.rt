@@ -3,7 +3,7 @@ ghost use Rattle.std.specs.Prelude.{IfOk};
 ghost use Rattle.sg_lattice.specs.declared.kind.Kind.TheVariants.{Square};
 ghost use Rattle.sg_planar.specs.Fit.{IsFit};
 ghost use Rattle.sg_words.specs.Command.{IsAllowedSize};
-ghost use Rattle.sg_reply.specs.Exit.{IsReply};
+ghost use Rattle.sg_report.specs.Exit.{IsReply};
 ghost use Rattle.sg_draws.specs.Drawn.{AnswersSample, PrintsSample, drawn_lattice};
 
 use super::drawn::drawn_planar;
@@ -11,8 +11,7 @@ use sg_ground::least_energy;
 use sg_lattice::Kind;
 use sg_laws::Disorder;
 use sg_planar::Planar;
-use sg_reply::{NoMemory, Reply, bond_count, done, refuse_fault, size_sum};
-use sg_report::sample_text;
+use sg_report::{NoMemory, Reply, bond_count, done, refuse_fault, sample_text, size_sum};
 use sg_words::Size;
 use std::alloc::Global;
 

@@ -6,9 +6,9 @@ ghost use Rattle.sg_ensemble.specs.Widths.{AreWidths, IsWidth};
 ghost use Rattle.sg_report.specs.Ensembles.{widths_text as widths_bytes};
 ghost use Rattle.sg_words.specs.Command.{IsAllowedSize};
 ghost use Rattle.sg_limits.specs.Limits.{width_limit, sample_limit};
-ghost use Rattle.sg_reply.specs.Exit.{IsReply};
+ghost use Rattle.sg_report.specs.Exit.{IsReply};
 ghost use Rattle.sg_draws.specs.Drawn.{AnswersWidths, AreFitWidths, IsWidthFault, drawn_lattice};
-ghost use Rattle.sg_reply.specs.declared.status.Status.TheVariants.{Done as IsDone};
+ghost use Rattle.sg_report.specs.declared.status.Status.TheVariants.{Done as IsDone};
 ghost use Rattle.sg_model.specs.Faults.{OrNoMemory};
 
 use super::drawn::drawn_planar;
@@ -16,8 +16,7 @@ use sg_ensemble::{Width, WidthList, width_on};
 use sg_lattice::Kind;
 use sg_laws::Disorder;
 use sg_model::Fault;
-use sg_reply::{NoMemory, Reply, done, refuse_fault};
-use sg_report::widths_text;
+use sg_report::{NoMemory, Reply, done, refuse_fault, widths_text};
 use sg_words::Size;
 use std::alloc::Global;
 

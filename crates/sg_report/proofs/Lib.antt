@@ -1,2 +1,3 @@
 mod NumberedLines
 mod Compact
+pub mod FaultReplies

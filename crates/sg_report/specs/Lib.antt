@@ -8,3 +8,6 @@ pub mod Samples
 pub mod Graphs
 pub mod Ensembles
 pub mod Ranges
+pub mod Exit
+pub mod Refused
+pub mod Same

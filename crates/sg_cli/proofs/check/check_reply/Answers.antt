@@ -1,8 +1,8 @@
 use Rattle.std.proofs.lemmas.Result.{IfOk-weaker}
-use Rattle.sg_reply.specs.declared.reply.Reply.{Reply}
+use Rattle.sg_report.specs.declared.reply.Reply.{Reply}
 use Rattle.sg_input.specs.Input.{RefusesProof}
 use Rattle.sg_cli.specs.Served.{AnswersCheck, Judged, PrintsVerdict, ProofFaultNamed}
-use Rattle.sg_reply.proofs.FaultReplies.{answers_fault}
+use Rattle.sg_report.proofs.FaultReplies.{answers_fault}
 use Rattle.sg_model.specs.Faults.{OrNoMemory}
 use Rattle.sg_cli.proofs.check.check_reply.Goals as goal
 

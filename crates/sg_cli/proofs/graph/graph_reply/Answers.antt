@@ -1,9 +1,9 @@
 use Rattle.std.proofs.lemmas.Result.{IfOk-weaker}
-use Rattle.sg_reply.specs.declared.reply.Reply.{Reply}
+use Rattle.sg_report.specs.declared.reply.Reply.{Reply}
 use Rattle.sg_graph_text.specs.Network.{RefusesNetwork}
 use Rattle.sg_cli.specs.Graphs.{AnswersTask, takes_terms}
 use Rattle.sg_cli.specs.Served.{AnswersGraph, GraphFaultNamed, GraphSolved}
-use Rattle.sg_reply.proofs.FaultReplies.{answers_fault}
+use Rattle.sg_report.proofs.FaultReplies.{answers_fault}
 use Rattle.sg_model.specs.Faults.{OrNoMemory}
 use Rattle.sg_cli.proofs.graph.graph_reply.Goals as goal
 

@@ -1,8 +1,8 @@
 use Rattle.std.proofs.lemmas.Result.{IfOk-weaker}
-use Rattle.sg_reply.specs.declared.reply.Reply.{Reply}
+use Rattle.sg_report.specs.declared.reply.Reply.{Reply}
 use Rattle.sg_input.specs.Input.{RefusesText}
 use Rattle.sg_cli.specs.Served.{AnswersFit, AnswersStudy, FaultNamed, Studied}
-use Rattle.sg_reply.proofs.FaultReplies.{answers_fault}
+use Rattle.sg_report.proofs.FaultReplies.{answers_fault}
 use Rattle.sg_model.specs.Faults.{OrNoMemory}
 use Rattle.sg_cli.proofs.study.study_reply.Goals as goal
 

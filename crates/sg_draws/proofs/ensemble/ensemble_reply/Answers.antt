@@ -1,7 +1,7 @@
 use Rattle.sg_lattice.specs.declared.kind.Kind.TheVariants.{Cylinder}
 use Rattle.sg_planar.specs.Fit.{IsUnfit}
 use Rattle.sg_draws.specs.Drawn.{AnswersEnsemble, EnsembleUnfit, drawn_lattice}
-use Rattle.sg_reply.proofs.FaultReplies.{answers_fault}
+use Rattle.sg_report.proofs.FaultReplies.{answers_fault}
 use Rattle.sg_model.specs.Faults.{OrNoMemory}
 use Rattle.sg_draws.proofs.ensemble.ensemble_reply.Goals as goal
 

@@ -1,5 +1,5 @@
 use Rattle.sg_draws.specs.Drawn.{AnswersWidths, IsWidthFault, WidthUnfit}
-use Rattle.sg_reply.proofs.FaultReplies.{answers_fault}
+use Rattle.sg_report.proofs.FaultReplies.{answers_fault}
 use Rattle.sg_draws.proofs.widths.widths_reply.Goals as goal
 
 pub returns-in-Err-clause-served : goal.returns-in-Err-clause-served

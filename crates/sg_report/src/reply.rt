@@ -1,15 +1,13 @@
 // A reply, and the ways in which one is made everywhere: a refusal, and a text that answers.
 ghost use Rattle.std.specs.Prelude.{◌≡◌, IfOk};
-ghost use Rattle.sg_reply.specs.Exit.{IsReply};
-ghost use Rattle.sg_reply.specs.Refused.{IsRefused, NamesFault};
+ghost use Rattle.sg_report.specs.Exit.{IsReply};
+ghost use Rattle.sg_report.specs.Refused.{IsRefused, NamesFault};
 
+use super::NoMemory;
+use super::faults::refusal_text;
 use super::status::Status;
 use sg_model::{Fault, Refusal};
-use sg_report::refusal_text;
 use std::alloc::{AllocError, Global};
-
-/// The allocator had no memory left.
-pub type NoMemory = AllocError;
 
 /// A status that answers the words, and its whole text.
 #[derive(Drop)]

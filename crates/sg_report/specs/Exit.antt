@@ -1,7 +1,7 @@
 -- The ways to end: the exit status of each, and which of them come with a reply.
 use Rattle.std.specs.Prelude.{ℕ, ⊤}
-use Rattle.sg_reply.specs.declared.status.Status.{Status}
-use Rattle.sg_reply.specs.declared.status.Status.TheVariants.{Done, Refused, Usage, No, ReadFault, WriteFault, NoMemory}
+use Rattle.sg_report.specs.declared.status.Status.{Status}
+use Rattle.sg_report.specs.declared.status.Status.TheVariants.{Done, Refused, Usage, No, ReadFault, WriteFault, NoMemory}
 
 -- the exit status
 abbrev pub exit_code : Status → ℕ

@@ -5,9 +5,9 @@ use Rattle.std.specs.Result.{IfOk}
 use Rattle.sg_model.specs.declared.refusal.Fault.{Fault}
 use Rattle.sg_model.specs.declared.refusal.Fault.TheVariants.{NoMemory, Refused}
 use Rattle.sg_model.specs.declared.refusal.Refusal.{Refusal}
-use Rattle.sg_reply.specs.Refused.{IsRefused, NamesFault}
-use Rattle.sg_reply.specs.declared.reply.Reply.{Reply}
-use Rattle.sg_reply.specs.declared.status.Status.{Status}
+use Rattle.sg_report.specs.Refused.{IsRefused, NamesFault}
+use Rattle.sg_report.specs.declared.reply.Reply.{Reply}
+use Rattle.sg_report.specs.declared.status.Status.{Status}
 
 -- a fault that is shown, and a reply that has its line
 pub answers_fault : {E : Type 0} (reply : Result Reply E) (fault : Fault) (Shows : Fault → Type 0) (Answers : List ℕ → Status → Type 0) → Shows fault →

@@ -1,3 +1,0 @@
-pub mod Exit
-pub mod Refused
-pub mod Same
