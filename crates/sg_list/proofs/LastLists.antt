@@ -1,5 +1,5 @@
 -- More items at the end of the last list.
-use Rattle.std.proofs.Common.{◌≡◌, ℕ, ◌-◌, List, [], ◌∷◌, ◌++◌, length, get_or, set, refl, ◌∙◌, ap, arith}
+use Rattle.std.proofs.Common.{◌≡◌, List, [], ◌∷◌, ◌++◌, refl, ◌∙◌, ap, arith}
 use Rattle.std.proofs.lemmas.List.{append-nil, get_or_push, length_push, set-get_or, set_at}
 use Rattle.sg_list.specs.Pieces.{with_more}
 
@@ -7,14 +7,12 @@ module _ {A : Type 0} where
   -- more at the end goes to the last list
   pub with_more-last : (lists : List (List A)) (last more : List A) → with_more (lists ++ last ∷ []) more ≡ lists ++ (last ++ more) ∷ []
   with_more-last lists last more =
-      ap (λ (n : ℕ). set (lists ++ last ∷ []) n (get_or (lists ++ last ∷ []) n [] ++ more)) (omega (arith, length_push lists last))
-      ∙ ap (λ (xs : List A). set (lists ++ last ∷ []) (length lists) (xs ++ more)) (get_or_push lists last [] (length lists) refl)
-      ∙ set_at lists last [] (last ++ more) (length lists) refl
+      grind (arith, length_push, get_or_push, set_at)
 
   -- nothing more changes no list
   pub with_more_none : (lists : List (List A)) → with_more lists [] ≡ lists
   with_more_none lists =
-      ap (set lists (length lists - 1)) (append-nil (get_or lists (length lists - 1) [])) ∙ set-get_or lists (length lists - 1) []
+      simp (append-nil, set-get_or) refl
 
   -- the same, where the lists before and after have names
   pub last_more : (front before after : List (List A)) (last more : List A) → before ≡ front ++ last ∷ [] → after ≡ with_more before more

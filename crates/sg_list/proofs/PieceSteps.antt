@@ -1,7 +1,7 @@
 -- Pieces of a flat list, after one more start and after more items.
-use Rattle.std.proofs.Common.{Some, ◌≡◌, ◌⊎◌, inl, inr, ℕ, ◌+◌, ◌-◌, ◌<◌, ◌≤◌, List, [], ◌∷◌, ◌++◌, length, get_or, set, take, drop, map, refl, sym, ◌∙◌, ap, ap₂, arith}
+use Rattle.std.proofs.Common.{Some, ◌≡◌, ◌⊎◌, inl, inr, ℕ, ◌+◌, ◌-◌, ◌<◌, ◌≤◌, List, [], ◌∷◌, ◌++◌, length, get_or, map, refl, sym, ◌∙◌, ap, arith}
 use Rattle.std.proofs.lemmas.Bool.{cases_lt, cases_eq}
-use Rattle.std.proofs.lemmas.List.{drop-append-le, drop_all, get_or-set_other, get_or-set_same, get_or_append_left, get_or_past, get_or_push, length-append, get_or_default, length-drop, length-set, length_push, set_at, take-append-le, take_all}
+use Rattle.std.proofs.lemmas.List.{drop-append-le, drop_all, get_or-set_other, get_or-set_same, get_or_append_left, get_or_past, get_or_push, length-append, get_or_default, length-drop, length-set, length_push, take-append-le, take_all}
 use Rattle.std.specs.List.{range_with_len, slice_get}
 use Rattle.std.proofs.lemmas.Option.{slice_get-get_or}
 use Rattle.std.proofs.lemmas.List.FromFn.{fill_by_all, get_or-map-range_with_len, length-map-range_with_len, map-range_with_len_more}
@@ -41,17 +41,15 @@ module _ {A : Type 0} where
       by_case (inl l) e = get_or_append_left starts (length items ∷ []) (length items) i l
       by_case (inr l) (inl e) = get_or_push starts (length items) (length items) i e ∙ sym (start_past items starts i l)
       by_case (inr l) (inr e) =
-          start_past items (starts ++ length items ∷ []) i (omega (arith, length_push starts (length items), e)) ∙ sym (start_past items starts i l)
+          grind (arith, start_past, length_push, e, l)
 
   piece_opened : (items : List A) (starts : List ℕ) (i : ℕ) → piece items (starts ++ length items ∷ []) i ≡ piece items starts i
   piece_opened items starts i =
-      ap₂ (λ (s t : ℕ). take (t - s) (drop s items)) (start_opened items starts i) (start_opened items starts (i + 1))
+      simp start_opened refl
 
   piece_past : (items : List A) (starts : List ℕ) (i : ℕ) → length starts ≤ i → piece items starts i ≡ []
   piece_past items starts i l =
-      ap (λ (s : ℕ). take (start_of items starts (i + 1) - s) (drop s items)) (start_past items starts i l)
-      ∙ ap (take (start_of items starts (i + 1) - length items)) (drop_all (length items) items (omega arith))
-      ∙ take_all (start_of items starts (i + 1) - length items) [] (omega arith)
+      grind (arith, start_past, drop_all, take_all, l)
 
   -- an empty list more
   pub pieces_opened : (items : List A) (starts : List ℕ) → pieces items (starts ++ length items ∷ []) ≡ pieces items starts ++ [] ∷ []
@@ -63,10 +61,7 @@ module _ {A : Type 0} where
 
   -- a start more at the end is one that may stand
   pub starts_opened : (items : List A) (starts : List ℕ) → AreStarts items starts → AreStarts items (starts ++ length items ∷ [])
-  starts_opened items starts good = record {
-    inside = λ i. omega (arith, start_opened items starts i, good.inside i);
-    rising = λ i. omega (arith, start_opened items starts i, start_opened items starts (i + 1), good.rising i);
-  }
+  starts_opened items starts good = grind (arith, start_opened, good.inside, good.rising)
 
   -- more items
   start_kept : (items more : List A) (starts : List ℕ) (i : ℕ) → i < length starts → start_of (items ++ more) starts i ≡ start_of items starts i
@@ -91,23 +86,12 @@ module _ {A : Type 0} where
   piece_kept : (items more : List A) (starts : List ℕ) (i : ℕ) → AreStarts items starts → i + 1 < length starts
       → piece (items ++ more) starts i ≡ piece items starts i
   piece_kept items more starts i good l =
-      ap₂ (λ (s t : ℕ). take (t - s) (drop s (items ++ more))) (start_kept items more starts i (omega arith)) (start_kept items more starts (i + 1) l)
-      ∙ ap (take (start_of items starts (i + 1) - start_of items starts i)) (drop-append-le (start_of items starts i) items more (good.inside i))
-      ∙ take-append-le (start_of items starts (i + 1) - start_of items starts i) (drop (start_of items starts i) items) more
-      (omega (arith, length-drop (start_of items starts i) items, good.inside (i + 1), good.rising i))
+      grind (arith, good.rising i, start_kept, drop-append-le, take-append-le, length-drop)
 
   piece_last : (items more : List A) (starts : List ℕ) (i : ℕ) → AreStarts items starts → i + 1 ≡ length starts
       → piece (items ++ more) starts i ≡ piece items starts i ++ more
   piece_last items more starts i good e =
-      let s : ℕ = start_of items starts i in
-      ap₂ (λ (s t : ℕ). take (t - s) (drop s (items ++ more))) (start_kept items more starts i (omega arith))
-      (start_past (items ++ more) starts (i + 1) (omega arith))
-      ∙ ap (take (length (items ++ more) - s)) (drop-append-le s items more (good.inside i))
-      ∙ take_all (length (items ++ more) - s) (drop s items ++ more)
-      (omega (arith, length-append (drop s items) more, length-append items more, length-drop s items, good.inside i))
-      ∙ ap (λ (xs : List A). xs ++ more)
-      (sym (ap (λ (t : ℕ). take (t - s) (drop s items)) (start_past items starts (i + 1) (omega arith))
-      ∙ take_all (length items - s) (drop s items) (omega (arith, length-drop s items))))
+      grind (arith, start_kept, start_past, drop-append-le, take_all, length-append, length-drop, good.inside)
 
   -- items that are added go to the last piece
   pub pieces_filled : (items more : List A) (starts : List ℕ) → AreStarts items starts → 0 < length starts
@@ -126,19 +110,12 @@ module _ {A : Type 0} where
       by_case : (k : ℕ) → k < length starts → (k ≡ length starts - 1) ⊎ (k ≡ length starts - 1 → ⊥)
           → get_or (with_more (pieces items starts) more) k [] ≡ piece (items ++ more) starts k
       by_case k l (inl e) =
-          ap (λ (n : ℕ). get_or (set (pieces items starts) n (get_or (pieces items starts) n [] ++ more)) k []) (last_is ∙ sym e)
-          ∙ get_or-set_same (pieces items starts) k (get_or (pieces items starts) k [] ++ more) [] (omega (arith, length-pieces items starts))
-          ∙ ap (λ (xs : List A). xs ++ more) (get_or-pieces items starts k [] l)
-          ∙ sym (piece_last items more starts k good (omega arith))
+          grind (arith, last_is, get_or-set_same, length-pieces, get_or-pieces, piece_last, e, l)
       by_case k l (inr e) =
-          get_or-set_other (pieces items starts) last k (get_or (pieces items starts) last [] ++ more) [] (λ f. e (f ∙ last_is))
-          ∙ get_or-pieces items starts k [] l
-          ∙ sym (piece_kept items more starts k good (omega arith))
+          grind (arith, get_or-set_other, last, last_is, get_or-pieces, piece_kept, e, l)
 
   -- a list more
   pub pieces_pushed : (items more : List A) (starts : List ℕ) → AreStarts items starts
       → pieces (items ++ more) (starts ++ length items ∷ []) ≡ pieces items starts ++ more ∷ []
   pieces_pushed items more starts good =
-      pieces_filled items more (starts ++ length items ∷ []) (starts_opened items starts good) (omega (arith, length_push starts (length items)))
-      ∙ ap (λ (lists : List (List A)). with_more lists more) (pieces_opened items starts)
-      ∙ with_more-last (pieces items starts) [] more
+      grind (arith, pieces_filled, starts_opened, length_push, pieces_opened, with_more-last, good)
