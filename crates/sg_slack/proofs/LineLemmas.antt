@@ -1,5 +1,5 @@
 -- Members in a line, for the tests.
-use Rattle.std.proofs.Common.{◌≡◌, ℕ, ◌<◌, ◌≤◌, ◌+◌, ◌-◌, ◌++◌, ◌∷◌, [], List, length, ℤ, pos, ◌+ℤ◌, inl, inr, refl, sym, ap, ◌∙◌, arith, length-append}
+use Rattle.std.proofs.Common.{◌≡◌, ℕ, ◌<◌, ◌≤◌, ◌+◌, ◌-◌, ◌++◌, ◌∷◌, [], List, length, ℤ, pos, ◌+ℤ◌, refl, ap, ◌∙◌, arith, length-append}
 use Rattle.std.proofs.lemmas.Int.{ints}
 use Rattle.std.proofs.lemmas.List.{get_or-map, length-map}
 use Rattle.sg_slack.proofs.DistinctLemmas.{at_end}
@@ -19,9 +19,7 @@ at_line n i = record { leaf = i; total = pos (n - i) }
 module _ (members : List Member) (n : ℕ) (line : IsLine members n) where
   -- the members are the leaves below n
   pub line-below : (u : ℕ) → IsMember members u → u < n
-  line-below u is =
-      let low : is.0 < n = omega (arith, is.1, line.count) in
-      omega (arith, low, is.2, ap (λ (m : Member). m.leaf) (line.member is.0 low))
+  line-below u is = grind (arith, ints, is.0, is.1, line.count, is.2, line.member)
 
   -- each leaf below n is a member
   pub line-member : (u : ℕ) → u < n → IsMember members u
@@ -29,32 +27,21 @@ module _ (members : List Member) (n : ℕ) (line : IsLine members n) where
 
   -- totals that fall by one from leaf to leaf are those of the line
   pub line-agree : (totals : List ℤ) → n ≤ length totals → ((v : ℕ) → v < length totals → total_at totals v ≡ pos (n - v)) → Agree members totals
-  line-agree totals long is = λ i within.
-      let low : i < n = omega (arith, within, line.count) in
-      let at = line.member i low in
-      ap (λ (m : Member). total_at totals m.leaf) at ∙ is i (omega (arith, low, long)) ∙ ap (λ (m : Member). m.total) (sym at)
+  line-agree totals long is = grind (arith, ints, line.count, line.member, is, long)
 
   -- one more
   abbrev more : List Member
   more = members ++ record { leaf = n; total = pos 0 } ∷ []
 
   more-count : length more ≡ n + 1
-  more-count = length-append members (record { leaf = n; total = pos 0 } ∷ []) ∙ ap (λ k. k + 1) line.count
+  more-count = grind (arith, ints, length-append, line.count)
 
   more-at : (i : ℕ) → i < n + 1 → member_at more i ≡ at_line n i
-  more-at i low = elim (at_end members (record { leaf = n; total = pos 0 }) no_member i (omega (arith, low, more-count))) [
-    | inl a ↦ a.1 ∙ line.member i (omega (arith, a.0, line.count))
-    | inr a ↦
-        let same : i ≡ n = a.0 ∙ line.count in
-        let none : 0 ≡ n - n = omega arith in
-        a.1 ∙ ap (at_leaf n) none ∙ ap (λ k. at_line n k) (sym same)
-  ]
+  more-at i low = grind (arith, ints, at_end, more-count, low, line.member, line.count)
 
   -- totals of a short line may grow by one
   pub line-fits : n ≤ 8 → TotalsFit (pos 1) more
-  line-fits small i within =
-      let low : i < n + 1 = omega (arith, within, more-count) in
-      omega (arith, ints, small, ap (λ (m : Member). m.total) (more-at i low))
+  line-fits small i within = grind (arith, ints, more-count, more-at, i, within, small)
 
   -- one leaf more, with all others one higher, is a longer line
   pub line-more : IsLine (grown (pos 1) more) (n + 1)

@@ -1,7 +1,7 @@
 -- What a `Near` keeps, call by call.
 use Rattle.std.proofs.Common.{◌≡◌, ℕ, ◌<◌, ◌≤◌, ◌+◌, List, [], ◌∷◌, ◌++◌, length, map, get_or, set, ℤ, pos}
 use Rattle.std.proofs.Common.{◌+ℤ◌, ◌-ℤ◌, ◌≤ℤ◌, Option, Some, None, Bool, true, false, FitsSigned}
-use Rattle.std.proofs.Common.{◌⊎◌, inl, inr, refl, sym, ap, ◌∙◌, subst, arith, w64, of_z, to_z, length-append}
+use Rattle.std.proofs.Common.{◌⊎◌, refl, sym, ap, ◌∙◌, subst, arith, w64, of_z, to_z, length-append}
 use Rattle.std.proofs.lemmas.Int.{ints, to_z-of_z}
 use Rattle.std.specs.Int.{w128}
 use Rattle.std.proofs.lemmas.List.{get_or-map, get_or-set_other, get_or-set_same, get_or_append_left, length-map, length-set, map-append}
@@ -22,15 +22,12 @@ use Rattle.sg_slack.specs.declared.near.Nearest.{Nearest}
 -- a difference of numbers that fit 128 bits
 pub wrapped_difference : (a b : ℤ) → FitsSigned w128 a → FitsSigned w128 b → FitsSigned w128 (a -ℤ b) →
     to_z w128 (of_z w128 (to_z w128 (of_z w128 a) -ℤ to_z w128 (of_z w128 b))) ≡ a -ℤ b
-wrapped_difference a b fits_a fits_b fits =
-    ap (λ x. to_z w128 (of_z w128 (x -ℤ to_z w128 (of_z w128 b)))) (to_z-of_z w128 a fits_a)
-    ∙ ap (λ x. to_z w128 (of_z w128 (a -ℤ x))) (to_z-of_z w128 b fits_b)
-    ∙ to_z-of_z w128 (a -ℤ b) fits
+wrapped_difference a b fits_a fits_b fits = grind (arith, ints, to_z-of_z, fits_a, fits_b, fits)
 
 -- what is known of the rise, over what is the same
 pub IsRise-same : (xs ys : List Kept) (a b : ℤ) (totals : List ℤ) (marks : List Mark) (rise : Option ℤ) → xs ≡ ys → a ≡ b →
     IsRise xs a totals marks rise → IsRise ys b totals marks rise
-IsRise-same xs ys a b totals marks rise e f is = subst (λ z. IsRise ys z totals marks rise) f (subst (λ ms. IsRise ms a totals marks rise) e is)
+IsRise-same xs ys a b totals marks rise e f is = grind (arith, ints, f, e, is)
 
 -- a member that is kept, as contracts see it
 abbrev member_of : ℤ → Kept → Member
@@ -52,14 +49,11 @@ members-count rise ms = length-map ms (member_of rise)
 
 -- a member, and where it is kept
 pub IsMember-kept : (rise : ℤ) (ms : List Kept) (i leaf : ℕ) → i < length ms → (kept_at ms i).leaf ≡ leaf → IsMember (members_of rise ms) leaf
-IsMember-kept rise ms i leaf low is =
-    (i, omega (arith, low, members-count rise ms), ap (λ (m : Member). m.leaf) (member-is rise ms i low) ∙ is)
+IsMember-kept rise ms i leaf low is = (i, omega (arith, low, members-count rise ms), ap (λ (m : Member). m.leaf) (member-is rise ms i low) ∙ is)
 
 -- a member is kept at some place
 pub kept-IsMember : (rise : ℤ) (ms : List Kept) (leaf : ℕ) → IsMember (members_of rise ms) leaf → (i : ℕ) × (i < length ms) × ((kept_at ms i).leaf ≡ leaf)
-kept-IsMember rise ms leaf at =
-    let low : at.0 < length ms = omega (arith, at.1, members-count rise ms) in
-    (at.0, low, sym (ap (λ (m : Member). m.leaf) (member-is rise ms at.0 low)) ∙ at.2)
+kept-IsMember rise ms leaf at = grind (arith, ints, members-count, member-is, at.0, at.1, at.2)
 
 -- what all have risen by is kept apart
 pub members-grown : (rise delta : ℤ) (ms : List Kept) → members_of (rise +ℤ delta) ms ≡ grown delta (members_of rise ms)
@@ -133,8 +127,7 @@ module _ {t : Table} {rise : ℤ} {ms : List Kept} {places : List ℕ} {nearest 
       omega (arith, ints, n.key, total, cost, here)
 
   -- a member stands at its place
-  pub placed-member : (leaf : ℕ) → IsMember (members_of rise ms) leaf →
-      (get_or places leaf 0 < length ms) × ((kept_at ms (get_or places leaf 0)).leaf ≡ leaf)
+  pub placed-member : (leaf : ℕ) → IsMember (members_of rise ms) leaf → (get_or places leaf 0 < length ms) × ((kept_at ms (get_or places leaf 0)).leaf ≡ leaf)
   placed-member leaf is =
       let at = kept-IsMember rise ms leaf is in
       let here : get_or places leaf 0 ≡ at.0 = ap (λ n. get_or places n 0) (sym at.2) ∙ near.placed at.0 at.1 in
@@ -185,20 +178,9 @@ module _ {t : Table} {rise : ℤ} {ms : List Kept} {places : List ℕ} {nearest 
         }
 
   -- a change of the rise
-  IsNear-moved : (to : ℤ) → 0 < length ms → rise ≤ℤ to → ((i : ℕ) → i < length ms → FitsSigned w64 ((kept_at ms i).base +ℤ to)) →
-      IsNear t to ms places nearest
+  IsNear-moved : (to : ℤ) → 0 < length ms → rise ≤ℤ to → ((i : ℕ) → i < length ms → FitsSigned w64 ((kept_at ms i).base +ℤ to)) → IsNear t to ms places nearest
   IsNear-moved to some more fits =
-      record {
-        places_count = near.places_count;
-        nearest_count = near.nearest_count;
-        rise_whole = omega (arith, ints, near.rise_whole);
-        rise_none = λ none. absurd (omega (arith, none, some));
-        first = near.first;
-        fits = fits;
-        low = near.low;
-        placed = near.placed;
-        each = near.each;
-      }
+      grind (arith, ints, near.places_count, near.nearest_count, near.rise_whole, some, near.first, fits, near.low, near.placed, near.each)
 
   -- a shift
   pub IsNear-shifted : (delta : ℤ) → 0 < length ms → pos 0 ≤ℤ delta → TotalsFit delta (members_of rise ms) → IsNear t (rise +ℤ delta) ms places nearest
@@ -210,7 +192,7 @@ module _ {t : Table} {rise : ℤ} {ms : List Kept} {places : List ℕ} {nearest 
   -- totals that have risen alike
   module _ (totals : List ℤ) (marks : List Mark) (count : length marks ≡ t.size) (to : ℤ) (all : IsRiseTo ms rise totals marks to) where
     pub IsNear-risen : ((i : ℕ) → i < length ms → FitsSigned w64 (total_at totals (kept_at ms i).leaf)) → IsNear t to ms places nearest
-    IsNear-risen fits = IsNear-moved to all.some all.more (λ i low. subst (λ z. FitsSigned w64 z) (all.each i low).1 (fits i low))
+    IsNear-risen fits = grind (arith, ints, IsNear-moved, all.some, all.more, all.each, fits)
 
     agree : Agree (members_of to ms) totals
     agree = Agree-kept to ms totals (λ i low. (all.each i low).1)
@@ -250,10 +232,7 @@ module _ {t : Table} {rise : ℤ} {ms : List Kept} {places : List ℕ} {nearest 
     -- what holds of each member before and of the new one holds of each
     each-more : (P : ℕ → Kept → Type 0) → ((i : ℕ) → i < length ms → P i (kept_at ms i)) → P (length ms) new_kept → (i : ℕ) → i < length more →
         P i (kept_at more i)
-    each-more P old new i within = elim (at_end ms new_kept no_kept i within) [
-      | inl a ↦ subst (P i) (sym a.1) (old i a.0)
-      | inr a ↦ subst (P i) (sym a.1) (subst (λ k. P k new_kept) (sym a.0) new)
-    ]
+    each-more P old new i within = grind (arith, ints, at_end, within, old, new)
 
     low-more : (i : ℕ) → i < length more → (kept_at more i).leaf < t.size
     low-more = each-more (λ i m. m.leaf < t.size) near.low low
@@ -266,9 +245,7 @@ module _ {t : Table} {rise : ℤ} {ms : List Kept} {places : List ℕ} {nearest 
 
     -- what is kept more is a member more
     pub members-more : members_of rise more ≡ members_of rise ms ++ record { leaf = leaf; total = total } ∷ []
-    members-more =
-        let same : (total -ℤ rise) +ℤ rise ≡ total = omega (arith, ints) in
-        map-append (member_of rise) ms (new_kept ∷ []) ∙ ap (λ z. members_of rise ms ++ record { leaf = leaf; total = z } ∷ []) same
+    members-more = grind (arith, ints, map-append)
 
     -- there is room for it
     pub room-more : length ms < t.size
@@ -296,11 +273,8 @@ module _ {t : Table} {rise : ℤ} {ms : List Kept} {places : List ℕ} {nearest 
             low = omega (arith, more-count);
             leaf = ap (λ (m : Kept). m.leaf) last ∙ ap (λ (x : Nearest). x.leaf) (sym is);
             key = ap (λ (x : Nearest). x.key) is ∙ ap (λ m. key_of t m v) (sym last);
-            least = each-more (λ i m. n.key ≤ℤ key_of t m v) (λ i within. elim less [
-              | inl one ↦ absurd (omega (arith, within, is_first one))
-              | inr nearer ↦
-                  omega (arith, ints, ap (λ (x : Nearest). x.key) is, nearer, (near.each v low_v (omega (arith, within))).least i within)
-            ]) (omega (arith, ints, ap (λ (x : Nearest). x.key) is));
+            least = each-more (λ i m. n.key ≤ℤ key_of t m v) (grind (arith, ints, less, is, near.each, low_v))
+                (omega (arith, ints, ap (λ (x : Nearest). x.key) is));
           }
         where
           last : kept_at more (length ms) ≡ new_kept
@@ -336,10 +310,7 @@ module _ {t : Table} {rise : ℤ} {ms : List Kept} {places : List ℕ} {nearest 
                 (let same : (total -ℤ rise) +ℤ rise ≡ total = omega (arith, ints) in subst (λ z. FitsSigned w64 z) (sym same) fits);
             low = low-more;
             placed = placed-more;
-            each = λ v low_v some. elim (taken v low_v) [
-              | inl a ↦ taken-new v (nearest_at new v) low_v a.0 a.1
-              | inr a ↦ kept-old v (nearest_at new v) low_v a.0 a.1 a.2
-            ];
+            each = grind (arith, ints, taken-new, kept-old);
           }
 
 -- the scan of the free leaves
@@ -350,7 +321,7 @@ module _ (t : Table) (totals : List ℤ) (nearest : List Nearest) (marks : List 
   -- after the last leaf it is the least of all
   pub Least-all : (best : Option Pair) → Least t totals (Until t.size) best → Least t totals (IsNearestFree t nearest marks) best
   Least-all None none = λ u v is. none u v (is.v_leaf, is)
-  Least-all (Some p) least = record { one = least.one.1; slack = least.slack; least = λ u v is. least.least u v (is.v_leaf, is) }
+  Least-all (Some p) least = grind (arith, ints, least.one.1, least.slack, least.least)
 
 -- the leaves before a place have the nearer member, and the others what they had
 module _ (t : Table) (m : Kept) (first : Bool) (initial now : List Nearest) (v : ℕ) (n : Nearest) (count : length now ≡ t.size) (low : v < t.size)
@@ -358,19 +329,8 @@ module _ (t : Table) (m : Kept) (first : Bool) (initial now : List Nearest) (v :
     (rest : (w : ℕ) → v ≤ w → nearest_at now w ≡ nearest_at initial w) (here : IsTakenAt t m first v (nearest_at now v) n) where
   -- the entries up to this one are those that are to be taken
   pub taken-next : (w : ℕ) → w < v + 1 → IsTakenAt t m first w (nearest_at initial w) (nearest_at (set now v n) w)
-  taken-next w less = elim (below_next w v less) [
-    | inl before ↦
-        subst (λ x. IsTakenAt t m first w (nearest_at initial w) x)
-        (sym (get_or-set_other now v w n (record { leaf = 0; key = pos 0 }) (λ same. absurd (omega (arith, same, before))))) (taken w before)
-    | inr same ↦
-        let at : nearest_at (set now v n) w ≡ n = ap (λ k. nearest_at (set now v n) k) same
-        ∙ get_or-set_same now v n (record { leaf = 0; key = pos 0 }) (omega (arith, low, count)) in
-        let was : nearest_at now v ≡ nearest_at initial w = rest v (omega arith) ∙ ap (λ k. nearest_at initial k) (sym same) in
-        subst (λ x. IsTakenAt t m first w (nearest_at initial w) x) (sym at)
-        (subst (λ x. IsTakenAt t m first w x n) was (subst (λ k. IsTakenAt t m first k (nearest_at now v) n) (sym same) here))
-  ]
+  taken-next w less = grind (arith, ints, below_next, get_or-set_other, get_or-set_same, less)
 
   -- the entries behind it are as they were
   pub rest-next : (w : ℕ) → v + 1 ≤ w → nearest_at (set now v n) w ≡ nearest_at initial w
-  rest-next w most =
-      get_or-set_other now v w n (record { leaf = 0; key = pos 0 }) (λ same. absurd (omega (arith, same, most))) ∙ rest w (omega (arith, most))
+  rest-next w most = grind (arith, ints, get_or-set_other, most)

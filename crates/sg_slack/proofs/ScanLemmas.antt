@@ -1,6 +1,5 @@
 -- A scan that keeps the pair of least slack so far.
-use Rattle.std.proofs.Common.{◌≡◌, ℕ, ◌<◌, ◌+◌, List, ℤ, ◌≤ℤ◌, Bool, false, IsTrue, Option, Some, None, ◌⊎◌, inl, inr}
-use Rattle.std.proofs.Common.{refl, sym, subst, arith, rules}
+use Rattle.std.proofs.Common.{◌≡◌, ℕ, ◌<◌, ◌+◌, List, ℤ, ◌≤ℤ◌, Bool, false, IsTrue, Option, Some, None, ◌⊎◌, inl, inr, refl, arith}
 use Rattle.std.proofs.lemmas.Int.{ints}
 use Rattle.std.proofs.lemmas.Bool.{cases_Bool, cases_lt}
 use Rattle.sg_slack.specs.declared.Pair.{Pair}
@@ -13,10 +12,7 @@ le_trans a b c h k = omega (arith, ints)
 
 -- below the next number: below this one, or this one
 pub below_next : (a n : ℕ) → a < n + 1 → (a < n) ⊎ (a ≡ n)
-below_next a n low = elim (cases_lt a n) [
-  | inl less ↦ inl less
-  | inr most ↦ inr (omega arith)
-]
+below_next a n low = grind (arith, ints, cases_lt)
 
 -- a scan of such pairs by a number of each
 module _ (t : Table) (totals : List ℤ) (Is : ℕ → ℕ → Type 0) (number : ℕ → ℕ → ℕ) (n : ℕ) where
@@ -29,46 +25,20 @@ module _ (t : Table) (totals : List ℤ) (Is : ℕ → ℕ → Type 0) (number :
   wider : (u v : ℕ) → Before n u v → Before (n + 1) u v
   wider u v is = (omega (arith, is.0), is.1)
 
-  keep : (p : Pair) → IsLeast t totals (Before n) p → ((u v : ℕ) → Here u v → p.slack ≤ℤ slack_of t totals u v) → IsLeast t totals
-      (Before (n + 1)) p
-  keep p is below = record {
-    one = wider p.u p.v is.one;
-    slack = is.slack;
-    least = λ u v new. elim (below_next (number u v) n new.0) [
-      | inl less ↦ is.least u v (less, new.1)
-      | inr same ↦ below u v (same, new.1)
-    ];
-  }
+  keep : (p : Pair) → IsLeast t totals (Before n) p → ((u v : ℕ) → Here u v → p.slack ≤ℤ slack_of t totals u v) → IsLeast t totals (Before (n + 1)) p
+  keep p is below = grind (arith, ints, wider, below_next, p.u, p.v, is.one, is.slack, is.least, below)
 
-  take : (p : Pair) → IsLeast t totals Here p → ((u v : ℕ) → Before n u v → p.slack ≤ℤ slack_of t totals u v) → IsLeast t totals
-      (Before (n + 1)) p
-  take p is below = record {
-    one = (omega (arith, is.one.0), is.one.1);
-    slack = is.slack;
-    least = λ u v new. elim (below_next (number u v) n new.0) [
-      | inl less ↦ below u v (less, new.1)
-      | inr same ↦ is.least u v (same, new.1)
-    ];
-  }
+  take : (p : Pair) → IsLeast t totals Here p → ((u v : ℕ) → Before n u v → p.slack ≤ℤ slack_of t totals u v) → IsLeast t totals (Before (n + 1)) p
+  take p is below = grind (arith, ints, below_next, is.one.0, is.one.1, is.slack, below, is.least)
 
   -- the nearer of the least so far and the least with this number is the least up to the next
   pub Least-more : (best more result : Option Pair) → IsLesser best more result → Least t totals (Before n) best → Least t totals Here more →
       Least t totals (Before (n + 1)) result
-  Least-more None None result is none none' =
-      subst (Least t totals (Before (n + 1))) (sym is) (λ u v new. elim (below_next (number u v) n new.0) [
-        | inl less ↦ none u v (less, new.1)
-        | inr same ↦ none' u v (same, new.1)
-      ])
-  Least-more None (Some q) result is none least =
-      subst (Least t totals (Before (n + 1))) (sym is) (take q least (λ u v was. absurd (none u v was)))
-  Least-more (Some p) None result is least none =
-      subst (Least t totals (Before (n + 1))) (sym is) (keep p least (λ u v here. absurd (none u v here)))
-  Least-more (Some p) (Some q) result (inl kept) least least' =
-      subst (Least t totals (Before (n + 1))) (sym kept.0)
-      (keep p least (λ u v here. le_trans p.slack q.slack (slack_of t totals u v) kept.1 (least'.least u v here)))
-  Least-more (Some p) (Some q) result (inr taken) least least' =
-      subst (Least t totals (Before (n + 1))) (sym taken.0)
-      (take q least' (λ u v was. le_trans q.slack p.slack (slack_of t totals u v) taken.1 (least.least u v was)))
+  Least-more None None result is none none' = grind (arith, ints, below_next, is, none, none')
+  Least-more None (Some q) result is none least = grind (arith, ints, take, is, q, least, none)
+  Least-more (Some p) None result is least none = grind (arith, ints, keep, is, p, least, none)
+  Least-more (Some p) (Some q) result (inl kept) least least' = grind (arith, ints, keep, le_trans, kept.0, p, least, p.slack, q.slack, kept.1, least'.least)
+  Least-more (Some p) (Some q) result (inr taken) least least' = grind (arith, ints, take, le_trans, taken.0, q, least', q.slack, p.slack, taken.1, least.least)
 
   -- no pair with this number
   pub Least-none : (best : Option Pair) → ((u v : ℕ) → Here u v → ⊥) → Least t totals (Before n) best → Least t totals (Before (n + 1)) best
@@ -80,12 +50,4 @@ module _ (t : Table) (totals : List ℤ) (Is : ℕ → ℕ → Type 0) (number :
       ((a b : ℕ) → Here a b → (a ≡ u) × (b ≡ v) × IsTrue counts) →
       (IsTrue counts → IsLesser best (Some (record { u = u; v = v; slack = slack_of t totals u v })) result) → (counts ≡ false → result ≡ best) →
       Least t totals (Before n) best → Least t totals (Before (n + 1)) result
-  Least-if u v counts best result here only taken left least = elim (cases_Bool counts) [
-    | inl is ↦ Least-more best (Some (record { u = u; v = v; slack = slack_of t totals u v })) result (taken is) least (record {
-      one = here is;
-      slack = refl;
-      least = λ a b at. let one = only a b at in rw (one.0, one.1) (omega (arith, ints));
-    })
-    | inr not ↦ subst (Least t totals (Before (n + 1))) (sym (left not))
-        (Least-none best (λ a b at. let one = only a b at in search (rules, one.2, not)) least)
-  ]
+  Least-if u v counts best result here only taken left least = grind (arith, ints, cases_Bool, Least-more, Least-none, taken, least, here, only, left)

@@ -1,16 +1,13 @@
 -- Entries of a square table that is kept row by row.
-use Rattle.std.proofs.Common.{◌≡◌, ◌⊎◌, ℕ, ◌+◌, ◌*◌, ◌<◌, ◌≤◌, List, ℤ, pos, length, get_or, set, refl, sym, ap, ap₂, ◌∙◌, inl, inr, arith}
+use Rattle.std.proofs.Common.{◌≡◌, ◌⊎◌, ℕ, ◌+◌, ◌*◌, ◌<◌, ◌≤◌, List, ℤ, pos, length, get_or, set, refl, ◌∙◌, inl, inr, arith}
 use Rattle.std.proofs.lemmas.Bool.{cases_eq, cases_lt}
 use Rattle.std.proofs.lemmas.List.{get_or-set_same, get_or-set_other, length-set}
 use Rattle.std.proofs.Math.Nat.{mul-le-mul_right}
-use Rattle.sg_slack.specs.Table.{Table, IsPairOf, IsSymmetric, SetsPair, cost_of}
+use Rattle.sg_slack.specs.Table.{Table, IsPairOf, IsSymmetric, SetsPair}
 
 -- a later row begins past the end of this one
 row_past : (n u a : ℕ) → u < a → u * n + n ≤ a * n
-row_past n u a less =
-    let most : (u + 1) * n ≤ a * n = mul-le-mul_right n (omega arith) in
-    let more : (u + 1) * n ≡ u * n + n = grind arith in
-    omega (arith, most, more)
+row_past n u a less = grind (arith, mul-le-mul_right)
 
 -- an entry is within the table
 pub entry-within : (n u v : ℕ) → u < n → v < n → u * n + v < n * n
@@ -18,14 +15,7 @@ entry-within n u v low_u low_v = omega (arith, row_past n u n low_u)
 
 -- each entry has one row and one place in it
 pub entry-unique : (n u v a b : ℕ) → v < n → b < n → u * n + v ≡ a * n + b → (u ≡ a) × (v ≡ b)
-entry-unique n u v a b low_v low_b same =
-    elim (cases_eq u a) [
-      | inl row ↦ (row, omega (arith, same, ap (λ x. x * n) row))
-      | inr differs ↦ elim (cases_lt u a) [
-        | inl less ↦ absurd (omega (arith, row_past n u a less))
-        | inr more ↦ absurd (omega (arith, row_past n a u (omega arith)))
-      ]
-    ]
+entry-unique n u v a b low_v low_b same = grind (arith, cases_eq, cases_lt, row_past, same)
 
 -- two writes set both entries of a pair
 pub SetsPair-written : (n : ℕ) (entries : List ℤ) (u v : ℕ) (cost : ℤ) → length entries ≡ n * n → u < n → v < n →
@@ -33,11 +23,7 @@ pub SetsPair-written : (n : ℕ) (entries : List ℤ) (u v : ℕ) (cost : ℤ) �
 SetsPair-written n entries u v cost whole low_u low_v =
     record {
       size = refl;
-      forth = elim (cases_eq (u * n + v) (v * n + u)) [
-        | inl same ↦ ap (λ k. get_or (set first (v * n + u) cost) k (pos 0)) same ∙ last
-        | inr differs ↦ get_or-set_other first (v * n + u) (u * n + v) cost (pos 0) differs ∙ get_or-set_same entries (u * n + v) cost (pos 0)
-            (omega (arith, whole, entry-within n u v low_u low_v))
-      ];
+      forth = grind (arith, cases_eq, first, last, get_or-set_other, get_or-set_same, entry-within, whole, low_u, low_v);
       back = last;
       others = λ a b low_a low_b other.
           get_or-set_other first (v * n + u) (a * n + b) cost (pos 0) (λ same. let e = entry-unique n a b v u low_b low_u same in other (inr e))
@@ -53,25 +39,11 @@ SetsPair-written n entries u v cost whole low_u low_v =
 
 -- two numbers are two others, or are not
 both : (a b u v : ℕ) → ((a ≡ u) × (b ≡ v)) ⊎ ¬ ((a ≡ u) × (b ≡ v))
-both a b u v = elim (cases_eq a u) [
-  | inl p ↦ elim (cases_eq b v) [
-    | inl q ↦ inl (p, q)
-    | inr q ↦ inr (λ h. q h.1)
-  ]
-  | inr p ↦ inr (λ h. p h.0)
-]
+both a b u v = grind (arith, cases_eq)
 
 -- a table stays symmetric where the cost of a pair is set
 pub symmetric_set : (old new : Table) (u v : ℕ) (cost : ℤ) → SetsPair old new u v cost → IsSymmetric old → IsSymmetric new
-symmetric_set old new u v cost sets same a b low_a low_b = elim (both a b u v) [
-  | inl (p, q) ↦ ap₂ (cost_of new) p q ∙ sets.forth ∙ sym (ap₂ (cost_of new) q p ∙ sets.back)
-  | inr first ↦ elim (both a b v u) [
-    | inl (p, q) ↦ ap₂ (cost_of new) p q ∙ sets.back ∙ sym (ap₂ (cost_of new) q p ∙ sets.forth)
-    | inr second ↦
-        sets.others a b a_was b_was (neither first second) ∙ same a b a_was b_was
-        ∙ sym (sets.others b a b_was a_was (turned first second))
-  ]
-]
+symmetric_set old new u v cost sets same a b low_a low_b = grind (arith, both, a_was, b_was, neither, turned, a, b, sets.forth, sets.back, sets.others, same)
   where
     a_was : a < old.size
     a_was = omega (arith, low_a, sets.size)

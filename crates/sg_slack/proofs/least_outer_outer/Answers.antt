@@ -1,6 +1,5 @@
-use Rattle.std.proofs.Common.{◌≡◌, ◌<◌, ◌+◌, subst, sym}
-use Rattle.sg_slack.specs.declared.Mark.TheVariants.{Outer}
-use Rattle.sg_slack.specs.Slack.{IsOuterOuter, Least, mark_at}
+use Rattle.std.proofs.Common.{arith, ◌<◌, ◌+◌, subst, sym}
+use Rattle.sg_slack.specs.Slack.{IsOuterOuter, Least}
 use Rattle.sg_slack.proofs.ScanLemmas.{Least-more, Least-none}
 use Rattle.sg_slack.proofs.least_outer_outer.Goals as goal
 use Rattle.sg_slack.proofs.least_outer_outer.Goals.{in-Outer, in_default}
@@ -16,8 +15,5 @@ loop-u-preserved c =
           subst (Least costs total (λ a b. (a < u + 1) × Is a b)) (sym w.best-is)
           (Least-more costs total Is (λ a b. a) u c.loop-u.best w.nearest_outer.result w.nearer-best.result w.nearer-best.ensures c.loop-u.invariant
           w.nearest_outer.ensures)
-      | in_default w ↦
-          subst (Least costs total (λ a b. (a < u + 1) × Is a b)) (sym w.best-is)
-          (Least-none costs total Is (λ a b. a) u c.loop-u.best
-          (λ a b is. w.in_default.not-Outer (subst (λ m. mark_at c.args.mark.now m ≡ Outer) is.0 is.1.u_outer)) c.loop-u.invariant)
+      | in_default w ↦ grind (arith, Least-none, w.best-is, c.loop-u.invariant)
     ]

@@ -1,4 +1,4 @@
-use Rattle.std.proofs.Common.{◌<◌, ◌+◌, Some, true, refl, subst, arith, sym, ◌∙◌}
+use Rattle.std.proofs.Common.{◌<◌, ◌+◌, Some, true, refl, subst, arith, sym}
 use Rattle.std.proofs.lemmas.Bool.{false≢true}
 use Rattle.sg_slack.specs.Scan.{IsLesser, IsOuterOuterOf}
 use Rattle.sg_slack.specs.Slack.{Least}
@@ -21,9 +21,5 @@ loop-v-preserved c =
           (λ a b here. (here.1.0, here.0, refl))
           (λ is. subst (λ p. IsLesser c.loop-v.best (Some p) w.nearer_if-best.result) w.pair_of.ensures (w.nearer_if-best.ensures.yes refl))
           (λ none. absurd (false≢true (sym none))) c.loop-v.invariant)
-      | else-is_other_outer w ↦
-          subst (Least costs total (λ a b. (b < v + 1) × Is a b)) (sym w.best-is)
-          (Least-none costs total Is (λ a b. b) v c.loop-v.best
-          (λ a b here. false≢true (sym w.if-is_other_outer.false
-          ∙ c.is_other_outer.ensures.1 (rw (here.0) at here.1.1.v_outer, rw (here.0) at (rw (here.1.0) at here.1.1.apart)))) c.loop-v.invariant)
+      | else-is_other_outer w ↦ grind (arith, Least-none, false≢true, w.best-is, w.if-is_other_outer.false, c.is_other_outer.ensures.1, c.loop-v.invariant)
     ]

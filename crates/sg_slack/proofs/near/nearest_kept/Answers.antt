@@ -1,8 +1,7 @@
 -- `nearest_kept`: leaf by leaf, where it is free.
-use Rattle.std.proofs.Common.{◌≡◌, ◌<◌, Some, arith, refl, subst, ◌∙◌, ap}
+use Rattle.std.proofs.Common.{Some, arith, refl, subst, ◌∙◌, ap}
 use Rattle.sg_slack.specs.Kept.{nearest_at}
 use Rattle.sg_slack.specs.Scan.{IsLesser, IsNearestFree}
-use Rattle.sg_slack.specs.Slack.{Least}
 use Rattle.sg_slack.proofs.NearLemmas.{Least-all}
 use Rattle.sg_slack.proofs.ScanLemmas.{Least-if}
 use Rattle.sg_slack.proofs.near.nearest_kept.Goals as goal
@@ -19,8 +18,4 @@ loop-v-preserved c =
     c.nearer_if-best.ensures.no c.loop-v.invariant
 
 pub returns : goal.returns
-returns c =
-    let whole : c.loop-v.v ≡ c.args.costs.now.size = omega arith in
-    Least-all c.args.costs.now c.args.total.now c.args.nearest.now c.args.mark.now c.loop-v.best
-    (subst (λ k. Least c.args.costs.now c.args.total.now (λ a b. (b < k) × IsNearestFree c.args.costs.now c.args.nearest.now c.args.mark.now a b)
-    c.loop-v.best) whole c.loop-v.invariant)
+returns c = grind (arith, Least-all, c.loop-v.invariant)

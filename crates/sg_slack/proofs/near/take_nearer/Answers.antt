@@ -1,5 +1,5 @@
 -- `take_nearer`: each leaf takes the nearer one.
-use Rattle.std.proofs.Common.{◌≡◌, ◌-ℤ◌, ◌≤ℤ◌, ◌⊎◌, true, false, ap, ◌∙◌, subst, arith, rules, to_z, of_z, w64}
+use Rattle.std.proofs.Common.{◌≡◌, ◌-ℤ◌, ◌≤ℤ◌, ◌⊎◌, true, false, subst, arith, to_z, of_z}
 use Rattle.std.specs.Int.{w128}
 use Rattle.std.proofs.lemmas.Int.{to_z-of_z}
 use Rattle.sg_slack.specs.Kept.{key_of, nearest_at}
@@ -8,9 +8,7 @@ use Rattle.sg_slack.proofs.near.take_nearer.Goals as goal
 
 key_is : (c : goal.After-nearer_member) →
     to_z w128 (of_z w128 (to_z w128 (of_z w128 c.from.result) -ℤ to_z w128 (of_z w128 c.args.member.base))) ≡ key_of c.args.costs.now c.args.member c.loop-v.v
-key_is c =
-    wrapped_difference c.from.result c.args.member.base (search rules) (search rules) (search rules)
-    ∙ ap (λ z. z -ℤ c.args.member.base) (c.from.ensures ∙ to_z-of_z w64 c.cost.result (search rules) ∙ c.cost.ensures)
+key_is c = grind (arith, wrapped_difference, to_z-of_z, c.from.ensures, c.cost.ensures)
 
 pub loop-v-preserved : goal.loop-v-preserved
 loop-v-preserved c =

@@ -1,5 +1,5 @@
 -- `add`: the new member takes the leaves to which it is nearer.
-use Rattle.std.proofs.Common.{◌≡◌, ℕ, ◌<◌, ◌++◌, ◌∷◌, [], List, length, ℤ, ◌-ℤ◌, false, true, arith, subst, sym, ap, ◌∙◌, rules, to_z, of_z, w64}
+use Rattle.std.proofs.Common.{◌≡◌, ℕ, ◌<◌, ◌++◌, ◌∷◌, [], length, ℤ, ◌-ℤ◌, false, true, arith, subst, sym, ap, ◌∙◌, rules, to_z, of_z, w64}
 use Rattle.std.specs.Int.{w128}
 use Rattle.std.specs.Vec.{with_items}
 use Rattle.std.proofs.lemmas.Int.{to_z-of_z}
@@ -8,7 +8,6 @@ use Rattle.sg_slack.proofs.NearLemmas.{IsNear-added, members-more, room-more, wr
 use Rattle.sg_slack.specs.Kept.{IsTakenAt, members_of, nearest_at}
 use Rattle.sg_slack.specs.Members.{IsMember, Known}
 use Rattle.sg_slack.specs.declared.member.Kept.{Kept}
-use Rattle.sg_slack.specs.declared.near.Nearest.{Nearest}
 use Rattle.sg_slack.proofs.near.Near.add.Goals as goal
 use Rattle.sg_slack.proofs.near.Near.add.Goals.{After-self, After-push_reserved}
 
@@ -16,7 +15,7 @@ low : (c : After-self) → c.args.leaf < c.self.inside.costs.size
 low c = subst (λ (s : Known). c.args.leaf < s.table.size) (sym c.self.view_is) c.requires.leaf
 
 fresh : (c : After-self) → IsMember (members_of c.self.inside.rise c.self.inside.members.items) c.args.leaf → ⊥
-fresh c = subst (λ (s : Known). IsMember s.members c.args.leaf → ⊥) (sym c.self.view_is) c.requires.fresh
+fresh c = grind (arith, c.self.view_is, c.requires.fresh)
 
 pub push_reserved-requires : goal.push_reserved-requires
 push_reserved-requires c =
@@ -46,18 +45,14 @@ written_is : (c : After-push_reserved) → written c ≡ kept c
 written_is c = ap (kept_with c.args.leaf) (base_is c)
 
 items_are : (c : After-push_reserved) → c.push_reserved.new.self.items ≡ c.self.inside.members.items ++ kept c ∷ []
-items_are c = c.push_reserved.ensures.items ∙ ap (λ m. c.self.inside.members.items ++ m ∷ []) (written_is c)
+items_are c = grind (arith, written_is, c.push_reserved.ensures.items)
 
 nearest_are : (c : After-push_reserved) → (with_items c.self.inside.nearest c.take_nearer.new.nearest).items ≡ c.take_nearer.new.nearest
-nearest_are c = with_items_is c.self.inside.nearest c.take_nearer.new.nearest (c.take_nearer.auto.nearest ∙ c.deref_mut.ensures.len)
+nearest_are c = grind (arith, with_items_is, c.take_nearer.auto.nearest, c.deref_mut.ensures.len)
 
 taken : (c : After-push_reserved) → (v : ℕ) → v < c.self.inside.costs.size →
     IsTakenAt c.self.inside.costs (kept c) c.is_empty-first.result v (nearest_at c.self.inside.nearest.items v) (nearest_at c.take_nearer.new.nearest v)
-taken c v within =
-    subst (λ (xs : List Nearest). IsTakenAt c.self.inside.costs (kept c) c.is_empty-first.result v (nearest_at xs v) (nearest_at c.take_nearer.new.nearest v))
-    c.deref_mut.ensures.value
-    (subst (λ m. IsTakenAt c.self.inside.costs m c.is_empty-first.result v (nearest_at c.deref_mut.result.now v) (nearest_at c.take_nearer.new.nearest v))
-    (written_is c) (c.take_nearer.ensures.taken v within))
+taken c v within = grind (arith, written_is, c.deref_mut.ensures.value, c.take_nearer.ensures.taken, within)
 
 pub invariant_of-self : goal.invariant_of-self
 invariant_of-self c =
@@ -70,10 +65,7 @@ invariant_of-self c =
     let count : length c.take_nearer.new.nearest ≡ e.costs.size = c.take_nearer.ensures.count in
     let near = IsNear-added c.self.invariant.near c.args.leaf c.args.total (low at) (fresh at) (search rules)
     c.is_empty-first.result none some c.take_nearer.new.nearest count (taken c) in
-    record {
-      near = rw (items_are c, nearest_are c, len_is) near;
-      room = search rules;
-    }
+    record { near = rw (items_are c, nearest_are c, len_is) near; room = search rules }
 
 pub returns-clause-members : goal.returns-clause-members
 returns-clause-members c =

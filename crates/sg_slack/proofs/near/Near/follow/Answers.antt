@@ -1,5 +1,5 @@
 -- `follow`: the members have grown to the totals that are given, or none are left.
-use Rattle.std.proofs.Common.{◌≡◌, ℤ, Some, None, length, subst, sym, rules, to_z, of_z, ◌∙◌}
+use Rattle.std.proofs.Common.{arith, ◌≡◌, ℤ, Some, None, length, subst, rules, to_z, of_z, ◌∙◌}
 use Rattle.std.specs.Int.{w128}
 use Rattle.std.proofs.lemmas.Int.{to_z-of_z}
 use Rattle.sg_slack.proofs.NearLemmas.{Follows, Follows-risen, IsNear-risen, IsRise-same, none-grown}
@@ -8,24 +8,16 @@ use Rattle.sg_slack.specs.Members.{HaveGrown, Known, grown}
 use Rattle.sg_slack.proofs.near.Near.follow.Goals as goal
 
 risen : (c : goal.After-self-1) → IsRise c.self.inside.members.items c.self.inside.rise c.args.total.now c.args.mark.now (Some c.in-Some.rise)
-risen c =
-    IsRise-same c.deref.result.now c.self.inside.members.items _ c.self.inside.rise c.args.total.now c.args.mark.now (Some c.in-Some.rise)
-    c.deref.ensures.value (to_z-of_z w128 c.self.inside.rise (search rules)) c.in-Some.ensures
+risen c = grind (arith, IsRise-same, to_z-of_z, c.deref.ensures.value, c.in-Some.ensures)
 
 count : (c : goal.After-self-1) → length c.args.mark.now ≡ c.self.inside.costs.size
-count c = subst (λ (s : Known). length c.args.mark.now ≡ s.table.size) (sym c.self.view_is) c.requires.marks
+count c = grind (arith, c.self.view_is, c.requires.marks)
 
 same : (c : goal.After-self-1) → to_z w128 (of_z w128 c.in-Some.rise) ≡ c.in-Some.rise
 same c = to_z-of_z w128 c.in-Some.rise (search rules)
 
 pub invariant_of-self : goal.invariant_of-self
-invariant_of-self c =
-    let e = c.self.inside in
-    record {
-      near = rw (same c) (IsNear-risen c.self.invariant.near c.args.total.now c.args.mark.now
-          (count c) c.in-Some.rise (risen c).0 (risen c).1);
-      room = c.self.invariant.room;
-    }
+invariant_of-self c = grind (arith, same, IsNear-risen, count, risen, c, c.self.invariant.near, c.self.invariant.room)
 
 follows : (c : goal.After-self-1) → Follows c.args.self.now.members c.args.total.now c.args.mark.now
     (members_of (to_z w128 (of_z w128 c.in-Some.rise)) c.self.inside.members.items)

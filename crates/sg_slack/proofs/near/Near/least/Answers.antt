@@ -1,5 +1,5 @@
 -- `least`: the nearest member of a free leaf has the least slack to it.
-use Rattle.std.proofs.Common.{◌≡◌, ℕ, ◌<◌, List, length, subst, sym, rules, to_z, of_z}
+use Rattle.std.proofs.Common.{arith, ◌≡◌, ℕ, ◌<◌, List, length, subst, sym, rules, to_z, of_z}
 use Rattle.std.specs.Int.{w128}
 use Rattle.std.proofs.lemmas.Int.{to_z-of_z}
 use Rattle.sg_slack.proofs.NearLemmas.{Least-kept, key-kept}
@@ -32,5 +32,4 @@ nearest_kept-requires-clause-keys c =
     let some : 0 < length e.members.items = search rules in
     let agree = subst (λ (s : Known). Agree s.members totals) (sym c.self.view_is) c.requires.agree in
     let rise_is : to_z w128 (of_z w128 e.rise) ≡ e.rise = to_z-of_z w128 e.rise (search rules) in
-    λ v low. rw (rise_is, c.deref.ensures.value)
-    (key-kept c.self.invariant.near totals agree some v low)
+    λ v low. grind (arith, key-kept, c.deref.ensures.value, c.self.invariant.near)
