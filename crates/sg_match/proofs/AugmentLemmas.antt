@@ -59,11 +59,7 @@ module _ (f : Family) (cost : ℕ → ℕ → ℕ) (old now : List (Option Edge)
         same_inner = λ j low. ap (λ p. pair_of p (get_or (inners edges) j 0)) same;
         fewer = λ n none. elim (cases_eq n there) [
           | inl here ↦ inl here
-          | inr away ↦ inr (
-            sym (ap (λ p. pair_of p n) same) ∙ none,
-            λ (h : IsTop f n × Holds f n v). away
-                (top-apart f fam n there v h.0 top_there h.1 in_there),
-          )
+          | inr away ↦ grind (arith, top-apart, in_there, same, top_there)
         ];
         others = λ n top none away. ap (λ p. pair_of p n) same ∙ none;
       }
@@ -118,7 +114,7 @@ module _ (f : Family) (cost : ℕ → ℕ → ℕ) (old now : List (Option Edge)
     low_out = omega (arith, within, length-outers root edges)
 
     count : length unpaired_now ≡ length now
-    count = length-set (set now tree_edge.inner None) tree_edge.outer None ∙ length-set now tree_edge.inner None
+    count = grind (arith, length-set, tree_edge.inner, tree_edge.outer)
 
     in_out : tree_edge.inner ≢ tree_edge.outer
     in_out e = can.tree.shape.tops.apart (suc i) i low_out low_in (outer_at root edges i within ∙ sym e ∙ sym (inner_at edges i within))
@@ -202,21 +198,10 @@ module _ (f : Family) (cost : ℕ → ℕ → ℕ) (old now : List (Option Edge)
               | inl at ↦ absurd (none-some _ (sym
                   (sym (twice_second unpaired_now tree_edge.outer there (Some edge) (Some (flipped edge)) (omega (arith, names there top_there, count))) ∙
                   ap (λ m. pair_of paired_now m) (sym at) ∙ none)))
-              | inr c ↦ elim (cases_eq n tree_edge.outer) [
-                | inl at ↦ absurd (none-some _ (sym
-                    (sym (twice_first unpaired_now tree_edge.outer there (Some edge) (Some (flipped edge))
-                    (omega (arith, names tree_edge.outer top_out, count)) out_there) ∙ ap (λ m. pair_of paired_now m) (sym at) ∙ none)))
-                | inr b ↦ elim (is.fewer n (sym (kept n a b c) ∙ none)) [ inl clash ↦ absurd (c clash) | inr rest ↦ inr rest ]
-              ]
+              | inr c ↦ grind (arith, cases_eq, none-some, twice_first, top_out, count, out_there, kept, tree_edge.outer, is.fewer)
             ]
           ];
-          others = λ n top none away.
-              let was = is.others n top none away in
-              kept n
-              (λ e. absurd (none-some _ (sym (sym has_pair ∙ ap (λ m. pair_of now m) (sym e) ∙ was))))
-              (λ e. absurd (none-some _ (sym (sym (out_paired) ∙ ap (λ m. pair_of now m) (sym e) ∙ was))))
-              (λ e. elim is.fresh [ inl holds ↦ away (subst (λ m. Holds f m v) (sym e) holds) | inr some ↦ some (ap (λ m. pair_of old m) (sym e) ∙ none) ])
-              ∙ was;
+          others = grind (arith, kept, none-some, has_pair, out_paired, is.others, is.fresh);
         }
       where
         out_paired : pair_of now tree_edge.outer ≡ Some (flipped tree_edge.pair)
@@ -254,16 +239,7 @@ module _ (f : Family) (cost : ℕ → ℕ → ℕ) (old now : List (Option Edge)
           fewer = λ n none. elim (cases_eq n there) [
             | inl at ↦ absurd (none-some _ (sym
                 (sym (twice_second now root there (Some edge) (Some (flipped edge)) (names there top_there)) ∙ ap (λ m. pair_of done m) (sym at) ∙ none)))
-            | inr a ↦ elim (cases_eq n root) [
-              | inl at ↦ absurd (none-some _ (sym
-                  (sym (twice_first now root there (Some edge) (Some (flipped edge)) (names root root_top) apart) ∙ ap (λ m. pair_of done m) (sym at) ∙
-                  none)))
-              | inr b ↦ elim (is.fewer n (sym (twice_other now root there n (Some edge) (Some (flipped edge)) b a) ∙ none))
-                  [ inl clash ↦ absurd (a clash) | inr rest ↦ (rest.0, b, rest.1) ]
-            ]
+            | inr a ↦ grind (arith, cases_eq, none-some, twice_first, root_top, apart, twice_other, is.fewer)
           ];
-          others = λ n top none b away.
-              twice_other now root there n (Some edge) (Some (flipped edge)) b
-              (λ e. elim is.fresh [ inl holds ↦ away (subst (λ m. Holds f m v) (sym e) holds) | inr some ↦ some (ap (λ m. pair_of old m) (sym e) ∙ none) ])
-              ∙ is.others n top none away;
+          others = grind (arith, twice_other, is.fresh, is.others);
         }

@@ -196,14 +196,7 @@ module _ (s : State) (r delta : ℕ) (engine : IsEngine s) (rooted : s.root ≡ 
   g' = raised s.family (outers r s.edges) (inners s.edges) delta
 
   abbrev pub after : State
-  after = record {
-    family = raised s.family (outers r s.edges) (inners s.edges) delta;
-    table = s.table;
-    pairs = s.pairs;
-    exposed = s.exposed;
-    root = s.root;
-    edges = s.edges;
-  }
+  after = record s { family = g' }
 
   fam : IsFamily s.family
   fam = engine.feasible.family
@@ -232,8 +225,7 @@ module _ (s : State) (r delta : ℕ) (engine : IsEngine s) (rooted : s.root ≡ 
       (omega (
         arith,
         rest-raised s.family (cost s.table) r s.edges delta fam CanRaise-engine,
-        blossoms-raised s.family (outers r s.edges)
-            (inners s.edges) delta,
+        blossoms-raised s.family (outers r s.edges) (inners s.edges) delta,
       ))
 
   IsEngine-raised : IsBounded after → IsEngine after
@@ -253,39 +245,32 @@ module _ (s : State) (r delta : ℕ) (engine : IsEngine s) (rooted : s.root ≡ 
         bounded = bounded;
       }
 
+  -- the same tops hold the same leaves
+  was : (t : ℕ) → IsTop g' t → IsTop s.family t
+  was = IsTop-raised_old s.family (outers r s.edges) (inners s.edges) delta fam CanRaise-engine
+
+  same : (t l : ℕ) → holds g' t l ≡ holds s.family t l
+  same = held s.family (cost s.table) r s.edges delta fam CanRaise-engine
+
   -- the pair at this amount comes next
   IsNext-raised : (event : Event) → IsAt s.family (cost s.table) r s.edges delta event → IsNext after r event
   IsNext-raised (InnerZero node) none = absurd none
   IsNext-raised (OuterFree u v) at =
-      let can = CanRaise-engine in
       record {
         low_u = at.low_u;
         low_v = at.low_v;
-        outer = (at.outer.0, at.outer.1, held s.family (cost s.table) r s.edges delta fam can (get_or (outers r s.edges) at.outer.0 0) u ∙ at.outer.2);
-        out = λ t top in_t. at.out t (IsTop-raised_old s.family (outers r s.edges) (inners s.edges) delta fam can t top)
-            (sym (held s.family (cost s.table) r s.edges delta fam can t v) ∙ in_t);
-        slack = omega (arith, tight_outer_free s.family (cost s.table) r s.edges delta fam can u v at);
+        outer = (at.outer.0, at.outer.1, same _ u ∙ at.outer.2);
+        out = λ t top in_t. at.out t (was t top) (sym (same t v) ∙ in_t);
+        slack = omega (arith, tight_outer_free s.family (cost s.table) r s.edges delta fam CanRaise-engine u v at);
       }
   IsNext-raised (OuterOuter u v) at =
-      let can = CanRaise-engine in
       record {
         low_u = at.low_u;
         low_v = at.low_v;
-        outer_u = (
-          at.outer_u.0,
-          at.outer_u.1,
-          held s.family (cost s.table) r s.edges delta fam can (get_or (outers r s.edges) at.outer_u.0 0) u ∙
-              at.outer_u.2,
-        );
-        outer_v = (
-          at.outer_v.0,
-          at.outer_v.1,
-          held s.family (cost s.table) r s.edges delta fam can (get_or (outers r s.edges) at.outer_v.0 0) v ∙
-              at.outer_v.2,
-        );
-        apart = λ t top in_u in_v. at.apart t (IsTop-raised_old s.family (outers r s.edges) (inners s.edges) delta fam can t top)
-            (sym (held s.family (cost s.table) r s.edges delta fam can t u) ∙ in_u) (sym (held s.family (cost s.table) r s.edges delta fam can t v) ∙ in_v);
-        slack = omega (arith, tight_outer_outer s.family (cost s.table) r s.edges delta fam can u v at);
+        outer_u = (at.outer_u.0, at.outer_u.1, same _ u ∙ at.outer_u.2);
+        outer_v = (at.outer_v.0, at.outer_v.1, same _ v ∙ at.outer_v.2);
+        apart = λ t top in_u in_v. at.apart t (was t top) (sym (same t u) ∙ in_u) (sym (same t v) ∙ in_v);
+        slack = omega (arith, tight_outer_outer s.family (cost s.table) r s.edges delta fam CanRaise-engine u v at);
       }
 
   -- before a raise by something nothing is due
@@ -319,12 +304,7 @@ module _ (s : State) (r delta : ℕ) (engine : IsEngine s) (rooted : s.root ≡ 
           let differ : i ≢ j =
           (λ same. at.apart (get_or (outers r s.edges) i 0) (tree.shape.tops.outer_tops i at.outer_u.1) at.outer_u.2
           (subst (λ k. Holds s.family (get_or (outers r s.edges) k 0) v) (sym same) at.outer_v.2)) in
-          omega (
-            arith,
-            some,
-            at.slack,
-            change.slacks.between u v i j at.low_u at.low_v at.outer_u.1 at.outer_v.1 differ at.outer_u.2 at.outer_v.2,
-          )
+          omega (arith, some, at.slack, change.slacks.between u v i j at.low_u at.low_v at.outer_u.1 at.outer_v.1 differ at.outer_u.2 at.outer_v.2)
 
 -- an event that comes next is due
 next_due : (s : State) (r : ℕ) → s.root ≡ Some r → (event : Event) → IsNext s r event → IsCalm s → ⊥
@@ -353,8 +333,7 @@ module _ (s : State) (r : ℕ) (engine : IsEngine s) (rooted : s.root ≡ Some r
       (exposed_of s engine r rooted) (even s engine)
 
   -- the raise that was found may be made
-  pub CanChangeDuals-changed : (event : Event) (amount delta : ℕ) → IsDualChange s r event amount delta →
-      CanChangeDuals s.family (cost s.table) r s.edges delta
+  pub CanChangeDuals-changed : (event : Event) (amount delta : ℕ) → IsDualChange s r event amount delta → CanChangeDuals s.family (cost s.table) r s.edges delta
   CanChangeDuals-changed event amount delta changed =
       CanChangeDuals-nearest s.family (cost s.table) r s.edges amount event delta changed.near (omega (arith, ints, changed.least.within))
       (λ i low blossom.
@@ -387,22 +366,12 @@ module _ (s : State) (r : ℕ) (engine : IsEngine s) (rooted : s.root ≡ Some r
   IsBounded-changed : (event : Event) (amount delta : ℕ) (changed : IsDualChange s r event amount delta) →
       IsBounded (after s r delta engine rooted (CanChangeDuals-changed event amount delta changed))
   IsBounded-changed event amount zero changed =
-      subst (λ f. IsBounded (record {
-        family = f;
-        table = s.table;
-        pairs = s.pairs;
-        exposed = s.exposed;
-        root = s.root;
-        edges = s.edges;
-      })) (sym (raised-none s.family (outers r s.edges) (inners s.edges))) engine.bounded
+      subst (λ f. IsBounded (record s { family = f })) (sym (raised-none s.family (outers r s.edges) (inners s.edges))) engine.bounded
   IsBounded-changed event amount (suc n) changed =
       let change = CanChangeDuals-changed event amount (suc n) changed in
       let left = left-raised s r (suc n) engine rooted change in
       let before = engine.bounded.calm (IsCalm-before s r (suc n) engine rooted change (omega arith)) in
-      record {
-        due = omega (arith, left, before);
-        calm = λ calm. absurd (not_calm event amount (suc n) changed calm);
-      }
+      record { due = omega (arith, left, before); calm = λ calm. absurd (not_calm event amount (suc n) changed calm) }
 
 -- a round over the values as the calls hand them on: what is raised by is a whole number
 pub record IsChangingDuals (s : State) (root : ℕ) (event : Event) (amount given : ℤ) : Type 0 where

@@ -209,8 +209,8 @@ module _ {s : State} {b at : ℕ} {tree_edge : TreeEdge} {ring : List Link} {ent
       (subst (λ xs. (i : ℕ) → i < length xs → (link_at xs i).node < length s.pairs) (sym same) (names_low s b is.found.engine is.found.inner_zero ring is.is))
 
   abbrev Sound : Family → List (Option Edge) → List TreeEdge → Type 0
-  Sound g pairs edges = IsEngine (record { family = g; table = s.table; pairs = pairs; exposed = s.exposed; root = s.root; edges = edges }) ×
-      (steps_left (record { family = g; table = s.table; pairs = pairs; exposed = s.exposed; root = s.root; edges = edges }) + 2 ≤ steps_left s)
+  Sound g pairs edges = IsEngine (record s { family = g; pairs = pairs; edges = edges }) ×
+      (steps_left (record s { family = g; pairs = pairs; edges = edges }) + 2 ≤ steps_left s)
 
   -- after the ring was paired and grown into the tree
   pub IsEngine-after : (lent again : List Link) (old now stored : List (Option Edge)) (grown : List TreeEdge) (g : Family) → lent ≡ ring → again ≡ ring →

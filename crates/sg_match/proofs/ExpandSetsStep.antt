@@ -7,7 +7,7 @@ use Rattle.std.proofs.lemmas.List.{get_or-set_same, get_or-set_other}
 use Rattle.sg_arena.proofs.ExpandedFamily.{IsFamily-expand, IsTop-expand_child, IsTop-expand_old, IsTop-expand_other, duals_between-expand, expand-apart, holds_rest, total-expand}
 use Rattle.sg_arena.proofs.FamilyLemmas.{child-covered, top-no_child}
 use Rattle.sg_arena.specs.Changes.{CanShrink, with_slot}
-use Rattle.sg_arena.specs.Family.{Family, Holds, IsBlossom, IsFamily, IsTop, Node, cycle_of, dual_of, link_at, node_at, total_of}
+use Rattle.sg_arena.specs.Family.{Family, Holds, IsBlossom, IsFamily, IsTop, Node, cycle_of, dual_of, holds, link_at, node_at, total_of}
 use Rattle.sg_arena.specs.declared.Link.{Link}
 use Rattle.sg_match.proofs.RingPairLemmas.{ring_from, ring_side}
 use Rattle.sg_match.specs.Feasible.{IsFeasible}
@@ -26,10 +26,14 @@ module _ (f : Family) (b : ℕ) (fam : IsFamily f) (top : IsTop f b) (blossom : 
   old_top : (t : ℕ) → IsTop f t → t ≢ b → IsTop g t
   old_top = IsTop-expand_other f b fam top blossom room
 
+  rest : (n l : ℕ) → n ≢ b → holds g n l ≡ holds f n l
+  rest = holds_rest f b fam top blossom room
+
+  held_old : (n l : ℕ) → IsTop g n → Holds g n l → Holds f n l
+  held_old n l is h = sym (rest n l (not_b n is)) ∙ h
+
   kid_in : (i l : ℕ) → i < length (cycle_of f b) → Holds g (link_at (cycle_of f b) i).node l → Holds f b l
-  kid_in i l low h = child-covered f fam b i low l
-      (sym (holds_rest f b fam top blossom room (link_at (cycle_of f b) i).node l
-      (not_b (link_at (cycle_of f b) i).node (IsTop-expand_child f b fam top blossom room i low))) ∙ h)
+  kid_in i l low h = child-covered f fam b i low l (held_old _ l (IsTop-expand_child f b fam top blossom room i low) h)
 
   -- over any ring of the children
   module _ (good : ℕ → ℕ → Type 0) (pairs now : List (Option Edge)) (ring : List Link) (pair : Edge) (paired : IsPaired f good pairs)
@@ -57,16 +61,11 @@ module _ (f : Family) (b : ℕ) (fam : IsFamily f) (top : IsTop f b) (blossom : 
     in_ring i low p is = elim (cases_eq i 0) [
       | inl none ↦
           let e : pair ≡ p = same_Some _ _ (sym (ring_pairs.each 0 first_low) ∙ ap (λ k. pair_of now (link_at ring k).node) (sym none) ∙ is) in
-          subst (λ k. Pairing (link_at ring k).node p) (sym none) (subst (λ x. Pairing (link_at ring 0).node x) e (
+          subst (λ k. Pairing (link_at ring k).node p) (sym none)
+          (subst (λ x. Pairing (link_at ring 0).node x) e (
             base,
             paired.tight b pair top is_pair,
-            (
-              m.0,
-              old_top m.0 m.1 m.2,
-              (λ same. old_out m.0 m.1 0 (omega (arith, can.closed.long)) (sym same)),
-              holds_rest f b fam top blossom room m.0 pair.to m.2 ∙ m.3,
-              ring_pairs.others m.0 (old_out m.0 m.1) ∙ m.4,
-            ),
+            (m.0, old_top m.0 m.1 m.2, (λ e. old_out m.0 m.1 0 first_low (sym e)), rest m.0 pair.to m.2 ∙ m.3, ring_pairs.others m.0 (old_out m.0 m.1) ∙ m.4),
           ))
       | inr some ↦
           let j = ring_side g ring can.closed pair i low some in
@@ -92,24 +91,18 @@ module _ (f : Family) (b : ℕ) (fam : IsFamily f) (top : IsTop f b) (blossom : 
     outside t p is away at =
         let was : pair_of pairs t ≡ Some p = sym (ring_pairs.others t (old_out t is)) ∙ at in
         let s = paired.other t p is was in (
-          holds_rest f b fam top blossom room t p.from away ∙ paired.own t p is was,
+          rest t p.from away ∙ paired.own t p is was,
           paired.tight t p is was,
           elim (cases_eq s.0 b) [
             | inl same ↦
                 let e : pair ≡ flipped p = same_Some _ _ (sym is_pair ∙ ap (λ n. pair_of pairs n) (sym same) ∙ s.4) in (
                   (link_at ring 0).node,
-                  can.tops 0 (omega (arith, can.closed.long)),
-                  old_out t is 0 (omega (arith, can.closed.long)),
+                  can.tops 0 first_low,
+                  old_out t is 0 first_low,
                   subst (λ (x : Edge). Holds g (link_at ring 0).node x.from) e base,
                   ring_pairs.each 0 first_low ∙ ap (λ x. Some x) e,
                 )
-            | inr differs ↦ (
-              s.0,
-              old_top s.0 s.1 differs,
-              s.2,
-              holds_rest f b fam top blossom room s.0 p.to differs ∙ s.3,
-              ring_pairs.others s.0 (old_out s.0 s.1) ∙ s.4,
-            )
+            | inr differs ↦ (s.0, old_top s.0 s.1 differs, s.2, rest s.0 p.to differs ∙ s.3, ring_pairs.others s.0 (old_out s.0 s.1) ∙ s.4)
           ],
         )
 
@@ -125,11 +118,7 @@ module _ (f : Family) (b : ℕ) (fam : IsFamily f) (top : IsTop f b) (blossom : 
     pub IsPaired-expanded : IsPaired g good now
     unfolding Pairing
     IsPaired-expanded =
-        record {
-          own = λ t p is at. (pairing t p is at).0;
-          other = λ t p is at. (pairing t p is at).2;
-          tight = λ t p is at. (pairing t p is at).1;
-        }
+        record { own = λ t p is at. (pairing t p is at).0; other = λ t p is at. (pairing t p is at).2; tight = λ t p is at. (pairing t p is at).1 }
 
 module _ (f : Family) (cost : ℕ → ℕ → ℕ) (b : ℕ) (feasible : IsFeasible f cost) (top : IsTop f b) (blossom : IsBlossom f b) (inner_zero : dual_of f b ≡ 0)
     (room : b < length f.nodes) where
@@ -150,20 +139,12 @@ module _ (f : Family) (cost : ℕ → ℕ → ℕ) (b : ℕ) (feasible : IsFeasi
         slack = λ u v low_u low_v. omega (arith, duals_between-expand f b inner_zero room u v, feasible.slack u v low_u low_v);
         links = λ name i. link_tight name (cases_eq name b) i;
         parity = λ t u v is in_u in_v. elim (IsTop-expand_old f b fam top blossom room t is) [
-          | inl old ↦ omega (
-            arith,
-            total_same u,
-            total_same v,
-            feasible.parity t u v old (sym (holds_rest f b fam top blossom room t u (not_b f b fam top blossom room t is)) ∙ in_u)
-                (sym (holds_rest f b fam top blossom room t v (not_b f b fam top blossom room t is)) ∙ in_v),
-          )
-          | inr kid ↦ omega (
-            arith,
-            total_same u,
-            total_same v,
-            feasible.parity b u v top (kid_in f b fam top blossom room kid.0 u kid.1 (subst (λ n. Holds after n u) (sym kid.2) in_u))
-                (kid_in f b fam top blossom room kid.0 v kid.1 (subst (λ n. Holds after n v) (sym kid.2) in_v)),
-          )
+          | inl old ↦
+              let was = λ (l : ℕ) (h : Holds after t l). held_old f b fam top blossom room t l is h in
+              omega (arith, total_same u, total_same v, feasible.parity t u v old (was u in_u) (was v in_v))
+          | inr kid ↦
+              let was = λ (l : ℕ) (h : Holds after t l). kid_in f b fam top blossom room kid.0 l kid.1 (subst (λ n. Holds after n l) (sym kid.2) h) in
+              omega (arith, total_same u, total_same v, feasible.parity b u v top (was u in_u) (was v in_v))
         ];
       }
     where

@@ -45,8 +45,7 @@ module _ (f : Family) (cost : ℕ → ℕ → ℕ) (b : ℕ) (ring : List Link) 
   node_bound i low = name_bound f (link_at ring i).node (alive_from_holds f (link_at ring i).node (link_at ring i).from (is.cycle.from i low))
 
   -- the inner tops and the nodes of the ring are different names
-  pub ring_room : (pairs : List (Option Edge)) (root : ℕ) (edges : List TreeEdge) → IsTree f cost pairs root edges →
-      length edges + length ring ≤ length f.nodes
+  pub ring_room : (pairs : List (Option Edge)) (root : ℕ) (edges : List TreeEdge) → IsTree f cost pairs root edges → length edges + length ring ≤ length f.nodes
   ring_room pairs root edges tree =
       let names = inners edges ++ nodes_of ring in
       let count : length names ≡ length edges + length ring = length-append (inners edges) (nodes_of ring) ∙
@@ -54,8 +53,7 @@ module _ (f : Family) (cost : ℕ → ℕ → ℕ) (b : ℕ) (ring : List Link) 
       omega (
         arith,
         count,
-        short names (length f.nodes)
-            (Differ-append (inners edges) (nodes_of ring) tree.shape.tops.inner_differ (Differ-cycle f ring is.cycle) apart) below,
+        short names (length f.nodes) (Differ-append (inners edges) (nodes_of ring) tree.shape.tops.inner_differ (Differ-cycle f ring is.cycle) apart) below,
       )
     where
       apart : (n : ℕ) → Contains (inners edges) n → Contains (nodes_of ring) n → ⊥
@@ -155,8 +153,7 @@ module _ (f : Family) (cost : ℕ → ℕ → ℕ) (pairs now : List (Option Edg
       (rest (link_at ring 0).node (tree_edge_at edges at).pair.from (out b top 0 (omega (arith, is.cycle.long))) base)
       (λ i low_i. (
         tight_same (link_at ring i).from (link_at ring i).to (is.tight i low_i),
-        tight_same (link_at ring i).to (link_at ring i).from
-            (is.back i low_i),
+        tight_same (link_at ring i).to (link_at ring i).from (is.back i low_i),
       ))
 
   -- taken apart, the family stays feasible

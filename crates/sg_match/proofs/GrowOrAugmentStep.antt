@@ -26,7 +26,7 @@ use Rattle.sg_match.specs.Names.{IsTaken}
 use Rattle.sg_pairing.specs.Metric.{cost}
 use Rattle.sg_match.specs.Pairs.{pair_of}
 use Rattle.sg_match.specs.State.{State}
-use Rattle.sg_match.specs.Steps.{blossoms_of, rest_of, steps_left}
+use Rattle.sg_match.specs.Steps.{rest_of, steps_left}
 use Rattle.sg_match.specs.Tree.{IsOut, IsTree, any_top, tree_edge_at, outers}
 use Rattle.sg_match.specs.declared.Edge.{Edge}
 use Rattle.sg_match.specs.declared.TreeEdge.{TreeEdge}
@@ -76,14 +76,13 @@ module _ (f : Family) (table : Table) (pairs : List (Option Edge)) (exposed : Li
           more = edges ++ tree_edge ∷ []
 
           mate : IsOut root edges outer
-          mate = mate_out f (cost table) pairs root edges fam engine.paired tree top outer pair is_top top_outer has_pair pair_to out
+          mate = grind (arith, mate_out, fam, tree, out, engine.paired)
 
           abbrev has : ℕ → ℕ → Bool
           has leaf = λ t. holds f t leaf
 
           now_held : (leaf : ℕ) → any_top f (outers root more) leaf ≡ (any_top f (outers root edges) leaf || any_top f (outer ∷ []) leaf)
-          now_held leaf = ap (λ xs. any_top f (root ∷ xs) leaf) (map-append (λ (l : TreeEdge). l.outer) edges (tree_edge ∷ [])) ∙
-              list_any-append (has leaf) (outers root edges) (outer ∷ [])
+          now_held leaf = grind (arith, map-append, list_any-append)
 
           not_held : any_top f (outers root edges) pair.to ≡ false
           not_held = elim (cases_Bool (any_top f (outers root edges) pair.to)) [
@@ -102,7 +101,7 @@ module _ (f : Family) (table : Table) (pairs : List (Option Edge)) (exposed : Li
               (now_held pair.to ∙ ap (λ b. b || any_top f (outer ∷ []) pair.to) not_held ∙ ap (λ b. b || false) pair_to)
 
           less : steps_left (with_tree (Some root) more) + 1 ≤ steps_left (with_tree (Some root) edges)
-          less = fall ((2 * leaf_count f - 1) * (length exposed - 1)) (rest_of f root edges) (rest_of f root more) (2 * blossoms_of f) fewer
+          less = grind (arith, fall, fewer)
             where
               fall : (a r s b : ℕ) → s + 1 ≤ r → a + 4 * s + 1 + b + 1 ≤ a + 4 * r + 1 + b
               fall a r s b h = omega arith
@@ -127,19 +126,7 @@ module _ (f : Family) (table : Table) (pairs : List (Option Edge)) (exposed : Li
 
       module _ (unpaired : pair_of pairs top ≡ None) where
         CanAugment-tight_edge : CanAugment f (cost table) pairs root edges u v
-        CanAugment-tight_edge =
-            record {
-              paired = engine.paired;
-              tree = tree;
-              symmetric = symmetric (with_tree (Some root) edges) engine;
-              outer = tight_edge.outer;
-              exposed = λ t top_t holds_t. (
-                tight_edge.out t top_t holds_t,
-                ap (λ n. pair_of pairs n) (top-apart f fam t top v top_t is_top holds_t held) ∙
-                    unpaired,
-              );
-              tight = omega (arith, tight_edge.slack);
-            }
+        CanAugment-tight_edge = grind (arith, tree, symmetric, top-apart, fam, engine.paired, tight_edge.outer, tight_edge.out, tight_edge.slack)
 
         -- the top is one of the unpaired ones
         listed : Contains exposed top
@@ -189,7 +176,7 @@ module _ (f : Family) (table : Table) (pairs : List (Option Edge)) (exposed : Li
               }
 
           ended : steps_left done + 1 ≤ steps_left (with_tree (Some root) edges)
-          ended = fall (2 * leaf_count f - 1) (length rest) (length exposed) (rest_of f root edges) (2 * blossoms_of f) (taken.count listed)
+          ended = grind (arith, fall, listed, taken.count)
             where
               fall : (k m n r b : ℕ) → m + 1 ≡ n → k * m + b + 1 ≤ k * (n - 1) + 4 * r + 1 + b
               fall k m n r b e = let same : n - 1 ≡ m = omega arith in rw same (omega arith)
@@ -216,10 +203,10 @@ module _ (f : Family) (table : Table) (pairs : List (Option Edge)) (exposed : Li
   here = subst (λ (x : State). IsTightInto x root u v top) (sym is) into
 
   rooted : IsEngine (with_tree f table pairs exposed (Some root) edges)
-  rooted = subst (λ (x : Option ℕ). IsEngine (with_tree f table pairs exposed x edges)) here.root_is engine
+  rooted = grind (arith, here.root_is)
 
   reached : IsTightOuterFree (with_tree f table pairs exposed (Some root) edges) root u v
-  reached = subst (λ (x : Option ℕ). IsTightOuterFree (with_tree f table pairs exposed x edges) root u v) here.root_is here.tight_edge
+  reached = grind (arith, here.root_is, here.tight_edge)
 
   -- the root is a top
   pub root_top : IsTop f root
@@ -239,7 +226,7 @@ module _ (f : Family) (table : Table) (pairs : List (Option Edge)) (exposed : Li
 
     -- the pair leads to a leaf
     pub pair_leaf : pair.to < leaf_count f
-    pair_leaf = pair_low f table pairs exposed root edges rooted u v top reached here.is_top here.held pair pair_here
+    pair_leaf = grind (arith, pair_low, rooted, reached, pair_here, here.is_top, here.held)
 
     -- the state after the tree has grown is sound
     pub grown : (outer : ℕ) → IsTop f outer → Holds f outer pair.to →

@@ -1,5 +1,5 @@
 -- A tree edge more at the end of the tree.
-use Rattle.std.proofs.Common.{◌≡◌, ◌≢◌, ℕ, zero, suc, ◌<◌, List, [], ◌∷◌, ◌++◌, length, get_or, Option, None, Some, sym, ap, ◌∙◌, subst, inl, inr, arith, length-append}
+use Rattle.std.proofs.Common.{◌≡◌, ◌≢◌, ℕ, suc, ◌<◌, List, [], ◌∷◌, ◌++◌, length, get_or, Option, None, Some, sym, ap, ◌∙◌, subst, inl, inr, arith, length-append}
 use Rattle.std.proofs.lemmas.List.{get_or_append_left, map-append}
 use Rattle.sg_arena.specs.Family.{Family, Holds, IsTop}
 use Rattle.sg_slack.proofs.DistinctLemmas.{at_end}
@@ -17,25 +17,14 @@ pub IsTree-root : (f : Family) (cost : ℕ → ℕ → ℕ) (pairs : List (Optio
     IsTree f cost pairs root []
 IsTree-root f cost pairs root root_top root_free =
     record {
-      shape = record {
-        tops = record {
-          outer_tops = λ i low. only (λ n. IsTop f n) root_top i low;
-          inner_tops = λ i low. absurd (omega (arith, low));
-          outer_differ = λ i j low_i low_j same. omega (arith, low_i, low_j);
-          inner_differ = λ i j low_i low_j same. absurd (omega (arith, low_i));
-          apart = λ i j low_i low_j same. absurd (omega (arith, low_j));
-        };
-        edge = λ i low. absurd (omega (arith, low));
-        up_from = λ i low. absurd (omega (arith, low));
-      };
+      shape = record { tops = grind (arith, only, root_top); edge = λ i low. absurd (omega (arith, low)); up_from = λ i low. absurd (omega (arith, low)) };
       exposed_root = root_free;
       pair = λ i low. absurd (omega (arith, low));
       up_tight = λ i low. absurd (omega (arith, low));
     }
   where
     only : (P : ℕ → Type 0) → P root → (i : ℕ) → i < length (root ∷ []) → P (get_or (root ∷ []) i 0)
-    only P p zero low = p
-    only P p (suc i) low = absurd (omega (arith, low))
+    only P p i low = grind arith
 
 module _ (root : ℕ) (edges : List TreeEdge) (tree_edge : TreeEdge) where
   abbrev more : List TreeEdge
@@ -49,10 +38,7 @@ module _ (root : ℕ) (edges : List TreeEdge) (tree_edge : TreeEdge) where
 
   all_more : (P : ℕ → Type 0) (xs ys : List ℕ) (y : ℕ) → ys ≡ xs ++ y ∷ [] → ((i : ℕ) → i < length xs → P (get_or xs i 0)) → P y → (i : ℕ) →
       i < length ys → P (get_or ys i 0)
-  all_more P xs ys y made old new i low = elim (at_end xs y 0 i (subst (λ zs. i < length zs) made low)) [
-    | inl at ↦ subst (λ n. P n) (sym (ap (λ zs. get_or zs i 0) made ∙ at.1)) (old i at.0)
-    | inr at ↦ subst (λ n. P n) (sym (ap (λ zs. get_or zs i 0) made ∙ at.1)) new
-  ]
+  all_more P xs ys y made old new i low = grind (arith, at_end, made, low, old, new)
 
   -- what holds of each outer top
   pub outers_more : (P : ℕ → Type 0) → ((i : ℕ) → i < length (outers root edges) → P (get_or (outers root edges) i 0)) → P tree_edge.outer → (i : ℕ) →
@@ -68,7 +54,7 @@ module _ (root : ℕ) (edges : List TreeEdge) (tree_edge : TreeEdge) where
   outer_low j low = omega (arith, low, length-outers root edges, length-outers root more, length-append edges (tree_edge ∷ []))
 
   outer_old : (j : ℕ) → j < length (outers root edges) → get_or (outers root more) j 0 ≡ get_or (outers root edges) j 0
-  outer_old j low = ap (λ xs. get_or xs j 0) outers_are ∙ get_or_append_left (outers root edges) (tree_edge.outer ∷ []) 0 j low
+  outer_old j low = grind (arith, outers_are, get_or_append_left, tree_edge.outer, low)
 
   -- an outer leaf stays one
   pub outer_leaf_more : (f : Family) (l : ℕ) → IsOuterLeaf f root edges l → IsOuterLeaf f root more l
@@ -83,10 +69,7 @@ module _ (root : ℕ) (edges : List TreeEdge) (tree_edge : TreeEdge) where
   )
     where
       last : tree_edge_at more (length edges) ≡ tree_edge
-      last = elim (at_end edges tree_edge blank_tree_edge (length edges) (omega (arith, length-append edges (tree_edge ∷ [])))) [
-        | inl at ↦ absurd (omega (arith, at.0))
-        | inr at ↦ at.1
-      ]
+      last = grind (arith, at_end, length-append)
 
   module _ (f : Family) (cost : ℕ → ℕ → ℕ) (pairs : List (Option Edge)) (tree : IsTree f cost pairs root edges) (out_in : IsOut root edges tree_edge.inner)
       (out_out : IsOut root edges tree_edge.outer) (top_in : IsTop f tree_edge.inner) (top_out : IsTop f tree_edge.outer)
@@ -94,12 +77,8 @@ module _ (root : ℕ) (edges : List TreeEdge) (tree_edge : TreeEdge) where
       (pair_from : Holds f tree_edge.inner tree_edge.pair.from) (pair_to : Holds f tree_edge.outer tree_edge.pair.to)
       (up_from : Holds f tree_edge.inner tree_edge.up.from) (up_to : IsOuterLeaf f root edges tree_edge.up.to)
       (tight : IsTight f cost tree_edge.up.from tree_edge.up.to) where
-    each : (P : TreeEdge → Type 0) → ((i : ℕ) → i < length edges → P (tree_edge_at edges i)) → P tree_edge → (i : ℕ) → i < length more →
-        P (tree_edge_at more i)
-    each P old new i low = elim (at_end edges tree_edge blank_tree_edge i low) [
-      | inl at ↦ subst (λ (l : TreeEdge). P l) (sym at.1) (old i at.0)
-      | inr at ↦ subst (λ (l : TreeEdge). P l) (sym at.1) new
-    ]
+    each : (P : TreeEdge → Type 0) → ((i : ℕ) → i < length edges → P (tree_edge_at edges i)) → P tree_edge → (i : ℕ) → i < length more → P (tree_edge_at more i)
+    each P old new i low = grind (arith, at_end, low, old, new)
 
     -- a tight edge to a pair outside makes the tree longer by it
     pub IsTree-grown : IsTree f cost pairs root more

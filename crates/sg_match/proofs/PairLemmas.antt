@@ -76,8 +76,7 @@ module _ (f : Family) (good : ℕ → ℕ → Type 0) (pairs : List (Option Edge
               top_t,
               (λ same. apart (sym (same ∙ first.0))),
               subst (λ x. Holds f t x.to) first.1 in_t,
-              twice_second pairs s t (Some e)
-                  (Some (flipped e)) low_t ∙ ap (λ x. Some (flipped x)) first.1,
+              twice_second pairs s t (Some e) (Some (flipped e)) low_t ∙ ap (λ x. Some (flipped x)) first.1,
             )
             | inr rest ↦ elim rest [
               | inl second ↦ (

@@ -79,13 +79,7 @@ module _ (f : Family) (cost : ℕ → ℕ → ℕ) (r : ℕ) (edges : List TreeE
     | inr none ↦ elim (cases_in inner t) [
       | inl some ↦
           let changed : raised_dual outer inner delta t (dual_of f t) ≡ dual_of f t - delta = rw (none.1, some.3) refl in
-          omega (
-            arith,
-            total-raised_is f outer inner delta fam can t l (inner_top t at) in_t,
-            changed,
-            can.enough at.0 at.1,
-            ap (λ n. dual_of f n) at.2,
-          )
+          omega (arith, total-raised_is f outer inner delta fam can t l (inner_top t at) in_t, changed, can.enough at.0 at.1, ap (λ n. dual_of f n) at.2)
       | inr away ↦ absurd (away.0 at.0 at.1 at.2)
     ]
   ]
@@ -126,14 +120,12 @@ module _ (f : Family) (cost : ℕ → ℕ → ℕ) (r : ℕ) (edges : List TreeE
     (λ tight. omega (
       arith,
       tight,
-      between_moved s t u v (inner_top s at_s) (outer_top t at_t) (λ e. differ e) in_s in_t 0 delta delta 0 (inner_moves s at_s)
-          (outer_moves t at_t),
+      between_moved s t u v (inner_top s at_s) (outer_top t at_t) (λ e. differ e) in_s in_t 0 delta delta 0 (inner_moves s at_s) (outer_moves t at_t),
     )),
     (λ tight. omega (
       arith,
       tight,
-      between_moved t s v u (outer_top t at_t) (inner_top s at_s) (λ e. differ (sym e)) in_t in_s delta 0 0 delta
-          (outer_moves t at_t) (inner_moves s at_s),
+      between_moved t s v u (outer_top t at_t) (inner_top s at_s) (λ e. differ (sym e)) in_t in_s delta 0 0 delta (outer_moves t at_t) (inner_moves s at_s),
     )),
   )
     where
@@ -290,8 +282,7 @@ module _ (f : Family) (cost : ℕ → ℕ → ℕ) (r : ℕ) (edges : List TreeE
             omega (
               arith,
               paired.tight t p top is,
-              between_moved t m.0 p.from p.to top m.1 (λ e. m.2 (sym e)) (paired.own t p top is) m.3 0 0 0 0
-                  (free_moves t top out) (free_moves m.0 m.1 out_m),
+              between_moved t m.0 p.from p.to top m.1 (λ e. m.2 (sym e)) (paired.own t p top is) m.3 0 0 0 0 (free_moves t top out) (free_moves m.0 m.1 out_m),
             )
 
   -- the unpaired tops

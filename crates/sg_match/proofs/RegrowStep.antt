@@ -1,5 +1,5 @@
 -- A tree over another family, grown anew from the tree edges of an old one, in order.
-use Rattle.std.proofs.Common.{◌≡◌, ◌≢◌, ◌⊎◌, ℕ, zero, suc, ◌<◌, ◌≤◌, List, [], ◌∷◌, ◌++◌, length, get_or, Option, Some, None, sym, ap, ◌∙◌, subst, inl, inr, arith}
+use Rattle.std.proofs.Common.{◌≡◌, ◌≢◌, ◌⊎◌, ℕ, suc, ◌<◌, ◌≤◌, List, [], ◌∷◌, ◌++◌, length, get_or, Option, Some, None, sym, ap, ◌∙◌, subst, inl, inr, arith}
 use Rattle.std.proofs.lemmas.Bool.{cases_lt}
 use Rattle.sg_arena.specs.Family.{Family, Holds, IsTop}
 use Rattle.sg_match.proofs.GrowStep.{IsTree-grown, IsTree-root, inners_more, outer_leaf_last, outer_leaf_more, outers_more}
@@ -18,24 +18,17 @@ pub record IsRegrown (f g : Family) (cost : ℕ → ℕ → ℕ) (now : List (Op
   pub tree : IsTree g cost now top_root done
   pub outs : (i : ℕ) → i < length (outers top_root done) → NewOut (get_or (outers top_root done) i 0) ⊎
       ((j : ℕ) × (j ≤ k) × (get_or (outers root edges) j 0 ≡ get_or (outers top_root done) i 0))
-  pub ins : (i : ℕ) → i < length (inners done) → NewIn (get_or (inners done) i 0) ⊎
-      ((j : ℕ) × (j < k) × (get_or (inners edges) j 0 ≡ get_or (inners done) i 0))
+  pub ins : (i : ℕ) → i < length (inners done) → NewIn (get_or (inners done) i 0) ⊎ ((j : ℕ) × (j < k) × (get_or (inners edges) j 0 ≡ get_or (inners done) i 0))
   pub hit : (j l : ℕ) → j ≤ k → Holds f (get_or (outers root edges) j 0) l → IsOuterLeaf g top_root done l
 
 -- before the first tree edge
 pub IsRegrown-init : (f g : Family) (cost : ℕ → ℕ → ℕ) (now : List (Option Edge)) (root top_root : ℕ) (edges : List TreeEdge) (NewOut NewIn : ℕ → Type 0) →
     IsTop g top_root → pair_of now top_root ≡ None → NewOut top_root ⊎ ((j : ℕ) × (j ≤ 0) × (get_or (outers root edges) j 0 ≡ top_root)) →
     ((l : ℕ) → Holds f root l → Holds g top_root l) → IsRegrown f g cost now root top_root edges NewOut NewIn [] 0
-IsRegrown-init f g cost now root top_root edges NewOut NewIn top free named leaves = record {
-  tree = IsTree-root g cost now top_root top free;
-  outs = λ i low. only (λ n. NewOut n ⊎ ((j : ℕ) × (j ≤ 0) × (get_or (outers root edges) j 0 ≡ n))) named i low;
-  ins = λ i low. absurd (omega (arith, low));
-  hit = λ j l low held. (0, omega arith, leaves l (subst (λ i. Holds f (get_or (outers root edges) i 0) l) (none j low) held));
-}
+IsRegrown-init f g cost now root top_root edges NewOut NewIn top free named leaves = grind (arith, IsTree-root, only, none, top, free, named, leaves)
   where
     only : (P : ℕ → Type 0) → P top_root → (i : ℕ) → i < length (outers top_root []) → P (get_or (outers top_root []) i 0)
-    only P p zero low = p
-    only P p (suc i) low = absurd (omega (arith, low))
+    only P p i low = grind arith
 
     none : (j : ℕ) → j ≤ 0 → j ≡ 0
     none j low = omega (arith, low)
@@ -51,18 +44,10 @@ module _ (f g : Family) (cost : ℕ → ℕ → ℕ) (pairs now : List (Option E
       IsRegrown f g cost now root top_root edges NextOut NextIn (done ++ e ∷ []) n
   IsRegrown-add NextOut NextIn e n less more_out more_in grown out inn leaves = record {
     tree = grown;
-    outs = outers_more top_root done e (λ t. NextOut t ⊎ ((j : ℕ) × (j ≤ n) × (get_or (outers root edges) j 0 ≡ t))) (λ i low. elim (is.outs i low) [
-      | inl new ↦ inl (more_out (get_or (outers top_root done) i 0) new)
-      | inr at ↦ inr (at.0, omega (arith, at.1, less), at.2)
-    ]) out;
-    ins = inners_more top_root done e (λ t. NextIn t ⊎ ((j : ℕ) × (j < n) × (get_or (inners edges) j 0 ≡ t))) (λ i low. elim (is.ins i low) [
-      | inl new ↦ inl (more_in (get_or (inners done) i 0) new)
-      | inr at ↦ inr (at.0, omega (arith, at.1, less), at.2)
-    ]) inn;
-    hit = λ j l low held. elim (cases_lt k j) [
-      | inl new ↦ outer_leaf_last top_root done e g l (leaves j l new low held)
-      | inr old ↦ outer_leaf_more top_root done e g l (is.hit j l old held)
-    ];
+    outs = outers_more top_root done e (λ t. NextOut t ⊎ ((j : ℕ) × (j ≤ n) × (get_or (outers root edges) j 0 ≡ t)))
+        (grind (arith, is.outs, more_out, less)) out;
+    ins = inners_more top_root done e (λ t. NextIn t ⊎ ((j : ℕ) × (j < n) × (get_or (inners edges) j 0 ≡ t))) (grind (arith, is.ins, more_in, less)) inn;
+    hit = grind (arith, cases_lt, outer_leaf_last, outer_leaf_more, leaves, is.hit);
   }
 
   module _ (low : k < length edges) where
@@ -98,16 +83,14 @@ module _ (f g : Family) (cost : ℕ → ℕ → ℕ) (pairs now : List (Option E
     inner_out no_out no_in = record {
       outer = λ i low_i same. elim (is.outs i low_i) [
         | inl new ↦ no_out (subst (λ t. NewOut t) same new)
-        | inr at ↦ tree.shape.tops.apart at.0 k (outer_low at.0 (omega (arith, at.1))) (inner_low k (omega arith))
-            (at.2 ∙ same ∙ sym (inner_at edges k low))
+        | inr at ↦ tree.shape.tops.apart at.0 k (outer_low at.0 (omega (arith, at.1))) (inner_low k (omega arith)) (at.2 ∙ same ∙ sym (inner_at edges k low))
       ];
       inner = λ i low_i same. elim (is.ins i low_i) [
         | inl new ↦ no_in (subst (λ t. NewIn t) same new)
         | inr at ↦ absurd (omega (
           arith,
           at.1,
-          tree.shape.tops.inner_differ at.0 k (inner_low at.0 (omega (arith, at.1))) (inner_low k (omega arith))
-              (at.2 ∙ same ∙ sym (inner_at edges k low)),
+          tree.shape.tops.inner_differ at.0 k (inner_low at.0 (omega (arith, at.1))) (inner_low k (omega arith)) (at.2 ∙ same ∙ sym (inner_at edges k low)),
         ))
       ];
     }
@@ -123,18 +106,9 @@ module _ (f g : Family) (cost : ℕ → ℕ → ℕ) (pairs now : List (Option E
         IsRegrown f g cost now root top_root edges NextOut NewIn done (suc k)
     IsRegrown-skip NextOut more_out leaves = record {
       tree = is.tree;
-      outs = λ i low_i. elim (is.outs i low_i) [
-        | inl new ↦ inl (more_out (get_or (outers top_root done) i 0) new)
-        | inr at ↦ inr (at.0, omega (arith, at.1), at.2)
-      ];
-      ins = λ i low_i. elim (is.ins i low_i) [
-        | inl new ↦ inl new
-        | inr at ↦ inr (at.0, omega (arith, at.1), at.2)
-      ];
-      hit = λ j l less held. elim (cases_lt k j) [
-        | inl new ↦ leaves l (at_next j l new less held)
-        | inr old ↦ is.hit j l old held
-      ];
+      outs = grind (arith, is.outs, more_out);
+      ins = grind (arith, is.ins);
+      hit = grind (arith, cases_lt, at_next, leaves, is.hit);
     }
 
     -- or goes on, maybe with another outer top

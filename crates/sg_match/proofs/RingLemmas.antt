@@ -113,8 +113,7 @@ module _ (ring turned : List Link) (is : IsBackwards ring turned) where
                   let there : length ring - (length ring - s.0) ≡ s.0 = omega (arith, s.1) in (
                     length ring - s.0,
                     omega (arith, s.1, some, is.count),
-                    later_back (length ring - s.0) (omega (arith, s.1)) (omega (arith, s.1, some)) ∙
-                        ap (λ x. (link_at ring x).node) there ∙ s.2,
+                    later_back (length ring - s.0) (omega (arith, s.1)) (omega (arith, s.1, some)) ∙ ap (λ x. (link_at ring x).node) there ∙ s.2,
                   )
             ];
       }

@@ -108,8 +108,7 @@ module _ (s : State) (engine : IsEngine s) (rootless : s.root ≡ None) where
         omega (arith, fallen, whole, was)
 
     -- the tree is begun, and no step is taken
-    pub begun : IsEngine (record { family = s.family; table = s.table; pairs = s.pairs; exposed = rest; root = Some root; edges = s.edges }) ×
-        (steps_left (record { family = s.family; table = s.table; pairs = s.pairs; exposed = rest; root = Some root; edges = s.edges }) ≤ steps_left s)
+    pub begun : IsEngine (record s { exposed = rest; root = Some root }) × (steps_left (record s { exposed = rest; root = Some root }) ≤ steps_left s)
     begun = (
       record {
         costs = engine.costs;

@@ -43,12 +43,7 @@ path_at f (l ∷ (m ∷ rest)) head tail zero low p =
     }
 path_at f (l ∷ rest) head tail (suc i) low p =
     let at = path_at f rest p.3.0 tail i (omega (arith, low)) p.3.2 in
-    record {
-      top = at.top;
-      from = at.from;
-      next = λ less. at.next (omega (arith, less));
-      last = λ e. at.last (omega (arith, e));
-    }
+    record { top = at.top; from = at.from; next = λ less. at.next (omega (arith, less)); last = λ e. at.last (omega (arith, e)) }
 
 -- a path begins at its head
 pub path_head : (f : Family) (path : List Link) (head tail : ℕ) → 0 < length path → IsPath f path head tail → (link_at path 0).node ≡ head
@@ -210,8 +205,7 @@ module _ (f : Family) (cost : ℕ → ℕ → ℕ) (b : ℕ) (cycle : List Link)
                       IsTop-shrink f b cycle fam can dead room,
                       (λ same. away (sym same)),
                       new_holds f b cycle fam can dead room hit.0 p.to hit.1 (subst (λ n. Holds f n p.to) (sym hit.2) m.3),
-                      now_new ∙
-                          ap (λ n. pair_of pairs n) (sym e ∙ hit.2) ∙ m.4,
+                      now_new ∙ ap (λ n. pair_of pairs n) (sym e ∙ hit.2) ∙ m.4,
                     )
                     | inr e ↦
                         let back = closed hit.0 (flipped p) hit.1 e (ap (λ n. pair_of pairs n) hit.2 ∙ m.4) in

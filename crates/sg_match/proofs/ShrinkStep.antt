@@ -48,11 +48,7 @@ module _ (s : State) (root : ℕ) (engine : IsEngine s) (rooted : s.root ≡ Som
 
   -- all tree edges are tight
   pub all_tight : HasTight f price s.edges
-  all_tight = record {
-    up = tree.up_tight;
-    pair = pair_tight f price s.pairs root s.edges fam engine.paired tree;
-    symmetric = symmetric s engine;
-  }
+  all_tight = record { up = tree.up_tight; pair = pair_tight f price s.pairs root s.edges fam engine.paired tree; symmetric = symmetric s engine }
 
   -- of the outer tops the root alone is unpaired
   exposed_outer : (j n : ℕ) → j < length (outers root s.edges) → get_or (outers root s.edges) j 0 ≡ n → pair_of s.pairs n ≡ None → n ≡ root
@@ -230,21 +226,8 @@ module _ (s : State) (root : ℕ) (engine : IsEngine s) (rooted : s.root ≡ Som
         }
 
         abbrev Sound : Family → Option Edge → List TreeEdge → Type 0
-        Sound h p edges = IsEngine (record {
-          family = h;
-          table = s.table;
-          pairs = set s.pairs b p;
-          exposed = s.exposed;
-          root = Some top_root;
-          edges = edges;
-        }) × (steps_left (record {
-          family = h;
-          table = s.table;
-          pairs = set s.pairs b p;
-          exposed = s.exposed;
-          root = Some top_root;
-          edges = edges;
-        }) + 2 ≤ steps_left s)
+        Sound h p edges = IsEngine (record s { family = h; pairs = set s.pairs b p; root = Some top_root; edges = edges }) ×
+            (steps_left (record s { family = h; pairs = set s.pairs b p; root = Some top_root; edges = edges }) + 2 ≤ steps_left s)
 
         -- the same, where the family, the pair and the tree edges are only known to be these
         pub shrunk : (h : Family) → h ≡ g → (p : Option Edge) → p ≡ get_or s.pairs base p → (edges : List TreeEdge) → edges ≡ shrunk_edges h b s.edges →

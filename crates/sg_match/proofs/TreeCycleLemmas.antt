@@ -77,14 +77,12 @@ module _ (f : Family) (root : ℕ) (edges : List TreeEdge) (fam : IsFamily f) (s
         head_at = (
           at_v.0,
           omega (arith, at_v.1, length-outers root edges),
-          top-apart f fam (get_or (outers root edges) at_v.0 0) head v
-              (shape.tops.outer_tops at_v.0 at_v.1) top_head at_v.2 in_head,
+          top-apart f fam (get_or (outers root edges) at_v.0 0) head v (shape.tops.outer_tops at_v.0 at_v.1) top_head at_v.2 in_head,
         );
         tail_at = (
           at_u.0,
           omega (arith, at_u.1, length-outers root edges),
-          top-apart f fam (get_or (outers root edges) at_u.0 0) tail u
-              (shape.tops.outer_tops at_u.0 at_u.1) top_tail at_u.2 in_tail,
+          top-apart f fam (get_or (outers root edges) at_u.0 0) tail u (shape.tops.outer_tops at_u.0 at_u.1) top_tail at_u.2 in_tail,
         );
         some = λ same. absurd (apart same);
       }
@@ -126,8 +124,7 @@ module _ (f : Family) (root : ℕ) (edges : List TreeEdge) (fam : IsFamily f) (s
     only_head j n low at in_n = elim (is.spot n in_n) [
       | inl here ↦ here
       | inr s ↦ elim s.is [
-        | inl inn ↦ absurd (shape.tops.apart j s.at (up_place j low) (omega (arith, s.low, length-inners edges))
-            (at ∙ inn ∙ sym (inner_at edges s.at s.low)))
+        | inl inn ↦ absurd (shape.tops.apart j s.at (up_place j low) (omega (arith, s.low, length-inners edges)) (at ∙ inn ∙ sym (inner_at edges s.at s.low)))
         | inr out ↦ absurd (omega (
           arith,
           low,
@@ -147,8 +144,7 @@ module _ (f : Family) (root : ℕ) (edges : List TreeEdge) (fam : IsFamily f) (s
           s.late,
           shape.tops.inner_differ i s.at low_in (omega (arith, s.low, length-inners edges)) (at ∙ inn ∙ sym (inner_at edges s.at s.low)),
         ))
-        | inr out ↦ shape.tops.apart (suc s.at) i (omega (arith, s.low, length-outers root edges)) low_in
-            (outer_at root edges s.at s.low ∙ sym out ∙ sym at)
+        | inr out ↦ shape.tops.apart (suc s.at) i (omega (arith, s.low, length-outers root edges)) low_in (outer_at root edges s.at s.low ∙ sym out ∙ sym at)
       ]
     ]
 
@@ -159,16 +155,7 @@ module _ (f : Family) (root : ℕ) (edges : List TreeEdge) (fam : IsFamily f) (s
     -- the tree edge is on neither side
     pub IsTreeCycle-skip : tree_edge.outer ≢ tail → tree_edge.outer ≢ head → IsTreeCycle f root edges cycle i head tail
     IsTreeCycle-skip away_tail away_head =
-        record {
-          path = is.path;
-          within = omega (arith, within);
-          odd = is.odd;
-          differ = is.differ;
-          spot = λ n in_n. elim (is.spot n in_n) [ inl here ↦ inl here | inr s ↦ inr (spot_more nodes n (λ m h. h) s) ];
-          head_at = below head away_head is.head_at;
-          tail_at = below tail away_tail is.tail_at;
-          some = is.some;
-        }
+        grind (arith, spot_more, below, is.path, is.odd, is.differ, is.spot, away_head, is.head_at, away_tail, is.tail_at, is.some)
       where
         below : (n : ℕ) → tree_edge.outer ≢ n → ((j : ℕ) × (j ≤ i + 1) × (get_or (outers root edges) j 0 ≡ n)) → (j : ℕ) × (j ≤ i) ×
             (get_or (outers root edges) j 0 ≡ n)

@@ -43,8 +43,7 @@ module _ (f : Family) (r : ℕ) (edges : List TreeEdge) (shape : IsShape f r edg
   edge_room = omega (
     arith,
     length-outers r edges,
-    short (outers r edges) (length f.nodes) shape.tops.outer_differ
-        (λ i low. name_bound f (get_or (outers r edges) i 0) (shape.tops.outer_tops i low).alive),
+    short (outers r edges) (length f.nodes) shape.tops.outer_differ (λ i low. name_bound f (get_or (outers r edges) i 0) (shape.tops.outer_tops i low).alive),
   )
 
   module _ (fam : IsFamily f) (i : ℕ) (low : i < length edges) where
@@ -71,8 +70,7 @@ out_holds f fam r edges outer_tops inner_tops t l top held out = (
 pub outer_cases : (r : ℕ) (edges : List TreeEdge) (i : ℕ) → i < length (outers r edges) → ((i ≡ 0) × (get_or (outers r edges) i 0 ≡ r)) ⊎
     ((j : ℕ) × (j < length edges) × (i ≡ suc j) × (get_or (outers r edges) i 0 ≡ (tree_edge_at edges j).outer))
 outer_cases r edges zero low = inl (refl, refl)
-outer_cases r edges (suc j) low = let within : j < length edges = omega (arith, low, length-outers r edges) in inr
-    (j, within, refl, outer_at r edges j within)
+outer_cases r edges (suc j) low = let within : j < length edges = omega (arith, low, length-outers r edges) in inr (j, within, refl, outer_at r edges j within)
 
 module _ (f : Family) (cost : ℕ → ℕ → ℕ) (pairs : List (Option Edge)) (r : ℕ) (edges : List TreeEdge) (fam : IsFamily f)
     (paired : IsPaired f (IsTight f cost) pairs) (tree : IsTree f cost pairs r edges) where

@@ -1,5 +1,5 @@
 -- `begin_anew`: an unpaired top is taken from the list as the root.
-use Rattle.std.proofs.Common.{◌≤◌, Some, ap, ◌∙◌, subst, rules}
+use Rattle.std.proofs.Common.{arith, ◌≤◌, Some, ap, ◌∙◌, rules}
 use Rattle.sg_match.proofs.Engine.begin_anew.Goals as goal
 use Rattle.sg_match.proofs.Engine.begin_anew.Goals.{In-Some}
 use Rattle.sg_match.proofs.EngineLemmas.{state_of}
@@ -9,14 +9,7 @@ use Rattle.sg_match.specs.State.{State}
 use Rattle.sg_match.specs.Steps.{steps_left}
 
 abbrev last : (c : In-Some) → State
-last c = record {
-  family = c.self.inside.arena;
-  table = c.self.inside.near.table;
-  pairs = c.self.inside.pairs.items;
-  exposed = c.pop.new.self.items;
-  root = Some c.in-Some.root;
-  edges = c.self.inside.edges.items;
-}
+last c = record (state_of c.self.inside) { exposed = c.pop.new.self.items; root = Some c.in-Some.root }
 
 after : (c : In-Some) → IsEngine (last c) × (steps_left (last c) ≤ steps_left (state_of c.self.inside))
 after c =
@@ -30,6 +23,4 @@ pub returns-in-Some-clause-engine : goal.returns-in-Some-clause-engine
 returns-in-Some-clause-engine c = (after (goal.at.returns-in-Some-clause-engine c).In-Some).0
 
 pub returns-in-Some-clause-left : goal.returns-in-Some-clause-left
-returns-in-Some-clause-left c =
-    let here = (goal.at.returns-in-Some-clause-left c).In-Some in
-    subst (λ s. steps_left (last here) ≤ steps_left s) c.self.view_is (after here).1
+returns-in-Some-clause-left c = grind (arith, after, c, c.self.view_is)

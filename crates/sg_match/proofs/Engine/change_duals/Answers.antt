@@ -74,8 +74,7 @@ raise_tree-requires-clause-inner g c =
     omega (arith, fits g (goal.at.raise_tree-requires-clause-inner g c).After-self, c.self.invariant.inner, ap (λ xs. length xs) c.deref-3.ensures.value)
 
 pub raise_tree-requires-clause-whole : goal.raise_tree-requires-clause-whole
-raise_tree-requires-clause-whole g c = let p = changing g (goal.at.raise_tree-requires-clause-whole g c).After-least_dual-delta in omega
-    (arith, ints, p.whole)
+raise_tree-requires-clause-whole g c = let p = changing g (goal.at.raise_tree-requires-clause-whole g c).After-least_dual-delta in omega (arith, ints, p.whole)
 
 pub raise_tree-requires-clause-tops : goal.raise_tree-requires-clause-tops
 raise_tree-requires-clause-tops g c =

@@ -38,13 +38,9 @@ ring_cut g c is = cut (state_of c.self.inside) c.args.node c.place_of_inner-at.r
 
 -- the state at the end
 abbrev last : (g : Over) (c : After-expand_edge g) → State
-last g c = record {
+last g c = record (state_of c.self.inside) {
   family = c.expand.new.self;
-  table = c.self.inside.near.table;
   pairs = (with_items c.self.inside.pairs c.pair_ring.new.pairs).items;
-  exposed =
-      c.self.inside.exposed.items;
-  root = c.self.inside.root;
   edges = c.expand_edge.new.edges.items;
 }
 

@@ -83,15 +83,11 @@ shrink_edges-requires-clause-to g c i low =
 
 -- what the state is at the end
 abbrev last : (g : Over) (c : goal.After-shrink_edges g) → State
-last g c = record {
+last g c = record (state_of c.self.inside) {
   family = c.shrink-blossom.new.self;
-  table = c.self.inside.near.table;
-  pairs =
-      set c.self.inside.pairs.items c.shrink-blossom.result c.index.result.now;
-  exposed = c.self.inside.exposed.items;
+  pairs = set c.self.inside.pairs.items c.shrink-blossom.result c.index.result.now;
   root = Some c.renamed.result;
-  edges =
-      c.shrink_edges.new.edges.items;
+  edges = c.shrink_edges.new.edges.items;
 }
 
 shrinking : (g : Over) (c : goal.After-shrink_edges g) → (state_of c.self.inside).root ≡ Some c.args.root →
@@ -142,5 +138,4 @@ pub returns-clause-less : goal.returns-clause-less
 returns-clause-less g c = subst (λ s. steps_left (last g c) + 2 ≤ steps_left s) c.self.view_is (ending g c).1
 
 pub returns-clause-alike : goal.returns-clause-alike
-returns-clause-alike g c =
-    omega (arith, c.shrink-blossom.ensures.taken, c.shrink-blossom.ensures.counted, ap (λ (s : State). s.family.steps) c.self.view_is)
+returns-clause-alike g c = omega (arith, c.shrink-blossom.ensures.taken, c.shrink-blossom.ensures.counted, ap (λ (s : State). s.family.steps) c.self.view_is)

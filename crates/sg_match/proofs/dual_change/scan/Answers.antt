@@ -34,8 +34,7 @@ free_at c =
       amount = here.0;
       slack = is;
       same = same;
-      again = whole_is (to_z w64 (of_z w64 free.slack)) here.0 same
-          (subst (λ z. FitsSigned w64 z) (sym (same ∙ sym is)) fits);
+      again = whole_is (to_z w64 (of_z w64 free.slack)) here.0 same (subst (λ z. FitsSigned w64 z) (sym (same ∙ sym is)) fits);
     }
 
 -- the least slack of two outer leaves, and its half
@@ -63,14 +62,12 @@ both_at c =
 whole : (z : ℤ) (n : ℕ) → z ≡ pos n → z ≡ pos (nat_of z)
 whole z n is = is ∙ ap (λ x. pos (nat_of x)) (sym is)
 
-pub returns-in-Some-both-clause-whole :
-    goal.returns-in-Some-both-clause-whole
+pub returns-in-Some-both-clause-whole : goal.returns-in-Some-both-clause-whole
 returns-in-Some-both-clause-whole c =
     let at = both_at (goal.at.returns-in-Some-both-clause-whole c).In-Some-both in
     whole _ at.amount at.half
 
-pub returns-in-Some-both-clause-scanned :
-    goal.returns-in-Some-both-clause-scanned
+pub returns-in-Some-both-clause-scanned : goal.returns-in-Some-both-clause-scanned
 returns-in-Some-both-clause-scanned c =
     let free = c.in-Some.free in
     let q = c.in-Some-both.both in
@@ -83,14 +80,12 @@ returns-in-Some-both-clause-scanned c =
     (goal.at.returns-in-Some-both-clause-scanned c).In-Some)
     (both_is (goal.at.returns-in-Some-both-clause-scanned c).In-Some-both) at.slack (omega (arith, ints, less, here.slack)))
 
-pub returns-in_default-both-clause-whole :
-    goal.returns-in_default-both-clause-whole
+pub returns-in_default-both-clause-whole : goal.returns-in_default-both-clause-whole
 returns-in_default-both-clause-whole c =
     let here = free_at (goal.at.returns-in_default-both-clause-whole c).In-Some in
     whole _ here.amount here.same
 
-pub returns-in_default-both-clause-scanned :
-    goal.returns-in_default-both-clause-scanned
+pub returns-in_default-both-clause-scanned : goal.returns-in_default-both-clause-scanned
 returns-in_default-both-clause-scanned c =
     let free = c.in-Some.free in
     let q = c.in-Some-both.both in
@@ -104,14 +99,12 @@ returns-in_default-both-clause-scanned c =
     here.slack c.least_outer_outer-both.ensures
     (λ p is_p. let same = same_Some q p (sym c.in-Some-both.is ∙ is_p) in omega (arith, ints, more, ap (λ x. x.slack) same, at.slack)))
 
-pub returns-in_default-both-2-clause-whole :
-    goal.returns-in_default-both-2-clause-whole
+pub returns-in_default-both-2-clause-whole : goal.returns-in_default-both-2-clause-whole
 returns-in_default-both-2-clause-whole c =
     let here = free_at (goal.at.returns-in_default-both-2-clause-whole c).In-Some in
     whole _ here.amount here.same
 
-pub returns-in_default-both-2-clause-scanned :
-    goal.returns-in_default-both-2-clause-scanned
+pub returns-in_default-both-2-clause-scanned : goal.returns-in_default-both-2-clause-scanned
 returns-in_default-both-2-clause-scanned c =
     let free = c.in-Some.free in
     let here = free_at (goal.at.returns-in_default-both-2-clause-scanned c).In-Some in

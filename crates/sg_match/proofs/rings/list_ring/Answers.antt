@@ -48,13 +48,7 @@ after-next-requires-in-loop-next c =
 pub loop-next-smaller : goal.loop-next-smaller
 loop-next-smaller c =
     let fits = ring_fits (goal.at.loop-next-smaller c).In-loop-next in
-    omega (
-      arith,
-      fits,
-      ap (λ xs. length xs) c.push_reserved-in-loop-next.ensures.items,
-      length-append c.loop-next.ring.items
-          (c.link-in-loop-next.result ∷ []),
-    )
+    omega (arith, fits, ap (λ xs. length xs) c.push_reserved-in-loop-next.ensures.items, length-append c.loop-next.ring.items (c.link-in-loop-next.result ∷ []))
 
 pub loop-next-preserved : goal.loop-next-preserved
 loop-next-preserved c = record {

@@ -67,8 +67,7 @@ loop-head-preserved-then-tree_edge-tail c =
         c.loop-head.invariant.count,
         at.0,
         ap (λ xs. length xs) made,
-        length-append c.loop-head.cycle.items
-            (down_link (tree_edge_at edges i) ∷ up_link (tree_edge_at edges i) ∷ []),
+        length-append c.loop-head.cycle.items (down_link (tree_edge_at edges i) ∷ up_link (tree_edge_at edges i) ∷ []),
       );
       room = c.lengthen_tail.ensures.capacity ∙ c.loop-head.invariant.room;
       find_cycle = subst (λ xs. IsTreeCycle f c.args.root edges xs i c.loop-head.head next.result) (sym made)
