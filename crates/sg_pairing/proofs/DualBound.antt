@@ -19,13 +19,10 @@ cond-sum_by true g slots = refl
 cond-sum_by false g slots = sym (sum_by-zero (λ s. 0) slots (λ s. refl))
 
 cond-le : (t : Bool) (x y : ℕ) → x ≤ y → cond t x 0 ≤ cond t y 0
-cond-le true x y h = h
-cond-le false x y h = omega arith
+cond-le t x y h = grind arith
 
 weigh : (t a : Bool) (d : ℕ) → cond t (cond a d 0) 0 ≡ d * cond t (cond a 1 0) 0
-weigh true true d = sym (mul-one d)
-weigh true false d = sym (mul-zero d)
-weigh false a d = sym (mul-zero d)
+weigh t a d = grind (arith, mul-one, mul-zero)
 
 module _ (f : Family) (mates : List ℕ) where
   -- the mate of a leaf
@@ -125,5 +122,4 @@ module _ (f : Family) (mates : List ℕ) where
 -- so no pairing costs less than a matching
 pub matching_least : (f : Family) (cost : ℕ → ℕ → ℕ) (mates other : List ℕ) → IsFamily f → NoSlackIsNegative f cost → IsMatching f cost mates →
     IsPairing (leaf_count f) other → pairing_cost cost mates ≤ pairing_cost cost other
-matching_least f cost mates other fam slack matching pairing =
-    omega (arith, cost-is_duals f mates cost matching, duals-le_cost f other pairing cost fam slack)
+matching_least f cost mates other fam slack matching pairing = omega (arith, cost-is_duals f mates cost matching, duals-le_cost f other pairing cost fam slack)

@@ -37,24 +37,15 @@ pick h x n low = sum_below-same (λ v. cond (eqb x v) (h v) 0) (λ v. cond (eqb 
     ]
 
 cond-sum : (b : Bool) (x y : ℕ) → cond b x 0 + cond b y 0 ≡ cond b (x + y) 0
-cond-sum true x y = refl
-cond-sum false x y = refl
+cond-sum b x y = grind arith
 
 -- both ends of a pair, counted: the pair crosses once, or lies inside
 ends : (t a b : Bool) → cond t (cond a 1 0 + cond b 1 0) 0 ≡ cond t (cond (exactly_one a b) 1 0) 0 + 2 * cond t (cond (a && b) 1 0) 0
-ends true true true = refl
-ends true true false = refl
-ends true false true = refl
-ends true false false = refl
-ends false a b = refl
+ends t a b = grind arith
 
 -- a pair is left through one of its ends
 way_out : (t a b : Bool) → cond t (cond (a && not b) 1 0 + cond (b && not a) 1 0) 0 ≡ cond t (cond (exactly_one a b) 1 0) 0
-way_out true true true = refl
-way_out true true false = refl
-way_out true false true = refl
-way_out true false false = refl
-way_out false a b = refl
+way_out t a b = grind arith
 
 -- how many pairs have exactly one leaf that passes
 abbrev pub crossings : ℕ → (ℕ → ℕ) → (ℕ → Bool) → ℕ
@@ -113,8 +104,7 @@ module _ (k : ℕ) (m : ℕ → ℕ) (low : (u : ℕ) → u < k → m u < k) (ba
           some (crossings k m p) (sum_below (λ u. cond (ltb u (m u)) (cond (p u && p (m u)) 1 0) 0) k) (ap (λ n. n % 2) (sym whole) ∙ odd)
         where
           some : (c i : ℕ) → (c + 2 * i) % 2 ≡ 1 → 1 ≤ c
-          some zero i e = absurd (omega (arith, e))
-          some (suc c) i e = omega arith
+          some c i e = omega arith
 
       -- the pairs that cross, by the leaf that passes
       crossings-exits : crossings k m p ≡ sum_below (λ u. cond (p u && not (p (m u))) 1 0) k
@@ -140,6 +130,4 @@ module _ (k : ℕ) (m : ℕ → ℕ) (low : (u : ℕ) → u < k → m u < k) (ba
           ]
             where
               stays : (a b : Bool) → (a ≡ true → b ≡ false → ⊥) → (a && not b) ≡ false
-              stays true true h = refl
-              stays true false h = absurd (h refl refl)
-              stays false b h = refl
+              stays a b h = grind arith
