@@ -22,9 +22,7 @@ count_by-one_fewer p q xs k low sub out is =
     (rw (out, is) (omega arith))
   where
     at_most : (a b : Bool) → (a ≡ true → b ≡ true) → cond {A = ℕ} a 1 0 ≤ cond b 1 0
-    at_most true true sub = omega arith
-    at_most true false sub = absurd (false≢true (sub refl))
-    at_most false b sub = omega arith
+    at_most a b sub = grind (arith, false≢true)
 
 -- a shrink makes one blossom more
 pub blossoms-shrunk : (f : Family) (b : ℕ) (cycle : List Link) → node_at f b ≡ None → b < length f.nodes → 0 < length cycle →
@@ -55,9 +53,7 @@ blossoms-expanded f b blossom room =
     go (Some n) less = some n.cycle less n refl
 
 turn : (a b : Bool) → (a ≡ true → b ≡ true) → not b ≡ true → not a ≡ true
-turn true true sub e = e
-turn true false sub e = absurd (false≢true (sub refl))
-turn false b sub e = refl
+turn a b sub e = grind (arith, false≢true)
 
 -- the leaves that no outer top holds are fewer once more leaves are held, and one is for the first time
 pub rest-fewer : (f g : Family) (r s : ℕ) (old new : List TreeEdge) → leaf_count g ≡ leaf_count f →
