@@ -45,11 +45,10 @@ module _ (inst : Ising) where
   one_component some connected = record {
     named = record {
       count = length-replicate inst.n 0;
-      each = λ x l. let name : get_or (replicate inst.n 0) x 0 ≡ 0 = get_or-replicate inst.n x 0 0 l in
-          record {
-            reached = subst (Reached inst all_bonds x) (sym name) (reached_back inst all_bonds 0 x (connected x l));
-            least = λ j r. omega (arith, name);
-          };
+      each = λ x l. record {
+        reached = rw (get_or-replicate {A = ℕ} inst.n x 0 0 l) (reached_back inst all_bonds 0 x (connected x l));
+        least = λ j r. omega (arith, get_or-replicate {A = ℕ} inst.n x 0 0 l);
+      };
     };
     least = connected_leasts inst some connected;
   }
@@ -62,8 +61,7 @@ module _ (inst : Ising) where
     -- where there is one, it is the name of each spin
     pub connected_from_one : 1 ≤ inst.n → length leasts ≡ 1 → IsConnected inst
     connected_from_one some one i l =
-        let same : get_or names i 0 ≡ get_or names 0 0 = alone leasts one (get_or names i 0) (get_or names 0 0) (listed i l)
-        (listed 0 (omega (arith, some))) in
+        let same : get_or names i 0 ≡ get_or names 0 0 = alone leasts one (get_or names i 0) (get_or names 0 0) (listed i l) (listed 0 (omega (arith, some))) in
         let here : Reached inst all_bonds i (get_or names 0 0) = subst (Reached inst all_bonds i) same (are.named.each i l).reached in
         reached_on inst all_bonds 0 (get_or names 0 0) i (are.named.each 0 (omega (arith, some))).reached
         (reached_back inst all_bonds i (get_or names 0 0) here)

@@ -36,10 +36,7 @@ module _ (inst : Ising) where
   -- the spins that have their own name over all bonds are the least ones of the components
   pub are_leasts : (all : List Bool) (names : List ℕ) → all ≡ replicate (bond_count inst) true → AllNamed inst (has all) names
       → AreLeasts inst (self_named names)
-  are_leasts all names is named = record {
-    rising = chosen_below_rises own (length names);
-    each = λ i. ((λ h. there i h), (λ h. back i h.0 h.1));
-  }
+  are_leasts all names is named = record { rising = chosen_below_rises own (length names); each = λ i. ((λ h. there i h), (λ h. back i h.0 h.1)) }
     where
       own : ℕ → Bool
       own i = eqb (get_or names i 0) i

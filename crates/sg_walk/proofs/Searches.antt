@@ -22,8 +22,7 @@ noted_still : (order : List ℕ) (y x : ℕ) → Stands order x → Stands (orde
 noted_still order y x (k, l, e) = (k, omega (arith, l, length_push order y), get_or_append_left order (y ∷ []) 0 k l ∙ e)
 
 -- one spin more is marked
-pub one_marked : (marks : List Bool) (x : ℕ) → x < length marks → get_or marks x false ≡ false →
-    unmarked_count (set marks x true) + 1 ≡ unmarked_count marks
+pub one_marked : (marks : List Bool) (x : ℕ) → x < length marks → get_or marks x false ≡ false → unmarked_count (set marks x true) + 1 ≡ unmarked_count marks
 one_marked marks x l free =
     let s : unmarked_count (set marks x true) + cond (not (get_or marks x false)) 1 0 ≡ unmarked_count marks + 0 =
     sum_by-set (λ z. cond (not z) 1 0) marks x true false l in
@@ -31,8 +30,7 @@ one_marked marks x l free =
     omega arith
 
 -- a spin that is not marked now was not before
-pub free_before : (old now : List Bool) (x : ℕ) → ((y : ℕ) → IsMarked old y → IsMarked now y) → get_or now x false ≡ false →
-    get_or old x false ≡ false
+pub free_before : (old now : List Bool) (x : ℕ) → ((y : ℕ) → IsMarked old y → IsMarked now y) → get_or now x false ≡ false → get_or old x false ≡ false
 free_before old now x kept free = by_mark (get_or old x false) refl
   where
     by_mark : (b : Bool) → get_or old x false ≡ b → get_or old x false ≡ false
@@ -103,8 +101,7 @@ module _ (inst : Ising) (bonds : ℕ → Bool) (spin : ℕ) where
       }
         where
           -- an old entry is marked, and the new one was not
-          once' : (j k : ℕ) → length before ≤ j → j < k → k < length (after ++ to ∷ []) →
-              get_or (after ++ to ∷ []) j 0 ≢ get_or (after ++ to ∷ []) k 0
+          once' : (j k : ℕ) → length before ≤ j → j < k → k < length (after ++ to ∷ []) → get_or (after ++ to ∷ []) j 0 ≢ get_or (after ++ to ∷ []) k 0
           once' j k a b c e =
               let long : length (after ++ to ∷ []) ≡ length after + 1 = length_push after to in
               let first : get_or (after ++ to ∷ []) j 0 ≡ get_or after j 0 = get_or_append_left after (to ∷ []) 0 j (omega arith) in
@@ -118,8 +115,7 @@ module _ (inst : Ising) (bonds : ℕ → Bool) (spin : ℕ) where
           found' : (x : ℕ) → IsMarked (set now to true) x → IsMarked old x ⊎ Stands (after ++ to ∷ []) x
           found' x h = ⊎_elim
               (λ (m : IsMarked now x). ⊎_elim (λ (o : IsMarked old x). inl o) (λ (c : Stands after x). inr (noted_still after to x c)) (w.found x m))
-              (λ (e : x ≡ to). inr (noted_push after to x (sym e)))
-              (marked_or_here now to x h)
+              (λ (e : x ≡ to). inr (noted_push after to x (sym e))) (marked_or_here now to x h)
 
 module _ (inst : Ising) (good : IsInstance inst) (bonds : ℕ → Bool) (root : ℕ) (base : List Bool) where
   -- at the start the root alone is marked and noted
@@ -149,8 +145,7 @@ module _ (inst : Ising) (good : IsInstance inst) (bonds : ℕ → Bool) (root : 
   order_in marks order next k h l = omega (arith, marked_in marks (get_or order k 0) (h.sound k l), h.lengths)
 
   -- one spin more is visited
-  pub search_more : (old now : List Bool) (before after : List ℕ) (next : ℕ) → next < length before →
-      SearchedTo inst bonds root base old before next →
+  pub search_more : (old now : List Bool) (before after : List ℕ) (next : ℕ) → next < length before → SearchedTo inst bonds root base old before next →
       Visits inst bonds (get_or before next 0) (darts_of inst (get_or before next 0)) old now before after → SearchedTo inst bonds root base now after
       (next + 1)
   search_more old now before after next l h v = record {
@@ -159,8 +154,7 @@ module _ (inst : Ising) (good : IsInstance inst) (bonds : ℕ → Bool) (root : 
     root_marked = v.kept root h.root_marked;
     sound = both (IsMarked now) (λ k c. v.kept (get_or before k 0) (h.sound k c)) v.sound;
     fresh = both (λ x. get_or base x false ≡ false) h.fresh (λ k b c. free_before base old (get_or after k 0) h.kept (v.fresh k b c));
-    reached =
-        both (Reached inst bonds root) h.reached
+    reached = both (Reached inst bonds root) h.reached
         (λ k b c. reached_more inst bonds root (get_or before next 0) (get_or after k 0) (h.reached next l) (v.joined k b c));
     root_first = (omega (arith, h.root_first.0, v.longer), v.stays 0 h.root_first.0 ∙ h.root_first.1);
     found_from = found_from';
@@ -191,25 +185,18 @@ module _ (inst : Ising) (good : IsInstance inst) (bonds : ℕ → Bool) (root : 
         where
           by_place : j < length before → (k < length before) ⊎ (length before ≤ k) → ⊥
           by_place was (inl l) = h.once j k b l (sym (v.stays j was) ∙ e ∙ v.stays k l)
-          by_place was (inr l) = let w : false ≡ true = sym (v.fresh k l c) ∙ ap (λ x. get_or old x false) (sym e ∙ v.stays j was)
-              ∙ h.sound j was in cc
+          by_place was (inr l) = let w : false ≡ true = sym (v.fresh k l c) ∙ ap (λ x. get_or old x false) (sym e ∙ v.stays j was) ∙ h.sound j was in cc
 
       found_from' : (k : ℕ) → 0 < k → k < length after → IsFoundFrom inst bonds after k
       found_from' k p b = elim (cases_lt k (length before)) [
-        | inl c ↦ (let f : IsFoundFrom inst bonds before k = h.found_from k p c in (
-          f.0,
-          f.1,
-          subst (λ x. JoinedBy inst bonds x (get_or after k 0)) (sym (v.stays f.0 (omega (arith, f.1))))
-              (subst (JoinedBy inst bonds (get_or before f.0 0)) (sym (v.stays k c)) f.2),
-        ))
+        | inl c ↦ (let f : IsFoundFrom inst bonds before k = h.found_from k p c in (f.0, f.1, rw (v.stays f.0 (omega (arith, f.1)), v.stays k c) f.2))
         | inr c ↦ (next, omega arith, subst (λ x. JoinedBy inst bonds x (get_or after k 0)) (sym (v.stays next l)) (v.joined k c b))
       ]
 
       done' : (k : ℕ) → k < next + 1 → All (IsSeen inst bonds now) (darts_of inst (get_or after k 0))
       done' k b = subst (λ s. All (IsSeen inst bonds now) (darts_of inst s)) (sym (v.stays k (omega arith))) (elim (cases_eq k next) [
         | inl e ↦ subst (λ j. All (IsSeen inst bonds now) (darts_of inst (get_or before j 0))) (sym e) v.heads
-        | inr ne ↦
-            All-weaker (IsSeen inst bonds old) (IsSeen inst bonds now) (λ d m e. v.kept (head_of inst d) (m e)) (darts_of inst (get_or before k 0))
+        | inr ne ↦ All-weaker (IsSeen inst bonds old) (IsSeen inst bonds now) (λ d m e. v.kept (head_of inst d) (m e)) (darts_of inst (get_or before k 0))
             (h.done k (omega arith))
       ])
 
@@ -232,8 +219,7 @@ module _ (inst : Ising) (good : IsInstance inst) (bonds : ℕ → Bool) (root : 
   }
     where
       step : (a b : ℕ) → JoinedBy inst bonds a b →
-          ((d : ℕ) × (d < dart_count inst) × (tail inst d ≡ a) × (head_of inst d ≡ b) × (bonds (d / 2) ≡ true)) → Stands order a →
-          IsMarked marks b
+          ((d : ℕ) × (d < dart_count inst) × (tail inst d ≡ a) × (head_of inst d ≡ b) × (bonds (d / 2) ≡ true)) → Stands order a → IsMarked marks b
       step a b j (d, l, leaves, leads, inside) (k, kl, e) =
           let heads : All (IsSeen inst bonds marks) (darts_of inst a) =
           subst (λ s. All (IsSeen inst bonds marks) (darts_of inst s)) e (h.done k (omega (arith, kl))) in

@@ -29,19 +29,11 @@ module _ (inst : Ising) (set : ℕ → Bool) (spin : ℕ) (old now : List Bool) 
     ]
 
     named_now : (x : ℕ) → IsMarked old x ⊎ Stands order x → IsNamed inst set after x
-    named_now x (inl h) =
-        let name : get_or after x 0 ≡ get_or before x 0 = stays x h in
-        record {
-          reached = subst (Reached inst set x) (sym name) (was.named x h).reached;
-          least = λ j q. subst (λ y. y ≤ j) (sym name) ((was.named x h).least j q);
-        }
+    named_now x (inl h) = record { reached = rw (stays x h) (was.named x h).reached; least = rw (stays x h) (was.named x h).least }
     named_now x (inr (k, l, e)) =
         let name : get_or after x 0 ≡ spin = ap (λ y. get_or after y 0) (sym e) ∙ given k l in
         let found : Reached inst set spin x = subst (Reached inst set spin) e (walk.reached k l) in
-        record {
-          reached = subst (Reached inst set x) (sym name) (reached_back inst set spin x found);
-          least = λ j q. subst (λ y. y ≤ j) (sym name) (root_least x j found q);
-        }
+        record { reached = rw name (reached_back inst set spin x found); least = λ j q. rw name (root_least x j found q) }
 
     -- one walk more names the spins that it finds
     pub named_more : NamedTo inst set now after (spin + 1)

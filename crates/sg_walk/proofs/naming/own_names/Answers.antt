@@ -10,7 +10,6 @@ loop-spin-preserved c =
     let spin : ℕ = c.loop-spin.spin in
     elim c.if-names-spin.branch [
       | then-names-spin+in_ok-push w ↦ rw w.list-is (w.in_ok-push.ensures.items ∙ ap (λ (xs : List ℕ). xs ++ spin ∷ []) c.loop-spin.invariant
-          ∙ sym (chosen_below_yes own spin (eq-eqb (get_or c.args.names.now spin 0) spin w.if-names-spin.true)))
-      | else-names-spin w ↦ rw w.list-is (c.loop-spin.invariant ∙ sym (chosen_below_no own spin
-          (ne_eqb (get_or c.args.names.now spin 0) spin w.if-names-spin.false)))
+          ∙ sym (chosen_below_yes own spin (eq-eqb _ _ w.if-names-spin.true)))
+      | else-names-spin w ↦ rw w.list-is (c.loop-spin.invariant ∙ sym (chosen_below_no own spin (ne_eqb _ _ w.if-names-spin.false)))
     ]
