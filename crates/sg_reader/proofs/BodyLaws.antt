@@ -52,10 +52,8 @@ module _ {X : Type 0} (p : Kept → Bool) (f : Kept → X) where
       by (Some q) = refl
 
   -- what all records that pass give, with one more record
-  said-with : (body : List Kept) (r : Kept) (b : Bool) → p r ≡ b
-      → map f (filter p (body ++ r ∷ [])) ≡ map f (filter p body) ++ map f (cond b (r ∷ []) [])
-  said-with body r b is =
-      ap (map f) (filter-append p body (r ∷ [])) ∙ map-append f (filter p body) (filter p (r ∷ []))
+  said-with : (body : List Kept) (r : Kept) (b : Bool) → p r ≡ b → map f (filter p (body ++ r ∷ [])) ≡ map f (filter p body) ++ map f (cond b (r ∷ []) [])
+  said-with body r b is = ap (map f) (filter-append p body (r ∷ [])) ∙ map-append f (filter p body) (filter p (r ∷ []))
       ∙ ap (λ (c : Bool). map f (filter p body) ++ map f (cond c (r ∷ []) [])) is
 
   -- one that passes
@@ -67,8 +65,7 @@ module _ {X : Type 0} (p : Kept → Bool) (f : Kept → X) where
   said-other body r other = said-with body r false other ∙ append-nil (map f (filter p body))
 
 -- a seam behind a body without one
-pub seam_in-first : (body : List Kept) (r : Kept) → is_some (seam_in body) ≡ false → says_seam r ≡ true
-    → seam_in (body ++ r ∷ []) ≡ Some (sizes_from r 1)
+pub seam_in-first : (body : List Kept) (r : Kept) → is_some (seam_in body) ≡ false → says_seam r ≡ true → seam_in (body ++ r ∷ []) ≡ Some (sizes_from r 1)
 unfolding seam_in
 seam_in-first body r none is = given-first says_seam (λ q. sizes_from q 1) body r none is
 
@@ -94,8 +91,7 @@ couplings_in-seam body r seam =
     let test : Kept → Bool = λ q. not (says_seam q) in
     let f : Kept → List ℤ = λ q. numbers_from q 0 in
     ap (flat_map f) (filter-append test body (r ∷ [])) ∙ flat_map-append f (filter test body) (filter test (r ∷ []))
-    ∙ ap (λ (b : Bool). flat_map f (filter test body) ++ flat_map f (cond (not b) (r ∷ []) [])) seam
-    ∙ append-nil (flat_map f (filter test body))
+    ∙ ap (λ (b : Bool). flat_map f (filter test body) ++ flat_map f (cond (not b) (r ∷ []) [])) seam ∙ append-nil (flat_map f (filter test body))
 
 -- a list that may be given once and passes is the first
 pub sole_list_fault-passes : (seen : Bool) (r : Kept) → sole_list_fault seen r ≡ None → seen ≡ false
@@ -112,15 +108,13 @@ number_in-small r i = by (number_of (field r i)) (λ z e. size-of_number (field 
 
 numbers-small : (r : Kept) (a n : ℕ) → All (λ j. unsigned_abs j < 2 ^ 63) (map (λ i. number_in r i) (range_with_len a n))
 numbers-small r a zero = All-nil (λ j. unsigned_abs j < 2 ^ 63)
-numbers-small r a (suc n) =
-    All-cons (λ j. unsigned_abs j < 2 ^ 63) (number_in r a) (map (λ i. number_in r i) (range_with_len (a + 1) n)) (number_in-small r a)
+numbers-small r a (suc n) = All-cons (λ j. unsigned_abs j < 2 ^ 63) (number_in r a) (map (λ i. number_in r i) (range_with_len (a + 1) n)) (number_in-small r a)
     (numbers-small r (a + 1) n)
 
 all-small : (rs : List Kept) → All (λ j. unsigned_abs j < 2 ^ 63) (flat_map (λ q. numbers_from q 0) rs)
 all-small [] = All-nil (λ j. unsigned_abs j < 2 ^ 63)
 all-small (r ∷ rs) =
-    All-append (λ j. unsigned_abs j < 2 ^ 63) (numbers_from r 0) (flat_map (λ q. numbers_from q 0) rs) (numbers-small r 0 (length r.fields - 0))
-    (all-small rs)
+    All-append (λ j. unsigned_abs j < 2 ^ 63) (numbers_from r 0) (flat_map (λ q. numbers_from q 0) rs) (numbers-small r 0 (length r.fields - 0)) (all-small rs)
 
 -- a coupling that is read is less than 2^63 in size
 pub couplings_in-small : (body : List Kept) → All (λ j. unsigned_abs j < 2 ^ 63) (couplings_in body)

@@ -40,8 +40,7 @@ records_left-more a b row h read first flexible =
         between = between;
         setup = read.2 ∙ h.setup;
         untrimmed = read.3 ∙ h.untrimmed;
-        any_length = flexible
-            ∙ h.any_length;
+        any_length = flexible ∙ h.any_length;
         ready = inl first;
       },
     )

@@ -29,14 +29,13 @@ IsBody-more fault body r h other good = record {
   where
     at : (k : ℕ) → k < length (body ++ r ∷ []) → fault (take k (body ++ r ∷ [])) (record_at (body ++ r ∷ []) k) ≡ None
     at k inside =
-        let count = length_push body r in
         elim (cases_eq k (length body)) [
           | inl e ↦
               let front : take k (body ++ r ∷ []) ≡ body = take_at body (r ∷ []) k (sym e) in
               let here : record_at (body ++ r ∷ []) k ≡ r = get_or_at body r [] (record { at = 0; fields = [] }) k (sym e) in
               rw (front, here) good
           | inr other ↦
-              let below : k < length body = omega (arith, count) in
+              let below : k < length body = omega (arith, length_push body r) in
               let front : take k (body ++ r ∷ []) ≡ take k body = take-append-le k body (r ∷ []) (omega arith) in
               let here : record_at (body ++ r ∷ []) k ≡ record_at body k = get_or_append_left body (r ∷ []) (record { at = 0; fields = [] }) k below in
               rw (front, here) (h.passes k below)
@@ -45,10 +44,7 @@ IsBody-more fault body r h other good = record {
 -- one record more in front
 IsBody-cons : (fault : TestTable) (q : Kept) (body : List Kept) → says_end q ≡ false → fault [] q ≡ None
     → IsBody (λ front. fault (q ∷ front)) body → IsBody fault (q ∷ body)
-IsBody-cons fault q body other good h = record {
-  goes_on = All-cons (λ (r : Kept). says_end r ≡ false) q body other h.goes_on;
-  passes = at;
-}
+IsBody-cons fault q body other good h = record { goes_on = All-cons (λ (r : Kept). says_end r ≡ false) q body other h.goes_on; passes = at }
   where
     at : (k : ℕ) → k < length (q ∷ body) → fault (take k (q ∷ body)) (record_at (q ∷ body) k) ≡ None
     at zero inside = good
@@ -125,16 +121,11 @@ module _ {S : Type 0} (tests : S → TestTable) (holds : S → List Kept → S �
   -- one more is refused
   pub taken-fault : (r : Kept) (rest : List Kept) (e : Fault) → left ≡ r ∷ rest → RefusesNext tests holds now r e
       → Fails (RefusesRecords (tests start) all) all rest e
-  taken-fault r rest e next bad =
-      record-fault (tests start) all sf.body r rest e (divided r rest next) sf.is_body (bad.refused start sf.body sf.held)
+  taken-fault r rest e next bad = record-fault (tests start) all sf.body r rest e (divided r rest next) sf.is_body (bad.refused start sf.body sf.held)
 
   -- the `end` comes
   pub taken-end : (r : Kept) (rest : List Kept) → left ≡ r ∷ rest → says_end r ≡ true → HoldsToEnd tests holds start all now r rest
-  taken-end r rest next end = record {
-    body = sf.body;
-    ended = record { split = divided r rest next; is_body = sf.is_body; ends = end };
-    held = sf.held;
-  }
+  taken-end r rest next end = record { body = sf.body; ended = record { split = divided r rest next; is_body = sf.is_body; ends = end }; held = sf.held }
 
   -- none is left
   pub taken-without : (rest : List Kept) → left ≡ [] → rest ≡ [] → RefusesRecords (tests start) all Unended rest
@@ -144,7 +135,6 @@ module _ {S : Type 0} (tests : S → TestTable) (holds : S → List Kept → S �
 
 -- at the `end` a test fails, or an allocation for it fails
 pub end-fault : {S : Type 0} (tests : S → TestTable) (holds : S → List Kept → S → Type 0) (start : S)
-    (all : List Kept) (now : S) (last : Kept) (rest : List Kept)
-    (h : HoldsToEnd tests holds start all now last rest) (e : Fault)
+    (all : List Kept) (now : S) (last : Kept) (rest : List Kept) (h : HoldsToEnd tests holds start all now last rest) (e : Fault)
     → OrNoMemory (Refuses (tests start h.body last)) e → Fails (RefusesRecords (tests start) all) all rest e
 end-fault tests holds start all now last rest h e bad = record-fault (tests start) all h.body last rest e h.ended.split h.ended.is_body bad

@@ -39,14 +39,12 @@ unfolding general_fault
 general_fault-bond n body r h = rw h refl
 
 -- a `rot` is tested as one of its spin
-pub general_fault-rot : (n : ℕ) (body : List Kept) (r : Kept) → says_rot r ≡ true →
-    general_fault n body r ≡ rot_fault n (has_rot body (size_in r 1)) r
+pub general_fault-rot : (n : ℕ) (body : List Kept) (r : Kept) → says_rot r ≡ true → general_fault n body r ≡ rot_fault n (has_rot body (size_in r 1)) r
 unfolding general_fault
 general_fault-rot n body r h = rw (other-word r (codes "rot") (codes "bond") h refl, h) refl
 
 -- a `seam` is tested as one behind the others
-pub general_fault-seam : (n : ℕ) (body : List Kept) (r : Kept) → says_seam r ≡ true →
-    general_fault n body r ≡ sole_list_fault (is_some (seam_in body)) r
+pub general_fault-seam : (n : ℕ) (body : List Kept) (r : Kept) → says_seam r ≡ true → general_fault n body r ≡ sole_list_fault (is_some (seam_in body)) r
 unfolding general_fault
 general_fault-seam n body r h = rw (other-word r (codes "seam") (codes "bond") h refl, other-word r (codes "seam") (codes "rot") h refl, h) refl
 
@@ -54,16 +52,11 @@ general_fault-seam n body r h = rw (other-word r (codes "seam") (codes "bond") h
 pub general_fault-end : (n : ℕ) (body : List Kept) (r : Kept) → says_end r ≡ true → general_fault n body r ≡ field_count_fault 1 r
 unfolding general_fault
 general_fault-end n body r h =
-    rw (
-      other-word r (codes "end") (codes "bond") h refl,
-      other-word r (codes "end") (codes "rot") h refl,
-      other-word r (codes "end") (codes "seam") h refl,
-      h,
-    ) refl
+    let other = other-word r (codes "end") in
+    rw (other (codes "bond") h refl, other (codes "rot") h refl, other (codes "seam") h refl, h) refl
 
 -- any other record is of no known kind
-pub general_fault-other : (n : ℕ) (body : List Kept) (r : Kept) → says_bond r ≡ false → says_rot r ≡ false →
-    says_seam r ≡ false → says_end r ≡ false
+pub general_fault-other : (n : ℕ) (body : List Kept) (r : Kept) → says_bond r ≡ false → says_rot r ≡ false → says_seam r ≡ false → says_end r ≡ false
     → general_fault n body r ≡ Some (UnknownKind r.at)
 unfolding general_fault
 general_fault-other n body r a b c d = rw (a, b, c, d) refl
@@ -93,16 +86,14 @@ table-set : {X : Type 0} (f g : ℕ → X) (n s : ℕ) (v : X) → s < n → g s
     → set (map f (range_with_len 0 n)) s v ≡ map g (range_with_len 0 n)
 table-set {X} f g n s v inside here others =
     let count = length-map-range_with_len f 0 n in
-    let count_g = length-map-range_with_len g 0 n in
     let count_s = length-set (map f (range_with_len 0 n)) s v in
-    same_lists (set (map f (range_with_len 0 n)) s v) (map g (range_with_len 0 n)) (count_s ∙ count ∙ sym count_g) (λ k d k_in.
+    same_lists (set (map f (range_with_len 0 n)) s v) (map g (range_with_len 0 n)) (count_s ∙ count ∙ sym (length-map-range_with_len g 0 n)) (λ k d k_in.
     let below : k < n = omega (arith, count, count_s) in
-    let right = get_or-map-range_with_len g 0 n k k d below (omega arith) in
     elim (cases_eq k s) [
       | inl e ↦ rw e (get_or-set_same (map f (range_with_len 0 n)) s v d (omega (arith, count)) ∙ sym here
           ∙ sym (get_or-map-range_with_len g 0 n s s d inside (omega arith)))
       | inr other ↦ get_or-set_other (map f (range_with_len 0 n)) s k v d other ∙ get_or-map-range_with_len f 0 n k k d below (omega arith)
-          ∙ sym (others k other) ∙ sym right
+          ∙ sym (others k other) ∙ sym (get_or-map-range_with_len g 0 n k k d below (omega arith))
     ])
 
 table-same : {X : Type 0} (f g : ℕ → X) (n : ℕ) → ((i : ℕ) → g i ≡ f i) → map f (range_with_len 0 n) ≡ map g (range_with_len 0 n)
@@ -124,8 +115,7 @@ darts-kept body r n h = table-same (rot_in body) (rot_in (body ++ r ∷ [])) n (
 
 bond-tested : (old : GeneralBody) (r : Kept) (m : ℕ) → m ≡ length old.bonds → says_bond r ≡ true → (start : GeneralBody) (body : List Kept)
     → HoldsGeneral start body old → general_fault start.n body r ≡ bond_fault old.n m r
-bond-tested old r m many is start body h =
-    general_fault-bond start.n body r is ∙ ap (λ (l : List Bond). bond_fault start.n (length l) r) (sym h.bonds)
+bond-tested old r m many is start body h = general_fault-bond start.n body r is ∙ ap (λ (l : List Bond). bond_fault start.n (length l) r) (sym h.bonds)
     ∙ ap (λ (k : ℕ). bond_fault start.n k r) (sym many) ∙ ap (λ (k : ℕ). bond_fault k m r) (sym h.spins)
 
 -- a `bond` is taken
@@ -134,51 +124,40 @@ pub bond-taken : (old new : GeneralBody) (r : Kept) (m : ℕ) → m ≡ length o
     → IsBond old.n (bond_of r) → m < bond_limit → TakesNext (λ s. general_fault s.n) HoldsGeneral old r new
 bond-taken old new r m many is good same added lists cut sound room = record {
   passes = λ start body h. bond-tested old r m many is start body h ∙ good;
-  goes_on = λ start body h.
-      let count = length-append old.bonds (bond_of r ∷ []) in
-      let all = ap length added in
-      let some = h.some in
-      record {
-        spins = same ∙ h.spins;
-        some = omega (arith, same, some);
-        bonds = added ∙ ap (λ (l : List Bond). l ++ bond_of r ∷ []) h.bonds ∙ sym (bonds_in-more body r is);
-        few = omega (arith, all, count, many, room);
-        joined = rw same (All-same (IsBond old.n) new.bonds (old.bonds ++ bond_of r ∷ []) added
-            (All-append (IsBond old.n) old.bonds (bond_of r ∷ []) h.joined (All-cons (IsBond old.n) (bond_of r) [] sound (All-nil (IsBond old.n)))));
-        darts = rw same (lists ∙ h.darts ∙ darts-kept body r old.n (other-word r (codes "bond") (codes "rot") is refl));
-        seam = cut ∙ h.seam ∙ sym (seam_in-other body r (other-word r (codes "bond") (codes "seam") is refl));
-      };
+  goes_on = λ start body h. record {
+    spins = same ∙ h.spins;
+    some = omega (arith, same, h.some);
+    bonds = added ∙ ap (λ (l : List Bond). l ++ bond_of r ∷ []) h.bonds ∙ sym (bonds_in-more body r is);
+    few = omega (arith, ap length added, length-append old.bonds (bond_of r ∷ []), many, room);
+    joined = rw same (All-same (IsBond old.n) new.bonds (old.bonds ++ bond_of r ∷ []) added
+        (All-append (IsBond old.n) old.bonds (bond_of r ∷ []) h.joined (All-cons (IsBond old.n) (bond_of r) [] sound (All-nil (IsBond old.n)))));
+    darts = rw same (lists ∙ h.darts ∙ darts-kept body r old.n (other-word r (codes "bond") (codes "rot") is refl));
+    seam = cut ∙ h.seam ∙ sym (seam_in-other body r (other-word r (codes "bond") (codes "seam") is refl));
+  };
 }
 
 -- a `bond` is refused
-pub bond-refused : (old : GeneralBody) (r : Kept) (m : ℕ) (x : Refusal) → m ≡ length old.bonds → says_bond r ≡ true
-    → bond_fault old.n m r ≡ Some x
+pub bond-refused : (old : GeneralBody) (r : Kept) (m : ℕ) (x : Refusal) → m ≡ length old.bonds → says_bond r ≡ true → bond_fault old.n m r ≡ Some x
     → RefusesNext (λ s. general_fault s.n) HoldsGeneral old r (Refused x)
 bond-refused old r m x many is bad = record { refused = λ start body h. bond-tested old r m many is start body h ∙ bad }
 
 -- what is kept behind a record that gives no bond
-behind-other : (old new : GeneralBody) (start : GeneralBody) (body : List Kept) (r : Kept) → says_bond r ≡ false → new.n ≡ old.n
-    → new.bonds ≡ old.bonds
+behind-other : (old new : GeneralBody) (start : GeneralBody) (body : List Kept) (r : Kept) → says_bond r ≡ false → new.n ≡ old.n → new.bonds ≡ old.bonds
     → HoldsGeneral start body old → new.rotation ≡ map (rot_in (body ++ r ∷ [])) (range_with_len 0 old.n) → new.seam ≡ seam_in (body ++ r ∷ [])
     → HoldsGeneral start (body ++ r ∷ []) new
-behind-other old new start body r other same kept h darts cut =
-    let count = ap length kept in
-    let few = h.few in
-    let some = h.some in
-    record {
-      spins = same ∙ h.spins;
-      some = omega (arith, same, some);
-      bonds = kept ∙ h.bonds ∙ sym (bonds_in-other body r other);
-      few = omega (arith, count, few);
-      joined = rw (same, kept) h.joined;
-      darts = rw same darts;
-      seam = cut;
-    }
+behind-other old new start body r other same kept h darts cut = record {
+  spins = same ∙ h.spins;
+  some = omega (arith, same, h.some);
+  bonds = kept ∙ h.bonds ∙ sym (bonds_in-other body r other);
+  few = omega (arith, ap length kept, h.few);
+  joined = rw (same, kept) h.joined;
+  darts = rw same darts;
+  seam = cut;
+}
 
 seam-tested : (old : GeneralBody) (r : Kept) (seen : Bool) → is_some old.seam ≡ seen → says_seam r ≡ true → (start : GeneralBody) (body : List Kept)
     → HoldsGeneral start body old → general_fault start.n body r ≡ sole_list_fault seen r
-seam-tested old r seen was is start body h =
-    general_fault-seam start.n body r is ∙ ap (λ (b : Bool). sole_list_fault b r) (sym (ap is_some h.seam) ∙ was)
+seam-tested old r seen was is start body h = general_fault-seam start.n body r is ∙ ap (λ (b : Bool). sole_list_fault b r) (sym (ap is_some h.seam) ∙ was)
 
 -- a `seam` is taken
 pub seam-taken : (old new : GeneralBody) (r : Kept) (seen : Bool) → is_some old.seam ≡ seen → says_seam r ≡ true → sole_list_fault seen r ≡ None
@@ -205,15 +184,13 @@ rot-of start body state i d h inside = ap (λ (l : List (Option (List ℕ))). ge
 rot-tested : (old : GeneralBody) (r : Kept) (seen : Bool) (d : Option (List ℕ)) → is_some (get_or old.rotation (size_in r 1) d) ≡ seen
     → size_in r 1 < old.n → says_rot r ≡ true
     → (start : GeneralBody) (body : List Kept) → HoldsGeneral start body old → general_fault start.n body r ≡ rot_fault old.n seen r
-rot-tested old r seen d was inside is start body h =
-    general_fault-rot start.n body r is
+rot-tested old r seen d was inside is start body h = general_fault-rot start.n body r is
     ∙ ap (λ (b : Bool). rot_fault start.n b r) (sym (ap is_some (rot-of start body old (size_in r 1) d h inside)) ∙ was)
     ∙ ap (λ (k : ℕ). rot_fault k seen r) (sym h.spins)
 
 -- a `rot` is taken
 pub rot-taken : (old new : GeneralBody) (r : Kept) (d : Option (List ℕ)) → is_some (get_or old.rotation (size_in r 1) d) ≡ false
-    → size_in r 1 < old.n → says_rot r ≡ true
-    → rot_fault old.n false r ≡ None → new.n ≡ old.n → new.bonds ≡ old.bonds → new.seam ≡ old.seam
+    → size_in r 1 < old.n → says_rot r ≡ true → rot_fault old.n false r ≡ None → new.n ≡ old.n → new.bonds ≡ old.bonds → new.seam ≡ old.seam
     → new.rotation ≡ set old.rotation (size_in r 1) (Some (sizes_from r 2)) → TakesNext (λ s. general_fault s.n) HoldsGeneral old r new
 rot-taken old new r d was inside is good same kept cut lists = record {
   passes = λ start body h. rot-tested old r false d was inside is start body h ∙ good;
@@ -229,18 +206,15 @@ rot-taken old new r d was inside is good same kept cut lists = record {
 
 -- a second `rot` of a spin is refused
 pub rot-refused : (old : GeneralBody) (r : Kept) (d : Option (List ℕ)) (x : Refusal) → is_some (get_or old.rotation (size_in r 1) d) ≡ true
-    → size_in r 1 < old.n → says_rot r ≡ true → rot_fault old.n true r ≡ Some x
-    → RefusesNext (λ s. general_fault s.n) HoldsGeneral old r (Refused x)
+    → size_in r 1 < old.n → says_rot r ≡ true → rot_fault old.n true r ≡ Some x → RefusesNext (λ s. general_fault s.n) HoldsGeneral old r (Refused x)
 rot-refused old r d x was inside is bad = record { refused = λ start body h. rot-tested old r true d was inside is start body h ∙ bad }
 
 -- a `rot` is refused for a number, whether its spin was seen or not
 pub rot-numbers : (old : GeneralBody) (r : Kept) (e : Fault) → says_rot r ≡ true → ((seen : Bool) → OrNoMemory (Refuses (rot_fault old.n seen r)) e)
     → RefusesNext (λ s. general_fault s.n) HoldsGeneral old r e
 rot-numbers old r e is bad = record {
-  refused = λ start body h.
-      let same : general_fault start.n body r ≡ rot_fault old.n (has_rot body (size_in r 1)) r =
-      general_fault-rot start.n body r is ∙ ap (λ (k : ℕ). rot_fault k (has_rot body (size_in r 1)) r) (sym h.spins) in
-      rw same (bad (has_rot body (size_in r 1)));
+  refused = λ start body h. rw (general_fault-rot start.n body r is ∙ ap (λ (k : ℕ). rot_fault k (has_rot body (size_in r 1)) r) (sym h.spins))
+      (bad (has_rot body (size_in r 1)));
 }
 
 -- any other record is refused
@@ -270,24 +244,21 @@ instance-general start body state seam h cut =
 pub holds-none : (state : GeneralBody) → 1 ≤ state.n → state.bonds ≡ [] → state.seam ≡ None
     → state.rotation ≡ map (rot_in []) (range_with_len 0 state.n) → HoldsGeneral state [] state
 unfolding bonds_in seam_in
-holds-none state some none cut darts =
-    let count = ap length none in
-    record {
-      spins = refl;
-      some = some;
-      bonds = none;
-      few = omega (arith, count);
-      joined = All-same (IsBond state.n) state.bonds [] none (All-nil (IsBond state.n));
-      darts = darts;
-      seam = cut;
-    }
+holds-none state some none cut darts = record {
+  spins = refl;
+  some = some;
+  bonds = none;
+  few = omega (arith, ap length none);
+  joined = All-same (IsBond state.n) state.bonds [] none (All-nil (IsBond state.n));
+  darts = darts;
+  seam = cut;
+}
 
 -- one more spin without darts
 pub no_darts-more : (lists : List (Option (List ℕ))) (i : ℕ) → lists ≡ map (rot_in []) (range_with_len 0 i)
     → lists ++ None ∷ [] ≡ map (rot_in []) (range_with_len 0 (i + 1))
 unfolding rot_in
-no_darts-more lists i h =
-    ap (λ (l : List (Option (List ℕ))). l ++ None ∷ []) h ∙ sym (map-range_with_len_more (rot_in []) 0 i i (omega arith))
+no_darts-more lists i h = ap (λ (l : List (Option (List ℕ))). l ++ None ∷ []) h ∙ sym (map-range_with_len_more (rot_in []) 0 i i (omega arith))
 
 -- a general instance whose records were taken up to the `end`
 module _ (n : ℕ) (start : GeneralBody) (all : List Kept) (now : GeneralBody) (last : Kept) (rest : List Kept)
@@ -295,12 +266,10 @@ module _ (n : ℕ) (start : GeneralBody) (all : List Kept) (now : GeneralBody) (
   -- a bare `end` makes it the instance that is stated
   pub general-states : (inst : Ising) → field_count_fault 1 last ≡ None → inst ≡ instance_of (header.General start.n) h.body
       → StatesInstance (header.General n) all inst rest
-  general-states inst end value =
-      body-states (header.General n) (general_fault start.n) all h.body last rest inst (ap general_fault was) h.ended
+  general-states inst end value = body-states (header.General n) (general_fault start.n) all h.body last rest inst (ap general_fault was) h.ended
       (general_fault-end start.n h.body last h.ended.ends ∙ end) (value ∙ ap (λ (k : ℕ). instance_of (header.General k) h.body) was)
 
   -- another `end` refuses the body
   pub general-ends : (x : Refusal) → field_count_fault 1 last ≡ Some x → Fails (RefusesBody (header.General n) all) all rest (Refused x)
-  general-ends x end =
-      body-fault (header.General n) (general_fault start.n) all rest (Refused x) (ap general_fault was)
+  general-ends x end = body-fault (header.General n) (general_fault start.n) all rest (Refused x) (ap general_fault was)
       (end-fault (λ s. general_fault s.n) HoldsGeneral start all now last rest h (Refused x) (general_fault-end start.n h.body last h.ended.ends ∙ end))

@@ -55,8 +55,7 @@ header-good r head passes says = by (form_of (field r 0)) passes says
     by : (f : Option Form) → form_fault f r ≡ None → form_header f r ≡ Some head → IsHeader head
     by None p s = absurd (none-some head s)
     by (Some (form.Lattice kind)) p s =
-        let numbers = (first-none (field_count_fault 3 r) _ p).1 in
-        let rows = first-none (field_fault (at_least 1) 1 r) _ numbers in
+        let rows = first-none (field_fault (at_least 1) 1 r) _ ((first-none (field_count_fault 3 r) _ p).1) in
         let cols = first-none (field_fault (at_least (least_cols kind)) 2 r) _ rows.1 in
         let many = ltb-false spin_limit (size_in r 1 * size_in r 2) (passed-if _ _ (first-none _ _ cols.1).0) in
         subst IsHeader (same_Some (header.Lattice kind (size_in r 1) (size_in r 2)) head s) (
@@ -86,17 +85,15 @@ module _ (n : ℕ) (some : 1 ≤ n) where
   bond-sound m r h =
       let parts = first-none (link_fault any_number n r) _ h in
       let first = first-none (field_fault (spin_below n) 1 r) _ (first-none (field_count_fault 4 r) _ parts.0).1 in
-      let second = first-none (field_fault (spin_below n) 2 r) _ first.1 in
       let ends = first-none (bond_count_fault program_limits (m + 1)) _ (first-none (ends_fault (size_in r 1) (size_in r 2) m) _ parts.1).0 in
-      let room = ltb-false bond_limit (m + 1) (passed-if _ _ ends.0) in
       let apart = eqb-false (size_in r 1) (size_in r 2) (passed-if _ _ (first-none _ _ ends.1).0) in (
         record {
           first_end = below-of n (field_number r 1) some (in-range _ 1 r first.0);
-          second_end = below-of n (field_number r 2) some (in-range _ 2 r second.0);
+          second_end = below-of n (field_number r 2) some (in-range _ 2 r (first-none (field_fault (spin_below n) 2 r) _ first.1).0);
           ends_differ = apart;
           size = number_in-small r 3;
         },
-        room,
+        ltb-false bond_limit (m + 1) (passed-if _ _ ends.0),
       )
 
   sound-more : (front : List Kept) (r : Kept) → Sound front → general_fault n front r ≡ None → Sound (front ++ r ∷ [])
@@ -114,8 +111,7 @@ module _ (n : ℕ) (some : 1 ≤ n) where
   sound-all body h (suc k) l =
       let next : take (k + 1) body ≡ take k body ++ record_at body k ∷ [] = take_more body k (record { at = 0; fields = [] }) (omega (arith, l)) in
       let one : k + 1 ≡ suc k = omega arith in
-      subst (λ (j : ℕ). Sound (take j body)) one
-      (subst Sound (sym next)
+      subst (λ (j : ℕ). Sound (take j body)) one (subst Sound (sym next)
       (sound-more (take k body) (record_at body k) (sound-all body h k (omega (arith, l))) (h.passes k (omega (arith, l)))))
 
   pub sound-body : (body : List Kept) → IsBody (general_fault n) body → Sound body
@@ -124,13 +120,7 @@ module _ (n : ℕ) (some : 1 ≤ n) where
 -- another seam leaves a draft one
 reseamed-draft : (seam : Option (List ℕ)) (inst : Ising) → IsDraft inst → IsDraft (reseamed seam inst)
 reseamed-draft None inst h = h
-reseamed-draft (Some seam) inst h = record {
-  has_spin = h.has_spin;
-  few_spins = h.few_spins;
-  few_bonds = h.few_bonds;
-  joined = h.joined;
-  lists = h.lists;
-}
+reseamed-draft (Some seam) inst h = record { has_spin = h.has_spin; few_spins = h.few_spins; few_bonds = h.few_bonds; joined = h.joined; lists = h.lists }
 
 -- what records behind a header give
 pub body-given : (head : Header) (records : List Kept) (inst : Ising) (rest : List Kept) → IsHeader head → ReadsBody head records inst rest → IsGiven inst
@@ -138,13 +128,12 @@ unfolding instance_of
 body-given (header.General n) records inst rest good given =
     let sound = sound-body n good.0 given.states.body given.states.ended.is_body in
     let is = given.states.value in
-    let rotation = subst IsRotation is given.rotation in
     let draft : IsDraft (instance_of (header.General n) given.states.body) = record {
       has_spin = good.0;
       few_spins = omega (arith, good.1);
       few_bonds = omega (arith, sound.1);
       joined = sound.0;
-      lists = rotation.lists;
+      lists = (subst IsRotation is given.rotation).lists;
     } in
     record {
       instance = record { draft = subst IsDraft (sym is) draft; rotation = given.rotation; seam = given.seam };
@@ -173,5 +162,4 @@ body-given (header.Lattice kind rows cols) records inst rest good given =
 
 -- what records give
 pub records-given : (records : List Kept) (inst : Ising) (rest : List Kept) → ReadsInstance records inst rest → IsGiven inst
-records-given records inst rest given =
-    body-given given.header given.more inst rest (header-good given.first given.header given.passes given.says) given.reads
+records-given records inst rest given = body-given given.header given.more inst rest (header-good given.first given.header given.passes given.says) given.reads

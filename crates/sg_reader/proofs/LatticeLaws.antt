@@ -49,13 +49,17 @@ pub holds-none : (state : LatticeBody) → state.couplings ≡ [] → state.seam
 unfolding couplings_in seam_in
 holds-none state none cut = record { wanted = refl; couplings = none; seam = cut }
 
+seam-tested : (old : LatticeBody) (r : Kept) (seen : Bool) → is_some old.seam ≡ seen → says_seam r ≡ true → (start : LatticeBody) (body : List Kept)
+    → HoldsLattice start body old → lattice_fault start.wanted body r ≡ sole_list_fault seen r
+seam-tested old r seen was seam start body h =
+    lattice_fault-seam start.wanted body r seam ∙ ap (λ (b : Bool). sole_list_fault b r) (sym (ap is_some h.seam) ∙ was)
+
 -- a `seam` is taken
 pub seam-taken : (old new : LatticeBody) (r : Kept) (seen : Bool) → is_some old.seam ≡ seen → says_seam r ≡ true → sole_list_fault seen r ≡ None
     → new.wanted ≡ old.wanted → new.couplings ≡ old.couplings → new.seam ≡ Some (sizes_from r 1)
     → TakesNext (λ s. lattice_fault s.wanted) HoldsLattice old r new
 seam-taken old new r seen was seam good same kept bonds = record {
-  passes = λ start body h. lattice_fault-seam start.wanted body r seam
-      ∙ ap (λ (b : Bool). sole_list_fault b r) (sym (ap is_some h.seam) ∙ was) ∙ good;
+  passes = λ start body h. seam-tested old r seen was seam start body h ∙ good;
   goes_on = λ start body h. record {
     wanted = same ∙ h.wanted;
     couplings = kept ∙ h.couplings ∙ sym (couplings_in-seam body r seam);
@@ -66,12 +70,7 @@ seam-taken old new r seen was seam good same kept bonds = record {
 -- a `seam` is refused
 pub seam-refused : (old : LatticeBody) (r : Kept) (seen : Bool) (e : Fault) → is_some old.seam ≡ seen → says_seam r ≡ true
     → OrNoMemory (Refuses (sole_list_fault seen r)) e → RefusesNext (λ s. lattice_fault s.wanted) HoldsLattice old r e
-seam-refused old r seen e was seam bad = record {
-  refused = λ start body h.
-      let same : lattice_fault start.wanted body r ≡ sole_list_fault seen r =
-      lattice_fault-seam start.wanted body r seam ∙ ap (λ (b : Bool). sole_list_fault b r) (sym (ap is_some h.seam) ∙ was) in
-      rw same bad;
-}
+seam-refused old r seen e was seam bad = record { refused = λ start body h. rw (seam-tested old r seen was seam start body h) bad }
 
 -- couplings are taken
 pub couplings-taken : (old new : LatticeBody) (r : Kept) → says_seam r ≡ false → says_end r ≡ false → fields_fault (field_fault any_number) 0 r ≡ None
@@ -105,30 +104,24 @@ module _ (start : LatticeBody) (all : List Kept) (now : LatticeBody) (last : Kep
 -- what is kept makes the instance that the records give
 pub instance-lattice : (kind : Kind) (rows cols : ℕ) (start : LatticeBody) (body : List Kept) (state : LatticeBody) → HoldsLattice start body state
     → reseamed state.seam (lattice kind rows cols state.couplings) ≡ instance_of (header.Lattice kind rows cols) body
-instance-lattice kind rows cols start body state h =
-    ap (λ (s : Option (List ℕ)). reseamed s (lattice kind rows cols state.couplings)) h.seam
-    ∙ ap (λ (js : List ℤ). reseamed (seam_in body) (lattice kind rows cols js)) h.couplings
-    ∙ sym (instance_of-lattice kind rows cols body)
+instance-lattice kind rows cols start body state h = ap (λ (s : Option (List ℕ)). reseamed s (lattice kind rows cols state.couplings)) h.seam
+    ∙ ap (λ (js : List ℤ). reseamed (seam_in body) (lattice kind rows cols js)) h.couplings ∙ sym (instance_of-lattice kind rows cols body)
 
 -- a lattice whose records were taken up to the `end`, with so many couplings found where so many are wanted
 module _ (kind : Kind) (rows cols : ℕ) (start : LatticeBody) (all : List Kept) (now : LatticeBody) (last : Kept) (rest : List Kept)
     (h : HoldsToEnd (λ s. lattice_fault s.wanted) HoldsLattice start all now last rest) (wanted found : ℕ) (was : start.wanted ≡ wanted)
     (total : wanted ≡ bond_total kind rows cols) (many : found ≡ length now.couplings) where
   tested : (test : Option Refusal) → lattice_end_fault wanted found last ≡ test → lattice_fault start.wanted h.body last ≡ test
-  tested test end =
-      end-tested start all now last rest h ∙ ap (λ (n : ℕ). lattice_end_fault n (length now.couplings) last) was
+  tested test end = end-tested start all now last rest h ∙ ap (λ (n : ℕ). lattice_end_fault n (length now.couplings) last) was
       ∙ ap (λ (n : ℕ). lattice_end_fault wanted n last) (sym many) ∙ end
 
   -- an `end` that passes makes it the instance that is stated
   pub lattice-states : lattice_end_fault wanted found last ≡ None
       → StatesInstance (header.Lattice kind rows cols) all (reseamed now.seam (lattice kind rows cols now.couplings)) rest
-  lattice-states end =
-      body-states (header.Lattice kind rows cols) (lattice_fault start.wanted) all h.body last rest _ (ap lattice_fault (was ∙ total)) h.ended
+  lattice-states end = body-states (header.Lattice kind rows cols) (lattice_fault start.wanted) all h.body last rest _ (ap lattice_fault (was ∙ total)) h.ended
       (tested None end) (instance-lattice kind rows cols start h.body now h.held)
 
   -- another `end` refuses the body
-  pub lattice-ends : (x : Refusal) → lattice_end_fault wanted found last ≡ Some x
-      → Fails (RefusesBody (header.Lattice kind rows cols) all) all rest (Refused x)
-  lattice-ends x end =
-      body-fault (header.Lattice kind rows cols) (lattice_fault start.wanted) all rest (Refused x) (ap lattice_fault (was ∙ total))
+  pub lattice-ends : (x : Refusal) → lattice_end_fault wanted found last ≡ Some x → Fails (RefusesBody (header.Lattice kind rows cols) all) all rest (Refused x)
+  lattice-ends x end = body-fault (header.Lattice kind rows cols) (lattice_fault start.wanted) all rest (Refused x) (ap lattice_fault (was ∙ total))
       (end-fault (λ s. lattice_fault s.wanted) HoldsLattice start all now last rest h (Refused x) (tested (Some x) end))

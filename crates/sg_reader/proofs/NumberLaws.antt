@@ -47,9 +47,8 @@ size-of_number field z h = elim (cases_Bool (is_numeral field)) [
   | inl e ↦ elim (cases_Bool (nat_lt (size_of field) (2 ^ 63))) [
     | inl small ↦
         let value : signed_digits_value 10 field ≡ z = same_Some _ _ (rw (e, small) at h) in
-        let size = size-of_signed (starts_with_minus field) (size_of field) in
         let below : size_of field < 2 ^ 63 = grind (arith, nat_tests) in
-        rw (← value) (rw size below)
+        rw (← value) (rw (size-of_signed (starts_with_minus field) (size_of field)) below)
     | inr large ↦ absurd (none-some z (rw (e, large) at h))
   ]
   | inr e ↦ absurd (none-some z (rw e at h))

@@ -44,19 +44,16 @@ module _ {X : Type 0} (fault : TestTable) (stated : List Kept → X) where
   outcome body (r ∷ rest) = tested (fault body r) (says_end r) body rest (outcome (body ++ r ∷ []) rest)
 
   -- a body that passes is read on
-  walked : (body tail : List Kept) → IsBody fault body → (gap k : ℕ) → k + gap ≡ length body
-      → outcome (take k body) (drop k body ++ tail) ≡ outcome body tail
+  walked : (body tail : List Kept) → IsBody fault body → (gap k : ℕ) → k + gap ≡ length body → outcome (take k body) (drop k body ++ tail) ≡ outcome body tail
   walked body tail h zero k e =
       let end : k ≡ length body = omega (arith, e) in
       rw (end, take-length body, drop-length body) refl
   walked body tail h (suc gap) k e =
       let none : Kept = record { at = 0; fields = [] } in
       let inside : k < length body = omega (arith, e) in
-      let good = h.passes k inside in
-      let other = h.goes_on k none inside in
       let one : k + 1 ≡ suc k = omega arith in
       let more : take (suc k) body ≡ take k body ++ record_at body k ∷ [] = rw one at (take_more body k none inside) in
-      rw (drop-cons body k none inside) (rw (good, other, ← more) (walked body tail h gap (suc k) (omega (arith, e))))
+      rw (drop-cons body k none inside) (rw (h.passes k inside, h.goes_on k none inside, ← more) (walked body tail h gap (suc k) (omega (arith, e))))
 
   read-on : (records body tail : List Kept) → IsBody fault body → records ≡ body ++ tail → outcome [] records ≡ outcome body tail
   read-on records body tail h split = ap (outcome []) split ∙ walked body tail h (length body) 0 (omega arith)
@@ -65,8 +62,7 @@ module _ {X : Type 0} (fault : TestTable) (stated : List Kept → X) where
   pub records-one_answer : (records : List Kept) → HasOneAnswer (Leaving (StatesToEnd fault stated records)) (Leaving (RefusesRecords fault records))
   records-one_answer records = one-outcome (Leaving (StatesToEnd fault stated records)) (Leaving (RefusesRecords fault records)) (outcome [] records)
       (λ p given. read-on records given.body (given.last ∷ p.1) given.ended.is_body given.ended.split
-      ∙ rw (given.passes, given.ended.ends) (ap (λ (x : X). inl (x, p.1)) (sym given.value)))
-      (λ r bad. refused r bad)
+      ∙ rw (given.passes, given.ended.ends) (ap (λ (x : X). inl (x, p.1)) (sym given.value))) (λ r bad. refused r bad)
     where
       refused : (r : Refusal × List Kept) → RefusesRecords fault records r.0 r.1 → outcome [] records ≡ inr r
       refused r (AtRecord body q split is_body bad) = read-on records body (q ∷ r.1) is_body split ∙ rw bad refl

@@ -79,16 +79,12 @@ instance-one_answer records = record {
     apart p r given (Behind first more header split passes says bad) =
         let same = begins-once records given.first first given.more more given.header header (begins p given)
         (record { split = split; passes = passes; says = says }) in
-        (body-one_answer header more).apart p r
-        (subst (λ (h : Header). ReadsBody h more p.0 p.1) same.head
-        (subst (λ (l : List Kept). ReadsBody given.header l p.0 p.1) same.rest given.reads)) bad
+        (body-one_answer header more).apart p r (rw (same.rest, same.head) at given.reads) bad
 
     one : (p q : Ising × List Kept) → ReadsInstance records p.0 p.1 → ReadsInstance records q.0 q.1 → p ≡ q
     one p q given other =
         let same = begins-once records given.first other.first given.more other.more given.header other.header (begins p given) (begins q other) in
-        (body-one_answer other.header other.more).one p q
-        (subst (λ (h : Header). ReadsBody h other.more p.0 p.1) same.head
-        (subst (λ (l : List Kept). ReadsBody given.header l p.0 p.1) same.rest given.reads)) other.reads
+        (body-one_answer other.header other.more).one p q (rw (same.rest, same.head) at given.reads) other.reads
 
     named : (r s : Refusal × List Kept) → RefusesInstance records r.0 r.1 → RefusesInstance records s.0 s.1 → r ≡ s
     named r s (WithoutFirst none unended nothing) (WithoutFirst none2 unended2 nothing2) = pair-same r s (unended ∙ sym unended2) (nothing ∙ sym nothing2)
@@ -108,6 +104,4 @@ instance-one_answer records = record {
     named r s (Behind first more header split passes says bad) (Behind first2 more2 header2 split2 passes2 says2 bad2) =
         let same = begins-once records first first2 more more2 header header2 (record { split = split; passes = passes; says = says })
         (record { split = split2; passes = passes2; says = says2 }) in
-        (body-one_answer header2 more2).named r s
-        (subst (λ (h : Header). RefusesBody h more2 r.0 r.1) same.head
-        (subst (λ (l : List Kept). RefusesBody header l r.0 r.1) same.rest bad)) bad2
+        (body-one_answer header2 more2).named r s (rw (same.rest, same.head) at bad) bad2

@@ -15,8 +15,7 @@ use Rattle.sg_reader.proofs.RestLaws.{fails-on, rest-behind}
 -- what refuses a record by the tests of the header refuses the body
 pub body-fault : (head : Header) (table : TestTable) (all rest : List Kept) (e : Fault) → table ≡ record_fault head
     → Fails (RefusesRecords table all) all rest e → Fails (RefusesBody head all) all rest e
-body-fault head table all rest e same bad =
-    fails-on (RefusesRecords table all) (RefusesBody head all) all [] all rest refl
+body-fault head table all rest e same bad = fails-on (RefusesRecords table all) (RefusesBody head all) all [] all rest refl
     (λ x refused. AtOne (subst (λ (t : TestTable). RefusesRecords t all x rest) same refused)) e bad
 
 -- records up to an `end` that passes state what they give
@@ -39,6 +38,5 @@ whole-fault head all inst rest NoMemory states bad = rest-behind all states.body
 -- behind a good first record, what refuses the body refuses the records
 pub behind-fault : (all : List Kept) (first : Kept) (more : List Kept) (head : Header) (rest : List Kept) (e : Fault) → all ≡ first ∷ more
     → header_fault first ≡ None → header_of first ≡ Some head → Fails (RefusesBody head more) more rest e → Fails (RefusesInstance all) all rest e
-behind-fault all first more head rest e split good says bad =
-    fails-on (RefusesBody head more) (RefusesInstance all) all (first ∷ []) more rest split
+behind-fault all first more head rest e split good says bad = fails-on (RefusesBody head more) (RefusesInstance all) all (first ∷ []) more rest split
     (λ x refused. Behind first more head split good says refused) e bad

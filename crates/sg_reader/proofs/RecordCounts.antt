@@ -45,19 +45,13 @@ field_total records = sum_by (λ (r : Kept). length r.fields) records
 
 -- the fields of one more record
 pub field_total-more : (body : List Kept) (r : Kept) → field_total (body ++ r ∷ []) ≡ field_total body + length r.fields
-field_total-more body r =
-    let all = sum_by-append (λ (q : Kept). length q.fields) body (r ∷ []) in
-    let one = sum_by-cons (λ (q : Kept). length q.fields) r [] in
-    omega (arith, all, one)
+field_total-more body r = omega (arith, sum_by-append (λ (q : Kept). length q.fields) body (r ∷ []), sum_by-cons (λ (q : Kept). length q.fields) r [])
 
 -- the fields of records round one
 pub field_total-around : (records body : List Kept) (r : Kept) (rest : List Kept) → records ≡ body ++ r ∷ rest
     → field_total records ≡ field_total body + (length r.fields + field_total rest)
 field_total-around records body r rest split =
-    let same = ap field_total split in
-    let all = sum_by-append (λ (q : Kept). length q.fields) body (r ∷ rest) in
-    let one = sum_by-cons (λ (q : Kept). length q.fields) r rest in
-    omega (arith, same, all, one)
+    omega (arith, ap field_total split, sum_by-append (λ (q : Kept). length q.fields) body (r ∷ rest), sum_by-cons (λ (q : Kept). length q.fields) r rest)
 
 -- the records that are kept have no more fields than all
 pub field_total-numbered : (at : ℕ) (raw : List (List (List ℕ))) → field_total (filter is_kept (numbered_from at raw)) ≤ sum_by length raw
@@ -65,9 +59,8 @@ field_total-numbered at [] = omega arith
 field_total-numbered at (r ∷ raw) =
     let first = fields_in-short r in
     let others = field_total-numbered (at + 1) raw in
-    let all = sum_by-cons length r raw in
     by (is_kept (record { at = at; fields = fields_in r })) (filter is_kept (numbered_from (at + 1) raw)) (omega (arith, others)) (omega (arith, first))
-    (omega (arith, all))
+    (omega (arith, sum_by-cons length r raw))
   where
     by : (b : Bool) (rest : List Kept) → field_total rest ≤ sum_by length raw → length (fields_in r) ≤ length r
         → length r + sum_by length raw ≤ sum_by length (r ∷ raw)

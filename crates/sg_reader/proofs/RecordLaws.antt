@@ -66,22 +66,16 @@ pub record IsRead (fields : List (List ℕ)) (xs : List ℕ) (r : Read) : Type 0
   pub less : length r.2 ≤ length xs - 1
   pub few : length r.0 + most_fields r.2 ≤ length fields + length xs + 1
 
-pub is_read : (s : State) (fields : List (List ℕ)) (field xs : List ℕ) (r : Read) → next_record default_config s fields field xs ≡ Some r
-    → IsRead fields xs r
+pub is_read : (s : State) (fields : List (List ℕ)) (field xs : List ℕ) (r : Read) → next_record default_config s fields field xs ≡ Some r → IsRead fields xs r
 unfolding next_record
 is_read s fields field [] r h = elim (cases_Bool (ends_at_end s)) [
-  | inl e ↦
-      let same = same_Some _ _ (rw e at h) in
-      let n = length-append fields (field ∷ []) in
-      rw (← same) (record { between = refl; less = omega arith; few = omega (arith, n) })
+  | inl e ↦ rw (← (same_Some _ _ (rw e at h))) (record { between = refl; less = omega arith; few = omega (arith, length-append fields (field ∷ [])) })
   | inr e ↦ absurd (none-some r (rw e at h))
 ]
 is_read s fields field (c ∷ rest) r h =
     let n = length-fields_after (step default_config s c).1 fields field in
     elim (cases_Bool (is_end (step default_config s c).1)) [
-      | inl e ↦
-          let same = same_Some _ _ (rw e at h) in
-          rw (← same) (record { between = between-step s c e; less = omega arith; few = omega (arith, n, most_fields-le rest) })
+      | inl e ↦ rw (← (same_Some _ _ (rw e at h))) (record { between = between-step s c e; less = omega arith; few = omega (arith, n, most_fields-le rest) })
       | inr e ↦
           let more = is_read (step default_config s c).0 (fields_after (step default_config s c).1 fields field)
           (field_after (step default_config s c).1 c field) rest r (rw e at h) in
@@ -89,8 +83,7 @@ is_read s fields field (c ∷ rest) r h =
     ]
 
 -- what is left is shorter
-shorter-after_record : (s : State) (xs : List ℕ) (r : Read) → next_record default_config s [] [] xs ≡ Some r → ends_at_end s ≡ false
-    → length r.2 < length xs
+shorter-after_record : (s : State) (xs : List ℕ) (r : Read) → next_record default_config s [] [] xs ≡ Some r → ends_at_end s ≡ false → length r.2 < length xs
 unfolding next_record
 shorter-after_record s [] r h between = absurd (none-some r (rw between at h))
 shorter-after_record s (c ∷ rest) r h between = let read = is_read s [] [] (c ∷ rest) r h in omega (arith, read.less)

@@ -28,8 +28,7 @@ pub rest-behind : (records body : List Kept) (r : Kept) (rest : List Kept) → r
 rest-behind records body r rest split = record { read = body ++ r ∷ []; split = split ∙ sym (append_assoc body (r ∷ []) rest) }
 
 -- what failed behind some records failed with them
-pub fails-on : (P Q : Refusal → List Kept → Type 0) (records read more rest : List Kept) → records ≡ read ++ more
-    → ((x : Refusal) → P x rest → Q x rest)
+pub fails-on : (P Q : Refusal → List Kept → Type 0) (records read more rest : List Kept) → records ≡ read ++ more → ((x : Refusal) → P x rest → Q x rest)
     → (e : Fault) → Fails P more rest e → Fails Q records rest e
 fails-on P Q records read more rest split to (Refused x) bad = to x bad
 fails-on P Q records read more rest split to NoMemory left = record {
@@ -38,8 +37,7 @@ fails-on P Q records read more rest split to NoMemory left = record {
 }
 
 -- what failed, without what it left
-pub or-no-memory : (P : Refusal → List Kept → Type 0) (R : Refusal → Type 0) (records rest : List Kept) → ((x : Refusal) → P x rest → R x)
-    → (e : Fault)
+pub or-no-memory : (P : Refusal → List Kept → Type 0) (R : Refusal → Type 0) (records rest : List Kept) → ((x : Refusal) → P x rest → R x) → (e : Fault)
     → Fails P records rest e → OrNoMemory R e
 or-no-memory P R records rest to (Refused x) bad = to x bad
 or-no-memory P R records rest to NoMemory left = tt

@@ -45,14 +45,10 @@ pub loop-taken : (old new : LoopsBody) (r : Kept) → says_end r ≡ false → l
     → 1 < length r.fields → TakesNext (λ s. loops_fault) HoldsLoops old r new
 loop-taken old new r other good added long = record {
   passes = λ start body h. loops_fault-loop body r other ∙ good;
-  goes_on = λ start body h.
-      let count = ap length added ∙ length-append old.loops (stated_loop r ∷ []) in
-      let total = field_total-more body r in
-      let few = h.few in
-      record {
-        loops = added ∙ ap (λ (l : List Loop). l ++ stated_loop r ∷ []) h.loops ∙ sym (map-append stated_loop body (r ∷ []));
-        few = omega (arith, count, total, few, long);
-      };
+  goes_on = λ start body h. record {
+    loops = added ∙ ap (λ (l : List Loop). l ++ stated_loop r ∷ []) h.loops ∙ sym (map-append stated_loop body (r ∷ []));
+    few = omega (arith, ap length added ∙ length-append old.loops (stated_loop r ∷ []), field_total-more body r, h.few, long);
+  };
 }
 
 -- what refuses a loop refuses the record
@@ -64,9 +60,7 @@ loop-refused old r e other bad = record { refused = λ start body h. rw (loops_f
 pub loops-few : (all body : List Kept) (last : Kept) (rest : List Kept) (loops : List Loop) → IsEnded loops_fault all body last rest
     → length loops ≤ field_total body → field_total all ≤ text_limit → length loops < text_limit
 loops-few all body last rest loops ended few short =
-    let total = field_total-around all body last rest ended.split in
-    let inside = word-inside (codes "end") refl last ended.ends in
-    omega (arith, total, inside, few, short)
+    omega (arith, field_total-around all body last rest ended.split, word-inside (codes "end") refl last ended.ends, few, short)
 
 -- what refuses the first record refuses the result
 pub energy-fault : (all : List Kept) (r : Kept) (rest : List Kept) (e : Fault) → all ≡ r ∷ rest → OrNoMemory (Refuses (energy_fault r)) e
@@ -98,15 +92,13 @@ behind-spins q all more r rest e split good bad =
 
 -- energy, spins and loops that are read are the result
 pub stated : (all more left : List Kept) (q r : Kept) (energy : ℤ) (spins : List ℤ) (loops : List Loop) (rest : List Kept)
-    → all ≡ q ∷ more → more ≡ r ∷ left → energy_fault q ≡ None → spins_fault r ≡ None → energy ≡ number_in q 1
-    → spins ≡ numbers_from r 1
+    → all ≡ q ∷ more → more ≡ r ∷ left → energy_fault q ≡ None → spins_fault r ≡ None → energy ≡ number_in q 1 → spins ≡ numbers_from r 1
     → StatesToEnd loops_fault stated_loops left loops rest
     → ReadsResult all (record { energy = energy; spins = spins; loops = loops }) rest
 unfolding result_fault result_of
 stated all more left q r energy spins loops rest split next good_energy good_spins is_energy are_spins st =
     states-cons result_fault result_of all more q _ rest split (energy-no_end q good_energy) good_energy
-    (states-cons (λ body. result_fault (q ∷ body)) (λ body. result_of (q ∷ body)) more left r _ rest next (spins-no_end r good_spins) good_spins
-    (record {
+    (states-cons (λ body. result_fault (q ∷ body)) (λ body. result_of (q ∷ body)) more left r _ rest next (spins-no_end r good_spins) good_spins (record {
       body = st.body;
       last = st.last;
       ended = st.ended;

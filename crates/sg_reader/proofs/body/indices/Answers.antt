@@ -7,18 +7,13 @@ use Rattle.sg_reader.proofs.body.indices.Goals as goal
 pub returns-in_err-index-clause-fault : goal.returns-in_err-index-clause-fault
 returns-in_err-index-clause-fault c =
     let bad = rw c.any_index.ensures at c.in_err-index.ensures.refused in
-    failed c.from_residual.result _ c.from_residual.ensures.1
-    (c.loop-i.invariant.passes ∙ fault-here (field_fault any_index) c.args.row.now c.loop-i.i _ (omega arith) bad)
+    failed _ _ c.from_residual.ensures.1 (c.loop-i.invariant.passes ∙ fault-here _ _ _ _ (omega arith) bad)
 
 pub loop-i-preserved : goal.loop-i-preserved
-loop-i-preserved c =
-    let r = c.args.row.now in
-    let good = rw c.any_index.ensures at c.in_ok-index.ensures.passes in
-    record {
-      passes = c.loop-i.invariant.passes ∙ fault-on (field_fault any_index) r c.loop-i.i (omega arith) good;
-      listed = listed-on (λ k. size_in r k) c.loop-i.list _ c.loop-i.i (length r.fields) c.loop-i.invariant.listed _ c.in_ok-index.index (omega arith)
-          c.in_ok-push.ensures.ok c.in_ok-index.ensures.value;
-    }
+loop-i-preserved c = record {
+  passes = c.loop-i.invariant.passes ∙ fault-on _ _ _ (omega arith) (rw c.any_index.ensures at c.in_ok-index.ensures.passes);
+  listed = listed-on _ _ _ _ (length c.args.row.now.fields) c.loop-i.invariant.listed _ _ (omega arith) c.in_ok-push.ensures.ok c.in_ok-index.ensures.value;
+}
 
 pub returns-clause-passes : goal.returns-clause-passes
 returns-clause-passes c = c.loop-i.invariant.passes ∙ fault-end (field_fault any_index) c.args.row.now c.loop-i.i (omega arith)

@@ -8,18 +8,15 @@ use Rattle.sg_reader.proofs.body.push_couplings.Goals as goal
 pub returns-in_err-coupling-clause-fault : goal.returns-in_err-coupling-clause-fault
 returns-in_err-coupling-clause-fault c =
     let bad = rw c.any_number.ensures at c.in_err-coupling.ensures.refused in
-    failed c.from_residual.result _ c.from_residual.ensures.1
-    (c.loop-i.invariant.passes ∙ fault-here (field_fault any_number) c.args.row.now c.loop-i.i _ (omega arith) bad)
+    failed _ _ c.from_residual.ensures.1 (c.loop-i.invariant.passes ∙ fault-here _ _ _ _ (omega arith) bad)
 
 pub loop-i-preserved : goal.loop-i-preserved
 loop-i-preserved c =
-    let r = c.args.row.now in
-    let good = rw c.any_number.ensures at c.in_ok-coupling.ensures.passes in
     let fits : FitsSigned w64 c.in_ok-coupling.coupling = search rules in
     record {
-      passes = c.loop-i.invariant.passes ∙ fault-on (field_fault any_number) r c.loop-i.i (omega arith) good;
-      added = listed-on (λ k. number_in r k) c.loop-i.couplings _ c.loop-i.i (length r.fields) c.loop-i.invariant.added _ _ (omega arith)
-          c.in_ok-push.ensures.ok (to_z-of_z w64 c.in_ok-coupling.coupling fits ∙ c.in_ok-coupling.ensures.value);
+      passes = c.loop-i.invariant.passes ∙ fault-on _ _ _ (omega arith) (rw c.any_number.ensures at c.in_ok-coupling.ensures.passes);
+      added = listed-on _ _ _ _ (length c.args.row.now.fields) c.loop-i.invariant.added _ _ (omega arith)
+          c.in_ok-push.ensures.ok (to_z-of_z _ _ fits ∙ c.in_ok-coupling.ensures.value);
     }
 
 pub returns-clause-passes : goal.returns-clause-passes

@@ -15,5 +15,4 @@ returns c =
     ∙ ap₂ (λ (b : Bool) (n : ℕ). cond b (neg_ℤ (pos n)) (pos n)) c.is_minus.ensures value) ∙ sym (number_of-some field numeral small)
 
 pub returns-in_err-size : goal.returns-in_err-size
-returns-in_err-size c =
-    c.from_residual.ensures ∙ sym (number_of-none c.args.field.now (rw c.after_sign.ensures at c.in_err-size.ensures.none))
+returns-in_err-size c = c.from_residual.ensures ∙ sym (number_of-none _ (rw c.after_sign.ensures at c.in_err-size.ensures.none))

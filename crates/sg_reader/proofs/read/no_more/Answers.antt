@@ -2,5 +2,4 @@ use Rattle.sg_reader.proofs.RestLaws.{failed, rest-none}
 use Rattle.sg_reader.proofs.read.no_more.Goals as goal
 
 pub returns-in_err-next-clause-fault : goal.returns-in_err-next-clause-fault
-returns-in_err-next-clause-fault c =
-    failed c.from_residual.result _ c.from_residual.ensures.1 (rest-none c.args.rows.now c.next.new.self c.in_err-next.ensures.failed)
+returns-in_err-next-clause-fault c = failed _ _ c.from_residual.ensures.1 (rest-none _ _ c.in_err-next.ensures.failed)

@@ -9,8 +9,7 @@ use Rattle.sg_reader.proofs.RestLaws.{failed, rest-none}
 use Rattle.sg_reader.proofs.read.read_instance.Goals as goal
 
 pub returns-in_err-next-clause-fault : goal.returns-in_err-next-clause-fault
-returns-in_err-next-clause-fault c =
-    failed c.from_residual.result _ c.from_residual.ensures.1 (rest-none c.args.rows.now c.next.new.self c.in_err-next.ensures.failed)
+returns-in_err-next-clause-fault c = failed _ _ c.from_residual.ensures.1 (rest-none _ _ c.in_err-next.ensures.failed)
 
 pub returns-then-not-branch-clause-fault : goal.returns-then-not-branch-clause-fault
 returns-then-not-branch-clause-fault c =
@@ -20,48 +19,36 @@ returns-then-not-branch-clause-fault c =
 pub returns-in_err-kind-clause-fault : goal.returns-in_err-kind-clause-fault
 returns-in_err-kind-clause-fault c =
     let next = rw c.if-not-branch.false at c.in_ok-next.ensures.found in
-    failed c.from_residual-in_err-kind.result _ c.from_residual-in_err-kind.ensures.1 (AtFirst c.next.new.row next c.in_err-kind.ensures.refused)
+    failed _ _ c.from_residual-in_err-kind.ensures.1 (AtFirst c.next.new.row next c.in_err-kind.ensures.refused)
 
 pub returns-in-Lattice-clause-fault : goal.returns-in-Lattice-clause-fault
 returns-in-Lattice-clause-fault c =
     let next = rw c.if-not-branch.false at c.in_ok-next.ensures.found in
     let says = c.in_ok-kind.ensures.value ∙ ap Some c.in-Lattice.is in
-    IfErr-weaker c.read_lattice.result _ _
-    (λ e fault. behind-fault c.args.rows.now c.next.new.row c.next.new.self (header.Lattice c.in-Lattice.kind c.in-Lattice.high c.in-Lattice.wide)
-    c.read_lattice.new.records e next c.in_ok-kind.ensures.passes says fault) c.read_lattice.ensures.fault
+    IfErr-weaker _ _ _ (λ e fault. behind-fault _ _ _ _ _ e next c.in_ok-kind.ensures.passes says fault) c.read_lattice.ensures.fault
 
 pub returns-clause-fault : goal.returns-clause-fault
 returns-clause-fault c =
     let next = rw c.if-not-branch.false at c.in_ok-next.ensures.found in
     let says = c.in_ok-kind.ensures.value ∙ ap Some c.in-General.is in
-    IfErr-weaker c.read_general.result _ _
-    (λ e fault. behind-fault c.args.rows.now c.next.new.row c.next.new.self (header.General c.in-General.n)
-    c.read_general.new.records e next c.in_ok-kind.ensures.passes says fault) c.read_general.ensures.fault
+    IfErr-weaker _ _ _ (λ e fault. behind-fault _ _ _ _ _ e next c.in_ok-kind.ensures.passes says fault) c.read_general.ensures.fault
 
 pub returns-in-Lattice-clause-few_spins : goal.returns-in-Lattice-clause-few_spins
 returns-in-Lattice-clause-few_spins c =
-    let sound : IsHeader (header.Lattice c.in-Lattice.kind c.in-Lattice.high c.in-Lattice.wide) =
-    subst IsHeader c.in-Lattice.is c.in_ok-kind.ensures.sound in
-    IfOk-weaker c.read_lattice.result _ _
-    (λ inst reads. (body-given (header.Lattice c.in-Lattice.kind c.in-Lattice.high c.in-Lattice.wide) _ inst _ sound reads).few_spins)
-    c.read_lattice.ensures.read
+    let sound : IsHeader (header.Lattice c.in-Lattice.kind c.in-Lattice.high c.in-Lattice.wide) = subst IsHeader c.in-Lattice.is c.in_ok-kind.ensures.sound in
+    IfOk-weaker _ _ _ (λ inst reads. (body-given _ _ inst _ sound reads).few_spins) c.read_lattice.ensures.read
 
 pub returns-in-Lattice-clause-few_bonds : goal.returns-in-Lattice-clause-few_bonds
 returns-in-Lattice-clause-few_bonds c =
-    let sound : IsHeader (header.Lattice c.in-Lattice.kind c.in-Lattice.high c.in-Lattice.wide) =
-    subst IsHeader c.in-Lattice.is c.in_ok-kind.ensures.sound in
-    IfOk-weaker c.read_lattice.result _ _
-    (λ inst reads. (body-given (header.Lattice c.in-Lattice.kind c.in-Lattice.high c.in-Lattice.wide) _ inst _ sound reads).few_bonds)
-    c.read_lattice.ensures.read
+    let sound : IsHeader (header.Lattice c.in-Lattice.kind c.in-Lattice.high c.in-Lattice.wide) = subst IsHeader c.in-Lattice.is c.in_ok-kind.ensures.sound in
+    IfOk-weaker _ _ _ (λ inst reads. (body-given _ _ inst _ sound reads).few_bonds) c.read_lattice.ensures.read
 
 pub returns-clause-few_spins : goal.returns-clause-few_spins
 returns-clause-few_spins c =
     let sound : IsHeader (header.General c.in-General.n) = subst IsHeader c.in-General.is c.in_ok-kind.ensures.sound in
-    IfOk-weaker c.read_general.result _ _ (λ inst reads. (body-given (header.General c.in-General.n) _ inst _ sound reads).few_spins)
-    c.read_general.ensures.read
+    IfOk-weaker _ _ _ (λ inst reads. (body-given _ _ inst _ sound reads).few_spins) c.read_general.ensures.read
 
 pub returns-clause-few_bonds : goal.returns-clause-few_bonds
 returns-clause-few_bonds c =
     let sound : IsHeader (header.General c.in-General.n) = subst IsHeader c.in-General.is c.in_ok-kind.ensures.sound in
-    IfOk-weaker c.read_general.result _ _ (λ inst reads. (body-given (header.General c.in-General.n) _ inst _ sound reads).few_bonds)
-    c.read_general.ensures.read
+    IfOk-weaker _ _ _ (λ inst reads. (body-given _ _ inst _ sound reads).few_bonds) c.read_general.ensures.read

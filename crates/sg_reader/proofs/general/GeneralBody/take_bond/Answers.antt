@@ -12,13 +12,9 @@ pub read_bond-requires-clause-few : goal.read_bond-requires-clause-few
 read_bond-requires-clause-few c = rw c.len.ensures c.requires.held.held.few
 
 pub returns-in_err-bond-clause-fault : goal.returns-in_err-bond-clause-fault
-returns-in_err-bond-clause-fault c =
-    failed c.from_residual.result _ c.from_residual.ensures.1
-    (bond-refused c.args.self.now c.args.row.now c.len.result c.in_err-bond.field-0.0 c.len.ensures c.requires.word c.in_err-bond.ensures.refused)
+returns-in_err-bond-clause-fault c = failed _ _ c.from_residual.ensures.1 (bond-refused _ _ _ _ c.len.ensures c.requires.word c.in_err-bond.ensures.refused)
 
 pub returns-clause-taken : goal.returns-clause-taken
-returns-clause-taken c =
-    let value = c.in_ok-bond.ensures.value in
-    bond-taken c.args.self.now _ c.args.row.now c.len.result c.len.ensures c.requires.word c.in_ok-bond.ensures.passes refl
-    (c.in_ok-push.ensures.ok ∙ ap (λ (b : Bond). c.args.self.now.bonds ++ b ∷ []) value) refl refl
-    (subst (λ (b : Bond). IsBond c.args.self.now.n b) value c.in_ok-bond.ensures.sound) c.in_ok-bond.ensures.room
+returns-clause-taken c = bond-taken _ _ _ _ c.len.ensures c.requires.word c.in_ok-bond.ensures.passes refl
+    (c.in_ok-push.ensures.ok ∙ ap (λ (b : Bond). c.args.self.now.bonds ++ b ∷ []) c.in_ok-bond.ensures.value) refl refl
+    (subst (λ (b : Bond). IsBond c.args.self.now.n b) c.in_ok-bond.ensures.value c.in_ok-bond.ensures.sound) c.in_ok-bond.ensures.room

@@ -10,5 +10,5 @@ use Rattle.sg_reader.proofs.general.GeneralBodyGather.take.Goals as goal
 pub returns-else-begins-3-clause-fault : goal.returns-else-begins-3-clause-fault
 returns-else-begins-3-clause-fault c =
     subst (λ (k : ℕ). RefusesNext (λ s. general_fault s.n) HoldsGeneral c.args.self.now c.args.row.now (Refused (UnknownKind k))) (sym c.at.ensures.value)
-    (other-refused c.args.self.now c.args.row.now (sym c.begins.ensures ∙ c.if-begins.false) (sym c.begins-else-begins.ensures ∙ c.if-begins-2.false)
+    (other-refused _ _ (sym c.begins.ensures ∙ c.if-begins.false) (sym c.begins-else-begins.ensures ∙ c.if-begins-2.false)
     (sym c.begins-else-begins-2.ensures ∙ c.if-begins-3.false) c.requires.other)

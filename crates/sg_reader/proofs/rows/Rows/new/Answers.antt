@@ -6,12 +6,10 @@ use Rattle.sg_reader.proofs.rows.Rows.new.Goals as goal
 
 pub invariant_of-result : goal.invariant_of-result
 invariant_of-result c =
-    let text = c.without_marks.result.now in
-    let few = few-records_of text in
-    let most = most_fields-le text in
+    let few = few-records_of c.without_marks.result.now in
     rw (c.new.ensures, c.without_marks.ensures.bare) (
       omega (arith, c.without_marks.ensures.shorter, few.records),
-      omega (arith, c.without_marks.ensures.shorter, few.fields, most),
+      omega (arith, c.without_marks.ensures.shorter, few.fields, most_fields-le c.without_marks.result.now),
     )
 
 pub returns : goal.returns

@@ -5,12 +5,8 @@ use Rattle.sg_reader.proofs.rows.Rows.next.Goals as goal
 
 pub returns-in_err-fill-clause-few : goal.returns-in_err-fill-clause-few
 returns-in_err-fill-clause-few c =
-    let kept = field_total-numbered c.self.inside.taken c.self.inside.cursor in
-    let all = ap (λ (l : List Kept). field_total l) c.self.view_is in
-    omega (arith, all, kept, c.self.invariant.1)
+    omega (arith, ap (λ (l : List Kept). field_total l) c.self.view_is, field_total-numbered c.self.inside.taken c.self.inside.cursor, c.self.invariant.1)
 
 pub returns-then-is_kept-clause-few : goal.returns-then-is_kept-clause-few
 returns-then-is_kept-clause-few c =
-    let kept = field_total-numbered c.self.inside.taken c.self.inside.cursor in
-    let all = ap (λ (l : List Kept). field_total l) c.self.view_is in
-    omega (arith, all, kept, c.self.invariant.1)
+    omega (arith, ap (λ (l : List Kept). field_total l) c.self.view_is, field_total-numbered c.self.inside.taken c.self.inside.cursor, c.self.invariant.1)
