@@ -33,8 +33,7 @@ module _ (inst : Ising) where
   is_marked_more list j b old now new i low same ne was turned =
       let ends : xor (eqb b.u i) (xor (eqb b.v i) false) ≡ ends_at i (get_or list j 0) = ap (xor (eqb b.u i)) (xor-false (eqb b.v i)) ∙ one_end b.u b.v i ne
       ∙ ap (λ (b : Bond). is_end_of b i) same in
-      turned
-      ∙ ap (λ z. xor z (xor (eqb b.u i) (xor (eqb b.v i) false))) was
+      turned ∙ ap (λ z. xor z (xor (eqb b.u i) (xor (eqb b.v i) false))) was
       ∙ xor_assoc (is_marked old i) (parity_by (ends_at i) (take j list)) (xor (eqb b.u i) (xor (eqb b.v i) false))
       ∙ ap (xor (is_marked old i)) (ap (xor (parity_by (ends_at i) (take j list))) ends ∙ sym (parity_by_more (ends_at i) list j 0 low))
 
@@ -51,8 +50,7 @@ module _ (inst : Ising) where
       (ends_at i) list some.0 0 some.1 (some.2 0)
 
   -- the least marked end of a bond is the least odd spin
-  pub least_odd : (list : List ℕ) (marks : List Bool) (r : Option ℕ) →
-      ((i : ℕ) → i < inst.n → is_marked marks i ≡ parity_by (ends_at i) list) →
+  pub least_odd : (list : List ℕ) (marks : List Bool) (r : Option ℕ) → ((i : ℕ) → i < inst.n → is_marked marks i ≡ parity_by (ends_at i) list) →
       IfSome r (λ i. (i < inst.n) × (is_marked marks i ≡ true)) →
       ((i : ℕ) → i < inst.n → is_marked marks i ≡ true → list_any (ends_at i) list ≡ true → IsSomeAnd r (λ x. x ≤ i)) →
       IfNone r (IsEven inst list) × IfSome r (IsFirstFailure (IsEvenAt inst list) inst.n)
@@ -80,8 +78,7 @@ module _ (inst : Ising) where
   pub negative_more : (list : List ℕ) (j : ℕ) (b : Bond) (now : Bool) → j < length list → b ≡ bond_at inst (get_or list j 0) →
       now ≡ parity_by (λ k. is_negative (bond_at inst k)) (take j list) →
       xor now (is_negative b) ≡ parity_by (λ k. is_negative (bond_at inst k)) (take (j + 1) list)
-  negative_more list j b now low same was =
-      ap (λ z. xor z (is_negative b)) was
+  negative_more list j b now low same was = ap (λ z. xor z (is_negative b)) was
       ∙ ap (xor (parity_by (λ k. is_negative (bond_at inst k)) (take j list))) (ap is_negative same)
       ∙ sym (parity_by_more (λ k. is_negative (bond_at inst k)) list j 0 low)
 
@@ -95,10 +92,7 @@ module _ (inst : Ising) where
 
 -- marks that are turned twice are as they were
 pub turned_twice : (n : ℕ) (p : ℕ → Bool) (old mid new : List Bool) → length old ≡ n → length mid ≡ n → length new ≡ n →
-    ((i : ℕ) → i < n → is_marked mid i ≡ xor (is_marked old i) (p i)) →
-    ((i : ℕ) → i < n → is_marked new i ≡ xor (is_marked mid i) (p i)) → new ≡ old
-turned_twice n p old mid new a b e first second =
-    ext_get_or false new old (e ∙ sym a) (λ i l.
-    (let low : i < n = omega arith in
+    ((i : ℕ) → i < n → is_marked mid i ≡ xor (is_marked old i) (p i)) → ((i : ℕ) → i < n → is_marked new i ≡ xor (is_marked mid i) (p i)) → new ≡ old
+turned_twice n p old mid new a b e first second = ext_get_or false new old (e ∙ sym a) (λ i l. (let low : i < n = omega arith in
     second i low ∙ ap (λ z. xor z (p i)) (first i low) ∙ xor_assoc (is_marked old i) (p i) (p i) ∙ ap (xor (is_marked old i)) (xor_self (p i))
     ∙ xor-false (is_marked old i)))

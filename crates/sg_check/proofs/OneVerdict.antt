@@ -1,14 +1,14 @@
 -- A stated proof has one verdict: the first test that it fails, or Yes.
-use Rattle.std.proofs.Common.{◌≡◌, ◌≢◌, inl, inr, ℕ, zero, suc, ◌<◌, ◌≤◌, ℤ, pos, ◌+ℤ◌, List, [], refl, sym, ap, ap₂, subst, ◌∙◌, arith, All}
+use Rattle.std.proofs.Common.{◌≡◌, ◌≢◌, inl, inr, ℕ, zero, suc, ◌<◌, ◌≤◌, pos, ◌+ℤ◌, [], refl, sym, ap, ap₂, subst, ◌∙◌, arith, All}
 use Rattle.std.proofs.lemmas.Bool.{cases_eq, cases_order}
-use Rattle.sg_model.specs.Ising.{Ising, bond_count}
+use Rattle.sg_model.specs.Ising.{Ising}
 use Rattle.sg_model.specs.Energy.{energy, weight}
 use Rattle.sg_model.specs.Spins.{IsAssignment}
 use Rattle.sg_check.specs.declared.packing.ResultText.{ResultText}
 use Rattle.sg_check.specs.declared.verdict.Verdict.{Verdict}
 use Rattle.sg_check.specs.declared.verdict.Verdict.TheVariants.{Yes, SpinCount, Energy, LoopShape, LoopEven, LoopSign, Load, Sum}
 use Rattle.sg_check.specs.Loop.{IsEven, IsEvenAt, IsOddlyNegative}
-use Rattle.sg_check.specs.Packing.{IsWithin, load, packed_weight}
+use Rattle.sg_check.specs.Packing.{load, packed_weight}
 use Rattle.sg_check.specs.Verdict.{HasShape, IsFirstFailure, IsVerdict, PassesLoads, loop_at}
 
 -- one number is the first that fails
@@ -61,19 +61,10 @@ module _ (inst : Ising) (text : ResultText) where
   passed (LoopSign index) h = ((((tt, h.0.assignment), h.0.stated), h.1), h.2)
   passed (Load bond sum) h = (((((tt, h.0.assignment), h.0.stated), h.1.shaped), h.1.even), h.1.odd)
   passed (Sum found wanted) h = ((((((tt, h.0.assignment), h.0.stated), h.1.shaped), h.1.even), h.1.odd), h.2)
-  passed Yes h = (
-    (
-      (
-        (
-          (((tt, h.assignment), h.stated), λ k d l. record { positive = h.packs.positive k d l; set = (h.packs.frustrated k d l).set }),
-          λ k d l. (h.packs.frustrated k d l).even,
-        ),
-        λ k d l. (h.packs.frustrated k d l).odd,
-      ),
-      h.packs.within,
-    ),
-    h.tight,
-  )
+  passed Yes h =
+      let shaped : All (HasShape inst) text.loops = λ k d l. record { positive = h.packs.positive k d l; set = (h.packs.frustrated k d l).set } in
+      let even : All (λ l. IsEven inst l.bonds) text.loops = λ k d l. (h.packs.frustrated k d l).even in
+      (((((((tt, h.assignment), h.stated), shaped), even), λ k d l. (h.packs.frustrated k d l).odd), h.packs.within), h.tight)
 
   failed : (v : Verdict) → v ≢ Yes → IsVerdict inst text v → Test (stage v) → ⊥
   failed (SpinCount found) other h t = h.1 (h.0 ∙ t.count)
@@ -108,9 +99,7 @@ module _ (inst : Ising) (text : ResultText) where
   one_verdict (LoopShape i) (LoopShape j) p q = ap LoopShape (failure-one _ _ i j p.1 q.1)
   one_verdict (LoopEven i s) (LoopEven j t) p q =
       let same : i ≡ j = failure-one _ _ i j p.2 q.2 in
-      ap₂ LoopEven same
-      (failure-one (IsEvenAt inst (loop_at text.loops j).bonds) inst.n s t
-      (subst (λ (k : ℕ). IsFirstFailure (IsEvenAt inst (loop_at text.loops k).bonds) inst.n s) same p.3) q.3)
+      ap₂ LoopEven same (failure-one (IsEvenAt inst (loop_at text.loops j).bonds) inst.n s t (rw same at p.3) q.3)
   one_verdict (LoopSign i) (LoopSign j) p q = ap LoopSign (failure-one _ _ i j p.3 q.3)
   one_verdict (Load b x) (Load c y) p q =
       let same : b ≡ c = failure-one _ _ b c p.2 q.2 in

@@ -33,13 +33,10 @@ module _ (inst : Ising) (text : ResultText) where
   yes_from_proof Yes h proof = refl
   yes_from_proof (SpinCount found) h proof = absurd (h.1 (h.0 ∙ proof.assignment.count))
   yes_from_proof (Energy found) h proof = absurd (h.2 (h.1 ∙ proof.stated))
-  yes_from_proof (LoopShape index) h proof =
-      absurd (h.1.fails
-      (record {
-        positive = proof.packs.positive index (record { y = pos 0; bonds = [] }) h.1.below;
-        set =
-            (proof.packs.frustrated index (record { y = pos 0; bonds = [] }) h.1.below).set;
-      }))
+  yes_from_proof (LoopShape index) h proof = absurd (h.1.fails (record {
+    positive = proof.packs.positive index (record { y = pos 0; bonds = [] }) h.1.below;
+    set = (proof.packs.frustrated index (record { y = pos 0; bonds = [] }) h.1.below).set;
+  }))
   yes_from_proof (LoopEven index spin) h proof = absurd (h.2.fails (proof.packs.frustrated index (record { y = pos 0; bonds = [] }) h.2.below).even)
   yes_from_proof (LoopSign index) h proof = absurd (h.3.fails (proof.packs.frustrated index (record { y = pos 0; bonds = [] }) h.3.below).odd)
   yes_from_proof (Load bond sum) h proof = absurd (h.2.fails (proof.packs.within bond h.2.below))

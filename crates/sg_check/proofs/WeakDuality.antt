@@ -43,8 +43,7 @@ module _ (inst : Ising) (good : IsInstance inst) where
   -- an odd number of the bonds of a frustrated loop are broken
   pub loop_breaks_oddly : (t : List ℤ) → IsAssignment inst t → (bonds : List ℕ) → IsFrustratedLoop inst bonds
       → parity_by (λ k. is_broken t (bond_at inst k)) bonds ≡ true
-  loop_breaks_oddly t spins bonds loop =
-      parity_by-same (λ k. is_broken t (bond_at inst k)) (λ k. xor (is_negative (bond_at inst k)) (unlike k)) bonds
+  loop_breaks_oddly t spins bonds loop = parity_by-same (λ k. is_broken t (bond_at inst k)) (λ k. xor (is_negative (bond_at inst k)) (unlike k)) bonds
       (λ k d l. is_broken_xor t (bond_at inst (get_or bonds k d)) (ends_at t spins (get_or bonds k d) (loop.set.below k d l)))
       ∙ parity_by-xor (λ k. is_negative (bond_at inst k)) unlike bonds
       ∙ ap₂ xor (sym (odd-count_by (λ k. is_negative (bond_at inst k)) bonds) ∙ odd_from_mod _ loop.odd) cut
@@ -57,8 +56,7 @@ module _ (inst : Ising) (good : IsInstance inst) where
           (λ k d l. (let w : IsBond inst.n (bond_at inst (get_or bonds k d)) = joins (get_or bonds k d) (loop.set.below k d l) in (w.first_end, w.second_end)))
           (λ x l. parity_by-same (λ k. is_end (bond_at inst k).u (bond_at inst k).v x) (λ k. is_end_of (bond_at inst k) x) bonds
           (λ k d l'. one_end (bond_at inst (get_or bonds k d)).u (bond_at inst (get_or bonds k d)).v x
-          (joins (get_or bonds k d) (loop.set.below k d l')).ends_differ)
-          ∙ sym (odd-count_by (λ k. is_end_of (bond_at inst k) x) bonds)
+          (joins (get_or bonds k d) (loop.set.below k d l')).ends_differ) ∙ sym (odd-count_by (λ k. is_end_of (bond_at inst k) x) bonds)
           ∙ even_from_mod _ (loop.even x l))
 
   -- no assignment has less than what a packing proves
@@ -66,11 +64,9 @@ module _ (inst : Ising) (good : IsInstance inst) where
   no_less s e loops h t spins =
       let bound : packed_weight loops ≤ sum_below (λ k. cond (is_broken t (bond_at inst k)) (2 * unsigned_abs (bond_at inst k).j) 0) (bond_count inst) =
       weights_below_capacity loop_weight (λ l. holds l.bonds) (λ k. is_broken t (bond_at inst k)) (λ k. 2 * unsigned_abs (bond_at inst k).j)
-      (bond_count inst) loops
-      (λ i d l. marked t spins (get_or loops i d) (h.packs.frustrated i d l)) h.packs.within in
+      (bond_count inst) loops (λ i d l. marked t spins (get_or loops i d) (h.packs.frustrated i d l)) h.packs.within in
       let total : sum_by (broken_cost t) inst.bonds ≡ sum_below (λ k. cond (is_broken t (bond_at inst k)) (2 * unsigned_abs (bond_at inst k).j) 0)
-      (bond_count inst) =
-      sum_by_is_sum_below (broken_cost t) inst.bonds (record { u = 0; v = 0; j = pos 0 }) in
+      (bond_count inst) = sum_by_is_sum_below (broken_cost t) inst.bonds (record { u = 0; v = 0; j = pos 0 }) in
       below e (energy inst t) (packed_weight loops) (weight inst) (sum_by (broken_cost t) inst.bonds) h.tight (energy_from_costs inst t good spins)
       (omega arith)
     where
@@ -83,8 +79,7 @@ module _ (inst : Ising) (good : IsInstance inst) where
             k,
             loop.set.below found.0 0 found.1,
             found.2 0,
-            or_at (λ bs. holds bs k) (λ b. eqb b k) refl (λ _ _. refl) l.bonds found.0 0 found.1
-                (eq-eqb k k refl),
+            or_at (λ bs. holds bs k) (λ b. eqb b k) refl (λ _ _. refl) l.bonds found.0 0 found.1 (eq-eqb k k refl),
           )
 
       below : (e f : ℤ) (y w b : ℕ) → pos y ≡ e +ℤ pos w → f ≡ pos b -ℤ pos w → y ≤ b → e ≤ℤ f
@@ -94,8 +89,7 @@ module _ (inst : Ising) (good : IsInstance inst) where
   pub proves_ground_state : (s : List ℤ) (e : ℤ) (loops : List Loop) → Proves inst s e loops → IsGroundState inst s
   proves_ground_state s e loops h = record {
     assignment = h.assignment;
-    least = λ t spins. subst (λ x. x ≤ℤ energy inst t) (sym h.stated)
-        (no_less s e loops h t spins);
+    least = λ t spins. subst (λ x. x ≤ℤ energy inst t) (sym h.stated) (no_less s e loops h t spins);
   }
 
   -- the energy of a proof is the least

@@ -14,19 +14,16 @@ pub loop-k-preserved : goal.loop-k-preserved
 loop-k-preserved c = elim c.if-bond_of-lt0.branch [
   | then-bond_of-lt0 w ↦
       let fits : FitsSigned w64 c.bond_of.result.j = search rules in
-      let sign : is_negative c.bond_of.result ≡ true = ap (λ z. int_lt z (pos 0)) (sym (to_z-of_z w64 c.bond_of.result.j fits)) ∙ w.if-bond_of-lt0.true in
+      let sign : is_negative c.bond_of.result ≡ true = ap (λ z. int_lt z (pos 0)) (sym (to_z-of_z _ _ fits)) ∙ w.if-bond_of-lt0.true in
       w.odd-is ∙ xor_comm true c.loop-k.odd ∙ ap (xor c.loop-k.odd) (sym sign)
-      ∙ negative_more c.args.inst.now c.args.list.now c.loop-k.k-index c.bond_of.result c.loop-k.odd c.loop-k-test.true c.bond_of.ensures.value
-      c.loop-k.invariant
+      ∙ negative_more c.args.inst.now c.args.list.now _ _ _ c.loop-k-test.true c.bond_of.ensures.value c.loop-k.invariant
   | else-bond_of-lt0 w ↦
       let fits : FitsSigned w64 c.bond_of.result.j = search rules in
-      let sign : is_negative c.bond_of.result ≡ false = ap (λ z. int_lt z (pos 0)) (sym (to_z-of_z w64 c.bond_of.result.j fits)) ∙ w.if-bond_of-lt0.false in
+      let sign : is_negative c.bond_of.result ≡ false = ap (λ z. int_lt z (pos 0)) (sym (to_z-of_z _ _ fits)) ∙ w.if-bond_of-lt0.false in
       w.odd-is ∙ sym (xor-false c.loop-k.odd) ∙ ap (xor c.loop-k.odd) (sym sign)
-      ∙ negative_more c.args.inst.now c.args.list.now c.loop-k.k-index c.bond_of.result c.loop-k.odd c.loop-k-test.true c.bond_of.ensures.value
-      c.loop-k.invariant
+      ∙ negative_more c.args.inst.now c.args.list.now _ _ _ c.loop-k-test.true c.bond_of.ensures.value c.loop-k.invariant
 ]
 
 pub returns : goal.returns
-returns c =
-    odd_sign c.args.inst.now c.args.list.now c.loop-k.odd (c.loop-k.invariant
-    ∙ ap (parity_by (λ k. is_negative (bond_at c.args.inst.now k))) (take_all c.loop-k.k-index c.args.list.now c.loop-k-test.false))
+returns c = odd_sign c.args.inst.now c.args.list.now c.loop-k.odd (c.loop-k.invariant
+    ∙ ap (parity_by (λ k. is_negative (bond_at c.args.inst.now k))) (take_all _ _ c.loop-k-test.false))

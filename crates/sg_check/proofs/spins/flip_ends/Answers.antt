@@ -3,7 +3,6 @@ use Rattle.sg_check.proofs.OddSpins.{is_marked_more}
 use Rattle.sg_check.proofs.spins.flip_ends.Goals as goal
 
 pub loop-k-preserved : goal.loop-k-preserved
-loop-k-preserved c = λ i l.
-    is_marked_more c.args.inst.now c.args.list.now c.loop-k.k-index c.bond_of-bond.result c.args.marks.now c.loop-k.marks c.flip.new.marks i
+loop-k-preserved c = λ i l. is_marked_more c.args.inst.now _ _ _ _ _ _ i
     c.loop-k-test.true c.bond_of-bond.ensures.value c.bond_of-bond.ensures.bond.ends_differ (c.loop-k.invariant i l)
     (c.flip.ensures i (omega (arith, c.loop-k.auto.marks, c.requires.lengths)))
