@@ -77,21 +77,18 @@ unfolding entries_given
 entries_given-other body r other = given-other says_term (λ q. sizes_from q 1) body r other
 
 -- nothing was read yet
-pub holds-none : (state : GraphBody) → 1 ≤ state.nodes → state.nodes ≤ spin_limit → state.edges ≡ [] → state.entries ≡ None
-    → HoldsGraph state [] state
+pub holds-none : (state : GraphBody) → 1 ≤ state.nodes → state.nodes ≤ spin_limit → state.edges ≡ [] → state.entries ≡ None → HoldsGraph state [] state
 unfolding edges_in entries_given
-holds-none state some few none no_entries =
-    let count = ap length none in
-    record {
-      nodes = refl;
-      terms = refl;
-      some = some;
-      few_nodes = few;
-      edges = none;
-      few = omega (arith, count);
-      joined = All-same (IsEdge state.nodes) state.edges [] none (All-nil (IsEdge state.nodes));
-      entries = no_entries;
-    }
+holds-none state some few none no_entries = record {
+  nodes = refl;
+  terms = refl;
+  some = some;
+  few_nodes = few;
+  edges = none;
+  few = omega (arith, ap length none);
+  joined = All-same (IsEdge state.nodes) state.edges [] none (All-nil (IsEdge state.nodes));
+  entries = no_entries;
+}
 
 edge-tested : (old : GraphBody) (r : Kept) (m : ℕ) → m ≡ length old.edges → says_edge r ≡ true → (start : GraphBody) (body : List Kept)
     → HoldsGraph start body old → body_fault start.terms start.nodes body r ≡ edge_fault old.nodes m r
@@ -105,35 +102,28 @@ pub edge-taken : (old new : GraphBody) (r : Kept) (m : ℕ) → m ≡ length old
     → IsEdge old.nodes (edge_of r) → m < bond_limit → TakesNext (λ s. body_fault s.terms s.nodes) HoldsGraph old r new
 edge-taken old new r m many is good same_nodes same_terms same_entries added sound room = record {
   passes = λ start body h. edge-tested old r m many is start body h ∙ good;
-  goes_on = λ start body h.
-      let count = length-append old.edges (edge_of r ∷ []) in
-      let all = ap length added in
-      let some = h.some in
-      let few = h.few_nodes in
-      record {
-        nodes = same_nodes ∙ h.nodes;
-        terms = same_terms ∙ h.terms;
-        some = omega (arith, same_nodes, some);
-        few_nodes = omega (arith, same_nodes, few);
-        edges = added ∙ ap (λ (l : List Edge). l ++ edge_of r ∷ []) h.edges ∙ sym (edges_in-more body r is);
-        few = omega (arith, all, count, many, room);
-        joined = rw same_nodes (All-same (IsEdge old.nodes) new.edges (old.edges ++ edge_of r ∷ []) added
-            (All-append (IsEdge old.nodes) old.edges (edge_of r ∷ []) h.joined (All-cons (IsEdge old.nodes) (edge_of r) [] sound
-            (All-nil (IsEdge old.nodes)))));
-        entries = same_entries ∙ h.entries ∙ sym (entries_given-other body r (other-word r (codes "edge") (codes "term") is refl));
-      };
+  goes_on = λ start body h. record {
+    nodes = same_nodes ∙ h.nodes;
+    terms = same_terms ∙ h.terms;
+    some = omega (arith, same_nodes, h.some);
+    few_nodes = omega (arith, same_nodes, h.few_nodes);
+    edges = added ∙ ap (λ (l : List Edge). l ++ edge_of r ∷ []) h.edges ∙ sym (edges_in-more body r is);
+    few = omega (arith, ap length added, length-append old.edges (edge_of r ∷ []), many, room);
+    joined = rw same_nodes (All-same (IsEdge old.nodes) new.edges (old.edges ++ edge_of r ∷ []) added
+        (All-append (IsEdge old.nodes) old.edges (edge_of r ∷ []) h.joined (All-cons (IsEdge old.nodes) (edge_of r) [] sound
+        (All-nil (IsEdge old.nodes)))));
+    entries = same_entries ∙ h.entries ∙ sym (entries_given-other body r (other-word r (codes "edge") (codes "term") is refl));
+  };
 }
 
 -- an `edge` is refused
-pub edge-refused : (old : GraphBody) (r : Kept) (m : ℕ) (x : Refusal) → m ≡ length old.edges → says_edge r ≡ true
-    → edge_fault old.nodes m r ≡ Some x
+pub edge-refused : (old : GraphBody) (r : Kept) (m : ℕ) (x : Refusal) → m ≡ length old.edges → says_edge r ≡ true → edge_fault old.nodes m r ≡ Some x
     → RefusesNext (λ s. body_fault s.terms s.nodes) HoldsGraph old r (Refused x)
 edge-refused old r m x many is bad = record { refused = λ start body h. edge-tested old r m many is start body h ∙ bad }
 
 term-tested : (old : GraphBody) (r : Kept) (seen : Bool) → is_some old.entries ≡ seen → old.terms ≡ true → says_term r ≡ true
     → (start : GraphBody) (body : List Kept) → HoldsGraph start body old → body_fault start.terms start.nodes body r ≡ sole_list_fault seen r
-term-tested old r seen was allowed is start body h =
-    body_fault-term start.terms start.nodes body r (sym h.terms ∙ allowed) is
+term-tested old r seen was allowed is start body h = body_fault-term start.terms start.nodes body r (sym h.terms ∙ allowed) is
     ∙ ap (λ (b : Bool). sole_list_fault b r) (sym (ap is_some h.entries) ∙ was)
 
 -- a `term` is taken
@@ -143,18 +133,14 @@ pub term-taken : (old new : GraphBody) (r : Kept) (seen : Bool) (list : List ℕ
 term-taken old new r seen list was allowed is good value same_nodes same_terms same_edges given = record {
   passes = λ start body h. term-tested old r seen was allowed is start body h ∙ good;
   goes_on = λ start body h.
-      let all = ap length same_edges in
-      let few = h.few in
-      let some = h.some in
-      let most = h.few_nodes in
       let now = entries_given-first body r (ap is_some (sym h.entries) ∙ was ∙ sole_list_fault-passes seen r good) is in
       record {
         nodes = same_nodes ∙ h.nodes;
         terms = same_terms ∙ h.terms;
-        some = omega (arith, same_nodes, some);
-        few_nodes = omega (arith, same_nodes, most);
+        some = omega (arith, same_nodes, h.some);
+        few_nodes = omega (arith, same_nodes, h.few_nodes);
         edges = same_edges ∙ h.edges ∙ sym (edges_in-other body r (other-word r (codes "term") (codes "edge") is refl));
-        few = omega (arith, all, few);
+        few = omega (arith, ap length same_edges, h.few);
         joined = rw (same_nodes, same_edges) h.joined;
         entries = given ∙ ap (λ (l : List ℕ). Some l) value ∙ sym now;
       };
@@ -180,8 +166,7 @@ end-tested now r end start body h =
     ∙ ap (λ (n : ℕ). graph_end_fault n (unwrap_or now.entries []) r) (sym h.nodes)
 
 -- a bare `end` behind good terminals passes
-pub end-passes : (now : GraphBody) (r : Kept) → says_end r ≡ true → field_count_fault 1 r ≡ None
-    → terminals_fault now.nodes (unwrap_or now.entries []) ≡ None
+pub end-passes : (now : GraphBody) (r : Kept) → says_end r ≡ true → field_count_fault 1 r ≡ None → terminals_fault now.nodes (unwrap_or now.entries []) ≡ None
     → (start : GraphBody) (body : List Kept) → HoldsGraph start body now → body_fault start.terms start.nodes body r ≡ None
 end-passes now r end bare good start body h = end-tested now r end start body h ∙ rw (bare, good) refl
 
@@ -202,8 +187,7 @@ pub graph-held : (now : GraphBody) (list : List ℕ) → list ≡ terminals_of n
     → record { nodes = now.nodes; edges = now.edges; terminals = list } ≡ body_graph start.nodes body
 unfolding body_graph
 graph-held now list value start body h =
-    let same : list ≡ terminals_of now.nodes (entries_in body) = value
-    ∙ ap (λ (o : Option (List ℕ)). terminals_of now.nodes (unwrap_or o [])) h.entries in
+    let same : list ≡ terminals_of now.nodes (entries_in body) = value ∙ ap (λ (o : Option (List ℕ)). terminals_of now.nodes (unwrap_or o [])) h.entries in
     rw (← h.nodes) (λ i. record { nodes = now.nodes; edges = h.edges i; terminals = same i })
 
 -- what is kept makes a graph within the limits

@@ -13,14 +13,12 @@ use Rattle.sg_model.specs.Faults.{OrNoMemory}
 
 -- what refuses the records refuses the network
 pub alone-fault : (terms : Bool) (bytes : List ℕ) (e : Fault)
-    → OrNoMemory (RefusesAlone (ReadsGraph terms (kept_of bytes)) (RefusesGraph terms (kept_of bytes))) e
-    → OrNoMemory (RefusesNetwork terms bytes) e
+    → OrNoMemory (RefusesAlone (ReadsGraph terms (kept_of bytes)) (RefusesGraph terms (kept_of bytes))) e → OrNoMemory (RefusesNetwork terms bytes) e
 alone-fault terms bytes (Refused x) bad = AtRecords bad
 alone-fault terms bytes NoMemory bad = tt
 
 -- a graph that is not connected refuses the network
-pub reach-fault : (terms : Bool) (bytes : List ℕ) (text : GraphText) (g : Graph) (e : Fault) → ReadsGraph terms (kept_of bytes) text []
-    → g ≡ graph_in text
+pub reach-fault : (terms : Bool) (bytes : List ℕ) (text : GraphText) (g : Graph) (e : Fault) → ReadsGraph terms (kept_of bytes) text [] → g ≡ graph_in text
     → total_weight g ≤ sum_limit → OrNoMemory (IsUnjoined g) e → OrNoMemory (RefusesNetwork terms bytes) e
 reach-fault terms bytes text g (Refused x) gives same light bad = AtReach text gives (subst (λ (h : Graph). total_weight h ≤ sum_limit) same light)
     (subst (λ (h : Graph). IsUnjoined h x) same bad)

@@ -33,8 +33,7 @@ light-none g r light bad = omega (arith, light, bad.heavy)
 module _ (terms : Bool) (bytes : List ℕ) where
   texts-one : HasOneAnswer (λ text. ReadsGraph terms (kept_of bytes) text [])
       (RefusesAlone (ReadsGraph terms (kept_of bytes)) (RefusesGraph terms (kept_of bytes)))
-  texts-one =
-      alone-one_answer (ReadsGraph terms (kept_of bytes)) (RefusesGraph terms (kept_of bytes))
+  texts-one = alone-one_answer (ReadsGraph terms (kept_of bytes)) (RefusesGraph terms (kept_of bytes))
       (records-one_answer (graph_fault terms) graph_of (kept_of bytes))
 
   -- a connected graph with its terminals, or the refusal
@@ -46,14 +45,12 @@ module _ (terms : Bool) (bytes : List ℕ) where
     named = λ r s bad other. named r s bad other;
   }
     where
-      graph-same : (p : Graph × List ℕ) (text : GraphText) → GivesNetwork terms bytes p.0 p.1 →
-          ReadsGraph terms (kept_of bytes) text [] → graph_in text ≡ p.0
+      graph-same : (p : Graph × List ℕ) (text : GraphText) → GivesNetwork terms bytes p.0 p.1 → ReadsGraph terms (kept_of bytes) text [] → graph_in text ≡ p.0
       graph-same p text given reads = ap graph_in (texts-one.one text (with_terminals p.0 p.1) reads given.gives)
 
       apart : (p : Graph × List ℕ) (r : Refusal) → GivesNetwork terms bytes p.0 p.1 → RefusesNetwork terms bytes r → ⊥
       apart p r given (AtRecords bad) = texts-one.apart (with_terminals p.0 p.1) r given.gives bad
-      apart p r given (AtWeight text reads heavy) =
-          light-none p.0 r given.light (subst (λ (g : Graph). IsTooHeavy g r) (graph-same p text given reads) heavy)
+      apart p r given (AtWeight text reads heavy) = light-none p.0 r given.light (subst (λ (g : Graph). IsTooHeavy g r) (graph-same p text given reads) heavy)
       apart p r given (AtReach text reads light bad) =
           connected-whole p.0 r given.connected (subst (λ (g : Graph). IsUnjoined g r) (graph-same p text given reads) bad)
 

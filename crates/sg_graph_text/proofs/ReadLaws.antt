@@ -2,7 +2,7 @@
 use Rattle.std.proofs.Common.{◌≡◌, ℕ, Bool, false, List, [], ◌∷◌, None, refl, sym, ap, ap₂, subst, ◌∙◌, codes}
 use Rattle.sg_model.specs.declared.refusal.Fault.{Fault}
 use Rattle.sg_reader.specs.Kept.{Kept}
-use Rattle.sg_reader.specs.Tests.{field_count_fault, size_in}
+use Rattle.sg_reader.specs.Tests.{size_in}
 use Rattle.sg_reader.specs.Body.{says_end}
 use Rattle.sg_reader.specs.Ended.{IsEnded, RefusesRecords, StatesToEnd, TestTable, Fails, HoldsToEnd, RefusesNext}
 use Rattle.sg_draft.specs.Tests.{Refuses}
@@ -24,8 +24,7 @@ unfolding graph_fault
 size-fault terms all r rest e split bad = first-fault (graph_fault terms) all r rest e split bad
 
 -- the tests of the body are those of the graph
-tests-graph : (terms : Bool) (n : ℕ) (start : GraphBody) → start.terms ≡ terms → start.nodes ≡ n
-    → body_fault start.terms start.nodes ≡ body_fault terms n
+tests-graph : (terms : Bool) (n : ℕ) (start : GraphBody) → start.terms ≡ terms → start.nodes ≡ n → body_fault start.terms start.nodes ≡ body_fault terms n
 tests-graph terms n start allowed nodes = ap₂ body_fault allowed nodes
 
 -- what refuses a record behind the first refuses the body
@@ -39,8 +38,7 @@ module _ (terms : Bool) (n : ℕ) (start : GraphBody) (all : List Kept) (now : G
   -- what refuses the `end` refuses the body
   pub end-fails : (e : Fault) → start.terms ≡ terms → start.nodes ≡ n → RefusesNext (λ s. body_fault s.terms s.nodes) HoldsGraph now last e
       → Fails (RefusesRecords (body_fault terms n) all) all rest e
-  end-fails e allowed nodes bad =
-      body-fails terms n start all rest e allowed nodes
+  end-fails e allowed nodes bad = body-fails terms n start all rest e allowed nodes
       (end-fault (λ s. body_fault s.terms s.nodes) HoldsGraph start all now last rest h e (bad.refused start h.body h.held))
 
   -- an `end` that passes makes the graph that is stated

@@ -7,13 +7,12 @@ pub returns-clause-gives : goal.returns-clause-gives
 returns-clause-gives c =
     let records = kept_of c.args.bytes.now in
     let reads = rw c.new-rows.ensures at c.read_graph-given.ensures.read in
-    alone-reads (ReadsGraph c.args.terms records) (RefusesGraph c.args.terms records) records c.read_graph-given.new.rows c.alone.new.rows
-    c.read_graph-given.result c.alone.result reads c.alone.ensures.value c.alone.ensures.none
+    alone-reads (ReadsGraph c.args.terms records) (RefusesGraph c.args.terms records) records c.read_graph-given.new.rows c.alone.new.rows _ _ reads
+    c.alone.ensures.value c.alone.ensures.none
 
 pub returns-clause-refuses : goal.returns-clause-refuses
 returns-clause-refuses c =
     let records = kept_of c.args.bytes.now in
     let reads = rw c.new-rows.ensures at c.read_graph-given.ensures.read in
     let fails = rw c.new-rows.ensures at c.read_graph-given.ensures.fault in
-    alone-refuses (ReadsGraph c.args.terms records) (RefusesGraph c.args.terms records) records c.read_graph-given.new.rows c.alone.new.rows
-    c.read_graph-given.result c.alone.result reads fails c.alone.ensures.fault
+    alone-refuses (ReadsGraph c.args.terms records) (RefusesGraph c.args.terms records) records _ _ _ _ reads fails c.alone.ensures.fault

@@ -12,13 +12,9 @@ pub read_edge-requires-clause-few : goal.read_edge-requires-clause-few
 read_edge-requires-clause-few c = rw c.len.ensures c.requires.held.held.few
 
 pub returns-in_err-edge-clause-fault : goal.returns-in_err-edge-clause-fault
-returns-in_err-edge-clause-fault c =
-    failed c.from_residual.result _ c.from_residual.ensures.1
-    (edge-refused c.args.self.now c.args.row.now c.len.result c.in_err-edge.field-0.0 c.len.ensures c.requires.word c.in_err-edge.ensures.refused)
+returns-in_err-edge-clause-fault c = failed _ _ c.from_residual.ensures.1 (edge-refused _ _ _ _ c.len.ensures c.requires.word c.in_err-edge.ensures.refused)
 
 pub returns-clause-taken : goal.returns-clause-taken
-returns-clause-taken c =
-    let value = c.in_ok-edge.ensures.value in
-    edge-taken c.args.self.now _ c.args.row.now c.len.result c.len.ensures c.requires.word c.in_ok-edge.ensures.passes refl refl refl
-    (c.in_ok-push.ensures.ok ∙ ap (λ (e : Edge). c.args.self.now.edges ++ e ∷ []) value)
-    (subst (λ (e : Edge). IsEdge c.args.self.now.nodes e) value c.in_ok-edge.ensures.sound) c.in_ok-edge.ensures.room
+returns-clause-taken c = edge-taken _ _ _ _ c.len.ensures c.requires.word c.in_ok-edge.ensures.passes refl refl refl
+    (c.in_ok-push.ensures.ok ∙ ap (λ (e : Edge). c.args.self.now.edges ++ e ∷ []) c.in_ok-edge.ensures.value)
+    (subst (λ (e : Edge). IsEdge c.args.self.now.nodes e) c.in_ok-edge.ensures.value c.in_ok-edge.ensures.sound) c.in_ok-edge.ensures.room

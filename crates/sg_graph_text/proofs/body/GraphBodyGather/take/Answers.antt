@@ -13,8 +13,8 @@ returns-else-self-clause-fault c =
     let old = c.args.self.now in
     let r = c.args.row.now in
     let none : (old.terms && says_term r) ≡ false = elim c.else-self.branch [
-      | else-self-via-then-self+else-begins-2 w ↦ no_term old.terms (says_term r) (sym w.begins-then-self.ensures ∙ w.if-begins-2.false)
-      | else-self-via-else-self w ↦ not_allowed old.terms (says_term r) w.if-self.false
+      | else-self-via-then-self+else-begins-2 w ↦ no_term old.terms _ (sym w.begins-then-self.ensures ∙ w.if-begins-2.false)
+      | else-self-via-else-self w ↦ not_allowed old.terms _ w.if-self.false
     ] in
     subst (λ (k : ℕ). RefusesNext (λ s. body_fault s.terms s.nodes) HoldsGraph old r (Refused (UnknownKind k))) (sym c.at.ensures.value)
     (other-refused old r (sym c.begins.ensures ∙ c.if-begins.false) none c.requires.other)
