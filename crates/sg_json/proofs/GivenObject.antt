@@ -33,8 +33,7 @@ counted-length (WrongAt entry) = refl
 -- what a draft gives
 pub drafted-given : (draft : Draft) (inst : Ising) → IsDrafted program_limits draft inst → IsGiven inst
 drafted-given (OfLattice d) inst given =
-    let size = (first-none (lattice_size_fault program_limits d.kind d.rows d.cols) _ given.passes).0 in
-    let rows = first-none (number_fault member.Rows 1 d.rows) _ size in
+    let rows = first-none (number_fault member.Rows 1 d.rows) _ ((first-none (lattice_size_fault program_limits d.kind d.rows d.cols) _ given.passes).0) in
     let cols = first-none (number_fault member.Cols (least_cols d.kind) d.cols) _ rows.1 in
     let R : ℕ = unwrap_or d.rows 0 in
     let C : ℕ = unwrap_or d.cols 0 in
@@ -53,19 +52,16 @@ drafted-given (OfGeneral d) inst given =
     let numbers =
     (first-none (general_draft_fault program_limits d.spins (read_length d.bonds) (wrong_entry d.rotation) (wrong_entry d.seam)) _ given.passes).0 in
     let spins = first-none (spin_count_fault program_limits d.spins) _ numbers in
-    let number = first-none (number_fault member.SpinCount 1 d.spins) _ spins.0 in
-    let most = first-none (many_spins_fault program_limits (unwrap_or d.spins 0)) _ number.1 in
+    let most = first-none (many_spins_fault program_limits (unwrap_or d.spins 0)) _ (first-none (number_fault member.SpinCount 1 d.spins) _ spins.0).1 in
     let few : unwrap_or d.spins 0 ≤ spin_limit = ltb-false spin_limit (unwrap_or d.spins 0) (passed-if _ _ most.0) in
     let behind = first-none (member_fault member.Bonds (wrong_entry (read_length d.bonds))) _ spins.1 in
-    let rotation = first-none (member_fault member.Rotation (wrong_entry d.rotation)) _ behind.1 in
-    let seam = first-none (member_fault member.Seam (wrong_entry d.seam)) _ rotation.1 in
+    let seam = first-none (member_fault member.Seam (wrong_entry d.seam)) _ (first-none (member_fault member.Rotation (wrong_entry d.rotation)) _ behind.1).1 in
     let bonds = (first-none (bond_count_fault program_limits (value_or 0 (read_length d.bonds))) _ seam.1).0 in
     let light = ltb-false bond_limit (value_or 0 (read_length d.bonds)) (passed-if _ _ bonds) in
     record {
       instance = given.instance;
       few_spins = subst (λ (i : Ising). i.n ≤ spin_limit) (sym given.value) few;
-      few_bonds = subst (λ (i : Ising). bond_count i ≤ bond_limit) (sym given.value)
-          (subst (λ (m : ℕ). m ≤ bond_limit) (counted-length d.bonds) light);
+      few_bonds = subst (λ (i : Ising). bond_count i ≤ bond_limit) (sym given.value) (subst (λ (m : ℕ). m ≤ bond_limit) (counted-length d.bonds) light);
     }
 
 -- what a JSON text gives

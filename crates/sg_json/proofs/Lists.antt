@@ -50,19 +50,16 @@ nowhere p xs i d none inside = by (nat_lt (position_or_len p xs) (length xs)) re
     by false e h = let past = ltb-false (position_or_len p xs) (length xs) e in fails_before_first p xs i d (omega (arith, past, inside))
 
 -- where there is no misfit each item is what its list wants
-fit-all : (P : Data → Type 0) (what : Entry) (ds : List Data) → ((d : Data) → is_entry what d ≡ true → P d) →
-    first_wrong what ds ≡ None → All P ds
+fit-all : (P : Data → Type 0) (what : Entry) (ds : List Data) → ((d : Data) → is_entry what d ≡ true → P d) → first_wrong what ds ≡ None → All P ds
 fit-all P what ds each none = All-from_get_or P ds null (λ i inside.
     each (item_at ds i) (not-false _ (nowhere (λ d. not (is_entry what d)) ds i null none inside)))
 
 -- the numbers of a list of couplings are couplings
 pub couplings-fit : (ds : List Data) → first_wrong entry.Coupling ds ≡ None → All IsCoupling (map value_number ds)
-couplings-fit ds none = All-map IsCoupling value_number ds
-    (fit-all (λ d. IsCoupling (value_number d)) entry.Coupling ds
+couplings-fit ds none = All-map IsCoupling value_number ds (fit-all (λ d. IsCoupling (value_number d)) entry.Coupling ds
     (λ d pass. ltb-true _ _ (and_parts (is_some (whole_number d)) (is_coupling (value_number d)) pass).1) none)
 
 -- the bonds of a list of bonds are among the spins
 pub bonds-fit : (n : ℕ) (ds : List Data) → first_wrong (entry.Bond n) ds ≡ None → All (IsAmong n) (map value_bond ds)
-bonds-fit n ds none = All-map (IsAmong n) value_bond ds
-    (fit-all (λ d. IsAmong n (value_bond d)) (entry.Bond n) ds
+bonds-fit n ds none = All-map (IsAmong n) value_bond ds (fit-all (λ d. IsAmong n (value_bond d)) (entry.Bond n) ds
     (λ d pass. among-of n (value_bond d) (and_parts (is_triple (items_in d)) (is_among n (value_bond d)) pass).1) none)

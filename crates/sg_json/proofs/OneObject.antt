@@ -21,8 +21,7 @@ one_form d form form2 p q = same_Some form form2 (sym p ∙ q)
 -- names that may stand beside one kind may stand beside the same kind
 names_apart : (d : Data) (form form2 : Form) → form_in d ≡ Some form → form_in d ≡ Some form2 → list_all (is_known form) (names_in d) ≡ true
     → list_all (is_known form2) (names_in d) ≡ false → ⊥
-names_apart d form form2 p q known other =
-    true≢false (sym known ∙ ap (λ (f : Form). list_all (is_known f) (names_in d)) (one_form d form form2 p q) ∙ other)
+names_apart d form form2 p q known other = true≢false (sym known ∙ ap (λ (f : Form). list_all (is_known f) (names_in d)) (one_form d form form2 p q) ∙ other)
 
 -- what JSON data says
 pub data-one_answer : (d : Data) → HasOneAnswer (Gives d) (RefusesData d)
@@ -36,8 +35,7 @@ data-one_answer d = record {
     apart : (inst : Ising) (r : Refusal) → Gives d inst → RefusesData d r → ⊥
     apart inst r given (NoKind none e) = none-some given.form (sym none ∙ given.kind)
     apart inst r given (OtherName form kind other e) = names_apart d given.form form given.kind kind given.names other
-    apart inst r given (OfDraft form kind names bad) =
-        (draft-one_answer program_limits (draft_of form d)).apart inst r
+    apart inst r given (OfDraft form kind names bad) = (draft-one_answer program_limits (draft_of form d)).apart inst r
         (subst (λ (f : Form). IsDrafted program_limits (draft_of f d) inst) (one_form d given.form form given.kind kind) given.drafted) bad
 
     named : (r s : Refusal) → RefusesData d r → RefusesData d s → r ≡ s
@@ -49,8 +47,7 @@ data-one_answer d = record {
     named r s (OtherName form kind other e) (OfDraft form2 kind2 names bad) = absurd (names_apart d form2 form kind2 kind names other)
     named r s (OfDraft form kind names bad) (NoKind none e) = absurd (none-some form (sym none ∙ kind))
     named r s (OfDraft form kind names bad) (OtherName form2 kind2 other e) = absurd (names_apart d form form2 kind kind2 names other)
-    named r s (OfDraft form kind names bad) (OfDraft form2 kind2 names2 bad2) =
-        (draft-one_answer program_limits (draft_of form2 d)).named r s
+    named r s (OfDraft form kind names bad) (OfDraft form2 kind2 names2 bad2) = (draft-one_answer program_limits (draft_of form2 d)).named r s
         (subst (λ (f : Form). IsDraftRefusal program_limits (draft_of f d) r) (one_form d form form2 kind kind2) bad) bad2
 
 -- one data is read from a text

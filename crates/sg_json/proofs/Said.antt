@@ -44,8 +44,7 @@ sound wrong other x none = rw none refl
 -- the lattice that the members say
 pub lattice-said : (kind : Kind) (d : Data) (rows cols : ℕ) (js : List ℤ) (seam : Option (List ℕ)) → size_at (codes "rows") d ≡ Some rows
     → size_at (codes "cols") d ≡ Some cols → wrong_list entry.Coupling (member_list (codes "couplings") d) ≡ None
-    → js ≡ map value_number (items_at (codes "couplings") d) → wrong_seam (get (codes "seam") d) ≡ None
-    → seam ≡ option_map value_indices (get (codes "seam") d)
+    → js ≡ map value_number (items_at (codes "couplings") d) → wrong_seam (get (codes "seam") d) ≡ None → seam ≡ option_map value_indices (get (codes "seam") d)
     → reseamed seam (lattice kind rows cols js) ≡ drafted (OfLattice (lattice_draft kind d))
 lattice-said kind d rows cols js seam r c fit j apart s =
     let list : js ≡ _ = j ∙ sym (sound (wrong_list entry.Coupling (member_list (codes "couplings") d)) []
@@ -56,8 +55,7 @@ lattice-said kind d rows cols js seam r c fit j apart s =
 -- the tests of a general instance, of what the code counts
 pub general-tests : (most : Limits) (d : Data)
     → general_draft_fault most (size_at (codes "n") d) (read_length (general_draft d).bonds) (wrong_entry (general_draft d).rotation)
-    (wrong_entry (general_draft d).seam)
-    ≡ general_draft_fault most (size_at (codes "n") d)
+    (wrong_entry (general_draft d).seam) ≡ general_draft_fault most (size_at (codes "n") d)
     (unless (wrong_list (entry.Bond (member_spins d)) (member_list (codes "bonds") d)) (length (items_at (codes "bonds") d)))
     (wrong_rotation (member_spins d) (member_list (codes "rotation") d)) (wrong_seam (get (codes "seam") d))
 general-tests most d = λ i. general_draft_fault most (size_at (codes "n") d)

@@ -17,8 +17,7 @@ all_keys t [] = refl
 all_keys t (e ∷ es) = ap (λ (b : Bool). t (string_bytes e.0) && b) (all_keys t es)
 
 pub returns-in-Some : goal.returns-in-Some
-returns-in-Some c =
-    all_from_yields_List (λ k. is_known c.args.form (string_bytes k)) _ _ _ c.all.ensures.ran
+returns-in-Some c = all_from_yields_List (λ k. is_known c.args.form (string_bytes k)) _ _ _ c.all.ensures.ran
     (YieldsList-from_rest (keys_of c.in-Some.map.now.entries) c.keys.ensures.rest) (λ x b q k. search (rules, tests))
     ∙ sym (all_keys (is_known c.args.form) c.in-Some.map.now.entries)
     ∙ ap (λ (o : Option Members). list_all (is_known c.args.form) (unwrap_or (option_map member_names o) [])) c.in-Some.ensures

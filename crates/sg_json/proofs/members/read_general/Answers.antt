@@ -50,7 +50,7 @@ pub returns-in_err-n-clause-fault : goal.returns-in_err-n-clause-fault
 returns-in_err-n-clause-fault c =
     let p = err_from_is_err_and c.from_residual.result c.from_residual.ensures.1 in
     let same = same_test (goal.at.returns-in_err-n-clause-fault c).After-check_general in
-    rw (p.1, p.2) (inl (general-some program_limits (general_draft (view c.args.value.now)) c.in_err-n.field-0.0 (same ∙ c.in_err-n.ensures.refused)))
+    rw (p.1, p.2) (inl (general-some program_limits (general_draft (view c.args.value.now)) _ (same ∙ c.in_err-n.ensures.refused)))
 
 -- what is so of the members where the test passes: no bond is wrong, no list of darts, and n is the number of spins
 none_wrong : (c : After-check_general) → (known : c.unless.result ≡ Known (value_or 0 c.unless.result))
@@ -59,13 +59,11 @@ none_wrong c known = sym (wrong_is c) ∙ unless-known _ _ _ (sym c.unless.ensur
 
 -- the bonds that are built
 bonds_are : (c : In_ok-cut) → c.in_ok-joined.joined ≡ map value_bond (items_at (codes "bonds") (view c.args.value.now))
-bonds_are c = c.in_ok-joined.ensures ∙ sym (mapped value_bond view c.items_at-items.result.now)
-    ∙ ap (λ (l : List Data). map value_bond l) c.items_at-items.ensures
+bonds_are c = c.in_ok-joined.ensures ∙ sym (mapped value_bond view _) ∙ ap (λ (l : List Data). map value_bond l) c.items_at-items.ensures
 
 -- and the lists of darts
 darts_are : (c : In_ok-cut) → c.in_ok-darts.darts ≡ map value_indices (items_at (codes "rotation") (view c.args.value.now))
-darts_are c = c.in_ok-darts.ensures ∙ sym (mapped value_indices view c.items_at.result.now)
-    ∙ ap (λ (l : List Data). map value_indices l) c.items_at.ensures
+darts_are c = c.in_ok-darts.ensures ∙ sym (mapped value_indices view _) ∙ ap (λ (l : List Data). map value_indices l) c.items_at.ensures
 
 -- the number of spins
 spins_are : (c : In_ok-n) → size_at (codes "n") (view c.args.value.now) ≡ Some c.in_ok-n.n
@@ -75,10 +73,9 @@ pub build_general-requires-clause-among : goal.build_general-requires-clause-amo
 build_general-requires-clause-among c =
     let d = view c.args.value.now in
     let at = goal.at.build_general-requires-clause-among c in
-    let fit = none_wrong at.After-check_general c.in_ok-n.ensures.bonds_are in
     let n : member_spins d ≡ c.in_ok-n.n = ap (λ (o : Option ℕ). unwrap_or o 0) (spins_are at.In_ok-n) in
     rw (bonds_are c, sym n) (bonds-fit (member_spins d) (items_at (codes "bonds") d)
-    (right-list (entry.Bond (member_spins d)) (member_list (codes "bonds") d) fit))
+    (right-list (entry.Bond (member_spins d)) (member_list (codes "bonds") d) (none_wrong at.After-check_general c.in_ok-n.ensures.bonds_are)))
 
 pub build_general-requires-clause-lists : goal.build_general-requires-clause-lists
 build_general-requires-clause-lists c =
@@ -86,8 +83,7 @@ build_general-requires-clause-lists c =
     let at = goal.at.build_general-requires-clause-lists c in
     let n : member_spins d ≡ c.in_ok-n.n = ap (λ (o : Option ℕ). unwrap_or o 0) (spins_are at.In_ok-n) in
     let turned = sym (turned_is at.After-check_general) ∙ c.in_ok-n.ensures.rotation_is in
-    ap length (darts_are c) ∙ length-map (items_at (codes "rotation") d) value_indices
-    ∙ rotation-counts (member_spins d) (member_list (codes "rotation") d) turned ∙ n
+    ap length (darts_are c) ∙ length-map (items_at (codes "rotation") d) _ ∙ rotation-counts (member_spins d) (member_list (codes "rotation") d) turned ∙ n
 
 -- the instance is that of the draft
 same_instance : (c : In_ok-cut) → (bonds : c.in_ok-joined.joined ≡ value_or [] (general_draft (view c.args.value.now)).bonds)
@@ -96,33 +92,27 @@ same_instance : (c : In_ok-cut) → (bonds : c.in_ok-joined.joined ≡ value_or 
     → record { n = c.in_ok-n.n; bonds = c.in_ok-joined.joined; rotation = c.in_ok-darts.darts; seam = unwrap_or c.in_ok-cut.cut [] }
     ≡ drafted (OfGeneral (general_draft (view c.args.value.now)))
 same_instance c bonds spins turned =
-    general-said (view c.args.value.now) c.in_ok-n.n c.in_ok-joined.joined c.in_ok-darts.darts c.in_ok-cut.cut spins bonds turned (darts_are c)
-    (sym c.wrong_seam.ensures ∙ c.in_ok-n.ensures.seam_is) c.in_ok-cut.ensures
+    general-said (view c.args.value.now) _ _ _ _ spins bonds turned (darts_are c) (sym c.wrong_seam.ensures ∙ c.in_ok-n.ensures.seam_is) c.in_ok-cut.ensures
 
 pub returns-clause-gives : goal.returns-clause-gives
 returns-clause-gives c =
     let d = view c.args.value.now in
     let at = goal.at.returns-clause-gives c in
-    let fit = none_wrong at.After-check_general c.in_ok-n.ensures.bonds_are in
-    let turned = sym (turned_is at.After-check_general) ∙ c.in_ok-n.ensures.rotation_is in
-    let bonds = bonds_are at.In_ok-cut ∙ sym (bonds-said d fit) in
-    let said = same_instance at.In_ok-cut bonds (spins_are at.In_ok-n) turned in
+    let bonds = bonds_are at.In_ok-cut ∙ sym (bonds-said d (none_wrong at.After-check_general c.in_ok-n.ensures.bonds_are)) in
+    let said = same_instance at.In_ok-cut bonds (spins_are at.In_ok-n) (sym (turned_is at.After-check_general) ∙ c.in_ok-n.ensures.rotation_is) in
     let numbers = same_test at.After-check_general ∙ c.in_ok-n.ensures.passes in
     let apart = IfOk-weaker c.build_general.result _ (λ inst. draft_fault program_limits (OfGeneral (general_draft d)) ≡ None)
     (λ inst none. general-none program_limits (general_draft d) numbers ∙ ap self_fault (sym bonds) ∙ none) c.build_general.ensures.apart in
     both-ok c.build_general.result _ _ _ (λ inst pass whole. record { passes = pass; value = whole.0 ∙ said; instance = whole.1 }) apart
-    (both-ok c.build_general.result _ _ (λ inst. (inst ≡ _) × IsInstance inst)
-    (λ inst is whole. (is, whole)) c.build_general.ensures.ok c.build_general.ensures.well_formed)
+    (both-ok c.build_general.result _ _ (λ inst. (inst ≡ _) × IsInstance inst) (λ inst is whole. (is, whole)) c.build_general.ensures.ok
+    c.build_general.ensures.well_formed)
 
 pub returns-clause-fault : goal.returns-clause-fault
 returns-clause-fault c =
     let d = view c.args.value.now in
     let at = goal.at.returns-clause-fault c in
-    let fit = none_wrong at.After-check_general c.in_ok-n.ensures.bonds_are in
-    let turned = sym (turned_is at.After-check_general) ∙ c.in_ok-n.ensures.rotation_is in
-    let bonds = bonds_are at.In_ok-cut ∙ sym (bonds-said d fit) in
-    let said = same_instance at.In_ok-cut bonds (spins_are at.In_ok-n) turned in
-    let numbers = same_test at.After-check_general ∙ c.in_ok-n.ensures.passes in
+    let bonds = bonds_are at.In_ok-cut ∙ sym (bonds-said d (none_wrong at.After-check_general c.in_ok-n.ensures.bonds_are)) in
+    let said = same_instance at.In_ok-cut bonds (spins_are at.In_ok-n) (sym (turned_is at.After-check_general) ∙ c.in_ok-n.ensures.rotation_is) in
     let same : self_fault c.in_ok-joined.joined ≡ draft_fault program_limits (OfGeneral (general_draft d))
-    = ap self_fault bonds ∙ sym (general-none program_limits (general_draft d) numbers) in
-    IfErr-weaker c.build_general.result _ _ (λ e bad. same-fault _ _ _ _ e same said bad) c.build_general.ensures.refused
+    = ap self_fault bonds ∙ sym (general-none program_limits (general_draft d) (same_test at.After-check_general ∙ c.in_ok-n.ensures.passes)) in
+    IfErr-weaker _ _ _ (λ e bad. same-fault _ _ _ _ e same said bad) c.build_general.ensures.refused

@@ -38,19 +38,16 @@ same_test c =
 pub returns-in_err-size-clause-fault : goal.returns-in_err-size-clause-fault
 returns-in_err-size-clause-fault c =
     let p = err_from_is_err_and c.from_residual.result c.from_residual.ensures.1 in
-    let same = same_test (goal.at.returns-in_err-size-clause-fault c).After-check_lattice in
-    rw (p.1, p.2) (inl (same ∙ c.in_err-size.ensures.refused))
+    rw (p.1, p.2) (inl (same_test (goal.at.returns-in_err-size-clause-fault c).After-check_lattice ∙ c.in_err-size.ensures.refused))
 
 -- no coupling is wrong
 none_wrong : (c : In_ok-size) → wrong_list entry.Coupling (member_list (codes "couplings") (view c.args.value.now)) ≡ None
-none_wrong c =
-    sym (c.wrong_list-wrong.ensures ∙ ap (λ (o : Option (List Data)). wrong_list entry.Coupling o) c.list_member.ensures)
+none_wrong c = sym (c.wrong_list-wrong.ensures ∙ ap (λ (o : Option (List Data)). wrong_list entry.Coupling o) c.list_member.ensures)
     ∙ unless-known _ _ _ (sym c.unless.ensures ∙ c.in_ok-size.ensures.couplings_are)
 
 -- the couplings that are built
 numbers : (c : In_ok-cut) → c.in_ok-list.list ≡ map value_number (items_at (codes "couplings") (view c.args.value.now))
-numbers c = c.in_ok-list.ensures ∙ sym (mapped value_number view c.items_at-items.result.now)
-    ∙ ap (λ (l : List Data). map value_number l) c.items_at-items.ensures
+numbers c = c.in_ok-list.ensures ∙ sym (mapped value_number view _) ∙ ap (λ (l : List Data). map value_number l) c.items_at-items.ensures
 
 pub build_lattice-requires-clause-sizes : goal.build_lattice-requires-clause-sizes
 build_lattice-requires-clause-sizes c =
@@ -62,26 +59,22 @@ build_lattice-requires-clause-sizes c =
 same_lattice : (c : In_ok-cut) → (none : wrong_list entry.Coupling (member_list (codes "couplings") (view c.args.value.now)) ≡ None)
     → reseamed c.in_ok-cut.cut (lattice c.args.kind c.in_ok-size.size.rows c.in_ok-size.size.cols c.in_ok-list.list)
     ≡ drafted (OfLattice (lattice_draft c.args.kind (view c.args.value.now)))
-same_lattice c none =
-    lattice-said c.args.kind (view c.args.value.now) c.in_ok-size.size.rows c.in_ok-size.size.cols c.in_ok-list.list c.in_ok-cut.cut
+same_lattice c none = lattice-said c.args.kind (view c.args.value.now) _ _ _ _
     (sym c.size_member.ensures.value ∙ c.in_ok-size.ensures.rows_are) (sym c.size_member-2.ensures.value ∙ c.in_ok-size.ensures.cols_are)
     none (numbers c) (sym c.wrong_seam.ensures ∙ c.in_ok-size.ensures.seam_is) c.in_ok-cut.ensures
 
 pub returns-clause-gives : goal.returns-clause-gives
 returns-clause-gives c =
     let at = goal.at.returns-clause-gives c in
-    let said = same_lattice at.In_ok-cut (none_wrong at.In_ok-size) in
     let pass = same_test at.After-check_lattice ∙ c.in_ok-size.ensures.passes in
+    let said = same_lattice at.In_ok-cut (none_wrong at.In_ok-size) in
     both-ok c.build_lattice.result _ _ _ (λ inst is whole. record { passes = pass; value = is ∙ said; instance = whole })
     c.build_lattice.ensures.ok c.build_lattice.ensures.well_formed
 
 pub returns-clause-few_bonds : goal.returns-clause-few_bonds
-returns-clause-few_bonds c =
-    let few = c.in_ok-size.ensures.few in
-    let most = ap (λ (m : Limits). m.spins) c.of_program.ensures.value in
-    IfOk-weaker c.build_lattice.result _ _ (λ inst is.
+returns-clause-few_bonds c = IfOk-weaker _ _ _ (λ inst is.
     let bonds = lattice-bonds c.args.kind c.in_ok-size.size.rows c.in_ok-size.size.cols c.in_ok-list.list c.in_ok-cut.cut inst c.in_ok-size.ensures.sound is in
-    omega (arith, bonds, few, most)) c.build_lattice.ensures.ok
+    omega (arith, bonds, c.in_ok-size.ensures.few, ap (λ (m : Limits). m.spins) c.of_program.ensures.value)) c.build_lattice.ensures.ok
 
 pub returns-clause-fault : goal.returns-clause-fault
 returns-clause-fault c =
@@ -89,6 +82,5 @@ returns-clause-fault c =
     let at = goal.at.returns-clause-fault c in
     let said = same_lattice at.In_ok-cut (none_wrong at.In_ok-size) in
     let pass = same_test at.After-check_lattice ∙ c.in_ok-size.ensures.passes in
-    IfErr-weaker c.build_lattice.result _ _ (λ e bad. behind-test (draft_fault program_limits (OfLattice (lattice_draft c.args.kind d)))
-    (drafted (OfLattice (lattice_draft c.args.kind d))) e pass
-    (subst (λ (i : Ising). OrNoMemory (IsRefusalOf i) e) said bad)) c.build_lattice.ensures.refused
+    IfErr-weaker _ _ _ (λ e bad. behind-test (draft_fault program_limits (OfLattice (lattice_draft c.args.kind d)))
+    (drafted (OfLattice (lattice_draft c.args.kind d))) e pass (subst (λ (i : Ising). OrNoMemory (IsRefusalOf i) e) said bad)) c.build_lattice.ensures.refused

@@ -11,4 +11,4 @@ returns-in-Ok-clause-fault c =
     let read = rw c.without_marks.ensures.value at c.in-Ok.ensures.ok in
     let says : SaysData c.args.bytes.now (view c.in-Ok.value) = record { utf8 = read.0; reads = read.1 } in
     let short : length c.args.bytes.now ≤ json_limit = omega arith in
-    IfErr-weaker c.read_value.result _ _ (λ e bad. json-fault c.args.bytes.now (view c.in-Ok.value) e short says bad) c.read_value.ensures.fault
+    IfErr-weaker _ _ _ (λ e bad. json-fault _ _ e short says bad) c.read_value.ensures.fault
